@@ -1,11 +1,14 @@
 #!/usr/bin/env python3
-"""Keeps the documents, README.md and docs/*.md, and says on which modules of definitions one of them stands.
+"""Keeps the documents, README.md and docs/*.md, and says on which modules of definitions a module or a contract stands.
 
     tools/documents.py fold          folds their paragraphs at 120 columns; tables, headings and code stay as they are
     tools/documents.py names         prints each word in backquotes that looks like a name of the tree, and is none
     tools/documents.py below MODULE..
                                      prints the modules of specs/ on which these stand, as annex_cli/specs/Top, each
                                      with its lines but for imports and blank ones, and their sum
+    tools/documents.py private       prints the modules of specs/ whose first line says that they are for private
+                                     contracts, for proofs or for tests though a public contract stands on them, or
+                                     doesn't though none does
 
 Unproved, and no part of the program.
 """
@@ -21,6 +24,12 @@ ITEM = re.compile(r"( *)([-*]|\d+\.) +")
 WORD = re.compile(r"(?:`[^`]*`|[^\s`]+|`)+")
 # a word that would make something else of a line that it stands first in
 MARK = re.compile(r"[-+*]+$|\d+[.)]$|[#>|]")
+# what an import takes of a module of definitions: a part of it, and names there; or a name for the module itself
+IMPORT = re.compile(r"use Rattle\.(\w+)\.specs\.([A-Z]\w*)\.?([\w.]*?)(?:\.?\{([^}]*)\}| as (\w+))?(?:;|$)", re.M)
+# where a definition begins, and its name
+DEFINED = re.compile(r"^(?:(?:abbrev|unfoldable|pub|record|data) )+(\S+)", re.M)
+# where an item of code begins: its indent, who sees it, its sort, and its name, of an impl that of its type
+HEAD = re.compile(r"^( *)(pub |pub\(crate\) |)(?:const )?(fn|trait|impl|struct|enum)\b(?:<.*?>)? (?:.* for )?(\w+)", re.M)
 
 
 def pages():
@@ -108,6 +117,72 @@ def below(modules):
     return found
 
 
+def uses(text):
+    """The definitions that each name of this file stands for; of a module's name it is the module with no name."""
+    names = {}
+    for crate, module, part, taken, alias in IMPORT.findall(text):
+        home = "%s/specs/%s" % (crate, module)
+        for word in taken.split(",") if taken else [alias or module]:
+            # a variant belongs to its type
+            name = part.split(".")[0] or (word.split()[0] if taken else "")
+            names.setdefault(word.split()[-1].strip("◌"), set()).add((home, name))
+    return names
+
+
+def cited(text, names):
+    """The definitions that this text cites, where its file has these names."""
+    for word in set(re.split(r"[\s(){}\[\],;]+", text)):
+        first, _, rest = word.strip("◌").partition(".")
+        yield from ((home, name or rest.split(".")[0]) for home, name in names.get(first, ()))
+
+
+def public_contracts(text, exported):
+    """The contracts of this file's public items, and what its public types and traits say of what contracts see of them."""
+    text = re.sub(r" *//.*|ghost use [^;]*;", "", text)
+    heads, public, open_items = list(HEAD.finditer(text)), False, False
+    for head, end in zip(heads, [*(head.start() for head in heads[1:]), len(text)]):
+        indent, seen, sort, name = head.groups()
+        item = text[head.start() : end]
+        if sort == "fn":
+            contract = re.search(r"\b(requires|ensures)\b.*", re.split(r"(?m)^ *\{\}?$", item)[0], re.S)
+            exports = public if indent else name in exported
+            if contract and exports and (seen == "pub " or indent and open_items):
+                yield contract.group(0)
+        elif not indent:
+            public, open_items = name in exported, sort == "trait" or " for " in head.group(0)
+            if public and open_items:
+                # how a type fills what contracts see of it is its own
+                yield item if sort == "trait" else " ".join(re.findall(r"ghost Value = .*", item))
+
+
+def public_modules():
+    """The modules of specs/ on whose definitions the contracts of public items stand."""
+    cites, left = {}, []
+    for file in TOP.glob("crates/*/specs/*.antt"):
+        text, home = file.read_text(), str(file.relative_to(TOP / "crates"))[: -len(".antt")]
+        # what stands before the first definition, then a name and the text of its definition, again and again
+        _, *parts = DEFINED.split(text)
+        names = uses(text)
+        for name in parts[::2]:
+            names.setdefault(name.strip("◌"), set()).add((home, name.strip("◌")))
+        for name, body in zip(parts[::2], parts[1::2]):
+            cites[home, name.strip("◌")] = set(cited(body, names))
+    for file in TOP.glob("crates/*/src/**/*.rt"):
+        crate = file.relative_to(TOP / "crates").parts[0]
+        library = TOP / "crates" / crate / "src" / "lib.rt"
+        if library.exists() and not crate.endswith("_tests"):
+            exported = set(re.findall(r"\w+", " ".join(re.findall(r"(?m)^pub [^;(]*", library.read_text()))))
+            text = file.read_text()
+            left += cited(" ".join(public_contracts(text, exported)), uses(text))
+    found = set()
+    while left:
+        definition = left.pop()
+        if definition not in found:
+            found.add(definition)
+            left += cites.get(definition, ())
+    return {home for home, _ in found}
+
+
 def main(words):
     if words == ["fold"]:
         for page in pages():
@@ -122,6 +197,13 @@ def main(words):
         for name in sorted(found):
             print("%6d %s" % (found[name], name))
         print("%6d in %d modules" % (sum(found.values()), len(found)))
+    elif words == ["private"]:
+        public = public_modules()
+        for file in sorted(TOP.glob("crates/*/specs/*.antt")):
+            home = str(file.relative_to(TOP / "crates"))[: -len(".antt")]
+            marked = re.search("for (private contracts|proofs|tests)", file.read_text().split("\n")[0], re.I)
+            if file.stem != "Lib" and bool(marked) == (home in public):
+                print("%s: %s" % (home, "marked, and public" if marked else "not marked, and not public"))
     else:
         print(__doc__)
         return 1

@@ -1,8 +1,9 @@
 -- Tests of one condition and of two: what std's lemmas on `Bool` leave out.
-use Rattle.std.proofs.Common.{◌≡◌, ◌≢◌, ◌⊎◌, inl, inr, ◌↔◌, ℕ, Bool, true, false, IsTrue, List, refl, sym, ◌∙◌, arith}
-use Rattle.std.specs.Prelude.{if◌then◌else◌, ◌==◌, bytes_eq}
+use Rattle.std.proofs.Common.{◌≡◌, ◌≢◌, ◌⊎◌, inl, inr, ◌↔◌, ℕ, ◌<◌, Bool, true, false, IsTrue, List, refl, sym, ◌∙◌, arith}
+use Rattle.std.specs.Prelude.{if◌then◌else◌, ◌==◌, ◌&&◌, ◌||◌, not, bytes_eq}
 use Rattle.std.specs.Cmp.Lexicographic.{bytes_decides}
 use Rattle.std.proofs.lemmas.Bool.{cases_Bool, false_from_ne_true, true≢false}
+use Rattle.std.proofs.lemmas.Bool.Decides.{nat_tests}
 
 -- the branch that an `if` took
 pub if_is : {X : Type 0} (b : Bool) (x y z : X) → (if b then x else y) ≡ z → ((b ≡ true) × (x ≡ z)) ⊎ ((b ≡ false) × (y ≡ z))
@@ -22,6 +23,42 @@ pub by_test : {P : Type 0} (b : Bool) → (b ≡ true → P) → (b ≡ false �
 by_test true f g = f refl
 by_test false f g = g refl
 
+-- a test turned, and turned again
+pub not_not : (b : Bool) → not (not b) ≡ b
+not_not true = refl
+not_not false = refl
+
+pub not_by_if : (b : Bool) → not b ≡ (if b then false else true)
+not_by_if true = refl
+not_by_if false = refl
+
+pub if_not : (b : Bool) → (if not b then false else true) ≡ b
+if_not true = refl
+if_not false = refl
+
+pub if_turned : (b : Bool) → (if b then false else true) ≡ true → b ≡ false
+if_turned true e = absurd (true≢false (sym e))
+if_turned false e = refl
+
+-- ---- two tests
+
+pub and_first : (b c : Bool) → (b && c) ≡ true → b ≡ true
+and_first true c e = refl
+and_first false c e = e
+
+pub and_second : (b c : Bool) → (b && c) ≡ true → c ≡ true
+and_second true c e = e
+and_second false c e = absurd (true≢false (sym e))
+
+pub or_first : (b c : Bool) → (b || c) ≡ false → b ≡ false
+or_first true c e = absurd (true≢false e)
+or_first false c e = refl
+
+pub and_regrouped : (a b c d : Bool) → (a && (b && (c && d))) ≡ (((a && b) && c) && d)
+and_regrouped true true c d = refl
+and_regrouped true false c d = refl
+and_regrouped false b c d = refl
+
 -- two tests of one fact
 pub same_test : (b c : Bool) → (b ≡ true → c ≡ true) → (c ≡ true → b ≡ true) → b ≡ c
 same_test true c f g = sym (f refl)
@@ -39,6 +76,21 @@ eqb_refl a = grind arith
 
 pub eqb_sym : (a b : ℕ) → (a == b) ≡ (b == a)
 eqb_sym a b = grind arith
+
+pub eqb_turned : (a b : ℕ) → (a == b) ≡ false → (b == a) ≡ false
+eqb_turned a b e = grind (arith, nat_tests)
+
+pub eqb_apart : (a b : ℕ) → not (a == b) ≡ true → (b == a) ≡ false
+eqb_apart a b e = grind (arith, nat_tests)
+
+pub eqb_other : (a b : ℕ) → b ≢ a → (a == b) ≡ false
+eqb_other a b other = grind (arith, nat_tests)
+
+pub eqb_less : (a b : ℕ) → a < b → (a == b) ≡ false
+eqb_less a b less = grind (arith, nat_tests)
+
+pub eqb_more : (a b : ℕ) → a < b → (b == a) ≡ false
+eqb_more a b less = grind (arith, nat_tests)
 
 -- ---- texts
 

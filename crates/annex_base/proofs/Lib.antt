@@ -1,4 +1,5 @@
 -- The lemmas of this crate.
+pub mod Calls
 pub mod Conditions
 pub mod DecimalLemmas
 pub mod Functions
@@ -7,6 +8,7 @@ pub mod Lines
 pub mod Lists
 pub mod Numbers
 pub mod Options
+pub mod Pasts
 pub mod RepoLemmas
 pub mod Results
 pub mod Rows

@@ -1,5 +1,5 @@
 -- The elements of lists.
-use Rattle.std.proofs.Common.{◌≡◌, ◌⊎◌, inl, inr, ℕ, zero, suc, ◌<◌, Bool, true, false, cond, List, [], ◌∷◌, ◌++◌, length, get_or, take, drop, Some, None, refl, sym, ap, subst, ◌∙◌, arith, true≢false}
+use Rattle.std.proofs.Common.{◌≡◌, ◌⊎◌, inl, inr, ℕ, zero, suc, ◌<◌, ◌≤◌, Bool, true, false, cond, ◌&&◌, List, [], ◌∷◌, ◌++◌, length, get_or, take, drop, Some, None, refl, sym, ap, subst, ◌∙◌, arith, true≢false}
 use Rattle.std.specs.Prelude.{if◌then◌else◌, filter, map, reverse, slice_get, All, Contains, flat_map}
 use Rattle.std.specs.List.{find, list_all, list_any, prefix_len}
 use Rattle.std.proofs.lemmas.Bool.{and_from, and_parts, or_cases, or_left, or_parts, or_right}
@@ -20,6 +20,17 @@ nil_cons x xs e = cc
 
 pub cons_nil : {X : Type 0} (x : X) (xs : List X) → x ∷ xs ≡ [] → ⊥
 cons_nil x xs e = cc
+
+pub not_longer : {X : Type 0} (x : X) (xs : List X) → xs ≡ x ∷ xs → ⊥
+not_longer x xs e = let both : length xs ≡ suc (length xs) = ap length e in absurd (omega (arith, both))
+
+pub nil_by_length : {X : Type 0} (xs : List X) → length xs ≡ 0 → xs ≡ []
+nil_by_length [] e = refl
+nil_by_length (x ∷ xs) e = absurd (omega (arith, e))
+
+pub append_nil_left : {X : Type 0} (xs ys : List X) → xs ++ ys ≡ [] → xs ≡ []
+append_nil_left [] ys e = refl
+append_nil_left (x ∷ xs) ys e = absurd cc
 
 -- ---- a fact of each element
 
@@ -251,6 +262,24 @@ filter_none p (x ∷ xs) h = filter_no p x xs h.0 ∙ filter_none p xs h.1
 
 -- ---- the first that passes
 
+pub filter_shorter : {X : Type 0} (p : X → Bool) (xs : List X) → length (filter p xs) ≤ length xs
+filter_shorter p [] = omega arith
+filter_shorter p (x ∷ xs) = go (filter_shorter p xs) (p x)
+  where
+    go : length (filter p xs) ≤ length xs → (b : Bool) → length (cond b (x ∷ filter p xs) (filter p xs)) ≤ length (x ∷ xs)
+    go more true = omega (arith, more)
+    go more false = omega (arith, more)
+
+-- a test that is two tests
+pub filter_both : {X : Type 0} (p q s : X → Bool) → ((x : X) → p x ≡ (s x && q x)) → (xs : List X) → filter p xs ≡ filter q (filter s xs)
+filter_both p q s both [] = refl
+filter_both {X = X} p q s both (x ∷ xs) = go (filter_both p q s both xs) (s x) (q x) refl refl (both x)
+  where
+    go : filter p xs ≡ filter q (filter s xs) → (b c : Bool) → s x ≡ b → q x ≡ c → p x ≡ (s x && q x) → filter p (x ∷ xs) ≡ filter q (filter s (x ∷ xs))
+    go more true true i j h = let k : p x ≡ true = rw (i, j) at h in rw (k, i) (rw j (ap (λ (zs : List X). x ∷ zs) more))
+    go more true false i j h = let k : p x ≡ false = rw (i, j) at h in rw (k, i) (rw j more)
+    go more false c i j h = let k : p x ≡ false = rw i at h in rw (k, i) more
+
 pub find_member : {X : Type 0} (p : X → Bool) (xs : List X) (x : X) → find p xs ≡ Some x → Member x xs × (p x ≡ true)
 find_member p [] x e = absurd cc
 find_member {X} p (y ∷ ys) x e = go (λ g. find_member p ys x g) (p y) refl e
@@ -277,6 +306,16 @@ find_nowhere p (x ∷ xs) e = go (λ g. find_nowhere p xs g) (p x) refl e
     go more false is g = (is, more g)
 
 -- ---- places
+
+pub slice_get-within : {X : Type 0} (xs : List X) (i : ℕ) → i < length xs → (x : X) × (slice_get xs i ≡ Some x)
+slice_get-within [] i low = absurd (omega (arith, low))
+slice_get-within (x ∷ xs) zero low = (x, refl)
+slice_get-within (x ∷ xs) (suc i) low = slice_get-within xs i (omega (arith, low))
+
+pub slice_get-map_some : {X Y : Type 0} (f : X → Y) (xs : List X) (k : ℕ) (y : Y) → slice_get (map f xs) k ≡ Some y → (x : X) × (slice_get xs k ≡ Some x) × (f x ≡ y)
+slice_get-map_some f [] k y e = absurd (cc)
+slice_get-map_some f (x ∷ xs) zero y e = let i : f x ≡ y = cc in (x, refl, i)
+slice_get-map_some f (x ∷ xs) (suc k) y e = slice_get-map_some f xs k y e
 
 pub slice_get-left : {X : Type 0} (xs ys : List X) (k : ℕ) (x : X) → slice_get xs k ≡ Some x → slice_get (xs ++ ys) k ≡ Some x
 slice_get-left [] ys k x h = absurd cc

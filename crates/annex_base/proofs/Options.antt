@@ -1,6 +1,6 @@
 -- Steps that may find nothing.
 use Rattle.std.proofs.Common.{◌≡◌, ◌⊎◌, inl, inr, Bool, true, false, if◌then◌else◌, Option, Some, None, refl}
-use Rattle.std.specs.Option.{option_map}
+use Rattle.std.specs.Option.{is_none, option_map}
 use Rattle.annex_base.specs.OptionSteps.{◌>>=◌}
 
 -- the value of a step that found one
@@ -34,3 +34,7 @@ none_and_some o x none some = cc
 
 pub some_none : {A : Type 0} (x : A) → Some x ≡ None → ⊥
 some_none x e = cc
+
+pub is_none_true : {A : Type 0} (o : Option A) → is_none o ≡ true → o ≡ None
+is_none_true None e = refl
+is_none_true (Some x) e = absurd cc

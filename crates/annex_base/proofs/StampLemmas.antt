@@ -278,8 +278,9 @@ nanos_again n below =
     let whole : take 9 digits ≡ digits = take_all 9 digits is.short in
     rw whole is.value
 
-own : IsNumeralModel (λ ds. list_all is_ascii_digit ds ≡ true) (digits_value 10)
-own = numerals_by_value _ (search rules)
+-- a numeral in base ten is a list of ASCII digits
+pub ascii_numerals : IsNumeralModel (λ ds. list_all is_ascii_digit ds ≡ true) (digits_value 10)
+ascii_numerals = numerals_by_value _ (search rules)
 
 -- what a stamp is written as is in the grammar, with its number
 pub stamp_written : (n : ℕ) → n < 10 ^ 19 → IsStamp (stamp_text n) n
@@ -295,9 +296,9 @@ stamp_written n below =
       spelled = append_assoc (decimal q) (fraction_text (digits_after_point 9 r)) (codes "s");
       some = decimal_nonempty q small;
       short = length-decimal-le 10 q (lit< tt) (omega arith) small;
-      digits = AllPass-from_list_all is_ascii_digit (decimal q) (digits_decimal own q small);
+      digits = AllPass-from_list_all is_ascii_digit (decimal q) (digits_decimal ascii_numerals q small);
       short_fraction = omega (arith, fraction.short);
       fraction_digits = fraction.all;
       unit = inr refl;
-      value = rw (digits_value-decimal own q small, nanos_again r (omega arith)) (omega arith);
+      value = rw (digits_value-decimal ascii_numerals q small, nanos_again r (omega arith)) (omega arith);
     }

@@ -1,4 +1,4 @@
--- What a reader of one thing answers.
+-- What a reader of one thing answers; for private contracts.
 use Rattle.std.specs.Prelude.{Option, Some, None, Result, Ok, Err}
 
 -- a value that is seen so, or there is none

@@ -13,7 +13,7 @@ use Rattle.run_data.specs.Histories.{most_entries}
 use Rattle.driver_model.specs.Driving.{run_of}
 use Rattle.driver_model.specs.Limits.{limited_run}
 use Rattle.driver_model.specs.Lines.{Line}
-use Rattle.driver_script.specs.Given.{given_of}
+use Rattle.driver_script.specs.Given.{driver_input_of}
 use Rattle.driver_script.specs.Script.{IsScript, IsUnbuilt}
 use Rattle.report_text.specs.Report.{report}
 use Rattle.annex_cli.specs.declared.due.Due.{Due}
@@ -59,7 +59,7 @@ true_or_false is isnt = let both : true ≡ false = sym is ∙ isnt in cc
 -- ---- one text is due
 
 abbrev cut_text : List Command → List Line → List ℕ
-cut_text script lines = report script (limited_run (given_of script) lines).run ++ limit_text entries_name most_entries
+cut_text script lines = report script (limited_run (driver_input_of script) lines).run ++ limit_text entries_name most_entries
 
 module _ (x : HaveOneReading) (bytes t t' : List ℕ) where
   -- what comes of the commands and the lines is one thing
@@ -69,7 +69,7 @@ module _ (x : HaveOneReading) (bytes t t' : List ℕ) where
       ap (λ s. P s lines) same.0 ∙ ap (P other) same.1
 
   one_report : IsReport bytes t → IsReport bytes t' → t ≡ t'
-  one_report d d' = d.text_is ∙ one_script d.script d'.script d.lines d'.lines d.is_script d'.is_script (λ script lines. report script (run_of (given_of script) lines)) ∙ sym d'.text_is
+  one_report d d' = d.text_is ∙ one_script d.script d'.script d.lines d'.lines d.is_script d'.is_script (λ script lines. report script (run_of (driver_input_of script) lines)) ∙ sym d'.text_is
 
   one_complaint : (IsComplaint bytes t ⊎ IsMissing bytes t) → (IsComplaint bytes t' ⊎ IsMissing bytes t') → t ≡ t'
   one_complaint (inl d) (inl d') = d.text_is ∙ one_place (reading bytes) d.line d.byte d'.line d'.byte d.bad d'.bad ∙ sym d'.text_is
@@ -99,7 +99,7 @@ module _ (x : HaveOneReading) (bytes t t' : List ℕ) where
   report_or_cut : IsReport bytes t → IsCutReport bytes t' → ⊥
   report_or_cut d d' =
       let same = x.script bytes d.script d'.script d.lines d'.lines d.is_script d'.is_script in
-      let whole = sym (ap (λ script. (limited_run (given_of script) d.lines).is_cut) same.0 ∙ ap (λ lines. (limited_run (given_of d'.script) lines).is_cut) same.1) ∙ d.whole in
+      let whole = sym (ap (λ script. (limited_run (driver_input_of script) d.lines).is_cut) same.0 ∙ ap (λ lines. (limited_run (driver_input_of d'.script) lines).is_cut) same.1) ∙ d.whole in
       true_or_false d'.cut whole
 
   report_or_limit : IsReport bytes t → (IsLong bytes t' ⊎ (IsPast bytes t' ⊎ IsCutReport bytes t')) → ⊥
@@ -194,12 +194,12 @@ module _ (x : HaveOneReading) (bytes text : List ℕ) (s : Status) (left left' t
   due_answered Usage a r w = absurd a
 
 -- for a script whose run is whole its report is due
-pub due_report : (bytes : List ℕ) (script : List Command) (lines : List Line) → length bytes ≤ script_limit → IsScript bytes script lines → (limited_run (given_of script) lines).is_cut ≡ false → IsDue bytes Done (report script (run_of (given_of script) lines))
+pub due_report : (bytes : List ℕ) (script : List Command) (lines : List Line) → length bytes ≤ script_limit → IsScript bytes script lines → (limited_run (driver_input_of script) lines).is_cut ≡ false → IsDue bytes Done (report script (run_of (driver_input_of script) lines))
 due_report bytes script lines short is whole = record { short = short; script = script; lines = lines; is_script = is; whole = whole; text_is = refl }
 
 -- and for one whose run is cut the report up to there, and the limit
-pub due_cut : (bytes : List ℕ) (script : List Command) (lines : List Line) → length bytes ≤ script_limit → IsScript bytes script lines → (limited_run (given_of script) lines).is_cut ≡ true
-    → IsDue bytes Limit (report script (limited_run (given_of script) lines).run ++ limit_text entries_name most_entries)
+pub due_cut : (bytes : List ℕ) (script : List Command) (lines : List Line) → length bytes ≤ script_limit → IsScript bytes script lines → (limited_run (driver_input_of script) lines).is_cut ≡ true
+    → IsDue bytes Limit (report script (limited_run (driver_input_of script) lines).run ++ limit_text entries_name most_entries)
 due_cut bytes script lines short is cut = inr (inr (record { short = short; script = script; lines = lines; is_script = is; cut = cut; text_is = refl }))
 
 -- ---- an answer with a status and a text is due

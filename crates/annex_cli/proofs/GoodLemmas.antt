@@ -10,11 +10,11 @@ use Rattle.script_lang.specs.declared.command.Command.{Command}
 use Rattle.script_lang.specs.declared.fault.Quantity.{Quantity}
 use Rattle.script_lang.specs.Script.{reading, BadLine, Commands, PastLimit, no_context}
 use Rattle.script_lang.specs.Standing.{AllStand}
-use Rattle.driver_model.specs.Driver.{Driver, Given}
+use Rattle.driver_model.specs.Driver.{Driver, DriverInput}
 use Rattle.driver_model.specs.Driving.{run_of}
 use Rattle.driver_model.specs.Limits.{LimitedRun, drives_to_limit, limited_run, meets_limit}
 use Rattle.driver_model.specs.Lines.{Line}
-use Rattle.driver_script.specs.Given.{given_of}
+use Rattle.driver_script.specs.Given.{driver_input_of}
 use Rattle.driver_script.specs.Lines.{repos_of}
 use Rattle.driver_script.specs.Script.{IsScript, IsUnbuilt}
 use Rattle.report_text.specs.Report.{report}
@@ -29,12 +29,12 @@ use Rattle.annex_cli.proofs.RunLemmas.{comes_of}
 
 -- ---- the run has the script's repositories
 
-one_has_repos : (g : Given) (line : Line) (others : List Line) (d : Driver) (meets : Bool) → ((after : Driver) → (drives_to_limit g others after).run.repos ≡ g.repos)
+one_has_repos : (g : DriverInput) (line : Line) (others : List Line) (d : Driver) (meets : Bool) → ((after : Driver) → (drives_to_limit g others after).run.repos ≡ g.repos)
     → (comes_of g line others d meets).run.repos ≡ g.repos
 one_has_repos g line others d true later = refl
 one_has_repos g line others d false later = later _
 
-all_have_repos : (g : Given) (lines : List Line) (d : Driver) → (drives_to_limit g lines d).run.repos ≡ g.repos
+all_have_repos : (g : DriverInput) (lines : List Line) (d : Driver) → (drives_to_limit g lines d).run.repos ≡ g.repos
 all_have_repos g [] d = refl
 all_have_repos g (line ∷ others) d = one_has_repos g line others d (meets_limit g line d) (all_have_repos g others)
 
@@ -47,16 +47,16 @@ pub record Laws : Type 0 where
 
 -- where no line meets a full history, the run is the driver's
 abbrev pub WholeLaw : Type 0
-WholeLaw = (g : Given) (lines : List Line) → (limited_run g lines).is_cut ≡ false → (limited_run g lines).run ≡ run_of g lines
+WholeLaw = (g : DriverInput) (lines : List Line) → (limited_run g lines).is_cut ≡ false → (limited_run g lines).run ≡ run_of g lines
 
 module _ (bytes : List ℕ) (script : List Command) (is_cut : Bool) (run : Run) (says : reading bytes ≡ Commands script) (r : IsRunOf script is_cut run) where
   script_is : IsScript bytes script r.lines
   script_is = record { says = says; built = r.are }
 
-  run_is : (limited_run (given_of script) r.lines).run ≡ run
+  run_is : (limited_run (driver_input_of script) r.lines).run ≡ run
   run_is = ap (λ (x : LimitedRun). x.run) r.run_is
 
-  cut_is : (limited_run (given_of script) r.lines).is_cut ≡ is_cut
+  cut_is : (limited_run (driver_input_of script) r.lines).is_cut ≡ is_cut
   cut_is = ap (λ (x : LimitedRun). x.is_cut) r.run_is
 
   -- it is good, up to where it is cut
@@ -64,11 +64,11 @@ module _ (bytes : List ℕ) (script : List Command) (is_cut : Bool) (run : Run) 
   good_run x laws = λ other more is.
       let good : IsGood run = record { lawful = r.lawful; safe = laws.safe run r.lawful; causes = laws.causes run r.lawful } in
       let same = x.script bytes script other r.lines more script_is is in
-      subst (λ (lines : List Line). IsGood (limited_run (given_of other) lines).run) same.1
-      (subst (λ (all : List Command). IsGood (limited_run (given_of all) r.lines).run) same.0 (subst IsGood (sym run_is) good))
+      subst (λ (lines : List Line). IsGood (limited_run (driver_input_of other) lines).run) same.1
+      (subst (λ (all : List Command). IsGood (limited_run (driver_input_of all) r.lines).run) same.0 (subst IsGood (sym run_is) good))
 
   pub run_has_repos : repos_of script ≡ run.repos
-  run_has_repos = sym (all_have_repos (given_of script) r.lines _) ∙ ap (λ (x : Run). x.repos) run_is
+  run_has_repos = sym (all_have_repos (driver_input_of script) r.lines _) ∙ ap (λ (x : Run). x.repos) run_is
 
   -- the script shows what is of the run's repositories
   pub run_shows_known : AllStand no_context script → Each (ShowsKnown (length run.repos)) script
@@ -84,7 +84,7 @@ module _ (bytes : List ℕ) (script : List Command) (is_cut : Bool) (run : Run) 
         lines = r.lines;
         is_script = script_is;
         whole = whole_run;
-        text_is = text_is ∙ ap (report script) (sym run_is ∙ law (given_of script) r.lines whole_run);
+        text_is = text_is ∙ ap (report script) (sym run_is ∙ law (driver_input_of script) r.lines whole_run);
       }
 
   -- and with the limit, where it is

@@ -1,7 +1,7 @@
 -- What the report wants of a run: its entries are well formed, its clocks are within their bounds, and what the script shows is of
 -- repositories that it declares.
-use Rattle.std.proofs.Common.{◌≡◌, ℕ, ◌+◌, ◌<◌, ◌≤◌, List, [], ◌∷◌, length, reverse, refl, subst, arith, length-append}
-use Rattle.std.proofs.lemmas.List.{reverse-reverse}
+use Rattle.std.proofs.Common.{◌≡◌, ℕ, ◌+◌, ◌<◌, ◌≤◌, List, [], ◌∷◌, length, reverse, sym, subst, arith, length-append}
+use Rattle.std.proofs.lemmas.List.{length-map, reverse-reverse}
 use Rattle.annex_base.specs.Lists.{Each}
 use Rattle.annex_base.proofs.Lists.{Each-both, Each-reverse, Each-weaker}
 use Rattle.run_data.specs.Repos.{IsSetUp}
@@ -16,9 +16,9 @@ use Rattle.script_lang.specs.declared.command.Command.TheVariants as commands
 use Rattle.script_lang.specs.Context.{Context}
 use Rattle.script_lang.specs.Script as script
 use Rattle.script_lang.specs.Script.{context_with, no_context}
-use Rattle.script_lang.specs.Standing.{AllStand, Stands}
+use Rattle.script_lang.specs.Standing.{AllStand, IsValidIn}
 use Rattle.driver_model.specs.Logged.{LogsWell}
-use Rattle.driver_script.specs.Lines.{declared_by, repos_of}
+use Rattle.driver_script.specs.Lines.{declared_by, repos_of, view_of}
 use Rattle.report_text.specs.Branches.{LogsLines}
 use Rattle.report_text.specs.Walk.{IsAhead, IsWellFormed, SetsClock, ShowsKnown}
 
@@ -54,7 +54,7 @@ run_ahead run is = Each-weaker IsSetUp IsAhead (λ r set. set.offset) run.repos 
 
 -- ---- the script
 
-one_known : (m : ℕ) (x : Context) (c : Command) → length x.repos ≤ m → Stands x c → ShowsKnown m c
+one_known : (m : ℕ) (x : Context) (c : Command) → length x.repos ≤ m → IsValidIn x c → ShowsKnown m c
 one_known m x (commands.ShowClaims r k) l s = let here = s.0 in omega (arith, l, here)
 one_known m x (commands.ShowLocation r k) l s = let here = s.0 in omega (arith, l, here)
 one_known m x (commands.ShowLog r file) l s = let here = s.0 in omega (arith, l, here)
@@ -66,8 +66,7 @@ one_known m x c l s = tt
 
 -- a command declares as many repositories for those behind it as for the run
 pub declares_alike : (c : Command) → length (script.declared_by c) ≡ length (declared_by c)
-declares_alike (commands.Repo name id offset version locks) = refl
-declares_alike c = refl
+declares_alike c = sym (length-map (script.declared_by c) view_of)
 
 all_known : (m : ℕ) (x : Context) (cs : List Command) → length x.repos + length (repos_of cs) ≤ m → AllStand x cs → Each (ShowsKnown m) cs
 all_known m x [] l s = tt

@@ -3,6 +3,7 @@ use Rattle.std.proofs.Common.{◌≡◌, ℕ, ◌+◌, ◌<◌, ◌≤◌, Bool,
 use Rattle.std.specs.Prelude.{is_some}
 use Rattle.std.specs.Option.{option_map_or}
 use Rattle.std.proofs.lemmas.List.{drop_all, drop_more, reverse-reverse}
+use Rattle.std.proofs.lemmas.Option.{same_Some}
 use Rattle.annex_base.specs.OptionSteps.{◌>>=◌}
 use Rattle.annex_base.proofs.Options.{bind_some}
 use Rattle.run_data.specs.declared.run.RepoView.{RepoView}
@@ -14,21 +15,18 @@ use Rattle.script_lang.specs.declared.command.Command.{Command}
 use Rattle.script_lang.specs.Script as script
 use Rattle.script_lang.specs.Script.{context_with, no_context, wait_of}
 use Rattle.script_lang.specs.Standing.{AllStand}
-use Rattle.driver_model.specs.Driver.{Driver, Given, at_first}
+use Rattle.driver_model.specs.Driver.{Driver, DriverInput, at_first}
 use Rattle.driver_model.specs.Driving.{does, with_mark}
 use Rattle.driver_model.specs.Limits.{LimitedRun, drives_to_limit, limited_run, meets_limit, run_to_limit}
 use Rattle.driver_model.specs.Lines.{Line, waited_by}
-use Rattle.driver_script.specs.Given.{given_of}
+use Rattle.driver_script.specs.Given.{driver_input_of}
 use Rattle.driver_script.specs.Lines.{declared_by, line_of, lines_of, repos_of}
 use Rattle.fleet_model.specs.Fleets.{FleetView}
 use Rattle.fleet_run.specs.declared.stop.FleetStop.{FleetStop}
 use Rattle.fleet_run.specs.Commands.{CutsAt, MayBeDone, MeetsNone, does_and_marks}
-use Rattle.fleet_run.specs.Standing.{GoesOn, Stands}
+use Rattle.fleet_run.specs.Standing.{GoesOn, IsAtDriver}
 use Rattle.annex_cli.specs.Runs.{AreLines, HasDone, IsRunOf}
 use Rattle.annex_cli.proofs.ReportLemmas.{declares_alike}
-
-some_is : {X : Type 0} (x y : X) → Some x ≡ Some y → x ≡ y
-some_is x y e = cc
 
 -- the stop that is handed on is the one that came
 pub stop_is : {T : Type 0} (r : Result T FleetStop) (came stop : FleetStop) → IsErrAnd r (λ d. d ≡ came) → r ≡ Err stop → came ≡ stop
@@ -36,8 +34,11 @@ stop_is (Ok x) came stop handed is = absurd handed
 stop_is (Err d) came stop handed is = let same : d ≡ stop = cc in sym handed ∙ same
 
 -- the laws that the lemmas take
+abbrev pub MarksLaw : Type 0
+MarksLaw = (g : DriverInput) (line : Line) (d : Driver) → (does g line d).marks ≡ d.marks
+
 abbrev pub TimeLaw : Type 0
-TimeLaw = (g : Given) (line : Line) (d : Driver) → now (does g line d).past ≡ now d.past + waited_by line
+TimeLaw = (g : DriverInput) (line : Line) (d : Driver) → now (does g line d).past ≡ now d.past + waited_by line
 
 abbrev pub WaitLaw : Type 0
 WaitLaw = (repos : List RepoView) (command : Command) (line : Line) → line_of repos command ≡ Some line → waited_by line ≡ wait_of command
@@ -46,13 +47,13 @@ abbrev limited : Bool → Run → LimitedRun
 limited is_cut run = record { run = run; is_cut = is_cut }
 
 -- what comes of the lines from the first one on, where that meets a full history, and where it doesn't
-abbrev pub comes_of : Given → Line → List Line → Driver → Bool → LimitedRun
+abbrev pub comes_of : DriverInput → Line → List Line → Driver → Bool → LimitedRun
 comes_of g line others d meets = if meets then limited true (run_to_limit g line d) else drives_to_limit g others (with_mark (does g line d))
 
-goes_on : (g : Given) (line : Line) (others : List Line) (d : Driver) → meets_limit g line d ≡ false → drives_to_limit g (line ∷ others) d ≡ drives_to_limit g others (with_mark (does g line d))
+goes_on : (g : DriverInput) (line : Line) (others : List Line) (d : Driver) → meets_limit g line d ≡ false → drives_to_limit g (line ∷ others) d ≡ drives_to_limit g others (with_mark (does g line d))
 goes_on g line others d none = ap (comes_of g line others d) none
 
-ends_there : (g : Given) (line : Line) (others : List Line) (d : Driver) → meets_limit g line d ≡ true → drives_to_limit g (line ∷ others) d ≡ limited true (run_to_limit g line d)
+ends_there : (g : DriverInput) (line : Line) (others : List Line) (d : Driver) → meets_limit g line d ≡ true → drives_to_limit g (line ∷ others) d ≡ limited true (run_to_limit g line d)
 ends_there g line others d meets = ap (comes_of g line others d) meets
 
 -- the commands from a place on
@@ -64,7 +65,7 @@ module _ {K : Type 0} (tells : K → StoreView) (all : List Command) where
   Done left f = HasDone tells all left f
 
   -- before the first line
-  pub done_at_first : (f : FleetView K) (lines : List Line) → AreLines all lines → AllStand no_context all → Stands tells (given_of all) at_first f → HasDone tells all all f
+  pub done_at_first : (f : FleetView K) (lines : List Line) → AreLines all lines → AllStand no_context all → IsAtDriver tells (driver_input_of all) at_first f → HasDone tells all all f
   done_at_first f lines are stand stands = record {
     lines = lines;
     are = are;
@@ -73,6 +74,7 @@ module _ {K : Type 0} (tells : K → StoreView) (all : List Command) where
     repos = omega arith;
     driver = at_first;
     waited = refl;
+    marks = omega arith;
     stands = stands;
     others = lines;
     behind = are;
@@ -80,8 +82,8 @@ module _ {K : Type 0} (tells : K → StoreView) (all : List Command) where
   }
 
   module _ (c : Command) (left : List Command) (f : FleetView K) (h : Done (c ∷ left) f) where
-    abbrev g : Given
-    g = given_of all
+    abbrev g : DriverInput
+    g = driver_input_of all
 
     -- the line of the command, and those behind it
     record Next : Type 0 where
@@ -95,7 +97,7 @@ module _ {K : Type 0} (tells : K → StoreView) (all : List Command) where
     next =
         let one = bind_some (line_of (repos_of all) c) (λ t. lines_of (repos_of all) left >>= λ ts. Some (t ∷ ts)) h.others h.behind in
         let more = bind_some (lines_of (repos_of all) left) (λ ts. Some (one.0 ∷ ts)) h.others one.2 in
-        record { line = one.0; others = more.0; here = one.1; behind = more.1; both = some_is (one.0 ∷ more.0) h.others more.2 }
+        record { line = one.0; others = more.0; here = one.1; behind = more.1; both = same_Some (one.0 ∷ more.0) h.others more.2 }
 
     -- the command may be done
     pub may_be_done : MayBeDone f c
@@ -112,14 +114,24 @@ module _ {K : Type 0} (tells : K → StoreView) (all : List Command) where
           built = ap (λ (r : Run). is_some (line_of r.repos c)) run ∙ ap is_some next.here;
         }
 
+    -- and fewer commands were done than there are
+    pub few_done : length f.run.marks < length all
+    few_done =
+        let run : length f.run.marks ≡ length h.driver.marks = ap (λ (r : Run). length r.marks) h.stands.come.run in
+        let marks = h.marks in
+        omega (arith, run, marks)
+
     -- where its line meets no full history, the rest is left then
-    pub done_next : TimeLaw → WaitLaw → (after : FleetView K) → MeetsNone tells c f → GoesOn tells (does_and_marks c) f after → HasDone tells all left after
-    done_next time wait after within goes =
+    pub done_next : TimeLaw → WaitLaw → MarksLaw → (after : FleetView K) → MeetsNone tells c f → GoesOn tells (does_and_marks c) f after → HasDone tells all left after
+    done_next time wait marks after within goes =
         let after_line : Driver = with_mark (does g next.line h.driver) in
         let both = length-append (declared_by c) (repos_of left) in
         let long = length-append h.context.repos (script.declared_by c) in
         let alike = declares_alike c in
         let repos = h.repos in
+        let were = h.marks in
+        let marked = length-append (does g next.line h.driver).marks (length (does g next.line h.driver).past ∷ []) in
+        let stay : length (does g next.line h.driver).marks ≡ length h.driver.marks = ap length (marks g next.line h.driver) in
         record {
           lines = h.lines;
           are = h.are;
@@ -127,8 +139,9 @@ module _ {K : Type 0} (tells : K → StoreView) (all : List Command) where
           stand = h.stand.2;
           repos = omega (arith, repos, both, long, alike);
           driver = after_line;
+          marks = omega (arith, were, marked, stay);
           waited = ap (λ n. n + wait_of c) h.waited ∙ ap (λ n. now h.driver.past + n) (sym (wait (repos_of all) c next.line next.here)) ∙ sym (time g next.line h.driver);
-          stands = subst (λ (o : Option Line). Stands tells g (with_mark (option_map_or (λ line. does g line h.driver) o h.driver)) after) next.here (goes g h.driver h.stands);
+          stands = subst (λ (o : Option Line). IsAtDriver tells g (with_mark (option_map_or (λ line. does g line h.driver) o h.driver)) after) next.here (goes g h.driver h.stands);
           others = next.others;
           behind = next.behind;
           ends = sym (goes_on g next.line next.others h.driver (within g h.driver next.line h.stands next.here)) ∙ ap (λ ls. drives_to_limit g ls h.driver) next.both ∙ h.ends;
@@ -149,8 +162,8 @@ module _ {K : Type 0} (tells : K → StoreView) (all : List Command) where
   -- after the last line
   pub done_at_last : (f : FleetView K) → HasDone tells all [] f → IsRunOf all false f.run
   done_at_last f h =
-      let g = given_of all in
-      let none : [] ≡ h.others = some_is [] h.others h.behind in
+      let g = driver_input_of all in
+      let none : [] ≡ h.others = same_Some [] h.others h.behind in
       let ends : drives_to_limit g [] h.driver ≡ limited_run g h.lines = ap (λ ls. drives_to_limit g ls h.driver) none ∙ h.ends in
       record {
         lines = h.lines;

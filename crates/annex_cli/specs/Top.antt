@@ -15,7 +15,7 @@ use Rattle.script_lang.specs.Script.{reading, BadLine, PastLimit}
 use Rattle.driver_model.specs.Driving.{run_of}
 use Rattle.driver_model.specs.Limits.{limited_run}
 use Rattle.driver_model.specs.Lines.{Line}
-use Rattle.driver_script.specs.Given.{given_of}
+use Rattle.driver_script.specs.Given.{driver_input_of}
 use Rattle.driver_script.specs.Script.{IsScript, IsUnbuilt}
 use Rattle.report_text.specs.Report.{report}
 use Rattle.annex_cli.specs.declared.status.Status.{Status}
@@ -23,8 +23,8 @@ use Rattle.annex_cli.specs.declared.status.Status.TheVariants.{Done, Usage, Scri
 use Rattle.annex_cli.specs.Whole.{IsRead, TakesFront, script_limit}
 
 -- the words are `run` alone
-abbrev pub IsRun : List (List ℕ) → Type 0
-IsRun words = words ≡ codes "run" ∷ []
+abbrev pub IsRunCommand : List (List ℕ) → Type 0
+IsRunCommand words = words ≡ codes "run" ∷ []
 
 abbrev pub usage_text : List ℕ
 usage_text = codes "usage: annex run | threads | storm NUMBER JOBS\n"
@@ -38,7 +38,7 @@ pub record IsGood (run : Run) : Type 0 where
 
 -- the run of the script that the bytes are is good, up to where a line meets a full history, if one does
 abbrev pub HasGoodRun : List ℕ → Type 0
-HasGoodRun bytes = (script : List Command) (lines : List Line) → IsScript bytes script lines → IsGood (limited_run (given_of script) lines).run
+HasGoodRun bytes = (script : List Command) (lines : List Line) → IsScript bytes script lines → IsGood (limited_run (driver_input_of script) lines).run
 
 -- the bytes are a script whose forms are all built; no line meets a full history, and the text is the report of its run
 pub record IsReport (bytes text : List ℕ) : Type 0 where
@@ -46,8 +46,8 @@ pub record IsReport (bytes text : List ℕ) : Type 0 where
   pub script : List Command
   pub lines : List Line
   pub is_script : IsScript bytes script lines
-  pub whole : (limited_run (given_of script) lines).is_cut ≡ false
-  pub text_is : text ≡ report script (run_of (given_of script) lines)
+  pub whole : (limited_run (driver_input_of script) lines).is_cut ≡ false
+  pub text_is : text ≡ report script (run_of (driver_input_of script) lines)
 
 -- the line that names a place of a script
 abbrev pub place_text : ℕ → ℕ → List ℕ
@@ -95,8 +95,8 @@ pub record IsCutReport (bytes text : List ℕ) : Type 0 where
   pub script : List Command
   pub lines : List Line
   pub is_script : IsScript bytes script lines
-  pub cut : (limited_run (given_of script) lines).is_cut ≡ true
-  pub text_is : text ≡ report script (limited_run (given_of script) lines).run ++ limit_text entries_name most_entries
+  pub cut : (limited_run (driver_input_of script) lines).is_cut ≡ true
+  pub text_is : text ≡ report script (limited_run (driver_input_of script) lines).run ++ limit_text entries_name most_entries
 
 -- what is due for a source of these bytes
 abbrev pub IsDue : List ℕ → Status → List ℕ → Type 0
@@ -149,5 +149,5 @@ EndsWith status text taken taken' result =
 
 -- what the sink has taken with each status
 pub record Answers (words : List (List ℕ)) (left left' taken taken' : Option (List ℕ)) (status : Status) : Type 0 where
-  pub run : IsRun words → AnswersRun left left' taken taken' status
-  pub other : (IsRun words → ⊥) → AnswersOther taken taken' status
+  pub run : IsRunCommand words → AnswersRun left left' taken taken' status
+  pub other : (IsRunCommand words → ⊥) → AnswersOther taken taken' status

@@ -19,7 +19,9 @@ use driver_script::{
 };
 use race_core::{refusals_have_causes, runs_are_safe};
 use report_text::report;
-use script_lang::{Script, ScriptFault, commands_have_lines, commands_stand, line_numbers};
+use script_lang::{
+    Script, ScriptFault, commands_have_lines, commands_stand, line_numbers, scripts_have_few_lines,
+};
 use std::alloc::Global;
 
 /// A status, and the text that is written with it.
@@ -76,6 +78,7 @@ fn run_due(alloc: Global, bytes: &[u8], script: &Script) -> Result<Due, NoMemory
     // Laws, for the proof that the script may be run.
     commands_stand();
     scripts_may_be_driven();
+    scripts_have_few_lines();
     let ran = run_script(alloc, script)?;
     report_due(alloc, bytes, script, &ran)
 }

@@ -10,12 +10,12 @@ ghost use Rattle.run_data.specs.Histories.{most_entries};
 ghost use Rattle.driver_model.specs.Driving.{run_of};
 ghost use Rattle.driver_model.specs.Limits.{limited_run};
 ghost use Rattle.driver_model.specs.Lines.{Line};
-ghost use Rattle.driver_script.specs.Given.{given_of};
+ghost use Rattle.driver_script.specs.Given.{driver_input_of};
 ghost use Rattle.report_text.specs.Report.{report};
 ghost use Rattle.annex_cli.specs.declared.status.Status.{Status};
 ghost use Rattle.annex_cli.specs.Runs.{AreLines};
 ghost use Rattle.annex_cli.specs.Whole.{script_limit};
-ghost use Rattle.annex_cli.specs.Top.{IsRun, IsDue, EndsWith, Answers, AnswersRun, entries_name, limit_text};
+ghost use Rattle.annex_cli.specs.Top.{IsRunCommand, IsDue, EndsWith, Answers, AnswersRun, entries_name, limit_text};
 
 mod due;
 mod runs;
@@ -49,7 +49,7 @@ pub fn annex<R: Threads + Wait + Sync, S: Source, K: Sink, G: Gate>(
     ensures answers { Answers (map string_bytes words.now) (S.left source.old) (S.left source.new) (K.taken sink.old) (K.taken sink.new) result }
 
     // for other words than `run` the source stays unread
-    ensures unread { (IsRun (map string_bytes words.now) → ⊥) → source.new ≡ source.old }
+    ensures unread { (IsRunCommand (map string_bytes words.now) → ⊥) → source.new ≡ source.old }
 
     // a fault is answered only where the count rose, and always where it did
     ensures read { result ≡ Status.ReadFault → Rose (S.faults source.old) (S.faults source.new) }
@@ -59,18 +59,18 @@ pub fn annex<R: Threads + Wait + Sync, S: Source, K: Sink, G: Gate>(
 
     // without a fault and with enough memory, what is due is answered: for a script whose forms are built its report, up to where a
     // line meets a full history, if one does
-    ensures usage { (IsRun (map string_bytes words.now) → ⊥) → (Rose (K.faults sink.old) (K.faults sink.new) → ⊥) → result ≡ Status.Usage }
-    ensures due { (bytes text : List ℕ) (status : Status) → IsRun (map string_bytes words.now) → S.left source.old ≡ Some bytes → IsDue bytes status text
+    ensures usage { (IsRunCommand (map string_bytes words.now) → ⊥) → (Rose (K.faults sink.old) (K.faults sink.new) → ⊥) → result ≡ Status.Usage }
+    ensures due { (bytes text : List ℕ) (status : Status) → IsRunCommand (map string_bytes words.now) → S.left source.old ≡ Some bytes → IsDue bytes status text
         → (Rose (S.faults source.old) (S.faults source.new) → ⊥) → (Rose (K.faults sink.old) (K.faults sink.new) → ⊥)
         → EndsWith status text (K.taken sink.old) (K.taken sink.new) result }
-    ensures reported { (bytes : List ℕ) (script : List Command) (lines : List Line) → IsRun (map string_bytes words.now) → S.left source.old ≡ Some bytes
-        → length bytes ≤ script_limit → reading bytes ≡ Commands script → AreLines script lines → (limited_run (given_of script) lines).is_cut ≡ false
+    ensures reported { (bytes : List ℕ) (script : List Command) (lines : List Line) → IsRunCommand (map string_bytes words.now) → S.left source.old ≡ Some bytes
+        → length bytes ≤ script_limit → reading bytes ≡ Commands script → AreLines script lines → (limited_run (driver_input_of script) lines).is_cut ≡ false
         → (Rose (S.faults source.old) (S.faults source.new) → ⊥) → (Rose (K.faults sink.old) (K.faults sink.new) → ⊥)
-        → EndsWith Status.Done (report script (run_of (given_of script) lines)) (K.taken sink.old) (K.taken sink.new) result }
-    ensures cut { (bytes : List ℕ) (script : List Command) (lines : List Line) → IsRun (map string_bytes words.now) → S.left source.old ≡ Some bytes
-        → length bytes ≤ script_limit → reading bytes ≡ Commands script → AreLines script lines → (limited_run (given_of script) lines).is_cut ≡ true
+        → EndsWith Status.Done (report script (run_of (driver_input_of script) lines)) (K.taken sink.old) (K.taken sink.new) result }
+    ensures cut { (bytes : List ℕ) (script : List Command) (lines : List Line) → IsRunCommand (map string_bytes words.now) → S.left source.old ≡ Some bytes
+        → length bytes ≤ script_limit → reading bytes ≡ Commands script → AreLines script lines → (limited_run (driver_input_of script) lines).is_cut ≡ true
         → (Rose (S.faults source.old) (S.faults source.new) → ⊥) → (Rose (K.faults sink.old) (K.faults sink.new) → ⊥)
-        → EndsWith Status.Limit (report script (limited_run (given_of script) lines).run ++ limit_text entries_name most_entries) (K.taken sink.old) (K.taken sink.new) result }
+        → EndsWith Status.Limit (report script (limited_run (driver_input_of script) lines).run ++ limit_text entries_name most_entries) (K.taken sink.old) (K.taken sink.new) result }
 {
     if !is_run(words) {
         return match write_whole(sink, USAGE) {

@@ -1,18 +1,18 @@
 //! The run of a script, by a fleet of nodes.
-ghost use Rattle.std.specs.Prelude.{◌≡◌, ℕ, true, [], List, Err, IfOk, OnOk};
+ghost use Rattle.std.specs.Prelude.{◌≡◌, ◌≤◌, ℕ, true, [], List, length, Err, IfOk, OnOk};
 ghost use Rattle.repo_node.specs.Stored.{store_view};
 ghost use Rattle.script_lang.specs.Script.{no_context};
 ghost use Rattle.script_lang.specs.Standing.{AllStand};
 ghost use Rattle.driver_model.specs.Driver.{at_first};
 ghost use Rattle.driver_model.specs.Lines.{Line};
-ghost use Rattle.driver_script.specs.Given.{given_of};
+ghost use Rattle.driver_script.specs.Given.{driver_input_of};
 ghost use Rattle.driver_script.specs.Lines.{repos_of};
-ghost use Rattle.fleet_run.specs.Standing.{Stands};
+ghost use Rattle.fleet_run.specs.Standing.{IsAtDriver, most_lines};
 ghost use Rattle.joined_nodes.specs.Joined.{MayRun};
 ghost use Rattle.annex_cli.specs.Runs.{AreLines, HasDone, IsRunOf};
 
 use annex_base::NoMemory;
-use driver_model::only_waits_take_time;
+use driver_model::{only_waits_take_time, runs_are_cut_where_histories_are_full};
 use driver_script::{bytes_are_matched, lines_wait_as_long};
 use fleet_run::{Fleet, FleetStop};
 use object_store::{FailingKeeper, MemoryKeeper};
@@ -34,11 +34,13 @@ pub struct Ran {
 fn run_lines<K: FailingKeeper>(fleet: &mut Fleet<K>, script: &Script) -> Result<(), FleetStop>
     requires lines { (lines : List Line) × AreLines script.now lines }
     requires stand { AllStand no_context script.now }
-    requires stands { Stands (λ k. store_view (K.contents k) (K.parts k) (K.failing k) (K.faults k)) (given_of script.now) at_first fleet.old }
+    requires few { length script.now ≤ most_lines }
+    requires stands { IsAtDriver (λ k. store_view (K.contents k) (K.parts k) (K.failing k) (K.faults k)) (driver_input_of script.now) at_first fleet.old }
     ensures done { OnOk result (HasDone (λ k. store_view (K.contents k) (K.parts k) (K.failing k) (K.faults k)) script.now [] fleet.new) }
     ensures cut { (r : ℕ) → result ≡ Err (FleetStop.Full r) → IsRunOf script.now true fleet.new.run }
 {
     // Laws, for the proof.
+    runs_are_cut_where_histories_are_full();
     only_waits_take_time();
     lines_wait_as_long();
     let commands = script.lines();
@@ -53,6 +55,8 @@ pub fn run_script(alloc: Global, script: &Script) -> Result<Ran, NoMemory>
     requires lines { (lines : List Line) × AreLines script.now lines }
     requires stand { AllStand no_context script.now }
     requires run { MayRun (repos_of script.now) }
+    requires repos { length (repos_of script.now) ≤ 8 }
+    requires few { length script.now ≤ most_lines }
     ensures { IfOk result (λ ran. IsRunOf script.now ran.is_cut ran.run) }
 {
     // A law, for the proof.

@@ -2,11 +2,11 @@
 
 ghost use Rattle.std.specs.Prelude.{◌↔◌, IsTrue, map};
 ghost use Rattle.std.specs.String.{string_bytes};
-ghost use Rattle.annex_cli.specs.Top.{IsRun};
+ghost use Rattle.annex_cli.specs.Top.{IsRunCommand};
 
 /// Whether the words are `run` alone.
 pub fn is_run(words: &[String]) -> bool
-    ensures { IsTrue result ↔ IsRun (map string_bytes words.now) }
+    ensures { IsTrue result ↔ IsRunCommand (map string_bytes words.now) }
 {
     match words {
         [word] => word.as_str() == "run",

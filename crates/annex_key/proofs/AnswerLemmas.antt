@@ -3,7 +3,7 @@ use Rattle.std.proofs.Common.{inl, inr, ◌≡◌, ◌≢◌, ◌↔◌, ℕ, Li
 use Rattle.annex_base.proofs.Results.{bind_err, bind_ok, ok_err}
 use Rattle.annex_key.specs.declared.fault.KeyFault.{KeyFault}
 use Rattle.annex_key.specs.declared.fault.KeyFault.TheVariants.{NoDashes, BadBackend, BadField, EmptyName, TooLong, BadEscape, BadName, NoMemory}
-use Rattle.annex_key.specs.KeyText.{Parts, IsKey, IsKeyText, key_text}
+use Rattle.annex_key.specs.KeyText.{KeyParts, IsKey, IsKeyText, key_text}
 use Rattle.annex_key.specs.Reading.{key_at}
 use Rattle.annex_key.specs.Faults.{Breaks}
 use Rattle.annex_key.specs.View.{size_in, size_or_fault, IsKeyed, fault_in, first_fault, of_text, told_fault, size_part, backend_part, name_part, name_in, or_none}
@@ -68,11 +68,11 @@ of_text_none NoMemory h = refl
 pub told : (text : List ℕ) (e : KeyFault) → key_at text ≡ Err e → of_text e ≡ first_fault text
 told text e h = broken e text (key_err text e h) ∙ sym (ap fault_in h)
 
-fault_err : (r : Result Parts KeyFault) (e : KeyFault) → fault_in r ≡ Some e → r ≡ Err e
+fault_err : (r : Result KeyParts KeyFault) (e : KeyFault) → fault_in r ≡ Some e → r ≡ Err e
 fault_err (Ok k) e h = absurd cc
 fault_err (Err d) e h = cc
 
-fault_ok : (r : Result Parts KeyFault) → fault_in r ≡ None → (k : Parts) × (r ≡ Ok k)
+fault_ok : (r : Result KeyParts KeyFault) → fault_in r ≡ None → (k : KeyParts) × (r ≡ Ok k)
 fault_ok (Ok k) h = (k, refl)
 fault_ok (Err d) h = absurd cc
 
@@ -99,14 +99,14 @@ faults text r exact e other = (
 
 -- ---- the parts of a key
 
-pub backend_part-key : (k : Parts) (text : List ℕ) → IsKey k → text ≡ key_text k → backend_part text ≡ k.backend
+pub backend_part-key : (k : KeyParts) (text : List ℕ) → IsKey k → text ≡ key_text k → backend_part text ≡ k.backend
 backend_part-key k text is spelled =
     ap backend_part spelled ∙ (word_again k.backend (tail1 k) (backend_no_dash k.backend is.backend) (size_starts k.size k.mtime k.chunk k.name)).0
 
-pub size_part-key : (k : Parts) (text : List ℕ) → IsKey k → text ≡ key_text k → size_part text ≡ k.size
-size_part-key k text is spelled = ap size_part spelled ∙ ap (λ (r : Result Parts KeyFault). or_none (size_in r)) (key_again k is)
+pub size_part-key : (k : KeyParts) (text : List ℕ) → IsKey k → text ≡ key_text k → size_part text ≡ k.size
+size_part-key k text is spelled = ap size_part spelled ∙ ap (λ (r : Result KeyParts KeyFault). or_none (size_in r)) (key_again k is)
 
-pub name_part-key : (k : Parts) (text : List ℕ) → IsKey k → text ≡ key_text k → name_part text ≡ k.name
+pub name_part-key : (k : KeyParts) (text : List ℕ) → IsKey k → text ≡ key_text k → name_part text ≡ k.name
 name_part-key k text is spelled = ap name_part spelled ∙ ap name_in (key_again k is)
 
 -- a fault that is handed on is told

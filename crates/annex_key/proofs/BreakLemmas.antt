@@ -8,7 +8,7 @@ use Rattle.annex_base.proofs.DecimalLemmas.{number_some}
 use Rattle.annex_base.proofs.Options.{none_by}
 use Rattle.annex_key.specs.declared.fault.KeyFault.{KeyFault}
 use Rattle.annex_key.specs.declared.fault.KeyFault.TheVariants.{NoDashes, BadBackend, BadField, EmptyName, TooLong, BadEscape, BadName, NoMemory}
-use Rattle.annex_key.specs.KeyText.{Parts, is_backend, size_letter, mtime_letter, chunk_size_letter, chunk_letter, field_text, chunk_text}
+use Rattle.annex_key.specs.KeyText.{KeyParts, is_backend, size_letter, mtime_letter, chunk_size_letter, chunk_letter, field_text, chunk_text}
 use Rattle.annex_base.specs.ResultSteps.{◌>>=◌}
 use Rattle.annex_key.specs.Reading.{begins, comes, has_dashes, word_of, backend_at, number_at, field_at, must_at, chunk_at, checked_name, name_at, parts_at, key_at}
 use Rattle.annex_key.specs.Faults.{IsNumber, Front, front_text, IsFront, may_come, HasBadLetter, HasBadNumber, HasName, HasBadName, IsTried, Breaks}
@@ -66,7 +66,7 @@ name_bad_letter total letter rest other = rw other refl
 abbrev IsSmall : Option ℕ → Type 0
 IsSmall o = IfSome o (λ n. n < 2 ^ 64)
 
-abbrev failing : KeyFault → Result Parts KeyFault
+abbrev failing : KeyFault → Result KeyParts KeyFault
 failing e = Err e
 
 up_to_size : (text backend rest : List ℕ) → text ≡ backend ++ rest → is_backend backend ≡ true → begins dash rest ≡ true → parts_at text ≡ from_backend (length text) (backend, rest)

@@ -2,7 +2,7 @@
 use Rattle.std.proofs.Common.{◌≡◌, ℕ, ◌+◌, ◌-◌, ◌≤◌, List, ◌++◌, length, take, drop, Option, Result, Ok, Err, refl, sym, ap, subst, ◌∙◌, append_assoc, length-append, arith}
 use Rattle.std.proofs.lemmas.List.{take_at}
 use Rattle.annex_key.specs.declared.fault.KeyFault.{KeyFault}
-use Rattle.annex_key.specs.KeyText.{Parts, IsKey, IsKeyText, key_text, without_chunk, size_letter, mtime_letter, field_text, chunk_text}
+use Rattle.annex_key.specs.KeyText.{KeyParts, IsKey, IsKeyText, key_text, without_chunk, size_letter, mtime_letter, field_text, chunk_text}
 use Rattle.annex_base.specs.ResultSteps.{◌>>=◌}
 use Rattle.annex_key.specs.Reading.{field_at, chunk_at, key_at, around_chunk}
 use Rattle.annex_key.specs.View.{size_in, size_or_fault, IsKeyed, unchunked_text, chunkless, name_part}
@@ -12,13 +12,13 @@ use Rattle.annex_key.proofs.KeyLemmas.{tail1, tail2, tail3, tail4, chunk_starts,
 use Rattle.annex_key.proofs.AnswerLemmas.{keyed_is, name_part-key}
 
 -- what stands before the chunk's fields
-abbrev front : Parts → List ℕ
+abbrev front : KeyParts → List ℕ
 front k = k.backend ++ (field_text size_letter k.size ++ field_text mtime_letter k.mtime)
 
 regroup : (a b c t : List ℕ) → (a ++ (b ++ c)) ++ t ≡ a ++ (b ++ (c ++ t))
 regroup a b c t = simp append_assoc
 
-front-text : (k : Parts) (t : List ℕ) → front k ++ t ≡ k.backend ++ (field_text size_letter k.size ++ (field_text mtime_letter k.mtime ++ t))
+front-text : (k : KeyParts) (t : List ℕ) → front k ++ t ≡ k.backend ++ (field_text size_letter k.size ++ (field_text mtime_letter k.mtime ++ t))
 front-text k t = regroup k.backend (field_text size_letter k.size) (field_text mtime_letter k.mtime) t
 
 abbrev found : List ℕ → List ℕ → Option (ℕ × ℕ) × List ℕ → Result (List ℕ × List ℕ) KeyFault
@@ -33,7 +33,7 @@ from_size text size = field_at mtime_letter (length text) size.1 >>= from_mtime 
 abbrev from_backend : List ℕ → List ℕ × List ℕ → Result (List ℕ × List ℕ) KeyFault
 from_backend text backend = field_at size_letter (length text) backend.1 >>= from_size text
 
-around_key : (k : Parts) → IsKey k → around_chunk (key_text k) ≡ Ok (front k, tail4 k)
+around_key : (k : KeyParts) → IsKey k → around_chunk (key_text k) ≡ Ok (front k, tail4 k)
 unfolding around_chunk
 around_key k is =
     let text = key_text k in
@@ -50,7 +50,7 @@ around_key k is =
     ∙ ap (λ (w : List ℕ). Ok (w, tail4 k)) cut
 
 -- a key stays one without its chunk
-without_chunk-is : (k : Parts) → IsKey k → IsKey (without_chunk k)
+without_chunk-is : (k : KeyParts) → IsKey k → IsKey (without_chunk k)
 without_chunk-is k is =
     let whole : length (key_text k) ≡ length (front k) + (length (chunk_text k.chunk) + length (tail4 k)) =
     ap length (sym (front-text k (tail3 k))) ∙ length-append (front k) (tail3 k) ∙ ap (λ n. length (front k) + n) (length-append (chunk_text k.chunk) (tail4 k)) in
@@ -58,7 +58,7 @@ without_chunk-is k is =
     ap length (sym (front-text k (tail4 k))) ∙ length-append (front k) (tail4 k) in
     record { backend = is.backend; size = is.size; mtime = is.mtime; chunk = tt; some_name = is.some_name; name = is.name; short = omega (arith, whole, less, is.short) }
 
-pub unchunked_text-key : (k : Parts) (text : List ℕ) → IsKey k → text ≡ key_text k → unchunked_text text ≡ key_text (without_chunk k)
+pub unchunked_text-key : (k : KeyParts) (text : List ℕ) → IsKey k → text ≡ key_text k → unchunked_text text ≡ key_text (without_chunk k)
 unchunked_text-key k text is spelled = ap (chunkless text) (ap key_at spelled ∙ key_again k is)
 
 -- the text around the chunk, of a key's text

@@ -8,7 +8,7 @@ use Rattle.annex_base.proofs.Conditions.{if_is}
 use Rattle.annex_base.proofs.Results.{bind_err, bind_ok, err_ok, guard_err, ok_err}
 use Rattle.annex_key.specs.declared.fault.KeyFault.{KeyFault}
 use Rattle.annex_key.specs.declared.fault.KeyFault.TheVariants.{NoDashes, BadBackend, BadField, EmptyName, TooLong, BadName}
-use Rattle.annex_key.specs.KeyText.{Parts, is_backend, size_letter, mtime_letter, chunk_size_letter, chunk_letter, field_text, chunk_text}
+use Rattle.annex_key.specs.KeyText.{KeyParts, is_backend, size_letter, mtime_letter, chunk_size_letter, chunk_letter, field_text, chunk_text}
 use Rattle.annex_base.specs.ResultSteps.{◌>>=◌}
 use Rattle.annex_key.specs.Reading.{begins, comes, has_dashes, is_dash, word_of, after_word, backend_at, number_at, field_at, must_at, chunk_at, name_front, checked_name, name_at, parts_at, key_at}
 use Rattle.annex_key.specs.Faults.{HasDashes, IsNumber, Front, front_text, IsFront, may_follow, HasName, IsTried, Breaks}
@@ -378,11 +378,11 @@ pub key_err : (text : List ℕ) (e : KeyFault) → key_at text ≡ Err e → Bre
 unfolding key_at
 key_err text e h =
     elim (if_is (ltb 1024 (length text)) (Err TooLong) _ _ h) [
-      | inl long ↦ subst (λ d. Breaks d text) (err_is Parts TooLong e long.1) (ltb-true 1024 (length text) long.0)
+      | inl long ↦ subst (λ d. Breaks d text) (err_is KeyParts TooLong e long.1) (ltb-true 1024 (length text) long.0)
       | inr short ↦
           let within : length text ≤ 1024 = ltb-false 1024 (length text) short.0 in
           elim (if_is (has_dashes text) _ (Err NoDashes) _ short.1) [
             | inl has ↦ parts_err text e has.0 has.1 (within, has_is text has.0)
-            | inr left ↦ subst (λ d. Breaks d text) (err_is Parts NoDashes e left.1) (within, λ has. true≢false (sym (is_has text has) ∙ left.0))
+            | inr left ↦ subst (λ d. Breaks d text) (err_is KeyParts NoDashes e left.1) (within, λ has. true≢false (sym (is_has text has) ∙ left.0))
           ]
     ]

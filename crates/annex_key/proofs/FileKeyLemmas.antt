@@ -7,7 +7,7 @@ use Rattle.std.proofs.lemmas.Slice.Eq.{bytes_eq-Decides}
 use Rattle.annex_base.specs.Lines.{colon, slash}
 use Rattle.annex_key.specs.declared.fault.KeyFault.{KeyFault}
 use Rattle.annex_key.specs.declared.fault.KeyFault.TheVariants.{NoMemory}
-use Rattle.annex_key.specs.KeyText.{Parts, IsKeyText}
+use Rattle.annex_key.specs.KeyText.{KeyParts, IsKeyText}
 use Rattle.annex_key.specs.KeyFile.{ampersand, percent, escape_of, file_text}
 use Rattle.annex_key.specs.Reading.{key_at}
 use Rattle.annex_key.specs.FileKey.{bytes_after, text_in, was_read, is_key, key_by, key_of_file}
@@ -34,7 +34,7 @@ pub text_again_in : (text : List ℕ) → text_in (file_text text) ≡ text
 text_again_in [] = refl
 text_again_in (b ∷ bs) = escaped_read b (file_text bs) ∙ ap (λ (w : List ℕ). b ∷ w) (text_again_in bs)
 
-read_is : (r : Result Parts KeyFault) (text : List ℕ) → key_at text ≡ r → was_read r ≡ true → IsKeyText text
+read_is : (r : Result KeyParts KeyFault) (text : List ℕ) → key_at text ≡ r → was_read r ≡ true → IsKeyText text
 read_is (Ok parts) text is read = text_takes text parts is
 read_is (Err e) text is read = cc
 

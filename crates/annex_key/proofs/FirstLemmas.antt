@@ -4,14 +4,13 @@ use Rattle.std.specs.BTreeMap as tree
 use Rattle.std.specs.BTreeSet as sorted
 use Rattle.std.specs.BTreeMap.{BTreeMap, is_at}
 use Rattle.std.specs.BTreeSet.{BTreeSet}
-use Rattle.std.specs.Map.{lookup}
 use Rattle.std.specs.Ordering.{is_gt}
 use Rattle.std.specs.Str.{bytes_eq}
 use Rattle.std.proofs.lemmas.Cmp.{nat_list_cmp_total}
 use Rattle.std.proofs.lemmas.Map.Lookups.{exact_bytes}
 use Rattle.std.proofs.lemmas.Map.Text.{is_eq-slice_cmp}
 use Rattle.std.proofs.lemmas.Map.Views.{btree_map_get_iff}
-use Rattle.std.proofs.lemmas.Option.{none-some, same_Some}
+use Rattle.std.proofs.lemmas.Option.{same_Some}
 use Rattle.annex_base.specs.ByteOrder.{text_cmp}
 use Rattle.annex_base.specs.Lists.{Member}
 use Rattle.annex_base.proofs.Conditions.{bytes_eq-refl, bytes_eq_tells}
@@ -101,13 +100,6 @@ firsts_more index old new before after key s ordered was is adds =
         | inr some ↦ inr (ap is_some (adds.sets q) ∙ stays_some adds.path key q old some)
       ];
     }
-
-pub firsts_none : (index : Index) (firsts : Firsts) (rest : Sets) → firsts.entries ≡ [] → rest ≡ index.entries → FirstsSoFar index firsts rest
-firsts_none index firsts rest none is = record {
-  among = λ e within. subst (Member e) is within;
-  sound = λ q k e. absurd (none-some k (sym (ap (λ es. lookup (is_at (text_cmp q)) es) none) ∙ e));
-  all = λ e q within first. inl (subst (Member e) (sym is) within);
-}
 
 pub firsts_all : (index : Index) (firsts : Firsts) (rest : Sets) → tree.IsOrdered text_cmp index → FirstsSoFar index firsts rest → rest ≡ [] → AreFirsts index firsts
 firsts_all index firsts rest ordered so none = record {

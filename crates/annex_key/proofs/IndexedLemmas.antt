@@ -9,6 +9,7 @@ use Rattle.std.specs.Str.{bytes_eq}
 use Rattle.std.proofs.lemmas.Cmp.{nat_list_cmp_total}
 use Rattle.std.proofs.lemmas.Map.Lookups.{btree_set_from_contains, exact_bytes}
 use Rattle.std.proofs.lemmas.Map.Views.{btree_set_contains_iff}
+use Rattle.std.proofs.Math.Bool.{and-false, and-true, or-false}
 use Rattle.annex_base.specs.ByteOrder.{text_cmp}
 use Rattle.annex_base.proofs.Conditions.{bytes_eq-other, bytes_eq-refl, bytes_eq-true, bytes_eq_tells, same_test}
 use Rattle.annex_key.specs.Tree.{Entries, with_key, key_of, paths_of}
@@ -18,32 +19,20 @@ use Rattle.annex_key.proofs.TreeLaws.{key_of-with_key_same, key_of-with_key_othe
 
 -- ---- tests
 
-and_true : (a : Bool) → (a && true) ≡ a
-and_true true = refl
-and_true false = refl
-
-and_false : (a : Bool) → (a && false) ≡ false
-and_false true = refl
-and_false false = refl
-
 or_same : (a : Bool) → (a || a) ≡ a
 or_same true = refl
 or_same false = refl
-
-or_false : (a : Bool) → (a || false) ≡ a
-or_false true = refl
-or_false false = refl
 
 -- ---- a path that got a key, and left its old one
 
 -- at the path itself
 at_path : (o : Option (List ℕ)) (now key : List ℕ) → bytes_eq now key ≡ (not (was_left o now key) && (bytes_eq now key || is_key o key))
-at_path None now key = sym (or_false (bytes_eq now key))
+at_path None now key = sym (or-false (bytes_eq now key))
 at_path (Some old) now key = elim (bytes_eq_tells old now) [
   | inl same ↦ rw (same.0, same.1) (sym (or_same (bytes_eq now key)))
   | inr other ↦ elim (bytes_eq_tells old key) [
     | inl is ↦ rw (other.0, is.0, bytes_eq-other now key (λ e. other.1 (is.1 ∙ sym e))) refl
-    | inr isnt ↦ rw (other.0, isnt.0) (sym (or_false (bytes_eq now key)))
+    | inr isnt ↦ rw (other.0, isnt.0) (sym (or-false (bytes_eq now key)))
   ]
 ]
 
@@ -51,10 +40,10 @@ abbrev stays : Option (List ℕ) → List ℕ → List ℕ → Bool → Bool →
 stays o now key here had = not (was_left o now key && here) && ((bytes_eq now key && here) || had)
 
 stays_here : (o : Option (List ℕ)) (now key : List ℕ) (had : Bool) → had ≡ is_key o key → bytes_eq now key ≡ stays o now key true had
-stays_here o now key had is = at_path o now key ∙ rw (is, and_true (was_left o now key), and_true (bytes_eq now key)) refl
+stays_here o now key had is = at_path o now key ∙ rw (is, and-true (was_left o now key), and-true (bytes_eq now key)) refl
 
 stays_there : (o : Option (List ℕ)) (now key : List ℕ) (had : Bool) → had ≡ stays o now key false had
-stays_there o now key had = rw (and_false (was_left o now key), and_false (bytes_eq now key)) refl
+stays_there o now key had = rw (and-false (was_left o now key), and-false (bytes_eq now key)) refl
 
 -- after the path is set, a path has the key if it stays, or is that path and key
 set_gives : (t : Entries) (path now key p : List ℕ)
@@ -85,8 +74,8 @@ undone : (t : Entries) (path now k p : List ℕ) → key_of t path ≡ None → 
 undone t path now k p none = elim (bytes_eq_tells path p) [
   | inl same ↦
       let gone : is_key (key_of t p) k ≡ false = ap (λ q. is_key (key_of t q) k) (sym same.1) ∙ ap (λ o. is_key o k) none in
-      rw (gone, same.0, and_true (bytes_eq now k)) (never (bytes_eq now k))
-  | inr other ↦ rw (other.0, and_false (bytes_eq now k)) refl
+      rw (gone, same.0, and-true (bytes_eq now k)) (never (bytes_eq now k))
+  | inr other ↦ rw (other.0, and-false (bytes_eq now k)) refl
 ] where
   never : (b : Bool) → (not b && (b || false)) ≡ false
   never true = refl

@@ -6,44 +6,44 @@ use Rattle.annex_base.proofs.Conditions.{if_is}
 use Rattle.annex_base.proofs.Results.{bind_ok, err_ok}
 use Rattle.annex_key.specs.declared.fault.KeyFault.{KeyFault}
 use Rattle.annex_key.specs.declared.fault.KeyFault.TheVariants.{NoDashes, TooLong}
-use Rattle.annex_key.specs.KeyText.{Parts, IsKey, IsKeyText, key_text, size_letter, mtime_letter, field_text, chunk_text}
+use Rattle.annex_key.specs.KeyText.{KeyParts, IsKey, IsKeyText, key_text, size_letter, mtime_letter, field_text, chunk_text}
 use Rattle.annex_base.specs.ResultSteps.{◌>>=◌}
 use Rattle.annex_key.specs.Reading.{begins, comes, has_dashes, backend_at, field_at, chunk_at, name_at, parts_at, key_at}
 use Rattle.annex_key.proofs.Steps.{ok_is}
 use Rattle.annex_key.proofs.ReadingLemmas.{backend_takes, field_takes, chunk_takes, name_takes, backend_again, field_again, chunk_again, name_again}
 
 -- after the backend, after the size, after the time, after the chunk
-abbrev pub tail4 : Parts → List ℕ
+abbrev pub tail4 : KeyParts → List ℕ
 tail4 k = dash ∷ dash ∷ k.name
 
-abbrev pub tail3 : Parts → List ℕ
+abbrev pub tail3 : KeyParts → List ℕ
 tail3 k = chunk_text k.chunk ++ tail4 k
 
-abbrev pub tail2 : Parts → List ℕ
+abbrev pub tail2 : KeyParts → List ℕ
 tail2 k = field_text mtime_letter k.mtime ++ tail3 k
 
-abbrev pub tail1 : Parts → List ℕ
+abbrev pub tail1 : KeyParts → List ℕ
 tail1 k = field_text size_letter k.size ++ tail2 k
 
-abbrev pub named : List ℕ → Option ℕ → Option ℕ → Option (ℕ × ℕ) → List ℕ → Result Parts KeyFault
+abbrev pub named : List ℕ → Option ℕ → Option ℕ → Option (ℕ × ℕ) → List ℕ → Result KeyParts KeyFault
 named backend size mtime chunk name = Ok (record { backend = backend; size = size; mtime = mtime; chunk = chunk; name = name })
 
-abbrev pub from_chunk : ℕ → List ℕ → Option ℕ → Option ℕ → Option (ℕ × ℕ) × List ℕ → Result Parts KeyFault
+abbrev pub from_chunk : ℕ → List ℕ → Option ℕ → Option ℕ → Option (ℕ × ℕ) × List ℕ → Result KeyParts KeyFault
 from_chunk total backend size mtime chunk = name_at total chunk.1 >>= named backend size mtime chunk.0
 
-abbrev pub from_mtime : ℕ → List ℕ → Option ℕ → Option ℕ × List ℕ → Result Parts KeyFault
+abbrev pub from_mtime : ℕ → List ℕ → Option ℕ → Option ℕ × List ℕ → Result KeyParts KeyFault
 from_mtime total backend size mtime = chunk_at total mtime.1 >>= from_chunk total backend size mtime.0
 
-abbrev pub from_size : ℕ → List ℕ → Option ℕ × List ℕ → Result Parts KeyFault
+abbrev pub from_size : ℕ → List ℕ → Option ℕ × List ℕ → Result KeyParts KeyFault
 from_size total backend size = field_at mtime_letter total size.1 >>= from_mtime total backend size.0
 
-abbrev pub from_backend : ℕ → List ℕ × List ℕ → Result Parts KeyFault
+abbrev pub from_backend : ℕ → List ℕ × List ℕ → Result KeyParts KeyFault
 from_backend total backend = field_at size_letter total backend.1 >>= from_size total backend.0
 
-parts_along : (bytes : List ℕ) (y k : Parts) → y ≡ k → IsKey y → bytes ≡ key_text y → IsKey k × (bytes ≡ key_text k)
+parts_along : (bytes : List ℕ) (y k : KeyParts) → y ≡ k → IsKey y → bytes ≡ key_text y → IsKey k × (bytes ≡ key_text k)
 parts_along bytes y k same is spelled = (subst IsKey same is, spelled ∙ ap key_text same)
 
-pub parts_take : (bytes : List ℕ) (k : Parts) → length bytes ≤ 1024 → parts_at bytes ≡ Ok k → IsKey k × (bytes ≡ key_text k)
+pub parts_take : (bytes : List ℕ) (k : KeyParts) → length bytes ≤ 1024 → parts_at bytes ≡ Ok k → IsKey k × (bytes ≡ key_text k)
 unfolding parts_at
 parts_take bytes k short e =
     let total = length bytes in
@@ -57,13 +57,13 @@ parts_take bytes k short e =
     let t2 = field_takes mtime_letter total b.0.1 c.0 c.1 in
     let t3 = chunk_takes total c.0.1 d.0 d.1 in
     let t4 = name_takes total d.0.1 f.0 f.1 in
-    let made : Parts = record { backend = a.0.0; size = b.0.0; mtime = c.0.0; chunk = d.0.0; name = f.0 } in
+    let made : KeyParts = record { backend = a.0.0; size = b.0.0; mtime = c.0.0; chunk = d.0.0; name = f.0 } in
     let spelled : bytes ≡ key_text made =
     t0.0 ∙ ap (λ (w : List ℕ). a.0.0 ++ w) (t1.0 ∙ ap (λ (w : List ℕ). field_text size_letter b.0.0 ++ w) (t2.0 ∙ ap (λ (w : List ℕ). field_text mtime_letter c.0.0 ++ w) (t3.0 ∙ ap (λ (w : List ℕ). chunk_text d.0.0 ++ w) t4.0))) in
     let is : IsKey made = record { backend = t0.1; size = t1.1; mtime = t2.1; chunk = t3.1; some_name = t4.1; name = t4.2; short = subst (λ (w : List ℕ). length w ≤ 1024) spelled short } in
     parts_along bytes made k (ok_is made k f.2) is spelled
 
-pub key_takes : (bytes : List ℕ) (k : Parts) → key_at bytes ≡ Ok k → IsKey k × (bytes ≡ key_text k)
+pub key_takes : (bytes : List ℕ) (k : KeyParts) → key_at bytes ≡ Ok k → IsKey k × (bytes ≡ key_text k)
 unfolding key_at
 key_takes bytes k e =
     elim (if_is (ltb 1024 (length bytes)) (Err TooLong) _ _ e) [
@@ -86,7 +86,7 @@ pub size_starts : (s m : Option ℕ) (o : Option (ℕ × ℕ)) (name : List ℕ)
 size_starts None m o name = (mtime_starts m o name).0
 size_starts (Some n) m o name = refl
 
-pub parts_again : (k : Parts) → IsKey k → parts_at (key_text k) ≡ Ok k
+pub parts_again : (k : KeyParts) → IsKey k → parts_at (key_text k) ≡ Ok k
 unfolding parts_at
 parts_again k is =
     let total = length (key_text k) in
@@ -107,7 +107,7 @@ pub has_dashes-append : (front rest : List ℕ) → has_dashes rest ≡ true →
 has_dashes-append [] rest has = has
 has_dashes-append (b ∷ bs) rest has = or_right _ _ (has_dashes-append bs rest has)
 
-pub key_again : (k : Parts) → IsKey k → key_at (key_text k) ≡ Ok k
+pub key_again : (k : KeyParts) → IsKey k → key_at (key_text k) ≡ Ok k
 unfolding key_at
 key_again k is =
     let short : ltb 1024 (length (key_text k)) ≡ false = le-ltb 1024 (length (key_text k)) is.short in
@@ -117,12 +117,12 @@ key_again k is =
     rw (short, has, read) refl
 
 -- a key's text is read, and what is read is a key's text
-pub text_takes : (text : List ℕ) (k : Parts) → key_at text ≡ Ok k → IsKeyText text
+pub text_takes : (text : List ℕ) (k : KeyParts) → key_at text ≡ Ok k → IsKeyText text
 text_takes text k e = let is = key_takes text k e in record { parts = k; key = is.0; spelled = is.1 }
 
 pub text_again : (text : List ℕ) (is : IsKeyText text) → key_at text ≡ Ok is.parts
 text_again text is = ap key_at is.spelled ∙ key_again is.parts is.key
 
 -- a text is that of one key at most
-pub one_key : (j k : Parts) → IsKey j → IsKey k → key_text j ≡ key_text k → j ≡ k
+pub one_key : (j k : KeyParts) → IsKey j → IsKey k → key_text j ≡ key_text k → j ≡ k
 one_key j k is_j is_k same = ok_is j k (sym (key_again j is_j) ∙ ap key_at same ∙ key_again k is_k)

@@ -9,7 +9,7 @@ use Rattle.annex_base.specs.Lines.{newline, is_not_newline, IsOneLine, dash}
 use Rattle.annex_base.proofs.Lists.{list_all_weaker}
 use Rattle.annex_base.proofs.Lines.{one_line-nil, one_line-append, one_line-cons, one_line-by_test, one_line-decimal}
 use Rattle.annex_key.specs.declared.fault.KeyFault.{KeyFault}
-use Rattle.annex_key.specs.KeyText.{Parts, IsKey, IsKeyText, key_text, field_text, chunk_text, is_backend, is_backend_byte, is_upper, size_letter, mtime_letter, chunk_size_letter, chunk_letter}
+use Rattle.annex_key.specs.KeyText.{KeyParts, IsKey, IsKeyText, key_text, field_text, chunk_text, is_backend, is_backend_byte, is_upper, size_letter, mtime_letter, chunk_size_letter, chunk_letter}
 use Rattle.annex_key.specs.Reading.{key_at}
 use Rattle.annex_key.specs.View.{first_fault, fault_in}
 use Rattle.annex_key.proofs.KeyLemmas.{text_takes, text_again}
@@ -49,6 +49,6 @@ key_line text is =
 pub sound_text : (text : List ℕ) → (first_fault text ≡ None) ↔ IsKeyText text
 sound_text text = (λ none. go (key_at text) refl none, λ is. ap fault_in (text_again text is))
   where
-    go : (r : Result Parts KeyFault) → key_at text ≡ r → fault_in r ≡ None → IsKeyText text
+    go : (r : Result KeyParts KeyFault) → key_at text ≡ r → fault_in r ≡ None → IsKeyText text
     go (Ok k) is none = text_takes text k is
     go (Err e) is none = absurd cc

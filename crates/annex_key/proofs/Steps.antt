@@ -26,10 +26,6 @@ pub option_err : {A B : Type 0} (o : Option A) (f : A → B) (c d : KeyFault) �
 option_err None f c d e = (refl, cc)
 option_err (Some x) f c d e = absurd cc
 
-pub begins_is : (a : ℕ) (bytes : List ℕ) → begins a bytes ≡ true → bytes ≡ a ∷ drop 1 bytes
-begins_is a [] h = absurd (true≢false (sym h))
-begins_is a (x ∷ xs) h = rw (eqb-true x a h) refl
-
 -- a dash and the letter that come
 pub comes_is : (letter : ℕ) (bytes : List ℕ) → comes letter bytes ≡ true → bytes ≡ dash ∷ letter ∷ drop 2 bytes
 comes_is letter [] h = absurd cc

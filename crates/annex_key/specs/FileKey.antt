@@ -4,7 +4,7 @@ use Rattle.std.specs.Option.{unwrap_or}
 use Rattle.std.specs.Str.{bytes_eq}
 use Rattle.annex_base.specs.Lines.{slash}
 use Rattle.annex_key.specs.declared.fault.KeyFault.{KeyFault}
-use Rattle.annex_key.specs.KeyText.{Parts}
+use Rattle.annex_key.specs.KeyText.{KeyParts}
 use Rattle.annex_key.specs.KeyFile.{ampersand, percent, letter_byte, file_text}
 use Rattle.annex_key.specs.Reading.{key_at}
 
@@ -18,7 +18,7 @@ bytes_after false (b ∷ bs) = if b == ampersand then bytes_after true bs else (
 abbrev pub text_in : List ℕ → List ℕ
 text_in file = bytes_after false file
 
-abbrev pub was_read : Result Parts KeyFault → Bool
+abbrev pub was_read : Result KeyParts KeyFault → Bool
 was_read (Ok parts) = true
 was_read (Err e) = false
 

@@ -7,7 +7,7 @@ use Rattle.std.specs.Fmt.{decimal}
 use Rattle.annex_base.specs.Lines.{IsOneLine, dash}
 
 -- a key's parts; a chunk's are its size and its number
-pub record Parts : Type 0 where
+pub record KeyParts : Type 0 where
   pub backend : List ℕ
   pub size : Option ℕ
   pub mtime : Option ℕ
@@ -55,7 +55,7 @@ chunk_text None = []
 chunk_text (Some c) = field_text chunk_size_letter (Some c.0) ++ field_text chunk_letter (Some c.1)
 
 -- BACKEND[-sSIZE][-mMTIME][-SCHUNKSIZE-CCHUNK]--NAME
-abbrev pub key_text : Parts → List ℕ
+abbrev pub key_text : KeyParts → List ℕ
 key_text k = k.backend ++ (field_text size_letter k.size ++ (field_text mtime_letter k.mtime ++ (chunk_text k.chunk ++ (dash ∷ dash ∷ k.name))))
 
 -- UTF-8 without a newline
@@ -64,7 +64,7 @@ pub record IsName (name : List ℕ) : Type 0 where
   pub one_line : IsOneLine name
 
 -- the parts of a key
-pub record IsKey (k : Parts) : Type 0 where
+pub record IsKey (k : KeyParts) : Type 0 where
   pub backend : IsTrue (is_backend k.backend)
   pub size : IfSome k.size (λ n. n < 2 ^ 64)
   pub mtime : IfSome k.mtime (λ n. n < 2 ^ 64)
@@ -74,12 +74,12 @@ pub record IsKey (k : Parts) : Type 0 where
   pub short : length (key_text k) ≤ 1024
 
 -- a key without its chunk size and chunk
-abbrev pub without_chunk : Parts → Parts
+abbrev pub without_chunk : KeyParts → KeyParts
 without_chunk k = record k { chunk = None }
 
 -- the text of a key: the parts that it spells
 pub record IsKeyText (text : List ℕ) : Type 0 where
-  pub parts : Parts
+  pub parts : KeyParts
   pub key : IsKey parts
   pub spelled : text ≡ key_text parts
 

@@ -10,7 +10,7 @@ use Rattle.annex_base.specs.Lines.{is_newline, dash}
 use Rattle.annex_base.specs.ResultSteps.{◌>>=◌}
 use Rattle.annex_key.specs.declared.fault.KeyFault.{KeyFault}
 use Rattle.annex_key.specs.declared.fault.KeyFault.TheVariants.{NoDashes, BadBackend, BadField, EmptyName, TooLong, BadName}
-use Rattle.annex_key.specs.KeyText.{Parts, is_backend, size_letter, mtime_letter, chunk_size_letter, chunk_letter}
+use Rattle.annex_key.specs.KeyText.{KeyParts, is_backend, size_letter, mtime_letter, chunk_size_letter, chunk_letter}
 
 -- what a call returned, seen by view, is what reading gives
 abbrev pub Reads : {X Y : Type 0} → (X → Y) → Result X KeyFault → Result Y KeyFault → Type 0
@@ -85,7 +85,7 @@ unfoldable pub name_at : ℕ → List ℕ → Result (List ℕ) KeyFault
 name_at total bytes = if comes dash bytes then checked_name total (drop 2 bytes) else Err (BadField (total - length bytes + 1))
 
 -- the parts from left to right
-unfoldable pub parts_at : List ℕ → Result Parts KeyFault
+unfoldable pub parts_at : List ℕ → Result KeyParts KeyFault
 parts_at text = do
   backend ← backend_at text
   size ← field_at size_letter (length text) backend.1
@@ -95,7 +95,7 @@ parts_at text = do
   Ok (record { backend = backend.0; size = size.0; mtime = mtime.0; chunk = chunk.0; name = name })
 
 -- all of the text: its length and its dashes first
-unfoldable pub key_at : List ℕ → Result Parts KeyFault
+unfoldable pub key_at : List ℕ → Result KeyParts KeyFault
 key_at text = if nat_lt 1024 (length text) then Err TooLong else (if has_dashes text then parts_at text else Err NoDashes)
 
 -- what stands before the chunk's fields, and after them

@@ -2,12 +2,12 @@
 use Rattle.std.specs.Prelude.{◌≡◌, ℕ, List, [], Option, Some, None, Result, Ok, Err}
 use Rattle.annex_key.specs.declared.fault.KeyFault.{KeyFault}
 use Rattle.annex_key.specs.declared.fault.KeyFault.TheVariants.{NoMemory}
-use Rattle.annex_key.specs.KeyText.{Parts, key_text, without_chunk}
+use Rattle.annex_key.specs.KeyText.{KeyParts, key_text, without_chunk}
 use Rattle.annex_base.specs.ResultSteps.{◌>>=◌}
 use Rattle.annex_key.specs.Reading.{key_at, word_of}
 
 -- the size of what was read, or the fault
-abbrev pub size_in : Result Parts KeyFault → Result (Option ℕ) KeyFault
+abbrev pub size_in : Result KeyParts KeyFault → Result (Option ℕ) KeyFault
 size_in read = read >>= λ k. Ok k.size
 
 -- the size of the key that the text spells, or the first fault
@@ -47,7 +47,7 @@ or_none (Err e) = None
 abbrev pub size_part : List ℕ → Option ℕ
 size_part text = or_none (size_or_fault text)
 
-abbrev pub name_in : Result Parts KeyFault → List ℕ
+abbrev pub name_in : Result KeyParts KeyFault → List ℕ
 name_in (Ok k) = k.name
 name_in (Err e) = []
 
@@ -55,7 +55,7 @@ name_in (Err e) = []
 abbrev pub name_part : List ℕ → List ℕ
 name_part text = name_in (key_at text)
 
-abbrev pub chunkless : List ℕ → Result Parts KeyFault → List ℕ
+abbrev pub chunkless : List ℕ → Result KeyParts KeyFault → List ℕ
 chunkless text (Ok k) = key_text (without_chunk k)
 chunkless text (Err e) = text
 

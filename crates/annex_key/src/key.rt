@@ -7,7 +7,7 @@ ghost use Rattle.std.specs.Cmp.Lexicographic.{slice_cmp, pointwise};
 ghost use Rattle.std.specs.Ordering.{nat_cmp, as_partial_cmp};
 ghost use Rattle.std.specs.List.{list_any};
 ghost use Rattle.std.specs.Str.{bytes_eq};
-ghost use Rattle.annex_key.specs.KeyText.{Parts, IsKey, IsKeyText, key_text, without_chunk, is_digest_backend};
+ghost use Rattle.annex_key.specs.KeyText.{KeyParts, IsKey, IsKeyText, key_text, without_chunk, is_digest_backend};
 ghost use Rattle.annex_key.specs.Faults.{Breaks};
 ghost use Rattle.annex_key.specs.KeyFile.{file_text, BreaksFile};
 ghost use Rattle.annex_key.specs.FileKey.{key_of_file};
@@ -110,7 +110,7 @@ impl Key {
     /// The backend, as `SHA256E`.
     pub fn backend(&self) -> &[u8]
         ensures value { result.now ≡ backend_part self.now }
-        ensures spelled { (k : Parts) → IsKey k → self.now ≡ key_text k → result.now ≡ k.backend }
+        ensures spelled { (k : KeyParts) → IsKey k → self.now ≡ key_text k → result.now ≡ k.backend }
     {
         backend_word(&self.text)
     }
@@ -118,7 +118,7 @@ impl Key {
     /// The size of the content in bytes, where the key says it.
     pub fn size(&self) -> Option<u64>
         ensures value { result ≡ size_part self.now }
-        ensures spelled { (k : Parts) → IsKey k → self.now ≡ key_text k → result ≡ k.size }
+        ensures spelled { (k : KeyParts) → IsKey k → self.now ≡ key_text k → result ≡ k.size }
     {
         self.size
     }
@@ -126,7 +126,7 @@ impl Key {
     /// The name: what follows the two dashes.
     pub fn name(&self) -> &[u8]
         ensures value { result.now ≡ name_part self.now }
-        ensures spelled { (k : Parts) → IsKey k → self.now ≡ key_text k → result.now ≡ k.name }
+        ensures spelled { (k : KeyParts) → IsKey k → self.now ≡ key_text k → result.now ≡ k.name }
     {
         let text = self.text.as_slice();
         let Ok((_front, end)) = around_chunk(text) else {
@@ -146,7 +146,7 @@ impl Key {
     /// The key without its chunk size and chunk.
     pub fn unchunked(&self, alloc: Global) -> Result<Key, NoMemory>
         ensures value { IfOk result (λ u. u ≡ unchunked_text self.now) }
-        ensures spelled { (k : Parts) → IsKey k → self.now ≡ key_text k → IfOk result (λ u. u ≡ key_text (without_chunk k)) }
+        ensures spelled { (k : KeyParts) → IsKey k → self.now ≡ key_text k → IfOk result (λ u. u ≡ key_text (without_chunk k)) }
     {
         let text = self.text.as_slice();
         let Ok((front, end)) = around_chunk(text) else {

@@ -12,18 +12,11 @@ use Rattle.branch_bundle.specs.Bundle.{IsByte, number_text, file_text, bundle_te
 use Rattle.branch_bundle.specs.Parts.{IsFree, IsCut, counted_file, file_of, fill, Follow, BeginsLines, BeginsPath, BeginsNumber, BeginsFile, BeginsFiles, MayFollow}
 use Rattle.branch_bundle.proofs.FileLemmas.{Lines, empty-is_set, IsFile, Paths}
 use Rattle.annex_base.proofs.TextOrder.{BeforeAll, order_nil, order_cons, order_head, order_tail, BeforeAll-trans}
-use Rattle.branch_bundle.proofs.NumberLemmas.{IsDigit, number_text-one, number_text-more, number_text-first, number_text-digits, number_text-is}
+use Rattle.branch_bundle.proofs.NumberLemmas.{IsDigit, number_text-one, number_text-more, number_text-first, number_text-is}
 use Rattle.annex_base.proofs.Lists.{Each-append, Each-left, Each-right, two_cuts}
 use Rattle.branch_bundle.proofs.TextLemmas.{word, file_text-file_of, file_of-same, cut_same, number_free, word_same}
 use Rattle.branch_bundle.proofs.FillLemmas.{fill-bytes, fill-free, length-fill, before_fill, before_filled, before_none}
 use Rattle.branch_bundle.proofs.EndLemmas.{free_front, text_of-cons, after_set, begins_lines-large}
-
-digit_bytes : (ds : List ℕ) → Each IsDigit ds → Each IsByte ds
-digit_bytes [] all = tt
-digit_bytes (d ∷ ds) all = (omega (arith, all.0.1), digit_bytes ds all.1)
-
-number_bytes : (n : ℕ) → Each IsByte (number_text n)
-number_bytes n = digit_bytes (number_text n) (number_text-digits n)
 
 -- ---- some lines of n bytes
 

@@ -1,7 +1,5 @@
 -- Lines that are cut short: whether some lines in order go on from there, to so many bytes.
 use Rattle.std.proofs.Common.{◌≡◌, inl, inr, ℕ, zero, suc, ◌+◌, ◌-◌, ◌*◌, ◌<◌, ◌≤◌, true, false, ◌&&◌, List, [], ◌∷◌, ◌++◌, length, arith, refl, sym, ap, subst, ◌∙◌, append_assoc, length-append}
-use Rattle.std.specs.declared.cmp.Ordering.{Ordering}
-use Rattle.std.specs.declared.cmp.Ordering.TheVariants.{Less, Equal, Greater}
 use Rattle.std.specs.Ordering.{is_lt}
 use Rattle.std.specs.Bool.{◌==◌}
 use Rattle.std.proofs.lemmas.List.{append-nil, nil_from_length}
@@ -16,6 +14,7 @@ use Rattle.branch_bundle.specs.Parts.{IsFree, IsCut, fill, ends_well, BeginsLine
 use Rattle.branch_bundle.proofs.FileLemmas.{Lines}
 use Rattle.annex_base.proofs.TextOrder.{BeforeAll, order_nil, order_cons, order_head, order_tail, BeforeAll-trans}
 use Rattle.annex_base.proofs.Lists.{Each-append, Each-left, Member-append_cases, Member-append_right}
+use Rattle.annex_base.proofs.Numbers.{is_lt_true}
 use Rattle.branch_bundle.proofs.TextLemmas.{cut_same}
 use Rattle.branch_bundle.proofs.FillLemmas.{fill-bytes, fill-free, length-fill, before_best, before_none, filled_cmp}
 
@@ -24,13 +23,8 @@ use Rattle.branch_bundle.proofs.FillLemmas.{fill-bytes, fill-free, length-fill, 
 pub lt_is : (x y : List ℕ) → Before x y → is_lt (text_cmp x y) ≡ true
 lt_is x y less = ap is_lt less
 
-lt_less : (o : Ordering) → is_lt o ≡ true → o ≡ Less
-lt_less Less e = refl
-lt_less Equal e = absurd (true≢false (sym e))
-lt_less Greater e = absurd (true≢false (sym e))
-
 pub is_before : (x y : List ℕ) → is_lt (text_cmp x y) ≡ true → Before x y
-is_before x y e = lt_less (text_cmp x y) e
+is_before x y e = is_lt_true (text_cmp x y) e
 
 -- ---- the cases of the test
 
@@ -208,9 +202,6 @@ begins_lines-found n text within passes =
       spelled = sym h.5;
     }
 
-pub begins_lines-within : (n : ℕ) (text : List ℕ) → BeginsLines n text → length text ≤ n
-begins_lines-within n text begins = omega (arith, begins.long, ap length begins.spelled, length-append text begins.rest)
-
 pub begins_lines-large : (m n : ℕ) (text : List ℕ) → 2 * length text + 2 ≤ m → 2 * length text + 2 ≤ n → BeginsLines m text → BeginsLines n text
 begins_lines-large m n text long room begins =
     begins_lines-found n text (omega (arith, room))
@@ -247,9 +238,6 @@ next_good line rest next after left cut less = next_line line rest next after le
 
 pub next_bad : (line rest next after : List ℕ) (left : ℕ) → IsCut newline rest next after → is_lt (text_cmp line next) ≡ false → ends_well line [] rest left ≡ false
 next_bad line rest next after left cut other = next_line line rest next after left cut ∙ ap (λ k. k && ends_well next [] after left) other
-
-pub shorter_after : (rest next after : List ℕ) → IsCut newline rest next after → length after < length rest
-shorter_after rest next after cut = omega (arith, ap length cut.spelled, length-append next (newline ∷ after))
 
 -- no whole line is left
 pub last_none : (line rest : List ℕ) (left : ℕ) → IsFree newline rest → left ≡ 0 → ends_well line [] rest left ≡ is_empty rest

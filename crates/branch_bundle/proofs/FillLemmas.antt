@@ -11,19 +11,17 @@ use Rattle.std.specs.List.{prefix_len}
 use Rattle.annex_base.specs.ByteOrder.{text_cmp, Before}
 use Rattle.annex_base.specs.Lists.{Each}
 use Rattle.annex_base.specs.Lines.{newline}
+use Rattle.annex_base.proofs.Numbers.{nat_cmp_less}
 use Rattle.branch_bundle.specs.Bundle.{IsByte}
 use Rattle.branch_bundle.specs.Parts.{IsFree, fill}
 
 -- ---- the order, byte by byte
 
-nat_less : (x y : ℕ) → x < y → nat_cmp x y ≡ Less
-nat_less x y less = let e = lt-ltb x y less in rw e refl
-
 nat_same : (x : ℕ) → nat_cmp x x ≡ Equal
 nat_same x = tied_itself nat_cmp_total x
 
 pub before_head : (x y : ℕ) (xs ys : List ℕ) → x < y → Before (x ∷ xs) (y ∷ ys)
-before_head x y xs ys less = ap (λ o. ordering_then o (text_cmp xs ys)) (nat_less x y less)
+before_head x y xs ys less = ap (λ o. ordering_then o (text_cmp xs ys)) (nat_cmp_less x y less)
 
 pub before_tail : (x : ℕ) (xs ys : List ℕ) → Before xs ys → Before (x ∷ xs) (x ∷ ys)
 before_tail x xs ys less = ap (λ o. ordering_then o (text_cmp xs ys)) (nat_same x) ∙ less
@@ -49,9 +47,6 @@ before_none [] less = equal_less less
 before_none (x ∷ xs) less = greater_less less
 
 -- ---- filled up
-
-pub fill-suc : (n : ℕ) → fill (suc n) ≡ 255 ∷ fill n
-fill-suc n = refl
 
 pub fill-bytes : (n : ℕ) → Each IsByte (fill n)
 fill-bytes zero = tt

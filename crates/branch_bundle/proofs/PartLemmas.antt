@@ -11,6 +11,7 @@ use Rattle.std.proofs.lemmas.Bool.Decides.{eqb_tells}
 use Rattle.std.proofs.lemmas.Slice.Eq.{bytes_eq-Decides}
 use Rattle.std.proofs.lemmas.List.{nil_from_length}
 use Rattle.std.proofs.lemmas.List.{length-take-le}
+use Rattle.std.proofs.lemmas.Option.{none-some}
 use Rattle.annex_base.specs.Decimal.{number_of}
 use Rattle.annex_base.specs.Lists.{Member}
 use Rattle.annex_base.proofs.DecimalLemmas.{number_is, number_some}
@@ -89,9 +90,6 @@ cut_is b y ys xs is = record {
 after_word : (text rest path lines more : List ℕ) → text ≡ word ++ rest → text ≡ file_of path lines ++ more → rest ≡ number_text (length lines) ++ space ∷ (path ++ newline ∷ (lines ++ more))
 after_word text rest path lines more is file = word_same _ _ (sym is ∙ file ∙ file_of-append path lines more)
 
-pub no_word : (text : List ℕ) → ((rest : List ℕ) → text ≡ word ++ rest → ⊥) → (path lines more : List ℕ) → IsLine path → text ≡ file_of path lines ++ more → ⊥
-no_word text none path lines more line file = none _ (file ∙ file_of-append path lines more)
-
 pub no_number : (text rest : List ℕ) → text ≡ word ++ rest → IsFree space rest → (path lines more : List ℕ) → IsLine path → text ≡ file_of path lines ++ more → ⊥
 no_number text rest is free path lines more line file =
     free (subst (Member space) (sym (after_word text rest path lines more is file)) (Member-append_right (number_text (length lines)) (space ∷ (path ++ newline ∷ (lines ++ more))) space (inl refl)))
@@ -106,15 +104,12 @@ lines_short : (text path lines more : List ℕ) → text ≡ file_of path lines 
 lines_short text path lines more file =
     omega (arith, ap length (file ∙ file_of-append path lines more), length-append (number_text (length lines)) (space ∷ (path ++ newline ∷ (lines ++ more))), length-append path (newline ∷ (lines ++ more)), length-append lines more)
 
-none_some : (n : ℕ) → None ≡ Some n → ⊥
-none_some n e = cc
-
 pub no_count : (text rest number after : List ℕ) → text ≡ word ++ rest → IsCut space rest number after → number_of number ≡ None → length text < 2 ^ 64
     → (path lines more : List ℕ) → IsLine path → text ≡ file_of path lines ++ more → ⊥
 no_count text rest number after is cut none short path lines more line file =
     let small : length lines < 2 ^ 64 = omega (arith, short, lines_short text path lines more file) in
     let same = number_parts text rest number after path lines more is cut file in
-    none_some (length lines) (sym none ∙ ap number_of (same.0 ∙ number_text-decimal (length lines) small) ∙ number_is (length lines) small)
+    none-some (length lines) (sym none ∙ ap number_of (same.0 ∙ number_text-decimal (length lines) small) ∙ number_is (length lines) small)
 
 pub no_path : (text rest number after : List ℕ) → text ≡ word ++ rest → IsCut space rest number after → IsFree newline after
     → (path lines more : List ℕ) → IsLine path → text ≡ file_of path lines ++ more → ⊥

@@ -1,13 +1,12 @@
 -- Reading the files of a bundle, one after the other.
-use Rattle.std.proofs.Common.{◌≡◌, inl, inr, ℕ, ◌<◌, List, [], ◌∷◌, ◌++◌, length, arith, refl, sym, ap, subst, ◌∙◌, append_assoc, length-append}
+use Rattle.std.proofs.Common.{◌≡◌, inl, inr, ℕ, ◌<◌, List, [], ◌∷◌, ◌++◌, refl, sym, ap, subst, ◌∙◌, append_assoc}
 use Rattle.std.specs.List.{flat_map}
 use Rattle.std.proofs.lemmas.List.{append-nil}
 use Rattle.annex_base.specs.ByteOrder.{text_cmp, Before, IsInOrder}
 use Rattle.annex_base.specs.Lists.{Member, Each}
-use Rattle.annex_base.specs.Lines.{newline, space}
 use Rattle.union_merge.specs.LineSet.{IsLine, set_of, text_of}
 use Rattle.union_merge.specs.Branch.{Files, IsBranch, with_file}
-use Rattle.branch_bundle.specs.Bundle.{file_text, number_text}
+use Rattle.branch_bundle.specs.Bundle.{file_text}
 use Rattle.branch_bundle.specs.Parts.{file_of}
 use Rattle.branch_bundle.proofs.FileLemmas.{ReadsBack, Lines, File, IsFile, Paths, with_file-above}
 use Rattle.annex_base.proofs.TextOrder.{order_head, order_tail, BeforeAll-member}
@@ -41,9 +40,6 @@ middle_file f (g ∷ files) tail all = middle_file f files tail all.1
 abbrev pub ReadsOn : Files → List ℕ → List ℕ → Type 0
 ReadsOn branch rest text = (files : Files) → IsBranch files → text ≡ flat_map file_text files → (tail : Files) × (files ≡ branch ++ tail) × (rest ≡ flat_map file_text tail)
 
-pub reads_on-none : (branch : Files) (text : List ℕ) → branch ≡ [] → ReadsOn branch text text
-reads_on-none branch text none = λ files is spelled. (files, ap (λ (w : Files). w ++ files) (sym none), spelled)
-
 no_file : (path lines more : List ℕ) → [] ≡ file_of path lines ++ more → ⊥
 no_file path lines more e = let h = e ∙ file_of-append path lines more in cc
 
@@ -71,8 +67,3 @@ reads_on-all branch files text rest so_far none branch_of spelled =
       step (f ∷ tail) whole some =
           absurd (none f.0 (text_of f.1) (flat_map file_text tail) (middle_file f branch tail (subst IsBranch whole branch_of).each).0
           (some ∙ ap (λ (w : List ℕ). w ++ flat_map file_text tail) (file_text-file_of f.0 f.1)))
-
--- what follows a file is shorter
-pub shorter : (rest path lines more : List ℕ) → rest ≡ file_of path lines ++ more → length more < length rest
-shorter rest path lines more is =
-    omega (arith, ap length (is ∙ file_of-append path lines more), length-append (number_text (length lines)) (space ∷ (path ++ newline ∷ (lines ++ more))), length-append path (newline ∷ (lines ++ more)), length-append lines more)

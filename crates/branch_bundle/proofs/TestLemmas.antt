@@ -9,6 +9,7 @@ use Rattle.std.specs.Ordering.{is_lt}
 use Rattle.std.proofs.lemmas.Bool.{and_from, and_parts, true≢false, leb-true, le-leb, cases_lt}
 use Rattle.std.proofs.lemmas.Bool.Decides.{eqb_tells}
 use Rattle.std.proofs.lemmas.List.{append-nil, nil_from_length}
+use Rattle.std.proofs.lemmas.Option.{none-some}
 use Rattle.annex_base.specs.Decimal.{number_of}
 use Rattle.annex_base.specs.ByteOrder.{text_cmp}
 use Rattle.annex_base.specs.Lists.{Each}
@@ -20,7 +21,7 @@ use Rattle.branch_bundle.specs.Bundle.{IsByte, number_text, BeginsBundle}
 use Rattle.branch_bundle.specs.Parts.{IsFree, IsCut, file_of, fill, ends_well, BeginsLines, BeginsPath, BeginsNumber, BeginsFile, BeginsFiles, MayFollow}
 use Rattle.branch_bundle.proofs.NumberLemmas.{IsDigit, number_text-one, number_text-first, number_text-digits, number_text-injective, number_text-is, number_text-decimal}
 use Rattle.branch_bundle.proofs.TextLemmas.{word}
-use Rattle.branch_bundle.proofs.EndLemmas.{lt_is, is_before, ends_found, ends_told, after_set, set_after, begins_lines-told, begins_lines-found, begins_lines-within}
+use Rattle.branch_bundle.proofs.EndLemmas.{lt_is, is_before, ends_found, ends_told, after_set, set_after, begins_lines-told, begins_lines-found}
 use Rattle.branch_bundle.proofs.BeginLemmas.{path_free-told, path_free-found, path_cut-told, path_cut-found, path-large, number_free-told, number_free-found, number_cut-told, number_cut-found, file_word-told, file_word-found, file_number-told, file_number-found, header, bundle_header-told, bundle_header-found, bundle_files-told, bundle_files-found, files_none-found, files_file-found, files_file-told, files_more-told}
 
 -- ---- numbers
@@ -73,9 +74,6 @@ digits_text text rest first b is other test = decided b (list_all is_ascii_digit
 
 pub lines_test : (n : ℕ) (text : List ℕ) (b : Bool) → length text ≤ n → b ≡ ends_well [] [] text (n - length text) → IsTrue b ↔ BeginsLines n text
 lines_test n text b within test = decided b (ends_well [] [] text (n - length text)) (BeginsLines n text) test (begins_lines-found n text within) (begins_lines-told n text within)
-
-pub lines_long : (n : ℕ) (text : List ℕ) (b : Bool) → n < length text → b ≡ false → IsTrue b ↔ BeginsLines n text
-lines_long n text b long fails = denied b (BeginsLines n text) fails (λ begins. omega (arith, long, begins_lines-within n text begins))
 
 pub may_follow_test : (before path text : List ℕ) (b : Bool) → is_lt (text_cmp before path) ≡ true → b ≡ ends_well [] [] text 0 → IsTrue b ↔ MayFollow before path text
 may_follow_test before path text b less test = decided b (ends_well [] [] text 0) (MayFollow before path text) test
@@ -131,9 +129,6 @@ number_cut_test before text front back n b cut number test = (
 pub count_text : (front : List ℕ) (n : ℕ) → Some n ≡ number_of front → front ≡ number_text n
 count_text front n some = let h = number_some front n (sym some) in h.0 ∙ sym (number_text-decimal n h.1)
 
-none_some : (n : ℕ) → None ≡ Some n → ⊥
-none_some n e = cc
-
 -- a number past 64 bits counts as the greatest of 64 bits
 pub number_large_test : (before text front back : List ℕ) (b : Bool) → Each IsByte before → IsCut space text front back → None ≡ number_of front → (n : ℕ) × (front ≡ number_text n) → length text < 2 ^ 63 → IsTrue b ↔ BeginsPath (2 ^ 64 - 1) before back → IsTrue b ↔ BeginsNumber before text
 number_large_test before text front back b bytes cut none number short test =
@@ -145,7 +140,7 @@ number_large_test before text front back b bytes cut none number short test =
     ) where
       past : (n : ℕ) → front ≡ number_text n → 2 ^ 64 ≤ n
       past n is = elim (cases_lt n (2 ^ 64)) [
-        | inl small ↦ absurd (none_some n (none ∙ ap number_of (is ∙ number_text-decimal n small) ∙ number_is n small))
+        | inl small ↦ absurd (none-some n (none ∙ ap number_of (is ∙ number_text-decimal n small) ∙ number_is n small))
         | inr large ↦ large
       ]
 

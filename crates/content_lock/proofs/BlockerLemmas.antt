@@ -8,7 +8,7 @@ use Rattle.std.proofs.lemmas.List.Elements.{filter-append}
 use mathlib.Core.List.{reverse-cons}
 use Rattle.annex_base.specs.Lists.{Each, Member}
 use Rattle.std.proofs.lemmas.Option.{same_Some}
-use Rattle.annex_base.proofs.Conditions.{eqb_refl, if_same}
+use Rattle.annex_base.proofs.Conditions.{eqb_less, eqb_refl, if_same}
 use Rattle.annex_base.proofs.Lists.{All-from_Each, Contains-from_Member, Each-always, Each-both, Each-filter, Each-map, Each-member, Each-weaker, filter_none, filter_yes}
 use Rattle.run_data.specs.declared.row.Hold.{Hold}
 use Rattle.node_model.specs.DropStep.{until}
@@ -52,9 +52,6 @@ until_cons h hs = go h.kept hs
     go true (x ∷ xs) = with_open h.end x xs (list_any is_open (x ∷ xs))
 
 -- ---- what is named
-
-less_other : (a b : ℕ) → a < b → (a == b) ≡ false
-less_other a b lt = grind arith
 
 -- none blocks longer
 abbrev NotLonger : Option ℕ → Hold → Type 0
@@ -114,7 +111,7 @@ longer_named h found hs named longer = go found.until h.kept refl named.longest 
         (until_cons h hs ∙ ap (λ (c : Bool). Some (if c then later_of h.end (until hs) else None)) k ∙ ap (λ (v : Option (Option ℕ)). Some (later_of h.end v)) longest ∙ ap (λ (n : ℕ). Some (Some n)) greater ∙ ap Some (sym ending))
         (subst (λ (e : Option ℕ). Each (NotLonger e) hs) (sym ending) (Each-weaker (NotLonger (Some o)) (NotLonger (Some h.end)) (λ x is. (is.0, omega (arith, is.1, lt))) hs bound))
         (subst (λ (e : Option ℕ). last_blocking e hs ≡ []) (sym ending)
-        (filter_none (λ (x : Hold). x.end == h.end) hs (Each-weaker (NotLonger (Some o)) (λ x. (x.end == h.end) ≡ false) (λ x is. less_other x.end h.end (omega (arith, is.1, lt))) hs bound)))
+        (filter_none (λ (x : Hold). x.end == h.end) hs (Each-weaker (NotLonger (Some o)) (λ x. (x.end == h.end) ≡ false) (λ x is. eqb_less x.end h.end (omega (arith, is.1, lt))) hs bound)))
 
 -- an older hold stays the least
 more_last : (p : Hold → Bool) (h : Hold) (hs : List Hold) (m : ℕ) → Each (λ x. x.number < h.number) hs → Member m (map (λ (x : Hold). x.number) (filter p hs)) → Each (λ n. m ≤ n) (map (λ (x : Hold). x.number) (filter p hs))

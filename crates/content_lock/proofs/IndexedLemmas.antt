@@ -7,7 +7,7 @@ use Rattle.std.specs.declared.vec.Vec.{Vec}
 use Rattle.std.proofs.lemmas.List.Elements.{filter-append}
 use Rattle.annex_base.specs.Lists.{Each}
 use Rattle.annex_base.proofs.Conditions.{bytes_eq-true, eqb_refl, if_same}
-use Rattle.annex_base.proofs.Lists.{Each-weaker, filter_all, find_nowhere}
+use Rattle.annex_base.proofs.Lists.{Each-weaker}
 use Rattle.run_data.specs.declared.row.Hold.{Hold}
 use Rattle.content_lock.specs.Indexed.{AreRising, IsIndexed, items_in, listed_at, with_number, on_key}
 use Rattle.content_lock.specs.Tokens.{others_of}
@@ -96,12 +96,6 @@ indexed_less es fs was now n h indexed found delists is =
     go hs one key true is = off_same key n hs
     go hs one key false is =
         off_other key n hs (Each-weaker (λ x. (x.number == n) ≡ true → x ≡ h) (λ x. (x.number == n) ≡ true → bytes_eq x.key key ≡ false) (λ x same at. ap (λ (y : Hold). bytes_eq y.key key) (same at) ∙ is) hs one)
-
--- where no hold has the number, none goes
-pub others-none : (hs : List Hold) (n : ℕ) → find (λ x. x.number == n) hs ≡ None → others_of n hs ≡ hs
-others-none hs n none =
-    filter_all (λ h. not (h.number == n)) hs
-    (Each-weaker (λ h. (h.number == n) ≡ false) (λ h. not (h.number == n) ≡ true) (λ h is. ap not is) hs (find_nowhere (λ h. h.number == n) hs none))
 
 -- ---- holds that change, but for their numbers and keys
 

@@ -1,16 +1,18 @@
 -- Holds in order of their numbers, as entries of a map.
 use Rattle.std.proofs.Common.{◌≡◌, ℕ, ◌<◌, Bool, true, false, not, List, [], ◌∷◌, ◌++◌, Option, Some, None, refl, sym, ap, ◌∙◌, subst, arith, append-nil, cond}
-use Rattle.std.specs.Prelude.{◌==◌, ◌||◌, if◌then◌else◌, All, filter, map, reverse, find}
+use Rattle.std.specs.Prelude.{◌==◌, ◌||◌, All, filter, map, reverse, find, if◌then◌else◌}
 use Rattle.std.specs.BTreeMap.{insert_entry, is_at}
 use Rattle.std.specs.Map.{values_of, lookup, remove_entry, set_value}
 use Rattle.std.specs.Ordering.{nat_cmp, is_eq}
 use Rattle.std.specs.declared.cmp.Ordering.TheVariants.{Greater}
 use Rattle.std.specs.Cmp.{nat_cmp_is}
 use mathlib.Core.List.{reverse-cons, reverse-reverse}
-use Rattle.std.proofs.lemmas.List.{reverse-append}
+use Rattle.std.proofs.lemmas.List.{map-append}
 use Rattle.std.proofs.lemmas.List.Elements.{filter-append}
+use Rattle.std.proofs.Math.Bool.{or-false, or-true}
 use Rattle.annex_base.specs.Lists.{Each}
 use Rattle.annex_base.proofs.Lists.{Each-append, Each-filter, Each-from_All, Each-reverse, Each-weaker, filter_all, find_member, find_nowhere}
+use Rattle.annex_base.proofs.Conditions.{eqb_more}
 use Rattle.run_data.specs.declared.row.Hold.{Hold}
 use Rattle.content_lock.specs.Indexed.{AreRising, AreFalling, with_number}
 use Rattle.content_lock.specs.Tokens.{keep_numbered, others_of}
@@ -36,9 +38,6 @@ greater_is n m lt = sym (nat_cmp_is n m Greater lt)
 
 pub at_is : (n m : ℕ) → is_eq (nat_cmp n m) ≡ (m == n)
 at_is n m = grind arith
-
-eqb_false : (n m : ℕ) → n < m → (m == n) ≡ false
-eqb_false n m lt = grind arith
 
 not_at : (n m : ℕ) → n < m → not (m == n) ≡ true
 not_at n m lt = grind arith
@@ -81,7 +80,7 @@ put_at n w h = if h.number == n then w else h
 
 put_none : (hs : List Hold) (n : ℕ) (w : Hold) → Each (λ x. n < x.number) hs → map (put_at n w) hs ≡ hs
 put_none [] n w more = refl
-put_none (h ∷ hs) n w more = rw (eqb_false n h.number more.0) (ap (λ l. h ∷ l) (put_none hs n w more.1))
+put_none (h ∷ hs) n w more = rw (eqb_more n h.number more.0) (ap (λ l. h ∷ l) (put_none hs n w more.1))
 
 pub set_is : (hs : List Hold) (n : ℕ) (w : Hold) → w.number ≡ n → AreRising hs → set_value (is_at (nat_cmp n)) (map with_number hs) w ≡ map with_number (map (put_at n w) hs)
 set_is [] n w named rising = refl
@@ -98,7 +97,7 @@ set_is (h ∷ hs) n w named rising = rw (at_is n h.number) (go (set_is hs n w na
 -- ---- the one hold of a number
 
 above_other : (hs : List Hold) (n : ℕ) (P : Hold → Type 0) → Each (λ x. n < x.number) hs → Each (λ x. (x.number == n) ≡ true → P x) hs
-above_other hs n P more = Each-weaker (λ x. n < x.number) (λ x. (x.number == n) ≡ true → P x) (λ x lt is. absurd (let no = eqb_false n x.number lt in cc)) hs more
+above_other hs n P more = Each-weaker (λ x. n < x.number) (λ x. (x.number == n) ≡ true → P x) (λ x lt is. absurd (let no = eqb_more n x.number lt in cc)) hs more
 
 pub one_of : (hs : List Hold) (n : ℕ) (h : Hold) → AreRising hs → find (λ x. x.number == n) hs ≡ Some h → Each (λ x. (x.number == n) ≡ true → x ≡ h) hs
 one_of [] n h rising found = tt
@@ -160,25 +159,17 @@ values_less es fs n is = ap values_of is ∙ values-numbered (others_of n (value
 pub looked_up : (es : List (ℕ × Hold)) (n : ℕ) (o : Option Hold) → es ≡ map with_number (values_of es) → o ≡ lookup (is_at (nat_cmp n)) es → find (λ h. h.number == n) (values_of es) ≡ o
 looked_up es n o named is = sym (is ∙ ap (lookup (is_at (nat_cmp n))) named ∙ lookup_is (values_of es) n)
 
-or_true : (b : Bool) → true ≡ (b || true)
-or_true true = refl
-or_true false = refl
-
-or_false : (b : Bool) → b ≡ (b || false)
-or_false true = refl
-or_false false = refl
-
 put_keeps : (hs : List Hold) (n : ℕ) (h : Hold) → Each (λ x. (x.number == n) ≡ true → x ≡ h) hs → map (put_at n (record h { kept = true })) hs ≡ map (keep_numbered n) hs
 put_keeps [] n h one = refl
 put_keeps (x ∷ xs) n h one = λ i. go (x.number == n) one.0 i ∷ put_keeps xs n h one.1 i
   where
     go : (b : Bool) → (b ≡ true → x ≡ h) → (if b then record h { kept = true } else x) ≡ record x { kept = x.kept || b }
-    go true is = ap (λ (y : Hold). record y { kept = true }) (sym (is refl)) ∙ ap (λ (c : Bool). record x { kept = c }) (or_true x.kept)
-    go false is = ap (λ (c : Bool). record x { kept = c }) (or_false x.kept)
+    go true is = ap (λ (y : Hold). record y { kept = true }) (sym (is refl)) ∙ ap (λ (c : Bool). record x { kept = c }) (sym (or-true x.kept))
+    go false is = ap (λ (c : Bool). record x { kept = c }) (sym (or-false x.kept))
 
 keeps_none : (hs : List Hold) (n : ℕ) → Each (λ x. (x.number == n) ≡ false) hs → hs ≡ map (keep_numbered n) hs
 keeps_none [] n none = refl
-keeps_none (x ∷ xs) n none = λ i. (ap (λ (c : Bool). record x { kept = c }) (or_false x.kept) ∙ ap (λ (b : Bool). record x { kept = x.kept || b }) (sym none.0)) i ∷ keeps_none xs n none.1 i
+keeps_none (x ∷ xs) n none = λ i. (ap (λ (c : Bool). record x { kept = c }) (sym (or-false x.kept)) ∙ ap (λ (b : Bool). record x { kept = x.kept || b }) (sym none.0)) i ∷ keeps_none xs n none.1 i
 
 pub kept_one : (es fs : List (ℕ × Hold)) (n : ℕ) (h : Hold) → es ≡ map with_number (values_of es) → AreRising (values_of es) → Some h ≡ lookup (is_at (nat_cmp n)) es
     → fs ≡ set_value (is_at (nat_cmp n)) es (record h { kept = true }) → fs ≡ map with_number (map (keep_numbered n) (values_of es))
@@ -216,18 +207,11 @@ filter-reverse {X} p (x ∷ xs) =
     [ true ↦ reverse-cons x (filter p xs) ∙ ap (λ (l : List X). l ++ x ∷ []) ih | false ↦ ih ∙ sym (append-nil (filter p (reverse xs))) ] in
     here ∙ sym (ap (filter p) (reverse-cons x xs) ∙ filter-append p (reverse xs) (x ∷ []))
 
-map_append : {X Y : Type 0} (f : X → Y) (xs ys : List X) → map f (xs ++ ys) ≡ map f xs ++ map f ys
-map_append f [] ys = refl
-map_append f (x ∷ xs) ys = ap (λ l. f x ∷ l) (map_append f xs ys)
-
 map-reverse : {X Y : Type 0} (f : X → Y) (xs : List X) → reverse (map f xs) ≡ map f (reverse xs)
 map-reverse f [] = refl
 map-reverse {X} {Y} f (x ∷ xs) =
     reverse-cons (f x) (map f xs) ∙ ap (λ (l : List Y). l ++ f x ∷ []) (map-reverse f xs)
-    ∙ sym (ap (map f) (reverse-cons x xs) ∙ map_append f (reverse xs) (x ∷ []))
-
-pub view_more : (hs ks view : List Hold) (h : Hold) → ks ≡ hs ++ h ∷ [] → reverse hs ≡ view → reverse ks ≡ h ∷ view
-view_more hs ks view h is seen = ap reverse is ∙ reverse-append hs (h ∷ []) ∙ ap (λ (l : List Hold). h ∷ l) seen
+    ∙ sym (ap (map f) (reverse-cons x xs) ∙ map-append f (reverse xs) (x ∷ []))
 
 pub view_less : (hs ks view : List Hold) (n : ℕ) → ks ≡ others_of n hs → reverse hs ≡ view → reverse ks ≡ others_of n view
 view_less hs ks view n is seen = ap reverse is ∙ filter-reverse (λ (h : Hold). not (h.number == n)) hs ∙ ap (others_of n) seen

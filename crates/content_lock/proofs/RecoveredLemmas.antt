@@ -11,6 +11,7 @@ use Rattle.std.proofs.Math.Seq.{get_or-append_seam}
 use mathlib.Core.List.{reverse-cons}
 use Rattle.annex_base.specs.Lists.{Each}
 use Rattle.annex_base.proofs.Lists.{Each-from_All, Each-reverse, Each-weaker}
+use Rattle.annex_base.proofs.Numbers.{less_by_nat_cmp, nat_cmp_less}
 use Rattle.run_data.specs.declared.row.Hold.{Hold}
 use Rattle.node_model.specs.Rows.{restart}
 use Rattle.object_store.specs.declared.keeper.HoldRecord.{HoldRecord}
@@ -27,17 +28,11 @@ abbrev place : Hold → List Hold → List Hold
 place h [] = h ∷ []
 place h (x ∷ xs) = match_ordering (nat_cmp h.number x.number) (h ∷ x ∷ xs) (h ∷ xs) (x ∷ place h xs)
 
-less_is : (n m : ℕ) → nat_cmp n m ≡ Less → n < m
-less_is n m e = grind arith
-
 equal_is : (n m : ℕ) → nat_cmp n m ≡ Equal → n ≡ m
 equal_is n m e = grind arith
 
 greater_is : (n m : ℕ) → nat_cmp n m ≡ Greater → m < n
 greater_is n m e = grind arith
-
-is_less : (n m : ℕ) → n < m → nat_cmp n m ≡ Less
-is_less n m lt = grind arith
 
 placed : (h : Hold) (hs : List Hold) → insert_entry nat_cmp (map with_number hs) h.number h ≡ map with_number (place h hs)
 placed h [] = refl
@@ -65,14 +60,14 @@ rising_placed h (x ∷ xs) rising = go (nat_cmp h.number x.number) refl (rising_
   where
     go : (o : Ordering) → nat_cmp h.number x.number ≡ o → AreRising (place h xs) → AreRising (match_ordering o (h ∷ x ∷ xs) (h ∷ xs) (x ∷ place h xs))
     go Less is ih =
-        let lt = less_is h.number x.number is in
+        let lt = less_by_nat_cmp h.number x.number is in
         ((lt, Each-weaker (λ y. x.number < y.number) (λ y. h.number < y.number) (λ y more. omega (arith, lt, more)) xs rising.0), rising)
     go Equal is ih = (subst (λ (n : ℕ). Each (λ y. n < y.number) xs) (sym (equal_is h.number x.number is)) rising.0, rising.1)
     go Greater is ih = (each_placed (λ y. x.number < y.number) h xs (greater_is h.number x.number is) rising.0, ih)
 
 first_placed : (h : Hold) (hs : List Hold) → Each (λ x. h.number < x.number) hs → place h hs ≡ h ∷ hs
 first_placed h [] more = refl
-first_placed h (x ∷ xs) more = ap (λ (o : Ordering). match_ordering o (h ∷ x ∷ xs) (h ∷ xs) (x ∷ place h xs)) (is_less h.number x.number more.0)
+first_placed h (x ∷ xs) more = ap (λ (o : Ordering). match_ordering o (h ∷ x ∷ xs) (h ∷ xs) (x ∷ place h xs)) (nat_cmp_less h.number x.number more.0)
 
 -- ---- records in falling order
 
@@ -98,9 +93,6 @@ map_last now (x ∷ xs) r = ap (λ (l : List Hold). kept_hold now x ∷ l) (map_
 numbers_kept : (now n : ℕ) (rs : List HoldRecord) → Each (λ x. n < x.number) rs → Each (λ x. n < x.number) (map (kept_hold now) rs)
 numbers_kept now n [] more = tt
 numbers_kept now n (r ∷ rs) more = (more.0, numbers_kept now n rs more.1)
-
-pub recovered_none : (now : ℕ) (es : List (ℕ × Hold)) → es ≡ [] → IsRecovered now [] es
-recovered_none now es none = subst (IsRecovered now []) (sym none) (record { named = refl; rising = tt; kept = tt; same = λ falling. refl })
 
 pub recovered_more : (now : ℕ) (rs : List HoldRecord) (r : HoldRecord) (es fs : List (ℕ × Hold)) → IsRecovered now rs es → fs ≡ insert_entry nat_cmp es r.number (kept_hold now r) → IsRecovered now (rs ++ r ∷ []) fs
 recovered_more now rs r es fs was is =

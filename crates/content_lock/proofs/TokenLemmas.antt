@@ -1,10 +1,11 @@
 -- Whose shares a list of holds has, as the holds change.
 use Rattle.std.proofs.Common.{◌≡◌, inl, inr, ℕ, ◌<◌, Bool, true, false, not, List, [], ◌∷◌, Option, Some, None, refl, sym, ap, ◌∙◌, subst, arith, true≢false}
-use Rattle.std.specs.Prelude.{◌==◌, ◌&&◌, ◌||◌, if◌then◌else◌, All, filter, find, map}
+use Rattle.std.specs.Prelude.{◌==◌, ◌&&◌, ◌||◌, All, filter, find, map, if◌then◌else◌}
 use Rattle.std.specs.Option.{option_map}
 use Rattle.std.proofs.lemmas.Option.{same_Some}
+use Rattle.std.proofs.Math.Bool.{or-false, or-true}
 use Rattle.annex_base.specs.Lists.{Each, Member}
-use Rattle.annex_base.proofs.Conditions.{eqb_refl}
+use Rattle.annex_base.proofs.Conditions.{and_first, and_second, eqb_refl}
 use Rattle.annex_base.proofs.Lists.{Each-from_All, Each-member, Each-weaker, filter_all, find_member}
 use Rattle.annex_base.proofs.Options.{map_some}
 use Rattle.run_data.specs.declared.entry.By.{By}
@@ -15,14 +16,6 @@ use Rattle.content_lock.specs.Indexed.{AreFalling}
 use Rattle.content_lock.specs.Tokens.{HasShare, Owns, ShareView, keep_numbered, open_share, others_of, share_of, without_open}
 
 -- ---- tests
-
-and_left : (a b : Bool) → (a && b) ≡ true → a ≡ true
-and_left true b e = refl
-and_left false b e = e
-
-and_right : (a b : Bool) → (a && b) ≡ true → b ≡ true
-and_right true b e = e
-and_right false b e = absurd (true≢false (sym e))
 
 pub same_itself : (by : By) → same_owner by by ≡ true
 same_itself Script = refl
@@ -113,7 +106,7 @@ found : (hs : List Hold) (s : ShareView) → HasShare hs s → (h : Hold) × (fi
 found hs s has = map_some (find (opens s.number) hs) share_of s has
 
 number_of_found : (n : ℕ) (h : Hold) → opens n h ≡ true → (h.number == n) ≡ true
-number_of_found n h is = and_left (h.number == n) (not h.kept) is
+number_of_found n h is = and_first (h.number == n) (not h.kept) is
 
 -- shares of two owners have two numbers
 pub apart : (hs : List Hold) (s t : ShareView) → HasShare hs s → HasShare hs t → same_owner s.owner t.owner ≡ false → (t.number == s.number) ≡ false
@@ -178,9 +171,6 @@ others_own_new h hs by (Some s) less other owns =
 
 -- ---- a hold that is taken off
 
-pub owns_none : (hs : List Hold) (s : ShareView) → Owns s.owner (Some s) hs → Owns s.owner None (others_of s.number hs)
-owns_none hs s owns = record { owner = refl; given = refl; kept = owns.kept }
-
 by_of : (s : ShareView) (by : By) (t : ShareView) → t.owner ≡ by → same_owner s.owner by ≡ false → same_owner s.owner t.owner ≡ false
 by_of s by t is differ = ap (same_owner s.owner) is ∙ differ
 
@@ -205,14 +195,6 @@ others_own_off hs s by (Some t) has differ owns =
     other_number n same away = grind arith
 
 -- ---- a hold that is kept
-
-or_true : (b : Bool) → (b || true) ≡ true
-or_true true = refl
-or_true false = refl
-
-or_false : (b : Bool) → (b || false) ≡ b
-or_false true = refl
-or_false false = refl
 
 -- the one of its number
 alone : (hs : List Hold) (h : Hold) → AreFalling hs → Member h hs → Each (λ x. (x.number == h.number) ≡ true → x ≡ h) hs
@@ -241,10 +223,10 @@ keeping s h x it one other = go (x.number == s.number) refl
     go : (b : Bool) → (x.number == s.number) ≡ b → keep_numbered s.number x ≡ keep_of s.owner x
     go true is =
         let mine : same_owner x.owner s.owner ≡ true = ap (λ (y : Hold). same_owner y.owner s.owner) (one is) ∙ ap (λ (t : ShareView). same_owner t.owner s.owner) it ∙ same_itself s.owner in
-        ap (λ (b : Bool). record x { kept = x.kept || b }) is ∙ ap (λ (c : Bool). record x { kept = c }) (or_true x.kept)
+        ap (λ (b : Bool). record x { kept = x.kept || b }) is ∙ ap (λ (c : Bool). record x { kept = c }) (or-true x.kept)
         ∙ sym (ap (λ (b : Bool). if b then record x { kept = true } else x) mine)
     go false is =
-        ap (λ (b : Bool). record x { kept = x.kept || b }) is ∙ ap (λ (c : Bool). record x { kept = c }) (or_false x.kept) ∙ sym (other (ap not is))
+        ap (λ (b : Bool). record x { kept = x.kept || b }) is ∙ ap (λ (c : Bool). record x { kept = c }) (or-false x.kept) ∙ sym (other (ap not is))
 
 -- keeping the one hold is keeping the owner's
 pub keeps_owners : (hs : List Hold) (s : ShareView) → AreFalling hs → Owns s.owner (Some s) hs → map (keep_numbered s.number) hs ≡ map (keep_of s.owner) hs
@@ -326,7 +308,7 @@ others_own_kept hs s by (Some t) has differ owns =
       where
         go : (b c k : Bool) → (h.number == t.number) ≡ b → (h.number == s.number) ≡ c → (b && not (k || c)) ≡ (b && not k)
         go false c k is at = refl
-        go true false k is at = ap not (or_false k)
+        go true false k is at = ap not (or-false k)
         go true true k is at = absurd (both_not h.number is at)
           where
             both_not : (n : ℕ) → (n == t.number) ≡ true → (n == s.number) ≡ true → ⊥
@@ -355,7 +337,7 @@ offing s h x it unkept one other = go (x.number == s.number) refl (same_owner x.
     go false is true mine =
         let kept : x.kept ≡ true = kept_of s.owner x (other (ap not is)) mine in
         ap not is ∙ sym (ap (λ (k : Bool). k || not (same_owner x.owner s.owner)) kept)
-    go false is false mine = ap not is ∙ sym (ap (λ (m : Bool). x.kept || not m) mine ∙ or_true x.kept)
+    go false is false mine = ap not is ∙ sym (ap (λ (m : Bool). x.kept || not m) mine ∙ or-true x.kept)
 
 -- taking the one hold off is taking the owner's open ones off
 pub off_is_owners : (hs : List Hold) (s : ShareView) → AreFalling hs → Owns s.owner (Some s) hs → others_of s.number hs ≡ without_open s.owner hs
@@ -363,7 +345,7 @@ off_is_owners hs s falling owns =
     let it = found hs s owns.given in
     let member = find_member (opens s.number) hs it.0 it.1 in
     let number : it.0.number ≡ s.number = same_number it.0.number s.number (number_of_found s.number it.0 member.1) in
-    let unkept : it.0.kept ≡ false = not_true it.0.kept (and_right (it.0.number == s.number) (not it.0.kept) member.1) in
+    let unkept : it.0.kept ≡ false = not_true it.0.kept (and_second (it.0.number == s.number) (not it.0.kept) member.1) in
     let one = subst (λ (n : ℕ). Each (λ x. (x.number == n) ≡ true → x ≡ it.0) hs) number (alone hs it.0 falling member.0) in
     let rest = each_passing (Stays s.owner) (λ h. not (h.number == s.number)) hs (stays_each s.owner (others_of s.number hs) owns.kept) in
     same_filter (λ h. not (h.number == s.number)) (λ h. h.kept || not (same_owner h.owner s.owner)) hs (both hs it.0 it.2 unkept one rest)

@@ -1,4 +1,4 @@
--- What has to be opened for the driver to compute, and which bytes match a key.
+-- What has to be opened for the driver to compute, and which bytes match a key; for proofs.
 use Rattle.std.specs.Prelude.{ℕ, ◌+◌, ◌%◌, ◌&&◌, Bool, List, bytes_eq, map}
 use Rattle.std.specs.List.{list_any, range_with_len}
 use Rattle.annex_base.specs.Decimal.{number_of as decimal_number_of}

@@ -25,10 +25,10 @@ use Rattle.node_model.specs.State.{State}
 use Rattle.node_model.specs.Step.{step}
 use Rattle.driver_model.specs.Lines.{Agendum, BlockLine, Line, Runs, Crashes, Closes, Fails, Have, SetPart, Add, File, Set, Raw, Merge, Compact, Begin, Turns, Settle, Close, Crash, Wait, Fail, Par, Shows, waited_by}
 use Rattle.driver_model.specs.Lines
-use Rattle.driver_model.specs.Driver.{Driver, Given, adds, drops_part, fails_at, notes, puts_part, set_up_of, state_at, without_old_flights}
-use Rattle.driver_model.specs.ScriptSteps.{begins, begins_part, unless_fails, closes, closes_each, closes_end, compacts, compacts_files, crashes, enters, faults, fills_up, gains, has, is_busy, is_nil, logs, logs_some, merges, merges_files, news, sends, sets, sets_part, setting_line, shrinks, unknown, unless_busy, waits, will_fail, writes}
+use Rattle.driver_model.specs.Driver.{Driver, DriverInput, adds, drops_part, fails_at, notes, puts_part, set_up_of, state_at, without_old_flights}
+use Rattle.driver_model.specs.ScriptSteps.{begins, begins_part, unless_fails, closes, closes_each, closes_end, compacts, compacts_files, crashes, enters, faults, fills_up, gains, has, is_busy, is_nil, logs, logs_some, merges, merges_files, news, sends, sets, sets_part, setting_line, shrinks, unknown_lines, unless_busy, waits, will_fail, writes}
 use Rattle.driver_model.specs.Turning.{bytes_taken, look_for, looks, makes, plain_look, turn}
-use Rattle.driver_model.specs.Rounds.{Agenda, InBlock, AfterRounds, agenda, block_round, block_rounds, blocks, came_to, goes_round, is_over, is_settled, may_begin, most_rounds, numbers, round, rounds, settles, takes, takes_all, takes_each, turns_of, with_round}
+use Rattle.driver_model.specs.Rounds.{Agenda, InBlock, AfterRounds, agenda, block_round, block_rounds, blocks, after_round, goes_round, is_over, is_settled, may_begin, most_rounds, numbers, round, rounds, settles, takes, takes_all, takes_each, turns_of, with_round}
 use Rattle.driver_model.specs.Driving.{does, turns, with_mark}
 use Rattle.driver_model.specs.Sound.{OnlyAdds}
 use Rattle.driver_model.proofs.Settles.{store_past}
@@ -72,9 +72,9 @@ some_adds r file [] d = stays d.past d.past refl
 some_adds r file (line ∷ lines) d = logs_adds r file (line ∷ lines) d
 
 pub writes_adds : (r : ℕ) (file : LogFile) (line : List ℕ) (d : Driver) → Adds d (writes r file line d)
-writes_adds r file line d = some_adds r file (unknown d r file (line ∷ [])) d
+writes_adds r file line d = some_adds r file (unknown_lines d r file (line ∷ [])) d
 
-pub sets_adds : (g : Given) (r : ℕ) (kind : LogKind) (topic : Topic) (value : Value) (d : Driver) → Adds d (sets g r kind topic value d)
+pub sets_adds : (g : DriverInput) (r : ℕ) (kind : LogKind) (topic : Topic) (value : Value) (d : Driver) → Adds d (sets g r kind topic value d)
 sets_adds g r kind topic value d = writes_adds r (Of kind) (setting_line g d r kind topic value) d
 
 merged_adds : (r : ℕ) (files : Files) (d : Driver) → Adds d (merges_files r files d)
@@ -111,10 +111,10 @@ compacts_adds r d = compacted_adds r (branch d.past r) d
 
 -- ---- contents
 
-gains_adds : (g : Given) (r : ℕ) (key bytes : List ℕ) (d : Driver) → Adds d (gains g r key bytes d)
+gains_adds : (g : DriverInput) (r : ℕ) (key bytes : List ℕ) (d : Driver) → Adds d (gains g r key bytes d)
 gains_adds g r key bytes d = then_grew d.past _ (gains g r key bytes d).past (one d.past _ refl) (logs_adds r _ _ _)
 
-fills_adds : (g : Given) (r : ℕ) (key bytes : List ℕ) (d : Driver) → Adds d (fills_up g r key bytes d)
+fills_adds : (g : DriverInput) (r : ℕ) (key bytes : List ℕ) (d : Driver) → Adds d (fills_up g r key bytes d)
 fills_adds g r key bytes d = go (fails_at d r calls.Append)
   where
     put : Driver
@@ -124,17 +124,17 @@ fills_adds g r key bytes d = go (fails_at d r calls.Append)
     go true = one d.past _ refl
     go false = calling_adds put (gains g r key bytes put) r calls.Commit (gains_adds g r key bytes put)
 
-unless_adds : (g : Given) (r : ℕ) (key : List ℕ) (d done : Driver) → Adds d done → Adds d (unless_busy g r key d done)
+unless_adds : (g : DriverInput) (r : ℕ) (key : List ℕ) (d done : Driver) → Adds d done → Adds d (unless_busy g r key d done)
 unless_adds g r key d done x = calling_adds d (if is_busy g d r key then d else unless_fails r calls.DropPart d done) r calls.Has (go (is_busy g d r key))
   where
     go : (b : Bool) → Adds d (if b then d else unless_fails r calls.DropPart d done)
     go true = stays d.past d.past refl
     go false = calling_adds d done r calls.DropPart x
 
-pub has_adds : (g : Given) (r : ℕ) (key bytes : List ℕ) (d : Driver) → Adds d (has g r key bytes d)
+pub has_adds : (g : DriverInput) (r : ℕ) (key bytes : List ℕ) (d : Driver) → Adds d (has g r key bytes d)
 has_adds g r key bytes d = unless_adds g r key d (fills_up g r key bytes (drops_part r key d)) (fills_adds g r key bytes (drops_part r key d))
 
-pub part_adds : (g : Given) (r : ℕ) (key bytes : List ℕ) (d : Driver) → Adds d (sets_part g r key bytes d)
+pub part_adds : (g : DriverInput) (r : ℕ) (key bytes : List ℕ) (d : Driver) → Adds d (sets_part g r key bytes d)
 part_adds g r key bytes d = unless_adds g r key d (begins_part r key bytes (drops_part r key d))
     (calling_adds (drops_part r key d) (puts_part r key bytes (drops_part r key d)) r calls.Append (stays d.past d.past refl))
 
@@ -147,21 +147,21 @@ begins_adds r job d = go (nat_lt (length (works d.past r)) 4)
     go true = one d.past _ refl
     go false = stays d.past d.past refl
 
-close_adds : (g : Given) (r : ℕ) (a : EndName) (d : Driver) → Adds d (closes_end g r a d)
+close_adds : (g : DriverInput) (r : ℕ) (a : EndName) (d : Driver) → Adds d (closes_end g r a d)
 close_adds g r a d = go (end_at d.past r a).opened
   where
     go : (b : Bool) → Adds d (if b then sends g r (kinds.Close a.peer a.slot a.client) (close_at (set_up_of g d r) (state_at g d r) a) d else d)
     go true = one d.past _ refl
     go false = stays d.past d.past refl
 
-each_adds : (g : Given) (r : ℕ) (ends : List EndName) (d : Driver) → Adds d (closes_each g r ends d)
+each_adds : (g : DriverInput) (r : ℕ) (ends : List EndName) (d : Driver) → Adds d (closes_each g r ends d)
 each_adds g r [] d = stays d.past d.past refl
 each_adds g r (a ∷ ends) d = then_grew d.past (closes_end g r a d).past (closes_each g r ends (closes_end g r a d)).past (close_adds g r a d) (each_adds g r ends (closes_end g r a d))
 
-pub closes_adds : (g : Given) (r other : ℕ) (d : Driver) → Adds d (closes g r other d)
+pub closes_adds : (g : DriverInput) (r other : ℕ) (d : Driver) → Adds d (closes g r other d)
 closes_adds g r other d = each_adds g r (ends_with other true ++ ends_with other false) d
 
-pub crashes_adds : (g : Given) (r clock : ℕ) (d : Driver) → Adds d (crashes g r clock d)
+pub crashes_adds : (g : DriverInput) (r clock : ℕ) (d : Driver) → Adds d (crashes g r clock d)
 crashes_adds g r clock d = one d.past _ refl
 
 pub waits_adds : (milliseconds : ℕ) (d : Driver) → OnlyAdds d (waits milliseconds d)
@@ -182,34 +182,34 @@ makes_adds : (st : State) (r : ℕ) (k : Look) (o : Option Made) (d : Driver) �
 makes_adds st r k None d t = stays d.past d.past refl
 makes_adds st r k (Some m) d t = let is = store_past st r m (bytes_taken r m.taken d) m.kind (adds st r (entry_of r k m) d) in (entry_of r k m ∷ [], is, ap now is ∙ t)
 
-looks_adds : (g : Given) (r : ℕ) (s : SetUp) (st : State) (o : Option Made) (d : Driver) → Adds d (looks g r s st o d)
+looks_adds : (g : DriverInput) (r : ℕ) (s : SetUp) (st : State) (o : Option Made) (d : Driver) → Adds d (looks g r s st o d)
 looks_adds g r s st None d = stays d.past d.past refl
 looks_adds g r s st (Some m) d = makes_adds st r (look_for g d r s st m) (step s st (look_for g d r s st m)) d refl
 
-pub turn_adds : (g : Given) (r : ℕ) (d : Driver) → Adds d (turn g r d)
+pub turn_adds : (g : DriverInput) (r : ℕ) (d : Driver) → Adds d (turn g r d)
 turn_adds g r d =
     let c : Driver = without_old_flights (state_at g d r) r d in
     looks_adds g r (set_up_of g d r) (state_at g d r) (step (set_up_of g d r) (state_at g d r) (plain_look (set_up_of g d r) c)) c
 
-pub turns_adds : (g : Given) (r n : ℕ) (d : Driver) → Adds d (turns g r n d)
+pub turns_adds : (g : DriverInput) (r n : ℕ) (d : Driver) → Adds d (turns g r n d)
 turns_adds g r zero d = stays d.past d.past refl
 turns_adds g r (suc n) d = then_grew d.past (turn g r d).past (turns g r n (turn g r d)).past (turn_adds g r d) (turns_adds g r n (turn g r d))
 
-turns_of_adds : (g : Given) (rs : List ℕ) (d : Driver) → Adds d (turns_of g rs d)
+turns_of_adds : (g : DriverInput) (rs : List ℕ) (d : Driver) → Adds d (turns_of g rs d)
 turns_of_adds g [] d = stays d.past d.past refl
 turns_of_adds g (r ∷ rs) d = then_grew d.past (turn g r d).past (turns_of g rs (turn g r d)).past (turn_adds g r d) (turns_of_adds g rs (turn g r d))
 
-pub round_adds : (g : Given) (d : Driver) → Adds d (round g d)
+pub round_adds : (g : DriverInput) (d : Driver) → Adds d (round g d)
 round_adds g d = turns_of_adds g (numbers g) d
 
-goes_adds : (g : Given) (x : AfterRounds) → Adds x.driver (goes_round g x).driver
+goes_adds : (g : DriverInput) (x : AfterRounds) → Adds x.driver (goes_round g x).driver
 goes_adds g x = go (is_settled x)
   where
-    go : (b : Bool) → Adds x.driver (if b then x else came_to x (round g x.driver)).driver
+    go : (b : Bool) → Adds x.driver (if b then x else after_round x (round g x.driver)).driver
     go true = stays x.driver.past x.driver.past refl
     go false = round_adds g x.driver
 
-rounds_adds : (g : Given) (n : ℕ) (x : AfterRounds) → Adds x.driver (rounds g n x).driver
+rounds_adds : (g : DriverInput) (n : ℕ) (x : AfterRounds) → Adds x.driver (rounds g n x).driver
 rounds_adds g zero x = goes_adds g x
 rounds_adds g (suc n) x = go (then_grew x.driver.past (rounds g n x).driver.past (rounds g n (rounds g n x)).driver.past (rounds_adds g n x) (rounds_adds g n (rounds g n x))) (is_settled x)
   where
@@ -217,12 +217,12 @@ rounds_adds g (suc n) x = go (then_grew x.driver.past (rounds g n x).driver.past
     go more true = stays x.driver.past x.driver.past refl
     go more false = more
 
-pub settles_adds : (g : Given) (d : Driver) → Adds d (settles g d)
+pub settles_adds : (g : DriverInput) (d : Driver) → Adds d (settles g d)
 settles_adds g d = rounds_adds g most_rounds (record { driver = d; idle = 0 })
 
 -- ---- blocks
 
-takes_adds : (g : Given) (r : ℕ) (ls : List BlockLine) (jobs : List ℕ) (d : Driver) → Adds d (takes_all g r ls jobs d).driver
+takes_adds : (g : DriverInput) (r : ℕ) (ls : List BlockLine) (jobs : List ℕ) (d : Driver) → Adds d (takes_all g r ls jobs d).driver
 takes_adds g r [] jobs d = stays d.past d.past refl
 takes_adds g r (Runs job ∷ ls) jobs d = go (takes_adds g r ls ((begun_count d.past r + 1) ∷ jobs) (begins r job d)) (may_begin d r jobs)
   where
@@ -234,18 +234,18 @@ takes_adds g r (Crashes clock ∷ ls) jobs d = then_grew d.past (crashes g r clo
 takes_adds g r (Closes other ∷ ls) jobs d = then_grew d.past (closes g r other d).past (takes_all g r ls jobs (closes g r other d)).driver.past (closes_adds g r other d) (takes_adds g r ls jobs (closes g r other d))
 takes_adds g r (Fails call ∷ ls) jobs d = then_grew d.past (will_fail r call d).past (takes_all g r ls jobs (will_fail r call d)).driver.past (fail_adds r call d) (takes_adds g r ls jobs (will_fail r call d))
 
-agendas_adds : (g : Given) (ags : List Agenda) (d : Driver) → Adds d (takes_each g ags d).driver
+agendas_adds : (g : DriverInput) (ags : List Agenda) (d : Driver) → Adds d (takes_each g ags d).driver
 agendas_adds g [] d = stays d.past d.past refl
 agendas_adds g (a ∷ ags) d = then_grew d.past (takes g a d).driver.past (takes_each g ags (takes g a d).driver).driver.past (takes_adds g a.repo a.lines a.jobs d) (agendas_adds g ags (takes g a d).driver)
 
-block_adds : (g : Given) (x : InBlock) → Adds x.driver (block_round g x).driver
+block_adds : (g : DriverInput) (x : InBlock) → Adds x.driver (block_round g x).driver
 block_adds g x = go (is_over x)
   where
     go : (b : Bool) → Adds x.driver (if b then x else with_round g x (takes_each g x.left x.driver)).driver
     go true = stays x.driver.past x.driver.past refl
     go false = then_grew x.driver.past (takes_each g x.left x.driver).driver.past (round g (takes_each g x.left x.driver).driver).past (agendas_adds g x.left x.driver) (round_adds g (takes_each g x.left x.driver).driver)
 
-block_rounds_adds : (g : Given) (n : ℕ) (x : InBlock) → Adds x.driver (block_rounds g n x).driver
+block_rounds_adds : (g : DriverInput) (n : ℕ) (x : InBlock) → Adds x.driver (block_rounds g n x).driver
 block_rounds_adds g zero x = block_adds g x
 block_rounds_adds g (suc n) x = go (then_grew x.driver.past (block_rounds g n x).driver.past (block_rounds g n (block_rounds g n x)).driver.past (block_rounds_adds g n x) (block_rounds_adds g n (block_rounds g n x))) (is_over x)
   where
@@ -253,7 +253,7 @@ block_rounds_adds g (suc n) x = go (then_grew x.driver.past (block_rounds g n x)
     go more true = stays x.driver.past x.driver.past refl
     go more false = more
 
-pub blocks_adds : (g : Given) (xs : List Agendum) (d : Driver) → Adds d (blocks g xs d)
+pub blocks_adds : (g : DriverInput) (xs : List Agendum) (d : Driver) → Adds d (blocks g xs d)
 blocks_adds g xs d =
     let b : InBlock = record { driver = d; left = map_agendas; idle = 0; took = true } in
     then_grew d.past (block_rounds g most_rounds b).driver.past (settles g (block_rounds g most_rounds b).driver).past (block_rounds_adds g most_rounds b) (settles_adds g (block_rounds g most_rounds b).driver)
@@ -267,7 +267,7 @@ blocks_adds g xs d =
 lasting : (d after : Driver) → Adds d after → OnlyAdds d after × (now after.past ≡ now d.past + 0)
 lasting d after x = let time = x.2 in (only_adds d after x, omega (arith, time))
 
-pub line_adds : (g : Given) (line : Line) (d : Driver) → OnlyAdds d (does g line d) × (now (does g line d).past ≡ now d.past + waited_by line)
+pub line_adds : (g : DriverInput) (line : Line) (d : Driver) → OnlyAdds d (does g line d) × (now (does g line d).past ≡ now d.past + waited_by line)
 line_adds g (Have r key bytes) d = lasting d (does g (Have r key bytes) d) (has_adds g r key bytes d)
 line_adds g (SetPart r key bytes) d = lasting d (does g (SetPart r key bytes) d) (part_adds g r key bytes d)
 line_adds g (Add r path key bytes) d = lasting d (does g (Add r path key bytes) d) (has_adds g r key bytes (enters path key d))

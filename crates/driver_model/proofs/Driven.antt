@@ -2,7 +2,7 @@
 use Rattle.std.proofs.Common.{◌≡◌, ℕ, zero, suc, ◌+◌, ◌<◌, ◌≤◌, Bool, true, false, List, [], ◌∷◌, inr, refl, subst, arith}
 use Rattle.std.specs.Prelude.{cond, if◌then◌else◌, ◌==◌, ◌||◌, filter, length, map}
 use Rattle.std.specs.List.{range_with_len}
-use Rattle.std.proofs.lemmas.Bool.Decides.{nat_tests}
+use Rattle.std.proofs.lemmas.Bool.{eqb-true, or_parts}
 use Rattle.annex_base.specs.Lists.{Each}
 use Rattle.annex_base.specs.declared.kinds.Call.TheVariants as calls
 use Rattle.annex_key.specs.View.{size_part}
@@ -17,12 +17,12 @@ use Rattle.run_data.specs.Repos.{fits_size}
 use Rattle.node_model.specs.SessionStep.{is_filled}
 use Rattle.driver_model.specs.Lines.{Agendum, BlockLine, Line, Runs, Crashes, Closes, Fails, Have, SetPart, Add, File, Set, Raw, Merge, Compact, Begin, Turns, Settle, Close, Crash, Wait, Fail, Par, Shows}
 use Rattle.driver_model.specs.Lines
-use Rattle.driver_model.specs.Driver.{Driver, Given, at_first, commits, drops_part, fails_at, puts_part, set_up_of, state_at}
+use Rattle.driver_model.specs.Driver.{Driver, DriverInput, at_first, commits, drops_part, fails_at, puts_part, set_up_of, state_at}
 use Rattle.driver_model.specs.ScriptSteps.{begins, begins_part, unless_fails, crashes, closes, enters, faults, fills_up, gains, gets_content, has, is_busy, sets_part, setting_line, unless_busy, will_fail}
 use Rattle.driver_model.specs.Turning.{turn}
-use Rattle.driver_model.specs.Rounds.{Agenda, InBlock, AfterRounds, WithAgenda, agenda, block_round, block_rounds, blocks, came_to, goes_round, is_over, is_settled, lines_for, may_begin, most_rounds, numbers, round, rounds, settles, takes, takes_all, takes_each, turns_of, with_round}
+use Rattle.driver_model.specs.Rounds.{Agenda, InBlock, AfterRounds, WithAgenda, agenda, block_round, block_rounds, blocks, after_round, goes_round, is_over, is_settled, lines_for, may_begin, most_rounds, numbers, round, rounds, settles, takes, takes_all, takes_each, turns_of, with_round}
 use Rattle.driver_model.specs.Driving.{does, driver_after, drives, with_mark, run_of, run_with, turns}
-use Rattle.driver_model.specs.Scripts.{Fits, IsAgendum, IsBlockLine, IsOne}
+use Rattle.driver_model.specs.Scripts.{HasBoundedPast, IsAgendum, IsBlockLine, IsOne}
 use Rattle.driver_model.specs.Sound.{IsSound}
 use Rattle.driver_model.proofs.EndsAlike.{ends_alike}
 use Rattle.driver_model.proofs.Holding.{Keeps}
@@ -35,11 +35,7 @@ use Rattle.driver_model.proofs.WrittenLines.{written_line}
 
 -- ---- contents
 
-or_false : (a b : Bool) → (a || b) ≡ false → (a ≡ false) × (b ≡ false)
-or_false true b e = absurd (cc)
-or_false false b e = (refl, e)
-
-module _ (laws : Laws) (g : Given) (r : ℕ) (known : r < length g.repos) where
+module _ (laws : Laws) (g : DriverInput) (r : ℕ) (known : r < length g.repos) where
   keeps_busy : (d done : Driver) (key : List ℕ) → Keeps g d → (is_busy g d r key ≡ false → Keeps g done) → Keeps g (unless_busy g r key d done)
   keeps_busy d done key k more = keeps_calling laws g d r calls.Has (if is_busy g d r key then d else unless_fails r calls.DropPart d done) known refl k (λ i. go (is_busy g d r key) refl)
     where
@@ -49,7 +45,7 @@ module _ (laws : Laws) (g : Given) (r : ℕ) (known : r < length g.repos) where
 
   keeps_content : (d : Driver) (key bytes : List ℕ) → fits_size (size_part key) (length bytes) ≡ true → is_busy g d r key ≡ false → Keeps g d → Keeps g (gets_content r key bytes d)
   keeps_content d key bytes fits free k =
-      let two = or_false (present d.past r key) (is_filled (set_up_of g d r) (state_at g d r) key) free in
+      let two = or_parts (present d.past r key) (is_filled (set_up_of g d r) (state_at g d r) key) free in
       keeps_notes laws g (commits r key d) r (kinds.Gain Script (length bytes) key) [] known (λ h small. (record { absent = two.0; unfilled = two.1; fits = fits; small = small }, refl, refl)) (keeps_commits g d r key k)
 
   -- the content that a script places, before the line that says so
@@ -75,19 +71,16 @@ module _ (laws : Laws) (g : Given) (r : ℕ) (known : r < length g.repos) where
   keeps_part d key bytes k = keeps_busy d (begins_part r key bytes (drops_part r key d)) key k
       (λ free. keeps_calling laws g (drops_part r key d) r calls.Append (puts_part r key bytes (drops_part r key d)) known refl (keeps_drops g d r key k) (λ i. keeps_puts g (drops_part r key d) r key bytes (keeps_drops g d r key k)))
 
-same_number : (a b : ℕ) → (a == b) ≡ true → a ≡ b
-same_number a b e = grind (arith, nat_tests)
-
 -- ---- rounds
 
 pub below_len : (a n : ℕ) (m : ℕ) → a + n ≤ m → Each (λ r. r < m) (range_with_len a n)
 below_len a zero m i = tt
 below_len a (suc n) m i = (omega (arith, i), below_len (a + 1) n m (omega (arith, i)))
 
-module _ (laws : Laws) (g : Given) where
+module _ (laws : Laws) (g : DriverInput) where
   keeps_turns_of : (rs : List ℕ) → Each (λ r. r < length g.repos) rs → (d : Driver) → Keeps g d → Keeps g (turns_of g rs d)
   keeps_turns_of [] all d k = k
-  keeps_turns_of (r ∷ rs) all d k = keeps_turns_of rs all.1 (turn g r d) (keeps_turn laws ends_alike g r all.0 d k)
+  keeps_turns_of (r ∷ rs) all d k = keeps_turns_of rs all.1 (turn g r d) (keeps_turn laws (ends_alike laws.names) g r all.0 d k)
 
   keeps_round : (d : Driver) → Keeps g d → Keeps g (round g d)
   keeps_round d k = keeps_turns_of (numbers g) (below_len 0 (length g.repos) (length g.repos) (omega arith)) d k
@@ -95,7 +88,7 @@ module _ (laws : Laws) (g : Given) where
   keeps_goes : (x : AfterRounds) → Keeps g x.driver → Keeps g (goes_round g x).driver
   keeps_goes x k = go (is_settled x)
     where
-      go : (b : Bool) → Keeps g (if b then x else came_to x (round g x.driver)).driver
+      go : (b : Bool) → Keeps g (if b then x else after_round x (round g x.driver)).driver
       go true = k
       go false = keeps_round x.driver k
 
@@ -112,7 +105,7 @@ module _ (laws : Laws) (g : Given) where
 
   keeps_turns : (r n : ℕ) → r < length g.repos → (d : Driver) → Keeps g d → Keeps g (turns g r n d)
   keeps_turns r zero known d k = k
-  keeps_turns r (suc n) known d k = keeps_turns r n known (turn g r d) (keeps_turn laws ends_alike g r known d k)
+  keeps_turns r (suc n) known d k = keeps_turns r n known (turn g r d) (keeps_turn laws (ends_alike laws.names) g r known d k)
 
   -- ---- blocks
 
@@ -165,7 +158,7 @@ module _ (laws : Laws) (g : Given) where
   agenda_lines r (x ∷ xs) all = go (agenda_lines r xs all.1) (x.repo == r) refl
     where
       go : Each (IsBlockLine g r) (lines_for r xs) → (b : Bool) → (x.repo == r) ≡ b → Each (IsBlockLine g r) (map (λ (x : Agendum). x.line) (cond b (x ∷ filter (λ (x : Agendum). x.repo == r) xs) (filter (λ (x : Agendum). x.repo == r) xs)))
-      go more true i = (subst (λ k. IsBlockLine g k x.line) (same_number x.repo r i) all.0.1, more)
+      go more true i = (subst (λ k. IsBlockLine g k x.line) (eqb-true x.repo r i) all.0.1, more)
       go more false i = more
 
   agendas : (xs : List Agendum) → Each (IsAgendum g) xs → (rs : List ℕ) → Each (λ r. r < length g.repos) rs → Each IsAgenda (map (agenda xs) rs)
@@ -210,5 +203,5 @@ module _ (laws : Laws) (g : Given) where
   first_holds repos = record { run = laws.first (run_with g at_first) repos refl; flies = λ r a n. inr (record { inside = omega arith; same = refl }); order = λ r a n. order_begins r a n; down = tt; apart = tt; parts = tt }
 
 -- what the driver makes of a script within bounds is a run
-pub driver_is_run : Laws → OwedKeys → (g : Given) (lines : List Line) → Each IsSetUp g.repos → Each (IsOne g) lines → Fits (driver_after g lines) → IsRun (run_of g lines)
+pub driver_is_run : Laws → OwedKeys → (g : DriverInput) (lines : List Line) → Each IsSetUp g.repos → Each (IsOne g) lines → HasBoundedPast (driver_after g lines) → IsRun (run_of g lines)
 driver_is_run laws keys g lines repos all fits = (keeps_drives laws g keys lines at_first all (λ f. first_holds laws g repos) fits).run

@@ -1,12 +1,12 @@
 -- Which job a step ends doesn't depend on the part that it asks for, nor on the words beside what a job heard.
 use Rattle.std.proofs.Common.{◌≡◌, ℕ, ◌^◌, Bool, true, false, List, [], ◌∷◌, Option, Some, None, refl, sym, ap, ◌∙◌, subst}
-use Rattle.std.specs.Prelude.{if◌then◌else◌, ◌==◌, ◌&&◌, bytes_eq, codes, find, nat_le, nat_lt}
+use Rattle.std.specs.Prelude.{if◌then◌else◌, ◌==◌, ◌&&◌, bytes_eq, codes, find, min, nat_le, nat_lt}
 use Rattle.std.specs.List.{list_all}
 use Rattle.annex_base.specs.declared.kinds.Word.{Word}
 use Rattle.drop_proof.specs.declared.rule.Side.{Side}
 use Rattle.drop_proof.specs.declared.rule.Side.TheVariants.{Local, Remote}
 use Rattle.run_data.specs.declared.entry.EntryKind.{EntryKind}
-use Rattle.run_data.specs.declared.entry.EntryKind.TheVariants.{End as ends_job}
+use Rattle.run_data.specs.declared.entry.EntryKind.TheVariants.{Talk, End as ends_job}
 use Rattle.run_data.specs.declared.entry.FrameView.{FrameView}
 use Rattle.run_data.specs.declared.entry.FrameText.{FrameText}
 use Rattle.run_data.specs.declared.entry.FrameText.TheVariants.{Opening, Closing, Bytes, Line}
@@ -27,7 +27,7 @@ use Rattle.node_model.specs.Jobs.{AsksLock, AsksLook, AsksTime, Drops, Fresh, Ge
 use Rattle.node_model.specs.Owed.{Owed}
 use Rattle.node_model.specs.State.{State}
 use Rattle.node_model.specs.OwedStep.{owed_step, pays_first}
-use Rattle.node_model.specs.SessionStep.{Here, Reply, gives_made, gives_next, here, on_frame, session_at, session_makes, session_step}
+use Rattle.node_model.specs.SessionStep.{Here, Reply, gives_made, gives_next, here, on_frame, on_piece, reply, session_at, session_makes, session_step}
 use Rattle.node_model.specs.Knows.{enough_by, next_by}
 use Rattle.node_model.specs.JobStep.{Turn, bar_there, clock_of, end_with, is_there, key_of, me, turn_of}
 use Rattle.node_model.specs.DropStep.{asks_copy, asks_target, bars, first_drop, first_end, first_remote, held_until, in_time, required_there, row_refusal, takes_drop, takes_time, target, times, tries_own}
@@ -36,8 +36,8 @@ use Rattle.node_model.specs.TransferStep.{content_of, first_get, first_put, gain
 use Rattle.node_model.specs.Turns.{awaits, by_partner, first_step, goes, goes_on, has_room, is_awaiting, job_step, judges, needs, next_step, slot_step, takes, takes_answer, takes_frame, takes_text, with_partner}
 use Rattle.node_model.specs.Step.{step}
 use Rattle.driver_model.proofs.Alike.{Alike, first_alike, if_alike, list_alike, some_alike}
-use Rattle.driver_model.proofs.MadeBy.{Never, frame_ends, given_next, gives_ends}
 use Rattle.driver_model.proofs.Needed.{needed}
+use Rattle.driver_model.proofs.Premises.{NamedJobs}
 use Rattle.driver_model.proofs.Turned.{EndsAlike}
 
 -- the job that an entry of this kind ends
@@ -48,18 +48,22 @@ ended kind = None
 abbrev E : Made → Made → Type 0
 E m m' = ended m.kind ≡ ended m'.kind
 
-no_end : (x : Reply) → Never x → ended x.kind ≡ None
+no_end : (x : Reply) → job_of x.kind ≡ None → ended x.kind ≡ None
 no_end x e = go x.kind e
   where
     go : (kind : EntryKind) → job_of kind ≡ None → ended kind ≡ None
     go (ends_job j outcome) e = absurd (cc)
     go kind e = refl
 
+-- a session's next piece, or the word at the end
+abbrev pub given_next : Here → List ℕ → ℕ → ℕ → Bool → Reply
+given_next h key at left good = if left == 0 then reply (Talk None) (if good then Valid else Invalid) else on_piece h key at (min 32768 left)
+
 -- a look without a failing call
 abbrev calm : ℕ → ℕ → List FrameView → (EndName → Bool) → ℕ → Bool → (ℕ → Option Word) → Look
 calm time count hand room part right words = record { time = time; count = count; at_hand = hand; room = room; fails = None; part = part; right = right; words = words }
 
-module _ (s : SetUp) (st : State) (time count : ℕ) (hand : List FrameView) (room : EndName → Bool) (p0 p1 : ℕ) (r0 r1 : Bool) (w0 w1 : ℕ → Option Word) where
+module _ (names : NamedJobs) (s : SetUp) (st : State) (time count : ℕ) (hand : List FrameView) (room : EndName → Bool) (p0 p1 : ℕ) (r0 r1 : Bool) (w0 w1 : ℕ → Option Word) where
   abbrev k0 : Look
   k0 = calm time count hand room p0 r0 w0
 
@@ -80,10 +84,13 @@ module _ (s : SetUp) (st : State) (time count : ℕ) (hand : List FrameView) (ro
     h1 = here s st k1 a
 
     none_ends : (h : Here) (f : FrameView) → ended (on_frame h (st.sessions a) f.body).kind ≡ None
-    none_ends h f = no_end (on_frame h (st.sessions a) f.body) (frame_ends h (st.sessions a) f.body)
+    none_ends h f = no_end (on_frame h (st.sessions a) f.body) (names.answers h (st.sessions a) f.body)
 
     given : (doing : Doing) → Alike E (gives_made a (st.ends a) (gives_next h0 doing)) (gives_made a (st.ends a) (gives_next h1 doing))
-    given (Sessions.Gives key at left good) = no_end (given_next h0 key at left good) (gives_ends h0 key at left good) ∙ sym (no_end (given_next h1 key at left good) (gives_ends h1 key at left good))
+    given (Sessions.Gives key at left good) = none h0 ∙ sym (none h1)
+      where
+        none : (h : Here) → ended (given_next h key at left good).kind ≡ None
+        none h = no_end (given_next h key at left good) (names.gives h (Sessions.Gives key at left good) (given_next h key at left good) refl)
     given doing = tt
 
     makes_alike : (o : Option FrameView) → Alike E (session_makes h0 (st.ends a) (st.sessions a) o) (session_makes h1 (st.ends a) (st.sessions a) o)
@@ -281,8 +288,8 @@ ended_is (ends_job i outcome) j e = let same : i ≡ j = cc in (outcome, ap (λ 
 ended_is kind j e = absurd (cc)
 
 -- two looks that differ in the part and the words alone end the same job
-pub ends_alike : EndsAlike
-ends_alike s st k part right words m m' j outcome calm' e e' is = ended_is m.kind j (go (step_alike s st k.time k.count k.at_hand k.room k.part part k.right right k.words words) ∙ ap ended is)
+pub ends_alike : NamedJobs → EndsAlike
+ends_alike names s st k part right words m m' j outcome calm' e e' is = ended_is m.kind j (go (step_alike names s st k.time k.count k.at_hand k.room k.part part k.right right k.words words) ∙ ap ended is)
   where
     same : step s st (calm k.time k.count k.at_hand k.room k.part k.right k.words) ≡ Some m
     same = ap (λ o. step s st (record { time = k.time; count = k.count; at_hand = k.at_hand; room = k.room; fails = o; part = k.part; right = k.right; words = k.words })) (sym calm') ∙ e
@@ -294,10 +301,10 @@ ends_alike s st k part right words m m' j outcome calm' e e' is = ended_is m.kin
     go a = subst (λ o. Alike E (Some m) o) same' (subst (λ o. Alike E o (step s st (calm k.time k.count k.at_hand k.room part right words))) same a)
 
 -- where one is ready for the one look, one is for the other
-pub still_steps : (s : SetUp) (st : State) (k : Look) (part : ℕ) (right : Bool) (words : ℕ → Option Word) (m : Made) → k.fails ≡ None → step s st k ≡ Some m
+pub still_steps : NamedJobs → (s : SetUp) (st : State) (k : Look) (part : ℕ) (right : Bool) (words : ℕ → Option Word) (m : Made) → k.fails ≡ None → step s st k ≡ Some m
     → (m' : Made) × (step s st (record k { part = part; right = right; words = words; fails = None }) ≡ Some m')
-still_steps s st k part right words m calm' e = go (step s st (calm k.time k.count k.at_hand k.room part right words)) refl
-    (subst (λ o. Alike E o (step s st (calm k.time k.count k.at_hand k.room part right words))) same (step_alike s st k.time k.count k.at_hand k.room k.part part k.right right k.words words))
+still_steps names s st k part right words m calm' e = go (step s st (calm k.time k.count k.at_hand k.room part right words)) refl
+    (subst (λ o. Alike E o (step s st (calm k.time k.count k.at_hand k.room part right words))) same (step_alike names s st k.time k.count k.at_hand k.room k.part part k.right right k.words words))
   where
     same : step s st (calm k.time k.count k.at_hand k.room k.part k.right k.words) ≡ Some m
     same = ap (λ o. step s st (record { time = k.time; count = k.count; at_hand = k.at_hand; room = k.room; fails = o; part = k.part; right = k.right; words = k.words })) (sym calm') ∙ e

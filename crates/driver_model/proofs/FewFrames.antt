@@ -1,12 +1,12 @@
 -- An entry sends at most two frames at one end.
-use Rattle.std.proofs.Common.{◌≡◌, ℕ, zero, suc, ◌+◌, ◌≤◌, Bool, true, false, List, [], ◌∷◌, ◌++◌, Option, Some, None, ◌⊎◌, inl, inr, refl, sym, ap, ◌∙◌, subst, arith}
-use Rattle.std.specs.Prelude.{cond, if◌then◌else◌, ◌&&◌, not, filter, flat_map, length, map}
+use Rattle.std.proofs.Common.{◌≡◌, ℕ, suc, ◌≤◌, Bool, true, false, List, [], ◌∷◌, ◌++◌, Option, Some, None, ◌⊎◌, inl, inr, refl, sym, ap, ◌∙◌, subst, arith}
+use Rattle.std.specs.Prelude.{if◌then◌else◌, ◌&&◌, not, flat_map, length, map}
 use Rattle.std.proofs.lemmas.List.{append-nil}
 use Rattle.std.proofs.lemmas.List.Elements.{filter-append}
-use Rattle.annex_base.specs.Lists.{Each}
 use Rattle.annex_base.specs.declared.kinds.Found.{Found}
 use Rattle.annex_base.specs.declared.kinds.Found.TheVariants as found
 use Rattle.annex_base.specs.declared.kinds.Word.{Word}
+use Rattle.annex_base.proofs.Lists.{filter_shorter}
 use Rattle.run_data.specs.declared.entry.By.TheVariants.{Script}
 use Rattle.run_data.specs.declared.entry.Entry.{Entry}
 use Rattle.run_data.specs.declared.entry.EntryKind.{EntryKind}
@@ -19,7 +19,7 @@ use Rattle.p2p_wire.specs.declared.message.Message.TheVariants.{UnlockContent}
 use Rattle.p2p_wire.specs.Messages.{order_of, text_of}
 use Rattle.node_model.specs.AnyTime.{MayCome, all_ends, close_at, closes_all}
 use Rattle.node_model.specs.Ends.{End, EndName, end_sends, frames, sends_at, sent_at, server_end}
-use Rattle.node_model.specs.Found.{AnswersAbsent, AsksOne, ByJob, GivesAt, JobKind, SaysClose, SaysFault, SaysTalk, SessionKind, StepFound, TakesAt, agrees}
+use Rattle.node_model.specs.Found.{AnswersAbsent, AsksOne, GivesAt, IsJobEntry, SaysClose, SaysFault, SaysTalk, IsSessionEntry, StepFound, TakesAt, success_line}
 use Rattle.node_model.specs.Jobs.{Work, job_end}
 use Rattle.node_model.specs.JobStep.{Turn, end_with, farewell, farewells, has_lock, key_of, turn_of}
 use Rattle.node_model.specs.Look.{Look, Made}
@@ -30,19 +30,13 @@ use Rattle.node_model.specs.SetUp.{SetUp, others}
 use Rattle.node_model.specs.State.{State}
 use Rattle.run_model.specs.Run.{ComesAnyTime, IsStep, OwnPart}
 use Rattle.run_model.specs.States.{state_of}
+use Rattle.driver_model.specs.Apart.{AreApart}
 use Rattle.driver_model.proofs.EndLemmas.{same_end, same_end-is, sent_other}
-use Rattle.driver_model.proofs.FrameNumbers.{Apart, all_apart, jobs_apart, none_at, others_rising}
+use Rattle.driver_model.proofs.EndsApart.{all_apart, job_ends_apart}
+use Rattle.driver_model.proofs.FrameNumbers.{none_at}
 use Rattle.driver_model.proofs.Premises.{StepsFind}
 
 -- ---- at one end
-
-filter_fewer : {X : Type 0} (p : X → Bool) (xs : List X) → length (filter p xs) ≤ length xs
-filter_fewer p [] = omega arith
-filter_fewer p (x ∷ xs) = go (filter_fewer p xs) (p x)
-  where
-    go : length (filter p xs) ≤ length xs → (b : Bool) → length (cond b (x ∷ filter p xs) (filter p xs)) ≤ length (x ∷ xs)
-    go more true = omega (arith, more)
-    go more false = omega (arith, more)
 
 frames_length : (a : EndName) (c : End) (bodies : List FrameText) → length (frames a c bodies) ≡ length bodies
 frames_length a c [] = refl
@@ -53,7 +47,7 @@ no_more i j k x y z = omega (arith, x, y, z)
 
 -- what is said there is at most two frames
 few_one : (a b : EndName) (c : End) (bodies : List FrameText) → length bodies ≤ 2 → length (sent_at a (frames b c bodies)) ≤ 2
-few_one a b c bodies few = no_more (length (sent_at a (frames b c bodies))) (length (frames b c bodies)) (length bodies) (filter_fewer (sends_at a) (frames b c bodies)) (frames_length b c bodies) few
+few_one a b c bodies few = no_more (length (sent_at a (frames b c bodies))) (length (frames b c bodies)) (length bodies) (filter_shorter (sends_at a) (frames b c bodies)) (frames_length b c bodies) few
 
 few_as : (a : EndName) (fs gs : List FrameView) → fs ≡ gs → length (sent_at a gs) ≤ 2 → length (sent_at a fs) ≤ 2
 few_as a fs gs same few = subst (λ (zs : List FrameView). length (sent_at a zs) ≤ 2) (sym same) few
@@ -62,7 +56,7 @@ module _ (ends : EndName → End) (says : EndName → List FrameText) (few : (b 
   abbrev out : EndName → List FrameView
   out b = frames b (ends b) (says b)
 
-  few_each : (a : EndName) (bs : List EndName) → Apart bs → length (sent_at a (flat_map out bs)) ≤ 2
+  few_each : (a : EndName) (bs : List EndName) → AreApart bs → length (sent_at a (flat_map out bs)) ≤ 2
   few_each a [] n = omega arith
   few_each a (b ∷ bs) n = subst (λ (fs : List FrameView). length fs ≤ 2) (sym (filter-append (sends_at a) (out b) (flat_map out bs))) (go (few_each a bs n.1) (same_end b a) refl)
     where
@@ -100,7 +94,7 @@ few_absent : (asked : Option Message) (key : List ℕ) (says : List FrameText) �
 few_absent asked key says (inl x) = few_is says _ x (omega arith)
 few_absent asked key says (inr x) = few_is says _ x.0 (omega arith)
 
-few_check : (h : Here) (doing : Doing) (asked : Option Message) (key : List ℕ) (says : List FrameText) (what : Found) → SessionKind h doing asked says (Check what key) → length says ≤ 2
+few_check : (h : Here) (doing : Doing) (asked : Option Message) (key : List ℕ) (says : List FrameText) (what : Found) → IsSessionEntry h doing asked says (Check what key) → length says ≤ 2
 few_check h doing asked key says found.Present x = few_is says _ x.says_is (omega arith)
 few_check h doing asked key says found.Absent x = few_absent asked key says x.3
 few_check h doing asked key says found.Barred x = few_is says _ x.3 (omega arith)
@@ -108,7 +102,7 @@ few_check h doing asked key says found.Held x = few_is says _ x.3 (omega arith)
 few_check h doing asked key says found.Late x = few_is says _ x.2 (omega arith)
 few_check h doing asked key says found.Nolock x = few_is says _ x.3 (omega arith)
 
-few_said : (h : Here) (doing : Doing) (asked : Option Message) (says : List FrameText) (kind : EntryKind) → SessionKind h doing asked says kind → length says ≤ 2
+few_said : (h : Here) (doing : Doing) (asked : Option Message) (says : List FrameText) (kind : EntryKind) → IsSessionEntry h doing asked says kind → length says ≤ 2
 few_said h doing asked says (Share hold end by key) x = few_is says _ x.says_is (omega arith)
 few_said h doing asked says (Check what key) x = few_check h doing asked key says what x
 few_said h doing asked says (Gone by key) x = few_is says _ x.says_is (omega arith)
@@ -145,7 +139,7 @@ module _ (s : SetUp) (st : State) (k : Look) (w : Work) where
 
   few_last : (a : EndName) (lost : Bool) → length (sent_at a (farewells t lost)) ≤ 2
   few_last a lost = few_as a (farewells t lost) _ (sym (named lost (others s)))
-      (few_each st.ends (λ b. farewell t lost b.peer (st.ends b).opened) (λ b. few_farewell t lost b.peer (st.ends b).opened) a (map (job_end w) (others s)) (jobs_apart w (others s) (others_rising s)))
+      (few_each st.ends (λ b. farewell t lost b.peer (st.ends b).opened) (λ b. few_farewell t lost b.peer (st.ends b).opened) a (map (job_end w) (others s)) (job_ends_apart s w))
 
   few_none : (a : EndName) (fs : List FrameView) → fs ≡ [] → length (sent_at a fs) ≤ 2
   few_none a fs none = few_as a fs [] none (omega arith)
@@ -154,12 +148,12 @@ module _ (s : SetUp) (st : State) (k : Look) (w : Work) where
   few_asks a fs (inl n) = few_none a fs n
   few_asks a fs (inr x) = few_as a fs _ x.2 (few_one a (job_end w x.0) (end_with t x.0) (x.1 ∷ []) (omega arith))
 
-  few_job : (a : EndName) (m : Made) (kind : EntryKind) → JobKind t m kind → length (sent_at a m.sent) ≤ 2
+  few_job : (a : EndName) (m : Made) (kind : EntryKind) → IsJobEntry t m kind → length (sent_at a m.sent) ≤ 2
   few_job a m (Share hold end by key) x = few_none a m.sent x.sends_none
   few_job a m (Bar j need key) x = few_none a m.sent x.sends_none
   few_job a m (Gone by key) x = few_none a m.sent x.sends_none
   few_job a m (Order j peer deadline need key) x = few_as a m.sent _ x.sent_is (few_one a (job_end w peer) (end_with t peer) (Line (text_of (order_of deadline key)) ∷ []) (omega arith))
-  few_job a m (Gain by size key) x = few_as a m.sent _ x.sent_is (few_one a (job_end w x.peer) (end_with t x.peer) agrees (omega arith))
+  few_job a m (Gain by size key) x = few_as a m.sent _ x.sent_is (few_one a (job_end w x.peer) (end_with t x.peer) success_line (omega arith))
   few_job a m (ends_job j outcome) x = few_as a m.sent _ x.sent_is (few_last a (is_lost_ordered outcome))
   few_job a m (Talk (Some j)) x = few_asks a m.sent x.1
   few_job a m (Fault call by) x = few_none a m.sent x.1

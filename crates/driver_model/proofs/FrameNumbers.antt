@@ -1,13 +1,11 @@
 -- Frames are sent in order: each has the epoch and the number that come next at its end.
-use Rattle.std.proofs.Common.{◌≡◌, ℕ, zero, suc, ◌+◌, ◌<◌, Bool, true, false, List, [], ◌∷◌, ◌++◌, Option, Some, None, ◌⊎◌, inl, inr, refl, sym, ap, ◌∙◌, subst, arith}
-use Rattle.std.specs.Prelude.{cond, if◌then◌else◌, ◌==◌, ◌&&◌, not, filter, flat_map, length, map}
-use Rattle.std.specs.List.{range_with_len}
-use Rattle.std.proofs.lemmas.Bool.Decides.{nat_tests}
+use Rattle.std.proofs.Common.{◌≡◌, ◌≢◌, ℕ, ◌+◌, Bool, true, false, List, [], ◌∷◌, ◌++◌, Option, Some, None, ◌⊎◌, inl, inr, refl, sym, ap, ◌∙◌, subst}
+use Rattle.std.specs.Prelude.{if◌then◌else◌, flat_map, map}
 use Rattle.std.proofs.lemmas.List.{append-nil}
 use Rattle.std.proofs.lemmas.List.Elements.{filter-append}
 use Rattle.annex_base.specs.Lists.{Each}
 use Rattle.annex_base.specs.declared.kinds.Word.{Word}
-use Rattle.annex_base.proofs.Lists.{Each-append, Each-filter}
+use Rattle.annex_base.proofs.Conditions.{if_turned}
 use Rattle.run_data.specs.declared.entry.Entry.{Entry}
 use Rattle.run_data.specs.declared.entry.EntryKind.{EntryKind}
 use Rattle.run_data.specs.declared.entry.EntryKind.TheVariants.{Begin, Gain, Share, Bar, Order, Gone, Log, Compact, Talk, Close, Crash, Fault, End as ends_job}
@@ -15,7 +13,7 @@ use Rattle.run_data.specs.declared.entry.By.TheVariants.{Script}
 use Rattle.run_data.specs.declared.entry.FrameView.{FrameView}
 use Rattle.run_data.specs.declared.entry.FrameText.{FrameText}
 use Rattle.run_data.specs.declared.entry.FrameText.TheVariants.{Opening, Closing, Bytes, Line}
-use Rattle.node_model.specs.Ends.{End, EndName, end_sends, end_takes, end_took, frames, is_opening, same_bool, sends_at, sent_at, server_end, taken_at, takes_at}
+use Rattle.node_model.specs.Ends.{End, EndName, end_sends, end_takes, end_took, frames, is_opening, sends_at, sent_at, server_end, taken_at, takes_at}
 use Rattle.p2p_wire.specs.Messages.{order_of, text_of}
 use Rattle.node_model.specs.Rows.{is_lost_ordered}
 use Rattle.node_model.specs.SetUp.{SetUp, others}
@@ -24,10 +22,12 @@ use Rattle.node_model.specs.Jobs.{Work, job_end}
 use Rattle.node_model.specs.Look.{Look, Made}
 use Rattle.node_model.specs.JobStep.{Turn, end_with, farewell, farewells, turn_of}
 use Rattle.p2p_wire.specs.declared.message.Message.{Message}
-use Rattle.node_model.specs.Found.{AsksOne, ByJob, GivesAt, JobKind, JobTakes, StepFound, TakesAt, agrees}
+use Rattle.node_model.specs.Found.{AsksOne, ByJob, GivesAt, IsJobEntry, JobTakes, StepFound, TakesAt, success_line}
 use Rattle.node_model.specs.AnyTime.{MayCome, all_ends, close_at, closes_all}
 use Rattle.run_model.specs.Run.{ComesAnyTime, IsStep, OwnPart}
-use Rattle.driver_model.proofs.EndLemmas.{none_taken, same_end, same_end-is, sent_other, sent_same, takes_end}
+use Rattle.driver_model.specs.Apart.{AreApart}
+use Rattle.driver_model.proofs.EndLemmas.{none_taken, same_end, same_end-is, same_end-not, sent_other, sent_same, takes_end}
+use Rattle.driver_model.proofs.EndsApart.{all_apart, job_ends_apart}
 use Rattle.driver_model.proofs.Premises.{StepsFind}
 
 -- these frames are sent one after the other by an end that stands so
@@ -52,20 +52,15 @@ at_one b a c d bodies as' = go (same_end b a) refl
         (subst (λ z. Numbered c (sent_at z (frames b c bodies))) same (subst (Numbered c) (sym (sent_same b c bodies)) (frames_numbered b c bodies)))
     go false is = subst (Numbered d) (sym (sent_other b a c bodies is)) tt
 
--- no two of these are the same
-abbrev pub Apart : List EndName → Type 0
-Apart [] = Unit {0}
-Apart (b ∷ bs) = Each (λ z. same_end z b ≡ false) bs × Apart bs
-
 module _ (ends : EndName → End) (says : EndName → List FrameText) where
   abbrev out : EndName → List FrameView
   out b = frames b (ends b) (says b)
 
-  pub none_at : (a : EndName) (bs : List EndName) → Each (λ z. same_end z a ≡ false) bs → sent_at a (flat_map out bs) ≡ []
+  pub none_at : (a : EndName) (bs : List EndName) → Each (λ z. z ≢ a) bs → sent_at a (flat_map out bs) ≡ []
   none_at a [] n = refl
-  none_at a (b ∷ bs) n = filter-append (sends_at a) (out b) (flat_map out bs) ∙ rw (sent_other b a (ends b) (says b) n.0, none_at a bs n.1) refl
+  none_at a (b ∷ bs) n = filter-append (sends_at a) (out b) (flat_map out bs) ∙ rw (sent_other b a (ends b) (says b) (same_end-not b a n.0), none_at a bs n.1) refl
 
-  at_each : (a : EndName) (bs : List EndName) → Apart bs → Numbered (ends a) (sent_at a (flat_map out bs))
+  at_each : (a : EndName) (bs : List EndName) → AreApart bs → Numbered (ends a) (sent_at a (flat_map out bs))
   at_each a [] n = tt
   at_each a (b ∷ bs) n = subst (Numbered (ends a)) (sym (filter-append (sends_at a) (out b) (flat_map out bs))) (go (at_each a bs n.1) (same_end b a) refl)
     where
@@ -75,99 +70,6 @@ module _ (ends : EndName → End) (says : EndName → List FrameText) where
           subst (λ z. Numbered (ends z) (sent_at z (out b) ++ sent_at z (flat_map out bs))) same
           (rw (none_at b bs n.0, sent_same b (ends b) (says b)) (subst (Numbered (ends b)) (sym (append-nil (out b))) (frames_numbered b (ends b) (says b))))
       go more false is = rw (sent_other b a (ends b) (says b) is) more
-
--- ---- the ends of a repository are apart
-
-abbrev pub Rising : List ℕ → Type 0
-Rising [] = Unit {0}
-Rising (x ∷ xs) = Each (λ y. x < y) xs × Rising xs
-
-range_above : (a b n : ℕ) → a < b → Each (λ y. a < y) (range_with_len b n)
-range_above a b zero i = tt
-range_above a b (suc n) i = (i, range_above a (b + 1) n (omega (arith, i)))
-
-range_rising : (a n : ℕ) → Rising (range_with_len a n)
-range_rising a zero = tt
-range_rising a (suc n) = (range_above a (a + 1) n (omega arith), range_rising (a + 1) n)
-
-filter_rising : (q : ℕ → Bool) (xs : List ℕ) → Rising xs → Rising (filter q xs)
-filter_rising q [] r = tt
-filter_rising q (x ∷ xs) r = go (filter_rising q xs r.1) (q x)
-  where
-    go : Rising (filter q xs) → (b : Bool) → Rising (cond b (x ∷ filter q xs) (filter q xs))
-    go more true = (Each-filter (λ y. x < y) q xs r.0, more)
-    go more false = more
-
-pub others_rising : (s : SetUp) → Rising (others s)
-others_rising s = filter_rising (λ x. not (x == s.number)) (range_with_len 0 (length s.repos)) (range_rising 0 (length s.repos))
-
-above_other : (x y : ℕ) → x < y → (y == x) ≡ false
-above_other x y i = grind (arith, nat_tests)
-
--- a job's ends
-pub jobs_apart : (w : Work) (xs : List ℕ) → Rising xs → Apart (map (job_end w) xs)
-jobs_apart w [] r = tt
-jobs_apart w (x ∷ xs) r = (each xs r.0, jobs_apart w xs r.1)
-  where
-    each : (ys : List ℕ) → Each (λ y. x < y) ys → Each (λ z. same_end z (job_end w x) ≡ false) (map (job_end w) ys)
-    each [] n = tt
-    each (y ∷ ys) n = (rw (above_other x y n.0) refl, each ys n.1)
-
--- the ends with one peer, by slot and side
-abbrev Code : Type 0
-Code = ℕ × Bool
-
-abbrev at : ℕ → Code → EndName
-at p c = record { peer = p; slot = c.0; client = c.1 }
-
-abbrev same_code : Code → Code → Bool
-same_code c d = (c.0 == d.0) && same_bool c.1 d.1
-
-abbrev CodesApart : List Code → Type 0
-CodesApart [] = Unit {0}
-CodesApart (c ∷ cs) = Each (λ d. same_code d c ≡ false) cs × CodesApart cs
-
-abbrev codes : List Code
-codes = (0, true) ∷ (1, true) ∷ (2, true) ∷ (3, true) ∷ (0, false) ∷ (1, false) ∷ (2, false) ∷ (3, false) ∷ []
-
-codes_apart : CodesApart codes
-codes_apart = ((refl, (refl, (refl, (refl, (refl, (refl, (refl, tt))))))), ((refl, (refl, (refl, (refl, (refl, (refl, tt)))))), ((refl, (refl, (refl, (refl, (refl, tt))))), ((refl, (refl, (refl, (refl, tt)))), ((refl, (refl, (refl, tt))), ((refl, (refl, tt)), ((refl, tt), (tt, tt))))))))
-
-codes_ends : (p : ℕ) (cs : List Code) → CodesApart cs → Apart (map (at p) cs)
-codes_ends p [] n = tt
-codes_ends p (c ∷ cs) n = (each cs n.0, codes_ends p cs n.1)
-  where
-    three : (x y z : Bool) → (y && z) ≡ false → ((x && y) && z) ≡ false
-    three true y z e = e
-    three false y z e = refl
-
-    each : (ds : List Code) → Each (λ d. same_code d c ≡ false) ds → Each (λ z. same_end z (at p c) ≡ false) (map (at p) ds)
-    each [] n = tt
-    each (d ∷ ds) n = (three (p == p) (d.0 == c.0) (same_bool d.1 c.1) n.0, each ds n.1)
-
-apart_append : (xs ys : List EndName) → Apart xs → Apart ys → Each (λ x. Each (λ y. same_end y x ≡ false) ys) xs → Apart (xs ++ ys)
-apart_append [] ys a b c = b
-apart_append (x ∷ xs) ys a b c = (Each-append (λ z. same_end z x ≡ false) xs ys a.0 c.0, apart_append xs ys a.1 b c.1)
-
--- other peers, other ends
-codes_other : (x y : ℕ) (c : Code) (ds : List Code) → x < y → Each (λ z. same_end z (at x c) ≡ false) (map (at y) ds)
-codes_other x y c [] i = tt
-codes_other x y c (d ∷ ds) i = (rw (above_other x y i) refl, codes_other x y c ds i)
-
-peers_other : (x : ℕ) (c : Code) (ys : List ℕ) → Each (λ y. x < y) ys → Each (λ z. same_end z (at x c) ≡ false) (flat_map (λ y. map (at y) codes) ys)
-peers_other x c [] n = tt
-peers_other x c (y ∷ ys) n = Each-append (λ z. same_end z (at x c) ≡ false) (map (at y) codes) (flat_map (λ y. map (at y) codes) ys) (codes_other x y c codes n.0) (peers_other x c ys n.1)
-
-peer_other : (x : ℕ) (cs : List Code) (ys : List ℕ) → Each (λ y. x < y) ys → Each (λ b. Each (λ z. same_end z b ≡ false) (flat_map (λ y. map (at y) codes) ys)) (map (at x) cs)
-peer_other x [] ys n = tt
-peer_other x (c ∷ cs) ys n = (peers_other x c ys n, peer_other x cs ys n)
-
-ends_apart : (xs : List ℕ) → Rising xs → Apart (flat_map (λ x. map (at x) codes) xs)
-ends_apart [] r = tt
-ends_apart (x ∷ xs) r = apart_append (map (at x) codes) (flat_map (λ y. map (at y) codes) xs) (codes_ends x codes codes_apart) (ends_apart xs r.1) (peer_other x codes xs r.0)
-
-pub all_apart : (s : SetUp) → Apart (all_ends s)
-all_apart s = ends_apart (others s) (others_rising s)
 
 -- ---- what a repository sends
 
@@ -204,10 +106,6 @@ took_like c f n = go f.body n
     go (Bytes k) n = (refl, refl)
     go (Line text) n = (refl, refl)
 
-pub down_is : (b : Bool) → (if b then false else true) ≡ true → b ≡ false
-down_is true h = absurd (cc)
-down_is false h = refl
-
 module _ (s : SetUp) (past : List Entry) where
   abbrev end_now : EndName → End
   end_now a = end_at past s.number a
@@ -243,7 +141,7 @@ module _ (s : SetUp) (past : List Entry) where
 
     last : (a : EndName) (lost : Bool) → Numbered (end_now a) (sent_at a (farewells t lost))
     last a lost = subst (λ fs. Numbered (end_now a) (sent_at a fs)) (flat_named lost (others s))
-        (at_each end_now (λ b. farewell t lost b.peer (end_now b).opened) a (map (job_end w) (others s)) (jobs_apart w (others s) (others_rising s)))
+        (at_each end_now (λ b. farewell t lost b.peer (end_now b).opened) a (map (job_end w) (others s)) (job_ends_apart s w))
 
     none : (a : EndName) (fs : List FrameView) → fs ≡ [] → Numbered (end_now a) (sent_at a fs)
     none a fs n = subst (λ z. Numbered (end_now a) (sent_at a z)) (sym n) tt
@@ -255,12 +153,12 @@ module _ (s : SetUp) (past : List Entry) where
     asks a fs (inl n) = none a fs n
     asks a fs (inr x) = some a fs x.0 (x.1 ∷ []) x.2
 
-    job_numbered : (a : EndName) (m : Made) (kind : EntryKind) → JobKind t m kind → Numbered (end_now a) (sent_at a m.sent)
+    job_numbered : (a : EndName) (m : Made) (kind : EntryKind) → IsJobEntry t m kind → Numbered (end_now a) (sent_at a m.sent)
     job_numbered a m (Share hold end by key) x = none a m.sent x.sends_none
     job_numbered a m (Bar j need key) x = none a m.sent x.sends_none
     job_numbered a m (Gone by key) x = none a m.sent x.sends_none
     job_numbered a m (Order j peer deadline need key) x = some a m.sent peer (Line (text_of (order_of deadline key)) ∷ []) x.sent_is
-    job_numbered a m (Gain by size key) x = some a m.sent x.peer agrees x.sent_is
+    job_numbered a m (Gain by size key) x = some a m.sent x.peer success_line x.sent_is
     job_numbered a m (ends_job j outcome) x = subst (λ z. Numbered (end_now a) (sent_at a z)) (sym x.sent_is) (last a (is_lost_ordered outcome))
     job_numbered a m (Talk (Some j)) x = asks a m.sent x.1
     job_numbered a m (Fault call by) x = none a m.sent x.1
@@ -337,7 +235,7 @@ module _ (s : SetUp) (past : List Entry) where
               well f i (ap (λ (g : FrameView). g.up) (sym same) ∙ client_takes z.peer z.f z.of_end)
             where
               client_takes : (peer : ℕ) (g : FrameView) → takes_at (job_end y.w peer) g ≡ true → g.up ≡ false
-              client_takes peer g h = down_is g.up (ap (λ (b : EndName). b.client) (takes_end (job_end y.w peer) g h))
+              client_takes peer g h = if_turned g.up (ap (λ (b : EndName). b.client) (takes_end (job_end y.w peer) g h))
 
 -- what is sent at an end is numbered there
 pub numbered : StepsFind → (s : SetUp) (past : List Entry) (words : ℕ → Option Word) (e : Entry) (a : EndName) → OwnPart s past words e → TakesWell e.taken

@@ -1,21 +1,20 @@
 -- Pasts in which a repository has made more entries than it may, and what is left of them.
 use Rattle.std.proofs.Common.{◌≡◌, ℕ, ◌+◌, ◌<◌, ◌≤◌, Bool, true, false, List, [], ◌∷◌, ◌++◌, inl, inr, refl, sym, ap, ◌∙◌, subst, append_assoc, arith}
 use Rattle.std.specs.Prelude.{if◌then◌else◌, length, nat_lt, reverse}
-use Rattle.std.proofs.lemmas.Bool.{cases_Bool, false_from_ne_true}
-use Rattle.std.proofs.lemmas.Bool.Decides.{nat_tests}
+use Rattle.std.proofs.lemmas.Bool.{cases_Bool, false_from_ne_true, lt-ltb, ltb-false, ltb-true}
 use Rattle.std.proofs.lemmas.List.{reverse-append, reverse-reverse}
 use Rattle.annex_base.specs.Lists.{Each, Member}
 use Rattle.annex_base.proofs.Lists.{Each-member, filter_no, filter_yes, list_any_found, list_any_member, list_any_nowhere}
+use Rattle.annex_base.proofs.Numbers.{below_more, Member-range, not_both}
 use Rattle.run_data.specs.Histories.{most_entries}
 use Rattle.run_data.specs.declared.entry.Entry.{Entry}
 use Rattle.run_data.specs.declared.run.Run.{Run}
 use Rattle.run_model.specs.Past.{is_of}
-use Rattle.driver_model.specs.Driver.{Driver, Given}
+use Rattle.driver_model.specs.Driver.{Driver, DriverInput}
 use Rattle.driver_model.specs.Limits.{AddsOwn, StopsAtFull, count_of, is_too_long, within_limit}
 use Rattle.driver_model.specs.Rounds.{numbers}
 use Rattle.driver_model.specs.Sound.{OnlyAdds}
 use Rattle.driver_model.proofs.Driven.{below_len}
-use Rattle.driver_model.proofs.Scripted.{member_range}
 
 -- ---- how many entries a repository has made
 
@@ -38,55 +37,43 @@ count_more r (e ∷ more) past = let i = count_more r more past in let j = (coun
 
 -- ---- pasts that are too long
 
-above : (a b : ℕ) → nat_lt a b ≡ true → a < b
-above a b e = grind (arith, nat_tests)
-
-is_above : (a b : ℕ) → a < b → nat_lt a b ≡ true
-is_above a b i = grind (arith, nat_tests)
-
-not_above : (a b : ℕ) → nat_lt a b ≡ false → b ≤ a
-not_above a b e = grind (arith, nat_tests)
-
-pub too_long : (g : Given) (past : List Entry) (r : ℕ) → r < length g.repos → most_entries < count_of past r → is_too_long g past ≡ true
+pub too_long : (g : DriverInput) (past : List Entry) (r : ℕ) → r < length g.repos → most_entries < count_of past r → is_too_long g past ≡ true
 too_long g past r known many = list_any_member (λ q. nat_lt most_entries (count_of past q)) (numbers g) r
-    (member_range 0 (length g.repos) r (omega arith) (omega (arith, known))) (is_above most_entries (count_of past r) many)
+    (Member-range 0 (length g.repos) r (omega arith) (omega (arith, known))) (lt-ltb most_entries (count_of past r) many)
 
-is_number : (g : Given) (r : ℕ) → Member r (numbers g) → r < length g.repos
+is_number : (g : DriverInput) (r : ℕ) → Member r (numbers g) → r < length g.repos
 is_number g r m = Each-member (λ q. q < length g.repos) (numbers g) r (below_len 0 (length g.repos) (length g.repos) (omega arith)) m
 
 -- one of the repositories has made more than it may
-abbrev pub Exceeds : Given → List Entry → Type 0
+abbrev pub Exceeds : DriverInput → List Entry → Type 0
 Exceeds g past = (r : ℕ) × (r < length g.repos) × (most_entries < count_of past r)
 
-exceeds : (g : Given) (past : List Entry) → is_too_long g past ≡ true → Exceeds g past
+exceeds : (g : DriverInput) (past : List Entry) → is_too_long g past ≡ true → Exceeds g past
 exceeds g past i =
     let x = list_any_found (λ q. nat_lt most_entries (count_of past q)) (numbers g) i in
-    (x.0, is_number g x.0 x.1, above most_entries (count_of past x.0) x.2)
+    (x.0, is_number g x.0 x.1, ltb-true most_entries (count_of past x.0) x.2)
 
-pub few_entries : (g : Given) (past : List Entry) → is_too_long g past ≡ false → (r : ℕ) → r < length g.repos → count_of past r ≤ most_entries
+pub few_entries : (g : DriverInput) (past : List Entry) → is_too_long g past ≡ false → (r : ℕ) → r < length g.repos → count_of past r ≤ most_entries
 few_entries g past i r known =
     let none = list_any_nowhere (λ q. nat_lt most_entries (count_of past q)) (numbers g) i in
-    let among = member_range 0 (length g.repos) r (omega arith) (omega (arith, known)) in
-    not_above most_entries (count_of past r) (Each-member (λ q. nat_lt most_entries (count_of past q) ≡ false) (numbers g) r none among)
+    let among = Member-range 0 (length g.repos) r (omega arith) (omega (arith, known)) in
+    ltb-false most_entries (count_of past r) (Each-member (λ q. nat_lt most_entries (count_of past q) ≡ false) (numbers g) r none among)
 
-not_both : (n a : ℕ) → n < a → a ≤ n → ⊥
-not_both n a i j = omega (arith, i, j)
-
-pub not_too_long : (g : Given) (past : List Entry) → ((q : ℕ) → q < length g.repos → count_of past q ≤ most_entries) → is_too_long g past ≡ false
+pub not_too_long : (g : DriverInput) (past : List Entry) → ((q : ℕ) → q < length g.repos → count_of past q ≤ most_entries) → is_too_long g past ≡ false
 not_too_long g past few = false_from_ne_true (is_too_long g past) (λ i.
     let x = exceeds g past i in
     not_both most_entries (count_of past x.0) x.2 (few x.0 x.1))
 
 -- ---- the past as far as it isn't too long
 
-drops : (g : Given) (e : Entry) (past : List Entry) → is_too_long g (e ∷ past) ≡ true → within_limit g (e ∷ past) ≡ within_limit g past
+drops : (g : DriverInput) (e : Entry) (past : List Entry) → is_too_long g (e ∷ past) ≡ true → within_limit g (e ∷ past) ≡ within_limit g past
 drops g e past i = go (is_too_long g (e ∷ past)) i
   where
     go : (b : Bool) → b ≡ true → (if b then within_limit g past else e ∷ past) ≡ within_limit g past
     go true j = refl
     go false j = absurd (cc)
 
-pub keeps_whole : (g : Given) (past : List Entry) → is_too_long g past ≡ false → within_limit g past ≡ past
+pub keeps_whole : (g : DriverInput) (past : List Entry) → is_too_long g past ≡ false → within_limit g past ≡ past
 keeps_whole g [] i = refl
 keeps_whole g (e ∷ past) i = go (is_too_long g (e ∷ past)) i
   where
@@ -94,13 +81,10 @@ keeps_whole g (e ∷ past) i = go (is_too_long g (e ∷ past)) i
     go true j = absurd (cc)
     go false j = refl
 
-below_more : (n a b : ℕ) → n < a → a ≤ b → n < b
-below_more n a b i j = omega (arith, i, j)
-
 below_next : (n a b c : ℕ) → n ≤ a → a ≤ b → c ≡ b + 1 → n < c
 below_next n a b c i j k = omega (arith, i, j, k)
 
-module _ (g : Given) (r : ℕ) (known : r < length g.repos) where
+module _ (g : DriverInput) (r : ℕ) (known : r < length g.repos) where
   -- all that comes after a repository has made more than it may is gone
   drops_later : (more past : List Entry) → most_entries < count_of past r → within_limit g (more ++ past) ≡ within_limit g past
   drops_later [] past many = refl
@@ -123,14 +107,14 @@ at_most n a i = omega (arith, i)
 next_above : (n a b : ℕ) → a ≡ n → b ≡ a + 1 → n < b
 next_above n a b i j = omega (arith, i, j)
 
-pub asks_full : (g : Given) (r : ℕ) (d after : Driver) → r < length g.repos → AddsOwn r d after → count_of d.past r ≡ most_entries → ((q : ℕ) → count_of d.past q ≤ most_entries)
+pub asks_full : (g : DriverInput) (r : ℕ) (d after : Driver) → r < length g.repos → AddsOwn r d after → count_of d.past r ≡ most_entries → ((q : ℕ) → count_of d.past q ≤ most_entries)
     → within_limit g after.past ≡ d.past
 asks_full g r d after known x full few =
     ap (within_limit g) x.adds
     ∙ drops_own g r known x.more d.past x.own (at_most most_entries (count_of d.past r) full)
     ∙ keeps_whole g d.past (not_too_long g d.past (λ q i. few q))
 
-module _ (g : Given) (r : ℕ) (after : Driver) (run : Run) (x : StopsAtFull g r after run) where
+module _ (g : DriverInput) (r : ℕ) (after : Driver) (run : Run) (x : StopsAtFull g r after run) where
   next_many : most_entries < count_of (x.next ∷ x.past) r
   next_many = next_above most_entries (count_of x.past r) (count_of (x.next ∷ x.past) r) x.full (count_own r x.next x.past x.own)
 
@@ -157,7 +141,7 @@ past_behind d after y =
     ∙ reverse-append (reverse d.past) y.0
     ∙ ap (λ past. reverse y.0 ++ past) (reverse-reverse d.past)
 
-pub stop_later : (g : Given) (r : ℕ) (mid after : Driver) (run : Run) → StopsAtFull g r mid run → OnlyAdds mid after → StopsAtFull g r after run
+pub stop_later : (g : DriverInput) (r : ℕ) (mid after : Driver) (run : Run) → StopsAtFull g r mid run → OnlyAdds mid after → StopsAtFull g r after run
 stop_later g r mid after run x y = record {
   known = x.known;
   past = x.past;
@@ -174,7 +158,7 @@ stop_later g r mid after run x y = record {
 -- ---- what is left of a past that is too long
 
 -- one of the repositories has made all that it may
-abbrev pub HasFull : Given → List Entry → Type 0
+abbrev pub HasFull : DriverInput → List Entry → Type 0
 HasFull g past = (r : ℕ) × (r < length g.repos) × (count_of past r ≡ most_entries)
 
 all_it_may : (n a b : ℕ) → n < b → a ≤ n → b ≤ a + 1 → a ≡ n
@@ -183,7 +167,7 @@ all_it_may n a b i j k = omega (arith, i, j, k)
 none_below : (n : ℕ) → n < 0 → ⊥
 none_below n i = omega (arith, i)
 
-pub left_full : (g : Given) (past : List Entry) → is_too_long g past ≡ true → HasFull g (within_limit g past)
+pub left_full : (g : DriverInput) (past : List Entry) → is_too_long g past ≡ true → HasFull g (within_limit g past)
 left_full g [] i = absurd (none_below most_entries (exceeds g [] i).2)
 left_full g (e ∷ past) i = subst (HasFull g) (sym (drops g e past i)) (elim (cases_Bool (is_too_long g past)) [
   | inl long ↦ left_full g past long

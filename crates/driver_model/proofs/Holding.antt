@@ -21,11 +21,10 @@ use Rattle.node_model.specs.Ends.{EndName, is_opening}
 use Rattle.node_model.specs.State.{State}
 use Rattle.run_model.specs.Run.{ComesAfter, IsRun, MayBe, OwnPart, RunPast, RunStep, TimeIs, paths_at, set_up}
 use Rattle.run_model.specs.Words.{word_told}
-use Rattle.driver_model.specs.Driver.{Driver, Flight, Given, adds, but_first, but_taken, flight, is_at, newest_count, set_up_of}
-use Rattle.driver_model.specs.Scripts.{Fit, Fits}
+use Rattle.driver_model.specs.Driver.{Driver, Flight, DriverInput, adds, but_first, but_taken, flight, is_at, newest_count, set_up_of}
+use Rattle.driver_model.specs.Scripts.{IsWithinBounds, HasBoundedPast}
 use Rattle.driver_model.specs.Sound.{ComesDown, GoesToOther, IsSound}
 use Rattle.driver_model.specs.Ways.{InOrder}
-use Rattle.driver_model.proofs.EndLemmas.{own_down}
 use Rattle.driver_model.proofs.FrameNumbers.{TakesWell}
 use Rattle.driver_model.proofs.InFlight.{IsFirst, flies_adds, may_be_taken}
 use Rattle.driver_model.proofs.Premises.{Laws}
@@ -33,33 +32,33 @@ use Rattle.driver_model.proofs.WayNumbers.{order_other, order_own}
 
 -- ---- the run so far
 
-abbrev pub set_up_on : Given → List TreeMark → List Entry → ℕ → SetUp
+abbrev pub set_up_on : DriverInput → List TreeMark → List Entry → ℕ → SetUp
 set_up_on g tree past r = record { number = r; repos = g.repos; paths = paths_at tree past r }
 
 -- the run with these entries, the newest first
-abbrev pub run_on : Given → List TreeMark → List ℕ → List Entry → Run
+abbrev pub run_on : DriverInput → List TreeMark → List ℕ → List Entry → Run
 run_on g tree marks past = record { repos = g.repos; entries = reverse past; tree = tree; marks = marks }
 
 -- one more entry that may come makes one more run
-pub entry_on : Laws → (g : Given) (tree : List TreeMark) (marks : List ℕ) (past : List Entry) (e : Entry) → IsRun (run_on g tree marks past) → RunStep (set_up_on g tree past) past e
+pub entry_on : Laws → (g : DriverInput) (tree : List TreeMark) (marks : List ℕ) (past : List Entry) (e : Entry) → IsRun (run_on g tree marks past) → RunStep (set_up_on g tree past) past e
     → IsRun (run_on g tree marks (e ∷ past))
 entry_on laws g tree marks past e run step = subst (λ (es : List Entry). IsRun (record { repos = g.repos; entries = es; tree = tree; marks = marks })) (sym (reverse-append (e ∷ []) past))
     (laws.entry (run_on g tree marks past) e run (subst (λ (z : List Entry). RunStep (set_up_on g tree z) z e) (sym (reverse-reverse past)) step))
 
 -- so does one more change of the tree
-pub tree_on : Laws → (g : Given) (tree : List TreeMark) (marks : List ℕ) (past : List Entry) (m : TreeMark) → m.place ≡ length past → IsRun (run_on g tree marks past)
+pub tree_on : Laws → (g : DriverInput) (tree : List TreeMark) (marks : List ℕ) (past : List Entry) (m : TreeMark) → m.place ≡ length past → IsRun (run_on g tree marks past)
     → IsRun (run_on g (tree ++ m ∷ []) marks past)
 tree_on laws g tree marks past m at run = let same = length-reverse past in laws.tree (run_on g tree marks past) m (omega (arith, same, at)) run
 
 -- its steps, the newest first
-pub steps_on : (g : Given) (tree : List TreeMark) (marks : List ℕ) (past : List Entry) → IsRun (run_on g tree marks past) → RunPast (set_up (run_on g tree marks past)) past
+pub steps_on : (g : DriverInput) (tree : List TreeMark) (marks : List ℕ) (past : List Entry) → IsRun (run_on g tree marks past) → RunPast (set_up (run_on g tree marks past)) past
 steps_on g tree marks past run = subst (RunPast (set_up (run_on g tree marks past))) (reverse-reverse past) run.steps
 
 -- ---- what holds
 
 -- what holds of the driver, where it is within bounds
-abbrev pub Keeps : Given → Driver → Type 0
-Keeps g d = Fits d → IsSound g d
+abbrev pub Keeps : DriverInput → Driver → Type 0
+Keeps g d = HasBoundedPast d → IsSound g d
 
 -- ---- one more entry of a repository
 
@@ -85,7 +84,7 @@ time_of before r e (Wait ms) j = j
 time_of before r e kind j = j
 
 -- an entry of r that may come now
-pub record NewEntry (g : Given) (d : Driver) (r : ℕ) (e : Entry) : Type 0 where
+pub record NewEntry (g : DriverInput) (d : Driver) (r : ℕ) (e : Entry) : Type 0 where
   pub words : ℕ → Option Word
   pub repo_is : e.repo ≡ Some r
   pub time_is : e.time ≡ now d.past
@@ -94,13 +93,13 @@ pub record NewEntry (g : Given) (d : Driver) (r : ℕ) (e : Entry) : Type 0 wher
   pub first : (f : FrameView) → e.taken ≡ Some f → IsFirst r f d.flights
   pub tells : (j : ℕ) (outcome : Outcome) → e.kind ≡ ends_job j outcome → (c : ℕ) → words c ≡ word_told d.past r j c
 
-module _ (laws : Laws) (g : Given) (d : Driver) (h : IsSound g d) (r : ℕ) (e : Entry) (x : NewEntry g d r e) where
+module _ (laws : Laws) (g : DriverInput) (d : Driver) (h : IsSound g d) (r : ℕ) (e : Entry) (x : NewEntry g d r e) where
   takes_well : TakesWell e.taken
   takes_well f i u =
       let y = x.first f i in
       ap (λ (g : FrameView). is_opening g.body) (sym y.frame_is) ∙ Each-middle ComesDown y.front y.x y.back (subst (Each ComesDown) y.split h.down) (ap (λ (g : FrameView). g.up) y.frame_is ∙ u)
 
-  entry_step : Fit d.past e → RunStep (set_up_on g d.tree d.past) d.past e
+  entry_step : IsWithinBounds d.past e → RunStep (set_up_on g d.tree d.past) d.past e
   entry_step fit = record {
     order = record {
       after = after_newest d.past e x.count_is;
@@ -113,7 +112,7 @@ module _ (laws : Laws) (g : Given) (d : Driver) (h : IsSound g d) (r : ℕ) (e :
       x.words,
       x.own,
       record {
-        takes = λ f i. may_be_taken laws.finds (set_up_of g d r) d.past x.words e x.own x.repo_is d.flights x.first f i
+        takes = λ f i. may_be_taken laws.entries (set_up_of g d r) d.past x.words e x.own x.repo_is d.flights x.first f i
             (h.flies f.peer (record { peer = r; slot = f.slot; client = f.up }) f.epoch) (h.order f.peer (record { peer = r; slot = f.slot; client = f.up }) f.epoch);
         tells = x.tells;
       },
@@ -128,7 +127,7 @@ module _ (laws : Laws) (g : Given) (d : Driver) (h : IsSound g d) (r : ℕ) (e :
       go true i =
           let same : r ≡ q = same_number r q (ap (λ o. option_is o q) (sym x.repo_is) ∙ i) in
           subst (λ k. InOrder (e ∷ d.past) k a n) same
-          (order_own laws.finds (set_up_of g d r) a n d.past x.words e (ap (is_of' e) same ∙ i) x.own takes_well (h.order r a n))
+          (order_own laws.entries (set_up_of g d r) a n d.past x.words e (ap (is_of' e) same ∙ i) x.own takes_well (h.order r a n))
         where
           is_of' : Entry → ℕ → Bool
           is_of' e k = is_of k e
@@ -136,29 +135,29 @@ module _ (laws : Laws) (g : Given) (d : Driver) (h : IsSound g d) (r : ℕ) (e :
           same_number : (a b : ℕ) → (a == b) ≡ true → a ≡ b
           same_number a b e = grind (arith, nat_tests)
 
-  run_now : Fit d.past e → IsRun (run_on g d.tree d.marks (e ∷ d.past))
+  run_now : IsWithinBounds d.past e → IsRun (run_on g d.tree d.marks (e ∷ d.past))
   run_now fit = entry_on laws g d.tree d.marks d.past e h.run (entry_step fit)
 
   -- it sends to others alone
-  sends_out : Fit d.past e → Each (λ f. f.peer ≢ r) e.sent
+  sends_out : IsWithinBounds d.past e → Each (λ f. f.peer ≢ r) e.sent
   sends_out fit = laws.others (run_on g d.tree d.marks (e ∷ d.past)) e d.past r (run_now fit)
       (subst (λ (z : List Entry). Occurs z e d.past) (sym (reverse-reverse (e ∷ d.past))) (inl (refl, refl)))
       (ap (λ o. option_is o r) x.repo_is ∙ eqb_refl r)
 
-  pub adds_holds : (st : State) → Fit d.past e → IsSound g (adds st r e d)
+  pub adds_holds : (st : State) → IsWithinBounds d.past e → IsSound g (adds st r e d)
   adds_holds st fit = record {
     run = run_now fit;
-    flies = λ q a n. flies_adds laws.finds (set_up_of g d r) d.past x.words e x.own x.repo_is d.flights x.first q a n d st (h.flies q a n);
+    flies = λ q a n. flies_adds laws.entries (set_up_of g d r) d.past x.words e x.own x.repo_is d.flights x.first q a n d st (h.flies q a n);
     order = order_adds;
     down = Each-append ComesDown (but_taken r e.taken d.flights) (map (flight d st r) e.sent) (left_each ComesDown r e.taken d.flights h.down)
-        (Each-map ComesDown (flight d st r) e.sent (own_down laws.finds (set_up_of g d r) d.past x.words e x.own));
+        (Each-map ComesDown (flight d st r) e.sent (laws.entries.sends (set_up_of g d r) d.past x.words e x.own));
     apart = Each-append GoesToOther (but_taken r e.taken d.flights) (map (flight d st r) e.sent) (left_each GoesToOther r e.taken d.flights h.apart)
         (Each-map GoesToOther (flight d st r) e.sent (sends_out fit));
     parts = h.parts;
   }
 
 -- one more entry
-pub keeps_adds : Laws → (g : Given) (d : Driver) (r : ℕ) (st : State) (e : Entry) → Keeps g d → (IsSound g d → Fits d → Fit d.past e → NewEntry g d r e) → Keeps g (adds st r e d)
+pub keeps_adds : Laws → (g : DriverInput) (d : Driver) (r : ℕ) (st : State) (e : Entry) → Keeps g d → (IsSound g d → HasBoundedPast d → IsWithinBounds d.past e → NewEntry g d r e) → Keeps g (adds st r e d)
 keeps_adds laws g d r st e k new fits =
-    let before : Fits d = (fits.0.1, fits.1) in
+    let before : HasBoundedPast d = (fits.0.1, fits.1) in
     adds_holds laws g d (k before) r e (new (k before) before fits.0.0) st fits.0.0

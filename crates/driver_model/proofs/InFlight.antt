@@ -2,17 +2,19 @@
 -- their epoch.
 use Rattle.std.proofs.Common.{◌≡◌, ℕ, zero, suc, ◌+◌, ◌<◌, ◌≤◌, Bool, true, false, List, [], ◌∷◌, ◌++◌, Option, Some, None, ◌⊎◌, inl, inr, refl, sym, ap, ◌∙◌, subst, arith}
 use Rattle.std.specs.Prelude.{cond, if◌then◌else◌, ◌==◌, ◌&&◌, ◌||◌, not, drop, filter, find, length, map, nat_lt, slice_get}
-use Rattle.std.proofs.lemmas.Bool.{and_parts}
+use Rattle.std.proofs.lemmas.Bool.{and_parts, eqb-true}
 use Rattle.std.proofs.lemmas.Bool.Decides.{nat_tests}
 use Rattle.std.proofs.lemmas.List.Elements.{filter-append}
-use Rattle.std.proofs.lemmas.List.{append-nil}
+use Rattle.std.proofs.lemmas.List.{append-nil, map-append}
 use Rattle.annex_base.specs.Lists.{Each}
 use Rattle.annex_base.specs.declared.kinds.Word.{Word}
+use Rattle.annex_base.proofs.Lists.{slice_get-map_some}
+use Rattle.annex_base.proofs.Conditions.{eqb_refl}
 use Rattle.run_data.specs.declared.entry.Entry.{Entry}
 use Rattle.run_data.specs.declared.entry.FrameView.{FrameView}
 use Rattle.run_data.specs.declared.entry.FrameText.{FrameText}
 use Rattle.run_data.specs.declared.entry.FrameText.TheVariants.{Opening, Closing, Bytes, Line}
-use Rattle.run_model.specs.Frames.{Flying, MayTake, Way, is_on, on_way, sender_of, frames_sent, taken_count, taker_of, takes, way_of}
+use Rattle.run_model.specs.Frames.{FlyingFrame, MayTake, Way, is_on, on_way, sender_of, frames_sent, taken_count, taker_of, takes, way_of}
 use Rattle.node_model.specs.Ends.{End, EndName, end_sends, end_takes, end_took, is_opening, may_take, same_bool, sent_at, taken_at, takes_at}
 use Rattle.run_model.specs.Past.{is_of}
 use Rattle.node_model.specs.Rows.{option_is}
@@ -20,31 +22,28 @@ use Rattle.node_model.specs.SetUp.{SetUp}
 use Rattle.run_model.specs.States.{end_at}
 use Rattle.node_model.specs.State.{State}
 use Rattle.run_model.specs.Run.{OwnPart}
-use Rattle.driver_model.proofs.EndLemmas.{end_own, may_epoch, out_sender-is, out_taker-is, own_takes, sends_all, takes_end}
-use Rattle.driver_model.proofs.Premises.{StepsFind}
+use Rattle.driver_model.proofs.EndLemmas.{end_own, may_epoch, out_sender-is, out_taker-is, sends_all, takes_self}
+use Rattle.driver_model.proofs.Premises.{EntryLaws}
 use Rattle.driver_model.specs.Driver.{Driver, Flight, but_first, but_taken, end_to, flight, frames_to, is_at, is_old, old_at}
-use Rattle.driver_model.specs.Ways.{Flies, InOrder, Live, Over, NumberedBody, bodies_flying, is_flight, other_end, numbered_body, bodies_sent, views_sent, way_out}
+use Rattle.driver_model.specs.Ways.{Flies, InOrder, AreOnTheWay, IsOver, NumberedBody, bodies_flying, is_flight, other_end, numbered_body, bodies_sent, views_sent, way_out}
 use Rattle.driver_model.proofs.WayNumbers.{follow_at, sent_more, sent_same_as}
 
 -- ---- ends that are past an epoch
-
-same_number : (a b : ℕ) → (a == b) ≡ true → a ≡ b
-same_number a b e = grind (arith, nat_tests)
 
 abbrev old_by : End → ℕ → Bool
 old_by c n = nat_lt n c.epoch || ((n == c.epoch) && not c.opened)
 
 -- or else no frame of the epoch is old there
-over_or : (c : End) (n : ℕ) → Over c n ⊎ (old_by c n ≡ false)
+over_or : (c : End) (n : ℕ) → IsOver c n ⊎ (old_by c n ≡ false)
 over_or c n = go (nat_lt n c.epoch) refl (n == c.epoch) refl c.opened refl
   where
-    go : (a : Bool) → nat_lt n c.epoch ≡ a → (b : Bool) → (n == c.epoch) ≡ b → (o : Bool) → c.opened ≡ o → Over c n ⊎ (old_by c n ≡ false)
+    go : (a : Bool) → nat_lt n c.epoch ≡ a → (b : Bool) → (n == c.epoch) ≡ b → (o : Bool) → c.opened ≡ o → IsOver c n ⊎ (old_by c n ≡ false)
     go true i b j o k = inl (inl (grind (arith, nat_tests)))
-    go false i true j false k = inl (inr (same_number n c.epoch j, k))
+    go false i true j false k = inl (inr (eqb-true n c.epoch j, k))
     go false i true j true k = inr (rw (i, j, k) refl)
     go false i false j o k = inr (rw (i, j) refl)
 
-over_sends : (c : End) (body : FrameText) (n : ℕ) → Over c n → Over (end_sends c body) n
+over_sends : (c : End) (body : FrameText) (n : ℕ) → IsOver c n → IsOver (end_sends c body) n
 over_sends c Opening n (inl i) = inl (omega (arith, i))
 over_sends c Opening n (inr i) = let j = i.0 in inl (omega (arith, j))
 over_sends c Closing n (inl i) = inl i
@@ -52,19 +51,19 @@ over_sends c Closing n (inr i) = inr (i.0, refl)
 over_sends c (Bytes k) n o = o
 over_sends c (Line text) n o = o
 
-over_all : (c : End) (fs : List FrameView) (n : ℕ) → Over c n → Over (sends_all c fs) n
+over_all : (c : End) (fs : List FrameView) (n : ℕ) → IsOver c n → IsOver (sends_all c fs) n
 over_all c [] n o = o
 over_all c (f ∷ fs) n o = over_all (end_sends c f.body) fs n (over_sends c f.body n o)
 
 -- what may be taken is of an epoch that isn't past
-pub not_over : (c : End) (f : FrameView) → may_take c f ≡ true → Over c f.epoch → ⊥
+pub not_over : (c : End) (f : FrameView) → may_take c f ≡ true → IsOver c f.epoch → ⊥
 not_over c f may o = go (is_opening f.body) refl
   where
-    opens : is_opening f.body ≡ true → Over c f.epoch → ⊥
+    opens : is_opening f.body ≡ true → IsOver c f.epoch → ⊥
     opens i (inl j) = let t : nat_lt c.epoch f.epoch ≡ true = (and_parts (not c.opened) (nat_lt c.epoch f.epoch) (rw i at may)).1 in grind (arith, nat_tests)
     opens i (inr j) = let t : nat_lt c.epoch f.epoch ≡ true = (and_parts (not c.opened) (nat_lt c.epoch f.epoch) (rw i at may)).1 in let k = j.0 in grind (arith, nat_tests)
 
-    not' : is_opening f.body ≡ false → Over c f.epoch → ⊥
+    not' : is_opening f.body ≡ false → IsOver c f.epoch → ⊥
     not' i (inl j) = let e : f.epoch ≡ c.epoch = (may_epoch c f i may).1 in omega (arith, e, j)
     not' i (inr j) = let o : true ≡ false = sym (may_epoch c f i may).0 ∙ j.1 in cc
 
@@ -72,7 +71,7 @@ not_over c f may o = go (is_opening f.body) refl
     go true i = opens i o
     go false i = not' i o
 
-over_takes : (c : End) (f : FrameView) (n : ℕ) → may_take c f ≡ true → Over c n → Over (end_takes c f.epoch f.body) n
+over_takes : (c : End) (f : FrameView) (n : ℕ) → may_take c f ≡ true → IsOver c n → IsOver (end_takes c f.epoch f.body) n
 over_takes c f n may o = go f.body refl
   where
     later : f.body ≡ Opening → c.epoch < f.epoch
@@ -80,32 +79,32 @@ over_takes c f n may o = go f.body refl
         let j : is_opening f.body ≡ true = ap is_opening i in
         let t : nat_lt c.epoch f.epoch ≡ true = (and_parts (not c.opened) (nat_lt c.epoch f.epoch) (rw j at may)).1 in grind (arith, nat_tests)
 
-    up : c.epoch < f.epoch → Over c n → n < f.epoch
+    up : c.epoch < f.epoch → IsOver c n → n < f.epoch
     up i (inl j) = omega (arith, i, j)
     up i (inr j) = let k = j.0 in omega (arith, i, k)
 
-    shut : Over c n → Over (record { epoch = c.epoch; opened = false; sent = c.sent }) n
+    shut : IsOver c n → IsOver (record { epoch = c.epoch; opened = false; sent = c.sent }) n
     shut (inl i) = inl i
     shut (inr i) = inr (i.0, refl)
 
-    go : (body : FrameText) → f.body ≡ body → Over (end_takes c f.epoch body) n
+    go : (body : FrameText) → f.body ≡ body → IsOver (end_takes c f.epoch body) n
     go Opening i = inl (up (later i) o)
     go Closing i = shut o
     go (Bytes k) i = o
     go (Line text) i = o
 
 -- an own entry leaves it so
-over_own : StepsFind → (s : SetUp) (past : List Entry) (words : ℕ → Option Word) (e : Entry) (a : EndName) (n : ℕ) → is_of s.number e ≡ true → OwnPart s past words e
-    → Over (end_at past s.number a) n → Over (end_at (e ∷ past) s.number a) n
-over_own finds s past words e a n is own o = subst (λ (c : End). Over c n) (sym (end_own s.number past a e is)) (over_all (end_took (end_at past s.number a) (taken_at a e.taken)) (sent_at a e.sent) n (go e.taken refl))
+over_own : EntryLaws → (s : SetUp) (past : List Entry) (words : ℕ → Option Word) (e : Entry) (a : EndName) (n : ℕ) → is_of s.number e ≡ true → OwnPart s past words e
+    → IsOver (end_at past s.number a) n → IsOver (end_at (e ∷ past) s.number a) n
+over_own laws s past words e a n is own o = subst (λ (c : End). IsOver c n) (sym (end_own s.number past a e is)) (over_all (end_took (end_at past s.number a) (taken_at a e.taken)) (sent_at a e.sent) n (go e.taken refl))
   where
-    at : (f : FrameView) → e.taken ≡ Some f → (b : Bool) → takes_at a f ≡ b → Over (end_took (end_at past s.number a) (if b then Some f else None)) n
+    at : (f : FrameView) → e.taken ≡ Some f → (b : Bool) → takes_at a f ≡ b → IsOver (end_took (end_at past s.number a) (if b then Some f else None)) n
     at f i false t = o
-    at f i true t = over_takes (end_at past s.number a) f n (ap (λ (z : EndName). may_take (end_at past s.number z) f) (sym (takes_end a f t)) ∙ own_takes finds s past words e f own i) o
+    at f i true t = over_takes (end_at past s.number a) f n (laws.takes s past words e f a own i t) o
 
-    go : (t : Option FrameView) → e.taken ≡ t → Over (end_took (end_at past s.number a) (taken_at a e.taken)) n
-    go None i = subst (λ (t : Option FrameView). Over (end_took (end_at past s.number a) (taken_at a t)) n) (sym i) o
-    go (Some f) i = subst (λ (t : Option FrameView). Over (end_took (end_at past s.number a) (taken_at a t)) n) (sym i) (at f i (takes_at a f) refl)
+    go : (t : Option FrameView) → e.taken ≡ t → IsOver (end_took (end_at past s.number a) (taken_at a e.taken)) n
+    go None i = subst (λ (t : Option FrameView). IsOver (end_took (end_at past s.number a) (taken_at a t)) n) (sym i) o
+    go (Some f) i = subst (λ (t : Option FrameView). IsOver (end_took (end_at past s.number a) (taken_at a t)) n) (sym i) (at f i (takes_at a f) refl)
 
 -- ---- lists
 
@@ -142,15 +141,6 @@ module _ {X : Type 0} where
   length_more [] ys = omega arith
   length_more (x ∷ xs) ys = let i = length_more xs ys in omega (arith, i)
 
-map_append : {X Y : Type 0} (f : X → Y) (xs ys : List X) → map f (xs ++ ys) ≡ map f xs ++ map f ys
-map_append f [] ys = refl
-map_append f (x ∷ xs) ys = ap (λ zs. f x ∷ zs) (map_append f xs ys)
-
-mapped_at : {X Y : Type 0} (f : X → Y) (xs : List X) (k : ℕ) (y : Y) → slice_get (map f xs) k ≡ Some y → (x : X) × (slice_get xs k ≡ Some x) × (f x ≡ y)
-mapped_at f [] k y e = absurd (cc)
-mapped_at f (x ∷ xs) zero y e = let i : f x ≡ y = cc in (x, refl, i)
-mapped_at f (x ∷ xs) (suc k) y e = mapped_at f xs k y e
-
 -- ---- frames are dropped
 
 on_parts : (r : ℕ) (a : EndName) (n : ℕ) (x : Flight) → is_flight r a n x ≡ true → (x.to ≡ a.peer) × (end_to x.frame ≡ other_end r a) × (x.frame.epoch ≡ n)
@@ -159,9 +149,9 @@ on_parts r a n x e =
     let two = and_parts (x.frame.peer == r) ((x.frame.slot == a.slot) && (same_bool x.frame.up a.client && (x.frame.epoch == n))) one.1 in
     let three = and_parts (x.frame.slot == a.slot) (same_bool x.frame.up a.client && (x.frame.epoch == n)) two.1 in
     let four = and_parts (same_bool x.frame.up a.client) (x.frame.epoch == n) three.1 in (
-      same_number x.to a.peer one.0,
-      end_path (same_number x.frame.peer r two.0) (same_number x.frame.slot a.slot three.0) (ap (λ b. if b then false else true) (both x.frame.up a.client four.0)),
-      same_number x.frame.epoch n four.1,
+      eqb-true x.to a.peer one.0,
+      end_path (eqb-true x.frame.peer r two.0) (eqb-true x.frame.slot a.slot three.0) (ap (λ b. if b then false else true) (both x.frame.up a.client four.0)),
+      eqb-true x.frame.epoch n four.1,
     )
   where
     both : (b c : Bool) → same_bool b c ≡ true → b ≡ c
@@ -181,7 +171,7 @@ flies_cleared past st p xs r a n ends (inr l) = go (over_or c n)
     c : End
     c = end_at past a.peer (other_end r a)
 
-    go : Over (end_at past a.peer (other_end r a)) n ⊎ (old_by (end_at past a.peer (other_end r a)) n ≡ false) → Flies past (filter (λ x. not (old_at st p x)) xs) r a n
+    go : IsOver (end_at past a.peer (other_end r a)) n ⊎ (old_by (end_at past a.peer (other_end r a)) n ≡ false) → Flies past (filter (λ x. not (old_at st p x)) xs) r a n
     go (inl o) = inl o
     go (inr young) = inr (record { inside = l.inside; same = ap (map (λ x. numbered_body x.frame)) (filter_within (is_flight r a n) (λ x. not (old_at st p x)) xs keeps) ∙ l.same })
       where
@@ -196,7 +186,7 @@ flies_cleared past st p xs r a n ends (inr l) = go (over_or c n)
             at true i = ap not (ap (λ (c : End). is_old c x.frame) (ends (end_to x.frame) ∙ end_same) ∙ ap (old_by (end_at past a.peer (other_end r a))) parts.2 ∙ young)
               where
                 end_same : end_at past p (end_to x.frame) ≡ end_at past a.peer (other_end r a)
-                end_same = ap (λ k. end_at past k (end_to x.frame)) (sym (same_number x.to p i) ∙ parts.0) ∙ ap (end_at past a.peer) parts.1
+                end_same = ap (λ k. end_at past k (end_to x.frame)) (sym (eqb-true x.to p i) ∙ parts.0) ∙ ap (end_at past a.peer) parts.1
 
 -- ---- a frame is taken
 
@@ -230,9 +220,6 @@ but_split : (q : Flight → Bool) (front back : List Flight) (x : Flight) → Ea
 but_split q [] back x n i = rw i refl
 but_split q (y ∷ front) back x n i = rw n.0 (ap (λ zs. y ∷ zs) (but_split q front back x n.1 i))
 
-eqb_refl : (n : ℕ) → (n == n) ≡ true
-eqb_refl n = grind arith
-
 both_refl : (b : Bool) → same_bool b b ≡ true
 both_refl true = refl
 both_refl false = refl
@@ -246,7 +233,7 @@ at_same p f y i j = rw (i, eqb_refl p) (subst (λ (z : EndName). takes_at z y.fr
 
 module _ (p : ℕ) (f : FrameView) (xs : List Flight) (y : IsFirst p f xs) (r : ℕ) (a : EndName) (n : ℕ) where
   to_is : y.x.to ≡ p
-  to_is = same_number y.x.to p (and_parts (y.x.to == p) (takes_at (end_to f) y.x.frame) y.it).0
+  to_is = eqb-true y.x.to p (and_parts (y.x.to == p) (takes_at (end_to f) y.x.frame) y.it).0
 
   -- on its way nothing is before it
   none_before : is_flight r a n y.x ≡ true → (front : List Flight) → Each (λ z. is_at p f z ≡ false) front → filter (is_flight r a n) front ≡ []
@@ -263,11 +250,11 @@ module _ (p : ℕ) (f : FrameView) (xs : List Flight) (y : IsFirst p f xs) (r : 
 
   split_on : bodies_flying r a n xs ≡ bodies_flying r a n y.front ++ bodies_flying r a n (y.x ∷ y.back)
   split_on = ap (bodies_flying r a n) y.split ∙ ap (map (λ x. numbered_body x.frame)) (filter-append (is_flight r a n) y.front (y.x ∷ y.back))
-      ∙ map_append (λ x. numbered_body x.frame) (filter (is_flight r a n) y.front) (filter (is_flight r a n) (y.x ∷ y.back))
+      ∙ map-append (λ x. numbered_body x.frame) (filter (is_flight r a n) y.front) (filter (is_flight r a n) (y.x ∷ y.back))
 
   left_on : bodies_flying r a n (but_taken p (Some f) xs) ≡ bodies_flying r a n y.front ++ bodies_flying r a n y.back
   left_on = ap (λ zs. bodies_flying r a n (but_first (is_at p f) zs)) y.split ∙ ap (bodies_flying r a n) (but_split (is_at p f) y.front y.back y.x y.none y.it)
-      ∙ ap (map (λ x. numbered_body x.frame)) (filter-append (is_flight r a n) y.front y.back) ∙ map_append (λ x. numbered_body x.frame) (filter (is_flight r a n) y.front) (filter (is_flight r a n) y.back)
+      ∙ ap (map (λ x. numbered_body x.frame)) (filter-append (is_flight r a n) y.front y.back) ∙ map-append (λ x. numbered_body x.frame) (filter (is_flight r a n) y.front) (filter (is_flight r a n) y.back)
 
   pub taken_first : is_flight r a n y.x ≡ true → (bodies_flying r a n xs ≡ numbered_body f ∷ bodies_flying r a n y.back) × (bodies_flying r a n (but_taken p (Some f) xs) ≡ bodies_flying r a n y.back)
   taken_first hit =
@@ -279,7 +266,7 @@ module _ (p : ℕ) (f : FrameView) (xs : List Flight) (y : IsFirst p f xs) (r : 
 
 -- ---- one more entry
 
-module _ (finds : StepsFind) (s : SetUp) (past : List Entry) (words : ℕ → Option Word) (e : Entry) (own : OwnPart s past words e) (mine : e.repo ≡ Some s.number) (xs : List Flight)
+module _ (laws : EntryLaws) (s : SetUp) (past : List Entry) (words : ℕ → Option Word) (e : Entry) (own : OwnPart s past words e) (mine : e.repo ≡ Some s.number) (xs : List Flight)
     (first : (f : FrameView) → e.taken ≡ Some f → IsFirst s.number f xs) where
   abbrev p : ℕ
   p = s.number
@@ -298,7 +285,7 @@ module _ (finds : StepsFind) (s : SetUp) (past : List Entry) (words : ℕ → Op
     of_sender = ap (λ k. is_of k e) (out_sender-is r a n) ∙ ap (λ o. option_is o r) mine
 
     -- what is left of the way, once the frame is taken
-    left : Live past xs r a n → (taken_count (e ∷ past) w ≤ length (bodies_sent past w)) × (bodies_flying r a n after_take ≡ drop (taken_count (e ∷ past) w) (bodies_sent past w))
+    left : AreOnTheWay past xs r a n → (taken_count (e ∷ past) w ≤ length (bodies_sent past w)) × (bodies_flying r a n after_take ≡ drop (taken_count (e ∷ past) w) (bodies_sent past w))
     left l = go e.taken refl
       where
         count : (hit : Bool) → (is_of (taker_of w) e && takes w e.taken) ≡ hit → taken_count (e ∷ past) w ≡ (if hit then taken_count past w + 1 else taken_count past w)
@@ -365,16 +352,16 @@ module _ (finds : StepsFind) (s : SetUp) (past : List Entry) (words : ℕ → Op
       sent_new = go (p == r) refl
         where
           go : (b : Bool) → (p == r) ≡ b → bodies_sent (e ∷ past) w ≡ bodies_sent past w ++ bodies_flying r a n new
-          go true i = ap (map numbered_body) (sent_more e past w (of_sender ∙ i)) ∙ map_append numbered_body (views_sent past w) (on_way w e)
+          go true i = ap (map numbered_body) (sent_more e past w (of_sender ∙ i)) ∙ map-append numbered_body (views_sent past w) (on_way w e)
               ∙ ap (λ zs. bodies_sent past w ++ zs) (ap (λ k. map numbered_body (filter (is_on w k) e.sent)) (out_taker-is r a n) ∙ sym (told_new e.sent ∙ rw i refl))
           go false i = ap (map numbered_body) (sent_same_as e past w (of_sender ∙ i)) ∙ sym (append-nil (bodies_sent past w)) ∙ ap (λ zs. bodies_sent past w ++ zs) (sym (told_new e.sent ∙ rw i refl))
 
-      live_adds : Live past xs r a n → Live (e ∷ past) (after_take ++ new) r a n
+      live_adds : AreOnTheWay past xs r a n → AreOnTheWay (e ∷ past) (after_take ++ new) r a n
       live_adds l =
           let x = left l in
           record {
             inside = subst (λ zs. taken_count (e ∷ past) w ≤ length zs) (sym sent_new) (longer (taken_count (e ∷ past) w) (length (bodies_sent past w)) (length (bodies_sent past w ++ bodies_flying r a n new)) x.0 (length_more (bodies_sent past w) (bodies_flying r a n new)));
-            same = ap (map (λ x. numbered_body x.frame)) (filter-append (is_flight r a n) after_take new) ∙ map_append (λ x. numbered_body x.frame) (filter (is_flight r a n) after_take) (filter (is_flight r a n) new)
+            same = ap (map (λ x. numbered_body x.frame)) (filter-append (is_flight r a n) after_take new) ∙ map-append (λ x. numbered_body x.frame) (filter (is_flight r a n) after_take) (filter (is_flight r a n) new)
                 ∙ ap (λ zs. zs ++ bodies_flying r a n new) x.1 ∙ sym (drop_append (taken_count (e ∷ past) w) (bodies_sent past w) (bodies_flying r a n new) x.0) ∙ ap (drop (taken_count (e ∷ past) w)) (sym sent_new);
           }
         where
@@ -386,11 +373,11 @@ module _ (finds : StepsFind) (s : SetUp) (past : List Entry) (words : ℕ → Op
       flies_adds (inr l) = inr (live_adds l)
       flies_adds (inl o) = inl (go (p == a.peer) refl)
         where
-          go : (b : Bool) → (p == a.peer) ≡ b → Over (end_at (e ∷ past) a.peer (other_end r a)) n
+          go : (b : Bool) → (p == a.peer) ≡ b → IsOver (end_at (e ∷ past) a.peer (other_end r a)) n
           go true i =
-              let same : p ≡ a.peer = same_number p a.peer i in
-              subst (λ k. Over (end_at (e ∷ past) k (other_end r a)) n) same (over_own finds s past words e (other_end r a) n (ap (λ o. option_is o p) mine ∙ eqb_refl p) own (subst (λ k. Over (end_at past k (other_end r a)) n) (sym same) o))
-          go false i = subst (λ (c : End). Over c n) (sym (unchanged i)) o
+              let same : p ≡ a.peer = eqb-true p a.peer i in
+              subst (λ k. IsOver (end_at (e ∷ past) k (other_end r a)) n) same (over_own laws s past words e (other_end r a) n (ap (λ o. option_is o p) mine ∙ eqb_refl p) own (subst (λ k. IsOver (end_at past k (other_end r a)) n) (sym same) o))
+          go false i = subst (λ (c : End). IsOver c n) (sym (unchanged i)) o
             where
               unchanged : (p == a.peer) ≡ false → end_at (e ∷ past) a.peer (other_end r a) ≡ end_at past a.peer (other_end r a)
               unchanged j = rw (ap (λ o. option_is o a.peer) mine ∙ j) refl
@@ -412,16 +399,16 @@ module _ (finds : StepsFind) (s : SetUp) (past : List Entry) (words : ℕ → Op
           (subst (λ g. ((s.number == s.number) && is_on (way_out f.peer (record { peer = s.number; slot = f.slot; client = f.up }) f.epoch) f.peer g) ≡ true) (sym (first f i).frame_is)
           (rw (eqb_refl s.number, eqb_refl f.peer, eqb_refl f.slot, both_refl f.up, eqb_refl f.epoch) refl))
 
-      it' : Live past xs f.peer (record { peer = s.number; slot = f.slot; client = f.up }) f.epoch → MayTake past (way_of s.number f) f
+      it' : AreOnTheWay past xs f.peer (record { peer = s.number; slot = f.slot; client = f.up }) f.epoch → MayTake past (way_of s.number f) f
       it' l =
           let two = taken_first s.number f xs (first f i) f.peer (record { peer = s.number; slot = f.slot; client = f.up }) f.epoch hit in
           let w = way_of s.number f in
           let z = drop_first (taken_count past w) (bodies_sent past w) (numbered_body f) (bodies_flying f.peer (record { peer = s.number; slot = f.slot; client = f.up }) f.epoch (first f i).back) (sym two.0 ∙ l.same) in
-          let g = mapped_at numbered_body (views_sent past w) (taken_count past w) (numbered_body f) z.2 in
-          let x = mapped_at (λ (x : Flying). x.frame) (frames_sent past w) (taken_count past w) g.0 g.1 in
+          let g = slice_get-map_some numbered_body (views_sent past w) (taken_count past w) (numbered_body f) z.2 in
+          let x = slice_get-map_some (λ (x : FlyingFrame). x.frame) (frames_sent past w) (taken_count past w) g.0 g.1 in
           let seq : g.0.seq ≡ 0 + taken_count past w + 1 = follow_at 0 (taken_count past w) (views_sent past w) g.0 order.follow g.1 in
           record { it = x.0; next = x.1; seq_is = sym (ap (λ (t : NumberedBody). t.seq) g.2) ∙ seq ∙ ap (λ k. k + 1) (none_more (taken_count past w)); body_is = ap (λ (h : FrameView). h.body) x.2 ∙ ap (λ (t : NumberedBody). t.body) g.2 }
 
       go : Flies past xs f.peer (record { peer = s.number; slot = f.slot; client = f.up }) f.epoch → MayTake past (way_of s.number f) f
       go (inr l) = it' l
-      go (inl o) = absurd (not_over (end_at past s.number (end_to f)) f (own_takes finds s past words e f own i) o)
+      go (inl o) = absurd (not_over (end_at past s.number (end_to f)) f (laws.takes s past words e f (end_to f) own i (takes_self f)) o)

@@ -1,6 +1,6 @@
 -- A sound driver's repositories speak with others alone.
-use Rattle.std.proofs.Common.{◌≡◌, ◌≢◌, inl, inr, ℕ, ◌+◌, Bool, true, false, List, [], ◌∷◌, Some, refl, sym, ap, ◌∙◌, subst}
-use Rattle.std.specs.Prelude.{cond, ◌&&◌, ◌==◌, filter, if◌then◌else◌, length, nat_le, not, reverse}
+use Rattle.std.proofs.Common.{◌≡◌, inl, inr, ℕ, ◌+◌, true, List, [], ◌∷◌, Some, refl, sym, ap, ◌∙◌, subst}
+use Rattle.std.specs.Prelude.{◌&&◌, ◌==◌, filter, if◌then◌else◌, length, nat_le, not, reverse}
 use Rattle.std.proofs.lemmas.Bool.{and_parts, cases_Bool, eqb-true}
 use Rattle.std.proofs.lemmas.List.{reverse-reverse}
 use Rattle.annex_base.specs.Lists.{Each}
@@ -10,13 +10,13 @@ use Rattle.run_model.specs.States.{state_of}
 use Rattle.node_model.specs.Ends.{EndName}
 use Rattle.node_model.specs.Look.{Look, Made}
 use Rattle.node_model.specs.Step.{step}
-use Rattle.driver_model.specs.Driver.{Driver, Flight, Given, has_room, is_sent_by, set_up_of, state_at}
+use Rattle.driver_model.specs.Driver.{Driver, Flight, DriverInput, has_room, is_sent_by, set_up_of, state_at}
 use Rattle.driver_model.specs.Driving.{run_with}
 use Rattle.driver_model.specs.Sound.{GoesToOther}
 use Rattle.driver_model.proofs.Holding.{set_up_on}
 
 -- the driver's step is the run's
-pub step_of_run : (g : Given) (d : Driver) (r : ℕ) (k : Look) (m : Made) → step (set_up_of g d r) (state_at g d r) k ≡ Some m
+pub step_of_run : (g : DriverInput) (d : Driver) (r : ℕ) (k : Look) (m : Made) → step (set_up_of g d r) (state_at g d r) k ≡ Some m
     → step (set_up (run_with g d) r) (state_of (set_up (run_with g d) r) (reverse (run_with g d).entries)) k ≡ Some m
 step_of_run g d r k m makes =
     subst (λ (past : List Entry). step (set_up_on g d.tree past r) (state_of (set_up_on g d.tree past r) past) k ≡ Some m) (sym (reverse-reverse d.past)) makes

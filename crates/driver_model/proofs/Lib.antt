@@ -1,7 +1,7 @@
 -- The lemmas of this crate.
 pub mod Premises
 pub mod EndLemmas
-pub mod AtHand
+pub mod EndsApart
 pub mod FrameNumbers
 pub mod WayNumbers
 pub mod InFlight
@@ -12,10 +12,8 @@ pub mod Scripted
 pub mod WrittenLines
 pub mod Logged
 pub mod MergedLines
-pub mod JobKept
 pub mod OwedKeys
 pub mod Alike
-pub mod MadeBy
 pub mod Needed
 pub mod EndsAlike
 pub mod WordsAside

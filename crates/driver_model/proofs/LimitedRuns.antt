@@ -1,13 +1,12 @@
 -- The run of a script up to the limit on histories: whole where no line meets it, and else one with a full history.
 use Rattle.std.proofs.Common.{◌≡◌, ℕ, ◌<◌, ◌≤◌, Bool, true, false, List, [], ◌∷◌, inl, inr, refl, sym, subst, arith}
-use Rattle.std.specs.Prelude.{◌||◌, if◌then◌else◌, length, nat_le, reverse}
-use Rattle.std.proofs.lemmas.Bool.{cases_Bool}
-use Rattle.std.proofs.lemmas.Bool.Decides.{nat_tests}
+use Rattle.std.specs.Prelude.{◌||◌, if◌then◌else◌, length, reverse}
+use Rattle.std.proofs.lemmas.Bool.{cases_Bool, leb-true}
 use Rattle.std.proofs.lemmas.List.{reverse-reverse}
 use Rattle.annex_base.specs.Lists.{Each}
 use Rattle.run_data.specs.Histories.{most_entries}
 use Rattle.run_data.specs.declared.entry.Entry.{Entry}
-use Rattle.driver_model.specs.Driver.{Driver, Given, at_first}
+use Rattle.driver_model.specs.Driver.{Driver, DriverInput, at_first}
 use Rattle.driver_model.specs.Driving.{does, drives, run_of, run_with, with_mark}
 use Rattle.driver_model.specs.Limits.{LimitedRun, asks_first, count_of, drives_to_limit, is_full, is_too_long, limited_run, meets_limit, run_to_limit, within_limit}
 use Rattle.driver_model.specs.Lines.{Line, Have, SetPart, Add}
@@ -16,12 +15,12 @@ use Rattle.driver_model.specs.Sound.{OnlyAdds}
 use Rattle.driver_model.proofs.Adding.{line_adds}
 use Rattle.driver_model.proofs.FullHistories.{HasFull, count_more, few_entries, keeps_whole, left_full, past_behind}
 
-abbrev cut_at : Given → Line → Driver → LimitedRun
+abbrev cut_at : DriverInput → Line → Driver → LimitedRun
 cut_at g line d = record { run = run_to_limit g line d; is_cut = true }
 
 -- ---- no line meets the limit
 
-drives_whole : (g : Given) (lines : List Line) (d : Driver) → (drives_to_limit g lines d).is_cut ≡ false → (drives_to_limit g lines d).run ≡ run_with g (drives g lines d)
+drives_whole : (g : DriverInput) (lines : List Line) (d : Driver) → (drives_to_limit g lines d).is_cut ≡ false → (drives_to_limit g lines d).run ≡ run_with g (drives g lines d)
 drives_whole g [] d i = refl
 drives_whole g (line ∷ lines) d i = go (drives_whole g lines (with_mark (does g line d))) (meets_limit g line d) i
   where
@@ -33,25 +32,22 @@ drives_whole g (line ∷ lines) d i = go (drives_whole g lines (with_mark (does 
     go more true j = absurd (cc)
     go more false j = more j
 
-pub whole_run : (g : Given) (lines : List Line) → (limited_run g lines).is_cut ≡ false → (limited_run g lines).run ≡ run_of g lines
+pub whole_run : (g : DriverInput) (lines : List Line) → (limited_run g lines).is_cut ≡ false → (limited_run g lines).run ≡ run_of g lines
 whole_run g lines i = drives_whole g lines at_first i
 
 -- ---- a line meets it
-
-at_least : (a b : ℕ) → nat_le a b ≡ true → a ≤ b
-at_least a b e = grind (arith, nat_tests)
 
 just_so : (n a b : ℕ) → n ≤ a → a ≤ b → b ≤ n → b ≡ n
 just_so n a b i j k = omega (arith, i, j, k)
 
 -- a repository has made as many entries as it may, if not more
-abbrev IsFilled : Given → List Entry → Type 0
+abbrev IsFilled : DriverInput → List Entry → Type 0
 IsFilled g past = (r : ℕ) × (r < length g.repos) × (most_entries ≤ count_of past r)
 
-asks_filled : (g : Given) (line : Line) (d : Driver) → IsOne g line → is_full d.past (asks_first line) ≡ true → IsFilled g d.past
-asks_filled g (Have r key bytes) d is full = (r, is.0, at_least most_entries (count_of d.past r) full)
-asks_filled g (SetPart r key bytes) d is full = (r, is, at_least most_entries (count_of d.past r) full)
-asks_filled g (Add r path key bytes) d is full = (r, is.0, at_least most_entries (count_of d.past r) full)
+asks_filled : (g : DriverInput) (line : Line) (d : Driver) → IsOne g line → is_full d.past (asks_first line) ≡ true → IsFilled g d.past
+asks_filled g (Have r key bytes) d is full = (r, is.0, leb-true most_entries (count_of d.past r) full)
+asks_filled g (SetPart r key bytes) d is full = (r, is, leb-true most_entries (count_of d.past r) full)
+asks_filled g (Add r path key bytes) d is full = (r, is.0, leb-true most_entries (count_of d.past r) full)
 asks_filled g line d is full = absurd (cc)
 
 or_left : (a b : Bool) → (a || b) ≡ true → b ≡ false → a ≡ true
@@ -59,20 +55,20 @@ or_left true b i j = refl
 or_left false b i j = absurd (cc)
 
 -- the line leaves the past as it is, where it stays within the limit
-filled_stays : (g : Given) (d after : Driver) → IsFilled g d.past → OnlyAdds d after → is_too_long g after.past ≡ false → HasFull g after.past
+filled_stays : (g : DriverInput) (d after : Driver) → IsFilled g d.past → OnlyAdds d after → is_too_long g after.past ≡ false → HasFull g after.past
 filled_stays g d after x adds short = (x.0, x.1, just_so most_entries (count_of d.past x.0) (count_of after.past x.0) x.2 more (few_entries g after.past short x.0 x.1))
   where
     more : count_of d.past x.0 ≤ count_of after.past x.0
     more = subst (λ (past : List Entry). count_of d.past x.0 ≤ count_of past x.0) (sym (past_behind d after adds)) (count_more x.0 (reverse adds.0) d.past)
 
-cut_full : (g : Given) (line : Line) (d : Driver) → IsOne g line → meets_limit g line d ≡ true → HasFull g (within_limit g (does g line d).past)
+cut_full : (g : DriverInput) (line : Line) (d : Driver) → IsOne g line → meets_limit g line d ≡ true → HasFull g (within_limit g (does g line d).past)
 cut_full g line d is meets = elim (cases_Bool (is_too_long g (does g line d).past)) [
   | inl long ↦ left_full g (does g line d).past long
   | inr short ↦ subst (HasFull g) (sym (keeps_whole g (does g line d).past short))
       (filled_stays g d (does g line d) (asks_filled g line d is (or_left (is_full d.past (asks_first line)) (is_too_long g (does g line d).past) meets short)) (line_adds g line d).0 short)
 ]
 
-drives_cut : (g : Given) (lines : List Line) (d : Driver) → Each (IsOne g) lines → (drives_to_limit g lines d).is_cut ≡ true → HasFull g (reverse (drives_to_limit g lines d).run.entries)
+drives_cut : (g : DriverInput) (lines : List Line) (d : Driver) → Each (IsOne g) lines → (drives_to_limit g lines d).is_cut ≡ true → HasFull g (reverse (drives_to_limit g lines d).run.entries)
 drives_cut g [] d all i = absurd (cc)
 drives_cut g (line ∷ lines) d all i = go (drives_cut g lines (with_mark (does g line d)) all.1) (meets_limit g line d) refl i
   where
@@ -84,5 +80,5 @@ drives_cut g (line ∷ lines) d all i = go (drives_cut g lines (with_mark (does 
     go more true m j = subst (HasFull g) (sym (reverse-reverse (within_limit g (does g line d).past))) (cut_full g line d all.0 m)
     go more false m j = more j
 
-pub cut_run : (g : Given) (lines : List Line) → Each (IsOne g) lines → (limited_run g lines).is_cut ≡ true → HasFull g (reverse (limited_run g lines).run.entries)
+pub cut_run : (g : DriverInput) (lines : List Line) → Each (IsOne g) lines → (limited_run g lines).is_cut ≡ true → HasFull g (reverse (limited_run g lines).run.entries)
 cut_run g lines all i = drives_cut g lines at_first all i

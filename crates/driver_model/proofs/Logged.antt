@@ -38,7 +38,7 @@ use Rattle.run_data.specs.Repos.{id_of}
 use Rattle.p2p_wire.specs.declared.message.Message.{Message}
 use Rattle.node_model.specs.AnyTime.{MayCome}
 use Rattle.node_model.specs.Files.{compact_lines}
-use Rattle.node_model.specs.Found.{JobKind, SessionKind, StepFound}
+use Rattle.node_model.specs.Found.{IsJobEntry, IsSessionEntry, StepFound}
 use Rattle.node_model.specs.JobStep.{Turn, turn_of}
 use Rattle.node_model.specs.Look.{Look, Made}
 use Rattle.node_model.specs.Owed.{Owed, due, if_new, stamp_at, status, status_line}
@@ -50,10 +50,10 @@ use Rattle.run_model.specs.Logs.{branch, branch_after, compact_file, lines_of_fi
 use Rattle.run_model.specs.Past.{is_of, now}
 use Rattle.run_model.specs.Run.{ComesAnyTime, IsStep, MayBe, OwnPart, RunPast, RunStep, TimeIs}
 use Rattle.run_model.specs.States.{owes, state_of}
-use Rattle.driver_model.specs.Driver.{Driver, Given, fails_at, notes}
-use Rattle.driver_model.specs.ScriptSteps.{compacts, compacts_files, faults, is_nil, lines_of, logs, logs_some, logs_status, merges, merges_files, news, shrinks, unknown, wall_of, writes}
+use Rattle.driver_model.specs.Driver.{Driver, DriverInput, fails_at, notes}
+use Rattle.driver_model.specs.ScriptSteps.{compacts, compacts_files, faults, is_nil, lines_of, logs, logs_some, logs_status, merges, merges_files, news, shrinks, unknown_lines, wall_of, writes}
 use Rattle.driver_model.specs.Logged.{LogsWell}
-use Rattle.driver_model.specs.Scripts.{Fits}
+use Rattle.driver_model.specs.Scripts.{HasBoundedPast}
 use Rattle.driver_model.specs.Sound.{IsSound}
 use Rattle.driver_model.proofs.Holding.{Keeps, steps_on}
 use Rattle.driver_model.proofs.Premises.{Laws}
@@ -104,7 +104,7 @@ pub record MayWrite (d : Driver) (r : ℕ) (file : LogFile) (lines : List (List 
   pub set : IsLineSet lines
   pub new : Each (λ line. ¬ Member line (lines_of_file d.past r (file_path file))) lines
 
-module _ (laws : Laws) (g : Given) where
+module _ (laws : Laws) (g : DriverInput) where
   pub keeps_noted : (d : Driver) (r : ℕ) (file : LogFile) (lines : List (List ℕ)) → r < length g.repos → MayWrite d r file lines → Keeps g d → Keeps g (notes r (kinds.Log file) lines d)
   keeps_noted d r file lines known x k = keeps_notes laws g d r (kinds.Log file) lines known (λ h small. (record { path = x.path; known = x.known; set = x.set; new = x.new }, refl)) k
 
@@ -115,16 +115,16 @@ module _ (laws : Laws) (g : Given) where
   keeps_some d r file [] known x k = k
   keeps_some d r file (line ∷ lines) known x k = keeps_logs d r file (line ∷ lines) known x k
 
-  unknown_may : (d : Driver) (r : ℕ) (file : LogFile) (lines : List (List ℕ)) → HasPath file → kind_of file ≢ None → IsLineSet lines → MayWrite d r file (unknown d r file lines)
+  unknown_may : (d : Driver) (r : ℕ) (file : LogFile) (lines : List (List ℕ)) → HasPath file → kind_of file ≢ None → IsLineSet lines → MayWrite d r file (unknown_lines d r file lines)
   unknown_may d r file lines path known set = record {
     path = path;
     known = known;
     set = laws.differs lines (lines_of d r file) set;
-    new = Each-from_members (λ line. ¬ Member line (lines_of d r file)) (unknown d r file lines) (λ line m. ((laws.lacking lines (lines_of d r file) line).0 m).1);
+    new = Each-from_members (λ line. ¬ Member line (lines_of d r file)) (unknown_lines d r file lines) (λ line m. ((laws.lacking lines (lines_of d r file) line).0 m).1);
   }
 
   pub keeps_writes : (d : Driver) (r : ℕ) (file : LogFile) (line : List ℕ) → r < length g.repos → HasPath file → kind_of file ≢ None → IsLine line → Keeps g d → Keeps g (writes r file line d)
-  keeps_writes d r file line known path kind is k = keeps_some d r file (unknown d r file (line ∷ [])) known (unknown_may d r file (line ∷ []) path kind (one_set line is)) k
+  keeps_writes d r file line known path kind is k = keeps_some d r file (unknown_lines d r file (line ∷ [])) known (unknown_may d r file (line ∷ []) path kind (one_set line is)) k
 
   pub keeps_status : (d : Driver) (r : ℕ) (key : List ℕ) → IsKeyText key → r < length g.repos → Keeps g d → Keeps g (logs_status g r key d)
   keeps_status d r key text known k = keeps_logs d r (Location key) (if_new has (status_line has (id_of g.repos r) true (wall_of g d r))) known
@@ -189,11 +189,11 @@ module _ (laws : Laws) where
   -- ---- the entries of a run log well
 
   module _ (s : SetUp) (past : List Entry) (keys : Each (λ o. IsKeyText o.key) (state_of s past).owed) where
-    session_log : (h : Here) (was : Doing) (asked : Option Message) (says : List FrameText) (lines : List (List ℕ)) (kind : EntryKind) → SessionKind h was asked says kind → LogsWell kind lines
+    session_log : (h : Here) (was : Doing) (asked : Option Message) (says : List FrameText) (lines : List (List ℕ)) (kind : EntryKind) → IsSessionEntry h was asked says kind → LogsWell kind lines
     session_log h was asked says lines (kinds.Log file) x = absurd x
     session_log h was asked says lines kind x = tt
 
-    job_log : (t : Turn) (m : Made) (lines : List (List ℕ)) (kind : EntryKind) → JobKind t m kind → LogsWell kind lines
+    job_log : (t : Turn) (m : Made) (lines : List (List ℕ)) (kind : EntryKind) → IsJobEntry t m kind → LogsWell kind lines
     job_log t m lines (kinds.Log file) x = absurd x
     job_log t m lines kind x = tt
 
@@ -216,7 +216,7 @@ module _ (laws : Laws) where
     own_log words e own = go own.does
       where
         go : IsStep s past words e ⊎ ComesAnyTime s past e → LogsWell e.kind e.lines
-        go (inl x) = subst (λ (z : Entry). LogsWell z.kind z.lines) (sym x.is) (step_log x.look x.made (laws.finds s (state_of s past) x.look x.made x.makes))
+        go (inl x) = subst (λ (z : Entry). LogsWell z.kind z.lines) (sym x.is) (step_log x.look x.made (laws.entries.finds s (state_of s past) x.look x.made x.makes))
         go (inr x) = come_log e.lines e.sent e.kind x.may
 
 wait_log : (before : ℕ) (e : Entry) (kind : EntryKind) (lines : List (List ℕ)) → TimeIs before e kind None → LogsWell kind lines
@@ -256,17 +256,17 @@ module _ (laws : Laws) (keys : OwedKeys) (repos : List RepoView) (P : ℕ → �
 
 -- ---- merges and compactions
 
-fits_files : (g : Given) (r : ℕ) (files : Files) (d : Driver) → Fits (merges_files r files d) → Fits d
+fits_files : (g : DriverInput) (r : ℕ) (files : Files) (d : Driver) → HasBoundedPast (merges_files r files d) → HasBoundedPast d
 fits_files g r [] d fits = fits
 fits_files g r (f ∷ files) d fits = go (fits_files g r files) (is_nil (news d r f.0 f.1)) (fails_at d r calls.PutFile) fits
   where
-    go : ((d : Driver) → Fits (merges_files r files d) → Fits d) → (b c : Bool)
-        → Fits (if b then merges_files r files d else (if c then faults r calls.PutFile d else merges_files r files (notes r (kinds.Log (file_of f.0)) (news d r f.0 f.1) d))) → Fits d
+    go : ((d : Driver) → HasBoundedPast (merges_files r files d) → HasBoundedPast d) → (b c : Bool)
+        → HasBoundedPast (if b then merges_files r files d else (if c then faults r calls.PutFile d else merges_files r files (notes r (kinds.Log (file_of f.0)) (news d r f.0 f.1) d))) → HasBoundedPast d
     go more true c x = more d x
     go more false true x = (x.0.1, x.1)
     go more false false x = let y = more (notes r (kinds.Log (file_of f.0)) (news d r f.0 f.1) d) x in (y.0.1, y.1)
 
-module _ (laws : Laws) (g : Given) (r : ℕ) (known : r < length g.repos) where
+module _ (laws : Laws) (g : DriverInput) (r : ℕ) (known : r < length g.repos) where
   keeps_files : (files : Files) (d : Driver) → Each FileWell files → Keeps g d → Keeps g (merges_files r files d)
   keeps_files [] d all k = k
   keeps_files (f ∷ files) d all k = go (keeps_files files) (is_nil (news d r f.0 f.1)) (fails_at d r calls.PutFile)

@@ -1,6 +1,6 @@
 -- A merge adds to each file of a branch the lines that it lacks. The branches of a run are well formed, so the merge leaves, path by
 -- path, the union of the lines of both.
-use Rattle.std.proofs.Common.{◌≡◌, ◌≢◌, ℕ, Bool, true, false, List, [], ◌∷◌, Option, Some, None, refl, sym, ap, ◌∙◌, subst, arith}
+use Rattle.std.proofs.Common.{◌≡◌, ◌≢◌, ℕ, Bool, true, false, List, [], ◌∷◌, Option, Some, None, refl, sym, ap, ◌∙◌, subst}
 use Rattle.std.specs.Prelude.{◌==◌, cond, if◌then◌else◌, reverse}
 use Rattle.std.specs.BTreeMap.{is_at}
 use Rattle.std.specs.Cmp.{Equal-is}
@@ -8,13 +8,12 @@ use Rattle.std.specs.Map.{keys_of}
 use Rattle.std.specs.Ordering.{match_ordering}
 use Rattle.std.specs.declared.cmp.Ordering.{Ordering}
 use Rattle.std.specs.declared.cmp.Ordering.TheVariants.{Less, Equal, Greater}
-use Rattle.std.proofs.lemmas.Bool.Decides.{nat_tests}
 use Rattle.std.proofs.lemmas.List.{reverse-reverse}
 use Rattle.annex_base.specs.ByteOrder.{Before, IsInOrder, text_cmp}
 use Rattle.annex_base.specs.Lists.{Each}
 use Rattle.annex_base.specs.declared.kinds.Call.{Call}
 use Rattle.annex_base.specs.declared.kinds.Call.TheVariants as calls
-use Rattle.annex_base.proofs.Conditions.{eqb_refl, if_same}
+use Rattle.annex_base.proofs.Conditions.{eqb_other, eqb_refl, if_same}
 use Rattle.annex_base.proofs.Lists.{Each-reverse}
 use Rattle.annex_base.proofs.TextOrder.{BeforeAll, BeforeAll-trans, after_before, order_cons, order_head, order_nil, order_tail, same_text}
 use Rattle.union_merge.specs.Branch.{Files, HasLinesOfBoth, IsBranch, file_at, lines_at, merge_by_path, merged_file, with_file, with_new_lines, with_some}
@@ -29,7 +28,7 @@ use Rattle.node_model.specs.Files.{compact_lines}
 use Rattle.run_model.specs.Logs.{branch, branch_after, compact_file}
 use Rattle.run_model.specs.Past.{is_of}
 use Rattle.run_model.specs.Run.{IsRun}
-use Rattle.driver_model.specs.Driver.{Driver, Given, fails_at, notes}
+use Rattle.driver_model.specs.Driver.{Driver, DriverInput, fails_at, notes}
 use Rattle.driver_model.specs.Driving.{run_with}
 use Rattle.driver_model.specs.Logged.{LogsWell}
 use Rattle.driver_model.specs.ScriptSteps.{faults, is_nil, merges, merges_files, news}
@@ -57,11 +56,8 @@ pub record MergeLaws : Type 0 where
 noted : (d : Driver) (r : ℕ) (kind : EntryKind) (lines : List (List ℕ)) → branch (notes r kind lines d).past r ≡ branch_after (branch d.past r) kind lines
 noted d r kind lines = ap (λ (b : Bool). if b then branch_after (branch d.past r) kind lines else branch d.past r) (eqb_refl r)
 
-not_same : (r q : ℕ) → q ≢ r → (r == q) ≡ false
-not_same r q apart = grind (arith, nat_tests)
-
 noted_other : (d : Driver) (r q : ℕ) (kind : EntryKind) (lines : List (List ℕ)) → q ≢ r → branch (notes r kind lines d).past q ≡ branch d.past q
-noted_other d r q kind lines apart = ap (λ (b : Bool). if b then branch_after (branch d.past q) kind lines else branch d.past q) (not_same r q apart)
+noted_other d r q kind lines apart = ap (λ (b : Bool). if b then branch_after (branch d.past q) kind lines else branch d.past q) (eqb_other r q apart)
 
 -- a call that fails leaves all branches
 faulted : (d : Driver) (r q : ℕ) (call : Call) → branch (faults r call d).past q ≡ branch d.past q
@@ -211,12 +207,12 @@ module _ (laws : MergeLaws) where
       go well false = well
 
   -- the branch of each repository of a run
-  run_branch_is : (g : Given) (d : Driver) → IsRun (run_with g d) → (r : ℕ) → IsBranch (branch d.past r)
+  run_branch_is : (g : DriverInput) (d : Driver) → IsRun (run_with g d) → (r : ℕ) → IsBranch (branch d.past r)
   run_branch_is g d run r = branch_is d.past r (subst (Each DoesLog) (reverse-reverse d.past) (Each-reverse DoesLog (reverse d.past) (laws.log (run_with g d) run)))
 
   -- ---- the lines of both
 
-  pub merged_union : (g : Given) (r other : ℕ) (d : Driver) → IsRun (run_with g d) → fails_at d r calls.PutFile ≡ false
+  pub merged_union : (g : DriverInput) (r other : ℕ) (d : Driver) → IsRun (run_with g d) → fails_at d r calls.PutFile ≡ false
       → HasLinesOfBoth (branch d.past r) (branch d.past other) (branch (merges r other d).past r)
   merged_union g r other d run well path =
       ap (λ (files : Files). lines_at files path) (merged_by_path laws.again r (branch d.past other) d well)

@@ -27,8 +27,8 @@ use Rattle.p2p_wire.specs.declared.message.Message.TheVariants.{AlreadyHave, Aut
 use Rattle.p2p_wire.specs.Messages.{alone, key_in, message_by, message_of, number_in, order_of, rest_in, text_in, then_in, with_file, with_key, with_number, with_one, word_in}
 use Rattle.node_model.specs.AnyTime.{MayCome}
 use Rattle.node_model.specs.Ends.{EndName, sent_at, server_end, taken_at}
-use Rattle.node_model.specs.Found.{BySession, GivesAt, JobKind, SessionKind, StepFound, TakesAt}
-use Rattle.node_model.specs.Jobs.{Orders, Phase, PutsAnswer, PutsOffer, Rows, Work, work_after, works_after}
+use Rattle.node_model.specs.Found.{BySession, GivesAt, IsJobEntry, IsSessionEntry, StepFound, TakesAt}
+use Rattle.node_model.specs.Jobs.{Orders, Phase, PutsAnswer, PutsOffer, RowsAndEnds, Work, work_after, works_after}
 use Rattle.node_model.specs.JobStep.{turn_of}
 use Rattle.node_model.specs.Look.{Look, Made}
 use Rattle.node_model.specs.Owed.{Owed, owed_for, due, owed_without, owed_line, owed_after, pays, same_lines, told_frame, told_line, told_to}
@@ -36,7 +36,7 @@ use Rattle.node_model.specs.Rows.{option_is}
 use Rattle.node_model.specs.SessionStep.{here}
 use Rattle.node_model.specs.Sessions.{Doing, Gives, Session, Takes, Took, Wants, doing_after, gave_bytes, gives, guards, line_in, reaches, message_said, sends_close, sent_more, sent_one, session_after, session_goes, session_left, session_took, takes_more, took_bytes, took_message, takes_from, wants}
 use Rattle.node_model.specs.SetUp.{SetUp}
-use Rattle.node_model.specs.Slots.{Running}
+use Rattle.node_model.specs.Slots.{RunningJob}
 use Rattle.hash_dirs.specs.LogPath.{location_path}
 use Rattle.run_data.specs.Files.{file_path}
 use Rattle.node_model.specs.Clocks.{wall}
@@ -44,7 +44,6 @@ use Rattle.run_model.specs.Logs.{lines_of_file}
 use Rattle.run_model.specs.Past.{is_of}
 use Rattle.run_model.specs.Run.{ComesAnyTime, IsStep, MayBe, OwnPart, RunPast}
 use Rattle.run_model.specs.States.{content, owes, rows_at, session, state_of, works}
-use Rattle.driver_model.proofs.JobKept.{after_kept}
 use Rattle.driver_model.proofs.Premises.{Laws}
 use Rattle.driver_model.proofs.Logged.{OwedKeys, set_ups}
 
@@ -246,13 +245,13 @@ module _ (laws : Laws) where
     ordered_well (Some n) key w = (laws.key_text key).0 w
 
     by_session : (k : Look) (m : Made) (x : BySession s (state_of s past) k m) (kind : EntryKind)
-        → SessionKind (here s (state_of s past) k (server_end x.peer x.slot)) (session past s.number (server_end x.peer x.slot)).doing x.asked x.says kind → KindWell kind
+        → IsSessionEntry (here s (state_of s past) k (server_end x.peer x.slot)) (session past s.number (server_end x.peer x.slot)).doing x.asked x.says kind → KindWell kind
     by_session k m x (Gain by size key) y = gain_well by size key (subst DoingWell y.took (well.doing (server_end x.peer x.slot)))
     by_session k m x (Gone by key) y = ordered_well y.deadline key (asked_well (server_end x.peer x.slot) x.asked x.says m (order_of y.deadline key) x.frame y.asks)
     by_session k m x (Begin job what) y = absurd y
     by_session k m x kind y = tt
 
-    by_work : (k : Look) (m : Made) (w : Work) → WorkWell w → (kind : EntryKind) → JobKind (turn_of s (state_of s past) k w) m kind → KindWell kind
+    by_work : (k : Look) (m : Made) (w : Work) → WorkWell w → (kind : EntryKind) → IsJobEntry (turn_of s (state_of s past) k w) m kind → KindWell kind
     by_work k m w is (Gain by size key) y = gain_well by size key (subst IsKeyText (sym y.key_is) is)
     by_work k m w is (Gone by key) y = subst IsKeyText (sym y.key_is) is
     by_work k m w is (Begin job what) y = absurd y
@@ -277,19 +276,19 @@ module _ (laws : Laws) where
     own_kind words e own = go own.does
       where
         go : IsStep s past words e ⊎ ComesAnyTime s past e → KindWell e.kind
-        go (inl x) = subst (λ (z : Entry). KindWell z.kind) (sym x.is) (by_step x.look x.made (laws.finds s (state_of s past) x.look x.made x.makes))
+        go (inl x) = subst (λ (z : Entry). KindWell z.kind) (sym x.is) (by_step x.look x.made (laws.entries.finds s (state_of s past) x.look x.made x.makes))
         go (inr x) = by_script e.lines e.sent e.kind x.may
 
   -- ---- one more entry
 
-  work_well : (rows : Rows) (r : ℕ) (e : Entry) (w : Work) → WorkWell w → WorkWell (work_after rows r e w)
-  work_well rows r e w is = subst IsKeyText (sym (ap (λ (x : Running). x.what.key) (after_kept rows r e w))) is
+  work_well : (rows : RowsAndEnds) (r : ℕ) (e : Entry) (w : Work) → WorkWell w → WorkWell (work_after rows r e w)
+  work_well rows r e w is = subst IsKeyText (sym (ap (λ (x : RunningJob). x.what.key) (laws.same_job rows r e w))) is
 
-  each_work : (rows : Rows) (r : ℕ) (e : Entry) (ws : List Work) → Each WorkWell ws → Each WorkWell (map (work_after rows r e) ws)
+  each_work : (rows : RowsAndEnds) (r : ℕ) (e : Entry) (ws : List Work) → Each WorkWell ws → Each WorkWell (map (work_after rows r e) ws)
   each_work rows r e [] all = tt
   each_work rows r e (w ∷ ws) all = (work_well rows r e w all.0, each_work rows r e ws all.1)
 
-  works_well : (rows : Rows) (r : ℕ) (ws : List Work) (e : Entry) (kind : EntryKind) → KindWell kind → Each WorkWell ws → Each WorkWell (works_after rows r ws e kind)
+  works_well : (rows : RowsAndEnds) (r : ℕ) (ws : List Work) (e : Entry) (kind : EntryKind) → KindWell kind → Each WorkWell ws → Each WorkWell (works_after rows r ws e kind)
   works_well rows r ws e (Begin job what) k all = (k, all)
   works_well rows r ws e (ends_job job outcome) k all = Each-filter WorkWell (λ w. not (w.number == job)) ws all
   works_well rows r ws e (Crash clock) k all = tt

@@ -22,9 +22,9 @@ use Rattle.node_model.specs.Look.{Look, Made, entry_of}
 use Rattle.node_model.specs.SetUp.{SetUp}
 use Rattle.node_model.specs.State.{State}
 use Rattle.node_model.specs.Step.{step}
-use Rattle.driver_model.specs.Driver.{Driver, Given, adds, drops_part, fails_at, notes, puts_part, set_up_of, state_at, without_old_flights}
+use Rattle.driver_model.specs.Driver.{Driver, DriverInput, adds, drops_part, fails_at, notes, puts_part, set_up_of, state_at, without_old_flights}
 use Rattle.driver_model.specs.Limits.{AddsOwn}
-use Rattle.driver_model.specs.ScriptSteps.{begins, begins_part, compacts_files, faults, fills_up, gains, has, is_busy, is_nil, logs, logs_some, merges_files, news, sets, sets_part, setting_line, shrinks, unknown, unless_busy, unless_fails, writes}
+use Rattle.driver_model.specs.ScriptSteps.{begins, begins_part, compacts_files, faults, fills_up, gains, has, is_busy, is_nil, logs, logs_some, merges_files, news, sets, sets_part, setting_line, shrinks, unknown_lines, unless_busy, unless_fails, writes}
 use Rattle.driver_model.specs.Turning.{bytes_taken, look_for, looks, makes, plain_look, turn}
 use Rattle.driver_model.proofs.Settles.{store_past}
 
@@ -68,9 +68,9 @@ module _ (r : ℕ) where
   some_owns file (line ∷ lines) d = logs_owns file (line ∷ lines) d
 
   pub writes_owns : (file : LogFile) (line : List ℕ) (d : Driver) → Owns d (writes r file line d)
-  writes_owns file line d = some_owns file (unknown d r file (line ∷ [])) d
+  writes_owns file line d = some_owns file (unknown_lines d r file (line ∷ [])) d
 
-  pub sets_owns : (g : Given) (kind : LogKind) (topic : Topic) (value : Value) (d : Driver) → Owns d (sets g r kind topic value d)
+  pub sets_owns : (g : DriverInput) (kind : LogKind) (topic : Topic) (value : Value) (d : Driver) → Owns d (sets g r kind topic value d)
   sets_owns g kind topic value d = writes_owns (Of kind) (setting_line g d r kind topic value) d
 
   pub merged_owns : (files : Files) (d : Driver) → Owns d (merges_files r files d)
@@ -101,10 +101,10 @@ module _ (r : ℕ) where
 
   -- ---- contents
 
-  gains_owns : (g : Given) (key bytes : List ℕ) (d : Driver) → Owns d (gains g r key bytes d)
+  gains_owns : (g : DriverInput) (key bytes : List ℕ) (d : Driver) → Owns d (gains g r key bytes d)
   gains_owns g key bytes d = then_grew d.past _ (gains g r key bytes d).past (one d.past _ (eqb_refl r)) (logs_owns _ _ _)
 
-  fills_owns : (g : Given) (key bytes : List ℕ) (d : Driver) → Owns d (fills_up g r key bytes d)
+  fills_owns : (g : DriverInput) (key bytes : List ℕ) (d : Driver) → Owns d (fills_up g r key bytes d)
   fills_owns g key bytes d = go (fails_at d r calls.Append)
     where
       put : Driver
@@ -114,17 +114,17 @@ module _ (r : ℕ) where
       go true = one d.past _ (eqb_refl r)
       go false = calling_owns put (gains g r key bytes put) calls.Commit (gains_owns g key bytes put)
 
-  unless_owns : (g : Given) (key : List ℕ) (d done : Driver) → Owns d done → Owns d (unless_busy g r key d done)
+  unless_owns : (g : DriverInput) (key : List ℕ) (d done : Driver) → Owns d done → Owns d (unless_busy g r key d done)
   unless_owns g key d done x = calling_owns d (if is_busy g d r key then d else unless_fails r calls.DropPart d done) calls.Has (go (is_busy g d r key))
     where
       go : (b : Bool) → Owns d (if b then d else unless_fails r calls.DropPart d done)
       go true = stays d.past d.past refl
       go false = calling_owns d done calls.DropPart x
 
-  pub has_owns : (g : Given) (key bytes : List ℕ) (d : Driver) → Owns d (has g r key bytes d)
+  pub has_owns : (g : DriverInput) (key bytes : List ℕ) (d : Driver) → Owns d (has g r key bytes d)
   has_owns g key bytes d = unless_owns g key d (fills_up g r key bytes (drops_part r key d)) (fills_owns g key bytes (drops_part r key d))
 
-  pub part_owns : (g : Given) (key bytes : List ℕ) (d : Driver) → Owns d (sets_part g r key bytes d)
+  pub part_owns : (g : DriverInput) (key bytes : List ℕ) (d : Driver) → Owns d (sets_part g r key bytes d)
   part_owns g key bytes d = unless_owns g key d (begins_part r key bytes (drops_part r key d))
       (calling_owns (drops_part r key d) (puts_part r key bytes (drops_part r key d)) calls.Append (stays d.past d.past refl))
 
@@ -141,11 +141,11 @@ module _ (r : ℕ) where
   makes_owns st k None d = stays d.past d.past refl
   makes_owns st k (Some m) d = (entry_of r k m ∷ [], store_past st r m (bytes_taken r m.taken d) m.kind (adds st r (entry_of r k m) d), (eqb_refl r, tt))
 
-  looks_owns : (g : Given) (s : SetUp) (st : State) (o : Option Made) (d : Driver) → Owns d (looks g r s st o d)
+  looks_owns : (g : DriverInput) (s : SetUp) (st : State) (o : Option Made) (d : Driver) → Owns d (looks g r s st o d)
   looks_owns g s st None d = stays d.past d.past refl
   looks_owns g s st (Some m) d = makes_owns st (look_for g d r s st m) (step s st (look_for g d r s st m)) d
 
-  pub turn_owns : (g : Given) (d : Driver) → Owns d (turn g r d)
+  pub turn_owns : (g : DriverInput) (d : Driver) → Owns d (turn g r d)
   turn_owns g d =
       let c : Driver = without_old_flights (state_at g d r) r d in
       looks_owns g (set_up_of g d r) (state_at g d r) (step (set_up_of g d r) (state_at g d r) (plain_look (set_up_of g d r) c)) c

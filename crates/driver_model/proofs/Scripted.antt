@@ -1,5 +1,5 @@
 -- The steps of a script that aren't turns keep what holds: each of their entries may come at any time.
-use Rattle.std.proofs.Common.{◌≡◌, ℕ, zero, suc, ◌+◌, ◌<◌, ◌≤◌, Bool, true, false, List, [], ◌∷◌, ◌++◌, Option, Some, None, inl, inr, refl, sym, ap, ◌∙◌, subst, arith, ◌≢◌}
+use Rattle.std.proofs.Common.{◌≡◌, ℕ, ◌+◌, ◌<◌, ◌≤◌, Bool, true, false, List, [], ◌∷◌, ◌++◌, Option, Some, None, inl, inr, refl, sym, ap, ◌∙◌, subst, arith, ◌≢◌}
 use Rattle.std.specs.Prelude.{if◌then◌else◌, ◌==◌, not, drop, length, map, nat_lt}
 use Rattle.std.specs.List.{range_with_len}
 use Rattle.std.proofs.lemmas.Bool.Decides.{nat_tests}
@@ -7,6 +7,7 @@ use Rattle.std.proofs.lemmas.List.{append-nil}
 use Rattle.annex_base.specs.Lists.{Each, Member}
 use Rattle.annex_base.specs.declared.kinds.Call.{Call}
 use Rattle.annex_base.proofs.Lists.{Each-from_members, Member-filter_from, Member-flat_map}
+use Rattle.annex_base.proofs.Numbers.{Member-range}
 use Rattle.run_data.specs.declared.entry.Entry.{Entry}
 use Rattle.run_data.specs.declared.entry.EntryKind.{EntryKind}
 use Rattle.run_data.specs.declared.entry.EntryKind.TheVariants as kinds
@@ -22,11 +23,11 @@ use Rattle.node_model.specs.Ends.{End, EndName}
 use Rattle.run_model.specs.States.{end_at, works}
 use Rattle.node_model.specs.AnyTime.{IsPeer, MayCome, all_ends, close_at, closes_all, ends_with, is_scripts}
 use Rattle.run_model.specs.Run.{ComesAfter, IsSmall}
-use Rattle.driver_model.specs.Driver.{Driver, Flight, Given, answers, entry, fails_at, newest_count, notes, set_up_of, state_at}
+use Rattle.driver_model.specs.Driver.{Driver, Flight, DriverInput, answers, entry, fails_at, newest_count, notes, set_up_of, state_at}
 use Rattle.driver_model.specs.ScriptSteps.{begins, unless_fails, closes, closes_each, closes_end, crashes, enters, faults, sends, waits, will_fail}
 use Rattle.driver_model.specs.Scripts.{IsJob}
 use Rattle.driver_model.specs.Sound.{ComesDown, GoesToOther, IsSound}
-use Rattle.driver_model.specs.Ways.{Flies, Over, other_end, numbered_body, bodies_sent, way_out}
+use Rattle.driver_model.specs.Ways.{Flies, IsOver, other_end, numbered_body, bodies_sent, way_out}
 use Rattle.driver_model.proofs.Premises.{Laws}
 use Rattle.driver_model.proofs.WayNumbers.{order_other, sent_same_as}
 use Rattle.driver_model.proofs.Holding.{Keeps, NewEntry, entry_on, keeps_adds, tree_on}
@@ -38,7 +39,7 @@ ends_none : (s : SetUp) (st : State) (lines : List (List ℕ)) (frames_sent : Li
 ends_none s st lines frames_sent kind j outcome may is = subst (MayCome s st lines frames_sent) is may
 
 -- an entry that may come at any time, and takes none
-come_entry : (g : Given) (d : Driver) (r : ℕ) (kind : EntryKind) (lines : List (List ℕ)) (frames_sent : List FrameView) → r < length g.repos → MayCome (set_up_of g d r) (state_at g d r) lines frames_sent kind
+come_entry : (g : DriverInput) (d : Driver) (r : ℕ) (kind : EntryKind) (lines : List (List ℕ)) (frames_sent : List FrameView) → r < length g.repos → MayCome (set_up_of g d r) (state_at g d r) lines frames_sent kind
     → NewEntry g d r (record (entry d r kind lines) { sent = frames_sent })
 come_entry g d r kind lines frames_sent known may = record {
   words = λ c. None;
@@ -51,11 +52,11 @@ come_entry g d r kind lines frames_sent known may = record {
 }
 
 -- an entry that only sends
-pub keeps_sends : Laws → (g : Given) (d : Driver) (r : ℕ) (kind : EntryKind) (frames_sent : List FrameView) → r < length g.repos → (IsSound g d → MayCome (set_up_of g d r) (state_at g d r) [] frames_sent kind) → Keeps g d → Keeps g (sends g r kind frames_sent d)
+pub keeps_sends : Laws → (g : DriverInput) (d : Driver) (r : ℕ) (kind : EntryKind) (frames_sent : List FrameView) → r < length g.repos → (IsSound g d → MayCome (set_up_of g d r) (state_at g d r) [] frames_sent kind) → Keeps g d → Keeps g (sends g r kind frames_sent d)
 keeps_sends laws g d r kind frames_sent known may k = keeps_adds laws g d r (state_at g d r) (record (entry d r kind []) { sent = frames_sent }) k (λ h fits fit. come_entry g d r kind [] frames_sent known (may h))
 
 -- an entry that sends nothing
-pub keeps_notes : Laws → (g : Given) (d : Driver) (r : ℕ) (kind : EntryKind) (lines : List (List ℕ)) → r < length g.repos → (IsSound g d → IsSmall kind → MayCome (set_up_of g d r) (state_at g d r) lines [] kind) → Keeps g d → Keeps g (notes r kind lines d)
+pub keeps_notes : Laws → (g : DriverInput) (d : Driver) (r : ℕ) (kind : EntryKind) (lines : List (List ℕ)) → r < length g.repos → (IsSound g d → IsSmall kind → MayCome (set_up_of g d r) (state_at g d r) lines [] kind) → Keeps g d → Keeps g (notes r kind lines d)
 keeps_notes laws g d r kind lines known may k fits =
     let h = keeps_adds laws g d r (state_at g d r) (entry d r kind lines) k (λ h fits fit. come_entry g d r kind lines [] known (may h fit.small)) fits in
     record {
@@ -69,10 +70,10 @@ keeps_notes laws g d r kind lines known may k fits =
 
 -- ---- store calls
 
-pub keeps_faults : Laws → (g : Given) (d : Driver) (r : ℕ) (call : Call) → r < length g.repos → is_scripts call ≡ true → Keeps g d → Keeps g (faults r call d)
+pub keeps_faults : Laws → (g : DriverInput) (d : Driver) (r : ℕ) (call : Call) → r < length g.repos → is_scripts call ≡ true → Keeps g d → Keeps g (faults r call d)
 keeps_faults laws g d r call known is k = keeps_notes laws g (answers r call d) r (kinds.Fault call Script) [] known (λ h small. (is, refl, refl)) (keeps_answers g d r call k)
 
-pub keeps_calling : Laws → (g : Given) (d : Driver) (r : ℕ) (call : Call) (done : Driver) → r < length g.repos → is_scripts call ≡ true → Keeps g d → (fails_at d r call ≡ false → Keeps g done) → Keeps g (unless_fails r call d done)
+pub keeps_calling : Laws → (g : DriverInput) (d : Driver) (r : ℕ) (call : Call) (done : Driver) → r < length g.repos → is_scripts call ≡ true → Keeps g d → (fails_at d r call ≡ false → Keeps g done) → Keeps g (unless_fails r call d done)
 keeps_calling laws g d r call done known is k more = go (fails_at d r call) refl
   where
     go : (b : Bool) → fails_at d r call ≡ b → Keeps g (if b then faults r call d else done)
@@ -81,14 +82,14 @@ keeps_calling laws g d r call done known is k more = go (fails_at d r call) refl
 
 -- ---- jobs
 
-peer_same : (g : Given) (d : Driver) (r : ℕ) (job : Job) → IsJob g r job → IsPeer (set_up_of g d r) job.kind job.peer
+peer_same : (g : DriverInput) (d : Driver) (r : ℕ) (job : Job) → IsJob g r job → IsPeer (set_up_of g d r) job.kind job.peer
 peer_same g d r job x = go job.peer x.peer
   where
     go : (p : Option ℕ) → IsPeer (record { number = r; repos = g.repos; paths = λ j. [] }) job.kind p → IsPeer (set_up_of g d r) job.kind p
     go None y = y
     go (Some p) y = y
 
-pub keeps_begins : Laws → (g : Given) (d : Driver) (r : ℕ) (job : Job) → r < length g.repos → IsJob g r job → Keeps g d → Keeps g (begins r job d)
+pub keeps_begins : Laws → (g : DriverInput) (d : Driver) (r : ℕ) (job : Job) → r < length g.repos → IsJob g r job → Keeps g d → Keeps g (begins r job d)
 keeps_begins laws g d r job known x k = go (nat_lt (length (works d.past r)) 4) refl
   where
     free : nat_lt (length (works d.past r)) 4 ≡ true → length (works d.past r) < 4
@@ -100,19 +101,9 @@ keeps_begins laws g d r job known x k = go (nat_lt (length (works d.past r)) 4) 
 
 -- ---- closes and crashes
 
-pub member_range : (a n k : ℕ) → a ≤ k → k < a + n → Member k (range_with_len a n)
-member_range a zero k i j = absurd (omega (arith, i, j))
-member_range a (suc n) k i j = go (member_range (a + 1) n k) (k == a) refl
-  where
-    go : (a + 1 ≤ k → k < a + 1 + n → Member k (range_with_len (a + 1) n)) → (b : Bool) → (k == a) ≡ b → Member k (a ∷ range_with_len (a + 1) n)
-    go more true e = inl (grind (arith, nat_tests))
-    go more false e =
-        let later : a < k = grind (arith, nat_tests) in
-        inr (more (omega (arith, later)) (omega (arith, j)))
-
 -- another repository is among the others
 pub other_is : (s : SetUp) (peer : ℕ) → peer < length s.repos → peer ≢ s.number → Member peer (others s)
-other_is s peer known apart = Member-filter_from (λ x. not (x == s.number)) (range_with_len 0 (length s.repos)) peer (member_range 0 (length s.repos) peer (omega arith) (omega (arith, known))) (rw differs refl)
+other_is s peer known apart = Member-filter_from (λ x. not (x == s.number)) (range_with_len 0 (length s.repos)) peer (Member-range 0 (length s.repos) peer (omega arith) (omega (arith, known))) (rw differs refl)
   where
     differs : (peer == s.number) ≡ false
     differs = go (peer == s.number) refl
@@ -121,7 +112,7 @@ other_is s peer known apart = Member-filter_from (λ x. not (x == s.number)) (ra
         go false e = refl
         go true e = absurd (apart (grind (arith, nat_tests)))
 
-each_close : Laws → (g : Given) (r : ℕ) → r < length g.repos → (ends : List EndName) → ((d : Driver) → Each (λ a. Member a (all_ends (set_up_of g d r))) ends) → (d : Driver) → Keeps g d → Keeps g (closes_each g r ends d)
+each_close : Laws → (g : DriverInput) (r : ℕ) → r < length g.repos → (ends : List EndName) → ((d : Driver) → Each (λ a. Member a (all_ends (set_up_of g d r))) ends) → (d : Driver) → Keeps g d → Keeps g (closes_each g r ends d)
 each_close laws g r known [] all d k = k
 each_close laws g r known (a ∷ ends) all d k = each_close laws g r known ends (λ d. (all d).1) (closes_end g r a d) (go (end_at d.past r a).opened refl)
   where
@@ -129,19 +120,19 @@ each_close laws g r known (a ∷ ends) all d k = each_close laws g r known ends 
     go true i = keeps_sends laws g d r (kinds.Close a.peer a.slot a.client) (close_at (set_up_of g d r) (state_at g d r) a) known (λ h. ((all d).0, i, refl, refl)) k
     go false i = k
 
-pub keeps_closes : Laws → (g : Given) (d : Driver) (r other : ℕ) → r < length g.repos → other < length g.repos → other ≢ r → Keeps g d → Keeps g (closes g r other d)
+pub keeps_closes : Laws → (g : DriverInput) (d : Driver) (r other : ℕ) → r < length g.repos → other < length g.repos → other ≢ r → Keeps g d → Keeps g (closes g r other d)
 keeps_closes laws g d r other known there apart k = each_close laws g r known (ends_with other true ++ ends_with other false) (λ d. Each-from_members (λ a. Member a (all_ends (set_up_of g d r))) (ends_with other true ++ ends_with other false) (λ a m. at d a m)) d k
   where
     at : (d : Driver) (a : EndName) → Member a (ends_with other true ++ ends_with other false) → Member a (all_ends (set_up_of g d r))
     at d a m = Member-flat_map (λ peer. ends_with peer true ++ ends_with peer false) (others (set_up_of g d r)) other a (other_is (set_up_of g d r) other there apart) m
 
-pub keeps_crashes : Laws → (g : Given) (d : Driver) (r clock : ℕ) → r < length g.repos → Keeps g d → Keeps g (crashes g r clock d)
+pub keeps_crashes : Laws → (g : DriverInput) (d : Driver) (r clock : ℕ) → r < length g.repos → Keeps g d → Keeps g (crashes g r clock d)
 keeps_crashes laws g d r clock known k = keeps_sends laws g d r (kinds.Crash clock) (closes_all (set_up_of g d r) (state_at g d r)) known (λ h. (refl, refl)) k
 
 -- ---- time, the tree, and lines that fail calls
 
 flies_other : (past : List Entry) (xs : List Flight) (e : Entry) → ((r : ℕ) → is_of r e ≡ false) → (r : ℕ) (a : EndName) (n : ℕ) → Flies past xs r a n → Flies (e ∷ past) xs r a n
-flies_other past xs e none r a n (inl o) = inl (subst (λ (c : End). Over c n) (sym same) o)
+flies_other past xs e none r a n (inl o) = inl (subst (λ (c : End). IsOver c n) (sym same) o)
   where
     same : end_at (e ∷ past) a.peer (other_end r a) ≡ end_at past a.peer (other_end r a)
     same = rw (none a.peer) refl
@@ -156,7 +147,7 @@ flies_other past xs e none r a n (inr l) = inr (record {
     told_same : bodies_sent (e ∷ past) (way_out r a n) ≡ bodies_sent past (way_out r a n)
     told_same = ap (map numbered_body) (sent_same_as e past (way_out r a n) (none (sender_of (way_out r a n))))
 
-pub keeps_waits : Laws → (g : Given) (d : Driver) (milliseconds : ℕ) → Keeps g d → Keeps g (waits milliseconds d)
+pub keeps_waits : Laws → (g : DriverInput) (d : Driver) (milliseconds : ℕ) → Keeps g d → Keeps g (waits milliseconds d)
 keeps_waits laws g d ms k fits =
     let h = k (fits.0.1, fits.1) in
     let fit = fits.0.0 in
@@ -177,10 +168,10 @@ keeps_waits laws g d ms k fits =
     after_newest' [] = tt
     after_newest' (f ∷ past) = inr (inl (omega arith))
 
-pub keeps_enters : Laws → (g : Given) (d : Driver) (path key : List ℕ) → Keeps g d → Keeps g (enters path key d)
+pub keeps_enters : Laws → (g : DriverInput) (d : Driver) (path key : List ℕ) → Keeps g d → Keeps g (enters path key d)
 keeps_enters laws g d path key k fits =
     let h = k fits in
     record { run = tree_on laws g d.tree d.marks d.past (record { place = length d.past; path = path; key = key }) refl h.run; flies = h.flies; order = h.order; down = h.down; apart = h.apart; parts = h.parts }
 
-pub keeps_will_fail : (g : Given) (d : Driver) (r : ℕ) (call : Call) → Keeps g d → Keeps g (will_fail r call d)
+pub keeps_will_fail : (g : DriverInput) (d : Driver) (r : ℕ) (call : Call) → Keeps g d → Keeps g (will_fail r call d)
 keeps_will_fail g d r call k fits = let h = k fits in record { run = h.run; flies = h.flies; order = h.order; down = h.down; apart = h.apart; parts = h.parts }

@@ -2,6 +2,7 @@
 use Rattle.std.proofs.Common.{◌≡◌, ℕ, zero, suc, ◌+◌, ◌*◌, ◌^◌, ◌<◌, ◌≤◌, Bool, true, false, List, [], ◌∷◌, Option, Some, None, refl, sym, ap, ◌∙◌, subst, arith}
 use Rattle.std.specs.Prelude.{if◌then◌else◌, ◌==◌, find, length}
 use Rattle.std.proofs.lemmas.Bool.Decides.{nat_tests}
+use Rattle.std.proofs.lemmas.Bool.{eqb-true}
 use Rattle.annex_base.specs.declared.kinds.Call.{Call}
 use Rattle.run_data.specs.declared.entry.Entry.{Entry}
 use Rattle.run_data.specs.declared.entry.EntryKind.{EntryKind}
@@ -15,10 +16,11 @@ use Rattle.node_model.specs.State.{State}
 use Rattle.node_model.specs.Look.{Look, Made}
 use Rattle.node_model.specs.Step.{step}
 use Rattle.annex_base.proofs.Lists.{find_member}
-use Rattle.driver_model.specs.Driver.{Driver, Given, without_old_flights, drops_part, fails_at, set_up_of, state_at}
+use Rattle.driver_model.specs.Driver.{Driver, DriverInput, without_old_flights, drops_part, fails_at, set_up_of, state_at}
 use Rattle.driver_model.specs.Turning.{all_calls, asked_key, bytes_taken, calm_look, fails_in, is_failure, is_valid, look_for, looks, makes, makes_fault, meets, plain_look, store_after, takes_frame, takes_into, turn}
-use Rattle.driver_model.specs.Rounds.{AfterRounds, came_to, goes_round, idle_after, is_idle, is_settled, most_rounds, numbers, round, rounds, turns_of}
+use Rattle.driver_model.specs.Rounds.{AfterRounds, after_round, goes_round, idle_after, is_idle, is_settled, most_rounds, numbers, round, rounds, turns_of}
 use Rattle.driver_model.proofs.EndsAlike.{still_steps}
+use Rattle.driver_model.proofs.Premises.{NamedJobs}
 use Rattle.driver_model.proofs.Settling.{goes, rounds_are, settled_stays}
 
 -- ---- a turn adds at most an entry
@@ -51,23 +53,23 @@ makes_more : (st : State) (r : ℕ) (k : Look) (o : Option Made) (d : Driver) �
 makes_more st r k None d = omega arith
 makes_more st r k (Some m) d = subst (λ (past : List Entry). many d ≤ length past) (sym (store_past st r m (bytes_taken r m.taken d) m.kind _)) (omega arith)
 
-looks_more : (g : Given) (r : ℕ) (s : SetUp) (st : State) (o : Option Made) (d : Driver) → many d ≤ many (looks g r s st o d)
+looks_more : (g : DriverInput) (r : ℕ) (s : SetUp) (st : State) (o : Option Made) (d : Driver) → many d ≤ many (looks g r s st o d)
 looks_more g r s st None d = omega arith
 looks_more g r s st (Some m) d = makes_more st r (look_for g d r s st m) (step s st (look_for g d r s st m)) d
 
-turn_more : (g : Given) (r : ℕ) (d : Driver) → many d ≤ many (turn g r d)
+turn_more : (g : DriverInput) (r : ℕ) (d : Driver) → many d ≤ many (turn g r d)
 turn_more g r d = looks_more g r (set_up_of g d r) (state_at g d r) (step (set_up_of g d r) (state_at g d r) (plain_look (set_up_of g d r) (without_old_flights (state_at g d r) r d))) (without_old_flights (state_at g d r) r d)
 
-turns_more : (g : Given) (rs : List ℕ) (d : Driver) → many d ≤ many (turns_of g rs d)
+turns_more : (g : DriverInput) (rs : List ℕ) (d : Driver) → many d ≤ many (turns_of g rs d)
 turns_more g [] d = omega arith
 turns_more g (r ∷ rs) d = let i = turn_more g r d in let j = turns_more g rs (turn g r d) in omega (arith, i, j)
 
-round_more : (g : Given) (d : Driver) → many d ≤ many (round g d)
+round_more : (g : DriverInput) (d : Driver) → many d ≤ many (round g d)
 round_more g d = turns_more g (numbers g) d
 
 -- ---- a turn makes an entry where a step is ready
 
-module _ (g : Given) (r : ℕ) (d : Driver) where
+module _ (names : NamedJobs) (g : DriverInput) (r : ℕ) (d : Driver) where
   abbrev s : SetUp
   s = set_up_of g d r
 
@@ -75,7 +77,7 @@ module _ (g : Given) (r : ℕ) (d : Driver) where
   st = state_at g d r
 
   met : (m : Made) (o : Option Call) → find (fails_in d r s st (calm_look g d r s st m)) all_calls ≡ o → step s st (plain_look s d) ≡ Some m → (m' : Made) × (step s st (record (calm_look g d r s st m) { fails = o }) ≡ Some m')
-  met m None i e = still_steps s st (plain_look s d) (calm_look g d r s st m).part (calm_look g d r s st m).right (calm_look g d r s st m).words m refl e
+  met m None i e = still_steps names s st (plain_look s d) (calm_look g d r s st m).part (calm_look g d r s st m).right (calm_look g d r s st m).words m refl e
   met m (Some call) i e = go (fails_at d r call) (find_member (fails_in d r s st (calm_look g d r s st m)) all_calls call i).1
     where
       some : (o : Option Made) → makes_fault o ≡ true → (m' : Made) × (o ≡ Some m')
@@ -91,8 +93,8 @@ module _ (g : Given) (r : ℕ) (d : Driver) where
   step_ready m e = met m (find (fails_in d r s st (calm_look g d r s st m)) all_calls) refl e
 
 -- a turn that adds no entry found no step ready, with all frames at hand
-pub idle_none : (g : Given) (r : ℕ) (d : Driver) → many (turn g r d) ≡ many d → step (set_up_of g d r) (state_at g d r) (plain_look (set_up_of g d r) (without_old_flights (state_at g d r) r d)) ≡ None
-idle_none g r d same = go (step s' st' (plain_look s' c)) refl same
+pub idle_none : NamedJobs → (g : DriverInput) (r : ℕ) (d : Driver) → many (turn g r d) ≡ many d → step (set_up_of g d r) (state_at g d r) (plain_look (set_up_of g d r) (without_old_flights (state_at g d r) r d)) ≡ None
+idle_none names g r d same = go (step s' st' (plain_look s' c)) refl same
   where
     s' : SetUp
     s' = set_up_of g d r
@@ -113,7 +115,7 @@ idle_none g r d same = go (step s' st' (plain_look s' c)) refl same
         → many (looks g r (set_up_of g d r) (state_at g d r) o (without_old_flights (state_at g d r) r d)) ≡ many d → o ≡ None
     go None i e = refl
     go (Some m) i e =
-        let x = step_ready g r (without_old_flights (state_at g d r) r d) m i in
+        let x = step_ready names g r (without_old_flights (state_at g d r) r d) m i in
         absurd (made m (step (set_up_of g d r) (state_at g d r) (look_for g (without_old_flights (state_at g d r) r d) r (set_up_of g d r) (state_at g d r) m)) x.0 x.1 e)
 
 -- ---- so many rounds need so many entries
@@ -121,13 +123,10 @@ idle_none g r d same = go (step s' st' (plain_look s' c)) refl same
 low : (x : AfterRounds) → is_settled x ≡ false → x.idle ≤ 1
 low x i = grind (arith, nat_tests)
 
-same_number : (a b : ℕ) → (a == b) ≡ true → a ≡ b
-same_number a b h = grind (arith, nat_tests)
-
 differs : (a b : ℕ) → (a == b) ≡ false → a ≤ b → a < b
 differs a b h i = grind (arith, nat_tests)
 
-unsettled : (g : Given) (k : ℕ) (x : AfterRounds) → is_settled (goes g k x) ≡ false → k + x.idle + 2 * many x.driver ≤ 2 * many (goes g k x).driver + (goes g k x).idle
+unsettled : (g : DriverInput) (k : ℕ) (x : AfterRounds) → is_settled (goes g k x) ≡ false → k + x.idle + 2 * many x.driver ≤ 2 * many (goes g k x).driver + (goes g k x).idle
 unsettled g zero x i = omega arith
 unsettled g (suc k) x i = go (unsettled g k) (is_settled x) refl
   where
@@ -135,18 +134,18 @@ unsettled g (suc k) x i = go (unsettled g k) (is_settled x) refl
         → (b : Bool) → is_settled x ≡ b → suc k + x.idle + 2 * many x.driver ≤ 2 * many (goes g (suc k) x).driver + (goes g (suc k) x).idle
     go more true j = absurd (let no' : true ≡ false = sym (ap is_settled (settled_stays g (suc k) x j) ∙ j) ∙ i in cc)
     go more false j = subst (λ (y : AfterRounds). suc k + x.idle + 2 * many x.driver ≤ 2 * many (goes g k y).driver + (goes g k y).idle) (sym is)
-        (at (is_idle x.driver (round g x.driver)) refl (more (came_to x (round g x.driver)) (subst (λ (y : AfterRounds). is_settled (goes g k y) ≡ false) is i)))
+        (at (is_idle x.driver (round g x.driver)) refl (more (after_round x (round g x.driver)) (subst (λ (y : AfterRounds). is_settled (goes g k y) ≡ false) is i)))
       where
-        is : goes_round g x ≡ came_to x (round g x.driver)
+        is : goes_round g x ≡ after_round x (round g x.driver)
         is = rw j refl
 
         e : AfterRounds
-        e = goes g k (came_to x (round g x.driver))
+        e = goes g k (after_round x (round g x.driver))
 
-        at : (b : Bool) → is_idle x.driver (round g x.driver) ≡ b → k + (idle_after x.driver (round g x.driver) x.idle) + 2 * many (round g x.driver) ≤ 2 * many (goes g k (came_to x (round g x.driver))).driver + (goes g k (came_to x (round g x.driver))).idle
-            → suc k + x.idle + 2 * many x.driver ≤ 2 * many (goes g k (came_to x (round g x.driver))).driver + (goes g k (came_to x (round g x.driver))).idle
+        at : (b : Bool) → is_idle x.driver (round g x.driver) ≡ b → k + (idle_after x.driver (round g x.driver) x.idle) + 2 * many (round g x.driver) ≤ 2 * many (goes g k (after_round x (round g x.driver))).driver + (goes g k (after_round x (round g x.driver))).idle
+            → suc k + x.idle + 2 * many x.driver ≤ 2 * many (goes g k (after_round x (round g x.driver))).driver + (goes g k (after_round x (round g x.driver))).idle
         at true h y =
-            let same : many x.driver ≡ many (round g x.driver) = same_number (many x.driver) (many (round g x.driver)) h in
+            let same : many x.driver ≡ many (round g x.driver) = eqb-true (many x.driver) (many (round g x.driver)) h in
             let next : idle_after x.driver (round g x.driver) x.idle ≡ x.idle + 1 = rw h refl in
             omega (arith, same, y, next)
         at false h y =
@@ -159,7 +158,7 @@ unsettled g (suc k) x i = go (unsettled g k) (is_settled x) refl
 too_many : (p m n k i : ℕ) → 4194304 ≤ p → n < 2000000 → i ≤ 1 → p + k + 2 * m ≤ 2 * n + i → ⊥
 too_many p m n k i big few l h = omega (arith, big, few, l, h)
 
-bounded : (g : Given) (n : ℕ) (x : AfterRounds) → 4194304 ≤ 2 ^ n → length (rounds g n x).driver.past < 2000000 → is_settled (rounds g n x) ≡ true
+bounded : (g : DriverInput) (n : ℕ) (x : AfterRounds) → 4194304 ≤ 2 ^ n → length (rounds g n x).driver.past < 2000000 → is_settled (rounds g n x) ≡ true
 bounded g n x big few = go (is_settled (rounds g n x)) refl
   where
     all : rounds g n x ≡ goes g (2 ^ n) x
@@ -174,5 +173,5 @@ bounded g n x big few = go (is_settled (rounds g n x)) refl
         absurd (too_many (2 ^ n) (many x.driver) (many (rounds g n x).driver) x.idle (rounds g n x).idle big few l k)
 
 -- while there are fewer than two million entries the bound isn't met: the rounds end with two idle ones
-pub bound_not_met : (g : Given) (x : AfterRounds) (bound : ℕ) → bound ≡ most_rounds → length (rounds g bound x).driver.past < 2000000 → is_settled (rounds g bound x) ≡ true
+pub bound_not_met : (g : DriverInput) (x : AfterRounds) (bound : ℕ) → bound ≡ most_rounds → length (rounds g bound x).driver.past < 2000000 → is_settled (rounds g bound x) ≡ true
 bound_not_met g x bound e few = bounded g bound x (subst (λ n. 4194304 ≤ 2 ^ n) (sym e) (omega arith)) few

@@ -1,33 +1,33 @@
 -- The numbers of an end are at most twice as many as the entries of the run.
-use Rattle.std.proofs.Common.{◌≡◌, ℕ, zero, suc, ◌+◌, ◌<◌, ◌≤◌, Bool, true, false, List, [], ◌∷◌, ◌++◌, Option, Some, None, ◌⊎◌, inl, inr, refl, sym, ap, ◌∙◌, subst, arith, true≢false}
-use Rattle.std.specs.Prelude.{◌*◌, ◌&&◌, ◌==◌, filter, fold, if◌then◌else◌, length, map, nat_le, slice_get}
+use Rattle.std.proofs.Common.{◌≡◌, ℕ, zero, suc, ◌+◌, ◌<◌, ◌≤◌, Bool, true, false, List, [], ◌∷◌, ◌++◌, Option, Some, None, refl, sym, ap, ◌∙◌, subst, arith, true≢false}
+use Rattle.std.specs.Prelude.{◌*◌, ◌&&◌, ◌==◌, filter, if◌then◌else◌, length, map, nat_le, slice_get}
 use Rattle.std.proofs.lemmas.Bool.{and_parts, eqb-true}
 use Rattle.std.proofs.lemmas.Bool.Decides.{nat_tests}
 use Rattle.std.proofs.lemmas.List.{length-map}
 use Rattle.annex_base.specs.Lists.{Each}
 use Rattle.annex_base.specs.declared.kinds.Word.{Word}
 use Rattle.annex_base.proofs.Conditions.{eqb_refl}
-use Rattle.annex_base.proofs.Lists.{Each-append, Each-filter}
+use Rattle.annex_base.proofs.Lists.{Each-append}
 use Rattle.run_data.specs.declared.entry.Entry.{Entry}
 use Rattle.run_data.specs.declared.entry.FrameView.{FrameView}
 use Rattle.run_data.specs.declared.entry.FrameText.{FrameText}
 use Rattle.run_data.specs.declared.entry.FrameText.TheVariants.{Opening, Closing, Bytes, Line}
 use Rattle.run_data.specs.declared.run.Run.{Run}
-use Rattle.run_model.specs.Frames.{Flying, MayTake, Way, flying, frames_sent, is_on, on_way, sender_of, taken_count, taker_of, way_of}
+use Rattle.run_model.specs.Frames.{FlyingFrame, MayTake, Way, flying_frame, frames_sent, is_on, on_way, sender_of, taken_count, taker_of, way_of}
 use Rattle.run_model.specs.Past.{is_of}
-use Rattle.run_model.specs.Run.{FramesPart, MayBe, OwnPart, RunPast, RunStep, set_up}
+use Rattle.run_model.specs.Run.{MayBe, OwnPart, RunPast, RunStep, set_up}
 use Rattle.run_model.specs.States.{end_at}
 use Rattle.node_model.specs.Ends.{End, EndName, end_after, end_sends, end_takes, end_took, is_opening, same_bool, sent_at, taken_at, takes_at}
 use Rattle.node_model.specs.Rows.{option_is}
 use Rattle.node_model.specs.SetUp.{SetUp}
-use Rattle.driver_model.specs.Driver.{Driver, Given}
+use Rattle.driver_model.specs.Driver.{Driver, DriverInput}
 use Rattle.driver_model.specs.Sound.{IsSound}
-use Rattle.driver_model.specs.Ways.{InOrder, way_out}
-use Rattle.driver_model.proofs.EndLemmas.{own_down, sends_all}
+use Rattle.driver_model.specs.Ways.{InOrder}
+use Rattle.driver_model.proofs.EndLemmas.{sends_all}
 use Rattle.driver_model.proofs.FewFrames.{few_sent}
 use Rattle.driver_model.proofs.FrameNumbers.{TakesWell}
 use Rattle.driver_model.proofs.Holding.{run_on, steps_on}
-use Rattle.driver_model.proofs.Premises.{StepsFind}
+use Rattle.driver_model.proofs.Premises.{EntryLaws}
 use Rattle.driver_model.proofs.WayNumbers.{order_begins, order_other, order_own}
 
 -- ---- one end
@@ -69,7 +69,7 @@ same_both false true e = absurd (true≢false (sym e))
 same_both false false e = refl
 
 -- what is known of the frames that were sent on a way
-abbrev GoesWell : Way → Flying → Type 0
+abbrev GoesWell : Way → FlyingFrame → Type 0
 GoesWell w x = (x.frame.up ≡ w.up) × Down x.frame
 
 -- what holds after entries of a run
@@ -90,7 +90,7 @@ some_there (y ∷ xs) i x e none = omega (arith, none)
 kept_first : Kept []
 kept_first = record { order = order_begins; sent = λ w. tt; small = λ r a. record { sent = omega arith; epoch = omega arith } }
 
-sent_well : (w : Way) (e : Entry) (past : List Entry) (fs : List FrameView) → Each Down fs → Each (GoesWell w) (map (flying e past) (filter (is_on w (taker_of w)) fs))
+sent_well : (w : Way) (e : Entry) (past : List Entry) (fs : List FrameView) → Each Down fs → Each (GoesWell w) (map (flying_frame e past) (filter (is_on w (taker_of w)) fs))
 sent_well w e past [] all = tt
 sent_well w e past (g ∷ fs) all = go (is_on w (taker_of w) g) refl (sent_well w e past fs all.1)
   where
@@ -100,7 +100,7 @@ sent_well w e past (g ∷ fs) all = go (is_on w (taker_of w) g) refl (sent_well 
         let two = and_parts (g.slot == w.slot) (same_bool g.up w.up && (g.epoch == w.epoch)) one.1 in
         same_both g.up w.up (and_parts (same_bool g.up w.up) (g.epoch == w.epoch) two.1).0
 
-    go : (b : Bool) → is_on w (taker_of w) g ≡ b → Each (GoesWell w) (map (flying e past) (filter (is_on w (taker_of w)) fs)) → Each (GoesWell w) (map (flying e past) (filter (is_on w (taker_of w)) (g ∷ fs)))
+    go : (b : Bool) → is_on w (taker_of w) g ≡ b → Each (GoesWell w) (map (flying_frame e past) (filter (is_on w (taker_of w)) fs)) → Each (GoesWell w) (map (flying_frame e past) (filter (is_on w (taker_of w)) (g ∷ fs)))
     go true is more = rw is ((up is, all.0), more)
     go false is more = rw is more
 
@@ -135,7 +135,7 @@ module _ (past : List Entry) (e : Entry) (kept : Kept past) where
 
   -- ---- an entry of a repository
 
-  module _ (finds : StepsFind) (s : SetUp) (words : ℕ → Option Word) (mine : e.repo ≡ Some s.number) (own : OwnPart s past words e) (takes : (f : FrameView) → e.taken ≡ Some f → MayTake past (way_of s.number f) f) where
+  module _ (laws : EntryLaws) (s : SetUp) (words : ℕ → Option Word) (mine : e.repo ≡ Some s.number) (own : OwnPart s past words e) (takes : (f : FrameView) → e.taken ≡ Some f → MayTake past (way_of s.number f) f) where
     is_own : is_of s.number e ≡ true
     is_own = ap (λ (o : Option ℕ). option_is o s.number) mine ∙ eqb_refl s.number
 
@@ -155,8 +155,8 @@ module _ (past : List Entry) (e : Entry) (kept : Kept past) where
         t : MayTake past (way_of s.number f) f
         t = takes f i
 
-        count : length (map (λ (x : Flying). x.frame) (frames_sent past (way_of s.number f))) ≡ 0 → ⊥
-        count none = some_there (frames_sent past (way_of s.number f)) (taken_count past (way_of s.number f)) t.it t.next (sym (length-map (frames_sent past (way_of s.number f)) (λ (x : Flying). x.frame)) ∙ none)
+        count : length (map (λ (x : FlyingFrame). x.frame) (frames_sent past (way_of s.number f))) ≡ 0 → ⊥
+        count none = some_there (frames_sent past (way_of s.number f)) (taken_count past (way_of s.number f)) t.it t.next (sym (length-map (frames_sent past (way_of s.number f)) (λ (x : FlyingFrame). x.frame)) ∙ none)
 
         go : (q : Bool) → nat_le f.epoch (end_at past f.peer b).epoch ≡ q → f.epoch ≤ 2 * length past
         go true j = let k = (kept.small f.peer b).epoch in let l : f.epoch ≤ (end_at past f.peer b).epoch = grind (arith, nat_tests) in omega (arith, k, l)
@@ -175,7 +175,7 @@ module _ (past : List Entry) (e : Entry) (kept : Kept past) where
 
     small_own : (a : EndName) → AtMost (end_at (e ∷ past) s.number a) (2 * length (e ∷ past))
     small_own a =
-        let few = few_sent finds s past words e a own in
+        let few = few_sent laws.finds s past words e a own in
         let i = longer past e in
         subst (λ (c : End). AtMost c (2 * length (e ∷ past))) (sym same)
         (wider (sends_all (end_took (end_at past s.number a) (taken_at a e.taken)) (sent_at a e.sent)) (2 * length past + length (sent_at a e.sent)) (2 * length (e ∷ past)) (omega (arith, few, i))
@@ -192,18 +192,18 @@ module _ (past : List Entry) (e : Entry) (kept : Kept past) where
       where
         go : (q : Bool) → is_of r e ≡ q → InOrder (e ∷ past) r a n
         go false i = order_other r a n past e i (kept.order r a n)
-        go true i = subst (λ (k : ℕ). InOrder (e ∷ past) k a n) (number_is r i) (order_own finds s a n past words e is_own own well (kept.order s.number a n))
+        go true i = subst (λ (k : ℕ). InOrder (e ∷ past) k a n) (number_is r i) (order_own laws s a n past words e is_own own well (kept.order s.number a n))
 
     sent_after : (w : Way) → Each (GoesWell w) (frames_sent (e ∷ past) w)
     sent_after w = go (is_of (sender_of w) e) refl
       where
-        same : is_of (sender_of w) e ≡ true → frames_sent (e ∷ past) w ≡ frames_sent past w ++ map (flying e past) (on_way w e)
+        same : is_of (sender_of w) e ≡ true → frames_sent (e ∷ past) w ≡ frames_sent past w ++ map (flying_frame e past) (on_way w e)
         same i = rw i refl
 
         go : (q : Bool) → is_of (sender_of w) e ≡ q → Each (GoesWell w) (frames_sent (e ∷ past) w)
         go false i = sent_others w i
         go true i = subst (Each (GoesWell w)) (sym (same i))
-            (Each-append (GoesWell w) (frames_sent past w) (map (flying e past) (on_way w e)) (kept.sent w) (sent_well w e past e.sent (own_down finds s past words e own)))
+            (Each-append (GoesWell w) (frames_sent past w) (map (flying_frame e past) (on_way w e)) (kept.sent w) (sent_well w e past e.sent (laws.sends s past words e own)))
 
     small_after : (r : ℕ) (a : EndName) → AtMost (end_at (e ∷ past) r a) (2 * length (e ∷ past))
     small_after r a = go (is_of r e) refl
@@ -215,17 +215,17 @@ module _ (past : List Entry) (e : Entry) (kept : Kept past) where
     kept_own : Kept (e ∷ past)
     kept_own = record { order = order_after; sent = sent_after; small = small_after }
 
-kept_next : StepsFind → (run : Run) (past : List Entry) (e : Entry) → RunStep (set_up run) past e → Kept past → Kept (e ∷ past)
-kept_next finds run past e step before = go e.repo refl step.may
+kept_next : EntryLaws → (run : Run) (past : List Entry) (e : Entry) → RunStep (set_up run) past e → Kept past → Kept (e ∷ past)
+kept_next laws run past e step before = go e.repo refl step.may
   where
     go : (o : Option ℕ) → e.repo ≡ o → MayBe (set_up run) past e o → Kept (e ∷ past)
     go None i may = kept_wait past e before i
-    go (Some r) i may = kept_own past e before finds (set_up run r) may.0 i may.1 may.2.takes
+    go (Some r) i may = kept_own past e before laws (set_up run r) may.0 i may.1 may.2.takes
 
-kept_run : StepsFind → (run : Run) (past : List Entry) → RunPast (set_up run) past → Kept past
-kept_run finds run [] steps = kept_first
-kept_run finds run (e ∷ past) steps = kept_next finds run past e steps.0 (kept_run finds run past steps.1)
+kept_run : EntryLaws → (run : Run) (past : List Entry) → RunPast (set_up run) past → Kept past
+kept_run laws run [] steps = kept_first
+kept_run laws run (e ∷ past) steps = kept_next laws run past e steps.0 (kept_run laws run past steps.1)
 
 -- in a driver that is sound
-pub small_ends : StepsFind → (g : Given) (d : Driver) (r : ℕ) (a : EndName) → IsSound g d → AtMost (end_at d.past r a) (2 * length d.past)
-small_ends finds g d r a sound = (kept_run finds (run_on g d.tree d.marks d.past) d.past (steps_on g d.tree d.marks d.past sound.run)).small r a
+pub small_ends : EntryLaws → (g : DriverInput) (d : Driver) (r : ℕ) (a : EndName) → IsSound g d → AtMost (end_at d.past r a) (2 * length d.past)
+small_ends laws g d r a sound = (kept_run laws (run_on g d.tree d.marks d.past) d.past (steps_on g d.tree d.marks d.past sound.run)).small r a

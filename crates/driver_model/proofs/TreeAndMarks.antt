@@ -27,10 +27,10 @@ use Rattle.node_model.specs.State.{State}
 use Rattle.node_model.specs.Step.{step}
 use Rattle.driver_model.specs.Lines.{Agendum, BlockLine, Line, Runs, Crashes, Closes, Fails, Have, SetPart, Add, File, Set, Raw, Merge, Compact, Begin, Turns, Settle, Close, Crash, Wait, Fail, Par, Shows}
 use Rattle.driver_model.specs.Lines
-use Rattle.driver_model.specs.Driver.{Driver, Given, adds, drops_part, fails_at, notes, puts_part, set_up_of, state_at, without_old_flights}
-use Rattle.driver_model.specs.ScriptSteps.{begins, begins_part, unless_fails, closes, closes_each, closes_end, compacts_files, crashes, enters, faults, fills_up, gains, gets_content, has, is_busy, is_nil, lines_of, logs, logs_some, logs_status, merges_files, news, sends, sets_part, setting_line, shrinks, unknown, unless_busy, wall_of, will_fail, writes}
+use Rattle.driver_model.specs.Driver.{Driver, DriverInput, adds, drops_part, fails_at, notes, puts_part, set_up_of, state_at, without_old_flights}
+use Rattle.driver_model.specs.ScriptSteps.{begins, begins_part, unless_fails, closes, closes_each, closes_end, compacts_files, crashes, enters, faults, fills_up, gains, gets_content, has, is_busy, is_nil, lines_of, logs, logs_some, logs_status, merges_files, news, sends, sets_part, setting_line, shrinks, unknown_lines, unless_busy, wall_of, will_fail, writes}
 use Rattle.driver_model.specs.Turning.{asked_key, bytes_taken, is_failure, is_valid, look_for, looks, makes, plain_look, store_after, takes_frame, takes_into, turn}
-use Rattle.driver_model.specs.Rounds.{Agenda, InBlock, AfterRounds, agenda, block_round, block_rounds, blocks, came_to, goes_round, is_over, is_settled, may_begin, most_rounds, numbers, round, rounds, settles, takes, takes_all, takes_each, turns_of, with_round}
+use Rattle.driver_model.specs.Rounds.{Agenda, InBlock, AfterRounds, agenda, block_round, block_rounds, blocks, after_round, goes_round, is_over, is_settled, may_begin, most_rounds, numbers, round, rounds, settles, takes, takes_all, takes_each, turns_of, with_round}
 use Rattle.driver_model.specs.Driving.{does, turns}
 use Rattle.driver_model.specs.Limits.{names_path}
 
@@ -61,7 +61,7 @@ some_same r file [] d = itself d
 some_same r file (line ∷ lines) d = logs_same r file (line ∷ lines) d
 
 writes_same : (r : ℕ) (file : LogFile) (line : List ℕ) (d : Driver) → Same d (writes r file line d)
-writes_same r file line d = some_same r file (unknown d r file (line ∷ [])) d
+writes_same r file line d = some_same r file (unknown_lines d r file (line ∷ [])) d
 
 merged_same : (r : ℕ) (files : Files) (d : Driver) → Same d (merges_files r files d)
 merged_same r [] d = itself d
@@ -91,13 +91,13 @@ compacted_same r (f ∷ files) d = go (compacted_same r files d) (compacted_same
 
 -- ---- contents
 
-status_same : (g : Given) (r : ℕ) (key : List ℕ) (d : Driver) → Same d (logs_status g r key d)
+status_same : (g : DriverInput) (r : ℕ) (key : List ℕ) (d : Driver) → Same d (logs_status g r key d)
 status_same g r key d = logs_same r (Location key) (if_new (lines_of d r (Location key)) (status_line (lines_of d r (Location key)) (id_of g.repos r) true (wall_of g d r))) d
 
-gains_same : (g : Given) (r : ℕ) (key bytes : List ℕ) (d : Driver) → Same d (gains g r key bytes d)
+gains_same : (g : DriverInput) (r : ℕ) (key bytes : List ℕ) (d : Driver) → Same d (gains g r key bytes d)
 gains_same g r key bytes d = status_same g r key (gets_content r key bytes d)
 
-fills_same : (g : Given) (r : ℕ) (key bytes : List ℕ) (d : Driver) → Same d (fills_up g r key bytes d)
+fills_same : (g : DriverInput) (r : ℕ) (key bytes : List ℕ) (d : Driver) → Same d (fills_up g r key bytes d)
 fills_same g r key bytes d = go (fails_at d r calls.Append)
   where
     put : Driver
@@ -107,17 +107,17 @@ fills_same g r key bytes d = go (fails_at d r calls.Append)
     go true = (refl, refl)
     go false = calling_same put (gains g r key bytes put) r calls.Commit (gains_same g r key bytes put)
 
-unless_same : (g : Given) (r : ℕ) (key : List ℕ) (d done : Driver) → Same d done → Same d (unless_busy g r key d done)
+unless_same : (g : DriverInput) (r : ℕ) (key : List ℕ) (d done : Driver) → Same d done → Same d (unless_busy g r key d done)
 unless_same g r key d done x = calling_same d (if is_busy g d r key then d else unless_fails r calls.DropPart d done) r calls.Has (go (is_busy g d r key))
   where
     go : (b : Bool) → Same d (if b then d else unless_fails r calls.DropPart d done)
     go true = itself d
     go false = calling_same d done r calls.DropPart x
 
-has_same : (g : Given) (r : ℕ) (key bytes : List ℕ) (d : Driver) → Same d (has g r key bytes d)
+has_same : (g : DriverInput) (r : ℕ) (key bytes : List ℕ) (d : Driver) → Same d (has g r key bytes d)
 has_same g r key bytes d = unless_same g r key d (fills_up g r key bytes (drops_part r key d)) (fills_same g r key bytes (drops_part r key d))
 
-part_same : (g : Given) (r : ℕ) (key bytes : List ℕ) (d : Driver) → Same d (sets_part g r key bytes d)
+part_same : (g : DriverInput) (r : ℕ) (key bytes : List ℕ) (d : Driver) → Same d (sets_part g r key bytes d)
 part_same g r key bytes d = unless_same g r key d (begins_part r key bytes (drops_part r key d))
     (calling_same (drops_part r key d) (puts_part r key bytes (drops_part r key d)) r calls.Append (refl, refl))
 
@@ -130,18 +130,18 @@ begins_same r job d = go (nat_lt (length (works d.past r)) 4)
     go true = (refl, refl)
     go false = itself d
 
-close_same : (g : Given) (r : ℕ) (a : EndName) (d : Driver) → Same d (closes_end g r a d)
+close_same : (g : DriverInput) (r : ℕ) (a : EndName) (d : Driver) → Same d (closes_end g r a d)
 close_same g r a d = go (end_at d.past r a).opened
   where
     go : (b : Bool) → Same d (if b then sends g r (kinds.Close a.peer a.slot a.client) (close_at (set_up_of g d r) (state_at g d r) a) d else d)
     go true = (refl, refl)
     go false = itself d
 
-each_same : (g : Given) (r : ℕ) (ends : List EndName) (d : Driver) → Same d (closes_each g r ends d)
+each_same : (g : DriverInput) (r : ℕ) (ends : List EndName) (d : Driver) → Same d (closes_each g r ends d)
 each_same g r [] d = itself d
 each_same g r (a ∷ ends) d = then_same d (closes_end g r a d) (closes_each g r ends (closes_end g r a d)) (close_same g r a d) (each_same g r ends (closes_end g r a d))
 
-closes_same : (g : Given) (r other : ℕ) (d : Driver) → Same d (closes g r other d)
+closes_same : (g : DriverInput) (r other : ℕ) (d : Driver) → Same d (closes g r other d)
 closes_same g r other d = each_same g r (ends_with other true ++ ends_with other false) d
 
 -- ---- turns, and rounds of them
@@ -171,34 +171,34 @@ makes_same : (st : State) (r : ℕ) (k : Look) (o : Option Made) (d : Driver) �
 makes_same st r k None d = itself d
 makes_same st r k (Some m) d = store_same st r m (bytes_taken r m.taken d) m.kind (adds st r (entry_of r k m) d)
 
-looks_same : (g : Given) (r : ℕ) (s : SetUp) (st : State) (o : Option Made) (d : Driver) → Same d (looks g r s st o d)
+looks_same : (g : DriverInput) (r : ℕ) (s : SetUp) (st : State) (o : Option Made) (d : Driver) → Same d (looks g r s st o d)
 looks_same g r s st None d = itself d
 looks_same g r s st (Some m) d = makes_same st r (look_for g d r s st m) (step s st (look_for g d r s st m)) d
 
-pub turn_same : (g : Given) (r : ℕ) (d : Driver) → Same d (turn g r d)
+pub turn_same : (g : DriverInput) (r : ℕ) (d : Driver) → Same d (turn g r d)
 turn_same g r d =
     let c : Driver = without_old_flights (state_at g d r) r d in
     looks_same g r (set_up_of g d r) (state_at g d r) (step (set_up_of g d r) (state_at g d r) (plain_look (set_up_of g d r) c)) c
 
-turns_same : (g : Given) (r n : ℕ) (d : Driver) → Same d (turns g r n d)
+turns_same : (g : DriverInput) (r n : ℕ) (d : Driver) → Same d (turns g r n d)
 turns_same g r zero d = itself d
 turns_same g r (suc n) d = then_same d (turn g r d) (turns g r n (turn g r d)) (turn_same g r d) (turns_same g r n (turn g r d))
 
-turns_of_same : (g : Given) (rs : List ℕ) (d : Driver) → Same d (turns_of g rs d)
+turns_of_same : (g : DriverInput) (rs : List ℕ) (d : Driver) → Same d (turns_of g rs d)
 turns_of_same g [] d = itself d
 turns_of_same g (r ∷ rs) d = then_same d (turn g r d) (turns_of g rs (turn g r d)) (turn_same g r d) (turns_of_same g rs (turn g r d))
 
-round_same : (g : Given) (d : Driver) → Same d (round g d)
+round_same : (g : DriverInput) (d : Driver) → Same d (round g d)
 round_same g d = turns_of_same g (numbers g) d
 
-goes_same : (g : Given) (x : AfterRounds) → Same x.driver (goes_round g x).driver
+goes_same : (g : DriverInput) (x : AfterRounds) → Same x.driver (goes_round g x).driver
 goes_same g x = go (is_settled x)
   where
-    go : (b : Bool) → Same x.driver (if b then x else came_to x (round g x.driver)).driver
+    go : (b : Bool) → Same x.driver (if b then x else after_round x (round g x.driver)).driver
     go true = itself x.driver
     go false = round_same g x.driver
 
-rounds_same : (g : Given) (n : ℕ) (x : AfterRounds) → Same x.driver (rounds g n x).driver
+rounds_same : (g : DriverInput) (n : ℕ) (x : AfterRounds) → Same x.driver (rounds g n x).driver
 rounds_same g zero x = goes_same g x
 rounds_same g (suc n) x = go (then_same x.driver (rounds g n x).driver (rounds g n (rounds g n x)).driver (rounds_same g n x) (rounds_same g n (rounds g n x))) (is_settled x)
   where
@@ -206,12 +206,12 @@ rounds_same g (suc n) x = go (then_same x.driver (rounds g n x).driver (rounds g
     go more true = itself x.driver
     go more false = more
 
-settles_same : (g : Given) (d : Driver) → Same d (settles g d)
+settles_same : (g : DriverInput) (d : Driver) → Same d (settles g d)
 settles_same g d = rounds_same g most_rounds (record { driver = d; idle = 0 })
 
 -- ---- blocks
 
-takes_same : (g : Given) (r : ℕ) (ls : List BlockLine) (jobs : List ℕ) (d : Driver) → Same d (takes_all g r ls jobs d).driver
+takes_same : (g : DriverInput) (r : ℕ) (ls : List BlockLine) (jobs : List ℕ) (d : Driver) → Same d (takes_all g r ls jobs d).driver
 takes_same g r [] jobs d = itself d
 takes_same g r (Runs job ∷ ls) jobs d = go (takes_same g r ls ((begun_count d.past r + 1) ∷ jobs) (begins r job d)) (may_begin d r jobs)
   where
@@ -223,18 +223,18 @@ takes_same g r (Crashes clock ∷ ls) jobs d = takes_same g r ls jobs (crashes g
 takes_same g r (Closes other ∷ ls) jobs d = then_same d (closes g r other d) (takes_all g r ls jobs (closes g r other d)).driver (closes_same g r other d) (takes_same g r ls jobs (closes g r other d))
 takes_same g r (Fails call ∷ ls) jobs d = takes_same g r ls jobs (will_fail r call d)
 
-agendas_same : (g : Given) (ags : List Agenda) (d : Driver) → Same d (takes_each g ags d).driver
+agendas_same : (g : DriverInput) (ags : List Agenda) (d : Driver) → Same d (takes_each g ags d).driver
 agendas_same g [] d = itself d
 agendas_same g (a ∷ ags) d = then_same d (takes g a d).driver (takes_each g ags (takes g a d).driver).driver (takes_same g a.repo a.lines a.jobs d) (agendas_same g ags (takes g a d).driver)
 
-block_same : (g : Given) (x : InBlock) → Same x.driver (block_round g x).driver
+block_same : (g : DriverInput) (x : InBlock) → Same x.driver (block_round g x).driver
 block_same g x = go (is_over x)
   where
     go : (b : Bool) → Same x.driver (if b then x else with_round g x (takes_each g x.left x.driver)).driver
     go true = itself x.driver
     go false = then_same x.driver (takes_each g x.left x.driver).driver (round g (takes_each g x.left x.driver).driver) (agendas_same g x.left x.driver) (round_same g (takes_each g x.left x.driver).driver)
 
-block_rounds_same : (g : Given) (n : ℕ) (x : InBlock) → Same x.driver (block_rounds g n x).driver
+block_rounds_same : (g : DriverInput) (n : ℕ) (x : InBlock) → Same x.driver (block_rounds g n x).driver
 block_rounds_same g zero x = block_same g x
 block_rounds_same g (suc n) x = go (then_same x.driver (block_rounds g n x).driver (block_rounds g n (block_rounds g n x)).driver (block_rounds_same g n x) (block_rounds_same g n (block_rounds g n x))) (is_over x)
   where
@@ -242,7 +242,7 @@ block_rounds_same g (suc n) x = go (then_same x.driver (block_rounds g n x).driv
     go more true = itself x.driver
     go more false = more
 
-blocks_same : (g : Given) (xs : List Agendum) (d : Driver) → Same d (blocks g xs d)
+blocks_same : (g : DriverInput) (xs : List Agendum) (d : Driver) → Same d (blocks g xs d)
 blocks_same g xs d =
     let b : InBlock = record { driver = d; left = map_agendas; idle = 0; took = true } in
     then_same d (block_rounds g most_rounds b).driver (settles g (block_rounds g most_rounds b).driver) (block_rounds_same g most_rounds b) (settles_same g (block_rounds g most_rounds b).driver)
@@ -252,7 +252,7 @@ blocks_same g xs d =
 
 -- ---- lines
 
-pub line_same : (g : Given) (line : Line) (d : Driver) → names_path line ≡ false → Same d (does g line d)
+pub line_same : (g : DriverInput) (line : Line) (d : Driver) → names_path line ≡ false → Same d (does g line d)
 line_same g (Have r key bytes) d plain = has_same g r key bytes d
 line_same g (SetPart r key bytes) d plain = part_same g r key bytes d
 line_same g (Add r path key bytes) d plain = absurd (cc)
@@ -272,7 +272,7 @@ line_same g (Fail r call) d plain = (refl, refl)
 line_same g (Par lines) d plain = blocks_same g lines d
 line_same g Shows d plain = itself d
 
-pub line_marks : (g : Given) (line : Line) (d : Driver) → (does g line d).marks ≡ d.marks
+pub line_marks : (g : DriverInput) (line : Line) (d : Driver) → (does g line d).marks ≡ d.marks
 line_marks g (Add r path key bytes) d = (has_same g r key bytes (enters path key d)).0
 line_marks g (File path key) d = refl
 line_marks g line d = (line_same g line d refl).0

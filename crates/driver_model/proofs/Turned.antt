@@ -22,12 +22,11 @@ use Rattle.node_model.specs.AnyTime.{all_ends}
 use Rattle.run_model.specs.Words.{word_told}
 use Rattle.driver_model.proofs.EndLemmas.{takes_end}
 use Rattle.driver_model.proofs.Premises.{Laws}
-use Rattle.driver_model.specs.Scripts.{Fits}
+use Rattle.driver_model.specs.Scripts.{HasBoundedPast}
 use Rattle.driver_model.specs.Sound.{ComesDown, GoesToOther, IsSound}
 use Rattle.driver_model.specs.Stores.{StoredBytes, bytes_in, is_stored, stored_bytes}
-use Rattle.driver_model.specs.Driver.{Driver, Given, adds, answers, without_old_flights, commits, drops_part, end_to, fails_at, frames_to, old_at, part_at, puts_part, removes_content, set_up_of, state_at}
+use Rattle.driver_model.specs.Driver.{Driver, DriverInput, adds, answers, without_old_flights, commits, drops_part, end_to, fails_at, frames_to, old_at, part_at, puts_part, removes_content, set_up_of, state_at}
 use Rattle.driver_model.specs.Turning.{all_calls, asked_key, bytes_taken, calm_look, fails_in, is_failure, is_valid, is_fault, look_for, looks, makes, makes_fault, meets, part_right, part_size, plain_look, steps, store_after, takes_frame, takes_into, told_words, turn}
-use Rattle.driver_model.proofs.AtHand.{taken_at_hand}
 use Rattle.driver_model.proofs.InFlight.{first_found, flies_cleared}
 use Rattle.driver_model.proofs.Holding.{Keeps, NewEntry, keeps_adds}
 
@@ -46,7 +45,7 @@ max_first a b = omega arith
 max_second : (a b : ℕ) → b ≤ max a b
 max_second a b = omega arith
 
-module _ (g : Given) (d : Driver) where
+module _ (g : DriverInput) (d : Driver) where
   pub keeps_commits : (r : ℕ) (key : List ℕ) → Keeps g d → Keeps g (commits r key d)
   keeps_commits r key k fits = let h = k fits in record { run = h.run; flies = h.flies; order = h.order; down = h.down; apart = h.apart; parts = Each-filter (Small d.largest) (λ x. not (is_stored r key x)) d.parts h.parts }
 
@@ -134,7 +133,7 @@ part_in r key n (x ∷ xs) a = go (part_in r key n xs a.1) (is_stored r key x)
     go more true = a.0
     go more false = more
 
-size_small : (g : Given) (d : Driver) (r : ℕ) (o : Option (List ℕ)) → IsSound g d → Fits d → part_size d r o < 2 ^ 62
+size_small : (g : DriverInput) (d : Driver) (r : ℕ) (o : Option (List ℕ)) → IsSound g d → HasBoundedPast d → part_size d r o < 2 ^ 62
 size_small g d r None h fits = omega arith
 size_small g d r (Some key) h fits = let i = part_in r key d.largest d.parts h.parts in let j = fits.1 in omega (arith, i, j)
 
@@ -145,7 +144,7 @@ abbrev pub EndsAlike : Type 0
 EndsAlike = (s : SetUp) (st : State) (k : Look) (part : ℕ) (right : Bool) (words : ℕ → Option Word) (m m' : Made) (j : ℕ) (outcome : Outcome) → k.fails ≡ None
     → step s st k ≡ Some m → step s st (record k { part = part; right = right; words = words }) ≡ Some m' → m'.kind ≡ ends_job j outcome → (o : Outcome) × (m.kind ≡ ends_job j o)
 
-module _ (laws : Laws) (alike : EndsAlike) (g : Given) (r : ℕ) (known : r < length g.repos) (d : Driver) where
+module _ (laws : Laws) (alike : EndsAlike) (g : DriverInput) (r : ℕ) (known : r < length g.repos) (d : Driver) where
   abbrev s : SetUp
   s = set_up_of g d r
 
@@ -171,14 +170,14 @@ module _ (laws : Laws) (alike : EndsAlike) (g : Given) (r : ℕ) (known : r < le
       let same = alike s st (plain_look s d) (part_size d r (asked_key st m)) (part_right g d r (asked_key st m)) (told_words d.past r m.kind) m m' j outcome refl plain quiet is in
       ap (λ kind. told_words d.past r kind c) same.1
 
-  new_entry : (m m' : Made) → step s st (plain_look s d) ≡ Some m → step s st (look_for g d r s st m) ≡ Some m' → IsSound g d → Fits d → NewEntry g d r (entry_of r (look_for g d r s st m) m')
+  new_entry : (m m' : Made) → step s st (plain_look s d) ≡ Some m → step s st (look_for g d r s st m) ≡ Some m' → IsSound g d → HasBoundedPast d → NewEntry g d r (entry_of r (look_for g d r s st m) m')
   new_entry m m' plain e h fits = record {
     words = told_words d.past r m.kind;
     repo_is = refl;
     time_is = refl;
     count_is = refl;
     own = record { known = known; does = inl (record { look = look_for g d r s st m; made = m'; makes = e; is = refl; words_are = refl; part_small = size_small g d r (asked_key st m) h fits }) };
-    first = λ f i. first_found r f d.flights (hand_first (frames_to r d.flights) (all_ends s) f (taken_at_hand s st (look_for g d r s st m) m' f i e));
+    first = λ f i. first_found r f d.flights (hand_first (frames_to r d.flights) (all_ends s) f (laws.at_hand s st (look_for g d r s st m) m' f e i));
     tells = words_told m m' plain e;
   }
 
@@ -196,5 +195,5 @@ module _ (laws : Laws) (alike : EndsAlike) (g : Given) (r : ℕ) (known : r < le
   keeps_steps k = keeps_looks (step s st (plain_look s d)) refl k
 
 -- a turn
-pub keeps_turn : Laws → EndsAlike → (g : Given) (r : ℕ) → r < length g.repos → (d : Driver) → Keeps g d → Keeps g (turn g r d)
+pub keeps_turn : Laws → EndsAlike → (g : DriverInput) (r : ℕ) → r < length g.repos → (d : Driver) → Keeps g d → Keeps g (turn g r d)
 keeps_turn laws alike g r known d k = keeps_steps laws alike g r known (without_old_flights (state_at g d r) r d) (keeps_cleared g d r k)

@@ -1,6 +1,6 @@
 -- A turn is found from the step that is made at the driver's look for it: the plain look finds a step of the same session or job, which
 -- asks for the same part, and the first call of the step that is to fail is the one that failed.
-use Rattle.std.proofs.Common.{◌≡◌, ℕ, Bool, true, false, List, [], ◌∷◌, Option, Some, None, inl, inr, refl, sym, ap, ◌∙◌, subst, arith}
+use Rattle.std.proofs.Common.{◌≡◌, ℕ, Bool, true, false, List, [], ◌∷◌, Option, Some, None, ◌⊎◌, inl, inr, refl, sym, ap, ◌∙◌, subst, arith}
 use Rattle.std.specs.Prelude.{if◌then◌else◌, ◌==◌, cond, find}
 use Rattle.std.specs.List.{list_all}
 use Rattle.std.proofs.lemmas.Bool.Decides.{nat_tests}
@@ -9,6 +9,7 @@ use Rattle.annex_base.specs.Lists.{Each, Member}
 use Rattle.annex_base.specs.declared.kinds.Call.{Call}
 use Rattle.annex_base.specs.declared.kinds.Call.TheVariants as calls
 use Rattle.annex_base.specs.declared.kinds.Word.{Word}
+use Rattle.annex_base.proofs.Calls.{same_call-is}
 use Rattle.annex_base.proofs.Lists.{Each-weaker, find_none}
 use Rattle.run_data.specs.declared.entry.EntryKind.{EntryKind}
 use Rattle.run_data.specs.declared.entry.EntryKind.TheVariants.{Fault, End as ends_job}
@@ -28,14 +29,14 @@ use Rattle.node_model.specs.Slots.{job_of}
 use Rattle.node_model.specs.State.{State}
 use Rattle.node_model.specs.Step.{step}
 use Rattle.node_model.specs.Turns.{awaits, by_partner, goes, goes_on, has_room, is_awaiting, job_step, needs, slot_step, takes_frame, with_partner}
-use Rattle.driver_model.specs.Driver.{Driver, Given, fails_at, set_up_of, state_at}
+use Rattle.driver_model.specs.Driver.{Driver, DriverInput, fails_at, set_up_of, state_at}
 use Rattle.driver_model.specs.Finding.{FailsFirst, MakesStep, after_step, calls_before, failed_call, driver_at_turn}
 use Rattle.driver_model.specs.Turning.{all_calls, asked_key, calm_look, fails_in, is_fault, looks, makes, makes_fault, meets, part_right, part_size, plain_look, step_key, told_words, turn}
 use Rattle.driver_model.specs.WordsRead.{AgreeWhereRead}
 use Rattle.driver_model.proofs.Alike.{Alike, first_alike, list_alike, other_ready, some_alike}
-use Rattle.driver_model.proofs.EndsAlike.{ends_alike}
-use Rattle.driver_model.proofs.MadeBy.{Mine, frame_ends, frame_own, gives_ends, goes_own}
+use Rattle.driver_model.proofs.EndsAlike.{ends_alike, given_next}
 use Rattle.driver_model.proofs.Needed.{needed}
+use Rattle.driver_model.proofs.Premises.{NamedJobs}
 use Rattle.driver_model.proofs.WordsAside.{Told, step_told, words_aside}
 
 -- ---- any two looks that have the same time, count, frames and rooms find a step of the same session or job
@@ -44,7 +45,15 @@ use Rattle.driver_model.proofs.WordsAside.{Told, step_told, words_aside}
 abbrev SameAsked : State → Made → Made → Type 0
 SameAsked st m m' = asked_key st m ≡ asked_key st m'
 
-module _ (s : SetUp) (st : State) (k : Look) (fails : Option Call) (part : ℕ) (right : Bool) (others : ℕ → Option Word) where
+-- the entry is one of the turn's job
+abbrev Mine : Turn → Made → Type 0
+Mine t m = job_of m.kind ≡ Some t.w.number
+
+-- the job stands on no connection, or on one where it awaits nothing
+abbrev IsFree : Work → Type 0
+IsFree w = (partner w.what.peer w.phase ≡ None) ⊎ (is_awaiting w.phase ≡ false)
+
+module _ (names : NamedJobs) (s : SetUp) (st : State) (k : Look) (fails : Option Call) (part : ℕ) (right : Bool) (others : ℕ → Option Word) where
   abbrev k1 : Look
   k1 = record k { fails = fails; part = part; right = right; words = others }
 
@@ -64,11 +73,14 @@ module _ (s : SetUp) (st : State) (k : Look) (fails : Option Call) (part : ℕ) 
     h1 = here s st k1 a
 
     given : (doing : Doing) → Alike A (gives_made a (st.ends a) (gives_next h0 doing)) (gives_made a (st.ends a) (gives_next h1 doing))
-    given (Sessions.Gives key at left good) = ap (λ (j : Option ℕ). step_key st j None) (gives_ends h0 key at left good ∙ sym (gives_ends h1 key at left good))
+    given (Sessions.Gives key at left good) = ap (λ (j : Option ℕ). step_key st j None) (none h0 ∙ sym (none h1))
+      where
+        none : (h : Here) → job_of (given_next h key at left good).kind ≡ None
+        none h = names.gives h (Sessions.Gives key at left good) (given_next h key at left good) refl
     given doing = tt
 
     makes_alike : (o : Option FrameView) → Alike A (session_makes h0 (st.ends a) (st.sessions a) o) (session_makes h1 (st.ends a) (st.sessions a) o)
-    makes_alike (Some f) = ap (λ (j : Option ℕ). step_key st j (Some f)) (frame_ends h0 (st.sessions a) f.body ∙ sym (frame_ends h1 (st.sessions a) f.body))
+    makes_alike (Some f) = ap (λ (j : Option ℕ). step_key st j (Some f)) (names.answers h0 (st.sessions a) f.body ∙ sym (names.answers h1 (st.sessions a) f.body))
     makes_alike None = go (st.ends a).opened
       where
         go : (b : Bool) → Alike A (if b then gives_made a (st.ends a) (gives_next h0 (st.sessions a).doing) else None) (if b then gives_made a (st.ends a) (gives_next h1 (st.sessions a).doing) else None)
@@ -94,30 +106,30 @@ module _ (s : SetUp) (st : State) (k : Look) (fails : Option Call) (part : ℕ) 
     both_own : (m m' : Made) → Mine t0 m → Mine t1 m' → A m m'
     both_own m m' e e' = asked_by m (Some w.number) e ∙ sym (asked_by m' (Some w.number) e')
 
-    goes_on-alike : Alike A (goes_on t0) (goes_on t1)
-    goes_on-alike = subst (λ ps. Alike A (if list_all (has_room t0) (needs t0 w.phase) then Some (goes t0 w.phase) else None) (if list_all (has_room t0) ps then Some (goes t1 w.phase) else None)) (needed s st k fails part right others w w.phase)
-        (some_alike A (list_all (has_room t0) (needs t0 w.phase)) (goes t0 w.phase) (goes t1 w.phase) (both_own (goes t0 w.phase) (goes t1 w.phase) (goes_own t0 w.phase) (goes_own t1 w.phase)))
+    goes_on-alike : IsFree w → Alike A (goes_on t0) (goes_on t1)
+    goes_on-alike free = subst (λ ps. Alike A (if list_all (has_room t0) (needs t0 w.phase) then Some (goes t0 w.phase) else None) (if list_all (has_room t0) ps then Some (goes t1 w.phase) else None)) (needed s st k fails part right others w w.phase)
+        (some_alike A (list_all (has_room t0) (needs t0 w.phase)) (goes t0 w.phase) (goes t1 w.phase) (both_own (goes t0 w.phase) (goes t1 w.phase) (names.goes t0 free) (names.goes t1 free)))
 
-    awaits_alike : (peer : ℕ) (o : Option FrameView) → Alike A (awaits t0 peer o) (awaits t1 peer o)
-    awaits_alike peer None = tt
-    awaits_alike peer (Some f) = some_alike A (has_room t0 peer) (takes_frame t0 peer f f.body) (takes_frame t1 peer f f.body)
-        (both_own (takes_frame t0 peer f f.body) (takes_frame t1 peer f f.body) (frame_own t0 peer f f.body) (frame_own t1 peer f f.body))
+    awaits_alike : (peer : ℕ) → partner w.what.peer w.phase ≡ Some peer → (o : Option FrameView) → Alike A (awaits t0 peer o) (awaits t1 peer o)
+    awaits_alike peer on None = tt
+    awaits_alike peer on (Some f) = some_alike A (has_room t0 peer) (takes_frame t0 peer f f.body) (takes_frame t1 peer f f.body)
+        (both_own (takes_frame t0 peer f f.body) (takes_frame t1 peer f f.body) (names.takes t0 peer f on) (names.takes t1 peer f on))
 
-    with_alike : (peer : ℕ) (opened : Bool) → Alike A (with_partner t0 peer opened) (with_partner t1 peer opened)
-    with_alike peer false = refl
-    with_alike peer true = go (is_awaiting w.phase)
+    with_alike : (peer : ℕ) → partner w.what.peer w.phase ≡ Some peer → (opened : Bool) → Alike A (with_partner t0 peer opened) (with_partner t1 peer opened)
+    with_alike peer on false = refl
+    with_alike peer on true = go (is_awaiting w.phase) refl
       where
-        go : (b : Bool) → Alike A (if b then awaits t0 peer (waiting (end_with t0 peer) k (job_end w peer)) else goes_on t0) (if b then awaits t1 peer (waiting (end_with t1 peer) k1 (job_end w peer)) else goes_on t1)
-        go true = awaits_alike peer (waiting (end_with t0 peer) k (job_end w peer))
-        go false = goes_on-alike
+        go : (b : Bool) → is_awaiting w.phase ≡ b → Alike A (if b then awaits t0 peer (waiting (end_with t0 peer) k (job_end w peer)) else goes_on t0) (if b then awaits t1 peer (waiting (end_with t1 peer) k1 (job_end w peer)) else goes_on t1)
+        go true awaits_it = awaits_alike peer on (waiting (end_with t0 peer) k (job_end w peer))
+        go false awaits_none = goes_on-alike (inr awaits_none)
 
-    by_alike : (o : Option ℕ) → Alike A (by_partner t0 o) (by_partner t1 o)
-    by_alike None = goes_on-alike
-    by_alike (Some peer) = with_alike peer (end_with t0 peer).opened
+    by_alike : (o : Option ℕ) → partner w.what.peer w.phase ≡ o → Alike A (by_partner t0 o) (by_partner t1 o)
+    by_alike None on = goes_on-alike (inl on)
+    by_alike (Some peer) on = with_alike peer on (end_with t0 peer).opened
 
   slot_alike : (o : Option Work) → Alike A (slot_step s st k o) (slot_step s st k1 o)
   slot_alike None = tt
-  slot_alike (Some w) = by_alike w (partner w.what.peer w.phase)
+  slot_alike (Some w) = by_alike w (partner w.what.peer w.phase) refl
 
   -- where no line is owed
   pub rest_alike : Alike A (first_of (session_step s st k) (job_step s st k)) (first_of (session_step s st k1) (job_step s st k1))
@@ -142,33 +154,6 @@ every_call calls.Unhold = inr (inr (inr (inr (inr (inr (inr (inr (inr (inr (inl 
 every_call calls.Holds = inr (inr (inr (inr (inr (inr (inr (inr (inr (inr (inr (inl refl)))))))))))
 every_call calls.PutFile = inr (inr (inr (inr (inr (inr (inr (inr (inr (inr (inr (inr (inl refl))))))))))))
 every_call calls.File = inr (inr (inr (inr (inr (inr (inr (inr (inr (inr (inr (inr (inr (inl refl)))))))))))))
-
-abbrev call_numbered : ℕ → Call
-call_numbered n = if n == 0 then calls.Has else (if n == 1 then calls.Size else (if n == 2 then calls.Read else (if n == 3 then calls.PartSize else (if n == 4 then calls.ReadPart
-    else (if n == 5 then calls.Append else (if n == 6 then calls.Commit else (if n == 7 then calls.DropPart else (if n == 8 then calls.Remove else (if n == 9 then calls.Hold
-    else (if n == 10 then calls.Unhold else (if n == 11 then calls.Holds else (if n == 12 then calls.PutFile else calls.File))))))))))))
-
-numbered_is : (c : Call) → call_numbered (call_number c) ≡ c
-numbered_is calls.Has = refl
-numbered_is calls.Size = refl
-numbered_is calls.Read = refl
-numbered_is calls.PartSize = refl
-numbered_is calls.ReadPart = refl
-numbered_is calls.Append = refl
-numbered_is calls.Commit = refl
-numbered_is calls.DropPart = refl
-numbered_is calls.Remove = refl
-numbered_is calls.Hold = refl
-numbered_is calls.Unhold = refl
-numbered_is calls.Holds = refl
-numbered_is calls.PutFile = refl
-numbered_is calls.File = refl
-
-same_number : (a b : ℕ) → (a == b) ≡ true → a ≡ b
-same_number a b e = grind (arith, nat_tests)
-
-same_call-is : (c d : Call) → same_call c d ≡ true → c ≡ d
-same_call-is c d e = sym (numbered_is c) ∙ ap call_numbered (same_number (call_number c) (call_number d) e) ∙ numbered_is d
 
 same_call-self : (c : Call) → same_call c c ≡ true
 same_call-self c = go (call_number c)
@@ -203,16 +188,16 @@ abbrev step_of : SetUp → State → List Owed → Look → Option Made
 step_of s st os k = first_of (pays_first s st k os) (first_of (session_step s st k) (job_step s st k))
 
 -- the driver's own look for this step, with all words that the job was told
-abbrev pub look_told : Given → Driver → ℕ → SetUp → State → Made → Look
+abbrev pub look_told : DriverInput → Driver → ℕ → SetUp → State → Made → Look
 look_told g d r s st m = record (calm_look g d r s st m) { fails = failed_call m.kind }
 
 -- the step is made at that look
-pub record IsTold (g : Given) (r : ℕ) (d : Driver) (m : Made) : Type 0 where
+pub record IsTold (g : DriverInput) (r : ℕ) (d : Driver) (m : Made) : Type 0 where
   pub steps : step (set_up_of g d r) (state_at g d r) (look_told g (driver_at_turn g r d) r (set_up_of g d r) (state_at g d r) m) ≡ Some m
   pub fails : FailsFirst (driver_at_turn g r d) r (set_up_of g d r) (state_at g d r) (look_told g (driver_at_turn g r d) r (set_up_of g d r) (state_at g d r) m) (failed_call m.kind)
 
 -- what the turn wants of the step that a plain look finds, where this is made
-pub record IsPlain (g : Given) (r : ℕ) (d : Driver) (m m0 : Made) : Type 0 where
+pub record IsPlain (g : DriverInput) (r : ℕ) (d : Driver) (m m0 : Made) : Type 0 where
   pub plain : step (set_up_of g d r) (state_at g d r) (plain_look (set_up_of g d r) (driver_at_turn g r d)) ≡ Some m0
   pub faults : (call : Call) → makes_fault (step (set_up_of g d r) (state_at g d r) (record (calm_look g (driver_at_turn g r d) r (set_up_of g d r) (state_at g d r) m0) { fails = Some call }))
       ≡ meets (set_up_of g d r) (state_at g d r) (look_told g (driver_at_turn g r d) r (set_up_of g d r) (state_at g d r) m) call
@@ -229,7 +214,7 @@ fault_same st agree (Some m) (Some m') (inr x) = ap is_fault x.2.1 ∙ sym (ap i
 fault_same st agree None (Some m') a = absurd a
 fault_same st agree (Some m) None a = absurd a
 
-module _ (g : Given) (r : ℕ) (d : Driver) (m : Made) (x : IsTold g r d m) where
+module _ (names : NamedJobs) (g : DriverInput) (r : ℕ) (d : Driver) (m : Made) (x : IsTold g r d m) where
   abbrev s : SetUp
   s = set_up_of g d r
 
@@ -301,7 +286,7 @@ module _ (g : Given) (r : ℕ) (d : Driver) (m : Made) (x : IsTold g r d m) wher
       words_agree : (w : Work) (outcome : Outcome) → m.kind ≡ ends_job w.number outcome → (peer : ℕ) → words_of m peer ≡ words_of m0 peer
       words_agree w outcome is peer =
           let calm : step s st (look None (asked_key st m) (words_of m)) ≡ Some m = ap (λ (o : Option Call). step s st (look o (asked_key st m) (words_of m))) (sym (ap failed_call is)) ∙ x.steps in
-          let ends = ends_alike s st (plain_look s c) (part_size c r (asked_key st m)) (part_right g c r (asked_key st m)) (words_of m) m0 m w.number outcome refl i calm is in
+          let ends = ends_alike names s st (plain_look s c) (part_size c r (asked_key st m)) (part_right g c r (asked_key st m)) (words_of m) m0 m w.number outcome refl i calm is in
           ap (λ (kind : EntryKind). told_words c.past r kind peer) is ∙ sym (ap (λ (kind : EntryKind). told_words c.past r kind peer) ends.1)
 
       rest_plain : IsPlain g r d m m0
@@ -319,7 +304,7 @@ module _ (g : Given) (r : ℕ) (d : Driver) (m : Made) (x : IsTold g r d m) wher
     rest_turn : turn g r d ≡ after_step g r d m
     rest_turn =
         let ready = other_ready (SameAsked st) (first_of (session_step s st told) (job_step s st told)) (first_of (session_step s st (plain_look s c)) (job_step s st (plain_look s c))) m
-        (sym (goes_on-by told) ∙ x.steps) (rest_alike s st told None 0 false (λ peer. None)) in
+        (sym (goes_on-by told) ∙ x.steps) (rest_alike names s st told None 0 false (λ peer. None)) in
         turn_by ready.0 (rest_plain ready.0 (goes_on-by (plain_look s c) ∙ ready.1) ready.2)
 
   turn_told : turn g r d ≡ after_step g r d m
@@ -336,7 +321,7 @@ look_path : (k l : Look) → k.time ≡ l.time → k.count ≡ l.count → k.at_
 look_path k l time count hand room fails part right i =
     record { time = time i; count = count i; at_hand = hand i; room = λ a. room a i; fails = fails i; part = part i; right = right i; words = k.words }
 
-module _ (g : Given) (r : ℕ) (d : Driver) (m : Made) (x : MakesStep g r d m) where
+module _ (g : DriverInput) (r : ℕ) (d : Driver) (m : Made) (x : MakesStep g r d m) where
   abbrev own : Look
   own = look_told g (driver_at_turn g r d) r (set_up_of g d r) (state_at g d r) m
 
@@ -370,9 +355,9 @@ module _ (g : Given) (r : ℕ) (d : Driver) (m : Made) (x : MakesStep g r d m) w
       made_same : (m' : Made) → step (set_up_of g d r) (state_at g d r) near ≡ Some m' → m ≡ m'
       made_same m' i = let both : Some m ≡ Some m' = sym near_steps ∙ i in cc
 
-  pub turn_found : turn g r d ≡ after_step g r d m
-  turn_found = turn_told g r d m is_told
+  pub turn_found : NamedJobs → turn g r d ≡ after_step g r d m
+  turn_found names = turn_told names g r d m is_told
 
 -- where no step is ready
-pub turn_idle : (g : Given) (r : ℕ) (d : Driver) → step (set_up_of g d r) (state_at g d r) (plain_look (set_up_of g d r) (driver_at_turn g r d)) ≡ None → turn g r d ≡ driver_at_turn g r d
+pub turn_idle : (g : DriverInput) (r : ℕ) (d : Driver) → step (set_up_of g d r) (state_at g d r) (plain_look (set_up_of g d r) (driver_at_turn g r d)) ≡ None → turn g r d ≡ driver_at_turn g r d
 turn_idle g r d e = ap (λ (o : Option Made). looks g r (set_up_of g d r) (state_at g d r) o (driver_at_turn g r d)) e

@@ -16,7 +16,7 @@ use Rattle.run_data.specs.declared.job.DropRefusal.TheVariants as refusals
 use Rattle.run_data.specs.declared.job.Outcome.{Outcome}
 use Rattle.run_data.specs.declared.job.Outcome.TheVariants.{Refused}
 use Rattle.node_model.specs.Calls.{to_release}
-use Rattle.node_model.specs.DropStep.{denial_outcome, lacking, removal_outcome, target}
+use Rattle.node_model.specs.DropStep.{denial_outcome, lacking_outcome, removal_outcome, target}
 use Rattle.node_model.specs.Evidence.{Asked, Claimed, Ignored, Standing, failures, pick}
 use Rattle.node_model.specs.Jobs.{Denied, Drops, Fresh, Gets, Heard, Held, Lacks, Next, Part, Phase, Puts, PutsBytes, PutsWord, Removed, Seen, Unseen, Work, heard_of, job_end, partner, side_of, target_of}
 use Rattle.node_model.specs.JobStep.{Turn, attempts, by_me, end_with, ends, farewells, owns_share, turn_of}
@@ -112,12 +112,12 @@ module _ (s : SetUp) (st : State) (k : Look) (others : ℕ → Option Word) wher
     ends_told o0 o1 e0 e1 same =
         subst (λ (b : Bool). T (quiet_end t0 b o0) (ends t1 None o1)) (sym e0) (subst (λ (b : Bool). T (quiet_end t0 false o0) (quiet_end t1 b o1)) (sym e1) (quiet_told o0 o1 same))
 
-    lacking_same : next_by t0.read w ≡ None → Agree w → lacking t0 ≡ lacking t1
+    lacking_same : next_by t0.read w ≡ None → Agree w → lacking_outcome t0 ≡ lacking_outcome t1
     lacking_same none a = ap (λ cs. Refused (refusals.Lacking (proof_by t0.read w) cs)) (causes_same t0.read w k.words others (λ c h. a c (inl h)) none)
 
     judges_told : (enough : Bool) (next : Option ℕ) → next_by t0.read w ≡ next → (side : Side) → T (judges t0 enough next side) (judges t1 enough next side)
     judges_told false (Some peer) none side = inl refl
-    judges_told false None none side = ends_told (lacking t0) (lacking t1) refl refl (lacking_same none)
+    judges_told false None none side = ends_told (lacking_outcome t0) (lacking_outcome t1) refl refl (lacking_same none)
     judges_told true next none Local = inl refl
     judges_told true next none Remote = inl refl
 

@@ -22,7 +22,7 @@ use Rattle.run_model.specs.Run.{paths_at}
 use Rattle.driver_model.specs.Stores.{StoredBytes, stored_bytes, with_bytes, without}
 
 -- what a script is driven on: its repositories, and whether bytes match a key
-pub record Given : Type 0 where
+pub record DriverInput : Type 0 where
   pub repos : List RepoView
   pub matches : List ℕ → List ℕ → Bool
 
@@ -51,10 +51,10 @@ pub record Driver : Type 0 where
 abbrev pub at_first : Driver
 at_first = record { past = []; flights = []; fails = []; contents = []; parts = []; largest = 0; tree = []; marks = [] }
 
-abbrev pub set_up_of : Given → Driver → ℕ → SetUp
+abbrev pub set_up_of : DriverInput → Driver → ℕ → SetUp
 set_up_of g d r = record { number = r; repos = g.repos; paths = paths_at d.tree d.past r }
 
-abbrev pub state_at : Given → Driver → ℕ → State
+abbrev pub state_at : DriverInput → Driver → ℕ → State
 state_at g d r = state_of (set_up_of g d r) d.past
 
 abbrev pub newest_count : List Entry → ℕ
@@ -117,21 +117,21 @@ has_room r xs a = nat_le (length (filter (is_sent_by r a) xs) + 2) 8
 abbrev pub slice : List ℕ → ℕ → ℕ → List ℕ
 slice bytes at n = take n (drop at bytes)
 
-abbrev pub given_by : Driver → ℕ → ℕ → Doing → List ℕ
-given_by d r n (Gives key at left good) = slice (content_at d r key) at n
-given_by d r n doing = []
+abbrev pub piece_given_by : Driver → ℕ → ℕ → Doing → List ℕ
+piece_given_by d r n (Gives key at left good) = slice (content_at d r key) at n
+piece_given_by d r n doing = []
 
-abbrev pub put_by : Driver → ℕ → ℕ → List ℕ → Phase → List ℕ
-put_by d r n key (PutsBytes peer start at left) = slice (content_at d r key) at n
-put_by d r n key phase = []
+abbrev pub piece_put_by : Driver → ℕ → ℕ → List ℕ → Phase → List ℕ
+piece_put_by d r n key (PutsBytes peer start at left) = slice (content_at d r key) at n
+piece_put_by d r n key phase = []
 
-abbrev pub put_by_work : Driver → ℕ → ℕ → Option Work → List ℕ
-put_by_work d r n None = []
-put_by_work d r n (Some w) = put_by d r n w.what.key w.phase
+abbrev pub piece_put_by_work : Driver → ℕ → ℕ → Option Work → List ℕ
+piece_put_by_work d r n None = []
+piece_put_by_work d r n (Some w) = piece_put_by d r n w.what.key w.phase
 
 -- the bytes of a piece that r sends
 abbrev pub piece_of : Driver → State → ℕ → FrameView → FrameText → List ℕ
-piece_of d st r f (Bytes n) = if f.up then put_by_work d r n (find (λ w. w.slot == f.slot) st.works) else given_by d r n (st.sessions (end_from f)).doing
+piece_of d st r f (Bytes n) = if f.up then piece_put_by_work d r n (find (λ w. w.slot == f.slot) st.works) else piece_given_by d r n (st.sessions (end_from f)).doing
 piece_of d st r f body = []
 
 abbrev pub flight : Driver → State → ℕ → FrameView → Flight

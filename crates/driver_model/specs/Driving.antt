@@ -3,17 +3,17 @@ use Rattle.std.specs.Prelude.{ℕ, zero, suc, List, [], ◌∷◌, ◌++◌, len
 use Rattle.run_data.specs.declared.run.Run.{Run}
 use Rattle.driver_model.specs.Lines.{Line, Have, SetPart, Add, File, Set, Raw, Merge, Compact, Begin, Turns, Settle, Close, Crash, Wait, Fail, Par, Shows}
 use Rattle.driver_model.specs.Lines
-use Rattle.driver_model.specs.Driver.{Driver, Given, at_first}
+use Rattle.driver_model.specs.Driver.{Driver, DriverInput, at_first}
 use Rattle.driver_model.specs.ScriptSteps.{begins, closes, compacts, crashes, enters, has, merges, sets, sets_part, waits, will_fail, writes}
 use Rattle.driver_model.specs.Turning.{turn}
 use Rattle.driver_model.specs.Rounds.{blocks, settles}
 
-abbrev pub turns : Given → ℕ → ℕ → Driver → Driver
+abbrev pub turns : DriverInput → ℕ → ℕ → Driver → Driver
 turns g r zero d = d
 turns g r (suc n) d = turns g r n (turn g r d)
 
 -- what a line does
-abbrev pub does : Given → Line → Driver → Driver
+abbrev pub does : DriverInput → Line → Driver → Driver
 does g (Have r key bytes) d = has g r key bytes d
 does g (SetPart r key bytes) d = sets_part g r key bytes d
 does g (Add r path key bytes) d = has g r key bytes (enters path key d)
@@ -38,16 +38,16 @@ abbrev pub with_mark : Driver → Driver
 with_mark d = record d { marks = d.marks ++ length d.past ∷ [] }
 
 -- the driver after these lines, one after the other
-abbrev pub drives : Given → List Line → Driver → Driver
+abbrev pub drives : DriverInput → List Line → Driver → Driver
 drives g [] d = d
 drives g (line ∷ lines) d = drives g lines (with_mark (does g line d))
 
-abbrev pub driver_after : Given → List Line → Driver
+abbrev pub driver_after : DriverInput → List Line → Driver
 driver_after g lines = drives g lines at_first
 
-abbrev pub run_with : Given → Driver → Run
+abbrev pub run_with : DriverInput → Driver → Run
 run_with g d = record { repos = g.repos; entries = reverse d.past; tree = d.tree; marks = d.marks }
 
 -- the run of a script
-abbrev pub run_of : Given → List Line → Run
+abbrev pub run_of : DriverInput → List Line → Run
 run_of g lines = run_with g (driver_after g lines)

@@ -9,6 +9,7 @@ pub mod Driving
 pub mod Scripts
 pub mod Logged
 pub mod Ways
+pub mod Apart
 pub mod Sound
 pub mod WordsRead
 pub mod Finding

@@ -7,7 +7,7 @@ use Rattle.run_data.specs.declared.entry.Entry.{Entry}
 use Rattle.run_data.specs.declared.run.Run.{Run}
 use Rattle.run_model.specs.Past.{is_of}
 use Rattle.run_model.specs.Run.{IsRun}
-use Rattle.driver_model.specs.Driver.{Driver, Given, at_first}
+use Rattle.driver_model.specs.Driver.{Driver, DriverInput, at_first}
 use Rattle.driver_model.specs.Driving.{does, run_with, with_mark}
 use Rattle.driver_model.specs.Lines.{Line, Have, SetPart, Add, File, Set, Raw, Merge, Compact, Begin, Turns, Settle, Close, Crash, Wait, Fail, Par, Shows}
 use Rattle.driver_model.specs.Lines
@@ -20,11 +20,11 @@ abbrev pub count_of : List Entry → ℕ → ℕ
 count_of past r = length (filter (is_of r) past)
 
 -- some repository has made more than it may
-abbrev pub is_too_long : Given → List Entry → Bool
+abbrev pub is_too_long : DriverInput → List Entry → Bool
 is_too_long g past = list_any (λ r. nat_lt most_entries (count_of past r)) (numbers g)
 
 -- the past as far as none has
-abbrev pub within_limit : Given → List Entry → List Entry
+abbrev pub within_limit : DriverInput → List Entry → List Entry
 within_limit g [] = []
 within_limit g (e ∷ past) = if is_too_long g (e ∷ past) then within_limit g past else e ∷ past
 
@@ -56,11 +56,11 @@ is_full past None = false
 is_full past (Some r) = nat_le most_entries (count_of past r)
 
 -- the line asks the store of a repository whose history is full, or would make an entry too many
-abbrev pub meets_limit : Given → Line → Driver → Bool
+abbrev pub meets_limit : DriverInput → Line → Driver → Bool
 meets_limit g line d = is_full d.past (asks_first line) || is_too_long g (does g line d).past
 
 -- the run then: the line's entries up to there, and the marks of the lines before it
-abbrev pub run_to_limit : Given → Line → Driver → Run
+abbrev pub run_to_limit : DriverInput → Line → Driver → Run
 run_to_limit g line d = record (run_with g (does g line d)) { entries = reverse (within_limit g (does g line d).past) }
 
 -- ---- scripts
@@ -70,12 +70,12 @@ pub record LimitedRun : Type 0 where
   pub run : Run
   pub is_cut : Bool
 
-abbrev pub drives_to_limit : Given → List Line → Driver → LimitedRun
+abbrev pub drives_to_limit : DriverInput → List Line → Driver → LimitedRun
 drives_to_limit g [] d = record { run = run_with g d; is_cut = false }
 drives_to_limit g (line ∷ lines) d =
     if meets_limit g line d then record { run = run_to_limit g line d; is_cut = true } else drives_to_limit g lines (with_mark (does g line d))
 
-abbrev pub limited_run : Given → List Line → LimitedRun
+abbrev pub limited_run : DriverInput → List Line → LimitedRun
 limited_run g lines = drives_to_limit g lines at_first
 
 -- ---- steps that meet a full history
@@ -88,7 +88,7 @@ pub record AddsOwn (r : ℕ) (d after : Driver) : Type 0 where
 
 -- A step of the driver that ends there comes to an entry of r, whose history is full by then: the run has all entries before that
 -- one. No other repository has made more entries than it may, and those that the run has are one.
-pub record StopsAtFull (g : Given) (r : ℕ) (after : Driver) (run : Run) : Type 0 where
+pub record StopsAtFull (g : DriverInput) (r : ℕ) (after : Driver) (run : Run) : Type 0 where
   pub known : r < length g.repos
   pub past : List Entry
   pub entries : run.entries ≡ reverse past

@@ -4,19 +4,19 @@ use Rattle.std.specs.List.{list_any, range_with_len}
 use Rattle.run_model.specs.Past.{begun_count}
 use Rattle.run_model.specs.States.{works}
 use Rattle.driver_model.specs.Lines.{Agendum, BlockLine, Runs, Crashes, Closes, Fails}
-use Rattle.driver_model.specs.Driver.{Driver, Given}
+use Rattle.driver_model.specs.Driver.{Driver, DriverInput}
 use Rattle.driver_model.specs.ScriptSteps.{begins, closes, crashes, will_fail}
 use Rattle.driver_model.specs.Turning.{turn}
 
-abbrev pub numbers : Given → List ℕ
+abbrev pub numbers : DriverInput → List ℕ
 numbers g = range_with_len 0 (length g.repos)
 
-abbrev pub turns_of : Given → List ℕ → Driver → Driver
+abbrev pub turns_of : DriverInput → List ℕ → Driver → Driver
 turns_of g [] d = d
 turns_of g (r ∷ rs) d = turns_of g rs (turn g r d)
 
 -- one turn of each repository, in order of number
-abbrev pub round : Given → Driver → Driver
+abbrev pub round : DriverInput → Driver → Driver
 round g d = turns_of g (numbers g) d
 
 -- no entry came between: all turns were idle
@@ -34,14 +34,14 @@ is_settled x = nat_le 2 x.idle
 abbrev pub idle_after : Driver → Driver → ℕ → ℕ
 idle_after before after idle = if is_idle before after then idle + 1 else 0
 
-abbrev pub came_to : AfterRounds → Driver → AfterRounds
-came_to x d = record { driver = d; idle = idle_after x.driver d x.idle }
+abbrev pub after_round : AfterRounds → Driver → AfterRounds
+after_round x d = record { driver = d; idle = idle_after x.driver d x.idle }
 
-abbrev pub goes_round : Given → AfterRounds → AfterRounds
-goes_round g x = if is_settled x then x else came_to x (round g x.driver)
+abbrev pub goes_round : DriverInput → AfterRounds → AfterRounds
+goes_round g x = if is_settled x then x else after_round x (round g x.driver)
 
 -- rounds until two after each other are idle, at most two to this power
-abbrev pub rounds : Given → ℕ → AfterRounds → AfterRounds
+abbrev pub rounds : DriverInput → ℕ → AfterRounds → AfterRounds
 rounds g zero x = goes_round g x
 rounds g (suc n) x = if is_settled x then x else rounds g n (rounds g n x)
 
@@ -50,7 +50,7 @@ rounds g (suc n) x = if is_settled x then x else rounds g n (rounds g n x)
 abbrev pub most_rounds : ℕ
 most_rounds = 22
 
-abbrev pub settles : Given → Driver → Driver
+abbrev pub settles : DriverInput → Driver → Driver
 settles g d = (rounds g most_rounds (record { driver = d; idle = 0 })).driver
 
 -- ---- blocks
@@ -81,7 +81,7 @@ pub record WithAgenda : Type 0 where
   pub left : Agenda
 
 -- a repository takes from its agenda all that it can
-abbrev pub takes_all : Given → ℕ → List BlockLine → List ℕ → Driver → WithAgenda
+abbrev pub takes_all : DriverInput → ℕ → List BlockLine → List ℕ → Driver → WithAgenda
 takes_all g r [] jobs d = record { driver = d; left = record { repo = r; lines = []; jobs = jobs } }
 takes_all g r (Runs job ∷ lines) jobs d =
     if may_begin d r jobs then takes_all g r lines ((begun_count d.past r + 1) ∷ jobs) (begins r job d)
@@ -90,7 +90,7 @@ takes_all g r (Crashes clock ∷ lines) jobs d = takes_all g r lines jobs (crash
 takes_all g r (Closes other ∷ lines) jobs d = takes_all g r lines jobs (closes g r other d)
 takes_all g r (Fails call ∷ lines) jobs d = takes_all g r lines jobs (will_fail r call d)
 
-abbrev pub takes : Given → Agenda → Driver → WithAgenda
+abbrev pub takes : DriverInput → Agenda → Driver → WithAgenda
 takes g a d = takes_all g a.repo a.lines a.jobs d
 
 -- the driver, and what is left of all agendas
@@ -102,7 +102,7 @@ abbrev pub and_left : Agenda → Block → Block
 and_left a b = record b { left = a ∷ b.left }
 
 -- so does each repository, in order of number
-abbrev pub takes_each : Given → List Agenda → Driver → Block
+abbrev pub takes_each : DriverInput → List Agenda → Driver → Block
 takes_each g [] d = record { driver = d; left = [] }
 takes_each g (a ∷ ags) d = and_left (takes g a d).left (takes_each g ags (takes g a d).driver)
 
@@ -123,18 +123,18 @@ is_over x = nat_le 2 x.idle && not x.took
 abbrev pub block_at : InBlock → Block → Driver → InBlock
 block_at x b d = record { driver = d; left = b.left; idle = idle_after b.driver d x.idle; took = not (lines_in x.left == lines_in b.left) }
 
-abbrev pub with_round : Given → InBlock → Block → InBlock
+abbrev pub with_round : DriverInput → InBlock → Block → InBlock
 with_round g x b = block_at x b (round g b.driver)
 
-abbrev pub block_round : Given → InBlock → InBlock
+abbrev pub block_round : DriverInput → InBlock → InBlock
 block_round g x = if is_over x then x else with_round g x (takes_each g x.left x.driver)
 
 -- rounds, before each of which agendas are taken from, until nothing is taken and the round is idle, as the one before was
-abbrev pub block_rounds : Given → ℕ → InBlock → InBlock
+abbrev pub block_rounds : DriverInput → ℕ → InBlock → InBlock
 block_rounds g zero x = block_round g x
 block_rounds g (suc n) x = if is_over x then x else block_rounds g n (block_rounds g n x)
 
 -- this bound is never met either: of each two such rounds one adds an entry or takes a line
-abbrev pub blocks : Given → List Agendum → Driver → Driver
+abbrev pub blocks : DriverInput → List Agendum → Driver → Driver
 blocks g xs d =
     settles g (block_rounds g most_rounds (record { driver = d; left = map (agenda xs) (numbers g); idle = 0; took = true })).driver

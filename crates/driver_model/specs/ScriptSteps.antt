@@ -28,7 +28,7 @@ use Rattle.run_model.specs.States.{end_at, works}
 use Rattle.node_model.specs.Owed.{if_new, stamp_at, status_line}
 use Rattle.node_model.specs.SessionStep.{is_filled}
 use Rattle.node_model.specs.AnyTime.{close_at, closes_all, ends_with}
-use Rattle.driver_model.specs.Driver.{Driver, Given, adds, answers, commits, drops_part, entry, fails_at, newest_count, notes, puts_part, set_up_of, state_at}
+use Rattle.driver_model.specs.Driver.{Driver, DriverInput, adds, answers, commits, drops_part, entry, fails_at, newest_count, notes, puts_part, set_up_of, state_at}
 
 -- the call of the script fails
 abbrev pub faults : ℕ → Call → Driver → Driver
@@ -41,15 +41,15 @@ unless_fails r call d done = if fails_at d r call then faults r call d else done
 -- ---- lines of log files
 
 -- the wall clock, which makes stamps
-abbrev pub wall_of : Given → Driver → ℕ → ℕ
+abbrev pub wall_of : DriverInput → Driver → ℕ → ℕ
 wall_of g d r = wall g.repos r (now d.past)
 
 abbrev pub lines_of : Driver → ℕ → LogFile → List (List ℕ)
 lines_of d r file = lines_of_file d.past r (file_path file)
 
 -- the lines that the file doesn't have
-abbrev pub unknown : Driver → ℕ → LogFile → List (List ℕ) → List (List ℕ)
-unknown d r file lines = difference lines (lines_of d r file)
+abbrev pub unknown_lines : Driver → ℕ → LogFile → List (List ℕ) → List (List ℕ)
+unknown_lines d r file lines = difference lines (lines_of d r file)
 
 -- these lines are added to the file
 abbrev pub logs : ℕ → LogFile → List (List ℕ) → Driver → Driver
@@ -61,18 +61,18 @@ logs_some r file [] d = d
 logs_some r file (line ∷ lines) d = logs r file (line ∷ lines) d
 
 abbrev pub writes : ℕ → LogFile → List ℕ → Driver → Driver
-writes r file line d = logs_some r file (unknown d r file (line ∷ [])) d
+writes r file line d = logs_some r file (unknown_lines d r file (line ∷ [])) d
 
 -- the line of a setting: its stamp is that of the wall clock, or past the newest of the topic
-abbrev pub setting_line : Given → Driver → ℕ → LogKind → Topic → Value → List ℕ
+abbrev pub setting_line : DriverInput → Driver → ℕ → LogKind → Topic → Value → List ℕ
 setting_line g d r kind topic value =
     line_text kind (record { topic = topic; stamp = Some (next_stamp (newest_stamp kind (lines_of d r (Of kind)) topic) (stamp_at (wall_of g d r))); value = value })
 
-abbrev pub sets : Given → ℕ → LogKind → Topic → Value → Driver → Driver
+abbrev pub sets : DriverInput → ℕ → LogKind → Topic → Value → Driver → Driver
 sets g r kind topic value d = writes r (Of kind) (setting_line g d r kind topic value) d
 
 -- the log of a content that came by the script: its entry stands in any case
-abbrev pub logs_status : Given → ℕ → List ℕ → Driver → Driver
+abbrev pub logs_status : DriverInput → ℕ → List ℕ → Driver → Driver
 logs_status g r key d =
     logs r (Location key) (if_new (lines_of d r (Location key)) (status_line (lines_of d r (Location key)) (id_of g.repos r) true (wall_of g d r))) d
 
@@ -82,7 +82,7 @@ is_nil (x ∷ xs) = false
 
 -- the lines for the file at a path that it doesn't have
 abbrev pub news : Driver → ℕ → List ℕ → List (List ℕ) → List (List ℕ)
-news d r path lines = unknown d r (file_of path) lines
+news d r path lines = unknown_lines d r (file_of path) lines
 
 -- the files of a bundle, one by one
 abbrev pub merges_files : ℕ → Files → Driver → Driver
@@ -112,7 +112,7 @@ compacts r d = compacts_files r (branch d.past r) d
 -- ---- contents
 
 -- the content is there, or is being filled
-abbrev pub is_busy : Given → Driver → ℕ → List ℕ → Bool
+abbrev pub is_busy : DriverInput → Driver → ℕ → List ℕ → Bool
 is_busy g d r key = present d.past r key || is_filled (set_up_of g d r) (state_at g d r) key
 
 -- the part is dropped, and begun anew with these bytes
@@ -123,21 +123,21 @@ begins_part r key bytes d = unless_fails r calls.Append d (puts_part r key bytes
 abbrev pub gets_content : ℕ → List ℕ → List ℕ → Driver → Driver
 gets_content r key bytes d = notes r (kinds.Gain Script (length bytes) key) [] (commits r key d)
 
-abbrev pub gains : Given → ℕ → List ℕ → List ℕ → Driver → Driver
+abbrev pub gains : DriverInput → ℕ → List ℕ → List ℕ → Driver → Driver
 gains g r key bytes d = logs_status g r key (gets_content r key bytes d)
 
-abbrev pub fills_up : Given → ℕ → List ℕ → List ℕ → Driver → Driver
+abbrev pub fills_up : DriverInput → ℕ → List ℕ → List ℕ → Driver → Driver
 fills_up g r key bytes d = if fails_at d r calls.Append then faults r calls.Append d
     else unless_fails r calls.Commit (puts_part r key bytes d) (gains g r key bytes (puts_part r key bytes d))
 
 -- what is done where the content isn't there, nor being filled
-abbrev pub unless_busy : Given → ℕ → List ℕ → Driver → Driver → Driver
+abbrev pub unless_busy : DriverInput → ℕ → List ℕ → Driver → Driver → Driver
 unless_busy g r key d done = unless_fails r calls.Has d (if is_busy g d r key then d else unless_fails r calls.DropPart d done)
 
-abbrev pub has : Given → ℕ → List ℕ → List ℕ → Driver → Driver
+abbrev pub has : DriverInput → ℕ → List ℕ → List ℕ → Driver → Driver
 has g r key bytes d = unless_busy g r key d (fills_up g r key bytes (drops_part r key d))
 
-abbrev pub sets_part : Given → ℕ → List ℕ → List ℕ → Driver → Driver
+abbrev pub sets_part : DriverInput → ℕ → List ℕ → List ℕ → Driver → Driver
 sets_part g r key bytes d = unless_busy g r key d (begins_part r key bytes (drops_part r key d))
 
 -- ---- the tree
@@ -153,22 +153,22 @@ abbrev pub begins : ℕ → Job → Driver → Driver
 begins r job d = if nat_lt (length (works d.past r)) 4 then notes r (kinds.Begin (begun_count d.past r + 1) job) [] d else d
 
 -- an entry of r that only sends
-abbrev pub sends : Given → ℕ → EntryKind → List FrameView → Driver → Driver
+abbrev pub sends : DriverInput → ℕ → EntryKind → List FrameView → Driver → Driver
 sends g r kind sent d = adds (state_at g d r) r (record (entry d r kind []) { sent = sent }) d
 
-abbrev pub closes_end : Given → ℕ → EndName → Driver → Driver
+abbrev pub closes_end : DriverInput → ℕ → EndName → Driver → Driver
 closes_end g r a d = if (end_at d.past r a).opened then sends g r (kinds.Close a.peer a.slot a.client) (close_at (set_up_of g d r) (state_at g d r) a) d else d
 
-abbrev pub closes_each : Given → ℕ → List EndName → Driver → Driver
+abbrev pub closes_each : DriverInput → ℕ → List EndName → Driver → Driver
 closes_each g r [] d = d
 closes_each g r (a ∷ ends) d = closes_each g r ends (closes_end g r a d)
 
 -- the end of r of each connection with another
-abbrev pub closes : Given → ℕ → ℕ → Driver → Driver
+abbrev pub closes : DriverInput → ℕ → ℕ → Driver → Driver
 closes g r other d = closes_each g r (ends_with other true ++ ends_with other false) d
 
 -- its clock starts anew with this
-abbrev pub crashes : Given → ℕ → ℕ → Driver → Driver
+abbrev pub crashes : DriverInput → ℕ → ℕ → Driver → Driver
 crashes g r clock d = sends g r (kinds.Crash clock) (closes_all (set_up_of g d r) (state_at g d r)) d
 
 abbrev pub waits : ℕ → Driver → Driver

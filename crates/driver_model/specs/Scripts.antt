@@ -19,21 +19,21 @@ use Rattle.run_model.specs.Past.{Always}
 use Rattle.run_model.specs.Run.{IsSmall}
 use Rattle.driver_model.specs.Lines.{Agendum, BlockLine, Line, Runs, Crashes, Closes, Fails, Have, SetPart, Add, File, Set, Raw, Merge, Compact, Begin, Turns, Settle, Close, Crash, Wait, Fail, Par, Shows}
 use Rattle.driver_model.specs.Lines
-use Rattle.driver_model.specs.Driver.{Driver, Given}
+use Rattle.driver_model.specs.Driver.{Driver, DriverInput}
 
 -- ---- lines
 
 -- the repository is one of the run
-abbrev pub IsKnown : Given → ℕ → Type 0
+abbrev pub IsKnown : DriverInput → ℕ → Type 0
 IsKnown g r = r < length g.repos
 
 -- the repository may begin the job: its key is one, and its peer, which each copy and move has, is another repository
-pub record IsJob (g : Given) (r : ℕ) (job : Job) : Type 0 where
+pub record IsJob (g : DriverInput) (r : ℕ) (job : Job) : Type 0 where
   pub peer : IsPeer (record { number = r; repos = g.repos; paths = λ j. [] }) job.kind job.peer
   pub valid : first_fault job.key ≡ None
 
 -- the other is another repository of the run
-abbrev pub IsOther : Given → ℕ → ℕ → Type 0
+abbrev pub IsOther : DriverInput → ℕ → ℕ → Type 0
 IsOther g r other = (other < length g.repos) × (other ≢ r)
 
 -- the content has the size that the key says
@@ -51,18 +51,18 @@ IsPlainValue (values.Groups groups) = Each IsOneLine groups
 IsPlainValue value = Unit {0}
 
 -- a line of a block, of this repository
-abbrev pub IsBlockLine : Given → ℕ → BlockLine → Type 0
+abbrev pub IsBlockLine : DriverInput → ℕ → BlockLine → Type 0
 IsBlockLine g r (Runs job) = IsJob g r job
 IsBlockLine g r (Crashes clock) = Unit {0}
 IsBlockLine g r (Closes other) = IsOther g r other
 IsBlockLine g r (Fails call) = Unit {0}
 
-abbrev pub IsAgendum : Given → Agendum → Type 0
+abbrev pub IsAgendum : DriverInput → Agendum → Type 0
 IsAgendum g x = IsKnown g x.repo × IsBlockLine g x.repo x.line
 
 -- The line is one of the script's: it names repositories of the run and jobs that they may begin; a content is of a key, and
 -- has its size; what is written is a line of a file whose kind is known.
-abbrev pub IsOne : Given → Line → Type 0
+abbrev pub IsOne : DriverInput → Line → Type 0
 IsOne g (Have r key bytes) = IsKnown g r × IsContent key bytes
 IsOne g (SetPart r key bytes) = IsKnown g r
 IsOne g (Add r path key bytes) = IsKnown g r × IsContent key bytes
@@ -85,11 +85,11 @@ IsOne g Shows = Unit {0}
 -- ---- bounds
 
 -- a time is at most 1,000,000,000,000, a count and the size of a gain are below 2^62, and a clock is at most 100,000,000,000
-pub record Fit (past : List Entry) (e : Entry) : Type 0 where
+pub record IsWithinBounds (past : List Entry) (e : Entry) : Type 0 where
   pub in_time : e.time ≤ 1000000000000
   pub counted : e.count < 2 ^ 62
   pub small : IsSmall e.kind
 
 -- each entry is within its bounds, and so is the greatest part
-abbrev pub Fits : Driver → Type 0
-Fits d = Always Fit d.past × (d.largest < 2 ^ 62)
+abbrev pub HasBoundedPast : Driver → Type 0
+HasBoundedPast d = Always IsWithinBounds d.past × (d.largest < 2 ^ 62)

@@ -23,7 +23,7 @@ use Rattle.node_model.specs.State.{State}
 use Rattle.node_model.specs.Step.{step}
 use Rattle.node_model.specs.AnyTime.{all_ends}
 use Rattle.run_model.specs.Words.{word_told}
-use Rattle.driver_model.specs.Driver.{Driver, Flight, Given, adds, answers, without_old_flights, commits, drops_part, end_to, fails_at, frames_to, has_room, is_at, newest_count, part_at, puts_part, removes_content, set_up_of, state_at}
+use Rattle.driver_model.specs.Driver.{Driver, Flight, DriverInput, adds, answers, without_old_flights, commits, drops_part, end_to, fails_at, frames_to, has_room, is_at, newest_count, part_at, puts_part, removes_content, set_up_of, state_at}
 
 -- ---- what is at hand
 
@@ -78,7 +78,7 @@ abbrev pub part_size : Driver → ℕ → Option (List ℕ) → ℕ
 part_size d r None = 0
 part_size d r (Some key) = length (part_at d r key)
 
-abbrev pub part_right : Given → Driver → ℕ → Option (List ℕ) → Bool
+abbrev pub part_right : DriverInput → Driver → ℕ → Option (List ℕ) → Bool
 part_right g d r None = false
 part_right g d r (Some key) = g.matches key (part_at d r key)
 
@@ -112,14 +112,14 @@ fails_in d r s st k call = if fails_at d r call then meets s st k call else fals
 -- ---- the look of a turn
 
 -- where this would be made with a plain look: the look without a failing call, and with it
-abbrev pub calm_look : Given → Driver → ℕ → SetUp → State → Made → Look
+abbrev pub calm_look : DriverInput → Driver → ℕ → SetUp → State → Made → Look
 calm_look g d r s st m = record (plain_look s d) {
   part = part_size d r (asked_key st m);
   right = part_right g d r (asked_key st m);
   words = told_words d.past r m.kind;
 }
 
-abbrev pub look_for : Given → Driver → ℕ → SetUp → State → Made → Look
+abbrev pub look_for : DriverInput → Driver → ℕ → SetUp → State → Made → Look
 look_for g d r s st m = record (calm_look g d r s st m) { fails = find (fails_in d r s st (calm_look g d r s st m)) all_calls }
 
 -- ---- contents and parts afterwards
@@ -165,16 +165,16 @@ abbrev pub makes : State → ℕ → Look → Option Made → Driver → Driver
 makes st r k None d = d
 makes st r k (Some m) d = store_after st r m (bytes_taken r m.taken d) m.kind (adds st r (entry_of r k m) d)
 
-abbrev pub looks : Given → ℕ → SetUp → State → Option Made → Driver → Driver
+abbrev pub looks : DriverInput → ℕ → SetUp → State → Option Made → Driver → Driver
 looks g r s st None d = d
 looks g r s st (Some m) d = makes st r (look_for g d r s st m) (step s st (look_for g d r s st m)) d
 
-abbrev pub steps : Given → ℕ → SetUp → State → Driver → Driver
+abbrev pub steps : DriverInput → ℕ → SetUp → State → Driver → Driver
 steps g r s st d = looks g r s st (step s st (plain_look s d)) d
 
-abbrev pub after_turn : Given → ℕ → SetUp → State → Driver → Driver
+abbrev pub after_turn : DriverInput → ℕ → SetUp → State → Driver → Driver
 after_turn g r s st d = steps g r s st (without_old_flights st r d)
 
 -- a turn of r: it drops frames, and makes a step if one is ready
-abbrev pub turn : Given → ℕ → Driver → Driver
+abbrev pub turn : DriverInput → ℕ → Driver → Driver
 turn g r d = after_turn g r (set_up_of g d r) (state_at g d r) d

@@ -28,14 +28,14 @@ pub record HasCounted (c : End) (n len : ℕ) : Type 0 where
   pub at_it : c.epoch ≡ n → len ≡ c.sent
 
 -- these frames have the numbers after this one
-abbrev pub Follow : ℕ → List FrameView → Type 0
-Follow k [] = Unit {0}
-Follow k (g ∷ gs) = (g.seq ≡ k + 1) × Follow (k + 1) gs
+abbrev pub AreNumberedFrom : ℕ → List FrameView → Type 0
+AreNumberedFrom k [] = Unit {0}
+AreNumberedFrom k (g ∷ gs) = (g.seq ≡ k + 1) × AreNumberedFrom (k + 1) gs
 
 -- the frames that r sent at an end in an epoch have the numbers from 1 on, and the end knows how many they are
 pub record InOrder (past : List Entry) (r : ℕ) (a : EndName) (n : ℕ) : Type 0 where
   pub counted : HasCounted (end_at past r a) n (length (views_sent past (way_out r a n)))
-  pub follow : Follow 0 (views_sent past (way_out r a n))
+  pub follow : AreNumberedFrom 0 (views_sent past (way_out r a n))
 
 -- ---- flights
 
@@ -58,14 +58,14 @@ abbrev pub bodies_flying : ℕ → EndName → ℕ → List Flight → List Numb
 bodies_flying r a n xs = map (λ x. numbered_body x.frame) (filter (is_flight r a n) xs)
 
 -- an end that stands so takes no frame of the epoch any more
-abbrev pub Over : End → ℕ → Type 0
-Over c n = (n < c.epoch) ⊎ ((n ≡ c.epoch) × (c.opened ≡ false))
+abbrev pub IsOver : End → ℕ → Type 0
+IsOver c n = (n < c.epoch) ⊎ ((n ≡ c.epoch) × (c.opened ≡ false))
 
 -- what r sent at an end in an epoch, but for the frames that were taken, is on its way, in order
-pub record Live (past : List Entry) (xs : List Flight) (r : ℕ) (a : EndName) (n : ℕ) : Type 0 where
+pub record AreOnTheWay (past : List Entry) (xs : List Flight) (r : ℕ) (a : EndName) (n : ℕ) : Type 0 where
   pub inside : taken_count past (way_out r a n) ≤ length (bodies_sent past (way_out r a n))
   pub same : bodies_flying r a n xs ≡ drop (taken_count past (way_out r a n)) (bodies_sent past (way_out r a n))
 
 -- it is so, unless the peer's end takes none of them any more
 abbrev pub Flies : List Entry → List Flight → ℕ → EndName → ℕ → Type 0
-Flies past xs r a n = Over (end_at past a.peer (other_end r a)) n ⊎ Live past xs r a n
+Flies past xs r a n = IsOver (end_at past a.peer (other_end r a)) n ⊎ AreOnTheWay past xs r a n

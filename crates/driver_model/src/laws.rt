@@ -1,13 +1,16 @@
 //! The laws of driven runs. Each is the contract of a function that does nothing.
 
-ghost use Rattle.std.specs.Prelude.{◌≡◌, ◌≢◌, ℕ, ◌*◌, ◌^◌, ◌<◌, ◌≤◌, true, List, ◌∷◌, Some, None, length, take};
+ghost use Rattle.std.specs.Prelude.{◌≡◌, ◌≢◌, ℕ, ◌*◌, ◌^◌, ◌<◌, ◌≤◌, true, List, ◌∷◌, Some, None, length, map, take};
 ghost use Rattle.annex_base.specs.Lists.{Each};
 ghost use Rattle.run_data.specs.Repos.{IsSetUp};
 ghost use Rattle.run_data.specs.declared.entry.Entry.{Entry};
 ghost use Rattle.run_data.specs.declared.entry.FrameView.{FrameView};
 ghost use Rattle.run_data.specs.declared.run.Run.{Run};
+ghost use Rattle.node_model.specs.AnyTime.{all_ends};
 ghost use Rattle.node_model.specs.Ends.{EndName};
+ghost use Rattle.node_model.specs.Jobs.{Work, job_end};
 ghost use Rattle.node_model.specs.Look.{Look, Made};
+ghost use Rattle.node_model.specs.SetUp.{SetUp, others};
 ghost use Rattle.node_model.specs.Step.{step};
 ghost use Rattle.run_model.specs.Causes.{HasCauses};
 ghost use Rattle.run_model.specs.Past.{begun_count, is_of};
@@ -15,19 +18,21 @@ ghost use Rattle.run_model.specs.Run.{IsRun};
 ghost use Rattle.run_model.specs.Safety.{IsSafe};
 ghost use Rattle.run_model.specs.States.{end_at, works};
 ghost use Rattle.race_core.specs.Jobs.{AnswersAsked, AreJobs};
-ghost use Rattle.driver_model.specs.Driver.{Driver, Given, has_room, without_old_flights, set_up_of, state_at};
+ghost use Rattle.driver_model.specs.Apart.{AreApart};
+ghost use Rattle.driver_model.specs.Driver.{Driver, DriverInput, has_room, without_old_flights, set_up_of, state_at};
 ghost use Rattle.driver_model.specs.Driving.{driver_after, run_of};
 ghost use Rattle.driver_model.specs.Lines.{Line};
 ghost use Rattle.driver_model.specs.Logged.{LogsWell};
 ghost use Rattle.driver_model.specs.Rounds.{AfterRounds, is_settled, most_rounds, rounds};
-ghost use Rattle.driver_model.specs.Scripts.{Fits, IsKnown, IsOne};
+ghost use Rattle.driver_model.specs.Scripts.{HasBoundedPast, IsKnown, IsOne};
 ghost use Rattle.driver_model.specs.Sound.{IsSound};
 ghost use Rattle.driver_model.specs.Turning.{plain_look, turn};
 
 use annex_key::key_texts_have_no_fault;
 use race_core::{
-    frames_go_to_others, jobs_hear_nobody_twice, kept_words_were_asked, refusals_have_causes,
-    runs_are_safe, runs_grow, steps_find_their_cause,
+    frames_go_to_others, jobs_hear_nobody_twice, kept_words_were_asked,
+    own_entries_suit_their_ends, refusals_have_causes, running_jobs_stay_the_same, runs_are_safe,
+    runs_grow, steps_find_their_cause, steps_name_their_jobs, steps_take_what_is_at_hand,
 };
 use run_data::files_have_their_paths;
 use union_merge::{differences_make_the_union, unions_have_the_lines_of_both};
@@ -36,18 +41,22 @@ use union_merge::{differences_make_the_union, unions_have_the_lines_of_both};
 /// is each start of it, by which a driver ends that meets a full history. It is safe: the last copies stay; and each refused job
 /// has its cause there (git-annex-mincopies; causes are the project's own).
 pub fn driven_runs_are_runs()
-    ensures run { (g : Given) (lines : List Line) → Each IsSetUp g.repos → Each (IsOne g) lines → Fits (driver_after g lines)
+    ensures run { (g : DriverInput) (lines : List Line) → Each IsSetUp g.repos → Each (IsOne g) lines → HasBoundedPast (driver_after g lines)
         → IsRun (run_of g lines) }
-    ensures start { (g : Given) (lines : List Line) (place : ℕ) → Each IsSetUp g.repos → Each (IsOne g) lines → Fits (driver_after g lines)
+    ensures start { (g : DriverInput) (lines : List Line) (place : ℕ) → Each IsSetUp g.repos → Each (IsOne g) lines → HasBoundedPast (driver_after g lines)
         → place ≤ length (run_of g lines).entries → IsRun (record (run_of g lines) { entries = take place (run_of g lines).entries }) }
-    ensures safe { (g : Given) (lines : List Line) → Each IsSetUp g.repos → Each (IsOne g) lines → Fits (driver_after g lines)
+    ensures safe { (g : DriverInput) (lines : List Line) → Each IsSetUp g.repos → Each (IsOne g) lines → HasBoundedPast (driver_after g lines)
         → IsSafe (run_of g lines) }
-    ensures causes { (g : Given) (lines : List Line) → Each IsSetUp g.repos → Each (IsOne g) lines → Fits (driver_after g lines)
+    ensures causes { (g : DriverInput) (lines : List Line) → Each IsSetUp g.repos → Each (IsOne g) lines → HasBoundedPast (driver_after g lines)
         → HasCauses (run_of g lines) }
 {
     // For the proof, which cites them.
     steps_find_their_cause();
+    own_entries_suit_their_ends();
+    steps_take_what_is_at_hand();
+    steps_name_their_jobs();
     frames_go_to_others();
+    running_jobs_stay_the_same();
     runs_grow();
     runs_are_safe();
     refusals_have_causes();
@@ -63,7 +72,11 @@ pub fn runs_log_lines()
 {
     // For the proof, which cites them.
     steps_find_their_cause();
+    own_entries_suit_their_ends();
+    steps_take_what_is_at_hand();
+    steps_name_their_jobs();
     frames_go_to_others();
+    running_jobs_stay_the_same();
     runs_grow();
     files_have_their_paths();
     unions_have_the_lines_of_both();
@@ -74,34 +87,45 @@ pub fn runs_log_lines()
 /// A settling of fewer than 2,000,000 entries ends with two rounds that add none, so the bound on its rounds isn't met; and a turn
 /// that adds none found no step ready, with the first frame at each end at hand (own).
 pub fn settlings_come_to_rest()
-    ensures settled { (g : Given) (x : AfterRounds) (bound : ℕ) → bound ≡ most_rounds
+    ensures settled { (g : DriverInput) (x : AfterRounds) (bound : ℕ) → bound ≡ most_rounds
         → length (rounds g bound x).driver.past < 2000000 → is_settled (rounds g bound x) ≡ true }
-    ensures idle { (g : Given) (r : ℕ) (d : Driver) → length (turn g r d).past ≡ length d.past
+    ensures idle { (g : DriverInput) (r : ℕ) (d : Driver) → length (turn g r d).past ≡ length d.past
         → step (set_up_of g d r) (state_at g d r) (plain_look (set_up_of g d r) (without_old_flights (state_at g d r) r d)) ≡ None }
-{}
+{
+    // A law, for the proof.
+    steps_name_their_jobs();
+}
 
 /// Where the driver is sound, each end has sent at most twice as many frames since it was opened as there are entries, and its opening
 /// has at most twice that number too: an entry sends at most two frames at an end, and takes no opening but one that was sent (own).
 pub fn ends_have_small_numbers()
-    ensures sent { (g : Given) (d : Driver) (r : ℕ) (a : EndName) → IsSound g d → (end_at d.past r a).sent ≤ 2 * length d.past }
-    ensures epoch { (g : Given) (d : Driver) (r : ℕ) (a : EndName) → IsSound g d → (end_at d.past r a).epoch ≤ 2 * length d.past }
+    ensures sent { (g : DriverInput) (d : Driver) (r : ℕ) (a : EndName) → IsSound g d → (end_at d.past r a).sent ≤ 2 * length d.past }
+    ensures epoch { (g : DriverInput) (d : Driver) (r : ℕ) (a : EndName) → IsSound g d → (end_at d.past r a).epoch ≤ 2 * length d.past }
 {
-    // For the proof, which cites it.
+    // For the proof, which cites them.
     steps_find_their_cause();
+    own_entries_suit_their_ends();
 }
+
+/// The ends of a repository's connections are apart: each is listed once. So are the ends of a job's connections with each other
+/// repository (own).
+pub fn ends_are_apart()
+    ensures all { (s : SetUp) → AreApart (all_ends s) }
+    ensures job { (s : SetUp) (w : Work) → AreApart (map (job_end w) (others s)) }
+{}
 
 /// Where the driver is sound: the running jobs of a repository are as `AreJobs` says, with the numbers of their beginnings; each step that it may make sends to and takes
 /// from other repositories alone, so its ends at itself have room for good; and an answer that a job takes with the newest entry,
 /// where the word beside it is kept, comes of an entry that was asked for a word (own).
 pub fn sound_drivers_keep_their_jobs()
-    ensures jobs { (g : Given) (d : Driver) (r : ℕ) → IsSound g d → AreJobs (works d.past r) }
-    ensures numbers { (g : Given) (d : Driver) (r : ℕ) → IsSound g d → Each (λ w. w.number ≤ begun_count d.past r) (works d.past r) }
-    ensures sends { (g : Given) (d : Driver) (r : ℕ) (k : Look) (m : Made) → IsSound g d → IsKnown g r → k.part < 2 ^ 62
+    ensures jobs { (g : DriverInput) (d : Driver) (r : ℕ) → IsSound g d → AreJobs (works d.past r) }
+    ensures numbers { (g : DriverInput) (d : Driver) (r : ℕ) → IsSound g d → Each (λ w. w.number ≤ begun_count d.past r) (works d.past r) }
+    ensures sends { (g : DriverInput) (d : Driver) (r : ℕ) (k : Look) (m : Made) → IsSound g d → IsKnown g r → k.part < 2 ^ 62
         → step (set_up_of g d r) (state_at g d r) k ≡ Some m → Each (λ f. f.peer ≢ r) m.sent }
-    ensures takes { (g : Given) (d : Driver) (r : ℕ) (k : Look) (m : Made) (f : FrameView) → IsSound g d → IsKnown g r → k.part < 2 ^ 62
+    ensures takes { (g : DriverInput) (d : Driver) (r : ℕ) (k : Look) (m : Made) (f : FrameView) → IsSound g d → IsKnown g r → k.part < 2 ^ 62
         → step (set_up_of g d r) (state_at g d r) k ≡ Some m → m.taken ≡ Some f → f.peer ≢ r }
-    ensures room { (g : Given) (d : Driver) (r : ℕ) (a : EndName) → IsSound g d → a.peer ≡ r → has_room r d.flights a ≡ true }
-    ensures asked { (g : Given) (d : Driver) (past : List Entry) (e : Entry) (r : ℕ) → IsSound g d → d.past ≡ e ∷ past → is_of r e ≡ true
+    ensures room { (g : DriverInput) (d : Driver) (r : ℕ) (a : EndName) → IsSound g d → a.peer ≡ r → has_room r d.flights a ≡ true }
+    ensures asked { (g : DriverInput) (d : Driver) (past : List Entry) (e : Entry) (r : ℕ) → IsSound g d → d.past ≡ e ∷ past → is_of r e ≡ true
         → AnswersAsked past r e }
 {
     // For the proof, which cites them.

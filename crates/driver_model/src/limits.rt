@@ -12,7 +12,7 @@ ghost use Rattle.run_data.specs.declared.entry.LogFile.{LogFile};
 ghost use Rattle.run_data.specs.declared.job.Job.{Job};
 ghost use Rattle.run_data.specs.declared.run.Run.{Run};
 ghost use Rattle.run_model.specs.Logs.{branch};
-ghost use Rattle.driver_model.specs.Driver.{Driver, Given, drops_part, puts_part};
+ghost use Rattle.driver_model.specs.Driver.{Driver, DriverInput, drops_part, puts_part};
 ghost use Rattle.driver_model.specs.Driving.{does, run_of};
 ghost use Rattle.driver_model.specs.Limits.{AddsOwn, StopsAtFull, count_of, is_too_long, limited_run, names_path, within_limit};
 ghost use Rattle.driver_model.specs.Lines.{Line};
@@ -22,17 +22,20 @@ ghost use Rattle.driver_model.specs.Sound.{OnlyAdds, StaysSound};
 ghost use Rattle.driver_model.specs.Turning.{turn};
 
 use annex_key::key_texts_have_no_fault;
-use race_core::{frames_go_to_others, runs_grow, steps_find_their_cause};
+use race_core::{
+    frames_go_to_others, own_entries_suit_their_ends, running_jobs_stay_the_same, runs_grow,
+    steps_find_their_cause, steps_name_their_jobs, steps_take_what_is_at_hand,
+};
 use run_data::files_have_their_paths;
 use union_merge::{differences_make_the_union, unions_have_the_lines_of_both};
 
 /// Each step of the driver that one repository makes adds entries of that repository alone, in front of the past (own).
 pub fn steps_add_own_entries()
-    ensures turn { (g : Given) (r : ℕ) (d : Driver) → AddsOwn r d (turn g r d) }
-    ensures has { (g : Given) (r : ℕ) (key bytes : List ℕ) (d : Driver) → AddsOwn r d (has g r key bytes d) }
-    ensures part { (g : Given) (r : ℕ) (key bytes : List ℕ) (d : Driver) → AddsOwn r d (sets_part g r key bytes d) }
+    ensures turn { (g : DriverInput) (r : ℕ) (d : Driver) → AddsOwn r d (turn g r d) }
+    ensures has { (g : DriverInput) (r : ℕ) (key bytes : List ℕ) (d : Driver) → AddsOwn r d (has g r key bytes d) }
+    ensures part { (g : DriverInput) (r : ℕ) (key bytes : List ℕ) (d : Driver) → AddsOwn r d (sets_part g r key bytes d) }
     ensures writes { (r : ℕ) (file : LogFile) (line : List ℕ) (d : Driver) → AddsOwn r d (writes r file line d) }
-    ensures sets { (g : Given) (r : ℕ) (kind : LogKind) (topic : Topic) (value : Value) (d : Driver)
+    ensures sets { (g : DriverInput) (r : ℕ) (kind : LogKind) (topic : Topic) (value : Value) (d : Driver)
         → AddsOwn r d (sets g r kind topic value d) }
     ensures merges { (r : ℕ) (files : Files) (d : Driver) → AddsOwn r d (merges_files r files d) }
     ensures compacts { (r : ℕ) (files : Files) (d : Driver) → AddsOwn r d (compacts_files r files d) }
@@ -42,16 +45,20 @@ pub fn steps_add_own_entries()
 /// The driver is sound also where it has gone over some files of a merge or a compaction, or has a content and no line yet that
 /// says so (own).
 pub fn starts_of_steps_stay_sound()
-    ensures merges { (g : Given) (r other : ℕ) (done left : Files) (d : Driver) → IsKnown g r → branch d.past other ≡ done ++ left
+    ensures merges { (g : DriverInput) (r other : ℕ) (done left : Files) (d : Driver) → IsKnown g r → branch d.past other ≡ done ++ left
         → StaysSound g d (merges_files r done d) }
-    ensures compacts { (g : Given) (r : ℕ) (done left : Files) (d : Driver) → IsKnown g r → branch d.past r ≡ done ++ left
+    ensures compacts { (g : DriverInput) (r : ℕ) (done left : Files) (d : Driver) → IsKnown g r → branch d.past r ≡ done ++ left
         → StaysSound g d (compacts_files r done d) }
-    ensures content { (g : Given) (r : ℕ) (key bytes : List ℕ) (d : Driver) → IsKnown g r → IsContent key bytes
+    ensures content { (g : DriverInput) (r : ℕ) (key bytes : List ℕ) (d : Driver) → IsKnown g r → IsContent key bytes
         → is_busy g d r key ≡ false → StaysSound g d (gets_content r key bytes (puts_part r key bytes (drops_part r key d))) }
 {
     // For the proof, which cites them.
     steps_find_their_cause();
+    own_entries_suit_their_ends();
+    steps_take_what_is_at_hand();
+    steps_name_their_jobs();
     frames_go_to_others();
+    running_jobs_stay_the_same();
     runs_grow();
     files_have_their_paths();
     unions_have_the_lines_of_both();
@@ -64,24 +71,24 @@ pub fn starts_of_steps_stay_sound()
 /// limit it is the run up to that entry; nothing that a repository with a full history adds is within the limit. No line changes
 /// the marks before it, and none the tree but one that names a path. Where no line meets a full history the run is whole (own).
 pub fn runs_are_cut_where_histories_are_full()
-    ensures cut { (g : Given) (r : ℕ) (after : Driver) (run : Run) → StopsAtFull g r after run → is_too_long g after.past ≡ true }
-    ensures entries { (g : Given) (r : ℕ) (after : Driver) (run : Run) → StopsAtFull g r after run
+    ensures cut { (g : DriverInput) (r : ℕ) (after : Driver) (run : Run) → StopsAtFull g r after run → is_too_long g after.past ≡ true }
+    ensures entries { (g : DriverInput) (r : ℕ) (after : Driver) (run : Run) → StopsAtFull g r after run
         → reverse (within_limit g after.past) ≡ run.entries }
-    ensures later { (g : Given) (r : ℕ) (mid after : Driver) (run : Run) → StopsAtFull g r mid run → OnlyAdds mid after
+    ensures later { (g : DriverInput) (r : ℕ) (mid after : Driver) (run : Run) → StopsAtFull g r mid run → OnlyAdds mid after
         → StopsAtFull g r after run }
-    ensures asks { (g : Given) (r : ℕ) (d after : Driver) → r < length g.repos → AddsOwn r d after → count_of d.past r ≡ most_entries
+    ensures asks { (g : DriverInput) (r : ℕ) (d after : Driver) → r < length g.repos → AddsOwn r d after → count_of d.past r ≡ most_entries
         → ((q : ℕ) → count_of d.past q ≤ most_entries) → within_limit g after.past ≡ d.past }
-    ensures few { (g : Given) (past : List Entry) → ((q : ℕ) → q < length g.repos → count_of past q ≤ most_entries)
+    ensures few { (g : DriverInput) (past : List Entry) → ((q : ℕ) → q < length g.repos → count_of past q ≤ most_entries)
         → is_too_long g past ≡ false }
-    ensures marks { (g : Given) (line : Line) (d : Driver) → (does g line d).marks ≡ d.marks }
-    ensures tree { (g : Given) (line : Line) (d : Driver) → names_path line ≡ false → (does g line d).tree ≡ d.tree }
-    ensures step { (g : Given) (r : ℕ) (d : Driver) → (turn g r d).tree ≡ d.tree }
-    ensures whole { (g : Given) (lines : List Line) → (limited_run g lines).is_cut ≡ false
+    ensures marks { (g : DriverInput) (line : Line) (d : Driver) → (does g line d).marks ≡ d.marks }
+    ensures tree { (g : DriverInput) (line : Line) (d : Driver) → names_path line ≡ false → (does g line d).tree ≡ d.tree }
+    ensures step { (g : DriverInput) (r : ℕ) (d : Driver) → (turn g r d).tree ≡ d.tree }
+    ensures whole { (g : DriverInput) (lines : List Line) → (limited_run g lines).is_cut ≡ false
         → (limited_run g lines).run ≡ run_of g lines }
 {}
 
 /// Where a script's run is cut, some repository has a full history in it (own).
 pub fn cut_runs_have_a_full_history()
-    ensures { (g : Given) (lines : List Line) → Each (IsOne g) lines → (limited_run g lines).is_cut ≡ true
+    ensures { (g : DriverInput) (lines : List Line) → Each (IsOne g) lines → (limited_run g lines).is_cut ≡ true
         → (r : ℕ) × (r < length g.repos) × (count_of (reverse (limited_run g lines).run.entries) r ≡ most_entries) }
 {}

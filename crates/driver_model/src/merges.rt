@@ -6,7 +6,7 @@ ghost use Rattle.union_merge.specs.Branch.{lines_at, merge_by_path};
 ghost use Rattle.union_merge.specs.LineSet.{union};
 ghost use Rattle.run_model.specs.Logs.{branch};
 ghost use Rattle.run_model.specs.Run.{IsRun};
-ghost use Rattle.driver_model.specs.Driver.{Driver, Given, fails_at};
+ghost use Rattle.driver_model.specs.Driver.{Driver, DriverInput, fails_at};
 ghost use Rattle.driver_model.specs.Driving.{run_with};
 ghost use Rattle.driver_model.specs.ScriptSteps.{merges};
 
@@ -20,7 +20,7 @@ use union_merge::{
 /// those lines of the other branch's file that it lacks. Every other branch stays as it was; and where the store fails, each branch
 /// does (git-annex internals: branch files, which merge by union).
 pub fn merges_leave_the_union()
-    ensures union { (g : Given) (r other : ℕ) (d : Driver) → IsRun (run_with g d) → fails_at d r calls.PutFile ≡ false
+    ensures union { (g : DriverInput) (r other : ℕ) (d : Driver) → IsRun (run_with g d) → fails_at d r calls.PutFile ≡ false
         → (path : List ℕ) → lines_at (branch (merges r other d).past r) path ≡ union (lines_at (branch d.past r) path) (lines_at (branch d.past other) path) }
     ensures files { (r other : ℕ) (d : Driver) → fails_at d r calls.PutFile ≡ false
         → branch (merges r other d).past r ≡ merge_by_path (branch d.past r) (branch d.past other) }

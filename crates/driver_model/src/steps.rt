@@ -14,7 +14,7 @@ ghost use Rattle.run_data.specs.Files.{HasPath, kind_of};
 ghost use Rattle.run_data.specs.Repos.{IsSetUp};
 ghost use Rattle.run_model.specs.Past.{now};
 ghost use Rattle.union_merge.specs.LineSet.{IsLine};
-ghost use Rattle.driver_model.specs.Driver.{Driver, Given, at_first};
+ghost use Rattle.driver_model.specs.Driver.{Driver, DriverInput, at_first};
 ghost use Rattle.driver_model.specs.Driving.{does, turns, with_mark};
 ghost use Rattle.driver_model.specs.Lines.{Agendum, Line, waited_by};
 ghost use Rattle.driver_model.specs.Rounds.{blocks, round, settles};
@@ -24,36 +24,43 @@ ghost use Rattle.driver_model.specs.Sound.{IsSound, OnlyAdds, StaysSound};
 ghost use Rattle.driver_model.specs.Turning.{turn};
 
 use annex_key::key_texts_have_no_fault;
-use race_core::{frames_go_to_others, runs_grow, steps_find_their_cause};
+use race_core::{
+    frames_go_to_others, own_entries_suit_their_ends, running_jobs_stay_the_same, runs_grow,
+    steps_find_their_cause, steps_name_their_jobs, steps_take_what_is_at_hand,
+};
 use run_data::files_have_their_paths;
 use union_merge::{differences_make_the_union, unions_have_the_lines_of_both};
 
 /// The driver is sound at first, and each of its steps keeps it so, where the step is one of the script's and stays within the
 /// bounds of a run; so does each whole line. Without a condition of its own are steps that make no entry of a repository (own).
 pub fn drivers_stay_sound()
-    ensures first { (g : Given) → Each IsSetUp g.repos → IsSound g at_first }
-    ensures turn { (g : Given) (r : ℕ) (d : Driver) → IsKnown g r → StaysSound g d (turn g r d) }
-    ensures has { (g : Given) (r : ℕ) (key bytes : List ℕ) (d : Driver) → IsKnown g r → IsContent key bytes
+    ensures first { (g : DriverInput) → Each IsSetUp g.repos → IsSound g at_first }
+    ensures turn { (g : DriverInput) (r : ℕ) (d : Driver) → IsKnown g r → StaysSound g d (turn g r d) }
+    ensures has { (g : DriverInput) (r : ℕ) (key bytes : List ℕ) (d : Driver) → IsKnown g r → IsContent key bytes
         → StaysSound g d (has g r key bytes d) }
-    ensures part { (g : Given) (r : ℕ) (key bytes : List ℕ) (d : Driver) → IsKnown g r → StaysSound g d (sets_part g r key bytes d) }
-    ensures sets { (g : Given) (r : ℕ) (kind : LogKind) (topic : Topic) (value : Value) (d : Driver) → IsKnown g r → kind ≢ Location
+    ensures part { (g : DriverInput) (r : ℕ) (key bytes : List ℕ) (d : Driver) → IsKnown g r → StaysSound g d (sets_part g r key bytes d) }
+    ensures sets { (g : DriverInput) (r : ℕ) (kind : LogKind) (topic : Topic) (value : Value) (d : Driver) → IsKnown g r → kind ≢ Location
         → IsPlainTopic topic → IsPlainValue value → StaysSound g d (sets g r kind topic value d) }
-    ensures writes { (g : Given) (r : ℕ) (file : LogFile) (line : List ℕ) (d : Driver) → IsKnown g r → HasPath file
+    ensures writes { (g : DriverInput) (r : ℕ) (file : LogFile) (line : List ℕ) (d : Driver) → IsKnown g r → HasPath file
         → kind_of file ≢ None → IsLine line → StaysSound g d (writes r file line d) }
-    ensures merges { (g : Given) (r other : ℕ) (d : Driver) → IsKnown g r → StaysSound g d (merges r other d) }
-    ensures compacts { (g : Given) (r : ℕ) (d : Driver) → IsKnown g r → StaysSound g d (compacts r d) }
-    ensures begins { (g : Given) (r : ℕ) (job : Job) (d : Driver) → IsKnown g r → IsJob g r job → StaysSound g d (begins r job d) }
-    ensures closes { (g : Given) (r other : ℕ) (d : Driver) → IsKnown g r → IsOther g r other → StaysSound g d (closes g r other d) }
-    ensures crashes { (g : Given) (r clock : ℕ) (d : Driver) → IsKnown g r → StaysSound g d (crashes g r clock d) }
-    ensures waits { (g : Given) (milliseconds : ℕ) (d : Driver) → StaysSound g d (waits milliseconds d) }
-    ensures enters { (g : Given) (path key : List ℕ) (d : Driver) → StaysSound g d (enters path key d) }
-    ensures will_fail { (g : Given) (r : ℕ) (call : Call) (d : Driver) → StaysSound g d (will_fail r call d) }
-    ensures mark { (g : Given) (d : Driver) → StaysSound g d (with_mark d) }
-    ensures line { (g : Given) (line : Line) (d : Driver) → IsOne g line → StaysSound g d (does g line d) }
+    ensures merges { (g : DriverInput) (r other : ℕ) (d : Driver) → IsKnown g r → StaysSound g d (merges r other d) }
+    ensures compacts { (g : DriverInput) (r : ℕ) (d : Driver) → IsKnown g r → StaysSound g d (compacts r d) }
+    ensures begins { (g : DriverInput) (r : ℕ) (job : Job) (d : Driver) → IsKnown g r → IsJob g r job → StaysSound g d (begins r job d) }
+    ensures closes { (g : DriverInput) (r other : ℕ) (d : Driver) → IsKnown g r → IsOther g r other → StaysSound g d (closes g r other d) }
+    ensures crashes { (g : DriverInput) (r clock : ℕ) (d : Driver) → IsKnown g r → StaysSound g d (crashes g r clock d) }
+    ensures waits { (g : DriverInput) (milliseconds : ℕ) (d : Driver) → StaysSound g d (waits milliseconds d) }
+    ensures enters { (g : DriverInput) (path key : List ℕ) (d : Driver) → StaysSound g d (enters path key d) }
+    ensures will_fail { (g : DriverInput) (r : ℕ) (call : Call) (d : Driver) → StaysSound g d (will_fail r call d) }
+    ensures mark { (g : DriverInput) (d : Driver) → StaysSound g d (with_mark d) }
+    ensures line { (g : DriverInput) (line : Line) (d : Driver) → IsOne g line → StaysSound g d (does g line d) }
 {
     // For the proof, which cites them.
     steps_find_their_cause();
+    own_entries_suit_their_ends();
+    steps_take_what_is_at_hand();
+    steps_name_their_jobs();
     frames_go_to_others();
+    running_jobs_stay_the_same();
     runs_grow();
     files_have_their_paths();
     unions_have_the_lines_of_both();
@@ -64,26 +71,26 @@ pub fn drivers_stay_sound()
 /// Each step of the driver leaves the entries that it finds as they are, in their places: it only adds entries behind them. So
 /// do turns, rounds, settlings and blocks, and each whole line (own).
 pub fn drivers_only_add()
-    ensures turn { (g : Given) (r : ℕ) (d : Driver) → OnlyAdds d (turn g r d) }
-    ensures has { (g : Given) (r : ℕ) (key bytes : List ℕ) (d : Driver) → OnlyAdds d (has g r key bytes d) }
-    ensures part { (g : Given) (r : ℕ) (key bytes : List ℕ) (d : Driver) → OnlyAdds d (sets_part g r key bytes d) }
-    ensures sets { (g : Given) (r : ℕ) (kind : LogKind) (topic : Topic) (value : Value) (d : Driver)
+    ensures turn { (g : DriverInput) (r : ℕ) (d : Driver) → OnlyAdds d (turn g r d) }
+    ensures has { (g : DriverInput) (r : ℕ) (key bytes : List ℕ) (d : Driver) → OnlyAdds d (has g r key bytes d) }
+    ensures part { (g : DriverInput) (r : ℕ) (key bytes : List ℕ) (d : Driver) → OnlyAdds d (sets_part g r key bytes d) }
+    ensures sets { (g : DriverInput) (r : ℕ) (kind : LogKind) (topic : Topic) (value : Value) (d : Driver)
         → OnlyAdds d (sets g r kind topic value d) }
     ensures writes { (r : ℕ) (file : LogFile) (line : List ℕ) (d : Driver) → OnlyAdds d (writes r file line d) }
     ensures merges { (r other : ℕ) (d : Driver) → OnlyAdds d (merges r other d) }
     ensures compacts { (r : ℕ) (d : Driver) → OnlyAdds d (compacts r d) }
     ensures begins { (r : ℕ) (job : Job) (d : Driver) → OnlyAdds d (begins r job d) }
-    ensures closes { (g : Given) (r other : ℕ) (d : Driver) → OnlyAdds d (closes g r other d) }
-    ensures crashes { (g : Given) (r clock : ℕ) (d : Driver) → OnlyAdds d (crashes g r clock d) }
+    ensures closes { (g : DriverInput) (r other : ℕ) (d : Driver) → OnlyAdds d (closes g r other d) }
+    ensures crashes { (g : DriverInput) (r clock : ℕ) (d : Driver) → OnlyAdds d (crashes g r clock d) }
     ensures waits { (milliseconds : ℕ) (d : Driver) → OnlyAdds d (waits milliseconds d) }
     ensures enters { (path key : List ℕ) (d : Driver) → OnlyAdds d (enters path key d) }
     ensures will_fail { (r : ℕ) (call : Call) (d : Driver) → OnlyAdds d (will_fail r call d) }
     ensures mark { (d : Driver) → OnlyAdds d (with_mark d) }
-    ensures turns { (g : Given) (r n : ℕ) (d : Driver) → OnlyAdds d (turns g r n d) }
-    ensures round { (g : Given) (d : Driver) → OnlyAdds d (round g d) }
-    ensures settles { (g : Given) (d : Driver) → OnlyAdds d (settles g d) }
-    ensures blocks { (g : Given) (lines : List Agendum) (d : Driver) → OnlyAdds d (blocks g lines d) }
-    ensures line { (g : Given) (line : Line) (d : Driver) → OnlyAdds d (does g line d) }
+    ensures turns { (g : DriverInput) (r n : ℕ) (d : Driver) → OnlyAdds d (turns g r n d) }
+    ensures round { (g : DriverInput) (d : Driver) → OnlyAdds d (round g d) }
+    ensures settles { (g : DriverInput) (d : Driver) → OnlyAdds d (settles g d) }
+    ensures blocks { (g : DriverInput) (lines : List Agendum) (d : Driver) → OnlyAdds d (blocks g lines d) }
+    ensures line { (g : DriverInput) (line : Line) (d : Driver) → OnlyAdds d (does g line d) }
 {}
 
 /// The line of a setting is one line, and isn't empty, where what is set is written without a newline (own).
@@ -94,5 +101,5 @@ pub fn settings_are_lines()
 
 /// No line takes time but one that waits (own).
 pub fn only_waits_take_time()
-    ensures { (g : Given) (line : Line) (d : Driver) → now (does g line d).past ≡ now d.past + waited_by line }
+    ensures { (g : DriverInput) (line : Line) (d : Driver) → now (does g line d).past ≡ now d.past + waited_by line }
 {}

@@ -6,10 +6,12 @@ ghost use Rattle.node_model.specs.Look.{Look, Made};
 ghost use Rattle.node_model.specs.SetUp.{SetUp};
 ghost use Rattle.node_model.specs.State.{State};
 ghost use Rattle.node_model.specs.Step.{step};
-ghost use Rattle.driver_model.specs.Driver.{Driver, Given, set_up_of, state_at};
+ghost use Rattle.driver_model.specs.Driver.{Driver, DriverInput, set_up_of, state_at};
 ghost use Rattle.driver_model.specs.Finding.{MakesStep, after_step, driver_at_turn};
 ghost use Rattle.driver_model.specs.Turning.{plain_look, turn};
 ghost use Rattle.driver_model.specs.WordsRead.{AgreeWhereRead};
+
+use race_core::steps_name_their_jobs;
 
 /// A step doesn't change with the words beside what a job was told, but for those that the end of a job reads: where it ends no
 /// job, all other words give the same step; where it ends one, all that are the same of a repository which refused a look, and of
@@ -23,7 +25,10 @@ pub fn words_where_unseen()
 /// drops old frames. Where the repository makes a step at a look that is the driver's for it, and fails in it at the first call that is
 /// to fail, the turn adds this step's entry. So a program that makes the step needs no probe for its part, words and failing call (own).
 pub fn turns_are_found()
-    ensures idle { (g : Given) (r : ℕ) (d : Driver) → step (set_up_of g d r) (state_at g d r) (plain_look (set_up_of g d r) (driver_at_turn g r d)) ≡ None
+    ensures idle { (g : DriverInput) (r : ℕ) (d : Driver) → step (set_up_of g d r) (state_at g d r) (plain_look (set_up_of g d r) (driver_at_turn g r d)) ≡ None
         → turn g r d ≡ driver_at_turn g r d }
-    ensures moved { (g : Given) (r : ℕ) (d : Driver) (m : Made) → MakesStep g r d m → turn g r d ≡ after_step g r d m }
-{}
+    ensures moved { (g : DriverInput) (r : ℕ) (d : Driver) (m : Made) → MakesStep g r d m → turn g r d ≡ after_step g r d m }
+{
+    // A law, for the proof.
+    steps_name_their_jobs();
+}

@@ -3,6 +3,7 @@ use Rattle.std.proofs.Common.{◌≡◌, ◌⊎◌, inl, inr, ℕ, ◌+◌, ◌<
 use Rattle.std.proofs.lemmas.List.{drop_more}
 use Rattle.std.specs.Prelude.{is_some}
 use Rattle.std.specs.Option.{option_map}
+use Rattle.std.proofs.lemmas.Option.{same_Some}
 use Rattle.annex_base.specs.OptionSteps.{◌>>=◌}
 use Rattle.annex_base.proofs.Options.{bind_some, map_some}
 use Rattle.run_data.specs.declared.run.RepoView.{RepoView}
@@ -19,9 +20,6 @@ not_here : (repos : List RepoView) (c : Command) (rest : List Command) (line : L
     → first_unbuilt repos (c ∷ rest) ≡ Some (n + 1)
 not_here repos c rest line n is later = ap (λ o. unless_built o (first_unbuilt repos rest)) is ∙ ap (option_map (λ m. m + 1)) later
 
-some_is : {X : Type 0} (x y : X) → Some x ≡ Some y → x ≡ y
-some_is x y e = cc
-
 -- the first of the lines, and the others
 pub record FirstLine (repos : List RepoView) (c : Command) (rest : List Command) (lines : List Line) : Type 0 where
   pub line : Line
@@ -34,7 +32,7 @@ pub first_line : (repos : List RepoView) (c : Command) (rest : List Command) (li
 first_line repos c rest lines is =
     let one = bind_some (line_of repos c) (λ t. lines_of repos rest >>= λ ts. Some (t ∷ ts)) lines is in
     let more = bind_some (lines_of repos rest) (λ ts. Some (one.0 ∷ ts)) lines one.2 in
-    record { line = one.0; others = more.0; here = one.1; behind = more.1; both = some_is (one.0 ∷ more.0) lines more.2 }
+    record { line = one.0; others = more.0; here = one.1; behind = more.1; both = same_Some (one.0 ∷ more.0) lines more.2 }
 
 -- ---- one thing is said of a script
 

@@ -22,12 +22,8 @@ use Rattle.script_lang.specs.Script.{context_with}
 use Rattle.script_lang.specs.Standing as standing
 use Rattle.driver_model.specs.Lines.{Line}
 use Rattle.driver_model.specs.Lines as driver
-use Rattle.driver_script.specs.Lines.{declared_by, is_plain_repo, line_of, lines_of, repos_of}
+use Rattle.driver_script.specs.Lines.{declared_by, is_plain_repo, line_of, lines_of, repos_of, view_of}
 use Rattle.driver_script.proofs.BuiltLemmas.{first_line}
-
--- a repository of a script as runs show it
-abbrev pub view_of : Repository → RepoView
-view_of r = record { name = r.name; id = r.id; offset = r.offset; version = r.version; locks = r.locks }
 
 abbrev id_in : RepoView → List ℕ
 id_in r = r.id
@@ -63,7 +59,7 @@ new_id (d ∷ repos) id unused =
 version_is : (version : ℕ) (locks : Bool) (l : Line) → line_of [] (commands.Repo [] [] 0 version locks) ≡ Some l → version ≡ 3
 version_is version locks l e = let w = where_some (is_plain_repo version locks) (Some driver.Shows) l e in eqb-true version 3 (and_parts (version == 3) locks w.0).0
 
-one_more : (repos : List RepoView) (x : Context) (c : Command) (l : Line) → standing.Stands x c → first_limit x c ≡ None → line_of repos c ≡ Some l → Declares (map view_of x.repos)
+one_more : (repos : List RepoView) (x : Context) (c : Command) (l : Line) → standing.IsValidIn x c → first_limit x c ≡ None → line_of repos c ≡ Some l → Declares (map view_of x.repos)
     → Declares (map view_of x.repos ++ declared_by c)
 one_more repos x (commands.Repo name id offset version locks) l s p e d =
     let new : RepoView = record { name = name; id = id; offset = offset; version = version; locks = locks } in
@@ -82,12 +78,8 @@ one_more repos x c l s p e d = subst Declares (sym (append-nil (map view_of x.re
 
 -- ---- all of them
 
-views_alike : (c : Command) → map view_of (script.declared_by c) ≡ declared_by c
-views_alike (commands.Repo name id offset version locks) = refl
-views_alike c = refl
-
 views_with : (x : Context) (c : Command) → map view_of (context_with x c).repos ≡ map view_of x.repos ++ declared_by c
-views_with x c = map-append view_of x.repos (script.declared_by c) ∙ ap (λ more. map view_of x.repos ++ more) (views_alike c)
+views_with x c = map-append view_of x.repos (script.declared_by c)
 
 pub all_declare : (repos : List RepoView) (x : Context) (cs : List Command) (lines : List Line) → standing.AllStand x cs → lines_of repos cs ≡ Some lines → Declares (map view_of x.repos)
     → Declares (map view_of x.repos ++ repos_of cs)

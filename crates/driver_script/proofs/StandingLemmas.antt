@@ -3,12 +3,13 @@ use Rattle.std.proofs.Common.{◌≡◌, ◌≢◌, ◌⊎◌, inl, inr, ℕ, �
 use Rattle.std.specs.Prelude.{is_none, if◌then◌else◌}
 use Rattle.std.proofs.lemmas.Bool.{and_parts}
 use Rattle.std.proofs.lemmas.Bool.Decides.{eqb_tells}
+use Rattle.std.proofs.lemmas.List.{length-map}
 use Rattle.annex_base.specs.Lines.{IsOneLine, is_not_newline, newline}
 use Rattle.annex_base.specs.Lists.{Each, Member}
 use Rattle.annex_base.proofs.Conditions.{eqb_refl}
 use Rattle.annex_base.proofs.Lines.{one_line-by_test, one_line-members}
 use Rattle.annex_base.proofs.Lists.{Each-weaker, list_all_weaker}
-use Rattle.annex_base.proofs.Options.{where_some}
+use Rattle.annex_base.proofs.Options.{is_none_true, where_some}
 use Rattle.annex_key.specs.KeyText.{IsKeyText}
 use Rattle.annex_key.specs.View.{first_fault, size_part}
 use Rattle.log_lines.specs.LineText.{is_group, is_group_byte}
@@ -31,11 +32,11 @@ use Rattle.script_lang.specs.Context.{Context}
 use Rattle.script_lang.specs.Script as script
 use Rattle.script_lang.specs.Script.{context_with}
 use Rattle.script_lang.specs.Standing as standing
-use Rattle.driver_model.specs.Driver.{Given}
+use Rattle.driver_model.specs.Driver.{DriverInput}
 use Rattle.driver_model.specs.Lines.{Line}
 use Rattle.driver_model.specs.Lines as driver
 use Rattle.driver_model.specs.Scripts.{IsJob, IsOne}
-use Rattle.driver_script.specs.Lines.{declared_by, if_built, is_added, is_drop, is_local_drop, is_plain, is_plain_repo, is_shown, is_written, line_of, lines_of, repos_of}
+use Rattle.driver_script.specs.Lines.{declared_by, if_built, is_added, is_drop, is_local_drop, is_plain, is_plain_repo, is_shown, is_written, line_of, lines_of, repos_of, view_of}
 use Rattle.driver_script.proofs.BuiltLemmas.{first_line}
 
 -- ---- what a line has
@@ -75,35 +76,31 @@ drop_is job_kinds.Copy e = absurd cc
 drop_is job_kinds.MoveTo e = absurd cc
 drop_is job_kinds.MoveFrom e = absurd cc
 
-none_is : {A : Type 0} (o : Option A) → is_none o ≡ true → o ≡ None
-none_is None e = refl
-none_is (Some x) e = absurd cc
-
 -- the law of the texts of keys, as the lemmas take it
 abbrev pub KeysHaveNoFault : Type 0
 KeysHaveNoFault = (key : List ℕ) → IsKeyText key → first_fault key ≡ None
 
-job_is : KeysHaveNoFault → (g : Given) (r : ℕ) (job : Job) → is_local_drop job ≡ true → IsKeyText job.key → IsJob g r job
+job_is : KeysHaveNoFault → (g : DriverInput) (r : ℕ) (job : Job) → is_local_drop job ≡ true → IsKeyText job.key → IsJob g r job
 job_is valid g r job e key =
     let both = and_parts (is_drop job.kind) (is_none job.path && is_none job.peer) e in
     let none = and_parts (is_none job.path) (is_none job.peer) both.1 in
-    record { peer = rw (none_is job.peer none.1) (rw (drop_is job.kind both.0) refl); valid = valid job.key key }
+    record { peer = rw (is_none_true job.peer none.1) (rw (drop_is job.kind both.0) refl); valid = valid job.key key }
 
 -- ---- one line
 
-line : (g : Given) (l m : Line) → Some l ≡ Some m → IsOne g l → IsOne g m
+line : (g : DriverInput) (l m : Line) → Some l ≡ Some m → IsOne g l → IsOne g m
 line g l m e is = subst (IsOne g) (some_is l m e) is
   where
     some_is : (l m : Line) → Some l ≡ Some m → l ≡ m
     some_is l m e = cc
 
-built : (g : Given) (b : Bool) (l m : Line) → if_built b l ≡ Some m → (b ≡ true → IsOne g l) → IsOne g m
+built : (g : DriverInput) (b : Bool) (l m : Line) → if_built b l ≡ Some m → (b ≡ true → IsOne g l) → IsOne g m
 built g b l m e is = let w = where_some b (Some l) m e in line g l m w.1 (is w.0)
 
 known : (n m r : ℕ) → n ≤ m → r < n → r < m
 known n m r few less = omega (arith, few, less)
 
-one_line : KeysHaveNoFault → (g : Given) (repos : List RepoView) (x : Context) (c : Command) (l : Line) → length x.repos ≤ length g.repos → standing.Stands x c → line_of repos c ≡ Some l → IsOne g l
+one_line : KeysHaveNoFault → (g : DriverInput) (repos : List RepoView) (x : Context) (c : Command) (l : Line) → length x.repos ≤ length g.repos → standing.IsValidIn x c → line_of repos c ≡ Some l → IsOne g l
 one_line v g repos x (commands.Repo name id offset version locks) l n s e = built g (is_plain_repo version locks) driver.Shows l e (λ b. tt)
 one_line v g repos x (commands.Numcopies r k) l n s e = line g (driver.Set r kinds.Numcopies topics.Whole (values.Number k)) l e (known _ _ r n s.0, (λ same. cc), tt, tt)
 one_line v g repos x (commands.Mincopies r k) l n s e = line g (driver.Set r kinds.Mincopies topics.Whole (values.Number k)) l e (known _ _ r n s.0, (λ same. cc), tt, tt)
@@ -138,10 +135,9 @@ one_line v g repos x c l n s e = absurd cc
 
 -- a command declares as many repositories for those behind it as the driver has more
 declares_alike : (c : Command) → length (script.declared_by c) ≡ length (declared_by c)
-declares_alike (commands.Repo name id offset version locks) = refl
-declares_alike c = refl
+declares_alike c = sym (length-map (script.declared_by c) view_of)
 
-pub all_lines : KeysHaveNoFault → (g : Given) (repos : List RepoView) (x : Context) (cs : List Command) (lines : List Line)
+pub all_lines : KeysHaveNoFault → (g : DriverInput) (repos : List RepoView) (x : Context) (cs : List Command) (lines : List Line)
     → length x.repos + length (repos_of cs) ≤ length g.repos → standing.AllStand x cs → lines_of repos cs ≡ Some lines → Each (IsOne g) lines
 all_lines v g repos x [] lines n s e = subst (Each (IsOne g)) (some_is [] lines e) tt
   where

@@ -5,7 +5,7 @@ use Rattle.key_verify.specs.declared.verdict.Verdict.TheVariants.{Right}
 use Rattle.key_verify.specs.Matching.{verdict_of}
 use Rattle.key_verify.specs.Sums.{sum_of}
 use Rattle.script_lang.specs.declared.command.Command.{Command}
-use Rattle.driver_model.specs.Driver.{Given}
+use Rattle.driver_model.specs.Driver.{DriverInput}
 use Rattle.driver_script.specs.Lines.{repos_of}
 
 abbrev pub is_right : Verdict → Bool
@@ -17,5 +17,5 @@ abbrev pub matches : List ℕ → List ℕ → Bool
 matches key bytes = is_right (verdict_of key (sum_of key bytes))
 
 -- the repositories that the commands declare
-abbrev pub given_of : List Command → Given
-given_of commands = record { repos = repos_of commands; matches = matches }
+abbrev pub driver_input_of : List Command → DriverInput
+driver_input_of commands = record { repos = repos_of commands; matches = matches }

@@ -1,5 +1,5 @@
 -- The lines of the driver that the commands of a script are, where no part is missing to do them (own).
-use Rattle.std.specs.Prelude.{ℕ, ◌+◌, Bool, true, false, ◌==◌, ◌&&◌, List, [], ◌∷◌, ◌++◌, Option, Some, None, is_none, if◌then◌else◌}
+use Rattle.std.specs.Prelude.{ℕ, ◌+◌, Bool, true, false, ◌==◌, ◌&&◌, List, [], ◌∷◌, ◌++◌, map, Option, Some, None, is_none, if◌then◌else◌}
 use Rattle.std.specs.Option.{option_map}
 use Rattle.annex_base.specs.OptionSteps.{◌>>=◌}
 use Rattle.log_lines.specs.declared.entry.LogKind.{LogKind}
@@ -16,15 +16,20 @@ use Rattle.run_data.specs.declared.run.RepoView.{RepoView}
 use Rattle.script_lang.specs.declared.command.NamedKey.{NamedKey}
 use Rattle.script_lang.specs.declared.command.Command.{Command}
 use Rattle.script_lang.specs.declared.command.Command.TheVariants as commands
+use Rattle.script_lang.specs.declared.context.Repository.{Repository}
+use Rattle.script_lang.specs.Script as script
 use Rattle.driver_model.specs.Lines as driver
 use Rattle.driver_model.specs.Lines.{Line}
 
 -- ---- the repositories of a script
 
+-- a repository of a script as runs show it
+abbrev pub view_of : Repository → RepoView
+view_of r = record { name = r.name; id = r.id; offset = r.offset; version = r.version; locks = r.locks }
+
 -- the repositories that the command declares
 abbrev pub declared_by : Command → List RepoView
-declared_by (commands.Repo name id offset version locks) = record { name = name; id = id; offset = offset; version = version; locks = locks } ∷ []
-declared_by command = []
+declared_by command = map view_of (script.declared_by command)
 
 -- those that the commands declare, in order of number
 abbrev pub repos_of : List Command → List RepoView

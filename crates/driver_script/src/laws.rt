@@ -8,7 +8,7 @@ ghost use Rattle.script_lang.specs.declared.command.Command.{Command};
 ghost use Rattle.script_lang.specs.Script.{Commands, reading, wait_of};
 ghost use Rattle.driver_model.specs.Lines.{Line, waited_by};
 ghost use Rattle.driver_model.specs.Scripts.{IsOne};
-ghost use Rattle.driver_script.specs.Given.{given_of, matches};
+ghost use Rattle.driver_script.specs.Given.{driver_input_of, matches};
 ghost use Rattle.driver_script.specs.Lines.{first_unbuilt, line_of, lines_of, repos_of};
 ghost use Rattle.driver_script.specs.Script.{IsScript, IsUnbuilt};
 
@@ -22,7 +22,7 @@ pub fn scripts_may_be_driven()
     ensures repos { (text : List ℕ) (all : List Command) (lines : List Line) → IsScript text all lines → Each IsSetUp (repos_of all) }
     ensures few { (text : List ℕ) (all : List Command) (lines : List Line) → IsScript text all lines → length (repos_of all) ≤ 8 }
     ensures apart { (text : List ℕ) (all : List Command) (lines : List Line) → IsScript text all lines → AllPairs (λ a b. a ≢ b) (map (λ repo. repo.id) (repos_of all)) }
-    ensures lines { (text : List ℕ) (all : List Command) (lines : List Line) → IsScript text all lines → Each (IsOne (given_of all)) lines }
+    ensures lines { (text : List ℕ) (all : List Command) (lines : List Line) → IsScript text all lines → Each (IsOne (driver_input_of all)) lines }
 {
     // For the proof, which cites them.
     commands_stand();
@@ -33,6 +33,7 @@ pub fn scripts_may_be_driven()
 pub fn bytes_are_matched()
     ensures { (key bytes : List ℕ) → (matches key bytes ≡ true) ↔ MatchesKey key bytes }
 {
+    // For the proof, which cites it.
     verdicts_are_matches();
 }
 

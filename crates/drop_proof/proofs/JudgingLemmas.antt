@@ -18,11 +18,6 @@ count_by-counts_local [] = refl
 count_by-counts_local (i ∷ items) =
     sum_by-cons (λ x. 1) i items ∙ grind (arith, count_by-counts_local items)
 
--- the rule, from the test
-pub MeetsRule-from_is_enough : (side : Side) (need : Need) (items : List Evidence) → is_enough side need items ≡ true → MeetsRule side need items
-MeetsRule-from_is_enough Local need items h = grind (arith, nat_tests, count_by-counts_local items)
-MeetsRule-from_is_enough Remote need items h = grind (arith, nat_tests)
-
 -- the test, from the rule
 pub is_enough-from_MeetsRule : (side : Side) (need : Need) (items : List Evidence) → MeetsRule side need items → is_enough side need items ≡ true
 is_enough-from_MeetsRule Local need items h = grind (arith, nat_tests, count_by-counts_local items)

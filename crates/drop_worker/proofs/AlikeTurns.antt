@@ -2,6 +2,7 @@
 use Rattle.std.proofs.Common.{◌≡◌, ℕ, Bool, true, false, not, List, [], ◌∷◌, ◌++◌, Option, Some, None, refl, sym, ap, ◌∙◌}
 use Rattle.std.specs.Prelude.{◌==◌, ◌&&◌, ◌^◌, ◌+◌, ◌-◌, ◌/◌, if◌then◌else◌, filter, find, flat_map, nat_le, nat_lt}
 use Rattle.std.specs.List.{list_all, range_with_len}
+use Rattle.std.proofs.Math.Bool.{and-false}
 use Rattle.drop_proof.specs.declared.rule.Side.{Side}
 use Rattle.drop_proof.specs.declared.rule.Side.TheVariants.{Local, Remote}
 use Rattle.drop_proof.specs.Judging.{is_enough, least_end}
@@ -18,7 +19,7 @@ use Rattle.p2p_wire.specs.declared.message.Message.TheVariants as messages
 use Rattle.p2p_wire.specs.declared.message.Message.TheVariants.{RemoveBefore, UnlockContent}
 use Rattle.p2p_wire.specs.Messages.{message_of, text_of}
 use Rattle.node_model.specs.Calls.{to_release}
-use Rattle.node_model.specs.DropStep.{asks_copy, asks_lock, asks_target, expiry, first_drop, first_end, first_remote, lacking, orders, removal_outcome, required_there, takes_drop, takes_time, target, times, tries_own}
+use Rattle.node_model.specs.DropStep.{asks_copy, asks_lock, asks_target, expiry, first_drop, first_end, first_remote, lacking_outcome, orders, removal_outcome, required_there, takes_drop, takes_time, target, times, tries_own}
 use Rattle.node_model.specs.Ends.{frames}
 use Rattle.node_model.specs.Evidence.{Asked, Claimed, Fails, Gives, Ignored, Offer, Standing, but, failures, gather, pick, proof_of, reached_candidates}
 use Rattle.node_model.specs.Jobs as jobs
@@ -66,10 +67,6 @@ failures_same f g a b same cause (c ∷ cs) =
     go (Gives kind) e rest = rest
     go Fails e rest = λ i. record { repo = c; cause = cause c e i } ∷ rest i
 
-and_false : (b : Bool) → (b && false) ≡ false
-and_false true = refl
-and_false false = refl
-
 -- ---- a turn with another list of what was heard
 
 module _ (t : Turn) (hs : List (ℕ × Heard)) (alike : HeardAlike t.read t.w.heard hs) (drops : t.w.part ≡ Drops) (remote : side_of t.w ≡ Remote) where
@@ -79,7 +76,7 @@ module _ (t : Turn) (hs : List (ℕ × Heard)) (alike : HeardAlike t.read t.w.he
   -- what it knows
 
   heard_asked : (c : ℕ) → t.read.standing c ≡ Asked → newest t.w.heard c ≡ newest hs c
-  heard_asked c asked = alike c (ap (λ (s : Standing). (c == t.read.repo) && not (is_asked s)) asked ∙ and_false (c == t.read.repo))
+  heard_asked c asked = alike c (ap (λ (s : Standing). (c == t.read.repo) && not (is_asked s)) asked ∙ and-false (c == t.read.repo))
 
   heard_other : (c : ℕ) → (c == t.read.repo) ≡ false → newest t.w.heard c ≡ newest hs c
   heard_other c other = alike c (ap (λ (b : Bool). b && not (is_asked (t.read.standing c))) other)
@@ -125,7 +122,7 @@ module _ (t : Turn) (hs : List (ℕ × Heard)) (alike : HeardAlike t.read t.w.he
       go c (Ignored cause) e fails = refl
       go c Asked e fails = ap (cause_heard (t.look.words c)) (heard_asked c e)
 
-  lacking_same : lacking t ≡ lacking turn
+  lacking_same : lacking_outcome t ≡ lacking_outcome turn
   lacking_same = λ i. Refused (refusals.Lacking (proof_same i) (causes_same i))
 
   -- its end
@@ -217,7 +214,7 @@ module _ (t : Turn) (hs : List (ℕ × Heard)) (alike : HeardAlike t.read t.w.he
 
   judges_same : (enough : Bool) (next : Option ℕ) → judges t enough next Remote ≡ judges turn enough next Remote
   judges_same false (Some peer) = goes_to_same peer
-  judges_same false None = ap (ends t None) lacking_same ∙ ends_same None (lacking turn)
+  judges_same false None = ap (ends t None) lacking_same ∙ ends_same None (lacking_outcome turn)
   judges_same true next = goes_to_same (target t)
 
   judging_same : next_step t t.w.part ≡ next_step turn t.w.part

@@ -21,7 +21,7 @@ use Rattle.p2p_wire.specs.declared.message.Message.TheVariants as messages
 use Rattle.p2p_wire.specs.Messages.{message_of}
 use Rattle.node_model.specs.Ends.{end_after}
 use Rattle.node_model.specs.Jobs as jobs
-use Rattle.node_model.specs.Jobs.{Drops, Heard, Part, Phase, Work, after_failed_release, after_gain, after_transfer, claims, closed_part, fault_of, fault_phase, first_look, hears, hears_frame, heard_of, is_move, is_ordered, job_end, learns, listens, partner, quiet, says, says_some, sends, side_of, talks, talks_on, target_of, to_phase, took, took_line, version_said, word_taken, work_after, work_kind}
+use Rattle.node_model.specs.Jobs.{Drops, Heard, Part, Phase, Work, after_failed_release, after_gain, after_transfer, claims, closed_part, fault_of, fault_phase, first_look, hears, hears_frame, heard_of, is_move, is_ordered, job_end, learns, listens, partner, quiet, says, says_some, sends, side_of, talks, talks_on, target_of, to_phase, after_frame, after_line, version_said, word_taken, work_after, work_kind}
 use Rattle.node_model.specs.Knows.{Reading}
 use Rattle.node_model.specs.Rows.{option_is}
 use Rattle.node_model.specs.Sessions.{line_in}
@@ -291,19 +291,19 @@ module _ (r : Reading) where
   listens_alike v hs (jobs.Late time) m al = alike_with v hs al
   listens_alike v hs (jobs.Ends outcome) m al = alike_with v hs al
 
-  line_alike : (v : Work) (hs : List (ℕ × Heard)) (m : Option Message) → HeardAlike r v.heard hs → Alike r (took_line v m) (took_line (with_heard v hs) m)
+  line_alike : (v : Work) (hs : List (ℕ × Heard)) (m : Option Message) → HeardAlike r v.heard hs → Alike r (after_line v m) (after_line (with_heard v hs) m)
   line_alike v hs None al = alike_with v hs al
   line_alike v hs (Some m) al = listens_alike v hs v.phase m al
 
-  took_alike : (v : Work) (hs : List (ℕ × Heard)) (body : FrameText) → HeardAlike r v.heard hs → Alike r (took v body) (took (with_heard v hs) body)
+  took_alike : (v : Work) (hs : List (ℕ × Heard)) (body : FrameText) → HeardAlike r v.heard hs → Alike r (after_frame v body) (after_frame (with_heard v hs) body)
   took_alike v hs Opening al = alike_with v hs al
   took_alike v hs Closing al = alike_with v hs al
-  took_alike v hs (Bytes n) al = alike_with (took v (Bytes n)) hs al
+  took_alike v hs (Bytes n) al = alike_with (after_frame v (Bytes n)) hs al
   took_alike v hs (Line text) al = line_alike v hs (message_of text) al
 
   -- ---- the entries of a drop
 
-  module _ (rows : jobs.Rows) (n : ℕ) where
+  module _ (rows : jobs.RowsAndEnds) (n : ℕ) where
     look_alike : (v : Work) (hs : List (ℕ × Heard)) (here : Bool) (bar : Option ℕ) → HeardAlike r v.heard hs → Alike r (first_look n v Drops here bar) (first_look n (with_heard v hs) Drops here bar)
     look_alike v hs false bar al = hears_alike v hs n (jobs.Lacks causes.Absent) al
     look_alike v hs true (Some job) al = hears_alike v hs n (jobs.Lacks causes.Barred) al

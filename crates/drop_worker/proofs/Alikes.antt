@@ -15,7 +15,7 @@ use Rattle.content_lock.specs.Rows.{AreAfter, Rows}
 use Rattle.drop_worker.specs.declared.turn.Output.{Output}
 use Rattle.drop_worker.specs.Worker.{Worker}
 use Rattle.drop_worker.specs.Working.{Rest, Sight, failed_in, frames_of, turn_in, work_of}
-use Rattle.drop_worker.specs.Doing.{Does, next_work}
+use Rattle.drop_worker.specs.Doing.{DoesAsAsked, next_work}
 use Rattle.drop_worker.specs.Alike.{Alike, is_asked}
 use Rattle.drop_worker.specs.Remote.{DoesAlike}
 
@@ -33,7 +33,7 @@ alike_same r v v' e = record {
 }
 
 pub does_alike : (x : Sight) (rows rows' : Rows) (p : List ℕ → Bool) (w w' : Worker) (taken : Option FrameView) (asked : Turn → Made) (out : Output)
-    → Does x rows rows' p w w' taken asked out → DoesAlike x rows rows' p w w' taken asked out
+    → DoesAsAsked x rows rows' p w w' taken asked out → DoesAlike x rows rows' p w w' taken asked out
 does_alike x rows rows' p w w' taken asked out d = record {
   makes = d.makes;
   next = λ going rest. alike_same x.read (work_of rest w') (next_work (turn_in x rows p (failed_in out.kind) rest w) (asked (turn_in x rows p (failed_in out.kind) rest w))) (d.next going rest);

@@ -10,7 +10,6 @@ use Rattle.p2p_wire.specs.declared.message.Message.{Message}
 use Rattle.node_model.specs.Jobs as Jobs
 use Rattle.node_model.specs.JobStep.{Turn}
 use Rattle.node_model.specs.Look.{Made}
-use Rattle.object_store.specs.Stores.{Contents}
 use Rattle.content_lock.specs.Rows.{AreAfter, Rows}
 use Rattle.drop_worker.specs.declared.phase.Phase.{Phase}
 use Rattle.drop_worker.specs.declared.phase.Phase.TheVariants as phases
@@ -21,11 +20,11 @@ use Rattle.drop_worker.specs.declared.turn.Taken.{Taken}
 use Rattle.drop_worker.specs.declared.turn.Taken.TheVariants as takens
 use Rattle.drop_worker.specs.Worker.{Worker}
 use Rattle.drop_worker.specs.Working.{Rest, Sight, failed_in, phase_as, taken_line, taken_of, turn_in}
-use Rattle.drop_worker.specs.Doing.{Comes, Does, GoesOn, HasToken, IsBar, IsEnd, Takes, Talks, contents_after, next_work, share_in}
+use Rattle.drop_worker.specs.Doing.{Comes, DoesAsAsked, GoesOn, HasToken, IsBar, Takes, Talks, next_work, share_in}
 use Rattle.drop_worker.specs.Feeding.{FindsClosed, FitsLocal, TakesClose, TakesFed, TakesOther, IsBare, IsOfLocal}
 
 pub does_as : (x : Sight) (rows rows' : Rows) (p : List ℕ → Bool) (w w' : Worker) (taken : Option FrameView) (a b : Turn → Made) (out : Output)
-    → Does x rows rows' p w w' taken a out → ((rest : Rest) → a (turn_in x rows p (failed_in out.kind) rest w) ≡ b (turn_in x rows p (failed_in out.kind) rest w)) → Does x rows rows' p w w' taken b out
+    → DoesAsAsked x rows rows' p w w' taken a out → ((rest : Rest) → a (turn_in x rows p (failed_in out.kind) rest w) ≡ b (turn_in x rows p (failed_in out.kind) rest w)) → DoesAsAsked x rows rows' p w w' taken b out
 does_as x rows rows' p w w' taken a b out d e =
     record {
       makes = λ rest. d.makes rest ∙ e rest;
@@ -33,11 +32,6 @@ does_as x rows rows' p w w' taken a b out d e =
       after = d.after;
       whose = d.whose;
     }
-
--- a step over rows that are as before
-pub does_over : (x : Sight) (rows rows' : Rows) (p : List ℕ → Bool) (w w' : Worker) (taken : Option FrameView) (a : Turn → Made) (out : Output) → rows' ≡ rows
-    → Does x rows rows p w w' taken a out → Does x rows rows' p w w' taken a out
-does_over x rows rows' p w w' taken a out same d = subst (λ (r : Rows). Does x rows r p w w' taken a out) (sym same) d
 
 -- ---- what is told
 
@@ -104,11 +98,6 @@ owns_talking w w' out rows t own = rw (t.number, t.job, t.token) own
 pub after_talking : (w w' : Worker) (out : Output) (rows : Rows) → Talks w w' out → AreAfter out.kind rows rows
 after_talking w w' out rows t = subst (λ (k : EntryKind). AreAfter k rows rows) (sym t.kind) (record { holds = refl; bars = λ k. refl; fills = refl })
 
-pub bare_is : (token : Token) → IsBare token → token ≡ tokens.Nothing
-bare_is tokens.Nothing bare = refl
-bare_is (tokens.Bar bar) bare = absurd bare
-bare_is (tokens.Share share) bare = absurd bare
-
 pub bare_local : (token : Token) → IsBare token → IsOfLocal token
 bare_local tokens.Nothing bare = tt
 bare_local (tokens.Bar bar) bare = absurd bare
@@ -123,41 +112,3 @@ pub local_shares : (token : Token) → IsOfLocal token → share_in token ≡ No
 local_shares tokens.Nothing l = refl
 local_shares (tokens.Bar bar) l = refl
 local_shares (tokens.Share share) l = absurd l
-
--- ---- an end
-
-pub end_contents : (known : Option Contents) (kind : EntryKind) → IsEnd kind → contents_after known kind ≡ known
-end_contents known (entries.Begin job what) is = absurd is
-end_contents known (entries.Gain by size key) is = absurd is
-end_contents known (entries.Share hold end by key) is = absurd is
-end_contents known (entries.Release hold key) is = absurd is
-end_contents known (entries.Check found key) is = absurd is
-end_contents known (entries.Bar job need key) is = absurd is
-end_contents known (entries.Order job target deadline need key) is = absurd is
-end_contents known (entries.Gone by key) is = absurd is
-end_contents known (entries.Log file) is = absurd is
-end_contents known (entries.Compact file) is = absurd is
-end_contents known (entries.Talk job) is = absurd is
-end_contents known (entries.Close peer slot client) is = absurd is
-end_contents known (entries.Crash clock) is = absurd is
-end_contents known (entries.Wait ms) is = absurd is
-end_contents known (entries.Fault call by) is = absurd is
-end_contents known (entries.End job outcome) is = refl
-
-pub end_faultless : (kind : EntryKind) → IsEnd kind → failed_in kind ≡ None
-end_faultless (entries.Begin job what) is = refl
-end_faultless (entries.Gain by size key) is = refl
-end_faultless (entries.Share hold end by key) is = refl
-end_faultless (entries.Release hold key) is = refl
-end_faultless (entries.Check found key) is = refl
-end_faultless (entries.Bar job need key) is = refl
-end_faultless (entries.Order job target deadline need key) is = refl
-end_faultless (entries.Gone by key) is = refl
-end_faultless (entries.Log file) is = refl
-end_faultless (entries.Compact file) is = refl
-end_faultless (entries.Talk job) is = refl
-end_faultless (entries.Close peer slot client) is = refl
-end_faultless (entries.Crash clock) is = refl
-end_faultless (entries.Wait ms) is = refl
-end_faultless (entries.Fault call by) is = absurd is
-end_faultless (entries.End job outcome) is = refl

@@ -22,7 +22,7 @@ use Rattle.drop_worker.specs.declared.turn.Output.{Output}
 use Rattle.drop_worker.specs.Sends.{SendsView}
 use Rattle.drop_worker.specs.Worker.{Worker}
 use Rattle.drop_worker.specs.Working.{Rest, Sight, end_in, frames_of, made_of, parting, partings, turn_in}
-use Rattle.drop_worker.specs.Doing.{Does, HasToken, is_barring, share_in}
+use Rattle.drop_worker.specs.Doing.{DoesAsAsked, HasToken, is_barring, share_in}
 
 parting_same : (x : Sight) (rows : Rows) (p : List ℕ → Bool) (fails : Option Call) (rest : Rest) (w : Worker) (lost : Bool) (peer : ℕ) (b : Bool)
     → parting w lost peer b ≡ farewell (turn_in x rows p fails rest w) lost peer b
@@ -68,9 +68,9 @@ ends_rows job key token rows rows' outcome plain bare own off same filling =
 pub ends_does : (x : Sight) (rows rows' : Rows) (p : List ℕ → Bool) (w w' : Worker) (taken : Option FrameView) (asked : Turn → Made) (outcome : Outcome)
     (sends : SendsView) (out : Output) → out ≡ record { kind = ends_job w.number outcome; sends = sends; ended = true }
     → frames_of x.ends w.slot sends.items ≡ partings x.read x.ends w (is_lost_ordered outcome) → AreAfter (ends_job w.number outcome) rows rows'
-    → ((rest : Rest) → ends (turn_in x rows p None rest w) taken outcome ≡ asked (turn_in x rows p None rest w)) → Does x rows rows' p w w' taken asked out
+    → ((rest : Rest) → ends (turn_in x rows p None rest w) taken outcome ≡ asked (turn_in x rows p None rest w)) → DoesAsAsked x rows rows' p w w' taken asked out
 ends_does x rows rows' p w w' taken asked outcome sends out is sent after f =
-    subst (λ (o : Output). Does x rows rows' p w w' taken asked o) (sym is) (record {
+    subst (λ (o : Output). DoesAsAsked x rows rows' p w w' taken asked o) (sym is) (record {
       makes = λ rest. made rest ∙ f rest;
       next = λ e. absurd (cc);
       after = after;
@@ -84,7 +84,7 @@ ends_does x rows rows' p w w' taken asked outcome sends out is sent after f =
 pub refused_does : (x : Sight) (rows rows' : Rows) (p : List ℕ → Bool) (w w' : Worker) (asked : Turn → Made) (why : DropRefusal) (sends : SendsView) (out : Output)
     → out ≡ record { kind = ends_job w.number (Refused why); sends = sends; ended = true } → frames_of x.ends w.slot sends.items ≡ partings x.read x.ends w (lost_ordered why) → lost_ordered why ≡ false
     → w.token ≡ tokens.Nothing → HasToken w.number w.job.key w.token rows → rows' ≡ rows
-    → ((rest : Rest) → ends (turn_in x rows p None rest w) None (Refused why) ≡ asked (turn_in x rows p None rest w)) → Does x rows rows' p w w' None asked out
+    → ((rest : Rest) → ends (turn_in x rows p None rest w) None (Refused why) ≡ asked (turn_in x rows p None rest w)) → DoesAsAsked x rows rows' p w w' None asked out
 refused_does x rows rows' p w w' asked why sends out is sent plain bare own same f =
     ends_does x rows rows' p w w' None asked (Refused why) sends out is sent
     (ends_rows w.number w.job.key w.token rows rows' (Refused why) plain (ap share_in bare) own

@@ -6,6 +6,7 @@ use Rattle.std.proofs.lemmas.List.{append-nil}
 use Rattle.std.proofs.lemmas.List.Elements.{filter-append}
 use Rattle.annex_base.specs.declared.kinds.Word.TheVariants as words
 use Rattle.annex_base.specs.declared.kinds.Call.{Call}
+use Rattle.annex_base.proofs.Numbers.{range_more}
 use Rattle.drop_proof.specs.declared.evidence.Evidence.{Evidence}
 use Rattle.drop_proof.specs.declared.evidence.Kind.{Kind}
 use Rattle.drop_proof.specs.declared.rule.Side.{Side}
@@ -19,7 +20,7 @@ use Rattle.node_model.specs.Evidence as drops
 use Rattle.node_model.specs.Evidence.{Offer, Gives, Fails, candidates, failures, gather, proof_of, reached_candidates}
 use Rattle.node_model.specs.Jobs.{drop_side, target_of}
 use Rattle.node_model.specs.JobStep.{Turn}
-use Rattle.node_model.specs.DropStep.{lacking, removal_outcome}
+use Rattle.node_model.specs.DropStep.{lacking_outcome, removal_outcome}
 use Rattle.node_model.specs.Knows.{Reading, candidates_by, cause_by, cause_heard, known_by, proof_by}
 use Rattle.content_lock.specs.Rows.{Rows}
 use Rattle.drop_worker.specs.declared.here.Standing.{Standing}
@@ -31,17 +32,16 @@ use Rattle.drop_worker.specs.Worker.{Worker}
 use Rattle.drop_worker.specs.Working.{Rest, Sight, heard_as, heard_in, is_target, newest_of, turn_in, word_in, words_of, work_of}
 use Rattle.drop_worker.specs.Judging.{asks_of, cause_at, cause_told, evidence_of, offer_of, others_in}
 use Rattle.drop_worker.proofs.Heards.{heard_same}
-use Rattle.drop_worker.proofs.Partings.{from_none}
 
 -- ---- the repositories of a kind
 
 pub chosen_yes : (p : ℕ → Bool) (n : ℕ) → p n ≡ true → filter p (range_with_len 0 (n + 1)) ≡ filter p (range_with_len 0 n) ++ n ∷ []
 chosen_yes p n e =
-    ap (filter p) (from_none n) ∙ filter-append p (range_with_len 0 n) (n ∷ []) ∙ ap (λ (b : Bool). filter p (range_with_len 0 n) ++ (if b then n ∷ [] else [])) e
+    ap (filter p) (range_more n) ∙ filter-append p (range_with_len 0 n) (n ∷ []) ∙ ap (λ (b : Bool). filter p (range_with_len 0 n) ++ (if b then n ∷ [] else [])) e
 
 pub chosen_no : (p : ℕ → Bool) (n : ℕ) → p n ≡ false → filter p (range_with_len 0 (n + 1)) ≡ filter p (range_with_len 0 n)
 chosen_no p n e =
-    ap (filter p) (from_none n) ∙ filter-append p (range_with_len 0 n) (n ∷ []) ∙ ap (λ (b : Bool). filter p (range_with_len 0 n) ++ (if b then n ∷ [] else [])) e
+    ap (filter p) (range_more n) ∙ filter-append p (range_with_len 0 n) (n ∷ []) ∙ ap (λ (b : Bool). filter p (range_with_len 0 n) ++ (if b then n ∷ [] else [])) e
     ∙ append-nil (filter p (range_with_len 0 n))
 
 -- ---- the causes
@@ -72,9 +72,6 @@ pub cause_open : (r : Reading) (w : Worker) (c : ℕ) (s : Standing) → (s ≡ 
 cause_open r w c s (inl e) is = cause_claimed r w c (sym (ap standing_of e) ∙ is)
 cause_open r w c s (inr e) is = cause_asked r w c (sym (ap standing_of e) ∙ is)
 
-pub cause_ignored : (r : Reading) (w : Worker) (c : ℕ) (cause : Cause) → drops.Ignored cause ≡ r.standing c → cause ≡ cause_at r w c
-cause_ignored r w c cause s = rw (← s) refl
-
 module _ (ask : ℕ → Offer) (cause : ℕ → Cause) (c : ℕ) (cs : List ℕ) where
   pub fails_not : (kind : Kind) → Gives kind ≡ ask c → failures ask cause (c ∷ cs) ≡ failures ask cause cs
   fails_not kind e = rw (← e) refl
@@ -103,7 +100,7 @@ module _ (x : Sight) (rows : Rows) (p : List ℕ → Bool) (fails : Option Call)
   local_words : (c : ℕ) → word_in (newest_of w.heard c) ≡ words_of w c
   local_words c = sym (λ i. if is_target (local i) w.job.peer c then w.word else word_in (newest_of w.heard c))
 
-  pub lacks_is : (causes : List CandidateCause) → causes ≡ failures (offer_of x.read w) (cause_at x.read w) (others_in x.read) → Refused (refusals.Lacking proof causes) ≡ lacking turn
+  pub lacks_is : (causes : List CandidateCause) → causes ≡ failures (offer_of x.read w) (cause_at x.read w) (others_in x.read) → Refused (refusals.Lacking proof causes) ≡ lacking_outcome turn
   lacks_is causes told =
       (λ i. Refused (refusals.Lacking (proof_is i) (told i)))
       ∙ (λ i. Refused (refusals.Lacking (proof_by x.read (work_of rest w)) (failures (offer_of x.read w) (cause_at x.read w) (candidates (sym local i) x.read.count x.read.repo (target_of x.read.repo (work_of rest w))))))

@@ -3,7 +3,6 @@ use Rattle.std.proofs.Common.{◌≡◌, ℕ, Bool, List, Option, Some, None, Re
 use Rattle.std.specs.Prelude.{IfOk, IfSome, OnErr}
 use Rattle.annex_base.specs.Causes.{Rose}
 use Rattle.annex_base.specs.declared.kinds.Call.{Call}
-use Rattle.annex_base.specs.declared.kinds.Word.{Word}
 use Rattle.annex_base.specs.declared.memory.NoMemory.{NoMemory}
 use Rattle.run_data.specs.declared.entry.FrameView.{FrameView}
 use Rattle.p2p_wire.specs.declared.message.Message.{Message}
@@ -26,7 +25,7 @@ use Rattle.drop_worker.specs.declared.turn.Taken.TheVariants as takens
 use Rattle.drop_worker.specs.Worker.{Worker}
 use Rattle.drop_worker.specs.Working.{Rest, Sight, phase_as, sight, turn_in, work_of}
 use Rattle.drop_worker.specs.Doing.{Takes}
-use Rattle.drop_worker.specs.Feeding.{FindsClosed, FitsRemote, HasNoBar, IsAnswer, KeepsAnswer, KeepsWord, TakesClose, TakesFed, TakesOther}
+use Rattle.drop_worker.specs.Feeding.{FindsClosed, FitsRemote, HasNoBar, TakesClose, TakesFed, TakesOther}
 use Rattle.drop_worker.specs.Leaving.{Stays, Store, stands_on}
 use Rattle.drop_worker.specs.Remote.{DidRemote, IsRemote, LeavesRemote, ShutsRemote, Speaks, StandsRemote, TakesRemote}
 use Rattle.drop_worker.proofs.Doings.{fed_closed, fed_message, fed_other}
@@ -131,33 +130,6 @@ asked_peer w target peer there at stands = some_same target peer (sym there ∙ 
     some_same m n e = cc
 
 -- ---- the words
-
-pub no_look : (taken : Taken) (word : Option Word) (w w' : Worker) → ((p : ℕ) → w.phase ≡ phases.AsksLook p → ⊥) → KeepsWord taken word w w'
-no_look taken word w w' other = λ p at said. absurd (other p at)
-
-pub no_order : (taken : Taken) (word : Option Word) (w w' : Worker) → (w.phase ≡ phases.Orders → ⊥) → KeepsAnswer taken word w w'
-no_order taken word w w' other = λ at said. absurd (other at)
-
-pub answer_kept : (m : Message) (word : Option Word) (w w' : Worker) → (m ≡ messages.Success → w'.word ≡ word) → (m ≡ messages.Failure → w'.word ≡ word) → IsAnswer (takens.Message m) → w'.word ≡ word
-answer_kept (messages.AuthSuccess id) word w w' a b is = absurd is
-answer_kept (messages.Version n) word w w' a b is = absurd is
-answer_kept (messages.CheckPresent k) word w w' a b is = absurd is
-answer_kept (messages.LockContent k) word w w' a b is = absurd is
-answer_kept (messages.UnlockContent k) word w w' a b is = absurd is
-answer_kept (messages.Remove k) word w w' a b is = absurd is
-answer_kept (messages.RemoveBefore n k) word w w' a b is = absurd is
-answer_kept messages.GetTimestamp word w w' a b is = absurd is
-answer_kept (messages.Timestamp n) word w w' a b is = absurd is
-answer_kept (messages.Get n file k) word w w' a b is = absurd is
-answer_kept (messages.Put file k) word w w' a b is = absurd is
-answer_kept (messages.PutFrom n) word w w' a b is = absurd is
-answer_kept messages.AlreadyHave word w w' a b is = absurd is
-answer_kept (messages.Data n) word w w' a b is = absurd is
-answer_kept messages.Valid word w w' a b is = absurd is
-answer_kept messages.Invalid word w w' a b is = absurd is
-answer_kept messages.Success word w w' a b is = a refl
-answer_kept messages.Failure word w w' a b is = b refl
-answer_kept (messages.Error text) word w w' a b is = absurd is
 
 -- what isn't expected as the target's time
 pub time_else : (t : Turn) (f : FrameView) (peer : ℕ) (m : Message) → ((n : ℕ) → m ≡ messages.Timestamp n → ⊥) → wrong t f peer ≡ takes_drop t f peer Jobs.AsksTime m

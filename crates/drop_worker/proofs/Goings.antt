@@ -2,11 +2,11 @@
 use Rattle.std.proofs.Common.{◌≡◌, ℕ, ◌<◌, Bool, true, false, List, filter, Some, Option, Result, Ok, Err, Vec, Global, refl, sym, ap, subst, ◌∙◌, arith}
 use Rattle.std.specs.Prelude.{IfOk, ◌==◌, not, find}
 use Rattle.std.specs.List.{range_with_len}
-use Rattle.std.proofs.lemmas.Bool.Decides.{nat_tests}
 use Rattle.annex_base.specs.Lists.{Each}
 use Rattle.annex_base.proofs.Lists.{Each-both, Each-filter, Each-member, Each-passes, find_member}
 use Rattle.annex_base.proofs.Numbers.{range_below}
 use Rattle.annex_base.specs.declared.memory.NoMemory.{NoMemory}
+use Rattle.annex_base.proofs.Conditions.{eqb_apart}
 use Rattle.node_model.specs.Jobs.{partner}
 use Rattle.node_model.specs.Evidence.{but}
 use Rattle.node_model.specs.Knows.{Reading}
@@ -26,12 +26,9 @@ use Rattle.drop_worker.specs.Feeding.{FitsLocal}
 use Rattle.drop_worker.specs.Judging.{asks_of, others_in}
 use Rattle.drop_worker.specs.Leaving.{Unbarred}
 
-apart_from : (a b : ℕ) → not (a == b) ≡ true → (b == a) ≡ false
-apart_from a b h = grind (arith, nat_tests)
-
 pub others_there : (r : Reading) → Each (IsOther r) (others_in r)
 others_there r =
-    Each-both (λ x. x < r.count) (λ x. not (x == r.repo) ≡ true) (IsOther r) (λ x there apart. (there, apart_from x r.repo apart)) (others_in r)
+    Each-both (λ x. x < r.count) (λ x. not (x == r.repo) ≡ true) (IsOther r) (λ x there apart. (there, eqb_apart x r.repo apart)) (others_in r)
     (Each-filter (λ x. x < r.count) (λ x. not (x == r.repo)) (range_with_len 0 r.count) (range_below 0 r.count r.count (omega arith))) (Each-passes (λ x. not (x == r.repo)) (range_with_len 0 r.count))
 
 pub found_other : (r : Reading) (w : Worker) (peer : ℕ) → find (asks_of r w) (others_in r) ≡ Some peer → IsOther r peer

@@ -1,10 +1,11 @@
 -- What a worker knows, candidate by candidate.
 use Rattle.std.proofs.Common.{◌≡◌, ◌≢◌, ℕ, ◌+◌, Bool, true, false, not, List, [], ◌∷◌, ◌++◌, Option, Some, None, refl, sym, ap, ◌∙◌, arith}
-use Rattle.std.specs.Prelude.{◌==◌, if◌then◌else◌, find, option_map}
+use Rattle.std.specs.Prelude.{◌==◌, if◌then◌else◌, option_map}
 use Rattle.std.specs.List.{range_with_len}
 use Rattle.std.proofs.lemmas.Bool.Decides.{nat_tests}
 use Rattle.std.proofs.lemmas.List.{append-nil}
 use Rattle.std.proofs.lemmas.List.Elements.{filter-append}
+use Rattle.annex_base.proofs.Numbers.{range_more}
 use Rattle.drop_proof.specs.declared.evidence.Evidence.{Evidence}
 use Rattle.drop_proof.specs.declared.evidence.Kind.{Kind}
 use Rattle.drop_proof.specs.declared.rule.Side.{Side}
@@ -18,7 +19,6 @@ use Rattle.drop_worker.specs.Worker.{Worker}
 use Rattle.drop_worker.specs.Working.{heard_as, newest_of}
 use Rattle.drop_worker.specs.Judging.{asks_of, evidence_of, offer_heard, offer_of}
 use Rattle.drop_worker.proofs.Heards.{heard_same}
-use Rattle.drop_worker.proofs.Partings.{from_none}
 
 pub asked_none : (r : Reading) (w : Worker) (c : ℕ) → drops.Asked ≡ r.standing c → newest_of w.heard c ≡ None → true ≡ asks_of r w c
 asked_none r w c s n = sym (λ i. is_unasked (sym s i) ((heard_same w.heard c ∙ ap (option_map heard_as) n) i))
@@ -42,20 +42,14 @@ asked_offer r w c s =
 pub but_self : (r n : ℕ) → n ≡ r → but r (range_with_len 0 (n + 1)) ≡ but r (range_with_len 0 n)
 but_self r n is =
     let e : (n == r) ≡ true = grind (arith, nat_tests) in
-    ap (but r) (from_none n) ∙ filter-append (λ x. not (x == r)) (range_with_len 0 n) (n ∷ [])
+    ap (but r) (range_more n) ∙ filter-append (λ x. not (x == r)) (range_with_len 0 n) (n ∷ [])
     ∙ ap (λ (b : Bool). but r (range_with_len 0 n) ++ (if not b then n ∷ [] else [])) e ∙ append-nil (but r (range_with_len 0 n))
 
 pub but_other : (r n : ℕ) → n ≢ r → but r (range_with_len 0 (n + 1)) ≡ but r (range_with_len 0 n) ++ n ∷ []
 but_other r n other =
     let e : (n == r) ≡ false = grind (arith, nat_tests) in
-    ap (but r) (from_none n) ∙ filter-append (λ x. not (x == r)) (range_with_len 0 n) (n ∷ [])
+    ap (but r) (range_more n) ∙ filter-append (λ x. not (x == r)) (range_with_len 0 n) (n ∷ [])
     ∙ ap (λ (b : Bool). but r (range_with_len 0 n) ++ (if not b then n ∷ [] else [])) e
-
-pub find_yes : (p : ℕ → Bool) (c : ℕ) (cs : List ℕ) → p c ≡ true → find p (c ∷ cs) ≡ Some c
-find_yes p c cs e = rw e refl
-
-pub find_no : (p : ℕ → Bool) (c : ℕ) (cs : List ℕ) → p c ≡ false → find p (c ∷ cs) ≡ find p cs
-find_no p c cs e = rw e refl
 
 module _ (side : Side) (r : Reading) (w : Worker) (c : ℕ) (cs : List ℕ) (items : List Evidence) where
   pub at_ask : asks_of r w c ≡ true → evidence_of side r w (c ∷ cs) items ≡ items

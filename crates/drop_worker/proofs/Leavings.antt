@@ -20,7 +20,7 @@ use Rattle.drop_worker.specs.declared.phase.Phase.TheVariants as phases
 use Rattle.drop_worker.specs.declared.turn.Output.{Output}
 use Rattle.drop_worker.specs.Worker.{Worker}
 use Rattle.drop_worker.specs.Working.{Rest, Sight, failed_in, frames_of, phase_as, present_in, sight, turn_in, work_of}
-use Rattle.drop_worker.specs.Doing.{Does, HasToken, IsBar, OthersStay, Talks, contents_after, next_work}
+use Rattle.drop_worker.specs.Doing.{DoesAsAsked, HasToken, IsBar, OthersStay, Talks, contents_after, next_work}
 use Rattle.drop_worker.specs.Feeding.{FitsLocal}
 use Rattle.drop_worker.specs.Judging.{step_by}
 use Rattle.drop_worker.specs.Leaving.{ActsOver, Did, GoesSo, Leaves, Stays, Store}
@@ -105,7 +105,7 @@ stays_same rows k w = record { worker = refl; table = refl; contents = refl; rec
 
 pub quiet_does : (x : Sight) (rows rows' : Rows) (p : List ℕ → Bool) (w w' : Worker) (asked : Turn → Made) (kind : EntryKind) (out : Output) → out.kind ≡ kind → out.sends.items ≡ []
     → ((rest : Rest) → asked (turn_in x rows p (failed_in kind) rest w) ≡ quietly kind None) → ((rest : Rest) → work_of rest w' ≡ next_work (turn_in x rows p (failed_in kind) rest w) (quietly kind None))
-    → AreAfter kind rows rows' → job_of kind ≡ Some w.number → Does x rows rows' p w w' None asked out
+    → AreAfter kind rows rows' → job_of kind ≡ Some w.number → DoesAsAsked x rows rows' p w w' None asked out
 quiet_does x rows rows' p w w' asked kind out is sends asks moves after whose =
     record {
       makes = λ rest. (λ i. record { kind = is i; taken = None; sent = frames_of x.ends w.slot (sends i); lines = [] })

@@ -24,7 +24,7 @@ use Rattle.drop_worker.specs.declared.turn.Output.{Output}
 use Rattle.drop_worker.specs.declared.turn.Taken.TheVariants as takens
 use Rattle.drop_worker.specs.Worker.{Worker}
 use Rattle.drop_worker.specs.Working.{Rest, Sight, failed_in, phase_as, turn_in, work_of}
-use Rattle.drop_worker.specs.Doing.{Comes, Does, Grows, contents_after, next_work}
+use Rattle.drop_worker.specs.Doing.{Comes, DoesAsAsked, Grows, contents_after, next_work}
 use Rattle.drop_worker.specs.Feeding.{FitsRemote, HasNoBar}
 use Rattle.drop_worker.specs.Remote.{IsRemote, ShutsRemote, Speaks, is_ordering, without_peer}
 use Rattle.drop_worker.proofs.Losing.{closed_remote}
@@ -33,7 +33,7 @@ use Rattle.drop_worker.proofs.Takings.{close_parcel, line_takes, lined, moved_sh
 -- a message that isn't expected
 pub lost_does : (x : Sight) (rows : Rows) (p : List ℕ → Bool) (w w' : Worker) (f : FrameView) (target peer : ℕ) (took : Message) (out : Output) → IsRemote target w → ShutsRemote target peer w w' out
     → Comes x w.slot peer f (takens.Message took) → ((rest : Rest) → learns (work_of rest w) (phase_as w.phase) (Some f) ≡ work_of rest w) → partner w.job.peer (phase_as w.phase) ≡ Some peer
-    → ((rest : Rest) → wrong (turn_in x rows p None rest w) f peer ≡ takes (turn_in x rows p None rest w) f peer (phase_as w.phase) took) → Does x rows rows p w w' (Some f) (λ t. takes_frame t peer f f.body) out
+    → ((rest : Rest) → wrong (turn_in x rows p None rest w) f peer ≡ takes (turn_in x rows p None rest w) f peer (phase_as w.phase) took) → DoesAsAsked x rows rows p w w' (Some f) (λ t. takes_frame t peer f f.body) out
 lost_does x rows p w w' f target peer took out remote shuts comes learn with_peer makes =
     let line = lined f.body took comes.is in
     let is : (rest : Rest) → wrong (turn_in x rows p None rest w) f peer ≡ takes_frame (turn_in x rows p None rest w) peer f f.body = (λ rest. makes rest ∙ line_takes (turn_in x rows p None rest w) f peer took line) in

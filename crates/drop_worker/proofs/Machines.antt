@@ -25,12 +25,12 @@ use Rattle.drop_worker.specs.declared.turn.Output.{Output}
 use Rattle.drop_worker.specs.declared.turn.Taken.{Taken}
 use Rattle.drop_worker.specs.Worker.{Worker}
 use Rattle.drop_worker.specs.Working.{Sight, failed_in, phase_as, present_in, sight}
-use Rattle.drop_worker.specs.Doing.{Does, Grows, HasToken, IsBar, OthersStay, Talks, contents_after}
+use Rattle.drop_worker.specs.Doing.{DoesAsAsked, Grows, HasToken, IsBar, OthersStay, Talks, contents_after}
 use Rattle.drop_worker.specs.Feeding.{FedAt, FitsLocal, KeepsAnswer, KeepsWord, TakesFed, step_of}
 use Rattle.drop_worker.specs.Leaving.{Advances, Did, GoesSo, Stays, Store, stands_on}
 use Rattle.drop_worker.specs.Alike.{Alike}
 use Rattle.drop_worker.specs.Remote.{DidRemote, DoesAlike, GoesAlike, TakesRemote}
-use Rattle.drop_worker.specs.Sides.{Fits, HasTarget, IsNext, side_in, target_on}
+use Rattle.drop_worker.specs.Sides.{FitsSide, HasTarget, IsNext, side_in, target_on}
 use Rattle.drop_worker.specs.States.{Sees, StepsSo}
 use Rattle.drop_worker.specs.Stepping.{AdvancesAlike, AdvancesSo, DidSo}
 use Rattle.drop_worker.proofs.Alikes.{does_alike}
@@ -43,8 +43,8 @@ acts_advance : (x : Sight) (known : Option Contents) (rows rows' : Rows) (w w' :
 acts_advance x known rows rows' w w' taken word out none acts =
     record {
       told = λ peer at said. absurd (let both : Some peer ≡ None = sym (ap (λ (ph : Phase). partner w.job.peer (phase_as ph)) at) ∙ none in cc);
-      does = λ c is f. subst (λ (o : Option ℕ). FedAt x w.slot o f taken → Does x rows rows' (present_in c) w w' f (step_of o f) out) (sym none)
-          (λ fed. subst (λ (g : Option FrameView). Does x rows rows' (present_in c) w w' g (λ t. goes t t.w.phase) out) (sym fed.1) (acts c is));
+      does = λ c is f. subst (λ (o : Option ℕ). FedAt x w.slot o f taken → DoesAsAsked x rows rows' (present_in c) w w' f (step_of o f) out) (sym none)
+          (λ fed. subst (λ (g : Option FrameView). DoesAsAsked x rows rows' (present_in c) w w' g (λ t. goes t t.w.phase) out) (sym fed.1) (acts c is));
     }
 
 pub acts_did : (x : Sight) (rows rows' : Rows) (k k' : Store) (w w' : Worker) (taken : Taken) (word : Option Word) (r : Result Output NoMemory) → stands_on w ≡ None
@@ -60,7 +60,7 @@ pub hears_did : (x : Sight) (rows : Rows) (k : Store) (w w' : Worker) (peer : �
 hears_did x rows k w w' peer taken word (Ok out) at bar own takes told talks same = (
   record {
     told = told;
-    does = λ c is f. subst (λ (o : Option ℕ). FedAt x w.slot o f taken → Does x rows rows (present_in c) w w' f (step_of o f) out) (sym at) (λ fed. takes x rows (present_in c) f refl fed);
+    does = λ c is f. subst (λ (o : Option ℕ). FedAt x w.slot o f taken → DoesAsAsked x rows rows (present_in c) w w' f (step_of o f) out) (sym at) (λ fed. takes x rows (present_in c) f refl fed);
   },
   talk_leaves rows k w w' out talks bar own,
 )
@@ -100,7 +100,7 @@ local_did x rows rows' k k' w w' taken word (Ok out) local fits (d, l) = (
     later = l.later;
     cause = l.cause;
     owns = l.owns;
-    fits = λ going. subst (λ (s : Side). Fits s w'.phase w'.token) (sym local) (l.fits going);
+    fits = λ going. subst (λ (s : Side). FitsSide s w'.phase w'.token) (sym local) (l.fits going);
     heard = l.heard;
     number = l.number;
     job = l.job;
@@ -131,7 +131,7 @@ remote_did x rows rows' k k' w w' taken word (Ok out) remote (d, l) = (
     later = l.later;
     cause = l.cause;
     owns = l.owns;
-    fits = λ going. subst (λ (s : Side). Fits s w'.phase w'.token) (sym remote) (l.fits going);
+    fits = λ going. subst (λ (s : Side). FitsSide s w'.phase w'.token) (sym remote) (l.fits going);
     heard = l.heard;
     number = l.number;
     job = l.job;
@@ -201,7 +201,7 @@ pub record Steps (x : Sight) (rows rows' : Rows) (k k' : Store) (w w' : Worker) 
   pub after : IfOk r (λ out. AreAfter out.kind rows rows')
   pub contents : IfOk r (λ out. k'.contents ≡ contents_after k.contents out.kind)
   pub owns : HasToken w'.number w'.job.key w'.token rows'
-  pub fits : IfOk r (λ out. out.ended ≡ false → Fits (side_in w) w'.phase w'.token)
+  pub fits : IfOk r (λ out. out.ended ≡ false → FitsSide (side_in w) w'.phase w'.token)
   pub number : w'.number ≡ w.number
   pub job : w'.job ≡ w.job
   pub others : OthersStay w.number rows rows'

@@ -11,8 +11,8 @@ use Rattle.p2p_wire.specs.declared.message.Message.{Message}
 use Rattle.p2p_wire.specs.Messages.{message_of}
 use Rattle.node_model.specs.Rows.{option_is}
 use Rattle.node_model.specs.Sessions.{line_in}
-use Rattle.node_model.specs.Jobs.{Drops, Work, closed_part, drop_side, job_end, learns, partner, talks_on, version_said}
-use Rattle.node_model.specs.JobStep.{Turn, me, quietly, talk, wrong}
+use Rattle.node_model.specs.Jobs.{Drops, Work, closed_part, drop_side, learns, partner, talks_on, version_said}
+use Rattle.node_model.specs.JobStep.{Turn, wrong}
 use Rattle.node_model.specs.Look.{entry_of}
 use Rattle.node_model.specs.TransferStep.{takes_bytes}
 use Rattle.node_model.specs.Turns.{takes_frame, takes_text}
@@ -23,8 +23,8 @@ use Rattle.drop_worker.specs.declared.phase.Heard.TheVariants as heards
 use Rattle.drop_worker.specs.declared.turn.Output.{Output}
 use Rattle.drop_worker.specs.declared.turn.Taken.TheVariants as takens
 use Rattle.drop_worker.specs.Worker.{Worker}
-use Rattle.drop_worker.specs.Working.{Rest, Sight, end_in, phase_as, taken_line, taken_of, turn_in, work_of}
-use Rattle.drop_worker.specs.Doing.{Comes, Does, Shuts, next_work}
+use Rattle.drop_worker.specs.Working.{Rest, Sight, phase_as, taken_line, taken_of, turn_in, work_of}
+use Rattle.drop_worker.specs.Doing.{Comes, DoesAsAsked, Shuts, next_work}
 use Rattle.drop_worker.proofs.Talks.{on_shut}
 use Rattle.drop_worker.proofs.Takings.{close_parcel, closed_local, heard_next, talk_does}
 
@@ -81,22 +81,8 @@ other_learns v f phases.Denied is = refl
 other_learns v f (phases.Late time) is = refl
 other_learns v f (phases.Ends why) is = refl
 
-absent_learns : (v : Work) (ph : Phase) → learns v (phase_as ph) None ≡ v
-absent_learns v (phases.Greets peer) = refl
-absent_learns v phases.Fresh = refl
-absent_learns v phases.Next = refl
-absent_learns v (phases.Opens peer) = refl
-absent_learns v (phases.AsksLock peer since) = refl
-absent_learns v (phases.AsksLook peer) = refl
-absent_learns v phases.AsksTime = refl
-absent_learns v phases.Orders = refl
-absent_learns v phases.Removed = refl
-absent_learns v phases.Denied = refl
-absent_learns v (phases.Late time) = refl
-absent_learns v (phases.Ends why) = refl
-
 pub other_does : (x : Sight) (rows : Rows) (p : List ℕ → Bool) (w w' : Worker) (f : FrameView) (peer : ℕ) (out : Output) → drop_side w.job.kind w.job.peer ≡ Local
-    → partner w.job.peer (phase_as w.phase) ≡ Some peer → Shuts peer w w' out → Comes x w.slot peer f takens.Other → Does x rows rows p w w' (Some f) (λ t. takes_frame t peer f f.body) out
+    → partner w.job.peer (phase_as w.phase) ≡ Some peer → Shuts peer w w' out → Comes x w.slot peer f takens.Other → DoesAsAsked x rows rows p w w' (Some f) (λ t. takes_frame t peer f f.body) out
 other_does x rows p w w' f peer out local with_peer shuts comes =
     talk_does x rows p w w' (Some f) (λ t. takes_frame t peer f f.body) _ out shuts.kind shuts.sends
     (λ rest. (λ i. record { kind = Talk (Some w.number); taken = Some f; sent = close_parcel x w.slot peer i; lines = [] }) ∙ is rest)
@@ -113,22 +99,3 @@ other_does x rows p w w' f peer out local with_peer shuts comes =
     moves rest =
         (λ i. talks_on (record { present = p; bar = bar_at rows; ends = x.ends }) x.read.repo (other_learns (work_of rest w) f w.phase comes.is i) (entry_of x.read.repo (turn rest).look (wrong (turn rest) f peer)) (with_peer i))
         ∙ on_shut (record { present = p; bar = bar_at rows; ends = x.ends }) x.read.repo (work_of rest w) (entry_of x.read.repo (turn rest).look (wrong (turn rest) f peer)) peer refl
-
-closed_so : (t : Turn) (v : Work) (peer : ℕ) → (t.ends (job_end v peer)).opened ≡ false
-    → talks_on (record { present = t.present; bar = t.bar; ends = t.ends }) (me t) v (entry_of (me t) t.look (quietly (talk t) None)) (Some peer) ≡ closed_part (me t) v peer v.part
-closed_so t v peer shut = rw shut refl
-
-pub here_does : (x : Sight) (rows : Rows) (p : List ℕ → Bool) (w w' : Worker) (peer : ℕ) (out : Output) → out.kind ≡ Talk (Some w.number) → out.sends.items ≡ []
-    → partner w.job.peer (phase_as w.phase) ≡ Some peer → drop_side w.job.kind w.job.peer ≡ Local → (x.read.repo == peer) ≡ false → (x.ends (end_in w.slot peer)).opened ≡ false
-    → w' ≡ record w { heard = (peer, heards.Lacks causes.Closed) ∷ w.heard; phase = phases.Next } → Does x rows rows p w w' None (λ t. quietly (talk t) None) out
-here_does x rows p w w' peer out kind sends with_peer local apart shut next =
-    talk_does x rows p w w' None (λ t. quietly (talk t) None) [] out kind sends (λ rest. refl)
-    (λ rest. heard_next rest w w' peer (heards.Lacks causes.Closed) next ∙ (sym (closed_local x.read.repo (work_of rest w) peer local apart) ∙ sym (moves rest)))
-  where
-    turn : Rest → Turn
-    turn rest = turn_in x rows p None rest w
-
-    moves : (rest : Rest) → next_work (turn rest) (quietly (talk (turn rest)) None) ≡ closed_part x.read.repo (work_of rest w) peer Drops
-    moves rest =
-        (λ i. talks_on (record { present = p; bar = bar_at rows; ends = x.ends }) x.read.repo (absent_learns (work_of rest w) w.phase i) (entry_of x.read.repo (turn rest).look (quietly (talk (turn rest)) None)) (with_peer i))
-        ∙ closed_so (turn rest) (work_of rest w) peer shut

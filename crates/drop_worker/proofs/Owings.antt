@@ -20,7 +20,7 @@ use Rattle.drop_worker.specs.declared.phase.Phase.TheVariants as phases
 use Rattle.drop_worker.specs.Worker.{Worker}
 use Rattle.drop_worker.specs.Working.{Rest, phase_as, present_in, sight, turn_in}
 use Rattle.drop_worker.specs.Judging.{is_owing, needs_by, others_in}
-use Rattle.drop_worker.specs.States.{IsSight, Keeps, rest_of}
+use Rattle.drop_worker.specs.States.{IsSight, HaveState, rest_of}
 use Rattle.drop_worker.proofs.StateFacts.{turn_is}
 
 module _ (read : Reading) (ends_at : EndName → End) (time : ℕ) (w : Worker) where
@@ -62,7 +62,7 @@ module _ (read : Reading) (ends_at : EndName → End) (time : ℕ) (w : Worker) 
   -- the same of a state
   pub needs_so : (r : Result (Vec ℕ Global) NoMemory) → IfOk r (λ peers. Needs (λ t. needs t (phase_as w.phase)) peers.items)
       → IfOk r (λ peers. (number : ℕ) (rows : Rows) (contents : Contents) (s : SetUp) (st : State) (k : Look) (v : Work)
-      → IsSight (sight read ends_at time number) s st k w v → Keeps rows contents st → peers.items ≡ needs (turn_of s st k v) v.phase)
+      → IsSight (sight read ends_at time number) s st k w v → HaveState rows contents st → peers.items ≡ needs (turn_of s st k v) v.phase)
   needs_so (Ok peers) is = λ number rows contents s st k v e keeps.
       is number rows (present_in contents) k.fails (rest_of s st k v)
       ∙ ap (λ (t : Turn). needs t t.w.phase) (turn_is (sight read ends_at time number) rows contents s st k w v k.fails e keeps refl)

@@ -1,12 +1,12 @@
 -- What is sent at the end, peer by peer.
-use Rattle.std.proofs.Common.{◌≡◌, ◌≢◌, ℕ, ◌+◌, Bool, true, false, not, List, [], ◌∷◌, ◌++◌, map, refl, sym, ap, ◌∙◌, arith}
+use Rattle.std.proofs.Common.{◌≡◌, ◌≢◌, ℕ, ◌+◌, Bool, true, false, not, List, [], ◌∷◌, ◌++◌, sym, ap, ◌∙◌, arith}
 use Rattle.std.specs.Prelude.{◌==◌, if◌then◌else◌, flat_map}
 use Rattle.std.specs.List.{range_with_len}
 use Rattle.std.proofs.lemmas.Grind.{flat_map-append}
 use Rattle.std.proofs.lemmas.List.{append-nil}
 use Rattle.std.proofs.lemmas.List.Elements.{filter-append}
-use Rattle.std.proofs.lemmas.List.FromFn.{map-range_with_len_more}
 use Rattle.std.proofs.lemmas.Bool.Decides.{nat_tests}
+use Rattle.annex_base.proofs.Numbers.{range_more}
 use Rattle.node_model.specs.Evidence.{but}
 use Rattle.run_data.specs.declared.entry.FrameView.{FrameView}
 use Rattle.run_data.specs.declared.entry.FrameText.{FrameText}
@@ -15,20 +15,12 @@ use Rattle.drop_worker.specs.declared.turn.Parcel.{Parcel}
 use Rattle.drop_worker.specs.Worker.{Worker}
 use Rattle.drop_worker.specs.Working.{end_in, frames_of, parting, parting_at, texts_of}
 
-pub from_none : (n : ℕ) → range_with_len 0 (n + 1) ≡ range_with_len 0 n ++ n ∷ []
-from_none n =
-    sym (map_id (range_with_len 0 (n + 1))) ∙ map-range_with_len_more (λ (k : ℕ). k) 0 n n (omega arith) ∙ ap (λ (l : List ℕ). l ++ n ∷ []) (map_id (range_with_len 0 n))
-  where
-    map_id : (xs : List ℕ) → map (λ (k : ℕ). k) xs ≡ xs
-    map_id [] = refl
-    map_id (x ∷ xs) = ap (λ (l : List ℕ). x ∷ l) (map_id xs)
-
 abbrev pub upto : (ℕ → List FrameView) → ℕ → ℕ → List FrameView
 upto f r n = flat_map f (but r (range_with_len 0 n))
 
 upto_more : (f : ℕ → List FrameView) (r n : ℕ) → upto f r (n + 1) ≡ upto f r n ++ flat_map f (if not (n == r) then n ∷ [] else [])
 upto_more f r n =
-    ap (λ (l : List ℕ). flat_map f (but r l)) (from_none n) ∙ ap (flat_map f) (filter-append (λ x. not (x == r)) (range_with_len 0 n) (n ∷ []))
+    ap (λ (l : List ℕ). flat_map f (but r l)) (range_more n) ∙ ap (flat_map f) (filter-append (λ x. not (x == r)) (range_with_len 0 n) (n ∷ []))
     ∙ flat_map-append f (but r (range_with_len 0 n)) (if not (n == r) then n ∷ [] else [])
 
 pub upto_self : (f : ℕ → List FrameView) (r n : ℕ) → n ≡ r → upto f r (n + 1) ≡ upto f r n

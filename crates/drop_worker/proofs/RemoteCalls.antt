@@ -4,6 +4,7 @@ use Rattle.std.specs.Prelude.{◌==◌, ◌&&◌, IfOk, find}
 use Rattle.annex_base.specs.declared.kinds.Call.{Call}
 use Rattle.annex_base.specs.declared.kinds.Call.TheVariants as calls
 use Rattle.annex_base.specs.declared.memory.NoMemory.{NoMemory}
+use Rattle.annex_base.proofs.Conditions.{eqb_refl}
 use Rattle.drop_proof.specs.declared.evidence.Evidence.{Evidence}
 use Rattle.drop_proof.specs.declared.rule.Need.{Need}
 use Rattle.drop_proof.specs.declared.rule.Side.{Side}
@@ -15,7 +16,7 @@ use Rattle.object_store.specs.Calls.{FailsAsTold, one_fewer}
 use Rattle.object_store.specs.Stores.{Contents}
 use Rattle.std.specs.Option.{option_map}
 use Rattle.node_model.specs.Calls.{to_hold, to_release}
-use Rattle.node_model.specs.DropStep.{lacking, target as target_at}
+use Rattle.node_model.specs.DropStep.{lacking_outcome, target as target_at}
 use Rattle.node_model.specs.Evidence.{Asked, Standing}
 use Rattle.node_model.specs.Jobs.{Drops, drop_side, side_of}
 use Rattle.node_model.specs.JobStep as steps
@@ -44,7 +45,7 @@ use Rattle.drop_worker.specs.Worker.{Worker}
 use Rattle.drop_worker.specs.Working.{Rest, Sight, failed_in, phase_as, present_in, turn_in}
 use Rattle.drop_worker.proofs.Callings.{first_told, left_as, makes_as, makes_failed, makes_last, makes_none, makes_then, no_release, over_is, over_none, shareless, unfailed}
 use Rattle.drop_worker.proofs.LocalCalls.{opening_none}
-use Rattle.drop_worker.proofs.RemoteEndings.{open_there, same_number}
+use Rattle.drop_worker.proofs.RemoteEndings.{open_there}
 use Rattle.drop_worker.proofs.RemoteVerdicts.{enough_is, next_is}
 
 -- ---- an end
@@ -69,7 +70,7 @@ module _ (rows : Rows) (w : Worker) (outcome : Outcome) (out : Output) where
 
   module _ (before after : Failing) (share : ShareView) (own : HasToken w.number w.job.key (tokens.Share share) rows) (plain : is_lost_ordered outcome ≡ false) where
     releases : to_release (has_open rows w && not (is_lost_ordered outcome)) ≡ calls.Unhold ∷ []
-    releases = release_there (has_open rows w) (is_lost_ordered outcome) (open_there rows.holds share (by_job w.number) own.holds.given own.holds.owner (same_number w.number)) plain
+    releases = release_there (has_open rows w) (is_lost_ordered outcome) (open_there rows.holds share (by_job w.number) own.holds.given own.holds.owner (eqb_refl w.number)) plain
 
     pub released_makes : failed_in out.kind ≡ None → FailsAsTold calls.Unhold before after false → MakesEnd rows w outcome before after (Ok out)
     released_makes well it =
@@ -196,7 +197,7 @@ module _ (x : Sight) (known : Option Contents) (rows : Rows) (w : Worker) (befor
       next_made t ∙ ((λ i. judge_calls t ((sym (enough_is x rows p fails rest w need items target remote needs is) ∙ lacks) i) ((sym (next_is x rows p fails rest w need items target remote needs is) ∙ found) i) (side_of t.w)) ∙ opening_none t peer refl))
 
   pub lacks_makes : (outcome : Outcome) (r : Result Output NoMemory) → is_enough Remote need items ≡ false → find (asks_of x.read w) (remote_candidates x.read target) ≡ None
-      → ((p : List ℕ → Bool) (fails : Option Call) (rest : Rest) → outcome ≡ lacking (turn p fails rest)) → MakesEnd rows w outcome before after r → MakesPhase x known rows w before after r
+      → ((p : List ℕ → Bool) (fails : Option Call) (rest : Rest) → outcome ≡ lacking_outcome (turn p fails rest)) → MakesEnd rows w outcome before after r → MakesPhase x known rows w before after r
   lacks_makes outcome r lacks none told m =
       end_makes x known rows w before after outcome r (λ p fails rest. let t = turn p fails rest in
       next_made t ∙ ((λ i. judge_calls t ((sym (enough_is x rows p fails rest w need items target remote needs is) ∙ lacks) i) ((sym (next_is x rows p fails rest w need items target remote needs is) ∙ none) i) (side_of t.w))

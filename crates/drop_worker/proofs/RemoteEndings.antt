@@ -1,9 +1,10 @@
 -- The ends of a remote drop, and what they leave.
-use Rattle.std.proofs.Common.{◌≡◌, ◌≤◌, inl, ℕ, Bool, true, false, not, List, [], ◌∷◌, map, filter, Option, Some, None, Ok, refl, sym, ap, ◌∙◌, subst, arith}
+use Rattle.std.proofs.Common.{◌≡◌, ◌≤◌, inl, ℕ, Bool, true, false, not, List, [], ◌∷◌, map, filter, Option, Some, None, Ok, refl, sym, ap, ◌∙◌, subst}
 use Rattle.std.specs.Prelude.{◌==◌, ◌&&◌, ◌||◌, find, if◌then◌else◌}
 use Rattle.std.specs.List.{list_any}
 use Rattle.std.specs.Option.{option_map}
 use Rattle.annex_base.specs.Causes.{Rose}
+use Rattle.annex_base.proofs.Conditions.{eqb_refl}
 use Rattle.annex_base.specs.declared.kinds.Call.TheVariants as calls
 use Rattle.run_data.specs.declared.entry.By.{By}
 use Rattle.run_data.specs.declared.entry.By.TheVariants.{Job as by_job}
@@ -146,9 +147,6 @@ open_there (h ∷ hs) share by has mine itself = go ((h.number == share.number) 
     go false e is ih =
         ap (λ (b : Bool). (same_owner h.owner by && not h.kept) || b) (ih is) ∙ or_true (same_owner h.owner by && not h.kept)
 
-pub same_number : (n : ℕ) → (n == n) ≡ true
-same_number n = grind arith
-
 release_fails : (t : Turn) (taken : Option FrameView) (outcome : Outcome) → t.look.fails ≡ Some calls.Unhold → owns_share t ≡ true → is_lost_ordered outcome ≡ false → ends t taken outcome ≡ quietly (Fault calls.Unhold (by_me t)) taken
 release_fails t taken outcome fails owns plain = rw (fails, owns, plain) refl
 
@@ -211,7 +209,7 @@ unreleased_did read ends_at time rows rows' k k' w v w' share outcome out is u p
     made : (number : ℕ) (p : List ℕ → Bool) (taken : Option FrameView) (rest : Rest)
         → ends (turn_in (sight read ends_at time number) rows p (Some calls.Unhold) rest w) taken outcome ≡ quietly (Fault calls.Unhold (by_job w.number)) taken
     made number p taken rest =
-        release_fails (turn_in (sight read ends_at time number) rows p (Some calls.Unhold) rest w) taken outcome refl (open_there rows.holds share (by_job w.number) own.holds.given own.holds.owner (same_number w.number)) plain
+        release_fails (turn_in (sight read ends_at time number) rows p (Some calls.Unhold) rest w) taken outcome refl (open_there rows.holds share (by_job w.number) own.holds.given own.holds.owner (eqb_refl w.number)) plain
 
 -- the release failed, and left all as it was
 pub failed_did : (read : Reading) (ends_at : EndName → End) (time : ℕ) (rows was rows' : Rows) (k k' : Store) (w v w' : Worker) (share back : ShareView) (outcome : Outcome) (out : Output)

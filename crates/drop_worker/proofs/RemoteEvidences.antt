@@ -1,8 +1,7 @@
 -- What the end of a remote drop states.
-use Rattle.std.proofs.Common.{◌≡◌, ℕ, Bool, true, false, not, List, [], ◌∷◌, Option, Result, Ok, Err, refl, sym, ap, ◌∙◌, arith}
+use Rattle.std.proofs.Common.{◌≡◌, ℕ, Bool, true, false, not, List, [], ◌∷◌, Option, Result, Ok, Err, refl, sym, ap, ◌∙◌}
 use Rattle.std.specs.Prelude.{IfOk, ◌==◌, if◌then◌else◌}
 use Rattle.std.specs.List.{range_with_len}
-use Rattle.std.proofs.lemmas.Bool.Decides.{nat_tests}
 use Rattle.annex_base.specs.declared.kinds.Call.{Call}
 use Rattle.drop_proof.specs.declared.evidence.Evidence.{Evidence}
 use Rattle.drop_proof.specs.declared.rule.Side.TheVariants.{Remote}
@@ -15,11 +14,12 @@ use Rattle.run_data.specs.declared.job.Proof.{Proof}
 use Rattle.node_model.specs.Evidence.{Offer, but, candidates, failures, pick, proof_of}
 use Rattle.node_model.specs.Jobs.{target_of}
 use Rattle.node_model.specs.JobStep.{Turn}
-use Rattle.node_model.specs.DropStep.{expiry, lacking, removal_outcome}
+use Rattle.node_model.specs.DropStep.{expiry, lacking_outcome, removal_outcome}
 use Rattle.node_model.specs.Ends.{End, EndName}
 use Rattle.node_model.specs.Knows.{Reading, cause_by, denial_of, obeyed_outcome, proof_by}
 use Rattle.node_model.specs.Turns.{outcome_of}
 use Rattle.annex_base.specs.declared.memory.NoMemory.{NoMemory}
+use Rattle.annex_base.proofs.Conditions.{eqb_turned}
 use Rattle.drop_proof.specs.Judging.{least_end}
 use Rattle.content_lock.specs.Rows.{Rows}
 use Rattle.drop_worker.specs.declared.phase.Ending.{Ending}
@@ -33,9 +33,6 @@ use Rattle.drop_worker.proofs.Losing.{target_is}
 use Rattle.drop_worker.proofs.RemoteVerdicts.{end_is, known_is}
 use Rattle.drop_worker.proofs.Tokens.{same_number}
 
-pub turned_test : (m n : ℕ) → (m == n) ≡ false → (n == m) ≡ false
-turned_test m n e = grind (arith, nat_tests)
-
 -- causes that differ at the target alone
 failures_but : (ask : ℕ → Offer) (f g : ℕ → Cause) (target : ℕ) → ((c : ℕ) → (target == c) ≡ false → f c ≡ g c) → (xs : List ℕ) → failures ask f (but target xs) ≡ failures ask g (but target xs)
 failures_but ask f g target same [] = refl
@@ -44,7 +41,7 @@ failures_but ask f g target same (c ∷ cs) = go (c == target) refl (failures_bu
     go : (b : Bool) → (c == target) ≡ b → failures ask f (but target cs) ≡ failures ask g (but target cs)
         → failures ask f (if not b then c ∷ but target cs else but target cs) ≡ failures ask g (if not b then c ∷ but target cs else but target cs)
     go true e rest = rest
-    go false e rest = λ i. pick (ask c) (λ kind. rest i) (record { repo = c; cause = same c (turned_test c target e) i } ∷ rest i)
+    go false e rest = λ i. pick (ask c) (λ kind. rest i) (record { repo = c; cause = same c (eqb_turned c target e) i } ∷ rest i)
 
 module _ (x : Sight) (rows : Rows) (p : List ℕ → Bool) (fails : Option Call) (rest : Rest) (w : Worker) (items : List Evidence) (target : ℕ) (remote : IsRemote target w)
     (is : items ≡ known_remotely x.read target w) (proof : Proof) (proves : proof ≡ proof_of x.read.count x.read.need items) where
@@ -73,7 +70,7 @@ module _ (x : Sight) (rows : Rows) (p : List ℕ → Bool) (fails : Option Call)
       (λ kind. failures_but (offer_of x.read w) (cause_at x.read w) told_cause target same_cause (but x.read.repo (range_with_len 0 x.read.count)) i)
       (record { repo = x.read.repo; cause = same_cause x.read.repo apart i } ∷ failures_but (offer_of x.read w) (cause_at x.read w) told_cause target same_cause (but x.read.repo (range_with_len 0 x.read.count)) i)
 
-  pub lacks_remotely : (target == x.read.repo) ≡ false → (causes : List CandidateCause) → causes ≡ failures (offer_of x.read w) (cause_at x.read w) (remote_candidates x.read target) → Refused (refusals.Lacking proof causes) ≡ lacking turn
+  pub lacks_remotely : (target == x.read.repo) ≡ false → (causes : List CandidateCause) → causes ≡ failures (offer_of x.read w) (cause_at x.read w) (remote_candidates x.read target) → Refused (refusals.Lacking proof causes) ≡ lacking_outcome turn
   lacks_remotely apart causes told =
       (λ i. Refused (refusals.Lacking (proof_is i) ((told ∙ all_same apart) i)))
       ∙ (λ i. Refused (refusals.Lacking (proof_by x.read (work_of rest w)) (failures (offer_of x.read w) told_cause (candidates (sym remote.side i) x.read.count x.read.repo (at i)))))

@@ -8,7 +8,7 @@ use Rattle.drop_proof.specs.declared.rule.Need.{Need}
 use Rattle.drop_proof.specs.declared.rule.Side.TheVariants.{Remote}
 use Rattle.drop_proof.specs.Judging.{is_enough}
 use Rattle.run_data.specs.declared.job.Outcome.{Outcome}
-use Rattle.node_model.specs.DropStep.{lacking}
+use Rattle.node_model.specs.DropStep.{lacking_outcome}
 use Rattle.node_model.specs.Ends.{End, EndName}
 use Rattle.node_model.specs.JobStep.{Turn, ends}
 use Rattle.node_model.specs.Knows.{Reading}
@@ -96,7 +96,7 @@ module _ (read : Reading) (ends_at : EndName → End) (time number : ℕ) (w w' 
         went_did rows k peer r (λ p fails rest. asks_next (sight read ends_at time number) rows p fails rest w need items target remote needs is peer lacks found ∙ next_goes (turn rows p fails rest))
 
     pub lacks_did_remotely : (rows rows' : Rows) (k k' : Store) (outcome : Outcome) (r : Result Output NoMemory) → is_enough Remote need items ≡ false → find (asks_of read w) (remote_candidates read target) ≡ None
-        → ((time number : ℕ) (rs : Rows) (p : List ℕ → Bool) (fails : Option Call) (rest : Rest) → outcome ≡ lacking (turn_in (sight read ends_at time number) rs p fails rest w))
+        → ((time number : ℕ) (rs : Rows) (p : List ℕ → Bool) (fails : Option Call) (rest : Rest) → outcome ≡ lacking_outcome (turn_in (sight read ends_at time number) rs p fails rest w))
         → DidRemote rows rows' k k' w w' (EndsSo read ends_at time rows rows' w w' outcome) r → DidRemote rows rows' k k' w w' (GoesAlike (sight read ends_at time number) k.contents rows rows' w w') r
     lacks_did_remotely rows rows' k k' outcome r lacks none told d =
         ended_goes rows rows' k k' outcome r

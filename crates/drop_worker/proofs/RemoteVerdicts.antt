@@ -9,7 +9,7 @@ use Rattle.drop_proof.specs.Judging.{is_enough, least_end}
 use Rattle.node_model.specs.Evidence.{candidates, gather, reached_candidates}
 use Rattle.node_model.specs.Jobs.{Drops, side_of, target_of}
 use Rattle.node_model.specs.JobStep.{Turn, ends}
-use Rattle.node_model.specs.DropStep.{first_end, lacking}
+use Rattle.node_model.specs.DropStep.{first_end, lacking_outcome}
 use Rattle.node_model.specs.Knows.{enough_by, known_by, next_by}
 use Rattle.node_model.specs.Requests.{goes_to}
 use Rattle.node_model.specs.Turns.{judges, next_step}
@@ -48,5 +48,5 @@ module _ (x : Sight) (rows : Rows) (p : List ℕ → Bool) (fails : Option Call)
   pub asks_next : (peer : ℕ) → is_enough Remote need items ≡ false → find (asks_of x.read w) (remote_candidates x.read target) ≡ Some peer → goes_to turn peer ≡ next_step turn Drops
   asks_next peer lacks found = sym (λ i. judges turn ((sym enough_is ∙ lacks) i) ((sym next_is ∙ found) i) (side_of turn.w))
 
-  pub lacks_next : is_enough Remote need items ≡ false → find (asks_of x.read w) (remote_candidates x.read target) ≡ None → ends turn None (lacking turn) ≡ next_step turn Drops
+  pub lacks_next : is_enough Remote need items ≡ false → find (asks_of x.read w) (remote_candidates x.read target) ≡ None → ends turn None (lacking_outcome turn) ≡ next_step turn Drops
   lacks_next lacks none = sym (λ i. judges turn ((sym enough_is ∙ lacks) i) ((sym next_is ∙ none) i) (side_of turn.w))

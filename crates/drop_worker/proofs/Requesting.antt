@@ -1,8 +1,8 @@
 -- A remote drop's request, in the words of the step.
-use Rattle.std.proofs.Common.{◌≡◌, inl, ℕ, Bool, true, false, List, [], ◌∷◌, Option, Some, None, Result, Ok, Err, refl, sym, ap, ◌∙◌, subst, arith}
+use Rattle.std.proofs.Common.{◌≡◌, inl, ℕ, Bool, true, false, List, [], ◌∷◌, Option, Some, None, Result, Ok, Err, refl, sym, ap, ◌∙◌, subst}
 use Rattle.std.specs.Prelude.{IfOk, ◌==◌, if◌then◌else◌, nat_lt}
-use Rattle.std.proofs.lemmas.Bool.Decides.{nat_tests}
 use Rattle.std.proofs.lemmas.List.{append-nil}
+use Rattle.std.proofs.lemmas.Bool.{eqb-true}
 use Rattle.annex_base.specs.declared.kinds.Call.{Call}
 use Rattle.annex_base.specs.declared.memory.NoMemory.{NoMemory}
 use Rattle.drop_proof.specs.declared.rule.Need.{Need}
@@ -35,7 +35,7 @@ use Rattle.drop_worker.specs.declared.phase.Token.{Token}
 use Rattle.drop_worker.specs.declared.turn.Output.{Output}
 use Rattle.drop_worker.specs.Worker.{Worker}
 use Rattle.drop_worker.specs.Working.{Rest, Sight, end_in, failed_in, frames_of, phase_as, sight, turn_in, work_of}
-use Rattle.drop_worker.specs.Doing.{Acts, Does, contents_after, next_work}
+use Rattle.drop_worker.specs.Doing.{Acts, DoesAsAsked, contents_after, next_work}
 use Rattle.drop_worker.specs.Feeding.{FitsRemote, HasNoBar}
 use Rattle.drop_worker.specs.Remote.{IsRemote, ReadsAll, Request, Says, Speaks, first_request, known_remotely, said_parcels, target_request, time_request}
 use Rattle.drop_worker.proofs.Losing.{target_is}
@@ -48,9 +48,6 @@ said_texts (Some m) = Line (text_of m) ∷ []
 -- what a step makes that says this
 abbrev pub request_made : Turn → Option FrameView → ℕ → Request → Made
 request_made t taken peer q = record { kind = q.kind; taken = taken; sent = frames (job_end t.w peer) (end_with t peer) (said_texts q.says); lines = [] }
-
-same_peer : (target peer : ℕ) → (target == peer) ≡ true → target ≡ peer
-same_peer target peer e = grind (arith, nat_tests)
 
 module _ (x : Sight) (rows : Rows) (p : List ℕ → Bool) (fails : Option Call) (rest : Rest) (w : Worker) (need : Need) (target : ℕ) (remote : IsRemote target w) (needs : need ≡ x.read.need) where
   abbrev turn : Turn
@@ -79,7 +76,7 @@ module _ (x : Sight) (rows : Rows) (p : List ℕ → Bool) (fails : Option Call)
     where
       go : (b : Bool) → (target == peer) ≡ b → (if b then asks_target turn version taken end else asks_lock turn taken peer)
           ≡ request_made turn taken peer (if b then target_request need w target version end else record { kind = Talk (Some w.number); says = Some (LockContent w.job.key); phase = phases.AsksLock peer time })
-      go true e = target_said version peer end taken (same_peer target peer e)
+      go true e = target_said version peer end taken (eqb-true target peer e)
       go false e = refl
 
 -- ---- the work that follows, of a job that stood on no connection
@@ -131,7 +128,7 @@ pub said_does_as : (x : Sight) (rows : Rows) (p : List ℕ → Bool) (w w' u : W
     → failed_in q.kind ≡ None → AreAfter q.kind rows rows → job_of q.kind ≡ Some w.number
     → ((rest : Rest) → asked (turn_in x rows p None rest w) ≡ request_made (turn_in x rows p None rest w) taken peer q)
     → ((rest : Rest) → work_of rest u ≡ next_work (turn_in x rows p None rest w) (request_made (turn_in x rows p None rest w) taken peer q))
-    → Does x rows rows p w w' taken asked out
+    → DoesAsAsked x rows rows p w w' taken asked out
 said_does_as x rows p w w' u taken asked q peer out kind sends is plain after whose asks moves =
     record {
       makes = λ rest. (λ i. record { kind = kind i; taken = taken; sent = (ap (frames_of x.ends w.slot) sends ∙ parcels_said x.ends w.slot peer q.says) i; lines = [] })
@@ -149,7 +146,7 @@ pub said_does : (x : Sight) (rows : Rows) (p : List ℕ → Bool) (w w' : Worker
     → failed_in q.kind ≡ None → AreAfter q.kind rows rows → job_of q.kind ≡ Some w.number
     → ((rest : Rest) → asked (turn_in x rows p None rest w) ≡ request_made (turn_in x rows p None rest w) taken peer q)
     → ((rest : Rest) → work_of rest (record w { phase = q.phase }) ≡ next_work (turn_in x rows p None rest w) (request_made (turn_in x rows p None rest w) taken peer q))
-    → Does x rows rows p w w' taken asked out
+    → DoesAsAsked x rows rows p w w' taken asked out
 said_does x rows p w w' taken asked q peer out s = said_does_as x rows p w w' (record w { phase = q.phase }) taken asked q peer out s.kind s.sends s.next
 
 -- a request is an entry of the job that is no fault and changes no row

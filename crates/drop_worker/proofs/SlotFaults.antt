@@ -23,7 +23,7 @@ use Rattle.p2p_wire.specs.declared.message.Message.TheVariants as messages
 use Rattle.p2p_wire.specs.Messages.{message_of}
 use Rattle.node_model.specs.Calls.{to_commit, to_hold, to_release, to_resume}
 use Rattle.node_model.specs.Clocks.{hold_time}
-use Rattle.node_model.specs.DropStep.{asks_copy, asks_lock, asks_target, bars, expiry, first_drop, first_end, first_remote, in_time, lacking, orders, own_share, removes, required_there, row_refusal, held_until, takes_drop, takes_time, target, times, tries_own}
+use Rattle.node_model.specs.DropStep.{asks_copy, asks_lock, asks_target, bars, expiry, first_drop, first_end, first_remote, in_time, lacking_outcome, orders, own_share, removes, required_there, row_refusal, held_until, takes_drop, takes_time, target, times, tries_own}
 use Rattle.node_model.specs.Evidence as seen
 use Rattle.node_model.specs.Jobs as Jobs
 use Rattle.node_model.specs.Jobs.{Drops, Gets, Part, Phase, Puts, Work, is_move, job_end, partner, side_of}
@@ -131,7 +131,7 @@ module _ (t : Turn) where
 
   judge_by : (enough : Bool) (next : Option ℕ) (side : Side) → FailsBy (judges t enough next side) (judge_calls t enough next side)
   judge_by false (Some peer) side = opening_by peer
-  judge_by false None side = end_by None (lacking t)
+  judge_by false None side = end_by None (lacking_outcome t)
   judge_by true next Local = removal_by
   judge_by true next Remote = opening_by (target t)
 

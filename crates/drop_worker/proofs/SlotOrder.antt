@@ -20,7 +20,7 @@ use Rattle.p2p_wire.specs.declared.message.Message.{Message}
 use Rattle.p2p_wire.specs.declared.message.Message.TheVariants as messages
 use Rattle.p2p_wire.specs.Messages.{message_of}
 use Rattle.node_model.specs.Calls.{to_commit, to_hold, to_read, to_release, to_resume}
-use Rattle.node_model.specs.DropStep.{expiry, first_end, held_until, in_time, lacking, required_there, row_refusal, target}
+use Rattle.node_model.specs.DropStep.{expiry, first_end, held_until, in_time, lacking_outcome, required_there, row_refusal, target}
 use Rattle.node_model.specs.Evidence as seen
 use Rattle.node_model.specs.Jobs as Jobs
 use Rattle.node_model.specs.Jobs.{Drops, Gets, Part, Phase, Puts, Work, is_move, job_end, partner, side_of}
@@ -115,7 +115,7 @@ module _ (t : Turn) where
 
   judge_rises : (enough : Bool) (next : Option ℕ) (side : Side) → RiseFrom 1 (judge_calls t enough next side)
   judge_rises false (Some peer) side = opening_rises peer
-  judge_rises false None side = end_rises (lacking t)
+  judge_rises false None side = end_rises (lacking_outcome t)
   judge_rises true next Local = removal_rises
   judge_rises true next Remote = opening_rises (target t)
 

@@ -32,12 +32,12 @@ use Rattle.drop_worker.specs.Doing.{next_work}
 use Rattle.drop_worker.specs.Feeding.{FedAt, FindsAt, step_of}
 use Rattle.drop_worker.specs.Sides.{IsNext, side_in}
 use Rattle.drop_worker.specs.Stepping.{DoesSo}
-use Rattle.drop_worker.specs.States.{IsSight, Keeps, Sees, StepsSo, rest_of}
+use Rattle.drop_worker.specs.States.{IsSight, HaveState, Sees, StepsSo, rest_of}
 use Rattle.annex_base.proofs.Conditions.{eqb_refl}
 use Rattle.drop_worker.proofs.Callings.{makes_as}
 
 pub turn_is : (x : Sight) (rows : Rows) (contents : Contents) (s : SetUp) (st : State) (k : Look) (w : Worker) (v : Work) (fails : Option Call)
-    → IsSight x s st k w v → Keeps rows contents st → k.fails ≡ fails → turn_in x rows (present_in contents) fails (rest_of s st k v) w ≡ turn_of s st k v
+    → IsSight x s st k w v → HaveState rows contents st → k.fails ≡ fails → turn_in x rows (present_in contents) fails (rest_of s st k v) w ≡ turn_of s st k v
 turn_is x rows contents s st k w v fails e r f = λ i.
     record {
       read = e.read i;

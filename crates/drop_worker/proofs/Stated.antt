@@ -11,7 +11,7 @@ use Rattle.run_data.specs.declared.job.Proof.{Proof}
 use Rattle.node_model.specs.Evidence.{failures, proof_of}
 use Rattle.node_model.specs.Jobs.{drop_side}
 use Rattle.node_model.specs.JobStep.{ends}
-use Rattle.node_model.specs.DropStep.{lacking}
+use Rattle.node_model.specs.DropStep.{lacking_outcome}
 use Rattle.content_lock.specs.Rows.{Rows}
 use Rattle.drop_worker.specs.declared.phase.Phase.TheVariants as phases
 use Rattle.drop_worker.specs.declared.turn.Output.{Output}
@@ -27,10 +27,10 @@ module _ (x : Sight) (rows rows' : Rows) (k : Store) (w w' : Worker) (r : Result
     (is : items ≡ evidence_of Local x.read w (others_in x.read) []) (proves : proof ≡ proof_of x.read.count x.read.need items) where
   pub lacks_did : (causes : List CandidateCause) → causes ≡ failures (offer_of x.read w) (cause_at x.read w) (others_in x.read)
       → Did rows rows' k k w w' (ActsOver x k.contents rows rows' w w' (λ t. ends t None (Refused (refusals.Lacking proof causes)))) r
-      → Did rows rows' k k w w' (ActsOver x k.contents rows rows' w w' (λ t. ends t None (lacking t))) r
+      → Did rows rows' k k w w' (ActsOver x k.contents rows rows' w w' (λ t. ends t None (lacking_outcome t))) r
   lacks_did causes told d =
-      did_as rows rows' k k w w' (ActsOver x k.contents rows rows' w w' (λ t. ends t None (Refused (refusals.Lacking proof causes)))) (ActsOver x k.contents rows rows' w w' (λ t. ends t None (lacking t))) r d
-      (λ out acts c here. does_as x rows rows' (present_in c) w w' None (λ t. ends t None (Refused (refusals.Lacking proof causes))) (λ t. ends t None (lacking t)) out (acts c here)
+      did_as rows rows' k k w w' (ActsOver x k.contents rows rows' w w' (λ t. ends t None (Refused (refusals.Lacking proof causes)))) (ActsOver x k.contents rows rows' w w' (λ t. ends t None (lacking_outcome t))) r d
+      (λ out acts c here. does_as x rows rows' (present_in c) w w' None (λ t. ends t None (Refused (refusals.Lacking proof causes))) (λ t. ends t None (lacking_outcome t)) out (acts c here)
       (λ rest. ap (λ (o : Outcome). ends (turn_in x rows (present_in c) (failed_in out.kind) rest w) None o) (lacks_is x rows (present_in c) (failed_in out.kind) rest w items local is proof proves causes told)))
 
   pub dropped_did : w.phase ≡ phases.Removed → Did rows rows' k k w w' (ActsOver x k.contents rows rows' w w' (λ t. ends t None (Dropped proof))) r → Did rows rows' k k w w' (GoesSo x k.contents rows rows' w w') r

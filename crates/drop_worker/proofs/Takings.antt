@@ -1,5 +1,5 @@
 -- The steps of a local drop that take a message.
-use Rattle.std.proofs.Common.{inr, ◌≡◌, ℕ, Bool, true, false, List, [], ◌∷◌, Option, Some, None, Result, Ok, Err, refl, sym, ap, ◌∙◌, subst}
+use Rattle.std.proofs.Common.{◌≡◌, ℕ, Bool, true, false, List, [], ◌∷◌, Option, Some, None, Result, Ok, Err, refl, sym, ap, ◌∙◌, subst}
 use Rattle.std.specs.Prelude.{IfOk, ◌==◌}
 use Rattle.std.proofs.lemmas.List.{append-nil}
 use Rattle.drop_proof.specs.declared.rule.Side.TheVariants.{Local}
@@ -12,7 +12,7 @@ use Rattle.p2p_wire.specs.declared.message.Message.{Message}
 use Rattle.p2p_wire.specs.Messages.{message_of, text_of}
 use Rattle.node_model.specs.Ends.{frames}
 use Rattle.node_model.specs.Jobs
-use Rattle.node_model.specs.Jobs.{Drops, Part, Work, claims, closed_part, drop_side, job_end, learns, partner, says, side_of, taken_message, talks_on, took, took_line}
+use Rattle.node_model.specs.Jobs.{Drops, Part, Work, claims, closed_part, drop_side, job_end, learns, partner, says, side_of, taken_message, talks_on, after_frame, after_line}
 use Rattle.node_model.specs.JobStep.{Turn, end_with, hears, me, says_to, talk, wrong}
 use Rattle.node_model.specs.Look.{Made, entry_of}
 use Rattle.node_model.specs.Turns.{takes, takes_frame}
@@ -27,7 +27,7 @@ use Rattle.drop_worker.specs.declared.turn.Taken.TheVariants as takens
 use Rattle.drop_worker.specs.Worker.{Worker}
 use Rattle.drop_worker.specs.Working.{Rest, Sight, heard_as, end_in, frames_of, phase_as, taken_line, taken_of, turn_in, work_of}
 use Rattle.node_model.specs.Slots.{job_of}
-use Rattle.drop_worker.specs.Doing.{Does, Comes, GoesOn, Grows, Talks, next_work}
+use Rattle.drop_worker.specs.Doing.{DoesAsAsked, Comes, GoesOn, Grows, Talks, next_work}
 use Rattle.drop_worker.proofs.Talks.{on_heard, on_said, on_shut, open_line}
 
 -- ---- the line that came
@@ -53,39 +53,39 @@ line_takes t f peer m l = rw (l.is, l.reads) refl
 -- ---- the work that follows
 
 abbrev took_was : Work → FrameText → Work
-took_was w body = took w body
+took_was w body = after_frame w body
 
 -- n is the version that the work has learnt, or had
 module _ (t : Turn) (f : FrameView) (peer : ℕ) (took : Message) (n : ℕ) (drops : t.w.part ≡ Drops) (learn : learns t.w t.w.phase (Some f) ≡ record t.w { version = n }) (with_peer : partner t.w.what.peer t.w.phase ≡ Some peer)
     (l : Lined f.body took) (live : (end_with t peer).opened ≡ true) where
-  abbrev at_work : Made → Jobs.Rows → Work
+  abbrev at_work : Made → Jobs.RowsAndEnds → Work
   at_work m rows = talks_on rows (me t) (learns (claims t.w t.w.part t.w.phase) t.w.phase (Some f)) (entry_of (me t) t.look m) (partner t.w.what.peer t.w.phase)
 
   abbrev now_work : Work
   now_work = record t.w { version = n }
 
-  here : (m : Made) (rows : Jobs.Rows) → at_work m rows ≡ talks_on rows (me t) now_work (entry_of (me t) t.look m) (Some peer)
+  here : (m : Made) (rows : Jobs.RowsAndEnds) → at_work m rows ≡ talks_on rows (me t) now_work (entry_of (me t) t.look m) (Some peer)
   here m rows = λ i. talks_on rows (me t) ((ap (λ (part : Part). learns (claims t.w part t.w.phase) t.w.phase (Some f)) drops ∙ learn) i) (entry_of (me t) t.look m) (with_peer i)
 
   told : taken_message (Some f) ≡ Some took
   told = rw (l.is, l.reads) refl
 
-  pub moved_heard : next_work t (hears t f) ≡ took_line now_work (Some took)
+  pub moved_heard : next_work t (hears t f) ≡ after_line now_work (Some took)
   moved_heard =
-      let rows : Jobs.Rows = record { present = t.present; bar = t.bar; ends = t.ends } in
+      let rows : Jobs.RowsAndEnds = record { present = t.present; bar = t.bar; ends = t.ends } in
       here (hears t f) rows ∙ (on_heard rows (me t) now_work (entry_of (me t) t.look (hears t f)) peer refl (open_line (job_end t.w peer) (end_with t peer) f l.text l.is live)
-      ∙ (ap (took_was now_work) l.is ∙ ap (took_line now_work) l.reads))
+      ∙ (ap (took_was now_work) l.is ∙ ap (after_line now_work) l.reads))
 
   pub moved_said : (m : Message) → message_of (text_of m) ≡ Some m → next_work t (says_to t (talk t) (Some f) peer m) ≡ says now_work t.look.time peer (Some took) m
   moved_said m reads =
-      let rows : Jobs.Rows = record { present = t.present; bar = t.bar; ends = t.ends } in
+      let rows : Jobs.RowsAndEnds = record { present = t.present; bar = t.bar; ends = t.ends } in
       here (says_to t (talk t) (Some f) peer m) rows
       ∙ (on_said rows (me t) now_work (entry_of (me t) t.look (says_to t (talk t) (Some f) peer m)) peer m refl (open_line (job_end t.w peer) (end_with t peer) f l.text l.is live) reads
       ∙ ap (λ (o : Option Message). says now_work t.look.time peer o m) told)
 
   pub moved_shut : next_work t (wrong t f peer) ≡ closed_part (me t) now_work peer Drops
   moved_shut =
-      let rows : Jobs.Rows = record { present = t.present; bar = t.bar; ends = t.ends } in
+      let rows : Jobs.RowsAndEnds = record { present = t.present; bar = t.bar; ends = t.ends } in
       here (wrong t f peer) rows ∙ (on_shut rows (me t) now_work (entry_of (me t) t.look (wrong t f peer)) peer refl ∙ ap (closed_part (me t) now_work peer) drops)
 
 -- the local drop's target is itself
@@ -97,7 +97,7 @@ closed_local r w peer local apart = rw (local, apart) refl
 pub talk_does : (x : Sight) (rows : Rows) (p : List ℕ → Bool) (w w' : Worker) (taken : Option FrameView) (asked : Turn → Made) (items : List Parcel) (out : Output) → out.kind ≡ Talk (Some w.number)
     → out.sends.items ≡ items
     → ((rest : Rest) → record { kind = Talk (Some w.number); taken = taken; sent = frames_of x.ends w.slot items; lines = [] } ≡ asked (turn_in x rows p None rest w))
-    → ((rest : Rest) → work_of rest w' ≡ next_work (turn_in x rows p None rest w) (asked (turn_in x rows p None rest w))) → Does x rows rows p w w' taken asked out
+    → ((rest : Rest) → work_of rest w' ≡ next_work (turn_in x rows p None rest w) (asked (turn_in x rows p None rest w))) → DoesAsAsked x rows rows p w w' taken asked out
 talk_does x rows p w w' taken asked items out kind sends f n =
     record {
       makes = λ rest. rw (kind, sends) (f rest);
@@ -129,7 +129,7 @@ module _ (x : Sight) (rows : Rows) (p : List ℕ → Bool) (w w' : Worker) (f : 
   line = lined f.body took comes.is
 
   pub hear_does : out.sends.items ≡ [] → ((rest : Rest) → hears (turn rest) f ≡ takes (turn rest) f peer (phase_as w.phase) took)
-      → ((rest : Rest) → work_of rest w' ≡ took_line (record (work_of rest w) { version = n }) (Some took)) → Does x rows rows p w w' (Some f) (λ t. takes_frame t peer f f.body) out
+      → ((rest : Rest) → work_of rest w' ≡ after_line (record (work_of rest w) { version = n }) (Some took)) → DoesAsAsked x rows rows p w w' (Some f) (λ t. takes_frame t peer f f.body) out
   hear_does sends makes next =
       let is : (rest : Rest) → hears (turn rest) f ≡ asked (turn rest) = λ rest. makes rest ∙ line_takes (turn rest) f peer took line in
       talk_does x rows p w w' (Some f) asked [] out kind sends is
@@ -137,7 +137,7 @@ module _ (x : Sight) (rows : Rows) (p : List ℕ → Bool) (w w' : Worker) (f : 
 
   pub say_does : (m : Message) → out.sends.items ≡ record { peer = peer; body = bodies.Message m } ∷ [] → message_of (text_of m) ≡ Some m
       → ((rest : Rest) → says_to (turn rest) (talk (turn rest)) (Some f) peer m ≡ takes (turn rest) f peer (phase_as w.phase) took)
-      → ((rest : Rest) → work_of rest w' ≡ says (record (work_of rest w) { version = n }) x.time peer (Some took) m) → Does x rows rows p w w' (Some f) (λ t. takes_frame t peer f f.body) out
+      → ((rest : Rest) → work_of rest w' ≡ says (record (work_of rest w) { version = n }) x.time peer (Some took) m) → DoesAsAsked x rows rows p w w' (Some f) (λ t. takes_frame t peer f f.body) out
   say_does m sends reads makes next =
       let is : (rest : Rest) → says_to (turn rest) (talk (turn rest)) (Some f) peer m ≡ asked (turn rest) = λ rest. makes rest ∙ line_takes (turn rest) f peer took line in
       talk_does x rows p w w' (Some f) asked _ out kind sends
@@ -146,7 +146,7 @@ module _ (x : Sight) (rows : Rows) (p : List ℕ → Bool) (w w' : Worker) (f : 
 
   pub shut_does : drop_side w.job.kind w.job.peer ≡ Local → out.sends.items ≡ record { peer = peer; body = bodies.Close } ∷ []
       → w' ≡ record w { heard = (peer, heards.Lacks causes.Closed) ∷ w.heard; phase = phases.Next; version = n }
-      → ((rest : Rest) → wrong (turn rest) f peer ≡ takes (turn rest) f peer (phase_as w.phase) took) → Does x rows rows p w w' (Some f) (λ t. takes_frame t peer f f.body) out
+      → ((rest : Rest) → wrong (turn rest) f peer ≡ takes (turn rest) f peer (phase_as w.phase) took) → DoesAsAsked x rows rows p w w' (Some f) (λ t. takes_frame t peer f f.body) out
   shut_does local sends next makes =
       let is : (rest : Rest) → wrong (turn rest) f peer ≡ asked (turn rest) = λ rest. makes rest ∙ line_takes (turn rest) f peer took line in
       talk_does x rows p w w' (Some f) asked _ out kind sends
@@ -164,10 +164,6 @@ pub talks_as : (w v w' : Worker) (out : Output) → out.kind ≡ Talk (Some w.nu
     → Talks w w' out
 talks_as w v w' out kind ended is number job token phase heard =
     subst (λ (u : Worker). Talks w u out) (sym is) (record { kind = kind; goes_on = ended; number = number; job = job; token = token; phase = phase; heard = heard })
-
-pub heard_talks : (w w' : Worker) (peer : ℕ) (h : Heard) (out : Output) → out.kind ≡ Talk (Some w.number) → out.ended ≡ false
-    → w' ≡ record w { heard = (peer, h) ∷ w.heard; phase = phases.Next } → Talks w w' out
-heard_talks w w' peer h out kind ended is = talks_as w (record w { heard = (peer, h) ∷ w.heard; phase = phases.Next }) w' out kind ended is refl refl refl tt (inr ((peer, h), refl))
 
 pub if_both : {T E : Type 0} (r : Result T E) (P Q R : T → Type 0) → IfOk r P → IfOk r Q → ((y : T) → P y → Q y → R y) → IfOk r R
 if_both (Ok y) P Q R a b f = f y a b

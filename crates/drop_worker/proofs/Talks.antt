@@ -8,7 +8,7 @@ use Rattle.run_data.specs.declared.entry.FrameView.{FrameView}
 use Rattle.p2p_wire.specs.declared.message.Message.{Message}
 use Rattle.p2p_wire.specs.Messages.{message_of, text_of}
 use Rattle.node_model.specs.Ends.{End, EndName, end_sends, end_took, frames, same_bool, sends_at, sent_at, taken_at, takes_at}
-use Rattle.node_model.specs.Jobs.{Rows, Work, closed_part, hears_frame, job_end, says, taken_message, talks_on}
+use Rattle.node_model.specs.Jobs.{RowsAndEnds, Work, closed_part, hears_frame, job_end, says, taken_message, talks_on}
 use Rattle.annex_base.proofs.Conditions.{eqb_refl}
 
 sends_itself : (a : EndName) (epoch seq : ℕ) (body : FrameText) → sends_at a (record { peer = a.peer; slot = a.slot; up = a.client; epoch = epoch; seq = seq; body = body }) ≡ true
@@ -32,16 +32,16 @@ open_line a c f text is live = go (takes_at a f)
     go true = rw is live
     go false = live
 
-pub on_heard : (rows : Rows) (r : ℕ) (v : Work) (e : Entry) (peer : ℕ) → e.sent ≡ [] → StaysOpen (job_end v peer) (rows.ends (job_end v peer)) e.taken
+pub on_heard : (rows : RowsAndEnds) (r : ℕ) (v : Work) (e : Entry) (peer : ℕ) → e.sent ≡ [] → StaysOpen (job_end v peer) (rows.ends (job_end v peer)) e.taken
     → talks_on rows r v e (Some peer) ≡ hears_frame rows r v e.taken
 on_heard rows r v e peer none live = rw (none, live) refl
 
-pub on_said : (rows : Rows) (r : ℕ) (v : Work) (e : Entry) (peer : ℕ) (m : Message) → e.sent ≡ frames (job_end v peer) (rows.ends (job_end v peer)) (Line (text_of m) ∷ [])
+pub on_said : (rows : RowsAndEnds) (r : ℕ) (v : Work) (e : Entry) (peer : ℕ) (m : Message) → e.sent ≡ frames (job_end v peer) (rows.ends (job_end v peer)) (Line (text_of m) ∷ [])
     → StaysOpen (job_end v peer) (rows.ends (job_end v peer)) e.taken → message_of (text_of m) ≡ Some m
     → talks_on rows r v e (Some peer) ≡ says v e.time peer (taken_message e.taken) m
 on_said rows r v e peer m sent live reads =
     rw (sent, sent_same (job_end v peer) (rows.ends (job_end v peer)) (Line (text_of m) ∷ []), live, reads) refl
 
-pub on_shut : (rows : Rows) (r : ℕ) (v : Work) (e : Entry) (peer : ℕ) → e.sent ≡ frames (job_end v peer) (rows.ends (job_end v peer)) (Closing ∷ [])
+pub on_shut : (rows : RowsAndEnds) (r : ℕ) (v : Work) (e : Entry) (peer : ℕ) → e.sent ≡ frames (job_end v peer) (rows.ends (job_end v peer)) (Closing ∷ [])
     → talks_on rows r v e (Some peer) ≡ closed_part r v peer v.part
 on_shut rows r v e peer sent = rw (sent, sent_same (job_end v peer) (rows.ends (job_end v peer)) (Closing ∷ [])) refl

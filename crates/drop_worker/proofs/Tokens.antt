@@ -3,13 +3,12 @@ use Rattle.std.proofs.Common.{◌≡◌, ℕ, Bool, true, false, List, Option, S
 use Rattle.std.specs.Prelude.{◌==◌, if◌then◌else◌, bytes_eq}
 use Rattle.std.specs.Cmp.Lexicographic.{same_text}
 use Rattle.std.proofs.lemmas.Bool.Decides.{nat_tests}
-use Rattle.annex_base.proofs.Conditions.{bytes_eq-refl}
 use Rattle.run_data.specs.declared.row.Hold.{Hold}
 use Rattle.run_data.specs.declared.entry.By.{By}
 use Rattle.run_data.specs.declared.entry.By.TheVariants.{Job as by_job}
 use Rattle.node_model.specs.Rows.{option_is, same_owner}
 use Rattle.content_lock.specs.Rows.{Rows, bar_at}
-use Rattle.content_lock.specs.Tokens.{BarView, HasBar, Owns, ShareView}
+use Rattle.content_lock.specs.Tokens.{BarView, Owns, ShareView}
 use Rattle.drop_worker.specs.declared.phase.Token.TheVariants as tokens
 use Rattle.drop_worker.specs.Doing.{HasToken, OthersStay, share_in}
 
@@ -23,15 +22,6 @@ TakesOff rows rows' key = (k : List ℕ) → bar_at rows' k ≡ (if bytes_eq key
 
 pub same_number : (n : ℕ) → n == n ≡ true
 same_number n = grind arith
-
-is_that : (o : Option ℕ) (n : ℕ) → option_is o n ≡ true → o ≡ Some n
-is_that None n e = absurd (cc)
-is_that (Some m) n e = let same : m ≡ n = grind (arith, nat_tests) in ap (λ (k : ℕ). Some k) same
-
--- the table gave the job's bar
-pub given_bar : (job : ℕ) (bar : BarView) (key : List ℕ) (rows : Rows) → HasToken job key (tokens.Bar bar) rows → HasBar rows bar
-given_bar job bar key rows own =
-    is_that (bar_at rows bar.key) job (own.bars bar.key ∙ bytes_eq-refl bar.key) ∙ ap (λ (n : ℕ). Some n) (sym own.of_job)
 
 -- a bar of the job's, where it had none
 pub owns_bar : (job : ℕ) (bar : BarView) (key : List ℕ) (rows rows' : Rows) → bar.key ≡ key → bar.job ≡ job → Puts rows rows' key job → rows'.holds ≡ rows.holds → HasToken job key tokens.Nothing rows → HasToken job key (tokens.Bar bar) rows'

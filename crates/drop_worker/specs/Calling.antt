@@ -13,7 +13,7 @@ use Rattle.run_data.specs.declared.job.Outcome.TheVariants.{Refused}
 use Rattle.run_data.specs.declared.row.Hold.{Hold}
 use Rattle.object_store.specs.Stores.{Contents}
 use Rattle.node_model.specs.Calls.{to_release}
-use Rattle.node_model.specs.DropStep.{lacking}
+use Rattle.node_model.specs.DropStep.{lacking_outcome}
 use Rattle.node_model.specs.JobStep.{Turn}
 use Rattle.node_model.specs.Rows.{is_lost_ordered, same_owner}
 use Rattle.content_lock.specs.Rows.{Rows}
@@ -80,4 +80,4 @@ abbrev pub calls_by : Verdict → Turn → List Call
 calls_by (verdicts.Asks peer) t = opening_calls t peer
 calls_by verdicts.Removes t = calls.Remove ∷ []
 calls_by (verdicts.Late end clock) t = end_calls t (Refused (refusals.Expired end clock))
-calls_by verdicts.Lacks t = end_calls t (lacking t)
+calls_by verdicts.Lacks t = end_calls t (lacking_outcome t)

@@ -40,7 +40,7 @@ next_work t m = work_kind (record { present = t.present; bar = t.bar; ends = t.e
 
 -- a step over rows, where these contents are there: it makes what is asked, its entry changes the rows, and the work that follows
 -- is the next one
-pub record Does (x : Sight) (rows rows' : Rows) (present : List ℕ → Bool) (w w' : Worker) (taken : Option FrameView) (asked : Turn → Made) (out : Output) : Type 0 where
+pub record DoesAsAsked (x : Sight) (rows rows' : Rows) (present : List ℕ → Bool) (w w' : Worker) (taken : Option FrameView) (asked : Turn → Made) (out : Output) : Type 0 where
   pub makes : (rest : Rest) → made_of x w taken out ≡ asked (turn_in x rows present (failed_in out.kind) rest w)
   pub next : out.ended ≡ false → (rest : Rest) → work_of rest w' ≡ next_work (turn_in x rows present (failed_in out.kind) rest w) (asked (turn_in x rows present (failed_in out.kind) rest w))
   pub after : AreAfter out.kind rows rows'
@@ -48,7 +48,7 @@ pub record Does (x : Sight) (rows rows' : Rows) (present : List ℕ → Bool) (w
 
 -- a step that takes no frame does what is asked, at this time
 abbrev pub Acts : Reading → (EndName → EndState) → ℕ → Rows → Rows → Worker → Worker → (Turn → Made) → Output → Type 0
-Acts read ends time rows rows' w w' asked out = (number : ℕ) (p : List ℕ → Bool) → Does (sight read ends time number) rows rows' p w w' None asked out
+Acts read ends time rows rows' w w' asked out = (number : ℕ) (p : List ℕ → Bool) → DoesAsAsked (sight read ends time number) rows rows' p w w' None asked out
 
 -- at every time
 abbrev pub ActsAnyTime : Reading → (EndName → EndState) → Rows → Rows → Worker → Worker → (Turn → Made) → Output → Type 0
@@ -92,7 +92,7 @@ OthersStay number rows rows' = (job : ℕ) (key : List ℕ) (token : Token) → 
 -- ---- what it says
 
 -- what a drop says are lines of the protocol, which are read as they were said
-pub record Reads (key : List ℕ) : Type 0 where
+pub record AreProtocolLines (key : List ℕ) : Type 0 where
   pub version : IsLine (Version 3)
   pub lock : IsLine (LockContent key)
   pub look : IsLine (CheckPresent key)
@@ -109,7 +109,7 @@ pub record Comes (x : Sight) (slot peer : ℕ) (f : FrameView) (taken : Taken) :
 abbrev pub Takes : ℕ → ℕ → Message → Worker → Worker → Output → Type 0
 Takes time peer m w w' out =
     (x : Sight) (rows : Rows) (p : List ℕ → Bool) (f : FrameView) → x.time ≡ time → Comes x w.slot peer f (takens.Message m)
-    → Does x rows rows p w w' (Some f) (λ t. takes_frame t peer f f.body) out
+    → DoesAsAsked x rows rows p w w' (Some f) (λ t. takes_frame t peer f f.body) out
 
 -- the connection with the peer is closed, and the job goes on without it
 pub record Shuts (peer : ℕ) (w w' : Worker) (out : Output) : Type 0 where

@@ -15,7 +15,7 @@ use Rattle.drop_worker.specs.declared.phase.Token.TheVariants as tokens
 use Rattle.drop_worker.specs.declared.turn.Taken.{Taken}
 use Rattle.drop_worker.specs.declared.turn.Taken.TheVariants as takens
 use Rattle.drop_worker.specs.Working.{Sight, end_in}
-use Rattle.drop_worker.specs.Doing.{Comes, Does, IsBar}
+use Rattle.drop_worker.specs.Doing.{Comes, DoesAsAsked, IsBar}
 use Rattle.annex_base.specs.declared.kinds.Word.{Word}
 use Rattle.p2p_wire.specs.declared.message.Message.TheVariants.{Failure, Success}
 use Rattle.drop_worker.specs.declared.phase.Heard.TheVariants as heards
@@ -81,7 +81,7 @@ Fed x slot peer None taken = (taken ≡ takens.Closed) × ((x.read.repo == peer)
 -- the step does what the definitions do with what it is told
 abbrev pub TakesFed : ℕ → ℕ → Taken → Worker → Worker → Output → Type 0
 TakesFed time peer taken w w' out =
-    (x : Sight) (rows : Rows) (p : List ℕ → Bool) (f : Option FrameView) → x.time ≡ time → Fed x w.slot peer f taken → Does x rows rows p w w' f (step_of (Some peer) f) out
+    (x : Sight) (rows : Rows) (p : List ℕ → Bool) (f : Option FrameView) → x.time ≡ time → Fed x w.slot peer f taken → DoesAsAsked x rows rows p w w' f (step_of (Some peer) f) out
 
 -- the word beside a refused look is kept
 abbrev pub KeepsWord : Taken → Option Word → Worker → Worker → Type 0
@@ -100,16 +100,16 @@ KeepsAnswer taken word w w' = w.phase ≡ phases.Orders → IsAnswer taken → w
 -- with a frame that is no message; with a Close; with a connection that was closed here
 abbrev pub TakesOther : ℕ → Worker → Worker → Output → Type 0
 TakesOther peer w w' out =
-    (x : Sight) (rows : Rows) (p : List ℕ → Bool) (f : FrameView) → Comes x w.slot peer f takens.Other → Does x rows rows p w w' (Some f) (λ t. takes_frame t peer f f.body) out
+    (x : Sight) (rows : Rows) (p : List ℕ → Bool) (f : FrameView) → Comes x w.slot peer f takens.Other → DoesAsAsked x rows rows p w w' (Some f) (λ t. takes_frame t peer f f.body) out
 
 abbrev pub TakesClose : ℕ → Worker → Worker → Output → Type 0
 TakesClose peer w w' out =
     (x : Sight) (rows : Rows) (p : List ℕ → Bool) (f : FrameView) → (x.read.repo == peer) ≡ false → takes_at (end_in w.slot peer) f ≡ true → f.body ≡ Closing
-    → Does x rows rows p w w' (Some f) (λ t. takes_frame t peer f f.body) out
+    → DoesAsAsked x rows rows p w w' (Some f) (λ t. takes_frame t peer f f.body) out
 
 abbrev pub FindsClosed : ℕ → Worker → Worker → Output → Type 0
 FindsClosed peer w w' out =
-    (x : Sight) (rows : Rows) (p : List ℕ → Bool) → (x.read.repo == peer) ≡ false → (x.ends (end_in w.slot peer)).opened ≡ false → Does x rows rows p w w' None (λ t. quietly (talk t) None) out
+    (x : Sight) (rows : Rows) (p : List ℕ → Bool) → (x.read.repo == peer) ≡ false → (x.ends (end_in w.slot peer)).opened ≡ false → DoesAsAsked x rows rows p w w' None (λ t. quietly (talk t) None) out
 
 -- the same of a job that stands on a connection, or on none
 abbrev pub FedAt : Sight → ℕ → Option ℕ → Option FrameView → Taken → Type 0

@@ -1,4 +1,4 @@
--- What a worker knows, by what it reads (the project's own).
+-- What a worker knows, by what it reads; for private contracts (the project's own).
 use Rattle.std.specs.Prelude.{ℕ, ◌+◌, ◌&&◌, Bool, List, [], ◌∷◌, Option, Some, None}
 use Rattle.std.specs.List.{range_with_len}
 use Rattle.drop_proof.specs.declared.evidence.Evidence.{Evidence}
@@ -10,7 +10,7 @@ use Rattle.drop_proof.specs.declared.evidence.Kind.TheVariants.{Locked, Recent}
 use Rattle.node_model.specs.Look.{Made}
 use Rattle.node_model.specs.Ends.{End, EndName}
 use Rattle.node_model.specs.JobStep.{Turn, ends, is_held, locked_peers}
-use Rattle.node_model.specs.DropStep.{lacking}
+use Rattle.node_model.specs.DropStep.{lacking_outcome}
 use Rattle.run_data.specs.declared.job.Outcome.TheVariants.{Refused}
 use Rattle.run_data.specs.declared.job.DropRefusal.TheVariants as refusals
 use Rattle.run_data.specs.declared.job.Cause.{Cause}
@@ -56,7 +56,7 @@ abbrev pub step_by : Verdict → Turn → Made
 step_by (verdicts.Asks peer) t = goes_to t peer
 step_by verdicts.Removes t = removes_now t
 step_by (verdicts.Late end clock) t = ends t None (Refused (refusals.Expired end clock))
-step_by verdicts.Lacks t = ends t None (lacking t)
+step_by verdicts.Lacks t = ends t None (lacking_outcome t)
 
 -- the peers to which that step may send more than a Close
 abbrev pub needs_by : Verdict → Turn → List ℕ

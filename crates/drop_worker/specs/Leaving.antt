@@ -27,7 +27,7 @@ use Rattle.drop_worker.specs.Sends.{SendsView}
 use Rattle.drop_worker.specs.declared.turn.Taken.{Taken}
 use Rattle.drop_worker.specs.Worker.{Worker}
 use Rattle.drop_worker.specs.Working.{Sight, failed_in, phase_as, present_in}
-use Rattle.drop_worker.specs.Doing.{Does, Grows, HasToken, OthersStay, contents_after}
+use Rattle.drop_worker.specs.Doing.{DoesAsAsked, Grows, HasToken, OthersStay, contents_after}
 use Rattle.drop_worker.specs.Feeding.{FedAt, FitsLocal, KeepsWord, step_of}
 
 -- what a store tells of itself
@@ -69,7 +69,7 @@ Did rows rows' k k' w w' does (Err e) = Stays rows rows' k k' w w'
 
 -- a step that takes no frame makes what is asked, where the store tells its contents
 abbrev pub ActsOver : Sight → Option Contents → Rows → Rows → Worker → Worker → (Turn → Made) → Output → Type 0
-ActsOver x known rows rows' w w' asked out = ForSome known (λ c. Does x rows rows' (present_in c) w w' None asked out)
+ActsOver x known rows rows' w w' asked out = ForSome known (λ c. DoesAsAsked x rows rows' (present_in c) w w' None asked out)
 
 -- a step goes on from where the job stands
 abbrev pub GoesSo : Sight → Option Contents → Rows → Rows → Worker → Worker → Output → Type 0
@@ -82,7 +82,7 @@ stands_on w = partner w.job.peer (phase_as w.phase)
 -- a step does what the definitions do with what it is told, and keeps the word beside a refused look
 pub record Advances (x : Sight) (known : Option Contents) (rows rows' : Rows) (w w' : Worker) (taken : Taken) (word : Option Word) (out : Output) : Type 0 where
   pub told : KeepsWord taken word w w'
-  pub does : ForSome known (λ c. (f : Option FrameView) → FedAt x w.slot (stands_on w) f taken → Does x rows rows' (present_in c) w w' f (step_of (stands_on w) f) out)
+  pub does : ForSome known (λ c. (f : Option FrameView) → FedAt x w.slot (stands_on w) f taken → DoesAsAsked x rows rows' (present_in c) w w' f (step_of (stands_on w) f) out)
 
 -- ---- a bar that was refused
 

@@ -43,7 +43,7 @@ use Rattle.drop_worker.specs.declared.turn.Taken.{Taken}
 use Rattle.drop_worker.specs.declared.turn.ParcelBody.TheVariants as bodies
 use Rattle.drop_worker.specs.Worker.{Worker}
 use Rattle.drop_worker.specs.Working.{Rest, Sight, end_in, failed_in, made_of, present_in, sight, turn_in, work_of}
-use Rattle.drop_worker.specs.Doing.{Does, Grows, HasToken, OthersStay, contents_after, next_work}
+use Rattle.drop_worker.specs.Doing.{DoesAsAsked, Grows, HasToken, OthersStay, contents_after, next_work}
 use Rattle.drop_worker.specs.Alike.{Alike}
 use Rattle.drop_worker.specs.Feeding.{Fed, FitsRemote, HasNoBar, step_of}
 use Rattle.drop_worker.specs.Judging.{evidence_of, is_owing, others_in}
@@ -160,7 +160,7 @@ pub record Speaks (w w' : Worker) (out : Output) : Type 0 where
 -- the job ends so, by a step that may take a frame: or its own share couldn't be released
 abbrev pub EndsSo : Reading → (EndName → End) → ℕ → Rows → Rows → Worker → Worker → Outcome → Output → Type 0
 EndsSo read ends_at time rows rows' w w' outcome out =
-    (number : ℕ) (p : List ℕ → Bool) (taken : Option FrameView) → Does (sight read ends_at time number) rows rows' p w w' taken (λ t. ends t taken outcome) out
+    (number : ℕ) (p : List ℕ → Bool) (taken : Option FrameView) → DoesAsAsked (sight read ends_at time number) rows rows' p w w' taken (λ t. ends t taken outcome) out
 
 -- a step does what is asked, and the job's work after it is alike the worker
 pub record DoesAlike (x : Sight) (rows rows' : Rows) (present : List ℕ → Bool) (w w' : Worker) (taken : Option FrameView) (asked : Turn → Made) (out : Output) : Type 0 where
@@ -197,7 +197,7 @@ GoesAlike x known rows rows' w w' out = ForSome known (λ c. DoesAlike x rows ro
 abbrev pub TakesRemote : Reading → (EndName → End) → ℕ → Rows → Rows → ℕ → Taken → Worker → Worker → Output → Type 0
 TakesRemote read ends_at time rows rows' peer taken w w' out =
     (number : ℕ) (p : List ℕ → Bool) (f : Option FrameView) → Fed (sight read ends_at time number) w.slot peer f taken
-    → Does (sight read ends_at time number) rows rows' p w w' f (step_of (Some peer) f) out
+    → DoesAsAsked (sight read ends_at time number) rows rows' p w w' f (step_of (Some peer) f) out
 
 -- the job is to end
 abbrev pub IsToEnd : Phase → Type 0

@@ -20,9 +20,9 @@ abbrev pub side_in : Worker → Side
 side_in w = drop_side w.job.kind w.job.peer
 
 -- a drop in this phase has this token
-abbrev pub Fits : Side → Phase → Token → Type 0
-Fits Local phase token = FitsLocal phase token
-Fits Remote phase token = FitsRemote phase token
+abbrev pub FitsSide : Side → Phase → Token → Type 0
+FitsSide Local phase token = FitsLocal phase token
+FitsSide Remote phase token = FitsRemote phase token
 
 -- a remote drop removes from its job's peer, which is another repository
 abbrev pub HasTarget : Side → Option ℕ → ℕ → Type 0

@@ -18,7 +18,7 @@ use Rattle.run_data.specs.declared.job.Outcome.{Outcome}
 use Rattle.run_data.specs.declared.job.Outcome.TheVariants.{Got, Refused, TransferRefused}
 use Rattle.run_data.specs.declared.job.TransferRefusal.TheVariants as failures
 use Rattle.node_model.specs.Calls.{to_commit, to_hold, to_release, to_resume}
-use Rattle.node_model.specs.DropStep.{expiry, first_end, held_until, in_time, lacking, required_there, row_refusal, target}
+use Rattle.node_model.specs.DropStep.{expiry, first_end, held_until, in_time, lacking_outcome, required_there, row_refusal, target}
 use Rattle.node_model.specs.Evidence.{Asked, Standing}
 use Rattle.node_model.specs.Jobs as Jobs
 use Rattle.node_model.specs.Jobs.{AsksTime, Drops, Fresh, Gets, GetsBytes, GetsWord, Greets, Next, Opens, Part, Phase, Puts, PutsBytes, PutsOffer, PutsWord, Work, is_move, job_end, partner, side_of}
@@ -74,7 +74,7 @@ removal_calls t = if in_time (clock_of t) (first_end t) then calls.Remove ∷ []
 -- by its judgement
 abbrev pub judge_calls : Turn → Bool → Option ℕ → Side → List Call
 judge_calls t false (Some peer) side = opening_calls t peer
-judge_calls t false None side = end_calls t (lacking t)
+judge_calls t false None side = end_calls t (lacking_outcome t)
 judge_calls t true next Local = removal_calls t
 judge_calls t true next Remote = opening_calls t (target t)
 

@@ -23,7 +23,7 @@ use Rattle.drop_worker.specs.Feeding.{FedAt, FindsAt}
 use Rattle.drop_worker.specs.Sides.{IsNext, side_in}
 
 -- the table and the store have the rows and contents of this state
-pub record Keeps (rows : Rows) (contents : Contents) (st : State) : Type 0 where
+pub record HaveState (rows : Rows) (contents : Contents) (st : State) : Type 0 where
   pub present : (key : List ℕ) → is_some (contents key) ≡ st.present key
   pub bar : (key : List ℕ) → bar_at rows key ≡ st.bar key
   pub holds : rows.holds ≡ st.holds
@@ -44,7 +44,7 @@ pub record IsSight (x : Sight) (s : SetUp) (st : State) (k : Look) (w : Worker) 
 -- what the repository is as the worker looks: its state, the look, the job's work, and the frame that the step takes
 pub record Sees (x : Sight) (rows : Rows) (contents : Contents) (w : Worker) (taken : Taken) (fails : Option Call) (s : SetUp) (st : State) (k : Look) (v : Work) (f : Option FrameView) : Type 0 where
   pub sight : IsSight x s st k w v
-  pub keeps : Keeps rows contents st
+  pub keeps : HaveState rows contents st
   pub failing : k.fails ≡ fails
   pub finds : FindsAt (turn_of s st k v) (partner w.job.peer (phase_as w.phase)) f
   pub fed : FedAt x w.slot (partner w.job.peer (phase_as w.phase)) f taken

@@ -20,7 +20,7 @@ use Rattle.drop_worker.specs.Doing.{Grows, HasToken, OthersStay, contents_after,
 use Rattle.drop_worker.specs.Feeding.{FedAt, KeepsAnswer, KeepsWord, step_of}
 use Rattle.drop_worker.specs.Leaving.{Stays, Store, stands_on}
 use Rattle.drop_worker.specs.Remote.{DoesAlike}
-use Rattle.drop_worker.specs.Sides.{Fits, IsNext, side_in}
+use Rattle.drop_worker.specs.Sides.{FitsSide, IsNext, side_in}
 
 -- a step makes what is asked, its entry changes the rows, and the work that follows is the next one
 pub record DoesSo (x : Sight) (rows rows' : Rows) (present : List ℕ → Bool) (w w' : Worker) (taken : Option FrameView) (asked : Turn → Made) (out : Output) : Type 0 where
@@ -38,7 +38,7 @@ pub record LeavesSo (rows rows' : Rows) (k k' : Store) (w w' : Worker) (out : Ou
   pub later : k.faults ≤ k'.faults
   pub cause : IfSome (failed_in out.kind) (λ call. Rose k.faults k'.faults)
   pub owns : HasToken w'.number w'.job.key w'.token rows'
-  pub fits : out.ended ≡ false → Fits (side_in w) w'.phase w'.token
+  pub fits : out.ended ≡ false → FitsSide (side_in w) w'.phase w'.token
   pub heard : Grows w.heard w'.heard
   pub number : w'.number ≡ w.number
   pub job : w'.job ≡ w.job

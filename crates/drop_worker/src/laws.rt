@@ -25,7 +25,7 @@ pub fn alike_works_step_alike()
     ensures step { (s : SetUp) (st : State) (k : Look) (v v' : Work) → v.part ≡ Drops → side_of v ≡ sides.Remote → Alike (reading s st v) v v' → slot_step s st k (Some v) ≡ slot_step s st k (Some v') }
     ensures needs { (s : SetUp) (st : State) (k : Look) (v v' : Work) → v.part ≡ Drops → side_of v ≡ sides.Remote → Alike (reading s st v) v v' → needs (turn_of s st k v) v.phase ≡ needs (turn_of s st k v') v'.phase }
     ensures read { (s : SetUp) (st : State) (v v' : Work) → Alike (reading s st v) v v' → reading s st v ≡ reading s st v' }
-    ensures after { (r : Reading) (rows : jobs.Rows) (repo : ℕ) (e : Entry) (v v' : Work) → v.part ≡ Drops → Alike r v v' → Alike r (work_after rows repo e v) (work_after rows repo e v') }
+    ensures after { (r : Reading) (rows : jobs.RowsAndEnds) (repo : ℕ) (e : Entry) (v v' : Work) → v.part ≡ Drops → Alike r v v' → Alike r (work_after rows repo e v) (work_after rows repo e v') }
 {}
 
 /// A hold has the number of the entry that added it: so the numbers of a table's holds stay below that of the next entry (own).

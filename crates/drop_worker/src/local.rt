@@ -5,7 +5,7 @@ ghost use Rattle.node_model.specs.Rows.{is_lost_ordered};
 ghost use Rattle.node_model.specs.Jobs.{drop_side, partner};
 ghost use Rattle.node_model.specs.JobStep.{ends};
 ghost use Rattle.node_model.specs.Knows.{Reading};
-ghost use Rattle.node_model.specs.DropStep.{lacking};
+ghost use Rattle.node_model.specs.DropStep.{lacking_outcome};
 ghost use Rattle.node_model.specs.Requests.{goes_to};
 ghost use Rattle.content_lock.specs.Rows.{Rows, bar_at};
 ghost use Rattle.drop_worker.specs.Working.{Sight, failed_in, phase_as, sight};
@@ -219,6 +219,7 @@ fn ask<H: Here>(
         worker.go_to(Phase::Opens { peer });
         return Ok(out);
     }
+    // For the proof: what it says are lines of the protocol.
     reads(worker.key());
     let said = Said::new(alloc, Message::LockContent(worker.key().copy()?))?;
     let said = ParcelBody::Message(said);
@@ -263,7 +264,7 @@ fn lack<H: Here>(
     requires known { items.now ≡ evidence_of sides.Local (H.reading here.now) worker.old candidates.now [] }
     requires owns { HasToken worker.old.number worker.old.job.key worker.old.token table.old }
     ensures does { (time : ℕ) (number : ℕ) (k : Store) → Did table.old table.new k k worker.old worker.new
-        (ActsOver (sight (H.reading here.now) (H.ends here.now) time number) k.contents table.old table.new worker.old worker.new (λ t. ends t None (lacking t))) result }
+        (ActsOver (sight (H.reading here.now) (H.ends here.now) time number) k.contents table.old table.new worker.old worker.new (λ t. ends t None (lacking_outcome t))) result }
     ensures ended { IfOk result (HasEnded worker.old worker.new) }
 {
     let proof = proof(alloc, here, items)?;

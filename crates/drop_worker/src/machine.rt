@@ -17,7 +17,7 @@ ghost use Rattle.drop_worker.specs.Begun.{CanStand, HasGone};
 ghost use Rattle.drop_worker.specs.Feeding.{FitsLocal, IsOfLocal, KeepsAnswer, KeepsWord, ToldAt};
 ghost use Rattle.drop_worker.specs.Leaving.{Advances, Did, store};
 ghost use Rattle.drop_worker.specs.Remote.{DidRemote, StandsRemote};
-ghost use Rattle.drop_worker.specs.Sides.{CanShare, Fits, HasTarget, IsNumbered, side_in};
+ghost use Rattle.drop_worker.specs.Sides.{CanShare, FitsSide, HasTarget, IsNumbered, side_in};
 ghost use Rattle.drop_worker.specs.States.{Sees, StepsSo};
 ghost use Rattle.drop_worker.specs.Calling.{MakesSo};
 ghost use Rattle.content_lock.specs.CallsMade.{MakesCalls, fewer};
@@ -45,7 +45,7 @@ pub fn step<K: Keeper, H: Here>(
     input: &Input,
 ) -> Result<Output, NoMemory>
     requires target { HasTarget (side_in worker.old) worker.old.job.peer (H.reading here.now).repo }
-    requires fits { Fits (side_in worker.old) worker.old.phase worker.old.token }
+    requires fits { FitsSide (side_in worker.old) worker.old.phase worker.old.token }
     requires told { ToldAt (partner worker.old.job.peer (phase_as worker.old.phase)) input.now.taken }
     requires owns { HasToken worker.old.number worker.old.job.key worker.old.token table.old }
     requires shares { CanShare (side_in worker.old) (K.records keeper.old) table.old.holds input.now.number }
@@ -71,7 +71,7 @@ pub fn step<K: Keeper, H: Here>(
     ensures files { K.files keeper.new ≡ K.files keeper.old }
     ensures agrees { Agrees (K.records keeper.old) table.old.holds → Agrees (K.records keeper.new) table.new.holds }
     ensures owns { HasToken worker.new.number worker.new.job.key worker.new.token table.new }
-    ensures fits { IfOk result (λ out. out.ended ≡ false → Fits (side_in worker.old) worker.new.phase worker.new.token) }
+    ensures fits { IfOk result (λ out. out.ended ≡ false → FitsSide (side_in worker.old) worker.new.phase worker.new.token) }
     ensures begun { side_in worker.old ≡ sides.Local → IfOk result (λ out. CanStand (H.reading here.now) worker.old.phase → HasGone (H.reading here.now) worker.old worker.new out) }
     ensures job { (worker.new.number ≡ worker.old.number) × (worker.new.job ≡ worker.old.job) }
     ensures others { OthersStay worker.old.number table.old table.new }
@@ -97,7 +97,7 @@ fn advance<K: Keeper, H: Here>(
     input: &Input,
 ) -> Result<Output, NoMemory>
     requires target { HasTarget (side_in worker.old) worker.old.job.peer (H.reading here.now).repo }
-    requires fits { Fits (side_in worker.old) worker.old.phase worker.old.token }
+    requires fits { FitsSide (side_in worker.old) worker.old.phase worker.old.token }
     requires told { ToldAt (partner worker.old.job.peer (phase_as worker.old.phase)) input.now.taken }
     requires owns { HasToken worker.old.number worker.old.job.key worker.old.token table.old }
     requires shares { CanShare (side_in worker.old) (K.records keeper.old) table.old.holds input.now.number }

@@ -16,8 +16,8 @@ ghost use Rattle.annex_base.specs.Lists.{Each};
 ghost use Rattle.drop_worker.specs.Begun.{IsOther};
 ghost use Rattle.drop_worker.specs.Feeding.{FitsLocal};
 ghost use Rattle.drop_worker.specs.Judging.{is_owing, others_in};
-ghost use Rattle.drop_worker.specs.Sides.{Fits, HasTarget, side_in};
-ghost use Rattle.drop_worker.specs.States.{IsSight, Keeps};
+ghost use Rattle.drop_worker.specs.Sides.{FitsSide, HasTarget, side_in};
+ghost use Rattle.drop_worker.specs.States.{IsSight, HaveState};
 
 use crate::here::Here;
 use crate::judging::{Verdict, gather, judge, others};
@@ -38,10 +38,10 @@ pub fn sends_to<H: Here>(
     time: Time,
 ) -> Result<Vec<u32>, NoMemory>
     requires target { HasTarget (side_in worker.now) worker.now.job.peer (H.reading here.now).repo }
-    requires fits { Fits (side_in worker.now) worker.now.phase worker.now.token }
+    requires fits { FitsSide (side_in worker.now) worker.now.phase worker.now.token }
     requires awaits { partner worker.now.job.peer (phase_as worker.now.phase) ≡ None }
     ensures does { IfOk result (λ peers. (number : ℕ) (rows : Rows) (contents : Contents) (s : SetUp) (st : State) (k : Look) (v : Work)
-        → IsSight (sight (H.reading here.now) (H.ends here.now) time number) s st k worker.now v → Keeps rows contents st → peers.items ≡ needs (turn_of s st k v) v.phase) }
+        → IsSight (sight (H.reading here.now) (H.ends here.now) time number) s st k worker.now v → HaveState rows contents st → peers.items ≡ needs (turn_of s st k v) v.phase) }
     ensures others { side_in worker.now ≡ sides.Local → IfOk result (λ peers. Each (IsOther (H.reading here.now)) peers.items) }
 {
     match worker.target() {

@@ -4,7 +4,7 @@ ghost use Rattle.std.specs.declared.option.Option.{Option};
 ghost use Rattle.annex_base.specs.declared.kinds.Call.{Call};
 ghost use Rattle.drop_proof.specs.declared.rule.Side.TheVariants as sides;
 ghost use Rattle.drop_proof.specs.Judging.{least_end};
-ghost use Rattle.node_model.specs.DropStep.{expiry, lacking, removal_outcome};
+ghost use Rattle.node_model.specs.DropStep.{expiry, lacking_outcome, removal_outcome};
 ghost use Rattle.node_model.specs.Evidence.{Asked};
 ghost use Rattle.node_model.specs.Knows.{denial_of, obeyed_outcome};
 ghost use Rattle.node_model.specs.Rows.{is_lost_ordered, same_owner};
@@ -228,7 +228,7 @@ fn lack<H: Here>(
     requires all { candidates.now ≡ remote_candidates (H.reading here.now) target }
     requires known { items.now ≡ known_remotely (H.reading here.now) target worker.now }
     ensures { IfOk result (λ why. (time number : ℕ) (rows : Rows) (p : List ℕ → Bool) (fails : Option Call) (rest : Rest)
-        → Outcome.Refused why ≡ lacking (turn_in (sight (H.reading here.now) (H.ends here.now) time number) rows p fails rest worker.now)) }
+        → Outcome.Refused why ≡ lacking_outcome (turn_in (sight (H.reading here.now) (H.ends here.now) time number) rows p fails rest worker.now)) }
 {
     let proof = proof(alloc, here, items)?;
     let causes = failures(worker, alloc, here, candidates)?;
@@ -262,6 +262,7 @@ fn go_to<H: Here>(
         worker.go_to(Phase::Opens { peer });
         return Ok(out);
     }
+    // For the proof: what it says are lines of the protocol.
     reads_all(worker.key());
     let version = worker.version();
     request(worker, alloc, here, time, target, peer, version, end)

@@ -35,6 +35,7 @@ pub(crate) fn request<H: Here>(
     if target == peer {
         return ask_target(worker, alloc, here, peer, version, end);
     }
+    // For the proof: what it says are lines of the protocol.
     reads_all(worker.key());
     let said = Said::new(alloc, Message::LockContent(worker.key().copy()?))?;
     let said = ParcelBody::Message(said);
@@ -77,6 +78,7 @@ fn ask_time(
         worker.go_to(Phase::Ends(Ending::OldProtocol { version }));
         return Ok(quietly(alloc, kind));
     }
+    // For the proof: what it says are lines of the protocol.
     reads_all(worker.key());
     let said = ParcelBody::Message(Said::new(alloc, Message::GetTimestamp)?);
     let out = telling(alloc, worker.number(), target, said)?;
@@ -96,6 +98,7 @@ pub(crate) fn order<H: Here>(
     ensures says { IfOk result (Says (order_of (H.reading here.now).need worker.old target deadline) target worker.old worker.new) }
     ensures err { OnErr result (worker.new ≡ worker.old) }
 {
+    // For the proof: what it says are lines of the protocol.
     reads_all(worker.key());
     let key = worker.key().copy()?;
     let said = order_message(worker.key().copy()?, deadline);

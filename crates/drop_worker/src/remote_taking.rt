@@ -182,6 +182,7 @@ fn order_at<K: Keeper, H: Here>(
     ensures parts { K.parts keeper.new ≡ K.parts keeper.old }
     ensures files { K.files keeper.new ≡ K.files keeper.old }
 {
+    // For the proof: what it says are lines of the protocol.
     reads_all(worker.key());
     match locks_end(worker, alloc, here, target)? {
         None => order(worker, alloc, here, target, None),
@@ -212,6 +213,7 @@ fn order_before<K: Keeper, H: Here>(
     ensures parts { K.parts keeper.new ≡ K.parts keeper.old }
     ensures files { K.files keeper.new ≡ K.files keeper.old }
 {
+    // For the proof: what it says are lines of the protocol.
     reads_all(worker.key());
     let clock = here.clock(time);
     match deadline(end, clock, now) {
@@ -267,6 +269,7 @@ fn greet<H: Here>(
         return Ok(out);
     }
     let end = locks_end(worker, alloc, here, target)?;
+    // For the proof: what it says are lines of the protocol.
     reads_all(worker.key());
     let out = request(worker, alloc, here, time, target, peer, version, end)?;
     worker.learn(peer, version);
@@ -328,6 +331,7 @@ fn take_lock(
             Ok(quietly(alloc, talk(worker.number())))
         }
         Message::Failure => {
+            // For the proof: what it says are lines of the protocol.
             reads_all(worker.key());
             let key = worker.key().copy()?;
             let said = ParcelBody::Message(Said::new(alloc, Message::CheckPresent(key))?);
@@ -386,6 +390,7 @@ fn take_opened(
 {
     match message {
         Message::AuthSuccess(_) => {
+            // For the proof: what it says are lines of the protocol.
             reads_all(worker.key());
             let said = ParcelBody::Message(Said::new(alloc, Message::Version(3))?);
             let out = telling(alloc, worker.number(), peer, said)?;

@@ -95,6 +95,7 @@ fn take_lock(
             Ok(quietly(alloc, talk(worker.number())))
         }
         Message::Failure => {
+            // For the proof: what it says are lines of the protocol.
             reads(worker.key());
             let key = worker.key().copy()?;
             let said = ParcelBody::Message(Said::new(alloc, Message::CheckPresent(key))?);
@@ -153,6 +154,7 @@ fn take_opened(
 {
     match message {
         Message::AuthSuccess(_) => {
+            // For the proof: what it says are lines of the protocol.
             reads(worker.key());
             let said = ParcelBody::Message(Said::new(alloc, Message::Version(3))?);
             let out = telling(alloc, worker.number(), peer, said)?;
@@ -204,6 +206,7 @@ fn greet(
         worker.learn(peer, version);
         return Ok(out);
     }
+    // For the proof: what it says are lines of the protocol.
     reads(worker.key());
     let said = Said::new(alloc, Message::LockContent(worker.key().copy()?))?;
     let said = ParcelBody::Message(said);

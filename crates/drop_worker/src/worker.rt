@@ -5,7 +5,7 @@ ghost use Rattle.run_data.specs.declared.job.DropRefusal.{DropRefusal};
 ghost use Rattle.node_model.specs.Jobs.{drop_side, partner};
 ghost use Rattle.node_model.specs.Rows.{option_is};
 ghost use Rattle.node_model.specs.JobStep.{is_held};
-ghost use Rattle.drop_worker.specs.Doing.{Reads};
+ghost use Rattle.drop_worker.specs.Doing.{AreProtocolLines};
 ghost use Rattle.drop_worker.specs.Sides.{side_in, target_on};
 ghost use Rattle.drop_worker.specs.Working.{frames_of, heard_in, is_lock, learnt, newest_of, parting, partings, phase_as, texts_of};
 
@@ -204,6 +204,7 @@ impl Worker {
         ensures { IfOk result (λ p. (p.peer ≡ peer) × (texts_of p.body ≡ parting self.now lost peer true)) }
     {
         if self.has_lock(peer) && !lost {
+            // For the proof: what it says are lines of the protocol.
             reads(self.key());
             let key = self.key().copy()?;
             let said = Said::new(alloc, Message::UnlockContent(key))?;
@@ -392,7 +393,7 @@ pub(crate) fn quietly(alloc: Global, kind: EntryKind) -> Output
 
 // For the proof: that what a drop says are lines of the protocol.
 pub(crate) fn reads(key: &Key)
-    ensures { Reads key.now }
+    ensures { AreProtocolLines key.now }
 {
     key_texts_have_no_fault();
     sent_messages_have_lines();

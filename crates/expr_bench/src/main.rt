@@ -1,5 +1,4 @@
-//! Reads or judges an expression of a given length many times, for `bench/run.py` to time, and prints how often it was
-//! one, or held: `expr_bench WORK BYTES`.
+//! Reads or judges an expression of a given length many times, for `bench/run.py` to time.
 #![tactic(auto)]
 
 use annex_base::{Items, NoMemory, Text};
@@ -104,6 +103,7 @@ fn wanted(words: &[String]) -> Option<(Work, u32)> {
     Some((work, number))
 }
 
+/// `expr_bench WORK BYTES` prints how often the text was an expression, or held.
 fn main(rt: HostRuntime) -> ExitCode {
     let mut words = Vec::new(rt.alloc());
     let Ok(args) = env::args(&rt) else {

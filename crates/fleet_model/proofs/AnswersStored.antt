@@ -16,7 +16,7 @@ use Rattle.object_store.specs.Stores.{Parts}
 use Rattle.node_model.specs.Calls.{to_commit}
 use Rattle.node_model.specs.Look.{failing, unless}
 use Rattle.node_model.specs.Sessions.{Doing, Session, Takes, Took}
-use Rattle.node_model.specs.SessionStep.{Here, Reply, by_of, on_bytes, on_frame, on_message, on_text, refuses, silent_reply, tries, unexpected_reply, valid_answer}
+use Rattle.node_model.specs.SessionStep.{Here, Reply, by_of, on_bytes, on_frame, on_message, on_text, failure_line, silent_reply, tries, unexpected_reply, valid_answer}
 use Rattle.driver_model.specs.Turning.{is_valid}
 use Rattle.node_sessions.specs.Stored.{is_verdict, parts_after_frame}
 use Rattle.fleet_model.proofs.DropTakes.{LeavesParts}
@@ -29,7 +29,7 @@ Stays doing body kind = (bytes : List ℕ) (known : Option Parts) → parts_afte
 pub data Talks (doing : Doing) (body : FrameText) (says : List FrameText) (job : Option ℕ) : Type 0 where
   Leaves : Stays doing body (Talk job) → ((sent : List FrameView) → LeavesParts body sent) → Talks doing body says job
   Appends : (key : List ℕ) (size left n : ℕ) → job ≡ None → doing ≡ Takes key size left → body ≡ Bytes n → says ≡ [] → Talks doing body says job
-  Refuses : (key : List ℕ) (size : ℕ) (text : List ℕ) → job ≡ None → doing ≡ Took key size → body ≡ Line text → message_of text ≡ Some Valid → says ≡ refuses → Talks doing body says job
+  Refuses : (key : List ℕ) (size : ℕ) (text : List ℕ) → job ≡ None → doing ≡ Took key size → body ≡ Line text → message_of text ≡ Some Valid → says ≡ failure_line → Talks doing body says job
 
 -- by an entry of any other kind, but a gain, they stay
 abbrev pub Fits : Doing → FrameText → List FrameText → EntryKind → Type 0
@@ -78,7 +78,7 @@ right_fits h key size text false told = Refuses key size text refl refl refl tol
 
 valid_fits : (h : Here) (v : ℕ) (doing : Doing) (text : List ℕ) → message_of text ≡ Some Valid → ReplyFits doing (Line text) (on_message h v doing Valid)
 valid_fits h v (Took key size) text told =
-    tries_fits h (Took key size) (Line text) (to_commit h.right) refuses (valid_answer (by_of h) size key h.right) (right_fits h key size text h.right told)
+    tries_fits h (Took key size) (Line text) (to_commit h.right) failure_line (valid_answer (by_of h) size key h.right) (right_fits h key size text h.right told)
 valid_fits h v doing text told = λ bytes known. refl
 
 text_fits : (h : Here) (was : Session) (text : List ℕ) (o : Option Message) → message_of text ≡ o → ReplyFits was.doing (Line text) (on_text h was o)

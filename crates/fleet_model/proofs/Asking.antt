@@ -21,7 +21,7 @@ use Rattle.node_sessions.specs.Serving.{SeesPartAt}
 use Rattle.node_sessions.specs.Sessions.{AreSessions, end_of, owner_of}
 use Rattle.node_parts.specs.Parts.{PartsView}
 use Rattle.node_parts.specs.Steps.{HasPart, IsPartAsked, session_asked}
-use Rattle.driver_model.specs.Driver.{Driver, Given, end_to, part_at}
+use Rattle.driver_model.specs.Driver.{Driver, DriverInput, end_to, part_at}
 use Rattle.driver_model.specs.Turning.{asked_key, part_right, part_size}
 use Rattle.fleet_model.specs.Matches.{DecidesMatches}
 use Rattle.fleet_model.specs.Stores.{IsTold}
@@ -57,7 +57,7 @@ asked_is s now xs f x are up found =
 
 -- ---- the part
 
-asked_of : (g : Given) (d : Driver) (r : ℕ) (s : SetUp) (st : State) (m : Made) (known : Option Parts) (xs : List Session) (f : FrameView) (part : ℕ) (right : Bool) → DecidesMatches g
+asked_of : (g : DriverInput) (d : Driver) (r : ℕ) (s : SetUp) (st : State) (m : Made) (known : Option Parts) (xs : List Session) (f : FrameView) (part : ℕ) (right : Bool) → DecidesMatches g
     → AreSessions s st.sessions xs → IsTold known (λ p. (key : List ℕ) → p key ≡ part_at d r key) → m.taken ≡ Some f → (f.up ≡ true → job_of m.kind ≡ None)
     → SeesPartAt known (session_asked xs (Some f)) (Some f) part right
     → SeesPartAt known (session_asked xs (Some f)) (Some f) (part_size d r (asked_key st m)) (part_right g d r (asked_key st m))
@@ -78,7 +78,7 @@ asked_of g d r s st m known xs f part right decides are told taken no_job sees =
         (by_session (find (λ x. same_owner (owner_of x) (Peer f.peer f.slot)) xs) refl e
         (subst (λ (b : Bool). SeesPartAt known (if b then find (λ x. same_owner (owner_of x) (Peer f.peer f.slot)) xs else None) (Some f) part right) e sees))
 
-pub asks_the_drivers : (g : Given) (d : Driver) (r : ℕ) (s : SetUp) (st : State) (m : Made) (known : Option Parts) (p : PartsView) (taken : Option FrameView) → DecidesMatches g
+pub asks_the_drivers : (g : DriverInput) (d : Driver) (r : ℕ) (s : SetUp) (st : State) (m : Made) (known : Option Parts) (p : PartsView) (taken : Option FrameView) → DecidesMatches g
     → AreSessions s st.sessions p.sessions → IsTold known (λ q. (key : List ℕ) → q key ≡ part_at d r key) → m.taken ≡ taken → ((f : FrameView) → taken ≡ Some f → f.up ≡ true → job_of m.kind ≡ None)
     → HasPart known p taken → IsPartAsked known p taken (part_size d r (asked_key st m)) (part_right g d r (asked_key st m))
 asks_the_drivers g d r s st m known p None decides are told takes no_job has = tt

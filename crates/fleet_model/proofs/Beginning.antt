@@ -8,11 +8,11 @@ use Rattle.run_data.specs.declared.entry.EntryKind.TheVariants as kinds
 use Rattle.run_data.specs.declared.job.Job.{Job}
 use Rattle.node_jobs.specs.Acting.{with_job}
 use Rattle.node_jobs.specs.Running.{AreWorks, Jobs, work_now}
-use Rattle.node_model.specs.After.{Agrees}
+use Rattle.node_model.specs.After.{AgreesAtDrops}
 use Rattle.node_model.specs.State.{State}
 use Rattle.run_model.specs.Past.{begun_count}
 use Rattle.run_model.specs.States.{works}
-use Rattle.driver_model.specs.Driver.{Driver, Given, notes, set_up_of, state_at}
+use Rattle.driver_model.specs.Driver.{Driver, DriverInput, notes, set_up_of, state_at}
 use Rattle.driver_model.specs.ScriptSteps.{begins}
 use Rattle.repo_node.specs.Nodes as nodes
 use Rattle.repo_node.specs.Nodes.{NodeView, with_entry}
@@ -23,26 +23,26 @@ use Rattle.fleet_model.proofs.Noting.{IsRaised, noted}
 abbrev pub begun : {K : Type 0} → NodeView K → ℕ → Job → NodeView K
 begun n number job = record (with_entry n n.keeper n.branch (kinds.Begin number job) []) { parts = record n.parts { jobs = with_job n.parts.jobs job } }
 
-same_works : (st st' : State) (jobs : Jobs) → Agrees st st' → st'.works ≡ Rattle.std.specs.Prelude.map work_now jobs.running → length st.works ≡ length jobs.running
+same_works : (st st' : State) (jobs : Jobs) → AgreesAtDrops st st' → st'.works ≡ Rattle.std.specs.Prelude.map work_now jobs.running → length st.works ≡ length jobs.running
 same_works st st' jobs agrees are = ap (λ (x : State). length x.works) agrees.same ∙ (ap length are ∙ length-map jobs.running work_now)
 
 -- the jobs that were begun in the driver are the node's
-pub same_begun : (g : Given) (d : Driver) (r : ℕ) (history : List Entry) (jobs : Jobs)
-    → Agrees (state_at g d r) (nodes.state_of (set_up_of g d r) history) → AreWorks (set_up_of g d r) (nodes.state_of (set_up_of g d r) history) jobs → jobs.begun ≡ begun_count d.past r
+pub same_begun : (g : DriverInput) (d : Driver) (r : ℕ) (history : List Entry) (jobs : Jobs)
+    → AgreesAtDrops (state_at g d r) (nodes.state_of (set_up_of g d r) history) → AreWorks (set_up_of g d r) (nodes.state_of (set_up_of g d r) history) jobs → jobs.begun ≡ begun_count d.past r
 same_begun g d r history jobs agrees are = sym are.begun ∙ sym (ap (λ (x : State). x.begun) agrees.same)
 
 -- with a free slot the driver begins the job
-pub has_slot : (g : Given) (d : Driver) (r : ℕ) (history : List Entry) (jobs : Jobs)
-    → Agrees (state_at g d r) (nodes.state_of (set_up_of g d r) history) → AreWorks (set_up_of g d r) (nodes.state_of (set_up_of g d r) history) jobs → length jobs.running < 4
+pub has_slot : (g : DriverInput) (d : Driver) (r : ℕ) (history : List Entry) (jobs : Jobs)
+    → AgreesAtDrops (state_at g d r) (nodes.state_of (set_up_of g d r) history) → AreWorks (set_up_of g d r) (nodes.state_of (set_up_of g d r) history) jobs → length jobs.running < 4
     → nat_lt (length (works d.past r)) 4 ≡ true
 has_slot g d r history jobs agrees are free = below (length (works d.past r)) (length jobs.running) (same_works (state_at g d r) (nodes.state_of (set_up_of g d r) history) jobs agrees are.works) free
   where
     below : (a b : ℕ) → a ≡ b → b < 4 → nat_lt a 4 ≡ true
     below a b e less = grind (arith, nat_tests)
 
-pub begins_there : {K : Type 0} (tells : K → StoreView) (g : Given) (d : Driver) (r : ℕ) (n : NodeView K) (number : ℕ) (job : Job)
+pub begins_there : {K : Type 0} (tells : K → StoreView) (g : DriverInput) (d : Driver) (r : ℕ) (n : NodeView K) (number : ℕ) (job : Job)
     → IsRaised tells g d r n
-    → Agrees (state_at g d r) (nodes.state_of (set_up_of g d r) n.history) → AreWorks (set_up_of g d r) (nodes.state_of (set_up_of g d r) n.history) n.parts.jobs
+    → AgreesAtDrops (state_at g d r) (nodes.state_of (set_up_of g d r) n.history) → AreWorks (set_up_of g d r) (nodes.state_of (set_up_of g d r) n.history) n.parts.jobs
     → number ≡ n.parts.jobs.begun + 1 → length n.parts.jobs.running < 4 → IsRaised tells g (begins r job d) r (begun n number job)
 begins_there tells g d r n number job raised agrees are numbered free =
     subst (λ (b : Bool). IsRaised tells g (if b then notes r (kinds.Begin (begun_count d.past r + 1) job) [] d else d) r (begun n number job)) (sym few)
@@ -59,8 +59,8 @@ begins_there tells g d r n number job raised agrees are numbered free =
     few : nat_lt (length (works d.past r)) 4 ≡ true
     few = has_slot g d r n.history n.parts.jobs agrees are free
 
-pub begins_nowhere : {K : Type 0} (tells : K → StoreView) (g : Given) (d : Driver) (r : ℕ) (n : NodeView K) (job : Job)
-    → Agrees (state_at g d r) (nodes.state_of (set_up_of g d r) n.history) → AreWorks (set_up_of g d r) (nodes.state_of (set_up_of g d r) n.history) n.parts.jobs
+pub begins_nowhere : {K : Type 0} (tells : K → StoreView) (g : DriverInput) (d : Driver) (r : ℕ) (n : NodeView K) (job : Job)
+    → AgreesAtDrops (state_at g d r) (nodes.state_of (set_up_of g d r) n.history) → AreWorks (set_up_of g d r) (nodes.state_of (set_up_of g d r) n.history) n.parts.jobs
     → 4 ≤ length n.parts.jobs.running → begins r job d ≡ d
 begins_nowhere tells g d r n job agrees are full =
     ap (λ (b : Bool). if b then notes r (kinds.Begin (begun_count d.past r + 1) job) [] d else d) many

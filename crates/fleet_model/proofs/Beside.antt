@@ -7,14 +7,15 @@ use Rattle.std.proofs.lemmas.List.{length-append, length-reverse}
 use Rattle.std.proofs.lemmas.List.Elements.{filter-append}
 use Rattle.annex_base.specs.Calls.{same_call}
 use Rattle.annex_base.specs.declared.kinds.Call.{Call}
+use Rattle.annex_base.proofs.Conditions.{eqb_other, eqb_refl}
 use Rattle.object_store.specs.Calls.{one_more}
 use Rattle.run_data.specs.declared.entry.Entry.{Entry}
 use Rattle.run_data.specs.declared.entry.EntryKind.TheVariants as kinds
 use Rattle.run_data.specs.declared.run.Run.{Run}
 use Rattle.run_model.specs.Past.{now}
-use Rattle.driver_model.specs.Driver.{Driver, FailLine, Given, is_failing, newest_count}
+use Rattle.driver_model.specs.Driver.{Driver, FailLine, DriverInput, is_failing, newest_count}
 use Rattle.driver_model.specs.Driving.{with_mark}
-use Rattle.driver_model.specs.Scripts.{Fits}
+use Rattle.driver_model.specs.Scripts.{HasBoundedPast}
 use Rattle.driver_model.specs.ScriptSteps.{enters, waits, will_fail}
 use Rattle.driver_model.specs.Sound.{StaysSound}
 use Rattle.link_flights.specs.Flights.{IsEndIn}
@@ -26,12 +27,11 @@ use Rattle.fleet_model.specs.Fleets.{FleetView, HasCome, IsNodeOf, links_at}
 use Rattle.fleet_model.specs.Stores.{IsTold, waiting_fails}
 use Rattle.repo_node.specs.Stored.{StoreView}
 use Rattle.fleet_model.proofs.Hearing.{WordLaws}
-use Rattle.fleet_model.proofs.Noting.{other_number, same_number}
 
 -- ---- a driver that differs in what no node has
 
 -- the nodes stay the driver's
-beside : {K : Type 0} (tells : K → StoreView) (g : Given) (d d' : Driver) (r : ℕ) (n : NodeView K) → d' ≡ record d { tree = d'.tree; marks = d'.marks } → IsNodeOf tells g d r n → IsNodeOf tells g d' r n
+beside : {K : Type 0} (tells : K → StoreView) (g : DriverInput) (d d' : Driver) (r : ℕ) (n : NodeView K) → d' ≡ record d { tree = d'.tree; marks = d'.marks } → IsNodeOf tells g d r n → IsNodeOf tells g d' r n
 beside {K} tells g d d' r n but is =
     subst (λ (x : Driver). IsNodeOf tells g x r n) (sym but)
     (record {
@@ -44,7 +44,7 @@ beside {K} tells g d d' r n but is =
       heard = is.heard;
     })
 
-come_beside : {K : Type 0} (tells : K → StoreView) (g : Given) (d d' : Driver) (f f' : FleetView K) → d' ≡ record d { tree = d'.tree; marks = d'.marks } → f'.nodes ≡ f.nodes
+come_beside : {K : Type 0} (tells : K → StoreView) (g : DriverInput) (d d' : Driver) (f f' : FleetView K) → d' ≡ record d { tree = d'.tree; marks = d'.marks } → f'.nodes ≡ f.nodes
     → f'.run ≡ record f.run { tree = d'.tree; marks = d'.marks } → StaysSound g d d' → HasCome tells g d f → HasCome tells g d' f'
 come_beside {K} tells g d d' f f' but same run sound h = record {
   run = run ∙ ((λ i. record (h.run i) { tree = d'.tree; marks = d'.marks }) ∙ (λ i. record { repos = g.repos; entries = reverse (sym (ap (λ (x : Driver). x.past) but) i); tree = d'.tree; marks = d'.marks }));
@@ -60,11 +60,11 @@ come_beside {K} tells g d d' f f' but same run sound h = record {
       (h.words q a v q_in a_in apart client (subst (λ (ns : List (NodeView K)). link_at (links_at ns q) a ≡ Some v) same at));
   selves = λ q a v at_self at. h.selves q a v at_self (subst (λ (ns : List (NodeView K)). link_at (links_at ns q) a ≡ Some v) same at);
 } where
-  fits : Fits d'
-  fits = subst Fits (sym but) h.fits
+  fits : HasBoundedPast d'
+  fits = subst HasBoundedPast (sym but) h.fits
 
 -- a path names a key
-pub entered : {K : Type 0} (tells : K → StoreView) (g : Given) (d : Driver) (path key : List ℕ) (f f' : FleetView K) → f'.nodes ≡ f.nodes
+pub entered : {K : Type 0} (tells : K → StoreView) (g : DriverInput) (d : Driver) (path key : List ℕ) (f f' : FleetView K) → f'.nodes ≡ f.nodes
     → f'.run ≡ record f.run { tree = f.run.tree ++ record { place = length f.run.entries; path = path; key = key } ∷ [] } → StaysSound g d (enters path key d) → HasCome tells g d f → HasCome tells g (enters path key d) f'
 entered {K} tells g d path key f f' same run sound h = come_beside tells g d (enters path key d) f f' refl same (run ∙ there) sound h
   where
@@ -75,7 +75,7 @@ entered {K} tells g d path key f f' same run sound h = come_beside tells g d (en
     there = λ i. record f.run { tree = (h.run i).tree ++ record { place = place i; path = path; key = key } ∷ []; marks = (h.run i).marks }
 
 -- a line is done
-pub marked : {K : Type 0} (tells : K → StoreView) (g : Given) (d : Driver) (f f' : FleetView K) → f'.nodes ≡ f.nodes → f'.run ≡ record f.run { marks = f.run.marks ++ length f.run.entries ∷ [] }
+pub marked : {K : Type 0} (tells : K → StoreView) (g : DriverInput) (d : Driver) (f f' : FleetView K) → f'.nodes ≡ f.nodes → f'.run ≡ record f.run { marks = f.run.marks ++ length f.run.entries ∷ [] }
     → StaysSound g d (with_mark d) → HasCome tells g d f → HasCome tells g (with_mark d) f'
 marked {K} tells g d f f' same run sound h = come_beside tells g d (with_mark d) f f' refl same (run ∙ there) sound h
   where
@@ -94,7 +94,7 @@ later a b c less = grind arith
 abbrev waited_entry : Driver → ℕ → Entry
 waited_entry d milliseconds = record { time = now d.past + milliseconds; count = newest_count d.past + 1; repo = None; kind = kinds.Wait milliseconds; taken = None; sent = []; lines = [] }
 
-waited_node : {K : Type 0} → WordLaws → (tells : K → StoreView) (g : Given) (d : Driver) (milliseconds r : ℕ) (n : NodeView K) → IsNodeOf tells g d r n → IsNodeOf tells g (waits milliseconds d) r n
+waited_node : {K : Type 0} → WordLaws → (tells : K → StoreView) (g : DriverInput) (d : Driver) (milliseconds r : ℕ) (n : NodeView K) → IsNodeOf tells g d r n → IsNodeOf tells g (waits milliseconds d) r n
 waited_node laws tells g d milliseconds r n is = record {
   setup = record { number = is.setup.number; ids = is.setup.ids; offset = is.setup.offset; version = is.setup.version; locks = is.setup.locks };
   history = is.history;
@@ -105,7 +105,7 @@ waited_node laws tells g d milliseconds r n is = record {
   heard = laws.other d.past (waited_entry d milliseconds) r (words_at n.parts.jobs.running) refl is.heard;
 }
 
-pub waited : {K : Type 0} → WordLaws → (tells : K → StoreView) (g : Given) (d : Driver) (milliseconds : ℕ) (f f' : FleetView K) → f'.nodes ≡ f.nodes
+pub waited : {K : Type 0} → WordLaws → (tells : K → StoreView) (g : DriverInput) (d : Driver) (milliseconds : ℕ) (f f' : FleetView K) → f'.nodes ≡ f.nodes
     → f'.run ≡ record f.run { entries = f.run.entries ++ record { time = now d.past + milliseconds; count = newest_count d.past + 1; repo = None; kind = kinds.Wait milliseconds; taken = None; sent = []; lines = [] } ∷ [] }
     → now d.past + milliseconds ≤ 1000000000000 → newest_count d.past + 1 < 2 ^ 62 → StaysSound g d (waits milliseconds d) → HasCome tells g d f → HasCome tells g (waits milliseconds d) f'
 waited {K} laws tells g d milliseconds f f' same run early few sound h = record {
@@ -122,7 +122,7 @@ waited {K} laws tells g d milliseconds f f' same run early few sound h = record 
   e : Entry
   e = record { time = now d.past + milliseconds; count = newest_count d.past + 1; repo = None; kind = kinds.Wait milliseconds; taken = None; sent = []; lines = [] }
 
-  fits : Fits (waits milliseconds d)
+  fits : HasBoundedPast (waits milliseconds d)
   fits = ((record { in_time = early; counted = few; small = tt }, h.fits.0), h.fits.1)
 
 -- ---- a call is to fail
@@ -143,10 +143,10 @@ waits_too d r q call c b e =
     go false e = ap (λ (b : Bool). waiting_fails d q c + length (cond b (fail_line r call ∷ []) [])) e ∙ none (waiting_fails d q c)
 
 own_fails : (r : ℕ) (call c : Call) → is_failing r c (fail_line r call) ≡ same_call call c
-own_fails r call c = ap (λ (b : Bool). b && same_call call c) (same_number r)
+own_fails r call c = ap (λ (b : Bool). b && same_call call c) (eqb_refl r)
 
 others_fail : (r q : ℕ) (call c : Call) → q ≢ r → is_failing q c (fail_line r call) ≡ false
-others_fail r q call c apart = ap (λ (b : Bool). b && same_call call c) (other_number r q apart)
+others_fail r q call c apart = ap (λ (b : Bool). b && same_call call c) (eqb_other r q apart)
 
 more_told : (d : Driver) (r : ℕ) (call : Call) (o o' : Option (Call → ℕ)) → o' ≡ option_map (one_more call) o → IsTold o (λ n. (c : Call) → n c ≡ waiting_fails d r c) → IsTold o' (λ n. (c : Call) → n c ≡ waiting_fails (will_fail r call d) r c)
 more_told d r call None o' is told = absurd told
@@ -158,7 +158,7 @@ same_told : (d : Driver) (r q : ℕ) (call : Call) (o : Option (Call → ℕ)) �
 same_told d r q call None apart told = told
 same_told d r q call (Some n) apart told = λ c. told c ∙ sym (waits_too d r q call c false (others_fail r q call c apart))
 
-pub failing_node : {K : Type 0} (tells : K → StoreView) (g : Given) (d : Driver) (r : ℕ) (call : Call) (n m : NodeView K) → IsNodeOf tells g d r n → m ≡ record n { keeper = m.keeper }
+pub failing_node : {K : Type 0} (tells : K → StoreView) (g : DriverInput) (d : Driver) (r : ℕ) (call : Call) (n m : NodeView K) → IsNodeOf tells g d r n → m ≡ record n { keeper = m.keeper }
     → (tells m.keeper).contents ≡ (tells n.keeper).contents → (tells m.keeper).parts ≡ (tells n.keeper).parts → (tells m.keeper).failing ≡ option_map (one_more call) (tells n.keeper).failing
     → IsNodeOf tells g (will_fail r call d) r m
 failing_node {K} tells g d r call n m is but contents parts failing =
@@ -177,7 +177,7 @@ failing_node {K} tells g d r call n m is but contents parts failing =
       heard = is.heard;
     })
 
-pub other_failing : {K : Type 0} (tells : K → StoreView) (g : Given) (d : Driver) (r q : ℕ) (call : Call) (n : NodeView K) → q ≢ r → IsNodeOf tells g d q n → IsNodeOf tells g (will_fail r call d) q n
+pub other_failing : {K : Type 0} (tells : K → StoreView) (g : DriverInput) (d : Driver) (r q : ℕ) (call : Call) (n : NodeView K) → q ≢ r → IsNodeOf tells g d q n → IsNodeOf tells g (will_fail r call d) q n
 other_failing tells g d r q call n apart is = record {
   setup = record { number = is.setup.number; ids = is.setup.ids; offset = is.setup.offset; version = is.setup.version; locks = is.setup.locks };
   history = is.history;

@@ -1,8 +1,9 @@
 -- The bytes of the piece that a turn takes, at a node's end and in the driver.
 use Rattle.std.proofs.Common.{◌≡◌, ℕ, Bool, true, false, List, [], ◌∷◌, map, Option, Some, None, refl, sym, ap, ◌∙◌}
-use Rattle.std.specs.Prelude.{filter, find, if◌then◌else◌, nat_lt, not, option_and_then, slice_get}
+use Rattle.std.specs.Prelude.{filter, find, if◌then◌else◌, nat_lt, option_and_then, slice_get}
 use Rattle.std.specs.Option.{option_map, option_map_or}
 use Rattle.std.proofs.lemmas.Option.{slice_get-map}
+use Rattle.annex_base.proofs.Conditions.{not_by_if}
 use Rattle.link_ring.specs.declared.frame.Body.{Body}
 use Rattle.link_ring.specs.declared.frame.Body.TheVariants as bodies
 use Rattle.link_ring.specs.declared.frame.Frame.{Frame}
@@ -45,12 +46,8 @@ first_of_map f (x ∷ xs) = refl
 
 -- ---- the bytes
 
-turned : (b : Bool) → not b ≡ (if b then false else true)
-turned true = refl
-turned false = refl
-
 same_end : (f : FrameView) → end_of_frame f ≡ end_to f
-same_end f = λ i. record { peer = f.peer; slot = f.slot; client = turned f.up i }
+same_end f = λ i. record { peer = f.peer; slot = f.slot; client = not_by_if f.up i }
 
 same_body : (body : Body) → bytes_in body ≡ bytes_of body
 same_body bodies.Open = refl

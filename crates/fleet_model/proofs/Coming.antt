@@ -1,15 +1,15 @@
 -- A fleet goes on where the driver does.
-use Rattle.std.proofs.Common.{◌≡◌, ◌≢◌, ℕ, ◌<◌, ◌≤◌, ◌^◌, Bool, true, false, List, [], Option, Some, length, refl, sym, ap, ◌∙◌, subst, arith}
+use Rattle.std.proofs.Common.{◌≡◌, ◌≢◌, ℕ, ◌<◌, ◌≤◌, ◌^◌, Bool, true, false, List, [], Option, Some, length, refl, sym, ap, ◌∙◌, subst}
 use Rattle.std.specs.Prelude.{◌==◌, ◌++◌, drop, reverse, slice_get}
 use Rattle.std.specs.Option.{option_map_or}
-use Rattle.std.proofs.lemmas.Bool.Decides.{nat_tests}
 use Rattle.std.proofs.lemmas.Option.{same_Some}
+use Rattle.std.proofs.lemmas.Bool.{eqb-false, eqb-true}
 use Rattle.link_ring.specs.Ends.{EndView}
 use Rattle.run_data.specs.declared.entry.Entry.{Entry}
 use Rattle.node_model.specs.Ends.{EndName}
 use Rattle.node_ends.specs.Ends.{link_at}
-use Rattle.driver_model.specs.Driver.{Driver, Given}
-use Rattle.driver_model.specs.Scripts.{Fits}
+use Rattle.driver_model.specs.Driver.{Driver, DriverInput}
+use Rattle.driver_model.specs.Scripts.{HasBoundedPast}
 use Rattle.driver_model.specs.Sound.{StaysSound}
 use Rattle.link_flights.specs.Flights.{IsEndIn}
 use Rattle.link_flights.specs.Heard.{HeardSo}
@@ -23,12 +23,6 @@ use Rattle.fleet_model.proofs.Going.{GoesOnQuietly, entries_go_on, goes_within, 
 use Rattle.fleet_model.proofs.Hearing.{WordLaws, others_hear, words_stay}
 use Rattle.fleet_model.proofs.Noting.{IsRaised, is_node}
 
-pub same : (q r : ℕ) → (q == r) ≡ true → q ≡ r
-same q r e = grind (arith, nat_tests)
-
-pub unlike : (q r : ℕ) → (q == r) ≡ false → q ≢ r
-unlike q r e = λ (i : q ≡ r). grind (arith, nat_tests)
-
 -- what holds of the node of r and of each other one holds of each
 pub by_number : {X : Type 0} (P : ℕ → X → Type 0) (xs : List X) (r : ℕ) (m : X) → slice_get xs r ≡ Some m → P r m → ((q : ℕ) (x : X) → q ≢ r → slice_get xs q ≡ Some x → P q x)
     → (q : ℕ) (x : X) → slice_get xs q ≡ Some x → P q x
@@ -36,10 +30,10 @@ by_number {X} P xs r m there own others q x at = go (q == r) refl
   where
     go : (b : Bool) → (q == r) ≡ b → P q x
     go true e =
-        let is : q ≡ r = same q r e in
+        let is : q ≡ r = eqb-true q r e in
         let node : m ≡ x = same_Some m x (sym there ∙ (ap (slice_get xs) (sym is) ∙ at)) in
         subst (λ (p : ℕ). P p x) (sym is) (subst (P r) node own)
-    go false e = others q x (unlike q r e) at
+    go false e = others q x (eqb-false q r e) at
 
 abbrev pub ends_in : {K : Type 0} → Option (NodeView K) → List EndView
 ends_in {K} o = option_map_or (λ (n : NodeView K). n.parts.links) o []
@@ -50,11 +44,11 @@ links_stay {K} r q n m was after step links = go (q == r) refl
   where
     go : (b : Bool) → (q == r) ≡ b → links_at after.nodes q ≡ links_at was.nodes q
     go true e =
-        let is : q ≡ r = same q r e in
+        let is : q ≡ r = eqb-true q r e in
         subst (λ (p : ℕ). links_at after.nodes p ≡ links_at was.nodes p) (sym is) (ap ends_in step.there ∙ (links ∙ sym (ap ends_in step.before)))
-    go false e = ap ends_in (step.others q (unlike q r e))
+    go false e = ap ends_in (step.others q (eqb-false q r e))
 
-pub came : {K : Type 0} → WordLaws → (tells : K → StoreView) (g : Given) (d d' : Driver) (r : ℕ) (n m : NodeView K) (was after : FleetView K)
+pub came : {K : Type 0} → WordLaws → (tells : K → StoreView) (g : DriverInput) (d d' : Driver) (r : ℕ) (n m : NodeView K) (was after : FleetView K)
     → HasCome tells g d was → OneGoesOn r n m was after → GoesOnQuietly r d d' → IsRaised tells g d' r m → m.parts.links ≡ n.parts.links → HeardSo d'.past r (words_at m.parts.jobs.running) → m.time ≤ 1000000000000 → m.count < 2 ^ 62 → StaysSound g d d'
     → HasCome tells g d' after
 came {K} laws tells g d d' r n m was after h step on own links heard early few sound = record {
@@ -80,5 +74,5 @@ came {K} laws tells g d d' r n m was after h step on own links heard early few s
   entries : reverse d'.past ≡ reverse d.past ++ drop (length n.history) m.history
   entries = entries_go_on r d d' n.history m.history on.on (h.each r n step.before).history own.entries.history
 
-  fits : Fits d'
+  fits : HasBoundedPast d'
   fits = goes_within r d d' h.fits on.on (subst (λ (t : ℕ). t ≤ 1000000000000) own.entries.time early) (subst (λ (c : ℕ). c < 2 ^ 62) own.entries.count few)

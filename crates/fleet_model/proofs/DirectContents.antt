@@ -6,7 +6,7 @@ use Rattle.annex_base.specs.declared.kinds.Call.TheVariants as calls
 use Rattle.object_store.specs.Stores.{Contents, Parts}
 use Rattle.node_model.specs.SetUp.{SetUp}
 use Rattle.node_model.specs.State.{State}
-use Rattle.driver_model.specs.Driver.{Driver, Given, part_at, set_up_of}
+use Rattle.driver_model.specs.Driver.{Driver, DriverInput, part_at, set_up_of}
 use Rattle.driver_model.specs.ScriptSteps.{has, is_busy, sets_part}
 use Rattle.driver_model.specs.Sound.{StaysSound}
 use Rattle.repo_node.specs.Calls.{IsDoneBy, StopsAt, node_at, to_place, to_place_part}
@@ -34,7 +34,7 @@ use Rattle.fleet_model.proofs.States.{Carried, state_is}
 pub record StandsTold (s : SetUp) (parts : _) (owed : _) (known : Option Contents) (st : State) : Type 0 where
   pub contents : Contents
   pub is : known ≡ Some contents
-  pub stands : nodes.Stands s parts owed contents st
+  pub stands : nodes.IsStateOfParts s parts owed contents st
 
 pub stands_told : (s : SetUp) (parts : _) (files : _) (owed : _) (known : Option Contents) (stored : Option Parts) (st : State) (f : List ℕ → Option (List ℕ)) (h : List ℕ → List ℕ) → IsTold known (λ c. (key : List ℕ) → c key ≡ f key)
     → IsTold stored (λ p. (key : List ℕ) → p key ≡ h key) → nodes.IsState s parts files owed (nodes.told_of known stored) st → StandsTold s parts owed known st
@@ -42,7 +42,7 @@ stands_told s parts files owed None stored st f h told has is = absurd told
 stands_told s parts files owed (Some c) None st f h told has is = absurd has
 stands_told s parts files owed (Some c) (Some p) st f h told has is = record { contents = c; is = refl; stands = is.stands c refl }
 
-busy_is : {K : Type 0} → Carried → (tells : K → StoreView) (g : Given) (d : Driver) (r : ℕ) (n : NodeView K) (was : FleetView K) (key : List ℕ) → HasCome tells g d was → IsNodeOf tells g d r n
+busy_is : {K : Type 0} → Carried → (tells : K → StoreView) (g : DriverInput) (d : Driver) (r : ℕ) (n : NodeView K) (was : FleetView K) (key : List ℕ) → HasCome tells g d was → IsNodeOf tells g d r n
     → nodes.IsState (set_up_of g d r) n.parts n.branch n.owed (nodes.told_of (tells n.keeper).contents (tells n.keeper).parts) (nodes.state_of (set_up_of g d r) n.history)
     → (taken : Bool) → IsTaken taken (tells n.keeper).contents n.parts.table key → taken ≡ is_busy g d r key
 busy_is {K} carried tells g d r n was key h is state taken told =
@@ -61,7 +61,7 @@ at_parts call key bytes n = refl
 
 -- ---- contents
 
-pub content_comes : {K : Type 0} → WordLaws → Carried → (tells : K → StoreView) (g : Given) (d : Driver) (r : ℕ) (n m : NodeView K) (was after : FleetView K) (key bytes : List ℕ) → HasCome tells g d was → OneGoesOn r n m was after
+pub content_comes : {K : Type 0} → WordLaws → Carried → (tells : K → StoreView) (g : DriverInput) (d : Driver) (r : ℕ) (n m : NodeView K) (was after : FleetView K) (key bytes : List ℕ) → HasCome tells g d was → OneGoesOn r n m was after
     → nodes.IsState (set_up_of g d r) n.parts n.branch n.owed (nodes.told_of (tells n.keeper).contents (tells n.keeper).parts) (nodes.state_of (set_up_of g d r) n.history)
     → IsPlaced key bytes (tells n.keeper).contents (tells n.keeper).parts (tells m.keeper).contents (raised d n) m
     → IsDoneBy to_place key [] n.parts.table (tells n.keeper).contents (tells n.keeper).parts (tells m.keeper).parts (tells n.keeper).failing (tells m.keeper).failing
@@ -71,7 +71,7 @@ content_comes {K} laws carried tells g d r n m was after key bytes h step state 
     (placed_well tells g d r (raised d n) m key bytes (raised_is tells g d r n (h.each r n step.before)) (busy_is carried tells g d r n was key h (h.each r n step.before) state) placed done)
     (placed_parts (raised d n) m key (length bytes) placed.taken placed.node) early few sound
 
-pub content_stops : {K : Type 0} → WordLaws → Carried → (tells : K → StoreView) (g : Given) (d : Driver) (r : ℕ) (n m : NodeView K) (was after : FleetView K) (key bytes : List ℕ) → HasCome tells g d was → OneGoesOn r n m was after
+pub content_stops : {K : Type 0} → WordLaws → Carried → (tells : K → StoreView) (g : DriverInput) (d : Driver) (r : ℕ) (n m : NodeView K) (was after : FleetView K) (key bytes : List ℕ) → HasCome tells g d was → OneGoesOn r n m was after
     → nodes.IsState (set_up_of g d r) n.parts n.branch n.owed (nodes.told_of (tells n.keeper).contents (tells n.keeper).parts) (nodes.state_of (set_up_of g d r) n.history)
     → StopsAt to_place key bytes (tells n.keeper).contents (tells m.keeper).contents (tells n.keeper).parts (tells m.keeper).parts (tells n.keeper).failing (tells m.keeper).failing refusals.StoreFault (raised d n) m
     → length bytes < 2 ^ 62 → m.time ≤ 1000000000000 → m.count < 2 ^ 62 → StaysSound g d (has g r key bytes d) → HasCome tells g (has g r key bytes d) after
@@ -82,7 +82,7 @@ content_stops {K} laws carried tells g d r n m was after key bytes h step state 
 
 -- ---- parts
 
-pub part_comes : {K : Type 0} → WordLaws → Carried → (tells : K → StoreView) (g : Given) (d : Driver) (r : ℕ) (n m : NodeView K) (was after : FleetView K) (key bytes : List ℕ) → HasCome tells g d was → OneGoesOn r n m was after
+pub part_comes : {K : Type 0} → WordLaws → Carried → (tells : K → StoreView) (g : DriverInput) (d : Driver) (r : ℕ) (n m : NodeView K) (was after : FleetView K) (key bytes : List ℕ) → HasCome tells g d was → OneGoesOn r n m was after
     → nodes.IsState (set_up_of g d r) n.parts n.branch n.owed (nodes.told_of (tells n.keeper).contents (tells n.keeper).parts) (nodes.state_of (set_up_of g d r) n.history)
     → m ≡ over m.keeper (raised d n) → (tells m.keeper).contents ≡ (tells n.keeper).contents
     → IsDoneBy to_place_part key bytes n.parts.table (tells n.keeper).contents (tells n.keeper).parts (tells m.keeper).parts (tells n.keeper).failing (tells m.keeper).failing
@@ -92,7 +92,7 @@ part_comes {K} laws carried tells g d r n m was after key bytes h step state nod
     (part_well tells g d r (raised d n) m key bytes (raised_is tells g d r n (h.each r n step.before)) (busy_is carried tells g d r n was key h (h.each r n step.before) state) node contents done)
     (ap (λ (x : NodeView K). x.parts) node) early few sound
 
-pub part_stops : {K : Type 0} → WordLaws → Carried → (tells : K → StoreView) (g : Given) (d : Driver) (r : ℕ) (n m : NodeView K) (was after : FleetView K) (key bytes : List ℕ) → HasCome tells g d was → OneGoesOn r n m was after
+pub part_stops : {K : Type 0} → WordLaws → Carried → (tells : K → StoreView) (g : DriverInput) (d : Driver) (r : ℕ) (n m : NodeView K) (was after : FleetView K) (key bytes : List ℕ) → HasCome tells g d was → OneGoesOn r n m was after
     → nodes.IsState (set_up_of g d r) n.parts n.branch n.owed (nodes.told_of (tells n.keeper).contents (tells n.keeper).parts) (nodes.state_of (set_up_of g d r) n.history)
     → StopsAt to_place_part key bytes (tells n.keeper).contents (tells m.keeper).contents (tells n.keeper).parts (tells m.keeper).parts (tells n.keeper).failing (tells m.keeper).failing refusals.StoreFault (raised d n) m
     → length bytes < 2 ^ 62 → m.time ≤ 1000000000000 → m.count < 2 ^ 62 → StaysSound g d (sets_part g r key bytes d) → HasCome tells g (sets_part g r key bytes d) after

@@ -7,7 +7,7 @@ use Rattle.annex_base.specs.declared.kinds.Call.TheVariants as calls
 use Rattle.run_data.specs.Files.{file_of, file_path}
 use Rattle.union_merge.specs.Branch.{Files, lines_at}
 use Rattle.union_merge.specs.LineSet.{difference}
-use Rattle.driver_model.specs.Driver.{Driver, Given}
+use Rattle.driver_model.specs.Driver.{Driver, DriverInput}
 use Rattle.driver_model.specs.ScriptSteps.{compacts, merges, merges_files}
 use Rattle.driver_model.specs.Sound.{StaysSound}
 use Rattle.content_lock.specs.CallsMade.{MakesCalls}
@@ -48,7 +48,7 @@ walked_parts n m whole (Some call) same well fails = ap (λ (x : NodeView _). x.
 
 -- ---- merged
 
-pub merge_comes : {K : Type 0} → WordLaws → (tells : K → StoreView) (g : Given) (d : Driver) (r other : ℕ) (n m o : NodeView K) (was after : FleetView K) (failed : Option Call)
+pub merge_comes : {K : Type 0} → WordLaws → (tells : K → StoreView) (g : DriverInput) (d : Driver) (r other : ℕ) (n m o : NodeView K) (was after : FleetView K) (failed : Option Call)
     → HasCome tells g d was → OneGoesOn r n m was after → slice_get was.nodes other ≡ Some o → StaysStored (tells n.keeper) (tells m.keeper)
     → MakesCalls (to_merge n o.branch) failed (tells n.keeper).failing (tells m.keeper).failing
     → (failed ≡ None → m ≡ over m.keeper (merge_files (raised d n) o.branch)) → ((call : Call) → failed ≡ Some call → RefusesSo refusals.StoreFault calls.PutFile (raised d n) m)
@@ -61,7 +61,7 @@ merge_comes {K} laws tells g d r other n m o was after failed h step there stays
 
 -- ---- compacted
 
-pub compact_comes : {K : Type 0} → WordLaws → (tells : K → StoreView) (g : Given) (d : Driver) (r : ℕ) (n m : NodeView K) (was after : FleetView K) (failed : Option Call)
+pub compact_comes : {K : Type 0} → WordLaws → (tells : K → StoreView) (g : DriverInput) (d : Driver) (r : ℕ) (n m : NodeView K) (was after : FleetView K) (failed : Option Call)
     → HasCome tells g d was → OneGoesOn r n m was after → StaysStored (tells n.keeper) (tells m.keeper)
     → MakesCalls (to_compact n) failed (tells n.keeper).failing (tells m.keeper).failing
     → (failed ≡ None → m ≡ over m.keeper (compact_files (raised d n) (keys_of n.branch))) → ((call : Call) → failed ≡ Some call → RefusesSo refusals.StoreFault calls.PutFile (raised d n) m)

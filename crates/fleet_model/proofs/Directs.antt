@@ -16,7 +16,7 @@ use Rattle.node_model.specs.Owed.{stamp_at}
 use Rattle.node_parts.specs.Parts.{PartsView}
 use Rattle.node_jobs.specs.Running.{words_at}
 use Rattle.link_flights.specs.Heard.{HeardSo}
-use Rattle.driver_model.specs.Driver.{Driver, Given}
+use Rattle.driver_model.specs.Driver.{Driver, DriverInput}
 use Rattle.driver_model.specs.ScriptSteps.{setting_line, sets, wall_of, writes}
 use Rattle.driver_model.specs.Sound.{StaysSound}
 use Rattle.content_lock.specs.CallsMade.{MakesCalls}
@@ -35,7 +35,7 @@ use Rattle.fleet_model.proofs.Raising.{raised_is}
 use Rattle.fleet_model.proofs.ScriptGoing.{goes_writes}
 
 -- a node that goes on without a change of its rows, ends, sessions and jobs
-pub comes_directly : {K : Type 0} → WordLaws → (tells : K → StoreView) (g : Given) (d d' : Driver) (r : ℕ) (n m : NodeView K) (was after : FleetView K)
+pub comes_directly : {K : Type 0} → WordLaws → (tells : K → StoreView) (g : DriverInput) (d d' : Driver) (r : ℕ) (n m : NodeView K) (was after : FleetView K)
     → HasCome tells g d was → OneGoesOn r n m was after → GoesOnQuietly r d d' → IsRaised tells g d' r m → m.parts ≡ n.parts → m.time ≤ 1000000000000 → m.count < 2 ^ 62 → StaysSound g d d'
     → HasCome tells g d' after
 comes_directly {K} laws tells g d d' r n m was after h step on own same early few sound =
@@ -55,7 +55,7 @@ pub logged_parts : {K : Type 0} (n m : NodeView K) (file : LogFile) (lines : Lis
 logged_parts n m file lines None is = ap (λ (x : NodeView _). x.parts) is ∙ log_parts n m.keeper file (difference lines (lines_at n.branch (file_path file)))
 logged_parts n m file lines (Some call) is = ap (λ (x : NodeView _). x.parts) is
 
-pub line_comes : {K : Type 0} → WordLaws → (tells : K → StoreView) (g : Given) (d : Driver) (r : ℕ) (n m : NodeView K) (was after : FleetView K) (file : LogFile) (line : List ℕ) (failed : Option Call)
+pub line_comes : {K : Type 0} → WordLaws → (tells : K → StoreView) (g : DriverInput) (d : Driver) (r : ℕ) (n m : NodeView K) (was after : FleetView K) (file : LogFile) (line : List ℕ) (failed : Option Call)
     → HasCome tells g d was → OneGoesOn r n m was after → StaysStored (tells n.keeper) (tells m.keeper)
     → MakesCalls (to_log n file (line ∷ [])) failed (tells n.keeper).failing (tells m.keeper).failing → HasLogged file (line ∷ []) failed (raised d n) m
     → m.time ≤ 1000000000000 → m.count < 2 ^ 62 → StaysSound g d (writes r file line d) → HasCome tells g (writes r file line d) after
@@ -65,7 +65,7 @@ line_comes {K} laws tells g d r n m was after file line failed h step stays made
     (logged_parts (raised d n) m file (line ∷ []) failed is) early few sound
 
 -- the line of a setting is that of the driver
-pub setting_is : {K : Type 0} (tells : K → StoreView) (g : Given) (d : Driver) (r : ℕ) (n : NodeView K) (kind : LogKind) (topic : Topic) (value : Value) → IsRaised tells g d r n
+pub setting_is : {K : Type 0} (tells : K → StoreView) (g : DriverInput) (d : Driver) (r : ℕ) (n : NodeView K) (kind : LogKind) (topic : Topic) (value : Value) → IsRaised tells g d r n
     → line_text kind (stamped_by n kind None (record { topic = topic; stamp = None; value = value })) ≡ setting_line g d r kind topic value
 setting_is {K} tells g d r n kind topic value own =
     λ i. line_text kind (record { topic = topic; stamp = Some (next_stamp (newest_stamp kind (lines_at (own.entries.branch i) (file_path (Of kind))) topic) (stamp_at (wall_is i))); value = value })
@@ -73,7 +73,7 @@ setting_is {K} tells g d r n kind topic value own =
     wall_is : n.time + n.setup.offset ≡ wall_of g d r
     wall_is = λ i. own.entries.time i + sym own.entries.setup.offset i
 
-pub setting_comes : {K : Type 0} → WordLaws → (tells : K → StoreView) (g : Given) (d : Driver) (r : ℕ) (n m : NodeView K) (was after : FleetView K) (kind : LogKind) (topic : Topic) (value : Value) (failed : Option Call)
+pub setting_comes : {K : Type 0} → WordLaws → (tells : K → StoreView) (g : DriverInput) (d : Driver) (r : ℕ) (n m : NodeView K) (was after : FleetView K) (kind : LogKind) (topic : Topic) (value : Value) (failed : Option Call)
     → HasCome tells g d was → OneGoesOn r n m was after → StaysStored (tells n.keeper) (tells m.keeper)
     → MakesCalls (to_log n (Of kind) (line_text kind (stamped_by (raised d n) kind None (record { topic = topic; stamp = None; value = value })) ∷ [])) failed (tells n.keeper).failing (tells m.keeper).failing
     → HasLogged (Of kind) (line_text kind (stamped_by (raised d n) kind None (record { topic = topic; stamp = None; value = value })) ∷ []) failed (raised d n) m

@@ -28,7 +28,7 @@ use Rattle.node_model.specs.Look.{Made, failing, unless, waiting}
 use Rattle.node_model.specs.Calls.{to_hold}
 use Rattle.node_model.specs.Knows.{enough_by, next_by}
 use Rattle.node_model.specs.JobStep.{Turn, attempts, bar_there, by_me, clock_of, end_with, ends, is_there, me, quietly, talk}
-use Rattle.node_model.specs.DropStep.{asks_copy, asks_target, bars, expiry, first_drop, first_end, first_remote, held_until, in_time, lacking, removes, required_there, row_refusal, takes_drop, takes_time, target, times, tries_own}
+use Rattle.node_model.specs.DropStep.{asks_copy, asks_target, bars, expiry, first_drop, first_end, first_remote, held_until, in_time, lacking_outcome, removes, required_there, row_refusal, takes_drop, takes_time, target, times, tries_own}
 use Rattle.node_model.specs.Requests.{asks, goes_to}
 use Rattle.node_model.specs.TransferStep.{takes_bytes}
 use Rattle.node_model.specs.Turns.{awaits, by_partner, first_step, goes, goes_on, has_room, is_awaiting, judges, needs, next_step, outcome_of, takes, takes_answer, takes_frame, takes_text, with_partner}
@@ -91,7 +91,7 @@ removes_took t =
 
 judges_took : (t : Turn) (enough : Bool) (next : Option ℕ) (side : Side) → Took None (judges t enough next side)
 judges_took t false (Some peer) side = goes_to_took t peer
-judges_took t false None side = ends_took t None (lacking t)
+judges_took t false None side = ends_took t None (lacking_outcome t)
 judges_took t true next Local = removes_took t
 judges_took t true next Remote = goes_to_took t (target t)
 

@@ -5,19 +5,19 @@ use Rattle.std.specs.Option.{option_and_then, option_map}
 use Rattle.std.proofs.lemmas.Bool.Decides.{nat_tests}
 use Rattle.std.proofs.lemmas.Option.{slice_get_within}
 use Rattle.annex_base.specs.Lists.{Each}
+use Rattle.annex_base.proofs.Conditions.{eqb_refl}
 use Rattle.link_ring.specs.Ends.{EndView, after_drop, fresh, next_frame}
 use Rattle.link_ring.specs.Places.{end_place}
 use Rattle.run_data.specs.declared.entry.FrameView.{FrameView}
 use Rattle.node_model.specs.Ends.{EndName, same_bool, taken_at, takes_at}
 use Rattle.node_ends.specs.Ends.{hand_at, link_at, room_at, wait_at}
-use Rattle.driver_model.specs.Driver.{Driver, Flight, Given, end_to, has_room, is_sent_by, old_at, part_at, state_at}
+use Rattle.driver_model.specs.Driver.{Driver, Flight, DriverInput, end_to, has_room, is_sent_by, old_at, part_at, state_at}
 use Rattle.driver_model.specs.Finding.{driver_at_turn}
-use Rattle.driver_model.specs.Scripts.{Fits}
+use Rattle.driver_model.specs.Scripts.{HasBoundedPast}
 use Rattle.driver_model.specs.Sound.{IsSound}
 use Rattle.driver_model.specs.Stores.{StoredBytes, bytes_in, is_stored}
 use Rattle.driver_model.specs.Turning.{part_size}
 use Rattle.fleet_model.proofs.BytesTaken.{link_dropped}
-use Rattle.fleet_model.proofs.Noting.{same_number}
 
 -- ---- ends that are there
 
@@ -52,7 +52,7 @@ takes_own f = ap (λ (b : Bool). if b then Some f else None) all
     way false = refl
 
     all : takes_at (end_to f) f ≡ true
-    all = λ i. same_number f.peer i && same_number f.slot i && way f.up i
+    all = λ i. eqb_refl f.peer i && eqb_refl f.slot i && way f.up i
 
 -- where a frame waits, once old frames were dropped, there is an end
 pub wait_there : (links : List EndView) (a : EndName) (f : FrameView) → wait_at (map after_drop links) a ≡ Some f → (v : EndView) × (link_at links a ≡ Some v)
@@ -93,7 +93,7 @@ fewer p q (x ∷ xs) = go (q x) (p x) refl refl (fewer p q xs)
     go false false e f less = less
 
 -- a repository sends nothing to itself, so there is room in the driver and at its node's end
-pub own_room : (g : Given) (d : Driver) (r : ℕ) (links : List EndView) (a : EndName) (v : EndView) → has_room r d.flights a ≡ true → link_at links a ≡ Some v → v ≡ fresh
+pub own_room : (g : DriverInput) (d : Driver) (r : ℕ) (links : List EndView) (a : EndName) (v : EndView) → has_room r d.flights a ≡ true → link_at links a ≡ Some v → v ≡ fresh
     → has_room r (driver_at_turn g r d).flights a ≡ room_at links a
 own_room g d r links a v room at unused =
     enough (length (filter (is_sent_by r a) (driver_at_turn g r d).flights)) (length (filter (is_sent_by r a) d.flights)) (fewer (is_sent_by r a) (λ x. not (old_at (state_at g d r) r x)) d.flights) room
@@ -112,7 +112,7 @@ bound (x ∷ xs) r key n few = go (is_stored r key x) (bound xs r key n few.1)
     go true rest = few.0
     go false rest = rest
 
-pub part_fits : (g : Given) (d : Driver) (r : ℕ) (key : Option (List ℕ)) → IsSound g d → Fits d → part_size d r key < 2 ^ 62
+pub part_fits : (g : DriverInput) (d : Driver) (r : ℕ) (key : Option (List ℕ)) → IsSound g d → HasBoundedPast d → part_size d r key < 2 ^ 62
 part_fits g d r None sound fits = grind arith
 part_fits g d r (Some key) sound fits = below (length (part_at d r key)) d.largest (bound d.parts r key d.largest sound.parts) fits.1
   where

@@ -10,7 +10,7 @@ use Rattle.link_ring.specs.Ends.{EndView}
 use Rattle.run_data.specs.declared.entry.Entry.{Entry}
 use Rattle.node_model.specs.Ends.{EndName}
 use Rattle.node_ends.specs.Ends.{link_at}
-use Rattle.driver_model.specs.Driver.{Driver, Given}
+use Rattle.driver_model.specs.Driver.{Driver, DriverInput}
 use Rattle.driver_model.specs.ScriptSteps.{will_fail}
 use Rattle.driver_model.specs.Sound.{StaysSound}
 use Rattle.repo_node.specs.Nodes.{NodeView}
@@ -27,7 +27,7 @@ run_stays {K} r n m was after step same = step.run ∙ (λ i. record was.run { e
     stays : was.run.entries ++ drop (length n.history) m.history ≡ was.run.entries
     stays = ap (λ (history : List Entry). was.run.entries ++ drop (length n.history) history) same ∙ (ap (λ (more : List Entry). was.run.entries ++ more) (drop-length n.history) ∙ append-nil was.run.entries)
 
-pub fail_comes : {K : Type 0} (tells : K → StoreView) (g : Given) (d : Driver) (r : ℕ) (call : Call) (n m : NodeView K) (was after : FleetView K)
+pub fail_comes : {K : Type 0} (tells : K → StoreView) (g : DriverInput) (d : Driver) (r : ℕ) (call : Call) (n m : NodeView K) (was after : FleetView K)
     → HasCome tells g d was → OneGoesOn r n m was after → m ≡ record n { keeper = m.keeper }
     → (tells m.keeper).contents ≡ (tells n.keeper).contents → (tells m.keeper).parts ≡ (tells n.keeper).parts → (tells m.keeper).failing ≡ option_map (one_more call) (tells n.keeper).failing
     → StaysSound g d (will_fail r call d) → HasCome tells g (will_fail r call d) after

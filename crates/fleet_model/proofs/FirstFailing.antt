@@ -4,11 +4,15 @@ use Rattle.std.specs.Prelude.{◌==◌, ◌&&◌, ◌||◌, find, if◌then◌el
 use Rattle.std.specs.List.{list_all, list_any}
 use Rattle.std.proofs.lemmas.Bool.Decides.{nat_tests}
 use Rattle.std.proofs.lemmas.Option.{same_Some}
+use Rattle.std.proofs.lemmas.Bool.{false_from_ne_true, ltb-true}
 use Rattle.annex_base.specs.Calls.{call_number, same_call}
 use Rattle.annex_base.specs.declared.kinds.Call.{Call}
 use Rattle.annex_base.specs.declared.kinds.Call.TheVariants as calls
 use Rattle.annex_base.specs.Lists.{Each}
+use Rattle.annex_base.proofs.Calls.{same_call-is}
 use Rattle.annex_base.proofs.Lists.{Each-from_list_all, Each-from_members, Each-weaker}
+use Rattle.annex_base.proofs.Conditions.{and_first, and_second}
+use Rattle.annex_base.proofs.Numbers.{not_both}
 use Rattle.node_model.specs.Look.{Look}
 use Rattle.node_model.specs.SetUp.{SetUp}
 use Rattle.node_model.specs.State.{State}
@@ -20,36 +24,6 @@ use Rattle.fleet_model.specs.Stores.{IsStoreOf, IsTold, waiting_fails}
 use Rattle.repo_node.specs.Stored.{StoreView}
 use Rattle.fleet_model.proofs.Failing.{any_counted}
 
--- ---- calls by their numbers
-
-abbrev call_at : ℕ → Call
-call_at n =
-    if n == 0 then calls.Has else (if n == 1 then calls.Size else (if n == 2 then calls.Read else (if n == 3 then calls.PartSize else (if n == 4 then calls.ReadPart else
-    (if n == 5 then calls.Append else (if n == 6 then calls.Commit else (if n == 7 then calls.DropPart else (if n == 8 then calls.Remove else (if n == 9 then calls.Hold else
-    (if n == 10 then calls.Unhold else (if n == 11 then calls.Holds else (if n == 12 then calls.PutFile else calls.File))))))))))))
-
-call_found : (call : Call) → call_at (call_number call) ≡ call
-call_found calls.Has = refl
-call_found calls.Size = refl
-call_found calls.Read = refl
-call_found calls.PartSize = refl
-call_found calls.ReadPart = refl
-call_found calls.Append = refl
-call_found calls.Commit = refl
-call_found calls.DropPart = refl
-call_found calls.Remove = refl
-call_found calls.Hold = refl
-call_found calls.Unhold = refl
-call_found calls.Holds = refl
-call_found calls.PutFile = refl
-call_found calls.File = refl
-
-same_number : (n m : ℕ) → (n == m) ≡ true → n ≡ m
-same_number n m e = grind (arith, nat_tests)
-
-same_is : (c d : Call) → same_call c d ≡ true → c ≡ d
-same_is c d same = sym (call_found c) ∙ (ap call_at (same_number (call_number c) (call_number d) same) ∙ call_found d)
-
 -- ---- the first of rising calls
 
 -- a call among these is no less than the least
@@ -58,7 +32,7 @@ among_all least [] c all among = absurd (cc)
 among_all least (d ∷ cs) c all among = go (same_call c d) refl (among_all least cs c all.1)
   where
     go : (b : Bool) → same_call c d ≡ b → (list_any (same_call c) cs ≡ true → least < call_number c) → least < call_number c
-    go true e rest = subst (λ (x : Call). least < call_number x) (sym (same_is c d e)) all.0
+    go true e rest = subst (λ (x : Call). least < call_number x) (sym (same_call-is c d e)) all.0
     go false e rest = rest (subst (λ (b : Bool). (b || list_any (same_call c) cs) ≡ true) e among)
 
 -- what is found is no greater than a call among them that passes
@@ -83,7 +57,7 @@ found_least p (d ∷ cs) c rising among passes = go (p d) refl (same_call c d) r
     go : (b : Bool) → p d ≡ b → (e : Bool) → same_call c d ≡ e → (list_any (same_call c) cs ≡ true → p c ≡ true → IsLeast (find p cs) c) → IsLeast (find p (d ∷ cs)) c
     go true is true same rest = record { call = d; is = (rw is refl); least = itself (call_number c) (call_number d) same }
     go true is false other rest = record { call = d; is = (rw is refl); least = at_most (call_number d) (call_number c) (among_all (call_number d) cs c rising.0 (more other)) }
-    go false is true same rest = absurd (differ (sym is ∙ (ap p (sym (same_is c d same)) ∙ passes)))
+    go false is true same rest = absurd (differ (sym is ∙ (ap p (sym (same_call-is c d same)) ∙ passes)))
       where
         differ : false ≡ true → ⊥
         differ e = cc
@@ -120,24 +94,13 @@ rises : List Call → Bool
 rises [] = true
 rises (c ∷ cs) = list_all (λ d. nat_lt (call_number c) (call_number d)) cs && rises cs
 
-smaller : (n m : ℕ) → nat_lt n m ≡ true → n < m
-smaller n m e = grind (arith, nat_tests)
-
-and_left : (a b : Bool) → (a && b) ≡ true → a ≡ true
-and_left true b e = refl
-and_left false b e = absurd (cc)
-
-and_right : (a b : Bool) → (a && b) ≡ true → b ≡ true
-and_right true b e = e
-and_right false b e = absurd (cc)
-
 rising_checked : (cs : List Call) → rises cs ≡ true → AreRising cs
 unfolding rises
 rising_checked [] e = tt
 rising_checked (c ∷ cs) e = (
-  Each-weaker (λ d. nat_lt (call_number c) (call_number d) ≡ true) (λ d. call_number c < call_number d) (λ d. smaller (call_number c) (call_number d)) cs
-      (Each-from_list_all (λ d. nat_lt (call_number c) (call_number d)) cs (and_left (list_all (λ d. nat_lt (call_number c) (call_number d)) cs) (rises cs) e)),
-  rising_checked cs (and_right (list_all (λ d. nat_lt (call_number c) (call_number d)) cs) (rises cs) e),
+  Each-weaker (λ d. nat_lt (call_number c) (call_number d) ≡ true) (λ d. call_number c < call_number d) (λ d. ltb-true (call_number c) (call_number d)) cs
+      (Each-from_list_all (λ d. nat_lt (call_number c) (call_number d)) cs (and_first (list_all (λ d. nat_lt (call_number c) (call_number d)) cs) (rises cs) e)),
+  rising_checked cs (and_second (list_all (λ d. nat_lt (call_number c) (call_number d)) cs) (rises cs) e),
 )
 
 all_rising : AreRising all_calls
@@ -162,9 +125,6 @@ all_found calls.File = refl
 
 -- ---- what the driver finds
 
-not_both : (n m : ℕ) → n < m → m ≤ n → ⊥
-not_both n m less least = grind arith
-
 -- a call that waits and is met comes no sooner than the one that failed
 no_sooner : (d : Driver) (r : ℕ) (s : SetUp) (st : State) (k : Look) (cs : List Call) (failed : Option Call) (n : Call → ℕ)
     → AreRising cs → ((c : Call) → meets s st k c ≡ true → list_any (same_call c) cs ≡ true) → ((c : Call) → n c ≡ waiting_fails d r c) → failed ≡ find (λ c. nat_lt 0 (n c)) cs
@@ -173,10 +133,6 @@ no_sooner d r s st k cs failed n rising met told first c waits meets_it =
     let l = found_least (λ c. nat_lt 0 (n c)) cs c rising (met c meets_it) (ap (nat_lt 0) (told c) ∙ (any_counted (is_failing r c) d.fails ∙ waits)) in
     record { call = l.call; is = first ∙ l.is; least = l.least }
 
-unmet : (b : Bool) → (b ≡ true → ⊥) → b ≡ false
-unmet true never = absurd (never refl)
-unmet false never = refl
-
 none_some : (c : Call) → None ≡ Some c → ⊥
 none_some c e = cc
 
@@ -184,10 +140,10 @@ none_before : (d : Driver) (r : ℕ) (s : SetUp) (st : State) (k : Look) (failed
     → (o : Option Call) → failed ≡ o → Each (λ call. fails_at d r call ≡ true → meets s st k call ≡ false) (calls_before o all_calls)
 none_before d r s st k failed least None e =
     Each-from_members (λ call. fails_at d r call ≡ true → meets s st k call ≡ false) all_calls
-    (λ c among waits. unmet (meets s st k c) (λ meets_it. let l = least c waits meets_it in none_some l.call (sym e ∙ l.is)))
+    (λ c among waits. false_from_ne_true (meets s st k c) (λ meets_it. let l = least c waits meets_it in none_some l.call (sym e ∙ l.is)))
 none_before d r s st k failed least (Some x) e =
     Each-weaker (λ c. call_number c < call_number x) (λ call. fails_at d r call ≡ true → meets s st k call ≡ false)
-    (λ c less waits. unmet (meets s st k c) (λ meets_it.
+    (λ c less waits. false_from_ne_true (meets s st k c) (λ meets_it.
     let l = least c waits meets_it in
     not_both (call_number c) (call_number x) less (subst (λ (y : Call). call_number y ≤ call_number c) (same_Some l.call x (sym l.is ∙ e)) l.least)))
     (calls_before (Some x) all_calls)

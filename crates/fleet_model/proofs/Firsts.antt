@@ -4,6 +4,7 @@ use Rattle.std.specs.Prelude.{if◌then◌else◌, nat_lt, replicate, slice_get}
 use Rattle.std.proofs.lemmas.List.{length-map}
 use Rattle.std.proofs.lemmas.Option.{same_Some, slice_get_within}
 use Rattle.annex_base.specs.declared.kinds.Word.{Word}
+use Rattle.annex_base.proofs.Lists.{slice_get-within}
 use Rattle.link_ring.specs.Ends.{EndView, fresh}
 use Rattle.node_model.specs.Ends.{EndName}
 use Rattle.node_model.specs.SetUp.{locks_in, version_in}
@@ -15,7 +16,7 @@ use Rattle.run_data.specs.declared.run.RepoView.{RepoView}
 use Rattle.link_flights.specs.Fleets.{AreEndsIn}
 use Rattle.link_flights.specs.Heard.{HeardSo}
 use Rattle.link_flights.specs.Words.{AreAllWorded}
-use Rattle.driver_model.specs.Driver.{Given, at_first, set_up_of}
+use Rattle.driver_model.specs.Driver.{DriverInput, at_first, set_up_of}
 use Rattle.driver_model.specs.Driving.{run_with}
 use Rattle.driver_model.specs.Sound.{IsSound}
 use Rattle.repo_node.specs.Nodes as nodes
@@ -39,7 +40,7 @@ same_offset [] r repo at = absurd (cc)
 same_offset (x ∷ repos) zero repo at = ap (λ (x : RepoView). x.offset) (same_Some x repo at)
 same_offset (x ∷ repos) (suc r) repo at = same_offset repos r repo at
 
-fits_there : (g : Given) (r : ℕ) (repo : RepoView) → slice_get g.repos r ≡ Some repo → nodes.Fits (setup_of (ids_of g.repos) r repo) (set_up_of g at_first r)
+fits_there : (g : DriverInput) (r : ℕ) (repo : RepoView) → slice_get g.repos r ≡ Some repo → nodes.MatchesSetup (setup_of (ids_of g.repos) r repo) (set_up_of g at_first r)
 fits_there g r repo at = record {
   number = refl;
   ids = refl;
@@ -48,7 +49,7 @@ fits_there g r repo at = record {
   locks = ap locks_in at;
 }
 
-new_node : {K : Type 0} → FirstLaws → (tells : K → StoreView) (g : Given) (r : ℕ) (repo : RepoView) (keeper : K) (n : NodeView K) → slice_get g.repos r ≡ Some repo → IsStoreOf at_first r (tells keeper)
+new_node : {K : Type 0} → FirstLaws → (tells : K → StoreView) (g : DriverInput) (r : ℕ) (repo : RepoView) (keeper : K) (n : NodeView K) → slice_get g.repos r ≡ Some repo → IsStoreOf at_first r (tells keeper)
     → IsNew (setup_of (ids_of g.repos) r repo) keeper n → IsNodeOf tells g at_first r n
 new_node {K} laws tells g r repo keeper n at store new =
     subst (λ (x : NodeView K). IsNodeOf tells g at_first r x) (sym new.node)
@@ -81,15 +82,7 @@ link_fresh count a v at = go (nat_lt a.slot 4) at
 
 -- ---- the fleet
 
-element : {X : Type 0} (xs : List X) (i : ℕ) → i < length xs → (x : X) × (slice_get xs i ≡ Some x)
-element [] i less = absurd (grind arith)
-element (x ∷ xs) zero less = (x, refl)
-element (x ∷ xs) (suc i) less = element xs i (lower i (length xs) less)
-  where
-    lower : (i n : ℕ) → suc i < suc n → i < n
-    lower i n less = grind arith
-
-pub first_comes : {K : Type 0} → FirstLaws → (tells : K → StoreView) (g : Given) (keepers : List K) (f : FleetView K)
+pub first_comes : {K : Type 0} → FirstLaws → (tells : K → StoreView) (g : DriverInput) (keepers : List K) (f : FleetView K)
     → AreNew g.repos keepers f.nodes → length keepers ≡ length g.repos → ((r : ℕ) (keeper : K) → slice_get keepers r ≡ Some keeper → IsStoreOf at_first r (tells keeper))
     → f.run ≡ run_with g at_first → IsSound g at_first → HasCome tells g at_first f
 first_comes {K} laws tells g keepers f new many stores run sound = record {
@@ -110,19 +103,19 @@ first_comes {K} laws tells g keepers f new many stores run sound = record {
 
   node : (r : ℕ) (n : NodeView K) → slice_get f.nodes r ≡ Some n → r < length g.repos → IsNodeOf tells g at_first r n
   node r n at within =
-      let repo = element g.repos r within in
-      let keeper = element keepers r (subst (λ (c : ℕ). r < c) (sym many) within) in
+      let repo = slice_get-within g.repos r within in
+      let keeper = slice_get-within keepers r (subst (λ (c : ℕ). r < c) (sym many) within) in
       new_node laws tells g r repo.0 keeper.0 n repo.1 (stores r keeper.0 keeper.1) (new.each r repo.0 keeper.0 n repo.1 keeper.1 at)
 
   links_fresh : (r : ℕ) (n : NodeView K) → slice_get f.nodes r ≡ Some n → r < length g.repos → n.parts.links ≡ replicate (length g.repos * 8) fresh
   links_fresh r n at within =
-      let repo = element g.repos r within in
-      let keeper = element keepers r (subst (λ (c : ℕ). r < c) (sym many) within) in
+      let repo = slice_get-within g.repos r within in
+      let keeper = slice_get-within keepers r (subst (λ (c : ℕ). r < c) (sym many) within) in
       (new.each r repo.0 keeper.0 n repo.1 keeper.1 at).links ∙ ap (λ (c : ℕ). replicate (c * 8) fresh) (length-map g.repos (λ (x : RepoView). x.id))
 
   at_fresh : (q : ℕ) (a : EndName) (v : EndView) → q < length g.repos → link_at (links_at f.nodes q) a ≡ Some v → link_at (replicate (length g.repos * 8) fresh) a ≡ Some v
   at_fresh q a v within at =
-      let n = element f.nodes q (subst (λ (c : ℕ). q < c) (sym new.count) within) in
+      let n = slice_get-within f.nodes q (subst (λ (c : ℕ). q < c) (sym new.count) within) in
       ap (λ (links : List EndView). link_at links a) (sym (ap ends_in n.1 ∙ links_fresh q n.0 n.1 within)) ∙ at
 
   unused : (q : ℕ) (a : EndName) (v : EndView) (o : Option (NodeView K)) → slice_get f.nodes q ≡ o → link_at (links_at f.nodes q) a ≡ Some v → v ≡ fresh

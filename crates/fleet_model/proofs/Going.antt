@@ -3,9 +3,11 @@ use Rattle.std.proofs.Common.{◌≡◌, ◌≢◌, ◌⊎◌, inl, ℕ, ◌+◌
 use Rattle.std.specs.Prelude.{cond, drop, filter, if◌then◌else◌, reverse}
 use Rattle.std.proofs.lemmas.Bool.Decides.{nat_tests}
 use Rattle.std.proofs.lemmas.List.{append_assoc, reverse-append}
+use Rattle.std.proofs.Math.Seq.{drop-append_seam}
 use Rattle.annex_base.specs.Lists.{Each}
-use Rattle.annex_base.proofs.Lists.{Each-weaker}
+use Rattle.annex_base.proofs.Lists.{Each-append, Each-weaker}
 use Rattle.annex_base.specs.declared.kinds.Call.{Call}
+use Rattle.annex_base.proofs.Conditions.{eqb_refl}
 use Rattle.run_data.specs.declared.entry.Entry.{Entry}
 use Rattle.run_data.specs.declared.entry.By.TheVariants.{Script}
 use Rattle.run_data.specs.declared.entry.EntryKind.{EntryKind}
@@ -18,14 +20,14 @@ use Rattle.link_flights.specs.Heard.{HeardSo}
 use Rattle.run_model.specs.Logs.{branch, branch_after}
 use Rattle.run_model.specs.Past.{Always, is_of, now}
 use Rattle.run_model.specs.Run.{IsSmall}
-use Rattle.driver_model.specs.Driver.{Driver, Given, answers, entry, fails_at, newest_count, notes}
-use Rattle.driver_model.specs.Scripts.{Fit, Fits}
+use Rattle.driver_model.specs.Driver.{Driver, DriverInput, answers, entry, fails_at, newest_count, notes}
+use Rattle.driver_model.specs.Scripts.{IsWithinBounds, HasBoundedPast}
 use Rattle.driver_model.specs.ScriptSteps.{unless_fails, faults}
 use Rattle.fleet_model.specs.Fleets.{IsNodeOf}
 use Rattle.fleet_model.specs.Stores.{IsStoreOf}
 use Rattle.repo_node.specs.Stored.{StoreView}
 use Rattle.fleet_model.proofs.Failing.{unanswered}
-use Rattle.fleet_model.proofs.Noting.{others_stay, same_number}
+use Rattle.fleet_model.proofs.Noting.{others_stay}
 
 -- an entry of this time, with no greater count than this, that isn't too large
 pub record IsWithin (time most : ℕ) (e : Entry) : Type 0 where
@@ -84,29 +86,25 @@ goes_nowhere r d = record {
   quiet = tt;
 }
 
-both : {X : Type 0} (P : X → Type 0) (xs ys : List X) → Each P xs → Each P ys → Each P (xs ++ ys)
-both P [] ys all more = more
-both P (x ∷ xs) ys all more = (all.0, both P xs ys all.1 more)
-
 pub goes_then : (r : ℕ) (a b c : Driver) → GoesOnQuietly r a b → GoesOnQuietly r b c → GoesOnQuietly r a c
 goes_then r a b c x y = record {
   on = record {
     more = y.on.more ++ x.on.more;
     past = y.on.past ∙ (ap (λ (p : List Entry). y.on.more ++ p) x.on.past ∙ sym (append_assoc y.on.more x.on.more a.past));
-    own = both (λ e. is_of r e ≡ true) y.on.more x.on.more y.on.own x.on.own;
+    own = Each-append (λ e. is_of r e ≡ true) y.on.more x.on.more y.on.own x.on.own;
     tree = y.on.tree ∙ x.on.tree;
     marks = y.on.marks ∙ x.on.marks;
     stores = λ q v apart is. y.on.stores q v apart (x.on.stores q v apart is);
     at = y.on.at ∙ x.on.at;
     counted = between (newest_count a.past) (newest_count b.past) (newest_count c.past) x.on.counted y.on.counted;
-    bounds = both (IsWithin (now a.past) (newest_count c.past)) y.on.more x.on.more
+    bounds = Each-append (IsWithin (now a.past) (newest_count c.past)) y.on.more x.on.more
         (subst (λ (t : ℕ). Each (IsWithin t (newest_count c.past)) y.on.more) x.on.at y.on.bounds)
         (Each-weaker (IsWithin (now a.past) (newest_count b.past)) (IsWithin (now a.past) (newest_count c.past))
         (λ e w. record { time_is = w.time_is; counted = between e.count (newest_count b.past) (newest_count c.past) w.counted y.on.counted; small = w.small }) x.on.more x.on.bounds);
     large = λ e. y.on.large (x.on.large e);
   };
   flights = y.flights ∙ x.flights;
-  quiet = both IsQuiet y.on.more x.on.more y.quiet x.quiet;
+  quiet = Each-append IsQuiet y.on.more x.on.more y.quiet x.quiet;
 }
 
 one_more : (n : ℕ) → n ≤ n + 1
@@ -117,7 +115,7 @@ goes_noting r kind lines d small jobless = record {
   on = record {
     more = entry d r kind lines ∷ [];
     past = refl;
-    own = (same_number r, tt);
+    own = (eqb_refl r, tt);
     tree = refl;
     marks = refl;
     stores = λ q v apart is. record { contents = is.contents; parts = is.parts; failing = is.failing };
@@ -179,7 +177,7 @@ others_branch r q (e ∷ more) past apart own =
     ∙ others_branch r q more past apart own.1
 
 -- another repository's node stays its node
-pub others_are : {K : Type 0} (tells : K → StoreView) (g : Given) (d d' : Driver) (r q : ℕ) (m : _) → q ≢ r → GoesOn r d d' → IsNodeOf {K = K} tells g d q m → HeardSo d'.past q (words_at m.parts.jobs.running) → IsNodeOf tells g d' q m
+pub others_are : {K : Type 0} (tells : K → StoreView) (g : DriverInput) (d d' : Driver) (r q : ℕ) (m : _) → q ≢ r → GoesOn r d d' → IsNodeOf {K = K} tells g d q m → HeardSo d'.past q (words_at m.parts.jobs.running) → IsNodeOf tells g d' q m
 others_are tells g d d' r q m apart on is heard = record {
   setup = record { number = is.setup.number; ids = is.setup.ids; offset = is.setup.offset; version = is.setup.version; locks = is.setup.locks };
   history = is.history ∙ ap reverse (sym (ap (filter (is_of q)) on.past ∙ others_past r q on.more d.past apart on.own));
@@ -196,10 +194,6 @@ own_all : (r : ℕ) (more past : List Entry) → Each (λ e. is_of r e ≡ true)
 own_all r [] past own = refl
 own_all r (e ∷ more) past own = ap (λ (b : Bool). cond b (e ∷ filter (is_of r) (more ++ past)) (filter (is_of r) (more ++ past))) own.0 ∙ ap (λ (xs : List Entry). e ∷ xs) (own_all r more past own.1)
 
-dropped : {X : Type 0} (xs ys : List X) → drop (length xs) (xs ++ ys) ≡ ys
-dropped [] ys = refl
-dropped (x ∷ xs) ys = dropped xs ys
-
 -- its new entries are the run's
 pub entries_go_on : (r : ℕ) (d d' : Driver) (was after : List Entry) → GoesOn r d d' → was ≡ reverse (filter (is_of r) d.past) → after ≡ reverse (filter (is_of r) d'.past)
     → reverse d'.past ≡ reverse d.past ++ drop (length was) after
@@ -211,11 +205,11 @@ entries_go_on r d d' was after on before now_is =
         ∙ (ap reverse (own_all r on.more d.past on.own) ∙ (reverse-append on.more (filter (is_of r) d.past) ∙ ap (λ (xs : List Entry). xs ++ reverse on.more) (sym before))))
 
     news : drop (length was) after ≡ reverse on.more
-    news = ap (drop (length was)) whole ∙ dropped was (reverse on.more)
+    news = ap (drop (length was)) whole ∙ drop-append_seam was (reverse on.more)
 
 -- ---- bounds
 
-all_within : (time most : ℕ) (more past : List Entry) → Each (IsWithin time most) more → time ≤ 1000000000000 → most < 2 ^ 62 → Always Fit past → Always Fit (more ++ past)
+all_within : (time most : ℕ) (more past : List Entry) → Each (IsWithin time most) more → time ≤ 1000000000000 → most < 2 ^ 62 → Always IsWithinBounds past → Always IsWithinBounds (more ++ past)
 all_within time most [] past within early few fits = fits
 all_within time most (e ∷ more) past within early few fits = (
   record { in_time = subst (λ (t : ℕ). t ≤ 1000000000000) (sym within.0.time_is) early; counted = below e.count most within.0.counted few; small = within.0.small },
@@ -225,6 +219,6 @@ all_within time most (e ∷ more) past within early few fits = (
     below : (a b : ℕ) → a ≤ b → b < 2 ^ 62 → a < 2 ^ 62
     below a b x y = grind arith
 
-pub goes_within : (r : ℕ) (d d' : Driver) → Fits d → GoesOn r d d' → now d'.past ≤ 1000000000000 → newest_count d'.past < 2 ^ 62 → Fits d'
+pub goes_within : (r : ℕ) (d d' : Driver) → HasBoundedPast d → GoesOn r d d' → now d'.past ≤ 1000000000000 → newest_count d'.past < 2 ^ 62 → HasBoundedPast d'
 goes_within r d d' fits on early few =
-    (subst (Always Fit) (sym on.past) (all_within (now d.past) (newest_count d'.past) on.more d.past on.bounds (subst (λ (t : ℕ). t ≤ 1000000000000) on.at early) few fits.0), on.large fits.1)
+    (subst (Always IsWithinBounds) (sym on.past) (all_within (now d.past) (newest_count d'.past) on.more d.past on.bounds (subst (λ (t : ℕ). t ≤ 1000000000000) on.at early) few fits.0), on.large fits.1)

@@ -2,7 +2,8 @@
 use Rattle.std.proofs.Common.{◌≡◌, ◌≢◌, ℕ, ◌+◌, ◌≤◌, Bool, true, false, [], ◌++◌, Some, None, length, refl, sym, ap, ◌∙◌, subst, arith}
 use Rattle.std.specs.Prelude.{◌==◌, drop, flat_map, is_some, reverse, slice_get}
 use Rattle.std.specs.Option.{option_to_list}
-use Rattle.node_model.specs.After.{Agrees}
+use Rattle.std.proofs.lemmas.Bool.{eqb-false, eqb-true}
+use Rattle.node_model.specs.After.{AgreesAtDrops}
 use Rattle.node_model.specs.AnyTime.{all_ends}
 use Rattle.node_model.specs.Ends.{EndName}
 use Rattle.node_model.specs.Look.{Look}
@@ -11,7 +12,7 @@ use Rattle.node_model.specs.State.{State}
 use Rattle.node_model.specs.Step.{step}
 use Rattle.node_ends.specs.Ends.{hand_at, link_at, room_at}
 use Rattle.node_parts.specs.Parts.{AreParts}
-use Rattle.driver_model.specs.Driver.{Driver, Given, frames_to, has_room, newest_count, set_up_of, state_at}
+use Rattle.driver_model.specs.Driver.{Driver, DriverInput, frames_to, has_room, newest_count, set_up_of, state_at}
 use Rattle.driver_model.specs.Finding.{driver_at_turn}
 use Rattle.driver_model.specs.Sound.{IsSound, StaysSound}
 use Rattle.driver_model.specs.Turning.{at_hand, plain_look, turn}
@@ -25,7 +26,6 @@ use Rattle.link_flights.specs.Words.{AreAllWorded}
 use Rattle.node_jobs.specs.Running.{words_at}
 use Rattle.fleet_model.specs.Fleets.{AreUnused, FleetView, HasCome, IsNodeOf, links_at}
 use Rattle.fleet_model.specs.Steps.{OneTurns, with_links}
-use Rattle.fleet_model.proofs.Coming.{same, unlike}
 use Rattle.fleet_model.proofs.Going.{GoesOn, entries_go_on, others_are}
 use Rattle.fleet_model.proofs.Looking.{LookLaws}
 use Rattle.fleet_model.proofs.Noting.{IsRaised, is_node}
@@ -33,7 +33,7 @@ use Rattle.fleet_model.proofs.States.{state_is, step_is}
 use Rattle.fleet_model.proofs.Turned.{linked}
 
 -- a node that finds no step ready stands where the driver finds none
-pub none_ready : {K : Type 0} → LookLaws → (tells : K → StoreView) (g : Given) (d : Driver) (r : ℕ) (n : NodeView K) → IsSound g d → IsRaised tells g d r n
+pub none_ready : {K : Type 0} → LookLaws → (tells : K → StoreView) (g : DriverInput) (d : Driver) (r : ℕ) (n : NodeView K) → IsSound g d → IsRaised tells g d r n
     → AreParts (set_up_of g d r) (nodes.state_of (set_up_of g d r) n.history) n.parts → AreOwnEndsIn d.flights (set_up_of g d r) n.parts.links
     → ((a : EndName) → is_some (link_at n.parts.links a) ≡ true → has_room r (driver_at_turn g r d).flights a ≡ room_at n.parts.links a)
     → IsIdle n (set_up_of g d r) → step (set_up_of g d r) (state_at g d r) (plain_look (set_up_of g d r) (driver_at_turn g r d)) ≡ None
@@ -50,7 +50,7 @@ none_ready {K} laws tells g d r n sound raised parts own rooms idle =
     k : Look
     k = plain_look s (driver_at_turn g r d)
 
-    agrees : Agrees st (nodes.state_of s n.history)
+    agrees : AgreesAtDrops st (nodes.state_of s n.history)
     agrees = state_is laws.carried g d r n sound raised.entries.history
 
     node_hand : flat_map (λ a. option_to_list (hand_at n.parts.links a)) (all_ends s) ≡ at_hand s (frames_to r (driver_at_turn g r d).flights)
@@ -58,7 +58,7 @@ none_ready {K} laws tells g d r n sound raised parts own rooms idle =
         (record { count = parts.ends.count; ends = λ a among. ap (λ (x : State). x.ends a) agrees.same ∙ parts.ends.ends a among }) own (record { at_hand = refl; room = λ a there. refl })
 
 -- it drops what is old, and nothing else changes
-dropping_goes : (g : Given) (d : Driver) (r : ℕ) → GoesOn r d (driver_at_turn g r d)
+dropping_goes : (g : DriverInput) (d : Driver) (r : ℕ) → GoesOn r d (driver_at_turn g r d)
 dropping_goes g d r = record {
   more = [];
   past = refl;
@@ -74,7 +74,7 @@ dropping_goes g d r = record {
   least : (n : ℕ) → n ≤ n
   least n = grind arith
 
-pub turned_idly : {K : Type 0} (tells : K → StoreView) (g : Given) (d : Driver) (r : ℕ) (n m : NodeView K) (was after : FleetView K)
+pub turned_idly : {K : Type 0} (tells : K → StoreView) (g : DriverInput) (d : Driver) (r : ℕ) (n m : NodeView K) (was after : FleetView K)
     → HasCome tells g d was → OneTurns r n m was after → turn g r d ≡ driver_at_turn g r d → IsRaised tells g d r m
     → AreEndsIn (driver_at_turn g r d).flights (length g.repos) (links_at after.nodes) → AreAllWorded d.past (length g.repos) (links_at after.nodes) → HeardSo d.past r (words_at m.parts.jobs.running) → AreUnused (links_at after.nodes)
     → StaysSound g d (turn g r d) → HasCome tells g (turn g r d) after
@@ -114,12 +114,12 @@ turned_idly {K} tells g d r n m was after h step is own ends words heard selves 
 
     by_number : (q : ℕ) (x : NodeView K) → slice_get after.nodes q ≡ Some x → (b : Bool) → (q == r) ≡ b → IsNodeOf tells g d' q x
     by_number q x at true e =
-        let here : q ≡ r = same q r e in
+        let here : q ≡ r = eqb-true q r e in
         let node : x ≡ with_links m x.parts.links = step.there x (ap (slice_get after.nodes) (sym here) ∙ at) in
         subst (λ (p : ℕ). IsNodeOf tells g d' p x) (sym here)
         (subst (λ (y : NodeView K). IsNodeOf tells g d' r y) (sym node) (linked tells g d' r m x.parts.links (as_before (is_node tells g d r m own heard))))
     by_number q x at false e =
-        let apart : q ≢ r = unlike q r e in
+        let apart : q ≢ r = eqb-false q r e in
         let y = step.others q x apart at in
         subst (λ (z : NodeView K). IsNodeOf tells g d' q z) (sym y.2)
         (linked tells g d' q y.0 x.parts.links (others_are tells g d d' r q y.0 apart on (h.each q y.0 y.1) (h.each q y.0 y.1).heard))

@@ -5,18 +5,19 @@ use Rattle.std.specs.Option.{option_map_or}
 use Rattle.std.proofs.lemmas.Bool.Decides.{nat_tests}
 use Rattle.annex_base.specs.Lists.{Each}
 use Rattle.annex_base.proofs.Lists.{Each-member}
+use Rattle.annex_base.proofs.Conditions.{eqb_refl}
 use Rattle.drop_worker.specs.Working.{words_of}
 use Rattle.run_data.specs.declared.entry.Entry.{Entry}
 use Rattle.run_data.specs.declared.entry.EntryKind.TheVariants as kinds
 use Rattle.run_data.specs.declared.job.Job.{Job}
 use Rattle.run_model.specs.Past.{begun_count}
 use Rattle.run_model.specs.States.{works}
-use Rattle.node_model.specs.After.{Agrees}
+use Rattle.node_model.specs.After.{AgreesAtDrops}
 use Rattle.node_model.specs.Jobs.{Work}
 use Rattle.node_jobs.specs.Acting.{new_worker, with_job}
 use Rattle.node_jobs.specs.Running.{AreWorks, DropJob, Jobs, words_at}
 use Rattle.link_flights.specs.Heard.{HeardSo, SameWords}
-use Rattle.driver_model.specs.Driver.{Driver, Given, entry, notes, set_up_of, state_at}
+use Rattle.driver_model.specs.Driver.{Driver, DriverInput, entry, notes, set_up_of, state_at}
 use Rattle.driver_model.specs.ScriptSteps.{begins}
 use Rattle.driver_model.specs.Sound.{StaysSound}
 use Rattle.repo_node.specs.Nodes as nodes
@@ -28,7 +29,7 @@ use Rattle.fleet_model.proofs.Beginning.{begins_nowhere, begins_there, begun, ha
 use Rattle.fleet_model.proofs.Coming.{came}
 use Rattle.fleet_model.proofs.Directs.{comes_directly}
 use Rattle.fleet_model.proofs.Hearing.{WordLaws}
-use Rattle.fleet_model.proofs.Noting.{IsRaised, same_number}
+use Rattle.fleet_model.proofs.Noting.{IsRaised}
 use Rattle.fleet_model.proofs.Raising.{raised_is}
 use Rattle.fleet_model.proofs.ScriptGoing.{goes_begins}
 
@@ -50,9 +51,9 @@ same_words past r jobs what counted numbers w c among =
 
 -- ---- it begins
 
-pub begin_comes : {K : Type 0} → WordLaws → (tells : K → StoreView) (g : Given) (d : Driver) (r : ℕ) (n m : NodeView K) (was after : FleetView K) (number : ℕ) (job : Job)
+pub begin_comes : {K : Type 0} → WordLaws → (tells : K → StoreView) (g : DriverInput) (d : Driver) (r : ℕ) (n m : NodeView K) (was after : FleetView K) (number : ℕ) (job : Job)
     → HasCome tells g d was → OneGoesOn r n m was after
-    → Agrees (state_at g d r) (nodes.state_of (set_up_of g d r) n.history) → AreWorks (set_up_of g d r) (nodes.state_of (set_up_of g d r) n.history) n.parts.jobs
+    → AgreesAtDrops (state_at g d r) (nodes.state_of (set_up_of g d r) n.history) → AreWorks (set_up_of g d r) (nodes.state_of (set_up_of g d r) n.history) n.parts.jobs
     → Each (λ w. w.number ≤ begun_count d.past r) (works d.past r)
     → number ≡ n.parts.jobs.begun + 1 → length n.parts.jobs.running < 4 → m ≡ begun (raised d n) number job
     → m.time ≤ 1000000000000 → m.count < 2 ^ 62 → StaysSound g d (begins r job d) → HasCome tells g (begins r job d) after
@@ -65,14 +66,14 @@ begin_comes {K} laws tells g d r n m was after number job h step agrees are numb
     (subst (λ (b : Bool). HeardSo (if b then notes r (kinds.Begin (begun_count d.past r + 1) job) [] d else d).past r (words_at (with_job n.parts.jobs job).running))
     (sym (has_slot g d r n.history n.parts.jobs agrees are free))
     (laws.begun d.past (entry d r (kinds.Begin (begun_count d.past r + 1) job) []) r (begun_count d.past r + 1) job (words_at n.parts.jobs.running) (words_at (with_job n.parts.jobs job).running)
-    (same_number r) refl refl (same_words d.past r n.parts.jobs job (same_begun g d r n.history n.parts.jobs agrees are) numbers) (h.each r n step.before).heard)))
+    (eqb_refl r) refl refl (same_words d.past r n.parts.jobs job (same_begun g d r n.history n.parts.jobs agrees are) numbers) (h.each r n step.before).heard)))
     early few sound
 
 -- ---- it doesn't
 
-pub begin_stops : {K : Type 0} → WordLaws → (tells : K → StoreView) (g : Given) (d : Driver) (r : ℕ) (n m : NodeView K) (was after : FleetView K) (job : Job)
+pub begin_stops : {K : Type 0} → WordLaws → (tells : K → StoreView) (g : DriverInput) (d : Driver) (r : ℕ) (n m : NodeView K) (was after : FleetView K) (job : Job)
     → HasCome tells g d was → OneGoesOn r n m was after
-    → Agrees (state_at g d r) (nodes.state_of (set_up_of g d r) n.history) → AreWorks (set_up_of g d r) (nodes.state_of (set_up_of g d r) n.history) n.parts.jobs
+    → AgreesAtDrops (state_at g d r) (nodes.state_of (set_up_of g d r) n.history) → AreWorks (set_up_of g d r) (nodes.state_of (set_up_of g d r) n.history) n.parts.jobs
     → 4 ≤ length n.parts.jobs.running → m ≡ raised d n
     → m.time ≤ 1000000000000 → m.count < 2 ^ 62 → StaysSound g d (begins r job d) → HasCome tells g (begins r job d) after
 begin_stops {K} laws tells g d r n m was after job h step agrees are full is early few sound =

@@ -45,6 +45,7 @@ pub mod Bounds
 pub mod Rounds
 pub mod PiecesGiven
 pub mod TurnComes
+pub mod Resting
 pub mod StopLaws
 pub mod StopPasts
 pub mod StopSteps

@@ -13,8 +13,8 @@ use Rattle.run_data.specs.declared.entry.LogFile.{LogFile}
 use Rattle.run_data.specs.Files.{file_path}
 use Rattle.union_merge.specs.Branch.{Files, lines_at, merged_file}
 use Rattle.union_merge.specs.LineSet.{difference}
-use Rattle.driver_model.specs.Driver.{Driver, Given, answers, fails_at, notes}
-use Rattle.driver_model.specs.ScriptSteps.{faults, logs, logs_some, unknown}
+use Rattle.driver_model.specs.Driver.{Driver, DriverInput, answers, fails_at, notes}
+use Rattle.driver_model.specs.ScriptSteps.{faults, logs, logs_some, unknown_lines}
 use Rattle.repo_node.specs.Calls.{to_log, to_write}
 use Rattle.repo_node.specs.Logs.{with_log}
 use Rattle.repo_node.specs.Nodes.{NodeView, with_entry}
@@ -40,7 +40,7 @@ none_fewer None = refl
 none_fewer (Some n) = refl
 
 -- new lines, of which the node knows that they are new
-add_some : {K : Type 0} (tells : K → StoreView) (g : Given) (d : Driver) (r : ℕ) (n m : NodeView K) (file : LogFile) (line : List ℕ) (lines : List (List ℕ)) (failed : Option Call)
+add_some : {K : Type 0} (tells : K → StoreView) (g : DriverInput) (d : Driver) (r : ℕ) (n m : NodeView K) (file : LogFile) (line : List ℕ) (lines : List (List ℕ)) (failed : Option Call)
     → IsRaised tells g d r n
     → StaysStored (tells n.keeper) (tells m.keeper) → MakesCalls (calls.PutFile ∷ []) failed (tells n.keeper).failing (tells m.keeper).failing
     → (failed ≡ None → m ≡ with_entry n m.keeper (merged_file n.branch (file_path file) (line ∷ lines)) (kinds.Log file) (line ∷ lines))
@@ -72,7 +72,7 @@ positive : (n : ℕ) → nat_lt 0 (suc n) ≡ true
 positive n = grind (arith, nat_tests)
 
 -- these lines, of which those that the file lacks are these
-log_new : {K : Type 0} (tells : K → StoreView) (g : Given) (d : Driver) (r : ℕ) (n m : NodeView K) (file : LogFile) (failed : Option Call) → IsRaised tells g d r n
+log_new : {K : Type 0} (tells : K → StoreView) (g : DriverInput) (d : Driver) (r : ℕ) (n m : NodeView K) (file : LogFile) (failed : Option Call) → IsRaised tells g d r n
     → StaysStored (tells n.keeper) (tells m.keeper) → (new : List (List ℕ)) → MakesCalls (to_write (nat_lt 0 (length new))) failed (tells n.keeper).failing (tells m.keeper).failing
     → (failed ≡ None → m ≡ with_log n m.keeper file new) → ((call : Call) → failed ≡ Some call → RefusesSo refusals.StoreFault call n m) → IsRaised tells g (logs_some r file new d) r m
 log_new {K} tells g d r n m file failed raised stays [] made well fails =
@@ -81,9 +81,9 @@ log_new tells g d r n m file failed raised stays (line ∷ lines) made well fail
     add_some tells g d r n m file line lines failed raised stays
     (subst (λ (b : Bool). MakesCalls (to_write b) failed (tells n.keeper).failing (tells m.keeper).failing) (positive (length lines)) made) well fails
 
-pub logged : {K : Type 0} (tells : K → StoreView) (g : Given) (d : Driver) (r : ℕ) (n m : NodeView K) (file : LogFile) (lines : List (List ℕ)) (failed : Option Call) → IsRaised tells g d r n
+pub logged : {K : Type 0} (tells : K → StoreView) (g : DriverInput) (d : Driver) (r : ℕ) (n m : NodeView K) (file : LogFile) (lines : List (List ℕ)) (failed : Option Call) → IsRaised tells g d r n
     → StaysStored (tells n.keeper) (tells m.keeper) → MakesCalls (to_log n file lines) failed (tells n.keeper).failing (tells m.keeper).failing → HasLogged file lines failed n m
-    → IsRaised tells g (logs_some r file (unknown d r file lines) d) r m
+    → IsRaised tells g (logs_some r file (unknown_lines d r file lines) d) r m
 logged {K} tells g d r n m file lines failed raised stays made is =
     subst (λ (new : List (List ℕ)). IsRaised tells g (logs_some r file new d) r m) (ap (λ (b : Files). difference lines (lines_at b (file_path file))) raised.entries.branch)
     (log_new tells g d r n m file failed raised stays (difference lines (lines_at n.branch (file_path file))) made

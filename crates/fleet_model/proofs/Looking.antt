@@ -10,7 +10,7 @@ use Rattle.run_data.specs.declared.entry.EntryKind.{EntryKind}
 use Rattle.run_data.specs.declared.entry.EntryKind.TheVariants.{Fault}
 use Rattle.run_data.specs.declared.entry.FrameView.{FrameView}
 use Rattle.run_model.specs.Past.{now}
-use Rattle.node_model.specs.After.{Agrees}
+use Rattle.node_model.specs.After.{AgreesAtDrops}
 use Rattle.node_model.specs.AnyTime.{all_ends}
 use Rattle.node_model.specs.Ends.{EndName}
 use Rattle.node_model.specs.Look.{Look, Made, entry_of, failing}
@@ -21,7 +21,7 @@ use Rattle.node_model.specs.Step.{step}
 use Rattle.node_ends.specs.Ends.{AreEnds, SeesEnds, hand_at, link_at, room_at}
 use Rattle.drop_worker.specs.Working.{failed_in}
 use Rattle.node_parts.specs.Parts.{AreParts}
-use Rattle.driver_model.specs.Driver.{Driver, Given, frames_to, has_room, newest_count, set_up_of, state_at, without_old_flights}
+use Rattle.driver_model.specs.Driver.{Driver, DriverInput, frames_to, has_room, newest_count, set_up_of, state_at, without_old_flights}
 use Rattle.driver_model.specs.Finding.{FailsFirst, IsLookFor, MakesStep, driver_at_turn, failed_call}
 use Rattle.driver_model.specs.Sound.{IsSound}
 use Rattle.driver_model.specs.Turning.{asked_key, at_hand, makes_fault, meets, part_right, part_size, plain_look, told_words}
@@ -83,7 +83,7 @@ met_is_made laws s st st' k c alike met = go (list_any (same_call c) (step_calls
 -- ---- the step
 
 -- the driver's step, as the node made it: its entry is the node's last
-pub record TurnMade {K : Type 0} (g : Given) (d : Driver) (r : ℕ) (n m : NodeView K) (kind : EntryKind) (taken : Option FrameView) : Type 0 where
+pub record TurnMade {K : Type 0} (g : DriverInput) (d : Driver) (r : ℕ) (n m : NodeView K) (kind : EntryKind) (taken : Option FrameView) : Type 0 where
   pub made : Made
   pub kind_is : made.kind ≡ kind
   pub taken_is : made.taken ≡ taken
@@ -93,10 +93,10 @@ pub record TurnMade {K : Type 0} (g : Given) (d : Driver) (r : ℕ) (n m : NodeV
   pub adds : m.history ≡ n.history ++ entry_of r (plain_look (set_up_of g d r) (driver_at_turn g r d)) made ∷ []
 
 -- the store is the driver's, whatever flies
-store_at_turn : (g : Given) (d : Driver) (r : ℕ) (v : StoreView) → IsStoreOf d r v → IsStoreOf (driver_at_turn g r d) r v
+store_at_turn : (g : DriverInput) (d : Driver) (r : ℕ) (v : StoreView) → IsStoreOf d r v → IsStoreOf (driver_at_turn g r d) r v
 store_at_turn g d r v is = record { contents = is.contents; parts = is.parts; failing = is.failing }
 
-pub node_makes_step : {K : Type 0} → LookLaws → (tells : K → StoreView) (g : Given) (d : Driver) (r : ℕ) (n m : NodeView K) → IsSound g d → IsRaised tells g d r n → DecidesMatches g
+pub node_makes_step : {K : Type 0} → LookLaws → (tells : K → StoreView) (g : DriverInput) (d : Driver) (r : ℕ) (n m : NodeView K) → IsSound g d → IsRaised tells g d r n → DecidesMatches g
     → AreParts (set_up_of g d r) (nodes.state_of (set_up_of g d r) n.history) n.parts → AreOwnEndsIn d.flights (set_up_of g d r) n.parts.links
     → ((a : EndName) → is_some (link_at n.parts.links a) ≡ true → has_room r (driver_at_turn g r d).flights a ≡ room_at n.parts.links a)
     → ((made : Made) → AgreeWhereRead (set_up_of g d r) (state_at g d r) made (words_by n made.kind) (told_words d.past r made.kind))
@@ -125,7 +125,7 @@ node_makes_step {K} laws tells g d r n m sound raised decides parts own rooms wo
   v : StoreView
   v = tells n.keeper
 
-  agrees : Agrees st st'
+  agrees : AgreesAtDrops st st'
   agrees = state_is laws.carried g d r n sound raised.entries.history
 
   alike : (k : Look) → step s st k ≡ step s st' k

@@ -1,14 +1,14 @@
 -- One more entry of a repository that takes and sends nothing, in its node and in the driver.
 use Rattle.std.proofs.Common.{◌≡◌, ◌≢◌, ℕ, ◌+◌, ◌≤◌, Bool, true, false, List, [], ◌∷◌, ◌++◌, Some, None, sym, ap, ◌∙◌, subst, arith}
 use Rattle.std.specs.Prelude.{◌==◌, cond, filter, if◌then◌else◌, reverse}
-use Rattle.std.proofs.lemmas.Bool.Decides.{nat_tests}
 use Rattle.std.proofs.lemmas.Grind.{reverse_onto}
+use Rattle.annex_base.proofs.Conditions.{eqb_refl}
 use Rattle.run_data.specs.declared.entry.Entry.{Entry}
 use Rattle.run_data.specs.declared.entry.EntryKind.{EntryKind}
 use Rattle.union_merge.specs.Branch.{Files}
 use Rattle.run_model.specs.Logs.{branch, branch_after}
 use Rattle.run_model.specs.Past.{is_of, now}
-use Rattle.driver_model.specs.Driver.{Driver, Given, entry, newest_count, notes, set_up_of}
+use Rattle.driver_model.specs.Driver.{Driver, DriverInput, entry, newest_count, notes, set_up_of}
 use Rattle.node_jobs.specs.Running.{words_at}
 use Rattle.link_flights.specs.Heard.{HeardSo}
 use Rattle.repo_node.specs.Nodes as nodes
@@ -19,12 +19,6 @@ use Rattle.fleet_model.specs.Stores.{IsStoreOf}
 use Rattle.repo_node.specs.Stored.{StoreView}
 
 -- ---- the entries of a repository
-
-pub same_number : (r : ℕ) → (r == r) ≡ true
-same_number r = grind (arith, nat_tests)
-
-pub other_number : (r q : ℕ) → q ≢ r → (r == q) ≡ false
-other_number r q other = grind (arith, nat_tests)
 
 pub own_more : (r : ℕ) (e : Entry) (past : List Entry) → is_of r e ≡ true → reverse (filter (is_of r) (e ∷ past)) ≡ reverse (filter (is_of r) past) ++ e ∷ []
 own_more r e past own =
@@ -41,22 +35,22 @@ same_entry d r n kind lines number time count =
     λ i. record { time = time i; count = count i + 1; repo = Some (sym number i); kind = kind; taken = None; sent = []; lines = lines }
 
 -- the node is what the driver says of r, but for its store, and knows the time and the count of the newest entry
-pub record HasEntriesOf {K : Type 0} (g : Given) (d : Driver) (r : ℕ) (n : NodeView K) : Type 0 where
-  pub setup : nodes.Fits n.setup (set_up_of g d r)
+pub record HasEntriesOf {K : Type 0} (g : DriverInput) (d : Driver) (r : ℕ) (n : NodeView K) : Type 0 where
+  pub setup : nodes.MatchesSetup n.setup (set_up_of g d r)
   pub history : n.history ≡ reverse (filter (is_of r) d.past)
   pub branch : n.branch ≡ branch d.past r
   pub time : n.time ≡ now d.past
   pub count : n.count ≡ newest_count d.past
 
 -- so, with its store
-pub record IsRaised {K : Type 0} (tells : K → StoreView) (g : Given) (d : Driver) (r : ℕ) (n : NodeView K) : Type 0 where
+pub record IsRaised {K : Type 0} (tells : K → StoreView) (g : DriverInput) (d : Driver) (r : ℕ) (n : NodeView K) : Type 0 where
   pub entries : HasEntriesOf g d r n
   pub store : IsStoreOf d r (tells n.keeper)
 
 no_more : (n m : ℕ) → n ≡ m → n ≤ m
 no_more n m e = grind arith
 
-pub is_node : {K : Type 0} (tells : K → StoreView) (g : Given) (d : Driver) (r : ℕ) (n : NodeView K) → IsRaised tells g d r n → HeardSo d.past r (words_at n.parts.jobs.running) → IsNodeOf tells g d r n
+pub is_node : {K : Type 0} (tells : K → StoreView) (g : DriverInput) (d : Driver) (r : ℕ) (n : NodeView K) → IsRaised tells g d r n → HeardSo d.past r (words_at n.parts.jobs.running) → IsNodeOf tells g d r n
 is_node tells g d r n raised heard = record {
   setup = raised.entries.setup;
   history = raised.entries.history;
@@ -68,11 +62,11 @@ is_node tells g d r n raised heard = record {
 }
 
 -- the driver may have changed beside its entries before
-pub noted_entry : {K : Type 0} (g : Given) (d d0 : Driver) (r : ℕ) (n : NodeView K) (keeper : K) (files : Files) (kind : EntryKind) (lines : List (List ℕ))
+pub noted_entry : {K : Type 0} (g : DriverInput) (d d0 : Driver) (r : ℕ) (n : NodeView K) (keeper : K) (files : Files) (kind : EntryKind) (lines : List (List ℕ))
     → HasEntriesOf g d r n → d0.past ≡ d.past → files ≡ branch_after n.branch kind lines → HasEntriesOf g (notes r kind lines d0) r (with_entry n keeper files kind lines)
 noted_entry g d d0 r n keeper files kind lines node same file =
     let e : Entry = entry d0 r kind lines in
-    let own : is_of r e ≡ true = same_number r in
+    let own : is_of r e ≡ true = eqb_refl r in
     let time0 : n.time ≡ now d0.past = node.time ∙ ap now (sym same) in
     let count0 : n.count ≡ newest_count d0.past = node.count ∙ ap newest_count (sym same) in
     let is_entry : next_entry n kind lines ≡ e = same_entry d0 r n kind lines node.setup.number time0 count0 in
@@ -86,13 +80,13 @@ noted_entry g d d0 r n keeper files kind lines node same file =
       count = ap (λ (c : ℕ). c + 1) count0;
     }
 
-pub noted : {K : Type 0} (tells : K → StoreView) (g : Given) (d d0 : Driver) (r : ℕ) (n : NodeView K) (keeper : K) (files : Files) (kind : EntryKind) (lines : List (List ℕ))
+pub noted : {K : Type 0} (tells : K → StoreView) (g : DriverInput) (d d0 : Driver) (r : ℕ) (n : NodeView K) (keeper : K) (files : Files) (kind : EntryKind) (lines : List (List ℕ))
     → IsRaised tells g d r n → d0.past ≡ d.past → files ≡ branch_after n.branch kind lines → IsStoreOf (notes r kind lines d0) r (tells keeper)
     → IsRaised tells g (notes r kind lines d0) r (with_entry n keeper files kind lines)
 noted tells g d d0 r n keeper files kind lines raised same file store = record { entries = noted_entry g d d0 r n keeper files kind lines raised.entries same file; store = store }
 
 -- the node over another store
-pub over_store : {K : Type 0} (tells : K → StoreView) (g : Given) (d d' : Driver) (r : ℕ) (n : NodeView K) (keeper : K) → IsRaised tells g d r n → IsStoreOf d' r (tells keeper)
+pub over_store : {K : Type 0} (tells : K → StoreView) (g : DriverInput) (d d' : Driver) (r : ℕ) (n : NodeView K) (keeper : K) → IsRaised tells g d r n → IsStoreOf d' r (tells keeper)
     → d' ≡ record d { contents = d'.contents; parts = d'.parts; largest = d'.largest } → IsRaised tells g d' r (over keeper n)
 over_store {K} tells g d d' r n keeper is store but =
     subst (λ (x : Driver). IsRaised tells g x r (over keeper n)) (sym but)

@@ -23,7 +23,7 @@ use Rattle.p2p_server.specs.declared.incoming.Incoming.TheVariants as incoming
 use Rattle.p2p_server.specs.declared.session.Session.{Session}
 use Rattle.p2p_server.specs.Talking.{Brings, heard_line, SeesPart, SeesPartOf, SeesTaken, Tells, doing_of, session_of}
 use Rattle.node_sessions.specs.Serving.{SeesPartAt}
-use Rattle.driver_model.specs.Driver.{Driver, Given, end_to, part_at}
+use Rattle.driver_model.specs.Driver.{Driver, DriverInput, end_to, part_at}
 use Rattle.driver_model.specs.Turning.{asked_key, filled_key, part_right, part_size, put_key, session_key, step_key}
 use Rattle.fleet_model.specs.Matches.{DecidesMatches}
 use Rattle.fleet_model.specs.Stores.{IsTold}
@@ -40,7 +40,7 @@ session_key_is st m x f same no_job taken =
     ∙ (ap (λ (o : Option FrameView). session_key st o) taken ∙ ap (λ (y : sessions.Session). key_asked y.doing (line_in f.body)) (sym same))
 
 -- what the store tells of the part that has come is the driver's
-taken_right : (g : Given) (d : Driver) (r : ℕ) (known : Option Parts) (t : Taken) (right : Bool) → DecidesMatches g → IsTold known (λ p. (key : List ℕ) → p key ≡ part_at d r key)
+taken_right : (g : DriverInput) (d : Driver) (r : ℕ) (known : Option Parts) (t : Taken) (right : Bool) → DecidesMatches g → IsTold known (λ p. (key : List ℕ) → p key ≡ part_at d r key)
     → SeesTaken known t right → SeesTaken known t (g.matches t.fill (part_at d r t.fill))
 taken_right g d r None t right decides told sees = absurd sees
 taken_right g d r (Some p) t right decides told sees =
@@ -51,7 +51,7 @@ told_size d r None key told = absurd told
 told_size d r (Some p) key told = ap length (sym (told key))
 
 -- where a message comes
-message_sees : (g : Given) (d : Driver) (r : ℕ) (known : Option Parts) (doing : Doing) (m : Message) (part : ℕ) (right : Bool) → DecidesMatches g
+message_sees : (g : DriverInput) (d : Driver) (r : ℕ) (known : Option Parts) (doing : Doing) (m : Message) (part : ℕ) (right : Bool) → DecidesMatches g
     → IsTold known (λ p. (key : List ℕ) → p key ≡ part_at d r key) → SeesPart known doing (incoming.Message m) part right
     → SeesPart known doing (incoming.Message m) (part_size d r (key_asked (doing_of doing) (Some m))) (part_right g d r (key_asked (doing_of doing) (Some m)))
 message_sees g d r known (doings.Took t) Valid part right decides told sees = taken_right g d r known t right decides told sees
@@ -69,7 +69,7 @@ unasked known (doings.Took t) i part right none = tt
 unasked known doing i part right none = tt
 
 -- where a frame comes
-frame_sees : (g : Given) (d : Driver) (r : ℕ) (known : Option Parts) (doing : Doing) (body : FrameText) (i : Incoming) (part : ℕ) (right : Bool) → DecidesMatches g
+frame_sees : (g : DriverInput) (d : Driver) (r : ℕ) (known : Option Parts) (doing : Doing) (body : FrameText) (i : Incoming) (part : ℕ) (right : Bool) → DecidesMatches g
     → IsTold known (λ p. (key : List ℕ) → p key ≡ part_at d r key) → Brings body i → SeesPart known doing i part right
     → SeesPart known doing i (part_size d r (key_asked (doing_of doing) (line_in body))) (part_right g d r (key_asked (doing_of doing) (line_in body)))
 frame_sees g d r known doing body (incoming.Message m) part right decides told brings sees = go body brings
@@ -91,7 +91,7 @@ frame_sees g d r known doing body i part right decides told brings sees =
     unasked known doing i (part_size d r (key_asked (doing_of doing) (line_in body))) (part_right g d r (key_asked (doing_of doing) (line_in body))) tt
 
 -- what the store's part is, the driver says
-pub part_asked : (g : Given) (d : Driver) (r : ℕ) (st : State) (m : Made) (known : Option Parts) (x : Session) (f : FrameView) (part : ℕ) (right : Bool) → DecidesMatches g
+pub part_asked : (g : DriverInput) (d : Driver) (r : ℕ) (st : State) (m : Made) (known : Option Parts) (x : Session) (f : FrameView) (part : ℕ) (right : Bool) → DecidesMatches g
     → session_of x ≡ st.sessions (end_to f) → job_of m.kind ≡ None → m.taken ≡ Some f → IsTold known (λ p. (key : List ℕ) → p key ≡ part_at d r key)
     → SeesPartAt known (Some x) (Some f) part right → SeesPartAt known (Some x) (Some f) (part_size d r (asked_key st m)) (part_right g d r (asked_key st m))
 part_asked g d r st m known x f part right decides same no_job taken told sees =

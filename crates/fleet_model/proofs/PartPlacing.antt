@@ -5,7 +5,7 @@ use Rattle.std.specs.Option.{option_map}
 use Rattle.annex_base.specs.declared.kinds.Call.{Call}
 use Rattle.annex_base.specs.declared.kinds.Call.TheVariants as calls
 use Rattle.object_store.specs.Stores.{Parts, with_at}
-use Rattle.driver_model.specs.Driver.{Driver, Given, drops_part, fails_at, puts_part}
+use Rattle.driver_model.specs.Driver.{Driver, DriverInput, drops_part, fails_at, puts_part}
 use Rattle.driver_model.specs.ScriptSteps.{faults, is_busy, sets_part}
 use Rattle.content_lock.specs.CallsMade.{MakesCalls}
 use Rattle.repo_node.specs.Calls.{IsDoneBy, StopsAt, to_place_part}
@@ -19,7 +19,7 @@ use Rattle.fleet_model.proofs.Placing.{Stopped, calm_left, fault_noted, none_fir
 use Rattle.fleet_model.proofs.StoreSteps.{part_dropped}
 use Rattle.fleet_model.proofs.Noting.{IsRaised, over_store}
 
-pub part_well : {K : Type 0} (tells : K → StoreView) (g : Given) (d : Driver) (r : ℕ) (n m : NodeView K) (key bytes : List ℕ) → IsRaised tells g d r n
+pub part_well : {K : Type 0} (tells : K → StoreView) (g : DriverInput) (d : Driver) (r : ℕ) (n m : NodeView K) (key bytes : List ℕ) → IsRaised tells g d r n
     → ((taken : Bool) → IsTaken taken (tells n.keeper).contents n.parts.table key → taken ≡ is_busy g d r key)
     → m ≡ over m.keeper n → (tells m.keeper).contents ≡ (tells n.keeper).contents
     → IsDoneBy to_place_part key bytes n.parts.table (tells n.keeper).contents (tells n.keeper).parts (tells m.keeper).parts (tells n.keeper).failing (tells m.keeper).failing
@@ -55,7 +55,7 @@ part_well {K} tells g d r n m key bytes raised busy node contents done = go (is_
         (over_store tells g d (puts_part r key bytes (drops_part r key d)) r n m.keeper raised
         (part_replaced d r key bytes v w raised.store contents (parts_are false e) left) refl)))))
 
-pub part_stopped : {K : Type 0} (tells : K → StoreView) (g : Given) (d : Driver) (r : ℕ) (n m : NodeView K) (key bytes : List ℕ) → IsRaised tells g d r n
+pub part_stopped : {K : Type 0} (tells : K → StoreView) (g : DriverInput) (d : Driver) (r : ℕ) (n m : NodeView K) (key bytes : List ℕ) → IsRaised tells g d r n
     → ((taken : Bool) → IsTaken taken (tells n.keeper).contents n.parts.table key → taken ≡ is_busy g d r key)
     → StopsAt to_place_part key bytes (tells n.keeper).contents (tells m.keeper).contents (tells n.keeper).parts (tells m.keeper).parts (tells n.keeper).failing (tells m.keeper).failing refusals.StoreFault n m
     → IsRaised tells g (sets_part g r key bytes d) r m

@@ -2,7 +2,7 @@
 use Rattle.std.proofs.Common.{◌≡◌, ℕ, Bool, true, false, List, [], Option, Some, None, length, refl, sym, ap, ◌∙◌}
 use Rattle.std.specs.Prelude.{◌==◌, ◌&&◌, drop, find, if◌then◌else◌, take}
 use Rattle.std.specs.Option.{option_map, unwrap_or}
-use Rattle.std.proofs.lemmas.Bool.{and_parts}
+use Rattle.std.proofs.lemmas.Bool.{and_parts, eqb-true}
 use Rattle.object_store.specs.Stores.{Contents, bytes_of}
 use Rattle.run_data.specs.declared.entry.FrameText.TheVariants as texts
 use Rattle.run_data.specs.declared.entry.FrameView.{FrameView}
@@ -10,10 +10,9 @@ use Rattle.node_model.specs.Ends.{EndName, same_bool, sends_at}
 use Rattle.node_model.specs.Sessions.{Doing, Gives}
 use Rattle.node_model.specs.State.{State}
 use Rattle.node_sessions.specs.Pieces.{IsPieceOf}
-use Rattle.driver_model.specs.Driver.{Driver, content_at, end_from, given_by, piece_of, put_by_work}
+use Rattle.driver_model.specs.Driver.{Driver, content_at, end_from, piece_given_by, piece_of, piece_put_by_work}
 use Rattle.driver_model.specs.Stores.{StoredBytes, bytes_in, is_stored}
 use Rattle.fleet_model.specs.Stores.{content_in}
-use Rattle.fleet_model.proofs.Coming.{same}
 
 -- the contents are what the driver says of r
 abbrev pub HasContentsOf : Driver → ℕ → Contents → Type 0
@@ -26,7 +25,7 @@ content_bytes d r c key has = ap (λ (o : Option (List ℕ)). unwrap_or o []) (h
     go None = refl
     go (Some x) = refl
 
-given_is : (d : Driver) (r : ℕ) (c : Contents) (doing : Doing) (bytes : List ℕ) → HasContentsOf d r c → IsPieceOf c doing bytes → bytes ≡ given_by d r (length bytes) doing
+given_is : (d : Driver) (r : ℕ) (c : Contents) (doing : Doing) (bytes : List ℕ) → HasContentsOf d r c → IsPieceOf c doing bytes → bytes ≡ piece_given_by d r (length bytes) doing
 given_is d r c (Gives key at left good) bytes has piece = piece ∙ ap (λ (xs : List ℕ). take (length bytes) (drop at xs)) (content_bytes d r c key has)
 given_is d r c doing bytes has piece = absurd piece
 
@@ -42,8 +41,8 @@ leaves : (a : EndName) (f : FrameView) → sends_at a f ≡ true → (f.up ≡ a
 leaves a f sends =
     let parts = and_parts ((f.peer == a.peer) && (f.slot == a.slot)) (same_bool f.up a.client) sends in
     let named = and_parts (f.peer == a.peer) (f.slot == a.slot) parts.0 in
-    let peer : f.peer ≡ a.peer = same f.peer a.peer named.0 in
-    let slot : f.slot ≡ a.slot = same f.slot a.slot named.1 in
+    let peer : f.peer ≡ a.peer = eqb-true f.peer a.peer named.0 in
+    let slot : f.slot ≡ a.slot = eqb-true f.slot a.slot named.1 in
     let way : f.up ≡ a.client = same_way f.up a.client parts.1 in
     (way, λ i. record { peer = peer i; slot = slot i; client = way i })
 
@@ -52,13 +51,13 @@ pub piece_is_given : (d : Driver) (st : State) (r : ℕ) (c : Contents) (a : End
     → f.body ≡ texts.Bytes (length bytes) → IsPieceOf c (st.sessions a).doing bytes → bytes ≡ piece_of d st r f f.body
 piece_is_given d st r c a f bytes has sends server body piece =
     given_is d r c (st.sessions a).doing bytes has piece
-    ∙ (ap (λ (x : EndName). given_by d r (length bytes) (st.sessions x).doing) (sym left.1)
+    ∙ (ap (λ (x : EndName). piece_given_by d r (length bytes) (st.sessions x).doing) (sym left.1)
     ∙ (sym (by_way f.up (left.0 ∙ server)) ∙ ap (piece_of d st r f) (sym body)))
   where
     left : (f.up ≡ a.client) × (end_from f ≡ a)
     left = leaves a f sends
 
     by_way : (up : Bool) → up ≡ false
-        → (if up then put_by_work d r (length bytes) (find (λ w. w.slot == f.slot) st.works) else given_by d r (length bytes) (st.sessions (end_from f)).doing) ≡ given_by d r (length bytes) (st.sessions (end_from f)).doing
+        → (if up then piece_put_by_work d r (length bytes) (find (λ w. w.slot == f.slot) st.works) else piece_given_by d r (length bytes) (st.sessions (end_from f)).doing) ≡ piece_given_by d r (length bytes) (st.sessions (end_from f)).doing
     by_way true down = absurd (cc)
     by_way false down = refl

@@ -12,7 +12,7 @@ use Rattle.run_data.specs.declared.entry.By.TheVariants.{Script}
 use Rattle.run_data.specs.declared.entry.EntryKind.TheVariants as kinds
 use Rattle.run_data.specs.declared.run.RepoView.{RepoView}
 use Rattle.run_data.specs.Repos.{id_of}
-use Rattle.driver_model.specs.Driver.{Driver, Given, answers, commits, drops_part, fails_at, notes, part_at, puts_part}
+use Rattle.driver_model.specs.Driver.{Driver, DriverInput, answers, commits, drops_part, fails_at, notes, part_at, puts_part}
 use Rattle.hash_dirs.specs.LogPath.{location_path}
 use Rattle.run_data.specs.declared.entry.LogFile.TheVariants.{Location}
 use Rattle.union_merge.specs.Branch.{lines_at, merged_file}
@@ -95,12 +95,12 @@ id_is [] r = refl
 id_is (x ∷ xs) zero = refl
 id_is (x ∷ xs) (suc r) = id_is xs r
 
-known_id : {K : Type 0} (g : Given) (d : Driver) (r : ℕ) (n : NodeView K) → HasEntriesOf g d r n → id_known n n.setup.number ≡ id_of g.repos r
+known_id : {K : Type 0} (g : DriverInput) (d : Driver) (r : ℕ) (n : NodeView K) → HasEntriesOf g d r n → id_known n n.setup.number ≡ id_of g.repos r
 known_id g d r n is =
     ap (λ (ids : List (List ℕ)). unwrap_or (slice_get ids n.setup.number) []) (sym is.setup.ids)
     ∙ (ap (λ (m : ℕ). unwrap_or (slice_get (map (λ repo. repo.id) g.repos) m) []) (sym is.setup.number) ∙ id_is g.repos r)
 
-line_is : {K : Type 0} (tells : K → StoreView) (g : Given) (d : Driver) (r : ℕ) (n : NodeView K) (key : List ℕ) → IsRaised tells g d r n
+line_is : {K : Type 0} (tells : K → StoreView) (g : DriverInput) (d : Driver) (r : ℕ) (n : NodeView K) (key : List ℕ) → IsRaised tells g d r n
     → due_by n key n.setup.number true ≡ if_new (lines_of d r (Location key)) (status_line (lines_of d r (Location key)) (id_of g.repos r) true (wall_of g d r))
 line_is {K} tells g d r n key raised =
     λ i. if_new (lines_at (raised.entries.branch i) (location_path key)) (status_line (lines_at (raised.entries.branch i) (location_path key)) (known_id g d r n raised.entries i) true (wall_is i))
@@ -108,7 +108,7 @@ line_is {K} tells g d r n key raised =
     wall_is : n.time + n.setup.offset ≡ wall_of g d r
     wall_is = λ i. raised.entries.time i + sym raised.entries.setup.offset i
 
-logged_there : {K : Type 0} (tells : K → StoreView) (g : Given) (d : Driver) (r : ℕ) (n : NodeView K) (key : List ℕ) (keeper : K) → IsRaised tells g d r n → fails_at d r calls.PutFile ≡ false
+logged_there : {K : Type 0} (tells : K → StoreView) (g : DriverInput) (d : Driver) (r : ℕ) (n : NodeView K) (key : List ℕ) (keeper : K) → IsRaised tells g d r n → fails_at d r calls.PutFile ≡ false
     → IsStoreOf d r (tells keeper) → IsRaised tells g (logs_status g r key d) r (with_status n keeper key n.setup.number true)
 logged_there {K} tells g d r n key keeper raised calm store =
     subst (λ (b : Bool). IsRaised tells g (if b then faults r calls.PutFile d else noting new) r (with_status n keeper key n.setup.number true)) (sym calm)
@@ -139,7 +139,7 @@ pub calm_left : (o o' : Option (Call → ℕ)) (cs : List Call) → MakesCalls c
 calm_left None o' cs made = made.left
 calm_left (Some n) o' cs made = made.left
 
-pub placed_well : {K : Type 0} (tells : K → StoreView) (g : Given) (d : Driver) (r : ℕ) (n m : NodeView K) (key bytes : List ℕ) → IsRaised tells g d r n
+pub placed_well : {K : Type 0} (tells : K → StoreView) (g : DriverInput) (d : Driver) (r : ℕ) (n m : NodeView K) (key bytes : List ℕ) → IsRaised tells g d r n
     → ((taken : Bool) → IsTaken taken (tells n.keeper).contents n.parts.table key → taken ≡ is_busy g d r key)
     → IsPlaced key bytes (tells n.keeper).contents (tells n.keeper).parts (tells m.keeper).contents n m
     → IsDoneBy to_place key [] n.parts.table (tells n.keeper).contents (tells n.keeper).parts (tells m.keeper).parts (tells n.keeper).failing (tells m.keeper).failing
@@ -210,7 +210,7 @@ pub record Stopped {K : Type 0} (key bytes : List ℕ) (v w : StoreView) (n m : 
   pub left : w.failing ≡ option_map (one_fewer call) v.failing
 
 -- the fault is the next entry of a driver that has changed beside its entries, over this store
-pub fault_noted : {K : Type 0} (tells : K → StoreView) (g : Given) (d d0 : Driver) (r : ℕ) (n m : NodeView K) (call : Call) (w : StoreView) (failing : Option (Call → ℕ)) → IsRaised tells g d r n → d0.past ≡ d.past
+pub fault_noted : {K : Type 0} (tells : K → StoreView) (g : DriverInput) (d d0 : Driver) (r : ℕ) (n m : NodeView K) (call : Call) (w : StoreView) (failing : Option (Call → ℕ)) → IsRaised tells g d r n → d0.past ≡ d.past
     → m ≡ with_entry n m.keeper n.branch (kinds.Fault call Script) [] → tells m.keeper ≡ w → w.failing ≡ option_map (one_fewer call) failing
     → IsStoreOf d0 r (record w { failing = failing }) → IsRaised tells g (faults r call d0) r m
 fault_noted {K} tells g d d0 r n m call w failing raised same node told left store =
@@ -222,7 +222,7 @@ fault_noted {K} tells g d d0 r n m call w failing raised same node told left sto
     is = answered d0 r call (record w { failing = failing }) w store refl refl left
 
 -- the same behind the entry that the content has come
-fault_after : {K : Type 0} (tells : K → StoreView) (g : Given) (d : Driver) (r : ℕ) (n m : NodeView K) (key bytes : List ℕ) (w : StoreView) (failing : Option (Call → ℕ)) → IsRaised tells g d r n
+fault_after : {K : Type 0} (tells : K → StoreView) (g : DriverInput) (d : Driver) (r : ℕ) (n m : NodeView K) (key bytes : List ℕ) (w : StoreView) (failing : Option (Call → ℕ)) → IsRaised tells g d r n
     → m ≡ with_entry (with_gain n n.keeper key (length bytes)) m.keeper n.branch (kinds.Fault calls.PutFile Script) [] → tells m.keeper ≡ w → w.failing ≡ option_map (one_fewer calls.PutFile) failing
     → IsStoreOf (commits r key (puts_part r key bytes (drops_part r key d))) r (record w { failing = failing })
     → IsRaised tells g (faults r calls.PutFile (notes r (kinds.Gain Script (length bytes) key) [] (commits r key (puts_part r key bytes (drops_part r key d))))) r m
@@ -243,7 +243,7 @@ fault_after {K} tells g d r n m key bytes w failing raised node told left store 
     gained : Driver
     gained = notes r (kinds.Gain Script (length bytes) key) [] (commits r key (puts_part r key bytes (drops_part r key d)))
 
-pub placed_stopped : {K : Type 0} (tells : K → StoreView) (g : Given) (d : Driver) (r : ℕ) (n m : NodeView K) (key bytes : List ℕ) → IsRaised tells g d r n
+pub placed_stopped : {K : Type 0} (tells : K → StoreView) (g : DriverInput) (d : Driver) (r : ℕ) (n m : NodeView K) (key bytes : List ℕ) → IsRaised tells g d r n
     → ((taken : Bool) → IsTaken taken (tells n.keeper).contents n.parts.table key → taken ≡ is_busy g d r key)
     → StopsAt to_place key bytes (tells n.keeper).contents (tells m.keeper).contents (tells n.keeper).parts (tells m.keeper).parts (tells n.keeper).failing (tells m.keeper).failing refusals.StoreFault n m
     → IsRaised tells g (has g r key bytes d) r m

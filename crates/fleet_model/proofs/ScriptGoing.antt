@@ -11,8 +11,8 @@ use Rattle.run_data.specs.Files.{file_of}
 use Rattle.run_model.specs.Logs.{branch}
 use Rattle.run_model.specs.Past.{begun_count}
 use Rattle.union_merge.specs.Branch.{Files}
-use Rattle.driver_model.specs.Driver.{Driver, Given, commits, drops_part, fails_at, newest_count, notes, puts_part}
-use Rattle.driver_model.specs.ScriptSteps.{begins, begins_part, unless_fails, compacts, compacts_files, faults, fills_up, gains, has, is_busy, is_nil, logs, logs_some, logs_status, merges, merges_files, news, sets_part, shrinks, unknown, unless_busy, writes}
+use Rattle.driver_model.specs.Driver.{Driver, DriverInput, commits, drops_part, fails_at, newest_count, notes, puts_part}
+use Rattle.driver_model.specs.ScriptSteps.{begins, begins_part, unless_fails, compacts, compacts_files, faults, fills_up, gains, has, is_busy, is_nil, logs, logs_some, logs_status, merges, merges_files, news, sets_part, shrinks, unknown_lines, unless_busy, writes}
 use Rattle.fleet_model.proofs.Going.{GoesOnQuietly, goes_calling, goes_failing, goes_if, goes_noting, goes_nowhere, goes_then}
 use Rattle.fleet_model.proofs.StoreSteps.{committed_elsewhere, dropped_elsewhere, put_elsewhere}
 
@@ -26,7 +26,7 @@ goes_logs_some r file [] d = goes_nowhere r d
 goes_logs_some r file (line ∷ lines) d = goes_logs r file (line ∷ lines) d
 
 pub goes_writes : (r : ℕ) (file : LogFile) (line : List ℕ) (d : Driver) → GoesOnQuietly r d (writes r file line d)
-goes_writes r file line d = goes_logs_some r file (unknown d r file (line ∷ [])) d
+goes_writes r file line d = goes_logs_some r file (unknown_lines d r file (line ∷ [])) d
 
 pub goes_merges_files : (r : ℕ) (files : Files) (d : Driver) → GoesOnQuietly r d (merges_files r files d)
 goes_merges_files r [] d = goes_nowhere r d
@@ -67,11 +67,11 @@ goes_putting r key bytes d small = record { on = record { more = []; past = refl
 pub goes_committing : (r : ℕ) (key : List ℕ) (d : Driver) → GoesOnQuietly r d (commits r key d)
 goes_committing r key d = record { on = record { more = []; past = refl; own = tt; tree = refl; marks = refl; stores = λ q v apart is. committed_elsewhere d r q key v apart is; at = refl; counted = least (newest_count d.past); bounds = tt; large = λ e. e }; flights = refl; quiet = tt }
 
-goes_unless_busy : (g : Given) (r : ℕ) (key : List ℕ) (d done : Driver) → GoesOnQuietly r d done → GoesOnQuietly r d (unless_busy g r key d done)
+goes_unless_busy : (g : DriverInput) (r : ℕ) (key : List ℕ) (d done : Driver) → GoesOnQuietly r d done → GoesOnQuietly r d (unless_busy g r key d done)
 goes_unless_busy g r key d done on =
     goes_calling r calls.Has d _ (goes_if r (is_busy g d r key) d d _ (goes_nowhere r d) (goes_calling r calls.DropPart d done on))
 
-goes_gains : (g : Given) (r : ℕ) (key bytes : List ℕ) (d : Driver) → length bytes < 2 ^ 62 → GoesOnQuietly r d (gains g r key bytes d)
+goes_gains : (g : DriverInput) (r : ℕ) (key bytes : List ℕ) (d : Driver) → length bytes < 2 ^ 62 → GoesOnQuietly r d (gains g r key bytes d)
 goes_gains g r key bytes d small =
     let come : Driver = commits r key d in
     let noted : Driver = notes r (kinds.Gain Script (length bytes) key) [] come in
@@ -79,18 +79,18 @@ goes_gains g r key bytes d small =
     (goes_then r d come noted (goes_committing r key d) (goes_noting r (kinds.Gain Script (length bytes) key) [] come small (inl refl)))
     (goes_calling r calls.PutFile noted _ (goes_noting r (kinds.Log (Location key)) _ noted tt (inl refl)))
 
-goes_fills_up : (g : Given) (r : ℕ) (key bytes : List ℕ) (d : Driver) → length bytes < 2 ^ 62 → GoesOnQuietly r d (fills_up g r key bytes d)
+goes_fills_up : (g : DriverInput) (r : ℕ) (key bytes : List ℕ) (d : Driver) → length bytes < 2 ^ 62 → GoesOnQuietly r d (fills_up g r key bytes d)
 goes_fills_up g r key bytes d small =
     let put : Driver = puts_part r key bytes d in
     goes_if r (fails_at d r calls.Append) d (faults r calls.Append d) _ (goes_failing r calls.Append d)
     (goes_then r d put (unless_fails r calls.Commit put (gains g r key bytes put)) (goes_putting r key bytes d small) (goes_calling r calls.Commit put (gains g r key bytes put) (goes_gains g r key bytes put small)))
 
-pub goes_has : (g : Given) (r : ℕ) (key bytes : List ℕ) (d : Driver) → length bytes < 2 ^ 62 → GoesOnQuietly r d (has g r key bytes d)
+pub goes_has : (g : DriverInput) (r : ℕ) (key bytes : List ℕ) (d : Driver) → length bytes < 2 ^ 62 → GoesOnQuietly r d (has g r key bytes d)
 goes_has g r key bytes d small =
     let dropped : Driver = drops_part r key d in
     goes_unless_busy g r key d (fills_up g r key bytes dropped) (goes_then r d dropped (fills_up g r key bytes dropped) (goes_dropping r key d) (goes_fills_up g r key bytes dropped small))
 
-pub goes_sets_part : (g : Given) (r : ℕ) (key bytes : List ℕ) (d : Driver) → length bytes < 2 ^ 62 → GoesOnQuietly r d (sets_part g r key bytes d)
+pub goes_sets_part : (g : DriverInput) (r : ℕ) (key bytes : List ℕ) (d : Driver) → length bytes < 2 ^ 62 → GoesOnQuietly r d (sets_part g r key bytes d)
 goes_sets_part g r key bytes d small =
     let dropped : Driver = drops_part r key d in
     goes_unless_busy g r key d (begins_part r key bytes dropped)

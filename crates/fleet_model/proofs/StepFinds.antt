@@ -9,7 +9,7 @@ use Rattle.run_data.specs.declared.entry.FrameView.{FrameView}
 use Rattle.p2p_wire.specs.declared.message.Message.{Message}
 use Rattle.p2p_wire.specs.declared.message.Message.TheVariants.{Valid}
 use Rattle.node_model.specs.Ends.{EndName, server_end}
-use Rattle.node_model.specs.Found.{ByJob, ByOwed, BySession, JobKind, JobTakes, SessionKind, StepFound}
+use Rattle.node_model.specs.Found.{ByJob, ByOwed, BySession, IsJobEntry, JobTakes, IsSessionEntry, StepFound}
 use Rattle.node_model.specs.JobStep.{turn_of}
 use Rattle.node_model.specs.Look.{Look, Made}
 use Rattle.node_model.specs.Sessions.{Doing, Took, line_in}
@@ -55,7 +55,7 @@ drop_no_gain s st k m drops x = go m.kind x.found
     drop : IsDrop x.w
     drop = Each-member IsDrop st.works x.w drops (find_member _ st.works x.w x.runs).0
 
-    go : (kind : EntryKind) → JobKind (turn_of s st k x.w) m kind → IsNoGain kind
+    go : (kind : EntryKind) → IsJobEntry (turn_of s st k x.w) m kind → IsNoGain kind
     go (Gain by size key) found =
         let now : true ≡ false = ap is_transfer (sym found.phase_is) ∙ drop.phase in cc
     go kind found = tt
@@ -63,7 +63,7 @@ drop_no_gain s st k m drops x = go m.kind x.found
 gain_by_session : (s : SetUp) (st : State) (k : Look) (m : Made) (by : By) (size : ℕ) (key : List ℕ) → m.kind ≡ Gain by size key → BySession s st k m → IsGain st m size key
 gain_by_session s st k m by size key is x =
     let a : EndName = server_end x.peer x.slot in
-    let found = subst (SessionKind (here s st k a) (st.sessions a).doing x.asked x.says) is x.found in
+    let found = subst (IsSessionEntry (here s st k a) (st.sessions a).doing x.asked x.says) is x.found in
     elim (x.frame) [
       | inl t ↦ (let to = to_server x.peer x.slot t.f t.of_end in record {
         f = t.f;
@@ -82,7 +82,7 @@ gain_found s st k m by size key drops (inr (inr x)) is = absurd (subst IsNoGain 
 
 -- ---- the frames that a session takes
 
-session_no_job : (h : Here) (doing : Doing) (asked : Option Message) (says : List FrameText) (kind : EntryKind) → SessionKind h doing asked says kind → job_of kind ≡ None
+session_no_job : (h : Here) (doing : Doing) (asked : Option Message) (says : List FrameText) (kind : EntryKind) → IsSessionEntry h doing asked says kind → job_of kind ≡ None
 session_no_job h doing asked says (Share hold end by key) found = ap job_by found.by_is
 session_no_job h doing asked says (Check what key) found = refl
 session_no_job h doing asked says (Gone by key) found = ap job_by found.by_is

@@ -1,13 +1,13 @@
 -- A fleet whose node's history is full behind a content that came stops where the driver comes to the line that says so.
-use Rattle.std.proofs.Common.{◌≡◌, inl, ℕ, ◌<◌, ◌≤◌, ◌^◌, true, false, List, [], ◌∷◌, length, None, refl, sym, subst, arith}
-use Rattle.std.specs.Prelude.{find, max}
+use Rattle.std.proofs.Common.{◌≡◌, inl, ℕ, ◌<◌, ◌≤◌, ◌^◌, true, false, List, [], ◌∷◌, length, None, refl, sym, subst}
+use Rattle.std.specs.Prelude.{find}
 use Rattle.annex_base.specs.declared.kinds.Call.TheVariants as calls
 use Rattle.run_data.specs.Repos.{id_of}
 use Rattle.run_data.specs.declared.entry.By.TheVariants.{Script}
 use Rattle.run_data.specs.declared.entry.EntryKind.TheVariants as kinds
 use Rattle.run_data.specs.declared.entry.LogFile.TheVariants.{Location}
 use Rattle.node_model.specs.Owed.{if_new, status_line}
-use Rattle.driver_model.specs.Driver.{Driver, Given, commits, drops_part, fails_at, notes, part_at, puts_part, set_up_of}
+use Rattle.driver_model.specs.Driver.{Driver, DriverInput, commits, drops_part, fails_at, notes, part_at, puts_part, set_up_of}
 use Rattle.driver_model.specs.Limits.{StopsAtFull}
 use Rattle.driver_model.specs.Scripts.{IsContent}
 use Rattle.driver_model.specs.ScriptSteps.{gets_content, has, is_busy, lines_of, logs_status, wall_of}
@@ -36,7 +36,7 @@ abbrev come_by : ℕ → List ℕ → List ℕ → Driver → Driver
 come_by r key bytes d = commits r key (puts_part r key bytes (drops_part r key d))
 
 -- where the content isn't there nor being filled, and the calls go well, the driver has it and goes on to its log
-has_gained : (g : Given) (d : Driver) (r : ℕ) (key bytes : List ℕ) → is_busy g d r key ≡ false → None ≡ find (fails_at d r) (calls.Has ∷ calls.DropPart ∷ calls.Append ∷ calls.Commit ∷ [])
+has_gained : (g : DriverInput) (d : Driver) (r : ℕ) (key bytes : List ℕ) → is_busy g d r key ≡ false → None ≡ find (fails_at d r) (calls.Has ∷ calls.DropPart ∷ calls.Append ∷ calls.Commit ∷ [])
     → has g r key bytes d ≡ logs_status g r key (gets_content r key bytes (puts_part r key bytes (drops_part r key d)))
 has_gained g d r key bytes free none =
     let c1 = none_first (fails_at d r) calls.Has (calls.DropPart ∷ calls.Append ∷ calls.Commit ∷ []) none in
@@ -45,19 +45,13 @@ has_gained g d r key bytes free none =
     let c4 = none_first (fails_at d r) calls.Commit [] c3.1 in
     rw c1.0 (rw free (rw c2.0 (rw c3.0 (rw c4.0 refl))))
 
-comes_to_log : (g : Given) (r : ℕ) (key : List ℕ) (d : Driver) → ComesTo r d (logs_status g r key d)
+comes_to_log : (g : DriverInput) (r : ℕ) (key : List ℕ) (d : Driver) → ComesTo r d (logs_status g r key d)
 comes_to_log g r key d = comes_calling r calls.PutFile d (notes r (kinds.Log (Location key)) new d) (comes_noting r (kinds.Log (Location key)) new d)
   where
     new : List (List ℕ)
     new = if_new (lines_of d r (Location key)) (status_line (lines_of d r (Location key)) (id_of g.repos r) true (wall_of g d r))
 
-least : (n : ℕ) → n ≤ n
-least n = grind arith
-
-greatest : (a b : ℕ) → b < 2 ^ 62 → a < 2 ^ 62 → max a b < 2 ^ 62
-greatest a b small large = grind arith
-
-pub content_stops_behind : {K : Type 0} → StopLaws → Carried → (tells : K → StoreView) (g : Given) (d : Driver) (r : ℕ) (n m : NodeView K) (was after : FleetView K) → HasCome tells g d was → OneGoesOn r n m was after
+pub content_stops_behind : {K : Type 0} → StopLaws → Carried → (tells : K → StoreView) (g : DriverInput) (d : Driver) (r : ℕ) (n m : NodeView K) (was after : FleetView K) → HasCome tells g d was → OneGoesOn r n m was after
     → OthersAreFew r was.nodes → m.time ≤ 1000000000000 → m.count < 2 ^ 62 → (key bytes : List ℕ) → IsContent key bytes
     → nodes.IsState (set_up_of g d r) n.parts n.branch n.owed (nodes.told_of (tells n.keeper).contents (tells n.keeper).parts) (nodes.state_of (set_up_of g d r) n.history)
     → MeetsFullBehind key bytes (tells n.keeper).contents (tells n.keeper).failing (tells m.keeper).failing (raised d n) m → length bytes < 2 ^ 62 → StopsAtFull g r (has g r key bytes d) after.run

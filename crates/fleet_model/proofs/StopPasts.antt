@@ -4,9 +4,11 @@ use Rattle.std.specs.Prelude.{◌==◌, drop, filter, if◌then◌else◌, rever
 use Rattle.std.proofs.lemmas.List.{append_assoc, length-reverse, reverse-reverse}
 use Rattle.std.proofs.lemmas.List.Elements.{filter-append}
 use Rattle.std.proofs.lemmas.Option.{slice_get_cases, slice_get_within}
+use Rattle.std.proofs.lemmas.Bool.{eqb-false, eqb-true}
 use Rattle.annex_base.specs.Lists.{Each}
 use Rattle.annex_base.proofs.Lists.{Each-weaker, filter_none}
 use Rattle.annex_base.specs.declared.kinds.Call.{Call}
+use Rattle.annex_base.proofs.Conditions.{eqb_refl}
 use Rattle.run_data.specs.Histories.{most_entries}
 use Rattle.run_data.specs.declared.entry.By.TheVariants.{Script}
 use Rattle.run_data.specs.declared.entry.Entry.{Entry}
@@ -17,10 +19,10 @@ use Rattle.run_model.specs.Past.{is_of}
 use Rattle.run_model.specs.Run.{IsRun, MayBe, RunPast, set_up}
 use Rattle.node_model.specs.Rows.{option_is}
 use Rattle.node_model.specs.SetUp.{SetUp}
-use Rattle.driver_model.specs.Driver.{Driver, Given, answers, entry, fails_at, notes}
+use Rattle.driver_model.specs.Driver.{Driver, DriverInput, answers, entry, fails_at, notes}
 use Rattle.driver_model.specs.Driving.{run_with}
 use Rattle.driver_model.specs.Limits.{AddsOwn, StopsAtFull, count_of}
-use Rattle.driver_model.specs.Scripts.{Fits}
+use Rattle.driver_model.specs.Scripts.{HasBoundedPast}
 use Rattle.driver_model.specs.ScriptSteps.{faults, unless_fails}
 use Rattle.driver_model.specs.Sound.{IsSound, StaysSound}
 use Rattle.repo_node.specs.Nodes.{NodeView}
@@ -28,9 +30,8 @@ use Rattle.repo_node.specs.Stored.{StoreView}
 use Rattle.fleet_model.specs.Fleets.{FleetView, HasCome}
 use Rattle.fleet_model.specs.Steps.{OneGoesOn}
 use Rattle.fleet_model.specs.Stopping.{OthersAreFew}
-use Rattle.fleet_model.proofs.Coming.{same, unlike}
 use Rattle.fleet_model.proofs.Going.{GoesOn, all_others, entries_go_on, goes_within}
-use Rattle.fleet_model.proofs.Noting.{HasEntriesOf, same_number}
+use Rattle.fleet_model.proofs.Noting.{HasEntriesOf}
 
 -- ---- how many entries each has made
 
@@ -57,9 +58,9 @@ no_strangers s q (e ∷ past) never run = (by_repo e.repo run.0.may, no_stranger
       where
         go : (b : Bool) → (p == q) ≡ b → b ≡ false
         go false i = refl
-        go true i = absurd (never (subst (λ (x : ℕ). (s x).number < length (s x).repos) (same p q i) may.1.known))
+        go true i = absurd (never (subst (λ (x : ℕ). (s x).number < length (s x).repos) (eqb-true p q i) may.1.known))
 
-strangers_count : (g : Given) (d : Driver) (q : ℕ) → IsSound g d → length g.repos ≤ q → count_of d.past q ≡ 0
+strangers_count : (g : DriverInput) (d : Driver) (q : ℕ) → IsSound g d → length g.repos ≤ q → count_of d.past q ≡ 0
 strangers_count g d q sound past_all =
     ap length (filter_none (is_of q) d.past (no_strangers (set_up (run_with g d)) q d.past (λ less. never q (length g.repos) less past_all)
     (subst (RunPast (set_up (run_with g d))) (reverse-reverse d.past) sound.run.steps)))
@@ -75,10 +76,10 @@ at_least_none most n e = grind arith
 at_most : (most n : ℕ) → n ≡ most → n ≤ most
 at_most most n e = grind arith
 
-pub is_known : {K : Type 0} (tells : K → StoreView) (g : Given) (d : Driver) (r : ℕ) (n : NodeView K) (was : FleetView K) → HasCome tells g d was → slice_get was.nodes r ≡ Some n → r < length g.repos
+pub is_known : {K : Type 0} (tells : K → StoreView) (g : DriverInput) (d : Driver) (r : ℕ) (n : NodeView K) (was : FleetView K) → HasCome tells g d was → slice_get was.nodes r ≡ Some n → r < length g.repos
 is_known tells g d r n was h at = subst (λ (count : ℕ). r < count) h.count (slice_get_within was.nodes r n at)
 
-pub others_are_few : {K : Type 0} (tells : K → StoreView) (g : Given) (d : Driver) (r : ℕ) (was : FleetView K) → HasCome tells g d was → OthersAreFew r was.nodes → (q : ℕ) → q ≢ r → count_of d.past q ≤ most_entries
+pub others_are_few : {K : Type 0} (tells : K → StoreView) (g : DriverInput) (d : Driver) (r : ℕ) (was : FleetView K) → HasCome tells g d was → OthersAreFew r was.nodes → (q : ℕ) → q ≢ r → count_of d.past q ≤ most_entries
 others_are_few tells g d r was h few q apart = elim ((slice_get_cases was.nodes q).1) [
   | inl x ↦ subst (λ (count : ℕ). count ≤ most_entries) (sym (count_is d.past x.0.history q (h.each q x.0 x.2).history)) (few q x.0 apart x.2)
   | inr x ↦ at_least_none most_entries (count_of d.past q) (strangers_count g d q h.sound (subst (λ (count : ℕ). count ≤ q) h.count x.0))
@@ -89,8 +90,8 @@ pub all_are_few : (r : ℕ) (past : List Entry) → count_of past r ≡ most_ent
 all_are_few r past full few q = go (q == r) refl
   where
     go : (b : Bool) → (q == r) ≡ b → count_of past q ≤ most_entries
-    go true e = at_most most_entries (count_of past q) (ap (count_of past) (same q r e) ∙ full)
-    go false e = few q (unlike q r e)
+    go true e = at_most most_entries (count_of past q) (ap (count_of past) (eqb-true q r e) ∙ full)
+    go false e = few q (eqb-false q r e)
 
 -- ---- the entry that comes next
 
@@ -123,10 +124,10 @@ comes_adding r d after adds grows = go adds.more adds.own adds.adds
     go (e ∷ more) own is = let first = first_of r e more own in record { more = first.more; next = first.next; own = first.own; goes_on = is ∙ first.added_are d.past }
 
 pub comes_noting : (r : ℕ) (kind : EntryKind) (lines : List (List ℕ)) (d : Driver) → ComesTo r d (notes r kind lines d)
-comes_noting r kind lines d = record { more = []; next = entry d r kind lines; own = same_number r; goes_on = refl }
+comes_noting r kind lines d = record { more = []; next = entry d r kind lines; own = eqb_refl r; goes_on = refl }
 
 pub comes_failing : (r : ℕ) (call : Call) (d : Driver) → ComesTo r d (faults r call d)
-comes_failing r call d = record { more = []; next = entry (answers r call d) r (kinds.Fault call Script) []; own = same_number r; goes_on = refl }
+comes_failing r call d = record { more = []; next = entry (answers r call d) r (kinds.Fault call Script) []; own = eqb_refl r; goes_on = refl }
 
 pub comes_if : (r : ℕ) (b : Bool) (d x y : Driver) → ComesTo r d x → ComesTo r d y → ComesTo r d (if b then x else y)
 comes_if r true d x y there other = there
@@ -146,7 +147,7 @@ comes_then r d mid after there adds = record {
 -- ---- the run ends there
 
 -- r came from the one driver to the other, whose run this is; and then the step would make an entry of r, whose history is full
-stops : (g : Given) (r : ℕ) (d mid after : Driver) (run : Run) → r < length g.repos → run ≡ run_with g mid → IsSound g mid → AddsOwn r d mid → count_of mid.past r ≡ most_entries
+stops : (g : DriverInput) (r : ℕ) (d mid after : Driver) (run : Run) → r < length g.repos → run ≡ run_with g mid → IsSound g mid → AddsOwn r d mid → count_of mid.past r ≡ most_entries
     → ((q : ℕ) → q ≢ r → count_of d.past q ≤ most_entries) → ComesTo r mid after → StopsAtFull g r after run
 stops g r d mid after run known is sound adds full few there = record {
   known = known;
@@ -162,14 +163,14 @@ stops g r d mid after run known is sound adds full few there = record {
 }
 
 -- the history was full before the step
-pub stops_at_once : {K : Type 0} (tells : K → StoreView) (g : Given) (d after : Driver) (r : ℕ) (n : NodeView K) (was : FleetView K) → HasCome tells g d was → slice_get was.nodes r ≡ Some n → OthersAreFew r was.nodes
+pub stops_at_once : {K : Type 0} (tells : K → StoreView) (g : DriverInput) (d after : Driver) (r : ℕ) (n : NodeView K) (was : FleetView K) → HasCome tells g d was → slice_get was.nodes r ≡ Some n → OthersAreFew r was.nodes
     → length n.history ≡ most_entries → ComesTo r d after → StopsAtFull g r after was.run
 stops_at_once tells g d after r n was h at few full there =
     stops g r d d after was.run (is_known tells g d r n was h at) h.run h.sound (record { more = []; adds = refl; own = tt }) (count_is d.past n.history r (h.each r n at).history ∙ full)
     (others_are_few tells g d r was h few) there
 
 -- the history is full where the step has come to this driver
-pub stops_there : {K : Type 0} (tells : K → StoreView) (g : Given) (d mid after : Driver) (r : ℕ) (n m : NodeView K) (was now : FleetView K) → HasCome tells g d was → OneGoesOn r n m was now → OthersAreFew r was.nodes
+pub stops_there : {K : Type 0} (tells : K → StoreView) (g : DriverInput) (d mid after : Driver) (r : ℕ) (n m : NodeView K) (was now : FleetView K) → HasCome tells g d was → OneGoesOn r n m was now → OthersAreFew r was.nodes
     → GoesOn r d mid → HasEntriesOf g mid r m → length m.history ≡ most_entries → m.time ≤ 1000000000000 → m.count < 2 ^ 62 → StaysSound g d mid → ComesTo r mid after → StopsAtFull g r after now.run
 stops_there {K} tells g d mid after r n m was now h step few on own full early counted sound there =
     stops g r d mid after now.run (is_known tells g d r n was h step.before) run_is (sound h.sound fits) (record { more = on.more; adds = on.past; own = on.own })
@@ -182,5 +183,5 @@ stops_there {K} tells g d mid after r n m was now h step few on own full early c
     run_is = step.run ∙ ((λ i. record (h.run i) { entries = (h.run i).entries ++ drop (length n.history) m.history })
         ∙ (λ i. record { repos = g.repos; entries = sym entries i; tree = sym on.tree i; marks = sym on.marks i }))
 
-    fits : Fits mid
+    fits : HasBoundedPast mid
     fits = goes_within r d mid h.fits on (subst (λ (t : ℕ). t ≤ 1000000000000) own.time early) (subst (λ (c : ℕ). c < 2 ^ 62) own.count counted)

@@ -23,10 +23,10 @@ use Rattle.node_model.specs.Look.{Look, Made}
 use Rattle.node_model.specs.SetUp.{SetUp}
 use Rattle.node_model.specs.Step.{step}
 use Rattle.node_parts.specs.Parts.{AreParts}
-use Rattle.driver_model.specs.Driver.{Driver, Given, frames_to, notes, set_up_of, state_at}
+use Rattle.driver_model.specs.Driver.{Driver, DriverInput, frames_to, notes, set_up_of, state_at}
 use Rattle.driver_model.specs.Finding.{driver_at_turn}
 use Rattle.driver_model.specs.Limits.{StopsAtFull, count_of, within_limit}
-use Rattle.driver_model.specs.ScriptSteps.{begins, has, logs_some, setting_line, sets, unknown, writes}
+use Rattle.driver_model.specs.ScriptSteps.{begins, has, logs_some, setting_line, sets, unknown_lines, writes}
 use Rattle.driver_model.specs.Turning.{at_hand, plain_look, turn}
 use Rattle.repo_node.specs.Calls.{lacks_some}
 use Rattle.repo_node.specs.Logs.{stamped_by}
@@ -50,7 +50,7 @@ use Rattle.fleet_model.proofs.Directs.{setting_is}
 -- ---- turns
 
 -- the driver's plain look is one of the node's
-looks_plainly : {K : Type 0} → TurnLaws → (tells : K → StoreView) (g : Given) (d : Driver) (r : ℕ) (n : NodeView K) (was : FleetView K) → HasCome tells g d was → slice_get was.nodes r ≡ Some n → StandsWell g d r n
+looks_plainly : {K : Type 0} → TurnLaws → (tells : K → StoreView) (g : DriverInput) (d : Driver) (r : ℕ) (n : NodeView K) (was : FleetView K) → HasCome tells g d was → slice_get was.nodes r ≡ Some n → StandsWell g d r n
     → Looks (raised d n) (set_up_of g d r) (plain_look (set_up_of g d r) (driver_at_turn g r d))
 looks_plainly {K} laws tells g d r n was h at well = record {
   ends = record { at_hand = sym hand; room = rooms_agree laws tells g d r n was h at well };
@@ -73,7 +73,7 @@ none_is_some None e some = cc
 none_is_some (Some m) e some = cc
 
 -- a ready step adds an entry
-turn_grows : {K : Type 0} → TurnLaws → StopLaws → (tells : K → StoreView) (g : Given) (d : Driver) (r : ℕ) (n : NodeView K) (was : FleetView K) → HasCome tells g d was → slice_get was.nodes r ≡ Some n → StandsWell g d r n
+turn_grows : {K : Type 0} → TurnLaws → StopLaws → (tells : K → StoreView) (g : DriverInput) (d : Driver) (r : ℕ) (n : NodeView K) (was : FleetView K) → HasCome tells g d was → slice_get was.nodes r ≡ Some n → StandsWell g d r n
     → HasStep (raised d n) (set_up_of g d r) → length (turn g r d).past ≡ length d.past → ⊥
 turn_grows {K} laws stop tells g d r n was h at well ready same =
     none_is_some (step s (nodes.state_of s n.history) k) (sym (step_is laws.looks.carried g d r n k h.sound (h.each r n at).history) ∙ stop.idle g r d same)
@@ -85,14 +85,14 @@ turn_grows {K} laws stop tells g d r n was h at well ready same =
     k : Look
     k = plain_look s (driver_at_turn g r d)
 
-pub turn_stops : {K : Type 0} → TurnLaws → StopLaws → (tells : K → StoreView) (g : Given) (d : Driver) (r : ℕ) (n : NodeView K) (was : FleetView K) → HasCome tells g d was → slice_get was.nodes r ≡ Some n → OthersAreFew r was.nodes
+pub turn_stops : {K : Type 0} → TurnLaws → StopLaws → (tells : K → StoreView) (g : DriverInput) (d : Driver) (r : ℕ) (n : NodeView K) (was : FleetView K) → HasCome tells g d was → slice_get was.nodes r ≡ Some n → OthersAreFew r was.nodes
     → StandsWell g d r n → length n.history ≡ most_entries → HasStep (raised d n) (set_up_of g d r) → StopsAtFull g r (turn g r d) was.run
 turn_stops laws stop tells g d r n was h at few well full ready =
     stops_at_once tells g d (turn g r d) r n was h at few full (comes_adding r d (turn g r d) (stop.turn_adds g r d) (turn_grows laws stop tells g d r n was h at well ready))
 
 -- ---- jobs
 
-pub job_stops : {K : Type 0} → Carried → (tells : K → StoreView) (g : Given) (d : Driver) (r : ℕ) (n : NodeView K) (was : FleetView K) → HasCome tells g d was → slice_get was.nodes r ≡ Some n → OthersAreFew r was.nodes
+pub job_stops : {K : Type 0} → Carried → (tells : K → StoreView) (g : DriverInput) (d : Driver) (r : ℕ) (n : NodeView K) (was : FleetView K) → HasCome tells g d was → slice_get was.nodes r ≡ Some n → OthersAreFew r was.nodes
     → (job : Job) → AreParts (set_up_of g d r) (nodes.state_of (set_up_of g d r) n.history) n.parts → length n.history ≡ most_entries → length n.parts.jobs.running < 4 → StopsAtFull g r (begins r job d) was.run
 job_stops laws tells g d r n was h at few job parts full free =
     stops_at_once tells g d (begins r job d) r n was h at few full
@@ -109,14 +109,14 @@ comes_logging : (r : ℕ) (file : LogFile) (d : Driver) (new : List (List ℕ)) 
 comes_logging r file d [] some = absurd (never some)
 comes_logging r file d (line ∷ lines) some = comes_calling r calls.PutFile d (notes r (kinds.Log file) (line ∷ lines) d) (comes_noting r (kinds.Log file) (line ∷ lines) d)
 
-pub line_stops : {K : Type 0} (tells : K → StoreView) (g : Given) (d : Driver) (r : ℕ) (n : NodeView K) (was : FleetView K) → HasCome tells g d was → slice_get was.nodes r ≡ Some n → OthersAreFew r was.nodes
+pub line_stops : {K : Type 0} (tells : K → StoreView) (g : DriverInput) (d : Driver) (r : ℕ) (n : NodeView K) (was : FleetView K) → HasCome tells g d was → slice_get was.nodes r ≡ Some n → OthersAreFew r was.nodes
     → (file : LogFile) (line : List ℕ) → length n.history ≡ most_entries → lacks_some n file (line ∷ []) ≡ true → StopsAtFull g r (writes r file line d) was.run
 line_stops tells g d r n was h at few file line full lacks =
     stops_at_once tells g d (writes r file line d) r n was h at few full
-    (comes_logging r file d (unknown d r file (line ∷ []))
+    (comes_logging r file d (unknown_lines d r file (line ∷ []))
     (subst (λ (b : Files). nat_lt 0 (length (difference (line ∷ []) (lines_at b (file_path file)))) ≡ true) (h.each r n at).branch lacks))
 
-pub setting_stops : {K : Type 0} (tells : K → StoreView) (g : Given) (d : Driver) (r : ℕ) (n : NodeView K) (was : FleetView K) → HasCome tells g d was → slice_get was.nodes r ≡ Some n → OthersAreFew r was.nodes
+pub setting_stops : {K : Type 0} (tells : K → StoreView) (g : DriverInput) (d : Driver) (r : ℕ) (n : NodeView K) (was : FleetView K) → HasCome tells g d was → slice_get was.nodes r ≡ Some n → OthersAreFew r was.nodes
     → (kind : LogKind) (topic : Topic) (value : Value) → length n.history ≡ most_entries
     → lacks_some n (Of kind) (line_text kind (stamped_by (raised d n) kind None (record { topic = topic; stamp = None; value = value })) ∷ []) ≡ true → StopsAtFull g r (sets g r kind topic value d) was.run
 setting_stops tells g d r n was h at few kind topic value full lacks =
@@ -125,7 +125,7 @@ setting_stops tells g d r n was h at few kind topic value full lacks =
 
 -- ---- contents that the store is asked for first
 
-pub content_asked : {K : Type 0} → StopLaws → (tells : K → StoreView) (g : Given) (d : Driver) (r : ℕ) (n : NodeView K) (was : FleetView K) → HasCome tells g d was → slice_get was.nodes r ≡ Some n → OthersAreFew r was.nodes
+pub content_asked : {K : Type 0} → StopLaws → (tells : K → StoreView) (g : DriverInput) (d : Driver) (r : ℕ) (n : NodeView K) (was : FleetView K) → HasCome tells g d was → slice_get was.nodes r ≡ Some n → OthersAreFew r was.nodes
     → (key bytes : List ℕ) → length n.history ≡ most_entries → (count_of d.past r ≡ most_entries) × (within_limit g (has g r key bytes d).past ≡ d.past)
 content_asked stop tells g d r n was h at few key bytes full =
     let counted : count_of d.past r ≡ most_entries = count_is d.past n.history r (h.each r n at).history ∙ full in

@@ -3,6 +3,7 @@ use Rattle.std.proofs.Common.{◌≡◌, ℕ, ◌<◌, ◌≤◌, ◌^◌, Bool,
 use Rattle.std.specs.Prelude.{◌&&◌, ◌||◌, find, if◌then◌else◌, nat_lt, not, slice_get}
 use Rattle.std.specs.List.{list_any}
 use Rattle.std.specs.Map.{keys_of}
+use Rattle.std.proofs.lemmas.Bool.{and_right, not-true, not_from_false}
 use Rattle.annex_base.proofs.Lists.{cons_first, cons_nil, cons_rest}
 use Rattle.annex_base.specs.declared.kinds.Call.{Call}
 use Rattle.annex_base.specs.declared.kinds.Call.TheVariants as calls
@@ -13,7 +14,7 @@ use Rattle.union_merge.specs.Branch.{Files, lines_at}
 use Rattle.union_merge.specs.LineSet.{difference}
 use Rattle.content_lock.specs.CallsMade.{MakesCalls}
 use Rattle.node_model.specs.Files.{compact_lines}
-use Rattle.driver_model.specs.Driver.{Driver, Given, fails_at, notes}
+use Rattle.driver_model.specs.Driver.{Driver, DriverInput, fails_at, notes}
 use Rattle.driver_model.specs.Limits.{StopsAtFull}
 use Rattle.driver_model.specs.ScriptSteps as script
 use Rattle.driver_model.specs.ScriptSteps.{compacts, compacts_files, faults, is_nil, merges, merges_files, news}
@@ -47,10 +48,6 @@ call_calm : (a b c : Bool) → a ≡ true → ((a || b) && c) ≡ false → c �
 call_calm true b c is e = e
 call_calm false b c is e = absurd (cc)
 
-calm_for_all : (b c : Bool) → c ≡ false → (b && c) ≡ false
-calm_for_all true c e = e
-calm_for_all false c e = refl
-
 -- so it is where the calls went well
 walk_is_calm : (d : Driver) (r : ℕ) (some : Bool) (v : StoreView) (after : Option (Call → ℕ)) → IsStoreOf d r v → MakesCalls (to_write some) None v.failing after → (some && fails_at d r calls.PutFile) ≡ false
 walk_is_calm d r some v after is made = go some (fails_at d r calls.PutFile) refl (first_of_calls d r (to_write some) v None after is made)
@@ -65,14 +62,6 @@ walk_is_calm d r some v after is made = go some (fails_at d r calls.PutFile) ref
 
 -- ---- the driver's walk, cut in two
 
-not_false : (b : Bool) → not b ≡ true → b ≡ false
-not_false false e = refl
-not_false true e = absurd (cc)
-
-not_true : (b : Bool) → b ≡ false → not b ≡ true
-not_true false e = refl
-not_true true e = absurd (cc)
-
 abbrev has_news : Driver → ℕ → List ℕ × List (List ℕ) → Bool
 has_news d r f = not (is_nil (news d r f.0 f.1))
 
@@ -85,8 +74,8 @@ merges_cut r (f ∷ done) rest d calm = go (merges_cut r done rest) (is_nil (new
     go more true e = rw e (more d (rest_calm (has_news d r f) (list_any (has_news d r) done) (fails_at d r calls.PutFile) calm))
     go more false e =
         let written : Driver = notes r (kinds.Log (file_of f.0)) (news d r f.0 f.1) d in
-        let well : fails_at d r calls.PutFile ≡ false = call_calm (has_news d r f) (list_any (has_news d r) done) (fails_at d r calls.PutFile) (not_true (is_nil (news d r f.0 f.1)) e) calm in
-        rw e (rw well (more written (calm_for_all (list_any (has_news written r) done) (fails_at d r calls.PutFile) well)))
+        let well : fails_at d r calls.PutFile ≡ false = call_calm (has_news d r f) (list_any (has_news d r) done) (fails_at d r calls.PutFile) (not_from_false (is_nil (news d r f.0 f.1)) e) calm in
+        rw e (rw well (more written (and_right (list_any (has_news written r) done) (fails_at d r calls.PutFile) well)))
 
 compacts_cut : (r : ℕ) (done rest : Files) (d : Driver) → (list_any (λ f. script.shrinks d r (file_of f.0)) done && fails_at d r calls.PutFile) ≡ false
     → compacts_files r (done ++ rest) d ≡ compacts_files r rest (compacts_files r done d)
@@ -99,16 +88,14 @@ compacts_cut r (f ∷ done) rest d calm = go (compacts_cut r done rest) (script.
     go more true e =
         let written : Driver = notes r (kinds.Compact (file_of f.0)) [] d in
         let well : fails_at d r calls.PutFile ≡ false = call_calm (script.shrinks d r (file_of f.0)) (list_any (λ f. script.shrinks d r (file_of f.0)) done) (fails_at d r calls.PutFile) e calm in
-        rw e (rw well (more written (calm_for_all (list_any (λ f. script.shrinks written r (file_of f.0)) done) (fails_at d r calls.PutFile) well)))
-
--- ---- each part of it lets r alone go on
+        rw e (rw well (more written (and_right (list_any (λ f. script.shrinks written r (file_of f.0)) done) (fails_at d r calls.PutFile) well)))
 
 -- ---- the next file
 
 comes_merging : StopLaws → (r : ℕ) (f : List ℕ × List (List ℕ)) (left : Files) (d : Driver) → has_news d r f ≡ true → ComesTo r d (merges_files r (f ∷ left) d)
 comes_merging laws r f left d some =
     let written : Driver = notes r (kinds.Log (file_of f.0)) (news d r f.0 f.1) d in
-    rw (not_false (is_nil (news d r f.0 f.1)) some)
+    rw (not-true (is_nil (news d r f.0 f.1)) some)
     (comes_if r (fails_at d r calls.PutFile) d (faults r calls.PutFile d) (merges_files r left written) (comes_failing r calls.PutFile d)
     (comes_then r d written (merges_files r left written) (comes_noting r (kinds.Log (file_of f.0)) (news d r f.0 f.1) d) (laws.merges_add r left written)))
 
@@ -122,7 +109,7 @@ comes_compacting laws r f left d some =
 -- ---- the node's walk
 
 -- the entries of a node are the same over another store
-entries_over : {K : Type 0} (g : Given) (d : Driver) (r : ℕ) (n m : NodeView K) → HasEntriesOf g d r n → m ≡ over m.keeper n → HasEntriesOf g d r m
+entries_over : {K : Type 0} (g : DriverInput) (d : Driver) (r : ℕ) (n m : NodeView K) → HasEntriesOf g d r n → m ≡ over m.keeper n → HasEntriesOf g d r m
 entries_over {K} g d r n m is node =
     subst (HasEntriesOf g d r) (sym node)
     (record {
@@ -133,11 +120,11 @@ entries_over {K} g d r n m is node =
       count = is.count;
     })
 
-lacking_alike : {K : Type 0} (g : Given) (d : Driver) (r : ℕ) (n : NodeView K) (f : List ℕ × List (List ℕ)) → HasEntriesOf g d r n → lacks_of n f ≡ has_news d r f
+lacking_alike : {K : Type 0} (g : DriverInput) (d : Driver) (r : ℕ) (n : NodeView K) (f : List ℕ × List (List ℕ)) → HasEntriesOf g d r n → lacks_of n f ≡ has_news d r f
 lacking_alike g d r n f is =
     some_left (difference f.1 (lines_at n.branch (file_path (file_of f.0)))) ∙ ap (λ (b : Files). not (is_nil (difference f.1 (lines_at b (file_path (file_of f.0)))))) is.branch
 
-shrinking_alike : {K : Type 0} (g : Given) (d : Driver) (r : ℕ) (n : NodeView K) (path : List ℕ) → HasEntriesOf g d r n → shrinks_at n path ≡ script.shrinks d r (file_of path)
+shrinking_alike : {K : Type 0} (g : DriverInput) (d : Driver) (r : ℕ) (n : NodeView K) (path : List ℕ) → HasEntriesOf g d r n → shrinks_at n path ≡ script.shrinks d r (file_of path)
 shrinking_alike g d r n path is =
     ap (λ (b : Files). nat_lt (length (compact_lines (kind_of (file_of path)) (lines_at b (file_path (file_of path))))) (length (lines_at b (file_path (file_of path))))) is.branch
 
@@ -145,13 +132,13 @@ absurd_call : (call : Call) → None ≡ Some call → ⊥
 absurd_call call e = cc
 
 -- the front of a merge, over the store that was there before
-merged_front : {K : Type 0} (tells : K → StoreView) (g : Given) (d : Driver) (r : ℕ) (n : NodeView K) (done : Files) (after : Option (Call → ℕ)) → IsRaised tells g d r n
+merged_front : {K : Type 0} (tells : K → StoreView) (g : DriverInput) (d : Driver) (r : ℕ) (n : NodeView K) (done : Files) (after : Option (Call → ℕ)) → IsRaised tells g d r n
     → MakesCalls (to_write (list_any (lacks_of n) done)) None (tells n.keeper).failing after → HasEntriesOf g (merges_files r done d) r (over n.keeper (merge_files n done))
 merged_front {K} tells g d r n done after raised made =
     (merged tells g d r n (over n.keeper (merge_files n done)) done None raised (record { contents = refl; parts = refl })
     (record { first = made.first; left = sym (none_fewer (tells n.keeper).failing) }) (λ e. refl) (λ call e. absurd (absurd_call call e))).entries
 
-compacted_front : {K : Type 0} (tells : K → StoreView) (g : Given) (d : Driver) (r : ℕ) (n : NodeView K) (done : Files) → IsRaised tells g d r n
+compacted_front : {K : Type 0} (tells : K → StoreView) (g : DriverInput) (d : Driver) (r : ℕ) (n : NodeView K) (done : Files) → IsRaised tells g d r n
     → (list_any (shrinks_at n) (map (λ f. f.0) done) && fails_at d r calls.PutFile) ≡ false → IsRaised tells g (compacts_files r done d) r (compact_files n (map (λ f. f.0) done))
 compacted_front {K} tells g d r n done raised calm = go (fails_at d r calls.PutFile) refl
   where
@@ -175,7 +162,7 @@ compacted_front {K} tells g d r n done raised calm = go (fails_at d r calls.PutF
 
 -- ---- merges
 
-pub merge_stops : {K : Type 0} → StopLaws → (tells : K → StoreView) (g : Given) (d : Driver) (r : ℕ) (n m : NodeView K) (was after : FleetView K) → HasCome tells g d was → OneGoesOn r n m was after → OthersAreFew r was.nodes
+pub merge_stops : {K : Type 0} → StopLaws → (tells : K → StoreView) (g : DriverInput) (d : Driver) (r : ℕ) (n m : NodeView K) (was after : FleetView K) → HasCome tells g d was → OneGoesOn r n m was after → OthersAreFew r was.nodes
     → m.time ≤ 1000000000000 → m.count < 2 ^ 62 → (other : ℕ) (o : NodeView K) → slice_get was.nodes other ≡ Some o
     → MeetsFull (merge_files (raised d n)) lacks_of o.branch (tells n.keeper).failing (tells m.keeper).failing (raised d n) m → StopsAtFull g r (merges r other d) after.run
 merge_stops {K} laws tells g d r n m was after h step few early counted other o there met =
@@ -226,7 +213,7 @@ cut_at (f ∷ files) (path ∷ done) next left e =
     let first : f.0 ≡ path = cons_first f.0 path (map (λ f. f.0) files) (done ++ next ∷ left) e in
     record { front = f ∷ more.front; file = more.file; rest = more.rest; whole = ap (λ (xs : Files). f ∷ xs) more.whole; keys = λ i. first i ∷ more.keys i; key = more.key }
 
-pub compact_stops : {K : Type 0} → StopLaws → (tells : K → StoreView) (g : Given) (d : Driver) (r : ℕ) (n m : NodeView K) (was after : FleetView K) → HasCome tells g d was → OneGoesOn r n m was after → OthersAreFew r was.nodes
+pub compact_stops : {K : Type 0} → StopLaws → (tells : K → StoreView) (g : DriverInput) (d : Driver) (r : ℕ) (n m : NodeView K) (was after : FleetView K) → HasCome tells g d was → OneGoesOn r n m was after → OthersAreFew r was.nodes
     → m.time ≤ 1000000000000 → m.count < 2 ^ 62
     → MeetsFull (compact_files (raised d n)) shrinks_at (keys_of n.branch) (tells n.keeper).failing (tells m.keeper).failing (raised d n) m → StopsAtFull g r (compacts r d) after.run
 compact_stops {K} laws tells g d r n m was after h step few early counted met =

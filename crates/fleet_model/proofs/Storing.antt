@@ -3,14 +3,10 @@ use Rattle.std.proofs.Common.{◌≡◌, ◌≢◌, ℕ, Bool, true, false, List
 use Rattle.std.specs.Prelude.{◌==◌, ◌&&◌, bytes_eq, find, if◌then◌else◌}
 use Rattle.std.specs.Option.{option_map}
 use Rattle.std.proofs.lemmas.Bool.Decides.{nat_tests}
-use Rattle.annex_base.proofs.Conditions.{bytes_eq-true}
+use Rattle.annex_base.proofs.Conditions.{bytes_eq-true, eqb_refl}
 use Rattle.driver_model.specs.Stores.{StoredBytes, bytes_in, is_stored, stored_bytes, with_bytes, without}
-use Rattle.fleet_model.proofs.Noting.{same_number}
 
 -- ---- which one is found
-
-found_in : List StoredBytes → ℕ → List ℕ → Option StoredBytes
-found_in xs r k = find (is_stored r k) xs
 
 -- a stored one of this key is none of another
 other_key : (r : ℕ) (key k : List ℕ) (x : StoredBytes) → bytes_eq key k ≡ false → is_stored r key x ≡ true → is_stored r k x ≡ false
@@ -73,8 +69,8 @@ others_found (x ∷ xs) r q key k apart = go (is_stored r key x) refl (others_fo
 
 found_with : (xs : List StoredBytes) (r : ℕ) (key bytes k : List ℕ) (b : Bool) → bytes_eq key k ≡ b
     → find (is_stored r k) (with_bytes xs r key bytes) ≡ (if b then Some (record { repo = r; key = key; bytes = bytes }) else find (is_stored r k) xs)
-found_with xs r key bytes k true e = rw (same_number r) (rw e refl)
-found_with xs r key bytes k false e = rw (same_number r) (rw e (found_without xs r key k false e))
+found_with xs r key bytes k true e = rw (eqb_refl r) (rw e refl)
+found_with xs r key bytes k false e = rw (eqb_refl r) (rw e (found_without xs r key k false e))
 
 others_with : (xs : List StoredBytes) (r q : ℕ) (key bytes k : List ℕ) → q ≢ r → find (is_stored q k) (with_bytes xs r key bytes) ≡ find (is_stored q k) xs
 others_with xs r q key bytes k apart = rw (differ apart) (others_found xs r q key k apart)

@@ -4,10 +4,12 @@ use Rattle.std.specs.Prelude.{◌==◌, flat_map, is_some, reverse, slice_get}
 use Rattle.std.proofs.lemmas.List.{reverse-append}
 use Rattle.std.proofs.lemmas.Option.{same_Some}
 use Rattle.std.specs.Option.{ForSome, option_map, option_to_list}
+use Rattle.std.proofs.lemmas.Bool.{eqb-false, eqb-true}
 use Rattle.annex_base.specs.Lists.{Each, Member}
 use Rattle.annex_base.proofs.Lists.{Member-filter_parts}
 use Rattle.annex_base.specs.declared.kinds.EntryStamp.{EntryStamp}
 use Rattle.annex_base.specs.declared.kinds.Word.{Word}
+use Rattle.annex_base.proofs.Conditions.{eqb_refl}
 use Rattle.link_ring.specs.Ends.{EndView, after_drop, fresh}
 use Rattle.object_store.specs.Stores.{AreSmallParts, Contents, Parts}
 use Rattle.run_data.specs.declared.entry.Entry.{Entry}
@@ -20,7 +22,7 @@ use Rattle.run_model.specs.Past.{is_of}
 use Rattle.run_model.specs.Run.{IsSmall}
 use Rattle.run_model.specs.States as runs
 use Rattle.run_model.specs.States.{works}
-use Rattle.node_model.specs.After.{Agrees, states}
+use Rattle.node_model.specs.After.{AgreesAtDrops, states}
 use Rattle.node_model.specs.AnyTime.{all_ends}
 use Rattle.node_model.specs.Ends.{EndName, sends_at, sent_at, taken_at}
 use Rattle.node_model.specs.Look.{Look, Made, entry_of}
@@ -40,9 +42,9 @@ use Rattle.link_flights.specs.Flights.{HasAtHand, IsEndIn}
 use Rattle.race_core.specs.Jobs.{AnswersAsked, AreJobs}
 use Rattle.link_flights.specs.Heard.{HeardSo, WordsGoOn}
 use Rattle.link_flights.specs.Words.{AreAllWorded, TellsWords}
-use Rattle.driver_model.specs.Driver.{Driver, Given, adds, end_to, has_room, part_at, piece_of, set_up_of, state_at, without_old_flights}
+use Rattle.driver_model.specs.Driver.{Driver, DriverInput, adds, end_to, has_room, part_at, piece_of, set_up_of, state_at, without_old_flights}
 use Rattle.driver_model.specs.Finding.{MakesStep, after_step, driver_at_turn}
-use Rattle.driver_model.specs.Scripts.{Fits, IsKnown}
+use Rattle.driver_model.specs.Scripts.{HasBoundedPast, IsKnown}
 use Rattle.driver_model.specs.Sound.{IsSound, StaysSound}
 use Rattle.driver_model.specs.Turning.{asked_key, bytes_taken, plain_look, told_words, turn}
 use Rattle.driver_model.specs.WordsRead.{AgreeWhereRead}
@@ -57,14 +59,14 @@ use Rattle.fleet_model.specs.Steps.{OneTurns, raised, with_links}
 use Rattle.fleet_model.specs.Stores.{IsTold, content_in}
 use Rattle.fleet_model.specs.Turns.{IsWhole, StandsWell}
 use Rattle.fleet_model.proofs.Bounds.{AreShortParts, kind_is_small, largest_fits}
-use Rattle.fleet_model.proofs.Coming.{ends_in, same, unlike}
+use Rattle.fleet_model.proofs.Coming.{ends_in}
 use Rattle.fleet_model.proofs.DirectContents.{StandsTold, stands_told}
 use Rattle.fleet_model.proofs.EndsThere.{end_there, own_room, part_fits, takes_own, wait_there}
 use Rattle.fleet_model.proofs.Going.{goes_within}
 use Rattle.fleet_model.proofs.Hearing.{WordLaws}
 use Rattle.fleet_model.proofs.Idle.{none_ready, turned_idly}
 use Rattle.fleet_model.proofs.Looking.{LookLaws, TurnMade, node_makes_step}
-use Rattle.fleet_model.proofs.Noting.{IsRaised, same_number}
+use Rattle.fleet_model.proofs.Noting.{IsRaised}
 use Rattle.fleet_model.proofs.PiecesGiven.{piece_is_given}
 use Rattle.fleet_model.proofs.Raising.{raised_is}
 use Rattle.fleet_model.proofs.States.{state_is}
@@ -81,16 +83,16 @@ pub record TurnLaws : Type 0 where
   pub looks : LookLaws
   pub ends : EndLaws
   pub words : WordLaws
-  pub found : (g : Given) (r : ℕ) (d : Driver) (m : Made) → MakesStep g r d m → turn g r d ≡ after_step g r d m
-  pub idle : (g : Given) (r : ℕ) (d : Driver) → step (set_up_of g d r) (state_at g d r) (plain_look (set_up_of g d r) (driver_at_turn g r d)) ≡ None → turn g r d ≡ driver_at_turn g r d
-  pub stays : (g : Given) (r : ℕ) (d : Driver) → IsKnown g r → StaysSound g d (turn g r d)
+  pub found : (g : DriverInput) (r : ℕ) (d : Driver) (m : Made) → MakesStep g r d m → turn g r d ≡ after_step g r d m
+  pub idle : (g : DriverInput) (r : ℕ) (d : Driver) → step (set_up_of g d r) (state_at g d r) (plain_look (set_up_of g d r) (driver_at_turn g r d)) ≡ None → turn g r d ≡ driver_at_turn g r d
+  pub stays : (g : DriverInput) (r : ℕ) (d : Driver) → IsKnown g r → StaysSound g d (turn g r d)
   pub read : (s : SetUp) (past : List Entry) (m : Made) (words : ℕ → ℕ → Option Word) (own : ℕ → Option Word) → HeardSo past s.number words
       → ((j : ℕ) (outcome : Outcome) → m.kind ≡ kinds.End j outcome → (c : ℕ) → own c ≡ words j c) → AgreeWhereRead s (runs.state_of s past) m own (told_words past s.number m.kind)
-  pub room : (g : Given) (links : List EndView) (s : SetUp) (d : Driver) (a : EndName) (v : EndView) → IsSound g d → length d.past < 2 ^ 30 → AreEnds links s (runs.state_of s d.past) → Member a (all_ends s)
+  pub room : (g : DriverInput) (links : List EndView) (s : SetUp) (d : Driver) (a : EndName) (v : EndView) → IsSound g d → length d.past < 2 ^ 30 → AreEnds links s (runs.state_of s d.past) → Member a (all_ends s)
       → link_at links a ≡ Some v → IsEndIn d.flights s.number a v → room_at links a ≡ (plain_look s (without_old_flights (runs.state_of s d.past) s.number d)).room a
-  pub own_room : (g : Given) (d : Driver) (r : ℕ) (a : EndName) → IsSound g d → a.peer ≡ r → has_room r d.flights a ≡ true
-  pub sends : (g : Given) (d : Driver) (r : ℕ) (k : Look) (m : Made) → IsSound g d → IsKnown g r → k.part < 2 ^ 62 → step (set_up_of g d r) (state_at g d r) k ≡ Some m → Each (λ f. f.peer ≢ r) m.sent
-  pub takes : (g : Given) (d : Driver) (r : ℕ) (k : Look) (m : Made) (f : FrameView) → IsSound g d → IsKnown g r → k.part < 2 ^ 62 → step (set_up_of g d r) (state_at g d r) k ≡ Some m → m.taken ≡ Some f → f.peer ≢ r
+  pub own_room : (g : DriverInput) (d : Driver) (r : ℕ) (a : EndName) → IsSound g d → a.peer ≡ r → has_room r d.flights a ≡ true
+  pub sends : (g : DriverInput) (d : Driver) (r : ℕ) (k : Look) (m : Made) → IsSound g d → IsKnown g r → k.part < 2 ^ 62 → step (set_up_of g d r) (state_at g d r) k ≡ Some m → Each (λ f. f.peer ≢ r) m.sent
+  pub takes : (g : DriverInput) (d : Driver) (r : ℕ) (k : Look) (m : Made) (f : FrameView) → IsSound g d → IsKnown g r → k.part < 2 ^ 62 → step (set_up_of g d r) (state_at g d r) k ≡ Some m → m.taken ≡ Some f → f.peer ≢ r
   pub dropped : (d : Driver) (st : State) (r : ℕ) (a : EndName) (v : EndView) → a.peer ≢ r → st.ends a ≡ stands v → IsEndIn d.flights r a v → IsEndIn (without_old_flights st r d).flights r a (after_drop v)
   pub worded : (s : SetUp) (d : Driver) (was now : ℕ → List EndView) (mine : List EndView) (e : Entry) (sender : EntryStamp) (word : EndName → Sending → Option Word) (said : EndName → List Sending)
       → s.number < length s.repos → AreEnds (was s.number) s (runs.state_of s d.past) → AreEndsIn d.flights (length s.repos) was → AreAllWorded d.past (length s.repos) was → e.repo ≡ Some s.number → TellsWords e word
@@ -98,8 +100,8 @@ pub record TurnLaws : Type 0 where
       → AreAllCarried (length s.repos) s.number mine was now → AreAllWorded (e ∷ d.past) (length s.repos) now
   pub worded_idly : (s : SetUp) (d : Driver) (was now : ℕ → List EndView) → s.number < length s.repos → AreEnds (was s.number) s (runs.state_of s d.past) → AreEndsIn d.flights (length s.repos) was
       → AreAllWorded d.past (length s.repos) was → AreAllCarried (length s.repos) s.number (map after_drop (was s.number)) was now → AreAllWorded d.past (length s.repos) now
-  pub jobs : (g : Given) (d : Driver) (r : ℕ) → IsSound g d → AreJobs (works d.past r)
-  pub asked : (g : Given) (d : Driver) (past : List Entry) (e : Entry) (r : ℕ) → IsSound g d → d.past ≡ e ∷ past → is_of r e ≡ true → AnswersAsked past r e
+  pub jobs : (g : DriverInput) (d : Driver) (r : ℕ) → IsSound g d → AreJobs (works d.past r)
+  pub asked : (g : DriverInput) (d : Driver) (past : List Entry) (e : Entry) (r : ℕ) → IsSound g d → d.past ≡ e ∷ past → is_of r e ≡ true → AnswersAsked past r e
   pub changed : (s : SetUp) (past : List Entry) (k : Look) (m : Made) (e : Entry) → step s (runs.state_of s past) k ≡ Some m → e.repo ≡ Some s.number → e.kind ≡ m.kind → e.taken ≡ m.taken → e.sent ≡ m.sent
       → AreJobs (works past s.number) → ChangesByAnswers past s.number e
   pub stepped : (s : SetUp) (past : List Entry) (k : Look) (m : Made) (e : Entry) (ends : ℕ → List EndView) (was now : ℕ → ℕ → Option Word) → s.number < length s.repos
@@ -110,40 +112,40 @@ pub record TurnLaws : Type 0 where
 
 -- ---- before the turn
 
-pub agreed : {K : Type 0} → TurnLaws → (tells : K → StoreView) (g : Given) (d : Driver) (r : ℕ) (n : NodeView K) (was : FleetView K) → HasCome tells g d was → slice_get was.nodes r ≡ Some n
-    → Agrees (state_at g d r) (nodes.state_of (set_up_of g d r) n.history)
+pub agreed : {K : Type 0} → TurnLaws → (tells : K → StoreView) (g : DriverInput) (d : Driver) (r : ℕ) (n : NodeView K) (was : FleetView K) → HasCome tells g d was → slice_get was.nodes r ≡ Some n
+    → AgreesAtDrops (state_at g d r) (nodes.state_of (set_up_of g d r) n.history)
 agreed laws tells g d r n was h at = state_is laws.looks.carried g d r n h.sound (h.each r n at).history
 
-pub ends_stand : {K : Type 0} → TurnLaws → (tells : K → StoreView) (g : Given) (d : Driver) (r : ℕ) (n : NodeView K) (was : FleetView K) → HasCome tells g d was → slice_get was.nodes r ≡ Some n → StandsWell g d r n
+pub ends_stand : {K : Type 0} → TurnLaws → (tells : K → StoreView) (g : DriverInput) (d : Driver) (r : ℕ) (n : NodeView K) (was : FleetView K) → HasCome tells g d was → slice_get was.nodes r ≡ Some n → StandsWell g d r n
     → AreEnds n.parts.links (set_up_of g d r) (state_at g d r)
 ends_stand laws tells g d r n was h at well =
     record { count = well.parts.ends.count; ends = λ a among. ap (λ (x : State). x.ends a) (agreed laws tells g d r n was h at).same ∙ well.parts.ends.ends a among }
 
-pub own_ends : {K : Type 0} → TurnLaws → (tells : K → StoreView) (g : Given) (d : Driver) (r : ℕ) (n : NodeView K) (was : FleetView K) → HasCome tells g d was → slice_get was.nodes r ≡ Some n → StandsWell g d r n
+pub own_ends : {K : Type 0} → TurnLaws → (tells : K → StoreView) (g : DriverInput) (d : Driver) (r : ℕ) (n : NodeView K) (was : FleetView K) → HasCome tells g d was → slice_get was.nodes r ≡ Some n → StandsWell g d r n
     → AreOwnEndsIn d.flights (set_up_of g d r) n.parts.links
 own_ends laws tells g d r n was h at well =
     subst (AreOwnEndsIn d.flights (set_up_of g d r)) (ap ends_in at) (laws.ends.own (set_up_of g d r) d (links_at was.nodes) well.known h.ends)
 
 -- the node's end of this name stands as the flights tell
-own_end : {K : Type 0} (tells : K → StoreView) (g : Given) (d : Driver) (r : ℕ) (n : NodeView K) (was : FleetView K) (a : EndName) (v : EndView) → HasCome tells g d was → slice_get was.nodes r ≡ Some n → StandsWell g d r n
+own_end : {K : Type 0} (tells : K → StoreView) (g : DriverInput) (d : Driver) (r : ℕ) (n : NodeView K) (was : FleetView K) (a : EndName) (v : EndView) → HasCome tells g d was → slice_get was.nodes r ≡ Some n → StandsWell g d r n
     → a.peer ≢ r → link_at n.parts.links a ≡ Some v → IsEndIn d.flights r a v
 own_end tells g d r n was a v h at well apart there =
     h.ends r a v well.known (end_there n.parts.links (length g.repos) a v well.parts.ends.count there).peer apart (ap (λ (links : List EndView). link_at links a) (ap ends_in at) ∙ there)
 
-unused_here : {K : Type 0} (tells : K → StoreView) (g : Given) (d : Driver) (r : ℕ) (n : NodeView K) (was : FleetView K) (a : EndName) (v : EndView) → HasCome tells g d was → slice_get was.nodes r ≡ Some n
+unused_here : {K : Type 0} (tells : K → StoreView) (g : DriverInput) (d : Driver) (r : ℕ) (n : NodeView K) (was : FleetView K) (a : EndName) (v : EndView) → HasCome tells g d was → slice_get was.nodes r ≡ Some n
     → a.peer ≡ r → link_at n.parts.links a ≡ Some v → v ≡ fresh
 unused_here tells g d r n was a v h at own there = h.selves r a v own (ap (λ (links : List EndView). link_at links a) (ap ends_in at) ∙ there)
 
 -- the node's ends have the room that the driver sees
-pub rooms_agree : {K : Type 0} → TurnLaws → (tells : K → StoreView) (g : Given) (d : Driver) (r : ℕ) (n : NodeView K) (was : FleetView K) → HasCome tells g d was → slice_get was.nodes r ≡ Some n → StandsWell g d r n
+pub rooms_agree : {K : Type 0} → TurnLaws → (tells : K → StoreView) (g : DriverInput) (d : Driver) (r : ℕ) (n : NodeView K) (was : FleetView K) → HasCome tells g d was → slice_get was.nodes r ≡ Some n → StandsWell g d r n
     → (a : EndName) → is_some (link_at n.parts.links a) ≡ true → has_room r (driver_at_turn g r d).flights a ≡ room_at n.parts.links a
 rooms_agree laws tells g d r n was h at well a there = go (link_at n.parts.links a) refl there
   where
     by_peer : (v : EndView) → link_at n.parts.links a ≡ Some v → (b : Bool) → (a.peer == r) ≡ b → has_room r (driver_at_turn g r d).flights a ≡ room_at n.parts.links a
-    by_peer v e true own = own_room g d r n.parts.links a v (laws.own_room g d r a h.sound (same a.peer r own)) e (unused_here tells g d r n was a v h at (same a.peer r own) e)
+    by_peer v e true own = own_room g d r n.parts.links a v (laws.own_room g d r a h.sound (eqb-true a.peer r own)) e (unused_here tells g d r n was a v h at (eqb-true a.peer r own) e)
     by_peer v e false other =
         let name = end_there n.parts.links (length g.repos) a v well.parts.ends.count e in
-        let apart : a.peer ≢ r = unlike a.peer r other in
+        let apart : a.peer ≢ r = eqb-false a.peer r other in
         sym (laws.room g n.parts.links (set_up_of g d r) d a v h.sound well.few (ends_stand laws tells g d r n was h at well)
         (laws.listed (set_up_of g d r) a (record { peer = name.peer; other = apart; slot = name.slot })) e (own_end tells g d r n was a v h at well apart e))
 
@@ -153,7 +155,7 @@ rooms_agree laws tells g d r n was h at well a there = go (link_at n.parts.links
 
 -- ---- a turn with a step
 
-pub turn_comes : {K : Type 0} → TurnLaws → (tells : K → StoreView) (g : Given) (d : Driver) (r : ℕ) (n m : NodeView K) (was after : FleetView K)
+pub turn_comes : {K : Type 0} → TurnLaws → (tells : K → StoreView) (g : DriverInput) (d : Driver) (r : ℕ) (n m : NodeView K) (was after : FleetView K)
     → DecidesMatches g → HasCome tells g d was → OneTurns r n m was after → StandsWell g d r n
     → Adds (map after_drop n.parts.links) (tells n.keeper) (tells m.keeper) (raised d n) m → StepsBy step step_calls (tells n.keeper) (tells m.keeper) (raised d n) m
     → (AreSmallParts (tells n.keeper).parts → AreSmallParts (tells m.keeper).parts) → IsWhole tells m → m.time ≤ 1000000000000 → m.count < 2 ^ 62 → HasCome tells g (turn g r d) after
@@ -247,8 +249,8 @@ turn_comes {K} laws tells g d r n m was after decides h one well ad by small who
     large : (after_step g r d made).largest < 2 ^ 62
     large = largest_fits st r made bytes made.kind d1 h.fits.1 short_after
 
-    fits_m : nodes.Fits m.setup s
-    fits_m = subst (λ (x : _). nodes.Fits x s) (sym ad.setup) own.entries.setup
+    fits_m : nodes.MatchesSetup m.setup s
+    fits_m = subst (λ (x : _). nodes.MatchesSetup x s) (sym ad.setup) own.entries.setup
 
     history : reverse m.history ≡ e ∷ reverse n.history
     history = ap reverse tm.adds ∙ reverse-append n.history (e ∷ [])
@@ -308,7 +310,7 @@ turn_comes {K} laws tells g d r n m was after decides h one well ad by small who
     words_after = subst (λ (xs : List Entry). AreAllWorded xs (length g.repos) (links_at after.nodes)) (sym past)
         (laws.worded s d (links_at was.nodes) (links_at after.nodes) m.parts.links e sender (λ a. word_with a e.taken e.kind) ad.posts.posts.said well.known ends_were h.ends h.words refl (tells_words e) posted carried)
 
-    fits_after : Fits (after_step g r d made)
+    fits_after : HasBoundedPast (after_step g r d made)
     fits_after = goes_within r d (after_step g r d made) h.fits (turn_goes g d r made small_made (λ before. large))
         (subst (λ (t : ℕ). t ≤ 1000000000000) raised_m.entries.time early) (subst (λ (x : ℕ). x < 2 ^ 62) raised_m.entries.count few)
 
@@ -340,7 +342,7 @@ turn_comes {K} laws tells g d r n m was after decides h one well ad by small who
     heard_after = subst (λ (xs : List Entry). HeardSo xs r (words_at m.parts.jobs.running)) (sym past)
         (laws.stepped s d.past tm.is_step.look made e (links_at was.nodes) (words_at n.parts.jobs.running) (words_at m.parts.jobs.running) well.known ends_were h.words
         (tm.is_step.is_look.hand_is ∙ sym (dropped_hand laws.ends s st d (links_at was.nodes) well.known ends_were h.ends)) tm.is_step.steps refl refl refl (laws.jobs g d r h.sound)
-        (laws.asked g (after_step g r d made) d.past e r sound_after past (same_number r)) words_on (h.each r n one.before).heard)
+        (laws.asked g (after_step g r d made) d.past e r sound_after past (eqb_refl r)) words_on (h.each r n one.before).heard)
 
     unused_after : AreUnused (links_at after.nodes)
     unused_after = turn_unused r n m was after one h.selves
@@ -349,7 +351,7 @@ turn_comes {K} laws tells g d r n m was after decides h one well ad by small who
 
 -- ---- a turn without
 
-pub idle_comes : {K : Type 0} → TurnLaws → (tells : K → StoreView) (g : Given) (d : Driver) (r : ℕ) (n m : NodeView K) (was after : FleetView K)
+pub idle_comes : {K : Type 0} → TurnLaws → (tells : K → StoreView) (g : DriverInput) (d : Driver) (r : ℕ) (n m : NodeView K) (was after : FleetView K)
     → HasCome tells g d was → OneTurns r n m was after → StandsWell g d r n
     → m ≡ with_links (raised d n) (map after_drop n.parts.links) → IsIdle (raised d n) (set_up_of g d r) → HasCome tells g (turn g r d) after
 idle_comes {K} laws tells g d r n m was after h one well but idle =

@@ -6,6 +6,7 @@ use Rattle.std.proofs.lemmas.Bool.Decides.{nat_tests}
 use Rattle.std.proofs.lemmas.Option.{same_Some}
 use Rattle.annex_base.specs.Lists.{Member}
 use Rattle.annex_base.specs.declared.kinds.Call.{Call}
+use Rattle.annex_base.proofs.Conditions.{eqb_refl}
 use Rattle.object_store.specs.Stores.{Parts}
 use Rattle.link_ring.specs.Ends.{EndView, after_drop}
 use Rattle.run_data.specs.declared.entry.By.TheVariants.{Peer}
@@ -16,9 +17,9 @@ use Rattle.run_data.specs.declared.entry.FrameView.{FrameView}
 use Rattle.union_merge.specs.Branch.{Files}
 use Rattle.run_model.specs.Logs.{branch, branch_after}
 use Rattle.run_model.specs.Past.{is_of, now}
-use Rattle.node_model.specs.After.{Agrees}
+use Rattle.node_model.specs.After.{AgreesAtDrops}
 use Rattle.node_model.specs.Ends.{server_end, takes_at}
-use Rattle.node_model.specs.Found.{ByJob, ByOwed, BySession, JobKind, JobTakes, SessionKind, StepFound}
+use Rattle.node_model.specs.Found.{ByJob, ByOwed, BySession, IsJobEntry, JobTakes, IsSessionEntry, StepFound}
 use Rattle.node_model.specs.Jobs.{job_end}
 use Rattle.node_model.specs.JobStep.{turn_of}
 use Rattle.node_model.specs.Look.{Look, Made, entry_of}
@@ -41,7 +42,7 @@ use Rattle.p2p_server.specs.Answers.{contents_after}
 use Rattle.node_sessions.specs.Stored.{parts_after_frame, parts_after_taken}
 use Rattle.node_parts.specs.Steps.{session_asked}
 use Rattle.node_parts.specs.Stored.{parts_after_step}
-use Rattle.driver_model.specs.Driver.{Driver, Given, adds, end_to, newest_count, set_up_of, state_at}
+use Rattle.driver_model.specs.Driver.{Driver, DriverInput, adds, end_to, newest_count, set_up_of, state_at}
 use Rattle.driver_model.specs.Finding.{after_step, driver_at_turn}
 use Rattle.driver_model.specs.Turning as turning
 use Rattle.driver_model.specs.Turning.{plain_look, store_after}
@@ -57,7 +58,7 @@ use Rattle.fleet_model.proofs.Asking.{asked_is}
 use Rattle.fleet_model.proofs.BytesTaken.{taken_bytes}
 use Rattle.fleet_model.proofs.DropTakes.{to_client}
 use Rattle.fleet_model.proofs.Looking.{TurnMade, failed_alike}
-use Rattle.fleet_model.proofs.Noting.{IsRaised, own_more, same_number}
+use Rattle.fleet_model.proofs.Noting.{IsRaised, own_more}
 use Rattle.fleet_model.proofs.StepFinds as finds
 use Rattle.fleet_model.proofs.StepOrigins.{to_server}
 use Rattle.fleet_model.proofs.TurnStore.{store_changes, step_stored}
@@ -82,7 +83,7 @@ all_drops : (js : List DropJob) → AreDrops (map work_now js)
 all_drops [] = tt
 all_drops (j ∷ js) = (record { part = refl; phase = never_transfers j.worker.phase }, all_drops js)
 
-pub works_are_drops : (s : SetUp) (st st' : State) (js : Jobs) → Agrees st st' → AreWorks s st' js → AreDrops st.works
+pub works_are_drops : (s : SetUp) (st st' : State) (js : Jobs) → AgreesAtDrops st st' → AreWorks s st' js → AreDrops st.works
 works_are_drops s st st' js agrees are = subst AreDrops (sym (ap (λ (x : State). x.works) agrees.same ∙ are.works)) (all_drops js.running)
 
 -- ---- the branch
@@ -95,14 +96,14 @@ is_scripted kind = false
 
 no_session_makes : (s : SetUp) (st : State) (k : Look) (m : Made) → BySession s st k m → (kind : EntryKind) → is_scripted kind ≡ true → m.kind ≡ kind → ⊥
 no_session_makes s st k m x (kinds.Compact file) scripted e =
-    subst (λ (kind : EntryKind). SessionKind (here s st k (server_end x.peer x.slot)) (st.sessions (server_end x.peer x.slot)).doing x.asked x.says kind) e x.found
+    subst (λ (kind : EntryKind). IsSessionEntry (here s st k (server_end x.peer x.slot)) (st.sessions (server_end x.peer x.slot)).doing x.asked x.says kind) e x.found
 no_session_makes s st k m x (kinds.Crash clock) scripted e =
-    subst (λ (kind : EntryKind). SessionKind (here s st k (server_end x.peer x.slot)) (st.sessions (server_end x.peer x.slot)).doing x.asked x.says kind) e x.found
+    subst (λ (kind : EntryKind). IsSessionEntry (here s st k (server_end x.peer x.slot)) (st.sessions (server_end x.peer x.slot)).doing x.asked x.says kind) e x.found
 no_session_makes s st k m x kind scripted e = absurd (cc)
 
 no_job_makes : (s : SetUp) (st : State) (k : Look) (m : Made) → ByJob s st k m → (kind : EntryKind) → is_scripted kind ≡ true → m.kind ≡ kind → ⊥
-no_job_makes s st k m x (kinds.Compact file) scripted e = subst (λ (kind : EntryKind). JobKind (turn_of s st k x.w) m kind) e x.found
-no_job_makes s st k m x (kinds.Crash clock) scripted e = subst (λ (kind : EntryKind). JobKind (turn_of s st k x.w) m kind) e x.found
+no_job_makes s st k m x (kinds.Compact file) scripted e = subst (λ (kind : EntryKind). IsJobEntry (turn_of s st k x.w) m kind) e x.found
+no_job_makes s st k m x (kinds.Crash clock) scripted e = subst (λ (kind : EntryKind). IsJobEntry (turn_of s st k x.w) m kind) e x.found
 no_job_makes s st k m x kind scripted e = absurd (cc)
 
 no_owed_makes : (s : SetUp) (st : State) (k : Look) (m : Made) → ByOwed s st k m → (kind : EntryKind) → is_scripted kind ≡ true → m.kind ≡ kind → ⊥
@@ -211,13 +212,13 @@ pub last_same : {X : Type 0} (xs : List X) (x y : X) → xs ++ x ∷ [] ≡ xs +
 last_same [] x y e = cc
 last_same (z ∷ xs) x y e = last_same xs x y (ap (drop 1) e)
 
-pub turned_node : {K : Type 0} → finds.Finds → (tells : K → StoreView) (g : Given) (d : Driver) (r : ℕ) (n m : NodeView K) (kind : EntryKind) (taken : Option FrameView) → IsRaised tells g d r n
-    → Agrees (state_at g d r) (nodes.state_of (set_up_of g d r) n.history) → AreParts (set_up_of g d r) (nodes.state_of (set_up_of g d r) n.history) n.parts
+pub turned_node : {K : Type 0} → finds.Finds → (tells : K → StoreView) (g : DriverInput) (d : Driver) (r : ℕ) (n m : NodeView K) (kind : EntryKind) (taken : Option FrameView) → IsRaised tells g d r n
+    → AgreesAtDrops (state_at g d r) (nodes.state_of (set_up_of g d r) n.history) → AreParts (set_up_of g d r) (nodes.state_of (set_up_of g d r) n.history) n.parts
     → ((f : FrameView) → taken ≡ Some f → (v : EndView) × (link_at n.parts.links (end_to f) ≡ Some v) × HasAtHand (driver_at_turn g r d).flights r (end_to f) (after_drop v))
     → Adds (map after_drop n.parts.links) (tells n.keeper) (tells m.keeper) n m → (tm : TurnMade g d r n m kind taken) → IsRaised tells g (after_step g r d tm.made) r m
 turned_node {K} laws tells g d r n m kind taken raised agrees parts hand ad tm = record {
   entries = record {
-    setup = subst (λ (x : _). nodes.Fits x (set_up_of g after r)) (sym ad.setup) (record { number = raised.entries.setup.number; ids = raised.entries.setup.ids; offset = raised.entries.setup.offset; version = raised.entries.setup.version; locks = raised.entries.setup.locks });
+    setup = subst (λ (x : _). nodes.MatchesSetup x (set_up_of g after r)) (sym ad.setup) (record { number = raised.entries.setup.number; ids = raised.entries.setup.ids; offset = raised.entries.setup.offset; version = raised.entries.setup.version; locks = raised.entries.setup.locks });
     history = tm.adds ∙ (ap (λ (xs : List Entry). xs ++ e ∷ []) raised.entries.history ∙ (sym (own_more r e d.past own) ∙ ap (λ (p : List Entry). reverse (filter (is_of r) p)) (sym past)));
     branch = ad.branch ∙ (ap (λ (x : Entry). branch_by n.branch x.kind x.lines) entry ∙ (branch_alike n.branch e.kind e.lines (λ file e. no_step_makes s st tm.look tm.made found (kinds.Compact file) refl e)
         ∙ (ap (λ (b : Files). branch_after b e.kind e.lines) raised.entries.branch
@@ -266,7 +267,7 @@ turned_node {K} laws tells g d r n m kind taken raised agrees parts hand ad tm =
   found = laws.found s st tm.look tm.made tm.steps
 
   own : is_of r e ≡ true
-  own = same_number r
+  own = eqb_refl r
 
   past : after.past ≡ e ∷ d.past
   past = (store_changes st r tm.made bytes tm.made.kind d1).past

@@ -274,6 +274,3 @@ store_changes st r m bytes (Talk job) d = frame_changes r bytes (asked_key st m)
 store_changes st r m bytes (Fault call by) d =
     record { past = refl; flights = refl; tree = refl; marks = refl; stores = λ q v apart is. unanswered d r q call v apart is }
 store_changes st r m bytes kind d = no_change r d
-
-pub stored_elsewhere : (st : State) (r q : ℕ) (m : Made) (bytes : List ℕ) (kind : EntryKind) (d : Driver) (v : StoreView) → q ≢ r → IsStoreOf d q v → IsStoreOf (store_after st r m bytes kind d) q v
-stored_elsewhere st r q m bytes kind d v apart is = (store_changes st r m bytes kind d).stores q v apart is

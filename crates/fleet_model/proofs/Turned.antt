@@ -1,15 +1,17 @@
 -- A fleet whose node made a turn has come to where the driver is after its own.
 use Rattle.std.proofs.Common.{◌≡◌, ◌≢◌, ℕ, ◌+◌, ◌<◌, ◌≤◌, ◌^◌, Bool, true, false, List, [], ◌∷◌, ◌++◌, Some, length, refl, sym, ap, ◌∙◌, subst, arith}
 use Rattle.std.specs.Prelude.{◌==◌, drop, reverse, slice_get}
+use Rattle.std.proofs.lemmas.Bool.{eqb-false, eqb-true}
+use Rattle.annex_base.proofs.Conditions.{eqb_refl}
 use Rattle.link_ring.specs.Ends.{EndView}
 use Rattle.run_data.specs.declared.entry.Entry.{Entry}
 use Rattle.run_model.specs.Past.{now}
 use Rattle.run_model.specs.Run.{IsSmall}
 use Rattle.node_model.specs.Look.{Made, entry_of}
 use Rattle.link_flights.specs.Fleets.{AreEndsIn}
-use Rattle.driver_model.specs.Driver.{Driver, Flight, Given, adds, newest_count, set_up_of, state_at}
+use Rattle.driver_model.specs.Driver.{Driver, Flight, DriverInput, adds, newest_count, set_up_of, state_at}
 use Rattle.driver_model.specs.Finding.{after_step, driver_at_turn}
-use Rattle.driver_model.specs.Scripts.{Fits}
+use Rattle.driver_model.specs.Scripts.{HasBoundedPast}
 use Rattle.driver_model.specs.Sound.{StaysSound}
 use Rattle.driver_model.specs.Turning.{bytes_taken, plain_look, turn}
 use Rattle.repo_node.specs.Nodes.{NodeView}
@@ -19,14 +21,13 @@ use Rattle.link_flights.specs.Words.{AreAllWorded}
 use Rattle.node_jobs.specs.Running.{words_at}
 use Rattle.fleet_model.specs.Fleets.{AreUnused, FleetView, HasCome, IsNodeOf, links_at}
 use Rattle.fleet_model.specs.Steps.{OneTurns, with_links}
-use Rattle.fleet_model.proofs.Coming.{same, unlike}
 use Rattle.fleet_model.proofs.Going.{GoesOn, entries_go_on, goes_within, others_are}
 use Rattle.fleet_model.proofs.Hearing.{WordLaws, others_hear}
-use Rattle.fleet_model.proofs.Noting.{IsRaised, is_node, same_number}
+use Rattle.fleet_model.proofs.Noting.{IsRaised, is_node}
 use Rattle.fleet_model.proofs.TurnStore.{ChangesStore, store_changes}
 
 -- a node is what the driver says of it, whatever its ends are
-pub linked : {K : Type 0} (tells : K → StoreView) (g : Given) (d : Driver) (r : ℕ) (n : NodeView K) (links : List EndView) → IsNodeOf tells g d r n → IsNodeOf tells g d r (with_links n links)
+pub linked : {K : Type 0} (tells : K → StoreView) (g : DriverInput) (d : Driver) (r : ℕ) (n : NodeView K) (links : List EndView) → IsNodeOf tells g d r n → IsNodeOf tells g d r (with_links n links)
 linked tells g d r n links is = record { setup = is.setup; history = is.history; branch = is.branch; store = is.store; time = is.time; count = is.count; heard = is.heard }
 
 more_counted : (n : ℕ) → n ≤ n + 1
@@ -36,11 +37,11 @@ least : (n : ℕ) → n ≤ n
 least n = grind arith
 
 -- by its step r alone goes on
-pub turn_goes : (g : Given) (d : Driver) (r : ℕ) (m : Made) → IsSmall m.kind → (d.largest < 2 ^ 62 → (after_step g r d m).largest < 2 ^ 62) → GoesOn r d (after_step g r d m)
+pub turn_goes : (g : DriverInput) (d : Driver) (r : ℕ) (m : Made) → IsSmall m.kind → (d.largest < 2 ^ 62 → (after_step g r d m).largest < 2 ^ 62) → GoesOn r d (after_step g r d m)
 turn_goes g d r m small large = record {
   more = e ∷ [];
   past = change.past;
-  own = (same_number r, tt);
+  own = (eqb_refl r, tt);
   tree = change.tree;
   marks = change.marks;
   stores = λ q v apart is. change.stores q v apart (record { contents = is.contents; parts = is.parts; failing = is.failing });
@@ -58,7 +59,7 @@ turn_goes g d r m small large = record {
   change : ChangesStore r d1 (after_step g r d m)
   change = store_changes (state_at g d r) r m (bytes_taken r m.taken (driver_at_turn g r d)) m.kind d1
 
-pub turned : {K : Type 0} → WordLaws → (tells : K → StoreView) (g : Given) (d : Driver) (r : ℕ) (n m : NodeView K) (made : Made) (was after : FleetView K)
+pub turned : {K : Type 0} → WordLaws → (tells : K → StoreView) (g : DriverInput) (d : Driver) (r : ℕ) (n m : NodeView K) (made : Made) (was after : FleetView K)
     → HasCome tells g d was → OneTurns r n m was after → turn g r d ≡ after_step g r d made → IsRaised tells g (after_step g r d made) r m
     → AreEndsIn (adds (state_at g d r) r (entry_of r (plain_look (set_up_of g d r) (driver_at_turn g r d)) made) (driver_at_turn g r d)).flights (length g.repos) (links_at after.nodes)
     → AreAllWorded (after_step g r d made).past (length g.repos) (links_at after.nodes) → HeardSo (after_step g r d made).past r (words_at m.parts.jobs.running) → AreUnused (links_at after.nodes)
@@ -88,7 +89,7 @@ turned {K} laws tells g d r n m made was after h step is own ends words heard se
     change = store_changes (state_at g d r) r made (bytes_taken r made.taken (driver_at_turn g r d)) made.kind
         (adds (state_at g d r) r (entry_of r (plain_look (set_up_of g d r) (driver_at_turn g r d)) made) (driver_at_turn g r d))
 
-    fits : Fits d'
+    fits : HasBoundedPast d'
     fits = goes_within r d d' h.fits on (subst (λ (t : ℕ). t ≤ 1000000000000) own.entries.time early) (subst (λ (c : ℕ). c < 2 ^ 62) own.entries.count few)
 
     entries : reverse d'.past ≡ reverse d.past ++ drop (length n.history) m.history
@@ -96,12 +97,12 @@ turned {K} laws tells g d r n m made was after h step is own ends words heard se
 
     by_number : (q : ℕ) (x : NodeView K) → slice_get after.nodes q ≡ Some x → (b : Bool) → (q == r) ≡ b → IsNodeOf tells g d' q x
     by_number q x at true e =
-        let here : q ≡ r = same q r e in
+        let here : q ≡ r = eqb-true q r e in
         let node : x ≡ with_links m x.parts.links = step.there x (ap (slice_get after.nodes) (sym here) ∙ at) in
         subst (λ (p : ℕ). IsNodeOf tells g d' p x) (sym here)
         (subst (λ (y : NodeView K). IsNodeOf tells g d' r y) (sym node) (linked tells g d' r m x.parts.links (is_node tells g d' r m own heard)))
     by_number q x at false e =
-        let apart : q ≢ r = unlike q r e in
+        let apart : q ≢ r = eqb-false q r e in
         let y = step.others q x apart at in
         subst (λ (z : NodeView K). IsNodeOf tells g d' q z) (sym y.2)
         (linked tells g d' q y.0 x.parts.links (others_are tells g d d' r q y.0 apart on (h.each q y.0 y.1)

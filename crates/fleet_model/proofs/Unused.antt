@@ -4,6 +4,7 @@ use Rattle.std.specs.Prelude.{◌==◌, ◌&&◌, cond, fold, if◌then◌else�
 use Rattle.std.specs.Option.{option_map}
 use Rattle.std.proofs.lemmas.Bool.Decides.{nat_tests}
 use Rattle.std.proofs.lemmas.Option.{same_Some, slice_get_within}
+use Rattle.std.proofs.lemmas.Bool.{eqb-false, eqb-true}
 use Rattle.annex_base.specs.Lists.{Each}
 use Rattle.annex_base.specs.declared.kinds.EntryStamp.{EntryStamp}
 use Rattle.link_ring.specs.Ends.{EndView, after_drop, after_take, fresh}
@@ -18,7 +19,7 @@ use Rattle.repo_node.specs.Nodes.{NodeView}
 use Rattle.fleet_model.specs.Fleets.{AreUnused, FleetView, links_at}
 use Rattle.fleet_model.specs.Steps.{OneTurns}
 use Rattle.fleet_model.proofs.BytesTaken.{link_dropped}
-use Rattle.fleet_model.proofs.Coming.{ends_in, same, unlike}
+use Rattle.fleet_model.proofs.Coming.{ends_in}
 
 -- ---- what goes to others and comes from others passes an end of its own
 
@@ -89,9 +90,9 @@ turn_unused {K} r n m was after step before mine q a v own at = go (q == r) refl
 
     go : (b : Bool) → (q == r) ≡ b → v ≡ fresh
     go true e =
-        let here : q ≡ r = same q r e in
+        let here : q ≡ r = eqb-true q r e in
         mine a v (own ∙ here) (sym (step.own a (own ∙ here)) ∙ (ap (λ (p : ℕ). link_at (links_at after.nodes p) a) (sym here) ∙ at))
     go false e =
-        let apart : q ≢ r = unlike q r e in
+        let apart : q ≢ r = eqb-false q r e in
         before q a v own
         (sym (step.carried.others q a (subst (λ (c : ℕ). q < c) step.count (within (slice_get after.nodes q) refl at)) apart (λ (is : a.peer ≡ r). apart (sym own ∙ is))) ∙ at)

@@ -6,13 +6,14 @@ use Rattle.std.specs.Map.{keys_of}
 use Rattle.std.specs.Option.{option_map}
 use Rattle.std.proofs.lemmas.Bool.Decides.{nat_tests}
 use Rattle.annex_base.specs.declared.kinds.Call.{Call}
+use Rattle.annex_base.proofs.Conditions.{or_first}
 use Rattle.annex_base.specs.declared.kinds.Call.TheVariants as calls
 use Rattle.run_data.specs.Files.{file_of, file_path, kind_of}
 use Rattle.union_merge.specs.Branch.{Files, lines_at}
 use Rattle.union_merge.specs.LineSet.{difference}
 use Rattle.node_model.specs.Files.{compact_lines}
 use Rattle.run_model.specs.Logs.{branch}
-use Rattle.driver_model.specs.Driver.{Driver, Given, fails_at}
+use Rattle.driver_model.specs.Driver.{Driver, DriverInput, fails_at}
 use Rattle.driver_model.specs.ScriptSteps as script
 use Rattle.driver_model.specs.ScriptSteps.{compacts, compacts_files, faults, is_nil, merges_files, news}
 use Rattle.content_lock.specs.CallsMade.{MakesCalls, fewer}
@@ -67,7 +68,7 @@ any_alike : {X : Type 0} (p q : X → Bool) (xs : List X) → ((x : X) → p x �
 any_alike p q [] same = refl
 any_alike p q (x ∷ xs) same = λ i. same x i || any_alike p q xs same i
 
-lacking : {K : Type 0} (tells : K → StoreView) (g : Given) (d : Driver) (r : ℕ) (n : NodeView K) (files : Files) → IsRaised tells g d r n
+lacking : {K : Type 0} (tells : K → StoreView) (g : DriverInput) (d : Driver) (r : ℕ) (n : NodeView K) (files : Files) → IsRaised tells g d r n
     → list_any (λ f. lacks_some n (file_of f.0) f.1) files ≡ list_any (λ f. not (is_nil (news d r f.0 f.1))) files
 lacking tells g d r n files raised =
     any_alike (λ f. lacks_some n (file_of f.0) f.1) (λ f. not (is_nil (news d r f.0 f.1))) files
@@ -82,10 +83,6 @@ nothing_lacked (x ∷ xs) e = absurd (never (length xs) e)
     never : (n : ℕ) → nat_lt 0 (suc n) ≡ false → ⊥
     never n e = grind (arith, nat_tests)
 
-or_left : (a b : Bool) → (a || b) ≡ false → a ≡ false
-or_left true b e = absurd (cc)
-or_left false b e = refl
-
 or_right : (a b : Bool) → (a || b) ≡ false → b ≡ false
 or_right true b e = absurd (cc)
 or_right false b e = e
@@ -94,10 +91,10 @@ merged_nothing : {K : Type 0} (n : NodeView K) (files : Files) → list_any (λ 
 merged_nothing n [] e = refl
 merged_nothing {K} n (f ∷ files) e =
     ap (λ (new : List (List ℕ)). fold merge_file (with_log n n.keeper (file_of f.0) new) files)
-    (nothing_lacked (difference f.1 (lines_at n.branch (file_path (file_of f.0)))) (or_left (lacks_some n (file_of f.0) f.1) (list_any (λ f. lacks_some n (file_of f.0) f.1) files) e))
+    (nothing_lacked (difference f.1 (lines_at n.branch (file_path (file_of f.0)))) (or_first (lacks_some n (file_of f.0) f.1) (list_any (λ f. lacks_some n (file_of f.0) f.1) files) e))
     ∙ merged_nothing n files (or_right (lacks_some n (file_of f.0) f.1) (list_any (λ f. lacks_some n (file_of f.0) f.1) files) e)
 
-pub merged : {K : Type 0} (tells : K → StoreView) (g : Given) (d : Driver) (r : ℕ) (n m : NodeView K) (files : Files) (failed : Option Call) → IsRaised tells g d r n
+pub merged : {K : Type 0} (tells : K → StoreView) (g : DriverInput) (d : Driver) (r : ℕ) (n m : NodeView K) (files : Files) (failed : Option Call) → IsRaised tells g d r n
     → StaysStored (tells n.keeper) (tells m.keeper) → MakesCalls (to_merge n files) failed (tells n.keeper).failing (tells m.keeper).failing
     → (failed ≡ None → m ≡ over m.keeper (merge_files n files)) → ((call : Call) → failed ≡ Some call → RefusesSo refusals.StoreFault calls.PutFile n m)
     → IsRaised tells g (merges_files r files d) r m
@@ -148,7 +145,7 @@ pub any_map : {X Y : Type 0} (p : Y → Bool) (f : X → Y) (xs : List X) → li
 any_map p f [] = refl
 any_map p f (x ∷ xs) = ap (λ (b : Bool). p (f x) || b) (any_map p f xs)
 
-shrinking : {K : Type 0} (tells : K → StoreView) (g : Given) (d : Driver) (r : ℕ) (n : NodeView K) → IsRaised tells g d r n
+shrinking : {K : Type 0} (tells : K → StoreView) (g : DriverInput) (d : Driver) (r : ℕ) (n : NodeView K) → IsRaised tells g d r n
     → list_any (λ path. shrinks n (file_of path)) (keys_of n.branch) ≡ list_any (λ f. script.shrinks d r (file_of f.0)) (branch d.past r)
 shrinking tells g d r n raised =
     any_map (λ path. shrinks n (file_of path)) (λ f. f.0) n.branch
@@ -159,10 +156,10 @@ shrinking tells g d r n raised =
 pub compacted_nothing : {K : Type 0} (n : NodeView K) (paths : List (List ℕ)) → list_any (λ path. shrinks n (file_of path)) paths ≡ false → compact_files n paths ≡ n
 compacted_nothing n [] e = refl
 compacted_nothing {K} n (path ∷ paths) e =
-    ap (λ (b : Bool). compact_files (compact_if n (file_of path) b) paths) (or_left (shrinks n (file_of path)) (list_any (λ path. shrinks n (file_of path)) paths) e)
+    ap (λ (b : Bool). compact_files (compact_if n (file_of path) b) paths) (or_first (shrinks n (file_of path)) (list_any (λ path. shrinks n (file_of path)) paths) e)
     ∙ compacted_nothing n paths (or_right (shrinks n (file_of path)) (list_any (λ path. shrinks n (file_of path)) paths) e)
 
-pub compacted : {K : Type 0} (tells : K → StoreView) (g : Given) (d : Driver) (r : ℕ) (n m : NodeView K) (failed : Option Call) → IsRaised tells g d r n
+pub compacted : {K : Type 0} (tells : K → StoreView) (g : DriverInput) (d : Driver) (r : ℕ) (n m : NodeView K) (failed : Option Call) → IsRaised tells g d r n
     → StaysStored (tells n.keeper) (tells m.keeper) → MakesCalls (to_compact n) failed (tells n.keeper).failing (tells m.keeper).failing
     → (failed ≡ None → m ≡ over m.keeper (compact_files n (keys_of n.branch))) → ((call : Call) → failed ≡ Some call → RefusesSo refusals.StoreFault calls.PutFile n m)
     → IsRaised tells g (compacts r d) r m

@@ -12,7 +12,7 @@ use Rattle.union_merge.specs.LineSet.{difference}
 use Rattle.node_model.specs.Files.{compact_lines}
 use Rattle.run_model.specs.Logs as logs
 use Rattle.run_model.specs.Logs.{branch_after}
-use Rattle.driver_model.specs.Driver.{Driver, Given, fails_at, notes}
+use Rattle.driver_model.specs.Driver.{Driver, DriverInput, fails_at, notes}
 use Rattle.driver_model.specs.ScriptSteps.{compacts_files, faults, is_nil, merges_files, news, shrinks}
 use Rattle.repo_node.specs.Logs.{with_log}
 use Rattle.repo_node.specs.Nodes.{NodeView, with_entry}
@@ -21,7 +21,7 @@ use Rattle.repo_node.specs.Stored.{StoreView}
 use Rattle.fleet_model.proofs.Noting.{IsRaised, noted}
 
 -- one more entry of a node over the same store
-pub noted_on : {K : Type 0} (tells : K → StoreView) (g : Given) (d : Driver) (r : ℕ) (n : NodeView K) (files : Files) (kind : _) (lines : List (List ℕ))
+pub noted_on : {K : Type 0} (tells : K → StoreView) (g : DriverInput) (d : Driver) (r : ℕ) (n : NodeView K) (files : Files) (kind : _) (lines : List (List ℕ))
     → IsRaised tells g d r n → files ≡ branch_after n.branch kind lines → IsRaised tells g (notes r kind lines d) r (with_entry n n.keeper files kind lines)
 noted_on tells g d r n files kind lines raised file =
     noted tells g d d r n n.keeper files kind lines raised refl file (record { contents = raised.store.contents; parts = raised.store.parts; failing = raised.store.failing })
@@ -33,7 +33,7 @@ driver_merge r f files d new =
     if is_nil new then merges_files r files d
     else (if fails_at d r calls.PutFile then faults r calls.PutFile d else merges_files r files (notes r (kinds.Log (file_of f.0)) new d))
 
-merge_one : {K : Type 0} (tells : K → StoreView) (g : Given) (d : Driver) (r : ℕ) (n : NodeView K) (f : List ℕ × List (List ℕ)) (files : Files)
+merge_one : {K : Type 0} (tells : K → StoreView) (g : DriverInput) (d : Driver) (r : ℕ) (n : NodeView K) (f : List ℕ × List (List ℕ)) (files : Files)
     → IsRaised tells g d r n → fails_at d r calls.PutFile ≡ false
     → ((d : Driver) (n : NodeView K) → IsRaised tells g d r n → fails_at d r calls.PutFile ≡ false → IsRaised tells g (merges_files r files d) r (merge_files n files))
     → (new : List (List ℕ)) → IsRaised tells g (driver_merge r f files d new) r (fold merge_file (with_log n n.keeper (file_of f.0) new) files)
@@ -44,7 +44,7 @@ merge_one tells g d r n f files raised calm rest (line ∷ lines) =
     (with_entry n n.keeper (merged_file n.branch (file_path (file_of f.0)) (line ∷ lines)) (kinds.Log (file_of f.0)) (line ∷ lines))
     (noted_on tells g d r n (merged_file n.branch (file_path (file_of f.0)) (line ∷ lines)) (kinds.Log (file_of f.0)) (line ∷ lines) raised refl) calm)
 
-pub merged_calm : {K : Type 0} (tells : K → StoreView) (g : Given) (r : ℕ) (files : Files) (d : Driver) (n : NodeView K)
+pub merged_calm : {K : Type 0} (tells : K → StoreView) (g : DriverInput) (r : ℕ) (files : Files) (d : Driver) (n : NodeView K)
     → IsRaised tells g d r n → fails_at d r calls.PutFile ≡ false → IsRaised tells g (merges_files r files d) r (merge_files n files)
 unfolding driver_merge
 merged_calm tells g r [] d n raised calm = raised
@@ -75,7 +75,7 @@ compact_branch b file less =
 abbrev pub compact_if : {K : Type 0} → NodeView K → LogFile → Bool → NodeView K
 compact_if n file b = if b then with_entry n n.keeper (with_file n.branch (file_path file) (current n file)) (kinds.Compact file) [] else n
 
-compact_one : {K : Type 0} (tells : K → StoreView) (g : Given) (d : Driver) (r : ℕ) (n : NodeView K) (f : List ℕ × List (List ℕ)) (files : Files)
+compact_one : {K : Type 0} (tells : K → StoreView) (g : DriverInput) (d : Driver) (r : ℕ) (n : NodeView K) (f : List ℕ × List (List ℕ)) (files : Files)
     → IsRaised tells g d r n → fails_at d r calls.PutFile ≡ false
     → ((d : Driver) (n : NodeView K) → IsRaised tells g d r n → fails_at d r calls.PutFile ≡ false → IsRaised tells g (compacts_files r files d) r (compact_files n (map (λ f. f.0) files)))
     → nat_lt (length (current n (file_of f.0))) (length (lines_at n.branch (file_path (file_of f.0)))) ≡ shrinks d r (file_of f.0)
@@ -86,7 +86,7 @@ compact_one tells g d r n f files raised calm rest same true e =
     (rest (notes r (kinds.Compact (file_of f.0)) [] d) (compact_if n (file_of f.0) true)
     (noted_on tells g d r n (with_file n.branch (file_path (file_of f.0)) (current n (file_of f.0))) (kinds.Compact (file_of f.0)) [] raised (compact_branch n.branch (file_of f.0) (same ∙ e))) calm))
 
-pub compacted_calm : {K : Type 0} (tells : K → StoreView) (g : Given) (r : ℕ) (files : Files) (d : Driver) (n : NodeView K)
+pub compacted_calm : {K : Type 0} (tells : K → StoreView) (g : DriverInput) (r : ℕ) (files : Files) (d : Driver) (n : NodeView K)
     → IsRaised tells g d r n → fails_at d r calls.PutFile ≡ false → IsRaised tells g (compacts_files r files d) r (compact_files n (map (λ f. f.0) files))
 compacted_calm tells g r [] d n raised calm = raised
 compacted_calm tells g r (f ∷ files) d n raised calm =

@@ -1,9 +1,10 @@
 -- The words that a node's jobs have heard go on with the past, by how its jobs go on.
 use Rattle.std.proofs.Common.{◌≡◌, ◌≢◌, ◌⊎◌, inl, inr, ℕ, Bool, true, false, List, [], ◌∷◌, Option, Some, None, map, refl, sym, ap, ◌∙◌, subst, arith}
-use Rattle.std.specs.Prelude.{◌==◌, cond, find, if◌then◌else◌, is_some}
+use Rattle.std.specs.Prelude.{◌==◌, cond, find, is_some, if◌then◌else◌}
 use Rattle.std.specs.Option.{option_map, option_map_or}
 use Rattle.std.proofs.lemmas.Bool.Decides.{nat_tests}
 use Rattle.std.proofs.lemmas.Option.{same_Some}
+use Rattle.std.proofs.lemmas.Bool.{eqb-false, eqb-true}
 use Rattle.annex_base.specs.Lists.{Each, Member}
 use Rattle.annex_base.proofs.Lists.{Each-member}
 use Rattle.annex_base.specs.declared.kinds.Word.{Word}
@@ -20,7 +21,7 @@ use Rattle.run_data.specs.declared.entry.FrameView.{FrameView}
 use Rattle.run_model.specs.States.{works}
 use Rattle.run_model.specs.Words.{awaits_word}
 use Rattle.node_model.specs.Jobs as models
-use Rattle.node_model.specs.Jobs.{Work, drop_side, side_of}
+use Rattle.node_model.specs.Jobs.{Work, side_of}
 use Rattle.node_model.specs.Sessions.{line_in}
 use Rattle.node_model.specs.Slots.{job_of}
 use Rattle.drop_worker.specs.declared.phase.Heard.{Heard}
@@ -49,12 +50,6 @@ pub record JobOf (js : List DropJob) (w : Work) : Type 0 where
   pub among : Member job js
   pub number : job.worker.number ≡ w.number
 
-same_numbers : (n m : ℕ) → (n == m) ≡ true → n ≡ m
-same_numbers n m e = grind (arith, nat_tests)
-
-unlike_numbers : (n m : ℕ) → n ≡ m → (n == m) ≡ false → ⊥
-unlike_numbers n m i e = grind (arith, nat_tests)
-
 job_of_work : (js : List DropJob) (w : Work) → Member w (map work_now js) → JobOf js w
 job_of_work [] w among = absurd among
 job_of_work (j ∷ js) w among = go (j.worker.number == w.number) refl among (job_of_work js w)
@@ -63,8 +58,8 @@ job_of_work (j ∷ js) w among = go (j.worker.number == w.number) refl among (jo
     later x e = record { job = x.job; here = ap (λ (b : Bool). cond b (Some j) (job_at js w.number)) e ∙ x.here; among = inr x.among; number = x.number }
 
     go : (b : Bool) → (j.worker.number == w.number) ≡ b → Member w (work_now j ∷ map work_now js) → (Member w (map work_now js) → JobOf js w) → JobOf (j ∷ js) w
-    go true e among rest = record { job = j; here = ap (λ (b : Bool). cond b (Some j) (job_at js w.number)) e; among = inl refl; number = same_numbers j.worker.number w.number e }
-    go false e (inl is) rest = absurd (unlike_numbers j.worker.number w.number (ap (λ (x : Work). x.number) (sym is)) e)
+    go true e among rest = record { job = j; here = ap (λ (b : Bool). cond b (Some j) (job_at js w.number)) e; among = inl refl; number = eqb-true j.worker.number w.number e }
+    go false e (inl is) rest = absurd (eqb-false j.worker.number w.number e (ap (λ (x : Work). x.number) (sym is)))
     go false e (inr among) rest = later (rest among) e
 
 member_of_job : (js : List DropJob) (j : DropJob) → Member j js → Member (work_now j) (map work_now js)
@@ -115,7 +110,7 @@ refused_look : (w : Work) (f : FrameView) → (w.phase ≡ models.Orders → ⊥
 refused_look w f local awaited kept = go w.phase refl (line_in f.body) refl awaited kept
   where
     go : (phase : models.Phase) → w.phase ≡ phase → (m : Option Message) → line_in f.body ≡ m → awaits_word f.peer w.what.peer phase ≡ true → keeps_word phase m ≡ true → IsRefusedLook w f
-    go (models.AsksLook peer) e (Some Failure) i awaited kept = record { phase = e ∙ ap models.AsksLook (same_numbers peer f.peer awaited); said = i }
+    go (models.AsksLook peer) e (Some Failure) i awaited kept = record { phase = e ∙ ap models.AsksLook (eqb-true peer f.peer awaited); said = i }
     go models.Orders e m i awaited kept = absurd (local e)
     go phase e m i awaited kept = absurd (cc)
 
@@ -200,16 +195,16 @@ words_go past r e links was now d links_are kind_is taken_is are are' jobs jobs'
         grew z more true i = inl (inl (
           heard_as z.1,
           ap (λ (k : Work). k.heard) (sym is_v) ∙ (ap (map (λ (k : ℕ × Heard). (k.0, heard_as k.1))) more
-              ∙ (λ j. (same_numbers z.0 c i j, heard_as z.1) ∷ (is_w j).heard)),
+              ∙ (λ j. (eqb-true z.0 c i j, heard_as z.1) ∷ (is_w j).heard)),
         ))
         grew z more false i = inr (words_now ∙ (ap (λ (hs : List (ℕ × Heard)). word_in (newest_of hs c)) more ∙ (ap word_in (newest_later c z x.job.worker.heard i) ∙ sym words_before)))
 
         by_job : (b : Bool) → (w.number == acts.1.job) ≡ b → HearsOf r w v c ⊎ (words_at now.jobs.running w.number c ≡ words_at was.jobs.running w.number c)
-        by_job false other = inr (ap (λ (o : Option DropJob). words_there o c) (acts.1.apart w.number (λ (i : w.number ≡ acts.1.job). unlike_numbers w.number acts.1.job i other)))
+        by_job false other = inr (ap (λ (o : Option DropJob). words_there o c) (acts.1.apart w.number (λ (i : w.number ≡ acts.1.job). eqb-false w.number acts.1.job other i)))
         by_job true own = by_growth (acts.1.grows (ap (λ (n : ℕ). is_some (job_at now.jobs.running n)) (sym job) ∙ ap is_some here))
           where
             job : w.number ≡ acts.1.job
-            job = same_numbers w.number acts.1.job own
+            job = eqb-true w.number acts.1.job own
 
             heard_now : heard_at now.jobs.running acts.1.job ≡ y.job.worker.heard
             heard_now = ap (heard_at now.jobs.running) (sym job) ∙ ap (λ (o : Option DropJob). option_map_or (λ (j : DropJob). j.worker.heard) o []) here

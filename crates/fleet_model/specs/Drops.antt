@@ -1,4 +1,4 @@
--- Works that are drops (own).
+-- Works that are drops; for proofs (own).
 use Rattle.std.specs.Prelude.{◌≡◌, Bool, true, false, List}
 use Rattle.annex_base.specs.Lists.{Each}
 use Rattle.node_model.specs.Jobs.{Drops, GetsBytes, GetsData, GetsWord, Phase, PutsAnswer, PutsBytes, PutsOffer, PutsWord, Work}

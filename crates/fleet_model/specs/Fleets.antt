@@ -8,9 +8,9 @@ use Rattle.node_jobs.specs.Running.{words_at}
 use Rattle.run_data.specs.declared.run.Run.{Run}
 use Rattle.run_model.specs.Logs.{branch}
 use Rattle.run_model.specs.Past.{is_of, now}
-use Rattle.driver_model.specs.Driver.{Driver, Given, newest_count, set_up_of}
+use Rattle.driver_model.specs.Driver.{Driver, DriverInput, newest_count, set_up_of}
 use Rattle.driver_model.specs.Driving.{run_with}
-use Rattle.driver_model.specs.Scripts.{Fits}
+use Rattle.driver_model.specs.Scripts.{HasBoundedPast}
 use Rattle.driver_model.specs.Sound.{IsSound}
 use Rattle.link_flights.specs.Fleets.{AreEndsIn}
 use Rattle.link_flights.specs.Heard.{HeardSo}
@@ -32,8 +32,8 @@ links_at ns r = option_map_or (λ (n : NodeView _). n.parts.links) (slice_get ns
 -- The node is what the driver says of r: its history has the entries of r, in order; its branch is that of r, and its store has the
 -- contents, the parts and the failing calls of r. It knows no later time and no greater count than that of the newest entry, and
 -- its jobs heard the words that the past tells.
-pub record IsNodeOf {K : Type 0} (tells : K → StoreView) (g : Given) (d : Driver) (r : ℕ) (n : NodeView K) : Type 0 where
-  pub setup : nodes.Fits n.setup (set_up_of g d r)
+pub record IsNodeOf {K : Type 0} (tells : K → StoreView) (g : DriverInput) (d : Driver) (r : ℕ) (n : NodeView K) : Type 0 where
+  pub setup : nodes.MatchesSetup n.setup (set_up_of g d r)
   pub history : n.history ≡ reverse (filter (is_of r) d.past)
   pub branch : n.branch ≡ branch d.past r
   pub store : IsStoreOf d r (tells n.keeper)
@@ -48,10 +48,10 @@ AreUnused ends = (q : ℕ) (a : EndName) (v : EndView) → a.peer ≡ q → link
 -- The fleet has come to where the driver is: its run is the driver's, which is sound and within the bounds of a run; each repository
 -- has its node, and the frames at their ends are the driver's flights,
 -- with the words that their senders found.
-pub record HasCome {K : Type 0} (tells : K → StoreView) (g : Given) (d : Driver) (f : FleetView K) : Type 0 where
+pub record HasCome {K : Type 0} (tells : K → StoreView) (g : DriverInput) (d : Driver) (f : FleetView K) : Type 0 where
   pub run : f.run ≡ run_with g d
   pub sound : IsSound g d
-  pub fits : Fits d
+  pub fits : HasBoundedPast d
   pub count : length f.nodes ≡ length g.repos
   pub each : (r : ℕ) (n : NodeView K) → slice_get f.nodes r ≡ Some n → IsNodeOf tells g d r n
   pub ends : AreEndsIn d.flights (length g.repos) (links_at f.nodes)

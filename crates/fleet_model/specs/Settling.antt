@@ -1,10 +1,10 @@
 -- Rounds of turns, one behind the other (own).
 use Rattle.std.specs.Prelude.{ℕ, zero, suc, ◌*◌}
-use Rattle.driver_model.specs.Driver.{Driver, Given}
+use Rattle.driver_model.specs.Driver.{Driver, DriverInput}
 use Rattle.driver_model.specs.Rounds.{AfterRounds, goes_round}
 
 -- so many rounds, until it is settled
-abbrev pub goes_rounds : Given → ℕ → AfterRounds → AfterRounds
+abbrev pub goes_rounds : DriverInput → ℕ → AfterRounds → AfterRounds
 goes_rounds g zero x = x
 goes_rounds g (suc n) x = goes_round g (goes_rounds g n x)
 

@@ -1,4 +1,4 @@
--- What a step leaves of the store's parts, by the state that it found (own).
+-- What a step leaves of the store's parts, by the state that it found; for proofs (own).
 use Rattle.std.specs.Prelude.{ℕ, if◌then◌else◌, List, Option, Some, None}
 use Rattle.run_data.specs.declared.entry.EntryKind.{EntryKind}
 use Rattle.run_data.specs.declared.entry.FrameView.{FrameView}

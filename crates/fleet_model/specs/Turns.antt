@@ -9,7 +9,7 @@ use Rattle.node_parts.specs.Parts.{AreParts}
 use Rattle.repo_node.specs.Nodes as nodes
 use Rattle.repo_node.specs.Nodes.{NodeView}
 use Rattle.repo_node.specs.Stored.{StoreView}
-use Rattle.driver_model.specs.Driver.{Driver, Given, set_up_of}
+use Rattle.driver_model.specs.Driver.{Driver, DriverInput, set_up_of}
 
 -- the job removes its own repository's copy
 abbrev pub IsLocal : DropJob → Type 0
@@ -17,11 +17,11 @@ IsLocal j = drop_side j.worker.job.kind j.worker.job.peer ≡ Local
 
 -- What the node has is the state that its history leaves, and its jobs remove its own copies.
 pub record IsWhole {K : Type 0} (tells : K → StoreView) (n : NodeView K) : Type 0 where
-  pub state : (s : SetUp) → nodes.Fits n.setup s → nodes.IsState s n.parts n.branch n.owed (nodes.told_of (tells n.keeper).contents (tells n.keeper).parts) (nodes.state_of s n.history)
+  pub state : (s : SetUp) → nodes.MatchesSetup n.setup s → nodes.IsState s n.parts n.branch n.owed (nodes.told_of (tells n.keeper).contents (tells n.keeper).parts) (nodes.state_of s n.history)
   pub locals : Each IsLocal n.parts.jobs.running
 
 -- the repository has such a node; and numbers are left for the frames of its ends
-pub record StandsWell {K : Type 0} (g : Given) (d : Driver) (r : ℕ) (n : NodeView K) : Type 0 where
+pub record StandsWell {K : Type 0} (g : DriverInput) (d : Driver) (r : ℕ) (n : NodeView K) : Type 0 where
   pub known : r < length g.repos
   pub few : length d.past < 2 ^ 30
   pub parts : AreParts (set_up_of g d r) (nodes.state_of (set_up_of g d r) n.history) n.parts

@@ -10,7 +10,7 @@ ghost use Rattle.run_data.specs.declared.entry.LogFile.{LogFile};
 ghost use Rattle.run_data.specs.declared.entry.LogFile.TheVariants.{Of};
 ghost use Rattle.run_data.specs.declared.job.Job.{Job};
 ghost use Rattle.node_parts.specs.Parts.{AreParts};
-ghost use Rattle.driver_model.specs.Driver.{Driver, Given, set_up_of};
+ghost use Rattle.driver_model.specs.Driver.{Driver, DriverInput, set_up_of};
 ghost use Rattle.driver_model.specs.Limits.{StopsAtFull, count_of, within_limit};
 ghost use Rattle.driver_model.specs.Scripts.{IsContent};
 ghost use Rattle.driver_model.specs.ScriptSteps.{begins, compacts, has, merges, sets, writes};
@@ -42,26 +42,26 @@ use repo_node::steps_tell_the_failed_call;
 /// Where the history of a node is full, the driver of scripts comes to an entry of it, and the fleet's run has all entries before that
 /// one (own).
 pub fn fleets_stop_at_full_histories<K>()
-    ensures turn { (tells : K → StoreView) (g : Given) (d : Driver) (r : ℕ) (n : NodeView K) (was : FleetView K) → HasCome tells g d was → slice_get was.nodes r ≡ Some n → OthersAreFew r was.nodes
+    ensures turn { (tells : K → StoreView) (g : DriverInput) (d : Driver) (r : ℕ) (n : NodeView K) (was : FleetView K) → HasCome tells g d was → slice_get was.nodes r ≡ Some n → OthersAreFew r was.nodes
         → StandsWell g d r n → length n.history ≡ most_entries → HasStep (raised d n) (set_up_of g d r) → StopsAtFull g r (turn g r d) was.run }
-    ensures job { (tells : K → StoreView) (g : Given) (d : Driver) (r : ℕ) (n : NodeView K) (was : FleetView K) → HasCome tells g d was → slice_get was.nodes r ≡ Some n → OthersAreFew r was.nodes
+    ensures job { (tells : K → StoreView) (g : DriverInput) (d : Driver) (r : ℕ) (n : NodeView K) (was : FleetView K) → HasCome tells g d was → slice_get was.nodes r ≡ Some n → OthersAreFew r was.nodes
         → (job : Job) → AreParts (set_up_of g d r) (state_of (set_up_of g d r) n.history) n.parts → length n.history ≡ most_entries → length n.parts.jobs.running < 4
         → StopsAtFull g r (begins r job d) was.run }
-    ensures line { (tells : K → StoreView) (g : Given) (d : Driver) (r : ℕ) (n : NodeView K) (was : FleetView K) → HasCome tells g d was → slice_get was.nodes r ≡ Some n → OthersAreFew r was.nodes
+    ensures line { (tells : K → StoreView) (g : DriverInput) (d : Driver) (r : ℕ) (n : NodeView K) (was : FleetView K) → HasCome tells g d was → slice_get was.nodes r ≡ Some n → OthersAreFew r was.nodes
         → (file : LogFile) (line : List ℕ) → length n.history ≡ most_entries → lacks_some n file (line ∷ []) ≡ true → StopsAtFull g r (writes r file line d) was.run }
-    ensures setting { (tells : K → StoreView) (g : Given) (d : Driver) (r : ℕ) (n : NodeView K) (was : FleetView K) → HasCome tells g d was → slice_get was.nodes r ≡ Some n → OthersAreFew r was.nodes
+    ensures setting { (tells : K → StoreView) (g : DriverInput) (d : Driver) (r : ℕ) (n : NodeView K) (was : FleetView K) → HasCome tells g d was → slice_get was.nodes r ≡ Some n → OthersAreFew r was.nodes
         → (kind : LogKind) (topic : Topic) (value : Value) → length n.history ≡ most_entries
         → lacks_some n (Of kind) (line_text kind (stamped_by (raised d n) kind None (record { topic = topic; stamp = None; value = value })) ∷ []) ≡ true
         → StopsAtFull g r (sets g r kind topic value d) was.run }
-    ensures asked { (tells : K → StoreView) (g : Given) (d : Driver) (r : ℕ) (n : NodeView K) (was : FleetView K) → HasCome tells g d was → slice_get was.nodes r ≡ Some n → OthersAreFew r was.nodes
+    ensures asked { (tells : K → StoreView) (g : DriverInput) (d : Driver) (r : ℕ) (n : NodeView K) (was : FleetView K) → HasCome tells g d was → slice_get was.nodes r ≡ Some n → OthersAreFew r was.nodes
         → (key bytes : List ℕ) → length n.history ≡ most_entries → (count_of d.past r ≡ most_entries) × (within_limit g (has g r key bytes d).past ≡ d.past) }
-    ensures merge { (tells : K → StoreView) (g : Given) (d : Driver) (r : ℕ) (n m : NodeView K) (was after : FleetView K) → HasCome tells g d was → OneGoesOn r n m was after → OthersAreFew r was.nodes
+    ensures merge { (tells : K → StoreView) (g : DriverInput) (d : Driver) (r : ℕ) (n m : NodeView K) (was after : FleetView K) → HasCome tells g d was → OneGoesOn r n m was after → OthersAreFew r was.nodes
         → m.time ≤ 1000000000000 → m.count < 2 ^ 62 → (other : ℕ) (o : NodeView K) → slice_get was.nodes other ≡ Some o
         → MeetsFull (merge_files (raised d n)) lacks_of o.branch (tells n.keeper).failing (tells m.keeper).failing (raised d n) m → StopsAtFull g r (merges r other d) after.run }
-    ensures compact { (tells : K → StoreView) (g : Given) (d : Driver) (r : ℕ) (n m : NodeView K) (was after : FleetView K) → HasCome tells g d was → OneGoesOn r n m was after → OthersAreFew r was.nodes
+    ensures compact { (tells : K → StoreView) (g : DriverInput) (d : Driver) (r : ℕ) (n m : NodeView K) (was after : FleetView K) → HasCome tells g d was → OneGoesOn r n m was after → OthersAreFew r was.nodes
         → m.time ≤ 1000000000000 → m.count < 2 ^ 62
         → MeetsFull (compact_files (raised d n)) shrinks_at (keys_of n.branch) (tells n.keeper).failing (tells m.keeper).failing (raised d n) m → StopsAtFull g r (compacts r d) after.run }
-    ensures content { (tells : K → StoreView) (g : Given) (d : Driver) (r : ℕ) (n m : NodeView K) (was after : FleetView K) → HasCome tells g d was → OneGoesOn r n m was after → OthersAreFew r was.nodes
+    ensures content { (tells : K → StoreView) (g : DriverInput) (d : Driver) (r : ℕ) (n m : NodeView K) (was after : FleetView K) → HasCome tells g d was → OneGoesOn r n m was after → OthersAreFew r was.nodes
         → m.time ≤ 1000000000000 → m.count < 2 ^ 62 → (key bytes : List ℕ) → IsContent key bytes
         → IsState (set_up_of g d r) n.parts n.branch n.owed (told_of (tells n.keeper).contents (tells n.keeper).parts) (state_of (set_up_of g d r) n.history)
         → MeetsFullBehind key bytes (tells n.keeper).contents (tells n.keeper).failing (tells m.keeper).failing (raised d n) m → length bytes < 2 ^ 62

@@ -2,7 +2,9 @@
 use Rattle.std.proofs.Common.{◌≡◌, ◌≢◌, ℕ, ◌+◌, ◌<◌, ◌≤◌, ◌^◌, ◌⊎◌, false, List, [], ◌∷◌, ◌++◌, Option, Some, None, Result, Ok, Err, inl, inr, drop, length, refl, sym, ap, ◌∙◌, subst}
 use Rattle.std.specs.Prelude.{IfOk, IsErrOf, OnErr, reverse, slice_get}
 use Rattle.std.specs.Option.{option_map}
+use Rattle.std.proofs.lemmas.List.{append-nil}
 use Rattle.annex_base.specs.declared.kinds.Call.{Call}
+use Rattle.annex_base.proofs.Lists.{slice_get-within}
 use Rattle.object_store.specs.Calls.{one_more}
 use Rattle.run_data.specs.declared.entry.Entry.{Entry}
 use Rattle.run_data.specs.declared.entry.EntryKind.TheVariants as kinds
@@ -13,7 +15,7 @@ use Rattle.run_data.specs.declared.run.Run.{Run}
 use Rattle.node_model.specs.AnyTime.{IsPeer, needs_peer}
 use Rattle.run_data.specs.declared.job.Job.{Job}
 use Rattle.run_model.specs.Past.{now}
-use Rattle.driver_model.specs.Driver.{Driver, Given, newest_count, set_up_of}
+use Rattle.driver_model.specs.Driver.{Driver, DriverInput, newest_count, set_up_of}
 use Rattle.driver_model.specs.Scripts.{IsKnown}
 use Rattle.driver_model.specs.ScriptSteps.{begins, waits, will_fail}
 use Rattle.driver_model.specs.Sound.{StaysSound}
@@ -34,20 +36,20 @@ use Rattle.fleet_model.specs.Stores.{IsTold}
 use Rattle.fleet_model.specs.Turns.{IsWhole}
 use Rattle.fleet_model.specs.Steps.{OneGoesOn, raised}
 use Rattle.fleet_run.specs.Standing.{GoesOn}
-use Rattle.fleet_run.proofs.Called.{IsCalled, element, goes_on, past_of}
+use Rattle.fleet_run.proofs.Called.{IsCalled, goes_on, past_of}
 
 -- ---- jobs
 
 -- the law of a job that began
 abbrev pub JobLaw : {K : Type 0} → (K → StoreView) → Type 0
-JobLaw {K} tells = (g : Given) (d : Driver) (r : ℕ) (n m : NodeView K) (was after : FleetView K) (number : ℕ) (job : Job) → HasCome tells g d was → OneGoesOn r n m was after
+JobLaw {K} tells = (g : DriverInput) (d : Driver) (r : ℕ) (n m : NodeView K) (was after : FleetView K) (number : ℕ) (job : Job) → HasCome tells g d was → OneGoesOn r n m was after
     → AreParts (set_up_of g d r) (state_of (set_up_of g d r) n.history) n.parts → number ≡ n.parts.jobs.begun + 1 → length n.parts.jobs.running < 4
     → m ≡ record (with_entry (raised d n) n.keeper n.branch (kinds.Begin number job) []) { parts = record n.parts { jobs = with_job n.parts.jobs job } }
     → m.time ≤ 1000000000000 → m.count < 2 ^ 62 → StaysSound g d (begins r job d) → HasCome tells g (begins r job d) after
 
 -- the law of one that didn't
 abbrev pub NoSlotLaw : {K : Type 0} → (K → StoreView) → Type 0
-NoSlotLaw {K} tells = (g : Given) (d : Driver) (r : ℕ) (n m : NodeView K) (was after : FleetView K) (job : Job) → HasCome tells g d was → OneGoesOn r n m was after
+NoSlotLaw {K} tells = (g : DriverInput) (d : Driver) (r : ℕ) (n m : NodeView K) (was after : FleetView K) (job : Job) → HasCome tells g d was → OneGoesOn r n m was after
     → AreParts (set_up_of g d r) (state_of (set_up_of g d r) n.history) n.parts → 4 ≤ length n.parts.jobs.running → m ≡ raised d n
     → m.time ≤ 1000000000000 → m.count < 2 ^ 62 → StaysSound g d (begins r job d) → HasCome tells g (begins r job d) after
 
@@ -66,7 +68,7 @@ told_parts s parts branch owed None ps st P Q c p is = absurd c
 told_parts s parts branch owed (Some contents) None st P Q c p is = absurd p
 told_parts s parts branch owed (Some contents) (Some stored) st P Q c p is = (is.stands contents refl).parts_are
 
-pub has_parts : {K : Type 0} (tells : K → StoreView) (g : Given) (d : Driver) (r : ℕ) (n : NodeView K) → IsNodeOf tells g d r n → IsWhole tells (raised d n)
+pub has_parts : {K : Type 0} (tells : K → StoreView) (g : DriverInput) (d : Driver) (r : ℕ) (n : NodeView K) → IsNodeOf tells g d r n → IsWhole tells (raised d n)
     → AreParts (set_up_of g d r) (state_of (set_up_of g d r) n.history) n.parts
 has_parts tells g d r n is whole =
     told_parts (set_up_of g d r) n.parts n.branch n.owed (tells n.keeper).contents (tells n.keeper).parts (state_of (set_up_of g d r) n.history) _ _ is.store.contents is.store.parts (whole.state (set_up_of g d r) is.setup)
@@ -76,7 +78,7 @@ begun_or_not done number ok none = absurd (cc)
 
 pub begins_go : {K : Type 0} (tells : K → StoreView) (r : ℕ) (was up after : FleetView K) (job : Job) (done : Result ℕ BeginRefused) → JobLaw tells → NoSlotLaw tells → r < length was.nodes
     → IsCalled tells r was up after (BeginsJob job done) → ((number : ℕ) × (done ≡ Ok number)) ⊎ (done ≡ Err refusals.NoSlot)
-    → ((g : Given) (d : Driver) → IsKnown g r → StaysSound g d (begins r job d)) → GoesOn tells (λ g d. begins r job d) was after
+    → ((g : DriverInput) (d : Driver) → IsKnown g r → StaysSound g d (begins r job d)) → GoesOn tells (λ g d. begins r job d) was after
 begins_go {K} tells r was up after job done law no_slot there call (inl e) sound =
     goes_on tells (λ g d. begins r job d) r was up after (BeginsJob job done) there call
     (λ g d come known s.
@@ -95,7 +97,7 @@ begins_go {K} tells r was up after job done law no_slot there call (inr e) sound
 -- the same, where the node was given a copy of the job
 pub begins_go_so : {K : Type 0} (tells : K → StoreView) (r : ℕ) (was up after : FleetView K) (job job' : Job) (done : Result ℕ BeginRefused) → job' ≡ job → JobLaw tells → NoSlotLaw tells → r < length was.nodes
     → IsCalled tells r was up after (BeginsJob job' done) → ((number : ℕ) × (done ≡ Ok number)) ⊎ (done ≡ Err refusals.NoSlot)
-    → ((g : Given) (d : Driver) → IsKnown g r → StaysSound g d (begins r job d)) → GoesOn tells (λ g d. begins r job d) was after
+    → ((g : DriverInput) (d : Driver) → IsKnown g r → StaysSound g d (begins r job d)) → GoesOn tells (λ g d. begins r job d) was after
 begins_go_so {K} tells r was up after job job' done same law no_slot there call ended sound =
     begins_go tells r was up after job done law no_slot there (subst (λ (j : Job). IsCalled tells r was up after (BeginsJob j done)) same call) ended sound
 
@@ -106,7 +108,7 @@ local_peer s kind peer is_drop is_none = subst (λ (o : Option ℕ). IsPeer s ki
 -- ---- calls that will fail
 
 abbrev pub FailLaw : {K : Type 0} → (K → StoreView) → Type 0
-FailLaw {K} tells = (g : Given) (d : Driver) (r : ℕ) (call : Call) (n m : NodeView K) (was after : FleetView K) → HasCome tells g d was → OneGoesOn r n m was after
+FailLaw {K} tells = (g : DriverInput) (d : Driver) (r : ℕ) (call : Call) (n m : NodeView K) (was after : FleetView K) → HasCome tells g d was → OneGoesOn r n m was after
     → m ≡ record n { keeper = m.keeper } → (tells m.keeper).contents ≡ (tells n.keeper).contents → (tells m.keeper).parts ≡ (tells n.keeper).parts
     → (tells m.keeper).failing ≡ option_map (one_more call) (tells n.keeper).failing → StaysSound g d (will_fail r call d) → HasCome tells g (will_fail r call d) after
 
@@ -121,16 +123,12 @@ pub none_left : {X : Type 0} (xs : List X) → drop (length xs) xs ≡ []
 none_left [] = refl
 none_left (x ∷ xs) = none_left xs
 
-pub and_none : {X : Type 0} (xs : List X) → xs ++ [] ≡ xs
-and_none [] = refl
-and_none (x ∷ xs) = ap (λ ys. x ∷ ys) (and_none xs)
-
 pub fails_go : {K : Type 0} (tells : K → StoreView) (r : ℕ) (was after : FleetView K) (call : Call) → FailLaw tells → r < length was.nodes → after.run ≡ was.run
     → ((q : ℕ) → q ≢ r → slice_get after.nodes q ≡ slice_get was.nodes q) → length after.nodes ≡ length was.nodes → AtNode r was.nodes after.nodes (FailsNext tells call)
-    → ((g : Given) (d : Driver) → StaysSound g d (will_fail r call d)) → GoesOn tells (λ g d. will_fail r call d) was after
+    → ((g : DriverInput) (d : Driver) → StaysSound g d (will_fail r call d)) → GoesOn tells (λ g d. will_fail r call d) was after
 fails_go {K} tells r was after call law there run others count holds sound g d stands =
-    let before : (n : NodeView K) × (slice_get was.nodes r ≡ Some n) = element was.nodes r there in
-    let left : (n : NodeView K) × (slice_get after.nodes r ≡ Some n) = element after.nodes r (subst (λ (c : ℕ). r < c) (sym count) there) in
+    let before : (n : NodeView K) × (slice_get was.nodes r ≡ Some n) = slice_get-within was.nodes r there in
+    let left : (n : NodeView K) × (slice_get after.nodes r ≡ Some n) = slice_get-within after.nodes r (subst (λ (c : ℕ). r < c) (sym count) there) in
     let n : NodeView K = before.0 in
     let m : NodeView K = left.0 in
     let h : FailsNext tells call n m = holds n m before.1 left.1 in
@@ -142,7 +140,7 @@ fails_go {K} tells r was after call law there run others count holds sound g d s
             others = others;
             count = count;
             run = run ∙ ap (λ (entries : List Entry). record was.run { entries = entries })
-                (sym (ap (λ (more : List Entry). was.run.entries ++ more) (ap (λ (x : NodeView K). drop (length n.history) x.history) h.rest ∙ none_left n.history) ∙ and_none was.run.entries));
+                (sym (ap (λ (more : List Entry). was.run.entries ++ more) (ap (λ (x : NodeView K). drop (length n.history) x.history) h.rest ∙ none_left n.history) ∙ append-nil was.run.entries));
           })
           h.rest h.contents h.parts h.failing (sound g d);
       decides = stands.decides;
@@ -151,7 +149,7 @@ fails_go {K} tells r was after call law there run others count holds sound g d s
 -- the same, of a fleet as a function sees it
 pub fails_go_so : {K : Type 0} (tells : K → StoreView) (r : ℕ) (was : FleetView K) (nodes now : List (NodeView K)) (run : Run) (call : Call) → record { nodes = nodes; run = run } ≡ was → FailLaw tells → r < length was.nodes
     → ((q : ℕ) → q ≢ r → slice_get now q ≡ slice_get nodes q) → length now ≡ length nodes → AtNode r nodes now (FailsNext tells call)
-    → ((g : Given) (d : Driver) → StaysSound g d (will_fail r call d)) → GoesOn tells (λ g d. will_fail r call d) was (record { nodes = now; run = run })
+    → ((g : DriverInput) (d : Driver) → StaysSound g d (will_fail r call d)) → GoesOn tells (λ g d. will_fail r call d) was (record { nodes = now; run = run })
 fails_go_so {K} tells r was nodes now run call is law there others count holds sound =
     subst (λ (f : FleetView K). GoesOn tells (λ g d. will_fail r call d) f (record { nodes = now; run = run })) is
     (fails_go tells r (record { nodes = nodes; run = run }) (record { nodes = now; run = run }) call law (subst (λ (f : FleetView K). r < length f.nodes) (sym is) there) refl others count holds sound)
@@ -159,7 +157,7 @@ fails_go_so {K} tells r was nodes now run call is law there others count holds s
 -- ---- time
 
 abbrev pub WaitLaw : {K : Type 0} → (K → StoreView) → Type 0
-WaitLaw {K} tells = (g : Given) (d : Driver) (milliseconds : ℕ) (f f' : FleetView K) → f'.nodes ≡ f.nodes
+WaitLaw {K} tells = (g : DriverInput) (d : Driver) (milliseconds : ℕ) (f f' : FleetView K) → f'.nodes ≡ f.nodes
     → f'.run ≡ record f.run { entries = f.run.entries ++ record { time = now d.past + milliseconds; count = newest_count d.past + 1; repo = None; kind = kinds.Wait milliseconds; taken = None; sent = []; lines = [] } ∷ [] }
     → now d.past + milliseconds ≤ 1000000000000 → newest_count d.past + 1 < 2 ^ 62 → StaysSound g d (waits milliseconds d) → HasCome tells g d f → HasCome tells g (waits milliseconds d) f'
 
@@ -173,7 +171,7 @@ with_entries run entries = record run { entries = entries }
 pub waits_go : {K : Type 0} (tells : K → StoreView) (milliseconds : ℕ) (was after : FleetView K) → WaitLaw tells → after.nodes ≡ was.nodes
     → after.run ≡ record was.run { entries = was.run.entries ++ wait_entry milliseconds (reverse was.run.entries) ∷ [] }
     → now (reverse was.run.entries) + milliseconds ≤ 1000000000000 → newest_count (reverse was.run.entries) + 1 < 2 ^ 62
-    → ((g : Given) (d : Driver) → StaysSound g d (waits milliseconds d)) → GoesOn tells (λ g d. waits milliseconds d) was after
+    → ((g : DriverInput) (d : Driver) → StaysSound g d (waits milliseconds d)) → GoesOn tells (λ g d. waits milliseconds d) was after
 waits_go tells milliseconds was after law nodes run early few sound g d stands =
     let past : reverse was.run.entries ≡ d.past = past_of tells g d was stands.come in
     record {
@@ -191,7 +189,7 @@ pub waits_go_so : {K : Type 0} (tells : K → StoreView) (milliseconds : ℕ) (w
     → entries ≡ run.entries ++ record { time = time + milliseconds; count = count + 1; repo = None; kind = kinds.Wait milliseconds; taken = None; sent = sent; lines = lines } ∷ []
     → time ≡ now (reverse was.run.entries) → count ≡ newest_count (reverse was.run.entries) → sent ≡ [] → lines ≡ []
     → now (reverse was.run.entries) + milliseconds ≤ 1000000000000 → count + 1 < 2 ^ 62
-    → ((g : Given) (d : Driver) → StaysSound g d (waits milliseconds d)) → GoesOn tells (λ g d. waits milliseconds d) was (record { nodes = nodes; run = record run { entries = entries } })
+    → ((g : DriverInput) (d : Driver) → StaysSound g d (waits milliseconds d)) → GoesOn tells (λ g d. waits milliseconds d) was (record { nodes = nodes; run = record run { entries = entries } })
 waits_go_so {K} tells milliseconds was nodes run entries time count sent lines is law more is_time is_count no_frames no_lines early few sound =
     let entry : Entry = record { time = time + milliseconds; count = count + 1; repo = None; kind = kinds.Wait milliseconds; taken = None; sent = sent; lines = lines } in
     let same : entry ≡ wait_entry milliseconds (reverse was.run.entries)

@@ -1,14 +1,15 @@
 -- A call of one node of a fleet, which is raised before it and told after it: the driver's step follows.
-use Rattle.std.proofs.Common.{◌≡◌, ◌≢◌, ℕ, zero, suc, ◌<◌, ◌≤◌, ◌^◌, Bool, true, false, List, [], ◌∷◌, ◌++◌, Some, drop, length, refl, sym, ap, ◌∙◌, subst, arith}
+use Rattle.std.proofs.Common.{◌≡◌, ◌≢◌, ℕ, ◌<◌, ◌≤◌, ◌^◌, Bool, true, false, List, [], ◌∷◌, ◌++◌, Some, drop, length, refl, sym, ap, ◌∙◌, subst}
 use Rattle.std.specs.Prelude.{◌==◌, max, reverse, slice_get}
-use Rattle.std.proofs.lemmas.Bool.Decides.{nat_tests}
 use Rattle.std.proofs.lemmas.List.{reverse-reverse}
 use Rattle.std.proofs.lemmas.Option.{slice_get_within}
+use Rattle.std.proofs.lemmas.Bool.{eqb-false, eqb-true}
+use Rattle.annex_base.proofs.Lists.{slice_get-within}
 use Rattle.run_data.specs.Histories.{most_entries}
 use Rattle.run_data.specs.declared.entry.Entry.{Entry}
 use Rattle.run_data.specs.declared.run.Run.{Run}
 use Rattle.run_model.specs.Past.{now}
-use Rattle.driver_model.specs.Driver.{Driver, Given, newest_count}
+use Rattle.driver_model.specs.Driver.{Driver, DriverInput, newest_count}
 use Rattle.driver_model.specs.Scripts.{IsKnown}
 use Rattle.repo_node.specs.Nodes.{NodeView}
 use Rattle.repo_node.specs.Stored.{StoreView}
@@ -18,20 +19,6 @@ use Rattle.fleet_model.specs.Steps.{OneGoesOn, raised}
 use Rattle.fleet_model.specs.Turns.{IsWhole}
 use Rattle.fleet_run.specs.Standing.{GoesOn}
 use Rattle.fleet_run.specs.Telling.{Raises, Tells}
-
-pub element : {X : Type 0} (xs : List X) (i : ℕ) → i < length xs → (x : X) × (slice_get xs i ≡ Some x)
-element [] i less = absurd (grind arith)
-element (x ∷ xs) zero less = (x, refl)
-element (x ∷ xs) (suc i) less = element xs i (lower i (length xs) less)
-  where
-    lower : (i n : ℕ) → suc i < suc n → i < n
-    lower i n less = grind arith
-
-same_if : (n m : ℕ) → (n == m) ≡ true → n ≡ m
-same_if n m e = grind (arith, nat_tests)
-
-differ_if : (n m : ℕ) → (n == m) ≡ false → n ≢ m
-differ_if n m e = grind (arith, nat_tests)
 
 -- The fleet was raised; a call made this of its node of r, and left the others and the run as they were; and then it was told.
 pub record IsCalled {K : Type 0} (tells : K → StoreView) (r : ℕ) (was up after : FleetView K) (Holds : NodeView K → NodeView K → Type 0) : Type 0 where
@@ -60,21 +47,21 @@ abbrev with_more : Run → List Entry → Run
 with_more run more = record run { entries = run.entries ++ more }
 
 -- the past is that of the run
-pub past_of : {K : Type 0} (tells : K → StoreView) (g : Given) (d : Driver) (f : FleetView K) → HasCome tells g d f → reverse f.run.entries ≡ d.past
+pub past_of : {K : Type 0} (tells : K → StoreView) (g : DriverInput) (d : Driver) (f : FleetView K) → HasCome tells g d f → reverse f.run.entries ≡ d.past
 past_of tells g d f come = ap (λ run. reverse run.entries) come.run ∙ reverse-reverse d.past
 
 -- the node that was raised
-raised_is : {K : Type 0} (tells : K → StoreView) (g : Given) (d : Driver) (r had : ℕ) (was up : FleetView K) (n p : NodeView K) → HasCome tells g d was → Raises tells r had was up
+raised_is : {K : Type 0} (tells : K → StoreView) (g : DriverInput) (d : Driver) (r had : ℕ) (was up : FleetView K) (n p : NodeView K) → HasCome tells g d was → Raises tells r had was up
     → slice_get was.nodes r ≡ Some n → slice_get up.nodes r ≡ Some p → p ≡ raised d n
 raised_is {K} tells g d r had was up n p come raises at_n at_p =
     subst (λ (past : List Entry). p ≡ record n { time = max n.time (now past); count = max n.count (newest_count past) }) (past_of tells g d was come) (raises.node n p at_n at_p)
 
-pub is_step : {K : Type 0} (tells : K → StoreView) (g : Given) (d : Driver) (r : ℕ) (was up after : FleetView K) (Holds : NodeView K → NodeView K → Type 0) → HasCome tells g d was
+pub is_step : {K : Type 0} (tells : K → StoreView) (g : DriverInput) (d : Driver) (r : ℕ) (was up after : FleetView K) (Holds : NodeView K → NodeView K → Type 0) → HasCome tells g d was
     → r < length was.nodes → IsCalled tells r was up after Holds → IsStep tells d r was after Holds
 is_step {K} tells g d r was up after Holds come there call =
-    let found : (n : NodeView K) × (slice_get was.nodes r ≡ Some n) = element was.nodes r there in
-    let found_up : (n : NodeView K) × (slice_get up.nodes r ≡ Some n) = element up.nodes r (subst (λ (c : ℕ). r < c) (sym call.raises.count) there) in
-    let found_left : (n : NodeView K) × (slice_get call.called.nodes r ≡ Some n) = element call.called.nodes r (subst (λ (c : ℕ). r < c) (sym (call.count ∙ call.raises.count)) there) in
+    let found : (n : NodeView K) × (slice_get was.nodes r ≡ Some n) = slice_get-within was.nodes r there in
+    let found_up : (n : NodeView K) × (slice_get up.nodes r ≡ Some n) = slice_get-within up.nodes r (subst (λ (c : ℕ). r < c) (sym call.raises.count) there) in
+    let found_left : (n : NodeView K) × (slice_get call.called.nodes r ≡ Some n) = slice_get-within call.called.nodes r (subst (λ (c : ℕ). r < c) (sym (call.count ∙ call.raises.count)) there) in
     let n : NodeView K = found.0 in
     let p : NodeView K = found_up.0 in
     let m : NodeView K = found_left.0 in
@@ -99,9 +86,9 @@ is_step {K} tells g d r was up after Holds come there call =
     }
 
 -- it goes on so, where the laws have it come to each step of the driver
-pub goes_on : {K : Type 0} (tells : K → StoreView) (step : Given → Driver → Driver) (r : ℕ) (was up after : FleetView K) (Holds : NodeView K → NodeView K → Type 0)
+pub goes_on : {K : Type 0} (tells : K → StoreView) (step : DriverInput → Driver → Driver) (r : ℕ) (was up after : FleetView K) (Holds : NodeView K → NodeView K → Type 0)
     → r < length was.nodes → IsCalled tells r was up after Holds
-    → ((g : Given) (d : Driver) → HasCome tells g d was → IsKnown g r → IsStep tells d r was after Holds → HasCome tells g (step g d) after) → GoesOn tells step was after
+    → ((g : DriverInput) (d : Driver) → HasCome tells g d was → IsKnown g r → IsStep tells d r was after Holds → HasCome tells g (step g d) after) → GoesOn tells step was after
 goes_on tells step r was up after Holds there call comes g d stands = record {
   come = comes g d stands.come (subst (λ (c : ℕ). r < c) stands.come.count there) (is_step tells g d r was up after Holds stands.come there call);
   decides = stands.decides;
@@ -114,11 +101,11 @@ branch_stays {K} tells r had q was up o raises at = go (q == r) refl
   where
     go : (b : Bool) → (q == r) ≡ b → (p : NodeView K) × (slice_get up.nodes q ≡ Some p) × (p.branch ≡ o.branch)
     go true same =
-        let is : q ≡ r = same_if q r same in
+        let is : q ≡ r = eqb-true q r same in
         let less : q < length up.nodes = subst (λ (c : ℕ). q < c) (sym raises.count) (slice_get_within was.nodes q o at) in
-        let found : (p : NodeView K) × (slice_get up.nodes q ≡ Some p) = element up.nodes q less in
+        let found : (p : NodeView K) × (slice_get up.nodes q ≡ Some p) = slice_get-within up.nodes q less in
         (found.0, found.1, ap (λ (x : NodeView K). x.branch) (raises.node o found.0 (ap (slice_get was.nodes) (sym is) ∙ at) (ap (slice_get up.nodes) (sym is) ∙ found.1)))
-    go false other = (o, raises.others q (differ_if q r other) ∙ at, refl)
+    go false other = (o, raises.others q (eqb-false q r other) ∙ at, refl)
 
 -- the fleet as a function sees it once it was raised
 pub seen_as : {K : Type 0} (tells : K → StoreView) (r had : ℕ) (was seen : FleetView K) (nodes : List (NodeView K)) (run : Run) → record { nodes = nodes; run = run } ≡ seen

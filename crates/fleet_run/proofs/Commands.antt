@@ -3,10 +3,12 @@ use Rattle.std.proofs.Common.{◌≡◌, ◌≢◌, ℕ, ◌+◌, ◌<◌, ◌�
 use Rattle.std.specs.Prelude.{◌&&◌, IfSome, if◌then◌else◌, is_none, is_some, nat_lt}
 use Rattle.std.specs.Option.{option_map_or}
 use Rattle.std.proofs.lemmas.Bool.Decides.{nat_tests}
+use Rattle.std.proofs.lemmas.Bool.{and_parts}
 use Rattle.annex_base.specs.Lines.{IsOneLine, newline}
 use Rattle.annex_base.specs.Lists.{Each}
 use Rattle.annex_base.proofs.Lines.{one_line-from_members, one_line-members}
 use Rattle.annex_base.proofs.Lists.{Each-weaker, list_all_member}
+use Rattle.annex_base.proofs.Options.{is_none_true}
 use Rattle.annex_key.specs.View.{size_part}
 use Rattle.key_verify.specs.Matching.{MatchesKey}
 use Rattle.log_lines.specs.LineText.{is_group_byte}
@@ -29,14 +31,14 @@ use Rattle.script_lang.specs.declared.command.BlockLine.{BlockLine}
 use Rattle.script_lang.specs.declared.command.NamedKey.{NamedKey}
 use Rattle.script_lang.specs.declared.command.Command.{Command}
 use Rattle.script_lang.specs.declared.fault.Quantity.TheVariants.{Time}
-use Rattle.driver_model.specs.Driver.{Driver, Given}
+use Rattle.driver_model.specs.Driver.{Driver, DriverInput}
 use Rattle.driver_model.specs.Driving.{does}
 use Rattle.driver_model.specs.Lines.{Line, Shows}
 use Rattle.driver_script.specs.Lines.{if_built, is_added, is_drop, is_local_drop, is_plain, is_plain_repo, is_shown, line_of}
 use Rattle.repo_node.specs.Stored.{StoreView}
 use Rattle.fleet_model.specs.Fleets.{FleetView}
 use Rattle.fleet_run.specs.Commands.{does_command}
-use Rattle.fleet_run.specs.Standing.{GoesOn, Stands}
+use Rattle.fleet_run.specs.Standing.{GoesOn, IsAtDriver}
 
 -- ---- the driver's step
 
@@ -64,11 +66,11 @@ is_quiet (commands.ShowRow r k) = true
 is_quiet commands.ShowJournal = true
 is_quiet command = false
 
-shows : (b : Bool) (g : Given) (d : Driver) → option_map_or (λ l. does g l d) (if_built b Shows) d ≡ d
+shows : (b : Bool) (g : DriverInput) (d : Driver) → option_map_or (λ l. does g l d) (if_built b Shows) d ≡ d
 shows true g d = refl
 shows false g d = refl
 
-does_nothing : (command : Command) (g : Given) (d : Driver) → is_quiet command ≡ true → does_command command g d ≡ d
+does_nothing : (command : Command) (g : DriverInput) (d : Driver) → is_quiet command ≡ true → does_command command g d ≡ d
 does_nothing (commands.Repo name id offset version locks) g d quiet = shows (is_plain_repo version locks) g d
 does_nothing (commands.ShowPresence k) g d quiet = shows (is_plain k) g d
 does_nothing (commands.ShowClaims r k) g d quiet = shows (is_plain k) g d
@@ -83,7 +85,7 @@ does_nothing command g d quiet = absurd (cc)
 
 -- such a line does nothing
 pub quiet_stays : {K : Type 0} (tells : K → StoreView) (command : Command) (f : FleetView K) → is_quiet command ≡ true → GoesOn tells (does_command command) f f
-quiet_stays tells command f quiet g d stands = subst (λ (x : Driver). Stands tells g x f) (sym (does_nothing command g d quiet)) stands
+quiet_stays tells command f quiet g d stands = subst (λ (x : Driver). IsAtDriver tells g x f) (sym (does_nothing command g d quiet)) stands
 
 -- the alternatives of an arm that does nothing
 abbrev pub IsQuiet : Command → Type 0
@@ -142,8 +144,8 @@ pub as_form : {K : Type 0} (tells : K → StoreView) (command form : Command) (w
 as_form tells command form was after is goes = subst (λ (x : Command). GoesOn tells (does_command x) was after) (sym is) goes
 
 -- what a command has where it stands, as its form says
-pub stands_as : (context : Context) (command form : Command) → command ≡ form → script.Stands context command → script.Stands context form
-stands_as context command form is stands = subst (λ (x : Command). script.Stands context x) is stands
+pub stands_as : (context : Context) (command form : Command) → command ≡ form → script.IsValidIn context command → script.IsValidIn context form
+stands_as context command form is stands = subst (λ (x : Command). script.IsValidIn context x) is stands
 
 pub built_as : (repos : List RepoView) (command form : Command) → command ≡ form → is_some (line_of repos command) ≡ true → is_some (line_of repos form) ≡ true
 built_as repos command form is built = subst (λ (x : Command). is_some (line_of repos x) ≡ true) is built
@@ -152,10 +154,6 @@ pub within_as : (context : Context) (command form : Command) → command ≡ for
 within_as context command form is within = subst (λ (x : Command). first_limit context x ≡ None) is within
 
 -- ---- what a line has
-
--- a repository that is declared has its node
-pub has_node : (r declared count : ℕ) → r < declared → declared ≤ count → r < count
-has_node r declared count known as_many = omega arith
 
 -- a name of a group is one line
 control_newline : (b : ℕ) → is_group_byte b ≡ true → b ≢ newline
@@ -206,20 +204,12 @@ drops job_kinds.Copy is = absurd (cc)
 drops job_kinds.MoveTo is = absurd (cc)
 drops job_kinds.MoveFrom is = absurd (cc)
 
-and_parts : (a b : Bool) → (a && b) ≡ true → (a ≡ true) × (b ≡ true)
-and_parts true b e = (refl, e)
-and_parts false b e = absurd (cc)
-
-none_is : {X : Type 0} (o : Option X) → is_none o ≡ true → o ≡ None
-none_is None e = refl
-none_is (Some x) e = absurd (cc)
-
 pub local_drops : (job : Job) → is_local_drop job ≡ true → job.kind ≡ job_kinds.Drop
 local_drops job is = drops job.kind (and_parts (is_drop job.kind) (is_none job.path && is_none job.peer) is).0
 
 pub local_alone : (job : Job) → is_local_drop job ≡ true → job.peer ≡ None
 local_alone job is =
-    none_is job.peer (and_parts (is_none job.path) (is_none job.peer) (and_parts (is_drop job.kind) (is_none job.path && is_none job.peer) is).1).1
+    is_none_true job.peer (and_parts (is_none job.path) (is_none job.peer) (and_parts (is_drop job.kind) (is_none job.path && is_none job.peer) is).1).1
 
 -- a wait that passes no limit ends in time
 pub in_time : (waited milliseconds : ℕ) → passed_by Time (waited + milliseconds) None ≡ None → waited + milliseconds ≤ 1000000000000

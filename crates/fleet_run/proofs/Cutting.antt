@@ -4,6 +4,8 @@ use Rattle.std.specs.Prelude.{◌||◌, OnOk, is_none, is_some, nat_le, reverse,
 use Rattle.std.specs.Option.{option_map_or}
 use Rattle.std.proofs.lemmas.Bool.Decides.{nat_tests}
 use Rattle.std.proofs.lemmas.List.{reverse-reverse}
+use Rattle.std.proofs.lemmas.Bool.{lt-leb, or_from, or_left, or_right}
+use Rattle.annex_base.proofs.Lists.{slice_get-within}
 use Rattle.run_data.specs.Histories.{most_entries}
 use Rattle.run_data.specs.declared.entry.Entry.{Entry}
 use Rattle.run_data.specs.declared.run.RepoView.{RepoView}
@@ -11,7 +13,7 @@ use Rattle.run_data.specs.declared.run.Run.{Run}
 use Rattle.run_model.specs.Run.{IsRun}
 use Rattle.script_lang.specs.declared.command.Command.{Command}
 use Rattle.script_lang.specs.declared.command.Command.TheVariants as commands
-use Rattle.driver_model.specs.Driver.{Driver, Given}
+use Rattle.driver_model.specs.Driver.{Driver, DriverInput}
 use Rattle.driver_model.specs.Driving.{does}
 use Rattle.driver_model.specs.Limits.{StopsAtFull, asks_first, count_of, is_full, is_too_long, names_path, run_to_limit, within_limit}
 use Rattle.driver_model.specs.Lines.{Line}
@@ -22,9 +24,9 @@ use Rattle.repo_node.specs.Nodes.{NodeView}
 use Rattle.repo_node.specs.Stored.{StoreView}
 use Rattle.fleet_model.specs.Fleets.{FleetView}
 use Rattle.fleet_run.specs.Commands.{CutsAt, HasRoomFor, MeetsNone, does_command}
-use Rattle.fleet_run.specs.Standing.{EndsAtFull, GoesOn, HasRoom, Stands, WaitsForRoom}
+use Rattle.fleet_run.specs.Standing.{EndsAtFull, GoesOn, HasRoom, IsAtDriver, WaitsForRoom}
 use Rattle.fleet_run.specs.Telling.{AreFew, OnlyEntriesChange}
-use Rattle.fleet_run.proofs.Called.{element, past_of}
+use Rattle.fleet_run.proofs.Called.{past_of}
 use Rattle.fleet_run.proofs.Commands.{is_quiet}
 use Rattle.fleet_run.proofs.Full.{counted, each_at}
 
@@ -169,37 +171,29 @@ quiet_asks command quiet = absurd (cc)
 pub room_quiet : {K : Type 0} (tells : K → StoreView) (command : Command) (was : FleetView K) → is_quiet command ≡ true → HasRoomFor tells command was
 room_quiet tells command was quiet = room_unasked tells command command was refl (quiet_asks command quiet)
 
-not_full : (n k : ℕ) → k < n → nat_le n k ≡ false
-not_full n k less = grind (arith, nat_tests)
-
 is_now_full : (n k : ℕ) → k ≡ n → nat_le n k ≡ true
 is_now_full n k e = grind (arith, nat_tests)
 
 -- the repository has room for the content
 pub room_had : {K : Type 0} (tells : K → StoreView) (r : ℕ) (key content : List ℕ) (command : Command) (was : FleetView K) → command ≡ commands.Have r key content → HasRoom tells r was → HasRoomFor tells command was
 room_had tells r key content command was is room g d line stands is_line =
-    ap (is_full d.past) (ap asks_some (sym is_line) ∙ ap (λ (x : Command). asks_some (line_of g.repos x)) is) ∙ not_full most_entries (count_of d.past r) (room g d stands)
-
--- what the line's step leaves is no longer than it may be
-or_false : (a b : Bool) → a ≡ false → b ≡ false → (a || b) ≡ false
-or_false true b e f = absurd (cc)
-or_false false b e f = f
+    ap (is_full d.past) (ap asks_some (sym is_line) ∙ ap (λ (x : Command). asks_some (line_of g.repos x)) is) ∙ lt-leb most_entries (count_of d.past r) (room g d stands)
 
 -- the driver's step at the command is that of its line
-step_of : (command : Command) (g : Given) (d : Driver) (line : Line) → line_of g.repos command ≡ Some line → does_command command g d ≡ does g line d
+step_of : (command : Command) (g : DriverInput) (d : Driver) (line : Line) → line_of g.repos command ≡ Some line → does_command command g d ≡ does g line d
 step_of command g d line is = ap (λ (o : Option Line). option_map_or (λ (l : Line). does g l d) o d) is
 
-pub meets_none : {K : Type 0} (tells : K → StoreView) (command : Command) (was after : FleetView K) → ((g : Given) (past : List Entry) → ((q : ℕ) → q < length g.repos → count_of past q ≤ most_entries) → is_too_long g past ≡ false)
+pub meets_none : {K : Type 0} (tells : K → StoreView) (command : Command) (was after : FleetView K) → ((g : DriverInput) (past : List Entry) → ((q : ℕ) → q < length g.repos → count_of past q ≤ most_entries) → is_too_long g past ≡ false)
     → HasRoomFor tells command was → GoesOn tells (does_command command) was after → AreFew after.nodes → MeetsNone tells command was
 meets_none {K} tells command was after law room goes few g d line stands is_line =
-    or_false (is_full d.past (asks_first line)) (is_too_long g (does g line d).past) (room g d line stands is_line) (law g (does g line d).past made)
+    or_from (is_full d.past (asks_first line)) (is_too_long g (does g line d).past) (room g d line stands is_line) (law g (does g line d).past made)
   where
-    then : Stands tells g (does g line d) after
-    then = subst (λ (x : Driver). Stands tells g x after) (step_of command g d line is_line) (goes g d stands)
+    then : IsAtDriver tells g (does g line d) after
+    then = subst (λ (x : Driver). IsAtDriver tells g x after) (step_of command g d line is_line) (goes g d stands)
 
     made : (q : ℕ) → q < length g.repos → count_of (does g line d).past q ≤ most_entries
     made q known =
-        let found : (n : NodeView K) × (slice_get after.nodes q ≡ Some n) = element after.nodes q (subst (λ (c : ℕ). q < c) (sym then.come.count) known) in
+        let found : (n : NodeView K) × (slice_get after.nodes q ≡ Some n) = slice_get-within after.nodes q (subst (λ (c : ℕ). q < c) (sym then.come.count) known) in
         subst (λ (k : ℕ). k ≤ most_entries) (sym (counted tells g (does g line d) q found.0 (then.come.each q found.0 found.1)))
         (each_at (λ (n : NodeView K). length n.history ≤ most_entries) after.nodes q found.0 few found.1)
 
@@ -207,21 +201,13 @@ meets_none {K} tells command was after law room goes few g d line stands is_line
 
 -- the laws of a run that is cut
 pub record CutLaws : Type 0 where
-  pub cut : (g : Given) (r : ℕ) (after : Driver) (run : Run) → StopsAtFull g r after run → is_too_long g after.past ≡ true
-  pub entries : (g : Given) (r : ℕ) (after : Driver) (run : Run) → StopsAtFull g r after run → reverse (within_limit g after.past) ≡ run.entries
-  pub marks : (g : Given) (line : Line) (d : Driver) → (does g line d).marks ≡ d.marks
-  pub tree : (g : Given) (line : Line) (d : Driver) → names_path line ≡ false → (does g line d).tree ≡ d.tree
-
-or_true : (a b : Bool) → b ≡ true → (a || b) ≡ true
-or_true true b e = refl
-or_true false b e = e
-
-or_first : (a b : Bool) → a ≡ true → (a || b) ≡ true
-or_first true b e = refl
-or_first false b e = absurd (cc)
+  pub cut : (g : DriverInput) (r : ℕ) (after : Driver) (run : Run) → StopsAtFull g r after run → is_too_long g after.past ≡ true
+  pub entries : (g : DriverInput) (r : ℕ) (after : Driver) (run : Run) → StopsAtFull g r after run → reverse (within_limit g after.past) ≡ run.entries
+  pub marks : (g : DriverInput) (line : Line) (d : Driver) → (does g line d).marks ≡ d.marks
+  pub tree : (g : DriverInput) (line : Line) (d : Driver) → names_path line ≡ false → (does g line d).tree ≡ d.tree
 
 -- the run is the driver's up to there, where its entries are
-cut_run : {K : Type 0} (tells : K → StoreView) → CutLaws → (command : Command) (was after : FleetView K) (g : Given) (d : Driver) (line : Line) → Stands tells g d was → line_of g.repos command ≡ Some line
+cut_run : {K : Type 0} (tells : K → StoreView) → CutLaws → (command : Command) (was after : FleetView K) (g : DriverInput) (d : Driver) (line : Line) → IsAtDriver tells g d was → line_of g.repos command ≡ Some line
     → OnlyEntriesChange was after → reverse (within_limit g (does g line d).past) ≡ after.run.entries → after.run ≡ run_to_limit g line d
 cut_run {K} tells laws command was after g d line stands is_line rest entries =
     rest ∙ (ap (λ (run : Run). record run { entries = after.run.entries }) stands.come.run
@@ -229,7 +215,7 @@ cut_run {K} tells laws command was after g d line stands is_line rest entries =
 
 pub cuts : {K : Type 0} (tells : K → StoreView) → CutLaws → (r : ℕ) (command : Command) (was after : FleetView K) → EndsAtFull tells r (does_command command) was after → OnlyEntriesChange was after → CutsAt tells r command was after
 cuts {K} tells laws r command was after ends rest g d line stands is_line = record {
-  meets = or_true (is_full d.past (asks_first line)) (is_too_long g (does g line d).past) (laws.cut g r (does g line d) after.run stops);
+  meets = or_right (is_full d.past (asks_first line)) (is_too_long g (does g line d).past) (laws.cut g r (does g line d) after.run stops);
   run_is = cut_run tells laws command was after g d line stands is_line rest (laws.entries g r (does g line d) after.run stops);
   lawful = stops.lawful;
   full = subst (λ (past : List Entry). count_of past r ≡ most_entries) (sym (ap reverse stops.entries ∙ reverse-reverse stops.past)) stops.full;
@@ -242,7 +228,7 @@ cuts {K} tells laws r command was after ends rest g d line stands is_line = reco
 cuts_unasked : {K : Type 0} (tells : K → StoreView) → CutLaws → (r : ℕ) (key content : List ℕ) (was after : FleetView K) → WaitsForRoom tells r (does_command (commands.Have r key content)) was after
     → OnlyEntriesChange was after → CutsAt tells r (commands.Have r key content) was after
 cuts_unasked {K} tells laws r key content was after waits rest g d line stands is_line = record {
-  meets = or_first (is_full d.past (asks_first line)) (is_too_long g (does g line d).past)
+  meets = or_left (is_full d.past (asks_first line)) (is_too_long g (does g line d).past)
       (ap (is_full d.past) (ap asks_some (sym is_line)) ∙ is_now_full most_entries (count_of d.past r) (waits.full g d stands));
   run_is = cut_run tells laws (commands.Have r key content) was after g d line stands is_line rest
       (ap reverse (ap (λ (x : Driver). within_limit g x.past) (sym (step_of (commands.Have r key content) g d line is_line)) ∙ waits.past g d stands) ∙ sym (ap (λ (run : Run). run.entries) (waits.run ∙ stands.come.run)));

@@ -1,87 +1,82 @@
 -- A fleet that has come to where some driver is goes on, step by step.
-use Rattle.std.proofs.Common.{◌≡◌, ℕ, zero, suc, ◌+◌, ◌<◌, ◌≤◌, ◌^◌, Bool, true, false, List, [], ◌∷◌, ◌++◌, length, refl, sym, ap, ◌∙◌, subst, arith}
+use Rattle.std.proofs.Common.{◌≡◌, ℕ, suc, ◌+◌, ◌<◌, ◌≤◌, ◌^◌, true, false, List, [], ◌∷◌, ◌++◌, length, sym, ap, ◌∙◌, subst, arith}
 use Rattle.std.specs.Prelude.{◌==◌, if◌then◌else◌, nat_le, reverse}
 use Rattle.std.specs.List.{range_with_len}
 use Rattle.std.proofs.lemmas.Bool.Decides.{nat_tests}
-use Rattle.std.proofs.lemmas.List.{length-reverse, reverse-reverse}
+use Rattle.std.proofs.lemmas.List.{length-reverse}
 use Rattle.run_data.specs.declared.entry.Entry.{Entry}
 use Rattle.run_data.specs.declared.run.Run.{Run}
-use Rattle.run_model.specs.Past.{Always, now}
-use Rattle.driver_model.specs.Driver.{Driver, Given, newest_count}
+use Rattle.driver_model.specs.Driver.{Driver, DriverInput, newest_count}
 use Rattle.driver_model.specs.Driving.{turns, with_mark}
-use Rattle.driver_model.specs.Rounds.{AfterRounds, came_to, idle_after, is_settled, most_rounds, round, settles, turns_of}
-use Rattle.driver_model.specs.Scripts.{Fit, Fits}
+use Rattle.driver_model.specs.Rounds.{AfterRounds, after_round, idle_after, is_settled, most_rounds, round, settles, turns_of}
 use Rattle.driver_model.specs.Sound.{StaysSound}
 use Rattle.driver_model.specs.Turning.{turn}
 use Rattle.repo_node.specs.Stored.{StoreView}
 use Rattle.fleet_model.specs.Fleets.{FleetView, HasCome}
 use Rattle.fleet_model.specs.Settling.{goes_rounds, power, unsettled}
-use Rattle.fleet_run.specs.Standing.{GoesOn, IsDriven, Stands}
+use Rattle.fleet_run.specs.Standing.{GoesOn, IsDriven, IsDrivenWithin, IsFew, IsAtDriver, most_lines}
+use Rattle.fleet_run.proofs.Few.{fewer, rounds_few}
 use Rattle.fleet_run.proofs.Turning.{past_of}
 
 -- ---- where it has come
 
-now_within : (past : List Entry) → Always Fit past → now past ≤ 1000000000000
-now_within [] fit = grind arith
-now_within (e ∷ past) fit = fit.0.in_time
+-- how many entries it has made
+pub entries_are : {K : Type 0} (tells : K → StoreView) (g : DriverInput) (d : Driver) (f : FleetView K) → HasCome tells g d f → length f.run.entries ≡ length d.past
+entries_are tells g d f come = ap (λ (run : Run). length run.entries) come.run ∙ length-reverse d.past
 
-count_within : (past : List Entry) → Always Fit past → newest_count past < 2 ^ 62
-count_within [] fit = grind arith
-count_within (e ∷ past) fit = fit.0.counted
-
--- the time and the count of the newest entry are within the bounds of a run
-pub is_early : {K : Type 0} (tells : K → StoreView) (f : FleetView K) → IsDriven tells f → now (reverse f.run.entries) ≤ 1000000000000
-is_early tells f driven = subst (λ (past : List Entry). now past ≤ 1000000000000) (sym (past_of tells driven.given driven.driver f driven.stands.come)) (now_within driven.driver.past driven.stands.come.fits.0)
-
-pub is_counted : {K : Type 0} (tells : K → StoreView) (f : FleetView K) → IsDriven tells f → newest_count (reverse f.run.entries) < 2 ^ 62
-is_counted tells f driven = subst (λ (past : List Entry). newest_count past < 2 ^ 62) (sym (past_of tells driven.given driven.driver f driven.stands.come)) (count_within driven.driver.past driven.stands.come.fits.0)
+-- and so is a count more, where the entries are few
+pub one_is_counted : {K : Type 0} (tells : K → StoreView) (f : FleetView K) → IsDriven tells f → length f.run.entries < 2 ^ 30 → newest_count (reverse f.run.entries) + 1 < 2 ^ 62
+one_is_counted tells f driven few =
+    subst (λ (past : List Entry). newest_count past + 1 < 2 ^ 62) (sym (past_of tells driven.given driven.driver f driven.stands.come))
+    (small (newest_count driven.driver.past) (length driven.driver.past) (length f.run.entries) driven.few.count (entries_are tells driven.given driven.driver f driven.stands.come) few)
+  where
+    small : (count made entries : ℕ) → count ≤ made → entries ≡ made → entries < 2 ^ 30 → count + 1 < 2 ^ 62
+    small count made entries less same few = omega (arith, less, same, few)
 
 -- it has as many nodes as it had, where some driver goes on
-pub same_count : {K : Type 0} (tells : K → StoreView) (step : Given → Driver → Driver) (was after : FleetView K) → IsDriven tells was → GoesOn tells step was after → length after.nodes ≡ length was.nodes
+pub same_count : {K : Type 0} (tells : K → StoreView) (step : DriverInput → Driver → Driver) (was after : FleetView K) → IsDriven tells was → GoesOn tells step was after → length after.nodes ≡ length was.nodes
 same_count tells step was after driven on = (on driven.given driven.driver driven.stands).come.count ∙ sym driven.stands.come.count
 
--- some driver is where it has come to, after a step
-pub driven_on : {K : Type 0} (tells : K → StoreView) (step : Given → Driver → Driver) (was after : FleetView K) → IsDriven tells was → GoesOn tells step was after → IsDriven tells after
-driven_on tells step was after driven on = record { given = driven.given; driver = step driven.given driven.driver; stands = on driven.given driven.driver driven.stands }
+-- some driver is where it has come to, after a step that keeps its entries few
+pub driven_on : {K : Type 0} (tells : K → StoreView) (most more : ℕ) (step : DriverInput → Driver → Driver) (was after : FleetView K) → ((g : DriverInput) (d : Driver) → IsFew most d.past → IsFew more (step g d).past)
+    → IsDrivenWithin tells most was → GoesOn tells step was after → IsDrivenWithin tells more after
+driven_on tells most more step was after keeps driven on = record {
+  given = driven.given;
+  driver = step driven.given driven.driver;
+  stands = on driven.given driven.driver driven.stands;
+  repos = driven.repos;
+  few = keeps driven.given driven.driver driven.few;
+}
 
--- how many entries it has made
-entries_are : {K : Type 0} (tells : K → StoreView) (g : Given) (d : Driver) (f : FleetView K) → HasCome tells g d f → length f.run.entries ≡ length d.past
-entries_are tells g d f come = ap (λ (run : Run). length run.entries) come.run ∙ length-reverse d.past
+-- more waits may be allowed
+pub driven_within : {K : Type 0} (tells : K → StoreView) (most more : ℕ) (f : FleetView K) → most ≤ more → IsDrivenWithin tells most f → IsDrivenWithin tells more f
+driven_within tells most more f less driven = record { given = driven.given; driver = driven.driver; stands = driven.stands; repos = driven.repos; few = fewer most more driven.driver.past less driven.few }
 
 -- ---- turns one behind the other
 
 after_one : (n : ℕ) → suc n ≡ n + 1
 after_one n = omega arith
 
-pub no_turns : {K : Type 0} (tells : K → StoreView) (r : ℕ) (f : FleetView K) → GoesOn tells (λ g d. turns g r 0 d) f f
-no_turns tells r f g d stands = stands
-
-pub one_more_turn : {K : Type 0} (tells : K → StoreView) (r n : ℕ) (was between after : FleetView K) → ((g : Given) (r n : ℕ) (d : Driver) → turns g r (suc n) d ≡ turn g r (turns g r n d))
+pub one_more_turn : {K : Type 0} (tells : K → StoreView) (r n : ℕ) (was between after : FleetView K) → ((g : DriverInput) (r n : ℕ) (d : Driver) → turns g r (suc n) d ≡ turn g r (turns g r n d))
     → GoesOn tells (λ g d. turns g r n d) was between → GoesOn tells (λ g d. turn g r d) between after → GoesOn tells (λ g d. turns g r (n + 1) d) was after
-one_more_turn tells r n was between after law so_far one g d stands = subst (λ (k : ℕ). Stands tells g (turns g r k d) after) (after_one n) (subst (λ (x : Driver). Stands tells g x after) (sym (law g r n d)) (one g (turns g r n d) (so_far g d stands)))
+one_more_turn tells r n was between after law so_far one g d stands = subst (λ (k : ℕ). IsAtDriver tells g (turns g r k d) after) (after_one n) (subst (λ (x : Driver). IsAtDriver tells g x after) (sym (law g r n d)) (one g (turns g r n d) (so_far g d stands)))
 
 -- ---- a round
 
-pub no_turn_of_round : {K : Type 0} (tells : K → StoreView) (f : FleetView K) → GoesOn tells (λ g d. turns_of g (range_with_len 0 0) d) f f
-no_turn_of_round tells f g d stands = stands
-
-pub one_more_of_round : {K : Type 0} (tells : K → StoreView) (n : ℕ) (was between after : FleetView K) → ((g : Given) (n : ℕ) (d : Driver) → turns_of g (range_with_len 0 (suc n)) d ≡ turn g n (turns_of g (range_with_len 0 n) d))
+pub one_more_of_round : {K : Type 0} (tells : K → StoreView) (n : ℕ) (was between after : FleetView K) → ((g : DriverInput) (n : ℕ) (d : Driver) → turns_of g (range_with_len 0 (suc n)) d ≡ turn g n (turns_of g (range_with_len 0 n) d))
     → GoesOn tells (λ g d. turns_of g (range_with_len 0 n) d) was between → GoesOn tells (λ g d. turn g n d) between after → GoesOn tells (λ g d. turns_of g (range_with_len 0 (n + 1)) d) was after
-one_more_of_round tells n was between after law so_far one g d stands = subst (λ (k : ℕ). Stands tells g (turns_of g (range_with_len 0 k) d) after) (after_one n) (subst (λ (x : Driver). Stands tells g x after) (sym (law g n d)) (one g (turns_of g (range_with_len 0 n) d) (so_far g d stands)))
+one_more_of_round tells n was between after law so_far one g d stands = subst (λ (k : ℕ). IsAtDriver tells g (turns_of g (range_with_len 0 k) d) after) (after_one n) (subst (λ (x : Driver). IsAtDriver tells g x after) (sym (law g n d)) (one g (turns_of g (range_with_len 0 n) d) (so_far g d stands)))
 
 -- the turns of all nodes are a round
 pub whole_round : {K : Type 0} (tells : K → StoreView) (n : ℕ) (was after : FleetView K) → n ≡ length was.nodes → GoesOn tells (λ g d. turns_of g (range_with_len 0 n) d) was after → GoesOn tells (λ g d. round g d) was after
-whole_round tells n was after all turned g d stands = subst (λ (k : ℕ). Stands tells g (turns_of g (range_with_len 0 k) d) after) (all ∙ stands.come.count) (turned g d stands)
+whole_round tells n was after all turned g d stands = subst (λ (k : ℕ). IsAtDriver tells g (turns_of g (range_with_len 0 k) d) after) (all ∙ stands.come.count) (turned g d stands)
 
 -- ---- rounds one behind the other
 
 -- wherever the driver was, it has gone so many rounds, of which the last so many were idle
 pub record HasGone {K : Type 0} (tells : K → StoreView) (n idle : ℕ) (was after : FleetView K) : Type 0 where
-  pub stands : (g : Given) (d : Driver) → Stands tells g d was → Stands tells g (goes_rounds g n (unsettled d)).driver after
-  pub idle_is : (g : Given) (d : Driver) → Stands tells g d was → (goes_rounds g n (unsettled d)).idle ≡ idle
-
-pub not_gone : {K : Type 0} (tells : K → StoreView) (f : FleetView K) → HasGone tells 0 0 f f
-not_gone tells f = record { stands = λ g d stands. stands; idle_is = λ g d stands. refl }
+  pub stands : (g : DriverInput) (d : Driver) → IsAtDriver tells g d was → IsAtDriver tells g (goes_rounds g n (unsettled d)).driver after
+  pub idle_is : (g : DriverInput) (d : Driver) → IsAtDriver tells g d was → (goes_rounds g n (unsettled d)).idle ≡ idle
 
 -- how many were idle after one more, by whether entries came between
 abbrev pub idle_then : ℕ → ℕ → ℕ → ℕ
@@ -94,46 +89,52 @@ reached : (k : ℕ) → 2 ≤ k → nat_le 2 k ≡ true
 reached k many = grind (arith, nat_tests)
 
 pub one_more_round : {K : Type 0} (tells : K → StoreView) (n idle : ℕ) (was between after : FleetView K)
-    → ((g : Given) (n : ℕ) (x : AfterRounds) → is_settled (goes_rounds g n x) ≡ false → goes_rounds g (suc n) x ≡ came_to (goes_rounds g n x) (round g (goes_rounds g n x).driver))
+    → ((g : DriverInput) (n : ℕ) (x : AfterRounds) → is_settled (goes_rounds g n x) ≡ false → goes_rounds g (suc n) x ≡ after_round (goes_rounds g n x) (round g (goes_rounds g n x).driver))
     → idle < 2 → HasGone tells n idle was between → GoesOn tells (λ g d. round g d) between after → HasGone tells (n + 1) (idle_then (length between.run.entries) (length after.run.entries) idle) was after
 one_more_round {K} tells n idle was between after law low gone one = subst (λ (k : ℕ). HasGone tells k (idle_then (length between.run.entries) (length after.run.entries) idle) was after) (after_one n) (record {
-  stands = λ g d stands. subst (λ (x : AfterRounds). Stands tells g x.driver after) (sym (next g d stands)) (one g (goes_rounds g n (unsettled d)).driver (gone.stands g d stands));
+  stands = λ g d stands. subst (λ (x : AfterRounds). IsAtDriver tells g x.driver after) (sym (next g d stands)) (one g (goes_rounds g n (unsettled d)).driver (gone.stands g d stands));
   idle_is = λ g d stands. ap (λ (x : AfterRounds). x.idle) (next g d stands) ∙ (ap (λ (k : ℕ). idle_after (goes_rounds g n (unsettled d)).driver (round g (goes_rounds g n (unsettled d)).driver) k) (gone.idle_is g d stands)
       ∙ (λ i. if entries_were g d stands i == entries_then g d stands i then idle + 1 else 0));
 })
   where
-    unready : (g : Given) (d : Driver) → Stands tells g d was → is_settled (goes_rounds g n (unsettled d)) ≡ false
+    unready : (g : DriverInput) (d : Driver) → IsAtDriver tells g d was → is_settled (goes_rounds g n (unsettled d)) ≡ false
     unready g d stands = ap (nat_le 2) (gone.idle_is g d stands) ∙ below idle low
 
-    next : (g : Given) (d : Driver) → Stands tells g d was → goes_rounds g (suc n) (unsettled d) ≡ came_to (goes_rounds g n (unsettled d)) (round g (goes_rounds g n (unsettled d)).driver)
+    next : (g : DriverInput) (d : Driver) → IsAtDriver tells g d was → goes_rounds g (suc n) (unsettled d) ≡ after_round (goes_rounds g n (unsettled d)) (round g (goes_rounds g n (unsettled d)).driver)
     next g d stands = law g n (unsettled d) (unready g d stands)
 
-    entries_were : (g : Given) (d : Driver) → Stands tells g d was → length (goes_rounds g n (unsettled d)).driver.past ≡ length between.run.entries
+    entries_were : (g : DriverInput) (d : Driver) → IsAtDriver tells g d was → length (goes_rounds g n (unsettled d)).driver.past ≡ length between.run.entries
     entries_were g d stands = sym (entries_are tells g (goes_rounds g n (unsettled d)).driver between (gone.stands g d stands).come)
 
-    entries_then : (g : Given) (d : Driver) → Stands tells g d was → length (round g (goes_rounds g n (unsettled d)).driver).past ≡ length after.run.entries
+    entries_then : (g : DriverInput) (d : Driver) → IsAtDriver tells g d was → length (round g (goes_rounds g n (unsettled d)).driver).past ≡ length after.run.entries
     entries_then g d stands = sym (entries_are tells g (round g (goes_rounds g n (unsettled d)).driver) after (one g (goes_rounds g n (unsettled d)).driver (gone.stands g d stands)).come)
 
 pub settled_early : {K : Type 0} (tells : K → StoreView) (n idle : ℕ) (was after : FleetView K)
-    → ((g : Given) (d : Driver) (n : ℕ) → n ≤ power most_rounds → is_settled (goes_rounds g n (unsettled d)) ≡ true → settles g d ≡ (goes_rounds g n (unsettled d)).driver)
+    → ((g : DriverInput) (d : Driver) (n : ℕ) → n ≤ power most_rounds → is_settled (goes_rounds g n (unsettled d)) ≡ true → settles g d ≡ (goes_rounds g n (unsettled d)).driver)
     → n ≤ power most_rounds → 2 ≤ idle → HasGone tells n idle was after → GoesOn tells (λ g d. settles g d) was after
 settled_early tells n idle was after law few enough gone g d stands =
-    subst (λ (x : Driver). Stands tells g x after) (sym (law g d n few (ap (nat_le 2) (gone.idle_is g d stands) ∙ reached idle enough))) (gone.stands g d stands)
+    subst (λ (x : Driver). IsAtDriver tells g x after) (sym (law g d n few (ap (nat_le 2) (gone.idle_is g d stands) ∙ reached idle enough))) (gone.stands g d stands)
 
-pub settled_at_most : {K : Type 0} (tells : K → StoreView) (idle : ℕ) (was after : FleetView K) → ((g : Given) (d : Driver) → settles g d ≡ (goes_rounds g (power most_rounds) (unsettled d)).driver)
+pub settled_at_most : {K : Type 0} (tells : K → StoreView) (idle : ℕ) (was after : FleetView K) → ((g : DriverInput) (d : Driver) → settles g d ≡ (goes_rounds g (power most_rounds) (unsettled d)).driver)
     → HasGone tells (power most_rounds) idle was after → GoesOn tells (λ g d. settles g d) was after
-settled_at_most tells idle was after law gone g d stands = subst (λ (x : Driver). Stands tells g x after) (sym (law g d)) (gone.stands g d stands)
+settled_at_most tells idle was after law gone g d stands = subst (λ (x : Driver). IsAtDriver tells g x after) (sym (law g d)) (gone.stands g d stands)
 
 -- some driver is where it has come to after so many rounds
 pub driven_rounds : {K : Type 0} (tells : K → StoreView) (n idle : ℕ) (was after : FleetView K) → IsDriven tells was → HasGone tells n idle was after → IsDriven tells after
-driven_rounds tells n idle was after driven gone = record { given = driven.given; driver = (goes_rounds driven.given n (unsettled driven.driver)).driver; stands = gone.stands driven.given driven.driver driven.stands }
+driven_rounds tells n idle was after driven gone = record {
+  given = driven.given;
+  driver = (goes_rounds driven.given n (unsettled driven.driver)).driver;
+  stands = gone.stands driven.given driven.driver driven.stands;
+  repos = driven.repos;
+  few = rounds_few most_lines driven.given n (unsettled driven.driver) driven.few;
+}
 
 -- ---- a mark
 
 -- a line is marked
 pub marks_on : {K : Type 0} (tells : K → StoreView) (was after : FleetView K)
-    → ((g : Given) (d : Driver) → after.nodes ≡ was.nodes → after.run ≡ record was.run { marks = was.run.marks ++ length was.run.entries ∷ [] } → StaysSound g d (with_mark d) → HasCome tells g d was → HasCome tells g (with_mark d) after)
-    → ((g : Given) (d : Driver) → StaysSound g d (with_mark d)) → after.nodes ≡ was.nodes → after.run ≡ record was.run { marks = was.run.marks ++ length was.run.entries ∷ [] } → GoesOn tells (λ g d. with_mark d) was after
+    → ((g : DriverInput) (d : Driver) → after.nodes ≡ was.nodes → after.run ≡ record was.run { marks = was.run.marks ++ length was.run.entries ∷ [] } → StaysSound g d (with_mark d) → HasCome tells g d was → HasCome tells g (with_mark d) after)
+    → ((g : DriverInput) (d : Driver) → StaysSound g d (with_mark d)) → after.nodes ≡ was.nodes → after.run ≡ record was.run { marks = was.run.marks ++ length was.run.entries ∷ [] } → GoesOn tells (λ g d. with_mark d) was after
 marks_on tells was after law sound nodes run g d stands = record { come = law g d nodes run (sound g d) stands.come; decides = stands.decides }
 
 -- so many rounds are as many as there may be at most

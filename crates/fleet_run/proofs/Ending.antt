@@ -4,6 +4,7 @@ use Rattle.std.specs.Prelude.{if◌then◌else◌, slice_get}
 use Rattle.std.specs.List.{range_with_len}
 use Rattle.std.specs.Option.{ForSome}
 use Rattle.std.proofs.lemmas.Option.{same_Some, slice_get_within}
+use Rattle.annex_base.proofs.Lists.{slice_get-within}
 use Rattle.log_lines.specs.declared.entry.LogKind.{LogKind}
 use Rattle.log_lines.specs.declared.entry.Topic.TheVariants as topics
 use Rattle.log_lines.specs.declared.entry.Value.{Value}
@@ -11,10 +12,10 @@ use Rattle.run_data.specs.Histories.{most_entries}
 use Rattle.run_data.specs.Repos.{id_of}
 use Rattle.run_data.specs.declared.run.Run.{Run}
 use Rattle.node_model.specs.SetUp.{SetUp}
-use Rattle.driver_model.specs.Driver.{Driver, Given, set_up_of}
+use Rattle.driver_model.specs.Driver.{Driver, DriverInput, set_up_of}
 use Rattle.driver_model.specs.Driving.{turns}
 use Rattle.driver_model.specs.Limits.{StopsAtFull}
-use Rattle.driver_model.specs.Rounds.{AfterRounds, came_to, is_settled, most_rounds, round, settles, turns_of}
+use Rattle.driver_model.specs.Rounds.{AfterRounds, after_round, is_settled, most_rounds, round, settles, turns_of}
 use Rattle.driver_model.specs.ScriptSteps.{sets}
 use Rattle.driver_model.specs.Sound.{OnlyAdds}
 use Rattle.driver_model.specs.Turning.{turn}
@@ -30,9 +31,8 @@ use Rattle.fleet_model.specs.Settling.{goes_rounds, power, unsettled}
 use Rattle.fleet_model.specs.Steps.{OneTurns, raised, with_links}
 use Rattle.fleet_model.specs.Stopping.{OthersAreFew}
 use Rattle.fleet_model.specs.Turns.{StandsWell}
-use Rattle.fleet_run.specs.Standing.{EndsAtFull, GoesOn, Stands}
+use Rattle.fleet_run.specs.Standing.{EndsAtFull, GoesOn, IsAtDriver}
 use Rattle.fleet_run.specs.Telling.{AreFew}
-use Rattle.fleet_run.proofs.Called.{element}
 use Rattle.fleet_run.proofs.Driving.{HasGone, below}
 use Rattle.fleet_run.proofs.Full.{each_at, run_stays}
 use Rattle.fleet_run.proofs.Turning.{IsTurned, node_raised, one_turns, stands_well, where_told}
@@ -41,13 +41,13 @@ use Rattle.fleet_run.proofs.Turning.{IsTurned, node_raised, one_turns, stands_we
 
 -- the law of a turn
 abbrev pub TurnStops : {K : Type 0} → (K → StoreView) → Type 0
-TurnStops {K} tells = (g : Given) (d : Driver) (r : ℕ) (n : NodeView K) (was : FleetView K) → HasCome tells g d was → slice_get was.nodes r ≡ Some n → OthersAreFew r was.nodes
+TurnStops {K} tells = (g : DriverInput) (d : Driver) (r : ℕ) (n : NodeView K) (was : FleetView K) → HasCome tells g d was → slice_get was.nodes r ≡ Some n → OthersAreFew r was.nodes
     → StandsWell g d r n → length n.history ≡ most_entries → HasStep (raised d n) (set_up_of g d r) → StopsAtFull g r (turn g r d) was.run
 
 -- the turn of a node whose history is full found a step
 pub record IsReady {K : Type 0} (tells : K → StoreView) (n m : NodeView K) : Type 0 where
   pub full : length n.history ≡ most_entries
-  pub ready : ForSome (told_of (tells n.keeper).contents (tells n.keeper).parts) (λ c. (s : SetUp) → nodes.Fits n.setup s → HasStep n s)
+  pub ready : ForSome (told_of (tells n.keeper).contents (tells n.keeper).parts) (λ c. (s : SetUp) → nodes.MatchesSetup n.setup s → HasStep n s)
 
 pub turn_ends : {K : Type 0} (tells : K → StoreView) (r had : ℕ) (t : Turn) (was up : FleetView K) (turned carried : List (NodeView K)) (after : FleetView K) → TurnStops tells
     → r < length was.nodes → IsTurned tells r had t was up turned carried after → t ≡ turnings.Full → AtNode r up.nodes turned (IsReady tells) → AreFew after.nodes → EndsAtFull tells r (λ g d. turn g r d) was after
@@ -55,30 +55,30 @@ turn_ends {K} tells r had t was up turned carried after law there call full read
     subst (λ (run : Run). StopsAtFull g r (turn g r d) run) (sym same_run)
     (law g d r n was come first.1 others (stands_well tells g d r had was up n second.0 come call.raises first.1 second.1)
     (subst (λ (y : NodeView K). length y.history ≡ most_entries) up_is (ready second.0 m second.1 third.1).full)
-    (where_told d r (tells n.keeper) ((s : SetUp) → nodes.Fits n.setup s → HasStep (raised d n) s) (come.each r n first.1).store
-    (subst (λ (y : NodeView K). ForSome (told_of (tells y.keeper).contents (tells y.keeper).parts) (λ c. (s : SetUp) → nodes.Fits y.setup s → HasStep y s)) up_is (ready second.0 m second.1 third.1).ready)
+    (where_told d r (tells n.keeper) ((s : SetUp) → nodes.MatchesSetup n.setup s → HasStep (raised d n) s) (come.each r n first.1).store
+    (subst (λ (y : NodeView K). ForSome (told_of (tells y.keeper).contents (tells y.keeper).parts) (λ c. (s : SetUp) → nodes.MatchesSetup y.setup s → HasStep y s)) up_is (ready second.0 m second.1 third.1).ready)
     (set_up_of g d r) (come.each r n first.1).setup))
   where
     come : HasCome tells g d was
     come = stands.come
 
     first : (n : NodeView K) × (slice_get was.nodes r ≡ Some n)
-    first = element was.nodes r there
+    first = slice_get-within was.nodes r there
 
     n : NodeView K
     n = first.0
 
     second : (p : NodeView K) × (slice_get up.nodes r ≡ Some p)
-    second = element up.nodes r (subst (λ (c : ℕ). r < c) (sym call.raises.count) there)
+    second = slice_get-within up.nodes r (subst (λ (c : ℕ). r < c) (sym call.raises.count) there)
 
     third : (m : NodeView K) × (slice_get turned r ≡ Some m)
-    third = element turned r (subst (λ (c : ℕ). r < c) (sym (call.count ∙ call.raises.count)) there)
+    third = slice_get-within turned r (subst (λ (c : ℕ). r < c) (sym (call.count ∙ call.raises.count)) there)
 
     m : NodeView K
     m = third.0
 
     fourth : (x : NodeView K) × (slice_get carried r ≡ Some x)
-    fourth = element carried r (subst (λ (c : ℕ). r < c) (sym (call.carried_count ∙ (call.count ∙ call.raises.count))) there)
+    fourth = slice_get-within carried r (subst (λ (c : ℕ). r < c) (sym (call.carried_count ∙ (call.count ∙ call.raises.count))) there)
 
     one : OneTurns r n m was after
     one = one_turns tells r had t was up turned carried after n second.0 m fourth.0 call first.1 second.1 third.1 fourth.1
@@ -100,7 +100,7 @@ turn_ends {K} tells r had t was up turned carried after law there call full read
 
     others : OthersAreFew r was.nodes
     others q x other at =
-        let now : (y : NodeView K) × (slice_get after.nodes q ≡ Some y) = element after.nodes q (subst (λ (c : ℕ). q < c) (sym one.count) (slice_get_within was.nodes q x at)) in
+        let now : (y : NodeView K) × (slice_get after.nodes q ≡ Some y) = slice_get-within after.nodes q (subst (λ (c : ℕ). q < c) (sym one.count) (slice_get_within was.nodes q x at)) in
         let before : (y : NodeView K) × (slice_get was.nodes q ≡ Some y) × (now.0 ≡ with_links y now.0.parts.links) = one.others q now.0 other now.1 in
         let same : now.0.history ≡ x.history = ap (λ (y : NodeView K). y.history) before.2 ∙ ap (λ (y : NodeView K). y.history) (same_Some before.0 x (sym before.1 ∙ at)) in
         subst (λ k. k ≤ most_entries) (ap length same) (each_at (λ (y : NodeView K). length y.history ≤ most_entries) after.nodes q now.0 few now.1)
@@ -109,20 +109,20 @@ turn_ends {K} tells r had t was up turned carried after law there call full read
 
 -- what follows only adds entries
 abbrev pub LaterLaw : Type 0
-LaterLaw = (g : Given) (r : ℕ) (mid after : Driver) (run : Run) → StopsAtFull g r mid run → OnlyAdds mid after → StopsAtFull g r after run
+LaterLaw = (g : DriverInput) (r : ℕ) (mid after : Driver) (run : Run) → StopsAtFull g r mid run → OnlyAdds mid after → StopsAtFull g r after run
 
 -- another step would follow
-pub ends_early : {K : Type 0} (tells : K → StoreView) (q : ℕ) (step next : Given → Driver → Driver) (was after : FleetView K) → LaterLaw → ((g : Given) (d : Driver) → OnlyAdds d (next g d)) → EndsAtFull tells q step was after
+pub ends_early : {K : Type 0} (tells : K → StoreView) (q : ℕ) (step next : DriverInput → Driver → Driver) (was after : FleetView K) → LaterLaw → ((g : DriverInput) (d : Driver) → OnlyAdds d (next g d)) → EndsAtFull tells q step was after
     → EndsAtFull tells q (λ g d. next g (step g d)) was after
 ends_early tells q step next was after law adds ends g d stands = law g q (step g d) (next g (step g d)) after.run (ends g d stands) (adds g (step g d))
 
 -- another step came before
-pub ends_late : {K : Type 0} (tells : K → StoreView) (q : ℕ) (step next : Given → Driver → Driver) (was mid after : FleetView K) → GoesOn tells step was mid → EndsAtFull tells q next mid after
+pub ends_late : {K : Type 0} (tells : K → StoreView) (q : ℕ) (step next : DriverInput → Driver → Driver) (was mid after : FleetView K) → GoesOn tells step was mid → EndsAtFull tells q next mid after
     → EndsAtFull tells q (λ g d. next g (step g d)) was after
 ends_late tells q step next was mid after goes ends g d stands = ends g (step g d) (goes g d stands)
 
 -- it is the same step, wherever the driver was
-pub ends_as : {K : Type 0} (tells : K → StoreView) (q : ℕ) (step step' : Given → Driver → Driver) (was after : FleetView K) → ((g : Given) (d : Driver) → Stands tells g d was → step g d ≡ step' g d) → EndsAtFull tells q step was after
+pub ends_as : {K : Type 0} (tells : K → StoreView) (q : ℕ) (step step' : DriverInput → Driver → Driver) (was after : FleetView K) → ((g : DriverInput) (d : Driver) → IsAtDriver tells g d was → step g d ≡ step' g d) → EndsAtFull tells q step was after
     → EndsAtFull tells q step' was after
 ends_as tells q step step' was after same ends g d stands = subst (λ (x : Driver). StopsAtFull g q x after.run) (same g d stands) (ends g d stands)
 
@@ -152,8 +152,8 @@ still_then Holds a n next few holds = still Holds a next holds (n - a) n (apart 
 
 -- ---- turns
 
-pub turns_end : {K : Type 0} (tells : K → StoreView) (q r k n : ℕ) (was between after : FleetView K) → LaterLaw → ((g : Given) (r : ℕ) (d : Driver) → OnlyAdds d (turn g r d))
-    → ((g : Given) (r n : ℕ) (d : Driver) → turns g r (suc n) d ≡ turn g r (turns g r n d)) → k < n → GoesOn tells (λ g d. turns g r k d) was between → EndsAtFull tells q (λ g d. turn g r d) between after
+pub turns_end : {K : Type 0} (tells : K → StoreView) (q r k n : ℕ) (was between after : FleetView K) → LaterLaw → ((g : DriverInput) (r : ℕ) (d : Driver) → OnlyAdds d (turn g r d))
+    → ((g : DriverInput) (r n : ℕ) (d : Driver) → turns g r (suc n) d ≡ turn g r (turns g r n d)) → k < n → GoesOn tells (λ g d. turns g r k d) was between → EndsAtFull tells q (λ g d. turn g r d) between after
     → EndsAtFull tells q (λ g d. turns g r n d) was after
 turns_end tells q r k n was between after later adds law less so_far ends g d stands =
     still_then (λ m. StopsAtFull g q (turns g r m d) after.run) (suc k) n
@@ -164,8 +164,8 @@ turns_end tells q r k n was between after later adds law less so_far ends g d st
     next k n less = omega (arith, less)
 
 -- those of a round
-pub round_ends : {K : Type 0} (tells : K → StoreView) (q k n : ℕ) (was between after : FleetView K) → LaterLaw → ((g : Given) (r : ℕ) (d : Driver) → OnlyAdds d (turn g r d))
-    → ((g : Given) (n : ℕ) (d : Driver) → turns_of g (range_with_len 0 (suc n)) d ≡ turn g n (turns_of g (range_with_len 0 n) d)) → n ≡ length was.nodes → k < n
+pub round_ends : {K : Type 0} (tells : K → StoreView) (q k n : ℕ) (was between after : FleetView K) → LaterLaw → ((g : DriverInput) (r : ℕ) (d : Driver) → OnlyAdds d (turn g r d))
+    → ((g : DriverInput) (n : ℕ) (d : Driver) → turns_of g (range_with_len 0 (suc n)) d ≡ turn g n (turns_of g (range_with_len 0 n) d)) → n ≡ length was.nodes → k < n
     → GoesOn tells (λ g d. turns_of g (range_with_len 0 k) d) was between → EndsAtFull tells q (λ g d. turn g k d) between after → EndsAtFull tells q (λ g d. round g d) was after
 round_ends tells q k n was between after later adds law all less so_far ends g d stands =
     subst (λ (m : ℕ). StopsAtFull g q (turns_of g (range_with_len 0 m) d) after.run) (all ∙ stands.come.count)
@@ -178,9 +178,9 @@ round_ends tells q k n was between after later adds law all less so_far ends g d
 
 -- ---- rounds
 
-pub settles_end : {K : Type 0} (tells : K → StoreView) (q n idle : ℕ) (was between after : FleetView K) → LaterLaw → ((g : Given) (d : Driver) → OnlyAdds d (round g d))
-    → ((g : Given) (n : ℕ) (x : AfterRounds) → is_settled (goes_rounds g n x) ≡ false → goes_rounds g (suc n) x ≡ came_to (goes_rounds g n x) (round g (goes_rounds g n x).driver))
-    → ((g : Given) (d : Driver) → settles g d ≡ (goes_rounds g (power most_rounds) (unsettled d)).driver) → idle < 2 → suc n ≤ power most_rounds
+pub settles_end : {K : Type 0} (tells : K → StoreView) (q n idle : ℕ) (was between after : FleetView K) → LaterLaw → ((g : DriverInput) (d : Driver) → OnlyAdds d (round g d))
+    → ((g : DriverInput) (n : ℕ) (x : AfterRounds) → is_settled (goes_rounds g n x) ≡ false → goes_rounds g (suc n) x ≡ after_round (goes_rounds g n x) (round g (goes_rounds g n x).driver))
+    → ((g : DriverInput) (d : Driver) → settles g d ≡ (goes_rounds g (power most_rounds) (unsettled d)).driver) → idle < 2 → suc n ≤ power most_rounds
     → HasGone tells n idle was between → EndsAtFull tells q (λ g d. round g d) between after → EndsAtFull tells q (λ g d. settles g d) was after
 settles_end {K} tells q n idle was between after later adds law most low few gone ends g d stands =
     subst (λ (x : Driver). StopsAtFull g q x after.run) (sym (most g d))
@@ -191,7 +191,7 @@ settles_end {K} tells q n idle was between after later adds law most low few gon
     Stops : ℕ → Type 0
     Stops m = StopsAtFull g q (goes_rounds g m (unsettled d)).driver after.run
 
-    goes : (b : Bool) (x : AfterRounds) → StopsAtFull g q x.driver after.run → StopsAtFull g q (if b then x else came_to x (round g x.driver)).driver after.run
+    goes : (b : Bool) (x : AfterRounds) → StopsAtFull g q x.driver after.run → StopsAtFull g q (if b then x else after_round x (round g x.driver)).driver after.run
     goes true x stops = stops
     goes false x stops = later g q x.driver (round g x.driver) after.run stops (adds g x.driver)
 

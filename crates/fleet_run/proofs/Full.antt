@@ -2,10 +2,11 @@
 use Rattle.std.proofs.Common.{◌≡◌, ◌≢◌, ℕ, zero, suc, ◌+◌, ◌<◌, ◌≤◌, ◌^◌, ◌⊎◌, inl, inr, true, List, [], ◌∷◌, ◌++◌, Some, None, Result, Ok, Err, drop, length, sym, ap, ◌∙◌, subst, arith}
 use Rattle.std.specs.Prelude.{IfErr, IsErrAnd, IsErrOf, OnErr, OnOk, filter, slice_get}
 use Rattle.std.specs.Map.{keys_of}
-use Rattle.std.proofs.lemmas.List.{length-append, length-reverse}
+use Rattle.std.proofs.lemmas.List.{append-nil, length-append, length-reverse}
 use Rattle.std.proofs.lemmas.Option.{same_Some}
 use Rattle.annex_base.specs.Lists.{Each}
 use Rattle.annex_base.specs.declared.kinds.Call.{Call}
+use Rattle.annex_base.proofs.Lists.{slice_get-within}
 use Rattle.annex_base.specs.declared.kinds.Call.TheVariants as calls
 use Rattle.log_lines.specs.declared.entry.LogKind.{LogKind}
 use Rattle.log_lines.specs.declared.entry.Topic.{Topic}
@@ -20,7 +21,7 @@ use Rattle.run_data.specs.declared.run.Run.{Run}
 use Rattle.union_merge.specs.Branch.{Files}
 use Rattle.node_parts.specs.Parts.{AreParts}
 use Rattle.run_model.specs.Past.{is_of}
-use Rattle.driver_model.specs.Driver.{Driver, Given, set_up_of}
+use Rattle.driver_model.specs.Driver.{Driver, DriverInput, set_up_of}
 use Rattle.driver_model.specs.Limits.{StopsAtFull, count_of, within_limit}
 use Rattle.driver_model.specs.Scripts.{IsContent}
 use Rattle.driver_model.specs.ScriptSteps.{begins, compacts, has, merges, sets, writes}
@@ -36,10 +37,10 @@ use Rattle.repo_node.specs.declared.refused.NodeRefused.TheVariants as refusals
 use Rattle.fleet_model.specs.Fleets.{FleetView, HasCome, IsNodeOf}
 use Rattle.fleet_model.specs.Stopping.{OthersAreFew}
 use Rattle.fleet_model.specs.Steps.{OneGoesOn, raised}
-use Rattle.fleet_run.specs.Standing.{EndsAtFull, HasRoom, Stands, WaitsForRoom}
+use Rattle.fleet_run.specs.Standing.{EndsAtFull, HasRoom, IsAtDriver, WaitsForRoom}
 use Rattle.fleet_run.specs.Telling.{AreFew, OnlyEntriesChange}
-use Rattle.fleet_run.proofs.Beginning.{BeginsJob, and_none, has_parts, none_left}
-use Rattle.fleet_run.proofs.Called.{IsCalled, IsStep, branch_stays, element, is_step}
+use Rattle.fleet_run.proofs.Beginning.{BeginsJob, has_parts, none_left}
+use Rattle.fleet_run.proofs.Called.{IsCalled, IsStep, branch_stays, is_step}
 use Rattle.fleet_run.proofs.Growing.{come_grows}
 use Rattle.fleet_run.proofs.Placing.{PlacesContent}
 use Rattle.fleet_run.proofs.Writing.{Answer, IsEnded}
@@ -64,7 +65,7 @@ few_in nodes run f is few = subst (λ (x : FleetView _). AreFew x.nodes) is few
 pub run_stays : {K : Type 0} (n m : NodeView K) (was after : FleetView K) → after.run ≡ record was.run { entries = was.run.entries ++ drop (length n.history) m.history } → m.history ≡ n.history → after.run ≡ was.run
 run_stays n m was after run same =
     run ∙ ap (λ (entries : List Entry). record was.run { entries = entries })
-    (ap (λ (history : List Entry). was.run.entries ++ drop (length n.history) history) same ∙ (ap (λ (more : List Entry). was.run.entries ++ more) (none_left n.history) ∙ and_none was.run.entries))
+    (ap (λ (history : List Entry). was.run.entries ++ drop (length n.history) history) same ∙ (ap (λ (more : List Entry). was.run.entries ++ more) (none_left n.history) ∙ append-nil was.run.entries))
 
 -- only its entries change, where a function raises a node, calls it and tells it
 pub rest_on : {K : Type 0} (was seen : FleetView K) (nodes now : List (NodeView K)) (run : Run) (after : FleetView K) → record { nodes = nodes; run = run } ≡ seen → seen.run ≡ was.run
@@ -79,13 +80,13 @@ rest_then was mid after first second = second ∙ ap (λ (r : Run). record r { e
 
 -- ---- steps that end there
 
-pub ends_for : {K : Type 0} (tells : K → StoreView) (r q : ℕ) (step : Given → Driver → Driver) (was after : FleetView K) → q ≡ r → EndsAtFull tells r step was after → EndsAtFull tells q step was after
+pub ends_for : {K : Type 0} (tells : K → StoreView) (r q : ℕ) (step : DriverInput → Driver → Driver) (was after : FleetView K) → q ≡ r → EndsAtFull tells r step was after → EndsAtFull tells q step was after
 ends_for tells r q step was after same ends = subst (λ (k : ℕ). EndsAtFull tells k step was after) (sym same) ends
 
 -- a call ends there, where the laws have it so
-pub ends_at : {K : Type 0} (tells : K → StoreView) (step : Given → Driver → Driver) (r : ℕ) (was up after : FleetView K) (Holds : NodeView K → NodeView K → Type 0)
+pub ends_at : {K : Type 0} (tells : K → StoreView) (step : DriverInput → Driver → Driver) (r : ℕ) (was up after : FleetView K) (Holds : NodeView K → NodeView K → Type 0)
     → r < length was.nodes → IsCalled tells r was up after Holds → AreFew after.nodes
-    → ((g : Given) (d : Driver) → HasCome tells g d was → OthersAreFew r was.nodes → IsStep tells d r was after Holds → StopsAtFull g r (step g d) after.run) → EndsAtFull tells r step was after
+    → ((g : DriverInput) (d : Driver) → HasCome tells g d was → OthersAreFew r was.nodes → IsStep tells d r was after Holds → StopsAtFull g r (step g d) after.run) → EndsAtFull tells r step was after
 ends_at tells step r was up after Holds there call few stops g d stands =
     let s = is_step tells g d r was up after Holds stands.come there call in
     stops g d stands.come (few_others r was after few s.goes.others) s
@@ -106,12 +107,12 @@ refuses_lines done n m file lines is err full =
 
 -- the law of a line
 abbrev pub LineStops : {K : Type 0} → (K → StoreView) → Type 0
-LineStops {K} tells = (g : Given) (d : Driver) (r : ℕ) (n : NodeView K) (was : FleetView K) → HasCome tells g d was → slice_get was.nodes r ≡ Some n → OthersAreFew r was.nodes
+LineStops {K} tells = (g : DriverInput) (d : Driver) (r : ℕ) (n : NodeView K) (was : FleetView K) → HasCome tells g d was → slice_get was.nodes r ≡ Some n → OthersAreFew r was.nodes
     → (file : LogFile) (line : List ℕ) → length n.history ≡ most_entries → lacks_some n file (line ∷ []) ≡ true → StopsAtFull g r (writes r file line d) was.run
 
 -- the law of a setting
 abbrev pub SettingStops : {K : Type 0} → (K → StoreView) → Type 0
-SettingStops {K} tells = (g : Given) (d : Driver) (r : ℕ) (n : NodeView K) (was : FleetView K) → HasCome tells g d was → slice_get was.nodes r ≡ Some n → OthersAreFew r was.nodes
+SettingStops {K} tells = (g : DriverInput) (d : Driver) (r : ℕ) (n : NodeView K) (was : FleetView K) → HasCome tells g d was → slice_get was.nodes r ≡ Some n → OthersAreFew r was.nodes
     → (kind : LogKind) (topic : Topic) (value : Value) → length n.history ≡ most_entries → lacks_some n (Of kind) (line_text kind (stamped_by (raised d n) kind None (record { topic = topic; stamp = None; value = value })) ∷ []) ≡ true → StopsAtFull g r (sets g r kind topic value d) was.run
 
 pub writes_end : {K : Type 0} (tells : K → StoreView) (r : ℕ) (was up after : FleetView K) (file : LogFile) (line : List ℕ) → LineStops tells → r < length was.nodes
@@ -144,13 +145,13 @@ sets_end {K} tells r was up after kind topic value law there call few =
 
 -- the law of a merge
 abbrev pub MergeStops : {K : Type 0} → (K → StoreView) → Type 0
-MergeStops {K} tells = (g : Given) (d : Driver) (r : ℕ) (n m : NodeView K) (was after : FleetView K) → HasCome tells g d was → OneGoesOn r n m was after → OthersAreFew r was.nodes
+MergeStops {K} tells = (g : DriverInput) (d : Driver) (r : ℕ) (n m : NodeView K) (was after : FleetView K) → HasCome tells g d was → OneGoesOn r n m was after → OthersAreFew r was.nodes
     → m.time ≤ 1000000000000 → m.count < 2 ^ 62 → (other : ℕ) (o : NodeView K) → slice_get was.nodes other ≡ Some o
     → MeetsFull (merge_files (raised d n)) lacks_of o.branch (tells n.keeper).failing (tells m.keeper).failing (raised d n) m → StopsAtFull g r (merges r other d) after.run
 
 -- the law of a compaction
 abbrev pub CompactStops : {K : Type 0} → (K → StoreView) → Type 0
-CompactStops {K} tells = (g : Given) (d : Driver) (r : ℕ) (n m : NodeView K) (was after : FleetView K) → HasCome tells g d was → OneGoesOn r n m was after → OthersAreFew r was.nodes
+CompactStops {K} tells = (g : DriverInput) (d : Driver) (r : ℕ) (n m : NodeView K) (was after : FleetView K) → HasCome tells g d was → OneGoesOn r n m was after → OthersAreFew r was.nodes
     → m.time ≤ 1000000000000 → m.count < 2 ^ 62
     → MeetsFull (compact_files (raised d n)) shrinks_at (keys_of n.branch) (tells n.keeper).failing (tells m.keeper).failing (raised d n) m → StopsAtFull g r (compacts r d) after.run
 
@@ -168,7 +169,7 @@ pub merges_end : {K : Type 0} (tells : K → StoreView) (r other : ℕ) (was up 
 merges_end {K} tells r other was up after law there there_too call few =
     ends_at tells (λ g d. merges r other d) r was up after (λ n m. (o : NodeView K) → slice_get up.nodes other ≡ Some o → MergeMeets tells o.branch n m) there call few
     (λ g d come others s.
-    let found : (o : NodeView K) × (slice_get was.nodes other ≡ Some o) = element was.nodes other there_too in
+    let found : (o : NodeView K) × (slice_get was.nodes other ≡ Some o) = slice_get-within was.nodes other there_too in
     let up_too : (p : NodeView K) × (slice_get up.nodes other ≡ Some p) × (p.branch ≡ found.0.branch) = branch_stays tells r call.had other was up found.0 call.raises found.1 in
     law g d r s.before s.left was after come s.goes others s.early s.counted other found.0 found.1
     (subst (λ (files : Files). MergeMeets tells files (raised d s.before) s.left) up_too.2 (s.holds up_too.0 up_too.1)))
@@ -183,7 +184,7 @@ compacts_end {K} tells r was up after law there call few =
 
 -- the law of a job
 abbrev pub JobStops : {K : Type 0} → (K → StoreView) → Type 0
-JobStops {K} tells = (g : Given) (d : Driver) (r : ℕ) (n : NodeView K) (was : FleetView K) → HasCome tells g d was → slice_get was.nodes r ≡ Some n → OthersAreFew r was.nodes
+JobStops {K} tells = (g : DriverInput) (d : Driver) (r : ℕ) (n : NodeView K) (was : FleetView K) → HasCome tells g d was → slice_get was.nodes r ≡ Some n → OthersAreFew r was.nodes
     → (job : Job) → AreParts (set_up_of g d r) (state_of (set_up_of g d r) n.history) n.parts → length n.history ≡ most_entries → length n.parts.jobs.running < 4 → StopsAtFull g r (begins r job d) was.run
 
 -- what a call that begins a job makes of a node that meets a full history
@@ -218,12 +219,12 @@ begins_end {K} tells r was up after job law there call few =
 
 -- the law of a content that wasn't asked for
 abbrev pub AskStops : {K : Type 0} → (K → StoreView) → Type 0
-AskStops {K} tells = (g : Given) (d : Driver) (r : ℕ) (n : NodeView K) (was : FleetView K) → HasCome tells g d was → slice_get was.nodes r ≡ Some n → OthersAreFew r was.nodes
+AskStops {K} tells = (g : DriverInput) (d : Driver) (r : ℕ) (n : NodeView K) (was : FleetView K) → HasCome tells g d was → slice_get was.nodes r ≡ Some n → OthersAreFew r was.nodes
     → (key bytes : List ℕ) → length n.history ≡ most_entries → (count_of d.past r ≡ most_entries) × (within_limit g (has g r key bytes d).past ≡ d.past)
 
 -- the law of one that was placed, without the line that says so
 abbrev pub ContentStops : {K : Type 0} → (K → StoreView) → Type 0
-ContentStops {K} tells = (g : Given) (d : Driver) (r : ℕ) (n m : NodeView K) (was after : FleetView K) → HasCome tells g d was → OneGoesOn r n m was after → OthersAreFew r was.nodes
+ContentStops {K} tells = (g : DriverInput) (d : Driver) (r : ℕ) (n m : NodeView K) (was after : FleetView K) → HasCome tells g d was → OneGoesOn r n m was after → OthersAreFew r was.nodes
     → m.time ≤ 1000000000000 → m.count < 2 ^ 62 → (key bytes : List ℕ) → IsContent key bytes
     → IsState (set_up_of g d r) n.parts n.branch n.owed (told_of (tells n.keeper).contents (tells n.keeper).parts) (state_of (set_up_of g d r) n.history)
     → MeetsFullBehind key bytes (tells n.keeper).contents (tells n.keeper).failing (tells m.keeper).failing (raised d n) m → length bytes < 2 ^ 62 → StopsAtFull g r (has g r key bytes d) after.run
@@ -239,8 +240,8 @@ PlaceMeets tells key bytes n m = MeetsFullBehind key bytes (tells n.keeper).cont
 pub one_way : {K : Type 0} (tells : K → StoreView) (r : ℕ) (was up after : FleetView K) (P Q : NodeView K → NodeView K → Type 0) → r < length was.nodes → IsCalled tells r was up after (λ n m. P n m ⊎ Q n m)
     → IsCalled tells r was up after P ⊎ IsCalled tells r was up after Q
 one_way {K} tells r was up after P Q there call =
-    let p : (n : NodeView K) × (slice_get up.nodes r ≡ Some n) = element up.nodes r (subst (λ (c : ℕ). r < c) (sym call.raises.count) there) in
-    let m : (n : NodeView K) × (slice_get call.called.nodes r ≡ Some n) = element call.called.nodes r (subst (λ (c : ℕ). r < c) (sym (call.count ∙ call.raises.count)) there) in
+    let p : (n : NodeView K) × (slice_get up.nodes r ≡ Some n) = slice_get-within up.nodes r (subst (λ (c : ℕ). r < c) (sym call.raises.count) there) in
+    let m : (n : NodeView K) × (slice_get call.called.nodes r ≡ Some n) = slice_get-within call.called.nodes r (subst (λ (c : ℕ). r < c) (sym (call.count ∙ call.raises.count)) there) in
     go p m (call.holds p.0 m.0 p.1 m.1)
   where
     the_same : (R : NodeView K → NodeView K → Type 0) (p : (n : NodeView K) × (slice_get up.nodes r ≡ Some n)) (m : (n : NodeView K) × (slice_get call.called.nodes r ≡ Some n)) → R p.0 m.0
@@ -269,16 +270,16 @@ waits {K} tells r was up after key bytes law there call few = record {
   run = same;
 }
   where
-    asked : (g : Given) (d : Driver) → Stands tells g d was → (count_of d.past r ≡ most_entries) × (within_limit g (has g r key bytes d).past ≡ d.past)
+    asked : (g : DriverInput) (d : Driver) → IsAtDriver tells g d was → (count_of d.past r ≡ most_entries) × (within_limit g (has g r key bytes d).past ≡ d.past)
     asked g d stands =
         let s : IsStep tells d r was after IsUnasked = is_step tells g d r was up after IsUnasked stands.come there call in
         law g d r s.before was stands.come s.goes.before (few_others r was after few s.goes.others) key bytes s.holds.0
 
     same : after.run ≡ was.run
     same =
-        let n : (n : NodeView K) × (slice_get was.nodes r ≡ Some n) = element was.nodes r there in
-        let p : (n : NodeView K) × (slice_get up.nodes r ≡ Some n) = element up.nodes r (subst (λ (c : ℕ). r < c) (sym call.raises.count) there) in
-        let m : (n : NodeView K) × (slice_get call.called.nodes r ≡ Some n) = element call.called.nodes r (subst (λ (c : ℕ). r < c) (sym (call.count ∙ call.raises.count)) there) in
+        let n : (n : NodeView K) × (slice_get was.nodes r ≡ Some n) = slice_get-within was.nodes r there in
+        let p : (n : NodeView K) × (slice_get up.nodes r ≡ Some n) = slice_get-within up.nodes r (subst (λ (c : ℕ). r < c) (sym call.raises.count) there) in
+        let m : (n : NodeView K) × (slice_get call.called.nodes r ≡ Some n) = slice_get-within call.called.nodes r (subst (λ (c : ℕ). r < c) (sym (call.count ∙ call.raises.count)) there) in
         run_stays p.0 m.0 was after
         (call.told.run m.0 m.1 ∙ (ap (λ (run : Run). record run { entries = run.entries ++ drop call.had m.0.history }) (call.run ∙ call.raises.run)
         ∙ ap (λ (had : ℕ). record was.run { entries = was.run.entries ++ drop had m.0.history }) (call.raises.entries n.0 p.0 n.1 p.1 ∙ ap (λ (x : NodeView K). length x.history) (sym (call.raises.node n.0 p.0 n.1 p.1)))))
@@ -314,7 +315,7 @@ has_ends_so {K} tells r q was up after key bytes bytes' is same ask law there ca
     go (inr waits) = inr (is, waits)
 
 -- how many entries the driver says that the repository of a node has made
-pub counted : {K : Type 0} (tells : K → StoreView) (g : Given) (d : Driver) (r : ℕ) (n : NodeView K) → IsNodeOf tells g d r n → count_of d.past r ≡ length n.history
+pub counted : {K : Type 0} (tells : K → StoreView) (g : DriverInput) (d : Driver) (r : ℕ) (n : NodeView K) → IsNodeOf tells g d r n → count_of d.past r ≡ length n.history
 counted tells g d r n is = sym (ap length is.history ∙ length-reverse (filter (is_of r) d.past))
 
 -- there was room for the entry of a call that was done, or of a store call that failed

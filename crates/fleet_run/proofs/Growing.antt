@@ -3,6 +3,7 @@ use Rattle.std.proofs.Common.{◌≡◌, ℕ, suc, ◌<◌, ◌≤◌, Bool, tru
 use Rattle.std.specs.Prelude.{IfErr, OnOk, if◌then◌else◌, nat_lt, slice_get}
 use Rattle.std.specs.Map.{keys_of}
 use Rattle.annex_base.specs.declared.kinds.Call.{Call}
+use Rattle.annex_base.proofs.Lists.{slice_get-within}
 use Rattle.annex_base.specs.declared.kinds.Call.TheVariants as calls
 use Rattle.run_data.specs.declared.entry.EntryKind.{EntryKind}
 use Rattle.run_data.specs.declared.entry.EntryKind.TheVariants.{Compact, Log}
@@ -25,7 +26,6 @@ use Rattle.joined_nodes.specs.Joined.{AtNode}
 use Rattle.fleet_model.specs.Fleets.{FleetView}
 use Rattle.fleet_run.specs.Telling.{Raises}
 use Rattle.fleet_run.proofs.Beginning.{BeginsJob}
-use Rattle.fleet_run.proofs.Called.{element}
 use Rattle.fleet_run.proofs.Placing.{PlacesContent}
 use Rattle.fleet_run.proofs.Writing.{Answer}
 
@@ -127,7 +127,7 @@ begin_grows job (Err e) n m is = same n m is.err
 pub had_at_most : {K : Type 0} (tells : K → StoreView) (r had : ℕ) (was up : FleetView K) (now : List (NodeView K)) → Raises tells r had was up → r < length was.nodes → AtNode r up.nodes now Grows
     → (m : NodeView K) → slice_get now r ≡ Some m → had ≤ length m.history
 had_at_most {K} tells r had was up now raises there grows m at =
-    let before : (n : NodeView K) × (slice_get was.nodes r ≡ Some n) = element was.nodes r there in
-    let raised : (n : NodeView K) × (slice_get up.nodes r ≡ Some n) = element up.nodes r (subst (λ c. r < c) (sym raises.count) there) in
+    let before : (n : NodeView K) × (slice_get was.nodes r ≡ Some n) = slice_get-within was.nodes r there in
+    let raised : (n : NodeView K) × (slice_get up.nodes r ≡ Some n) = slice_get-within up.nodes r (subst (λ c. r < c) (sym raises.count) there) in
     let grown : length before.0.history ≤ length m.history = subst (λ (x : NodeView K). Grows x m) (raises.node before.0 raised.0 before.1 raised.1) (grows raised.0 m raised.1 at) in
     subst (λ k. k ≤ length m.history) (sym (raises.entries before.0 raised.0 before.1 raised.1)) grown

@@ -8,6 +8,7 @@ mod Growing
 mod Commands
 mod Steps
 mod Turning
+mod Quiet
 mod Driving
 mod Declared
 mod Whole
@@ -15,3 +16,6 @@ mod Begun
 mod Full
 mod Ending
 mod Cutting
+mod Few
+mod Entries
+mod Marked

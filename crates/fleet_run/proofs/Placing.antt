@@ -1,7 +1,7 @@
 -- A content that a node places: a fleet goes on as the driver does.
 use Rattle.std.proofs.Common.{◌≡◌, ℕ, ◌<◌, ◌≤◌, ◌^◌, List, [], inl, inr, length, subst}
 use Rattle.std.specs.Prelude.{IfErr, OnOk}
-use Rattle.driver_model.specs.Driver.{Driver, Given, set_up_of}
+use Rattle.driver_model.specs.Driver.{Driver, DriverInput, set_up_of}
 use Rattle.driver_model.specs.Scripts.{IsKnown}
 use Rattle.driver_model.specs.ScriptSteps.{has}
 use Rattle.driver_model.specs.Sound.{StaysSound}
@@ -18,7 +18,7 @@ use Rattle.fleet_run.proofs.Writing.{Answer, IsEnded}
 
 -- the law of a content that was placed
 abbrev pub ContentLaw : {K : Type 0} → (K → StoreView) → Type 0
-ContentLaw {K} tells = (g : Given) (d : Driver) (r : ℕ) (n m : NodeView K) (was after : FleetView K) (key bytes : List ℕ) → HasCome tells g d was → OneGoesOn r n m was after
+ContentLaw {K} tells = (g : DriverInput) (d : Driver) (r : ℕ) (n m : NodeView K) (was after : FleetView K) (key bytes : List ℕ) → HasCome tells g d was → OneGoesOn r n m was after
     → IsState (set_up_of g d r) n.parts n.branch n.owed (told_of (tells n.keeper).contents (tells n.keeper).parts) (state_of (set_up_of g d r) n.history)
     → IsPlaced key bytes (tells n.keeper).contents (tells n.keeper).parts (tells m.keeper).contents (raised d n) m
     → IsDoneBy to_place key [] n.parts.table (tells n.keeper).contents (tells n.keeper).parts (tells m.keeper).parts (tells n.keeper).failing (tells m.keeper).failing
@@ -26,7 +26,7 @@ ContentLaw {K} tells = (g : Given) (d : Driver) (r : ℕ) (n m : NodeView K) (wa
 
 -- the law of one that stopped at a call of the store
 abbrev pub StopLaw : {K : Type 0} → (K → StoreView) → Type 0
-StopLaw {K} tells = (g : Given) (d : Driver) (r : ℕ) (n m : NodeView K) (was after : FleetView K) (key bytes : List ℕ) → HasCome tells g d was → OneGoesOn r n m was after
+StopLaw {K} tells = (g : DriverInput) (d : Driver) (r : ℕ) (n m : NodeView K) (was after : FleetView K) (key bytes : List ℕ) → HasCome tells g d was → OneGoesOn r n m was after
     → IsState (set_up_of g d r) n.parts n.branch n.owed (told_of (tells n.keeper).contents (tells n.keeper).parts) (state_of (set_up_of g d r) n.history)
     → StopsAt to_place key bytes (tells n.keeper).contents (tells m.keeper).contents (tells n.keeper).parts (tells m.keeper).parts (tells n.keeper).failing (tells m.keeper).failing refusals.StoreFault (raised d n) m
     → length bytes < 2 ^ 62 → m.time ≤ 1000000000000 → m.count < 2 ^ 62 → StaysSound g d (has g r key bytes d) → HasCome tells g (has g r key bytes d) after
@@ -39,7 +39,7 @@ pub record PlacesContent {K : Type 0} (tells : K → StoreView) (key bytes : Lis
 
 pub has_goes : {K : Type 0} (tells : K → StoreView) (r : ℕ) (was up after : FleetView K) (key bytes : List ℕ) (done : Answer) → ContentLaw tells → StopLaw tells → r < length was.nodes
     → IsCalled tells r was up after (PlacesContent tells key bytes done) → length bytes < 2 ^ 62
-    → IsEnded done → ((g : Given) (d : Driver) → IsKnown g r → StaysSound g d (has g r key bytes d)) → GoesOn tells (λ g d. has g r key bytes d) was after
+    → IsEnded done → ((g : DriverInput) (d : Driver) → IsKnown g r → StaysSound g d (has g r key bytes d)) → GoesOn tells (λ g d. has g r key bytes d) was after
 has_goes tells r was up after key bytes done law stop there call small (inl e) sound =
     goes_on tells (λ g d. has g r key bytes d) r was up after (PlacesContent tells key bytes done) there call
     (λ g d come known s.
@@ -57,6 +57,6 @@ has_goes tells r was up after key bytes done law stop there call small (inr e) s
 -- the same, where the node was given a copy of the bytes
 pub has_goes_so : {K : Type 0} (tells : K → StoreView) (r : ℕ) (was up after : FleetView K) (key bytes bytes' : List ℕ) (done : Answer) → bytes' ≡ bytes → ContentLaw tells → StopLaw tells → r < length was.nodes
     → IsCalled tells r was up after (PlacesContent tells key bytes' done) → length bytes < 2 ^ 62
-    → IsEnded done → ((g : Given) (d : Driver) → IsKnown g r → StaysSound g d (has g r key bytes d)) → GoesOn tells (λ g d. has g r key bytes d) was after
+    → IsEnded done → ((g : DriverInput) (d : Driver) → IsKnown g r → StaysSound g d (has g r key bytes d)) → GoesOn tells (λ g d. has g r key bytes d) was after
 has_goes_so {K} tells r was up after key bytes bytes' done same law stop there call small ended sound =
     has_goes tells r was up after key bytes done law stop there (subst (λ (b : List ℕ). IsCalled tells r was up after (PlacesContent tells key b done)) same call) small ended sound

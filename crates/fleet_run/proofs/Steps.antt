@@ -7,11 +7,11 @@ use Rattle.log_lines.specs.declared.entry.Value.{Value}
 use Rattle.run_data.specs.Repos.{id_of}
 use Rattle.run_data.specs.declared.run.RepoView.{RepoView}
 use Rattle.run_data.specs.declared.run.Run.{Run}
-use Rattle.driver_model.specs.Driver.{Driver, Given}
+use Rattle.driver_model.specs.Driver.{Driver, DriverInput}
 use Rattle.driver_model.specs.ScriptSteps.{sets}
 use Rattle.repo_node.specs.Stored.{StoreView}
 use Rattle.fleet_model.specs.Fleets.{FleetView}
-use Rattle.fleet_run.specs.Standing.{GoesOn, IsDriven, Stands}
+use Rattle.fleet_run.specs.Standing.{GoesOn, IsDriven, IsAtDriver}
 
 -- ---- identifiers
 
@@ -35,14 +35,11 @@ id_read tells f repos r x driven there same =
 pub sets_at : {K : Type 0} (tells : K → StoreView) (r target : ℕ) (was after : FleetView K) (kind : LogKind) (id : List ℕ) (value value' : Value) → id ≡ id_of was.run.repos target → value' ≡ value
     → GoesOn tells (λ g d. sets g r kind (topics.Repo id) value' d) was after → GoesOn tells (λ g d. sets g r kind (topics.Repo (id_of g.repos target)) value d) was after
 sets_at tells r target was after kind id value value' is same goes g d stands =
-    subst (λ (x : List ℕ). Stands tells g (sets g r kind (topics.Repo x) value d) after) (is ∙ ap (λ (run : Run). id_of run.repos target) stands.come.run)
-    (subst (λ (v : Value). Stands tells g (sets g r kind (topics.Repo id) v d) after) same (goes g d stands))
+    subst (λ (x : List ℕ). IsAtDriver tells g (sets g r kind (topics.Repo x) value d) after) (is ∙ ap (λ (run : Run). id_of run.repos target) stands.come.run)
+    (subst (λ (v : Value). IsAtDriver tells g (sets g r kind (topics.Repo id) v d) after) same (goes g d stands))
 
 -- ---- one step after the other
 
-pub driven_on : {K : Type 0} (tells : K → StoreView) (step : Given → Driver → Driver) (was after : FleetView K) → IsDriven tells was → GoesOn tells step was after → IsDriven tells after
-driven_on tells step was after driven goes = record { given = driven.given; driver = step driven.given driven.driver; stands = goes driven.given driven.driver driven.stands }
-
-pub goes_twice : {K : Type 0} (tells : K → StoreView) (first second : Given → Driver → Driver) (was mid after : FleetView K) → GoesOn tells first was mid → GoesOn tells second mid after
+pub goes_twice : {K : Type 0} (tells : K → StoreView) (first second : DriverInput → Driver → Driver) (was mid after : FleetView K) → GoesOn tells first was mid → GoesOn tells second mid after
     → GoesOn tells (λ g d. second g (first g d)) was after
 goes_twice tells first second was mid after goes on g d stands = on g (first g d) (goes g d stands)

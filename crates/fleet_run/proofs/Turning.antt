@@ -4,6 +4,7 @@ use Rattle.std.specs.Prelude.{OnOk, max, not, reverse, slice_get}
 use Rattle.std.specs.Option.{ForSome, option_map_or}
 use Rattle.std.proofs.lemmas.List.{length-append, length-reverse}
 use Rattle.std.proofs.lemmas.Option.{same_Some, slice_get_within}
+use Rattle.annex_base.proofs.Lists.{slice_get-within}
 use Rattle.link_ring.specs.Ends.{EndView, after_drop}
 use Rattle.object_store.specs.Stores.{AreSmallParts, Contents, Parts}
 use Rattle.run_data.specs.declared.entry.Entry.{Entry}
@@ -23,7 +24,7 @@ use Rattle.repo_node.specs.Turning.{Adds, IsIdle, StepsBy}
 use Rattle.repo_node.specs.declared.turn.Turn.{Turn}
 use Rattle.repo_node.specs.declared.turn.Turn.TheVariants as turns
 use Rattle.run_model.specs.Past.{now}
-use Rattle.driver_model.specs.Driver.{Driver, Given, content_at, newest_count, part_at, set_up_of}
+use Rattle.driver_model.specs.Driver.{Driver, DriverInput, content_at, newest_count, part_at, set_up_of}
 use Rattle.driver_model.specs.Scripts.{IsKnown}
 use Rattle.driver_model.specs.Turning.{turn}
 use Rattle.joined_nodes.specs.Joined as joined
@@ -33,9 +34,8 @@ use Rattle.fleet_model.specs.Matches.{DecidesMatches}
 use Rattle.fleet_model.specs.Steps.{OneTurns, raised, with_links}
 use Rattle.fleet_model.specs.Stores.{IsStoreOf, IsTold, content_in}
 use Rattle.fleet_model.specs.Turns.{IsWhole, StandsWell}
-use Rattle.fleet_run.specs.Standing.{GoesOn, Stands}
+use Rattle.fleet_run.specs.Standing.{GoesOn, IsAtDriver}
 use Rattle.fleet_run.specs.Telling.{Raises, Tells}
-use Rattle.fleet_run.proofs.Called.{element}
 
 -- The fleet was raised; a turn of its node of r came to this, and then frames were carried between that node and all others; and
 -- then it was told.
@@ -43,7 +43,7 @@ pub record IsTurned {K : Type 0} (tells : K → StoreView) (r had : ℕ) (t : Tu
   pub raises : Raises tells r had was up
   pub moved : AtNode r up.nodes turned (λ n m. t ≡ turns.Moved → Adds (map after_drop n.parts.links) (tells n.keeper) (tells m.keeper) n m)
   pub steps : AtNode r up.nodes turned (λ n m. t ≡ turns.Moved → ForSome (told_of (tells n.keeper).contents (tells n.keeper).parts) (λ c. StepsBy step step_calls (tells n.keeper) (tells m.keeper) n m))
-  pub idle : AtNode r up.nodes turned (λ n m. t ≡ turns.Idle → ForSome (told_of (tells n.keeper).contents (tells n.keeper).parts) (λ c. (s : SetUp) → nodes.Fits n.setup s → IsIdle n s))
+  pub idle : AtNode r up.nodes turned (λ n m. t ≡ turns.Idle → ForSome (told_of (tells n.keeper).contents (tells n.keeper).parts) (λ c. (s : SetUp) → nodes.MatchesSetup n.setup s → IsIdle n s))
   pub stays : AtNode r up.nodes turned (λ n m. t ≢ turns.Moved → m ≡ record n { keeper = m.keeper; parts = record n.parts { links = map after_drop n.parts.links } })
   pub unasked : AtNode r up.nodes turned (λ n m. t ≢ turns.Moved → t ≢ turns.NoMemory → m.keeper ≡ n.keeper)
   pub small : AtNode r up.nodes turned (λ n m. AreSmallParts (tells n.keeper).parts → AreSmallParts (tells m.keeper).parts)
@@ -59,23 +59,23 @@ pub record IsTurned {K : Type 0} (tells : K → StoreView) (r had : ℕ) (t : Tu
 
 -- the laws of a turn
 pub record TurnLaws (K : Type 0) : Type 0 where
-  pub moved : (tells : K → StoreView) (g : Given) (d : Driver) (r : ℕ) (n m : NodeView K) (was after : FleetView K)
+  pub moved : (tells : K → StoreView) (g : DriverInput) (d : Driver) (r : ℕ) (n m : NodeView K) (was after : FleetView K)
       → DecidesMatches g → HasCome tells g d was → OneTurns r n m was after → StandsWell g d r n
       → Adds (map after_drop n.parts.links) (tells n.keeper) (tells m.keeper) (raised d n) m → StepsBy step step_calls (tells n.keeper) (tells m.keeper) (raised d n) m
       → (AreSmallParts (tells n.keeper).parts → AreSmallParts (tells m.keeper).parts) → IsWhole tells m → m.time ≤ 1000000000000 → m.count < 2 ^ 62 → HasCome tells g (turn g r d) after
-  pub idle : (tells : K → StoreView) (g : Given) (d : Driver) (r : ℕ) (n m : NodeView K) (was after : FleetView K)
+  pub idle : (tells : K → StoreView) (g : DriverInput) (d : Driver) (r : ℕ) (n m : NodeView K) (was after : FleetView K)
       → HasCome tells g d was → OneTurns r n m was after → StandsWell g d r n
       → m ≡ with_links (raised d n) (map after_drop n.parts.links) → IsIdle (raised d n) (set_up_of g d r) → HasCome tells g (turn g r d) after
 
 -- ---- where the driver was
 
-pub past_of : {K : Type 0} (tells : K → StoreView) (g : Given) (d : Driver) (f : FleetView K) → HasCome tells g d f → reverse f.run.entries ≡ d.past
+pub past_of : {K : Type 0} (tells : K → StoreView) (g : DriverInput) (d : Driver) (f : FleetView K) → HasCome tells g d f → reverse f.run.entries ≡ d.past
 past_of tells g d f come = ap (λ (run : Run). reverse run.entries) come.run ∙ Rattle.std.proofs.lemmas.List.reverse-reverse d.past
 
-few_past : {K : Type 0} (tells : K → StoreView) (g : Given) (d : Driver) (f : FleetView K) → HasCome tells g d f → length f.run.entries < 2 ^ 30 → length d.past < 2 ^ 30
+few_past : {K : Type 0} (tells : K → StoreView) (g : DriverInput) (d : Driver) (f : FleetView K) → HasCome tells g d f → length f.run.entries < 2 ^ 30 → length d.past < 2 ^ 30
 few_past tells g d f come few = subst (λ (n : ℕ). n < 2 ^ 30) (sym (length-reverse f.run.entries) ∙ ap length (past_of tells g d f come)) few
 
-pub node_raised : {K : Type 0} (tells : K → StoreView) (g : Given) (d : Driver) (r had : ℕ) (was up : FleetView K) (n p : NodeView K) → HasCome tells g d was → Raises tells r had was up
+pub node_raised : {K : Type 0} (tells : K → StoreView) (g : DriverInput) (d : Driver) (r had : ℕ) (was up : FleetView K) (n p : NodeView K) → HasCome tells g d was → Raises tells r had was up
     → slice_get was.nodes r ≡ Some n → slice_get up.nodes r ≡ Some p → p ≡ raised d n
 node_raised {K} tells g d r had was up n p come raises at_n at_p =
     subst (λ (past : List Entry). p ≡ record n { time = max n.time (now past); count = max n.count (newest_count past) }) (past_of tells g d was come) (raises.node n p at_n at_p)
@@ -93,10 +93,10 @@ parts_told : {K : Type 0} (tells : K → StoreView) (d : Driver) (r : ℕ) (s : 
     → nodes.IsState s n.parts n.branch n.owed (told_of (tells n.keeper).contents (tells n.keeper).parts) (nodes.state_of s n.history) → AreParts s (nodes.state_of s n.history) n.parts
 parts_told tells d r s n store state = where_told d r (tells n.keeper) (AreParts s (nodes.state_of s n.history) n.parts) store (parts_in (told_of (tells n.keeper).contents (tells n.keeper).parts) state.stands)
   where
-    parts_in : (o : Option Contents) → ForSome o (λ c. nodes.Stands s n.parts n.owed c (nodes.state_of s n.history)) → ForSome o (λ c. AreParts s (nodes.state_of s n.history) n.parts)
+    parts_in : (o : Option Contents) → ForSome o (λ c. nodes.IsStateOfParts s n.parts n.owed c (nodes.state_of s n.history)) → ForSome o (λ c. AreParts s (nodes.state_of s n.history) n.parts)
     parts_in o stands c is = (stands c is).parts_are
 
-pub stands_well : {K : Type 0} (tells : K → StoreView) (g : Given) (d : Driver) (r had : ℕ) (was up : FleetView K) (n p : NodeView K) → HasCome tells g d was → Raises tells r had was up
+pub stands_well : {K : Type 0} (tells : K → StoreView) (g : DriverInput) (d : Driver) (r had : ℕ) (was up : FleetView K) (n p : NodeView K) → HasCome tells g d was → Raises tells r had was up
     → slice_get was.nodes r ≡ Some n → slice_get up.nodes r ≡ Some p → StandsWell g d r n
 stands_well {K} tells g d r had was up n p come raises at_n at_p =
     let own = come.each r n at_n in
@@ -124,13 +124,13 @@ one_turns {K} tells r had t was up turned carried after n p m x call at_n at_p a
   there = λ y at. call.rest m y at_m (then_at r ∙ at);
   others = λ q y other at.
       let less : q < length turned = subst (λ (c : ℕ). q < c) call.carried_count (slice_get_within carried q y (then_at q ∙ at)) in
-      let found = element turned q less in
+      let found = slice_get-within turned q less in
       (found.0, was_at q other ∙ found.1, call.others_rest q other found.0 y found.1 (then_at q ∙ at));
   count = ap length call.told.nodes ∙ (call.carried_count ∙ (call.count ∙ call.raises.count));
   carried = record {
-    own = λ q slot client known other low. own_carried q slot client known other low (element turned q (subst (λ (c : ℕ). q < c) (sym counted) known));
-    theirs = λ q slot client known other low. their_carried q slot client other low (element turned q (subst (λ (c : ℕ). q < c) (sym counted) known)) (element carried q (subst (λ (c : ℕ). q < c) (sym (call.carried_count ∙ counted)) known));
-    others = λ q b known other apart. rest_carried q b other apart (element turned q (subst (λ (c : ℕ). q < c) (sym counted) known)) (element carried q (subst (λ (c : ℕ). q < c) (sym (call.carried_count ∙ counted)) known));
+    own = λ q slot client known other low. own_carried q slot client known other low (slice_get-within turned q (subst (λ (c : ℕ). q < c) (sym counted) known));
+    theirs = λ q slot client known other low. their_carried q slot client other low (slice_get-within turned q (subst (λ (c : ℕ). q < c) (sym counted) known)) (slice_get-within carried q (subst (λ (c : ℕ). q < c) (sym (call.carried_count ∙ counted)) known));
+    others = λ q b known other apart. rest_carried q b other apart (slice_get-within turned q (subst (λ (c : ℕ). q < c) (sym counted) known)) (slice_get-within carried q (subst (λ (c : ℕ). q < c) (sym (call.carried_count ∙ counted)) known));
   };
   own = λ a own. ap (λ (links : List EndView). link_at links a) (links_then r x at_x) ∙ (call.links m x at_m at_x).others a (inl own);
   run = call.told.run x at_x
@@ -192,22 +192,22 @@ turns_on {K} laws tells r had t was up turned carried after there call came g d 
     come = stands.come
 
     first : (n : NodeView K) × (slice_get was.nodes r ≡ Some n)
-    first = element was.nodes r there
+    first = slice_get-within was.nodes r there
 
     n : NodeView K
     n = first.0
 
     second : (p : NodeView K) × (slice_get up.nodes r ≡ Some p)
-    second = element up.nodes r (subst (λ (c : ℕ). r < c) (sym call.raises.count) there)
+    second = slice_get-within up.nodes r (subst (λ (c : ℕ). r < c) (sym call.raises.count) there)
 
     third : (m : NodeView K) × (slice_get turned r ≡ Some m)
-    third = element turned r (subst (λ (c : ℕ). r < c) (sym (call.count ∙ call.raises.count)) there)
+    third = slice_get-within turned r (subst (λ (c : ℕ). r < c) (sym (call.count ∙ call.raises.count)) there)
 
     m : NodeView K
     m = third.0
 
     fourth : (x : NodeView K) × (slice_get carried r ≡ Some x)
-    fourth = element carried r (subst (λ (c : ℕ). r < c) (sym (call.carried_count ∙ (call.count ∙ call.raises.count))) there)
+    fourth = slice_get-within carried r (subst (λ (c : ℕ). r < c) (sym (call.carried_count ∙ (call.count ∙ call.raises.count))) there)
 
     up_is : second.0 ≡ raised d n
     up_is = node_raised tells g d r had was up n second.0 come call.raises first.1 second.1
@@ -241,8 +241,8 @@ turns_on {K} laws tells r had t was up turned carried after there call came g d 
     by_turn (inr idle) =
         laws.idle tells g d r n m was after come one well
         (subst (λ (y : NodeView K). m ≡ with_links y (map after_drop y.parts.links)) up_is kept)
-        (where_told d r (tells n.keeper) ((s : SetUp) → nodes.Fits n.setup s → IsIdle (raised d n) s) store
-        (subst (λ (y : NodeView K). ForSome (told_of (tells y.keeper).contents (tells y.keeper).parts) (λ c. (s : SetUp) → nodes.Fits y.setup s → IsIdle y s)) up_is (call.idle second.0 m second.1 third.1 idle))
+        (where_told d r (tells n.keeper) ((s : SetUp) → nodes.MatchesSetup n.setup s → IsIdle (raised d n) s) store
+        (subst (λ (y : NodeView K). ForSome (told_of (tells y.keeper).contents (tells y.keeper).parts) (λ c. (s : SetUp) → nodes.MatchesSetup y.setup s → IsIdle y s)) up_is (call.idle second.0 m second.1 third.1 idle))
         (set_up_of g d r) (come.each r n first.1).setup)
       where
         not_moved : t ≢ turns.Moved
@@ -325,13 +325,13 @@ had_within {K} tells r had t was up turned carried raises there moved stays coun
     subst (λ (k : ℕ). k ≤ length x.history) (sym had_is) (subst (λ (k : ℕ). length second.0.history ≤ k) (ap (λ (y : NodeView K). length y.history) (sym (rest third.0 x third.1 at_x))) grows)
   where
     first : (n : NodeView K) × (slice_get was.nodes r ≡ Some n)
-    first = element was.nodes r there
+    first = slice_get-within was.nodes r there
 
     second : (p : NodeView K) × (slice_get up.nodes r ≡ Some p)
-    second = element up.nodes r (subst (λ (c : ℕ). r < c) (sym raises.count) there)
+    second = slice_get-within up.nodes r (subst (λ (c : ℕ). r < c) (sym raises.count) there)
 
     third : (m : NodeView K) × (slice_get turned r ≡ Some m)
-    third = element turned r (subst (λ (c : ℕ). r < c) (sym (count ∙ raises.count)) there)
+    third = slice_get-within turned r (subst (λ (c : ℕ). r < c) (sym (count ∙ raises.count)) there)
 
     had_is : had ≡ length second.0.history
     had_is = raises.entries first.0 second.0 first.1 second.1 ∙ ap (λ (y : NodeView K). length y.history) (sym (raises.node first.0 second.0 first.1 second.1))

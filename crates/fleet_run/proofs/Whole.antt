@@ -18,7 +18,7 @@ all_local place [] drops = tt
 all_local place (j ∷ js) drops = (drops.0.side, all_local place js drops.1)
 
 pub seen_whole : {K : Type 0} (tells : K → StoreView) (r : ℕ) (n : NodeView K) (seen f : FleetView K) → seen ≡ f → slice_get seen.nodes r ≡ Some n
-    → ((s : SetUp) → nodes.Fits n.setup s → nodes.IsState s n.parts n.branch n.owed (nodes.told_of (tells n.keeper).contents (tells n.keeper).parts) (nodes.state_of s n.history)) → AreSound n.parts
+    → ((s : SetUp) → nodes.MatchesSetup n.setup s → nodes.IsState s n.parts n.branch n.owed (nodes.told_of (tells n.keeper).contents (tells n.keeper).parts) (nodes.state_of s n.history)) → AreSound n.parts
     → (m : NodeView K) → slice_get f.nodes r ≡ Some m → IsWhole tells m
 seen_whole {K} tells r n seen f is at state sound m there =
     subst (IsWhole tells) (same_Some n m (sym at ∙ (ap (λ (x : FleetView K). slice_get x.nodes r) is ∙ there)))

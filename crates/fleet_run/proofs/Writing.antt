@@ -5,6 +5,7 @@ use Rattle.std.specs.Map.{keys_of}
 use Rattle.std.specs.Option.{ForSome}
 use Rattle.std.proofs.lemmas.Option.{same_Some}
 use Rattle.annex_base.specs.declared.kinds.Call.{Call}
+use Rattle.annex_base.proofs.Lists.{slice_get-within}
 use Rattle.annex_base.specs.declared.kinds.Call.TheVariants as calls
 use Rattle.log_lines.specs.declared.entry.LogKind.{LogKind}
 use Rattle.log_lines.specs.declared.entry.Topic.{Topic}
@@ -12,7 +13,7 @@ use Rattle.log_lines.specs.declared.entry.Value.{Value}
 use Rattle.log_lines.specs.LineText.{line_text}
 use Rattle.run_data.specs.declared.entry.LogFile.{LogFile}
 use Rattle.run_data.specs.declared.entry.LogFile.TheVariants.{Of}
-use Rattle.driver_model.specs.Driver.{Driver, Given}
+use Rattle.driver_model.specs.Driver.{Driver, DriverInput}
 use Rattle.driver_model.specs.Scripts.{IsKnown}
 use Rattle.driver_model.specs.ScriptSteps.{compacts, merges, sets, writes}
 use Rattle.driver_model.specs.Sound.{StaysSound}
@@ -30,7 +31,7 @@ use Rattle.fleet_model.specs.Fleets.{FleetView, HasCome}
 use Rattle.fleet_model.specs.Steps.{HasLogged, OneGoesOn, StaysStored, raised}
 use Rattle.fleet_model.specs.Stores.{IsTold}
 use Rattle.fleet_run.specs.Standing.{GoesOn}
-use Rattle.fleet_run.proofs.Called.{IsCalled, branch_stays, element, goes_on}
+use Rattle.fleet_run.proofs.Called.{IsCalled, branch_stays, goes_on}
 
 -- what a call of a node that writes files answers
 abbrev pub Answer : Type 0
@@ -49,8 +50,8 @@ on_ok (Err e) P Q holds then = tt
 pub never_bundle : {K : Type 0} (r : ℕ) (was now : List (NodeView K)) (done : Answer) (Refused : NodeRefused → NodeView K → NodeView K → Type 0) → ((at : ℕ) (n m : NodeView K) → Refused (refusals.BadBundle at) n m → ⊥)
     → r < length was → length now ≡ length was → AtNode r was now (λ n m. IfErr done (λ e. Refused e n m)) → (at : ℕ) → done ≡ Err (refusals.BadBundle at) → ⊥
 never_bundle {K} r was now done Refused never there count refused at e =
-    let first : (n : NodeView K) × (slice_get was r ≡ Some n) = element was r there in
-    let second : (n : NodeView K) × (slice_get now r ≡ Some n) = element now r (subst (λ (c : ℕ). r < c) (sym count) there) in
+    let first : (n : NodeView K) × (slice_get was r ≡ Some n) = slice_get-within was r there in
+    let second : (n : NodeView K) × (slice_get now r ≡ Some n) = slice_get-within now r (subst (λ (c : ℕ). r < c) (sym count) there) in
     never at first.0 second.0 (subst (λ (a : Answer). IfErr a (λ x. Refused x first.0 second.0)) e (refused first.0 second.0 first.1 second.1))
 
 -- What a call of a node that makes these calls of its store makes of it, where it answers so: all that is done, or else a refusal.
@@ -102,14 +103,14 @@ wrote tells made Done done n m P is_told (inr e) w = record {
 
 -- the law of a line that is written
 abbrev pub LineLaw : {K : Type 0} → (K → StoreView) → Type 0
-LineLaw {K} tells = (g : Given) (d : Driver) (r : ℕ) (n m : NodeView K) (was after : FleetView K) (file : LogFile) (line : List ℕ) (failed : Option Call)
+LineLaw {K} tells = (g : DriverInput) (d : Driver) (r : ℕ) (n m : NodeView K) (was after : FleetView K) (file : LogFile) (line : List ℕ) (failed : Option Call)
     → HasCome tells g d was → OneGoesOn r n m was after → StaysStored (tells n.keeper) (tells m.keeper)
     → MakesCalls (to_log n file (line ∷ [])) failed (tells n.keeper).failing (tells m.keeper).failing → HasLogged file (line ∷ []) failed (raised d n) m
     → m.time ≤ 1000000000000 → m.count < 2 ^ 62 → StaysSound g d (writes r file line d) → HasCome tells g (writes r file line d) after
 
 -- the law of a setting
 abbrev pub SettingLaw : {K : Type 0} → (K → StoreView) → Type 0
-SettingLaw {K} tells = (g : Given) (d : Driver) (r : ℕ) (n m : NodeView K) (was after : FleetView K) (kind : LogKind) (topic : Topic) (value : Value) (failed : Option Call)
+SettingLaw {K} tells = (g : DriverInput) (d : Driver) (r : ℕ) (n m : NodeView K) (was after : FleetView K) (kind : LogKind) (topic : Topic) (value : Value) (failed : Option Call)
     → HasCome tells g d was → OneGoesOn r n m was after → StaysStored (tells n.keeper) (tells m.keeper)
     → MakesCalls (to_log n (Of kind) (line_text kind (stamped_by (raised d n) kind None (record { topic = topic; stamp = None; value = value })) ∷ [])) failed (tells n.keeper).failing (tells m.keeper).failing
     → HasLogged (Of kind) (line_text kind (stamped_by (raised d n) kind None (record { topic = topic; stamp = None; value = value })) ∷ []) failed (raised d n) m
@@ -123,7 +124,7 @@ has_logged file lines (Some call) n m done refused = refused call refl
 
 pub writes_go : {K : Type 0} (tells : K → StoreView) (r : ℕ) (was up after : FleetView K) (file : LogFile) (line : List ℕ) (done : Answer) → LineLaw tells → r < length was.nodes
     → IsCalled tells r was up after (WritesFiles tells (λ n. to_log n file (line ∷ [])) (λ n m. m ≡ with_lines n m.keeper file (line ∷ [])) done)
-    → IsEnded done → ((g : Given) (d : Driver) → IsKnown g r → StaysSound g d (writes r file line d)) → GoesOn tells (λ g d. writes r file line d) was after
+    → IsEnded done → ((g : DriverInput) (d : Driver) → IsKnown g r → StaysSound g d (writes r file line d)) → GoesOn tells (λ g d. writes r file line d) was after
 writes_go {K} tells r was up after file line done law there call ended sound =
     goes_on tells (λ g d. writes r file line d) r was up after (WritesFiles tells (λ n. to_log n file (line ∷ [])) (λ n m. m ≡ with_lines n m.keeper file (line ∷ [])) done) there call
     (λ g d come known s.
@@ -135,7 +136,7 @@ writes_go {K} tells r was up after file line done law there call ended sound =
 -- the same, where the call was made of a file and a line that are these
 pub writes_go_so : {K : Type 0} (tells : K → StoreView) (r : ℕ) (was up after : FleetView K) (file file' : LogFile) (line line' : List ℕ) (done : Answer) → file' ≡ file → line' ≡ line → LineLaw tells → r < length was.nodes
     → IsCalled tells r was up after (WritesFiles tells (λ n. to_log n file' (line' ∷ [])) (λ n m. m ≡ with_lines n m.keeper file' (line' ∷ [])) done)
-    → IsEnded done → ((g : Given) (d : Driver) → IsKnown g r → StaysSound g d (writes r file line d)) → GoesOn tells (λ g d. writes r file line d) was after
+    → IsEnded done → ((g : DriverInput) (d : Driver) → IsKnown g r → StaysSound g d (writes r file line d)) → GoesOn tells (λ g d. writes r file line d) was after
 writes_go_so {K} tells r was up after file file' line line' done same_file same_line law there call ended sound =
     writes_go tells r was up after file line done law there
     (subst (λ (f : LogFile). IsCalled tells r was up after (WritesFiles tells (λ n. to_log n f (line ∷ [])) (λ n m. m ≡ with_lines n m.keeper f (line ∷ [])) done)) same_file
@@ -145,7 +146,7 @@ writes_go_so {K} tells r was up after file file' line line' done same_file same_
 pub sets_go : {K : Type 0} (tells : K → StoreView) (r : ℕ) (was up after : FleetView K) (kind : LogKind) (topic : Topic) (value : Value) (done : Answer) → SettingLaw tells → r < length was.nodes
     → IsCalled tells r was up after (WritesFiles tells (λ n. to_log n (Of kind) (line_text kind (stamped_by n kind None (record { topic = topic; stamp = None; value = value })) ∷ []))
     (λ n m. m ≡ with_lines n m.keeper (Of kind) (line_text kind (stamped_by n kind None (record { topic = topic; stamp = None; value = value })) ∷ [])) done)
-    → IsEnded done → ((g : Given) (d : Driver) → IsKnown g r → StaysSound g d (sets g r kind topic value d)) → GoesOn tells (λ g d. sets g r kind topic value d) was after
+    → IsEnded done → ((g : DriverInput) (d : Driver) → IsKnown g r → StaysSound g d (sets g r kind topic value d)) → GoesOn tells (λ g d. sets g r kind topic value d) was after
 sets_go {K} tells r was up after kind topic value done law there call ended sound =
     goes_on tells (λ g d. sets g r kind topic value d) r was up after _ there call
     (λ g d come known s.
@@ -159,7 +160,7 @@ sets_go {K} tells r was up after kind topic value done law there call ended soun
 
 -- the law of a merge
 abbrev pub MergeLaw : {K : Type 0} → (K → StoreView) → Type 0
-MergeLaw {K} tells = (g : Given) (d : Driver) (r other : ℕ) (n m o : NodeView K) (was after : FleetView K) (failed : Option Call)
+MergeLaw {K} tells = (g : DriverInput) (d : Driver) (r other : ℕ) (n m o : NodeView K) (was after : FleetView K) (failed : Option Call)
     → HasCome tells g d was → OneGoesOn r n m was after → slice_get was.nodes other ≡ Some o → StaysStored (tells n.keeper) (tells m.keeper)
     → MakesCalls (to_merge n o.branch) failed (tells n.keeper).failing (tells m.keeper).failing
     → (failed ≡ None → m ≡ over m.keeper (merge_files (raised d n) o.branch)) → ((call : Call) → failed ≡ Some call → RefusesSo refusals.StoreFault calls.PutFile (raised d n) m)
@@ -167,7 +168,7 @@ MergeLaw {K} tells = (g : Given) (d : Driver) (r other : ℕ) (n m o : NodeView 
 
 -- the law of a compaction
 abbrev pub CompactLaw : {K : Type 0} → (K → StoreView) → Type 0
-CompactLaw {K} tells = (g : Given) (d : Driver) (r : ℕ) (n m : NodeView K) (was after : FleetView K) (failed : Option Call)
+CompactLaw {K} tells = (g : DriverInput) (d : Driver) (r : ℕ) (n m : NodeView K) (was after : FleetView K) (failed : Option Call)
     → HasCome tells g d was → OneGoesOn r n m was after → StaysStored (tells n.keeper) (tells m.keeper)
     → MakesCalls (to_compact n) failed (tells n.keeper).failing (tells m.keeper).failing
     → (failed ≡ None → m ≡ over m.keeper (compact_files (raised d n) (keys_of n.branch))) → ((call : Call) → failed ≡ Some call → RefusesSo refusals.StoreFault calls.PutFile (raised d n) m)
@@ -180,13 +181,13 @@ MergesFrom {K} tells other up done n m = (o : NodeView K) → slice_get up.nodes
 
 pub merges_go : {K : Type 0} (tells : K → StoreView) (r other : ℕ) (was up after : FleetView K) (done : Answer) → MergeLaw tells → r < length was.nodes → other < length was.nodes
     → IsCalled tells r was up after (MergesFrom tells other up done)
-    → IsEnded done → ((g : Given) (d : Driver) → IsKnown g r → StaysSound g d (merges r other d)) → GoesOn tells (λ g d. merges r other d) was after
+    → IsEnded done → ((g : DriverInput) (d : Driver) → IsKnown g r → StaysSound g d (merges r other d)) → GoesOn tells (λ g d. merges r other d) was after
 merges_go {K} tells r other was up after done law there there_too call ended sound =
     goes_on tells (λ g d. merges r other d) r was up after (MergesFrom tells other up done) there call
     (λ g d come known s.
     let n : NodeView K = s.before in
     let m : NodeView K = s.left in
-    let found : (o : NodeView K) × (slice_get was.nodes other ≡ Some o) = element was.nodes other there_too in
+    let found : (o : NodeView K) × (slice_get was.nodes other ≡ Some o) = slice_get-within was.nodes other there_too in
     let o : NodeView K = found.0 in
     let up_too : (p : NodeView K) × (slice_get up.nodes other ≡ Some p) × (p.branch ≡ o.branch) = branch_stays tells r call.had other was up o call.raises found.1 in
     let made : WritesFiles tells (λ n. to_merge n o.branch) (λ n m. m ≡ over m.keeper (merge_files n o.branch)) done (raised d n) m
@@ -197,7 +198,7 @@ merges_go {K} tells r other was up after done law there there_too call ended sou
 
 pub compacts_go : {K : Type 0} (tells : K → StoreView) (r : ℕ) (was up after : FleetView K) (done : Answer) → CompactLaw tells → r < length was.nodes
     → IsCalled tells r was up after (WritesFiles tells (λ n. to_compact n) (λ n m. m ≡ over m.keeper (compact_files n (keys_of n.branch))) done)
-    → IsEnded done → ((g : Given) (d : Driver) → IsKnown g r → StaysSound g d (compacts r d)) → GoesOn tells (λ g d. compacts r d) was after
+    → IsEnded done → ((g : DriverInput) (d : Driver) → IsKnown g r → StaysSound g d (compacts r d)) → GoesOn tells (λ g d. compacts r d) was after
 compacts_go {K} tells r was up after done law there call ended sound =
     goes_on tells (λ g d. compacts r d) r was up after _ there call
     (λ g d come known s.

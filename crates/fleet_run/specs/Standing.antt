@@ -1,38 +1,63 @@
 -- What a fleet has done is what the driver of scripts has done (own).
-use Rattle.std.specs.Prelude.{◌≡◌, ℕ, ◌<◌}
+use Rattle.std.specs.Prelude.{◌≡◌, ℕ, ◌<◌, ◌≤◌, Bool, List, filter, is_none, length}
 use Rattle.run_data.specs.Histories.{most_entries}
+use Rattle.run_data.specs.declared.entry.Entry.{Entry}
 use Rattle.repo_node.specs.Stored.{StoreView}
-use Rattle.driver_model.specs.Driver.{Driver, Given}
+use Rattle.driver_model.specs.Driver.{Driver, DriverInput, newest_count}
 use Rattle.driver_model.specs.Limits.{StopsAtFull, count_of, within_limit}
 use Rattle.fleet_model.specs.Fleets.{FleetView, HasCome}
 use Rattle.fleet_model.specs.Matches.{DecidesMatches}
 
 -- it has come to where the driver is, which is given what decides whether bytes match a key
-pub record Stands {K : Type 0} (tells : K → StoreView) (g : Given) (d : Driver) (f : FleetView K) : Type 0 where
+pub record IsAtDriver {K : Type 0} (tells : K → StoreView) (g : DriverInput) (d : Driver) (f : FleetView K) : Type 0 where
   pub come : HasCome tells g d f
   pub decides : DecidesMatches g
 
--- it has come to where some driver is
-pub record IsDriven {K : Type 0} (tells : K → StoreView) (f : FleetView K) : Type 0 where
-  pub given : Given
-  pub driver : Driver
-  pub stands : Stands tells given driver f
+-- how many lines it does at most
+abbrev pub most_lines : ℕ
+most_lines = 268435456
 
 -- wherever the driver was, the fleet goes on as this step of it
-abbrev pub GoesOn : {K : Type 0} → (K → StoreView) → (Given → Driver → Driver) → FleetView K → FleetView K → Type 0
-GoesOn tells step was after = (g : Given) (d : Driver) → Stands tells g d was → Stands tells g (step g d) after
+abbrev pub GoesOn : {K : Type 0} → (K → StoreView) → (DriverInput → Driver → Driver) → FleetView K → FleetView K → Type 0
+GoesOn tells step was after = (g : DriverInput) (d : Driver) → IsAtDriver tells g d was → IsAtDriver tells g (step g d) after
 
 -- wherever the driver was, this step of it comes to an entry of r, whose history is full, and the fleet's run has all entries before it
-abbrev pub EndsAtFull : {K : Type 0} → (K → StoreView) → ℕ → (Given → Driver → Driver) → FleetView K → FleetView K → Type 0
-EndsAtFull tells r step was after = (g : Given) (d : Driver) → Stands tells g d was → StopsAtFull g r (step g d) after.run
+abbrev pub EndsAtFull : {K : Type 0} → (K → StoreView) → ℕ → (DriverInput → Driver → Driver) → FleetView K → FleetView K → Type 0
+EndsAtFull tells r step was after = (g : DriverInput) (d : Driver) → IsAtDriver tells g d was → StopsAtFull g r (step g d) after.run
 
 -- Wherever the driver was, r had made as many entries as it may, so that its store wasn't asked; all that this step of the driver adds
 -- passes the limit, and the run is as it was.
-pub record WaitsForRoom {K : Type 0} (tells : K → StoreView) (r : ℕ) (step : Given → Driver → Driver) (was after : FleetView K) : Type 0 where
-  pub full : (g : Given) (d : Driver) → Stands tells g d was → count_of d.past r ≡ most_entries
-  pub past : (g : Given) (d : Driver) → Stands tells g d was → within_limit g (step g d).past ≡ d.past
+pub record WaitsForRoom {K : Type 0} (tells : K → StoreView) (r : ℕ) (step : DriverInput → Driver → Driver) (was after : FleetView K) : Type 0 where
+  pub full : (g : DriverInput) (d : Driver) → IsAtDriver tells g d was → count_of d.past r ≡ most_entries
+  pub past : (g : DriverInput) (d : Driver) → IsAtDriver tells g d was → within_limit g (step g d).past ≡ d.past
   pub run : after.run ≡ was.run
 
 -- wherever the driver was, r may make another entry
 abbrev pub HasRoom : {K : Type 0} → (K → StoreView) → ℕ → FleetView K → Type 0
-HasRoom tells r f = (g : Given) (d : Driver) → Stands tells g d f → count_of d.past r < most_entries
+HasRoom tells r f = (g : DriverInput) (d : Driver) → IsAtDriver tells g d f → count_of d.past r < most_entries
+
+-- ---- how few entries there are; for private contracts
+
+abbrev pub is_wait : Entry → Bool
+is_wait e = is_none e.repo
+
+-- how many waits there are among the entries
+abbrev pub waits_in : List Entry → ℕ
+waits_in past = length (filter is_wait past)
+
+-- There are at most so many waits, and the newest count is at most the number of entries.
+pub record IsFew (most : ℕ) (past : List Entry) : Type 0 where
+  pub waits : waits_in past ≤ most
+  pub count : newest_count past ≤ length past
+
+-- it has come to where some driver is, which has at most eight repositories and at most so many waits
+pub record IsDrivenWithin {K : Type 0} (tells : K → StoreView) (most : ℕ) (f : FleetView K) : Type 0 where
+  pub given : DriverInput
+  pub driver : Driver
+  pub stands : IsAtDriver tells given driver f
+  pub repos : length given.repos ≤ 8
+  pub few : IsFew most driver.past
+
+-- within a line: there are at most as many waits as a fleet does lines
+abbrev pub IsDriven : {K : Type 0} → (K → StoreView) → FleetView K → Type 0
+IsDriven tells f = IsDrivenWithin tells most_lines f

@@ -45,7 +45,7 @@ impl<K: FailingKeeper> Running<K> {
         drivers_stay_sound();
         fleets_stop_at_full_histories::<K>();
         let bytes = bytes_of(self.alloc, content)?;
-        let had = self.raise(repo)?;
+        let had = self.raise(repo);
         let done = self.nodes.place(repo as usize, key, &bytes);
         self.tell(repo, had)?;
         self.after_step(repo, done)

@@ -9,31 +9,38 @@ ghost use Rattle.fleet_model.specs.Stores.{IsStoreOf};
 use annex_base::{Items, NoMemory};
 use object_store::{Keeper, MemoryKeeper};
 use run_data::RepoView;
-use script_lang::Command;
+use script_lang::{Change, Command, change_of};
 use std::alloc::Global;
 
 /// Adds the repository that a line declares, if it does.
 fn declare(repos: &mut Items<RepoView>, command: &Command) -> Result<(), NoMemory>
     ensures { OnOk result (repos.new ≡ repos.old ++ declared_by command.now) }
 {
-    if let Command::Repo {
-        name,
-        id,
-        offset,
-        version,
-        locks,
-    } = command
-    {
-        let name = name.clone()?;
-        repos.push(RepoView {
+    match change_of(command) {
+        Change::Declares {
             name,
-            id: *id,
-            offset: *offset,
-            version: *version,
-            locks: *locks,
-        })?;
+            id,
+            offset,
+            version,
+            locks,
+        } => {
+            let name = name.clone()?;
+            repos.push(RepoView {
+                name,
+                id: *id,
+                offset,
+                version,
+                locks,
+            })?;
+            Ok(())
+        }
+        Change::Puts { .. } => Ok(()),
+        Change::Brings { .. } => Ok(()),
+        Change::Adds { .. } => Ok(()),
+        Change::Names { .. } => Ok(()),
+        Change::Waits { .. } => Ok(()),
+        Change::Nothing => Ok(()),
     }
-    Ok(())
 }
 
 /// The repositories that the lines declare, in order of number.

@@ -1,15 +1,15 @@
 //! A fleet, and the run so far.
-ghost use Rattle.std.specs.Prelude.{◌≡◌, ℕ, All, [], length, map, Err, IfOk, OnOk};
+ghost use Rattle.std.specs.Prelude.{◌≡◌, ◌<◌, ◌≤◌, ℕ, All, [], length, map, Err, IfOk, OnOk};
 ghost use Rattle.run_data.specs.declared.run.RepoView.{RepoView};
 ghost use Rattle.object_store.specs.declared.memory.MemoryKeeper.{MemoryKeeper};
 ghost use Rattle.repo_node.specs.Stored.{HasNothing, store_view};
 ghost use Rattle.joined_nodes.specs.Joined.{MayRun};
-ghost use Rattle.driver_model.specs.Driver.{Given, at_first};
+ghost use Rattle.driver_model.specs.Driver.{DriverInput, at_first};
 ghost use Rattle.driver_script.specs.Lines.{repos_of};
 ghost use Rattle.fleet_model.specs.Matches.{DecidesMatches};
 ghost use Rattle.fleet_model.specs.Stores.{IsStoreOf};
 ghost use Rattle.fleet_run.specs.Commands.{CutsAt, MayBeDone, MeetsNone, does_and_marks};
-ghost use Rattle.fleet_run.specs.Standing.{GoesOn, Stands};
+ghost use Rattle.fleet_run.specs.Standing.{GoesOn, IsAtDriver, most_lines};
 
 use crate::declaring::{memory_keepers, repositories};
 use crate::running::Running;
@@ -26,8 +26,8 @@ use std::alloc::Global;
 use std::marker::Model;
 
 /// The repositories of a script as nodes, and the run so far: copies of the entries that they made, in order (own). It has come to
-/// where the driver of scripts is after the lines that it has done, unless it stopped at one. It has tokens to spend, so it is
-/// finished and never dropped.
+/// where the driver of scripts is after the lines that it has done, unless it stopped at one. It has at most eight repositories. It
+/// has tokens to spend, so it is finished and never dropped.
 pub struct Fleet<K: FailingKeeper> {
     running: Running<K>,
     /// Whether a line was refused. No line is done from then on, since the run may lack entries of a node.
@@ -35,16 +35,16 @@ pub struct Fleet<K: FailingKeeper> {
 }
 
 impl<K: FailingKeeper> Model for Fleet<K> {
-    ghost use Rattle.std.specs.Prelude.{◌≡◌, false};
+    ghost use Rattle.std.specs.Prelude.{◌≡◌, false, length};
     ghost use Rattle.fleet_model.specs.Fleets.{FleetView};
-    ghost use Rattle.fleet_run.specs.Standing.{IsDriven};
+    ghost use Rattle.fleet_run.specs.Standing.{IsDrivenWithin};
     ghost use Rattle.repo_node.specs.Stored.{store_view};
 
     ghost Value = { FleetView K };
 
     ghost view = { λ f. f.running };
 
-    ghost invariant = { λ f. f.stopped ≡ false → IsDriven (λ k. store_view (K.contents k) (K.parts k) (K.failing k) (K.faults k)) f.running };
+    ghost invariant = { λ f. f.stopped ≡ false → IsDrivenWithin (λ k. store_view (K.contents k) (K.parts k) (K.failing k) (K.faults k)) (length f.running.run.marks) f.running };
 }
 
 /// The run before the first line.
@@ -60,10 +60,11 @@ fn empty_run(alloc: Global, repos: Items<RepoView>) -> Run
 }
 
 impl Fleet<MemoryKeeper> {
-    /// The repositories that the script declares, before its first line, each over a store in memory.
+    /// The repositories that the script declares, at most eight, before its first line, each over a store in memory.
     pub fn new(alloc: Global, script: &Script) -> Result<Fleet<MemoryKeeper>, NoMemory>
         requires run { MayRun (repos_of script.now) }
-        ensures stands { IfOk result (λ f. (g : Given) → g.repos ≡ repos_of script.now → DecidesMatches g → Stands (λ k. store_view (⟦<MemoryKeeper as Keeper>⟧.contents k) (⟦<MemoryKeeper as Keeper>⟧.parts k) (⟦<MemoryKeeper as Keeper>⟧.failing k) (⟦<MemoryKeeper as Keeper>⟧.faults k)) g at_first f) }
+        requires few { length (repos_of script.now) ≤ 8 }
+        ensures stands { IfOk result (λ f. (g : DriverInput) → g.repos ≡ repos_of script.now → DecidesMatches g → IsAtDriver (λ k. store_view (⟦<MemoryKeeper as Keeper>⟧.contents k) (⟦<MemoryKeeper as Keeper>⟧.parts k) (⟦<MemoryKeeper as Keeper>⟧.failing k) (⟦<MemoryKeeper as Keeper>⟧.faults k)) g at_first f) }
         ensures nodes { IfOk result (λ f. length f.nodes ≡ length (repos_of script.now)) }
         ensures empty { IfOk result (λ f. f.run ≡ record { repos = repos_of script.now; entries = []; tree = []; marks = [] }) }
     {
@@ -74,18 +75,19 @@ impl Fleet<MemoryKeeper> {
 }
 
 impl<K: FailingKeeper> Fleet<K> {
-    /// The repositories that the script declares, before its first line, each over the keeper at its place, which has nothing, tells
-    /// this, and of which no call is to fail.
+    /// The repositories that the script declares, at most eight, before its first line, each over the keeper at its place, which has
+    /// nothing, tells this, and of which no call is to fail.
     pub fn with_keepers(
         alloc: Global,
         script: &Script,
         keepers: Vec<K>,
     ) -> Result<Fleet<K>, NoMemory>
         requires run { MayRun (repos_of script.now) }
+        requires few { length (repos_of script.now) ≤ 8 }
         requires count { length keepers.items ≡ length (repos_of script.now) }
         requires empty { All (λ k. HasNothing (K.contents k) (K.parts k) (K.records k) (K.files k)) keepers.items }
         requires tells { All (λ k. IsStoreOf at_first 0 (store_view (K.contents k) (K.parts k) (K.failing k) (K.faults k))) keepers.items }
-        ensures stands { IfOk result (λ f. (g : Given) → g.repos ≡ repos_of script.now → DecidesMatches g → Stands (λ k. store_view (K.contents k) (K.parts k) (K.failing k) (K.faults k)) g at_first f) }
+        ensures stands { IfOk result (λ f. (g : DriverInput) → g.repos ≡ repos_of script.now → DecidesMatches g → IsAtDriver (λ k. store_view (K.contents k) (K.parts k) (K.failing k) (K.faults k)) g at_first f) }
         ensures nodes { IfOk result (λ f. length f.nodes ≡ length (repos_of script.now)) }
         ensures empty { IfOk result (λ f. f.run ≡ record { repos = repos_of script.now; entries = []; tree = []; marks = [] }) }
     {
@@ -96,10 +98,11 @@ impl<K: FailingKeeper> Fleet<K> {
     /// These repositories before the first line, each over the keeper at its place.
     fn over(alloc: Global, repos: Items<RepoView>, keepers: Vec<K>) -> Result<Fleet<K>, NoMemory>
         requires run { MayRun repos }
+        requires few { length repos ≤ 8 }
         requires count { length keepers.items ≡ length repos }
         requires empty { All (λ k. HasNothing (K.contents k) (K.parts k) (K.records k) (K.files k)) keepers.items }
         requires tells { All (λ k. IsStoreOf at_first 0 (store_view (K.contents k) (K.parts k) (K.failing k) (K.faults k))) keepers.items }
-        ensures stands { IfOk result (λ f. (g : Given) → g.repos ≡ repos → DecidesMatches g → Stands (λ k. store_view (K.contents k) (K.parts k) (K.failing k) (K.faults k)) g at_first f) }
+        ensures stands { IfOk result (λ f. (g : DriverInput) → g.repos ≡ repos → DecidesMatches g → IsAtDriver (λ k. store_view (K.contents k) (K.parts k) (K.failing k) (K.faults k)) g at_first f) }
         ensures nodes { IfOk result (λ f. length f.nodes ≡ length repos) }
         ensures empty { IfOk result (λ f. f.run ≡ record { repos = repos; entries = []; tree = []; marks = [] }) }
     {
@@ -120,9 +123,11 @@ impl<K: FailingKeeper> Fleet<K> {
     }
 
     /// Does what the line says, and marks how many entries stand after it. It is refused as Full where the line meets a full history.
-    /// After a refusal the entries made so far stand; from then on each line is refused as for want of memory.
+    /// After a refusal the entries made so far stand; from then on each line is refused as for want of memory. A fleet does at most
+    /// 2^28 lines, so that its run has fewer than 2^30 entries: of each repository at most 100,000, and of each line at most one wait.
     pub fn line(&mut self, command: &Command) -> Result<(), FleetStop>
-        requires { MayBeDone self.old command.now }
+        requires may { MayBeDone self.old command.now }
+        requires few { length self.old.run.marks < most_lines }
         ensures ok { OnOk result (GoesOn (λ k. store_view (K.contents k) (K.parts k) (K.failing k) (K.faults k)) (does_and_marks command.now) self.old self.new) }
         ensures within { OnOk result (MeetsNone (λ k. store_view (K.contents k) (K.parts k) (K.failing k) (K.faults k)) command.now self.old) }
         ensures full { (r : ℕ) → result ≡ Err (FleetStop.Full r) → CutsAt (λ k. store_view (K.contents k) (K.parts k) (K.failing k) (K.faults k)) r command.now self.old self.new }

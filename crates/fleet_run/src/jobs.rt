@@ -16,9 +16,6 @@ use fleet_model::{fleets_do_lines, fleets_stop_at_full_histories};
 use object_store::FailingKeeper;
 use run_data::{Entry, EntryKind, Job, JobKind};
 
-/// The greatest count that an entry may have. No machine makes so many entries.
-const LAST_COUNT: u64 = 4_611_686_018_427_387_903;
-
 impl<K: FailingKeeper> Running<K> {
     /// A drop of the repository's own copy begins where fewer than four jobs run.
     pub(crate) fn begins(&mut self, repo: u32, job: &Job) -> Result<(), FleetStop>
@@ -36,7 +33,7 @@ impl<K: FailingKeeper> Running<K> {
         drivers_stay_sound();
         fleets_stop_at_full_histories::<K>();
         let job = job.clone()?;
-        let had = self.raise(repo)?;
+        let had = self.raise(repo);
         let begun = self.nodes.begin(repo as usize, job);
         self.tell(repo, had)?;
         self.after_begin(repo, begun)
@@ -86,10 +83,8 @@ impl<K: FailingKeeper> Running<K> {
         // Laws, for the proof.
         fleets_do_lines::<K>();
         drivers_stay_sound();
+        self.entries_are_few();
         let count = self.newest_count();
-        if count >= LAST_COUNT {
-            return Err(FleetStop::NoMemory);
-        }
         let entry = Entry {
             time: self.now() + milliseconds,
             count: count + 1,

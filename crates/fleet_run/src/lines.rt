@@ -1,8 +1,8 @@
 //! What a fleet does at each form of line.
-ghost use Rattle.std.specs.Prelude.{◌≡◌, ℕ, Err, OnOk};
+ghost use Rattle.std.specs.Prelude.{◌≡◌, ◌<◌, ℕ, length, Err, OnOk};
 ghost use Rattle.repo_node.specs.Stored.{store_view};
 ghost use Rattle.fleet_run.specs.Commands.{CutsAt, HasRoomFor, MayBeDone, MeetsNone, does_and_marks, does_command};
-ghost use Rattle.fleet_run.specs.Standing.{GoesOn, IsDriven};
+ghost use Rattle.fleet_run.specs.Standing.{GoesOn, IsDriven, IsDrivenWithin, most_lines};
 
 use crate::running::Running;
 use crate::stop::FleetStop;
@@ -15,9 +15,11 @@ use script_lang::Command;
 impl<K: FailingKeeper> Running<K> {
     /// Does what the line says, and marks how many entries stand after it.
     pub(crate) fn does_and_marks(&mut self, command: &Command) -> Result<(), FleetStop>
-        requires driven { IsDriven (λ k. store_view (K.contents k) (K.parts k) (K.failing k) (K.faults k)) self.old }
+        requires driven { IsDrivenWithin (λ k. store_view (K.contents k) (K.parts k) (K.failing k) (K.faults k)) (length self.old.run.marks) self.old }
+        requires few { length self.old.run.marks < most_lines }
         requires may { MayBeDone self.old command.now }
         ensures ok { OnOk result (GoesOn (λ k. store_view (K.contents k) (K.parts k) (K.failing k) (K.faults k)) (does_and_marks command.now) self.old self.new) }
+        ensures marked { OnOk result (IsDrivenWithin (λ k. store_view (K.contents k) (K.parts k) (K.failing k) (K.faults k)) (length self.new.run.marks) self.new) }
         ensures within { OnOk result (MeetsNone (λ k. store_view (K.contents k) (K.parts k) (K.failing k) (K.faults k)) command.now self.old) }
         ensures full { (r : ℕ) → result ≡ Err (FleetStop.Full r) → CutsAt (λ k. store_view (K.contents k) (K.parts k) (K.failing k) (K.faults k)) r command.now self.old self.new }
     {

@@ -46,7 +46,7 @@ impl<K: FailingKeeper> Running<K> {
             stamp: None,
             value,
         };
-        let had = self.raise(repo)?;
+        let had = self.raise(repo);
         let done = self.nodes.write_log(repo as usize, kind, None, &entry);
         self.tell(repo, had)?;
         self.after_step(repo, done)
@@ -69,7 +69,7 @@ impl<K: FailingKeeper> Running<K> {
         fleets_stop_at_full_histories::<K>();
         files_have_their_paths();
         let path = file.path(self.alloc)?;
-        let had = self.raise(repo)?;
+        let had = self.raise(repo);
         let done = self
             .nodes
             .write_raw(repo as usize, path.bytes(), line.bytes());
@@ -90,7 +90,7 @@ impl<K: FailingKeeper> Running<K> {
         fleets_do_lines::<K>();
         drivers_stay_sound();
         fleets_stop_at_full_histories::<K>();
-        let had = self.raise(repo)?;
+        let had = self.raise(repo);
         let done = self.nodes.merge(repo as usize, other as usize);
         self.tell(repo, had)?;
         self.after_step(repo, done)
@@ -108,7 +108,7 @@ impl<K: FailingKeeper> Running<K> {
         fleets_do_lines::<K>();
         drivers_stay_sound();
         fleets_stop_at_full_histories::<K>();
-        let had = self.raise(repo)?;
+        let had = self.raise(repo);
         let done = self.nodes.compact(repo as usize);
         self.tell(repo, had)?;
         self.after_step(repo, done)

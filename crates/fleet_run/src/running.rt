@@ -1,5 +1,5 @@
 //! The nodes and the run, and how the run gets the entries of the nodes.
-ghost use Rattle.std.specs.Prelude.{◌≡◌, ◌+◌, ◌<◌, ◌≤◌, ◌^◌, ◌++◌, ℕ, length, reverse, slice_get, Some, IfOk, OnOk, OnErr};
+ghost use Rattle.std.specs.Prelude.{◌≡◌, ◌+◌, ◌<◌, ◌≤◌, ◌^◌, ◌++◌, ℕ, length, reverse, slice_get, Some, IfOk, OnOk};
 ghost use Rattle.run_model.specs.Past.{now};
 ghost use Rattle.driver_model.specs.Driver.{newest_count};
 ghost use Rattle.driver_model.specs.Driving.{with_mark};
@@ -17,9 +17,6 @@ use object_store::FailingKeeper;
 use run_data::{Entry, Run};
 use std::alloc::Global;
 use std::marker::Model;
-
-/// No machine has memory for so many entries.
-const MOST_ENTRIES: usize = 1_073_741_824;
 
 /// The nodes, and the run so far: copies of the entries that they made, in order.
 pub(crate) struct Running<K: FailingKeeper> {
@@ -54,6 +51,14 @@ fn add_copies(entries: &mut Items<Entry>, made: &[Entry]) -> Result<(), NoMemory
 }
 
 impl<K: FailingKeeper> Running<K> {
+    /// How many nodes there are, at most eight.
+    pub(crate) fn count(&self) -> u32
+        requires driven { IsDriven (λ k. store_view (K.contents k) (K.parts k) (K.failing k) (K.faults k)) self.now }
+        ensures { result ≡ length self.now.nodes }
+    {
+        self.nodes.count() as u32
+    }
+
     /// How many entries were made so far.
     pub(crate) fn made(&self) -> usize
         ensures { result ≡ length self.now.run.entries }
@@ -89,22 +94,27 @@ impl<K: FailingKeeper> Running<K> {
         let _ = self.nodes.node(repo as usize).history();
     }
 
+    /// For the proof: the entries are few, since no node has made more than it may, and each line waits once at most.
+    pub(crate) fn entries_are_few(&self)
+        requires driven { IsDriven (λ k. store_view (K.contents k) (K.parts k) (K.failing k) (K.faults k)) self.now }
+        ensures { length self.now.run.entries < 2 ^ 30 }
+    {
+        self.nodes.histories_are_few();
+    }
+
     /// Raises a node's time to that of the script and its count to the newest, and tells how many entries it has.
-    pub(crate) fn raise(&mut self, repo: u32) -> Result<usize, NoMemory>
+    pub(crate) fn raise(&mut self, repo: u32) -> usize
         requires there { repo < length self.old.nodes }
         requires driven { IsDriven (λ k. store_view (K.contents k) (K.parts k) (K.failing k) (K.faults k)) self.old }
-        ensures ok { IfOk result (λ had. Raises (λ k. store_view (K.contents k) (K.parts k) (K.failing k) (K.faults k)) repo had self.old self.new) }
-        ensures err { OnErr result (self.new ≡ self.old) }
-        ensures run { self.new.run ≡ self.old.run }
+        ensures { Raises (λ k. store_view (K.contents k) (K.parts k) (K.failing k) (K.faults k)) repo result self.old self.new }
     {
-        if self.made() >= MOST_ENTRIES {
-            return Err(NoMemory);
-        }
+        self.entries_are_few();
         let time = self.now();
         let count = self.newest_count();
         self.nodes.advance(repo as usize, time, count);
+        // For the proof: what the node has is the state that its history leaves.
         self.see(repo);
-        Ok(self.nodes.node(repo as usize).history().len())
+        self.nodes.node(repo as usize).history().len()
     }
 
     /// Adds copies of the entries that a node has made since it had so many.
@@ -115,6 +125,7 @@ impl<K: FailingKeeper> Running<K> {
         ensures nodes { self.new.nodes ≡ self.old.nodes }
         ensures rest { OnlyEntriesChange self.old self.new }
     {
+        // For the proof: what the node has is the state that its history leaves.
         self.see(repo);
         let (_, made) = self.nodes.node(repo as usize).history().split_at(had);
         add_copies(&mut self.run.entries, made)
@@ -128,9 +139,7 @@ impl<K: FailingKeeper> Running<K> {
         // Laws, for the proof.
         fleets_do_lines::<K>();
         drivers_stay_sound();
-        if self.made() >= MOST_ENTRIES {
-            return Err(NoMemory);
-        }
+        self.entries_are_few();
         let place = self.made() as u32;
         self.run.marks.push(place)?;
         Ok(())

@@ -1,6 +1,10 @@
 //! Turns, and rounds of turns until all are idle.
-ghost use Rattle.std.specs.Prelude.{◌≡◌, ℕ, ◌+◌, ◌<◌, ◌==◌, if◌then◌else◌, length, Err, OnOk};
+ghost use Rattle.std.specs.Prelude.{◌≡◌, ℕ, ◌+◌, ◌<◌, ◌==◌, if◌then◌else◌, true, false, length, map, slice_get, Err, OnOk, Some};
+ghost use Rattle.std.specs.List.{list_any};
+ghost use Rattle.link_ring.specs.Ends.{after_drop, has_frames};
+ghost use Rattle.repo_node.specs.Nodes.{NodeView};
 ghost use Rattle.repo_node.specs.Stored.{store_view};
+ghost use Rattle.joined_nodes.specs.Joined.{AreNodes};
 ghost use Rattle.driver_model.specs.Driving.{turns};
 ghost use Rattle.driver_model.specs.Rounds.{round, settles};
 ghost use Rattle.driver_model.specs.Turning.{turn};
@@ -10,12 +14,25 @@ ghost use Rattle.fleet_run.specs.Telling.{OnlyEntriesChange};
 use crate::running::Running;
 use crate::stop::FleetStop;
 use driver_model::{drivers_only_add, runs_are_cut_where_histories_are_full};
-use fleet_model::{fleets_settle, fleets_stop_at_full_histories, fleets_take_turns};
+use fleet_model::{fleets_rest, fleets_settle, fleets_stop_at_full_histories, fleets_take_turns};
 use object_store::FailingKeeper;
+use repo_node::Turn;
 
 /// Two to the power 22. Of each two rounds one behind the other, but for the last two, one adds an entry, and no repository of at most
 /// 16 makes more than 100,000 entries; so so many are never made.
 const MOST_ROUNDS: u32 = 4_194_304;
+
+/// Whether a turn found no step ready, and began where no frame was at hand.
+fn is_still(turn: Turn, frames: bool) -> bool
+    ensures turn { result ≡ true → turn ≡ Turn.Idle }
+    ensures frames { result ≡ true → frames ≡ false }
+    ensures still { turn ≡ Turn.Idle → frames ≡ false → result ≡ true }
+{
+    match turn {
+        Turn::Idle => !frames,
+        Turn::Moved | Turn::Full | Turn::NoMemory => false,
+    }
+}
 
 /// How many rounds one behind the other were idle, after one more before and after which there were so many entries.
 fn idle_rounds(before: usize, after: usize, idle: u32) -> u32
@@ -26,7 +43,20 @@ fn idle_rounds(before: usize, after: usize, idle: u32) -> u32
 }
 
 impl<K: FailingKeeper> Running<K> {
-    /// A turn of a repository, after which frames are carried between it and all others.
+    /// Whether a frame is at hand at an end of a repository's node. Where none is, none is dropped there.
+    fn has_frames(&self, repo: u32) -> bool
+        requires there { repo < length self.now.nodes }
+        ensures any { (n : NodeView K) → slice_get self.now.nodes repo ≡ Some n → result ≡ list_any has_frames n.parts.links }
+        ensures kept { (n : NodeView K) → slice_get self.now.nodes repo ≡ Some n → result ≡ false → map after_drop n.parts.links ≡ n.parts.links }
+        ensures joined { AreNodes self.now.nodes }
+    {
+        // For the proof: each two nodes are joined.
+        let _ = self.nodes.count();
+        self.nodes.node(repo as usize).has_frames()
+    }
+
+    /// A turn of a repository, after which frames are carried between it and all others. Where it was idle and no frame was at hand, there
+    /// is none to carry.
     pub(crate) fn turn(&mut self, repo: u32) -> Result<(), FleetStop>
         requires there { repo < length self.old.nodes }
         requires driven { IsDriven (λ k. store_view (K.contents k) (K.parts k) (K.failing k) (K.faults k)) self.old }
@@ -37,9 +67,15 @@ impl<K: FailingKeeper> Running<K> {
     {
         // Laws, for the proof.
         fleets_take_turns::<K>();
+        fleets_rest::<K>();
         fleets_stop_at_full_histories::<K>();
-        let had = self.raise(repo)?;
+        let frames = self.has_frames(repo);
+        let had = self.raise(repo);
         let turn = self.nodes.turn(repo as usize);
+        if is_still(turn, frames) {
+            return Ok(());
+        }
+        // For the proof: what the node has is the state that its history leaves.
         self.see(repo);
         self.nodes.carry(repo as usize);
         self.tell(repo, had)?;
@@ -75,11 +111,7 @@ impl<K: FailingKeeper> Running<K> {
         fleets_settle();
         drivers_only_add();
         runs_are_cut_where_histories_are_full();
-        // No machine has memory for more nodes.
-        let Ok(count) = u32::try_from(self.nodes.count()) else {
-            return Err(FleetStop::NoMemory);
-        };
-        for repo in 0..count {
+        for repo in 0..self.count() {
             self.turn(repo)?;
         }
         Ok(())

@@ -1,16 +1,12 @@
 -- The test of a match says whether there is a cut.
 use Rattle.std.proofs.Common.{◌≡◌, ℕ, ◌||◌, ◌&&◌, ◌==◌, Bool, true, false, List, [], ◌∷◌, ◌++◌, length, refl, sym, ap, ◌∙◌, inl, inr, ◌⊎◌, arith}
-use Rattle.std.proofs.lemmas.Bool.{eqb-true}
+use Rattle.std.proofs.lemmas.Bool.{and_parts, eqb-true, or_right}
 use Rattle.std.specs.List.{concat}
 use Rattle.annex_base.proofs.Conditions.{by_test, eqb_refl}
 use Rattle.glob_match.specs.declared.item.Item.{Item}
 use Rattle.glob_match.specs.declared.item.Item.TheVariants.{AnyRun, AnyOne, OneOf, Only}
-use Rattle.glob_match.specs.Glob.{Fits, FitEach, IsMatch, is_run, takes, is_nothing, some_rest, first_and_rest, glob_matches}
+use Rattle.glob_match.specs.Glob.{FitsItem, FitEach, IsMatch, is_run, takes, is_nothing, some_rest, first_and_rest, glob_matches}
 use Rattle.glob_match.proofs.WalkLemmas.{run_matches, one_matches}
-
-both_true : (b c : Bool) → (b && c) ≡ true → (b ≡ true) × (c ≡ true)
-both_true true c e = (refl, e)
-both_true false c e = cc
 
 either_true : (b c : Bool) → (b || c) ≡ true → (b ≡ true) ⊎ (c ≡ true)
 either_true true c e = inl refl
@@ -35,15 +31,11 @@ rest_here : (p : List ℕ → Bool) (text : List ℕ) → p text ≡ true → so
 rest_here p [] e = e
 rest_here p (c ∷ cs) e = rw e refl
 
-or_later : (b c : Bool) → c ≡ true → (b || c) ≡ true
-or_later true c e = refl
-or_later false c e = e
-
 rest_after : (p : List ℕ → Bool) (front rest : List ℕ) → p rest ≡ true → some_rest p (front ++ rest) ≡ true
 rest_after p [] rest e = rest_here p rest e
-rest_after p (c ∷ front) rest e = or_later (p (c ∷ (front ++ rest))) (some_rest p (front ++ rest)) (rest_after p front rest e)
+rest_after p (c ∷ front) rest e = or_right (p (c ∷ (front ++ rest))) (some_rest p (front ++ rest)) (rest_after p front rest e)
 
-run_fits : (i : Item) (part : List ℕ) → is_run i ≡ true → Fits i part
+run_fits : (i : Item) (part : List ℕ) → is_run i ≡ true → FitsItem i part
 run_fits AnyRun part e = tt
 run_fits AnyOne part e = cc
 run_fits (OneOf members) part e = cc
@@ -52,7 +44,7 @@ run_fits (Only c) part e = cc
 same_char : (d c : ℕ) → (d == c) ≡ true → c ∷ [] ≡ d ∷ []
 same_char d c e = ap (λ (n : ℕ). n ∷ []) (sym (eqb-true d c e))
 
-taken_fits : (i : Item) (c : ℕ) → takes i c ≡ true → Fits i (c ∷ [])
+taken_fits : (i : Item) (c : ℕ) → takes i c ≡ true → FitsItem i (c ∷ [])
 taken_fits AnyRun c e = tt
 taken_fits AnyOne c e = refl
 taken_fits (OneOf members) c e = (c, refl, e)
@@ -67,7 +59,7 @@ one_char [] e = absurd (omega (arith, e))
 one_char (c ∷ []) e = (c, refl, refl)
 one_char (c ∷ d ∷ rest) e = absurd (omega (arith, e))
 
-fits_single : (i : Item) (part : List ℕ) → is_run i ≡ false → Fits i part → Single i part
+fits_single : (i : Item) (part : List ℕ) → is_run i ≡ false → FitsItem i part → Single i part
 fits_single AnyRun part r f = cc
 fits_single AnyOne part r f = one_char part f
 fits_single (OneOf members) part r f = f
@@ -77,12 +69,12 @@ nothing_is : (cs : List ℕ) → is_nothing cs ≡ true → cs ≡ []
 nothing_is [] e = refl
 nothing_is (c ∷ cs) e = cc
 
-with_part : (i : Item) (items : List Item) (text part rest : List ℕ) → text ≡ part ++ rest → Fits i part → IsMatch items rest → IsMatch (i ∷ items) text
+with_part : (i : Item) (items : List Item) (text part rest : List ℕ) → text ≡ part ++ rest → FitsItem i part → IsMatch items rest → IsMatch (i ∷ items) text
 with_part i items text part rest whole f m = record { parts = part ∷ m.parts; fit = (f, m.fit); cut = whole ∙ ap (λ (w : List ℕ). part ++ w) m.cut }
 
 first_cut : (one : ℕ → Bool) (p : List ℕ → Bool) (text : List ℕ) → first_and_rest one p text ≡ true → (c : ℕ) × (rest : List ℕ) × (text ≡ c ∷ rest) × (one c ≡ true) × (p rest ≡ true)
 first_cut one p [] e = cc
-first_cut one p (c ∷ cs) e = let k = both_true (one c) (p cs) e in (c, cs, refl, k.0, k.1)
+first_cut one p (c ∷ cs) e = let k = and_parts (one c) (p cs) e in (c, cs, refl, k.0, k.1)
 
 pub match_from_test : (items : List Item) (text : List ℕ) → glob_matches items text ≡ true → IsMatch items text
 match_from_test [] text e = record { parts = []; fit = tt; cut = nothing_is text e }

@@ -1,14 +1,17 @@
 -- What is read is spelled so, and what is spelled so is read.
 use Rattle.std.proofs.Common.{◌≡◌, ℕ, zero, suc, ◌+◌, ◌<◌, ◌≤◌, ◌&&◌, ◌==◌, not, Bool, true, false, List, [], ◌∷◌, ◌++◌, length, take, drop, flat_map, Option, Some, None, Result, Ok, Err, IsErrAnd, IsErrOf, MatchResult, is_none, refl, sym, ap, subst, ◌∙◌, ◌⊎◌, inl, inr, arith, append_assoc, sum_by, length-append}
-use Rattle.std.proofs.lemmas.Bool.{eqb-true}
+use Rattle.std.proofs.lemmas.Bool.{and_parts, eqb-true, not-true}
 use Rattle.std.proofs.lemmas.List.Sums.{prefix_len-le-length, sum_by-cons}
 use Rattle.std.proofs.lemmas.Str.{length-encode, encodes-append}
 use Rattle.std.specs.Char.{len_utf8, encode_utf8 as encode}
 use Rattle.std.specs.List.{list_all, position_or_len}
 use Rattle.std.specs.Option.{option_map}
 use Rattle.std.specs.Str.{encode_utf8_all}
+use Rattle.std.proofs.lemmas.Option.{same_Some}
+use Rattle.std.proofs.lemmas.List.{append-nil}
 use Rattle.annex_base.proofs.Conditions.{by_test, if_is}
-use Rattle.annex_base.proofs.Lists.{list_all_append}
+use Rattle.annex_base.proofs.Lists.{list_all_append, nil_by_length}
+use Rattle.annex_base.proofs.Options.{is_none_true, some_none}
 use Rattle.glob_match.specs.declared.fault.GlobFault.{GlobFault}
 use Rattle.glob_match.specs.declared.fault.GlobFault.TheVariants.{OpenSet, NoMemory}
 use Rattle.glob_match.specs.declared.item.Item.{Item}
@@ -16,40 +19,18 @@ use Rattle.glob_match.specs.declared.item.Item.TheVariants.{AnyRun, AnyOne, OneO
 use Rattle.glob_match.specs.Glob.{star, question, opening, closing, is_close, is_item, item_text, IsGlob, HasOpenSet}
 use Rattle.glob_match.specs.Walk.{char_at, as_set, with_member, set_at, item_at, is_stuck, Reads, Tells}
 
-some_none : {X : Type 0} (x : X) → Some x ≡ None → ⊥
-some_none x e = cc
-
-some_is : {X : Type 0} (x y : X) → Some x ≡ Some y → x ≡ y
-some_is x y e = cc
-
-none_is : {X : Type 0} (o : Option X) → is_none o ≡ true → o ≡ None
-none_is None e = refl
-none_is (Some x) e = cc
-
-and_is : (b c : Bool) → (b && c) ≡ true → (b ≡ true) × (c ≡ true)
-and_is true c e = (refl, e)
-and_is false c e = cc
-
-not_is : (b : Bool) → not b ≡ true → b ≡ false
-not_is true e = cc
-not_is false e = refl
-
 nil_or_cons : (cs : List ℕ) → [] ≡ opening ∷ cs → ⊥
 nil_or_cons cs e = cc
 
 pair_up : (i j : Item) (a b : List Item) → i ≡ j → a ≡ b → i ∷ a ≡ j ∷ b
 pair_up i j a b e f = cc
 
-append_nil : (xs : List ℕ) → xs ++ [] ≡ xs
-append_nil [] = refl
-append_nil (x ∷ xs) = ap (λ (w : List ℕ). x ∷ w) (append_nil xs)
-
 unset : (o : Option (List ℕ × List ℕ)) → option_map as_set o ≡ None → o ≡ None
 unset None e = refl
 unset (Some x) e = cc
 
 text_push : (items : List Item) (i : Item) (next : List ℕ) → flat_map item_text (items ++ i ∷ []) ++ next ≡ flat_map item_text items ++ (item_text i ++ next)
-text_push [] i next = ap (λ (w : List ℕ). w ++ next) (append_nil (item_text i))
+text_push [] i next = ap (λ (w : List ℕ). w ++ next) (append-nil (item_text i))
 text_push (x ∷ items) i next =
     append_assoc (item_text x) (flat_map item_text (items ++ i ∷ [])) next
     ∙ (ap (λ (w : List ℕ). item_text x ++ w) (text_push items i next) ∙ sym (append_assoc (item_text x) (flat_map item_text items) (item_text i ++ next)))
@@ -96,13 +77,9 @@ pub not_zero : (n : ℕ) → (n == 0) ≡ false → 0 < n
 not_zero zero e = cc
 not_zero (suc n) e = omega arith
 
-nothing_left : (cs : List ℕ) → length cs ≡ 0 → cs ≡ []
-nothing_left [] e = refl
-nothing_left (c ∷ cs) e = absurd (omega (arith, e))
-
 pub set_open : (cs closed : List ℕ) → closed ≡ drop (position_or_len is_close cs) cs → length closed ≡ 0 → None ≡ set_at cs
 set_open cs closed d e =
-    let at : char_at (drop (position_or_len is_close cs) cs) ≡ None = ap char_at (sym d ∙ nothing_left closed e) in
+    let at : char_at (drop (position_or_len is_close cs) cs) ≡ None = ap char_at (sym d ∙ nil_by_length closed e) in
     sym (set_cut cs ∙ rw at refl)
 
 pub set_within : (cs : List ℕ) → position_or_len is_close cs ≤ length cs
@@ -180,9 +157,9 @@ item_of (c ∷ cs) = item_at c cs
 
 item_again_only : (c : ℕ) (rest : List ℕ) → is_item (Only c) ≡ true → item_at c rest ≡ Some (Only c, rest)
 item_again_only c rest e =
-    let k = and_is (not (c == star) && not (c == question)) (not (c == opening)) e in
-    let j = and_is (not (c == star)) (not (c == question)) k.0 in
-    rw (not_is (c == star) j.0, not_is (c == question) j.1, not_is (c == opening) k.1) refl
+    let k = and_parts (not (c == star) && not (c == question)) (not (c == opening)) e in
+    let j = and_parts (not (c == star)) (not (c == question)) k.0 in
+    rw (not-true (c == star) j.0, not-true (c == question) j.1, not-true (c == opening) k.1) refl
 
 pub item_again : (i : Item) (rest : List ℕ) → is_item i ≡ true → item_of (item_text i ++ rest) ≡ Some (i, rest)
 item_again AnyRun rest e = refl
@@ -195,7 +172,7 @@ abbrev IsStep : List ℕ → Item × List ℕ → Type 0
 IsStep text x = (is_item x.0 ≡ true) × (text ≡ item_text x.0 ++ x.1)
 
 step_is : (text : List ℕ) (x y : Item × List ℕ) → Some x ≡ Some y → IsStep text x → IsStep text y
-step_is text x y e k = let same : x ≡ y = some_is x y e in subst (IsStep text) same k
+step_is text x y e k = let same : x ≡ y = same_Some x y e in subst (IsStep text) same k
 
 set_step : (c : ℕ) (after : List ℕ) (o : Parts) (x : Item × List ℕ) → c ≡ opening → set_at after ≡ o → option_map as_set o ≡ Some x → IsStep (c ∷ after) x
 set_step c after None x is s e = absurd (some_none x (sym e))
@@ -219,7 +196,7 @@ item_takes c after x e =
 -- an item that isn't read is an open set
 pub stuck_is_open : (c : ℕ) (after : List ℕ) → is_none (item_at c after) ≡ true → (c ≡ opening) × (never_closed after ≡ true)
 stuck_is_open c after e =
-    let none : item_at c after ≡ None = none_is (item_at c after) e in
+    let none : item_at c after ≡ None = is_none_true (item_at c after) e in
     elim (if_is (c == star) (Some (AnyRun, after)) _ None none) [
       | inl k ↦ absurd (some_none (AnyRun, after) k.1)
       | inr s ↦ elim (if_is (c == question) (Some (AnyOne, after)) _ None s.1) [
@@ -238,7 +215,7 @@ open_is_stuck rest e = rw (never_closed_open rest e) refl
 
 stuck_no_item : (text : List ℕ) (x : Item × List ℕ) → is_stuck text ≡ true → item_of text ≡ Some x → ⊥
 stuck_no_item [] x s e = some_none x (sym e)
-stuck_no_item (c ∷ cs) x s e = some_none x (sym e ∙ none_is (item_at c cs) s)
+stuck_no_item (c ∷ cs) x s e = some_none x (sym e ∙ is_none_true (item_at c cs) s)
 
 abbrev pub all_items : List Item → Bool
 all_items items = list_all is_item items
@@ -252,14 +229,14 @@ item_first i items rest e = ap item_of (append_assoc (item_text i) (flat_map ite
 pub one_reading : (a b : List Item) (r s : List ℕ) → all_items a ≡ true → all_items b ≡ true → is_stuck r ≡ true → is_stuck s ≡ true → text_of a r ≡ text_of b s → (a ≡ b) × (r ≡ s)
 one_reading [] [] r s ia ib sr ss e = (refl, e)
 one_reading [] (j ∷ b) r s ia ib sr ss e =
-    let k = and_is (is_item j) (all_items b) ib in absurd (stuck_no_item r (j, text_of b s) sr (ap item_of e ∙ item_first j b s k.0))
+    let k = and_parts (is_item j) (all_items b) ib in absurd (stuck_no_item r (j, text_of b s) sr (ap item_of e ∙ item_first j b s k.0))
 one_reading (i ∷ a) [] r s ia ib sr ss e =
-    let k = and_is (is_item i) (all_items a) ia in absurd (stuck_no_item s (i, text_of a r) ss (ap item_of (sym e) ∙ item_first i a r k.0))
+    let k = and_parts (is_item i) (all_items a) ia in absurd (stuck_no_item s (i, text_of a r) ss (ap item_of (sym e) ∙ item_first i a r k.0))
 one_reading (i ∷ a) (j ∷ b) r s ia ib sr ss e =
-    let k = and_is (is_item i) (all_items a) ia in
-    let m = and_is (is_item j) (all_items b) ib in
+    let k = and_parts (is_item i) (all_items a) ia in
+    let m = and_parts (is_item j) (all_items b) ib in
     let both : Some (i, text_of a r) ≡ Some (j, text_of b s) = sym (item_first i a r k.0) ∙ (ap item_of e ∙ item_first j b s m.0) in
-    let same : (i, text_of a r) ≡ (j, text_of b s) = some_is (i, text_of a r) (j, text_of b s) both in
+    let same : (i, text_of a r) ≡ (j, text_of b s) = same_Some (i, text_of a r) (j, text_of b s) both in
     let later = one_reading a b r s k.1 m.1 sr ss (ap (λ (x : Item × List ℕ). x.1) same) in
     (pair_up i j a b (ap (λ (x : Item × List ℕ). x.0) same) later.0, later.1)
 
@@ -267,12 +244,12 @@ one_reading (i ∷ a) (j ∷ b) r s ia ib sr ss e =
 
 pub glob_unique : (a b : List Item) (text : List ℕ) → IsGlob a text → IsGlob b text → a ≡ b
 glob_unique a b text ga gb =
-    (one_reading a b [] [] ga.items_are gb.items_are refl refl (append_nil (flat_map item_text a) ∙ (sym ga.spelled ∙ gb.spelled ∙ sym (append_nil (flat_map item_text b))))).0
+    (one_reading a b [] [] ga.items_are gb.items_are refl refl (append-nil (flat_map item_text a) ∙ (sym ga.spelled ∙ gb.spelled ∙ sym (append-nil (flat_map item_text b))))).0
 
 -- an open set beside a glob, and beside another
 pub open_or_glob : (a : List Item) (at : ℕ) (text : List ℕ) → IsGlob a text → HasOpenSet at text → ⊥
 open_or_glob a at text g h =
-    nil_or_cons h.rest (one_reading a h.front [] (opening ∷ h.rest) g.items_are h.items_are refl (open_is_stuck h.rest h.never_closed) (append_nil (flat_map item_text a) ∙ (sym g.spelled ∙ h.spelled))).1
+    nil_or_cons h.rest (one_reading a h.front [] (opening ∷ h.rest) g.items_are h.items_are refl (open_is_stuck h.rest h.never_closed) (append-nil (flat_map item_text a) ∙ (sym g.spelled ∙ h.spelled))).1
 
 pub open_once : (at other : ℕ) (text : List ℕ) → HasOpenSet at text → HasOpenSet other text → at ≡ other
 open_once at other text h k =
@@ -284,7 +261,7 @@ byte_len [] = refl
 byte_len (c ∷ cs) = sum_by-cons len_utf8 c cs ∙ (omega (arith, byte_len cs, length-encode c, length-append (encode c) (encode_utf8_all cs)))
 
 pub read_all : (items : List Item) (rest text : List ℕ) → Reads items rest text → length rest ≡ 0 → IsGlob items text
-read_all items rest text r e = record { items_are = r.items_are; spelled = r.spelled ∙ (ap (λ (w : List ℕ). flat_map item_text items ++ w) (nothing_left rest e) ∙ append_nil (flat_map item_text items)) }
+read_all items rest text r e = record { items_are = r.items_are; spelled = r.spelled ∙ (ap (λ (w : List ℕ). flat_map item_text items ++ w) (nil_by_length rest e) ∙ append-nil (flat_map item_text items)) }
 
 pub read_open : (items : List Item) (rest text : List ℕ) (at : ℕ) → Reads items rest text → 0 < length rest → at ≡ length (encode_utf8_all (flat_map item_text items)) → HasOpenSet at text
 read_open items [] text at r e p = absurd (omega (arith, e))
@@ -304,9 +281,6 @@ read_on items i c after next text all spelled e =
 pub only_memory : {X : Type 0} (view : X → List Item) (e : GlobFault) (text : List ℕ) → Tells view (Err e) text → (items : List Item) → IsGlob items text → e ≡ NoMemory
 only_memory view (OpenSet at) text told items g = absurd (open_or_glob items at text g told)
 only_memory view NoMemory text told items g = refl
-
-pub told_open : {X : Type 0} (view : X → List Item) (e : GlobFault) (text : List ℕ) (at : ℕ) → Tells view (Err e) text → e ≡ OpenSet at → HasOpenSet at text
-told_open view e text at told same = let k : Tells view (Err (OpenSet at)) text = subst (λ (f : GlobFault). Tells view (Err f) text) same told in k
 
 pub first_or_memory : {X : Type 0} (view : X → List Item) (e : GlobFault) (text : List ℕ) (at : ℕ) → Tells view (Err e) text → HasOpenSet at text → (e ≡ OpenSet at) ⊎ (e ≡ NoMemory)
 first_or_memory view (OpenSet b) text at told h = inl (ap (λ (n : ℕ). OpenSet n) (open_once b at text told h))

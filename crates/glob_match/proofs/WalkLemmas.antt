@@ -1,6 +1,7 @@
 -- The walk finds a cut exactly where there is one.
 use Rattle.std.proofs.Common.{◌≡◌, ℕ, ◌≤◌, ◌||◌, ◌&&◌, Bool, true, false, if◌then◌else◌, List, [], ◌∷◌, length, Option, Some, None, refl, sym, ap, subst, ◌∙◌, inl, inr, ◌⊎◌, arith}
-use Rattle.annex_base.proofs.Conditions.{by_test}
+use Rattle.std.proofs.lemmas.Bool.{or_right}
+use Rattle.annex_base.proofs.Conditions.{and_second, by_test}
 use Rattle.glob_match.specs.declared.item.Item.{Item}
 use Rattle.glob_match.specs.Glob.{is_run, takes, is_nothing, some_rest, first_and_rest, glob_matches}
 use Rattle.glob_match.specs.Walk.{char_at, segment_at, find_at, or_later}
@@ -23,14 +24,6 @@ Stops items (Some x) = (stops x.0 x.1 ≡ true) × (length x.0 ≤ length items)
 or_false : (b c : Bool) → (b || c) ≡ true → (b ≡ true) ⊎ (c ≡ true)
 or_false true c e = inl refl
 or_false false c e = inr e
-
-or_right : (b c : Bool) → c ≡ true → (b || c) ≡ true
-or_right true c e = refl
-or_right false c e = e
-
-and_right : (b c : Bool) → (b && c) ≡ true → c ≡ true
-and_right true c e = e
-and_right false c e = cc
 
 pub run_matches : (i : Item) (items : List Item) → is_run i ≡ true → glob_matches (i ∷ items) ≡ some_rest (glob_matches items)
 run_matches i items r = ap (λ (b : Bool). λ (text : List ℕ). if b then some_rest (glob_matches items) text else first_and_rest (takes i) (glob_matches items) text) r
@@ -81,12 +74,12 @@ rest_twice p (c ∷ cs) e =
 rest_past_first : (one : ℕ → Bool) (p : List ℕ → Bool) (c : ℕ) (cs : List ℕ) → some_rest (first_and_rest one p) (c ∷ cs) ≡ true → some_rest p cs ≡ true
 rest_past_first one p c [] e =
     elim (or_false (one c && p []) false e) [
-      | inl here ↦ and_right (one c) (p []) here
+      | inl here ↦ and_second (one c) (p []) here
       | inr later ↦ cc
     ]
 rest_past_first one p c (d ∷ ds) e =
     elim (or_false (one c && p (d ∷ ds)) (some_rest (first_and_rest one p) (d ∷ ds)) e) [
-      | inl here ↦ rest_from_whole p (d ∷ ds) (and_right (one c) (p (d ∷ ds)) here)
+      | inl here ↦ rest_from_whole p (d ∷ ds) (and_second (one c) (p (d ∷ ds)) here)
       | inr later ↦ or_right (p (d ∷ ds)) (some_rest p ds) (rest_past_first one p d ds later)
     ]
 

@@ -74,18 +74,18 @@ in_set (m ∷ members) c = if m == contrary then not (in_ranges members c) else 
 
 -- a part of a text fits an item: any part `*`, one character `?`, one character of the set `[..]`, and the
 -- character itself any other
-abbrev pub Fits : Item → List ℕ → Type 0
-Fits AnyRun part = Unit {0}
-Fits AnyOne part = length part ≡ 1
-Fits (OneOf members) part = (c : ℕ) × (part ≡ c ∷ []) × IsTrue (in_set members c)
-Fits (Only c) part = part ≡ c ∷ []
+abbrev pub FitsItem : Item → List ℕ → Type 0
+FitsItem AnyRun part = Unit {0}
+FitsItem AnyOne part = length part ≡ 1
+FitsItem (OneOf members) part = (c : ℕ) × (part ≡ c ∷ []) × IsTrue (in_set members c)
+FitsItem (Only c) part = part ≡ c ∷ []
 
 -- there are as many parts as items, and each fits its item
 abbrev pub FitEach : List Item → List (List ℕ) → Type 0
 FitEach [] [] = Unit {0}
 FitEach [] (part ∷ parts) = ⊥
 FitEach (i ∷ items) [] = ⊥
-FitEach (i ∷ items) (part ∷ parts) = Fits i part × FitEach items parts
+FitEach (i ∷ items) (part ∷ parts) = FitsItem i part × FitEach items parts
 
 -- a text matches where it can be cut into parts that fit the items
 pub record IsMatch (items : List Item) (text : List ℕ) : Type 0 where

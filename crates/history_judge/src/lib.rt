@@ -1,6 +1,4 @@
-//! A plain judge of the histories of repositories: it reads their entries one by one, and says of each whether the rules of local
-//! drops permit it after those before. It is slow and simple, and shares no code with the repositories that it judges but their
-//! plain data and the reading of a decimal number.
+//! A plain and slow judge of histories: it says of each entry whether the rules of local drops permit it after those before.
 #![tactic(auto)]
 
 mod copies;

@@ -1,7 +1,7 @@
 -- No two of the repositories have one identifier.
 use Rattle.std.proofs.Common.{◌≡◌, ◌≢◌, ◌<◌, ◌≤◌, ◌+◌, inl, inr, arith, ℕ, suc, Bool, true, false, not, ◌&&◌, List, [], ◌∷◌, length, get_or, drop, AllPairs, refl, sym, ap, ◌∙◌}
 use Rattle.std.specs.Prelude.{bytes_eq}
-use Rattle.std.proofs.lemmas.Bool.{cases_Bool, true≢false}
+use Rattle.std.proofs.lemmas.Bool.{and_parts, cases_Bool, not-true, true≢false}
 use Rattle.std.proofs.lemmas.List.{drop_all, drop_more}
 use Rattle.std.proofs.lemmas.List.Kept.{AllPairs-cons}
 use Rattle.annex_base.specs.Lists.{Each}
@@ -10,14 +10,6 @@ use Rattle.annex_base.proofs.Lists.{All-from_Each, Each-map, Member-map, Contain
 use Rattle.run_data.specs.declared.run.RepoView.{RepoView}
 use Rattle.joined_nodes.specs.Apart.{are_apart, is_among}
 use Rattle.joined_nodes.specs.Joined.{ids_of}
-
-both : (b c : Bool) → (b && c) ≡ true → (b ≡ true) × (c ≡ true)
-both true c is = (refl, is)
-both false c is = absurd (true≢false (sym is))
-
-was_false : (b : Bool) → not b ≡ true → b ≡ false
-was_false true is = absurd (true≢false (sym is))
-was_false false is = refl
 
 -- ---- as it is found
 
@@ -50,8 +42,8 @@ other_ids x xs none = Each-map (λ (b : List ℕ). x.id ≢ b) (λ (repo : RepoV
 pub apart_pairs : (repos : List RepoView) → are_apart repos ≡ true → AllPairs (λ a b. a ≢ b) (ids_of repos)
 apart_pairs [] is = λ i j d before within. absurd (omega (arith, within))
 apart_pairs (x ∷ xs) is =
-    let parts = both (not (is_among x.id xs)) (are_apart xs) is in
-    AllPairs-cons (λ (a b : List ℕ). a ≢ b) x.id (ids_of xs) (All-from_Each (λ (b : List ℕ). x.id ≢ b) (ids_of xs) (other_ids x xs (was_false (is_among x.id xs) parts.0))) (apart_pairs xs parts.1)
+    let parts = and_parts (not (is_among x.id xs)) (are_apart xs) is in
+    AllPairs-cons (λ (a b : List ℕ). a ≢ b) x.id (ids_of xs) (All-from_Each (λ (b : List ℕ). x.id ≢ b) (ids_of xs) (other_ids x xs (not-true (is_among x.id xs) parts.0))) (apart_pairs xs parts.1)
 
 rest_apart : (x : List ℕ) (xs : List (List ℕ)) → AllPairs (λ a b. a ≢ b) (x ∷ xs) → AllPairs (λ a b. a ≢ b) xs
 rest_apart x xs all = λ i j d before within. all (suc i) (suc j) d (omega (arith, before)) (omega (arith, within))

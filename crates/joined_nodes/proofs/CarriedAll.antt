@@ -1,5 +1,5 @@
 -- Frames are carried between one node and each other one.
-use Rattle.std.proofs.Common.{◌≡◌, ◌≢◌, ◌<◌, ◌+◌, ◌⊎◌, inl, inr, append-nil, arith, ℕ, not, List, Option, ◌++◌, Some, length, take, drop, get_or, refl, sym, ap, subst, ◌∙◌}
+use Rattle.std.proofs.Common.{◌≡◌, ◌≢◌, ◌<◌, ◌+◌, ◌⊎◌, inl, inr, append-nil, arith, ℕ, not, List, Option, ◌++◌, Some, length, take, drop, get_or, sym, ap, subst, ◌∙◌}
 use Rattle.std.specs.Prelude.{slice_get, ◌==◌}
 use Rattle.std.proofs.Math.Seq.{drop-length, take-length}
 use Rattle.std.proofs.lemmas.Bool.{cases_Bool}
@@ -10,7 +10,7 @@ use Rattle.node_ends.specs.Ends.{link_at}
 use Rattle.node_ends.specs.Joined.{AreCarried, end_with, link_carried}
 use Rattle.repo_node.specs.Nodes.{NodeView}
 use Rattle.joined_nodes.specs.Carrying.{AreCarriedTo, AreCarriedTwo, AreCarriedWith, IsCarried, LinksCarriedTo}
-use Rattle.joined_nodes.specs.Joined.{AreAllCarried, AreNodes, with_links}
+use Rattle.joined_nodes.specs.Joined.{with_links}
 
 pub two_turned : {K : Type 0} (i j : ℕ) (was now : List (NodeView K)) → AreCarriedTwo i j was now → AreCarriedTwo j i was now
 two_turned i j was now so = record {
@@ -25,20 +25,6 @@ same_or_other m n = elim (cases_Bool (m == n)) [
   | inl is ↦ inl (grind (arith, nat_tests))
   | inr isn't ↦ inr (grind (arith, nat_tests))
 ]
-
--- ---- none is done
-
-pub none_carried : {K : Type 0} (repo : ℕ) (nodes : List (NodeView K)) → AreNodes nodes → AreCarriedTo 0 repo nodes nodes
-none_carried {K} repo nodes all = record {
-  count = refl;
-  rest = λ a x at_a at_x. same_node a x at_a at_x (λ y. y ≡ with_links a y.parts.links) refl;
-  links = λ a x at_a at_x. same_node a x at_a at_x (λ y. LinksCarriedTo 0 repo nodes a.parts.links y.parts.links) (record { count = refl; carried = λ i z below. absurd (omega (arith, below)); others = λ z h. refl });
-  done = λ i a b y below. absurd (omega (arith, below));
-  later = λ i from other. refl;
-  nodes = all;
-} where
-  same_node : (a x : NodeView K) → slice_get nodes repo ≡ Some a → slice_get nodes repo ≡ Some x → (P : NodeView K → Type 0) → P a → P x
-  same_node a x at_a at_x P p = subst P (same_Some a x (sym at_a ∙ at_x)) p
 
 -- ---- one more is done
 
@@ -126,13 +112,6 @@ one_more {K} n repo was mid now in_repo in_n so with = elim (same_or_other n rep
     }
 
 -- ---- all are done
-
-pub all_carried : {K : Type 0} (repo : ℕ) (was : List (NodeView K)) (a x : NodeView K) → LinksCarriedTo (length was) repo was a.parts.links x.parts.links → AreAllCarried repo was a.parts.links x.parts.links
-all_carried repo was a x so = record {
-  count = so.count;
-  carried = λ i n other at. so.carried i n (slice_get_within was i n at) other at;
-  others = so.others;
-}
 
 -- what was carried, as the slice of a list is written back
 pub written : {X : Type 0} (xs ys : List X) (n : ℕ) → n ≡ length xs → length ys ≡ length xs → take n (ys ++ drop (length ys) xs) ≡ ys

@@ -61,11 +61,6 @@ refused_keeps by refusals.StoreFault call was now h = subst (λ n. Keeps was n) 
 refused_keeps by (refusals.BadBundle at) call was now h = absurd h
 refused_keeps by refusals.NoMemory call was now h = subst (λ n. Keeps was n) (sym h) (record { setup = refl; links = refl })
 
--- an answer that keeps them, whichever it is
-pub answer_keeps : {K T E : Type 0} (r : Result T E) (was now : NodeView K) → OnOk r (Keeps was now) → OnErr r (Keeps was now) → Keeps was now
-answer_keeps (Ok x) was now ok err = ok
-answer_keeps (Err e) was now ok err = err
-
 -- ---- lines
 
 log_keeps : {K : Type 0} (n : NodeView K) (keeper : K) (file : LogFile) (lines : List (List ℕ)) → Keeps n (with_log n keeper file lines)

@@ -3,7 +3,7 @@ use Rattle.std.proofs.Common.{◌≡◌, ◌≢◌, ◌<◌, ◌≤◌, ◌+◌,
 use Rattle.std.specs.Prelude.{slice_get, option_map}
 use Rattle.std.proofs.lemmas.List.{length-append}
 use Rattle.std.proofs.lemmas.Option.{same_Some, none-some, slice_get-get_or, slice_get-map, slice_get_within}
-use Rattle.annex_base.proofs.Lists.{Each-get_or}
+use Rattle.annex_base.proofs.Lists.{Each-get_or, slice_get-within}
 use Rattle.run_data.specs.declared.run.RepoView.{RepoView}
 use Rattle.repo_node.specs.declared.setup.Setup.{Setup}
 use Rattle.link_ring.specs.Ends.{fresh}
@@ -14,11 +14,6 @@ use Rattle.joined_nodes.specs.Making.{AddsNew, AreNewSoFar}
 use Rattle.joined_nodes.specs.Joined.{AreNew, AreNodes, IsNew, MayRun, ids_of, setup_of}
 
 -- ---- how one is set up
-
-at_some : {X : Type 0} (xs : List X) (i : ℕ) → i < length xs → (x : X) × (slice_get xs i ≡ Some x)
-at_some [] i low = absurd (omega (arith, low))
-at_some (x ∷ xs) zero low = (x, refl)
-at_some (x ∷ xs) (suc i) low = at_some xs i (omega (arith, low))
 
 ids_count : (repos : List RepoView) → length (ids_of repos) ≡ length repos
 ids_count [] = refl
@@ -36,7 +31,7 @@ pub record Suits (most : ℕ) (setup : Setup) : Type 0 where
 
 pub suits : (repos : List RepoView) (i : ℕ) (setup : Setup) → MayRun repos → i < length repos → ((repo : RepoView) → slice_get repos i ≡ Some repo → setup ≡ setup_of (ids_of repos) i repo) → Suits (length repos) setup
 suits repos i setup may low is =
-    let found = at_some repos i low in
+    let found = slice_get-within repos i low in
     let repo = found.0 in
     let fits : IsSetUp repo = subst IsSetUp (same_Some (get_or repos i repo) repo (sym (slice_get-get_or repos i repo low) ∙ found.1)) (Each-get_or IsSetUp repos i repo low may.each) in
     subst (Suits (length repos)) (sym (is repo found.1)) (record {
@@ -60,12 +55,6 @@ last_or (z ∷ xs) x y (suc i) at = elim (last_or xs x y i at) [
   | inl h ↦ inl (ap suc h.0, h.1)
   | inr h ↦ inr (omega (arith, h.0), h.1)
 ]
-
-pub none_new : {K : Type 0} (repos : List RepoView) (nodes : List (NodeView K)) → nodes ≡ [] → AreNewSoFar repos [] nodes
-none_new repos nodes none = record {
-  count = ap length none;
-  each = λ i repo keeper n at_repo at_keeper at. absurd (none-some keeper at_keeper);
-}
 
 pub one_new : {K : Type 0} (repos : List RepoView) (keepers : List K) (keeper : K) (was now : List (NodeView K)) → AreNewSoFar repos keepers was → AddsNew repos keeper was now → AreNewSoFar repos (keepers ++ keeper ∷ []) now
 one_new {K} repos keepers keeper was now so adds = record {
@@ -116,10 +105,10 @@ new_nodes law {K} repos keepers nodes same new = record {
   in_repos i n at = let low : i < length nodes = slice_get_within nodes i n at in omega (arith, low, new.count)
 
   repo_at : (i : ℕ) → i < length repos → (repo : RepoView) × (slice_get repos i ≡ Some repo)
-  repo_at i low = at_some repos i low
+  repo_at i low = slice_get-within repos i low
 
   keeper_at : (i : ℕ) → i < length keepers → (keeper : K) × (slice_get keepers i ≡ Some keeper)
-  keeper_at i low = at_some keepers i low
+  keeper_at i low = slice_get-within keepers i low
 
   is_new : (i : ℕ) (n : NodeView K) (at : slice_get nodes i ≡ Some n) → IsNew (setup_of (ids_of repos) i (repo_at i (in_repos i n at)).0) (keeper_at i (omega (arith, in_repos i n at, same))).0 n
   is_new i n at =

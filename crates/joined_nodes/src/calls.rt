@@ -22,7 +22,7 @@ ghost use Rattle.repo_node.specs.Calls.{IsDoneBy, Makes, MeetsFull, MeetsFullBeh
 ghost use Rattle.content_lock.specs.CallsMade.{fewer};
 ghost use Rattle.repo_node.specs.Debts.{failed_put};
 ghost use Rattle.repo_node.specs.Logs.{IsLogOf, log_of, stamped_by, with_lines};
-ghost use Rattle.repo_node.specs.Nodes.{Fits, NodeView, told_of, with_entry};
+ghost use Rattle.repo_node.specs.Nodes.{MatchesSetup, NodeView, told_of, with_entry};
 ghost use Rattle.repo_node.specs.Placing.{IsPlaced, IsTaken, PartAfter, StopsBefore, StopsPlacing};
 ghost use Rattle.repo_node.specs.Refusals.{RefusesSo};
 ghost use Rattle.run_data.specs.Histories.{most_entries};
@@ -81,9 +81,9 @@ impl<K: Keeper> Nodes<K> {
         requires there { repo < length self.old }
         ensures moved { AtNode repo self.old self.new (λ was now. result ≡ Turn.Moved → Adds (map after_drop was.parts.links) (store_view (K.contents was.keeper) (K.parts was.keeper) (K.failing was.keeper) (K.faults was.keeper)) (store_view (K.contents now.keeper) (K.parts now.keeper) (K.failing now.keeper) (K.faults now.keeper)) was now) }
         ensures step { AtNode repo self.old self.new (λ was now. result ≡ Turn.Moved → ForSome (told_of (K.contents was.keeper) (K.parts was.keeper)) (λ c. StepsBy step step_calls (store_view (K.contents was.keeper) (K.parts was.keeper) (K.failing was.keeper) (K.faults was.keeper)) (store_view (K.contents now.keeper) (K.parts now.keeper) (K.failing now.keeper) (K.faults now.keeper)) was now)) }
-        ensures idle { AtNode repo self.old self.new (λ was now. result ≡ Turn.Idle → ForSome (told_of (K.contents was.keeper) (K.parts was.keeper)) (λ c. (s : SetUp) → Fits was.setup s → IsIdle was s)) }
+        ensures idle { AtNode repo self.old self.new (λ was now. result ≡ Turn.Idle → ForSome (told_of (K.contents was.keeper) (K.parts was.keeper)) (λ c. (s : SetUp) → MatchesSetup was.setup s → IsIdle was s)) }
         ensures full { AtNode repo self.old self.new (λ was now. result ≡ Turn.Full → length was.history ≡ most_entries) }
-        ensures ready { AtNode repo self.old self.new (λ was now. result ≡ Turn.Full → ForSome (told_of (K.contents was.keeper) (K.parts was.keeper)) (λ c. (s : SetUp) → Fits was.setup s → HasStep was s)) }
+        ensures ready { AtNode repo self.old self.new (λ was now. result ≡ Turn.Full → ForSome (told_of (K.contents was.keeper) (K.parts was.keeper)) (λ c. (s : SetUp) → MatchesSetup was.setup s → HasStep was s)) }
         ensures stays { AtNode repo self.old self.new (λ was now. result ≢ Turn.Moved → now ≡ record was { keeper = now.keeper; parts = record was.parts { links = map after_drop was.parts.links } }) }
         ensures unasked { AtNode repo self.old self.new (λ was now. result ≢ Turn.Moved → result ≢ Turn.NoMemory → now.keeper ≡ was.keeper) }
         ensures short { AtNode repo self.old self.new (λ was now. result ≡ Turn.NoMemory → TellsSame (K.contents was.keeper) (K.contents now.keeper) (K.parts was.keeper) (K.parts now.keeper) (K.records was.keeper) (K.records now.keeper) (K.files was.keeper) (K.files now.keeper) (K.failing was.keeper) (K.failing now.keeper)) }

@@ -19,7 +19,7 @@ use Rattle.hex.specs.Hex.{encode_with, lower_digits, encode_lower}
 use Rattle.hex.proofs.HexLemmas.{length-encode_with}
 use Rattle.sha2.specs.Sha256.{sha256}
 use Rattle.sha2.proofs.Facts256.{length-sha256}
-use Rattle.annex_key.specs.KeyText.{IsKey, IsKeyText, IsName, key_text, is_digest_backend}
+use Rattle.annex_key.specs.KeyText.{IsKey, IsName, is_digest_backend}
 use Rattle.annex_key.specs.View.{backend_part, size_part, name_part}
 use Rattle.key_verify.specs.declared.method.Method.{Method}
 use Rattle.key_verify.specs.declared.method.Method.TheVariants as methods
@@ -116,9 +116,6 @@ made_key-is path bytes small =
     let digits : length (decimal (length bytes)) ≤ 20 = length-decimal-le 20 (length bytes) (omega arith) (omega (arith, small)) small in
     let whole : length (decimal (length bytes) ++ (45 ∷ 45 ∷ name_of path bytes)) ≡ length (decimal (length bytes)) + length (45 ∷ 45 ∷ name_of path bytes) = length-append (decimal (length bytes)) (45 ∷ 45 ∷ name_of path bytes) in
     record { backend = refl; size = small; mtime = tt; chunk = tt; some_name = long.0; name = name_is path bytes; short = omega (arith, whole, digits, long.1) }
-
-pub made_text-is : (path bytes : List ℕ) → length bytes < 2 ^ 64 → IsKeyText (key_text (made_key path bytes))
-made_text-is path bytes small = record { parts = made_key path bytes; key = made_key-is path bytes small; spelled = refl }
 
 -- ---- its content
 

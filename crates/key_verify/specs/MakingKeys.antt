@@ -5,7 +5,7 @@ use Rattle.std.specs.List.{after_last, list_all}
 use Rattle.annex_base.specs.Lines.{slash}
 use Rattle.hex.specs.Hex.{encode_lower}
 use Rattle.sha2.specs.Sha256.{sha256}
-use Rattle.annex_key.specs.KeyText.{Parts}
+use Rattle.annex_key.specs.KeyText.{KeyParts}
 
 abbrev pub dot : ℕ
 dot = 46
@@ -31,7 +31,7 @@ abbrev pub extension_of : List ℕ → List ℕ
 extension_of path = with_dot (extension_word path)
 
 -- the SHA256E key of a content of this size and this SHA-256 digest
-abbrev pub key_with : List ℕ → ℕ → List ℕ → Parts
+abbrev pub key_with : List ℕ → ℕ → List ℕ → KeyParts
 key_with path size digest = record {
   backend = codes "SHA256E";
   size = Some size;
@@ -41,5 +41,5 @@ key_with path size digest = record {
 }
 
 -- the SHA256E key of a content
-abbrev pub made_key : List ℕ → List ℕ → Parts
+abbrev pub made_key : List ℕ → List ℕ → KeyParts
 made_key path bytes = key_with path (length bytes) (sha256 bytes)

@@ -1,7 +1,7 @@
 -- What a step says of the job that makes it: it takes a frame of its partner, at its end of their connection, and removes nothing but
 -- its own content.
-use Rattle.std.proofs.Common.{◌≡◌, ◌⊎◌, inl, inr, ℕ, Bool, true, false, List, [], ◌∷◌, ◌++◌, Option, Some, None, refl, sym, ap, ◌∙◌, subst, true≢false}
-use Rattle.std.specs.Prelude.{◌==◌, find, flat_map, if◌then◌else◌}
+use Rattle.std.proofs.Common.{◌≡◌, ◌⊎◌, inl, inr, ℕ, true, false, List, [], ◌∷◌, Option, Some, None, refl, sym, ap, ◌∙◌, subst}
+use Rattle.std.specs.Prelude.{◌==◌, flat_map}
 use Rattle.std.specs.Option.{option_and_then, option_map, option_to_list}
 use Rattle.annex_base.specs.Lists.{Member}
 use Rattle.annex_base.proofs.Lists.{Member-append_cases, find_member}
@@ -10,56 +10,39 @@ use Rattle.link_ring.specs.declared.frame.Frame.{Frame}
 use Rattle.link_ring.specs.Ends.{EndView, next_frame}
 use Rattle.run_data.specs.declared.entry.By.{By}
 use Rattle.run_data.specs.declared.entry.EntryKind.{EntryKind}
-use Rattle.run_data.specs.declared.entry.EntryKind.TheVariants.{Bar, Begin, Check, Close, Crash, Fault, Gain, Gone, Log, Order, Release, Share, Talk, End as ends_job}
+use Rattle.run_data.specs.declared.entry.EntryKind.TheVariants.{Begin, Gone}
 use Rattle.run_data.specs.declared.entry.FrameText.{FrameText}
 use Rattle.run_data.specs.declared.entry.FrameView.{FrameView}
 use Rattle.p2p_wire.specs.declared.message.Message.{Message}
 use Rattle.node_model.specs.AnyTime.{all_ends}
 use Rattle.node_model.specs.Ends.{EndName, takes_at}
-use Rattle.node_model.specs.Found.{ByJob, ByOwed, BySession, JobKind, JobTakes, SessionKind, StepFound}
+use Rattle.node_model.specs.Found.{ByJob, BySession, IsJobEntry, JobTakes, IsSessionEntry, StepFound}
 use Rattle.node_model.specs.Jobs.{Work, job_end, partner, side_of}
 use Rattle.node_model.specs.JobStep.{Turn, turn_of}
 use Rattle.node_model.specs.Look.{Look, Made}
-use Rattle.node_model.specs.SessionStep.{Here, here}
+use Rattle.node_model.specs.SessionStep.{Here}
 use Rattle.node_model.specs.Sessions.{Doing}
 use Rattle.node_model.specs.SetUp.{SetUp}
 use Rattle.node_model.specs.Slots.{is_begin, job_of}
 use Rattle.node_model.specs.State.{State}
 use Rattle.node_model.specs.Step.{step}
+use Rattle.node_model.specs.Turns
+use Rattle.node_model.specs.Turns.{is_awaiting, takes_frame}
 use Rattle.node_ends.specs.Ends.{frame_at, hand_at, link_at}
 use Rattle.race_core.specs.Jobs.{AreJobs}
 use Rattle.link_flights.proofs.Naming.{end_own, takes_end}
 
--- as race_core has it
-abbrev pub StepsFind : Type 0
-StepsFind = (s : SetUp) (st : State) (k : Look) (m : Made) → step s st k ≡ Some m → StepFound s st k m
+-- as race_core has it: what steps found, what they take, and whose entries they make
+pub record StepLaws : Type 0 where
+  pub finds : (s : SetUp) (st : State) (k : Look) (m : Made) → step s st k ≡ Some m → StepFound s st k m
+  pub at_hand : (s : SetUp) (st : State) (k : Look) (m : Made) (f : FrameView) → step s st k ≡ Some m → m.taken ≡ Some f → Member f k.at_hand
+  pub goes : (t : Turn) → (partner t.w.what.peer t.w.phase ≡ None) ⊎ (is_awaiting t.w.phase ≡ false) → (Turns.goes t t.w.phase).taken ≡ None
+  pub takes : (t : Turn) (peer : ℕ) (f : FrameView) → partner t.w.what.peer t.w.phase ≡ Some peer → (takes_frame t peer f f.body).taken ≡ Some f
+  pub session : (s : SetUp) (st : State) (k : Look) (m : Made) → BySession s st k m → job_of m.kind ≡ None
+  pub job : (s : SetUp) (st : State) (k : Look) (m : Made) (x : ByJob s st k m) → job_of m.kind ≡ Some x.w.number
 
--- ---- whose entry it is
-
-pub session_none : (h : Here) (doing : Doing) (asked : Option Message) (says : List FrameText) (kind : EntryKind) → SessionKind h doing asked says kind → job_of kind ≡ None
-session_none h doing asked says (Share hold end by key) x = ap (λ (b : By). job_of (Share hold end b key)) x.by_is
-session_none h doing asked says (Check what key) x = refl
-session_none h doing asked says (Gone by key) x = ap (λ (b : By). job_of (Gone b key)) x.by_is
-session_none h doing asked says (Release hold key) x = refl
-session_none h doing asked says (Gain by size key) x = ap (λ (b : By). job_of (Gain b size key)) x.by_is
-session_none h doing asked says (Talk None) x = refl
-session_none h doing asked says (Close peer slot client) x = refl
-session_none h doing asked says (Fault call by) x = ap (λ (b : By). job_of (Fault call b)) x.0
-session_none h doing asked says kind x = absurd x
-
-pub job_number : (t : Turn) (m : Made) (kind : EntryKind) → JobKind t m kind → job_of kind ≡ Some t.w.number
-job_number t m (Share hold end by key) x = ap (λ (b : By). job_of (Share hold end b key)) x.by_is
-job_number t m (Bar j need key) x = ap Some x.number_is
-job_number t m (Gone by key) x = ap (λ (b : By). job_of (Gone b key)) x.by_is
-job_number t m (Order j peer deadline need key) x = ap Some x.number_is
-job_number t m (Gain by size key) x = ap (λ (b : By). job_of (Gain b size key)) x.by_is
-job_number t m (ends_job j outcome) x = ap Some x.number_is
-job_number t m (Talk (Some j)) x = ap Some x.0
-job_number t m (Fault call by) x = ap (λ (b : By). job_of (Fault call b)) x.0
-job_number t m kind x = absurd x
-
-removes_local : (t : Turn) (m : Made) (kind : EntryKind) → JobKind t m kind → (by : By) (key : List ℕ) → kind ≡ Gone by key → side_of t.w ≡ Local
-removes_local t m kind x by key is = let y = subst (JobKind t m) is x in y.side
+removes_local : (t : Turn) (m : Made) (kind : EntryKind) → IsJobEntry t m kind → (by : By) (key : List ℕ) → kind ≡ Gone by key → side_of t.w ≡ Local
+removes_local t m kind x by key is = let y = subst (IsJobEntry t m) is x in y.side
 
 -- what it says of the job
 pub record Acts (w : Work) (m : Made) : Type 0 where
@@ -73,8 +56,8 @@ job_acts s st k m x = record { local = removes_local (turn_of s st k x.w) m m.ki
     go (inl none) f is = absurd (let no' : None ≡ Some f = sym none ∙ is in cc)
     go (inr y) f is = let one : Some y.f ≡ Some f = sym y.taken_is ∙ is in let same : y.f ≡ f = cc in (y.peer, y.partner_is, subst (λ (g : FrameView). takes_at (job_end x.w y.peer) g ≡ true) same y.of_end)
 
-pub acts : StepsFind → (s : SetUp) (st : State) (k : Look) (m : Made) → step s st k ≡ Some m → AreJobs st.works → (w : Work) → Member w st.works → job_of m.kind ≡ Some w.number → Acts w m
-acts finds s st k m makes jobs w there number = go (finds s st k m makes)
+pub acts : StepLaws → (s : SetUp) (st : State) (k : Look) (m : Made) → step s st k ≡ Some m → AreJobs st.works → (w : Work) → Member w st.works → job_of m.kind ≡ Some w.number → Acts w m
+acts laws s st k m makes jobs w there number = go (laws.finds s st k m makes)
   where
     go : StepFound s st k m → Acts w m
     go (inl x) = elim (x.writes) [
@@ -84,22 +67,22 @@ acts finds s st k m makes jobs w there number = go (finds s st k m makes)
         takes = λ f is. absurd (let no' = sym (ap (λ (z : Made). z.taken) y) ∙ is in cc);
       }
     ]
-    go (inr (inl x)) = absurd (let no' : None ≡ Some w.number = sym (session_none _ _ _ _ m.kind x.found) ∙ number in cc)
+    go (inr (inl x)) = absurd (let no' : None ≡ Some w.number = sym (laws.session s st k m x) ∙ number in cc)
     go (inr (inr x)) =
-        let one : Some x.w.number ≡ Some w.number = sym (job_number (turn_of s st k x.w) m m.kind x.found) ∙ number in
+        let one : Some x.w.number ≡ Some w.number = sym (laws.job s st k m x) ∙ number in
         let numbers : x.w.number ≡ w.number = cc in
         let same : x.w ≡ w = jobs.apart x.w w (find_member (λ (w : Work). w.slot == x.slot) st.works x.w x.runs).0 there numbers in
         subst (λ (v : Work). Acts v m) same (job_acts s st k m x)
 
 -- a step begins no job, and is no crash
-pub steps_begin_none : StepsFind → (s : SetUp) (st : State) (k : Look) (m : Made) → step s st k ≡ Some m → is_begin m.kind ≡ false
-steps_begin_none finds s st k m makes = go (finds s st k m makes)
+pub steps_begin_none : StepLaws → (s : SetUp) (st : State) (k : Look) (m : Made) → step s st k ≡ Some m → is_begin m.kind ≡ false
+steps_begin_none laws s st k m makes = go (laws.finds s st k m makes)
   where
-    session : (h : Here) (doing : Doing) (asked : Option Message) (says : List FrameText) (kind : EntryKind) → SessionKind h doing asked says kind → is_begin kind ≡ false
+    session : (h : Here) (doing : Doing) (asked : Option Message) (says : List FrameText) (kind : EntryKind) → IsSessionEntry h doing asked says kind → is_begin kind ≡ false
     session h doing asked says (Begin job what) x = absurd x
     session h doing asked says kind x = refl
 
-    job : (t : Turn) (kind : EntryKind) → JobKind t m kind → is_begin kind ≡ false
+    job : (t : Turn) (kind : EntryKind) → IsJobEntry t m kind → is_begin kind ≡ false
     job t (Begin j what) x = absurd x
     job t kind x = refl
 

@@ -1,15 +1,14 @@
 -- A job that takes an answer whose word it keeps isn't as it was.
 use Rattle.std.proofs.Common.{◌≡◌, ◌⊎◌, inl, inr, ℕ, Bool, true, false, List, [], ◌∷◌, Option, Some, None, refl, sym, ap, ◌∙◌, subst, true≢false}
-use Rattle.std.specs.Prelude.{◌==◌, find, fold, if◌then◌else◌}
+use Rattle.std.specs.Prelude.{◌==◌, ◌&&◌, find, fold, if◌then◌else◌}
 use Rattle.std.specs.List.{list_all}
-use Rattle.std.proofs.lemmas.Bool.{eqb-true}
-use Rattle.annex_base.proofs.Conditions.{eqb_refl, if_either}
+use Rattle.std.proofs.lemmas.Bool.{and_parts, eqb-true}
+use Rattle.annex_base.proofs.Conditions.{eqb_refl, if_either, if_turned}
 use Rattle.annex_base.proofs.Lists.{find_member}
 use Rattle.annex_base.specs.Lists.{Member}
 use Rattle.annex_base.specs.declared.kinds.Call.{Call}
 use Rattle.annex_base.specs.declared.kinds.Call.TheVariants.{PutFile}
 use Rattle.run_data.specs.declared.entry.Entry.{Entry}
-use Rattle.run_data.specs.declared.entry.EntryKind.{EntryKind}
 use Rattle.run_data.specs.declared.entry.EntryKind.TheVariants.{Fault, Log, Talk}
 use Rattle.run_data.specs.declared.entry.FrameText.{FrameText}
 use Rattle.run_data.specs.declared.entry.FrameText.TheVariants.{Bytes, Closing, Line, Opening}
@@ -23,28 +22,26 @@ use Rattle.p2p_wire.specs.declared.message.Message.TheVariants.{Failure, Success
 use Rattle.p2p_wire.specs.Messages.{message_of}
 use Rattle.run_model.specs.Past.{is_of}
 use Rattle.run_model.specs.States.{rows_at, state_of, works}
-use Rattle.node_model.specs.Ends.{End, EndName, end_after, end_sends, end_takes, end_took, frames, sent_at, server_end, taken_at, takes_at}
+use Rattle.node_model.specs.Ends.{End, EndName, end_after, end_sends, end_takes, end_took, frames, may_take, sent_at, server_end, taken_at, takes_at}
 use Rattle.node_model.specs.Found.{ByJob, JobTakes, StepFound}
 use Rattle.node_model.specs.Jobs
-use Rattle.node_model.specs.Jobs.{AsksLook, Drops, Gets, Orders, Part, Phase, Puts, Rows, Work, claims, closed_part, hears_frame, job_end, learns, listens, partner, target_of, took, took_line, talks, talks_on, work_after, work_kind, works_after}
+use Rattle.node_model.specs.Jobs.{AsksLook, Drops, Gets, Orders, Part, Phase, Puts, RowsAndEnds, Work, claims, closed_part, hears_frame, job_end, learns, listens, partner, target_of, after_frame, after_line, talks, talks_on, work_after, work_kind, works_after}
 use Rattle.node_model.specs.JobStep.{Turn, end_with, hears, quietly, talk, turn_of, wrong}
-use Rattle.node_model.specs.Look.{Look, Made, failing, first_of, unless, waiting}
+use Rattle.node_model.specs.Look.{Look, Made, failing, first_of, first_some, unless, waiting}
 use Rattle.node_model.specs.Owed.{Owed, due}
 use Rattle.node_model.specs.OwedStep.{owed_step, pays_first}
 use Rattle.node_model.specs.Rows.{option_is}
 use Rattle.node_model.specs.SessionStep.{Reply, gives_made, gives_next, here, on_frame, reply_made, session_at, session_makes, session_step}
 use Rattle.node_model.specs.Sessions.{line_in}
 use Rattle.node_model.specs.SetUp.{SetUp, served_connections, slots}
-use Rattle.node_model.specs.Slots.{Running, is_begin, job_of}
+use Rattle.node_model.specs.Slots.{RunningJob, is_begin, job_of}
 use Rattle.node_model.specs.State.{State}
 use Rattle.node_model.specs.Step.{step}
 use Rattle.node_model.specs.Turns.{awaits, by_partner, goes, goes_on, has_room, is_awaiting, job_step, needs, slot_step, takes, takes_answer, takes_frame, takes_text, with_partner}
 use Rattle.race_core.specs.Jobs.{AreJobs, TakesAnswer, keeps_word}
-use Rattle.link_flights.proofs.ActingJobs.{StepsFind, job_number, session_none, steps_begin_none}
-use Rattle.link_flights.proofs.JobMade.{frame_made, goes_made}
+use Rattle.link_flights.proofs.ActingJobs.{StepLaws, steps_begin_none}
 use Rattle.link_flights.proofs.JobMoves.{claims_like, learns_like}
 use Rattle.link_flights.proofs.Naming.{same_self, takes_end}
-use Rattle.link_flights.proofs.Stepped.{first_was, some_was, step_orderly, waits}
 use Rattle.link_flights.proofs.WordsHeard.{came_of, keeps_none, own_works}
 
 none_some : {A : Type 0} {X : Type 0} (o : Option X) (x : X) → o ≡ None → o ≡ Some x → A
@@ -54,9 +51,23 @@ goes_up : (b : Bool) → (if b then false else true) ≡ false → b ≡ true
 goes_up true e = refl
 goes_up false e = absurd (true≢false e)
 
-goes_down : (b : Bool) → (if b then false else true) ≡ true → b ≡ false
-goes_down true e = absurd (true≢false (sym e))
-goes_down false e = refl
+-- ---- cases of what a step may be
+
+first_was : {X : Type 0} (x y : Option X) (z : X) → first_of x y ≡ Some z → (x ≡ Some z) ⊎ (y ≡ Some z)
+first_was None y z e = inr e
+first_was (Some x) y z e = inl e
+
+some_was : {X Y : Type 0} (f : X → Option Y) (xs : List X) (y : Y) → first_some f xs ≡ Some y → (x : X) × (f x ≡ Some y)
+some_was f [] y e = absurd (cc)
+some_was {X = X} {Y = Y} f (x ∷ xs) y e = go (λ g. some_was f xs y g) (f x) refl e
+  where
+    go : (first_some f xs ≡ Some y → (z : X) × (f z ≡ Some y)) → (o : Option Y) → f x ≡ o → first_some f (x ∷ xs) ≡ Some y → (z : X) × (f z ≡ Some y)
+    go more None is g = more (rw is at g)
+    go more (Some z) is g = (x, is ∙ (rw is at g))
+
+-- a frame that waits comes to the end
+waits_at : (c : End) (k : Look) (a : EndName) (f : FrameView) → waiting c k a ≡ Some f → takes_at a f ≡ true
+waits_at c k a f e = (and_parts (takes_at a f) (may_take c f) (find_member (λ g. takes_at a g && may_take c g) k.at_hand f e).1).0
 
 -- ---- the step that takes a frame
 
@@ -80,17 +91,17 @@ owed_none s st k m (o ∷ os) e = go (failing k.fails (PutFile ∷ [])) e
     go None g = let same : record { kind = Log (Location o.key); taken = None; sent = []; lines = due s.repos st.lines (st.wall k.time) o } ≡ m = cc in sym (ap (λ (z : Made). z.taken) same)
     go (Some call) g = let same : record { kind = Fault call o.by; taken = None; sent = []; lines = [] } ≡ m = cc in sym (ap (λ (z : Made). z.taken) same)
 
-module _ (s : SetUp) (st : State) (k : Look) (m : Made) (f : FrameView) (took : m.taken ≡ Some f) where
+module _ (laws : StepLaws) (s : SetUp) (st : State) (k : Look) (m : Made) (f : FrameView) (took : m.taken ≡ Some f) where
   module _ (slot : ℕ) (w : Work) (runs : find (λ w. w.slot == slot) st.works ≡ Some w) where
     abbrev t : Turn
     t = turn_of s st k w
 
-    on_none : goes_on (turn_of s st k w) ≡ Some m → m.taken ≡ None
-    on_none e = go (list_all (has_room t) (needs t w.phase)) e
+    on_none : (partner w.what.peer w.phase ≡ None) ⊎ (is_awaiting w.phase ≡ false) → goes_on (turn_of s st k w) ≡ Some m → m.taken ≡ None
+    on_none free e = go (list_all (has_room t) (needs t w.phase)) e
       where
         go : (b : Bool) → (if b then Some (goes (turn_of s st k w) w.phase) else None) ≡ Some m → m.taken ≡ None
         go false h = absurd (cc)
-        go true h = let same : goes (turn_of s st k w) w.phase ≡ m = cc in subst (λ (z : Made). z.taken ≡ None) same (goes_made (turn_of s st k w) w.phase).taken
+        go true h = let same : goes (turn_of s st k w) w.phase ≡ m = cc in subst (λ (z : Made). z.taken ≡ None) same (laws.goes (turn_of s st k w) free)
 
     awaits_took : (peer : ℕ) → partner w.what.peer w.phase ≡ Some peer → (o : Option FrameView) → waiting (end_with (turn_of s st k w) peer) k (job_end w peer) ≡ o
         → awaits (turn_of s st k w) peer o ≡ Some m → TookBy s st k m f
@@ -101,7 +112,7 @@ module _ (s : SetUp) (st : State) (k : Look) (m : Made) (f : FrameView) (took : 
         go false h = absurd (cc)
         go true h =
             let made : takes_frame (turn_of s st k w) peer g g.body ≡ m = cc in
-            let one : Some g ≡ Some f = sym (frame_made (turn_of s st k w) g peer g.body).taken ∙ ap (λ (z : Made). z.taken) made ∙ took in
+            let one : Some g ≡ Some f = sym (laws.takes (turn_of s st k w) peer g on) ∙ ap (λ (z : Made). z.taken) made ∙ took in
             let same : g ≡ f = cc in
             record {
               w = w;
@@ -109,24 +120,24 @@ module _ (s : SetUp) (st : State) (k : Look) (m : Made) (f : FrameView) (took : 
               runs = runs;
               peer = peer;
               on = on;
-              of_end = subst (λ (h : FrameView). takes_at (job_end w peer) h ≡ true) same (waits (end_with (turn_of s st k w) peer) k (job_end w peer) g i).comes;
+              of_end = subst (λ (h : FrameView). takes_at (job_end w peer) h ≡ true) same (waits_at (end_with (turn_of s st k w) peer) k (job_end w peer) g i);
               made = sym made ∙ ap (λ (h : FrameView). takes_frame (turn_of s st k w) peer h h.body) same;
             }
 
     slot_took : slot_step s st k (Some w) ≡ Some m → TookBy s st k m f
     slot_took e = go (partner w.what.peer w.phase) refl e
       where
-        more : (peer : ℕ) → partner w.what.peer w.phase ≡ Some peer → (b : Bool)
+        more : (peer : ℕ) → partner w.what.peer w.phase ≡ Some peer → (b : Bool) → is_awaiting w.phase ≡ b
             → (if b then awaits (turn_of s st k w) peer (waiting (end_with (turn_of s st k w) peer) k (job_end w peer)) else goes_on (turn_of s st k w)) ≡ Some m → TookBy s st k m f
-        more peer on true h = awaits_took peer on (waiting (end_with (turn_of s st k w) peer) k (job_end w peer)) refl h
-        more peer on false h = none_some m.taken f (on_none h) took
+        more peer on true i h = awaits_took peer on (waiting (end_with (turn_of s st k w) peer) k (job_end w peer)) refl h
+        more peer on false i h = none_some m.taken f (on_none (inr i) h) took
 
         at : (peer : ℕ) → partner w.what.peer w.phase ≡ Some peer → (b : Bool) → with_partner (turn_of s st k w) peer b ≡ Some m → TookBy s st k m f
         at peer on false h = let same : quietly (talk (turn_of s st k w)) None ≡ m = cc in none_some m.taken f (sym (ap (λ (z : Made). z.taken) same)) took
-        at peer on true h = more peer on (is_awaiting w.phase) h
+        at peer on true h = more peer on (is_awaiting w.phase) refl h
 
         go : (p : Option ℕ) → partner w.what.peer w.phase ≡ p → by_partner (turn_of s st k w) p ≡ Some m → TookBy s st k m f
-        go None on h = none_some m.taken f (on_none h) took
+        go None on h = none_some m.taken f (on_none (inl on) h) took
         go (Some peer) on h = at peer on (end_with (turn_of s st k w) peer).opened h
 
   slots_took : (slot : ℕ) (o : Option Work) → find (λ w. w.slot == slot) st.works ≡ o → slot_step s st k o ≡ Some m → TookBy s st k m f
@@ -142,7 +153,7 @@ module _ (s : SetUp) (st : State) (k : Look) (m : Made) (f : FrameView) (took : 
           let made : reply_made a (end_takes (st.ends a) g.epoch g.body) (Some g) (on_frame (here s st k a) (st.sessions a) g.body) ≡ m = cc in
           let one : Some g ≡ Some f = ap (λ (z : Made). z.taken) made ∙ took in
           let same : g ≡ f = cc in
-          let comes : takes_at a f ≡ true = subst (λ (h : FrameView). takes_at a h ≡ true) same (waits (st.ends a) k a g i).comes in
+          let comes : takes_at a f ≡ true = subst (λ (h : FrameView). takes_at a h ≡ true) same (waits_at (st.ends a) k a g i) in
           goes_up f.up (ap (λ (b : EndName). b.client) (takes_end a f comes) ∙ server)
       at None i h = none (st.ends a).opened h
         where
@@ -175,9 +186,9 @@ module _ (s : SetUp) (st : State) (k : Look) (m : Made) (f : FrameView) (took : 
 -- ---- the job that made the entry
 
 -- it is the one in its slot that took the frame
-pub own_took : StepsFind → (s : SetUp) (st : State) (k : Look) (m : Made) (f : FrameView) → step s st k ≡ Some m → m.taken ≡ Some f → AreJobs st.works → (w : Work) → Member w st.works → job_of m.kind ≡ Some w.number
+pub own_took : StepLaws → (s : SetUp) (st : State) (k : Look) (m : Made) (f : FrameView) → step s st k ≡ Some m → m.taken ≡ Some f → AreJobs st.works → (w : Work) → Member w st.works → job_of m.kind ≡ Some w.number
     → (y : TookBy s st k m f) × (y.w ≡ w)
-own_took finds s st k m f makes took jobs w there number = go (finds s st k m makes)
+own_took laws s st k m f makes took jobs w there number = go (laws.finds s st k m makes)
   where
     by_job : (x : ByJob s st k m) → JobTakes (turn_of s st k x.w) m → (y : TookBy s st k m f) × (y.w ≡ w)
     by_job x z =
@@ -185,14 +196,14 @@ own_took finds s st k m f makes took jobs w there number = go (finds s st k m ma
         let same : z.f ≡ f = cc in
         let comes : takes_at (job_end x.w z.peer) f ≡ true = subst (λ (g : FrameView). takes_at (job_end x.w z.peer) g ≡ true) same z.of_end in
         let at = takes_end (job_end x.w z.peer) f comes in
-        let down : f.up ≡ false = goes_down f.up (ap (λ (b : EndName). b.client) at) in
-        let y = took_by s st k m f took down makes in
+        let down : f.up ≡ false = if_turned f.up (ap (λ (b : EndName). b.client) at) in
+        let y = took_by laws s st k m f took down makes in
         let there_x = find_member (λ (v : Work). v.slot == x.slot) st.works x.w x.runs in
         let there_y = find_member (λ (v : Work). v.slot == y.slot) st.works y.w y.runs in
         let slots_are : x.slot ≡ y.slot = sym (eqb-true x.w.slot x.slot there_x.1) ∙ sym (ap (λ (b : EndName). b.slot) at) ∙ ap (λ (b : EndName). b.slot) (takes_end (job_end y.w y.peer) f y.of_end) ∙ eqb-true y.w.slot y.slot there_y.1 in
         let both : Some x.w ≡ Some y.w = sym x.runs ∙ ap (λ (n : ℕ). find (λ (v : Work). v.slot == n) st.works) slots_are ∙ y.runs in
         let same_w : x.w ≡ y.w = cc in
-        let numbers_are : Some x.w.number ≡ Some w.number = sym (job_number (turn_of s st k x.w) m m.kind x.found) ∙ number in
+        let numbers_are : Some x.w.number ≡ Some w.number = sym (laws.job s st k m x) ∙ number in
         let numbers : x.w.number ≡ w.number = cc in
         (y, sym same_w ∙ jobs.apart x.w w there_x.0 there numbers)
 
@@ -201,7 +212,7 @@ own_took finds s st k m f makes took jobs w there number = go (finds s st k m ma
       | inl y ↦ none_some m.taken f (ap (λ (z : Made). z.taken) y) took
       | inr y ↦ none_some m.taken f (ap (λ (z : Made). z.taken) y) took
     ]
-    go (inr (inl x)) = none_some (job_of m.kind) w.number (session_none _ _ _ _ m.kind x.found) number
+    go (inr (inl x)) = none_some (job_of m.kind) w.number (laws.session s st k m x) number
     go (inr (inr x)) = elim (x.frame) [ inl none ↦ none_some m.taken f none took | inr z ↦ by_job x z ]
 
 -- ---- what is made of such an answer
@@ -264,7 +275,7 @@ keeps_awaits Orders o e = refl
 keeps_awaits phase None e = absurd (true≢false (sym e ∙ keeps_none phase))
 keeps_awaits phase (Some m) e = absurd (true≢false (sym e))
 
-module _ (rows : Rows) (r : ℕ) (x : Work) where
+module _ (rows : RowsAndEnds) (r : ℕ) (x : Work) where
   look_moved : (p : ℕ) (m : Message) → keeps_word (AsksLook p) (Some m) ≡ true → awaits_one (listens x (AsksLook p) m).phase ≡ false
   look_moved p Failure e = refl
   look_moved p m e = absurd (true≢false (sym e))
@@ -279,11 +290,11 @@ module _ (rows : Rows) (r : ℕ) (x : Work) where
   listens_moved Orders m e = order_moved m e
   listens_moved phase m e = absurd (true≢false (sym e))
 
-  message_moved : (o : Option Message) → keeps_word x.phase o ≡ true → awaits_one (took_line x o).phase ≡ false
+  message_moved : (o : Option Message) → keeps_word x.phase o ≡ true → awaits_one (after_line x o).phase ≡ false
   message_moved None e = absurd (true≢false (sym e ∙ keeps_none x.phase))
   message_moved (Some m) e = listens_moved x.phase m e
 
-  took_moved : (body : FrameText) → keeps_word x.phase (line_in body) ≡ true → awaits_one (took x body).phase ≡ false
+  took_moved : (body : FrameText) → keeps_word x.phase (line_in body) ≡ true → awaits_one (after_frame x body).phase ≡ false
   took_moved Opening e = absurd (true≢false (sym e ∙ keeps_none x.phase))
   took_moved Closing e = absurd (true≢false (sym e ∙ keeps_none x.phase))
   took_moved (Bytes n) e = absurd (true≢false (sym e ∙ keeps_none x.phase))
@@ -315,7 +326,7 @@ module _ (rows : Rows) (r : ℕ) (x : Work) where
           ∙ shut (job_end x peer) c (end_took (rows.ends (job_end x peer)) (taken_at (job_end x peer) e.taken))
 
 -- of an entry that talks alone
-talk_moved : (rows : Rows) (r : ℕ) (w : Work) (e : Entry) (peer : ℕ) (f : FrameView) (c : End) → e.taken ≡ Some f → keeps_word w.phase (line_in f.body) ≡ true → partner w.what.peer w.phase ≡ Some peer
+talk_moved : (rows : RowsAndEnds) (r : ℕ) (w : Work) (e : Entry) (peer : ℕ) (f : FrameView) (c : End) → e.taken ≡ Some f → keeps_word w.phase (line_in f.body) ≡ true → partner w.what.peer w.phase ≡ Some peer
     → (e.sent ≡ []) ⊎ (e.sent ≡ frames (job_end w peer) c (Closing ∷ [])) → awaits_one (work_kind rows r w e (Talk (Some w.number))).phase ≡ false
 talk_moved rows r w e peer f c took kept on says =
     subst (λ (p : Option ℕ). awaits_one (talks_on rows r y e p).phase ≡ false) (sym on)
@@ -331,20 +342,20 @@ talk_moved rows r w e peer f c took kept on says =
     phase_is = (learns_like (claims w w.part w.phase) w.phase e.taken).phase ∙ (claims_like w w.part w.phase).phase
 
     slot_is : w.slot ≡ y.slot
-    slot_is = sym (ap (λ (j : Running). j.slot) ((learns_like (claims w w.part w.phase) w.phase e.taken).same ∙ (claims_like w w.part w.phase).same))
+    slot_is = sym (ap (λ (j : RunningJob). j.slot) ((learns_like (claims w w.part w.phase) w.phase e.taken).same ∙ (claims_like w w.part w.phase).same))
 
     end_is : job_end w peer ≡ job_end y peer
     end_is = ap (λ (n : ℕ). record { peer = peer; slot = n; client = true }) slot_is
 
 -- ---- the law
 
-pub answers_move : StepsFind → (s : SetUp) (past : List Entry) (k : Look) (m : Made) (e : Entry) (w v : Work) (f : FrameView) → step s (state_of s past) k ≡ Some m → is_of s.number e ≡ true → e.kind ≡ m.kind
+pub answers_move : StepLaws → (s : SetUp) (past : List Entry) (k : Look) (m : Made) (e : Entry) (w v : Work) (f : FrameView) → step s (state_of s past) k ≡ Some m → is_of s.number e ≡ true → e.kind ≡ m.kind
     → e.taken ≡ m.taken → e.sent ≡ m.sent → AreJobs (works past s.number) → Member w (works past s.number) → Member v (works (e ∷ past) s.number) → v.number ≡ w.number → TakesAnswer w e f
     → v.phase ≡ w.phase → ⊥
-answers_move finds s past k m e w v f makes own kind taken sent jobs there there' number t same = true≢false (sym (ap awaits_one same ∙ keeps_awaits w.phase (line_in f.body) t.kept) ∙ moved)
+answers_move laws s past k m e w v f makes own kind taken sent jobs there there' number t same = true≢false (sym (ap awaits_one same ∙ keeps_awaits w.phase (line_in f.body) t.kept) ∙ moved)
   where
     y : (y : TookBy s (state_of s past) k m f) × (y.w ≡ w)
-    y = own_took finds s (state_of s past) k m f makes (sym taken ∙ t.taken) jobs w there (ap job_of (sym kind) ∙ t.made)
+    y = own_took laws s (state_of s past) k m f makes (sym taken ∙ t.taken) jobs w there (ap job_of (sym kind) ∙ t.made)
 
     peer : ℕ
     peer = y.0.peer
@@ -365,7 +376,7 @@ answers_move finds s past k m e w v f makes own kind taken sent jobs there there
     says = elim (either) [ inl h ↦ inl (sent ∙ ap (λ (z : Made). z.sent) h) | inr h ↦ inr (sent ∙ ap (λ (z : Made). z.sent) h) ]
 
     z : (u : Work) × (Member u (works past s.number)) × (v ≡ work_after (rows_at past s.number) s.number e u)
-    z = came_of (rows_at past s.number) s.number (works past s.number) e e.kind refl (ap is_begin kind ∙ steps_begin_none finds s (state_of s past) k m makes) v
+    z = came_of (rows_at past s.number) s.number (works past s.number) e e.kind refl (ap is_begin kind ∙ steps_begin_none laws s (state_of s past) k m makes) v
         (subst (λ ws. Member v ws) (own_works past e s.number own) there')
 
     moved : awaits_one v.phase ≡ false

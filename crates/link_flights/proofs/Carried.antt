@@ -46,6 +46,17 @@ both_in xs r a v w own none other = record {
   };
 }
 
+-- an end to which all was carried stays as it is
+pub stays_carried : (xs : List Flight) (r : ℕ) (a : EndName) (v w : EndView) → IsEndIn xs r a v → IsEndIn xs a.peer (other_end r a) w → after_carry v w ≡ v
+stays_carried xs r a v w own other = λ i. record v { at_hand = hand i; on_way = sym own.on_way i; used = used i }
+  where
+    hand : v.at_hand ++ w.on_way ≡ v.at_hand
+    hand = ap (λ (fs : List Frame). v.at_hand ++ fs) other.on_way ∙ append-nil v.at_hand
+
+    used : length w.at_hand + length v.on_way ≡ v.used
+    used = ap (λ (fs : List Frame). length w.at_hand + length fs) own.on_way ∙ none_more (length w.at_hand) ∙ sym (length-map w.at_hand (flight_at a.peer (other_end r a)))
+        ∙ ap length (other.at_hand ∙ sym (sent_filter r a xs)) ∙ sym own.used
+
 -- ---- over a connection of r
 
 -- nothing was taken and sent

@@ -4,7 +4,7 @@ use Rattle.std.specs.Prelude.{◌==◌, filter, length, map, nat_lt}
 use Rattle.std.specs.Option.{option_map}
 use Rattle.std.proofs.lemmas.Bool.{and_parts, cases_Bool}
 use Rattle.std.proofs.lemmas.Option.{slice_get-map}
-use Rattle.annex_base.proofs.Conditions.{eqb_refl}
+use Rattle.annex_base.proofs.Conditions.{eqb_refl, not_not}
 use Rattle.link_ring.specs.declared.frame.Frame.{Frame}
 use Rattle.link_ring.specs.Frames.{is_closed}
 use Rattle.link_ring.specs.Ends.{EndView, after_drop, is_taken}
@@ -16,7 +16,7 @@ use Rattle.driver_model.specs.Driver.{Driver, Flight, is_old, is_sent_by, old_at
 use Rattle.driver_model.specs.Ways.{other_end}
 use Rattle.link_flights.specs.Flights.{HasAtHand, IsEndIn, comes_to, flight_at}
 use Rattle.link_flights.proofs.Lists.{filter_like, filter_mapped, filter_swap, filter_within}
-use Rattle.link_flights.proofs.Naming.{end_own, not_not, other_number, sent_comes}
+use Rattle.link_flights.proofs.Naming.{end_own, other_number, sent_comes}
 
 -- the test of the driver is that of the end
 pub old_same : (v : EndView) (a : EndName) (f : Frame) → not (is_old (stands v) (frame_at a f)) ≡ is_taken v f

@@ -31,7 +31,7 @@ use Rattle.driver_model.specs.Ways.{other_end}
 use Rattle.link_flights.specs.Flights.{IsEndIn}
 use Rattle.link_flights.proofs.Naming.{end_path, other_named, other_twice}
 use Rattle.link_flights.proofs.Pieces.{pieces_zip}
-use Rattle.link_flights.proofs.Stepped.{first_taken, step_orderly}
+use Rattle.link_flights.proofs.Stepped.{SendLaws, TakenAtHand, first_taken, step_orderly}
 use Rattle.link_flights.proofs.Dropped.{end_elsewhere, link_drop}
 use Rattle.link_flights.proofs.Carried.{AreBothIn, both_closed, both_dropped, both_turned, end_beside}
 
@@ -198,21 +198,20 @@ module _ (listed : Listed) (s : SetUp) (st : State) (d : Driver) (was now : ℕ 
 
 -- ---- a step
 
-pub step_posted : (s : SetUp) (st : State) (d : Driver) (k : Look) (m : Made) (e : Entry) (was now : List EndView) (sender : EntryStamp) (word : EndName → Sending → Option Word)
+pub step_posted : SendLaws → TakenAtHand → (s : SetUp) (st : State) (d : Driver) (k : Look) (m : Made) (e : Entry) (was now : List EndView) (sender : EntryStamp) (word : EndName → Sending → Option Word)
     (said : EndName → List Sending) → AreEnds was s st → k.at_hand ≡ flat_map (λ (b : EndName). option_to_list (hand_at was b)) (all_ends s) → step s st k ≡ Some m
     → e.taken ≡ m.taken → e.sent ≡ m.sent
     → ((a : EndName) → map text_of_sending (said a) ≡ map (λ (f : FrameView). f.body) (sent_at a e.sent))
     → ((a : EndName) → link_at now a ≡ option_map (link_after sender (word a) a e.taken (said a)) (link_at was a))
     → ((a : EndName) (f : FrameView) (bytes : List ℕ) → Member f (sent_at a e.sent) → Member (sendings.Bytes bytes) (said a) → f.body ≡ texts.Bytes (length bytes) → bytes ≡ piece_of d st s.number f f.body)
     → Posted s st d sender word said was now e
-step_posted s st d k m e was now sender word said are sees made taken sent listed links pieces = record {
+step_posted laws at_hand s st d k m e was now sender word said are sees made taken sent listed links pieces = record {
   posts = λ a v member is.
-      let it = step_orderly s st k m made in
       record {
-        takes = first_taken was s k.at_hand e.taken a v sees (λ f at. it.at_hand f (sym taken ∙ at)) is;
+        takes = first_taken was s k.at_hand e.taken a v sees (λ f at. at_hand s st k m f made (sym taken ∙ at)) is;
         listed = listed a;
         in_order = subst (λ (c : End). SendsInOrder c a e.taken e.sent) (are.ends a member ∙ ap end_in is)
-            (subst (λ (o : Option FrameView). SendsInOrder (st.ends a) a o e.sent) (sym taken) (subst (λ (fs : List FrameView). SendsInOrder (st.ends a) a m.taken fs) (sym sent) (it.in_order a)));
+            (subst (λ (o : Option FrameView). SendsInOrder (st.ends a) a o e.sent) (sym taken) (subst (λ (fs : List FrameView). SendsInOrder (st.ends a) a m.taken fs) (sym sent) (step_orderly laws s st k m made a)));
         pieces = pieces_zip (λ f. piece_of d st s.number f f.body) (sent_at a e.sent) (said a) (listed a)
             (pieces a);
       };

@@ -1,33 +1,33 @@
 -- The words beside the frames at hand at the clients' ends of all repositories, after an entry of one of them.
-use Rattle.std.proofs.Common.{◌≡◌, ◌≢◌, ◌<◌, ◌⊎◌, inl, inr, ℕ, zero, Bool, true, false, not, List, [], ◌∷◌, ◌++◌, Option, Some, None, refl, sym, ap, ◌∙◌, subst, arith, true≢false}
+use Rattle.std.proofs.Common.{◌≡◌, ◌≢◌, ◌<◌, ◌⊎◌, inl, inr, ℕ, Bool, true, false, List, [], ◌∷◌, ◌++◌, Option, Some, None, refl, sym, ap, ◌∙◌, subst, arith, true≢false}
 use Rattle.std.specs.Prelude.{◌+◌, ◌*◌, ◌&&◌, filter, fold, if◌then◌else◌, length, map, nat_lt, replicate, slice_get}
 use Rattle.std.specs.List.{AllZip}
-use Rattle.std.specs.Option.{option_map}
 use Rattle.std.proofs.lemmas.List.{append-nil}
+use Rattle.std.proofs.lemmas.Bool.{ne_eqb}
 use Rattle.annex_base.specs.Lists.{Each, Member}
 use Rattle.annex_base.proofs.Lists.{Each-filter, Each-map}
 use Rattle.annex_base.specs.declared.kinds.EntryStamp.{EntryStamp}
 use Rattle.annex_base.specs.declared.kinds.Word.{Word}
+use Rattle.annex_base.proofs.Conditions.{if_turned}
 use Rattle.link_ring.specs.declared.frame.Frame.{Frame}
 use Rattle.link_ring.specs.Ends.{EndView, after_carry, after_drop, fresh, is_taken}
 use Rattle.link_ring.specs.Places.{end_place}
 use Rattle.run_data.specs.declared.entry.Entry.{Entry}
 use Rattle.run_data.specs.declared.entry.FrameView.{FrameView}
-use Rattle.run_data.specs.declared.entry.FrameText.{FrameText}
-use Rattle.run_model.specs.Frames.{flying, frames_sent, is_on, on_way, taken_count, takes}
+use Rattle.run_model.specs.Frames.{flying_frame, frames_sent, is_on, on_way, taken_count, takes}
 use Rattle.run_model.specs.Past.{is_of}
 use Rattle.run_model.specs.States.{end_at, state_of}
 use Rattle.run_model.specs.Words.{word_of_kind}
 use Rattle.node_model.specs.AnyTime.{all_ends}
-use Rattle.node_model.specs.Ends.{EndName, end_after, end_sends, end_took, frames, is_opening, sends_at, sent_at, taken_at}
+use Rattle.node_model.specs.Ends.{EndName, end_after, end_sends, end_took, is_opening, sends_at, sent_at, taken_at}
 use Rattle.node_model.specs.Jobs.{taken_message}
 use Rattle.node_model.specs.Rows.{option_is}
 use Rattle.node_model.specs.SetUp.{SetUp}
 use Rattle.node_ends.specs.declared.sending.Sending.{Sending}
-use Rattle.node_ends.specs.Ends.{AreEnds, IsEndOf, end_in, link_at, stands}
+use Rattle.node_ends.specs.Ends.{AreEnds, end_in, link_at, stands}
 use Rattle.node_ends.specs.Sent.{body_of}
 use Rattle.driver_model.specs.Driver.{Driver, without_old_flights}
-use Rattle.driver_model.specs.Ways.{Over, other_end}
+use Rattle.driver_model.specs.Ways.{IsOver, other_end}
 use Rattle.link_flights.specs.Entries.{PostsAt, link_after, taken_off}
 use Rattle.link_flights.specs.Fleets.{AreAllCarried, AreEndsIn, Posted}
 use Rattle.race_core.specs.Jobs.{asks_word, is_asked}
@@ -36,7 +36,6 @@ use Rattle.link_flights.proofs.Dropped.{link_drop}
 use Rattle.link_flights.proofs.Fleet.{Becomes, Both, Listed, all_in, mapped, slot_low}
 use Rattle.link_flights.proofs.Flown.{hand_still, hand_young, listed_frames, stands_off, way_off, without_taken}
 use Rattle.link_flights.proofs.Lists.{each_filtered}
-use Rattle.link_flights.proofs.Naming.{number_apart}
 use Rattle.link_flights.proofs.Quiet.{fresh_at}
 use Rattle.link_flights.proofs.WordsSent.{said_frames, said_match, way_said, words_came}
 use Rattle.link_flights.proofs.WordsTaken.{words_as, words_dropped, words_still, words_taken}
@@ -56,8 +55,8 @@ words_beside past e q a xs other peer worded n = go (worded n)
     same : end_at (e ∷ past) q a ≡ end_at past q a
     same = rw other refl
 
-    go : Over (end_at past q a) n ⊎ HaveWords past (way_down q a n) xs → Over (end_at (e ∷ past) q a) n ⊎ HaveWords (e ∷ past) (way_down q a n) xs
-    go (inl o) = inl (subst (λ c. Over c n) (sym same) o)
+    go : IsOver (end_at past q a) n ⊎ HaveWords past (way_down q a n) xs → IsOver (end_at (e ∷ past) q a) n ⊎ HaveWords (e ∷ past) (way_down q a n) xs
+    go (inl o) = inl (subst (λ c. IsOver c n) (sym same) o)
     go (inr h) = inr (words_as past (e ∷ past) (way_down q a n) xs (rw peer refl) (rw other refl) h)
 
 -- ---- the two ends of a connection of r
@@ -98,10 +97,6 @@ module _ (d : Driver) (s : SetUp) (past : List Entry) (r : ℕ) (a : EndName) (v
 
 -- ---- all ends
 
-client_server : (b : Bool) → (if b then false else true) ≡ true → b ≡ false
-client_server true is = absurd (true≢false (sym is))
-client_server false is = refl
-
 module _ (listed : Listed) (s : SetUp) (d : Driver) (was now : ℕ → List EndView) (known : s.number < length s.repos) (ends : AreEndsIn d.flights (length s.repos) was)
     (are : AreEnds (was s.number) s (state_of s d.past)) (worded : AreAllWorded d.past (length s.repos) was) where
   abbrev r : ℕ
@@ -136,7 +131,7 @@ module _ (listed : Listed) (s : SetUp) (d : Driver) (was now : ℕ → List EndV
     beside q b w within peer apart one two is client = words_beside d.past e q b w.at_hand (other q one) (other b.peer two) (worded q b w within peer apart client is)
       where
         other : (k : ℕ) → k ≢ s.number → is_of k e ≡ false
-        other k differs = ap (λ (o : Option ℕ). option_is o k) mine ∙ number_apart s.number k (λ same. differs (sym same))
+        other k differs = ap (λ (o : Option ℕ). option_is o k) mine ∙ ne_eqb s.number k (λ same. differs (sym same))
 
     ordered : (links : (q : ℕ) (a : EndName) (x : EndView) → q < count → a.peer < count → a.peer ≢ q → link_at (now q) a ≡ Some x → Worded (e ∷ d.past) q a x)
         → AreAllWorded (e ∷ d.past) count now
@@ -158,8 +153,8 @@ module _ (listed : Listed) (s : SetUp) (d : Driver) (was now : ℕ → List EndV
               (λ client. words_here (without_old_flights (state_of s d.past) s.number d) s d.past s.number a (after_drop n.v) e (said a) sender (word a) posts mine apart w client
                   (stood a n.v within apart n.was) (each_filtered (is_taken n.v) n.v.at_hand) (other_way a w within apart other)
                   (words_dropped d.past s.number a n.v (stood a n.v within apart n.was) (own_words a n.v within apart n.was client))),
-              (λ client. words_there (without_old_flights (state_of s d.past) s.number d) s d.past s.number a (after_drop n.v) e (said a) sender (word a) posts mine apart w (client_server a.client client)
-                  (λ y line asked. tells a y (client_server a.client client) line asked) (own_way a n.v within apart n.was) (other_words a w within apart other client)),
+              (λ client. words_there (without_old_flights (state_of s d.past) s.number d) s d.past s.number a (after_drop n.v) e (said a) sender (word a) posts mine apart w (if_turned a.client client)
+                  (λ y line asked. tells a y (if_turned a.client client) line asked) (own_way a n.v within apart n.was) (other_words a w within apart other client)),
             )
 
     pub words_closed : (sender : EntryStamp) (word : EndName → Sending → Option Word) (said : EndName → List Sending) (mine' : List EndView)
@@ -178,7 +173,7 @@ module _ (listed : Listed) (s : SetUp) (d : Driver) (was now : ℕ → List EndV
               (λ client. words_stay d s d.past s.number a m.v e (said a) sender (word a) posts mine apart w client (stood a m.v within apart m.was) none
                   (Each-map (λ b. is_opening b ≡ false) (λ (f : FrameView). f.body) (sent_at a e.sent) (Each-filter (λ f. is_opening f.body ≡ false) (sends_at a) e.sent closes))
                   (other_way a w within apart other) (own_words a m.v within apart m.was client)),
-              (λ client. words_there d s d.past s.number a m.v e (said a) sender (word a) posts mine apart w (client_server a.client client)
+              (λ client. words_there d s d.past s.number a m.v e (said a) sender (word a) posts mine apart w (if_turned a.client client)
                   (λ y line asked. absurd (unasked asked)) (own_way a m.v within apart m.was) (other_words a w within apart other client)),
             )
 
@@ -214,8 +209,8 @@ words_quiet past number ends e none nothing worded q a v within peer apart clien
     sent : frames_sent (e ∷ past) (way_down q a n) ≡ frames_sent past (way_down q a n)
     sent = at (is_of a.peer e)
       where
-        at : (b : Bool) → (if b then frames_sent past (way_down q a n) ++ map (flying e past) (on_way (way_down q a n) e) else frames_sent past (way_down q a n)) ≡ frames_sent past (way_down q a n)
-        at true = ap (λ (fs : List FrameView). frames_sent past (way_down q a n) ++ map (flying e past) (filter (is_on (way_down q a n) q) fs)) nothing ∙ append-nil (frames_sent past (way_down q a n))
+        at : (b : Bool) → (if b then frames_sent past (way_down q a n) ++ map (flying_frame e past) (on_way (way_down q a n) e) else frames_sent past (way_down q a n)) ≡ frames_sent past (way_down q a n)
+        at true = ap (λ (fs : List FrameView). frames_sent past (way_down q a n) ++ map (flying_frame e past) (filter (is_on (way_down q a n) q) fs)) nothing ∙ append-nil (frames_sent past (way_down q a n))
         at false = refl
 
     taken : taken_count (e ∷ past) (way_down q a n) ≡ taken_count past (way_down q a n)
@@ -233,6 +228,6 @@ words_quiet past number ends e none nothing worded q a v within peer apart clien
             ∙ ap (λ (fs : List FrameView). fold (λ c f. end_sends c f.body) (end_at past q a) (sent_at a fs)) nothing
         at false = refl
 
-    go : Over (end_at past q a) n ⊎ HaveWords past (way_down q a n) v.at_hand → Over (end_at (e ∷ past) q a) n ⊎ HaveWords (e ∷ past) (way_down q a n) v.at_hand
-    go (inl o) = inl (subst (λ c. Over c n) (sym end) o)
+    go : IsOver (end_at past q a) n ⊎ HaveWords past (way_down q a n) v.at_hand → IsOver (end_at (e ∷ past) q a) n ⊎ HaveWords (e ∷ past) (way_down q a n) v.at_hand
+    go (inl o) = inl (subst (λ c. IsOver c n) (sym end) o)
     go (inr h) = inr (words_as past (e ∷ past) (way_down q a n) v.at_hand sent taken h)

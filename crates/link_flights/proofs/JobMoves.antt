@@ -1,6 +1,6 @@
 -- What an entry of a job adds to what it heard, and when it has its target's answer.
-use Rattle.std.proofs.Common.{◌≡◌, ◌⊎◌, inl, inr, ℕ, Bool, true, false, List, [], ◌∷◌, Option, Some, None, refl, sym, ap, ◌∙◌, subst, true≢false}
-use Rattle.std.specs.Prelude.{if◌then◌else◌, ◌==◌}
+use Rattle.std.proofs.Common.{◌≡◌, ◌⊎◌, inl, inr, ℕ, Bool, true, false, List, [], ◌∷◌, Option, Some, None, refl, sym, ap, ◌∙◌, true≢false}
+use Rattle.std.specs.Prelude.{◌==◌}
 use Rattle.annex_base.specs.declared.kinds.Call.{Call}
 use Rattle.annex_base.specs.declared.kinds.Call.TheVariants.{Unhold, PutFile}
 use Rattle.annex_base.proofs.Conditions.{if_either}
@@ -25,7 +25,7 @@ use Rattle.p2p_wire.specs.declared.message.Message.TheVariants.{AlreadyHave, Che
 use Rattle.p2p_wire.specs.Messages.{message_of}
 use Rattle.node_model.specs.Ends.{end_after}
 use Rattle.node_model.specs.Jobs
-use Rattle.node_model.specs.Jobs.{AsksLock, AsksLook, AsksTime, Denied, Drops, Fresh, GetsBytes, GetsData, GetsWord, Gets, Greets, Heard, Next, Orders, Part, Phase, Puts, PutsAnswer, PutsBytes, PutsOffer, PutsWord, Removed, Rows, Unseen, Work, after_failed_release, after_gain, after_transfer, claims, closed_part, fails_with, fault_of, fault_phase, first_look, gets_bytes, gets_more, hears, hears_frame, is_move, job_end, learns, listens, partner, put_from, puts_answer, puts_bytes, puts_more, quiet, running, says, says_some, sends, side_of, source_cause, taken_message, talks, talks_on, target_of, to_phase, took, took_line, word_taken, work_kind}
+use Rattle.node_model.specs.Jobs.{AsksLock, AsksLook, AsksTime, Denied, Drops, Fresh, GetsBytes, GetsData, GetsWord, Gets, Greets, Heard, Next, Orders, Part, Phase, Puts, PutsAnswer, PutsBytes, PutsOffer, PutsWord, Removed, RowsAndEnds, Unseen, Work, after_failed_release, after_gain, after_transfer, claims, closed_part, fails_with, fault_of, fault_phase, first_look, gets_bytes, gets_more, hears, hears_frame, is_move, job_end, learns, listens, partner, put_from, puts_answer, puts_bytes, puts_more, quiet, running_job, says, says_some, sends, side_of, source_cause, taken_message, talks, talks_on, target_of, to_phase, after_frame, after_line, word_taken, work_kind}
 use Rattle.driver_model.specs.WordsRead.{is_answered}
 use Rattle.race_core.specs.Jobs.{keeps_word}
 
@@ -55,17 +55,17 @@ News w taken v = ((c : ℕ) × (h : Heard) × (v.heard ≡ (c, h) ∷ w.heard) �
     ⊎ ((v.heard ≡ w.heard) × (is_answered (side_of w) v.phase ≡ true → (v.phase ≡ w.phase) ⊎ IsObeyed w taken))
 
 pub record Moves (w : Work) (taken : Option FrameView) (v : Work) : Type 0 where
-  pub same : running v ≡ running w
+  pub same : running_job v ≡ running_job w
   pub news : News w taken v
 
 module _ (w : Work) (taken : Option FrameView) where
   abbrev M : Work → Type 0
   M v = Moves w taken v
 
-  plain : (v : Work) → running v ≡ running w → v.heard ≡ w.heard → has_verdict v.phase ≡ false → M v
+  plain : (v : Work) → running_job v ≡ running_job w → v.heard ≡ w.heard → has_verdict v.phase ≡ false → M v
   plain v same heard none = record { same = same; news = inr (heard, λ is. absurd (true≢false (sym is ∙ unanswered v.phase none (side_of w)))) }
 
-  still : (v : Work) → running v ≡ running w → v.heard ≡ w.heard → v.phase ≡ w.phase → M v
+  still : (v : Work) → running_job v ≡ running_job w → v.heard ≡ w.heard → v.phase ≡ w.phase → M v
   still v same heard phase = record { same = same; news = inr (heard, λ is. inl phase) }
 
   hears_plain : (c : ℕ) (h : Heard) → (h ≡ Unseen → IsRefused w taken c) → M (hears w c h)
@@ -153,7 +153,7 @@ module _ (w : Work) (taken : Option FrameView) where
     listens_moves (PutsAnswer peer start) is Failure line = plain (listens w (PutsAnswer peer start) Failure) refl refl refl
     listens_moves phase is m line = still w refl refl refl
 
-    line_moves : (m : Option Message) → line_in f.body ≡ m → M (took_line w m)
+    line_moves : (m : Option Message) → line_in f.body ≡ m → M (after_line w m)
     line_moves None line = still w refl refl refl
     line_moves (Some m) line = listens_moves w.phase refl m line
 
@@ -161,7 +161,7 @@ module _ (w : Work) (taken : Option FrameView) where
     gets_moves n (GetsBytes peer start size left) is = to_plain (gets_bytes n (GetsBytes peer start size left)) (more_gets peer start _ _)
     gets_moves n phase is = still (to_phase w phase) refl refl (sym is)
 
-    took_moves : (body : FrameText) → f.body ≡ body → M (took w body)
+    took_moves : (body : FrameText) → f.body ≡ body → M (after_frame w body)
     took_moves Opening is = still w refl refl refl
     took_moves Closing is = still w refl refl refl
     took_moves (Bytes n) is = gets_moves n w.phase refl
@@ -173,20 +173,20 @@ module _ (w : Work) (taken : Option FrameView) where
   first_moves r Drops true (Some i) = hears_plain r (Jobs.Lacks causes.Barred) (λ is. absurd (cc))
   first_moves r part here bar = to_plain Next refl
 
-  quiet_moves : (rows : Rows) (r : ℕ) (phase : Phase) → M (quiet rows r w phase)
+  quiet_moves : (rows : RowsAndEnds) (r : ℕ) (phase : Phase) → M (quiet rows r w phase)
   quiet_moves rows r Fresh = first_moves r w.part (rows.present w.what.key) (rows.bar w.what.key)
   quiet_moves rows r Next = to_plain (Jobs.Ends (outcomes.Refused (refusals.OldProtocol w.version))) refl
   quiet_moves rows r phase = still w refl refl refl
 
-  frame_moves : (rows : Rows) (r : ℕ) (o : Option FrameView) → taken ≡ o → M (hears_frame rows r w o)
+  frame_moves : (rows : RowsAndEnds) (r : ℕ) (o : Option FrameView) → taken ≡ o → M (hears_frame rows r w o)
   frame_moves rows r None is = quiet_moves rows r w.phase
   frame_moves rows r (Some f) is = took_moves f is f.body refl
 
-  talks_moves : (rows : Rows) (r : ℕ) (e : Entry) → e.taken ≡ taken → (fs : List FrameView) → M (talks rows r w e fs)
+  talks_moves : (rows : RowsAndEnds) (r : ℕ) (e : Entry) → e.taken ≡ taken → (fs : List FrameView) → M (talks rows r w e fs)
   talks_moves rows r e is (f ∷ fs) = sends_moves e.time f.peer (taken_message e.taken) f.body
   talks_moves rows r e is [] = frame_moves rows r e.taken (sym is)
 
-  on_moves : (rows : Rows) (r : ℕ) (e : Entry) → e.taken ≡ taken → (p : Option ℕ) → M (talks_on rows r w e p)
+  on_moves : (rows : RowsAndEnds) (r : ℕ) (e : Entry) → e.taken ≡ taken → (p : Option ℕ) → M (talks_on rows r w e p)
   on_moves rows r e is None = talks_moves rows r e is e.sent
   on_moves rows r e is (Some peer) = if_either M (end_after (job_end w peer) (rows.ends (job_end w peer)) e).opened (talks rows r w e e.sent) (closed_part r w peer w.part)
       (λ h. talks_moves rows r e is e.sent) (λ h. closed r peer w.part)
@@ -214,7 +214,7 @@ module _ (w : Work) (taken : Option FrameView) where
 
 -- it has claimed the key, and learnt a version
 pub record IsLike (w x : Work) : Type 0 where
-  pub same : running x ≡ running w
+  pub same : running_job x ≡ running_job w
   pub heard : x.heard ≡ w.heard
   pub phase : x.phase ≡ w.phase
 
@@ -238,7 +238,7 @@ moves_like w x taken v like moves = record { same = moves.same ∙ like.same; ne
     go (inr n) = inr (n.0 ∙ like.heard, λ is. elim (n.1 (ap (λ s. is_answered s v.phase) side ∙ is)) [ inl p ↦ inl (p ∙ like.phase) | inr o ↦ inr (sym like.phase ∙ o.0, o.1) ])
 
 -- what a job's entry makes of its work, where an entry that removes is a local drop's
-pub kind_moves : (rows : Rows) (r : ℕ) (w : Work) (e : Entry) (kind : EntryKind) → ((by : By) (key : List ℕ) → kind ≡ Gone by key → side_of w ≡ Local) → Moves w e.taken (work_kind rows r w e kind)
+pub kind_moves : (rows : RowsAndEnds) (r : ℕ) (w : Work) (e : Entry) (kind : EntryKind) → ((by : By) (key : List ℕ) → kind ≡ Gone by key → side_of w ≡ Local) → Moves w e.taken (work_kind rows r w e kind)
 kind_moves rows r w e (Fault call owner) local = call_moves w e.taken r e.time call
 kind_moves rows r w e (Bar job need key) local = to_plain w e.taken Next refl
 kind_moves rows r w e (Share hold end owner key) local = hears_plain w e.taken r (Jobs.Held e.time) (λ is. absurd (cc))

@@ -7,10 +7,7 @@ pub mod Said
 pub mod Flown
 pub mod Carried
 pub mod Quiet
-pub mod Apart
 pub mod Orderly
-pub mod JobMade
-pub mod ReplyMade
 pub mod Stepped
 pub mod Pieces
 pub mod Fleet

@@ -1,8 +1,8 @@
 -- The end that a flight comes to, and the one that it leaves.
 use Rattle.std.proofs.Common.{◌≡◌, ◌≢◌, ℕ, Bool, true, false, not, ◌&&◌, if◌then◌else◌, List, [], ◌∷◌, refl, sym, ap, ◌∙◌, subst}
 use Rattle.std.specs.Prelude.{◌==◌, filter, map}
-use Rattle.std.proofs.lemmas.Bool.{and_parts, eqb-true, false_from_ne_true, true≢false}
-use Rattle.annex_base.proofs.Conditions.{eqb_refl}
+use Rattle.std.proofs.lemmas.Bool.{and_parts, eqb-true, false_from_ne_true, ne_eqb, true≢false}
+use Rattle.annex_base.proofs.Conditions.{eqb_refl, if_not, not_by_if}
 use Rattle.link_ring.specs.declared.frame.Frame.{Frame}
 use Rattle.run_data.specs.declared.entry.FrameView.{FrameView}
 use Rattle.node_model.specs.Ends.{EndName, same_bool, sends_at, sent_at, takes_at}
@@ -14,22 +14,14 @@ use Rattle.driver_model.specs.Ways.{other_end}
 use Rattle.link_flights.specs.Flights.{comes_to}
 use Rattle.link_flights.proofs.Lists.{filter_mapped}
 
-pub not_not : (b : Bool) → not (not b) ≡ b
-not_not true = refl
-not_not false = refl
-
 -- the other side's other side
 other_side-twice : (b : Bool) → (if (if b then false else true) then false else true) ≡ b
 other_side-twice true = refl
 other_side-twice false = refl
 
-other_side : (b : Bool) → not b ≡ (if b then false else true)
-other_side true = refl
-other_side false = refl
-
 -- the other end, by its name
 pub other_named : (r : ℕ) (a : EndName) → end_with r a.slot (not a.client) ≡ other_end r a
-other_named r a = ap (λ (c : Bool). end_with r a.slot c) (other_side a.client)
+other_named r a = ap (λ (c : Bool). end_with r a.slot c) (not_by_if a.client)
 
 pub not_other_side : (b : Bool) → not (if b then false else true) ≡ b
 not_other_side true = refl
@@ -39,9 +31,6 @@ not_other_side false = refl
 pub other_number : (n q r : ℕ) → q ≢ r → (n == q) ≡ true → (n == r) ≡ false
 other_number n q r apart is = false_from_ne_true (n == r) (λ also. apart (sym (eqb-true n q is) ∙ eqb-true n r also))
 
-pub number_apart : (n r : ℕ) → n ≢ r → (n == r) ≡ false
-number_apart n r apart = false_from_ne_true (n == r) (λ is. apart (eqb-true n r is))
-
 pub end_path : (p q : ℕ) (b : Bool) (a : EndName) → p ≡ a.peer → q ≡ a.slot → b ≡ a.client → Path EndName (record { peer = p; slot = q; client = b }) a
 end_path p q b a x y z i = record { peer = x i; slot = y i; client = z i }
 
@@ -50,12 +39,8 @@ other_twice r b is q = end_path r b.slot (if (if b.client then false else true) 
 
 -- ---- an end takes
 
-down : (b : Bool) → (if not b then false else true) ≡ b
-down true = refl
-down false = refl
-
 pub end_own : (a : EndName) (f : Frame) → end_to (frame_at a f) ≡ a
-end_own a f = end_path a.peer a.slot (if not a.client then false else true) a refl refl (down a.client)
+end_own a f = end_path a.peer a.slot (if not a.client then false else true) a refl refl (if_not a.client)
 
 pub same_both : (a b : Bool) → same_bool a b ≡ true → a ≡ b
 same_both true true e = refl
@@ -131,7 +116,7 @@ module _ (d : Driver) (st : State) (r : ℕ) where
   none_beside q b (f ∷ fs) apart = rw (here) (none_beside q b fs apart)
     where
       other : (r == b.peer) ≡ false
-      other = number_apart r b.peer (λ same. apart (sym same))
+      other = ne_eqb r b.peer (λ same. apart (sym same))
 
       none : (p s t : Bool) → (p && ((false && s) && t)) ≡ false
       none true s t = refl

@@ -1,15 +1,37 @@
 -- Frames that are sent at one end, or at several that are apart, are sent in order.
-use Rattle.std.proofs.Common.{◌≡◌, ◌⊎◌, inl, inr, ℕ, ◌+◌, Bool, true, false, List, [], ◌∷◌, ◌++◌, Option, Some, None, refl, sym, ap, ◌∙◌, subst, true≢false}
-use Rattle.std.specs.Prelude.{flat_map, if◌then◌else◌, map}
+use Rattle.std.proofs.Common.{◌≡◌, ◌≢◌, ◌⊎◌, inl, inr, ℕ, ◌+◌, Bool, true, false, List, [], ◌∷◌, ◌++◌, Option, Some, None, refl, sym, ap, ◌∙◌, subst, true≢false}
+use Rattle.std.specs.Prelude.{◌==◌, ◌&&◌, flat_map, if◌then◌else◌, map}
+use Rattle.std.proofs.lemmas.Bool.{and_parts, eqb-true, false_from_ne_true}
 use Rattle.std.proofs.lemmas.List.{append-nil}
 use Rattle.std.proofs.lemmas.List.Elements.{filter-append}
 use Rattle.annex_base.specs.Lists.{Each}
+use Rattle.annex_base.proofs.Conditions.{eqb_refl}
 use Rattle.run_data.specs.declared.entry.FrameView.{FrameView}
 use Rattle.run_data.specs.declared.entry.FrameText.{FrameText}
 use Rattle.run_data.specs.declared.entry.FrameText.TheVariants as texts
-use Rattle.node_model.specs.Ends.{End, EndName, end_sends, end_takes, end_took, frames, is_opening, sends_at, sent_at, taken_at, takes_at}
+use Rattle.node_model.specs.Ends.{End, EndName, end_sends, end_takes, end_took, frames, is_opening, same_bool, sends_at, sent_at, taken_at, takes_at}
+use Rattle.driver_model.specs.Apart.{AreApart}
 use Rattle.link_flights.specs.Entries.{OpensClosed, SendsInOrder}
-use Rattle.link_flights.proofs.Apart.{Apart, same_end, same_end-is, same_end-refl}
+use Rattle.link_flights.proofs.Naming.{end_path, same_both, same_self}
+
+-- ---- names of ends
+
+abbrev same_end : EndName → EndName → Bool
+same_end b a = ((b.peer == a.peer) && (b.slot == a.slot)) && same_bool b.client a.client
+
+same_end-is : (b a : EndName) → same_end b a ≡ true → b ≡ a
+same_end-is b a e =
+    let two = and_parts ((b.peer == a.peer) && (b.slot == a.slot)) (same_bool b.client a.client) e in
+    let one = and_parts (b.peer == a.peer) (b.slot == a.slot) two.0 in
+    end_path b.peer b.slot b.client a (eqb-true b.peer a.peer one.0) (eqb-true b.slot a.slot one.1) (same_both b.client a.client two.1)
+
+pub same_end-refl : (a : EndName) → same_end a a ≡ true
+same_end-refl a = rw (eqb_refl a.peer, eqb_refl a.slot) (same_self a.client)
+
+same_end-not : (b a : EndName) → b ≢ a → same_end b a ≡ false
+same_end-not b a differs = false_from_ne_true (same_end b a) (λ is. differs (same_end-is b a is))
+
+-- ---- what opens nothing
 
 abbrev pub NoOpening : List FrameText → Type 0
 NoOpening bodies = Each (λ b. is_opening b ≡ false) bodies
@@ -101,11 +123,11 @@ module _ (ends : EndName → End) (says : EndName → List FrameText) where
   abbrev out : EndName → List FrameView
   out b = frames b (ends b) (says b)
 
-  none_at : (a : EndName) (bs : List EndName) → Each (λ z. same_end z a ≡ false) bs → sent_at a (flat_map out bs) ≡ []
+  none_at : (a : EndName) (bs : List EndName) → Each (λ z. z ≢ a) bs → sent_at a (flat_map out bs) ≡ []
   none_at a [] n = refl
-  none_at a (b ∷ bs) n = filter-append (sends_at a) (out b) (flat_map out bs) ∙ rw (sent_other b a (ends b) (says b) n.0, none_at a bs n.1) refl
+  none_at a (b ∷ bs) n = filter-append (sends_at a) (out b) (flat_map out bs) ∙ rw (sent_other b a (ends b) (says b) (same_end-not b a n.0), none_at a bs n.1) refl
 
-  at_each : (a : EndName) (bs : List EndName) → Apart bs → (sent_at a (flat_map out bs) ≡ []) ⊎ (sent_at a (flat_map out bs) ≡ out a)
+  at_each : (a : EndName) (bs : List EndName) → AreApart bs → (sent_at a (flat_map out bs) ≡ []) ⊎ (sent_at a (flat_map out bs) ≡ out a)
   at_each a [] n = inl refl
   at_each a (b ∷ bs) n = go (at_each a bs n.1) (same_end b a) refl
     where
@@ -122,7 +144,7 @@ module _ (ends : EndName → End) (says : EndName → List FrameText) where
       go (inr one) false is = inr (both ∙ ap (λ (fs : List FrameView). fs ++ sent_at a (flat_map out bs)) (sent_other b a (ends b) (says b) is) ∙ one)
 
   -- where nothing is opened
-  pub some_ends : (taken : Option FrameView) → Calm taken → (bs : List EndName) → Apart bs → ((b : EndName) → NoOpening (says b)) → InOrder ends taken (flat_map out bs)
+  pub some_ends : (taken : Option FrameView) → Calm taken → (bs : List EndName) → AreApart bs → ((b : EndName) → NoOpening (says b)) → InOrder ends taken (flat_map out bs)
   some_ends taken calm bs apart none a = elim (at_each a bs apart) [
     | inl nothing ↦ of_bodies ends taken (flat_map out bs) a [] nothing tt
     | inr one ↦ of_bodies ends taken (flat_map out bs) a (says a) (one ∙ frames_alike a (ends a) (end_took (ends a) (taken_at a taken)) (says a) (took_alike (ends a) a taken calm))

@@ -1,72 +1,51 @@
--- What a step takes is at hand, and what it sends is sent in order.
+-- What a step sends is sent in order, and what it takes is the first frame at its end.
 use Rattle.std.proofs.Common.{◌≡◌, ℕ, Bool, true, false, not, List, [], ◌∷◌, ◌++◌, Option, Some, None, ◌⊎◌, inl, inr, refl, sym, ap, ◌∙◌, subst, true≢false}
-use Rattle.std.specs.Prelude.{if◌then◌else◌, ◌==◌, ◌&&◌, IfSome, find, flat_map, map}
-use Rattle.std.specs.List.{list_all}
+use Rattle.std.specs.Prelude.{if◌then◌else◌, ◌&&◌, IfSome, flat_map, map}
 use Rattle.std.specs.Option.{option_and_then, option_map, option_to_list}
-use Rattle.std.proofs.lemmas.Bool.{and_parts}
-use Rattle.annex_base.specs.Lists.{Member}
-use Rattle.annex_base.specs.declared.kinds.Call.{Call}
-use Rattle.annex_base.specs.declared.kinds.Call.TheVariants.{PutFile}
-use Rattle.annex_base.proofs.Lists.{Member-append_cases, find_member}
+use Rattle.std.proofs.lemmas.Bool.{false_from_ne_true}
+use Rattle.annex_base.specs.Lists.{Each, Member}
+use Rattle.annex_base.proofs.Lists.{Member-append_cases}
 use Rattle.link_ring.specs.declared.frame.Frame.{Frame}
 use Rattle.link_ring.specs.Ends.{EndView, next_frame}
-use Rattle.run_data.specs.declared.entry.EntryKind.TheVariants.{Log, Fault}
+use Rattle.run_data.specs.declared.entry.EntryKind.{EntryKind}
+use Rattle.run_data.specs.declared.entry.EntryKind.TheVariants.{Bar, Fault, Gain, Gone, Order, Share, Talk, End as ends_job}
 use Rattle.run_data.specs.declared.entry.FrameView.{FrameView}
 use Rattle.run_data.specs.declared.entry.FrameText.{FrameText}
-use Rattle.run_data.specs.declared.entry.FrameText.TheVariants.{Opening, Closing, Line}
-use Rattle.run_data.specs.declared.entry.LogFile.TheVariants.{Location}
+use Rattle.run_data.specs.declared.entry.FrameText.TheVariants.{Closing, Line}
 use Rattle.p2p_wire.specs.declared.message.Message.TheVariants.{UnlockContent}
-use Rattle.p2p_wire.specs.Messages.{text_of}
+use Rattle.p2p_wire.specs.Messages.{order_of, text_of}
 use Rattle.node_model.specs.AnyTime.{all_ends, close_at, closes_all}
-use Rattle.node_model.specs.Ends.{End, EndName, end_takes, end_took, frames, is_opening, may_take, server_end, taken_at, takes_at}
-use Rattle.node_model.specs.JobStep.{Turn, end_with, farewell, has_lock, key_of, others_of, quietly, talk, turn_of}
-use Rattle.node_model.specs.Jobs.{Work, job_end, partner}
-use Rattle.node_model.specs.Look.{Look, Made, failing, first_of, first_some, unless, waiting}
-use Rattle.node_model.specs.Owed.{Owed, due}
-use Rattle.node_model.specs.OwedStep.{owed_step, pays_first}
-use Rattle.node_model.specs.SessionStep.{Reply, gives_made, gives_next, here, on_frame, reply_made, session_at, session_makes, session_step}
-use Rattle.node_model.specs.SetUp.{SetUp, served_connections, slots}
+use Rattle.node_model.specs.Ends.{End, EndName, end_sends, end_takes, end_took, frames, is_opening, may_take, sends_at, server_end, taken_at, takes_at}
+use Rattle.node_model.specs.Found.{AsksOne, ByJob, BySession, IsJobEntry, JobTakes, StepFound, success_line}
+use Rattle.node_model.specs.JobStep.{Turn, end_with, farewell, farewells, has_lock, key_of, others_of, turn_of}
+use Rattle.node_model.specs.Jobs.{Work, job_end}
+use Rattle.node_model.specs.Look.{Look, Made}
+use Rattle.node_model.specs.Rows.{is_lost_ordered}
+use Rattle.node_model.specs.SetUp.{SetUp, others}
 use Rattle.node_model.specs.State.{State}
 use Rattle.node_model.specs.Step.{step}
-use Rattle.node_model.specs.Turns.{awaits, by_partner, goes, goes_on, has_room, is_awaiting, job_step, needs, slot_step, takes_frame, with_partner}
 use Rattle.node_ends.specs.Ends.{frame_at, hand_at, link_at}
-use Rattle.link_flights.proofs.Apart.{all_apart, job_ends_apart}
-use Rattle.link_flights.proofs.JobMade.{Makes, OpensOne, SaysFarewell, SendsOne, frame_made, goes_made}
+use Rattle.driver_model.specs.Apart.{AreApart}
 use Rattle.link_flights.proofs.Naming.{end_own, takes_end}
-use Rattle.link_flights.proofs.Orderly.{Calm, InOrder, NoOpening, frames_alike, none_opens, one_end, some_ends, took_alike}
-use Rattle.link_flights.proofs.ReplyMade.{IfOpensNone, frame_says, gives_says}
+use Rattle.link_flights.proofs.Orderly.{Calm, InOrder, NoOpening, frames_alike, none_opens, one_end, same_end-refl, some_ends, took_alike}
 
--- what it takes is one of these, and what it sends is sent in order
-pub record IsOrderly (st : State) (hand : List FrameView) (m : Made) : Type 0 where
-  pub at_hand : (f : FrameView) → m.taken ≡ Some f → Member f hand
-  pub in_order : InOrder st.ends m.taken m.sent
+-- by the laws of lower crates: what steps find, that the ends of a job are apart, and that a step opens closed ends of clients alone
+pub record SendLaws : Type 0 where
+  pub finds : (s : SetUp) (st : State) (k : Look) (m : Made) → step s st k ≡ Some m → StepFound s st k m
+  pub apart : (s : SetUp) (w : Work) → AreApart (map (job_end w) (others s))
+  pub opens : (s : SetUp) (st : State) (k : Look) (m : Made) (g : FrameView) (a : EndName) → step s st k ≡ Some m → Member g m.sent → sends_at a g ≡ true → is_opening g.body ≡ true
+      → (a.client ≡ true) × ((st.ends a).opened ≡ false)
+
+-- by the law of race_core: what a step takes is at hand
+abbrev pub TakenAtHand : Type 0
+TakenAtHand = (s : SetUp) (st : State) (k : Look) (m : Made) (f : FrameView) → step s st k ≡ Some m → m.taken ≡ Some f → Member f k.at_hand
+
+-- what it sends is sent in order
+abbrev pub IsOrderly : State → Made → Type 0
+IsOrderly st m = InOrder st.ends m.taken m.sent
 
 none_taken : {A : Type 0} (o : Option FrameView) (f : FrameView) → o ≡ None → o ≡ Some f → A
 none_taken o f n i = absurd (let no' : None ≡ Some f = sym n ∙ i in cc)
-
-pub first_was : {X : Type 0} (x y : Option X) (z : X) → first_of x y ≡ Some z → (x ≡ Some z) ⊎ (y ≡ Some z)
-first_was None y z e = inr e
-first_was (Some x) y z e = inl e
-
-pub some_was : {X Y : Type 0} (f : X → Option Y) (xs : List X) (y : Y) → first_some f xs ≡ Some y → (x : X) × (f x ≡ Some y)
-some_was f [] y e = absurd (cc)
-some_was {X = X} {Y = Y} f (x ∷ xs) y e = go (λ g. some_was f xs y g) (f x) refl e
-  where
-    go : (first_some f xs ≡ Some y → (z : X) × (f z ≡ Some y)) → (o : Option Y) → f x ≡ o → first_some f (x ∷ xs) ≡ Some y → (z : X) × (f z ≡ Some y)
-    go more None is g = more (rw is at g)
-    go more (Some z) is g = (x, is ∙ (rw is at g))
-
--- a frame that waits is at hand, comes to the end, and may be taken
-pub record Waits (c : End) (k : Look) (a : EndName) (f : FrameView) : Type 0 where
-  pub at_hand : Member f k.at_hand
-  pub comes : takes_at a f ≡ true
-  pub may : may_take c f ≡ true
-
-pub waits : (c : End) (k : Look) (a : EndName) (f : FrameView) → waiting c k a ≡ Some f → Waits c k a f
-waits c k a f e =
-    let x = find_member (λ g. takes_at a g && may_take c g) k.at_hand f e in
-    let y = and_parts (takes_at a f) (may_take c f) x.1 in
-    record { at_hand = x.0; comes = y.0; may = y.1 }
 
 -- at an open end no Opening is taken
 may_calm : (c : End) (f : FrameView) → c.opened ≡ true → may_take c f ≡ true → is_opening f.body ≡ false
@@ -76,82 +55,97 @@ may_calm c f opened_is may = go (is_opening f.body) refl
     go false is = refl
     go true is = absurd (true≢false (sym (rw (is, opened_is) at may)))
 
--- ---- an owed line
+-- ---- a step
 
-silent : (st : State) (hand : List FrameView) (m : Made) → m.taken ≡ None → m.sent ≡ [] → IsOrderly st hand m
-silent st hand m none nothing = record {
-  at_hand = λ f is. none_taken m.taken f none is;
-  in_order = one_end st.ends m.taken m.sent (record { peer = 0; slot = 0; client = false }) [] nothing tt;
-}
+module _ (laws : SendLaws) (s : SetUp) (st : State) (k : Look) (m : Made) (makes : step s st k ≡ Some m) where
+  silent : m.sent ≡ [] → IsOrderly st m
+  silent nothing = one_end st.ends m.taken m.sent (record { peer = 0; slot = 0; client = false }) [] nothing tt
 
-owed_orderly : (s : SetUp) (st : State) (k : Look) (m : Made) (os : List Owed) → pays_first s st k os ≡ Some m → IsOrderly st k.at_hand m
-owed_orderly s st k m [] e = absurd (cc)
-owed_orderly s st k m (o ∷ os) e = go (failing k.fails (PutFile ∷ [])) e
-  where
-    go : (c : Option Call) → Some (unless c (λ call. record { kind = Fault call o.by; taken = None; sent = []; lines = [] })
-        (record { kind = Log (Location o.key); taken = None; sent = []; lines = due s.repos st.lines (st.wall k.time) o })) ≡ Some m → IsOrderly st k.at_hand m
-    go None g =
-        let same : record { kind = Log (Location o.key); taken = None; sent = []; lines = due s.repos st.lines (st.wall k.time) o } ≡ m = cc in
-        silent st k.at_hand m (sym (ap (λ (z : Made). z.taken) same)) (sym (ap (λ (z : Made). z.sent) same))
-    go (Some call) g =
-        let same : record { kind = Fault call o.by; taken = None; sent = []; lines = [] } ≡ m = cc in
-        silent st k.at_hand m (sym (ap (λ (z : Made). z.taken) same)) (sym (ap (λ (z : Made). z.sent) same))
+  -- where an Opening is sent at an end, this is a client's, and closed
+  abbrev OpensAt : EndName → FrameText → Type 0
+  OpensAt a body = is_opening body ≡ true → (a.client ≡ true) × ((st.ends a).opened ≡ false)
 
--- ---- a session
-
-module _ (s : SetUp) (st : State) (k : Look) where
-  reply_taken : (a : EndName) (f : FrameView) (x : Reply) → waiting (st.ends a) k a ≡ Some f → NoOpening x.says
-      → IsOrderly st k.at_hand (reply_made a (end_takes (st.ends a) f.epoch f.body) (Some f) x)
-  reply_taken a f x w none =
-      let it = waits (st.ends a) k a f w in
-      record {
-        at_hand = λ g is. let same : f ≡ g = cc in subst (λ (h : FrameView). Member h k.at_hand) same it.at_hand;
-        in_order = one_end st.ends (Some f) (frames a (end_takes (st.ends a) f.epoch f.body) x.says) a x.says (rw it.comes refl) (none_opens (st.ends a) (taken_at a (Some f)) x.says none);
-      }
-
-  reply_given : (a : EndName) (x : Reply) → NoOpening x.says → IsOrderly st k.at_hand (reply_made a (st.ends a) None x)
-  reply_given a x none = record {
-    at_hand = λ g is. none_taken None g refl is;
-    in_order = one_end st.ends None (frames a (st.ends a) x.says) a x.says refl (none_opens (st.ends a) None x.says none);
-  }
-
-  gives_orderly : (a : EndName) (o : Option Reply) (m : Made) → IfOpensNone (here s st k a) o → gives_made a (st.ends a) o ≡ Some m → IsOrderly st k.at_hand m
-  gives_orderly a None m none e = absurd (cc)
-  gives_orderly a (Some x) m none e = let same : reply_made a (st.ends a) None x ≡ m = cc in subst (IsOrderly st k.at_hand) same (reply_given a x none)
-
-  makes_orderly : (a : EndName) (o : Option FrameView) (m : Made) → waiting (st.ends a) k a ≡ o → session_makes (here s st k a) (st.ends a) (st.sessions a) o ≡ Some m → IsOrderly st k.at_hand m
-  makes_orderly a (Some f) m w e =
-      let same : reply_made a (end_takes (st.ends a) f.epoch f.body) (Some f) (on_frame (here s st k a) (st.sessions a) f.body) ≡ m = cc in
-      subst (IsOrderly st k.at_hand) same (reply_taken a f (on_frame (here s st k a) (st.sessions a) f.body) w (frame_says (here s st k a) (st.sessions a) f.body))
-  makes_orderly a None m w e = go (st.ends a).opened e
+  opens_at : (a : EndName) (c : End) (bodies : List FrameText) → m.sent ≡ frames a c bodies → Each (OpensAt a) bodies
+  opens_at a c bodies is = go c bodies (λ g among. laws.opens s st k m g a makes (subst (Member g) (sym is) among))
     where
-      go : (b : Bool) → (if b then gives_made a (st.ends a) (gives_next (here s st k a) (st.sessions a).doing) else None) ≡ Some m → IsOrderly st k.at_hand m
-      go true g = gives_orderly a (gives_next (here s st k a) (st.sessions a).doing) m (gives_says (here s st k a) (st.sessions a).doing) g
-      go false g = absurd (cc)
+      go : (c : End) (bodies : List FrameText) → ((g : FrameView) → Member g (frames a c bodies) → sends_at a g ≡ true → OpensAt a g.body) → Each (OpensAt a) bodies
+      go c [] all = tt
+      go c (body ∷ bodies) all = (
+        all (record { peer = a.peer; slot = a.slot; up = a.client; epoch = (end_sends c body).epoch; seq = (end_sends c body).sent; body = body }) (inl refl) (same_end-refl a),
+        go (end_sends c body) bodies (λ g among. all g (inr among)),
+      )
 
-  session_orderly : (a : EndName) (m : Made) → session_at s st k a ≡ Some m → IsOrderly st k.at_hand m
-  session_orderly a m e = go (k.room a) e
+  -- ---- a session
+
+  server_opens : (a : EndName) → a.client ≡ false → (bodies : List FrameText) → Each (OpensAt a) bodies → NoOpening bodies
+  server_opens a server [] all = tt
+  server_opens a server (body ∷ bodies) all = (false_from_ne_true (is_opening body) (λ is. true≢false (sym (all.0 is).0 ∙ server)), server_opens a server bodies all.1)
+
+  session_orderly : BySession s st k m → IsOrderly st m
+  session_orderly x = elim (x.frame) [
+    | inl y ↦ at (end_takes (st.ends a) y.f.epoch y.f.body) y.sent_is (ap (λ (o : Option FrameView). end_took (st.ends a) (taken_at a o)) y.taken_is ∙ ap (λ (b : Bool). end_took (st.ends a) (if b then Some y.f else None)) y.of_end)
+    | inr y ↦ at (st.ends a) y.sent_is (ap (λ (o : Option FrameView). end_took (st.ends a) (taken_at a o)) y.taken_is)
+  ]
     where
-      go : (b : Bool) → (if b then session_makes (here s st k a) (st.ends a) (st.sessions a) (waiting (st.ends a) k a) else None) ≡ Some m → IsOrderly st k.at_hand m
-      go true g = makes_orderly a (waiting (st.ends a) k a) m refl g
-      go false g = absurd (cc)
+      a : EndName
+      a = server_end x.peer x.slot
+
+      at : (c : End) → m.sent ≡ frames a c x.says → end_took (st.ends a) (taken_at a m.taken) ≡ c → IsOrderly st m
+      at c is between = one_end st.ends m.taken m.sent a x.says (is ∙ ap (λ (c : End). frames a c x.says) (sym between))
+          (none_opens (st.ends a) (taken_at a m.taken) x.says (server_opens a refl x.says (opens_at a c x.says is)))
 
   -- ---- a job
 
-  module _ (w : Work) where
+  module _ (x : ByJob s st k m) where
+    abbrev w : Work
+    w = x.w
+
     abbrev t : Turn
-    t = turn_of s st k w
+    t = turn_of s st k x.w
+
+    -- what it takes is no Opening
+    calm : Calm m.taken
+    calm f is = go x.frame
+      where
+        go : (m.taken ≡ None) ⊎ JobTakes (turn_of s st k x.w) m → is_opening f.body ≡ false
+        go (inl none) = none_taken m.taken f none is
+        go (inr y) =
+            let one : Some y.f ≡ Some f = sym y.taken_is ∙ is in
+            let same : y.f ≡ f = cc in
+            subst (λ (g : FrameView). is_opening g.body ≡ false) same (may_calm (end_with t y.peer) y.f y.opened y.may)
 
     -- at one of its ends
-    sends_one : (m : Made) → Calm m.taken → SendsOne (turn_of s st k w) m → InOrder st.ends m.taken m.sent
-    sends_one m calm x =
-        one_end st.ends m.taken m.sent (job_end w x.0) x.1
-        (x.2 ∙ frames_alike (job_end w x.0) (st.ends (job_end w x.0)) (end_took (st.ends (job_end w x.0)) (taken_at (job_end w x.0) m.taken)) x.1 (took_alike (st.ends (job_end w x.0)) (job_end w x.0) m.taken calm))
-        (none_opens (st.ends (job_end w x.0)) (taken_at (job_end w x.0) m.taken) x.1 x.3)
+    at_one : (peer : ℕ) (bodies : List FrameText) → m.sent ≡ frames (job_end w peer) (end_with t peer) bodies → NoOpening bodies → IsOrderly st m
+    at_one peer bodies is none =
+        one_end st.ends m.taken m.sent (job_end w peer) bodies
+        (is ∙ frames_alike (job_end w peer) (st.ends (job_end w peer)) (end_took (st.ends (job_end w peer)) (taken_at (job_end w peer) m.taken)) bodies (took_alike (st.ends (job_end w peer)) (job_end w peer) m.taken calm))
+        (none_opens (st.ends (job_end w peer)) (taken_at (job_end w peer) m.taken) bodies none)
 
-    opens_one : (m : Made) → OpensOne (turn_of s st k w) m → InOrder st.ends m.taken m.sent
-    opens_one m x = subst (λ (o : Option FrameView). InOrder st.ends o m.sent) (sym x.3)
-        (one_end st.ends None m.sent (job_end w x.0) (Opening ∷ []) x.2 ((λ is. (x.1, refl)), tt))
+    -- at a closed end it takes nothing
+    none_there : (a : EndName) → (st.ends a).opened ≡ false → taken_at a m.taken ≡ None
+    none_there a closed = go x.frame
+      where
+        go : (m.taken ≡ None) ⊎ JobTakes (turn_of s st k x.w) m → taken_at a m.taken ≡ None
+        go (inl none) = ap (taken_at a) none
+        go (inr y) = ap (taken_at a) y.taken_is ∙ at (takes_at a y.f) refl
+          where
+            at : (b : Bool) → takes_at a y.f ≡ b → (if b then Some y.f else None) ≡ None
+            at false is = refl
+            at true is = absurd (true≢false (sym y.opened ∙ ap (λ (b : EndName). (st.ends b).opened) (sym (takes_end (job_end x.w y.peer) y.f y.of_end) ∙ takes_end a y.f is) ∙ closed))
+
+    asks : AsksOne t m.sent → IsOrderly st m
+    asks (inl nothing) = silent nothing
+    asks (inr y) = go (is_opening y.1) refl
+      where
+        a : EndName
+        a = job_end x.w y.0
+
+        go : (b : Bool) → is_opening y.1 ≡ b → IsOrderly st m
+        go false is = at_one y.0 (y.1 ∷ []) y.2 (is, tt)
+        go true is =
+            let closed = ((opens_at a (st.ends a) (y.1 ∷ []) y.2).0 is).1 in
+            let none = none_there a closed in
+            one_end st.ends m.taken m.sent a (y.1 ∷ []) (y.2 ∙ ap (λ (o : Option FrameView). frames a (end_took (st.ends a) o) (y.1 ∷ [])) (sym none)) ((λ opening. (closed, none)), tt)
 
     abbrev last : Bool → EndName → List FrameText
     last lost b = farewell t lost b.peer (st.ends b).opened
@@ -159,93 +153,46 @@ module _ (s : SetUp) (st : State) (k : Look) where
     last_none : (lost : Bool) (b : EndName) → NoOpening (last lost b)
     last_none lost b = go (st.ends b).opened
       where
-        own : (c : Bool) → NoOpening ((if c then Line (text_of (UnlockContent (key_of (turn_of s st k w)))) ∷ [] else []) ++ Closing ∷ [])
+        own : (c : Bool) → NoOpening ((if c then Line (text_of (UnlockContent (key_of (turn_of s st k x.w)))) ∷ [] else []) ++ Closing ∷ [])
         own true = (refl, (refl, tt))
         own false = (refl, tt)
 
-        go : (c : Bool) → NoOpening (farewell (turn_of s st k w) lost b.peer c)
+        go : (c : Bool) → NoOpening (farewell (turn_of s st k x.w) lost b.peer c)
         go false = tt
-        go true = own (has_lock (turn_of s st k w) b.peer && not lost)
+        go true = own (has_lock (turn_of s st k x.w) b.peer && not lost)
 
     named : (lost : Bool) (xs : List ℕ) → flat_map (λ b. frames b (st.ends b) (last lost b)) (map (job_end w) xs)
         ≡ flat_map (λ peer. frames (job_end w peer) (end_with t peer) (farewell t lost peer (end_with t peer).opened)) xs
     named lost [] = refl
-    named lost (x ∷ xs) = ap (λ (fs : List FrameView). frames (job_end w x) (end_with t x) (farewell t lost x (end_with t x).opened) ++ fs) (named lost xs)
+    named lost (y ∷ ys) = ap (λ (fs : List FrameView). frames (job_end w y) (end_with t y) (farewell t lost y (end_with t y).opened) ++ fs) (named lost ys)
 
-    says_last : (m : Made) → Calm m.taken → SaysFarewell (turn_of s st k w) m → InOrder st.ends m.taken m.sent
-    says_last m calm x = subst (λ (fs : List FrameView). InOrder st.ends m.taken fs) (named x.0 (others_of t) ∙ sym x.1)
-        (some_ends st.ends (last x.0) m.taken calm (map (job_end w) (others_of t)) (job_ends_apart w t.read.repo t.read.count) (last_none x.0))
+    says_last : (lost : Bool) → m.sent ≡ farewells t lost → IsOrderly st m
+    says_last lost is = subst (λ (fs : List FrameView). InOrder st.ends m.taken fs) (named lost (others_of t) ∙ sym is)
+        (some_ends st.ends (last lost) m.taken calm (map (job_end w) (others_of t)) (laws.apart s w) (last_none lost))
 
-    job_in_order : (m : Made) (o : Option FrameView) → Calm o → Makes (turn_of s st k w) o m → InOrder st.ends m.taken m.sent
-    job_in_order m o calm made = go made.sent
-      where
-        still : Calm m.taken
-        still f is = calm f (sym made.taken ∙ is)
+    job_orderly : (kind : EntryKind) → IsJobEntry t m kind → IsOrderly st m
+    job_orderly (Share hold end by key) y = silent y.sends_none
+    job_orderly (Bar j need key) y = silent y.sends_none
+    job_orderly (Gone by key) y = silent y.sends_none
+    job_orderly (Order j peer deadline need key) y = at_one peer (Line (text_of (order_of deadline key)) ∷ []) y.sent_is (refl, tt)
+    job_orderly (Gain by size key) y = at_one y.peer success_line y.sent_is (refl, tt)
+    job_orderly (ends_job j outcome) y = says_last (is_lost_ordered outcome) y.sent_is
+    job_orderly (Talk (Some j)) y = asks y.1
+    job_orderly (Fault call by) y = silent y.1
+    job_orderly kind y = absurd y
 
-        go : SendsOne (turn_of s st k w) m ⊎ (OpensOne (turn_of s st k w) m ⊎ SaysFarewell (turn_of s st k w) m) → InOrder st.ends m.taken m.sent
-        go (inl x) = sends_one m still x
-        go (inr (inl x)) = opens_one m x
-        go (inr (inr x)) = says_last m still x
+  -- ---- whoever makes it
 
-    none_orderly : (m : Made) → Makes (turn_of s st k w) None m → IsOrderly st k.at_hand m
-    none_orderly m made = record { at_hand = λ f is. none_taken m.taken f made.taken is; in_order = job_in_order m None (λ f is. none_taken None f refl is) made }
-
-    on_orderly : (m : Made) → goes_on t ≡ Some m → IsOrderly st k.at_hand m
-    on_orderly m e = go (list_all (has_room t) (needs t w.phase)) e
-      where
-        go : (b : Bool) → (if b then Some (goes (turn_of s st k w) w.phase) else None) ≡ Some m → IsOrderly st k.at_hand m
-        go false h = absurd (cc)
-        go true h = let same : goes (turn_of s st k w) w.phase ≡ m = cc in subst (IsOrderly st k.at_hand) same (none_orderly (goes (turn_of s st k w) w.phase) (goes_made (turn_of s st k w) w.phase))
-
-    frame_orderly : (peer : ℕ) (f : FrameView) → (end_with t peer).opened ≡ true → waiting (end_with t peer) k (job_end w peer) ≡ Some f → IsOrderly st k.at_hand (takes_frame t peer f f.body)
-    frame_orderly peer f opened_is i =
-        let it = waits (end_with t peer) k (job_end w peer) f i in
-        let made = frame_made t f peer f.body in
-        record {
-          at_hand = λ g is. let one : Some f ≡ Some g = sym made.taken ∙ is in let same : f ≡ g = cc in subst (λ (h : FrameView). Member h k.at_hand) same it.at_hand;
-          in_order = job_in_order (takes_frame t peer f f.body) (Some f) (λ g is. let same : f ≡ g = cc in subst (λ (h : FrameView). is_opening h.body ≡ false) same (may_calm (end_with t peer) f opened_is it.may)) made;
-        }
-
-    awaits_orderly : (peer : ℕ) (o : Option FrameView) (m : Made) → (end_with t peer).opened ≡ true → waiting (end_with t peer) k (job_end w peer) ≡ o → awaits t peer o ≡ Some m → IsOrderly st k.at_hand m
-    awaits_orderly peer None m opened_is i e = absurd (cc)
-    awaits_orderly peer (Some f) m opened_is i e = go (has_room t peer) e
-      where
-        go : (b : Bool) → (if b then Some (takes_frame (turn_of s st k w) peer f f.body) else None) ≡ Some m → IsOrderly st k.at_hand m
-        go false h = absurd (cc)
-        go true h = let same : takes_frame (turn_of s st k w) peer f f.body ≡ m = cc in subst (IsOrderly st k.at_hand) same (frame_orderly peer f opened_is i)
-
-    partner_orderly : (p : Option ℕ) (m : Made) → by_partner t p ≡ Some m → IsOrderly st k.at_hand m
-    partner_orderly None m e = on_orderly m e
-    partner_orderly (Some peer) m e = go (end_with t peer).opened refl e
-      where
-        more : (end_with (turn_of s st k w) peer).opened ≡ true → (b : Bool)
-            → (if b then awaits (turn_of s st k w) peer (waiting (end_with (turn_of s st k w) peer) k (job_end w peer)) else goes_on (turn_of s st k w)) ≡ Some m → IsOrderly st k.at_hand m
-        more opened_is true h = awaits_orderly peer (waiting (end_with (turn_of s st k w) peer) k (job_end w peer)) m opened_is refl h
-        more opened_is false h = on_orderly m h
-
-        go : (b : Bool) → (end_with (turn_of s st k w) peer).opened ≡ b → with_partner (turn_of s st k w) peer b ≡ Some m → IsOrderly st k.at_hand m
-        go false is h =
-            let same : quietly (talk (turn_of s st k w)) None ≡ m = cc in
-            silent st k.at_hand m (sym (ap (λ (z : Made). z.taken) same)) (sym (ap (λ (z : Made). z.sent) same))
-        go true is h = more is (is_awaiting w.phase) h
-
-  slot_orderly : (o : Option Work) (m : Made) → slot_step s st k o ≡ Some m → IsOrderly st k.at_hand m
-  slot_orderly None m e = absurd (cc)
-  slot_orderly (Some w) m e = partner_orderly w (partner w.what.peer w.phase) m e
-
-  rest_orderly : (m : Made) → (session_step s st k ≡ Some m) ⊎ (job_step s st k ≡ Some m) → IsOrderly st k.at_hand m
-  rest_orderly m (inl e) =
-      let x = some_was (λ (c : ℕ × ℕ). session_at s st k (server_end c.0 c.1)) (served_connections s) m e in session_orderly (server_end x.0.0 x.0.1) m x.1
-  rest_orderly m (inr e) =
-      let x = some_was (λ slot. slot_step s st k (find (λ w. w.slot == slot) st.works)) slots m e in slot_orderly (find (λ w. w.slot == x.0) st.works) m x.1
-
--- ---- the step
-
-pub step_orderly : (s : SetUp) (st : State) (k : Look) (m : Made) → step s st k ≡ Some m → IsOrderly st k.at_hand m
-step_orderly s st k m e = elim (first_was (owed_step s st k) (first_of (session_step s st k) (job_step s st k)) m e) [
-  | inl o ↦ owed_orderly s st k m st.owed o
-  | inr r ↦ rest_orderly s st k m (first_was (session_step s st k) (job_step s st k) m r)
-]
+  pub step_orderly : IsOrderly st m
+  step_orderly = go (laws.finds s st k m makes)
+    where
+      go : StepFound s st k m → IsOrderly st m
+      go (inl x) = elim (x.writes) [
+        | inl y ↦ silent (ap (λ (z : Made). z.sent) y)
+        | inr y ↦ silent (ap (λ (z : Made). z.sent) y)
+      ]
+      go (inr (inl x)) = session_orderly x
+      go (inr (inr x)) = job_orderly x m.kind x.found
 
 -- ---- what is taken is the first frame at its end
 
@@ -306,6 +253,6 @@ all_named s st [] = refl
 all_named s st (b ∷ bs) = ap (λ (fs : List FrameView). fs ++ flat_map (λ b. frames b (st.ends b) (if (st.ends b).opened then Closing ∷ [] else [])) bs) (close_named s st b)
     ∙ ap (λ (fs : List FrameView). close_at s st b ++ fs) (all_named s st bs)
 
-pub closes_in_order : (s : SetUp) (st : State) → InOrder st.ends None (closes_all s st)
-closes_in_order s st = subst (λ (fs : List FrameView). InOrder st.ends None fs) (all_named s st (all_ends s))
-    (some_ends st.ends (λ b. if (st.ends b).opened then Closing ∷ [] else []) None (λ f is. none_taken None f refl is) (all_ends s) (all_apart s) (λ b. closes (st.ends b).opened))
+pub closes_in_order : (s : SetUp) (st : State) → AreApart (all_ends s) → InOrder st.ends None (closes_all s st)
+closes_in_order s st apart = subst (λ (fs : List FrameView). InOrder st.ends None fs) (all_named s st (all_ends s))
+    (some_ends st.ends (λ b. if (st.ends b).opened then Closing ∷ [] else []) None (λ f is. none_taken None f refl is) (all_ends s) apart (λ b. closes (st.ends b).opened))

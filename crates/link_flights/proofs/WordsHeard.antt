@@ -1,60 +1,59 @@
 -- The words that jobs were told, after an entry.
-use Rattle.std.proofs.Common.{◌≡◌, ◌≢◌, ◌<◌, ◌⊎◌, inl, inr, ℕ, suc, ◌+◌, Bool, true, false, not, ◌&&◌, ◌||◌, List, [], ◌∷◌, Option, Some, None, refl, sym, ap, ◌∙◌, subst, arith, true≢false}
+use Rattle.std.proofs.Common.{◌≡◌, ◌<◌, ◌⊎◌, inl, inr, ℕ, Bool, true, false, not, ◌&&◌, ◌||◌, List, [], ◌∷◌, Option, Some, None, refl, sym, ap, ◌∙◌, subst, arith, true≢false}
 use Rattle.std.specs.Prelude.{cond, ◌==◌, drop, filter, find, flat_map, if◌then◌else◌, length, map, nat_lt, slice_get}
 use Rattle.std.specs.List.{AllZip}
 use Rattle.std.specs.Option.{option_and_then, option_map, option_to_list}
-use Rattle.std.proofs.lemmas.Bool.{cases_Bool, eqb-true}
+use Rattle.std.proofs.lemmas.Bool.{eqb-true}
 use Rattle.std.proofs.lemmas.Bool.Decides.{nat_tests}
+use Rattle.std.proofs.Math.Bool.{and-false}
 use Rattle.annex_base.specs.Lists.{Member}
 use Rattle.annex_base.specs.declared.kinds.Word.{Word}
-use Rattle.annex_base.proofs.Conditions.{eqb_refl}
-use Rattle.annex_base.proofs.Lists.{Member-filter_parts, find_member}
+use Rattle.annex_base.proofs.Conditions.{eqb_apart, eqb_refl}
+use Rattle.annex_base.proofs.Lists.{find_member, Member-filter_parts, not_longer}
 use Rattle.drop_proof.specs.declared.rule.Side.{Side}
-use Rattle.drop_proof.specs.declared.rule.Side.TheVariants.{Local, Remote}
+use Rattle.drop_proof.specs.declared.rule.Side.TheVariants.{Remote}
 use Rattle.link_ring.specs.declared.frame.Frame.{Frame}
 use Rattle.link_ring.specs.declared.frame.Body.{Body}
 use Rattle.link_ring.specs.declared.frame.Body.TheVariants as bodies
 use Rattle.link_ring.specs.Ends.{EndView, after_drop, is_taken, next_frame}
 use Rattle.p2p_wire.specs.declared.message.Message.{Message}
-use Rattle.run_data.specs.declared.entry.By.{By}
 use Rattle.run_data.specs.declared.entry.Entry.{Entry}
 use Rattle.run_data.specs.declared.entry.EntryKind.{EntryKind}
-use Rattle.run_data.specs.declared.entry.EntryKind.TheVariants.{Begin, Crash, Gone, End as ends_job}
+use Rattle.run_data.specs.declared.entry.EntryKind.TheVariants.{Begin, Crash, End as ends_job}
 use Rattle.run_data.specs.declared.entry.FrameView.{FrameView}
 use Rattle.run_data.specs.declared.job.Job.{Job}
 use Rattle.run_data.specs.declared.job.Outcome.{Outcome}
-use Rattle.run_model.specs.Frames.{Flying, Sent, Way, frames_sent, sender, sent_of, taken_count, way_of}
+use Rattle.run_model.specs.Frames.{SendingEntry, Way, frames_sent, sender, sending_entry, taken_count, way_of}
 use Rattle.run_model.specs.Past.{is_of}
 use Rattle.run_model.specs.States.{end_at, rows_at, state_of, works}
-use Rattle.run_model.specs.Words.{awaits_of, awaits_word, word_of, word_of_kind, word_taken, word_told}
+use Rattle.run_model.specs.Words.{awaits_of, awaits_word, word_of, word_taken, word_told}
 use Rattle.node_model.specs.AnyTime.{all_ends}
 use Rattle.node_model.specs.Ends.{End, EndName, takes_at}
-use Rattle.node_model.specs.Jobs.{AsksLook, Denied, Fresh, Heard, Next, Orders, Phase, Removed, Rows, Unseen, Work, drop_side, heard_of, is_ordered, job_end, new_work, or_own, partner, side_of, target_of, work_after, work_kind, works_after}
+use Rattle.node_model.specs.Jobs.{AsksLook, Denied, Fresh, Heard, Next, Orders, Phase, Removed, RowsAndEnds, Unseen, Work, drop_side, heard_of, is_ordered, job_end, new_work, or_own, partner, side_of, target_of, work_after, work_kind, works_after}
 use Rattle.node_model.specs.Look.{Look, Made}
 use Rattle.node_model.specs.Rows.{option_is}
 use Rattle.node_model.specs.Sessions.{line_in}
 use Rattle.node_model.specs.SetUp.{SetUp}
-use Rattle.node_model.specs.Slots.{Running, is_begin, job_of}
+use Rattle.node_model.specs.Slots.{RunningJob, is_begin, job_of}
 use Rattle.node_model.specs.Step.{step}
 use Rattle.node_ends.specs.Ends.{AreEnds, IsEndOf, end_in, frame_at, hand_at, link_at, stands, text_in}
 use Rattle.node_ends.specs.Joined.{end_with}
 use Rattle.driver_model.specs.Turning.{told_words}
-use Rattle.driver_model.specs.Ways.{Over}
+use Rattle.driver_model.specs.Ways.{IsOver}
 use Rattle.driver_model.specs.WordsRead.{AgreeWhereRead, ReadsWord, is_answered}
 use Rattle.race_core.specs.Jobs.{AnswersAsked, AreJobs, TakesAnswer, is_asked, keeps_word}
 use Rattle.link_flights.specs.Heard.{HeardSo, HearsOf, SameWords, WordsGoOn, word_at}
-use Rattle.link_flights.specs.Words.{AreAllWorded, AreWorded, HasItsWord, HaveWords, is_line, of_epoch, way_down}
-use Rattle.link_flights.proofs.ActingJobs.{Acts, IsHere, StepsFind, acts, steps_begin_none, taken_here}
+use Rattle.link_flights.specs.Words.{AreAllWorded, AreWorded, HasItsWord, HaveWords, is_line, way_down}
+use Rattle.link_flights.proofs.ActingJobs.{Acts, IsHere, StepLaws, acts, steps_begin_none, taken_here}
 use Rattle.link_flights.proofs.Dropped.{link_drop, old_same}
 use Rattle.link_flights.proofs.Fleet.{mapped}
-use Rattle.link_flights.proofs.JobMoves.{IsObeyed, IsRefused, Moves, News, has_verdict, kind_moves, unanswered}
+use Rattle.link_flights.proofs.JobMoves.{IsObeyed, IsRefused, Moves, News, kind_moves, unanswered}
 use Rattle.link_flights.proofs.Passed.{is_over}
-use Rattle.link_flights.proofs.Stepped.{step_orderly}
 use Rattle.link_flights.proofs.WordsTaken.{first_of_zip, words_dropped}
 
 -- ---- the word beside the frame at hand
 
-over_is : (c : End) (n : ℕ) → Over c n → is_over c n ≡ true
+over_is : (c : End) (n : ℕ) → IsOver c n → is_over c n ≡ true
 over_is c n (inl i) = let t : nat_lt n c.epoch ≡ true = grind (arith, nat_tests) in rw t refl
 over_is c n (inr i) = rw (i.0, i.1, eqb_refl c.epoch) (either (nat_lt c.epoch c.epoch))
   where
@@ -102,7 +101,7 @@ module _ (past : List Entry) (r : ℕ) (links : List EndView) (slot c : ℕ) (v 
   w = way_down r (end_with c slot true) x.epoch
 
   pub beside_is : link_at links a ≡ Some v → next_frame v ≡ Some x → AreWorded past r a v.at_hand → end_at past r a ≡ stands v → is_line x.body ≡ true
-      → ((z : Sent) → sender past r (Some (frame_at a x)) ≡ Some z → is_asked z.entry ≡ true)
+      → ((z : SendingEntry) → sender past r (Some (frame_at a x)) ≡ Some z → is_asked z.entry ≡ true)
       → word_at links a ≡ word_of (slice_get (frames_sent past (way_of r (frame_at a x))) (taken_count past (way_of r (frame_at a x))))
   beside_is link next worded stood line asked = there ∙ go (worded x.epoch)
     where
@@ -118,18 +117,15 @@ module _ (past : List Entry) (r : ℕ) (links : List EndView) (slot c : ℕ) (v 
       stays : (y : Frame) → (y.epoch == x.epoch) ≡ true → is_taken v y ≡ true
       stays y is = sym (old_same v a y) ∙ ap (λ n. not (is_over (stands v) n)) (eqb-true y.epoch x.epoch is) ∙ fresh
 
-      go : Over (end_at past r a) x.epoch ⊎ HaveWords past w v.at_hand → x.word ≡ word_of (slice_get (frames_sent past w) (taken_count past w))
+      go : IsOver (end_at past r a) x.epoch ⊎ HaveWords past w v.at_hand → x.word ≡ word_of (slice_get (frames_sent past w) (taken_count past w))
       go (inl o) = absurd (true≢false (sym fresh ∙ ap not (ap (λ (c : End). is_over c x.epoch) (sym stood) ∙ over_is (end_at past r a) x.epoch o)))
       go (inr h) =
           let first = first_narrow (is_taken v) (λ y. y.epoch == x.epoch) v.at_hand x stays next (eqb_refl x.epoch) in
           let y = first_of_zip HasItsWord x first.0 (taken_count past w) (frames_sent past w)
           (subst (λ xs. AllZip HasItsWord xs (drop (taken_count past w) (frames_sent past w))) first.1 h.words) in
-          y.it line (asked (sent_of y.y) (ap (option_map sent_of) y.at)) ∙ sym (ap word_of y.at)
+          y.it line (asked (sending_entry y.y) (ap (option_map sending_entry) y.at)) ∙ sym (ap word_of y.at)
 
 -- ---- jobs
-
-longer : {X : Type 0} (x : X) (xs : List X) → xs ≡ x ∷ xs → ⊥
-longer x xs e = let n : length xs ≡ suc (length xs) = ap length e in omega (arith, n)
 
 first_name : (c : ℕ) (g : Heard) (d : ℕ) (h : Heard) (xs : List (ℕ × Heard)) → Path (List (ℕ × Heard)) ((c, g) ∷ xs) ((d, h) ∷ xs) → c ≡ d
 first_name c g d h xs e =
@@ -159,10 +155,6 @@ told_none past e r j c none = go (is_of r e && option_is (job_of e.kind) j && aw
     go true = ap (λ (o : Option FrameView). word_taken past r c o (word_told past r j c)) none
     go false = refl
 
-never : (b : Bool) → (b && false) ≡ false
-never true = refl
-never false = refl
-
 -- one of this number is found
 found_one : (ws : List Work) (w : Work) → Member w ws → (v : Work) × (find (λ (x : Work). x.number == w.number) ws ≡ Some v)
 found_one [] w there = absurd there
@@ -185,16 +177,13 @@ from_map f [] v there = absurd there
 from_map f (w ∷ ws) v (inl same) = (w, inl refl, same)
 from_map f (w ∷ ws) v (inr there) = let z = from_map f ws v there in (z.0, inr z.1, z.2)
 
-swap_eqb : (m n : ℕ) → not (m == n) ≡ true → (n == m) ≡ false
-swap_eqb m n e = grind (arith, nat_tests)
-
 -- a job after an entry that begins none was one before
-pub came_of : (rows : Rows) (r : ℕ) (ws : List Work) (e : Entry) (kind : EntryKind) → e.kind ≡ kind → is_begin kind ≡ false → (v : Work) → Member v (works_after rows r ws e kind)
+pub came_of : (rows : RowsAndEnds) (r : ℕ) (ws : List Work) (e : Entry) (kind : EntryKind) → e.kind ≡ kind → is_begin kind ≡ false → (v : Work) → Member v (works_after rows r ws e kind)
     → (w : Work) × (Member w ws) × (v ≡ work_after rows r e w)
 came_of rows r ws e (Begin job what) is none v there = absurd (true≢false none)
 came_of rows r ws e (ends_job job outcome) is none v there =
     let z = Member-filter_parts (λ (w : Work). not (w.number == job)) ws v there in
-    let other : option_is (job_of e.kind) v.number ≡ false = ap (λ (k : EntryKind). option_is (job_of k) v.number) is ∙ swap_eqb v.number job z.1 in
+    let other : option_is (job_of e.kind) v.number ≡ false = ap (λ (k : EntryKind). option_is (job_of k) v.number) is ∙ eqb_apart v.number job z.1 in
     (v, z.0, rw other refl)
 came_of rows r ws e (Crash clock) is none v there = absurd there
 came_of rows r ws e kind is none v there = from_map (work_after rows r e) ws v there
@@ -244,7 +233,7 @@ heard_begun past e r job what was now own begins none stay heard v c there reads
 
 -- ---- a step
 
-module _ (finds : StepsFind) (s : SetUp) (past : List Entry) (k : Look) (m : Made) (e : Entry) (links : List EndView) (was now : ℕ → ℕ → Option Word)
+module _ (laws : StepLaws) (s : SetUp) (past : List Entry) (k : Look) (m : Made) (e : Entry) (links : List EndView) (was now : ℕ → ℕ → Option Word)
     (makes : step s (state_of s past) k ≡ Some m) (own : is_of s.number e ≡ true) (kind : e.kind ≡ m.kind) (taken : e.taken ≡ m.taken)
     (sees : k.at_hand ≡ flat_map (λ (b : EndName). option_to_list (hand_at links b)) (all_ends s))
     (worded : (a : EndName) (v : EndView) → Member a (all_ends s) → a.client ≡ true → link_at links a ≡ Some v → (end_at past s.number a ≡ stands v) × AreWorded past s.number a v.at_hand)
@@ -253,7 +242,7 @@ module _ (finds : StepsFind) (s : SetUp) (past : List Entry) (k : Look) (m : Mad
   r = s.number
 
   it_acts : (w : Work) → Member w (works past s.number) → job_of e.kind ≡ Some w.number → Acts w m
-  it_acts w there number = acts finds s (state_of s past) k m makes jobs w there (ap job_of (sym kind) ∙ number)
+  it_acts w there number = acts laws s (state_of s past) k m makes jobs w there (ap job_of (sym kind) ∙ number)
 
   -- the answer's word is the past's
   told_now : (w v : Work) (c : ℕ) (f : FrameView) → Member w (works past s.number) → Member v (works (e ∷ past) s.number) → v.number ≡ w.number → job_of e.kind ≡ Some w.number
@@ -263,7 +252,7 @@ module _ (finds : StepsFind) (s : SetUp) (past : List Entry) (k : Look) (m : Mad
       let act = (it_acts w there number).takes f (sym taken ∙ is) in
       let one : Some act.0 ≡ Some c = sym act.1 ∙ on in
       let peer : act.0 ≡ c = cc in
-      at (taken_here links s (job_end w c) f (subst (λ hand. Member f hand) sees ((step_orderly s (state_of s past) k m makes).at_hand f (sym taken ∙ is)))
+      at (taken_here links s (job_end w c) f (subst (λ hand. Member f hand) sees (laws.at_hand s (state_of s past) k m f makes (sym taken ∙ is)))
       (subst (λ p. takes_at (job_end w p) f ≡ true) peer act.2))
     where
       at : IsHere links s (job_end w c) f → now w.number c ≡ word_told (e ∷ past) s.number w.number c
@@ -317,7 +306,7 @@ module _ (finds : StepsFind) (s : SetUp) (past : List Entry) (k : Look) (m : Mad
   goes_on w v c was_there there number reads none =
       kept (goes.rest w v c was_there there number) ∙ heard w c was_there reads
       ∙ sym (told_else past e s.number w.number c (ap (λ o. is_of s.number e && option_is (job_of e.kind) w.number && awaits_of c o) (own_found (works past s.number) jobs w was_there)
-      ∙ ap (λ b. is_of s.number e && option_is (job_of e.kind) w.number && b) (awaits_none w c was_there reads) ∙ never (is_of s.number e && option_is (job_of e.kind) w.number)))
+      ∙ ap (λ b. is_of s.number e && option_is (job_of e.kind) w.number && b) (awaits_none w c was_there reads) ∙ and-false (is_of s.number e && option_is (job_of e.kind) w.number)))
     where
       kept : HearsOf s.number w v c ⊎ (now w.number c ≡ was w.number c) → now w.number c ≡ was w.number c
       kept (inr same) = same
@@ -330,13 +319,13 @@ module _ (finds : StepsFind) (s : SetUp) (past : List Entry) (k : Look) (m : Mad
   acting w v c was_there there job moves reads = go moves.news reads
     where
       number : v.number ≡ w.number
-      number = ap (λ (x : Running). x.number) moves.same
+      number = ap (λ (x : RunningJob). x.number) moves.same
 
       side : side_of v ≡ side_of w
-      side = ap (λ (x : Running). drop_side x.what.kind x.what.peer) moves.same
+      side = ap (λ (x : RunningJob). drop_side x.what.kind x.what.peer) moves.same
 
       target : target_of s.number v ≡ target_of s.number w
-      target = ap (λ (x : Running). or_own s.number (drop_side x.what.kind x.what.peer) x.what.peer) moves.same
+      target = ap (λ (x : RunningJob). or_own s.number (drop_side x.what.kind x.what.peer) x.what.peer) moves.same
 
       -- it heard of this one
       grown : (c0 : ℕ) (h : Heard) → v.heard ≡ (c0, h) ∷ w.heard → (b : Bool) → (c0 == c) ≡ b → heard_of v c ≡ Some Unseen → (h ≡ Unseen → IsRefused w e.taken c0)
@@ -359,13 +348,13 @@ module _ (finds : StepsFind) (s : SetUp) (past : List Entry) (k : Look) (m : Mad
       go (inl x) (inl unseen) = grown x.0 x.1 x.2 (x.0 == c) refl unseen x.4
       go (inl x) (inr answered) = absurd (true≢false (sym answered.0 ∙ ap (is_answered (side_of v)) x.3 ∙ unanswered Next refl (side_of v)))
       go (inr x) (inl unseen) = goes_on w v c was_there there number (inl (ap (λ hs. option_map (λ (x : ℕ × Heard). x.1) (find (λ (x : ℕ × Heard). x.0 == c) hs)) (sym x.0) ∙ unseen))
-          (λ g same. longer (c, g) w.heard (sym x.0 ∙ same))
+          (λ g same. not_longer (c, g) w.heard (sym x.0 ∙ same))
       go (inr x) (inr answered) = verdict (x.1 (ap (λ d. is_answered d v.phase) (sym side) ∙ answered.0))
         where
           verdict : (v.phase ≡ w.phase) ⊎ IsObeyed w e.taken → now w.number c ≡ word_told (e ∷ past) s.number w.number c
           verdict (inl phase) = goes_on w v c was_there there number
               (inr (ap (λ p. is_answered (side_of w) p) (sym phase) ∙ ap (λ d. is_answered d v.phase) (sym side) ∙ answered.0, answered.1 ∙ target))
-              (λ g same. longer (c, g) w.heard (sym x.0 ∙ same))
+              (λ g same. not_longer (c, g) w.heard (sym x.0 ∙ same))
           verdict (inr obeyed) =
               let fits = jobs.orders w was_there obeyed.0 in
               let c_is : c ≡ fits.1 = answered.1 ∙ target ∙ ap (λ side. or_own s.number side w.what.peer) fits.0 ∙ ap (or_own s.number Remote) fits.2 in
@@ -377,7 +366,7 @@ module _ (finds : StepsFind) (s : SetUp) (past : List Entry) (k : Look) (m : Mad
   heard_stepped v c there reads = go (option_is (job_of e.kind) z.0.number) refl
     where
       z : (w : Work) × (Member w (works past s.number)) × (v ≡ work_after (rows_at past s.number) s.number e w)
-      z = came_of (rows_at past s.number) s.number (works past s.number) e e.kind refl (ap is_begin kind ∙ steps_begin_none finds s (state_of s past) k m makes) v
+      z = came_of (rows_at past s.number) s.number (works past s.number) e e.kind refl (ap is_begin kind ∙ steps_begin_none laws s (state_of s past) k m makes) v
           (subst (λ ws. Member v ws) (own_works past e s.number own) there)
 
       job_is : (o : Option ℕ) (n : ℕ) → option_is o n ≡ true → o ≡ Some n
@@ -389,13 +378,13 @@ module _ (finds : StepsFind) (s : SetUp) (past : List Entry) (k : Look) (m : Mad
           let same : v ≡ z.0 = z.2 ∙ (rw i refl) in
           subst (λ (w : Work). now w.number c ≡ word_told (e ∷ past) s.number w.number c) (sym same)
           (goes_on z.0 v c z.1 there (ap (λ (w : Work). w.number) same) (subst (λ (w : Work). ReadsWord s.number w c) same reads)
-          (λ g grew. longer (c, g) z.0.heard (sym (ap (λ (w : Work). w.heard) same) ∙ grew)))
+          (λ g grew. not_longer (c, g) z.0.heard (sym (ap (λ (w : Work). w.heard) same) ∙ grew)))
       go true i =
           let job = job_is (job_of e.kind) z.0.number i in
           let moved : v ≡ work_kind (rows_at past s.number) s.number z.0 e e.kind = z.2 ∙ (rw i refl) in
           let moves : Moves z.0 e.taken v = subst (λ (x : Work). Moves z.0 e.taken x) (sym moved)
           (kind_moves (rows_at past s.number) s.number z.0 e e.kind (λ by key is. (it_acts z.0 z.1 job).local by key (sym kind ∙ is))) in
-          let number : v.number ≡ z.0.number = ap (λ (x : Running). x.number) moves.same in
+          let number : v.number ≡ z.0.number = ap (λ (x : RunningJob). x.number) moves.same in
           subst (λ n. now n c ≡ word_told (e ∷ past) s.number n c) (sym number) (acting z.0 v c z.1 there job moves reads)
 
 -- ---- a turn: old frames are dropped first

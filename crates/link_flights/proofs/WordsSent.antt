@@ -1,18 +1,18 @@
 -- The words beside the frames that come to a client's end from a server's.
-use Rattle.std.proofs.Common.{◌≡◌, ◌≢◌, ◌⊎◌, inl, inr, ℕ, zero, suc, ◌+◌, ◌≤◌, Bool, true, false, ◌&&◌, List, [], ◌∷◌, ◌++◌, Option, Some, None, refl, sym, ap, ◌∙◌, subst, arith, append_assoc}
-use Rattle.std.specs.Prelude.{cond, ◌==◌, drop, filter, fold, if◌then◌else◌, length, map}
+use Rattle.std.proofs.Common.{◌≡◌, ◌≢◌, ◌⊎◌, inl, inr, ℕ, zero, suc, ◌≤◌, Bool, true, false, ◌&&◌, List, [], ◌∷◌, ◌++◌, Option, Some, refl, sym, ap, ◌∙◌, subst, arith, append_assoc}
+use Rattle.std.specs.Prelude.{◌==◌, drop, filter, fold, length, map}
 use Rattle.std.specs.List.{AllZip}
-use Rattle.std.proofs.lemmas.Bool.{cases_Bool}
+use Rattle.std.proofs.lemmas.Bool.{cases_Bool, ne_eqb}
 use Rattle.std.proofs.lemmas.List.{append-nil}
 use Rattle.std.proofs.lemmas.List.Elements.{filter-append}
-use Rattle.annex_base.proofs.Conditions.{eqb_refl}
+use Rattle.annex_base.proofs.Conditions.{and_regrouped, eqb_refl}
 use Rattle.annex_base.specs.declared.kinds.EntryStamp.{EntryStamp}
 use Rattle.annex_base.specs.declared.kinds.Word.{Word}
 use Rattle.link_ring.specs.declared.frame.Frame.{Frame}
 use Rattle.link_ring.specs.Ends.{EndView}
 use Rattle.run_data.specs.declared.entry.Entry.{Entry}
 use Rattle.run_data.specs.declared.entry.FrameView.{FrameView}
-use Rattle.run_model.specs.Frames.{Flying, Way, flying, frames_sent, is_on, on_way, taken_count}
+use Rattle.run_model.specs.Frames.{Way, flying_frame, frames_sent, is_on, taken_count}
 use Rattle.run_model.specs.Past.{is_of}
 use Rattle.run_model.specs.States.{end_at}
 use Rattle.run_model.specs.Words.{word_of_kind}
@@ -22,11 +22,10 @@ use Rattle.node_ends.specs.declared.sending.Sending.{Sending}
 use Rattle.node_ends.specs.declared.sending.Sending.TheVariants as sendings
 use Rattle.node_ends.specs.Ends.{stands}
 use Rattle.node_ends.specs.Sent.{body_of, link_sends, next_sent, opened_for, text_of_sending}
-use Rattle.driver_model.specs.Ways.{Over, other_end}
+use Rattle.driver_model.specs.Ways.{IsOver, other_end}
 use Rattle.race_core.specs.Jobs.{is_asked}
 use Rattle.link_flights.specs.Words.{AreWorded, HasItsWord, HaveWords, is_line, of_epoch, way_down}
 use Rattle.link_flights.proofs.Lists.{filter_like}
-use Rattle.link_flights.proofs.Naming.{number_apart}
 use Rattle.link_flights.proofs.Said.{stands_sent}
 
 -- ---- lists
@@ -103,56 +102,51 @@ module _ (a : EndName) (sender : EntryStamp) (word : Sending → Option Word) wh
 -- of those of an epoch each is a frame that was sent in it, with its word
 words_flying : (e : Entry) (past : List Entry) (n : ℕ) (xs : List Frame) (fs : List FrameView)
     → AllZip (λ x f. (x.epoch ≡ f.epoch) × (is_line x.body ≡ true → is_asked e ≡ true → x.word ≡ word_of_kind e.kind)) xs fs
-    → AllZip HasItsWord (of_epoch n xs) (map (flying e past) (filter (λ f. f.epoch == n) fs))
+    → AllZip HasItsWord (of_epoch n xs) (map (flying_frame e past) (filter (λ f. f.epoch == n) fs))
 words_flying e past n [] [] a = tt
 words_flying e past n [] (f ∷ fs) a = absurd a
 words_flying e past n (x ∷ xs) [] a = absurd a
 words_flying e past n (x ∷ xs) (f ∷ fs) a = go (f.epoch == n) refl (ap (λ (k : ℕ). k == n) a.0.0) (words_flying e past n xs fs a.1)
   where
-    go : (b : Bool) → (f.epoch == n) ≡ b → (x.epoch == n) ≡ (f.epoch == n) → AllZip HasItsWord (of_epoch n xs) (map (flying e past) (filter (λ f. f.epoch == n) fs))
-        → AllZip HasItsWord (of_epoch n (x ∷ xs)) (map (flying e past) (filter (λ f. f.epoch == n) (f ∷ fs)))
+    go : (b : Bool) → (f.epoch == n) ≡ b → (x.epoch == n) ≡ (f.epoch == n) → AllZip HasItsWord (of_epoch n xs) (map (flying_frame e past) (filter (λ f. f.epoch == n) fs))
+        → AllZip HasItsWord (of_epoch n (x ∷ xs)) (map (flying_frame e past) (filter (λ f. f.epoch == n) (f ∷ fs)))
     go true i j more = rw (j ∙ i, i) (a.0.1, more)
     go false i j more = rw (j ∙ i, i) more
 
 -- ---- what an entry of a server's sends to a client
-
-on_form : (p s u t : Bool) → (p && (s && (u && t))) ≡ (((p && s) && u) && t)
-on_form false s u t = refl
-on_form true false u t = refl
-on_form true true u t = refl
 
 module _ (past : List Entry) (r : ℕ) (a : EndName) (server : a.client ≡ false) (e : Entry) (mine : e.repo ≡ Some r) (apart : a.peer ≢ r) where
   of_own : is_of r e ≡ true
   of_own = ap (λ (o : Option ℕ). option_is o r) mine ∙ eqb_refl r
 
   of_peer : is_of a.peer e ≡ false
-  of_peer = ap (λ (o : Option ℕ). option_is o a.peer) mine ∙ number_apart r a.peer (λ same. apart (sym same))
+  of_peer = ap (λ (o : Option ℕ). option_is o a.peer) mine ∙ ne_eqb r a.peer (λ same. apart (sym same))
 
   module _ (n : ℕ) where
     abbrev w : Way
     w = way_down a.peer (other_end r a) n
 
     on_sends : (f : FrameView) → is_on w a.peer f ≡ (sends_at a f && (f.epoch == n))
-    on_sends f = on_form (f.peer == a.peer) (f.slot == a.slot) (same_bool f.up false) (f.epoch == n)
+    on_sends f = and_regrouped (f.peer == a.peer) (f.slot == a.slot) (same_bool f.up false) (f.epoch == n)
         ∙ ap (λ (c : Bool). (((f.peer == a.peer) && (f.slot == a.slot)) && same_bool f.up c) && (f.epoch == n)) (sym server)
 
-    sent_more : frames_sent (e ∷ past) w ≡ frames_sent past w ++ map (flying e past) (filter (λ f. f.epoch == n) (sent_at a e.sent))
-    sent_more = rw of_own (ap (λ (fs : List FrameView). frames_sent past w ++ map (flying e past) fs)
+    sent_more : frames_sent (e ∷ past) w ≡ frames_sent past w ++ map (flying_frame e past) (filter (λ f. f.epoch == n) (sent_at a e.sent))
+    sent_more = rw of_own (ap (λ (fs : List FrameView). frames_sent past w ++ map (flying_frame e past) fs)
         (filter_like (is_on w a.peer) (λ f. sends_at a f && (f.epoch == n)) on_sends e.sent ∙ filter_both (sends_at a) (λ f. f.epoch == n) e.sent))
 
     taken_still : taken_count (e ∷ past) w ≡ taken_count past w
     taken_still = rw of_peer refl
 
-    more_words : (xs news : List Frame) → AllZip HasItsWord (of_epoch n news) (map (flying e past) (filter (λ f. f.epoch == n) (sent_at a e.sent)))
+    more_words : (xs news : List Frame) → AllZip HasItsWord (of_epoch n news) (map (flying_frame e past) (filter (λ f. f.epoch == n) (sent_at a e.sent)))
         → HaveWords past w xs → HaveWords (e ∷ past) w (xs ++ news)
     more_words xs news fresh h = record {
       inside = subst (λ k. k ≤ length (frames_sent (e ∷ past) w)) (sym taken_still)
-          (subst (λ fs. taken_count past w ≤ length fs) (sym sent_more) (within_append (taken_count past w) (frames_sent past w) (map (flying e past) (filter (λ f. f.epoch == n) (sent_at a e.sent))) h.inside));
+          (subst (λ fs. taken_count past w ≤ length fs) (sym sent_more) (within_append (taken_count past w) (frames_sent past w) (map (flying_frame e past) (filter (λ f. f.epoch == n) (sent_at a e.sent))) h.inside));
       words = subst (λ k. AllZip HasItsWord (of_epoch n (xs ++ news)) (drop k (frames_sent (e ∷ past) w))) (sym taken_still)
           (subst (λ fs. AllZip HasItsWord (of_epoch n (xs ++ news)) (drop (taken_count past w) fs)) (sym sent_more)
-          (subst (λ zs. AllZip HasItsWord zs (drop (taken_count past w) (frames_sent past w ++ map (flying e past) (filter (λ f. f.epoch == n) (sent_at a e.sent))))) (sym (filter-append (λ x. x.epoch == n) xs news))
-          (subst (λ fs. AllZip HasItsWord (of_epoch n xs ++ of_epoch n news) fs) (sym (drop_append (taken_count past w) (frames_sent past w) (map (flying e past) (filter (λ f. f.epoch == n) (sent_at a e.sent))) h.inside))
-          (zip_append HasItsWord (of_epoch n xs) (of_epoch n news) (drop (taken_count past w) (frames_sent past w)) (map (flying e past) (filter (λ f. f.epoch == n) (sent_at a e.sent))) h.words fresh))));
+          (subst (λ zs. AllZip HasItsWord zs (drop (taken_count past w) (frames_sent past w ++ map (flying_frame e past) (filter (λ f. f.epoch == n) (sent_at a e.sent))))) (sym (filter-append (λ x. x.epoch == n) xs news))
+          (subst (λ fs. AllZip HasItsWord (of_epoch n xs ++ of_epoch n news) fs) (sym (drop_append (taken_count past w) (frames_sent past w) (map (flying_frame e past) (filter (λ f. f.epoch == n) (sent_at a e.sent))) h.inside))
+          (zip_append HasItsWord (of_epoch n xs) (of_epoch n news) (drop (taken_count past w) (frames_sent past w)) (map (flying_frame e past) (filter (λ f. f.epoch == n) (sent_at a e.sent))) h.words fresh))));
     }
 
   -- the peer's end, once the frames have come
@@ -163,7 +157,7 @@ module _ (past : List Entry) (r : ℕ) (a : EndName) (server : a.client ≡ fals
       same : end_at (e ∷ past) a.peer (other_end r a) ≡ end_at past a.peer (other_end r a)
       same = rw of_peer refl
 
-      go : Over (end_at past a.peer (other_end r a)) n ⊎ HaveWords past (way_down a.peer (other_end r a) n) xs
-          → Over (end_at (e ∷ past) a.peer (other_end r a)) n ⊎ HaveWords (e ∷ past) (way_down a.peer (other_end r a) n) (xs ++ news)
-      go (inl o) = inl (subst (λ (c : End). Over c n) (sym same) o)
+      go : IsOver (end_at past a.peer (other_end r a)) n ⊎ HaveWords past (way_down a.peer (other_end r a) n) xs
+          → IsOver (end_at (e ∷ past) a.peer (other_end r a)) n ⊎ HaveWords (e ∷ past) (way_down a.peer (other_end r a) n) (xs ++ news)
+      go (inl o) = inl (subst (λ (c : End). IsOver c n) (sym same) o)
       go (inr h) = inr (more_words n xs news (words_flying e past n news (sent_at a e.sent) zip) h)

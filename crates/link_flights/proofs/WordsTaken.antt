@@ -1,28 +1,26 @@
 -- The words beside the frames at hand at a client's end, after an entry of its repository.
 use Rattle.std.proofs.Common.{◌≡◌, ◌≢◌, ◌⊎◌, inl, inr, ℕ, zero, suc, ◌+◌, ◌≤◌, Bool, true, false, not, ◌&&◌, List, [], ◌∷◌, Option, Some, None, refl, sym, ap, ◌∙◌, subst, arith}
-use Rattle.std.specs.Prelude.{cond, ◌==◌, drop, filter, find, fold, if◌then◌else◌, IfSome, is_some, length, slice_get}
+use Rattle.std.specs.Prelude.{◌==◌, drop, filter, find, if◌then◌else◌, IfSome, length, slice_get}
 use Rattle.std.specs.List.{AllZip}
 use Rattle.std.specs.Option.{option_map}
-use Rattle.std.proofs.lemmas.Bool.{eqb-true}
+use Rattle.std.proofs.lemmas.Bool.{eqb-true, ne_eqb}
 use Rattle.annex_base.specs.Lists.{Each}
 use Rattle.annex_base.proofs.Conditions.{eqb_refl}
 use Rattle.link_ring.specs.declared.frame.Frame.{Frame}
 use Rattle.link_ring.specs.Ends.{EndView, after_drop, is_taken, next_frame}
 use Rattle.run_data.specs.declared.entry.Entry.{Entry}
 use Rattle.run_data.specs.declared.entry.FrameView.{FrameView}
-use Rattle.run_model.specs.Frames.{Flying, Way, frames_sent, is_on, taken_count, takes}
+use Rattle.run_model.specs.Frames.{Way, frames_sent, is_on, taken_count, takes}
 use Rattle.run_model.specs.Past.{is_of}
 use Rattle.run_model.specs.States.{end_at}
-use Rattle.node_model.specs.Ends.{End, EndName, end_after, end_sends, end_took, same_bool, sent_at, taken_at, takes_at}
+use Rattle.node_model.specs.Ends.{End, EndName, end_after, end_took, same_bool, sent_at, taken_at, takes_at}
 use Rattle.node_model.specs.Rows.{option_is}
 use Rattle.node_ends.specs.Ends.{frame_at, stands}
-use Rattle.driver_model.specs.Driver.{is_old}
-use Rattle.driver_model.specs.Ways.{Over}
+use Rattle.driver_model.specs.Ways.{IsOver}
 use Rattle.link_flights.specs.Words.{AreWorded, HasItsWord, HaveWords, of_epoch, way_down}
 use Rattle.link_flights.proofs.Dropped.{old_same}
 use Rattle.link_flights.proofs.Flown.{without_taken}
 use Rattle.link_flights.proofs.Lists.{filter_within, rest}
-use Rattle.link_flights.proofs.Naming.{number_apart}
 use Rattle.link_flights.proofs.Passed.{is_over, over_or, over_sent, over_taken}
 
 -- ---- lists of which each has its fellow
@@ -64,8 +62,8 @@ words_dropped past r a v stood worded n = go (worded n) (over_or (end_at past r 
     stays : is_over (end_at past r a) n ≡ false → (x : Frame) → (x.epoch == n) ≡ true → is_taken v x ≡ true
     stays young x is = sym (old_same v a x) ∙ ap not (ap (is_over (stands v)) (eqb-true x.epoch n is) ∙ ap (λ (c : End). is_over c n) (sym stood) ∙ young)
 
-    go : Over (end_at past r a) n ⊎ HaveWords past (way_down r a n) v.at_hand → Over (end_at past r a) n ⊎ (is_over (end_at past r a) n ≡ false)
-        → Over (end_at past r a) n ⊎ HaveWords past (way_down r a n) (filter (is_taken v) v.at_hand)
+    go : IsOver (end_at past r a) n ⊎ HaveWords past (way_down r a n) v.at_hand → IsOver (end_at past r a) n ⊎ (is_over (end_at past r a) n ≡ false)
+        → IsOver (end_at past r a) n ⊎ HaveWords past (way_down r a n) (filter (is_taken v) v.at_hand)
     go (inl o) young = inl o
     go (inr h) (inl o) = inl o
     go (inr h) (inr young) = inr (record {
@@ -92,12 +90,12 @@ module _ (past : List Entry) (r : ℕ) (a : EndName) (client : a.client ≡ true
   of_own = ap (λ (o : Option ℕ). option_is o r) mine ∙ eqb_refl r
 
   of_peer : is_of a.peer e ≡ false
-  of_peer = ap (λ (o : Option ℕ). option_is o a.peer) mine ∙ number_apart r a.peer (λ same. apart (sym same))
+  of_peer = ap (λ (o : Option ℕ). option_is o a.peer) mine ∙ ne_eqb r a.peer (λ same. apart (sym same))
 
   pub over_own : (v : EndView) (n : ℕ) → end_at past r a ≡ stands v → IfSome (taken_at a e.taken) (λ f. option_map (frame_at a) (next_frame v) ≡ Some f)
-      → Over (end_at past r a) n → Over (end_at (e ∷ past) r a) n
-  over_own v n stood takes over = subst (λ (c : End). Over c n) (sym same) (over_sent (end_took (end_at past r a) (taken_at a e.taken)) (sent_at a e.sent) n
-      (subst (λ (c : End). Over (end_took c (taken_at a e.taken)) n) (sym stood) (over_taken v a (taken_at a e.taken) n takes (subst (λ (c : End). Over c n) stood over))))
+      → IsOver (end_at past r a) n → IsOver (end_at (e ∷ past) r a) n
+  over_own v n stood takes over = subst (λ (c : End). IsOver c n) (sym same) (over_sent (end_took (end_at past r a) (taken_at a e.taken)) (sent_at a e.sent) n
+      (subst (λ (c : End). IsOver (end_took c (taken_at a e.taken)) n) (sym stood) (over_taken v a (taken_at a e.taken) n takes (subst (λ (c : End). IsOver c n) stood over))))
     where
       same : end_at (e ∷ past) r a ≡ end_after a (end_at past r a) e
       same = rw of_own refl
@@ -161,8 +159,8 @@ module _ (past : List Entry) (r : ℕ) (a : EndName) (client : a.client ≡ true
       → Each (λ x. is_taken v x ≡ true) v.at_hand → AreWorded past r a v.at_hand → AreWorded (e ∷ past) r a (without_taken (taken_at a e.taken) v.at_hand)
   words_taken v stood takes_it young worded n = go (worded n)
     where
-      go : Over (end_at past r a) n ⊎ HaveWords past (way_down r a n) v.at_hand
-          → Over (end_at (e ∷ past) r a) n ⊎ HaveWords (e ∷ past) (way_down r a n) (without_taken (taken_at a e.taken) v.at_hand)
+      go : IsOver (end_at past r a) n ⊎ HaveWords past (way_down r a n) v.at_hand
+          → IsOver (end_at (e ∷ past) r a) n ⊎ HaveWords (e ∷ past) (way_down r a n) (without_taken (taken_at a e.taken) v.at_hand)
       go (inl o) = inl (over_own v n stood takes_it o)
       go (inr h) = inr (taken_words n v e.taken refl takes_it young h)
 
@@ -170,6 +168,6 @@ module _ (past : List Entry) (r : ℕ) (a : EndName) (client : a.client ≡ true
   pub words_still : (v : EndView) → end_at past r a ≡ stands v → e.taken ≡ None → AreWorded past r a v.at_hand → AreWorded (e ∷ past) r a v.at_hand
   words_still v stood none worded n = go (worded n)
     where
-      go : Over (end_at past r a) n ⊎ HaveWords past (way_down r a n) v.at_hand → Over (end_at (e ∷ past) r a) n ⊎ HaveWords (e ∷ past) (way_down r a n) v.at_hand
+      go : IsOver (end_at past r a) n ⊎ HaveWords past (way_down r a n) v.at_hand → IsOver (end_at (e ∷ past) r a) n ⊎ HaveWords (e ∷ past) (way_down r a n) v.at_hand
       go (inl o) = inl (over_own v n stood (subst (λ (o : Option FrameView). IfSome (taken_at a o) (λ f. option_map (frame_at a) (next_frame v) ≡ Some f)) (sym none) tt) o)
       go (inr h) = inr (none_taken n v.at_hand (ap (takes (way_down r a n)) none) h)

@@ -1,5 +1,5 @@
 -- The words beside the frames at hand at the ends of clients are those of the past (own).
-use Rattle.std.specs.Prelude.{◌≡◌, ◌≢◌, ℕ, ◌<◌, ◌≤◌, ◌⊎◌, ◌==◌, Bool, true, false, List, drop, filter, length, Option, Some, None}
+use Rattle.std.specs.Prelude.{◌≡◌, ◌≢◌, ℕ, ◌<◌, ◌≤◌, ◌⊎◌, ◌==◌, Bool, true, false, List, drop, filter, length, Option, Some}
 use Rattle.std.specs.List.{AllZip}
 use Rattle.annex_base.specs.declared.kinds.Word.{Word}
 use Rattle.link_ring.specs.declared.frame.Frame.{Frame}
@@ -7,7 +7,7 @@ use Rattle.link_ring.specs.declared.frame.Body.{Body}
 use Rattle.link_ring.specs.declared.frame.Body.TheVariants as bodies
 use Rattle.link_ring.specs.Ends.{EndView}
 use Rattle.run_data.specs.declared.entry.Entry.{Entry}
-use Rattle.run_model.specs.Frames.{Flying, Way, frames_sent, taken_count}
+use Rattle.run_model.specs.Frames.{FlyingFrame, Way, frames_sent, taken_count}
 use Rattle.run_model.specs.States.{end_at}
 use Rattle.run_model.specs.Words.{word_of_kind}
 use Rattle.node_model.specs.Ends.{EndName}
@@ -15,7 +15,7 @@ use Rattle.race_core.specs.Jobs.{is_asked}
 use Rattle.node_ends.specs.declared.sending.Sending.{Sending}
 use Rattle.node_ends.specs.Ends.{link_at}
 use Rattle.node_ends.specs.Sent.{body_of}
-use Rattle.driver_model.specs.Ways.{Over}
+use Rattle.driver_model.specs.Ways.{IsOver}
 
 -- the frame is a line, as an answer is
 abbrev pub is_line : Body → Bool
@@ -31,7 +31,7 @@ TellsWords e word = (a : EndName) (x : Sending) → a.client ≡ false → is_li
 -- ---- what is at hand
 
 -- the word beside the frame is what its sender found, where the frame is a line and its sender was asked for a word
-abbrev pub HasItsWord : Frame → Flying → Type 0
+abbrev pub HasItsWord : Frame → FlyingFrame → Type 0
 HasItsWord x y = is_line x.body ≡ true → is_asked y.entry ≡ true → x.word ≡ word_of_kind y.entry.kind
 
 -- the way on which frames come to the client's end a of r in this epoch
@@ -48,7 +48,7 @@ pub record HaveWords (past : List Entry) (w : Way) (xs : List Frame) : Type 0 wh
 
 -- so it is of these frames at hand at the client's end a of r in each epoch, but for those of which the end takes no more
 abbrev pub AreWorded : List Entry → ℕ → EndName → List Frame → Type 0
-AreWorded past r a xs = (n : ℕ) → Over (end_at past r a) n ⊎ HaveWords past (way_down r a n) xs
+AreWorded past r a xs = (n : ℕ) → IsOver (end_at past r a) n ⊎ HaveWords past (way_down r a n) xs
 
 -- and so at the clients' ends of so many repositories
 abbrev pub AreAllWorded : List Entry → ℕ → (ℕ → List EndView) → Type 0

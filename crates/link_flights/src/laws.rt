@@ -26,7 +26,7 @@ ghost use Rattle.node_ends.specs.declared.sending.Sending.{Sending};
 ghost use Rattle.node_ends.specs.declared.sending.Sending.TheVariants as sendings;
 ghost use Rattle.node_ends.specs.Ends.{AreEnds, SeesEnds, frame_at, hand_at, link_at, room_at, stands};
 ghost use Rattle.node_ends.specs.Sent.{text_of_sending};
-ghost use Rattle.driver_model.specs.Driver.{Driver, Given, adds, at_first, piece_of, without_old_flights};
+ghost use Rattle.driver_model.specs.Driver.{Driver, DriverInput, adds, at_first, piece_of, without_old_flights};
 ghost use Rattle.driver_model.specs.Sound.{IsSound};
 ghost use Rattle.driver_model.specs.Turning.{makes, plain_look, store_after, told_words};
 ghost use Rattle.link_flights.specs.Entries.{PostsAt, SendsInOrder, link_after};
@@ -38,9 +38,12 @@ ghost use Rattle.race_core.specs.Jobs.{AnswersAsked, AreJobs, TakesAnswer};
 ghost use Rattle.link_flights.specs.Heard.{HeardSo, SameWords, WordsGoOn};
 ghost use Rattle.link_flights.specs.Words.{AreAllWorded, TellsWords};
 
-use driver_model::ends_have_small_numbers;
+use driver_model::{ends_are_apart, ends_have_small_numbers};
 use node_ends::ends_are_there;
-use race_core::steps_find_their_cause;
+use race_core::{
+    steps_find_their_cause, steps_name_their_jobs, steps_open_closed_ends,
+    steps_take_what_is_at_hand,
+};
 
 /// A look at the ends of a repository, before or after they dropped what is old, finds the frames and the room that a plain look of
 /// the driver finds once it dropped the old flights. Where the ends of all repositories are as the flights tell, so are its. An end
@@ -56,7 +59,7 @@ pub fn looks_see_the_flights()
     ensures room { (links : List EndView) (s : SetUp) (st : State) (d : Driver) (a : EndName) (v : EndView) → Member a (all_ends s)
         → link_at links a ≡ Some v → IsEndIn d.flights s.number a v → v.sent + 1 < 2 ^ 62 → v.epoch < 2 ^ 32 - 1
         → room_at links a ≡ (plain_look s (without_old_flights st s.number d)).room a }
-    ensures in_runs { (g : Given) (links : List EndView) (s : SetUp) (d : Driver) (a : EndName) (v : EndView) → IsSound g d → length d.past < 2 ^ 30
+    ensures in_runs { (g : DriverInput) (links : List EndView) (s : SetUp) (d : Driver) (a : EndName) (v : EndView) → IsSound g d → length d.past < 2 ^ 30
         → AreEnds links s (state_of s d.past) → Member a (all_ends s) → link_at links a ≡ Some v → IsEndIn d.flights s.number a v
         → room_at links a ≡ (plain_look s (without_old_flights (state_of s d.past) s.number d)).room a }
 {
@@ -73,6 +76,12 @@ pub fn dropped_ends_keep_their_flights()
         → HasAtHand (without_old_flights st r d).flights q b w }
     ensures beside { (d : Driver) (st : State) (r q : ℕ) (b : EndName) (w : EndView) → q ≢ r → b.peer ≢ r → IsEndIn d.flights q b w
         → IsEndIn (without_old_flights st r d).flights q b w }
+{}
+
+/// Where both ends of a connection are as the flights tell, frames that are carried over it change neither (own).
+pub fn ends_in_flight_are_carried()
+    ensures { (d : Driver) (r : ℕ) (a : EndName) (v w : EndView) → IsEndIn d.flights r a v → IsEndIn d.flights a.peer (other_end r a) w
+        → after_carry v w ≡ v }
 {}
 
 /// What an entry of r takes and sends at an end of r, it takes and sends in the driver, once frames were carried over the
@@ -140,7 +149,13 @@ pub fn steps_send_in_order()
     ensures sends { (s : SetUp) (st : State) (k : Look) (m : Made) (a : EndName) → step s st k ≡ Some m → SendsInOrder (st.ends a) a m.taken m.sent }
     ensures close { (s : SetUp) (st : State) (a b : EndName) → SendsInOrder (st.ends a) a None (close_at s st b) }
     ensures crash { (s : SetUp) (st : State) (a : EndName) → SendsInOrder (st.ends a) a None (closes_all s st) }
-{}
+{
+    // For the proof, which cites them.
+    ends_are_apart();
+    steps_find_their_cause();
+    steps_open_closed_ends();
+    steps_take_what_is_at_hand();
+}
 
 /// An entry with what a step takes and sends is posted, where what was said at each end is what the entry lists there, the ends became
 /// what node_ends' calls make of them, and each piece has the bytes that the definition gives (own).
@@ -153,7 +168,13 @@ pub fn steps_are_posted()
         → ((a : EndName) (f : FrameView) (bytes : List ℕ) → Member f (sent_at a e.sent) → Member (sendings.Bytes bytes) (said a) → f.body ≡ texts.Bytes (length bytes)
         → bytes ≡ piece_of d st s.number f f.body)
         → Posted s st d sender word said was now e }
-{}
+{
+    // For the proof, which cites them.
+    ends_are_apart();
+    steps_find_their_cause();
+    steps_open_closed_ends();
+    steps_take_what_is_at_hand();
+}
 
 /// The words beside the frames at hand at the clients' ends are those of the past: beside each line whose sender was asked for a word
 /// stands what that entry found. So it is at first; a turn, with an entry or without, keeps it, where what is said has its word; and so
@@ -211,4 +232,6 @@ pub fn heard_words_are_told()
     // For the proof, which cites them.
     ends_are_there();
     steps_find_their_cause();
+    steps_take_what_is_at_hand();
+    steps_name_their_jobs();
 }

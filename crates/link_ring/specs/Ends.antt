@@ -48,6 +48,10 @@ is_taken e f = not (is_old e.epoch e.phase f)
 abbrev pub next_frame : EndView → Option Frame
 next_frame e = find (is_taken e) e.at_hand
 
+-- a frame is at hand, whether it is passed over or not
+abbrev pub has_frames : EndView → Bool
+has_frames e = nat_lt 0 (length e.at_hand)
+
 -- an Open brings the end to its epoch; after a Close it takes no more of this one
 abbrev pub with_body : EndView → ℕ → Body → EndView
 with_body e epoch bodies.Open = record e { epoch = epoch; phase = Opening; sent = 0 }

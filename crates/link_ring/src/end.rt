@@ -2,7 +2,7 @@
 ghost use Rattle.std.specs.Prelude.{◌≡◌, ◌≤◌, ◌<◌, ◌+◌, ◌-◌, ◌++◌, vec_len, ◌^◌, ◌↔◌, [], true, false, not, nat_le, IfOk, IfErr, IsErr, IsOk, OnOk, OnErr, filter, nat_lt, vec_capacity, option_copied};
 ghost use Rattle.std.specs.List.{find, after_first};
 ghost use Rattle.link_ring.specs.Frames.{is_old, is_close};
-ghost use Rattle.link_ring.specs.Ends.{ArePaired, StaysPaired, after_carry, fresh, accepts, after_send, next_frame, after_take, after_drop, after_open, after_close, free, phase_after_send};
+ghost use Rattle.link_ring.specs.Ends.{ArePaired, StaysPaired, after_carry, fresh, accepts, after_send, next_frame, after_take, after_drop, after_open, after_close, free, has_frames, phase_after_send};
 
 use crate::frame::{Body, Frame};
 use annex_base::NoMemory;
@@ -91,7 +91,9 @@ fn keep_new(frames: &mut Vec<Frame>, epoch: u32, phase: Phase)
     ensures rest { frames.new.items ≡ filter (λ f. not (is_old epoch phase f)) frames.old.items }
     ensures room { vec_capacity frames.new ≡ vec_capacity frames.old }
 {
-    frames.retain(|frame: &Frame| !is_old(epoch, phase, frame));
+    if !frames.is_empty() {
+        frames.retain(|frame: &Frame| !is_old(epoch, phase, frame));
+    }
 }
 
 fn phase_after_send(phase: Phase, frame: &Frame) -> Phase
@@ -196,6 +198,13 @@ impl End {
         first_of(&self.at_hand, self.epoch, self.phase)
     }
 
+    /// Whether a frame is at hand, of whatever epoch.
+    pub fn has_frames(&self) -> bool
+        ensures { result ≡ has_frames self.now }
+    {
+        !self.at_hand.is_empty()
+    }
+
     /// Takes the first frame at hand that isn't of an older epoch, or of one that this end has closed; it drops those
     /// before it. With an Open the end is at its epoch, and takes frames; with a Close it takes no more.
     pub fn take(&mut self) -> Option<Frame>
@@ -253,6 +262,9 @@ fn arrive(on_way: &mut Vec<Frame>, at_hand: &mut Vec<Frame>)
     ensures on_way { on_way.new.items ≡ [] }
     ensures room { (vec_capacity at_hand.old ≤ vec_capacity at_hand.new) × (vec_capacity on_way.new ≡ vec_capacity on_way.old) }
 {
+    if on_way.is_empty() {
+        return;
+    }
     let Ok(()) = at_hand.append(on_way) else {
         unreachable!();
     };

@@ -34,6 +34,7 @@ enum Step {
     TakesNothing,
     Stands(u32, Phase),
     HasSent(u64),
+    HasFrames(bool),
     Carries,
 }
 
@@ -108,6 +109,7 @@ fn goes_as_told(alloc: Global, end: &mut End, step: Step) -> Result<bool, NoMemo
         Step::TakesNothing => Ok(end.take().is_none()),
         Step::Carries => Ok(true),
         Step::HasSent(count) => Ok(end.sent() == count),
+        Step::HasFrames(want) => Ok(end.has_frames() == want),
         Step::Stands(epoch, phase) => Ok(end.epoch() == epoch && end.phase() == phase),
     }
 }
@@ -163,13 +165,16 @@ fn frames_come_in_their_order(rt: HostRuntime) -> Result<(), Fail> {
             (Side::Client, Step::Stands(1, Phase::Open)),
             (Side::Client, Step::Sends(1, Kind::Byte(7))),
             (Side::Server, Step::TakesNothing),
+            (Side::Server, Step::HasFrames(false)),
             (Side::Carrier, Step::Carries),
+            (Side::Server, Step::HasFrames(true)),
             (Side::Client, Step::Sends(1, Kind::Byte(8))),
             (Side::Server, Step::Takes(1, Kind::Open)),
             (Side::Server, Step::Stands(1, Phase::Opening)),
             (Side::Server, Step::Sends(1, Kind::Byte(9))),
             (Side::Server, Step::Stands(1, Phase::Open)),
             (Side::Server, Step::Takes(1, Kind::Byte(7))),
+            (Side::Server, Step::HasFrames(false)),
             (Side::Server, Step::TakesNothing),
             (Side::Client, Step::TakesNothing),
             (Side::Carrier, Step::Carries),

@@ -1,5 +1,4 @@
-//! Calls a lock table of so many rows 100,000 times, for `bench/run.py` to time, and prints how many calls it let through:
-//! `lock_bench WORK ROWS`.
+//! Calls a lock table of so many rows 100,000 times, for `bench/run.py` to time.
 #![tactic(auto)]
 
 ghost use Rattle.std.specs.Prelude.{◌≡◌, ◌<◌, true, All, nat_lt};
@@ -183,6 +182,7 @@ fn wanted(words: &[String]) -> Option<(Work, u32)> {
     Some((work, number))
 }
 
+/// `lock_bench WORK ROWS` prints how many calls the table let through.
 fn main(rt: HostRuntime) -> ExitCode {
     let mut words = Vec::new(rt.alloc());
     let Ok(args) = env::args(&rt) else {

@@ -1,5 +1,4 @@
-//! Makes 5,000 sequences of 40 calls, drawn from a fixed sequence of numbers, on a lock table and on a plain model of its rows,
-//! and prints in how many of them an answer differs.
+//! Makes drawn sequences of calls on a lock table and on a plain model of its rows, and compares the answers.
 #![tactic(auto)]
 
 mod answers;
@@ -44,6 +43,7 @@ fn whole(alloc: Global) -> Result<u64, NoMemory> {
     run_all(alloc, &keys)
 }
 
+/// 5,000 sequences of 40 calls are drawn from a fixed sequence of numbers. It prints in how many of them an answer differs.
 fn main(rt: HostRuntime) -> ExitCode {
     let Ok(differ) = whole(rt.alloc()) else {
         return ExitCode::from(5);

@@ -1,5 +1,4 @@
-//! The rows of one key, by the calls. The work of each test stands in a function that borrows what the test owns, which is proved
-//! much faster.
+//! The rows of one key, by the calls; each test works in a function that borrows what the test owns, which is proved faster.
 ghost use Rattle.std.specs.Prelude.{◌<◌, All};
 ghost use Rattle.content_lock.specs.Stored.{Agrees};
 

@@ -1,5 +1,4 @@
-//! Does one kind of work on logs of a given size, for `bench/run.py` to time, and prints how much it found:
-//! `log_bench WORK NUMBER`.
+//! Does one kind of work on logs of a given size, for `bench/run.py` to time.
 #![tactic(auto)]
 
 use annex_base::NoMemory;
@@ -147,6 +146,7 @@ fn wanted(words: &[String]) -> Option<(Work, u32)> {
     Some((work, number))
 }
 
+/// `log_bench WORK NUMBER` prints how much the work found.
 fn main(rt: HostRuntime) -> ExitCode {
     let mut words = Vec::new(rt.alloc());
     let Ok(args) = env::args(&rt) else {

@@ -7,12 +7,11 @@ use Rattle.std.proofs.lemmas.List.Elements.{filter-append}
 use Rattle.std.proofs.lemmas.Option.{same_Some}
 use Rattle.annex_base.specs.Lists.{Member, Each}
 use Rattle.annex_base.proofs.Conditions.{by_test}
-use Rattle.annex_base.proofs.Lists.{list_any_found, list_any_member, Member-filter_parts, Member-filter_from, Member-append_cases, Member-append_left, Member-append_right, Each-member}
+use Rattle.annex_base.proofs.Lists.{Each-member, filter_shorter, list_any_found, list_any_member, Member-append_cases, Member-append_left, Member-append_right, Member-filter_from, Member-filter_parts}
 use Rattle.log_lines.specs.declared.entry.LogKind.{LogKind}
-use Rattle.log_lines.specs.declared.entry.Topic.{Topic}
 use Rattle.log_lines.specs.declared.entry.Entry.{Entry}
 use Rattle.log_lines.specs.Reading.{entry_of}
-use Rattle.log_lines.specs.Newest.{same_topic, is_older, IsNewest, newer, newest, entry_at, newest_of, ReadAlike, says_newer, outdated_by, is_outdated, current_lines}
+use Rattle.log_lines.specs.Newest.{same_topic, is_older, IsNewest, newer, newest, newest_of, ReadAlike, says_newer, outdated_by, is_outdated, current_lines}
 use Rattle.log_lines.specs.Latest.{said_of, newer_of, is_outdated_in}
 use Rattle.log_lines.specs.Keeping.{HasNewer, Keeps}
 use Rattle.log_lines.specs.Keeping.Keeps.{Empty, Add, AddAgain, Merge, Arrange, Compact}
@@ -86,10 +85,6 @@ newest_compacted kind lines e new = record {
 
 pub compacted_alike : (kind : LogKind) (lines : List (List ℕ)) → ReadAlike kind (current_lines kind lines) lines
 compacted_alike kind lines = alike_by_newest kind (current_lines kind lines) lines (compacted_newest kind lines) (newest_compacted kind lines)
-
--- compaction keeps the newest entry of each topic
-pub newest_of-compacted : (kind : LogKind) (lines : List (List ℕ)) (t : Topic) → newest_of kind (current_lines kind lines) t ≡ newest_of kind lines t
-newest_of-compacted kind lines t = ap (λ es. entry_at es t) (compacted_alike kind lines)
 
 -- a line is left out exactly where it has a newer one
 pub left_out : (kind : LogKind) (lines : List (List ℕ)) (line : List ℕ) → Member line lines → (¬ Member line (current_lines kind lines)) ↔ HasNewer kind lines line
@@ -175,16 +170,11 @@ stays kind lines line among last =
 
 -- ---- whether a line is left out
 
-not_more : {X : Type 0} (p : X → Bool) (xs : List X) → length (filter p xs) ≤ length xs
-not_more p [] = omega arith
-not_more p (x ∷ xs) =
-    let rest = not_more p xs in by_test (p x) (λ t. rw t (omega (arith, rest))) (λ t. rw t (omega (arith, rest)))
-
 fewer_where : {X : Type 0} (p : X → Bool) (xs : List X) → list_any p xs ≡ true → length (filter (λ x. not (p x)) xs) < length xs
 fewer_where p [] h = other h
 fewer_where p (x ∷ xs) h =
     by_test (p x)
-    (λ t. let rest = not_more (λ y. not (p y)) xs in rw t (omega (arith, rest)))
+    (λ t. let rest = filter_shorter (λ y. not (p y)) xs in rw t (omega (arith, rest)))
     (λ t. let rest = fewer_where p xs (rw t at h) in rw t (omega (arith, rest)))
 
 all_where : {X : Type 0} (p : X → Bool) (xs : List X) → list_any p xs ≡ false → length xs ≤ length (filter (λ x. not (p x)) xs)

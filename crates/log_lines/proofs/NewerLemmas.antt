@@ -6,26 +6,17 @@ use Rattle.std.specs.Ordering.{is_lt, is_gt, ordering_reverse}
 use Rattle.std.specs.Cmp.{IsTotalOrder}
 use Rattle.std.proofs.lemmas.Cmp.{upto}
 use Rattle.annex_base.proofs.Conditions.{by_test}
+use Rattle.annex_base.proofs.Numbers.{is_lt_true}
 use Rattle.log_lines.specs.declared.entry.Topic.{Topic}
 use Rattle.log_lines.specs.declared.entry.Entry.{Entry}
 use Rattle.log_lines.specs.Newest.{same_topic, entry_cmp, newer}
 use Rattle.log_lines.specs.Latest.{said_of, newer_of}
 use Rattle.log_lines.proofs.OrderLemmas.{other, entry_total, entry_exact, same_topic_own}
 
-less_is : (o : Ordering) → is_lt o ≡ true → o ≡ Less
-less_is Less e = refl
-less_is Equal e = other e
-less_is Greater e = other e
-
 gt_reverse : (o : Ordering) → is_gt (ordering_reverse o) ≡ is_lt o
 gt_reverse Less = refl
 gt_reverse Equal = refl
 gt_reverse Greater = refl
-
-lt_reverse : (o : Ordering) → is_lt (ordering_reverse o) ≡ is_gt o
-lt_reverse Less = refl
-lt_reverse Equal = refl
-lt_reverse Greater = refl
 
 neither : (o : Ordering) → is_lt o ≡ false → is_gt o ≡ false → o ≡ Equal
 neither Less e f = other (sym e)
@@ -36,7 +27,7 @@ neither Greater e f = other (sym f)
 
 module _ {K : Type 0} {R : K → K → Ordering} (o : IsTotalOrder R) where
   lt_trans : (x y z : K) → is_lt (R x y) ≡ true → is_lt (R y z) ≡ true → is_lt (R x z) ≡ true
-  lt_trans x y z a b = ap is_lt (o.trans x y z (less_is (R x y) a) (less_is (R y z) b))
+  lt_trans x y z a b = ap is_lt (o.trans x y z (is_lt_true (R x y) a) (is_lt_true (R y z) b))
 
   gt_is : (x y : K) → is_gt (R x y) ≡ is_lt (R y x)
   gt_is x y = ap is_gt (o.antisymm x y) ∙ gt_reverse (R y x)
@@ -45,7 +36,7 @@ module _ {K : Type 0} {R : K → K → Ordering} (o : IsTotalOrder R) where
   not_lt_trans x y z a b = sym (gt_is z x) ∙ upto o z y x (gt_is z y ∙ b) (gt_is y x ∙ a)
 
   not_lt_own : (x : K) → is_lt (R x x) ≡ false
-  not_lt_own x = by_test (is_lt (R x x)) (λ a. other (sym (sym a ∙ sym (gt_is x x) ∙ ap is_gt (less_is (R x x) a)))) (λ a. a)
+  not_lt_own x = by_test (is_lt (R x x)) (λ a. other (sym (sym a ∙ sym (gt_is x x) ∙ ap is_gt (is_lt_true (R x x) a)))) (λ a. a)
 
   not_lt_both : (x y : K) → is_lt (R x y) ≡ false → is_lt (R y x) ≡ false → R x y ≡ Equal
   not_lt_both x y a b = neither (R x y) a (gt_is x y ∙ b)
@@ -70,7 +61,7 @@ module _ {K : Type 0} {R : K → K → Ordering} (o : IsTotalOrder R) where
   greater_first : (x y : K) → is_lt (R (greater x y) x) ≡ false
   greater_first x y =
       by_test (is_lt (R x y))
-      (λ a. rw a (sym (gt_is x y) ∙ ap is_gt (less_is (R x y) a)))
+      (λ a. rw a (sym (gt_is x y) ∙ ap is_gt (is_lt_true (R x y) a)))
       (λ a. rw a (not_lt_own x))
 
   greater_second : (x y : K) → is_lt (R (greater x y) y) ≡ false

@@ -65,9 +65,6 @@ newest_is_latest kind lines t = read_at kind [] lines t none_rising
 
 -- ---- the newest entry of a topic, line by line
 
-pub newest_of-nil : (kind : LogKind) (t : Topic) → newest_of kind [] t ≡ None
-newest_of-nil kind t = refl
-
 pub newest_of-cons : (kind : LogKind) (line : List ℕ) (lines : List (List ℕ)) (t : Topic) → newest_of kind (line ∷ lines) t ≡ newer_of (said_of t (entry_of kind line)) (newest_of kind lines t)
 unfolding latest
 newest_of-cons kind line lines t = newest_is_latest kind (line ∷ lines) t ∙ ap (newer_of (said_of t (entry_of kind line))) (sym (newest_is_latest kind lines t))
@@ -240,11 +237,6 @@ newest_of-take kind lines i line t within is =
     ap (λ ls. newest_of kind ls t) (take_more lines i line within ∙ ap (λ l. take i lines ++ l ∷ []) (sym is))
     ∙ newest_of-push kind (take i lines) line t
 
--- an entry of the reading has a line
-pub newest_says : (kind : LogKind) (lines : List (List ℕ)) (e : Entry) → Member e (newest kind lines) → Says kind lines e
-newest_says kind lines e among =
-    let new = ((newest_reading kind lines).each e).0 among in record { line = new.line; among = new.among; says = new.says }
-
 pub newest_of_says : (kind : LogKind) (lines : List (List ℕ)) (t : Topic) (e : Entry) → newest_of kind lines t ≡ Some e → Says kind lines e × (e.topic ≡ t)
 newest_of_says kind lines t e h =
     let found = newest_of_is kind lines t e h in
@@ -263,11 +255,3 @@ newest_of_none kind lines t = (
       let found = newest_of_some kind lines e said in none-some found.0 (sym none ∙ ap (newest_of kind lines) (sym topic) ∙ found.1),
   λ silent. none_by (newest_of kind lines t) (λ e h. let found = newest_of_says kind lines t e h in silent e found.0 found.1),
 )
-
--- files that read alike have the same newest entry of each topic
-pub newest_of_alike : (kind : LogKind) (xs ys : List (List ℕ)) (t : Topic) → ReadAlike kind xs ys → newest_of kind xs t ≡ newest_of kind ys t
-newest_of_alike kind xs ys t alike = ap (λ es. entry_at es t) alike
-
--- one line more
-pub newest_more : (kind : LogKind) (lines : List (List ℕ)) (line : List ℕ) → newest kind (lines ++ line ∷ []) ≡ with_entry_if (newest kind lines) (entry_of kind line)
-newest_more kind lines line = newest_append kind lines (line ∷ [])

@@ -1,17 +1,17 @@
 -- A line that is added: what it changes, and that an entry with the next stamp is the newest.
 use Rattle.std.proofs.Common.{inl, inr, ◌≡◌, ◌≢◌, ℕ, length-take, ◌^◌, ◌<◌, ◌≤◌, false, List, [], ◌∷◌, ◌++◌, length, take, Option, Some, None, refl, sym, ap, subst, ◌∙◌, lit<, arith}
 use Rattle.std.specs.declared.cmp.Ordering.TheVariants.{Less, Greater}
-use Rattle.std.specs.Ordering.{nat_cmp, ordering_reverse, is_lt}
+use Rattle.std.specs.Ordering.{ordering_reverse, is_lt}
 use Rattle.std.specs.Char.{is_ascii_digit}
 use Rattle.std.specs.List.{AllPass}
 use Rattle.std.specs.Str.Parse.{digits_value}
 use Rattle.std.proofs.Math.Nat.{pow-le-pow_right}
-use Rattle.std.proofs.lemmas.Bool.{lt-ltb}
 use Rattle.std.proofs.lemmas.List.{get_or-take}
 use Rattle.std.proofs.lemmas.Option.{same_Some}
 use Rattle.annex_base.specs.StampText.{IsStamp, nanos_of}
 use Rattle.annex_base.proofs.StampLemmas.{digits_below, scaled_below}
 use Rattle.annex_base.proofs.Conditions.{by_test}
+use Rattle.annex_base.proofs.Numbers.{nat_cmp_less}
 use Rattle.log_lines.specs.declared.entry.LogKind.{LogKind}
 use Rattle.log_lines.specs.declared.entry.LogKind.TheVariants as kinds
 use Rattle.log_lines.specs.declared.entry.Topic.{Topic}
@@ -93,16 +93,13 @@ newest_of-push_other kind lines line e t is apart =
 
 -- ---- an entry with the next stamp
 
-number_less : (n m : ℕ) → n < m → nat_cmp n m ≡ Less
-number_less n m below = let test = lt-ltb n m below in rw test refl
-
 stamp_past : (n clock : ℕ) → n ≤ greatest_stamp → Some n ≢ Some greatest_stamp → n < next_stamp (Some n) clock
 stamp_past n clock most apart = let below : n ≢ greatest_stamp = λ e. apart (ap Some e) in omega arith
 
 stamps_less : (old e : Entry) (s : Option ℕ) (clock : ℕ) → old.stamp ≡ s → ((n : ℕ) → s ≡ Some n → n ≤ greatest_stamp) → s ≢ Some greatest_stamp → e.stamp ≡ Some (next_stamp s clock) → entry_cmp old e ≡ Less
 stamps_less old e None clock was most apart at = rw (was, at) refl
 stamps_less old e (Some n) clock was most apart at =
-    let less = number_less n (next_stamp (Some n) clock) (stamp_past n clock (most n refl) apart) in rw (was, at, less) refl
+    let less = nat_cmp_less n (next_stamp (Some n) clock) (stamp_past n clock (most n refl) apart) in rw (was, at, less) refl
 
 next_less : (kind : LogKind) (lines : List (List ℕ)) (old e : Entry) (clock : ℕ) → newest_of kind lines e.topic ≡ Some old → newest_stamp kind lines e.topic ≢ Some greatest_stamp → e.stamp ≡ Some (next_stamp (newest_stamp kind lines e.topic) clock) → entry_cmp old e ≡ Less
 next_less kind lines old e clock is apart at =

@@ -16,9 +16,6 @@ use Rattle.log_lines.specs.Latest.{said_of, newer_of}
 use Rattle.log_lines.proofs.OrderLemmas.{other, topic_total, topic_exact, same_topic_is, same_topic_own}
 use Rattle.log_lines.proofs.NewerLemmas.{newer_topic, newer_of_none}
 
-abbrev pub topic_in : Entry → Topic
-topic_in e = e.topic
-
 -- the topics rise
 abbrev pub IsRising : List Entry → Type 0
 IsRising es = IsStrictlySortedBy topic_cmp (map (λ e. e.topic) es)

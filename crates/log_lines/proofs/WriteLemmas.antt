@@ -1,17 +1,16 @@
 -- The line that is written has the entry.
-use Rattle.std.proofs.Common.{◌⊎◌, inl, inr, ◌≡◌, ℕ, ◌<◌, ◌≤◌, ◌^◌, true, List, [], ◌∷◌, ◌++◌, length, take, append_assoc, Option, Some, None, Result, Ok, Err, IfOk, refl, sym, ap, subst, ◌∙◌, arith, lit<, rules}
+use Rattle.std.proofs.Common.{◌⊎◌, inl, inr, ◌≡◌, ℕ, ◌<◌, ◌≤◌, ◌^◌, List, [], ◌∷◌, ◌++◌, length, take, append_assoc, Option, Some, None, Result, Ok, Err, IfOk, refl, sym, ap, subst, ◌∙◌, arith, lit<}
 use Rattle.std.specs.Char.{is_ascii_digit}
-use Rattle.std.specs.List.{AllPass, list_all}
+use Rattle.std.specs.List.{AllPass}
 use Rattle.std.specs.Fmt.{decimal}
 use Rattle.std.specs.Str.Parse.{digits_value}
 use Rattle.std.proofs.lemmas.List.{append-nil, take_all}
 use Rattle.std.proofs.lemmas.List.Sums.{AllPass-from_list_all}
 use Rattle.std.proofs.lemmas.Fmt.{digits_decimal, digits_value-decimal, decimal_nonempty, length-decimal-le}
-use Rattle.std.proofs.lemmas.Str.Parse.{IsNumeralModel, numerals_by_value}
 use Rattle.std.proofs.lemmas.Option.{same_Some}
 use Rattle.annex_base.specs.RepoText.{repo_text}
 use Rattle.annex_base.specs.StampText.{IsStamp, stamp_text}
-use Rattle.annex_base.proofs.StampLemmas.{stamp_written}
+use Rattle.annex_base.proofs.StampLemmas.{ascii_numerals, stamp_written}
 use Rattle.annex_base.proofs.Lists.{list_all_append, nil_cons}
 use Rattle.log_lines.specs.declared.entry.LogKind.{LogKind}
 use Rattle.log_lines.specs.declared.entry.LogKind.TheVariants as kinds
@@ -84,9 +83,6 @@ location_written line e p is =
 
 -- ---- numbers
 
-own : IsNumeralModel (λ ds. list_all is_ascii_digit ds ≡ true) (digits_value 10)
-own = numerals_by_value _ (search rules)
-
 record IsWritten (v : Value) (digits : List ℕ) : Type 0 where
   text : value_text v ≡ digits
   says : IsNumber v digits
@@ -102,11 +98,11 @@ number_is : (v : Value) (digits : List ℕ) → IsNumber v digits → (d : List 
 number_is (values.Number n) digits is =
     let below : n < 10 ^ 9 = number_below digits n is.2 is.1 is.3 in
     let small : n < 2 ^ 64 = omega arith in
-    let all : AllPass is_ascii_digit (decimal n) = AllPass-from_list_all is_ascii_digit (decimal n) (digits_decimal own n small) in (
+    let all : AllPass is_ascii_digit (decimal n) = AllPass-from_list_all is_ascii_digit (decimal n) (digits_decimal ascii_numerals n small) in (
       decimal n,
       record {
         text = refl;
-        says = (decimal_nonempty n small, length-decimal-le 9 n (lit< tt) below small, all, sym (digits_value-decimal own n small));
+        says = (decimal_nonempty n small, length-decimal-le 9 n (lit< tt) below small, all, sym (digits_value-decimal ascii_numerals n small));
         plain = digits_plain (decimal n) all;
       },
     )

@@ -1,5 +1,4 @@
-//! Two nodes that drop a key, turn idly or write a line so often, beside so many keys, entries or lines, for `bench/run.py` to time. It
-//! prints how many entries they have then: `node_bench keys|entries|lines NUMBER drops|turns|writes TIMES`.
+//! Two nodes that drop a key, turn idly or write a line many times, for `bench/run.py` to time.
 #![tactic(auto)]
 
 mod start;
@@ -25,6 +24,8 @@ fn entries(alloc: Global, wanted: Wanted) -> Result<usize, NoMemory> {
     count
 }
 
+/// `node_bench keys|entries|lines NUMBER drops|turns|writes TIMES`: beside so many keys, entries or lines the nodes do the work so
+/// often. It prints how many entries they have then.
 fn main(rt: HostRuntime) -> ExitCode {
     let mut words = Vec::new(rt.alloc());
     let Ok(args) = env::args(&rt) else {

@@ -1,6 +1,4 @@
-//! Lets two to four nodes do sequences of 60 acts, drawn from a fixed sequence of numbers, and a plain judge of their entries say in
-//! how many of them one is wrong. Each history is judged twice more: with one entry left out, and with one changed. It prints in how
-//! many sequences the judge found something wrong then: `node_check SEQUENCES`.
+//! Lets two to four nodes do drawn sequences of acts, and a plain judge say whether their entries are right.
 #![tactic(auto)]
 
 mod acts;
@@ -140,6 +138,8 @@ fn wanted(words: &[String]) -> Option<u64> {
     }
 }
 
+/// `node_check SEQUENCES` draws so many sequences of 60 acts from a fixed sequence of numbers. Each history is judged as it is, with one
+/// entry left out, and with one changed. It prints in how many sequences the judge found something wrong each time.
 fn main(rt: HostRuntime) -> ExitCode {
     let mut words = Vec::new(rt.alloc());
     let Ok(args) = env::args(&rt) else {

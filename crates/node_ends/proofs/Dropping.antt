@@ -1,13 +1,14 @@
 -- Ends after each dropped the frames that are never taken.
-use Rattle.std.proofs.Common.{inl, inr, ◌≡◌, ◌≤◌, Bool, ◌&&◌, List, [], ◌∷◌, ◌++◌, length, Option, Some, None, is_some, refl, sym, ap, subst, ◌∙◌, arith}
+use Rattle.std.proofs.Common.{inl, inr, ◌≡◌, ◌≤◌, Bool, false, ◌&&◌, List, [], ◌∷◌, ◌++◌, length, Option, Some, None, is_some, refl, sym, ap, subst, ◌∙◌, arith}
 use Rattle.std.specs.Prelude.{filter, flat_map, map, nat_lt}
-use Rattle.std.specs.List.{find}
+use Rattle.std.specs.List.{find, list_any}
 use Rattle.std.specs.Option.{option_map, option_and_then, option_to_list}
-use Rattle.std.proofs.lemmas.Bool.{cases_Bool}
+use Rattle.std.proofs.lemmas.Bool.{cases_Bool, or_parts}
+use Rattle.std.proofs.lemmas.Bool.Decides.{nat_tests}
 use Rattle.std.proofs.lemmas.List.{length-map}
 use Rattle.std.proofs.lemmas.Option.{slice_get-map}
 use Rattle.link_ring.specs.declared.frame.Frame.{Frame}
-use Rattle.link_ring.specs.Ends.{EndView, StaysPaired, after_drop, is_taken, next_frame}
+use Rattle.link_ring.specs.Ends.{EndView, StaysPaired, after_drop, has_frames, is_taken, next_frame}
 use Rattle.link_ring.specs.Places.{end_place}
 use Rattle.run_data.specs.declared.entry.FrameView.{FrameView}
 use Rattle.node_model.specs.AnyTime.{all_ends}
@@ -38,6 +39,13 @@ paired_drop v = λ other pair. record {
   first = pair.first;
   second = omega (arith, pair.second, filter_shorter (is_taken v) v.at_hand);
 }
+
+filter_none : (p : Frame → Bool) (fs : List Frame) → nat_lt 0 (length fs) ≡ false → filter p fs ≡ fs
+filter_none p [] none = refl
+filter_none p (f ∷ fs) none = absurd (grind (arith, nat_tests))
+
+end_kept : (v : EndView) → has_frames v ≡ false → after_drop v ≡ v
+end_kept v none = ap (λ (fs : List Frame). record v { at_hand = fs }) (filter_none (is_taken v) v.at_hand none)
 
 -- ---- the end of a name, if there is one
 
@@ -97,6 +105,13 @@ count_drop xs = length-map xs after_drop
 pub close_drop : (xs : List EndView) → each_may_close (map after_drop xs) ≡ each_may_close xs
 close_drop [] = refl
 close_drop (x ∷ xs) = ap (λ (b : Bool). may_close x && b) (close_drop xs)
+
+-- where no frame is at hand, none is dropped
+pub none_dropped : (xs : List EndView) → list_any has_frames xs ≡ false → map after_drop xs ≡ xs
+none_dropped [] none = refl
+none_dropped (x ∷ xs) none =
+    let both = or_parts (has_frames x) (list_any has_frames xs) none in
+    ap (λ (y : EndView). y ∷ map after_drop xs) (end_kept x both.0) ∙ ap (λ (ys : List EndView). x ∷ ys) (none_dropped xs both.1)
 
 -- ---- as a state and a look have them
 

@@ -1,8 +1,9 @@
 -- The ends of two repositories, and frames that are carried between them.
 use Rattle.std.proofs.Common.{◌≡◌, ◌≢◌, ◌<◌, ◌≤◌, ℕ, ◌+◌, inl, inr, Bool, true, false, not, ◌&&◌, List, Option, Some, None, refl, sym, ap, subst, ◌∙◌, arith, true≢false}
 use Rattle.std.specs.Prelude.{◌==◌}
-use Rattle.std.proofs.lemmas.Bool.{cases_Bool}
+use Rattle.std.proofs.lemmas.Bool.{and_from, and_parts, cases_Bool, eqb-true}
 use Rattle.std.proofs.lemmas.Bool.Decides.{nat_tests}
+use Rattle.annex_base.proofs.Conditions.{not_not}
 use Rattle.link_ring.specs.declared.end.Phase.{Phase}
 use Rattle.link_ring.specs.declared.end.Phase.TheVariants.{Closed, Opening, Open}
 use Rattle.link_ring.specs.Ends.{EndView, ArePaired, after_carry, free}
@@ -10,7 +11,6 @@ use Rattle.node_model.specs.Ends.{EndName}
 use Rattle.node_ends.specs.Carrying.{AreCarriedTo, IsCarried, IsSlotCarried}
 use Rattle.node_ends.specs.Ends.{link_at}
 use Rattle.node_ends.specs.Invariant.{has_number, has_place, may_close}
-use Rattle.node_ends.proofs.Naming.{same_number}
 use Rattle.node_ends.specs.Joined.{AreCarried, AreJoined, BothPaired, StayPaired, StaysSo, end_with, link_carried}
 
 -- ---- joined ends stay so
@@ -34,19 +34,7 @@ pub paired_still : (o o' p p' : Option EndView) → o' ≡ o → p' ≡ p → Bo
 paired_still o o' p p' first second pair =
     subst (λ (q : Option EndView). BothPaired q p') (sym first) (subst (λ (q : Option EndView). BothPaired o q) (sym second) pair)
 
-not_not : (c : Bool) → not (not c) ≡ c
-not_not true = refl
-not_not false = refl
-
 -- ---- a Close keeps its place
-
-both : (b c : Bool) → (b && c) ≡ true → (b ≡ true) × (c ≡ true)
-both true c is = (refl, is)
-both false c is = absurd (true≢false (sym is))
-
-join : (b c : Bool) → b ≡ true → c ≡ true → (b && c) ≡ true
-join true c is also = also
-join false c is also = absurd (true≢false (sym is))
 
 place_more : (p : Phase) (m n : ℕ) → m ≤ n → has_place p m ≡ true → has_place p n ≡ true
 place_more Closed m n more is = refl
@@ -55,8 +43,8 @@ place_more Open m n more is = refl
 
 pub close_carried : (v w : EndView) → ArePaired v w → may_close v ≡ true → may_close (after_carry v w) ≡ true
 close_carried v w pair is =
-    let parts = both (has_place v.phase (free v)) (has_number v.phase v.sent) is in
-    join (has_place v.phase (free (after_carry v w))) (has_number v.phase v.sent)
+    let parts = and_parts (has_place v.phase (free v)) (has_number v.phase v.sent) is in
+    and_from (has_place v.phase (free (after_carry v w))) (has_number v.phase v.sent)
     (place_more v.phase (free v) (free (after_carry v w)) (omega (arith, pair.first)) parts.0) parts.1
 
 -- ---- carried in one slot
@@ -112,7 +100,7 @@ pub one_more : (n a b : ℕ) (was mid now other between : List EndView) → AreC
 one_more n a b was mid now other between so two same = record {
   count = two.count ∙ so.count;
   carried = λ slot client low. elim (cases_Bool (slot == n)) [
-    | inl is ↦ subst (λ (k : ℕ). link_at now (end_with b k client) ≡ link_carried (link_at was (end_with b k client)) (link_at other (end_with a k (not client)))) (sym (same_number slot n is))
+    | inl is ↦ subst (λ (k : ℕ). link_at now (end_with b k client) ≡ link_carried (link_at was (end_with b k client)) (link_at other (end_with a k (not client)))) (sym (eqb-true slot n is))
         (two.carried client
         ∙ ap (λ (o : Option EndView). link_carried o (link_at between (end_with a n (not client)))) (so.others (end_with b n client) (λ at. omega arith))
         ∙ ap (λ (o : Option EndView). link_carried (link_at was (end_with b n client)) o) (same (not client)))
@@ -126,8 +114,6 @@ one_more n a b was mid now other between so two same = record {
 
 pub not_yet : (n a b : ℕ) (client : Bool) (was now other : List EndView) → AreCarriedTo n a b was now other → link_at now (end_with b n client) ≡ link_at was (end_with b n client)
 not_yet n a b client was now other so = so.others (end_with b n client) (λ at. omega arith)
-
--- ---- what is joined, and how the ends stand
 
 -- ---- a third repository
 

@@ -2,30 +2,20 @@
 use Rattle.std.proofs.Common.{◌≡◌, ◌≢◌, ◌<◌, ◌≤◌, inl, inr, ℕ, zero, suc, ◌+◌, ◌*◌, Bool, true, false, not, List, [], ◌∷◌, ◌++◌, length, is_some, refl, sym, ap, subst, ◌∙◌, arith, true≢false}
 use Rattle.std.specs.Prelude.{◌==◌, nat_lt, slice_get}
 use Rattle.std.specs.List.{range_with_len}
-use Rattle.std.proofs.lemmas.Bool.{cases_Bool}
+use Rattle.std.proofs.lemmas.Bool.{cases_Bool, eqb-true}
 use Rattle.std.proofs.lemmas.Bool.Decides.{nat_tests}
 use Rattle.annex_base.specs.Lists.{Each, Member}
 use Rattle.annex_base.proofs.Conditions.{eqb_refl}
 use Rattle.annex_base.proofs.Lists.{Each-append, Each-flat_map, Each-from_members, Each-member, Member-append_left, Member-append_right, Member-filter_from, Member-filter_parts, Member-flat_map}
-use Rattle.annex_base.proofs.Numbers.{range_below}
+use Rattle.annex_base.proofs.Numbers.{Member-range, range_below}
 use Rattle.link_ring.specs.Ends.{EndView}
 use Rattle.link_ring.specs.Places.{end_place}
 use Rattle.node_model.specs.AnyTime.{all_ends, ends_with}
 use Rattle.node_model.specs.Ends.{EndName}
 use Rattle.node_model.specs.SetUp.{SetUp, others}
 use Rattle.node_ends.specs.Ends.{IsEndOf, link_at}
-use Rattle.node_ends.proofs.Naming.{same_number}
 
 -- ---- from its numbers
-
-member_range : (k from n : ℕ) → from ≤ k → k < from + n → Member k (range_with_len from n)
-member_range k from zero low high = absurd (omega (arith, low, high))
-member_range k from (suc n) low high = elim (cases_Bool (from == k)) [
-  | inl is ↦ inl (sym (same_number from k is))
-  | inr other ↦
-      let above : from + 1 ≤ k = grind (arith, nat_tests) in
-      inr (member_range k (from + 1) n above (omega (arith, high)))
-]
 
 listed_slot : (peer : ℕ) (client : Bool) (slot : ℕ) → slot < 4 → Member (record { peer = peer; slot = slot; client = client }) (ends_with peer client)
 listed_slot peer client zero low = inl refl
@@ -44,8 +34,8 @@ listed_end a low = elim (cases_Bool a.client) [
 
 other_is : (s : SetUp) (peer : ℕ) → peer < length s.repos → peer ≢ s.number → Member peer (others s)
 other_is s peer known apart = elim (cases_Bool (peer == s.number)) [
-  | inl same ↦ absurd (apart (same_number peer s.number same))
-  | inr differs ↦ Member-filter_from (λ x. not (x == s.number)) (range_with_len 0 (length s.repos)) peer (member_range peer 0 (length s.repos) (omega arith) (omega (arith, known))) (rw differs refl)
+  | inl same ↦ absurd (apart (eqb-true peer s.number same))
+  | inr differs ↦ Member-filter_from (λ x. not (x == s.number)) (range_with_len 0 (length s.repos)) peer (Member-range 0 (length s.repos) peer (omega arith) (omega (arith, known))) (rw differs refl)
 ]
 
 pub listed : (s : SetUp) (a : EndName) → IsEndOf s a → Member a (all_ends s)

@@ -1,8 +1,7 @@
 -- The end at which a frame is taken, and that at which one is sent.
-use Rattle.std.proofs.Common.{◌≡◌, ◌≢◌, inl, inr, ℕ, Bool, true, false, not, ◌&&◌, if◌then◌else◌, List, [], ◌∷◌, ◌++◌, Option, Some, refl, sym, ap, subst, ◌∙◌, arith, true≢false}
+use Rattle.std.proofs.Common.{◌≡◌, ◌≢◌, inl, inr, ℕ, Bool, true, false, not, ◌&&◌, if◌then◌else◌, List, [], ◌∷◌, ◌++◌, Option, Some, refl, sym, ap, subst, ◌∙◌, true≢false}
 use Rattle.std.specs.Prelude.{◌==◌, fold, length}
-use Rattle.std.proofs.lemmas.Bool.{cases_Bool}
-use Rattle.std.proofs.lemmas.Bool.Decides.{nat_tests}
+use Rattle.std.proofs.lemmas.Bool.{and_parts, cases_Bool, eqb-true}
 use Rattle.std.proofs.lemmas.List.Elements.{filter-append}
 use Rattle.std.proofs.lemmas.List.{append-nil}
 use Rattle.std.proofs.lemmas.List.Sums.{fold-append}
@@ -13,13 +12,6 @@ use Rattle.run_data.specs.declared.entry.FrameView.{FrameView}
 use Rattle.node_model.specs.Ends.{End, EndName, same_bool, sends_at, takes_at, taken_at, sent_at, end_took, end_takes, end_sends}
 use Rattle.node_ends.specs.Ends.{end_at, end_in, frame_at, link_at, text_in}
 use Rattle.node_ends.specs.Going.{AreAfter}
-
-pub same_number : (m n : ℕ) → (m == n) ≡ true → m ≡ n
-same_number m n is = grind (arith, nat_tests)
-
-both : (b c : Bool) → (b && c) ≡ true → (b ≡ true) × (c ≡ true)
-both true c is = (refl, is)
-both false c is = absurd (true≢false (sym is))
 
 same_bool_refl : (b : Bool) → same_bool b b ≡ true
 same_bool_refl true = refl
@@ -54,9 +46,9 @@ takes_own a f = rw (eqb_refl a.peer, eqb_refl a.slot) (turned_own a.client)
 
 pub takes_is : (a b : EndName) (f : Frame) → takes_at b (frame_at a f) ≡ true → b ≡ a
 takes_is a b f is =
-    let way = both ((a.peer == b.peer) && (a.slot == b.slot)) (same_bool b.client (if (not a.client) then false else true)) is in
-    let numbers = both (a.peer == b.peer) (a.slot == b.slot) way.0 in
-    same_name b a (sym (same_number a.peer b.peer numbers.0)) (sym (same_number a.slot b.slot numbers.1)) (turned b.client a.client way.1)
+    let way = and_parts ((a.peer == b.peer) && (a.slot == b.slot)) (same_bool b.client (if (not a.client) then false else true)) is in
+    let numbers = and_parts (a.peer == b.peer) (a.slot == b.slot) way.0 in
+    same_name b a (sym (eqb-true a.peer b.peer numbers.0)) (sym (eqb-true a.slot b.slot numbers.1)) (turned b.client a.client way.1)
 
 pub takes_other : (a b : EndName) (f : Frame) → takes_at b (frame_at a f) ≡ false → b ≢ a
 takes_other a b f not_so same = true≢false (sym (takes_own a f) ∙ (subst (λ (c : EndName). takes_at c (frame_at a f) ≡ false) same not_so))
@@ -68,9 +60,9 @@ sends_own a f peer slot up = rw (peer, slot, up, eqb_refl a.peer, eqb_refl a.slo
 
 pub sends_is : (a b : EndName) (f : FrameView) → f.peer ≡ a.peer → f.slot ≡ a.slot → f.up ≡ a.client → sends_at b f ≡ true → b ≡ a
 sends_is a b f peer slot up is =
-    let way = both ((f.peer == b.peer) && (f.slot == b.slot)) (same_bool f.up b.client) is in
-    let numbers = both (f.peer == b.peer) (f.slot == b.slot) way.0 in
-    same_name b a (sym (same_number f.peer b.peer numbers.0) ∙ peer) (sym (same_number f.slot b.slot numbers.1) ∙ slot) (sym (same_bool_is f.up b.client way.1) ∙ up)
+    let way = and_parts ((f.peer == b.peer) && (f.slot == b.slot)) (same_bool f.up b.client) is in
+    let numbers = and_parts (f.peer == b.peer) (f.slot == b.slot) way.0 in
+    same_name b a (sym (eqb-true f.peer b.peer numbers.0) ∙ peer) (sym (eqb-true f.slot b.slot numbers.1) ∙ slot) (sym (same_bool_is f.up b.client way.1) ∙ up)
 
 pub sends_other : (a b : EndName) (f : FrameView) → f.peer ≡ a.peer → f.slot ≡ a.slot → f.up ≡ a.client → sends_at b f ≡ false → b ≢ a
 sends_other a b f peer slot up not_so same = true≢false (sym (sends_own a f peer slot up) ∙ subst (λ (c : EndName). sends_at c f ≡ false) same not_so)

@@ -1,7 +1,7 @@
 -- One of the ends is set.
-use Rattle.std.proofs.Common.{◌≡◌, ◌<◌, arith, inl, inr, ℕ, zero, suc, Bool, true, false, ◌&&◌, List, [], ◌∷◌, Option, Some, None, slice_set, refl, sym, ap, subst, ◌∙◌}
+use Rattle.std.proofs.Common.{◌≡◌, ◌<◌, arith, inl, inr, ℕ, zero, suc, true, ◌&&◌, List, [], ◌∷◌, Option, Some, None, slice_set, refl, sym, ap, subst, ◌∙◌}
 use Rattle.std.specs.Prelude.{nat_lt, slice_get, replicate}
-use Rattle.std.proofs.lemmas.Bool.{cases_Bool, true≢false}
+use Rattle.std.proofs.lemmas.Bool.{and_from, and_parts, cases_Bool}
 use Rattle.std.proofs.lemmas.Bool.Decides.{nat_tests}
 use Rattle.std.proofs.lemmas.Option.{same_Some, none-some}
 use Rattle.link_ring.specs.Ends.{EndView, StaysPaired, fresh}
@@ -13,25 +13,17 @@ use Rattle.node_ends.specs.Joined.{StaysSo, StayPaired}
 
 -- ---- each may close
 
-both : (b c : Bool) → (b && c) ≡ true → (b ≡ true) × (c ≡ true)
-both true c is = (refl, is)
-both false c is = absurd (true≢false (sym is))
-
-join : (b c : Bool) → b ≡ true → c ≡ true → (b && c) ≡ true
-join true c is also = also
-join false c is also = absurd (true≢false (sym is))
-
 pub close_set : (xs : List EndView) (i : ℕ) (w : EndView) → each_may_close xs ≡ true → may_close w ≡ true → each_may_close (slice_set xs i w) ≡ true
 close_set [] i w all one = refl
-close_set (x ∷ xs) zero w all one = join (may_close w) (each_may_close xs) one (both (may_close x) (each_may_close xs) all).1
+close_set (x ∷ xs) zero w all one = and_from (may_close w) (each_may_close xs) one (and_parts (may_close x) (each_may_close xs) all).1
 close_set (x ∷ xs) (suc i) w all one =
-    let parts = both (may_close x) (each_may_close xs) all in
-    join (may_close x) (each_may_close (slice_set xs i w)) parts.0 (close_set xs i w parts.1 one)
+    let parts = and_parts (may_close x) (each_may_close xs) all in
+    and_from (may_close x) (each_may_close (slice_set xs i w)) parts.0 (close_set xs i w parts.1 one)
 
 pub close_at : (xs : List EndView) (i : ℕ) (v : EndView) → each_may_close xs ≡ true → slice_get xs i ≡ Some v → may_close v ≡ true
 close_at [] i v all at = absurd (none-some v at)
-close_at (x ∷ xs) zero v all at = subst (λ (y : EndView). may_close y ≡ true) (same_Some x v at) (both (may_close x) (each_may_close xs) all).0
-close_at (x ∷ xs) (suc i) v all at = close_at xs i v (both (may_close x) (each_may_close xs) all).1 at
+close_at (x ∷ xs) zero v all at = subst (λ (y : EndView). may_close y ≡ true) (same_Some x v at) (and_parts (may_close x) (each_may_close xs) all).0
+close_at (x ∷ xs) (suc i) v all at = close_at xs i v (and_parts (may_close x) (each_may_close xs) all).1 at
 
 pub close_fresh : (n : ℕ) → each_may_close (replicate n fresh) ≡ true
 close_fresh zero = refl

@@ -1,8 +1,9 @@
 //! The ends of a repository.
 ghost use Rattle.std.specs.Prelude.{◌≡◌, ◌≢◌, ℕ, ◌*◌, [], ◌∷◌, ◌++◌, List, true, false, None, Some, IfSome, is_some, length, map, replicate};
+ghost use Rattle.std.specs.List.{list_any};
 ghost use Rattle.std.specs.declared.option.Option.{Option};
 ghost use Rattle.std.specs.Option.{ForSome, option_and_then, option_copied, option_map};
-ghost use Rattle.link_ring.specs.Ends.{EndView, after_drop, after_take, fresh, next_frame};
+ghost use Rattle.link_ring.specs.Ends.{EndView, after_drop, after_take, fresh, has_frames, next_frame};
 ghost use Rattle.run_data.specs.declared.entry.FrameView.{FrameView};
 ghost use Rattle.run_data.specs.declared.entry.FrameText.TheVariants as texts;
 ghost use Rattle.node_model.specs.Ends.{EndName, end_sends, end_takes, frames};
@@ -70,6 +71,14 @@ impl Ends {
         ensures first { IfSome result (λ f. option_and_then next_frame (link_at self.now (name_of id)) ≡ Some f.now) }
     {
         places::waiting(&self.links.ends, id)
+    }
+
+    /// Whether a frame is at hand at one of the ends. Where none is, `drop_old` changes nothing.
+    pub fn have_frames(&self) -> bool
+        ensures any { result ≡ list_any has_frames self.now }
+        ensures kept { result ≡ false → map after_drop self.now ≡ self.now }
+    {
+        places::have_frames(&self.links.ends)
     }
 
     /// Takes the frame that waits at the end. The end has room, so that a Close has its place when it is open.

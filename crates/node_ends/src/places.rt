@@ -1,7 +1,8 @@
 //! What is done at one of the ends, which is found by its place.
 ghost use Rattle.std.specs.Prelude.{◌≡◌, ◌<◌, ◌*◌, ◌∷◌, [], true, false, None, Some, is_some, length, map};
+ghost use Rattle.std.specs.List.{list_any};
 ghost use Rattle.std.specs.Option.{ForSome, option_and_then, option_copied};
-ghost use Rattle.link_ring.specs.Ends.{after_drop, after_take, next_frame};
+ghost use Rattle.link_ring.specs.Ends.{after_drop, after_take, has_frames, next_frame};
 ghost use Rattle.link_ring.specs.Places.{end_place};
 ghost use Rattle.node_model.specs.Ends.{EndName, frames};
 ghost use Rattle.node_ends.specs.Changes.{IsChanged, frame_waiting};
@@ -118,6 +119,20 @@ pub(crate) fn post(
     } else {
         None
     }
+}
+
+fn any_has_frames(ends: &[End]) -> bool
+    ensures { result ≡ list_any has_frames ends.now }
+{
+    ends.iter().any(|end: &End| end.has_frames())
+}
+
+// Whether a frame is at hand at one of the ends; else no frame is there to be dropped.
+pub(crate) fn have_frames(ends: &[End]) -> bool
+    ensures any { result ≡ list_any has_frames ends.now }
+    ensures kept { result ≡ false → map after_drop ends.now ≡ ends.now }
+{
+    any_has_frames(ends)
 }
 
 // Drops the frames that are never taken, at each end.

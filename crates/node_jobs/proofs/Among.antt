@@ -1,8 +1,8 @@
 -- One job among those that run.
-use Rattle.std.proofs.Common.{◌≡◌, ◌≢◌, inl, inr, ℕ, ◌<◌, Bool, true, false, if◌then◌else◌, List, [], ◌∷◌, ◌++◌, filter, map, Option, Some, None, refl, sym, ap, subst, ◌∙◌, arith}
+use Rattle.std.proofs.Common.{◌≡◌, ◌≢◌, inl, inr, ℕ, ◌<◌, Bool, true, false, if◌then◌else◌, List, [], ◌∷◌, ◌++◌, filter, map, Option, Some, None, refl, sym, ap, subst, ◌∙◌}
 use Rattle.std.specs.Prelude.{find, not, ◌==◌}
 use Rattle.std.specs.Option.{option_map}
-use Rattle.std.proofs.lemmas.Bool.Decides.{nat_tests}
+use Rattle.std.proofs.lemmas.Bool.{ne_eqb}
 use Rattle.annex_base.specs.Lists.{Each, Member}
 use Rattle.annex_base.proofs.Conditions.{eqb_refl}
 use Rattle.annex_base.proofs.Lists.{Each-append, Each-left, Each-map, Each-member, Each-middle, Each-right, Each-weaker, filter_all, filter_no, filter_yes}
@@ -17,9 +17,6 @@ find_mapped f p (x ∷ xs) = go (find_mapped f p xs) (p (f x))
     go : find p (map f xs) ≡ option_map f (find (λ y. p (f y)) xs) → (b : Bool) → (if b then Some (f x) else find p (map f xs)) ≡ option_map f (if b then Some x else find (λ y. p (f y)) xs)
     go ih true = refl
     go ih false = ih
-
-pub not_same : (m n : ℕ) → m ≢ n → (m == n) ≡ false
-not_same m n apart = grind (arith, nat_tests)
 
 -- ---- jobs with their own numbers and slots
 
@@ -52,18 +49,18 @@ pub found_by_number : (js : List DropJob) (j : DropJob) → AllApart js → Memb
 found_by_number [] j apart among = absurd among
 found_by_number (x ∷ xs) j apart (inl same) = subst (λ (y : DropJob). (if y.worker.number == j.worker.number then Some y else find (λ z. z.worker.number == j.worker.number) xs) ≡ Some j) same (rw (eqb_refl j.worker.number) refl)
 found_by_number (x ∷ xs) j apart (inr later) =
-    let other : (x.worker.number == j.worker.number) ≡ false = not_same x.worker.number j.worker.number (Each-member (AreApart x) xs j apart.0 later).number in
+    let other : (x.worker.number == j.worker.number) ≡ false = ne_eqb x.worker.number j.worker.number (Each-member (AreApart x) xs j apart.0 later).number in
     rw other (found_by_number xs j apart.1 later)
 
 -- none is found by a number that none has
 pub none_by_number : (js : List DropJob) (n : ℕ) → Each (λ x. x.worker.number ≢ n) js → job_at js n ≡ None
 none_by_number [] n others = refl
-none_by_number (x ∷ xs) n others = rw (not_same x.worker.number n others.0) (none_by_number xs n others.1)
+none_by_number (x ∷ xs) n others = rw (ne_eqb x.worker.number n others.0) (none_by_number xs n others.1)
 
 -- the others are found as they were, where one of them goes on or is off
 pub others_found : (n : ℕ) (front : List DropJob) (j j' : DropJob) (back : List DropJob) (ended : Bool) → j.worker.number ≢ n → j'.worker.number ≡ j.worker.number → job_at (front ++ (job_after ended j' ++ back)) n ≡ job_at (front ++ j ∷ back) n
-others_found n [] j j' back true other same = rw (not_same j.worker.number n other) refl
-others_found n [] j j' back false other same = rw (not_same j.worker.number n other, not_same j'.worker.number n (λ e. other (sym same ∙ e))) refl
+others_found n [] j j' back true other same = rw (ne_eqb j.worker.number n other) refl
+others_found n [] j j' back false other same = rw (ne_eqb j.worker.number n other, ne_eqb j'.worker.number n (λ e. other (sym same ∙ e))) refl
 others_found n (x ∷ front) j j' back ended other same = ap (λ (o : Option DropJob). if x.worker.number == n then Some x else o) (others_found n front j j' back ended other same)
 
 -- ---- their works

@@ -18,11 +18,11 @@ use Rattle.run_data.specs.declared.job.JobKind.TheVariants as jobs_of
 use Rattle.node_model.specs.After.{has_read, read_after, state_after}
 use Rattle.node_model.specs.Evidence.{standing_by}
 use Rattle.node_model.specs.Jobs as Jobs
-use Rattle.node_model.specs.Jobs.{Drops, Work, first_part, new_work, running, work_after, work_kind, works_after}
+use Rattle.node_model.specs.Jobs.{Drops, Work, first_part, new_work, running_job, work_after, work_kind, works_after}
 use Rattle.node_model.specs.Knows.{standing_of}
 use Rattle.node_model.specs.Rows.{option_is}
 use Rattle.node_model.specs.SetUp.{SetUp}
-use Rattle.node_model.specs.Slots.{Running, begun_after, free_slot, job_of}
+use Rattle.node_model.specs.Slots.{RunningJob, begun_after, free_slot, job_of}
 use Rattle.node_model.specs.State.{State}
 use Rattle.content_lock.specs.Rows.{Rows}
 use Rattle.drop_worker.specs.declared.phase.Phase.{Phase}
@@ -33,9 +33,9 @@ use Rattle.node_jobs.specs.Running.{AreWorks, DropJob, Follows, HasRead, IsOwn, 
 use Rattle.node_jobs.proofs.Among.{find_mapped, found_by_number}
 use Rattle.node_jobs.proofs.Stepping.{has_read_stays, read_stays}
 
-same_running : (js : List DropJob) → map running (map work_now js) ≡ map running_now js
+same_running : (js : List DropJob) → map running_job (map work_now js) ≡ map running_now js
 same_running [] = refl
-same_running (j ∷ js) = ap (λ (rs : List Running). running_now j ∷ rs) (same_running js)
+same_running (j ∷ js) = ap (λ (rs : List RunningJob). running_now j ∷ rs) (same_running js)
 
 none_numbered : (begun : ℕ) (rows : Rows) (js : List DropJob) → Each (IsOwn begun rows) js → find (λ w. w.number == begun + 1) (map work_now js) ≡ None
 none_numbered begun rows [] h = refl
@@ -67,7 +67,7 @@ works_begun jobs rows what s st e st' drop own are kind follows =
 
 -- ---- an entry that is no job's
 
-no_jobs : (rows : Jobs.Rows) (r : ℕ) (was : List Work) (e : Entry) (kind : EntryKind) → job_of kind ≡ None → ((clock : ℕ) → kind ≡ kinds.Crash clock → ⊥) → works_after rows r was e kind ≡ map (work_after rows r e) was
+no_jobs : (rows : Jobs.RowsAndEnds) (r : ℕ) (was : List Work) (e : Entry) (kind : EntryKind) → job_of kind ≡ None → ((clock : ℕ) → kind ≡ kinds.Crash clock → ⊥) → works_after rows r was e kind ≡ map (work_after rows r e) was
 no_jobs rows r was e (kinds.Begin job what) none crash = absurd cc
 no_jobs rows r was e (kinds.End job outcome) none crash = absurd cc
 no_jobs rows r was e (kinds.Crash clock) none crash = absurd (crash clock refl)
@@ -77,7 +77,7 @@ no_begun : (was : ℕ) (kind : EntryKind) → job_of kind ≡ None → begun_aft
 no_begun was (kinds.Begin job what) none = absurd cc
 no_begun was kind none = refl
 
-stay_all : (rows : Jobs.Rows) (r : ℕ) (e : Entry) (ws : List Work) → job_of e.kind ≡ None → map (work_after rows r e) ws ≡ ws
+stay_all : (rows : Jobs.RowsAndEnds) (r : ℕ) (e : Entry) (ws : List Work) → job_of e.kind ≡ None → map (work_after rows r e) ws ≡ ws
 stay_all rows r e [] none = refl
 stay_all rows r e (w ∷ ws) none = (λ i. here i ∷ stay_all rows r e ws none i)
   where
@@ -118,7 +118,7 @@ works_stay_so s st e jobs rows are own none crash =
 
 -- ---- a line that couldn't be written
 
-fault_moves_none : (rows : Jobs.Rows) (r : ℕ) (e : Entry) (by : By) (ws : List Work) → e.kind ≡ kinds.Fault PutFile by → map (work_after rows r e) ws ≡ ws
+fault_moves_none : (rows : Jobs.RowsAndEnds) (r : ℕ) (e : Entry) (by : By) (ws : List Work) → e.kind ≡ kinds.Fault PutFile by → map (work_after rows r e) ws ≡ ws
 fault_moves_none rows r e by [] is = refl
 fault_moves_none rows r e by (w ∷ ws) is = (λ i. here (option_is (job_of e.kind) w.number) refl i ∷ fault_moves_none rows r e by ws is i)
   where

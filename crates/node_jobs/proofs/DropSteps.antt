@@ -2,8 +2,9 @@
 use Rattle.std.proofs.Common.{◌≡◌, inl, inr, ℕ, Bool, true, false, ◌&&◌, if◌then◌else◌, List, [], ◌∷◌, Option, Some, None, refl, sym, ap, subst, ◌∙◌}
 use Rattle.std.specs.Prelude.{◌==◌, nat_le, nat_lt, not}
 use Rattle.std.specs.List.{list_all, list_any}
-use Rattle.std.proofs.lemmas.Bool.{true≢false}
+use Rattle.std.proofs.lemmas.Bool.{and_parts, true≢false}
 use Rattle.std.proofs.lemmas.Option.{none-some, same_Some}
+use Rattle.std.proofs.Math.Bool.{and-false}
 use Rattle.annex_base.specs.Calls.{same_call}
 use Rattle.annex_base.specs.Lists.{Each}
 use Rattle.annex_base.specs.declared.kinds.Call.{Call}
@@ -24,7 +25,7 @@ use Rattle.p2p_wire.specs.declared.message.Message.{Message}
 use Rattle.p2p_wire.specs.declared.message.Message.TheVariants.{AuthSuccess, CheckPresent, Failure, LockContent, Success, Version}
 use Rattle.p2p_wire.specs.Messages.{message_of, text_of}
 use Rattle.node_model.specs.Calls.{to_release}
-use Rattle.node_model.specs.DropStep.{asks_copy, bars, expiry, first_drop, first_end, first_local, held_until, in_time, lacking, required_there, row_refusal}
+use Rattle.node_model.specs.DropStep.{asks_copy, bars, expiry, first_drop, first_end, first_local, held_until, in_time, lacking_outcome, required_there, row_refusal}
 use Rattle.node_model.specs.Ends.{End, EndName, end_sends, end_takes, end_took, frames, is_opening, may_take, same_bool, sends_at, sent_at, taken_at, takes_at}
 use Rattle.node_model.specs.Jobs as Jobs
 use Rattle.node_model.specs.Jobs.{Drops, job_end, side_of}
@@ -68,12 +69,6 @@ call_releases false c is = absurd (true≢false (sym is))
 
 -- ---- an end that took a frame
 
-stays_open : (c : End) (epoch : ℕ) (body : FrameText) → is_closing body ≡ false → c.opened ≡ true → (end_takes c epoch body).opened ≡ true
-stays_open c epoch Opening is live = refl
-stays_open c epoch Closing is live = absurd (true≢false is)
-stays_open c epoch (Line text) is live = live
-stays_open c epoch (Bytes n) is live = live
-
 -- and has the same numbers, unless it took an opening
 same_numbers : (a : EndName) (c : End) (epoch : ℕ) (taken body : FrameText) → is_opening taken ≡ false → frames a (end_takes c epoch taken) (body ∷ []) ≡ frames a c (body ∷ [])
 same_numbers a c epoch Opening body none = absurd (true≢false none)
@@ -89,24 +84,16 @@ next_took a c None body none = refl
 next_took a c (Some f) body none = if_either (λ (o : Option FrameView). frames a (end_took c o) (body ∷ []) ≡ frames a c (body ∷ [])) (takes_at a f) (Some f) None
     (λ is. same_numbers a c f.epoch f.body body none) (λ other. refl)
 
-and_false : (b : Bool) → (b && false) ≡ false
-and_false true = refl
-and_false false = refl
-
-and_parts : (b c : Bool) → (b && c) ≡ true → (b ≡ true) × (c ≡ true)
-and_parts true c is = (refl, is)
-and_parts false c is = absurd (true≢false (sym is))
-
 not_up : (up : Bool) → same_bool true (if up then false else true) ≡ true → up ≡ false
 not_up true is = absurd (true≢false (sym is))
 not_up false is = refl
 
 -- the frame of a server's end isn't taken by a client's, nor sent by it
 served_takes : (a : EndName) (f : FrameView) → a.client ≡ false → f.up ≡ false → takes_at a f ≡ false
-served_takes a f server up = rw (server, up) (and_false ((f.peer == a.peer) && (f.slot == a.slot)))
+served_takes a f server up = rw (server, up) (and-false ((f.peer == a.peer) && (f.slot == a.slot)))
 
 served_sends : (a : EndName) (f : FrameView) → a.client ≡ false → f.up ≡ true → sends_at a f ≡ false
-served_sends a f server up = rw (server, up) (and_false ((f.peer == a.peer) && (f.slot == a.slot)))
+served_sends a f server up = rw (server, up) (and-false ((f.peer == a.peer) && (f.slot == a.slot)))
 
 -- ---- a turn
 
@@ -188,7 +175,7 @@ module _ (before : Turn) (local : side_of before.w ≡ Local) (Begins : Type 0) 
 
   -- there is room where it gives locks back
   with_room : (lost : Bool) → list_all (has_room t) (if lost then [] else locked_peers t) ≡ true → Each (MayUnlock t lost) (others_of t)
-  with_room true room = Each-from_members (MayUnlock t true) (others_of t) (λ peer among lock live. absurd (true≢false (sym lock ∙ and_false (has_lock t peer))))
+  with_room true room = Each-from_members (MayUnlock t true) (others_of t) (λ peer among lock live. absurd (true≢false (sym lock ∙ and-false (has_lock t peer))))
   with_room false room = Each-from_members (MayUnlock t false) (others_of t) (λ peer among lock live.
       let locked : has_lock t peer ≡ true = (and_parts (has_lock t peer) true lock).0 in
       list_all_member (has_room t) (locked_peers t) peer room
@@ -237,7 +224,7 @@ module _ (before : Turn) (local : side_of before.w ≡ Local) (Begins : Type 0) 
 
   judges_well : (enough : Bool) (next : Option ℕ) (side : Side) → side ≡ Local → list_all (has_room t) (judge_needs t enough next side) ≡ true → IsWell (judges t enough next side)
   judges_well false (Some peer) side is room = goes_well peer (and_head (has_room t peer) true room)
-  judges_well false None side is room = ends_well (lacking t) (λ b. with_room false room)
+  judges_well false None side is room = ends_well (lacking_outcome t) (λ b. with_room false room)
   judges_well true next Local is room = removes_well (in_time (clock_of t) (first_end t)) refl room
   judges_well true next Remote is room = absurd cc
 

@@ -54,10 +54,6 @@ can_end jobs rows own =
       apart = own.apart;
     }
 
--- the last of them
-pub last_can : (rows : Rows) (js front : List DropJob) (x : DropJob) → js ≡ front ++ x ∷ [] → CanEnd rows js → CanEnd rows (front ++ x ∷ [])
-last_can rows js front x is can = subst (CanEnd rows) is can
-
 pub last_local : (rows : Rows) (front : List DropJob) (x : DropJob) → CanEnd rows (front ++ x ∷ []) → IsOfLocal x.worker.token
 last_local rows front x can = (Each-right (λ j. IsOfLocal j.worker.token) front (x ∷ []) can.bars).0
 

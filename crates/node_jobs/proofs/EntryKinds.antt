@@ -4,7 +4,7 @@ use Rattle.std.specs.Prelude.{not, ◌==◌}
 use Rattle.run_data.specs.declared.entry.Entry.{Entry}
 use Rattle.run_data.specs.declared.entry.EntryKind.{EntryKind}
 use Rattle.run_data.specs.declared.entry.EntryKind.TheVariants.{Bar, End, Fault, Gone, Order, Share, Talk}
-use Rattle.node_model.specs.Jobs.{Rows, Work, work_after, works_after}
+use Rattle.node_model.specs.Jobs.{RowsAndEnds, Work, work_after, works_after}
 use Rattle.node_model.specs.Slots.{begun_after, job_by, job_of}
 use Rattle.run_data.specs.declared.entry.By.{By}
 use Rattle.drop_worker.specs.Begun.{IsLast, IsOnward}
@@ -18,7 +18,7 @@ onward_job n (Talk job) h = h
 onward_job n (Fault call source) h = ap job_by h
 onward_job n kind h = absurd h
 
-pub onward_works : (rows : Rows) (r n : ℕ) (was : List Work) (e : Entry) (kind : EntryKind) → IsOnward n kind → works_after rows r was e kind ≡ map (work_after rows r e) was
+pub onward_works : (rows : RowsAndEnds) (r n : ℕ) (was : List Work) (e : Entry) (kind : EntryKind) → IsOnward n kind → works_after rows r was e kind ≡ map (work_after rows r e) was
 onward_works rows r n was e (Share hold end owner key) h = refl
 onward_works rows r n was e (Bar job need key) h = refl
 onward_works rows r n was e (Order job target deadline need key) h = refl
@@ -36,7 +36,7 @@ onward_begun n was (Talk job) h = refl
 onward_begun n was (Fault call source) h = refl
 onward_begun n was kind h = absurd h
 
-pub last_works : (rows : Rows) (r n : ℕ) (was : List Work) (e : Entry) (kind : EntryKind) → IsLast n kind → works_after rows r was e kind ≡ filter (λ w. not (w.number == n)) was
+pub last_works : (rows : RowsAndEnds) (r n : ℕ) (was : List Work) (e : Entry) (kind : EntryKind) → IsLast n kind → works_after rows r was e kind ≡ filter (λ w. not (w.number == n)) was
 last_works rows r n was e (End job outcome) h = ap (λ (m : ℕ). filter (λ (w : Work). not (w.number == m)) was) h
 last_works rows r n was e kind h = absurd h
 

@@ -1,6 +1,6 @@
 -- A job that awaits no frame: whether it has room.
 use Rattle.std.proofs.Common.{◌≡◌, ℕ, ◌+◌, ◌*◌, ◌<◌, Bool, true, false, if◌then◌else◌, List, [], ◌∷◌, length, Option, Some, None, refl, sym, ap, subst, ◌∙◌}
-use Rattle.std.specs.Prelude.{is_some, ◌&&◌}
+use Rattle.std.specs.Prelude.{◌&&◌}
 use Rattle.std.specs.List.{list_all}
 use Rattle.annex_base.specs.Lists.{Each}
 use Rattle.annex_base.specs.declared.kinds.Word.{Word}
@@ -23,7 +23,7 @@ use Rattle.node_model.specs.SetUp.{SetUp}
 use Rattle.node_model.specs.State.{State}
 use Rattle.node_model.specs.Turns.{by_partner, goes, has_room, needs, slot_step}
 use Rattle.node_model.specs.Wanted.{required}
-use Rattle.node_ends.specs.Ends.{end_at, link_at, room_at}
+use Rattle.node_ends.specs.Ends.{end_at, room_at}
 use Rattle.object_store.specs.Stores.{Contents}
 use Rattle.content_lock.specs.Rows.{Rows}
 use Rattle.drop_worker.specs.Begun.{IsOther}
@@ -33,7 +33,7 @@ use Rattle.drop_worker.specs.declared.phase.Token.{Token}
 use Rattle.drop_worker.specs.declared.turn.Taken.TheVariants as takens
 use Rattle.drop_worker.specs.Feeding.{FedAt, FindsAt, FitsLocal}
 use Rattle.drop_worker.specs.Leaving.{stands_on}
-use Rattle.drop_worker.specs.States.{IsSight, Keeps}
+use Rattle.drop_worker.specs.States.{IsSight, HaveState}
 use Rattle.drop_worker.specs.Worker.{Worker}
 use Rattle.drop_worker.specs.Working.{end_in, phase_as, sight, words_of}
 use Rattle.node_jobs.specs.Feeds.{Answers, PeersOf, SeesJob, bare_feed}
@@ -85,7 +85,7 @@ module _ (p : PlaceView) (clock : ClockSet) (links : List EndView) (j : DropJob)
 
   module _ (known : Known) (is : j.known ≡ Some known) (side : drop_side j.worker.job.kind j.worker.job.peer ≡ Local) (fits : FitsLocal j.worker.phase j.worker.token) (below : j.worker.slot < 4)
       (peers : List ℕ) (of : PeersOf p clock links j.worker known time peers) (others : Each (IsOther (place_reading p)) peers) (count : length links ≡ length p.ids * 8) where
-    rooms_are : (rows : Rows) (c : Contents) (s : SetUp) (st : State) (k : Look) → SeesJob p clock links j time s st k → Keeps rows c st
+    rooms_are : (rows : Rows) (c : Contents) (s : SetUp) (st : State) (k : Look) → SeesJob p clock links j time s st k → HaveState rows c st
         → list_all (has_room (turn_of s st k (work_now j))) (needs (turn_of s st k (work_now j)) (work_now j).phase) ≡ list_all (λ peer. room_at links (end_in j.worker.slot peer)) peers
     rooms_are rows c s st k sees keeps =
         let told : Look = record k { words = words_of j.worker } in
@@ -100,8 +100,3 @@ module _ (p : PlaceView) (clock : ClockSet) (links : List EndView) (j : DropJob)
 
     pub full_answers : list_all (λ peer. room_at links (end_in j.worker.slot peer)) peers ≡ false → Answers p clock links j time None
     full_answers full = λ rows c s st k sees keeps. goes_by s st k (rooms_are rows c s st k sees keeps ∙ full)
-
--- the ends of other repositories are there
-pub ends_there : (p : PlaceView) (links : List EndView) (slot : ℕ) (peers : List ℕ) → length links ≡ length p.ids * 8 → slot < 4 → Each (IsOther (place_reading p)) peers → Each (λ peer. is_some (link_at links (end_in slot peer)) ≡ true) peers
-ends_there p links slot peers count below others =
-    Each-weaker (IsOther (place_reading p)) (λ peer. is_some (link_at links (end_in slot peer)) ≡ true) (λ peer other. link_there links (length p.ids) slot peer count other.0 below) peers others

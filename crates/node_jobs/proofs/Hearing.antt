@@ -1,5 +1,5 @@
 -- What a job is told of the end at which it awaits a frame.
-use Rattle.std.proofs.Common.{◌≡◌, ◌≢◌, inl, inr, ℕ, zero, suc, ◌+◌, ◌*◌, ◌<◌, ◌≤◌, Bool, true, false, if◌then◌else◌, List, [], ◌∷◌, ◌++◌, length, map, Option, Some, None, Result, Ok, Err, refl, sym, ap, subst, ◌∙◌, arith}
+use Rattle.std.proofs.Common.{◌≡◌, ◌≢◌, ℕ, zero, suc, ◌+◌, ◌*◌, ◌<◌, ◌≤◌, Bool, true, false, if◌then◌else◌, List, [], ◌∷◌, ◌++◌, length, map, Option, Some, None, Result, Ok, Err, refl, sym, ap, subst, ◌∙◌, arith}
 use Rattle.std.specs.Prelude.{flat_map, not, is_some, option_and_then, slice_get, nat_lt, IfOk, IfSome, ◌==◌, ◌&&◌}
 use Rattle.std.specs.List.{range_with_len}
 use Rattle.std.specs.Option.{option_map}
@@ -8,18 +8,15 @@ use Rattle.std.proofs.lemmas.List.{length-map}
 use Rattle.annex_base.specs.declared.kinds.Word.{Word}
 use Rattle.annex_base.specs.declared.memory.NoMemory.{NoMemory}
 use Rattle.annex_base.specs.Lists.{Member}
-use Rattle.annex_base.proofs.Conditions.{eqb_refl}
+use Rattle.annex_base.proofs.Conditions.{eqb_refl, eqb_turned}
 use Rattle.annex_base.proofs.Options.{some_none}
 use Rattle.annex_base.proofs.Lists.{Member-append_left, Member-filter_from, Member-flat_map, Member-map}
+use Rattle.annex_base.proofs.Numbers.{Member-range}
 use Rattle.run_data.specs.declared.run.RepoView.{RepoView}
 use Rattle.run_data.specs.declared.entry.FrameView.{FrameView}
 use Rattle.link_ring.specs.declared.frame.Frame.{Frame}
 use Rattle.link_ring.specs.Ends.{EndView, next_frame}
 use Rattle.link_ring.specs.Places.{end_place}
-use Rattle.p2p_wire.specs.declared.message.Message.{Message}
-use Rattle.p2p_wire.specs.Messages.{message_of}
-use Rattle.run_data.specs.declared.entry.FrameText.{FrameText}
-use Rattle.run_data.specs.declared.entry.FrameText.TheVariants.{Opening, Closing, Bytes, Line}
 use Rattle.node_model.specs.Knows.{Reading}
 use Rattle.node_model.specs.AnyTime.{all_ends, ends_with}
 use Rattle.node_model.specs.Clocks.{ClockSet}
@@ -38,33 +35,21 @@ use Rattle.drop_worker.specs.declared.phase.Phase.{Phase}
 use Rattle.drop_worker.specs.declared.phase.Phase.TheVariants as phases
 use Rattle.drop_worker.specs.declared.phase.Token.{Token}
 use Rattle.drop_worker.specs.declared.turn.Taken.TheVariants as takens
-use Rattle.drop_worker.specs.Worker.{Worker}
-use Rattle.drop_worker.specs.Feeding.{FedAt, FindsAt, FitsLocal, ToldAt}
+use Rattle.drop_worker.specs.Feeding.{FedAt, FindsAt, FitsLocal}
 use Rattle.drop_worker.specs.Leaving.{stands_on}
-use Rattle.drop_worker.specs.States.{Keeps}
-use Rattle.drop_worker.specs.Working.{end_in, phase_as, sight, taken_line, taken_of}
+use Rattle.drop_worker.specs.States.{HaveState}
+use Rattle.drop_worker.specs.Working.{end_in, phase_as, sight, taken_of}
 use Rattle.node_jobs.specs.declared.feed.Feed.{Feed}
 use Rattle.node_jobs.specs.Acting.{WaitsFor, taken_by, word_at}
 use Rattle.node_jobs.specs.Feeds.{Answers, IsIdle, IsReady, SeesJob, IsFedAt, feed_at, feed_by, feed_of, bare_feed}
 use Rattle.node_jobs.specs.Places.{IsPlace, PlaceView}
 use Rattle.node_jobs.specs.Reads.{Known}
-use Rattle.node_jobs.specs.Running.{DropJob, Stands, place_reading, work_now}
+use Rattle.node_jobs.specs.Running.{DropJob, HasReadByPhase, place_reading, work_now}
 
 -- ---- the ends of a repository
 
-member_range : (a n k : ℕ) → a ≤ k → k < a + n → Member k (range_with_len a n)
-member_range a zero k from below = absurd (omega arith)
-member_range a (suc n) k from below = go (λ more end. member_range (a + 1) n k more end) (k == a) refl
-  where
-    go : (a + 1 ≤ k → k < a + 1 + n → Member k (range_with_len (a + 1) n)) → (b : Bool) → (k == a) ≡ b → Member k (a ∷ range_with_len (a + 1) n)
-    go rest true same = inl (grind (arith, nat_tests))
-    go rest false differs = inr (rest (grind (arith, nat_tests)) (omega (arith, below)))
-
-turned : (a b : ℕ) → (a == b) ≡ false → (b == a) ≡ false
-turned a b h = grind (arith, nat_tests)
-
 member_slots : (slot : ℕ) → slot < 4 → Member slot slots
-member_slots slot below = member_range 0 4 slot (omega arith) (omega (arith, below))
+member_slots slot below = Member-range 0 4 slot (omega arith) (omega (arith, below))
 
 pub count_is : (p : PlaceView) (s : SetUp) → IsPlace p s → length s.repos ≡ length p.ids
 count_is p s is = sym (length-map s.repos (λ (repo : RepoView). repo.id)) ∙ ap length is.ids
@@ -73,9 +58,9 @@ count_is p s is = sym (length-map s.repos (λ (repo : RepoView). repo.id)) ∙ a
 pub client_end : (p : PlaceView) (s : SetUp) (slot peer : ℕ) → IsPlace p s → IsOther (place_reading p) peer → slot < 4 → Member (end_in slot peer) (all_ends s)
 client_end p s slot peer is other below =
     let known : peer < length s.repos = subst (λ (n : ℕ). peer < n) (sym (count_is p s is)) other.0 in
-    let apart : (peer == s.number) ≡ false = turned s.number peer (subst (λ (n : ℕ). (n == peer) ≡ false) (sym is.number) other.1) in
+    let apart : (peer == s.number) ≡ false = eqb_turned s.number peer (subst (λ (n : ℕ). (n == peer) ≡ false) (sym is.number) other.1) in
     Member-flat_map (λ x. ends_with x true ++ ends_with x false) (others s) peer (end_in slot peer)
-    (Member-filter_from (λ x. not (x == s.number)) (range_with_len 0 (length s.repos)) peer (member_range 0 (length s.repos) peer (omega arith) (omega (arith, known))) (rw apart refl))
+    (Member-filter_from (λ x. not (x == s.number)) (range_with_len 0 (length s.repos)) peer (Member-range 0 (length s.repos) peer (omega arith) (omega (arith, known))) (rw apart refl))
     (Member-append_left (ends_with peer true) (ends_with peer false) (end_in slot peer) (Member-map (λ (n : ℕ). end_in n peer) slots slot (member_slots slot below)))
 
 -- ---- what a drop awaits
@@ -159,29 +144,6 @@ module _ (p : PlaceView) (clock : ClockSet) (links : List EndView) (j : DropJob)
   heard_ok (Ok feed) is = heard_answers feed is
   heard_ok (Err e) is = tt
 
--- a frame is told, or that the connection is closed
-told_by : (opened room : Bool) (peer : ℕ) (word : Option Word) (f : Option FrameView) → IfSome (feed_by opened room (feed_of peer word f)) (λ feed. feed.taken ≡ takens.Nothing → ⊥)
-told_by false room peer word f = λ e. cc
-told_by true false peer word f = tt
-told_by true true peer word None = tt
-told_by true true peer word (Some f) = λ e. told_of f.body e
-  where
-    told_line : (o : Option Message) → taken_line o ≡ takens.Nothing → ⊥
-    told_line None e = cc
-    told_line (Some m) e = cc
-
-    told_of : (body : FrameText) → taken_of body ≡ takens.Nothing → ⊥
-    told_of Opening e = cc
-    told_of Closing e = cc
-    told_of (Bytes n) e = cc
-    told_of (Line text) e = told_line (message_of text) e
-
-pub heard_told : (links : List EndView) (w : Worker) (peer : ℕ) (feed : Option Feed) → stands_on w ≡ Some peer → feed ≡ feed_at links (end_in w.slot peer) → IfSome feed (λ f. ToldAt (stands_on w) f.taken)
-heard_told links w peer feed at is =
-    subst (λ (o : Option Feed). IfSome o (λ f. ToldAt (stands_on w) f.taken)) (sym is)
-    (subst (λ (q : Option ℕ). IfSome (feed_at links (end_in w.slot peer)) (λ f. ToldAt q f.taken)) (sym at)
-    (told_by (end_at links (end_in w.slot peer)).opened (room_at links (end_in w.slot peer)) peer (word_at links (end_in w.slot peer)) (wait_at links (end_in w.slot peer))))
-
 pub heard_fed : (links : List EndView) (j : DropJob) (peer : ℕ) (r : Result (Option Feed) NoMemory) → stands_on j.worker ≡ Some peer → IfOk r (λ f. f ≡ feed_at links (end_in j.worker.slot peer)) → IfOk r (λ f. IfSome f (IsFedAt links j))
 heard_fed links j peer (Ok None) at is = tt
 heard_fed links j peer (Ok (Some feed)) at is = λ p there. subst (λ (q : ℕ). Some feed ≡ feed_at links (end_in j.worker.slot q)) (same peer p (sym at ∙ there)) is
@@ -235,7 +197,7 @@ begun_other r target peer phases.Denied token fits at h = absurd cc
 begun_other r target peer (phases.Late time) token fits at h = absurd cc
 begun_other r target peer (phases.Ends why) token fits at h = absurd cc
 
-pub awaits_other : (p : PlaceView) (j : DropJob) (peer : ℕ) (known : Option Known) → FitsLocal j.worker.phase j.worker.token → stands_on j.worker ≡ Some peer → Stands p j.worker.phase known → IsOther (place_reading p) peer
+pub awaits_other : (p : PlaceView) (j : DropJob) (peer : ℕ) (known : Option Known) → FitsLocal j.worker.phase j.worker.token → stands_on j.worker ≡ Some peer → HasReadByPhase p j.worker.phase known → IsOther (place_reading p) peer
 awaits_other p j peer None fits at fresh = absurd (let none : Some peer ≡ None = sym at ∙ ap (λ (ph : Phase). partner j.worker.job.peer (phase_as ph)) fresh in some_none peer none)
 awaits_other p j peer (Some known) fits at begun = begun_other (place_reading p) j.worker.job.peer peer j.worker.phase j.worker.token fits at begun
 

@@ -1,5 +1,5 @@
 -- What a job knows of the logs, and its step by that.
-use Rattle.std.proofs.Common.{◌≡◌, ℕ, zero, suc, ◌+◌, ◌<◌, Bool, true, false, List, [], ◌∷◌, ◌++◌, length, get_or, take, map, Option, Some, None, Result, Ok, Err, refl, sym, ap, subst, ◌∙◌}
+use Rattle.std.proofs.Common.{◌≡◌, ℕ, zero, suc, ◌+◌, ◌<◌, Bool, true, List, [], ◌∷◌, ◌++◌, length, get_or, take, map, Option, Some, None, Result, Ok, Err, refl, sym, ap, subst, ◌∙◌}
 use Rattle.std.specs.Prelude.{slice_get, unwrap_or, IfOk}
 use Rattle.std.specs.Option.{ForSome}
 use Rattle.std.proofs.lemmas.List.{map-append, map_more}
@@ -46,7 +46,7 @@ use Rattle.node_jobs.specs.Calling.{Failing, JobMakes, WorkerMakes}
 use Rattle.node_jobs.specs.Doings.{Acts, ActsSo, Does, ReadsOn, SeesAct, Steps}
 use Rattle.node_jobs.specs.Places.{IsPlace, PlaceView}
 use Rattle.node_jobs.specs.Reads.{Known, need_in, reading_of, standing_at, standing_in, standings_by}
-use Rattle.node_jobs.specs.Running.{DropJob, HasRead, ReadSo, Stands, place_reading, plain, work_now}
+use Rattle.node_jobs.specs.Running.{DropJob, HasRead, ReadSo, HasReadByPhase, place_reading, plain, work_now}
 use Rattle.node_jobs.proofs.Hearing.{count_is}
 
 -- ---- what the job reads
@@ -133,7 +133,7 @@ begun_stands p phases.Denied h = tt
 begun_stands p (phases.Late time) h = tt
 begun_stands p (phases.Ends why) h = tt
 
-pub can_stand : (p : PlaceView) (phase : Phase) (known : Option Known) → Stands p phase known → CanStand (place_reading p) phase
+pub can_stand : (p : PlaceView) (phase : Phase) (known : Option Known) → HasReadByPhase p phase known → CanStand (place_reading p) phase
 can_stand p phase None fresh = subst (CanStand (place_reading p)) (sym fresh) tt
 can_stand p phase (Some known) begun = begun_stands p phase begun
 
@@ -174,7 +174,7 @@ next_local side r v v' local next = let P : Side → Type 0 = λ x. IsNext x r v
 
 pub acts_so : (p : PlaceView) (clock : ClockSet) (links : List EndView) (settings : Settings) (input : Input) (contents contents' : Option Contents) (rows rows' : Rows) (j : DropJob) (w' : Worker) (known : Known) (out : Output) → drop_side j.worker.job.kind j.worker.job.peer ≡ Local
     → ((s : SetUp) (st : State) → IsPlace p s → HasRead s st j.worker j.known → st.logs ≡ settings → ((key : List ℕ) → standing_by settings key [] ≡ drops.Asked) → Knows s st j known)
-    → Stands p j.worker.phase j.known → Does p clock links known input contents rows j.worker w' out → Steps p contents contents' input rows rows' j.worker w' out
+    → HasReadByPhase p j.worker.phase j.known → Does p clock links known input contents rows j.worker w' out → Steps p contents contents' input rows rows' j.worker w' out
     → Acts p clock links settings input contents rows j (record { worker = w'; known = Some known }) out
 acts_so p clock links settings input contents contents' rows rows' j w' known out side knows stands does steps = λ c is s st k f sees.
     let known_so : Knows s st j known = knows s st sees.job.place sees.job.read sees.logs sees.nameless in
@@ -186,7 +186,7 @@ acts_so p clock links settings input contents contents' rows rows' j w' known ou
 
 pub acts_ok : (p : PlaceView) (clock : ClockSet) (links : List EndView) (settings : Settings) (input : Input) (contents contents' : Option Contents) (rows rows' : Rows) (j : DropJob) (w' : Worker) (known : Known) (r : Result Output NoMemory) → drop_side j.worker.job.kind j.worker.job.peer ≡ Local
     → ((s : SetUp) (st : State) → IsPlace p s → HasRead s st j.worker j.known → st.logs ≡ settings → ((key : List ℕ) → standing_by settings key [] ≡ drops.Asked) → Knows s st j known)
-    → Stands p j.worker.phase j.known → IfOk r (Does p clock links known input contents rows j.worker w') → IfOk r (Steps p contents contents' input rows rows' j.worker w')
+    → HasReadByPhase p j.worker.phase j.known → IfOk r (Does p clock links known input contents rows j.worker w') → IfOk r (Steps p contents contents' input rows rows' j.worker w')
     → IfOk r (Acts p clock links settings input contents rows j (record { worker = w'; known = Some known }))
 acts_ok p clock links settings input contents contents' rows rows' j w' known (Ok out) side knows stands does steps = acts_so p clock links settings input contents contents' rows rows' j w' known out side knows stands does steps
 acts_ok p clock links settings input contents contents' rows rows' j w' known (Err e) side knows stands does steps = tt
@@ -204,9 +204,3 @@ pub makes_ok : (p : PlaceView) (clock : ClockSet) (links : List EndView) (settin
     → IfOk r (WorkerMakes p clock links known input contents rows j.worker before after) → IfOk r (JobMakes p clock links settings input contents rows before after j)
 makes_ok p clock links settings input contents rows j known before after (Ok out) knows makes = makes_so p clock links settings input contents rows j known before after out knows makes
 makes_ok p clock links settings input contents rows j known before after (Err e) knows makes = tt
-
--- it has read the logs with its first step
-pub stands_ok : (p : PlaceView) (contents contents' : Option Contents) (input : Input) (rows rows' : Rows) (j : DropJob) (w' : Worker) (known : Known) (r : Result Output NoMemory)
-    → Stands p j.worker.phase j.known → IfOk r (Steps p contents contents' input rows rows' j.worker w') → IfOk r (λ out. out.ended ≡ false → Stands p w'.phase (Some known))
-stands_ok p contents contents' input rows rows' j w' known (Ok out) stands steps = λ going. (steps.gone (can_stand p j.worker.phase j.known stands)).goes_on going
-stands_ok p contents contents' input rows rows' j w' known (Err e) stands steps = tt

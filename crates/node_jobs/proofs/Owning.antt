@@ -17,7 +17,7 @@ use Rattle.annex_base.specs.declared.kinds.Word.{Word}
 use Rattle.object_store.specs.Stores.{Contents}
 use Rattle.node_model.specs.Clocks.{ClockSet}
 use Rattle.node_model.specs.Jobs.{drop_side, partner}
-use Rattle.node_model.specs.Slots.{Running, free_slot, uses}
+use Rattle.node_model.specs.Slots.{RunningJob, free_slot, uses}
 use Rattle.content_lock.specs.Rows.{Rows}
 use Rattle.drop_worker.specs.declared.phase.Heard.{Heard}
 use Rattle.drop_worker.specs.declared.phase.Heard.TheVariants as heards
@@ -179,11 +179,11 @@ abbrev one_if : Bool → ℕ
 one_if true = 1
 one_if false = 0
 
-abbrev runs_in : ℕ → List Running → ℕ
+abbrev runs_in : ℕ → List RunningJob → ℕ
 runs_in n [] = 0
 runs_in n (r ∷ rs) = one_if (r.slot == n) + runs_in n rs
 
-used_some : (n : ℕ) (rs : List Running) → uses rs n ≡ true → 1 ≤ runs_in n rs
+used_some : (n : ℕ) (rs : List RunningJob) → uses rs n ≡ true → 1 ≤ runs_in n rs
 used_some n [] h = absurd cc
 used_some n (r ∷ rs) h = go (λ k. used_some n rs k) (r.slot == n) h
   where
@@ -204,12 +204,12 @@ one_slot (suc (suc (suc n))) = go ((suc (suc (suc n))) == 0) ((suc (suc (suc n))
     go false false false true x y z = omega arith
     go false false false false x y z = omega arith
 
-few_run : (rs : List Running) → runs_in 0 rs + runs_in 1 rs + runs_in 2 rs + runs_in 3 rs ≤ length rs
+few_run : (rs : List RunningJob) → runs_in 0 rs + runs_in 1 rs + runs_in 2 rs + runs_in 3 rs ≤ length rs
 few_run [] = omega arith
 few_run (r ∷ rs) = omega (arith, few_run rs, one_slot r.slot)
 
 -- the slot that is given is below four, and while three run at most no job runs in it
-pub slot_small : (rs : List Running) → free_slot rs < 4
+pub slot_small : (rs : List RunningJob) → free_slot rs < 4
 slot_small rs = go (uses rs 0) (uses rs 1) (uses rs 2)
   where
     go : (a b c : Bool) → (if not a then 0 else (if not b then 1 else (if not c then 2 else 3))) < 4
@@ -218,7 +218,7 @@ slot_small rs = go (uses rs 0) (uses rs 1) (uses rs 2)
     go true true false = omega arith
     go true true true = omega arith
 
-pub slot_free : (rs : List Running) → length rs < 4 → uses rs (free_slot rs) ≡ false
+pub slot_free : (rs : List RunningJob) → length rs < 4 → uses rs (free_slot rs) ≡ false
 slot_free rs few = go (uses rs 0) (uses rs 1) (uses rs 2) (uses rs 3) refl refl refl refl
   where
     go : (a b c d : Bool) → uses rs 0 ≡ a → uses rs 1 ≡ b → uses rs 2 ≡ c → uses rs 3 ≡ d → uses rs (if not a then 0 else (if not b then 1 else (if not c then 2 else 3))) ≡ false

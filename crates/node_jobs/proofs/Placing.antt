@@ -5,7 +5,8 @@ use Rattle.std.specs.List.{position_or_len}
 use Rattle.std.specs.Option.{ForSome, option_map}
 use Rattle.std.proofs.lemmas.Bool.Decides.{nat_tests}
 use Rattle.std.proofs.lemmas.List.Folds.{find_at}
-use Rattle.std.proofs.lemmas.Option.{slice_get_past, slice_get-get_or}
+use Rattle.std.proofs.lemmas.Option.{same_Some, slice_get-get_or, slice_get_past}
+use Rattle.std.proofs.Math.Seq.{drop-append_seam}
 use Rattle.annex_base.specs.Lists.{Each}
 use Rattle.annex_base.proofs.Lists.{Each-member, find_member}
 use Rattle.annex_base.proofs.Options.{some_none}
@@ -65,10 +66,10 @@ module _ (p : PlaceView) (clock : ClockSet) (links : List EndView) (jobs : List 
 
     pub ready_found : (o : Option Feed) (feed : Feed) → o ≡ Some feed → Answers p clock links j time o → IfSome o (λ f. ToldAt (stands_on j.worker) f.taken) → IfSome o (IsFedAt links j)
         → IfSome o (λ f. WaitsFor links j.worker.slot f.takes) → IsAtSlot p clock links jobs time slot (record { index = index; feed = feed })
-    ready_found o feed some answers told fed waits = record { there = (place_some (has_slot slot) jobs index at).0; job = λ x e. subst (IsOfSlot p clock links jobs time slot feed) (let same : j ≡ x = same_some j x (sym element ∙ e) in same) of }
+    ready_found o feed some answers told fed waits = record { there = (place_some (has_slot slot) jobs index at).0; job = λ x e. subst (IsOfSlot p clock links jobs time slot feed) (let same : j ≡ x = same_Some j x (sym element ∙ e) in same) of }
       where
-        same_some : (y z : DropJob) → Some y ≡ Some z → y ≡ z
-        same_some y z e = cc
+        same_Some : (y z : DropJob) → Some y ≡ Some z → y ≡ z
+        same_Some y z e = cc
 
         of : IsOfSlot p clock links jobs time slot feed j
         of = record {
@@ -114,15 +115,11 @@ take_front : {X : Type 0} (a b : List X) → take (length a) (a ++ b) ≡ a
 take_front [] b = refl
 take_front (x ∷ a) b = ap (λ l. x ∷ l) (take_front a b)
 
-drop_front : {X : Type 0} (a b : List X) → drop (length a) (a ++ b) ≡ b
-drop_front [] b = refl
-drop_front (x ∷ a) b = drop_front a b
-
 pub put_there : {X : Type 0} (xs ys zs k : List X) (i : ℕ) → i < length xs → ys ≡ take i xs ++ drop (i + 1) xs → zs ≡ take i ys ++ k ++ drop i ys → zs ≡ take i xs ++ (k ++ drop (i + 1) xs)
 put_there xs ys zs k i within out put =
     let len : length (take i xs) ≡ i = take_len i xs (omega (arith, within)) in
     let front : take i ys ≡ take i xs = ap (take i) out ∙ (ap (λ (n : ℕ). take n (take i xs ++ drop (i + 1) xs)) (sym len) ∙ take_front (take i xs) (drop (i + 1) xs)) in
-    let back : drop i ys ≡ drop (i + 1) xs = ap (drop i) out ∙ (ap (λ (n : ℕ). drop n (take i xs ++ drop (i + 1) xs)) (sym len) ∙ drop_front (take i xs) (drop (i + 1) xs)) in
+    let back : drop i ys ≡ drop (i + 1) xs = ap (drop i) out ∙ (ap (λ (n : ℕ). drop n (take i xs ++ drop (i + 1) xs)) (sym len) ∙ drop-append_seam (take i xs) (drop (i + 1) xs)) in
     put ∙ ((λ m. (front m ++ k) ++ back m) ∙ append_assoc (take i xs) k (drop (i + 1) xs))
 
 get_front : {X : Type 0} (a : List X) (x : X) (b : List X) → slice_get (a ++ x ∷ b) (length a) ≡ Some x
@@ -133,6 +130,3 @@ pub taken_there : {X : Type 0} (xs : List X) (i : ℕ) (x : X) → i < length xs
 taken_there xs i x within was =
     let len : length (take i xs) ≡ i = take_len i xs (omega (arith, within)) in
     ap (λ l. slice_get l i) was ∙ (ap (slice_get (take i xs ++ x ∷ drop (i + 1) xs)) (sym len) ∙ get_front (take i xs) x (drop (i + 1) xs))
-
-pub same_some : {X : Type 0} (x y : X) → Some x ≡ Some y → x ≡ y
-same_some x y is = cc

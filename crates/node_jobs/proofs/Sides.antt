@@ -13,7 +13,7 @@ use Rattle.drop_worker.specs.declared.turn.Input.{Input}
 use Rattle.drop_worker.specs.declared.turn.Output.{Output}
 use Rattle.drop_worker.specs.Doing.{Grows, contents_after}
 use Rattle.drop_worker.specs.Feeding.{FitsLocal, KeepsWord}
-use Rattle.drop_worker.specs.Sides.{Fits, side_in}
+use Rattle.drop_worker.specs.Sides.{FitsSide, side_in}
 use Rattle.drop_worker.specs.Worker.{Worker}
 use Rattle.node_jobs.specs.Doings.{Steps}
 use Rattle.node_model.specs.Clocks.{ClockSet}
@@ -54,10 +54,10 @@ gone_as : (p : PlaceView) (clock : ClockSet) (known : Known) (w w' : Worker) (ou
 gone_as p clock known w w' out h = record { goes_on = λ going. begun_as p clock known w'.phase (h.goes_on going); onward = h.onward; ended = h.ended; last = h.last; slot = h.slot }
 
 pub steps_local : (p : PlaceView) (clock : ClockSet) (known : Known) (contents contents' : Option Contents) (input : Input) (rows rows' : Rows) (w w' : Worker) (r : Result Output NoMemory) → side_in w ≡ Local → IfOk r (λ out. KeepsWord input.taken input.word w w')
-    → Grows w.heard w'.heard → IfOk r (λ out. AreAfter out.kind rows rows') → IfOk r (λ out. contents' ≡ contents_after contents out.kind) → IfOk r (λ out. out.ended ≡ false → Fits (side_in w) w'.phase w'.token)
+    → Grows w.heard w'.heard → IfOk r (λ out. AreAfter out.kind rows rows') → IfOk r (λ out. contents' ≡ contents_after contents out.kind) → IfOk r (λ out. out.ended ≡ false → FitsSide (side_in w) w'.phase w'.token)
     → IfOk r (λ out. CanStand (reading_of p clock known) w.phase → HasGone (reading_of p clock known) w w' out) → (w'.number ≡ w.number) × (w'.job ≡ w.job) → IfOk r (Steps p contents contents' input rows rows' w w')
 steps_local p clock known contents contents' input rows rows' w w' (Ok out) side word heard after stored fits gone same =
-    record { word = word; heard = heard; after = after; stored = stored; fits = λ going. subst (λ (s : Side). Fits s w'.phase w'.token) side (fits going); gone = λ h. gone_as p clock known w w' out (gone (stand_as p clock known w.phase h)); number = same.0; job = same.1 }
+    record { word = word; heard = heard; after = after; stored = stored; fits = λ going. subst (λ (s : Side). FitsSide s w'.phase w'.token) side (fits going); gone = λ h. gone_as p clock known w w' out (gone (stand_as p clock known w.phase h)); number = same.0; job = same.1 }
 steps_local p clock known contents contents' input rows rows' w w' (Err e) side word heard after stored fits gone same = tt
 
 pub err_local : (A B C D : Type 0) (r : Result Output NoMemory) → OnErr r (A × B × C × D) → OnErr r (A × B × C)

@@ -3,6 +3,7 @@ use Rattle.std.proofs.Common.{◌≡◌, ◌≢◌, inl, inr, ℕ, zero, suc, �
 use Rattle.std.specs.Prelude.{find, is_some, nat_lt, slice_get, ◌==◌, not}
 use Rattle.std.proofs.lemmas.Option.{slice_get_cases}
 use Rattle.std.specs.Option.{ForSome, option_map, option_map_or}
+use Rattle.std.proofs.lemmas.Bool.{ne_eqb}
 use Rattle.annex_base.specs.Lists.{Each, Member}
 use Rattle.annex_base.specs.Settings.{Settings}
 use Rattle.annex_base.specs.declared.kinds.Call.{Call}
@@ -39,7 +40,7 @@ use Rattle.drop_worker.specs.declared.turn.Taken.{Taken}
 use Rattle.drop_worker.specs.Feeding.{FedAt, FindsAt}
 use Rattle.drop_worker.specs.Leaving.{stands_on}
 use Rattle.drop_worker.specs.SlotCalls.{slot_calls}
-use Rattle.drop_worker.specs.States.{Keeps}
+use Rattle.drop_worker.specs.States.{HaveState}
 use Rattle.drop_worker.specs.Working.{end_in, failed_in, frames_of, phase_as, sight, words_of}
 use Rattle.node_jobs.specs.declared.acted.Acted.{Acted}
 use Rattle.node_jobs.specs.declared.finding.Found.{Found}
@@ -53,7 +54,7 @@ use Rattle.node_jobs.specs.Finding.{Finds, FindsFirst, IsFirst, IsSlotIdle, has_
 use Rattle.node_jobs.specs.Places.{PlaceView}
 use Rattle.node_jobs.specs.Reads.{Known, need_in}
 use Rattle.node_jobs.specs.Running.{AllApart, AreApart, AreWorks, DropJob, Follows, HasRead, IsDrop, Jobs as JobsView, OwnAll, ReadSo, place_reading, work_now, words_at}
-use Rattle.node_jobs.proofs.Among.{apart_before, apart_behind, find_mapped, found_by_number, is_left, not_same, works_off, works_on}
+use Rattle.node_jobs.proofs.Among.{apart_before, apart_behind, find_mapped, found_by_number, is_left, works_off, works_on}
 use Rattle.node_jobs.proofs.EntryKinds.{last_begun, last_works, onward_begun, onward_job, onward_works}
 use Rattle.node_jobs.proofs.Hearing.{awaiting}
 use Rattle.node_jobs.proofs.Knowing.{can_stand}
@@ -96,19 +97,19 @@ sees_each links clock settings jobs number time s st k sees =
     (λ j read. record { place = sees.place; read = read; count = sees.count; ends = sees.ends; sees = sees.sees; ticks = sees.ticks; at = sees.at }) jobs.running sees.works.read
 
 slot_none : (p : PlaceView) (clock : ClockSet) (links : List EndView) (js : List DropJob) (time slot : ℕ) (rows : Rows) (c : Contents) (s : SetUp) (st : State) (k : Look) → IsSlotIdle p clock links js time slot
-    → Each (λ j. SeesJob p clock links j time s st k) js → Keeps rows c st → st.works ≡ map work_now js → slot_step s st k (find (λ w. w.slot == slot) st.works) ≡ None
+    → Each (λ j. SeesJob p clock links j time s st k) js → HaveState rows c st → st.works ≡ map work_now js → slot_step s st k (find (λ w. w.slot == slot) st.works) ≡ None
 slot_none p clock links js time slot rows c s st k idle sees keeps works =
     ap (λ (ws : List Work). slot_step s st k (find (λ w. w.slot == slot) ws)) works ∙ idle rows c s st k sees keeps
 
 -- no job has a step
 pub none_steps : (p : PlaceView) (clock : ClockSet) (links : List EndView) (js : List DropJob) (time : ℕ) (rows : Rows) (c : Contents) (s : SetUp) (st : State) (k : Look) → Finds p clock links js time None
-    → Each (λ j. SeesJob p clock links j time s st k) js → Keeps rows c st → st.works ≡ map work_now js → job_step s st k ≡ None
+    → Each (λ j. SeesJob p clock links j time s st k) js → HaveState rows c st → st.works ≡ map work_now js → job_step s st k ≡ None
 none_steps p clock links js time rows c s st k idle sees keeps works =
     no_step (λ slot. slot_step s st k (find (λ w. w.slot == slot) st.works)) (λ slot below. slot_none p clock links js time slot rows c s st k (idle slot below) sees keeps works)
 
 -- so it makes no call
 pub none_calls : (p : PlaceView) (clock : ClockSet) (links : List EndView) (js : List DropJob) (time : ℕ) (rows : Rows) (c : Contents) (s : SetUp) (st : State) (k : Look) → Finds p clock links js time None
-    → Each (λ j. SeesJob p clock links j time s st k) js → Keeps rows c st → st.works ≡ map work_now js → job_calls s st k ≡ []
+    → Each (λ j. SeesJob p clock links j time s st k) js → HaveState rows c st → st.works ≡ map work_now js → job_calls s st k ≡ []
 none_calls p clock links js time rows c s st k idle sees keeps works =
     ap (λ (o : Option ℕ). option_map_or (λ slot. slot_calls s st k (work_in st slot)) o [])
     (none_found (λ slot. is_some (slot_step s st k (work_in st slot))) (λ slot below. ap (λ (m : Option Made). is_some m) (slot_none p clock links js time slot rows c s st k (idle slot below) sees keeps works)))
@@ -143,7 +144,7 @@ made_some None h = absurd cc
 made_some (Some m) h = (m, refl)
 
 pub some_steps : (p : PlaceView) (clock : ClockSet) (links : List EndView) (js : List DropJob) (time : ℕ) (found : Found) (rows : Rows) (c : Contents) (s : SetUp) (st : State) (k : Look) → Each (IsDrop p) js
-    → FindsFirst p clock links js time found → Each (λ j. SeesJob p clock links j time s st k) js → Keeps rows c st → st.works ≡ map work_now js → is_some (job_step s st k) ≡ true
+    → FindsFirst p clock links js time found → Each (λ j. SeesJob p clock links j time s st k) js → HaveState rows c st → st.works ≡ map work_now js → is_some (job_step s st k) ≡ true
 some_steps p clock links js time found rows c s st k drops finds sees keeps works =
     elim (slice_get_cases js found.index).1 [ inl here ↦ by_job here.0 here.2 | inr past ↦ let within : found.index < length js = finds.there in absurd (omega (arith, within, past.0)) ]
   where
@@ -163,13 +164,13 @@ some_steps p clock links js time found rows c s st k drops finds sees keeps work
 
 -- so the search tells whether there is one
 pub ready_is : (p : PlaceView) (clock : ClockSet) (links : List EndView) (js : List DropJob) (time : ℕ) (o : Option Found) (rows : Rows) (c : Contents) (s : SetUp) (st : State) (k : Look) → Each (IsDrop p) js
-    → Finds p clock links js time o → Each (λ j. SeesJob p clock links j time s st k) js → Keeps rows c st → st.works ≡ map work_now js → is_some (job_step s st k) ≡ is_some o
+    → Finds p clock links js time o → Each (λ j. SeesJob p clock links j time s st k) js → HaveState rows c st → st.works ≡ map work_now js → is_some (job_step s st k) ≡ is_some o
 ready_is p clock links js time None rows c s st k drops finds sees keeps works = ap (λ (m : Option Made). is_some m) (none_steps p clock links js time rows c s st k finds sees keeps works)
 ready_is p clock links js time (Some found) rows c s st k drops finds sees keeps works = some_steps p clock links js time found rows c s st k drops finds sees keeps works
 
 -- ---- what stays of the others
 
-stays_by : (rows : Jobs.Rows) (r n m : ℕ) (e : Entry) (w : Work) → job_of e.kind ≡ Some n → w.number ≡ m → (n == m) ≡ false → work_after rows r e w ≡ w
+stays_by : (rows : Jobs.RowsAndEnds) (r n m : ℕ) (e : Entry) (w : Work) → job_of e.kind ≡ Some n → w.number ≡ m → (n == m) ≡ false → work_after rows r e w ≡ w
 stays_by rows r n m e w job number apart =
     (λ i. if option_is (job i) (number i) then work_kind rows r w e e.kind else w) ∙ (λ i. if apart i then work_kind rows r w e e.kind else w)
 
@@ -237,7 +238,7 @@ module _ (links : List EndView) (clock : ClockSet) (settings : Settings) (jobs :
   made_is : made ≡ made_by links a
   made_is = λ i. record { kind = a.kind; taken = taken_by links (sym ch.slot i) (sym ch.takes i); sent = frames_of (end_at links) (sym ch.slot i) a.sends.items; lines = [] }
 
-  module _ (c : Contents) (tells : known ≡ Some c) (s : SetUp) (st : State) (k : Look) (sees : SeesJobs links clock settings jobs number time s st k) (keeps : Keeps rows c st) (acted : SeesActed jobs k (Some a)) where
+  module _ (c : Contents) (tells : known ≡ Some c) (s : SetUp) (st : State) (k : Look) (sees : SeesJobs links clock settings jobs number time s st k) (keeps : HaveState rows c st) (acted : SeesActed jobs k (Some a)) where
     each : Each (λ j. SeesJob jobs.place clock links j time s st k) jobs.running
     each = sees_each links clock settings jobs number time s st k sees
 
@@ -301,7 +302,7 @@ module _ (links : List EndView) (clock : ClockSet) (settings : Settings) (jobs :
       abbrev e : Entry
       e = entry_of s.number k (made_by links a)
 
-      abbrev rr : Jobs.Rows
+      abbrev rr : Jobs.RowsAndEnds
       rr = record { present = st.present; bar = st.bar; ends = st.ends }
 
       others_read : (j : DropJob) → Member j jobs.running → HasRead s st' j.worker j.known
@@ -329,11 +330,11 @@ module _ (links : List EndView) (clock : ClockSet) (settings : Settings) (jobs :
 
           before : Each (λ x. work_after rr s.number e (work_now x) ≡ work_now x) ch.front
           before = Each-weaker (λ x. AreApart x ch.j) (λ x. work_after rr s.number e (work_now x) ≡ work_now x)
-              (λ x h. stays_by rr s.number ch.j.worker.number x.worker.number e (work_now x) mine refl (not_same ch.j.worker.number x.worker.number (λ same. h.number (sym same)))) ch.front (apart_before ch.front ch.j ch.back apart)
+              (λ x h. stays_by rr s.number ch.j.worker.number x.worker.number e (work_now x) mine refl (ne_eqb ch.j.worker.number x.worker.number (λ same. h.number (sym same)))) ch.front (apart_before ch.front ch.j ch.back apart)
 
           behind : Each (λ x. work_after rr s.number e (work_now x) ≡ work_now x) ch.back
           behind = Each-weaker (AreApart ch.j) (λ x. work_after rr s.number e (work_now x) ≡ work_now x)
-              (λ x h. stays_by rr s.number ch.j.worker.number x.worker.number e (work_now x) mine refl (not_same ch.j.worker.number x.worker.number h.number)) ch.back (apart_behind ch.front ch.j ch.back apart)
+              (λ x h. stays_by rr s.number ch.j.worker.number x.worker.number e (work_now x) mine refl (ne_eqb ch.j.worker.number x.worker.number h.number)) ch.back (apart_behind ch.front ch.j ch.back apart)
 
           goes : work_after rr s.number e (work_now ch.j) ≡ work_now ch.j'
           goes = sym (acts.next going ∙ ap (λ (m : Made). work_after rr s.number (entry_of s.number k m) (work_now ch.j)) made_is)
@@ -348,10 +349,10 @@ module _ (links : List EndView) (clock : ClockSet) (settings : Settings) (jobs :
           }
         where
           before : Each (λ x. is_left ch.j.worker.number (work_now x) ≡ true) ch.front
-          before = Each-weaker (λ x. AreApart x ch.j) (λ x. is_left ch.j.worker.number (work_now x) ≡ true) (λ x h. rw (not_same x.worker.number ch.j.worker.number h.number) refl) ch.front (apart_before ch.front ch.j ch.back apart)
+          before = Each-weaker (λ x. AreApart x ch.j) (λ x. is_left ch.j.worker.number (work_now x) ≡ true) (λ x h. rw (ne_eqb x.worker.number ch.j.worker.number h.number) refl) ch.front (apart_before ch.front ch.j ch.back apart)
 
           behind : Each (λ x. is_left ch.j.worker.number (work_now x) ≡ true) ch.back
-          behind = Each-weaker (AreApart ch.j) (λ x. is_left ch.j.worker.number (work_now x) ≡ true) (λ x h. rw (not_same x.worker.number ch.j.worker.number (λ same. h.number (sym same))) refl) ch.back (apart_behind ch.front ch.j ch.back apart)
+          behind = Each-weaker (AreApart ch.j) (λ x. is_left ch.j.worker.number (work_now x) ≡ true) (λ x h. rw (ne_eqb x.worker.number ch.j.worker.number (λ same. h.number (sym same))) refl) ch.back (apart_behind ch.front ch.j ch.back apart)
 
       works_so : AreWorks s st' (record jobs { running = now })
       works_so = subst (λ (js : List DropJob). AreWorks s st' (record jobs { running = js })) (sym ch.now_is) (by_end a.ended refl)

@@ -14,7 +14,7 @@ use Rattle.node_model.specs.Evidence as drops
 use Rattle.node_model.specs.Evidence.{standing_by}
 use Rattle.node_model.specs.Look.{Look, Made, entry_of}
 use Rattle.node_model.specs.SetUp.{SetUp}
-use Rattle.node_model.specs.Slots.{Running, free_slot}
+use Rattle.node_model.specs.Slots.{RunningJob, free_slot}
 use Rattle.node_model.specs.State.{State}
 use Rattle.node_model.specs.Turns.{job_step}
 use Rattle.drop_worker.specs.declared.phase.Phase.TheVariants as phases
@@ -28,7 +28,7 @@ use Rattle.node_jobs.specs.Running.{AreWorks, DropJob, Follows, Jobs, words_at}
 
 -- ---- a job that begins
 
-abbrev pub running_now : DropJob → Running
+abbrev pub running_now : DropJob → RunningJob
 running_now j = record { number = j.worker.number; slot = j.worker.slot; what = j.worker.job }
 
 -- the next number, in the least free slot

@@ -13,7 +13,7 @@ use Rattle.node_jobs.specs.declared.feed.Feed.{Feed}
 use Rattle.node_jobs.specs.declared.finding.Found.{Found}
 use Rattle.node_jobs.specs.Doings.{Acts, Steps}
 use Rattle.node_jobs.specs.Places.{PlaceView}
-use Rattle.node_jobs.specs.Running.{DropJob, Stands}
+use Rattle.node_jobs.specs.Running.{DropJob, HasReadByPhase}
 
 -- the job on the list after its step: one that has ended is off
 abbrev pub job_after : Bool → DropJob → List DropJob
@@ -40,6 +40,6 @@ pub record Changes (p : PlaceView) (clock : ClockSet) (links : List EndView) (se
   pub takes : a.takes ≡ found.feed.takes
   pub acts : Acts p clock links settings (input_of found.feed time number) contents rows j j' (output_of a)
   pub steps : Steps p contents contents' (input_of found.feed time number) rows rows' j.worker j'.worker (output_of a)
-  pub stands : a.ended ≡ false → Stands p j'.worker.phase j'.known
+  pub stands : a.ended ≡ false → HasReadByPhase p j'.worker.phase j'.known
   pub owns : HasToken j'.worker.number j'.worker.job.key j'.worker.token rows'
   pub others : OthersStay j.worker.number rows rows'

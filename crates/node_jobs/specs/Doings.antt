@@ -23,7 +23,7 @@ use Rattle.drop_worker.specs.declared.turn.Output.{Output}
 use Rattle.drop_worker.specs.Doing.{Grows, contents_after}
 use Rattle.drop_worker.specs.Feeding.{FedAt, FindsAt, FitsLocal, KeepsWord}
 use Rattle.drop_worker.specs.Leaving.{stands_on}
-use Rattle.drop_worker.specs.States.{Keeps, Sees, StepsSo}
+use Rattle.drop_worker.specs.States.{HaveState, Sees, StepsSo}
 use Rattle.drop_worker.specs.Worker.{Worker}
 use Rattle.drop_worker.specs.Working.{failed_in, frames_of, made_of, sight, words_of}
 use Rattle.node_jobs.specs.Feeds.{SeesJob}
@@ -52,7 +52,7 @@ pub record Steps (p : PlaceView) (contents contents' : Option Contents) (input :
 -- what the repository is as the job acts: it is told of this frame, or of none
 pub record SeesAct (p : PlaceView) (clock : ClockSet) (links : List EndView) (settings : Settings) (input : Input) (rows : Rows) (c : Contents) (j : DropJob) (out : Output) (s : SetUp) (st : State) (k : Look) (f : Option FrameView) : Type 0 where
   pub job : SeesJob p clock links j input.time s st k
-  pub keeps : Keeps rows c st
+  pub keeps : HaveState rows c st
   pub logs : st.logs ≡ settings
   pub nameless : (key : List ℕ) → standing_by settings key [] ≡ drops.Asked
   pub number : input.number ≡ st.made + 1

@@ -19,7 +19,7 @@ use Rattle.drop_worker.specs.declared.turn.Taken.{Taken}
 use Rattle.drop_worker.specs.declared.turn.Taken.TheVariants as takens
 use Rattle.drop_worker.specs.Feeding.{FedAt, FindsAt}
 use Rattle.drop_worker.specs.Leaving.{stands_on}
-use Rattle.drop_worker.specs.States.{IsSight, Keeps}
+use Rattle.drop_worker.specs.States.{IsSight, HaveState}
 use Rattle.drop_worker.specs.Worker.{Worker}
 use Rattle.drop_worker.specs.Working.{end_in, sight, taken_of}
 use Rattle.node_jobs.specs.declared.feed.Feed.{Feed}
@@ -57,13 +57,13 @@ pub record SeesJob (p : PlaceView) (clock : ClockSet) (links : List EndView) (j 
 
 -- the job has a step, which is told this
 abbrev pub IsReady : PlaceView → ClockSet → List EndView → DropJob → ℕ → Feed → Type 0
-IsReady p clock links j time feed = (rows : Rows) (c : Contents) (s : SetUp) (st : State) (k : Look) → SeesJob p clock links j time s st k → Keeps rows c st
+IsReady p clock links j time feed = (rows : Rows) (c : Contents) (s : SetUp) (st : State) (k : Look) → SeesJob p clock links j time s st k → HaveState rows c st
     → FindsAt (turn_of s st k (work_now j)) (stands_on j.worker) (taken_by links j.worker.slot feed.takes)
     × FedAt (sight (place_reading p) (end_at links) time 0) j.worker.slot (stands_on j.worker) (taken_by links j.worker.slot feed.takes) feed.taken
 
 -- it has none
 abbrev pub IsIdle : PlaceView → ClockSet → List EndView → DropJob → ℕ → Type 0
-IsIdle p clock links j time = (rows : Rows) (c : Contents) (s : SetUp) (st : State) (k : Look) → SeesJob p clock links j time s st k → Keeps rows c st → slot_step s st k (Some (work_now j)) ≡ None
+IsIdle p clock links j time = (rows : Rows) (c : Contents) (s : SetUp) (st : State) (k : Look) → SeesJob p clock links j time s st k → HaveState rows c st → slot_step s st k (Some (work_now j)) ≡ None
 
 abbrev pub Answers : PlaceView → ClockSet → List EndView → DropJob → ℕ → Option Feed → Type 0
 Answers p clock links j time None = IsIdle p clock links j time
@@ -72,7 +72,7 @@ Answers p clock links j time (Some feed) = IsReady p clock links j time feed
 -- the peers to which a job that knows this may send more than a Close, where it awaits no frame
 abbrev pub PeersOf : PlaceView → ClockSet → List EndView → Worker → Known → ℕ → List ℕ → Type 0
 PeersOf p clock links w known time peers = (number : ℕ) (rows : Rows) (c : Contents) (s : SetUp) (st : State) (k : Look) (v : Work)
-    → IsSight (sight (reading_of p clock known) (end_at links) time number) s st k w v → Keeps rows c st → peers ≡ needs (turn_of s st k v) v.phase
+    → IsSight (sight (reading_of p clock known) (end_at links) time number) s st k w v → HaveState rows c st → peers ≡ needs (turn_of s st k v) v.phase
 
 -- a job that awaits a frame is told what came at its partner's end
 abbrev pub IsFedAt : List EndView → DropJob → Feed → Type 0

@@ -12,7 +12,7 @@ use Rattle.node_model.specs.Turns.{slot_step}
 use Rattle.content_lock.specs.Rows.{Rows}
 use Rattle.drop_worker.specs.Feeding.{ToldAt}
 use Rattle.drop_worker.specs.Leaving.{stands_on}
-use Rattle.drop_worker.specs.States.{Keeps}
+use Rattle.drop_worker.specs.States.{HaveState}
 use Rattle.node_jobs.specs.declared.feed.Feed.{Feed}
 use Rattle.node_jobs.specs.declared.finding.Found.{Found}
 use Rattle.node_jobs.specs.Acting.{WaitsFor}
@@ -25,7 +25,7 @@ has_slot slot j = j.worker.slot == slot
 
 -- no job in the slot has a step
 abbrev pub IsSlotIdle : PlaceView → ClockSet → List EndView → List DropJob → ℕ → ℕ → Type 0
-IsSlotIdle p clock links jobs time slot = (rows : Rows) (c : Contents) (s : SetUp) (st : State) (k : Look) → Each (λ j. SeesJob p clock links j time s st k) jobs → Keeps rows c st
+IsSlotIdle p clock links jobs time slot = (rows : Rows) (c : Contents) (s : SetUp) (st : State) (k : Look) → Each (λ j. SeesJob p clock links j time s st k) jobs → HaveState rows c st
     → slot_step s st k (find (λ w. w.slot == slot) (map work_now jobs)) ≡ None
 
 -- the job of the slot is this, and has a step

@@ -69,9 +69,9 @@ abbrev pub place_reading : PlaceView → Reading
 place_reading p = record { repo = p.number; count = length p.ids; clock = λ time. time; need = record { n = 0; m = 0 }; standing = λ c. drops.Asked }
 
 -- a job that has read nothing is to begin; another is past its first step
-abbrev pub Stands : PlaceView → Phase → Option Known → Type 0
-Stands p phase None = phase ≡ phases.Fresh
-Stands p phase (Some known) = HasBegun (place_reading p) phase
+abbrev pub HasReadByPhase : PlaceView → Phase → Option Known → Type 0
+HasReadByPhase p phase None = phase ≡ phases.Fresh
+HasReadByPhase p phase (Some known) = HasBegun (place_reading p) phase
 
 -- a job that is to begin has heard nothing
 abbrev pub BeginsUnheard : DropJob → Type 0
@@ -82,7 +82,7 @@ pub record IsDrop (p : PlaceView) (j : DropJob) : Type 0 where
   pub side : drop_side j.worker.job.kind j.worker.job.peer ≡ Local
   pub slot : j.worker.slot < 4
   pub fits : FitsLocal j.worker.phase j.worker.token
-  pub stands : Stands p j.worker.phase j.known
+  pub stands : HasReadByPhase p j.worker.phase j.known
   pub unheard : BeginsUnheard j
 
 -- it was begun, and its token is the table's

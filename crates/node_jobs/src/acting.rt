@@ -12,7 +12,7 @@ ghost use Rattle.drop_worker.specs.Leaving.{stands_on};
 ghost use Rattle.drop_worker.specs.Working.{failed_in};
 ghost use Rattle.node_jobs.specs.Calling.{JobMakes, WorkerMakes};
 ghost use Rattle.node_jobs.specs.Doings.{Acts, Does, Steps};
-ghost use Rattle.node_jobs.specs.Running.{Stands};
+ghost use Rattle.node_jobs.specs.Running.{HasReadByPhase};
 
 use crate::desk::Desk;
 use crate::feed::Feed;
@@ -43,14 +43,14 @@ pub(crate) fn act<K: Keeper>(
     requires fits { FitsLocal job.old.worker.phase job.old.worker.token }
     requires told { ToldAt (stands_on job.old.worker) input.now.taken }
     requires owns { HasToken job.old.worker.number job.old.worker.job.key job.old.worker.token table.old }
-    requires stands { Stands place.now job.old.worker.phase job.old.known }
+    requires stands { HasReadByPhase place.now job.old.worker.phase job.old.known }
     requires count { length ends.now ≡ length place.now.ids * 8 }
     ensures acts { IfOk result (Acts place.now clock ends.now (settings_of settings.now) input.now (K.contents keeper.old) table.old job.old job.new) }
     ensures calls { IfOk result (JobMakes place.now clock ends.now (settings_of settings.now) input.now (K.contents keeper.old) table.old (K.failing keeper.old) (K.failing keeper.new) job.old) }
     ensures left { IfOk result (λ out. K.failing keeper.new ≡ option_map (fewer (failed_in out.kind)) (K.failing keeper.old)) }
     ensures err_failing { OnErr result (K.failing keeper.new ≡ K.failing keeper.old) }
     ensures steps { IfOk result (Steps place.now (K.contents keeper.old) (K.contents keeper.new) input.now table.old table.new job.old.worker job.new.worker) }
-    ensures stands { IfOk result (λ out. out.ended ≡ false → Stands place.now job.new.worker.phase job.new.known) }
+    ensures stands { IfOk result (λ out. out.ended ≡ false → HasReadByPhase place.now job.new.worker.phase job.new.known) }
     ensures owns { HasToken job.new.worker.number job.new.worker.job.key job.new.worker.token table.new }
     ensures others { OthersStay job.old.worker.number table.old table.new }
     ensures holds { table.new.holds ≡ table.old.holds }

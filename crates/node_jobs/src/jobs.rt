@@ -16,7 +16,7 @@ ghost use Rattle.object_store.specs.Stores.{Contents};
 ghost use Rattle.content_lock.specs.CallsMade.{MakesCalls, fewer};
 ghost use Rattle.content_lock.specs.Rows.{AreAfter, Rows};
 ghost use Rattle.drop_worker.specs.Doing.{OthersStay, contents_after};
-ghost use Rattle.drop_worker.specs.States.{Keeps};
+ghost use Rattle.drop_worker.specs.States.{HaveState};
 ghost use Rattle.drop_worker.specs.Working.{failed_in};
 ghost use Rattle.node_jobs.specs.Acting.{IsKindOf, SeesActed, SeesJobs, StepsJobs, WaitsFor, running_now, with_job};
 ghost use Rattle.node_jobs.specs.Calls.{failed_by, job_calls};
@@ -137,7 +137,7 @@ impl Jobs {
     ) -> Result<bool, NoMemory>
         requires drops { Each (IsDrop self.now.place) self.now.running }
         requires count { length ends.old ≡ length self.now.place.ids * 8 }
-        ensures ready { IfOk result (λ b. (settings : SettingsView) (number : ℕ) (rows : Rows) (c : Contents) (s : SetUp) (st : State) (k : Look) → SeesJobs ends.old clock settings self.now number time s st k → Keeps rows c st
+        ensures ready { IfOk result (λ b. (settings : SettingsView) (number : ℕ) (rows : Rows) (c : Contents) (s : SetUp) (st : State) (k : Look) → SeesJobs ends.old clock settings self.now number time s st k → HaveState rows c st
             → is_some (job_step s st k) ≡ b) }
         ensures ends { ends.new ≡ ends.old }
     {
@@ -162,11 +162,11 @@ impl Jobs {
         requires count { length ends.old ≡ length self.old.place.ids * 8 }
 
         // Of each state that these are, at a look at which the entry's call fails: the job's step is this one.
-        ensures step { IfOk result (λ a. ForSome (K.contents keeper.old) (λ c. (s : SetUp) (st : State) (k : Look) → SeesJobs ends.old clock (settings_of settings.now) self.old number time s st k → Keeps table.old c st → SeesActed self.old k a
+        ensures step { IfOk result (λ a. ForSome (K.contents keeper.old) (λ c. (s : SetUp) (st : State) (k : Look) → SeesJobs ends.old clock (settings_of settings.now) self.old number time s st k → HaveState table.old c st → SeesActed self.old k a
             → StepsJobs s st k ends.old self.old self.new a)) }
 
         // It makes the calls of its store that the state's own step makes, and where one was to fail, it tells that call.
-        ensures calls { IfOk result (λ a. ForSome (K.contents keeper.old) (λ c. (s : SetUp) (st : State) (k : Look) → SeesJobs ends.old clock (settings_of settings.now) self.old number time s st k → Keeps table.old c st → SeesActed self.old k a
+        ensures calls { IfOk result (λ a. ForSome (K.contents keeper.old) (λ c. (s : SetUp) (st : State) (k : Look) → SeesJobs ends.old clock (settings_of settings.now) self.old number time s st k → HaveState table.old c st → SeesActed self.old k a
             → MakesCalls (job_calls s st k) (failed_by a) (K.failing keeper.old) (K.failing keeper.new))) }
         ensures left { IfOk result (λ a. K.failing keeper.new ≡ option_map (fewer (failed_by a)) (K.failing keeper.old)) }
         ensures err_failing { OnErr result (K.failing keeper.new ≡ K.failing keeper.old) }

@@ -11,7 +11,7 @@ ghost use Rattle.drop_worker.specs.Leaving.{stands_on};
 ghost use Rattle.drop_worker.specs.Working.{end_in, phase_as};
 ghost use Rattle.node_jobs.specs.Acting.{WaitsFor};
 ghost use Rattle.node_jobs.specs.Feeds.{Answers, IsFedAt, PeersOf};
-ghost use Rattle.node_jobs.specs.Running.{Stands, place_reading};
+ghost use Rattle.node_jobs.specs.Running.{HasReadByPhase, place_reading};
 
 use crate::desk::Desk;
 use crate::feed::{Feed, bare_feed, heard};
@@ -35,7 +35,7 @@ pub(crate) fn ready(
     requires side { drop_side job.now.worker.job.kind job.now.worker.job.peer ≡ sides.Local }
     requires fits { FitsLocal job.now.worker.phase job.now.worker.token }
     requires slot { job.now.worker.slot < 4 }
-    requires stands { Stands place.now job.now.worker.phase job.now.known }
+    requires stands { HasReadByPhase place.now job.now.worker.phase job.now.known }
     requires count { length ends.old ≡ length place.now.ids * 8 }
     ensures answers { IfOk result (Answers place.now clock ends.old job.now time) }
     ensures told { IfOk result (λ f. IfSome f (λ feed. ToldAt (stands_on job.now.worker) feed.taken)) }
@@ -74,7 +74,7 @@ fn free(
     requires side { drop_side job.now.worker.job.kind job.now.worker.job.peer ≡ sides.Local }
     requires fits { FitsLocal job.now.worker.phase job.now.worker.token }
     requires slot { job.now.worker.slot < 4 }
-    requires stands { Stands place.now job.now.worker.phase job.now.known }
+    requires stands { HasReadByPhase place.now job.now.worker.phase job.now.known }
     requires awaits { stands_on job.now.worker ≡ None }
     requires count { length ends.old ≡ length place.now.ids * 8 }
     ensures answers { IfOk result (Answers place.now clock ends.old job.now time) }

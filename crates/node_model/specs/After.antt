@@ -90,6 +90,6 @@ states s (e ∷ past) = state_after s (states s past) e
 -- ---- states that agree
 
 -- one state has what the other has, but for what jobs have read that aren't at a drop
-pub record Agrees (st other : State) : Type 0 where
+pub record AgreesAtDrops (st other : State) : Type 0 where
   pub same : st ≡ record other { read = st.read }
   pub reads : (w : Work) → Member w st.works → w.part ≡ Drops → st.read w.number ≡ other.read w.number

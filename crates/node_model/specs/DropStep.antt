@@ -117,8 +117,8 @@ times t f n (Some end) =
 
 -- ---- its judgement
 
-abbrev pub lacking : Turn → Outcome
-lacking t = Refused (refusals.Lacking (proof_by t.read t.w) (causes_by t.read t.look.words t.w))
+abbrev pub lacking_outcome : Turn → Outcome
+lacking_outcome t = Refused (refusals.Lacking (proof_by t.read t.w) (causes_by t.read t.look.words t.w))
 
 -- the clock is below the end, if there is one
 abbrev pub in_time : ℕ → Option ℕ → Bool

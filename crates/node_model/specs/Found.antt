@@ -31,7 +31,7 @@ use Rattle.node_model.specs.Jobs.{Work, Gets, Drops, Puts, Fresh, Next, GetsWord
 use Rattle.node_model.specs.Owed.{Owed, due}
 use Rattle.node_model.specs.State.{State}
 use Rattle.node_model.specs.Look.{Look, Made}
-use Rattle.node_model.specs.SessionStep.{Here, Reply, bar_on, by_of, here, is_held, is_here, now_of, refuses}
+use Rattle.node_model.specs.SessionStep.{Here, Reply, bar_on, by_of, here, is_held, is_here, now_of, failure_line}
 use Rattle.node_model.specs.Knows.{enough_by, next_by, causes_by, proof_by}
 use Rattle.node_model.specs.JobStep.{Turn, bar_there, by_me, clock_of, end_with, farewells, is_there, key_of, me, turn_of}
 use Rattle.node_model.specs.DropStep.{first_end, held_until, in_time, need_now, required_there, target}
@@ -41,11 +41,11 @@ use Rattle.node_model.specs.Clocks.{hold_time}
 
 -- ---- sessions: h is the session's place, doing what it does, asked the message that it takes, says what it sends
 
-abbrev pub agrees : List FrameText
-agrees = Line (text_of Success) ∷ []
+abbrev pub success_line : List FrameText
+success_line = Line (text_of Success) ∷ []
 
 -- LOCKCONTENT found the content free, and a hold was taken for ten minutes
-pub record Shared (h : Here) (doing : Doing) (asked : Option Message) (hold end : ℕ) (by : By) (key : List ℕ) (says : List FrameText) : Type 0 where
+pub record TakesHold (h : Here) (doing : Doing) (asked : Option Message) (hold end : ℕ) (by : By) (key : List ℕ) (says : List FrameText) : Type 0 where
   pub asks : asked ≡ Some (LockContent key)
   pub waits : doing ≡ Waits
   pub locks : h.locks ≡ true
@@ -54,15 +54,15 @@ pub record Shared (h : Here) (doing : Doing) (asked : Option Message) (hold end 
   pub hold_is : hold ≡ h.number
   pub end_is : end ≡ now_of h + hold_time
   pub by_is : by ≡ by_of h
-  pub says_is : says ≡ agrees
+  pub says_is : says ≡ success_line
 
 -- CHECKPRESENT found the content free
-pub record Looked (h : Here) (doing : Doing) (asked : Option Message) (key : List ℕ) (says : List FrameText) : Type 0 where
+pub record FindsFree (h : Here) (doing : Doing) (asked : Option Message) (key : List ℕ) (says : List FrameText) : Type 0 where
   pub asks : asked ≡ Some (CheckPresent key)
   pub waits : doing ≡ Waits
   pub there : is_here h key ≡ true
   pub free : bar_on h key ≡ None
-  pub says_is : says ≡ agrees
+  pub says_is : says ≡ success_line
 
 -- the session was asked for the copy, or to remove it
 abbrev pub AsksOf : Option Message → List ℕ → Type 0
@@ -70,46 +70,46 @@ AsksOf asked key = ((asked ≡ Some (LockContent key)) ⊎ (asked ≡ Some (Chec
 
 -- an order finds nothing to remove, and agrees; all else that finds nothing refuses
 abbrev pub AnswersAbsent : Option Message → List ℕ → List FrameText → Type 0
-AnswersAbsent asked key says = (says ≡ refuses) ⊎ ((says ≡ agrees) × ((deadline : Option ℕ) × (asked ≡ Some (order_of deadline key))))
+AnswersAbsent asked key says = (says ≡ failure_line) ⊎ ((says ≡ success_line) × ((deadline : Option ℕ) × (asked ≡ Some (order_of deadline key))))
 
-abbrev pub Checked : Here → Doing → Option Message → List ℕ → List FrameText → Found → Type 0
-Checked h doing asked key says found.Present = Looked h doing asked key says
-Checked h doing asked key says found.Absent = (doing ≡ Waits) × AsksOf asked key × (is_here h key ≡ false) × AnswersAbsent asked key says
-Checked h doing asked key says found.Barred = (doing ≡ Waits) × AsksOf asked key × ((j : ℕ) × (bar_on h key ≡ Some j)) × (says ≡ refuses)
-Checked h doing asked key says found.Held = (doing ≡ Waits) × AsksOf asked key × (is_held h key ≡ true) × (says ≡ refuses)
-Checked h doing asked key says found.Late = (doing ≡ Waits) × ((n : ℕ) × (asked ≡ Some (RemoveBefore n key)) × (nat_lt (now_of h) (1000 * n) ≡ false)) × (says ≡ refuses)
-Checked h doing asked key says found.Nolock = (doing ≡ Waits) × (asked ≡ Some (LockContent key)) × (h.locks ≡ false) × (says ≡ refuses)
+abbrev pub CheckFinds : Here → Doing → Option Message → List ℕ → List FrameText → Found → Type 0
+CheckFinds h doing asked key says found.Present = FindsFree h doing asked key says
+CheckFinds h doing asked key says found.Absent = (doing ≡ Waits) × AsksOf asked key × (is_here h key ≡ false) × AnswersAbsent asked key says
+CheckFinds h doing asked key says found.Barred = (doing ≡ Waits) × AsksOf asked key × ((j : ℕ) × (bar_on h key ≡ Some j)) × (says ≡ failure_line)
+CheckFinds h doing asked key says found.Held = (doing ≡ Waits) × AsksOf asked key × (is_held h key ≡ true) × (says ≡ failure_line)
+CheckFinds h doing asked key says found.Late = (doing ≡ Waits) × ((n : ℕ) × (asked ≡ Some (RemoveBefore n key)) × (nat_lt (now_of h) (1000 * n) ≡ false)) × (says ≡ failure_line)
+CheckFinds h doing asked key says found.Nolock = (doing ≡ Waits) × (asked ≡ Some (LockContent key)) × (h.locks ≡ false) × (says ≡ failure_line)
 
 -- an order comes before its deadline, if it has one
-abbrev pub InTime : ℕ → Option ℕ → Type 0
-InTime clock None = Unit {0}
-InTime clock (Some n) = nat_lt clock (1000 * n) ≡ true
+abbrev pub IsBeforeDeadline : ℕ → Option ℕ → Type 0
+IsBeforeDeadline clock None = Unit {0}
+IsBeforeDeadline clock (Some n) = nat_lt clock (1000 * n) ≡ true
 
 -- an order found the content free and no hold that blocks
-pub record Obeyed (h : Here) (doing : Doing) (asked : Option Message) (by : By) (key : List ℕ) (says : List FrameText) : Type 0 where
+pub record ObeysOrder (h : Here) (doing : Doing) (asked : Option Message) (by : By) (key : List ℕ) (says : List FrameText) : Type 0 where
   pub deadline : Option ℕ
   pub asks : asked ≡ Some (order_of deadline key)
   pub waits : doing ≡ Waits
   pub there : is_here h key ≡ true
   pub free : bar_on h key ≡ None
   pub unheld : is_held h key ≡ false
-  pub soon : InTime (now_of h) deadline
+  pub soon : IsBeforeDeadline (now_of h) deadline
   pub by_is : by ≡ by_of h
-  pub says_is : says ≡ agrees
+  pub says_is : says ≡ success_line
 
 -- UNLOCKCONTENT of the key that the session guards
-pub record Released (doing : Doing) (asked : Option Message) (hold : ℕ) (key : List ℕ) (says : List FrameText) : Type 0 where
+pub record ReleasesHold (doing : Doing) (asked : Option Message) (hold : ℕ) (key : List ℕ) (says : List FrameText) : Type 0 where
   pub asks : asked ≡ Some (UnlockContent key)
   pub guards : doing ≡ Guards hold key
   pub says_is : says ≡ []
 
 -- VALID, and the part matches its key
-pub record Gained (h : Here) (doing : Doing) (asked : Option Message) (by : By) (size : ℕ) (key : List ℕ) (says : List FrameText) : Type 0 where
+pub record GainsContent (h : Here) (doing : Doing) (asked : Option Message) (by : By) (size : ℕ) (key : List ℕ) (says : List FrameText) : Type 0 where
   pub asks : asked ≡ Some Valid
   pub took : doing ≡ Took key size
   pub right : h.right ≡ true
   pub by_is : by ≡ by_of h
-  pub says_is : says ≡ agrees
+  pub says_is : says ≡ success_line
 
 -- a message that changes no row: none that agrees, and a timestamp is the clock
 abbrev pub IsTalk : ℕ → Message → Type 0
@@ -138,22 +138,22 @@ SaysClose (Line text ∷ Closing ∷ []) = (t : List ℕ) × (text ≡ text_of (
 SaysClose says = ⊥
 
 abbrev pub SaysFault : List FrameText → Type 0
-SaysFault says = (says ≡ []) ⊎ ((says ≡ Closing ∷ []) ⊎ (says ≡ refuses))
+SaysFault says = (says ≡ []) ⊎ ((says ≡ Closing ∷ []) ⊎ (says ≡ failure_line))
 
-abbrev pub SessionKind : Here → Doing → Option Message → List FrameText → EntryKind → Type 0
-SessionKind h doing asked says (Share hold end by key) = Shared h doing asked hold end by key says
-SessionKind h doing asked says (Check what key) = Checked h doing asked key says what
-SessionKind h doing asked says (Gone by key) = Obeyed h doing asked by key says
-SessionKind h doing asked says (Release hold key) = Released doing asked hold key says
-SessionKind h doing asked says (Gain by size key) = Gained h doing asked by size key says
-SessionKind h doing asked says (Talk None) = SaysTalk (now_of h) says
-SessionKind h doing asked says (Close peer slot client) = (Close peer slot client ≡ Close h.at.peer h.at.slot false) × SaysClose says
-SessionKind h doing asked says (Fault call by) = (by ≡ by_of h) × SaysFault says
-SessionKind h doing asked says kind = ⊥
+abbrev pub IsSessionEntry : Here → Doing → Option Message → List FrameText → EntryKind → Type 0
+IsSessionEntry h doing asked says (Share hold end by key) = TakesHold h doing asked hold end by key says
+IsSessionEntry h doing asked says (Check what key) = CheckFinds h doing asked key says what
+IsSessionEntry h doing asked says (Gone by key) = ObeysOrder h doing asked by key says
+IsSessionEntry h doing asked says (Release hold key) = ReleasesHold doing asked hold key says
+IsSessionEntry h doing asked says (Gain by size key) = GainsContent h doing asked by size key says
+IsSessionEntry h doing asked says (Talk None) = SaysTalk (now_of h) says
+IsSessionEntry h doing asked says (Close peer slot client) = (Close peer slot client ≡ Close h.at.peer h.at.slot false) × SaysClose says
+IsSessionEntry h doing asked says (Fault call by) = (by ≡ by_of h) × SaysFault says
+IsSessionEntry h doing asked says kind = ⊥
 
 -- what a session found that makes this reply
 abbrev pub SessionFound : Here → Doing → Option Message → Reply → Type 0
-SessionFound h doing asked x = SessionKind h doing asked x.says x.kind
+SessionFound h doing asked x = IsSessionEntry h doing asked x.says x.kind
 
 -- the session took a frame that its end may take; or took none while it gives
 pub record TakesAt (s : SetUp) (st : State) (a : EndName) (asked : Option Message) (says : List FrameText) (m : Made) : Type 0 where
@@ -178,7 +178,7 @@ pub record BySession (s : SetUp) (st : State) (k : Look) (m : Made) : Type 0 whe
   pub asked : Option Message
   pub says : List FrameText
   pub frame : TakesAt s st (server_end peer slot) asked says m ⊎ GivesAt s st (server_end peer slot) asked says m
-  pub found : SessionKind (here s st k (server_end peer slot)) (st.sessions (server_end peer slot)).doing asked says m.kind
+  pub found : IsSessionEntry (here s st k (server_end peer slot)) (st.sessions (server_end peer slot)).doing asked says m.kind
 
 -- ---- jobs
 
@@ -211,7 +211,7 @@ pub record PutsBar (t : Turn) (j : ℕ) (need : Need) (key : List ℕ) (m : Made
   pub sends_none : m.sent ≡ []
 
 -- a local drop knows enough, in time
-pub record Removes (t : Turn) (by : By) (key : List ℕ) (m : Made) : Type 0 where
+pub record RemovesContent (t : Turn) (by : By) (key : List ℕ) (m : Made) : Type 0 where
   pub part_is : t.w.part ≡ Drops
   pub next : t.w.phase ≡ Next
   pub side : side_of t.w ≡ Local
@@ -250,7 +250,7 @@ pub record GainsPart (t : Turn) (by : By) (size : ℕ) (key : List ℕ) (m : Mad
   pub right : t.look.right ≡ true
   pub by_is : by ≡ by_me t
   pub key_is : key ≡ key_of t
-  pub sent_is : m.sent ≡ frames (job_end t.w peer) (end_with t peer) agrees
+  pub sent_is : m.sent ≡ frames (job_end t.w peer) (end_with t peer) success_line
 
 -- ---- why a job ends so
 
@@ -260,7 +260,7 @@ pub record FirstLocal (t : Turn) : Type 0 where
   pub first : t.w.phase ≡ Fresh
   pub side : side_of t.w ≡ Local
 
-pub record Lacks (t : Turn) (proof : Proof) (reasons : List CandidateCause) : Type 0 where
+pub record LacksCopies (t : Turn) (proof : Proof) (reasons : List CandidateCause) : Type 0 where
   pub part_is : t.w.part ≡ Drops
   pub next : t.w.phase ≡ Next
   pub wants : enough_by t.read t.w ≡ false
@@ -269,7 +269,7 @@ pub record Lacks (t : Turn) (proof : Proof) (reasons : List CandidateCause) : Ty
   pub causes_are : reasons ≡ causes_by t.read t.look.words t.w
 
 -- a local drop that knows enough, or the drop that took the target's timestamp, came too late
-pub record Expires (t : Turn) (taken : Option FrameView) (end clock : ℕ) : Type 0 where
+pub record LocksExpire (t : Turn) (taken : Option FrameView) (end clock : ℕ) : Type 0 where
   pub part_is : t.w.part ≡ Drops
   pub first_is : first_end t ≡ Some end
   pub clock_is : clock ≡ clock_of t
@@ -277,28 +277,28 @@ pub record Expires (t : Turn) (taken : Option FrameView) (end clock : ℕ) : Typ
   pub judges : ((t.w.phase ≡ Next) × (side_of t.w ≡ Local) × (taken ≡ None)) ⊎ ((side_of t.w ≡ Remote) × (t.w.phase ≡ AsksTime))
 
 -- what this step itself found: by the row, or by what the job knows
-abbrev pub Judged : Turn → Option FrameView → Outcome → Type 0
-Judged t taken (Refused refusals.NotPresent) = FirstLocal t × (is_there t ≡ false)
-Judged t taken (Refused (refusals.Required text)) = (t.w.phase ≡ Fresh) × (required_there t ≡ Some text)
-Judged t taken (Refused (refusals.Barred j)) = FirstLocal t × (is_there t ≡ true) × (bar_there t ≡ Some j)
-Judged t taken (Refused (refusals.Held end)) = FirstLocal t × (is_there t ≡ true) × (bar_there t ≡ None) × (held_until t ≡ Some end)
-Judged t taken (Refused (refusals.Lacking proof reasons)) = Lacks t proof reasons
-Judged t taken (Refused (refusals.Expired end clock)) = Expires t taken end clock
-Judged t taken (Got None None) = (t.w.part ≡ Gets) × (t.w.phase ≡ Fresh) × (is_there t ≡ true)
-Judged t taken (TransferRefused failures.NotHere) = (t.w.part ≡ Puts) × (t.w.phase ≡ Fresh) × ((is_there t ≡ false) ⊎ (t.w.what.peer ≡ None))
-Judged t taken (TransferRefused failures.Busy) = (t.w.part ≡ Gets) × (t.w.phase ≡ Fresh) × (is_there t ≡ false) × (t.filled (key_of t) ≡ true)
-Judged t taken (TransferRefused (failures.NoSource reasons)) = (t.w.phase ≡ Next) × (next_source t ≡ None) × (reasons ≡ t.w.causes)
-Judged t taken outcome = ⊥
+abbrev pub FindsOutcome : Turn → Option FrameView → Outcome → Type 0
+FindsOutcome t taken (Refused refusals.NotPresent) = FirstLocal t × (is_there t ≡ false)
+FindsOutcome t taken (Refused (refusals.Required text)) = (t.w.phase ≡ Fresh) × (required_there t ≡ Some text)
+FindsOutcome t taken (Refused (refusals.Barred j)) = FirstLocal t × (is_there t ≡ true) × (bar_there t ≡ Some j)
+FindsOutcome t taken (Refused (refusals.Held end)) = FirstLocal t × (is_there t ≡ true) × (bar_there t ≡ None) × (held_until t ≡ Some end)
+FindsOutcome t taken (Refused (refusals.Lacking proof reasons)) = LacksCopies t proof reasons
+FindsOutcome t taken (Refused (refusals.Expired end clock)) = LocksExpire t taken end clock
+FindsOutcome t taken (Got None None) = (t.w.part ≡ Gets) × (t.w.phase ≡ Fresh) × (is_there t ≡ true)
+FindsOutcome t taken (TransferRefused failures.NotHere) = (t.w.part ≡ Puts) × (t.w.phase ≡ Fresh) × ((is_there t ≡ false) ⊎ (t.w.what.peer ≡ None))
+FindsOutcome t taken (TransferRefused failures.Busy) = (t.w.part ≡ Gets) × (t.w.phase ≡ Fresh) × (is_there t ≡ false) × (t.filled (key_of t) ≡ true)
+FindsOutcome t taken (TransferRefused (failures.NoSource reasons)) = (t.w.phase ≡ Next) × (next_source t ≡ None) × (reasons ≡ t.w.causes)
+FindsOutcome t taken outcome = ⊥
 
 -- the outcome stands since an earlier step
-pub record Settled (t : Turn) (taken : Option FrameView) (outcome : Outcome) : Type 0 where
+pub record HasOutcome (t : Turn) (taken : Option FrameView) (outcome : Outcome) : Type 0 where
   pub alone : partner t.w.what.peer t.w.phase ≡ None
   pub takes_none : taken ≡ None
   pub outcome_is : outcome ≡ outcome_of t t.w.phase
 
 pub record EndsJob (t : Turn) (j : ℕ) (outcome : Outcome) (m : Made) : Type 0 where
   pub number_is : j ≡ t.w.number
-  pub why : Judged t m.taken outcome ⊎ Settled t m.taken outcome
+  pub why : FindsOutcome t m.taken outcome ⊎ HasOutcome t m.taken outcome
   pub sent_is : m.sent ≡ farewells t (is_lost_ordered outcome)
 
 -- ---- what a job's entry may say beside
@@ -324,20 +324,20 @@ IsAsked body = Unit {0}
 abbrev pub AsksOne : Turn → List FrameView → Type 0
 AsksOne t sent = (sent ≡ []) ⊎ ((peer : ℕ) × (body : FrameText) × (sent ≡ frames (job_end t.w peer) (end_with t peer) (body ∷ [])) × IsAsked body)
 
-abbrev pub JobKind : Turn → Made → EntryKind → Type 0
-JobKind t m (Share hold end by key) = OwnShare t hold end by key m
-JobKind t m (Bar j need key) = PutsBar t j need key m
-JobKind t m (Gone by key) = Removes t by key m
-JobKind t m (Order j peer deadline need key) = GivesOrder t j peer deadline need key m
-JobKind t m (Gain by size key) = GainsPart t by size key m
-JobKind t m (ends_job j outcome) = EndsJob t j outcome m
-JobKind t m (Talk (Some j)) = (j ≡ t.w.number) × AsksOne t m.sent
-JobKind t m (Fault call by) = (by ≡ by_me t) × (m.sent ≡ [])
-JobKind t m kind = ⊥
+abbrev pub IsJobEntry : Turn → Made → EntryKind → Type 0
+IsJobEntry t m (Share hold end by key) = OwnShare t hold end by key m
+IsJobEntry t m (Bar j need key) = PutsBar t j need key m
+IsJobEntry t m (Gone by key) = RemovesContent t by key m
+IsJobEntry t m (Order j peer deadline need key) = GivesOrder t j peer deadline need key m
+IsJobEntry t m (Gain by size key) = GainsPart t by size key m
+IsJobEntry t m (ends_job j outcome) = EndsJob t j outcome m
+IsJobEntry t m (Talk (Some j)) = (j ≡ t.w.number) × AsksOne t m.sent
+IsJobEntry t m (Fault call by) = (by ≡ by_me t) × (m.sent ≡ [])
+IsJobEntry t m kind = ⊥
 
 -- what a job found that makes the entry, by this frame or by none
 abbrev pub JobFound : Turn → Option FrameView → Made → Type 0
-JobFound t taken m = (m.taken ≡ taken) × JobKind t m m.kind
+JobFound t taken m = (m.taken ≡ taken) × IsJobEntry t m m.kind
 
 -- a job takes a frame of the peer on whose open connection it awaits one
 pub record JobTakes (t : Turn) (m : Made) : Type 0 where
@@ -355,7 +355,7 @@ pub record ByJob (s : SetUp) (st : State) (k : Look) (m : Made) : Type 0 where
   pub slot : ℕ
   pub runs : find (λ w. w.slot == slot) st.works ≡ Some w
   pub frame : (m.taken ≡ None) ⊎ JobTakes (turn_of s st k w) m
-  pub found : JobKind (turn_of s st k w) m m.kind
+  pub found : IsJobEntry (turn_of s st k w) m m.kind
 
 -- ---- the line that is owed first
 

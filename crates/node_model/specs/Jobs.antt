@@ -22,7 +22,7 @@ use Rattle.run_data.specs.declared.job.Cause.TheVariants as causes
 use Rattle.run_data.specs.declared.job.SourceFailure.{SourceFailure}
 use Rattle.run_data.specs.declared.job.SourceCause.{SourceCause}
 use Rattle.run_data.specs.declared.job.SourceCause.TheVariants as sources
-use Rattle.node_model.specs.Slots.{Running, free_slot, job_of}
+use Rattle.node_model.specs.Slots.{RunningJob, free_slot, job_of}
 use Rattle.node_model.specs.Rows.{option_is}
 use Rattle.p2p_wire.specs.declared.message.Message.{Message}
 use Rattle.p2p_wire.specs.declared.message.Message.TheVariants.{Version, LockContent, CheckPresent, GetTimestamp, Remove, RemoveBefore, Get, Put, PutFrom, AlreadyHave, Data, Valid, Success, Failure, Error}
@@ -220,17 +220,17 @@ abbrev pub gets_bytes : ℕ → Phase → Phase
 gets_bytes n (GetsBytes peer start size left) = gets_more peer start (size + n) (left - n)
 gets_bytes n phase = phase
 
-abbrev pub took_line : Work → Option Message → Work
-took_line w None = w
-took_line w (Some m) = listens w w.phase m
+abbrev pub after_line : Work → Option Message → Work
+after_line w None = w
+after_line w (Some m) = listens w w.phase m
 
-abbrev pub took : Work → FrameText → Work
-took w (Bytes n) = to_phase w (gets_bytes n w.phase)
-took w (Line text) = took_line w (message_of text)
-took w body = w
+abbrev pub after_frame : Work → FrameText → Work
+after_frame w (Bytes n) = to_phase w (gets_bytes n w.phase)
+after_frame w (Line text) = after_line w (message_of text)
+after_frame w body = w
 
 -- what an entry of a job reads of its repository: the rows, and the ends of connections
-pub record Rows : Type 0 where
+pub record RowsAndEnds : Type 0 where
   pub present : List ℕ → Bool
   pub bar : List ℕ → Option ℕ
   pub ends : EndName → End
@@ -243,7 +243,7 @@ first_look r w Drops true (Some i) = hears w r (Lacks causes.Barred)
 first_look r w part here barred = to_phase w Next
 
 -- it took and sent nothing: its first step, or the version of a target that is open already is too old
-abbrev pub quiet : Rows → ℕ → Work → Phase → Work
+abbrev pub quiet : RowsAndEnds → ℕ → Work → Phase → Work
 quiet rows r w Fresh = first_look r w w.part (rows.present w.what.key) (rows.bar w.what.key)
 quiet rows r w Next = to_phase w (Ends (Refused (refusals.OldProtocol w.version)))
 quiet rows r w phase = w
@@ -252,11 +252,11 @@ abbrev pub taken_message : Option FrameView → Option Message
 taken_message None = None
 taken_message (Some f) = line_in f.body
 
-abbrev pub hears_frame : Rows → ℕ → Work → Option FrameView → Work
+abbrev pub hears_frame : RowsAndEnds → ℕ → Work → Option FrameView → Work
 hears_frame rows r w None = quiet rows r w w.phase
-hears_frame rows r w (Some f) = took w f.body
+hears_frame rows r w (Some f) = after_frame w f.body
 
-abbrev pub talks : Rows → ℕ → Work → Entry → List FrameView → Work
+abbrev pub talks : RowsAndEnds → ℕ → Work → Entry → List FrameView → Work
 talks rows r w e (f ∷ fs) = sends w e.time f.peer (taken_message e.taken) f.body
 talks rows r w e [] = hears_frame rows r w e.taken
 
@@ -264,7 +264,7 @@ talks rows r w e [] = hears_frame rows r w e.taken
 abbrev pub job_end : Work → ℕ → EndName
 job_end w peer = record { peer = peer; slot = w.slot; client = true }
 
-abbrev pub talks_on : Rows → ℕ → Work → Entry → Option ℕ → Work
+abbrev pub talks_on : RowsAndEnds → ℕ → Work → Entry → Option ℕ → Work
 talks_on rows r w e None = talks rows r w e e.sent
 talks_on rows r w e (Some peer) =
     if (end_after (job_end w peer) (rows.ends (job_end w peer)) e).opened then talks rows r w e e.sent
@@ -307,7 +307,7 @@ abbrev pub after_gain : Work → Phase → Work
 after_gain w (GetsWord peer start size) = after_transfer w (Got (Some peer) (Some start))
 after_gain w phase = w
 
-abbrev pub work_kind : Rows → ℕ → Work → Entry → EntryKind → Work
+abbrev pub work_kind : RowsAndEnds → ℕ → Work → Entry → EntryKind → Work
 work_kind rows r w e (Fault call owner) = fault_of r w e.time call
 work_kind rows r w e (Bar job need key) = to_phase w Next
 work_kind rows r w e (Share hold end owner key) = hears w r (Held e.time)
@@ -316,16 +316,16 @@ work_kind rows r w e (Gain source size key) = after_gain w w.phase
 work_kind rows r w e kind = talks_on rows r (learns (claims w w.part w.phase) w.phase e.taken) e (partner w.what.peer w.phase)
 
 -- the entry, if it is one of this job, moves it
-abbrev pub work_after : Rows → ℕ → Entry → Work → Work
+abbrev pub work_after : RowsAndEnds → ℕ → Entry → Work → Work
 work_after rows r e w = if option_is (job_of e.kind) w.number then work_kind rows r w e e.kind else w
 
-abbrev pub running : Work → Running
-running w = record { number = w.number; slot = w.slot; what = w.what }
+abbrev pub running_job : Work → RunningJob
+running_job w = record { number = w.number; slot = w.slot; what = w.what }
 
 abbrev pub new_work : List Work → ℕ → Job → Work
-new_work was job what = record { number = job; slot = free_slot (map running was); what = what; part = first_part what.kind; phase = Fresh; fills = false; version = 3; heard = []; causes = [] }
+new_work was job what = record { number = job; slot = free_slot (map running_job was); what = what; part = first_part what.kind; phase = Fresh; fills = false; version = 3; heard = []; causes = [] }
 
-abbrev pub works_after : Rows → ℕ → List Work → Entry → EntryKind → List Work
+abbrev pub works_after : RowsAndEnds → ℕ → List Work → Entry → EntryKind → List Work
 works_after rows r was e (Begin job what) = new_work was job what ∷ was
 works_after rows r was e (ends_job job outcome) = filter (λ w. not (w.number == job)) was
 works_after rows r was e (Crash clock) = []

@@ -151,18 +151,18 @@ unexpected_reply h = record { kind = close_kind h; says = Line (text_of (Error (
 abbrev pub tries : Here → List Call → List FrameText → Reply → Reply
 tries h cs says good = unless (failing h.fails cs) (λ call. record { kind = Fault call (by_of h); says = says }) good
 
-abbrev pub refuses : List FrameText
-refuses = Line (text_of Failure) ∷ []
+abbrev pub failure_line : List FrameText
+failure_line = Line (text_of Failure) ∷ []
 
 abbrev pub on_lock : Here → List ℕ → Reply
 on_lock h key =
     let locks = h.locks in
-    tries h (to_lock locks (is_here h key) (bar_on h key)) refuses
+    tries h (to_lock locks (is_here h key) (bar_on h key)) failure_line
     (lock_answer h.number (now_of h + hold_time) (by_of h) key locks (is_here h key) (bar_on h key))
 
 abbrev pub on_remove : Here → List ℕ → Reply
 on_remove h key =
-    tries h (to_remove (is_here h key) (bar_on h key) (is_held h key)) refuses
+    tries h (to_remove (is_here h key) (bar_on h key) (is_held h key)) failure_line
     (remove_answer (by_of h) key (is_here h key) (bar_on h key) (is_held h key))
 
 abbrev pub on_remove_before : Here → ℕ → List ℕ → Reply
@@ -170,13 +170,13 @@ on_remove_before h n key = if nat_lt (now_of h) (1000 * n) then on_remove h key 
 
 abbrev pub on_put : Here → List ℕ → Reply
 on_put h key =
-    tries h (to_offer h.part (is_here h key) (h.filled key)) refuses
+    tries h (to_offer h.part (is_here h key) (h.filled key)) failure_line
     (reply (Talk None) (put_answer h.part (is_here h key) (h.filled key)))
 
 -- a request, of a session that waits for one and speaks this version
 abbrev pub on_request : Here → ℕ → Message → Reply
 on_request h v (Version n) = reply (Talk None) (Version (min n h.version))
-on_request h v (CheckPresent key) = tries h (calls.Has ∷ []) refuses (check_answer key (is_here h key) (bar_on h key))
+on_request h v (CheckPresent key) = tries h (calls.Has ∷ []) failure_line (check_answer key (is_here h key) (bar_on h key))
 on_request h v (LockContent key) = on_lock h key
 on_request h v (Remove key) = on_remove h key
 on_request h v (RemoveBefore n key) = if nat_le 3 v then on_remove_before h n key else unexpected_reply h
@@ -192,7 +192,7 @@ on_unlock h hold key k =
     if bytes_eq k key then tries h (calls.Unhold ∷ []) [] (silent_reply (Release hold key)) else unexpected_reply h
 
 abbrev pub on_valid : Here → List ℕ → ℕ → Reply
-on_valid h key size = tries h (to_commit h.right) refuses (valid_answer (by_of h) size key h.right)
+on_valid h key size = tries h (to_commit h.right) failure_line (valid_answer (by_of h) size key h.right)
 
 abbrev pub on_message : Here → ℕ → Doing → Message → Reply
 on_message h v doing (Error text) = shuts (close_kind h)

@@ -8,17 +8,17 @@ use Rattle.run_data.specs.declared.entry.EntryKind.{EntryKind}
 use Rattle.run_data.specs.declared.entry.EntryKind.TheVariants.{Begin, Gain, Share, Bar, Gone, Fault, End, Order, Talk}
 
 -- a job that runs, in one of the four slots of its repository
-pub record Running : Type 0 where
+pub record RunningJob : Type 0 where
   pub number : ℕ
   pub slot : ℕ
   pub what : Job
 
 -- some job runs in the slot
-abbrev pub uses : List Running → ℕ → Bool
+abbrev pub uses : List RunningJob → ℕ → Bool
 uses js slot = list_any (λ j. j.slot == slot) js
 
 -- the least slot in which no job runs
-abbrev pub free_slot : List Running → ℕ
+abbrev pub free_slot : List RunningJob → ℕ
 free_slot js = if not (uses js 0) then 0 else (if not (uses js 1) then 1 else (if not (uses js 2) then 2 else 3))
 
 abbrev pub is_begin : EntryKind → Bool

@@ -20,7 +20,7 @@ use Rattle.node_model.specs.Jobs.{Work, Part, Gets, Puts, Drops, Phase, Fresh, N
 use Rattle.node_model.specs.Look.{Look, Made, first_some, waiting}
 use Rattle.node_model.specs.Knows.{enough_by, next_by}
 use Rattle.node_model.specs.JobStep.{Turn, hears, attempts, clock_of, end_needs, end_with, ends, is_there, key_of, locked_peers, quietly, says_to, talk, turn_of, wrong}
-use Rattle.node_model.specs.DropStep.{takes_drop, denial_outcome, expiry, first_drop, first_end, in_time, lacking, removal_outcome, removes, target}
+use Rattle.node_model.specs.DropStep.{takes_drop, denial_outcome, expiry, first_drop, first_end, in_time, lacking_outcome, removal_outcome, removes, target}
 use Rattle.node_model.specs.Requests.{asks, goes_to}
 use Rattle.node_model.specs.TransferStep.{takes_get, takes_put, first_get, first_put, next_get, next_source, puts_piece, takes_bytes}
 
@@ -34,7 +34,7 @@ first_step t Drops = first_drop t (side_of t.w)
 -- a drop asks its next candidate while it lacks evidence
 abbrev pub judges : Turn → Bool → Option ℕ → Side → Made
 judges t false (Some peer) side = goes_to t peer
-judges t false None side = ends t None (lacking t)
+judges t false None side = ends t None (lacking_outcome t)
 judges t true next Local = removes t
 judges t true next Remote = goes_to t (target t)
 

@@ -1,5 +1,4 @@
-//! What a repository does, as definitions: its state, the one step that it makes next, and the state after an entry. They know
-//! no past and no run.
+//! What a repository does, as definitions that know no past and no run: its state, its next step, and the state after an entry.
 #![tactic(auto)]
 
 mod laws;

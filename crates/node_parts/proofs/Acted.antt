@@ -6,10 +6,10 @@ use Rattle.std.specs.Option.{ForSome, option_map, option_map_or}
 use Rattle.std.proofs.lemmas.Bool.{cases_Bool, true≢false}
 use Rattle.std.proofs.lemmas.List.Elements.{All-weaker}
 use Rattle.std.proofs.lemmas.Option.{same_Some}
+use Rattle.std.proofs.Math.Bool.{and-false, and-true}
 use Rattle.annex_base.specs.Lists.{Each}
 use Rattle.annex_base.specs.Settings.{Settings}
 use Rattle.annex_base.specs.declared.kinds.Call.{Call}
-use Rattle.run_data.specs.declared.entry.By.{By}
 use Rattle.run_data.specs.declared.entry.Entry.{Entry}
 use Rattle.run_data.specs.declared.entry.EntryKind.{EntryKind}
 use Rattle.run_data.specs.declared.entry.EntryKind.TheVariants as kinds
@@ -48,7 +48,7 @@ use Rattle.drop_worker.specs.declared.phase.Phase.TheVariants as phases
 use Rattle.drop_worker.specs.declared.turn.Taken.TheVariants as takens
 use Rattle.drop_worker.specs.Begun.{IsLast, IsOnward}
 use Rattle.drop_worker.specs.Doing.{contents_after}
-use Rattle.drop_worker.specs.States.{Keeps}
+use Rattle.drop_worker.specs.States.{HaveState}
 use Rattle.drop_worker.specs.Working.{end_in, failed_in, frames_of, taken_of}
 use Rattle.node_jobs.specs.declared.acted.Acted.{Acted}
 use Rattle.node_jobs.specs.Acting.{IsKindOf, SeesActed, SeesJobs, StepsJobs, made_by, taken_by, word_at}
@@ -128,21 +128,13 @@ kind_job job kind (inr h) = last_job job kind h
 
 -- ---- the contents after it
 
-and_true : (b : Bool) → (b && true) ≡ b
-and_true true = refl
-and_true false = refl
-
-and_false : (b : Bool) → (b && false) ≡ false
-and_false true = refl
-and_false false = refl
-
 module _ (c : Contents) (s : SetUp) (st : State) (e : Entry) (has : HasContents c st) where
   abbrev After : EntryKind → Contents → Type 0
   After kind now = HasContents now (state_after s st (record e { kind = kind }))
 
   gone_present : (b : Bool) (o : Option (List ℕ)) (was : Bool) → is_some o ≡ was → is_some (if b then None else o) ≡ (was && not b)
-  gone_present true o was is = sym (and_false was)
-  gone_present false o was is = is ∙ sym (and_true was)
+  gone_present true o was is = sym (and-false was)
+  gone_present false o was is = is ∙ sym (and-true was)
 
   gone_content : (b : Bool) (o : Option (List ℕ)) (was : Option ℕ) → option_map length o ≡ was → option_map length (if b then None else o) ≡ (if b then None else was)
   gone_content true o was is = refl
@@ -171,28 +163,6 @@ module _ (c : Contents) (s : SetUp) (st : State) (e : Entry) (has : HasContents 
   job_contents job kind (inl h) = onward_contents job kind h
   job_contents job kind (inr h) = last_contents job kind h
 
--- a store goes on to tell its contents, or not
-told_gone : (known : Option Contents) (source : By) (key : List ℕ) → is_some (contents_after known (kinds.Gone source key)) ≡ is_some known
-told_gone None source key = refl
-told_gone (Some c) source key = refl
-
-onward_told : (known : Option Contents) (job : ℕ) (kind : EntryKind) → IsOnward job kind → is_some (contents_after known kind) ≡ is_some known
-onward_told known job (kinds.Share hold end owner key) h = refl
-onward_told known job (kinds.Bar j need key) h = refl
-onward_told known job (kinds.Order j target deadline need key) h = refl
-onward_told known job (kinds.Gone source key) h = told_gone known source key
-onward_told known job (kinds.Talk j) h = refl
-onward_told known job (kinds.Fault call source) h = refl
-onward_told known job kind h = absurd h
-
-last_told : (known : Option Contents) (job : ℕ) (kind : EntryKind) → IsLast job kind → is_some (contents_after known kind) ≡ is_some known
-last_told known job (kinds.End j outcome) h = refl
-last_told known job kind h = absurd h
-
-pub told_after : (known : Option Contents) (job : ℕ) (kind : EntryKind) → IsOfJob job kind → is_some (contents_after known kind) ≡ is_some known
-told_after known job kind (inl h) = onward_told known job kind h
-told_after known job kind (inr h) = last_told known job kind h
-
 -- ---- a job's step
 
 -- what is made of what a job does
@@ -204,7 +174,7 @@ pub record IsActed (was now : List EndView) (a : Acted) (d : Done) : Type 0 wher
 
 -- what the step of the jobs ensures, over a store with these contents
 abbrev pub StepsThere : PartsView → Jobs → ClockSet → Settings → ℕ → ℕ → Contents → Option Acted → Type 0
-StepsThere was now clock view time number c o = (s : SetUp) (st : State) (k : Look) → SeesJobs was.links clock view was.jobs number time s st k → Keeps was.table c st → SeesActed was.jobs k o → StepsJobs s st k was.links was.jobs now o
+StepsThere was now clock view time number c o = (s : SetUp) (st : State) (k : Look) → SeesJobs was.links clock view was.jobs number time s st k → HaveState was.table c st → SeesActed was.jobs k o → StepsJobs s st k was.links was.jobs now o
 
 -- a look that finds what a step's entry tells, and what its job heard
 pub heard_of : (was : PartsView) (a : Acted) (d : Done) (k : Look) → d.kind ≡ a.kind → IsOfJob a.job a.kind → k.fails ≡ failed_in d.kind → k.words ≡ words_heard was (Some d) → SeesActed was.jobs k (Some a)
@@ -228,7 +198,7 @@ module _ (asked : NamelessAsked) (room_there : RoomThere) (own_entries : OwnEntr
     at = sym sees.time;
   }
 
-  keeps : Keeps was.table c st
+  keeps : HaveState was.table c st
   keeps = record { present = sees.stored.present; bar = sees.parts.bars; holds = sees.parts.holds }
 
   pub steps_none : StepsThere was now.jobs clock view time number c None → now ≡ was → contents ≡ Some c → Steps job_step now contents s st k None
@@ -239,7 +209,7 @@ module _ (asked : NamelessAsked) (room_there : RoomThere) (own_entries : OwnEntr
   }
 
   -- what is so wherever the jobs see such a state is so where the parts do
-  pub where_jobs : (P : Type 0) (o : Option Acted) → SeesActed was.jobs k o → (SeesJobs was.links clock view was.jobs number time s st k → Keeps was.table c st → SeesActed was.jobs k o → P) → P
+  pub where_jobs : (P : Type 0) (o : Option Acted) → SeesActed was.jobs k o → (SeesJobs was.links clock view was.jobs number time s st k → HaveState was.table c st → SeesActed was.jobs k o → P) → P
   where_jobs P o heard there = there (sees_jobs k.room sees.ends.room) keeps heard
 
   module _ (a : Acted) (d : Done) (step : StepsThere was now.jobs clock view time number c (Some a)) (acted : IsActed was.links now.links a d) (kind : IsOfJob a.job a.kind)
@@ -344,7 +314,7 @@ acts_some asked room owns go stay was now clock view time number known contents 
 
 -- what a step of the jobs tells of its calls, over a store with these contents
 abbrev pub CallsThere : PartsView → ClockSet → Settings → ℕ → ℕ → Contents → Option Acted → Option (Call → ℕ) → Option (Call → ℕ) → Type 0
-CallsThere was clock view time number c o before after = (s : SetUp) (st : State) (k : Look) → SeesJobs was.links clock view was.jobs number time s st k → Keeps was.table c st → SeesActed was.jobs k o
+CallsThere was clock view time number c o before after = (s : SetUp) (st : State) (k : Look) → SeesJobs was.links clock view was.jobs number time s st k → HaveState was.table c st → SeesActed was.jobs k o
     → MakesCalls (job_calls s st k) (failed_by_acted o) before after
 
 pub calls_none : NamelessAsked → RoomThere → OwnEntries → EndsGo → SessionsStay → (was now : PartsView) (clock : ClockSet) (view : Settings) (time number : ℕ) (known contents : Option Contents) (before after : Option (Call → ℕ)) → AreSound was
@@ -477,7 +447,7 @@ module _ (p : PartsView) (c : Contents) (clock : ClockSet) (time number : ℕ) (
   session_ready session = first_some (session_step s st k) (job_step s st k) (session sees.parts.ends sees.ends sees.parts.sessions)
 
   pub job_ready : NamelessAsked → (ready : Bool) → (AreEnds p.links s st → SeesEnds p.links s k → AreSessions s st.sessions p.sessions → is_some (session_step s st k) ≡ false)
-      → ((view : Settings) → SeesJobs p.links clock view p.jobs number time s st k → Keeps p.table c st → is_some (job_step s st k) ≡ ready) → is_some (first_of (session_step s st k) (job_step s st k)) ≡ ready
+      → ((view : Settings) → SeesJobs p.links clock view p.jobs number time s st k → HaveState p.table c st → is_some (job_step s st k) ≡ ready) → is_some (first_of (session_step s st k) (job_step s st k)) ≡ ready
   job_ready asked ready session job =
       second_some (session_step s st k) (job_step s st k) (session sees.parts.ends sees.ends sees.parts.sessions)
       ∙ job st.logs (record {

@@ -1,5 +1,5 @@
 -- The parts are those of a state: the first, and after a job has begun, or frames were carried or dropped.
-use Rattle.std.proofs.Common.{◌≡◌, ℕ, ◌*◌, ◌+◌, Bool, true, false, List, [], Option, None, Result, Ok, Err, length, map, refl, sym, ap, subst, ◌∙◌}
+use Rattle.std.proofs.Common.{◌≡◌, ℕ, ◌*◌, ◌+◌, Bool, true, false, List, [], Option, None, Result, Ok, Err, length, refl, sym, ap, subst, ◌∙◌}
 use Rattle.std.specs.Prelude.{All, OnOk, fold, find, replicate, ◌==◌, ◌&&◌, ◌||◌}
 use Rattle.std.proofs.lemmas.List.{length-replicate}
 use Rattle.std.proofs.lemmas.List.Elements.{All-nil}
@@ -9,41 +9,25 @@ use Rattle.run_data.specs.declared.entry.EntryKind.TheVariants.{Begin}
 use Rattle.run_data.specs.declared.entry.FrameView.{FrameView}
 use Rattle.run_data.specs.declared.job.Job.{Job}
 use Rattle.run_data.specs.declared.row.Hold.{Hold}
-use Rattle.run_data.specs.declared.run.RepoView.{RepoView}
 use Rattle.trust_groups.specs.Settings.{settings}
 use Rattle.link_ring.specs.Ends.{EndView, fresh}
 use Rattle.content_lock.specs.Rows.{Rows}
 use Rattle.p2p_server.specs.declared.session.Session.{Session}
-use Rattle.node_model.specs.After.{first_state, read_after, state_after}
-use Rattle.node_model.specs.Ends.{End, EndName, end_sends, end_took, never, sent_at, taken_at}
+use Rattle.node_model.specs.After.{read_after, state_after}
+use Rattle.node_model.specs.Ends.{End, EndName, end_sends, end_took, sent_at, taken_at}
 use Rattle.node_model.specs.Files.{lines_after}
 use Rattle.node_model.specs.Rows.{bar_after, holds_after}
 use Rattle.node_model.specs.Sessions.{new_session, session_after}
 use Rattle.node_model.specs.SetUp.{SetUp}
 use Rattle.node_model.specs.State.{State}
-use Rattle.node_ends.specs.Ends.{AreEnds, end_at}
+use Rattle.node_ends.specs.Ends.{AreEnds}
 use Rattle.node_ends.specs.Going.{AreAfter}
-use Rattle.node_sessions.specs.Sessions.{AreSessions, HaveEnds, IsSetUp, OwnAll, fills_in}
+use Rattle.node_sessions.specs.Sessions.{AreSessions, HaveEnds, OwnAll, fills_in}
 use Rattle.node_jobs.specs.Acting.{with_job}
 use Rattle.node_jobs.specs.Places.{IsPlace, PlaceView}
 use Rattle.node_jobs.specs.Running.{AreWorks, Follows, Jobs, OwnAll as JobsOwn}
 use Rattle.node_parts.specs.Parts.{AreParts, PartsView}
 use Rattle.node_parts.specs.Sound.{AreSound}
-
--- ---- the ends stand as they stood
-
-pub parts_stand : (was : PartsView) (links : List EndView) → length links ≡ length was.links → ((a : EndName) → end_at links a ≡ end_at was.links a) → (s : SetUp) (st : State) → AreParts s st was → AreParts s st (record was { links = links })
-parts_stand was links count stand s st are = record {
-  place = are.place;
-  holds = are.holds;
-  bars = are.bars;
-  ends = record { count = count ∙ are.ends.count; ends = λ a among. are.ends.ends a among ∙ sym (stand a) };
-  each = λ a. are.each a ∙ sym (stand a);
-  sessions = are.sessions;
-  closed = are.closed;
-  works = are.works;
-  logs = are.logs;
-}
 
 -- ---- before the first entry
 
@@ -53,31 +37,9 @@ no_rows = record { holds = []; bars = []; fills = [] }
 abbrev pub no_jobs : ℕ → List (List ℕ) → Jobs
 no_jobs number ids = record { place = record { number = number; ids = ids }; running = []; begun = 0 }
 
-first_parts_of : ((s : SetUp) → AreEnds (replicate (length s.repos * 8) fresh) s (first_state s)) → ((count : ℕ) (a : EndName) → end_at (replicate count fresh) a ≡ never)
-    → (number : ℕ) (ids : List (List ℕ)) (id : List ℕ) (version : ℕ) (locks : Bool) (xs : List Session) (s : SetUp) → IsSetUp s id version locks number (length ids)
-    → map (λ (repo : RepoView). repo.id) s.repos ≡ ids → AreSessions s (λ a. new_session) xs
-    → AreParts s (first_state s) (record { table = record { holds = []; bars = []; fills = [] }; links = replicate (length ids * 8) fresh; sessions = xs; jobs = record { place = record { number = number; ids = ids }; running = []; begun = 0 } })
-first_parts_of ends closed number ids id version locks xs s set_up ids_are sessions = record {
-  place = record { number = set_up.number_is; ids = ids_are };
-  holds = refl;
-  bars = λ key. refl;
-  ends = subst (λ (n : ℕ). AreEnds (replicate (n * 8) fresh) s (first_state s)) set_up.count_is (ends s);
-  each = λ a. sym (closed (length ids * 8) a);
-  sessions = sessions;
-  closed = λ a server shut. refl;
-  works = record { works = refl; begun = refl; read = tt };
-  logs = refl;
-}
-
 -- the parts that these are
 abbrev pub first_view : ℕ → List (List ℕ) → List Session → PartsView
 first_view number ids xs = record { table = no_rows; links = replicate (length ids * 8) fresh; sessions = xs; jobs = no_jobs number ids }
-
-pub first_parts : ((s : SetUp) → AreEnds (replicate (length s.repos * 8) fresh) s (first_state s)) → ((count : ℕ) (a : EndName) → end_at (replicate count fresh) a ≡ never)
-    → (number : ℕ) (ids : List (List ℕ)) (id : List ℕ) (version : ℕ) (locks : Bool) (p : PartsView) (s : SetUp) → IsSetUp s id version locks number (length ids) → map (λ (repo : RepoView). repo.id) s.repos ≡ ids
-    → AreSessions s (λ a. new_session) p.sessions → p.table ≡ no_rows → p.links ≡ replicate (length ids * 8) fresh → p.jobs ≡ no_jobs number ids → AreParts s (first_state s) p
-first_parts ends closed number ids id version locks p s set_up ids_are sessions t l j =
-    subst (AreParts s (first_state s)) (sym (λ i. record { table = t i; links = l i; sessions = p.sessions; jobs = j i })) (first_parts_of ends closed number ids id version locks p.sessions s set_up ids_are sessions)
 
 first_sound_of : (number : ℕ) (ids : List (List ℕ)) (xs : List Session) → ((rows : Rows) → All (λ h. h.kept ≡ true) rows.holds → OwnAll rows xs) → ((key : List ℕ) → fills_in xs key ≡ false)
     → ((links : List EndView) → length links ≡ length ids * 8 → HaveEnds links xs) → AreSound (first_view number ids xs)

@@ -2,6 +2,7 @@
 use Rattle.std.proofs.Common.{◌≡◌, inl, inr, ℕ, suc, Bool, true, false, if◌then◌else◌, List, [], ◌∷◌, Option, Some, None, map, refl, sym, ap, subst, ◌∙◌, true≢false}
 use Rattle.std.specs.Prelude.{◌==◌, find, slice_get}
 use Rattle.std.specs.Option.{ForSome, option_map}
+use Rattle.std.proofs.lemmas.Bool.{and_parts, eqb-true}
 use Rattle.annex_base.specs.Lists.{Member}
 use Rattle.annex_base.specs.declared.kinds.EntryStamp.{EntryStamp}
 use Rattle.annex_base.proofs.Conditions.{eqb_refl}
@@ -29,7 +30,6 @@ use Rattle.node_parts.specs.declared.moment.Moment.{Moment}
 use Rattle.node_parts.specs.Parts.{PartsView}
 use Rattle.node_parts.specs.Posting.{PostsOnly, PostsPieces, answer_at, stamp_of}
 use Rattle.node_parts.specs.Steps.{made_of}
-use Rattle.node_parts.proofs.Posting.{both, same_number}
 use Rattle.node_parts.proofs.Posts.{posts_at}
 
 -- ---- the session that serves
@@ -67,8 +67,8 @@ found_in peer slot (x ∷ xs) among = go (acts_for peer slot x) refl among (λ l
 -- its end is the one that serves
 end_acts : (peer slot : ℕ) (x : Session) → acts_for peer slot x ≡ true → end_of x ≡ server_end peer slot
 end_acts peer slot x acts =
-    let p = both ((place_of x).peer == peer) ((place_of x).slot == slot) acts in
-    ap (λ (n : ℕ). server_end n (place_of x).slot) (same_number (place_of x).peer peer p.0) ∙ ap (λ (n : ℕ). server_end peer n) (same_number (place_of x).slot slot p.1)
+    let p = and_parts ((place_of x).peer == peer) ((place_of x).slot == slot) acts in
+    ap (λ (n : ℕ). server_end n (place_of x).slot) (eqb-true (place_of x).peer peer p.0) ∙ ap (λ (n : ℕ). server_end peer n) (eqb-true (place_of x).slot slot p.1)
 
 -- ---- the pieces
 

@@ -2,8 +2,7 @@
 use Rattle.std.proofs.Common.{◌≡◌, ◌≢◌, ◌⊎◌, inl, inr, ℕ, ◌<◌, ◌*◌, ◌+◌, Bool, true, false, ◌&&◌, if◌then◌else◌, List, [], ◌∷◌, ◌++◌, Option, Some, None, is_some, length, refl, sym, ap, subst, ◌∙◌, arith, append-nil, append_assoc}
 use Rattle.std.specs.Prelude.{◌==◌, ◌^◌, ◌-◌, nat_le, nat_lt, slice_get}
 use Rattle.std.specs.Option.{ForSome, option_to_list}
-use Rattle.std.proofs.lemmas.Bool.{cases_Bool, true≢false}
-use Rattle.std.proofs.lemmas.Bool.Decides.{nat_tests}
+use Rattle.std.proofs.lemmas.Bool.{and_parts, cases_Bool, eqb-true, true≢false}
 use Rattle.std.proofs.lemmas.List.Elements.{filter-append}
 use Rattle.std.proofs.lemmas.Option.{slice_get_within}
 use Rattle.annex_base.specs.declared.kinds.EntryStamp.{EntryStamp}
@@ -36,10 +35,6 @@ pub record Permits : Type 0 where
   pub closing : (links : List EndView) (a : EndName) → (end_at links a).opened ≡ true → may_send links a texts.Closing ≡ true
 
 -- ---- the end that sends a frame
-
-pub both : (b c : Bool) → (b && c) ≡ true → (b ≡ true) × (c ≡ true)
-both true c is = (refl, is)
-both false c is = absurd (true≢false (sym is))
 
 pub same_bool_refl : (b : Bool) → same_bool b b ≡ true
 same_bool_refl true = refl
@@ -184,13 +179,10 @@ room_after_take was now a f other room may state = go (link_at was a) (link_at n
     go None w had has is = absurd (true≢false (sym had))
     go (Some v) None had has is = absurd (true≢false (sym has))
     go (Some v) (Some w) had has is =
-        let places = both (nat_le 2 (free w)) (nat_lt (w.sent + 1) (2 ^ 62)) has in
-        let numbers = both (nat_lt (v.sent + 1) (2 ^ 62)) (nat_lt v.epoch (2 ^ 32 - 1)) (both (nat_le 2 (free v)) (nat_lt (v.sent + 1) (2 ^ 62) && nat_lt v.epoch (2 ^ 32 - 1)) had).1 in
+        let places = and_parts (nat_le 2 (free w)) (nat_lt (w.sent + 1) (2 ^ 62)) has in
+        let numbers = and_parts (nat_lt (v.sent + 1) (2 ^ 62)) (nat_lt v.epoch (2 ^ 32 - 1)) (and_parts (nat_le 2 (free v)) (nat_lt (v.sent + 1) (2 ^ 62) && nat_lt v.epoch (2 ^ 32 - 1)) had).1 in
         let epoch : w.epoch ≡ v.epoch = ap (λ (c : End). c.epoch) is ∙ same_epoch (stands v) f.epoch f.body other in
         all_three (nat_le 2 (free w)) (nat_lt (w.sent + 1) (2 ^ 62)) (nat_lt w.epoch (2 ^ 32 - 1)) places.0 places.1 (ap (λ (n : ℕ). nat_lt n (2 ^ 32 - 1)) epoch ∙ numbers.1)
-
-pub same_number : (m n : ℕ) → (m == n) ≡ true → m ≡ n
-same_number m n is = grind (arith, nat_tests)
 
 pub same_bool_is : (b c : Bool) → same_bool b c ≡ true → b ≡ c
 same_bool_is true c is = sym is
@@ -203,10 +195,10 @@ name_test p q = (p.peer == q.peer) && ((p.slot == q.slot) && same_bool p.client 
 pub same_or_other : (p q : EndName) → (p ≡ q) ⊎ (p ≢ q)
 same_or_other p q = elim (cases_Bool (name_test p q)) [
   | inl is ↦
-      let first = both (p.peer == q.peer) ((p.slot == q.slot) && same_bool p.client q.client) is in
-      let next = both (p.slot == q.slot) (same_bool p.client q.client) first.1 in
-      let peer = same_number p.peer q.peer first.0 in
-      let slot = same_number p.slot q.slot next.0 in
+      let first = and_parts (p.peer == q.peer) ((p.slot == q.slot) && same_bool p.client q.client) is in
+      let next = and_parts (p.slot == q.slot) (same_bool p.client q.client) first.1 in
+      let peer = eqb-true p.peer q.peer first.0 in
+      let slot = eqb-true p.slot q.slot next.0 in
       let client = same_bool_is p.client q.client next.1 in
       inl (λ i. record { peer = peer i; slot = slot i; client = client i })
   | inr other ↦ inr (λ same. true≢false (sym (all_three (p.peer == p.peer) (p.slot == p.slot) (same_bool p.client p.client) (eqb_refl p.peer) (eqb_refl p.slot) (same_bool_refl p.client)) ∙ (ap (name_test p) same ∙ other)))
@@ -221,9 +213,6 @@ taken_posted was now a f had may state others after = record {
     | inr other ↦ ap (passes has_room) (others b other) ∙ room
   ];
 }
-
-pub none_posted : (was : List EndView) → AreAfter was was None [] → IsPosted was None was []
-none_posted was after = record { after = after; room = λ quiet b room none. room }
 
 -- ---- all parcels
 

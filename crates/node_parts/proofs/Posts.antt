@@ -2,14 +2,14 @@
 use Rattle.std.proofs.Common.{◌≡◌, ◌≢◌, inl, inr, ℕ, Bool, true, false, if◌then◌else◌, List, [], ◌∷◌, ◌++◌, Option, Some, None, is_some, length, map, refl, sym, ap, subst, ◌∙◌, append-nil}
 use Rattle.std.specs.Prelude.{◌==◌, ◌&&◌, not}
 use Rattle.std.specs.Option.{ForSome, option_map, option_to_list}
-use Rattle.std.proofs.lemmas.Bool.{cases_Bool}
+use Rattle.std.proofs.lemmas.Bool.{and_parts, cases_Bool, eqb-true}
 use Rattle.std.proofs.lemmas.List.{map-append}
 use Rattle.std.proofs.lemmas.List.Elements.{filter-append}
 use Rattle.std.proofs.lemmas.List.Sums.{fold-append}
 use Rattle.annex_base.specs.Lists.{Member}
 use Rattle.annex_base.specs.declared.kinds.EntryStamp.{EntryStamp}
 use Rattle.annex_base.specs.declared.kinds.Word.{Word}
-use Rattle.annex_base.proofs.Conditions.{eqb_refl}
+use Rattle.annex_base.proofs.Conditions.{eqb_refl, if_not}
 use Rattle.annex_base.proofs.Lists.{Member-append_cases, cons_first}
 use Rattle.annex_base.proofs.Options.{where_some}
 use Rattle.run_data.specs.declared.entry.EntryKind.{EntryKind}
@@ -29,7 +29,7 @@ use Rattle.node_sessions.specs.Words.{word_to}
 use Rattle.node_parts.specs.declared.done.Done.{Done}
 use Rattle.node_parts.specs.declared.moment.Moment.{Moment}
 use Rattle.node_parts.specs.Posting.{Answer, PostsNothing, PostsOn, PostsOnly, after_step, stamp_of, taken_off, word_with}
-use Rattle.node_parts.proofs.Posting.{both, frame_end, same_bool_is, same_number, same_or_other, sends_its}
+use Rattle.node_parts.proofs.Posting.{frame_end, same_bool_is, same_or_other, sends_its}
 
 -- ---- the word
 
@@ -53,17 +53,12 @@ same_name a b peer slot client = λ i. record { peer = peer i; slot = slot i; cl
 -- a frame is sent at the end of one name alone
 sends_only : (a b : EndName) (f : FrameView) → sends_at a f ≡ true → sends_at b f ≡ true → b ≡ a
 sends_only a b f here there =
-    let p = both ((f.peer == a.peer) && (f.slot == a.slot)) (same_bool f.up a.client) here in
-    let q = both (f.peer == a.peer) (f.slot == a.slot) p.0 in
-    let r = both ((f.peer == b.peer) && (f.slot == b.slot)) (same_bool f.up b.client) there in
-    let s = both (f.peer == b.peer) (f.slot == b.slot) r.0 in
-    same_name b a (sym (same_number f.peer b.peer s.0) ∙ same_number f.peer a.peer q.0) (sym (same_number f.slot b.slot s.1) ∙ same_number f.slot a.slot q.1)
+    let p = and_parts ((f.peer == a.peer) && (f.slot == a.slot)) (same_bool f.up a.client) here in
+    let q = and_parts (f.peer == a.peer) (f.slot == a.slot) p.0 in
+    let r = and_parts ((f.peer == b.peer) && (f.slot == b.slot)) (same_bool f.up b.client) there in
+    let s = and_parts (f.peer == b.peer) (f.slot == b.slot) r.0 in
+    same_name b a (sym (eqb-true f.peer b.peer s.0) ∙ eqb-true f.peer a.peer q.0) (sym (eqb-true f.slot b.slot s.1) ∙ eqb-true f.slot a.slot q.1)
     (sym (same_bool_is f.up b.client r.1) ∙ same_bool_is f.up a.client p.1)
-
--- and taken so
-up_again : (c : Bool) → (if not c then false else true) ≡ c
-up_again true = refl
-up_again false = refl
 
 takes_its : (a : EndName) (frame : Frame) → takes_at a (frame_at a frame) ≡ true
 takes_its a frame = rw (eqb_refl a.peer, eqb_refl a.slot) (go a.client)
@@ -74,9 +69,9 @@ takes_its a frame = rw (eqb_refl a.peer, eqb_refl a.slot) (go a.client)
 
 takes_only : (a b : EndName) (frame : Frame) → takes_at b (frame_at a frame) ≡ true → b ≡ a
 takes_only a b frame there =
-    let r = both ((a.peer == b.peer) && (a.slot == b.slot)) (same_bool b.client (if not a.client then false else true)) there in
-    let s = both (a.peer == b.peer) (a.slot == b.slot) r.0 in
-    same_name b a (sym (same_number a.peer b.peer s.0)) (sym (same_number a.slot b.slot s.1)) (same_bool_is b.client (if not a.client then false else true) r.1 ∙ up_again a.client)
+    let r = and_parts ((a.peer == b.peer) && (a.slot == b.slot)) (same_bool b.client (if not a.client then false else true)) there in
+    let s = and_parts (a.peer == b.peer) (a.slot == b.slot) r.0 in
+    same_name b a (sym (eqb-true a.peer b.peer s.0)) (sym (eqb-true a.slot b.slot s.1)) (same_bool_is b.client (if not a.client then false else true) r.1 ∙ if_not a.client)
 
 -- ---- what is taken
 

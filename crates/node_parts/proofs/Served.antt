@@ -1,6 +1,6 @@
 -- What the sessions serve is the step of the parts.
 use Rattle.std.proofs.Common.{◌≡◌, ℕ, ◌<◌, ◌+◌, Bool, false, List, [], ◌∷◌, Option, Some, None, map, refl, sym, ap, subst, ◌∙◌}
-use Rattle.std.specs.Prelude.{◌&&◌, ◌||◌, All, IfSome, bytes_eq, fold}
+use Rattle.std.specs.Prelude.{◌&&◌, ◌||◌, All, bytes_eq, fold}
 use Rattle.std.specs.List.{list_any}
 use Rattle.std.specs.Option.{ForSome, option_map}
 use Rattle.std.proofs.lemmas.Option.{same_Some}
@@ -200,9 +200,6 @@ failed_same links None None same = refl
 failed_same links None (Some d) same = absurd (some_none (made_of d) same)
 failed_same links (Some v) None same = absurd (some_none (made_by links v) (sym same))
 failed_same links (Some v) (Some d) same = same_failure d.kind ∙ ap failed_here (kind_same links v d same)
-
-pub cause_of : (links : List EndView) (o : Option Served) (d : Option Done) → option_map made_of d ≡ option_map (made_by links) o → (R : Type 0) → IfSome (failed_by_served o) (λ call. R) → IfSome (failed_by d) (λ call. R)
-cause_of links o d same R cause = subst (λ (f : Option Call). IfSome f (λ call. R)) (sym (failed_same links o d same)) cause
 
 -- what is so wherever the sessions see such a state and look is so where the parts do
 where_served : FillsLaw → (was : PartsView) (known : Option Contents) (parts : Option StoredParts) (clock : ClockSet) (time number : ℕ) (o : Option Served) (d : Option Done) → AreSound was → option_map made_of d ≡ option_map (made_by was.links) o

@@ -1,5 +1,6 @@
 //! The moving parts of a repository.
-ghost use Rattle.std.specs.Prelude.{◌≡◌, ℕ, ◌≤◌, ◌<◌, ◌+◌, ◌-◌, ◌*◌, ◌^◌, List, [], true, All, None, Some, IfOk, IfSome, IsErrOf, OnErr, OnOk, is_some, length, map, nat_lt, replicate, slice_get};
+ghost use Rattle.std.specs.Prelude.{◌≡◌, ℕ, ◌≤◌, ◌<◌, ◌+◌, ◌-◌, ◌*◌, ◌^◌, List, [], true, false, All, None, Some, IfOk, IfSome, IsErrOf, OnErr, OnOk, is_some, length, map, nat_lt, replicate, slice_get};
+ghost use Rattle.std.specs.List.{list_any};
 ghost use Rattle.std.specs.Option.{ForSome, option_map};
 ghost use Rattle.annex_base.specs.Causes.{Rose};
 ghost use Rattle.run_data.specs.declared.entry.Entry.{Entry};
@@ -7,7 +8,7 @@ ghost use Rattle.run_data.specs.declared.entry.EntryKind.TheVariants.{Begin};
 ghost use Rattle.run_data.specs.declared.run.RepoView.{RepoView};
 ghost use Rattle.object_store.specs.Stores.{AreSmallParts, Parts as StoredParts};
 ghost use Rattle.content_lock.specs.Stored.{Agrees};
-ghost use Rattle.link_ring.specs.Ends.{after_drop, fresh};
+ghost use Rattle.link_ring.specs.Ends.{after_drop, fresh, has_frames};
 ghost use Rattle.node_model.specs.After.{first_state, state_after};
 ghost use Rattle.node_model.specs.SetUp.{SetUp};
 ghost use Rattle.node_model.specs.State.{State};
@@ -136,6 +137,14 @@ impl Parts {
         ends_go_on();
         sessions_stay();
         self.jobs.begin(alloc, what)
+    }
+
+    /// Whether a frame is at hand at one of the ends. Where none is, `drop_old` changes nothing.
+    pub fn have_frames(&self) -> bool
+        ensures any { result ≡ list_any has_frames self.now.links }
+        ensures kept { result ≡ false → map after_drop self.now.links ≡ self.now.links }
+    {
+        self.ends.have_frames()
     }
 
     /// Drops, at each end, the frames that are never taken.

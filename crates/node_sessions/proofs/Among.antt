@@ -3,11 +3,9 @@ use Rattle.std.proofs.Common.{◌≡◌, ℕ, Bool, true, List, Option, Some, sy
 use Rattle.std.specs.Prelude.{is_some, slice_get}
 use Rattle.std.specs.Option.{ForSome, option_map_or}
 use Rattle.annex_base.specs.Lists.{Member}
-use Rattle.run_data.specs.declared.entry.By.{By}
 use Rattle.object_store.specs.Stores.{Contents, Parts}
 use Rattle.object_store.specs.declared.keeper.HoldRecord.{HoldRecord}
 use Rattle.content_lock.specs.Rows.{Rows, bar_at}
-use Rattle.content_lock.specs.Tokens.{Owns, ShareView}
 use Rattle.link_ring.specs.Ends.{EndView}
 use Rattle.node_model.specs.Ends.{EndName, server_end}
 use Rattle.node_model.specs.Look.{Look}
@@ -22,7 +20,7 @@ use Rattle.node_sessions.specs.declared.served.Served.{Served}
 use Rattle.node_sessions.specs.Moments.{ServesAmong}
 use Rattle.node_sessions.specs.Pieces.{PieceBy}
 use Rattle.node_sessions.specs.Serving.{JudgedBy, Sees, StepsSo, server_in, end_by, taken_by}
-use Rattle.node_sessions.specs.Sessions.{AreFilled, FedAll, HaveEnds, IsOther, LeavesPartsOf, OwnAll, end_of, connection_of}
+use Rattle.node_sessions.specs.Sessions.{AreFilled, FedAll, HaveEnds, LeavesPartsOf, OwnAll, end_of, connection_of}
 use Rattle.node_sessions.specs.Stored.{bytes_at, contents_left, parts_after_taken, parts_left}
 use Rattle.node_sessions.proofs.Listing.{Every-set, map_set}
 use Rattle.node_sessions.proofs.Pieces.{piece_by}
@@ -54,10 +52,6 @@ among_there links clock number at xs xs' rows rows' contents contents' parts par
     subst (HaveEnds ends) (sym a.left)
     (Every-set (λ (x : Session). is_some (link_at ends (end_of x)) ≡ true) xs at a.now
     (subst (λ (p : Place). is_some (link_at ends (server_end p.peer p.slot)) ≡ true) (sym a.serves.place) (there at a.was a.here)) (λ k y ne aty. there k y aty))
-
-pub among_others : (links : List EndView) (clock number at : ℕ) (xs xs' : List Session) (rows rows' : Rows) (contents contents' : Option Contents) (parts parts' : Option Parts) (records records' : Option (List HoldRecord)) (faults faults' : ℕ) (v : Served)
-    → ServesAmong links clock number at xs xs' rows rows' contents contents' parts parts' records records' faults faults' v → (by : By) (share : Option ShareView) → IsOther by xs → Owns by share rows.holds → Owns by share rows'.holds
-among_others links clock number at xs xs' rows rows' contents contents' parts parts' records records' faults faults' v a by share other own = a.serves.others by share (other at a.was a.here) own
 
 pub among_filled : (links : List EndView) (clock number at : ℕ) (xs xs' : List Session) (rows rows' : Rows) (contents contents' : Option Contents) (parts parts' : Option Parts) (records records' : Option (List HoldRecord)) (faults faults' : ℕ) (v : Served)
     → ServesAmong links clock number at xs xs' rows rows' contents contents' parts parts' records records' faults faults' v → OwnAll rows xs → (others : List ℕ → Bool) → AreFilled rows xs others → AreFilled rows' xs' others

@@ -39,7 +39,7 @@ use Rattle.p2p_server.specs.declared.step.Step.{Step}
 use Rattle.p2p_server.specs.Answers.{closes, owner_at, says}
 use Rattle.p2p_server.specs.Bounds.{IsReply, IsReplyIf}
 use Rattle.p2p_server.specs.Giving.{is_giving, reply_more, session_sent}
-use Rattle.p2p_server.specs.States.{Keeps, Stand, stand_after}
+use Rattle.p2p_server.specs.States.{HaveRows, Stand, stand_after}
 use Rattle.p2p_server.specs.Talking.{AreAfterStep, FillsSo, IsJudgedOf, SaysSo, SeesSize, doing_of, parts_after, parts_after_valid, share_in}
 use Rattle.node_sessions.specs.declared.served.Served.{Served}
 use Rattle.node_sessions.specs.Moments.{LeavesParts}
@@ -116,7 +116,7 @@ says_so law a c step short = go step.reply short
 
 -- ---- what is seen
 
-pub sees_size : (rows : Rows) (known : Option Contents) (stand : Stand) → Keeps rows known stand → (i : Incoming) → SeesSize known i stand.content
+pub sees_size : (rows : Rows) (known : Option Contents) (stand : Stand) → HaveRows rows known stand → (i : Incoming) → SeesSize known i stand.content
 sees_size rows known stand keeps i = subst (λ (o : Option Contents). SeesSize o i stand.content) (sym keeps.told) (go i)
   where
     go : (j : Incoming) → SeesSize (Some keeps.contents) j stand.content
@@ -161,7 +161,7 @@ pub record KeepsContents (kind : EntryKind) : Type 0 where
   pub present : (key : List ℕ) (b : Bool) → present_after key b kind ≡ b
   pub content : (key : List ℕ) (o : Option ℕ) → content_after key o kind ≡ o
 
-pub keeps_on : (kind : EntryKind) (was now : Rows) (known : Option Contents) (stand : Stand) → KeepsContents kind → AreAfterStep kind was now → Keeps was known stand → Keeps now known (stand_after kind stand)
+pub keeps_on : (kind : EntryKind) (was now : Rows) (known : Option Contents) (stand : Stand) → KeepsContents kind → AreAfterStep kind was now → HaveRows was known stand → HaveRows now known (stand_after kind stand)
 keeps_on kind was now known stand same after keeps = record {
   contents = keeps.contents;
   told = keeps.told;

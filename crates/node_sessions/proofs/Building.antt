@@ -3,8 +3,8 @@ use Rattle.std.proofs.Common.{◌≡◌, ◌≢◌, ◌⊎◌, inl, inr, ℕ, ze
 use Rattle.std.specs.Prelude.{slice_get, ◌&&◌, ◌==◌, if◌then◌else◌, flat_map, is_some, length}
 use Rattle.std.specs.List.{range_with_len}
 use Rattle.std.proofs.lemmas.Grind.{flat_map-append}
-use Rattle.std.proofs.lemmas.Bool.Decides.{nat_tests}
 use Rattle.std.proofs.lemmas.List.Elements.{All-head, All-tail, filter-append}
+use Rattle.std.proofs.lemmas.Bool.{eqb-true}
 use Rattle.annex_base.specs.Lists.{Each}
 use Rattle.annex_base.proofs.Lists.{Each-append, Each-push, Each-weaker}
 use Rattle.annex_base.proofs.Numbers.{range_suc}
@@ -57,12 +57,9 @@ EveryTwo-push {X} R xs x all new = λ j k y z ne aty atz. go j k y z ne (push_ca
 
 -- ---- ranks
 
-same_number : (a b : ℕ) → (a == b) ≡ true → a ≡ b
-same_number a b e = grind (arith, nat_tests)
-
 pairs_differ : (p s q t : ℕ) → s < 4 → t < 4 → p * 4 + s ≢ q * 4 + t → ((p == q) && (s == t)) ≡ false
 pairs_differ p s q t sl tl ne =
-    both_no (p == q) (s == t) (λ e f. ne (ap (λ (x : ℕ). x * 4 + s) (same_number p q e) ∙ ap (λ (x : ℕ). q * 4 + x) (same_number s t f)))
+    both_no (p == q) (s == t) (λ e f. ne (ap (λ (x : ℕ). x * 4 + s) (eqb-true p q e) ∙ ap (λ (x : ℕ). q * 4 + x) (eqb-true s t f)))
 
 pub built_push : (id : List ℕ) (version : ℕ) (locks : Bool) (n : ℕ) (xs : List Session) (x : Session) → AreBuilt id version locks n xs → rank x ≡ n → IsNew id version locks x → AreBuilt id version locks (n + 1) (xs ++ x ∷ [])
 built_push id version locks n xs x b is new =
@@ -79,13 +76,6 @@ built_push id version locks n xs x b is new =
   where
     apart_at : (a m : ℕ) → a < m → a ≡ m → ⊥
     apart_at a m l e = omega (arith, l, e)
-
-pub built_more : (id : List ℕ) (version : ℕ) (locks : Bool) (n m : ℕ) (xs : List Session) → n ≤ m → AreBuilt id version locks n xs → AreBuilt id version locks m xs
-built_more id version locks n m xs more b = record {
-  below = Each-weaker (λ (y : Session). rank y < n) (λ (y : Session). rank y < m) (λ y l. omega (arith, l, more)) xs b.below;
-  new = b.new;
-  apart = b.apart;
-}
 
 -- ---- places
 

@@ -20,10 +20,6 @@ not_both true true e p q = true≢false e
 not_both true false e p q = true≢false (sym q)
 not_both false b e p q = true≢false (sym p)
 
-pub is_no : (a : Bool) → (a ≡ true → ⊥) → a ≡ false
-is_no true h = absurd (h refl)
-is_no false h = refl
-
 -- ---- the fill that a session has
 
 pub fills_told : (rows : Rows) (d : Doing) → HasFill rows d → (key : List ℕ) → sessions.is_filling key (doing_of d) ≡ true → is_filling rows key ≡ true

@@ -3,6 +3,7 @@ use Rattle.std.proofs.Common.{◌≡◌, ◌≢◌, ℕ, zero, suc, ◌<◌, Boo
 use Rattle.std.specs.Prelude.{slice_get, ◌||◌, ◌&&◌, if◌then◌else◌, is_some, length}
 use Rattle.std.specs.List.{list_any}
 use Rattle.std.proofs.lemmas.Option.{slice_get_within}
+use Rattle.std.proofs.lemmas.Bool.{false_from_ne_true}
 use Rattle.annex_base.specs.Lists.{Member}
 use Rattle.annex_base.proofs.Lists.{slice_get-left}
 use Rattle.run_data.specs.declared.entry.By.{By}
@@ -13,7 +14,6 @@ use Rattle.object_store.specs.Stores.{Parts}
 use Rattle.object_store.specs.declared.keeper.HoldRecord.{HoldRecord}
 use Rattle.content_lock.specs.Rows.{Rows, is_filling}
 use Rattle.content_lock.specs.Stored.{Agrees}
-use Rattle.content_lock.specs.Tokens.{Owns, ShareView}
 use Rattle.link_ring.specs.Ends.{EndView}
 use Rattle.node_model.specs.Ends.{End, frames, server_end}
 use Rattle.node_model.specs.Rows.{keep_of, restart, same_owner}
@@ -27,8 +27,8 @@ use Rattle.p2p_server.specs.Stepping.{LeavesOthers}
 use Rattle.p2p_server.specs.Talking.{AreAfterStep, FillsSo, IsFedOf, place_of, session_of, share_of}
 use Rattle.node_sessions.specs.Built.{AreLeft, ClosesAmong}
 use Rattle.node_sessions.specs.Serving.{closing_made, sessions_after}
-use Rattle.node_sessions.specs.Sessions.{AreFilled, AreSessions, Differ, FedAll, HaveEnds, IsOther, OwnAll, connection_of, end_of, fills_in, owner_of, session_fills}
-use Rattle.node_sessions.proofs.Filling.{is_no, not_both, stays_filled}
+use Rattle.node_sessions.specs.Sessions.{AreFilled, AreSessions, Differ, FedAll, HaveEnds, OwnAll, connection_of, end_of, fills_in, owner_of, session_fills}
+use Rattle.node_sessions.proofs.Filling.{not_both, stays_filled}
 use Rattle.node_sessions.proofs.Listing.{Every-set, any_at, any_none, map_set}
 use Rattle.node_sessions.proofs.Standing.{StepsAt, filled_set, own_set}
 use Rattle.node_sessions.proofs.Stepping.{next_made}
@@ -81,9 +81,9 @@ left_key ys x rows rows' key o own e f = go (session_fills key x) refl
     go : (b : Bool) → session_fills key x ≡ b → FilledIn (is_filling rows' key) (fills_in ys key) o
     go true is =
         let has : fills_in (ys ++ x ∷ []) key ≡ true = any_at (session_fills key) (ys ++ x ∷ []) (length ys) x (last_at ys x) is in
-        let other : o ≡ false = is_no o (λ q. not_both (fills_in (ys ++ x ∷ []) key) o f.apart has q) in
+        let other : o ≡ false = false_from_ne_true o (λ q. not_both (fills_in (ys ++ x ∷ []) key) o f.apart has q) in
         let none : fills_in ys key ≡ false = any_none (session_fills key) ys
-        (λ k y at. is_no (session_fills key y) (λ q. not_both (session_fills key x) (session_fills key y)
+        (λ k y at. false_from_ne_true (session_fills key y) (λ q. not_both (session_fills key x) (session_fills key y)
         ((own.apart (length ys) k x y (ne_last ys k y at) (last_at ys x) (slice_get-left ys (x ∷ []) k y at)).fills key) is q)) in record {
           filled = e.filled.after key ∙ rw (is, none, other) refl;
           apart = rw none refl;
@@ -155,12 +155,6 @@ closes_there at xs xs' rows rows' a ends there =
 
 pub closes_fed : (at : ℕ) (xs xs' : List Session) (rows rows' : Rows) → ClosesAmong at xs xs' rows rows' → (p : Parts) → FedAll p xs → FedAll p xs'
 closes_fed at xs xs' rows rows' a p fed = subst (FedAll p) (sym a.left) (Every-set (IsFedOf p) xs at a.now (a.closed.fed p) (λ k y ne aty. fed k y aty))
-
-pub closes_others : (at : ℕ) (xs xs' : List Session) (rows rows' : Rows) → ClosesAmong at xs xs' rows rows' → (by : By) (share : Option ShareView) → IsOther by xs → Owns by share rows.holds → Owns by share rows'.holds
-closes_others at xs xs' rows rows' a by share other own = a.closed.others by share (other at a.was a.here) own
-
-pub closes_after : (at : ℕ) (xs xs' : List Session) (rows rows' : Rows) (peer slot : ℕ) → (a : ClosesAmong at xs xs' rows rows') → connection_of a.was ≡ (peer, slot) → AreAfterStep (Close peer slot false) rows rows'
-closes_after at xs xs' rows rows' peer slot a is = subst (λ (c : ℕ × ℕ). AreAfterStep (Close c.0 c.1 false) rows rows') is a.closed.after
 
 pub closes_sessions : (at : ℕ) (xs xs' : List Session) (rows rows' : Rows) (peer slot : ℕ) → (a : ClosesAmong at xs xs' rows rows') → connection_of a.was ≡ (peer, slot) → OwnAll rows xs
     → (s : SetUp) (st : State) (c : End) → AreSessions s st.sessions xs → AreSessions s (sessions_after st (Some (closing_made peer slot c))) xs'

@@ -11,11 +11,6 @@ set_here [] i x within = absurd (omega (arith, within))
 set_here (y ∷ ys) zero x within = refl
 set_here (y ∷ ys) (suc i) x within = set_here ys i x (omega arith)
 
-pub at_within : {X : Type 0} (xs : List X) (i : ℕ) → i < length xs → (x : X) × (slice_get xs i ≡ Some x)
-at_within [] i within = absurd (omega (arith, within))
-at_within (y ∷ ys) zero within = (y, refl)
-at_within (y ∷ ys) (suc i) within = at_within ys i (omega arith)
-
 -- an element of a list where one was put is that one, or stands elsewhere
 pub set_cases : {X : Type 0} (xs : List X) (i k : ℕ) (x y : X) → slice_get (set xs i x) k ≡ Some y → ((k ≡ i) × (y ≡ x)) ⊎ ((k ≢ i) × (slice_get xs k ≡ Some y))
 set_cases [] i k x y at = absurd cc

@@ -19,7 +19,7 @@ use Rattle.node_model.specs.Ends.{End, EndName, end_takes, server_end}
 use Rattle.node_model.specs.Look.{Look, Made, failing, first_of, first_some, unless, waiting}
 use Rattle.node_model.specs.Sessions as sessions
 use Rattle.node_model.specs.Sessions.{reaches}
-use Rattle.node_model.specs.SessionStep.{Here, Reply, bar_on, by_of, bytes_left, check_answer, close_kind, content_of, gives_made, gives_next, here, is_held, is_here, lock_answer, now_of, on_bytes, on_frame, on_message, on_piece, on_put, on_remove, on_remove_before, on_request, on_text, on_unlock, on_valid, put_answer, refuses, remove_answer, reply, reply_made, session_at, session_makes, session_step, shuts, silent_reply, tries, unexpected_reply, valid_answer}
+use Rattle.node_model.specs.SessionStep.{Here, Reply, bar_on, by_of, bytes_left, check_answer, close_kind, content_of, gives_made, gives_next, here, is_held, is_here, lock_answer, now_of, on_bytes, on_frame, on_message, on_piece, on_put, on_remove, on_remove_before, on_request, on_text, on_unlock, on_valid, put_answer, failure_line, remove_answer, reply, reply_made, session_at, session_makes, session_step, shuts, silent_reply, tries, unexpected_reply, valid_answer}
 use Rattle.node_model.specs.SetUp.{SetUp, served_connections}
 use Rattle.node_model.specs.State.{State}
 use Rattle.node_sessions.specs.Kinds.{IsOfSession}
@@ -101,7 +101,7 @@ verdict_own h size key false = tt
 
 remove_own : (h : Here) (key : List ℕ) → Own (on_remove h key)
 remove_own h key =
-    tries_own h (to_remove (is_here h key) (bar_on h key) (is_held h key)) refuses (remove_answer (by_of h) key (is_here h key) (bar_on h key) (is_held h key))
+    tries_own h (to_remove (is_here h key) (bar_on h key) (is_held h key)) failure_line (remove_answer (by_of h) key (is_here h key) (bar_on h key) (is_held h key))
     (no_remove (is_here h key) (bar_on h key) (is_held h key)) (removal_own h key (is_here h key) (bar_on h key) (is_held h key))
 
 -- what has a condition is its own where both sides are
@@ -113,15 +113,15 @@ before_own h n key b late own = if_either Own b (on_remove h key) late (λ e. re
 
 put_own : (h : Here) (key : List ℕ) → Own (on_put h key)
 put_own h key =
-    tries_own h (to_offer h.part (is_here h key) (h.filled key)) refuses (reply (Talk None) (put_answer h.part (is_here h key) (h.filled key)))
+    tries_own h (to_offer h.part (is_here h key) (h.filled key)) failure_line (reply (Talk None) (put_answer h.part (is_here h key) (h.filled key)))
     (no_offer h.part (is_here h key) (h.filled key)) tt
 
 request_own : (h : Here) (v : ℕ) (m : Message) → Own (on_request h v m)
 request_own h v (messages.Version n) = tt
 request_own h v (messages.CheckPresent key) =
-    tries_own h (calls.Has ∷ []) refuses (check_answer key (is_here h key) (bar_on h key)) refl (check_own key (is_here h key) (bar_on h key))
+    tries_own h (calls.Has ∷ []) failure_line (check_answer key (is_here h key) (bar_on h key)) refl (check_own key (is_here h key) (bar_on h key))
 request_own h v (messages.LockContent key) =
-    tries_own h (to_lock h.locks (is_here h key) (bar_on h key)) refuses (lock_answer h.number (now_of h + hold_time) (by_of h) key h.locks (is_here h key) (bar_on h key))
+    tries_own h (to_lock h.locks (is_here h key) (bar_on h key)) failure_line (lock_answer h.number (now_of h + hold_time) (by_of h) key h.locks (is_here h key) (bar_on h key))
     (no_lock h.locks (is_here h key) (bar_on h key)) (lock_own h key h.locks (is_here h key) (bar_on h key))
 request_own h v (messages.Remove key) = remove_own h key
 request_own h v (messages.RemoveBefore n key) =
@@ -138,7 +138,7 @@ unlock_own h hold key k =
     or_closes h (bytes_eq k key) (tries h (calls.Unhold ∷ []) [] (silent_reply (Release hold key))) (tries_own h (calls.Unhold ∷ []) [] (silent_reply (Release hold key)) refl tt)
 
 valid_own : (h : Here) (key : List ℕ) (size : ℕ) → Own (on_valid h key size)
-valid_own h key size = tries_own h (to_commit h.right) refuses (valid_answer (by_of h) size key h.right) (no_commit h.right) (verdict_own h size key h.right)
+valid_own h key size = tries_own h (to_commit h.right) failure_line (valid_answer (by_of h) size key h.right) (no_commit h.right) (verdict_own h size key h.right)
 
 message_own : (h : Here) (v : ℕ) (doing : sessions.Doing) (m : Message) → Own (on_message h v doing m)
 message_own h v doing (messages.Error text) = tt

@@ -36,7 +36,7 @@ use Rattle.p2p_server.specs.Answers.{LeavesContents, contents_after, failed_in, 
 use Rattle.p2p_server.specs.Bounds.{IsKind, IsReplyIf}
 use Rattle.p2p_server.specs.Giving.{IsPieceOf, failed_more, reply_more, session_sent}
 use Rattle.p2p_server.specs.SessionCalls.{calls_frame, calls_next}
-use Rattle.p2p_server.specs.States.{IsScene, Keeps, Stand, stand_after, stand_of}
+use Rattle.p2p_server.specs.States.{IsScene, HaveRows, Stand, stand_after, stand_of}
 use Rattle.p2p_server.specs.Stepping.{LeavesOthers, moment_of}
 use Rattle.p2p_server.specs.Talking.{AreAfterStep, Brings, FillsSo, HasFillOf, IsFedOf, IsJudgedOf, SaysSo, SeesPartOf, SeesSize, parts_after_of, place_of, session_of, share_of}
 use Rattle.node_sessions.specs.declared.served.Served.{Served}
@@ -146,10 +146,10 @@ hung_up_makes links clock number was rows frame contents parts records faults fa
 -- ---- the answer to another frame
 
 pub record TookSo (clock number : ℕ) (i : Incoming) (was now : Session) (rows rows' : Rows) (contents contents' : Option Contents) (parts parts' : Option Parts) (records' : Option (List HoldRecord)) (faults faults' : ℕ) (x : Step) : Type 0 where
-  pub step : (s : SetUp) (st : State) (k : Look) (a : EndName) (body : FrameText) → IsScene (record { place = place_of was; clock = clock; number = number }) s st k a → Keeps rows contents (stand_of st)
+  pub step : (s : SetUp) (st : State) (k : Look) (a : EndName) (body : FrameText) → IsScene (record { place = place_of was; clock = clock; number = number }) s st k a → HaveRows rows contents (stand_of st)
       → ((key : List ℕ) → is_filled s st key ≡ is_filling rows key) → st.sessions a ≡ session_of was → Brings body i → SeesPartOf parts was i k.part k.right → k.fails ≡ failed_in x.kind
       → reply_of x ≡ on_frame (here s st k a) (st.sessions a) body
-  pub keeps : (stand : Stand) (part : ℕ) (right : Bool) → Keeps rows contents stand → SeesPartOf parts was i part right → Keeps rows' contents' (stand_after x.kind stand)
+  pub keeps : (stand : Stand) (part : ℕ) (right : Bool) → HaveRows rows contents stand → SeesPartOf parts was i part right → HaveRows rows' contents' (stand_after x.kind stand)
   pub after : AreAfterStep x.kind rows rows'
   pub bars : (key : List ℕ) → bar_at rows' key ≡ bar_at rows key
   pub kind : IsKind number x.kind
@@ -251,13 +251,13 @@ replies law links clock number i frame was now rows rows' contents contents' par
           next = t.next st.content (made_by links v).sent (frame_at (end_of was) frame) brings (said _) (sees_size rows contents (stand_of st) sees.keeps i)
               ∙ ap (λ (kind : EntryKind). session_after st.content kind (session_of was) (made_by links v).sent (Some (frame_at (end_of was) frame))) (sym y.kind)
               ∙ ap (λ (o : Option FrameView). session_after st.content v.kind (session_of was) (made_by links v).sent o) (sym took);
-          keeps = subst (λ (kind : EntryKind). Keeps rows' contents' (stand_after kind (stand_of st))) (sym y.kind) (t.keeps (stand_of st) k.part k.right sees.keeps part);
+          keeps = subst (λ (kind : EntryKind). HaveRows rows' contents' (stand_after kind (stand_of st))) (sym y.kind) (t.keeps (stand_of st) k.part k.right sees.keeps part);
         }
 
 -- and it makes the calls of the answer
 pub replies_make : (links : List EndView) (clock number : ℕ) (i : Incoming) (frame : Frame) (was : Session) (rows : Rows) (contents : Option Contents) (parts : Option Parts) (records : Option (List HoldRecord)) (faults : ℕ) (before after : Option (Call → ℕ)) (x : Step) (p : Place) (v : Served)
     → Brings (text_in frame.body) i → WaitsAt links was frame → p ≡ place_of was → AnsweredSo p i x v
-    → ((s : SetUp) (st : State) (k : Look) (a : EndName) (body : FrameText) → IsScene (record { place = place_of was; clock = clock; number = number }) s st k a → Keeps rows contents (stand_of st)
+    → ((s : SetUp) (st : State) (k : Look) (a : EndName) (body : FrameText) → IsScene (record { place = place_of was; clock = clock; number = number }) s st k a → HaveRows rows contents (stand_of st)
     → ((key : List ℕ) → is_filled s st key ≡ is_filling rows key) → st.sessions a ≡ session_of was → Brings body i → SeesPartOf parts was i k.part k.right → k.fails ≡ failed_in x.kind
     → MakesCalls (calls_frame (here s st k a) (st.sessions a) body) k.fails before after)
     → after ≡ option_map (fewer (failed_in x.kind)) before → MakesSo links clock number (moment_of was rows contents parts records faults) v before after
@@ -370,7 +370,7 @@ gives_so links clock number was now rows contents contents' parts parts' records
       made = gives_made_so links v (end_of was) (reply_by v) (here s st k (end_of was)) (st.sessions (end_of was)) refl end w.none w.opened took refl
           (t.step s st k (end_of was) sees.keeps.contents refl sees.keeps.told sees.keeps.content sees.session (sees.fails ∙ y.fails) ∙ said);
       next = t.next ∙ given_next (place_of was) m v st.content (session_of was) (end_by v) _ said ∙ ap (λ (o : Option FrameView). session_after st.content v.kind (session_of was) (made_by links v).sent o) (sym took);
-      keeps = subst (λ (o : Option Contents). Keeps rows o (stand_after v.kind (stand_of st))) (sym t.same_contents) (keeps_on v.kind rows rows contents (stand_of st) so.0 so.1 sees.keeps);
+      keeps = subst (λ (o : Option Contents). HaveRows rows o (stand_after v.kind (stand_of st))) (sym t.same_contents) (keeps_on v.kind rows rows contents (stand_of st) so.0 so.1 sees.keeps);
     }
 
 -- and it makes the call of a piece

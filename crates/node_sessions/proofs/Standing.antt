@@ -4,6 +4,7 @@ use Rattle.std.specs.Prelude.{◌&&◌, ◌||◌, slice_get}
 use Rattle.std.specs.Option.{ForSome}
 use Rattle.std.proofs.Math.ListN.{set}
 use Rattle.std.proofs.lemmas.Option.{slice_get_within}
+use Rattle.std.proofs.lemmas.Bool.{false_from_ne_true}
 use Rattle.annex_base.proofs.Conditions.{eqb_refl}
 use Rattle.run_data.specs.declared.entry.By.{By}
 use Rattle.run_data.specs.declared.entry.By.TheVariants.{Peer}
@@ -20,7 +21,7 @@ use Rattle.node_sessions.specs.declared.served.Served.{Served}
 use Rattle.node_sessions.specs.Moments.{LeavesParts}
 use Rattle.node_sessions.specs.Serving.{end_by, server_in}
 use Rattle.node_sessions.specs.Sessions.{AreFilled, Differ, EveryTwo, FedAll, LeavesPartsOf, OwnAll, end_of, fills_in, owner_of, session_fills}
-use Rattle.node_sessions.proofs.Filling.{both_no, fills_told, is_no, new_was_free, not_both, stays_filled}
+use Rattle.node_sessions.proofs.Filling.{both_no, fills_told, new_was_free, not_both, stays_filled}
 use Rattle.node_sessions.proofs.Listing.{EveryTwo-set, Every-set, any_at, any_none, any_set_same, find_one, none_any, set_here}
 
 -- one session's step over a table
@@ -105,8 +106,8 @@ filled_key xs i was now rows rows' key o at apart h f = go (session_fills key no
     go false new true old =
         let none : fills_in (set xs i now) key ≡ false = any_none (session_fills key) (set xs i now)
         (Every-set (λ (x : Session). session_fills key x ≡ false) xs i now new
-        (λ k y ne aty. is_no (session_fills key y) (λ is. not_both (session_fills key was) (session_fills key y) ((apart i k was y (λ e. ne (sym e)) at aty).fills key) old is))) in
-        let other : o ≡ false = is_no o (λ q. not_both (fills_in xs key) o f.apart (has old) q) in record {
+        (λ k y ne aty. false_from_ne_true (session_fills key y) (λ is. not_both (session_fills key was) (session_fills key y) ((apart i k was y (λ e. ne (sym e)) at aty).fills key) old is))) in
+        let other : o ≡ false = false_from_ne_true o (λ q. not_both (fills_in xs key) o f.apart (has old) q) in record {
           filled = h.after key ∙ rw (new, old, none, other) refl;
           apart = rw none refl;
         }
@@ -142,7 +143,7 @@ pub fed_set : FedStays → (xs : List Session) (i : ℕ) (was now : Session) (kn
 fed_set law xs i was now known known' at apart left fed = λ p is all p' is'.
     Every-set (IsFedOf p') xs i now (fed p is (all i was at) p' is')
     (λ k y ne aty. law y p p' (λ key fills. left.same p is p' is' key
-    (is_no (session_fills key was) (λ old. not_both (session_fills key was) (session_fills key y) ((apart i k was y (λ e. ne (sym e)) at aty).fills key) old fills)))
+    (false_from_ne_true (session_fills key was) (λ old. not_both (session_fills key was) (session_fills key y) ((apart i k was y (λ e. ne (sym e)) at aty).fills key) old fills)))
     (all k y aty))
 
 -- ---- the session that served

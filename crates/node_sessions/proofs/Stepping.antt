@@ -2,6 +2,7 @@
 use Rattle.std.proofs.Common.{◌≡◌, ◌≢◌, ℕ, ◌<◌, Bool, true, false, List, [], Option, Some, None, refl, sym, ap, subst, ◌∙◌}
 use Rattle.std.specs.Prelude.{is_some, slice_get, ◌&&◌, ◌==◌, if◌then◌else◌}
 use Rattle.std.proofs.Math.ListN.{set}
+use Rattle.annex_base.proofs.Lists.{slice_get-within}
 use Rattle.run_data.specs.declared.entry.EntryKind.{EntryKind}
 use Rattle.run_data.specs.declared.entry.FrameText.{FrameText}
 use Rattle.run_data.specs.declared.entry.FrameView.{FrameView}
@@ -28,7 +29,7 @@ use Rattle.node_sessions.specs.declared.turn.First.{First}
 use Rattle.node_sessions.specs.declared.turn.Turn.{Turn}
 use Rattle.node_sessions.specs.Turns.{IsFirst, IsFirstAt, turn_at}
 use Rattle.node_sessions.proofs.Framing.{sent_else, sent_mine, taken_else, taken_mine, waits_form}
-use Rattle.node_sessions.proofs.Listing.{Every-set, at_within, first_at, first_is, first_none, map_set}
+use Rattle.node_sessions.proofs.Listing.{Every-set, first_at, first_is, first_none, map_set}
 use Rattle.node_sessions.proofs.Standing.{server_is}
 use Rattle.node_sessions.proofs.Turning.{FramesWait, busy_at, end_among, idle_at, step_at}
 
@@ -66,7 +67,7 @@ busy_step law links xs s st k there sees i x turn at is =
 some_made : FramesWait → (links : List EndView) (xs : List Session) (s : SetUp) (st : State) (k : Look) (first : First)
     → HaveEnds links xs → IsFirstAt links xs first → SeesSessions links xs s st k → is_some (session_step s st k) ≡ true
 some_made law links xs s st k first there is sees =
-    let w = at_within xs first.at is.within in
+    let w = slice_get-within xs first.at is.within in
     ap (λ (cs : List (ℕ × ℕ)). is_some (first_some (λ c. session_at s st k (server_end c.0 c.1)) cs)) (sym sees.sessions.connections)
     ∙ first_is (λ c. session_at s st k (server_end c.0 c.1)) connection_of xs first.at (w.0) (w.1) (busy_step law links xs s st k there sees first.at (w.0) first.turn (w.1) (is.here (w.0) (w.1)))
 

@@ -18,7 +18,7 @@ use Rattle.p2p_server.specs.declared.session.Session.{Session}
 use Rattle.p2p_server.specs.Giving.{is_giving}
 use Rattle.p2p_server.specs.Talking.{session_of}
 use Rattle.node_sessions.specs.declared.turn.Turn.{Turn}
-use Rattle.node_sessions.specs.declared.turn.Turn.TheVariants.{Takes, Gives}
+use Rattle.node_sessions.specs.declared.turn.Turn.TheVariants.{Gives}
 use Rattle.node_sessions.specs.Moments.{GivesAt}
 use Rattle.node_sessions.specs.Sessions.{connection_of, end_of}
 use Rattle.node_sessions.specs.Turns.{turn_at, turn_with}
@@ -133,11 +133,6 @@ busy_at h links x turn e =
     let t = has_turn links x turn e in
     ap (λ (b : Bool). is_some (makes_if b (session_makes h (end_at links (end_of x)) (session_of x) (wait_at links (end_of x))))) t.room
     ∙ busy_makes h (end_at links (end_of x)) (session_of x) (wait_at links (end_of x)) turn t.with
-
-pub takes_waits : (o : Option FrameView) (b : Bool) → turn_with o b ≡ Some Takes → is_some o ≡ true
-takes_waits (Some f) b e = refl
-takes_waits None true e = absurd cc
-takes_waits None false e = absurd cc
 
 gives_none : (o : Option FrameView) (a b : Bool) → turn_with o (a && b) ≡ Some Gives → (o ≡ None) × (a ≡ true) × (b ≡ true)
 gives_none (Some f) a b e = absurd cc

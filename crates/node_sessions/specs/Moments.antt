@@ -24,7 +24,7 @@ use Rattle.p2p_server.specs.declared.session.Session.{Session}
 use Rattle.p2p_server.specs.Answers.{contents_after, failed_in}
 use Rattle.p2p_server.specs.Bounds.{IsKind}
 use Rattle.p2p_server.specs.Giving.{is_giving}
-use Rattle.p2p_server.specs.States.{IsScene, Keeps, stand_after, stand_of}
+use Rattle.p2p_server.specs.States.{IsScene, HaveRows, stand_after, stand_of}
 use Rattle.p2p_server.specs.Stepping.{LeavesOthers, Moment, moment_of}
 use Rattle.p2p_server.specs.Talking.{AreAfterStep, FillsSo, HasFillOf, IsFedOf, IsJudgedOf, place_of, session_of, share_of}
 use Rattle.node_sessions.specs.declared.served.Served.{Served}
@@ -37,7 +37,7 @@ use Rattle.node_sessions.specs.Stored.{bytes_at, parts_after_taken}
 -- what the session reads is so in the state, at the look
 pub record SeesOne (links : List EndView) (clock number : ℕ) (was : Moment) (v : Served) (s : SetUp) (st : State) (k : Look) : Type 0 where
   pub scene : IsScene (record { place = place_of was.session; clock = clock; number = number }) s st k (end_of was.session)
-  pub keeps : Keeps was.rows was.contents (stand_of st)
+  pub keeps : HaveRows was.rows was.contents (stand_of st)
   pub filled : (key : List ℕ) → is_filled s st key ≡ is_filling was.rows key
   pub session : st.sessions (end_of was.session) ≡ session_of was.session
   pub part : SeesPartAt was.parts (Some was.session) (taken_by links v) k.part k.right
@@ -72,7 +72,7 @@ pub record LeavesParts (doing : sessions.Doing) (known known' : Option Parts) : 
 pub record Makes (links : List EndView) (was now : Moment) (v : Served) (s : SetUp) (st : State) (k : Look) : Type 0 where
   pub made : session_makes (here s st k (end_of was.session)) (end_at links (end_of was.session)) (st.sessions (end_of was.session)) (wait_at links (end_of was.session)) ≡ Some (made_by links v)
   pub next : session_of now.session ≡ session_after st.content v.kind (session_of was.session) (made_by links v).sent (taken_by links v)
-  pub keeps : Keeps now.rows now.contents (stand_after v.kind (stand_of st))
+  pub keeps : HaveRows now.rows now.contents (stand_after v.kind (stand_of st))
 
 -- this is served, from one moment to the next
 pub record Serves (links : List EndView) (clock number : ℕ) (was now : Moment) (v : Served) : Type 0 where

@@ -24,7 +24,7 @@ use Rattle.node_ends.specs.Ends.{AreEnds, SeesEnds, end_at, room_at, wait_at}
 use Rattle.node_ends.specs.Sent.{text_of_sending}
 use Rattle.p2p_server.specs.declared.session.Session.{Session}
 use Rattle.p2p_server.specs.Answers.{closes, failed_in}
-use Rattle.p2p_server.specs.States.{Keeps, Stand, stand_after, stand_of}
+use Rattle.p2p_server.specs.States.{HaveRows, Stand, stand_after, stand_of}
 use Rattle.p2p_server.specs.Talking.{AreAfterStep, Brings, IsJudgedOf, SeesPartOf}
 use Rattle.node_sessions.specs.declared.served.Served.{Served}
 use Rattle.node_sessions.specs.Sessions.{AreSessions, owner_of}
@@ -120,7 +120,7 @@ pub record Sees (links : List EndView) (rows : Rows) (contents : Option Contents
   pub ends : AreEnds links s st
   pub look : SeesEnds links s k
   pub sessions : AreSessions s st.sessions xs
-  pub keeps : Keeps rows contents (stand_of st)
+  pub keeps : HaveRows rows contents (stand_of st)
   pub filled : (key : List ℕ) → is_filled s st key ≡ is_filling rows key
   pub time : st.clock k.time ≡ clock
   pub made : st.made + 1 ≡ number
@@ -145,4 +145,4 @@ closing_made peer slot c = record { kind = Close peer slot false; taken = None; 
 pub record StepsSo (links : List EndView) (o : Option Served) (xs : List Session) (rows : Rows) (contents : Option Contents) (s : SetUp) (st : State) (k : Look) : Type 0 where
   pub made : session_step s st k ≡ option_map (made_by links) o
   pub next : AreSessions s (sessions_after st (option_map (made_by links) o)) xs
-  pub keeps : Keeps rows contents (stand_by o (stand_of st))
+  pub keeps : HaveRows rows contents (stand_by o (stand_of st))

@@ -1,5 +1,4 @@
-//! Drops by messages, whose journals are known. With `rt try --test --fail-alloc N` each test refuses its Nth allocation, and has the
-//! same journal.
+//! Drops by messages, whose journals are known; each is the same whichever allocation `rt try --test --fail-alloc N` refuses.
 use crate::journals::{
     EXPIRED, FAILED_REMOVAL, HELD_UNTIL_THE_LOCK_IS_BACK, LACKING_ALONE, RACE, THREE_REPOSITORIES,
     TRUSTED_CLAIM, UNTRUSTED_AND_DEAD,

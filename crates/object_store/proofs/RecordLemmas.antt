@@ -12,8 +12,9 @@ use Rattle.std.proofs.lemmas.Bool.{eqb-true, lt-ltb, ltb-true}
 use Rattle.std.proofs.lemmas.List.Kept.{AllPairs-cons}
 use Rattle.std.proofs.lemmas.Map.Keys.{sorted_head, sorted_tail}
 use Rattle.annex_base.specs.Lists.{Each}
-use Rattle.annex_base.proofs.Conditions.{by_test}
+use Rattle.annex_base.proofs.Conditions.{by_test, eqb_less}
 use Rattle.annex_base.proofs.Lists.{All-from_Each, Each-weaker, filter_all}
+use Rattle.annex_base.proofs.Numbers.{less_by_nat_cmp}
 use Rattle.object_store.specs.HoldList.{record_of, records_of}
 use Rattle.object_store.specs.Stores.{with_record, without_record, AreDistinct, AreFalling}
 use Rattle.object_store.specs.declared.hold.Hold.{Hold}
@@ -39,20 +40,9 @@ put_records (e ∷ es) k h =
       | false ↦ same (e.0.0 == k.0) refl
     ]
 
-less : (a b : ℕ) → nat_cmp a b ≡ Less → a < b
-less a b h = go (nat_lt a b) (a == b) refl h
-  where
-    go : (c d : Bool) → nat_lt a b ≡ c → cond c Less (cond d Equal Greater) ≡ Less → a < b
-    go true d t h = ltb-true a b t
-    go false true t h = absurd (cc)
-    go false false t h = absurd (cc)
-
-differs : (a n : ℕ) → a < n → (a == n) ≡ false
-differs a n h = by_test (a == n) (λ t. absurd (omega (arith, eqb-true a n t, h))) (λ f. f)
-
 eq_test : (a n : ℕ) → is_eq (nat_cmp a n) ≡ (a == n)
 eq_test a n = by_test (nat_lt a n)
-    (λ t. ap (λ b. is_eq (cond b Less (cond (a == n) Equal Greater))) t ∙ sym (differs a n (ltb-true a n t)))
+    (λ t. ap (λ b. is_eq (cond b Less (cond (a == n) Equal Greater))) t ∙ sym (eqb_less a n (ltb-true a n t)))
     (λ f. ap (λ b. is_eq (cond b Less (cond (a == n) Equal Greater))) f ∙ tied (a == n))
   where
     tied : (b : Bool) → is_eq (cond b Equal Greater) ≡ b
@@ -61,7 +51,7 @@ eq_test a n = by_test (nat_lt a n)
 
 below : (n : ℕ) (es : List (Reverse ℕ × Hold)) → AllByRecursion (λ y. nat_cmp y.0 n ≡ Less) (keys_of es) → Each (λ r. r.number < n) (records_of es)
 below n [] a = tt
-below n (e ∷ es) a = (less e.0.0 n a.0, below n es a.1)
+below n (e ∷ es) a = (less_by_nat_cmp e.0.0 n a.0, below n es a.1)
 
 pub removed : (es : List (Reverse ℕ × Hold)) (n : ℕ) → IsStrictlySortedBy (λ x y. nat_cmp y.0 x.0) (keys_of es) → records_of (remove_entry (λ k. is_eq (nat_cmp k.0 n)) es) ≡ without_record (records_of es) n
 removed [] n s = refl
@@ -70,7 +60,7 @@ removed (e ∷ es) n s =
     let rest = remove_entry (λ (k : Reverse ℕ). is_eq (nat_cmp k.0 n)) es in
     let low : Each (λ r. r.number < e.0.0) (records_of es) = below e.0.0 es (sorted_head (λ x y. nat_cmp y.0 x.0) e.0 (keys_of es) s) in
     let step : (b : Bool) → (e.0.0 == n) ≡ b → records_of (cond b es (e ∷ rest)) ≡ (if not b then record_of e ∷ filter p (records_of es) else filter p (records_of es)) = λ b. elim b as (λ b. (e.0.0 == n) ≡ b → records_of (cond b es (e ∷ rest)) ≡ (if not b then record_of e ∷ filter p (records_of es) else filter p (records_of es))) [
-      | true ↦ λ t. sym (filter_all p (records_of es) (Each-weaker (λ r. r.number < e.0.0) (λ r. p r ≡ true) (λ r h. ap not (differs r.number n (omega (arith, h, eqb-true e.0.0 n t)))) (records_of es) low))
+      | true ↦ λ t. sym (filter_all p (records_of es) (Each-weaker (λ r. r.number < e.0.0) (λ r. p r ≡ true) (λ r h. ap not (eqb_less r.number n (omega (arith, h, eqb-true e.0.0 n t)))) (records_of es) low))
       | false ↦ λ f. ap (λ l. record_of e ∷ l) (removed es n (sorted_tail (λ x y. nat_cmp y.0 x.0) e.0 (keys_of es) s))
     ] in
     ap (λ b. records_of (cond b es (e ∷ rest))) (eq_test e.0.0 n) ∙ step (e.0.0 == n) refl

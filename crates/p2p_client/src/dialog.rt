@@ -233,6 +233,7 @@ impl Dialog {
         ensures awaited { self.new ≡ awaited_after request }
         ensures memory { IsOk result }
     {
+        // For the proof: the message of the request has a line.
         is_sent(&request);
         self.awaited = awaited_after(&request);
         Ok(message_for(alloc, request))

@@ -1,9 +1,10 @@
 -- An answer tells a failed call exactly where that is one of its calls, and what isn't expected makes none.
-use Rattle.std.proofs.Common.{◌≡◌, ◌≢◌, ℕ, Bool, true, false, List, [], ◌∷◌, Option, Some, None, refl, sym, ap, ◌+◌, ◌∙◌, arith}
+use Rattle.std.proofs.Common.{◌≡◌, ◌≢◌, ℕ, Bool, true, false, List, [], ◌∷◌, Option, Some, None, refl, sym, ap, ◌+◌, ◌∙◌}
 use Rattle.std.specs.List.{list_any}
 use Rattle.std.specs.Prelude.{◌/◌, ◌||◌, length, nat_le, nat_lt, ◌*◌, ◌&&◌, ◌==◌, if◌then◌else◌, bytes_eq}
 use Rattle.annex_base.specs.Calls.{call_number, same_call}
 use Rattle.annex_base.specs.declared.kinds.Call.{Call}
+use Rattle.annex_base.proofs.Conditions.{eqb_refl}
 use Rattle.annex_base.specs.declared.kinds.Call.TheVariants as calls
 use Rattle.run_data.specs.declared.entry.By.{By}
 use Rattle.run_data.specs.declared.entry.FrameText.{FrameText}
@@ -16,7 +17,7 @@ use Rattle.node_model.specs.Calls.{to_commit, to_lock, to_offer}
 use Rattle.node_model.specs.Clocks.{hold_time}
 use Rattle.node_model.specs.Look.{failing, unless}
 use Rattle.node_model.specs.Sessions as sessions
-use Rattle.node_model.specs.SessionStep.{Here, Reply, bar_on, by_of, check_answer, is_held, is_here, lock_answer, now_of, on_bytes, on_frame, on_lock, on_message, on_remove, on_remove_before, on_request, on_text, on_valid, refuses, remove_answer, reply, tries, unexpected_reply, valid_answer}
+use Rattle.node_model.specs.SessionStep.{Here, Reply, bar_on, by_of, check_answer, is_held, is_here, lock_answer, now_of, on_bytes, on_frame, on_lock, on_message, on_remove, on_remove_before, on_request, on_text, on_valid, failure_line, remove_answer, reply, tries, unexpected_reply, valid_answer}
 use Rattle.p2p_server.specs.declared.incoming.Incoming.{Incoming}
 use Rattle.p2p_server.specs.declared.incoming.Incoming.TheVariants as incoming
 use Rattle.p2p_server.specs.Answers.{failed_in}
@@ -66,15 +67,15 @@ if_told true fails cs good bad g n = g
 if_told false fails cs good bad g n = n ∙ no_calls fails
 
 remove_told : (h : Here) (key : List ℕ) → fault_in (on_remove h key) ≡ failing h.fails (to_remove_here h key)
-remove_told h key = tries_told h (to_remove_here h key) refuses _ (remove_well (by_of h) key (is_here h key) (bar_on h key) (is_held h key))
+remove_told h key = tries_told h (to_remove_here h key) failure_line _ (remove_well (by_of h) key (is_here h key) (bar_on h key) (is_held h key))
 
 both : (b c : Bool) (cs : List Call) → (if b && c then cs else []) ≡ (if b then (if c then cs else []) else [])
 both true c cs = refl
 both false c cs = refl
 
 request_told : (h : Here) (v : ℕ) (m : Message) → fault_in (on_request h v m) ≡ failing h.fails (calls_request h v m)
-request_told h v (messages.CheckPresent key) = tries_told h (calls.Has ∷ []) refuses _ (check_well key (is_here h key) (bar_on h key))
-request_told h v (messages.LockContent key) = tries_told h _ refuses _ (lock_well h.number (now_of h + hold_time) (by_of h) key h.locks (is_here h key) (bar_on h key))
+request_told h v (messages.CheckPresent key) = tries_told h (calls.Has ∷ []) failure_line _ (check_well key (is_here h key) (bar_on h key))
+request_told h v (messages.LockContent key) = tries_told h _ failure_line _ (lock_well h.number (now_of h + hold_time) (by_of h) key h.locks (is_here h key) (bar_on h key))
 request_told h v (messages.Remove key) = remove_told h key
 request_told h v (messages.RemoveBefore n key) =
     if_told (nat_le 3 v) h.fails _ (on_remove_before h n key) (unexpected_reply h) (if_told (nat_lt (now_of h) (1000 * n)) h.fails _ (on_remove h key) _ (remove_told h key) refl) refl
@@ -85,14 +86,14 @@ request_told h v messages.GetTimestamp = go (nat_le 3 v) ∙ no_calls h.fails
     go true = refl
     go false = refl
 request_told h v (messages.Get n file key) = if_told (nat_le 1 v) h.fails _ _ (unexpected_reply h) (tries_told h (calls.Size ∷ []) (frames.Closing ∷ []) _ refl) refl
-request_told h v (messages.Put file key) = if_told (nat_le 1 v) h.fails _ _ (unexpected_reply h) (tries_told h _ refuses _ refl) refl
+request_told h v (messages.Put file key) = if_told (nat_le 1 v) h.fails _ _ (unexpected_reply h) (tries_told h _ failure_line _ refl) refl
 request_told h v m = no_calls h.fails
 
 message_told : (h : Here) (v : ℕ) (doing : sessions.Doing) (m : Message) → fault_in (on_message h v doing m) ≡ failing h.fails (calls_message h v doing m)
 message_told h v doing (messages.Error text) = no_calls h.fails
 message_told h v sessions.Waits m = request_told h v m
 message_told h v (sessions.Guards hold key) (messages.UnlockContent k) = if_told (bytes_eq k key) h.fails _ _ (unexpected_reply h) (tries_told h (calls.Unhold ∷ []) [] _ refl) refl
-message_told h v (sessions.Took key size) messages.Valid = tries_told h (to_commit h.right) refuses _ (valid_well (by_of h) size key h.right)
+message_told h v (sessions.Took key size) messages.Valid = tries_told h (to_commit h.right) failure_line _ (valid_well (by_of h) size key h.right)
 message_told h v sessions.Gave messages.Success = no_calls h.fails
 message_told h v sessions.Gave messages.Failure = no_calls h.fails
 message_told h v (sessions.Wants key size) (messages.Data n) = no_calls h.fails
@@ -122,13 +123,10 @@ heard_told h was (incoming.Bytes bytes) = bytes_told h (length bytes.items) was.
 heard_told h was incoming.Bad = no_calls h.fails
 heard_told h was (incoming.Message m) = text_told h was (Some m)
 
-same_self : (n : ℕ) → (n == n) ≡ true
-same_self n = grind arith
-
 -- of a list of which no call can fail there is none
 empty : (cs : List Call) → ((call : Call) → None ≡ failing (Some call) cs) → cs ≡ []
 empty [] none = refl
-empty (call ∷ cs) none = absurd (some (call_number call == call_number call) (same_self (call_number call)) (none call))
+empty (call ∷ cs) none = absurd (some (call_number call == call_number call) (eqb_refl (call_number call)) (none call))
   where
     some : (b : Bool) → b ≡ true → None ≡ (if b || list_any (same_call call) cs then Some call else None) → ⊥
     some true e is = cc

@@ -1,46 +1,17 @@
 -- Calls of a store that were made, one after the other.
-use Rattle.std.proofs.Common.{◌≡◌, ℕ, ◌-◌, Bool, true, false, List, [], ◌∷◌, Option, Some, None, refl, sym, ap, ◌∙◌, subst, arith}
-use Rattle.std.specs.Prelude.{nat_lt, ◌==◌, if◌then◌else◌, Result, Ok, Err}
+use Rattle.std.proofs.Common.{◌≡◌, ℕ, ◌-◌, Bool, true, false, List, [], ◌∷◌, Option, Some, None, refl, sym, ◌∙◌, subst, arith}
+use Rattle.std.specs.Prelude.{nat_lt, if◌then◌else◌, Result, Ok, Err}
 use Rattle.std.specs.Option.{ForSome, option_map}
 use Rattle.std.specs.Result.{IsErrAnd, IsErrOf}
-use Rattle.annex_base.specs.Calls.{call_number, same_call}
+use Rattle.annex_base.specs.Calls.{same_call}
 use Rattle.annex_base.specs.declared.kinds.Call.{Call}
 use Rattle.annex_base.specs.declared.kinds.Call.TheVariants as calls
+use Rattle.annex_base.proofs.Calls.{same_call-is}
 use Rattle.object_store.specs.Calls.{FailsAsTold, has_failed, one_fewer}
 use Rattle.object_store.specs.declared.keeper.KeeperFault.{KeeperFault}
 use Rattle.object_store.specs.declared.keeper.KeeperFault.TheVariants as faults
 use Rattle.content_lock.specs.Turns.{FailInTurn, Turn}
 use Rattle.content_lock.specs.CallsMade.{MakesCalls, fewer}
-
--- ---- a call is known by its number
-
-abbrev call_at : ℕ → Call
-call_at n =
-    if n == 0 then calls.Has else (if n == 1 then calls.Size else (if n == 2 then calls.Read else (if n == 3 then calls.PartSize else (if n == 4 then calls.ReadPart else
-    (if n == 5 then calls.Append else (if n == 6 then calls.Commit else (if n == 7 then calls.DropPart else (if n == 8 then calls.Remove else (if n == 9 then calls.Hold else
-    (if n == 10 then calls.Unhold else (if n == 11 then calls.Holds else (if n == 12 then calls.PutFile else calls.File))))))))))))
-
-found : (call : Call) → call_at (call_number call) ≡ call
-found calls.Has = refl
-found calls.Size = refl
-found calls.Read = refl
-found calls.PartSize = refl
-found calls.ReadPart = refl
-found calls.Append = refl
-found calls.Commit = refl
-found calls.DropPart = refl
-found calls.Remove = refl
-found calls.Hold = refl
-found calls.Unhold = refl
-found calls.Holds = refl
-found calls.PutFile = refl
-found calls.File = refl
-
-same_number : (n m : ℕ) → (n == m) ≡ true → n ≡ m
-same_number n m e = grind arith
-
-is_call : (c d : Call) → same_call c d ≡ true → c ≡ d
-is_call c d same = sym (found c) ∙ ap call_at (same_number (call_number c) (call_number d) same) ∙ found d
 
 -- ---- one call
 
@@ -52,7 +23,7 @@ unchanged : (call : Call) (failing : Call → ℕ) → false ≡ nat_lt 0 (faili
 unchanged call failing none c = go (same_call call c) refl
   where
     go : (b : Bool) → same_call call c ≡ b → (if b then failing c - 1 else failing c) ≡ failing c
-    go true e = none_fewer (failing c) (subst (λ (d : Call). false ≡ nat_lt 0 (failing d)) (is_call call c e) none)
+    go true e = none_fewer (failing c) (subst (λ (d : Call). false ≡ nat_lt 0 (failing d)) (same_call-is call c e) none)
     go false e = refl
 
 -- a call that didn't fail changes no number

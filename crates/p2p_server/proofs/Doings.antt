@@ -15,37 +15,37 @@ use Rattle.content_lock.specs.Rows.{AreAfter, Rows, bar_at}
 use Rattle.content_lock.specs.Stored.{without_content}
 use Rattle.p2p_server.specs.declared.step.Step.{Step}
 use Rattle.p2p_server.specs.declared.place.Scene.{Scene}
-use Rattle.p2p_server.specs.Answers.{Does, here_of, is_in, owner_of, size_in}
+use Rattle.p2p_server.specs.Answers.{AnswersAsAsked, here_of, is_in, owner_of, size_in}
 
 -- a look
 pub checks : (x : Scene) (rows : Rows) (c : Contents) (known : Option Contents) (part : ℕ) (right : Bool) (asked : Here → Reply) (what : Found) (key : List ℕ) (m : Message) (step : Step)
     → step ≡ record { kind = Check what key; reply = Some m; close = false } → known ≡ Some c
-    → reply (Check what key) m ≡ asked (here_of x rows c None part right) → Does x rows c known part right asked step
+    → reply (Check what key) m ≡ asked (here_of x rows c None part right) → AnswersAsAsked x rows c known part right asked step
 checks x rows c known part right asked what key m step is same f =
-    subst (λ (s : Step). Does x rows c known part right asked s) (sym is)
+    subst (λ (s : Step). AnswersAsAsked x rows c known part right asked s) (sym is)
     (record { answers = f; changes = record { contents = c; told = same; present = λ k. refl; sizes = λ k. refl } })
 
 -- a fault
 pub faults : (x : Scene) (rows : Rows) (c : Contents) (known : Option Contents) (part : ℕ) (right : Bool) (asked : Here → Reply) (call : Call) (step : Step)
     → step ≡ record { kind = Fault call (owner_of x); reply = Some Failure; close = false } → known ≡ Some c
-    → reply (Fault call (owner_of x)) Failure ≡ asked (here_of x rows c (Some call) part right) → Does x rows c known part right asked step
+    → reply (Fault call (owner_of x)) Failure ≡ asked (here_of x rows c (Some call) part right) → AnswersAsAsked x rows c known part right asked step
 faults x rows c known part right asked call step is same f =
-    subst (λ (s : Step). Does x rows c known part right asked s) (sym is)
+    subst (λ (s : Step). AnswersAsAsked x rows c known part right asked s) (sym is)
     (record { answers = f; changes = record { contents = c; told = same; present = λ k. refl; sizes = λ k. refl } })
 
 -- an answer that is no entry of its own
 pub talks : (x : Scene) (rows : Rows) (c : Contents) (known : Option Contents) (part : ℕ) (right : Bool) (asked : Here → Reply) (m : Message) (step : Step)
     → step ≡ record { kind = Talk None; reply = Some m; close = false } → known ≡ Some c
-    → reply (Talk None) m ≡ asked (here_of x rows c None part right) → Does x rows c known part right asked step
+    → reply (Talk None) m ≡ asked (here_of x rows c None part right) → AnswersAsAsked x rows c known part right asked step
 talks x rows c known part right asked m step is same f =
-    subst (λ (s : Step). Does x rows c known part right asked s) (sym is)
+    subst (λ (s : Step). AnswersAsAsked x rows c known part right asked s) (sym is)
     (record { answers = f; changes = record { contents = c; told = same; present = λ k. refl; sizes = λ k. refl } })
 
 pub quiets : (x : Scene) (rows : Rows) (c : Contents) (known : Option Contents) (part : ℕ) (right : Bool) (asked : Here → Reply) (step : Step)
     → step ≡ record { kind = Talk None; reply = None; close = false } → known ≡ Some c
-    → silent_reply (Talk None) ≡ asked (here_of x rows c None part right) → Does x rows c known part right asked step
+    → silent_reply (Talk None) ≡ asked (here_of x rows c None part right) → AnswersAsAsked x rows c known part right asked step
 quiets x rows c known part right asked step is same f =
-    subst (λ (s : Step). Does x rows c known part right asked s) (sym is)
+    subst (λ (s : Step). AnswersAsAsked x rows c known part right asked s) (sym is)
     (record { answers = f; changes = record { contents = c; told = same; present = λ k. refl; sizes = λ k. refl } })
 
 gone_there : (c : Contents) (key k : List ℕ) → is_in (with_at c key None) k ≡ (is_in c k && not (bytes_eq key k))
@@ -60,9 +60,9 @@ gone_size c key k = elim (bytes_eq key k) as (λ b. option_map length (if b then
 -- a removal
 pub removes : (x : Scene) (rows : Rows) (c : Contents) (was known : Option Contents) (part : ℕ) (right : Bool) (asked : Here → Reply) (key : List ℕ) (by : By) (step : Step)
     → step ≡ record { kind = Gone by key; reply = Some Success; close = false } → by ≡ owner_of x → known ≡ without_content was key → was ≡ Some c
-    → reply (Gone (owner_of x) key) Success ≡ asked (here_of x rows c None part right) → Does x rows c known part right asked step
+    → reply (Gone (owner_of x) key) Success ≡ asked (here_of x rows c None part right) → AnswersAsAsked x rows c known part right asked step
 removes x rows c was known part right asked key by step is owner gone told f =
-    subst (λ (s : Step). Does x rows c known part right asked s) (sym (is ∙ ap (λ (b : By). record { kind = Gone b key; reply = Some Success; close = false }) owner))
+    subst (λ (s : Step). AnswersAsAsked x rows c known part right asked s) (sym (is ∙ ap (λ (b : By). record { kind = Gone b key; reply = Some Success; close = false }) owner))
     (record {
       answers = f;
       changes = record {
@@ -72,10 +72,6 @@ removes x rows c was known part right asked key by step is owner gone told f =
         sizes = gone_size c key;
       };
     })
-
--- an entry that changes no row
-pub still : (rows : Rows) (what : Found) (key : List ℕ) → AreAfter (Check what key) rows rows
-still rows what key = record { holds = refl; bars = λ k. refl; fills = refl }
 
 -- a removal takes a bar that isn't there
 pub no_bar : (rows : Rows) (by : By) (key : List ℕ) → bar_at rows key ≡ None → AreAfter (Gone by key) rows rows

@@ -2,7 +2,6 @@
 use Rattle.std.proofs.Common.{◌≡◌, ℕ, ◌*◌, Bool, true, false, List, [], ◌∷◌, length, Option, Some, None, Result, Ok, Err, refl, sym, ap, subst, ◌∙◌}
 use Rattle.std.specs.Prelude.{IfOk, OnErr, bytes_eq, if◌then◌else◌, nat_le, nat_lt, ◌&&◌}
 use Rattle.std.specs.Option.{ForSome, option_map}
-use Rattle.std.specs.Result.{IsErr}
 use Rattle.std.specs.declared.vec.Vec.{Vec}
 use Rattle.std.specs.declared.alloc.Global.{Global}
 use Rattle.annex_base.specs.declared.kinds.Call.{Call}
@@ -35,7 +34,7 @@ use Rattle.p2p_server.specs.declared.step.Step.{Step}
 use Rattle.p2p_server.specs.Answers.{failed_in, here_of}
 use Rattle.content_lock.specs.CallsMade.{MakesCalls, fewer}
 use Rattle.p2p_server.specs.SessionCalls.{Makes, MakesStep, calls_bytes, calls_frame, calls_heard, calls_message, calls_text, to_remove_here}
-use Rattle.p2p_server.specs.States.{IsScene, Keeps, stand_of}
+use Rattle.p2p_server.specs.States.{IsScene, HaveRows, stand_of}
 use Rattle.p2p_server.specs.Stepping.{IsUnexpected, guards_key}
 use Rattle.p2p_server.specs.Talking.{Brings, SeesPart, SeesPartOf, SeesTaken, doing_of, heard_line, session_of}
 use Rattle.p2p_server.proofs.AnswerCalls.{unexpected_calls}
@@ -56,12 +55,6 @@ quiet x i s rows contents parts failing step well none = record {
 pub unexpected_makes : (x : Scene) (i : Incoming) (s : Session) (rows : Rows) (contents : Option Contents) (parts : Option Parts) (failing : Option (Call → ℕ)) (step : Step)
     → failed_in step.kind ≡ None → IsUnexpected i s → MakesStep x i s rows contents parts failing failing step
 unexpected_makes x i s rows contents parts failing step well un = quiet x i s rows contents parts failing step well (unexpected_calls (session_of s) i un.answer)
-
--- an answer for want of memory
-pub refused_makes : {E : Type 0} (x : Scene) (i : Incoming) (s : Session) (rows : Rows) (contents : Option Contents) (parts : Option Parts) (before after : Option (Call → ℕ)) (r : Result Step E)
-    → IsErr r → after ≡ before → Makes x i s rows contents parts before after r
-refused_makes x i s rows contents parts before after (Ok step) err same = absurd cc
-refused_makes x i s rows contents parts before after (Err e) err same = same
 
 -- ---- a session that waits
 
@@ -146,7 +139,7 @@ calls_are h was i (frames.Line text) e = go (message_of text) e
 
 pub calls_told : {E : Type 0} (x : Scene) (i : Incoming) (was : Session) (rows : Rows) (contents : Option Contents) (parts : Option Parts) (before after : Option (Call → ℕ)) (r : Result Step E)
     → Makes x i was rows contents parts before after r
-    → IfOk r (λ step. (s : SetUp) (st : State) (k : Look) (a : EndName) (body : FrameText) → IsScene x s st k a → Keeps rows contents (stand_of st) → ((key : List ℕ) → is_filled s st key ≡ is_filling rows key)
+    → IfOk r (λ step. (s : SetUp) (st : State) (k : Look) (a : EndName) (body : FrameText) → IsScene x s st k a → HaveRows rows contents (stand_of st) → ((key : List ℕ) → is_filled s st key ≡ is_filling rows key)
     → st.sessions a ≡ session_of was → Brings body i → SeesPartOf parts was i k.part k.right → k.fails ≡ failed_in step.kind
     → MakesCalls (calls_frame (here s st k a) (st.sessions a) body) k.fails before after)
 calls_told x i was rows contents parts before after (Ok step) made = λ s st k a body e r filled same brings sees f.

@@ -13,7 +13,7 @@ use Rattle.p2p_server.specs.declared.doing.Doing.{Doing}
 use Rattle.p2p_server.specs.declared.doing.Doing.TheVariants as doings
 use Rattle.content_lock.specs.Rows.{Rows}
 use Rattle.p2p_server.specs.declared.step.Step.{Step}
-use Rattle.p2p_server.specs.Bounds.{Fits, IsKind}
+use Rattle.p2p_server.specs.Bounds.{IsNumberedStep, IsKind}
 use Rattle.p2p_server.specs.Talking.{AreAfterStep, doing_of, guarded_in, label_in, share_in}
 
 abbrev Below : ℕ → Hold → Type 0
@@ -53,7 +53,7 @@ after_below (End job outcome) n m hs is more less = ended_below (is_lost_ordered
 after_below (Crash clock) n m hs is more less = All-map (Below m) (restart clock) hs less
 after_below kind n m hs is more less = less
 
-pub numbers_so : {E : Type 0} (r : Result Step E) (was now : Rows) (n m : ℕ) → AreBelow n was.holds → IfOk r (λ s. AreAfterStep s.kind was now) → IfOk r (Fits n) → OnErr r (now ≡ was)
+pub numbers_so : {E : Type 0} (r : Result Step E) (was now : Rows) (n m : ℕ) → AreBelow n was.holds → IfOk r (λ s. AreAfterStep s.kind was now) → IfOk r (IsNumberedStep n) → OnErr r (now ≡ was)
     → n < m → AreBelow m now.holds
 numbers_so (Ok s) was now n m less after fits same more = subst (AreBelow m) (sym after.holds) (after_below s.kind n m was.holds fits.kind more (still_below n m was.holds more less))
 numbers_so (Err e) was now n m less after fits same more = subst (λ (x : Rows). AreBelow m x.holds) (sym same) (still_below n m was.holds more less)

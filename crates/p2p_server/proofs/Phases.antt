@@ -29,8 +29,8 @@ use Rattle.p2p_server.specs.declared.place.Place.{Place}
 use Rattle.p2p_server.specs.declared.place.Scene.{Scene}
 use Rattle.p2p_server.specs.declared.session.Session.{Session}
 use Rattle.p2p_server.specs.declared.step.Step.{Step}
-use Rattle.p2p_server.specs.Answers.{Does, failed_in, here_of, owner_at}
-use Rattle.p2p_server.specs.Bounds.{Fits}
+use Rattle.p2p_server.specs.Answers.{AnswersAsAsked, failed_in, here_of, owner_at}
+use Rattle.p2p_server.specs.Bounds.{IsNumberedStep}
 use Rattle.p2p_server.specs.Phases.{IsJudged, IsLonger, IsNoGain, IsTook, IsWanting}
 use Rattle.p2p_server.specs.Stepping.{IsAt, IsLetGo, IsStep, LeavesOthers, guards_key, moment_of}
 use Rattle.p2p_server.specs.Talking.{AreAfterStep, FillsSo, HasFill, IsFed, IsJudgedIn, IsPlain, SeesTaken, doing_of, on_heard, parts_after, parts_after_valid, session_of, share_in}
@@ -48,14 +48,14 @@ going s doing = record { place = s.place; spoken = s.spoken; doing = doing }
 -- ---- opening and closing
 
 pub opens_so : (x : Scene) (s : Session) (rows : Rows) (contents : Option Contents) (parts : Option Parts) (records : Option (List HoldRecord)) (faults : ℕ) (step : Step)
-    → IsAt x s rows → Agrees records rows.holds → step ≡ saying (messages.AuthSuccess x.place.id) → Fits x.number step
+    → IsAt x s rows → Agrees records rows.holds → step ≡ saying (messages.AuthSuccess x.place.id) → IsNumberedStep x.number step
     → IsStep x incoming.Opening (moment_of s rows contents parts records faults) (moment_of s rows contents parts records faults) step
 opens_so x s rows contents parts records faults step at agrees is fits =
     subst (λ (t : Step). IsStep x incoming.Opening (moment_of s rows contents parts records faults) (moment_of s rows contents parts records faults) t) (sym is) (record {
       does = λ c told part right sees. talks x rows c contents part right (λ h. on_heard h (session_of s) incoming.Opening) (messages.AuthSuccess x.place.id) (saying (messages.AuthSuccess x.place.id)) refl told refl;
       after = record { holds = refl; bars = λ k. refl };
       bars = λ k. refl;
-      fits = subst (λ (t : Step). Fits x.number t) is fits;
+      fits = subst (λ (t : Step). IsNumberedStep x.number t) is fits;
       filled = stays_filled s.doing rows at.fills;
       next = λ size sees. refl;
       place = refl;
@@ -86,8 +86,8 @@ guarding_is s share is = λ j. record { place = s.place; spoken = s.spoken; doin
 -- an entry that ends a hold which the session guarded
 unlocks : (x : Scene) (key : List ℕ) (place : Place) (spoken : ℕ) (share : ShareView) (was now : Rows) (contents contents' : Option Contents) (parts parts' : Option Parts) (records records' : Option (List HoldRecord))
     (faults faults' : ℕ) (kind : EntryKind)
-    → ForSome contents (λ c. (part : ℕ) (right : Bool) → Does x was c contents' part right (λ h. tries h (calls.Unhold ∷ []) [] (silent_reply (Release share.number share.key))) (record { kind = kind; reply = None; close = false }))
-    → bytes_eq key share.key ≡ true → IsNoGain kind → AreAfter kind was now → ((key : List ℕ) → bar_at now key ≡ bar_at was key) → Fits x.number (record { kind = kind; reply = None; close = false }) → Owns (owner_at place) None now.holds
+    → ForSome contents (λ c. (part : ℕ) (right : Bool) → AnswersAsAsked x was c contents' part right (λ h. tries h (calls.Unhold ∷ []) [] (silent_reply (Release share.number share.key))) (record { kind = kind; reply = None; close = false }))
+    → bytes_eq key share.key ≡ true → IsNoGain kind → AreAfter kind was now → ((key : List ℕ) → bar_at now key ≡ bar_at was key) → IsNumberedStep x.number (record { kind = kind; reply = None; close = false }) → Owns (owner_at place) None now.holds
     → LeavesOthers (owner_at place) was now → parts' ≡ parts → Agrees records' now.holds → faults ≤ faults' → IfSome (failed_in kind) (λ call. Rose faults faults')
     → IsStep x (incoming.Message (messages.UnlockContent key)) (moment_of (in_phase place spoken (doings.Guards share)) was contents parts records faults) (moment_of (waiting place spoken) now contents' parts' records' faults')
     (record { kind = kind; reply = None; close = false })
@@ -246,8 +246,8 @@ took_judged kind t judged = tt
 
 valid_now : (x : Scene) (place : Place) (spoken : ℕ) (t : Taken) (was now : Rows) (contents contents' : Option Contents) (parts parts' : Option Parts) (records records' : Option (List HoldRecord)) (faults faults' : ℕ) (step : Step)
     → IsAt x (in_phase place spoken (doings.Took t)) was
-    → ForSome contents (λ c. (rows : Rows) (part : ℕ) (right : Bool) → SeesTaken parts t right → Does x rows c contents' part right (λ h. on_valid h t.fill t.size) step)
-    → ((rows : Rows) → AreAfterStep step.kind rows rows) → Fits x.number step → IsPlain step → IsJudged t step.kind → parts' ≡ parts_after_valid t.fill step.kind parts → IsLetGo place (doings.Took t) was now
+    → ForSome contents (λ c. (rows : Rows) (part : ℕ) (right : Bool) → SeesTaken parts t right → AnswersAsAsked x rows c contents' part right (λ h. on_valid h t.fill t.size) step)
+    → ((rows : Rows) → AreAfterStep step.kind rows rows) → IsNumberedStep x.number step → IsPlain step → IsJudged t step.kind → parts' ≡ parts_after_valid t.fill step.kind parts → IsLetGo place (doings.Took t) was now
     → Agrees records' was.holds → faults ≤ faults' → IfSome (failed_in step.kind) (λ call. Rose faults faults')
     → IsStep x (incoming.Message messages.Valid) (moment_of (in_phase place spoken (doings.Took t)) was contents parts records faults) (moment_of (waiting place spoken) now contents' parts' records' faults') step
 valid_now x place spoken t was now contents contents' parts parts' records records' faults faults' step at does after fits plain judged spent gone agrees later cause = record {
@@ -271,8 +271,8 @@ valid_now x place spoken t was now contents contents' parts parts' records recor
 
 pub valid_so : (x : Scene) (s s' : Session) (t : Taken) (was now : Rows) (contents contents' : Option Contents) (parts parts' : Option Parts) (records records' : Option (List HoldRecord)) (faults faults' : ℕ) (step : Step)
     → s.doing ≡ doings.Took t → IsAt x s was
-    → ForSome contents (λ c. (rows : Rows) (part : ℕ) (right : Bool) → SeesTaken parts t right → Does x rows c contents' part right (λ h. on_valid h t.fill t.size) step)
-    → ((rows : Rows) → AreAfterStep step.kind rows rows) → Fits x.number step → IsPlain step → IsJudged t step.kind → parts' ≡ parts_after_valid t.fill step.kind parts → s' ≡ going s doings.Waits → IsLetGo s.place s.doing was now
+    → ForSome contents (λ c. (rows : Rows) (part : ℕ) (right : Bool) → SeesTaken parts t right → AnswersAsAsked x rows c contents' part right (λ h. on_valid h t.fill t.size) step)
+    → ((rows : Rows) → AreAfterStep step.kind rows rows) → IsNumberedStep x.number step → IsPlain step → IsJudged t step.kind → parts' ≡ parts_after_valid t.fill step.kind parts → s' ≡ going s doings.Waits → IsLetGo s.place s.doing was now
     → Agrees records' was.holds → faults ≤ faults' → IfSome (failed_in step.kind) (λ call. Rose faults faults')
     → IsStep x (incoming.Message messages.Valid) (moment_of s was contents parts records faults) (moment_of s' now contents' parts' records' faults') step
 valid_so x s s' t was now contents contents' parts parts' records records' faults faults' step has at does after fits plain judged spent new gone agrees later cause =

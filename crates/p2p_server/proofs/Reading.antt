@@ -1,6 +1,5 @@
 -- A digester that takes a part as it is read.
 use Rattle.std.proofs.Common.{◌≡◌, ℕ, ◌+◌, ◌≤◌, ◌++◌, List, length, take, ap, subst, ◌∙◌, arith}
-use Rattle.std.proofs.lemmas.List.{take_all}
 use Rattle.object_store.specs.Stores.{read_length, room_after_read}
 use Rattle.key_verify.specs.declared.digester.Digester.{Digester}
 use Rattle.key_verify.specs.Sums.{HasTaken}
@@ -13,7 +12,3 @@ grown p room room' piece key at count d d' far e is cut had update = (
   omega (arith, far, e),
   subst (λ (b : List ℕ). HasTaken d' key b) (ap (λ (x : List ℕ). take at p ++ x) cut ∙ next_taken p room room' at count e is) (update key (take at p) had),
 )
-
--- what has taken as many bytes as the part has, has taken the part
-pub whole : (p key : List ℕ) (at : ℕ) (d : Digester) → at ≡ length p → HasTaken d key (take at p) → HasTaken d key p
-whole p key at d is had = let all : length p ≤ at = omega (arith, is) in subst (λ (b : List ℕ). HasTaken d key b) (take_all at p all) had

@@ -16,10 +16,10 @@ use Rattle.content_lock.specs.declared.refusals.ShareRefused.TheVariants as shar
 use Rattle.content_lock.specs.declared.refusals.RemoveRefused.TheVariants as removes
 use Rattle.node_model.specs.Look.{failing}
 use Rattle.node_model.specs.Calls.{to_hold, to_remove}
-use Rattle.node_model.specs.SessionStep.{Here, Reply, bar_on, by_of, check_answer, is_held, is_here, on_lock, on_remove, refuses, reply, tries}
+use Rattle.node_model.specs.SessionStep.{Here, Reply, bar_on, by_of, check_answer, is_held, is_here, on_lock, on_remove, failure_line, reply, tries}
 
 abbrev pub on_check : List ℕ → Here → Reply
-on_check key h = tries h (calls.Has ∷ []) refuses (check_answer key (is_here h key) (bar_on h key))
+on_check key h = tries h (calls.Has ∷ []) failure_line (check_answer key (is_here h key) (bar_on h key))
 
 pub check_there : (h : Here) (key : List ℕ) → h.fails ≡ None → h.present key ≡ true → h.bar key ≡ None → reply (Check found.Present key) Success ≡ on_check key h
 check_there h key f p b = rw (f, p, b) refl

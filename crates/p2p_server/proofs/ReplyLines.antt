@@ -8,14 +8,14 @@ use Rattle.std.proofs.lemmas.Bool.Decides.{nat_tests}
 use Rattle.std.proofs.lemmas.List.Elements.{All-weaker}
 use Rattle.std.proofs.lemmas.Str.{IsUtf8-from_ascii, is_utf8-from_IsUtf8}
 use Rattle.std.proofs.lemmas.Str.Ascii.{IsAscii-from_all}
-use Rattle.std.proofs.lemmas.Fmt.{length-decimal-le}
-use Rattle.std.proofs.lemmas.List.{length-append}
 use Rattle.annex_base.specs.Lines.{IsOneLine}
 use Rattle.annex_base.specs.RepoText.{repo_text}
 use Rattle.annex_base.proofs.Conditions.{bytes_eq-true}
 use Rattle.annex_base.proofs.Lists.{All-from_Each, Each-from_list_all}
 use Rattle.annex_base.proofs.Lines.{one_line-by_test}
 use Rattle.annex_base.proofs.RepoLemmas.{length-repo_text, repo_again}
+use Rattle.annex_base.proofs.Numbers.{decimal_short}
+use Rattle.annex_base.proofs.Words.{length-word_and_rest}
 use Rattle.p2p_wire.specs.declared.message.Message.{Message}
 use Rattle.p2p_wire.specs.declared.message.Message.TheVariants.{AuthSuccess, Version, Timestamp, PutFrom, AlreadyHave, Data, Valid, Invalid, Success, Failure, Error}
 use Rattle.p2p_wire.specs.Messages.{IsShort, IsWire, ◌⊳◌, text_of}
@@ -52,17 +52,11 @@ wire (Error text) r = (
 )
 wire m r = absurd r
 
-number_short : (n : ℕ) → n < 2 ^ 63 → length (decimal n) ≤ 19
-number_short n small = length-decimal-le 19 n (omega arith) (omega arith) (omega arith)
-
-worded : (word rest : List ℕ) (n m : ℕ) → length word ≤ n → length rest ≤ m → length (word ⊳ rest) ≤ n + 1 + m
-worded word rest n m a b = let both : length (word ++ 32 ∷ rest) ≡ length word + length (32 ∷ rest) = length-append word (32 ∷ rest) in omega (arith, both, a, b)
-
 numbered : (word : List ℕ) (n : ℕ) → length word ≤ 20 → n < 2 ^ 63 → length (word ⊳ decimal n) ≤ 64
-numbered word n a small = let l = worded word (decimal n) 20 19 a (number_short n small) in omega (arith, l)
+numbered word n a small = let l = length-word_and_rest word (decimal n) 20 19 a (decimal_short n small) in omega (arith, l)
 
 pub short : (m : Message) → IsReply m → length (text_of m) ≤ 64
-short (AuthSuccess id) r = let h : length (repo_text id) ≡ 36 = length-repo_text id in let l = worded (codes "AUTH-SUCCESS") (repo_text id) 20 36 (omega arith) (omega (arith, h)) in omega (arith, l)
+short (AuthSuccess id) r = let h : length (repo_text id) ≡ 36 = length-repo_text id in let l = length-word_and_rest (codes "AUTH-SUCCESS") (repo_text id) 20 36 (omega arith) (omega (arith, h)) in omega (arith, l)
 short (Version n) r = numbered (codes "VERSION") n (omega arith) r
 short (Timestamp n) r = numbered (codes "TIMESTAMP") n (omega arith) r
 short (PutFrom n) r = numbered (codes "PUT-FROM") n (omega arith) r

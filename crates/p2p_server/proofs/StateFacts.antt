@@ -21,12 +21,12 @@ use Rattle.p2p_server.specs.declared.place.Scene.{Scene}
 use Rattle.p2p_server.specs.declared.incoming.Incoming.{Incoming}
 use Rattle.p2p_server.specs.declared.incoming.Incoming.TheVariants as incoming
 use Rattle.p2p_server.specs.declared.step.Step.{Step}
-use Rattle.p2p_server.specs.Answers.{Does, failed_in, here_of, reply_of}
+use Rattle.p2p_server.specs.Answers.{AnswersAsAsked, failed_in, here_of, reply_of}
 use Rattle.p2p_server.specs.Talking.{AreAfterStep, Brings, SaysSo, heard_line, next_session, on_heard, took_heard}
-use Rattle.p2p_server.specs.States.{IsScene, Keeps, Stand, stand_after, stand_of}
+use Rattle.p2p_server.specs.States.{IsScene, HaveRows, Stand, stand_after, stand_of}
 
 pub here_is : (x : Scene) (rows : Rows) (known : Option Contents) (s : SetUp) (st : State) (k : Look) (a : EndName) (fails : Option Call)
-    → IsScene x s st k a → (r : Keeps rows known (stand_of st)) → ((key : List ℕ) → is_filled s st key ≡ is_filling rows key) → k.fails ≡ fails
+    → IsScene x s st k a → (r : HaveRows rows known (stand_of st)) → ((key : List ℕ) → is_filled s st key ≡ is_filling rows key) → k.fails ≡ fails
     → here_of x rows r.contents fails k.part k.right ≡ here s st k a
 here_is x rows known s st k a fails e r filled f = λ i.
     record {
@@ -84,17 +84,17 @@ next_is size step was i sent f e so =
 
 pub step_is : (x : Scene) (rows : Rows) (known known' : Option Contents) (was : sessions.Session) (i : Incoming) (step : Step)
     (s : SetUp) (st : State) (k : Look) (a : EndName) (body : FrameText)
-    → IsScene x s st k a → (r : Keeps rows known (stand_of st)) → ((key : List ℕ) → is_filled s st key ≡ is_filling rows key)
+    → IsScene x s st k a → (r : HaveRows rows known (stand_of st)) → ((key : List ℕ) → is_filled s st key ≡ is_filling rows key)
     → st.sessions a ≡ was → Brings body i → k.fails ≡ failed_in step.kind
-    → Does x rows r.contents known' k.part k.right (λ h. on_heard h was i) step → reply_of step ≡ on_frame (here s st k a) (st.sessions a) body
+    → AnswersAsAsked x rows r.contents known' k.part k.right (λ h. on_heard h was i) step → reply_of step ≡ on_frame (here s st k a) (st.sessions a) body
 step_is x rows known known' was i step s st k a body e r filled same brings f d =
     d.answers
     ∙ (λ j. on_heard (here_is x rows known s st k a (failed_in step.kind) e r filled f j) (sym same j) i)
     ∙ heard_is (here s st k a) (st.sessions a) i body brings
 
 pub stands : (x : Scene) (rows now : Rows) (known known' : Option Contents) (part : ℕ) (right : Bool) (asked : Here → Reply) (step : Step) (stand : Stand)
-    → (r : Keeps rows known stand) → AreAfterStep step.kind rows now → Does x rows r.contents known' part right asked step
-    → Keeps now known' (stand_after step.kind stand)
+    → (r : HaveRows rows known stand) → AreAfterStep step.kind rows now → AnswersAsAsked x rows r.contents known' part right asked step
+    → HaveRows now known' (stand_after step.kind stand)
 stands x rows now known known' part right asked step stand r after d =
     record {
       contents = d.changes.contents;

@@ -23,8 +23,8 @@ use Rattle.p2p_server.specs.declared.place.Place.{Place}
 use Rattle.p2p_server.specs.declared.place.Scene.{Scene}
 use Rattle.p2p_server.specs.declared.session.Session.{Session}
 use Rattle.p2p_server.specs.declared.step.Step.{Step}
-use Rattle.p2p_server.specs.Answers.{Does, failed_in, here_of, says}
-use Rattle.p2p_server.specs.Bounds.{Fits, IsReplyIf}
+use Rattle.p2p_server.specs.Answers.{AnswersAsAsked, failed_in, here_of, says}
+use Rattle.p2p_server.specs.Bounds.{IsNumberedStep, IsReplyIf}
 use Rattle.p2p_server.specs.Phases.{IsNoGain}
 use Rattle.p2p_server.specs.Stepping.{IsAt, IsLetGo, IsStep, IsUnexpected, moment_of}
 use Rattle.p2p_server.specs.Talking.{IsFed, IsJudgedIn, IsPlain, doing_of, on_heard, parts_after, session_of}
@@ -110,13 +110,13 @@ pub answered : (x : Scene) (m : Message) (s : Session) (rows : Rows) (contents c
     → s.doing ≡ doings.Waits → IsAt x s rows
     → ((h : Here) → on_message h s.spoken sessions.Waits m ≡ asked h)
     → ((size : List ℕ → Option ℕ) (kind : EntryKind) (told : Option Message) → sessions.doing_after size kind sessions.Waits told m ≡ sessions.Waits)
-    → ForSome contents (λ c. (part : ℕ) (right : Bool) → Does x rows c contents' part right asked step)
-    → IsPlain step → IsNoGain step.kind → AreAfter step.kind rows rows → Fits x.number step → parts' ≡ parts → Agrees records' rows.holds → faults ≤ faults'
+    → ForSome contents (λ c. (part : ℕ) (right : Bool) → AnswersAsAsked x rows c contents' part right asked step)
+    → IsPlain step → IsNoGain step.kind → AreAfter step.kind rows rows → IsNumberedStep x.number step → parts' ≡ parts → Agrees records' rows.holds → faults ≤ faults'
     → IfSome (failed_in step.kind) (λ call. Rose faults faults')
     → IsStep x (incoming.Message m) (moment_of s rows contents parts records faults) (moment_of s rows contents' parts' records' faults') step
 answered x m s rows contents contents' parts parts' records records' faults faults' asked step waits at answer stay does plain lost after fits same agrees later cause = record {
   does = λ c is part right sees.
-      let d : Does x rows c contents' part right asked step = does c is part right in
+      let d : AnswersAsAsked x rows c contents' part right asked step = does c is part right in
       let h : Here = here_of x rows c (failed_in step.kind) part right in
       record {
         answers = d.answers ∙ sym (answer h) ∙ ap (λ (w : Doing). on_message h s.spoken (doing_of w) m) (sym waits);
@@ -154,7 +154,7 @@ silent = record { kind = Talk None; reply = None; close = false }
 -- ---- VERSION
 
 version_now : (x : Scene) (n : ℕ) (place : Place) (spoken : ℕ) (rows : Rows) (contents : Option Contents) (parts : Option Parts) (records : Option (List HoldRecord)) (faults : ℕ)
-    → IsAt x (waiting place spoken) rows → Agrees records rows.holds → Fits x.number (saying (messages.Version (min n place.version)))
+    → IsAt x (waiting place spoken) rows → Agrees records rows.holds → IsNumberedStep x.number (saying (messages.Version (min n place.version)))
     → IsStep x (incoming.Message (messages.Version n)) (moment_of (waiting place spoken) rows contents parts records faults) (moment_of (waiting place (min n place.version)) rows contents parts records faults)
     (saying (messages.Version (min n place.version)))
 version_now x n place spoken rows contents parts records faults at agrees fits = record {
@@ -180,7 +180,7 @@ version_now x n place spoken rows contents parts records faults at agrees fits =
 
 pub version_so : (x : Scene) (n : ℕ) (s s' : Session) (rows : Rows) (contents : Option Contents) (parts : Option Parts) (records : Option (List HoldRecord)) (faults : ℕ) (step : Step)
     → s.doing ≡ doings.Waits → IsAt x s rows → Agrees records rows.holds → step ≡ saying (messages.Version (min n s.place.version))
-    → s' ≡ record { place = s.place; spoken = min n s.place.version; doing = s.doing } → Fits x.number step
+    → s' ≡ record { place = s.place; spoken = min n s.place.version; doing = s.doing } → IsNumberedStep x.number step
     → IsStep x (incoming.Message (messages.Version n)) (moment_of s rows contents parts records faults) (moment_of s' rows contents parts records faults) step
 version_so x n s s' rows contents parts records faults step waits at agrees is new fits =
     let e : s ≡ waiting s.place s.spoken = waits_is s waits in
@@ -188,4 +188,4 @@ version_so x n s s' rows contents parts records faults step waits at agrees is n
     subst (λ (t : Session). IsStep x (incoming.Message (messages.Version n)) (moment_of t rows contents parts records faults) (moment_of s' rows contents parts records faults) step) (sym e)
     (subst (λ (t : Session). IsStep x (incoming.Message (messages.Version n)) (moment_of (waiting s.place s.spoken) rows contents parts records faults) (moment_of t rows contents parts records faults) step) (sym e')
     (subst (λ (t : Step). IsStep x (incoming.Message (messages.Version n)) (moment_of (waiting s.place s.spoken) rows contents parts records faults) (moment_of (waiting s.place (min n s.place.version)) rows contents parts records faults) t) (sym is)
-    (version_now x n s.place s.spoken rows contents parts records faults (subst (λ (t : Session). IsAt x t rows) e at) agrees (subst (λ (t : Step). Fits x.number t) is fits))))
+    (version_now x n s.place s.spoken rows contents parts records faults (subst (λ (t : Session). IsAt x t rows) e at) agrees (subst (λ (t : Step). IsNumberedStep x.number t) is fits))))

@@ -21,7 +21,7 @@ use Rattle.p2p_server.specs.declared.session.Session.{Session}
 use Rattle.p2p_server.specs.declared.step.Step.{Step}
 use Rattle.p2p_server.specs.Answers.{failed_in, owner_at, reply_of}
 use Rattle.p2p_server.specs.Bounds.{IsKind, IsReplyIf}
-use Rattle.p2p_server.specs.States.{IsScene, Keeps, Stand, stand_after, stand_of}
+use Rattle.p2p_server.specs.States.{IsScene, HaveRows, Stand, stand_after, stand_of}
 use Rattle.p2p_server.specs.Stepping.{Goes, IsAt, LeavesOthers, Moment}
 use Rattle.p2p_server.specs.Talking.{AreAfterStep, Brings, FillsSo, HasFill, IsFedOf, IsJudgedOf, SaysSo, SeesPartOf, SeesSize, parts_after_of, session_of, share_in}
 use Rattle.p2p_server.proofs.Numbers.{AreBelow, numbers_so}
@@ -30,7 +30,7 @@ use Rattle.p2p_server.proofs.StateFacts.{next_is, stands, step_is}
 -- ---- where there is an answer
 
 pub step_told : {E : Type 0} (x : Scene) (i : Incoming) (was now : Moment) (r : Result Step E) → Goes x i was now r
-    → IfOk r (λ step. (s : SetUp) (st : State) (k : Look) (a : EndName) (body : FrameText) → IsScene x s st k a → Keeps was.rows was.contents (stand_of st) → ((key : List ℕ) → is_filled s st key ≡ is_filling was.rows key)
+    → IfOk r (λ step. (s : SetUp) (st : State) (k : Look) (a : EndName) (body : FrameText) → IsScene x s st k a → HaveRows was.rows was.contents (stand_of st) → ((key : List ℕ) → is_filled s st key ≡ is_filling was.rows key)
     → st.sessions a ≡ session_of was.session → Brings body i → SeesPartOf was.parts was.session i k.part k.right → k.fails ≡ failed_in step.kind
     → reply_of step ≡ on_frame (here s st k a) (st.sessions a) body)
 step_told x i was now (Ok step) goes = λ s st k a body e r filled same brings sees f.
@@ -38,7 +38,7 @@ step_told x i was now (Ok step) goes = λ s st k a body e r filled same brings s
 step_told x i was now (Err e) goes = tt
 
 pub rows_told : {E : Type 0} (x : Scene) (i : Incoming) (was now : Moment) (r : Result Step E) → Goes x i was now r
-    → IfOk r (λ step. (stand : Stand) (part : ℕ) (right : Bool) → Keeps was.rows was.contents stand → SeesPartOf was.parts was.session i part right → Keeps now.rows now.contents (stand_after step.kind stand))
+    → IfOk r (λ step. (stand : Stand) (part : ℕ) (right : Bool) → HaveRows was.rows was.contents stand → SeesPartOf was.parts was.session i part right → HaveRows now.rows now.contents (stand_after step.kind stand))
 rows_told x i was now (Ok step) goes = λ stand part right r sees.
     stands x was.rows now.rows was.contents now.contents part right _ step stand r goes.after (goes.does r.contents r.told part right sees)
 rows_told x i was now (Err e) goes = tt

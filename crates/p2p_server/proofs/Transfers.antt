@@ -10,7 +10,7 @@ use Rattle.node_model.specs.SessionStep.{on_valid}
 use Rattle.content_lock.specs.Rows.{Rows}
 use Rattle.p2p_server.specs.declared.place.Scene.{Scene}
 use Rattle.p2p_server.specs.declared.step.Step.{Step}
-use Rattle.p2p_server.specs.Answers.{Does}
+use Rattle.p2p_server.specs.Answers.{AnswersAsAsked}
 use Rattle.key_verify.specs.declared.digester.Sum.{Sum}
 use Rattle.key_verify.specs.declared.verdict.Verdict.{Verdict}
 use Rattle.key_verify.specs.declared.verdict.Verdict.TheVariants.{Right, WrongDigest, WrongSize}
@@ -46,11 +46,6 @@ next_taken p room room' at count e is =
     let front : take count room' ≡ take count (drop at p) = ap (take count) (is ∙ λ i. take (sym e i) (drop at p) ++ drop (sym e i) room) ∙ take_front count (drop at p) (drop count room) bound in
     ap (λ (l : List ℕ). take at p ++ l) front ∙ sym (take-add at count p)
 
--- ---- what is told
-
-pub tells : {X : Type 0} (known : Option X) (P : X → Type 0) (x : X) → known ≡ Some x → P x → Tells known P
-tells known P x is p = rw is p
-
 -- ---- the verdict
 
 -- a part that was judged right matches its key
@@ -79,11 +74,11 @@ sees_wrong (Some p) t sum key right v has same judged other sees = false_from_ne
     summed (Some x) e fill f is = subst (λ (k : List ℕ). sum ≡ sum_of k (p k)) f (same_Some _ _ (sym e) ∙ is)
 
 pub judged_so : (x : Scene) (rows : Rows) (c : Contents) (known : Option Contents) (part : ℕ) (right b : Bool) (key fill : List ℕ) (n size : ℕ) (step : Step) → right ≡ b → key ≡ fill → n ≡ size
-    → Does x rows c known part b (λ h. on_valid h key n) step → Does x rows c known part right (λ h. on_valid h fill size) step
+    → AnswersAsAsked x rows c known part b (λ h. on_valid h key n) step → AnswersAsAsked x rows c known part right (λ h. on_valid h fill size) step
 judged_so x rows c known part right b key fill n size step r k e d =
-    subst (λ (a : Bool). Does x rows c known part a (λ h. on_valid h fill size) step) (sym r)
-    (subst (λ (f : List ℕ). Does x rows c known part b (λ h. on_valid h f size) step) k
-    (subst (λ (m : ℕ). Does x rows c known part b (λ h. on_valid h key m) step) e d))
+    subst (λ (a : Bool). AnswersAsAsked x rows c known part a (λ h. on_valid h fill size) step) (sym r)
+    (subst (λ (f : List ℕ). AnswersAsAsked x rows c known part b (λ h. on_valid h f size) step) k
+    (subst (λ (m : ℕ). AnswersAsAsked x rows c known part b (λ h. on_valid h key m) step) e d))
 
 pub wrong_size : (v : Verdict) (want got : ℕ) → v ≡ WrongSize want got → v ≡ Right → ⊥
 wrong_size v want got is e = cc

@@ -1,8 +1,9 @@
 -- What isn't expected of a session, by its phase.
-use Rattle.std.proofs.Common.{◌≡◌, ℕ, ◌<◌, ◌-◌, Bool, false, List, length, Option, refl, ap, subst, ◌∙◌, arith}
+use Rattle.std.proofs.Common.{◌≡◌, ℕ, ◌<◌, ◌-◌, Bool, false, List, length, Option, refl, ap, subst, ◌∙◌}
 use Rattle.std.specs.Prelude.{nat_le, nat_lt, ◌&&◌}
 use Rattle.std.specs.declared.vec.Vec.{Vec}
 use Rattle.std.specs.declared.alloc.Global.{Global}
+use Rattle.std.proofs.lemmas.Bool.{lt-leb}
 use Rattle.run_data.specs.declared.entry.EntryKind.{EntryKind}
 use Rattle.run_data.specs.declared.entry.EntryKind.TheVariants.{Close}
 use Rattle.p2p_wire.specs.declared.message.Message.{Message}
@@ -57,20 +58,17 @@ pub none_waits : (s : Session) (m : Message) → s.doing ≡ doings.Waits → ((
     → IsUnexpected (incoming.Message m) s
 none_waits s m waits e v c l r b g ge p = waits_not s m waits (λ h. waits_default h s.spoken m e v c l r b g ge p)
 
-too_low : (b v : ℕ) → v < b → nat_le b v ≡ false
-too_low b v low = grind arith
-
 pub low_remove : (s : Session) (n : ℕ) (key : List ℕ) → s.doing ≡ doings.Waits → s.spoken < 3 → IsUnexpected (incoming.Message (messages.RemoveBefore n key)) s
-low_remove s n key waits low = waits_not s (messages.RemoveBefore n key) waits (λ h. rw (too_low 3 s.spoken low) refl)
+low_remove s n key waits low = waits_not s (messages.RemoveBefore n key) waits (λ h. rw (lt-leb 3 s.spoken low) refl)
 
 pub low_time : (s : Session) → s.doing ≡ doings.Waits → s.spoken < 3 → IsUnexpected (incoming.Message messages.GetTimestamp) s
-low_time s waits low = waits_not s messages.GetTimestamp waits (λ h. rw (too_low 3 s.spoken low) refl)
+low_time s waits low = waits_not s messages.GetTimestamp waits (λ h. rw (lt-leb 3 s.spoken low) refl)
 
 pub low_get : (s : Session) (n : ℕ) (file key : List ℕ) → s.doing ≡ doings.Waits → s.spoken < 1 → IsUnexpected (incoming.Message (messages.Get n file key)) s
-low_get s n file key waits low = waits_not s (messages.Get n file key) waits (λ h. rw (too_low 1 s.spoken low) refl)
+low_get s n file key waits low = waits_not s (messages.Get n file key) waits (λ h. rw (lt-leb 1 s.spoken low) refl)
 
 pub low_put : (s : Session) (file key : List ℕ) → s.doing ≡ doings.Waits → s.spoken < 1 → IsUnexpected (incoming.Message (messages.Put file key)) s
-low_put s file key waits low = waits_not s (messages.Put file key) waits (λ h. rw (too_low 1 s.spoken low) refl)
+low_put s file key waits low = waits_not s (messages.Put file key) waits (λ h. rw (lt-leb 1 s.spoken low) refl)
 
 -- ---- one that guards
 

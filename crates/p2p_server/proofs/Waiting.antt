@@ -25,8 +25,8 @@ use Rattle.p2p_server.specs.declared.place.Place.{Place}
 use Rattle.p2p_server.specs.declared.place.Scene.{Scene}
 use Rattle.p2p_server.specs.declared.session.Session.{Session}
 use Rattle.p2p_server.specs.declared.step.Step.{Step}
-use Rattle.p2p_server.specs.Answers.{Does, failed_in, here_of, owner_at, owner_of, size_in}
-use Rattle.p2p_server.specs.Bounds.{Fits}
+use Rattle.p2p_server.specs.Answers.{AnswersAsAsked, failed_in, here_of, owner_at, owner_of, size_in}
+use Rattle.p2p_server.specs.Bounds.{IsNumberedStep}
 use Rattle.p2p_server.specs.Phases.{IsNoGain, wanted_in}
 use Rattle.p2p_server.specs.Stepping.{IsAt, IsStep, LeavesOthers, moment_of}
 use Rattle.p2p_server.specs.Talking.{AreAfterStep, FillsSo, HasFill, IsFed, IsFedBy, IsPlain, Tells, doing_of, share_in}
@@ -72,8 +72,8 @@ guarding_is (Some share) kind some none = some
 locked : (x : Scene) (key : List ℕ) (place : Place) (spoken : ℕ) (was now : Rows) (contents contents' : Option Contents) (parts parts' : Option Parts) (records records' : Option (List HoldRecord)) (faults faults' : ℕ)
     (o : Option ShareView) (step : Step)
     → x.place ≡ place
-    → ForSome contents (λ c. (part : ℕ) (right : Bool) → Does x was c contents' part right (λ h. on_lock h key) step)
-    → AreAfter step.kind was now → ((key : List ℕ) → bar_at now key ≡ bar_at was key) → Fits x.number step → sessions.guards step.kind ≡ doing_of (guarding o)
+    → ForSome contents (λ c. (part : ℕ) (right : Bool) → AnswersAsAsked x was c contents' part right (λ h. on_lock h key) step)
+    → AreAfter step.kind was now → ((key : List ℕ) → bar_at now key ≡ bar_at was key) → IsNumberedStep x.number step → sessions.guards step.kind ≡ doing_of (guarding o)
     → Owns (owner_of x) o now.holds → LeavesOthers (owner_of x) was now → IsPlain step → IsNoGain step.kind → parts' ≡ parts → Agrees records' now.holds → faults ≤ faults'
     → IfSome (failed_in step.kind) (λ call. Rose faults faults')
     → IsStep x (incoming.Message (messages.LockContent key)) (moment_of (waiting place spoken) was contents parts records faults) (moment_of (in_phase place spoken (guarding o)) now contents' parts' records' faults') step
@@ -99,8 +99,8 @@ locked x key place spoken was now contents contents' parts parts' records record
 pub lock_so : (x : Scene) (key : List ℕ) (s s' : Session) (was now : Rows) (contents contents' : Option Contents) (parts parts' : Option Parts) (records records' : Option (List HoldRecord)) (faults faults' : ℕ)
     (o : Option ShareView) (step : Step)
     → s.doing ≡ doings.Waits → s' ≡ in_phase s.place s.spoken (guarding o) → x.place ≡ s.place
-    → ForSome contents (λ c. (part : ℕ) (right : Bool) → Does x was c contents' part right (λ h. on_lock h key) step)
-    → AreAfter step.kind was now → ((key : List ℕ) → bar_at now key ≡ bar_at was key) → Fits x.number step
+    → ForSome contents (λ c. (part : ℕ) (right : Bool) → AnswersAsAsked x was c contents' part right (λ h. on_lock h key) step)
+    → AreAfter step.kind was now → ((key : List ℕ) → bar_at now key ≡ bar_at was key) → IsNumberedStep x.number step
     → IfSome o (λ v. sessions.guards step.kind ≡ sessions.Guards v.number v.key) → IfNone o (sessions.guards step.kind ≡ sessions.Waits)
     → Owns (owner_of x) o now.holds → LeavesOthers (owner_of x) was now → IsPlain step → IsNoGain step.kind → parts' ≡ parts → Agrees records' now.holds → faults ≤ faults'
     → IfSome (failed_in step.kind) (λ call. Rose faults faults')
@@ -154,8 +154,8 @@ giving_next (Some g) contents start file key step spoken size given lost plain s
 got : (x : Scene) (start : ℕ) (file key : List ℕ) (place : Place) (spoken : ℕ) (rows : Rows) (contents contents' : Option Contents) (parts parts' : Option Parts) (records records' : Option (List HoldRecord)) (faults faults' : ℕ)
     (o : Option Giving) (step : Step)
     → IsAt x (waiting place spoken) rows → nat_le 1 spoken ≡ true
-    → ForSome contents (λ c. (part : ℕ) (right : Bool) → Does x rows c contents' part right (λ h. tries h (calls.Size ∷ []) (Closing ∷ []) (reply (Talk None) (messages.Data (bytes_left (content_of h key) start)))) step)
-    → AreAfterStep step.kind rows rows → Fits x.number step → GivenSo contents start key step o → IfNone o (step.close ≡ true) → ((v : ℕ) → sessions.version_told v step.reply ≡ v) → IsNoGain step.kind
+    → ForSome contents (λ c. (part : ℕ) (right : Bool) → AnswersAsAsked x rows c contents' part right (λ h. tries h (calls.Size ∷ []) (Closing ∷ []) (reply (Talk None) (messages.Data (bytes_left (content_of h key) start)))) step)
+    → AreAfterStep step.kind rows rows → IsNumberedStep x.number step → GivenSo contents start key step o → IfNone o (step.close ≡ true) → ((v : ℕ) → sessions.version_told v step.reply ≡ v) → IsNoGain step.kind
     → parts' ≡ parts → Agrees records' rows.holds → faults ≤ faults' → IfSome (failed_in step.kind) (λ call. Rose faults faults')
     → IsStep x (incoming.Message (messages.Get start file key)) (moment_of (waiting place spoken) rows contents parts records faults)
     (moment_of (in_phase place (spoken_of o spoken) (giving_of o)) rows contents' parts' records' faults') step
@@ -187,8 +187,8 @@ got x start file key place spoken rows contents contents' parts parts' records r
 pub get_so : (x : Scene) (start : ℕ) (file key : List ℕ) (s s' : Session) (rows : Rows) (contents contents' : Option Contents) (parts parts' : Option Parts) (records records' : Option (List HoldRecord)) (faults faults' : ℕ)
     (o : Option Giving) (step : Step)
     → s.doing ≡ doings.Waits → s' ≡ in_phase s.place (spoken_of o s.spoken) (giving_of o) → IsAt x s rows → nat_le 1 s.spoken ≡ true
-    → ForSome contents (λ c. (rows : Rows) (part : ℕ) (right : Bool) → Does x rows c contents' part right (λ h. tries h (calls.Size ∷ []) (Closing ∷ []) (reply (Talk None) (messages.Data (bytes_left (content_of h key) start)))) step)
-    → ((rows : Rows) → AreAfterStep step.kind rows rows) → Fits x.number step → GivenSo contents start key step o → IfNone o (step.close ≡ true) → ((v : ℕ) → sessions.version_told v step.reply ≡ v) → IsNoGain step.kind
+    → ForSome contents (λ c. (rows : Rows) (part : ℕ) (right : Bool) → AnswersAsAsked x rows c contents' part right (λ h. tries h (calls.Size ∷ []) (Closing ∷ []) (reply (Talk None) (messages.Data (bytes_left (content_of h key) start)))) step)
+    → ((rows : Rows) → AreAfterStep step.kind rows rows) → IsNumberedStep x.number step → GivenSo contents start key step o → IfNone o (step.close ≡ true) → ((v : ℕ) → sessions.version_told v step.reply ≡ v) → IsNoGain step.kind
     → parts' ≡ parts → Agrees records' rows.holds → faults ≤ faults' → IfSome (failed_in step.kind) (λ call. Rose faults faults')
     → IsStep x (incoming.Message (messages.Get start file key)) (moment_of s rows contents parts records faults) (moment_of s' rows contents' parts' records' faults') step
 get_so x start file key s s' rows contents contents' parts parts' records records' faults faults' o step waits new at speaks does after fits given lost plain still same agrees later cause =
@@ -221,8 +221,8 @@ wanting_fed (Some w) p fed = fed
 putting : (x : Scene) (file key : List ℕ) (place : Place) (spoken : ℕ) (was now : Rows) (contents contents' : Option Contents) (parts parts' : Option Parts) (records records' : Option (List HoldRecord)) (faults faults' : ℕ)
     (o : Option Wanting) (step : Step)
     → IsAt x (waiting place spoken) was → nat_le 1 spoken ≡ true
-    → ForSome contents (λ c. (part : ℕ) (right : Bool) → Tells parts (λ p. part ≡ length (p key)) → Does x was c contents' part right (λ h. on_put h key) step)
-    → AreAfterStep step.kind was now → ((key : List ℕ) → bar_at now key ≡ bar_at was key) → Fits x.number step → IfSome o (λ w. is_filling now w.fill ≡ true) → FillsSo sessions.Waits (wanted_in o) (is_filling was) (is_filling now)
+    → ForSome contents (λ c. (part : ℕ) (right : Bool) → Tells parts (λ p. part ≡ length (p key)) → AnswersAsAsked x was c contents' part right (λ h. on_put h key) step)
+    → AreAfterStep step.kind was now → ((key : List ℕ) → bar_at now key ≡ bar_at was key) → IsNumberedStep x.number step → IfSome o (λ w. is_filling now w.fill ≡ true) → FillsSo sessions.Waits (wanted_in o) (is_filling was) (is_filling now)
     → sessions.wants key step.reply ≡ wanted_in o → IsPlain step → IsNoGain step.kind → ForSome parts (λ p. IfSome o (λ w. IsFedBy w.digester w.fill (p w.fill))) → now.holds ≡ was.holds
     → parts' ≡ parts → Agrees records' now.holds → faults ≤ faults' → IfSome (failed_in step.kind) (λ call. Rose faults faults')
     → IsStep x (incoming.Message (messages.Put file key)) (moment_of (waiting place spoken) was contents parts records faults) (moment_of (in_phase place spoken (wanting_of o)) now contents' parts' records' faults') step
@@ -251,8 +251,8 @@ putting x file key place spoken was now contents contents' parts parts' records 
 pub put_so : (x : Scene) (file key : List ℕ) (s s' : Session) (was now : Rows) (contents contents' : Option Contents) (parts parts' : Option Parts) (records records' : Option (List HoldRecord)) (faults faults' : ℕ)
     (o : Option Wanting) (step : Step)
     → s.doing ≡ doings.Waits → s' ≡ in_phase s.place s.spoken (wanting_of o) → IsAt x s was → nat_le 1 s.spoken ≡ true
-    → ForSome contents (λ c. (part : ℕ) (right : Bool) → Tells parts (λ p. part ≡ length (p key)) → Does x was c contents' part right (λ h. on_put h key) step)
-    → AreAfterStep step.kind was now → ((key : List ℕ) → bar_at now key ≡ bar_at was key) → Fits x.number step → IfSome o (λ w. is_filling now w.fill ≡ true) → FillsSo sessions.Waits (wanted_in o) (is_filling was) (is_filling now)
+    → ForSome contents (λ c. (part : ℕ) (right : Bool) → Tells parts (λ p. part ≡ length (p key)) → AnswersAsAsked x was c contents' part right (λ h. on_put h key) step)
+    → AreAfterStep step.kind was now → ((key : List ℕ) → bar_at now key ≡ bar_at was key) → IsNumberedStep x.number step → IfSome o (λ w. is_filling now w.fill ≡ true) → FillsSo sessions.Waits (wanted_in o) (is_filling was) (is_filling now)
     → sessions.wants key step.reply ≡ wanted_in o → IsPlain step → IsNoGain step.kind → ForSome parts (λ p. IfSome o (λ w. IsFedBy w.digester w.fill (p w.fill))) → now.holds ≡ was.holds
     → parts' ≡ parts → Agrees records' now.holds → faults ≤ faults' → IfSome (failed_in step.kind) (λ call. Rose faults faults')
     → IsStep x (incoming.Message (messages.Put file key)) (moment_of s was contents parts records faults) (moment_of s' now contents' parts' records' faults') step

@@ -88,6 +88,6 @@ abbrev pub LeavesContents : EntryKind → Type 0
 LeavesContents kind = (known : Option Contents) (parts : Option Parts) → contents_after known parts kind ≡ known
 
 -- a step over rows and contents: it answers so, and its entry changes the contents
-pub record Does (x : Scene) (rows : Rows) (contents : Contents) (known : Option Contents) (part : ℕ) (right : Bool) (asked : Here → Reply) (step : Step) : Type 0 where
+pub record AnswersAsAsked (x : Scene) (rows : Rows) (contents : Contents) (known : Option Contents) (part : ℕ) (right : Bool) (asked : Here → Reply) (step : Step) : Type 0 where
   pub answers : reply_of step ≡ asked (here_of x rows contents (failed_in step.kind) part right)
   pub changes : Changes known contents step.kind

@@ -44,7 +44,7 @@ IsReplyIf None = Unit {0}
 IsReplyIf (Some m) = IsReply m
 
 -- a step of a session whose entry has this number
-pub record Fits (number : ℕ) (step : Step) : Type 0 where
+pub record IsNumberedStep (number : ℕ) (step : Step) : Type 0 where
   pub kind : IsKind number step.kind
   pub reply : IsReplyIf step.reply
 

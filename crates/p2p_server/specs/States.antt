@@ -34,7 +34,7 @@ stand_after kind was =
     }
 
 -- the table and a store that tells have these rows
-pub record Keeps (rows : Rows) (known : Option Contents) (stand : Stand) : Type 0 where
+pub record HaveRows (rows : Rows) (known : Option Contents) (stand : Stand) : Type 0 where
   pub contents : Contents
   pub told : known ≡ Some contents
   pub present : (key : List ℕ) → is_in contents key ≡ stand.present key

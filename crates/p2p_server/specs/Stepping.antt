@@ -19,8 +19,8 @@ use Rattle.p2p_server.specs.declared.place.Place.{Place}
 use Rattle.p2p_server.specs.declared.place.Scene.{Scene}
 use Rattle.p2p_server.specs.declared.incoming.Incoming.{Incoming}
 use Rattle.p2p_server.specs.declared.step.Step.{Step}
-use Rattle.p2p_server.specs.Answers.{Does, failed_in, owner_at}
-use Rattle.p2p_server.specs.Bounds.{Fits}
+use Rattle.p2p_server.specs.Answers.{AnswersAsAsked, failed_in, owner_at}
+use Rattle.p2p_server.specs.Bounds.{IsNumberedStep}
 use Rattle.p2p_server.specs.Talking.{AreAfterStep, FillsSo, HasFill, IsFed, IsJudgedIn, SeesPart, SeesSize, doing_of, next_session, on_heard, parts_after, session_of, share_in}
 
 -- a session, a table's rows, and what a store tells: its contents, parts and records of holds, and how many of its calls
@@ -57,10 +57,10 @@ pub record IsLetGo (place : Place) (doing : Doing) (was now : Rows) : Type 0 whe
 
 -- this is answered, by a step from one moment to the next
 pub record IsStep (x : Scene) (i : Incoming) (was now : Moment) (step : Step) : Type 0 where
-  pub does : ForSome was.contents (λ c. (part : ℕ) (right : Bool) → SeesPart was.parts was.session.doing i part right → Does x was.rows c now.contents part right (λ h. on_heard h (session_of was.session) i) step)
+  pub does : ForSome was.contents (λ c. (part : ℕ) (right : Bool) → SeesPart was.parts was.session.doing i part right → AnswersAsAsked x was.rows c now.contents part right (λ h. on_heard h (session_of was.session) i) step)
   pub after : AreAfterStep step.kind was.rows now.rows
   pub bars : (key : List ℕ) → bar_at now.rows key ≡ bar_at was.rows key
-  pub fits : Fits x.number step
+  pub fits : IsNumberedStep x.number step
   pub filled : FillsSo (doing_of was.session.doing) (doing_of now.session.doing) (is_filling was.rows) (is_filling now.rows)
   pub next : (size : List ℕ → Option ℕ) → SeesSize was.contents i size → session_of now.session ≡ next_session size step (session_of was.session) i
   pub place : now.session.place ≡ was.session.place

@@ -5,15 +5,15 @@ ghost use Rattle.std.specs.Option.{ForSome, option_map};
 ghost use Rattle.annex_base.specs.Causes.{Rose};
 ghost use Rattle.annex_base.specs.declared.kinds.Call.TheVariants as calls;
 ghost use Rattle.run_data.specs.declared.entry.By.{By};
-ghost use Rattle.node_model.specs.SessionStep.{tries, refuses, check_answer, is_here, bar_on, on_lock, on_remove, on_remove_before};
+ghost use Rattle.node_model.specs.SessionStep.{tries, failure_line, check_answer, is_here, bar_on, on_lock, on_remove, on_remove_before};
 ghost use Rattle.node_model.specs.Calls.{to_lock, to_remove};
 ghost use Rattle.node_model.specs.Rows.{is_blocked, same_owner};
 ghost use Rattle.node_model.specs.Sessions.{guards, Waits};
 ghost use Rattle.content_lock.specs.Rows.{AreAfter, bar_at};
 ghost use Rattle.content_lock.specs.Stored.{Agrees};
 ghost use Rattle.content_lock.specs.Tokens.{Owns, ShareView};
-ghost use Rattle.p2p_server.specs.Answers.{Does, contents_after, failed_in, is_in, owner_of};
-ghost use Rattle.p2p_server.specs.Bounds.{Fits};
+ghost use Rattle.p2p_server.specs.Answers.{AnswersAsAsked, contents_after, failed_in, is_in, owner_of};
+ghost use Rattle.p2p_server.specs.Bounds.{IsNumberedStep};
 ghost use Rattle.content_lock.specs.CallsMade.{MakesCalls, fewer};
 ghost use Rattle.p2p_server.specs.Phases.{IsNoGain};
 ghost use Rattle.p2p_server.specs.Talking.{IsPlain};
@@ -57,7 +57,7 @@ pub(crate) fn failed(scene: Scene, call: Call) -> Step
 /// Says who the repository is.
 pub(crate) fn welcome(id: RepoId) -> Step
     ensures says { result ≡ record { kind = EntryKind.Talk None; reply = Some (Message.AuthSuccess id); close = false } }
-    ensures fits { (number : ℕ) → Fits number result }
+    ensures fits { (number : ℕ) → IsNumberedStep number result }
 {
     // For the proof, which cites that it is an identifier.
     id.print();
@@ -68,7 +68,7 @@ pub(crate) fn welcome(id: RepoId) -> Step
 pub(crate) fn time(scene: Scene) -> Step
     requires { scene.clock + 600000 < 2 ^ 62 }
     ensures says { result ≡ record { kind = EntryKind.Talk None; reply = Some (Message.Timestamp (scene.clock / 1000)); close = false } }
-    ensures fits { (number : ℕ) → Fits number result }
+    ensures fits { (number : ℕ) → IsNumberedStep number result }
 {
     Step::says(
         EntryKind::Talk { job: None },
@@ -83,11 +83,11 @@ pub(crate) fn check_present<K: Keeper>(
     keeper: &mut K,
     key: Key,
 ) -> Step
-    ensures does { ForSome (K.contents keeper.old) (λ c. (part : ℕ) (right : Bool) → Does scene table.now c (K.contents keeper.new) part right (λ h. tries h (calls.Has ∷ []) refuses (check_answer key (is_here h key) (bar_on h key))) result) }
+    ensures does { ForSome (K.contents keeper.old) (λ c. (part : ℕ) (right : Bool) → AnswersAsAsked scene table.now c (K.contents keeper.new) part right (λ h. tries h (calls.Has ∷ []) failure_line (check_answer key (is_here h key) (bar_on h key))) result) }
     ensures plain { IsPlain result }
     ensures still { IsNoGain result.kind }
     ensures after { AreAfter result.kind table.now table.now }
-    ensures fits { Fits scene.number result }
+    ensures fits { IsNumberedStep scene.number result }
     ensures parts { K.parts keeper.new ≡ K.parts keeper.old }
     ensures records { K.records keeper.new ≡ K.records keeper.old }
     ensures files { K.files keeper.new ≡ K.files keeper.old }
@@ -110,11 +110,11 @@ pub(crate) fn check_present<K: Keeper>(
 
 /// Removes the content, on a peer's order.
 pub(crate) fn remove<K: Keeper>(scene: Scene, table: &LockTable, keeper: &mut K, key: Key) -> Step
-    ensures does { ForSome (K.contents keeper.old) (λ c. (part : ℕ) (right : Bool) → Does scene table.now c (K.contents keeper.new) part right (λ h. on_remove h key) result) }
+    ensures does { ForSome (K.contents keeper.old) (λ c. (part : ℕ) (right : Bool) → AnswersAsAsked scene table.now c (K.contents keeper.new) part right (λ h. on_remove h key) result) }
     ensures plain { IsPlain result }
     ensures still { IsNoGain result.kind }
     ensures after { AreAfter result.kind table.now table.now }
-    ensures fits { Fits scene.number result }
+    ensures fits { IsNumberedStep scene.number result }
     ensures parts { K.parts keeper.new ≡ K.parts keeper.old }
     ensures records { K.records keeper.new ≡ K.records keeper.old }
     ensures files { K.files keeper.new ≡ K.files keeper.old }
@@ -148,11 +148,11 @@ pub(crate) fn remove_before<K: Keeper>(
     before: u64,
     key: Key,
 ) -> Step
-    ensures does { ForSome (K.contents keeper.old) (λ c. (part : ℕ) (right : Bool) → Does scene table.now c (K.contents keeper.new) part right (λ h. on_remove_before h before key) result) }
+    ensures does { ForSome (K.contents keeper.old) (λ c. (part : ℕ) (right : Bool) → AnswersAsAsked scene table.now c (K.contents keeper.new) part right (λ h. on_remove_before h before key) result) }
     ensures plain { IsPlain result }
     ensures still { IsNoGain result.kind }
     ensures after { AreAfter result.kind table.now table.now }
-    ensures fits { Fits scene.number result }
+    ensures fits { IsNumberedStep scene.number result }
     ensures parts { K.parts keeper.new ≡ K.parts keeper.old }
     ensures records { K.records keeper.new ≡ K.records keeper.old }
     ensures files { K.files keeper.new ≡ K.files keeper.old }
@@ -181,10 +181,10 @@ pub(crate) fn lock<K: Keeper>(
     requires early { scene.clock + 600000 < 2 ^ 62 }
     requires fresh { All (λ h. h.number < scene.number) table.old.holds }
     requires free { Owns (owner_of scene) None table.old.holds }
-    ensures does { IfOk result (λ r. ForSome (K.contents keeper.old) (λ c. (part : ℕ) (right : Bool) → Does scene table.old c (K.contents keeper.new) part right (λ h. on_lock h key) r.0)) }
+    ensures does { IfOk result (λ r. ForSome (K.contents keeper.old) (λ c. (part : ℕ) (right : Bool) → AnswersAsAsked scene table.old c (K.contents keeper.new) part right (λ h. on_lock h key) r.0)) }
     ensures after { IfOk result (λ r. AreAfter r.0.kind table.old table.new) }
     ensures bars { (k : List ℕ) → bar_at table.new k ≡ bar_at table.old k }
-    ensures fits { IfOk result (λ r. Fits scene.number r.0) }
+    ensures fits { IfOk result (λ r. IsNumberedStep scene.number r.0) }
     ensures shared { IfOk result (λ r. IfSome r.1 (λ s. guards r.0.kind ≡ guards (EntryKind.Share s.number 0 (owner_of scene) s.key))) }
     ensures refused { IfOk result (λ r. IfNone r.1 (guards r.0.kind ≡ Waits)) }
     ensures owns { IfOk result (λ r. Owns (owner_of scene) r.1 table.new.holds) }

@@ -21,12 +21,12 @@ ghost use Rattle.content_lock.specs.Rows.{Rows, bar_at, is_filling};
 ghost use Rattle.content_lock.specs.Stored.{Agrees};
 ghost use Rattle.content_lock.specs.Tokens.{Owns, ShareView, given_in};
 ghost use Rattle.p2p_server.specs.Answers.{LeavesContents, contents_after, failed_in, owner_at, reply_of, size_in};
-ghost use Rattle.p2p_server.specs.Bounds.{Fits, FitsMore, IsKind, IsReplyIf};
+ghost use Rattle.p2p_server.specs.Bounds.{IsNumberedStep, FitsMore, IsKind, IsReplyIf};
 ghost use Rattle.content_lock.specs.CallsMade.{MakesCalls, fewer};
 ghost use Rattle.p2p_server.specs.Giving.{IsPieceOf, failed_more, is_giving, reply_more, session_sent};
 ghost use Rattle.p2p_server.specs.Phases.{HasLeft, HasRoom, IsBare, IsGave, IsGuarding, IsLonger, IsMoving, IsTook, IsWanting, WithinOf};
 ghost use Rattle.p2p_server.specs.SessionCalls.{Makes, MakesStep, calls_frame, calls_next};
-ghost use Rattle.p2p_server.specs.States.{IsScene, Keeps, Stand, stand_after, stand_of};
+ghost use Rattle.p2p_server.specs.States.{IsScene, HaveRows, Stand, stand_after, stand_of};
 ghost use Rattle.p2p_server.specs.Stepping.{Goes, IsAt, IsLetGo, IsStep, IsUnexpected, guards_key, moment_of};
 ghost use Rattle.p2p_server.specs.Talking.{AreAfterStep, Brings, FillsSo, HasFill, HasFillOf, IsFed, IsFedOf, IsJudgedOf, SaysSo, SeesPartOf, SeesSize, doing_of, guarded_in, label_in, parts_after_of, place_of, session_of, share_in, share_of};
 
@@ -143,7 +143,7 @@ impl Session {
     fn agree(&mut self, n: u64) -> Step
         ensures says { result ≡ record { kind = EntryKind.Talk None; reply = Some (Message.Version (min n self.old.place.version)); close = false } }
         ensures session { self.new ≡ record { place = self.old.place; spoken = min n self.old.place.version; doing = self.old.doing } }
-        ensures fits { (number : ℕ) → Fits number result }
+        ensures fits { (number : ℕ) → IsNumberedStep number result }
     {
         self.spoken = n.min(self.place.version as u64);
         Step::says(EntryKind::Talk { job: None }, Message::Version(self.spoken))
@@ -427,19 +427,19 @@ impl Session {
         // those after its entry. The failed call is the one that the entry tells.
         ensures step { IfOk result (λ step. (s : SetUp) (st : State) (k : Look) (a : EndName) (body : FrameText)
             → IsScene (record { place = place_of self.old; clock = now; number = number }) s st k a
-            → Keeps table.old (K.contents keeper.old) (stand_of st) → ((key : List ℕ) → is_filled s st key ≡ is_filling table.old key)
+            → HaveRows table.old (K.contents keeper.old) (stand_of st) → ((key : List ℕ) → is_filled s st key ≡ is_filling table.old key)
             → st.sessions a ≡ session_of self.old → Brings body incoming.now
             → SeesPartOf (K.parts keeper.old) self.old incoming.now k.part k.right → k.fails ≡ failed_in step.kind
             → reply_of step ≡ on_frame (here s st k a) (st.sessions a) body) }
         ensures calls { IfOk result (λ step. (s : SetUp) (st : State) (k : Look) (a : EndName) (body : FrameText)
             → IsScene (record { place = place_of self.old; clock = now; number = number }) s st k a
-            → Keeps table.old (K.contents keeper.old) (stand_of st) → ((key : List ℕ) → is_filled s st key ≡ is_filling table.old key)
+            → HaveRows table.old (K.contents keeper.old) (stand_of st) → ((key : List ℕ) → is_filled s st key ≡ is_filling table.old key)
             → st.sessions a ≡ session_of self.old → Brings body incoming.now
             → SeesPartOf (K.parts keeper.old) self.old incoming.now k.part k.right → k.fails ≡ failed_in step.kind
             → MakesCalls (calls_frame (here s st k a) (st.sessions a) body) k.fails (K.failing keeper.old) (K.failing keeper.new)) }
         ensures left { IfOk result (λ step. K.failing keeper.new ≡ option_map (fewer (failed_in step.kind)) (K.failing keeper.old)) }
-        ensures rows { IfOk result (λ step. (stand : Stand) (part : ℕ) (right : Bool) → Keeps table.old (K.contents keeper.old) stand
-            → SeesPartOf (K.parts keeper.old) self.old incoming.now part right → Keeps table.new (K.contents keeper.new) (stand_after step.kind stand)) }
+        ensures rows { IfOk result (λ step. (stand : Stand) (part : ℕ) (right : Bool) → HaveRows table.old (K.contents keeper.old) stand
+            → SeesPartOf (K.parts keeper.old) self.old incoming.now part right → HaveRows table.new (K.contents keeper.new) (stand_after step.kind stand)) }
 
         // The holds and bars are those that its entry leaves, also where the store doesn't tell its contents. Numbers of holds
         // stay below that of the next entry; replies are short. The entry is a session's.

@@ -21,12 +21,12 @@ ghost use Rattle.content_lock.specs.Rows.{Rows, bar_at, is_filling};
 ghost use Rattle.content_lock.specs.Stored.{Agrees};
 ghost use Rattle.content_lock.specs.Tokens.{Owns, ShareView, given_in};
 ghost use Rattle.p2p_server.specs.Answers.{LeavesContents, contents_after, failed_in, owner_at, reply_of, size_in};
-ghost use Rattle.p2p_server.specs.Bounds.{Fits, FitsMore, IsKind, IsReplyIf};
+ghost use Rattle.p2p_server.specs.Bounds.{IsNumberedStep, FitsMore, IsKind, IsReplyIf};
 ghost use Rattle.content_lock.specs.CallsMade.{MakesCalls, fewer};
 ghost use Rattle.p2p_server.specs.Giving.{IsPieceOf, failed_more, is_giving, reply_more, session_sent};
 ghost use Rattle.p2p_server.specs.Phases.{HasLeft, HasRoom, IsBare, IsGave, IsGuarding, IsLonger, IsMoving, IsTook, IsWanting, WithinOf};
 ghost use Rattle.p2p_server.specs.SessionCalls.{Makes, MakesStep, calls_frame, calls_next};
-ghost use Rattle.p2p_server.specs.States.{IsScene, Keeps, Stand, stand_after, stand_of};
+ghost use Rattle.p2p_server.specs.States.{IsScene, HaveRows, Stand, stand_after, stand_of};
 ghost use Rattle.p2p_server.specs.Stepping.{Goes, IsAt, IsLetGo, IsStep, IsUnexpected, guards_key, moment_of};
 ghost use Rattle.p2p_server.specs.Talking.{AreAfterStep, Brings, FillsSo, HasFill, HasFillOf, IsFed, IsFedOf, IsJudgedOf, SaysSo, SeesPartOf, SeesSize, doing_of, guarded_in, label_in, parts_after_of, place_of, session_of, share_in, share_of};
 

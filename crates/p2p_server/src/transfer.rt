@@ -13,8 +13,8 @@ ghost use Rattle.node_model.specs.Ends.{server_end};
 ghost use Rattle.node_model.specs.Sessions.{Gives, Waits, gives, reaches, takes_more, version_told, wants};
 ghost use Rattle.node_model.specs.SessionStep.{Here, bytes_left, content_of, on_put, on_valid, reply, tries};
 ghost use Rattle.content_lock.specs.Rows.{Rows, bar_at, is_filling};
-ghost use Rattle.p2p_server.specs.Answers.{Changes, Does, LeavesContents, contents_after, failed_in, is_in, owner_of, reply_of, size_in};
-ghost use Rattle.p2p_server.specs.Bounds.{Fits};
+ghost use Rattle.p2p_server.specs.Answers.{Changes, AnswersAsAsked, LeavesContents, contents_after, failed_in, is_in, owner_of, reply_of, size_in};
+ghost use Rattle.p2p_server.specs.Bounds.{IsNumberedStep};
 ghost use Rattle.content_lock.specs.CallsMade.{MakesCalls, fewer};
 ghost use Rattle.p2p_server.specs.Phases.{IsJudged, IsNoGain, wanted_in};
 ghost use Rattle.p2p_server.specs.Talking.{AreAfterStep, FillsSo, HasFill, IsFed, IsFedBy, IsPlain, SeesTaken, Tells, doing_of, parts_after_valid};
@@ -68,10 +68,10 @@ pub(crate) fn get<K: Keeper>(
     start: u64,
     key: &Key,
 ) -> Result<(Step, Option<Giving>), NoMemory>
-    ensures does { IfOk result (λ r. ForSome (K.contents keeper.old) (λ c. (rows : Rows) (part : ℕ) (right : Bool) → Does scene rows c (K.contents keeper.new) part right (λ h. tries h (calls.Size ∷ []) (Closing ∷ []) (reply (EntryKind.Talk None) (Message.Data (bytes_left (content_of h key.now) start)))) r.0)) }
+    ensures does { IfOk result (λ r. ForSome (K.contents keeper.old) (λ c. (rows : Rows) (part : ℕ) (right : Bool) → AnswersAsAsked scene rows c (K.contents keeper.new) part right (λ h. tries h (calls.Size ∷ []) (Closing ∷ []) (reply (EntryKind.Talk None) (Message.Data (bytes_left (content_of h key.now) start)))) r.0)) }
     ensures after { IfOk result (λ r. (rows : Rows) → AreAfterStep r.0.kind rows rows) }
     ensures still { IfOk result (λ r. IsNoGain r.0.kind) }
-    ensures fits { IfOk result (λ r. Fits scene.number r.0) }
+    ensures fits { IfOk result (λ r. IsNumberedStep scene.number r.0) }
     ensures given { IfOk result (λ r. IfSome r.1 (λ g. (r.0.close ≡ false) × ((size : List ℕ → Option ℕ) → Tells (K.contents keeper.old) (λ c. size key.now ≡ size_in c key.now) → gives key.now start (reaches (size key.now) start) r.0.reply ≡ Gives g.key g.at (g.end - g.at) g.good))) }
     ensures plain { IfOk result (λ r. (v : ℕ) → version_told v r.0.reply ≡ v) }
     ensures lost { IfOk result (λ r. IfNone r.1 (r.0.close ≡ true)) }
@@ -121,10 +121,10 @@ pub(crate) fn put<K: Keeper>(
     keeper: &mut K,
     key: &Key,
 ) -> Result<(Step, Option<Wanting>), NoMemory>
-    ensures does { IfOk result (λ r. ForSome (K.contents keeper.old) (λ c. (part : ℕ) (right : Bool) → Tells (K.parts keeper.old) (λ p. part ≡ length (p key.now)) → Does scene table.old c (K.contents keeper.new) part right (λ h. on_put h key.now) r.0)) }
+    ensures does { IfOk result (λ r. ForSome (K.contents keeper.old) (λ c. (part : ℕ) (right : Bool) → Tells (K.parts keeper.old) (λ p. part ≡ length (p key.now)) → AnswersAsAsked scene table.old c (K.contents keeper.new) part right (λ h. on_put h key.now) r.0)) }
     ensures after { IfOk result (λ r. AreAfterStep r.0.kind table.old table.new) }
     ensures still { IfOk result (λ r. IsNoGain r.0.kind) }
-    ensures fits { IfOk result (λ r. Fits scene.number r.0) }
+    ensures fits { IfOk result (λ r. IsNumberedStep scene.number r.0) }
     ensures given { IfOk result (λ r. IfSome r.1 (λ w. is_filling table.new w.fill ≡ true)) }
     ensures filled { IfOk result (λ r. FillsSo Waits (wanted_in r.1) (is_filling table.old) (is_filling table.new)) }
     ensures next { IfOk result (λ r. wants key.now r.0.reply ≡ wanted_in r.1) }
@@ -175,7 +175,7 @@ fn ask<K: Keeper>(
     ensures does { IfOk result (λ r. (h : Here) → Tells (K.parts keeper.old) (λ p. h.part ≡ length (p key.now)) → h.present key.now ≡ false → h.filled key.now ≡ false → h.at ≡ server_end scene.place.peer scene.place.slot → h.fails ≡ failed_in r.0.kind → reply_of r.0 ≡ on_put h key.now) }
     ensures after { IfOk result (λ r. AreAfterStep r.0.kind table.old table.new) }
     ensures calm { IfOk result (λ r. IsNoGain r.0.kind) }
-    ensures fits { IfOk result (λ r. Fits scene.number r.0) }
+    ensures fits { IfOk result (λ r. IsNumberedStep scene.number r.0) }
     ensures still { IfOk result (λ r. (c : Contents) (known : Option Contents) → known ≡ Some c → Changes known c r.0.kind) }
     ensures given { IfOk result (λ r. IfSome r.1 (λ w. is_filling table.new w.fill ≡ true)) }
     ensures filled { IfOk result (λ r. FillsSo Waits (wanted_in r.1) (is_filling table.old) (is_filling table.new)) }
@@ -386,10 +386,10 @@ pub(crate) fn verify<K: Keeper>(
     keeper: &mut K,
     taken: &Taken,
 ) -> Result<Step, NoMemory>
-    ensures does { IfOk result (λ step. ForSome (K.contents keeper.old) (λ c. (rows : Rows) (part : ℕ) (right : Bool) → SeesTaken (K.parts keeper.old) taken.now right → Does scene rows c (K.contents keeper.new) part right (λ h. on_valid h taken.now.fill taken.now.size) step)) }
+    ensures does { IfOk result (λ step. ForSome (K.contents keeper.old) (λ c. (rows : Rows) (part : ℕ) (right : Bool) → SeesTaken (K.parts keeper.old) taken.now right → AnswersAsAsked scene rows c (K.contents keeper.new) part right (λ h. on_valid h taken.now.fill taken.now.size) step)) }
     ensures after { IfOk result (λ step. (rows : Rows) → AreAfterStep step.kind rows rows) }
     ensures judged { IfOk result (λ step. IsJudged taken.now step.kind) }
-    ensures fits { IfOk result (Fits scene.number) }
+    ensures fits { IfOk result (IsNumberedStep scene.number) }
     ensures plain { IfOk result IsPlain }
     ensures parts { IfOk result (λ step. K.parts keeper.new ≡ parts_after_valid taken.now.fill step.kind (K.parts keeper.old)) }
     ensures err_contents { OnErr result (K.contents keeper.new ≡ K.contents keeper.old) }
@@ -417,9 +417,9 @@ pub(crate) fn verify<K: Keeper>(
 
 /// Makes the part the content.
 fn commit<K: Keeper>(scene: Scene, keeper: &mut K, key: Key, size: u64) -> Result<Step, NoMemory>
-    ensures does { IfOk result (λ step. ForSome (K.contents keeper.old) (λ c. (rows : Rows) (part : ℕ) → Tells (K.parts keeper.old) (λ p. size ≡ length (p key)) → Does scene rows c (K.contents keeper.new) part true (λ h. on_valid h key size) step)) }
+    ensures does { IfOk result (λ step. ForSome (K.contents keeper.old) (λ c. (rows : Rows) (part : ℕ) → Tells (K.parts keeper.old) (λ p. size ≡ length (p key)) → AnswersAsAsked scene rows c (K.contents keeper.new) part true (λ h. on_valid h key size) step)) }
     ensures after { IfOk result (λ step. (rows : Rows) → AreAfterStep step.kind rows rows) }
-    ensures fits { IfOk result (Fits scene.number) }
+    ensures fits { IfOk result (IsNumberedStep scene.number) }
     ensures plain { IfOk result IsPlain }
     ensures parts { IfOk result (λ step. K.parts keeper.new ≡ parts_after_valid key step.kind (K.parts keeper.old)) }
     ensures err_contents { OnErr result (K.contents keeper.new ≡ K.contents keeper.old) }
@@ -449,10 +449,10 @@ fn commit<K: Keeper>(scene: Scene, keeper: &mut K, key: Key, size: u64) -> Resul
 
 /// Drops the part.
 fn discard<K: Keeper>(scene: Scene, keeper: &mut K, key: &Key) -> Step
-    ensures does { ForSome (K.contents keeper.old) (λ c. (rows : Rows) (part size : ℕ) → Does scene rows c (K.contents keeper.new) part false (λ h. on_valid h key.now size) result) }
+    ensures does { ForSome (K.contents keeper.old) (λ c. (rows : Rows) (part size : ℕ) → AnswersAsAsked scene rows c (K.contents keeper.new) part false (λ h. on_valid h key.now size) result) }
     ensures after { (rows : Rows) → AreAfterStep result.kind rows rows }
     ensures lost { IsNoGain result.kind }
-    ensures fits { Fits scene.number result }
+    ensures fits { IsNumberedStep scene.number result }
     ensures plain { IsPlain result }
     ensures parts { K.parts keeper.new ≡ parts_after_valid key.now result.kind (K.parts keeper.old) }
     ensures contents { K.contents keeper.new ≡ K.contents keeper.old }

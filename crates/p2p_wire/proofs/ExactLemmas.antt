@@ -12,7 +12,7 @@ use Rattle.p2p_wire.specs.declared.decoder.Why.{Why}
 use Rattle.p2p_wire.specs.declared.decoder.Why.TheVariants.{NotAMessage, TooLong}
 use Rattle.p2p_wire.specs.Messages.{message_of, text_of}
 use Rattle.p2p_wire.specs.Answers.{Answers, HasLine, HasLongLine, HasRaw, NeedsMore}
-use Rattle.p2p_wire.specs.Streams.{Unread, Told, Says, Gives, Waits, Refuses, next_answer, after, after_told, unread_told, line_told, raw_told, whole_line, line_len, line_of}
+use Rattle.p2p_wire.specs.Streams.{DecoderView, DecoderAnswer, Says, Gives, Waits, Refuses, next_answer, after, after_told, unread_told, line_told, raw_told, whole_line, line_len, line_of}
 use Rattle.p2p_wire.proofs.BufferLemmas.{line_within, line_grows}
 use Rattle.p2p_wire.proofs.StreamLemmas.{told_says, told_gives, said_bytes, said_line}
 use Rattle.p2p_wire.proofs.DecodeLemmas.{IsClear, clear_len, clear_text, clear_whole, line_comes, line_waits, raw_gives, read_short, told_at_line, told_at_raw}
@@ -43,7 +43,7 @@ first_line bytes within =
 -- ---- where a line comes next
 
 -- what an answer there shows
-abbrev LineShows : ℕ → List ℕ → Told → Type 0
+abbrev LineShows : ℕ → List ℕ → DecoderAnswer → Type 0
 LineShows place bytes (Says m) = (line_len bytes < length bytes) × (message_of (before_first is_newline bytes) ≡ Some m)
 LineShows place bytes (Gives raw) = ⊥
 LineShows place bytes Waits = (line_len bytes ≡ length bytes) × (length bytes ≤ 8192)
@@ -60,7 +60,7 @@ line_shows place bytes = go (nat_lt 8192 (line_len bytes)) (line_len bytes == le
     go false false (Some m) long same read = (let within = line_within bytes in grind (arith, nat_tests), read)
     go false false None long same read = (refl, grind (arith, nat_tests), (let within = line_within bytes in grind (arith, nat_tests)), read)
 
-line_is : (place : ℕ) (bytes : List ℕ) (t : Told) → line_told place bytes ≡ t → LineShows place bytes t
+line_is : (place : ℕ) (bytes : List ℕ) (t : DecoderAnswer) → line_told place bytes ≡ t → LineShows place bytes t
 line_is place bytes t e = subst (LineShows place bytes) e (line_shows place bytes)
 
 -- a whole line that is no message
@@ -86,14 +86,14 @@ line_long place bytes many one =
 -- ---- each answer
 
 -- a line or raw bytes come next
-next : {P : Type 0} (u : Unread) → (u.left ≡ 0 → P) → (0 < u.left → (u.left == 0) ≡ false → P) → P
+next : {P : Type 0} (u : DecoderView) → (u.left ≡ 0 → P) → (0 < u.left → (u.left == 0) ≡ false → P) → P
 next {P} u line raw = go (u.left == 0) refl
   where
     go : (b : Bool) → (u.left == 0) ≡ b → P
     go true is = line (eqb-true u.left 0 is)
     go false is = raw (grind (arith, nat_tests)) is
 
-at_line : (u : Unread) (t : Told) → u.fault ≡ None → u.left ≡ 0 → next_answer u ≡ t → LineShows u.place u.bytes t
+at_line : (u : DecoderView) (t : DecoderAnswer) → u.fault ≡ None → u.left ≡ 0 → next_answer u ≡ t → LineShows u.place u.bytes t
 at_line u t sound none e = line_is u.place u.bytes t (sym (told_at_line u sound none) ∙ e)
 
 raw_waits : (xs : List ℕ) → raw_told xs ≡ Waits → xs ≡ []
@@ -113,7 +113,7 @@ none_taken zero bytes some e = absurd (omega (arith, some))
 none_taken (suc n) [] some e = refl
 none_taken (suc n) (b ∷ bytes) some e = absurd cc
 
-more : (u : Unread) → u.fault ≡ None → (next_answer u ≡ Waits) ↔ NeedsMore u
+more : (u : DecoderView) → u.fault ≡ None → (next_answer u ≡ Waits) ↔ NeedsMore u
 more u sound = (
   λ e. next u
       (λ none. let s = at_line u Waits sound none e in inl (none, clear_by_len u.bytes s.0, s.1))
@@ -128,7 +128,7 @@ more u sound = (
     go zero = refl
     go (suc n) = refl
 
-raws : (u : Unread) → u.fault ≡ None → (raw : List ℕ) → (next_answer u ≡ Gives raw) ↔ HasRaw u raw
+raws : (u : DecoderView) → u.fault ≡ None → (raw : List ℕ) → (next_answer u ≡ Gives raw) ↔ HasRaw u raw
 raws u sound raw = (
   λ e. next u
       (λ none. absurd (at_line u (Gives raw) sound none e))
@@ -138,7 +138,7 @@ raws u sound raw = (
       (λ some is. told_at_raw u sound is ∙ ap raw_told (sym has.1) ∙ raw_gives raw (λ empty. let few : length raw ≡ 0 = ap length empty in let low = has.0 in omega (arith, few, low))),
 )
 
-says : (u : Unread) → u.fault ≡ None → (m : Message) → (next_answer u ≡ Says m) ↔ (HasLine u (text_of m) × (message_of (text_of m) ≡ Some m))
+says : (u : DecoderView) → u.fault ≡ None → (m : Message) → (next_answer u ≡ Says m) ↔ (HasLine u (text_of m) × (message_of (text_of m) ≡ Some m))
 says u sound m = (
   λ e.
       let s = told_says u m e in (
@@ -154,7 +154,7 @@ says u sound m = (
       ∙ line_comes u.place (text_of m) has.0.rest m (clear_text (text_of m) has.0.one_line) (read_short (text_of m) m has.1) has.1,
 )
 
-bad : (u : Unread) → u.fault ≡ None → (at : ℕ) → (next_answer u ≡ Refuses at NotAMessage) ↔ ((at ≡ u.place) × ((text : List ℕ) × HasLine u text × (length text ≤ 8192) × (message_of text ≡ None)))
+bad : (u : DecoderView) → u.fault ≡ None → (at : ℕ) → (next_answer u ≡ Refuses at NotAMessage) ↔ ((at ≡ u.place) × ((text : List ℕ) × HasLine u text × (length text ≤ 8192) × (message_of text ≡ None)))
 bad u sound at = (
   λ e. next u
       (λ none.
@@ -178,7 +178,7 @@ bad u sound at = (
       ∙ line_fails u.place has.1.0 has.1.1.rest (clear_text has.1.0 has.1.1.one_line) has.1.2 has.1.3 ∙ ap (λ n. Refuses n NotAMessage) (sym has.0),
 )
 
-long : (u : Unread) → u.fault ≡ None → (at : ℕ) → (next_answer u ≡ Refuses at TooLong) ↔ ((at ≡ u.place) × HasLongLine u)
+long : (u : DecoderView) → u.fault ≡ None → (at : ℕ) → (next_answer u ≡ Refuses at TooLong) ↔ ((at ≡ u.place) × HasLongLine u)
 long u sound at = (
   λ e. next u
       (λ none.
@@ -190,11 +190,11 @@ long u sound at = (
   λ has. told_at_line u sound has.1.0 ∙ line_long u.place u.bytes has.1.1 has.1.2 ∙ ap (λ n. Refuses n TooLong) (sym has.0),
 )
 
-again : (u : Unread) (why : Why) → u.fault ≡ Some why → (next_answer u ≡ Refuses u.place why) × (after u ≡ u)
+again : (u : DecoderView) (why : Why) → u.fault ≡ Some why → (next_answer u ≡ Refuses u.place why) × (after u ≡ u)
 again u why is =
     let says' : next_answer u ≡ Refuses u.place why = ap (unread_told u) is in
     (says', ap (after_told u) says' ∙ ap (λ (f : Option Why). record { place = u.place; left = u.left; bytes = u.bytes; fault = f }) (sym is))
 
 -- **each answer comes exactly then**
-pub exact : (u : Unread) → Answers u
+pub exact : (u : DecoderView) → Answers u
 exact u = record { more = more u; raw = raws u; line = says u; bad = bad u; long = long u; again = again u }

@@ -18,8 +18,6 @@ use Rattle.p2p_wire.specs.declared.message.Message.TheVariants.{AuthSuccess, Ver
 use Rattle.annex_base.specs.Lines.{is_space}
 use Rattle.p2p_wire.specs.Messages.{◌⊳◌, alone, key_in, message_by, message_of, number_in, rest_in, text_in, text_of, then_in, with_file, with_key, with_number, with_one, word_in}
 
--- ---- steps that may fail
-
 -- ---- a line is its first word, and the rest behind a space
 
 later : (b : ℕ) (bs : List ℕ) → is_space b ≡ false → position_or_len is_space (b ∷ bs) ≡ suc (position_or_len is_space bs)

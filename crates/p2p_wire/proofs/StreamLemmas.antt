@@ -11,7 +11,7 @@ use Rattle.annex_base.proofs.Conditions.{if_is}
 use Rattle.p2p_wire.specs.declared.message.Message.{Message}
 use Rattle.p2p_wire.specs.declared.decoder.Why.{Why}
 use Rattle.p2p_wire.specs.Messages.{message_of, text_of}
-use Rattle.p2p_wire.specs.Streams.{Unread, Says, Gives, Refuses, next_answer, unread_told, line_told, raw_told, whole_line, line_len, line_of, IsLine}
+use Rattle.p2p_wire.specs.Streams.{DecoderView, Says, Gives, Refuses, next_answer, unread_told, line_told, raw_told, whole_line, line_len, line_of, IsLine}
 use Rattle.p2p_wire.proofs.BufferLemmas.{line_within}
 use Rattle.p2p_wire.proofs.LineFacts.{line_again}
 
@@ -64,19 +64,19 @@ line_says place bytes m e = elim (if_is (nat_lt 8192 (line_len bytes)) _ _ _ e) 
 ]
 
 -- a message: no raw bytes are to come, and its line is at hand with its newline
-pub record IsSaid (u : Unread) (m : Message) : Type 0 where
+pub record IsSaid (u : DecoderView) (m : Message) : Type 0 where
   pub sound : u.fault ≡ None
   pub none_left : u.left ≡ 0
   pub within : line_len u.bytes < length u.bytes
   pub line : before_first is_newline u.bytes ≡ text_of m
   pub read : message_of (text_of m) ≡ Some m
 
-is_said : (u : Unread) (m : Message) → u.fault ≡ None → u.left ≡ 0 → (line_len u.bytes < length u.bytes) × (message_of (before_first is_newline u.bytes) ≡ Some m) → IsSaid u m
+is_said : (u : DecoderView) (m : Message) → u.fault ≡ None → u.left ≡ 0 → (line_len u.bytes < length u.bytes) × (message_of (before_first is_newline u.bytes) ≡ Some m) → IsSaid u m
 is_said u m sound none parts =
     let same : text_of m ≡ before_first is_newline u.bytes = line_again (before_first is_newline u.bytes) m parts.1 in
     record { sound = sound; none_left = none; within = parts.0; line = sym same; read = ap message_of same ∙ parts.1 }
 
-pub told_says : (u : Unread) (m : Message) → next_answer u ≡ Says m → IsSaid u m
+pub told_says : (u : DecoderView) (m : Message) → next_answer u ≡ Says m → IsSaid u m
 told_says u m e = go u.fault refl e
   where
     go : (f : Option Why) → u.fault ≡ f → unread_told u f ≡ Says m → IsSaid u m
@@ -86,7 +86,7 @@ told_says u m e = go u.fault refl e
       | inr some ↦ absurd (raw_says (take u.left u.bytes) m some.1)
     ]
 
-pub told_gives : (u : Unread) (raw : List ℕ) → next_answer u ≡ Gives raw → (u.fault ≡ None) × (take u.left u.bytes ≡ raw)
+pub told_gives : (u : DecoderView) (raw : List ℕ) → next_answer u ≡ Gives raw → (u.fault ≡ None) × (take u.left u.bytes ≡ raw)
 told_gives u raw e = go u.fault refl e
   where
     go : (f : Option Why) → u.fault ≡ f → unread_told u f ≡ Gives raw → (u.fault ≡ None) × (take u.left u.bytes ≡ raw)
@@ -97,7 +97,7 @@ told_gives u raw e = go u.fault refl e
     ]
 
 -- how long the line of the message is
-pub said_len : (u : Unread) (m : Message) → next_answer u ≡ Says m → line_len u.bytes + 1 ≡ length (line_of m)
+pub said_len : (u : DecoderView) (m : Message) → next_answer u ≡ Says m → line_len u.bytes + 1 ≡ length (line_of m)
 said_len u m e =
     let s = told_says u m e in
     let long : length (before_first is_newline u.bytes) ≡ line_len u.bytes = length-take-le (line_len u.bytes) u.bytes (line_within u.bytes) in
@@ -106,7 +106,7 @@ said_len u m e =
     omega (arith, long, both, same)
 
 -- raw bytes are at hand, and to come
-pub given_len : (u : Unread) (raw : List ℕ) → next_answer u ≡ Gives raw → (length raw ≤ length u.bytes) × (length raw ≤ u.left)
+pub given_len : (u : DecoderView) (raw : List ℕ) → next_answer u ≡ Gives raw → (length raw ≤ length u.bytes) × (length raw ≤ u.left)
 given_len u raw e =
     let same : length (take u.left u.bytes) ≡ length raw = ap length (told_gives u raw e).1 in
     let long = length-take u.left u.bytes in
@@ -130,14 +130,14 @@ raw_refuses [] at why e = cc
 raw_refuses (x ∷ xs) at why e = cc
 
 -- a refusal where there was no fault yet is that of a line
-pub told_refuses : (u : Unread) (at : ℕ) (why : Why) → u.fault ≡ None → next_answer u ≡ Refuses at why → (at ≡ u.place) × (line_told u.place u.bytes ≡ Refuses u.place why)
+pub told_refuses : (u : DecoderView) (at : ℕ) (why : Why) → u.fault ≡ None → next_answer u ≡ Refuses at why → (at ≡ u.place) × (line_told u.place u.bytes ≡ Refuses u.place why)
 told_refuses u at why sound e = elim (if_is (u.left == 0) _ _ _ (sym (ap (unread_told u) sound) ∙ e)) [
   | inl none ↦ let is = line_refuses u.place u.bytes at why none.1 in (is, none.1 ∙ ap (λ p. Refuses p why) is)
   | inr some ↦ absurd (raw_refuses (take u.left u.bytes) at why some.1)
 ]
 
 -- the line of a message that is given, and its newline, stand before what is left
-pub said_bytes : (u : Unread) (m : Message) → next_answer u ≡ Says m → line_of m ++ drop (length (line_of m)) u.bytes ≡ u.bytes
+pub said_bytes : (u : DecoderView) (m : Message) → next_answer u ≡ Says m → line_of m ++ drop (length (line_of m)) u.bytes ≡ u.bytes
 said_bytes u m e =
     let s = told_says u m e in
     let cut = split_at_first is_newline u.bytes newline s.within in
@@ -149,13 +149,13 @@ said_bytes u m e =
     ap (λ (rest : List ℕ). line_of m ++ rest) (ap (drop (length (line_of m))) whole ∙ drop_at (line_of m) (after_first is_newline u.bytes) (length (line_of m)) refl) ∙ sym whole
 
 -- so it has no newline
-pub said_line : (u : Unread) (m : Message) → next_answer u ≡ Says m → IsLine m
+pub said_line : (u : DecoderView) (m : Message) → next_answer u ≡ Says m → IsLine m
 said_line u m e =
     let s = told_says u m e in
     (s.read, λ found. let k : Contains (before_first is_newline u.bytes) newline = subst (λ (text : List ℕ). Contains text newline) (sym s.line) found in no_first u.bytes k)
 
 -- raw bytes that are given stand before what is left
-pub given_bytes : (u : Unread) (raw : List ℕ) → next_answer u ≡ Gives raw → raw ++ drop (length raw) u.bytes ≡ u.bytes
+pub given_bytes : (u : DecoderView) (raw : List ℕ) → next_answer u ≡ Gives raw → raw ++ drop (length raw) u.bytes ≡ u.bytes
 given_bytes u raw e =
     let is = (told_gives u raw e).1 in
     let front = take_front u.left u.bytes in

@@ -50,103 +50,103 @@ stream_of items = flat_map item_bytes items
 -- ---- the next answer
 
 -- what a decoder was fed and has not given
-pub record Unread : Type 0 where
+pub record DecoderView : Type 0 where
   pub place : ℕ  -- of the first of these bytes in the stream; 2 ^ 64 - 1 from there on
   pub left : ℕ  -- how many raw bytes of the last DATA it has not given
   pub bytes : List ℕ
   pub fault : Option Why
 
-abbrev pub start : Unread
+abbrev pub start : DecoderView
 start = record { place = 0; left = 0; bytes = []; fault = None }
 
 -- an answer: a message, raw bytes, that more bytes are needed, or why the line at this place is none of the protocol
-pub data Told : Type 0 where
-  Says : (message : Message) → Told
-  Gives : (raw : List ℕ) → Told
-  Waits : Told
-  Refuses : (at : ℕ) (why : Why) → Told
+pub data DecoderAnswer : Type 0 where
+  Says : (message : Message) → DecoderAnswer
+  Gives : (raw : List ℕ) → DecoderAnswer
+  Waits : DecoderAnswer
+  Refuses : (at : ℕ) (why : Why) → DecoderAnswer
 
 -- the same, as a call returns it
-abbrev pub told_by : Next → Told
-told_by (next.Message m) = Says m
-told_by (next.Data raw) = Gives raw.items
-told_by next.NeedMore = Waits
-told_by (next.Bad at why) = Refuses at why
+abbrev pub answer_by : Next → DecoderAnswer
+answer_by (next.Message m) = Says m
+answer_by (next.Data raw) = Gives raw.items
+answer_by next.NeedMore = Waits
+answer_by (next.Bad at why) = Refuses at why
 
 -- where the first newline stands, or the length where there is none
 abbrev pub line_len : List ℕ → ℕ
 line_len bytes = position_or_len is_newline bytes
 
 -- a whole line that is read so
-abbrev pub whole_line : ℕ → Option Message → Told
+abbrev pub whole_line : ℕ → Option Message → DecoderAnswer
 whole_line place None = Refuses place NotAMessage
 whole_line place (Some m) = Says m
 
 -- where a line comes next: it is too long, unfinished, or whole
-abbrev pub line_told : ℕ → List ℕ → Told
+abbrev pub line_told : ℕ → List ℕ → DecoderAnswer
 line_told place bytes =
     if nat_lt 8192 (line_len bytes) then Refuses place TooLong
     else if line_len bytes == length bytes then Waits
     else whole_line place (message_of (before_first is_newline bytes))
 
 -- where raw bytes come next, these are at hand
-abbrev pub raw_told : List ℕ → Told
+abbrev pub raw_told : List ℕ → DecoderAnswer
 raw_told [] = Waits
 raw_told (b ∷ raw) = Gives (b ∷ raw)
 
-abbrev pub unread_told : Unread → Option Why → Told
+abbrev pub unread_told : DecoderView → Option Why → DecoderAnswer
 unread_told u (Some why) = Refuses u.place why
 unread_told u None = if u.left == 0 then line_told u.place u.bytes else raw_told (take u.left u.bytes)
 
-abbrev pub next_answer : Unread → Told
+abbrev pub next_answer : DecoderView → DecoderAnswer
 next_answer u = unread_told u u.fault
 
 -- ---- what is left after an answer, and after a piece
 
 -- this many bytes were given, and so many raw bytes are to come
-abbrev pub past : Unread → ℕ → ℕ → Unread
-past u count left = record { place = min (u.place + count) (2 ^ 64 - 1); left = left; bytes = drop count u.bytes; fault = u.fault }
+abbrev pub after_giving : DecoderView → ℕ → ℕ → DecoderView
+after_giving u count left = record { place = min (u.place + count) (2 ^ 64 - 1); left = left; bytes = drop count u.bytes; fault = u.fault }
 
-abbrev pub after_told : Unread → Told → Unread
-after_told u (Says m) = past u (length (line_of m)) (raw_after m)
-after_told u (Gives raw) = past u (length raw) (u.left - length raw)
+abbrev pub after_told : DecoderView → DecoderAnswer → DecoderView
+after_told u (Says m) = after_giving u (length (line_of m)) (raw_after m)
+after_told u (Gives raw) = after_giving u (length raw) (u.left - length raw)
 after_told u Waits = u
 after_told u (Refuses at why) = record { place = u.place; left = u.left; bytes = u.bytes; fault = Some why }
 
-abbrev pub after : Unread → Unread
+abbrev pub after : DecoderView → DecoderView
 after u = after_told u (next_answer u)
 
 -- nothing is kept after a fault
-abbrev pub after_piece_by : Unread → List ℕ → Option Why → Unread
+abbrev pub after_piece_by : DecoderView → List ℕ → Option Why → DecoderView
 after_piece_by u piece (Some why) = u
 after_piece_by u piece None = record { place = u.place; left = u.left; bytes = u.bytes ++ piece; fault = None }
 
-abbrev pub after_piece : Unread → List ℕ → Unread
+abbrev pub after_piece : DecoderView → List ℕ → DecoderView
 after_piece u piece = after_piece_by u piece u.fault
 
 -- ---- runs of a decoder
 
 -- it is fed a piece, or asked for the next answer
-pub data Event : Type 0 where
-  Fed : (piece : List ℕ) → Event
-  Asked : Event
+pub data DecoderEvent : Type 0 where
+  Fed : (piece : List ℕ) → DecoderEvent
+  Asked : DecoderEvent
 
-abbrev pub fed_in : Event → List ℕ
-fed_in (Fed piece) = piece
-fed_in Asked = []
+abbrev pub bytes_fed_in : DecoderEvent → List ℕ
+bytes_fed_in (Fed piece) = piece
+bytes_fed_in Asked = []
 
 -- all bytes that it is fed
-abbrev pub fed_bytes : List Event → List ℕ
-fed_bytes events = flat_map fed_in events
+abbrev pub fed_bytes : List DecoderEvent → List ℕ
+fed_bytes events = flat_map bytes_fed_in events
 
 -- its answers in order
-abbrev pub answers : List Event → Unread → List Told
+abbrev pub answers : List DecoderEvent → DecoderView → List DecoderAnswer
 answers [] u = []
 answers (Fed piece ∷ events) u = answers events (after_piece u piece)
 answers (Asked ∷ events) u = next_answer u ∷ answers events (after u)
 
 -- what it has not given in the end
-abbrev pub after_all : List Event → Unread → Unread
+abbrev pub after_all : List DecoderEvent → DecoderView → DecoderView
 after_all [] u = u
 after_all (Fed piece ∷ events) u = after_all events (after_piece u piece)
 after_all (Asked ∷ events) u = after_all events (after u)
@@ -158,7 +158,7 @@ pub data Sign : Type 0 where
   Raw : (byte : ℕ) → Sign
   Fault : (at : ℕ) (why : Why) → Sign
 
-abbrev pub signs_in : Told → List Sign
+abbrev pub signs_in : DecoderAnswer → List Sign
 signs_in (Says m) = Line m ∷ []
 signs_in (Gives raw) = map Raw raw
 signs_in Waits = []
@@ -168,35 +168,35 @@ abbrev pub signs_of : Item → List Sign
 signs_of i = Line i.message ∷ map Raw i.raw
 
 -- the bytes that an answer gives
-abbrev pub given_in : Told → List ℕ
-given_in (Says m) = line_of m
-given_in (Gives raw) = raw
-given_in Waits = []
-given_in (Refuses at why) = []
+abbrev pub bytes_given_in : DecoderAnswer → List ℕ
+bytes_given_in (Says m) = line_of m
+bytes_given_in (Gives raw) = raw
+bytes_given_in Waits = []
+bytes_given_in (Refuses at why) = []
 
 -- the items come in order, nothing else comes, and the rest is still to come
-pub record Decodes (items : List Item) (more : List ℕ) (events : List Event) : Type 0 where
+pub record Decodes (items : List Item) (more : List ℕ) (events : List DecoderEvent) : Type 0 where
   pub later : List Sign
   pub in_order : flat_map signs_of items ≡ flat_map signs_in (answers events start) ++ later
   pub whole : more ≡ [] → next_answer (after_all events start) ≡ Waits → later ≡ []
 
 -- a message that is given is one of the protocol
-abbrev pub IsToldLine : Told → Type 0
+abbrev pub IsToldLine : DecoderAnswer → Type 0
 IsToldLine (Says m) = IsLine m
 IsToldLine t = Unit {0}
 
 -- a refusal tells the fault and the place where the decoder stops
-abbrev pub IsToldFault : Unread → Told → Type 0
+abbrev pub IsToldFault : DecoderView → DecoderAnswer → Type 0
 IsToldFault u (Refuses at why) = (u.fault ≡ Some why) × (u.place ≡ at)
 IsToldFault u t = Unit {0}
 
 -- what was fed is what was given, and then what was not given and what came after a fault; a fault is that of the line
 -- with which the bytes that were not given begin
-pub record Accounts (events : List Event) : Type 0 where
+pub record Accounts (events : List DecoderEvent) : Type 0 where
   pub ignored : List ℕ
-  pub bytes : fed_bytes events ≡ flat_map given_in (answers events start) ++ ((after_all events start).bytes ++ ignored)
+  pub bytes : fed_bytes events ≡ flat_map bytes_given_in (answers events start) ++ ((after_all events start).bytes ++ ignored)
   pub kept : (after_all events start).fault ≡ None → ignored ≡ []
-  pub place : (after_all events start).place ≡ min (length (flat_map given_in (answers events start))) (2 ^ 64 - 1)
+  pub place : (after_all events start).place ≡ min (length (flat_map bytes_given_in (answers events start))) (2 ^ 64 - 1)
   pub lines : Each IsToldLine (answers events start)
   pub faults : Each (IsToldFault (after_all events start)) (answers events start)
   pub fault : (why : Why) → (after_all events start).fault ≡ Some why → line_told (after_all events start).place (after_all events start).bytes ≡ Refuses (after_all events start).place why

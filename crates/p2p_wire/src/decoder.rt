@@ -1,6 +1,6 @@
 //! The messages and raw bytes of a stream that comes in pieces.
 ghost use Rattle.std.specs.Prelude.{◌≡◌, ◌≤◌, [], length, take, drop, IfOk, IsOk, OnOk, OnErr, Ok, Some, None};
-ghost use Rattle.p2p_wire.specs.Streams.{Unread, start, next_answer, told_by, after, after_told, past, after_piece, line_len, line_told, raw_after, raw_told};
+ghost use Rattle.p2p_wire.specs.Streams.{DecoderView, start, next_answer, answer_by, after, after_told, after_giving, after_piece, line_len, line_told, raw_after, raw_told};
 
 use crate::buffer::Buffer;
 use crate::message::Message;
@@ -42,9 +42,9 @@ pub struct Decoder {
 
 impl Model for Decoder {
     ghost use Rattle.std.specs.Prelude.{◌^◌, ◌<◌};
-    ghost use Rattle.p2p_wire.specs.Streams.{Unread};
+    ghost use Rattle.p2p_wire.specs.Streams.{DecoderView};
 
-    ghost Value = { Unread };
+    ghost Value = { DecoderView };
 
     ghost view = { λ d. record { place = d.place; left = d.left; bytes = d.unread; fault = d.fault } };
 }
@@ -60,7 +60,7 @@ fn raw_in(unread: &Buffer, left: u64) -> Result<Vec<u8>, NoMemory>
 }
 
 fn next_raw(unread: &Buffer, left: u64) -> Result<Next, NoMemory>
-    ensures { IfOk result (λ next. told_by next ≡ raw_told (take left unread.now)) }
+    ensures { IfOk result (λ next. answer_by next ≡ raw_told (take left unread.now)) }
 {
     let raw = raw_in(unread, left)?;
     if raw.is_empty() {
@@ -71,7 +71,7 @@ fn next_raw(unread: &Buffer, left: u64) -> Result<Next, NoMemory>
 }
 
 fn next_line(unread: &mut Buffer, place: u64) -> Result<Next, NoMemory>
-    ensures told { IfOk result (λ next. told_by next ≡ line_told place unread.old) }
+    ensures told { IfOk result (λ next. answer_by next ≡ line_told place unread.old) }
     ensures bytes { unread.new ≡ unread.old }
 {
     let end = unread.line_len();
@@ -129,7 +129,7 @@ impl Decoder {
 
     /// What comes next. After a `Bad` every later call answers the same.
     pub fn next(&mut self) -> Result<Next, NoMemory>
-        ensures told { IfOk result (λ next. told_by next ≡ next_answer self.old) }
+        ensures told { IfOk result (λ next. answer_by next ≡ next_answer self.old) }
         ensures ok { OnOk result (self.new ≡ after self.old) }
         ensures err { OnErr result (self.new ≡ self.old) }
     {
@@ -139,7 +139,7 @@ impl Decoder {
     }
 
     fn look(&mut self) -> Result<Next, NoMemory>
-        ensures told { IfOk result (λ next. told_by next ≡ next_answer self.old) }
+        ensures told { IfOk result (λ next. answer_by next ≡ next_answer self.old) }
         ensures same { self.new ≡ self.old }
     {
         if let Some(why) = self.fault {
@@ -157,8 +157,8 @@ impl Decoder {
 
     // Goes past what an answer gives.
     fn pass(&mut self, next: &Next)
-        requires { told_by next.now ≡ next_answer self.old }
-        ensures { self.new ≡ after_told self.old (told_by next.now) }
+        requires { answer_by next.now ≡ next_answer self.old }
+        ensures { self.new ≡ after_told self.old (answer_by next.now) }
     {
         match next {
             Next::Message(message) => {
@@ -185,7 +185,7 @@ impl Decoder {
     // Goes past so many bytes, after which so many raw bytes are to come.
     fn advance(&mut self, count: usize, left: u64)
         requires { count ≤ length self.old.bytes }
-        ensures { self.new ≡ past self.old count left }
+        ensures { self.new ≡ after_giving self.old count left }
     {
         self.unread.advance(count);
         self.left = left;

@@ -5,7 +5,7 @@ ghost use Rattle.p2p_wire.specs.declared.message.Message.{Message};
 ghost use Rattle.annex_base.specs.Lists.{Each};
 ghost use Rattle.p2p_wire.specs.Answers.{Answers};
 ghost use Rattle.p2p_wire.specs.Messages.{IsShort, IsWire, message_of, text_of};
-ghost use Rattle.p2p_wire.specs.Streams.{Accounts, Decodes, Event, IsItem, IsLine, IsSaidInOneLine, Item, Unread, fed_bytes, stream_of};
+ghost use Rattle.p2p_wire.specs.Streams.{Accounts, Decodes, DecoderEvent, IsItem, IsLine, IsSaidInOneLine, Item, DecoderView, fed_bytes, stream_of};
 
 use annex_key::key_texts_have_no_fault;
 
@@ -34,18 +34,18 @@ pub fn lines_have_one_message()
 /// and raw bytes in their order and nothing else; and where all bytes were fed and it needs more, it gave all of them
 /// (git-annex P2P protocol).
 pub fn streams_are_decoded()
-    ensures { (items : List Item) (events : List Event) (more : List ℕ) → Each IsItem items → fed_bytes events ++ more ≡ stream_of items → Decodes items more events }
+    ensures { (items : List Item) (events : List DecoderEvent) (more : List ℕ) → Each IsItem items → fed_bytes events ++ more ≡ stream_of items → Decodes items more events }
 {}
 
 /// Whatever a decoder is fed and whenever it is asked, what it gave and then what it did not give is what it was fed;
 /// each message is one of the protocol; and a refusal tells the first line that is none, at the place of its first byte.
 pub fn answers_account_for_the_bytes()
-    ensures { (events : List Event) → Accounts events }
+    ensures { (events : List DecoderEvent) → Accounts events }
 {}
 
 /// Each answer of a decoder comes exactly then: more is needed at an unfinished line of at most 8,192 bytes, or where
 /// raw bytes are to come and none is at hand; raw bytes are all that are to come and at hand; a line is refused where it
 /// is whole, has at most 8,192 bytes and is no message, or where 8,193 bytes have no newline; and then for ever.
 pub fn answers_are_exact()
-    ensures { (u : Unread) → Answers u }
+    ensures { (u : DecoderView) → Answers u }
 {}

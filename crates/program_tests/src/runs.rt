@@ -42,9 +42,9 @@ const EXPIRED: &str = "begin drop a WORM-s3--abc\nturn a 2\nturn b\nturn a\nturn
 
 const TRUSTING: &str = "trust a b trusted\n";
 
-/// A line of the script has a form that isn't built.
+/// The script isn't run: a line has a form that isn't built, or there are more than a thousand lines.
 #[derive(Clone, Copy, Debug)]
-struct Missing;
+struct NotRun;
 
 /// The run of a script.
 fn run_of(alloc: Global, text: &str) -> Result<Ran, Fail> {
@@ -54,9 +54,12 @@ fn run_of(alloc: Global, text: &str) -> Result<Ran, Fail> {
     scripts_without_a_missing_form_have_lines();
     let script = Script::parse(alloc, text.as_bytes())?;
     let commands = script.lines();
+    if commands.len() > 1_000 {
+        Err(NotRun)?;
+    }
     match first_missing(commands) {
         None => Ok(run_script(alloc, &script)?),
-        Some(_) => Err(Missing)?,
+        Some(_) => Err(NotRun)?,
     }
 }
 

@@ -15,14 +15,14 @@ use Rattle.run_data.specs.declared.job.Outcome.{Outcome}
 use Rattle.run_data.specs.declared.job.Outcome.TheVariants as outcomes
 use Rattle.run_data.specs.declared.job.DropRefusal.TheVariants as refusals
 use Rattle.run_data.specs.declared.job.Cause.TheVariants as causes
-use Rattle.node_model.specs.Slots.{Running}
+use Rattle.node_model.specs.Slots.{RunningJob}
 use Rattle.run_model.specs.Past.{is_of}
 use Rattle.p2p_wire.specs.declared.message.Message.{Message}
 use Rattle.p2p_wire.specs.declared.message.Message.TheVariants.{AlreadyHave, Data, Error, Failure, Success, Version}
 use Rattle.p2p_wire.specs.Messages.{message_of}
 use Rattle.node_model.specs.Ends.{end_after}
 use Rattle.node_model.specs.Jobs
-use Rattle.node_model.specs.Jobs.{AsksLock, AsksLook, Drops, Fresh, GetsData, GetsWord, Gets, Greets, Orders, Part, Phase, Puts, PutsAnswer, PutsOffer, Rows, Work, claims, closed_part, fault_of, fault_phase, first_look, after_gain, hears_frame, job_end, learns, listens, quiet, running, says, says_some, sends, talks, talks_on, target_of, took, took_line, after_transfer, after_failed_release, word_taken, work_kind, is_move, side_of, first_part}
+use Rattle.node_model.specs.Jobs.{AsksLock, AsksLook, Drops, Fresh, GetsData, GetsWord, Gets, Greets, Orders, Part, Phase, Puts, PutsAnswer, PutsOffer, RowsAndEnds, Work, claims, closed_part, fault_of, fault_phase, first_look, after_gain, hears_frame, job_end, learns, listens, quiet, running_job, says, says_some, sends, talks, talks_on, target_of, after_frame, after_line, after_transfer, after_failed_release, word_taken, work_kind, is_move, side_of, first_part}
 use Rattle.run_model.specs.States.{rows_at, works, state_of}
 use Rattle.annex_base.specs.Lists.{Member}
 use Rattle.annex_base.specs.declared.kinds.Word.{Word}
@@ -83,11 +83,11 @@ listens_turns w (PutsAnswer peer start) Success = transferred_turns w (outcomes.
 listens_turns w (PutsAnswer peer start) Failure = inl refl
 listens_turns w phase m = inl refl
 
-line_turns : (w : Work) (m : Option Message) → Turns w (took_line w m)
+line_turns : (w : Work) (m : Option Message) → Turns w (after_line w m)
 line_turns w None = inl refl
 line_turns w (Some m) = listens_turns w w.phase m
 
-took_turns : (w : Work) (body : FrameText) → Turns w (took w body)
+took_turns : (w : Work) (body : FrameText) → Turns w (after_frame w body)
 took_turns w (Line text) = line_turns w (message_of text)
 took_turns w body = inl refl
 
@@ -96,19 +96,19 @@ first_turns r w Gets true bar = transferred_turns w (outcomes.Got None None)
 first_turns r w Drops true (Some i) = inl refl
 first_turns r w part here bar = inl refl
 
-quiet_turns : (rows : Rows) (r : ℕ) (w : Work) (phase : Phase) → Turns w (quiet rows r w phase)
+quiet_turns : (rows : RowsAndEnds) (r : ℕ) (w : Work) (phase : Phase) → Turns w (quiet rows r w phase)
 quiet_turns rows r w Fresh = first_turns r w w.part (rows.present w.what.key) (rows.bar w.what.key)
 quiet_turns rows r w phase = inl refl
 
-hears_turns : (rows : Rows) (r : ℕ) (w : Work) (taken : Option FrameView) → Turns w (hears_frame rows r w taken)
+hears_turns : (rows : RowsAndEnds) (r : ℕ) (w : Work) (taken : Option FrameView) → Turns w (hears_frame rows r w taken)
 hears_turns rows r w None = quiet_turns rows r w w.phase
 hears_turns rows r w (Some f) = took_turns w f.body
 
-talks_turns : (rows : Rows) (r : ℕ) (w : Work) (e : Entry) (fs : List FrameView) → Turns w (talks rows r w e fs)
+talks_turns : (rows : RowsAndEnds) (r : ℕ) (w : Work) (e : Entry) (fs : List FrameView) → Turns w (talks rows r w e fs)
 talks_turns rows r w e (f ∷ fs) = sends_turns w e.time f.peer (Jobs.taken_message e.taken) f.body
 talks_turns rows r w e [] = hears_turns rows r w e.taken
 
-on_turns : (rows : Rows) (r : ℕ) (w : Work) (e : Entry) (p : Option ℕ) → Turns w (talks_on rows r w e p)
+on_turns : (rows : RowsAndEnds) (r : ℕ) (w : Work) (e : Entry) (p : Option ℕ) → Turns w (talks_on rows r w e p)
 on_turns rows r w e None = talks_turns rows r w e e.sent
 on_turns rows r w e (Some peer) =
     if_either (Turns w) (end_after (job_end w peer) (rows.ends (job_end w peer)) e).opened (talks rows r w e e.sent) (closed_part r w peer w.part)
@@ -131,10 +131,10 @@ gained_turns : (w : Work) (phase : Phase) → Turns w (after_gain w phase)
 gained_turns w (GetsWord peer start size) = transferred_turns w (outcomes.Got (Some peer) (Some start))
 gained_turns w phase = inl refl
 
-readies_kept : (w : Work) (taken : Option FrameView) → running (learns (claims w w.part w.phase) w.phase taken) ≡ running w
+readies_kept : (w : Work) (taken : Option FrameView) → running_job (learns (claims w w.part w.phase) w.phase taken) ≡ running_job w
 readies_kept w taken = learns_kept (claims w w.part w.phase) w.phase taken ∙ claims_kept w w.part w.phase
 
-pub kind_turns : (rows : Rows) (r : ℕ) (w : Work) (e : Entry) (kind : EntryKind) → Turns w (work_kind rows r w e kind)
+pub kind_turns : (rows : RowsAndEnds) (r : ℕ) (w : Work) (e : Entry) (kind : EntryKind) → Turns w (work_kind rows r w e kind)
 kind_turns rows r w e (Fault call owner) = call_turns r w e.time call
 kind_turns rows r w e (Bar job need key) = inl refl
 kind_turns rows r w e (Share hold end owner key) = inl refl
@@ -144,7 +144,7 @@ kind_turns rows r w e kind =
     let x = claims w w.part w.phase in
     let y = learns x w.phase e.taken in
     let place = readies_place w e.taken in
-    let what : y.what ≡ w.what = ap (λ (j : Running). j.what) (readies_kept w e.taken) in
+    let what : y.what ≡ w.what = ap (λ (j : RunningJob). j.what) (readies_kept w e.taken) in
     go y what place.0 (on_turns rows r y e (Jobs.partner w.what.peer w.phase))
   where
     go : (y : Work) → y.what ≡ w.what → y.part ≡ w.part → Turns y (talks_on rows r y e (Jobs.partner w.what.peer w.phase)) → Turns w (talks_on rows r y e (Jobs.partner w.what.peer w.phase))
@@ -209,7 +209,7 @@ aims s past run w m = invariant s (λ p x. Aims s x) (λ p e is x n was. was) ow
     own p e r is was x (inr (inr b)) =
         let v = b.by.w in
         let y = work_kind (rows_at p s.number) s.number v e e.kind in
-        let what : y.what ≡ v.what = ap (λ (j : Running). j.what) (kind_kept (rows_at p s.number) s.number v e e.kind) in
+        let what : y.what ≡ v.what = ap (λ (j : RunningJob). j.what) (kind_kept (rows_at p s.number) s.number v e e.kind) in
         subst (Aims s) (sym b.work_is) (aims_like s v y what (kind_turns (rows_at p s.number) s.number v e e.kind) (was v (step_runs s p e x b)))
 
 -- the target of a remote drop is another repository

@@ -18,13 +18,13 @@ use Rattle.run_model.specs.Past.{Occurs, is_of}
 use Rattle.p2p_wire.specs.declared.message.Message.TheVariants.{Failure, Put, Remove, RemoveBefore, Valid}
 use Rattle.p2p_wire.specs.Messages.{order_of}
 use Rattle.run_model.specs.Said.{Said, Says, message_in}
-use Rattle.run_model.specs.Frames.{Flying, is_job, last_request, said_of, frames_sent, sent_of, taken_count, up_of, way_of}
-use Rattle.run_model.specs.Causes.{Answers, FillsByPut, FoundFilled, Hears, SentBy, WasBusy, WasDenied, WasRejected, denied_by, rejects}
+use Rattle.run_model.specs.Frames.{FlyingFrame, is_job, last_request, said_of, frames_sent, sending_entry, taken_count, up_of, way_of}
+use Rattle.run_model.specs.Causes.{AnswersRequest, FillsByPut, FoundFilled, HearsMessage, IsSentBy, WasBusy, WasDenied, WasRejected, denied_by, rejects}
 use Rattle.node_model.specs.SetUp.{SetUp, served_connections}
 use Rattle.run_model.specs.States.{state_of, works}
 use Rattle.node_model.specs.Ends.{server_end}
 use Rattle.run_model.specs.Words.{word_of, word_of_kind, word_told}
-use Rattle.node_model.specs.Jobs.{running}
+use Rattle.node_model.specs.Jobs.{running_job}
 use Rattle.node_model.specs.Knows.{denial_of}
 use Rattle.node_model.specs.DropStep
 use Rattle.node_model.specs.SessionStep.{is_filled, session_fills}
@@ -53,7 +53,7 @@ FailsFor asked kind = Unit {0}
 
 abbrev pub FailuresFit : List Entry → Type 0
 FailuresFit past = (r : ℕ) (x : Entry) (before : List Entry) → Occurs past x before → is_of r x ≡ true → (f : FrameView) → x.taken ≡ Some f → f.up ≡ false → message_in f.body ≡ Says Failure
-    → (asked it : Flying) → last_request before (up_of (way_of r f)) ≡ Some asked → slice_get (frames_sent before (way_of r f)) (taken_count before (way_of r f)) ≡ Some it → FailsFor (said_of asked) it.entry.kind
+    → (asked it : FlyingFrame) → last_request before (up_of (way_of r f)) ≡ Some asked → slice_get (frames_sent before (way_of r f)) (taken_count before (way_of r f)) ≡ Some it → FailsFor (said_of asked) it.entry.kind
 
 -- **what is left of a get's Busy**: a session that takes the bytes of a key has taken PUT of it, and nothing that wants an answer since
 abbrev pub SessionsFill : SetUp → List Entry → Type 0
@@ -84,16 +84,16 @@ module _ (reads_back : SentAreRead) (s : SetUp) (past : List Entry) (words : ℕ
 
   module _ (run : MessagePast s.repos past) where
     -- the frame that is taken was sent
-    flew : (k peer : ℕ) (m : Said) (x : Hears past r k peer m) → (it : Flying) × (slice_get (frames_sent x.before (way_of r x.f)) (taken_count x.before (way_of r x.f)) ≡ Some it)
+    flew : (k peer : ℕ) (m : Said) (x : HearsMessage past r k peer m) → (it : FlyingFrame) × (slice_get (frames_sent x.before (way_of r x.f)) (taken_count x.before (way_of r x.f)) ≡ Some it)
     flew k peer m x =
         let t = (occurs_always (Meets s.repos) past x.entry x.before run x.occurs).frames r x.f (own_of r k x.entry x.own) x.takes_it in
         (t.it, t.next)
 
-    sent_by : (k peer : ℕ) (m : Said) (x : Hears past r k peer m) (it : Flying) → slice_get (frames_sent x.before (way_of r x.f)) (taken_count x.before (way_of r x.f)) ≡ Some it → SentBy past r k peer m x
-    sent_by k peer m x it next = record { s = sent_of it; sent_is = ap (option_map sent_of) next }
+    sent_by : (k peer : ℕ) (m : Said) (x : HearsMessage past r k peer m) (it : FlyingFrame) → slice_get (frames_sent x.before (way_of r x.f)) (taken_count x.before (way_of r x.f)) ≡ Some it → IsSentBy past r k peer m x
+    sent_by k peer m x it next = record { s = sending_entry it; sent_is = ap (option_map sending_entry) next }
 
     module _ (fit : FailuresFit past) where
-      fails : (k peer : ℕ) (asked : Said) (a : Answers past r k peer asked (Says Failure)) (it : Flying) → slice_get (frames_sent a.hears.before (way_of r a.hears.f)) (taken_count a.hears.before (way_of r a.hears.f)) ≡ Some it → FailsFor asked it.entry.kind
+      fails : (k peer : ℕ) (asked : Said) (a : AnswersRequest past r k peer asked (Says Failure)) (it : FlyingFrame) → slice_get (frames_sent a.hears.before (way_of r a.hears.f)) (taken_count a.hears.before (way_of r a.hears.f)) ≡ Some it → FailsFor asked it.entry.kind
       fails k peer asked a it next =
           let x = a.hears in
           subst (λ q. FailsFor q it.entry.kind) a.asked_is (fit r x.entry x.before x.occurs (own_of r k x.entry x.own) x.f x.takes_it x.down x.says a.request it a.last next)
@@ -120,8 +120,8 @@ module _ (reads_back : SentAreRead) (s : SetUp) (past : List Entry) (words : ℕ
               apart (Some m) c e = cc
           settled x spoke (inr (inl z)) =
               let w = x.by.w in
-              let d : DeniedBy s past (running w) = subst (DeniedAt s past (running w)) z.0 (denied_words reads_back s past h w x.runs) in
-              let t = target_in r (running w) in
+              let d : DeniedBy s past (running_job w) = subst (DeniedAt s past (running_job w)) z.0 (denied_words reads_back s past h w x.runs) in
+              let t = target_in r (running_job w) in
               let a = d.refused in
               let f = flew w.number t (Says Failure) a.hears in
               let kind = order_fails d.deadline w.what.key f.0.entry.kind (fails w.number t (Says (order_of d.deadline w.what.key)) a f.0 f.1) in
@@ -146,7 +146,7 @@ module _ (reads_back : SentAreRead) (s : SetUp) (past : List Entry) (words : ℕ
             | inr y ↦ elim (transfer_settled (turn_at s past e x.by) past failures.Rejected x.by.made.taken (stands reads_back s past h x.by.w x.runs) y) [ inl z ↦ now x z | inr z ↦ absurd (cc) ]
           ])
         where
-          now : (x : Ending s past e j (TransferRefused failures.Rejected)) → TransferStands r past (running x.by.w) failures.Rejected → WasRejected past r x.by.w.number
+          now : (x : Ending s past e j (TransferRefused failures.Rejected)) → TransferStands r past (running_job x.by.w) failures.Rejected → WasRejected past r x.by.w.number
           now x (peer, peer_is, asked, which, a) =
               let w = x.by.w in
               let f = flew w.number peer (Says Failure) a.hears in

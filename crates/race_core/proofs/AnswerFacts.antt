@@ -31,7 +31,7 @@ use Rattle.run_model.specs.Frames.{Way, way_of}
 use Rattle.race_core.proofs.Ways.{down_of}
 use Rattle.node_model.specs.Look.{Look, Made, entry_of}
 use Rattle.node_model.specs.Step.{step}
-use Rattle.node_model.specs.Found.{BySession, GivesAt, InTime, TakesAt, agrees}
+use Rattle.node_model.specs.Found.{BySession, GivesAt, IsBeforeDeadline, TakesAt, success_line}
 use Rattle.race_core.proofs.ServerAnswers.{MayBar, MayRemove, MayObey, MayShare, OwnFree, SaysYes}
 use Rattle.race_core.proofs.StepFacts.{bar_found, removes_found, check_found, obeyed_found, own_share_found, share_found}
 
@@ -62,7 +62,7 @@ back_is r peer slot epoch f p q u e = rw u (λ i. record { client = sym p i; ser
 
 -- a session that agrees says SUCCESS alone, on the opening of what it takes
 agrees_found : (s : SetUp) (st : State) (k : Look) (m : Made) (peer slot : ℕ) (asked : Message)
-    → TakesAt s st (server_end peer slot) (Some asked) agrees m ⊎ GivesAt s st (server_end peer slot) (Some asked) agrees m
+    → TakesAt s st (server_end peer slot) (Some asked) success_line m ⊎ GivesAt s st (server_end peer slot) (Some asked) success_line m
     → SaysYes s.number (entry_of s.number k m) peer slot asked
 agrees_found s st k m peer slot asked (inr x) = absurd (let no : Some asked ≡ None = x.asked_is in cc)
 agrees_found s st k m peer slot asked (inl x) =
@@ -92,9 +92,9 @@ below clock (Some n) t first is = let same : n ≡ first = cc in subst (λ q. cl
 
 module _ (s : SetUp) (past : List Entry) (k : Look) (m : Made) (e : step s (state_of s past) k ≡ Some m) where
   -- the session was asked this, and agreed
-  says_yes : (x : BySession s (state_of s past) k m) (asked : Message) → x.asked ≡ Some asked → x.says ≡ agrees → SaysYes s.number (entry_of s.number k m) x.peer x.slot asked
+  says_yes : (x : BySession s (state_of s past) k m) (asked : Message) → x.asked ≡ Some asked → x.says ≡ success_line → SaysYes s.number (entry_of s.number k m) x.peer x.slot asked
   says_yes x asked is says = agrees_found s (state_of s past) k m x.peer x.slot asked
-      (subst (λ (a : Option Message). TakesAt s (state_of s past) (server_end x.peer x.slot) a agrees m ⊎ GivesAt s (state_of s past) (server_end x.peer x.slot) a agrees m) is
+      (subst (λ (a : Option Message). TakesAt s (state_of s past) (server_end x.peer x.slot) a success_line m ⊎ GivesAt s (state_of s past) (server_end x.peer x.slot) a success_line m) is
       (subst (λ (z : List FrameText). TakesAt s (state_of s past) (server_end x.peer x.slot) x.asked z m ⊎ GivesAt s (state_of s past) (server_end x.peer x.slot) x.asked z m) says x.frame))
 
   pub may_share : (hold end p c : ℕ) (key : List ℕ) → m.kind ≡ Share hold end (Peer p c) key → MayShare s.repos s.number past (entry_of s.number k m) hold end key
@@ -127,7 +127,7 @@ module _ (s : SetUp) (past : List Entry) (k : Look) (m : Made) (e : step s (stat
       let x = check_found s (state_of s past) k m e found.Present key is in
       (record { there = x.found.there; free = x.found.free }, (x.by.peer, x.by.slot, says_yes x.by (CheckPresent key) x.found.asks x.found.says_is))
 
-  soon_of : (clock : ℕ) (deadline : Option ℕ) → InTime clock deadline → (before : ℕ) → deadline ≡ Some before → clock < 1000 * before
+  soon_of : (clock : ℕ) (deadline : Option ℕ) → IsBeforeDeadline clock deadline → (before : ℕ) → deadline ≡ Some before → clock < 1000 * before
   soon_of clock None t before is = absurd (cc)
   soon_of clock (Some n) t before is = let same : n ≡ before = cc in subst (λ q. clock < 1000 * q) same (grind (arith, nat_tests))
 

@@ -1,34 +1,20 @@
 -- In a run the answer that a job takes is one that its phase expects: to LOCKCONTENT, CHECKPRESENT, an order and VALID it is SUCCESS or
 -- FAILURE, to GETTIMESTAMP a TIMESTAMP.
-use Rattle.std.proofs.Common.{◌≡◌, ℕ, true, false, List, Option, Some, None, ◌⊎◌, inl, inr, refl, sym, ap, ◌∙◌, subst}
+use Rattle.std.proofs.Common.{◌≡◌, ℕ, List, Option, Some, None, ◌⊎◌, inl, inr, refl, sym, ap, ◌∙◌, subst}
 use Rattle.std.specs.Prelude.{option_map}
 use Rattle.std.proofs.lemmas.Option.{same_Some}
-use Rattle.annex_base.specs.Lists.{Each}
-use Rattle.race_core.proofs.Below.{SentAreRead}
-use Rattle.run_data.specs.declared.entry.Entry.{Entry}
 use Rattle.run_data.specs.declared.entry.EntryKind.{EntryKind}
-use Rattle.run_data.specs.declared.entry.FrameView.{FrameView}
-use Rattle.run_data.specs.declared.run.Run.{Run}
-use Rattle.run_data.specs.Repos.{IsSetUp}
-use Rattle.run_model.specs.Past.{is_of}
 use Rattle.p2p_wire.specs.declared.message.Message.{Message}
 use Rattle.p2p_wire.specs.declared.message.Message.TheVariants.{CheckPresent, LockContent, GetTimestamp, Timestamp, Remove, RemoveBefore, Valid, Success, Failure}
 use Rattle.p2p_wire.specs.Messages.{order_of}
-use Rattle.run_model.specs.Said.{Says, message_in}
-use Rattle.race_core.proofs.Ways.{is_answer}
-use Rattle.run_model.specs.Frames.{Flying, last_request, said_of, up_of, way_of}
+use Rattle.run_model.specs.Said.{Says}
+use Rattle.run_model.specs.Frames.{FlyingFrame, said_of}
 use Rattle.node_model.specs.Sessions.{line_in}
 use Rattle.node_model.specs.Jobs.{AsksLock, AsksLook, AsksTime, Orders, Phase, PutsAnswer, partner}
-use Rattle.run_model.specs.Run.{RunPast, RunStep, set_up}
 use Rattle.race_core.proofs.SaidDown.{Alike, said_is}
 use Rattle.race_core.proofs.SessionAnswers.{AnswerFits, Answering}
 use Rattle.race_core.proofs.ClientCounts.{LastIs, Request, request}
 use Rattle.race_core.proofs.ClientWays.{asked_by}
-use Rattle.race_core.proofs.ClientAwaits.{taken_last}
-use Rattle.race_core.proofs.Makers.{TakenBy}
-use Rattle.race_core.proofs.AnswersTurn.{is_plain, plain_completes}
-use Rattle.race_core.proofs.AnswersFit.{AnswerOf, answer_of}
-use Rattle.race_core.proofs.FromStep.{own_past, part_of}
 
 -- ---- by what was asked
 
@@ -88,7 +74,7 @@ says_inj : (m n : Message) → Says m ≡ Says n → m ≡ n
 says_inj m n e = cc
 
 -- the last request is the one that was answered
-last_asked : (o : Option Flying) (r : Flying) (asked : Message) (time : ℕ) (m : Message) → o ≡ Some r → said_of r ≡ Says asked → option_map asked_by o ≡ Some (request time (Some m)) → asked ≡ m
+last_asked : (o : Option FlyingFrame) (r : FlyingFrame) (asked : Message) (time : ℕ) (m : Message) → o ≡ Some r → said_of r ≡ Says asked → option_map asked_by o ≡ Some (request time (Some m)) → asked ≡ m
 last_asked o r asked time m is said last = says_inj asked m (sym said ∙ said_is r.frame.body m line)
   where
     both : Some (asked_by r) ≡ Some (request time (Some m))
@@ -101,7 +87,7 @@ last_asked o r asked time m is said last = says_inj asked m (sym said ∙ said_i
         what_of None = None
         what_of (Some q) = q.what
 
-module _ (key : List ℕ) (target : Option ℕ) (peer : ℕ) (kind : EntryKind) (k : Message) (o : Option Flying) (r : Flying) (asked : Message) (is : o ≡ Some r) (said : said_of r ≡ Says asked) (a : Answering asked kind k) where
+module _ (key : List ℕ) (target : Option ℕ) (peer : ℕ) (kind : EntryKind) (k : Message) (o : Option FlyingFrame) (r : FlyingFrame) (asked : Message) (is : o ≡ Some r) (said : said_of r ≡ Says asked) (a : Answering asked kind k) where
   word : (time : ℕ) (m : Message) → IsAsked m → option_map asked_by o ≡ Some (request time (Some m)) → YesOrNo k
   word time m i last = yes_or_no m kind a.m k i (subst (λ q. AnswerFits q kind a.m) (last_asked o r asked time m is said last) a.fits) a.alike
 
@@ -112,13 +98,3 @@ module _ (key : List ℕ) (target : Option ℕ) (peer : ℕ) (kind : EntryKind) 
   expects (PutsAnswer p start) on last = let x = last (same_Some p peer on) in word x.0 Valid tt x.1
   expects AsksTime on last = let x = last on in times_only kind a.m k (subst (λ q. AnswerFits q kind a.m) (last_asked o r asked x.0 GetTimestamp is said x.1) a.fits) a.alike
   expects phase on last = tt
-
--- **what comes is what the phase expects**
-pub answer_expected : SentAreRead → (run : Run) → Each IsSetUp run.repos → (past : List Entry) (e : Entry) (r : ℕ) (f : FrameView) (k : Message) → RunPast (set_up run) past → RunStep (set_up run) past e → is_of r e ≡ true → e.taken ≡ Some f → f.up ≡ false
-    → message_in f.body ≡ Says k → is_plain k ≡ true → (t : TakenBy (set_up run r) past e f) → Expects t.w.phase k
-answer_expected reads_back run repos past e r f k h step is took down says' plain t =
-    let may = (part_of (set_up run) past e r step is).frames.takes f took in
-    let a : AnswerOf past r f may.it k = answer_of reads_back run repos past e r f k h step is took down says' plain may in
-    let o = last_request past (up_of (way_of r f)) in
-    expects t.w.what.key t.w.what.peer t.peer may.it.entry.kind k o a.request a.asked a.last a.asked_is a.answering t.w.phase t.on
-    (taken_last reads_back (set_up run r) past (own_past run repos r past h) e f down (ap is_answer says' ∙ plain_completes k plain) t (option_map asked_by o) refl)

@@ -15,7 +15,7 @@ use Rattle.p2p_wire.specs.declared.message.Message.{Message}
 use Rattle.p2p_wire.specs.declared.message.Message.TheVariants.{Failure, Put, Remove, RemoveBefore, Valid}
 use Rattle.run_model.specs.Said.{Says, is_request, message_in}
 use Rattle.race_core.proofs.Ways.{is_answer, answers, way_from}
-use Rattle.run_model.specs.Frames.{Flying, MayTake, last_request, said_of, sender_of, frames_sent, taken_count, taken_if, up_of, way_of}
+use Rattle.run_model.specs.Frames.{FlyingFrame, MayTake, last_request, said_of, sender_of, frames_sent, taken_count, taken_if, up_of, way_of}
 use Rattle.run_model.specs.Run.{RunPast, RunStep, set_up}
 use Rattle.race_core.proofs.SaidDown.{Alike}
 use Rattle.race_core.proofs.SessionAnswers.{AnswerFits, Answering}
@@ -33,8 +33,8 @@ step_at run (e ∷ past) x before h (inl o) = subst (λ (p : List Entry). RunSte
 step_at run (e ∷ past) x before h (inr o) = step_at run past x before h.1 o
 
 -- **the last request was taken by the sender of the answer**
-pub record AnswerOf (past : List Entry) (a : ℕ) (f : FrameView) (it : Flying) (k : Message) : Type 0 where
-  pub request : Flying
+pub record AnswerOf (past : List Entry) (a : ℕ) (f : FrameView) (it : FlyingFrame) (k : Message) : Type 0 where
+  pub request : FlyingFrame
   pub last : last_request past (up_of (way_of a f)) ≡ Some request
   pub asked : Message
   pub asked_is : said_of request ≡ Says asked
@@ -97,11 +97,11 @@ fails_for asked kind x = tt
 module _ (reads_back : SentAreRead) (run : Run) (repos : Each IsSetUp run.repos) where
   -- what a FAILURE that a job takes answers
   pub failure_of : (past : List Entry) → RunPast (set_up run) past → (r : ℕ) (x : Entry) (before : List Entry) → Occurs past x before → is_of r x ≡ true → (f : FrameView) → x.taken ≡ Some f → f.up ≡ false → message_in f.body ≡ Says Failure
-      → (it : Flying) → slice_get (frames_sent before (way_of r f)) (taken_count before (way_of r f)) ≡ Some it → AnswerOf before r f it Failure
+      → (it : FlyingFrame) → slice_get (frames_sent before (way_of r f)) (taken_count before (way_of r f)) ≡ Some it → AnswerOf before r f it Failure
   failure_of past h r x before o is f takes down says' it next =
       let at = step_at run past x before h o in
       let may = (part_of (set_up run) before x r at.0 is).frames.takes f takes in
-      subst (λ (z : Flying). AnswerOf before r f z Failure) (same_Some may.it it (sym may.next ∙ next)) (answer_of reads_back run repos before x r f Failure at.1 at.0 is takes down says' refl may)
+      subst (λ (z : FlyingFrame). AnswerOf before r f z Failure) (same_Some may.it it (sym may.next ∙ next)) (answer_of reads_back run repos before x r f Failure at.1 at.0 is takes down says' refl may)
 
   -- **a FAILURE says what its sender found**
   pub failures_fit : (past : List Entry) → RunPast (set_up run) past → FailuresFit past

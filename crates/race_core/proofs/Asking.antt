@@ -22,10 +22,10 @@ use Rattle.p2p_wire.specs.declared.message.Message.TheVariants.{CheckPresent, Fa
 use Rattle.p2p_wire.specs.Messages.{message_of, text_of, order_of}
 use Rattle.node_model.specs.Ends.{end_after, frames}
 use Rattle.node_model.specs.Jobs
-use Rattle.node_model.specs.Jobs.{AsksLock, AsksLook, AsksTime, Drops, Fresh, Gets, GetsBytes, GetsData, Greets, Next, Opens, Orders, Part, Phase, Puts, PutsAnswer, PutsBytes, PutsOffer, Rows, Work, claims, closed_part, fault_of, fault_phase, first_look, hears_frame, job_end, learns, listens, quiet, says, says_some, sends, side_of, talks, talks_on, target_of, to_phase, took, took_line, after_failed_release, work_kind}
+use Rattle.node_model.specs.Jobs.{AsksLock, AsksLook, AsksTime, Drops, Fresh, Gets, GetsBytes, GetsData, Greets, Next, Opens, Orders, Part, Phase, Puts, PutsAnswer, PutsBytes, PutsOffer, RowsAndEnds, Work, claims, closed_part, fault_of, fault_phase, first_look, hears_frame, job_end, learns, listens, quiet, says, says_some, sends, side_of, talks, talks_on, target_of, to_phase, after_frame, after_line, after_failed_release, work_kind}
 use Rattle.node_model.specs.Look.{Made}
 use Rattle.node_model.specs.JobStep.{Turn, end_with}
-use Rattle.node_model.specs.Found.{JobKind}
+use Rattle.node_model.specs.Found.{IsJobEntry}
 use Rattle.race_core.proofs.ReadAs.{SameHead}
 use Rattle.race_core.proofs.TalkFacts.{Apart, Chosen, Fits, DropAsks, PartSays, SaysOne, TalkKind}
 use Rattle.race_core.proofs.PhaseFacts.{only_word, readies_place}
@@ -91,7 +91,7 @@ module _ (t : Turn) (e : Entry) where
     listens_comes (PutsAnswer peer start) m f = absurd f
     listens_comes phase m f = stays
 
-    line_comes : (m : Option Message) → Fits Drops w.phase → Comes w (took_line w m)
+    line_comes : (m : Option Message) → Fits Drops w.phase → Comes w (after_line w m)
     line_comes None f = stays
     line_comes (Some m) f = listens_comes w.phase m f
 
@@ -99,7 +99,7 @@ module _ (t : Turn) (e : Entry) where
     gets_comes k (GetsBytes peer start size left) is f = absurd f
     gets_comes k phase is f = same_phase phase is
 
-    took_comes : (body : FrameText) → Fits Drops w.phase → Comes w (took w body)
+    took_comes : (body : FrameText) → Fits Drops w.phase → Comes w (after_frame w body)
     took_comes (Bytes k) f = gets_comes k w.phase refl f
     took_comes (Line text) f = line_comes (message_of text) f
     took_comes body f = stays
@@ -111,12 +111,12 @@ module _ (t : Turn) (e : Entry) where
     first_comes r Drops true (Some i) is = away w (first_look r w Drops true (Some i)) refl
     first_comes r Drops true None is = away w (first_look r w Drops true None) refl
 
-    quiet_comes : (rows : Rows) (r : ℕ) (phase : Phase) → w.part ≡ Drops → Comes w (quiet rows r w phase)
+    quiet_comes : (rows : RowsAndEnds) (r : ℕ) (phase : Phase) → w.part ≡ Drops → Comes w (quiet rows r w phase)
     quiet_comes rows r Fresh is = first_comes r w.part (rows.present w.what.key) (rows.bar w.what.key) is
     quiet_comes rows r Next is = away w (quiet rows r w Next) refl
     quiet_comes rows r phase is = stays
 
-    hears_comes : (rows : Rows) (r : ℕ) (taken : Option FrameView) → w.part ≡ Drops → Fits Drops w.phase → Comes w (hears_frame rows r w taken)
+    hears_comes : (rows : RowsAndEnds) (r : ℕ) (taken : Option FrameView) → w.part ≡ Drops → Fits Drops w.phase → Comes w (hears_frame rows r w taken)
     hears_comes rows r None is f = quiet_comes rows r w.phase is
     hears_comes rows r (Some g) is f = took_comes g.body f
 
@@ -174,14 +174,14 @@ module _ (t : Turn) (e : Entry) where
         go x h = absurd h
 
     -- what it sends, nothing or one frame
-    sent_comes : (rows : Rows) (r : ℕ) (m : Made) (sent : List FrameView) → t.w.part ≡ Drops → w.part ≡ Drops → Fits Drops w.phase → (sent ≡ []) ⊎ SaysOne t m → sent ≡ m.sent → e.sent ≡ sent
+    sent_comes : (rows : RowsAndEnds) (r : ℕ) (m : Made) (sent : List FrameView) → t.w.part ≡ Drops → w.part ≡ Drops → Fits Drops w.phase → (sent ≡ []) ⊎ SaysOne t m → sent ≡ m.sent → e.sent ≡ sent
         → Comes w (talks rows r w e sent)
     sent_comes rows r m sent part mine f (inl none) is all = subst (λ fs. Comes w (talks rows r w e fs)) (sym none) (hears_comes rows r e.taken mine f)
     sent_comes rows r m sent part mine f (inr one) is all =
         subst (λ fs. Comes w (talks rows r w e fs)) (sym (is ∙ one.sent_is))
         (talk_comes e.time one.peer (Jobs.taken_message e.taken) one.body f (subst (λ p. PartSays t one.peer p one.body) part one.says) (all ∙ is ∙ one.sent_is))
 
-    on_comes : (rows : Rows) (r : ℕ) (p : Option ℕ) → w.part ≡ Drops → Comes w (talks rows r w e e.sent) → Comes w (talks_on rows r w e p)
+    on_comes : (rows : RowsAndEnds) (r : ℕ) (p : Option ℕ) → w.part ≡ Drops → Comes w (talks rows r w e e.sent) → Comes w (talks_on rows r w e p)
     on_comes rows r None part said = said
     on_comes rows r (Some peer) part said =
         if_either (Comes w) (end_after (job_end w peer) (rows.ends (job_end w peer)) e).opened (talks rows r w e e.sent) (closed_part r w peer w.part)
@@ -204,7 +204,7 @@ module _ (t : Turn) (e : Entry) where
   readied_comes w x y heard c at = let z = c at in (z.0 ∙ heard, z.1)
 
   -- **whence a drop's own entry brings it to a connection**
-  pub kind_came : (m : Made) (rows : Rows) (r : ℕ) (kind : EntryKind) → JobKind t m kind → TalkKind t m kind → Fits t.w.part t.w.phase → t.w.part ≡ Drops → e.sent ≡ m.sent
+  pub kind_came : (m : Made) (rows : RowsAndEnds) (r : ℕ) (kind : EntryKind) → IsJobEntry t m kind → TalkKind t m kind → Fits t.w.part t.w.phase → t.w.part ≡ Drops → e.sent ≡ m.sent
       → ((j : ℕ) (outcome : Outcome) → kind ≢ ends_job j outcome) → Comes t.w (work_kind rows r t.w e kind)
   kind_came m rows r (Share hold end by key) x y fits part sent goes_on = away t.w (work_kind rows r t.w e (Share hold end by key)) refl
   kind_came m rows r (Bar j need key) x y fits part sent goes_on = away t.w (work_kind rows r t.w e (Bar j need key)) refl

@@ -16,12 +16,12 @@ use Rattle.node_model.specs.Evidence.{is_locked, is_trusted}
 use Rattle.annex_base.specs.Lists.{Member}
 use Rattle.annex_base.proofs.Lists.{list_all_member}
 use Rattle.annex_base.proofs.Conditions.{bytes_eq-refl}
+use Rattle.annex_base.proofs.Pasts.{past_more}
 use Rattle.race_core.proofs.Below.{SentAreRead}
 use Rattle.run_model.specs.Past.{present}
 use Rattle.run_model.specs.Safety.{Removal, all_stand, is_backed, claim, is_gone, has_enough, least_need, is_rightful, past_at, stands, within}
 use Rattle.run_model.specs.Run.{IsRun}
 use Rattle.race_core.specs.Places.{claim_at, count_at, removal_at, removals_at}
-use Rattle.race_core.proofs.Pasts.{past_more}
 use Rattle.race_core.proofs.FromStep.{runs_are_safe}
 
 -- the past after the entry at a place

@@ -11,7 +11,7 @@ use Rattle.drop_proof.specs.Judging.{is_enough}
 use Rattle.run_data.specs.declared.entry.Entry.{Entry}
 use Rattle.run_data.specs.declared.job.Job.{Job}
 use Rattle.run_data.specs.Repos.{id_of}
-use Rattle.node_model.specs.Slots.{Running}
+use Rattle.node_model.specs.Slots.{RunningJob}
 use Rattle.run_model.specs.Past.{clock_set, is_of}
 use Rattle.node_model.specs.Clocks.{runs_on}
 use Rattle.run_model.specs.Logs.{before_step, in_drop, read_at, settings_of, starts_drop}
@@ -20,7 +20,7 @@ use Rattle.node_model.specs.SetUp.{SetUp}
 use Rattle.node_model.specs.State.{State}
 use Rattle.run_model.specs.States.{state_of, rows_at, works}
 use Rattle.node_model.specs.Jobs
-use Rattle.node_model.specs.Jobs.{Drops, Fresh, Gets, Heard, Part, Phase, Puts, Work, running, side_of, target_of, work_kind}
+use Rattle.node_model.specs.Jobs.{Drops, Fresh, Gets, Heard, Part, Phase, Puts, Work, running_job, side_of, target_of, work_kind}
 use Rattle.node_model.specs.Knows.{is_unasked, offer_by, standing_of}
 use Rattle.race_core.proofs.Knowing.{knows_enough}
 use Rattle.run_model.specs.Run.{OwnPast}
@@ -113,9 +113,9 @@ module _ (reads_back : SentAreRead) (s : SetUp) where
       let runs = step_runs s p e x b in
       let fits = works_fit s p r.run.1 v runs in
       let good = steps_good s p e x b fits in
-      let same : running x ≡ running v = ap running b.work_is ∙ kind_kept (rows_at p s.number) s.number v e e.kind in
-      let what : x.what ≡ v.what = ap (λ (j : Running). j.what) same in
-      let number : x.number ≡ v.number = ap (λ (j : Running). j.number) same in (
+      let same : running_job x ≡ running_job v = ap running_job b.work_is ∙ kind_kept (rows_at p s.number) s.number v e e.kind in
+      let what : x.what ≡ v.what = ap (λ (j : RunningJob). j.what) same in
+      let number : x.number ≡ v.number = ap (λ (j : RunningJob). j.number) same in (
         step_began p e r is x b (was v runs).0,
         λ part later.
             let v_part : v.part ≡ Drops = was_drop v.part v.phase x.part x.phase good part later in

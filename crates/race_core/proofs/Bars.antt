@@ -2,6 +2,7 @@
 use Rattle.std.proofs.Common.{◌≡◌, ◌≢◌, ℕ, true, false, List, ◌∷◌, Option, Some, None, ◌⊎◌, inl, inr, refl, sym, ap, ◌∙◌, subst, arith}
 use Rattle.std.specs.Prelude.{◌==◌, bytes_eq}
 use Rattle.std.proofs.lemmas.Bool.Decides.{nat_tests}
+use Rattle.std.proofs.lemmas.Bool.{eqb-false}
 use Rattle.annex_base.specs.Lists.{Member}
 use Rattle.annex_base.specs.declared.kinds.Call.{Call}
 use Rattle.annex_base.specs.declared.kinds.Call.TheVariants.{PutFile, Unhold}
@@ -18,7 +19,7 @@ use Rattle.run_data.specs.declared.entry.EntryKind.{EntryKind}
 use Rattle.run_data.specs.declared.entry.EntryKind.TheVariants.{Gain, Share, Bar, Gone, Order, Talk, Crash, Fault, End as ends_job}
 use Rattle.run_data.specs.declared.job.Job.{Job}
 use Rattle.run_data.specs.declared.job.Outcome.{Outcome}
-use Rattle.node_model.specs.Slots.{Running}
+use Rattle.node_model.specs.Slots.{RunningJob}
 use Rattle.run_model.specs.Past.{bar, is_of}
 use Rattle.node_model.specs.Rows.{bar_after}
 use Rattle.run_model.specs.Logs.{is_step}
@@ -26,11 +27,11 @@ use Rattle.node_model.specs.SetUp.{SetUp}
 use Rattle.run_model.specs.States.{state_of, rows_at, works}
 use Rattle.node_model.specs.AnyTime.{MayCome}
 use Rattle.node_model.specs.Jobs
-use Rattle.node_model.specs.Jobs.{Puts, AsksTime, Drops, Fresh, Gets, Part, Phase, Rows, Work, fault_of, fault_phase, running, side_of, after_failed_release, work_kind}
+use Rattle.node_model.specs.Jobs.{Puts, AsksTime, Drops, Fresh, Gets, Part, Phase, RowsAndEnds, Work, fault_of, fault_phase, running_job, side_of, after_failed_release, work_kind}
 use Rattle.node_model.specs.Look.{Made}
 use Rattle.node_model.specs.JobStep.{Turn, key_of}
 use Rattle.run_model.specs.Run.{IsStep, OwnPart, OwnRun}
-use Rattle.node_model.specs.Found.{JobKind}
+use Rattle.node_model.specs.Found.{IsJobEntry}
 use Rattle.race_core.proofs.JobKept.{kind_kept}
 use Rattle.race_core.proofs.StepFacts.{bar_found, kind_found, removes_found}
 use Rattle.race_core.proofs.TalkFacts.{Fits, TalkKind, under_way}
@@ -64,7 +65,7 @@ fault_under r w time PutFile local u = u
 fault_under r w time Unhold local u = unreleased_under w time w.phase u
 fault_under r w time call local u = absurd (phase_under r w w.part (side_of w) w.phase local u)
 
-bars_or : (t : Turn) (m : Made) (rows : Rows) (r : ℕ) (e : Entry) (kind : EntryKind) → JobKind t m kind → TalkKind t m kind → Fits t.w.part t.w.phase → t.w.part ≡ Drops → side_of t.w ≡ Local
+bars_or : (t : Turn) (m : Made) (rows : RowsAndEnds) (r : ℕ) (e : Entry) (kind : EntryKind) → IsJobEntry t m kind → TalkKind t m kind → Fits t.w.part t.w.phase → t.w.part ≡ Drops → side_of t.w ≡ Local
     → under_way (work_kind rows r t.w e kind).phase ≡ true → ((j : ℕ) (outcome : Outcome) → kind ≢ ends_job j outcome) → BarsOr t kind
 bars_or t m rows r e (Share hold end by key) x y fits part local under goes_on = absurd (local_not_remote (side_of t.w) local x.side)
 bars_or t m rows r e (Bar j need key) x y fits part local under goes_on = inl (need, λ i. Bar (x.number_is i) need (x.key_is i))
@@ -119,9 +120,6 @@ gone_bar s past words e own barring by key is = elim (own.does) [
           inr (w.number, y.found.by_is, subst (λ k. bar past s.number k ≡ Some w.number) (sym y.found.key_is) bars))
     ]
 
-equal_off : (a b : ℕ) → a ≡ b → (a == b) ≡ false → ⊥
-equal_off a b e f = grind (arith, nat_tests)
-
 stays_bar : (s : SetUp) (past : List Entry) (words : ℕ → Option Word) (e : Entry) → OwnPart s past words e → ((w : Work) → Member w (works past s.number) → Barring s.number past w)
     → (w : Work) → Stays s past e w → bar past s.number w.what.key ≡ Some w.number → (kind : EntryKind) → e.kind ≡ kind → bar_after w.what.key (Some w.number) kind ≡ Some w.number
 stays_bar s past words e own barring w stays bars (Bar j need key) is =
@@ -140,7 +138,7 @@ stays_bar s past words e own barring w stays bars (Gone by key) is =
         let both : Some w.number ≡ Some mine.0 = sym bars ∙ ap (bar past s.number) (sym same) ∙ mine.2 in
         let number : mine.0 ≡ w.number = cc in
         let still : is_step w.number (Gone by key) ≡ false = subst (λ k. is_step w.number k ≡ false) is stays.still in
-        equal_off mine.0 w.number number (subst (λ b. is_step w.number (Gone b key) ≡ false) mine.1 still)
+        eqb-false mine.0 w.number (subst (λ b. is_step w.number (Gone b key) ≡ false) mine.1 still) number
 stays_bar s past words e own barring w stays bars (ends_job job outcome) is =
     if_either (λ (b : Option ℕ). b ≡ Some w.number) (w.number == job) None (Some w.number)
     (λ same. let number : w.number ≡ job = grind (arith, nat_tests) in absurd (stays.goes_on outcome (is ∙ ap (λ n. ends_job n outcome) (sym number))))
@@ -166,9 +164,9 @@ bars_stand s past run w m =
         let v = b.by.w in
         let fits = works_fit s p r.1 v (step_runs s p e x b) in
         let v_part : v.part ≡ Drops = under_drop v.part v.phase x.part x.phase (steps_good s p e x b fits) part under in
-        let same : running x ≡ running v = ap running b.work_is ∙ kind_kept (rows_at p s.number) s.number v e e.kind in
-        let what : x.what ≡ v.what = ap (λ (j : Running). j.what) same in
-        let number : x.number ≡ v.number = ap (λ (j : Running). j.number) same in
+        let same : running_job x ≡ running_job v = ap running_job b.work_is ∙ kind_kept (rows_at p s.number) s.number v e e.kind in
+        let what : x.what ≡ v.what = ap (λ (j : RunningJob). j.what) same in
+        let number : x.number ≡ v.number = ap (λ (j : RunningJob). j.number) same in
         let v_local : side_of v ≡ Local = subst (λ (q : Job). Jobs.drop_side q.kind q.peer ≡ Local) what local in
         let after : under_way (work_kind (rows_at p s.number) s.number v e e.kind).phase ≡ true = subst (λ (y : Work). under_way y.phase ≡ true) b.work_is under in
         let ways = bars_or (turn_at s p e b.by) b.by.made (rows_at p s.number) s.number e e.kind (step_kind s p e x b) (step_talk s p e x b fits) fits v_part v_local after b.goes_on in

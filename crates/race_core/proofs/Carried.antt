@@ -26,11 +26,11 @@ use Rattle.p2p_wire.specs.Messages.{message_of}
 use Rattle.node_model.specs.Sessions.{line_in}
 use Rattle.node_model.specs.Ends.{end_after}
 use Rattle.node_model.specs.Jobs
-use Rattle.node_model.specs.Jobs.{AsksLock, AsksLook, Drops, Ends, Fresh, GetsData, GetsWord, Gets, Greets, Next, Orders, Part, Phase, Puts, PutsAnswer, PutsOffer, Rows, Work, claims, closed_part, fault_of, fault_phase, first_look, after_gain, hears_frame, is_move, job_end, learns, listens, partner, quiet, says, says_some, sends, side_of, source_cause, talks, talks_on, taken_message, target_of, to_phase, took, took_line, after_transfer, after_failed_release, word_taken, work_kind}
+use Rattle.node_model.specs.Jobs.{AsksLock, AsksLook, Drops, Ends, Fresh, GetsData, GetsWord, Gets, Greets, Next, Orders, Part, Phase, Puts, PutsAnswer, PutsOffer, RowsAndEnds, Work, claims, closed_part, fault_of, fault_phase, first_look, after_gain, hears_frame, is_move, job_end, learns, listens, partner, quiet, says, says_some, sends, side_of, source_cause, talks, talks_on, taken_message, target_of, to_phase, after_frame, after_line, after_transfer, after_failed_release, word_taken, work_kind}
 use Rattle.race_core.proofs.EndReasons.{Like, SaysFirst, ShutOn, shut_like, shut_same, talker_like}
 
 -- a peer gave a get nothing: the connection with it is closed; or the job answers its word by FAILURE
-pub record AddsCause (rows : Rows) (w : Work) (e : Entry) (x : Work) : Type 0 where
+pub record AddsCause (rows : RowsAndEnds) (w : Work) (e : Entry) (x : Work) : Type 0 where
   pub peer : ℕ
   pub cause : SourceCause
   pub list : x.causes ≡ w.causes ++ record { repo = peer; cause = cause } ∷ []
@@ -48,17 +48,17 @@ pub record AddsWord (w : Work) (e : Entry) (x : Work) : Type 0 where
   pub next : x.phase ≡ Next
   pub says : SaysFirst e Failure
 
-abbrev pub Causes : Rows → Work → Entry → Work → Type 0
+abbrev pub Causes : RowsAndEnds → Work → Entry → Work → Type 0
 Causes rows w e x = (x.causes ≡ w.causes) ⊎ (AddsCause rows w e x ⊎ AddsWord w e x)
 
 -- what it heard is as it was, where it is not to go on to the next peer
 abbrev pub ListOrNext : Work → Work → Type 0
 ListOrNext w x = (x.phase ≡ Next) ⊎ (x.heard ≡ w.heard)
 
-abbrev pub Carries : Rows → Work → Entry → Work → Type 0
+abbrev pub Carries : RowsAndEnds → Work → Entry → Work → Type 0
 Carries rows w e x = (x.version ≡ w.version) × (x.fills ≡ true → w.fills ≡ true) × Causes rows w e x × ListOrNext w x
 
-module _ (rows : Rows) (r : ℕ) (e : Entry) where
+module _ (rows : RowsAndEnds) (r : ℕ) (e : Entry) where
   abbrev Keeps : Work → Work → Type 0
   Keeps w x = Carries rows w e x
 
@@ -120,11 +120,11 @@ module _ (rows : Rows) (r : ℕ) (e : Entry) where
   listens_keeps w (PutsAnswer peer start) Failure = same w _
   listens_keeps w phase m = stays w
 
-  line_keeps : (w : Work) (m : Option Message) → Keeps w (took_line w m)
+  line_keeps : (w : Work) (m : Option Message) → Keeps w (after_line w m)
   line_keeps w None = stays w
   line_keeps w (Some m) = listens_keeps w w.phase m
 
-  took_keeps : (w : Work) (body : FrameText) → Keeps w (took w body)
+  took_keeps : (w : Work) (body : FrameText) → Keeps w (after_frame w body)
   took_keeps w (Bytes n) = same w _
   took_keeps w (Line text) = line_keeps w (message_of text)
   took_keeps w body = stays w
@@ -181,7 +181,7 @@ pub record Learns (w : Work) (e : Entry) (version : ℕ) : Type 0 where
   pub takes_it : e.taken ≡ Some f
   pub told : line_in f.body ≡ Some (Version version)
 
-abbrev pub CarriesOn : Rows → Work → Entry → Work → Type 0
+abbrev pub CarriesOn : RowsAndEnds → Work → Entry → Work → Type 0
 CarriesOn rows w e x = ((x.version ≡ w.version) ⊎ Learns w e x.version) × (x.fills ≡ true → (w.fills ≡ true) ⊎ ((w.part ≡ Gets) × (w.phase ≡ Fresh))) × Causes rows w e x × ListOrNext w x
 
 learned : (w : Work) (e : Entry) (phase : Phase) → w.phase ≡ phase → (v : Work) → v.version ≡ w.version → v.what.peer ≡ w.what.peer → ((learns v phase e.taken).version ≡ w.version) ⊎ Learns w e (learns v phase e.taken).version
@@ -210,15 +210,15 @@ learns_carry : (v : Work) (phase : Phase) (taken : Option FrameView) → ((learn
 learns_carry v (Greets peer) (Some f) = if_either (λ (y : Work). (y.fills ≡ v.fills) × (y.causes ≡ v.causes) × (y.heard ≡ v.heard)) (option_is v.what.peer peer) (record v { version = Jobs.version_said v.version (line_in f.body) }) v (λ e. (refl, refl, refl)) (λ e. (refl, refl, refl))
 learns_carry v phase taken = (refl, refl, refl)
 
-keeps_on : (rows : Rows) (w : Work) (e : Entry) (x : Work) → Carries rows w e x → CarriesOn rows w e x
+keeps_on : (rows : RowsAndEnds) (w : Work) (e : Entry) (x : Work) → Carries rows w e x → CarriesOn rows w e x
 keeps_on rows w e x k = (inl k.0, (λ f. inl (k.1 f)), k.2, k.3)
 
-talker_on : (rows : Rows) (r : ℕ) (w : Work) (e : Entry) (kind : EntryKind) (y x : Work) → Like w y → y.causes ≡ w.causes → y.heard ≡ w.heard → ((y.version ≡ w.version) ⊎ Learns w e y.version) → (y.fills ≡ true → (w.fills ≡ true) ⊎ ((w.part ≡ Gets) × (w.phase ≡ Fresh)))
+talker_on : (rows : RowsAndEnds) (r : ℕ) (w : Work) (e : Entry) (kind : EntryKind) (y x : Work) → Like w y → y.causes ≡ w.causes → y.heard ≡ w.heard → ((y.version ≡ w.version) ⊎ Learns w e y.version) → (y.fills ≡ true → (w.fills ≡ true) ⊎ ((w.part ≡ Gets) × (w.phase ≡ Fresh)))
     → Carries rows y e x → CarriesOn rows w e x
 talker_on rows r w e kind y x like list heard version fills k = (elim (version) [ inl a ↦ inl (k.0 ∙ a) | inr a ↦ inr (subst (Learns w e) (sym k.0) a) ], (λ f. fills (k.1 f)), cause k.2, elim (k.3) [ inl n ↦ inl n | inr same ↦ inr (same ∙ heard) ])
   where
     what : y.what ≡ w.what
-    what = ap (λ (j : Rattle.node_model.specs.Slots.Running). j.what) like.job_is
+    what = ap (λ (j : Rattle.node_model.specs.Slots.RunningJob). j.what) like.job_is
 
     cause : Causes rows y e x → Causes rows w e x
     cause (inl same) = inl (same ∙ list)
@@ -242,7 +242,7 @@ talker_on rows r w e kind y x like list heard version fills k = (elim (version) 
     }))
 
 -- **what an entry of a job carries on**
-pub kind_carries : (rows : Rows) (r : ℕ) (w : Work) (e : Entry) (kind : EntryKind) → CarriesOn rows w e (work_kind rows r w e kind)
+pub kind_carries : (rows : RowsAndEnds) (r : ℕ) (w : Work) (e : Entry) (kind : EntryKind) → CarriesOn rows w e (work_kind rows r w e kind)
 kind_carries rows r w e (Fault call owner) = keeps_on rows w e _ (call_keeps rows r e w call)
 kind_carries rows r w e (Bar job need key) = keeps_on rows w e _ (same rows r e w Next)
 kind_carries rows r w e (Share hold end owner key) = (inl refl, (λ f. inl f), inl refl, inl refl)
@@ -254,6 +254,6 @@ kind_carries rows r w e kind =
     let like = talker_like w e.taken in
     let a = claims_carry w w.part w.phase in
     let b = learns_carry v w.phase e.taken in
-    let what : y.what ≡ w.what = ap (λ (j : Rattle.node_model.specs.Slots.Running). j.what) like.job_is in
+    let what : y.what ≡ w.what = ap (λ (j : Rattle.node_model.specs.Slots.RunningJob). j.what) like.job_is in
     talker_on rows r w e kind y (talks_on rows r y e (partner w.what.peer w.phase)) like (b.1 ∙ a.2) (b.2 ∙ a.3) (learned w e w.phase refl v a.0 (ap (λ q. q.peer) a.1))
     (λ f. claims_fill w w.part w.phase refl refl (sym b.0 ∙ f)) (on_keeps rows r e y (partner w.what.peer w.phase) (λ i. partner (what i).peer (like.phase_is i)))

@@ -18,14 +18,13 @@ use Rattle.run_data.specs.declared.run.Run.{Run}
 use Rattle.run_model.specs.Past.{is_of}
 use Rattle.node_model.specs.Rows.{option_is}
 use Rattle.run_data.specs.Repos.{IsSetUp}
-use Rattle.run_model.specs.Causes.{CauseOf, CausedPast, FailedCall, FoundAbsent, FoundBarred, FoundHeld, FoundNotHere, HadFault, HasCauses, IsCaused, TransferCauseOf}
+use Rattle.run_model.specs.Causes.{CauseOf, CausedPast, HasCauses, IsCaused, TransferCauseOf}
 use Rattle.node_model.specs.SetUp.{SetUp}
 use Rattle.node_model.specs.Jobs.{Drops, Work}
 use Rattle.run_model.specs.States.{works}
 use Rattle.node_model.specs.DropStep
 use Rattle.node_model.specs.Wanted.{required}
-use Rattle.node_model.specs.Found.{Judged}
-use Rattle.race_core.proofs.BySteps.{ByStep}
+use Rattle.node_model.specs.Found.{FindsOutcome}
 use Rattle.run_model.specs.Run.{FramesPart, IsRun, OwnPart, OwnPast, RunPast, RunStep, set_up}
 use Rattle.race_core.proofs.JobSteps.{turn_at}
 use Rattle.race_core.proofs.MovesLate.{moves_late}
@@ -61,7 +60,7 @@ required_none settings repo key paths = refl
 
 module _ (reads_back : SentAreRead) (s : SetUp) (past : List Entry) (words : ℕ → Option Word) (e : Entry) (h : OwnPast s past) (own : OwnPart s past words e) (frames : FramesPart past s.number words e) (run : MessagePast s.repos past) (left : Grounds s past) (j : ℕ) where
   -- neither required content nor a crash ends a job so
-  never : (refusal : DropRefusal) → (x : Ending s past e j (Refused refusal)) → (Judged (turn_at s past e x.by) x.by.made.taken (Refused refusal) → ⊥) → (DropSettled (turn_at s past e x.by) past refusal → ⊥) → ⊥
+  never : (refusal : DropRefusal) → (x : Ending s past e j (Refused refusal)) → (FindsOutcome (turn_at s past e x.by) x.by.made.taken (Refused refusal) → ⊥) → (DropSettled (turn_at s past e x.by) past refusal → ⊥) → ⊥
   never refusal x now settled = elim (x.why) [
     | inl y ↦ now y
     | inr y ↦ settled (drop_settled (turn_at s past e x.by) past refusal x.by.made.taken (stands reads_back s past h x.by.w x.runs) y)
@@ -167,26 +166,3 @@ module _ (reads_back : SentAreRead) (run : Run) (repos : Each IsSetUp run.repos)
 
 pub run_causes : SentAreRead → (run : Run) → IsRun run → ((r : ℕ) (past : List Entry) → RunPast (set_up run) past → Left (set_up run r) past) → HasCauses run
 run_causes reads_back run h left = record { causes = all_caused reads_back run h.repos left (reverse run.entries) h.steps }
-
--- ---- by steps: the refusals that need nothing but the repository's own part
-
--- a drop's, and a transfer's, by a call of the store that failed
-pub fault_step : SentAreRead → ByStep (λ s past e. (j : ℕ) → e.kind ≡ ends_job j (Refused refusals.StoreFault) → HadFault past s.number j)
-fault_step reads_back s past words e h b is part j kind = fault_found reads_back s past words e h part j kind
-
-pub transfer_fault_step : SentAreRead → ByStep (λ s past e. (j : ℕ) → e.kind ≡ ends_job j (TransferRefused failures.StoreFault) → FailedCall past s.number j)
-transfer_fault_step reads_back s past words e h b is part j kind = transfer_fault_found reads_back s past words e h part j kind
-
--- a copy whose content wasn't there
-pub not_here_step : SentAreRead → ByStep (λ s past e. (j : ℕ) → e.kind ≡ ends_job j (TransferRefused failures.NotHere) → FoundNotHere past s.number j)
-not_here_step reads_back s past words e h b is part j kind = not_here_found reads_back s past words e h part j kind
-
--- a local drop's row
-pub absent_step : SentAreRead → ByStep (λ s past e. (j : ℕ) → e.kind ≡ ends_job j (Refused refusals.NotPresent) → FoundAbsent past s.number j)
-absent_step reads_back s past words e h b is part j kind = absent_found reads_back s past words e h part j (moves_late reads_back s) kind
-
-pub barred_step : SentAreRead → ByStep (λ s past e. (j other : ℕ) → e.kind ≡ ends_job j (Refused (refusals.Barred other)) → FoundBarred past s.number j other)
-barred_step reads_back s past words e h b is part j other kind = barred_found reads_back s past words e h part j (moves_late reads_back s) other kind
-
-pub held_step : SentAreRead → ByStep (λ s past e. (j : ℕ) (end : Option ℕ) → e.kind ≡ ends_job j (Refused (refusals.Held end)) → FoundHeld s.repos past s.number j e.time end)
-held_step reads_back s past words e h b is part j end kind = held_found reads_back s past words e h part j (moves_late reads_back s) end kind

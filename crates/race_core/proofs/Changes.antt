@@ -22,8 +22,8 @@ use Rattle.run_data.specs.declared.entry.EntryKind.TheVariants.{Share, Release, 
 use Rattle.run_data.specs.declared.row.Hold.{Hold}
 use Rattle.run_model.specs.Past.{present, bar, is_of, decision, decided_after, Decision, holds, clock_set, now, set_after}
 use Rattle.node_model.specs.Rows.{present_after, bar_after, option_is, holds_after, keep_of, same_owner, is_lost_ordered, blocks, is_blocked, restart}
-use Rattle.run_model.specs.Frames.{Sent, sender, is_job}
-use Rattle.run_model.specs.Drops.{Vouch, Lock, Look, look_of, vouch_kind, vouch, vouches, newer, Asker, asker, is_asker, asked_at, tells, told_by, reply}
+use Rattle.run_model.specs.Frames.{SendingEntry, sender, is_job}
+use Rattle.run_model.specs.Drops.{Vouch, Lock, Look, look_of, vouch_kind, vouch, vouches, newer, Asker, asker, is_asker, asked_at, tells, vouches_sent, reply}
 use Rattle.run_model.specs.Safety.{Removal, removal, removal_by, barred_removal, local_removal, remote_removal, ordered_removal, sent_order, add_removal}
 use Rattle.annex_base.specs.Lists.{Member}
 use Rattle.annex_base.proofs.Conditions.{eqb_refl, if_is, bytes_eq-refl}
@@ -386,7 +386,7 @@ pub record Obeys (repos : List RepoView) (e : Entry) (past : List Entry) (key : 
   pub r : ℕ
   pub a : ℕ
   pub slot : ℕ
-  pub s : Sent
+  pub s : SendingEntry
   pub j : ℕ
   pub deadline : Option ℕ
   pub need : Need
@@ -403,10 +403,10 @@ LocalKind repos past key repo kind x =
 
 abbrev pub RemoteKind : List RepoView → List Entry → List ℕ → Option ℕ → Option FrameView → EntryKind → Removal → Type 0
 RemoteKind repos past key repo taken kind x =
-    (r a slot : ℕ) × ((s : Sent) × ((j : ℕ) × ((deadline : Option ℕ) × ((need : Need) ×
+    (r a slot : ℕ) × ((s : SendingEntry) × ((j : ℕ) × ((deadline : Option ℕ) × ((need : Need) ×
     ((repo ≡ Some r) × (kind ≡ Gone (Peer a slot) key) × (sender past r taken ≡ Some s) × (is_of a s.entry ≡ true) × (s.entry.kind ≡ Order j r deadline need key) × (x ≡ remote_removal repos past r a j need s))))))
 
-ordered-kind : (repos : List RepoView) (past : List Entry) (key : List ℕ) (r a : ℕ) (s : Sent) (kind : EntryKind) (x : Removal) → ordered_removal repos past key r a s kind ≡ Some x
+ordered-kind : (repos : List RepoView) (past : List Entry) (key : List ℕ) (r a : ℕ) (s : SendingEntry) (kind : EntryKind) (x : Removal) → ordered_removal repos past key r a s kind ≡ Some x
     → (j : ℕ) × ((deadline : Option ℕ) × ((need : Need) × ((kind ≡ Order j r deadline need key) × (x ≡ remote_removal repos past r a j need s))))
 ordered-kind repos past key r a s (Order j target deadline need k) x h = elim (if_is ((target == r) && bytes_eq k key) (Some (remote_removal repos past r a j need s)) None (Some x) h) [
   | inl t ↦ let w = and_parts (target == r) (bytes_eq k key) t.0 in
@@ -433,7 +433,7 @@ removal-kind repos past key (Some r) taken (Gone (Peer p slot) k) x h = elim (if
   | inr t ↦ cc
 ]
   where
-    go : (o : Option Sent) → sender past r taken ≡ o → sent_order repos past key r p o ≡ Some x → k ≡ key → RemoteKind repos past key (Some r) taken (Gone (Peer p slot) k) x
+    go : (o : Option SendingEntry) → sender past r taken ≡ o → sent_order repos past key r p o ≡ Some x → k ≡ key → RemoteKind repos past key (Some r) taken (Gone (Peer p slot) k) x
     go None e f same = cc
     go (Some s) e f same = elim (if_is (is_of p s.entry) (ordered_removal repos past key r p s s.entry.kind) None (Some x) f) [
       | inl t ↦ let w = ordered-kind repos past key r p s s.entry.kind x t.1 in
@@ -468,7 +468,7 @@ pub removal_is : (repos : List RepoView) (e : Entry) (past : List Entry) (r j : 
     → removal repos past key e ≡ Some (local_removal repos past r j d)
 removal_is repos e past r j key d is kind h same = rw (repo_of e r is, kind, bytes_eq-refl key, h, same, bytes_eq-refl key) refl
 
-pub order_is : (repos : List RepoView) (e : Entry) (past : List Entry) (r a slot j : ℕ) (deadline : Option ℕ) (need : Need) (key : List ℕ) (s : Sent) → is_of r e ≡ true → e.kind ≡ Gone (Peer a slot) key
+pub order_is : (repos : List RepoView) (e : Entry) (past : List Entry) (r a slot j : ℕ) (deadline : Option ℕ) (need : Need) (key : List ℕ) (s : SendingEntry) → is_of r e ≡ true → e.kind ≡ Gone (Peer a slot) key
     → sender past r e.taken ≡ Some s → is_of a s.entry ≡ true → s.entry.kind ≡ Order j r deadline need key → removal repos past key e ≡ Some (remote_removal repos past r a j need s)
 order_is repos e past r a slot j deadline need key s is kind h from k = rw (repo_of e r is, kind, bytes_eq-refl key, h, from, k, eqb_refl r, bytes_eq-refl key) refl
 
@@ -520,18 +520,18 @@ own_lock (x ∷ past) r a j hold since i owner key m e = elim (Member-append_cas
 ]
 
 -- what was vouched before an entry that sent a frame was vouched
-pub sender_before : (past : List Entry) (q : ℕ) (o : Option FrameView) (s : Sent) (r a j : ℕ) (v : Vouch) → sender past q o ≡ Some s → Member v (vouches s.before r a j) → Member v (vouches past r a j)
+pub sender_before : (past : List Entry) (q : ℕ) (o : Option FrameView) (s : SendingEntry) (r a j : ℕ) (v : Vouch) → sender past q o ≡ Some s → Member v (vouches s.before r a j) → Member v (vouches past r a j)
 sender_before past q o s r a j v h m = occurs_vouches past s.entry s.before r a j v (sender_occurs past q o s h) m
 
 -- and what it vouched
-sender_vouched : (past : List Entry) (q : ℕ) (o : Option FrameView) (r a j : ℕ) (v : Vouch) (x : Option Sent) → sender past q o ≡ x → Member v (told_by r a j x) → Member v (vouches past r a j)
+sender_vouched : (past : List Entry) (q : ℕ) (o : Option FrameView) (r a j : ℕ) (v : Vouch) (x : Option SendingEntry) → sender past q o ≡ x → Member v (vouches_sent r a j x) → Member v (vouches past r a j)
 sender_vouched past q o r a j v None h m = absurd m
 sender_vouched past q o r a j v (Some s) h m = occurs_vouch past s.entry s.before r a j v (sender_occurs past q o s h) m
 
 tells_vouches : (past : List Entry) (e : Entry) (r a j : ℕ) (v : Vouch) → Member v (tells past e r a j) → Member v (vouches (e ∷ past) r a j)
 tells_vouches past e r a j v m = go (r == a) (is_job a j e) m
   where
-    go : (own is : Bool) → Member v (if own then vouch past e r a j else (if is then told_by r a j (sender past a e.taken) else [])) → Member v (vouches (e ∷ past) r a j)
+    go : (own is : Bool) → Member v (if own then vouch past e r a j else (if is then vouches_sent r a j (sender past a e.taken) else [])) → Member v (vouches (e ∷ past) r a j)
     go true is k = Member-append_left (vouch past e r a j) (vouches past r a j) v k
     go false true k = Member-append_right (vouch past e r a j) (vouches past r a j) v (sender_vouched past a e.taken r a j v (sender past a e.taken) refl k)
     go false false k = absurd k
@@ -547,5 +547,3 @@ reply_vouched (e ∷ past) a j r v h = elim (newer-was (tells past e r a j) (rep
   | inl m ↦ tells_vouches past e r a j v m
   | inr k ↦ Member-append_right (vouch past e r a j) (vouches past r a j) v (reply_vouched past a j r v k)
 ]
-
--- ---- jobs

@@ -3,6 +3,7 @@ use Rattle.std.proofs.Common.{◌≡◌, ℕ, ◌+◌, true, false, List, length
 use Rattle.std.specs.Prelude.{if◌then◌else◌, ◌==◌, ◌&&◌, nat_lt, option_map}
 use Rattle.std.proofs.lemmas.Bool.{true≢false, eqb-true, and_parts}
 use Rattle.annex_base.specs.declared.kinds.Word.{Word}
+use Rattle.annex_base.proofs.Conditions.{and_first}
 use Rattle.race_core.proofs.Below.{SentAreRead}
 use Rattle.run_data.specs.declared.entry.Entry.{Entry}
 use Rattle.run_data.specs.declared.entry.FrameView.{FrameView}
@@ -19,7 +20,7 @@ use Rattle.run_model.specs.States.{end_at}
 use Rattle.node_model.specs.Jobs.{job_end}
 use Rattle.run_model.specs.Run.{OwnPart, OwnPast}
 use Rattle.race_core.proofs.Makers.{TakenBy, taken_of, taker}
-use Rattle.race_core.proofs.ClientCounts.{Counted, Request, LastIs, and_left, awaits_of, counts_at, is_answering, unit}
+use Rattle.race_core.proofs.ClientCounts.{Counted, Request, LastIs, awaits_of, counts_at, is_answering, unit}
 use Rattle.race_core.proofs.ClientTurns.{live_on}
 use Rattle.race_core.proofs.ClientLeaves.{awaits_true, unit_yes}
 use Rattle.race_core.proofs.ClientWays.{answers_body, asked_by, ways_agree}
@@ -52,11 +53,11 @@ module _ (reads_back : SentAreRead) (s : SetUp) (past : List Entry) (past_is : O
   body_answers = sym (answers_body f.body) ∙ answer
 
   two : ((f.peer == t.peer) && (f.slot == t.w.slot)) ≡ true
-  two = and_left ((f.peer == t.peer) && (f.slot == t.w.slot)) (same_bool true (if f.up then false else true)) t.of_end
+  two = and_first ((f.peer == t.peer) && (f.slot == t.w.slot)) (same_bool true (if f.up then false else true)) t.of_end
 
   pub taken_way : way_of s.number f ≡ way_at s.number t.peer t.w.slot (end_at past s.number (job_end t.w t.peer)).epoch
   taken_way = way_is s.number t.peer t.w.slot (end_at past s.number (job_end t.w t.peer)).epoch f down
-      (eqb-true f.peer t.peer (and_left (f.peer == t.peer) (f.slot == t.w.slot) two))
+      (eqb-true f.peer t.peer (and_first (f.peer == t.peer) (f.slot == t.w.slot) two))
       (eqb-true f.slot t.w.slot ((and_parts (f.peer == t.peer) (f.slot == t.w.slot) two).1))
       (answer_epoch (end_at past s.number (job_end t.w t.peer)) f body_answers t.may)
 

@@ -3,7 +3,7 @@
 use Rattle.std.proofs.Common.{◌≡◌, ℕ, ◌+◌, Bool, true, false, List, [], ◌∷◌, Option, Some, None, ◌⊎◌, inl, inr, refl, sym, ap, ◌∙◌, subst}
 use Rattle.std.specs.Prelude.{if◌then◌else◌, ◌==◌, ◌&&◌, bytes_eq, codes, fold}
 use Rattle.std.proofs.lemmas.Bool.{true≢false, eqb-true, and_right}
-use Rattle.annex_base.proofs.Conditions.{eqb_refl}
+use Rattle.annex_base.proofs.Conditions.{and_first, eqb_refl}
 use Rattle.run_data.specs.declared.entry.Entry.{Entry}
 use Rattle.run_data.specs.declared.entry.FrameView.{FrameView}
 use Rattle.run_data.specs.declared.entry.FrameText.{FrameText}
@@ -171,17 +171,13 @@ self_sends w peer c body = rw (eqb_refl peer, eqb_refl w.slot) refl
 else_sends : (w : Work) (peer : ℕ) (c : End) (body : FrameText) (p : ℕ) → (peer == p) ≡ false → sent_at (job_end w p) (frames (job_end w peer) c (body ∷ [])) ≡ []
 else_sends w peer c body p e = rw e refl
 
-pub and_left : (a b : Bool) → (a && b) ≡ true → a ≡ true
-and_left true b e = refl
-and_left false b e = absurd (cc)
-
 self_takes : (w : Work) (peer : ℕ) (f : FrameView) → takes_at (job_end w peer) f ≡ true → taken_at (job_end w peer) (Some f) ≡ Some f
 self_takes w peer f e = rw e refl
 
 else_takes : (w : Work) (peer : ℕ) (f : FrameView) → takes_at (job_end w peer) f ≡ true → (p : ℕ) → (peer == p) ≡ false → taken_at (job_end w p) (Some f) ≡ None
 else_takes w peer f e p other =
-    let first : (f.peer == peer) && (f.slot == w.slot) ≡ true = and_left ((f.peer == peer) && (f.slot == w.slot)) (same_bool true (if f.up then false else true)) e in
-    let is : f.peer ≡ peer = eqb-true f.peer peer (and_left (f.peer == peer) (f.slot == w.slot) first) in
+    let first : (f.peer == peer) && (f.slot == w.slot) ≡ true = and_first ((f.peer == peer) && (f.slot == w.slot)) (same_bool true (if f.up then false else true)) e in
+    let is : f.peer ≡ peer = eqb-true f.peer peer (and_first (f.peer == peer) (f.slot == w.slot) first) in
     let apart : (f.peer == p) ≡ false = subst (λ n. (n == p) ≡ false) (sym is) other in
     rw apart refl
 

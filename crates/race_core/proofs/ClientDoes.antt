@@ -22,7 +22,7 @@ use Rattle.node_model.specs.SetUp.{SetUp}
 use Rattle.run_model.specs.States.{state_of, end_at, rows_at, works}
 use Rattle.node_model.specs.AnyTime.{MayCome}
 use Rattle.node_model.specs.Jobs.{Work, job_end, new_work, work_kind}
-use Rattle.node_model.specs.Found.{JobKind}
+use Rattle.node_model.specs.Found.{IsJobEntry}
 use Rattle.run_model.specs.Run.{IsStep, OwnPart, OwnRun, ComesAnyTime}
 use Rattle.race_core.proofs.StepFacts.{kind_found}
 use Rattle.race_core.proofs.JobSteps.{Begins, KindAfter, Origin, Stays, Stepped, Steps, origin, stepped_found, stepped_job, stepped_runs, still_after, turn_at}
@@ -124,12 +124,12 @@ module _ (reads_back : SentAreRead) (s : SetUp) (past : List Entry) (e : Entry) 
 
       goes_on : (j : ℕ) (outcome : Outcome) → y.made.kind ≢ ends_job j outcome
       goes_on j outcome k =
-          let found = subst (JobKind (turn_at s past e y) y.made) k (stepped_found s past e y).found in
+          let found = subst (IsJobEntry (turn_at s past e y) y.made) k (stepped_found s past e y).found in
           let number : j ≡ x.number = found.number_is ∙ ap (λ (w : Work). w.number) same in
           b.goes_on outcome (kind_is ∙ (k ∙ ap (λ n. ends_job n outcome) number))
 
       no_begin : (job : ℕ) (what : Job) → e.kind ≢ Begin job what
-      no_begin job what k = subst (JobKind (turn_at s past e y) y.made) (sym kind_is ∙ k) (stepped_found s past e y).found
+      no_begin job what k = subst (IsJobEntry (turn_at s past e y) y.made) (sym kind_is ∙ k) (stepped_found s past e y).found
 
       after : KindAfter s past y.w e e.kind ≡ y.w
       after = still_after s past y.w e e.kind no_begin (subst (λ (w : Work). is_step w.number e.kind ≡ false) (sym same) b.still)

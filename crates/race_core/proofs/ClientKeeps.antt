@@ -26,7 +26,7 @@ use Rattle.node_model.specs.SessionStep.{session_step}
 use Rattle.node_model.specs.JobStep.{Turn, end_with, farewell, farewells, has_lock, key_of, quietly, talk, turn_of, wrong}
 use Rattle.node_model.specs.Turns.{awaits, by_partner, goes, goes_on, has_room, is_awaiting, job_step, needs, slot_step, takes_frame, with_partner}
 use Rattle.run_model.specs.Run.{IsStep, OwnPart, OwnPast}
-use Rattle.node_model.specs.Found.{ByOwed, BySession, JobKind}
+use Rattle.node_model.specs.Found.{ByOwed, BySession, IsJobEntry}
 use Rattle.race_core.proofs.Cases.{first_was, some_was}
 use Rattle.race_core.proofs.SessionFacts.{session_found}
 use Rattle.race_core.proofs.StepFacts.{pays_found}
@@ -187,7 +187,7 @@ module _ (s : SetUp) (past : List Entry) (k : Look) (w : Work) (m : Made) (does 
           go true = (ap asks_for read, (refl, tt))
           go false = (refl, tt)
 
-  kind_sends : (a : EndName) (kind : EntryKind) → JobKind t m kind → message_of (text_of (UnlockContent w.what.key)) ≡ Some (UnlockContent w.what.key) → Sends s past a e
+  kind_sends : (a : EndName) (kind : EntryKind) → IsJobEntry t m kind → message_of (text_of (UnlockContent w.what.key)) ≡ Some (UnlockContent w.what.key) → Sends s past a e
   kind_sends a (Share hold end by key) x read = none_sends a x.sends_none
   kind_sends a (Bar j need key) x read = none_sends a x.sends_none
   kind_sends a (Gone by key) x read = none_sends a x.sends_none

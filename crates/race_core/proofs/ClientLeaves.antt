@@ -10,7 +10,7 @@ use Rattle.p2p_wire.specs.declared.message.Message.{Message}
 use Rattle.p2p_wire.specs.Messages.{message_of, text_of}
 use Rattle.node_model.specs.Ends.{EndName, end_takes, takes_at}
 use Rattle.node_model.specs.Jobs
-use Rattle.node_model.specs.Jobs.{Phase, Work, closed_part, job_end, partner, says, taken_message, talks, talks_on, took}
+use Rattle.node_model.specs.Jobs.{Phase, Work, closed_part, job_end, partner, says, taken_message, talks, talks_on, after_frame}
 use Rattle.node_model.specs.Look.{Made}
 use Rattle.node_model.specs.JobStep.{Turn, end_with, key_of, me, quietly, says_to, sends_to}
 use Rattle.node_model.specs.Turns.{is_awaiting}
@@ -83,8 +83,6 @@ no_more key target phase peer q x was =
     let before : q.asked ≡ q.got + unit (awaits_of target phase peer) = x.balance in
     omega (arith, none, before)
 
--- ---- the end
-
 -- ---- steps that take a frame of the partner
 
 pub record Taking (t : Turn) (f : FrameView) (peer : ℕ) : Type 0 where
@@ -102,7 +100,7 @@ module _ (t : Turn) (kind : EntryKind) (f : FrameView) (peer : ℕ) (x : Taking 
   was = awaits_true t.w.what.peer t.w.phase peer x.awaiting x.on
 
   -- an answer, and nothing is said
-  pub hears_even : (next : Phase) → is_answering f.body ≡ true → ((took (talker t (Some f)) f.body).phase ≡ next) → Stays t.w.what.peer next peer
+  pub hears_even : (next : Phase) → is_answering f.body ≡ true → ((after_frame (talker t (Some f)) f.body).phase ≡ next) → Stays t.w.what.peer next peer
       → awaits_of t.w.what.peer next peer ≡ false → ((l : Option Request) → LastIs (key_of t) t.w.what.peer next peer l) → Goes t (quietly kind (Some f))
   hears_even next e goes stays now any = talk_even t (quietly kind (Some f)) peer next x.on (takes_here t.w peer f x.of_end) goes stays
       (λ q fits l o. heard (key_of t) t.w.what.peer t.w.phase next peer q f.body (fits x.opened) was e now any)
@@ -137,7 +135,7 @@ module _ (t : Turn) (kind : EntryKind) (f : FrameView) (peer : ℕ) (x : Taking 
       (heard (key_of t) t.w.what.peer t.w.phase next peer q f.body (fits x.opened) was e now any))
 
   -- a frame that completes no answer
-  pub keeps_even : (next : Phase) → ((q : Counts) → counts_takes q f.body ≡ q) → ((took (talker t (Some f)) f.body).phase ≡ next) → Stays t.w.what.peer next peer
+  pub keeps_even : (next : Phase) → ((q : Counts) → counts_takes q f.body ≡ q) → ((after_frame (talker t (Some f)) f.body).phase ≡ next) → Stays t.w.what.peer next peer
       → awaits_of t.w.what.peer next peer ≡ true → ((l : Option Request) → LastIs (key_of t) t.w.what.peer t.w.phase peer l → LastIs (key_of t) t.w.what.peer next peer l) → Goes t (quietly kind (Some f))
   keeps_even next same goes stays now any = talk_even t (quietly kind (Some f)) peer next x.on (takes_here t.w peer f x.of_end) goes stays
       (λ q fits l o. subst (Counted (key_of t) t.w.what.peer next peer) (sym (same q))
@@ -150,8 +148,8 @@ module _ (t : Turn) (kind : EntryKind) (f : FrameView) (peer : ℕ) (x : Taking 
       closed : (end_takes (end_with t peer) f.epoch f.body).opened ≡ false
       closed = rw e refl
 
-      goes : (took (talker t (Some f)) f.body).phase ≡ t.w.phase
-      goes = ap (λ (b : FrameText). (took (talker t (Some f)) b).phase) e ∙ talker_phase t (Some f)
+      goes : (after_frame (talker t (Some f)) f.body).phase ≡ t.w.phase
+      goes = ap (λ (b : FrameText). (after_frame (talker t (Some f)) b).phase) e ∙ talker_phase t (Some f)
 
   -- an unexpected frame closes the connection
   pub wrong_even : Goes t (sends_to t kind (Some f) peer (Closing ∷ []))

@@ -6,27 +6,25 @@ use Rattle.annex_base.specs.Lists.{Each, Member}
 use Rattle.annex_base.specs.declared.kinds.Call.TheVariants.{PutFile}
 use Rattle.annex_base.specs.declared.kinds.Word.{Word}
 use Rattle.annex_base.proofs.Lists.{Each-append, Each-filter, Member-filter_parts, find_member}
-use Rattle.annex_base.proofs.Conditions.{eqb_refl, eqb_sym, if_either}
+use Rattle.annex_base.proofs.Conditions.{and_first, eqb_refl, eqb_sym, if_either}
 use Rattle.run_data.specs.declared.entry.By.{By}
 use Rattle.run_data.specs.declared.entry.By.TheVariants.{Script}
 use Rattle.run_data.specs.declared.entry.Entry.{Entry}
 use Rattle.run_data.specs.declared.entry.EntryKind.{EntryKind}
-use Rattle.run_data.specs.declared.entry.EntryKind.TheVariants.{Begin, Gain, Share, Release, Check, Bar, Order, Gone, Log, Compact, Talk, Close, Crash, Fault, End as ends_job}
+use Rattle.run_data.specs.declared.entry.EntryKind.TheVariants.{Begin, Gain, Share, Bar, Order, Gone, Log, Compact, Talk, Close, Crash, Fault, End as ends_job}
 use Rattle.run_data.specs.declared.entry.FrameView.{FrameView}
 use Rattle.run_data.specs.declared.entry.FrameText.{FrameText}
 use Rattle.run_data.specs.declared.entry.FrameText.TheVariants.{Closing}
 use Rattle.run_data.specs.declared.entry.LogFile.TheVariants.{Location}
 use Rattle.run_data.specs.declared.job.Job.{Job}
-use Rattle.node_model.specs.Slots.{Running, job_by, job_of}
+use Rattle.node_model.specs.Slots.{RunningJob, job_by, job_of}
 use Rattle.node_model.specs.Rows.{is_lost_ordered, option_is}
 use Rattle.run_model.specs.Past.{is_of}
 use Rattle.node_model.specs.Ends.{same_bool, EndName, End, end_after, end_sends, end_takes, end_took, frames, sends_at, sent_at, server_end, taken_at, takes_at}
 use Rattle.node_model.specs.Look.{first_of, Look, Made, entry_of}
 use Rattle.node_model.specs.SetUp.{SetUp, slots}
 use Rattle.run_model.specs.States.{end_at, rows_at, works, state_of}
-use Rattle.node_model.specs.Jobs.{Phase, Fresh, Rows, Work, job_end, new_work, partner, running, work_after, work_kind, works_after}
-use Rattle.p2p_wire.specs.declared.message.Message.{Message}
-use Rattle.node_model.specs.Sessions
+use Rattle.node_model.specs.Jobs.{Phase, Fresh, RowsAndEnds, Work, job_end, new_work, partner, running_job, work_after, work_kind, works_after}
 use Rattle.node_model.specs.Owed.{due}
 use Rattle.node_model.specs.State.{State}
 use Rattle.node_model.specs.OwedStep.{owed_step}
@@ -36,8 +34,8 @@ use Rattle.node_model.specs.Turns.{job_step, slot_step}
 use Rattle.node_model.specs.Step.{step}
 use Rattle.node_model.specs.AnyTime.{MayCome, close_at}
 use Rattle.run_model.specs.Run.{IsStep, ComesAnyTime, OwnRun}
-use Rattle.node_model.specs.Found.{ByJob, ByOwed, BySession, GivesAt, JobKind, SessionKind, TakesAt}
-use Rattle.race_core.proofs.JobSteps.{job_is}
+use Rattle.node_model.specs.Found.{ByJob, ByOwed, BySession, GivesAt, IsJobEntry, TakesAt}
+use Rattle.race_core.proofs.JobSteps.{job_is, session_none}
 use Rattle.race_core.proofs.WorkNumbers.{same_work}
 use Rattle.race_core.proofs.Cases.{first_was, some_was}
 use Rattle.race_core.proofs.JobFacts.{partner_found}
@@ -45,7 +43,7 @@ use Rattle.race_core.proofs.JobKept.{after_kept, jobs_are}
 use Rattle.race_core.proofs.JobNumbers.{Falling, jobs_numbered}
 use Rattle.race_core.proofs.SessionFacts.{session_found}
 use Rattle.race_core.proofs.StepFacts.{pays_found}
-use Rattle.race_core.proofs.ClientCounts.{Counted, Counts, Fits, and_left, counts_after, counts_at, counts_sends, counts_took}
+use Rattle.race_core.proofs.ClientCounts.{Counted, Counts, Fits, counts_after, counts_at, counts_sends, counts_took}
 use Rattle.race_core.proofs.ClientTurns.{Even}
 use Rattle.race_core.proofs.ClientSteps.{Speaks, partner_even}
 
@@ -55,11 +53,11 @@ abbrev pub client_end : ℕ → ℕ → EndName
 client_end peer slot = record { peer = peer; slot = slot; client = true }
 
 -- what a job's phase says is so at each of its ends
-abbrev pub FitsAt : List Entry → ℕ → Running → Phase → Type 0
+abbrev pub FitsAt : List Entry → ℕ → RunningJob → Phase → Type 0
 FitsAt past r j phase = (p : ℕ) → Fits j.what.key j.what.peer phase p (end_at past r (client_end p j.slot)) (counts_at past r (client_end p j.slot))
 
 abbrev pub AllFit : SetUp → List Entry → Type 0
-AllFit s past = (w : Work) → Member w (works past s.number) → FitsAt past s.number (running w) w.phase
+AllFit s past = (w : Work) → Member w (works past s.number) → FitsAt past s.number (running_job w) w.phase
 
 -- ---- hypotheses, of others: one job per slot; a job begins in a slot whose ends are shut; what a job says is read so
 
@@ -110,7 +108,7 @@ ends_it (ends_job j outcome) number = number == j
 ends_it kind number = false
 
 -- the work ran before, and the entry moved it
-pub record Was (rows : Rows) (r : ℕ) (was : List Work) (e : Entry) (x : Work) : Type 0 where
+pub record Was (rows : RowsAndEnds) (r : ℕ) (was : List Work) (e : Entry) (x : Work) : Type 0 where
   pub w : Work
   pub ran : Member w was
   pub goes_on : ends_it e.kind w.number ≡ false
@@ -135,7 +133,7 @@ pub record WasThere (was : List Work) (kind : EntryKind) (x : Work) : Type 0 whe
   pub what : Job
   pub begins : kind ≡ Begin job what
 
-works_were : (rows : Rows) (r : ℕ) (was : List Work) (e : Entry) (kind : EntryKind) → e.kind ≡ kind → (x : Work) → Member x (works_after rows r was e kind)
+works_were : (rows : RowsAndEnds) (r : ℕ) (was : List Work) (e : Entry) (kind : EntryKind) → e.kind ≡ kind → (x : Work) → Member x (works_after rows r was e kind)
     → IsNew was kind x ⊎ (WasThere was kind x ⊎ Was rows r was e x)
 works_were rows r was e (Begin job what) is x (inl m) = inl (record { job = job; what = what; begins = refl; is = m })
 works_were rows r was e (Begin job what) is x (inr m) = inr (inl (record { ran = m; job = job; what = what; begins = refl }))
@@ -155,7 +153,7 @@ works_were rows r was e kind is x m = let z = member_map (work_after rows r e) w
 abbrev pub IdleAt : ℕ → Entry → Type 0
 IdleAt slot e = (p : ℕ) → Idle (client_end p slot) e
 
-idle_kept : (past : List Entry) (r : ℕ) (e : Entry) (j : Running) (phase : Phase) → is_of r e ≡ true → IdleAt j.slot e → FitsAt past r j phase → FitsAt (e ∷ past) r j phase
+idle_kept : (past : List Entry) (r : ℕ) (e : Entry) (j : RunningJob) (phase : Phase) → is_of r e ≡ true → IdleAt j.slot e → FitsAt past r j phase → FitsAt (e ∷ past) r j phase
 idle_kept past r e j phase own idle fits p = rw own
     (idle_fits j.what.key j.what.peer phase p (client_end p j.slot) e (end_at past r (client_end p j.slot)) (counts_at past r (client_end p j.slot)) (idle p) (fits p))
 
@@ -177,7 +175,7 @@ close_closes : (s : SetUp) (past : List Entry) (a : EndName) → Each (λ f. f.b
 close_closes s past a = if_either (Each (λ (f : FrameView). f.body ≡ Closing)) (end_at past s.number a).opened (frames a (end_at past s.number a) (Closing ∷ [])) [] (λ e. (refl, tt)) (λ e. tt)
 
 -- what an entry that may come at any point is to a job that ran
-pub record Aside (rows : Rows) (r : ℕ) (e : Entry) (kind : EntryKind) : Type 0 where
+pub record Aside (rows : RowsAndEnds) (r : ℕ) (e : Entry) (kind : EntryKind) : Type 0 where
   pub idle : (slot : ℕ) → IdleAt slot e
   pub leaves : (w : Work) → option_is (job_of kind) w.number ≡ false
 
@@ -230,19 +228,6 @@ session_idle s st k m x slot p = elim (x.frame) [ inl t ↦ taking t | inr g ↦
     giving : GivesAt s st (server_end x.peer x.slot) x.asked x.says m → Idle (client_end p slot) (entry_of s.number k m)
     giving g = record { takes_none = ap (taken_at (client_end p slot)) g.taken_is; closes = sent (st.ends (server_end x.peer x.slot)) g.sent_is }
 
--- a session's entry is no job's
-session_job : (s : SetUp) (st : State) (k : Look) (at : EndName) (doing : Sessions.Doing) (asked : Option Message) (says : List FrameText) (kind : EntryKind)
-    → SessionKind (here s st k at) doing asked says kind → job_of kind ≡ None
-session_job s st k at doing asked says (Share hold end by key) x = ap job_by x.by_is
-session_job s st k at doing asked says (Check what key) x = refl
-session_job s st k at doing asked says (Gone by key) x = ap job_by x.by_is
-session_job s st k at doing asked says (Release hold key) x = refl
-session_job s st k at doing asked says (Gain by size key) x = ap job_by x.by_is
-session_job s st k at doing asked says (Talk None) x = refl
-session_job s st k at doing asked says (Close peer slot client) x = refl
-session_job s st k at doing asked says (Fault call by) x = ap job_by x.0
-session_job s st k at doing asked says kind x = absurd x
-
 -- ---- the frames of a job are of its slot
 
 each_flat : {X Y : Type 0} (P : Y → Type 0) (f : X → List Y) (xs : List X) → ((x : X) → Each P (f x)) → Each P (flat_map f xs)
@@ -253,7 +238,7 @@ frames_slot : (a : EndName) (c : End) (bodies : List FrameText) → Each (λ f. 
 frames_slot a c [] = tt
 frames_slot a c (body ∷ bodies) = (refl, frames_slot a (end_sends c body) bodies)
 
-job_frames : (t : Turn) (m : Made) (kind : EntryKind) → JobKind t m kind → Each (λ f. f.slot ≡ t.w.slot) m.sent
+job_frames : (t : Turn) (m : Made) (kind : EntryKind) → IsJobEntry t m kind → Each (λ f. f.slot ≡ t.w.slot) m.sent
 job_frames t m (Share hold end by key) x = subst (Each (λ (f : FrameView). f.slot ≡ t.w.slot)) (sym x.sends_none) tt
 job_frames t m (Bar j need key) x = subst (Each (λ (f : FrameView). f.slot ≡ t.w.slot)) (sym x.sends_none) tt
 job_frames t m (Gone by key) x = subst (Each (λ (f : FrameView). f.slot ≡ t.w.slot)) (sym x.sends_none) tt
@@ -280,7 +265,7 @@ none_there p n slot (f ∷ fs) all apart = rw (off (f.peer == p) (f.slot == n) (
 
 other_takes : (w : Work) (peer : ℕ) (f : FrameView) (p n : ℕ) → takes_at (job_end w peer) f ≡ true → (w.slot == n) ≡ false → taken_at (client_end p n) (Some f) ≡ None
 other_takes w peer f p n e apart =
-    let two : ((f.peer == peer) && (f.slot == w.slot)) ≡ true = and_left ((f.peer == peer) && (f.slot == w.slot)) (same_bool true (if f.up then false else true)) e in
+    let two : ((f.peer == peer) && (f.slot == w.slot)) ≡ true = and_first ((f.peer == peer) && (f.slot == w.slot)) (same_bool true (if f.up then false else true)) e in
     let is : f.slot ≡ w.slot = eqb-true f.slot w.slot (and_parts (f.peer == peer) (f.slot == w.slot) two).1 in
     let off : (f.slot == n) ≡ false = subst (λ (k : ℕ). (k == n) ≡ false) (sym is) apart in
     rw (both_off (f.peer == p) (f.slot == n) (same_bool true (if f.up then false else true)) off) refl
@@ -324,20 +309,20 @@ step_even s st k speaks m e = elim (first_was (owed_step s st k) (first_of (sess
 
 -- ---- a running job is known by its number
 
-pub falling_works : (s : SetUp) (past : List Entry) → OwnRun s past → Falling (map running (works past s.number))
+pub falling_works : (s : SetUp) (past : List Entry) → OwnRun s past → Falling (map running_job (works past s.number))
 falling_works s past run = subst Falling (sym (jobs_are past s.number)) (jobs_numbered s past run).falling
 
 -- ---- over the run
 
-module _ (s : SetUp) (past : List Entry) (e : Entry) (own : is_of s.number e ≡ true) (falls : Falling (map running (works past s.number))) (given : Slots s past) (fits : AllFit s past) where
+module _ (s : SetUp) (past : List Entry) (e : Entry) (own : is_of s.number e ≡ true) (falls : Falling (map running_job (works past s.number))) (given : Slots s past) (fits : AllFit s past) where
   abbrev r : ℕ
   r = s.number
 
   abbrev After : Work → Type 0
-  After x = FitsAt (e ∷ past) r (running x) x.phase
+  After x = FitsAt (e ∷ past) r (running_job x) x.phase
 
   kept : (w : Work) → Member w (works past r) → IdleAt w.slot e → After w
-  kept w ran idle = idle_kept past r e (running w) w.phase own idle (fits w ran)
+  kept w ran idle = idle_kept past r e (running_job w) w.phase own idle (fits w ran)
 
   left : (w : Work) → Member w (works past r) → IdleAt w.slot e → work_after (rows_at past r) r e w ≡ w → After (work_after (rows_at past r) r e w)
   left w ran idle same = subst After (sym same) (kept w ran idle)
@@ -349,7 +334,7 @@ module _ (s : SetUp) (past : List Entry) (e : Entry) (own : is_of s.number e ≡
   begins : (job : ℕ) (what : Job) → length (works past r) < 4 → e.taken ≡ None → e.sent ≡ [] → After (new_work (works past r) job what)
   begins job what room none nothing =
       let w = new_work (works past r) job what in
-      idle_kept past r e (running w) Fresh own (quiet_idle e w.slot none nothing) (λ p l o. absurd (true≢false (sym o ∙ given.shut job what p room)))
+      idle_kept past r e (running_job w) Fresh own (quiet_idle e w.slot none nothing) (λ p l o. absurd (true≢false (sym o ∙ given.shut job what p room)))
 
   -- what holds of each job that ran
   moved_fits : (kind : EntryKind) → e.kind ≡ kind → ((job : ℕ) (what : Job) → kind ≢ Begin job what)
@@ -413,13 +398,13 @@ module _ (s : SetUp) (past : List Entry) (e : Entry) (own : is_of s.number e ≡
     session_fits b x mem =
         let h = here s (state_of s past) k (server_end b.peer b.slot) in
         let doing = ((state_of s past).sessions (server_end b.peer b.slot)).doing in
-        let none : job_of e.kind ≡ None = ap job_of kind_is ∙ session_job s (state_of s past) k (server_end b.peer b.slot) doing b.asked b.says m.kind b.found in
+        let none : job_of e.kind ≡ None = ap job_of kind_is ∙ session_none h doing b.asked b.says m.kind b.found in
         moved_fits e.kind refl (λ job what q. let bad : Some job ≡ None = sym (ap job_of q) ∙ none in cc)
         (λ v ran goes_on. left v ran (idle_of v.slot (session_idle s (state_of s past) k m b v.slot)) (not_its v (ap (λ o. option_is o v.number) none))) x mem
 
     -- the job's own entry
-    own_even : (w : Work) → Member w (works past r) → (kind : EntryKind) → JobKind (turn_of s (state_of s past) k w) m kind → Even (turn_of s (state_of s past) k w) m kind
-        → ends_it kind w.number ≡ false → FitsAt (entry_of r k m ∷ past) r (running w) (work_kind (rows_at past r) r w (entry_of r k m) kind).phase
+    own_even : (w : Work) → Member w (works past r) → (kind : EntryKind) → IsJobEntry (turn_of s (state_of s past) k w) m kind → Even (turn_of s (state_of s past) k w) m kind
+        → ends_it kind w.number ≡ false → FitsAt (entry_of r k m ∷ past) r (running_job w) (work_kind (rows_at past r) r w (entry_of r k m) kind).phase
     own_even w ran (ends_job j outcome) found even goes_on =
         absurd (true≢false (sym (eqb_refl w.number) ∙ subst (λ n. (w.number == n) ≡ false) found.number_is goes_on))
     own_even w ran kind found even goes_on = λ p. rw (eqb_refl r) (even p (counts_at past r (client_end p w.slot)) (fits w ran p))
@@ -434,7 +419,7 @@ module _ (s : SetUp) (past : List Entry) (e : Entry) (own : is_of s.number e ≡
         v_runs : Member v (works past r)
         v_runs = (find_member (λ (y : Work). y.slot == b.by.slot) (works past r) v b.by.runs).0
 
-        begins_not : (kind : EntryKind) → JobKind (turn_of s (state_of s past) k v) m kind → (job : ℕ) (what : Job) → kind ≢ Begin job what
+        begins_not : (kind : EntryKind) → IsJobEntry (turn_of s (state_of s past) k v) m kind → (job : ℕ) (what : Job) → kind ≢ Begin job what
         begins_not (Begin j w) found job what q = found
         begins_not (Share hold end by key) found job what q = absurd (cc)
         begins_not (Bar j need key) found job what q = absurd (cc)
@@ -449,18 +434,18 @@ module _ (s : SetUp) (past : List Entry) (e : Entry) (own : is_of s.number e ≡
         its : job_of m.kind ≡ Some v.number
         its = job_is (turn_of s (state_of s past) k v) m m.kind b.by.found
 
-        own_after : ends_it e.kind v.number ≡ false → FitsAt (entry_of r k m ∷ past) r (running (work_after (rows_at past r) r (entry_of r k m) v)) (work_after (rows_at past r) r (entry_of r k m) v).phase
+        own_after : ends_it e.kind v.number ≡ false → FitsAt (entry_of r k m ∷ past) r (running_job (work_after (rows_at past r) r (entry_of r k m) v)) (work_after (rows_at past r) r (entry_of r k m) v).phase
         own_after goes_on =
-            subst (λ (j : Running). FitsAt (entry_of r k m ∷ past) r j (work_after (rows_at past r) r (entry_of r k m) v).phase) (sym (after_kept (rows_at past r) r (entry_of r k m) v))
-            (subst (λ (o : Option ℕ). FitsAt (entry_of r k m ∷ past) r (running v) (if option_is o v.number then work_kind (rows_at past r) r v (entry_of r k m) m.kind else v).phase) (sym its)
-            (subst (λ (c : Bool). FitsAt (entry_of r k m ∷ past) r (running v) (if c then work_kind (rows_at past r) r v (entry_of r k m) m.kind else v).phase) (sym (eqb_refl v.number))
+            subst (λ (j : RunningJob). FitsAt (entry_of r k m ∷ past) r j (work_after (rows_at past r) r (entry_of r k m) v).phase) (sym (after_kept (rows_at past r) r (entry_of r k m) v))
+            (subst (λ (o : Option ℕ). FitsAt (entry_of r k m ∷ past) r (running_job v) (if option_is o v.number then work_kind (rows_at past r) r v (entry_of r k m) m.kind else v).phase) (sym its)
+            (subst (λ (c : Bool). FitsAt (entry_of r k m ∷ past) r (running_job v) (if c then work_kind (rows_at past r) r v (entry_of r k m) m.kind else v).phase) (sym (eqb_refl v.number))
             (own_even v v_runs m.kind b.by.found b.even (subst (λ (q : EntryKind). ends_it q v.number ≡ false) kind_is goes_on))))
 
         go : (w : Work) → Member w (works past r) → ends_it e.kind w.number ≡ false → (c : Bool) → (w.number == v.number) ≡ c → After (work_after (rows_at past r) r e w)
         go w ran goes_on true same =
             let one : v ≡ w = same_work (works past r) falls v w v_runs ran (sym (eqb-true w.number v.number same)) in
             subst (λ (y : Work). After (work_after (rows_at past r) r e y)) one
-            (subst (λ (e' : Entry). FitsAt (e' ∷ past) r (running (work_after (rows_at past r) r e' v)) (work_after (rows_at past r) r e' v).phase) (sym is)
+            (subst (λ (e' : Entry). FitsAt (e' ∷ past) r (running_job (work_after (rows_at past r) r e' v)) (work_after (rows_at past r) r e' v).phase) (sym is)
             (own_after (subst (λ (y : Work). ends_it e.kind y.number ≡ false) (sym one) goes_on)))
         go w ran goes_on false apart =
             left w ran (idle_of w.slot (job_idle s (state_of s past) k m b.by w.slot (slots_apart (v.slot == w.slot) refl))) (not_its w (ap (λ q. option_is (job_of q) w.number) kind_is ∙ ap (λ o. option_is o w.number) its ∙ (eqb_sym v.number w.number ∙ apart)))

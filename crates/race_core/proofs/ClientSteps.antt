@@ -29,14 +29,14 @@ use Rattle.p2p_wire.specs.Messages.{order_of, message_of, text_of}
 use Rattle.node_model.specs.Ends.{may_take, takes_at}
 use Rattle.node_model.specs.Sessions.{line_in, reaches}
 use Rattle.node_model.specs.Jobs
-use Rattle.node_model.specs.Jobs.{Part, Gets, Puts, Drops, Phase, Rows, Fresh, Next, Opens, Greets, GetsData, GetsBytes, GetsWord, PutsOffer, PutsBytes, PutsWord, PutsAnswer, AsksLock, AsksLook, AsksTime, Removed, Denied, Late, Ends, Work, fault_of, fault_phase, first_look, gets_more, puts_more, is_move, job_end, listens, partner, quiet, says, side_of, taken_message, took, after_transfer, after_failed_release}
+use Rattle.node_model.specs.Jobs.{Part, Gets, Puts, Drops, Phase, RowsAndEnds, Fresh, Next, Opens, Greets, GetsData, GetsBytes, GetsWord, PutsOffer, PutsBytes, PutsWord, PutsAnswer, AsksLock, AsksLook, AsksTime, Removed, Denied, Late, Ends, Work, fault_of, fault_phase, first_look, gets_more, puts_more, is_move, job_end, listens, partner, quiet, says, side_of, taken_message, after_frame, after_transfer, after_failed_release}
 use Rattle.node_model.specs.Calls.{to_commit, to_hold, to_release, to_resume, to_read}
 use Rattle.node_model.specs.Look.{Made, failing, unless, waiting}
 use Rattle.annex_base.specs.Calls.{same_call}
 use Rattle.node_model.specs.SessionStep.{bytes_left}
 use Rattle.node_model.specs.Knows.{enough_by, next_by}
 use Rattle.node_model.specs.JobStep.{Turn, hears, attempts, bar_there, by_me, clock_of, end_with, ends, farewells, is_there, key_of, me, owns_share, quietly, says_to, sends_to, talk, wrong}
-use Rattle.node_model.specs.DropStep.{takes_drop, takes_time, asks_copy, asks_lock, asks_target, bars, expiry, first_drop, first_end, first_remote, held_until, in_time, lacking, need_now, orders, own_share, removes, required_there, row_refusal, target, times, tries_own}
+use Rattle.node_model.specs.DropStep.{takes_drop, takes_time, asks_copy, asks_lock, asks_target, bars, expiry, first_drop, first_end, first_remote, held_until, in_time, lacking_outcome, need_now, orders, own_share, removes, required_there, row_refusal, target, times, tries_own}
 use Rattle.node_model.specs.Requests.{asks, goes_to}
 use Rattle.node_model.specs.TransferStep.{takes_get, takes_put, content_of, first_get, first_put, gains, next_get, next_source, puts_from, puts_piece, takes_bytes}
 use Rattle.node_model.specs.Turns.{takes_answer, awaits, by_partner, goes_on, has_room, needs, with_partner, is_awaiting, first_step, goes, judges, next_step, outcome_of, takes, takes_frame, takes_text}
@@ -158,8 +158,8 @@ dead_even t dead outcome =
 -- ---- what is said first on an open connection
 
 -- the phase after a frame that is heard
-took_listens : (x : Work) (body : FrameText) (m : Message) (phase : Phase) → line_in body ≡ Some m → x.phase ≡ phase → (took x body).phase ≡ (listens x phase m).phase
-took_listens x (Line text) m phase told is = ap (λ (o : Option Message). (Jobs.took_line x o).phase) told ∙ ap (λ (p : Phase). (listens x p m).phase) is
+took_listens : (x : Work) (body : FrameText) (m : Message) (phase : Phase) → line_in body ≡ Some m → x.phase ≡ phase → (after_frame x body).phase ≡ (listens x phase m).phase
+took_listens x (Line text) m phase told is = ap (λ (o : Option Message). (Jobs.after_line x o).phase) told ∙ ap (λ (p : Phase). (listens x p m).phase) is
 took_listens x Opening m phase told is = absurd (cc)
 took_listens x Closing m phase told is = absurd (cc)
 took_listens x (Bytes n) m phase told is = absurd (cc)
@@ -218,7 +218,7 @@ look_alone target r x Drops false bar = refl
 look_alone target r x Drops true (Some i) = refl
 look_alone target r x part here bar = refl
 
-quiet_alone : (target : Option ℕ) (rows : Rows) (r : ℕ) (x : Work) (phase : Phase) → partner target x.phase ≡ None → partner target (quiet rows r x phase).phase ≡ None
+quiet_alone : (target : Option ℕ) (rows : RowsAndEnds) (r : ℕ) (x : Work) (phase : Phase) → partner target x.phase ≡ None → partner target (quiet rows r x phase).phase ≡ None
 quiet_alone target rows r x Fresh alone = look_alone target r x x.part (rows.present x.what.key) (rows.bar x.what.key)
 quiet_alone target rows r x Next alone = refl
 quiet_alone target rows r x phase alone = alone
@@ -290,7 +290,7 @@ module _ (t : Turn) (alone : partner t.w.what.peer t.w.phase ≡ None) (live : I
 
   judges_even : (enough : Bool) (next : Option ℕ) (side : Side) → EvenMade t (judges t enough next side)
   judges_even false (Some peer) side = goes_to_even peer
-  judges_even false None side = ends_even t alone live (lacking t)
+  judges_even false None side = ends_even t alone live (lacking_outcome t)
   judges_even true next Local = removes_even
   judges_even true next Remote = goes_to_even (target t)
 
@@ -478,7 +478,7 @@ module _ (t : Turn) (f : FrameView) (peer : ℕ) (x : Taking t f peer) (speaks :
       if_either (EvenMade t) (nat_lt 0 n && nat_le n left) (attempts t (calls.Append ∷ []) (Some f) (quietly (talk t) (Some f))) (wrong t f peer)
       (λ e. attempts_even (EvenMade t) t (calls.Append ∷ []) (Some f) (quietly (talk t) (Some f)) (λ call h. fault_here call (plain_in call (calls.Append ∷ []) refl refl h))
       (keeps_even t (talk t) f peer x (gets_more p start (size + n) (left - n)) (λ q. ap (λ (b : FrameText). counts_takes q b) body)
-      (ap (λ (b : FrameText). (took (talker t (Some f)) b).phase) body ∙ ap (λ (q : Phase). Jobs.gets_bytes n q) (talker_phase t (Some f) ∙ is)) r.stays r.now
+      (ap (λ (b : FrameText). (after_frame (talker t (Some f)) b).phase) body ∙ ap (λ (q : Phase). Jobs.gets_bytes n q) (talker_phase t (Some f) ∙ is)) r.stays r.now
       (λ l h. r.any l (subst (λ (q : Phase). LastIs (key_of t) t.w.what.peer q peer l) is h (same_Some p peer (same_peer (GetsBytes p start size left) is))))))
       (λ e. bad)
   bytes_taken n body phase is = bad

@@ -14,7 +14,7 @@ use Rattle.node_model.specs.Ends.{EndName, End, end_after, end_sends, end_took, 
 use Rattle.node_model.specs.Rows.{option_is}
 use Rattle.node_model.specs.Sessions.{line_in}
 use Rattle.node_model.specs.Jobs
-use Rattle.node_model.specs.Jobs.{Part, Gets, Puts, Drops, Phase, Rows, Work, claims, closed_part, job_end, learns, partner, talks, talks_on, work_kind}
+use Rattle.node_model.specs.Jobs.{Part, Gets, Puts, Drops, Phase, RowsAndEnds, Work, claims, closed_part, job_end, learns, partner, talks, talks_on, work_kind}
 use Rattle.node_model.specs.Look.{Made, entry_of}
 use Rattle.node_model.specs.JobStep.{Turn, end_with, key_of, me}
 use Rattle.race_core.proofs.JobKept.{claims_kept, learns_kept}
@@ -22,7 +22,7 @@ use Rattle.race_core.proofs.ClientCounts
 
 -- ---- what a step makes of its job
 
-abbrev pub rows_of : Turn → Rows
+abbrev pub rows_of : Turn → RowsAndEnds
 rows_of t = record { present = t.present; bar = t.bar; ends = t.ends }
 
 abbrev pub made_entry : Turn → Made → Entry

@@ -16,7 +16,7 @@ use Rattle.run_model.specs.Said.{said_line, message_in, is_request}
 use Rattle.race_core.proofs.Ways.{is_answer}
 use Rattle.run_model.specs.Past.{Always, is_of}
 use Rattle.run_model.specs.Frames
-use Rattle.run_model.specs.Frames.{Way, Flying, flying, is_on, last_of, on_way, requests, says, taken_if, takes_if}
+use Rattle.run_model.specs.Frames.{Way, FlyingFrame, flying_frame, is_on, last_of, on_way, requests, says, taken_if, takes_if}
 use Rattle.node_model.specs.Ends.{same_bool, is_opening, end_takes, EndName, End, end_after, end_sends, end_took, may_take, sends_at, sent_at, taken_at, takes_at}
 use Rattle.run_model.specs.States.{end_at}
 use Rattle.node_model.specs.Sessions.{line_in}
@@ -50,34 +50,34 @@ answers_body (Line text) = answers_line (message_of text)
 -- ---- what stands on the ways of each epoch
 
 -- when a request was made, and which
-abbrev pub asked_by : Flying → Request
+abbrev pub asked_by : FlyingFrame → Request
 asked_by x = request x.entry.time (line_in x.frame.body)
 
 -- the requests of each epoch, and how many answers of it were taken
-pub record Agree (R : ℕ → List Flying) (T : ℕ → ℕ) (c : End) (q : Counts) : Type 0 where
+pub record Agree (R : ℕ → List FlyingFrame) (T : ℕ → ℕ) (c : End) (q : Counts) : Type 0 where
   pub asked : length (R c.epoch) ≡ q.asked
   pub last : option_map asked_by (last_of (R c.epoch)) ≡ q.last
   pub got : T c.epoch ≡ q.got
   pub none_sent : (n : ℕ) → c.epoch < n → R n ≡ []
   pub none_got : (n : ℕ) → c.epoch < n → T n ≡ 0
 
-agree_by : (R R' : ℕ → List Flying) (T T' : ℕ → ℕ) (c : End) (q : Counts) → ((n : ℕ) → R' n ≡ R n) → ((n : ℕ) → T' n ≡ T n) → Agree R T c q → Agree R' T' c q
+agree_by : (R R' : ℕ → List FlyingFrame) (T T' : ℕ → ℕ) (c : End) (q : Counts) → ((n : ℕ) → R' n ≡ R n) → ((n : ℕ) → T' n ≡ T n) → Agree R T c q → Agree R' T' c q
 agree_by R R' T T' c q r t x = record {
   asked = ap length (r c.epoch) ∙ x.asked;
-  last = ap (λ (fs : List Flying). option_map asked_by (last_of fs)) (r c.epoch) ∙ x.last;
+  last = ap (λ (fs : List FlyingFrame). option_map asked_by (last_of fs)) (r c.epoch) ∙ x.last;
   got = t c.epoch ∙ x.got;
   none_sent = λ n l. r n ∙ x.none_sent n l;
   none_got = λ n l. t n ∙ x.none_got n l;
 }
 
-last_append : (xs : List Flying) (x : Flying) → last_of (xs ++ x ∷ []) ≡ Some x
+last_append : (xs : List FlyingFrame) (x : FlyingFrame) → last_of (xs ++ x ∷ []) ≡ Some x
 last_append [] x = refl
 last_append (y ∷ []) x = refl
 last_append (y ∷ z ∷ xs) x = last_append (z ∷ xs) x
 
 -- ---- a frame that is taken
 
-took_agree : (R : ℕ → List Flying) (T T' : ℕ → ℕ) (c : End) (q : Counts) (f : FrameView) → may_take c f ≡ true
+took_agree : (R : ℕ → List FlyingFrame) (T T' : ℕ → ℕ) (c : End) (q : Counts) (f : FrameView) → may_take c f ≡ true
     → ((n : ℕ) → T' n ≡ T n + (if (f.epoch == n) && is_answering f.body then 1 else 0)) → Agree R T c q → Agree R T' (end_took c (Some f)) (counts_took q (Some f))
 took_agree R T T' c q f may more x = go f.body refl
   where
@@ -102,7 +102,7 @@ took_agree R T T' c q f may more x = go f.body refl
         let e : (n : ℕ) → T' n ≡ T n = none Opening is refl in
         record {
           asked = ap length (x.none_sent f.epoch l);
-          last = ap (λ (fs : List Flying). option_map asked_by (last_of fs)) (x.none_sent f.epoch l);
+          last = ap (λ (fs : List FlyingFrame). option_map asked_by (last_of fs)) (x.none_sent f.epoch l);
           got = e f.epoch ∙ x.none_got f.epoch l;
           none_sent = λ n m. x.none_sent n (omega (arith, l, m));
           none_got = λ n m. e n ∙ x.none_got n (omega (arith, l, m));
@@ -133,7 +133,7 @@ took_agree R T T' c q f may more x = go f.body refl
 -- ---- frames that are sent
 
 -- none of them a request
-quiet_agree : (R : ℕ → List Flying) (T : ℕ → ℕ) (time : ℕ) (fs : List FrameView) (c : End) (q : Counts) → Each (λ g. is_asking g.body ≡ false) fs → Agree R T c q
+quiet_agree : (R : ℕ → List FlyingFrame) (T : ℕ → ℕ) (time : ℕ) (fs : List FrameView) (c : End) (q : Counts) → Each (λ g. is_asking g.body ≡ false) fs → Agree R T c q
     → Agree R T (fold (λ c f. end_sends c f.body) c fs) (fold (λ q f. counts_sends time q f.body) q fs)
 quiet_agree R T time [] c q all x = x
 quiet_agree R T time (g ∷ fs) c q all x = quiet_agree R T time fs (end_sends c g.body) (counts_sends time q g.body) all.1 (one g.body all.0)
@@ -146,7 +146,7 @@ quiet_agree R T time (g ∷ fs) c q all x = quiet_agree R T time fs (end_sends c
         (record { asked = x.asked; last = x.last; got = x.got; none_sent = x.none_sent; none_got = x.none_got })
 
 -- one request, of the epoch that the end has then
-request_agree : (R R' : ℕ → List Flying) (T : ℕ → ℕ) (time : ℕ) (g : FrameView) (y : Flying) (c : End) (q : Counts) → is_asking g.body ≡ true → g.epoch ≡ (end_sends c g.body).epoch
+request_agree : (R R' : ℕ → List FlyingFrame) (T : ℕ → ℕ) (time : ℕ) (g : FrameView) (y : FlyingFrame) (c : End) (q : Counts) → is_asking g.body ≡ true → g.epoch ≡ (end_sends c g.body).epoch
     → asked_by y ≡ request time (line_in g.body) → ((n : ℕ) → R' n ≡ R n ++ (if g.epoch == n then y ∷ [] else [])) → Agree R T c q
     → Agree R' T (end_sends c g.body) (counts_sends time q g.body)
 request_agree R R' T time g y c q asks at made more x = go g.body asks at made
@@ -161,7 +161,7 @@ request_agree R R' T time g y c q asks at made more x = go g.body asks at made
         apart n l = grind (arith, nat_tests)
 
     last_here : (n : ℕ) → g.epoch ≡ n → option_map asked_by (last_of (R' n)) ≡ Some (asked_by y)
-    last_here n is = ap (λ (fs : List Flying). option_map asked_by (last_of fs)) (here n is) ∙ ap (option_map asked_by) (last_append (R n) y)
+    last_here n is = ap (λ (fs : List FlyingFrame). option_map asked_by (last_of fs)) (here n is) ∙ ap (option_map asked_by) (last_append (R n) y)
 
     go : (body : FrameText) → is_asking body ≡ true → g.epoch ≡ (end_sends c body).epoch → asked_by y ≡ request time (line_in body) → Agree R' T (end_sends c body) (counts_sends time q body)
     go Closing e at made = absurd (cc)
@@ -169,7 +169,7 @@ request_agree R R' T time g y c q asks at made more x = go g.body asks at made
     go Opening e at made =
         let next : c.epoch < c.epoch + 1 = omega arith in
         record {
-          asked = ap length (here (c.epoch + 1) at ∙ ap (λ (fs : List Flying). fs ++ y ∷ []) (x.none_sent (c.epoch + 1) next));
+          asked = ap length (here (c.epoch + 1) at ∙ ap (λ (fs : List FlyingFrame). fs ++ y ∷ []) (x.none_sent (c.epoch + 1) next));
           last = last_here (c.epoch + 1) at ∙ ap (λ (z : Request). Some z) made;
           got = x.none_got (c.epoch + 1) next;
           none_sent = λ n m. else_none n (omega (arith, at, m)) ∙ x.none_sent n (omega (arith, m));
@@ -214,27 +214,27 @@ filter_both p q t same (g ∷ fs) = go (filter_both p q t same fs) (q g) refl (t
 on_way_end : (r : ℕ) (peer slot n : ℕ) (e : Entry) → on_way (up_way r (client_end peer slot) n) e ≡ filter (λ g. g.epoch == n) (sent_at (client_end peer slot) e.sent)
 on_way_end r peer slot n e = filter_both (is_on (up_way r (client_end peer slot) n) peer) (sends_at (client_end peer slot)) (λ g. g.epoch == n) (on_end r peer slot n) e.sent
 
-filter_flying : (e : Entry) (past : List Entry) (fs : List FrameView) → filter (λ x. says is_request x.frame) (map (flying e past) fs) ≡ map (flying e past) (filter (says is_request) fs)
+filter_flying : (e : Entry) (past : List Entry) (fs : List FrameView) → filter (λ x. says is_request x.frame) (map (flying_frame e past) fs) ≡ map (flying_frame e past) (filter (says is_request) fs)
 filter_flying e past [] = refl
 filter_flying e past (g ∷ fs) = go (filter_flying e past fs) (says is_request g) refl
   where
-    go : filter (λ x. says is_request x.frame) (map (flying e past) fs) ≡ map (flying e past) (filter (says is_request) fs) → (b : Bool) → says is_request g ≡ b
-        → filter (λ x. says is_request x.frame) (map (flying e past) (g ∷ fs)) ≡ map (flying e past) (filter (says is_request) (g ∷ fs))
-    go more true is = rw is (ap (λ (zs : List Flying). flying e past g ∷ zs) more)
+    go : filter (λ x. says is_request x.frame) (map (flying_frame e past) fs) ≡ map (flying_frame e past) (filter (says is_request) fs) → (b : Bool) → says is_request g ≡ b
+        → filter (λ x. says is_request x.frame) (map (flying_frame e past) (g ∷ fs)) ≡ map (flying_frame e past) (filter (says is_request) (g ∷ fs))
+    go more true is = rw is (ap (λ (zs : List FlyingFrame). flying_frame e past g ∷ zs) more)
     go more false is = rw is more
 
 -- the requests of an epoch, and the answers of it that were taken
-abbrev pub asked_on : ℕ → ℕ → ℕ → List Entry → ℕ → List Flying
+abbrev pub asked_on : ℕ → ℕ → ℕ → List Entry → ℕ → List FlyingFrame
 asked_on r peer slot past n = requests past (up_way r (client_end peer slot) n)
 
 abbrev pub got_on : ℕ → ℕ → ℕ → List Entry → ℕ → ℕ
 got_on r peer slot past n = taken_if is_answer past (down_way r (client_end peer slot) n)
 
 asked_more : (r peer slot : ℕ) (e : Entry) (past : List Entry) (n : ℕ) → is_of r e ≡ true
-    → asked_on r peer slot (e ∷ past) n ≡ asked_on r peer slot past n ++ map (flying e past) (filter (says is_request) (filter (λ g. g.epoch == n) (sent_at (client_end peer slot) e.sent)))
-asked_more r peer slot e past n own = rw own (filter-append (λ x. says is_request x.frame) (Frames.frames_sent past (up_way r (client_end peer slot) n)) (map (flying e past) (on_way (up_way r (client_end peer slot) n) e))
+    → asked_on r peer slot (e ∷ past) n ≡ asked_on r peer slot past n ++ map (flying_frame e past) (filter (says is_request) (filter (λ g. g.epoch == n) (sent_at (client_end peer slot) e.sent)))
+asked_more r peer slot e past n own = rw own (filter-append (λ x. says is_request x.frame) (Frames.frames_sent past (up_way r (client_end peer slot) n)) (map (flying_frame e past) (on_way (up_way r (client_end peer slot) n) e))
     ∙ ap (λ ys. asked_on r peer slot past n ++ ys) (filter_flying e past (on_way (up_way r (client_end peer slot) n) e)
-    ∙ ap (λ fs. map (flying e past) (filter (says is_request) fs)) (on_way_end r peer slot n e)))
+    ∙ ap (λ fs. map (flying_frame e past) (filter (says is_request) fs)) (on_way_end r peer slot n e)))
 
 -- ---- what an end takes
 
@@ -336,21 +336,21 @@ module _ (r peer slot : ℕ) (e : Entry) (past : List Entry) (own : is_of r e �
       (agree_by (asked_on r peer slot past) (asked_on r peer slot (e ∷ past)) (got_on r peer slot (e ∷ past)) (got_on r peer slot (e ∷ past)) c q same (λ n. refl) x)
     where
       same : (n : ℕ) → asked_on r peer slot (e ∷ past) n ≡ asked_on r peer slot past n
-      same n = asked_more r peer slot e past n own ∙ (ap (λ (gs : List FrameView). asked_on r peer slot past n ++ map (flying e past) (filter (says is_request) (filter (λ g. g.epoch == n) gs))) is
-          ∙ (ap (λ (gs : List FrameView). asked_on r peer slot past n ++ map (flying e past) gs) (none_asked (λ g. g.epoch == n) fs all) ∙ append-nil (asked_on r peer slot past n)))
+      same n = asked_more r peer slot e past n own ∙ (ap (λ (gs : List FrameView). asked_on r peer slot past n ++ map (flying_frame e past) (filter (says is_request) (filter (λ g. g.epoch == n) gs))) is
+          ∙ (ap (λ (gs : List FrameView). asked_on r peer slot past n ++ map (flying_frame e past) gs) (none_asked (λ g. g.epoch == n) fs all) ∙ append-nil (asked_on r peer slot past n)))
 
   one_sent : (g : FrameView) → sent_at a e.sent ≡ g ∷ [] → g.epoch ≡ (end_sends c g.body).epoch → Agree (asked_on r peer slot past) (got_on r peer slot (e ∷ past)) c q → (b : Bool) → is_asking g.body ≡ b
       → Agree (asked_on r peer slot (e ∷ past)) (got_on r peer slot (e ∷ past)) (end_sends c g.body) (counts_sends e.time q g.body)
   one_sent g is at x false asks = quietly_sent (g ∷ []) is (asks, tt) x
-  one_sent g is at x true asks = request_agree (asked_on r peer slot past) (asked_on r peer slot (e ∷ past)) (got_on r peer slot (e ∷ past)) e.time g (flying e past g) c q asks at refl more x
+  one_sent g is at x true asks = request_agree (asked_on r peer slot past) (asked_on r peer slot (e ∷ past)) (got_on r peer slot (e ∷ past)) e.time g (flying_frame e past g) c q asks at refl more x
     where
-      mapped : (b : Bool) → map (flying e past) (if b then g ∷ [] else []) ≡ (if b then flying e past g ∷ [] else [])
+      mapped : (b : Bool) → map (flying_frame e past) (if b then g ∷ [] else []) ≡ (if b then flying_frame e past g ∷ [] else [])
       mapped true = refl
       mapped false = refl
 
-      more : (n : ℕ) → asked_on r peer slot (e ∷ past) n ≡ asked_on r peer slot past n ++ (if g.epoch == n then flying e past g ∷ [] else [])
-      more n = asked_more r peer slot e past n own ∙ ap (λ (ys : List Flying). asked_on r peer slot past n ++ ys)
-          (ap (λ (gs : List FrameView). map (flying e past) (filter (says is_request) (filter (λ x. x.epoch == n) gs))) is ∙ (ap (map (flying e past)) (one_asked n g asks) ∙ mapped (g.epoch == n)))
+      more : (n : ℕ) → asked_on r peer slot (e ∷ past) n ≡ asked_on r peer slot past n ++ (if g.epoch == n then flying_frame e past g ∷ [] else [])
+      more n = asked_more r peer slot e past n own ∙ ap (λ (ys : List FlyingFrame). asked_on r peer slot past n ++ ys)
+          (ap (λ (gs : List FrameView). map (flying_frame e past) (filter (says is_request) (filter (λ x. x.epoch == n) gs))) is ∙ (ap (map (flying_frame e past)) (one_asked n g asks) ∙ mapped (g.epoch == n)))
 
   after_agree : Agree (asked_on r peer slot past) (got_on r peer slot past) (end_at past r a) (counts_at past r a)
       → Agree (asked_on r peer slot (e ∷ past)) (got_on r peer slot (e ∷ past)) (end_after a (end_at past r a) e) (counts_after a (counts_at past r a) e)

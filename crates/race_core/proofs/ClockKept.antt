@@ -9,7 +9,7 @@ use Rattle.node_model.specs.Clocks.{ClockSet}
 use Rattle.run_model.specs.Past.{clock_set, is_of, set_after}
 use Rattle.node_model.specs.SetUp.{SetUp}
 use Rattle.node_model.specs.Jobs.{Work}
-use Rattle.node_model.specs.Found.{JobKind}
+use Rattle.node_model.specs.Found.{IsJobEntry}
 use Rattle.race_core.proofs.JobSteps.{Origin, Stepped, stepped_found, turn_at}
 
 abbrev pub NoCrash : Entry → Type 0
@@ -32,7 +32,7 @@ pub clock_other : (repos : List RepoView) (past : List Entry) (r : ℕ) (e : Ent
 clock_other repos past r e is = rw is refl
 
 pub stepped_stands : (s : SetUp) (past : List Entry) (e : Entry) → Stepped s past e → NoCrash e
-stepped_stands s past e x clock kind = subst (JobKind (turn_at s past e x) x.made) (sym (ap (λ (y : Entry). y.kind) x.is) ∙ kind) (stepped_found s past e x).found
+stepped_stands s past e x clock kind = subst (IsJobEntry (turn_at s past e x) x.made) (sym (ap (λ (y : Entry). y.kind) x.is) ∙ kind) (stepped_found s past e x).found
 
 -- where a job runs after an entry, the entry is no crash
 pub origin_stands : (s : SetUp) (past : List Entry) (e : Entry) (w : Work) → Origin s past e w → NoCrash e

@@ -17,17 +17,17 @@ use Rattle.run_data.specs.declared.job.SourceCause.TheVariants as sources
 use Rattle.run_data.specs.declared.job.SourceFailure.{SourceFailure}
 use Rattle.run_data.specs.declared.job.TransferRefusal.TheVariants as failures
 use Rattle.run_model.specs.Past.{Always, is_of}
-use Rattle.node_model.specs.Slots.{Running}
+use Rattle.node_model.specs.Slots.{RunningJob}
 use Rattle.p2p_wire.specs.declared.message.Message.{Message}
 use Rattle.p2p_wire.specs.declared.message.Message.TheVariants.{Failure, Get, Invalid, Valid}
 use Rattle.p2p_wire.specs.Messages.{message_of}
 use Rattle.run_model.specs.Said.{Says, CloseIt}
 use Rattle.run_model.specs.Frames.{says}
-use Rattle.run_model.specs.Causes.{Answers, ClosedWith, FellShort, Hears, is_failure}
+use Rattle.run_model.specs.Causes.{AnswersRequest, ClosedWith, FellShort, HearsMessage, is_failure}
 use Rattle.node_model.specs.SetUp.{SetUp}
 use Rattle.run_model.specs.States.{rows_at, works}
 use Rattle.node_model.specs.Sessions.{line_in}
-use Rattle.node_model.specs.Jobs.{Drops, Ends, Gets, GetsWord, Part, Phase, Puts, Work, job_end, partner, running, source_cause, taken_message, work_kind}
+use Rattle.node_model.specs.Jobs.{Drops, Ends, Gets, GetsWord, Part, Phase, Puts, Work, job_end, partner, running_job, source_cause, taken_message, work_kind}
 use Rattle.node_model.specs.Look.{Made, waiting}
 use Rattle.node_model.specs.JobStep.{Turn, end_with, quietly, talk, wrong}
 use Rattle.node_model.specs.Turns.{awaits, by_partner, goes_on, has_room, is_awaiting, takes, takes_answer, takes_frame, takes_text, with_partner}
@@ -61,13 +61,13 @@ ShutsTold s past = Always (ShutTold s) past
 -- why a peer gave a get nothing, as the get's own entries tell
 abbrev pub SourceToldOf : List Entry → ℕ → ℕ → List ℕ → ℕ → SourceCause → Type 0
 SourceToldOf past r j key peer sources.Closed = ClosedWith past r j peer
-SourceToldOf past r j key peer sources.Wrong = (h : Hears past r j peer (Says Valid)) × (list_any (says is_failure) h.entry.sent ≡ true)
-SourceToldOf past r j key peer sources.Absent = (file : List ℕ) × Answers past r j peer (Says (Get 0 file key)) (Says Invalid)
-SourceToldOf past r j key peer sources.Invalid = (start : ℕ) × (file : List ℕ) × (start ≢ 0) × Answers past r j peer (Says (Get start file key)) (Says Invalid)
+SourceToldOf past r j key peer sources.Wrong = (h : HearsMessage past r j peer (Says Valid)) × (list_any (says is_failure) h.entry.sent ≡ true)
+SourceToldOf past r j key peer sources.Absent = (file : List ℕ) × AnswersRequest past r j peer (Says (Get 0 file key)) (Says Invalid)
+SourceToldOf past r j key peer sources.Invalid = (start : ℕ) × (file : List ℕ) × (start ≢ 0) × AnswersRequest past r j peer (Says (Get start file key)) (Says Invalid)
 
 -- ---- more entries change nothing
 
-module _ (r : ℕ) (e : Entry) (past : List Entry) (j : Running) where
+module _ (r : ℕ) (e : Entry) (past : List Entry) (j : RunningJob) where
   pub closed_grows : (peer : ℕ) → ClosedWith past r j.number peer → ClosedWith (e ∷ past) r j.number peer
   closed_grows peer (inl x) = inl (hears_grows r e past j peer CloseIt x)
   closed_grows peer (inr x) = inr (record { entry = x.entry; before = x.before; occurs = inr x.occurs; own = x.own; slot = x.slot; kind_is = x.kind_is; slot_is = x.slot_is })
@@ -87,21 +87,21 @@ module _ (r : ℕ) (e : Entry) (past : List Entry) (j : Running) where
 
 -- ---- a drop that lost its target, a copy that was closed
 
-abbrev pub ShutOutcome : ℕ → List Entry → Running → Outcome → Type 0
+abbrev pub ShutOutcome : ℕ → List Entry → RunningJob → Outcome → Type 0
 ShutOutcome r past j (Refused (refusals.Lost ordered)) = ClosedWith past r j.number (target_in r j)
 ShutOutcome r past j (TransferRefused failures.Closed) = (peer : ℕ) × (j.what.peer ≡ Some peer) × (ClosedWith past r j.number peer ⊎ FellShort past r j.number peer j.what.key)
 ShutOutcome r past j o = Unit {0}
 
-abbrev pub ShutStands : ℕ → List Entry → Running → Phase → Type 0
+abbrev pub ShutStands : ℕ → List Entry → RunningJob → Phase → Type 0
 ShutStands r past j (Ends o) = ShutOutcome r past j o
 ShutStands r past j phase = Unit {0}
 
-shut_grows : (r : ℕ) (e : Entry) (past : List Entry) (j : Running) (phase : Phase) → ShutStands r past j phase → ShutStands r (e ∷ past) j phase
+shut_grows : (r : ℕ) (e : Entry) (past : List Entry) (j : RunningJob) (phase : Phase) → ShutStands r past j phase → ShutStands r (e ∷ past) j phase
 shut_grows r e past j (Ends (Refused (refusals.Lost ordered))) x = closed_grows r e past j (target_in r j) x
 shut_grows r e past j (Ends (TransferRefused failures.Closed)) x = (x.0, x.1, elim (x.2) [ inl a ↦ inl (closed_grows r e past j x.0 a) | inr a ↦ inr (short_grows r e past j x.0 j.what.key a) ])
 shut_grows r e past j phase x = tt
 
-shut_now : (s : SetUp) (p : List Entry) (e : Entry) → OwnRun s p → (x : Work) (b : Steps s p e x) → ShutTold s p e → (phase : Phase) → Reason (rows_at p s.number) s.number b.by.w e e.kind phase → ShutStands s.number (e ∷ p) (running b.by.w) phase
+shut_now : (s : SetUp) (p : List Entry) (e : Entry) → OwnRun s p → (x : Work) (b : Steps s p e x) → ShutTold s p e → (phase : Phase) → Reason (rows_at p s.number) s.number b.by.w e e.kind phase → ShutStands s.number (e ∷ p) (running_job b.by.w) phase
 shut_now s p e run x b told (Ends (Refused (refusals.Lost ordered))) z = elim (told x b z.0) [
   | inl closed ↦ subst (ClosedWith (e ∷ p) s.number b.by.w.number) (sym (target_is s.number b.by.w ∙ z.2)) closed
   | inr y ↦ absurd (let both : Puts ≡ Drops = sym y.0 ∙ z.1 in cc)
@@ -109,25 +109,25 @@ shut_now s p e run x b told (Ends (Refused (refusals.Lost ordered))) z = elim (t
 shut_now s p e run x b told (Ends (TransferRefused failures.Closed)) z = (z.0.peer, copies_in_place s p run b.by.w (step_runs s p e x b) z.1 z.0.peer z.0.on, elim (told x b z.0) [ inl closed ↦ inl closed | inr y ↦ inr y.1 ])
 shut_now s p e run x b told phase z = tt
 
-same_job : (s : SetUp) (p : List Entry) (e : Entry) (x : Work) (b : Steps s p e x) → running x ≡ running b.by.w
-same_job s p e x b = ap running b.work_is ∙ kind_kept (rows_at p s.number) s.number b.by.w e e.kind
+same_job : (s : SetUp) (p : List Entry) (e : Entry) (x : Work) (b : Steps s p e x) → running_job x ≡ running_job b.by.w
+same_job s p e x b = ap running_job b.work_is ∙ kind_kept (rows_at p s.number) s.number b.by.w e e.kind
 
 -- **why a connection was closed stands**
-pub shut_stands : (s : SetUp) (past : List Entry) → OwnRun s past → ShutsTold s past → (w : Work) → Member w (works past s.number) → ShutStands s.number past (running w) w.phase
-shut_stands s past run told w m = invariant s (λ p x. ShutsTold s p → ShutStands s.number p (running x) x.phase) (λ p e is x n was told. shut_grows s.number e p (running x) x.phase (was told.1)) own past run w m told
+pub shut_stands : (s : SetUp) (past : List Entry) → OwnRun s past → ShutsTold s past → (w : Work) → Member w (works past s.number) → ShutStands s.number past (running_job w) w.phase
+shut_stands s past run told w m = invariant s (λ p x. ShutsTold s p → ShutStands s.number p (running_job x) x.phase) (λ p e is x n was told. shut_grows s.number e p (running_job x) x.phase (was told.1)) own past run w m told
   where
-    own : (p : List Entry) (e : Entry) → OwnRun s (e ∷ p) → is_of s.number e ≡ true → ((x : Work) → Member x (works p s.number) → ShutsTold s p → ShutStands s.number p (running x) x.phase)
-        → (x : Work) → Origin s p e x → ShutsTold s (e ∷ p) → ShutStands s.number (e ∷ p) (running x) x.phase
-    own p e run is was x (inl b) told = subst (λ (y : Work). ShutStands s.number (e ∷ p) (running y) y.phase) (sym b.work_is) tt
-    own p e run is was x (inr (inl b)) told = shut_grows s.number e p (running x) x.phase (was x b.ran told.1)
+    own : (p : List Entry) (e : Entry) → OwnRun s (e ∷ p) → is_of s.number e ≡ true → ((x : Work) → Member x (works p s.number) → ShutsTold s p → ShutStands s.number p (running_job x) x.phase)
+        → (x : Work) → Origin s p e x → ShutsTold s (e ∷ p) → ShutStands s.number (e ∷ p) (running_job x) x.phase
+    own p e run is was x (inl b) told = subst (λ (y : Work). ShutStands s.number (e ∷ p) (running_job y) y.phase) (sym b.work_is) tt
+    own p e run is was x (inr (inl b)) told = shut_grows s.number e p (running_job x) x.phase (was x b.ran told.1)
     own p e run is was x (inr (inr b)) told =
         let v = b.by.w in
         let y = work_kind (rows_at p s.number) s.number v e e.kind in
-        let new : ShutStands s.number (e ∷ p) (running v) y.phase = elim (kind_reason (rows_at p s.number) s.number v e e.kind) [
-          | inl same ↦ subst (ShutStands s.number (e ∷ p) (running v)) (sym same) (shut_grows s.number e p (running v) v.phase (was v (step_runs s p e x b) told.1))
+        let new : ShutStands s.number (e ∷ p) (running_job v) y.phase = elim (kind_reason (rows_at p s.number) s.number v e e.kind) [
+          | inl same ↦ subst (ShutStands s.number (e ∷ p) (running_job v)) (sym same) (shut_grows s.number e p (running_job v) v.phase (was v (step_runs s p e x b) told.1))
           | inr reason ↦ shut_now s p e run.1 x b told.0 y.phase reason
         ] in
-        subst (λ (j : Running). ShutStands s.number (e ∷ p) j x.phase) (sym (same_job s p e x b)) (subst (λ (z : Work). ShutStands s.number (e ∷ p) (running v) z.phase) (sym b.work_is) new)
+        subst (λ (j : RunningJob). ShutStands s.number (e ∷ p) j x.phase) (sym (same_job s p e x b)) (subst (λ (z : Work). ShutStands s.number (e ∷ p) (running_job v) z.phase) (sym b.work_is) new)
 
 -- ---- a get's sources
 
@@ -186,7 +186,7 @@ word_taken_by t m p start size at part e = go (end_with t p).opened (subst (λ (
             room false k = absurd (cc)
 
 -- the causes of a get's peers
-abbrev pub SourcesTold : ℕ → List Entry → Running → List SourceFailure → Type 0
+abbrev pub SourcesTold : ℕ → List Entry → RunningJob → List SourceFailure → Type 0
 SourcesTold r past j xs = Each (λ x. SourceToldOf past r j.number j.what.key x.repo x.cause) xs
 
 each_more : (P : SourceFailure → Type 0) (xs : List SourceFailure) (x : SourceFailure) → Each P xs → P x → Each P (xs ++ x ∷ [])
@@ -200,11 +200,11 @@ module _ (reads_back : SentAreRead) (s : SetUp) (p : List Entry) (e : Entry) (h 
   before : OwnPast s p
   before = earlier s p e h
 
-  invalid_cause : (start peer : ℕ) → Answers (e ∷ p) s.number v.number peer (Says (Get start [] v.what.key)) (Says Invalid) → SourceToldOf (e ∷ p) s.number v.number v.what.key peer (if start == 0 then sources.Absent else sources.Invalid)
+  invalid_cause : (start peer : ℕ) → AnswersRequest (e ∷ p) s.number v.number peer (Says (Get start [] v.what.key)) (Says Invalid) → SourceToldOf (e ∷ p) s.number v.number v.what.key peer (if start == 0 then sources.Absent else sources.Invalid)
   invalid_cause start peer a = go (start == 0) refl
     where
       go : (c : Bool) → (start == 0) ≡ c → SourceToldOf (e ∷ p) s.number v.number v.what.key peer (if c then sources.Absent else sources.Invalid)
-      go true at = ([], subst (λ n. Answers (e ∷ p) s.number v.number peer (Says (Get n [] v.what.key)) (Says Invalid)) (zero_is start at) a)
+      go true at = ([], subst (λ n. AnswersRequest (e ∷ p) s.number v.number peer (Says (Get n [] v.what.key)) (Says Invalid)) (zero_is start at) a)
         where
           zero_is : (n : ℕ) → (n == 0) ≡ true → n ≡ 0
           zero_is n e = grind (arith, nat_tests)
@@ -234,29 +234,29 @@ module _ (reads_back : SentAreRead) (s : SetUp) (p : List Entry) (e : Entry) (h 
           yes_first true c h = refl
           yes_first false c h = absurd (cc)
 
-      asked_now : (f : FrameView) → e.taken ≡ Some f → line_in f.body ≡ Some Invalid → partner v.what.peer v.phase ≡ Some z.peer → Answers (e ∷ p) s.number v.number z.peer (Says (Get z.start [] v.what.key)) (Says Invalid)
+      asked_now : (f : FrameView) → e.taken ≡ Some f → line_in f.body ≡ Some Invalid → partner v.what.peer v.phase ≡ Some z.peer → AnswersRequest (e ∷ p) s.number v.number z.peer (Says (Get z.start [] v.what.key)) (Says Invalid)
       asked_now f took invalid on =
           let a = answers_now reads_back s p e b.by is before f took Invalid (λ m. m ≡ Get z.start [] v.what.key) invalid refl z.peer on
           (λ last l. let y = subst (λ (q : Phase). LastIs v.what.key v.what.peer q z.peer last) z.phase_is l refl in (y.0, Get z.start [] v.what.key, refl, y.1)) in
-          subst (λ m. Answers (e ∷ p) s.number v.number z.peer (Says m) (Says Invalid)) a.1 a.2
+          subst (λ m. AnswersRequest (e ∷ p) s.number v.number z.peer (Says m) (Says Invalid)) a.1 a.2
 
-  causes_now : ShutTold s p e → SourcesTold s.number p (running v) v.causes → Causes (rows_at p s.number) v e x → SourcesTold s.number (e ∷ p) (running v) x.causes
-  causes_now told was (inl same) = subst (SourcesTold s.number (e ∷ p) (running v)) (sym same) (sources_grow s.number e p (running v) v.what.key v.causes was)
-  causes_now told was (inr (inl a)) = subst (SourcesTold s.number (e ∷ p) (running v)) (sym a.list)
-      (each_more (λ y. SourceToldOf (e ∷ p) s.number v.number v.what.key y.repo y.cause) v.causes (record { repo = a.peer; cause = a.cause }) (sources_grow s.number e p (running v) v.what.key v.causes was)
+  causes_now : ShutTold s p e → SourcesTold s.number p (running_job v) v.causes → Causes (rows_at p s.number) v e x → SourcesTold s.number (e ∷ p) (running_job v) x.causes
+  causes_now told was (inl same) = subst (SourcesTold s.number (e ∷ p) (running_job v)) (sym same) (sources_grow s.number e p (running_job v) v.what.key v.causes was)
+  causes_now told was (inr (inl a)) = subst (SourcesTold s.number (e ∷ p) (running_job v)) (sym a.list)
+      (each_more (λ y. SourceToldOf (e ∷ p) s.number v.number v.what.key y.repo y.cause) v.causes (record { repo = a.peer; cause = a.cause }) (sources_grow s.number e p (running_job v) v.what.key v.causes was)
       (subst (SourceToldOf (e ∷ p) s.number v.number v.what.key a.peer) (sym a.why.0) (subst (ClosedWith (e ∷ p) s.number v.number) a.why.2 (elim (told x b a.why.1) [ inl closed ↦ closed | inr y ↦ absurd (let both : Puts ≡ Gets = sym y.0 ∙ a.gets in cc) ]))))
-  causes_now told was (inr (inr a)) = subst (SourcesTold s.number (e ∷ p) (running v)) (sym a.list)
-      (each_more (λ y. SourceToldOf (e ∷ p) s.number v.number v.what.key y.repo y.cause) v.causes (record { repo = a.peer; cause = source_cause a.start (taken_message e.taken) }) (sources_grow s.number e p (running v) v.what.key v.causes was) (word_cause a))
+  causes_now told was (inr (inr a)) = subst (SourcesTold s.number (e ∷ p) (running_job v)) (sym a.list)
+      (each_more (λ y. SourceToldOf (e ∷ p) s.number v.number v.what.key y.repo y.cause) v.causes (record { repo = a.peer; cause = source_cause a.start (taken_message e.taken) }) (sources_grow s.number e p (running_job v) v.what.key v.causes was) (word_cause a))
 
 -- **each cause of a get's peers stands in its entries**
-pub sources_told : SentAreRead → (s : SetUp) (past : List Entry) → OwnPast s past → ShutsTold s past → (w : Work) → Member w (works past s.number) → SourcesTold s.number past (running w) w.causes
-sources_told reads_back s past h told w m = invariant s (λ p x. OwnPast s p → ShutsTold s p → SourcesTold s.number p (running x) x.causes) (λ p e is x n was h told. sources_grow s.number e p (running x) x.what.key x.causes (was (earlier s p e h) told.1)) own past h.run w m h told
+pub sources_told : SentAreRead → (s : SetUp) (past : List Entry) → OwnPast s past → ShutsTold s past → (w : Work) → Member w (works past s.number) → SourcesTold s.number past (running_job w) w.causes
+sources_told reads_back s past h told w m = invariant s (λ p x. OwnPast s p → ShutsTold s p → SourcesTold s.number p (running_job x) x.causes) (λ p e is x n was h told. sources_grow s.number e p (running_job x) x.what.key x.causes (was (earlier s p e h) told.1)) own past h.run w m h told
   where
-    own : (p : List Entry) (e : Entry) → OwnRun s (e ∷ p) → is_of s.number e ≡ true → ((x : Work) → Member x (works p s.number) → OwnPast s p → ShutsTold s p → SourcesTold s.number p (running x) x.causes)
-        → (x : Work) → Origin s p e x → OwnPast s (e ∷ p) → ShutsTold s (e ∷ p) → SourcesTold s.number (e ∷ p) (running x) x.causes
-    own p e run is was x (inl b) h told = subst (λ (y : Work). SourcesTold s.number (e ∷ p) (running y) y.causes) (sym b.work_is) tt
-    own p e run is was x (inr (inl b)) h told = sources_grow s.number e p (running x) x.what.key x.causes (was x b.ran (earlier s p e h) told.1)
+    own : (p : List Entry) (e : Entry) → OwnRun s (e ∷ p) → is_of s.number e ≡ true → ((x : Work) → Member x (works p s.number) → OwnPast s p → ShutsTold s p → SourcesTold s.number p (running_job x) x.causes)
+        → (x : Work) → Origin s p e x → OwnPast s (e ∷ p) → ShutsTold s (e ∷ p) → SourcesTold s.number (e ∷ p) (running_job x) x.causes
+    own p e run is was x (inl b) h told = subst (λ (y : Work). SourcesTold s.number (e ∷ p) (running_job y) y.causes) (sym b.work_is) tt
+    own p e run is was x (inr (inl b)) h told = sources_grow s.number e p (running_job x) x.what.key x.causes (was x b.ran (earlier s p e h) told.1)
     own p e run is was x (inr (inr b)) h told =
         let v = b.by.w in
-        subst (λ (j : Running). SourcesTold s.number (e ∷ p) j x.causes) (sym (same_job s p e x b))
+        subst (λ (j : RunningJob). SourcesTold s.number (e ∷ p) j x.causes) (sym (same_job s p e x b))
         (causes_now reads_back s p e h is x b told.0 (was v (step_runs s p e x b) (earlier s p e h) told.1) (subst (Causes (rows_at p s.number) v e) (sym b.work_is) (kind_carries (rows_at p s.number) s.number v e e.kind).2))

@@ -19,17 +19,17 @@ use Rattle.p2p_wire.specs.declared.message.Message.TheVariants.{Get, Invalid}
 use Rattle.run_data.specs.declared.job.TransferRefusal.TheVariants as failures
 use Rattle.run_model.specs.Past.{Occurs, is_of}
 use Rattle.run_model.specs.Said.{Says, message_in}
-use Rattle.run_model.specs.Frames.{Flying, is_job, last_request, said_of, up_of, way_of}
-use Rattle.run_model.specs.Causes.{Answers, FoundNoSource, SourceCauseOf, TookGet, WasClosed, WasLost, is_order, sources_of}
+use Rattle.run_model.specs.Frames.{FlyingFrame, is_job, last_request, said_of, up_of, way_of}
+use Rattle.run_model.specs.Causes.{AnswersRequest, FoundNoSource, SourceCauseOf, TookGet, WasClosed, WasLost, is_order, sources_of}
 use Rattle.node_model.specs.SetUp.{SetUp}
 use Rattle.node_model.specs.Jobs
-use Rattle.node_model.specs.Jobs.{AsksTime, Denied, Drops, Ends, Fresh, Late, Next, Orders, Phase, Removed, Work, partner, running, side_of}
+use Rattle.node_model.specs.Jobs.{AsksTime, Denied, Drops, Ends, Fresh, Late, Next, Orders, Phase, Removed, Work, partner, running_job, side_of}
 use Rattle.run_model.specs.States.{works}
 use Rattle.node_model.specs.Knows.{obeyed_outcome, proof_by}
 use Rattle.node_model.specs.JobStep.{Turn}
 use Rattle.node_model.specs.DropStep
 use Rattle.node_model.specs.DropStep.{removal_outcome, target}
-use Rattle.node_model.specs.Found.{Settled}
+use Rattle.node_model.specs.Found.{HasOutcome}
 use Rattle.node_model.specs.TransferStep.{sources}
 use Rattle.node_model.specs.Turns.{outcome_of}
 use Rattle.run_model.specs.Run.{OwnPart, OwnPast}
@@ -58,9 +58,9 @@ SourcesInOrder s past = (w : Work) → Member w (works past s.number) → w.phas
 -- **what is left of a source's absent and invalid**: INVALID answers a GET by whose entry the content was absent, or shorter than the place asked for
 abbrev pub InvalidsFit : List Entry → Type 0
 InvalidsFit past = (r : ℕ) (x : Entry) (before : List Entry) → Occurs past x before → is_of r x ≡ true → (f : FrameView) → x.taken ≡ Some f → f.up ≡ false → message_in f.body ≡ Says Invalid
-    → (asked : Flying) → last_request before (up_of (way_of r f)) ≡ Some asked → (start : ℕ) (file key : List ℕ) → said_of asked ≡ Says (Get start file key) → TookGet before f.peer start key asked
+    → (asked : FlyingFrame) → last_request before (up_of (way_of r f)) ≡ Some asked → (start : ℕ) (file key : List ℕ) → said_of asked ≡ Says (Get start file key) → TookGet before f.peer start key asked
 
-took_get : (past : List Entry) → InvalidsFit past → (r j peer start : ℕ) (file key : List ℕ) (a : Answers past r j peer (Says (Get start file key)) (Says Invalid)) → TookGet a.hears.before peer start key a.request
+took_get : (past : List Entry) → InvalidsFit past → (r j peer start : ℕ) (file key : List ℕ) (a : AnswersRequest past r j peer (Says (Get start file key)) (Says Invalid)) → TookGet a.hears.before peer start key a.request
 took_get past fit r j peer start file key a =
     let x = a.hears in
     subst (λ p. TookGet x.before p start key a.request) x.peer_is (fit r x.entry x.before x.occurs (own_of r j x.entry x.own) x.f x.takes_it x.down x.says a.request a.last start file key a.asked_is)
@@ -101,7 +101,7 @@ module _ (reads_back : SentAreRead) (s : SetUp) (past : List Entry) (words : ℕ
       settled : (x : Ending s past e j (Refused (refusals.Lost ordered))) → DropSettled (turn_at s past e x.by) past (refusals.Lost ordered) → WasLost past r x.by.w.number ordered
       settled x (inl z) = record {
         d = job_of s past h x.by.w x.runs;
-        closed = subst (ShutStands r past (running x.by.w)) z.0 (shut_stands s past h.run told x.by.w x.runs);
+        closed = subst (ShutStands r past (running_job x.by.w)) z.0 (shut_stands s past h.run told x.by.w x.runs);
         ordered_is = orders x.by.w x.runs ordered z.0;
       }
       settled x (inr (inl z)) = absurd (let no' : Refused (refusals.Lost ordered) ≡ DropStep.denial_outcome (turn_at s past e x.by) = z.1 in cc)
@@ -136,7 +136,7 @@ module _ (reads_back : SentAreRead) (s : SetUp) (past : List Entry) (words : ℕ
         | inr y ↦ settled x y
       ])
     where
-      settled : (x : Ending s past e j (TransferRefused failures.Closed)) → Settled (turn_at s past e x.by) x.by.made.taken (TransferRefused failures.Closed) → WasClosed past r x.by.w.number
+      settled : (x : Ending s past e j (TransferRefused failures.Closed)) → HasOutcome (turn_at s past e x.by) x.by.made.taken (TransferRefused failures.Closed) → WasClosed past r x.by.w.number
       settled x y = go w.phase refl y.outcome_is
         where
           w : Work
@@ -165,7 +165,7 @@ module _ (reads_back : SentAreRead) (s : SetUp) (past : List Entry) (words : ℕ
           rest phase at r = subst NotKind kind (rest_not t x.by.made (subst AtRest (sym at) r) x.by.does)
 
           -- a remote drop has its target's connection
-          no_target : w.part ≡ Drops → side_in (running w) ≡ Remote → w.what.peer ≡ None → ⊥
+          no_target : w.part ≡ Drops → side_in (running_job w) ≡ Remote → w.what.peer ≡ None → ⊥
           no_target part side none = let some = target_peer s w (aims s past h.run w x.runs) part (sym (side_is w) ∙ side) in let both : None ≡ Some (Jobs.target_of r w) = sym none ∙ some in cc
 
           alone : (phase : Phase) → w.phase ≡ phase → partner w.what.peer phase ≡ None
@@ -173,7 +173,7 @@ module _ (reads_back : SentAreRead) (s : SetUp) (past : List Entry) (words : ℕ
 
           go : (phase : Phase) → w.phase ≡ phase → TransferRefused failures.Closed ≡ outcome_of t phase → WasClosed past r w.number
           go (Ends (TransferRefused failures.Closed)) at o =
-              let z = subst (ShutStands r past (running w)) at (shut_stands s past h.run told w x.runs) in
+              let z = subst (ShutStands r past (running_job w)) at (shut_stands s past h.run told w x.runs) in
               record { d = job_of s past h w x.runs; peer = z.0; peer_is = z.1; closed = z.2 }
           go (Ends q) at o = absurd (cc)
           go Removed at o = absurd (by_side (side_of t.w) o)
@@ -181,6 +181,6 @@ module _ (reads_back : SentAreRead) (s : SetUp) (past : List Entry) (words : ℕ
           go (Late time) at o = absurd (by_end (DropStep.first_end t) (t.clock time) o)
           go Fresh at o = absurd (rest Fresh at tt)
           go Next at o = absurd (rest Next at tt)
-          go AsksTime at o = absurd (no_target (only_time w.part (subst (Fits w.part) at (works_fit s past h.run w x.runs))) (subst (Stands r past (running w)) at (stands reads_back s past h w x.runs)) (alone AsksTime at))
-          go Orders at o = absurd (no_target (only_orders w.part (subst (Fits w.part) at (works_fit s past h.run w x.runs))) (subst (Stands r past (running w)) at (stands reads_back s past h w x.runs)) (alone Orders at))
+          go AsksTime at o = absurd (no_target (only_time w.part (subst (Fits w.part) at (works_fit s past h.run w x.runs))) (subst (Stands r past (running_job w)) at (stands reads_back s past h w x.runs)) (alone AsksTime at))
+          go Orders at o = absurd (no_target (only_orders w.part (subst (Fits w.part) at (works_fit s past h.run w x.runs))) (subst (Stands r past (running_job w)) at (stands reads_back s past h w x.runs)) (alone Orders at))
           go phase at o = absurd (let none = alone phase at in cc)

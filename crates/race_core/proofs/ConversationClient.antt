@@ -15,7 +15,7 @@ use Rattle.run_data.specs.declared.entry.FrameText.TheVariants.{Opening, Closing
 use Rattle.run_data.specs.declared.job.Outcome.{Outcome}
 use Rattle.run_data.specs.declared.run.Run.{Run}
 use Rattle.run_data.specs.Repos.{IsSetUp}
-use Rattle.node_model.specs.Slots.{Running}
+use Rattle.node_model.specs.Slots.{RunningJob}
 use Rattle.run_model.specs.Past.{is_of}
 use Rattle.node_model.specs.Rows.{option_is}
 use Rattle.run_model.specs.Frames.{MayTake, Way}
@@ -25,7 +25,7 @@ use Rattle.node_model.specs.SetUp.{SetUp}
 use Rattle.node_model.specs.Ends.{End, EndName, end_after, end_takes, end_took, is_opening, may_take, sends_at, sent_at, server_end, taken_at, takes_at, end_sends}
 use Rattle.run_model.specs.States.{end_at, session, works}
 use Rattle.node_model.specs.Sessions.{Session, line_in, new_session}
-use Rattle.node_model.specs.Jobs.{Drops, Greets, Heard, Opens, Phase, Work, job_end, partner, running}
+use Rattle.node_model.specs.Jobs.{Drops, Greets, Heard, Opens, Phase, Work, job_end, partner, running_job}
 use Rattle.node_model.specs.Look.{Made}
 use Rattle.node_model.specs.JobStep.{Turn, is_held}
 use Rattle.run_model.specs.Run.{OwnPast, OwnRun, RunPast, RunStep, set_up}
@@ -226,7 +226,7 @@ module _ (reads_back : SentAreRead) (run : Run) (repos : Each IsSetUp run.repos)
       fits = works_fit s past own_p.run w runs;
       no_locks = λ apart peer. free peer apart;
       target_free = (free_of s past own_p.run w runs).target_free;
-      times_remote = λ is. subst (Stands r past (running w)) is (stands reads_back s past own_p w runs);
+      times_remote = λ is. subst (Stands r past (running_job w)) is (stands reads_back s past own_p w runs);
     }
 
     waits_suit : WaitsSuit t m
@@ -242,14 +242,14 @@ module _ (reads_back : SentAreRead) (run : Run) (repos : Each IsSetUp run.repos)
       pub keeps : KeepsTo t m x × ClosesFor t m
       keeps = good_keeps t m m.kind goes_on (partner_good t m walks waits_suit (partner w.what.peer w.phase) refl y.does)
 
-      like : running x ≡ running w
+      like : running_job x ≡ running_job w
       like = kind_kept (rows_of t) r w (made_entry t m) m.kind
 
       slot_is : x.slot ≡ w.slot
-      slot_is = ap (λ (j : Running). j.slot) like
+      slot_is = ap (λ (j : RunningJob). j.slot) like
 
       peer_is : x.what.peer ≡ w.what.peer
-      peer_is = ap (λ (j : Running). j.what.peer) like
+      peer_is = ap (λ (j : RunningJob). j.what.peer) like
 
       module _ (p : ℕ) (p_other : p ≢ r) (other : is_of p e ≡ false) (live : IsLive x.phase) (now : (end_at (e ∷ past) r (job_end w p)).opened ≡ true) where
         abbrev a : EndName

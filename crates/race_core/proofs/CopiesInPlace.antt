@@ -5,14 +5,14 @@ use Rattle.annex_base.specs.Lists.{Member}
 use Rattle.run_data.specs.declared.entry.Entry.{Entry}
 use Rattle.run_data.specs.declared.job.JobKind.{JobKind}
 use Rattle.run_data.specs.declared.job.JobKind.TheVariants as kinds
-use Rattle.run_model.specs.Causes.{puts}
+use Rattle.run_model.specs.Causes.{is_put}
 use Rattle.run_model.specs.Past.{is_of}
 use Rattle.run_model.specs.Run.{OwnRun}
 use Rattle.run_model.specs.States.{rows_at, works}
 use Rattle.node_model.specs.AnyTime.{IsPeer}
 use Rattle.node_model.specs.Jobs.{Drops, Gets, Part, Phase, Puts, Work, partner, work_kind}
 use Rattle.node_model.specs.SetUp.{SetUp}
-use Rattle.node_model.specs.Slots.{Running}
+use Rattle.node_model.specs.Slots.{RunningJob}
 use Rattle.node_model.specs.TransferStep.{sources}
 use Rattle.race_core.proofs.Aims.{aims}
 use Rattle.race_core.proofs.FreshSteps.{of_kind}
@@ -34,7 +34,7 @@ puts_good Gets old phase g = absurd g
 puts_good Drops old phase g = absurd g
 
 -- a copy has a peer
-copy_peer : (s : SetUp) (kind : JobKind) (peer : Option ℕ) → IsPeer s kind peer → puts kind ≡ true → (p : ℕ) × (peer ≡ Some p)
+copy_peer : (s : SetUp) (kind : JobKind) (peer : Option ℕ) → IsPeer s kind peer → is_put kind ≡ true → (p : ℕ) × (peer ≡ Some p)
 copy_peer s kind (Some p) is copies = (p, refl)
 copy_peer s kinds.Copy None is copies = absurd (cc)
 copy_peer s kinds.MoveTo None is copies = absurd (cc)
@@ -72,7 +72,7 @@ module _ (s : SetUp) (past : List Entry) (e : Entry) (run : OwnRun s past) (x : 
       ]
 
   step_in_place : InPlace x.part x.what.peer x.phase
-  step_in_place = subst (λ (z : Work). InPlace z.part z.what.peer z.phase) (sym b.work_is) (subst (λ (j : Running). InPlace y.part j.what.peer y.phase) (sym (kind_kept (rows_at past s.number) s.number v e e.kind)) now_in_place)
+  step_in_place = subst (λ (z : Work). InPlace z.part z.what.peer z.phase) (sym b.work_is) (subst (λ (j : RunningJob). InPlace y.part j.what.peer y.phase) (sym (kind_kept (rows_at past s.number) s.number v e e.kind)) now_in_place)
 
 -- **a copy stands on its own peer's connection**
 pub copies_in_place : (s : SetUp) (past : List Entry) → OwnRun s past → (w : Work) → Member w (works past s.number) → w.part ≡ Puts → (p : ℕ) → partner w.what.peer w.phase ≡ Some p → w.what.peer ≡ Some p

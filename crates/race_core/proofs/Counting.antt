@@ -18,7 +18,7 @@ use Rattle.run_model.specs.Said.{wants_answer}
 use Rattle.node_model.specs.Sessions.{Doing, Waits, Guards, Gives, Gave, Wants, Takes, Took, reaches}
 use Rattle.node_model.specs.Calls.{to_commit, to_lock, to_offer, to_remove}
 use Rattle.node_model.specs.Look.{failing}
-use Rattle.node_model.specs.SessionStep.{Here, Reply, bar_on, by_of, bytes_left, check_answer, close_kind, content_of, gives_next, is_held, is_here, lock_answer, now_of, on_bytes, on_message, on_piece, on_put, on_remove, on_remove_before, on_request, on_unlock, put_answer, refuses, remove_answer, reply, shuts, silent_reply, tries, unexpected_reply, valid_answer}
+use Rattle.node_model.specs.SessionStep.{Here, Reply, bar_on, by_of, bytes_left, check_answer, close_kind, content_of, gives_next, is_held, is_here, lock_answer, now_of, on_bytes, on_message, on_piece, on_put, on_remove, on_remove_before, on_request, on_unlock, put_answer, failure_line, remove_answer, reply, shuts, silent_reply, tries, unexpected_reply, valid_answer}
 use Rattle.race_core.proofs.Cases.{unless_found}
 
 -- it isn't giving
@@ -54,7 +54,7 @@ odd h q was = inl (inr refl)
 answer : (was : Doing) (m : Message) → completes m ≡ true → calm was ≡ true → Counts true was (Line (text_of m) ∷ [])
 answer was m c w = inr (inl (m, refl, c, refl, w))
 
-refused : (was : Doing) → calm was ≡ true → Counts true was refuses
+refused : (was : Doing) → calm was ≡ true → Counts true was failure_line
 refused was w = answer was Failure refl w
 
 quiet : (was : Doing) → calm was ≡ true → Counts false was []
@@ -88,7 +88,7 @@ put_counts part false true = answer Waits (Error (codes "busy")) refl refl
 put_counts part false false = answer Waits (PutFrom part) refl refl
 
 on_remove-counts : (h : Here) (key : List ℕ) → Counts true Waits (on_remove h key).says
-on_remove-counts h key = tries_counts h true Waits (to_remove (is_here h key) (bar_on h key) (is_held h key)) refuses
+on_remove-counts h key = tries_counts h true Waits (to_remove (is_here h key) (bar_on h key) (is_held h key)) failure_line
     (remove_answer (by_of h) key (is_here h key) (bar_on h key) (is_held h key)) (refused Waits refl) (remove_counts (by_of h) key (is_here h key) (bar_on h key) (is_held h key))
 
 before_counts : (h : Here) (n : ℕ) (key : List ℕ) → Counts true Waits (on_remove_before h n key).says
@@ -99,8 +99,8 @@ with_version h b x f = if_either (λ (y : Reply). Counts true Waits y.says) b x 
 
 request_counts : (h : Here) (v : ℕ) (m : Message) → is_get m ≡ false → Counts (wants_answer m) Waits (on_request h v m).says
 request_counts h v (Version n) g = answer Waits (Version (min n h.version)) refl refl
-request_counts h v (CheckPresent key) g = tries_counts h true Waits (calls.Has ∷ []) refuses (check_answer key (is_here h key) (bar_on h key)) (refused Waits refl) (check_counts key (is_here h key) (bar_on h key))
-request_counts h v (LockContent key) g = tries_counts h true Waits (to_lock h.locks (is_here h key) (bar_on h key)) refuses
+request_counts h v (CheckPresent key) g = tries_counts h true Waits (calls.Has ∷ []) failure_line (check_answer key (is_here h key) (bar_on h key)) (refused Waits refl) (check_counts key (is_here h key) (bar_on h key))
+request_counts h v (LockContent key) g = tries_counts h true Waits (to_lock h.locks (is_here h key) (bar_on h key)) failure_line
     (lock_answer h.number (now_of h + hold_time) (by_of h) key h.locks (is_here h key) (bar_on h key)) (refused Waits refl)
     (lock_counts h.number (now_of h + hold_time) (by_of h) key h.locks (is_here h key) (bar_on h key))
 request_counts h v (Remove key) g = on_remove-counts h key
@@ -108,7 +108,7 @@ request_counts h v (RemoveBefore n key) g = with_version h (nat_le 3 v) (on_remo
 request_counts h v GetTimestamp g = with_version h (nat_le 3 v) (reply (Talk None) (Timestamp (now_of h / 1000))) (answer Waits (Timestamp (now_of h / 1000)) refl refl)
 request_counts h v (Get n file key) g = absurd (cc)
 request_counts h v (Put file key) g = with_version h (nat_le 1 v) (on_put h key)
-    (tries_counts h true Waits (to_offer h.part (is_here h key) (h.filled key)) refuses (reply (Talk None) (put_answer h.part (is_here h key) (h.filled key))) (refused Waits refl)
+    (tries_counts h true Waits (to_offer h.part (is_here h key) (h.filled key)) failure_line (reply (Talk None) (put_answer h.part (is_here h key) (h.filled key))) (refused Waits refl)
     (put_counts h.part (is_here h key) (h.filled key)))
 request_counts h v m g = odd h (wants_answer m) Waits
 
@@ -130,7 +130,7 @@ message_counts h v (Guards hold key) (UnlockContent k) g = unlock_counts h hold 
 message_counts h v Gave Success g = quiet Gave refl
 message_counts h v Gave Failure g = quiet Gave refl
 message_counts h v (Wants key size) (Data n) g = quiet (Wants key size) refl
-message_counts h v (Took key size) Valid g = tries_counts h true (Took key size) (to_commit h.right) refuses (valid_answer (by_of h) size key h.right) (refused (Took key size) refl) (valid_counts (by_of h) size key h.right)
+message_counts h v (Took key size) Valid g = tries_counts h true (Took key size) (to_commit h.right) failure_line (valid_answer (by_of h) size key h.right) (refused (Took key size) refl) (valid_counts (by_of h) size key h.right)
 message_counts h v (Took key size) Invalid g = answer (Took key size) Failure refl refl
 message_counts h v doing m g = odd h (wants_answer m) doing
 

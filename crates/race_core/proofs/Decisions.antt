@@ -20,11 +20,11 @@ use Rattle.run_model.specs.Logs.{in_drop, is_step, need_read}
 use Rattle.node_model.specs.SetUp.{SetUp}
 use Rattle.run_model.specs.States.{state_of, end_at, rows_at, works}
 use Rattle.node_model.specs.Ends.{frames}
-use Rattle.node_model.specs.Jobs.{Drops, Work, job_end, running, side_of, target_of}
+use Rattle.node_model.specs.Jobs.{Drops, Work, job_end, running_job, side_of, target_of}
 use Rattle.race_core.proofs.Knowing.{knows_enough}
 use Rattle.run_model.specs.Run.{OwnPart, OwnPast, OwnRun}
-use Rattle.node_model.specs.Found.{HasDeadline, JobKind}
-use Rattle.node_model.specs.Slots.{Running}
+use Rattle.node_model.specs.Found.{HasDeadline, IsJobEntry}
+use Rattle.node_model.specs.Slots.{RunningJob}
 use Rattle.race_core.proofs.JobKept.{kind_kept}
 use Rattle.race_core.proofs.JobNumbers.{begins_next}
 use Rattle.race_core.proofs.WorkNumbers.{number_begun}
@@ -69,9 +69,9 @@ runs_begun s past run w m =
         (λ job what k. let next : job ≡ begun_count p s.number + 1 = begins_next s p mine.0 e mine.1 job what k in more_off job x.number (omega arith)) ∙ was x b.ran)
     own p e r is was x (inr (inr b)) =
         let v = b.by.w in
-        let same : running x ≡ running v = ap running b.work_is ∙ kind_kept (rows_at p s.number) s.number v e e.kind in
-        let number : x.number ≡ v.number = ap (λ (j : Running). j.number) same in
-        let what : x.what ≡ v.what = ap (λ (j : Running). j.what) same in
+        let same : running_job x ≡ running_job v = ap running_job b.work_is ∙ kind_kept (rows_at p s.number) s.number v e e.kind in
+        let number : x.number ≡ v.number = ap (λ (j : RunningJob). j.number) same in
+        let what : x.what ≡ v.what = ap (λ (j : RunningJob). j.what) same in
         let kept : begun_job_after v.number (begun_job p s.number v.number) e.kind ≡ Some v.what =
         begun_off v.number (begun_job p s.number v.number) e.kind (λ job what k. absurd (step_no_begin v.number e.kind b.step job what k)) ∙ was v (stepped_runs s p e b.by) in
         rw is (subst (λ n. begun_job_after n (begun_job p s.number n) e.kind ≡ Some x.what) (sym number) (kept ∙ ap Some (sym what)))
@@ -84,8 +84,8 @@ stepped_of s past words e own j kind is step = elim (made_by s past words e own)
   | inr x ↦ x
 ]
 
-pub kind_of : (s : SetUp) (past : List Entry) (e : Entry) (x : Stepped s past e) (kind : EntryKind) → e.kind ≡ kind → JobKind (turn_at s past e x) x.made kind
-kind_of s past e x kind is = subst (JobKind (turn_at s past e x) x.made) (sym (ap (λ (y : Entry). y.kind) x.is) ∙ is) (stepped_found s past e x).found
+pub kind_of : (s : SetUp) (past : List Entry) (e : Entry) (x : Stepped s past e) (kind : EntryKind) → e.kind ≡ kind → IsJobEntry (turn_at s past e x) x.made kind
+kind_of s past e x kind is = subst (IsJobEntry (turn_at s past e x) x.made) (sym (ap (λ (y : Entry). y.kind) x.is) ∙ is) (stepped_found s past e x).found
 
 talk_of : (s : SetUp) (past : List Entry) (e : Entry) (x : Stepped s past e) → OwnRun s past → (kind : EntryKind) → e.kind ≡ kind → TalkKind (turn_at s past e x) x.made kind
 talk_of s past e x run kind is =

@@ -14,7 +14,7 @@ use Rattle.p2p_wire.specs.Messages.{message_of, text_of}
 use Rattle.node_model.specs.Ends.{EndName, end_after, end_sends, end_takes, end_took, is_opening, sent_at}
 use Rattle.node_model.specs.Sessions.{Session, is_closing}
 use Rattle.node_model.specs.Jobs
-use Rattle.node_model.specs.Jobs.{Phase, Work, closed_part, job_end, partner, says, taken_message, talks, talks_on, took}
+use Rattle.node_model.specs.Jobs.{Phase, Work, closed_part, job_end, partner, says, taken_message, talks, talks_on, after_frame}
 use Rattle.node_model.specs.Look.{Made}
 use Rattle.node_model.specs.JobStep.{Turn, end_with, me, quietly, says_to, sends_to}
 use Rattle.race_core.proofs.ClientCounts.{IsLive, Local, Stays, answers_here, none_is, quiet_here, sends_here, takes_here}
@@ -86,11 +86,11 @@ module _ (t : Turn) (kind : EntryKind) (f : FrameView) (peer : ℕ) (x : Taking 
   hears_here next keeps = inr (record { live = live; opened = x.opened; none_opens = tt; keeps = λ z up down v y. subst (λ (us : List FrameText). Talk next z us down) (sym (append-nil up)) (keeps z up down (there z up down y)) })
 
   -- something is heard
-  pub hears_keeps : (next : Phase) → (took (talker t (Some f)) f.body).phase ≡ next → Stays t.w.what.peer next peer
-      → ((z : Session) (up down : List FrameText) → On phase f z up down → Talk (stance t.w.what.peer next (kept (took (talker t (Some f)) f.body) peer) peer) z up down) → Goes t (quietly kind (Some f))
+  pub hears_keeps : (next : Phase) → (after_frame (talker t (Some f)) f.body).phase ≡ next → Stays t.w.what.peer next peer
+      → ((z : Session) (up down : List FrameText) → On phase f z up down → Talk (stance t.w.what.peer next (kept (after_frame (talker t (Some f)) f.body) peer) peer) z up down) → Goes t (quietly kind (Some f))
   hears_keeps next goes stays keeps = (
     talk_keeps t (quietly kind (Some f)) peer next x.on (takes_here t.w peer f x.of_end) goes stays
-        (λ l o. hears_here (stance t.w.what.peer next (kept (took (talker t (Some f)) f.body) peer) peer) keeps),
+        (λ l o. hears_here (stance t.w.what.peer next (kept (after_frame (talker t (Some f)) f.body) peer) peer) keeps),
     inl tt,
   )
 
@@ -126,8 +126,8 @@ module _ (t : Turn) (kind : EntryKind) (f : FrameView) (peer : ℕ) (x : Taking 
       closed : (end_takes (end_with t peer) f.epoch f.body).opened ≡ false
       closed = rw e refl
 
-      goes : (took (talker t (Some f)) f.body).phase ≡ t.w.phase
-      goes = ap (λ (b : FrameText). (took (talker t (Some f)) b).phase) e ∙ talker_phase t (Some f)
+      goes : (after_frame (talker t (Some f)) f.body).phase ≡ t.w.phase
+      goes = ap (λ (b : FrameText). (after_frame (talker t (Some f)) b).phase) e ∙ talker_phase t (Some f)
 
   -- it closes the connection itself
   pub short_keeps : FallsShort t (sends_to t kind (Some f) peer (Closing ∷ [])) → Goes t (sends_to t kind (Some f) peer (Closing ∷ []))

@@ -16,7 +16,7 @@ use Rattle.p2p_wire.specs.declared.message.Message.{Message}
 use Rattle.p2p_wire.specs.declared.message.Message.TheVariants.{AuthSuccess, Version, CheckPresent, LockContent, RemoveBefore, GetTimestamp, Timestamp, Get, Put, PutFrom, AlreadyHave, Data, Success, Failure, Error}
 use Rattle.p2p_wire.specs.Messages.{message_of, text_of}
 use Rattle.node_model.specs.Sessions.{Waits, Session, doing_after, is_closing, line_in, new_session, reaches, took_bytes, took_message, version_told, guards}
-use Rattle.node_model.specs.SessionStep.{Here, Reply, bar_on, by_of, bytes_left, check_answer, content_of, is_here, is_held, lock_answer, now_of, on_put, on_remove, on_remove_before, on_request, put_answer, refuses, remove_answer, reply, tries, unexpected_reply}
+use Rattle.node_model.specs.SessionStep.{Here, Reply, bar_on, by_of, bytes_left, check_answer, content_of, is_here, is_held, lock_answer, now_of, on_put, on_remove, on_remove_before, on_request, put_answer, failure_line, remove_answer, reply, tries, unexpected_reply}
 use Rattle.node_model.specs.Look.{failing}
 use Rattle.node_model.specs.Calls.{to_lock, to_offer, to_remove}
 use Rattle.race_core.proofs.Cases.{unless_found}
@@ -101,7 +101,7 @@ module _ (reads_back : SentAreRead) (size : List ℕ → Option ℕ) (h : Here) 
     ]
 
     pub look_served : (key : List ℕ) → 1 ≤ z.version → Served Dialogue.AtLook (CheckPresent key) (on_request h z.version (CheckPresent key))
-    look_served key speaks = try Dialogue.AtLook (CheckPresent key) (calls.Has ∷ []) refuses (check_answer key (is_here h key) (bar_on h key))
+    look_served key speaks = try Dialogue.AtLook (CheckPresent key) (calls.Has ∷ []) failure_line (check_answer key (is_here h key) (bar_on h key))
         (λ call. look_idle key (Fault call (by_of h)) Failure (inr refl) speaks) (go (is_here h key) (bar_on h key))
       where
         go : (here : Bool) (bar : Option ℕ) → Served Dialogue.AtLook (CheckPresent key) (check_answer key here bar)
@@ -114,7 +114,7 @@ module _ (reads_back : SentAreRead) (size : List ℕ → Option ℕ) (h : Here) 
     lock_no key kind none speaks = answers Dialogue.AtLock (λ z up down x. x) (LockContent key) kind Failure refl (idle (LockContent key) kind Failure none speaks) (λ g. refl)
 
     pub lock_served : (key : List ℕ) → 1 ≤ z.version → Served Dialogue.AtLock (LockContent key) (on_request h z.version (LockContent key))
-    lock_served key speaks = try Dialogue.AtLock (LockContent key) (to_lock h.locks (is_here h key) (bar_on h key)) refuses (lock_answer h.number (now_of h + hold_time) (by_of h) key h.locks (is_here h key) (bar_on h key))
+    lock_served key speaks = try Dialogue.AtLock (LockContent key) (to_lock h.locks (is_here h key) (bar_on h key)) failure_line (lock_answer h.number (now_of h + hold_time) (by_of h) key h.locks (is_here h key) (bar_on h key))
         (λ call. lock_no key (Fault call (by_of h)) refl speaks) (go h.locks (is_here h key) (bar_on h key))
       where
         go : (locks here : Bool) (bar : Option ℕ) → Served Dialogue.AtLock (LockContent key) (lock_answer h.number (now_of h + hold_time) (by_of h) key locks here bar)
@@ -132,7 +132,7 @@ module _ (reads_back : SentAreRead) (size : List ℕ → Option ℕ) (h : Here) 
     order_says m order speaks kind k (inr e) = subst (λ (q : Message). Served Dialogue.AtOrder m (reply kind q)) (sym e) (answers Dialogue.AtOrder (λ z up down x. x) m kind Failure refl (idle m kind Failure (order kind (Some Failure) ∙ waits) speaks) (λ g. refl))
 
     pub remove_served : (m : Message) → IsOrder m → 1 ≤ z.version → (key : List ℕ) → Served Dialogue.AtOrder m (on_remove h key)
-    remove_served m order speaks key = try Dialogue.AtOrder m (to_remove (is_here h key) (bar_on h key) (is_held h key)) refuses (remove_answer (by_of h) key (is_here h key) (bar_on h key) (is_held h key))
+    remove_served m order speaks key = try Dialogue.AtOrder m (to_remove (is_here h key) (bar_on h key) (is_held h key)) failure_line (remove_answer (by_of h) key (is_here h key) (bar_on h key) (is_held h key))
         (λ call. order_says m order speaks (Fault call (by_of h)) Failure (inr refl)) (go (is_here h key) (bar_on h key) (is_held h key))
       where
         go : (here : Bool) (bar : Option ℕ) (blocked : Bool) → Served Dialogue.AtOrder m (remove_answer (by_of h) key here bar blocked)
@@ -180,7 +180,7 @@ module _ (reads_back : SentAreRead) (size : List ℕ → Option ℕ) (h : Here) 
     -- PUT
     pub put_served : (file key : List ℕ) → 1 ≤ z.version → Served Dialogue.AtPut (Put file key) (on_request h z.version (Put file key))
     put_served file key speaks = if_either (Served Dialogue.AtPut (Put file key)) (nat_le 1 z.version) (on_put h key) (unexpected_reply h)
-        (λ e. try Dialogue.AtPut (Put file key) (to_offer h.part (is_here h key) (h.filled key)) refuses (reply (Talk None) (put_answer h.part (is_here h key) (h.filled key)))
+        (λ e. try Dialogue.AtPut (Put file key) (to_offer h.part (is_here h key) (h.filled key)) failure_line (reply (Talk None) (put_answer h.part (is_here h key) (h.filled key)))
         (λ call. answers Dialogue.AtPut (λ z up down x. x) (Put file key) (Fault call (by_of h)) Failure refl (idle (Put file key) (Fault call (by_of h)) Failure refl speaks) (λ g. refl))
         (go (is_here h key) (h.filled key)))
         (λ e. absurd (too_old speaks e))

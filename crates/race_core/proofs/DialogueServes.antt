@@ -13,7 +13,7 @@ use Rattle.p2p_wire.specs.declared.message.Message.TheVariants.{Version, CheckPr
 use Rattle.p2p_wire.specs.Messages.{message_of, text_of}
 use Rattle.node_model.specs.Ends.{is_opening}
 use Rattle.node_model.specs.Sessions.{Doing, Waits, Gave, Wants, Takes, Took, Session, line_in, takes_more, took_message}
-use Rattle.node_model.specs.SessionStep.{Here, Reply, by_of, on_frame, on_message, on_text, refuses, silent_reply, valid_answer}
+use Rattle.node_model.specs.SessionStep.{Here, Reply, by_of, on_frame, on_message, on_text, failure_line, silent_reply, valid_answer}
 use Rattle.node_model.specs.Look.{failing}
 use Rattle.node_model.specs.Calls.{to_commit}
 use Rattle.race_core.proofs.Cases.{unless_found}
@@ -94,7 +94,7 @@ module _ (reads_back : SentAreRead) (size : List ℕ → Option ℕ) (h : Here) 
   -- VALID, as the bytes are there
   valid_says : (v : ℕ) (key : List ℕ) (k : ℕ) → 1 ≤ v
       → Says Dialogue.AtAnswer (made v (Took key k)) (after_message size (made v (Took key k)) Valid (on_message h v (Took key k) Valid).kind (told_first (on_message h v (Took key k) Valid).says)) [] [] (on_message h v (Took key k) Valid).says
-  valid_says v key k speaks = unless_found Answers (failing h.fails (to_commit h.right)) (λ call. record { kind = Fault call (by_of h); says = refuses }) (valid_answer (by_of h) k key h.right) (λ call. refused (Fault call (by_of h))) (go h.right)
+  valid_says v key k speaks = unless_found Answers (failing h.fails (to_commit h.right)) (λ call. record { kind = Fault call (by_of h); says = failure_line }) (valid_answer (by_of h) k key h.right) (λ call. refused (Fault call (by_of h))) (go h.right)
     where
       Answers : Reply → Type 0
       Answers x = Says Dialogue.AtAnswer (made v (Took key k)) (after_message size (made v (Took key k)) Valid x.kind (told_first x.says)) [] [] x.says

@@ -212,9 +212,6 @@ word_acks z up down b m told ack x = go b told x.1
 
 -- ---- bytes that go
 
-taken_more : (key : List ℕ) (size left : ℕ) (P : Doing → Type 0) → (left ≡ 0 → P (Took key size)) → (nat_lt 0 left ≡ true → P (Takes key size left)) → P (takes_more key size left)
-taken_more key size left P f g = if_either P (left == 0) (Took key size) (Takes key size left) (λ e. f (grind (arith, nat_tests))) (λ e. g (grind (arith, nat_tests)))
-
 abbrev Filling : ℕ → Doing → Type 0
 Filling left d = (key : List ℕ) × (size : ℕ) × (d ≡ takes_more key size left)
 

@@ -26,7 +26,7 @@ use Rattle.p2p_wire.specs.Messages.{message_of, text_of}
 use Rattle.node_model.specs.Ends.{may_take, takes_at}
 use Rattle.node_model.specs.Sessions.{Session, line_in, reaches}
 use Rattle.node_model.specs.Jobs
-use Rattle.node_model.specs.Jobs.{Part, Gets, Puts, Drops, Phase, Fresh, Next, Opens, Greets, GetsData, GetsBytes, GetsWord, PutsOffer, PutsBytes, PutsWord, PutsAnswer, AsksLock, AsksLook, AsksTime, Removed, Denied, Late, Ends, Heard, Held, Work, gets_more, puts_more, is_move, job_end, listens, partner, side_of, took, after_transfer, after_failed_release}
+use Rattle.node_model.specs.Jobs.{Part, Gets, Puts, Drops, Phase, Fresh, Next, Opens, Greets, GetsData, GetsBytes, GetsWord, PutsOffer, PutsBytes, PutsWord, PutsAnswer, AsksLock, AsksLook, AsksTime, Removed, Denied, Late, Ends, Heard, Held, Work, gets_more, puts_more, is_move, job_end, listens, partner, side_of, after_frame, after_transfer, after_failed_release}
 use Rattle.node_model.specs.Calls.{to_commit, to_release}
 use Rattle.node_model.specs.Look.{Made, waiting}
 use Rattle.annex_base.specs.Calls.{same_call}
@@ -184,7 +184,7 @@ module _ (t : Turn) (f : FrameView) (peer : ℕ) (x : Taking t f peer) (walks : 
       → ((z : Session) (up down : List FrameText) → Converses (phase_stance phase) z up (f.body ∷ down) → Converses Dialogue.Away z up down) → GoodMade t (hears t f)
   heard_good phase m next is told goes none keeps = hears_keeps t (talk t) f peer x phase is next
       (ap (λ (y : Work). y.phase) (took_listens (talker t (Some f)) f.body m phase told (talker_phase t (Some f) ∙ is)) ∙ goes) (inl none)
-      (λ z up down y. to_rest t.w.what.peer next (kept (took (talker t (Some f)) f.body) peer) peer z up down none (keeps z up down y))
+      (λ z up down y. to_rest t.w.what.peer next (kept (after_frame (talker t (Some f)) f.body) peer) peer z up down none (keeps z up down y))
 
   fault_here : (call : Call) → is_plain call ≡ true → GoodMade t (quietly (Fault call (by_me t)) (Some f))
   fault_here call plain = fault_on t peer x.on (Some f) call plain
@@ -251,7 +251,7 @@ module _ (t : Turn) (f : FrameView) (peer : ℕ) (x : Taking t f peer) (walks : 
   lock_heard p since is told =
       let took_is = took_listens (talker t (Some f)) f.body Success (AsksLock p since) told (talker_phase t (Some f) ∙ is) in
       hears_keeps t (talk t) f peer x (AsksLock p since) is Next (ap (λ (y : Work). y.phase) took_is) (inl refl)
-      (λ z up down y. subst (λ (at : Stance). Converses at z up down) (sym (rests_at t.w.what.peer Next (kept (took (talker t (Some f)) f.body) peer) peer refl))
+      (λ z up down y. subst (λ (at : Stance). Converses at z up down) (sym (rests_at t.w.what.peer Next (kept (after_frame (talker t (Some f)) f.body) peer) peer refl))
       (subst (λ (k : Bool). Converses (rests k) z up down) (sym (subst (λ (v : Work). kept v peer ≡ true) (sym took_is)
       (subst (λ q. kept (listens (talker t (Some f)) (AsksLock q since) Success) peer ≡ true) (sym (same_Some p peer (same_peer (AsksLock p since) is))) (kept_now (talker t (Some f)) peer (Jobs.Held since) refl))))
       (lock_locked z up down f.body told y)))
@@ -299,7 +299,7 @@ module _ (t : Turn) (f : FrameView) (peer : ℕ) (x : Taking t f peer) (walks : 
       let same = same_peer (GetsData p start) is in
       hears_keeps t (talk t) f peer x (GetsData p start) is (gets_more p start start n)
       (ap (λ (y : Work). y.phase) (took_listens (talker t (Some f)) f.body (Data n) (GetsData p start) told (talker_phase t (Some f) ∙ is))) (inr (gets_on t.w.what.peer p start start n ∙ same))
-      (λ z up down y. more_gets p start start n same (kept (took (talker t (Some f)) f.body) peer) z up down (data_gives p start n z up down f.body told y))
+      (λ z up down y. more_gets p start start n same (kept (after_frame (talker t (Some f)) f.body) peer) z up down (data_gives p start n z up down f.body told y))
   get_good (GetsWord p start size) Valid is told suits = attempts_even (GoodMade t) t (to_commit t.look.right) (Some f) (gains t f peer size t.look.right)
       (λ call e. fault_here call (commit_plain t.look.right call e)) (gains_good p start size is told t.look.right)
   get_good (GetsWord p start size) Invalid is told suits = refused_good p start size is (inr told)
@@ -352,8 +352,8 @@ module _ (t : Turn) (f : FrameView) (peer : ℕ) (x : Taking t f peer) (walks : 
       if_either (GoodMade t) (nat_lt 0 n && nat_le n left) (attempts t (calls.Append ∷ []) (Some f) (quietly (talk t) (Some f))) (wrong t f peer)
       (λ e. attempts_even (GoodMade t) t (calls.Append ∷ []) (Some f) (quietly (talk t) (Some f)) (λ call h. fault_here call (plain_in call (calls.Append ∷ []) refl refl h))
       (hears_keeps t (talk t) f peer x (GetsBytes p start size left) is (gets_more p start (size + n) (left - n))
-      (ap (λ (b : FrameText). (took (talker t (Some f)) b).phase) body ∙ ap (λ (q : Phase). Jobs.gets_bytes n q) (talker_phase t (Some f) ∙ is)) (inr (gets_on t.w.what.peer p start (size + n) (left - n) ∙ same))
-      (λ z up down y. more_gets p start (size + n) (left - n) same (kept (took (talker t (Some f)) f.body) peer) z up down (bytes_gives p start (size + n) left n z up down f.body body y))))
+      (ap (λ (b : FrameText). (after_frame (talker t (Some f)) b).phase) body ∙ ap (λ (q : Phase). Jobs.gets_bytes n q) (talker_phase t (Some f) ∙ is)) (inr (gets_on t.w.what.peer p start (size + n) (left - n) ∙ same))
+      (λ z up down y. more_gets p start (size + n) (left - n) same (kept (after_frame (talker t (Some f)) f.body) peer) z up down (bytes_gives p start (size + n) left n z up down f.body body y))))
       (λ e. absurd (true≢false (sym suits ∙ e)))
   bytes_taken n body phase is suits = absurd suits
 

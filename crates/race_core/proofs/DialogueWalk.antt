@@ -24,17 +24,17 @@ use Rattle.run_data.specs.declared.job.TransferRefusal.TheVariants as failures
 use Rattle.node_model.specs.Rows.{is_lost_ordered}
 use Rattle.node_model.specs.Evidence.{Standing, Asked}
 use Rattle.p2p_wire.specs.declared.message.Message.{Message}
-use Rattle.p2p_wire.specs.declared.message.Message.TheVariants.{LockContent, Remove, RemoveBefore, GetTimestamp, Get, Put, Valid, Success, Failure}
+use Rattle.p2p_wire.specs.declared.message.Message.TheVariants.{LockContent, Remove, RemoveBefore, GetTimestamp, Get, Put, Valid, Failure}
 use Rattle.p2p_wire.specs.Messages.{order_of, message_of, text_of}
 use Rattle.node_model.specs.Sessions.{Session, line_in}
 use Rattle.node_model.specs.Jobs
-use Rattle.node_model.specs.Jobs.{Part, Gets, Puts, Drops, Phase, Rows, Fresh, Next, GetsData, PutsOffer, AsksLock, AsksTime, Removed, Ends, Heard, Held, Work, heard_of, fault_of, fault_phase, first_look, is_move, listens, partner, quiet, says, side_of, taken_message, took, after_failed_release}
+use Rattle.node_model.specs.Jobs.{Part, Gets, Puts, Drops, Phase, RowsAndEnds, Fresh, Next, GetsData, PutsOffer, AsksLock, AsksTime, Removed, Ends, Heard, Held, Work, heard_of, fault_of, fault_phase, first_look, is_move, listens, partner, quiet, says, side_of, taken_message, after_frame, after_failed_release}
 use Rattle.node_model.specs.Calls.{to_hold, to_release, to_resume, to_read}
 use Rattle.node_model.specs.Look.{Made}
 use Rattle.annex_base.specs.Calls.{same_call}
 use Rattle.node_model.specs.Knows.{enough_by, is_unasked, next_by, asks_by, candidates_by}
 use Rattle.node_model.specs.JobStep.{Turn, attempts, bar_there, by_me, clock_of, end_with, ends, farewells, is_there, key_of, me, owns_share, quietly, says_to, sends_to, talk, is_held}
-use Rattle.node_model.specs.DropStep.{asks_copy, asks_lock, asks_target, bars, expiry, first_drop, first_end, first_remote, held_until, in_time, lacking, need_now, orders, own_share, removes, required_there, row_refusal, target, tries_own}
+use Rattle.node_model.specs.DropStep.{asks_copy, asks_lock, asks_target, bars, expiry, first_drop, first_end, first_remote, held_until, in_time, lacking_outcome, need_now, orders, own_share, removes, required_there, row_refusal, target, tries_own}
 use Rattle.node_model.specs.Requests.{asks, goes_to}
 use Rattle.node_model.specs.TransferStep.{first_get, first_put, next_get, next_source}
 use Rattle.node_model.specs.Turns.{first_step, goes, judges, next_step}
@@ -66,9 +66,6 @@ time_reads = refl
 
 pub valid_reads : message_of (text_of Valid) ≡ Some Valid
 valid_reads = refl
-
-pub success_reads : message_of (text_of Success) ≡ Some Success
-success_reads = refl
 
 pub failure_reads : message_of (text_of Failure) ≡ Some Failure
 failure_reads = refl
@@ -150,8 +147,8 @@ dead_good t dead outcome =
 -- ---- what is said first on an open connection
 
 -- the work after a frame that is heard
-pub took_listens : (x : Work) (body : FrameText) (m : Message) (phase : Phase) → line_in body ≡ Some m → x.phase ≡ phase → took x body ≡ listens x phase m
-took_listens x (Line text) m phase told is = ap (λ (o : Option Message). Jobs.took_line x o) told ∙ ap (λ (p : Phase). listens x p m) is
+pub took_listens : (x : Work) (body : FrameText) (m : Message) (phase : Phase) → line_in body ≡ Some m → x.phase ≡ phase → after_frame x body ≡ listens x phase m
+took_listens x (Line text) m phase told is = ap (λ (o : Option Message). Jobs.after_line x o) told ∙ ap (λ (p : Phase). listens x p m) is
 took_listens x Opening m phase told is = absurd (cc)
 took_listens x Closing m phase told is = absurd (cc)
 took_listens x (Bytes n) m phase told is = absurd (cc)
@@ -216,7 +213,7 @@ look_alone target r x Drops false bar = refl
 look_alone target r x Drops true (Some i) = refl
 look_alone target r x part here bar = refl
 
-quiet_alone : (target : Option ℕ) (rows : Rows) (r : ℕ) (x : Work) (phase : Phase) → partner target x.phase ≡ None → partner target (quiet rows r x phase).phase ≡ None
+quiet_alone : (target : Option ℕ) (rows : RowsAndEnds) (r : ℕ) (x : Work) (phase : Phase) → partner target x.phase ≡ None → partner target (quiet rows r x phase).phase ≡ None
 quiet_alone target rows r x Fresh alone = look_alone target r x x.part (rows.present x.what.key) (rows.bar x.what.key)
 quiet_alone target rows r x Next alone = refl
 quiet_alone target rows r x phase alone = alone
@@ -319,7 +316,7 @@ module _ (t : Turn) (alone : partner t.w.what.peer t.w.phase ≡ None) (live : I
 
   judges_good : t.w.part ≡ Drops → (enough : Bool) (next : Option ℕ) (side : Side) → next_by t.read t.w ≡ next → side_of t.w ≡ side → GoodMade t (judges t enough next side)
   judges_good part false (Some peer) side next is = goes_to_good peer (find_unasked t peer next)
-  judges_good part false None side next is = ends_good t alone live (lacking t)
+  judges_good part false None side next is = ends_good t alone live (lacking_outcome t)
   judges_good part true next Local asks is = removes_good
   judges_good part true next Remote asks is = goes_to_good (target t) (walks.target_free part is)
 

@@ -6,6 +6,7 @@ use Rattle.std.proofs.lemmas.Bool.{true≢false, and_parts, eqb-true}
 use Rattle.std.proofs.lemmas.Bool.Decides.{nat_tests}
 use Rattle.std.proofs.lemmas.List.Elements.{All-from_recursion}
 use Rattle.std.proofs.lemmas.List.Kept.{AllPairs-cons}
+use Rattle.std.proofs.lemmas.List.{map-append}
 use Rattle.annex_base.specs.Lists.{Each, Member}
 use Rattle.annex_base.proofs.Lists.{Each-filter, Each-append, Each-left, Each-right, Each-weaker, Each-passes}
 use Rattle.annex_base.proofs.Conditions.{eqb_refl}
@@ -19,7 +20,6 @@ use Rattle.run_data.specs.declared.entry.Entry.{Entry}
 use Rattle.run_data.specs.declared.run.RepoView.{RepoView}
 use Rattle.node_model.specs.Evidence.{Fails, Gives, Offer, but, candidates, gather, pick, reached_candidates}
 use Rattle.run_model.specs.Drops.{offer_from, evidence, waits}
-use Rattle.race_core.proofs.OwnPasts.{map_append}
 use Rattle.race_core.proofs.Lists.{count_by-cons, count_by-yes}
 use Rattle.race_core.proofs.Gather.{MatchSide, count_by-but, reached_each}
 
@@ -98,7 +98,7 @@ gather_apart side need ask (c ∷ cs) items h = go (λ more k. gather_apart side
     go ih true o = apart_left (repos_in items) (c ∷ cs) h
     go ih false (Gives kind) =
         let i : Evidence = record { repo = c; kind = kind } in
-        let same : repos_in (items ++ i ∷ []) ++ cs ≡ repos_in items ++ c ∷ cs = ap (λ xs. xs ++ cs) (map_append (λ (x : Evidence). x.repo) items (i ∷ [])) ∙ append_assoc (repos_in items) (c ∷ []) cs in
+        let same : repos_in (items ++ i ∷ []) ++ cs ≡ repos_in items ++ c ∷ cs = ap (λ xs. xs ++ cs) (map-append (λ (x : Evidence). x.repo) items (i ∷ [])) ∙ append_assoc (repos_in items) (c ∷ []) cs in
         ih (items ++ i ∷ []) (subst Apart (sym same) h)
     go ih false Fails = ih items (apart_without (repos_in items) c cs h)
 

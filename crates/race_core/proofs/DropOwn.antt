@@ -41,7 +41,7 @@ use Rattle.node_model.specs.Ends.{EndName, frames, is_opening}
 use Rattle.node_model.specs.AnyTime.{MayCome}
 use Rattle.race_core.proofs.ServerAnswers
 use Rattle.node_model.specs.Jobs
-use Rattle.node_model.specs.Jobs.{Held, Lacks, Seen, Unseen, Work, heard_of, running, side_of, target_of, job_end}
+use Rattle.node_model.specs.Jobs.{Held, Lacks, Seen, Unseen, Work, heard_of, running_job, side_of, target_of, job_end}
 use Rattle.node_model.specs.Knows.{is_unasked, need_of, standing_of}
 use Rattle.race_core.proofs.Knowing.{known, knows_enough}
 use Rattle.node_model.specs.Found
@@ -81,7 +81,7 @@ waiting_is (Ignored cause) h c e = absurd (cc)
 pub list_agrees : SentAreRead → (s : SetUp) (past : List Entry) → OwnPast s past → (w : Work) → Member w (works past s.number) → Agrees s past w
 list_agrees reads_back s past h w m = record { standing_is = standing; heard_is = lists.heard_is; waits_too = waits }
   where
-    lists : Lists s past (running w) w.heard
+    lists : Lists s past (running_job w) w.heard
     lists = (heard_holds reads_back s past h w m).lists
 
     standing : (c : ℕ) → standing_of s (state_of s past) w c ≡ Rattle.run_model.specs.Drops.standing s.repos past s.number w.number c

@@ -8,7 +8,7 @@ use Rattle.run_data.specs.declared.entry.Entry.{Entry}
 use Rattle.run_data.specs.declared.entry.FrameText.TheVariants.{Opening}
 use Rattle.run_data.specs.declared.job.JobKind.{JobKind}
 use Rattle.run_data.specs.declared.job.Job.{Job}
-use Rattle.node_model.specs.Slots.{Running}
+use Rattle.node_model.specs.Slots.{RunningJob}
 use Rattle.run_model.specs.Past.{is_of}
 use Rattle.node_model.specs.SetUp.{SetUp, others}
 use Rattle.run_model.specs.States.{rows_at, works}
@@ -111,7 +111,7 @@ module _ (reads_back : SentAreRead) (s : SetUp) (past : List Entry) (e : Entry) 
       good = subst (λ q. GoodTo v.part v.phase q y.phase) part all
 
       what : y.what ≡ v.what
-      what = ap (λ (j : Running). j.what) (kind_kept (rows_at past s.number) s.number v e e.kind)
+      what = ap (λ (j : RunningJob). j.what) (kind_kept (rows_at past s.number) s.number v e e.kind)
 
       on' : partner v.what.peer y.phase ≡ Some p
       on' = ap (λ (w : Job). partner w.peer y.phase) (sym what) ∙ on

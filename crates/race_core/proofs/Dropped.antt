@@ -3,6 +3,7 @@ use Rattle.std.proofs.Common.{◌≡◌, ℕ, ◌+◌, ◌<◌, true, false, Lis
 use Rattle.std.specs.Prelude.{◌≢◌, slice_get}
 use Rattle.std.proofs.lemmas.Option.{same_Some}
 use Rattle.annex_base.specs.Lists.{Member}
+use Rattle.annex_base.proofs.Pasts.{past_before}
 use Rattle.race_core.proofs.Below.{SentAreRead}
 use Rattle.drop_proof.specs.declared.rule.Need.{Need}
 use Rattle.drop_proof.specs.declared.rule.Side.TheVariants.{Remote}
@@ -13,12 +14,12 @@ use Rattle.run_data.specs.declared.entry.EntryKind.TheVariants.{Gone, Order}
 use Rattle.run_data.specs.declared.run.RepoView.{RepoView}
 use Rattle.run_data.specs.declared.run.Run.{Run}
 use Rattle.run_model.specs.Past.{is_of}
-use Rattle.run_model.specs.Frames.{Sent, sender, sent_of}
+use Rattle.run_model.specs.Frames.{SendingEntry, sender, sending_entry}
 use Rattle.run_model.specs.Logs.{need_read}
 use Rattle.run_model.specs.Drops.{Vouch, is_done, evidence, key_of, reply, vouches}
 use Rattle.run_model.specs.Safety.{Removal, local_removal, past_at, removal, remote_removal}
 use Rattle.run_model.specs.Run.{IsRun}
-use Rattle.race_core.specs.Lawful.{Lawful, LawfulPast}
+use Rattle.race_core.specs.Lawful.{IsLawfulEntry, IsLawfulPast}
 use Rattle.race_core.proofs.Own.{Meets, MessagePast, OneClock}
 use Rattle.race_core.specs.Places.{removal_at}
 use Rattle.race_core.specs.Readings.{Judge, judge_at, judge_by}
@@ -26,7 +27,6 @@ use Rattle.race_core.proofs.Changes.{Obeys, Removes, order_is, removal_was, repo
 use Rattle.race_core.proofs.Gather.{MatchSide}
 use Rattle.race_core.proofs.Flights.{always_before, occurs_vouches}
 use Rattle.race_core.proofs.Facts.{Facts, local_drop}
-use Rattle.race_core.proofs.Pasts.{past_before}
 use Rattle.race_core.proofs.Latest
 use Rattle.race_core.proofs.Latest.{facts_of}
 use Rattle.race_core.proofs.Known.{evidence_known}
@@ -46,12 +46,12 @@ pub meets_at : SentAreRead → (run : Run) (place : ℕ) (e : Entry) → IsRun r
 meets_at reads_back run place e h at =
     let k : Meets run.repos (past_at run place) e × MessagePast run.repos (past_at run place) = subst (λ past. MessagePast run.repos past) (past_next run place e at) (messages_at reads_back run (place + 1) h) in k.0
 
-lawful_past : SentAreRead → (run : Run) (place : ℕ) → IsRun run → LawfulPast run.repos (past_at run place)
+lawful_past : SentAreRead → (run : Run) (place : ℕ) → IsRun run → IsLawfulPast run.repos (past_at run place)
 lawful_past reads_back run place h = Latest.lawful_at run.repos place run.entries (runs_are_lawful reads_back run h).steps
 
-pub lawful_at : SentAreRead → (run : Run) (place : ℕ) (e : Entry) → IsRun run → slice_get run.entries place ≡ Some e → Lawful run.repos (past_at run place) e
+pub lawful_at : SentAreRead → (run : Run) (place : ℕ) (e : Entry) → IsRun run → slice_get run.entries place ≡ Some e → IsLawfulEntry run.repos (past_at run place) e
 lawful_at reads_back run place e h at =
-    let k : Lawful run.repos (past_at run place) e × LawfulPast run.repos (past_at run place) = subst (λ past. LawfulPast run.repos past) (past_next run place e at) (lawful_past reads_back run (place + 1) h) in k.0
+    let k : IsLawfulEntry run.repos (past_at run place) e × IsLawfulPast run.repos (past_at run place) = subst (λ past. IsLawfulPast run.repos past) (past_next run place e at) (lawful_past reads_back run (place + 1) h) in k.0
 
 pub facts_at : SentAreRead → (run : Run) (place : ℕ) → IsRun run → Facts run.repos (past_at run place)
 facts_at reads_back run place h = facts_of run.repos (past_at run place) (lawful_past reads_back run place h)
@@ -73,7 +73,7 @@ pub record Dropped (repos : List RepoView) (past : List Entry) (key : List ℕ) 
   pub open' : is_done past judge.repo judge.job ≡ false
 
 -- who judged, where the content goes by an order
-pub order_judge : (past : List Entry) (e : Entry) (r a slot j target : ℕ) (deadline : Option ℕ) (need : Need) (key k : List ℕ) (s : Sent) → is_of r e ≡ true → e.kind ≡ Gone (Peer a slot) key
+pub order_judge : (past : List Entry) (e : Entry) (r a slot j target : ℕ) (deadline : Option ℕ) (need : Need) (key k : List ℕ) (s : SendingEntry) → is_of r e ≡ true → e.kind ≡ Gone (Peer a slot) key
     → sender past r e.taken ≡ Some s → s.entry.kind ≡ Order j target deadline need k → judge_by past e.repo e.taken e.kind ≡ Some (record { repo = a; job = j; past = s.before })
 order_judge past e r a slot j target deadline need key k s is kind from order = rw (repo_of e r is, kind, from, order) refl
 
@@ -118,8 +118,8 @@ module _ (reads_back : SentAreRead) (run : Run) (place : ℕ) (e : Entry) (h : I
       let from = sender_at (past_at run place) t.r e.taken ob.f it ob.takes_it mt.next in
       let judge : Judge = record { repo = t.a; job = o.j; past = it.before } in
       let enough : is_enough Remote o.need (evidence Remote run.repos it.before t.a o.j t.r o.need) ≡ true = ap (is_enough Remote o.need) (evidence_known Remote run.repos it.before t.a o.j t.r o.need before) ∙ o.found.enough in
-      let y : Removal = remote_removal run.repos (past_at run place) t.r t.a o.j o.need (sent_of it) in
-      let y_is : removal run.repos (past_at run place) key e ≡ Some y = order_is run.repos e (past_at run place) t.r t.a t.slot o.j ob.deadline o.need key (sent_of it) t.repo_is t.kind_is from o.repo_is o.kind_is in
+      let y : Removal = remote_removal run.repos (past_at run place) t.r t.a o.j o.need (sending_entry it) in
+      let y_is : removal run.repos (past_at run place) key e ≡ Some y = order_is run.repos e (past_at run place) t.r t.a t.slot o.j ob.deadline o.need key (sending_entry it) t.repo_is t.kind_is from o.repo_is o.kind_is in
       let there : Dropped run.repos (past_at run place) key e y judge = record {
         r = t.r;
         repo_is = t.repo_is;
@@ -134,7 +134,7 @@ module _ (reads_back : SentAreRead) (run : Run) (place : ℕ) (e : Entry) (h : I
         one_clock = o.found.one_clock;
         open' = ordered_open run.repos (past_at run place) e t.r t.a key k mt o;
       } in
-      (judge, order_judge (past_at run place) e t.r t.a t.slot o.j t.r ob.deadline o.need key key (sent_of it) t.repo_is t.kind_is from o.kind_is, subst (λ (z : Removal). Dropped run.repos (past_at run place) key e z judge) (same_Some y x (sym y_is ∙ is)) there)
+      (judge, order_judge (past_at run place) e t.r t.a t.slot o.j t.r ob.deadline o.need key key (sending_entry it) t.repo_is t.kind_is from o.kind_is, subst (λ (z : Removal). Dropped run.repos (past_at run place) key e z judge) (same_Some y x (sym y_is ∙ is)) there)
 
   found : (x : Removal) → removal_at run key place e ≡ Some x → (judge : Judge) × (judge_at run place e ≡ Some judge) × Dropped run.repos (past_at run place) key e x judge
   found x is = elim (removal_was run.repos e (past_at run place) key x is) [ inl t ↦ by_own x t | inr t ↦ by_order x is t ]

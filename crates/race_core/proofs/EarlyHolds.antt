@@ -37,7 +37,7 @@ use Rattle.node_model.specs.SetUp.{SetUp}
 use Rattle.node_model.specs.Sessions.{line_in}
 use Rattle.node_model.specs.Ends.{end_after}
 use Rattle.node_model.specs.Jobs
-use Rattle.node_model.specs.Jobs.{AsksLock, AsksLook, Drops, Fresh, GetsBytes, GetsData, GetsWord, Gets, Greets, Heard, Held, Next, Orders, Part, Phase, Puts, PutsAnswer, PutsBytes, PutsOffer, PutsWord, Rows, Work, claims, closed_part, fault_of, fault_phase, first_look, after_gain, gets_bytes, gets_more, heard_of, hears, hears_frame, job_end, learns, listens, put_from, puts_answer, puts_bytes, puts_more, quiet, says, says_some, sends, talks, talks_on, target_of, to_phase, took, took_line, after_transfer, after_failed_release, word_taken, work_after, work_kind, works_after}
+use Rattle.node_model.specs.Jobs.{AsksLock, AsksLook, Drops, Fresh, GetsBytes, GetsData, GetsWord, Gets, Greets, Heard, Held, Next, Orders, Part, Phase, Puts, PutsAnswer, PutsBytes, PutsOffer, PutsWord, RowsAndEnds, Work, claims, closed_part, fault_of, fault_phase, first_look, after_gain, gets_bytes, gets_more, heard_of, hears, hears_frame, job_end, learns, listens, put_from, puts_answer, puts_bytes, puts_more, quiet, says, says_some, sends, talks, talks_on, target_of, to_phase, after_frame, after_line, after_transfer, after_failed_release, word_taken, work_after, work_kind, works_after}
 use Rattle.run_model.specs.States.{rows_at, works, state_of}
 use Rattle.race_core.proofs.Knowing.{candidates_of, is_to_ask, known, knows}
 use Rattle.node_model.specs.Knows.{heard_offer, need_of, offer_by, standing_of}
@@ -137,7 +137,7 @@ module _ (b : ℕ) where
   listens_early w (PutsAnswer peer start) Failure h a = record { phase = tt; heard = a.heard }
   listens_early w phase m h a = a
 
-  line_early : (w : Work) (m : Option Message) → Early b w → Early b (took_line w m)
+  line_early : (w : Work) (m : Option Message) → Early b w → Early b (after_line w m)
   line_early w None a = a
   line_early w (Some m) a = listens_early w w.phase m a.phase a
 
@@ -145,7 +145,7 @@ module _ (b : ℕ) where
   bytes_get_early n (GetsBytes peer start size left) h = gets_early peer start (size + n) (left - n)
   bytes_get_early n phase h = h
 
-  took_early : (w : Work) (body : FrameText) → Early b w → Early b (took w body)
+  took_early : (w : Work) (body : FrameText) → Early b w → Early b (after_frame w body)
   took_early w (Bytes n) a = to_early w (gets_bytes n w.phase) a (bytes_get_early n w.phase a.phase)
   took_early w (Line text) a = line_early w (message_of text) a
   took_early w body a = a
@@ -156,20 +156,20 @@ module _ (b : ℕ) where
   first_early r w Drops true (Some i) a = heard_early w r (Jobs.Lacks causes.Barred) a tt
   first_early r w part here bar a = to_early w Next a tt
 
-  quiet_early : (rows : Rows) (r : ℕ) (w : Work) (phase : Phase) → Early b w → Early b (quiet rows r w phase)
+  quiet_early : (rows : RowsAndEnds) (r : ℕ) (w : Work) (phase : Phase) → Early b w → Early b (quiet rows r w phase)
   quiet_early rows r w Fresh a = first_early r w w.part (rows.present w.what.key) (rows.bar w.what.key) a
   quiet_early rows r w Next a = record { phase = tt; heard = a.heard }
   quiet_early rows r w phase a = a
 
-  frame_early : (rows : Rows) (r : ℕ) (w : Work) (taken : Option FrameView) → Early b w → Early b (hears_frame rows r w taken)
+  frame_early : (rows : RowsAndEnds) (r : ℕ) (w : Work) (taken : Option FrameView) → Early b w → Early b (hears_frame rows r w taken)
   frame_early rows r w None a = quiet_early rows r w w.phase a
   frame_early rows r w (Some f) a = took_early w f.body a
 
-  talks_early : (rows : Rows) (r : ℕ) (w : Work) (e : Entry) (fs : List FrameView) → e.time ≤ b → Early b w → Early b (talks rows r w e fs)
+  talks_early : (rows : RowsAndEnds) (r : ℕ) (w : Work) (e : Entry) (fs : List FrameView) → e.time ≤ b → Early b w → Early b (talks rows r w e fs)
   talks_early rows r w e (f ∷ fs) t a = sends_early w e.time f.peer (Jobs.taken_message e.taken) f.body t a
   talks_early rows r w e [] t a = frame_early rows r w e.taken a
 
-  on_early : (rows : Rows) (r : ℕ) (w : Work) (e : Entry) (p : Option ℕ) → e.time ≤ b → Early b w → Early b (talks_on rows r w e p)
+  on_early : (rows : RowsAndEnds) (r : ℕ) (w : Work) (e : Entry) (p : Option ℕ) → e.time ≤ b → Early b w → Early b (talks_on rows r w e p)
   on_early rows r w e None t a = talks_early rows r w e e.sent t a
   on_early rows r w e (Some peer) t a =
       if_either (Early b) (end_after (job_end w peer) (rows.ends (job_end w peer)) e).opened (talks rows r w e e.sent) (closed_part r w peer w.part)
@@ -201,7 +201,7 @@ module _ (b : ℕ) where
   gained_early w (GetsWord peer start size) a = transferred_early w (outcomes.Got (Some peer) (Some start)) a
   gained_early w phase a = a
 
-  kind_early : (rows : Rows) (r : ℕ) (w : Work) (e : Entry) (kind : EntryKind) → e.time ≤ b → Early b w → Early b (work_kind rows r w e kind)
+  kind_early : (rows : RowsAndEnds) (r : ℕ) (w : Work) (e : Entry) (kind : EntryKind) → e.time ≤ b → Early b w → Early b (work_kind rows r w e kind)
   kind_early rows r w e (Fault call owner) t a = call_early r w e.time call a
   kind_early rows r w e (Bar job need key) t a = to_early w Next a tt
   kind_early rows r w e (Share hold end owner key) t a = heard_early w r (Held e.time) a t
@@ -211,10 +211,10 @@ module _ (b : ℕ) where
       let x = claims w w.part w.phase in
       on_early rows r (learns x w.phase e.taken) e (Jobs.partner w.what.peer w.phase) t (learns_early x w.phase e.taken (claims_early w w.part w.phase a))
 
-  after_early : (rows : Rows) (r : ℕ) (e : Entry) (w : Work) → e.time ≤ b → Early b w → Early b (work_after rows r e w)
+  after_early : (rows : RowsAndEnds) (r : ℕ) (e : Entry) (w : Work) → e.time ≤ b → Early b w → Early b (work_after rows r e w)
   after_early rows r e w t a = if_either (Early b) (option_is (job_of e.kind) w.number) (work_kind rows r w e e.kind) w (λ h. kind_early rows r w e e.kind t a) (λ h. a)
 
-  all_early : (rows : Rows) (r : ℕ) (e : Entry) (ws : List Work) → e.time ≤ b → Each (Early b) ws → Each (Early b) (map (work_after rows r e) ws)
+  all_early : (rows : RowsAndEnds) (r : ℕ) (e : Entry) (ws : List Work) → e.time ≤ b → Each (Early b) ws → Each (Early b) (map (work_after rows r e) ws)
   all_early rows r e [] t a = tt
   all_early rows r e (w ∷ ws) t a = (after_early rows r e w t a.0, all_early rows r e ws t a.1)
 
@@ -226,7 +226,7 @@ module _ (b : ℕ) where
       go more true is = rw is (a.0, more)
       go more false is = rw is more
 
-  step_early : (rows : Rows) (r : ℕ) (ws : List Work) (e : Entry) (kind : EntryKind) → e.time ≤ b → Each (Early b) ws → Each (Early b) (works_after rows r ws e kind)
+  step_early : (rows : RowsAndEnds) (r : ℕ) (ws : List Work) (e : Entry) (kind : EntryKind) → e.time ≤ b → Each (Early b) ws → Each (Early b) (works_after rows r ws e kind)
   step_early rows r ws e (Begin job what) t a = (record { phase = tt; heard = tt }, a)
   step_early rows r ws e (ends_job job outcome) t a = filter_early (λ w. not (w.number == job)) ws a
   step_early rows r ws e (Crash clock) t a = tt

@@ -21,14 +21,14 @@ use Rattle.run_data.specs.declared.job.DropRefusal.TheVariants as refusals
 use Rattle.run_data.specs.declared.job.TransferRefusal.{TransferRefusal}
 use Rattle.run_data.specs.declared.job.TransferRefusal.TheVariants as failures
 use Rattle.run_data.specs.declared.job.Cause.TheVariants as causes
-use Rattle.node_model.specs.Slots.{Running}
+use Rattle.node_model.specs.Slots.{RunningJob}
 use Rattle.p2p_wire.specs.declared.message.Message.{Message}
 use Rattle.p2p_wire.specs.declared.message.Message.TheVariants.{AlreadyHave, CheckPresent, Data, Error, Failure, Get, GetTimestamp, LockContent, Put, PutFrom, Remove, RemoveBefore, Success, Valid, Version}
 use Rattle.p2p_wire.specs.Messages.{order_of, message_of}
 use Rattle.node_model.specs.Sessions.{line_in}
 use Rattle.node_model.specs.Ends.{end_after}
 use Rattle.node_model.specs.Jobs
-use Rattle.node_model.specs.Jobs.{AsksLock, AsksLook, AsksTime, Denied, Drops, Ends, Fresh, GetsBytes, GetsData, GetsWord, Gets, Greets, Late, Next, Orders, Part, Phase, Puts, PutsAnswer, PutsBytes, PutsOffer, PutsWord, Rows, Work, claims, closed_part, fault_of, fault_phase, first_look, after_gain, hears_frame, is_move, is_ordered, job_end, learns, listens, partner, quiet, running, says, says_some, sends, side_of, stores_fault, talks, talks_on, target_of, to_phase, took, took_line, after_transfer, after_failed_release, word_taken, work_kind}
+use Rattle.node_model.specs.Jobs.{AsksLock, AsksLook, AsksTime, Denied, Drops, Ends, Fresh, GetsBytes, GetsData, GetsWord, Gets, Greets, Late, Next, Orders, Part, Phase, Puts, PutsAnswer, PutsBytes, PutsOffer, PutsWord, RowsAndEnds, Work, claims, closed_part, fault_of, fault_phase, first_look, after_gain, hears_frame, is_move, is_ordered, job_end, learns, listens, partner, quiet, running_job, says, says_some, sends, side_of, stores_fault, talks, talks_on, target_of, to_phase, after_frame, after_line, after_transfer, after_failed_release, word_taken, work_kind}
 use Rattle.race_core.proofs.TalkFacts.{Fits}
 use Rattle.race_core.proofs.PhaseFacts.{is_fresh, readies_place}
 use Rattle.race_core.proofs.JobKept.{claims_kept, learns_kept}
@@ -48,7 +48,7 @@ pub record SaysFirst (e : Entry) (m : Message) : Type 0 where
   pub told : line_in f.body ≡ Some m
 
 -- the connection on which the job stands is closed then
-pub record ShutOn (rows : Rows) (w : Work) (e : Entry) : Type 0 where
+pub record ShutOn (rows : RowsAndEnds) (w : Work) (e : Entry) : Type 0 where
   pub peer : ℕ
   pub on : partner w.what.peer w.phase ≡ Some peer
   pub closed : (end_after (job_end w peer) (rows.ends (job_end w peer)) e).opened ≡ false
@@ -69,21 +69,21 @@ IsTalking (Gain source size key) = ⊥
 IsTalking kind = Unit {0}
 
 -- why a drop's refusal stands
-abbrev pub DropReason : Rows → ℕ → Work → Entry → EntryKind → DropRefusal → Type 0
+abbrev pub DropReason : RowsAndEnds → ℕ → Work → Entry → EntryKind → DropRefusal → Type 0
 DropReason rows r w e kind (refusals.Lost ordered) = (x : ShutOn rows w e) × (w.part ≡ Drops) × (target_of r w ≡ x.peer) × (ordered ≡ is_ordered w.phase)
 DropReason rows r w e kind (refusals.OldProtocol n) = IsTalking kind × (((peer : ℕ) × (w.phase ≡ Greets peer) × HearsOnly e (Version n)) ⊎ ((w.phase ≡ Next) × (e.taken ≡ None) × (e.sent ≡ []) × (n ≡ w.version)))
 DropReason rows r w e kind refusals.StoreFault = (w.part ≡ Drops) × CallFailed kind × (side_of w ≡ Remote → is_fresh w.phase ≡ false)
 DropReason rows r w e kind refusal = ⊥
 
 -- and a transfer's
-abbrev pub TransferReason : Rows → Work → Entry → EntryKind → TransferRefusal → Type 0
+abbrev pub TransferReason : RowsAndEnds → Work → Entry → EntryKind → TransferRefusal → Type 0
 TransferReason rows w e kind failures.Busy = (peer : ℕ) × (text : List ℕ) × (w.phase ≡ PutsOffer peer) × HearsOnly e (Error text)
 TransferReason rows w e kind failures.Closed = ShutOn rows w e × (w.part ≡ Puts)
 TransferReason rows w e kind failures.Rejected = (peer : ℕ) × ((w.phase ≡ PutsOffer peer) ⊎ ((start : ℕ) × (w.phase ≡ PutsAnswer peer start))) × HearsOnly e Failure
 TransferReason rows w e kind failures.StoreFault = (w.part ≢ Drops) × CallFailed kind
 TransferReason rows w e kind refusal = ⊥
 
-abbrev pub OutcomeReason : Rows → ℕ → Work → Entry → EntryKind → Outcome → Type 0
+abbrev pub OutcomeReason : RowsAndEnds → ℕ → Work → Entry → EntryKind → Outcome → Type 0
 OutcomeReason rows r w e kind (Refused refusal) = DropReason rows r w e kind refusal
 OutcomeReason rows r w e kind (TransferRefused refusal) = TransferReason rows w e kind refusal
 OutcomeReason rows r w e kind outcome = Unit {0}
@@ -110,7 +110,7 @@ SendsMore w e peer start at left = ((from : ℕ) × (before : ℕ) × (n : ℕ) 
     ⊎ (SaysFirst e (Data left) × (Jobs.taken_message e.taken ≡ Some (PutFrom at)))
 
 -- why the job stands there
-abbrev pub Reason : Rows → ℕ → Work → Entry → EntryKind → Phase → Type 0
+abbrev pub Reason : RowsAndEnds → ℕ → Work → Entry → EntryKind → Phase → Type 0
 Reason rows r w e kind Denied = (w.phase ≡ Orders) × HearsOnly e Failure
 Reason rows r w e kind (Late time) = (w.phase ≡ AsksTime) × ((owner : By) × (kind ≡ Fault Unhold owner)) × (time ≡ e.time)
 Reason rows r w e kind (Ends outcome) = OutcomeReason rows r w e kind outcome
@@ -121,10 +121,10 @@ Reason rows r w e kind (PutsBytes peer start at left) = SendsMore w e peer start
 Reason rows r w e kind phase = Unit {0}
 
 -- it stays, or it comes to another phase for that reason
-abbrev pub Reasoned : Rows → ℕ → Work → Entry → EntryKind → Work → Type 0
+abbrev pub Reasoned : RowsAndEnds → ℕ → Work → Entry → EntryKind → Work → Type 0
 Reasoned rows r w e kind x = (x.phase ≡ w.phase) ⊎ Reason rows r w e kind x.phase
 
-module _ (rows : Rows) (r : ℕ) (e : Entry) (kind : EntryKind) where
+module _ (rows : RowsAndEnds) (r : ℕ) (e : Entry) (kind : EntryKind) where
   abbrev Stood : Work → Work → Type 0
   Stood w x = Reasoned rows r w e kind x
 
@@ -205,11 +205,11 @@ module _ (rows : Rows) (r : ℕ) (e : Entry) (kind : EntryKind) where
   gets_stood w n (GetsBytes peer start size left) is = gets_more_stood w peer start (size + n) (left - n)
   gets_stood w n phase is = inl (sym is)
 
-  took_stood : IsTalking kind → (w : Work) (f : FrameView) → e.taken ≡ Some f → e.sent ≡ [] → (body : FrameText) → f.body ≡ body → Stood w (took w body)
+  took_stood : IsTalking kind → (w : Work) (f : FrameView) → e.taken ≡ Some f → e.sent ≡ [] → (body : FrameText) → f.body ≡ body → Stood w (after_frame w body)
   took_stood k w f takes sends (Bytes n) is = gets_stood w n w.phase refl
   took_stood k w f takes sends (Line text) is = line (message_of text) (ap line_in is)
     where
-      line : (m : Option Message) → line_in f.body ≡ m → Stood w (took_line w m)
+      line : (m : Option Message) → line_in f.body ≡ m → Stood w (after_line w m)
       line None h = inl refl
       line (Some m) h = listens_stood k w w.phase m refl (record { f = f; takes_it = takes; told = h; sends_none = sends })
   took_stood k w f takes sends body is = inl refl
@@ -266,7 +266,7 @@ module _ (rows : Rows) (r : ℕ) (e : Entry) (kind : EntryKind) where
 
 -- the same job, at the same place
 pub record Like (w y : Work) : Type 0 where
-  pub job_is : running y ≡ running w
+  pub job_is : running_job y ≡ running_job w
   pub part_is : y.part ≡ w.part
   pub phase_is : y.phase ≡ w.phase
   pub version_is : w.phase ≡ Next → y.version ≡ w.version
@@ -284,15 +284,15 @@ talker_like w taken = record {
     next Puts = refl
     next Drops = refl
 
-module _ (rows : Rows) (r : ℕ) (e : Entry) (kind : EntryKind) (w y : Work) (like : Like w y) where
+module _ (rows : RowsAndEnds) (r : ℕ) (e : Entry) (kind : EntryKind) (w y : Work) (like : Like w y) where
   what_is : y.what ≡ w.what
-  what_is = ap (λ (j : Running). j.what) like.job_is
+  what_is = ap (λ (j : RunningJob). j.what) like.job_is
 
   pub shut_like : ShutOn rows y e → ShutOn rows w e
   shut_like x = record {
     peer = x.peer;
     on = sym (λ i. partner (what_is i).peer (like.phase_is i)) ∙ x.on;
-    closed = subst (λ (n : ℕ). (end_after (record { peer = x.peer; slot = n; client = true }) (rows.ends (record { peer = x.peer; slot = n; client = true })) e).opened ≡ false) (ap (λ (j : Running). j.slot) like.job_is) x.closed;
+    closed = subst (λ (n : ℕ). (end_after (record { peer = x.peer; slot = n; client = true }) (rows.ends (record { peer = x.peer; slot = n; client = true })) e).opened ≡ false) (ap (λ (j : RunningJob). j.slot) like.job_is) x.closed;
   }
 
   pub shut_same : (x : ShutOn rows y e) → (shut_like x).peer ≡ x.peer
@@ -301,10 +301,10 @@ module _ (rows : Rows) (r : ℕ) (e : Entry) (kind : EntryKind) (w y : Work) (li
 
   drop_like : (refusal : DropRefusal) → DropReason rows r y e kind refusal → DropReason rows r w e kind refusal
   unfolding shut_like
-  drop_like (refusals.Lost ordered) x = (shut_like x.0, sym like.part_is ∙ x.1, ap (λ (q : Running). Jobs.or_own r (Jobs.drop_side q.what.kind q.what.peer) q.what.peer) (sym like.job_is) ∙ x.2, x.3 ∙ ap is_ordered like.phase_is)
+  drop_like (refusals.Lost ordered) x = (shut_like x.0, sym like.part_is ∙ x.1, ap (λ (q : RunningJob). Jobs.or_own r (Jobs.drop_side q.what.kind q.what.peer) q.what.peer) (sym like.job_is) ∙ x.2, x.3 ∙ ap is_ordered like.phase_is)
   drop_like (refusals.OldProtocol n) (k, inl x) = (k, inl (x.0, sym like.phase_is ∙ x.1, x.2))
   drop_like (refusals.OldProtocol n) (k, inr x) = let is : w.phase ≡ Next = sym like.phase_is ∙ x.0 in (k, inr (is, x.1, x.2, x.3 ∙ like.version_is is))
-  drop_like refusals.StoreFault x = (sym like.part_is ∙ x.0, x.1, λ remote. ap is_fresh (sym like.phase_is) ∙ x.2 (ap (λ (q : Running). Jobs.drop_side q.what.kind q.what.peer) like.job_is ∙ remote))
+  drop_like refusals.StoreFault x = (sym like.part_is ∙ x.0, x.1, λ remote. ap is_fresh (sym like.phase_is) ∙ x.2 (ap (λ (q : RunningJob). Jobs.drop_side q.what.kind q.what.peer) like.job_is ∙ remote))
   drop_like refusal x = absurd x
 
   transfer_like : (refusal : TransferRefusal) → TransferReason rows y e kind refusal → TransferReason rows w e kind refusal
@@ -338,7 +338,7 @@ module _ (rows : Rows) (r : ℕ) (e : Entry) (kind : EntryKind) (w y : Work) (li
   stood_like x (inr reason) = inr (reason_like x.phase reason)
 
 -- **where a refusal comes from**: a job's entry leaves its phase as it is, or brings it to a phase for its reason
-pub kind_reason : (rows : Rows) (r : ℕ) (w : Work) (e : Entry) (kind : EntryKind) → Reasoned rows r w e kind (work_kind rows r w e kind)
+pub kind_reason : (rows : RowsAndEnds) (r : ℕ) (w : Work) (e : Entry) (kind : EntryKind) → Reasoned rows r w e kind (work_kind rows r w e kind)
 kind_reason rows r w e (Fault call owner) = call_stood rows r e (Fault call owner) w call owner refl
 kind_reason rows r w e (Bar job need key) = inr (inr (inr (inr tt)))
 kind_reason rows r w e (Share hold end owner key) = inr (inr (inr (inr tt)))

@@ -27,7 +27,7 @@ use Rattle.node_model.specs.Jobs.{AsksTime, Drops, Gets, Greets, Next, Part, Pha
 use Rattle.node_model.specs.Look.{Made, waiting}
 use Rattle.node_model.specs.Knows.{enough_by, next_by}
 use Rattle.node_model.specs.JobStep.{Turn, attempts, by_me, clock_of, end_with, ends, farewells, hears, key_of, quietly, says_to, sends_to, talk, wrong}
-use Rattle.node_model.specs.DropStep.{asks_copy, asks_lock, asks_target, first_end, in_time, expiry, lacking, orders, takes_drop, takes_time, target, times}
+use Rattle.node_model.specs.DropStep.{asks_copy, asks_lock, asks_target, first_end, in_time, expiry, lacking_outcome, orders, takes_drop, takes_time, target, times}
 use Rattle.node_model.specs.Requests.{asks, goes_to}
 use Rattle.node_model.specs.TransferStep.{next_get, next_source}
 use Rattle.node_model.specs.Turns.{awaits, by_partner, goes, goes_on, has_room, judges, needs, next_step, takes, takes_answer, takes_frame, takes_text, with_partner}
@@ -96,7 +96,7 @@ ends_old t taken outcome = attempts_old t t.w.version _ taken (record { kind = e
 
 judges_old : (t : Turn) (enough : Bool) (next : Option ℕ) (side : Side) → enough_by t.read t.w ≡ enough → next_by t.read t.w ≡ next → QuietOld t t.w.version (judges t enough next side)
 judges_old t false (Some peer) side a b = goes_old t peer (λ part. inr b)
-judges_old t false None side a b = ends_old t None (lacking t)
+judges_old t false None side a b = ends_old t None (lacking_outcome t)
 judges_old t true next Local a b = if_either (QuietOld t t.w.version) (in_time (clock_of t) (first_end t)) (attempts t (calls.Remove ∷ []) None (quietly _ None)) (ends t None (expiry (clock_of t) (first_end t)))
     (λ e. attempts_old t t.w.version (calls.Remove ∷ []) None (quietly _ None) (λ k silent. absurd k)) (λ e. ends_old t None (expiry (clock_of t) (first_end t)))
 judges_old t true next Remote a b = goes_old t (target t) (λ part. inl a)
@@ -230,7 +230,7 @@ expired_enough t clk (Some end) enough = attempts_enough t _ None (record { kind
 
 judges_enough : (t : Turn) (enough : Bool) (next : Option ℕ) (side : Side) → enough_by t.read t.w ≡ enough → EnoughMade t (judges t enough next side)
 judges_enough t false (Some peer) side e = goes_enough t peer
-judges_enough t false None side e = attempts_enough t _ None (record { kind = ends_job t.w.number (lacking t); taken = None; sent = farewells t false; lines = [] }) tt
+judges_enough t false None side e = attempts_enough t _ None (record { kind = ends_job t.w.number (lacking_outcome t); taken = None; sent = farewells t false; lines = [] }) tt
 judges_enough t true next Local e = if_either (EnoughMade t) (in_time (clock_of t) (first_end t)) (attempts t (calls.Remove ∷ []) None (quietly _ None)) (ends t None (expiry (clock_of t) (first_end t)))
     (λ h. attempts_enough t (calls.Remove ∷ []) None (quietly _ None) tt) (λ h. expired_enough t (clock_of t) (first_end t) e)
 judges_enough t true next Remote e = goes_enough t (target t)

@@ -4,11 +4,11 @@ use Rattle.std.specs.Prelude.{◌==◌, slice_get}
 use Rattle.std.proofs.lemmas.Bool.Decides.{nat_tests}
 use Rattle.std.proofs.lemmas.Option.{slice_get_cases}
 use Rattle.std.proofs.lemmas.Bool.{eqb-true}
+use Rattle.annex_base.proofs.Pasts.{past_end}
 use Rattle.run_data.specs.declared.entry.Entry.{Entry}
 use Rattle.run_data.specs.declared.run.Run.{Run}
 use Rattle.run_model.specs.Past.{Occurs}
 use Rattle.run_model.specs.Safety.{past_at}
-use Rattle.race_core.proofs.Pasts.{past_end}
 use Rattle.race_core.proofs.AtPlaces.{past_next}
 
 -- there is an element at the place, or the list has ended

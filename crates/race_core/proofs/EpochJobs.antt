@@ -17,15 +17,15 @@ use Rattle.run_data.specs.declared.entry.FrameText.{FrameText}
 use Rattle.run_data.specs.declared.entry.FrameText.TheVariants.{Opening, Closing, Bytes, Line}
 use Rattle.run_data.specs.declared.job.Job.{Job}
 use Rattle.run_model.specs.Past.{Occurs, is_of, jobs, jobs_after}
-use Rattle.node_model.specs.Slots.{Running, free_slot, job_of}
+use Rattle.node_model.specs.Slots.{RunningJob, free_slot, job_of}
 use Rattle.node_model.specs.Rows.{option_is}
 use Rattle.run_model.specs.Frames.{Way, is_on, takes, up_of}
 use Rattle.race_core.proofs.Ways.{down_of}
 use Rattle.node_model.specs.Ends.{same_bool, End, EndName, end_took, is_opening, may_take, sent_at, server_end, taken_at}
 use Rattle.node_model.specs.SetUp.{SetUp}
 use Rattle.run_model.specs.States.{end_at, works}
-use Rattle.node_model.specs.Jobs.{running}
-use Rattle.node_model.specs.Found.{JobKind}
+use Rattle.node_model.specs.Jobs.{running_job}
+use Rattle.node_model.specs.Found.{IsJobEntry}
 use Rattle.run_model.specs.Run.{OwnPart, OwnRun}
 use Rattle.race_core.proofs.ServerEnds.{GivesHere, TakesHere, end_of, takes_end}
 use Rattle.race_core.proofs.EndMoves.{OpensNone, all_opened, end_own, may_epoch, own_induction, sends_all}
@@ -133,22 +133,22 @@ touched s past words e own a client n i job t = elim (who s past words e own) [
 -- ---- jobs
 
 -- a running job is known by its slot
-same_slot : (js : List Running) → Apart js → (x y : Running) → Member x js → Member y js → x.slot ≡ y.slot → x ≡ y
+same_slot : (js : List RunningJob) → Apart js → (x y : RunningJob) → Member x js → Member y js → x.slot ≡ y.slot → x ≡ y
 same_slot [] a x y m n e = absurd m
 same_slot (j ∷ js) a x y (inl m) (inl n) e = m ∙ sym n
 same_slot (j ∷ js) a x y (inl m) (inr n) e =
-    let at : y.slot ≡ j.slot = sym e ∙ ap (λ (z : Running). z.slot) m in
+    let at : y.slot ≡ j.slot = sym e ∙ ap (λ (z : RunningJob). z.slot) m in
     absurd (true≢false (sym (subst (λ k. Slots.uses js k ≡ true) at (used_slot js y n)) ∙ a.0))
 same_slot (j ∷ js) a x y (inr m) (inl n) e =
-    let at : x.slot ≡ j.slot = e ∙ ap (λ (z : Running). z.slot) n in
+    let at : x.slot ≡ j.slot = e ∙ ap (λ (z : RunningJob). z.slot) n in
     absurd (true≢false (sym (subst (λ k. Slots.uses js k ≡ true) at (used_slot js x m)) ∙ a.0))
 same_slot (j ∷ js) a x y (inr m) (inr n) e = same_slot js a.1 x y m n e
 
 -- a job that runs after an entry ran before it, or begins in the free slot
-pub ran_or : (js : List Running) (kind : EntryKind) (j : Running) → Member j (jobs_after js kind) → Member j js ⊎ ((job : ℕ) × (what : Job) × ((kind ≡ Begin job what) × (j.slot ≡ free_slot js)))
-ran_or js (Begin job what) j (inl m) = inr (job, what, (refl, ap (λ (z : Running). z.slot) m))
+pub ran_or : (js : List RunningJob) (kind : EntryKind) (j : RunningJob) → Member j (jobs_after js kind) → Member j js ⊎ ((job : ℕ) × (what : Job) × ((kind ≡ Begin job what) × (j.slot ≡ free_slot js)))
+ran_or js (Begin job what) j (inl m) = inr (job, what, (refl, ap (λ (z : RunningJob). z.slot) m))
 ran_or js (Begin job what) j (inr m) = inl m
-ran_or js (ends_job job outcome) j m = inl (Member-filter_parts (λ (z : Running). not (z.number == job)) js j m).0
+ran_or js (ends_job job outcome) j m = inl (Member-filter_parts (λ (z : RunningJob). not (z.number == job)) js j m).0
 ran_or js (Crash clock) j m = absurd m
 ran_or js kind j m = inl m
 
@@ -156,7 +156,7 @@ ran_or js kind j m = inl m
 
 -- what touched an open end in its epoch is by the job that runs in its slot
 abbrev pub OneRuns : SetUp → List Entry → EndName → Type 0
-OneRuns s past a = (end_at past s.number a).opened ≡ true → (job : Running) → Member job (jobs past s.number) → job.slot ≡ a.slot → (x : Entry) (before : List Entry) → Occurs past x before → is_of s.number x ≡ true
+OneRuns s past a = (end_at past s.number a).opened ≡ true → (job : RunningJob) → Member job (jobs past s.number) → job.slot ≡ a.slot → (x : Entry) (before : List Entry) → Occurs past x before → is_of s.number x ≡ true
     → (i : ℕ) → job_of x.kind ≡ Some i → Touches a (end_at past s.number a).epoch x → i ≡ job.number
 
 opening_is : (body : FrameText) → is_opening body ≡ true → body ≡ Opening
@@ -204,15 +204,15 @@ module _ (reads_back : SentAreRead) (s : SetUp) (past : List Entry) (e : Entry) 
           inr (omega (arith, grows, opens, same))
 
   -- no job begins in the slot of an end that was open
-  no_begin : c.opened ≡ true → (job : Running) → job.slot ≡ a.slot → (j : ℕ) (what : Job) → e.kind ≡ Begin j what → job.slot ≡ free_slot (jobs past s.number) → ⊥
+  no_begin : c.opened ≡ true → (job : RunningJob) → job.slot ≡ a.slot → (j : ℕ) (what : Job) → e.kind ≡ Begin j what → job.slot ≡ free_slot (jobs past s.number) → ⊥
   no_begin o job slot j what kind free =
       let js = jobs past s.number in
       let x = open_runs reads_back s past run a client o in
-      let few : length js < 4 = subst (λ n. n < 4) (sym (length-map (works past s.number) running) ∙ ap length (jobs_are past s.number)) (begins_few s past words e own j what kind) in
+      let few : length js < 4 = subst (λ n. n < 4) (sym (length-map (works past s.number) running_job) ∙ ap length (jobs_are past s.number)) (begins_few s past words e own j what kind) in
       let at : x.job.slot ≡ free_slot js = x.slot ∙ sym slot ∙ free in
       true≢false (sym (subst (λ n. Slots.uses js n ≡ true) at (used_slot js x.job x.runs)) ∙ free_is js few)
 
-  module _ (old : OneRuns s past a) (job : Running) (runs : Member job (jobs (e ∷ past) s.number)) (slot : job.slot ≡ a.slot) where
+  module _ (old : OneRuns s past a) (job : RunningJob) (runs : Member job (jobs (e ∷ past) s.number)) (slot : job.slot ≡ a.slot) where
     ran : Member job (jobs past s.number) ⊎ ((j : ℕ) × (what : Job) × ((e.kind ≡ Begin j what) × (job.slot ≡ free_slot (jobs past s.number))))
     ran = ran_or (jobs past s.number) e.kind job (subst (Member job) (jobs_own s.number past e is) runs)
 
@@ -220,10 +220,10 @@ module _ (reads_back : SentAreRead) (s : SetUp) (past : List Entry) (e : Entry) 
     by_entry : (i : ℕ) → job_of e.kind ≡ Some i → Touches a d.epoch e → i ≡ job.number
     by_entry i kind t =
         let y = touched s past words e own a client d.epoch i kind t in
-        let one : Member job (jobs past s.number) → job ≡ running y.by.w = λ m. same_slot (jobs past s.number) (jobs_apart s past run) job (running y.by.w) m (stepped_job_runs s past e y.by) (slot ∙ sym y.slot) in
+        let one : Member job (jobs past s.number) → job ≡ running_job y.by.w = λ m. same_slot (jobs past s.number) (jobs_apart s past run) job (running_job y.by.w) m (stepped_job_runs s past e y.by) (slot ∙ sym y.slot) in
         elim (ran) [
-          | inl m ↦ sym y.number ∙ sym (ap (λ (z : Running). z.number) (one m))
-          | inr b ↦ absurd (subst (JobKind (turn_at s past e y.by) y.by.made) (sym (ap (λ (z : Entry). z.kind) y.by.is) ∙ b.2.0) (stepped_found s past e y.by).found)
+          | inl m ↦ sym y.number ∙ sym (ap (λ (z : RunningJob). z.number) (one m))
+          | inr b ↦ absurd (subst (IsJobEntry (turn_at s past e y.by) y.by.made) (sym (ap (λ (z : Entry). z.kind) y.by.is) ∙ b.2.0) (stepped_found s past e y.by).found)
         ]
 
     -- an earlier one
@@ -277,7 +277,7 @@ one_job reads_back s past words e run is own w used j i x before kind o own_x ki
 
     -- the end is open, and at this epoch
     at_epoch : c.opened ≡ true → w.epoch ≡ c.epoch → i ≡ j
-    at_epoch opened same = one_runs reads_back s a refl past run opened (running y.by.w) (stepped_job_runs s past e y.by) y.slot x before o own_x i kind_x (subst (λ n. Touches a n x) same t) ∙ y.number
+    at_epoch opened same = one_runs reads_back s a refl past run opened (running_job y.by.w) (stepped_job_runs s past e y.by) y.slot x before o own_x i kind_x (subst (λ n. Touches a n x) same t) ∙ y.number
 
     go : Touches a w.epoch e → i ≡ j
     go (inl g) =

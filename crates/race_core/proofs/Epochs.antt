@@ -13,7 +13,7 @@ use Rattle.run_data.specs.Repos.{IsSetUp}
 use Rattle.run_model.specs.Past.{is_of}
 use Rattle.node_model.specs.Rows.{option_is}
 use Rattle.run_model.specs.Said.{is_request}
-use Rattle.run_model.specs.Frames.{Flying, MayTake, Way, frames_sent, taken_count, taker_of}
+use Rattle.run_model.specs.Frames.{FlyingFrame, MayTake, Way, frames_sent, taken_count, taker_of}
 use Rattle.node_model.specs.Ends.{End, EndName, end_takes, server_end}
 use Rattle.run_model.specs.States.{end_at}
 use Rattle.run_model.specs.Run.{RunPast, set_up}
@@ -42,7 +42,7 @@ not_both (Some n) a b p apart = go (n == b) refl
 
 module _ (reads_back : SentAreRead) (run : Run) (repos : Each IsSetUp run.repos) where
   -- what was sent is of no later opening
-  pub sent_epoch : (past : List Entry) → RunPast (set_up run) past → (r : ℕ) (a : EndName) (n k : ℕ) (it : Flying) → slice_get (frames_sent past (way_out r a n)) k ≡ Some it → n ≤ (end_at past r a).epoch
+  pub sent_epoch : (past : List Entry) → RunPast (set_up run) past → (r : ℕ) (a : EndName) (n k : ℕ) (it : FlyingFrame) → slice_get (frames_sent past (way_out r a n)) k ≡ Some it → n ≤ (end_at past r a).epoch
   sent_epoch past h r a n k it e =
       let w = way_out r a n in
       let z : Sending past w it = sending past w k it e in
@@ -55,9 +55,9 @@ module _ (reads_back : SentAreRead) (run : Run) (repos : Each IsSetUp run.repos)
   pub none_sent : (past : List Entry) → RunPast (set_up run) past → (r : ℕ) (a : EndName) (n : ℕ) → (end_at past r a).epoch < n → frames_sent past (way_out r a n) ≡ []
   none_sent past h r a n later = go (frames_sent past (way_out r a n)) refl
     where
-      go : (xs : List Flying) → frames_sent past (way_out r a n) ≡ xs → xs ≡ []
+      go : (xs : List FlyingFrame) → frames_sent past (way_out r a n) ≡ xs → xs ≡ []
       go [] is = refl
-      go (x ∷ xs) is = absurd (let low = sent_epoch past h r a n zero x (ap (λ (ys : List Flying). slice_get ys zero) is) in less n (end_at past r a).epoch low later)
+      go (x ∷ xs) is = absurd (let low = sent_epoch past h r a n zero x (ap (λ (ys : List FlyingFrame). slice_get ys zero) is) in less n (end_at past r a).epoch low later)
         where
           less : (n c : ℕ) → n ≤ c → c < n → ⊥
           less n c i j = omega (arith, i, j)

@@ -1,9 +1,8 @@
 -- The causes of refusals that rest on a drop's evidence: its locks had expired, its target's protocol is old, or it lacks evidence.
-use Rattle.std.proofs.Common.{◌≡◌, ℕ, ◌≤◌, Bool, true, false, List, [], ◌∷◌, Option, Some, None, ◌⊎◌, inl, inr, refl, sym, ap, ◌∙◌, subst, arith}
-use Rattle.std.proofs.lemmas.Bool.Decides.{nat_tests}
+use Rattle.std.proofs.Common.{◌≡◌, ℕ, ◌≤◌, Bool, true, false, List, [], ◌∷◌, Option, Some, None, ◌⊎◌, inl, inr, refl, sym, ap, ◌∙◌, subst}
 use Rattle.std.specs.Prelude.{◌||◌, find, length, min, nat_lt}
 use Rattle.std.specs.List.{list_any, reduce}
-use Rattle.std.proofs.lemmas.Bool.{ltb-true}
+use Rattle.std.proofs.lemmas.Bool.{ltb-false, ltb-true}
 use Rattle.annex_base.specs.Lists.{Each, Member}
 use Rattle.annex_base.specs.declared.kinds.Word.{Word}
 use Rattle.annex_base.proofs.Lists.{Each-from_members, Each-member, find_nowhere}
@@ -24,16 +23,16 @@ use Rattle.run_model.specs.Logs.{need_read}
 use Rattle.run_data.specs.declared.job.Cause.{Cause}
 use Rattle.run_model.specs.Drops
 use Rattle.node_model.specs.Evidence.{Standing, gather, proof_of, Claimed, Ignored, Asked, Offer, Gives, Fails, candidates, failures, is_locked, pick, reached_candidates}
-use Rattle.run_model.specs.Drops.{offer_from, why, told_cause}
+use Rattle.run_model.specs.Drops.{offer_from, candidate_cause, told_cause}
 use Rattle.run_model.specs.Causes.{FoundExpired, FoundLacking, FoundOld, IsCauseOf, items}
 use Rattle.node_model.specs.SetUp.{SetUp}
 use Rattle.run_model.specs.States.{state_of, works}
 use Rattle.node_model.specs.Jobs
-use Rattle.node_model.specs.Jobs.{Drops, Ends, Heard, Late, Work, heard_of, running, side_of, target_of}
+use Rattle.node_model.specs.Jobs.{Drops, Ends, Heard, Late, Work, heard_of, running_job, side_of, target_of}
 use Rattle.race_core.proofs.Knowing.{candidates_of, causes_known, is_to_ask, known, knows_enough, next_of}
 use Rattle.node_model.specs.Knows.{cause_by, cause_heard, heard_offer, is_unasked, need_of, offer_by, standing_of}
 use Rattle.node_model.specs.DropStep
-use Rattle.node_model.specs.Found.{Expires, Lacks}
+use Rattle.node_model.specs.Found.{LocksExpire, LacksCopies}
 use Rattle.run_model.specs.Words.{word_told}
 use Rattle.run_model.specs.Run.{FramesPart, OwnPart, OwnPast}
 use Rattle.race_core.proofs.JobSteps.{turn_at}
@@ -69,9 +68,6 @@ locked_by xs end e = go (list_any (λ i. is_locked i.kind) xs) refl
     go true is = refl
     go false is = let none : None ≡ Some end = sym (ap (reduce min) (no_ends xs is)) ∙ e in cc
 
-not_below : (a b : ℕ) → nat_lt a b ≡ false → b ≤ a
-not_below a b e = grind (arith, nat_tests)
-
 module _ (reads_back : SentAreRead) (s : SetUp) (past : List Entry) (words : ℕ → Option Word) (e : Entry) (h : OwnPast s past) (own : OwnPart s past words e) (run : MessagePast s.repos past) (j : ℕ) where
   abbrev r : ℕ
   r = s.number
@@ -80,7 +76,7 @@ module _ (reads_back : SentAreRead) (s : SetUp) (past : List Entry) (words : ℕ
   items_as : (w : Work) (m : Member w (works past r)) → items s.repos past r w.number (job_of s past h w m)
       ≡ known_evidence (side_of w) s.repos past r w.number (target_of r w) (need_of (state_of s past) w)
   items_as w m =
-      evidence_known (side_in (running w)) s.repos past r w.number (target_in r (running w)) (need_read past r w.number) run
+      evidence_known (side_in (running_job w)) s.repos past r w.number (target_in r (running_job w)) (need_read past r w.number) run
       ∙ (λ i. known_evidence (side_is w i) s.repos past r w.number (target_is r w i) (need_read past r w.number))
 
   pub items_known : (w : Work) (m : Member w (works past r)) → knows_enough s (state_of s past) w ≡ true → items s.repos past r w.number (job_of s past h w m) ≡ known s (state_of s past) w
@@ -95,7 +91,7 @@ module _ (reads_back : SentAreRead) (s : SetUp) (past : List Entry) (words : ℕ
         | inr y ↦ settled x (drop_settled (turn_at s past e x.by) past (refusals.Expired end clk) x.by.made.taken (stands reads_back s past h x.by.w x.runs) y)
       ])
     where
-      now : (x : Ending s past e j (Refused (refusals.Expired end clk))) → Expires (turn_at s past e x.by) x.by.made.taken end clk → FoundExpired s.repos past r x.by.w.number e.time end clk
+      now : (x : Ending s past e j (Refused (refusals.Expired end clk))) → LocksExpire (turn_at s past e x.by) x.by.made.taken end clk → FoundExpired s.repos past r x.by.w.number e.time end clk
       now x y =
           let w = x.by.w in
           let kind : x.by.made.kind ≡ ends_job j (Refused (refusals.Expired end clk)) = sym (ap (λ (q : Entry). q.kind) x.by.is) ∙ is in
@@ -106,7 +102,7 @@ module _ (reads_back : SentAreRead) (s : SetUp) (past : List Entry) (words : ℕ
           record {
             d = job_of s past h w x.runs;
             first = ap least_end (items_known w x.runs enough) ∙ y.first_is;
-            late = not_below clk end y.late;
+            late = ltb-false clk end y.late;
             when = inl (y.clock_is ∙ ap (λ t. clock s.repos past r t) (sym (ap (λ (q : Entry). q.time) x.by.is)));
           }
 
@@ -123,7 +119,7 @@ module _ (reads_back : SentAreRead) (s : SetUp) (past : List Entry) (words : ℕ
           record {
             d = job_of s past h w x.runs;
             first = ap least_end (items_known w x.runs k.1.enough) ∙ k.1.first ∙ ap Some (sym same_end);
-            late = not_below clk end (ap (λ c. nat_lt c end) same_clock ∙ ap (nat_lt (clock s.repos past r time)) same_end ∙ k.2);
+            late = ltb-false clk end (ap (λ c. nat_lt c end) same_clock ∙ ap (nat_lt (clock s.repos past r time)) same_end ∙ k.2);
             when = inr (k.3.entry, k.3.before, k.3.occurs, k.3.own, k.3.kind_is, same_clock ∙ (ap (λ (c : ClockSet). runs_on c time) (sym k.3.set) ∙ ap (λ q. clock s.repos k.3.before r q) k.3.time_is));
           }
         where
@@ -243,7 +239,7 @@ module _ (reads_back : SentAreRead) (s : SetUp) (past : List Entry) (words : ℕ
   }
 
   why_is : (w : Work) (m : Member w (works past s.number)) → w.part ≡ Drops → next_of s (state_of s past) w ≡ None → (c : ℕ) → Member c (candidates_of s w) → Knowing.knows s (state_of s past) w c ≡ Fails
-      → why s.repos past s.number w.number c ≡ cause_by (word_told past s.number w.number c) (standing_of s (state_of s past) w c) (heard_of w c)
+      → candidate_cause s.repos past s.number w.number c ≡ cause_by (word_told past s.number w.number c) (standing_of s (state_of s past) w c) (heard_of w c)
   why_is w m part last c n fails = elim (lacked w m part last c n fails) [
     | inl x ↦ (λ i. Drops.cause_by ((sym ((list_agrees reads_back s past h w m).standing_is c) ∙ x.1) i) (x.0 i))
     | inr x ↦ ap (λ st. Drops.cause_by st (told_cause past s.number w.number c)) (sym ((list_agrees reads_back s past h w m).standing_is c) ∙ x)
@@ -258,7 +254,7 @@ module _ (reads_back : SentAreRead) (s : SetUp) (past : List Entry) (words : ℕ
         | inr y ↦ absurd (settled z.0 (drop_settled (turn_at s past e z.0.by) past (refusals.Lacking proof reasons) z.0.by.made.taken (stands reads_back s past h z.0.by.w z.0.runs) y))
       ])
     where
-      now : (x : Ending s past e j (Refused (refusals.Lacking proof reasons))) → x.by.look.words ≡ words → Lacks (turn_at s past e x.by) proof reasons → FoundLacking s.repos past s.number x.by.w.number proof reasons
+      now : (x : Ending s past e j (Refused (refusals.Lacking proof reasons))) → x.by.look.words ≡ words → LacksCopies (turn_at s past e x.by) proof reasons → FoundLacking s.repos past s.number x.by.w.number proof reasons
       now x spoke y =
           let w = x.by.w in
           let m = x.runs in
@@ -268,18 +264,18 @@ module _ (reads_back : SentAreRead) (s : SetUp) (past : List Entry) (words : ℕ
           let reasons_are : reasons ≡ causes_known s (state_of s past) (word_told past s.number w.number) w = y.causes_are ∙ ap (λ f. causes_known s (state_of s past) f w) (spoke ∙ same_words) in
           let f = Knowing.knows s (state_of s past) w in
           let g : ℕ → Cause = λ c. cause_by (word_told past s.number w.number c) (standing_of s (state_of s past) w c) (heard_of w c) in
-          let cands : cs ≡ candidates (side_in (running w)) (length s.repos) s.number (target_in s.number (running w)) = (λ i. candidates (sym (side_is w) i) (length s.repos) s.number (sym (target_is s.number w) i)) in
+          let cands : cs ≡ candidates (side_in (running_job w)) (length s.repos) s.number (target_in s.number (running_job w)) = (λ i. candidates (sym (side_is w) i) (length s.repos) s.number (sym (target_is s.number w) i)) in
           let knows_none : (c : ℕ) → offer_from s.repos past s.number w.number c ≡ Fails → Knowing.knows s (state_of s past) w c ≡ Fails = (λ c a. sym (knows_same s past w (list_agrees reads_back s past h w m) c) ∙ sym (asked_known s.repos past s.number w.number c run) ∙ a) in
           let each = failures_each (IsCauseOf s.repos past s.number w.number cs) f g cs cs (λ c n. n) (λ c n fails. caused w m y.part_is y.last c n fails) in
-          let all = Each-from_members (λ c. offer_from s.repos past s.number w.number c ≡ Fails → Member (record { repo = c; cause = why s.repos past s.number w.number c }) reasons) cs
-          (λ c n a. subst (Member (record { repo = c; cause = why s.repos past s.number w.number c })) (sym reasons_are)
+          let all = Each-from_members (λ c. offer_from s.repos past s.number w.number c ≡ Fails → Member (record { repo = c; cause = candidate_cause s.repos past s.number w.number c }) reasons) cs
+          (λ c n a. subst (Member (record { repo = c; cause = candidate_cause s.repos past s.number w.number c })) (sym reasons_are)
           (subst (λ q. Member (record { repo = c; cause = q }) (failures f g cs)) (sym (why_is w m y.part_is y.last c n (knows_none c a))) (failures_have f g cs c n (knows_none c a)))) in
           record {
             d = job_of s past h w m;
             wants = (λ i. is_enough (side_is w i) (need_read past s.number w.number) (same i)) ∙ y.wants;
             proof_is = y.proof_is ∙ ap (proof_of (length s.repos) (need_read past s.number w.number)) (sym same);
             causes = subst (λ ds. Each (IsCauseOf s.repos past s.number w.number ds) reasons) cands (subst (Each (IsCauseOf s.repos past s.number w.number cs)) (sym reasons_are) each);
-            all = subst (Each (λ c. offer_from s.repos past s.number w.number c ≡ Fails → Member (record { repo = c; cause = why s.repos past s.number w.number c }) reasons)) cands all;
+            all = subst (Each (λ c. offer_from s.repos past s.number w.number c ≡ Fails → Member (record { repo = c; cause = candidate_cause s.repos past s.number w.number c }) reasons)) cands all;
           }
 
       settled : (x : Ending s past e j (Refused (refusals.Lacking proof reasons))) → DropSettled (turn_at s past e x.by) past (refusals.Lacking proof reasons) → ⊥

@@ -28,7 +28,7 @@ use Rattle.run_model.specs.Safety.{Removal, removal, removals, add_removal, loca
 use Rattle.annex_base.specs.Lists.{Each, Member}
 use Rattle.annex_base.proofs.Lists.{Each-both, Each-weaker, Member-append_cases}
 use Rattle.annex_base.proofs.Conditions.{eqb_refl, bytes_eq-refl}
-use Rattle.race_core.specs.Lawful.{Free, InTime, FoundRemote, IsFresh, Lawful, since_of}
+use Rattle.race_core.specs.Lawful.{HasFreeContent, AreInTime, FoundRemote, IsFresh, IsLawfulEntry, since_of}
 use Rattle.race_core.proofs.Lists.{Each-any}
 use Rattle.race_core.proofs.Gather.{never_target, evidence_each, evidence_count, enough_m, offer_locked, offer_recent}
 use Rattle.race_core.proofs.Changes.{Crashes, TakesAway, crash_or, crash_sets, lasts_crash, set_by_now, present_stays, PutsBar, bar_was, decided_was, Shares, blocked_was, unblocked_later, lasts, lasts_stays, lasts-blocks, decided_keeps, decided_new, same_repo, removal_is, order_is, removal_was, Removes, Obeys, any_add, same_owner_refl, VouchedBy, vouch_was, own_lock, sender_before, reply_vouched}
@@ -69,13 +69,13 @@ pub record Facts (repos : List RepoView) (past : List Entry) : Type 0 where
 
 -- ---- each fact is kept
 
-decided_still : (repos : List RepoView) (past : List Entry) (e : Entry) → Lawful repos past e → (a j : ℕ) (d : Decision) → decision past a j ≡ Some d → decision (e ∷ past) a j ≡ Some d
+decided_still : (repos : List RepoView) (past : List Entry) (e : Entry) → IsLawfulEntry repos past e → (a j : ℕ) (d : Decision) → decision past a j ≡ Some d → decision (e ∷ past) a j ≡ Some d
 decided_still repos past e law a j d h = elim (decided_keeps e past a j d h) [
   | inl s ↦ s
   | inr t ↦ let w = law.bars a j t.need t.key t.repo_is t.kind_is in let none : decision past a j ≡ None = w.first in cc
 ]
 
-later_still : (repos : List RepoView) (past : List Entry) (e : Entry) → Lawful repos past e → (r place : ℕ) (key : List ℕ) → place < length past
+later_still : (repos : List RepoView) (past : List Entry) (e : Entry) → IsLawfulEntry repos past e → (r place : ℕ) (key : List ℕ) → place < length past
     → LaterOnly repos past r place key → LaterOnly repos (e ∷ past) r place key
 later_still repos past e law r place key lt old = record { later = later; copy = copy old.copy }
   where
@@ -115,7 +115,7 @@ vouched_no_bar r a j kind (Lock hold since owner key) w i need k g = let h : kin
 vouched_no_bar r a j kind (Look key) w i need k g = let h : kind ≡ Check w.0 key = w.1 in cc
 
 -- a copy without a bar, which the entry leaves alone, is later than each place so far
-free_later : (repos : List RepoView) (past : List Entry) (e : Entry) (r place : ℕ) (key : List ℕ) → Free past r key
+free_later : (repos : List RepoView) (past : List Entry) (e : Entry) (r place : ℕ) (key : List ℕ) → HasFreeContent past r key
     → (TakesAway e r key → ⊥) → ((j : ℕ) → PutsBar e r key j → ⊥) → LaterOnly repos (e ∷ past) r place key
 free_later repos past e r place key row no_gone no_bar = record { later = later; copy = copy }
   where
@@ -125,7 +125,7 @@ free_later repos past e r place key row no_gone no_bar = record { later = later;
     copy : (present (e ∷ past) r key ≡ true) ⊎ (list_any (is_later place) (removals repos (e ∷ past) key) ≡ true)
     copy = elim (present_stays e past r key row.there) [ inl s ↦ inl s | inr t ↦ absurd (no_gone t) ]
 
-vouched_kept : (repos : List RepoView) (past : List Entry) (e : Entry) → Facts repos past → Lawful repos past e
+vouched_kept : (repos : List RepoView) (past : List Entry) (e : Entry) → Facts repos past → IsLawfulEntry repos past e
     → (r a j : ℕ) (v : Vouch) (d : Decision) → Member v (vouches (e ∷ past) r a j) → decision (e ∷ past) a j ≡ Some d → LaterOnly repos (e ∷ past) r d.place (key_of v)
 vouched_kept repos past e f law r a j v d m h = elim (Member-append_cases (vouch past e r a j) (vouches past r a j) v m) [
   | inl k ↦ let w = vouch_was past e r a j v k in
@@ -147,7 +147,7 @@ new_lasts past e r hold end until owner key is kind le = rw (is, kind, eqb_refl 
     le' : nat_le until end ≡ true
     le' = grind (arith, nat_tests)
 
-lasting_kept : (repos : List RepoView) (past : List Entry) (e : Entry) → Facts repos past → Lawful repos past e
+lasting_kept : (repos : List RepoView) (past : List Entry) (e : Entry) → Facts repos past → IsLawfulEntry repos past e
     → (r a j : ℕ) (v : Vouch) → Member v (vouches (e ∷ past) r a j) → Lasts repos (e ∷ past) r v ⊎ (is_done (e ∷ past) a j ≡ true)
 lasting_kept repos past e f law r a j (Look key) m = inl tt
 lasting_kept repos past e f law r a j (Lock hold since owner key) m = elim (Member-append_cases (vouch past e r a j) (vouches past r a j) v m) [ inl k ↦ inl (fresh k) | inr k ↦ old k (f.lasting r a j v k) ]
@@ -208,8 +208,8 @@ lock_blocks repos past t f le c a j hold since owner key m open' lt = go (f.last
     go (inr d) = absurd (true≢false (sym d ∙ open'))
     go (inl l) = lasts-blocks (holds past c) hold (clock repos past c (since + hold_time)) owner key (clock repos past c t) (omega (arith, le, lt, f.clocks c)) l
 
-pub lock_there : (repos : List RepoView) (past : List Entry) (e : Entry) → Facts repos past → Lawful repos past e → (c a j hold since : ℕ) (owner : By) (key : List ℕ)
-    → Member (Lock hold since owner key) (vouches past c a j) → is_done past a j ≡ false → e.time < since + hold_time → Free past c key
+pub lock_there : (repos : List RepoView) (past : List Entry) (e : Entry) → Facts repos past → IsLawfulEntry repos past e → (c a j hold since : ℕ) (owner : By) (key : List ℕ)
+    → Member (Lock hold since owner key) (vouches past c a j) → is_done past a j ≡ false → e.time < since + hold_time → HasFreeContent past c key
 lock_there repos past e f law c a j hold since owner key m open' lt =
     record { there = f.guarded c a j hold since owner key m open' (omega (arith, law.time)); free = free (bar past c key) refl }
   where
@@ -222,7 +222,7 @@ lock_there repos past e f law c a j hold since owner key m open' lt =
 
 -- ---- removals
 
-removal_still : (repos : List RepoView) (past : List Entry) (e : Entry) → Lawful repos past e → (key : List ℕ) (x : Removal) → RemovalOk repos past key x → RemovalOk repos (e ∷ past) key x
+removal_still : (repos : List RepoView) (past : List Entry) (e : Entry) → IsLawfulEntry repos past e → (key : List ℕ) (x : Removal) → RemovalOk repos past key x → RemovalOk repos (e ∷ past) key x
 removal_still repos past e law key x old = record {
   before = omega (arith, old.before);
   items = Each-weaker (ItemOk repos past key x.side x.decision) (ItemOk repos (e ∷ past) key x.side x.decision) (λ i h c t. later_still repos past e law i.repo x.decision key old.before (h c t)) x.items old.items;
@@ -237,10 +237,10 @@ pub record LocalDrop (repos : List RepoView) (past : List Entry) (r j time : ℕ
   pub barred : bar past r key ≡ Some j
   pub key_is : d.key ≡ key
   pub enough : is_enough Local d.need (evidence Local repos past r j r d.need) ≡ true
-  pub in_time : InTime past r j time key (evidence Local repos past r j r d.need)
+  pub in_time : AreInTime past r j time key (evidence Local repos past r j r d.need)
   pub open' : is_done past r j ≡ false
 
-pub local_drop : (repos : List RepoView) (past : List Entry) (e : Entry) → Lawful repos past e → (r j : ℕ) (key : List ℕ) (d : Decision) → is_of r e ≡ true → e.kind ≡ Gone (by_job j) key
+pub local_drop : (repos : List RepoView) (past : List Entry) (e : Entry) → IsLawfulEntry repos past e → (r j : ℕ) (key : List ℕ) (d : Decision) → is_of r e ≡ true → e.kind ≡ Gone (by_job j) key
     → decision past r j ≡ Some d → LocalDrop repos past r j e.time key d
 local_drop repos past e law r j key d is kind at =
     let w = law.removes r j key is kind in
@@ -248,7 +248,7 @@ local_drop repos past e law r j key d is kind at =
     (record { barred = w.barred; key_is = w.key_is; enough = w.enough; in_time = w.in_time; open' = w.open' })
 
 -- the items of a local drop
-local_item : (repos : List RepoView) (past : List Entry) (e : Entry) → Facts repos past → Lawful repos past e → (r j : ℕ) (key : List ℕ) (d : Decision) → decision past r j ≡ Some d → LocalDrop repos past r j e.time key d
+local_item : (repos : List RepoView) (past : List Entry) (e : Entry) → Facts repos past → IsLawfulEntry repos past e → (r j : ℕ) (key : List ℕ) (d : Decision) → decision past r j ≡ Some d → LocalDrop repos past r j e.time key d
     → (c : ℕ) (kind : Kind) → offer_from repos past r j c ≡ Gives kind → ItemOk repos (e ∷ past) key Local d.place (record { repo = c; kind = kind })
 local_item repos past e f law r j key d at w c Trusted g y t = cc
 local_item repos past e f law r j key d at w c (Locked end) g y t =
@@ -262,7 +262,7 @@ local_item repos past e f law r j key d at w c Recent g y t =
     later_still repos past e law c d.place key (f.placed r j d at)
     (subst (λ k. LaterOnly repos past c d.place k) (w.in_time.keys c (Look o.0) o.1) (f.vouched c r j (Look o.0) d (reply_vouched past r j c (Look o.0) o.1) at))
 
-local_ok : (repos : List RepoView) (past : List Entry) (e : Entry) → Facts repos past → Lawful repos past e → (r j : ℕ) (key : List ℕ) (d : Decision) → decision past r j ≡ Some d → LocalDrop repos past r j e.time key d
+local_ok : (repos : List RepoView) (past : List Entry) (e : Entry) → Facts repos past → IsLawfulEntry repos past e → (r j : ℕ) (key : List ℕ) (d : Decision) → decision past r j ≡ Some d → LocalDrop repos past r j e.time key d
     → RemovalOk repos (e ∷ past) key (local_removal repos past r j d)
 local_ok repos past e f law r j key d at w = record {
   before = omega (arith, f.placed r j d at);
@@ -276,16 +276,16 @@ local_ok repos past e f law r j key d at w = record {
 }
 
 -- a copy that a remote drop locked, as its order is obeyed
-pub remote_lock : (repos : List RepoView) (past : List Entry) (e : Entry) → Facts repos past → Lawful repos past e → (r a : ℕ) (key : List ℕ) → (w : FoundRemote repos past e r a key)
-    → (c end : ℕ) → offer_from repos w.s.before a w.j c ≡ Gives (Locked end) → IsFresh w.s.before a w.j e.time (record { repo = c; kind = Locked end }) → Free past c key
+pub remote_lock : (repos : List RepoView) (past : List Entry) (e : Entry) → Facts repos past → IsLawfulEntry repos past e → (r a : ℕ) (key : List ℕ) → (w : FoundRemote repos past e r a key)
+    → (c end : ℕ) → offer_from repos w.s.before a w.j c ≡ Gives (Locked end) → IsFresh w.s.before a w.j e.time (record { repo = c; kind = Locked end }) → HasFreeContent past c key
 remote_lock repos past e f law r a key w c end g lt =
     let o = offer_locked (clock repos w.s.before a) (standing repos w.s.before a w.j c) (reply w.s.before a w.j c) end g in
     let v : Vouch = Lock o.0 o.1 o.2.0 o.2.1.0 in
     let is : reply w.s.before a w.j c ≡ Some v = o.2.1.1 in
     let m = sender_before past r e.taken w.s c a w.j v w.sent_is (reply_vouched w.s.before a w.j c v is) in
-    subst (λ k. Free past c k) (w.in_time.keys c v is) (lock_there repos past e f law c a w.j o.0 o.1 o.2.0 o.2.1.0 m w.open' (lt end o.0 o.1 o.2.0 o.2.1.0 refl is))
+    subst (λ k. HasFreeContent past c k) (w.in_time.keys c v is) (lock_there repos past e f law c a w.j o.0 o.1 o.2.0 o.2.1.0 m w.open' (lt end o.0 o.1 o.2.0 o.2.1.0 refl is))
 
-remote_item : (repos : List RepoView) (past : List Entry) (e : Entry) → Facts repos past → Lawful repos past e → (r a slot : ℕ) (key : List ℕ) → is_of r e ≡ true → e.kind ≡ Gone (Peer a slot) key
+remote_item : (repos : List RepoView) (past : List Entry) (e : Entry) → Facts repos past → IsLawfulEntry repos past e → (r a slot : ℕ) (key : List ℕ) → is_of r e ≡ true → e.kind ≡ Gone (Peer a slot) key
     → (w : FoundRemote repos past e r a key) → (c : ℕ) (kind : Kind) → not (c == r) ≡ true → offer_from repos w.s.before a w.j c ≡ Gives kind
     → IsFresh w.s.before a w.j e.time (record { repo = c; kind = kind }) → ItemOk repos (e ∷ past) key Remote (length past) (record { repo = c; kind = kind })
 remote_item repos past e f law r a slot key is kind w c Trusted other g lt y t = cc
@@ -300,7 +300,7 @@ remote_item repos past e f law r a slot key is kind w c (Locked end) other g lt 
     not_there : TakesAway e c key → ⊥
     not_there k = let same : c ≡ r = same_repo e c r k.repo_is is in absurd (true≢false (sym (subst (λ x. not (x == r) ≡ true) same other) ∙ ap not (eqb_refl r)))
 
-remote_ok : (repos : List RepoView) (past : List Entry) (e : Entry) → Facts repos past → Lawful repos past e → (r a slot : ℕ) (key : List ℕ) → is_of r e ≡ true → e.kind ≡ Gone (Peer a slot) key
+remote_ok : (repos : List RepoView) (past : List Entry) (e : Entry) → Facts repos past → IsLawfulEntry repos past e → (r a slot : ℕ) (key : List ℕ) → is_of r e ≡ true → e.kind ≡ Gone (Peer a slot) key
     → (w : FoundRemote repos past e r a key) → RemovalOk repos (e ∷ past) key (remote_removal repos past r a w.j w.need w.s)
 remote_ok repos past e f law r a slot key is kind w = record {
   before = omega arith;
@@ -316,7 +316,7 @@ remote_ok repos past e f law r a slot key is kind w = record {
 }
 
 -- the removal that the entry is, by what the entry found
-pub obeyed : (repos : List RepoView) (past : List Entry) (e : Entry) → Lawful repos past e → (key : List ℕ) (x : Removal) → (t : Obeys repos e past key x)
+pub obeyed : (repos : List RepoView) (past : List Entry) (e : Entry) → IsLawfulEntry repos past e → (key : List ℕ) (x : Removal) → (t : Obeys repos e past key x)
     → (w : FoundRemote repos past e t.r t.a key) × (x ≡ remote_removal repos past t.r t.a w.j w.need w.s)
 obeyed repos past e law key x t =
     let w = law.obeys t.r t.a t.slot key t.repo_is t.kind_is in
@@ -325,7 +325,7 @@ obeyed repos past e law key x t =
     let c : Some (remote_removal repos past t.r t.a t.j t.need t.s) ≡ Some (remote_removal repos past t.r t.a w.j w.need w.s) = sym b ∙ a in
     (w, t.is ∙ same_Some _ _ c)
 
-removed_kept : (repos : List RepoView) (past : List Entry) (e : Entry) → Facts repos past → Lawful repos past e → (key : List ℕ) → Each (RemovalOk repos (e ∷ past) key) (removals repos (e ∷ past) key)
+removed_kept : (repos : List RepoView) (past : List Entry) (e : Entry) → Facts repos past → IsLawfulEntry repos past e → (key : List ℕ) → Each (RemovalOk repos (e ∷ past) key) (removals repos (e ∷ past) key)
 removed_kept repos past e f law key = go (removal repos past key e) refl
   where
     old : Each (RemovalOk repos (e ∷ past) key) (removals repos past key)
@@ -353,7 +353,7 @@ share_no_bar : (e : Entry) (r j : ℕ) (key : List ℕ) → Shares e r key → P
 share_no_bar e r j key s t = let g : e.kind ≡ Bar j t.need key = t.kind_is in let h : e.kind ≡ Share s.hold s.end s.owner key = s.kind_is in cc
 
 -- an entry that takes the key away found no hold that blocks
-unheld_gone : (repos : List RepoView) (past : List Entry) (e : Entry) → Facts repos past → Lawful repos past e → (r t : ℕ) (by : By) (key : List ℕ) → e.time ≤ t → is_of r e ≡ true → e.kind ≡ Gone by key
+unheld_gone : (repos : List RepoView) (past : List Entry) (e : Entry) → Facts repos past → IsLawfulEntry repos past e → (r t : ℕ) (by : By) (key : List ℕ) → e.time ≤ t → is_of r e ≡ true → e.kind ≡ Gone by key
     → is_blocked (holds past r) key (clock repos past r t) ≡ false
 unheld_gone repos past e f law r t Script key le is kind = absurd (law.drops key kind)
 unheld_gone repos past e f law r t (by_job j) key le is kind = f.bar_free r j t key (omega (arith, law.time)) (law.removes r j key is kind).barred
@@ -362,7 +362,7 @@ unheld_gone repos past e f law r t (Peer a slot) key le is kind = unblocked_late
 bar_crashed : (e : Entry) (past : List Entry) (r : ℕ) (key : List ℕ) → Crashes e r → bar (e ∷ past) r key ≡ None
 bar_crashed e past r key t = rw (t.repo_is, t.kind_is) refl
 
-pub facts_kept : (repos : List RepoView) (past : List Entry) (e : Entry) → Facts repos past → Lawful repos past e → Facts repos (e ∷ past)
+pub facts_kept : (repos : List RepoView) (past : List Entry) (e : Entry) → Facts repos past → IsLawfulEntry repos past e → Facts repos (e ∷ past)
 facts_kept repos past e f law = record {
   clocks = λ r. set_by_now repos e past r (f.clocks r) law.time;
   asked_by_now = λ r a j v m. elim (Member-append_cases (vouch past e r a j) (vouches past r a j) v m) [

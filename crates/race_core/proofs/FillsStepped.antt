@@ -8,12 +8,12 @@ use Rattle.annex_base.proofs.Conditions.{bytes_eq_tells, eqb_refl}
 use Rattle.annex_base.proofs.Lists.{list_any_member}
 use Rattle.run_data.specs.declared.entry.Entry.{Entry}
 use Rattle.run_data.specs.declared.job.Job.{Job}
-use Rattle.node_model.specs.Slots.{Running}
+use Rattle.node_model.specs.Slots.{RunningJob}
 use Rattle.run_model.specs.Past.{is_of, jobs}
 use Rattle.run_model.specs.Logs.{has_stepped, is_step}
-use Rattle.run_model.specs.Causes.{FillsByGet, gets}
+use Rattle.run_model.specs.Causes.{FillsByGet, is_get}
 use Rattle.node_model.specs.SetUp.{SetUp}
-use Rattle.node_model.specs.Jobs.{Fresh, Gets, Work, running}
+use Rattle.node_model.specs.Jobs.{Fresh, Gets, Work, running_job}
 use Rattle.run_model.specs.States.{rows_at, works}
 use Rattle.run_model.specs.Run.{OwnPast, OwnRun}
 use Rattle.race_core.proofs.JobSteps.{Origin, invariant}
@@ -26,7 +26,7 @@ use Rattle.race_core.proofs.FreshSteps.{of_kind}
 use Rattle.race_core.proofs.EpochJobs.{any_member}
 
 abbrev pub Filling : SetUp → List Entry → Work → Type 0
-Filling s past w = w.fills ≡ true → (gets w.what.kind ≡ true) × (has_stepped past s.number w.number ≡ true)
+Filling s past w = w.fills ≡ true → (is_get w.what.kind ≡ true) × (has_stepped past s.number w.number ≡ true)
 
 pub stepped_more : (past : List Entry) (e : Entry) (r j : ℕ) → has_stepped past r j ≡ true → has_stepped (e ∷ past) r j ≡ true
 stepped_more past e r j h = or_right (is_of r e && is_step j e.kind) (has_stepped past r j) h
@@ -42,12 +42,12 @@ fills_stepped s past run w m = invariant s (Filling s) (λ p e is x n was f. let
     own p e r is was x (inr (inl b)) f = let z = was x b.ran f in (z.0, stepped_more p e s.number x.number z.1)
     own p e r is was x (inr (inr b)) f =
         let v = b.by.w in
-        let what : x.what ≡ v.what = ap (λ (j : Running). j.what) (ap running b.work_is ∙ kind_kept (rows_at p s.number) s.number v e e.kind) in
+        let what : x.what ≡ v.what = ap (λ (j : RunningJob). j.what) (ap running_job b.work_is ∙ kind_kept (rows_at p s.number) s.number v e e.kind) in
         let old = (kind_carries (rows_at p s.number) s.number v e e.kind).1 (sym (ap (λ (y : Work). y.fills) b.work_is) ∙ f) in
-        let kind : gets v.what.kind ≡ true = by old in
-        (ap (λ (q : Job). gets q.kind) what ∙ kind, subst (λ n. has_stepped (e ∷ p) s.number n ≡ true) (sym (step_number s p e x b)) (stepped_now p e s.number v.number is b.step))
+        let kind : is_get v.what.kind ≡ true = by old in
+        (ap (λ (q : Job). is_get q.kind) what ∙ kind, subst (λ n. has_stepped (e ∷ p) s.number n ≡ true) (sym (step_number s p e x b)) (stepped_now p e s.number v.number is b.step))
       where
-        by : (b.by.w.fills ≡ true) ⊎ ((b.by.w.part ≡ Gets) × (b.by.w.phase ≡ Fresh)) → gets b.by.w.what.kind ≡ true
+        by : (b.by.w.fills ≡ true) ⊎ ((b.by.w.part ≡ Gets) × (b.by.w.phase ≡ Fresh)) → is_get b.by.w.what.kind ≡ true
         by (inl fills) = (was b.by.w (step_runs s p e x b) fills).0
         by (inr first) = (of_kind s p r.1 b.by.w (step_runs s p e x b)).0 first.0
 
@@ -58,11 +58,11 @@ fills_by_get s past h key any =
     let w = x.0 in
     let two = and_parts w.fills (bytes_eq w.what.key key) x.2 in
     let z = fills_stepped s past h.run w x.1 two.0 in
-    let among : Member (running w) (jobs past s.number) = subst (Member (running w)) (jobs_are past s.number) (running_member (works past s.number) w x.1) in
+    let among : Member (running_job w) (jobs past s.number) = subst (Member (running_job w)) (jobs_are past s.number) (running_member (works past s.number) w x.1) in
     record {
       other = w.number;
       d = record { what = w.what; begun = runs_begun s past h.run w x.1 };
-      runs_it = list_any_member (λ (j : Running). j.number == w.number) (jobs past s.number) (running w) among (eqb_refl w.number);
+      runs_it = list_any_member (λ (j : RunningJob). j.number == w.number) (jobs past s.number) (running_job w) among (eqb_refl w.number);
       kind_is = z.0;
       key_is = elim (bytes_eq_tells w.what.key key) [ inl y ↦ y.1 | inr y ↦ absurd (let both : true ≡ false = sym two.1 ∙ y.0 in cc) ];
       begun = z.1;

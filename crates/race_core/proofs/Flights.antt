@@ -7,7 +7,7 @@ use Rattle.annex_base.proofs.Lists.{Member-append_left, Member-append_right}
 use Rattle.run_data.specs.declared.entry.Entry.{Entry}
 use Rattle.run_data.specs.declared.entry.FrameView.{FrameView}
 use Rattle.run_model.specs.Past.{Always, Occurs, is_of}
-use Rattle.run_model.specs.Frames.{Way, Flying, Sent, flying, on_way, sender_of, frames_sent, sent_of, taken_count, way_of, sender}
+use Rattle.run_model.specs.Frames.{Way, FlyingFrame, SendingEntry, flying_frame, on_way, sender_of, frames_sent, sending_entry, taken_count, way_of, sender}
 use Rattle.run_model.specs.Drops.{Vouch, vouch, vouches}
 
 -- ---- entries that stand in a past
@@ -60,12 +60,12 @@ map_member f y (x ∷ xs) (inl e) = (x, (inl refl, e))
 map_member f y (x ∷ xs) (inr m) = let t = map_member f y xs m in (t.0, (inr t.1.0, t.1.1))
 
 -- a frame on a way was sent by an entry of the past
-pub record Sending (past : List Entry) (w : Way) (it : Flying) : Type 0 where
+pub record Sending (past : List Entry) (w : Way) (it : FlyingFrame) : Type 0 where
   pub occurs : Occurs past it.entry it.before
   pub repo_is : is_of (sender_of w) it.entry ≡ true
   pub sends : Member it.frame (on_way w it.entry)
 
-pub sending : (past : List Entry) (w : Way) (k : ℕ) (it : Flying) → slice_get (frames_sent past w) k ≡ Some it → Sending past w it
+pub sending : (past : List Entry) (w : Way) (k : ℕ) (it : FlyingFrame) → slice_get (frames_sent past w) k ≡ Some it → Sending past w it
 sending [] w k it h = absurd (get_none k it h)
 sending (e ∷ past) w k it h = go (λ g. sending past w k it g) (is_of (sender_of w) e) refl h
   where
@@ -73,30 +73,30 @@ sending (e ∷ past) w k it h = go (λ g. sending past w k it g) (is_of (sender_
     older s = record { occurs = inr s.occurs; repo_is = s.repo_is; sends = s.sends }
 
     go : (slice_get (frames_sent past w) k ≡ Some it → Sending past w it) → (b : Bool) → is_of (sender_of w) e ≡ b
-        → slice_get (if b then frames_sent past w ++ map (flying e past) (on_way w e) else frames_sent past w) k ≡ Some it → Sending (e ∷ past) w it
+        → slice_get (if b then frames_sent past w ++ map (flying_frame e past) (on_way w e) else frames_sent past w) k ≡ Some it → Sending (e ∷ past) w it
     go ih false is g = older (ih g)
-    go ih true is g = elim (get_append (frames_sent past w) (map (flying e past) (on_way w e)) k it g) [
+    go ih true is g = elim (get_append (frames_sent past w) (map (flying_frame e past) (on_way w e)) k it g) [
       | inl s ↦ older (ih s)
-      | inr m ↦ let t = map_member (flying e past) it (on_way w e) m in
-          subst (λ (x : Flying). Sending (e ∷ past) w x) (sym t.1.1) (record { occurs = inl (refl, refl); repo_is = is; sends = t.1.0 })
+      | inr m ↦ let t = map_member (flying_frame e past) it (on_way w e) m in
+          subst (λ (x : FlyingFrame). Sending (e ∷ past) w x) (sym t.1.1) (record { occurs = inl (refl, refl); repo_is = is; sends = t.1.0 })
     ]
 
 -- who sent the frame that was taken
-pub record SentFrom (past : List Entry) (r : ℕ) (o : Option FrameView) (s : Sent) : Type 0 where
+pub record SentFrom (past : List Entry) (r : ℕ) (o : Option FrameView) (s : SendingEntry) : Type 0 where
   pub f : FrameView
   pub takes_it : o ≡ Some f
-  pub it : Flying
+  pub it : FlyingFrame
   pub next : slice_get (frames_sent past (way_of r f)) (taken_count past (way_of r f)) ≡ Some it
-  pub s_is : s ≡ sent_of it
+  pub s_is : s ≡ sending_entry it
   pub sending : Sending past (way_of r f) it
 
-pub sent_from : (past : List Entry) (r : ℕ) (o : Option FrameView) (s : Sent) → sender past r o ≡ Some s → SentFrom past r o s
+pub sent_from : (past : List Entry) (r : ℕ) (o : Option FrameView) (s : SendingEntry) → sender past r o ≡ Some s → SentFrom past r o s
 sent_from past r None s h = cc
 sent_from past r (Some f) s h = go (slice_get (frames_sent past (way_of r f)) (taken_count past (way_of r f))) refl h
   where
-    go : (x : Option Flying) → slice_get (frames_sent past (way_of r f)) (taken_count past (way_of r f)) ≡ x → option_map sent_of x ≡ Some s → SentFrom past r (Some f) s
+    go : (x : Option FlyingFrame) → slice_get (frames_sent past (way_of r f)) (taken_count past (way_of r f)) ≡ x → option_map sending_entry x ≡ Some s → SentFrom past r (Some f) s
     go None is k = cc
-    go (Some it) is k = record { f = f; takes_it = refl; it = it; next = is; s_is = sym (same_Some (sent_of it) s k); sending = sending past (way_of r f) (taken_count past (way_of r f)) it is }
+    go (Some it) is k = record { f = f; takes_it = refl; it = it; next = is; s_is = sym (same_Some (sending_entry it) s k); sending = sending past (way_of r f) (taken_count past (way_of r f)) it is }
 
-pub sender_occurs : (past : List Entry) (r : ℕ) (o : Option FrameView) (s : Sent) → sender past r o ≡ Some s → Occurs past s.entry s.before
-sender_occurs past r o s h = let t = sent_from past r o s h in subst (λ (x : Sent). Occurs past x.entry x.before) (sym t.s_is) t.sending.occurs
+pub sender_occurs : (past : List Entry) (r : ℕ) (o : Option FrameView) (s : SendingEntry) → sender past r o ≡ Some s → Occurs past s.entry s.before
+sender_occurs past r o s h = let t = sent_from past r o s h in subst (λ (x : SendingEntry). Occurs past x.entry x.before) (sym t.s_is) t.sending.occurs

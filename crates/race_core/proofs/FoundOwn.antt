@@ -31,12 +31,12 @@ use Rattle.race_core.proofs.AnswerFacts.{looks, may_obey, may_share, may_share_o
 use Rattle.race_core.proofs.EndEpochs.{from_end}
 use Rattle.race_core.proofs.SaidByClock.{said_by_clock}
 use Rattle.race_core.proofs.StepFacts.{gone_by_script, kind_found}
-use Rattle.race_core.specs.Lawful.{Free}
+use Rattle.race_core.specs.Lawful.{HasFreeContent}
 use Rattle.race_core.proofs.Own.{MayObey, MayShare, SaysYes, SharesWith}
 
 -- ---- facts of an entry by its repository's own part
 
-free_of : (past : List Entry) (r : ℕ) (key : List ℕ) → answers.OwnFree past r key → Free past r key
+free_of : (past : List Entry) (r : ℕ) (key : List ℕ) → answers.OwnFree past r key → HasFreeContent past r key
 free_of past r key x = record { there = x.there; free = x.free }
 
 abbrev yes_of : (r : ℕ) (e : Entry) (p c : ℕ) (m : Message) → answers.SaysYes r e p c m → SaysYes r e (Says m)
@@ -85,8 +85,8 @@ shares_with_step = by_step (λ s past e. (hold end peer slot : ℕ) (key : List 
     (λ s past e h b is x hold end peer slot key kind. absurd (any_kind s past e (Share hold end (Peer peer slot) key) x kind))
 
 -- `look`
-pub look_step : ByStep (λ s past e. (key : List ℕ) → e.kind ≡ Check Present key → Free past s.number key × SaysYes s.number e (Says (CheckPresent key)))
-look_step = by_step (λ s past e. (key : List ℕ) → e.kind ≡ Check Present key → Free past s.number key × SaysYes s.number e (Says (CheckPresent key)))
+pub look_step : ByStep (λ s past e. (key : List ℕ) → e.kind ≡ Check Present key → HasFreeContent past s.number key × SaysYes s.number e (Says (CheckPresent key)))
+look_step = by_step (λ s past e. (key : List ℕ) → e.kind ≡ Check Present key → HasFreeContent past s.number key × SaysYes s.number e (Says (CheckPresent key)))
     (λ s past k m h b small e key kind.
     let x = looks s past k m e key kind in
     let y = x.1 in

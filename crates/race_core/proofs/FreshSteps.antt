@@ -5,7 +5,7 @@ use Rattle.std.specs.Prelude.{if◌then◌else◌, ◌&&◌, ◌||◌, not}
 use Rattle.std.specs.List.{list_all, list_any}
 use Rattle.annex_base.specs.Lists.{Member}
 use Rattle.annex_base.specs.declared.kinds.Call.{Call}
-use Rattle.annex_base.proofs.Conditions.{if_either}
+use Rattle.annex_base.proofs.Conditions.{if_either, or_first}
 use Rattle.annex_base.specs.declared.kinds.Call.TheVariants as calls
 use Rattle.drop_proof.specs.declared.rule.Side.{Side}
 use Rattle.drop_proof.specs.declared.rule.Side.TheVariants.{Local, Remote}
@@ -21,8 +21,8 @@ use Rattle.run_data.specs.declared.job.TransferRefusal.TheVariants as failures
 use Rattle.run_data.specs.declared.job.Job.{Job}
 use Rattle.run_data.specs.declared.job.JobKind.{JobKind as KindOfJob}
 use Rattle.run_data.specs.declared.job.JobKind.TheVariants as kinds
-use Rattle.run_model.specs.Causes.{gets, puts}
-use Rattle.node_model.specs.Slots.{Running}
+use Rattle.run_model.specs.Causes.{is_get, is_put}
+use Rattle.node_model.specs.Slots.{RunningJob}
 use Rattle.run_model.specs.Past.{holds, is_of}
 use Rattle.node_model.specs.Rows.{is_lost_ordered}
 use Rattle.node_model.specs.Evidence.{Standing, Asked}
@@ -33,7 +33,7 @@ use Rattle.race_core.proofs.Below.{SentAreRead}
 use Rattle.p2p_wire.specs.declared.message.Message.TheVariants.{Put}
 use Rattle.p2p_wire.specs.Messages.{message_of, text_of}
 use Rattle.node_model.specs.SetUp.{SetUp}
-use Rattle.node_model.specs.Jobs.{Drops, Fresh, Gets, Part, Phase, Puts, Work, drop_side, first_look, first_part, partner, running, says_some, side_of, work_kind}
+use Rattle.node_model.specs.Jobs.{Drops, Fresh, Gets, Part, Phase, Puts, Work, drop_side, first_look, first_part, partner, running_job, says_some, side_of, work_kind}
 use Rattle.run_model.specs.States.{rows_at, works}
 use Rattle.node_model.specs.Calls.{to_hold, to_release}
 use Rattle.node_model.specs.JobStep.{Turn, bar_there, by_me, clock_of, end_with, ends, farewells, is_there, key_of, me, owns_share, quietly, sends_to, talk}
@@ -237,10 +237,6 @@ puts_unstepped reads_back s past h w m part fresh =
 abbrev pub MovesLate : SetUp → Type 0
 MovesLate s = (past : List Entry) (e : Entry) → OwnPast s (e ∷ past) → is_of s.number e ≡ true → (w : Work) (x : Steps s past e w) → x.by.w.part ≡ Puts → w.part ≡ Drops → in_drop past s.number x.by.w.number ≡ false
 
-or_none : (a b : Bool) → (a || b) ≡ false → a ≡ false
-or_none false b e = refl
-or_none true b e = absurd (cc)
-
 if_none : {X : Type 0} (a b c : Bool) (x : X) → c ≡ false → (if a && (b && c) then Some x else None) ≡ None
 if_none true true false x e = refl
 if_none true false false x e = refl
@@ -253,7 +249,7 @@ none_of a b p q = rw (p, q) refl
 not_in : (past : List Entry) (r j : ℕ) → in_drop past r j ≡ false → before_step past r j ≡ None
 not_in [] r j none = refl
 not_in (e ∷ past) r j none =
-    let before : in_drop past r j ≡ false = or_none (in_drop past r j) _ none in
+    let before : in_drop past r j ≡ false = or_first (in_drop past r j) _ none in
     none_of (before_step past r j) (if is_of r e && (is_step j e.kind && in_drop past r j) then Some past else None) (not_in past r j before) (if_none (is_of r e) (is_step j e.kind) (in_drop past r j) past before)
 
 in_next : (past : List Entry) (e : Entry) (r j : ℕ) → in_drop past r j ≡ false → before_step (e ∷ past) r j ≡ None
@@ -288,9 +284,9 @@ unstepped_unread (e ∷ past) r j none =
 
 -- a transfer is of a job of its kind
 abbrev pub OfKind : Work → Type 0
-OfKind w = (w.part ≡ Gets → gets w.what.kind ≡ true) × (w.part ≡ Puts → puts w.what.kind ≡ true)
+OfKind w = (w.part ≡ Gets → is_get w.what.kind ≡ true) × (w.part ≡ Puts → is_put w.what.kind ≡ true)
 
-first_kind : (kind : KindOfJob) → (first_part kind ≡ Gets → gets kind ≡ true) × (first_part kind ≡ Puts → puts kind ≡ true)
+first_kind : (kind : KindOfJob) → (first_part kind ≡ Gets → is_get kind ≡ true) × (first_part kind ≡ Puts → is_put kind ≡ true)
 first_kind kinds.Get = ((λ e. refl), (λ e. cc))
 first_kind kinds.MoveFrom = ((λ e. refl), (λ e. cc))
 first_kind kinds.Copy = ((λ e. cc), (λ e. refl))
@@ -316,13 +312,13 @@ of_kind s past run w m = invariant s (λ p x. OfKind x) (λ p e is x n was. was)
     own p e r is was x (inr (inr b)) =
         let v = b.by.w in
         let good = steps_good s p e x b (works_fit s p r.1 v (step_runs s p e x b)) in
-        let what : x.what ≡ v.what = ap (λ (j : Running). j.what) (ap running b.work_is ∙ kind_kept (rows_at p s.number) s.number v e e.kind) in
+        let what : x.what ≡ v.what = ap (λ (j : RunningJob). j.what) (ap running_job b.work_is ∙ kind_kept (rows_at p s.number) s.number v e e.kind) in
         let old = was v (step_runs s p e x b) in (
-          (λ part. ap (λ (q : Job). gets q.kind) what ∙ old.0 (gets_was v.part v.phase x.phase (subst (λ q. GoodTo v.part v.phase q x.phase) part good))),
-          (λ part. ap (λ (q : Job). puts q.kind) what ∙ old.1 (puts_was v.part v.phase x.phase (subst (λ q. GoodTo v.part v.phase q x.phase) part good))),
+          (λ part. ap (λ (q : Job). is_get q.kind) what ∙ old.0 (gets_was v.part v.phase x.phase (subst (λ q. GoodTo v.part v.phase q x.phase) part good))),
+          (λ part. ap (λ (q : Job). is_put q.kind) what ∙ old.1 (puts_was v.part v.phase x.phase (subst (λ q. GoodTo v.part v.phase q x.phase) part good))),
         )
 
-gets_remote : (kind : KindOfJob) (peer : Option ℕ) → gets kind ≡ true → drop_side kind peer ≡ Remote
+gets_remote : (kind : KindOfJob) (peer : Option ℕ) → is_get kind ≡ true → drop_side kind peer ≡ Remote
 gets_remote kinds.Get peer e = refl
 gets_remote kinds.MoveFrom peer e = refl
 gets_remote kinds.Drop peer e = absurd (cc)
@@ -358,7 +354,7 @@ drop_unread s late past h w m part fresh side =
             go false old = absurd (let both : true ≡ false = sym (ap is_fresh fresh) ∙ g.1 old in cc)
             go true old = absurd (let both : true ≡ false = sym (ap is_fresh fresh) ∙ drops_off s p e x b (earlier s p e h) at (fresh_is v.phase old) in cc)
         by_part Gets at =
-            let what : x.what ≡ v.what = ap (λ (j : Running). j.what) (ap running b.work_is ∙ kind_kept (rows_at p s.number) s.number v e e.kind) in
+            let what : x.what ≡ v.what = ap (λ (j : RunningJob). j.what) (ap running_job b.work_is ∙ kind_kept (rows_at p s.number) s.number v e e.kind) in
             let remote : side_of v ≡ Remote = gets_remote v.what.kind v.what.peer ((of_kind s p r.1 v (step_runs s p e x b)).0 at) in
             absurd (let both : Local ≡ Remote = sym side ∙ ap (λ (q : Job). drop_side q.kind q.peer) what ∙ remote in cc)
         by_part Puts at = subst (λ n. before_step (e ∷ p) s.number n ≡ None) (sym (step_number s p e x b)) (in_next p e s.number v.number (late p e h is x b at part))

@@ -17,7 +17,7 @@ use Rattle.node_model.specs.Rows.{option_is}
 use Rattle.run_model.specs.Safety.{IsSafe}
 use Rattle.node_model.specs.SetUp.{SetUp}
 use Rattle.race_core.proofs.BySteps.{ByStep}
-use Rattle.run_model.specs.Run.{FramesPart, IsBounded, IsRun, MayBe, Ordered, OwnPart, OwnPast, OwnRun, RunPast, RunStep, TimeIs, set_up}
+use Rattle.run_model.specs.Run.{FramesPart, IsBounded, IsRun, MayBe, ComesInOrder, OwnPart, OwnPast, OwnRun, RunPast, RunStep, TimeIs, set_up}
 use Rattle.race_core.specs.Lawful.{IsLawful}
 use Rattle.race_core.proofs.Own.{IsMessageRun, Meets, MessagePast, Own}
 use Rattle.race_core.proofs.MessageRuns.{message_lawful, message_safe}
@@ -80,7 +80,7 @@ part_of s past e r x is =
     let may : MayBe s past e (Some r) = subst (λ (o : Option ℕ). MayBe s past e o) (some_option e.repo r is) x.may in
     record { words = may.0; own = may.1; frames = may.2 }
 
-bounded : (past : List Entry) (e : Entry) → Ordered past e → IsBounded e
+bounded : (past : List Entry) (e : Entry) → ComesInOrder past e → IsBounded e
 bounded past e o = record { in_time = o.in_time; small = o.small }
 
 -- ---- the past of one repository

@@ -12,7 +12,7 @@ use Rattle.run_data.specs.declared.entry.FrameView.{FrameView}
 use Rattle.run_data.specs.declared.entry.FrameText.{FrameText}
 use Rattle.run_data.specs.declared.entry.FrameText.TheVariants.{Opening, Closing, Bytes, Line}
 use Rattle.run_data.specs.declared.job.Outcome.{Outcome}
-use Rattle.node_model.specs.Slots.{Running}
+use Rattle.node_model.specs.Slots.{RunningJob}
 use Rattle.node_model.specs.Rows.{option_is}
 use Rattle.p2p_wire.specs.declared.message.Message.{Message}
 use Rattle.p2p_wire.specs.declared.message.Message.TheVariants.{AuthSuccess, Version}
@@ -23,7 +23,7 @@ use Rattle.node_model.specs.Jobs
 use Rattle.node_model.specs.Jobs.{Greets, Opens, Part, Phase, Work, claims, closed_part, fault_of, fault_phase, job_end, learns, partner, side_of, talks, talks_on}
 use Rattle.node_model.specs.Look.{Made, waiting}
 use Rattle.node_model.specs.JobStep.{Turn, end_with, me, says_to, talk}
-use Rattle.node_model.specs.Found.{JobKind}
+use Rattle.node_model.specs.Found.{IsJobEntry}
 use Rattle.node_model.specs.Turns.{awaits, by_partner, goes_on, has_room, is_awaiting, takes, takes_frame, with_partner, takes_text}
 use Rattle.race_core.proofs.JobFacts.{frame_found}
 use Rattle.race_core.proofs.JobKept.{claims_kept}
@@ -53,10 +53,10 @@ module _ (t : Turn) (m : Made) (p n : ℕ) (f : FrameView) (at : t.w.phase ≡ G
   talked : (talks_on (rows_of t) (me t) (talker t m.taken) e (partner t.w.what.peer t.w.phase)).version ≡ n
   talked =
       let like = talker_like t.w m.taken in
-      let what : (talker t m.taken).what ≡ t.w.what = ap (λ (j : Running). j.what) like.job_is in
+      let what : (talker t m.taken).what ≡ t.w.what = ap (λ (j : RunningJob). j.what) like.job_is in
       (on_keeps (rows_of t) (me t) e (talker t m.taken) (partner t.w.what.peer t.w.phase) (λ i. partner (what i).peer (like.phase_is i))).0
       ∙ (ap (λ (o : Option FrameView). (learns (claims t.w t.w.part t.w.phase) t.w.phase o).version) took
-      ∙ learnt (claims t.w t.w.part t.w.phase) p n f t.w.phase at (ap (λ (j : Running). j.what.peer) (claims_kept t.w t.w.part t.w.phase) ∙ to) told)
+      ∙ learnt (claims t.w t.w.part t.w.phase) p n f t.w.phase at (ap (λ (j : RunningJob). j.what.peer) (claims_kept t.w t.w.part t.w.phase) ∙ to) told)
 
   unlike : (phase : Phase) → t.w.phase ≡ phase → (Greets p ≡ phase → ⊥) → ⊥
   unlike phase is apart = apart (sym at ∙ is)
@@ -82,7 +82,7 @@ module _ (t : Turn) (m : Made) (p n : ℕ) (f : FrameView) (at : t.w.phase ≡ G
       dead part side phase is live = live
 
   -- **the version that it has then is the one that it took**
-  pub greeted_version : (kind : EntryKind) → JobKind t m kind → ((j : ℕ) (outcome : Outcome) → kind ≢ ends_job j outcome) → IsLive (moved t m kind).phase → is_greeted (stands_at (moved t m kind) p) ≡ true → (moved t m kind).version ≡ n
+  pub greeted_version : (kind : EntryKind) → IsJobEntry t m kind → ((j : ℕ) (outcome : Outcome) → kind ≢ ends_job j outcome) → IsLive (moved t m kind).phase → is_greeted (stands_at (moved t m kind) p) ≡ true → (moved t m kind).version ≡ n
   greeted_version (Fault call by) x goes live greeted = faulted call live greeted
   greeted_version (Share hold end by key) x goes live greeted = absurd (unlike Jobs.Fresh x.first (λ e. cc))
   greeted_version (Bar j need key) x goes live greeted = absurd (unlike Jobs.Fresh x.first (λ e. cc))

@@ -15,7 +15,7 @@ use Rattle.run_data.specs.declared.run.RepoView.{RepoView}
 use Rattle.run_model.specs.Past.{is_of, clock}
 use Rattle.p2p_wire.specs.declared.message.Message.TheVariants.{CheckPresent, LockContent, Success}
 use Rattle.run_model.specs.Said.{Said, Says, message_in}
-use Rattle.run_model.specs.Frames.{Flying, is_job, said_of, last_request, up_of, way_of}
+use Rattle.run_model.specs.Frames.{FlyingFrame, is_job, said_of, last_request, up_of, way_of}
 use Rattle.node_model.specs.Evidence.{Standing, Claimed, Ignored, Asked, Offer, Gives, Fails, candidates, gather, reached_candidates}
 use Rattle.run_model.specs.Drops.{cause_with, is_waiting, newer_cause, or_closed, standing}
 
@@ -34,7 +34,7 @@ heard_request time (Says (LockContent key)) = Locked_at time key ∷ []
 heard_request time (Says (CheckPresent key)) = Seen_there key ∷ []
 heard_request time _ = []
 
-abbrev pub heard_answer : Said → Option Flying → List Heard
+abbrev pub heard_answer : Said → Option FlyingFrame → List Heard
 heard_answer (Says Success) (Some x) = heard_request x.entry.time (said_of x)
 heard_answer _ _ = []
 

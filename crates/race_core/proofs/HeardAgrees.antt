@@ -14,7 +14,7 @@ use Rattle.p2p_wire.specs.declared.message.Message.TheVariants.{CheckPresent, Lo
 use Rattle.p2p_wire.specs.Messages.{message_of, order_of}
 use Rattle.run_model.specs.Said.{Said, Says, message_in, said_line}
 use Rattle.race_core.proofs.Ways.{is_answer}
-use Rattle.run_model.specs.Frames.{Flying, Sent, last_request, said_of, up_of, way_of}
+use Rattle.run_model.specs.Frames.{FlyingFrame, SendingEntry, last_request, said_of, up_of, way_of}
 use Rattle.run_model.specs.Drops.{cause_by_sender, cause_said}
 use Rattle.race_core.proofs.Heard.{Heard, Locked_at, Seen_there, heard_answer, heard_request}
 use Rattle.run_model.specs.Run.{OwnPast}
@@ -51,7 +51,7 @@ by_body time Closing = refl
 by_body time (Bytes n) = refl
 by_body time (Line text) = by_said time (message_of text)
 
-success_hears : (o : Option Flying) → heard_answer (Says Success) o ≡ by_request (option_map asked_by o)
+success_hears : (o : Option FlyingFrame) → heard_answer (Says Success) o ≡ by_request (option_map asked_by o)
 success_hears None = refl
 success_hears (Some x) = by_body x.entry.time x.frame.body
 
@@ -103,7 +103,7 @@ takes_success reads_back s past past_is e f down t success =
     (taken_last reads_back s past past_is e f down is t (option_map asked_by last) refl))
 
 -- no other message tells of a copy
-pub takes_other : (m : Said) (last : Option Flying) → ((m ≡ Says Success) → ⊥) → heard_answer m last ≡ []
+pub takes_other : (m : Said) (last : Option FlyingFrame) → ((m ≡ Says Success) → ⊥) → heard_answer m last ≡ []
 takes_other (Says Success) last other = absurd (other refl)
 takes_other m last other = refl
 
@@ -117,23 +117,23 @@ abbrev pub last_is_look : Option Request → Bool
 last_is_look None = false
 last_is_look (Some x) = is_look x.what
 
-abbrev pub cause_if : Bool → Option Sent → Option Cause
+abbrev pub cause_if : Bool → Option SendingEntry → Option Cause
 cause_if true s = Some (cause_by_sender s)
 cause_if false s = None
 
-cause_line : (m : Option Message) (s : Option Sent) → cause_said (Says Failure) (Some (said_line m)) s ≡ cause_if (is_look m) s
+cause_line : (m : Option Message) (s : Option SendingEntry) → cause_said (Says Failure) (Some (said_line m)) s ≡ cause_if (is_look m) s
 cause_line None s = refl
 cause_line (Some (CheckPresent key)) s = refl
 cause_line (Some m) s = refl
 
-cause_body : (body : FrameText) (s : Option Sent) → cause_said (Says Failure) (Some (message_in body)) s ≡ cause_if (is_look (line_in body)) s
+cause_body : (body : FrameText) (s : Option SendingEntry) → cause_said (Says Failure) (Some (message_in body)) s ≡ cause_if (is_look (line_in body)) s
 unfolding message_in
 cause_body Opening s = refl
 cause_body Closing s = refl
 cause_body (Bytes n) s = refl
 cause_body (Line text) s = cause_line (message_of text) s
 
-failure_says : (o : Option Flying) (s : Option Sent) → cause_said (Says Failure) (option_map said_of o) s ≡ cause_if (last_is_look (option_map asked_by o)) s
+failure_says : (o : Option FlyingFrame) (s : Option SendingEntry) → cause_said (Says Failure) (option_map said_of o) s ≡ cause_if (last_is_look (option_map asked_by o)) s
 failure_says None s = refl
 failure_says (Some x) s = cause_body x.frame.body s
 
@@ -164,7 +164,7 @@ last_looks key target phase peer last on waits is = look_copy last (is waits)
 
 -- **a cause, by the phase**: FAILURE that a job takes is a cause where its phase asks for a look
 pub takes_failure : SentAreRead → (s : SetUp) (past : List Entry) → OwnPast s past → (e : Entry) (f : FrameView) → f.up ≡ false
-    → (t : TakenBy s past e f) → message_in f.body ≡ Says Failure → (from : Option Sent)
+    → (t : TakenBy s past e f) → message_in f.body ≡ Says Failure → (from : Option SendingEntry)
     → cause_said (message_in f.body) (option_map said_of (last_request past (up_of (way_of s.number f)))) from ≡ cause_if (refuses_look t.w.phase) from
 takes_failure reads_back s past past_is e f down t failure from =
     let last = last_request past (up_of (way_of s.number f)) in

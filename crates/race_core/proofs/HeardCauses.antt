@@ -36,7 +36,7 @@ use Rattle.race_core.proofs.SessionOwn.{in_says, member_frames, speaks}
 use Rattle.node_model.specs.SetUp.{SetUp}
 use Rattle.node_model.specs.AnyTime.{MayCome}
 use Rattle.node_model.specs.Sessions.{line_in}
-use Rattle.node_model.specs.Jobs.{AsksLook, Work, job_end, running}
+use Rattle.node_model.specs.Jobs.{AsksLook, Work, job_end, running_job}
 use Rattle.run_model.specs.Run.{OwnPart, OwnRun, OwnPast}
 use Rattle.race_core.proofs.JobKept.{jobs_are}
 use Rattle.race_core.proofs.WorkNumbers.{same_slot_same_work}
@@ -205,14 +205,14 @@ shut_told past e r j peer slot c its other o shut = told_now past e r j peer (sh
 pub runs_in : (past : List Entry) (r : ℕ) (w : Work) → Member w (works past r) → in_slot (jobs past r) w.number w.slot ≡ true
 runs_in past r w m = subst (λ js. in_slot js w.number w.slot ≡ true) (jobs_are past r) (go (works past r) m)
   where
-    go : (ws : List Work) → Member w ws → in_slot (map running ws) w.number w.slot ≡ true
+    go : (ws : List Work) → Member w ws → in_slot (map running_job ws) w.number w.slot ≡ true
     go [] m = absurd m
     go (v ∷ ws) (inl m) =
         let h : ((v.number == w.number) && (v.slot == w.slot)) ≡ true = subst (λ (y : Work). ((y.number == w.number) && (y.slot == w.slot)) ≡ true) m (rw (eqb_refl w.number, eqb_refl w.slot) refl) in
         rw h refl
     go (v ∷ ws) (inr m) = or_true ((v.number == w.number) && (v.slot == w.slot)) (go ws m)
       where
-        or_true : (b : Bool) → in_slot (map running ws) w.number w.slot ≡ true → (b || in_slot (map running ws) w.number w.slot) ≡ true
+        or_true : (b : Bool) → in_slot (map running_job ws) w.number w.slot ≡ true → (b || in_slot (map running_job ws) w.number w.slot) ≡ true
         or_true true h = refl
         or_true false h = h
 

@@ -7,14 +7,14 @@ use Rattle.annex_base.proofs.Conditions.{eqb_refl}
 use Rattle.drop_proof.specs.declared.rule.Side.{Side}
 use Rattle.drop_proof.specs.declared.rule.Side.TheVariants.{Remote}
 use Rattle.run_data.specs.declared.entry.Entry.{Entry}
-use Rattle.node_model.specs.Slots.{Running}
+use Rattle.node_model.specs.Slots.{RunningJob}
 use Rattle.race_core.proofs.Heard.{heard, hears, newer_heard}
 use Rattle.race_core.proofs.KnownAgrees.{heard_as}
 use Rattle.race_core.proofs.HeardCauses.{Told, told_stays}
 use Rattle.node_model.specs.SetUp.{SetUp}
 use Rattle.run_model.specs.States.{end_at}
 use Rattle.node_model.specs.Jobs
-use Rattle.node_model.specs.Jobs.{AsksLock, AsksLook, AsksTime, Drops, Greets, Lacks, Opens, Orders, Part, Phase, Unseen, Work, partner, running}
+use Rattle.node_model.specs.Jobs.{AsksLock, AsksLook, AsksTime, Drops, Greets, Lacks, Opens, Orders, Part, Phase, Unseen, Work, partner, running_job}
 use Rattle.race_core.proofs.ClientRuns.{client_end}
 use Rattle.race_core.proofs.DropReads.{told_of}
 use Rattle.race_core.proofs.TalkFacts.{Fits}
@@ -26,22 +26,22 @@ gave_none (Some Unseen) = true
 gave_none (Some (Lacks cause)) = true
 gave_none h = false
 
-abbrev pub side_in : Running → Side
+abbrev pub side_in : RunningJob → Side
 side_in j = Jobs.drop_side j.what.kind j.what.peer
 
-abbrev pub target_in : ℕ → Running → ℕ
+abbrev pub target_in : ℕ → RunningJob → ℕ
 target_in r j = Jobs.or_own r (side_in j) j.what.peer
 
 -- a candidate, on whose connection the job stands, told nothing yet; once the connection is closed, the entries say so
-pub record Candidate (s : SetUp) (past : List Entry) (j : Running) (list : List (ℕ × Jobs.Heard)) (peer : ℕ) : Type 0 where
+pub record Candidate (s : SetUp) (past : List Entry) (j : RunningJob) (list : List (ℕ × Jobs.Heard)) (peer : ℕ) : Type 0 where
   pub unheard : told_of list peer ≡ None
   pub shut : (peer == s.number) ≡ false → (end_at past s.number (client_end peer j.slot)).opened ≡ false → Told past s.number j.number peer
 
-abbrev pub AtTarget : SetUp → Running → ℕ → Type 0
+abbrev pub AtTarget : SetUp → RunningJob → ℕ → Type 0
 AtTarget s j peer = (side_in j ≡ Remote) × (peer ≡ target_in s.number j)
 
 -- where a drop stands
-abbrev pub Asking : SetUp → List Entry → Running → List (ℕ × Jobs.Heard) → Phase → Type 0
+abbrev pub Asking : SetUp → List Entry → RunningJob → List (ℕ × Jobs.Heard) → Phase → Type 0
 Asking s past j list (Opens p) = AtTarget s j p ⊎ Candidate s past j list p
 Asking s past j list (Greets p) = AtTarget s j p ⊎ Candidate s past j list p
 Asking s past j list (AsksLock p since) = Candidate s past j list p
@@ -51,26 +51,26 @@ Asking s past j list Orders = side_in j ≡ Remote
 Asking s past j list phase = Unit {0}
 
 -- the list agrees with the entries
-pub record Lists (s : SetUp) (past : List Entry) (j : Running) (list : List (ℕ × Jobs.Heard)) : Type 0 where
+pub record Lists (s : SetUp) (past : List Entry) (j : RunningJob) (list : List (ℕ × Jobs.Heard)) : Type 0 where
   pub heard_is : (c : ℕ) → heard past s.number j.number c ≡ heard_as j.what.key (told_of list c)
   pub told : (c : ℕ) → (c == s.number) ≡ false → gave_none (told_of list c) ≡ true → Told past s.number j.number c
 
-pub record Holds (s : SetUp) (past : List Entry) (j : Running) (list : List (ℕ × Jobs.Heard)) (part : Part) (phase : Phase) : Type 0 where
+pub record Holds (s : SetUp) (past : List Entry) (j : RunningJob) (list : List (ℕ × Jobs.Heard)) (part : Part) (phase : Phase) : Type 0 where
   pub lists : Lists s past j list
   pub start : AtStart part phase → list ≡ []
   pub asking : part ≡ Drops → Asking s past j list phase
 
 abbrev pub HoldsOf : SetUp → List Entry → Work → Type 0
-HoldsOf s past w = Holds s past (running w) w.heard w.part w.phase
+HoldsOf s past w = Holds s past (running_job w) w.heard w.part w.phase
 
 -- ---- an entry that tells the job nothing
 
 -- an end that is shut was so before, or the entry tells why
-abbrev pub ShutTold : SetUp → List Entry → Entry → Running → Type 0
+abbrev pub ShutTold : SetUp → List Entry → Entry → RunningJob → Type 0
 ShutTold s past e j = (peer : ℕ) → (peer == s.number) ≡ false → (end_at (e ∷ past) s.number (client_end peer j.slot)).opened ≡ false
     → ((end_at past s.number (client_end peer j.slot)).opened ≡ false) ⊎ Told (e ∷ past) s.number j.number peer
 
-module _ (s : SetUp) (past : List Entry) (e : Entry) (j : Running) where
+module _ (s : SetUp) (past : List Entry) (e : Entry) (j : RunningJob) where
   pub candidate_kept : (list : List (ℕ × Jobs.Heard)) (peer : ℕ) → ShutTold s past e j → Candidate s past j list peer → Candidate s (e ∷ past) j list peer
   candidate_kept list peer ends x = record {
     unheard = x.unheard;
@@ -134,18 +134,18 @@ module _ (s : SetUp) (past : List Entry) (e : Entry) (j : Running) where
 
 -- ---- where it stands
 
-not_at_target : (s : SetUp) (past : List Entry) (j : Running) (list : List (ℕ × Jobs.Heard)) (p peer : ℕ) → p ≡ peer → (target_in s.number j == peer) ≡ false → AtTarget s j p ⊎ Candidate s past j list p → Candidate s past j list peer
+not_at_target : (s : SetUp) (past : List Entry) (j : RunningJob) (list : List (ℕ × Jobs.Heard)) (p peer : ℕ) → p ≡ peer → (target_in s.number j == peer) ≡ false → AtTarget s j p ⊎ Candidate s past j list p → Candidate s past j list peer
 not_at_target s past j list p peer same apart (inr x) = subst (Candidate s past j list) same x
 not_at_target s past j list p peer same apart (inl x) =
     absurd (true≢false (sym (eqb_refl peer) ∙ subst (λ n. (n == peer) ≡ false) (sym (sym same ∙ x.1)) apart))
 
-target_peer : (s : SetUp) (past : List Entry) (j : Running) (list : List (ℕ × Jobs.Heard)) (peer : ℕ) → j.what.peer ≡ Some peer → (target_in s.number j == peer) ≡ false → side_in j ≡ Remote → Candidate s past j list peer
+target_peer : (s : SetUp) (past : List Entry) (j : RunningJob) (list : List (ℕ × Jobs.Heard)) (peer : ℕ) → j.what.peer ≡ Some peer → (target_in s.number j == peer) ≡ false → side_in j ≡ Remote → Candidate s past j list peer
 target_peer s past j list peer on apart side =
     let is : target_in s.number j ≡ peer = ap (λ (d : Side). Jobs.or_own s.number d j.what.peer) side ∙ ap (Jobs.or_own s.number Remote) on in
     absurd (true≢false (sym (eqb_refl peer) ∙ subst (λ n. (n == peer) ≡ false) is apart))
 
 -- on a connection, not its target's, it stands with a candidate
-pub on_candidate : (s : SetUp) (past : List Entry) (j : Running) (list : List (ℕ × Jobs.Heard)) (phase : Phase) (peer : ℕ) → Fits Drops phase → partner j.what.peer phase ≡ Some peer → (target_in s.number j == peer) ≡ false
+pub on_candidate : (s : SetUp) (past : List Entry) (j : RunningJob) (list : List (ℕ × Jobs.Heard)) (phase : Phase) (peer : ℕ) → Fits Drops phase → partner j.what.peer phase ≡ Some peer → (target_in s.number j == peer) ≡ false
     → Asking s past j list phase → Candidate s past j list peer
 on_candidate s past j list (Opens p) peer fits on apart x = not_at_target s past j list p peer (same_Some p peer on) apart x
 on_candidate s past j list (Greets p) peer fits on apart x = not_at_target s past j list p peer (same_Some p peer on) apart x

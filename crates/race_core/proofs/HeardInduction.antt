@@ -17,7 +17,7 @@ use Rattle.run_data.specs.declared.entry.FrameText.TheVariants.{Opening}
 use Rattle.run_data.specs.declared.job.Cause.TheVariants as causes
 use Rattle.p2p_wire.specs.declared.message.Message.{Message}
 use Rattle.p2p_wire.specs.declared.message.Message.TheVariants.{Failure, Success}
-use Rattle.node_model.specs.Slots.{Running}
+use Rattle.node_model.specs.Slots.{RunningJob}
 use Rattle.run_model.specs.Past.{begun_count, is_of}
 use Rattle.run_model.specs.Logs.{is_step}
 use Rattle.node_model.specs.Evidence.{Standing, Claimed, Ignored, Asked}
@@ -33,12 +33,12 @@ use Rattle.run_model.specs.States.{state_of, end_at, rows_at, works}
 use Rattle.node_model.specs.Sessions.{line_in}
 use Rattle.node_model.specs.Ends.{EndName, end_after, end_sends, end_took, frames, sent_at, taken_at}
 use Rattle.node_model.specs.Jobs
-use Rattle.node_model.specs.Jobs.{AsksLock, AsksLook, AsksTime, Drops, Fresh, Gets, Greets, Held, Lacks, Next, Opens, Orders, Part, Phase, Puts, Seen, Unseen, Work, heard_of, job_end, partner, running, work_kind}
+use Rattle.node_model.specs.Jobs.{AsksLock, AsksLook, AsksTime, Drops, Fresh, Gets, Greets, Held, Lacks, Next, Opens, Orders, Part, Phase, Puts, Seen, Unseen, Work, heard_of, job_end, partner, running_job, work_kind}
 use Rattle.race_core.proofs.Knowing.{candidates_of, is_to_ask}
 use Rattle.node_model.specs.Knows.{is_unasked, standing_of}
 use Rattle.node_model.specs.JobStep.{Turn, end_with}
 use Rattle.run_model.specs.Run.{OwnPast, OwnRun}
-use Rattle.node_model.specs.Found.{JobKind}
+use Rattle.node_model.specs.Found.{IsJobEntry}
 use Rattle.race_core.proofs.JobKept.{kind_kept}
 use Rattle.race_core.proofs.TalkFacts.{Apart, Chosen, Fits}
 use Rattle.race_core.proofs.PhaseFacts.{Good, GoodTo, is_fresh}
@@ -83,8 +83,8 @@ module _ (reads_back : SentAreRead) (s : SetUp) (past : List Entry) (e : Entry) 
   abbrev v : Work
   v = b.by.w
 
-  abbrev j : Running
-  j = running b.by.w
+  abbrev j : RunningJob
+  j = running_job b.by.w
 
   abbrev t : Turn
   t = turn_at s past e b.by
@@ -95,7 +95,7 @@ module _ (reads_back : SentAreRead) (s : SetUp) (past : List Entry) (e : Entry) 
   good : GoodTo v.part v.phase y.part y.phase
   good = subst (Good v) b.work_is (steps_good s past e x b fit)
 
-  kind_is : JobKind t b.by.made e.kind
+  kind_is : IsJobEntry t b.by.made e.kind
   kind_is = step_kind s past e x b
 
   end_now : (a : EndName) → (end_after a (end_at past r a) e).opened ≡ false → (end_at (e ∷ past) r a).opened ≡ false
@@ -155,7 +155,7 @@ module _ (reads_back : SentAreRead) (s : SetUp) (past : List Entry) (e : Entry) 
 
     shared : (hold end : ℕ) (owner : By) (key : List ℕ) → e.kind ≡ Share hold end owner key → Listed'
     shared hold end owner key kind =
-        let f = subst (JobKind t b.by.made) kind kind_is in
+        let f = subst (IsJobEntry t b.by.made) kind kind_is in
         let list : y.heard ≡ (r, Held e.time) ∷ v.heard = ap (λ k. (work_kind (rows_at past r) r v e k).heard) kind in
         let part : y.part ≡ Drops = ap (λ k. (work_kind (rows_at past r) r v e k).part) kind ∙ f.part_is in
         let phase : y.phase ≡ Next = ap (λ k. (work_kind (rows_at past r) r v e k).phase) kind in
@@ -338,8 +338,8 @@ module _ (reads_back : SentAreRead) (s : SetUp) (past : List Entry) (e : Entry) 
   pub holds_step : HoldsOf s (e ∷ past) x
   holds_step =
       let l = list_step in
-      let same : running y ≡ j = kind_kept (rows_at past r) r v e e.kind in
-      subst (HoldsOf s (e ∷ past)) (sym b.work_is) (subst (λ (q : Running). Holds s (e ∷ past) q y.heard y.part y.phase) (sym same) (record { lists = l.lists; start = l.start; asking = asking_step }))
+      let same : running_job y ≡ j = kind_kept (rows_at past r) r v e e.kind in
+      subst (HoldsOf s (e ∷ past)) (sym b.work_is) (subst (λ (q : RunningJob). Holds s (e ∷ past) q y.heard y.part y.phase) (sym same) (record { lists = l.lists; start = l.start; asking = asking_step }))
 
 -- ---- entries that are no steps of the job
 
@@ -353,11 +353,11 @@ other_tells r c j past e is = rw is (go (c == r))
     go true = refl
     go false = refl
 
-other_shut : (s : SetUp) (past : List Entry) (e : Entry) (j : Running) → is_of s.number e ≡ false → ShutTold s past e j
+other_shut : (s : SetUp) (past : List Entry) (e : Entry) (j : RunningJob) → is_of s.number e ≡ false → ShutTold s past e j
 other_shut s past e j is peer other shut =
     inl (subst (λ (b : Bool). (if b then end_after (client_end peer j.slot) (end_at past s.number (client_end peer j.slot)) e else end_at past s.number (client_end peer j.slot)).opened ≡ false) is shut)
 
-stays_shut : (s : SetUp) (past : List Entry) (e : Entry) → OwnRun s (e ∷ past) → is_of s.number e ≡ true → (w : Work) → Stays s past e w → ShutTold s past e (running w)
+stays_shut : (s : SetUp) (past : List Entry) (e : Entry) → OwnRun s (e ∷ past) → is_of s.number e ≡ true → (w : Work) → Stays s past e w → ShutTold s past e (running_job w)
 stays_shut s past e run is w b peer other shut = go (end_at past s.number (job_end w peer)).opened refl
   where
     go : (c : Bool) → (end_at past s.number (job_end w peer)).opened ≡ c → ((end_at past s.number (job_end w peer)).opened ≡ false) ⊎ Told (e ∷ past) s.number w.number peer
@@ -391,26 +391,26 @@ module _ (reads_back : SentAreRead) (s : SetUp) where
       let empty : w.heard ≡ [] = ap (λ (y : Work). y.heard) b.work_is in
       let phase : w.phase ≡ Fresh = ap (λ (y : Work). y.phase) b.work_is in
       record {
-        lists = subst (Lists s (e ∷ past) (running w)) (sym empty) (record {
+        lists = subst (Lists s (e ∷ past) (running_job w)) (sym empty) (record {
           heard_is = λ c. ap (λ ts. newer_heard ts (heard past s.number w.number c)) (own_still past e h is w.number (begin_still s past e w b) c)
               ∙ future_heard past (earlier s past e h) w.number (begins_later s past e h.run is w b) c;
           told = λ c other none. absurd (cc);
         });
         start = λ at. empty;
-        asking = λ drops. subst (Asking s (e ∷ past) (running w) w.heard) (sym phase) tt;
+        asking = λ drops. subst (Asking s (e ∷ past) (running_job w) w.heard) (sym phase) tt;
       }
 
   -- **H**
   pub heard_holds : (past : List Entry) → OwnPast s past → (w : Work) → Member w (works past s.number) → HoldsOf s past w
   heard_holds past h w m = invariant s (λ p x. OwnPast s p → HoldsOf s p x)
-      (λ p e is x n was k. holds_kept s p e (running x) x.heard x.part x.phase (λ c. other_tells s.number c x.number p e is) (other_shut s p e (running x) is) (was (earlier s p e k)))
+      (λ p e is x n was k. holds_kept s p e (running_job x) x.heard x.part x.phase (λ c. other_tells s.number c x.number p e is) (other_shut s p e (running_job x) is) (was (earlier s p e k)))
       own past h.run w m h
     where
       own : (p : List Entry) (e : Entry) → OwnRun s (e ∷ p) → is_of s.number e ≡ true → ((x : Work) → Member x (works p s.number) → OwnPast s p → HoldsOf s p x)
           → (x : Work) → Origin s p e x → OwnPast s (e ∷ p) → HoldsOf s (e ∷ p) x
       own p e run is was x (inl b) k = begins_holds p e k is x b
       own p e run is was x (inr (inl b)) k =
-          holds_kept s p e (running x) x.heard x.part x.phase (own_still p e k is x.number b.still) (stays_shut s p e k.run is x b) (was x b.ran (earlier s p e k))
+          holds_kept s p e (running_job x) x.heard x.part x.phase (own_still p e k is x.number b.still) (stays_shut s p e k.run is x b) (was x b.ran (earlier s p e k))
       own p e run is was x (inr (inr b)) k =
           let before = earlier s p e k in
           let mine = k.run.0 is in

@@ -22,10 +22,10 @@ use Rattle.p2p_wire.specs.declared.message.Message.TheVariants.{AlreadyHave, Dat
 use Rattle.p2p_wire.specs.Messages.{message_of}
 use Rattle.node_model.specs.Ends.{end_after, EndName}
 use Rattle.node_model.specs.Jobs
-use Rattle.node_model.specs.Jobs.{AsksLock, AsksLook, Drops, Fresh, GetsData, GetsWord, Gets, Greets, Next, Orders, Part, Phase, Puts, PutsAnswer, PutsOffer, Rows, Work, claims, closed_part, fault_of, fault_phase, first_look, after_gain, hears_frame, job_end, learns, listens, quiet, running, says, says_some, sends, talks, talks_on, target_of, took, took_line, after_transfer, after_failed_release, word_taken, work_kind}
+use Rattle.node_model.specs.Jobs.{AsksLock, AsksLook, Drops, Fresh, GetsData, GetsWord, Gets, Greets, Next, Orders, Part, Phase, Puts, PutsAnswer, PutsOffer, RowsAndEnds, Work, claims, closed_part, fault_of, fault_phase, first_look, after_gain, hears_frame, job_end, learns, listens, quiet, running_job, says, says_some, sends, talks, talks_on, target_of, after_frame, after_line, after_transfer, after_failed_release, word_taken, work_kind}
 use Rattle.run_data.specs.declared.entry.By.{By}
 use Rattle.run_data.specs.declared.job.Cause.{Cause}
-use Rattle.node_model.specs.Slots.{Running}
+use Rattle.node_model.specs.Slots.{RunningJob}
 use Rattle.node_model.specs.Rows.{option_is}
 use Rattle.node_model.specs.JobStep.{Turn}
 use Rattle.race_core.proofs.ClientTurns.{talker, talker_phase}
@@ -104,7 +104,7 @@ pub record OwnLacks (r : ℕ) (w x : Work) : Type 0 where
   pub later : x.phase ≡ Next
   pub list : x.heard ≡ (r, Jobs.Lacks cause) ∷ w.heard
 
-pub record ClosedAt (rows : Rows) (r : ℕ) (w : Work) (e : Entry) (x : Work) : Type 0 where
+pub record ClosedAt (rows : RowsAndEnds) (r : ℕ) (w : Work) (e : Entry) (x : Work) : Type 0 where
   pub peer : ℕ
   pub on : Jobs.partner w.what.peer w.phase ≡ Some peer
   pub shut : (end_after (job_end w peer) (rows.ends (job_end w peer)) e).opened ≡ false
@@ -122,7 +122,7 @@ pub record FrameTold (w : Work) (e : Entry) (x : Work) : Type 0 where
   pub told : LockTold w w.phase m x ⊎ LookTold w w.phase m x
 
 -- the four ways of a list
-abbrev pub Changed : Rows → ℕ → Work → Entry → Work → Type 0
+abbrev pub Changed : RowsAndEnds → ℕ → Work → Entry → Work → Type 0
 Changed rows r w e x = SameList w x ⊎ (OwnLacks r w x ⊎ (ClosedAt rows r w e x ⊎ FrameTold w e x))
 
 -- the same for a work that talks, which has the list, the place and the phase of w
@@ -130,7 +130,7 @@ pub record Talker (w y : Work) : Type 0 where
   pub list : y.heard ≡ w.heard
   pub part_is : y.part ≡ w.part
   pub phase_is : y.phase ≡ w.phase
-  pub same : running y ≡ running w
+  pub same : running_job y ≡ running_job w
 
 first_change : (r : ℕ) (y : Work) (part : Part) (here : Bool) (bar : Option ℕ) → y.phase ≡ Fresh → y.part ≡ part → SameList y (first_look r y part here bar) ⊎ OwnLacks r y (first_look r y part here bar)
 first_change r y Gets true bar first is = inl (transferred_list y (outcomes.Got None None))
@@ -138,15 +138,15 @@ first_change r y Drops false bar first is = inr (record { cause = causes.Absent;
 first_change r y Drops true (Some i) first is = inr (record { cause = causes.Barred; first = first; part_is = is; later = refl; list = refl })
 first_change r y part here bar first is = inl refl
 
-quiet_change : (rows : Rows) (r : ℕ) (y : Work) (phase : Phase) → y.phase ≡ phase → SameList y (quiet rows r y phase) ⊎ OwnLacks r y (quiet rows r y phase)
+quiet_change : (rows : RowsAndEnds) (r : ℕ) (y : Work) (phase : Phase) → y.phase ≡ phase → SameList y (quiet rows r y phase) ⊎ OwnLacks r y (quiet rows r y phase)
 quiet_change rows r y Fresh first = first_change r y y.part (rows.present y.what.key) (rows.bar y.what.key) first refl
 quiet_change rows r y phase first = inl refl
 
-own_changed : (rows : Rows) (r : ℕ) (w y : Work) (e : Entry) (x : Work) → Talker w y → SameList y x ⊎ OwnLacks r y x → Changed rows r w e x
+own_changed : (rows : RowsAndEnds) (r : ℕ) (w y : Work) (e : Entry) (x : Work) → Talker w y → SameList y x ⊎ OwnLacks r y x → Changed rows r w e x
 own_changed rows r w y e x s (inl same) = inl (same ∙ s.list)
 own_changed rows r w y e x s (inr own) = inr (inl (record { cause = own.cause; first = sym s.phase_is ∙ own.first; part_is = sym s.part_is ∙ own.part_is; later = own.later; list = own.list ∙ ap (λ (hs : List (ℕ × Jobs.Heard)). (r, Jobs.Lacks own.cause) ∷ hs) s.list }))
 
-frame_changed : (rows : Rows) (r : ℕ) (w y : Work) (e : Entry) (f : FrameView) (m : Message) → Talker w y → e.taken ≡ Some f → e.sent ≡ [] → line_in f.body ≡ Some m → Changed rows r w e (listens y y.phase m)
+frame_changed : (rows : RowsAndEnds) (r : ℕ) (w y : Work) (e : Entry) (f : FrameView) (m : Message) → Talker w y → e.taken ≡ Some f → e.sent ≡ [] → line_in f.body ≡ Some m → Changed rows r w e (listens y y.phase m)
 frame_changed rows r w y e f m s takes sends says_it = elim (listens_list y y.phase m) [ inl same ↦ inl (same ∙ s.list) | inr told ↦ inr (inr (inr (record { f = f; takes_it = takes; sends_none = sends; m = m; says_it = says_it; told = as_w told }))) ]
   where
     as_w : LockTold y y.phase m (listens y y.phase m) ⊎ LookTold y y.phase m (listens y y.phase m) → LockTold w w.phase m (listens y y.phase m) ⊎ LookTold w w.phase m (listens y y.phase m)
@@ -160,15 +160,15 @@ frame_changed rows r w y e f m s takes sends says_it = elim (listens_list y y.ph
       ];
     })
 
-took_changed : (rows : Rows) (r : ℕ) (w y : Work) (e : Entry) (f : FrameView) → Talker w y → e.taken ≡ Some f → e.sent ≡ [] → (body : FrameText) → f.body ≡ body → Changed rows r w e (took y body)
+took_changed : (rows : RowsAndEnds) (r : ℕ) (w y : Work) (e : Entry) (f : FrameView) → Talker w y → e.taken ≡ Some f → e.sent ≡ [] → (body : FrameText) → f.body ≡ body → Changed rows r w e (after_frame y body)
 took_changed rows r w y e f s takes sends (Line text) is = line (message_of text) (ap line_in is)
   where
-    line : (m : Option Message) → line_in f.body ≡ m → Changed rows r w e (took_line y m)
+    line : (m : Option Message) → line_in f.body ≡ m → Changed rows r w e (after_line y m)
     line None h = inl s.list
     line (Some m) h = frame_changed rows r w y e f m s takes sends h
 took_changed rows r w y e f s takes sends body is = inl s.list
 
-talks_changed : (rows : Rows) (r : ℕ) (w y : Work) (e : Entry) → Talker w y → (fs : List FrameView) → e.sent ≡ fs → Changed rows r w e (talks rows r y e fs)
+talks_changed : (rows : RowsAndEnds) (r : ℕ) (w y : Work) (e : Entry) → Talker w y → (fs : List FrameView) → e.sent ≡ fs → Changed rows r w e (talks rows r y e fs)
 talks_changed rows r w y e s (f ∷ fs) sends = inl (sends_list y e.time f.peer (Jobs.taken_message e.taken) f.body ∙ s.list)
 talks_changed rows r w y e s [] sends = heard (e.taken) refl
   where
@@ -176,7 +176,7 @@ talks_changed rows r w y e s [] sends = heard (e.taken) refl
     heard None h = own_changed rows r w y e (quiet rows r y y.phase) s (quiet_change rows r y y.phase refl)
     heard (Some f) h = took_changed rows r w y e f s h sends f.body refl
 
-on_changed : (rows : Rows) (r : ℕ) (w y : Work) (e : Entry) → Talker w y → (p : Option ℕ) → Jobs.partner w.what.peer w.phase ≡ p → Changed rows r w e (talks_on rows r y e p)
+on_changed : (rows : RowsAndEnds) (r : ℕ) (w y : Work) (e : Entry) → Talker w y → (p : Option ℕ) → Jobs.partner w.what.peer w.phase ≡ p → Changed rows r w e (talks_on rows r y e p)
 on_changed rows r w y e s None on = talks_changed rows r w y e s e.sent refl
 on_changed rows r w y e s (Some peer) on =
     if_either (Changed rows r w e) (end_after (job_end y peer) (rows.ends (job_end y peer)) e).opened (talks rows r y e e.sent) (closed_part r y peer y.part)
@@ -186,14 +186,14 @@ on_changed rows r w y e s (Some peer) on =
       | inr c ↦ inr (inr (inl (record {
         peer = peer;
         on = on;
-        shut = subst (λ (j : Running). (end_after (end_in j) (rows.ends (end_in j)) e).opened ≡ false) s.same h;
-        no_target = subst (λ (j : Running). (Jobs.or_own r (Jobs.drop_side j.what.kind j.what.peer) j.what.peer == peer) ≡ false) s.same c.1;
+        shut = subst (λ (j : RunningJob). (end_after (end_in j) (rows.ends (end_in j)) e).opened ≡ false) s.same h;
+        no_target = subst (λ (j : RunningJob). (Jobs.or_own r (Jobs.drop_side j.what.kind j.what.peer) j.what.peer == peer) ≡ false) s.same c.1;
         part_is = sym s.part_is ∙ c.0;
         list = c.2 ∙ ap (λ (hs : List (ℕ × Jobs.Heard)). (peer, Jobs.Lacks causes.Closed) ∷ hs) s.list;
       })))
     ])
   where
-    end_in : Running → EndName
+    end_in : RunningJob → EndName
     end_in j = record { peer = peer; slot = j.slot; client = true }
 
 pub unreleased_list : (w : Work) (time : ℕ) (phase : Phase) → SameList w (after_failed_release w time phase)
@@ -218,7 +218,7 @@ share_or (Share hold end owner key) = inl (hold, end, owner, key, refl)
 share_or kind = inr (λ hold end owner key e. cc)
 
 -- **an entry of the job, other than its own share, changes its list in one of four ways**
-pub kind_changed : (rows : Rows) (r : ℕ) (w : Work) (e : Entry) → Talker w (learns (claims w w.part w.phase) w.phase e.taken) → (kind : EntryKind)
+pub kind_changed : (rows : RowsAndEnds) (r : ℕ) (w : Work) (e : Entry) → Talker w (learns (claims w w.part w.phase) w.phase e.taken) → (kind : EntryKind)
     → ((hold end : ℕ) (owner : By) (key : List ℕ) → kind ≢ Share hold end owner key) → Changed rows r w e (work_kind rows r w e kind)
 kind_changed rows r w e s (Fault call owner) other = own_changed rows r w w e (fault_of r w e.time call) (record { list = refl; part_is = refl; phase_is = refl; same = refl }) (call_change r w e.time call)
 kind_changed rows r w e s (Bar job need key) other = inl refl

@@ -5,7 +5,7 @@ use Rattle.std.proofs.lemmas.Bool.{true≢false, eqb-true, and_parts}
 use Rattle.std.proofs.lemmas.Option.{same_Some}
 use Rattle.annex_base.specs.Lists.{Member}
 use Rattle.annex_base.specs.declared.kinds.Word.{Word}
-use Rattle.annex_base.proofs.Conditions.{eqb_refl}
+use Rattle.annex_base.proofs.Conditions.{and_first, eqb_refl}
 use Rattle.race_core.proofs.Below.{SentAreRead}
 use Rattle.run_data.specs.declared.entry.By.TheVariants.{Script, Job as by_job, Peer}
 use Rattle.run_data.specs.declared.entry.Entry.{Entry}
@@ -40,15 +40,14 @@ use Rattle.race_core.proofs.Speaks
 use Rattle.race_core.proofs.Makers.{stepped_takes, taken_of, taker, TakenBy}
 use Rattle.race_core.proofs.JobSteps.{Stepped, stepped_job, stepped_runs, turn_at}
 use Rattle.race_core.proofs.HeardSteps.{lock_heard, lock_success, look_heard, look_success, took_as}
-use Rattle.race_core.proofs.ClientCounts.{and_left}
 
 -- ---- what an entry tells, by the frame that it takes
 
 -- the frame that a job takes is of its partner
 pub taken_peer : (s : SetUp) (past : List Entry) (e : Entry) (f : FrameView) (t : TakenBy s past e f) → f.peer ≡ t.peer
 taken_peer s past e f t =
-    eqb-true f.peer t.peer (and_left (f.peer == t.peer) (f.slot == t.w.slot)
-    (and_left ((f.peer == t.peer) && (f.slot == t.w.slot)) (same_bool true (if f.up then false else true)) t.of_end))
+    eqb-true f.peer t.peer (and_first (f.peer == t.peer) (f.slot == t.w.slot)
+    (and_first ((f.peer == t.peer) && (f.slot == t.w.slot)) (same_bool true (if f.up then false else true)) t.of_end))
 
 -- what SUCCESS tells the job of its partner
 pub success_tells : SentAreRead → (s : SetUp) (past : List Entry) → OwnPast s past → (e : Entry) (f : FrameView) → e.taken ≡ Some f → f.up ≡ false

@@ -1,6 +1,6 @@
 -- A repository's history stays its own part as the history grows: as its set-up gets the paths of a new job, and as letters come.
-use Rattle.std.proofs.Common.{◌≡◌, ℕ, ◌+◌, ◌≤◌, Bool, true, false, List, [], ◌∷◌, ◌++◌, length, Option, Some, None, ◌⊎◌, inl, inr, refl, sym, ap, ◌∙◌, subst, arith}
-use Rattle.std.specs.Prelude.{◌&&◌, ◌==◌, find, if◌then◌else◌, slice_get}
+use Rattle.std.proofs.Common.{◌≡◌, ℕ, ◌+◌, ◌≤◌, Bool, true, false, List, [], ◌∷◌, ◌++◌, Option, Some, None, ◌⊎◌, inl, inr, refl, sym, ap, ◌∙◌, arith}
+use Rattle.std.specs.Prelude.{◌&&◌, ◌==◌, find, if◌then◌else◌}
 use Rattle.annex_base.specs.declared.kinds.Word.{Word}
 use Rattle.annex_base.proofs.Lists.{slice_get-left}
 use Rattle.run_data.specs.declared.entry.By.TheVariants.{Script}
@@ -18,7 +18,7 @@ use Rattle.run_model.specs.States.{works, state_of}
 use Rattle.node_model.specs.AnyTime.{IsPeer, MayCome}
 use Rattle.run_model.specs.Words.{awaits_of}
 use Rattle.run_model.specs.Run.{ComesAnyTime, IsStep, OwnPart, OwnRun}
-use Rattle.race_core.specs.Merged.{Kept, KeptStep, Letter, TakesNext, earlier, stamp_of, word_got, word_in, word_read}
+use Rattle.race_core.specs.Merged.{IsHistory, Letter, TakesNext, word_got, word_in, word_read}
 use Rattle.race_core.proofs.PathsRead.{step_paths, with_paths}
 use Rattle.race_core.proofs.WorkNumbers.{number_begun}
 
@@ -64,11 +64,11 @@ module _ (s : SetUp) (p : ℕ → List (List ℕ)) where
       more true = omega (arith, l)
       more false = l
 
-  kept_run : (got : Way → List Letter) (past : List Entry) → Kept s got past → OwnRun s past
+  kept_run : (got : Way → List Letter) (past : List Entry) → IsHistory s got past → OwnRun s past
   kept_run got [] h = tt
   kept_run got (e ∷ past) h = let x = h.0 in ((λ is. (x.words, x.does)), kept_run got past h.1)
 
-  pub kept_paths : (got : Way → List Letter) (past : List Entry) → SamePaths s p past → Kept s got past → Kept (with_paths s p) got past
+  pub kept_paths : (got : Way → List Letter) (past : List Entry) → SamePaths s p past → IsHistory s got past → IsHistory (with_paths s p) got past
   kept_paths got [] same h = tt
   kept_paths got (e ∷ past) same h =
       let before = same_before e past same in
@@ -84,7 +84,7 @@ module _ (s : SetUp) (got more : Way → List Letter) where
   next_more : (past : List Entry) (w : Way) (e : Entry) (f : FrameView) → TakesNext (got w) past w e f → TakesNext (all w) past w e f
   next_more past w e f x = record { letter = x.letter; next = slice_get-left (got w) (more w) (taken_count past w) x.letter x.next; seq_is = x.seq_is; body_is = x.body_is; later = x.later }
 
-  word_more : (j c : ℕ) (past : List Entry) → Kept s got past → word_got got past s.number j c ≡ word_got all past s.number j c
+  word_more : (j c : ℕ) (past : List Entry) → IsHistory s got past → word_got got past s.number j c ≡ word_got all past s.number j c
   word_more j c [] h = refl
   word_more j c (e ∷ past) h =
       ap (λ was. if here then word_read got past s.number c e.taken was else was) (word_more j c past h.1)
@@ -98,7 +98,7 @@ module _ (s : SetUp) (got more : Way → List Letter) where
       read was (Some f) is = let x = h.0.takes f is in ap (λ y. if f.peer == c then word_in y else was)
           (x.next ∙ sym (slice_get-left (got (way_of s.number f)) (more (way_of s.number f)) (taken_count past (way_of s.number f)) x.letter x.next))
 
-  pub kept_more : (past : List Entry) → Kept s got past → Kept s all past
+  pub kept_more : (past : List Entry) → IsHistory s got past → IsHistory s all past
   kept_more [] h = tt
   kept_more (e ∷ past) h =
       let x = h.0 in (
@@ -111,22 +111,3 @@ module _ (s : SetUp) (got more : Way → List Letter) where
         },
         kept_more past h.1,
       )
-
--- ---- a turn
-
--- one more entry, with the letter that came with it, if one did, and with the paths of the job that it begins, if it does
-pub turn_kept : (s : SetUp) (p : ℕ → List (List ℕ)) (got more : Way → List Letter) (e : Entry) (past : List Entry) → Kept s got past → SamePaths s p past → KeptStep s (λ w. got w ++ more w) past e
-    → Kept (with_paths s p) (λ w. got w ++ more w) (e ∷ past)
-turn_kept s p got more e past h same x = (
-  record { own = x.own; words = x.words; does = part_paths s p past x.words e (kept_run s p got past h) same x.does; takes = x.takes; tells = x.tells },
-  kept_paths s p (λ w. got w ++ more w) past same (kept_more s got more past h),
-)
-
--- where as many letters came as were taken, the next to come is the next to be taken
-pub takes_last : (got : List Letter) (past : List Entry) (w : Way) (e : Entry) (f : FrameView) (x : Letter) → length got ≡ taken_count past w → f.seq ≡ taken_count past w + 1 → x.body ≡ f.body
-    → earlier x.sender (stamp_of e) ≡ true → TakesNext (got ++ x ∷ []) past w e f
-takes_last got past w e f x count seq body later = record { letter = x; next = subst (λ k. slice_get (got ++ x ∷ []) k ≡ Some x) count (last got); seq_is = seq; body_is = body; later = later }
-  where
-    last : (xs : List Letter) → slice_get (xs ++ x ∷ []) (length xs) ≡ Some x
-    last [] = refl
-    last (y ∷ xs) = last xs

@@ -12,7 +12,7 @@ use Rattle.run_data.specs.Repos.{IsSetUp}
 use Rattle.p2p_wire.specs.declared.message.Message.TheVariants.{Get, Invalid}
 use Rattle.run_model.specs.Past.{is_of}
 use Rattle.run_model.specs.Said.{Says, is_request, message_in}
-use Rattle.run_model.specs.Frames.{Flying, MayTake, Way, last_request, said_of, sender_of, frames_sent, taken_count, taken_if, up_of, way_of}
+use Rattle.run_model.specs.Frames.{FlyingFrame, MayTake, Way, last_request, said_of, sender_of, frames_sent, taken_count, taken_if, up_of, way_of}
 use Rattle.run_model.specs.Causes.{TookGet}
 use Rattle.run_model.specs.Run.{RunPast, RunStep, set_up}
 use Rattle.run_model.specs.States.{content}
@@ -43,7 +43,7 @@ on_way-same before g v u same comes = (
 
 -- **the GET that INVALID answers**
 pub record InvalidOf (past : List Entry) (r : ℕ) (f : FrameView) : Type 0 where
-  pub request : Flying
+  pub request : FlyingFrame
   pub last : last_request past (up_of (way_of r f)) ≡ Some request
   pub start : ℕ
   pub file : List ℕ

@@ -22,10 +22,10 @@ use Rattle.p2p_wire.specs.declared.message.Message.TheVariants.{CheckPresent, Lo
 use Rattle.run_model.specs.Past.{Occurs, clock, holds, is_of}
 use Rattle.node_model.specs.Rows.{option_is, same_owner}
 use Rattle.run_model.specs.Said.{Said, Says, message_in}
-use Rattle.run_model.specs.Frames.{Sent, is_job, sender, sender_of, taker_of, way_of}
+use Rattle.run_model.specs.Frames.{SendingEntry, is_job, sender, sender_of, taker_of, way_of}
 use Rattle.node_model.specs.Slots.{job_of}
 use Rattle.node_model.specs.Evidence.{Gives, Standing}
-use Rattle.run_model.specs.Drops.{Lock, Look, Vouch, offer_from, reply, standing, tells, told_by, vouch}
+use Rattle.run_model.specs.Drops.{Lock, Look, Vouch, offer_from, reply, standing, tells, vouches_sent, vouch}
 use Rattle.run_model.specs.Safety.{Removal, past_at}
 use Rattle.run_model.specs.Run.{IsRun}
 use Rattle.race_core.specs.Items.{AsksLock, IsFor, IsHeld, IsToldBy, SendsUp, WasSeen}
@@ -61,7 +61,7 @@ told_older e past a j c v t = record { entry = t.entry; before = t.before; occur
 told_now : (e : Entry) (past : List Entry) (a j c : ℕ) (v : Vouch) → Member v (tells past e c a j) → Told (e ∷ past) a j c v
 told_now e past a j c v m = go (c == a) refl (is_job a j e) refl m
   where
-    by_sender : is_job a j e ≡ true → (o : Option Sent) → sender past a e.taken ≡ o → Member v (told_by c a j o) → Told (e ∷ past) a j c v
+    by_sender : is_job a j e ≡ true → (o : Option SendingEntry) → sender past a e.taken ≡ o → Member v (vouches_sent c a j o) → Told (e ∷ past) a j c v
     by_sender job None is k = absurd k
     by_sender job (Some s) is k = record {
       entry = s.entry;
@@ -71,7 +71,7 @@ told_now e past a j c v m = go (c == a) refl (is_job a j e) refl m
       told = inr (record { hearing = e; before = past; heard = inl (refl, refl); job_is = job; took = is });
     }
 
-    go : (b : Bool) → (c == a) ≡ b → (d : Bool) → is_job a j e ≡ d → Member v (if b then vouch past e c a j else (if d then told_by c a j (sender past a e.taken) else [])) → Told (e ∷ past) a j c v
+    go : (b : Bool) → (c == a) ≡ b → (d : Bool) → is_job a j e ≡ d → Member v (if b then vouch past e c a j else (if d then vouches_sent c a j (sender past a e.taken) else [])) → Told (e ∷ past) a j c v
     go true same d job k = record { entry = e; before = past; occurs = inl (refl, refl); vouched = k; told = inl (eqb-true c a same) }
     go false same true job k = by_sender job (sender past a e.taken) refl k
     go false same false job k = absurd k

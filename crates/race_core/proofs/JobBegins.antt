@@ -5,6 +5,7 @@ use Rattle.std.proofs.lemmas.Bool.{eqb-true}
 use Rattle.std.proofs.lemmas.Option.{same_Some}
 use Rattle.annex_base.specs.Lists.{Member}
 use Rattle.annex_base.proofs.Conditions.{eqb_refl, if_is}
+use Rattle.annex_base.proofs.Pasts.{past_before}
 use Rattle.race_core.proofs.Below.{SentAreRead}
 use Rattle.drop_proof.specs.declared.rule.Need.{Need}
 use Rattle.drop_proof.specs.declared.rule.Side.{Side}
@@ -32,7 +33,6 @@ use Rattle.race_core.proofs.JobSteps.{stepped_runs}
 use Rattle.race_core.proofs.Decisions.{kind_of, order_stands_on, runs_begun, stepped_of}
 use Rattle.race_core.proofs.ReadKeys.{key_read}
 use Rattle.race_core.specs.Removals.{HasJob, IsAt}
-use Rattle.race_core.proofs.Pasts.{past_before}
 use Rattle.race_core.proofs.FromStep.{Part, own_past, part_of}
 use Rattle.race_core.proofs.AtPlaces.{past_next}
 use Rattle.race_core.proofs.EntryPlaces.{at_occurs, occurs_at, same_place}

@@ -35,7 +35,7 @@ use Rattle.node_model.specs.Look.{Look, Made, failing, waiting}
 use Rattle.node_model.specs.SessionStep.{bytes_left}
 use Rattle.node_model.specs.Knows.{enough_by, next_by}
 use Rattle.node_model.specs.JobStep.{Turn, hears, attempts, bar_there, by_me, clock_of, end_with, ends, farewell, farewells, has_lock, is_there, key_of, me, owns_share, quietly, says_to, sends_to, talk, turn_of, wrong, others_of}
-use Rattle.node_model.specs.DropStep.{asks_copy, asks_lock, asks_target, bars, expiry, first_drop, first_end, held_until, in_time, lacking, need_now, orders, removes, required_there, row_refusal, takes_drop, takes_time, target, times, tries_own}
+use Rattle.node_model.specs.DropStep.{asks_copy, asks_lock, asks_target, bars, expiry, first_drop, first_end, held_until, in_time, lacking_outcome, need_now, orders, removes, required_there, row_refusal, takes_drop, takes_time, target, times, tries_own}
 use Rattle.node_model.specs.Requests.{asks, goes_to}
 use Rattle.node_model.specs.TransferStep.{content_of, first_get, first_put, gains, next_get, next_source, puts_from, puts_piece, takes_bytes, takes_get, takes_put}
 use Rattle.node_model.specs.Turns.{awaits, by_partner, first_step, goes, goes_on, has_room, is_awaiting, job_step, judges, needs, next_step, outcome_of, slot_step, takes, takes_answer, takes_frame, takes_text, with_partner}
@@ -150,7 +150,7 @@ removes_says t = if_either (Says t) (in_time (clock_of t) (first_end t)) (attemp
 
 judges_says : (t : Turn) (enough : Bool) (next : Option ℕ) (side : Side) → Says t (judges t enough next side)
 judges_says t false (Some peer) side = goes_to_says t peer
-judges_says t false None side = ends_says t None (lacking t)
+judges_says t false None side = ends_says t None (lacking_outcome t)
 judges_says t true next Local = removes_says t
 judges_says t true next Remote = goes_to_says t (target t)
 

@@ -34,12 +34,12 @@ use Rattle.node_model.specs.Look.{Look, Made, failing, waiting}
 use Rattle.node_model.specs.SessionStep.{bytes_left}
 use Rattle.node_model.specs.Knows.{enough_by, next_by}
 use Rattle.node_model.specs.JobStep.{Turn, hears, turn_of, attempts, bar_there, by_me, clock_of, end_with, ends, farewells, is_there, key_of, me, owns_share, quietly, says_to, sends_to, talk, wrong}
-use Rattle.node_model.specs.DropStep.{takes_drop, takes_time, asks_copy, asks_lock, asks_target, bars, expiry, first_drop, first_end, first_remote, held_until, in_time, lacking, orders, own_share, removes, required_there, row_refusal, shares, target, times, tries_own}
+use Rattle.node_model.specs.DropStep.{takes_drop, takes_time, asks_copy, asks_lock, asks_target, bars, expiry, first_drop, first_end, first_remote, held_until, in_time, lacking_outcome, orders, own_share, removes, required_there, row_refusal, shares, target, times, tries_own}
 use Rattle.node_model.specs.Requests.{asks, goes_to}
 use Rattle.node_model.specs.TransferStep.{takes_get, takes_put, content_of, first_get, first_put, gains, next_get, next_source, puts_from, puts_piece, takes_bytes}
 use Rattle.node_model.specs.Turns.{takes_answer, awaits, by_partner, goes_on, has_room, job_step, needs, slot_step, with_partner, is_awaiting, first_step, goes, judges, next_step, outcome_of, takes, takes_frame, takes_text}
-use Rattle.node_model.specs.Found.{ByJob, FirstLocal, HasDeadline, IsAsked, JobFound, JobKind, JobTakes, Judged, Settled}
-use Rattle.race_core.proofs.Cases.{some_was, unless_found}
+use Rattle.node_model.specs.Found.{ByJob, FirstLocal, HasDeadline, IsAsked, JobFound, IsJobEntry, JobTakes, FindsOutcome, HasOutcome}
+use Rattle.race_core.proofs.Cases.{TakesAtHand, some_was, takes_none, takes_one, unless_found}
 
 -- ---- what all jobs share
 
@@ -55,7 +55,7 @@ sends_found t taken peer body asked = (refl, (refl, inr (peer, body, refl, asked
 wrong_found : (t : Turn) (f : FrameView) (peer : ℕ) → JobFound t (Some f) (wrong t f peer)
 wrong_found t f peer = sends_found t (Some f) peer Closing tt
 
-ends_found : (t : Turn) (taken : Option FrameView) (outcome : Outcome) → Judged t taken outcome ⊎ Settled t taken outcome → JobFound t taken (ends t taken outcome)
+ends_found : (t : Turn) (taken : Option FrameView) (outcome : Outcome) → FindsOutcome t taken outcome ⊎ HasOutcome t taken outcome → JobFound t taken (ends t taken outcome)
 ends_found t taken outcome why =
     let good : Made = record { kind = ends_job t.w.number outcome; taken = taken; sent = farewells t (is_lost_ordered outcome); lines = [] } in
     attempts_found t (to_release (owns_share t && not (is_lost_ordered outcome))) taken good (refl, record { number_is = refl; why = why; sent_is = refl })
@@ -193,7 +193,7 @@ gone_found t part next side enough =
     ))
     (λ e. ends_found t None (expiry (clock_of t) (first_end t)) (inl (late (first_end t) refl e)))
   where
-    late : (end : Option ℕ) → first_end t ≡ end → in_time (clock_of t) end ≡ false → Judged t None (expiry (clock_of t) end)
+    late : (end : Option ℕ) → first_end t ≡ end → in_time (clock_of t) end ≡ false → FindsOutcome t None (expiry (clock_of t) end)
     late None is e = absurd (cc)
     late (Some end) is e = record { part_is = part; first_is = is; clock_is = refl; late = e; judges = inl (next, side, refl) }
 
@@ -201,7 +201,7 @@ judges_found : (t : Turn) → t.w.part ≡ Drops → t.w.phase ≡ Next → (eno
     → enough_by t.read t.w ≡ enough → next_by t.read t.w ≡ next → side_of t.w ≡ side → JobFound t None (judges t enough next side)
 judges_found t part phase false (Some peer) side enough next is = goes_to_found t peer
 judges_found t part phase false None side enough next is =
-    ends_found t None (lacking t) (inl (record { part_is = part; next = phase; wants = enough; last = next; proof_is = refl; causes_are = refl }))
+    ends_found t None (lacking_outcome t) (inl (record { part_is = part; next = phase; wants = enough; last = next; proof_is = refl; causes_are = refl }))
 judges_found t part phase true next Local enough asked is = gone_found t part phase is enough
 judges_found t part phase true next Remote enough asked is = goes_to_found t (target t)
 
@@ -385,7 +385,8 @@ frame_found t peer f on (Line text) is = text_found t f peer on (message_of text
 -- what a job makes
 pub record MadeBy (t : Turn) (m : Made) : Type 0 where
   pub frame : (m.taken ≡ None) ⊎ JobTakes t m
-  pub found : JobKind t m m.kind
+  pub found : IsJobEntry t m m.kind
+  pub at_hand : TakesAtHand t.look m
 
 on_found : (t : Turn) (m : Made) → Goes t t.w.phase → goes_on t ≡ Some m → MadeBy t m
 on_found t m free e = go (list_all (has_room t) (needs t t.w.phase)) e
@@ -394,7 +395,7 @@ on_found t m free e = go (list_all (has_room t) (needs t t.w.phase)) e
     go true g =
         let same : goes t t.w.phase ≡ m = cc in
         let found = goes_found t t.w.phase refl free in
-        subst (MadeBy t) same (record { frame = inl found.0; found = found.1 })
+        subst (MadeBy t) same (record { frame = inl found.0; found = found.1; at_hand = takes_none t.look (goes t t.w.phase) found.0 })
     go false g = absurd (cc)
 
 awaits_found : (t : Turn) (peer : ℕ) (m : Made) → partner t.w.what.peer t.w.phase ≡ Some peer → is_awaiting t.w.phase ≡ true → (end_with t peer).opened ≡ true
@@ -412,13 +413,14 @@ awaits_found t peer m on awaiting opened (Some f) is e = go (has_room t peer) e
         subst (MadeBy t) same (record {
           frame = inr (record { f = f; taken_is = found.0; peer = peer; partner_is = on; awaits = awaiting; opened = opened; of_end = both.0; may = both.1 });
           found = found.1;
+          at_hand = takes_one t.look (takes_frame t peer f f.body) f found.0 was.0;
         })
 
 with_found : (t : Turn) (peer : ℕ) (m : Made) → partner t.w.what.peer t.w.phase ≡ Some peer → (b : Bool) → (end_with t peer).opened ≡ b → with_partner t peer b ≡ Some m → MadeBy t m
 with_found t peer m on false opened e =
     let same : quietly (talk t) None ≡ m = cc in
     let found = quiet_found t None in
-    subst (MadeBy t) same (record { frame = inl found.0; found = found.1 })
+    subst (MadeBy t) same (record { frame = inl found.0; found = found.1; at_hand = takes_none t.look (quietly (talk t) None) found.0 })
 with_found t peer m on true opened e = go (is_awaiting t.w.phase) refl e
   where
     go : (b : Bool) → is_awaiting t.w.phase ≡ b → (if b then awaits t peer (waiting (end_with t peer) t.look (job_end t.w peer)) else goes_on t) ≡ Some m → MadeBy t m
@@ -439,3 +441,12 @@ pub job_found : (s : SetUp) (st : State) (k : Look) (m : Made) → job_step s st
 job_found s st k m e =
     let x = some_was (λ slot. slot_step s st k (find (λ w. w.slot == slot) st.works)) slots m e in
     slot_found s st k x.0 m (find (λ w. w.slot == x.0) st.works) refl x.2
+
+slot_at_hand : (s : SetUp) (st : State) (k : Look) (m : Made) (w : Option Work) → slot_step s st k w ≡ Some m → TakesAtHand k m
+slot_at_hand s st k m None e = absurd (cc)
+slot_at_hand s st k m (Some w) e = (partner_found (turn_of s st k w) m (partner w.what.peer w.phase) refl e).at_hand
+
+pub job_at_hand : (s : SetUp) (st : State) (k : Look) (m : Made) → job_step s st k ≡ Some m → TakesAtHand k m
+job_at_hand s st k m e =
+    let x = some_was (λ slot. slot_step s st k (find (λ w. w.slot == slot) st.works)) slots m e in
+    slot_at_hand s st k m (find (λ w. w.slot == x.0) st.works) x.2

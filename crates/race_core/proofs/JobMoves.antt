@@ -23,7 +23,7 @@ use Rattle.node_model.specs.Rows.{option_is}
 use Rattle.node_model.specs.Ends.{end_after}
 use Rattle.node_model.specs.Sessions.{line_in}
 use Rattle.node_model.specs.Jobs
-use Rattle.node_model.specs.Jobs.{AsksTime, Drops, Ends, Fresh, Gets, GetsBytes, GetsWord, Greets, Orders, Part, Phase, Puts, Rows, Work, claims, closed_part, fault_of, fault_phase, first_look, gets_bytes, gets_more, hears_frame, job_end, learns, listens, partner, put_from, puts_answer, puts_bytes, puts_more, quiet, says, says_some, sends, side_of, taken_message, talks, talks_on, target_of, took, took_line, after_transfer, after_failed_release, word_taken, work_kind}
+use Rattle.node_model.specs.Jobs.{AsksTime, Drops, Ends, Fresh, Gets, GetsBytes, GetsWord, Greets, Orders, Part, Phase, Puts, RowsAndEnds, Work, claims, closed_part, fault_of, fault_phase, first_look, gets_bytes, gets_more, hears_frame, job_end, learns, listens, partner, put_from, puts_answer, puts_bytes, puts_more, quiet, says, says_some, sends, side_of, taken_message, talks, talks_on, target_of, after_frame, after_line, after_transfer, after_failed_release, word_taken, work_kind}
 use Rattle.race_core.proofs.PhaseFacts.{readies_place}
 use Rattle.run_data.specs.declared.job.SourceCause.{SourceCause}
 use Rattle.race_core.proofs.TalkFacts.{Fits}
@@ -136,7 +136,7 @@ module _ (target : Option ℕ) where
     look_moves sent r Gets false bar = away w sent (first_look r w Gets false bar) refl refl
     look_moves sent r Puts there bar = away w sent (first_look r w Puts there bar) refl refl
 
-    quiet_moves : (sent : List FrameView) (rows : Rows) (r : ℕ) (phase : Phase) → Moves target w sent (quiet rows r w phase)
+    quiet_moves : (sent : List FrameView) (rows : RowsAndEnds) (r : ℕ) (phase : Phase) → Moves target w sent (quiet rows r w phase)
     quiet_moves sent rows r Fresh = look_moves sent r w.part (rows.present w.what.key) (rows.bar w.what.key)
     quiet_moves sent rows r Jobs.Next = away w sent (quiet rows r w Jobs.Next) refl refl
     quiet_moves sent rows r phase = stays w sent w refl (λ p on. on)
@@ -164,11 +164,11 @@ module _ (target : Option ℕ) where
     got_moves sent n (GetsBytes peer start size left) is = stays w sent (Jobs.to_phase w (gets_more peer start (size + n) (left - n))) refl (λ p on. ap (partner target) is ∙ more_on (left - n == 0) peer start (size + n) (left - n) p on)
     got_moves sent n phase is = stays w sent (Jobs.to_phase w phase) refl (λ p on. ap (partner target) is ∙ on)
 
-    took_moves : (sent : List FrameView) (body : FrameText) → Moves target w sent (took w body)
+    took_moves : (sent : List FrameView) (body : FrameText) → Moves target w sent (after_frame w body)
     took_moves sent (Bytes n) = got_moves sent n w.phase refl
     took_moves sent (Line text) = line (message_of text)
       where
-        line : (o : Option Message) → Moves target w sent (took_line w o)
+        line : (o : Option Message) → Moves target w sent (after_line w o)
         line None = stays w sent w refl (λ p on. on)
         line (Some m) = listens_moves sent w.phase m refl
     took_moves sent Opening = stays w sent w refl (λ p on. on)
@@ -180,7 +180,7 @@ module _ (target : Option ℕ) where
     closed_moves sent r peer Drops is on = if_either (Moves target w sent) (target_of r w == peer) (Jobs.to_phase w (Ends (Refused (refusals.Lost (Jobs.is_ordered w.phase))))) (Jobs.hears w peer (Jobs.Lacks Rattle.run_data.specs.declared.job.Cause.TheVariants.Closed))
         (λ e. away w sent (_) refl refl) (λ e. away w sent (_) refl refl)
 
-    talks_moves : (rows : Rows) (r : ℕ) (e : Entry) (fs : List FrameView) → Moves target w fs (talks rows r w e fs)
+    talks_moves : (rows : RowsAndEnds) (r : ℕ) (e : Entry) (fs : List FrameView) → Moves target w fs (talks rows r w e fs)
     talks_moves rows r e (f ∷ fs) = sends_moves e.time (taken_message e.taken) f fs f.body
     talks_moves rows r e [] = go e.taken
       where
@@ -188,7 +188,7 @@ module _ (target : Option ℕ) where
         go None = quiet_moves [] rows r w.phase
         go (Some f) = took_moves [] f.body
 
-    on_moves : (rows : Rows) (r : ℕ) (e : Entry) (p : Option ℕ) → partner target w.phase ≡ p → Moves target w e.sent (talks_on rows r w e p)
+    on_moves : (rows : RowsAndEnds) (r : ℕ) (e : Entry) (p : Option ℕ) → partner target w.phase ≡ p → Moves target w e.sent (talks_on rows r w e p)
     on_moves rows r e None on = talks_moves rows r e e.sent
     on_moves rows r e (Some peer) on = if_either (Moves target w e.sent) (end_after (job_end w peer) (rows.ends (job_end w peer)) e).opened (talks rows r w e e.sent) (closed_part r w peer w.part)
         (λ o. talks_moves rows r e e.sent) (λ o. closed_moves e.sent r peer w.part refl on)
@@ -229,7 +229,7 @@ learns_causes w (Greets peer) (Some f) = if_either (λ (x : Work). x.causes ≡ 
 learns_causes w phase o = refl
 
 -- **how any entry of a job moves it**
-pub kind_moves : (rows : Rows) (r : ℕ) (w : Work) (e : Entry) → Fits w.part w.phase → (kind : EntryKind) → Moves w.what.peer w e.sent (work_kind rows r w e kind)
+pub kind_moves : (rows : RowsAndEnds) (r : ℕ) (w : Work) (e : Entry) → Fits w.part w.phase → (kind : EntryKind) → Moves w.what.peer w e.sent (work_kind rows r w e kind)
 kind_moves rows r w e fit (Fault call owner) = call_moves w.what.peer w fit e.sent r e.time call
 kind_moves rows r w e fit (Bar job need key) = away w.what.peer w e.sent (work_kind rows r w e (Bar job need key)) refl refl
 kind_moves rows r w e fit (Share hold end owner key) = away w.what.peer w e.sent (work_kind rows r w e (Share hold end owner key)) refl refl

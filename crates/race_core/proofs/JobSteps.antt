@@ -8,6 +8,8 @@ use Rattle.annex_base.specs.declared.kinds.Call.{Call}
 use Rattle.annex_base.specs.declared.kinds.Call.TheVariants.{PutFile}
 use Rattle.annex_base.specs.declared.kinds.Word.{Word}
 use Rattle.annex_base.proofs.Lists.{Member-filter_parts, find_member}
+use Rattle.annex_base.proofs.Conditions.{eqb_apart}
+use Rattle.run_data.specs.declared.entry.By.{By}
 use Rattle.run_data.specs.declared.entry.By.TheVariants.{Script}
 use Rattle.run_data.specs.declared.entry.Entry.{Entry}
 use Rattle.run_data.specs.declared.entry.EntryKind.{EntryKind}
@@ -32,7 +34,7 @@ use Rattle.node_model.specs.SessionStep.{Here, by_of, here, session_step}
 use Rattle.node_model.specs.OwedStep.{owed_step}
 use Rattle.node_model.specs.Turns.{job_step, slot_step}
 use Rattle.run_model.specs.Run.{IsStep, OwnPart, OwnRun}
-use Rattle.node_model.specs.Found.{JobKind, SessionKind}
+use Rattle.node_model.specs.Found.{IsJobEntry, IsSessionEntry}
 use Rattle.race_core.proofs.Cases.{first_was, some_was}
 use Rattle.race_core.proofs.SessionFacts.{session_found}
 use Rattle.race_core.proofs.JobFacts.{MadeBy, partner_found}
@@ -66,7 +68,7 @@ stepped_found s past e x = partner_found (turn_at s past e x) x.made (partner x.
 abbrev pub OfNoJob : EntryKind → Type 0
 OfNoJob kind = (j : ℕ) → is_step j kind ≡ false
 
-pub session_no_job : (h : Here) (doing : Doing) (asked : Option Message) (says : List FrameText) (kind : EntryKind) → SessionKind h doing asked says kind → OfNoJob kind
+pub session_no_job : (h : Here) (doing : Doing) (asked : Option Message) (says : List FrameText) (kind : EntryKind) → IsSessionEntry h doing asked says kind → OfNoJob kind
 session_no_job h doing asked says (Share hold end by key) x j = subst (λ b. is_step j (Share hold end b key) ≡ false) (sym x.by_is) refl
 session_no_job h doing asked says (Check what key) x j = refl
 session_no_job h doing asked says (Gone by key) x j = subst (λ b. is_step j (Gone b key) ≡ false) (sym x.by_is) refl
@@ -139,8 +141,20 @@ made_by s past words e own = elim (own.does) [
 
 -- ---- the job that made it
 
+-- a session's entry is no job's
+pub session_none : (h : Here) (doing : Doing) (asked : Option Message) (says : List FrameText) (kind : EntryKind) → IsSessionEntry h doing asked says kind → job_of kind ≡ None
+session_none h doing asked says (Share hold end by key) x = ap (λ (b : By). job_of (Share hold end b key)) x.by_is
+session_none h doing asked says (Check what key) x = refl
+session_none h doing asked says (Gone by key) x = ap (λ (b : By). job_of (Gone b key)) x.by_is
+session_none h doing asked says (Release hold key) x = refl
+session_none h doing asked says (Gain by size key) x = ap (λ (b : By). job_of (Gain b size key)) x.by_is
+session_none h doing asked says (Talk None) x = refl
+session_none h doing asked says (Close peer slot client) x = refl
+session_none h doing asked says (Fault call by) x = ap (λ (b : By). job_of (Fault call b)) x.0
+session_none h doing asked says kind x = absurd x
+
 -- a job's entry is its own
-pub job_is : (t : Turn) (m : Made) (kind : EntryKind) → JobKind t m kind → job_of kind ≡ Some t.w.number
+pub job_is : (t : Turn) (m : Made) (kind : EntryKind) → IsJobEntry t m kind → job_of kind ≡ Some t.w.number
 job_is t m (Share hold end by key) x = subst (λ b. job_of (Share hold end b key) ≡ Some t.w.number) (sym x.by_is) refl
 job_is t m (Bar j need key) x = ap Some x.number_is
 job_is t m (Gone by key) x = subst (λ b. job_of (Gone b key) ≡ Some t.w.number) (sym x.by_is) refl
@@ -222,9 +236,6 @@ member_mapped f [] y m = absurd m
 member_mapped f (x ∷ xs) y (inl m) = (x, inl refl, m)
 member_mapped f (x ∷ xs) y (inr m) = let z = member_mapped f xs y m in (z.0, inr z.1, z.2)
 
-not_same : (a b : ℕ) → not (a == b) ≡ true → (b == a) ≡ false
-not_same a b e = grind (arith, nat_tests)
-
 module _ (s : SetUp) (past : List Entry) (e : Entry) (run : OwnRun s past) (made : OfNoJob e.kind ⊎ Stepped s past e) where
   at_step : (w : Work) → Member w (works past s.number) → is_step w.number e.kind ≡ true → (x : Stepped s past e) × (w ≡ x.w)
   at_step w m step = elim (made) [
@@ -270,7 +281,7 @@ module _ (s : SetUp) (past : List Entry) (e : Entry) (run : OwnRun s past) (made
   }))
   origin_by w (ends_job job outcome) is m =
       let x = Member-filter_parts (λ (w : Work). not (w.number == job)) (works past s.number) w m in
-      let off : (job == w.number) ≡ false = not_same w.number job x.1 in
+      let off : (job == w.number) ≡ false = eqb_apart w.number job x.1 in
       inr (inl (record {
         ran = x.0;
         still = subst (λ k. is_step w.number k ≡ false) (sym is) off;

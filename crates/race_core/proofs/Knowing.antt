@@ -3,12 +3,11 @@ use Rattle.std.specs.Prelude.{ℕ, Bool, List, length, Option}
 use Rattle.annex_base.specs.declared.kinds.Word.{Word}
 use Rattle.drop_proof.specs.declared.evidence.Evidence.{Evidence}
 use Rattle.run_data.specs.declared.job.CandidateCause.{CandidateCause}
-use Rattle.run_data.specs.declared.job.Proof.{Proof}
 use Rattle.node_model.specs.Evidence.{Offer, candidates}
 use Rattle.node_model.specs.SetUp.{SetUp}
 use Rattle.node_model.specs.Jobs.{Work, side_of, target_of}
 use Rattle.node_model.specs.State.{State}
-use Rattle.node_model.specs.Knows.{reading, knows_by, asks_by, known_by, enough_by, next_by, proof_by, causes_by}
+use Rattle.node_model.specs.Knows.{reading, knows_by, asks_by, known_by, enough_by, next_by, causes_by}
 
 abbrev pub knows : SetUp → State → Work → ℕ → Offer
 knows s st w = knows_by (reading s st w) w
@@ -28,9 +27,6 @@ knows_enough s st w = enough_by (reading s st w) w
 -- the candidate that is asked next
 abbrev pub next_of : SetUp → State → Work → Option ℕ
 next_of s st w = next_by (reading s st w) w
-
-abbrev pub proof_known : SetUp → State → Work → Proof
-proof_known s st w = proof_by (reading s st w) w
 
 abbrev pub causes_known : SetUp → State → (ℕ → Option Word) → Work → List CandidateCause
 causes_known s st words w = causes_by (reading s st w) words w

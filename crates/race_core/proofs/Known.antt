@@ -12,7 +12,7 @@ use Rattle.run_data.specs.declared.run.RepoView.{RepoView}
 use Rattle.p2p_wire.specs.declared.message.Message.TheVariants.{CheckPresent, Failure}
 use Rattle.run_model.specs.Past.{clock}
 use Rattle.run_model.specs.Said.{Said, Says, CloseIt, message_in}
-use Rattle.run_model.specs.Frames.{Sent, is_job, said_of, last_request, sender, up_of, way_of}
+use Rattle.run_model.specs.Frames.{SendingEntry, is_job, said_of, last_request, sender, up_of, way_of}
 use Rattle.std.specs.List.{list_any}
 use Rattle.run_model.specs.Drops.{Vouch, Lock, Look, offer_from, cause_said, cause_taken, cause_with, evidence, is_waiting, newer_cause, offer, or_closed, option_is_none, reply, shuts, standing, tells_cause, told_cause, waits}
 use Rattle.node_model.specs.Evidence.{Standing, Claimed, Ignored, Asked, Offer, Gives, Fails, candidates, gather, pick, reached_candidates}
@@ -22,14 +22,14 @@ use Rattle.race_core.proofs.Told.{heard_of, reply_heard}
 
 -- ---- whether there is a cause doesn't rest on the sender
 
-said_same : (m : Said) (o : Option Said) (s t : Option Sent) → option_is_none (cause_said m o s) ≡ option_is_none (cause_said m o t)
+said_same : (m : Said) (o : Option Said) (s t : Option SendingEntry) → option_is_none (cause_said m o s) ≡ option_is_none (cause_said m o t)
 said_same CloseIt o s t = refl
 said_same (Says Failure) (Some (Says (CheckPresent key))) s t = refl
 said_same (Says Failure) None s t = refl
 said_same (Says Failure) (Some _) s t = refl
 said_same _ o s t = refl
 
-taken_same : (past : List Entry) (a r : ℕ) (s t : Option Sent) (o : Option FrameView) → option_is_none (cause_taken past a r s o) ≡ option_is_none (cause_taken past a r t o)
+taken_same : (past : List Entry) (a r : ℕ) (s t : Option SendingEntry) (o : Option FrameView) → option_is_none (cause_taken past a r s o) ≡ option_is_none (cause_taken past a r t o)
 taken_same past a r s t None = refl
 taken_same past a r s t (Some f) = go ((f.peer == r) && not f.up)
   where
@@ -48,7 +48,7 @@ part_same : {X : Type 0} (b : Bool) (x y z : Option X) → option_is_none x ≡ 
 part_same true x y z h = h
 part_same false x y z h = refl
 
-cause_same : (past : List Entry) (e : Entry) (r a j : ℕ) (s t : Option Sent) → option_is_none (cause_with past e r a j s) ≡ option_is_none (cause_with past e r a j t)
+cause_same : (past : List Entry) (e : Entry) (r a j : ℕ) (s t : Option SendingEntry) → option_is_none (cause_with past e r a j s) ≡ option_is_none (cause_with past e r a j t)
 cause_same past e r a j s t = if_same (r == a) _ _ _ (part_same (is_job a j e) _ _ _ (if_same (list_any (shuts r) e.sent) _ _ _ (taken_same past a r s t e.taken)))
 
 newer_same : (x y old was : Option Cause) → option_is_none x ≡ option_is_none y → option_is_none old ≡ option_is_none was → option_is_none (newer_cause x old) ≡ option_is_none (newer_cause y was)

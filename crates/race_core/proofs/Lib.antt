@@ -49,6 +49,7 @@ pub mod SessionTimes
 pub mod SessionReads
 pub mod JobEnds
 pub mod EndEpochs
+pub mod Openings
 pub mod Farewells
 pub mod Makers
 pub mod AnswersRead
@@ -138,7 +139,6 @@ pub mod Flights
 pub mod Changes
 pub mod Gather
 pub mod Facts
-pub mod Pasts
 pub mod Latest
 pub mod Turns
 pub mod Told

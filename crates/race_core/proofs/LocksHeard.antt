@@ -9,7 +9,7 @@ use Rattle.run_data.specs.declared.entry.Entry.{Entry}
 use Rattle.run_data.specs.declared.entry.EntryKind.{EntryKind}
 use Rattle.run_data.specs.declared.entry.EntryKind.TheVariants.{Share}
 use Rattle.run_data.specs.declared.job.Job.{Job}
-use Rattle.node_model.specs.Slots.{Running}
+use Rattle.node_model.specs.Slots.{RunningJob}
 use Rattle.run_model.specs.Past.{is_of}
 use Rattle.node_model.specs.Rows.{option_is}
 use Rattle.node_model.specs.SetUp.{SetUp}
@@ -18,7 +18,7 @@ use Rattle.node_model.specs.Jobs.{AsksLock, AsksLook, Drops, Gets, Heard, Part, 
 use Rattle.run_model.specs.States.{rows_at, works}
 use Rattle.node_model.specs.JobStep.{is_held}
 use Rattle.run_model.specs.Run.{OwnRun}
-use Rattle.node_model.specs.Found.{JobKind}
+use Rattle.node_model.specs.Found.{IsJobEntry}
 use Rattle.race_core.proofs.JobSteps.{Origin, Steps, invariant, turn_at}
 use Rattle.race_core.proofs.JobKept.{kind_kept}
 use Rattle.race_core.proofs.TalkFacts.{Fits}
@@ -81,7 +81,7 @@ module _ (s : SetUp) (past : List Entry) (e : Entry) (x : Work) (b : Steps s pas
     where
       shared : (hold end : ℕ) (owner : _) (key : List ℕ) → e.kind ≡ Share hold end owner key → SameList v x ⊎ Longer s.number v x
       shared hold end owner key is =
-          let k = subst (JobKind (turn_at s past e b.by) b.by.made) is (step_kind s past e x b) in
+          let k = subst (IsJobEntry (turn_at s past e b.by) b.by.made) is (step_kind s past e x b) in
           let same : x ≡ Jobs.hears v s.number (Jobs.Held e.time) = b.work_is ∙ ap (λ (q : EntryKind). work_kind (rows_at past s.number) s.number v e q) is in
           inr (record { part_is = k.part_is; whom = s.number; told = Jobs.Held e.time; list = ap (λ (y : Work). y.heard) same; from = inl refl; lock = λ h. inl refl })
 
@@ -179,7 +179,7 @@ free_of s past run w m = invariant s (λ p x. FreeOf s x) (λ p e is x n was. wa
         long = longer s p e x b fits
 
         what : x.what ≡ v.what
-        what = ap (λ (y : Work). y.what) b.work_is ∙ ap (λ (j : Running). j.what) (kind_kept (rows_at p s.number) s.number v e e.kind)
+        what = ap (λ (y : Work). y.what) b.work_is ∙ ap (λ (j : RunningJob). j.what) (kind_kept (rows_at p s.number) s.number v e e.kind)
 
         side_was : side_of x ≡ Remote → side_of v ≡ Remote
         side_was side = subst (λ (q : Job). Jobs.drop_side q.kind q.peer ≡ Remote) what side

@@ -20,7 +20,7 @@ use Rattle.run_data.specs.declared.entry.LogFile.TheVariants.{Location, Of}
 use Rattle.run_data.specs.Files.{file_path, kind_of}
 use Rattle.node_model.specs.Files.{compact_lines}
 use Rattle.run_model.specs.Past.{is_of}
-use Rattle.run_model.specs.Logs.{added_by, ever, compact_file, branch_after, branch, lines_of_file, settings_of}
+use Rattle.run_model.specs.Logs.{added_by, lines_ever, compact_file, branch_after, branch, lines_of_file, settings_of}
 
 abbrev Lines : Type 0
 Lines = List (List ℕ)
@@ -74,18 +74,18 @@ after_alike log_laws kind path files (Log file) lines all of alike = log_alike l
 after_alike log_laws kind path files (Compact file) lines all of alike = compact_alike log_laws kind path file files (file_at files (file_path file)) of refl ∙ alike
 after_alike log_laws kind path files _ lines all of alike = alike
 
-kept_alike : LogLaws → (kind : LogKind) (path : List ℕ) → IsOf kind path → (past : List Entry) (r : ℕ) → ReadAlike kind (lines_of_file past r path) (ever past r path)
+kept_alike : LogLaws → (kind : LogKind) (path : List ℕ) → IsOf kind path → (past : List Entry) (r : ℕ) → ReadAlike kind (lines_of_file past r path) (lines_ever past r path)
 kept_alike log_laws kind path of [] r = refl
 kept_alike log_laws kind path of (e ∷ past) r =
     let before = kept_alike log_laws kind path of past r in
     elim (cases_Bool (is_of r e)) [
-      | inl own ↦ rw own (after_alike log_laws kind path (branch past r) e.kind e.lines (ever past r path) of before)
+      | inl own ↦ rw own (after_alike log_laws kind path (branch past r) e.kind e.lines (lines_ever past r path) of before)
       | inr other ↦ rw other before
     ]
 
 -- what the logs of a repository say by the lines that are kept is what they say by all lines that were ever added
 pub kept_reads_as_ever : LogLaws → (past : List Entry) (r : ℕ) → settings (lines_of_file past r) ≡ settings_of past r
-kept_reads_as_ever log_laws past r = log_laws.alike (lines_of_file past r) (ever past r) (record {
+kept_reads_as_ever log_laws past r = log_laws.alike (lines_of_file past r) (lines_ever past r) (record {
   files = λ kind other. kept_alike log_laws kind (file_name kind) (name_is_of log_laws kind) past r;
   locations = λ key. kept_alike log_laws kinds.Location (location_path key) (location_is_of log_laws key) past r;
 })

@@ -1,7 +1,7 @@
 -- The merge of what several repositories added has each one's entries in its order, and all in order of time, count and number.
 use Rattle.std.proofs.Common.{◌≡◌, ◌≢◌, ℕ, zero, suc, ◌+◌, ◌<◌, ◌≤◌, Bool, true, false, cond, ◌⊎◌, inl, inr, List, [], ◌∷◌, Some, refl, sym, ap, ◌∙◌, arith}
 use Rattle.std.specs.Prelude.{◌&&◌, ◌||◌, filter, ◌==◌, nat_lt}
-use Rattle.std.proofs.lemmas.Bool.{and_parts, and_from, eqb-true, or_left, or_right, or_cases, ltb-true, ne_eqb}
+use Rattle.std.proofs.lemmas.Bool.{and_from, and_parts, eq-eqb, eqb-true, lt-ltb, ltb-true, ne_eqb, or_cases, or_left, or_right}
 use Rattle.annex_base.specs.Lists.{Each}
 use Rattle.annex_base.specs.declared.kinds.EntryStamp.{EntryStamp}
 use Rattle.annex_base.proofs.Conditions.{if_either, eqb_refl}
@@ -9,19 +9,13 @@ use Rattle.annex_base.proofs.Lists.{Each-weaker}
 use Rattle.run_data.specs.declared.entry.Entry.{Entry}
 use Rattle.run_model.specs.Past.{is_of}
 use Rattle.run_model.specs.Run.{repo_number}
-use Rattle.race_core.specs.Merged.{IsMerge, Rising, earlier, insert, merge, merge_all, new_of, stamp_of, stands_before}
+use Rattle.race_core.specs.Merged.{IsMerge, StandInOrder, earlier, insert, merge, merge_all, new_of, stamp_of, stands_before}
 
 -- ---- stamps
 
 -- the same as `earlier`, in three cases
 abbrev Earlier : EntryStamp → EntryStamp → Type 0
 Earlier a b = (a.time < b.time) ⊎ ((a.time ≡ b.time) × ((a.count < b.count) ⊎ ((a.count ≡ b.count) × (a.repo < b.repo))))
-
-lt_is : (a b : ℕ) → a < b → nat_lt a b ≡ true
-lt_is a b h = grind arith
-
-eq_is : (a b : ℕ) → a ≡ b → (a == b) ≡ true
-eq_is a b h = grind arith
 
 pub was_earlier : (a b : EntryStamp) → earlier a b ≡ true → Earlier a b
 was_earlier a b h = elim (or_cases _ _ h) [
@@ -36,12 +30,12 @@ was_earlier a b h = elim (or_cases _ _ h) [
 ]
 
 pub is_earlier : (a b : EntryStamp) → Earlier a b → earlier a b ≡ true
-is_earlier a b (inl l) = or_left _ _ (lt_is a.time b.time l)
-is_earlier a b (inr h) = or_right _ _ (and_from _ _ (eq_is a.time b.time h.0) (counts h.1))
+is_earlier a b (inl l) = or_left _ _ (lt-ltb a.time b.time l)
+is_earlier a b (inr h) = or_right _ _ (and_from _ _ (eq-eqb a.time b.time h.0) (counts h.1))
   where
     counts : (a.count < b.count) ⊎ ((a.count ≡ b.count) × (a.repo < b.repo)) → (nat_lt a.count b.count || ((a.count == b.count) && nat_lt a.repo b.repo)) ≡ true
-    counts (inl l) = or_left _ _ (lt_is a.count b.count l)
-    counts (inr k) = or_right _ _ (and_from _ _ (eq_is a.count b.count k.0) (lt_is a.repo b.repo k.1))
+    counts (inl l) = or_left _ _ (lt-ltb a.count b.count l)
+    counts (inr k) = or_right _ _ (and_from _ _ (eq-eqb a.count b.count k.0) (lt-ltb a.repo b.repo k.1))
 
 trans : (a b c : EntryStamp) → Earlier a b → Earlier b c → Earlier a c
 trans a b c (inl h) (inl k) = inl (omega arith)
@@ -96,9 +90,9 @@ insert_each : (P : Entry → Type 0) (e : Entry) (fs : List Entry) → P e → E
 insert_each P e [] p h = (p, tt)
 insert_each P e (f ∷ fs) p h = if_either (λ xs. Each P xs) (stands_before e f) (e ∷ f ∷ fs) (f ∷ insert e fs) (λ is. (p, h)) (λ is. (h.0, insert_each P e fs p h.1))
 
-insert_rising : (e : Entry) (fs : List Entry) → Rising fs → Each (Apart e) fs → Rising (insert e fs)
+insert_rising : (e : Entry) (fs : List Entry) → StandInOrder fs → Each (Apart e) fs → StandInOrder (insert e fs)
 insert_rising e [] h k = (tt, tt)
-insert_rising e (f ∷ fs) h k = if_either Rising (stands_before e f) (e ∷ f ∷ fs) (f ∷ insert e fs)
+insert_rising e (f ∷ fs) h k = if_either StandInOrder (stands_before e f) (e ∷ f ∷ fs) (f ∷ insert e fs)
     (λ is. ((is, Each-weaker (λ g. stands_before f g ≡ true) (λ g. stands_before e g ≡ true) (λ g l. earlier_trans (stamp_of e) (stamp_of f) (stamp_of g) is l) fs h.0), h))
     (λ is. (insert_each (λ g. stands_before f g ≡ true) e fs (after is k.0) h.0, insert_rising e fs h.1 k.1))
   where
@@ -129,10 +123,10 @@ insert_other r e (f ∷ fs) is = if_either (λ xs. filter (is_of r) xs ≡ filte
 -- each list has the entries of one repository, in order, all of one time
 abbrev pub IsNews : ℕ → ℕ → List (List Entry) → Type 0
 IsNews t n [] = Unit {0}
-IsNews t n (es ∷ ess) = Each (λ e. (e.repo ≡ Some n) × (e.time ≡ t)) es × Rising es × IsNews t (suc n) ess
+IsNews t n (es ∷ ess) = Each (λ e. (e.repo ≡ Some n) × (e.time ≡ t)) es × StandInOrder es × IsNews t (suc n) ess
 
 record Merges (t n : ℕ) (ess : List (List Entry)) (all : List Entry) : Type 0 where
-  pub rising : Rising all
+  pub rising : StandInOrder all
   pub made : Each (λ e. (r : ℕ) × (e.repo ≡ Some r) × (n ≤ r) × (e.time ≡ t)) all
   pub own : (k r : ℕ) → r ≡ n + k → filter (is_of r) all ≡ new_of ess k
 
@@ -155,11 +149,11 @@ module _ (t n : ℕ) (fs : List Entry) (made : Each (λ e. (r : ℕ) × (e.repo 
   apart e is at = Each-weaker _ _ (λ f m. or_earlier (stamp_of e) (stamp_of f) (at ∙ sym m.3)
       (λ same. let l = m.2 in let same' : n ≡ m.0 = sym (ap repo_number is) ∙ same ∙ ap repo_number m.1 in omega (arith, l, same'))) fs made
 
-  merge_rising : (es : List Entry) → Each (λ e. (e.repo ≡ Some n) × (e.time ≡ t)) es → Rising es → Rising fs → Rising (merge es fs)
+  merge_rising : (es : List Entry) → Each (λ e. (e.repo ≡ Some n) × (e.time ≡ t)) es → StandInOrder es → StandInOrder fs → StandInOrder (merge es fs)
   merge_rising [] h k l = l
   merge_rising (e ∷ es) h k l = insert_rising e (merge es fs) (merge_rising es h.1 k.1 l) (merge_each (Apart e) es (Each-weaker _ _ (λ f m. inl m) es k.0) (apart e h.0.0 h.0.1))
 
-  merge_own : (es : List Entry) → Each (λ e. (e.repo ≡ Some n) × (e.time ≡ t)) es → Rising es → filter (is_of n) (merge es fs) ≡ es
+  merge_own : (es : List Entry) → Each (λ e. (e.repo ≡ Some n) × (e.time ≡ t)) es → StandInOrder es → filter (is_of n) (merge es fs) ≡ es
   merge_own [] h k = none_own n fs others
   merge_own (e ∷ es) h k = insert_own n e (merge es fs) (is_same n n e h.0.0 ∙ eqb_refl n)
       (merge_each (λ f. is_of n f ≡ true → stands_before e f ≡ true) es (Each-weaker _ _ (λ f m is. m) es k.0) (Each-weaker _ _ (λ f no is. absurd (cc)) fs others))

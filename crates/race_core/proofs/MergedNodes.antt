@@ -1,10 +1,9 @@
 -- What a node keeps of its history, by its time, its counts and its paths, is what the merge asks of it.
 use Rattle.std.proofs.Common.{◌≡◌, ℕ, ◌+◌, ◌<◌, ◌≤◌, Bool, true, false, ◌⊎◌, inl, inr, List, [], ◌∷◌, ◌++◌, length, refl, sym, ap, ◌∙◌, subst, arith}
 use Rattle.std.proofs.lemmas.List.{reverse-append}
-use Rattle.std.specs.Prelude.{◌&&◌, ◌==◌, filter, if◌then◌else◌, nat_lt, reverse}
+use Rattle.std.specs.Prelude.{◌&&◌, ◌==◌, filter, if◌then◌else◌, reverse}
 use Rattle.std.proofs.lemmas.Bool.{eqb-true}
 use Rattle.annex_base.specs.Lists.{Each}
-use Rattle.annex_base.specs.declared.kinds.EntryStamp.{EntryStamp}
 use Rattle.annex_base.proofs.Conditions.{if_either}
 use Rattle.annex_key.specs.Tree.{paths_of}
 use Rattle.run_data.specs.declared.entry.Entry.{Entry}
@@ -17,28 +16,19 @@ use Rattle.node_model.specs.Slots.{is_begin}
 use Rattle.run_model.specs.Frames.{Way, sender_of, taker_of}
 use Rattle.race_core.proofs.OwnPasts.{mine}
 use Rattle.node_model.specs.SetUp.{SetUp}
-use Rattle.run_model.specs.Run.{ComesAfter, IsRun, Ordered, paths_at, paths_begun, set_up, tree_at}
-use Rattle.race_core.specs.Merged.{Came, Follow, GivenIn, IsNext, Kept, Letter, MayMerge, NodeKeeps, earlier, history, last_count, merged_run, new_of, paths_with, set_up_with}
+use Rattle.run_model.specs.Run.{ComesAfter, IsRun, ComesInOrder, paths_at, paths_begun, set_up, tree_at}
+use Rattle.race_core.specs.Merged.{AreFirstLetters, ComeInOrder, HasPathsIn, IsNewEntry, IsHistory, Letter, MayMerge, NodeKeeps, history, last_count, merged_run, new_of, paths_with, set_up_with}
 use Rattle.race_core.proofs.HistoriesGrow.{kept_paths}
 use Rattle.race_core.proofs.JobNumbers.{begins_next}
 use Rattle.race_core.proofs.OwnParts.{begun_own}
-use Rattle.race_core.proofs.MergedLists.{is_earlier}
 use Rattle.race_core.proofs.MergedOrder.{of_time}
 use Rattle.race_core.proofs.MergedRuns.{always_of, filter_reverse, merged_runs_are_runs}
 
--- a stamp of no later a time and of a lesser count is earlier
-pub earlier_by_count : (a b : EntryStamp) → a.time ≤ b.time → a.count < b.count → earlier a b ≡ true
-earlier_by_count a b h k = is_earlier a b (go (nat_lt a.time b.time) refl)
-  where
-    go : (c : Bool) → nat_lt a.time b.time ≡ c → (a.time < b.time) ⊎ ((a.time ≡ b.time) × ((a.count < b.count) ⊎ ((a.count ≡ b.count) × (a.repo < b.repo))))
-    go true is = inl (grind arith)
-    go false is = inr (grind arith, inl k)
-
 -- new entries of r, the newest first, from this time and count on
 abbrev Next : ℕ → ℕ → ℕ → List Entry → Type 0
-Next r t c es = Always (λ older e. IsNext r t (last_count c older) e) es
+Next r t c es = Always (λ older e. IsNewEntry r t (last_count c older) e) es
 
-pub next_follow : (r c : ℕ) (past es : List Entry) → now past ≤ 1000000000000 → last_count 0 past ≤ c → Next r (now past) c es → Follow past es
+pub next_follow : (r c : ℕ) (past es : List Entry) → now past ≤ 1000000000000 → last_count 0 past ≤ c → Next r (now past) c es → ComeInOrder past es
 next_follow r c past [] l m h = tt
 next_follow r c past (e ∷ es) l m h = (
   record {
@@ -64,7 +54,7 @@ next_follow r c past (e ∷ es) l m h = (
     after (f ∷ fs) k = inr (inl k)
 
 -- the end of a run is in time
-pub ends_in_time : (past : List Entry) → Always Ordered past → now past ≤ 1000000000000
+pub ends_in_time : (past : List Entry) → Always ComesInOrder past → now past ≤ 1000000000000
 ends_in_time [] h = omega arith
 ends_in_time (e ∷ past) h = h.0.in_time
 
@@ -72,7 +62,7 @@ ends_in_time (e ∷ past) h = h.0.in_time
 
 -- each begun job has its paths
 paths_same : (run : Run) (r : ℕ) (paths : ℕ → List (List ℕ)) (got : Way → List Letter) (old : List Entry) (was : ℕ → List (List ℕ)) → ((j : ℕ) → j ≤ begun_count old r → was j ≡ paths j)
-    → (es : List Entry) → Each (GivenIn (tree_at run.tree (length run.entries)) paths) es → Kept (record { number = r; repos = run.repos; paths = paths }) got (es ++ old)
+    → (es : List Entry) → Each (HasPathsIn (tree_at run.tree (length run.entries)) paths) es → IsHistory (record { number = r; repos = run.repos; paths = paths }) got (es ++ old)
     → (j : ℕ) → j ≤ begun_count (es ++ old) r → paths_with run.tree (length run.entries) was es j ≡ paths j
 paths_same run r paths got old was before [] h k j l = before j l
 paths_same run r paths got old was before (e ∷ es) h k j l = go e.kind refl l (λ m. paths_same run r paths got old was before es h.1 k.1 j m)
@@ -111,23 +101,23 @@ paths_same run r paths got old was before (e ∷ es) h k j l = go e.kind refl l 
 pub nodes_may_merge : (run : Run) (news : List (List Entry)) (c : ℕ) (paths : ℕ → ℕ → List (List ℕ)) (got : ℕ → Way → List Letter) → IsRun run
     → Each (λ m. m.place ≤ length run.entries) run.tree → length news ≤ length run.repos → last_count 0 (reverse run.entries) ≤ c
     → ((r : ℕ) → r < length run.repos → NodeKeeps run news r c (paths r) (got r))
-    → ((r q : ℕ) (w : Way) → r < length run.repos → taker_of w ≡ r → sender_of w ≡ q → Came (got r w) (history run news q) w)
+    → ((r q : ℕ) (w : Way) → r < length run.repos → taker_of w ≡ r → sender_of w ≡ q → AreFirstLetters (got r w) (history run news q) w)
     → MayMerge run news got
 nodes_may_merge run news c paths got old marked number past_count keeps came = record {
   marked = marked;
   number = number;
   kept = λ r l. kept r (keeps r l);
-  follow = λ r l. next_follow r c (reverse run.entries) (reverse (new_of news r)) (ends_in_time (reverse run.entries) (always_of (set_up run) Ordered (λ p e x. x.order) (reverse run.entries) old.steps)) past_count (keeps r l).next;
+  follow = λ r l. next_follow r c (reverse run.entries) (reverse (new_of news r)) (ends_in_time (reverse run.entries) (always_of (set_up run) ComesInOrder (λ p e x. x.order) (reverse run.entries) old.steps)) past_count (keeps r l).next;
   came = came;
 }
   where
     history_is : (r : ℕ) → history run news r ≡ reverse (new_of news r) ++ mine r (reverse run.entries)
     history_is r = reverse-append (filter (is_of r) run.entries) (new_of news r) ∙ ap (λ es. reverse (new_of news r) ++ es) (sym (filter_reverse (is_of r) run.entries))
 
-    kept : (r : ℕ) → NodeKeeps run news r c (paths r) (got r) → Kept (set_up_with run news r) (got r) (history run news r)
+    kept : (r : ℕ) → NodeKeeps run news r c (paths r) (got r) → IsHistory (set_up_with run news r) (got r) (history run news r)
     kept r x = kept_paths (record { number = r; repos = run.repos; paths = paths r }) (set_up_with run news r).paths (got r) (history run news r)
         (λ j l. paths_same run r (paths r) (got r) (mine r (reverse run.entries)) (paths_at run.tree (reverse run.entries) r) (λ i m. x.before i (subst (λ n. i ≤ n) (sym (begun_own r (reverse run.entries))) m))
-        (reverse (new_of news r)) x.given (subst (λ es. Kept (record { number = r; repos = run.repos; paths = paths r }) (got r) es) (history_is r) x.kept)
+        (reverse (new_of news r)) x.given (subst (λ es. IsHistory (record { number = r; repos = run.repos; paths = paths r }) (got r) es) (history_is r) x.kept)
         j (subst (λ es. j ≤ begun_count es r) (history_is r) l))
         x.kept
 
@@ -135,7 +125,7 @@ nodes_may_merge run news c paths got old marked number past_count keeps came = r
 pub nodes_merge : (run : Run) (news : List (List Entry)) (c : ℕ) (paths : ℕ → ℕ → List (List ℕ)) (got : ℕ → Way → List Letter) → IsRun run
     → Each (λ m. m.place ≤ length run.entries) run.tree → length news ≤ length run.repos → last_count 0 (reverse run.entries) ≤ c
     → ((r : ℕ) → r < length run.repos → NodeKeeps run news r c (paths r) (got r))
-    → ((r q : ℕ) (w : Way) → r < length run.repos → taker_of w ≡ r → sender_of w ≡ q → Came (got r w) (history run news q) w)
+    → ((r q : ℕ) (w : Way) → r < length run.repos → taker_of w ≡ r → sender_of w ≡ q → AreFirstLetters (got r w) (history run news q) w)
     → IsRun (merged_run run news)
 nodes_merge run news c paths got old marked number past_count keeps came =
     merged_runs_are_runs run news got old (nodes_may_merge run news c paths got old marked number past_count keeps came)

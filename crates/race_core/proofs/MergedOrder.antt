@@ -9,8 +9,8 @@ use Rattle.run_data.specs.declared.entry.Entry.{Entry}
 use Rattle.run_data.specs.declared.entry.EntryKind.{EntryKind}
 use Rattle.run_data.specs.declared.entry.EntryKind.TheVariants.{Wait}
 use Rattle.run_model.specs.Past.{Always, Occurs, is_of, now}
-use Rattle.run_model.specs.Run.{ComesAfter, IsSmall, Ordered, TimeIs}
-use Rattle.race_core.specs.Merged.{Follow, Rising, stamp_of, stands_before}
+use Rattle.run_model.specs.Run.{ComesAfter, IsSmall, ComesInOrder, TimeIs}
+use Rattle.race_core.specs.Merged.{ComeInOrder, StandInOrder, stamp_of, stands_before}
 use Rattle.race_core.proofs.FromStep.{in_order}
 use Rattle.race_core.proofs.MergedLists.{earlier_trans, is_earlier, was_earlier}
 
@@ -44,17 +44,17 @@ falling_last : (es : List Entry) (e : Entry) → Falling es → Each (λ f. stan
 falling_last [] e h k = (tt, tt)
 falling_last (f ∷ es) e h k = (Each-append (λ g. stands_before g f ≡ true) es (e ∷ []) h.0 (k.0, tt), falling_last es e h.1 k.1)
 
-rising_last : (es : List Entry) (e : Entry) → Rising es → Each (λ f. stands_before f e ≡ true) es → Rising (es ++ e ∷ [])
+rising_last : (es : List Entry) (e : Entry) → StandInOrder es → Each (λ f. stands_before f e ≡ true) es → StandInOrder (es ++ e ∷ [])
 rising_last [] e h k = (tt, tt)
 rising_last (f ∷ es) e h k = (Each-append (λ g. stands_before f g ≡ true) es (e ∷ []) h.0 (k.0, tt), rising_last es e h.1 k.1)
 
-pub rising_falls : (es : List Entry) → Rising es → Falling (reverse es)
+pub rising_falls : (es : List Entry) → StandInOrder es → Falling (reverse es)
 rising_falls [] h = tt
 rising_falls (e ∷ es) h = subst Falling (sym (reverse_cons e es)) (falling_last (reverse es) e (rising_falls es h.1) (Each-reverse (λ f. stands_before e f ≡ true) es h.0))
 
-falling_rises : (es : List Entry) → Falling es → Rising (reverse es)
+falling_rises : (es : List Entry) → Falling es → StandInOrder (reverse es)
 falling_rises [] h = tt
-falling_rises (e ∷ es) h = subst Rising (sym (reverse_cons e es)) (rising_last (reverse es) e (falling_rises es h.1) (Each-reverse (λ f. stands_before f e ≡ true) es h.0))
+falling_rises (e ∷ es) h = subst StandInOrder (sym (reverse_cons e es)) (rising_last (reverse es) e (falling_rises es h.1) (Each-reverse (λ f. stands_before f e ≡ true) es h.0))
 
 -- ---- an entry in order
 
@@ -73,7 +73,7 @@ of_time before e (Wait ms) None r is h = absurd (cc)
 of_time before e kind (Some q) r is h = h
 of_time before e _ None r is h = absurd (cc)
 
-pub is_late : (past : List Entry) (e : Entry) → Ordered past e → Late past e
+pub is_late : (past : List Entry) (e : Entry) → ComesInOrder past e → Late past e
 is_late [] e o = tt
 is_late (f ∷ past) e o = is_earlier (stamp_of f) (stamp_of e) (go (nat_lt f.time e.time) refl o.after)
   where
@@ -116,7 +116,7 @@ new_late base n (f ∷ es) e h k = over base h.0.late
     over (g ∷ past) l = earlier_trans (stamp_of g) (stamp_of f) (stamp_of e) l k
 
 -- one repository's new entries
-pub follow_new : (base : List Entry) (n r : ℕ) (es : List Entry) → r < n → Follow base es → Each (λ e. e.repo ≡ Some r) es → Each (IsNew base n) es
+pub follow_new : (base : List Entry) (n r : ℕ) (es : List Entry) → r < n → ComeInOrder base es → Each (λ e. e.repo ≡ Some r) es → Each (IsNew base n) es
 follow_new base n r [] l h k = tt
 follow_new base n r (e ∷ es) l h k =
     let rest = follow_new base n r es l h.1 k.1 in (
@@ -137,15 +137,15 @@ late_all : (base es : List Entry) (e : Entry) → Late (es ++ base) e → Fallin
 late_all base [] e h k = tt
 late_all base (f ∷ es) e h k = (h, Each-weaker _ _ (λ g l. earlier_trans (stamp_of g) (stamp_of f) (stamp_of e) l h) es k.0)
 
-follow_falls : (base es : List Entry) → Follow base es → Falling es
+follow_falls : (base es : List Entry) → ComeInOrder base es → Falling es
 follow_falls base [] h = tt
 follow_falls base (e ∷ es) h = let rest = follow_falls base es h.1 in (late_all base es e (is_late (es ++ base) e h.0) rest, rest)
 
-pub follow_rises : (base es : List Entry) → Follow base (reverse es) → Rising es
-follow_rises base es h = subst Rising (reverse-reverse es) (falling_rises (reverse es) (follow_falls base (reverse es) h))
+pub follow_rises : (base es : List Entry) → ComeInOrder base (reverse es) → StandInOrder es
+follow_rises base es h = subst StandInOrder (reverse-reverse es) (falling_rises (reverse es) (follow_falls base (reverse es) h))
 
 -- entries of any repositories, in order among themselves
-pub new_ordered : (base : List Entry) (n : ℕ) (es : List Entry) → Always Ordered base → Each (IsNew base n) es → Falling es → Always Ordered (es ++ base)
+pub new_ordered : (base : List Entry) (n : ℕ) (es : List Entry) → Always ComesInOrder base → Each (IsNew base n) es → Falling es → Always ComesInOrder (es ++ base)
 new_ordered base n [] o h k = o
 new_ordered base n (e ∷ es) o h k = (
   record {
@@ -163,7 +163,7 @@ new_ordered base n (e ∷ es) o h k = (
     after (f ∷ fs) l = l.0
 
 -- an entry is earlier than those after it
-pub occurs_before : (past : List Entry) (y e : Entry) (before : List Entry) → Always Ordered (y ∷ past) → Occurs past e before → stands_before e y ≡ true
+pub occurs_before : (past : List Entry) (y e : Entry) (before : List Entry) → Always ComesInOrder (y ∷ past) → Occurs past e before → stands_before e y ≡ true
 occurs_before [] y e before h o = absurd o
 occurs_before (f ∷ past) y e before h (inl o) = subst (λ (x : Entry). stands_before x y ≡ true) (sym o.0) (is_late (f ∷ past) y h.0)
 occurs_before (f ∷ past) y e before h (inr o) = earlier_trans (stamp_of e) (stamp_of f) (stamp_of y) (occurs_before past f e before h.1 o) (is_late (f ∷ past) y h.0)

@@ -4,10 +4,9 @@ use Rattle.std.proofs.lemmas.List.{length-reverse, reverse-append, reverse-rever
 use Rattle.std.proofs.lemmas.List.Elements.{filter-append}
 use Rattle.std.specs.Prelude.{◌&&◌, filter, find, map, nat_le, nat_lt, reverse, slice_get, if◌then◌else◌, ◌==◌}
 use Rattle.std.specs.List.{fold}
-use Rattle.std.proofs.lemmas.Option.{same_Some}
 use Rattle.annex_base.specs.Lists.{Each}
 use Rattle.annex_base.specs.declared.kinds.Word.{Word}
-use Rattle.annex_base.proofs.Lists.{Each-both, Each-right, Each-reverse, slice_get-left}
+use Rattle.annex_base.proofs.Lists.{Each-both, Each-reverse, Each-right, slice_get-left, slice_get-map_some}
 use Rattle.annex_base.proofs.Conditions.{eqb_refl}
 use Rattle.annex_key.specs.Tree.{Entries, paths_of, with_key}
 use Rattle.run_data.specs.declared.entry.Entry.{Entry}
@@ -18,17 +17,17 @@ use Rattle.run_data.specs.declared.run.Run.{Run}
 use Rattle.run_data.specs.declared.run.TreeMark.{TreeMark}
 use Rattle.run_model.specs.Past.{Always, Occurs, is_of, now}
 use Rattle.node_model.specs.Rows.{option_is}
-use Rattle.run_model.specs.Frames.{Flying, Way, flying, on_way, sender_of, frames_sent, taken_count, taker_of, takes, way_of}
+use Rattle.run_model.specs.Frames.{FlyingFrame, Way, flying_frame, on_way, sender_of, frames_sent, taken_count, taker_of, takes, way_of}
 use Rattle.node_model.specs.Slots.{job_of}
 use Rattle.race_core.proofs.OwnPasts.{Bare, bare, mine, own_by, own_sent}
 use Rattle.node_model.specs.SetUp.{SetUp}
 use Rattle.run_model.specs.States.{works}
 use Rattle.run_model.specs.Words.{awaits_of, word_of, word_of_kind, word_taken, word_told}
-use Rattle.run_model.specs.Run.{FramesPart, IsRun, MayBe, OnlyWaits, Ordered, OwnPart, RunPast, RunStep, paths_at, paths_begun, set_up, tree_at}
-use Rattle.race_core.specs.Merged.{Came, IsMerge, KeptStep, Letter, MayMerge, Rising, TakesNext, earlier, history, letter_of, letters, merge_all, merged_run, new_of, paths_with, set_up_with, stamp_of, stands_before, word_got, word_in, word_read}
+use Rattle.run_model.specs.Run.{FramesPart, IsRun, MayBe, OnlyWaits, ComesInOrder, OwnPart, RunPast, RunStep, paths_at, paths_begun, set_up, tree_at}
+use Rattle.race_core.specs.Merged.{AreFirstLetters, IsMerge, IsHistoryStep, Letter, MayMerge, StandInOrder, TakesNext, earlier, history, letter_of, letters, merge_all, merged_run, new_of, paths_with, set_up_with, stamp_of, stands_before, word_got, word_in, word_read}
 use Rattle.race_core.proofs.OwnState.{state_own}
 use Rattle.race_core.proofs.OwnParts.{part_whole}
-use Rattle.race_core.proofs.Flights.{always_before, get_append, get_none, map_member, occurs_always}
+use Rattle.race_core.proofs.Flights.{always_before, get_append, map_member, occurs_always}
 use Rattle.race_core.proofs.Told.{taker_way, some_option}
 use Rattle.race_core.proofs.OwnWhole.{mine_occurs}
 use Rattle.race_core.proofs.MergedLists.{IsNews, is_merge, never_earlier, earlier_trans}
@@ -55,11 +54,6 @@ filter_reverse p (x ∷ xs) = ap (filter p) (reverse_cons x xs) ∙ filter-appen
     go : (b : Bool) → reverse (filter p xs) ++ cond b (x ∷ []) [] ≡ reverse (cond b (x ∷ filter p xs) (filter p xs))
     go true = sym (reverse_cons x (filter p xs))
     go false = append-nil (reverse (filter p xs))
-
-get_map : {X Y : Type 0} (f : X → Y) (xs : List X) (k : ℕ) (y : Y) → slice_get (map f xs) k ≡ Some y → (x : X) × (slice_get xs k ≡ Some x) × (f x ≡ y)
-get_map f [] k y h = absurd (get_none k y h)
-get_map f (x ∷ xs) zero y h = (x, refl, same_Some (f x) y h)
-get_map f (x ∷ xs) (suc k) y h = get_map f xs k y h
 
 -- ---- the set-up
 
@@ -98,7 +92,7 @@ take_own r w same past = own_by r (λ p. taken_count p w) (λ e p is. rw (subst 
 abbrev letter_bare : Bare → Letter
 letter_bare x = record { body = x.frame.body; sender = stamp_of x.entry; word = word_of_kind x.entry.kind }
 
-bare_letters : (xs : List Flying) → map letter_of xs ≡ map letter_bare (map bare xs)
+bare_letters : (xs : List FlyingFrame) → map letter_of xs ≡ map letter_bare (map bare xs)
 bare_letters [] = refl
 bare_letters (x ∷ xs) = ap (λ ys. letter_of x ∷ ys) (bare_letters xs)
 
@@ -106,8 +100,8 @@ pub letters_own : (w : Way) (past : List Entry) → letters past w ≡ letters (
 letters_own w past = bare_letters (frames_sent past w) ∙ ap (map letter_bare) (own_sent (sender_of w) w refl past) ∙ sym (bare_letters (frames_sent (mine (sender_of w) past) w))
 
 -- a frame that an earlier entry sent was sent before
-sent_within : (past : List Entry) (e : Entry) (before : List Entry) → Always Ordered past → Occurs past e before
-    → (w : Way) (k : ℕ) (it : Flying) → slice_get (frames_sent past w) k ≡ Some it → stands_before it.entry e ≡ true → slice_get (frames_sent before w) k ≡ Some it
+sent_within : (past : List Entry) (e : Entry) (before : List Entry) → Always ComesInOrder past → Occurs past e before
+    → (w : Way) (k : ℕ) (it : FlyingFrame) → slice_get (frames_sent past w) k ≡ Some it → stands_before it.entry e ≡ true → slice_get (frames_sent before w) k ≡ Some it
 sent_within [] e before h o w k it g l = absurd o
 sent_within (y ∷ past) e before h o w k it g l = go (λ g o. sent_within past e before h.1 o w k it g l) o
   where
@@ -120,11 +114,11 @@ sent_within (y ∷ past) e before h o w k it g l = go (λ g o. sent_within past 
           | inr m ↦ never_earlier (stamp_of y) (subst (λ (x : Entry). stands_before x y ≡ true) same (subst (λ (x : Entry). stands_before it.entry x ≡ true) m l))
         ]
 
-        here : (b : Bool) → slice_get (if b then frames_sent past w ++ map (flying y past) (on_way w y) else frames_sent past w) k ≡ Some it → slice_get (frames_sent past w) k ≡ Some it
+        here : (b : Bool) → slice_get (if b then frames_sent past w ++ map (flying_frame y past) (on_way w y) else frames_sent past w) k ≡ Some it → slice_get (frames_sent past w) k ≡ Some it
         here false g = g
-        here true g = elim (get_append (frames_sent past w) (map (flying y past) (on_way w y)) k it g) [
+        here true g = elim (get_append (frames_sent past w) (map (flying_frame y past) (on_way w y)) k it g) [
           | inl s ↦ s
-          | inr m ↦ let t = map_member (flying y past) it (on_way w y) m in absurd (never (ap (λ (x : Flying). x.entry) t.1.1))
+          | inr m ↦ let t = map_member (flying_frame y past) it (on_way w y) m in absurd (never (ap (λ (x : FlyingFrame). x.entry) t.1.1))
         ]
 
     go : (slice_get (frames_sent past w) k ≡ Some it → Occurs past e before → slice_get (frames_sent before w) k ≡ Some it) → ((e ≡ y) × (before ≡ past)) ⊎ Occurs past e before → slice_get (frames_sent before w) k ≡ Some it
@@ -135,7 +129,7 @@ sent_within (y ∷ past) e before h o w k it g l = go (λ g o. sent_within past 
 
 -- the letter that an entry of r takes, by the count of those that came, is that of the frame that may be taken next
 pub record Reads (got : Way → List Letter) (before : List Entry) (r : ℕ) (f : FrameView) : Type 0 where
-  pub it : Flying
+  pub it : FlyingFrame
   pub letter : Letter
   pub next : slice_get (frames_sent before (way_of r f)) (taken_count before (way_of r f)) ≡ Some it
   pub from : slice_get (got (way_of r f)) (taken_count (mine r before) (way_of r f)) ≡ Some letter
@@ -234,8 +228,8 @@ module _ (run : Run) (news : List (List Entry)) (got : ℕ → Way → List Lett
   new_all : Each (IsNew base (length run.repos)) all
   new_all = each_by_own _ all (λ r. subst (Each _) (sym (merge.own r)) (new_any run news got may r)) merge.made
 
-  ordered : Always Ordered past
-  ordered = new_ordered base (length run.repos) (reverse all) (always_of (set_up run) Ordered (λ p e x. x.order) base old.steps) (Each-reverse _ all new_all) (rising_falls all merge.rising)
+  ordered : Always ComesInOrder past
+  ordered = new_ordered base (length run.repos) (reverse all) (always_of (set_up run) ComesInOrder (λ p e x. x.order) base old.steps) (Each-reverse _ all new_all) (rising_falls all merge.rising)
 
   -- ---- an entry of a repository
 
@@ -256,7 +250,7 @@ module _ (run : Run) (news : List (List Entry)) (got : ℕ → Way → List Lett
   known : (e : Entry) (before : List Entry) → Occurs past e before → (r : ℕ) → e.repo ≡ Some r → r < length run.repos
   known e before o = occurs_always _ past e before known_all o
 
-  kept_step : (e : Entry) (before : List Entry) → Occurs past e before → (r : ℕ) → e.repo ≡ Some r → KeptStep (set_up_with run news r) (got r) (mine r before) e
+  kept_step : (e : Entry) (before : List Entry) → Occurs past e before → (r : ℕ) → e.repo ≡ Some r → IsHistoryStep (set_up_with run news r) (got r) (mine r before) e
   kept_step e before o r is = occurs_always _ (history run news r) e (mine r before) (may.kept r (known e before o r is))
       (subst (λ (p : List Entry). Occurs p e (mine r before)) (mine_is r) (mine_occurs r past e before o (is_own e r is)))
 
@@ -271,11 +265,11 @@ module _ (run : Run) (news : List (List Entry)) (got : ℕ → Way → List Lett
       let w : Way = way_of r f in
       let t : TakesNext (got r w) (mine r before) w e f = (kept_step e before o r is).takes f takes in
       let count : taken_count before w ≡ taken_count (mine r before) w = take_own r w (taker_way r f) before in
-      let c : Came (got r w) (history run news (sender_of w)) w = may.came r (sender_of w) w (known e before o r is) (taker_way r f) refl in
+      let c : AreFirstLetters (got r w) (history run news (sender_of w)) w = may.came r (sender_of w) w (known e before o r is) (taker_way r f) refl in
       let there : letters past w ≡ got r w ++ c.rest = letters_own w past ∙ ap (λ p. letters p w) (mine_is (sender_of w)) ∙ c.is in
       let in_all : slice_get (letters past w) (taken_count (mine r before) w) ≡ Some t.letter =
       subst (λ xs. slice_get xs (taken_count (mine r before) w) ≡ Some t.letter) (sym there) (slice_get-left (got r w) c.rest (taken_count (mine r before) w) t.letter t.next) in
-      let x = get_map letter_of (frames_sent past w) (taken_count (mine r before) w) t.letter in_all in
+      let x = slice_get-map_some letter_of (frames_sent past w) (taken_count (mine r before) w) t.letter in_all in
       record {
         reads = record {
           it = x.0;
@@ -298,7 +292,7 @@ module _ (run : Run) (news : List (List Entry)) (got : ℕ → Way → List Lett
   }
 
   step : (e : Entry) (before : List Entry) → Occurs past e before → RunStep (set_up whole) before e
-  step e before o = record { order = occurs_always Ordered past e before ordered o; may = be e.repo refl }
+  step e before o = record { order = occurs_always ComesInOrder past e before ordered o; may = be e.repo refl }
     where
       be : (who : Option ℕ) → e.repo ≡ who → MayBe (set_up whole) before e who
       be None is = occurs_always _ past e before waits_all o is
@@ -321,7 +315,7 @@ each_news run news got may n (es ∷ ess) same l =
     let m : n < length run.repos = (let k = may.number in omega (arith, l, k)) in
     let here : new_of news n ≡ es = same n 0 (omega arith) in (
       subst (Each _) here (Each-both _ _ (λ e. (e.repo ≡ Some n) × (e.time ≡ now (reverse run.entries))) (λ e x y. (x, y.at)) (new_of news n) (new_repo run news got may n m) (new_own run news got may n m)),
-      subst Rising here (follow_rises (reverse run.entries) (new_of news n) (may.follow n m)),
+      subst StandInOrder here (follow_rises (reverse run.entries) (new_of news n) (may.follow n m)),
       each_news run news got may (suc n) ess (λ r k is. same r (suc k) (omega (arith, is))) (omega (arith, l)),
     )
 
@@ -329,8 +323,3 @@ each_news run news got may n (es ∷ ess) same l =
 pub merged_runs_are_runs : (run : Run) (news : List (List Entry)) (got : ℕ → Way → List Letter) → IsRun run → MayMerge run news got → IsRun (merged_run run news)
 merged_runs_are_runs run news got old may =
     merge_is_run run news got (merge_all news) old may (is_merge (now (reverse run.entries)) news (each_news run news got may 0 news (λ r k is. ap (new_of news) (omega (arith, is))) (omega arith)))
-
--- and the merged run has of each repository its history
-pub merged_histories : (run : Run) (news : List (List Entry)) (got : ℕ → Way → List Letter) → IsRun run → MayMerge run news got → (r : ℕ) → mine r (reverse (merged_run run news).entries) ≡ history run news r
-merged_histories run news got old may r = ap (mine r) (reverse-append run.entries (merge_all news))
-    ∙ mine_is run news got (merge_all news) old may (is_merge (now (reverse run.entries)) news (each_news run news got may 0 news (λ r k is. ap (new_of news) (omega (arith, is))) (omega arith))) r

@@ -11,7 +11,7 @@ use Rattle.run_model.specs.Safety.{IsSafe}
 use Rattle.race_core.proofs.Latest.{lawful_safe}
 use Rattle.run_model.specs.Past.{clock}
 use Rattle.run_model.specs.Drops.{evidence}
-use Rattle.race_core.specs.Lawful.{IsLawful, FoundBar, FoundLocal, Lawful, LawfulPast}
+use Rattle.race_core.specs.Lawful.{IsLawful, FoundBar, FoundLocal, IsLawfulEntry, IsLawfulPast}
 use Rattle.race_core.proofs.Own.{IsMessageRun, MayBar, MayRemove, Meets, MessagePast}
 use Rattle.race_core.proofs.Known.{evidence_known}
 use Rattle.race_core.proofs.OwnFacts.{nobody_vouched, vouch_free}
@@ -42,7 +42,7 @@ removed repos past e r j key run b =
       open' = s.open';
     }
 
-lawful : (repos : List RepoView) (past : List Entry) (e : Entry) → MessagePast repos past → Meets repos past e → Lawful repos past e
+lawful : (repos : List RepoView) (past : List Entry) (e : Entry) → MessagePast repos past → Meets repos past e → IsLawfulEntry repos past e
 lawful repos past e run m = record {
   time = m.order;
   repo = λ key by kind. m.somebody by key kind;
@@ -55,7 +55,7 @@ lawful repos past e run m = record {
   releases = λ r hold key is kind. released repos past e r hold key run m is ((m.own r is).release hold key kind);
 }
 
-pub messages_lawful : (repos : List RepoView) (past : List Entry) → MessagePast repos past → LawfulPast repos past
+pub messages_lawful : (repos : List RepoView) (past : List Entry) → MessagePast repos past → IsLawfulPast repos past
 messages_lawful repos [] run = tt
 messages_lawful repos (e ∷ past) run = (lawful repos past e run.1 run.0, messages_lawful repos past run.1)
 

@@ -14,7 +14,7 @@ use Rattle.run_data.specs.declared.job.Outcome.{Outcome}
 use Rattle.node_model.specs.Rows.{option_is}
 use Rattle.run_model.specs.Past.{is_of}
 use Rattle.node_model.specs.Slots.{job_by}
-use Rattle.run_model.specs.Frames.{last_request, said_of, up_of, way_of, Flying}
+use Rattle.run_model.specs.Frames.{last_request, said_of, up_of, way_of, FlyingFrame}
 use Rattle.run_model.specs.Logs.{has_it, has_stepped, hears_has_it, is_quiet, starts_drop}
 use Rattle.run_model.specs.Said.{Said, Says, message_in}
 use Rattle.race_core.proofs.Ways.{is_answer}
@@ -23,9 +23,9 @@ use Rattle.p2p_wire.specs.declared.message.Message.TheVariants.{AlreadyHave, Suc
 use Rattle.node_model.specs.Sessions.{line_in}
 use Rattle.node_model.specs.SetUp.{SetUp}
 use Rattle.node_model.specs.Jobs
-use Rattle.node_model.specs.Jobs.{Drops, Phase, PutsAnswer, PutsOffer, Work, claims, learns, talks_on, took, work_kind, partner}
+use Rattle.node_model.specs.Jobs.{Drops, Phase, PutsAnswer, PutsOffer, Work, claims, learns, talks_on, after_frame, work_kind, partner}
 use Rattle.run_model.specs.States.{rows_at, works}
-use Rattle.node_model.specs.Found.{JobKind}
+use Rattle.node_model.specs.Found.{IsJobEntry}
 use Rattle.run_model.specs.Run.{OwnPast}
 use Rattle.race_core.proofs.PhaseFacts.{readies_place}
 use Rattle.race_core.proofs.JobSteps.{Stepped, turn_at, Steps}
@@ -38,9 +38,10 @@ use Rattle.race_core.proofs.Makers.{taken_of}
 use Rattle.race_core.proofs.BySteps.{earlier}
 use Rattle.race_core.proofs.GetsBegin.{no_step}
 use Rattle.race_core.proofs.SaidDown.{said_is}
-use Rattle.race_core.proofs.PartTurns.{FirstTurn, HasIt, Same, TakenTurn, fault_same, on_turn}
+use Rattle.race_core.proofs.JobKept.{fault_stays}
+use Rattle.race_core.proofs.PartTurns.{FirstTurn, HasIt, Same, TakenTurn, on_turn}
 
-valid_said : (o : Option Flying) (time : ℕ) → option_map asked_by o ≡ Some (request time (Some Valid)) → option_map said_of o ≡ Some (Says Valid)
+valid_said : (o : Option FlyingFrame) (time : ℕ) → option_map asked_by o ≡ Some (request time (Some Valid)) → option_map said_of o ≡ Some (Says Valid)
 valid_said None time e = absurd (cc)
 valid_said (Some x) time e =
     let is : Some (line_in x.frame.body) ≡ Some (Some Valid) = ap (λ (o : Option Request). option_map (λ (q : Request). q.what) o) e in
@@ -89,14 +90,14 @@ module _ (reads_back : SentAreRead) (s : SetUp) where
       let heard : hears_has_it past s.number e.taken ≡ true = subst (λ o. hears_has_it past s.number o ≡ true) (sym at.1) (and_from (not f.up) (has_it (message_in f.body) asked) (ap not down) said) in
       or_right (is_quiet e.taken e.sent && not (has_stepped past s.number x.w.number)) (hears_has_it past s.number e.taken) heard
 
-  kind_begins : (past : List Entry) (e : Entry) → OwnPast s (e ∷ past) → (x : Stepped s past e) → Member x.w (works past s.number) → (kind : EntryKind) → JobKind (turn_at s past e x) x.made kind
+  kind_begins : (past : List Entry) (e : Entry) → OwnPast s (e ∷ past) → (x : Stepped s past e) → Member x.w (works past s.number) → (kind : EntryKind) → IsJobEntry (turn_at s past e x) x.made kind
       → x.w.part ≢ Drops → (work_kind (rows_at past s.number) s.number x.w e kind).part ≡ Drops → ((j : ℕ) (outcome : Outcome) → kind ≢ ends_job j outcome) → starts_drop past s.number x.w.number e kind ≡ true
   kind_begins past e h x runs (Share hold end by key) k apart part goes_on = absurd (apart k.part_is)
   kind_begins past e h x runs (Bar j need key) k apart part goes_on = absurd (apart k.part_is)
   kind_begins past e h x runs (Gone by key) k apart part goes_on = absurd (apart k.part_is)
   kind_begins past e h x runs (Order j peer deadline need key) k apart part goes_on = absurd (apart k.part_is)
   kind_begins past e h x runs (ends_job j outcome) k apart part goes_on = absurd (goes_on j outcome refl)
-  kind_begins past e h x runs (Fault call by) k apart part goes_on = absurd (apart (sym (fault_same s.number x.w e.time call) ∙ part))
+  kind_begins past e h x runs (Fault call by) k apart part goes_on = absurd (apart (sym (fault_stays s.number x.w e.time call).1 ∙ part))
   kind_begins past e h x runs (Gain by size key) k apart part goes_on =
       subst (λ (b : By). option_is (job_by b) x.w.number ≡ true) (sym k.by_is) (eqb_refl x.w.number)
   kind_begins past e h x runs (Talk (Some j)) k apart part goes_on =

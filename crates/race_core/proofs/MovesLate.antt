@@ -1,10 +1,9 @@
 -- **A drop of a move to a peer has not begun, as the entries tell, before its copy is done.**
 use Rattle.std.proofs.Common.{◌≡◌, ℕ, ◌+◌, ◌<◌, ◌≤◌, Bool, true, false, List, [], ◌∷◌, Option, Some, None, ◌⊎◌, inl, inr, refl, sym, ap, ◌∙◌, subst, arith}
-use Rattle.std.proofs.lemmas.Bool.Decides.{nat_tests}
 use Rattle.std.specs.Prelude.{if◌then◌else◌, ◌==◌, ◌&&◌, not, option_map}
 use Rattle.std.proofs.lemmas.Bool.{or_from, and_right}
 use Rattle.annex_base.specs.Lists.{Member}
-use Rattle.annex_base.proofs.Conditions.{if_either}
+use Rattle.annex_base.proofs.Conditions.{eqb_less, if_either}
 use Rattle.race_core.proofs.Below.{SentAreRead}
 use Rattle.run_data.specs.declared.entry.Entry.{Entry}
 use Rattle.run_data.specs.declared.entry.EntryKind.{EntryKind}
@@ -35,7 +34,7 @@ use Rattle.node_model.specs.Look.{Made}
 use Rattle.node_model.specs.JobStep.{Turn, end_with, me, wrong}
 use Rattle.node_model.specs.JobStep
 use Rattle.node_model.specs.TransferStep.{takes_put}
-use Rattle.node_model.specs.Found.{JobKind}
+use Rattle.node_model.specs.Found.{IsJobEntry}
 use Rattle.node_model.specs.Turns.{by_partner, takes, takes_answer, takes_frame}
 use Rattle.run_model.specs.Run.{OwnPast, OwnRun}
 use Rattle.race_core.proofs.JobSteps.{Origin, Steps, invariant, turn_at}
@@ -141,9 +140,6 @@ in_more p r j e was starts = or_from (in_drop p r j) (is_of r e && starts_drop p
 in_other : (p : List Entry) (r j : ℕ) (e : Entry) → is_of r e ≡ false → in_drop p r j ≡ false → in_drop (e ∷ p) r j ≡ false
 in_other p r j e other was = or_from (in_drop p r j) (is_of r e && starts_drop p r j e e.kind) was (rw other refl)
 
-less_off : (a b : ℕ) → a < b → (a == b) ≡ false
-less_off a b h = grind (arith, nat_tests)
-
 -- no drop of a job that hasn't begun
 unbegun_in : (s : SetUp) (p : List Entry) → OwnRun s p → (j : ℕ) → begun_count p s.number < j → in_drop p s.number j ≡ false
 unbegun_in s [] run j later = refl
@@ -157,7 +153,7 @@ unbegun_in s (e ∷ p) run j later = go (unbegun_in s p run.1 j (begun_before p 
         (λ job what kind. let next : job ≡ begun_count p s.number + 1 = begins_next s p own.0 e own.1 job what kind in
         let count : begun_count (e ∷ p) s.number ≡ begun_count p s.number + 1 = rw (is, kind) refl in
         let now : begun_count p s.number + 1 < j = subst (λ n. n < j) count later in
-        less_off job j (omega arith)))
+        eqb_less job j (omega arith)))
 
 begins_none : (kind : KindOfJob) → first_part kind ≡ Puts → is_drop kind ≡ false
 begins_none kinds.Copy e = refl
@@ -250,7 +246,7 @@ module _ (reads_back : SentAreRead) (s : SetUp) (p : List Entry) (e : Entry) (h 
   starts_not : x.part ≡ Puts → is_live x.phase ≡ true → starts_drop p s.number v.number e e.kind ≡ false
   starts_not part live = go e.kind (step_kind s p e x b)
     where
-      go : (kind : EntryKind) → JobKind t b.by.made kind → starts_drop p s.number v.number e kind ≡ false
+      go : (kind : EntryKind) → IsJobEntry t b.by.made kind → starts_drop p s.number v.number e kind ≡ false
       go (Talk (Some j)) k = and_right (option_is (Some j) v.number) _ (or_from (is_quiet e.taken e.sent && not (has_stepped p s.number v.number)) (hears_has_it p s.number e.taken) (quiet_not part live) (heard_not part live))
       go (Gain by size key) k = absurd (word_unfit k.peer k.start size (subst (λ q. Fits q (Jobs.GetsWord k.peer k.start size)) v_part (subst (Fits v.part) k.phase_is (works_fit s p before.run v runs))))
       go (Share hold end by key) k = refl

@@ -25,7 +25,7 @@ use Rattle.node_model.specs.Calls.{to_hold, to_resume}
 use Rattle.node_model.specs.Look.{Made}
 use Rattle.node_model.specs.Knows.{enough_by, next_by}
 use Rattle.node_model.specs.JobStep.{Turn, attempts, bar_there, by_me, clock_of, end_with, ends, farewells, is_there, key_of, me, quietly, says_to, sends_to, talk}
-use Rattle.node_model.specs.DropStep.{asks_copy, asks_lock, asks_target, bars, expiry, first_drop, first_end, first_remote, held_until, in_time, lacking, own_share, required_there, row_refusal, shares, target, tries_own}
+use Rattle.node_model.specs.DropStep.{asks_copy, asks_lock, asks_target, bars, expiry, first_drop, first_end, first_remote, held_until, in_time, lacking_outcome, own_share, required_there, row_refusal, shares, target, tries_own}
 use Rattle.node_model.specs.Requests.{asks, goes_to}
 use Rattle.node_model.specs.TransferStep.{first_get, first_put, next_get, next_source}
 use Rattle.node_model.specs.Turns.{by_partner, first_step, goes, has_room, judges, needs, next_step}
@@ -70,7 +70,7 @@ expired_not t clk (Some end) = ends_not t (expiry clk (Some end)) tt
 
 judges_not : (t : Turn) (enough : Bool) (next : Option ℕ) (side : Side) → Not (judges t enough next side)
 judges_not t false (Some peer) side = goes_not t peer
-judges_not t false None side = ends_not t (lacking t) tt
+judges_not t false None side = ends_not t (lacking_outcome t) tt
 judges_not t true next Local = if_either Not (in_time (clock_of t) (first_end t)) (attempts t (calls.Remove ∷ []) None (quietly _ None)) (ends t None (expiry (clock_of t) (first_end t)))
     (λ e. attempts_not t (calls.Remove ∷ []) None (quietly _ None) tt) (λ e. expired_not t (clock_of t) (first_end t))
 judges_not t true next Remote = goes_not t (target t)

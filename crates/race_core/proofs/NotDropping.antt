@@ -11,12 +11,12 @@ use Rattle.run_data.specs.declared.job.Job.{Job}
 use Rattle.run_data.specs.declared.job.JobKind.{JobKind}
 use Rattle.run_data.specs.declared.job.JobKind.TheVariants as kinds
 use Rattle.run_data.specs.declared.job.Outcome.{Outcome}
-use Rattle.node_model.specs.Slots.{Running, is_begin}
+use Rattle.node_model.specs.Slots.{RunningJob, is_begin}
 use Rattle.run_model.specs.Past.{begun_count, is_of}
 use Rattle.run_model.specs.Logs.{before_step, in_drop, is_drop, is_step, starts_drop}
 use Rattle.node_model.specs.SetUp.{SetUp}
 use Rattle.node_model.specs.Jobs
-use Rattle.node_model.specs.Jobs.{Drops, Gets, Part, Phase, Puts, Work, is_move, running, after_failed_release, work_kind}
+use Rattle.node_model.specs.Jobs.{Drops, Gets, Part, Phase, Puts, Work, is_move, running_job, after_failed_release, work_kind}
 use Rattle.run_model.specs.States.{rows_at, works}
 use Rattle.node_model.specs.AnyTime.{IsPeer}
 use Rattle.run_model.specs.Run.{OwnRun}
@@ -148,7 +148,7 @@ stuck_stays s past e x b apart stuck = elim (stuck_ends (turn_at s past e b.by) 
     same w time phase = refl
 
 step_what : (s : SetUp) (past : List Entry) (e : Entry) (x : Work) (b : Steps s past e x) → x.what ≡ b.by.w.what
-step_what s past e x b = ap (λ (j : Running). j.what) (ap running b.work_is ∙ kind_kept (rows_at past s.number) s.number b.by.w e e.kind)
+step_what s past e x b = ap (λ (j : RunningJob). j.what) (ap running_job b.work_is ∙ kind_kept (rows_at past s.number) s.number b.by.w e e.kind)
 
 -- **a move at its transfer that its entries tell is done is to end**
 pub transfers_stuck : (s : SetUp) (past : List Entry) → OwnRun s past → (w : Work) → Member w (works past s.number) → Transfers s past w

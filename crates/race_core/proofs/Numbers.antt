@@ -6,6 +6,7 @@ use Rattle.std.specs.List.{range_with_len}
 use Rattle.std.proofs.lemmas.Bool.{or_left, or_right}
 use Rattle.annex_base.specs.Lists.{Each, Member}
 use Rattle.annex_base.proofs.Lists.{Each-member, Each-weaker, Each-from_members}
+use Rattle.annex_base.proofs.Numbers.{Member-range}
 use Rattle.race_core.proofs.Below.{SentAreRead}
 use Rattle.drop_proof.specs.declared.evidence.Evidence.{Evidence}
 use Rattle.drop_proof.specs.declared.evidence.Kind.{Kind}
@@ -21,7 +22,7 @@ use Rattle.run_model.specs.Safety.{Removal, past_at}
 use Rattle.run_model.specs.Run.{IsRun}
 use Rattle.race_core.specs.Places.{claim_at, count_at, removal_at}
 use Rattle.race_core.proofs.Changes.{same_repo}
-use Rattle.race_core.proofs.Gather.{MatchSide, evidence_each, never_target, range_member}
+use Rattle.race_core.proofs.Gather.{MatchSide, evidence_each, never_target}
 use Rattle.race_core.proofs.Distinct.{Apart, all_full, apart_pairs, candidates_below, enough_items, evidence_apart, full_within, not_same, repos_in}
 use Rattle.race_core.proofs.Dropped.{judged_by}
 use Rattle.race_core.proofs.AtPlaces.{locked_left, trusted_left}
@@ -62,7 +63,7 @@ module _ (reads_back : SentAreRead) (run : Run) (key : List ℕ) (place : ℕ) (
 
   among : Each (λ (i : Evidence). Member i.repo (range_with_len 0 (length run.repos))) x.items
   among = Each-weaker (λ (i : Evidence). i.repo < length run.repos) (λ (i : Evidence). Member i.repo (range_with_len 0 (length run.repos)))
-      (λ i lt. range_member i.repo 0 (length run.repos) (omega arith) (omega (arith, lt))) x.items below
+      (λ i lt. Member-range 0 (length run.repos) i.repo (omega arith) (omega (arith, lt))) x.items below
 
   -- a locked item has its copy after the removal, and a trusted one its claim
   counted : (i : Evidence) → Member i x.items → is_full i ≡ true → (present (past_at run (place + 1)) i.repo key || claim_at run key (place + 1) i.repo) ≡ true

@@ -17,7 +17,7 @@ use Rattle.p2p_wire.specs.declared.message.Message.TheVariants.{Timestamp}
 use Rattle.p2p_wire.specs.Messages.{order_of}
 use Rattle.run_model.specs.Said.{Says, is_request, message_in}
 use Rattle.race_core.proofs.Ways.{is_answer, answers, down_of, way_from}
-use Rattle.run_model.specs.Frames.{Flying, MayTake, Way, is_job, on_way, requests, says, sender_of, frames_sent, sent_of, taken_count, taken_if, taker_of, up_of, way_of}
+use Rattle.run_model.specs.Frames.{FlyingFrame, MayTake, Way, is_job, on_way, requests, says, sender_of, frames_sent, sending_entry, taken_count, taken_if, taker_of, up_of, way_of}
 use Rattle.run_model.specs.Drops.{is_done, evidence}
 use Rattle.race_core.specs.Lawful.{FoundRemote, IsFresh}
 use Rattle.race_core.proofs.Own.{MayObey, MayOrder, Meets, MessagePast, SaidByClock}
@@ -55,7 +55,7 @@ pub record Takes (repos : List RepoView) (past : List Entry) (e : Entry) (r a : 
   pub same_clock : SaidByClock repos r past (down_of (way_of r f))
 
 -- and of its sender
-pub record Ordered (repos : List RepoView) (past : List Entry) (r a : ℕ) (key : List ℕ) (f : FrameView) (deadline : Option ℕ) (it : Flying) : Type 0 where
+pub record Ordered (repos : List RepoView) (past : List Entry) (r a : ℕ) (key : List ℕ) (f : FrameView) (deadline : Option ℕ) (it : FlyingFrame) : Type 0 where
   pub occurs : Occurs past it.entry it.before
   pub repo_is : is_of a it.entry ≡ true
   pub sends : Member it.frame (on_way (way_of r f) it.entry)
@@ -135,7 +135,7 @@ stamped_back a w x g f from m down same =
     let up : up_of (way_of a f) ≡ w = sym (same g (sends_member w x g m)) ∙ order in
     sym (down_is a f down) ∙ ap down_of up
 
-ordered_fresh : (repos : List RepoView) (past : List Entry) (e : Entry) (r a : ℕ) (key : List ℕ) (k : Takes repos past e r a key) → (it : Flying) → (o : Ordered repos past r a key k.f k.deadline it)
+ordered_fresh : (repos : List RepoView) (past : List Entry) (e : Entry) (r a : ℕ) (key : List ℕ) (k : Takes repos past e r a key) → (it : FlyingFrame) → (o : Ordered repos past r a key k.f k.deadline it)
     → Each (IsFresh it.before a o.j e.time) (evidence Remote repos it.before a o.j r o.need)
 ordered_fresh repos past e r a key k it o = fresh_items Remote repos it.before a o.j r e.time o.need (set_before repos it.before a o.j before o.found.one_clock) (each_end Below (λ x y le lt. omega (arith, le, lt)) (evidence Remote repos it.before a o.j r o.need) first_below)
   where
@@ -245,7 +245,7 @@ obeyed_order repos past e r a slot key run m is ob =
     record {
       free = ob.free;
       unheld = ob.unheld;
-      s = sent_of t.it;
+      s = sending_entry t.it;
       sent_is = sender_at past r e.taken ob.f t.it ob.takes_it t.next;
       from_a = o.repo_is;
       j = o.j;

@@ -14,7 +14,7 @@ use Rattle.run_data.specs.declared.run.RepoView.{RepoView}
 use Rattle.run_model.specs.Past.{Occurs, is_of, entry_count}
 use Rattle.node_model.specs.Rows.{is_lost_ordered}
 use Rattle.run_model.specs.Said.{Said, is_request}
-use Rattle.run_model.specs.Frames.{Way, flying, on_way, says, sender_of, sent_if, taken_if, taker_of, takes_if, up_of}
+use Rattle.run_model.specs.Frames.{Way, flying_frame, on_way, says, sender_of, sent_if, taken_if, taker_of, takes_if, up_of}
 use Rattle.race_core.proofs.Ways.{answers, down_of}
 use Rattle.node_model.specs.Slots.{job_of}
 use Rattle.run_model.specs.Drops.{Vouch, is_done, done_kind, vouch, vouches}
@@ -136,9 +136,9 @@ sent_later q (e ∷ past) x p w g (inl o) is m h = subst (λ (z : List Entry). l
   where
     here : is_of (sender_of w) e ≡ true → Member g (on_way w e) → length (sent_if q past w) + 1 ≤ length (sent_if q (e ∷ past) w)
     here own k =
-        let len : length (sent_if q (e ∷ past) w) ≡ length (sent_if q past w) + length (map (flying e past) (filter (says q) (on_way w e))) =
-        ap length (sent_if-step q e past w own) ∙ length-append (sent_if q past w) (map (flying e past) (filter (says q) (on_way w e))) in
-        omega (arith, len, some_of (flying e past) (says q) g (on_way w e) k h)
+        let len : length (sent_if q (e ∷ past) w) ≡ length (sent_if q past w) + length (map (flying_frame e past) (filter (says q) (on_way w e))) =
+        ap length (sent_if-step q e past w own) ∙ length-append (sent_if q past w) (map (flying_frame e past) (filter (says q) (on_way w e))) in
+        omega (arith, len, some_of (flying_frame e past) (says q) g (on_way w e) k h)
 sent_later q (e ∷ past) x p w g (inr o) is m h = omega (arith, sent_later q past x p w g o is m h, more)
   where
     more : length (sent_if q past w) ≤ length (sent_if q (e ∷ past) w)

@@ -5,6 +5,7 @@ use Rattle.std.proofs.lemmas.Option.{slice_get_within, same_Some}
 use Rattle.annex_base.specs.Lists.{Member}
 use Rattle.annex_base.proofs.Lists.{slice_get-left}
 use Rattle.annex_base.proofs.Conditions.{bytes_eq-refl}
+use Rattle.annex_base.proofs.Pasts.{past_end}
 use Rattle.race_core.proofs.Below.{SentAreRead}
 use Rattle.run_data.specs.declared.entry.By.{By}
 use Rattle.run_data.specs.declared.entry.By.TheVariants.{Script, Job as by_job, Peer}
@@ -14,13 +15,13 @@ use Rattle.run_data.specs.declared.entry.FrameView.{FrameView}
 use Rattle.run_data.specs.declared.run.RepoView.{RepoView}
 use Rattle.run_data.specs.declared.run.Run.{Run}
 use Rattle.run_model.specs.Past.{Decision, Occurs, bar, decision, is_of}
-use Rattle.run_model.specs.Frames.{Flying, MayTake, Way, flying, is_on, on_way, sender_of, frames_sent, sent_of, taken_count, taker_of, takes, way_of}
+use Rattle.run_model.specs.Frames.{FlyingFrame, MayTake, Way, flying_frame, is_on, on_way, sender_of, frames_sent, sending_entry, taken_count, taker_of, takes, way_of}
 use Rattle.race_core.proofs.Ways.{way_from}
 use Rattle.run_model.specs.Safety.{past_at}
 use Rattle.run_model.specs.Run.{IsRun}
 use Rattle.race_core.proofs.Own.{Meets, MessagePast}
 use Rattle.race_core.specs.Readings.{Judge}
-use Rattle.race_core.specs.Removals.{HasOrder, IsAt, Sends, Takes}
+use Rattle.race_core.specs.Removals.{HasOrder, IsAt, SendsFrame, TakesFrame}
 use Rattle.race_core.proofs.Changes.{bar_was, decided_keeps, repo_of, same_repo}
 use Rattle.race_core.proofs.Flights.{get_append, get_none, map_member, sending}
 use Rattle.race_core.proofs.Evident.{barred}
@@ -28,7 +29,6 @@ use Rattle.race_core.proofs.Told.{on_own, sender_at, sender_way, taker_way, way_
 use Rattle.race_core.proofs.Obeying
 use Rattle.race_core.proofs.Obeying.{ordered_by}
 use Rattle.race_core.proofs.AtPlaces.{past_next}
-use Rattle.race_core.proofs.Pasts.{past_end}
 use Rattle.race_core.proofs.Dropped.{meets_at, messages_at, order_judge}
 use Rattle.race_core.proofs.EntryPlaces.{Placed, at_occurs, below_or_last, occurs_at, same_place, there_or_end}
 use Rattle.race_core.proofs.JobBegins.{order_alone, orderer}
@@ -97,8 +97,8 @@ gone_once reads_back run place other r j key k h x y = same_place other place (�
 sent_step : (e : Entry) (past : List Entry) (w : Way) → length (frames_sent past w) ≤ length (frames_sent (e ∷ past) w)
 sent_step e past w = go (is_of (sender_of w) e)
   where
-    go : (b : Bool) → length (frames_sent past w) ≤ length (if b then frames_sent past w ++ map (flying e past) (on_way w e) else frames_sent past w)
-    go true = omega (arith, length-append (frames_sent past w) (map (flying e past) (on_way w e)))
+    go : (b : Bool) → length (frames_sent past w) ≤ length (if b then frames_sent past w ++ map (flying_frame e past) (on_way w e) else frames_sent past w)
+    go true = omega (arith, length-append (frames_sent past w) (map (flying_frame e past) (on_way w e)))
     go false = omega arith
 
 taken_step : (e : Entry) (past : List Entry) (w : Way) → taken_count past w ≤ taken_count (e ∷ past) w
@@ -124,13 +124,13 @@ grows f more run a (suc b) le = go (λ k. grows f more run a b k) (below_or_last
     go ih (inr k) = subst (λ n. f (past_at run a) ≤ f (past_at run n)) k (omega arith)
 
 -- one entry sends a frame
-sends_apart : (run : Run) (a b : ℕ) (w : Way) (n : ℕ) → Sends run a w n → Sends run b w n → a < b → ⊥
+sends_apart : (run : Run) (a b : ℕ) (w : Way) (n : ℕ) → SendsFrame run a w n → SendsFrame run b w n → a < b → ⊥
 sends_apart run a b w n x y lt =
     let more = grows (λ past. length (frames_sent past w)) (λ e past. sent_step e past w) run (a + 1) b (omega (arith, lt)) in
     omega (arith, x.reached, y.fewer, more)
 
 -- and one takes it
-takes_apart : SentAreRead → (run : Run) (a b r : ℕ) (w : Way) (n : ℕ) → IsRun run → Takes run a r w n → Takes run b r w n → a < b → ⊥
+takes_apart : SentAreRead → (run : Run) (a b r : ℕ) (w : Way) (n : ℕ) → IsRun run → TakesFrame run a r w n → TakesFrame run b r w n → a < b → ⊥
 takes_apart reads_back run a b r w n h x y lt =
     let m = (meets_at reads_back run a x.entry h x.entry_is).frames r x.f x.repo_is x.takes_it in
     let k = (meets_at reads_back run b y.entry h y.entry_is).frames r y.f y.repo_is y.takes_it in
@@ -140,33 +140,33 @@ takes_apart reads_back run a b r w n h x y lt =
     let more = grows (λ past. taken_count past w) (λ e past. taken_step e past w) run (a + 1) b (omega (arith, lt)) in
     omega (arith, first, second, after, more)
   where
-    counts : (x : Takes run a r w n) → taken_count (x.entry ∷ past_at run a) w ≡ taken_count (past_at run a) w + 1
+    counts : (x : TakesFrame run a r w n) → taken_count (x.entry ∷ past_at run a) w ≡ taken_count (past_at run a) w + 1
     counts x =
         let own : is_of (taker_of (way_of r x.f)) x.entry ≡ true = subst (λ q. is_of q x.entry ≡ true) (sym (taker_way r x.f)) x.repo_is in
         let on : takes (way_of r x.f) x.entry.taken ≡ true = subst (λ o. takes (way_of r x.f) o ≡ true) (sym x.takes_it) (on_own r x.f) in
         subst (λ z. taken_count (x.entry ∷ past_at run a) z ≡ taken_count (past_at run a) z + 1) x.way_is (rw (own, on) refl)
 
 -- where a frame of the way stands, its entry sent it
-sent_place : (past : List Entry) (w : Way) (k : ℕ) (it : Flying) → slice_get (frames_sent past w) k ≡ Some it → (length (frames_sent it.before w) ≤ k) × (k < length (frames_sent (it.entry ∷ it.before) w))
+sent_place : (past : List Entry) (w : Way) (k : ℕ) (it : FlyingFrame) → slice_get (frames_sent past w) k ≡ Some it → (length (frames_sent it.before w) ≤ k) × (k < length (frames_sent (it.entry ∷ it.before) w))
 sent_place [] w k it h = absurd (get_none k it h)
 sent_place (e ∷ past) w k it h = go (λ g. sent_place past w k it g) (is_of (sender_of w) e) refl h
   where
-    new : length (frames_sent past w) ≤ k → Member it (map (flying e past) (on_way w e)) → (length (frames_sent it.before w) ≤ k) × (k < length (frames_sent (it.entry ∷ it.before) w))
+    new : length (frames_sent past w) ≤ k → Member it (map (flying_frame e past) (on_way w e)) → (length (frames_sent it.before w) ≤ k) × (k < length (frames_sent (it.entry ∷ it.before) w))
     new le m =
-        let t = map_member (flying e past) it (on_way w e) m in
+        let t = map_member (flying_frame e past) it (on_way w e) m in
         let within : k < length (frames_sent (e ∷ past) w) = slice_get_within (frames_sent (e ∷ past) w) k it h in
-        subst (λ (x : Flying). (length (frames_sent x.before w) ≤ k) × (k < length (frames_sent (x.entry ∷ x.before) w))) (sym t.1.1) (le, within)
+        subst (λ (x : FlyingFrame). (length (frames_sent x.before w) ≤ k) × (k < length (frames_sent (x.entry ∷ x.before) w))) (sym t.1.1) (le, within)
 
     go : (slice_get (frames_sent past w) k ≡ Some it → (length (frames_sent it.before w) ≤ k) × (k < length (frames_sent (it.entry ∷ it.before) w))) → (b : Bool) → is_of (sender_of w) e ≡ b
-        → slice_get (if b then frames_sent past w ++ map (flying e past) (on_way w e) else frames_sent past w) k ≡ Some it → (length (frames_sent it.before w) ≤ k) × (k < length (frames_sent (it.entry ∷ it.before) w))
+        → slice_get (if b then frames_sent past w ++ map (flying_frame e past) (on_way w e) else frames_sent past w) k ≡ Some it → (length (frames_sent it.before w) ≤ k) × (k < length (frames_sent (it.entry ∷ it.before) w))
     go ih false is g = ih g
     go ih true is g = elim (there_or_end (frames_sent past w) k) [
-      | inl y ↦ (let same : y.0 ≡ it = same_Some y.0 it (sym (slice_get-left (frames_sent past w) (map (flying e past) (on_way w e)) k y.0 y.1) ∙ g) in ih (y.1 ∙ ap (λ z. Some z) same))
-      | inr le ↦ elim (get_append (frames_sent past w) (map (flying e past) (on_way w e)) k it g) [ inl s ↦ ih s | inr m ↦ new le m ]
+      | inl y ↦ (let same : y.0 ≡ it = same_Some y.0 it (sym (slice_get-left (frames_sent past w) (map (flying_frame e past) (on_way w e)) k y.0 y.1) ∙ g) in ih (y.1 ∙ ap (λ z. Some z) same))
+      | inr le ↦ elim (get_append (frames_sent past w) (map (flying_frame e past) (on_way w e)) k it g) [ inl s ↦ ih s | inr m ↦ new le m ]
     ]
 
 -- the entry at this place sent the frame that is taken
-sends_at : (run : Run) (place r : ℕ) (f : FrameView) (t : MayTake (past_at run place) (way_of r f) f) → (w : Placed run place t.it.entry t.it.before) → Sends run w.at (way_of r f) f.seq
+sends_at : (run : Run) (place r : ℕ) (f : FrameView) (t : MayTake (past_at run place) (way_of r f) f) → (w : Placed run place t.it.entry t.it.before) → SendsFrame run w.at (way_of r f) f.seq
 sends_at run place r f t w =
     let way = way_of r f in
     let at = sent_place (past_at run place) way (taken_count (past_at run place) way) t.it t.next in
@@ -194,7 +194,7 @@ order_obeyed reads_back run place r a slot key h x =
     let w = occurs_at run place t.it.entry t.it.before o.occurs in
     let order : IsAt run w.at a (Order o.j r ob.deadline o.need key) = record { entry = t.it.entry; entry_is = w.entry_is; repo_is = o.repo_is; kind_is = o.kind_is } in
     let sends = sends_at run place r ob.f t w in
-    let takes_it : Takes run place r (way_of r ob.f) ob.f.seq = record { entry = x.entry; entry_is = x.entry_is; repo_is = x.repo_is; f = ob.f; takes_it = ob.takes_it; way_is = refl; seq_is = refl } in
+    let takes_it : TakesFrame run place r (way_of r ob.f) ob.f.seq = record { entry = x.entry; entry_is = x.entry_is; repo_is = x.repo_is; f = ob.f; takes_it = ob.takes_it; way_is = refl; seq_is = refl } in
     record {
       w = way_of r ob.f;
       n = ob.f.seq;
@@ -209,7 +209,7 @@ order_obeyed reads_back run place r a slot key h x =
       order = order;
       sends = sends;
       job = orderer run w.at a o.j r ob.deadline o.need key h order;
-      judge_is = order_judge past x.entry r a slot o.j r ob.deadline o.need key key (sent_of t.it) x.repo_is x.kind_is (sender_at past r x.entry.taken ob.f t.it ob.takes_it t.next) o.kind_is
+      judge_is = order_judge past x.entry r a slot o.j r ob.deadline o.need key key (sending_entry t.it) x.repo_is x.kind_is (sender_at past r x.entry.taken ob.f t.it ob.takes_it t.next) o.kind_is
           ∙ ap (λ before. let judge : Judge = record { repo = a; job = o.j; past = before } in Some judge) w.before_is;
       one_order = λ other y. same_place other w.at (λ lt. sends_apart run other w.at (way_of r ob.f) ob.f.seq y sends lt) (λ lt. sends_apart run w.at other (way_of r ob.f) ob.f.seq sends y lt);
       once = λ other y. same_place other place (λ lt. takes_apart reads_back run other place r (way_of r ob.f) ob.f.seq h y takes_it lt) (λ lt. takes_apart reads_back run place other r (way_of r ob.f) ob.f.seq h takes_it y lt);
@@ -222,22 +222,22 @@ one_on : (w : Way) (past : List Entry) (e : Entry) (g : FrameView) (n : ℕ) →
     → (is_on w (taker_of w) g ≡ true) × (n ≡ length (frames_sent past w) + 1)
 one_on w past e g n alone is fewer reached = go (is_on w (taker_of w) g) refl
   where
-    len : length (frames_sent (e ∷ past) w) ≡ length (frames_sent past w) + length (map (flying e past) (filter (is_on w (taker_of w)) (g ∷ [])))
-    len = ap (λ xs. length xs) (step is) ∙ length-append (frames_sent past w) (map (flying e past) (on_way w e)) ∙ ap (λ gs. length (frames_sent past w) + length (map (flying e past) (filter (is_on w (taker_of w)) gs))) alone
+    len : length (frames_sent (e ∷ past) w) ≡ length (frames_sent past w) + length (map (flying_frame e past) (filter (is_on w (taker_of w)) (g ∷ [])))
+    len = ap (λ xs. length xs) (step is) ∙ length-append (frames_sent past w) (map (flying_frame e past) (on_way w e)) ∙ ap (λ gs. length (frames_sent past w) + length (map (flying_frame e past) (filter (is_on w (taker_of w)) gs))) alone
       where
-        step : is_of (sender_of w) e ≡ true → frames_sent (e ∷ past) w ≡ frames_sent past w ++ map (flying e past) (on_way w e)
+        step : is_of (sender_of w) e ≡ true → frames_sent (e ∷ past) w ≡ frames_sent past w ++ map (flying_frame e past) (on_way w e)
         step own = rw own refl
 
-    few : (b : Bool) → is_on w (taker_of w) g ≡ b → length (map (flying e past) (filter (is_on w (taker_of w)) (g ∷ []))) ≡ cond b 1 0
+    few : (b : Bool) → is_on w (taker_of w) g ≡ b → length (map (flying_frame e past) (filter (is_on w (taker_of w)) (g ∷ []))) ≡ cond b 1 0
     few true on = rw on refl
     few false on = rw on refl
 
     go : (b : Bool) → is_on w (taker_of w) g ≡ b → (is_on w (taker_of w) g ≡ true) × (n ≡ length (frames_sent past w) + 1)
-    go true on = (on, let one : length (map (flying e past) (filter (is_on w (taker_of w)) (g ∷ []))) ≡ 1 = few true on in omega (arith, fewer, reached, len, one))
-    go false on = let none : length (map (flying e past) (filter (is_on w (taker_of w)) (g ∷ []))) ≡ 0 = few false on in absurd (omega (arith, fewer, reached, len, none))
+    go true on = (on, let one : length (map (flying_frame e past) (filter (is_on w (taker_of w)) (g ∷ []))) ≡ 1 = few true on in omega (arith, fewer, reached, len, one))
+    go false on = let none : length (map (flying_frame e past) (filter (is_on w (taker_of w)) (g ∷ []))) ≡ 0 = few false on in absurd (omega (arith, fewer, reached, len, none))
 
 -- the way and the number of what the entry at a place sends alone
-sent_alone : (run : Run) (at a : ℕ) (w : Way) (n : ℕ) (e : Entry) (g : FrameView) → slice_get run.entries at ≡ Some e → e.sent ≡ g ∷ [] → sender_of w ≡ a → Sends run at w n
+sent_alone : (run : Run) (at a : ℕ) (w : Way) (n : ℕ) (e : Entry) (g : FrameView) → slice_get run.entries at ≡ Some e → e.sent ≡ g ∷ [] → sender_of w ≡ a → SendsFrame run at w n
     → (way_from a g ≡ w) × (n ≡ length (frames_sent (past_at run at) (way_from a g)) + 1)
 sent_alone run at a w n e g is alone from s =
     let same : s.entry ≡ e = same_Some s.entry e (sym s.entry_is ∙ is) in
@@ -247,7 +247,7 @@ sent_alone run at a w n e g is alone from s =
     let way : way_from a g ≡ w = subst (λ q. way_from q g ≡ w) from (way_sent w g t.0) in
     (way, t.1 ∙ ap (λ z. length (frames_sent (past_at run at) z) + 1) (sym way))
 
-takes_same : (run : Run) (place r q : ℕ) (v w : Way) (m n : ℕ) → r ≡ q → v ≡ w → m ≡ n → Takes run place r v m → Takes run place q w n
+takes_same : (run : Run) (place r q : ℕ) (v w : Way) (m n : ℕ) → r ≡ q → v ≡ w → m ≡ n → TakesFrame run place r v m → TakesFrame run place q w n
 takes_same run place r q v w m n a b c t = record { entry = t.entry; entry_is = t.entry_is; repo_is = subst (λ x. is_of x t.entry ≡ true) a t.repo_is; f = t.f; takes_it = t.takes_it; way_is = ways; seq_is = t.seq_is ∙ c }
   where
     ways : way_of q t.f ≡ w

@@ -18,17 +18,17 @@ use Rattle.run_data.specs.declared.entry.FrameText.TheVariants.{Closing}
 use Rattle.run_data.specs.declared.job.Job.{Job}
 use Rattle.run_data.specs.declared.job.Outcome.{Outcome}
 use Rattle.run_model.specs.Logs.{is_step}
-use Rattle.node_model.specs.Slots.{Running, free_slot, uses}
+use Rattle.node_model.specs.Slots.{RunningJob, free_slot, uses}
 use Rattle.node_model.specs.Rows.{is_lost_ordered}
 use Rattle.run_model.specs.Past.{is_of, jobs, jobs_after}
 use Rattle.node_model.specs.SetUp.{SetUp, others, slots}
 use Rattle.run_model.specs.States.{state_of, end_at, session, works}
 use Rattle.node_model.specs.Ends.{End, EndName, end_takes, end_took, frames, is_opening, sends_at, sent_at, server_end, taken_at, takes_at}
 use Rattle.node_model.specs.SessionStep.{here, on_frame}
-use Rattle.node_model.specs.Jobs.{job_end, new_work, running}
+use Rattle.node_model.specs.Jobs.{job_end, new_work, running_job}
 use Rattle.node_model.specs.AnyTime.{MayCome, all_ends, close_at, closes_all, ends_with}
 use Rattle.node_model.specs.JobStep.{farewells}
-use Rattle.node_model.specs.Found.{JobKind, JobTakes}
+use Rattle.node_model.specs.Found.{IsJobEntry, JobTakes}
 use Rattle.run_model.specs.Run.{IsStep, OwnPart, OwnRun}
 use Rattle.race_core.proofs.StepFacts.{kind_found}
 use Rattle.race_core.proofs.ServerEnds.{BySessionAt, GivesHere, TakesHere, each_flat, end_of, same_end, same_end-is, sent_same, takes_end, takes_other}
@@ -47,10 +47,10 @@ use Rattle.race_core.proofs.OwnTried.{called_other}
 
 -- ---- running jobs
 
-pub stepped_job_runs : (s : SetUp) (past : List Entry) (e : Entry) (x : Stepped s past e) → Member (running x.w) (jobs past s.number)
-stepped_job_runs s past e x = subst (Member (running x.w)) (jobs_are past s.number) (running_member (works past s.number) x.w (stepped_runs s past e x))
+pub stepped_job_runs : (s : SetUp) (past : List Entry) (e : Entry) (x : Stepped s past e) → Member (running_job x.w) (jobs past s.number)
+stepped_job_runs s past e x = subst (Member (running_job x.w)) (jobs_are past s.number) (running_member (works past s.number) x.w (stepped_runs s past e x))
 
-free_in : (js : List Running) → Member (free_slot js) slots
+free_in : (js : List RunningJob) → Member (free_slot js) slots
 free_in js = first (not (uses js 0)) (second (not (uses js 1)) (third (not (uses js 2))))
   where
     third : (b : Bool) → Member (if b then 2 else 3) slots
@@ -65,9 +65,9 @@ free_in js = first (not (uses js 0)) (second (not (uses js 1)) (third (not (uses
     first true m = inl refl
     first false m = m
 
-after_slots : (js : List Running) (kind : EntryKind) → Each (λ j. Member j.slot slots) js → Each (λ j. Member j.slot slots) (jobs_after js kind)
+after_slots : (js : List RunningJob) (kind : EntryKind) → Each (λ j. Member j.slot slots) js → Each (λ j. Member j.slot slots) (jobs_after js kind)
 after_slots js (Begin job what) a = (free_in js, a)
-after_slots js (ends_job job outcome) a = Each-filter (λ (j : Running). Member j.slot slots) (λ (j : Running). not (j.number == job)) js a
+after_slots js (ends_job job outcome) a = Each-filter (λ (j : RunningJob). Member j.slot slots) (λ (j : RunningJob). not (j.number == job)) js a
 after_slots js (Crash clock) a = tt
 after_slots js kind a = a
 
@@ -83,7 +83,7 @@ jobs_slots (e ∷ past) r = go (jobs_slots past r) (is_of r e) refl
 pub jobs_own : (r : ℕ) (past : List Entry) (e : Entry) → is_of r e ≡ true → jobs (e ∷ past) r ≡ jobs_after (jobs past r) e.kind
 jobs_own r past e is = rw is refl
 
-kept_off : (j : Running) (job : ℕ) → (j.number ≡ job → ⊥) → not (j.number == job) ≡ true
+kept_off : (j : RunningJob) (job : ℕ) → (j.number ≡ job → ⊥) → not (j.number == job) ≡ true
 kept_off j job apart = go (j.number == job) refl
   where
     go : (b : Bool) → (j.number == job) ≡ b → not b ≡ true
@@ -91,9 +91,9 @@ kept_off j job apart = go (j.number == job) refl
     go false e = refl
 
 -- a job that the entry doesn't end runs on
-runs_on : (js : List Running) (j : Running) (kind : EntryKind) → Member j js → ((job : ℕ) (outcome : Outcome) → kind ≡ ends_job job outcome → j.number ≡ job → ⊥) → ((clock : ℕ) → kind ≡ Crash clock → ⊥) → Member j (jobs_after js kind)
+runs_on : (js : List RunningJob) (j : RunningJob) (kind : EntryKind) → Member j js → ((job : ℕ) (outcome : Outcome) → kind ≡ ends_job job outcome → j.number ≡ job → ⊥) → ((clock : ℕ) → kind ≡ Crash clock → ⊥) → Member j (jobs_after js kind)
 runs_on js j (Begin job what) m apart stands = inr m
-runs_on js j (ends_job job outcome) m apart stands = Member-filter_from (λ (z : Running). not (z.number == job)) js j m (kept_off j job (apart job outcome refl))
+runs_on js j (ends_job job outcome) m apart stands = Member-filter_from (λ (z : RunningJob). not (z.number == job)) js j m (kept_off j job (apart job outcome refl))
 runs_on js j (Crash clock) m apart stands = absurd (stands clock refl)
 runs_on js j kind m apart stands = m
 
@@ -203,7 +203,7 @@ module _ (reads_back : SentAreRead) (s : SetUp) (past : List Entry) (e : Entry) 
   pub ends_shut : is_of s.number e ≡ true → (job : ℕ) (outcome : Outcome) → e.kind ≡ ends_job job outcome → (a : EndName) → a.client ≡ true → a.slot ≡ x.w.slot → Member a.peer (others s) → (end_at (e ∷ past) s.number a).opened ≡ false
   ends_shut is job outcome kind a client slot m =
       let t = turn_at s past e x in
-      let found = subst (JobKind t x.made) (sym (ap (λ (y : Entry). y.kind) x.is) ∙ kind) (stepped_found s past e x).found in
+      let found = subst (IsJobEntry t x.made) (sym (ap (λ (y : Entry). y.kind) x.is) ∙ kind) (stepped_found s past e x).found in
       let sent : e.sent ≡ farewells t (is_lost_ordered outcome) = ap (λ (y : Entry). y.sent) x.is ∙ found.sent_is in
       let same : job_end x.w a.peer ≡ a = λ i. record { peer = a.peer; slot = sym slot i; client = sym client i } in
       let d = end_took (end_at past s.number a) (taken_at a e.taken) in
@@ -266,7 +266,7 @@ crash_shuts s past words e own is clock kind a m o =
 -- a job runs in the slot of the end, which is with another repository
 pub record Runs (s : SetUp) (past : List Entry) (a : EndName) : Type 0 where
   pub peer : Member a.peer (others s)
-  pub job : Running
+  pub job : RunningJob
   pub runs : Member job (jobs past s.number)
   pub slot : job.slot ≡ a.slot
 
@@ -277,7 +277,7 @@ module _ (reads_back : SentAreRead) (s : SetUp) (past : List Entry) (e : Entry) 
   no_crash : (end_at past s.number a).opened ≡ true → (clock : ℕ) → e.kind ≡ Crash clock → ⊥
   no_crash o clock kind =
       let x = old a client o in
-      let slot : Member a.slot slots = subst (λ n. Member n slots) x.slot (Each-member (λ (j : Running). Member j.slot slots) (jobs past s.number) x.job (jobs_slots past s.number) x.runs) in
+      let slot : Member a.slot slots = subst (λ n. Member n slots) x.slot (Each-member (λ (j : RunningJob). Member j.slot slots) (jobs past s.number) x.job (jobs_slots past s.number) x.runs) in
       absurd (true≢false (sym now ∙ crash_shuts s past words e own is clock kind a (end_in s a client x.peer slot) o))
 
   -- it ran before, and the entry doesn't end it
@@ -296,26 +296,26 @@ module _ (reads_back : SentAreRead) (s : SetUp) (past : List Entry) (e : Entry) 
       stays_on (old a client o) (λ job outcome kind same. no_ends none job outcome kind) (no_crash o)
 
   module _ (x : Stepped s past e) where
-    mine : Member (running x.w) (jobs past s.number)
+    mine : Member (running_job x.w) (jobs past s.number)
     mine = stepped_job_runs s past e x
 
     job_stands : (clock : ℕ) → e.kind ≡ Crash clock → ⊥
-    job_stands clock kind = subst (JobKind (turn_at s past e x) x.made) (sym (ap (λ (y : Entry). y.kind) x.is) ∙ kind) (stepped_found s past e x).found
+    job_stands clock kind = subst (IsJobEntry (turn_at s past e x) x.made) (sym (ap (λ (y : Entry). y.kind) x.is) ∙ kind) (stepped_found s past e x).found
 
     ends_mine : (job : ℕ) (outcome : Outcome) → e.kind ≡ ends_job job outcome → job ≡ x.w.number
-    ends_mine job outcome kind = (subst (JobKind (turn_at s past e x) x.made) (sym (ap (λ (y : Entry). y.kind) x.is) ∙ kind) (stepped_found s past e x).found).number_is
+    ends_mine job outcome kind = (subst (IsJobEntry (turn_at s past e x) x.made) (sym (ap (λ (y : Entry). y.kind) x.is) ∙ kind) (stepped_found s past e x).found).number_is
 
     job_runs : Runs s (e ∷ past) a
     job_runs = elim (job_opened reads_back s past e x run is a now) [
       | inl o ↦ (let z = old a client o in stays_on z (λ job outcome kind same. was z job outcome kind same) job_stands)
-      | inr y ↦ (let z : Runs s past a = record { peer = y.0; job = running x.w; runs = mine; slot = y.1 } in stays_on z (λ job outcome kind same. was z job outcome kind same) job_stands)
+      | inr y ↦ (let z : Runs s past a = record { peer = y.0; job = running_job x.w; runs = mine; slot = y.1 } in stays_on z (λ job outcome kind same. was z job outcome kind same) job_stands)
     ]
       where
         -- the job that ends is in another slot, as the end is open
         was : (z : Runs s past a) (job : ℕ) (outcome : Outcome) → e.kind ≡ ends_job job outcome → z.job.number ≡ job → ⊥
         was z job outcome kind same =
-            let one : z.job ≡ running x.w = same_job (jobs past s.number) (jobs_numbered s past run).falling z.job (running x.w) z.runs mine (same ∙ ends_mine job outcome kind) in
-            let slot : a.slot ≡ x.w.slot = sym z.slot ∙ ap (λ (j : Running). j.slot) one in
+            let one : z.job ≡ running_job x.w = same_job (jobs past s.number) (jobs_numbered s past run).falling z.job (running_job x.w) z.runs mine (same ∙ ends_mine job outcome kind) in
+            let slot : a.slot ≡ x.w.slot = sym z.slot ∙ ap (λ (j : RunningJob). j.slot) one in
             true≢false (sym now ∙ ends_shut reads_back s past e x is job outcome kind a client slot z.peer)
 
   after_runs : Runs s (e ∷ past) a
@@ -342,11 +342,11 @@ open_runs reads_back s past run = own_induction s (OpenRuns s) (λ a client o. a
 abbrev pub Shut : SetUp → Type 0
 Shut s = (past : List Entry) → OwnRun s past → (job : ℕ) (what : Job) (peer : ℕ) → length (works past s.number) < 4 → (end_at past s.number (job_end (new_work (works past s.number) job what) peer)).opened ≡ false
 
-pub used_slot : (js : List Running) (j : Running) → Member j js → uses js j.slot ≡ true
+pub used_slot : (js : List RunningJob) (j : RunningJob) → Member j js → uses js j.slot ≡ true
 used_slot [] j m = absurd m
-used_slot (x ∷ xs) j (inl m) = rw (here j x (ap (λ (z : Running). z.slot) m)) refl
+used_slot (x ∷ xs) j (inl m) = rw (here j x (ap (λ (z : RunningJob). z.slot) m)) refl
   where
-    here : (j x : Running) → j.slot ≡ x.slot → (x.slot == j.slot) ≡ true
+    here : (j x : RunningJob) → j.slot ≡ x.slot → (x.slot == j.slot) ≡ true
     here j x e = grind (arith, nat_tests)
 used_slot (x ∷ xs) j (inr m) = go (x.slot == j.slot) (used_slot xs j m)
   where
@@ -357,8 +357,8 @@ used_slot (x ∷ xs) j (inr m) = go (x.slot == j.slot) (used_slot xs j m)
 pub shut : SentAreRead → (s : SetUp) → Shut s
 shut reads_back s past run job what peer few = go (end_at past s.number a).opened refl
   where
-    js : List Running
-    js = map running (works past s.number)
+    js : List RunningJob
+    js = map running_job (works past s.number)
 
     a : EndName
     a = job_end (new_work (works past s.number) job what) peer
@@ -368,7 +368,7 @@ shut reads_back s past run job what peer few = go (end_at past s.number a).opene
     go true o =
         let x = open_runs reads_back s past run a refl o in
         let used : uses js x.job.slot ≡ true = used_slot js x.job (subst (Member x.job) (sym (jobs_are past s.number)) x.runs) in
-        let free : uses js (free_slot js) ≡ false = free_is js (subst (λ n. n < 4) (sym (length-map (works past s.number) running)) few) in
+        let free : uses js (free_slot js) ≡ false = free_is js (subst (λ n. n < 4) (sym (length-map (works past s.number) running_job)) few) in
         absurd (true≢false (sym (subst (λ n. uses js n ≡ true) x.slot used) ∙ free))
 
 -- ---- whom a job speaks with

@@ -115,7 +115,7 @@ module _ (before : Turn) (peer : ℕ) where
       heard : (text : List ℕ) (m : Message) (to : Phase) → f.body ≡ Line text → message_of text ≡ Some m → (Jobs.listens t.w Orders m).phase ≡ to → (moved t (hears t f) (talk t)).phase ≡ to
       heard text m to body reads goes =
           let still : (end_after a (end_with t peer) (made_entry t (hears t f))).opened ≡ true = ap (λ (c : End). c.opened) took_is ∙ ap (λ (b : FrameText). (end_takes (end_with t peer) f.epoch b).opened) body ∙ opened in
-          rw still (ap (λ (b : FrameText). (Jobs.took t.w b).phase) body ∙ ap (λ (o : Option Message). (Jobs.took_line t.w o).phase) reads ∙ goes)
+          rw still (ap (λ (b : FrameText). (Jobs.after_frame t.w b).phase) body ∙ ap (λ (o : Option Message). (Jobs.after_line t.w o).phase) reads ∙ goes)
 
       drop_makes : (text : List ℕ) (m : Message) → f.body ≡ Line text → message_of text ≡ Some m → OrdersMake t (takes_drop t f peer Orders m)
       drop_makes text Success body reads = (refl, inr (record { f = f; made = refl; answer = ap (λ b. is_answer (message_in b)) body ∙ line_answers text Success reads refl; phase = inl (heard text Success Removed body reads refl) }))

@@ -20,7 +20,7 @@ use Rattle.run_data.specs.declared.job.Job.{Job}
 use Rattle.run_data.specs.declared.job.Outcome.{Outcome}
 use Rattle.run_data.specs.declared.job.Outcome.TheVariants.{Refused}
 use Rattle.run_data.specs.declared.job.DropRefusal.TheVariants as refusals
-use Rattle.node_model.specs.Slots.{Running, job_of}
+use Rattle.node_model.specs.Slots.{RunningJob, job_of}
 use Rattle.node_model.specs.Rows.{is_lost_ordered, option_is}
 use Rattle.run_model.specs.Past.{is_of}
 use Rattle.run_model.specs.Frames.{Way, requests, says, taken_if, up_of, way_of}
@@ -35,13 +35,13 @@ use Rattle.node_model.specs.Sessions.{line_in}
 use Rattle.node_model.specs.Ends.{End, EndName, end_after, end_sends, end_takes, end_took, frames, sends_at, sent_at, taken_at, takes_at}
 use Rattle.run_model.specs.States.{end_at, rows_at, works, state_of}
 use Rattle.node_model.specs.Jobs
-use Rattle.node_model.specs.Jobs.{Denied, Drops, Ends, Gets, Orders, Part, Phase, Puts, Removed, Work, job_end, partner, running, side_of, talks, talks_on, work_kind}
+use Rattle.node_model.specs.Jobs.{Denied, Drops, Ends, Gets, Orders, Part, Phase, Puts, Removed, Work, job_end, partner, running_job, side_of, talks, talks_on, work_kind}
 use Rattle.node_model.specs.OwedStep.{owed_step}
 use Rattle.node_model.specs.SessionStep.{session_step}
 use Rattle.node_model.specs.JobStep.{Turn, by_me, end_with, me, talk, turn_of}
 use Rattle.node_model.specs.Turns.{by_partner, job_step, outcome_of, slot_step, takes_frame}
 use Rattle.run_model.specs.Run.{IsStep, OwnPart, OwnPast, OwnRun}
-use Rattle.node_model.specs.Found.{ByJob, ByOwed, GivesOrder, JobKind}
+use Rattle.node_model.specs.Found.{ByJob, ByOwed, GivesOrder, IsJobEntry}
 use Rattle.race_core.proofs.Cases.{first_was, some_was}
 use Rattle.race_core.proofs.ServerEnds.{come_closes, sent_same}
 use Rattle.race_core.proofs.WayCounts.{hits, in_count, in_other, one_if, out_count, out_other}
@@ -304,14 +304,14 @@ module _ (reads_back : SentAreRead) (s : SetUp) (past : List Entry) (e : Entry) 
   runs : Member v (works past r)
   runs = step_runs s past e x b
 
-  same_running : running x ≡ running v
-  same_running = ap running b.work_is ∙ kind_kept (rows_at past r) r v e e.kind
+  same_running : running_job x ≡ running_job v
+  same_running = ap running_job b.work_is ∙ kind_kept (rows_at past r) r v e e.kind
 
   same_what : x.what ≡ v.what
-  same_what = ap (λ (j : Running). j.what) same_running
+  same_what = ap (λ (j : RunningJob). j.what) same_running
 
   same_slot : x.slot ≡ v.slot
-  same_slot = ap (λ (j : Running). j.slot) same_running
+  same_slot = ap (λ (j : RunningJob). j.slot) same_running
 
   entry_is : e ≡ made_entry t m
   entry_is = b.by.is
@@ -327,7 +327,7 @@ module _ (reads_back : SentAreRead) (s : SetUp) (past : List Entry) (e : Entry) 
 
   module _ (g : FrameView) (now : NowOrders e r x.number g) (o : OrderEntry e) where
     gives : GivesOrder t o.j o.peer o.deadline o.need o.key m
-    gives = subst (JobKind t m) o.kind_is (step_kind s past e x b)
+    gives = subst (IsJobEntry t m) o.kind_is (step_kind s past e x b)
 
     abbrev body : FrameText
     body = Line (text_of (order_of o.deadline o.key))

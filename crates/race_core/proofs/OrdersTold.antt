@@ -33,11 +33,11 @@ use Rattle.run_model.specs.States.{rows_at, works}
 use Rattle.node_model.specs.Ends.{end_after}
 use Rattle.node_model.specs.Sessions.{line_in}
 use Rattle.node_model.specs.Jobs
-use Rattle.node_model.specs.Jobs.{AsksTime, Drops, Ends, Fresh, Gets, GetsBytes, GetsWord, Greets, Orders, Part, Phase, Puts, Rows, Work, claims, closed_part, fault_of, fault_phase, first_look, gets_bytes, hears_frame, job_end, learns, listens, partner, put_from, puts_answer, puts_bytes, quiet, says, says_some, sends, side_of, taken_message, talks, talks_on, target_of, took, took_line, after_transfer, after_failed_release, word_taken, work_kind}
+use Rattle.node_model.specs.Jobs.{AsksTime, Drops, Ends, Fresh, Gets, GetsBytes, GetsWord, Greets, Orders, Part, Phase, Puts, RowsAndEnds, Work, claims, closed_part, fault_of, fault_phase, first_look, gets_bytes, hears_frame, job_end, learns, listens, partner, put_from, puts_answer, puts_bytes, quiet, says, says_some, sends, side_of, taken_message, talks, talks_on, target_of, after_frame, after_line, after_transfer, after_failed_release, word_taken, work_kind}
 use Rattle.node_model.specs.JobStep.{Turn, wrong}
 use Rattle.node_model.specs.DropStep.{first_end, takes_time, times}
 use Rattle.node_model.specs.Turns.{takes_answer}
-use Rattle.node_model.specs.Found.{GivesOrder, HasDeadline, JobKind}
+use Rattle.node_model.specs.Found.{GivesOrder, HasDeadline, IsJobEntry}
 use Rattle.run_model.specs.Run.{OwnPart, OwnPast, OwnRun}
 use Rattle.drop_proof.specs.declared.rule.Need.{Need}
 use Rattle.race_core.proofs.ClosedFound.{OrdersTold}
@@ -147,7 +147,7 @@ look_off r w Drops true None = refl
 look_off r w Gets false bar = refl
 look_off r w Puts here bar = refl
 
-quiet_kept : (rows : Rows) (r : ℕ) (w : Work) (phase : Phase) → has_order (quiet rows r w phase).phase ≡ true → has_order w.phase ≡ true
+quiet_kept : (rows : RowsAndEnds) (r : ℕ) (w : Work) (phase : Phase) → has_order (quiet rows r w phase).phase ≡ true → has_order w.phase ≡ true
 quiet_kept rows r w Fresh e = absurd (true≢false (sym e ∙ look_off r w w.part (rows.present w.what.key) (rows.bar w.what.key)))
 quiet_kept rows r w Jobs.Next e = absurd (true≢false (sym e))
 quiet_kept rows r w phase e = e
@@ -171,11 +171,11 @@ got_kept : (n : ℕ) (phase : Phase) → has_order (gets_bytes n phase) ≡ true
 got_kept n (GetsBytes peer start size left) e = absurd (true≢false (sym e ∙ more_off (left - n == 0) (GetsWord peer start (size + n)) (GetsBytes peer start (size + n) (left - n)) refl refl))
 got_kept n phase e = e
 
-took_kept : (w : Work) (body : FrameText) → has_order (took w body).phase ≡ true → has_order w.phase ≡ true
+took_kept : (w : Work) (body : FrameText) → has_order (after_frame w body).phase ≡ true → has_order w.phase ≡ true
 took_kept w (Bytes n) e = got_kept n w.phase e
 took_kept w (Line text) e = go (message_of text) e
   where
-    go : (o : Option Message) → has_order (took_line w o).phase ≡ true → has_order w.phase ≡ true
+    go : (o : Option Message) → has_order (after_line w o).phase ≡ true → has_order w.phase ≡ true
     go None e = e
     go (Some m) e = listens_kept w w.phase m e
 took_kept w Opening e = e
@@ -196,15 +196,15 @@ closed_kept r w peer Drops e = go (target_of r w == peer) e
 
 -- ---- an entry of the job
 
-talks_came : (rows : Rows) (r : ℕ) (w : Work) (e : Entry) (fs : List FrameView) → Came fs w.phase (talks rows r w e fs).phase
+talks_came : (rows : RowsAndEnds) (r : ℕ) (w : Work) (e : Entry) (fs : List FrameView) → Came fs w.phase (talks rows r w e fs).phase
 talks_came rows r w e (f ∷ fs) = sends_order w e.time (taken_message e.taken) f fs
 talks_came rows r w e [] = go e.taken
   where
     go : (o : Option FrameView) → Came [] w.phase (hears_frame rows r w o).phase
     go None = kept [] w.phase (quiet rows r w w.phase).phase (quiet_kept rows r w w.phase)
-    go (Some f) = kept [] w.phase (took w f.body).phase (took_kept w f.body)
+    go (Some f) = kept [] w.phase (after_frame w f.body).phase (took_kept w f.body)
 
-on_came : (rows : Rows) (r : ℕ) (w : Work) (e : Entry) (p : Option ℕ) → Came e.sent w.phase (talks_on rows r w e p).phase
+on_came : (rows : RowsAndEnds) (r : ℕ) (w : Work) (e : Entry) (p : Option ℕ) → Came e.sent w.phase (talks_on rows r w e p).phase
 on_came rows r w e None = talks_came rows r w e e.sent
 on_came rows r w e (Some peer) = if_either (λ (x : Work). Came e.sent w.phase x.phase) (end_after (job_end w peer) (rows.ends (job_end w peer)) e).opened (talks rows r w e e.sent) (closed_part r w peer w.part)
     (λ o. talks_came rows r w e e.sent) (λ o. kept e.sent w.phase (closed_part r w peer w.part).phase (closed_kept r w peer w.part))
@@ -231,7 +231,7 @@ gained_kept : (w : Work) (phase : Phase) → has_order (Jobs.after_gain w phase)
 gained_kept w (GetsWord peer start size) e = absurd (true≢false (sym e ∙ transferred_off w (Got (Some peer) (Some start)) refl))
 gained_kept w phase e = e
 
-kind_came : (rows : Rows) (r : ℕ) (w : Work) (e : Entry) (kind : EntryKind) → Came e.sent w.phase (work_kind rows r w e kind).phase
+kind_came : (rows : RowsAndEnds) (r : ℕ) (w : Work) (e : Entry) (kind : EntryKind) → Came e.sent w.phase (work_kind rows r w e kind).phase
 kind_came rows r w e (Fault call owner) = kept e.sent w.phase (fault_of r w e.time call).phase (call_kept r w e.time call)
 kind_came rows r w e (Bar job need key) = off e.sent w.phase Jobs.Next refl
 kind_came rows r w e (Share hold end owner key) = off e.sent w.phase Jobs.Next refl
@@ -288,7 +288,7 @@ module _ (reads_back : SentAreRead) (s : SetUp) (past : List Entry) (words : ℕ
   t = turn_at s past e by
 
   found : GivesOrder t j peer deadline need key by.made
-  found = subst (JobKind t by.made) (sym (ap (λ (y : Entry). y.kind) by.is) ∙ kind) (stepped_found s past e by).found
+  found = subst (IsJobEntry t by.made) (sym (ap (λ (y : Entry). y.kind) by.is) ∙ kind) (stepped_found s past e by).found
 
   read : message_of (text_of (order_of deadline by.w.what.key)) ≡ Some (order_of deadline by.w.what.key)
   read = go deadline found.timed kind

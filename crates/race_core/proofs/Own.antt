@@ -1,11 +1,6 @@
 -- What each entry of a repository finds and does, by the repository's own entries alone. With the order of entries and the frames'
 -- part of a run this is enough for each entry to be lawful (own). Every function of the past that stands here for repository r
 -- is one of r's own entries.
--- Changes: (1) first form. (2) `Free` is Lawful's; of the errors only 'busy' is an answer, since an unexpected message of any kind
--- may be met by a step. (3) a job that closes a connection itself hears 'closed', and its own repository is never waited for (both in
--- run_model's Drops). A bar and an order state the job's key and the need that it
--- read. (4) `before_step` (run_model's Logs) is the first step of the drop, which in a move comes after the
--- transfer; a close here tells a job only where nothing was told it yet. (5) `ends` speaks of frames that go up. (6) clocks that start anew: `one_clock`, `same_clock`, `same_way`.
 use Rattle.std.specs.Prelude.{◌≡◌, ◌≢◌, ℕ, ◌+◌, ◌-◌, ◌*◌, ◌/◌, ◌<◌, ◌≤◌, Bool, true, false, ◌&&◌, ◌||◌, List, [], ◌∷◌, filter, length, reverse, Option, Some, None}
 use Rattle.std.specs.List.{list_any}
 use Rattle.annex_base.specs.Lists.{Member}
@@ -34,7 +29,7 @@ use Rattle.run_model.specs.Frames.{MayTake, Way, is_job, is_on, on_way, requests
 use Rattle.node_model.specs.Slots.{job_of}
 use Rattle.run_model.specs.Logs.{in_drop, need_read}
 use Rattle.run_model.specs.Drops.{is_done, key_in}
-use Rattle.race_core.specs.Lawful.{Free}
+use Rattle.race_core.specs.Lawful.{HasFreeContent}
 use Rattle.race_core.proofs.Heard.{Heard, heard, heard_key, known_evidence}
 
 abbrev pub AtMostOne : {X : Type 0} → List X → Type 0
@@ -63,7 +58,7 @@ pub record SharesWith (r : ℕ) (e : Entry) (peer slot : ℕ) (key : List ℕ) :
 
 -- a share found the content free; its end is ten minutes from now, and its number the entry's among its repository's
 pub record MayShare (repos : List RepoView) (r : ℕ) (past : List Entry) (e : Entry) (hold end : ℕ) (key : List ℕ) : Type 0 where
-  pub row : Free past r key
+  pub row : HasFreeContent past r key
   pub end_is : end ≡ clock repos past r e.time + hold_time
   pub number_is : hold ≡ entry_count past r + 1
 
@@ -153,7 +148,7 @@ OneClock repos r past j = (x : Entry) (before : List Entry) → Occurs past x be
 -- a bar found the content free and no hold that blocks; it is the job's only one, and comes before the job asks for a copy; its
 -- need is what the job reads
 pub record MayBar (repos : List RepoView) (r : ℕ) (past : List Entry) (e : Entry) (j : ℕ) (need : Need) (key : List ℕ) : Type 0 where
-  pub row : Free past r key
+  pub row : HasFreeContent past r key
   pub unheld : is_blocked (holds past r) key (clock repos past r e.time) ≡ false
   pub first : decision past r j ≡ None
   pub open' : is_done past r j ≡ false
@@ -238,7 +233,7 @@ pub record Own (repos : List RepoView) (r : ℕ) (past : List Entry) (e : Entry)
   -- by its kind
   pub share : (hold end : ℕ) (by : By) (key : List ℕ) → e.kind ≡ Share hold end by key → MayShare repos r past e hold end key
   pub shares_with : (hold end peer slot : ℕ) (key : List ℕ) → e.kind ≡ Share hold end (Peer peer slot) key → SharesWith r e peer slot key
-  pub look : (key : List ℕ) → e.kind ≡ Check Present key → Free past r key × SaysYes r e (Says (CheckPresent key))
+  pub look : (key : List ℕ) → e.kind ≡ Check Present key → HasFreeContent past r key × SaysYes r e (Says (CheckPresent key))
   pub release : (hold : ℕ) (key : List ℕ) → e.kind ≡ Release hold key → MayRelease r past e hold key
   pub bar_put : (j : ℕ) (need : Need) (key : List ℕ) → e.kind ≡ Bar j need key → MayBar repos r past e j need key
   pub removes : (j : ℕ) (key : List ℕ) → e.kind ≡ Gone (by_job j) key → MayRemove repos r past e j key

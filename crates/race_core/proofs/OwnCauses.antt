@@ -1,8 +1,9 @@
 -- The cause that a remote drop's list has of its own repository is what its first step found; a refused look is heard as such.
-use Rattle.std.proofs.Common.{◌≡◌, ◌≢◌, ℕ, suc, Bool, true, false, List, [], ◌∷◌, length, Option, Some, None, ◌⊎◌, inl, inr, refl, sym, ap, ◌∙◌, subst, arith}
+use Rattle.std.proofs.Common.{◌≡◌, ◌≢◌, ℕ, Bool, true, false, List, [], ◌∷◌, Option, Some, None, ◌⊎◌, inl, inr, refl, sym, ap, ◌∙◌, subst}
 use Rattle.std.specs.Prelude.{if◌then◌else◌}
 use Rattle.annex_base.specs.declared.kinds.Call.{Call}
 use Rattle.annex_base.specs.declared.kinds.Call.TheVariants.{PutFile, Unhold}
+use Rattle.annex_base.proofs.Lists.{not_longer}
 use Rattle.drop_proof.specs.declared.rule.Side.{Side}
 use Rattle.drop_proof.specs.declared.rule.Side.TheVariants.{Remote}
 use Rattle.run_data.specs.declared.entry.Entry.{Entry}
@@ -20,17 +21,13 @@ use Rattle.p2p_wire.specs.Messages.{message_of}
 use Rattle.run_model.specs.Drops.{cause_own}
 use Rattle.node_model.specs.Sessions.{line_in}
 use Rattle.node_model.specs.Jobs
-use Rattle.node_model.specs.Jobs.{AsksLook, Drops, Fresh, Heard, Lacks, Part, Phase, Rows, Work, claims, fault_of, fault_phase, first_look, hears_frame, learns, partner, quiet, side_of, taken_message, talks, talks_on, took, took_line, work_kind}
+use Rattle.node_model.specs.Jobs.{AsksLook, Drops, Fresh, Heard, Lacks, Part, Phase, RowsAndEnds, Work, claims, fault_of, fault_phase, first_look, hears_frame, learns, partner, quiet, side_of, taken_message, talks, talks_on, after_frame, after_line, work_kind}
 use Rattle.node_model.specs.Look.{Made}
 use Rattle.node_model.specs.JobStep.{Turn, hears}
 use Rattle.node_model.specs.Turns.{takes_answer, takes_frame}
-use Rattle.node_model.specs.Found.{JobKind}
+use Rattle.node_model.specs.Found.{IsJobEntry}
 use Rattle.race_core.proofs.HeardLists.{OwnLacks, SameList, Talker, gained_list, listens_list, sends_list, talker_is}
 use Rattle.race_core.proofs.HeardSteps.{takes_line}
-
--- a list isn't one word longer than itself
-longer : {X : Type 0} (x : X) (xs : List X) → xs ≡ x ∷ xs → ⊥
-longer x xs e = let both : length xs ≡ suc (length xs) = ap length e in absurd (omega (arith, both))
 
 head_cause : (a b : ℕ) (c d : Heard) (xs : List (ℕ × Heard)) → (a, c) ∷ xs ≡ (b, d) ∷ xs → c ≡ d
 head_cause a b c d xs e = ap (λ (ys : List (ℕ × Heard)). second ys) e
@@ -51,7 +48,7 @@ first_only r y Drops true None is = inl refl
 first_only r y Jobs.Gets here bar is = absurd (cc)
 first_only r y Jobs.Puts here bar is = absurd (cc)
 
-module _ (rows : Rows) (r : ℕ) (v : Work) (e : Entry) (first : v.phase ≡ Fresh) (part : v.part ≡ Drops) where
+module _ (rows : RowsAndEnds) (r : ℕ) (v : Work) (e : Entry) (first : v.phase ≡ Fresh) (part : v.part ≡ Drops) where
   -- the list is as it was, or has the cause of this kind
   abbrev Value : EntryKind → Work → Type 0
   Value kind x = SameList v x ⊎ ((c : Cause) × (x.heard ≡ (r, Lacks c) ∷ v.heard) × (cause_own (rows.present v.what.key) kind ≡ Some c))
@@ -73,7 +70,7 @@ module _ (rows : Rows) (r : ℕ) (v : Work) (e : Entry) (first : v.phase ≡ Fre
     fresh_now : y.phase ≡ Fresh
     fresh_now = s.phase_is ∙ first
 
-    line_only : (m : Option Message) → SameList y (took_line y m)
+    line_only : (m : Option Message) → SameList y (after_line y m)
     line_only None = refl
     line_only (Some m) = elim (listens_list y y.phase m) [
       | inl same ↦ same
@@ -83,7 +80,7 @@ module _ (rows : Rows) (r : ℕ) (v : Work) (e : Entry) (first : v.phase ≡ Fre
       ]
     ]
 
-    took_only : (body : FrameText) → SameList y (took y body)
+    took_only : (body : FrameText) → SameList y (after_frame y body)
     took_only (Line text) = line_only (message_of text)
     took_only (Bytes n) = refl
     took_only Opening = refl
@@ -96,7 +93,7 @@ module _ (rows : Rows) (r : ℕ) (v : Work) (e : Entry) (first : v.phase ≡ Fre
           | inr new ↦ inr (
             (if rows.present y.what.key then causes.Barred else causes.Absent),
             new ∙ ap (λ (hs : List (ℕ × Heard)). (r, Lacks (if rows.present y.what.key then causes.Barred else causes.Absent)) ∷ hs) s.list,
-            ap (λ (j : Rattle.node_model.specs.Slots.Running). Some (if rows.present j.what.key then causes.Barred else causes.Absent)) (sym s.same),
+            ap (λ (j : Rattle.node_model.specs.Slots.RunningJob). Some (if rows.present j.what.key then causes.Barred else causes.Absent)) (sym s.same),
           )
         ])
 
@@ -114,7 +111,7 @@ module _ (rows : Rows) (r : ℕ) (v : Work) (e : Entry) (first : v.phase ≡ Fre
         (subst (λ (fs : List FrameView). SameList v (talks rows r y e fs)) (sym sent) (sends_list y e.time g.peer (taken_message e.taken) g.body ∙ s.list))
 
 -- **the own repository's cause is what the entry found**
-pub own_value : (t : Turn) (m : Made) (rows : Rows) (r : ℕ) (e : Entry) (kind : EntryKind) → JobKind t m kind → m.sent ≡ e.sent → ((j : ℕ) (outcome : Outcome) → kind ≢ ends_job j outcome)
+pub own_value : (t : Turn) (m : Made) (rows : RowsAndEnds) (r : ℕ) (e : Entry) (kind : EntryKind) → IsJobEntry t m kind → m.sent ≡ e.sent → ((j : ℕ) (outcome : Outcome) → kind ≢ ends_job j outcome)
     → (o : OwnLacks r t.w (work_kind rows r t.w e kind)) → cause_own (rows.present t.w.what.key) kind ≡ Some o.cause
 own_value t m rows r e kind k sent goes_on o = by kind k goes_on o.list
   where
@@ -122,17 +119,17 @@ own_value t m rows r e kind k sent goes_on o = by kind k goes_on o.list
     v = t.w
 
     at : (kind : EntryKind) (x : Work) → Value rows r v e o.first o.part_is kind x → x.heard ≡ (r, Lacks o.cause) ∷ v.heard → cause_own (rows.present v.what.key) kind ≡ Some o.cause
-    at kind x (inl same) list = absurd (longer (r, Lacks o.cause) v.heard (sym same ∙ list))
+    at kind x (inl same) list = absurd (not_longer (r, Lacks o.cause) v.heard (sym same ∙ list))
     at kind x (inr z) list = z.2 ∙ ap Some (lacks_inj z.0 o.cause (head_cause r r (Lacks z.0) (Lacks o.cause) v.heard (sym z.1 ∙ list)))
 
-    by : (kind : EntryKind) → JobKind t m kind → ((j : ℕ) (outcome : Outcome) → kind ≢ ends_job j outcome) → (work_kind rows r v e kind).heard ≡ (r, Lacks o.cause) ∷ v.heard → cause_own (rows.present v.what.key) kind ≡ Some o.cause
+    by : (kind : EntryKind) → IsJobEntry t m kind → ((j : ℕ) (outcome : Outcome) → kind ≢ ends_job j outcome) → (work_kind rows r v e kind).heard ≡ (r, Lacks o.cause) ∷ v.heard → cause_own (rows.present v.what.key) kind ≡ Some o.cause
     by (Fault call owner) k goes list = at (Fault call owner) (fault_of r v e.time call) (call_only rows r v e o.first o.part_is e.time call owner) list
     by (Talk (Some j)) k goes list = at (Talk (Some j)) (work_kind rows r v e (Talk (Some j))) (talk_only rows r v e o.first o.part_is (learns (claims v v.part v.phase) v.phase e.taken) (talker_is t e.taken) (Some j)) list
     by (Share hold end owner key) k goes list = absurd (let both : Jobs.Held e.time ≡ Lacks o.cause = head_cause r r (Jobs.Held e.time) (Lacks o.cause) v.heard list in cc)
-    by (Bar j need key) k goes list = absurd (longer (r, Lacks o.cause) v.heard list)
-    by (Gone source key) k goes list = absurd (longer (r, Lacks o.cause) v.heard list)
-    by (Gain source size key) k goes list = absurd (longer (r, Lacks o.cause) v.heard (sym (gained_list v v.phase) ∙ list))
-    by (Order j peer deadline need key) k goes list = absurd (longer (r, Lacks o.cause) v.heard
+    by (Bar j need key) k goes list = absurd (not_longer (r, Lacks o.cause) v.heard list)
+    by (Gone source key) k goes list = absurd (not_longer (r, Lacks o.cause) v.heard list)
+    by (Gain source size key) k goes list = absurd (not_longer (r, Lacks o.cause) v.heard (sym (gained_list v v.phase) ∙ list))
+    by (Order j peer deadline need key) k goes list = absurd (not_longer (r, Lacks o.cause) v.heard
         (sym (order_only rows r v e o.first o.part_is (learns (claims v v.part v.phase) v.phase e.taken) (talker_is t e.taken) (_) (sym sent ∙ k.sent_is)) ∙ list))
     by (ends_job j outcome) k goes list = absurd (goes j outcome refl)
     by kind k goes list = absurd k

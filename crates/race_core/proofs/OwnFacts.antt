@@ -18,10 +18,10 @@ use Rattle.run_model.specs.Past.{Occurs, is_of, now}
 use Rattle.node_model.specs.Rows.{option_is}
 use Rattle.p2p_wire.specs.declared.message.Message.TheVariants.{CheckPresent, LockContent}
 use Rattle.run_model.specs.Said.{Said, Says, message_in}
-use Rattle.run_model.specs.Frames.{Flying, is_job, says, sender, sent_of, taken_count, way_of}
+use Rattle.run_model.specs.Frames.{FlyingFrame, is_job, says, sender, sending_entry, taken_count, way_of}
 use Rattle.node_model.specs.Slots.{job_of}
 use Rattle.run_model.specs.Drops.{Vouch, Lock, Look, asked_at, asker, asker_by, asker_of, is_asker, key_of, look_of, vouch, vouch_kind, vouches}
-use Rattle.race_core.specs.Lawful.{Free, since_of}
+use Rattle.race_core.specs.Lawful.{HasFreeContent, since_of}
 use Rattle.race_core.proofs.Own.{Meets, MessagePast, SaysYes, asks_copy, has_asked, is_share, seeks}
 use Rattle.race_core.proofs.Flights.{Sending, sending}
 use Rattle.race_core.proofs.Told.{sends_member}
@@ -38,7 +38,7 @@ occurs_time repos (e ∷ past) x before run (inr o) = omega (arith, occurs_time 
 
 -- a job of a asked by an entry that stands in the past
 pub record AskedBy (past : List Entry) (r a j : ℕ) (f : FrameView) : Type 0 where
-  pub it : Flying
+  pub it : FlyingFrame
   pub sending : Sending past (way_of r f) it
   pub body_is : it.frame.body ≡ f.body
   pub is_asked : is_job a j it.entry ≡ true
@@ -53,7 +53,7 @@ pub asked_by : (repos : List RepoView) (past : List Entry) (e : Entry) (r a j : 
     → (k : AskedBy past r a j f) × (asked_at (asker past r e) ≡ k.it.entry.time)
 asked_by repos past e r a j f m is takes yes' =
     let t = m.frames r f is takes in
-    let from : sender past r e.taken ≡ Some (sent_of t.it) = ap (λ o. sender past r o) takes ∙ ap (λ o. option_map sent_of o) t.next in
+    let from : sender past r e.taken ≡ Some (sending_entry t.it) = ap (λ o. sender past r o) takes ∙ ap (λ o. option_map sending_entry o) t.next in
     let parts = asker_parts a j t.it.entry.repo (job_of t.it.entry.kind) t.it.entry.time (subst (λ o. is_asker a j (asker_by o) ≡ true) from yes') in
     let job : is_job a j t.it.entry ≡ true = and_from (is_of a t.it.entry) (option_is (job_of t.it.entry.kind) j) (subst (λ o. option_is o a ≡ true) (sym parts.0) (eqb_refl a)) (subst (λ o. option_is o j ≡ true) (sym parts.1) (eqb_refl j)) in (
       record { it = t.it; sending = sending past (way_of r f) (taken_count past (way_of r f)) t.it t.next; body_is = t.body_is; is_asked = job },
@@ -102,10 +102,10 @@ vouches_by past e r a j v m = go (is_of r e) refl m
     go false is k = absurd k
 
 -- whoever vouches has the content free, and was asked no later than now
-pub vouch_free : (repos : List RepoView) (past : List Entry) (e : Entry) (r a j : ℕ) (v : Vouch) → MessagePast repos past → Meets repos past e → Member v (vouch past e r a j) → Free past r (key_of v) × (since_of v ≤ e.time)
+pub vouch_free : (repos : List RepoView) (past : List Entry) (e : Entry) (r a j : ℕ) (v : Vouch) → MessagePast repos past → Meets repos past e → Member v (vouch past e r a j) → HasFreeContent past r (key_of v) × (since_of v ≤ e.time)
 vouch_free repos past e r a j v run m k = let w = vouches_by past e r a j v k in by_vouch v w.0 w.1
   where
-    by_vouch : (v : Vouch) → is_of r e ≡ true → VouchesBy past e r a j v → Free past r (key_of v) × (since_of v ≤ e.time)
+    by_vouch : (v : Vouch) → is_of r e ≡ true → VouchesBy past e r a j v → HasFreeContent past r (key_of v) × (since_of v ≤ e.time)
     by_vouch (Lock hold since owner key) is (end, kind, inl own) = ((((m.own r is).share hold end owner key kind).row), omega (arith, own.2))
     by_vouch (Lock hold since owner key) is (end, kind, inr (p, s, owner_is, yes', at)) =
         let says' = ((m.own r is).shares_with hold end p s key (kind ∙ ap (λ x. Share hold end x key) owner_is)).answer in

@@ -3,7 +3,7 @@
 use Rattle.std.proofs.Common.{◌≡◌, ℕ, ◌+◌, Bool, true, false, not, cond, ◌&&◌, ◌||◌, List, [], ◌∷◌, ◌++◌, length, Option, Some, None, refl, sym, ap, ◌∙◌, subst}
 use Rattle.std.specs.Prelude.{filter, map, option_map, if◌then◌else◌, ◌==◌}
 use Rattle.std.specs.Option.{unwrap_or}
-use Rattle.std.proofs.lemmas.List.{length-map}
+use Rattle.std.proofs.lemmas.List.{length-map, map-append}
 use Rattle.drop_proof.specs.declared.rule.Need.{Need}
 use Rattle.run_data.specs.declared.entry.Entry.{Entry}
 use Rattle.run_data.specs.declared.entry.EntryKind.{EntryKind}
@@ -14,9 +14,9 @@ use Rattle.run_data.specs.declared.entry.EntryKind.TheVariants.{Bar, Begin, Gain
 use Rattle.run_model.specs.Past.{Decision, bar, begun_job, begun_job_after, decision, decided_after, holds, is_of, jobs, jobs_after, entry_count, present}
 use Rattle.node_model.specs.Rows.{option_is, bar_after, holds_after, present_after}
 use Rattle.run_model.specs.Said.{Said, is_request, message_in}
-use Rattle.run_model.specs.Frames.{Flying, Way, flying, last_of, last_request, said_of, on_way, requests, says, sender_of, frames_sent, sent_if, taken_if, taker_of, takes_if, up_of, way_of}
+use Rattle.run_model.specs.Frames.{FlyingFrame, Way, flying_frame, last_of, last_request, said_of, on_way, requests, says, sender_of, frames_sent, sent_if, taken_if, taker_of, takes_if, up_of, way_of}
 use Rattle.trust_groups.specs.Settings.{settings}
-use Rattle.run_model.specs.Logs.{added_by, before_step, ends_transfer, ever, has_it, has_stepped, hears_has_it, in_drop, is_quiet, is_step, need_read, read_at, settings_of, starts_drop}
+use Rattle.run_model.specs.Logs.{added_by, before_step, ends_transfer, lines_ever, has_it, has_stepped, hears_has_it, in_drop, is_quiet, is_step, need_read, read_at, settings_of, starts_drop}
 use Rattle.node_model.specs.Look.{first_of}
 use Rattle.run_model.specs.Drops.{is_done, done_kind, key_in, standing}
 use Rattle.node_model.specs.Evidence.{standing_by}
@@ -90,14 +90,10 @@ pub record Bare : Type 0 where
   pub frame : FrameView
   pub entry : Entry
 
-abbrev pub bare : Flying → Bare
+abbrev pub bare : FlyingFrame → Bare
 bare x = record { frame = x.frame; entry = x.entry }
 
-pub map_append : {X Y : Type 0} (f : X → Y) (xs ys : List X) → map f (xs ++ ys) ≡ map f xs ++ map f ys
-map_append f [] ys = refl
-map_append f (x ∷ xs) ys = ap (λ zs. f x ∷ zs) (map_append f xs ys)
-
-bare_flying : (e : Entry) (p q : List Entry) (gs : List FrameView) → map bare (map (flying e p) gs) ≡ map bare (map (flying e q) gs)
+bare_flying : (e : Entry) (p q : List Entry) (gs : List FrameView) → map bare (map (flying_frame e p) gs) ≡ map bare (map (flying_frame e q) gs)
 bare_flying e p q [] = refl
 bare_flying e p q (g ∷ gs) = ap (λ zs. record { frame = g; entry = e } ∷ zs) (bare_flying e p q gs)
 
@@ -111,10 +107,10 @@ own_sent r w same past = own_by r (λ p. map bare (frames_sent p w)) (λ e p is.
     is_mine e is = subst (λ q. is_of q e ≡ true) (sym same) is
 
     here : (e : Entry) (p q : List Entry) → is_of (sender_of w) e ≡ true → map bare (frames_sent p w) ≡ map bare (frames_sent q w) → map bare (frames_sent (e ∷ p) w) ≡ map bare (frames_sent (e ∷ q) w)
-    here e p q is ih = rw is (map_append bare (frames_sent p w) (map (flying e p) (on_way w e)) ∙ ap (λ xs. xs ++ map bare (map (flying e p) (on_way w e))) ih
-        ∙ ap (λ ys. map bare (frames_sent q w) ++ ys) (bare_flying e p q (on_way w e)) ∙ sym (map_append bare (frames_sent q w) (map (flying e q) (on_way w e))))
+    here e p q is ih = rw is (map-append bare (frames_sent p w) (map (flying_frame e p) (on_way w e)) ∙ ap (λ xs. xs ++ map bare (map (flying_frame e p) (on_way w e))) ih
+        ∙ ap (λ ys. map bare (frames_sent q w) ++ ys) (bare_flying e p q (on_way w e)) ∙ sym (map-append bare (frames_sent q w) (map (flying_frame e q) (on_way w e))))
 
-bare_filter : (q : Said → Bool) (xs : List Flying) → map bare (filter (λ x. says q x.frame) xs) ≡ filter (λ x. says q x.frame) (map bare xs)
+bare_filter : (q : Said → Bool) (xs : List FlyingFrame) → map bare (filter (λ x. says q x.frame) xs) ≡ filter (λ x. says q x.frame) (map bare xs)
 bare_filter q [] = refl
 bare_filter q (x ∷ xs) = go (bare_filter q xs) (says q x.frame)
   where
@@ -143,10 +139,10 @@ own_taken q r w same past = own_by r (λ p. taken_if q p w) (λ e p is. rw (subs
 
 -- ---- logs
 
-pub own_ever : (r : ℕ) (path : List ℕ) (past : List Entry) → ever past r path ≡ ever (mine r past) r path
-own_ever r path past = own_fold r (λ p. ever p r path) (λ x e. added_by path e.kind e.lines ++ x) (λ e p. refl) past
+pub own_ever : (r : ℕ) (path : List ℕ) (past : List Entry) → lines_ever past r path ≡ lines_ever (mine r past) r path
+own_ever r path past = own_fold r (λ p. lines_ever p r path) (λ x e. added_by path e.kind e.lines ++ x) (λ e p. refl) past
 
-pub own_lines : (r : ℕ) (past : List Entry) → ever past r ≡ ever (mine r past) r
+pub own_lines : (r : ℕ) (past : List Entry) → lines_ever past r ≡ lines_ever (mine r past) r
 own_lines r past = λ i. λ path. own_ever r path past i
 
 pub own_settings : (r : ℕ) (past : List Entry) → settings_of past r ≡ settings_of (mine r past) r
@@ -164,7 +160,7 @@ own_stepped r j past = own_fold r (λ p. has_stepped p r j) (λ x e. is_step j e
 abbrev said_by : Option Bare → Option Said
 said_by o = option_map (λ b. message_in b.frame.body) o
 
-said_is : (o : Option Flying) → option_map said_of o ≡ said_by (option_map bare o)
+said_is : (o : Option FlyingFrame) → option_map said_of o ≡ said_by (option_map bare o)
 said_is None = refl
 said_is (Some x) = refl
 

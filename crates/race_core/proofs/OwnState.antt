@@ -8,7 +8,7 @@ use Rattle.run_model.specs.Past.{bar, begun_count, holds, is_of, entry_count, pr
 use Rattle.node_model.specs.Rows.{bar_after, holds_after, present_after, content_after}
 use Rattle.node_model.specs.Slots.{is_begin}
 use Rattle.node_model.specs.Clocks.{runs_on, wall}
-use Rattle.run_model.specs.Logs.{added_by, branch, branch_after, ever, lines_of_file, read_at, settings_of}
+use Rattle.run_model.specs.Logs.{added_by, branch, branch_after, lines_ever, lines_of_file, read_at, settings_of}
 use Rattle.trust_groups.specs.Settings.{settings}
 use Rattle.union_merge.specs.Branch.{lines_at}
 use Rattle.node_model.specs.SetUp.{SetUp}
@@ -18,8 +18,6 @@ use Rattle.node_model.specs.Sessions.{session_after}
 use Rattle.node_model.specs.Jobs.{works_after}
 use Rattle.node_model.specs.Owed.{owed_after}
 use Rattle.race_core.proofs.OwnPasts.{own_reading}
-use Rattle.node_model.specs.Look.{Look}
-use Rattle.node_model.specs.Step.{step}
 
 -- the entries of r
 abbrev pub own : ℕ → List Entry → List Entry
@@ -87,11 +85,11 @@ module _ (r : ℕ) where
   kept_same : (past : List Entry) → lines_of_file past r ≡ lines_of_file (own r past) r
   kept_same past = ap (λ files. lines_at files) (own_branch past)
 
-  own_ever : (path : List ℕ) (past : List Entry) → ever past r path ≡ ever (own r past) r path
-  own_ever path past = by_own r (λ p. ever p r path) (λ p was e. added_by path e.kind e.lines ++ was) (λ e p. refl) (λ p was e. refl) past
+  own_ever : (path : List ℕ) (past : List Entry) → lines_ever past r path ≡ lines_ever (own r past) r path
+  own_ever path past = by_own r (λ p. lines_ever p r path) (λ p was e. added_by path e.kind e.lines ++ was) (λ e p. refl) (λ p was e. refl) past
 
   own_settings : (past : List Entry) → settings_of past r ≡ settings_of (own r past) r
-  own_settings past = ap settings (funext (ever past r) (ever (own r past) r) (λ path. own_ever path past))
+  own_settings past = ap settings (funext (lines_ever past r) (lines_ever (own r past) r) (λ path. own_ever path past))
 
   own_clock : (repos : List RepoView) (past : List Entry) → clock_set repos past r ≡ clock_set repos (own r past) r
   own_clock repos past = by_own r (λ p. clock_set repos p r) (λ p was e. set_after e.time was e.kind) (λ e p. refl) (λ p was e. refl) past
@@ -121,7 +119,3 @@ state_own s past i = record {
   read = funext (λ j. settings_of (read_at past s.number j) s.number) (λ j. settings_of (read_at (own s.number past) s.number j) s.number)
       (λ j. own_reading s.number j past) i;
 }
-
--- and so is the step
-pub step_own : (s : SetUp) (past : List Entry) (k : Look) → step s (state_of s past) k ≡ step s (state_of s (own s.number past)) k
-step_own s past k = ap (λ st. step s st k) (state_own s past)

@@ -1,7 +1,7 @@
 -- A remote drop has tried its own repository before it asks any other; so a job opens connections with other repositories alone.
 use Rattle.node_model.specs.Clocks.{hold_time}
 use Rattle.std.proofs.Common.{◌≡◌, ◌≢◌, ℕ, zero, suc, ◌+◌, ◌<◌, ◌≤◌, Bool, true, false, List, [], ◌∷◌, length, Option, Some, None, ◌⊎◌, inl, inr, refl, sym, ap, ◌∙◌, subst, arith}
-use Rattle.std.specs.Prelude.{if◌then◌else◌, ◌==◌, ◌&&◌, ◌||◌, find, not, slice_get}
+use Rattle.std.specs.Prelude.{◌==◌, ◌&&◌, ◌||◌, find, not, slice_get, if◌then◌else◌}
 use Rattle.std.specs.List.{range_with_len, list_all}
 use Rattle.std.proofs.lemmas.Bool.{true≢false, and_from, or_left, or_right}
 use Rattle.std.proofs.lemmas.Bool.Decides.{nat_tests}
@@ -10,6 +10,7 @@ use Rattle.annex_base.specs.declared.kinds.Call.{Call}
 use Rattle.annex_base.specs.declared.kinds.Call.TheVariants.{PutFile, Unhold}
 use Rattle.annex_base.proofs.Conditions.{eqb_refl}
 use Rattle.annex_base.proofs.Lists.{Member-filter_from, Member-filter_parts, find_member}
+use Rattle.annex_base.proofs.Numbers.{Member-range}
 use Rattle.race_core.proofs.Below.{SentAreRead}
 use Rattle.drop_proof.specs.declared.rule.Side.{Side}
 use Rattle.drop_proof.specs.declared.rule.Side.TheVariants.{Local, Remote}
@@ -25,7 +26,7 @@ use Rattle.run_data.specs.declared.job.Outcome.{Outcome}
 use Rattle.run_data.specs.declared.job.Outcome.TheVariants.{Refused}
 use Rattle.run_data.specs.declared.job.Cause.TheVariants as causes
 use Rattle.run_data.specs.declared.job.DropRefusal.TheVariants as refusals
-use Rattle.node_model.specs.Slots.{Running, job_by}
+use Rattle.node_model.specs.Slots.{RunningJob, job_by}
 use Rattle.node_model.specs.Rows.{is_lost_ordered, option_is}
 use Rattle.run_model.specs.Past.{is_of}
 use Rattle.run_model.specs.Logs.{before_step, has_stepped, hears_has_it, in_drop, is_quiet, read_at, settings_of, starts_drop}
@@ -37,7 +38,7 @@ use Rattle.node_model.specs.State.{State}
 use Rattle.run_model.specs.States.{state_of, rows_at, works}
 use Rattle.node_model.specs.AnyTime.{IsPeer}
 use Rattle.node_model.specs.Jobs
-use Rattle.node_model.specs.Jobs.{Drops, Fresh, Gets, Heard, Part, Phase, Puts, Rows, Work, claims, fault_of, first_look, first_part, learns, partner, side_of, talks, target_of, after_failed_release, work_kind}
+use Rattle.node_model.specs.Jobs.{Drops, Fresh, Gets, Heard, Part, Phase, Puts, RowsAndEnds, Work, claims, fault_of, first_look, first_part, learns, partner, side_of, talks, target_of, after_failed_release, work_kind}
 use Rattle.node_model.specs.Calls.{to_hold, to_release}
 use Rattle.node_model.specs.Look.{Made, failing}
 use Rattle.race_core.proofs.Knowing.{is_to_ask}
@@ -46,10 +47,10 @@ use Rattle.node_model.specs.JobStep.{Turn, attempts, bar_there, by_me, clock_of,
 use Rattle.node_model.specs.DropStep.{first_drop, first_remote, own_share, required_there, shares, tries_own}
 use Rattle.node_model.specs.TransferStep.{sources}
 use Rattle.node_model.specs.Turns.{by_partner, first_step, goes, goes_on, has_room, needs}
-use Rattle.node_model.specs.Found.{JobKind as FoundBy}
+use Rattle.node_model.specs.Found.{IsJobEntry as FoundBy}
 use Rattle.run_model.specs.Run.{OwnRun}
 use Rattle.race_core.proofs.Cases.{unless_found}
-use Rattle.race_core.proofs.JobKept.{claims_kept, kind_kept, learns_kept}
+use Rattle.race_core.proofs.JobKept.{claims_kept, fault_stays, kind_kept, learns_kept}
 use Rattle.race_core.proofs.TalkFacts.{Fits, TalkKind}
 use Rattle.race_core.proofs.PhaseFacts.{GoodTo, is_fresh, readies_place}
 use Rattle.race_core.proofs.JobSteps.{Origin, Stepped, Steps, invariant, stepped_runs, turn_at}
@@ -58,7 +59,7 @@ use Rattle.race_core.proofs.HeardLists.{Changed, kind_changed, share_or, talker_
 use Rattle.race_core.proofs.Starts.{fresh_no_order}
 use Rattle.race_core.proofs.Aims.{aims, can_drop, kind_turns, move_drops, other_target}
 use Rattle.race_core.proofs.DropReads.{begun_drop, read_kept, stays_read, step_read, told_of}
-use Rattle.race_core.proofs.PartTurns.{FirstTurn, HasIt, TakenTurn, fault_same, on_turn}
+use Rattle.race_core.proofs.PartTurns.{FirstTurn, HasIt, TakenTurn, on_turn}
 use Rattle.race_core.proofs.GetsBegin.{no_step}
 use Rattle.race_core.proofs.JobOpens.{Called}
 
@@ -66,14 +67,6 @@ fresh_off : (phase : Phase) → phase ≡ Fresh → is_fresh phase ≡ false →
 fresh_off phase is later = let no' : is_fresh Fresh ≡ false = subst (λ p. is_fresh p ≡ false) is later in cc
 
 -- ---- the other repositories
-
-range_member : (a from n : ℕ) → from ≤ a → a < from + n → Member a (range_with_len from n)
-range_member a from zero l h = absurd (omega arith)
-range_member a from (suc n) l h = go (λ g. range_member a (from + 1) n g (omega arith)) (from == a) refl
-  where
-    go : (from + 1 ≤ a → Member a (range_with_len (from + 1) n)) → (b : Bool) → (from == a) ≡ b → Member a (range_with_len from (suc n))
-    go more true s = inl (grind (arith, nat_tests))
-    go more false s = inr (more (grind (arith, nat_tests)))
 
 not_same : (a b : ℕ) → a ≢ b → not (a == b) ≡ true
 not_same a b apart = go (a == b) refl
@@ -85,7 +78,7 @@ not_same a b apart = go (a == b) refl
 -- a peer of a job is one of them
 pub peer_other : (s : SetUp) (peer : ℕ) → peer < length s.repos → peer ≢ s.number → Member peer (others s)
 peer_other s peer known apart =
-    Member-filter_from (λ x. not (x == s.number)) (range_with_len 0 (length s.repos)) peer (range_member peer 0 (length s.repos) (omega arith) (omega arith)) (not_same peer s.number apart)
+    Member-filter_from (λ x. not (x == s.number)) (range_with_len 0 (length s.repos)) peer (Member-range 0 (length s.repos) peer (omega arith) (omega arith)) (not_same peer s.number apart)
 
 pub other_apart : (s : SetUp) (peer : ℕ) → Member peer (others s) → peer ≢ s.number
 other_apart s peer m same =
@@ -203,7 +196,7 @@ look_tells r y true None = inr (refl, refl)
 abbrev Tells : ℕ → Work → Work → Turn → Type 0
 Tells r w x t = ((h : Heard) × (x.heard ≡ (r, h) ∷ w.heard)) ⊎ ((x.heard ≡ w.heard) × (t.read.standing (me t) ≡ Asked → ⊥))
 
-talk_tells : (t : Turn) (y : Work) (e : Entry) → y.part ≡ Drops → y.phase ≡ Fresh → y.what ≡ t.w.what → y.heard ≡ t.w.heard → e.sent ≡ [] → e.taken ≡ None → (rows : Rows) → rows.present ≡ t.present → rows.bar ≡ t.bar → Untold t
+talk_tells : (t : Turn) (y : Work) (e : Entry) → y.part ≡ Drops → y.phase ≡ Fresh → y.what ≡ t.w.what → y.heard ≡ t.w.heard → e.sent ≡ [] → e.taken ≡ None → (rows : RowsAndEnds) → rows.present ≡ t.present → rows.bar ≡ t.bar → Untold t
     → Tells (me t) t.w (talks rows (me t) y e e.sent) t
 talk_tells t y e part phase what heard sent taken rows there bar told =
     subst (λ (x : Work). Tells (me t) t.w x t) (sym looks) (go (look_tells (me t) y (is_there t) (bar_there t)) (is_there t) (bar_there t) refl refl)
@@ -233,7 +226,7 @@ fault_tells r w time PutFile part phase side later = absurd (fresh_off w.phase p
 fault_tells r w time Unhold part phase side later = absurd (fresh_off w.phase phase (subst (λ (x : Work). is_fresh x.phase ≡ false) (ap (after_failed_release w time) phase) later))
 fault_tells r w time call part phase side later = (Jobs.Lacks causes.Fault, λ i. (Jobs.fault_phase r w (part i) (side i) (phase i)).heard)
 
-module _ (t : Turn) (m : Made) (rows : Rows) (e : Entry) (part : t.w.part ≡ Drops) (phase : t.w.phase ≡ Fresh) (side : side_of t.w ≡ Remote) (sent : e.sent ≡ m.sent) (taken : e.taken ≡ m.taken) (there : rows.present ≡ t.present) (bar : rows.bar ≡ t.bar) where
+module _ (t : Turn) (m : Made) (rows : RowsAndEnds) (e : Entry) (part : t.w.part ≡ Drops) (phase : t.w.phase ≡ Fresh) (side : side_of t.w ≡ Remote) (sent : e.sent ≡ m.sent) (taken : e.taken ≡ m.taken) (there : rows.present ≡ t.present) (bar : rows.bar ≡ t.bar) where
   no_local : side_of t.w ≡ Local → ⊥
   no_local is = let both : Local ≡ Remote = sym is ∙ side in cc
 
@@ -249,7 +242,7 @@ module _ (t : Turn) (m : Made) (rows : Rows) (e : Entry) (part : t.w.part ≡ Dr
       let quiet = y.first part phase in
       let z = learns (claims t.w t.w.part t.w.phase) t.w.phase e.taken in
       let place = readies_place t.w e.taken in
-      let what : z.what ≡ t.w.what = ap (λ (j : Running). j.what) (learns_kept (claims t.w t.w.part t.w.phase) t.w.phase e.taken ∙ claims_kept t.w t.w.part t.w.phase) in
+      let what : z.what ≡ t.w.what = ap (λ (j : RunningJob). j.what) (learns_kept (claims t.w t.w.part t.w.phase) t.w.phase e.taken ∙ claims_kept t.w t.w.part t.w.phase) in
       subst (λ p. Tells (me t) t.w (Jobs.talks_on rows (me t) z e (partner t.w.what.peer p)) t) (sym phase)
       (talk_tells t z e (place.0 ∙ part) (place.1 ∙ phase) what (talker_heard t e.taken) (sent ∙ quiet.sends_none) (taken ∙ quiet.takes_none) rows there bar told)
   kind_tells (Fault call by) x y told goes_on later = inl (fault_tells (me t) t.w e.time call part phase side later)
@@ -270,7 +263,7 @@ module _ (reads_back : SentAreRead) (s : SetUp) where
   gets_begins past e run x (Gone by key) k gets part goes_on = absurd (let both : Gets ≡ Drops = sym gets ∙ k.part_is in cc)
   gets_begins past e run x (Order j peer deadline need key) k gets part goes_on = absurd (let both : Gets ≡ Drops = sym gets ∙ k.part_is in cc)
   gets_begins past e run x (ends_job j outcome) k gets part goes_on = absurd (goes_on j outcome refl)
-  gets_begins past e run x (Fault call by) k gets part goes_on = absurd (let both : Gets ≡ Drops = sym gets ∙ sym (fault_same s.number x.w e.time call) ∙ part in cc)
+  gets_begins past e run x (Fault call by) k gets part goes_on = absurd (let both : Gets ≡ Drops = sym gets ∙ sym (fault_stays s.number x.w e.time call).1 ∙ part in cc)
   gets_begins past e run x (Gain by size key) k gets part goes_on = subst (λ (b : By). option_is (job_by b) x.w.number ≡ true) (sym k.by_is) (eqb_refl x.w.number)
   gets_begins past e run x (Talk (Some j)) k gets part goes_on =
       let w = x.w in
@@ -308,7 +301,7 @@ good_part Drops phase Gets later first g was = absurd g
 good_part Drops phase Puts later first g was = absurd g
 
 step_what : (s : SetUp) (p : List Entry) (e : Entry) (x : Work) (b : Steps s p e x) → x.what ≡ b.by.w.what
-step_what s p e x b = ap (λ (y : Work). y.what) b.work_is ∙ ap (λ (j : Running). j.what) (kind_kept (rows_at p s.number) s.number b.by.w e e.kind)
+step_what s p e x b = ap (λ (y : Work). y.what) b.work_is ∙ ap (λ (j : RunningJob). j.what) (kind_kept (rows_at p s.number) s.number b.by.w e e.kind)
 
 parts_are : (s : SetUp) (past : List Entry) → OwnRun s past → (w : Work) → Member w (works past s.number) → PartIs w
 parts_are s past run w m = invariant s (λ p x. PartIs x) (λ p e is x n was. was) own past run w m

@@ -18,13 +18,13 @@ use Rattle.node_model.specs.Rows.{is_blocked, option_is}
 use Rattle.p2p_wire.specs.declared.message.Message.TheVariants.{Success}
 use Rattle.run_model.specs.Said.{Said, Says, message_in, is_request}
 use Rattle.race_core.proofs.Ways.{is_answer, answers, down_of, way_from}
-use Rattle.run_model.specs.Frames.{Flying, Way, is_job, last_request, says, sender_of, taken_if, taker_of, up_of, way_of}
+use Rattle.run_model.specs.Frames.{FlyingFrame, Way, is_job, last_request, says, sender_of, taken_if, taker_of, up_of, way_of}
 use Rattle.node_model.specs.Slots.{job_of}
 use Rattle.run_model.specs.Logs.{before_step, in_drop, is_step}
 use Rattle.node_model.specs.Look.{first_of}
 use Rattle.node_model.specs.Evidence.{candidates, gather, reached_candidates}
 use Rattle.run_model.specs.Drops.{cause_closed, cause_own, cause_said, cause_taken, cause_with, is_first_step, is_waiting, key_in, newer_cause, option_is_none, or_closed, shuts, standing}
-use Rattle.race_core.specs.Lawful.{Free}
+use Rattle.race_core.specs.Lawful.{HasFreeContent}
 use Rattle.race_core.proofs.Heard.{Heard, heard, heard_answer, heard_cause, heard_frame, heard_kind, heard_request, hears, known_evidence, known_offer, knows, newer_heard, still_waits}
 use Rattle.race_core.proofs.Own.{Awaits, HasDeadline, HeardOf, InTimeBy, InTurn, MayEnd, MayBar, MayObey, MayOrder, MayRelease, MayRemove, MaySend, OneClock, Own, SaidByClock, asks_copy, has_asked, is_share}
 use Rattle.race_core.proofs.Known.{gather_same, reached_same}
@@ -47,7 +47,7 @@ abbrev heard_bare : Said → Option Bare → List Heard
 heard_bare (Says Success) (Some x) = heard_request x.entry.time (message_in x.frame.body)
 heard_bare _ _ = []
 
-bare_answer : (m : Said) (o : Option Flying) → heard_answer m o ≡ heard_bare m (option_map bare o)
+bare_answer : (m : Said) (o : Option FlyingFrame) → heard_answer m o ≡ heard_bare m (option_map bare o)
 bare_answer (Says Success) None = refl
 bare_answer (Says Success) (Some x) = refl
 bare_answer _ o = refl
@@ -213,7 +213,7 @@ same_stated (Some c) d h = record { d = c; is = refl; same = ap (λ o. need_in o
 -- ---- the facts
 
 module _ (repos : List RepoView) (r : ℕ) (e : Entry) (past : List Entry) where
-  whole_free : (key : List ℕ) → Free (mine r past) r key → Free past r key
+  whole_free : (key : List ℕ) → HasFreeContent (mine r past) r key → HasFreeContent past r key
   whole_free key f = record { there = own_present r key past ∙ f.there; free = own_bar r key past ∙ f.free }
 
   whole_unheld : (key : List ℕ) (clk : ℕ) → is_blocked (holds (mine r past) r) key clk ≡ false → is_blocked (holds past r) key clk ≡ false

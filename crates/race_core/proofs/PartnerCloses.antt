@@ -35,7 +35,7 @@ use Rattle.node_model.specs.Look.{Made, failing, waiting}
 use Rattle.node_model.specs.SessionStep.{bytes_left}
 use Rattle.node_model.specs.Knows.{enough_by, next_by}
 use Rattle.node_model.specs.JobStep.{Turn, hears, attempts, bar_there, by_me, clock_of, end_with, ends, farewells, is_there, key_of, me, owns_share, quietly, says_to, sends_to, talk, wrong}
-use Rattle.node_model.specs.DropStep.{asks_copy, asks_lock, asks_target, bars, expiry, first_drop, first_end, first_remote, held_until, in_time, lacking, need_now, orders, removes, required_there, row_refusal, takes_drop, takes_time, target, times, tries_own}
+use Rattle.node_model.specs.DropStep.{asks_copy, asks_lock, asks_target, bars, expiry, first_drop, first_end, first_remote, held_until, in_time, lacking_outcome, need_now, orders, removes, required_there, row_refusal, takes_drop, takes_time, target, times, tries_own}
 use Rattle.node_model.specs.Requests.{asks, goes_to}
 use Rattle.node_model.specs.TransferStep.{content_of, first_get, first_put, gains, next_get, next_source, puts_from, puts_piece, takes_bytes, takes_get, takes_put}
 use Rattle.node_model.specs.Turns.{awaits, by_partner, first_step, goes, goes_on, has_room, is_awaiting, judges, needs, next_step, outcome_of, takes, takes_answer, takes_frame, takes_text, with_partner}
@@ -144,7 +144,7 @@ removes_shuts t = if_either (Shuts t) (in_time (clock_of t) (first_end t)) (atte
 
 judges_shuts : (t : Turn) → t.w.part ≡ Drops → t.w.phase ≡ Next → (enough : Bool) (next : Option ℕ) (side : Side) → enough_by t.read t.w ≡ enough → next_by t.read t.w ≡ next → side_of t.w ≡ side → Shuts t (judges t enough next side)
 judges_shuts t part phase false (Some peer) side enough next is = goes_to_shuts t peer
-judges_shuts t part phase false None side enough next is = ends_shuts t None (lacking t)
+judges_shuts t part phase false None side enough next is = ends_shuts t None (lacking_outcome t)
 judges_shuts t part phase true next Local enough asked is = removes_shuts t
 judges_shuts t part phase true next Remote enough asked is = goes_to_shuts t (target t)
 

@@ -39,7 +39,7 @@ use Rattle.node_model.specs.SessionStep.{is_filled, Here, gives_made, gives_next
 use Rattle.race_core.proofs.Knowing.{knows_enough, next_of}
 use Rattle.node_model.specs.Knows.{standing_of}
 use Rattle.node_model.specs.JobStep.{Turn, attempts, bar_there, by_me, clock_of, key_of, owns_share, quietly, sends_to, wrong, end_needs, end_with, ends, farewell, farewells, is_there, talk, turn_of}
-use Rattle.node_model.specs.DropStep.{asks_copy, asks_lock, asks_target, expiry, in_time, lacking, orders, removes, bars, first_drop, first_end, first_remote, held_until, removal_outcome, required_there, row_refusal, takes_drop, takes_time, target, times, tries_own}
+use Rattle.node_model.specs.DropStep.{asks_copy, asks_lock, asks_target, expiry, in_time, lacking_outcome, orders, removes, bars, first_drop, first_end, first_remote, held_until, removal_outcome, required_there, row_refusal, takes_drop, takes_time, target, times, tries_own}
 use Rattle.node_model.specs.Requests.{asks, goes_to}
 use Rattle.node_model.specs.TransferStep.{gains, first_get, first_put, next_get, next_source, sources, takes_bytes, takes_get, takes_put}
 use Rattle.node_model.specs.Turns.{awaits, by_partner, first_step, goes, goes_on, has_room, is_awaiting, job_step, judge_needs, judges, needs, next_needs, next_step, outcome_of, peer_needs, slot_step, takes, takes_answer, takes_frame, takes_text, target_needs, with_partner}
@@ -143,7 +143,7 @@ module _ (s : SetUp) (st : State) (k : Look) (w : Work) (p : ℕ → List (List 
   judges-same : (enough : Bool) (next : Option ℕ) (side : Side) → judges u enough next side ≡ judges t enough next side
   unfolding standing_of
   judges-same false (Some peer) side = goes_to-same peer
-  judges-same false None side = ends_same None (lacking t)
+  judges-same false None side = ends_same None (lacking_outcome t)
   judges-same true next Local = removes-same
   judges-same true next Remote = goes_to-same (target t)
 

@@ -25,7 +25,7 @@ use Rattle.p2p_wire.specs.Messages.{message_of}
 use Rattle.node_model.specs.Sessions.{line_in}
 use Rattle.node_model.specs.Ends.{end_after}
 use Rattle.node_model.specs.Jobs
-use Rattle.node_model.specs.Jobs.{AsksLock, AsksLook, AsksTime, Denied, Drops, Ends, Fresh, GetsBytes, GetsData, GetsWord, Gets, Greets, Late, Next, Opens, Orders, Part, Phase, Puts, PutsAnswer, PutsBytes, PutsOffer, PutsWord, Removed, Rows, Work, claims, closed_part, fault_of, fault_phase, first_look, after_gain, hears_frame, job_end, learns, listens, quiet, says, says_some, sends, talks, talks_on, to_phase, took, took_line, after_transfer, after_failed_release, word_taken, work_kind}
+use Rattle.node_model.specs.Jobs.{AsksLock, AsksLook, AsksTime, Denied, Drops, Ends, Fresh, GetsBytes, GetsData, GetsWord, Gets, Greets, Late, Next, Opens, Orders, Part, Phase, Puts, PutsAnswer, PutsBytes, PutsOffer, PutsWord, Removed, RowsAndEnds, Work, claims, closed_part, fault_of, fault_phase, first_look, after_gain, hears_frame, job_end, learns, listens, quiet, says, says_some, sends, talks, talks_on, to_phase, after_frame, after_line, after_transfer, after_failed_release, word_taken, work_kind}
 use Rattle.race_core.proofs.TalkFacts.{Fits}
 
 abbrev pub is_fresh : Phase → Bool
@@ -225,7 +225,7 @@ listens_good w (PutsAnswer peer start) Success is f = transferred_good w (outcom
 listens_good w (PutsAnswer peer start) Failure is f = at_good w.part w.phase (Ends (outcomes.TransferRefused failures.Rejected)) tt refl
 listens_good w phase m is f = subst (λ p. GoodTo w.part p w.part p) (sym is) (stay_at w.part phase f)
 
-line_good : (w : Work) (m : Option Message) → Fits w.part w.phase → Good w (took_line w m)
+line_good : (w : Work) (m : Option Message) → Fits w.part w.phase → Good w (after_line w m)
 line_good w None fits = stay_good w fits
 line_good w (Some m) fits = listens_good w w.phase m refl fits
 
@@ -234,7 +234,7 @@ gets_good w n (GetsBytes peer start size left) is fits =
     more_gets w peer start (size + n) (left - n) (only_bytes w.part peer start size left (subst (Fits w.part) is fits))
 gets_good w n phase is fits = subst (λ p. GoodTo w.part w.phase w.part p) is (stay_good w fits)
 
-took_good : (w : Work) (body : FrameText) → Fits w.part w.phase → Good w (took w body)
+took_good : (w : Work) (body : FrameText) → Fits w.part w.phase → Good w (after_frame w body)
 took_good w (Bytes n) fits = gets_good w n w.phase refl fits
 took_good w (Line text) fits = line_good w (message_of text) fits
 took_good w body fits = stay_good w fits
@@ -244,12 +244,12 @@ first_good r w Gets true bar is = transferred_good w (outcomes.Got None None) (n
 first_good r w Drops true (Some i) is = at_good w.part w.phase Next tt refl
 first_good r w part here bar is = at_good w.part w.phase Next tt refl
 
-quiet_good : (rows : Rows) (r : ℕ) (w : Work) (phase : Phase) → Fits w.part w.phase → Good w (quiet rows r w phase)
+quiet_good : (rows : RowsAndEnds) (r : ℕ) (w : Work) (phase : Phase) → Fits w.part w.phase → Good w (quiet rows r w phase)
 quiet_good rows r w Fresh fits = first_good r w w.part (rows.present w.what.key) (rows.bar w.what.key) refl
 quiet_good rows r w Next fits = at_good w.part w.phase (Ends (outcomes.Refused (refusals.OldProtocol w.version))) tt refl
 quiet_good rows r w phase fits = stay_good w fits
 
-hears_good : (rows : Rows) (r : ℕ) (w : Work) (taken : Option FrameView) → Fits w.part w.phase → Good w (hears_frame rows r w taken)
+hears_good : (rows : RowsAndEnds) (r : ℕ) (w : Work) (taken : Option FrameView) → Fits w.part w.phase → Good w (hears_frame rows r w taken)
 hears_good rows r w None fits = quiet_good rows r w w.phase fits
 hears_good rows r w (Some f) fits = took_good w f.body fits
 
@@ -258,7 +258,7 @@ abbrev pub SentReads : Part → List FrameView → Type 0
 SentReads part [] = Unit {0}
 SentReads part (f ∷ fs) = BodyReads part f.body
 
-talks_good : (rows : Rows) (r : ℕ) (w : Work) (e : Entry) (fs : List FrameView) → SentReads w.part fs → Fits w.part w.phase → Good w (talks rows r w e fs)
+talks_good : (rows : RowsAndEnds) (r : ℕ) (w : Work) (e : Entry) (fs : List FrameView) → SentReads w.part fs → Fits w.part w.phase → Good w (talks rows r w e fs)
 talks_good rows r w e (f ∷ fs) reads fits = sends_good w e.time f.peer (Jobs.taken_message e.taken) f.body reads fits
 talks_good rows r w e [] reads fits = hears_good rows r w e.taken fits
 
@@ -269,7 +269,7 @@ closed_good r w peer Drops =
     if_either (Good w) (Jobs.target_of r w == peer) (to_phase w (Ends (outcomes.Refused (refusals.Lost (Jobs.is_ordered w.phase))))) (Jobs.hears w peer (Jobs.Lacks causes.Closed))
     (λ e. at_good w.part w.phase (Ends (outcomes.Refused (refusals.Lost (Jobs.is_ordered w.phase)))) tt refl) (λ e. at_good w.part w.phase Next tt refl)
 
-on_good : (rows : Rows) (r : ℕ) (w : Work) (e : Entry) (p : Option ℕ) → SentReads w.part e.sent → Fits w.part w.phase → Good w (talks_on rows r w e p)
+on_good : (rows : RowsAndEnds) (r : ℕ) (w : Work) (e : Entry) (p : Option ℕ) → SentReads w.part e.sent → Fits w.part w.phase → Good w (talks_on rows r w e p)
 on_good rows r w e None reads fits = talks_good rows r w e e.sent reads fits
 on_good rows r w e (Some peer) reads fits =
     if_either (Good w) (end_after (job_end w peer) (rows.ends (job_end w peer)) e).opened (talks rows r w e e.sent) (closed_part r w peer w.part)
@@ -317,7 +317,7 @@ gained_good w (GetsWord peer start size) is fits =
 gained_good w phase is fits = stay_good w fits
 
 -- its own entry, where what it sends is of its part
-pub kind_good : (rows : Rows) (r : ℕ) (w : Work) (e : Entry) (kind : EntryKind) → Fits w.part w.phase → SentReads w.part e.sent
+pub kind_good : (rows : RowsAndEnds) (r : ℕ) (w : Work) (e : Entry) (kind : EntryKind) → Fits w.part w.phase → SentReads w.part e.sent
     → ((source : By) (key : List ℕ) → kind ≡ Gone source key → w.part ≡ Drops) → Good w (work_kind rows r w e kind)
 kind_good rows r w e (Fault call owner) fits reads removes = call_good r w e.time call fits
 kind_good rows r w e (Bar job need key) fits reads removes = at_good w.part w.phase Next tt refl

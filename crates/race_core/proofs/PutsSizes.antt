@@ -15,7 +15,7 @@ use Rattle.run_data.specs.declared.entry.FrameText.TheVariants.{Opening, Closing
 use Rattle.run_data.specs.declared.run.Run.{Run}
 use Rattle.run_data.specs.Repos.{IsSetUp}
 use Rattle.run_model.specs.Past.{Occurs, is_of}
-use Rattle.node_model.specs.Slots.{Running}
+use Rattle.node_model.specs.Slots.{RunningJob}
 use Rattle.run_model.specs.Frames.{is_job}
 use Rattle.p2p_wire.specs.declared.message.Message.{Message}
 use Rattle.p2p_wire.specs.declared.message.Message.TheVariants.{Data, PutFrom}
@@ -25,7 +25,7 @@ use Rattle.run_model.specs.States.{content, rows_at, works}
 use Rattle.node_model.specs.Sessions.{line_in, reaches}
 use Rattle.node_model.specs.SessionStep.{bytes_left}
 use Rattle.node_model.specs.Jobs
-use Rattle.node_model.specs.Jobs.{Part, Phase, Puts, PutsBytes, PutsOffer, Work, job_end, partner, running, taken_message}
+use Rattle.node_model.specs.Jobs.{Part, Phase, Puts, PutsBytes, PutsOffer, Work, job_end, partner, running_job, taken_message}
 use Rattle.node_model.specs.Look.{Made, failing, waiting}
 use Rattle.node_model.specs.JobStep.{Turn, by_me, end_with, quietly, says_to, sends_to, talk, wrong}
 use Rattle.node_model.specs.TransferStep.{content_of, puts_from, puts_piece}
@@ -206,8 +206,8 @@ module _ (reads_back : SentAreRead) (run : Run) (repos : Each IsSetUp run.repos)
 
     steps_sized : Sized (e ∷ past) r x
     steps_sized peer start at left is =
-        let like : running x ≡ running v = ap running b.work_is ∙ kind_kept (rows_at past r) r b.by.w e e.kind in
-        subst (λ (j : Running). WasSize (e ∷ past) r j.number j.what.key (at + left)) (sym like) (elim (kind_reason (rows_at past r) r b.by.w e e.kind) [
+        let like : running_job x ≡ running_job v = ap running_job b.work_is ∙ kind_kept (rows_at past r) r b.by.w e e.kind in
+        subst (λ (j : RunningJob). WasSize (e ∷ past) r j.number j.what.key (at + left)) (sym like) (elim (kind_reason (rows_at past r) r b.by.w e e.kind) [
           | inl same ↦ grows v.number v.what.key (at + left) (was v runs peer start at left (sym same ∙ (sym (ap (λ (z : Work). z.phase) b.work_is) ∙ is)))
           | inr reason ↦ reason_sized peer start at left (subst (Reason (rows_at past r) r b.by.w e e.kind) (sym (ap (λ (z : Work). z.phase) b.work_is) ∙ is) reason)
         ])

@@ -25,7 +25,7 @@ use Rattle.run_model.specs.States.{rows_at, works}
 use Rattle.node_model.specs.Calls.{to_release}
 use Rattle.node_model.specs.Look.{Made}
 use Rattle.node_model.specs.JobStep.{Turn, by_me, end_with, ends, farewells, is_there, key_of, owns_share, quietly, sends_to, talk}
-use Rattle.node_model.specs.Found.{JobKind}
+use Rattle.node_model.specs.Found.{IsJobEntry}
 use Rattle.node_model.specs.Requests.{asks, goes_to}
 use Rattle.node_model.specs.TransferStep.{first_put}
 use Rattle.node_model.specs.Turns.{by_partner, goes, goes_on, has_room, needs}
@@ -121,7 +121,7 @@ first_step_off reads_back s past e x b h is fresh =
 
 -- ---- a copy never goes on to a next peer
 
-sets_drop : (t : Turn) (m : Made) (kind : EntryKind) → JobKind t m kind → Sets kind → t.w.part ≡ Drops
+sets_drop : (t : Turn) (m : Made) (kind : EntryKind) → IsJobEntry t m kind → Sets kind → t.w.part ≡ Drops
 sets_drop t m (Bar j need key) k z = k.part_is
 sets_drop t m (Share hold end by key) k z = k.part_is
 sets_drop t m kind k z = absurd z

@@ -4,32 +4,33 @@ use Rattle.std.specs.Prelude.{if◌then◌else◌, ◌==◌, ◌&&◌, filter, m
 use Rattle.std.proofs.lemmas.Bool.Decides.{nat_tests}
 use Rattle.std.proofs.lemmas.Option.{same_Some}
 use Rattle.annex_base.specs.Lists.{Each}
+use Rattle.annex_base.proofs.Conditions.{and_regrouped}
 use Rattle.run_data.specs.declared.entry.Entry.{Entry}
 use Rattle.run_data.specs.declared.entry.FrameView.{FrameView}
 use Rattle.run_data.specs.declared.entry.FrameText.{FrameText}
 use Rattle.run_model.specs.Past.{is_of}
-use Rattle.run_model.specs.Frames.{Flying, MayTake, Way, flying, is_on, on_way, sender_of, frames_sent, taken_count, taker_of, takes}
+use Rattle.run_model.specs.Frames.{FlyingFrame, MayTake, Way, flying_frame, is_on, on_way, sender_of, frames_sent, taken_count, taker_of, takes}
 use Rattle.node_model.specs.Ends.{same_bool, EndName, sent_at, taken_at, takes_at}
 use Rattle.race_core.proofs.DialogueTurns.{bodies}
 use Rattle.race_core.proofs.WayCounts.{in_sender-is, in_taker-is, on_out, out_sender-is, way_in, way_out, out_taker-is}
 
-abbrev pub flying_bodies : List Flying → List FrameText
+abbrev pub flying_bodies : List FlyingFrame → List FrameText
 flying_bodies [] = []
 flying_bodies (x ∷ xs) = x.frame.body ∷ flying_bodies xs
 
 -- what was taken, and what is on the way
 pub record Queue (past : List Entry) (w : Way) (bs : List FrameText) : Type 0 where
-  pub gone : List Flying
-  pub rest : List Flying
+  pub gone : List FlyingFrame
+  pub rest : List FlyingFrame
   pub sent_is : frames_sent past w ≡ gone ++ rest
   pub taken_is : taken_count past w ≡ length gone
   pub bodies_are : flying_bodies rest ≡ bs
 
-bodies_append : (xs ys : List Flying) → flying_bodies (xs ++ ys) ≡ flying_bodies xs ++ flying_bodies ys
+bodies_append : (xs ys : List FlyingFrame) → flying_bodies (xs ++ ys) ≡ flying_bodies xs ++ flying_bodies ys
 bodies_append [] ys = refl
 bodies_append (x ∷ xs) ys = ap (λ (bs : List FrameText). x.frame.body ∷ bs) (bodies_append xs ys)
 
-flown_bodies : (e : Entry) (past : List Entry) (fs : List FrameView) → flying_bodies (map (flying e past) fs) ≡ bodies fs
+flown_bodies : (e : Entry) (past : List Entry) (fs : List FrameView) → flying_bodies (map (flying_frame e past) fs) ≡ bodies fs
 flown_bodies e past [] = refl
 flown_bodies e past (f ∷ fs) = ap (λ (bs : List FrameText). f.body ∷ bs) (flown_bodies e past fs)
 
@@ -43,38 +44,38 @@ module _ (past : List Entry) (e : Entry) (w : Way) where
   pub queue_sends : (bs : List FrameText) → is_of (sender_of w) e ≡ true → (is_of (taker_of w) e && takes w e.taken) ≡ false → Queue past w bs → Queue (e ∷ past) w (bs ++ bodies (on_way w e))
   queue_sends bs own still q = record {
     gone = q.gone;
-    rest = q.rest ++ map (flying e past) (on_way w e);
-    sent_is = rw own (ap (λ (xs : List Flying). xs ++ map (flying e past) (on_way w e)) q.sent_is ∙ append_assoc q.gone q.rest (map (flying e past) (on_way w e)));
+    rest = q.rest ++ map (flying_frame e past) (on_way w e);
+    sent_is = rw own (ap (λ (xs : List FlyingFrame). xs ++ map (flying_frame e past) (on_way w e)) q.sent_is ∙ append_assoc q.gone q.rest (map (flying_frame e past) (on_way w e)));
     taken_is = rw still q.taken_is;
-    bodies_are = bodies_append q.rest (map (flying e past) (on_way w e)) ∙ (ap (λ (xs : List FrameText). xs ++ flying_bodies (map (flying e past) (on_way w e))) q.bodies_are ∙ ap (λ (xs : List FrameText). bs ++ xs) (flown_bodies e past (on_way w e)));
+    bodies_are = bodies_append q.rest (map (flying_frame e past) (on_way w e)) ∙ (ap (λ (xs : List FrameText). xs ++ flying_bodies (map (flying_frame e past) (on_way w e))) q.bodies_are ∙ ap (λ (xs : List FrameText). bs ++ xs) (flown_bodies e past (on_way w e)));
   }
 
   -- the first of the rest
-  get_rest : (gone rest : List Flying) (it : Flying) → slice_get (gone ++ rest) (length gone) ≡ Some it → (more : List Flying) × (rest ≡ it ∷ more)
+  get_rest : (gone rest : List FlyingFrame) (it : FlyingFrame) → slice_get (gone ++ rest) (length gone) ≡ Some it → (more : List FlyingFrame) × (rest ≡ it ∷ more)
   get_rest [] [] it h = absurd (cc)
-  get_rest [] (x ∷ xs) it h = (xs, ap (λ (y : Flying). y ∷ xs) (same_Some x it h))
+  get_rest [] (x ∷ xs) it h = (xs, ap (λ (y : FlyingFrame). y ∷ xs) (same_Some x it h))
   get_rest (g ∷ gone) rest it h = get_rest gone rest it h
 
   pub record First (f : FrameView) (bs : List FrameText) : Type 0 where
-    pub it : Flying
-    pub more : List Flying
+    pub it : FlyingFrame
+    pub more : List FlyingFrame
     pub left : List FrameText
     pub bodies_is : bs ≡ f.body ∷ left
-    pub gone : List Flying
+    pub gone : List FlyingFrame
     pub sent_is : frames_sent past w ≡ gone ++ it ∷ more
     pub taken_is : taken_count past w ≡ length gone
     pub left_is : flying_bodies more ≡ left
 
   pub first_of : (f : FrameView) (bs : List FrameText) → MayTake past w f → Queue past w bs → First f bs
   first_of f bs t q =
-      let g = get_rest q.gone q.rest t.it (subst (λ (xs : List Flying). slice_get xs (length q.gone) ≡ Some t.it) q.sent_is (subst (λ n. slice_get (frames_sent past w) n ≡ Some t.it) q.taken_is t.next)) in
+      let g = get_rest q.gone q.rest t.it (subst (λ (xs : List FlyingFrame). slice_get xs (length q.gone) ≡ Some t.it) q.sent_is (subst (λ n. slice_get (frames_sent past w) n ≡ Some t.it) q.taken_is t.next)) in
       record {
         it = t.it;
         more = g.0;
         left = flying_bodies g.0;
         bodies_is = sym q.bodies_are ∙ (ap flying_bodies g.1 ∙ ap (λ (b : FrameText). b ∷ flying_bodies g.0) t.body_is);
         gone = q.gone;
-        sent_is = q.sent_is ∙ ap (λ (xs : List Flying). q.gone ++ xs) g.1;
+        sent_is = q.sent_is ∙ ap (λ (xs : List FlyingFrame). q.gone ++ xs) g.1;
         taken_is = q.taken_is;
         left_is = refl;
       }
@@ -91,11 +92,6 @@ module _ (past : List Entry) (e : Entry) (w : Way) where
 
 -- ---- at one end of a repository
 
-nested : (a b c d : Bool) → (a && (b && (c && d))) ≡ (((a && b) && c) && d)
-nested true true c d = refl
-nested true false c d = refl
-nested false b c d = refl
-
 other_side : (u c : Bool) → same_bool u (if c then false else true) ≡ same_bool c (if u then false else true)
 other_side true true = refl
 other_side true false = refl
@@ -108,7 +104,7 @@ hits n (Some f) = f.epoch == n
 
 takes_in : (r : ℕ) (a : EndName) (n : ℕ) (o : Option FrameView) → takes (way_in r a n) o ≡ hits n (taken_at a o)
 takes_in r a n None = refl
-takes_in r a n (Some f) = ap (λ p. is_on (way_in r a n) p f) (in_sender-is r a n) ∙ (nested (f.peer == a.peer) (f.slot == a.slot) (same_bool f.up (if a.client then false else true)) (f.epoch == n)
+takes_in r a n (Some f) = ap (λ p. is_on (way_in r a n) p f) (in_sender-is r a n) ∙ (and_regrouped (f.peer == a.peer) (f.slot == a.slot) (same_bool f.up (if a.client then false else true)) (f.epoch == n)
     ∙ (ap (λ b. ((f.peer == a.peer) && (f.slot == a.slot) && b) && (f.epoch == n)) (other_side f.up a.client) ∙ go (takes_at a f)))
   where
     go : (b : Bool) → (b && (f.epoch == n)) ≡ hits n (if b then Some f else None)
@@ -173,6 +169,6 @@ empty_queue past w none within = record {
   gone = [];
   rest = [];
   sent_is = none;
-  taken_is = (let low : taken_count past w ≤ 0 = subst (λ (xs : List Flying). taken_count past w ≤ length xs) none within in omega (arith, low));
+  taken_is = (let low : taken_count past w ≤ 0 = subst (λ (xs : List FlyingFrame). taken_count past w ≤ length xs) none within in omega (arith, low));
   bodies_are = refl;
 }

@@ -12,15 +12,15 @@ use Rattle.run_data.specs.declared.entry.Entry.{Entry}
 use Rattle.run_data.specs.declared.entry.EntryKind.{EntryKind}
 use Rattle.run_data.specs.declared.entry.EntryKind.TheVariants.{Bar}
 use Rattle.run_model.specs.Past.{Decision, begun_count, begun_job, decision, decided_after, is_of}
-use Rattle.node_model.specs.Slots.{Running}
+use Rattle.node_model.specs.Slots.{RunningJob}
 use Rattle.run_model.specs.Logs.{before_step, in_drop, is_step, need_read, read_at, settings_of}
 use Rattle.run_model.specs.Drops.{key_in}
 use Rattle.node_model.specs.SetUp.{SetUp}
 use Rattle.run_model.specs.States.{state_of, rows_at, works}
-use Rattle.node_model.specs.Jobs.{Work, running}
+use Rattle.node_model.specs.Jobs.{Work, running_job}
 use Rattle.node_model.specs.Knows.{need_of}
 use Rattle.run_model.specs.Run.{OwnPast, OwnRun}
-use Rattle.node_model.specs.Found.{JobKind}
+use Rattle.node_model.specs.Found.{IsJobEntry}
 use Rattle.race_core.proofs.Cases.{first_was}
 use Rattle.race_core.proofs.JobKept.{kind_kept}
 use Rattle.race_core.proofs.JobSteps.{Origin, Steps, invariant, stepped_runs, turn_at}
@@ -56,23 +56,23 @@ future_unread s (e ∷ past) run j later b h =
       | inr now' ↦ (let own = run.0 now'.1 in let still = not_yet s past own.0 e run.1 own.1 j before in let bad : true ≡ false = sym now'.0 ∙ still in cc)
     ]
 
-abbrev ReadBegun : ℕ → List Entry → Running → Type 0
+abbrev ReadBegun : ℕ → List Entry → RunningJob → Type 0
 ReadBegun r past j = (b : List Entry) → before_step past r j.number ≡ Some b → begun_job b r j.number ≡ Some j.what
 
-still_read : (past : List Entry) (e : Entry) (r : ℕ) (j : Running) → (is_step j.number e.kind ≡ true → is_of r e ≡ true → ⊥) → ReadBegun r past j → ReadBegun r (e ∷ past) j
+still_read : (past : List Entry) (e : Entry) (r : ℕ) (j : RunningJob) → (is_step j.number e.kind ≡ true → is_of r e ≡ true → ⊥) → ReadBegun r past j → ReadBegun r (e ∷ past) j
 still_read past e r j still was b h = elim (read_was past e r j.number b h) [ inl old ↦ was b old | inr now' ↦ absurd (still now'.0 now'.1) ]
 
-read_begun : (s : SetUp) (past : List Entry) → OwnRun s past → (w : Work) → Member w (works past s.number) → ReadBegun s.number past (running w)
-read_begun s past run w m = invariant s (λ p x. ReadBegun s.number p (running x)) (λ p e is x n was. still_read p e s.number (running x) (λ step of. let bad : true ≡ false = sym of ∙ is in cc) was) own past run w m
+read_begun : (s : SetUp) (past : List Entry) → OwnRun s past → (w : Work) → Member w (works past s.number) → ReadBegun s.number past (running_job w)
+read_begun s past run w m = invariant s (λ p x. ReadBegun s.number p (running_job x)) (λ p e is x n was. still_read p e s.number (running_job x) (λ step of. let bad : true ≡ false = sym of ∙ is in cc) was) own past run w m
   where
-    own : (p : List Entry) (e : Entry) → OwnRun s (e ∷ p) → is_of s.number e ≡ true → ((x : Work) → Member x (works p s.number) → ReadBegun s.number p (running x))
-        → (x : Work) → Origin s p e x → ReadBegun s.number (e ∷ p) (running x)
-    own p e r is was x (inl b) = still_read p e s.number (running x) (λ step of. let bad : true ≡ false = sym step ∙ begin_still s p e x b in cc)
+    own : (p : List Entry) (e : Entry) → OwnRun s (e ∷ p) → is_of s.number e ≡ true → ((x : Work) → Member x (works p s.number) → ReadBegun s.number p (running_job x))
+        → (x : Work) → Origin s p e x → ReadBegun s.number (e ∷ p) (running_job x)
+    own p e r is was x (inl b) = still_read p e s.number (running_job x) (λ step of. let bad : true ≡ false = sym step ∙ begin_still s p e x b in cc)
         (λ q h. absurd (future_unread s p r.1 x.number (begins_later s p e r is x b) q h))
-    own p e r is was x (inr (inl b)) = still_read p e s.number (running x) (λ step of. let bad : true ≡ false = sym step ∙ b.still in cc) (was x b.ran)
+    own p e r is was x (inr (inl b)) = still_read p e s.number (running_job x) (λ step of. let bad : true ≡ false = sym step ∙ b.still in cc) (was x b.ran)
     own p e r is was x (inr (inr b)) =
         let v = b.by.w in
-        let same : running x ≡ running v = ap running b.work_is ∙ kind_kept (rows_at p s.number) s.number v e e.kind in
+        let same : running_job x ≡ running_job v = ap running_job b.work_is ∙ kind_kept (rows_at p s.number) s.number v e e.kind in
         subst (ReadBegun s.number (e ∷ p)) (sym same) (λ q h. elim (read_was p e s.number v.number q h) [
           | inl old ↦ was v (stepped_runs s p e b.by) q old
           | inr now' ↦ subst (λ z. begun_job z s.number v.number ≡ Some v.what) now'.2 (runs_begun s p r.1 v (stepped_runs s p e b.by))
@@ -118,7 +118,7 @@ decided_read reads_back s past h w m d k = let x = all d k in x.1
     bars : (p : List Entry) (e : Entry) → OwnPast s p → is_of s.number e ≡ true → (x : Work) (b : Steps s p e x) → (job : ℕ) (need : Need) (key : List ℕ) → e.kind ≡ Bar job need key → Decides s.number (e ∷ p) b.by.w.number
     bars p e h is x b job need key kind c k =
         let v = b.by.w in
-        let f = subst (JobKind (turn_at s p e b.by) b.by.made) kind (step_kind s p e x b) in
+        let f = subst (IsJobEntry (turn_at s p e b.by) b.by.made) kind (step_kind s p e x b) in
         let read = step_read p e s.number v.number is b.step ((at_targets reads_back s p h v (step_runs s p e x b)).0 f.part_is) in
         let made : Decision = record { place = length p; key = key; need = need } in
         let puts : decision (e ∷ p) s.number v.number ≡ Some made = rw is (ap (decided_after (length p) v.number (decision p s.number v.number)) kind

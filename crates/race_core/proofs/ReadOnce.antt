@@ -5,12 +5,9 @@ use Rattle.std.specs.Option.{unwrap_or}
 use Rattle.annex_base.proofs.Conditions.{eqb_refl}
 use Rattle.run_data.specs.declared.entry.Entry.{Entry}
 use Rattle.run_data.specs.declared.run.RepoView.{RepoView}
-use Rattle.run_data.specs.Repos.{id_of}
-use Rattle.run_model.specs.Past.{Decision, begun_job, decision, is_of}
+use Rattle.run_model.specs.Past.{Decision, decision, is_of}
 use Rattle.run_model.specs.Logs.{before_step, in_drop, is_step, need_read, read_at, settings_of}
 use Rattle.node_model.specs.Look.{first_of}
-use Rattle.run_model.specs.Drops.{key_in, standing}
-use Rattle.node_model.specs.Evidence.{standing_by}
 use Rattle.race_core.proofs.Own.{MessagePast}
 use Rattle.race_core.proofs.Changes.{Decides, decided_was}
 
@@ -50,11 +47,6 @@ read_at-step e past a j is step dropping = ap (λ o. unwrap_or (first_of (before
 -- after the bar, what is read stays
 pub read_at-kept : (repos : List RepoView) (e : Entry) (past : List Entry) (a j : ℕ) (d : Decision) → MessagePast repos past → decision past a j ≡ Some d → read_at (e ∷ past) a j ≡ read_at past a j
 read_at-kept repos e past a j d run h = let w = step_made repos past a j d run h in rw w.1 refl
-
--- A job whose bar was put has read the logs: no later entry changes what it read of a repository.
-pub standing-kept : (repos : List RepoView) (e : Entry) (past : List Entry) (a j r : ℕ) (d : Decision) → MessagePast repos past → decision past a j ≡ Some d → standing repos (e ∷ past) a j r ≡ standing repos past a j r
-unfolding standing
-standing-kept repos e past a j r d run h = ap (λ read. standing_by (settings_of read a) (key_in (begun_job read a j)) (id_of repos r)) (read_at-kept repos e past a j d run h)
 
 same_need : (past more : List Entry) (a j : ℕ) → read_at more a j ≡ read_at past a j → need_read more a j ≡ need_read past a j
 same_need past more a j h = ap (λ read. let s = settings_of read a in record { n = s.numcopies; m = s.mincopies }) h

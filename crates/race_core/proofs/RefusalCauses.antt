@@ -21,22 +21,22 @@ use Rattle.run_data.specs.declared.job.DropRefusal.TheVariants as refusals
 use Rattle.run_data.specs.declared.job.TransferRefusal.{TransferRefusal}
 use Rattle.run_data.specs.declared.job.TransferRefusal.TheVariants as failures
 use Rattle.run_data.specs.declared.row.Hold.{Hold}
-use Rattle.node_model.specs.Slots.{Running}
+use Rattle.node_model.specs.Slots.{RunningJob}
 use Rattle.run_model.specs.Past.{clock, holds}
 use Rattle.node_model.specs.Rows.{blocks}
 use Rattle.run_model.specs.Causes
-use Rattle.run_model.specs.Causes.{AtFirst, FailedCall, FoundAbsent, FoundBarred, FoundHeld, FoundNotHere, HadFault, JobOf, puts}
+use Rattle.run_model.specs.Causes.{AtFirst, FailedCall, FoundAbsent, FoundBarred, FoundHeld, FoundNotHere, HadFault, JobOf, is_put}
 use Rattle.run_model.specs.Logs.{is_step}
 use Rattle.node_model.specs.SetUp.{SetUp, slots}
 use Rattle.run_model.specs.States.{state_of, works}
 use Rattle.node_model.specs.AnyTime.{IsPeer}
-use Rattle.node_model.specs.Jobs.{Denied, Drops, Ends, Fresh, Late, Phase, Removed, Work, running, side_of}
+use Rattle.node_model.specs.Jobs.{Denied, Drops, Ends, Fresh, Late, Phase, Removed, Work, running_job, side_of}
 use Rattle.node_model.specs.Look.{Look}
 use Rattle.node_model.specs.Knows.{obeyed_outcome, proof_by}
 use Rattle.node_model.specs.JobStep.{Turn}
 use Rattle.node_model.specs.DropStep
 use Rattle.node_model.specs.DropStep.{removal_outcome, target, until}
-use Rattle.node_model.specs.Found.{Judged, Settled}
+use Rattle.node_model.specs.Found.{FindsOutcome, HasOutcome}
 use Rattle.node_model.specs.Turns.{job_step, outcome_of, slot_step}
 use Rattle.node_model.specs.OwedStep.{owed_step}
 use Rattle.node_model.specs.SessionStep.{here, session_step}
@@ -59,7 +59,7 @@ pub record Ending (s : SetUp) (past : List Entry) (e : Entry) (j : ℕ) (outcome
   pub by : Stepped s past e
   pub runs : Member by.w (works past s.number)
   pub number_is : j ≡ by.w.number
-  pub why : Judged (turn_at s past e by) by.made.taken outcome ⊎ Settled (turn_at s past e by) by.made.taken outcome
+  pub why : FindsOutcome (turn_at s past e by) by.made.taken outcome ⊎ HasOutcome (turn_at s past e by) by.made.taken outcome
 
 -- a job's step, with the words that were told
 stepped_words : (s : SetUp) (past : List Entry) (words : ℕ → Option Word) (e : Entry) → OwnPart s past words e → (j : ℕ) (kind : EntryKind) → e.kind ≡ kind → is_step j kind ≡ true → (x : Stepped s past e) × (x.look.words ≡ words)
@@ -116,7 +116,7 @@ job_of s past h w m = record { what = w.what; begun = runs_begun s past h.run w 
 -- a drop's refusal that stands: the target refused the order, the locks had expired, or its phase says it
 abbrev pub DropSettled : Turn → List Entry → DropRefusal → Type 0
 DropSettled t past refusal =
-    ((t.w.phase ≡ Ends (Refused refusal)) × DropStands t.read.repo past (running t.w) refusal)
+    ((t.w.phase ≡ Ends (Refused refusal)) × DropStands t.read.repo past (running_job t.w) refusal)
     ⊎ (((t.w.phase ≡ Denied) × (Refused refusal ≡ DropStep.denial_outcome t)) ⊎ ((time : ℕ) × (t.w.phase ≡ Late time) × (Refused refusal ≡ DropStep.expiry (t.clock time) (DropStep.first_end t))))
 
 obeyed_apart : (word : Option Word) (t : Turn) (refusal : DropRefusal) → Refused refusal ≡ obeyed_outcome word (proof_by t.read t.w) → ⊥
@@ -132,19 +132,19 @@ removed_apart : (side : Side) (t : Turn) (refusal : DropRefusal) → Refused ref
 removed_apart Local t refusal e = obeyed_apart None t refusal e
 removed_apart Remote t refusal e = obeyed_apart (t.look.words (target t)) t refusal e
 
-pub drop_settled : (t : Turn) (past : List Entry) (refusal : DropRefusal) (taken : Option FrameView) → Stands t.read.repo past (running t.w) t.w.phase → Settled t taken (Refused refusal) → DropSettled t past refusal
+pub drop_settled : (t : Turn) (past : List Entry) (refusal : DropRefusal) (taken : Option FrameView) → Stands t.read.repo past (running_job t.w) t.w.phase → HasOutcome t taken (Refused refusal) → DropSettled t past refusal
 drop_settled t past refusal taken standing z = go t.w.phase refl standing z.outcome_is
   where
-    go : (phase : Phase) → t.w.phase ≡ phase → Stands t.read.repo past (running t.w) phase → Refused refusal ≡ outcome_of t phase → DropSettled t past refusal
+    go : (phase : Phase) → t.w.phase ≡ phase → Stands t.read.repo past (running_job t.w) phase → Refused refusal ≡ outcome_of t phase → DropSettled t past refusal
     go Removed is st e = absurd (removed_apart (side_of t.w) t refusal e)
     go Denied is st e = inr (inl (is, e))
     go (Late time) is st e = inr (inr (time, is, e))
-    go (Ends (Refused x)) is st e = let same : refusal ≡ x = cc in inl (is ∙ ap (λ r. Ends (Refused r)) (sym same), subst (DropStands t.read.repo past (running t.w)) (sym same) st)
+    go (Ends (Refused x)) is st e = let same : refusal ≡ x = cc in inl (is ∙ ap (λ r. Ends (Refused r)) (sym same), subst (DropStands t.read.repo past (running_job t.w)) (sym same) st)
     go (Ends o) is st e = absurd (cc)
     go phase is st e = absurd (cc)
 
-pub transfer_settled : (t : Turn) (past : List Entry) (refusal : TransferRefusal) (taken : Option FrameView) → Stands t.read.repo past (running t.w) t.w.phase → Settled t taken (TransferRefused refusal)
-    → TransferStands t.read.repo past (running t.w) refusal ⊎ (refusal ≡ failures.Closed)
+pub transfer_settled : (t : Turn) (past : List Entry) (refusal : TransferRefusal) (taken : Option FrameView) → Stands t.read.repo past (running_job t.w) t.w.phase → HasOutcome t taken (TransferRefused refusal)
+    → TransferStands t.read.repo past (running_job t.w) refusal ⊎ (refusal ≡ failures.Closed)
 transfer_settled t past refusal taken standing z = go t.w.phase standing z.outcome_is
   where
     by_side : (side : Side) → TransferRefused refusal ≡ removal_outcome side t → ⊥
@@ -165,11 +165,11 @@ transfer_settled t past refusal taken standing z = go t.w.phase standing z.outco
     by_end None clk e = absurd (cc)
     by_end (Some end) clk e = absurd (cc)
 
-    go : (phase : Phase) → Stands t.read.repo past (running t.w) phase → TransferRefused refusal ≡ outcome_of t phase → TransferStands t.read.repo past (running t.w) refusal ⊎ (refusal ≡ failures.Closed)
+    go : (phase : Phase) → Stands t.read.repo past (running_job t.w) phase → TransferRefused refusal ≡ outcome_of t phase → TransferStands t.read.repo past (running_job t.w) refusal ⊎ (refusal ≡ failures.Closed)
     go Removed st e = absurd (by_side (side_of t.w) e)
     go Denied st e = absurd (cc)
     go (Late time) st e = absurd (by_end (DropStep.first_end t) (t.clock time) e)
-    go (Ends (TransferRefused x)) st e = let same : refusal ≡ x = cc in inl (subst (TransferStands t.read.repo past (running t.w)) (sym same) st)
+    go (Ends (TransferRefused x)) st e = let same : refusal ≡ x = cc in inl (subst (TransferStands t.read.repo past (running_job t.w)) (sym same) st)
     go (Ends o) st e = absurd (cc)
     go phase st e = inr (cc)
 
@@ -180,7 +180,7 @@ module _ (reads_back : SentAreRead) (s : SetUp) (past : List Entry) (words : ℕ
   r = s.number
 
   -- an outcome that doesn't stand since an earlier step
-  judged : (refusal : DropRefusal) (x : Ending s past e j (Refused refusal)) → (DropSettled (turn_at s past e x.by) past refusal → ⊥) → Judged (turn_at s past e x.by) x.by.made.taken (Refused refusal)
+  judged : (refusal : DropRefusal) (x : Ending s past e j (Refused refusal)) → (DropSettled (turn_at s past e x.by) past refusal → ⊥) → FindsOutcome (turn_at s past e x.by) x.by.made.taken (Refused refusal)
   judged refusal x apart = elim (x.why) [
     | inl y ↦ y
     | inr y ↦ absurd (apart (drop_settled (turn_at s past e x.by) past refusal x.by.made.taken (stands reads_back s past h x.by.w x.runs) y))
@@ -191,9 +191,9 @@ module _ (reads_back : SentAreRead) (s : SetUp) (past : List Entry) (words : ℕ
   apart_late refusal clk None apart e = apart 0 clk (cc)
   apart_late refusal clk (Some end) apart e = apart end clk (cc)
 
-  row_apart : (refusal : DropRefusal) (t : Turn) → ((past : List Entry) (j : Running) → DropStands t.read.repo past j refusal → ⊥) → ((a b : ℕ) → refusal ≢ refusals.Expired a b) → ((a : DenialOf) → refusal ≢ refusals.Denied a)
+  row_apart : (refusal : DropRefusal) (t : Turn) → ((past : List Entry) (j : RunningJob) → DropStands t.read.repo past j refusal → ⊥) → ((a b : ℕ) → refusal ≢ refusals.Expired a b) → ((a : DenialOf) → refusal ≢ refusals.Denied a)
       → DropSettled t past refusal → ⊥
-  row_apart refusal t none late denied (inl z) = none past (running t.w) z.1
+  row_apart refusal t none late denied (inl z) = none past (running_job t.w) z.1
   row_apart refusal t none late denied (inr (inl z)) = denied _ (same z.1)
     where
       same : {x : DenialOf} → Refused refusal ≡ Refused (refusals.Denied x) → refusal ≡ refusals.Denied x
@@ -271,7 +271,7 @@ module _ (reads_back : SentAreRead) (s : SetUp) (past : List Entry) (words : ℕ
         | inr y ↦ elim (transfer_settled (turn_at s past e x.by) past failures.StoreFault x.by.made.taken (stands reads_back s past h x.by.w x.runs) y) [ inl z ↦ z | inr z ↦ absurd (cc) ]
       ])
 
-  no_peer : (kind : KindOfJob) (peer : Option ℕ) → IsPeer s kind peer → puts kind ≡ true → peer ≡ None → ⊥
+  no_peer : (kind : KindOfJob) (peer : Option ℕ) → IsPeer s kind peer → is_put kind ≡ true → peer ≡ None → ⊥
   no_peer kinds.Copy None is p none = cc
   no_peer kinds.MoveTo None is p none = cc
   no_peer kinds.Drop peer is p none = cc

@@ -4,6 +4,7 @@ use Rattle.std.proofs.lemmas.Bool.Decides.{nat_tests}
 use Rattle.std.specs.Prelude.{◌==◌, ◌&&◌, nat_lt, option_map, codes}
 use Rattle.std.proofs.lemmas.Bool.{eqb-true}
 use Rattle.annex_base.specs.declared.kinds.Call.TheVariants.{Unhold}
+use Rattle.annex_base.proofs.Conditions.{and_first}
 use Rattle.race_core.proofs.Below.{SentAreRead}
 use Rattle.drop_proof.specs.declared.rule.Side.{Side}
 use Rattle.drop_proof.specs.declared.rule.Side.TheVariants.{Local, Remote}
@@ -20,22 +21,22 @@ use Rattle.run_data.specs.declared.job.DropRefusal.TheVariants as refusals
 use Rattle.run_data.specs.declared.job.TransferRefusal.{TransferRefusal}
 use Rattle.run_data.specs.declared.job.TransferRefusal.TheVariants as failures
 use Rattle.run_model.specs.Past.{Occurs, is_of}
-use Rattle.node_model.specs.Slots.{Running}
+use Rattle.node_model.specs.Slots.{RunningJob}
 use Rattle.p2p_wire.specs.declared.message.Message.{Message}
 use Rattle.p2p_wire.specs.declared.message.Message.TheVariants.{Error, Failure, Put, Valid, Version}
 use Rattle.p2p_wire.specs.Messages.{order_of}
 use Rattle.run_model.specs.Said.{Said, Says}
 use Rattle.race_core.proofs.Ways.{is_answer}
-use Rattle.run_model.specs.Frames.{Flying, is_job, last_request, said_of, up_of, way_of}
+use Rattle.run_model.specs.Frames.{FlyingFrame, is_job, last_request, said_of, up_of, way_of}
 use Rattle.run_model.specs.Drops.{is_first_step}
-use Rattle.run_model.specs.Causes.{Answers, FailedCall, Hears, side_by, target_by}
+use Rattle.run_model.specs.Causes.{AnswersRequest, FailedCall, HearsMessage, side_by, target_by}
 use Rattle.node_model.specs.SetUp.{SetUp}
 use Rattle.node_model.specs.Sessions.{line_in}
 use Rattle.node_model.specs.Jobs
-use Rattle.node_model.specs.Jobs.{AsksTime, Denied, Ends, Late, Orders, Phase, Work, partner, running}
+use Rattle.node_model.specs.Jobs.{AsksTime, Denied, Ends, Late, Orders, Phase, Work, partner, running_job}
 use Rattle.run_model.specs.Run.{OwnPast}
 use Rattle.race_core.proofs.JobSteps.{Stepped, stepped_job}
-use Rattle.race_core.proofs.ClientCounts.{LastIs, Request, and_left, request}
+use Rattle.race_core.proofs.ClientCounts.{LastIs, Request, request}
 use Rattle.race_core.proofs.ClientWays.{asked_by}
 use Rattle.race_core.proofs.ClientAwaits.{taken_last}
 use Rattle.race_core.proofs.Speaks.{hears}
@@ -44,10 +45,10 @@ use Rattle.race_core.proofs.Makers.{taken_of}
 
 -- ---- the drop's side and target
 
-abbrev pub side_in : Running → Side
+abbrev pub side_in : RunningJob → Side
 side_in j = side_by j.what.kind j.what.peer
 
-abbrev pub target_in : ℕ → Running → ℕ
+abbrev pub target_in : ℕ → RunningJob → ℕ
 target_in r j = target_by r (side_in j) j.what.peer
 
 side_same : (kind : KindOfJob) (peer : Option ℕ) → side_by kind peer ≡ Jobs.drop_side kind peer
@@ -64,15 +65,15 @@ own_same r Remote (Some p) = refl
 own_same r Local None = refl
 own_same r Local (Some p) = refl
 
-pub side_is : (w : Work) → side_in (running w) ≡ Jobs.side_of w
+pub side_is : (w : Work) → side_in (running_job w) ≡ Jobs.side_of w
 side_is w = side_same w.what.kind w.what.peer
 
-pub target_is : (r : ℕ) (w : Work) → target_in r (running w) ≡ Jobs.target_of r w
+pub target_is : (r : ℕ) (w : Work) → target_in r (running_job w) ≡ Jobs.target_of r w
 target_is r w = ap (λ (d : Side). target_by r d w.what.peer) (side_is w) ∙ own_same r (Jobs.side_of w) w.what.peer
 
 -- ---- an answer that a job takes now
 
-request_is : (o : Option Flying) (time : ℕ) (m : Message) → option_map asked_by o ≡ Some (request time (Some m)) → (x : Flying) × (o ≡ Some x) × (said_of x ≡ Says m)
+request_is : (o : Option FlyingFrame) (time : ℕ) (m : Message) → option_map asked_by o ≡ Some (request time (Some m)) → (x : FlyingFrame) × (o ≡ Some x) × (said_of x ≡ Says m)
 request_is None time m e = absurd (cc)
 request_is (Some x) time m e =
     let is : Some (line_in x.frame.body) ≡ Some (Some m) = ap (λ (o : Option Request). option_map (λ (q : Request). q.what) o) e in
@@ -92,9 +93,9 @@ module _ (reads_back : SentAreRead) (s : SetUp) (past : List Entry) (e : Entry) 
       let t = taken_of s past e x f took in
       let same : Some peer ≡ Some t.peer = sym on ∙ t.on in
       let at : peer ≡ t.peer = cc in
-      eqb-true f.peer t.peer (and_left (f.peer == t.peer) (f.slot == t.w.slot) (and_left ((f.peer == t.peer) && (f.slot == t.w.slot)) _ t.of_end)) ∙ sym at
+      eqb-true f.peer t.peer (and_first (f.peer == t.peer) (f.slot == t.w.slot) (and_first ((f.peer == t.peer) && (f.slot == t.w.slot)) _ t.of_end)) ∙ sym at
 
-  pub hears_now : (f : FrameView) → e.taken ≡ Some f → (m : Message) → line_in f.body ≡ Some m → (peer : ℕ) → partner x.w.what.peer x.w.phase ≡ Some peer → Hears (e ∷ past) s.number x.w.number peer (Says m)
+  pub hears_now : (f : FrameView) → e.taken ≡ Some f → (m : Message) → line_in f.body ≡ Some m → (peer : ℕ) → partner x.w.what.peer x.w.phase ≡ Some peer → HearsMessage (e ∷ past) s.number x.w.number peer (Says m)
   hears_now f took m told peer on = record {
     entry = e;
     before = past;
@@ -109,7 +110,7 @@ module _ (reads_back : SentAreRead) (s : SetUp) (past : List Entry) (e : Entry) 
 
   pub answers_now : OwnPast s past → (f : FrameView) → e.taken ≡ Some f → (m : Message) (P : Message → Type 0) → line_in f.body ≡ Some m → is_answer (Says m) ≡ true → (peer : ℕ) → partner x.w.what.peer x.w.phase ≡ Some peer
       → ((last : Option Request) → LastIs x.w.what.key x.w.what.peer x.w.phase peer last → (time : ℕ) × (asked : Message) × P asked × (last ≡ Some (request time (Some asked))))
-      → (asked : Message) × P asked × (a : Answers (e ∷ past) s.number x.w.number peer (Says asked) (Says m)) × (a.hears.before ≡ past) × (a.hears.f ≡ f)
+      → (asked : Message) × P asked × (a : AnswersRequest (e ∷ past) s.number x.w.number peer (Says asked) (Says m)) × (a.hears.before ≡ past) × (a.hears.f ≡ f)
   unfolding hears_now
   answers_now h f took m P told answer peer on last =
       let t = taken_of s past e x f took in
@@ -128,20 +129,20 @@ module _ (reads_back : SentAreRead) (s : SetUp) (past : List Entry) (e : Entry) 
 -- ---- what stands
 
 -- why a drop is to end refused, as its repository's entries tell
-abbrev pub DropStands : ℕ → List Entry → Running → DropRefusal → Type 0
-DropStands r past j (refusals.OldProtocol n) = Hears past r j.number (target_in r j) (Says (Version n)) × (nat_lt n 3 ≡ true)
+abbrev pub DropStands : ℕ → List Entry → RunningJob → DropRefusal → Type 0
+DropStands r past j (refusals.OldProtocol n) = HearsMessage past r j.number (target_in r j) (Says (Version n)) × (nat_lt n 3 ≡ true)
 DropStands r past j refusals.StoreFault = (x : FailedCall past r j.number) × (side_in j ≡ Remote → is_first_step x.before r j.number x.entry ≡ false)
 DropStands r past j (refusals.Lost ordered) = Unit {0}
 DropStands r past j refusal = ⊥
 
-abbrev pub TransferStands : ℕ → List Entry → Running → TransferRefusal → Type 0
-TransferStands r past j failures.Busy = (peer : ℕ) × (j.what.peer ≡ Some peer) × Answers past r j.number peer (Says (Put [] j.what.key)) (Says (Error (codes "busy")))
-TransferStands r past j failures.Rejected = (peer : ℕ) × (j.what.peer ≡ Some peer) × (asked : Message) × ((asked ≡ Valid) ⊎ (asked ≡ Put [] j.what.key)) × Answers past r j.number peer (Says asked) (Says Failure)
+abbrev pub TransferStands : ℕ → List Entry → RunningJob → TransferRefusal → Type 0
+TransferStands r past j failures.Busy = (peer : ℕ) × (j.what.peer ≡ Some peer) × AnswersRequest past r j.number peer (Says (Put [] j.what.key)) (Says (Error (codes "busy")))
+TransferStands r past j failures.Rejected = (peer : ℕ) × (j.what.peer ≡ Some peer) × (asked : Message) × ((asked ≡ Valid) ⊎ (asked ≡ Put [] j.what.key)) × AnswersRequest past r j.number peer (Says asked) (Says Failure)
 TransferStands r past j failures.StoreFault = FailedCall past r j.number
 TransferStands r past j failures.Closed = Unit {0}
 TransferStands r past j refusal = ⊥
 
-abbrev pub OutcomeStands : ℕ → List Entry → Running → Outcome → Type 0
+abbrev pub OutcomeStands : ℕ → List Entry → RunningJob → Outcome → Type 0
 OutcomeStands r past j (Refused refusal) = DropStands r past j refusal
 OutcomeStands r past j (TransferRefused refusal) = TransferStands r past j refusal
 OutcomeStands r past j outcome = Unit {0}
@@ -155,21 +156,21 @@ pub record ReleaseFailed (past : List Entry) (r j time : ℕ) : Type 0 where
   pub kind_is : entry.kind ≡ Fault Unhold (by_job j)
   pub time_is : time ≡ entry.time
 
-abbrev pub Stands : ℕ → List Entry → Running → Phase → Type 0
+abbrev pub Stands : ℕ → List Entry → RunningJob → Phase → Type 0
 Stands r past j AsksTime = side_in j ≡ Remote
 Stands r past j Orders = side_in j ≡ Remote
-Stands r past j Denied = (side_in j ≡ Remote) × (deadline : Option ℕ) × Answers past r j.number (target_in r j) (Says (order_of deadline j.what.key)) (Says Failure)
+Stands r past j Denied = (side_in j ≡ Remote) × (deadline : Option ℕ) × AnswersRequest past r j.number (target_in r j) (Says (order_of deadline j.what.key)) (Says Failure)
 Stands r past j (Late time) = (side_in j ≡ Remote) × ReleaseFailed past r j.number time
 Stands r past j (Ends outcome) = OutcomeStands r past j outcome
 Stands r past j phase = Unit {0}
 
 -- ---- more entries change nothing
 
-module _ (r : ℕ) (e : Entry) (past : List Entry) (j : Running) where
-  pub hears_grows : (peer : ℕ) (m : Said) → Hears past r j.number peer m → Hears (e ∷ past) r j.number peer m
+module _ (r : ℕ) (e : Entry) (past : List Entry) (j : RunningJob) where
+  pub hears_grows : (peer : ℕ) (m : Said) → HearsMessage past r j.number peer m → HearsMessage (e ∷ past) r j.number peer m
   hears_grows peer m x = record { entry = x.entry; before = x.before; occurs = inr x.occurs; own = x.own; f = x.f; takes_it = x.takes_it; peer_is = x.peer_is; down = x.down; says = x.says }
 
-  pub answers_grow : (peer : ℕ) (asked m : Said) → Answers past r j.number peer asked m → Answers (e ∷ past) r j.number peer asked m
+  pub answers_grow : (peer : ℕ) (asked m : Said) → AnswersRequest past r j.number peer asked m → AnswersRequest (e ∷ past) r j.number peer asked m
   unfolding hears_grows
   answers_grow peer asked m x = record { hears = hears_grows peer m x.hears; request = x.request; last = x.last; asked_is = x.asked_is }
 

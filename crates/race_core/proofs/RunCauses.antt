@@ -21,7 +21,7 @@ use Rattle.p2p_wire.specs.declared.message.Message.TheVariants.{PutFrom}
 use Rattle.node_model.specs.SetUp.{SetUp}
 use Rattle.run_model.specs.States.{end_at, content, rows_at}
 use Rattle.node_model.specs.Sessions.{is_closing, line_in}
-use Rattle.node_model.specs.Jobs.{Puts, PutsBytes, Work, job_end, running}
+use Rattle.node_model.specs.Jobs.{Puts, PutsBytes, Work, job_end, running_job}
 use Rattle.run_model.specs.Run.{IsRun, RunPast, RunStep, set_up}
 use Rattle.race_core.proofs.SaidDown.{said_closing, said_is}
 use Rattle.race_core.proofs.JobSteps.{Steps, stepped_runs, turn_at}
@@ -108,7 +108,7 @@ module _ (reads_back : SentAreRead) (run : Run) (repos : Each IsSetUp run.repos)
         sent t (inr short) = inr (short.puts, fell z.peer t short)
 
         go : (c : Bool) → (end_at past r (job_end v z.peer)).opened ≡ c → ClosedWith (e ∷ past) r v.number z.peer ⊎ ((v.part ≡ Puts) × FellShort (e ∷ past) r v.number z.peer v.what.key)
-        go false o = inl (closed_grows r e past (running v) z.peer (closed_told reads_back run repos past h r v (stepped_runs s past e b.by) z.peer z.on o))
+        go false o = inl (closed_grows r e past (running_job v) z.peer (closed_told reads_back run repos past h r v (stepped_runs s past e b.by) z.peer z.on o))
         go true o = elim (shut_by (job_end v z.peer) (end_at past r (job_end v z.peer)) e o z.closed) [
           | inl t ↦ inl (took_closes past e r v.number z.peer v.slot (stepped_own s past e b.by own) t)
           | inr t ↦ sent t closing

@@ -3,6 +3,7 @@ use Rattle.std.proofs.Common.{◌≡◌, ℕ, zero, suc, ◌+◌, ◌≤◌, Boo
 use Rattle.std.specs.Prelude.{◌==◌, reverse, slice_get}
 use Rattle.std.proofs.lemmas.List.{take_all}
 use Rattle.annex_base.specs.Lists.{Each}
+use Rattle.annex_base.proofs.Pasts.{past_end}
 use Rattle.run_data.specs.declared.entry.Entry.{Entry}
 use Rattle.run_data.specs.declared.entry.EntryKind.{EntryKind}
 use Rattle.run_data.specs.declared.entry.EntryKind.TheVariants.{Begin}
@@ -13,7 +14,6 @@ use Rattle.run_data.specs.Repos.{IsSetUp}
 use Rattle.run_model.specs.Run.{IsRun, RunPast, paths_at, paths_begun, set_up}
 use Rattle.race_core.proofs.JobNumbers.{begins_next}
 use Rattle.race_core.proofs.HistoriesGrow.{SamePaths}
-use Rattle.race_core.proofs.Pasts.{past_end}
 use Rattle.race_core.proofs.RunsGrow.{run_paths}
 use Rattle.race_core.proofs.AtPlaces.{past_next}
 use Rattle.race_core.proofs.EntryPlaces.{below_or_last, there_or_end}

@@ -1,6 +1,6 @@
 -- A run grows by one more entry, and its tree by one more mark; and each repository of a run keeps its history.
 use Rattle.std.proofs.Common.{◌≡◌, ℕ, zero, suc, ◌+◌, ◌<◌, ◌≤◌, Bool, true, false, List, [], ◌∷◌, ◌++◌, length, Option, Some, None, refl, sym, ap, ◌∙◌, subst, arith, append_assoc, append-nil}
-use Rattle.std.proofs.lemmas.List.{length-reverse, reverse-append}
+use Rattle.std.proofs.lemmas.List.{length-reverse, map-append, reverse-append}
 use Rattle.std.proofs.lemmas.List.Sums.{fold-append}
 use Rattle.std.specs.Prelude.{filter, ◌==◌, map, nat_le, reverse, slice_get, if◌then◌else◌}
 use Rattle.annex_base.specs.declared.kinds.Word.{Word}
@@ -14,10 +14,10 @@ use Rattle.run_data.specs.declared.entry.FrameView.{FrameView}
 use Rattle.run_data.specs.declared.run.Run.{Run}
 use Rattle.run_data.specs.declared.run.TreeMark.{TreeMark}
 use Rattle.run_model.specs.Past.{Always, begun_count, is_of}
-use Rattle.run_model.specs.Frames.{MayTake, Way, flying, on_way, sender_of, frames_sent, taken_count, way_of}
-use Rattle.race_core.proofs.OwnPasts.{mine, map_append}
-use Rattle.run_model.specs.Run.{FramesPart, IsRun, OnlyWaits, MayBe, Ordered, OwnPart, RunPast, RunStep, paths_at, paths_begun, set_up, tree_at}
-use Rattle.race_core.specs.Merged.{Came, Kept, KeptStep, Letter, MayMerge, TakesNext, history, letter_of, letters}
+use Rattle.run_model.specs.Frames.{MayTake, Way, flying_frame, on_way, sender_of, frames_sent, taken_count, way_of}
+use Rattle.race_core.proofs.OwnPasts.{mine}
+use Rattle.run_model.specs.Run.{FramesPart, IsRun, OnlyWaits, MayBe, ComesInOrder, OwnPart, RunPast, RunStep, paths_at, paths_begun, set_up, tree_at}
+use Rattle.race_core.specs.Merged.{IsHistory, IsHistoryStep, Letter, MayMerge, TakesNext, history, letter_of, letters}
 use Rattle.race_core.proofs.JobNumbers.{begins_next}
 use Rattle.race_core.proofs.OwnParts.{part_alone, part_whole}
 use Rattle.race_core.proofs.PathsRead.{with_paths}
@@ -94,12 +94,12 @@ may_turn run e r words is own frames (Some q) who =
 may_turn run e r words is own frames None who = let k : Some r ≡ None = sym is ∙ who in absurd (cc)
 
 -- a turn of one repository: by its own history, what it takes, and its place in the order
-pub own_turn_added : (run : Run) (e : Entry) (r : ℕ) (words : ℕ → Option Word) → IsRun run → e.repo ≡ Some r → Ordered (reverse run.entries) e → OwnPart (set_up run r) (mine r (reverse run.entries)) words e
+pub own_turn_added : (run : Run) (e : Entry) (r : ℕ) (words : ℕ → Option Word) → IsRun run → e.repo ≡ Some r → ComesInOrder (reverse run.entries) e → OwnPart (set_up run r) (mine r (reverse run.entries)) words e
     → FramesPart (reverse run.entries) r words e → IsRun (record run { entries = run.entries ++ e ∷ [] })
 own_turn_added run e r words is who order own frames = turn_added run e is (record { order = order; may = may_turn run e r words who own frames e.repo refl })
 
 -- a wait
-pub wait_added : (run : Run) (e : Entry) → IsRun run → e.repo ≡ None → Ordered (reverse run.entries) e → OnlyWaits e → IsRun (record run { entries = run.entries ++ e ∷ [] })
+pub wait_added : (run : Run) (e : Entry) → IsRun run → e.repo ≡ None → ComesInOrder (reverse run.entries) e → OnlyWaits e → IsRun (record run { entries = run.entries ++ e ∷ [] })
 wait_added run e is who order only = turn_added run e is (record { order = order; may = subst (λ (o : Option ℕ). MayBe (set_up run) (reverse run.entries) e o) (sym who) only })
 
 -- ---- one more mark
@@ -138,26 +138,12 @@ map_get f (y ∷ xs) zero x h = let same : y ≡ x = cc in ap (λ z. Some (f z))
 map_get f (y ∷ xs) (suc k) x h = map_get f xs k x h
 
 -- what an entry adds to what its repository sent
-pub letters_more : (e : Entry) (past : List Entry) (w : Way) → letters (e ∷ past) w ≡ letters past w ++ (if is_of (sender_of w) e then map letter_of (map (flying e past) (on_way w e)) else [])
+pub letters_more : (e : Entry) (past : List Entry) (w : Way) → letters (e ∷ past) w ≡ letters past w ++ (if is_of (sender_of w) e then map letter_of (map (flying_frame e past) (on_way w e)) else [])
 letters_more e past w = go (is_of (sender_of w) e)
   where
-    go : (b : Bool) → map letter_of (if b then frames_sent past w ++ map (flying e past) (on_way w e) else frames_sent past w) ≡ letters past w ++ (if b then map letter_of (map (flying e past) (on_way w e)) else [])
-    go true = map_append letter_of (frames_sent past w) (map (flying e past) (on_way w e))
+    go : (b : Bool) → map letter_of (if b then frames_sent past w ++ map (flying_frame e past) (on_way w e) else frames_sent past w) ≡ letters past w ++ (if b then map letter_of (map (flying_frame e past) (on_way w e)) else [])
+    go true = map-append letter_of (frames_sent past w) (map (flying_frame e past) (on_way w e))
     go false = sym (append-nil (letters past w))
-
--- of what came on a way: its sender sends more, and its taker gets the next
-pub came_sent : (got : List Letter) (e : Entry) (past : List Entry) (w : Way) → Came got past w → Came got (e ∷ past) w
-came_sent got e past w c =
-    let new : List Letter = if is_of (sender_of w) e then map letter_of (map (flying e past) (on_way w e)) else [] in
-    record { rest = c.rest ++ new; is = letters_more e past w ∙ ap (λ xs. xs ++ new) c.is ∙ append_assoc got c.rest new }
-
-split_at : (xs : List Letter) (rest : List Letter) (x : Letter) → slice_get (xs ++ rest) (length xs) ≡ Some x → (after : List Letter) × (xs ++ rest ≡ (xs ++ x ∷ []) ++ after)
-split_at [] [] x h = absurd (cc)
-split_at [] (y ∷ rest) x h = let same : y ≡ x = cc in (rest, ap (λ z. z ∷ rest) same)
-split_at (z ∷ xs) rest x h = let t = split_at xs rest x h in (t.0, ap (λ ys. z ∷ ys) t.1)
-
-pub came_taken : (got : List Letter) (past : List Entry) (w : Way) (x : Letter) → Came got past w → slice_get (letters past w) (length got) ≡ Some x → Came (got ++ x ∷ []) past w
-came_taken got past w x c h = let t = split_at got c.rest x (subst (λ xs. slice_get xs (length got) ≡ Some x) c.is h) in record { rest = t.0; is = c.is ∙ t.1 }
 
 -- the letters have all that were sent in this past
 abbrev From : (Way → List Letter) → List Entry → Type 0
@@ -165,7 +151,7 @@ From got past = (w : Way) → (rest : List Letter) × (got w ≡ letters past w 
 
 from_before : (got : Way → List Letter) (e : Entry) (past : List Entry) → From got (e ∷ past) → From got past
 from_before got e past h w =
-    let new : List Letter = if is_of (sender_of w) e then map letter_of (map (flying e past) (on_way w e)) else [] in
+    let new : List Letter = if is_of (sender_of w) e then map letter_of (map (flying_frame e past) (on_way w e)) else [] in
     (new ++ (h w).0, (h w).1 ∙ ap (λ xs. xs ++ (h w).0) (letters_more e past w) ∙ append_assoc (letters past w) new (h w).0)
 
 module _ (run : Run) (r : ℕ) (got : Way → List Letter) where
@@ -188,8 +174,8 @@ module _ (run : Run) (r : ℕ) (got : Way → List Letter) where
   all_read [] from h = tt
   all_read (e ∷ past) from h = let before = from_before got e past from in (reads past e before h.0, all_read past before h.1)
 
-  ordered : (past : List Entry) → RunPast (set_up run) past → Always Ordered past
-  ordered past h = always_of (set_up run) Ordered (λ p e x. x.order) past h
+  ordered : (past : List Entry) → RunPast (set_up run) past → Always ComesInOrder past
+  ordered past h = always_of (set_up run) ComesInOrder (λ p e x. x.order) past h
 
   takes_next : (past : List Entry) (e : Entry) → From got past → RunPast (set_up run) (e ∷ past) → e.repo ≡ Some r → (f : FrameView) → e.taken ≡ Some f → TakesNext (got (way_of r f)) (mine r past) (way_of r f) e f
   unfolding reads
@@ -207,14 +193,14 @@ module _ (run : Run) (r : ℕ) (got : Way → List Letter) where
         later = occurs_before past e t.it.entry t.it.before (ordered (e ∷ past) h) s.occurs;
       }
 
-  run_kept-from : (past : List Entry) → From got past → RunPast (set_up run) past → Kept (set_up run r) got (mine r past)
+  run_kept-from : (past : List Entry) → From got past → RunPast (set_up run) past → IsHistory (set_up run r) got (mine r past)
   run_kept-from [] from h = tt
   run_kept-from (e ∷ past) from h = go (run_kept-from past before h.1) (is_of r e) refl
     where
       before : From got past
       before = from_before got e past from
 
-      kept : e.repo ≡ Some r → KeptStep (set_up run r) got (mine r past) e
+      kept : e.repo ≡ Some r → IsHistoryStep (set_up run r) got (mine r past) e
       kept is = let m = may_is past e h.0 is in record {
         own = is;
         words = m.0;
@@ -223,12 +209,12 @@ module _ (run : Run) (r : ℕ) (got : Way → List Letter) where
         tells = λ j outcome k c. m.2.tells j outcome k c ∙ words_are got (set_up run r) j c past (all_read past before h.1);
       }
 
-      go : Kept (set_up run r) got (mine r past) → (b : Bool) → is_of r e ≡ b → Kept (set_up run r) got (mine r (e ∷ past))
+      go : IsHistory (set_up run r) got (mine r past) → (b : Bool) → is_of r e ≡ b → IsHistory (set_up run r) got (mine r (e ∷ past))
       go ih true is = rw is (kept (some_option e.repo r is), ih)
       go ih false is = rw is ih
 
 -- each repository of a run keeps its own history, and takes the letters of the others
-pub run_kept : (run : Run) → IsRun run → (r : ℕ) → Kept (set_up run r) (letters (reverse run.entries)) (mine r (reverse run.entries))
+pub run_kept : (run : Run) → IsRun run → (r : ℕ) → IsHistory (set_up run r) (letters (reverse run.entries)) (mine r (reverse run.entries))
 run_kept run is r = run_kept-from run r (letters (reverse run.entries)) (reverse run.entries) (λ w. ([], sym (append-nil (letters (reverse run.entries) w)))) is.steps
 
 -- a block begins: nothing was added yet, and each repository has its history of the run and all letters of the others
@@ -236,7 +222,7 @@ pub block_begins : (run : Run) → IsRun run → Each (λ m. m.place ≤ length 
 block_begins run is marked = record {
   marked = marked;
   number = omega arith;
-  kept = λ r l. subst (Kept (set_up run r) (letters (reverse run.entries))) (history_is r) (run_kept run is r);
+  kept = λ r l. subst (IsHistory (set_up run r) (letters (reverse run.entries))) (history_is r) (run_kept run is r);
   follow = λ r l. tt;
   came = λ r c w l took gave. record { rest = []; is = ap (λ p. letters p w) (sym (history_is c)) ∙ ap (λ n. letters (mine n (reverse run.entries)) w) (sym gave) ∙ sym (letters_own w (reverse run.entries)) ∙ sym (append-nil (letters (reverse run.entries) w)) };
 }

@@ -1,5 +1,5 @@
 -- A step reads of the logs what its job's drop has read, and nothing for another part of a job.
-use Rattle.node_model.specs.After.{Agrees}
+use Rattle.node_model.specs.After.{AgreesAtDrops}
 use Rattle.std.proofs.Common.{◌≡◌, ◌≢◌, ℕ, Bool, true, false, Option, Some, None, refl, sym, ap, ◌∙◌}
 use Rattle.std.specs.Prelude.{if◌then◌else◌, find, ◌==◌}
 use Rattle.std.specs.List.{list_all}
@@ -130,7 +130,7 @@ module _ (s : SetUp) (st : State) (k : Look) (x y : Settings) where
 abbrev pub AllFit : State → Type 0
 AllFit st = (w : Work) → Member w st.works → Fits w.part w.phase
 
-module _ (s : SetUp) (st other : State) (k : Look) (fits : AllFit st) (agrees : Agrees st other) where
+module _ (s : SetUp) (st other : State) (k : Look) (fits : AllFit st) (agrees : AgreesAtDrops st other) where
   read_same : (x : Settings) → reading st x ≡ reading other x
   read_same x = ap (λ (z : State). reading z x) agrees.same
 

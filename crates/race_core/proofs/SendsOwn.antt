@@ -18,7 +18,7 @@ use Rattle.run_model.specs.Frames.{Way, is_on, on_way, says, taker_of}
 use Rattle.node_model.specs.SetUp.{SetUp}
 use Rattle.race_core.proofs.BySteps.{ByStep}
 use Rattle.run_model.specs.Run.{OwnPart, OwnPast}
-use Rattle.node_model.specs.Found.{JobKind}
+use Rattle.node_model.specs.Found.{IsJobEntry}
 use Rattle.race_core.proofs.Makers.{who}
 use Rattle.race_core.proofs.JobSteps.{Stepped, stepped_found, stepped_job, stepped_runs, turn_at}
 use Rattle.race_core.proofs.Speaks
@@ -95,8 +95,8 @@ module _ (s : SetUp) (past : List Entry) (e : Entry) (h : OwnPast s past) (x : S
   kind_is : e.kind ≡ x.made.kind
   kind_is = ap (λ (y : Entry). y.kind) x.is
 
-  found : JobKind (turn_at s past e x) x.made e.kind
-  found = subst (JobKind (turn_at s past e x) x.made) (sym kind_is) (stepped_found s past e x).found
+  found : IsJobEntry (turn_at s past e x) x.made e.kind
+  found = subst (IsJobEntry (turn_at s past e x) x.made) (sym kind_is) (stepped_found s past e x).found
 
   said : JobSaid (turn_at s past e x) e.kind g
   said = job_said (turn_at s past e x) x.made e.kind found g (subst (Member g) (ap (λ (y : Entry). y.sent) x.is) m)
@@ -109,7 +109,7 @@ module _ (s : SetUp) (past : List Entry) (e : Entry) (h : OwnPast s past) (x : S
     where
       at : (j peer : ℕ) (d : Option ℕ) (need : Need) (k : List ℕ) → e.kind ≡ Order j peer d need k → (j : ℕ) × (need : Need) × (e.kind ≡ Order j g.peer deadline need key)
       at j peer d need k is =
-          let f = subst (JobKind (turn_at s past e x) x.made) is found in
+          let f = subst (IsJobEntry (turn_at s past e x) x.made) is found in
           let y = subst (λ kind. JobSaid (turn_at s past e x) kind g) is said in
           let line = y.1 ∙ ap (λ k. Line (text_of (order_of d k))) f.key_is in
           let read = order_read s past h x.look x.w (stepped_runs s past e x) x.made d f.timed (order_of deadline key) (read_of (text_of (order_of d x.w.what.key)) (order_of deadline key) (sym (ap message_in line) ∙ i)) in

@@ -31,7 +31,7 @@ use Rattle.node_model.specs.SessionStep.{Reply, gives_made, gives_next, here, on
 use Rattle.node_model.specs.JobStep.{Turn, end_with, farewell, farewells, turn_of, others_of}
 use Rattle.node_model.specs.Turns.{job_step}
 use Rattle.node_model.specs.Step.{step}
-use Rattle.node_model.specs.Found.{AsksOne, ByJob, JobKind, JobTakes, agrees}
+use Rattle.node_model.specs.Found.{AsksOne, ByJob, IsJobEntry, JobTakes, success_line}
 use Rattle.p2p_wire.specs.Messages.{order_of, text_of}
 use Rattle.node_model.specs.AnyTime.{MayCome, all_ends, close_at}
 use Rattle.run_model.specs.Run.{OwnPart}
@@ -51,7 +51,7 @@ each_flat P f all (x ∷ xs) = Each-append P (f x) (flat_map f xs) (all x) (each
 abbrev pub same_end : EndName → EndName → Bool
 same_end b a = (b.peer == a.peer) && (b.slot == a.slot) && same_bool b.client a.client
 
-end_path : (p q : ℕ) (b : Bool) (a : EndName) → p ≡ a.peer → q ≡ a.slot → b ≡ a.client → Path EndName (record { peer = p; slot = q; client = b }) a
+pub end_path : (p q : ℕ) (b : Bool) (a : EndName) → p ≡ a.peer → q ≡ a.slot → b ≡ a.client → Path EndName (record { peer = p; slot = q; client = b }) a
 end_path p q b a x y z i = record { peer = x i; slot = y i; client = z i }
 
 pub same_end-is : (b a : EndName) → same_end b a ≡ true → b ≡ a
@@ -211,12 +211,12 @@ asks_other : (t : Turn) (sent : List FrameView) (p q : ℕ) → AsksOne t sent �
 asks_other t sent p q (inl x) = rw x refl
 asks_other t sent p q (inr x) = rw x.2 (sent_other (job_end t.w x.0) (server_end p q) (end_with t x.0) (x.1 ∷ []) (job_other t.w x.0 p q))
 
-pub job_sends : (t : Turn) (m : Made) (kind : EntryKind) (p q : ℕ) → JobKind t m kind → sent_at (server_end p q) m.sent ≡ []
+pub job_sends : (t : Turn) (m : Made) (kind : EntryKind) (p q : ℕ) → IsJobEntry t m kind → sent_at (server_end p q) m.sent ≡ []
 job_sends t m (Share hold end by key) p q x = rw x.sends_none refl
 job_sends t m (Bar j need key) p q x = rw x.sends_none refl
 job_sends t m (Gone by key) p q x = rw x.sends_none refl
 job_sends t m (Order j peer deadline need key) p q x = rw x.sent_is (sent_other (job_end t.w peer) (server_end p q) (end_with t peer) (Line (text_of (order_of deadline key)) ∷ []) (job_other t.w peer p q))
-job_sends t m (Gain by size key) p q x = rw x.sent_is (sent_other (job_end t.w x.peer) (server_end p q) (end_with t x.peer) agrees (job_other t.w x.peer p q))
+job_sends t m (Gain by size key) p q x = rw x.sent_is (sent_other (job_end t.w x.peer) (server_end p q) (end_with t x.peer) success_line (job_other t.w x.peer p q))
 job_sends t m (ends_job j outcome) p q x = rw x.sent_is (farewells_other t (is_lost_ordered outcome) p q)
 job_sends t m (Talk (Some j)) p q x = asks_other t m.sent p q x.1
 job_sends t m (Fault call by) p q x = rw x.1 refl

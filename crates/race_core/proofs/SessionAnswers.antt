@@ -25,7 +25,7 @@ use Rattle.race_core.proofs.Ways.{completes, is_answer}
 use Rattle.node_model.specs.Sessions.{Doing, Waits, Guards, Gave, Wants, Took, Session}
 use Rattle.node_model.specs.Calls.{to_commit, to_lock, to_offer, to_remove}
 use Rattle.node_model.specs.Look.{failing}
-use Rattle.node_model.specs.SessionStep.{Here, Reply, bar_on, by_of, bytes_left, check_answer, content_of, is_held, is_here, lock_answer, now_of, on_frame, on_message, on_put, on_remove, on_remove_before, on_request, on_text, put_answer, refuses, remove_answer, reply, silent_reply, tries, unexpected_reply, valid_answer}
+use Rattle.node_model.specs.SessionStep.{Here, Reply, bar_on, by_of, bytes_left, check_answer, content_of, is_held, is_here, lock_answer, now_of, on_frame, on_message, on_put, on_remove, on_remove_before, on_request, on_text, put_answer, failure_line, remove_answer, reply, silent_reply, tries, unexpected_reply, valid_answer}
 use Rattle.race_core.proofs.Cases.{unless_found}
 use Rattle.race_core.proofs.Counting.{Closes, Counts, GetCounts, calm, get_counts, message_counts}
 use Rattle.race_core.proofs.SaidDown.{Alike, alike, alike_completes, odd_answer, said_closing, said_line-is, tells}
@@ -99,7 +99,7 @@ remove_replied asked o by key true None true = fits asked (Check found.Held key)
 remove_replied asked o by key true None false = fits asked (_) Success refl (o.0 (_))
 
 on_remove-replied : (asked : Message) → IsOrder asked → (h : Here) (key : List ℕ) → Replied asked (on_remove h key)
-on_remove-replied asked o h key = tries_replied h asked (to_remove (is_here h key) (bar_on h key) (is_held h key)) refuses
+on_remove-replied asked o h key = tries_replied h asked (to_remove (is_here h key) (bar_on h key) (is_held h key)) failure_line
     (remove_answer (by_of h) key (is_here h key) (bar_on h key) (is_held h key)) (λ call. fits asked (Fault call (by_of h)) Failure refl (o.1 (Fault call (by_of h)) denials.Fault refl))
     (remove_replied asked o (by_of h) key (is_here h key) (bar_on h key) (is_held h key))
 
@@ -126,9 +126,9 @@ min_below n v = grind (arith, nat_tests)
 
 request_replied : (h : Here) (v : ℕ) (m : Message) → Replied m (on_request h v m)
 request_replied h v (Version n) = fits (Version n) (Talk None) (Version (min n h.version)) refl (min_below n h.version)
-request_replied h v (CheckPresent key) = tries_replied h (CheckPresent key) (calls.Has ∷ []) refuses (check_answer key (is_here h key) (bar_on h key))
+request_replied h v (CheckPresent key) = tries_replied h (CheckPresent key) (calls.Has ∷ []) failure_line (check_answer key (is_here h key) (bar_on h key))
     (λ call. fits (CheckPresent key) (Fault call (by_of h)) Failure refl refl) (check_replied key (is_here h key) (bar_on h key))
-request_replied h v (LockContent key) = tries_replied h (LockContent key) (to_lock h.locks (is_here h key) (bar_on h key)) refuses
+request_replied h v (LockContent key) = tries_replied h (LockContent key) (to_lock h.locks (is_here h key) (bar_on h key)) failure_line
     (lock_answer h.number (now_of h + hold_time) (by_of h) key h.locks (is_here h key) (bar_on h key)) (λ call. fits (LockContent key) (Fault call (by_of h)) Failure refl tt)
     (lock_replied h.number (now_of h + hold_time) (by_of h) key h.locks (is_here h key) (bar_on h key))
 request_replied h v (Remove key) = on_remove-replied (Remove key) (removes key) h key
@@ -141,7 +141,7 @@ request_replied h v (Get n file key) =
 request_replied h v (Put file key) =
     let good : Reply = reply (Talk None) (put_answer h.part (is_here h key) (h.filled key)) in
     with_version h (Put file key) (nat_le 1 v) (on_put h key)
-    (tries_replied h (Put file key) (to_offer h.part (is_here h key) (h.filled key)) refuses good (λ call. fits (Put file key) (Fault call (by_of h)) Failure refl refl)
+    (tries_replied h (Put file key) (to_offer h.part (is_here h key) (h.filled key)) failure_line good (λ call. fits (Put file key) (Fault call (by_of h)) Failure refl refl)
     (put_replied file key h.part (is_here h key) (h.filled key)))
 request_replied h v m = odd h m
 
@@ -162,7 +162,7 @@ message_replied h v (Guards hold key) (UnlockContent k) = unlock_replied h hold 
 message_replied h v Gave Success = inr (inl refl)
 message_replied h v Gave Failure = inr (inl refl)
 message_replied h v (Wants key size) (Data n) = inr (inl refl)
-message_replied h v (Took key size) Valid = tries_replied h Valid (to_commit h.right) refuses (valid_answer (by_of h) size key h.right)
+message_replied h v (Took key size) Valid = tries_replied h Valid (to_commit h.right) failure_line (valid_answer (by_of h) size key h.right)
     (λ call. fits Valid (Fault call (by_of h)) Failure refl refl) (valid_replied (by_of h) size key h.right)
 message_replied h v (Took key size) Invalid = fits Invalid (Talk None) Failure refl refl
 message_replied h v doing m = odd h m

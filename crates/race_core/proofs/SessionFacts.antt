@@ -21,16 +21,16 @@ use Rattle.node_model.specs.Sessions.{Doing, Waits, Guards, Gives, Gave, Wants, 
 use Rattle.node_model.specs.Calls.{to_commit, to_lock, to_offer, to_remove}
 use Rattle.node_model.specs.Ends.{End, EndName, end_takes, may_take, server_end, takes_at}
 use Rattle.node_model.specs.Look.{Look, Made, failing, waiting}
-use Rattle.node_model.specs.SessionStep.{Here, Reply, bar_on, by_of, bytes_left, check_answer, close_kind, content_of, gives_made, gives_next, here, is_held, is_here, lock_answer, now_of, on_bytes, on_frame, on_message, on_piece, on_put, on_remove, on_remove_before, on_request, on_text, on_unlock, put_answer, refuses, remove_answer, reply, reply_made, session_at, session_makes, session_step, shuts, silent_reply, tries, unexpected_reply, valid_answer}
-use Rattle.node_model.specs.Found.{BySession, GivesAt, InTime, SaysFault, SessionFound, SessionKind, TakesAt}
-use Rattle.race_core.proofs.Cases.{some_was, unless_found}
+use Rattle.node_model.specs.SessionStep.{Here, Reply, bar_on, by_of, bytes_left, check_answer, close_kind, content_of, gives_made, gives_next, here, is_held, is_here, lock_answer, now_of, on_bytes, on_frame, on_message, on_piece, on_put, on_remove, on_remove_before, on_request, on_text, on_unlock, put_answer, failure_line, remove_answer, reply, reply_made, session_at, session_makes, session_step, shuts, silent_reply, tries, unexpected_reply, valid_answer}
+use Rattle.node_model.specs.Found.{BySession, GivesAt, IsBeforeDeadline, SaysFault, SessionFound, IsSessionEntry, TakesAt}
+use Rattle.race_core.proofs.Cases.{TakesAtHand, some_was, takes_none, takes_one, unless_found}
 
 tries_found : (h : Here) (doing : Doing) (asked : Option Message) (cs : List Call) (says : List FrameText) (good : Reply)
     → SaysFault says → SessionFound h doing asked good → SessionFound h doing asked (tries h cs says good)
 tries_found h doing asked cs says good fs g =
     unless_found (SessionFound h doing asked) (failing h.fails cs) (λ call. record { kind = Fault call (by_of h); says = says }) good (λ call. (refl, fs)) g
 
-refused : SaysFault refuses
+refused : SaysFault failure_line
 refused = inr (inr refl)
 
 unexpected_found : (h : Here) (doing : Doing) (asked : Option Message) → SessionFound h doing asked (unexpected_reply h)
@@ -54,7 +54,7 @@ lock_found h key true true None locks there free =
     record { asks = refl; waits = refl; locks = locks; there = there; free = free; hold_is = refl; end_is = refl; by_is = refl; says_is = refl }
 
 remove_found : (h : Here) (deadline : Option ℕ) (key : List ℕ) (here : Bool) (bar : Option ℕ) (blocked : Bool)
-    → is_here h key ≡ here → bar_on h key ≡ bar → is_held h key ≡ blocked → InTime (now_of h) deadline
+    → is_here h key ≡ here → bar_on h key ≡ bar → is_held h key ≡ blocked → IsBeforeDeadline (now_of h) deadline
     → SessionFound h Waits (Some (order_of deadline key)) (remove_answer (by_of h) key here bar blocked)
 remove_found h deadline key false bar blocked there free unheld soon = (refl, inr (deadline, refl), there, inr (refl, (deadline, refl)))
 remove_found h deadline key true (Some j) blocked there free unheld soon = (refl, inr (deadline, refl), (j, free), refl)
@@ -62,9 +62,9 @@ remove_found h deadline key true None true there free unheld soon = (refl, inr (
 remove_found h deadline key true None false there free unheld soon =
     record { deadline = deadline; asks = refl; waits = refl; there = there; free = free; unheld = unheld; soon = soon; by_is = refl; says_is = refl }
 
-on_remove_found : (h : Here) (deadline : Option ℕ) (key : List ℕ) → InTime (now_of h) deadline → SessionFound h Waits (Some (order_of deadline key)) (on_remove h key)
+on_remove_found : (h : Here) (deadline : Option ℕ) (key : List ℕ) → IsBeforeDeadline (now_of h) deadline → SessionFound h Waits (Some (order_of deadline key)) (on_remove h key)
 on_remove_found h deadline key soon =
-    tries_found h Waits (Some (order_of deadline key)) (to_remove (is_here h key) (bar_on h key) (is_held h key)) refuses
+    tries_found h Waits (Some (order_of deadline key)) (to_remove (is_here h key) (bar_on h key) (is_held h key)) failure_line
     (remove_answer (by_of h) key (is_here h key) (bar_on h key) (is_held h key)) refused
     (remove_found h deadline key (is_here h key) (bar_on h key) (is_held h key) refl refl refl soon)
 
@@ -86,11 +86,11 @@ with_version h asked b x f = if_either (SessionFound h Waits asked) b x (unexpec
 request_found : (h : Here) (v : ℕ) (m : Message) → SessionFound h Waits (Some m) (on_request h v m)
 request_found h v (Version n) = (Version (min n h.version), refl, tt)
 request_found h v (CheckPresent key) =
-    tries_found h Waits (Some (CheckPresent key)) (calls.Has ∷ []) refuses (check_answer key (is_here h key) (bar_on h key)) refused
+    tries_found h Waits (Some (CheckPresent key)) (calls.Has ∷ []) failure_line (check_answer key (is_here h key) (bar_on h key)) refused
     (check_found h key (is_here h key) (bar_on h key) refl refl)
 request_found h v (LockContent key) =
     let locks = h.locks in
-    tries_found h Waits (Some (LockContent key)) (to_lock locks (is_here h key) (bar_on h key)) refuses
+    tries_found h Waits (Some (LockContent key)) (to_lock locks (is_here h key) (bar_on h key)) failure_line
     (lock_answer h.number (now_of h + hold_time) (by_of h) key locks (is_here h key) (bar_on h key)) refused
     (lock_found h key locks (is_here h key) (bar_on h key) refl refl refl)
 request_found h v (Remove key) = on_remove_found h None key tt
@@ -104,7 +104,7 @@ request_found h v (Get n file key) =
 request_found h v (Put file key) =
     let here = is_here h key in let filled = h.filled key in
     with_version h (Some (Put file key)) (nat_le 1 v) (on_put h key)
-    (tries_found h Waits (Some (Put file key)) (to_offer h.part here filled) refuses (reply (Talk None) (put_answer h.part here filled)) refused
+    (tries_found h Waits (Some (Put file key)) (to_offer h.part here filled) failure_line (reply (Talk None) (put_answer h.part here filled)) refused
     (put_found h file key here filled))
 request_found h v m = unexpected_found h Waits (Some m)
 
@@ -127,7 +127,7 @@ message_found h v Gave Success = tt
 message_found h v Gave Failure = tt
 message_found h v (Wants key size) (Data n) = tt
 message_found h v (Took key size) Valid =
-    tries_found h (Took key size) (Some Valid) (to_commit h.right) refuses (valid_answer (by_of h) size key h.right) refused (valid_found h key size h.right refl)
+    tries_found h (Took key size) (Some Valid) (to_commit h.right) failure_line (valid_answer (by_of h) size key h.right) refused (valid_found h key size h.right refl)
 message_found h v (Took key size) Invalid = (Failure, refl, tt)
 message_found h v doing m = unexpected_found h doing (Some m)
 
@@ -175,7 +175,8 @@ record MadeAt (s : SetUp) (st : State) (k : Look) (a : EndName) (m : Made) : Typ
   asked : Option Message
   says : List FrameText
   frame : TakesAt s st a asked says m ⊎ GivesAt s st a asked says m
-  found : SessionKind (here s st k a) (st.sessions a).doing asked says m.kind
+  found : IsSessionEntry (here s st k a) (st.sessions a).doing asked says m.kind
+  at_hand : TakesAtHand k m
 
 makes_found : (s : SetUp) (st : State) (k : Look) (a : EndName) (f : Option FrameView) (m : Made) → waiting (st.ends a) k a ≡ f
     → session_makes (here s st k a) (st.ends a) (st.sessions a) f ≡ Some m → MadeAt s st k a m
@@ -190,6 +191,7 @@ makes_found s st k a (Some f) m is e =
       says = x.says;
       frame = inl (record { f = f; taken_is = refl; of_end = both.0; may = both.1; asked_is = refl; sent_is = refl });
       found = frame_found h (st.sessions a) f.body;
+      at_hand = takes_one k (reply_made a (end_takes (st.ends a) f.epoch f.body) (Some f) x) f refl was.0;
     })
 makes_found s st k a None m is e = go (st.ends a).opened refl e
   where
@@ -208,6 +210,7 @@ makes_found s st k a None m is e = go (st.ends a).opened refl e
           says = x.says;
           frame = inr (record { taken_is = refl; opened = opened; asked_is = refl; sent_is = refl });
           found = gives_found h (st.sessions a).doing x next;
+          at_hand = takes_none k (reply_made a c None x) refl;
         })
 
     go : (b : Bool) → c.opened ≡ b → (if b then gives_made a c (gives_next h (st.sessions a).doing) else None) ≡ Some m → MadeAt s st k a m
@@ -227,3 +230,8 @@ session_found s st k m e =
     let c = w.0 in
     let x = at_found s st k (server_end c.0 c.1) m w.2 in
     record { peer = c.0; slot = c.1; serves = w.1; asked = x.asked; says = x.says; frame = x.frame; found = x.found }
+
+pub session_at_hand : (s : SetUp) (st : State) (k : Look) (m : Made) → session_step s st k ≡ Some m → TakesAtHand k m
+session_at_hand s st k m e =
+    let w = some_was (λ (c : ℕ × ℕ). session_at s st k (server_end c.0 c.1)) (served_connections s) m e in
+    (at_found s st k (server_end w.0.0 w.0.1) m w.2).at_hand

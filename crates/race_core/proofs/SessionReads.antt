@@ -24,7 +24,7 @@ use Rattle.node_model.specs.Sessions.{Doing, Waits, Guards, Gives, Gave, Wants, 
 use Rattle.run_model.specs.States.{state_of}
 use Rattle.node_model.specs.Look.{Look, failing}
 use Rattle.node_model.specs.Calls.{to_commit, to_lock, to_offer, to_remove}
-use Rattle.node_model.specs.SessionStep.{Here, Reply, bar_on, by_of, bytes_left, check_answer, close_kind, content_of, gives_next, here, is_filled, is_held, is_here, lock_answer, now_of, on_bytes, on_frame, on_lock, on_message, on_piece, on_put, on_remove, on_remove_before, on_request, on_text, on_unlock, on_valid, put_answer, refuses, remove_answer, reply, shuts, silent_reply, tries, unexpected_reply, valid_answer}
+use Rattle.node_model.specs.SessionStep.{Here, Reply, bar_on, by_of, bytes_left, check_answer, close_kind, content_of, gives_next, here, is_filled, is_held, is_here, lock_answer, now_of, on_bytes, on_frame, on_lock, on_message, on_piece, on_put, on_remove, on_remove_before, on_request, on_text, on_unlock, on_valid, put_answer, failure_line, remove_answer, reply, shuts, silent_reply, tries, unexpected_reply, valid_answer}
 use Rattle.run_model.specs.Run.{OwnPast}
 use Rattle.race_core.proofs.Cases.{unless_found}
 use Rattle.race_core.proofs.Spoken.{auth_read, data_read, part_read, time_read, version_read}
@@ -69,7 +69,7 @@ odd_read reads_back text (inr more) = close_read text more
 abbrev Read : Reply → Type 0
 Read x = SaysRead x.says
 
-refuses_read : SaysRead refuses
+refuses_read : SaysRead failure_line
 refuses_read = one_read Failure refl
 
 check_read : (key : List ℕ) (here : Bool) (bar : Option ℕ) → Read (check_answer key here bar)
@@ -110,12 +110,12 @@ module _ (reads_back : SentAreRead) (s : SetUp) (past : List Entry) (h : OwnPast
   tries_read cs says good f g = unless_found Read (failing k.fails cs) (λ call. record { kind = Fault call (by_of spot); says = says }) good (λ call. f) g
 
   lock_ok : (key : List ℕ) → Read (on_lock spot key)
-  lock_ok key = tries_read (to_lock (gives_locks s) (is_here spot key) (bar_on spot key)) refuses
+  lock_ok key = tries_read (to_lock (gives_locks s) (is_here spot key) (bar_on spot key)) failure_line
       (lock_answer ((state_of s past).made + 1) (now_of spot + hold_time) (by_of spot) key (gives_locks s) (is_here spot key) (bar_on spot key)) refuses_read
       (lock_read ((state_of s past).made + 1) (now_of spot + hold_time) (by_of spot) key (gives_locks s) (is_here spot key) (bar_on spot key))
 
   remove_ok : (key : List ℕ) → Read (on_remove spot key)
-  remove_ok key = tries_read (to_remove (is_here spot key) (bar_on spot key) (is_held spot key)) refuses
+  remove_ok key = tries_read (to_remove (is_here spot key) (bar_on spot key) (is_held spot key)) failure_line
       (remove_answer (by_of spot) key (is_here spot key) (bar_on spot key) (is_held spot key)) refuses_read
       (remove_read (by_of spot) key (is_here spot key) (bar_on spot key) (is_held spot key))
 
@@ -123,7 +123,7 @@ module _ (reads_back : SentAreRead) (s : SetUp) (past : List Entry) (h : OwnPast
   before_ok n key = if_either Read (nat_lt (now_of spot) (1000 * n)) (on_remove spot key) _ (λ e. remove_ok key) (λ e. one_read Failure refl)
 
   put_ok : (key : List ℕ) → Read (on_put spot key)
-  put_ok key = tries_read (to_offer k.part (is_here spot key) (is_filled s (state_of s past) key)) refuses
+  put_ok key = tries_read (to_offer k.part (is_here spot key) (is_filled s (state_of s past) key)) failure_line
       (reply (Talk None) (put_answer k.part (is_here spot key) (is_filled s (state_of s past) key))) refuses_read
       (put_read reads_back k.part small (is_here spot key) (is_filled s (state_of s past) key))
 
@@ -133,7 +133,7 @@ module _ (reads_back : SentAreRead) (s : SetUp) (past : List Entry) (h : OwnPast
 
   request_ok : (v : ℕ) (m : Message) → Read (on_request spot v m)
   request_ok v (Version n) = one_read (Version (min n (version_of s))) (version_read reads_back s past n h)
-  request_ok v (CheckPresent key) = tries_read (calls.Has ∷ []) refuses (check_answer key (is_here spot key) (bar_on spot key)) refuses_read (check_read key (is_here spot key) (bar_on spot key))
+  request_ok v (CheckPresent key) = tries_read (calls.Has ∷ []) failure_line (check_answer key (is_here spot key) (bar_on spot key)) refuses_read (check_read key (is_here spot key) (bar_on spot key))
   request_ok v (LockContent key) = lock_ok key
   request_ok v (Remove key) = remove_ok key
   request_ok v (RemoveBefore n key) = if_either Read (nat_le 3 v) (on_remove_before spot n key) (unexpected_reply spot) (λ e. before_ok n key) (λ e. odd_read reads_back)
@@ -148,7 +148,7 @@ module _ (reads_back : SentAreRead) (s : SetUp) (past : List Entry) (h : OwnPast
       (λ e. tries_read (calls.Unhold ∷ []) [] (silent_reply (Release hold key)) no_read no_read) (λ e. odd_read reads_back)
 
   valid_ok : (key : List ℕ) (size : ℕ) → Read (on_valid spot key size)
-  valid_ok key size = tries_read (to_commit k.right) refuses (valid_answer (by_of spot) size key k.right) refuses_read (valid_read (by_of spot) size key k.right)
+  valid_ok key size = tries_read (to_commit k.right) failure_line (valid_answer (by_of spot) size key k.right) refuses_read (valid_read (by_of spot) size key k.right)
 
   message_ok : (v : ℕ) (doing : Doing) (m : Message) → Read (on_message spot v doing m)
   message_ok v doing (Error text) = close_read

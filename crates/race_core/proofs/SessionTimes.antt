@@ -13,8 +13,8 @@ use Rattle.p2p_wire.specs.declared.message.Message.TheVariants.{AuthSuccess, Ver
 use Rattle.p2p_wire.specs.Messages.{message_of, text_of}
 use Rattle.run_model.specs.Said.{Says, message_in}
 use Rattle.node_model.specs.Sessions.{Doing}
-use Rattle.node_model.specs.SessionStep.{Here, now_of, refuses}
-use Rattle.node_model.specs.Found.{AnswersAbsent, Checked, IsTalk, SaysClose, SaysFault, SaysTalk, SessionKind, agrees}
+use Rattle.node_model.specs.SessionStep.{Here, now_of, failure_line}
+use Rattle.node_model.specs.Found.{AnswersAbsent, CheckFinds, IsTalk, SaysClose, SaysFault, SaysTalk, IsSessionEntry, success_line}
 use Rattle.race_core.proofs.SaidDown.{alike, error_alike, said_bytes, said_closing}
 use Rattle.race_core.proofs.SessionSays.{read_of}
 
@@ -68,10 +68,10 @@ says_close clock (Closing ∷ []) t = (closing_time clock, tt)
 says_close clock (Line text ∷ Closing ∷ []) t = (subst (λ x. IsTime clock (Line x)) (sym t.1) (error_time clock t.0), (closing_time clock, tt))
 says_close clock says t = absurd t
 
-at_refuses : (clock : ℕ) (says : List FrameText) → says ≡ refuses → Times clock says
+at_refuses : (clock : ℕ) (says : List FrameText) → says ≡ failure_line → Times clock says
 at_refuses clock says i = subst (Times clock) (sym i) (failure_time clock, tt)
 
-at_agrees : (clock : ℕ) (says : List FrameText) → says ≡ agrees → Times clock says
+at_agrees : (clock : ℕ) (says : List FrameText) → says ≡ success_line → Times clock says
 at_agrees clock says i = subst (Times clock) (sym i) (success_time clock, tt)
 
 says_fault : (clock : ℕ) (says : List FrameText) → SaysFault says → Times clock says
@@ -83,7 +83,7 @@ absent_time : (clock : ℕ) (asked : Option Message) (key : List ℕ) (says : Li
 absent_time clock asked key says (inl i) = at_refuses clock says i
 absent_time clock asked key says (inr i) = at_agrees clock says i.0
 
-checked_time : (clock : ℕ) (h : Here) (doing : Doing) (asked : Option Message) (key : List ℕ) (says : List FrameText) (what : Found) → Checked h doing asked key says what → Times clock says
+checked_time : (clock : ℕ) (h : Here) (doing : Doing) (asked : Option Message) (key : List ℕ) (says : List FrameText) (what : Found) → CheckFinds h doing asked key says what → Times clock says
 checked_time clock h doing asked key says found.Present x = at_agrees clock says x.says_is
 checked_time clock h doing asked key says found.Absent x = absent_time clock asked key says x.3
 checked_time clock h doing asked key says found.Barred x = at_refuses clock says x.3
@@ -91,7 +91,7 @@ checked_time clock h doing asked key says found.Held x = at_refuses clock says x
 checked_time clock h doing asked key says found.Late x = at_refuses clock says x.2
 checked_time clock h doing asked key says found.Nolock x = at_refuses clock says x.3
 
-pub kind_time : SentAreRead → (h : Here) (doing : Doing) (asked : Option Message) (says : List FrameText) (kind : EntryKind) → now_of h / 1000 < 2 ^ 63 → SessionKind h doing asked says kind → Each (IsTime (now_of h)) says
+pub kind_time : SentAreRead → (h : Here) (doing : Doing) (asked : Option Message) (says : List FrameText) (kind : EntryKind) → now_of h / 1000 < 2 ^ 63 → IsSessionEntry h doing asked says kind → Each (IsTime (now_of h)) says
 kind_time reads_back h doing asked says (Share hold end by key) small x = at_agrees (now_of h) says x.says_is
 kind_time reads_back h doing asked says (Check what key) small x = checked_time (now_of h) h doing asked key says what x
 kind_time reads_back h doing asked says (Gone by key) small x = at_agrees (now_of h) says x.says_is

@@ -16,7 +16,7 @@ use Rattle.run_data.specs.declared.entry.FrameText.TheVariants.{Closing, Line}
 use Rattle.run_data.specs.declared.job.Outcome.{Outcome}
 use Rattle.run_data.specs.declared.run.Run.{Run}
 use Rattle.run_data.specs.Repos.{IsSetUp}
-use Rattle.node_model.specs.Slots.{Running}
+use Rattle.node_model.specs.Slots.{RunningJob}
 use Rattle.run_model.specs.Past.{is_of, jobs}
 use Rattle.run_model.specs.Said.{message_in}
 use Rattle.run_model.specs.Frames.{is_job}
@@ -29,10 +29,10 @@ use Rattle.node_model.specs.SetUp.{SetUp}
 use Rattle.node_model.specs.AnyTime.{MayCome}
 use Rattle.node_model.specs.Ends.{End, EndName, end_after, frames}
 use Rattle.node_model.specs.Jobs
-use Rattle.node_model.specs.Jobs.{Work, job_end, partner, running}
+use Rattle.node_model.specs.Jobs.{Work, job_end, partner, running_job}
 use Rattle.node_model.specs.Look.{Made}
 use Rattle.node_model.specs.JobStep.{Turn, end_with, me}
-use Rattle.node_model.specs.Found.{JobKind}
+use Rattle.node_model.specs.Found.{IsJobEntry}
 use Rattle.run_model.specs.Run.{OwnPart, OwnRun, RunPast, RunStep, set_up}
 use Rattle.race_core.proofs.SaidDown.{said_closing}
 use Rattle.race_core.proofs.JobKept.{kind_kept}
@@ -113,7 +113,7 @@ line_closes : (a : EndName) (c : End) (text : List ℕ) (g : FrameView) → Memb
 line_closes a c text g (inl is) body = let no' : Line text ≡ Closing = sym (ap (λ (f : FrameView). f.body) is) ∙ body in cc
 line_closes a c text g (inr m) body = m
 
-close_talks : (t : Turn) (m : Made) (kind : EntryKind) → JobKind t m kind → ((j : ℕ) (outcome : Outcome) → kind ≢ ends_job j outcome) → (g : FrameView) → Member g m.sent → g.body ≡ Closing → kind ≡ Talk (Some t.w.number)
+close_talks : (t : Turn) (m : Made) (kind : EntryKind) → IsJobEntry t m kind → ((j : ℕ) (outcome : Outcome) → kind ≢ ends_job j outcome) → (g : FrameView) → Member g m.sent → g.body ≡ Closing → kind ≡ Talk (Some t.w.number)
 close_talks t m (Share hold end by key) x on g k body = absurd (subst (Member g) x.sends_none k)
 close_talks t m (Bar j need key) x on g k body = absurd (subst (Member g) x.sends_none k)
 close_talks t m (Gone by key) x on g k body = absurd (subst (Member g) x.sends_none k)
@@ -160,7 +160,7 @@ module _ (reads_back : SentAreRead) (run : Run) (repos : Each IsSetUp run.repos)
   talking = conversing reads_back run repos past h r
 
   grows : (w : Work) (p : ℕ) → ClosedWith past r w.number p → ClosedWith (e ∷ past) r w.number p
-  grows w p x = closed_grows r e past (running w) p x
+  grows w p x = closed_grows r e past (running_job w) p x
 
   closed_after : (w : Work) (p : ℕ) → (end_at (e ∷ past) r (job_end w p)).opened ≡ false → (end_after (job_end w p) (end_at past r (job_end w p)) e).opened ≡ false
   closed_after w p o = sym (ap (λ (c : End). c.opened) (end_own r past (job_end w p) e own)) ∙ o
@@ -181,7 +181,7 @@ module _ (reads_back : SentAreRead) (run : Run) (repos : Each IsSetUp run.repos)
 
       not_end : (j : ℕ) (outcome : Outcome) → y.made.kind ≢ ends_job j outcome
       not_end j outcome k =
-          let found = subst (JobKind (turn_at s past e y) y.made) k (stepped_found s past e y).found in
+          let found = subst (IsJobEntry (turn_at s past e y) y.made) k (stepped_found s past e y).found in
           b.goes_on outcome (kind_is ∙ (k ∙ ap (λ n. ends_job n outcome) (found.number_is ∙ ap (λ (w : Work). w.number) same)))
 
       go : TookClose (job_end x p) e ⊎ SentClose (job_end x p) e → ClosedWith (e ∷ past) r x.number p
@@ -212,20 +212,20 @@ module _ (reads_back : SentAreRead) (run : Run) (repos : Each IsSetUp run.repos)
       v : Work
       v = b.by.w
 
-      like : running x ≡ running v
-      like = ap running b.work_is ∙ kind_kept (rows_at past r) r b.by.w e e.kind
+      like : running_job x ≡ running_job v
+      like = ap running_job b.work_is ∙ kind_kept (rows_at past r) r b.by.w e e.kind
 
       number : x.number ≡ v.number
-      number = ap (λ (j : Running). j.number) like
+      number = ap (λ (j : RunningJob). j.number) like
 
       moved_is : x ≡ moved (turn_at s past e b.by) b.by.made b.by.made.kind
       moved_is = entry_moved s past e x b
 
       on_moved : partner b.by.w.what.peer (moved (turn_at s past e b.by) b.by.made b.by.made.kind).phase ≡ Some p
-      on_moved = ap (λ (o : Option ℕ). partner o (moved (turn_at s past e b.by) b.by.made b.by.made.kind).phase) (sym (ap (λ (j : Running). j.what.peer) like)) ∙ (ap (λ (z : Work). partner x.what.peer z.phase) (sym moved_is) ∙ on)
+      on_moved = ap (λ (o : Option ℕ). partner o (moved (turn_at s past e b.by) b.by.made b.by.made.kind).phase) (sym (ap (λ (j : RunningJob). j.what.peer) like)) ∙ (ap (λ (z : Work). partner x.what.peer z.phase) (sym moved_is) ∙ on)
 
       closed_v : (end_at (e ∷ past) r (job_end b.by.w p)).opened ≡ false
-      closed_v = subst (λ q. (end_at (e ∷ past) r (record { peer = p; slot = q; client = true })).opened ≡ false) (ap (λ (j : Running). j.slot) like) closed
+      closed_v = subst (λ q. (end_at (e ∷ past) r (record { peer = p; slot = q; client = true })).opened ≡ false) (ap (λ (j : RunningJob). j.slot) like) closed
 
       shut_made : (end_after (job_end b.by.w p) (end_at past r (job_end b.by.w p)) (made_entry (turn_at s past e b.by) b.by.made)).opened ≡ false
       shut_made = subst (λ (z : Entry). (end_after (job_end b.by.w p) (end_at past r (job_end b.by.w p)) z).opened ≡ false) b.by.is (closed_after b.by.w p closed_v)
@@ -258,4 +258,4 @@ module _ (reads_back : SentAreRead) (run : Run) (repos : Each IsSetUp run.repos)
     where
       go : ShutStands past r → (b : Bool) → is_of r e ≡ b → ShutStands (e ∷ past) r
       go was true own = own_stands reads_back run repos past e h.1 h.0 r own was
-      go was false other = λ w m p on closed. closed_grows r e past (running w) p (was w (rw other at m) p on (rw other at closed))
+      go was false other = λ w m p on closed. closed_grows r e past (running_job w) p (was w (rw other at m) p on (rw other at closed))

@@ -16,7 +16,7 @@ use Rattle.race_core.proofs.JobKept.{kind_kept}
 use Rattle.race_core.proofs.JobSteps.{Origin, Steps, invariant, turn_at}
 use Rattle.race_core.proofs.WorkFits.{step_runs, works_fit, steps_good}
 use Rattle.run_data.specs.declared.job.SourceFailure.{SourceFailure}
-use Rattle.node_model.specs.Slots.{Running}
+use Rattle.node_model.specs.Slots.{RunningJob}
 use Rattle.node_model.specs.TransferStep.{sources}
 use Rattle.race_core.proofs.TalkFacts.{Fits}
 use Rattle.race_core.proofs.JobMoves.{Moves, kind_moves}
@@ -105,7 +105,7 @@ module _ (s : SetUp) (past : List Entry) (e : Entry) (run : OwnRun s past) (x : 
       ]
 
   step_in_order : InOrderOf s x
-  step_in_order = subst (InOrderOf s) (sym b.work_is) (subst (λ (j : Running). InOrder s j.what.peer y.part y.phase y.causes) (sym (kind_kept (rows_at past s.number) s.number v e e.kind)) (record { listed = now_listed; asked = now_asked }))
+  step_in_order = subst (InOrderOf s) (sym b.work_is) (subst (λ (j : RunningJob). InOrder s j.what.peer y.part y.phase y.causes) (sym (kind_kept (rows_at past s.number) s.number v e e.kind)) (record { listed = now_listed; asked = now_asked }))
 
 in_order : (s : SetUp) (past : List Entry) → OwnRun s past → (w : Work) → Member w (works past s.number) → InOrderOf s w
 in_order s past run w m = invariant s (λ p x. InOrderOf s x) (λ p e is x n was. was) own past run w m

@@ -16,7 +16,7 @@ use Rattle.node_model.specs.SetUp.{SetUp}
 use Rattle.node_model.specs.Jobs.{job_end}
 use Rattle.node_model.specs.Look.{Made}
 use Rattle.node_model.specs.JobStep.{Turn, end_with, farewell, others_of}
-use Rattle.node_model.specs.Found.{JobKind, JobTakes, agrees}
+use Rattle.node_model.specs.Found.{IsJobEntry, JobTakes, success_line}
 use Rattle.run_data.specs.declared.entry.FrameText.TheVariants.{Line}
 use Rattle.p2p_wire.specs.Messages.{order_of, text_of}
 use Rattle.race_core.proofs.JobSteps.{Stepped, stepped_found, turn_at}
@@ -44,12 +44,12 @@ farewells_at t lost (p ∷ peers) g m = go (λ n. farewells_at t lost peers g n)
 none_at : (slot : ℕ) (sent : List FrameView) (g : FrameView) → sent ≡ [] → Member g sent → AtSlot slot g
 none_at slot sent g is m = absurd (subst (Member g) is m)
 
-job_says : (t : Turn) (m : Made) (kind : EntryKind) → JobKind t m kind → (g : FrameView) → Member g m.sent → AtSlot t.w.slot g
+job_says : (t : Turn) (m : Made) (kind : EntryKind) → IsJobEntry t m kind → (g : FrameView) → Member g m.sent → AtSlot t.w.slot g
 job_says t m (Share hold end by key) x g n = none_at t.w.slot m.sent g x.sends_none n
 job_says t m (Bar j need key) x g n = none_at t.w.slot m.sent g x.sends_none n
 job_says t m (Gone by key) x g n = none_at t.w.slot m.sent g x.sends_none n
 job_says t m (Order j peer deadline need key) x g n = frames_at (job_end t.w peer) (end_with t peer) (Line (text_of (order_of deadline key)) ∷ []) g refl (subst (Member g) x.sent_is n)
-job_says t m (Gain by size key) x g n = frames_at (job_end t.w x.peer) (end_with t x.peer) agrees g refl (subst (Member g) x.sent_is n)
+job_says t m (Gain by size key) x g n = frames_at (job_end t.w x.peer) (end_with t x.peer) success_line g refl (subst (Member g) x.sent_is n)
 job_says t m (ends_job j outcome) x g n = farewells_at t (is_lost_ordered outcome) (others_of t) g (subst (Member g) x.sent_is n)
 job_says t m (Talk (Some j)) x g n = elim (x.1) [
   | inl none ↦ none_at t.w.slot m.sent g none n

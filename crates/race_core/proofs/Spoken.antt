@@ -15,14 +15,14 @@ use Rattle.run_data.specs.declared.job.Job.{Job}
 use Rattle.run_data.specs.declared.run.RepoView.{RepoView}
 use Rattle.run_data.specs.Repos.{IsSetUp, id_of, offset_of}
 use Rattle.run_model.specs.Past.{Always, clock, is_of, jobs, jobs_after, clock_set, set_after}
-use Rattle.node_model.specs.Slots.{Running}
+use Rattle.node_model.specs.Slots.{RunningJob}
 use Rattle.node_model.specs.Clocks.{ClockSet}
 use Rattle.p2p_wire.specs.declared.message.Message.TheVariants.{AuthSuccess, CheckPresent, Data, Get, LockContent, Put, PutFrom, Remove, RemoveBefore, Timestamp, UnlockContent, Version}
 use Rattle.p2p_wire.specs.Messages.{message_of, text_of}
 use Rattle.node_model.specs.SetUp.{SetUp, version_in, version_of}
 use Rattle.run_model.specs.States.{content, works, state_of}
 use Rattle.node_model.specs.Rows.{content_after}
-use Rattle.node_model.specs.Jobs.{Work, running}
+use Rattle.node_model.specs.Jobs.{Work, running_job}
 use Rattle.node_model.specs.AnyTime.{IsPeer, MayCome}
 use Rattle.node_model.specs.SessionStep.{bytes_left}
 use Rattle.run_model.specs.Run.{IsBounded, IsSmall, IsStep, OwnPart, OwnPast, OwnRun}
@@ -49,9 +49,9 @@ begins_well s past words e own job what is = elim (own.does) [
       | inr y ↦ y.found
     ]
 
-after_well : (s : SetUp) (js : List Running) (kind : EntryKind) → ((job : ℕ) (what : Job) → kind ≡ Begin job what → BegunWell s what) → Each (λ j. BegunWell s j.what) js → Each (λ j. BegunWell s j.what) (jobs_after js kind)
+after_well : (s : SetUp) (js : List RunningJob) (kind : EntryKind) → ((job : ℕ) (what : Job) → kind ≡ Begin job what → BegunWell s what) → Each (λ j. BegunWell s j.what) js → Each (λ j. BegunWell s j.what) (jobs_after js kind)
 after_well s js (Begin job what) next x = (next job what refl, x)
-after_well s js (ends_job job outcome) next x = Each-filter (λ (j : Running). BegunWell s j.what) (λ (j : Running). not (j.number == job)) js x
+after_well s js (ends_job job outcome) next x = Each-filter (λ (j : RunningJob). BegunWell s j.what) (λ (j : RunningJob). not (j.number == job)) js x
 after_well s js (Crash clock) next x = tt
 after_well s js kind next x = x
 
@@ -66,7 +66,7 @@ jobs_well s (e ∷ past) run = go (jobs_well s past run.1) (is_of s.number e) re
 -- each running job has a key's text, and a peer that is another repository
 pub works_well : (s : SetUp) (past : List Entry) (w : Work) → OwnRun s past → Member w (works past s.number) → BegunWell s w.what
 works_well s past w run member =
-    each_map (λ (j : Running). BegunWell s j.what) running (works past s.number) w (subst (Each (λ (j : Running). BegunWell s j.what)) (sym (jobs_are past s.number)) (jobs_well s past run)) member
+    each_map (λ (j : RunningJob). BegunWell s j.what) running_job (works past s.number) w (subst (Each (λ (j : RunningJob). BegunWell s j.what)) (sym (jobs_are past s.number)) (jobs_well s past run)) member
 
 -- ---- sizes
 

@@ -13,13 +13,13 @@ use Rattle.run_model.specs.Past.{decided_after, is_of}
 use Rattle.run_model.specs.Frames
 use Rattle.run_model.specs.Frames.{is_job}
 use Rattle.node_model.specs.SetUp.{SetUp}
-use Rattle.node_model.specs.Jobs.{AsksTime, Drops, Gets, Greets, Next, Part, Puts, Rows, Work, work_kind}
+use Rattle.node_model.specs.Jobs.{AsksTime, Drops, Gets, Greets, Next, Part, Puts, RowsAndEnds, Work, work_kind}
 use Rattle.run_model.specs.States.{rows_at, works}
 use Rattle.node_model.specs.Look.{Made}
 use Rattle.node_model.specs.JobStep.{Turn}
 use Rattle.node_model.specs.DropStep.{target}
 use Rattle.run_model.specs.Run.{OwnRun}
-use Rattle.node_model.specs.Found.{JobKind}
+use Rattle.node_model.specs.Found.{IsJobEntry}
 use Rattle.race_core.proofs.TalkFacts.{Fits, OrderStands, SaysOne, TalkKind}
 use Rattle.race_core.proofs.PhaseFacts.{SentReads, is_fresh, only_word}
 use Rattle.race_core.proofs.JobSteps.{Origin, invariant, turn_at}
@@ -43,7 +43,7 @@ talk_none t m Gets is none one reads = sent_copies t.w.part m.sent (λ e. let no
 talk_none t m Puts is none one reads = sent_copies t.w.part m.sent (λ e. let no_drop : Puts ≡ Drops = sym is ∙ e in cc) one reads
 talk_none t m Drops is none one reads = no_copies m.sent (none is)
 
-start_kind : (t : Turn) (m : Made) (rows : Rows) (r : ℕ) (e : Entry) (place : ℕ) (kind : EntryKind) → JobKind t m kind → TalkKind t m kind → Fits t.w.part t.w.phase → SentReads t.w.part m.sent
+start_kind : (t : Turn) (m : Made) (rows : RowsAndEnds) (r : ℕ) (e : Entry) (place : ℕ) (kind : EntryKind) → IsJobEntry t m kind → TalkKind t m kind → Fits t.w.part t.w.phase → SentReads t.w.part m.sent
     → AtStart t.w.part t.w.phase → AtStart (work_kind rows r t.w e kind).part (work_kind rows r t.w e kind).phase → ((j : ℕ) (outcome : Outcome) → kind ≢ ends_job j outcome) → AsksNone t m place kind
 start_kind t m rows r e place (Share hold end by key) x y fits reads old new goes_on = absurd (let no_next : is_fresh Next ≡ true = new x.part_is in cc)
 start_kind t m rows r e place (Bar j need key) x y fits reads old new goes_on = absurd (let no_next : is_fresh Next ≡ true = new x.part_is in cc)

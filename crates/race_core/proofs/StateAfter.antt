@@ -21,7 +21,7 @@ use Rattle.run_data.specs.Files.{file_path, kind_of}
 use Rattle.race_core.proofs.LogLemmas.{kept_reads_as_ever}
 use Rattle.node_model.specs.SetUp.{SetUp}
 use Rattle.run_model.specs.States.{end_at, content, session, works, owes, state_of}
-use Rattle.node_model.specs.After.{clock_after, first_state, state_after}
+use Rattle.node_model.specs.After.{clock_after, state_after}
 use Rattle.race_core.proofs.OwnState.{own, state_own}
 
 -- ---- the lines of its files
@@ -64,10 +64,6 @@ if_other b x y is = rw is refl
 pub kept_after : LogLaws → (past : List Entry) (r : ℕ) (e : Entry) → is_of r e ≡ true → lines_of_file (e ∷ past) r ≡ (λ path. lines_after path (lines_of_file past r path) e.kind e.lines)
 kept_after log_laws past r e is = funext (lines_of_file (e ∷ past) r) (λ path. lines_after path (lines_of_file past r path) e.kind e.lines)
     (λ path. ap (λ (files : Files). lines_at files path) (if_own (is_of r e) (branch_after (branch past r) e.kind e.lines) (branch past r) is) ∙ lines_same log_laws path (branch past r) e.kind e.lines)
-
--- the state before the first entry
-pub first_is : (s : SetUp) → state_of s [] ≡ first_state s
-first_is s = refl
 
 -- **all but what jobs have read**, whatever the past is
 pub after_is : LogLaws → (s : SetUp) (past : List Entry) (e : Entry) → is_of s.number e ≡ true

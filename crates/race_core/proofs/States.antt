@@ -19,7 +19,7 @@ use Rattle.race_core.proofs.LogLemmas.{kept_reads_as_ever}
 use Rattle.node_model.specs.SetUp.{SetUp}
 use Rattle.node_model.specs.State.{State}
 use Rattle.run_model.specs.States.{state_of, works}
-use Rattle.node_model.specs.After.{has_read, read_after, state_after, states, Agrees}
+use Rattle.node_model.specs.After.{has_read, read_after, state_after, states, AgreesAtDrops}
 use Rattle.node_model.specs.Files.{lines_after}
 use Rattle.node_model.specs.Jobs.{Drops, Fresh, Gets, Part, Phase, Puts, Work}
 use Rattle.node_model.specs.Look.{Look}
@@ -178,12 +178,12 @@ module _ (log_laws : LogLaws) (reads_back : SentAreRead) (s : SetUp) (past : Lis
       go Puts at = comes (λ d. let no_drop : Puts ≡ Drops = sym at ∙ d in absurd (cc))
 
   -- **the state after an entry agrees with what the past says then**
-  pub after_agrees : Agrees (state_of s (e ∷ past)) (state_after s (state_of s past) e)
+  pub after_agrees : AgreesAtDrops (state_of s (e ∷ past)) (state_after s (state_of s past) e)
   after_agrees = record { same = after_is log_laws s past e is; reads = λ w m part. by_origin w (origin s past e h.run is w m) part }
 
 -- ---- states that agree do so after an entry too
 
-pub after_same : (s : SetUp) (st other : State) (e : Entry) → Agrees st other → state_after s st e ≡ state_after s other e
+pub after_same : (s : SetUp) (st other : State) (e : Entry) → AgreesAtDrops st other → state_after s st e ≡ state_after s other e
 after_same s st other e agrees =
     ap (λ z. state_after s z e) agrees.same
     ∙ (λ i. record (state_after s other e) { read = funext (λ j. read_after logs (st.read j) (find (λ w. w.number == j) other.works)) (λ j. read_after logs (other.read j) (find (λ w. w.number == j) other.works)) read_same i })
@@ -208,13 +208,13 @@ after_same s st other e agrees =
                 subst (λ n. st.read n ≡ other.read n) (eqb-true w.number j was.1) (agrees.reads w (subst (Member w) (sym works_same) was.0) (read_drops w.part w.phase is))
 
 -- **the state that is carried over a repository's own entries agrees with what the past says**
-pub states_agree : LogLaws → SentAreRead → (s : SetUp) (past : List Entry) → OwnPast s past → Agrees (state_of s past) (states s (own s.number past))
+pub states_agree : LogLaws → SentAreRead → (s : SetUp) (past : List Entry) → OwnPast s past → AgreesAtDrops (state_of s past) (states s (own s.number past))
 states_agree log_laws reads_back s [] h = record { same = refl; reads = λ w m. absurd m }
 states_agree log_laws reads_back s (e ∷ past) h = go (states_agree log_laws reads_back s past (earlier s past e h)) (is_of s.number e) refl
   where
-    go : Agrees (state_of s past) (states s (own s.number past)) → (b : Bool) → is_of s.number e ≡ b → Agrees (state_of s (e ∷ past)) (states s (if b then e ∷ own s.number past else own s.number past))
-    go was true is = subst (Agrees (state_of s (e ∷ past))) (after_same s (state_of s past) (states s (own s.number past)) e was) (after_agrees log_laws reads_back s past e h is)
-    go was false is = subst (λ st. Agrees st (states s (own s.number past))) (sym (other_is s past e is)) was
+    go : AgreesAtDrops (state_of s past) (states s (own s.number past)) → (b : Bool) → is_of s.number e ≡ b → AgreesAtDrops (state_of s (e ∷ past)) (states s (if b then e ∷ own s.number past else own s.number past))
+    go was true is = subst (AgreesAtDrops (state_of s (e ∷ past))) (after_same s (state_of s past) (states s (own s.number past)) e was) (after_agrees log_laws reads_back s past e h is)
+    go was false is = subst (λ st. AgreesAtDrops st (states s (own s.number past))) (sym (other_is s past e is)) was
 
 -- **so a step is one from the state that is carried**
 pub step_states : LogLaws → SentAreRead → (s : SetUp) (past : List Entry) (k : Look) → OwnPast s past → step s (state_of s past) k ≡ step s (states s (own s.number past)) k

@@ -20,10 +20,10 @@ use Rattle.node_model.specs.SessionStep.{here, session_step}
 use Rattle.node_model.specs.JobStep.{turn_of}
 use Rattle.node_model.specs.Turns.{job_step}
 use Rattle.node_model.specs.Step.{step}
-use Rattle.node_model.specs.Found.{ByJob, ByOwed, BySession, JobKind, SessionKind, StepFound}
-use Rattle.race_core.proofs.Cases.{first_was}
-use Rattle.race_core.proofs.SessionFacts.{session_found}
-use Rattle.race_core.proofs.JobFacts.{job_found}
+use Rattle.node_model.specs.Found.{ByJob, ByOwed, BySession, IsJobEntry, IsSessionEntry, StepFound}
+use Rattle.race_core.proofs.Cases.{TakesAtHand, first_was, takes_none}
+use Rattle.race_core.proofs.SessionFacts.{session_at_hand, session_found}
+use Rattle.race_core.proofs.JobFacts.{job_at_hand, job_found}
 use Rattle.node_model.specs.Look
 
 -- ---- the law
@@ -63,6 +63,13 @@ step_found s st k m e = elim (first_was (owed_step s st k) (Look.first_of (sessi
       | inr x ↦ inr (job_found s st k m x)
     ]
 
+-- what it takes is at hand
+pub taken_at_hand : (s : SetUp) (st : State) (k : Look) (m : Made) → step s st k ≡ Some m → TakesAtHand k m
+taken_at_hand s st k m e = elim (first_was (owed_step s st k) (Look.first_of (session_step s st k) (job_step s st k)) m e) [
+  | inl o ↦ takes_none k m (elim ((pays_found s st k m st.owed refl o).writes) [ inl w ↦ ap (λ (z : Made). z.taken) w | inr w ↦ ap (λ (z : Made). z.taken) w ])
+  | inr r ↦ elim (first_was (session_step s st k) (job_step s st k) m r) [ inl x ↦ session_at_hand s st k m x | inr x ↦ job_at_hand s st k m x ]
+]
+
 -- ---- by its kind
 
 -- the kinds of an entry that writes an owed line
@@ -80,12 +87,12 @@ owed_kind s st k m kind x is = elim (x.writes) [
 -- a session made it, and found this
 pub record SessionMade (s : SetUp) (st : State) (k : Look) (m : Made) (kind : EntryKind) : Type 0 where
   pub by : BySession s st k m
-  pub found : SessionKind (here s st k (server_end by.peer by.slot)) (st.sessions (server_end by.peer by.slot)).doing by.asked by.says kind
+  pub found : IsSessionEntry (here s st k (server_end by.peer by.slot)) (st.sessions (server_end by.peer by.slot)).doing by.asked by.says kind
 
 -- a job made it, and found this
 pub record JobMade (s : SetUp) (st : State) (k : Look) (m : Made) (kind : EntryKind) : Type 0 where
   pub by : ByJob s st k m
-  pub found : JobKind (turn_of s st k by.w) m kind
+  pub found : IsJobEntry (turn_of s st k by.w) m kind
 
 -- an entry of a kind that writes no owed line is a session's or a job's
 pub kind_found : (s : SetUp) (st : State) (k : Look) (m : Made) (kind : EntryKind) → step s st k ≡ Some m → m.kind ≡ kind → (IsOwedKind kind → ⊥)
@@ -96,8 +103,8 @@ kind_found s st k m kind e is not = elim (step_found s st k m e) [
 ]
   where
     made : BySession s st k m ⊎ ByJob s st k m → SessionMade s st k m kind ⊎ JobMade s st k m kind
-    made (inl x) = inl (record { by = x; found = subst (SessionKind (here s st k (server_end x.peer x.slot)) (st.sessions (server_end x.peer x.slot)).doing x.asked x.says) is x.found })
-    made (inr x) = inr (record { by = x; found = subst (JobKind (turn_of s st k x.w) m) is x.found })
+    made (inl x) = inl (record { by = x; found = subst (IsSessionEntry (here s st k (server_end x.peer x.slot)) (st.sessions (server_end x.peer x.slot)).doing x.asked x.says) is x.found })
+    made (inr x) = inr (record { by = x; found = subst (IsJobEntry (turn_of s st k x.w) m) is x.found })
 
 module _ (s : SetUp) (st : State) (k : Look) (m : Made) (e : step s st k ≡ Some m) where
   -- a share for a peer: LOCKCONTENT found the content free
@@ -176,5 +183,5 @@ module _ (s : SetUp) (st : State) (k : Look) (m : Made) (e : step s st k ≡ Som
   log_found file is = elim (step_found s st k m e) [ inl o ↦ o | inr r ↦ absurd (none r) ]
     where
       none : BySession s st k m ⊎ ByJob s st k m → ⊥
-      none (inl x) = subst (SessionKind (here s st k (server_end x.peer x.slot)) (st.sessions (server_end x.peer x.slot)).doing x.asked x.says) is x.found
-      none (inr x) = subst (JobKind (turn_of s st k x.w) m) is x.found
+      none (inl x) = subst (IsSessionEntry (here s st k (server_end x.peer x.slot)) (st.sessions (server_end x.peer x.slot)).doing x.asked x.says) is x.found
+      none (inr x) = subst (IsJobEntry (turn_of s st k x.w) m) is x.found

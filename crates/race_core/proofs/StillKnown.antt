@@ -19,7 +19,7 @@ use Rattle.run_data.specs.declared.job.Outcome.TheVariants.{Refused}
 use Rattle.run_data.specs.declared.job.DropRefusal.TheVariants as refusals
 use Rattle.node_model.specs.Clocks.{ClockSet, runs_on}
 use Rattle.run_model.specs.Past.{Occurs, clock, clock_set, is_of}
-use Rattle.node_model.specs.Slots.{Running}
+use Rattle.node_model.specs.Slots.{RunningJob}
 use Rattle.run_data.specs.Repos.{id_of}
 use Rattle.run_model.specs.Logs.{read_at, settings_of}
 use Rattle.node_model.specs.Evidence.{candidates, gather, reached_candidates, standing_by}
@@ -27,11 +27,11 @@ use Rattle.node_model.specs.SetUp.{SetUp}
 use Rattle.node_model.specs.State.{State}
 use Rattle.run_model.specs.States.{state_of, rows_at, works}
 use Rattle.node_model.specs.Jobs
-use Rattle.node_model.specs.Jobs.{AsksTime, Drops, Ends, Heard, Late, Next, Phase, Work, running, side_of, target_of}
+use Rattle.node_model.specs.Jobs.{AsksTime, Drops, Ends, Heard, Late, Next, Phase, Work, running_job, side_of, target_of}
 use Rattle.node_model.specs.Knows.{is_unasked, offer_by, standing_of, reading}
 use Rattle.race_core.proofs.Knowing.{known, knows_enough, next_of}
 use Rattle.node_model.specs.JobStep.{Turn}
-use Rattle.node_model.specs.Found.{JobKind}
+use Rattle.node_model.specs.Found.{IsJobEntry}
 use Rattle.run_model.specs.Run.{OwnPast, OwnRun}
 use Rattle.race_core.proofs.JobSteps.{Origin, Steps, invariant, turn_at}
 use Rattle.race_core.proofs.JobKept.{kind_kept}
@@ -153,8 +153,8 @@ module _ (reads_back : SentAreRead) (s : SetUp) (p : List Entry) (e : Entry) (h 
     abbrev t : Turn
     t = turn_at s p e b.by
 
-    same_job : running x ≡ running v
-    same_job = ap running b.work_is ∙ kind_kept (rows_at p s.number) s.number v e e.kind
+    same_job : running_job x ≡ running_job v
+    same_job = ap running_job b.work_is ∙ kind_kept (rows_at p s.number) s.number v e e.kind
 
     list : ListOrNext v x
     list = subst (ListOrNext v) (sym b.work_is) (kind_carries (rows_at p s.number) s.number v e e.kind).3
@@ -169,7 +169,7 @@ module _ (reads_back : SentAreRead) (s : SetUp) (p : List Entry) (e : Entry) (h 
       set = set_same;
       read = ap (λ n. settings_of (read_at (e ∷ p) s.number n) s.number) (step_number s p e x b)
           ∙ ap (λ q. settings_of q s.number) (step_read p e s.number v.number is b.step ((at_targets reads_back s p before v runs).0 part)).1;
-      what = ap (λ (j : Running). j.what) same_job;
+      what = ap (λ (j : RunningJob). j.what) same_job;
       heard = heard;
     }
 
@@ -180,13 +180,13 @@ module _ (reads_back : SentAreRead) (s : SetUp) (p : List Entry) (e : Entry) (h 
     enough_at : v.part ≡ Drops → side_of v ≡ Remote → at_target (target_of s.number v) v.phase ≡ true → knows_enough s (state_of s p) v ≡ true
     enough_at part side at = (at_targets reads_back s p before v runs).2 part side (other_target s v (aims s p before.run v runs) part side) at
 
-    kind : JobKind t b.by.made e.kind
+    kind : IsJobEntry t b.by.made e.kind
     kind = step_kind s p e x b
 
     late_now : (time : ℕ) (owner : By) → x.phase ≡ Late time → v.phase ≡ AsksTime → e.kind ≡ Fault Unhold owner → time ≡ e.time → KnewAt s (e ∷ p) x (Late time)
     late_now time owner to at k same =
         let part = only_time v.part (subst (Fits v.part) at fits) in
-        let remote : side_of v ≡ Remote = sym (side_is v) ∙ subst (Stands s.number p (running v)) at (stands reads_back s p before v runs) in
+        let remote : side_of v ≡ Remote = sym (side_is v) ∙ subst (Stands s.number p (running_job v)) at (stands reads_back s p before v runs) in
         let peer : v.what.peer ≡ Some (target_of s.number v) = target_peer s v (aims s p before.run v runs) part remote in
         let late : TooLate t = subst (LateBy t) (sym (ap (λ (y : Entry). y.kind) b.by.is) ∙ k) (time_late_by t b.by.made (target_of s.number v) at part peer b.by.does) in
         let knew : Knew s p v late.end = record { part_is = part; enough = enough_at part remote (subst (λ q. at_target (target_of s.number v) q ≡ true) (sym at) refl); first = late.first } in
@@ -199,7 +199,7 @@ module _ (reads_back : SentAreRead) (s : SetUp) (p : List Entry) (e : Entry) (h 
             before = p;
             occurs = inl (refl, refl);
             own = is;
-            kind_is = k ∙ ap (Fault Unhold) (subst (JobKind t b.by.made) k kind).0 ∙ ap (λ n. Fault Unhold (by_job n)) (sym (step_number s p e x b));
+            kind_is = k ∙ ap (Fault Unhold) (subst (IsJobEntry t b.by.made) k kind).0 ∙ ap (λ n. Fault Unhold (by_job n)) (sym (step_number s p e x b));
             time_is = same;
             set = sym set_same;
           },

@@ -34,7 +34,7 @@ use Rattle.node_model.specs.Look.{Look, Made, failing, waiting}
 use Rattle.node_model.specs.SessionStep.{bytes_left}
 use Rattle.node_model.specs.Knows.{enough_by, next_by}
 use Rattle.node_model.specs.JobStep.{Turn, hears, turn_of, attempts, bar_there, by_me, clock_of, end_with, ends, farewells, is_there, key_of, me, owns_share, quietly, says_to, sends_to, talk, wrong}
-use Rattle.node_model.specs.DropStep.{takes_drop, takes_time, asks_copy, asks_lock, asks_target, bars, expiry, first_drop, first_end, first_remote, held_until, in_time, lacking, orders, own_share, removes, required_there, row_refusal, shares, target, times, tries_own}
+use Rattle.node_model.specs.DropStep.{takes_drop, takes_time, asks_copy, asks_lock, asks_target, bars, expiry, first_drop, first_end, first_remote, held_until, in_time, lacking_outcome, orders, own_share, removes, required_there, row_refusal, shares, target, times, tries_own}
 use Rattle.node_model.specs.Requests.{asks, goes_to}
 use Rattle.node_model.specs.TransferStep.{takes_get, takes_put, content_of, first_get, first_put, gains, next_get, next_source, puts_from, puts_piece, takes_bytes}
 use Rattle.node_model.specs.Turns.{takes_answer, awaits, by_partner, goes_on, has_room, needs, slot_step, with_partner, is_awaiting, first_step, goes, judges, next_step, outcome_of, takes, takes_frame, takes_text}
@@ -271,7 +271,7 @@ gone_talks t =
 judges_talks : (t : Turn) → t.w.phase ≡ Next → (enough : Bool) (next : Option ℕ) (side : Side)
     → enough_by t.read t.w ≡ enough → next_by t.read t.w ≡ next → side_of t.w ≡ side → Talks t (judges t enough next side)
 judges_talks t phase false (Some peer) side enough next is = goes_to_talks t peer (λ drops. (phase, inl (enough, next)))
-judges_talks t phase false None side enough next is = ends_talks t None (lacking t)
+judges_talks t phase false None side enough next is = ends_talks t None (lacking_outcome t)
 judges_talks t phase true next Local enough asked is = gone_talks t
 judges_talks t phase true next Remote enough asked is = goes_to_talks t (target t) (λ drops. (phase, inr (enough, is, refl)))
 

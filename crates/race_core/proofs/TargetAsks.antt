@@ -23,7 +23,7 @@ use Rattle.node_model.specs.Jobs.{AsksLock, Drops, Gets, Greets, Next, Opens, Pa
 use Rattle.node_model.specs.Look.{Made}
 use Rattle.node_model.specs.JobStep.{Turn, end_with}
 use Rattle.node_model.specs.DropStep.{target}
-use Rattle.node_model.specs.Found.{JobKind}
+use Rattle.node_model.specs.Found.{IsJobEntry}
 use Rattle.run_model.specs.Run.{OwnPart, OwnRun}
 use Rattle.race_core.proofs.ReadAs.{IsJobs, SameHead}
 use Rattle.race_core.proofs.JobSteps.{Steps, turn_at}
@@ -101,7 +101,7 @@ order_time None key h = h
 order_time (Some n) key h = h
 
 -- GETTIMESTAMP goes to the target, which is another repository
-to_target : (t : Turn) (m : Made) (e : Entry) (kind : EntryKind) → JobKind t m kind → TalkKind t m kind → e.sent ≡ m.sent → ((j : ℕ) (outcome : Outcome) → kind ≢ ends_job j outcome) → (x : SaysFirst e GetTimestamp) → x.f.peer ≡ target t
+to_target : (t : Turn) (m : Made) (e : Entry) (kind : EntryKind) → IsJobEntry t m kind → TalkKind t m kind → e.sent ≡ m.sent → ((j : ℕ) (outcome : Outcome) → kind ≢ ends_job j outcome) → (x : SaysFirst e GetTimestamp) → x.f.peer ≡ target t
 to_target t m e (Share hold end by key) k talk sent goes_on x = absurd (first_none e GetTimestamp m.sent x sent k.sends_none)
 to_target t m e (Bar j need key) k talk sent goes_on x = absurd (first_none e GetTimestamp m.sent x sent k.sends_none)
 to_target t m e (Gone by key) k talk sent goes_on x = absurd (first_none e GetTimestamp m.sent x sent k.sends_none)
@@ -135,4 +135,4 @@ module _ (reads_back : SentAreRead) (s : SetUp) (past : List Entry) (words : ℕ
       let k = step_kind s past e w b in
       let sent : Member x.f b.by.made.sent = subst (Member x.f) (step_sent s past e w b) (first_member e (order_of deadline key) x) in
       let o = orders_order t e.kind x.f deadline key (job_said t b.by.made e.kind k x.f sent) (said_is x.f.body (order_of deadline key) x.told) in
-      (subst (JobKind t b.by.made) o.5 k).side
+      (subst (IsJobEntry t b.by.made) o.5 k).side

@@ -3,7 +3,7 @@ use Rattle.race_core.proofs.WorkFits.{drop_is, drop_jobs, head_of}
 use Rattle.race_core.proofs.PhaseFacts.{only_word, readies_place}
 use Rattle.race_core.proofs.ReadAs.{SameHead}
 use Rattle.node_model.specs.Sessions.{line_in}
-use Rattle.node_model.specs.Found.{JobKind}
+use Rattle.node_model.specs.Found.{IsJobEntry}
 use Rattle.node_model.specs.Look.{Made}
 use Rattle.node_model.specs.Ends.{end_after}
 use Rattle.node_model.specs.Rows.{option_is}
@@ -34,7 +34,7 @@ use Rattle.p2p_wire.specs.declared.message.Message.{Message}
 use Rattle.p2p_wire.specs.declared.message.Message.TheVariants.{Failure, GetTimestamp, Remove, RemoveBefore, Success, Version, CheckPresent, LockContent}
 use Rattle.p2p_wire.specs.Messages.{message_of, order_of, text_of}
 use Rattle.node_model.specs.Jobs
-use Rattle.node_model.specs.Jobs.{AsksLock, AsksLook, AsksTime, Drops, Ends, Fresh, Gets, GetsBytes, GetsData, Greets, Next, Opens, Orders, Part, Phase, Puts, PutsAnswer, PutsBytes, PutsOffer, Rows, Work, claims, closed_part, fault_of, fault_phase, first_look, hears_frame, job_end, learns, listens, quiet, says, says_some, sends, side_of, talks, talks_on, target_of, to_phase, took, took_line, after_failed_release, work_kind}
+use Rattle.node_model.specs.Jobs.{AsksLock, AsksLook, AsksTime, Drops, Ends, Fresh, Gets, GetsBytes, GetsData, Greets, Next, Opens, Orders, Part, Phase, Puts, PutsAnswer, PutsBytes, PutsOffer, RowsAndEnds, Work, claims, closed_part, fault_of, fault_phase, first_look, hears_frame, job_end, learns, listens, quiet, says, says_some, sends, side_of, talks, talks_on, target_of, to_phase, after_frame, after_line, after_failed_release, work_kind}
 use Rattle.node_model.specs.Knows.{enough_by, next_by, Reading, asks_by}
 use Rattle.node_model.specs.JobStep.{Turn, me}
 use Rattle.node_model.specs.DropStep.{target}
@@ -100,7 +100,7 @@ module _ (n : ℕ) (P : Type 0) where
   listens_comes w (PutsAnswer peer start) m f = absurd f
   listens_comes w phase m f = stays w
 
-  line_comes : (w : Work) (m : Option Message) → Fits Drops w.phase → Comes n P w (took_line w m)
+  line_comes : (w : Work) (m : Option Message) → Fits Drops w.phase → Comes n P w (after_line w m)
   line_comes w None f = stays w
   line_comes w (Some m) f = listens_comes w w.phase m f
 
@@ -108,7 +108,7 @@ module _ (n : ℕ) (P : Type 0) where
   gets_comes w k (GetsBytes peer start size left) is f = absurd f
   gets_comes w k phase is f = same_phase w phase is
 
-  took_comes : (w : Work) (body : FrameText) → Fits Drops w.phase → Comes n P w (took w body)
+  took_comes : (w : Work) (body : FrameText) → Fits Drops w.phase → Comes n P w (after_frame w body)
   took_comes w (Bytes k) f = gets_comes w k w.phase refl f
   took_comes w (Line text) f = line_comes w (message_of text) f
   took_comes w body f = stays w
@@ -120,12 +120,12 @@ module _ (n : ℕ) (P : Type 0) where
   first_comes r w Drops true (Some i) is = away w (first_look r w Drops true (Some i)) refl
   first_comes r w Drops true None is = away w (first_look r w Drops true None) refl
 
-  quiet_comes : (rows : Rows) (r : ℕ) (w : Work) (phase : Phase) → w.part ≡ Drops → Comes n P w (quiet rows r w phase)
+  quiet_comes : (rows : RowsAndEnds) (r : ℕ) (w : Work) (phase : Phase) → w.part ≡ Drops → Comes n P w (quiet rows r w phase)
   quiet_comes rows r w Fresh is = first_comes r w w.part (rows.present w.what.key) (rows.bar w.what.key) is
   quiet_comes rows r w Next is = away w (quiet rows r w Next) refl
   quiet_comes rows r w phase is = stays w
 
-  hears_comes : (rows : Rows) (r : ℕ) (w : Work) (taken : Option FrameView) → w.part ≡ Drops → Fits Drops w.phase → Comes n P w (hears_frame rows r w taken)
+  hears_comes : (rows : RowsAndEnds) (r : ℕ) (w : Work) (taken : Option FrameView) → w.part ≡ Drops → Fits Drops w.phase → Comes n P w (hears_frame rows r w taken)
   hears_comes rows r w None is f = quiet_comes rows r w w.phase is
   hears_comes rows r w (Some g) is f = took_comes w g.body f
 
@@ -213,7 +213,7 @@ module _ (t : Turn) (side : side_of t.w ≡ Remote) (apart : target t ≢ me t) 
       go x h = absurd h
 
   -- what it sends, nothing or one frame
-  sent_comes : (rows : Rows) (r : ℕ) (e : Entry) (m : Made) (sent : List FrameView) → t.w.part ≡ Drops → w.part ≡ Drops → Fits Drops w.phase → (sent ≡ []) ⊎ SaysOne t m → sent ≡ m.sent
+  sent_comes : (rows : RowsAndEnds) (r : ℕ) (e : Entry) (m : Made) (sent : List FrameView) → t.w.part ≡ Drops → w.part ≡ Drops → Fits Drops w.phase → (sent ≡ []) ⊎ SaysOne t m → sent ≡ m.sent
       → Comes (target t) (Knew t) w (talks rows r w e sent)
   sent_comes rows r e m sent part mine f (inl none) is =
       subst (λ fs. Comes (target t) (Knew t) w (talks rows r w e fs)) (sym none) (hears_comes (target t) (Knew t) rows r w e.taken mine f)
@@ -221,7 +221,7 @@ module _ (t : Turn) (side : side_of t.w ≡ Remote) (apart : target t ≢ me t) 
       subst (λ fs. Comes (target t) (Knew t) w (talks rows r w e fs)) (sym (is ∙ one.sent_is))
       (talk_comes e.time one.peer (Jobs.taken_message e.taken) one.body f (subst (λ p. PartSays t one.peer p one.body) part one.says))
 
-  on_comes : (rows : Rows) (r : ℕ) (e : Entry) (p : Option ℕ) → w.part ≡ Drops → Comes (target t) (Knew t) w (talks rows r w e e.sent) → Comes (target t) (Knew t) w (talks_on rows r w e p)
+  on_comes : (rows : RowsAndEnds) (r : ℕ) (e : Entry) (p : Option ℕ) → w.part ≡ Drops → Comes (target t) (Knew t) w (talks rows r w e e.sent) → Comes (target t) (Knew t) w (talks_on rows r w e p)
   on_comes rows r e None part said = said
   on_comes rows r e (Some peer) part said =
       if_either (Comes (target t) (Knew t) w) (end_after (job_end w peer) (rows.ends (job_end w peer)) e).opened (talks rows r w e e.sent) (closed_part r w peer w.part)
@@ -246,7 +246,7 @@ readies_heard w taken = go_learns (claims w w.part w.phase) w.phase taken ∙ go
 readied_comes : (n : ℕ) (P : Type 0) (w x y : Work) → x.phase ≡ w.phase → x.heard ≡ w.heard → Comes n P x y → Comes n P w y
 readied_comes n P w x y phase heard c at = let z = c at in (z.0 ∙ heard, subst (λ p. (at_target n p ≡ true) ⊎ P) phase z.1)
 
-pub kind_comes : (t : Turn) (m : Made) (rows : Rows) (r : ℕ) (e : Entry) (kind : EntryKind) → JobKind t m kind → TalkKind t m kind → Fits t.w.part t.w.phase → t.w.part ≡ Drops → side_of t.w ≡ Remote
+pub kind_comes : (t : Turn) (m : Made) (rows : RowsAndEnds) (r : ℕ) (e : Entry) (kind : EntryKind) → IsJobEntry t m kind → TalkKind t m kind → Fits t.w.part t.w.phase → t.w.part ≡ Drops → side_of t.w ≡ Remote
     → target t ≢ me t → e.sent ≡ m.sent → ((j : ℕ) (outcome : Outcome) → kind ≢ ends_job j outcome) → Comes (target t) (Knew t) t.w (work_kind rows r t.w e kind)
 kind_comes t m rows r e (Share hold end by key) x y fits part side apart sent goes_on = away (target t) (Knew t) t.w (work_kind rows r t.w e (Share hold end by key)) refl
 kind_comes t m rows r e (Bar j need key) x y fits part side apart sent goes_on = away (target t) (Knew t) t.w (work_kind rows r t.w e (Bar j need key)) refl

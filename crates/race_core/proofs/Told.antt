@@ -20,10 +20,10 @@ use Rattle.node_model.specs.Rows.{option_is}
 use Rattle.p2p_wire.specs.declared.message.Message.TheVariants.{CheckPresent, LockContent, Success}
 use Rattle.run_model.specs.Said.{Said, Says, message_in, is_request}
 use Rattle.race_core.proofs.Ways.{is_answer, way_from, down_of, answers}
-use Rattle.run_model.specs.Frames.{Way, Flying, MayTake, Sent, is_on, is_job, on_way, sender, sender_of, frames_sent, sent_of, taker_of, taken_count, taken_if, takes, way_of, up_of, last_request}
+use Rattle.run_model.specs.Frames.{Way, FlyingFrame, MayTake, SendingEntry, is_on, is_job, on_way, sender, sender_of, frames_sent, sending_entry, taker_of, taken_count, taken_if, takes, way_of, up_of, last_request}
 use Rattle.node_model.specs.Slots.{job_of}
 use Rattle.node_model.specs.Ends.{same_bool}
-use Rattle.run_model.specs.Drops.{Asker, Vouch, Lock, Look, asked_at, asker, asker_by, asker_of, is_asker, newer, reply, tells, told_by, vouch, vouch_kind}
+use Rattle.run_model.specs.Drops.{Asker, Vouch, Lock, Look, asked_at, asker, asker_by, asker_of, is_asker, newer, reply, tells, vouches_sent, vouch, vouch_kind}
 use Rattle.race_core.proofs.Heard.{Heard, Locked_at, Seen_there, heard, heard_answer, heard_frame, heard_kind, heard_request, hears, newer_heard}
 use Rattle.race_core.proofs.Own.{Meets, MessagePast, Own, SaysYes, asks_copy, uses}
 use Rattle.std.specs.List.{list_any}
@@ -146,7 +146,7 @@ success_is : (m : Said) → is_success m ≡ true → m ≡ Says Success
 success_is (Says Success) h = refl
 success_is _ h = cc
 
-heard_nothing : (m : Said) (o : Option Flying) → is_success m ≡ false → heard_answer m o ≡ []
+heard_nothing : (m : Said) (o : Option FlyingFrame) → is_success m ≡ false → heard_answer m o ≡ []
 heard_nothing (Says Success) o h = cc
 heard_nothing _ o h = refl
 
@@ -240,13 +240,13 @@ pub record Takes (repos : List RepoView) (past : List Entry) (e : Entry) (a j r 
   pub peer_is : f.peer ≡ r
 
 -- the request that was granted by the sender of the SUCCESS that the job takes is the job's last
-pub record Granted (past : List Entry) (a j r : ℕ) (f : FrameView) (it : Flying) : Type 0 where
+pub record Granted (past : List Entry) (a j r : ℕ) (f : FrameView) (it : FlyingFrame) : Type 0 where
   pub g : FrameView
-  pub asked : Flying
+  pub asked : FlyingFrame
   pub last : last_request past (up_of (way_of a f)) ≡ Some asked
   pub body_is : asked.frame.body ≡ g.body
   pub taken_is : it.entry.taken ≡ Some g
-  pub by : sender it.before r it.entry.taken ≡ Some (sent_of asked)
+  pub by : sender it.before r it.entry.taken ≡ Some (sending_entry asked)
   pub repo_is : asked.entry.repo ≡ Some a
   pub job_is : job_of asked.entry.kind ≡ Some j
   pub occurs : Occurs past asked.entry asked.before
@@ -260,8 +260,8 @@ some_option (Some m) r h = ap (λ x. Some x) (eqb-true m r h)
 pub up_at : (w : Way) (x : Entry) (g : FrameView) (b : Bool) → Member g (on_way w x) → w.up ≡ b → g.up ≡ b
 up_at w x g b m h = (on_parts w (taker_of w) g (sends_on w x g m)).up_is ∙ h
 
-pub sender_at : (past : List Entry) (r : ℕ) (o : Option FrameView) (f : FrameView) (it : Flying) → o ≡ Some f → slice_get (frames_sent past (way_of r f)) (taken_count past (way_of r f)) ≡ Some it → sender past r o ≡ Some (sent_of it)
-sender_at past r o f it h k = ap (λ x. sender past r x) h ∙ ap (λ x. option_map sent_of x) k
+pub sender_at : (past : List Entry) (r : ℕ) (o : Option FrameView) (f : FrameView) (it : FlyingFrame) → o ≡ Some f → slice_get (frames_sent past (way_of r f)) (taken_count past (way_of r f)) ≡ Some it → sender past r o ≡ Some (sending_entry it)
+sender_at past r o f it h k = ap (λ x. sender past r x) h ∙ ap (λ x. option_map sending_entry x) k
 
 pub message_at : (b c : FrameText) (m : Said) → b ≡ c → message_in c ≡ m → message_in b ≡ m
 message_at b c m h k = ap (λ x. message_in x) h ∙ k
@@ -331,7 +331,7 @@ test_down false false hs h k = cc
 test_down p true hs h k = cc
 
 -- what a job hears by the frame that it takes is what the frame's sender vouched to it
-pub told_frame : (repos : List RepoView) (past : List Entry) (e : Entry) (a j r : ℕ) (f : FrameView) (k : Takes repos past e a j r f) → map heard_of (told_by r a j (sender past a (Some f))) ≡ heard_frame past a r (Some f)
+pub told_frame : (repos : List RepoView) (past : List Entry) (e : Entry) (a j r : ℕ) (f : FrameView) (k : Takes repos past e a j r f) → map heard_of (vouches_sent r a j (sender past a (Some f))) ≡ heard_frame past a r (Some f)
 told_frame repos past e a j r f k = whole
   where
     w : Way
@@ -349,8 +349,8 @@ told_frame repos past e a j r f k = whole
     own : Own repos r t.it.before t.it.entry
     own = own_at repos past t.it.entry t.it.before r k.run s.occurs is_r
 
-    told : told_by r a j (sender past a (Some f)) ≡ vouch t.it.before t.it.entry r a j
-    told = ap (λ o. told_by r a j (option_map sent_of o)) t.next
+    told : vouches_sent r a j (sender past a (Some f)) ≡ vouch t.it.before t.it.entry r a j
+    told = ap (λ o. vouches_sent r a j (option_map sending_entry o)) t.next
 
     frame_up : t.it.frame.up ≡ f.up
     frame_up = (on_parts (way_of a f) (taker_of (way_of a f)) t.it.frame (sends_on (way_of a f) t.it.entry t.it.frame s.sends)).up_is
@@ -402,7 +402,7 @@ told_frame repos past e a j r f k = whole
     by_way true u = ap (map heard_of) (quiet (inl u)) ∙ sym (test_up (f.peer == r) f.up (heard_answer (message_in f.body) (last_request past (up_of (way_of a f)))) u)
     by_way false u = by_success (is_success (message_in f.body)) refl u ∙ sym (test_down (f.peer == r) f.up (heard_answer (message_in f.body) (last_request past (up_of (way_of a f)))) here u)
 
-    whole : map heard_of (told_by r a j (sender past a (Some f))) ≡ heard_frame past a r (Some f)
+    whole : map heard_of (vouches_sent r a j (sender past a (Some f))) ≡ heard_frame past a r (Some f)
     whole = ap (map heard_of) told ∙ by_way f.up refl
 
 -- ---- what an entry tells is what the job hears
@@ -420,12 +420,12 @@ other_asks repos past e a j own = go (sender past a e.taken) refl
         no_and true e' = let same : m ≡ q = same_Some m q h in absurd (n (sym same ∙ eqb-true m a e'))
         no_and false e' = refl
 
-    go : (o : Option Sent) → sender past a e.taken ≡ o → is_asker a j (asker_by o) ≡ false
+    go : (o : Option SendingEntry) → sender past a e.taken ≡ o → is_asker a j (asker_by o) ≡ false
     go None h = refl
     go (Some s) h =
         let t = sent_from past a e.taken s h in
         let is : is_of t.f.peer t.it.entry ≡ true = subst (λ q. is_of q t.it.entry ≡ true) (sender_way a t.f) t.sending.repo_is in
-        let repo : s.entry.repo ≡ Some t.f.peer = ap (λ (x : Sent). x.entry.repo) t.s_is ∙ some_option t.it.entry.repo t.f.peer is in
+        let repo : s.entry.repo ≡ Some t.f.peer = ap (λ (x : SendingEntry). x.entry.repo) t.s_is ∙ some_option t.it.entry.repo t.f.peer is in
         from s.entry.repo (job_of s.entry.kind) s.entry.time t.f.peer repo (own.taken_from t.f t.takes_it)
 
 -- its own share
@@ -455,7 +455,7 @@ tells_heard repos past e r a j run m = go (r == a) refl
     own_part true is same = rw (same, is) (told_own repos past e a j (m.own a is))
     own_part false is same = rw (same, is) refl
 
-    frame : (o : Option FrameView) → e.taken ≡ o → (r == a) ≡ false → is_job a j e ≡ true → map heard_of (told_by r a j (sender past a o)) ≡ heard_frame past a r o
+    frame : (o : Option FrameView) → e.taken ≡ o → (r == a) ≡ false → is_job a j e ≡ true → map heard_of (vouches_sent r a j (sender past a o)) ≡ heard_frame past a r o
     frame None t n is = refl
     frame (Some f) t n is = peer (f.peer == r) refl
       where
@@ -465,26 +465,26 @@ tells_heard repos past e r a j run m = go (r == a) refl
         other : r ≢ a
         other h = true≢false (sym (eqb_refl a) ∙ subst (λ q. (q == a) ≡ false) h n)
 
-        strange : (f.peer == r) ≡ false → (o : Option Sent) → sender past a (Some f) ≡ o → told_by r a j o ≡ []
+        strange : (f.peer == r) ≡ false → (o : Option SendingEntry) → sender past a (Some f) ≡ o → vouches_sent r a j o ≡ []
         strange p None h = refl
         strange p (Some s) h =
             let q = sent_from past a (Some f) s h in
             let one : f ≡ q.f = same_Some f q.f q.takes_it in
             let is_q : is_of f.peer q.it.entry ≡ true = subst (λ x. is_of x q.it.entry ≡ true) (sender_way a q.f ∙ ap (λ (g : FrameView). g.peer) (sym one)) q.sending.repo_is in
-            let repo : s.entry.repo ≡ Some f.peer = ap (λ (x : Sent). x.entry.repo) q.s_is ∙ some_option q.it.entry.repo f.peer is_q in
+            let repo : s.entry.repo ≡ Some f.peer = ap (λ (x : SendingEntry). x.entry.repo) q.s_is ∙ some_option q.it.entry.repo f.peer is_q in
             let no' : is_of r s.entry ≡ false = ap (λ o'. option_is o' r) repo ∙ p in
             rw no' refl
 
-        peer : (b : Bool) → (f.peer == r) ≡ b → map heard_of (told_by r a j (sender past a (Some f))) ≡ (if b && not f.up then heard_answer (message_in f.body) (last_request past (up_of (way_of a f))) else [])
+        peer : (b : Bool) → (f.peer == r) ≡ b → map heard_of (vouches_sent r a j (sender past a (Some f))) ≡ (if b && not f.up then heard_answer (message_in f.body) (last_request past (up_of (way_of a f))) else [])
         peer false p = ap (map heard_of) (strange p (sender past a (Some f)) refl)
         peer true p = told_frame repos past e a j r f (record { run = run; now' = m; is = parts.0; job = some_option (job_of e.kind) j parts.1; takes_it = t; other = other; peer_is = eqb-true f.peer r p })
             ∙ rw p refl
 
-    taken_part : (b : Bool) → is_job a j e ≡ b → (r == a) ≡ false → map heard_of (if b then told_by r a j (sender past a e.taken) else []) ≡ (if b then heard_frame past a r e.taken else [])
+    taken_part : (b : Bool) → is_job a j e ≡ b → (r == a) ≡ false → map heard_of (if b then vouches_sent r a j (sender past a e.taken) else []) ≡ (if b then heard_frame past a r e.taken else [])
     taken_part true is n = frame e.taken refl n is
     taken_part false is n = refl
 
-    go : (b : Bool) → (r == a) ≡ b → map heard_of (if b then vouch past e r a j else (if is_job a j e then told_by r a j (sender past a e.taken) else []))
+    go : (b : Bool) → (r == a) ≡ b → map heard_of (if b then vouch past e r a j else (if is_job a j e then vouches_sent r a j (sender past a e.taken) else []))
         ≡ (if b then (if is_of a e then heard_kind j e.time e.kind else []) else (if is_job a j e then heard_frame past a r e.taken else []))
     go true h = own_part (is_of a e) refl (eqb-true r a h)
     go false h = taken_part (is_job a j e) refl h

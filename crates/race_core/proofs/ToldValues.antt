@@ -1,14 +1,13 @@
 -- The causes that a drop was told by its entries have the values that its list has, with the words beside its answers.
-use Rattle.std.proofs.Common.{◌≡◌, ◌≢◌, ℕ, ◌<◌, Bool, true, false, List, [], ◌∷◌, Option, Some, None, ◌⊎◌, inl, inr, refl, sym, ap, ◌∙◌, subst, arith}
+use Rattle.std.proofs.Common.{◌≡◌, ◌≢◌, ℕ, ◌<◌, Bool, true, false, List, [], ◌∷◌, Option, Some, None, ◌⊎◌, inl, inr, refl, sym, ap, ◌∙◌, subst}
 use Rattle.std.specs.Prelude.{if◌then◌else◌, ◌==◌, ◌&&◌, filter, length, not, option_map, slice_get}
 use Rattle.std.specs.List.{list_any}
 use Rattle.std.proofs.lemmas.Bool.{true≢false, and_parts, eqb-true, ne_eqb}
-use Rattle.std.proofs.lemmas.Bool.Decides.{nat_tests}
 use Rattle.std.proofs.lemmas.Option.{same_Some}
 use Rattle.annex_base.specs.Lists.{Each, Member}
 use Rattle.annex_base.specs.declared.kinds.Found.TheVariants as found
 use Rattle.annex_base.specs.declared.kinds.Word.{Word}
-use Rattle.annex_base.proofs.Conditions.{eqb_refl}
+use Rattle.annex_base.proofs.Conditions.{eqb_apart, eqb_refl}
 use Rattle.race_core.proofs.Below.{SentAreRead}
 use Rattle.run_data.specs.declared.entry.Entry.{Entry}
 use Rattle.run_data.specs.declared.entry.EntryKind.{EntryKind}
@@ -24,9 +23,9 @@ use Rattle.p2p_wire.specs.declared.message.Message.TheVariants.{CheckPresent, Fa
 use Rattle.p2p_wire.specs.Messages.{message_of}
 use Rattle.run_model.specs.Said.{Said, CloseIt, Says, is_close, message_in}
 use Rattle.run_model.specs.Past.{Always, begun_count, begun_job, is_of, jobs, present}
-use Rattle.node_model.specs.Slots.{Running, job_of}
+use Rattle.node_model.specs.Slots.{RunningJob, job_of}
 use Rattle.node_model.specs.Rows.{option_is}
-use Rattle.run_model.specs.Frames.{Flying, Sent, is_job, last_request, said_of, sender, frames_sent, sent_of, taken_count, up_of, way_of}
+use Rattle.run_model.specs.Frames.{FlyingFrame, SendingEntry, is_job, last_request, said_of, sender, frames_sent, sending_entry, taken_count, up_of, way_of}
 use Rattle.run_model.specs.Logs.{before_step, in_drop, is_step}
 use Rattle.node_model.specs.Look.{first_of}
 use Rattle.run_model.specs.Drops.{cause_by_sender, cause_closed, cause_of_kind, cause_own, cause_said, cause_taken, cause_with, is_first_step, key_in, newer_cause, option_is_none, or_closed, or_fault, shuts, tells_cause, told_cause}
@@ -35,7 +34,7 @@ use Rattle.node_model.specs.SetUp.{SetUp}
 use Rattle.node_model.specs.Sessions.{line_in}
 use Rattle.run_model.specs.States.{end_at, rows_at, works}
 use Rattle.node_model.specs.Jobs
-use Rattle.node_model.specs.Jobs.{AsksLook, Drops, Fresh, Heard, Lacks, Orders, Part, Phase, Unseen, Work, job_end, partner, running, side_of, target_of, work_kind}
+use Rattle.node_model.specs.Jobs.{AsksLook, Drops, Fresh, Heard, Lacks, Orders, Part, Phase, Unseen, Work, job_end, partner, running_job, side_of, target_of, work_kind}
 use Rattle.node_model.specs.Knows.{cause_heard, cause_of_word, heard_offer}
 use Rattle.run_model.specs.Words.{awaits_word, word_of, word_of_kind, word_told}
 use Rattle.run_model.specs.Run.{OwnPart, OwnPast, OwnRun, RunPast, RunStep, set_up}
@@ -102,7 +101,7 @@ if_lean : (b : Bool) (c d : Option Cause) → Lean c → Lean d → Lean (if b t
 if_lean true c d x y = x
 if_lean false c d x y = y
 
-closed_lean : (js : List Running) (j r : ℕ) (kind : EntryKind) → Lean (cause_closed js j r kind)
+closed_lean : (js : List RunningJob) (j r : ℕ) (kind : EntryKind) → Lean (cause_closed js j r kind)
 closed_lean js j r (Close peer slot true) = if_lean (_) (Some causes.Closed) None tt tt
 closed_lean js j r (Close peer slot false) = tt
 closed_lean js j r kind = tt
@@ -146,7 +145,7 @@ Value past r j c None = (c == r) ≡ false → Lean (told_cause past r j c)
 Value past r j c (Some h) = gave_none (Some h) ≡ true → Valued past r j c h
 
 abbrev pub Values : SetUp → List Entry → Work → Type 0
-Values s past w = (c : ℕ) → (target_in s.number (running w) == c) ≡ false → Value past s.number w.number c (told_of w.heard c)
+Values s past w = (c : ℕ) → (target_in s.number (running_job w) == c) ≡ false → Value past s.number w.number c (told_of w.heard c)
 
 -- an entry that tells nothing of it
 value_kept : (past : List Entry) (e : Entry) (r j c : ℕ) (o : Option Heard) → ((c == r) ≡ false → o ≡ None → Lean (cause_with past e c r j (sender past r e.taken)))
@@ -166,7 +165,7 @@ awaits_partner c target phase e = absurd (cc)
 
 -- ---- an entry that isn't the repository's
 
-other_cause : (past : List Entry) (e : Entry) (r j c : ℕ) (s : Option Sent) → is_of r e ≡ false → cause_with past e c r j s ≡ None
+other_cause : (past : List Entry) (e : Entry) (r j c : ℕ) (s : Option SendingEntry) → is_of r e ≡ false → cause_with past e c r j s ≡ None
 other_cause past e r j c s is = go (c == r)
   where
     go : (b : Bool) → (if b then (if is_first_step past r j e then cause_own (present past r (key_in (begun_job past r j))) e.kind else None)
@@ -184,7 +183,7 @@ other_values s past e w is x c apart =
 
 -- ---- a refused look
 
-said_or : (m : Said) (o : Option Said) (s : Option Sent) → Lean (cause_said m o s) ⊎ (m ≡ Says Failure)
+said_or : (m : Said) (o : Option Said) (s : Option SendingEntry) → Lean (cause_said m o s) ⊎ (m ≡ Says Failure)
 said_or CloseIt o s = inl tt
 said_or (Says Failure) o s = inr refl
 said_or m o s = inl tt
@@ -214,7 +213,7 @@ module _ (reads_back : SentAreRead) (s : SetUp) (past : List Entry) (words : ℕ
   r = s.number
 
   -- **an entry tells no cause but that a connection is closed, or it takes a refused look**
-  lean_or : (j c : ℕ) (from : Option Sent) → (c == r) ≡ false → Lean (cause_with past e c r j from) ⊎ RefusedLook s past e j c
+  lean_or : (j c : ℕ) (from : Option SendingEntry) → (c == r) ≡ false → Lean (cause_with past e c r j from) ⊎ RefusedLook s past e j c
   lean_or j c from other = go (is_job r j e) refl
     where
       of_whole : (o : Option Cause) → cause_with past e c r j from ≡ o → Lean o → Lean (cause_with past e c r j from) ⊎ RefusedLook s past e j c
@@ -283,7 +282,7 @@ module _ (reads_back : SentAreRead) (s : SetUp) (past : List Entry) (words : ℕ
   -- ---- of a repository of which the job has heard, nothing more is told
 
   -- the job doesn't stand on its connection
-  partner_not : (w : Work) → Member w (works past r) → (c : ℕ) (o : Heard) → told_of w.heard c ≡ Some o → (target_in r (running w) == c) ≡ false → partner w.what.peer w.phase ≡ Some c → ⊥
+  partner_not : (w : Work) → Member w (works past r) → (c : ℕ) (o : Heard) → told_of w.heard c ≡ Some o → (target_in r (running_job w) == c) ≡ false → partner w.what.peer w.phase ≡ Some c → ⊥
   partner_not w m c o heard apart on = go w.part refl
     where
       holds : HoldsOf s past w
@@ -294,7 +293,7 @@ module _ (reads_back : SentAreRead) (s : SetUp) (past : List Entry) (words : ℕ
 
       go : (q : Part) → w.part ≡ q → ⊥
       go Drops is =
-          let cand = on_candidate s past (running w) w.heard w.phase c (subst (λ q. Fits q w.phase) is (works_fit s past h.run w m)) on apart (holds.asking is) in
+          let cand = on_candidate s past (running_job w) w.heard w.phase c (subst (λ q. Fits q w.phase) is (works_fit s past h.run w m)) on apart (holds.asking is) in
           let bad : None ≡ Some o = sym cand.unheard ∙ heard in cc
       go Jobs.Gets is = empty (holds.start (λ d. absurd (let bad : Jobs.Gets ≡ Drops = sym is ∙ d in cc)))
       go Jobs.Puts is = empty (holds.start (λ d. absurd (let bad : Jobs.Puts ≡ Drops = sym is ∙ d in cc)))
@@ -307,8 +306,8 @@ module _ (reads_back : SentAreRead) (s : SetUp) (past : List Entry) (words : ℕ
       go true is more = absurd (no' x (inl refl) is)
       go false is more = rw is more
 
-  passed_cause : (w : Work) → Member w (works past r) → (c : ℕ) (o : Heard) → told_of w.heard c ≡ Some o → (target_in r (running w) == c) ≡ false → (is_step w.number e.kind ≡ true → (j : ℕ) (outcome : Outcome) → e.kind ≢ ends_job j outcome)
-      → (from : Option Sent) → Valued past r w.number c o → cause_with past e c r w.number from ≡ None
+  passed_cause : (w : Work) → Member w (works past r) → (c : ℕ) (o : Heard) → told_of w.heard c ≡ Some o → (target_in r (running_job w) == c) ≡ false → (is_step w.number e.kind ≡ true → (j : ℕ) (outcome : Outcome) → e.kind ≢ ends_job j outcome)
+      → (from : Option SendingEntry) → Valued past r w.number c o → cause_with past e c r w.number from ≡ None
   passed_cause w m c o heard apart goes_on from v = by_own (c == r) refl
     where
       by_own : (b : Bool) → (c == r) ≡ b → cause_with past e c r w.number from ≡ None
@@ -362,14 +361,14 @@ module _ (reads_back : SentAreRead) (s : SetUp) (past : List Entry) (words : ℕ
                       is_down true e = absurd (cc)
 
   -- the word of such a repository stays
-  word_passed : (w : Work) → Member w (works past r) → (c : ℕ) (o : Heard) → told_of w.heard c ≡ Some o → (target_in r (running w) == c) ≡ false → word_told (e ∷ past) r w.number c ≡ word_told past r w.number c
+  word_passed : (w : Work) → Member w (works past r) → (c : ℕ) (o : Heard) → told_of w.heard c ≡ Some o → (target_in r (running_job w) == c) ≡ false → word_told (e ∷ past) r w.number c ≡ word_told past r w.number c
   word_passed w m c o heard apart = word_still s past e w c h.run m (off (awaits_word c w.what.peer w.phase) refl)
     where
       off : (b : Bool) → awaits_word c w.what.peer w.phase ≡ b → b ≡ false
       off false is = refl
       off true is = absurd (partner_not w m c o heard apart (awaits_partner c w.what.peer w.phase is))
 
-  value_passed : (w : Work) → Member w (works past r) → (is_step w.number e.kind ≡ true → (j : ℕ) (outcome : Outcome) → e.kind ≢ ends_job j outcome) → Values s past w → (c : ℕ) → (target_in r (running w) == c) ≡ false
+  value_passed : (w : Work) → Member w (works past r) → (is_step w.number e.kind ≡ true → (j : ℕ) (outcome : Outcome) → e.kind ≢ ends_job j outcome) → Values s past w → (c : ℕ) → (target_in r (running_job w) == c) ≡ false
       → ((c == r) ≡ false → told_of w.heard c ≡ None → Lean (cause_with past e c r w.number (sender past r e.taken))) → Value (e ∷ past) r w.number c (told_of w.heard c)
   value_passed w m goes_on x c apart lean =
       value_kept past e r w.number c (told_of w.heard c) lean (λ o i v. passed_cause w m c o i apart goes_on (sender past r e.taken) v) (λ o i. word_passed w m c o i apart) (x c apart)
@@ -392,9 +391,9 @@ told_first q o list = rw (eqb_refl q) refl
 -- the refused look's sender found no content to see
 abbrev pub LookFit : SetUp → List Entry → Entry → Type 0
 LookFit s past e = (f : FrameView) → e.taken ≡ Some f → f.up ≡ false → message_in f.body ≡ Says Failure → (key : List ℕ) → option_map said_of (last_request past (up_of (way_of s.number f))) ≡ Some (Says (CheckPresent key))
-    → (it : Flying) × (slice_get (frames_sent past (way_of s.number f)) (taken_count past (way_of s.number f)) ≡ Some it) × (table.refuses_look it.entry.kind ≡ true)
+    → (it : FlyingFrame) × (slice_get (frames_sent past (way_of s.number f)) (taken_count past (way_of s.number f)) ≡ Some it) × (table.refuses_look it.entry.kind ≡ true)
 
-look_said : (o : Option Flying) (time : ℕ) (key : List ℕ) → option_map asked_by o ≡ Some (request time (Some (CheckPresent key))) → option_map said_of o ≡ Some (Says (CheckPresent key))
+look_said : (o : Option FlyingFrame) (time : ℕ) (key : List ℕ) → option_map asked_by o ≡ Some (request time (Some (CheckPresent key))) → option_map said_of o ≡ Some (Says (CheckPresent key))
 look_said None time key e = absurd (cc)
 look_said (Some x) time key e =
     let is : Some (line_in x.frame.body) ≡ Some (Some (CheckPresent key)) = ap (λ (o : Option Request). option_map (λ (q : Request). q.what) o) e in
@@ -445,11 +444,11 @@ module _ (reads_back : SentAreRead) (s : SetUp) (past : List Entry) (words : ℕ
           (subst (Value (e ∷ past) rr v.number q) (sym (told_first q o v.heard)) (now same))
       go false other = subst (Value (e ∷ past) rr v.number c) (sym (rw other refl)) (old other)
 
-  passed : (c : ℕ) → (target_in rr (running v) == c) ≡ false → ((c == rr) ≡ false → told_of v.heard c ≡ None → Lean (cause_with past e c rr v.number (sender past rr e.taken))) → New v.heard c
+  passed : (c : ℕ) → (target_in rr (running_job v) == c) ≡ false → ((c == rr) ≡ false → told_of v.heard c ≡ None → Lean (cause_with past e c rr v.number (sender past rr e.taken))) → New v.heard c
   passed c apart lean = value_passed reads_back s past words e h own v runs (λ step. b.goes_on) was c apart lean
 
   -- a refused look
-  by_refused : (c0 : ℕ) (z : RefusedLook s past e v.number c0) (c : ℕ) → (target_in rr (running v) == c) ≡ false → New y.heard c
+  by_refused : (c0 : ℕ) (z : RefusedLook s past e v.number c0) (c : ℕ) → (target_in rr (running_job v) == c) ≡ false → New y.heard c
   by_refused c0 z c apart = of_list ((z.f.peer, Unseen) ∷ v.heard) c list (headed z.f.peer Unseen c (λ same gave. value) (λ other. passed c apart (λ o n. lean other o)))
     where
       same_work : z.by.w ≡ v
@@ -487,10 +486,10 @@ module _ (reads_back : SentAreRead) (s : SetUp) (past : List Entry) (words : ℕ
       lean : (z.f.peer == c) ≡ false → (c == rr) ≡ false → Lean (cause_with past e c rr v.number (sender past rr e.taken))
       lean other o = lean_none (cause_with past e c rr v.number (sender past rr e.taken)) (rw (o, its, sends) (ap (λ (t : Option FrameView). cause_taken past rr c (sender past rr e.taken) t) z.took ∙ rw other refl))
 
-      whole : (from : Option Sent) → cause_with past e z.f.peer rr v.number from ≡ cause_taken past rr z.f.peer from e.taken
+      whole : (from : Option SendingEntry) → cause_with past e z.f.peer rr v.number from ≡ cause_taken past rr z.f.peer from e.taken
       whole from = rw (others' z.f z.took, its, sends) refl
 
-      by_frame : (from : Option Sent) → cause_taken past rr z.f.peer from (Some z.f) ≡ cause_said (message_in z.f.body) (option_map said_of (last_request past (up_of (way_of rr z.f)))) from
+      by_frame : (from : Option SendingEntry) → cause_taken past rr z.f.peer from (Some z.f) ≡ cause_said (message_in z.f.body) (option_map said_of (last_request past (up_of (way_of rr z.f)))) from
       by_frame from = rw (eqb_refl z.f.peer, down) refl
 
       value : Valued (e ∷ past) rr v.number z.f.peer Unseen
@@ -505,11 +504,11 @@ module _ (reads_back : SentAreRead) (s : SetUp) (past : List Entry) (words : ℕ
           looked : (time : ℕ) × (option_map asked_by (last_request past (up_of (way_of rr z.f))) ≡ Some (request time (Some (CheckPresent z.by.w.what.key))))
           looked = subst (λ (q : Phase). LastIs z.by.w.what.key z.by.w.what.peer q k.peer (option_map asked_by (last_request past (up_of (way_of rr z.f))))) z.phase last (sym peer_is ∙ taken_peer s past e z.f k)
 
-          it : (it : Flying) × (slice_get (frames_sent past (way_of rr z.f)) (taken_count past (way_of rr z.f)) ≡ Some it) × (table.refuses_look it.entry.kind ≡ true)
+          it : (it : FlyingFrame) × (slice_get (frames_sent past (way_of rr z.f)) (taken_count past (way_of rr z.f)) ≡ Some it) × (table.refuses_look it.entry.kind ≡ true)
           it = fits z.f z.took down (said_is z.f.body Failure z.told) z.by.w.what.key (look_said (last_request past (up_of (way_of rr z.f))) looked.0 z.by.w.what.key looked.1)
 
-          from : sender past rr e.taken ≡ Some (sent_of it.0)
-          from = ap (sender past rr) z.took ∙ ap (option_map sent_of) it.1
+          from : sender past rr e.taken ≡ Some (sending_entry it.0)
+          from = ap (sender past rr) z.took ∙ ap (option_map sending_entry) it.1
 
           said : cause_said (message_in z.f.body) (option_map said_of (last_request past (up_of (way_of rr z.f)))) (sender past rr e.taken) ≡ Some (cause_by_sender (sender past rr e.taken))
           said = takes_failure reads_back s past h e z.f down k (said_is z.f.body Failure z.told) (sender past rr e.taken) ∙ ap (λ q. cause_if (refuses_look q) (sender past rr e.taken)) z.phase
@@ -522,7 +521,7 @@ module _ (reads_back : SentAreRead) (s : SetUp) (past : List Entry) (words : ℕ
               z.took refl ∙ ap word_of it.1
 
   -- every other step
-  by_changed : (c : ℕ) → (target_in rr (running v) == c) ≡ false → ((c == rr) ≡ false → Lean (cause_with past e c rr v.number (sender past rr e.taken))) → Changed (rows_at past rr) rr v e y → New y.heard c
+  by_changed : (c : ℕ) → (target_in rr (running_job v) == c) ≡ false → ((c == rr) ≡ false → Lean (cause_with past e c rr v.number (sender past rr e.taken))) → Changed (rows_at past rr) rr v e y → New y.heard c
   by_changed c apart lean (inl same) = of_list v.heard c same (passed c apart (λ o n. lean o))
   by_changed c apart lean (inr (inl o)) = of_list ((rr, Lacks o.cause) ∷ v.heard) c o.list (headed rr (Lacks o.cause) c (λ same gave. own_lacks same) (λ other. passed c apart (λ q n. lean q)))
     where
@@ -563,8 +562,8 @@ module _ (reads_back : SentAreRead) (s : SetUp) (past : List Entry) (words : ℕ
           holds : HoldsOf s past v
           holds = heard_holds reads_back s past h v runs
 
-          cand : Candidate s past (running v) v.heard k.peer
-          cand = on_candidate s past (running v) v.heard v.phase k.peer (subst (λ q. Fits q v.phase) k.part_is (works_fit s past h.run v runs)) k.on k.no_target (holds.asking k.part_is)
+          cand : Candidate s past (running_job v) v.heard k.peer
+          cand = on_candidate s past (running_job v) v.heard v.phase k.peer (subst (λ q. Fits q v.phase) k.part_is (works_fit s past h.run v runs)) k.on k.no_target (holds.asking k.part_is)
 
           told : Told (e ∷ past) rr v.number k.peer
           told = go (end_at past rr (job_end v k.peer)).opened refl
@@ -574,7 +573,7 @@ module _ (reads_back : SentAreRead) (s : SetUp) (past : List Entry) (words : ℕ
               go true open' = shut_told past e rr v.number k.peer v.slot (end_at past rr (job_end v k.peer)) (stepped_own s past e b.by) other open' k.shut
 
           old : Lean (told_cause past rr v.number k.peer)
-          old = subst (Value past rr v.number k.peer) cand.unheard (was k.peer (subst (λ n. (target_in rr (running v) == n) ≡ false) (sym at) apart)) other
+          old = subst (Value past rr v.number k.peer) cand.unheard (was k.peer (subst (λ n. (target_in rr (running_job v) == n) ≡ false) (sym at) apart)) other
 
           now : Lean (told_cause (e ∷ past) rr v.number k.peer)
           now = lean_more past e rr v.number k.peer (subst (λ n. Lean (cause_with past e n rr v.number (sender past rr e.taken))) (sym at) (lean (subst (λ n. (n == rr) ≡ false) at other))) old
@@ -587,18 +586,18 @@ module _ (reads_back : SentAreRead) (s : SetUp) (past : List Entry) (words : ℕ
   ]
 
   step_values : Values s (e ∷ past) x
-  step_values = subst (Values s (e ∷ past)) (sym b.work_is) (λ c apart. subst (λ (j : Running). Value (e ∷ past) rr j.number c (told_of y.heard c)) (sym same) (at c (subst (λ (j : Running). (target_in rr j == c) ≡ false) same apart)))
+  step_values = subst (Values s (e ∷ past)) (sym b.work_is) (λ c apart. subst (λ (j : RunningJob). Value (e ∷ past) rr j.number c (told_of y.heard c)) (sym same) (at c (subst (λ (j : RunningJob). (target_in rr j == c) ≡ false) same apart)))
     where
-      same : running y ≡ running v
+      same : running_job y ≡ running_job v
       same = kind_kept (rows_at past rr) rr v e e.kind
 
-      normal : (c : ℕ) → (target_in rr (running v) == c) ≡ false → ((c == rr) ≡ false → Lean (cause_with past e c rr v.number (sender past rr e.taken))) → New y.heard c
+      normal : (c : ℕ) → (target_in rr (running_job v) == c) ≡ false → ((c == rr) ≡ false → Lean (cause_with past e c rr v.number (sender past rr e.taken))) → New y.heard c
       normal c apart lean = elim (share_or e.kind) [
         | inl k ↦ of_list ((rr, Jobs.Held e.time) ∷ v.heard) c (ap (λ kind. (work_kind (rows_at past rr) rr v e kind).heard) k.4) (headed rr (Jobs.Held e.time) c (λ same gave. absurd (cc)) (λ other. passed c apart (λ o n. lean o)))
         | inr apart' ↦ by_changed c apart lean (kind_changed (rows_at past rr) rr v e (talker_is (turn_at s past e b.by) e.taken) e.kind apart')
       ]
 
-      at : (c : ℕ) → (target_in rr (running v) == c) ≡ false → New y.heard c
+      at : (c : ℕ) → (target_in rr (running_job v) == c) ≡ false → New y.heard c
       at c apart = go (c == rr) refl
         where
           go : (d : Bool) → (c == rr) ≡ d → New y.heard c
@@ -662,16 +661,6 @@ fails_none Jobs.Seen e = absurd (cc)
 fails_none Unseen e = refl
 fails_none (Lacks cause) e = refl
 
-not_is : (c r : ℕ) → not (c == r) ≡ true → (r == c) ≡ false
-not_is c r e = go (c == r) refl e
-  where
-    apart : (c == r) ≡ false → (r == c) ≡ false
-    apart n = grind (arith, nat_tests)
-
-    go : (b : Bool) → (c == r) ≡ b → not b ≡ true → (r == c) ≡ false
-    go false is e = apart is
-    go true is e = absurd (cc)
-
 kept_true : (q : ℕ → Bool) (xs : List ℕ) (c : ℕ) → Member c (filter q xs) → (q c ≡ true) × Member c xs
 kept_true q [] c m = absurd m
 kept_true q (x ∷ xs) c m = go (kept_true q xs c) (q x) refl m
@@ -683,9 +672,9 @@ kept_true q (x ∷ xs) c m = go (kept_true q xs c) (q x) refl m
 
 -- a candidate isn't the target
 candidate_apart : (side : Side) (n r target c : ℕ) → (side ≡ Local → target ≡ r) → (side ≡ Remote → target ≢ r) → Member c (candidates side n r target) → (target == c) ≡ false
-candidate_apart Local n r target c own apart m = subst (λ t. (t == c) ≡ false) (sym (own refl)) (not_is c r (kept_true (λ x. not (x == r)) (_) c m).0)
+candidate_apart Local n r target c own apart m = subst (λ t. (t == c) ≡ false) (sym (own refl)) (eqb_apart c r (kept_true (λ x. not (x == r)) (_) c m).0)
 candidate_apart Remote n r target c own apart (inl same) = subst (λ d. (target == d) ≡ false) (sym same) (ne_eqb target r (apart refl))
-candidate_apart Remote n r target c own apart (inr m) = not_is c target (kept_true (λ x. not (x == target)) (_) c m).0
+candidate_apart Remote n r target c own apart (inr m) = eqb_apart c target (kept_true (λ x. not (x == target)) (_) c m).0
 
 target_local : (r : ℕ) (side : Side) (peer : Option ℕ) → side ≡ Local → Jobs.or_own r side peer ≡ r
 target_local r Local peer e = refl

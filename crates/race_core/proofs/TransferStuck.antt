@@ -23,12 +23,12 @@ use Rattle.p2p_wire.specs.Messages.{message_of}
 use Rattle.node_model.specs.Ends.{EndName, end_after, end_sends, end_took, frames, sent_at, taken_at}
 use Rattle.node_model.specs.Sessions.{line_in}
 use Rattle.node_model.specs.Jobs
-use Rattle.node_model.specs.Jobs.{Drops, Fresh, Gets, Part, Phase, Puts, PutsAnswer, PutsOffer, Work, claims, closed_part, first_look, hears_frame, is_move, job_end, learns, listens, partner, quiet, talks, talks_on, took, took_line, after_transfer}
+use Rattle.node_model.specs.Jobs.{Drops, Fresh, Gets, Part, Phase, Puts, PutsAnswer, PutsOffer, Work, claims, closed_part, first_look, hears_frame, is_move, job_end, learns, listens, partner, quiet, talks, talks_on, after_frame, after_line, after_transfer}
 use Rattle.node_model.specs.Look.{Made}
 use Rattle.node_model.specs.JobStep.{Turn, end_with, is_there, me}
 use Rattle.node_model.specs.TransferStep.{next_source}
 use Rattle.node_model.specs.Turns.{by_partner}
-use Rattle.node_model.specs.Found.{JobKind}
+use Rattle.node_model.specs.Found.{IsJobEntry}
 use Rattle.race_core.proofs.JobFacts.{partner_found}
 use Rattle.race_core.proofs.PartTurns.{HasIt}
 use Rattle.race_core.proofs.ServerEnds.{sent_same}
@@ -98,8 +98,8 @@ listens_drops w (PutsOffer peer) AlreadyHave move has = transferred_drops w (out
 listens_drops w (PutsAnswer peer start) Success move has = transferred_drops w (outcomes.Copied (Some start)) move
 listens_drops w phase m move has = absurd has
 
-took_drops : (w : Work) (body : FrameText) (m : Message) → is_move w.what.kind ≡ true → line_in body ≡ Some m → HasIt w.phase m → (took w body).part ≡ Drops
-took_drops w (Line text) m move is has = ap (λ o. (took_line w o).part) is ∙ listens_drops w w.phase m move has
+took_drops : (w : Work) (body : FrameText) (m : Message) → is_move w.what.kind ≡ true → line_in body ≡ Some m → HasIt w.phase m → (after_frame w body).part ≡ Drops
+took_drops w (Line text) m move is has = ap (λ o. (after_line w o).part) is ∙ listens_drops w w.phase m move has
 took_drops w Opening m move is has = absurd (cc)
 took_drops w Closing m move is has = absurd (cc)
 took_drops w (Bytes n) m move is has = absurd (cc)
@@ -178,7 +178,7 @@ module _ (t : Turn) (m : Made) (does : by_partner t (partner t.w.what.peer t.w.p
         go (Some peer) on = on_stuck peer on j kind tells
 
   -- where the entry tells that the transfer is done, the move comes to its drop, or is to end
-  pub kind_stuck : (past : List Entry) (r : ℕ) (kind : EntryKind) → m.kind ≡ kind → JobKind t m kind → ((j : ℕ) (outcome : Outcome) → kind ≢ ends_job j outcome) → starts_drop past r t.w.number e kind ≡ true
+  pub kind_stuck : (past : List Entry) (r : ℕ) (kind : EntryKind) → m.kind ≡ kind → IsJobEntry t m kind → ((j : ℕ) (outcome : Outcome) → kind ≢ ends_job j outcome) → starts_drop past r t.w.number e kind ≡ true
       → (moved t m kind).part ≢ Drops → Stuck (moved t m kind)
   kind_stuck past r (Gain by size key) is k goes_on starts off =
       absurd (off (ap (λ p. (Jobs.after_gain t.w p).part) k.phase_is ∙ transferred_drops t.w (outcomes.Got (Some k.peer) (Some k.start)) move))

@@ -10,7 +10,7 @@ use Rattle.run_data.specs.declared.entry.FrameView.{FrameView}
 use Rattle.run_model.specs.Past.{Always, Occurs, is_of}
 use Rattle.run_model.specs.Said.{Said, message_in, is_request}
 use Rattle.race_core.proofs.Ways.{is_answer, answers}
-use Rattle.run_model.specs.Frames.{Way, Flying, MayTake, flying, is_on, on_way, sender_of, taker_of, frames_sent, sent_if, says, taken_count, taken_if, up_of, requests, last_of, last_request}
+use Rattle.run_model.specs.Frames.{Way, FlyingFrame, MayTake, flying_frame, is_on, on_way, sender_of, taker_of, frames_sent, sent_if, says, taken_count, taken_if, up_of, requests, last_of, last_request}
 use Rattle.race_core.proofs.Own.{AtMostOne}
 use Rattle.race_core.proofs.Flights.{get_none, sending, always_before}
 
@@ -73,14 +73,14 @@ last_get (y ∷ z ∷ zs) (suc k) x h l = last_get (z ∷ zs) k x h (less l)
 abbrev pub Prefix : Way → List Entry → Entry → Type 0
 Prefix w past e = (f : FrameView) → is_of (taker_of w) e ≡ true → e.taken ≡ Some f → is_on w (sender_of w) f ≡ true → MayTake past w f
 
-abbrev pub of_flying : (Said → Bool) → Flying → Bool
+abbrev pub of_flying : (Said → Bool) → FlyingFrame → Bool
 of_flying q x = says q x.frame
 
-sent_more : (e : Entry) (past : List Entry) (w : Way) → (rest : List Flying) × (frames_sent (e ∷ past) w ≡ frames_sent past w ++ rest)
+sent_more : (e : Entry) (past : List Entry) (w : Way) → (rest : List FlyingFrame) × (frames_sent (e ∷ past) w ≡ frames_sent past w ++ rest)
 sent_more e past w = go (is_of (sender_of w) e)
   where
-    go : (b : Bool) → (rest : List Flying) × ((if b then frames_sent past w ++ map (flying e past) (on_way w e) else frames_sent past w) ≡ frames_sent past w ++ rest)
-    go true = (map (flying e past) (on_way w e), refl)
+    go : (b : Bool) → (rest : List FlyingFrame) × ((if b then frames_sent past w ++ map (flying_frame e past) (on_way w e) else frames_sent past w) ≡ frames_sent past w ++ rest)
+    go true = (map (flying_frame e past) (on_way w e), refl)
     go false = ([], sym (append-nil (frames_sent past w)))
 
 -- how many were taken, and how many of them pass a test
@@ -91,7 +91,7 @@ pub record TakenOf (q : Said → Bool) (past : List Entry) (w : Way) : Type 0 wh
 taken_step : (q : Said → Bool) (e : Entry) (past : List Entry) (w : Way) → Prefix w past e → TakenOf q past w → TakenOf q (e ∷ past) w
 taken_step q e past w all old = let t = sent_more e past w in step t.0 t.1
   where
-    step : (rest : List Flying) → frames_sent (e ∷ past) w ≡ frames_sent past w ++ rest → TakenOf q (e ∷ past) w
+    step : (rest : List FlyingFrame) → frames_sent (e ∷ past) w ≡ frames_sent past w ++ rest → TakenOf q (e ∷ past) w
     step rest more = go (is_of (taker_of w) e) refl e.taken refl
       where
         len : length (frames_sent (e ∷ past) w) ≡ length (frames_sent past w) + length rest
@@ -147,16 +147,16 @@ next_of q past w f all t ok =
 
 -- ---- the sender of a frame that passes a test
 
-pub sent_if-step : (q : Said → Bool) (e : Entry) (past : List Entry) (w : Way) → is_of (sender_of w) e ≡ true → sent_if q (e ∷ past) w ≡ sent_if q past w ++ map (flying e past) (filter (says q) (on_way w e))
-sent_if-step q e past w is = rw is (filter-append (of_flying q) (frames_sent past w) (map (flying e past) (on_way w e)) ∙ ap (λ ys. sent_if q past w ++ ys) (filter_map (of_flying q) (flying e past) (on_way w e)))
+pub sent_if-step : (q : Said → Bool) (e : Entry) (past : List Entry) (w : Way) → is_of (sender_of w) e ≡ true → sent_if q (e ∷ past) w ≡ sent_if q past w ++ map (flying_frame e past) (filter (says q) (on_way w e))
+sent_if-step q e past w is = rw is (filter-append (of_flying q) (frames_sent past w) (map (flying_frame e past) (on_way w e)) ∙ ap (λ ys. sent_if q past w ++ ys) (filter_map (of_flying q) (flying_frame e past) (on_way w e)))
 
-sent_if-more : (q : Said → Bool) (e : Entry) (past : List Entry) (w : Way) → (rest : List Flying) × (sent_if q (e ∷ past) w ≡ sent_if q past w ++ rest)
+sent_if-more : (q : Said → Bool) (e : Entry) (past : List Entry) (w : Way) → (rest : List FlyingFrame) × (sent_if q (e ∷ past) w ≡ sent_if q past w ++ rest)
 sent_if-more q e past w = let t = sent_more e past w in (filter (of_flying q) t.0, ap (filter (of_flying q)) t.1 ∙ filter-append (of_flying q) (frames_sent past w) t.0)
 
 -- what was sent before is a prefix
-pub sent_if-prefix : (q : Said → Bool) (past : List Entry) (x : Entry) (before : List Entry) (w : Way) → Occurs past x before → (rest : List Flying) × (sent_if q past w ≡ sent_if q before w ++ rest)
+pub sent_if-prefix : (q : Said → Bool) (past : List Entry) (x : Entry) (before : List Entry) (w : Way) → Occurs past x before → (rest : List FlyingFrame) × (sent_if q past w ≡ sent_if q before w ++ rest)
 sent_if-prefix q [] x before w o = absurd o
-sent_if-prefix q (e ∷ past) x before w (inl o) = subst (λ (p : List Entry). (rest : List Flying) × (sent_if q (e ∷ past) w ≡ sent_if q p w ++ rest)) (sym o.1) (sent_if-more q e past w)
+sent_if-prefix q (e ∷ past) x before w (inl o) = subst (λ (p : List Entry). (rest : List FlyingFrame) × (sent_if q (e ∷ past) w ≡ sent_if q p w ++ rest)) (sym o.1) (sent_if-more q e past w)
 sent_if-prefix q (e ∷ past) x before w (inr o) =
     let t = sent_if-prefix q past x before w o in
     let u = sent_if-more q e past w in
@@ -176,13 +176,13 @@ abbrev pub OneEach : (Said → Bool) → Way → List Entry → Entry → Type 0
 OneEach q w past e = is_of (sender_of w) e ≡ true → AtMostOne (filter (says q) (on_way w e))
 
 -- a frame with its number: as many were sent before
-pub place_of : (q : Said → Bool) (past : List Entry) (w : Way) (k : ℕ) (it : Flying) → Always (OneEach q w) past → slice_get (sent_if q past w) k ≡ Some it → length (sent_if q it.before w) ≡ k
+pub place_of : (q : Said → Bool) (past : List Entry) (w : Way) (k : ℕ) (it : FlyingFrame) → Always (OneEach q w) past → slice_get (sent_if q past w) k ≡ Some it → length (sent_if q it.before w) ≡ k
 place_of q [] w k it one h = absurd (get_none k it h)
 place_of q (e ∷ past) w k it one h = go (λ g. place_of q past w k it one.1 g) (is_of (sender_of w) e) refl
   where
-    new : (slice_get (sent_if q past w) k ≡ Some it → length (sent_if q it.before w) ≡ k) → (gs : List FrameView) → AtMostOne gs → slice_get (sent_if q past w ++ map (flying e past) gs) k ≡ Some it → length (sent_if q it.before w) ≡ k
+    new : (slice_get (sent_if q past w) k ≡ Some it → length (sent_if q it.before w) ≡ k) → (gs : List FrameView) → AtMostOne gs → slice_get (sent_if q past w ++ map (flying_frame e past) gs) k ≡ Some it → length (sent_if q it.before w) ≡ k
     new ih [] o g = ih (rw append-nil at g)
-    new ih (x ∷ []) o g = elim (get_last (sent_if q past w) (flying e past x) k it g) [ inl s ↦ ih s | inr s ↦ subst (λ (y : Flying). length (sent_if q y.before w) ≡ k) s.1 (sym s.0) ]
+    new ih (x ∷ []) o g = elim (get_last (sent_if q past w) (flying_frame e past x) k it g) [ inl s ↦ ih s | inr s ↦ subst (λ (y : FlyingFrame). length (sent_if q y.before w) ≡ k) s.1 (sym s.0) ]
     new ih (x ∷ y ∷ gs) o g = absurd o
 
     go : (slice_get (sent_if q past w) k ≡ Some it → length (sent_if q it.before w) ≡ k) → (b : Bool) → is_of (sender_of w) e ≡ b → length (sent_if q it.before w) ≡ k

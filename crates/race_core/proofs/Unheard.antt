@@ -1,6 +1,6 @@
 -- Of whom a job has heard nothing: a remote drop of its target, and any drop of the candidate whose answer it awaits.
-use Rattle.std.proofs.Common.{◌≡◌, ◌≢◌, ℕ, Bool, true, false, List, [], ◌∷◌, Option, Some, None, ◌⊎◌, inl, inr, refl, sym, ap, ◌∙◌, subst, true≢false}
-use Rattle.std.specs.Prelude.{◌==◌, find, option_map}
+use Rattle.std.proofs.Common.{◌≡◌, ℕ, true, false, List, ◌∷◌, Some, None, ◌⊎◌, inl, inr, refl, sym, ap, ◌∙◌, subst, true≢false}
+use Rattle.std.specs.Prelude.{◌==◌}
 use Rattle.std.proofs.lemmas.Bool.{eqb-true, ne_eqb}
 use Rattle.annex_base.specs.Lists.{Member}
 use Rattle.annex_base.proofs.Conditions.{eqb_refl}
@@ -14,18 +14,18 @@ use Rattle.run_model.specs.Past.{is_of}
 use Rattle.run_model.specs.Run.{OwnPast, OwnRun}
 use Rattle.run_model.specs.States.{rows_at, works}
 use Rattle.run_model.specs.Words.{awaits_word}
-use Rattle.node_model.specs.Found.{JobKind}
+use Rattle.node_model.specs.Found.{IsJobEntry}
 use Rattle.node_model.specs.Jobs
 use Rattle.node_model.specs.Jobs.{AsksLook, Drops, Gets, Heard, Orders, Part, Phase, Puts, Work, heard_of, side_of, target_of, work_kind}
 use Rattle.node_model.specs.Rows.{option_is}
 use Rattle.node_model.specs.SetUp.{SetUp}
-use Rattle.node_model.specs.Slots.{Running}
+use Rattle.node_model.specs.Slots.{RunningJob}
 use Rattle.race_core.specs.Jobs.{AreJobs}
 use Rattle.race_core.proofs.Aims.{Aims, aims, other_target}
 use Rattle.race_core.proofs.Asking.{Came, is_on_one, kind_came}
 use Rattle.race_core.proofs.Below.{SentAreRead}
 use Rattle.race_core.proofs.DropReads.{told_of}
-use Rattle.race_core.proofs.HeardHolds.{Asking, Candidate, HoldsOf}
+use Rattle.race_core.proofs.HeardHolds.{Asking, Candidate}
 use Rattle.race_core.proofs.HeardInduction.{heard_holds}
 use Rattle.race_core.proofs.HeardLists.{Changed, SameList, kind_changed, share_or, talker_is}
 use Rattle.race_core.proofs.JobKept.{kind_kept}
@@ -67,7 +67,7 @@ module _ (s : SetUp) (past : List Entry) (e : Entry) (x : Work) (b : Steps s pas
     where
       shared : (hold end : ℕ) (owner : By) (key : List ℕ) → e.kind ≡ Share hold end owner key → SameList v x ⊎ Grown s v x
       shared hold end owner key is =
-          let k = subst (JobKind (turn_at s past e b.by) b.by.made) is (step_kind s past e x b) in
+          let k = subst (IsJobEntry (turn_at s past e b.by) b.by.made) is (step_kind s past e x b) in
           let same : x ≡ Jobs.hears v s.number (Jobs.Held e.time) = b.work_is ∙ ap (λ (q : EntryKind). work_kind (rows_at past s.number) s.number v e q) is in
           inr (record { part_is = k.part_is; whom = s.number; told = Jobs.Held e.time; list = ap (λ (y : Work). y.heard) same; other = own_other k.part_is })
 
@@ -127,7 +127,7 @@ target_unheard s past run w m = invariant s (λ p x. TargetUnheard s x) (λ p e 
         fits = works_fit s p r.1 v runs
 
         what : x.what ≡ v.what
-        what = ap (λ (y : Work). y.what) b.work_is ∙ ap (λ (j : Running). j.what) (kind_kept (rows_at p s.number) s.number v e e.kind)
+        what = ap (λ (y : Work). y.what) b.work_is ∙ ap (λ (j : RunningJob). j.what) (kind_kept (rows_at p s.number) s.number v e e.kind)
 
         side_was : side_of x ≡ Remote → side_of v ≡ Remote
         side_was side = subst (λ (q : Job). Jobs.drop_side q.kind q.peer ≡ Remote) what side
@@ -185,7 +185,7 @@ are_jobs reads_back s past h = record {
     drops w there at = only_orders w.part (subst (Fits w.part) at (works_fit s past h.run w there))
 
     remote : (w : Work) → Member w (works past s.number) → w.phase ≡ Orders → side_of w ≡ Remote
-    remote w there at = subst (Asking s past (Jobs.running w) w.heard) at ((heard_holds reads_back s past h w there).asking (drops w there at))
+    remote w there at = subst (Asking s past (Jobs.running_job w) w.heard) at ((heard_holds reads_back s past h w there).asking (drops w there at))
 
     orders : (w : Work) → Member w (works past s.number) → w.phase ≡ Orders → (side_of w ≡ Remote) × (peer : ℕ) × (w.what.peer ≡ Some peer)
     orders w there at = (remote w there at, target_of s.number w, target_peer s w (aims s past h.run w there) (drops w there at) (remote w there at))
@@ -196,7 +196,7 @@ are_jobs reads_back s past h = record {
         go : (phase : Phase) → w.phase ≡ phase → awaits_word c w.what.peer phase ≡ true → heard_of w c ≡ None
         go (AsksLook peer) at is =
             let part = look_drops w.part w.phase peer (works_fit s past h.run w there) at in
-            let asks : Candidate s past (Jobs.running w) w.heard peer = subst (Asking s past (Jobs.running w) w.heard) at ((heard_holds reads_back s past h w there).asking part) in
+            let asks : Candidate s past (Jobs.running_job w) w.heard peer = subst (Asking s past (Jobs.running_job w) w.heard) at ((heard_holds reads_back s past h w there).asking part) in
             subst (λ n. told_of w.heard n ≡ None) (eqb-true peer c is) asks.unheard
         go Orders at is =
             let part = drops w there at in

@@ -31,16 +31,15 @@ use Rattle.node_model.specs.AnyTime.{MayCome}
 use Rattle.node_model.specs.Jobs.{Drops, Fresh, Gets, Part, Phase, Puts, Work}
 use Rattle.node_model.specs.Look.{Look, Made}
 use Rattle.node_model.specs.JobStep.{Turn, turn_of}
-use Rattle.node_model.specs.Sessions.{Doing}
-use Rattle.node_model.specs.SessionStep.{Here, here}
+use Rattle.node_model.specs.SessionStep.{here}
 use Rattle.node_model.specs.Ends.{server_end}
 use Rattle.run_model.specs.Run.{OwnPart, OwnRun}
-use Rattle.node_model.specs.Found.{ByJob, ByOwed, BySession, JobKind, SessionKind}
+use Rattle.node_model.specs.Found.{ByJob, ByOwed, BySession, IsJobEntry}
 use Rattle.race_core.proofs.StepFacts.{step_found}
 use Rattle.race_core.proofs.PhaseFacts.{BodyReads, GoodTo, PartReads, SentReads, is_fresh}
 use Rattle.race_core.proofs.JobNumbers.{begins_next}
 use Rattle.race_core.proofs.WorkNumbers.{number_begun}
-use Rattle.race_core.proofs.JobSteps.{Begins, Origin, Stepped, invariant, made_by, step_is_job, stepped_job, stepped_runs}
+use Rattle.race_core.proofs.JobSteps.{Begins, Origin, Stepped, invariant, made_by, session_none, step_is_job, stepped_job, stepped_runs}
 use Rattle.race_core.proofs.WorkFits.{step_runs, step_number}
 
 -- ---- what is said of a job
@@ -73,18 +72,7 @@ come_sends s past lines sent j (EntryKind.Close peer slot client) x is = absurd 
 come_sends s past lines sent j (Crash clock) x is = absurd (cc)
 come_sends s past lines sent j kind x is = absurd x
 
-session_job : (h : Here) (doing : Doing) (asked : Option Message) (says : List FrameText) (kind : EntryKind) → SessionKind h doing asked says kind → job_of kind ≡ None
-session_job h doing asked says (Share hold end by key) x = subst (λ b. job_of (Share hold end b key) ≡ None) (sym x.by_is) refl
-session_job h doing asked says (EntryKind.Check what key) x = refl
-session_job h doing asked says (Gone by key) x = subst (λ b. job_of (Gone b key) ≡ None) (sym x.by_is) refl
-session_job h doing asked says (EntryKind.Release hold key) x = refl
-session_job h doing asked says (Gain by size key) x = subst (λ b. job_of (Gain b size key) ≡ None) (sym x.by_is) refl
-session_job h doing asked says (Talk None) x = refl
-session_job h doing asked says (EntryKind.Close peer slot client) x = refl
-session_job h doing asked says (Fault call by) x = subst (λ b. job_of (Fault call b) ≡ None) (sym x.0) refl
-session_job h doing asked says kind x = absurd x
-
-job_sends : (t : Turn) (m : Made) (j : ℕ) (kind : EntryKind) → JobKind t m kind → is_step j kind ≡ false → option_is (job_of kind) j ≡ true → m.sent ≡ []
+job_sends : (t : Turn) (m : Made) (j : ℕ) (kind : EntryKind) → IsJobEntry t m kind → is_step j kind ≡ false → option_is (job_of kind) j ≡ true → m.sent ≡ []
 job_sends t m j (Fault call by) x still is = x.1
 job_sends t m j (Share hold end by key) x still is = absurd (cc)
 job_sends t m j (Bar k need key) x still is = absurd (cc)
@@ -108,7 +96,7 @@ still_sends s past words e own j still is = elim (own.does) [
         → is_step j m.kind ≡ false → option_is (job_of m.kind) j ≡ true → m.sent ≡ []
     steps k m (inl y) still is = elim (y.writes) [ inl w ↦ ap (λ (z : Made). z.sent) w | inr w ↦ ap (λ (z : Made). z.sent) w ]
     steps k m (inr (inl y)) still is =
-        let none : job_of m.kind ≡ None = session_job (here s (state_of s past) k (server_end y.peer y.slot)) ((state_of s past).sessions (server_end y.peer y.slot)).doing y.asked y.says m.kind y.found in
+        let none : job_of m.kind ≡ None = session_none (here s (state_of s past) k (server_end y.peer y.slot)) ((state_of s past).sessions (server_end y.peer y.slot)).doing y.asked y.says m.kind y.found in
         let no_job : option_is None j ≡ true = subst (λ o. option_is o j ≡ true) none is in
         absurd (cc)
     steps k m (inr (inr y)) still is = job_sends (turn_of s (state_of s past) k y.w) m j m.kind y.found still is

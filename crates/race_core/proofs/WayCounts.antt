@@ -3,11 +3,13 @@ use Rattle.std.proofs.Common.{◌≡◌, ℕ, ◌+◌, Bool, true, false, cond, 
 use Rattle.std.proofs.lemmas.List.{length-map}
 use Rattle.std.specs.Prelude.{◌&&◌, ◌==◌, filter, map, if◌then◌else◌}
 use Rattle.std.proofs.lemmas.List.Elements.{filter-append}
+use Rattle.annex_base.proofs.Conditions.{and_regrouped}
+use Rattle.annex_base.proofs.Lists.{filter_both}
 use Rattle.run_data.specs.declared.entry.Entry.{Entry}
 use Rattle.run_data.specs.declared.entry.FrameView.{FrameView}
 use Rattle.run_model.specs.Past.{is_of}
 use Rattle.run_model.specs.Said.{Said}
-use Rattle.run_model.specs.Frames.{Way, Flying, flying, is_on, on_way, sender_of, taker_of, frames_sent, sent_if, says, taken_if, takes_if}
+use Rattle.run_model.specs.Frames.{Way, FlyingFrame, flying_frame, is_on, on_way, sender_of, taker_of, frames_sent, sent_if, says, taken_if, takes_if}
 use Rattle.node_model.specs.Ends.{same_bool, EndName, sends_at, sent_at, taken_at, takes_at}
 
 -- the ways at an end of r: what it sends, and what it takes, in one epoch
@@ -57,11 +59,6 @@ in_sender-is r a n = in_sender r a.peer a.client
 
 -- ---- which frames are on them
 
-nested : (a b c d : Bool) → (a && (b && (c && d))) ≡ (((a && b) && c) && d)
-nested true true c d = refl
-nested true false c d = refl
-nested false b c d = refl
-
 other_side : (u c : Bool) → same_bool u (if c then false else true) ≡ same_bool c (if u then false else true)
 other_side true true = refl
 other_side true false = refl
@@ -69,24 +66,15 @@ other_side false true = refl
 other_side false false = refl
 
 is_out : (r : ℕ) (a : EndName) (n : ℕ) (g : FrameView) → is_on (way_out r a n) a.peer g ≡ (sends_at a g && (g.epoch == n))
-is_out r a n g = nested (g.peer == a.peer) (g.slot == a.slot) (same_bool g.up a.client) (g.epoch == n)
+is_out r a n g = and_regrouped (g.peer == a.peer) (g.slot == a.slot) (same_bool g.up a.client) (g.epoch == n)
 
 is_in : (r : ℕ) (a : EndName) (n : ℕ) (f : FrameView) → is_on (way_in r a n) a.peer f ≡ (takes_at a f && (f.epoch == n))
-is_in r a n f = nested (f.peer == a.peer) (f.slot == a.slot) (same_bool f.up (if a.client then false else true)) (f.epoch == n)
+is_in r a n f = and_regrouped (f.peer == a.peer) (f.slot == a.slot) (same_bool f.up (if a.client then false else true)) (f.epoch == n)
     ∙ ap (λ b. ((f.peer == a.peer) && (f.slot == a.slot) && b) && (f.epoch == n)) (other_side f.up a.client)
-
-filter_two : {X : Type 0} (p q s : X → Bool) → ((x : X) → p x ≡ (s x && q x)) → (xs : List X) → filter p xs ≡ filter q (filter s xs)
-filter_two p q s both [] = refl
-filter_two {X = X} p q s both (x ∷ xs) = go (filter_two p q s both xs) (s x) (q x) refl refl (both x)
-  where
-    go : filter p xs ≡ filter q (filter s xs) → (b c : Bool) → s x ≡ b → q x ≡ c → p x ≡ (s x && q x) → filter p (x ∷ xs) ≡ filter q (filter s (x ∷ xs))
-    go more true true i j h = let k : p x ≡ true = rw (i, j) at h in rw (k, i) (rw j (ap (λ (zs : List X). x ∷ zs) more))
-    go more true false i j h = let k : p x ≡ false = rw (i, j) at h in rw (k, i) (rw j more)
-    go more false c i j h = let k : p x ≡ false = rw i at h in rw (k, i) more
 
 pub on_out : (r : ℕ) (a : EndName) (n : ℕ) (e : Entry) → on_way (way_out r a n) e ≡ filter (λ g. g.epoch == n) (sent_at a e.sent)
 on_out r a n e = ap (λ p. filter (is_on (way_out r a n) p) e.sent) (out_taker-is r a n)
-    ∙ filter_two (is_on (way_out r a n) a.peer) (λ g. g.epoch == n) (sends_at a) (is_out r a n) e.sent
+    ∙ filter_both (is_on (way_out r a n) a.peer) (λ g. g.epoch == n) (sends_at a) (is_out r a n) e.sent
 
 -- ---- what one entry adds
 
@@ -100,10 +88,10 @@ filter_map p f (x ∷ xs) = go (filter_map p f xs) (p (f x))
 
 pub sent_own : (q : Said → Bool) (e : Entry) (past : List Entry) (w : Way) → is_of (sender_of w) e ≡ true → length (sent_if q (e ∷ past) w) ≡ length (sent_if q past w) + length (filter (says q) (on_way w e))
 sent_own q e past w is = rw is
-    (ap length (filter-append (λ (x : Flying). says q x.frame) (frames_sent past w) (map (flying e past) (on_way w e)))
-    ∙ length-append (sent_if q past w) (filter (λ (x : Flying). says q x.frame) (map (flying e past) (on_way w e)))
-    ∙ ap (λ ys. length (sent_if q past w) + length ys) (filter_map (λ (x : Flying). says q x.frame) (flying e past) (on_way w e))
-    ∙ ap (λ k. length (sent_if q past w) + k) (length-map (filter (says q) (on_way w e)) (flying e past)))
+    (ap length (filter-append (λ (x : FlyingFrame). says q x.frame) (frames_sent past w) (map (flying_frame e past) (on_way w e)))
+    ∙ length-append (sent_if q past w) (filter (λ (x : FlyingFrame). says q x.frame) (map (flying_frame e past) (on_way w e)))
+    ∙ ap (λ ys. length (sent_if q past w) + length ys) (filter_map (λ (x : FlyingFrame). says q x.frame) (flying_frame e past) (on_way w e))
+    ∙ ap (λ k. length (sent_if q past w) + k) (length-map (filter (says q) (on_way w e)) (flying_frame e past)))
 
 pub out_count : (q : Said → Bool) (r : ℕ) (a : EndName) (n : ℕ) (e : Entry) (past : List Entry) → is_of r e ≡ true
     → length (sent_if q (e ∷ past) (way_out r a n)) ≡ length (sent_if q past (way_out r a n)) + count_in q n (sent_at a e.sent)

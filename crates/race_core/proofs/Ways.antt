@@ -5,7 +5,7 @@ use Rattle.p2p_wire.specs.declared.message.Message.TheVariants.{AuthSuccess, Ver
 use Rattle.run_data.specs.declared.entry.Entry.{Entry}
 use Rattle.run_data.specs.declared.entry.FrameView.{FrameView}
 use Rattle.run_model.specs.Said.{Said, Says}
-use Rattle.run_model.specs.Frames.{Way, Flying, sent_if}
+use Rattle.run_model.specs.Frames.{Way, FlyingFrame, sent_if}
 
 -- ---- what is asked and answered
 
@@ -36,5 +36,5 @@ way_from r g = record { client = if g.up then r else g.peer; server = if g.up th
 
 -- ---- requests and answers
 
-abbrev pub answers : List Entry → Way → List Flying
+abbrev pub answers : List Entry → Way → List FlyingFrame
 answers past w = sent_if is_answer past w

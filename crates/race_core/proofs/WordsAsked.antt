@@ -1,13 +1,10 @@
 -- An answer whose word a job keeps comes of an entry that was asked for a word: the job's last request was CHECKPRESENT, or an order.
-use Rattle.std.proofs.Common.{◌≡◌, ℕ, Bool, true, false, List, Option, Some, None, ◌⊎◌, inl, inr, refl, sym, ap, ◌∙◌, subst, true≢false}
-use Rattle.std.specs.Prelude.{option_map, slice_get}
+use Rattle.std.proofs.Common.{◌≡◌, ℕ, true, false, List, Option, Some, None, ◌⊎◌, inl, inr, refl, sym, ap, ◌∙◌, subst, true≢false}
+use Rattle.std.specs.Prelude.{option_map}
 use Rattle.std.proofs.lemmas.Option.{same_Some}
-use Rattle.annex_base.specs.Lists.{Each, Member}
+use Rattle.annex_base.specs.Lists.{Each}
 use Rattle.annex_base.specs.declared.kinds.Word.{Word}
-use Rattle.run_data.specs.declared.entry.By.{By}
 use Rattle.run_data.specs.declared.entry.Entry.{Entry}
-use Rattle.run_data.specs.declared.entry.EntryKind.{EntryKind}
-use Rattle.run_data.specs.declared.entry.EntryKind.TheVariants.{Check, Close, Fault, Gain, Gone, Release, Share, Talk}
 use Rattle.run_data.specs.declared.entry.FrameView.{FrameView}
 use Rattle.run_data.specs.declared.entry.FrameText.{FrameText}
 use Rattle.run_data.specs.declared.run.Run.{Run}
@@ -15,20 +12,18 @@ use Rattle.run_data.specs.Repos.{IsSetUp}
 use Rattle.p2p_wire.specs.declared.message.Message.{Message}
 use Rattle.p2p_wire.specs.declared.message.Message.TheVariants.{CheckPresent, Failure, Success}
 use Rattle.p2p_wire.specs.Messages.{order_of}
-use Rattle.run_model.specs.Frames.{Flying, MayTake, Sent, frames_sent, last_request, sender, sent_of, taken_count, up_of, way_of}
+use Rattle.run_model.specs.Frames.{FlyingFrame, MayTake, SendingEntry, sender, sending_entry, way_of}
 use Rattle.run_model.specs.Past.{is_of}
 use Rattle.run_model.specs.Run.{IsStep, OwnPart, OwnPast, RunPast, RunStep, set_up}
-use Rattle.run_model.specs.Said.{Says, message_in}
-use Rattle.run_model.specs.States.{state_of, works}
-use Rattle.node_model.specs.Found.{SessionKind}
+use Rattle.run_model.specs.States.{state_of}
 use Rattle.node_model.specs.Jobs.{AsksLook, Orders, Phase, Work, partner, taken_message}
 use Rattle.node_model.specs.Look.{Made}
 use Rattle.node_model.specs.OwedStep.{owed_step}
-use Rattle.node_model.specs.SessionStep.{Here, here, session_step}
-use Rattle.node_model.specs.Sessions.{Doing, line_in}
+use Rattle.node_model.specs.SessionStep.{session_step}
+use Rattle.node_model.specs.Sessions.{line_in}
 use Rattle.node_model.specs.SetUp.{SetUp}
 use Rattle.node_model.specs.Slots.{job_of}
-use Rattle.race_core.specs.Jobs.{AnswersAsked, TakesAnswer, asks_word, is_asked, keeps_word}
+use Rattle.race_core.specs.Jobs.{AnswersAsked, asks_word, is_asked, keeps_word}
 use Rattle.race_core.proofs.AnswersFit.{AnswerOf, answer_of}
 use Rattle.race_core.proofs.AnswersTurn.{is_plain, plain_completes}
 use Rattle.race_core.proofs.Below.{SentAreRead}
@@ -36,7 +31,7 @@ use Rattle.race_core.proofs.ClientAwaits.{taken_last}
 use Rattle.race_core.proofs.ClientCounts.{LastIs, Request, request}
 use Rattle.race_core.proofs.ClientWays.{asked_by}
 use Rattle.race_core.proofs.FromStep.{Part, own_past, part_of}
-use Rattle.race_core.proofs.JobSteps.{Stepped, step_made, stepped_job, stepped_runs}
+use Rattle.race_core.proofs.JobSteps.{Stepped, session_none, step_made, stepped_job, stepped_runs}
 use Rattle.race_core.proofs.Makers.{TakenBy, taken_of}
 use Rattle.race_core.proofs.SaidDown.{said_is}
 use Rattle.race_core.proofs.SessionFacts.{session_found}
@@ -46,17 +41,6 @@ use Rattle.race_core.proofs.Ways.{is_answer}
 use Rattle.race_core.proofs.WorkNumbers.{same_number_same_work}
 
 -- ---- the job that takes a frame
-
-session_none : (h : Here) (doing : Doing) (asked : Option Message) (says : List FrameText) (kind : EntryKind) → SessionKind h doing asked says kind → job_of kind ≡ None
-session_none h doing asked says (Share hold end by key) x = ap (λ (b : By). job_of (Share hold end b key)) x.by_is
-session_none h doing asked says (Check what key) x = refl
-session_none h doing asked says (Gone by key) x = ap (λ (b : By). job_of (Gone b key)) x.by_is
-session_none h doing asked says (Release hold key) x = refl
-session_none h doing asked says (Gain by size key) x = ap (λ (b : By). job_of (Gain b size key)) x.by_is
-session_none h doing asked says (Talk None) x = refl
-session_none h doing asked says (Close peer slot client) x = refl
-session_none h doing asked says (Fault call by) x = ap (λ (b : By). job_of (Fault call b)) x.0
-session_none h doing asked says kind x = absurd x
 
 -- it made a step
 stepped : (s : SetUp) (past : List Entry) (words : ℕ → Option Word) (e : Entry) (f : FrameView) (j : ℕ) → OwnPart s past words e → e.taken ≡ Some f → job_of e.kind ≡ Some j → Stepped s past e
@@ -126,10 +110,10 @@ order_asks None key = refl
 order_asks (Some n) key = refl
 
 -- the last request is one for a word
-line_of : (x : Flying) (time : ℕ) (m : Message) → Path (Option Request) (Some (asked_by x)) (Some (request time (Some m))) → line_in x.frame.body ≡ Some m
+line_of : (x : FlyingFrame) (time : ℕ) (m : Message) → Path (Option Request) (Some (asked_by x)) (Some (request time (Some m))) → line_in x.frame.body ≡ Some m
 line_of x time m e = same_Some (line_in x.frame.body) (Some m) (ap (λ (o : Option Request). option_map (λ (q : Request). q.what) o) e)
 
-asks_last : (key : List ℕ) (target : Option ℕ) (phase : Phase) (k : Message) (peer : ℕ) (x : Flying) → Kept phase k → partner target phase ≡ Some peer → LastIs key target phase peer (Some (asked_by x)) → asks_word (line_in x.frame.body) ≡ true
+asks_last : (key : List ℕ) (target : Option ℕ) (phase : Phase) (k : Message) (peer : ℕ) (x : FlyingFrame) → Kept phase k → partner target phase ≡ Some peer → LastIs key target phase peer (Some (asked_by x)) → asks_word (line_in x.frame.body) ≡ true
 asks_last key target phase k peer x (inl y) on last =
     let one : Some y.0 ≡ Some peer = sym (ap (partner target) y.1) ∙ on in
     let z = subst (λ (q : Phase). LastIs key target q peer (Some (asked_by x))) y.1 last (same_Some y.0 peer one) in
@@ -150,7 +134,7 @@ module _ (reads_back : SentAreRead) (run : Run) (repos : Each IsSetUp run.repos)
   part : Part (set_up run) past r e
   part = part_of (set_up run) past e r step is
 
-  asked_of : (x : Stepped (set_up run r) past e) (f : FrameView) (z : Sent) → e.taken ≡ Some f → keeps_word x.w.phase (line_in f.body) ≡ true → sender past r e.taken ≡ Some z → is_asked z.entry ≡ true
+  asked_of : (x : Stepped (set_up run r) past e) (f : FrameView) (z : SendingEntry) → e.taken ≡ Some f → keeps_word x.w.phase (line_in f.body) ≡ true → sender past r e.taken ≡ Some z → is_asked z.entry ≡ true
   asked_of x f z took keeps sent =
       let k = some_kept x.w.phase (line_in f.body) keeps in
       let plain = kept_plain x.w.phase k.0 k.2 in
@@ -162,8 +146,8 @@ module _ (reads_back : SentAreRead) (run : Run) (repos : Each IsSetUp run.repos)
       let last : LastIs t.w.what.key t.w.what.peer t.w.phase t.peer (Some (asked_by a.request)) =
       taken_last reads_back s past past_is e f down (ap is_answer said ∙ plain_completes k.0 plain) t (Some (asked_by a.request)) (ap (option_map asked_by) a.last) in
       let asks : asks_word (line_in a.request.frame.body) ≡ true = asks_last x.w.what.key x.w.what.peer x.w.phase k.0 t.peer a.request k.2 t.on last in
-      let from : z ≡ sent_of may.it = same_Some z (sent_of may.it) (sym sent ∙ ap (sender past r) took ∙ ap (option_map sent_of) may.next) in
-      ap (λ (y : Sent). is_asked y.entry) from ∙ ap (λ (o : Option FrameView). asks_word (taken_message o)) a.taken_is ∙ ap (λ (b : FrameText). asks_word (line_in b)) (sym a.body_is) ∙ asks
+      let from : z ≡ sending_entry may.it = same_Some z (sending_entry may.it) (sym sent ∙ ap (sender past r) took ∙ ap (option_map sending_entry) may.next) in
+      ap (λ (y : SendingEntry). is_asked y.entry) from ∙ ap (λ (o : Option FrameView). asks_word (taken_message o)) a.taken_is ∙ ap (λ (b : FrameText). asks_word (line_in b)) (sym a.body_is) ∙ asks
 
   pub answers_asked : AnswersAsked past r e
   answers_asked w f z there t sent =

@@ -9,7 +9,7 @@ use Rattle.run_data.specs.declared.entry.FrameView.{FrameView}
 use Rattle.run_data.specs.declared.entry.FrameText.{FrameText}
 use Rattle.run_data.specs.declared.entry.FrameText.TheVariants.{Opening, Closing, Bytes, Line}
 use Rattle.run_data.specs.declared.job.Outcome.{Outcome}
-use Rattle.node_model.specs.Slots.{Running}
+use Rattle.node_model.specs.Slots.{RunningJob}
 use Rattle.run_model.specs.Past.{is_of}
 use Rattle.race_core.proofs.JobKept.{kind_kept}
 use Rattle.p2p_wire.specs.declared.message.Message.{Message}
@@ -21,7 +21,7 @@ use Rattle.node_model.specs.Jobs.{AsksLock, Drops, Gets, Greets, Next, Opens, Pa
 use Rattle.node_model.specs.Look.{Made}
 use Rattle.node_model.specs.JobStep.{Turn}
 use Rattle.run_model.specs.Run.{OwnRun}
-use Rattle.node_model.specs.Found.{JobKind}
+use Rattle.node_model.specs.Found.{IsJobEntry}
 use Rattle.race_core.proofs.ReadAs.{IsJobs, ReadsAs, SameHead, reads_as}
 use Rattle.race_core.proofs.TalkFacts.{DropAsks, Fits, GetAsks, PartAsks, PartSays, PutAsks, TalkKind, slot_talks}
 use Rattle.race_core.proofs.PhaseFacts.{BodyReads, Good, GoodTo, PartReads, SentReads, kind_good, only_word}
@@ -127,7 +127,7 @@ none_reads : (part : Part) (sent : List FrameView) → sent ≡ [] → SentReads
 none_reads part sent is = subst (SentReads part) (sym is) tt
 
 -- what a job's step sends is of its part
-sent_reads : (t : Turn) (m : Made) (kind : EntryKind) → JobKind t m kind → TalkKind t m kind → Fits t.w.part t.w.phase → ((j : ℕ) (outcome : Outcome) → kind ≢ ends_job j outcome) → SentReads t.w.part m.sent
+sent_reads : (t : Turn) (m : Made) (kind : EntryKind) → IsJobEntry t m kind → TalkKind t m kind → Fits t.w.part t.w.phase → ((j : ℕ) (outcome : Outcome) → kind ≢ ends_job j outcome) → SentReads t.w.part m.sent
 sent_reads t m (Share hold end by key) x y fits goes_on = none_reads t.w.part m.sent x.sends_none
 sent_reads t m (Bar j need key) x y fits goes_on = none_reads t.w.part m.sent x.sends_none
 sent_reads t m (Gone by key) x y fits goes_on = none_reads t.w.part m.sent x.sends_none
@@ -148,7 +148,7 @@ sent_reads t m (Talk (Some j)) x y fits goes_on = elim (y.says) [
 sent_reads t m (Fault call by) x y fits goes_on = none_reads t.w.part m.sent x.1
 sent_reads t m kind x y fits goes_on = absurd x
 
-removes_drops : (t : Turn) (m : Made) (kind : EntryKind) → JobKind t m kind → (source : By) (key : List ℕ) → kind ≡ Gone source key → t.w.part ≡ Drops
+removes_drops : (t : Turn) (m : Made) (kind : EntryKind) → IsJobEntry t m kind → (source : By) (key : List ℕ) → kind ≡ Gone source key → t.w.part ≡ Drops
 removes_drops t m (Gone by key) x source k is = x.part_is
 removes_drops t m (Share hold end by key) x source k is = absurd (cc)
 removes_drops t m (Bar j need key) x source k is = absurd (cc)
@@ -166,8 +166,8 @@ module _ (s : SetUp) (past : List Entry) (e : Entry) (w : Work) (x : Steps s pas
   same_kind = ap (λ (y : Entry). y.kind) x.by.is
 
   -- what it found, in terms of the entry's kind
-  pub step_kind : JobKind (turn_at s past e x.by) x.by.made e.kind
-  step_kind = subst (JobKind (turn_at s past e x.by) x.by.made) (sym same_kind) (stepped_found s past e x.by).found
+  pub step_kind : IsJobEntry (turn_at s past e x.by) x.by.made e.kind
+  step_kind = subst (IsJobEntry (turn_at s past e x.by) x.by.made) (sym same_kind) (stepped_found s past e x.by).found
 
   pub step_talk : Fits x.by.w.part x.by.w.phase → TalkKind (turn_at s past e x.by) x.by.made e.kind
   step_talk fits = subst (TalkKind (turn_at s past e x.by) x.by.made) (sym same_kind) (slot_talks s (state_of s past) x.by.look x.by.made x.by.w fits x.by.does)
@@ -184,7 +184,7 @@ module _ (s : SetUp) (past : List Entry) (e : Entry) (w : Work) (x : Steps s pas
       subst (Good x.by.w) (sym x.work_is) (kind_good (rows_at past s.number) s.number x.by.w e e.kind fits reads (removes_drops (turn_at s past e x.by) x.by.made e.kind step_kind))
 
   pub step_number : w.number ≡ x.by.w.number
-  step_number = ap (λ (y : Work). y.number) x.work_is ∙ ap (λ (j : Running). j.number) (kind_kept (rows_at past s.number) s.number x.by.w e e.kind)
+  step_number = ap (λ (y : Work). y.number) x.work_is ∙ ap (λ (j : RunningJob). j.number) (kind_kept (rows_at past s.number) s.number x.by.w e e.kind)
 
   pub step_runs : Member x.by.w (works past s.number)
   step_runs = stepped_runs s past e x.by

@@ -6,7 +6,7 @@ use Rattle.p2p_wire.specs.declared.message.Message.{Message}
 use Rattle.p2p_wire.specs.declared.message.Message.TheVariants.{CheckPresent, Failure, Remove, RemoveBefore, Success}
 use Rattle.run_data.specs.declared.entry.Entry.{Entry}
 use Rattle.run_data.specs.declared.entry.FrameView.{FrameView}
-use Rattle.run_model.specs.Frames.{Sent, sender}
+use Rattle.run_model.specs.Frames.{SendingEntry, sender}
 use Rattle.run_model.specs.States.{works}
 use Rattle.run_model.specs.Words.{awaits_word}
 use Rattle.node_model.specs.Jobs.{AsksLook, Orders, Phase, Work, heard_of, side_of, taken_message}
@@ -51,4 +51,4 @@ pub record TakesAnswer (w : Work) (e : Entry) (f : FrameView) : Type 0 where
 
 -- an answer that a job of r takes by this entry, if its word is kept, comes of an entry that was asked for a word
 abbrev pub AnswersAsked : List Entry → ℕ → Entry → Type 0
-AnswersAsked past r e = (w : Work) (f : FrameView) (x : Sent) → Member w (works past r) → TakesAnswer w e f → sender past r e.taken ≡ Some x → is_asked x.entry ≡ true
+AnswersAsked past r e = (w : Work) (f : FrameView) (x : SendingEntry) → Member w (works past r) → TakesAnswer w e f → sender past r e.taken ≡ Some x → is_asked x.entry ≡ true

@@ -14,12 +14,12 @@ use Rattle.run_data.specs.declared.run.Run.{Run}
 use Rattle.run_data.specs.declared.run.TreeMark.{TreeMark}
 use Rattle.run_model.specs.Past.{Always, begun_count, is_of, now}
 use Rattle.node_model.specs.Rows.{option_is}
-use Rattle.run_model.specs.Frames.{Flying, Way, sender_of, frames_sent, taken_count, taker_of, way_of}
+use Rattle.run_model.specs.Frames.{FlyingFrame, Way, sender_of, frames_sent, taken_count, taker_of, way_of}
 use Rattle.node_model.specs.Slots.{job_of}
 use Rattle.node_model.specs.SetUp.{SetUp}
 use Rattle.run_model.specs.States.{works}
 use Rattle.run_model.specs.Words.{awaits_of, word_of_kind}
-use Rattle.run_model.specs.Run.{IsSmall, Ordered, OwnPart, paths_at, paths_begun, repo_number, tree_at}
+use Rattle.run_model.specs.Run.{IsSmall, ComesInOrder, OwnPart, paths_at, paths_begun, repo_number, tree_at}
 
 -- when an entry was made, and by which repository
 abbrev pub stamp_of : Entry → EntryStamp
@@ -78,7 +78,7 @@ pub record Letter : Type 0 where
   pub sender : EntryStamp
   pub word : Option Word
 
-abbrev pub letter_of : Flying → Letter
+abbrev pub letter_of : FlyingFrame → Letter
 letter_of x = record { body = x.frame.body; sender = stamp_of x.entry; word = word_of_kind x.entry.kind }
 
 -- what a repository with this history sent on a way
@@ -111,23 +111,23 @@ word_got got (e ∷ past) r j c =
 -- ---- what each repository keeps of its own history, and what each two keep of theirs
 
 -- an entry of its history is its own part, takes the letter whose turn it is, and has at a job's end the words of the letters
-pub record KeptStep (s : SetUp) (got : Way → List Letter) (past : List Entry) (e : Entry) : Type 0 where
+pub record IsHistoryStep (s : SetUp) (got : Way → List Letter) (past : List Entry) (e : Entry) : Type 0 where
   pub own : e.repo ≡ Some s.number
   pub words : ℕ → Option Word
   pub does : OwnPart s past words e
   pub takes : (f : FrameView) → e.taken ≡ Some f → TakesNext (got (way_of s.number f)) past (way_of s.number f) e f
   pub tells : (j : ℕ) (outcome : Outcome) → e.kind ≡ End j outcome → (c : ℕ) → words c ≡ word_got got past s.number j c
 
-abbrev pub Kept : SetUp → (Way → List Letter) → List Entry → Type 0
-Kept s got past = Always (KeptStep s got) past
+abbrev pub IsHistory : SetUp → (Way → List Letter) → List Entry → Type 0
+IsHistory s got past = Always (IsHistoryStep s got) past
 
 -- the new entries of one repository, the newest first, are in order behind the run, were they alone there
-abbrev pub Follow : List Entry → List Entry → Type 0
-Follow past [] = Unit {0}
-Follow past (e ∷ es) = Ordered (es ++ past) e × Follow past es
+abbrev pub ComeInOrder : List Entry → List Entry → Type 0
+ComeInOrder past [] = Unit {0}
+ComeInOrder past (e ∷ es) = ComesInOrder (es ++ past) e × ComeInOrder past es
 
 -- the letters that came on a way are the first of those that its sender, with this history, sent there
-pub record Came (got : List Letter) (past : List Entry) (w : Way) : Type 0 where
+pub record AreFirstLetters (got : List Letter) (past : List Entry) (w : Way) : Type 0 where
   pub rest : List Letter
   pub is : letters past w ≡ got ++ rest
 
@@ -135,18 +135,18 @@ pub record Came (got : List Letter) (past : List Entry) (w : Way) : Type 0 where
 pub record MayMerge (run : Run) (news : List (List Entry)) (got : ℕ → Way → List Letter) : Type 0 where
   pub marked : Each (λ m. m.place ≤ length run.entries) run.tree
   pub number : length news ≤ length run.repos
-  pub kept : (r : ℕ) → r < length run.repos → Kept (set_up_with run news r) (got r) (history run news r)
-  pub follow : (r : ℕ) → r < length run.repos → Follow (reverse run.entries) (reverse (new_of news r))
-  pub came : (r c : ℕ) (w : Way) → r < length run.repos → taker_of w ≡ r → sender_of w ≡ c → Came (got r w) (history run news c) w
+  pub kept : (r : ℕ) → r < length run.repos → IsHistory (set_up_with run news r) (got r) (history run news r)
+  pub follow : (r : ℕ) → r < length run.repos → ComeInOrder (reverse run.entries) (reverse (new_of news r))
+  pub came : (r c : ℕ) (w : Way) → r < length run.repos → taker_of w ≡ r → sender_of w ≡ c → AreFirstLetters (got r w) (history run news c) w
 
 -- each entry stands before all that come after it
-abbrev pub Rising : List Entry → Type 0
-Rising [] = Unit {0}
-Rising (e ∷ es) = Each (λ f. stands_before e f ≡ true) es × Rising es
+abbrev pub StandInOrder : List Entry → Type 0
+StandInOrder [] = Unit {0}
+StandInOrder (e ∷ es) = Each (λ f. stands_before e f ≡ true) es × StandInOrder es
 
 -- the entries are those that the repositories added, each one's in its order, and all in order of time, count and number
 pub record IsMerge (news : List (List Entry)) (all : List Entry) : Type 0 where
-  pub rising : Rising all
+  pub rising : StandInOrder all
   pub made : Each (λ e. (r : ℕ) × (e.repo ≡ Some r)) all
   pub own : (r : ℕ) → filter (is_of r) all ≡ new_of news r
 
@@ -158,7 +158,7 @@ last_count c [] = c
 last_count c (e ∷ past) = e.count
 
 -- a new entry of r at this time, with a count past this one
-pub record IsNext (r t c : ℕ) (e : Entry) : Type 0 where
+pub record IsNewEntry (r t c : ℕ) (e : Entry) : Type 0 where
   pub own : e.repo ≡ Some r
   pub at : e.time ≡ t
   pub rises : c < e.count
@@ -166,13 +166,13 @@ pub record IsNext (r t c : ℕ) (e : Entry) : Type 0 where
   pub small : IsSmall e.kind
 
 -- a job that it begins was given the paths that its key has in this tree
-abbrev pub GivenIn : Entries → (ℕ → List (List ℕ)) → Entry → Type 0
-GivenIn tree paths e = (job : ℕ) (what : Job) → e.kind ≡ Begin job what → paths job ≡ paths_of tree what.key
+abbrev pub HasPathsIn : Entries → (ℕ → List (List ℕ)) → Entry → Type 0
+HasPathsIn tree paths e = (job : ℕ) (what : Job) → e.kind ≡ Begin job what → paths job ≡ paths_of tree what.key
 
 -- what the node of r keeps: its history with the paths of its jobs and the letters that came, and of its new entries, the
 -- newest first, that their counts rise from this one on, and that their jobs have their paths in the tree at the end of the run
 pub record NodeKeeps (run : Run) (news : List (List Entry)) (r c : ℕ) (paths : ℕ → List (List ℕ)) (got : Way → List Letter) : Type 0 where
-  pub kept : Kept (record { number = r; repos = run.repos; paths = paths }) got (history run news r)
+  pub kept : IsHistory (record { number = r; repos = run.repos; paths = paths }) got (history run news r)
   pub before : (j : ℕ) → j ≤ begun_count (reverse run.entries) r → paths_at run.tree (reverse run.entries) r j ≡ paths j
-  pub given : Each (GivenIn (tree_at run.tree (length run.entries)) paths) (reverse (new_of news r))
-  pub next : Always (λ older e. IsNext r (now (reverse run.entries)) (last_count c older) e) (reverse (new_of news r))
+  pub given : Each (HasPathsIn (tree_at run.tree (length run.entries)) paths) (reverse (new_of news r))
+  pub next : Always (λ older e. IsNewEntry r (now (reverse run.entries)) (last_count c older) e) (reverse (new_of news r))

@@ -44,7 +44,7 @@ pub record HasJob (run : Run) (place r j : ℕ) (key : List ℕ) (side : Side) (
   pub only : (other : ℕ) (also : Job) → IsAt run other r (Begin j also) → other ≡ at
 
 -- the entry at this place sent frame number n of the way: so many frames went there with it, and fewer before it
-pub record Sends (run : Run) (place : ℕ) (w : Way) (n : ℕ) : Type 0 where
+pub record SendsFrame (run : Run) (place : ℕ) (w : Way) (n : ℕ) : Type 0 where
   pub entry : Entry
   pub entry_is : slice_get run.entries place ≡ Some entry
   pub repo_is : is_of (sender_of w) entry ≡ true
@@ -52,7 +52,7 @@ pub record Sends (run : Run) (place : ℕ) (w : Way) (n : ℕ) : Type 0 where
   pub reached : n ≤ length (frames_sent (past_at run (place + 1)) w)
 
 -- the entry at this place, one of r, takes frame number n of the way
-pub record Takes (run : Run) (place r : ℕ) (w : Way) (n : ℕ) : Type 0 where
+pub record TakesFrame (run : Run) (place r : ℕ) (w : Way) (n : ℕ) : Type 0 where
   pub entry : Entry
   pub entry_is : slice_get run.entries place ≡ Some entry
   pub repo_is : is_of r entry ≡ true
@@ -66,7 +66,7 @@ pub record Takes (run : Run) (place r : ℕ) (w : Way) (n : ℕ) : Type 0 where
 pub record HasOrder (run : Run) (place r a : ℕ) (key : List ℕ) : Type 0 where
   pub w : Way
   pub n : ℕ
-  pub taken : Takes run place r w n
+  pub taken : TakesFrame run place r w n
   pub from_a : sender_of w ≡ a
   pub j : ℕ
   pub deadline : Option ℕ
@@ -75,11 +75,11 @@ pub record HasOrder (run : Run) (place r a : ℕ) (key : List ℕ) : Type 0 wher
   pub at : ℕ
   pub earlier : at < place
   pub order : IsAt run at a (Order j r deadline need key)
-  pub sends : Sends run at w n
+  pub sends : SendsFrame run at w n
   pub job : HasJob run at a j key Remote r
   pub judge_is : judge_at run place taken.entry ≡ Some (record { repo = a; job = j; past = past_at run at })
-  pub one_order : (other : ℕ) → Sends run other w n → other ≡ at
-  pub once : (other : ℕ) → Takes run other r w n → other ≡ place
+  pub one_order : (other : ℕ) → SendsFrame run other w n → other ≡ at
+  pub once : (other : ℕ) → TakesFrame run other r w n → other ≡ place
 
 -- the removal is that of an entry before this place
 pub record IsRemovalBefore (run : Run) (key : List ℕ) (place : ℕ) (x : Removal) : Type 0 where

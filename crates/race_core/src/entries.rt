@@ -1,5 +1,4 @@
-//! How many copies of a content stand at a place of a run. A slice of entries is in the order of the run, and a past is its
-//! reverse.
+//! How many copies of a content stand at a place of a run.
 
 ghost use Rattle.std.specs.Prelude.{◌≡◌, reverse, if◌then◌else◌};
 ghost use Rattle.run_model.specs.Past.{is_of, present};
@@ -11,7 +10,7 @@ use run_data::{Entry, EntryKind, Run};
 
 /// How many repositories have the content of the key before the place, which is a number of entries; past the end all
 /// entries count (own).
-#[tactic(auto, using(crate::proofs::Pasts::count_range_more))]
+#[tactic(auto, using(annex_base::proofs::Pasts::count_range_more))]
 pub fn copies(run: &Run, key: &Key, upto: usize) -> usize
     ensures { result ≡ copies_at run.now key.now upto }
 {
@@ -25,7 +24,7 @@ pub fn copies(run: &Run, key: &Key, upto: usize) -> usize
     count
 }
 
-/// The entries before a place; all of them where the place is past the end.
+/// The entries before a place, in the order of the run; all of them where the place is past the end.
 fn before(run: &Run, place: usize) -> &[Entry]
     ensures { reverse result.now ≡ past_at run.now place }
 {

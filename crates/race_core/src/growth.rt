@@ -9,8 +9,8 @@ ghost use Rattle.run_data.specs.declared.run.TreeMark.{TreeMark};
 ghost use Rattle.run_model.specs.Frames.{Way, sender_of, taker_of};
 ghost use Rattle.run_model.specs.Past.{is_of};
 ghost use Rattle.run_data.specs.Repos.{IsSetUp};
-ghost use Rattle.race_core.specs.Merged.{Came, IsMerge, Kept, Letter, MayMerge, NodeKeeps, history, last_count, letters, merged_run};
-ghost use Rattle.run_model.specs.Run.{FramesPart, IsRun, OnlyWaits, Ordered, OwnPart, RunStep, set_up};
+ghost use Rattle.race_core.specs.Merged.{AreFirstLetters, IsMerge, IsHistory, Letter, MayMerge, NodeKeeps, history, last_count, letters, merged_run};
+ghost use Rattle.run_model.specs.Run.{FramesPart, IsRun, OnlyWaits, ComesInOrder, OwnPart, RunStep, set_up};
 
 /// A run begins without entries, its repositories set up within their bounds. It stays a run by each entry that may come next:
 /// a turn of a repository, as its own history and the frames on their way allow, or a wait; by each change of the tree at
@@ -20,9 +20,9 @@ pub fn runs_grow()
     ensures entry { (run : Run) (e : Entry) → IsRun run → RunStep (set_up run) (reverse run.entries) e
         → IsRun (record run { entries = run.entries ++ e ∷ [] }) }
     ensures turn { (run : Run) (e : Entry) (r : ℕ) (words : ℕ → Option Word) → IsRun run → e.repo ≡ Some r
-        → Ordered (reverse run.entries) e → OwnPart (set_up run r) (filter (is_of r) (reverse run.entries)) words e
+        → ComesInOrder (reverse run.entries) e → OwnPart (set_up run r) (filter (is_of r) (reverse run.entries)) words e
         → FramesPart (reverse run.entries) r words e → IsRun (record run { entries = run.entries ++ e ∷ [] }) }
-    ensures wait { (run : Run) (e : Entry) → IsRun run → e.repo ≡ None → Ordered (reverse run.entries) e → OnlyWaits e
+    ensures wait { (run : Run) (e : Entry) → IsRun run → e.repo ≡ None → ComesInOrder (reverse run.entries) e → OnlyWaits e
         → IsRun (record run { entries = run.entries ++ e ∷ [] }) }
     ensures tree { (run : Run) (m : TreeMark) → length run.entries ≤ m.place → IsRun run
         → IsRun (record run { tree = run.tree ++ m ∷ [] }) }
@@ -48,10 +48,10 @@ pub fn histories_of_nodes_are_runs()
     ensures nodes { (run : Run) (news : List (List Entry)) (c : ℕ) (paths : ℕ → ℕ → List (List ℕ)) (got : ℕ → Way → List Letter) → IsRun run
         → Each (λ m. m.place ≤ length run.entries) run.tree → length news ≤ length run.repos → last_count 0 (reverse run.entries) ≤ c
         → ((r : ℕ) → r < length run.repos → NodeKeeps run news r c (paths r) (got r))
-        → ((r q : ℕ) (w : Way) → r < length run.repos → taker_of w ≡ r → sender_of w ≡ q → Came (got r w) (history run news q) w)
+        → ((r q : ℕ) (w : Way) → r < length run.repos → taker_of w ≡ r → sender_of w ≡ q → AreFirstLetters (got r w) (history run news q) w)
         → IsRun (merged_run run news) }
     ensures block { (run : Run) → IsRun run → Each (λ m. m.place ≤ length run.entries) run.tree
         → MayMerge run [] (λ r. letters (reverse run.entries)) }
     ensures kept { (run : Run) → IsRun run → (r : ℕ)
-        → Kept (set_up run r) (letters (reverse run.entries)) (filter (is_of r) (reverse run.entries)) }
+        → IsHistory (set_up run r) (letters (reverse run.entries)) (filter (is_of r) (reverse run.entries)) }
 {}

@@ -1,11 +1,11 @@
-//! The laws of running jobs: what they have heard, with whom they speak, and what the answers come of that they take. Each is the
-//! contract of a function that does nothing.
+//! The laws of running jobs: what they have heard, with whom they speak, what comes of the answers that they take, and what stays of them.
 
 ghost use Rattle.std.specs.Prelude.{◌≡◌, ◌≢◌, ◌<◌, ◌≤◌, ◌^◌, ℕ, List, ◌∷◌, Some, true, length, reverse};
 ghost use Rattle.annex_base.specs.Lists.{Each};
 ghost use Rattle.run_data.specs.declared.entry.Entry.{Entry};
 ghost use Rattle.run_data.specs.declared.entry.FrameView.{FrameView};
 ghost use Rattle.run_data.specs.declared.run.Run.{Run};
+ghost use Rattle.node_model.specs.Jobs.{RowsAndEnds, Work, running_job, work_after};
 ghost use Rattle.node_model.specs.Look.{Look, Made};
 ghost use Rattle.node_model.specs.Step.{step};
 ghost use Rattle.run_model.specs.Past.{Occurs, begun_count, is_of};
@@ -51,3 +51,8 @@ pub fn kept_words_were_asked()
     // a law, for the proof
     sent_messages_are_read();
 }
+
+/// An entry of its repository leaves a running job the same: its number, its slot and what was asked of it (own).
+pub fn running_jobs_stay_the_same()
+    ensures { (rows : RowsAndEnds) (r : ℕ) (e : Entry) (w : Work) → running_job (work_after rows r e w) ≡ running_job w }
+{}

@@ -6,7 +6,7 @@ ghost use Rattle.drop_proof.specs.declared.evidence.Evidence.{Evidence};
 ghost use Rattle.run_data.specs.declared.entry.Entry.{Entry};
 ghost use Rattle.run_data.specs.declared.run.Run.{Run};
 ghost use Rattle.run_model.specs.Causes.{HasCauses};
-ghost use Rattle.run_model.specs.Logs.{ever, lines_of_file, need_read, read_at, settings_of};
+ghost use Rattle.run_model.specs.Logs.{lines_ever, lines_of_file, need_read, read_at, settings_of};
 ghost use Rattle.node_model.specs.Evidence.{is_locked, is_trusted};
 ghost use Rattle.annex_base.specs.Lists.{Member};
 ghost use Rattle.run_model.specs.Past.{present};

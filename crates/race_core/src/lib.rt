@@ -1,5 +1,4 @@
-//! The laws of the last copies: what every run of several repositories keeps. Beside them how many copies stand at a place of
-//! a run.
+//! The laws of the last copies, which every run of several repositories keeps; and how many copies stand at a place of a run.
 #![tactic(auto)]
 
 mod claims;
@@ -24,11 +23,16 @@ pub use evidence::{
     removals_leave_as_many,
 };
 pub use growth::{histories_of_nodes_are_runs, merged_histories_are_runs, runs_grow};
-pub use jobs::{frames_go_to_others, jobs_hear_nobody_twice, kept_words_were_asked};
+pub use jobs::{
+    frames_go_to_others, jobs_hear_nobody_twice, kept_words_were_asked, running_jobs_stay_the_same,
+};
 pub use laws::{
     drops_leave_their_evidence, drops_read_their_need, ignored_never_count, kept_lines_read_as_all,
     lawful_runs_are_safe, never_fewer_than_mincopies, refusals_have_causes, runs_are_lawful,
     runs_are_safe,
 };
 pub use run_data;
-pub use steps::{carried_states_agree, steps_find_their_cause};
+pub use steps::{
+    carried_states_agree, own_entries_suit_their_ends, steps_find_their_cause,
+    steps_name_their_jobs, steps_open_closed_ends, steps_take_what_is_at_hand,
+};

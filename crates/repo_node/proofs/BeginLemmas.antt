@@ -23,7 +23,7 @@ use Rattle.repo_node.specs.declared.setup.Setup.{Setup}
 use Rattle.node_sessions.specs.Sessions.{FedAll}
 use Rattle.std.specs.Option.{ForSome}
 use Rattle.repo_node.specs.Kept.{IsFed, IsKept}
-use Rattle.repo_node.specs.Nodes.{Fits, IsState, NodeView, state_of, with_entry}
+use Rattle.repo_node.specs.Nodes.{MatchesSetup, IsState, NodeView, state_of, with_entry}
 use Rattle.repo_node.specs.Pasts.{AddsTo, SamePast}
 use Rattle.repo_node.proofs.MoveLemmas.{seen}
 use Rattle.repo_node.proofs.OwedLemmas.{Grows, grows_adds}
@@ -76,7 +76,7 @@ module _ (setup : Setup) (h : List Entry) (was now : PartsView) (branch : Files)
   table_same : now.table ≡ was.table
   table_same = ap (λ (p : PartsView). p.table) same
 
-  state_begun : (s : SetUp) → Fits setup s → IsState s now branch owed told (state_after s (state_of s h) begun_entry)
+  state_begun : (s : SetUp) → MatchesSetup setup s → IsState s now branch owed told (state_after s (state_of s h) begun_entry)
   state_begun s fits =
       let is = kept.state s fits in
       record {

@@ -1,12 +1,13 @@
 -- From what a store tells of each call to the calls of a step.
 use Rattle.std.proofs.Common.{◌≡◌, ℕ, ◌-◌, Bool, true, false, List, [], ◌∷◌, ◌++◌, Option, Some, None, Result, Ok, Err, IfErr, refl, sym, ap, ◌∙◌, subst, arith}
-use Rattle.std.specs.Prelude.{nat_lt, ◌==◌, cond, find, if◌then◌else◌}
+use Rattle.std.specs.Prelude.{nat_lt, cond, find, if◌then◌else◌}
 use Rattle.std.specs.Option.{option_map, option_or}
 use Rattle.std.specs.Result.{IsErrAnd}
 use Rattle.std.proofs.lemmas.List.Folds.{find-append}
-use Rattle.annex_base.specs.Calls.{call_number, same_call}
+use Rattle.annex_base.specs.Calls.{same_call}
 use Rattle.annex_base.specs.declared.kinds.Call.{Call}
 use Rattle.annex_base.specs.declared.kinds.Call.TheVariants as calls
+use Rattle.annex_base.proofs.Calls.{same_call-is}
 use Rattle.annex_base.proofs.Functions.{funext}
 use Rattle.object_store.specs.Calls.{FailsAsTold, has_failed, one_fewer}
 use Rattle.object_store.specs.declared.keeper.KeeperFault.{KeeperFault}
@@ -23,46 +24,6 @@ Failing = Option (Call → ℕ)
 
 -- ---- a call that didn't fail
 
-call_at : ℕ → Call
-call_at n =
-    if n == 0 then calls.Has
-    else (if n == 1 then calls.Size
-    else (if n == 2 then calls.Read
-    else (if n == 3 then calls.PartSize
-    else (if n == 4 then calls.ReadPart
-    else (if n == 5 then calls.Append
-    else (if n == 6 then calls.Commit
-    else (if n == 7 then calls.DropPart
-    else (if n == 8 then calls.Remove
-    else (if n == 9 then calls.Hold
-    else (if n == 10 then calls.Unhold
-    else (if n == 11 then calls.Holds
-    else (if n == 12 then calls.PutFile
-    else calls.File))))))))))))
-
-at_number : (c : Call) → call_at (call_number c) ≡ c
-unfolding call_at
-at_number calls.Has = refl
-at_number calls.Size = refl
-at_number calls.Read = refl
-at_number calls.PartSize = refl
-at_number calls.ReadPart = refl
-at_number calls.Append = refl
-at_number calls.Commit = refl
-at_number calls.DropPart = refl
-at_number calls.Remove = refl
-at_number calls.Hold = refl
-at_number calls.Unhold = refl
-at_number calls.Holds = refl
-at_number calls.PutFile = refl
-at_number calls.File = refl
-
-same_number : (m n : ℕ) → (m == n) ≡ true → m ≡ n
-same_number m n e = grind arith
-
-same_is : (c d : Call) → same_call c d ≡ true → c ≡ d
-same_is c d e = sym (at_number c) ∙ (ap call_at (same_number (call_number c) (call_number d) e) ∙ at_number d)
-
 -- where none was to fail, the numbers stay
 stays : (call : Call) (failing : Call → ℕ) → false ≡ nat_lt 0 (failing call) → one_fewer call failing ≡ failing
 stays call failing none = funext (one_fewer call failing) failing (λ c. go c (same_call call c) refl)
@@ -71,7 +32,7 @@ stays call failing none = funext (one_fewer call failing) failing (λ c. go c (s
     zero n e = grind arith
 
     go : (c : Call) (b : Bool) → same_call call c ≡ b → (if b then failing c - 1 else failing c) ≡ failing c
-    go c true same = zero (failing c) (none ∙ ap (λ (x : Call). nat_lt 0 (failing x)) (same_is call c same))
+    go c true same = zero (failing c) (none ∙ ap (λ (x : Call). nat_lt 0 (failing x)) (same_call-is call c same))
     go c false same = refl
 
 pub unfailed : (call : Call) (before after : Failing) → FailsAsTold call before after false → after ≡ before
@@ -177,10 +138,6 @@ makes_short made call r failing is = makes_handed made call r refusals.NoMemory 
 -- a refusal before the first call, by which the store didn't fail
 pub makes_early : {X Y : Type 0} (made : List Call) (call : Call) (r : Result X NodeRefused) (e : NodeRefused) (failing : Failing) → IsErrAnd r (λ d. d ≡ e) → (◌≡◌ {A = Result Y NodeRefused} (Err e) (Err refusals.StoreFault) → ⊥) → Makes made call r failing failing
 makes_early made call r e failing is well = makes_handed made call r e failing failing is (stops_early made call e failing failing (λ f. well (ap (λ (x : NodeRefused). Err x) f)) refl)
-
--- the same calls, by another name
-pub makes_named : {X : Type 0} (made named : List Call) (call : Call) (r : Result X NodeRefused) (before after : Failing) → made ≡ named → Makes made call r before after → Makes named call r before after
-makes_named made named call r before after is it = subst (λ (cs : List Call). Makes cs call r before after) is it
 
 pub same_refusal : {X : Type 0} (e d : NodeRefused) → ◌≡◌ {A = Result X NodeRefused} (Err e) (Err d) → e ≡ d
 same_refusal e d is = cc

@@ -2,6 +2,7 @@
 use Rattle.std.proofs.Common.{◌≡◌, ℕ, ◌+◌, Bool, true, false, ◌&&◌, List, [], ◌∷◌, ◌++◌, length, drop, Option, Some, None, Result, Ok, Err, OnOk, IfOk, IfErr, bytes_eq, refl, sym, ap, subst, ◌∙◌}
 use Rattle.std.specs.Prelude.{nat_eq, slice_get, option_to_list}
 use Rattle.std.specs.Cmp.Lexicographic.{pointwise}
+use Rattle.std.proofs.lemmas.Option.{none-some}
 use Rattle.annex_base.specs.declared.kinds.Call.{Call}
 use Rattle.annex_base.specs.declared.kinds.Call.TheVariants.{PutFile}
 use Rattle.annex_base.proofs.Conditions.{bytes_eq-refl}
@@ -22,7 +23,7 @@ use Rattle.node_model.specs.SetUp.{SetUp}
 use Rattle.node_model.specs.State.{State}
 use Rattle.repo_node.specs.Debts.{AddsStep, IsDraftOf, IsFirstDraft, WhereMade, failed_put, with_status}
 use Rattle.repo_node.specs.declared.owed.Draft.{Draft}
-use Rattle.repo_node.specs.Nodes.{Fits, IsState, NodeView, are_due, due_by, id_known, next_entry, state_of, with_entry}
+use Rattle.repo_node.specs.Nodes.{MatchesSetup, IsState, NodeView, are_due, due_by, id_known, next_entry, state_of, with_entry}
 use Rattle.repo_node.specs.Owing.{AreDebts, IsFirstOf, is_owing, owed_at, owed_of, rest_if}
 use Rattle.repo_node.specs.Refusals.{RefusesFor}
 use Rattle.repo_node.specs.declared.refused.NodeRefused.{NodeRefused}
@@ -31,9 +32,6 @@ use Rattle.repo_node.proofs.OwedLemmas.{due_is}
 
 none_one : ◌≡◌ {A = ℕ} 0 1 → ⊥
 none_one one = absurd cc
-
-none_place : (place : ℕ) → None ≡ Some place → ⊥
-none_place place is = absurd cc
 
 some_place : (p q : ℕ) → Some p ≡ Some q → p ≡ q
 some_place p q is = cc
@@ -48,20 +46,20 @@ one_first None xs ys is one = absurd (none_one (ap (λ (w : List Owed). length w
 one_first (Some o) xs ys is one = subst (λ (w : List Owed). w ++ ys ≡ o ∷ drop 1 (w ++ ys)) is refl
 
 pub first_some : (r : ℕ) (h : List Entry) (places : List ℕ) (place : ℕ) (o : Option Owed) → slice_get places 0 ≡ Some place → option_to_list o ≡ owed_of r (slice_get h place) → AreDebts r h places → IsFirstOf o (owed_at r h places)
-first_some r h [] place o at is debts = absurd (none_place place at)
+first_some r h [] place o at is debts = absurd (none-some place at)
 first_some r h (p ∷ places) place o at is debts =
     one_first o (owed_of r (slice_get h p)) (owed_at r h places) (is ∙ ap (λ (x : ℕ). owed_of r (slice_get h x)) (sym (some_place p place at))) debts.0
 
 pub first_none : (r : ℕ) (h : List Entry) (places : List ℕ) → slice_get places 0 ≡ None → owed_at r h places ≡ []
 first_none r h [] at = refl
-first_none r h (p ∷ places) at = absurd (none_place p (sym at))
+first_none r h (p ∷ places) at = absurd (none-some p (sym at))
 
 one_owing : (xs ys : List Owed) → length xs ≡ 1 → true ≡ is_owing (xs ++ ys)
 one_owing [] ys one = absurd (none_one one)
 one_owing (x ∷ xs) ys one = refl
 
 pub some_owing : (r : ℕ) (h : List Entry) (places : List ℕ) (place : ℕ) → slice_get places 0 ≡ Some place → AreDebts r h places → true ≡ is_owing (owed_at r h places)
-some_owing r h [] place at debts = absurd (none_place place at)
+some_owing r h [] place at debts = absurd (none-some place at)
 some_owing r h (p ∷ places) place at debts = one_owing (owed_of r (slice_get h p)) (owed_at r h places) debts.0
 
 pub none_owing : (r : ℕ) (h : List Entry) (places : List ℕ) → slice_get places 0 ≡ None → false ≡ is_owing (owed_at r h places)
@@ -170,7 +168,7 @@ history_is : {K : Type 0} (n m : NodeView K) (k : Look) (kind : EntryKind) (line
 history_is n m k kind lines others time count same adds = adds ∙ ap (λ (e : Entry). n.history ++ e ∷ []) (entry_is n k kind lines others time count same)
 
 pub step_made : {K : Type 0} (r : Result (Unit {0}) NodeRefused) (n m : NodeView K) (s : SetUp) (k : Look) (known : Option Contents) (o : Owed) (os : List Owed)
-    → Fits n.setup s → IsState s n.parts n.branch n.owed known (state_of s n.history) → k.time ≡ n.time → k.count ≡ n.count + 1 → failing k.fails (PutFile ∷ []) ≡ failed_put r
+    → MatchesSetup n.setup s → IsState s n.parts n.branch n.owed known (state_of s n.history) → k.time ≡ n.time → k.count ≡ n.count + 1 → failing k.fails (PutFile ∷ []) ≡ failed_put r
     → OnOk r (m ≡ with_status n m.keeper o.key o.repo o.there) → IfErr r (λ e. RefusesFor o.by e PutFile n m)
     → WhereMade r (AddsStep (pays_first s (state_of s n.history) k (o ∷ os)) n.setup.number k n.history m.history)
 step_made {K} (Ok x) n m s k known o os fits is time count fails ok err = record {
@@ -211,7 +209,7 @@ step_made (Err refusals.NoMemory) n m s k known o os fits is time count fails ok
 -- the same, of the step of the state
 pub step_paid : {K : Type 0} (r : Result (Unit {0}) NodeRefused) (n m : NodeView K) (d : Draft) (s : SetUp) (k : Look) (known : Option Contents)
     → IsFirstDraft n d → (state_of s n.history).owed ≡ n.owed
-    → Fits n.setup s → IsState s n.parts n.branch n.owed known (state_of s n.history) → k.time ≡ n.time → k.count ≡ n.count + 1 → failing k.fails (PutFile ∷ []) ≡ failed_put r
+    → MatchesSetup n.setup s → IsState s n.parts n.branch n.owed known (state_of s n.history) → k.time ≡ n.time → k.count ≡ n.count + 1 → failing k.fails (PutFile ∷ []) ≡ failed_put r
     → OnOk r (m ≡ with_entry n m.keeper (merged_file n.branch (file_path d.file) d.new) (Log d.file) d.new) → IfErr r (λ e. RefusesFor d.by e PutFile n m)
     → WhereMade r (AddsStep (owed_step s (state_of s n.history) k) n.setup.number k n.history m.history)
 step_paid {K} r n m d s k known f owes fits is time count fails ok err =

@@ -1,7 +1,9 @@
 -- A node after a content came, or a part.
-use Rattle.std.proofs.Common.{◌≡◌, ℕ, inl, inr, Bool, true, false, if◌then◌else◌, ◌||◌, List, [], ◌++◌, length, Option, Some, None, Result, Ok, Err, OnOk, OnErr, IfErr, option_map, is_some, bytes_eq, refl, sym, ap, subst, ◌∙◌}
+use Rattle.std.proofs.Common.{◌≡◌, ℕ, inl, inr, Bool, true, false, ◌||◌, List, [], ◌++◌, length, Option, Some, None, Result, Ok, Err, OnOk, OnErr, IfErr, option_map, is_some, bytes_eq, refl, sym, ap, subst, ◌∙◌, if◌then◌else◌}
 use Rattle.std.specs.Option.{ForSome}
 use Rattle.std.proofs.lemmas.Bool.{false≢true}
+use Rattle.std.proofs.lemmas.Option.{none-some, same_Some}
+use Rattle.std.proofs.Math.Bool.{or-false, or-true}
 use Rattle.annex_base.proofs.Conditions.{by_test, bytes_eq-refl, bytes_eq-true}
 use Rattle.object_store.specs.Stores.{Contents, Parts, contents_after_commit, with_at}
 use Rattle.run_data.specs.declared.entry.EntryKind.TheVariants.{Gain}
@@ -33,14 +35,6 @@ use Rattle.repo_node.proofs.PastLemmas.{fails_after, same_after}
 use Rattle.repo_node.proofs.StateLemmas.{Laws, Moves, kept_more, told_some}
 use Rattle.repo_node.proofs.WriteLemmas.{kept_equal, kept_failed, kept_past, node_adds, node_failed, node_of, node_same, storeless}
 
-or_true : (b : Bool) → true ≡ (b || true)
-or_true true = refl
-or_true false = refl
-
-or_false : (b : Bool) → b ≡ (b || false)
-or_false true = refl
-or_false false = refl
-
 size_at : (c : Contents) (key k bytes : List ℕ) (size : ℕ) (was : Option ℕ) → length bytes ≡ size → option_map length (c k) ≡ was
     → option_map length (with_at c key (Some bytes) k) ≡ (if bytes_eq key k then Some size else was)
 size_at c key k bytes size was long is = by_test (bytes_eq key k)
@@ -49,45 +43,39 @@ size_at c key k bytes size was long is = by_test (bytes_eq key k)
 
 there_at : (c : Contents) (key k bytes : List ℕ) (was : Bool) → is_some (c k) ≡ was → is_some (with_at c key (Some bytes) k) ≡ (was || bytes_eq key k)
 there_at c key k bytes was is = by_test (bytes_eq key k)
-    (λ b. ap (λ (t : Bool). is_some (if t then Some bytes else c k)) b ∙ or_true was ∙ sym (ap (λ (t : Bool). was || t) b))
-    (λ b. ap (λ (t : Bool). is_some (if t then Some bytes else c k)) b ∙ is ∙ or_false was ∙ sym (ap (λ (t : Bool). was || t) b))
-
-none_some : {X : Type 0} (x : X) → None ≡ Some x → ⊥
-none_some x is = absurd cc
-
-some_is : {X : Type 0} (x y : X) → Some x ≡ Some y → x ≡ y
-some_is x y is = cc
+    (λ b. ap (λ (t : Bool). is_some (if t then Some bytes else c k)) b ∙ sym (or-true was) ∙ sym (ap (λ (t : Bool). was || t) b))
+    (λ b. ap (λ (t : Bool). is_some (if t then Some bytes else c k)) b ∙ is ∙ sym (or-false was) ∙ sym (ap (λ (t : Bool). was || t) b))
 
 -- the contents after a commit are those that the entry of a gain leaves, where the store tells
 pub gain_moves : (known known' : Option Contents) (parts parts' : Option Parts) (key : List ℕ) (size : ℕ) → ForSome parts (λ p. length (p key) ≡ size)
     → known' ≡ contents_after_commit known parts key → parts' ≡ option_map (λ (p : Parts). with_at p key []) parts → Moves (Gain Script size key) (told_of known parts) (told_of known' parts')
-gain_moves known known' None parts' key size long is emptied = λ c told. absurd (none_some c (sym (ap (told_of known') emptied) ∙ told))
-gain_moves None known' (Some p) parts' key size long is emptied = λ c told. absurd (none_some c (sym is ∙ told_some known' parts' c told))
+gain_moves known known' None parts' key size long is emptied = λ c told. absurd (none-some c (sym (ap (told_of known') emptied) ∙ told))
+gain_moves None known' (Some p) parts' key size long is emptied = λ c told. absurd (none-some c (sym is ∙ told_some known' parts' c told))
 gain_moves (Some c) known' (Some p) parts' key size long is emptied = λ c' told. record {
   was = c;
   told_so = refl;
   content = λ k had h.
-      subst (λ (x : Contents). option_map length (x k) ≡ content_after k had (Gain Script size key)) (some_is _ c' (sym is ∙ told_some known' parts' c' told))
+      subst (λ (x : Contents). option_map length (x k) ≡ content_after k had (Gain Script size key)) (same_Some _ c' (sym is ∙ told_some known' parts' c' told))
       (size_at c key k (p key) size had (long p refl) h);
   present = λ k had h.
-      subst (λ (x : Contents). is_some (x k) ≡ present_after k had (Gain Script size key)) (some_is _ c' (sym is ∙ told_some known' parts' c' told))
+      subst (λ (x : Contents). is_some (x k) ≡ present_after k had (Gain Script size key)) (same_Some _ c' (sym is ∙ told_some known' parts' c' told))
       (there_at c key k (p key) had h);
 }
 
 -- ---- the key's part
 
 absent_part : (key bytes : List ℕ) (p : Option Parts) → p ≡ None → HasPart key bytes None p
-absent_part key bytes p none = record { tells = ap is_some none; bytes_are = λ now told. absurd (none_some now (sym none ∙ told)); others = λ was told. absurd (none_some was told) }
+absent_part key bytes p none = record { tells = ap is_some none; bytes_are = λ now told. absurd (none-some now (sym none ∙ told)); others = λ was told. absurd (none-some was told) }
 
 there_part : (key bytes : List ℕ) (f g : Parts) (p : Option Parts) → p ≡ Some (with_at g key (g key ++ bytes)) → g ≡ with_at f key [] → HasPart key bytes (Some f) p
 there_part key bytes f g p is from = record {
   tells = ap is_some is;
   bytes_are = λ now told.
-      ap (λ (x : Parts). x key) (sym (some_is _ now (sym is ∙ told))) ∙ ap (λ (t : Bool). if t then (g key ++ bytes) else g key) (bytes_eq-refl key)
+      ap (λ (x : Parts). x key) (sym (same_Some _ now (sym is ∙ told))) ∙ ap (λ (t : Bool). if t then (g key ++ bytes) else g key) (bytes_eq-refl key)
       ∙ ap (λ (x : Parts). x key ++ bytes) from ∙ ap (λ (t : Bool). (if t then [] else f key) ++ bytes) (bytes_eq-refl key);
   others = λ was known now told k other.
-      ap (λ (x : Parts). x k) (sym (some_is _ now (sym is ∙ told))) ∙ ap (λ (t : Bool). if t then (g key ++ bytes) else g k) other
-      ∙ ap (λ (x : Parts). x k) from ∙ ap (λ (t : Bool). if t then [] else f k) other ∙ ap (λ (x : Parts). x k) (some_is f was known);
+      ap (λ (x : Parts). x k) (sym (same_Some _ now (sym is ∙ told))) ∙ ap (λ (t : Bool). if t then (g key ++ bytes) else g k) other
+      ∙ ap (λ (x : Parts). x k) from ∙ ap (λ (t : Bool). if t then [] else f k) other ∙ ap (λ (x : Parts). x k) (same_Some f was known);
 }
 
 pub part_brought : (key bytes : List ℕ) (p p1 p2 : Option Parts) → p1 ≡ option_map (λ (f : Parts). with_at f key []) p → p2 ≡ option_map (λ (f : Parts). with_at f key (f key ++ bytes)) p1 → HasPart key bytes p p2
@@ -104,14 +92,14 @@ committed (Some c) known' (Some p) key bytes has is = is ∙ ap (λ (b : List �
 -- ---- the parts of other keys
 
 pub others_same : (key : List ℕ) (p q : Option Parts) → q ≡ p → LeavesOthers key p q
-others_same key p q same = record { tells = ap is_some same; others = λ f known g told k other. ap (λ (x : Parts). x k) (some_is g f (sym told ∙ same ∙ known)) }
+others_same key p q same = record { tells = ap is_some same; others = λ f known g told k other. ap (λ (x : Parts). x k) (same_Some g f (sym told ∙ same ∙ known)) }
 
 pub others_at : (key : List ℕ) (new : Parts → List ℕ) (p q : Option Parts) → q ≡ option_map (λ (f : Parts). with_at f key (new f)) p → LeavesOthers key p q
-others_at key new None q is = record { tells = ap is_some is; others = λ f known. absurd (none_some f known) }
+others_at key new None q is = record { tells = ap is_some is; others = λ f known. absurd (none-some f known) }
 others_at key new (Some f) q is = record {
   tells = ap is_some is;
   others = λ f' known g told k other.
-      ap (λ (x : Parts). x k) (sym (some_is _ g (sym is ∙ told))) ∙ ap (λ (t : Bool). if t then new f else f k) other ∙ ap (λ (x : Parts). x k) (some_is f f' known);
+      ap (λ (x : Parts). x k) (sym (same_Some _ g (sym is ∙ told))) ∙ ap (λ (t : Bool). if t then new f else f k) other ∙ ap (λ (x : Parts). x k) (same_Some f f' known);
 }
 
 pub others_changed : {X E : Type 0} (r : Result X E) (key : List ℕ) (new : Parts → List ℕ) (p q : Option Parts) → OnOk r (q ≡ option_map (λ (f : Parts). with_at f key (new f)) p) → OnErr r (q ≡ p) → LeavesOthers key p q
@@ -125,13 +113,6 @@ some_there (Some f) there = (f, refl)
 told_there : (g : Parts) (p q : Option Parts) → is_some q ≡ is_some p → q ≡ Some g → (f : Parts) × (p ≡ Some f)
 told_there g p q same told = some_there p (sym same ∙ ap is_some told)
 
-pub others_later : (key : List ℕ) (p q r : Option Parts) → LeavesOthers key p q → LeavesOthers key q r → LeavesOthers key p r
-others_later key p q r first second = record {
-  tells = second.tells ∙ first.tells;
-  others = λ f known h told k other.
-      let mid = told_there h q r second.tells told in second.others mid.0 mid.1 h told k other ∙ first.others f known mid.0 mid.1 k other;
-}
-
 -- a key that isn't filled is none of those that are
 pub filled_left : (rows : Rows) (key : List ℕ) (p q : Option Parts) → is_filling rows key ≡ false → LeavesOthers key p q → LeavesFilled rows p q
 filled_left rows key p q free leaves = record {
@@ -143,9 +124,6 @@ filled_left rows key p q free leaves = record {
 
 pub filled_brought : (rows : Rows) (key : List ℕ) (p p' q : Option Parts) → p' ≡ p → is_filling rows key ≡ false → LeavesOthers key p' q → LeavesFilled rows p q
 filled_brought rows key p p' q same free leaves = subst (λ (x : Option Parts). LeavesFilled rows x q) same (filled_left rows key p' q free leaves)
-
-pub filled_same : (rows : Rows) (p q : Option Parts) → q ≡ p → LeavesFilled rows p q
-filled_same rows p q same = record { tells = ap is_some same; filled = λ f known g told k fills. ap (λ (x : Parts). x k) (some_is g f (sym told ∙ same ∙ known)) }
 
 -- a session whose key's part stays goes on to be fed
 abbrev FedStays : Type 0

@@ -20,7 +20,7 @@ use Rattle.hash_dirs.specs.LogPath.{location_path}
 use Rattle.union_merge.specs.Branch.{Files, lines_at, with_file}
 use Rattle.union_merge.specs.LineSet.{union}
 use Rattle.trust_groups.specs.Adding.{lines_and}
-use Rattle.trust_groups.specs.Reads.{Indices, IsIndexOf, Reads, index_at, kind_at, lines_with}
+use Rattle.trust_groups.specs.Reads.{Indices, IsIndexOf, HaveReadLines, index_at, kind_at, lines_with}
 use Rattle.trust_groups.specs.Settings.{Lines}
 use Rattle.repo_node.specs.Indexed.{IsIndexed, ReadsAlike}
 use Rattle.repo_node.specs.declared.refused.NodeRefused.{NodeRefused}
@@ -33,7 +33,7 @@ none_kind x is = absurd cc
 
 -- ---- lines that are added one by one
 
-pub reads_same : (es : Indices) (x y : Lines) → ((path : List ℕ) → x path ≡ y path) → Reads es x → Reads es y
+pub reads_same : (es : Indices) (x y : Lines) → ((path : List ℕ) → x path ≡ y path) → HaveReadLines es x → HaveReadLines es y
 reads_same es x y same reads path = subst (IsIndexOf (index_at es path) (kind_at path)) (same path) (reads path)
 
 pub none_more : (lines : Lines) (path q : List ℕ) → lines q ≡ lines_and lines path [] q
@@ -53,7 +53,7 @@ index_alike : (o : Option Index) (kind : LogKind) (x y : List (List ℕ)) → Re
 index_alike None kind x y same is = sym same ∙ is
 index_alike (Some index) kind x y same is = is ∙ ap (λ (es : List Entry). record { kind = kind; entries = es }) same
 
-pub reads_alike : (es : Indices) (x y : Lines) → ReadsAlike x y → Reads es x → Reads es y
+pub reads_alike : (es : Indices) (x y : Lines) → ReadsAlike x y → HaveReadLines es x → HaveReadLines es y
 reads_alike es x y same reads path = index_alike (index_at es path) (kind_at path) (x path) (y path) (same path) (reads path)
 
 -- the lines of a file and others, and their union
@@ -104,15 +104,15 @@ shrunk_alike was now path kind of_kind keeps is q =
 some_is : (x y : Indices) → Some x ≡ Some y → x ≡ y
 some_is x y is = cc
 
-pub indexed_new : (index : Indices) (branch : Files) → branch ≡ [] → Reads index (λ path. []) → IsIndexed (Some index) branch
+pub indexed_new : (index : Indices) (branch : Files) → branch ≡ [] → HaveReadLines index (λ path. []) → IsIndexed (Some index) branch
 indexed_new index branch none reads = λ i told.
-    subst (λ (b : Files). Reads i (lines_at b)) (sym none) (subst (λ (x : Indices). Reads x (λ path. [])) (some_is index i told) reads)
+    subst (λ (b : Files). HaveReadLines i (lines_at b)) (sym none) (subst (λ (x : Indices). HaveReadLines x (λ path. [])) (some_is index i told) reads)
 
 pub indexed_written : (r : Result (Unit {0}) NodeRefused) (index index' : Option Indices) (branch branch' : Files) (path : List ℕ) (all new : List (List ℕ))
     → OnOk r (branch' ≡ with_file branch path all) → OnErr r (branch' ≡ branch)
-    → OnOk r ((was : Lines) → ForSome index (λ i. Reads i was) → ForSome index' (λ i. Reads i (lines_and was path new))) → OnErr r (index' ≡ index)
+    → OnOk r ((was : Lines) → ForSome index (λ i. HaveReadLines i was) → ForSome index' (λ i. HaveReadLines i (lines_and was path new))) → OnErr r (index' ≡ index)
     → ReadsAlike (lines_and (lines_at branch) path new) (lines_at (with_file branch path all)) → IsIndexed index branch → IsIndexed index' branch'
 indexed_written (Ok x) index index' branch branch' path all new is stays grows keeps alike indexed = λ i told.
-    subst (λ (b : Files). Reads i (lines_at b)) (sym is) (reads_alike i (lines_and (lines_at branch) path new) (lines_at (with_file branch path all)) alike (grows (lines_at branch) indexed i told))
+    subst (λ (b : Files). HaveReadLines i (lines_at b)) (sym is) (reads_alike i (lines_and (lines_at branch) path new) (lines_at (with_file branch path all)) alike (grows (lines_at branch) indexed i told))
 indexed_written (Err e) index index' branch branch' path all new is stays grows keeps alike indexed = λ i told.
-    subst (λ (b : Files). Reads i (lines_at b)) (sym stays) (indexed i (sym keeps ∙ told))
+    subst (λ (b : Files). HaveReadLines i (lines_at b)) (sym stays) (indexed i (sym keeps ∙ told))

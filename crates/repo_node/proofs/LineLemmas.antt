@@ -8,7 +8,7 @@ use Rattle.annex_base.specs.StampText.{stamp_text}
 use Rattle.annex_base.specs.Lists.{Member}
 use Rattle.annex_base.proofs.Conditions.{bytes_eq-refl, bytes_eq-true, same_test}
 use Rattle.annex_base.proofs.Lines.{one_line-append, one_line-by_test, one_line-cons, one_line-members, one_line-nil, one_line-repo_text, one_line-stamp_text}
-use Rattle.annex_base.proofs.Lists.{cons_nil, list_any_found, list_any_member}
+use Rattle.annex_base.proofs.Lists.{append_nil_left, cons_nil, list_any_found, list_any_member}
 use Rattle.log_lines.specs.declared.entry.LogKind.TheVariants as kinds
 use Rattle.log_lines.specs.declared.entry.Topic.TheVariants as topics
 use Rattle.log_lines.specs.LineText.{line_text, location_text, value_text}
@@ -20,10 +20,6 @@ not_empty [] ys y none = cons_nil y ys none
 not_empty (x ∷ xs) ys y none = cons_nil x (xs ++ (y ∷ ys)) none
 
 -- ---- the line of a status
-
-left_empty : (xs ys : List ℕ) → xs ++ ys ≡ [] → xs ≡ []
-left_empty [] ys none = refl
-left_empty (x ∷ xs) ys none = absurd (cons_nil x (xs ++ ys) none)
 
 one_letter : (there : Bool) → IsOneLine (value_text (status there))
 one_letter true = one_line-by_test (value_text (status true)) refl
@@ -44,9 +40,9 @@ status_is_line id there time =
     let line : List ℕ = ((front ++ value_text (status there)) ++ (space ∷ [])) ++ repo_text id in
     record {
       some = λ none. not_empty (stamp_text time) [] space
-          (left_empty front (value_text (status there))
-          (left_empty (front ++ value_text (status there)) (space ∷ [])
-          (left_empty ((front ++ value_text (status there)) ++ (space ∷ [])) (repo_text id) none)));
+          (append_nil_left front (value_text (status there))
+          (append_nil_left (front ++ value_text (status there)) (space ∷ [])
+          (append_nil_left ((front ++ value_text (status there)) ++ (space ∷ [])) (repo_text id) none)));
       single = one_line-members line (one_status id there time);
     }
 

@@ -2,7 +2,7 @@
 use Rattle.std.proofs.Common.{◌≡◌, ◌≢◌, ℕ, Bool, true, false, if◌then◌else◌, List, [], ◌∷◌, Option, Some, Result, Ok, Err, OnOk, bytes_eq, refl, sym, ap, subst, ◌∙◌}
 use Rattle.annex_base.proofs.Conditions.{by_test, bytes_eq-true, bytes_eq-refl}
 use Rattle.union_merge.specs.Branch.{Files, file_at, lines_at, merged_file, or_none, with_file}
-use Rattle.union_merge.specs.LineSet.{difference, union}
+use Rattle.union_merge.specs.LineSet.{union}
 use Rattle.run_data.specs.declared.entry.EntryKind.TheVariants.{Compact, Log}
 use Rattle.run_data.specs.declared.entry.LogFile.{LogFile}
 use Rattle.run_data.specs.Files.{file_path, kind_of}
@@ -90,16 +90,6 @@ pub logged_listed : (branch : Files) (path : List ℕ) (file : LogFile) (new lis
 logged_listed branch path file new listed all same here there other is =
     subst (λ (x : List (List ℕ)). (p : List ℕ) → lines_at (with_file branch path all) p ≡ lines_after p (lines_at branch p) (Log file) x) (sym same)
     (logged branch path file new all here there other is)
-
--- where the file lacks none of the lines, the node stays as it is
-pub none_new : {K : Type 0} (n : NodeView K) (file : LogFile) (path : List ℕ) (lines new : List (List ℕ)) → path ≡ file_path file → new ≡ difference lines (lines_at n.branch path) → new ≡ [] → n ≡ with_lines n n.keeper file lines
-none_new n file path lines new here is none =
-    ap (λ (x : List (List ℕ)). with_log n n.keeper file x) (sym none ∙ is ∙ ap (λ (p : List ℕ). difference lines (lines_at n.branch p)) here)
-
-pub some_new : {K : Type 0} (r : Result (Unit {0}) NodeRefused) (n m : NodeView K) (file : LogFile) (path : List ℕ) (lines new : List (List ℕ)) → path ≡ file_path file → new ≡ difference lines (lines_at n.branch path)
-    → OnOk r (m ≡ with_log n m.keeper file new) → OnOk r (m ≡ with_lines n m.keeper file lines)
-some_new r n m file path lines new here is ok =
-    subst (λ (x : List (List ℕ)). OnOk r (m ≡ with_log n m.keeper file x)) (is ∙ ap (λ (p : List ℕ). difference lines (lines_at n.branch p)) here) ok
 
 pub ok_told : {K : Type 0} (r : Result (Unit {0}) NodeRefused) (n m : NodeView K) (file told : LogFile) (lines named : List (List ℕ)) → file ≡ told → lines ≡ named
     → OnOk r (m ≡ with_lines n m.keeper file lines) → OnOk r (m ≡ with_lines n m.keeper told named)

@@ -5,7 +5,7 @@ use Rattle.std.specs.Option.{ForSome, option_map}
 use Rattle.annex_base.specs.Causes.{Rose}
 use Rattle.annex_base.specs.declared.kinds.Call.{Call}
 use Rattle.annex_base.proofs.Conditions.{bytes_eq-refl}
-use Rattle.trust_groups.specs.Reads.{Indices, Reads}
+use Rattle.trust_groups.specs.Reads.{Indices, HaveReadLines}
 use Rattle.trust_groups.specs.Settings.{Lines, settings}
 use Rattle.trust_groups.specs.View.{settings_of}
 use Rattle.run_data.specs.declared.entry.Entry.{Entry}
@@ -42,7 +42,7 @@ use Rattle.repo_node.specs.declared.past.Past.{Past}
 use Rattle.repo_node.specs.declared.setup.Ended.{Ended}
 use Rattle.repo_node.specs.declared.setup.Setup.{Setup}
 use Rattle.repo_node.specs.Kept.{IsFed, IsKept}
-use Rattle.repo_node.specs.Nodes.{Fits, NodeView, state_of, told_of}
+use Rattle.repo_node.specs.Nodes.{MatchesSetup, NodeView, state_of, told_of}
 use Rattle.repo_node.specs.Pasts.{SamePast, frames_entry}
 use Rattle.repo_node.specs.Stepping.{AddsIf, EntersIf, EntersStep, MovesSo, NoStep}
 use Rattle.repo_node.specs.Stored.{StoreView}
@@ -268,7 +268,7 @@ served_calls m was ready parts cs qs o before after at same calls c told =
 
 -- what the jobs read is what the state has read
 pub settings_are : (setup : Setup) (h : List Entry) (parts : PartsView) (branch : Files) (owed : List Owed) (told : Option Contents) (i : Indices) (s : SetUp)
-    → ((x : Indices) (lines : Lines) → Reads x lines → settings_of x ≡ settings lines) → Reads i (lines_at branch) → IsKept setup h parts branch owed told → Fits setup s → settings (state_of s h).lines ≡ settings_of i
+    → ((x : Indices) (lines : Lines) → HaveReadLines x lines → settings_of x ≡ settings lines) → HaveReadLines i (lines_at branch) → IsKept setup h parts branch owed told → MatchesSetup setup s → settings (state_of s h).lines ≡ settings_of i
 settings_are setup h parts branch owed told i s law reads kept fits =
     let is = kept.state s fits in
     let same : (state_of s h).lines ≡ lines_at branch = (λ j path. sym (is.lines path) j) in
@@ -284,7 +284,7 @@ none_asked known p taken is = record { part = 0; right = false; asked = subst (�
 
 -- the premises on the moment, and on what the index has read
 module _ (m : Moment) (was ready : Past) (parts : PartsView) (branch : Files) (owed : List Owed) (cs : Option Contents) (qs : Option StoredParts) (i : Indices) (o : Option Done)
-    (at : m ≡ moment_in ready) (same : SamePast was ready) (law : (x : Indices) (lines : Lines) → Reads x lines → settings_of x ≡ settings lines) (reads : Reads i (lines_at branch))
+    (at : m ≡ moment_in ready) (same : SamePast was ready) (law : (x : Indices) (lines : Lines) → HaveReadLines x lines → settings_of x ≡ settings lines) (reads : HaveReadLines i (lines_at branch))
     (kept : IsKept was.setup was.history.items parts branch owed (told_of cs qs)) where
   acted_where : (c : Contents) (P : SetUp → State → Look → Type 0) → WhereActed parts c m.clock (settings_of i) m.time m.number o P → WhereDone parts c qs was.setup was.history.items was.time o P
   acted_where c P there s k fits sees fails asks hears =
@@ -308,9 +308,9 @@ pub ready_parts : {K : Type 0} (r : Result Bool NoMemory) (law : CountLaw) (m : 
     → seen k parts branch was owed ≡ n → m ≡ moment_in was → IsKept was.setup was.history.items parts branch owed (told_of cs qs)
     → IfOk r (λ b. (c : Contents) (s : SetUp) (st : State) (look : Look) → SeesParts parts c m.clock m.time m.number s st look → is_some (first_of (session_step s st look) (job_step s st look)) ≡ b)
     → {told : Option Contents} → told_of cs qs ≡ told
-    → IfOk r (λ b. ForSome told (λ c. (s : SetUp) (look : Look) → Fits n.setup s → Looks n s look → is_some (first_of (session_step s (state_of s n.history) look) (job_step s (state_of s n.history) look)) ≡ b))
+    → IfOk r (λ b. ForSome told (λ c. (s : SetUp) (look : Look) → MatchesSetup n.setup s → Looks n s look → is_some (first_of (session_step s (state_of s n.history) look) (job_step s (state_of s n.history) look)) ≡ b))
 ready_parts {K} (Ok b) law m k parts branch was owed cs qs n view at kept ready {told} same = λ c known.
-    subst (λ (x : NodeView K). (s : SetUp) (look : Look) → Fits x.setup s → Looks x s look → is_some (first_of (session_step s (state_of s x.history) look) (job_step s (state_of s x.history) look)) ≡ b) view
+    subst (λ (x : NodeView K). (s : SetUp) (look : Look) → MatchesSetup x.setup s → Looks x s look → is_some (first_of (session_step s (state_of s x.history) look) (job_step s (state_of s x.history) look)) ≡ b) view
     (λ s look fits looks.
     let sees : SeesParts parts c (moment_in was).clock (moment_in was).time (moment_in was).number s (state_of s was.history.items) look =
     sees_parts law was.setup was.history.items parts branch owed (told_of cs qs) c was.time (vec_len was.history + 1) s look kept (same ∙ known) (ap (λ (x : ℕ). x + 1) was.history.ok.0) fits looks.ends looks.time in

@@ -24,7 +24,7 @@ use Rattle.node_model.specs.SetUp.{SetUp}
 use Rattle.node_model.specs.State.{State}
 use Rattle.node_parts.specs.Direct.{IsDirect}
 use Rattle.repo_node.specs.Kept.{first_goes, is_debtor, owed_refused}
-use Rattle.repo_node.specs.Nodes.{Fits, IsState, NodeView, are_due, due_by, id_known, next_entry, owed_now, state_of}
+use Rattle.repo_node.specs.Nodes.{MatchesSetup, IsState, NodeView, are_due, due_by, id_known, next_entry, owed_now, state_of}
 use Rattle.repo_node.specs.Owing.{AreDebts, owed_at, owed_of, rest_if}
 use Rattle.repo_node.specs.Pasts.{AddsTo, FailsFor, SamePast}
 use Rattle.repo_node.specs.declared.past.Past.{Past}
@@ -44,7 +44,7 @@ wall_is : (s : SetUp) (past : List Entry) → (states s past).wall ≡ wall s.re
 wall_is s [] = refl
 wall_is s (e ∷ past) = wall_is s past
 
-pub due_is : {K : Type 0} (n : NodeView K) (s : SetUp) (known : Option Contents) (o : Owed) → Fits n.setup s → IsState s n.parts n.branch n.owed known (state_of s n.history)
+pub due_is : {K : Type 0} (n : NodeView K) (s : SetUp) (known : Option Contents) (o : Owed) → MatchesSetup n.setup s → IsState s n.parts n.branch n.owed known (state_of s n.history)
     → due s.repos (state_of s n.history).lines ((state_of s n.history).wall n.time) o ≡ due_by n o.key o.repo o.there
 due_is n s known o fits is =
     let st : State = state_of s n.history in
@@ -59,14 +59,14 @@ due_is n s known o fits is =
 
 -- ---- the lines that the state owes
 
-paid_is : {K : Type 0} (n : NodeView K) (s : SetUp) (known : Option Contents) (file : LogFile) (lines : List (List ℕ)) (os : List Owed) → Fits n.setup s → IsState s n.parts n.branch n.owed known (state_of s n.history)
+paid_is : {K : Type 0} (n : NodeView K) (s : SetUp) (known : Option Contents) (file : LogFile) (lines : List (List ℕ)) (os : List Owed) → MatchesSetup n.setup s → IsState s n.parts n.branch n.owed known (state_of s n.history)
     → pays s.repos (state_of s n.history).lines ((state_of s n.history).wall n.time) (next_entry n (Log file) lines) file os ≡ rest_if (are_due n file lines os) os
 paid_is n s known file lines [] fits is = refl
 paid_is n s known file lines (o ∷ os) fits is =
     ap (λ (w : List (List ℕ)). if bytes_eq (file_path file) (location_path o.key) && same_lines lines w then os else o ∷ os) (due_is n s known o fits is)
 
 -- the state after a direct entry owes what the node owes then
-pub owed_is : {K : Type 0} (n : NodeView K) (s : SetUp) (known : Option Contents) (kind : EntryKind) (lines : List (List ℕ)) → IsDirect kind → Fits n.setup s → IsState s n.parts n.branch n.owed known (state_of s n.history) → (state_of s n.history).owed ≡ n.owed
+pub owed_is : {K : Type 0} (n : NodeView K) (s : SetUp) (known : Option Contents) (kind : EntryKind) (lines : List (List ℕ)) → IsDirect kind → MatchesSetup n.setup s → IsState s n.parts n.branch n.owed known (state_of s n.history) → (state_of s n.history).owed ≡ n.owed
     → owed_after s.repos (state_of s n.history).lines ((state_of s n.history).wall n.time) (state_of s n.history).works s.number (state_of s n.history).owed (next_entry n kind lines) kind ≡ owed_now n kind lines
 owed_is n s known (Gain Script size key) lines direct fits is owes = append-nil (state_of s n.history).owed ∙ owes
 owed_is n s known (Log file) lines direct fits is owes =

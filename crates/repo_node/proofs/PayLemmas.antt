@@ -29,7 +29,7 @@ use Rattle.node_parts.specs.Posting.{PostsPieces, after_step}
 use Rattle.repo_node.specs.declared.setup.Ended.{Ended}
 use Rattle.repo_node.specs.Calls.{Makes, StopsIn}
 use Rattle.repo_node.specs.Debts.{AddsStep, WhereMade, failed_put, with_status}
-use Rattle.repo_node.specs.Nodes.{Fits, NodeView, due_by, next_entry, state_of, with_entry}
+use Rattle.repo_node.specs.Nodes.{MatchesSetup, NodeView, due_by, next_entry, state_of, with_entry}
 use Rattle.repo_node.specs.Owing.{is_owing}
 use Rattle.repo_node.specs.Refusals.{RefusesFor}
 use Rattle.repo_node.specs.declared.refused.NodeRefused.{NodeRefused}
@@ -119,7 +119,7 @@ adds_failed {K} law n m o before after is stored rose = adds_quiet law n m (Faul
 -- ---- the step
 
 steps_by : {K : Type 0} (r : Result (Unit {0}) NodeRefused) (n m : NodeView K) (kind : EntryKind) (lines : List (List ℕ)) (before after : StoreView) → m.history ≡ n.history ++ next_entry n kind lines ∷ [] → failing (failed_in kind) (PutFile ∷ []) ≡ failed_put r
-    → ((s : SetUp) (k : Look) → Fits n.setup s → k.time ≡ n.time → k.count ≡ n.count + 1 → failing k.fails (PutFile ∷ []) ≡ failed_put r → AddsStep (owed_step s (state_of s n.history) k) n.setup.number k n.history m.history)
+    → ((s : SetUp) (k : Look) → MatchesSetup n.setup s → k.time ≡ n.time → k.count ≡ n.count + 1 → failing k.fails (PutFile ∷ []) ≡ failed_put r → AddsStep (owed_step s (state_of s n.history) k) n.setup.number k n.history m.history)
     → MakesCalls (PutFile ∷ []) (failed_in kind) before.failing after.failing → StepsBy owed_step owed_calls before after n m
 steps_by r n m kind lines before after history fault pays calls = record {
   kind = kind;
@@ -139,12 +139,12 @@ steps_by r n m kind lines before after history fault pays calls = record {
 }
 
 pub steps_paid : {K : Type 0} (x : Unit {0}) (n m : NodeView K) (o : Owed) (before after : StoreView) → m ≡ with_status n m.keeper o.key o.repo o.there
-    → ((s : SetUp) (k : Look) → Fits n.setup s → k.time ≡ n.time → k.count ≡ n.count + 1 → failing k.fails (PutFile ∷ []) ≡ failed_put (Ok x) → AddsStep (owed_step s (state_of s n.history) k) n.setup.number k n.history m.history)
+    → ((s : SetUp) (k : Look) → MatchesSetup n.setup s → k.time ≡ n.time → k.count ≡ n.count + 1 → failing k.fails (PutFile ∷ []) ≡ failed_put (Ok x) → AddsStep (owed_step s (state_of s n.history) k) n.setup.number k n.history m.history)
     → Makes (PutFile ∷ []) PutFile (Ok x) before.failing after.failing → StepsBy owed_step owed_calls before after n m
 steps_paid {K} x n m o before after is pays puts = steps_by (Ok x) n m (Log (Location o.key)) (due_by n o.key o.repo o.there) before after (ap (λ (v : NodeView K). v.history) is) refl pays puts
 
 pub steps_failed : {K : Type 0} (n m : NodeView K) (o : Owed) (before after : StoreView) → m ≡ with_entry n m.keeper n.branch (Fault PutFile o.by) []
-    → ((s : SetUp) (k : Look) → Fits n.setup s → k.time ≡ n.time → k.count ≡ n.count + 1 → failing k.fails (PutFile ∷ []) ≡ failed_put (Err refusals.StoreFault) → AddsStep (owed_step s (state_of s n.history) k) n.setup.number k n.history m.history)
+    → ((s : SetUp) (k : Look) → MatchesSetup n.setup s → k.time ≡ n.time → k.count ≡ n.count + 1 → failing k.fails (PutFile ∷ []) ≡ failed_put (Err refusals.StoreFault) → AddsStep (owed_step s (state_of s n.history) k) n.setup.number k n.history m.history)
     → StopsIn (PutFile ∷ []) PutFile refusals.StoreFault before.failing after.failing → StepsBy owed_step owed_calls before after n m
 steps_failed {K} n m o before after is pays puts = steps_by (Err refusals.StoreFault) n m (Fault PutFile o.by) [] before after (ap (λ (v : NodeView K). v.history) is) refl pays puts
 
@@ -193,7 +193,7 @@ pub fault_adds : {K : Type 0} (law : StayLaw) (e : NodeRefused) (n m : NodeView 
 fault_adds law e n m o before after is refuses contents parts puts rose = adds_failed law n m o before after (fault_is e n m o is refuses) (fault_left e before after is contents parts puts) rose
 
 pub fault_steps : {K : Type 0} (e : NodeRefused) (n m : NodeView K) (o : Owed) (before after : StoreView) → e ≡ refusals.StoreFault → RefusesFor o.by e PutFile n m
-    → ((s : SetUp) (k : Look) → Fits n.setup s → k.time ≡ n.time → k.count ≡ n.count + 1 → failing k.fails (PutFile ∷ []) ≡ failed_put (Err e) → WhereMade (Err e) (AddsStep (owed_step s (state_of s n.history) k) n.setup.number k n.history m.history))
+    → ((s : SetUp) (k : Look) → MatchesSetup n.setup s → k.time ≡ n.time → k.count ≡ n.count + 1 → failing k.fails (PutFile ∷ []) ≡ failed_put (Err e) → WhereMade (Err e) (AddsStep (owed_step s (state_of s n.history) k) n.setup.number k n.history m.history))
     → StopsIn (PutFile ∷ []) PutFile e before.failing after.failing → StepsBy owed_step owed_calls before after n m
 fault_steps refusals.Full n m o before after is refuses pays puts = absurd cc
 fault_steps refusals.StoreFault n m o before after is refuses pays puts = steps_failed n m o before after refuses pays puts

@@ -181,14 +181,6 @@ told_later (Err e) key bytes rows cs ps ps' failing failing' was half now same s
   record { call = stops.2.call; early = stops.2.early; calls = stops.2.calls; fails = fails_after Script e stops.2.call was half now same stops.2.fails; parts = stops.2.parts },
 )
 
--- all calls of a step that replaces a part
-pub taken_made : (taken : Bool) (before after : Failing) → taken ≡ true → MakesCalls (calls.Has ∷ []) None before after → MakesCalls (to_place_part taken) None before after
-taken_made taken before after is made = subst (λ (b : Bool). MakesCalls (to_place_part b) None before after) (sym is) made
-
-pub part_made : (taken : Bool) (before mid after : Failing) → taken ≡ false → MakesCalls (calls.Has ∷ []) None before mid → MakesCalls (calls.DropPart ∷ calls.Append ∷ []) None mid after → MakesCalls (to_place_part taken) None before after
-part_made taken before mid after is looked made =
-    subst (λ (b : Bool). MakesCalls (to_place_part b) None before after) (sym is) (makes_then (calls.Has ∷ []) (calls.DropPart ∷ calls.Append ∷ []) None before mid after looked made)
-
 -- ---- the whole step
 
 -- the calls of a step that places a content go on behind those of one that replaces a part
@@ -313,11 +305,6 @@ taken_done taken key bytes rows cs ps ps' failing failing' is told made same = r
   calls = subst (λ (cs : List Call). MakesCalls cs None failing failing') (same_calls taken is) made;
   parts = same is ∙ ap (λ (b : Bool). if b then ps else option_map (λ (p : Parts). with_at p key bytes) ps) (sym is);
 }
-
-pub part_done : (taken : Bool) (key bytes : List ℕ) (rows : Rows) (cs : Option Contents) (ps ps' : Option Parts) (failing failing' : Failing) → IsTaken taken cs rows key → MakesCalls (to_place_part taken) None failing failing'
-    → (taken ≡ true → ps' ≡ ps) → (taken ≡ false → ps' ≡ option_map (λ (f : Parts). with_at f key bytes) ps) → IsDoneBy to_place_part key bytes rows cs ps ps' failing failing'
-part_done true key bytes rows cs ps ps' failing failing' told made same put = record { taken = true; told = told; calls = made; parts = same refl }
-part_done false key bytes rows cs ps ps' failing failing' told made same put = record { taken = false; told = told; calls = made; parts = put refl }
 
 -- a node that was brought the bytes, or wasn't
 pub node_brought : {K X : Type 0} (r : Result X NodeRefused) (k k' : K) (t : PartsView) (b : Files) (was now : Past) (owed owed' : List Owed) (n : NodeView K) (key bytes : List ℕ) (rows : Rows) (cs cs' : Option Contents) (ps ps' : Option Parts) (failing failing' : Failing)

@@ -31,7 +31,7 @@ use Rattle.node_parts.specs.Direct.{IsDirect, MovesNothing, may_fail}
 use Rattle.node_parts.specs.Parts.{AreParts, PartsView}
 use Rattle.node_parts.specs.Sound.{AreSound}
 use Rattle.repo_node.specs.declared.setup.Setup.{Setup}
-use Rattle.repo_node.specs.Nodes.{Fits, IsState, NodeView, Stands, owed_now, state_of, told_of}
+use Rattle.repo_node.specs.Nodes.{MatchesSetup, IsState, NodeView, IsStateOfParts, owed_now, state_of, told_of}
 use Rattle.repo_node.specs.Kept.{IsKept, IsOfFiles}
 use Rattle.repo_node.specs.Owing.{AreDebts, owed_at}
 use Rattle.repo_node.proofs.OwedLemmas.{id_is, owed_is}
@@ -116,9 +116,9 @@ files_move kind told told' of_files same = λ c is. record {
 }
 
 stands_more : {K : Type 0} (n : NodeView K) (s : SetUp) (told : Option Contents) (owed' : List Owed) (kind : EntryKind) (lines : List (List ℕ)) (now : Contents)
-    → Laws n.parts → IsDirect kind → Fits n.setup s → IsState s n.parts n.branch n.owed told (state_of s n.history) → owed' ≡ owed_now n kind lines
-    → (m : MovesTo kind told now) → Stands s n.parts n.owed m.was (state_of s n.history)
-    → Stands s n.parts owed' now (state_after s (state_of s n.history) (made n.time (n.count + 1) n.setup.number kind lines))
+    → Laws n.parts → IsDirect kind → MatchesSetup n.setup s → IsState s n.parts n.branch n.owed told (state_of s n.history) → owed' ≡ owed_now n kind lines
+    → (m : MovesTo kind told now) → IsStateOfParts s n.parts n.owed m.was (state_of s n.history)
+    → IsStateOfParts s n.parts owed' now (state_after s (state_of s n.history) (made n.time (n.count + 1) n.setup.number kind lines))
 stands_more n s told owed' kind lines now laws d fits is owes m stood =
     let st : State = state_of s n.history in
     let e : Entry = made n.time (n.count + 1) n.setup.number kind lines in
@@ -130,7 +130,7 @@ stands_more n s told owed' kind lines now laws d fits is owes m stood =
     }
 
 state_kept : {K : Type 0} (n : NodeView K) (s : SetUp) (branch' : Files) (told told' : Option Contents) (owed' : List Owed) (kind : EntryKind) (lines : List (List ℕ))
-    → Laws n.parts → IsDirect kind → Fits n.setup s → IsState s n.parts n.branch n.owed told (state_of s n.history)
+    → Laws n.parts → IsDirect kind → MatchesSetup n.setup s → IsState s n.parts n.branch n.owed told (state_of s n.history)
     → ((p : List ℕ) → lines_at branch' p ≡ lines_after p (lines_at n.branch p) kind lines)
     → Moves kind told told' → owed' ≡ owed_now n kind lines
     → IsState s n.parts branch' owed' told' (state_after s (state_of s n.history) (made n.time (n.count + 1) n.setup.number kind lines))
@@ -173,7 +173,7 @@ told_some contents (Some p) c told = told
 abbrev pub FitSo : Setup → List (List ℕ) → PartsView → Type 0
 FitSo setup ids p = (s : SetUp) → IsSetUp s setup.id setup.version setup.locks setup.number (length ids) → map (λ (repo : RepoView). repo.id) s.repos ≡ ids → AreParts s (first_state s) p
 
-set_up : (setup : Setup) (s : SetUp) → slice_get setup.repos setup.number ≡ Some setup.id → Fits setup s → IsSetUp s setup.id setup.version setup.locks setup.number (length setup.repos)
+set_up : (setup : Setup) (s : SetUp) → slice_get setup.repos setup.number ≡ Some setup.id → MatchesSetup setup s → IsSetUp s setup.id setup.version setup.locks setup.number (length setup.repos)
 set_up setup s own fits = record {
   number_is = fits.number;
   count_is = sym (length-map s.repos (λ (repo : RepoView). repo.id)) ∙ ap (λ (ids : List (List ℕ)). length ids) fits.ids;

@@ -28,7 +28,6 @@ use Rattle.link_ring.specs.Ends.{EndView}
 use Rattle.node_ends.specs.Ends.{SeesEnds, hand_at, room_at}
 use Rattle.node_model.specs.After.{clock_after, state_after, states}
 use Rattle.node_model.specs.AnyTime.{all_ends}
-use Rattle.node_model.specs.Clocks.{runs_on}
 use Rattle.node_model.specs.Jobs.{Work}
 use Rattle.node_model.specs.Look.{Look, entry_of}
 use Rattle.node_model.specs.Owed.{Owed, owed_after, owed_without, told_frame, told_line, told_to}
@@ -46,7 +45,7 @@ use Rattle.node_parts.specs.Sound.{AreSound}
 use Rattle.node_parts.specs.Steps.{AsksPart, Fails, HasPart, Hears, IsPartAsked, Leaves, SeesParts, Steps, words_heard}
 use Rattle.repo_node.specs.declared.setup.Setup.{Setup}
 use Rattle.repo_node.specs.Kept.{IsKept}
-use Rattle.repo_node.specs.Nodes.{Fits, IsState, Stands, state_of, told_of}
+use Rattle.repo_node.specs.Nodes.{MatchesSetup, IsState, IsStateOfParts, state_of, told_of}
 use Rattle.repo_node.specs.Owing.{owed_by}
 use Rattle.repo_node.specs.Turning.{Stepper}
 
@@ -148,12 +147,8 @@ told_before cs cs' qs qs' c' parts contents told =
 
 -- ---- what parts and a store that tells are
 
--- the clock of a node
-abbrev pub clock_in : Setup → ℕ → ℕ
-clock_in setup = runs_on (record { at = 0; to = setup.offset })
-
 pub sees_parts : CountLaw → (setup : Setup) (h : List Entry) (parts : PartsView) (branch : Files) (owed : List Owed) (told : Option Contents) (c : Contents) (time number : ℕ) (s : SetUp) (k : Look)
-    → IsKept setup h parts branch owed told → told ≡ Some c → number ≡ length h + 1 → Fits setup s → SeesEnds parts.links s k → k.time ≡ time
+    → IsKept setup h parts branch owed told → told ≡ Some c → number ≡ length h + 1 → MatchesSetup setup s → SeesEnds parts.links s k → k.time ≡ time
     → SeesParts parts c (record { at = 0; to = setup.offset }) time number s (state_of s h) k
 sees_parts law setup h parts branch owed told c time number s k kept is count fits ends at = record {
   parts = ((kept.state s fits).stands c is).parts_are;
@@ -169,7 +164,7 @@ sees_parts law setup h parts branch owed told c time number s k kept is count fi
 -- this is so of each state that the history leaves, at each look that finds what belongs to a step
 abbrev pub WhereDone : PartsView → Contents → Option StoredParts → Setup → List Entry → ℕ → Option Done → (SetUp → State → Look → Type 0) → Type 0
 WhereDone was c known setup h time o P =
-    (s : SetUp) (k : Look) → Fits setup s → SeesParts was c (record { at = 0; to = setup.offset }) time (length h + 1) s (state_of s h) k → Fails o k → AsksPart known was o k → Hears was o k → P s (state_of s h) k
+    (s : SetUp) (k : Look) → MatchesSetup setup s → SeesParts was c (record { at = 0; to = setup.offset }) time (length h + 1) s (state_of s h) k → Fails o k → AsksPart known was o k → Hears was o k → P s (state_of s h) k
 
 -- it is the step there, and the store has the part that it asks for
 pub record DoesBy (step : Stepper) (was now : PartsView) (c : Contents) (known : Option StoredParts) (contents : Option Contents) (setup : Setup) (h : List Entry) (time : ℕ) (o : Option Done) : Type 0 where
@@ -195,7 +190,7 @@ module _ (step : Stepper) (setup : Setup) (h : List Entry) (was now : PartsView)
   made_by = entry_done setup time count d
 
   -- the step, at the node's look
-  module _ (s : SetUp) (fits : Fits setup s) (c : Contents) (told : told_of cs qs ≡ Some c) where
+  module _ (s : SetUp) (fits : MatchesSetup setup s) (c : Contents) (told : told_of cs qs ≡ Some c) where
     abbrev by : DoesBy step was now c qs cs' setup h time (Some d)
     by = does c told
 
@@ -225,7 +220,7 @@ module _ (step : Stepper) (setup : Setup) (h : List Entry) (was now : PartsView)
         (λ job. ap (λ (ws : List Work). told_frame (find (λ w. w.number == job) ws) d.taken) stands.parts_are.works.works ∙ untold was.jobs.place was.jobs.running job d.taken sound.acting.drops)
         ∙ ap (λ (r : ℕ). owed_by r d.kind) fits.number
 
-    stands_then : ForSome (told_of cs' qs') (λ c'. Stands s now (owed_by setup.number d.kind) c' (state_after s (state_of s h) made_by))
+    stands_then : ForSome (told_of cs' qs') (λ c'. IsStateOfParts s now (owed_by setup.number d.kind) c' (state_after s (state_of s h) made_by))
     stands_then c' is =
         let parts : AreParts s (state_after s (state_of s h) made_by) now = subst (λ (e : Entry). AreParts s (state_after s (state_of s h) e) now) same_entry steps.parts in
         record {
@@ -235,7 +230,7 @@ module _ (step : Stepper) (setup : Setup) (h : List Entry) (was now : PartsView)
           owed_are = owes;
         }
 
-  pub state_stepped : (s : SetUp) → Fits setup s → IsState s now branch (owed_by setup.number d.kind) (told_of cs' qs') (state_after s (state_of s h) made_by)
+  pub state_stepped : (s : SetUp) → MatchesSetup setup s → IsState s now branch (owed_by setup.number d.kind) (told_of cs' qs') (state_after s (state_of s h) made_by)
   state_stepped s fits = record {
     holds = leaves.holds ∙ ap (λ (x : List _). holds_after x d.kind) (kept.state s fits).holds;
     bars = λ key. leaves.bars key ∙ ap (λ (x : Option ℕ). bar_after key x d.kind) ((kept.state s fits).bars key);

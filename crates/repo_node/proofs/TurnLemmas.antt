@@ -23,7 +23,7 @@ use Rattle.node_model.specs.State.{State}
 use Rattle.node_model.specs.Step.{step}
 use Rattle.node_model.specs.Turns.{job_step}
 use Rattle.repo_node.specs.declared.turn.Turn.TheVariants as turns
-use Rattle.repo_node.specs.Nodes.{Fits, IsState, NodeView, state_of}
+use Rattle.repo_node.specs.Nodes.{MatchesSetup, IsState, NodeView, state_of}
 use Rattle.repo_node.specs.Owing.{is_owing}
 use Rattle.repo_node.specs.Stepping.{AddsIf, MovesSo, NoStep, ReadySo}
 use Rattle.repo_node.specs.Stored.{StoreView, TellsSame}
@@ -52,13 +52,13 @@ first_some (Some x) y there = refl
 
 -- the lines that the state owes are the node's, where the store tells
 abbrev pub Owes : {K : Type 0} → NodeView K → Type 0
-Owes n = (s : SetUp) → Fits n.setup s → (state_of s n.history).owed ≡ n.owed
+Owes n = (s : SetUp) → MatchesSetup n.setup s → (state_of s n.history).owed ≡ n.owed
 
-pub owes_told : {K : Type 0} (n : NodeView K) (told : Option Contents) (c : Contents) → ((s : SetUp) → Fits n.setup s → IsState s n.parts n.branch n.owed told (state_of s n.history)) → told ≡ Some c → Owes n
+pub owes_told : {K : Type 0} (n : NodeView K) (told : Option Contents) (c : Contents) → ((s : SetUp) → MatchesSetup n.setup s → IsState s n.parts n.branch n.owed told (state_of s n.history)) → told ≡ Some c → Owes n
 owes_told n told c is known s fits = ((is s fits).stands c known).owed_are
 
 steps_first : {K : Type 0} (first : Stepper) (caller : Caller) (before after : StoreView) (n m : NodeView K)
-    → ((s : SetUp) (k : Look) (made : Made) → Fits n.setup s → Looks n s k → first s (state_of s n.history) k ≡ Some made → (step s (state_of s n.history) k ≡ Some made) × (step_calls s (state_of s n.history) k ≡ caller s (state_of s n.history) k))
+    → ((s : SetUp) (k : Look) (made : Made) → MatchesSetup n.setup s → Looks n s k → first s (state_of s n.history) k ≡ Some made → (step s (state_of s n.history) k ≡ Some made) × (step_calls s (state_of s n.history) k ≡ caller s (state_of s n.history) k))
     → StepsBy first caller before after n m → StepsBy step step_calls before after n m
 steps_first first caller before after n m is by = record {
   kind = by.kind;
@@ -93,7 +93,7 @@ served_first before after n m owes none by = steps_first session_step session_ca
     )) by
 
 -- neither, and a job has one or hasn't
-module _ {K : Type 0} (n : NodeView K) (owes : Owes n) (none : is_owing n.owed ≡ false) (idle : NoStep session_step n) (s : SetUp) (k : Look) (fits : Fits n.setup s) (looks : Looks n s k) where
+module _ {K : Type 0} (n : NodeView K) (owes : Owes n) (none : is_owing n.owed ≡ false) (idle : NoStep session_step n) (s : SetUp) (k : Look) (fits : MatchesSetup n.setup s) (looks : Looks n s k) where
   abbrev here : State
   here = state_of s n.history
 
@@ -120,7 +120,7 @@ ready_owed n owes some s k fits looks =
     first_some (owed_step s st k) (first_of (session_step s st k) (job_step s st k)) (ap (λ (os : List Owed). is_some (pays_first s st k os)) (owes s fits) ∙ some_owing s st k n.owed some)
 
 pub ready_else : {K : Type 0} (b : Bool) (n : NodeView K) → Owes n → is_owing n.owed ≡ false
-    → ((s : SetUp) (k : Look) → Fits n.setup s → Looks n s k → is_some (first_of (session_step s (state_of s n.history) k) (job_step s (state_of s n.history) k)) ≡ b) → ReadySo b step n
+    → ((s : SetUp) (k : Look) → MatchesSetup n.setup s → Looks n s k → is_some (first_of (session_step s (state_of s n.history) k) (job_step s (state_of s n.history) k)) ≡ b) → ReadySo b step n
 ready_else b n owes none ready s k fits looks =
     let st : State = state_of s n.history in
     ap (λ (o : Option Made). is_some (first_of o (first_of (session_step s st k) (job_step s st k)))) (none_owed s st k n.owed (owes s fits) none) ∙ ready s k fits looks
@@ -222,7 +222,7 @@ turn_adds {K} view r n n' m same is adds =
     (where_moved (λ b. AddsIf b n'.parts.links (view n'.keeper) (view m.keeper) n' m) r is adds))
 
 pub turn_idle : {K : Type 0} (r : Result Bool NoMemory) (before after : StoreView) (n n' m : NodeView K) (c : Contents) (told : Option Contents) → DropLaw → n' ≡ dropped n → turn_made r ≡ turns.Idle → told ≡ Some c
-    → IfOk r (λ b. ForSome told (λ c. MovesSo b step step_calls before after n' m)) → (s : SetUp) → Fits n.setup s → IsIdle n s
+    → IfOk r (λ b. ForSome told (λ c. MovesSo b step step_calls before after n' m)) → (s : SetUp) → MatchesSetup n.setup s → IsIdle n s
 turn_idle {K} r before after n n' m c told law same is known moves s fits k looks =
     (subst (λ (x : NodeView K). NoStep step x) same (where_idle (λ b. ForSome told (λ c. MovesSo b step step_calls before after n' m)) r is moves c known)) s k fits (looks_dropped n s k law looks)
 
@@ -231,28 +231,28 @@ none_is None is = refl
 none_is (Some m) is = absurd cc
 
 pub full_idles : {K : Type 0} (r : Result Bool NoMemory) (n n' : NodeView K) (c : Contents) (told : Option Contents) → DropLaw → n' ≡ dropped n → turn_full r ≡ turns.Idle → told ≡ Some c → IfOk r (λ b. ForSome told (λ c. ReadySo b step n'))
-    → (s : SetUp) → Fits n.setup s → IsIdle n s
+    → (s : SetUp) → MatchesSetup n.setup s → IsIdle n s
 full_idles {K} r n n' c told law same is known ready s fits k looks =
     none_is (step s (state_of s n.history) k) ((subst (λ (x : NodeView K). ReadySo false step x) same (full_idle (λ b. ForSome told (λ c. ReadySo b step n')) r is ready c known)) s k fits (looks_dropped n s k law looks))
 
 pub full_steps : {K : Type 0} (r : Result Bool NoMemory) (n n' : NodeView K) (c : Contents) (told : Option Contents) → DropLaw → n' ≡ dropped n → turn_full r ≡ turns.Full → told ≡ Some c → IfOk r (λ b. ForSome told (λ c. ReadySo b step n'))
-    → (s : SetUp) → Fits n.setup s → HasStep n s
+    → (s : SetUp) → MatchesSetup n.setup s → HasStep n s
 full_steps {K} r n n' c told law same is known ready s fits k looks =
     (subst (λ (x : NodeView K). ReadySo true step x) same (where_full (λ b. ForSome told (λ c. ReadySo b step n')) r is ready c known)) s k fits (looks_dropped n s k law looks)
 
 -- ---- whether one is ready
 
 abbrev pub ReadyElse : {K : Type 0} → Bool → NodeView K → Type 0
-ReadyElse b n = (s : SetUp) (k : Look) → Fits n.setup s → Looks n s k → is_some (first_of (session_step s (state_of s n.history) k) (job_step s (state_of s n.history) k)) ≡ b
+ReadyElse b n = (s : SetUp) (k : Look) → MatchesSetup n.setup s → Looks n s k → is_some (first_of (session_step s (state_of s n.history) k) (job_step s (state_of s n.history) k)) ≡ b
 
-pub ready_if : {K : Type 0} (r : Result Bool NoMemory) (n : NodeView K) (told : Option Contents) → ((s : SetUp) → Fits n.setup s → IsState s n.parts n.branch n.owed told (state_of s n.history)) → is_owing n.owed ≡ false
+pub ready_if : {K : Type 0} (r : Result Bool NoMemory) (n : NodeView K) (told : Option Contents) → ((s : SetUp) → MatchesSetup n.setup s → IsState s n.parts n.branch n.owed told (state_of s n.history)) → is_owing n.owed ≡ false
     → IfOk r (λ b. ForSome told (λ c. ReadyElse b n)) → IfOk r (λ b. ForSome told (λ c. ReadySo b step n))
 ready_if (Ok b) n told is none ready = λ c known. ready_else b n (owes_told n told c is known) none (ready c known)
 ready_if (Err e) n told is none ready = tt
 
 -- ---- one step of the three
 
-pub first_served : {K : Type 0} (b : Bool) (before after : StoreView) (n m : NodeView K) (told : Option Contents) → ((s : SetUp) → Fits n.setup s → IsState s n.parts n.branch n.owed told (state_of s n.history)) → is_owing n.owed ≡ false → b ≡ true
+pub first_served : {K : Type 0} (b : Bool) (before after : StoreView) (n m : NodeView K) (told : Option Contents) → ((s : SetUp) → MatchesSetup n.setup s → IsState s n.parts n.branch n.owed told (state_of s n.history)) → is_owing n.owed ≡ false → b ≡ true
     → ForSome told (λ c. MovesSo b session_step session_calls before after n m) → ForSome told (λ c. StepsBy step step_calls before after n m)
 first_served b before after n m told is none made moves = λ c known.
     served_first before after n m (owes_told n told c is known) none (subst (λ (x : Bool). MovesSo x session_step session_calls before after n m) made (moves c known))
@@ -261,7 +261,7 @@ pub still_is : {K : Type 0} (b : Bool) (links : List EndView) (before after : St
 still_is {K} b links before after n m made adds = subst (λ (x : Bool). AddsIf x links before after n m) made adds
 
 pub then_acted : {K : Type 0} (view : K → StoreView) (r : Result Bool NoMemory) (b : Bool) (middle : StoreView) (n n' m : NodeView K) (told told' : Option Contents)
-    → ((s : SetUp) → Fits n.setup s → IsState s n.parts n.branch n.owed told (state_of s n.history)) → is_owing n.owed ≡ false → b ≡ false
+    → ((s : SetUp) → MatchesSetup n.setup s → IsState s n.parts n.branch n.owed told (state_of s n.history)) → is_owing n.owed ≡ false → b ≡ false
     → ForSome told (λ c. MovesSo b session_step session_calls (view n.keeper) middle n n') → n' ≡ n → told' ≡ told
     → IfOk r (λ x. ForSome told' (λ c. MovesSo x job_step job_calls (view n'.keeper) (view m.keeper) n' m)) → IfOk r (λ x. ForSome told (λ c. MovesSo x step step_calls (view n.keeper) (view m.keeper) n m))
 then_acted {K} view (Ok x) b middle n n' m told told' is none made idle same tells moves = λ c known.

@@ -3,7 +3,7 @@ use Rattle.std.proofs.Common.{◌≡◌, ℕ, ◌+◌, ◌<◌, ◌≤◌, Bool,
 use Rattle.std.specs.Prelude.{◌==◌, nat_lt, find}
 use Rattle.std.specs.List.{list_any}
 use Rattle.std.specs.Option.{ForSome, option_map}
-use Rattle.std.proofs.lemmas.Bool.{true≢false}
+use Rattle.std.proofs.lemmas.Bool.{or_left, true≢false}
 use Rattle.std.proofs.lemmas.Bool.Decides.{nat_tests}
 use Rattle.std.proofs.lemmas.List.{at_drop_all, drop_more}
 use Rattle.std.proofs.lemmas.List.Folds.{list_any-append}
@@ -38,18 +38,12 @@ pub record Wrote {K X : Type 0} (test : NodeView K → X → Bool) (start now : 
 abbrev pub IsBlind : {K X : Type 0} → (NodeView K → X → Bool) → Type 0
 IsBlind {K} {X} test = (k : K) (n : NodeView K) (x : X) → test (over k n) x ≡ test n x
 
-pub wrote_none : {K X : Type 0} (test : NodeView K → X → Bool) (start : NodeView K) (all rest : List X) (failing : Failing) → rest ≡ all → Wrote test start start all rest failing failing
-wrote_none test start all rest failing is = record { done = []; whole = sym is; calls = makes_none failing failing refl; same = λ none. refl }
-
 -- the first that is to be written is tested as at the start
 tested : {K X : Type 0} (test : NodeView K → X → Bool) (start now : NodeView K) (x : X) → IsBlind test → now ≡ over now.keeper start → test now x ≡ test start x
 tested {K} test start now x blind is = ap (λ (n : NodeView K). test n x) is ∙ blind now.keeper start x
 
 or_of : (a b : Bool) → a ≡ false → (a || b) ≡ b
 or_of a b e = ap (λ (x : Bool). x || b) e
-
-or_so : (a b : Bool) → a ≡ true → (a || b) ≡ true
-or_so a b e = ap (λ (x : Bool). x || b) e
 
 any_one : {X : Type 0} (p : X → Bool) (xs : List X) (x : X) → list_any p (xs ++ x ∷ []) ≡ (list_any p xs || p x)
 any_one p xs x = list_any-append p xs (x ∷ []) ∙ ap (λ (b : Bool). list_any p xs || b) (or_none (p x))
@@ -73,7 +67,7 @@ wrote_more {K} {X} test start now next all x rest before mid after blind w more 
 } where
   calls_on : (b : Bool) → list_any (test start) w.done ≡ b → MakesCalls (to_write (list_any (test start) w.done || test start x)) None before after
   calls_on true e =
-      subst (λ (b : Bool). MakesCalls (to_write b) None before after) (e ∙ sym (or_so (list_any (test start) w.done) (test start x) e))
+      subst (λ (b : Bool). MakesCalls (to_write b) None before after) (e ∙ sym (or_left (list_any (test start) w.done) (test start x) e))
       (subst (λ (f : Failing). MakesCalls (to_write (list_any (test start) w.done)) None before f) (sym (all_well (to_write (test now x)) mid after more)) w.calls)
   calls_on false e =
       let first = tested test start now x blind (w.same e) in
@@ -82,7 +76,7 @@ wrote_more {K} {X} test start now next all x rest before mid after blind w more 
       (makes_then [] (to_write (test now x)) None before mid after none more)
 
   same_on : (b : Bool) → list_any (test start) w.done ≡ b → (list_any (test start) w.done || test start x) ≡ false → next ≡ over next.keeper start
-  same_on true e none = absurd (true≢false (sym (or_so (list_any (test start) w.done) (test start x) e) ∙ none))
+  same_on true e none = absurd (true≢false (sym (or_left (list_any (test start) w.done) (test start x) e) ∙ none))
   same_on false e none =
       let first = tested test start now x blind (w.same e) in
       stays (first ∙ (sym (or_of (list_any (test start) w.done) (test start x) e) ∙ none)) ∙ ap (λ (n : NodeView K). over next.keeper n) (w.same e)
@@ -133,7 +127,7 @@ failed_first {K} {X} test start now all x rest before mid after failing blind to
         let is = w.same e in
         let so : test start x ≡ true = sym (tested test start now x blind is) ∙ there in
         record {
-          there = ap (list_any (test start)) w.whole ∙ (list_any-append (test start) w.done (x ∷ rest) ∙ (or_of (list_any (test start) w.done) (list_any (test start) (x ∷ rest)) e ∙ or_so (test start x) (list_any (test start) rest) so));
+          there = ap (list_any (test start)) w.whole ∙ (list_any-append (test start) w.done (x ∷ rest) ∙ (or_of (list_any (test start) w.done) (list_any (test start) (x ∷ rest)) e ∙ or_left (test start x) (list_any (test start) rest) so));
           same = is;
           fails = here;
         }

@@ -102,9 +102,6 @@ pub record Went {K X : Type 0} (step : NodeView K → X → NodeView K) (start n
   pub whole : all ≡ done ++ rest
   pub is : now ≡ over now.keeper (fold step start done)
 
-pub went_start : {K X : Type 0} (step : NodeView K → X → NodeView K) (start : NodeView K) (all rest : List X) → rest ≡ all → Went step start start all rest
-went_start step start all rest same = record { done = []; whole = sym same; is = refl }
-
 fold_one : {K X : Type 0} (step : NodeView K → X → NodeView K) (start : NodeView K) (xs : List X) (x : X) → fold step start (xs ++ x ∷ []) ≡ step (fold step start xs) x
 fold_one step start [] x = refl
 fold_one step start (y ∷ ys) x = fold_one step (step start y) ys x
@@ -112,10 +109,6 @@ fold_one step start (y ∷ ys) x = fold_one step (step start y) ys x
 append_one : {X : Type 0} (xs : List X) (x : X) (ys : List X) → xs ++ (x ∷ ys) ≡ (xs ++ x ∷ []) ++ ys
 append_one [] x ys = refl
 append_one (z ∷ zs) x ys = ap (λ w. z ∷ w) (append_one zs x ys)
-
-append_none : {X : Type 0} (xs : List X) → xs ++ [] ≡ xs
-append_none [] = refl
-append_none (x ∷ xs) = ap (λ w. x ∷ w) (append_none xs)
 
 pub went_on : {K X : Type 0} (step : NodeView K → X → NodeView K) → ((k : K) (n : NodeView K) (x : X) → step (over k n) x ≡ over k (step n x))
     → (start now next : NodeView K) (all : List X) (x : X) (rest : List X) → Went step start now all (x ∷ rest) → next ≡ over next.keeper (step now x) → Went step start next all rest
@@ -126,10 +119,6 @@ went_on {K} step blind start now next all x rest w does = record {
       ∙ ap (λ (m : NodeView K). over next.keeper m) (blind now.keeper (fold step start w.done) x)
       ∙ ap (λ (m : NodeView K). over next.keeper m) (sym (fold_one step start w.done x));
 }
-
-pub went_all : {K X : Type 0} (step : NodeView K → X → NodeView K) (start now : NodeView K) (all rest : List X) → rest ≡ [] → Went step start now all rest → now ≡ over now.keeper (fold step start all)
-went_all {K} {X} step start now all rest none w =
-    w.is ∙ ap (λ (xs : List X). over now.keeper (fold step start xs)) (sym (w.whole ∙ ap (λ (ys : List X). w.done ++ ys) none ∙ append_none w.done))
 
 pub went_stops : {K X : Type 0} (step : NodeView K → X → NodeView K) (start was now : NodeView K) (all rest : List X) (e : NodeRefused) → Went step start was all rest → RefusesSo e PutFile was now → StopsAfter (λ xs. fold step start xs) all e now
 went_stops {K} step start was now all rest e w refused = record {

@@ -18,7 +18,7 @@ use Rattle.node_parts.specs.Parts.{PartsView}
 use Rattle.repo_node.specs.declared.refused.NodeRefused.{NodeRefused}
 use Rattle.repo_node.specs.declared.refused.NodeRefused.TheVariants as refusals
 use Rattle.repo_node.specs.declared.setup.Setup.{Setup}
-use Rattle.repo_node.specs.Nodes.{Fits, IsState, state_of}
+use Rattle.repo_node.specs.Nodes.{MatchesSetup, IsState, state_of}
 
 -- the part of the store that the sessions take is what they have taken
 abbrev pub IsFed : Option Parts → PartsView → Type 0
@@ -28,8 +28,8 @@ IsFed stored parts = ForSome stored (λ q. FedAll q parts.sessions)
 -- never set, each hold has the number of one of its entries, its jobs know where it stands among the repositories, and each that
 -- was begun has its entry.
 pub record IsKept (setup : Setup) (history : List Entry) (parts : PartsView) (branch : Files) (owed : List Owed) (told : Option Contents) : Type 0 where
-  pub state : (s : SetUp) → Fits setup s → IsState s parts branch owed told (state_of s history)
-  pub clock : (s : SetUp) → Fits setup s → (state_of s history).clock ≡ runs_on (record { at = 0; to = setup.offset })
+  pub state : (s : SetUp) → MatchesSetup setup s → IsState s parts branch owed told (state_of s history)
+  pub clock : (s : SetUp) → MatchesSetup setup s → (state_of s history).clock ≡ runs_on (record { at = 0; to = setup.offset })
   pub numbered : All (λ h. h.number < length history + 1) parts.table.holds
   pub place : parts.jobs.place ≡ record { number = setup.number; ids = setup.repos }
   pub begun : parts.jobs.begun ≤ length history

@@ -38,7 +38,7 @@ pub record NodeView (K : Type 0) : Type 0 where
 -- ---- the state that a history leaves
 
 -- the repository is set up as the node knows it; what it doesn't know of the others may be anything
-pub record Fits (setup : Setup) (s : SetUp) : Type 0 where
+pub record MatchesSetup (setup : Setup) (s : SetUp) : Type 0 where
   pub number : s.number ≡ setup.number
   pub ids : map (λ repo. repo.id) s.repos ≡ setup.repos
   pub offset : offset_of s.repos s.number ≡ setup.offset
@@ -55,7 +55,7 @@ told_of contents None = None
 told_of contents (Some parts) = contents
 
 -- a node's parts, the lines that it owes and these contents are those of a state, and so are the keys that its table fills
-pub record Stands (s : SetUp) (parts : PartsView) (owed : List Owed) (c : Contents) (st : State) : Type 0 where
+pub record IsStateOfParts (s : SetUp) (parts : PartsView) (owed : List Owed) (c : Contents) (st : State) : Type 0 where
   pub parts_are : AreParts s st parts
   pub fills : (key : List ℕ) → is_filling parts.table key ≡ is_filled s st key
   pub stored : HasContents c st
@@ -66,7 +66,7 @@ pub record IsState (s : SetUp) (parts : PartsView) (branch : Files) (owed : List
   pub holds : parts.table.holds ≡ st.holds
   pub bars : (key : List ℕ) → bar_at parts.table key ≡ st.bar key
   pub lines : (path : List ℕ) → lines_at branch path ≡ st.lines path
-  pub stands : ForSome told (λ c. Stands s parts owed c st)
+  pub stands : ForSome told (λ c. IsStateOfParts s parts owed c st)
 
 -- the store has the lines of each file as a text, where it tells
 abbrev pub HasFiles : Option StoredFiles → Files → Type 0

@@ -8,14 +8,14 @@ use Rattle.node_model.specs.SetUp.{SetUp}
 use Rattle.node_parts.specs.declared.done.Done.{Done}
 use Rattle.repo_node.specs.declared.past.Past.{Past}
 use Rattle.repo_node.specs.Kept.{is_debtor}
-use Rattle.repo_node.specs.Nodes.{Fits, NodeView, state_of}
+use Rattle.repo_node.specs.Nodes.{MatchesSetup, NodeView, state_of}
 use Rattle.repo_node.specs.Pasts.{Enters}
 use Rattle.repo_node.specs.Stored.{StoreView}
 use Rattle.repo_node.specs.Turning.{Adds, Caller, Looks, Stepper, StepsBy, ended_by}
 
 -- these have no step, at any look of the node
 abbrev pub NoStep : {K : Type 0} → Stepper → NodeView K → Type 0
-NoStep step n = (s : SetUp) (k : Look) → Fits n.setup s → Looks n s k → step s (state_of s n.history) k ≡ None
+NoStep step n = (s : SetUp) (k : Look) → MatchesSetup n.setup s → Looks n s k → step s (state_of s n.history) k ≡ None
 
 -- whether a step was made: where so, it was this one, and else there was none
 abbrev pub MovesSo : {K : Type 0} → Bool → Stepper → Caller → StoreView → StoreView → NodeView K → NodeView K → Type 0
@@ -24,7 +24,7 @@ MovesSo false step caller before after was now = NoStep step was
 
 -- these have a step, at each look of the node, or none
 abbrev pub ReadySo : {K : Type 0} → Bool → Stepper → NodeView K → Type 0
-ReadySo b step n = (s : SetUp) (k : Look) → Fits n.setup s → Looks n s k → is_some (step s (state_of s n.history) k) ≡ b
+ReadySo b step n = (s : SetUp) (k : Look) → MatchesSetup n.setup s → Looks n s k → is_some (step s (state_of s n.history) k) ≡ b
 
 -- where a step was made, there is its entry; else the node is as it was
 abbrev pub AddsIf : {K : Type 0} → Bool → List EndView → StoreView → StoreView → NodeView K → NodeView K → Type 0

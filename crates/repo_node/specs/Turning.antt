@@ -31,7 +31,7 @@ use Rattle.node_parts.specs.Posting.{PostsPieces}
 use Rattle.node_parts.specs.Steps.{HasPart, IsPartAsked}
 use Rattle.node_parts.specs.Stored.{parts_after_step}
 use Rattle.repo_node.specs.declared.setup.Ended.{Ended}
-use Rattle.repo_node.specs.Nodes.{Fits, NodeView, state_of}
+use Rattle.repo_node.specs.Nodes.{MatchesSetup, NodeView, state_of}
 use Rattle.repo_node.specs.Stored.{StoreView}
 
 -- ---- what a turn finds
@@ -126,8 +126,8 @@ pub record StepsBy {K : Type 0} (step : Stepper) (caller : Caller) (before after
   pub kind : EntryKind
   pub taken : Option FrameView
   pub part : HasPart before.parts was.parts taken
-  pub makes : (s : SetUp) (k : Look) → Fits was.setup s → Looks was s k → Finds before.parts was kind taken k → MakesAt step kind taken was now s k
-  pub calls : (s : SetUp) (k : Look) → Fits was.setup s → Looks was s k → Finds before.parts was kind taken k
+  pub makes : (s : SetUp) (k : Look) → MatchesSetup was.setup s → Looks was s k → Finds before.parts was kind taken k → MakesAt step kind taken was now s k
+  pub calls : (s : SetUp) (k : Look) → MatchesSetup was.setup s → Looks was s k → Finds before.parts was kind taken k
       → MakesCalls (caller s (state_of s was.history) k) (failed_in kind) before.failing after.failing
 
 -- ---- whether there is one

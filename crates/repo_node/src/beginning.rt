@@ -90,6 +90,7 @@ impl<K: Keeper> Node<K> {
         // For the proof: a law, and what the parts have of the table.
         tables_fill_as_states();
         let number = begin_parts(&mut self.parts, &mut self.past, &job)?;
+        // For the proof: what its parts have is sound.
         let _ = self.parts.table();
         let lines = Items::new(self.past.alloc);
         let kind = EntryKind::Begin {

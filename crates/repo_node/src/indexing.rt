@@ -2,7 +2,7 @@
 ghost use Rattle.std.specs.Prelude.{◌≡◌, OnOk, OnErr, IsSome};
 ghost use Rattle.std.specs.Option.{ForSome};
 ghost use Rattle.trust_groups.specs.Adding.{lines_and};
-ghost use Rattle.trust_groups.specs.Reads.{Reads};
+ghost use Rattle.trust_groups.specs.Reads.{HaveReadLines};
 ghost use Rattle.trust_groups.specs.Settings.{Lines};
 ghost use Rattle.repo_node.specs.Indexed.{IsIndexed};
 
@@ -13,7 +13,7 @@ use union_merge::Branch;
 
 /// Adds lines of the file of this path.
 fn add_lines(settings: &mut Settings, path: &[u8], lines: &[Line]) -> Result<(), NoMemory>
-    ensures { OnOk result ((was : Lines) → Reads settings.old was → Reads settings.new (lines_and was path.now lines.now)) }
+    ensures { OnOk result ((was : Lines) → HaveReadLines settings.old was → HaveReadLines settings.new (lines_and was path.now lines.now)) }
 {
     for line in lines {
         settings.add(path, line)?;
@@ -23,7 +23,7 @@ fn add_lines(settings: &mut Settings, path: &[u8], lines: &[Line]) -> Result<(),
 
 /// The index with lines of the file of this path, if there is one. Where memory runs out, there is none from then on.
 pub(crate) fn grown(index: Option<Settings>, path: &[u8], lines: &[Line]) -> Option<Settings>
-    ensures { (was : Lines) → ForSome index (λ i. Reads i was) → ForSome result (λ i. Reads i (lines_and was path.now lines.now)) }
+    ensures { (was : Lines) → ForSome index (λ i. HaveReadLines i was) → ForSome result (λ i. HaveReadLines i (lines_and was path.now lines.now)) }
 {
     let mut settings = index?;
     match add_lines(&mut settings, path, lines) {

@@ -9,7 +9,7 @@ ghost use Rattle.link_ring.specs.Ends.{fresh};
 ghost use Rattle.object_store.specs.Calls.{one_more};
 ghost use Rattle.node_model.specs.SetUp.{SetUp};
 ghost use Rattle.node_parts.specs.Sound.{AreSound};
-ghost use Rattle.repo_node.specs.Nodes.{Fits, HasFiles, IsState, state_of, told_of};
+ghost use Rattle.repo_node.specs.Nodes.{MatchesSetup, HasFiles, IsState, state_of, told_of};
 ghost use Rattle.run_data.specs.Histories.{most_entries};
 ghost use Rattle.repo_node.specs.Stored.{HasNothing};
 
@@ -122,7 +122,7 @@ impl<K: Keeper> Node<K> {
         ensures few { length self.now.history ≤ most_entries }
         ensures counted { self.now.count < 2 ^ 62 }
         ensures early { self.now.time ≤ 1000000000000 }
-        ensures state { (s : SetUp) → Fits self.now.setup s → IsState s self.now.parts self.now.branch self.now.owed (told_of (K.contents self.now.keeper) (K.parts self.now.keeper)) (state_of s self.now.history) }
+        ensures state { (s : SetUp) → MatchesSetup self.now.setup s → IsState s self.now.parts self.now.branch self.now.owed (told_of (K.contents self.now.keeper) (K.parts self.now.keeper)) (state_of s self.now.history) }
         ensures files { HasFiles (K.files self.now.keeper) self.now.branch }
         ensures records { Agrees (K.records self.now.keeper) self.now.parts.table.holds }
 

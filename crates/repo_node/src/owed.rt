@@ -16,7 +16,7 @@ ghost use Rattle.run_data.specs.declared.entry.Entry.{Entry};
 ghost use Rattle.run_data.specs.declared.entry.LogFile.{LogFile};
 ghost use Rattle.repo_node.specs.Calls.{Makes};
 ghost use Rattle.repo_node.specs.Debts.{AddsStep, IsDraftOf, IsFirstDraft, WhereMade, failed_put, owed_line_of, with_status};
-ghost use Rattle.repo_node.specs.Nodes.{Fits, are_due, due_by, id_known, is_due, state_of, told_of};
+ghost use Rattle.repo_node.specs.Nodes.{MatchesSetup, are_due, due_by, id_known, is_due, state_of, told_of};
 ghost use Rattle.repo_node.specs.Owing.{AreDebts, IsFirstOf, is_owing, owed_at, owed_by, owed_of};
 ghost use Rattle.repo_node.specs.Refusals.{RefusesFor};
 
@@ -286,7 +286,7 @@ impl<K: Keeper> Node<K> {
         ensures ok { (o : Owed) (os : List Owed) → self.old.owed ≡ o ∷ os → OnOk result (self.new ≡ with_status self.old self.new.keeper o.key o.repo o.there) }
         ensures paid { (o : Owed) (os : List Owed) → self.old.owed ≡ o ∷ os → OnOk result (self.new.owed ≡ os) }
         ensures err { (o : Owed) (os : List Owed) → self.old.owed ≡ o ∷ os → IfErr result (λ e. RefusesFor o.by e calls.PutFile self.old self.new) }
-        ensures pays { ForSome (told_of (K.contents self.old.keeper) (K.parts self.old.keeper)) (λ c. (s : SetUp) (k : Look) → Fits self.old.setup s → k.time ≡ self.old.time → k.count ≡ self.old.count + 1 → failing k.fails (calls.PutFile ∷ []) ≡ failed_put result → WhereMade result (AddsStep (owed_step s (state_of s self.old.history) k) self.old.setup.number k self.old.history self.new.history)) }
+        ensures pays { ForSome (told_of (K.contents self.old.keeper) (K.parts self.old.keeper)) (λ c. (s : SetUp) (k : Look) → MatchesSetup self.old.setup s → k.time ≡ self.old.time → k.count ≡ self.old.count + 1 → failing k.fails (calls.PutFile ∷ []) ≡ failed_put result → WhereMade result (AddsStep (owed_step s (state_of s self.old.history) k) self.old.setup.number k self.old.history self.new.history)) }
         ensures contents { K.contents self.new.keeper ≡ K.contents self.old.keeper }
         ensures parts { K.parts self.new.keeper ≡ K.parts self.old.keeper }
         ensures records { K.records self.new.keeper ≡ K.records self.old.keeper }

@@ -119,6 +119,7 @@ impl<K: Keeper> Node<K> {
         make_room(&mut self.past, &mut self.debts)?;
         let moment = self.past.moment();
         let done = self.parts.serve(self.past.alloc, &mut self.keeper, moment)?;
+        // For the proof: what its parts have is sound.
         let _ = self.parts.table();
         Ok(enter_if(&mut self.past, &mut self.debts, done))
     }
@@ -150,6 +151,7 @@ impl<K: Keeper> Node<K> {
         let done = self
             .parts
             .act(self.past.alloc, settings, &mut self.keeper, moment)?;
+        // For the proof: what its parts have is sound.
         let _ = self.parts.table();
         Ok(enter_if(&mut self.past, &mut self.debts, done))
     }

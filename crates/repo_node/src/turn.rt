@@ -1,12 +1,13 @@
 //! One turn of a node: a line that is owed, or else the step of a session, or else of a job.
-ghost use Rattle.std.specs.Prelude.{◌≡◌, ◌≢◌, ◌≤◌, ℕ, true, Bool, [], length, map, is_some, IfOk, OnErr};
+ghost use Rattle.std.specs.Prelude.{◌≡◌, ◌≢◌, ◌≤◌, ℕ, true, false, Bool, [], length, map, is_some, IfOk, OnErr};
+ghost use Rattle.std.specs.List.{list_any};
 ghost use Rattle.std.specs.Option.{ForSome};
-ghost use Rattle.link_ring.specs.Ends.{after_drop};
+ghost use Rattle.link_ring.specs.Ends.{after_drop, has_frames};
 ghost use Rattle.node_ends.specs.Joined.{StayPaired};
 ghost use Rattle.node_model.specs.SetUp.{SetUp};
 ghost use Rattle.node_model.specs.Step.{step};
 ghost use Rattle.object_store.specs.Stores.{AreSmallParts};
-ghost use Rattle.repo_node.specs.Nodes.{Fits, told_of};
+ghost use Rattle.repo_node.specs.Nodes.{MatchesSetup, told_of};
 ghost use Rattle.run_data.specs.Histories.{most_entries};
 ghost use Rattle.repo_node.specs.Stored.{TellsSame, store_view};
 ghost use Rattle.repo_node.specs.TurnCalls.{step_calls};
@@ -52,6 +53,14 @@ fn turn_of_full(ready: Result<bool, NoMemory>) -> Turn
 }
 
 impl<K: Keeper> Node<K> {
+    /// Whether a frame is at hand at one of its ends. Where none is, a turn that is idle leaves the node as it was.
+    pub fn has_frames(&self) -> bool
+        ensures any { result ≡ list_any has_frames self.now.parts.links }
+        ensures kept { result ≡ false → map after_drop self.now.parts.links ≡ self.now.parts.links }
+    {
+        self.parts.have_frames()
+    }
+
     /// Makes the first step that is ready, by one entry: it writes the first line that is owed; else the first session, in order of
     /// client and slot, that has a step makes it; else the first job, in order of slot. Frames that are never taken are dropped at
     /// its ends first. All memory is taken before the step.
@@ -60,9 +69,9 @@ impl<K: Keeper> Node<K> {
         // that finds what belongs to it, where the store tells its contents and its parts.
         ensures moved { result ≡ Turn.Moved → Adds (map after_drop self.old.parts.links) (store_view (K.contents self.old.keeper) (K.parts self.old.keeper) (K.failing self.old.keeper) (K.faults self.old.keeper)) (store_view (K.contents self.new.keeper) (K.parts self.new.keeper) (K.failing self.new.keeper) (K.faults self.new.keeper)) self.old self.new }
         ensures step { result ≡ Turn.Moved → ForSome (told_of (K.contents self.old.keeper) (K.parts self.old.keeper)) (λ c. StepsBy step step_calls (store_view (K.contents self.old.keeper) (K.parts self.old.keeper) (K.failing self.old.keeper) (K.faults self.old.keeper)) (store_view (K.contents self.new.keeper) (K.parts self.new.keeper) (K.failing self.new.keeper) (K.faults self.new.keeper)) self.old self.new) }
-        ensures idle { result ≡ Turn.Idle → ForSome (told_of (K.contents self.old.keeper) (K.parts self.old.keeper)) (λ c. (s : SetUp) → Fits self.old.setup s → IsIdle self.old s) }
+        ensures idle { result ≡ Turn.Idle → ForSome (told_of (K.contents self.old.keeper) (K.parts self.old.keeper)) (λ c. (s : SetUp) → MatchesSetup self.old.setup s → IsIdle self.old s) }
         ensures full { result ≡ Turn.Full → length self.old.history ≡ most_entries }
-        ensures ready { result ≡ Turn.Full → ForSome (told_of (K.contents self.old.keeper) (K.parts self.old.keeper)) (λ c. (s : SetUp) → Fits self.old.setup s → HasStep self.old s) }
+        ensures ready { result ≡ Turn.Full → ForSome (told_of (K.contents self.old.keeper) (K.parts self.old.keeper)) (λ c. (s : SetUp) → MatchesSetup self.old.setup s → HasStep self.old s) }
 
         // Else only those frames are gone.
         ensures stays { result ≢ Turn.Moved → self.new ≡ record self.old { keeper = self.new.keeper; parts = record self.old.parts { links = map after_drop self.old.parts.links } } }

@@ -9,7 +9,7 @@ ghost use Rattle.union_merge.specs.LineSet.{IsLine, text_of};
 ghost use Rattle.node_model.specs.Files.{lines_after};
 ghost use Rattle.std.specs.Option.{ForSome};
 ghost use Rattle.trust_groups.specs.Adding.{lines_and};
-ghost use Rattle.trust_groups.specs.Reads.{Reads};
+ghost use Rattle.trust_groups.specs.Reads.{HaveReadLines};
 ghost use Rattle.trust_groups.specs.Settings.{Lines};
 ghost use Rattle.repo_node.specs.Calls.{Makes};
 ghost use Rattle.repo_node.specs.Kept.{IsOfFiles, first_goes};
@@ -165,7 +165,7 @@ fn write_indexed<K: Keeper>(
     by: By,
 ) -> Result<(), NodeRefused>
     requires { IsLine path.now }
-    ensures index { OnOk result ((was : Lines) → ForSome index.old (λ i. Reads i was) → ForSome index.new (λ i. Reads i (lines_and was path.now new.now))) }
+    ensures index { OnOk result ((was : Lines) → ForSome index.old (λ i. HaveReadLines i was) → ForSome index.new (λ i. HaveReadLines i (lines_and was path.now new.now))) }
     ensures err_index { OnErr result (index.new ≡ index.old) }
     ensures branch { OnOk result (branch.new ≡ with_file branch.old path.now all) }
     ensures past { OnOk result (AddsTo kind lines past.old past.new) }
@@ -227,7 +227,7 @@ fn write_beside<K: Keeper>(
 ) -> Result<(), NodeRefused>
     requires { IsLine path.now }
     ensures debts { debts.new.items ≡ rest_if (first_goes paid by result) debts.old.items }
-    ensures index { OnOk result ((was : Lines) → ForSome index.old (λ i. Reads i was) → ForSome index.new (λ i. Reads i (lines_and was path.now new.now))) }
+    ensures index { OnOk result ((was : Lines) → ForSome index.old (λ i. HaveReadLines i was) → ForSome index.new (λ i. HaveReadLines i (lines_and was path.now new.now))) }
     ensures err_index { OnErr result (index.new ≡ index.old) }
     ensures branch { OnOk result (branch.new ≡ with_file branch.old path.now all) }
     ensures past { OnOk result (AddsTo kind lines past.old past.new) }

@@ -3,7 +3,7 @@ use Rattle.std.proofs.Common.{◌≡◌, ◌⊎◌, Bool, true, false, filter, �
 use Rattle.std.specs.List.{flat_map, range_with_len}
 use Rattle.std.proofs.lemmas.Bool.{cases_lt}
 use Rattle.std.proofs.lemmas.List.Elements.{filter-append}
-use Rattle.annex_base.proofs.Numbers.{range_suc}
+use Rattle.annex_base.proofs.Numbers.{range_more}
 
 -- one more number
 pub flat_map_suc : {A : Type 0} (f : ℕ → List A) (a n : ℕ) → flat_map f (range_with_len a (suc n)) ≡ flat_map f (range_with_len a n) ++ f (a + n)
@@ -55,12 +55,6 @@ flat_map_walked f len past from upto place far at =
           let count : min (from + (upto - from)) len - from ≡ place - from = omega arith in
           rw (← count) (sym (flat_map_within f len past from (upto - from)))
     ]
-
-range_more : (n : ℕ) → range_with_len 0 (n + 1) ≡ range_with_len 0 n ++ n ∷ []
-range_more n =
-    let count : n + 1 ≡ suc n = omega arith in
-    let place : 0 + n ≡ n = omega arith in
-    rw count (rw place at (range_suc 0 n))
 
 -- one more number that passes the test
 pub filter_kept : (p : ℕ → Bool) (n : ℕ) (old new : List ℕ) → p n ≡ true → old ≡ filter p (range_with_len 0 n) → new ≡ old ++ n ∷ [] → new ≡ filter p (range_with_len 0 (n + 1))

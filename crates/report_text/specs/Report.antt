@@ -14,8 +14,6 @@ use Rattle.run_data.specs.declared.job.Outcome.{Outcome}
 use Rattle.annex_base.specs.RepoText.{repo_text}
 use Rattle.annex_base.specs.Settings.{Settings}
 use Rattle.annex_base.specs.declared.kinds.Call.{Call}
-use Rattle.annex_base.specs.declared.kinds.Level.{Level}
-use Rattle.annex_base.specs.declared.kinds.Level.TheVariants as levels
 use Rattle.union_merge.specs.LineSet.{text_of}
 use Rattle.union_merge.specs.Branch.{Files, lines_at}
 use Rattle.hash_dirs.specs.LogPath.{location_path}
@@ -26,7 +24,7 @@ use Rattle.node_model.specs.Slots.{is_begin}
 use Rattle.run_model.specs.Logs.{branch}
 use Rattle.run_model.specs.Past.{begun_job, is_of, present}
 use Rattle.run_model.specs.Safety.{past_at}
-use Rattle.script_words.specs.Fields.{call_word}
+use Rattle.script_words.specs.Fields.{call_word, level_word}
 use Rattle.script_words.specs.Words.{printed_word}
 use Rattle.run_text.specs.Names.{name_of, joined_text}
 use Rattle.run_text.specs.Jobs.{begun_text, key_text}
@@ -131,12 +129,6 @@ names_of_ids repos ids =
 abbrev pub lines_text : List (List ℕ) → List ℕ
 lines_text lines = decimal (length lines) ++ codes "\n" ++ text_of lines
 
-abbrev pub level_text : Level → List ℕ
-level_text levels.Trusted = codes "trusted"
-level_text levels.Semitrusted = codes "semitrusted"
-level_text levels.Untrusted = codes "untrusted"
-level_text levels.Dead = codes "dead"
-
 -- the branch of a repository before a place
 abbrev pub branch_at : Run → ℕ → ℕ → Files
 branch_at run place r = branch (past_at run place) r
@@ -169,7 +161,7 @@ numbers_for run r (Some path) s = []
 
 abbrev pub trust_text : Run → ℕ → ℕ → Settings → List ℕ
 trust_text run r target s =
-    codes "level " ++ name_of run.repos r ++ codes " " ++ name_of run.repos target ++ codes " " ++ level_text (s.level (id_of run.repos target))
+    codes "level " ++ name_of run.repos r ++ codes " " ++ name_of run.repos target ++ codes " " ++ level_word (s.level (id_of run.repos target))
     ++ codes " groups=" ++ joined_text 44 (λ group. group) (s.groups (id_of run.repos target)) ++ codes "\n"
 
 abbrev pub claims_text : Run → ℕ → NamedKey → List (List ℕ) → List ℕ

@@ -8,11 +8,11 @@ ghost use Rattle.trust_groups.specs.Settings.{claims};
 ghost use Rattle.run_data.specs.Files.{file_path};
 ghost use Rattle.report_text.specs.Report.{lines_text, log_text, location_text, claims_text};
 
-use crate::named::{named, put_joined};
+use crate::named::named;
 use annex_base::{Line, NoMemory, put_number};
 use hash_dirs::location_path;
 use run_data::{LogFile, Run};
-use run_text::{put_key, put_name};
+use run_text::{OwnWords, put_joined, put_key, put_name};
 use script_lang::NamedKey;
 use script_words::put_word;
 use std::alloc::AllocError;
@@ -137,7 +137,7 @@ pub(crate) fn put_claims(
     out.push(b' ')?;
     put_key(out, &key.key, &key.path)?;
     out.push(b' ')?;
-    put_joined(out, b' ', &words)?;
+    put_joined(out, b' ', &OwnWords, &words)?;
     out.push(b'\n')?;
     Ok(())
 }

@@ -1,14 +1,13 @@
 //! Identifiers as the names of their repositories.
 
-ghost use Rattle.std.specs.Prelude.{◌≡◌, ◌++◌, ◌∷◌, IfOk, OnOk, bytes_eq, filter, map, not};
-ghost use Rattle.std.specs.List.{flat_map, list_any};
+ghost use Rattle.std.specs.Prelude.{◌≡◌, ◌++◌, IfOk, OnOk, bytes_eq, filter, map, not};
+ghost use Rattle.std.specs.List.{list_any};
 ghost use Rattle.annex_base.specs.RepoText.{repo_text};
-ghost use Rattle.run_text.specs.Names.{joined_text};
 ghost use Rattle.report_text.specs.Report.{names_of_ids};
 
 use annex_base::{NoMemory, RepoId, Text};
 use run_data::RepoView;
-use std::alloc::{AllocError, Global};
+use std::alloc::Global;
 
 /// Whether the repository is among the identifiers.
 fn is_among(ids: &[RepoId], repo: &RepoView) -> bool
@@ -66,28 +65,4 @@ pub(crate) fn named(
     put_known(&mut words, repos, ids)?;
     put_unknown(&mut words, alloc, repos, ids)?;
     Ok(words)
-}
-
-/// Adds words with a byte between them, or a dash.
-pub(crate) fn put_joined(out: &mut Vec<u8>, between: u8, words: &[Text]) -> Result<(), AllocError>
-    ensures { OnOk result (out.new.items ≡ out.old.items ++ joined_text between (λ word. word) words.now) }
-{
-    match words.split_first() {
-        None => out.push(b'-')?,
-        Some((first, rest)) => {
-            out.extend_from_slice(first.bytes())?;
-            put_more_words(out, between, rest)?;
-        }
-    }
-    Ok(())
-}
-
-fn put_more_words(out: &mut Vec<u8>, between: u8, words: &[Text]) -> Result<(), AllocError>
-    ensures { OnOk result (out.new.items ≡ out.old.items ++ flat_map (λ word. between ∷ word) words.now) }
-{
-    for word in words {
-        out.push(between)?;
-        out.extend_from_slice(word.bytes())?;
-    }
-    Ok(())
 }

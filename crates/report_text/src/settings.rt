@@ -4,12 +4,12 @@ ghost use Rattle.std.specs.Prelude.{◌≡◌, ◌++◌, ◌<◌, length, OnOk};
 ghost use Rattle.union_merge.specs.Branch.{lines_at};
 ghost use Rattle.trust_groups.specs.Settings.{settings};
 ghost use Rattle.run_data.specs.Repos.{id_of};
-ghost use Rattle.report_text.specs.Report.{level_text, numbers_for, numbers_text, trust_text};
+ghost use Rattle.report_text.specs.Report.{numbers_for, numbers_text, trust_text};
 
-use crate::named::put_joined;
-use annex_base::{Level, NoMemory, RepoId, Text, put_number};
+use annex_base::{NoMemory, RepoId, Text, put_number};
 use run_data::{RepoView, Run};
-use run_text::put_name;
+use run_text::{OwnWords, put_joined, put_name};
+use script_words::level_text;
 use trust_groups::{groups_of, level_of, mincopies_of, numcopies_of};
 use union_merge::Branch;
 
@@ -47,17 +47,6 @@ fn put_numbers(out: &mut Vec<u8>, run: &Run, repo: u32, branch: &Branch) -> Resu
     Ok(())
 }
 
-fn level_word(level: Level) -> &'static [u8]
-    ensures { result.now ≡ level_text level }
-{
-    match level {
-        Level::Trusted => b"trusted",
-        Level::Semitrusted => b"semitrusted",
-        Level::Untrusted => b"untrusted",
-        Level::Dead => b"dead",
-    }
-}
-
 fn id_of(repos: &[RepoView], repo: u32) -> RepoId
     requires { repo < length repos.now }
     ensures { result ≡ id_of repos.now repo }
@@ -86,9 +75,9 @@ pub(crate) fn put_level(
     out.push(b' ')?;
     put_name(out, repos, target)?;
     out.push(b' ')?;
-    out.extend_from_slice(level_word(level))?;
+    out.extend_from_slice(level_text(level))?;
     out.extend_from_slice(b" groups=")?;
-    put_joined(out, b',', groups.as_slice())?;
+    put_joined(out, b',', &OwnWords, groups.as_slice())?;
     out.push(b'\n')?;
     Ok(())
 }

@@ -1,5 +1,4 @@
 -- The lemmas of this crate.
 pub mod LineLemmas
 pub mod LoopLemmas
-pub mod Places
 pub mod SafeLemmas

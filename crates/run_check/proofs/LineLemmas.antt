@@ -31,7 +31,7 @@ use Rattle.run_data.specs.declared.entry.EntryKind.TheVariants.{Log}
 use Rattle.run_data.specs.declared.run.RepoView.{RepoView}
 use Rattle.run_data.specs.Repos.{id_of, offset_of}
 use Rattle.run_model.specs.Past.{begun_job, is_of}
-use Rattle.run_model.specs.Logs.{added_by, ever, read_at}
+use Rattle.run_model.specs.Logs.{added_by, lines_ever, read_at}
 use Rattle.run_model.specs.Drops.{key_in, standing}
 use Rattle.run_check.specs.declared.reading.Seen.TheVariants.{Asked as seen_asked}
 use Rattle.run_check.specs.Lines.{added_by_entry, has_present, is_added, level_said, present_said, standing_given, standing_said}
@@ -99,13 +99,13 @@ by_lines claimed lines key id =
     (λ trusted. let alive : level lines id ≢ levels.Dead = λ dead. absurd (cc) in same_test _ _ (said_claimed claimed lines key id alive) (claimed_said claimed lines key id alive))
 
 -- a job that read these lines sees each repository as the definitions do
-pub standing_same : ClaimsAreExact → (repos : List RepoView) (past : List Entry) (a j r : ℕ) (trust location : List (List ℕ)) → trust ≡ ever (read_at past a j) a (file_name kinds.Trust)
-    → location ≡ ever (read_at past a j) a (location_path (key_in (begun_job (read_at past a j) a j))) → as_standing (standing_said trust location (id_of repos r)) ≡ standing repos past a j r
+pub standing_same : ClaimsAreExact → (repos : List RepoView) (past : List Entry) (a j r : ℕ) (trust location : List (List ℕ)) → trust ≡ lines_ever (read_at past a j) a (file_name kinds.Trust)
+    → location ≡ lines_ever (read_at past a j) a (location_path (key_in (begun_job (read_at past a j) a j))) → as_standing (standing_said trust location (id_of repos r)) ≡ standing repos past a j r
 unfolding standing
 standing_same claimed repos past a j r trust location trust_is location_is =
     ap (λ lines. as_standing (standing_given (level_said lines (id_of repos r)) (present_said location (id_of repos r)))) trust_is
-    ∙ ap (λ lines. as_standing (standing_given (level (ever (read_at past a j) a) (id_of repos r)) (present_said lines (id_of repos r)))) location_is
-    ∙ by_lines claimed (ever (read_at past a j) a) (key_in (begun_job (read_at past a j) a j)) (id_of repos r)
+    ∙ ap (λ lines. as_standing (standing_given (level (lines_ever (read_at past a j) a) (id_of repos r)) (present_said lines (id_of repos r)))) location_is
+    ∙ by_lines claimed (lines_ever (read_at past a j) a) (key_in (begun_job (read_at past a j) a j)) (id_of repos r)
 
 -- ---- identifiers and offsets
 
@@ -158,24 +158,24 @@ added_is : (path : List ℕ) (kind : EntryKind) (lines : List (List ℕ)) → ad
 added_is path (Log file) lines = refl
 added_is path _ lines = refl
 
-ever-cons : (e : Entry) (past : List Entry) (r : ℕ) (path : List ℕ) → ever (e ∷ past) r path ≡ added_by_entry r path e ++ ever past r path
-ever-cons e past r path = go (is_of r e) ∙ ap (λ xs. xs ++ ever past r path) (test (is_of r e) (is_added path e.kind))
+ever-cons : (e : Entry) (past : List Entry) (r : ℕ) (path : List ℕ) → lines_ever (e ∷ past) r path ≡ added_by_entry r path e ++ lines_ever past r path
+ever-cons e past r path = go (is_of r e) ∙ ap (λ xs. xs ++ lines_ever past r path) (test (is_of r e) (is_added path e.kind))
   where
-    go : (b : Bool) → (if b then added_by path e.kind e.lines ++ ever past r path else ever past r path) ≡ (if b then (if is_added path e.kind then e.lines else []) else []) ++ ever past r path
-    go true = ap (λ xs. xs ++ ever past r path) (added_is path e.kind e.lines)
+    go : (b : Bool) → (if b then added_by path e.kind e.lines ++ lines_ever past r path else lines_ever past r path) ≡ (if b then (if is_added path e.kind then e.lines else []) else []) ++ lines_ever past r path
+    go true = ap (λ xs. xs ++ lines_ever past r path) (added_is path e.kind e.lines)
     go false = refl
 
     test : (b c : Bool) → (if b then (if c then e.lines else []) else []) ≡ (if b && c then e.lines else [])
     test true c = refl
     test false c = refl
 
-pub ever-append : (xs ys : List Entry) (r : ℕ) (path : List ℕ) → ever (xs ++ ys) r path ≡ ever xs r path ++ ever ys r path
+pub ever-append : (xs ys : List Entry) (r : ℕ) (path : List ℕ) → lines_ever (xs ++ ys) r path ≡ lines_ever xs r path ++ lines_ever ys r path
 ever-append [] ys r path = refl
-ever-append (e ∷ xs) ys r path = ever-cons e (xs ++ ys) r path ∙ ap (λ zs. added_by_entry r path e ++ zs) (ever-append xs ys r path) ∙ sym (append_assoc (added_by_entry r path e) (ever xs r path) (ever ys r path)) ∙ ap (λ zs. zs ++ ever ys r path) (sym (ever-cons e xs r path))
+ever-append (e ∷ xs) ys r path = ever-cons e (xs ++ ys) r path ∙ ap (λ zs. added_by_entry r path e ++ zs) (ever-append xs ys r path) ∙ sym (append_assoc (added_by_entry r path e) (lines_ever xs r path) (lines_ever ys r path)) ∙ ap (λ zs. zs ++ lines_ever ys r path) (sym (ever-cons e xs r path))
 
-pub ever-one : (e : Entry) (r : ℕ) (path : List ℕ) → ever (e ∷ []) r path ≡ added_by_entry r path e
+pub ever-one : (e : Entry) (r : ℕ) (path : List ℕ) → lines_ever (e ∷ []) r path ≡ added_by_entry r path e
 ever-one e r path = ever-cons e [] r path ∙ append-nil (added_by_entry r path e)
 
 -- one more entry, before the others
-pub ever_more : (entries : List Entry) (e : Entry) (r : ℕ) (path : List ℕ) (was new : List (List ℕ)) → was ≡ ever entries r path → new ≡ was ++ added_by_entry r path e → new ≡ ever (entries ++ e ∷ []) r path
-ever_more entries e r path was new old h = h ∙ ap (λ xs. xs ++ added_by_entry r path e) old ∙ ap (λ xs. ever entries r path ++ xs) (sym (ever-one e r path)) ∙ sym (ever-append entries (e ∷ []) r path)
+pub ever_more : (entries : List Entry) (e : Entry) (r : ℕ) (path : List ℕ) (was new : List (List ℕ)) → was ≡ lines_ever entries r path → new ≡ was ++ added_by_entry r path e → new ≡ lines_ever (entries ++ e ∷ []) r path
+ever_more entries e r path was new old h = h ∙ ap (λ xs. xs ++ added_by_entry r path e) old ∙ ap (λ xs. lines_ever entries r path ++ xs) (sym (ever-one e r path)) ∙ sym (ever-append entries (e ∷ []) r path)

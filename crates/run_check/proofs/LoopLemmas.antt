@@ -4,9 +4,10 @@ use Rattle.std.specs.Prelude.{is_none, if◌then◌else◌, filter, option_map, 
 use Rattle.std.specs.List.{list_any, range_with_len}
 use Rattle.std.proofs.lemmas.List.{append-nil, length-reverse, length-take-le, reverse-append, take_more}
 use Rattle.std.proofs.lemmas.List.Elements.{filter-append}
+use Rattle.annex_base.proofs.Pasts.{past_more}
 use Rattle.run_data.specs.declared.entry.Entry.{Entry}
 use Rattle.run_data.specs.declared.run.RepoView.{RepoView}
-use Rattle.run_model.specs.Frames.{Flying, last_of, said_of, says}
+use Rattle.run_model.specs.Frames.{FlyingFrame, last_of, said_of, says}
 use Rattle.run_model.specs.Said.{is_request, message_in}
 use Rattle.run_check.specs.declared.said.Said.{Said as SeenSaid}
 use Rattle.run_check.specs.Values.{as_said}
@@ -23,7 +24,6 @@ use Rattle.node_model.specs.Look.{first_of}
 use Rattle.run_model.specs.Drops.{Vouch, newer, reply, tells}
 use Rattle.run_check.specs.declared.vouching.Told.{Told}
 use Rattle.run_check.specs.Values.{first_told, told_of}
-use Rattle.run_check.proofs.Places.{past_more}
 
 -- the past after the entry at an index
 pub past_read : {X : Type 0} (entries : List X) (i : ℕ) (e : X) → i < length entries → e ≡ get_or entries i e → reverse (take (i + 1) entries) ≡ e ∷ reverse (take i entries)
@@ -98,7 +98,7 @@ gather_enough side need ask (c ∷ cs) items h = rw h refl
 -- ---- what was asked last
 
 -- one more frame, of which the message was read
-pub last_said : (frames : List Flying) (i : ℕ) (x : Flying) (was new : Option SeenSaid) (said : SeenSaid) → i < length frames → x ≡ get_or frames i x
+pub last_said : (frames : List FlyingFrame) (i : ℕ) (x : FlyingFrame) (was new : Option SeenSaid) (said : SeenSaid) → i < length frames → x ≡ get_or frames i x
     → option_map as_said was ≡ option_map said_of (last_of (filter (λ y. says is_request y.frame) (take i frames))) → as_said said ≡ message_in x.frame.body
     → option_map as_said new ≡ (if is_request (as_said said) then Some (as_said said) else option_map as_said was)
     → option_map as_said new ≡ option_map said_of (last_of (filter (λ y. says is_request y.frame) (take (i + 1) frames)))

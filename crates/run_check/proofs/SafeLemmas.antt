@@ -4,6 +4,7 @@ use Rattle.std.specs.Prelude.{◌↔◌, IsTrue, nat_le}
 use Rattle.std.proofs.lemmas.Bool.Decides.{nat_tests}
 use Rattle.std.specs.List.{list_all, list_any, range_with_len}
 use Rattle.std.proofs.lemmas.List.{reverse-reverse, take_all}
+use Rattle.std.proofs.lemmas.Bool.{and_from, and_parts}
 use Rattle.annex_base.specs.Lists.{Each, Member}
 use Rattle.annex_base.proofs.Lists.{Each-reverse, Each-take, list_all_member, list_any_found, list_any_nowhere}
 use Rattle.annex_base.proofs.Conditions.{bytes_eq-true, by_test, decided}
@@ -19,24 +20,16 @@ use Rattle.run_model.specs.Safety.{IsSafe, add_removal, all_stand, count, has_en
 use Rattle.run_check.specs.Places.{is_safe_at}
 use Rattle.run_check.specs.Whole.{is_safe_for, is_safe_through}
 
-and_true : (a b : Bool) → (a && b) ≡ true → (a ≡ true) × (b ≡ true)
-and_true true b e = (refl, e)
-and_true false b e = cc
-
-both : (a b : Bool) → a ≡ true → b ≡ true → (a && b) ≡ true
-both true b e f = f
-both false b e f = cc
-
 -- ---- each key at each place
 
 safe_there : (run : Run) → IsSafe run → (key : List ℕ) (place : ℕ) → is_safe_at run key place ≡ true
-safe_there run h key place = both _ _ (h.enough key place) (both _ _ (h.drops key place) (h.kept key place))
+safe_there run h key place = and_from _ _ (h.enough key place) (and_from _ _ (h.drops key place) (h.kept key place))
 
 safe_from : (run : Run) → ((key : List ℕ) (place : ℕ) → is_safe_at run key place ≡ true) → IsSafe run
 safe_from run h = record {
-  enough = λ key place. (and_true _ _ (h key place)).0;
-  drops = λ key place. (and_true _ _ (and_true _ _ (h key place)).1).0;
-  kept = λ key place. (and_true _ _ (and_true _ _ (h key place)).1).1;
+  enough = λ key place. (and_parts _ _ (h key place)).0;
+  drops = λ key place. (and_parts _ _ (and_parts _ _ (h key place)).1).0;
+  kept = λ key place. (and_parts _ _ (and_parts _ _ (h key place)).1).1;
 }
 
 pub safe_each : (run : Run) → IsSafe run ↔ ((key : List ℕ) (place : ℕ) → is_safe_at run key place ≡ true)
@@ -66,8 +59,8 @@ backed_stays repos (e ∷ past) key h = ap (λ o. all_stand repos (e ∷ past) k
 pub stays : (run : Run) (key : List ℕ) (place : ℕ) → Each (λ e. is_gone key e.kind ≡ false) run.entries → is_safe_at run key place ≡ true
 stays run key place h =
     let none : Each (λ e. is_gone key e.kind ≡ false) (past_at run place) = Each-reverse (λ e. is_gone key e.kind ≡ false) (take place run.entries) (Each-take (λ e. is_gone key e.kind ≡ false) place run.entries h) in
-    both _ _ (ap (λ xs. within (least_need xs) (count run.repos (past_at run place) key)) (no_removals run.repos (past_at run place) key none))
-    (both _ _ (rightful_stays run.repos (past_at run place) key none) (backed_stays run.repos (past_at run place) key none))
+    and_from _ _ (ap (λ xs. within (least_need xs) (count run.repos (past_at run place) key)) (no_removals run.repos (past_at run place) key none))
+    (and_from _ _ (rightful_stays run.repos (past_at run place) key none) (backed_stays run.repos (past_at run place) key none))
 
 -- ---- the whole run
 
@@ -127,7 +120,7 @@ safe_everywhere run h key place = by_test (nat_le place (length run.entries))
 
 all_of : {X : Type 0} (p : X → Bool) → ((x : X) → p x ≡ true) → (xs : List X) → list_all p xs ≡ true
 all_of p f [] = refl
-all_of p f (x ∷ xs) = both _ _ (f x) (all_of p f xs)
+all_of p f (x ∷ xs) = and_from _ _ (f x) (all_of p f xs)
 
 safe_kind : (run : Run) → IsSafe run → (place : ℕ) (kind : EntryKind) → is_safe_for run place kind ≡ true
 safe_kind run h place (Gone source key) = safe_there run h key place

@@ -78,7 +78,7 @@ fn within(least: Option<u32>, count: usize) -> bool
 }
 
 /// How many repositories have a copy of the key or a claim.
-#[tactic(auto, using(crate::proofs::Places::count_range_more))]
+#[tactic(auto, using(annex_base::proofs::Pasts::count_range_more))]
 fn count(entries: &[Entry], repos: usize, key: &Key, removed: &[Removed]) -> usize
     ensures { result ≡ count_by
         (λ r. present (reverse entries.now) r key.now || list_any (trusts r) (reverse removed.now))

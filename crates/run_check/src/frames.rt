@@ -3,7 +3,7 @@
 ghost use Rattle.std.specs.Prelude.{◌≡◌, Some, filter, ◌<◌, ◌+◌, ◌≤◌, ◌^◌, ◌&&◌, ◌++◌, [], ◌∷◌, map, length, reverse, if◌then◌else◌, option_map, slice_get, IfOk, OnOk};
 ghost use Rattle.node_model.specs.Ends.{same_bool};
 ghost use Rattle.run_model.specs.Past.{is_of};
-ghost use Rattle.run_model.specs.Frames.{flying, frames_sent, is_job, is_on, last_of, last_request, next_sender, says, on_way, said_of, sender, sender_of, sent_of, taken_count, taker_of, takes, up_of, way_of};
+ghost use Rattle.run_model.specs.Frames.{flying_frame, frames_sent, is_job, is_on, last_of, last_request, next_sender, says, on_way, said_of, sender, sender_of, sending_entry, taken_count, taker_of, takes, up_of, way_of};
 ghost use Rattle.run_model.specs.Said.{is_request};
 ghost use Rattle.run_check.specs.Values.{as_said};
 
@@ -106,7 +106,7 @@ struct Flying<'a> {
 
 impl<'a> Model for Flying<'a> {
     ghost use Rattle.std.specs.Prelude.{reverse};
-    ghost use Rattle.run_model.specs.Frames.{Flying as Spec};
+    ghost use Rattle.run_model.specs.Frames.{FlyingFrame as Spec};
 
     ghost Value = { Spec };
 
@@ -137,7 +137,7 @@ fn add_sent<'a>(
     way: &Way,
 ) -> Result<(), NoMemory>
     ensures { OnOk result (frames.new.items ≡ (if is_of (sender_of way.now) entry.now
-        then frames.old.items ++ map (flying entry.now (reverse before.now)) (on_way way.now entry.now) else frames.old.items)) }
+        then frames.old.items ++ map (flying_frame entry.now (reverse before.now)) (on_way way.now entry.now) else frames.old.items)) }
 {
     if is_of(entry, way.sender()) {
         add_all(frames, entry, before, way)?;
@@ -151,7 +151,7 @@ fn add_all<'a>(
     before: &'a [Entry],
     way: &Way,
 ) -> Result<(), NoMemory>
-    ensures { OnOk result (frames.new.items ≡ frames.old.items ++ map (flying entry.now (reverse before.now)) (on_way way.now entry.now)) }
+    ensures { OnOk result (frames.new.items ≡ frames.old.items ++ map (flying_frame entry.now (reverse before.now)) (on_way way.now entry.now)) }
 {
     let taker = way.taker();
     for frame in entry.sent.as_slice() {
@@ -169,7 +169,7 @@ fn add_if<'a>(
     before: &'a [Entry],
 ) -> Result<(), NoMemory>
     ensures { OnOk result (frames.new.items ≡ frames.old.items
-        ++ (if sends then flying entry.now (reverse before.now) frame.now ∷ [] else [])) }
+        ++ (if sends then flying_frame entry.now (reverse before.now) frame.now ∷ [] else [])) }
 {
     if sends {
         frames.push(Flying {
@@ -222,7 +222,7 @@ pub(crate) struct Sent<'a> {
 
 impl<'a> Model for Sent<'a> {
     ghost use Rattle.std.specs.Prelude.{reverse};
-    ghost use Rattle.run_model.specs.Frames.{Sent as Spec};
+    ghost use Rattle.run_model.specs.Frames.{SendingEntry as Spec};
 
     ghost Value = { Spec };
 
@@ -230,7 +230,7 @@ impl<'a> Model for Sent<'a> {
 }
 
 fn sent_at<'a>(frames: &[Flying<'a>], place: usize) -> Option<Sent<'a>>
-    ensures { result ≡ option_map sent_of (slice_get frames.now place) }
+    ensures { result ≡ option_map sending_entry (slice_get frames.now place) }
 {
     match frames.get(place) {
         Some(flying) => Some(Sent {

@@ -133,7 +133,7 @@ pub(crate) struct Running<'a> {
 }
 
 impl<'a> Model for Running<'a> {
-    ghost use Rattle.node_model.specs.Slots.{Running as Spec};
+    ghost use Rattle.node_model.specs.Slots.{RunningJob as Spec};
 
     ghost Value = { Spec };
 

@@ -7,7 +7,7 @@ ghost use Rattle.log_lines.specs.Files.{file_name};
 ghost use Rattle.hash_dirs.specs.LogPath.{location_log, location_path};
 ghost use Rattle.run_data.specs.Repos.{id_of};
 ghost use Rattle.run_model.specs.Past.{begun_job, is_of};
-ghost use Rattle.run_model.specs.Logs.{ever, read_at};
+ghost use Rattle.run_model.specs.Logs.{lines_ever, read_at};
 ghost use Rattle.run_model.specs.Drops.{key_in, standing};
 ghost use Rattle.trust_groups.specs.Settings.{is_present, level_in};
 ghost use Rattle.run_check.specs.Lines.{added_by_entry, is_added, level_said, present_said, standing_given, standing_said};
@@ -41,8 +41,8 @@ struct Reading {
 impl Reading {
     /// What the job of the repository reads: all that was added before its drop's first step.
     fn read(alloc: Global, entries: &[Entry], repo: usize, job: u32) -> Result<Reading, NoMemory>
-        ensures trust { IfOk result (λ x. x.trust ≡ ever (read_at (reverse entries.now) repo job) repo (file_name kinds.Trust)) }
-        ensures location { IfOk result (λ x. x.location ≡ ever (read_at (reverse entries.now) repo job) repo
+        ensures trust { IfOk result (λ x. x.trust ≡ lines_ever (read_at (reverse entries.now) repo job) repo (file_name kinds.Trust)) }
+        ensures location { IfOk result (λ x. x.location ≡ lines_ever (read_at (reverse entries.now) repo job) repo
             (location_path (key_in (begun_job (read_at (reverse entries.now) repo job) repo job)))) }
     {
         let known = read_at(alloc, entries, repo, job)?;
@@ -163,7 +163,7 @@ fn added(
     repo: usize,
     path: &[u8],
 ) -> Result<Items<Line>, NoMemory>
-    ensures { IfOk result (λ v. v ≡ ever (reverse entries.now) repo path.now) }
+    ensures { IfOk result (λ v. v ≡ lines_ever (reverse entries.now) repo path.now) }
 {
     let mut lines = Items::new(alloc);
     for entry in entries.iter().rev() {

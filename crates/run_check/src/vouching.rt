@@ -4,7 +4,7 @@ ghost use Rattle.std.specs.Prelude.{◌≡◌, Some, None, if◌then◌else◌, 
 ghost use Rattle.node_model.specs.Look.{first_of};
 ghost use Rattle.node_model.specs.Slots.{job_of};
 ghost use Rattle.run_model.specs.Frames.{sender};
-ghost use Rattle.run_model.specs.Drops.{asked_at, asker, asker_of, is_asker, reply, tells, told_by, vouch, vouch_kind};
+ghost use Rattle.run_model.specs.Drops.{asked_at, asker, asker_of, is_asker, reply, tells, vouches_sent, vouch, vouch_kind};
 ghost use Rattle.run_check.specs.Values.{first_told, told_of};
 
 use crate::frames::{is_job, sender};
@@ -175,7 +175,7 @@ fn told_by_sender(
     repo: usize,
     job: u32,
 ) -> Result<Option<Told>, NoMemory>
-    ensures { IfOk result (λ o. o ≡ first_told (told_by from repo job (sender (reverse entries.now) repo entry.now.taken))) }
+    ensures { IfOk result (λ o. o ≡ first_told (vouches_sent from repo job (sender (reverse entries.now) repo entry.now.taken))) }
 {
     let sent = sender(alloc, entries, repo, &entry.taken)?;
     match sent {

@@ -3,7 +3,7 @@ use Rattle.std.proofs.Common.{◌≡◌, ◌≢◌, ◌⊎◌, inl, inr, ◌↔�
 use Rattle.std.specs.Prelude.{if◌then◌else◌, bytes_eq}
 use Rattle.std.specs.List.{list_all}
 use Rattle.std.proofs.lemmas.Slice.Eq.{bytes_eq-Decides}
-use Rattle.std.proofs.lemmas.Option.{none-some, same_Some}
+use Rattle.std.proofs.lemmas.Option.{none-some}
 use Rattle.annex_base.proofs.Lists.{Each-always, find_member, find_none}
 use Rattle.annex_base.specs.declared.memory.NoMemory.{NoMemory}
 use Rattle.annex_key.specs.FileKey.{key_of_file}
@@ -140,10 +140,6 @@ named_kind_other name kind found is = none-some kind (sym (ap kind_named (sym (n
 pub named_found : (name : List ℕ) (o : Option LogKind) → o ≡ kind_named name → IfSome o (λ kind. (kind ≢ kinds.Location) × (file_name kind ≡ name))
 named_found name None is = tt
 named_found name (Some kind) is = (named_kind_other name kind (sym is), named_path name kind (sym is))
-
--- no two kinds have one name
-pub one_kind : (j k : LogKind) → k ≢ kinds.Location → file_name j ≡ file_name k → j ≡ k
-one_kind j k other same = same_Some j k (sym (named_kind j (λ is. name_some k other (sym same ∙ ap file_name is))) ∙ ap kind_named same ∙ named_kind k other)
 
 -- the kind that a name tells, or none but a location log's
 abbrev or_location : Option LogKind → LogKind

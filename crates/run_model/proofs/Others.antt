@@ -11,7 +11,7 @@ use Rattle.node_model.specs.Clocks.{runs_on}
 use Rattle.node_model.specs.Look.{first_of}
 use Rattle.node_model.specs.SetUp.{SetUp}
 use Rattle.run_model.specs.Past.{begun_count, clock_set, holds, is_of, entry_count}
-use Rattle.run_model.specs.Logs.{before_step, branch, ever, in_drop, is_step, read_at, settings_of}
+use Rattle.run_model.specs.Logs.{before_step, branch, lines_ever, in_drop, is_step, read_at, settings_of}
 use Rattle.run_model.specs.States.{owes, state_of, works}
 
 first_none : {X : Type 0} (o : Option X) → first_of o None ≡ o
@@ -41,7 +41,7 @@ module _ (past : List Entry) (e : Entry) (r : ℕ) (is : is_of r e ≡ false) wh
   branch_other = rw is refl
 
   settings_other : settings_of (e ∷ past) r ≡ settings_of past r
-  settings_other = ap settings (funext (ever (e ∷ past) r) (ever past r) (λ path. rw is refl))
+  settings_other = ap settings (funext (lines_ever (e ∷ past) r) (lines_ever past r) (λ path. rw is refl))
 
   before_other : (j : ℕ) → before_step (e ∷ past) r j ≡ before_step past r j
   before_other j = ap (λ (b : Bool). first_of (before_step past r j) (if b && (is_step j e.kind && in_drop past r j) then Some past else None)) is ∙ first_none (before_step past r j)

@@ -33,15 +33,15 @@ use Rattle.run_data.specs.declared.job.SourceFailure.{SourceFailure}
 use Rattle.run_data.specs.declared.job.TransferRefusal.{TransferRefusal}
 use Rattle.run_data.specs.declared.job.TransferRefusal.TheVariants as failures
 use Rattle.run_data.specs.declared.row.Hold.{Hold}
-use Rattle.run_model.specs.Past.{Occurs, bar, begun_job, clock, holds, is_of, jobs, present, runs}
+use Rattle.run_model.specs.Past.{Occurs, bar, begun_job, clock, holds, is_of, jobs, present, is_running}
 use Rattle.node_model.specs.Rows.{blocks}
 use Rattle.p2p_wire.specs.declared.message.Message.TheVariants.{Error, Failure, Get, Invalid, Put, PutFrom, Valid, Version}
 use Rattle.p2p_wire.specs.Messages.{order_of}
 use Rattle.run_model.specs.Said.{Said, Says, CloseIt, is_request, message_in}
-use Rattle.run_model.specs.Frames.{Flying, MayTake, Sent, is_job, last_request, said_of, says, sender, taken_if, up_of, way_of}
+use Rattle.run_model.specs.Frames.{FlyingFrame, MayTake, SendingEntry, is_job, last_request, said_of, says, sender, taken_if, up_of, way_of}
 use Rattle.run_model.specs.Logs.{before_step, has_stepped, in_drop, need_read}
 use Rattle.run_model.specs.States.{content}
-use Rattle.run_model.specs.Drops.{evidence, offer_from, in_slot, is_first_step, shuts, standing, why, told_cause}
+use Rattle.run_model.specs.Drops.{evidence, offer_from, in_slot, is_first_step, shuts, standing, candidate_cause, told_cause}
 use Rattle.node_model.specs.Evidence.{candidates, but, is_locked, proof_of, Fails, Ignored}
 
 -- ---- a job, and its drop
@@ -113,7 +113,7 @@ pub record FoundLacking (repos : List RepoView) (past : List Entry) (r j : ℕ) 
   pub wants : is_enough (side_of d) (need_read past r j) (items repos past r j d) ≡ false
   pub proof_is : proof ≡ proof_of (length repos) (need_read past r j) (items repos past r j d)
   pub causes : Each (IsCauseOf repos past r j (candidates (side_of d) (length repos) r (target_of d))) reasons
-  pub all : Each (λ c. offer_from repos past r j c ≡ Fails → Member (record { repo = c; cause = why repos past r j c }) reasons) (candidates (side_of d) (length repos) r (target_of d))
+  pub all : Each (λ c. offer_from repos past r j c ≡ Fails → Member (record { repo = c; cause = candidate_cause repos past r j c }) reasons) (candidates (side_of d) (length repos) r (target_of d))
 
 -- the clock wasn't below the first end of the locked items: now, or as the release of the own share failed
 pub record FoundExpired (repos : List RepoView) (past : List Entry) (r j time end clk : ℕ) : Type 0 where
@@ -126,7 +126,7 @@ pub record FoundExpired (repos : List RepoView) (past : List Entry) (r j time en
 -- ---- by a peer
 
 -- an entry of the job takes a frame with this message from the peer
-pub record Hears (past : List Entry) (r j peer : ℕ) (m : Said) : Type 0 where
+pub record HearsMessage (past : List Entry) (r j peer : ℕ) (m : Said) : Type 0 where
   pub entry : Entry
   pub before : List Entry
   pub occurs : Occurs past entry before
@@ -138,15 +138,15 @@ pub record Hears (past : List Entry) (r j peer : ℕ) (m : Said) : Type 0 where
   pub says : message_in f.body ≡ m
 
 -- the message that it takes answers this request: the last one on the connection
-pub record Answers (past : List Entry) (r j peer : ℕ) (asked answer : Said) : Type 0 where
-  pub hears : Hears past r j peer answer
-  pub request : Flying
+pub record AnswersRequest (past : List Entry) (r j peer : ℕ) (asked answer : Said) : Type 0 where
+  pub hears : HearsMessage past r j peer answer
+  pub request : FlyingFrame
   pub last : last_request hears.before (up_of (way_of r hears.f)) ≡ Some request
   pub asked_is : said_of request ≡ asked
 
 -- and this is the entry that sent it
-pub record SentBy (past : List Entry) (r j peer : ℕ) (m : Said) (h : Hears past r j peer m) : Type 0 where
-  pub s : Sent
+pub record IsSentBy (past : List Entry) (r j peer : ℕ) (m : Said) (h : HearsMessage past r j peer m) : Type 0 where
+  pub s : SendingEntry
   pub sent_is : sender h.before r (Some h.f) ≡ Some s
 
 -- the job's end of its connection with the peer is closed here
@@ -161,7 +161,7 @@ pub record Closes (past : List Entry) (r j peer : ℕ) : Type 0 where
 
 -- the connection with the peer was closed, by the peer or here
 abbrev pub ClosedWith : List Entry → ℕ → ℕ → ℕ → Type 0
-ClosedWith past r j peer = Hears past r j peer CloseIt ⊎ Closes past r j peer
+ClosedWith past r j peer = HearsMessage past r j peer CloseIt ⊎ Closes past r j peer
 
 -- ---- by the target
 
@@ -176,8 +176,8 @@ denied_by _ = None
 pub record WasDenied (past : List Entry) (r j : ℕ) (answer : Denial) : Type 0 where
   pub d : JobOf past r j
   pub deadline : Option ℕ
-  pub refused : Answers past r j (target_of d) (Says (order_of deadline d.what.key)) (Says Failure)
-  pub by : SentBy past r j (target_of d) (Says Failure) refused.hears
+  pub refused : AnswersRequest past r j (target_of d) (Says (order_of deadline d.what.key)) (Says Failure)
+  pub by : IsSentBy past r j (target_of d) (Says Failure) refused.hears
   pub found : denied_by by.s.entry.kind ≡ Some answer
 
 abbrev pub is_order : EntryKind → Bool
@@ -193,7 +193,7 @@ pub record WasLost (past : List Entry) (r j : ℕ) (ordered : Bool) : Type 0 whe
 -- the target speaks a version without deadlines, and there is a lock
 pub record FoundOld (repos : List RepoView) (past : List Entry) (r j version : ℕ) : Type 0 where
   pub d : JobOf past r j
-  pub hears : Hears past r j (target_of d) (Says (Version version))
+  pub hears : HearsMessage past r j (target_of d) (Says (Version version))
   pub old : version < 3
   pub locked : list_any (λ i. is_locked i.kind) (items repos past r j d) ≡ true
 
@@ -230,20 +230,20 @@ CauseOf repos past r j time _ = ⊥
 
 -- ---- transfers
 
-abbrev pub gets : JobKind → Bool
-gets kinds.Get = true
-gets kinds.MoveFrom = true
-gets _ = false
+abbrev pub is_get : JobKind → Bool
+is_get kinds.Get = true
+is_get kinds.MoveFrom = true
+is_get _ = false
 
-abbrev pub puts : JobKind → Bool
-puts kinds.Copy = true
-puts kinds.MoveTo = true
-puts _ = false
+abbrev pub is_put : JobKind → Bool
+is_put kinds.Copy = true
+is_put kinds.MoveTo = true
+is_put _ = false
 
 -- a copy's first step found the content absent
 pub record FoundNotHere (past : List Entry) (r j : ℕ) : Type 0 where
   pub d : JobOf past r j
-  pub kind_is : puts d.what.kind ≡ true
+  pub kind_is : is_put d.what.kind ≡ true
   pub first : has_stepped past r j ≡ false
   pub absent : present past r d.what.key ≡ false
 
@@ -257,7 +257,7 @@ IsBelow None n = Unit {0}
 IsBelow (Some size) n = size < n
 
 -- the peer took this GET, and as it took it, its content was absent, or shorter than the place that is asked for
-pub record TookGet (past : List Entry) (peer start : ℕ) (key : List ℕ) (request : Flying) : Type 0 where
+pub record TookGet (past : List Entry) (peer start : ℕ) (key : List ℕ) (request : FlyingFrame) : Type 0 where
   pub entry : Entry
   pub before : List Entry
   pub occurs : Occurs past entry before
@@ -272,11 +272,11 @@ pub record TookGet (past : List Entry) (peer start : ℕ) (key : List ℕ) (requ
 -- its content didn't reach the place from which on it was asked for
 abbrev pub SourceCauseOf : List Entry → ℕ → ℕ → List ℕ → ℕ → SourceCause → Type 0
 SourceCauseOf past r j key peer sources.Closed = ClosedWith past r j peer
-SourceCauseOf past r j key peer sources.Wrong = (h : Hears past r j peer (Says Valid)) × (list_any (says is_failure) h.entry.sent ≡ true)
+SourceCauseOf past r j key peer sources.Wrong = (h : HearsMessage past r j peer (Says Valid)) × (list_any (says is_failure) h.entry.sent ≡ true)
 SourceCauseOf past r j key peer sources.Absent =
-    (file : List ℕ) × (a : Answers past r j peer (Says (Get 0 file key)) (Says Invalid)) × (t : TookGet a.hears.before peer 0 key a.request) × (present t.before peer key ≡ false)
+    (file : List ℕ) × (a : AnswersRequest past r j peer (Says (Get 0 file key)) (Says Invalid)) × (t : TookGet a.hears.before peer 0 key a.request) × (present t.before peer key ≡ false)
 SourceCauseOf past r j key peer sources.Invalid =
-    (start : ℕ) × (file : List ℕ) × (start ≢ 0) × (a : Answers past r j peer (Says (Get start file key)) (Says Invalid)) × TookGet a.hears.before peer start key a.request
+    (start : ℕ) × (file : List ℕ) × (start ≢ 0) × (a : AnswersRequest past r j peer (Says (Get start file key)) (Says Invalid)) × TookGet a.hears.before peer start key a.request
 
 -- the peers that a get asks, one after the other
 abbrev pub sources_of : ℕ → ℕ → Option ℕ → List ℕ
@@ -293,8 +293,8 @@ pub record FoundNoSource (repos : List RepoView) (past : List Entry) (r j : ℕ)
 pub record FillsByGet (past : List Entry) (r : ℕ) (key : List ℕ) : Type 0 where
   pub other : ℕ
   pub d : JobOf past r other
-  pub runs_it : runs (jobs past r) other ≡ true
-  pub kind_is : gets d.what.kind ≡ true
+  pub runs_it : is_running (jobs past r) other ≡ true
+  pub kind_is : is_get d.what.kind ≡ true
   pub key_is : d.what.key ≡ key
   pub begun : has_stepped past r other ≡ true
 
@@ -319,7 +319,7 @@ pub record FillsByPut (past : List Entry) (r : ℕ) (key : List ℕ) : Type 0 wh
 -- a get's first step found the content absent, and being filled
 pub record FoundFilled (past : List Entry) (r j : ℕ) : Type 0 where
   pub d : JobOf past r j
-  pub kind_is : gets d.what.kind ≡ true
+  pub kind_is : is_get d.what.kind ≡ true
   pub first : has_stepped past r j ≡ false
   pub absent : present past r d.what.key ≡ false
   pub filled : FillsByGet past r d.what.key ⊎ FillsByPut past r d.what.key
@@ -330,7 +330,7 @@ pub record WasBusy (past : List Entry) (r j : ℕ) : Type 0 where
   pub peer : ℕ
   pub peer_is : d.what.peer ≡ Some peer
   pub file : List ℕ
-  pub busy : Answers past r j peer (Says (Put file d.what.key)) (Says (Error (codes "busy")))
+  pub busy : AnswersRequest past r j peer (Says (Put file d.what.key)) (Says (Error (codes "busy")))
 
 -- the job itself closes the connection: the content is gone, or shorter than the place that the peer asks for, or than it was as the
 -- job began to send it
@@ -364,8 +364,8 @@ pub record WasRejected (past : List Entry) (r j : ℕ) : Type 0 where
   pub peer_is : d.what.peer ≡ Some peer
   pub asked : Said
   pub asked_is : (asked ≡ Says Valid) ⊎ ((file : List ℕ) × (asked ≡ Says (Put file d.what.key)))
-  pub refused : Answers past r j peer asked (Says Failure)
-  pub by : SentBy past r j peer (Says Failure) refused.hears
+  pub refused : AnswersRequest past r j peer asked (Says Failure)
+  pub by : IsSentBy past r j peer (Says Failure) refused.hears
   pub found : rejects by.s.entry.kind ≡ true
 
 -- The cause of a transfer's refusal; a crash ends its jobs without an entry of theirs.

@@ -20,10 +20,10 @@ use Rattle.run_data.specs.Repos.{id_of}
 use Rattle.run_data.specs.declared.entry.FrameView.{FrameView}
 use Rattle.run_model.specs.Past.{is_of, begun_job, jobs, present, clock}
 use Rattle.node_model.specs.Rows.{is_lost_ordered}
-use Rattle.node_model.specs.Slots.{Running, job_of}
+use Rattle.node_model.specs.Slots.{RunningJob, job_of}
 use Rattle.p2p_wire.specs.declared.message.Message.TheVariants.{CheckPresent, Failure}
 use Rattle.run_model.specs.Said.{Said, Says, CloseIt, is_close, message_in}
-use Rattle.run_model.specs.Frames.{Sent, is_job, last_request, said_of, sender, up_of, way_of}
+use Rattle.run_model.specs.Frames.{SendingEntry, is_job, last_request, said_of, sender, up_of, way_of}
 use Rattle.run_model.specs.Logs.{before_step, in_drop, is_step, read_at, settings_of}
 use Rattle.node_model.specs.Look.{first_of}
 use Rattle.node_model.specs.Evidence.{Standing, Claimed, Ignored, Asked, standing_by, Offer, Gives, Fails, gather, candidates, reached_candidates}
@@ -64,7 +64,7 @@ abbrev pub asker_of : Option ℕ → Option ℕ → ℕ → Option Asker
 asker_of (Some a) (Some j) time = Some (record { repo = a; job = j; time = time })
 asker_of _ _ time = None
 
-abbrev pub asker_by : Option Sent → Option Asker
+abbrev pub asker_by : Option SendingEntry → Option Asker
 asker_by None = None
 asker_by (Some s) = asker_of s.entry.repo (job_of s.entry.kind) s.entry.time
 
@@ -94,13 +94,13 @@ newer [] old = old
 newer (v ∷ vs) old = Some v
 
 -- what r vouched to job j of a by the entry that sent a frame
-abbrev pub told_by : ℕ → ℕ → ℕ → Option Sent → List Vouch
-told_by r a j None = []
-told_by r a j (Some s) = vouch s.before s.entry r a j
+abbrev pub vouches_sent : ℕ → ℕ → ℕ → Option SendingEntry → List Vouch
+vouches_sent r a j None = []
+vouches_sent r a j (Some s) = vouch s.before s.entry r a j
 
 -- what the entry tells job j of a of r's copy: the own share, or what was vouched by the entry whose frame it takes
 abbrev pub tells : List Entry → Entry → ℕ → ℕ → ℕ → List Vouch
-tells past e r a j = if r == a then vouch past e r a j else (if is_job a j e then told_by r a j (sender past a e.taken) else [])
+tells past e r a j = if r == a then vouch past e r a j else (if is_job a j e then vouches_sent r a j (sender past a e.taken) else [])
 
 -- the last that job j of a was told of r's copy
 abbrev pub reply : List Entry → ℕ → ℕ → ℕ → Option Vouch
@@ -136,26 +136,26 @@ or_fault None = Fault
 or_fault (Some c) = c
 
 -- what the entry that answered found, or a fault
-abbrev pub cause_by_sender : Option Sent → Cause
+abbrev pub cause_by_sender : Option SendingEntry → Cause
 cause_by_sender None = Fault
 cause_by_sender (Some s) = or_fault (cause_of_kind s.entry.kind)
 
 -- a frame says why the server gives nothing: it closes the connection, or refuses a look that was asked for last
-abbrev pub cause_said : Said → Option Said → Option Sent → Option Cause
+abbrev pub cause_said : Said → Option Said → Option SendingEntry → Option Cause
 cause_said CloseIt offer_from s = Some Closed
 cause_said (Says Failure) (Some (Says (CheckPresent key))) s = Some (cause_by_sender s)
 cause_said _ _ s = None
 
-abbrev pub cause_taken : List Entry → ℕ → ℕ → Option Sent → Option FrameView → Option Cause
+abbrev pub cause_taken : List Entry → ℕ → ℕ → Option SendingEntry → Option FrameView → Option Cause
 cause_taken past a r s None = None
 cause_taken past a r s (Some f) = if (f.peer == r) && not f.up then cause_said (message_in f.body) (option_map said_of (last_request past (up_of (way_of a f)))) s else None
 
 -- job j runs in the slot
-abbrev pub in_slot : List Running → ℕ → ℕ → Bool
+abbrev pub in_slot : List RunningJob → ℕ → ℕ → Bool
 in_slot js j slot = list_any (λ x. (x.number == j) && (x.slot == slot)) js
 
 -- the client's end of a connection of job j with r is closed here
-abbrev pub cause_closed : List Running → ℕ → ℕ → EntryKind → Option Cause
+abbrev pub cause_closed : List RunningJob → ℕ → ℕ → EntryKind → Option Cause
 cause_closed js j r (Close peer slot true) = if (peer == r) && in_slot js j slot then Some Closed else None
 cause_closed js j r _ = None
 
@@ -174,7 +174,7 @@ shuts r g = (g.peer == r) && (g.up && is_close (message_in g.body))
 
 -- why r gave nothing, as the entry says to job j of a, where s sent the frame that it took; whether there is a cause does not
 -- depend on s
-abbrev pub cause_with : List Entry → Entry → ℕ → ℕ → ℕ → Option Sent → Option Cause
+abbrev pub cause_with : List Entry → Entry → ℕ → ℕ → ℕ → Option SendingEntry → Option Cause
 cause_with past e r a j s =
     if r == a then (if is_first_step past a j e then cause_own (present past a (key_in (begun_job past a j))) e.kind else None)
     else (if is_job a j e then (if list_any (shuts r) e.sent then Some Closed else cause_taken past a r s e.taken) else None)
@@ -237,8 +237,8 @@ cause_by Claimed told = or_fault told
 cause_by Asked told = or_fault told
 
 -- why a candidate gave job j of a nothing
-abbrev pub why : List RepoView → List Entry → ℕ → ℕ → ℕ → Cause
-why repos past a j r = cause_by (standing repos past a j r) (told_cause past a j r)
+abbrev pub candidate_cause : List RepoView → List Entry → ℕ → ℕ → ℕ → Cause
+candidate_cause repos past a j r = cause_by (standing repos past a j r) (told_cause past a j r)
 
 -- the job's end, other than after a lost order, is among the entries
 abbrev pub done_kind : ℕ → EntryKind → Bool

@@ -44,18 +44,18 @@ takes w None = false
 takes w (Some f) = is_on w (sender_of w) f
 
 -- a frame with the entry that sent it and the past before that
-pub record Flying : Type 0 where
+pub record FlyingFrame : Type 0 where
   pub frame : FrameView
   pub entry : Entry
   pub before : List Entry
 
-abbrev pub flying : Entry → List Entry → FrameView → Flying
-flying e past g = record { frame = g; entry = e; before = past }
+abbrev pub flying_frame : Entry → List Entry → FrameView → FlyingFrame
+flying_frame e past g = record { frame = g; entry = e; before = past }
 
 -- all frames that were sent on the way, the oldest first: a function of its sender's entries
-abbrev pub frames_sent : List Entry → Way → List Flying
+abbrev pub frames_sent : List Entry → Way → List FlyingFrame
 frames_sent [] w = []
-frames_sent (e ∷ past) w = if is_of (sender_of w) e then frames_sent past w ++ map (flying e past) (on_way w e) else frames_sent past w
+frames_sent (e ∷ past) w = if is_of (sender_of w) e then frames_sent past w ++ map (flying_frame e past) (on_way w e) else frames_sent past w
 
 -- how many of them were taken: a function of its taker's entries
 abbrev pub taken_count : List Entry → Way → ℕ
@@ -64,29 +64,29 @@ taken_count (e ∷ past) w = if is_of (taker_of w) e && takes w e.taken then tak
 
 -- the frame that may be taken next on the way: the first that was sent and not yet taken, with its number
 pub record MayTake (past : List Entry) (w : Way) (f : FrameView) : Type 0 where
-  pub it : Flying
+  pub it : FlyingFrame
   pub next : slice_get (frames_sent past w) (taken_count past w) ≡ Some it
   pub seq_is : f.seq ≡ taken_count past w + 1
   pub body_is : it.frame.body ≡ f.body
 
 -- an entry with the past before it
-pub record Sent : Type 0 where
+pub record SendingEntry : Type 0 where
   pub entry : Entry
   pub before : List Entry
 
-abbrev pub sent_of : Flying → Sent
-sent_of x = record { entry = x.entry; before = x.before }
+abbrev pub sending_entry : FlyingFrame → SendingEntry
+sending_entry x = record { entry = x.entry; before = x.before }
 
 -- who sent the frame that may be taken next on the way
-abbrev pub next_sender : List Entry → Way → Option Sent
-next_sender past w = option_map sent_of (slice_get (frames_sent past w) (taken_count past w))
+abbrev pub next_sender : List Entry → Way → Option SendingEntry
+next_sender past w = option_map sending_entry (slice_get (frames_sent past w) (taken_count past w))
 
 -- the sender of the frame that the entry of r took
-abbrev pub sender : List Entry → ℕ → Option FrameView → Option Sent
+abbrev pub sender : List Entry → ℕ → Option FrameView → Option SendingEntry
 sender past r None = None
 sender past r (Some f) = next_sender past (way_of r f)
 
-abbrev pub said_of : Flying → Said
+abbrev pub said_of : FlyingFrame → Said
 said_of x = message_in x.frame.body
 
 -- ---- requests and answers
@@ -96,7 +96,7 @@ abbrev pub says : (Said → Bool) → FrameView → Bool
 says q f = q (message_in f.body)
 
 -- of what was sent on a way, the frames whose message passes a test
-abbrev pub sent_if : (Said → Bool) → List Entry → Way → List Flying
+abbrev pub sent_if : (Said → Bool) → List Entry → Way → List FlyingFrame
 sent_if q past w = filter (λ x. says q x.frame) (frames_sent past w)
 
 abbrev pub takes_if : (Said → Bool) → Way → Option FrameView → Bool
@@ -108,7 +108,7 @@ abbrev pub taken_if : (Said → Bool) → List Entry → Way → ℕ
 taken_if q [] w = 0
 taken_if q (e ∷ past) w = if is_of (taker_of w) e && takes_if q w e.taken then taken_if q past w + 1 else taken_if q past w
 
-abbrev pub requests : List Entry → Way → List Flying
+abbrev pub requests : List Entry → Way → List FlyingFrame
 requests past w = sent_if is_request past w
 
 abbrev pub last_of : {X : Type 0} → List X → Option X
@@ -117,7 +117,7 @@ last_of (x ∷ []) = Some x
 last_of (x ∷ y ∷ ys) = last_of (y ∷ ys)
 
 -- the last request that was sent on the way
-abbrev pub last_request : List Entry → Way → Option Flying
+abbrev pub last_request : List Entry → Way → Option FlyingFrame
 last_request past w = last_of (requests past w)
 
 -- ---- jobs

@@ -32,9 +32,9 @@ added_by path (Log file) lines = if bytes_eq (file_path file) path then lines el
 added_by path _ lines = []
 
 -- every line that an entry of r ever added to the file of this path
-abbrev pub ever : List Entry → ℕ → List ℕ → List (List ℕ)
-ever [] r path = []
-ever (e ∷ past) r path = if is_of r e then added_by path e.kind e.lines ++ ever past r path else ever past r path
+abbrev pub lines_ever : List Entry → ℕ → List ℕ → List (List ℕ)
+lines_ever [] r path = []
+lines_ever (e ∷ past) r path = if is_of r e then added_by path e.kind e.lines ++ lines_ever past r path else lines_ever past r path
 
 -- ---- the lines that are kept
 
@@ -113,7 +113,7 @@ read_at past a j = unwrap_or (before_step past a j) past
 
 -- what the logs of r say, by every line ever added
 abbrev pub settings_of : List Entry → ℕ → Settings
-settings_of past r = settings (ever past r)
+settings_of past r = settings (lines_ever past r)
 
 -- the numbers of copies that job j of a reads
 abbrev pub need_read : List Entry → ℕ → ℕ → Need

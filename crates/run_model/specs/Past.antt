@@ -13,7 +13,7 @@ use Rattle.run_data.specs.declared.entry.EntryKind.{EntryKind}
 use Rattle.run_data.specs.declared.entry.EntryKind.TheVariants.{Begin, Bar, Crash, End}
 use Rattle.node_model.specs.Rows.{option_is, present_after, bar_after, holds_after}
 use Rattle.node_model.specs.Clocks.{ClockSet, runs_on}
-use Rattle.node_model.specs.Slots.{Running, free_slot, is_begin}
+use Rattle.node_model.specs.Slots.{RunningJob, free_slot, is_begin}
 
 -- the entry is one of this repository
 abbrev pub is_of : ℕ → Entry → Bool
@@ -70,20 +70,20 @@ holds (e ∷ past) r = if is_of r e then holds_after (holds past r) e.kind else 
 -- ---- jobs
 
 -- a job begins in the least free slot, and ends by its end entry or by a crash
-abbrev pub jobs_after : List Running → EntryKind → List Running
+abbrev pub jobs_after : List RunningJob → EntryKind → List RunningJob
 jobs_after js (Begin job what) = record { number = job; slot = free_slot js; what = what } ∷ js
 jobs_after js (End job outcome) = filter (λ j. not (j.number == job)) js
 jobs_after js (Crash clock) = []
 jobs_after js _ = js
 
 -- the running jobs, the newest first
-abbrev pub jobs : List Entry → ℕ → List Running
+abbrev pub jobs : List Entry → ℕ → List RunningJob
 jobs [] r = []
 jobs (e ∷ past) r = if is_of r e then jobs_after (jobs past r) e.kind else jobs past r
 
 -- the job is among the running ones
-abbrev pub runs : List Running → ℕ → Bool
-runs js job = list_any (λ j. j.number == job) js
+abbrev pub is_running : List RunningJob → ℕ → Bool
+is_running js job = list_any (λ j. j.number == job) js
 
 -- the bar of a local drop, which is its decision: where it stands, on what, and how many copies are needed
 pub record Decision : Type 0 where

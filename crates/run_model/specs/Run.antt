@@ -62,7 +62,7 @@ IsSmall (Gain by size key) = size < 2 ^ 62
 IsSmall (Crash clock) = clock ≤ 100000000000
 IsSmall kind = Unit {0}
 
-pub record Ordered (past : List Entry) (e : Entry) : Type 0 where
+pub record ComesInOrder (past : List Entry) (e : Entry) : Type 0 where
   pub after : ComesAfter past e
   pub time_is : TimeIs (now past) e e.kind e.repo
   pub in_time : e.time ≤ 1000000000000
@@ -126,7 +126,7 @@ MayBe s past e None = OnlyWaits e
 MayBe s past e (Some r) = (words : ℕ → Option Word) × OwnPart (s r) past words e × FramesPart past r words e
 
 pub record RunStep (s : ℕ → SetUp) (past : List Entry) (e : Entry) : Type 0 where
-  pub order : Ordered past e
+  pub order : ComesInOrder past e
   pub may : MayBe s past e e.repo
 
 -- each entry may come after those before it

@@ -9,7 +9,7 @@ use Rattle.node_model.specs.Sessions.{Session, new_session, session_after}
 use Rattle.run_data.specs.declared.run.RepoView.{RepoView}
 use Rattle.node_model.specs.Clocks.{wall}
 use Rattle.run_model.specs.Logs.{lines_of_file, read_at, settings_of}
-use Rattle.node_model.specs.Jobs.{Work, Rows, works_after}
+use Rattle.node_model.specs.Jobs.{Work, RowsAndEnds, works_after}
 use Rattle.node_model.specs.SetUp.{SetUp}
 use Rattle.node_model.specs.Owed.{Owed, owed_after}
 use Rattle.node_model.specs.State.{State}
@@ -31,7 +31,7 @@ session (e ∷ past) r a =
     if is_of r e then session_after (content past r) e.kind (session past r a) (sent_at a e.sent) (taken_at a e.taken)
     else session past r a
 
-abbrev pub rows_at : List Entry → ℕ → Rows
+abbrev pub rows_at : List Entry → ℕ → RowsAndEnds
 rows_at past r = record { present = present past r; bar = bar past r; ends = end_at past r }
 
 -- the running jobs of r, the newest first

@@ -10,7 +10,7 @@ use Rattle.run_data.specs.declared.entry.EntryKind.TheVariants.{Check, Fault}
 use Rattle.run_data.specs.declared.entry.FrameView.{FrameView}
 use Rattle.run_model.specs.Past.{is_of}
 use Rattle.node_model.specs.Rows.{option_is}
-use Rattle.run_model.specs.Frames.{Flying, frames_sent, taken_count, way_of}
+use Rattle.run_model.specs.Frames.{FlyingFrame, frames_sent, taken_count, way_of}
 use Rattle.node_model.specs.Slots.{job_of}
 use Rattle.node_model.specs.Jobs.{Phase, AsksLook, Orders, Work}
 use Rattle.run_model.specs.States.{works}
@@ -28,7 +28,7 @@ word_of_kind (Check what key) = word_found what
 word_of_kind (Fault call by) = Some words.Fault
 word_of_kind _ = None
 
-abbrev pub word_of : Option Flying → Option Word
+abbrev pub word_of : Option FlyingFrame → Option Word
 word_of None = None
 word_of (Some x) = word_of_kind x.entry.kind
 

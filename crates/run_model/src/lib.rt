@@ -1,5 +1,4 @@
-//! Runs of several repositories, as definitions: what the entries so far say of each repository, what frames say and who sent
-//! them, the evidence of drops, removals, safe runs, runs, and the causes of refusals.
+//! Runs of several repositories, as definitions: pasts, frames and their senders, evidence, removals, safety, causes of refusals.
 #![tactic(auto)]
 
 mod laws;

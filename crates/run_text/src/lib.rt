@@ -9,5 +9,5 @@ mod refusal;
 mod transfer;
 
 pub use job::{put_begun, put_job, put_key};
-pub use names::{put_name, put_names};
+pub use names::{ItemWords, OwnWords, put_joined, put_name, put_names};
 pub use outcome::put_outcome;

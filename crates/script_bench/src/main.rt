@@ -1,11 +1,11 @@
-//! Reads standard input as a script, for `bench/run.py` to time, and prints how many commands it has. It is an error if it is
-//! no script.
+//! Reads standard input as a script, for `bench/run.py` to time.
 #![tactic(auto)]
 
 use script_lang::Script;
 use std::io::{self, Read};
 use std::process::ExitCode;
 
+/// Prints how many commands the script has, or, with status 1, the first fault of a text that is none.
 fn main(rt: HostRuntime) -> io::Result<ExitCode> {
     let mut text = Vec::new(rt.alloc());
     let mut reader = rt.reader();

@@ -1,6 +1,6 @@
 -- What the steps that read keys, contents, log files, options and peers give.
 use Rattle.std.proofs.Common.{◌≡◌, ◌⊎◌, inl, inr, ℕ, ◌<◌, ◌≤◌, Bool, true, false, ◌||◌, ◌==◌, not, nat_lt, nat_le, List, [], ◌∷◌, ◌++◌, length, Option, Some, None, Result, Ok, Err, refl, sym, ap, ◌∙◌, subst, true≢false, arith, IfSome}
-use Rattle.std.specs.Prelude.{bytes_eq, codes, is_none, if◌then◌else◌, ◌≢◌}
+use Rattle.std.specs.Prelude.{bytes_eq, codes, if◌then◌else◌, ◌≢◌}
 use Rattle.std.specs.List.{All}
 use Rattle.std.specs.Map.{values_of}
 use Rattle.std.specs.BTreeMap.{is_at}
@@ -14,7 +14,7 @@ use Rattle.annex_base.specs.OptionSteps as options
 use Rattle.annex_base.specs.ResultSteps.{◌>>=◌}
 use Rattle.annex_base.proofs.Conditions.{if_is}
 use Rattle.annex_base.proofs.Lists.{Each-member, find_member}
-use Rattle.annex_base.proofs.Options.{bind_some, map_some, where_some}
+use Rattle.annex_base.proofs.Options.{bind_some, is_none_true, map_some, where_some}
 use Rattle.annex_base.proofs.Results.{bind_ok, ok_is}
 use Rattle.annex_key.specs.KeyText.{IsKeyText}
 use Rattle.annex_key.specs.Tree.{Entries, key_of}
@@ -50,10 +50,6 @@ KeysAreTexts = (text : List ℕ) → first_fault text ≡ None → IsKeyText tex
 abbrev pub HasKeys : Context → Type 0
 HasKeys context = All IsKeyText (values_of context.tree)
 
-none_is : {A : Type 0} (o : Option A) → is_none o ≡ true → o ≡ None
-none_is None e = refl
-none_is (Some x) e = absurd cc
-
 abbrev IsWord : KeyWord → Type 0
 IsWord (OfKey key) = IsKeyText key
 IsWord (OfPath path) = Unit {0}
@@ -62,7 +58,7 @@ module _ (law : KeysAreTexts) (context : Context) (keys : HasKeys context) where
   whole_is : (text : List ℕ) (w : KeyWord) → whole_key text ≡ Some w → IsWord w
   whole_is text w e =
       let h = where_some (is_key text) (Some (OfKey text)) w e in
-      subst IsWord (some_is (OfKey text) w h.1) (law text (none_is (first_fault text) h.0))
+      subst IsWord (some_is (OfKey text) w h.1) (law text (is_none_true (first_fault text) h.0))
     where
       some_is : (x y : KeyWord) → Some x ≡ Some y → x ≡ y
       some_is x y e = cc

@@ -1,13 +1,15 @@
--- What the commands of a text have where they stand, line by line, and on which lines they stand.
+-- What the commands of a text have where they stand, line by line, on which lines they stand, and how many they are.
 use Rattle.std.proofs.Common.{◌≡◌, ◌⊎◌, inl, inr, ℕ, ◌+◌, ◌<◌, ◌≤◌, ◌^◌, Bool, true, false, nat_lt, List, [], ◌∷◌, ◌++◌, length, Option, Some, None, Result, Ok, Err, refl, sym, ap, ◌∙◌, subst, arith, append_assoc, length-append}
 use Rattle.std.specs.Prelude.{if◌then◌else◌}
 use Rattle.std.specs.List.{All}
 use Rattle.std.specs.Map.{values_of}
 use Rattle.std.proofs.lemmas.List.{append-nil}
+use Rattle.std.proofs.lemmas.List.Splits.{length-slice_split}
+use Rattle.std.proofs.lemmas.List.Sums.{count_by-le-length}
 use Rattle.std.proofs.lemmas.Bool.{lt-ltb, ltb-true}
 use Rattle.std.proofs.lemmas.Map.Views.{All-values-insert_entry}
 use Rattle.annex_base.specs.ByteOrder.{text_cmp}
-use Rattle.annex_base.specs.Lines.{IsOneLine}
+use Rattle.annex_base.specs.Lines.{IsOneLine, is_newline}
 use Rattle.annex_base.specs.Lists.{Each}
 use Rattle.annex_base.specs.ResultSteps.{◌>>=◌}
 use Rattle.annex_base.proofs.Conditions.{if_is}
@@ -29,13 +31,14 @@ use Rattle.script_lang.specs.declared.verb.Verb.{Verb}
 use Rattle.script_lang.specs.declared.verb.Verb.TheVariants as verbs
 use Rattle.script_lang.specs.declared.verb.LineVerb.{LineVerb}
 use Rattle.script_lang.specs.declared.verb.LineVerb.TheVariants.{Par, End, Says}
+use Rattle.script_lang.specs.Changes.{change_of, tree_by}
 use Rattle.script_lang.specs.Context.{Context}
 use Rattle.script_lang.specs.Forms.{row, block_row, line_named}
 use Rattle.script_lang.specs.Limits.{first_limit}
 use Rattle.script_lang.specs.Numbering.{begun_by, numbers_by, numbers_from, numbers_then, line_numbers}
 use Rattle.script_lang.specs.Script
-use Rattle.script_lang.specs.Script.{State, Reading, Commands, context_with, tree_with, no_context, no_lines}
-use Rattle.script_lang.specs.Standing.{AllStand, Stands, StandsInBlock}
+use Rattle.script_lang.specs.Script.{State, Reading, Commands, context_with, no_context, no_lines}
+use Rattle.script_lang.specs.Standing.{AllStand, IsValidIn, StandsInBlock}
 use Rattle.script_lang.specs.Steps
 use Rattle.script_lang.specs.Verify.{is_content_of, made_key}
 use Rattle.script_lang.proofs.KeyLemmas.{KeysAreTexts, HasKeys}
@@ -50,7 +53,7 @@ pub record Adds (old new : State) : Type 0 where
   pub commands_are : new.commands ≡ old.commands ++ command ∷ []
   pub context_is : new.context ≡ context_with old.context command
   pub block_is : new.block ≡ None
-  pub stands : Stands old.context command
+  pub stands : IsValidIn old.context command
   pub passes : first_limit old.context command ≡ None
 
 -- the lines of an open block stand there
@@ -64,7 +67,7 @@ pub record Stays (old new : State) : Type 0 where
   pub context_is : new.context ≡ old.context
   pub block : BlockStands old.context new.block
 
-command_adds : (context : Context) (before : List Command) (block : Option Block) (c : Command) (new : State) → Stands context c → Script.with_command context before c ≡ Ok new
+command_adds : (context : Context) (before : List Command) (block : Option Block) (c : Command) (new : State) → IsValidIn context c → Script.with_command context before c ≡ Ok new
     → Adds (record { context = context; commands = before; block = block }) new
 unfolding Script.with_command
 command_adds context before block c new stands e = from (first_limit context c) refl e
@@ -131,9 +134,6 @@ module _ (law : KeysAreTexts) (matches : (key content : List ℕ) → is_content
 
 -- ---- all lines of a text
 
-abbrev pub MadeKeys : Type 0
-MadeKeys = (path content : List ℕ) → IsKeyText (made_key path content)
-
 keys_with : (tree : Entries) (path key : List ℕ) → All IsKeyText (values_of tree) → IsKeyText key → All IsKeyText (values_of (with_key tree path key))
 keys_with tree path key keys is = All-values-insert_entry text_cmp path key IsKeyText tree keys is
 
@@ -142,13 +142,13 @@ abbrev pub RestStands : State → List Command → Type 0
 RestStands state all = (rest : List Command) × (all ≡ state.commands ++ rest) × AllStand state.context rest
 
 module _ (law : KeysAreTexts) (matches : (key content : List ℕ) → is_content_of key content ≡ true → MatchesKey key content) (made : (path content : List ℕ) → length content < 2 ^ 64 → IsKeyText (made_key path content)) where
-  tree_keys : (context : Context) (c : Command) → HasKeys context → Stands context c → All IsKeyText (values_of (tree_with context.tree c))
+  tree_keys : (context : Context) (c : Command) → HasKeys context → IsValidIn context c → All IsKeyText (values_of (tree_by context.tree (change_of c)))
   tree_keys context (commands.Add r path key content) keys stands =
       keys_with context.tree path key keys (subst IsKeyText (sym stands.2) (made path content (omega (arith, stands.3))))
   tree_keys context (commands.File path key) keys stands = keys_with context.tree path key keys stands.1
   tree_keys context c keys stands = keys
 
-  keys_stay : (context : Context) (c : Command) → HasKeys context → Stands context c → HasKeys (context_with context c)
+  keys_stay : (context : Context) (c : Command) → HasKeys context → IsValidIn context c → HasKeys (context_with context c)
   keys_stay context c keys stands = tree_keys context c keys stands
 
   -- what the lines behind one line give is what they give with it
@@ -234,3 +234,26 @@ module _ (law : KeysAreTexts) (matches : (key content : List ℕ) → is_content
   pub text_counts : (text : List ℕ) (all : List Command) → Script.reading text ≡ Commands all → length (line_numbers text) ≡ length all
   unfolding Script.reading line_numbers
   text_counts text all e = let count = lines_count no_lines 1 (Script.lines_of text) all no_keys tt (one_line-split text) e in omega (arith, count)
+
+  -- ---- how many they are
+
+  -- the commands so far, and one for each line at most
+  abbrev FewBehind : List (List ℕ) → List Command → State → Type 0
+  FewBehind lines all state = length all ≤ length state.commands + length lines
+
+  lines_give_few : (state : State) (number : ℕ) (lines : List (List ℕ)) (all : List Command) → HasKeys state.context → BlockStands state.context state.block → Each IsOneLine lines
+      → Script.lines_reading state number lines ≡ Commands all → FewBehind lines all state
+  lines_give_few state number [] all keys block one e = let same = ap length (ended state.commands state.block all e) in omega (arith, same)
+  lines_give_few state number (line ∷ lines) all keys block one e =
+      line_then (FewBehind lines all) (FewBehind (line ∷ lines) all state) state number line (λ next. Script.lines_reading next (number + 1) lines) all keys block one.0
+      (λ new keys' block' e'. lines_give_few new (number + 1) lines all keys' block' one.1 e')
+      (λ new is a few. let more = ap length a.commands_are ∙ length-append state.commands (a.command ∷ []) in omega (arith, more, few))
+      (λ new is s few. let same = ap length s.commands_are in omega (arith, same, few)) e
+
+  pub few_commands : (text : List ℕ) (all : List Command) → Script.reading text ≡ Commands all → length all ≤ length text + 1
+  unfolding Script.reading
+  few_commands text all e =
+      let few = lines_give_few no_lines 1 (Script.lines_of text) all no_keys tt (one_line-split text) e in
+      let lines = length-slice_split is_newline text in
+      let cuts = count_by-le-length is_newline text in
+      omega (arith, few, lines, cuts)

@@ -1,9 +1,9 @@
 -- What is counted in a script, and how much of it there may be (own).
 use Rattle.std.specs.Prelude.{ℕ, ◌+◌, Bool, nat_lt, List, length, Option, Some, None, codes, if◌then◌else◌}
 use Rattle.script_lang.specs.declared.command.Command.{Command}
-use Rattle.script_lang.specs.declared.command.Command.TheVariants.{Repo, Have, Part, Damage, Add, File, Wait}
 use Rattle.script_lang.specs.declared.fault.Quantity.{Quantity}
 use Rattle.script_lang.specs.declared.fault.Quantity.TheVariants.{Repositories, Content, Contents, Files, Time}
+use Rattle.script_lang.specs.Changes.{Change, Declares, Puts, Brings, Adds, Names, Waits, Nothing, change_of}
 use Rattle.script_lang.specs.Context.{Context, new_paths}
 use Rattle.script_lang.specs.Steps.{most_content}
 
@@ -33,13 +33,16 @@ contents_pass context content others = passed_by Contents (context.contents + le
 abbrev pub files_pass : Context → List ℕ → Option Quantity
 files_pass context path = passed_by Files (context.files + new_paths context.tree path) None
 
+-- the first limit that a change passes
+abbrev pub limit_passed : Context → Change → Option Quantity
+limit_passed context (Declares repository) = passed_by Repositories (length context.repos + 1) None
+limit_passed context (Puts r key content) = contents_pass context content None
+limit_passed context (Brings content) = contents_pass context content None
+limit_passed context (Adds r path key content) = contents_pass context content (files_pass context path)
+limit_passed context (Names path key) = files_pass context path
+limit_passed context (Waits milliseconds) = passed_by Time (context.waited + milliseconds) None
+limit_passed context Nothing = None
+
 -- the first limit that a command passes; the limit of one content is met in the command's form
 abbrev pub first_limit : Context → Command → Option Quantity
-first_limit context (Repo name id offset version locks) = passed_by Repositories (length context.repos + 1) None
-first_limit context (Have r key content) = contents_pass context content None
-first_limit context (Part r key content) = contents_pass context content None
-first_limit context (Damage r key content) = contents_pass context content None
-first_limit context (Add r path key content) = contents_pass context content (files_pass context path)
-first_limit context (File path key) = files_pass context path
-first_limit context (Wait milliseconds) = passed_by Time (context.waited + milliseconds) None
-first_limit context _ = None
+first_limit context command = limit_passed context (change_of command)

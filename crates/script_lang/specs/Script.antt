@@ -1,12 +1,10 @@
 -- What a text says as a script, line by line (own).
-use Rattle.std.specs.Prelude.{◌≡◌, ℕ, zero, suc, ◌+◌, ◌-◌, Bool, true, false, not, ◌==◌, ◌&&◌, ◌||◌, List, [], ◌∷◌, ◌++◌, length, take, Option, Some, None, Result, Ok, Err, if◌then◌else◌}
+use Rattle.std.specs.Prelude.{◌≡◌, ℕ, zero, suc, ◌+◌, ◌-◌, Bool, true, false, ◌==◌, List, [], ◌∷◌, ◌++◌, length, take, Option, Some, None, Result, Ok, Err, if◌then◌else◌}
 use Rattle.std.specs.List.{slice_split, suffix_len}
 use Rattle.std.specs.Str.{is_utf8}
 use Rattle.std.specs.Str.Lossy.{utf8_valid_len}
-use Rattle.std.specs.BTreeSet.{insert_key}
 use Rattle.annex_base.specs.Lines.{is_newline, is_not_space}
 use Rattle.annex_base.specs.ResultSteps.{◌>>=◌}
-use Rattle.annex_key.specs.Tree.{Entries, with_key}
 use Rattle.script_words.specs.Places.{Cursor}
 use Rattle.script_lang.specs.declared.command.BlockLine.{BlockLine}
 use Rattle.script_lang.specs.declared.command.Command.{Command}
@@ -21,7 +19,8 @@ use Rattle.script_lang.specs.declared.fault.LineFault.TheVariants.{Wrong, Past, 
 use Rattle.script_lang.specs.declared.fault.ScriptFault.{ScriptFault}
 use Rattle.script_lang.specs.declared.fault.ScriptFault.TheVariants as faults
 use Rattle.script_lang.specs.declared.fault.Quantity.{Quantity}
-use Rattle.script_lang.specs.Context.{Context, new_paths, placed_cmp}
+use Rattle.script_lang.specs.Changes.{change_of, context_by, repos_by, wait_by}
+use Rattle.script_lang.specs.Context.{Context}
 use Rattle.script_lang.specs.declared.context.Repository.{Repository}
 use Rattle.script_lang.specs.Steps.{Step, saying_at, end_at}
 use Rattle.script_lang.specs.Forms.{row, block_row, line_named}
@@ -29,54 +28,17 @@ use Rattle.script_lang.specs.Limits.{first_limit}
 
 -- ---- what a command changes for the lines behind it
 
-abbrev pub is_repo : Command → Bool
-is_repo (commands.Repo name id offset version locks) = true
-is_repo _ = false
-
 -- the repositories that the command declares
 abbrev pub declared_by : Command → List Repository
-declared_by (commands.Repo name id offset version locks) = record { name = name; id = id; offset = offset; version = version; locks = locks } ∷ []
-declared_by _ = []
+declared_by command = repos_by (change_of command)
 
-abbrev pub tree_with : Entries → Command → Entries
-tree_with tree (commands.Add r path key content) = with_key tree path key
-tree_with tree (commands.File path key) = with_key tree path key
-tree_with tree _ = tree
-
--- how many paths the tree has more
-abbrev pub files_by : Entries → Command → ℕ
-files_by tree (commands.Add r path key content) = new_paths tree path
-files_by tree (commands.File path key) = new_paths tree path
-files_by tree _ = 0
-
-abbrev pub placed_with : List (ℕ × List ℕ) → Command → List (ℕ × List ℕ)
-placed_with placed (commands.Have r key content) = insert_key placed_cmp placed (r, key)
-placed_with placed (commands.Add r path key content) = insert_key placed_cmp placed (r, key)
-placed_with placed _ = placed
-
--- the bytes of the command's content
-abbrev pub content_size : Command → ℕ
-content_size (commands.Have r key content) = length content
-content_size (commands.Part r key content) = length content
-content_size (commands.Damage r key content) = length content
-content_size (commands.Add r path key content) = length content
-content_size _ = 0
-
+-- the milliseconds that the command waits
 abbrev pub wait_of : Command → ℕ
-wait_of (commands.Wait milliseconds) = milliseconds
-wait_of _ = 0
+wait_of command = wait_by (change_of command)
 
 -- the context of the lines behind the command
 abbrev pub context_with : Context → Command → Context
-context_with context command = record {
-  repos = context.repos ++ declared_by command;
-  closed = context.closed || not (is_repo command);
-  tree = tree_with context.tree command;
-  files = context.files + files_by context.tree command;
-  placed = placed_with context.placed command;
-  contents = context.contents + content_size command;
-  waited = context.waited + wait_of command;
-}
+context_with context command = context_by context (change_of command)
 
 -- ---- lines
 

@@ -1,32 +1,58 @@
-//! What a command changes for the lines behind it.
-ghost use Rattle.std.specs.Prelude.{◌≡◌, ◌≤◌, ◌++◌, ◌||◌, not, None, OnOk, OnErr};
-ghost use Rattle.std.specs.BTreeSet.{insert_key};
-ghost use Rattle.script_lang.specs.Context.{new_paths, placed_cmp};
-ghost use Rattle.script_lang.specs.Limits as limits;
-ghost use Rattle.script_lang.specs.Script as spec;
-ghost use Rattle.script_lang.specs.Script.{is_repo, declared_by, tree_with, files_by, placed_with};
+//! What a line changes for the lines behind it.
+ghost use Rattle.std.specs.Prelude.{◌≡◌};
+ghost use Rattle.script_lang.specs.Changes as spec;
+ghost use Rattle.script_lang.specs.Changes.{seen};
 
 use crate::command::Command;
-use crate::context::{Context, Repository};
-use annex_base::{NoMemory, Text};
-use annex_key::{Key, Tree};
-use std::alloc::Global;
-use std::collections::BTreeSet;
+use annex_base::{RepoId, Text};
+use annex_key::Key;
+use script_words::Content;
 
-/// Whether no repository may be declared after the command, if it is `closed` before it.
-fn closes(closed: bool, command: &Command) -> bool
-    ensures { result ≡ (closed || not (is_repo command.now)) }
-{
-    match command {
-        Command::Repo { .. } => closed,
-        _ => true,
-    }
+/// What a line changes for the lines behind it (own). It borrows the line's parts; a repository is named by its number,
+/// in order of the `repo` lines from 0.
+#[derive(Debug, Drop)]
+pub enum Change<'a> {
+    /// There is a repository more. Its offset is in milliseconds.
+    Declares {
+        name: &'a Text,
+        id: &'a RepoId,
+        offset: u64,
+        version: u8,
+        locks: bool,
+    },
+    /// A content of the key is put at the repository.
+    Puts {
+        repo: u32,
+        key: &'a Key,
+        content: &'a Content,
+    },
+    /// There is a content more, which is put nowhere yet.
+    Brings {
+        content: &'a Content,
+    },
+    /// The path has the key, whose content is put at the repository.
+    Adds {
+        repo: u32,
+        path: &'a Text,
+        key: &'a Key,
+        content: &'a Content,
+    },
+    /// The path has the key.
+    Names {
+        path: &'a Text,
+        key: &'a Key,
+    },
+    /// So many milliseconds go by.
+    Waits {
+        milliseconds: u64,
+    },
+    /// Nothing.
+    Nothing,
 }
 
-/// Adds the repository that the command declares, if it does.
-fn declare(repos: &mut Vec<Repository>, command: &Command) -> Result<(), NoMemory>
-    ensures ok { OnOk result (repos.new.items ≡ repos.old.items ++ declared_by command.now) }
-    ensures err { OnErr result (repos.new.items ≡ repos.old.items) }
+/// What the line changes for the lines behind it.
+pub fn change_of(command: &Command) -> Change<'_>
+    ensures { seen result ≡ spec.change_of command.now }
 {
     match command {
         Command::Repo {
@@ -35,110 +61,68 @@ fn declare(repos: &mut Vec<Repository>, command: &Command) -> Result<(), NoMemor
             offset,
             version,
             locks,
-        } => {
-            let name = name.clone()?;
-            repos.push(Repository {
-                name,
-                id: *id,
-                offset: *offset,
-                version: *version,
-                locks: *locks,
-            })?;
-            Ok(())
-        }
-        _ => Ok(()),
+        } => Change::Declares {
+            name,
+            id,
+            offset: *offset,
+            version: *version,
+            locks: *locks,
+        },
+        Command::Have { repo, key, content } => Change::Puts {
+            repo: *repo,
+            key,
+            content,
+        },
+        Command::Part { content, .. } => Change::Brings { content },
+        Command::Damage { content, .. } => Change::Brings { content },
+        Command::Add {
+            repo,
+            path,
+            key,
+            content,
+        } => Change::Adds {
+            repo: *repo,
+            path,
+            key,
+            content,
+        },
+        Command::File { path, key } => Change::Names { path, key },
+        Command::Wait { milliseconds } => Change::Waits {
+            milliseconds: *milliseconds,
+        },
+        Command::Numcopies { .. }
+        | Command::Mincopies { .. }
+        | Command::NumcopiesFor { .. }
+        | Command::MincopiesFor { .. }
+        | Command::Trust { .. }
+        | Command::Describe { .. }
+        | Command::Wanted { .. }
+        | Command::Required { .. }
+        | Command::Group { .. }
+        | Command::GroupWanted { .. }
+        | Command::Log { .. }
+        | Command::Run { .. }
+        | Command::Begin { .. }
+        | Command::Turn { .. }
+        | Command::Settle
+        | Command::Merge { .. }
+        | Command::Compact { .. }
+        | Command::Sync { .. }
+        | Command::Close { .. }
+        | Command::Crash { .. }
+        | Command::Fail { .. }
+        | Command::Par { .. }
+        | Command::ShowPresence { .. }
+        | Command::ShowClaims { .. }
+        | Command::ShowLocation { .. }
+        | Command::ShowLog { .. }
+        | Command::ShowLogs { .. }
+        | Command::ShowNumbers { .. }
+        | Command::ShowLevel { .. }
+        | Command::ShowWants { .. }
+        | Command::ShowRow { .. }
+        | Command::ShowPlan { .. }
+        | Command::ShowTotals
+        | Command::ShowJournal => Change::Nothing,
     }
-}
-
-/// Enters the path that the command gives a key, if it does.
-fn enter(tree: &mut Tree, alloc: Global, command: &Command) -> Result<(), NoMemory>
-    ensures { OnOk result (tree.new ≡ tree_with tree.old command.now) }
-{
-    match command {
-        Command::Add { path, key, .. } => tree.set(alloc, path.bytes(), key),
-        Command::File { path, key } => tree.set(alloc, path.bytes(), key),
-        _ => Ok(()),
-    }
-}
-
-/// How many paths the tree has more with this one.
-pub fn new_path(tree: &Tree, path: &Text) -> u64
-    ensures value { result ≡ new_paths tree.now path.now }
-    ensures bound { result ≤ 1 }
-{
-    if tree.key(path.bytes()).is_some() {
-        0
-    } else {
-        1
-    }
-}
-
-/// How many paths the tree has more after the command.
-fn files_of(tree: &Tree, command: &Command) -> u64
-    ensures value { result ≡ files_by tree.now command.now }
-    ensures bound { result ≤ 1 }
-{
-    match command {
-        Command::Add { path, .. } => new_path(tree, path),
-        Command::File { path, .. } => new_path(tree, path),
-        _ => 0,
-    }
-}
-
-fn put(placed: &mut BTreeSet<(u32, Key)>, repo: u32, key: &Key) -> Result<(), NoMemory>
-    ensures { OnOk result (placed.new.keys ≡ insert_key placed_cmp placed.old.keys (repo, key.now)) }
-{
-    let key = key.copy()?;
-    placed.insert((repo, key))?;
-    Ok(())
-}
-
-/// Notes the content that the command puts, if it does.
-fn place(placed: &mut BTreeSet<(u32, Key)>, command: &Command) -> Result<(), NoMemory>
-    ensures { OnOk result (placed.new.keys ≡ placed_with placed.old.keys command.now) }
-{
-    match command {
-        Command::Have { repo, key, .. } => put(placed, *repo, key),
-        Command::Add { repo, key, .. } => put(placed, *repo, key),
-        _ => Ok(()),
-    }
-}
-
-/// The bytes of the command's content.
-fn size_of(command: &Command) -> u64
-    ensures { result ≡ spec.content_size command.now }
-{
-    match command {
-        Command::Have { content, .. } => content.size(),
-        Command::Part { content, .. } => content.size(),
-        Command::Damage { content, .. } => content.size(),
-        Command::Add { content, .. } => content.size(),
-        _ => 0,
-    }
-}
-
-/// The milliseconds that the command waits.
-fn wait_of(command: &Command) -> u64
-    ensures { result ≡ spec.wait_of command.now }
-{
-    match command {
-        Command::Wait { milliseconds } => *milliseconds,
-        _ => 0,
-    }
-}
-
-/// What the lines behind the command are read by.
-pub fn apply(context: &mut Context, alloc: Global, command: &Command) -> Result<(), NoMemory>
-    requires { limits.first_limit context.old command.now ≡ None }
-    ensures { OnOk result (context.new ≡ spec.context_with context.old command.now) }
-{
-    place(&mut context.placed, command)?;
-    declare(&mut context.repos, command)?;
-    let files = files_of(&context.tree, command);
-    enter(&mut context.tree, alloc, command)?;
-    context.files += files;
-    context.closed = closes(context.closed, command);
-    context.contents += size_of(command);
-    context.waited += wait_of(command);
-    Ok(())
 }

@@ -2,6 +2,7 @@
 #![tactic(auto)]
 
 mod actions;
+mod applying;
 mod changes;
 mod command;
 mod contents;
@@ -24,6 +25,7 @@ mod verb;
 mod verify;
 
 use annex_base::crosses;
+pub use changes::{Change, change_of};
 pub use command::{BlockLine, BlockLines, Command, NamedKey};
 pub use fault::{Quantity, ScriptFault};
 pub use laws::{
@@ -31,7 +33,7 @@ pub use laws::{
 };
 pub use numbering::line_numbers;
 pub use script::Script;
-pub use standing::{commands_have_lines, commands_stand};
+pub use standing::{commands_have_lines, commands_stand, scripts_have_few_lines};
 
 /// These types go from thread to thread.
 fn cross_threads() {

@@ -1,9 +1,11 @@
 //! The limits of what is counted.
 ghost use Rattle.std.specs.Prelude.{◌≡◌, ◌+◌, nat_lt, length, Some, None, if◌then◌else◌};
+ghost use Rattle.script_lang.specs.Changes.{seen};
 ghost use Rattle.script_lang.specs.Context.{new_paths};
 ghost use Rattle.script_lang.specs.Limits as limits;
 
-use crate::changes::new_path;
+use crate::applying::new_path;
+use crate::changes::{Change, change_of};
 use crate::command::Command;
 use crate::context::Context;
 use crate::fault::Quantity;
@@ -55,21 +57,24 @@ fn add_passes(context: &Context, content: &Content, path: &Text) -> Option<Quant
     told(files_pass(context, path), Quantity::Files)
 }
 
+/// The first limit that the change passes.
+fn limit_passed(context: &Context, change: &Change<'_>) -> Option<Quantity>
+    ensures { result ≡ limits.limit_passed context.now (seen change.now) }
+{
+    match *change {
+        Change::Declares { .. } => told(repositories_pass(context), Quantity::Repositories),
+        Change::Puts { content, .. } => told(contents_pass(context, content), Quantity::Contents),
+        Change::Brings { content } => told(contents_pass(context, content), Quantity::Contents),
+        Change::Adds { content, path, .. } => add_passes(context, content, path),
+        Change::Names { path, .. } => told(files_pass(context, path), Quantity::Files),
+        Change::Waits { milliseconds } => told(waits_pass(context, milliseconds), Quantity::Time),
+        Change::Nothing => None,
+    }
+}
+
 /// The first limit that the command passes.
 pub fn first_limit(context: &Context, command: &Command) -> Option<Quantity>
     ensures { result ≡ limits.first_limit context.now command.now }
 {
-    match command {
-        Command::Repo { .. } => told(repositories_pass(context), Quantity::Repositories),
-        Command::Have { content, .. } => told(contents_pass(context, content), Quantity::Contents),
-        Command::Part { content, .. } => told(contents_pass(context, content), Quantity::Contents),
-        Command::Damage { content, .. } => told(
-            contents_pass(context, content),
-            Quantity::Contents,
-        ),
-        Command::Add { content, path, .. } => add_passes(context, content, path),
-        Command::File { path, .. } => told(files_pass(context, path), Quantity::Files),
-        Command::Wait { milliseconds } => told(waits_pass(context, *milliseconds), Quantity::Time),
-        _ => None,
-    }
+    limit_passed(context, &change_of(command))
 }

@@ -1,5 +1,5 @@
 //! Laws of the commands that a text says, which no call depends on.
-ghost use Rattle.std.specs.Prelude.{◌≡◌, List, ℕ, length};
+ghost use Rattle.std.specs.Prelude.{◌≡◌, ◌+◌, ◌≤◌, List, ℕ, length};
 ghost use Rattle.script_lang.specs.declared.command.Command.{Command};
 ghost use Rattle.script_lang.specs.Numbering.{line_numbers};
 ghost use Rattle.script_lang.specs.Script.{reading, no_context, Commands};
@@ -23,6 +23,16 @@ pub fn commands_stand()
 /// Each command of a script stands on a line.
 pub fn commands_have_lines()
     ensures { (text : List ℕ) (commands : List Command) → reading text ≡ Commands commands → length (line_numbers text) ≡ length commands }
+{
+    // laws, for the proof
+    key_texts_have_no_fault();
+    verdicts_are_matches();
+    made_keys_match();
+}
+
+/// A script has at most as many commands as its text has bytes, and one.
+pub fn scripts_have_few_lines()
+    ensures { (text : List ℕ) (commands : List Command) → reading text ≡ Commands commands → length commands ≤ length text + 1 }
 {
     // laws, for the proof
     key_texts_have_no_fault();

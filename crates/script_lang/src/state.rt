@@ -7,7 +7,7 @@ ghost use Rattle.script_lang.specs.Numbering.{begun_by};
 ghost use Rattle.script_lang.specs.Script as spec;
 ghost use Rattle.script_lang.specs.Script.{line_verb_at, with_command, no_lines};
 
-use crate::changes::apply;
+use crate::applying::apply;
 use crate::command::{BlockLines, Command};
 use crate::context::Context;
 use crate::fault::LineFault;

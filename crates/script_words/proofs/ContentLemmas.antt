@@ -9,7 +9,7 @@ use Rattle.std.specs.Result.{result_ok}
 use Rattle.std.proofs.lemmas.Bool.{eqb-true, not-false}
 use Rattle.std.proofs.lemmas.Bool.Decides.{nat_tests}
 use Rattle.std.proofs.lemmas.List.{take-append-drop, take_at, drop_at}
-use Rattle.std.proofs.lemmas.Option.{cond_some}
+use Rattle.std.proofs.lemmas.Option.{cond_some, same_Some}
 use Rattle.std.proofs.Math.Seq.{drop-append-add}
 use Rattle.annex_base.specs.Lines.{colon}
 use Rattle.hex.specs.Hex.{decode_of}
@@ -73,9 +73,6 @@ ok_some : {A E : Type 0} (r : Result A E) (y : A) → result_ok r ≡ Some y →
 ok_some (Ok x) y e = cc
 ok_some (Err d) y e = absurd cc
 
-some_is : {A : Type 0} (x y : A) → Some x ≡ Some y → x ≡ y
-some_is x y e = cc
-
 text_described : (word content : List ℕ) → text_content word ≡ Some content → Describes word content
 text_described word content e = subst (λ w. Describes w content) (sym (mark_written (codes "text:") word content e)) (Text content)
 
@@ -104,7 +101,7 @@ numbers_written text x e =
     let n = number_some (before_first is_colon text) first.0 first.1 in
     let s = number_written 250 second.0 (after_first is_colon text) second.1 in
     let back = from_colon (drop end text) second.0 (rest_stops (λ b. not (is_colon b)) text) s.2 (drop-drop 1 end text ∙ s.0) in
-    subst (IsFill text) (some_is (first.0, second.0) x second.2) (record {
+    subst (IsFill text) (same_Some (first.0, second.0) x second.2) (record {
       text_is = sym (take-append-drop end text) ∙ ap (λ l. l ++ drop end text) n.0 ∙ ap (λ l. decimal first.0 ++ l) back;
       small = n.1;
       low = omega (arith, s.1);
@@ -118,7 +115,7 @@ fill_described word content e =
     let is = numbers_written found.0 x numbers.1 in
     let word_is : word ≡ codes "fill:" ++ (decimal x.0 ++ colon ∷ decimal x.1) =
     mark_written (codes "fill:") word found.0 found.1 ∙ ap (λ l. codes "fill:" ++ l) is.text_is in
-    subst (λ w. Describes w content) (sym word_is) (subst (Describes _) (some_is (fill_bytes x.0 x.1) content numbers.2) (Fill x.0 x.1 is.small is.low))
+    subst (λ w. Describes w content) (sym word_is) (subst (Describes _) (same_Some (fill_bytes x.0 x.1) content numbers.2) (Fill x.0 x.1 is.small is.low))
 
 pub content_described : (word content : List ℕ) → content_of word ≡ Some content → Describes word content
 unfolding content_of

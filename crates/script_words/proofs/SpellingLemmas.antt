@@ -3,13 +3,13 @@ use Rattle.std.proofs.Common.{◌≡◌, ◌≢◌, inl, inr, ℕ, suc, ◌+◌,
 use Rattle.std.specs.Prelude.{◌==◌}
 use Rattle.std.specs.List.{prefix_len, list_all}
 use Rattle.std.specs.Str.{is_utf8}
-use Rattle.std.proofs.lemmas.Bool.{and_parts, and_from, eqb-true, not-false}
+use Rattle.std.proofs.lemmas.Bool.{and_from, and_parts, eqb-true, not-false, not-true, or_parts}
 use Rattle.std.proofs.lemmas.List.{take-append-drop, take_at, drop_at, length-append, append-nil}
 use Rattle.std.proofs.lemmas.List.Folds.{length-prefix_len}
 use Rattle.std.proofs.Math.ListN.{drop_of_length-le}
 use Rattle.annex_base.specs.Lines.{space, is_space, is_not_space}
 use Rattle.annex_base.proofs.Conditions.{if_is, by_test}
-use Rattle.script_words.proofs.FrontLemmas.{one_add, not_true, or_parts, front_passes, Stops, rest_stops, front_len, all_len}
+use Rattle.script_words.proofs.FrontLemmas.{one_add, front_passes, Stops, rest_stops, front_len, all_len}
 use Rattle.script_words.specs.Places.{LineWord}
 use Rattle.script_words.specs.declared.words.NextWord.TheVariants.{NoWord, BadWord, Word}
 use Rattle.script_words.specs.Words.{quote, is_not_quote, is_break, closes, text_word, quoted_word, plain_word, word_from, after_spaces, next_word, has_space, printed_word}
@@ -50,7 +50,7 @@ written at _ _ rest (Quoted text all) utf8 ends =
 
 spelled_stops : (spelled text rest : List ℕ) → Spells spelled text → Stops is_space (spelled ++ rest)
 spelled_stops _ _ rest (Plain [] some unquoted all) = absurd (some refl)
-spelled_stops _ _ rest (Plain (b ∷ bs) some unquoted all) = not_true (b == space) (and_parts (is_not_space b) (list_all is_not_space bs) all).0
+spelled_stops _ _ rest (Plain (b ∷ bs) some unquoted all) = not-true (b == space) (and_parts (is_not_space b) (list_all is_not_space bs) all).0
 spelled_stops _ _ rest (Quoted text all) = refl
 
 same_word : (w : LineWord) (p a : ℕ) → w.place ≡ p → w.after ≡ a → Word (record { place = p; text = w.text; after = a }) ≡ Word w
@@ -260,14 +260,14 @@ no_space (b ∷ bs) e =
 has_none : (text : List ℕ) → list_all is_not_space text ≡ true → has_space text ≡ false
 has_none [] e = refl
 has_none (b ∷ bs) e =
-    let both = and_parts (is_not_space b) (list_all is_not_space bs) e in rw (not_true (b == space) both.0, has_none bs both.1) refl
+    let both = and_parts (is_not_space b) (list_all is_not_space bs) e in rw (not-true (b == space) both.0, has_none bs both.1) refl
 
 printed_quoted : (text : List ℕ) → text ≢ [] → list_all is_not_quote text ≡ true → Spells (printed_word text) text
 printed_quoted [] some all = absurd (some refl)
 printed_quoted (b ∷ bs) some all =
     by_test (has_space (b ∷ bs))
     (λ e. rw e (Quoted (b ∷ bs) all))
-    (λ e. rw e (Plain (b ∷ bs) some (not_true (b == quote) (and_parts (is_not_quote b) (list_all is_not_quote bs) all).0) (no_space (b ∷ bs) e)))
+    (λ e. rw e (Plain (b ∷ bs) some (not-true (b == quote) (and_parts (is_not_quote b) (list_all is_not_quote bs) all).0) (no_space (b ∷ bs) e)))
 
 pub printed_spells : (spelled text : List ℕ) → Spells spelled text → text ≢ [] → Spells (printed_word text) text
 printed_spells _ _ (Plain text some unquoted all) filled = rw (has_none text all) (Plain text some unquoted all)

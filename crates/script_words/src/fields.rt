@@ -78,7 +78,8 @@ pub fn read_id(word: &[u8]) -> Option<RepoId>
     RepoId::parse(word).ok()
 }
 
-fn level_text(level: Level) -> &'static [u8]
+/// The word of a level of trust (git-annex trust).
+pub fn level_text(level: Level) -> &'static [u8]
     ensures { result.now ≡ level_word level }
 {
     match level {

@@ -15,8 +15,8 @@ mod words;
 
 pub use content::Content;
 pub use fields::{
-    call_text, is_group, is_name, is_nolock, is_path, is_word, read_call, read_clock, read_id,
-    read_level, read_offset, read_version,
+    call_text, is_group, is_name, is_nolock, is_path, is_word, level_text, read_call, read_clock,
+    read_id, read_level, read_offset, read_version,
 };
 pub use key_word::{KeyWord, read_key_word};
 pub use laws::{

@@ -1,4 +1,4 @@
--- What has to be opened for the step to compute.
+-- What has to be opened for the step to compute; for proofs.
 use Rattle.annex_base.specs.Decimal.{number_of as decimal_number_of}
 use Rattle.annex_base.specs.RepoText.{repo_of}
 use Rattle.annex_base.specs.StampReading.{digits_at, fraction_at, stamp_of}

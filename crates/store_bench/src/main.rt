@@ -1,5 +1,4 @@
-//! Does one kind of work on a content of so many MiB, for `bench/run.py` to time, and prints how many bytes it moved:
-//! `store_bench WORK NUMBER`.
+//! Does one kind of work on a content of so many MiB, for `bench/run.py` to time.
 #![tactic(auto)]
 
 use annex_base::NoMemory;
@@ -112,6 +111,7 @@ fn wanted(words: &[String]) -> Option<(Work, u32)> {
     Some((work, number.saturating_mul(PIECES)))
 }
 
+/// `store_bench WORK NUMBER` prints how many bytes it moved.
 fn main(rt: HostRuntime) -> ExitCode {
     let mut words = Vec::new(rt.alloc());
     let Ok(args) = env::args(&rt) else {

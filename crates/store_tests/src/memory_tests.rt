@@ -1,5 +1,4 @@
-//! Calls whose memory is refused. `rt try --test --fail-alloc N` refuses the Nth allocation of the test, which then
-//! makes the call again, and passes whichever allocation it was.
+//! Calls whose memory is refused: each is made again, whichever allocation `rt try --test --fail-alloc N` refuses.
 use annex_key::Key;
 use object_store::{HoldRecord, Keeper, KeeperFault, MemoryKeeper};
 use std::alloc::Global;

@@ -1,11 +1,10 @@
 -- The claims and grouped repositories of entries, and that they are those of the branch which the entries were read of.
-use Rattle.std.proofs.Common.{◌≡◌, ◌≢◌, ℕ, Bool, not, ◌&&◌, List, [], ◌∷◌, ◌++◌, filter, Option, Some, None, Result, Ok, Err, IfOk, refl, sym, ap, ◌∙◌, append_assoc}
+use Rattle.std.proofs.Common.{◌≡◌, ◌≢◌, ℕ, not, ◌&&◌, List, [], ◌∷◌, ◌++◌, filter, Option, Some, None, Result, Ok, Err, IfOk, refl, sym, ap, ◌∙◌}
 use Rattle.std.specs.List.Sorted.{IsStrictlySortedBy}
 use Rattle.std.proofs.lemmas.Bool.{and_parts}
 use Rattle.annex_base.specs.ByteOrder.{text_cmp}
 use Rattle.annex_base.specs.Lists.{Member}
 use Rattle.annex_base.specs.declared.kinds.Level.{Level}
-use Rattle.annex_base.proofs.Conditions.{by_test}
 use Rattle.annex_base.proofs.Lists.{Member-filter_parts}
 use Rattle.annex_base.specs.declared.kinds.Level.TheVariants as levels
 use Rattle.log_lines.specs.declared.entry.LogKind.TheVariants as kinds
@@ -14,11 +13,11 @@ use Rattle.log_lines.specs.declared.entry.Entry.{Entry}
 use Rattle.log_lines.specs.Newest.{newest}
 use Rattle.log_lines.specs.Files.{file_name}
 use Rattle.hash_dirs.specs.LogPath.{location_path}
-use Rattle.trust_groups.specs.Settings.{Lines, level, is_present, repo_of, repos_of, are_dead, is_claim, claims, has_groups, settings}
+use Rattle.trust_groups.specs.Settings.{Lines, level, is_present, repo_of, repos_of, are_dead, is_claim, claims, settings}
 use Rattle.log_lines.specs.declared.entry.LogKind.{LogKind}
 use Rattle.log_lines.specs.Index.{Index}
 use Rattle.trust_groups.specs.Kept.{level_among, groups_among, text_among, number_among, any_dead, claims_by, claims_among, grouped_among}
-use Rattle.trust_groups.specs.Reads.{Indices, IsIndexOf, Reads, entries_at, entries_or_none, index_at, kind_at}
+use Rattle.trust_groups.specs.Reads.{Indices, IsIndexOf, HaveReadLines, entries_at, entries_or_none, index_at, kind_at}
 use Rattle.trust_groups.specs.View.{entries_of, settings_of}
 use Rattle.trust_groups.proofs.PathLemmas.{location_kind}
 use Rattle.trust_groups.proofs.RepoLemmas.{IsRising, repos_member, repos_sorted}
@@ -27,21 +26,6 @@ use Rattle.trust_groups.proofs.ClaimLemmas.{not_dead}
 pub ok_then : {T E : Type 0} {P Q : T → Type 0} (r : Result T E) → IfOk r P → ((v : T) → P v → Q v) → IfOk r Q
 ok_then (Ok v) h f = f v h
 ok_then (Err e) h f = tt
-
--- ---- entry by entry
-
-repos_more : (p : Entry → Bool) (xs ys : List Entry) → repos_of (filter p (xs ++ ys)) ≡ repos_of (filter p xs) ++ repos_of (filter p ys)
-repos_more p [] ys = refl
-repos_more p (x ∷ xs) ys =
-    by_test (p x)
-    (λ t. rw t (ap (λ repos. repo_of x.topic ++ repos) (repos_more p xs ys) ∙ sym (append_assoc (repo_of x.topic) (repos_of (filter p xs)) (repos_of (filter p ys)))))
-    (λ t. rw t (repos_more p xs ys))
-
-pub claims_among-append : (level : List ℕ → Level) (xs ys : List Entry) → claims_among level (xs ++ ys) ≡ claims_among level xs ++ claims_among level ys
-claims_among-append level xs ys = repos_more (claims_by level) xs ys
-
-pub grouped_among-append : (xs ys : List Entry) → grouped_among (xs ++ ys) ≡ grouped_among xs ++ grouped_among ys
-grouped_among-append xs ys = repos_more has_groups xs ys
 
 -- ---- of a branch
 
@@ -78,16 +62,16 @@ entries_read : (o : Option Index) (kind : LogKind) (lines : List (List ℕ)) →
 entries_read None kind lines is = sym is
 entries_read (Some index) kind lines is = ap (λ (i : Index). i.entries) is
 
-file_read : (es : Indices) (lines : Lines) → Reads es lines → (path : List ℕ) → entries_at es path ≡ newest (kind_at path) (lines path)
+file_read : (es : Indices) (lines : Lines) → HaveReadLines es lines → (path : List ℕ) → entries_at es path ≡ newest (kind_at path) (lines path)
 file_read es lines reads path = entries_read (index_at es path) (kind_at path) (lines path) (reads path)
 
-log_read : (es : Indices) (lines : Lines) → Reads es lines → (key : List ℕ) → entries_at es (location_path key) ≡ newest kinds.Location (lines (location_path key))
+log_read : (es : Indices) (lines : Lines) → HaveReadLines es lines → (key : List ℕ) → entries_at es (location_path key) ≡ newest kinds.Location (lines (location_path key))
 log_read es lines reads key = file_read es lines reads (location_path key) ∙ ap (λ kind. newest kind (lines (location_path key))) (location_kind key)
 
 claims_of_read : (lines : Lines) (key : List ℕ) (level_by : List ℕ → Level) (es : List Entry) → level_by ≡ level lines → es ≡ newest kinds.Location (lines (location_path key)) → claims_among level_by es ≡ claims lines key
 claims_of_read lines key level_by es levels is = ap (λ l. claims_among l es) levels ∙ ap (claims_among (level lines)) is ∙ claims_are lines key
 
-pub settings_read : (es : Indices) (lines : Lines) → Reads es lines → settings_of es ≡ settings lines
+pub settings_read : (es : Indices) (lines : Lines) → HaveReadLines es lines → settings_of es ≡ settings lines
 settings_read es lines reads =
     let trust : entries_of es kinds.Trust ≡ newest kinds.Trust (lines (file_name kinds.Trust)) = file_read es lines reads (file_name kinds.Trust) in
     let numcopies : entries_of es kinds.Numcopies ≡ newest kinds.Numcopies (lines (file_name kinds.Numcopies)) = file_read es lines reads (file_name kinds.Numcopies) in

@@ -26,7 +26,7 @@ use Rattle.union_merge.specs.FileView as view
 use Rattle.union_merge.specs.Branch.{Files, IsBranch, lines_at}
 use Rattle.trust_groups.specs.Settings.{Lines}
 use Rattle.trust_groups.specs.Adding.{indices_and, indices_with, is_nil, lines_and}
-use Rattle.trust_groups.specs.Reads.{Indices, IsIndexOf, Reads, index_at, kind_at, lines_with, view_of}
+use Rattle.trust_groups.specs.Reads.{Indices, IsIndexOf, HaveReadLines, index_at, kind_at, lines_with, view_of}
 use Rattle.trust_groups.proofs.IndexLemmas.{put_other, put_own, set_other, set_own}
 
 -- ---- the index of one file
@@ -50,16 +50,16 @@ first_more kind lines line none = ap (λ es. index_with (indexed kind es) line) 
 
 -- ---- the lines of other files stay
 
-pub reads_same : (es : Indices) (x y : Lines) → ((path : List ℕ) → x path ≡ y path) → Reads es x → Reads es y
+pub reads_same : (es : Indices) (x y : Lines) → ((path : List ℕ) → x path ≡ y path) → HaveReadLines es x → HaveReadLines es y
 reads_same es x y same reads path = subst (IsIndexOf (index_at es path) (kind_at path)) (same path) (reads path)
 
-own_or_other : (es : Indices) (path line : List ℕ) (lines : Lines) → IsIndexOf (index_at es path) (kind_at path) (lines path ++ line ∷ []) → ((q : List ℕ) → (path ≡ q → ⊥) → IsIndexOf (index_at es q) (kind_at q) (lines q)) → Reads es (lines_with lines path line)
+own_or_other : (es : Indices) (path line : List ℕ) (lines : Lines) → IsIndexOf (index_at es path) (kind_at path) (lines path ++ line ∷ []) → ((q : List ℕ) → (path ≡ q → ⊥) → IsIndexOf (index_at es q) (kind_at q) (lines q)) → HaveReadLines es (lines_with lines path line)
 own_or_other es path line lines own rest q =
     by_test (bytes_eq path q)
     (λ t. rw t (subst (λ (p : List ℕ). IsIndexOf (index_at es p) (kind_at p) (lines p ++ line ∷ [])) ((bytes_eq-Decides path q).0 t) own))
     (λ t. rw t (rest q (λ same. absurd (false≢true (sym t ∙ (bytes_eq-Decides path q).1 same)))))
 
-pub known_reads : (es : Indices) (path line : List ℕ) (index : Index) (lines : Lines) → index_at es path ≡ Some index → Reads es lines → Reads (indices_with es path (index_with index line)) (lines_with lines path line)
+pub known_reads : (es : Indices) (path line : List ℕ) (index : Index) (lines : Lines) → index_at es path ≡ Some index → HaveReadLines es lines → HaveReadLines (indices_with es path (index_with index line)) (lines_with lines path line)
 known_reads es path line index lines found reads =
     let was : index ≡ index_of (kind_at path) (lines path) = subst (λ (o : Option Index). IsIndexOf o (kind_at path) (lines path)) found (reads path) in
     own_or_other (indices_with es path (index_with index line)) path line lines
@@ -67,7 +67,7 @@ known_reads es path line index lines found reads =
     (ap (λ (i : Index). index_with i line) was ∙ index_more (kind_at path) (lines path) line))
     (λ q apart. subst (λ (o : Option Index). IsIndexOf o (kind_at q) (lines q)) (sym (set_other es path q (index_with index line) apart)) (reads q))
 
-pub first_reads : (es : Indices) (path line : List ℕ) (lines : Lines) → index_at es path ≡ None → Reads es lines → Reads (indices_and es path (index_with (empty_index (kind_at path)) line)) (lines_with lines path line)
+pub first_reads : (es : Indices) (path line : List ℕ) (lines : Lines) → index_at es path ≡ None → HaveReadLines es lines → HaveReadLines (indices_and es path (index_with (empty_index (kind_at path)) line)) (lines_with lines path line)
 first_reads es path line lines absent reads =
     let kind = kind_at path in
     let index = index_with (empty_index kind) line in
@@ -94,9 +94,6 @@ first_added old new key path was is put named some same =
     added h = rw h refl
 
 -- ---- more lines of one file
-
-pub none_more : (lines : Lines) (path q : List ℕ) → lines q ≡ lines_and lines path [] q
-none_more lines path q = by_test (bytes_eq path q) (λ t. rw t (sym (append-nil (lines q)))) (λ t. rw t refl)
 
 one_more : (lines : Lines) (path : List ℕ) (xs : List (List ℕ)) (line q : List ℕ) → lines_with (lines_and lines path xs) path line q ≡ lines_and lines path (xs ++ line ∷ []) q
 one_more lines path xs line q = by_test (bytes_eq path q) (λ t. rw t (append_assoc (lines q) xs (line ∷ []))) (λ t. rw t refl)
@@ -137,7 +134,7 @@ from_sorted lines (f ∷ fs) sorted path = from_sorted (lines_and lines f.0 f.1)
 from_branch : (files : Files) → IsBranch files → (path : List ℕ) → lines_from (λ path. []) files path ≡ lines_at files path
 from_branch files is path = from_sorted (λ path. []) files is.sorted path
 
-pub reads_none : (es : List (Vec ℕ Global × Index)) → es ≡ [] → Reads (view_of es) (λ path. [])
+pub reads_none : (es : List (Vec ℕ Global × Index)) → es ≡ [] → HaveReadLines (view_of es) (λ path. [])
 reads_none es none path = subst (λ (e : List (Vec ℕ Global × Index)). IsIndexOf (index_at (view_of e) path) (kind_at path) []) (sym none) refl
 
 abbrev pub BranchRow : Type 0

@@ -40,8 +40,8 @@ IsIndexOf None kind lines = newest kind lines ≡ []
 IsIndexOf (Some index) kind lines = index ≡ index_of kind lines
 
 -- the settings have read these lines
-abbrev pub Reads : Indices → Lines → Type 0
-Reads indices lines = (path : List ℕ) → IsIndexOf (index_at indices path) (kind_at path) (lines path)
+abbrev pub HaveReadLines : Indices → Lines → Type 0
+HaveReadLines indices lines = (path : List ℕ) → IsIndexOf (index_at indices path) (kind_at path) (lines path)
 
 -- the lines, with one more of the file of this path
 abbrev pub lines_with : Lines → List ℕ → List ℕ → Lines

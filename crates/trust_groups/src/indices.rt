@@ -4,7 +4,7 @@ ghost use Rattle.std.specs.Prelude.{◌≡◌, ◌++◌, ◌∷◌, [], ℕ, Lis
 ghost use Rattle.log_lines.specs.Index.{Index, empty_index, index_with};
 ghost use Rattle.trust_groups.specs.Settings.{Lines};
 ghost use Rattle.trust_groups.specs.Adding.{indices_and, indices_with, lines_and};
-ghost use Rattle.trust_groups.specs.Reads.{Reads, kind_at, index_at, lines_with, view_of};
+ghost use Rattle.trust_groups.specs.Reads.{HaveReadLines, kind_at, index_at, lines_with, view_of};
 
 use annex_base::{Line, NoMemory};
 use log_lines::{LogKind, Newest};
@@ -63,7 +63,7 @@ pub(crate) fn add_line(
     path: &[u8],
     line: &Line,
 ) -> Result<(), NoMemory>
-    ensures reads { OnOk result ((lines : Lines) → Reads (view_of files.old.entries) lines → Reads (view_of files.new.entries) (lines_with lines path.now line.now)) }
+    ensures reads { OnOk result ((lines : Lines) → HaveReadLines (view_of files.old.entries) lines → HaveReadLines (view_of files.new.entries) (lines_with lines path.now line.now)) }
     ensures err { OnErr result (view_of files.new.entries ≡ view_of files.old.entries) }
 {
     if add_known(files, path, line)? {
@@ -79,7 +79,7 @@ pub(crate) fn add_file(
     path: &[u8],
     more: &[Line],
 ) -> Result<(), NoMemory>
-    ensures { OnOk result ((lines : Lines) → Reads (view_of files.old.entries) lines → Reads (view_of files.new.entries) (lines_and lines path.now more.now)) }
+    ensures { OnOk result ((lines : Lines) → HaveReadLines (view_of files.old.entries) lines → HaveReadLines (view_of files.new.entries) (lines_and lines path.now more.now)) }
 {
     for line in more {
         add_line(files, alloc, path, line)?;

@@ -6,7 +6,7 @@ ghost use Rattle.annex_base.specs.Lists.{Member, Each};
 ghost use Rattle.union_merge.specs.Branch.{Files, IsBranch, lines_at, merged_branch, merged_branches};
 ghost use Rattle.trust_groups.specs.Settings.{Lines, settings, claims, grouped, groups, numcopies, mincopies};
 ghost use Rattle.trust_groups.specs.Alike.{SameFiles, SameReading, KeepsFiles, CompactsFiles, IsNoLog};
-ghost use Rattle.trust_groups.specs.Reads.{Indices, Reads, lines_with};
+ghost use Rattle.trust_groups.specs.Reads.{Indices, HaveReadLines, lines_with};
 ghost use Rattle.trust_groups.specs.View.{settings_of};
 ghost use Rattle.trust_groups.specs.Claims.{IsClaimed};
 
@@ -53,8 +53,8 @@ pub fn merges_read_alike()
 /// branch or to one that was merged into it, in any order and however often, are the branch's own, whatever was compacted in
 /// between; and a line of a file that is no log changes none (own).
 pub fn settings_are_those_of_the_lines_read()
-    ensures read { (indices : Indices) (lines : Lines) → Reads indices lines → settings_of indices ≡ settings lines }
-    ensures kept { (indices : Indices) (read kept ever : Lines) → Reads indices read → SameFiles read ever → KeepsFiles kept ever → (settings_of indices ≡ settings kept) × (settings_of indices ≡ settings ever) }
+    ensures read { (indices : Indices) (lines : Lines) → HaveReadLines indices lines → settings_of indices ≡ settings lines }
+    ensures kept { (indices : Indices) (read kept ever : Lines) → HaveReadLines indices read → SameFiles read ever → KeepsFiles kept ever → (settings_of indices ≡ settings kept) × (settings_of indices ≡ settings ever) }
     ensures other { (lines : Lines) (path line : List ℕ) → IsNoLog path → settings (lines_with lines path line) ≡ settings lines }
 {
     // laws, for the proof

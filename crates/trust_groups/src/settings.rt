@@ -10,7 +10,7 @@ ghost use Rattle.log_lines.specs.Files.{file_name};
 ghost use Rattle.union_merge.specs.Branch.{lines_at};
 ghost use Rattle.trust_groups.specs.Settings.{Lines, settings};
 ghost use Rattle.trust_groups.specs.Alike.{IsNoLog};
-ghost use Rattle.trust_groups.specs.Reads.{Reads, index_at, lines_with, view_of};
+ghost use Rattle.trust_groups.specs.Reads.{HaveReadLines, index_at, lines_with, view_of};
 ghost use Rattle.trust_groups.specs.View.{settings_of};
 
 use crate::claims::claims_in;
@@ -52,7 +52,7 @@ impl Model for Settings {
 impl Settings {
     /// The settings of no lines.
     pub fn new(alloc: Global) -> Settings
-        ensures { Reads result (λ path. []) }
+        ensures { HaveReadLines result (λ path. []) }
     {
         Settings {
             alloc,
@@ -62,7 +62,7 @@ impl Settings {
 
     /// Reads a branch.
     pub fn read(alloc: Global, branch: &Branch) -> Result<Settings, NoMemory>
-        ensures reads { IfOk result (λ s. Reads s (lines_at branch.now)) }
+        ensures reads { IfOk result (λ s. HaveReadLines s (lines_at branch.now)) }
         ensures exact { IfOk result (λ s. settings_of s ≡ settings (lines_at branch.now)) }
     {
         let mut files = BTreeMap::new(alloc);
@@ -75,9 +75,9 @@ impl Settings {
     /// Adds a line of the file of this path. A line of a file that is no log, or that is outside the file's grammar, changes
     /// nothing. The cost grows with the logarithms of the numbers of files and of topics.
     pub fn add(&mut self, path: &[u8], line: &Line) -> Result<(), NoMemory>
-        ensures reads { OnOk result ((lines : Lines) → Reads self.old lines → Reads self.new (lines_with lines path.now line.now)) }
-        ensures settings { OnOk result ((lines : Lines) → Reads self.old lines → settings_of self.new ≡ settings (lines_with lines path.now line.now)) }
-        ensures other { OnOk result ((lines : Lines) → Reads self.old lines → IsNoLog path.now → settings_of self.new ≡ settings_of self.old) }
+        ensures reads { OnOk result ((lines : Lines) → HaveReadLines self.old lines → HaveReadLines self.new (lines_with lines path.now line.now)) }
+        ensures settings { OnOk result ((lines : Lines) → HaveReadLines self.old lines → settings_of self.new ≡ settings (lines_with lines path.now line.now)) }
+        ensures other { OnOk result ((lines : Lines) → HaveReadLines self.old lines → IsNoLog path.now → settings_of self.new ≡ settings_of self.old) }
         ensures err { OnErr result (self.new ≡ self.old) }
     {
         add_line(&mut self.files, self.alloc, path, line)

@@ -1,5 +1,5 @@
 -- A word is cut at its first `=`.
-use Rattle.std.proofs.Common.{◌≡◌, ℕ, suc, ◌+◌, ◌≤◌, ◌==◌, not, List, [], ◌∷◌, ◌++◌, length, take, drop, refl, sym, ap, ◌∙◌, arith, append_assoc, append-nil}
+use Rattle.std.proofs.Common.{◌≡◌, ℕ, suc, ◌+◌, ◌≤◌, ◌==◌, not, List, [], ◌∷◌, ◌++◌, length, take, drop, refl, sym, ap, ◌∙◌, arith, append_assoc}
 use Rattle.std.specs.Prelude.{codes}
 use Rattle.std.specs.List.{prefix_len}
 use Rattle.std.proofs.lemmas.Bool.{eqb-true}
@@ -35,14 +35,6 @@ within text end e = rw e (prefix_len-le-length (λ b. not (b == 61)) text)
 
 pub name_is : (text name : List ℕ) (end : ℕ) → end ≡ end_of text → name ≡ take end text → name ≡ name_of text
 name_is text name end e n = n ∙ (ap (λ (k : ℕ). take k text) e ∙ name_cut text)
-
-nothing_left : (cs : List ℕ) → length cs ≡ 0 → cs ≡ []
-nothing_left [] e = refl
-nothing_left (c ∷ cs) e = absurd (omega (arith, e))
-
-pub name_alone : (text name rest : List ℕ) (end : ℕ) → name ≡ take end text → rest ≡ drop end text → length rest ≡ 0 → text ≡ name
-name_alone text name rest end n r e =
-    sym (take-append-drop end text) ∙ (ap (λ (w : List ℕ). w ++ drop end text) (sym n) ∙ (ap (λ (w : List ℕ). name ++ w) (sym r ∙ nothing_left rest e) ∙ append-nil name))
 
 pub with_value : (text name rest value : List ℕ) (x end : ℕ) → end ≡ end_of text → name ≡ take end text → rest ≡ drop end text → rest ≡ x ∷ value → text ≡ name ++ codes "=" ++ value
 with_value text name rest value x end e n r s =

@@ -27,9 +27,6 @@ uncons (p ∷ ps) l ls e = (p.0, ps, ap (λ (m : Lexeme). (p.0, m) ∷ ps) (head
     tail : (a b : Lexeme) (xs ys : List Lexeme) → a ∷ xs ≡ b ∷ ys → xs ≡ ys
     tail a b xs ys h = cc
 
-cons_both : (a b : ℕ × Lexeme) (xs ys : List (ℕ × Lexeme)) → a ≡ b → xs ≡ ys → a ∷ xs ≡ b ∷ ys
-cons_both a b xs ys e f = cc
-
 split : (ps : List (ℕ × Lexeme)) (xs ys : List Lexeme) → without_places ps ≡ xs ++ ys → (front back : List (ℕ × Lexeme)) × (ps ≡ front ++ back) × (without_places front ≡ xs) × (without_places back ≡ ys)
 split ps [] ys e = ([], ps, refl, refl, e)
 split ps (x ∷ xs) ys e =

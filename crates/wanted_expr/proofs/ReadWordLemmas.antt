@@ -2,6 +2,7 @@
 use Rattle.std.proofs.Common.{◌≡◌, inl, inr, ℕ, Bool, true, false, ◌||◌, not, List, ◌++◌, length, Result, Ok, Err, refl, sym, ap, subst, ◌∙◌, arith, length-append, true≢false}
 use Rattle.std.specs.Prelude.{codes}
 use Rattle.std.proofs.lemmas.List.{append_cancel_left}
+use Rattle.std.proofs.lemmas.Bool.{or_left, or_right}
 use Rattle.annex_base.proofs.Conditions.{bytes_eq-other}
 use Rattle.wanted_expr.specs.declared.data.Word.{Word}
 use Rattle.wanted_expr.specs.declared.data.Word.TheVariants.{Anything, Nothing, Present, Include, Exclude, Copies, LackingCopies, InAllGroup, OnlyInGroup, InBackend, SecureHash, LargerThan, SmallerThan, Standard, GroupWanted}
@@ -79,13 +80,6 @@ unnamed name h =
 named_as : (text name : List ℕ) → name ≡ name_of text → has_name text ≡ (is_bare_name name || is_valued_name name)
 unfolding has_name
 named_as text name e = ap (λ (n : List ℕ). is_bare_name n || is_valued_name n) (sym e)
-
-or_right : (a b : Bool) → b ≡ true → (a || b) ≡ true
-or_right true b e = refl
-or_right false b e = e
-
-or_left : (a b : Bool) → a ≡ true → (a || b) ≡ true
-or_left a b e = rw e refl
 
 neither : (a b : Bool) → a ≡ false → not b ≡ true → not (a || b) ≡ true
 neither a b e k = rw e k

@@ -1,7 +1,8 @@
 -- The frames in memory and what awaits its term.
-use Rattle.std.proofs.Common.{◌≡◌, ℕ, ◌+◌, ◌<◌, Bool, true, false, List, [], ◌∷◌, ◌++◌, length, take, Option, Some, None, Ok, refl, sym, ap, ◌∙◌, arith, true≢false}
+use Rattle.std.proofs.Common.{◌≡◌, ℕ, ◌+◌, ◌<◌, true, false, List, [], ◌∷◌, ◌++◌, length, take, Option, Some, None, Ok, refl, sym, ap, ◌∙◌, arith, true≢false}
 use Rattle.std.specs.Prelude.{nat_lt, not, option_to_list, IfSome}
 use Rattle.std.specs.Option.{option_map}
+use Rattle.std.proofs.lemmas.Bool.{not-true}
 use Rattle.wanted_expr.specs.declared.data.Tree.{Tree}
 use Rattle.wanted_expr.specs.declared.fault.ExprFault.TheVariants as faults
 use Rattle.wanted_expr.specs.declared.lexeme.Operator.{Operator}
@@ -40,13 +41,9 @@ joins r tree at operator items e pushed = rw e (ap (λ (k : List Pending). Ok (A
 pub has_last : (items fs : List Frame) (f : Frame) → items ≡ fs ++ f ∷ [] → has_pending (above [] items) ≡ not (is_group (pending_of f))
 has_last items fs f e = ap has_pending (above_pushed items fs f e)
 
-not_true : (b : Bool) → not b ≡ true → b ≡ false
-not_true true e = absurd (true≢false (sym e))
-not_true false e = refl
-
 pub popped_pending : (old fs : List Frame) (o : Option Frame) → old ≡ fs ++ option_to_list o → has_pending (above [] old) ≡ true → IfSome o (λ f. is_group (pending_of f) ≡ false)
 popped_pending old fs None e has = tt
-popped_pending old fs (Some f) e has = not_true (is_group (pending_of f)) (sym (has_last old fs f e) ∙ has)
+popped_pending old fs (Some f) e has = not-true (is_group (pending_of f)) (sym (has_last old fs f e) ∙ has)
 
 -- The first `(` that is open.
 
@@ -71,19 +68,7 @@ none_open (at ∷ place ∷ places) e = absurd (cons_nil (none_open (place ∷ p
 pub never_opened : (at : ℕ) (ps : List ℕ) → None ≡ outermost ps → faults.BadParen at ≡ no_term at ps
 never_opened at ps e = sym (ap (no_term at) (none_open ps (sym e)))
 
-pub no_paren : (k : List Pending) → open_places k ≡ [] → None ≡ outermost (open_places k)
-no_paren k e = sym (ap outermost e)
-
 -- The innermost `(` is closed.
-
-pub group_counted : (k rest : List Pending) → without_group k ≡ Some rest → open_count k ≡ 1 + open_count rest
-group_counted [] rest e = absurd cc
-group_counted (Negating ∷ k) rest e = absurd cc
-group_counted (Grouping at ∷ k) rest e = ap (λ (w : List Pending). 1 + open_count w) (same k rest e)
-  where
-    same : (a b : List Pending) → Some a ≡ Some b → a ≡ b
-    same a b d = cc
-group_counted (Joining left operator ∷ k) rest e = absurd cc
 
 below : (n : ℕ) → n < 64 → nat_lt n 64 ≡ true
 below n h = grind arith

@@ -3,11 +3,11 @@ use Rattle.std.proofs.Common.{◌≡◌, ℕ, suc, ◌+◌, ◌<◌, ◌≤◌, 
 use Rattle.std.specs.Prelude.{if◌then◌else◌, ◌-◌, codes, nat_lt}
 use Rattle.std.specs.Char.{IsScalar}
 use Rattle.std.specs.Str.{IsUtf8, IsCharBoundary, is_utf8}
-use Rattle.std.proofs.lemmas.Bool.{and_parts, eqb-true}
+use Rattle.std.proofs.lemmas.Bool.{and_parts, eqb-true, ne_eqb}
 use Rattle.std.proofs.lemmas.Str.{IsUtf8-append, IsUtf8-encode, IsUtf8-nil, IsUtf8-from_is_utf8, is_utf8-from_IsUtf8, IsUtf8-past_char, IsUtf8-drop, IsCharBoundary-after_ascii, encode_ascii, inside_one}
 use Rattle.annex_base.proofs.Conditions.{by_test, if_either}
 use lib.Utf8.{encode, encodes, scalar, scalars}
-use Rattle.wanted_expr.proofs.TokenLemmas.{byte_on, differs}
+use Rattle.wanted_expr.proofs.TokenLemmas.{byte_on}
 use Rattle.wanted_expr.proofs.WordLemmas.{dropped}
 use Rattle.wanted_expr.specs.Pieces.{Piece, Opening, Closing, PieceRead, WordRead, IsTextPiece, after_bytes, after_spaces, as_piece, ends_word, piece_at, piece_here, word_at}
 
@@ -22,7 +22,7 @@ high_char c high k within =
     (λ t. let k : 128 ≤ get_or (encode c) k 0 = grind arith in k)
 
 no_end : (b : ℕ) → 128 ≤ b → ends_word b ≡ false
-no_end b high = rw (differs b 32 (λ e. omega (arith, e, high)), differs b 40 (λ e. omega (arith, e, high)), differs b 41 (λ e. omega (arith, e, high))) refl
+no_end b high = rw (ne_eqb b 32 (λ e. omega (arith, e, high)), ne_eqb b 40 (λ e. omega (arith, e, high)), ne_eqb b 41 (λ e. omega (arith, e, high))) refl
 
 high_on : (total : ℕ) (quote : Option ℕ) (hs bs : List ℕ) → IsHigh hs → word_at total quote (hs ++ bs) ≡ after_bytes hs (word_at total quote bs)
 high_on total quote [] bs h = nothing_before (word_at total quote bs)
@@ -32,7 +32,7 @@ high_on total quote [] bs h = nothing_before (word_at total quote bs)
     nothing_before (Err at) = refl
 high_on total quote (b ∷ hs) bs h =
     let here : 128 ≤ b = h 0 (omega arith) in
-    byte_on total quote b (hs ++ bs) (differs b 34 (λ e. omega (arith, e, here))) (λ n. no_end b here)
+    byte_on total quote b (hs ++ bs) (ne_eqb b 34 (λ e. omega (arith, e, here))) (λ n. no_end b here)
     ∙ (ap (after_bytes (b ∷ [])) (high_on total quote hs bs (λ k within. h (suc k) (omega arith))) ∙ both (word_at total quote bs))
   where
     both : (r : WordRead) → after_bytes (b ∷ []) (after_bytes hs r) ≡ after_bytes (b ∷ hs) r

@@ -1,6 +1,6 @@
 -- A word begins where no space and no parenthesis stands.
 use Rattle.std.proofs.Common.{◌≡◌, ℕ, ◌==◌, true, false, Option, Some, None, Ok, Err, ap, append_assoc, List, [], ◌∷◌, ◌++◌, refl, sym, subst, ◌∙◌}
-use Rattle.std.proofs.lemmas.Bool.{eqb-true}
+use Rattle.std.proofs.lemmas.Bool.{ne_eqb}
 use Rattle.annex_base.proofs.Conditions.{by_test}
 use Rattle.wanted_expr.specs.Pieces.{after_spaces, ends_word, WordRead, word_at, after_bytes}
 use Rattle.wanted_expr.specs.Tokens.{begins_word}
@@ -18,12 +18,9 @@ no_space (c ∷ cs) b rest e =
     (λ t. no_space cs b rest (rw t at e))
     (λ t. let k : c ∷ cs ≡ b ∷ rest = rw t at e in subst (λ (n : ℕ). (n == 32) ≡ false) (same_head c b cs rest k) t)
 
-pub differs : (b n : ℕ) → (b ≡ n → ⊥) → (b == n) ≡ false
-differs b n other = by_test (b == n) (λ t. absurd (other (eqb-true b n t))) (λ t. t)
-
 pub word_begins : (bytes text : List ℕ) (b : ℕ) (rest : List ℕ) → text ≡ after_spaces bytes → text ≡ b ∷ rest → (b ≡ 40 → ⊥) → (b ≡ 41 → ⊥) → begins_word text ≡ true
 word_begins bytes text b rest is e opened closed =
-    rw (e, no_space bytes b rest (sym is ∙ e), differs b 40 opened, differs b 41 closed) refl
+    rw (e, no_space bytes b rest (sym is ∙ e), ne_eqb b 40 opened, ne_eqb b 41 closed) refl
 
 -- A byte that belongs to the word.
 

@@ -1,8 +1,9 @@
 -- A text is one word at most.
-use Rattle.std.proofs.Common.{◌≡◌, ◌⊎◌, inl, inr, ℕ, ◌*◌, Bool, true, false, List, ◌∷◌, ◌++◌, Option, Some, None, refl, sym, ap, subst, ◌∙◌, arith, append-nil}
+use Rattle.std.proofs.Common.{◌≡◌, ◌⊎◌, inl, inr, ℕ, ◌*◌, true, false, List, ◌∷◌, ◌++◌, Option, Some, None, refl, sym, ap, subst, ◌∙◌, arith, append-nil}
 use Rattle.std.specs.Prelude.{codes, bytes_eq, if◌then◌else◌, ◌||◌}
 use Rattle.std.specs.Str.{chars}
 use Rattle.std.specs.Str.Parse.{digits_value}
+use Rattle.std.proofs.lemmas.Bool.{or_right}
 use Rattle.annex_base.proofs.Conditions.{bytes_eq-other}
 use Rattle.annex_base.specs.declared.kinds.Level.{Level}
 use Rattle.annex_base.specs.declared.kinds.Level.TheVariants.{Dead, Untrusted, Semitrusted, Trusted}
@@ -313,10 +314,6 @@ bare_name text (OnlyInGroup group) e = absurd e
 bare_name text (InBackend backend) e = absurd e
 bare_name text (LargerThan n) e = absurd e
 bare_name text (SmallerThan n) e = absurd e
-
-or_right : (a b : Bool) → b ≡ true → (a || b) ≡ true
-or_right true b e = refl
-or_right false b e = e
 
 pub has_known_name : (text : List ℕ) (w : Word) → IsWord text w → has_name text ≡ true
 unfolding IsWord has_name

@@ -1,5 +1,5 @@
 -- Digits and numbers, and texts cut before an end.
-use Rattle.std.proofs.Common.{rules, ◌≡◌, ℕ, zero, suc, ◌+◌, ◌-◌, ◌<◌, ◌≤◌, ◌^◌, ◌==◌, true, false, List, [], ◌∷◌, ◌++◌, length, get_or, take, drop, Option, Some, None, Result, Ok, Err, MatchOption, refl, sym, ap, subst, ◌∙◌, arith, length-append, true≢false, append-nil}
+use Rattle.std.proofs.Common.{◌≡◌, ℕ, zero, suc, ◌+◌, ◌-◌, ◌<◌, ◌≤◌, ◌^◌, ◌==◌, true, false, List, [], ◌∷◌, ◌++◌, length, get_or, take, drop, Option, Some, None, Result, Ok, Err, MatchOption, refl, sym, ap, subst, ◌∙◌, arith, length-append, true≢false, append-nil}
 use Rattle.std.specs.Prelude.{codes, bytes_eq}
 use Rattle.std.specs.Char.{is_ascii_digit}
 use Rattle.std.specs.List.{list_all}
@@ -7,18 +7,16 @@ use Rattle.std.specs.Result.{result_ok, OkIff}
 use Rattle.std.specs.Str.{IsUtf8}
 use Rattle.std.specs.Str.Parse.{digits_value, IsNumeral, ParsesUnsigned, without_leading_plus}
 use Rattle.std.proofs.lemmas.Bool.Decides.{nat_tests}
-use Rattle.std.proofs.lemmas.Bool.{and_parts}
+use Rattle.std.proofs.lemmas.Bool.{and_parts, eqb-false}
 use Rattle.std.proofs.lemmas.List.{append_cancel_right, take-append-drop}
 use Rattle.std.proofs.lemmas.Str.{IsUtf8-from_ascii}
-use Rattle.std.proofs.lemmas.Str.Parse.{IsNumeralModel, numerals_by_value, without_leading_plus_none, digits_value_short}
+use Rattle.std.proofs.lemmas.Str.Parse.{without_leading_plus_none, digits_value_short}
 use Rattle.annex_base.proofs.Conditions.{bytes_eq-refl, bytes_eq-true}
 use Rattle.annex_base.proofs.Lists.{list_all_parts}
 use Rattle.annex_base.specs.Finding.{Found}
+use Rattle.annex_base.proofs.StampLemmas.{ascii_numerals}
 use Rattle.wanted_expr.specs.Finding.{Ends}
 use Rattle.wanted_expr.specs.Words.{IsDigits, IsCount, SizeUnit, Bytes, Kilobytes, Megabytes, Gigabytes, unit_text}
-
-pub own : IsNumeralModel (λ ds. list_all is_ascii_digit ds ≡ true) (digits_value 10)
-own = numerals_by_value _ (search rules)
 
 pub digit_bounds : (b : ℕ) → is_ascii_digit b ≡ true → (48 ≤ b) × (b ≤ 57)
 digit_bounds b e = grind (arith, nat_tests)
@@ -44,20 +42,20 @@ IsNumber w n = IsDigits w × (n ≡ digits_value 10 w) × (n < 2 ^ 64)
 
 parsed : {E : Type 0} (w : List ℕ) (r : Result ℕ E) → OkIff r (IsNumeral 10 w × (digits_value 10 w < 2 ^ 64)) (digits_value 10 w) → IsDigits w → Found (λ x. x) (IsNumber w) (result_ok r)
 parsed w (Ok n) h d = (d, h.1, omega (arith, h.1, h.0.1))
-parsed w (Err e) h d = λ n k. h ((d.some, own.to w d.digits), omega (arith, k.1, k.2))
+parsed w (Err e) h d = λ n k. h ((d.some, ascii_numerals.to w d.digits), omega (arith, k.1, k.2))
 
 pub parsed_number : {E : Type 0} (w : List ℕ) (r : Result ℕ E) → ParsesUnsigned 64 10 w r → IsDigits w → Found (λ x. x) (IsNumber w) (result_ok r)
 parsed_number w r h d = parsed w r (subst (λ (v : List ℕ). OkIff r (IsNumeral 10 v × (digits_value 10 v < 2 ^ 64)) (digits_value 10 v)) (no_plus w d.digits) h) d
 
 pub count_small : (w : List ℕ) (n : ℕ) → IsCount w n → n < 1000000000
-count_small w n k = omega (arith, k.value, digits_value_short own w 9 k.digits.digits k.short)
+count_small w n k = omega (arith, k.value, digits_value_short ascii_numerals w 9 k.digits.digits k.short)
 
 pub no_count : (w : List ℕ) → ((n : ℕ) → IsNumber w n → ⊥) → (n : ℕ) → IsCount w n → ⊥
 no_count w h n k = h n (k.digits, k.value, omega (arith, count_small w n k))
 
 pub fits_count : {E : Type 0} (w : List ℕ) (n : ℕ) (r : Result ℕ E) → OkIff r (n < 2 ^ 32) n → IsNumber w n → length w ≤ 9 → Found (λ x. x) (IsCount w) (result_ok r)
 fits_count w n (Ok m) h k short = record { digits = k.0; short = short; value = h.1 ∙ k.1 }
-fits_count w n (Err e) h k short = λ m j. h (omega (arith, k.1, digits_value_short own w 9 k.0.digits short))
+fits_count w n (Err e) h k short = λ m j. h (omega (arith, k.1, digits_value_short ascii_numerals w 9 k.0.digits short))
 
 -- Texts cut before an end.
 
@@ -97,34 +95,31 @@ not_digits digits front a b is differs e =
     let j = and_parts (is_ascii_digit a) (list_all is_ascii_digit (b ∷ [])) k.1 in
     true≢false (sym j.0 ∙ differs)
 
-differ : (a b : ℕ) → (a == b) ≡ false → a ≡ b → ⊥
-differ a b apart e = grind arith
-
 pub ends_kb : (value number : List ℕ) → value ≡ number ++ codes "kb" → Ends value number 1000
 ends_kb value number e = record { unit = Kilobytes; spelled = e; sized = refl; only = only }
   where
     only : (digits : List ℕ) (other : SizeUnit) → IsDigits digits → value ≡ digits ++ unit_text other → (digits ≡ number) × (other ≡ Kilobytes)
     only digits Bytes is s = absurd (not_digits digits number 107 98 is refl (sym e ∙ s))
     only digits Kilobytes is s = (append_cancel_right digits number (codes "kb") (sym s ∙ e), refl)
-    only digits Megabytes is s = absurd (differ 107 109 refl (before_last number digits 107 98 109 98 (sym e ∙ s)))
-    only digits Gigabytes is s = absurd (differ 107 103 refl (before_last number digits 107 98 103 98 (sym e ∙ s)))
+    only digits Megabytes is s = absurd (eqb-false 107 109 refl (before_last number digits 107 98 109 98 (sym e ∙ s)))
+    only digits Gigabytes is s = absurd (eqb-false 107 103 refl (before_last number digits 107 98 103 98 (sym e ∙ s)))
 
 pub ends_mb : (value number : List ℕ) → value ≡ number ++ codes "mb" → Ends value number 1000000
 ends_mb value number e = record { unit = Megabytes; spelled = e; sized = refl; only = only }
   where
     only : (digits : List ℕ) (other : SizeUnit) → IsDigits digits → value ≡ digits ++ unit_text other → (digits ≡ number) × (other ≡ Megabytes)
     only digits Bytes is s = absurd (not_digits digits number 109 98 is refl (sym e ∙ s))
-    only digits Kilobytes is s = absurd (differ 109 107 refl (before_last number digits 109 98 107 98 (sym e ∙ s)))
+    only digits Kilobytes is s = absurd (eqb-false 109 107 refl (before_last number digits 109 98 107 98 (sym e ∙ s)))
     only digits Megabytes is s = (append_cancel_right digits number (codes "mb") (sym s ∙ e), refl)
-    only digits Gigabytes is s = absurd (differ 109 103 refl (before_last number digits 109 98 103 98 (sym e ∙ s)))
+    only digits Gigabytes is s = absurd (eqb-false 109 103 refl (before_last number digits 109 98 103 98 (sym e ∙ s)))
 
 pub ends_gb : (value number : List ℕ) → value ≡ number ++ codes "gb" → Ends value number 1000000000
 ends_gb value number e = record { unit = Gigabytes; spelled = e; sized = refl; only = only }
   where
     only : (digits : List ℕ) (other : SizeUnit) → IsDigits digits → value ≡ digits ++ unit_text other → (digits ≡ number) × (other ≡ Gigabytes)
     only digits Bytes is s = absurd (not_digits digits number 103 98 is refl (sym e ∙ s))
-    only digits Kilobytes is s = absurd (differ 103 107 refl (before_last number digits 103 98 107 98 (sym e ∙ s)))
-    only digits Megabytes is s = absurd (differ 103 109 refl (before_last number digits 103 98 109 98 (sym e ∙ s)))
+    only digits Kilobytes is s = absurd (eqb-false 103 107 refl (before_last number digits 103 98 107 98 (sym e ∙ s)))
+    only digits Megabytes is s = absurd (eqb-false 103 109 refl (before_last number digits 103 98 109 98 (sym e ∙ s)))
     only digits Gigabytes is s = (append_cancel_right digits number (codes "gb") (sym s ∙ e), refl)
 
 pub kb_only : (value number : List ℕ) → value ≡ number ++ codes "kb" → (digits : List ℕ) (other : SizeUnit) → IsDigits digits → value ≡ digits ++ unit_text other → (digits ≡ number) × (other ≡ Kilobytes)

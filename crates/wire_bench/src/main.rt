@@ -1,5 +1,4 @@
-//! Decodes a stream of a given size in pieces of a given length, for `bench/run.py` to time, and prints how many messages
-//! and raw bytes it gave: `wire_bench WORK PIECE KIB`, where WORK is `messages` or `data`.
+//! Decodes a stream of a given size in pieces of a given length, for `bench/run.py` to time.
 #![tactic(auto)]
 
 use annex_base::NoMemory;
@@ -118,6 +117,7 @@ fn asked(words: &[String]) -> Option<Wanted> {
     })
 }
 
+/// `wire_bench WORK PIECE KIB`, where WORK is `messages` or `data`, prints how many messages and raw bytes the decoder gave.
 fn main(rt: HostRuntime) -> ExitCode {
     let mut words = Vec::new(rt.alloc());
     let Ok(args) = env::args(&rt) else {

@@ -1,4 +1,4 @@
--- What a desk is to a drop's worker.
+-- What a desk is to a drop's worker; for tests.
 use Rattle.std.specs.Prelude.{ℕ, ◌==◌, if◌then◌else◌}
 use Rattle.worker_tests.specs.declared.desk.Desk.{Desk}
 use Rattle.run_data.specs.declared.job.Cause.TheVariants as causes

@@ -5,7 +5,7 @@ ghost use Rattle.node_model.specs.Jobs.{partner};
 ghost use Rattle.drop_worker.specs.Working.{phase_as};
 ghost use Rattle.drop_worker.specs.Doing.{HasToken};
 ghost use Rattle.drop_worker.specs.Feeding.{ToldAt};
-ghost use Rattle.drop_worker.specs.Sides.{Fits, side_in};
+ghost use Rattle.drop_worker.specs.Sides.{FitsSide, side_in};
 
 use crate::desk::Desk;
 use crate::ended::{Ended, ended_so};
@@ -50,7 +50,7 @@ fn run<K: Keeper>(
 ) -> Result<Option<EntryKind>, NoMemory>
     requires slow { pace ≤ 1000000 }
     requires local { side_in worker.old ≡ sides.Local }
-    requires fits { Fits (side_in worker.old) worker.old.phase worker.old.token }
+    requires fits { FitsSide (side_in worker.old) worker.old.phase worker.old.token }
     requires owns { HasToken worker.old.number worker.old.job.key worker.old.token table.old }
     ensures owns { HasToken worker.new.number worker.new.job.key worker.new.token table.new }
 {

@@ -3,7 +3,7 @@ ghost use Rattle.std.specs.Prelude.{◌≡◌, ◌≤◌, [], ℕ, List, Some, I
 ghost use Rattle.drop_proof.specs.declared.rule.Side.TheVariants as sides;
 ghost use Rattle.content_lock.specs.Stored.{Agrees};
 ghost use Rattle.drop_worker.specs.Doing.{HasToken};
-ghost use Rattle.drop_worker.specs.Sides.{Fits, side_in};
+ghost use Rattle.drop_worker.specs.Sides.{FitsSide, side_in};
 
 use crate::desk::Desk;
 use crate::ended::{Ended, ended_so};
@@ -105,12 +105,13 @@ fn run<K: Keeper>(
 ) -> Result<Option<EntryKind>, NoMemory>
     requires remote { side_in worker.old ≡ sides.Remote }
     requires peer { worker.old.job.peer ≡ Some 1 }
-    requires fits { Fits (side_in worker.old) worker.old.phase worker.old.token }
+    requires fits { FitsSide (side_in worker.old) worker.old.phase worker.old.token }
     requires owns { HasToken worker.old.number worker.old.job.key worker.old.token table.old }
     requires agrees { Agrees (K.records keeper.old) table.old.holds }
     requires bare { table.old.holds ≡ [] }
     ensures owns { HasToken worker.new.number worker.new.job.key worker.new.token table.new }
 {
+    // A law, for the proof.
     holds_are_numbered();
     let mut pending = Answer::Closed;
     for count in 0u64..40 {

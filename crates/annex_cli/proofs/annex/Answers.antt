@@ -3,7 +3,7 @@ use Rattle.std.proofs.Common.{◌++◌}
 use Rattle.run_data.specs.Histories.{most_entries}
 use Rattle.driver_model.specs.Driving.{run_of}
 use Rattle.driver_model.specs.Limits.{limited_run}
-use Rattle.driver_script.specs.Given.{given_of}
+use Rattle.driver_script.specs.Given.{driver_input_of}
 use Rattle.report_text.specs.Report.{report}
 use Rattle.annex_cli.specs.Top.{entries_name, limit_text}
 use Rattle.annex_cli.proofs.DueLemmas.{HaveOneReading, due_answered, due_cut, due_report}
@@ -18,10 +18,10 @@ returns-clause-due g c = λ bytes text status words left due read write.
 
 pub returns-clause-reported : goal.returns-clause-reported
 returns-clause-reported g c = λ bytes script lines words left short says built whole read write.
-    returns-clause-due g c bytes (report script (run_of (given_of script) lines)) _ words left
+    returns-clause-due g c bytes (report script (run_of (driver_input_of script) lines)) _ words left
     (due_report bytes script lines short (record { says = says; built = built }) whole) read write
 
 pub returns-clause-cut : goal.returns-clause-cut
 returns-clause-cut g c = λ bytes script lines words left short says built cut read write.
-    returns-clause-due g c bytes (report script (limited_run (given_of script) lines).run ++ limit_text entries_name most_entries) _ words left
+    returns-clause-due g c bytes (report script (limited_run (driver_input_of script) lines).run ++ limit_text entries_name most_entries) _ words left
     (due_cut bytes script lines short (record { says = says; built = built }) cut) read write

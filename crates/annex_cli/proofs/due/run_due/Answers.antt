@@ -13,3 +13,14 @@ run_script-requires-clause-run c =
     let law = c.scripts_may_be_driven.ensures in
     let few = law.few c.args.bytes.now c.args.script.now lines.0 is in
     record { few = omega (arith, few); each = law.repos c.args.bytes.now c.args.script.now lines.0 is; apart = law.apart c.args.bytes.now c.args.script.now lines.0 is }
+
+pub run_script-requires-clause-repos : goal.run_script-requires-clause-repos
+run_script-requires-clause-repos c =
+    let lines = c.requires.lines in
+    c.scripts_may_be_driven.ensures.few c.args.bytes.now c.args.script.now lines.0 (record { says = c.requires.says; built = lines.1 })
+
+pub run_script-requires-clause-few : goal.run_script-requires-clause-few
+run_script-requires-clause-few c =
+    let lines = c.scripts_have_few_lines.ensures c.args.bytes.now c.args.script.now c.requires.says in
+    let short = c.requires.short in
+    omega (arith, lines, short)

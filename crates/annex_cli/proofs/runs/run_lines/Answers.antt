@@ -1,10 +1,10 @@
 -- One line more, and after the last none is left.
-use Rattle.std.proofs.Common.{◌+◌, ◌<◌, ◌≤◌, true, [], List, length, drop, Err, sym, ap, ◌∙◌, subst, arith}
+use Rattle.std.proofs.Common.{◌+◌, ◌<◌, ◌≤◌, true, [], List, ◌≡◌, length, drop, Err, sym, ap, ◌∙◌, subst, arith}
 use Rattle.repo_node.specs.Stored.{store_view}
 use Rattle.script_lang.specs.declared.command.Command.{Command}
 use Rattle.fleet_run.specs.declared.stop.FleetStop.TheVariants.{Full}
 use Rattle.annex_cli.specs.Runs.{HasDone, IsRunOf}
-use Rattle.annex_cli.proofs.RunLemmas.{cut_here, done_at_first, done_before, done_next, may_be_done, none_left, stop_is}
+use Rattle.annex_cli.proofs.RunLemmas.{cut_here, done_at_first, done_before, done_next, few_done, may_be_done, none_left, stop_is}
 use Rattle.annex_cli.proofs.runs.run_lines.Goals as goal
 
 pub loop-command-init : goal.loop-command-init
@@ -18,7 +18,10 @@ line-requires g c =
     let i = c.loop-command.command-index in
     let within : i < length all = omega arith in
     let before = done_before _ all i c.command-item.result c.loop-command.fleet within c.command-item.is c.loop-command.invariant in
-    may_be_done _ all c.command-item.result (drop (i + 1) all) c.loop-command.fleet before
+    let done = few_done _ all c.command-item.result (drop (i + 1) all) c.loop-command.fleet before in
+    let same : length all ≡ length c.args.script.now = ap length c.lines-commands.ensures in
+    let few = c.requires.few in
+    record { may = may_be_done _ all c.command-item.result (drop (i + 1) all) c.loop-command.fleet before; few = omega (arith, done, same, few) }
 
 pub loop-command-preserved : goal.loop-command-preserved
 loop-command-preserved g c =
@@ -26,7 +29,7 @@ loop-command-preserved g c =
     let i = c.loop-command.command-index in
     let within : i < length all = omega arith in
     let before = done_before _ all i c.command-item.result c.loop-command.fleet within c.command-item.is c.loop-command.invariant in
-    done_next _ all c.command-item.result (drop (i + 1) all) c.loop-command.fleet before c.only_waits_take_time.ensures c.lines_wait_as_long.ensures c.line.new.self c.in_ok-line.ensures.within c.in_ok-line.ensures.ok
+    done_next _ all c.command-item.result (drop (i + 1) all) c.loop-command.fleet before c.only_waits_take_time.ensures c.lines_wait_as_long.ensures c.runs_are_cut_where_histories_are_full.ensures.marks c.line.new.self c.in_ok-line.ensures.within c.in_ok-line.ensures.ok
 
 pub returns-in_err-line-clause-cut : goal.returns-in_err-line-clause-cut
 returns-in_err-line-clause-cut g c = λ r stops.

@@ -1,13 +1,13 @@
 -- A new fleet stands where the driver begins; after all lines it has the script's run.
 use Rattle.std.proofs.Common.{false, refl, sym, subst}
 use Rattle.run_data.specs.declared.run.Run.{Run}
-use Rattle.driver_script.specs.Given.{given_of}
+use Rattle.driver_script.specs.Given.{driver_input_of}
 use Rattle.annex_cli.specs.Runs.{IsRunOf}
 use Rattle.annex_cli.proofs.RunLemmas.{done_at_last}
 use Rattle.annex_cli.proofs.runs.run_script.Goals as goal
 
 pub run_lines-ended-requires-clause-stands : goal.run_lines-ended-requires-clause-stands
-run_lines-ended-requires-clause-stands c = c.in_ok-fleet.ensures.stands (given_of c.args.script.now) refl (record { decides = c.bytes_are_matched.ensures })
+run_lines-ended-requires-clause-stands c = c.in_ok-fleet.ensures.stands (driver_input_of c.args.script.now) refl (record { decides = c.bytes_are_matched.ensures })
 
 pub returns-in-Ok : goal.returns-in-Ok
 returns-in-Ok c = subst (λ (run : Run). IsRunOf c.args.script.now false run) (sym c.finish-run.ensures) (done_at_last _ c.args.script.now c.run_lines-ended.new.fleet c.in-Ok.ensures.done)

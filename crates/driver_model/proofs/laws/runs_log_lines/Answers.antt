@@ -17,9 +17,21 @@ DoesLog e = LogsWell e.kind e.lines
 pub returns : goal.returns
 returns c = λ run is.
     let laws : Laws = record {
-      finds = c.steps_find_their_cause.ensures;
+      entries = record {
+        finds = c.steps_find_their_cause.ensures;
+        takes = c.own_entries_suit_their_ends.ensures.takes;
+        sends = c.own_entries_suit_their_ends.ensures.sends;
+      };
+      at_hand = c.steps_take_what_is_at_hand.ensures.at_hand;
+      names = record {
+        answers = c.steps_name_their_jobs.ensures.answers;
+        gives = c.steps_name_their_jobs.ensures.gives;
+        goes = c.steps_name_their_jobs.ensures.goes;
+        takes = c.steps_name_their_jobs.ensures.takes;
+      };
       first = c.runs_grow.ensures.first;
       others = c.frames_go_to_others.ensures.sent;
+      same_job = c.running_jobs_stay_the_same.ensures;
       entry = c.runs_grow.ensures.entry;
       tree = c.runs_grow.ensures.tree;
       command = c.runs_grow.ensures.command;

@@ -6,4 +6,10 @@ pub returns-clause-settled : goal.returns-clause-settled
 returns-clause-settled c = bound_not_met
 
 pub returns-clause-idle : goal.returns-clause-idle
-returns-clause-idle c = idle_none
+returns-clause-idle c =
+    idle_none (record {
+      answers = c.steps_name_their_jobs.ensures.answers;
+      gives = c.steps_name_their_jobs.ensures.gives;
+      goes = c.steps_name_their_jobs.ensures.goes;
+      takes = c.steps_name_their_jobs.ensures.takes;
+    })

@@ -12,9 +12,21 @@ use Rattle.driver_model.proofs.steps.drivers_stay_sound.Goals as goal
 pub returns : goal.returns
 returns c =
     let laws : Laws = record {
-      finds = c.steps_find_their_cause.ensures;
+      entries = record {
+        finds = c.steps_find_their_cause.ensures;
+        takes = c.own_entries_suit_their_ends.ensures.takes;
+        sends = c.own_entries_suit_their_ends.ensures.sends;
+      };
+      at_hand = c.steps_take_what_is_at_hand.ensures.at_hand;
+      names = record {
+        answers = c.steps_name_their_jobs.ensures.answers;
+        gives = c.steps_name_their_jobs.ensures.gives;
+        goes = c.steps_name_their_jobs.ensures.goes;
+        takes = c.steps_name_their_jobs.ensures.takes;
+      };
       first = c.runs_grow.ensures.first;
       others = c.frames_go_to_others.ensures.sent;
+      same_job = c.running_jobs_stay_the_same.ensures;
       entry = c.runs_grow.ensures.entry;
       tree = c.runs_grow.ensures.tree;
       command = c.runs_grow.ensures.command;
@@ -26,7 +38,7 @@ returns c =
     } in
     record {
       first = λ g repos. first_holds laws g repos;
-      turn = λ g r d known sound. keeps_turn laws ends_alike g r known d (λ f. sound);
+      turn = λ g r d known sound. keeps_turn laws (ends_alike laws.names) g r known d (λ f. sound);
       has = λ g r key bytes d known content sound. keeps_has laws g r known d key bytes content.0 content.1 (λ f. sound);
       part = λ g r key bytes d known sound. keeps_part laws g r known d key bytes (λ f. sound);
       sets = λ g r kind topic value d known other plain_topic plain_value sound. keeps_line laws g (owed_keys laws) (Set r kind topic value) d (known, other, plain_topic, plain_value) (λ f. sound);

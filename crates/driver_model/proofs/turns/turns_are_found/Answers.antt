@@ -6,4 +6,10 @@ pub returns-clause-idle : goal.returns-clause-idle
 returns-clause-idle c = turn_idle
 
 pub returns-clause-moved : goal.returns-clause-moved
-returns-clause-moved c = turn_found
+returns-clause-moved c g r d m x =
+    turn_found g r d m x (record {
+      answers = c.steps_name_their_jobs.ensures.answers;
+      gives = c.steps_name_their_jobs.ensures.gives;
+      goes = c.steps_name_their_jobs.ensures.goes;
+      takes = c.steps_name_their_jobs.ensures.takes;
+    })

@@ -4,7 +4,7 @@ use Rattle.script_lang.specs.declared.command.Command.{Command}
 use Rattle.script_lang.specs.Script.{no_context}
 use Rattle.script_lang.specs.Standing.{AllStand}
 use Rattle.driver_model.specs.Lines.{Line}
-use Rattle.driver_script.specs.Given.{given_of}
+use Rattle.driver_script.specs.Given.{driver_input_of}
 use Rattle.driver_script.specs.Lines.{lines_of, repos_of}
 use Rattle.driver_script.proofs.DeclaringLemmas.{Declares, all_declare, none_declared}
 use Rattle.driver_script.proofs.StandingLemmas.{all_lines}
@@ -24,4 +24,4 @@ returns-clause-apart c = λ text all lines is. (declared all lines (c.commands_s
 
 pub returns-clause-lines : goal.returns-clause-lines
 returns-clause-lines c = λ text all lines is.
-    all_lines (λ key text. (c.key_texts_have_no_fault.ensures.sound key).1 text) (given_of all) (repos_of all) no_context all lines (omega arith) (c.commands_stand.ensures text all is.says) is.built
+    all_lines (λ key text. (c.key_texts_have_no_fault.ensures.sound key).1 text) (driver_input_of all) (repos_of all) no_context all lines (omega arith) (c.commands_stand.ensures text all is.says) is.built

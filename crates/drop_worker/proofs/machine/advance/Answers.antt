@@ -2,7 +2,7 @@
 use Rattle.std.proofs.Common.{sym, ◌∙◌, subst}
 use Rattle.drop_proof.specs.declared.rule.Side.{Side}
 use Rattle.drop_worker.specs.Leaving.{store}
-use Rattle.drop_worker.specs.Sides.{CanShare, Fits, side_in}
+use Rattle.drop_worker.specs.Sides.{CanShare, FitsSide, side_in}
 use Rattle.drop_worker.specs.Working.{sight}
 use Rattle.drop_worker.proofs.Machines.{local_did, no_target, remote_did, target_apart, target_peer, target_remote}
 use Rattle.drop_worker.proofs.machine.advance.Goals as goal
@@ -12,7 +12,7 @@ step_local-requires-clause-local g c = no_target (side_in c.args.worker.now) c.a
 
 pub step_local-requires-clause-fits : goal.step_local-requires-clause-fits
 step_local-requires-clause-fits g c =
-    subst (λ (s : Side). Fits s c.args.worker.now.phase c.args.worker.now.token)
+    subst (λ (s : Side). FitsSide s c.args.worker.now.phase c.args.worker.now.token)
     (no_target (side_in c.args.worker.now) c.args.worker.now.job.peer (g.H.Here.reading c.args.here.now).repo c.requires.target (sym c.target.ensures ∙ c.in-None.is)) c.requires.fits
 
 pub step_remote-requires-clause-stands : goal.step_remote-requires-clause-stands
@@ -22,7 +22,7 @@ step_remote-requires-clause-stands g c =
     record {
       remote = record { side = is; peer = target_peer (side_in w) w.job.peer c.in-Some.target (sym c.target.ensures ∙ c.in-Some.is) };
       owns = c.requires.owns;
-      fits = subst (λ (s : Side). Fits s w.phase w.token) is c.requires.fits;
+      fits = subst (λ (s : Side). FitsSide s w.phase w.token) is c.requires.fits;
       agrees = (subst (λ (s : Side). CanShare s (g.K.Keeper.records c.args.keeper.now) c.args.table.now.holds c.args.input.now.number) is c.requires.shares).0;
     }
 
@@ -40,7 +40,7 @@ returns-in-None-clause-does g c =
     let w = c.args.worker.now in
     let local = no_target (side_in c.args.worker.now) c.args.worker.now.job.peer (g.H.Here.reading c.args.here.now).repo c.requires.target (sym c.target.ensures ∙ c.in-None.is) in
     local_did (sight (g.H.Here.reading c.args.here.now) (g.H.Here.ends c.args.here.now) c.args.input.now.time c.args.input.now.number) c.args.table.now c.step_local.new.table (store (g.K.Keeper.contents c.args.keeper.now) (g.K.Keeper.records c.args.keeper.now) (g.K.Keeper.faults c.args.keeper.now)) (store (g.K.Keeper.contents c.step_local.new.keeper) (g.K.Keeper.records c.step_local.new.keeper) (g.K.Keeper.faults c.step_local.new.keeper))
-    w c.step_local.new.worker c.args.input.now.taken c.args.input.now.word c.step_local.result local (subst (λ (s : Side). Fits s w.phase w.token) local c.requires.fits) c.step_local.ensures.does
+    w c.step_local.new.worker c.args.input.now.taken c.args.input.now.word c.step_local.result local (subst (λ (s : Side). FitsSide s w.phase w.token) local c.requires.fits) c.step_local.ensures.does
 
 pub returns-in-Some-clause-does : goal.returns-in-Some-clause-does
 returns-in-Some-clause-does g c =

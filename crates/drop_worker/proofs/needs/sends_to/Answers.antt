@@ -1,7 +1,7 @@
 -- The peers, of a state.
 use Rattle.std.proofs.Common.{sym, ◌∙◌, subst}
 use Rattle.drop_proof.specs.declared.rule.Side.{Side}
-use Rattle.drop_worker.specs.Sides.{Fits, side_in}
+use Rattle.drop_worker.specs.Sides.{FitsSide, side_in}
 use Rattle.drop_worker.proofs.Machines.{no_target, target_peer, target_remote}
 use Rattle.drop_worker.proofs.Owings.{needs_so}
 use Rattle.drop_worker.proofs.RemoteOwings.{at_time}
@@ -13,7 +13,7 @@ needed-requires-clause-local g c = no_target (side_in c.args.worker.now) c.args.
 pub needed-requires-clause-fits : goal.needed-requires-clause-fits
 needed-requires-clause-fits g c =
     let w = c.args.worker.now in
-    subst (λ (s : Side). Fits s w.phase w.token) (no_target (side_in w) w.job.peer (g.H.Here.reading c.args.here.now).repo c.requires.target (sym c.target.ensures ∙ c.in-None.is)) c.requires.fits
+    subst (λ (s : Side). FitsSide s w.phase w.token) (no_target (side_in w) w.job.peer (g.H.Here.reading c.args.here.now).repo c.requires.target (sym c.target.ensures ∙ c.in-None.is)) c.requires.fits
 
 pub needed_remotely-requires-clause-remote : goal.needed_remotely-requires-clause-remote
 needed_remotely-requires-clause-remote g c =

@@ -7,7 +7,7 @@ use Rattle.trust_groups.specs.View.{settings_of}
 use Rattle.node_jobs.specs.Calling.{JobMakes}
 use Rattle.node_jobs.specs.Doings.{Acts}
 use Rattle.node_jobs.specs.Reads.{Known}
-use Rattle.node_jobs.specs.Running.{DropJob, HasRead, Stands}
+use Rattle.node_jobs.specs.Running.{DropJob, HasRead, HasReadByPhase}
 use Rattle.node_jobs.proofs.Knowing.{acts_ok, acts_so, knows_logs, knows_read, makes_ok, makes_so}
 use Rattle.node_jobs.proofs.acting.act.Goals as goal
 
@@ -21,7 +21,7 @@ returns-in-Some-clause-acts g c =
     (subst (λ (o : Option Known). IfOk c.advance.result (Acts p c.args.clock c.args.ends.now settings c.args.input.now contents c.args.table.now j (record { worker = c.advance.new.worker; known = o }))) (sym c.in-Some.is)
     (acts_ok p c.args.clock c.args.ends.now settings c.args.input.now contents (g.K.Keeper.contents c.advance.new.keeper) c.args.table.now c.advance.new.table j c.advance.new.worker c.in-Some.known c.advance.result (subst (λ (was : DropJob). drop_side was.worker.job.kind was.worker.job.peer ≡ Local) (sym c.job.view_is) c.requires.side)
     (λ s st place read logs nameless. knows_read s st j c.in-Some.known (subst (HasRead s st j.worker) c.in-Some.is read))
-    (subst (λ (was : DropJob). Stands p was.worker.phase was.known) (sym c.job.view_is) c.requires.stands) c.advance.ensures.does c.advance.ensures.steps))
+    (subst (λ (was : DropJob). HasReadByPhase p was.worker.phase was.known) (sym c.job.view_is) c.requires.stands) c.advance.ensures.does c.advance.ensures.steps))
 
 pub returns-in_ok-out-in-None-clause-acts : goal.returns-in_ok-out-in-None-clause-acts
 returns-in_ok-out-in-None-clause-acts g c =
@@ -34,7 +34,7 @@ returns-in_ok-out-in-None-clause-acts g c =
     c.in_ok-known-in-None.known c.in_ok-out-in-None.out (subst (λ (was : DropJob). drop_side was.worker.job.kind was.worker.job.peer ≡ Local) (sym c.job.view_is) c.requires.side)
     (λ s st place read logs nameless. knows_logs p s st j settings c.in_ok-known-in-None.known place (subst (HasRead s st j.worker) c.in-None.is read) logs nameless c.in_ok-known-in-None.ensures.need
     (rw (c.key.ensures, c.ids.ensures) at c.in_ok-known-in-None.ensures.standings))
-    (subst (λ (was : DropJob). Stands p was.worker.phase was.known) (sym c.job.view_is) c.requires.stands) c.in_ok-out-in-None.ensures.does c.in_ok-out-in-None.ensures.steps)
+    (subst (λ (was : DropJob). HasReadByPhase p was.worker.phase was.known) (sym c.job.view_is) c.requires.stands) c.in_ok-out-in-None.ensures.does c.in_ok-out-in-None.ensures.steps)
 
 pub returns-in-Some-clause-calls : goal.returns-in-Some-clause-calls
 returns-in-Some-clause-calls g c =

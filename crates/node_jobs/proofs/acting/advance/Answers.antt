@@ -1,7 +1,7 @@
 -- The step of a local drop.
 use Rattle.std.proofs.Common.{sym, subst}
 use Rattle.drop_proof.specs.declared.rule.Side.{Side}
-use Rattle.drop_worker.specs.Sides.{CanShare, Fits, HasTarget}
+use Rattle.drop_worker.specs.Sides.{CanShare, FitsSide, HasTarget}
 use Rattle.node_jobs.proofs.Sides.{err_local, steps_local}
 use Rattle.node_jobs.proofs.acting.advance.Goals as goal
 
@@ -9,7 +9,7 @@ pub step-requires-clause-target : goal.step-requires-clause-target
 step-requires-clause-target g c = subst (λ (s : Side). HasTarget s c.args.worker.now.job.peer c.args.place.now.number) (sym c.requires.side) tt
 
 pub step-requires-clause-fits : goal.step-requires-clause-fits
-step-requires-clause-fits g c = subst (λ (s : Side). Fits s c.args.worker.now.phase c.args.worker.now.token) (sym c.requires.side) c.requires.fits
+step-requires-clause-fits g c = subst (λ (s : Side). FitsSide s c.args.worker.now.phase c.args.worker.now.token) (sym c.requires.side) c.requires.fits
 
 pub step-requires-clause-shares : goal.step-requires-clause-shares
 step-requires-clause-shares g c = subst (λ (s : Side). CanShare s (g.K.Keeper.records c.args.keeper.now) c.args.table.now.holds c.args.input.now.number) (sym c.requires.side) tt

@@ -1,13 +1,14 @@
 -- The job out of the list, and back.
 use Rattle.std.proofs.Common.{◌+◌, take, drop, refl, sym, ap, subst, ◌∙◌, arith}
 use Rattle.std.specs.Prelude.{length}
+use Rattle.std.proofs.lemmas.Option.{same_Some}
 use Rattle.content_lock.specs.Rows.{Rows}
 use Rattle.trust_groups.specs.View.{settings_of}
 use Rattle.drop_worker.specs.Worker.{Worker}
 use Rattle.node_jobs.specs.Calling.{JobMakes}
 use Rattle.node_jobs.specs.Changes.{Changes, input_of, job_after}
 use Rattle.node_jobs.specs.Running.{DropJob}
-use Rattle.node_jobs.proofs.Placing.{put_there, same_some, take_len, taken_there}
+use Rattle.node_jobs.proofs.Placing.{put_there, take_len, taken_there}
 use Rattle.node_jobs.proofs.turning.turn.Goals as goal
 
 pub act-requires-clause-told : goal.act-requires-clause-told
@@ -43,4 +44,4 @@ pub returns-in-Ok-clause-calls : goal.returns-in-Ok-clause-calls
 returns-in-Ok-clause-calls g c = λ x there.
     let found = taken_there c.args.running.now.items c.args.found.index c.take_out-job.result c.requires.there c.take_out-job.ensures.was in
     subst (λ (j : DropJob). JobMakes c.args.place.now c.args.clock c.args.ends.now (settings_of c.args.settings.now) (input_of c.args.found.feed c.args.time c.args.number) (g.K.Keeper.contents c.args.keeper.now) c.args.table.now
-    (g.K.Keeper.failing c.args.keeper.now) (g.K.Keeper.failing c.act.new.keeper) j c.in-Ok.out) (same_some c.take_out-job.result x (sym found ∙ there)) c.in-Ok.ensures.calls
+    (g.K.Keeper.failing c.args.keeper.now) (g.K.Keeper.failing c.act.new.keeper) j c.in-Ok.out) (same_Some c.take_out-job.result x (sym found ∙ there)) c.in-Ok.ensures.calls

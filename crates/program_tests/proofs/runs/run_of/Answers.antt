@@ -21,3 +21,9 @@ run_script-requires-clause-run c =
     let law = c.scripts_may_be_driven.ensures in
     let few = law.few c.as_bytes.result.now script lines.0 is in
     record { few = omega (arith, few); each = law.repos c.as_bytes.result.now script lines.0 is; apart = law.apart c.as_bytes.result.now script lines.0 is }
+
+pub run_script-requires-clause-repos : goal.run_script-requires-clause-repos
+run_script-requires-clause-repos c =
+    let script = c.in_ok-script.script in
+    let lines = run_script-requires-clause-lines c in
+    c.scripts_may_be_driven.ensures.few c.as_bytes.result.now script lines.0 (record { says = c.in_ok-script.ensures; built = lines.1 })

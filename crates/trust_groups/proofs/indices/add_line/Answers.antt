@@ -2,7 +2,7 @@
 use Rattle.std.proofs.Common.{sym, ap, subst, ◌∙◌}
 use Rattle.log_lines.specs.Index.{empty_index, index_with}
 use Rattle.trust_groups.specs.Adding.{indices_and}
-use Rattle.trust_groups.specs.Reads.{Indices, Reads, kind_at, lines_with, view_of}
+use Rattle.trust_groups.specs.Reads.{Indices, HaveReadLines, kind_at, lines_with, view_of}
 use Rattle.trust_groups.proofs.KeptLemmas.{ok_then}
 use Rattle.trust_groups.proofs.ReadsLemmas.{known_reads, first_reads}
 use Rattle.trust_groups.proofs.indices.add_line.Goals as goal
@@ -11,7 +11,7 @@ pub returns-then-branch-clause-reads : goal.returns-then-branch-clause-reads
 returns-then-branch-clause-reads c = λ lines reads.
     let path = c.args.path.now in
     let known = c.in_ok-add_known.ensures.known c.if-branch.true in
-    subst (λ (es : Indices). Reads es (lines_with lines path c.args.line.now)) (sym known.2) (known_reads (view_of c.args.files.now.entries) path c.args.line.now known.0 lines known.1 reads)
+    subst (λ (es : Indices). HaveReadLines es (lines_with lines path c.args.line.now)) (sym known.2) (known_reads (view_of c.args.files.now.entries) path c.args.line.now known.0 lines known.1 reads)
 
 pub returns-clause-reads : goal.returns-clause-reads
 returns-clause-reads c =
@@ -19,6 +19,6 @@ returns-clause-reads c =
     let line = c.args.line.now in
     let unknown = c.in_ok-add_known.ensures.unknown c.if-branch.false in
     ok_then c.add_first.result c.add_first.ensures.ok (λ v is lines reads.
-    subst (λ (es : Indices). Reads es (lines_with lines path line))
+    subst (λ (es : Indices). HaveReadLines es (lines_with lines path line))
     (sym (is ∙ ap (λ (es : Indices). indices_and es path (index_with (empty_index (kind_at path)) line)) unknown.1))
     (first_reads (view_of c.args.files.now.entries) path line lines unknown.0 reads))

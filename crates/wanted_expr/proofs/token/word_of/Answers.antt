@@ -1,7 +1,8 @@
 -- What the proof of `token::word_of` needs beside the tactics.
 use Rattle.std.proofs.Common.{rules, ◌≡◌, ◌<◌, ◌++◌, ◌∷◌, [], None, inl, inr, false, ap, length, arith, sym, ◌∙◌}
+use Rattle.std.proofs.lemmas.Bool.{ne_eqb}
 use Rattle.wanted_expr.specs.Pieces.{ends_word, word_at}
-use Rattle.wanted_expr.proofs.TokenLemmas.{differs, word_on}
+use Rattle.wanted_expr.proofs.TokenLemmas.{word_on}
 use Rattle.wanted_expr.proofs.token.word_of.Goals as goal
 use Rattle.wanted_expr.proofs.token.word_of.Goals.{else-is_none-via-then-is_none+else-ends_word, else-is_none-via-else-is_none}
 
@@ -20,5 +21,5 @@ loop-first-preserved c =
       omega (arith, c.loop-first.invariant.0, ap length here),
       inr shorter,
       word_on c.args.total c.loop-first.quote c.in-Some.first.now c.in-Some.after.now c.loop-first.rest.now c.loop-first.word.items c.push.new.self.items (word_at c.args.total None c.args.bytes.now)
-          c.loop-first.invariant.2 here (differs c.in-Some.first.now 34 (λ e. first_of (omega arith, search rules))) goes_on pushed,
+          c.loop-first.invariant.2 here (ne_eqb c.in-Some.first.now 34 (λ e. first_of (omega arith, search rules))) goes_on pushed,
     )

@@ -2,7 +2,10 @@
 use Rattle.repo_node.specs.Stored.{StoreView, store_view}
 use Rattle.driver_model.specs.Rounds.{settles}
 use Rattle.driver_model.specs.ScriptSteps.{begins}
-use Rattle.fleet_run.proofs.Steps.{driven_on, goes_twice}
+use Rattle.fleet_run.specs.Standing.{most_lines}
+use Rattle.fleet_run.proofs.Driving.{driven_on}
+use Rattle.fleet_run.proofs.Few.{begins_few}
+use Rattle.fleet_run.proofs.Steps.{goes_twice}
 use Rattle.fleet_run.proofs.Writing.{on_ok}
 use Rattle.fleet_run.proofs.Ending.{ends_early, ends_late}
 use Rattle.fleet_run.proofs.Full.{rest_then, same_err}
@@ -11,7 +14,7 @@ use Rattle.fleet_run.proofs.running.Running.begins_and_settles.Goals as goal
 pub settles-requires : goal.settles-requires
 settles-requires g c =
     let tells : g.row.K.Denot → StoreView = λ k. store_view (g.K.Keeper.contents k) (g.K.Keeper.parts k) (g.K.Keeper.failing k) (g.K.Keeper.faults k) in
-    record { driven = driven_on tells (λ g d. begins c.args.repo c.args.job.now d) c.args.self.now c.begins.new.self c.requires.driven c.in_ok-begins.ensures.ok }
+    record { driven = driven_on tells most_lines most_lines (λ g d. begins c.args.repo c.args.job.now d) c.args.self.now c.begins.new.self (λ g d. begins_few most_lines c.args.repo c.args.job.now d) c.requires.driven c.in_ok-begins.ensures.ok }
 
 pub returns : goal.returns
 returns g c =

@@ -1,18 +1,19 @@
 -- What the proof of `running::Running::does` needs beside the tactics.
 use Rattle.std.proofs.Common.{length, refl, subst, ◌+◌, ◌≤◌}
+use Rattle.annex_base.proofs.Numbers.{below_more}
 use Rattle.repo_node.specs.Stored.{StoreView, store_view}
 use Rattle.script_lang.specs.declared.command.Command.TheVariants as commands
 use Rattle.driver_model.specs.Lines as driver
 use Rattle.driver_model.specs.Lines.{Raw}
 use Rattle.driver_script.specs.Lines.{is_added, is_local_drop}
-use Rattle.fleet_run.proofs.Commands.{added_kind, added_path, as_form, built_as, built_goes, built_if, file_line, group_lines, has_node, in_time, local_alone, local_drops, mincopies_apart, never_unbuilt, numcopies_apart, quiet_of, quiet_stays, short_content, stands_as, within_as}
+use Rattle.fleet_run.proofs.Commands.{added_kind, added_path, as_form, built_as, built_goes, built_if, file_line, group_lines, in_time, local_alone, local_drops, mincopies_apart, never_unbuilt, numcopies_apart, quiet_of, quiet_stays, short_content, stands_as, within_as}
 use Rattle.fleet_run.proofs.Writing.{on_ok}
 use Rattle.fleet_run.proofs.Cutting.{CutLaws, always_ok, built_ends, cut_as, form_ends, have_cuts, room_had, room_quiet, room_unasked, settle_ends}
 use Rattle.fleet_run.proofs.Full.{ok_or_err}
 use Rattle.fleet_run.proofs.running.Running.does.Goals as goal
 
 pub sets_number-requires-clause-there : goal.sets_number-requires-clause-there
-sets_number-requires-clause-there g c = has_node c.in-Numcopies.repo (length c.requires.may.context.repos) (length c.args.self.now.nodes) (stands_as c.requires.may.context c.args.command.now (commands.Numcopies c.in-Numcopies.repo c.in-Numcopies.number) c.in-Numcopies.is c.requires.may.stands).0 c.requires.may.repos
+sets_number-requires-clause-there g c = below_more c.in-Numcopies.repo (length c.requires.may.context.repos) (length c.args.self.now.nodes) (stands_as c.requires.may.context c.args.command.now (commands.Numcopies c.in-Numcopies.repo c.in-Numcopies.number) c.in-Numcopies.is c.requires.may.stands).0 c.requires.may.repos
 
 pub sets_number-requires-clause-driven : goal.sets_number-requires-clause-driven
 sets_number-requires-clause-driven g c = c.requires.driven
@@ -31,7 +32,7 @@ returns-in-Numcopies g c =
     }
 
 pub sets_number-requires-in-Mincopies-clause-there : goal.sets_number-requires-in-Mincopies-clause-there
-sets_number-requires-in-Mincopies-clause-there g c = has_node c.in-Mincopies.repo (length c.requires.may.context.repos) (length c.args.self.now.nodes) (stands_as c.requires.may.context c.args.command.now (commands.Mincopies c.in-Mincopies.repo c.in-Mincopies.number) c.in-Mincopies.is c.requires.may.stands).0 c.requires.may.repos
+sets_number-requires-in-Mincopies-clause-there g c = below_more c.in-Mincopies.repo (length c.requires.may.context.repos) (length c.args.self.now.nodes) (stands_as c.requires.may.context c.args.command.now (commands.Mincopies c.in-Mincopies.repo c.in-Mincopies.number) c.in-Mincopies.is c.requires.may.stands).0 c.requires.may.repos
 
 pub sets_number-requires-in-Mincopies-clause-driven : goal.sets_number-requires-in-Mincopies-clause-driven
 sets_number-requires-in-Mincopies-clause-driven g c = c.requires.driven
@@ -50,10 +51,10 @@ returns-in-Mincopies g c =
     }
 
 pub sets_level-requires-clause-there : goal.sets_level-requires-clause-there
-sets_level-requires-clause-there g c = has_node c.in-Trust.repo (length c.requires.may.context.repos) (length c.args.self.now.nodes) (stands_as c.requires.may.context c.args.command.now (commands.Trust c.in-Trust.repo c.in-Trust.target c.in-Trust.level) c.in-Trust.is c.requires.may.stands).0 c.requires.may.repos
+sets_level-requires-clause-there g c = below_more c.in-Trust.repo (length c.requires.may.context.repos) (length c.args.self.now.nodes) (stands_as c.requires.may.context c.args.command.now (commands.Trust c.in-Trust.repo c.in-Trust.target c.in-Trust.level) c.in-Trust.is c.requires.may.stands).0 c.requires.may.repos
 
 pub sets_level-requires-clause-target : goal.sets_level-requires-clause-target
-sets_level-requires-clause-target g c = has_node c.in-Trust.target (length c.requires.may.context.repos) (length c.args.self.now.nodes) (stands_as c.requires.may.context c.args.command.now (commands.Trust c.in-Trust.repo c.in-Trust.target c.in-Trust.level) c.in-Trust.is c.requires.may.stands).1 c.requires.may.repos
+sets_level-requires-clause-target g c = below_more c.in-Trust.target (length c.requires.may.context.repos) (length c.args.self.now.nodes) (stands_as c.requires.may.context c.args.command.now (commands.Trust c.in-Trust.repo c.in-Trust.target c.in-Trust.level) c.in-Trust.is c.requires.may.stands).1 c.requires.may.repos
 
 pub sets_level-requires-clause-driven : goal.sets_level-requires-clause-driven
 sets_level-requires-clause-driven g c = c.requires.driven
@@ -69,10 +70,10 @@ returns-in-Trust g c =
     }
 
 pub sets_text-requires-clause-there : goal.sets_text-requires-clause-there
-sets_text-requires-clause-there g c = has_node c.in-Describe.repo (length c.requires.may.context.repos) (length c.args.self.now.nodes) (stands_as c.requires.may.context c.args.command.now (commands.Describe c.in-Describe.repo c.in-Describe.target c.in-Describe.text) c.in-Describe.is c.requires.may.stands).0 c.requires.may.repos
+sets_text-requires-clause-there g c = below_more c.in-Describe.repo (length c.requires.may.context.repos) (length c.args.self.now.nodes) (stands_as c.requires.may.context c.args.command.now (commands.Describe c.in-Describe.repo c.in-Describe.target c.in-Describe.text) c.in-Describe.is c.requires.may.stands).0 c.requires.may.repos
 
 pub sets_text-requires-clause-target : goal.sets_text-requires-clause-target
-sets_text-requires-clause-target g c = has_node c.in-Describe.target (length c.requires.may.context.repos) (length c.args.self.now.nodes) (stands_as c.requires.may.context c.args.command.now (commands.Describe c.in-Describe.repo c.in-Describe.target c.in-Describe.text) c.in-Describe.is c.requires.may.stands).1 c.requires.may.repos
+sets_text-requires-clause-target g c = below_more c.in-Describe.target (length c.requires.may.context.repos) (length c.args.self.now.nodes) (stands_as c.requires.may.context c.args.command.now (commands.Describe c.in-Describe.repo c.in-Describe.target c.in-Describe.text) c.in-Describe.is c.requires.may.stands).1 c.requires.may.repos
 
 pub sets_text-requires-clause-driven : goal.sets_text-requires-clause-driven
 sets_text-requires-clause-driven g c = c.requires.driven
@@ -91,10 +92,10 @@ returns-in-Describe g c =
     }
 
 pub sets_groups-requires-clause-there : goal.sets_groups-requires-clause-there
-sets_groups-requires-clause-there g c = has_node c.in-Group.repo (length c.requires.may.context.repos) (length c.args.self.now.nodes) (stands_as c.requires.may.context c.args.command.now (commands.Group c.in-Group.repo c.in-Group.target c.in-Group.groups) c.in-Group.is c.requires.may.stands).0 c.requires.may.repos
+sets_groups-requires-clause-there g c = below_more c.in-Group.repo (length c.requires.may.context.repos) (length c.args.self.now.nodes) (stands_as c.requires.may.context c.args.command.now (commands.Group c.in-Group.repo c.in-Group.target c.in-Group.groups) c.in-Group.is c.requires.may.stands).0 c.requires.may.repos
 
 pub sets_groups-requires-clause-target : goal.sets_groups-requires-clause-target
-sets_groups-requires-clause-target g c = has_node c.in-Group.target (length c.requires.may.context.repos) (length c.args.self.now.nodes) (stands_as c.requires.may.context c.args.command.now (commands.Group c.in-Group.repo c.in-Group.target c.in-Group.groups) c.in-Group.is c.requires.may.stands).1 c.requires.may.repos
+sets_groups-requires-clause-target g c = below_more c.in-Group.target (length c.requires.may.context.repos) (length c.args.self.now.nodes) (stands_as c.requires.may.context c.args.command.now (commands.Group c.in-Group.repo c.in-Group.target c.in-Group.groups) c.in-Group.is c.requires.may.stands).1 c.requires.may.repos
 
 pub sets_groups-requires-clause-driven : goal.sets_groups-requires-clause-driven
 sets_groups-requires-clause-driven g c = c.requires.driven
@@ -113,7 +114,7 @@ returns-in-Group g c =
     }
 
 pub writes-requires-clause-there : goal.writes-requires-clause-there
-writes-requires-clause-there g c = has_node c.in-Log.repo (length c.requires.may.context.repos) (length c.args.self.now.nodes) (stands_as c.requires.may.context c.args.command.now (commands.Log c.in-Log.repo c.in-Log.file c.in-Log.line) c.in-Log.is c.requires.may.stands).0 c.requires.may.repos
+writes-requires-clause-there g c = below_more c.in-Log.repo (length c.requires.may.context.repos) (length c.args.self.now.nodes) (stands_as c.requires.may.context c.args.command.now (commands.Log c.in-Log.repo c.in-Log.file c.in-Log.line) c.in-Log.is c.requires.may.stands).0 c.requires.may.repos
 
 pub writes-requires-clause-driven : goal.writes-requires-clause-driven
 writes-requires-clause-driven g c = c.requires.driven
@@ -138,7 +139,7 @@ returns-in-Log g c =
     }
 
 pub has-requires-clause-there : goal.has-requires-clause-there
-has-requires-clause-there g c = has_node c.in-Have.repo (length c.requires.may.context.repos) (length c.args.self.now.nodes) (stands_as c.requires.may.context c.args.command.now (commands.Have c.in-Have.repo c.in-Have.key c.in-Have.content) c.in-Have.is c.requires.may.stands).0 c.requires.may.repos
+has-requires-clause-there g c = below_more c.in-Have.repo (length c.requires.may.context.repos) (length c.args.self.now.nodes) (stands_as c.requires.may.context c.args.command.now (commands.Have c.in-Have.repo c.in-Have.key c.in-Have.content) c.in-Have.is c.requires.may.stands).0 c.requires.may.repos
 
 pub has-requires-clause-driven : goal.has-requires-clause-driven
 has-requires-clause-driven g c = c.requires.driven
@@ -163,7 +164,7 @@ returns-in-Have g c =
     }
 
 pub begins_and_settles-requires-clause-there : goal.begins_and_settles-requires-clause-there
-begins_and_settles-requires-clause-there g c = has_node c.in-Run.repo (length c.requires.may.context.repos) (length c.args.self.now.nodes) (stands_as c.requires.may.context c.args.command.now (commands.Run c.in-Run.repo c.in-Run.job) c.in-Run.is c.requires.may.stands).repo c.requires.may.repos
+begins_and_settles-requires-clause-there g c = below_more c.in-Run.repo (length c.requires.may.context.repos) (length c.args.self.now.nodes) (stands_as c.requires.may.context c.args.command.now (commands.Run c.in-Run.repo c.in-Run.job) c.in-Run.is c.requires.may.stands).repo c.requires.may.repos
 
 pub begins_and_settles-requires-clause-driven : goal.begins_and_settles-requires-clause-driven
 begins_and_settles-requires-clause-driven g c = c.requires.driven
@@ -188,7 +189,7 @@ returns-in-Run g c =
     }
 
 pub begins-requires-clause-there : goal.begins-requires-clause-there
-begins-requires-clause-there g c = has_node c.in-Begin.repo (length c.requires.may.context.repos) (length c.args.self.now.nodes) (stands_as c.requires.may.context c.args.command.now (commands.Begin c.in-Begin.repo c.in-Begin.job) c.in-Begin.is c.requires.may.stands).repo c.requires.may.repos
+begins-requires-clause-there g c = below_more c.in-Begin.repo (length c.requires.may.context.repos) (length c.args.self.now.nodes) (stands_as c.requires.may.context c.args.command.now (commands.Begin c.in-Begin.repo c.in-Begin.job) c.in-Begin.is c.requires.may.stands).repo c.requires.may.repos
 
 pub begins-requires-clause-driven : goal.begins-requires-clause-driven
 begins-requires-clause-driven g c = c.requires.driven
@@ -213,7 +214,7 @@ returns-in-Begin g c =
     }
 
 pub turns-requires-clause-there : goal.turns-requires-clause-there
-turns-requires-clause-there g c = has_node c.in-Turn.repo (length c.requires.may.context.repos) (length c.args.self.now.nodes) (stands_as c.requires.may.context c.args.command.now (commands.Turn c.in-Turn.repo c.in-Turn.turns) c.in-Turn.is c.requires.may.stands) c.requires.may.repos
+turns-requires-clause-there g c = below_more c.in-Turn.repo (length c.requires.may.context.repos) (length c.args.self.now.nodes) (stands_as c.requires.may.context c.args.command.now (commands.Turn c.in-Turn.repo c.in-Turn.turns) c.in-Turn.is c.requires.may.stands) c.requires.may.repos
 
 pub turns-requires-clause-driven : goal.turns-requires-clause-driven
 turns-requires-clause-driven g c = c.requires.driven
@@ -242,10 +243,10 @@ returns-in-Settle g c =
     }
 
 pub merges-requires-clause-there : goal.merges-requires-clause-there
-merges-requires-clause-there g c = has_node c.in-Merge.repo (length c.requires.may.context.repos) (length c.args.self.now.nodes) (stands_as c.requires.may.context c.args.command.now (commands.Merge c.in-Merge.repo c.in-Merge.other) c.in-Merge.is c.requires.may.stands).first c.requires.may.repos
+merges-requires-clause-there g c = below_more c.in-Merge.repo (length c.requires.may.context.repos) (length c.args.self.now.nodes) (stands_as c.requires.may.context c.args.command.now (commands.Merge c.in-Merge.repo c.in-Merge.other) c.in-Merge.is c.requires.may.stands).first c.requires.may.repos
 
 pub merges-requires-clause-other : goal.merges-requires-clause-other
-merges-requires-clause-other g c = has_node c.in-Merge.other (length c.requires.may.context.repos) (length c.args.self.now.nodes) (stands_as c.requires.may.context c.args.command.now (commands.Merge c.in-Merge.repo c.in-Merge.other) c.in-Merge.is c.requires.may.stands).second c.requires.may.repos
+merges-requires-clause-other g c = below_more c.in-Merge.other (length c.requires.may.context.repos) (length c.args.self.now.nodes) (stands_as c.requires.may.context c.args.command.now (commands.Merge c.in-Merge.repo c.in-Merge.other) c.in-Merge.is c.requires.may.stands).second c.requires.may.repos
 
 pub merges-requires-clause-driven : goal.merges-requires-clause-driven
 merges-requires-clause-driven g c = c.requires.driven
@@ -261,7 +262,7 @@ returns-in-Merge g c =
     }
 
 pub compacts-requires-clause-there : goal.compacts-requires-clause-there
-compacts-requires-clause-there g c = has_node c.in-Compact.repo (length c.requires.may.context.repos) (length c.args.self.now.nodes) (stands_as c.requires.may.context c.args.command.now (commands.Compact c.in-Compact.repo) c.in-Compact.is c.requires.may.stands) c.requires.may.repos
+compacts-requires-clause-there g c = below_more c.in-Compact.repo (length c.requires.may.context.repos) (length c.args.self.now.nodes) (stands_as c.requires.may.context c.args.command.now (commands.Compact c.in-Compact.repo) c.in-Compact.is c.requires.may.stands) c.requires.may.repos
 
 pub compacts-requires-clause-driven : goal.compacts-requires-clause-driven
 compacts-requires-clause-driven g c = c.requires.driven
@@ -292,7 +293,7 @@ returns-in-Wait g c =
     }
 
 pub fails-requires-clause-there : goal.fails-requires-clause-there
-fails-requires-clause-there g c = has_node c.in-Fail.repo (length c.requires.may.context.repos) (length c.args.self.now.nodes) (stands_as c.requires.may.context c.args.command.now (commands.Fail c.in-Fail.repo c.in-Fail.call) c.in-Fail.is c.requires.may.stands) c.requires.may.repos
+fails-requires-clause-there g c = below_more c.in-Fail.repo (length c.requires.may.context.repos) (length c.args.self.now.nodes) (stands_as c.requires.may.context c.args.command.now (commands.Fail c.in-Fail.repo c.in-Fail.call) c.in-Fail.is c.requires.may.stands) c.requires.may.repos
 
 pub fails-requires-clause-driven : goal.fails-requires-clause-driven
 fails-requires-clause-driven g c = c.requires.driven

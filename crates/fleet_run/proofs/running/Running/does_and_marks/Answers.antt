@@ -1,22 +1,34 @@
 -- What the proof of `running::Running::does_and_marks` needs beside the tactics.
+use Rattle.std.proofs.Common.{length, arith}
 use Rattle.repo_node.specs.Stored.{StoreView, store_view}
 use Rattle.driver_model.specs.Driving.{with_mark}
 use Rattle.fleet_run.specs.Commands.{does_command}
 use Rattle.fleet_run.proofs.Cutting.{meets_none}
 use Rattle.fleet_run.proofs.Full.{few_in, ok_or_err, same_err}
-use Rattle.fleet_run.proofs.Steps.{driven_on, goes_twice}
+use Rattle.fleet_run.specs.Standing.{most_lines}
+use Rattle.fleet_run.proofs.Driving.{driven_within}
+use Rattle.fleet_run.proofs.Marked.{driven_behind, driven_marked}
+use Rattle.fleet_run.proofs.Steps.{goes_twice}
 use Rattle.fleet_run.proofs.running.Running.does_and_marks.Goals as goal
+
+pub does-requires-clause-driven : goal.does-requires-clause-driven
+does-requires-clause-driven g c =
+    let tells : g.row.K.Denot → StoreView = λ k. store_view (g.K.Keeper.contents k) (g.K.Keeper.parts k) (g.K.Keeper.failing k) (g.K.Keeper.faults k) in
+    let few = c.requires.few in
+    driven_within tells (length c.args.self.now.run.marks) most_lines c.args.self.now (omega (arith, few)) c.requires.driven
 
 pub mark-requires : goal.mark-requires
 mark-requires g c =
     let tells : g.row.K.Denot → StoreView = λ k. store_view (g.K.Keeper.contents k) (g.K.Keeper.parts k) (g.K.Keeper.failing k) (g.K.Keeper.faults k) in
-    record { driven = driven_on tells (does_command c.args.command.now) c.args.self.now c.does.new.self c.requires.driven c.in_ok-does.ensures.ok }
+    record { driven = driven_behind tells c.args.command.now c.args.self.now c.does.new.self c.requires.few c.requires.driven c.in_ok-does.ensures.ok }
 
 pub returns : goal.returns
 returns g c =
     let tells : g.row.K.Denot → StoreView = λ k. store_view (g.K.Keeper.contents k) (g.K.Keeper.parts k) (g.K.Keeper.failing k) (g.K.Keeper.faults k) in
+    let goes = goes_twice tells (does_command c.args.command.now) (λ g d. with_mark d) c.args.self.now c.does.new.self c.mark.new.self c.in_ok-does.ensures.ok c.in_ok-mark.ensures.ok in
     record {
-      ok = goes_twice tells (does_command c.args.command.now) (λ g d. with_mark d) c.args.self.now c.does.new.self c.mark.new.self c.in_ok-does.ensures.ok c.in_ok-mark.ensures.ok;
+      ok = goes;
+      marked = driven_marked tells c.args.command.now c.args.self.now c.mark.new.self c.runs_are_cut_where_histories_are_full.ensures.marks c.requires.driven goes;
       within = meets_none tells c.args.command.now c.args.self.now c.does.new.self c.runs_are_cut_where_histories_are_full.ensures.few c.in_ok-does.ensures.room c.in_ok-does.ensures.ok
           (few_in c.self.inside.nodes c.self.inside.run c.does.new.self c.self.view_is c.histories_are_few.ensures);
       full = λ r e. absurd (ok_or_err _ _ e);

@@ -1,25 +1,26 @@
 -- What the proof of `running::Running::round` needs beside the tactics.
-use Rattle.std.proofs.Common.{rules, ℕ, ◌≡◌, ◌<◌, ◌∙◌, ap, length, subst, sym}
+use Rattle.std.proofs.Common.{rules, ℕ, ◌≡◌, ◌<◌, length, refl, subst, sym}
 use Rattle.std.specs.List.{range_with_len}
 use Rattle.repo_node.specs.Stored.{StoreView, store_view}
 use Rattle.driver_model.specs.Rounds.{turns_of}
-use Rattle.fleet_model.specs.Fleets.{FleetView}
+use Rattle.fleet_run.specs.Standing.{most_lines}
 use Rattle.fleet_run.proofs.Driving.{driven_on, one_more_of_round, same_count, whole_round}
 use Rattle.fleet_run.proofs.Ending.{round_ends}
+use Rattle.fleet_run.proofs.Few.{turns_of_few}
 use Rattle.fleet_run.proofs.Full.{rest_then, ok_or_err, same_err}
 use Rattle.fleet_run.proofs.running.Running.round.Goals as goal
 
 pub turn-requires-clause-there : goal.turn-requires-clause-there
 turn-requires-clause-there g c =
     let tells : g.row.K.Denot → StoreView = λ k. store_view (g.K.Keeper.contents k) (g.K.Keeper.parts k) (g.K.Keeper.failing k) (g.K.Keeper.faults k) in
-    let below : c.loop-repo.repo < length c.self.inside.nodes = search rules in
-    subst (λ (n : ℕ). c.loop-repo.repo < n) (ap (λ (f : FleetView g.row.K.Denot). length f.nodes) c.self.view_is
-    ∙ sym (same_count tells (λ given d. turns_of given (range_with_len 0 c.loop-repo.repo) d) c.args.self.now c.loop-repo.self c.requires.driven c.loop-repo.invariant.goes)) below
+    let below : c.loop-repo.repo < length c.args.self.now.nodes = search rules in
+    subst (λ (n : ℕ). c.loop-repo.repo < n) (sym (same_count tells (λ given d. turns_of given (range_with_len 0 c.loop-repo.repo) d) c.args.self.now c.loop-repo.self c.requires.driven c.loop-repo.invariant.goes)) below
 
 pub turn-requires-clause-driven : goal.turn-requires-clause-driven
 turn-requires-clause-driven g c =
     let tells : g.row.K.Denot → StoreView = λ k. store_view (g.K.Keeper.contents k) (g.K.Keeper.parts k) (g.K.Keeper.failing k) (g.K.Keeper.faults k) in
-    driven_on tells (λ given d. turns_of given (range_with_len 0 c.loop-repo.repo) d) c.args.self.now c.loop-repo.self c.requires.driven c.loop-repo.invariant.goes
+    driven_on tells most_lines most_lines (λ given d. turns_of given (range_with_len 0 c.loop-repo.repo) d) c.args.self.now c.loop-repo.self
+    (λ given d. turns_of_few most_lines given (range_with_len 0 c.loop-repo.repo) d) c.requires.driven c.loop-repo.invariant.goes
 
 pub loop-repo-preserved : goal.loop-repo-preserved
 loop-repo-preserved g c =
@@ -32,9 +33,9 @@ loop-repo-preserved g c =
 pub returns : goal.returns
 returns g c =
     let tells : g.row.K.Denot → StoreView = λ k. store_view (g.K.Keeper.contents k) (g.K.Keeper.parts k) (g.K.Keeper.failing k) (g.K.Keeper.faults k) in
-    let all : c.loop-repo.repo ≡ length c.self.inside.nodes = search rules in
+    let all : c.loop-repo.repo ≡ length c.args.self.now.nodes = search rules in
     record {
-      ok = whole_round tells c.loop-repo.repo c.args.self.now c.loop-repo.self (all ∙ ap (λ (f : FleetView g.row.K.Denot). length f.nodes) c.self.view_is) c.loop-repo.invariant.goes;
+      ok = whole_round tells c.loop-repo.repo c.args.self.now c.loop-repo.self all c.loop-repo.invariant.goes;
       full = λ r e. absurd (ok_or_err _ _ e);
       rest = c.loop-repo.invariant.rest;
     }
@@ -42,9 +43,9 @@ returns g c =
 pub returns-in_err-turn-clause-full : goal.returns-in_err-turn-clause-full
 returns-in_err-turn-clause-full g c =
     let tells : g.row.K.Denot → StoreView = λ k. store_view (g.K.Keeper.contents k) (g.K.Keeper.parts k) (g.K.Keeper.failing k) (g.K.Keeper.faults k) in
-    let below : c.loop-repo.repo < length c.self.inside.nodes = search rules in
-    λ r e. round_ends tells r c.loop-repo.repo (length c.self.inside.nodes) c.args.self.now c.loop-repo.self c.turn.new.self c.runs_are_cut_where_histories_are_full.ensures.later c.drivers_only_add.ensures.turn c.fleets_settle.ensures.turn
-    (ap (λ (f : FleetView g.row.K.Denot). length f.nodes) c.self.view_is) below c.loop-repo.invariant.goes (c.turn.ensures.full r (same_err c.turn.result c.from_residual.result c.in_err-turn.field-0.0 _ c.in_err-turn.was c.from_residual.ensures.1 e))
+    let below : c.loop-repo.repo < length c.args.self.now.nodes = search rules in
+    λ r e. round_ends tells r c.loop-repo.repo (length c.args.self.now.nodes) c.args.self.now c.loop-repo.self c.turn.new.self c.runs_are_cut_where_histories_are_full.ensures.later c.drivers_only_add.ensures.turn c.fleets_settle.ensures.turn
+    refl below c.loop-repo.invariant.goes (c.turn.ensures.full r (same_err c.turn.result c.from_residual.result c.in_err-turn.field-0.0 _ c.in_err-turn.was c.from_residual.ensures.1 e))
 
 pub returns-in_err-turn-clause-rest : goal.returns-in_err-turn-clause-rest
 returns-in_err-turn-clause-rest g c = rest_then c.args.self.now c.loop-repo.self c.turn.new.self c.loop-repo.invariant.rest c.turn.ensures.rest

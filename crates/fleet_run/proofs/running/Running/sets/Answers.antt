@@ -11,7 +11,7 @@ use Rattle.repo_node.specs.Stored.{StoreView, store_view}
 use Rattle.fleet_run.proofs.Called.{called, raised_there, seen_as}
 use Rattle.fleet_run.proofs.Growing.{had_at_most, write_grows}
 use Rattle.fleet_run.proofs.Writing.{WritesFiles, never_bundle, on_ok, one_fault, sets_go}
-use Rattle.fleet_run.proofs.Full.{RefusesLines, ends_for, refuses_lines, rest_on, rest_where_same, sets_end}
+use Rattle.fleet_run.proofs.Full.{RefusesLines, ends_for, refuses_lines, rest_on, sets_end}
 use Rattle.driver_model.specs.ScriptSteps.{sets}
 use Rattle.fleet_run.proofs.running.Running.sets.Goals as goal
 
@@ -21,14 +21,14 @@ write_log-done-requires-clause-line g c = λ n at. c.settings_are_lines.ensures 
 pub tell-requires-clause-had : goal.tell-requires-clause-had
 tell-requires-clause-had g c =
     let tells : g.row.K.Denot → StoreView = λ k. store_view (g.K.Keeper.contents k) (g.K.Keeper.parts k) (g.K.Keeper.failing k) (g.K.Keeper.faults k) in
-    had_at_most tells c.args.repo c.in_ok-had.had c.args.self.now (record { nodes = c.self.inside.nodes; run = c.self.inside.run }) c.write_log-done.new.self
-    (seen_as tells c.args.repo c.in_ok-had.had c.args.self.now c.raise.new.self c.self.inside.nodes c.self.inside.run c.self.view_is c.in_ok-had.ensures.ok) c.requires.there
+    had_at_most tells c.args.repo c.raise-had.result c.args.self.now (record { nodes = c.self.inside.nodes; run = c.self.inside.run }) c.write_log-done.new.self
+    (seen_as tells c.args.repo c.raise-had.result c.args.self.now c.raise-had.new.self c.self.inside.nodes c.self.inside.run c.self.view_is c.raise-had.ensures) c.requires.there
     (λ n m at_n at_m. write_grows c.write_log-done.result n m (Of c.args.kind) (line_text c.args.kind (stamped_by n c.args.kind None (record { topic = c.args.topic; stamp = None; value = c.args.value })) ∷ []) (c.write_log-done.ensures.ok n m at_n at_m) (c.write_log-done.ensures.err n m at_n at_m))
 
 pub after_step-requires : goal.after_step-requires
 after_step-requires g c =
     let tells : g.row.K.Denot → StoreView = λ k. store_view (g.K.Keeper.contents k) (g.K.Keeper.parts k) (g.K.Keeper.failing k) (g.K.Keeper.faults k) in
-    let there = raised_there tells c.args.repo c.in_ok-had.had c.args.self.now c.raise.new.self c.self.inside.nodes c.self.inside.run c.self.view_is c.in_ok-had.ensures.ok c.requires.there in
+    let there = raised_there tells c.args.repo c.raise-had.result c.args.self.now c.raise-had.new.self c.self.inside.nodes c.self.inside.run c.self.view_is c.raise-had.ensures c.requires.there in
     record { bundle = never_bundle c.args.repo c.self.inside.nodes c.write_log-done.new.self c.write_log-done.result (λ e n m. RefusesSo e calls.PutFile n m) (λ at n m h. h) there c.write_log-done.ensures.count c.write_log-done.ensures.err }
 
 pub returns : goal.returns
@@ -37,9 +37,9 @@ returns g c =
     record {
       ok = on_ok c.after_step.result _ _ c.after_step.ensures.ok (λ ended.
           sets_go tells c.args.repo c.args.self.now (record { nodes = c.self.inside.nodes; run = c.self.inside.run }) c.tell.new.self c.args.kind c.args.topic c.args.value c.write_log-done.result (c.fleets_do_lines.ensures.setting tells) c.requires.there
-          (called tells c.args.repo c.in_ok-had.had c.args.self.now c.raise.new.self c.self.inside.nodes c.write_log-done.new.self c.self.inside.run c.tell.new.self
+          (called tells c.args.repo c.raise-had.result c.args.self.now c.raise-had.new.self c.self.inside.nodes c.write_log-done.new.self c.self.inside.run c.tell.new.self
           (WritesFiles tells (λ n. to_log n (Of c.args.kind) (line_text c.args.kind (stamped_by n c.args.kind None (record { topic = c.args.topic; stamp = None; value = c.args.value })) ∷ [])) (λ n m. m ≡ with_lines n m.keeper (Of c.args.kind) (line_text c.args.kind (stamped_by n c.args.kind None (record { topic = c.args.topic; stamp = None; value = c.args.value })) ∷ [])) c.write_log-done.result)
-          c.self.view_is c.in_ok-had.ensures.ok c.write_log-done.ensures.others c.write_log-done.ensures.count
+          c.self.view_is c.raise-had.ensures c.write_log-done.ensures.others c.write_log-done.ensures.count
           (λ n m at_n at_m. record {
             ok = c.write_log-done.ensures.ok n m at_n at_m;
             fault = one_fault (g.K.Keeper.failing n.keeper) c.write_log-done.result n m (c.write_log-done.ensures.err n m at_n at_m);
@@ -52,17 +52,14 @@ returns g c =
       full = λ r e. let full = c.after_step.ensures.full r e in
           ends_for tells c.args.repo r (λ given d. sets given c.args.repo c.args.kind c.args.topic c.args.value d) c.args.self.now c.tell.new.self full.0
           (sets_end tells c.args.repo c.args.self.now (record { nodes = c.self.inside.nodes; run = c.self.inside.run }) c.tell.new.self c.args.kind c.args.topic c.args.value (c.fleets_stop_at_full_histories.ensures.setting tells) c.requires.there
-          (called tells c.args.repo c.in_ok-had.had c.args.self.now c.raise.new.self c.self.inside.nodes c.write_log-done.new.self c.self.inside.run c.tell.new.self
+          (called tells c.args.repo c.raise-had.result c.args.self.now c.raise-had.new.self c.self.inside.nodes c.write_log-done.new.self c.self.inside.run c.tell.new.self
           (λ n m. RefusesLines (Of c.args.kind) (line_text c.args.kind (stamped_by n c.args.kind None (record { topic = c.args.topic; stamp = None; value = c.args.value })) ∷ []) n m)
-          c.self.view_is c.in_ok-had.ensures.ok c.write_log-done.ensures.others c.write_log-done.ensures.count
+          c.self.view_is c.raise-had.ensures c.write_log-done.ensures.others c.write_log-done.ensures.count
           (λ n m at_n at_m. refuses_lines c.write_log-done.result n m (Of c.args.kind) (line_text c.args.kind (stamped_by n c.args.kind None (record { topic = c.args.topic; stamp = None; value = c.args.value })) ∷ []) full.1 (c.write_log-done.ensures.err n m at_n at_m) (c.write_log-done.ensures.full n m at_n at_m))
           c.in_ok-tell.ensures.ok)
           (c.after_step.ensures.few r e));
-      rest = rest_on c.args.self.now c.raise.new.self c.self.inside.nodes c.write_log-done.new.self c.self.inside.run c.tell.new.self c.self.view_is c.raise.ensures.run c.tell.ensures.rest;
+      rest = rest_on c.args.self.now c.raise-had.new.self c.self.inside.nodes c.write_log-done.new.self c.self.inside.run c.tell.new.self c.self.view_is c.raise-had.ensures.run c.tell.ensures.rest;
     }
 
-pub returns-in_err-had-clause-rest : goal.returns-in_err-had-clause-rest
-returns-in_err-had-clause-rest g c = rest_where_same c.args.self.now c.raise.new.self c.raise.ensures.run
-
 pub returns-in_err-tell-clause-rest : goal.returns-in_err-tell-clause-rest
-returns-in_err-tell-clause-rest g c = rest_on c.args.self.now c.raise.new.self c.self.inside.nodes c.write_log-done.new.self c.self.inside.run c.tell.new.self c.self.view_is c.raise.ensures.run c.tell.ensures.rest
+returns-in_err-tell-clause-rest g c = rest_on c.args.self.now c.raise-had.new.self c.self.inside.nodes c.write_log-done.new.self c.self.inside.run c.tell.new.self c.self.view_is c.raise-had.ensures.run c.tell.ensures.rest

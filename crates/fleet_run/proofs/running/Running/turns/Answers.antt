@@ -2,9 +2,10 @@
 use Rattle.std.proofs.Common.{rules, subst, sym, ℕ, ◌<◌, ◌≡◌}
 use Rattle.repo_node.specs.Stored.{StoreView, store_view}
 use Rattle.driver_model.specs.Driving.{turns}
-use Rattle.fleet_run.specs.Standing.{GoesOn}
-use Rattle.fleet_run.proofs.Driving.{driven_on, no_turns, one_more_turn, same_count}
+use Rattle.fleet_run.specs.Standing.{GoesOn, most_lines}
+use Rattle.fleet_run.proofs.Driving.{driven_on, one_more_turn, same_count}
 use Rattle.fleet_run.proofs.Ending.{turns_end}
+use Rattle.fleet_run.proofs.Few.{turns_few}
 use Rattle.fleet_run.proofs.Full.{rest_then, ok_or_err, same_err}
 use Rattle.fleet_run.proofs.running.Running.turns.Goals as goal
 
@@ -16,7 +17,7 @@ turn-requires-clause-there g c =
 pub turn-requires-clause-driven : goal.turn-requires-clause-driven
 turn-requires-clause-driven g c =
     let tells : g.row.K.Denot → StoreView = λ k. store_view (g.K.Keeper.contents k) (g.K.Keeper.parts k) (g.K.Keeper.failing k) (g.K.Keeper.faults k) in
-    driven_on tells (λ given d. turns given c.args.repo c.loop.counter d) c.args.self.now c.loop.self c.requires.driven c.loop.invariant.goes
+    driven_on tells most_lines most_lines (λ given d. turns given c.args.repo c.loop.counter d) c.args.self.now c.loop.self (λ given d. turns_few most_lines given c.args.repo c.loop.counter d) c.requires.driven c.loop.invariant.goes
 
 pub loop-preserved : goal.loop-preserved
 loop-preserved g c =

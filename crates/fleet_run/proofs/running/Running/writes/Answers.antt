@@ -9,21 +9,21 @@ use Rattle.repo_node.specs.Stored.{StoreView, store_view}
 use Rattle.fleet_run.proofs.Called.{called, raised_there, seen_as}
 use Rattle.fleet_run.proofs.Growing.{had_at_most, write_grows}
 use Rattle.fleet_run.proofs.Writing.{WritesFiles, never_bundle, on_ok, one_fault, writes_go_so}
-use Rattle.fleet_run.proofs.Full.{RefusesLines, ends_for, refuses_lines, rest_on, rest_where_same, writes_end_so}
+use Rattle.fleet_run.proofs.Full.{RefusesLines, ends_for, refuses_lines, rest_on, writes_end_so}
 use Rattle.driver_model.specs.ScriptSteps.{writes}
 use Rattle.fleet_run.proofs.running.Running.writes.Goals as goal
 
 pub tell-requires-clause-had : goal.tell-requires-clause-had
 tell-requires-clause-had g c =
     let tells : g.row.K.Denot → StoreView = λ k. store_view (g.K.Keeper.contents k) (g.K.Keeper.parts k) (g.K.Keeper.failing k) (g.K.Keeper.faults k) in
-    had_at_most tells c.args.repo c.in_ok-had.had c.args.self.now (record { nodes = c.self-2.inside.nodes; run = c.self-2.inside.run }) c.write_raw-done.new.self
-    (seen_as tells c.args.repo c.in_ok-had.had c.args.self.now c.raise.new.self c.self-2.inside.nodes c.self-2.inside.run c.self-2.view_is c.in_ok-had.ensures.ok) c.requires.there
+    had_at_most tells c.args.repo c.raise-had.result c.args.self.now (record { nodes = c.self-2.inside.nodes; run = c.self-2.inside.run }) c.write_raw-done.new.self
+    (seen_as tells c.args.repo c.raise-had.result c.args.self.now c.raise-had.new.self c.self-2.inside.nodes c.self-2.inside.run c.self-2.view_is c.raise-had.ensures) c.requires.there
     (λ n m at_n at_m. write_grows c.write_raw-done.result n m (file_of c.bytes.result.now) (c.bytes-2.result.now ∷ []) (c.write_raw-done.ensures.ok n m at_n at_m) (c.write_raw-done.ensures.err n m at_n at_m))
 
 pub after_step-requires : goal.after_step-requires
 after_step-requires g c = record {
   bundle = never_bundle c.args.repo c.self-2.inside.nodes c.write_raw-done.new.self c.write_raw-done.result (λ e n m. RefusesSo e calls.PutFile n m) (λ at n m h. h)
-      (raised_there (λ k. store_view (g.K.Keeper.contents k) (g.K.Keeper.parts k) (g.K.Keeper.failing k) (g.K.Keeper.faults k)) c.args.repo c.in_ok-had.had c.args.self.now c.raise.new.self c.self-2.inside.nodes c.self-2.inside.run c.self-2.view_is c.in_ok-had.ensures.ok c.requires.there)
+      (raised_there (λ k. store_view (g.K.Keeper.contents k) (g.K.Keeper.parts k) (g.K.Keeper.failing k) (g.K.Keeper.faults k)) c.args.repo c.raise-had.result c.args.self.now c.raise-had.new.self c.self-2.inside.nodes c.self-2.inside.run c.self-2.view_is c.raise-had.ensures c.requires.there)
       c.write_raw-done.ensures.count c.write_raw-done.ensures.err;
 }
 
@@ -36,9 +36,9 @@ returns g c =
           c.args.file.now (file_of c.bytes.result.now) c.args.line.now c.bytes-2.result.now c.write_raw-done.result
           (ap file_of (c.bytes.ensures ∙ c.in_ok-path.ensures.value) ∙ c.files_have_their_paths.ensures.file c.args.file.now c.requires.file c.requires.kind) c.bytes-2.ensures
           (c.fleets_do_lines.ensures.line tells) c.requires.there
-          (called tells c.args.repo c.in_ok-had.had c.args.self.now c.raise.new.self c.self-2.inside.nodes c.write_raw-done.new.self c.self-2.inside.run c.tell.new.self
+          (called tells c.args.repo c.raise-had.result c.args.self.now c.raise-had.new.self c.self-2.inside.nodes c.write_raw-done.new.self c.self-2.inside.run c.tell.new.self
           (WritesFiles tells (λ n. to_log n (file_of c.bytes.result.now) (c.bytes-2.result.now ∷ [])) (λ n m. m ≡ with_lines n m.keeper (file_of c.bytes.result.now) (c.bytes-2.result.now ∷ [])) c.write_raw-done.result)
-          c.self-2.view_is c.in_ok-had.ensures.ok c.write_raw-done.ensures.others c.write_raw-done.ensures.count
+          c.self-2.view_is c.raise-had.ensures c.write_raw-done.ensures.others c.write_raw-done.ensures.count
           (λ n m at_n at_m. record {
             ok = c.write_raw-done.ensures.ok n m at_n at_m;
             fault = one_fault (g.K.Keeper.failing n.keeper) c.write_raw-done.result n m (c.write_raw-done.ensures.err n m at_n at_m);
@@ -54,17 +54,14 @@ returns g c =
           c.args.file.now (file_of c.bytes.result.now) c.args.line.now c.bytes-2.result.now
           (ap file_of (c.bytes.ensures ∙ c.in_ok-path.ensures.value) ∙ c.files_have_their_paths.ensures.file c.args.file.now c.requires.file c.requires.kind) c.bytes-2.ensures
           (c.fleets_stop_at_full_histories.ensures.line tells) c.requires.there
-          (called tells c.args.repo c.in_ok-had.had c.args.self.now c.raise.new.self c.self-2.inside.nodes c.write_raw-done.new.self c.self-2.inside.run c.tell.new.self
+          (called tells c.args.repo c.raise-had.result c.args.self.now c.raise-had.new.self c.self-2.inside.nodes c.write_raw-done.new.self c.self-2.inside.run c.tell.new.self
           (RefusesLines (file_of c.bytes.result.now) (c.bytes-2.result.now ∷ []))
-          c.self-2.view_is c.in_ok-had.ensures.ok c.write_raw-done.ensures.others c.write_raw-done.ensures.count
+          c.self-2.view_is c.raise-had.ensures c.write_raw-done.ensures.others c.write_raw-done.ensures.count
           (λ n m at_n at_m. refuses_lines c.write_raw-done.result n m (file_of c.bytes.result.now) (c.bytes-2.result.now ∷ []) full.1 (c.write_raw-done.ensures.err n m at_n at_m) (c.write_raw-done.ensures.full n m at_n at_m))
           c.in_ok-tell.ensures.ok)
           (c.after_step.ensures.few r e));
-      rest = rest_on c.args.self.now c.raise.new.self c.self-2.inside.nodes c.write_raw-done.new.self c.self-2.inside.run c.tell.new.self c.self-2.view_is c.raise.ensures.run c.tell.ensures.rest;
+      rest = rest_on c.args.self.now c.raise-had.new.self c.self-2.inside.nodes c.write_raw-done.new.self c.self-2.inside.run c.tell.new.self c.self-2.view_is c.raise-had.ensures.run c.tell.ensures.rest;
     }
 
-pub returns-in_err-had-clause-rest : goal.returns-in_err-had-clause-rest
-returns-in_err-had-clause-rest g c = rest_where_same c.args.self.now c.raise.new.self c.raise.ensures.run
-
 pub returns-in_err-tell-clause-rest : goal.returns-in_err-tell-clause-rest
-returns-in_err-tell-clause-rest g c = rest_on c.args.self.now c.raise.new.self c.self-2.inside.nodes c.write_raw-done.new.self c.self-2.inside.run c.tell.new.self c.self-2.view_is c.raise.ensures.run c.tell.ensures.rest
+returns-in_err-tell-clause-rest g c = rest_on c.args.self.now c.raise-had.new.self c.self-2.inside.nodes c.write_raw-done.new.self c.self-2.inside.run c.tell.new.self c.self-2.view_is c.raise-had.ensures.run c.tell.ensures.rest
