@@ -186,28 +186,28 @@ def table(title, rows, timed=run_time):
 
 
 def doublings(title, sizes, script, before=None):
-    """A table of sizes that double each time, and how many of the doublings took more than 2.2 times as long, of those whose run
-    takes ten milliseconds or more; and how long one of the last took, beside a script without them."""
+    """A table of sizes that double each time, but for the last, and how many steps took more than 1.1 times as much more time as
+    there was more to do (2.2 times for a doubling), of those whose run takes ten milliseconds or more; and how long one of the last
+    took, beside a script without them."""
     times = table(title, [(n, n, script(n)) for n in sizes])
-    pairs = [(sooner, later) for sooner, later in zip(times, times[1:]) if sooner >= 0.01]
-    slow = sum(later > 2.2 * sooner for sooner, later in pairs)
-    print("  doublings that took more than 2.2 times as long: %d of %d" % (slow, len(pairs)))
+    steps = [(after / n, later / sooner) for n, after, sooner, later in zip(sizes, sizes[1:], times, times[1:]) if sooner >= 0.01]
+    slow = sum(time > 1.1 * work for work, time in steps)
+    print("  steps that took more than 1.1 times as much more time as there was more to do: %d of %d" % (slow, len(steps)))
     if before:
         print("  each: %.1f microseconds" % (1_000_000 * (times[-1] - run_time(before(sizes[-1]))) / sizes[-1]))
     print()
 
 
 def doubled(first, last):
-    """The first size, twice that, and so on, up to the last."""
-    return list(itertools.takewhile(lambda size: size <= last, (first << n for n in itertools.count())))
+    """The first size, twice that, and so on, and then the last."""
+    return list(itertools.takewhile(lambda size: size < last, (first << n for n in itertools.count()))) + [last]
 
 
 def runs():
-    """Whole runs of drops by messages, and of settles."""
+    """Whole runs of drops by messages, and of settles: as many keys as the bytes of a script have room for, and 4,000 jobs."""
     for repos in (2, 4, 8):
         at = "at %d repositories" % repos
-        keys = doubled(10, 36_000 // repos)
-        jobs = [n for n in keys if n <= 4_000]
+        keys, jobs = doubled(10, 36_000 // repos), doubled(10, 4_000)
         doublings("keys, each placed %s and merged" % at, keys, lambda n: copies(repos, n))
         doublings("drops, one after the other, %s" % at, jobs, lambda n: asking_drops(repos, n), lambda n: copies(repos, n))
         doublings("drops, four at once %s, and settles" % at, jobs, lambda n: settles(repos, n), lambda n: copies(repos, n))
