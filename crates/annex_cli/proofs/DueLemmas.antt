@@ -10,7 +10,6 @@ use Rattle.script_lang.specs.declared.fault.Quantity.{Quantity}
 use Rattle.script_lang.specs.Limits.{limit_of, quantity_name}
 use Rattle.script_lang.specs.Script.{Reading, Commands, BadLine, PastLimit, reading}
 use Rattle.run_data.specs.Histories.{most_entries}
-use Rattle.driver_model.specs.Driving.{run_of}
 use Rattle.driver_model.specs.Limits.{limited_run}
 use Rattle.driver_model.specs.Lines.{Line}
 use Rattle.driver_script.specs.Given.{driver_input_of}
@@ -69,7 +68,7 @@ module _ (x : HaveOneReading) (bytes t t' : List ℕ) where
       ap (λ s. P s lines) same.0 ∙ ap (P other) same.1
 
   one_report : IsReport bytes t → IsReport bytes t' → t ≡ t'
-  one_report d d' = d.text_is ∙ one_script d.script d'.script d.lines d'.lines d.is_script d'.is_script (λ script lines. report script (run_of (driver_input_of script) lines)) ∙ sym d'.text_is
+  one_report d d' = d.text_is ∙ one_script d.script d'.script d.lines d'.lines d.is_script d'.is_script (λ script lines. report script (limited_run (driver_input_of script) lines).run) ∙ sym d'.text_is
 
   one_complaint : (IsComplaint bytes t ⊎ IsMissing bytes t) → (IsComplaint bytes t' ⊎ IsMissing bytes t') → t ≡ t'
   one_complaint (inl d) (inl d') = d.text_is ∙ one_place (reading bytes) d.line d.byte d'.line d'.byte d.bad d'.bad ∙ sym d'.text_is
@@ -194,7 +193,7 @@ module _ (x : HaveOneReading) (bytes text : List ℕ) (s : Status) (left left' t
   due_answered Usage a r w = absurd a
 
 -- for a script whose run is whole its report is due
-pub due_report : (bytes : List ℕ) (script : List Command) (lines : List Line) → length bytes ≤ script_limit → IsScript bytes script lines → (limited_run (driver_input_of script) lines).is_cut ≡ false → IsDue bytes Done (report script (run_of (driver_input_of script) lines))
+pub due_report : (bytes : List ℕ) (script : List Command) (lines : List Line) → length bytes ≤ script_limit → IsScript bytes script lines → (limited_run (driver_input_of script) lines).is_cut ≡ false → IsDue bytes Done (report script (limited_run (driver_input_of script) lines).run)
 due_report bytes script lines short is whole = record { short = short; script = script; lines = lines; is_script = is; whole = whole; text_is = refl }
 
 -- and for one whose run is cut the report up to there, and the limit

@@ -11,7 +11,6 @@ use Rattle.script_lang.specs.declared.fault.Quantity.{Quantity}
 use Rattle.script_lang.specs.Script.{reading, BadLine, Commands, PastLimit, no_context}
 use Rattle.script_lang.specs.Standing.{AllStand}
 use Rattle.driver_model.specs.Driver.{Driver, DriverInput}
-use Rattle.driver_model.specs.Driving.{run_of}
 use Rattle.driver_model.specs.Limits.{LimitedRun, drives_to_limit, limited_run, meets_limit}
 use Rattle.driver_model.specs.Lines.{Line}
 use Rattle.driver_script.specs.Given.{driver_input_of}
@@ -45,10 +44,6 @@ pub record Laws : Type 0 where
   pub safe : (run : Run) → runs.IsRun run → IsSafe run
   pub causes : (run : Run) → runs.IsRun run → HasCauses run
 
--- where no line meets a full history, the run is the driver's
-abbrev pub WholeLaw : Type 0
-WholeLaw = (g : DriverInput) (lines : List Line) → (limited_run g lines).is_cut ≡ false → (limited_run g lines).run ≡ run_of g lines
-
 module _ (bytes : List ℕ) (script : List Command) (is_cut : Bool) (run : Run) (says : reading bytes ≡ Commands script) (r : IsRunOf script is_cut run) where
   script_is : IsScript bytes script r.lines
   script_is = record { says = says; built = r.are }
@@ -75,17 +70,15 @@ module _ (bytes : List ℕ) (script : List Command) (is_cut : Bool) (run : Run) 
   run_shows_known stand = subst (λ n. Each (ShowsKnown n) script) (ap length run_has_repos) (script_shows_known script stand)
 
   -- the report of it is due, where it isn't cut
-  pub whole_is_due : (text : List ℕ) → length bytes ≤ script_limit → WholeLaw → is_cut ≡ false → text ≡ report script run → IsReport bytes text
-  whole_is_due text short law whole text_is =
-      let whole_run = cut_is ∙ whole in
-      record {
-        short = short;
-        script = script;
-        lines = r.lines;
-        is_script = script_is;
-        whole = whole_run;
-        text_is = text_is ∙ ap (report script) (sym run_is ∙ law (driver_input_of script) r.lines whole_run);
-      }
+  pub whole_is_due : (text : List ℕ) → length bytes ≤ script_limit → is_cut ≡ false → text ≡ report script run → IsReport bytes text
+  whole_is_due text short whole text_is = record {
+    short = short;
+    script = script;
+    lines = r.lines;
+    is_script = script_is;
+    whole = cut_is ∙ whole;
+    text_is = text_is ∙ ap (report script) (sym run_is);
+  }
 
   -- and with the limit, where it is
   pub cut_is_due : (text : List ℕ) → length bytes ≤ script_limit → is_cut ≡ true → text ≡ report script run ++ limit_text entries_name most_entries → IsCutReport bytes text

@@ -12,7 +12,6 @@ use Rattle.script_lang.specs.declared.command.Command.{Command}
 use Rattle.script_lang.specs.declared.fault.Quantity.{Quantity}
 use Rattle.script_lang.specs.Limits.{quantity_name, limit_of}
 use Rattle.script_lang.specs.Script.{reading, BadLine, PastLimit}
-use Rattle.driver_model.specs.Driving.{run_of}
 use Rattle.driver_model.specs.Limits.{limited_run}
 use Rattle.driver_model.specs.Lines.{Line}
 use Rattle.driver_script.specs.Given.{driver_input_of}
@@ -40,14 +39,15 @@ pub record IsGood (run : Run) : Type 0 where
 abbrev pub HasGoodRun : List ℕ → Type 0
 HasGoodRun bytes = (script : List Command) (lines : List Line) → IsScript bytes script lines → IsGood (limited_run (driver_input_of script) lines).run
 
--- the bytes are a script whose forms are all built; no line meets a full history, and the text is the report of its run
+-- The bytes are a script whose forms are all built; no line meets a full history, and the text is the report of its run. A run that
+-- isn't cut is the whole one, `run_of` (law `whole` of `driver_model::runs_are_cut_where_histories_are_full`).
 pub record IsReport (bytes text : List ℕ) : Type 0 where
   pub short : length bytes ≤ script_limit
   pub script : List Command
   pub lines : List Line
   pub is_script : IsScript bytes script lines
   pub whole : (limited_run (driver_input_of script) lines).is_cut ≡ false
-  pub text_is : text ≡ report script (run_of (driver_input_of script) lines)
+  pub text_is : text ≡ report script (limited_run (driver_input_of script) lines).run
 
 -- the line that names a place of a script
 abbrev pub place_text : ℕ → ℕ → List ℕ

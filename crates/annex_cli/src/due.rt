@@ -12,7 +12,7 @@ use crate::runs::{ENTRY_LIMIT, Ran, run_script};
 use crate::status::Status;
 use crate::whole::SCRIPT_LIMIT;
 use annex_base::{NoMemory, put_number};
-use driver_model::{runs_are_cut_where_histories_are_full, runs_log_lines};
+use driver_model::runs_log_lines;
 use driver_script::{
     first_missing, scripts_are_built_or_not, scripts_may_be_driven,
     scripts_without_a_missing_form_have_lines,
@@ -98,7 +98,6 @@ fn report_due(alloc: Global, _bytes: &[u8], script: &Script, ran: &Ran) -> Resul
     runs_are_safe();
     refusals_have_causes();
     runs_log_lines();
-    runs_are_cut_where_histories_are_full();
     let commands = script.lines();
     let mut text = report(alloc, commands, &ran.run)?;
     if ran.is_cut {

@@ -7,7 +7,6 @@ ghost use Rattle.annex_base.specs.Causes.{Rose};
 ghost use Rattle.script_lang.specs.declared.command.Command.{Command};
 ghost use Rattle.script_lang.specs.Script.{reading, Commands};
 ghost use Rattle.run_data.specs.Histories.{most_entries};
-ghost use Rattle.driver_model.specs.Driving.{run_of};
 ghost use Rattle.driver_model.specs.Limits.{limited_run};
 ghost use Rattle.driver_model.specs.Lines.{Line};
 ghost use Rattle.driver_script.specs.Given.{driver_input_of};
@@ -66,7 +65,7 @@ pub fn annex<R: Threads + Wait + Sync, S: Source, K: Sink, G: Gate>(
     ensures reported { (bytes : List ℕ) (script : List Command) (lines : List Line) → IsRunCommand (map string_bytes words.now) → S.left source.old ≡ Some bytes
         → length bytes ≤ script_limit → reading bytes ≡ Commands script → AreLines script lines → (limited_run (driver_input_of script) lines).is_cut ≡ false
         → (Rose (S.faults source.old) (S.faults source.new) → ⊥) → (Rose (K.faults sink.old) (K.faults sink.new) → ⊥)
-        → EndsWith Status.Done (report script (run_of (driver_input_of script) lines)) (K.taken sink.old) (K.taken sink.new) result }
+        → EndsWith Status.Done (report script (limited_run (driver_input_of script) lines).run) (K.taken sink.old) (K.taken sink.new) result }
     ensures cut { (bytes : List ℕ) (script : List Command) (lines : List Line) → IsRunCommand (map string_bytes words.now) → S.left source.old ≡ Some bytes
         → length bytes ≤ script_limit → reading bytes ≡ Commands script → AreLines script lines → (limited_run (driver_input_of script) lines).is_cut ≡ true
         → (Rose (S.faults source.old) (S.faults source.new) → ⊥) → (Rose (K.faults sink.old) (K.faults sink.new) → ⊥)

@@ -1,7 +1,6 @@
 -- What is answered is the one thing that is due.
 use Rattle.std.proofs.Common.{◌++◌}
 use Rattle.run_data.specs.Histories.{most_entries}
-use Rattle.driver_model.specs.Driving.{run_of}
 use Rattle.driver_model.specs.Limits.{limited_run}
 use Rattle.driver_script.specs.Given.{driver_input_of}
 use Rattle.report_text.specs.Report.{report}
@@ -18,7 +17,7 @@ returns-clause-due g c = λ bytes text status words left due read write.
 
 pub returns-clause-reported : goal.returns-clause-reported
 returns-clause-reported g c = λ bytes script lines words left short says built whole read write.
-    returns-clause-due g c bytes (report script (run_of (driver_input_of script) lines)) _ words left
+    returns-clause-due g c bytes (report script (limited_run (driver_input_of script) lines).run) _ words left
     (due_report bytes script lines short (record { says = says; built = built }) whole) read write
 
 pub returns-clause-cut : goal.returns-clause-cut

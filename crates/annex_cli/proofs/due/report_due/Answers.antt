@@ -47,7 +47,7 @@ returns-then-ran-clause-good c =
 pub returns-clause-due : goal.returns-clause-due
 returns-clause-due c =
     let written = c.in_ok-text.ensures ∙ ap (λ cs. report cs c.args.ran.now.run) c.lines-commands.ensures in
-    whole_is_due c.args._bytes.now c.args.script.now _ c.args.ran.now.run c.requires.says c.requires.run _ c.requires.short c.runs_are_cut_where_histories_are_full.ensures.whole c.if-ran.false written
+    whole_is_due c.args._bytes.now c.args.script.now _ c.args.ran.now.run c.requires.says c.requires.run _ c.requires.short c.if-ran.false written
 
 pub returns-clause-good : goal.returns-clause-good
 returns-clause-good c =
