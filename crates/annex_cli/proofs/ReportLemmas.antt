@@ -1,6 +1,6 @@
 -- What the report wants of a run: its entries are well formed, its clocks are within their bounds, and what the script shows is of
 -- repositories that it declares.
-use Rattle.std.proofs.Common.{◌≡◌, ℕ, ◌+◌, ◌<◌, ◌≤◌, List, [], ◌∷◌, length, reverse, sym, subst, arith, length-append}
+use Rattle.std.proofs.Common.{◌≡◌, ℕ, ◌+◌, ◌≤◌, List, [], ◌∷◌, length, reverse, sym, subst, arith, length-append}
 use Rattle.std.proofs.lemmas.List.{length-map, reverse-reverse}
 use Rattle.annex_base.specs.Lists.{Each}
 use Rattle.annex_base.proofs.Lists.{Each-both, Each-reverse, Each-weaker}

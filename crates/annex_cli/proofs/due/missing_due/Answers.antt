@@ -1,7 +1,6 @@
 -- The first command for which a part is missing stands on a line, which is named.
-use Rattle.std.proofs.Common.{◌≡◌, ◌<◌, Some, length, ap, sym, ◌∙◌, arith}
+use Rattle.std.proofs.Common.{length, ap, sym, ◌∙◌, arith}
 use Rattle.std.specs.Prelude.{slice_get}
-use Rattle.script_lang.specs.Numbering.{line_numbers}
 use Rattle.driver_script.specs.Lines.{repos_of}
 use Rattle.driver_script.specs.Script.{IsUnbuilt}
 use Rattle.annex_cli.proofs.DueLemmas.{HaveOneReading, due_by, missing_is_due}

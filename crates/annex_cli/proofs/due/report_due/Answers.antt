@@ -1,5 +1,5 @@
 -- The run of the script is what the report wants, and is good.
-use Rattle.std.proofs.Common.{◌≤◌, ◌<◌, ◌^◌, ◌++◌, inr, sym, ap, ◌∙◌, subst, List, length, arith}
+use Rattle.std.proofs.Common.{◌++◌, inr, sym, ap, ◌∙◌, subst, List, length, arith}
 use Rattle.annex_base.specs.Lists.{Each}
 use Rattle.script_lang.specs.declared.command.Command.{Command}
 use Rattle.driver_script.specs.Script.{IsScript}

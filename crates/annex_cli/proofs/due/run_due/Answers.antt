@@ -1,5 +1,5 @@
 -- The script may be run.
-use Rattle.std.proofs.Common.{◌≤◌, ◌<◌, ◌^◌, length, arith}
+use Rattle.std.proofs.Common.{arith}
 use Rattle.driver_script.specs.Script.{IsScript}
 use Rattle.annex_cli.proofs.due.run_due.Goals as goal
 
