@@ -18,13 +18,18 @@ use Rattle.annex_cli.specs.declared.due.Due.{Due}
 use Rattle.annex_cli.specs.declared.status.Status.{Status}
 use Rattle.annex_cli.specs.declared.status.Status.TheVariants.{Done, Usage, Script, ReadFault, WriteFault, NoMemory, Limit}
 use Rattle.annex_cli.specs.Whole.{IsRead, script_limit}
-use Rattle.annex_cli.specs.Top.{IsReport, IsComplaint, IsCutReport, IsMissing, IsLong, IsPast, IsDue, IsDueRead, Writes, AnswersRun, EndsWith, entries_name, limit_text, place_text}
+use Rattle.annex_cli.specs.Top.{IsReport, IsComplaint, IsCutReport, IsMissing, IsLong, IsPast, IsDue, IsDueRead, HasFullHistory, Writes, AnswersRun, EndsWith, entries_name, limit_text, place_text}
 
 -- one thing is said of a text
 pub record HaveOneReading : Type 0 where
   pub script : (bytes : List ℕ) (script other : List Command) (lines more : List Line) → IsScript bytes script lines → IsScript bytes other more → (script ≡ other) × (lines ≡ more)
   pub line : (bytes : List ℕ) (line other : ℕ) → IsUnbuilt bytes line → IsUnbuilt bytes other → line ≡ other
   pub one : (bytes : List ℕ) (script : List Command) (lines : List Line) (line : ℕ) → IsScript bytes script lines → IsUnbuilt bytes line → ⊥
+
+-- where the run of a script is cut, it has a full history
+abbrev pub FullLaw : Type 0
+FullLaw = (bytes : List ℕ) (script : List Command) (lines : List Line) → IsScript bytes script lines → (limited_run (driver_input_of script) lines).is_cut ≡ true
+    → HasFullHistory (limited_run (driver_input_of script) lines).run
 
 -- what is due for a text is one status, with one text
 abbrev IsOne : Status → Status → List ℕ → List ℕ → Type 0
@@ -196,9 +201,10 @@ pub due_report : (bytes : List ℕ) (script : List Command) (lines : List Line) 
 due_report bytes script lines short is whole = record { short = short; script = script; lines = lines; is_script = is; whole = whole; text_is = refl }
 
 -- and for one whose run is cut the report up to there, and the limit
-pub due_cut : (bytes : List ℕ) (script : List Command) (lines : List Line) → length bytes ≤ script_limit → IsScript bytes script lines → (limited_run (driver_input_of script) lines).is_cut ≡ true
+pub due_cut : FullLaw → (bytes : List ℕ) (script : List Command) (lines : List Line) → length bytes ≤ script_limit → IsScript bytes script lines → (limited_run (driver_input_of script) lines).is_cut ≡ true
     → IsDue bytes Limit (report script (limited_run (driver_input_of script) lines).run ++ limit_text entries_name most_entries)
-due_cut bytes script lines short is cut = inr (inr (record { short = short; script = script; lines = lines; is_script = is; cut = cut; text_is = refl }))
+due_cut law bytes script lines short is cut =
+    inr (inr (record { short = short; script = script; lines = lines; is_script = is; cut = cut; full = law bytes script lines is cut; text_is = refl }))
 
 -- ---- an answer with a status and a text is due
 

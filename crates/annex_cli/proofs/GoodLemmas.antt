@@ -22,7 +22,7 @@ use Rattle.annex_cli.specs.declared.due.Due.{Due}
 use Rattle.annex_cli.specs.Runs.{IsRunOf}
 use Rattle.annex_cli.specs.Top.{HasGoodRun, IsCutReport, IsGood, IsReport, entries_name, limit_text}
 use Rattle.annex_cli.specs.Whole.{script_limit}
-use Rattle.annex_cli.proofs.DueLemmas.{HaveOneReading, commands_or_bad, commands_or_past}
+use Rattle.annex_cli.proofs.DueLemmas.{FullLaw, HaveOneReading, commands_or_bad, commands_or_past}
 use Rattle.annex_cli.proofs.ReportLemmas.{script_shows_known}
 use Rattle.annex_cli.proofs.RunLemmas.{comes_of}
 
@@ -33,7 +33,7 @@ one_has_repos : (g : DriverInput) (line : Line) (others : List Line) (d : Driver
 one_has_repos g line others d true later = refl
 one_has_repos g line others d false later = later _
 
-all_have_repos : (g : DriverInput) (lines : List Line) (d : Driver) → (drives_to_limit g lines d).run.repos ≡ g.repos
+pub all_have_repos : (g : DriverInput) (lines : List Line) (d : Driver) → (drives_to_limit g lines d).run.repos ≡ g.repos
 all_have_repos g [] d = refl
 all_have_repos g (line ∷ others) d = one_has_repos g line others d (meets_limit g line d) (all_have_repos g others)
 
@@ -81,13 +81,14 @@ module _ (bytes : List ℕ) (script : List Command) (is_cut : Bool) (run : Run) 
   }
 
   -- and with the limit, where it is
-  pub cut_is_due : (text : List ℕ) → length bytes ≤ script_limit → is_cut ≡ true → text ≡ report script run ++ limit_text entries_name most_entries → IsCutReport bytes text
-  cut_is_due text short cuts text_is = record {
+  pub cut_is_due : (text : List ℕ) → length bytes ≤ script_limit → FullLaw → is_cut ≡ true → text ≡ report script run ++ limit_text entries_name most_entries → IsCutReport bytes text
+  cut_is_due text short law cuts text_is = record {
     short = short;
     script = script;
     lines = r.lines;
     is_script = script_is;
     cut = cut_is ∙ cuts;
+    full = law bytes script r.lines script_is (cut_is ∙ cuts);
     text_is = text_is ∙ ap (λ (x : Run). report script x ++ limit_text entries_name most_entries) (sym run_is);
   }
 

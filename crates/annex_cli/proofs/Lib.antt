@@ -4,4 +4,5 @@ pub mod DueLemmas
 pub mod ReportLemmas
 pub mod RunLemmas
 pub mod GoodLemmas
+pub mod FullLemmas
 pub mod PlaceLemmas

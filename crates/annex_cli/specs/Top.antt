@@ -12,7 +12,7 @@ use Rattle.script_lang.specs.declared.command.Command.{Command}
 use Rattle.script_lang.specs.declared.fault.Quantity.{Quantity}
 use Rattle.script_lang.specs.Limits.{quantity_name, limit_of}
 use Rattle.script_lang.specs.Script.{reading, BadLine, PastLimit}
-use Rattle.driver_model.specs.Limits.{limited_run}
+use Rattle.driver_model.specs.Limits.{count_of, limited_run}
 use Rattle.driver_model.specs.Lines.{Line}
 use Rattle.driver_script.specs.Given.{driver_input_of}
 use Rattle.driver_script.specs.Script.{IsScript, IsUnbuilt}
@@ -88,14 +88,19 @@ pub record IsPast (bytes text : List ℕ) : Type 0 where
 abbrev pub entries_name : List ℕ
 entries_name = codes "entries"
 
+-- some repository of the run has made as many entries as it may
+abbrev pub HasFullHistory : Run → Type 0
+HasFullHistory run = (r : ℕ) × (r < length run.repos) × (count_of run.entries r ≡ most_entries)
+
 -- The bytes are such a script, of which a line meets a full history: the text is the report of its run up to there, and names the
--- limit.
+-- limit. The run has that full history: it follows from the other fields (law `cut_script_runs_have_a_full_history`).
 pub record IsCutReport (bytes text : List ℕ) : Type 0 where
   pub short : length bytes ≤ script_limit
   pub script : List Command
   pub lines : List Line
   pub is_script : IsScript bytes script lines
   pub cut : (limited_run (driver_input_of script) lines).is_cut ≡ true
+  pub full : HasFullHistory (limited_run (driver_input_of script) lines).run
   pub text_is : text ≡ report script (limited_run (driver_input_of script) lines).run ++ limit_text entries_name most_entries
 
 -- what is due for a source of these bytes

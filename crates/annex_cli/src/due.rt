@@ -8,6 +8,7 @@ ghost use Rattle.annex_cli.specs.Runs.{AreLines, IsRunOf};
 ghost use Rattle.annex_cli.specs.Whole.{script_limit};
 ghost use Rattle.annex_cli.specs.Top.{IsCutReport, IsDue, HasGoodRun, limit_text, place_text};
 
+use crate::laws::cut_script_runs_have_a_full_history;
 use crate::runs::{ENTRY_LIMIT, Ran, run_script};
 use crate::status::Status;
 use crate::whole::SCRIPT_LIMIT;
@@ -98,6 +99,7 @@ fn report_due(alloc: Global, _bytes: &[u8], script: &Script, ran: &Ran) -> Resul
     runs_are_safe();
     refusals_have_causes();
     runs_log_lines();
+    cut_script_runs_have_a_full_history();
     let commands = script.lines();
     let mut text = report(alloc, commands, &ran.run)?;
     if ran.is_cut {

@@ -17,6 +17,7 @@ ghost use Rattle.annex_cli.specs.Whole.{script_limit};
 ghost use Rattle.annex_cli.specs.Top.{IsRunCommand, IsDue, EndsWith, Answers, AnswersRun, entries_name, limit_text};
 
 mod due;
+mod laws;
 mod runs;
 mod status;
 mod whole;
@@ -25,6 +26,7 @@ mod words;
 use annex_base::{Failed, Gate, Sink, Source};
 use driver_script::scripts_are_built_or_not;
 use due::due_text;
+pub use laws::cut_script_runs_have_a_full_history;
 pub use runs::{Ran, run_script};
 pub use status::Status;
 use std::alloc::Global;
@@ -77,8 +79,9 @@ pub fn annex<R: Threads + Wait + Sync, S: Source, K: Sink, G: Gate>(
             Err(Failed) => Status::WriteFault,
         };
     }
-    // a law, for the proof of what is due
+    // laws, for the proof of what is due
     scripts_are_built_or_not();
+    cut_script_runs_have_a_full_history();
     run(alloc, source, sink)
 }
 

@@ -23,4 +23,4 @@ returns-clause-reported g c = λ bytes script lines words left short says built 
 pub returns-clause-cut : goal.returns-clause-cut
 returns-clause-cut g c = λ bytes script lines words left short says built cut read write.
     returns-clause-due g c bytes (report script (limited_run (driver_input_of script) lines).run ++ limit_text entries_name most_entries) _ words left
-    (due_cut bytes script lines short (record { says = says; built = built }) cut) read write
+    (due_cut c.cut_script_runs_have_a_full_history.ensures bytes script lines short (record { says = says; built = built }) cut) read write

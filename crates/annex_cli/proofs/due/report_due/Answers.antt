@@ -35,7 +35,7 @@ report-requires-clause-known c =
 pub returns-then-ran-clause-due : goal.returns-then-ran-clause-due
 returns-then-ran-clause-due c =
     let written = c.in_ok-put_limit.ensures ∙ ap (λ text. text ++ limit_text entries_name 100000) (c.in_ok-text.ensures ∙ ap (λ cs. report cs c.args.ran.now.run) c.lines-commands.ensures) in
-    inr (inr (cut_is_due c.args._bytes.now c.args.script.now _ c.args.ran.now.run c.requires.says c.requires.run _ c.requires.short c.if-ran.true written))
+    inr (inr (cut_is_due c.args._bytes.now c.args.script.now _ c.args.ran.now.run c.requires.says c.requires.run _ c.requires.short c.cut_script_runs_have_a_full_history.ensures c.if-ran.true written))
 
 pub returns-then-ran-clause-good : goal.returns-then-ran-clause-good
 returns-then-ran-clause-good c =
