@@ -32,7 +32,7 @@ FullLaw = (bytes : List ℕ) (script : List Command) (lines : List Line) → IsS
     → HasFullHistory (limited_run (driver_input_of script) lines).run
 
 -- what is due for a text is one status, with one text
-abbrev IsOne : Status → Status → List ℕ → List ℕ → Type 0
+abbrev pub IsOne : Status → Status → List ℕ → List ℕ → Type 0
 IsOne s s' t t' = (s ≡ s') × (t ≡ t')
 
 -- ---- a reading is one thing
@@ -118,7 +118,7 @@ module _ (x : HaveOneReading) (bytes t t' : List ℕ) where
   complaint_or_limit (inr d) (inr (inl d')) = commands_or_past (reading bytes) d.unbuilt.all d'.quantity d.unbuilt.says d'.past
   complaint_or_limit (inr d) (inr (inr d')) = x.one bytes d'.script d'.lines d.line d'.is_script d.unbuilt
 
-due_once : HaveOneReading → (bytes : List ℕ) (s s' : Status) (t t' : List ℕ) → IsDue bytes s t → IsDue bytes s' t' → IsOne s s' t t'
+pub due_once : HaveOneReading → (bytes : List ℕ) (s s' : Status) (t t' : List ℕ) → IsDue bytes s t → IsDue bytes s' t' → IsOne s s' t t'
 due_once x bytes Done Done t t' d d' = (refl, one_report x bytes t t' d d')
 due_once x bytes Done Script t t' d d' = absurd (report_or_complaint x bytes t t' d d')
 due_once x bytes Done Limit t t' d d' = absurd (report_or_limit x bytes t t' d d')

@@ -1,6 +1,6 @@
 -- A run that is cut has a full history.
 use mathlib.Core.List.{reverse-cons}
-use Rattle.std.proofs.Common.{◌≡◌, ℕ, ◌+◌, ◌<◌, Bool, List, [], ◌∷◌, refl, sym, ap, ◌∙◌, subst, arith, length-append}
+use Rattle.std.proofs.Common.{◌≡◌, ℕ, ◌<◌, Bool, List, [], ◌∷◌, refl, sym, ap, ◌∙◌, subst, arith, length-append}
 use Rattle.std.specs.Prelude.{filter, length, reverse}
 use Rattle.std.proofs.lemmas.List.Elements.{filter-append}
 use Rattle.run_data.specs.Histories.{most_entries}

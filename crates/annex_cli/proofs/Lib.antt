@@ -5,4 +5,5 @@ pub mod ReportLemmas
 pub mod RunLemmas
 pub mod GoodLemmas
 pub mod FullLemmas
+pub mod EveryText
 pub mod PlaceLemmas

@@ -26,7 +26,7 @@ mod words;
 use annex_base::{Failed, Gate, Sink, Source};
 use driver_script::scripts_are_built_or_not;
 use due::due_text;
-pub use laws::cut_script_runs_have_a_full_history;
+pub use laws::{cut_script_runs_have_a_full_history, one_answer_is_due_for_every_text};
 pub use runs::{Ran, run_script};
 pub use status::Status;
 use std::alloc::Global;
