@@ -12,7 +12,8 @@ ghost use Rattle.annex_cli.specs.Top.{HasFullHistory, IsDue};
 use driver_model::cut_runs_have_a_full_history;
 use driver_script::{scripts_are_built_or_not, scripts_may_be_driven, scripts_run_or_miss_a_form};
 
-/// Where the run of a script is cut, some repository has a full history in it: `full` of a cut report follows from the rest (own).
+/// Where the run of a script is cut, some repository has a full history in it: the `full` of a cut report follows from
+/// the rest of it (own).
 pub fn cut_script_runs_have_a_full_history()
     ensures { (bytes : List ℕ) (script : List Command) (lines : List Line) → IsScript bytes script lines
         → (limited_run (driver_input_of script) lines).is_cut ≡ true → HasFullHistory (limited_run (driver_input_of script) lines).run }
