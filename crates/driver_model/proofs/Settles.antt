@@ -155,10 +155,10 @@ unsettled g (suc k) x i = go (unsettled g k) (is_settled x) refl
             let next : idle_after x.driver (round g x.driver) x.idle ≡ 0 = rw h refl in
             omega (arith, up, few, other, y, next)
 
-too_many : (p m n k i : ℕ) → 4194304 ≤ p → n < 2000000 → i ≤ 1 → p + k + 2 * m ≤ 2 * n + i → ⊥
+too_many : (p m n k i : ℕ) → 4194304 ≤ p → n < m + 2000000 → i ≤ 1 → p + k + 2 * m ≤ 2 * n + i → ⊥
 too_many p m n k i big few l h = omega (arith, big, few, l, h)
 
-bounded : (g : DriverInput) (n : ℕ) (x : AfterRounds) → 4194304 ≤ 2 ^ n → length (rounds g n x).driver.past < 2000000 → is_settled (rounds g n x) ≡ true
+bounded : (g : DriverInput) (n : ℕ) (x : AfterRounds) → 4194304 ≤ 2 ^ n → many (rounds g n x).driver < many x.driver + 2000000 → is_settled (rounds g n x) ≡ true
 bounded g n x big few = go (is_settled (rounds g n x)) refl
   where
     all : rounds g n x ≡ goes g (2 ^ n) x
@@ -172,6 +172,6 @@ bounded g n x big few = go (is_settled (rounds g n x)) refl
         let k : 2 ^ n + x.idle + 2 * many x.driver ≤ 2 * many (rounds g n x).driver + (rounds g n x).idle = subst (λ (y : AfterRounds). 2 ^ n + x.idle + 2 * many x.driver ≤ 2 * many y.driver + y.idle) (sym all) j in
         absurd (too_many (2 ^ n) (many x.driver) (many (rounds g n x).driver) x.idle (rounds g n x).idle big few l k)
 
--- while there are fewer than two million entries the bound isn't met: the rounds end with two idle ones
-pub bound_not_met : (g : DriverInput) (x : AfterRounds) (bound : ℕ) → bound ≡ most_rounds → length (rounds g bound x).driver.past < 2000000 → is_settled (rounds g bound x) ≡ true
+-- where fewer than two million entries are added the bound isn't met: the rounds end with two idle ones
+pub bound_not_met : (g : DriverInput) (x : AfterRounds) (bound : ℕ) → bound ≡ most_rounds → many (rounds g bound x).driver < many x.driver + 2000000 → is_settled (rounds g bound x) ≡ true
 bound_not_met g x bound e few = bounded g bound x (subst (λ n. 4194304 ≤ 2 ^ n) (sym e) (omega arith)) few

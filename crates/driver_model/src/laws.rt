@@ -1,6 +1,6 @@
 //! The laws of driven runs. Each is the contract of a function that does nothing.
 
-ghost use Rattle.std.specs.Prelude.{◌≡◌, ◌≢◌, ℕ, ◌*◌, ◌^◌, ◌<◌, ◌≤◌, true, List, ◌∷◌, Some, None, length, map, take};
+ghost use Rattle.std.specs.Prelude.{◌≡◌, ◌≢◌, ℕ, ◌+◌, ◌*◌, ◌^◌, ◌<◌, ◌≤◌, true, List, ◌∷◌, Some, None, length, map, take};
 ghost use Rattle.annex_base.specs.Lists.{Each};
 ghost use Rattle.run_data.specs.Repos.{IsSetUp};
 ghost use Rattle.run_data.specs.declared.entry.Entry.{Entry};
@@ -84,11 +84,11 @@ pub fn runs_log_lines()
     key_texts_have_no_fault();
 }
 
-/// A settling of fewer than 2,000,000 entries ends with two rounds that add none, so the bound on its rounds isn't met; and a turn
-/// that adds none found no step ready, with the first frame at each end at hand (own).
+/// A settling that adds fewer than 2,000,000 entries ends with two rounds that add none, so the bound on its rounds isn't met;
+/// and a turn that adds none found no step ready, with the first frame at each end at hand (own).
 pub fn settlings_come_to_rest()
     ensures settled { (g : DriverInput) (x : AfterRounds) (bound : ℕ) → bound ≡ most_rounds
-        → length (rounds g bound x).driver.past < 2000000 → is_settled (rounds g bound x) ≡ true }
+        → length (rounds g bound x).driver.past < length x.driver.past + 2000000 → is_settled (rounds g bound x) ≡ true }
     ensures idle { (g : DriverInput) (r : ℕ) (d : Driver) → length (turn g r d).past ≡ length d.past
         → step (set_up_of g d r) (state_at g d r) (plain_look (set_up_of g d r) (without_old_flights (state_at g d r) r d)) ≡ None }
 {
