@@ -18,14 +18,14 @@ use Rattle.driver_model.proofs.Driven.{below_len}
 
 -- ---- how many entries a repository has made
 
-count_own : (r : ℕ) (e : Entry) (past : List Entry) → is_of r e ≡ true → count_of (e ∷ past) r ≡ count_of past r + 1
+pub count_own : (r : ℕ) (e : Entry) (past : List Entry) → is_of r e ≡ true → count_of (e ∷ past) r ≡ count_of past r + 1
 count_own r e past own = let i = ap length (filter_yes (is_of r) e past own) in omega (arith, i)
 
 count_other : (r : ℕ) (e : Entry) (past : List Entry) → is_of r e ≡ false → count_of (e ∷ past) r ≡ count_of past r
 count_other r e past other = ap length (filter_no (is_of r) e past other)
 
 -- one more entry makes it more by at most one
-count_one : (r : ℕ) (e : Entry) (past : List Entry) → (count_of past r ≤ count_of (e ∷ past) r) × (count_of (e ∷ past) r ≤ count_of past r + 1)
+pub count_one : (r : ℕ) (e : Entry) (past : List Entry) → (count_of past r ≤ count_of (e ∷ past) r) × (count_of (e ∷ past) r ≤ count_of past r + 1)
 count_one r e past = elim (cases_Bool (is_of r e)) [
   | inl own ↦ let i = count_own r e past own in (omega (arith, i), omega (arith, i))
   | inr other ↦ let i = count_other r e past other in (omega (arith, i), omega (arith, i))

@@ -28,3 +28,4 @@ pub mod OwnEntries
 pub mod TreeAndMarks
 pub mod FullHistories
 pub mod LimitedRuns
+pub mod WithinLimit

@@ -1,6 +1,6 @@
 //! The laws of driven runs. Each is the contract of a function that does nothing.
 
-ghost use Rattle.std.specs.Prelude.{◌≡◌, ◌≢◌, ℕ, ◌+◌, ◌*◌, ◌^◌, ◌<◌, ◌≤◌, true, List, ◌∷◌, Some, None, length, map, take};
+ghost use Rattle.std.specs.Prelude.{◌≡◌, ◌≢◌, ℕ, ◌+◌, ◌*◌, ◌^◌, ◌<◌, ◌≤◌, true, false, List, ◌∷◌, Some, None, length, map, take};
 ghost use Rattle.annex_base.specs.Lists.{Each};
 ghost use Rattle.run_data.specs.Repos.{IsSetUp};
 ghost use Rattle.run_data.specs.declared.entry.Entry.{Entry};
@@ -21,6 +21,7 @@ ghost use Rattle.race_core.specs.Jobs.{AnswersAsked, AreJobs};
 ghost use Rattle.driver_model.specs.Apart.{AreApart};
 ghost use Rattle.driver_model.specs.Driver.{Driver, DriverInput, has_room, without_old_flights, set_up_of, state_at};
 ghost use Rattle.driver_model.specs.Driving.{driver_after, run_of};
+ghost use Rattle.driver_model.specs.Limits.{is_too_long};
 ghost use Rattle.driver_model.specs.Lines.{Line};
 ghost use Rattle.driver_model.specs.Logged.{LogsWell};
 ghost use Rattle.driver_model.specs.Rounds.{AfterRounds, is_settled, most_rounds, rounds};
@@ -84,11 +85,14 @@ pub fn runs_log_lines()
     key_texts_have_no_fault();
 }
 
-/// A settling that adds fewer than 2,000,000 entries ends with two rounds that add none, so the bound on its rounds isn't met;
-/// and a turn that adds none found no step ready, with the first frame at each end at hand (own).
+/// A settling that adds fewer than 2,000,000 entries ends with two rounds that add none, so the bound on its rounds isn't met. So
+/// does each settling of at most eight repositories that leaves none with more than 100,000 entries: it adds entries of these
+/// repositories alone. And a turn that adds none found no step ready, with the first frame at each end at hand (own).
 pub fn settlings_come_to_rest()
     ensures settled { (g : DriverInput) (x : AfterRounds) (bound : ℕ) → bound ≡ most_rounds
         → length (rounds g bound x).driver.past < length x.driver.past + 2000000 → is_settled (rounds g bound x) ≡ true }
+    ensures limited { (g : DriverInput) (x : AfterRounds) (bound : ℕ) → bound ≡ most_rounds → length g.repos ≤ 8
+        → is_too_long g (rounds g bound x).driver.past ≡ false → is_settled (rounds g bound x) ≡ true }
     ensures idle { (g : DriverInput) (r : ℕ) (d : Driver) → length (turn g r d).past ≡ length d.past
         → step (set_up_of g d r) (state_at g d r) (plain_look (set_up_of g d r) (without_old_flights (state_at g d r) r d)) ≡ None }
 {
