@@ -1,6 +1,6 @@
 -- The driver makes runs: each line of a script keeps what holds.
 use Rattle.std.proofs.Common.{◌≡◌, ℕ, zero, suc, ◌+◌, ◌<◌, ◌≤◌, Bool, true, false, List, [], ◌∷◌, inr, refl, subst, arith}
-use Rattle.std.specs.Prelude.{cond, if◌then◌else◌, ◌==◌, ◌||◌, filter, length, map}
+use Rattle.std.specs.Prelude.{cond, if◌then◌else◌, ◌==◌, filter, length, map}
 use Rattle.std.specs.List.{range_with_len}
 use Rattle.std.proofs.lemmas.Bool.{eqb-true, or_parts}
 use Rattle.annex_base.specs.Lists.{Each}

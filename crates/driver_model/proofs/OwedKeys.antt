@@ -10,6 +10,7 @@ use Rattle.annex_base.specs.declared.kinds.Word.{Word}
 use Rattle.annex_base.specs.RepoText.{repo_of}
 use Rattle.annex_base.proofs.Conditions.{if_either}
 use Rattle.annex_base.proofs.Lists.{Each-append, Each-drop, Each-filter, Each-member, find_member}
+use Rattle.annex_base.proofs.Options.{is_none_true}
 use Rattle.annex_key.specs.KeyText.{IsKeyText}
 use Rattle.annex_key.specs.View.{first_fault}
 use Rattle.run_data.specs.declared.entry.By.{By}
@@ -67,12 +68,8 @@ plain_read c well (Some x) = well x
 key_read : (c : List ℕ → Message) → ((key : List ℕ) → first_fault key ≡ None → MessageWell (c key)) → (rest : List ℕ) → Read (option_map c (key_in rest))
 key_read c well rest = go (is_none (first_fault rest)) refl
   where
-    none_is : {X : Type 0} (o : Option X) → is_none o ≡ true → o ≡ None
-    none_is None e = refl
-    none_is (Some x) e = absurd (cc)
-
     go : (b : Bool) → is_none (first_fault rest) ≡ b → Read (option_map c (if b then Some rest else None))
-    go true i = well rest (none_is (first_fault rest) i)
+    go true i = well rest (is_none_true (first_fault rest) i)
     go false i = tt
 
 then_read : {X : Type 0} (first : List ℕ → Option X) (second : X → List ℕ → Option Message) → ((x : X) (rest : List ℕ) → Read (second x rest)) → (text : List ℕ) → Read (then_in first second text)
