@@ -4,6 +4,7 @@ use Rattle.std.proofs.Common.{◌≡◌, ◌≢◌, ℕ, ◌+◌, ◌<◌, ◌�
 use Rattle.std.specs.Prelude.{if◌then◌else◌, ◌&&◌, ◌||◌, ◌==◌}
 use Rattle.std.proofs.lemmas.Bool.{ne_eqb}
 use Rattle.annex_base.specs.Lists.{Member}
+use Rattle.annex_base.proofs.Conditions.{or_first}
 use Rattle.run_data.specs.declared.entry.Entry.{Entry}
 use Rattle.run_data.specs.declared.entry.EntryKind.{EntryKind}
 use Rattle.run_data.specs.declared.entry.EntryKind.TheVariants.{Begin, Gain, Talk, End as ends_job}
@@ -73,13 +74,9 @@ future_undropped s (e ∷ past) run j later =
 pub undropped_unread : (past : List Entry) (r j : ℕ) → in_drop past r j ≡ false → before_step past r j ≡ None
 undropped_unread [] r j off = refl
 undropped_unread (e ∷ past) r j off =
-    let was = or_off (in_drop past r j) (is_of r e && starts_drop past r j e e.kind) off in
+    let was = or_first (in_drop past r j) (is_of r e && starts_drop past r j e e.kind) off in
     rw (undropped_unread past r j was, was) (no_step (is_of r e) (is_step j e.kind))
   where
-    or_off : (a b : Bool) → (a || b) ≡ false → a ≡ false
-    or_off true b h = absurd (cc)
-    or_off false b h = refl
-
     no_step : (a b : Bool) → (if a && (b && false) then Some past else None) ≡ None
     no_step true true = refl
     no_step true false = refl

@@ -1,9 +1,9 @@
 -- An order is sent by the entry of that kind alone: by a running job that has its target as peer.
-use Rattle.std.proofs.Common.{◌≡◌, ℕ, ◌<◌, ◌≤◌, Bool, true, false, List, [], ◌∷◌, Option, Some, None, ◌⊎◌, inl, inr, refl, sym, ap, ◌∙◌, subst, arith}
-use Rattle.std.specs.Prelude.{◌&&◌}
+use Rattle.std.proofs.Common.{◌≡◌, ℕ, ◌<◌, ◌≤◌, true, false, List, [], ◌∷◌, Option, Some, None, ◌⊎◌, inl, inr, sym, ap, ◌∙◌, subst, arith}
 use Rattle.std.proofs.lemmas.Bool.{eqb-true, and_parts}
 use Rattle.annex_base.specs.Lists.{Member}
 use Rattle.annex_base.specs.declared.kinds.Word.{Word}
+use Rattle.annex_base.proofs.Conditions.{and_first}
 use Rattle.annex_base.proofs.Lists.{Each-member}
 use Rattle.drop_proof.specs.declared.rule.Need.{Need}
 use Rattle.run_data.specs.declared.entry.Entry.{Entry}
@@ -135,13 +135,9 @@ unordered s (e ∷ past) run j g later o = elim (order_when past e s.number j g 
 
     new : NowOrders e s.number j g → ⊥
     new now =
-        let own = run.0 (and_left (is_of s.number e) (option_is (job_of e.kind) j) now.mine) in
+        let own = run.0 (and_first (is_of s.number e) (option_is (job_of e.kind) j) now.mine) in
         let x = orderer s past own.0 e j g own.1 now in
         let below : x.by.w.number ≤ begun_count past s.number = number_begun s past run.1 x.by.w (stepped_runs s past e x.by) in
         let is : x.by.w.number ≡ j = x.number_is in
         let b = before in
         omega arith
-      where
-        and_left : (a b : Bool) → (a && b) ≡ true → a ≡ true
-        and_left true b e = refl
-        and_left false b e = absurd (cc)
