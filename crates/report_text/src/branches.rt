@@ -1,5 +1,5 @@
 //! The branches of a run's repositories, as the entries so far change them.
-ghost use Rattle.std.specs.Prelude.{◌≡◌, ◌<◌, ℕ, List, [], ◌∷◌, length, IfOk, OnOk};
+ghost use Rattle.std.specs.Prelude.{◌≡◌, ◌<◌, ℕ, List, [], ◌∷◌, length, IfOk, OnOk, OnErr};
 ghost use Rattle.annex_base.specs.Lists.{Each};
 ghost use Rattle.union_merge.specs.LineSet.{IsLine};
 ghost use Rattle.union_merge.specs.Branch.{file_at, merged_file};
@@ -43,10 +43,11 @@ impl Branches {
     }
 
     /// Takes note of what one more entry changes: lines that are added to a file of one of the repositories, or a file
-    /// that is compacted. Where memory is lacking, nothing is said of the branches any more.
+    /// that is compacted. Without memory the branches stay as they are.
     pub(crate) fn add(&mut self, entry: &Entry) -> Result<(), NoMemory>
         requires { LogsLines entry.now.kind entry.now.lines }
-        ensures { OnOk result ((repositories : ℕ) (past : List Entry) → HasBranches self.old repositories past → HasBranches self.new repositories (entry.now ∷ past)) }
+        ensures ok { OnOk result ((repositories : ℕ) (past : List Entry) → HasBranches self.old repositories past → HasBranches self.new repositories (entry.now ∷ past)) }
+        ensures err { OnErr result (self.new.branches.items ≡ self.old.branches.items) }
     {
         let Some(repo) = entry.repo else {
             return Ok(());
@@ -61,7 +62,8 @@ impl Branches {
 
 fn change(alloc: Global, branch: &mut Branch, entry: &Entry) -> Result<(), NoMemory>
     requires { LogsLines entry.now.kind entry.now.lines }
-    ensures { OnOk result (branch.new ≡ branch_after branch.old entry.now.kind entry.now.lines) }
+    ensures ok { OnOk result (branch.new ≡ branch_after branch.old entry.now.kind entry.now.lines) }
+    ensures err { OnErr result (branch.new ≡ branch.old) }
 {
     match &entry.kind {
         EntryKind::Log { file } => {
@@ -82,7 +84,8 @@ fn add_lines(
 ) -> Result<(), NoMemory>
     requires path { IsLine path.now }
     requires lines { Each IsLine lines.now }
-    ensures { OnOk result (branch.new ≡ merged_file branch.old path.now lines.now) }
+    ensures ok { OnOk result (branch.new ≡ merged_file branch.old path.now lines.now) }
+    ensures err { OnErr result (branch.new ≡ branch.old) }
 {
     // For the proof: the files of a branch have their lines in order, and lines count once.
     let _ = branch.files();
@@ -94,7 +97,8 @@ fn add_lines(
 }
 
 fn compact_file(alloc: Global, branch: &mut Branch, file: &LogFile) -> Result<(), NoMemory>
-    ensures { OnOk result (branch.new ≡ compact_file file.now branch.old (file_at branch.old (file_path file.now))) }
+    ensures ok { OnOk result (branch.new ≡ compact_file file.now branch.old (file_at branch.old (file_path file.now))) }
+    ensures err { OnErr result (branch.new ≡ branch.old) }
 {
     // For the proof: the files of a branch have paths.
     let _ = branch.files();

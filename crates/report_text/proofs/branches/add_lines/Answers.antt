@@ -5,8 +5,8 @@ use Rattle.union_merge.specs.Branch.{merged_file}
 use Rattle.report_text.proofs.BranchLemmas.{merged_once}
 use Rattle.report_text.proofs.branches.add_lines.Goals as goal
 
-pub returns : goal.returns
-returns c =
+pub returns-clause-ok : goal.returns-clause-ok
+returns-clause-ok c =
     let laws = c.unions_have_the_lines_of_both.ensures in
     c.in_ok-merge_file.ensures.ok
     ∙ ap (merged_file c.args.branch.now c.args.path.now) (c.from_lines-set.ensures ∙ ap (union []) c.in_ok-copies.ensures)

@@ -5,6 +5,6 @@ use Rattle.report_text.proofs.walk.Walk.add.Goals as goal
 pub returns : goal.returns
 returns c = λ repos past known. record {
   contents = c.in_ok-add.ensures.ok (length repos) past known.contents;
-  branches = c.in_ok-add-2.ensures (length repos) past known.branches;
+  branches = c.in_ok-add-2.ensures.ok (length repos) past known.branches;
   rows = c.in_ok-add-3.ensures repos past known.rows;
 }
