@@ -23,7 +23,8 @@ use Rattle.run_data.specs.declared.entry.FrameText.{FrameText}
 use Rattle.run_data.specs.declared.entry.FrameText.TheVariants as bodies
 use Rattle.run_data.specs.declared.job.Job.{Job}
 use Rattle.run_model.specs.Past.{begun_job}
-use Rattle.run_text.specs.Names.{name_of}
+use Rattle.run_text.specs.Words.{number_or_dash}
+use Rattle.run_text.specs.Names.{name_of, name_or_dash}
 use Rattle.run_text.specs.Jobs.{job_text}
 use Rattle.run_text.specs.Outcomes.{outcome_text}
 
@@ -50,11 +51,6 @@ found_text finds.Held = codes "held"
 found_text finds.Late = codes "late"
 found_text finds.Nolock = codes "nolock"
 
--- a number, or a dash
-abbrev pub number_text : Option ℕ → List ℕ
-number_text None = codes "-"
-number_text (Some n) = decimal n
-
 abbrev pub side_text : Bool → List ℕ
 side_text true = codes "client"
 side_text false = codes "server"
@@ -72,11 +68,6 @@ job_before past (Some r) j = begun_job past r j
 
 -- ---- entries
 
--- the repository of an entry; a wait has none
-abbrev pub maker_text : List RepoView → Option ℕ → List ℕ
-maker_text repos None = codes "-"
-maker_text repos (Some r) = name_of repos r
-
 -- the line of a job that begins
 abbrev pub begin_text : List RepoView → Option ℕ → Job → List ℕ
 begin_text repos None what = []
@@ -92,11 +83,11 @@ kind_text repos past repo lines (kinds.Release hold key) = codes "release hold="
 kind_text repos past repo lines (kinds.Check found key) = codes "check found=" ++ found_text found ++ key_field key
 kind_text repos past repo lines (kinds.Bar j need key) = codes "bar " ++ decimal j ++ need_field need ++ key_field key
 kind_text repos past repo lines (kinds.Order j target deadline need key) =
-    codes "order " ++ decimal j ++ codes " target=" ++ name_of repos target ++ codes " deadline=" ++ number_text deadline ++ need_field need ++ key_field key
+    codes "order " ++ decimal j ++ codes " target=" ++ name_of repos target ++ codes " deadline=" ++ number_or_dash deadline ++ need_field need ++ key_field key
 kind_text repos past repo lines (kinds.Gone by key) = codes "gone by=" ++ by_text repos by ++ key_field key
 kind_text repos past repo lines (kinds.Log file) = codes "log " ++ decimal lines ++ codes " " ++ file_text file
 kind_text repos past repo lines (kinds.Compact file) = codes "compact " ++ file_text file
-kind_text repos past repo lines (kinds.Talk job) = codes "talk " ++ number_text job
+kind_text repos past repo lines (kinds.Talk job) = codes "talk " ++ number_or_dash job
 kind_text repos past repo lines (kinds.Close peer slot client) =
     codes "close peer=" ++ name_of repos peer ++ codes " slot=" ++ decimal slot ++ codes " side=" ++ side_text client
 kind_text repos past repo lines (kinds.Crash clock) = codes "crash clock=" ++ decimal clock
@@ -104,10 +95,10 @@ kind_text repos past repo lines (kinds.Wait milliseconds) = codes "wait " ++ dec
 kind_text repos past repo lines (kinds.Fault call by) = codes "fault " ++ call_word call ++ codes " " ++ by_text repos by
 kind_text repos past repo lines (kinds.End j outcome) = codes "end " ++ decimal j ++ outcome_text repos (job_before past repo j) outcome
 
--- the first line of an entry
+-- the first line of an entry, with its repository; a wait has none
 abbrev pub head_text : List RepoView → List Entry → Entry → List ℕ
 head_text repos past e =
-    decimal e.time ++ codes "." ++ decimal e.count ++ codes " " ++ maker_text repos e.repo ++ codes " "
+    decimal e.time ++ codes "." ++ decimal e.count ++ codes " " ++ name_or_dash repos e.repo ++ codes " "
     ++ kind_text repos past e.repo (length e.lines) e.kind ++ codes "\n"
 
 abbrev pub way_text : Bool → List ℕ

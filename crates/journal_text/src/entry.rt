@@ -2,13 +2,13 @@
 
 ghost use Rattle.std.specs.Prelude.{◌≡◌, ◌++◌, List, OnOk, OnErr, option_copied, reverse};
 ghost use Rattle.std.specs.List.{flat_map};
-ghost use Rattle.journal_text.specs.Journal.{entry_text, head_text, maker_text, taken_text, sent_text, added_text};
+ghost use Rattle.journal_text.specs.Journal.{entry_text, head_text, taken_text, sent_text, added_text};
 
 use crate::frame::put_frame;
 use crate::kind::put_kind;
 use annex_base::{Line, put_number};
 use run_data::{Entry, FrameView, RepoView};
-use run_text::put_name;
+use run_text::put_name_or_dash;
 use std::alloc::AllocError;
 
 /// Adds an entry as the journal has it; those before it stand in order, of which the text needs its own repository's
@@ -55,20 +55,10 @@ fn put_head(
     out.push(b'.')?;
     put_number(out, entry.count)?;
     out.push(b' ')?;
-    put_maker(out, repos, entry.repo)?;
+    put_name_or_dash(out, repos, entry.repo)?;
     out.push(b' ')?;
     put_kind(out, repos, before, entry)?;
     out.push(b'\n')?;
-    Ok(())
-}
-
-fn put_maker(out: &mut Vec<u8>, repos: &[RepoView], repo: Option<u32>) -> Result<(), AllocError>
-    ensures { OnOk result (out.new.items ≡ out.old.items ++ maker_text repos.now repo) }
-{
-    match repo {
-        None => out.push(b'-')?,
-        Some(repo) => put_name(out, repos, repo)?,
-    }
     Ok(())
 }
 

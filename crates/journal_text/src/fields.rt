@@ -1,7 +1,7 @@
 //! Fields of an entry's line.
 
 ghost use Rattle.std.specs.Prelude.{◌≡◌, ◌++◌, OnOk};
-ghost use Rattle.journal_text.specs.Journal.{by_text, file_text, found_text, key_field, need_field, number_text, side_text};
+ghost use Rattle.journal_text.specs.Journal.{by_text, file_text, found_text, key_field, need_field, side_text};
 
 use annex_base::{Found, put_number};
 use annex_key::Key;
@@ -47,17 +47,6 @@ pub(crate) fn put_need(out: &mut Vec<u8>, need: Need) -> Result<(), AllocError>
     put_number(out, need.n as u64)?;
     out.push(b',')?;
     put_number(out, need.m as u64)?;
-    Ok(())
-}
-
-/// Adds a number, or a dash where there is none.
-pub(crate) fn put_number_or_dash(out: &mut Vec<u8>, number: Option<u64>) -> Result<(), AllocError>
-    ensures { OnOk result (out.new.items ≡ out.old.items ++ number_text number) }
-{
-    match number {
-        None => out.push(b'-')?,
-        Some(number) => put_number(out, number)?,
-    }
     Ok(())
 }
 

@@ -1,23 +1,20 @@
 //! What an entry did: its word and its fields.
 
-ghost use Rattle.std.specs.Prelude.{◌≡◌, ◌++◌, OnOk, IsNone, IfSome, Option, Some, codes, length, reverse, option_copied};
+ghost use Rattle.std.specs.Prelude.{◌≡◌, ◌++◌, OnOk, codes, length, reverse, option_copied};
 ghost use Rattle.std.specs.Fmt.{decimal};
-ghost use Rattle.run_data.specs.declared.job.Job.{Job};
 ghost use Rattle.script_words.specs.Fields.{call_word};
 ghost use Rattle.run_text.specs.Names.{name_of};
+ghost use Rattle.run_text.specs.Words.{number_or_dash};
 ghost use Rattle.run_text.specs.Outcomes.{outcome_text};
-ghost use Rattle.run_model.specs.Past.{begun_job};
-ghost use Rattle.journal_text.specs.Begun.{begun_after};
-ghost use Rattle.journal_text.specs.Journal.{begin_text, by_text, file_text, found_text, job_before, key_field, kind_text, need_field, number_text, side_text};
+ghost use Rattle.journal_text.specs.Journal.{begin_text, by_text, file_text, found_text, job_before, key_field, kind_text, need_field, side_text};
 
-use crate::fields::{
-    found_word, put_by, put_file, put_key, put_need, put_number_or_dash, side_word,
-};
+use crate::begun::begun_job;
+use crate::fields::{found_word, put_by, put_file, put_key, put_need, side_word};
 use annex_base::{Call, Found, put_number};
 use annex_key::Key;
 use drop_proof::Need;
 use run_data::{By, Entry, EntryKind, Job, LogFile, Outcome, RepoView};
-use run_text::{put_job, put_name, put_outcome};
+use run_text::{put_job, put_name, put_number_or_dash, put_outcome};
 use script_words::call_text;
 use std::alloc::AllocError;
 
@@ -157,7 +154,7 @@ fn put_order(
     need: Need,
     key: &Key,
 ) -> Result<(), AllocError>
-    ensures { OnOk result (out.new.items ≡ out.old.items ++ (codes "order " ++ decimal job ++ codes " target=" ++ name_of repos.now target ++ codes " deadline=" ++ number_text deadline ++ need_field need ++ key_field key.now)) }
+    ensures { OnOk result (out.new.items ≡ out.old.items ++ (codes "order " ++ decimal job ++ codes " target=" ++ name_of repos.now target ++ codes " deadline=" ++ number_or_dash deadline ++ need_field need ++ key_field key.now)) }
 {
     out.extend_from_slice(b"order ")?;
     put_number(out, job as u64)?;
@@ -198,13 +195,10 @@ fn put_compact(out: &mut Vec<u8>, file: &LogFile) -> Result<(), AllocError>
 }
 
 fn put_talk(out: &mut Vec<u8>, job: Option<u32>) -> Result<(), AllocError>
-    ensures { OnOk result (out.new.items ≡ out.old.items ++ (codes "talk " ++ number_text job)) }
+    ensures { OnOk result (out.new.items ≡ out.old.items ++ (codes "talk " ++ number_or_dash job)) }
 {
     out.extend_from_slice(b"talk ")?;
-    match job {
-        None => out.push(b'-')?,
-        Some(job) => put_number(out, job as u64)?,
-    }
+    put_number_or_dash(out, job.map(u64::from))?;
     Ok(())
 }
 
@@ -272,32 +266,4 @@ fn job_before(before: &[Entry], repo: Option<u32>, number: u32) -> Option<&Job>
     ensures { option_copied result ≡ job_before (reverse before.now) repo number }
 {
     begun_job(before, repo?, number)
-}
-
-/// The job that the repository began last with this number.
-fn begun_job(before: &[Entry], repo: u32, number: u32) -> Option<&Job>
-    ensures { option_copied result ≡ begun_job (reverse before.now) repo number }
-{
-    let mut rest = before;
-    while let Some((last, earlier)) = rest.split_last() {
-        if let Some(job) = job_begun_by(last, repo, number) {
-            return Some(job);
-        }
-        rest = earlier;
-    }
-    None
-}
-
-/// The job that the entry begins, if it is one of the repository with this number.
-fn job_begun_by(entry: &Entry, repo: u32, number: u32) -> Option<&Job>
-    ensures begun { IfSome result (λ job. (was : Option Job) → begun_after repo number was entry.now ≡ Some job.now) }
-    ensures other { IsNone result → (was : Option Job) → begun_after repo number was entry.now ≡ was }
-{
-    if entry.repo != Some(repo) {
-        return None;
-    }
-    match &entry.kind {
-        EntryKind::Begin { job, what } if *job == number => Some(what),
-        _ => None,
-    }
 }

@@ -1,5 +1,4 @@
 -- The definitions of this crate.
-pub mod Begun
 pub mod Branches
 pub mod Contents
 pub mod Report

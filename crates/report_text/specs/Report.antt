@@ -26,7 +26,8 @@ use Rattle.run_model.specs.Past.{begun_job, is_of, present}
 use Rattle.run_model.specs.Safety.{past_at}
 use Rattle.script_words.specs.Fields.{call_word, level_word}
 use Rattle.script_words.specs.Words.{printed_word}
-use Rattle.run_text.specs.Names.{name_of, joined_text}
+use Rattle.run_text.specs.Words.{joined_text}
+use Rattle.run_text.specs.Names.{name_of}
 use Rattle.run_text.specs.Jobs.{begun_text, key_text}
 use Rattle.run_text.specs.Outcomes.{outcome_text}
 use Rattle.journal_text.specs.Journal.{journal_of}

@@ -1,5 +1,5 @@
 -- The row of a key as a report prints it: whether the content is there, the job whose bar stands, and the holds that block (own).
-use Rattle.std.specs.Prelude.{ℕ, Bool, true, false, if◌then◌else◌, List, ◌++◌, filter, map, reverse, codes, Option, Some, None}
+use Rattle.std.specs.Prelude.{ℕ, Bool, true, false, if◌then◌else◌, List, ◌++◌, filter, map, reverse, codes}
 use Rattle.std.specs.Fmt.{decimal}
 use Rattle.run_data.specs.declared.row.Hold.{Hold}
 use Rattle.run_data.specs.declared.row.HoldView.{HoldView}
@@ -9,7 +9,8 @@ use Rattle.node_model.specs.Rows.{blocks}
 use Rattle.run_model.specs.Past.{bar, clock, holds, now, present}
 use Rattle.run_model.specs.Safety.{past_at}
 use Rattle.run_text.specs.Jobs.{key_text}
-use Rattle.run_text.specs.Names.{joined_text, name_of}
+use Rattle.run_text.specs.Words.{joined_text, number_or_dash}
+use Rattle.run_text.specs.Names.{name_of}
 use Rattle.script_lang.specs.declared.command.NamedKey.{NamedKey}
 
 -- ---- the row
@@ -42,13 +43,9 @@ kept_text false = codes ":open"
 abbrev pub hold_text : HoldView → List ℕ
 hold_text h = decimal h.end ++ kept_text h.kept
 
-abbrev pub bar_text : Option ℕ → List ℕ
-bar_text None = codes "-"
-bar_text (Some job) = decimal job
-
 -- what stands behind the key; an absent content has neither bar nor holds
 abbrev pub found_text : RowView → List ℕ
-found_text row = if row.present then codes "present bar=" ++ bar_text row.bar ++ codes " holds=" ++ joined_text 44 hold_text row.holds else codes "absent"
+found_text row = if row.present then codes "present bar=" ++ number_or_dash row.bar ++ codes " holds=" ++ joined_text 44 hold_text row.holds else codes "absent"
 
 abbrev pub row_text : Run → ℕ → NamedKey → RowView → List ℕ
 row_text run r k row = codes "row " ++ name_of run.repos r ++ codes " " ++ key_text k.key k.path ++ codes " " ++ found_text row ++ codes "\n"

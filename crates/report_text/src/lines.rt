@@ -1,13 +1,11 @@
 //! The lines of the entries between two places of a run: of jobs that ended, and of faults.
 
-ghost use Rattle.std.specs.Prelude.{◌≡◌, ◌++◌, ◌&&◌, nat_lt, OnOk, IsNone, IfSome, Option, Some, reverse, slice_get, option_copied};
-ghost use Rattle.run_data.specs.declared.job.Job.{Job};
-ghost use Rattle.run_model.specs.Past.{begun_job};
+ghost use Rattle.std.specs.Prelude.{◌≡◌, ◌++◌, ◌&&◌, nat_lt, OnOk, Some, reverse, slice_get, option_copied};
 ghost use Rattle.node_model.specs.Slots.{is_begin};
 ghost use Rattle.report_text.specs.Report.{begins_job, end_line, entry_line, fault_line, noslot_line, outcome_lines, slot_text};
-ghost use Rattle.report_text.specs.Begun.{begun_after};
 
 use annex_base::Call;
+use journal_text::begun_job;
 use run_data::{Entry, EntryKind, Job, Outcome, RepoView, Run};
 use run_text::{put_begun, put_name, put_outcome};
 use script_lang::Command;
@@ -184,32 +182,4 @@ fn put_end_line(
     put_outcome(out, repos, job, outcome)?;
     out.push(b'\n')?;
     Ok(())
-}
-
-/// The job that the repository began last with this number.
-fn begun_job(before: &[Entry], repo: u32, number: u32) -> Option<&Job>
-    ensures { option_copied result ≡ begun_job (reverse before.now) repo number }
-{
-    let mut rest = before;
-    while let Some((last, earlier)) = rest.split_last() {
-        if let Some(job) = job_begun_by(last, repo, number) {
-            return Some(job);
-        }
-        rest = earlier;
-    }
-    None
-}
-
-/// The job that the entry begins, if it is one of the repository with this number.
-fn job_begun_by(entry: &Entry, repo: u32, number: u32) -> Option<&Job>
-    ensures begun { IfSome result (λ job. (was : Option Job) → begun_after repo number was entry.now ≡ Some job.now) }
-    ensures other { IsNone result → (was : Option Job) → begun_after repo number was entry.now ≡ was }
-{
-    if entry.repo != Some(repo) {
-        return None;
-    }
-    match &entry.kind {
-        EntryKind::Begin { job, what } if *job == number => Some(what),
-        _ => None,
-    }
 }

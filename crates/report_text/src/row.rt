@@ -1,15 +1,13 @@
 //! The row of a key at a repository, as it is before a place of a run.
 
-ghost use Rattle.std.specs.Prelude.{◌≡◌, ◌++◌, ◌∷◌, ◌<◌, ℕ, length, take, OnOk};
-ghost use Rattle.std.specs.List.{flat_map};
-ghost use Rattle.run_text.specs.Names.{joined_text};
-ghost use Rattle.report_text.specs.Row.{bar_text, found_text, hold_text, kept_text, row_at, row_text};
+ghost use Rattle.std.specs.Prelude.{◌≡◌, ◌++◌, ◌<◌, ℕ, length, take, OnOk};
+ghost use Rattle.report_text.specs.Row.{found_text, hold_text, kept_text, row_at, row_text};
 ghost use Rattle.report_text.specs.Walk.{StandsAt};
 
 use crate::walk::Walk;
 use annex_base::{NoMemory, put_number};
 use run_data::{HoldView, RowView, Run};
-use run_text::{put_key, put_name};
+use run_text::{ItemWords, put_joined, put_key, put_name, put_number_or_dash};
 use script_lang::NamedKey;
 use std::alloc::AllocError;
 
@@ -61,46 +59,27 @@ fn put_found(out: &mut Vec<u8>, row: &RowView) -> Result<(), AllocError>
 {
     if row.present {
         out.extend_from_slice(b"present bar=")?;
-        put_bar(out, row.bar)?;
+        put_number_or_dash(out, row.bar.map(u64::from))?;
         out.extend_from_slice(b" holds=")?;
-        put_holds(out, row.holds.as_slice())?;
+        put_joined(out, b',', &HoldWords, row.holds.as_slice())?;
     } else {
         out.extend_from_slice(b"absent")?;
     }
     Ok(())
 }
 
-fn put_bar(out: &mut Vec<u8>, bar: Option<u32>) -> Result<(), AllocError>
-    ensures { OnOk result (out.new.items ≡ out.old.items ++ bar_text bar) }
-{
-    match bar {
-        None => out.push(b'-')?,
-        Some(job) => put_number(out, u64::from(job))?,
-    }
-    Ok(())
-}
+/// Holds, each with its end and whether it is kept.
+#[derive(Clone, Copy)]
+struct HoldWords;
 
-fn put_holds(out: &mut Vec<u8>, holds: &[HoldView]) -> Result<(), AllocError>
-    ensures { OnOk result (out.new.items ≡ out.old.items ++ joined_text 44 hold_text holds.now) }
-{
-    match holds.split_first() {
-        None => out.push(b'-')?,
-        Some((first, rest)) => {
-            put_hold(out, *first)?;
-            put_more_holds(out, rest)?;
-        }
-    }
-    Ok(())
-}
+impl ItemWords<HoldView> for HoldWords {
+    ghost use Rattle.report_text.specs.Row.{hold_text};
 
-fn put_more_holds(out: &mut Vec<u8>, holds: &[HoldView]) -> Result<(), AllocError>
-    ensures { OnOk result (out.new.items ≡ out.old.items ++ flat_map (λ h. 44 ∷ hold_text h) holds.now) }
-{
-    for hold in holds {
-        out.push(b',')?;
-        put_hold(out, *hold)?;
+    ghost word_of = { λ _ hold. hold_text hold };
+
+    fn put(&self, out: &mut Vec<u8>, item: &HoldView) -> Result<(), AllocError> {
+        put_hold(out, *item)
     }
-    Ok(())
 }
 
 fn put_hold(out: &mut Vec<u8>, hold: HoldView) -> Result<(), AllocError>

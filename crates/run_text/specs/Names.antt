@@ -1,7 +1,7 @@
 -- Names of repositories in texts, and lists of them (own).
-use Rattle.std.specs.Prelude.{ℕ, List, [], ◌∷◌, ◌++◌, Option, Some, None, slice_get}
-use Rattle.std.specs.List.{flat_map}
+use Rattle.std.specs.Prelude.{ℕ, List, [], codes, Option, Some, None, slice_get}
 use Rattle.run_data.specs.declared.run.RepoView.{RepoView}
+use Rattle.run_text.specs.Words.{joined_text}
 
 abbrev pub name_in : Option RepoView → List ℕ
 name_in None = []
@@ -11,10 +11,10 @@ name_in (Some repo) = repo.name
 abbrev pub name_of : List RepoView → ℕ → List ℕ
 name_of repos r = name_in (slice_get repos r)
 
--- items with a byte between them, or a dash
-abbrev pub joined_text : {X : Type 0} → ℕ → (X → List ℕ) → List X → List ℕ
-joined_text between f [] = 45 ∷ []
-joined_text between f (x ∷ xs) = f x ++ flat_map (λ y. between ∷ f y) xs
+-- the name of a repository, or a dash where there is none
+abbrev pub name_or_dash : List RepoView → Option ℕ → List ℕ
+name_or_dash repos None = codes "-"
+name_or_dash repos (Some r) = name_of repos r
 
 abbrev pub names : List RepoView → List ℕ → List ℕ
 names repos rs = joined_text 44 (name_of repos) rs

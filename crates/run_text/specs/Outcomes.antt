@@ -20,7 +20,8 @@ use Rattle.run_data.specs.declared.job.SourceCause.TheVariants as sources
 use Rattle.run_data.specs.declared.job.SourceFailure.{SourceFailure}
 use Rattle.run_data.specs.declared.job.Outcome.{Outcome}
 use Rattle.run_data.specs.declared.job.Outcome.TheVariants as outcomes
-use Rattle.run_text.specs.Names.{name_of, names, joined_text}
+use Rattle.run_text.specs.Words.{joined_text, number_or_dash}
+use Rattle.run_text.specs.Names.{name_of, name_or_dash, names}
 
 abbrev pub proof_text : List RepoView → Proof → List ℕ
 proof_text repos proof = codes "need=" ++ decimal proof.need.n ++ codes "," ++ decimal proof.need.m
@@ -96,19 +97,11 @@ abbrev pub transfer_word_of : Option Job → List ℕ
 transfer_word_of None = []
 transfer_word_of (Some job) = transfer_word job.kind
 
-abbrev pub start_text : Option ℕ → List ℕ
-start_text None = codes "-"
-start_text (Some start) = decimal start
-
-abbrev pub from_text : List RepoView → Option ℕ → List ℕ
-from_text repos None = codes "-"
-from_text repos (Some r) = name_of repos r
-
 -- what follows the job in its line
 abbrev pub outcome_text : List RepoView → Option Job → Outcome → List ℕ
 outcome_text repos job (outcomes.Dropped proof) = codes " done " ++ proof_text repos proof
 outcome_text repos job (outcomes.DroppedAbsent proof) = codes " done absent " ++ proof_text repos proof
-outcome_text repos job (outcomes.Got source start) = codes " done source=" ++ from_text repos source ++ codes " start=" ++ start_text start
-outcome_text repos job (outcomes.Copied start) = codes " done start=" ++ start_text start
+outcome_text repos job (outcomes.Got source start) = codes " done source=" ++ name_or_dash repos source ++ codes " start=" ++ number_or_dash start
+outcome_text repos job (outcomes.Copied start) = codes " done start=" ++ number_or_dash start
 outcome_text repos job (outcomes.Refused refusal) = codes " refused " ++ refusal_text repos refusal
 outcome_text repos job (outcomes.TransferRefused refusal) = codes " refused " ++ transfer_word_of job ++ transfer_text repos refusal

@@ -1,13 +1,15 @@
 //! How a job ended.
 
 ghost use Rattle.std.specs.Prelude.{◌≡◌, ◌++◌, IfOk, OnOk, OnErr, codes, option_copied};
-ghost use Rattle.run_text.specs.Outcomes.{transfer_word, transfer_word_of, start_text, from_text, outcome_text};
+ghost use Rattle.run_text.specs.Outcomes.{transfer_word, transfer_word_of, outcome_text};
+ghost use Rattle.run_text.specs.Names.{name_or_dash};
+ghost use Rattle.run_text.specs.Words.{number_or_dash};
 
-use crate::names::put_name;
+use crate::names::put_name_or_dash;
 use crate::proof::put_proof;
 use crate::refusal::put_refusal;
 use crate::transfer::put_transfer;
-use annex_base::put_number;
+use crate::words::put_number_or_dash;
 use run_data::{Job, JobKind, Outcome, RepoView};
 use std::alloc::{AllocError, Global};
 
@@ -46,7 +48,7 @@ fn outcome_text(
         Outcome::Got { source, start } => put_got(&mut text, repos, *source, *start)?,
         Outcome::Copied { start } => {
             text.extend_from_slice(b" done start=")?;
-            put_start(&mut text, *start)?;
+            put_number_or_dash(&mut text, *start)?;
         }
         Outcome::Refused(refusal) => {
             text.extend_from_slice(b" refused ")?;
@@ -67,32 +69,12 @@ fn put_got(
     source: Option<u32>,
     start: Option<u64>,
 ) -> Result<(), AllocError>
-    ensures { OnOk result (out.new.items ≡ out.old.items ++ (codes " done source=" ++ from_text repos.now source ++ codes " start=" ++ start_text start)) }
+    ensures { OnOk result (out.new.items ≡ out.old.items ++ (codes " done source=" ++ name_or_dash repos.now source ++ codes " start=" ++ number_or_dash start)) }
 {
     out.extend_from_slice(b" done source=")?;
-    put_source(out, repos, source)?;
+    put_name_or_dash(out, repos, source)?;
     out.extend_from_slice(b" start=")?;
-    put_start(out, start)?;
-    Ok(())
-}
-
-fn put_source(out: &mut Vec<u8>, repos: &[RepoView], source: Option<u32>) -> Result<(), AllocError>
-    ensures { OnOk result (out.new.items ≡ out.old.items ++ from_text repos.now source) }
-{
-    match source {
-        None => out.push(b'-')?,
-        Some(repo) => put_name(out, repos, repo)?,
-    }
-    Ok(())
-}
-
-fn put_start(out: &mut Vec<u8>, start: Option<u64>) -> Result<(), AllocError>
-    ensures { OnOk result (out.new.items ≡ out.old.items ++ start_text start) }
-{
-    match start {
-        None => out.push(b'-')?,
-        Some(offset) => put_number(out, offset)?,
-    }
+    put_number_or_dash(out, start)?;
     Ok(())
 }
 

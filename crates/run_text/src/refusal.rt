@@ -1,13 +1,13 @@
 //! Why a drop was refused.
 
-ghost use Rattle.std.specs.Prelude.{◌≡◌, ◌++◌, ◌∷◌, OnOk, codes};
-ghost use Rattle.std.specs.List.{flat_map};
+ghost use Rattle.std.specs.Prelude.{◌≡◌, ◌++◌, OnOk, codes};
 ghost use Rattle.std.specs.Fmt.{decimal};
-ghost use Rattle.run_text.specs.Names.{joined_text};
+ghost use Rattle.run_text.specs.Words.{joined_text};
 ghost use Rattle.run_text.specs.Outcomes.{proof_text, cause_text, candidate_text, until_text, denial_text, ordered_text, refusal_text};
 
 use crate::names::put_name;
 use crate::proof::put_proof;
+use crate::words::{ItemWords, put_joined};
 use annex_base::put_number;
 use run_data::{CandidateCause, Cause, Denial, DropRefusal, Proof, RepoView};
 use std::alloc::AllocError;
@@ -68,7 +68,7 @@ fn put_lacking(
     out.extend_from_slice(b"5 lacking ")?;
     put_proof(out, repos, proof)?;
     out.extend_from_slice(b" causes=")?;
-    put_candidates(out, repos, causes)?;
+    put_joined(out, b',', &Candidates { repos }, causes)?;
     Ok(())
 }
 
@@ -82,35 +82,20 @@ fn put_expired(out: &mut Vec<u8>, end: u64, clock: u64) -> Result<(), AllocError
     Ok(())
 }
 
-fn put_candidates(
-    out: &mut Vec<u8>,
-    repos: &[RepoView],
-    causes: &[CandidateCause],
-) -> Result<(), AllocError>
-    ensures { OnOk result (out.new.items ≡ out.old.items ++ joined_text 44 (candidate_text repos.now) causes.now) }
-{
-    match causes.split_first() {
-        None => out.push(b'-')?,
-        Some((first, rest)) => {
-            put_candidate(out, repos, *first)?;
-            put_more_candidates(out, repos, rest)?;
-        }
-    }
-    Ok(())
+/// Candidates with the causes for which they don't count.
+#[derive(Clone, Copy)]
+struct Candidates<'r> {
+    repos: &'r [RepoView],
 }
 
-fn put_more_candidates(
-    out: &mut Vec<u8>,
-    repos: &[RepoView],
-    causes: &[CandidateCause],
-) -> Result<(), AllocError>
-    ensures { OnOk result (out.new.items ≡ out.old.items ++ flat_map (λ x. 44 ∷ candidate_text repos.now x) causes.now) }
-{
-    for candidate in causes {
-        out.push(b',')?;
-        put_candidate(out, repos, *candidate)?;
+impl ItemWords<CandidateCause> for Candidates<'_> {
+    ghost use Rattle.run_text.specs.Outcomes.{candidate_text};
+
+    ghost word_of = { λ words candidate. candidate_text words.repos.now candidate };
+
+    fn put(&self, out: &mut Vec<u8>, item: &CandidateCause) -> Result<(), AllocError> {
+        put_candidate(out, self.repos, *item)
     }
-    Ok(())
 }
 
 fn put_candidate(

@@ -1,11 +1,11 @@
 //! Why a transfer was refused.
 
-ghost use Rattle.std.specs.Prelude.{◌≡◌, ◌++◌, ◌∷◌, OnOk};
-ghost use Rattle.std.specs.List.{flat_map};
-ghost use Rattle.run_text.specs.Names.{joined_text};
+ghost use Rattle.std.specs.Prelude.{◌≡◌, ◌++◌, OnOk, codes};
+ghost use Rattle.run_text.specs.Words.{joined_text};
 ghost use Rattle.run_text.specs.Outcomes.{source_text, failure_text, transfer_text};
 
 use crate::names::put_name;
+use crate::words::{ItemWords, put_joined};
 use run_data::{RepoView, SourceCause, SourceFailure, TransferRefusal};
 use std::alloc::AllocError;
 
@@ -19,10 +19,7 @@ pub(crate) fn put_transfer(
 {
     match refusal {
         TransferRefusal::NotHere => out.extend_from_slice(b"1 nothere")?,
-        TransferRefusal::NoSource { causes } => {
-            out.extend_from_slice(b"2 nosource causes=")?;
-            put_failures(out, repos, causes.as_slice())?;
-        }
+        TransferRefusal::NoSource { causes } => put_no_source(out, repos, causes.as_slice())?,
         TransferRefusal::Busy => out.extend_from_slice(b"3 busy")?,
         TransferRefusal::Closed => out.extend_from_slice(b"4 closed")?,
         TransferRefusal::Rejected => out.extend_from_slice(b"5 rejected")?,
@@ -32,35 +29,32 @@ pub(crate) fn put_transfer(
     Ok(())
 }
 
-fn put_failures(
+fn put_no_source(
     out: &mut Vec<u8>,
     repos: &[RepoView],
     causes: &[SourceFailure],
 ) -> Result<(), AllocError>
-    ensures { OnOk result (out.new.items ≡ out.old.items ++ joined_text 44 (failure_text repos.now) causes.now) }
+    ensures { OnOk result (out.new.items ≡ out.old.items ++ (codes "2 nosource causes=" ++ joined_text 44 (failure_text repos.now) causes.now)) }
 {
-    match causes.split_first() {
-        None => out.push(b'-')?,
-        Some((first, rest)) => {
-            put_failure(out, repos, *first)?;
-            put_more_failures(out, repos, rest)?;
-        }
-    }
+    out.extend_from_slice(b"2 nosource causes=")?;
+    put_joined(out, b',', &Failures { repos }, causes)?;
     Ok(())
 }
 
-fn put_more_failures(
-    out: &mut Vec<u8>,
-    repos: &[RepoView],
-    causes: &[SourceFailure],
-) -> Result<(), AllocError>
-    ensures { OnOk result (out.new.items ≡ out.old.items ++ flat_map (λ x. 44 ∷ failure_text repos.now x) causes.now) }
-{
-    for failure in causes {
-        out.push(b',')?;
-        put_failure(out, repos, *failure)?;
+/// Sources with the causes for which they failed.
+#[derive(Clone, Copy)]
+struct Failures<'r> {
+    repos: &'r [RepoView],
+}
+
+impl ItemWords<SourceFailure> for Failures<'_> {
+    ghost use Rattle.run_text.specs.Outcomes.{failure_text};
+
+    ghost word_of = { λ words failure. failure_text words.repos.now failure };
+
+    fn put(&self, out: &mut Vec<u8>, item: &SourceFailure) -> Result<(), AllocError> {
+        put_failure(out, self.repos, *item)
     }
-    Ok(())
 }
 
 fn put_failure(

@@ -3,4 +3,4 @@ use Rattle.std.proofs.Common.{append_assoc}
 use Rattle.run_text.proofs.outcome.put_got.Goals as goal
 
 pub returns : goal.returns
-returns c = simp (c.in_ok-put_start.ensures, c.in_ok-extend_from_slice-2.ensures.items, c.in_ok-put_source.ensures, c.in_ok-extend_from_slice.ensures.items, append_assoc)
+returns c = simp (c.in_ok-put_number_or_dash.ensures.ok, c.in_ok-extend_from_slice-2.ensures.items, c.in_ok-put_name_or_dash.ensures.ok, c.in_ok-extend_from_slice.ensures.items, append_assoc)
