@@ -32,6 +32,7 @@ use Rattle.run_text.specs.Jobs.{begun_text, key_text}
 use Rattle.run_text.specs.Outcomes.{outcome_text}
 use Rattle.journal_text.specs.Journal.{journal_of}
 use Rattle.report_text.specs.Row.{row_at, row_text}
+use Rattle.script_lang.specs.Changes.{Change, Declares, Puts, Brings, Adds, Names, Waits, Nothing, change_of}
 use Rattle.script_lang.specs.declared.command.NamedKey.{NamedKey}
 use Rattle.script_lang.specs.declared.command.Command.{Command}
 use Rattle.script_lang.specs.declared.command.Command.TheVariants as commands
@@ -216,49 +217,19 @@ show_text run place changes commands.ShowTotals = []
 abbrev pub line_text : Run → ℕ → ℕ → ℕ → Command → List ℕ
 line_text run from upto changes c = slot_text run from upto c ++ outcome_lines run from upto ++ show_text run upto changes c
 
+-- how many changes of the tree it makes: one where a path gets a key
+abbrev pub tree_changes : Change → ℕ
+tree_changes (Declares repository) = 0
+tree_changes (Puts r key content) = 0
+tree_changes (Brings content) = 0
+tree_changes (Adds r path key content) = 1
+tree_changes (Names path key) = 1
+tree_changes (Waits milliseconds) = 0
+tree_changes Nothing = 0
+
 -- how many changes of the tree a line makes
 abbrev pub changes_of : Command → ℕ
-changes_of (commands.Add r path key content) = 1
-changes_of (commands.File path key) = 1
-changes_of (commands.Repo name id offset version locks) = 0
-changes_of (commands.Numcopies r number) = 0
-changes_of (commands.Mincopies r number) = 0
-changes_of (commands.NumcopiesFor r number glob) = 0
-changes_of (commands.MincopiesFor r number glob) = 0
-changes_of (commands.Trust r target level) = 0
-changes_of (commands.Describe r target text) = 0
-changes_of (commands.Wanted r target text) = 0
-changes_of (commands.Required r target text) = 0
-changes_of (commands.Group r target groups) = 0
-changes_of (commands.GroupWanted r group text) = 0
-changes_of (commands.Log r file line) = 0
-changes_of (commands.Have r key content) = 0
-changes_of (commands.Part r key content) = 0
-changes_of (commands.Damage r key content) = 0
-changes_of (commands.Run r job) = 0
-changes_of (commands.Begin r job) = 0
-changes_of (commands.Turn r turns) = 0
-changes_of commands.Settle = 0
-changes_of (commands.Merge r other) = 0
-changes_of (commands.Compact r) = 0
-changes_of (commands.Sync r) = 0
-changes_of (commands.Close r other) = 0
-changes_of (commands.Crash r clock) = 0
-changes_of (commands.Wait milliseconds) = 0
-changes_of (commands.Fail r call) = 0
-changes_of (commands.Par lines) = 0
-changes_of (commands.ShowPresence k) = 0
-changes_of (commands.ShowClaims r k) = 0
-changes_of (commands.ShowLocation r k) = 0
-changes_of (commands.ShowLog r file) = 0
-changes_of (commands.ShowLogs r) = 0
-changes_of (commands.ShowNumbers r path) = 0
-changes_of (commands.ShowLevel r target) = 0
-changes_of (commands.ShowWants r target path) = 0
-changes_of (commands.ShowRow r k) = 0
-changes_of (commands.ShowPlan r) = 0
-changes_of commands.ShowTotals = 0
-changes_of commands.ShowJournal = 0
+changes_of c = tree_changes (change_of c)
 
 -- the report from a place on, after lines that made so many changes of the tree
 abbrev pub report_from : Run → ℕ → ℕ → List Command → List ℕ → List ℕ

@@ -2,15 +2,16 @@
 
 ghost use Rattle.std.specs.Prelude.{◌≡◌, ◌++◌, ◌<◌, ◌^◌, IfOk, OnOk, length};
 ghost use Rattle.annex_base.specs.Lists.{Each};
-ghost use Rattle.report_text.specs.Report.{changes_of, line_text, report};
+ghost use Rattle.report_text.specs.Report.{changes_of, line_text, report, tree_changes};
 ghost use Rattle.report_text.specs.Walk.{IsAhead, IsWellFormed, ShowsKnown, StandsIn};
+ghost use Rattle.script_lang.specs.Changes.{seen};
 
 use crate::lines::{put_ended, put_slot};
 use crate::shown::put_shown;
 use crate::walk::Walk;
 use annex_base::NoMemory;
 use run_data::Run;
-use script_lang::Command;
+use script_lang::{Change, Command, change_of};
 use std::alloc::Global;
 
 /// The report of a run of this script (own): for each line of the script that its job found no slot, the lines of the
@@ -65,46 +66,18 @@ fn put_line(
 fn changes_of(command: &Command) -> usize
     ensures { result ≡ changes_of command.now }
 {
-    match command {
-        Command::Add { .. } | Command::File { .. } => 1,
-        Command::Repo { .. }
-        | Command::Numcopies { .. }
-        | Command::Mincopies { .. }
-        | Command::NumcopiesFor { .. }
-        | Command::MincopiesFor { .. }
-        | Command::Trust { .. }
-        | Command::Describe { .. }
-        | Command::Wanted { .. }
-        | Command::Required { .. }
-        | Command::Group { .. }
-        | Command::GroupWanted { .. }
-        | Command::Log { .. }
-        | Command::Have { .. }
-        | Command::Part { .. }
-        | Command::Damage { .. }
-        | Command::Run { .. }
-        | Command::Begin { .. }
-        | Command::Turn { .. }
-        | Command::Settle
-        | Command::Merge { .. }
-        | Command::Compact { .. }
-        | Command::Sync { .. }
-        | Command::Close { .. }
-        | Command::Crash { .. }
-        | Command::Wait { .. }
-        | Command::Fail { .. }
-        | Command::Par { .. }
-        | Command::ShowPresence { .. }
-        | Command::ShowClaims { .. }
-        | Command::ShowLocation { .. }
-        | Command::ShowLog { .. }
-        | Command::ShowLogs { .. }
-        | Command::ShowNumbers { .. }
-        | Command::ShowLevel { .. }
-        | Command::ShowWants { .. }
-        | Command::ShowRow { .. }
-        | Command::ShowPlan { .. }
-        | Command::ShowTotals
-        | Command::ShowJournal => 0,
+    tree_changes(&change_of(command))
+}
+
+fn tree_changes(change: &Change<'_>) -> usize
+    ensures { result ≡ tree_changes (seen change.now) }
+{
+    match change {
+        Change::Adds { .. } | Change::Names { .. } => 1,
+        Change::Declares { .. }
+        | Change::Puts { .. }
+        | Change::Brings { .. }
+        | Change::Waits { .. }
+        | Change::Nothing => 0,
     }
 }
