@@ -118,8 +118,8 @@ slot_text run from upto commands.ShowTotals = []
 slot_text run from upto commands.ShowJournal = []
 
 -- the repositories that have the key before a place
-abbrev pub having : Run → ℕ → List ℕ → List ℕ
-having run place key = filter (λ r. present (past_at run place) r key) (range_with_len 0 (length run.repos))
+abbrev pub possessors : Run → ℕ → List ℕ → List ℕ
+possessors run place key = filter (λ r. present (past_at run place) r key) (range_with_len 0 (length run.repos))
 
 -- repositories by their names, in order of number, and after them identifiers that no repository of the run has, in byte order
 abbrev pub names_of_ids : List RepoView → List (List ℕ) → List (List ℕ)
@@ -144,7 +144,7 @@ abbrev pub named_text : NamedKey → List ℕ
 named_text k = key_text k.key k.path
 
 abbrev pub presence_text : Run → ℕ → NamedKey → List ℕ
-presence_text run place k = codes "presence " ++ named_text k ++ codes " " ++ joined_text 32 (name_of run.repos) (having run place k.key) ++ codes "\n"
+presence_text run place k = codes "presence " ++ named_text k ++ codes " " ++ joined_text 32 (name_of run.repos) (possessors run place k.key) ++ codes "\n"
 
 -- a file of the branch of a repository
 abbrev pub log_text : Run → ℕ → List ℕ → List (List ℕ) → List ℕ

@@ -23,15 +23,15 @@ abbrev pub hold_view : Hold → HoldView
 hold_view h = record { number = h.number; end = h.end; kept = h.kept }
 
 -- those of the holds that block the key at this time of the clock, in order of number; the newest is given first
-abbrev pub blocking : List ℕ → ℕ → List Hold → List HoldView
-blocking key clock hs = map hold_view (reverse (filter (blocks key clock) hs))
+abbrev pub blockers : List ℕ → ℕ → List Hold → List HoldView
+blockers key clock hs = map hold_view (reverse (filter (blocks key clock) hs))
 
 -- the row of a key at a repository before a place
 abbrev pub row_at : Run → ℕ → ℕ → List ℕ → RowView
 row_at run place r key = record {
   present = present (past_at run place) r key;
   bar = bar (past_at run place) r key;
-  holds = blocking key (clock_at run place r) (holds (past_at run place) r);
+  holds = blockers key (clock_at run place r) (holds (past_at run place) r);
 }
 
 -- ---- its text

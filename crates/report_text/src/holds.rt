@@ -4,7 +4,7 @@ ghost use Rattle.std.specs.Prelude.{◌≡◌, ◌≤◌, filter, map, not, ◌=
 ghost use Rattle.run_data.specs.declared.entry.By.TheVariants.{Peer};
 ghost use Rattle.run_data.specs.declared.entry.EntryKind.TheVariants.{Close, Fault};
 ghost use Rattle.node_model.specs.Rows.{blocks, holds_after, is_lost_ordered, keep_of, restart, same_owner};
-ghost use Rattle.report_text.specs.Row.{blocking, hold_view};
+ghost use Rattle.report_text.specs.Row.{blockers, hold_view};
 ghost use Rattle.report_text.specs.Scan.{holds_after_end, outlives};
 ghost use Rattle.report_text.specs.Walk.{SetsClock};
 
@@ -167,13 +167,13 @@ fn view(hold: &Hold) -> HoldView
 }
 
 /// Those of the holds that block the key at this time of the clock, the oldest first; the newest is given first.
-pub(crate) fn blocking(
+pub(crate) fn blockers(
     alloc: Global,
     holds: &[Hold],
     key: &Key,
     clock: u64,
 ) -> Result<Vec<HoldView>, NoMemory>
-    ensures { IfOk result (λ v. v.items ≡ blocking key.now clock holds.now) }
+    ensures { IfOk result (λ v. v.items ≡ blockers key.now clock holds.now) }
 {
     let mut views = Vec::new(alloc);
     for hold in holds {

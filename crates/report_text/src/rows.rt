@@ -4,7 +4,7 @@ ghost use Rattle.std.specs.Prelude.{◌≤◌};
 
 use crate::bars::change_bars;
 use crate::clock::Setting;
-use crate::holds::{blocking, change_holds};
+use crate::holds::{blockers, change_holds};
 use annex_base::NoMemory;
 use annex_key::Key;
 use run_data::{Entry, EntryKind, Hold, HoldView, RepoView};
@@ -33,7 +33,7 @@ impl Rows {
     ghost use Rattle.run_data.specs.declared.entry.Entry.{Entry};
     ghost use Rattle.run_data.specs.declared.run.RepoView.{RepoView};
     ghost use Rattle.run_model.specs.Past.{bar, clock, holds, now};
-    ghost use Rattle.report_text.specs.Row.{blocking};
+    ghost use Rattle.report_text.specs.Row.{blockers};
     ghost use Rattle.report_text.specs.Rows.{HasRows};
     ghost use Rattle.report_text.specs.Walk.{IsAhead, IsWellFormed};
 
@@ -65,17 +65,17 @@ impl Rows {
     }
 
     /// The holds that block the key, the oldest first.
-    pub(crate) fn blocking(
+    pub(crate) fn blockers(
         &self,
         alloc: Global,
         repo: u32,
         key: &Key,
     ) -> Result<Vec<HoldView>, NoMemory>
         requires { repo < length self.now.repos.items }
-        ensures { IfOk result (λ views. (repos : List RepoView) (past : List Entry) → HasRows self.now repos past → views.items ≡ blocking key.now (clock repos past repo (now past)) (holds past repo)) }
+        ensures { IfOk result (λ views. (repos : List RepoView) (past : List Entry) → HasRows self.now repos past → views.items ≡ blockers key.now (clock repos past repo (now past)) (holds past repo)) }
     {
         let rows = &self.repos[repo as usize];
-        blocking(alloc, &rows.holds, key, rows.setting.shows(self.time))
+        blockers(alloc, &rows.holds, key, rows.setting.shows(self.time))
     }
 
     /// Takes note of what one more entry changes. Where memory is lacking, nothing is said of the table any more.

@@ -142,14 +142,14 @@ fn put_presence(
     out.extend_from_slice(b"presence ")?;
     put_key(out, &key.key, &key.path)?;
     out.push(b' ')?;
-    let numbers = having(*out.allocator(), contents, repos.len(), &key.key)?;
+    let numbers = possessors(*out.allocator(), contents, repos.len(), &key.key)?;
     put_names(out, repos, b' ', &numbers)?;
     out.push(b'\n')?;
     Ok(())
 }
 
 /// The numbers of the repositories that have the key, in order.
-fn having(
+fn possessors(
     alloc: Global,
     contents: &Contents,
     repositories: usize,

@@ -61,7 +61,7 @@ impl Walk {
         requires { repo < length self.now.rows.repos.items }
         ensures { IfOk result (λ row. (run : Run) (place : ℕ) → StandsAt self.now run place → row ≡ row_at run place repo key.now) }
     {
-        let holds = self.rows.blocking(alloc, repo, key)?;
+        let holds = self.rows.blockers(alloc, repo, key)?;
         Ok(RowView {
             present: self.contents.has(repo, key),
             bar: self.rows.bar(repo, key),

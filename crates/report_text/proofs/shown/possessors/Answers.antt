@@ -1,8 +1,8 @@
--- What the proof of `shown::having` needs beside the tactics.
+-- What the proof of `shown::possessors` needs beside the tactics.
 use Rattle.std.proofs.Common.{◌≡◌, ◌<◌, ◌∙◌, sym, ap, arith, Vec, Global, ℕ}
 use Rattle.report_text.proofs.Places.{filter_kept, filter_left}
-use Rattle.report_text.proofs.shown.having.Goals as goal
-use Rattle.report_text.proofs.shown.having.Goals.{then-has+in_ok-push, else-has}
+use Rattle.report_text.proofs.shown.possessors.Goals as goal
+use Rattle.report_text.proofs.shown.possessors.Goals.{then-has+in_ok-push, else-has}
 
 pub loop-repo-preserved : goal.loop-repo-preserved
 loop-repo-preserved c = λ past t.
