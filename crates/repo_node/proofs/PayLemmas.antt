@@ -1,5 +1,5 @@
 -- The line that a node owes first, as a step.
-use Rattle.std.proofs.Common.{◌≡◌, inl, ℕ, ◌+◌, true, false, List, [], ◌∷◌, ◌++◌, drop, Option, Some, None, Result, Ok, Err, length, refl, sym, ap, subst, ◌∙◌}
+use Rattle.std.proofs.Common.{◌≡◌, inl, ℕ, ◌+◌, ◌<◌, arith, true, false, List, [], ◌∷◌, ◌++◌, drop, Option, Some, None, Result, Ok, Err, length, refl, sym, ap, subst, ◌∙◌}
 use Rattle.std.specs.Prelude.{IfSome}
 use Rattle.std.specs.Option.{option_map}
 use Rattle.std.proofs.lemmas.List.{append-nil}
@@ -12,6 +12,7 @@ use Rattle.run_data.specs.declared.entry.EntryKind.{EntryKind}
 use Rattle.run_data.specs.declared.entry.EntryKind.TheVariants.{Fault, Log}
 use Rattle.run_data.specs.declared.entry.FrameView.{FrameView}
 use Rattle.run_data.specs.declared.entry.LogFile.TheVariants.{Location}
+use Rattle.run_data.specs.Histories.{most_entries}
 use Rattle.object_store.specs.Stores.{Contents}
 use Rattle.drop_worker.specs.Working.{failed_in}
 use Rattle.link_ring.specs.Ends.{EndView}
@@ -173,11 +174,19 @@ refused_same refusals.StoreFault n m o other refuses = absurd (other refl)
 refused_same (refusals.BadBundle at) n m o other refuses = absurd refuses
 refused_same refusals.NoMemory n m o other refuses = refuses
 
+-- the line is never refused as no bundle
 pub no_bundle : {K : Type 0} (e : NodeRefused) (at : ℕ) (n m : NodeView K) (o : Owed) → e ≡ refusals.BadBundle at → RefusesFor o.by e PutFile n m → ⊥
 no_bundle refusals.Full at n m o is refuses = absurd cc
 no_bundle refusals.StoreFault at n m o is refuses = absurd cc
 no_bundle (refusals.BadBundle place) at n m o is refuses = refuses
 no_bundle refusals.NoMemory at n m o is refuses = absurd cc
+
+-- nor for a full history, where it has room
+pub no_full : {K : Type 0} (e : NodeRefused) (n m : NodeView K) (o : Owed) → e ≡ refusals.Full → RefusesFor o.by e PutFile n m → length n.history < most_entries → ⊥
+no_full refusals.Full n m o is refuses room = omega (arith, refuses.1, room)
+no_full refusals.StoreFault n m o is refuses room = absurd cc
+no_full (refusals.BadBundle at) n m o is refuses room = absurd cc
+no_full refusals.NoMemory n m o is refuses room = absurd cc
 
 fault_is : {K : Type 0} (e : NodeRefused) (n m : NodeView K) (o : Owed) → e ≡ refusals.StoreFault → RefusesFor o.by e PutFile n m → m ≡ with_entry n m.keeper n.branch (Fault PutFile o.by) []
 fault_is refusals.Full n m o is refuses = absurd cc
@@ -199,9 +208,6 @@ fault_steps refusals.Full n m o before after is refuses pays puts = absurd cc
 fault_steps refusals.StoreFault n m o before after is refuses pays puts = steps_failed n m o before after refuses pays puts
 fault_steps (refusals.BadBundle at) n m o before after is refuses pays puts = absurd cc
 fault_steps refusals.NoMemory n m o before after is refuses pays puts = absurd cc
-
-pub full_fault : (e : NodeRefused) → e ≡ refusals.Full → e ≡ refusals.StoreFault → ⊥
-full_fault e is other = absurd cc
 
 pub memory_fault : (e : NodeRefused) → e ≡ refusals.NoMemory → e ≡ refusals.StoreFault → ⊥
 memory_fault e is other = absurd cc

@@ -1,5 +1,5 @@
 -- What a refused call of a node leaves (own).
-use Rattle.std.specs.Prelude.{◌≡◌, ℕ, length, []}
+use Rattle.std.specs.Prelude.{◌≡◌, length, []}
 use Rattle.annex_base.specs.declared.kinds.Call.{Call}
 use Rattle.run_data.specs.declared.entry.EntryKind.TheVariants.{Fault}
 use Rattle.run_data.specs.declared.entry.By.{By}

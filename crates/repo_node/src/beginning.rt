@@ -13,8 +13,8 @@ ghost use Rattle.run_data.specs.Histories.{most_entries};
 
 use crate::node::Node;
 use crate::past::Past;
-use crate::refused::NodeRefused;
 use annex_base::Items;
+use node_jobs::BeginRefused as JobRefused;
 use node_parts::{Parts, tables_fill_as_states};
 use object_store::Keeper;
 use run_data::{EntryKind, Job, JobKind};
@@ -28,22 +28,6 @@ pub enum BeginRefused {
     Full,
     /// Memory ran out.
     NoMemory,
-}
-
-/// Makes the past ready for one more entry.
-fn make_ready(past: &mut Past) -> Result<(), BeginRefused>
-    ensures ready { OnOk result (IsReady past.new) }
-    ensures same { SamePast past.old past.new }
-    ensures full { IsErrOf result BeginRefused.Full → vec_len past.old.history ≡ most_entries }
-    ensures slot { IsErrOf result BeginRefused.NoSlot → ⊥ }
-{
-    match past.ready() {
-        Ok(()) => Ok(()),
-        Err(NodeRefused::Full) => Err(BeginRefused::Full),
-        Err(NodeRefused::StoreFault | NodeRefused::BadBundle { .. } | NodeRefused::NoMemory) => Err(
-            BeginRefused::NoMemory,
-        ),
-    }
 }
 
 /// Begins the job, and gives its number.
@@ -64,13 +48,19 @@ fn begin_parts(parts: &mut Parts, past: &mut Past, job: &Job) -> Result<u32, Beg
     if !parts.has_slot() {
         return Err(BeginRefused::NoSlot);
     }
-    make_ready(past)?;
+    if past.is_full() {
+        return Err(BeginRefused::Full);
+    }
+    if past.reserve().is_err() {
+        return Err(BeginRefused::NoMemory);
+    }
     let Ok(copy) = job.clone() else {
         return Err(BeginRefused::NoMemory);
     };
     match parts.begin(past.alloc, copy) {
         Ok(number) => Ok(number),
-        Err(_) => Err(BeginRefused::NoMemory),
+        Err(JobRefused::NoSlot) => unreachable!(),
+        Err(JobRefused::NoMemory) => Err(BeginRefused::NoMemory),
     }
 }
 

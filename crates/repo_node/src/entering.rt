@@ -1,12 +1,11 @@
 //! The entry of a step, and what is noted of it: the line that it owes, and the job that it ends.
-ghost use Rattle.std.specs.Prelude.{◌≡◌, ◌<◌, ◌+◌, ◌++◌, [], is_some, nat_le, option_to_list, vec_capacity, vec_len, OnOk};
+ghost use Rattle.std.specs.Prelude.{◌≡◌, ◌<◌, ◌+◌, ◌++◌, [], is_some, option_to_list, vec_capacity, vec_len, OnOk};
 ghost use Rattle.repo_node.specs.Kept.{is_debtor};
 ghost use Rattle.repo_node.specs.Pasts.{Enters, IsReady, SamePast};
 ghost use Rattle.run_data.specs.Histories.{most_entries};
 ghost use Rattle.repo_node.specs.Stepping.{EntersIf, EntersStep, owes_line, place_if};
 ghost use Rattle.repo_node.specs.Turning.{ended_by};
 
-use crate::entries::MOST_ENTRIES;
 use crate::past::Past;
 use crate::setup::Ended;
 use annex_base::{Items, NoMemory};
@@ -16,13 +15,6 @@ use node_parts::{Done, Moment};
 use run_data::{By, Entry, EntryKind, FrameView};
 
 impl Past {
-    /// Whether it has as many entries as it may have.
-    pub(crate) fn is_full(&self) -> bool
-        ensures { result ≡ nat_le most_entries (vec_len self.now.history) }
-    {
-        self.history.len() >= MOST_ENTRIES
-    }
-
     /// When its next entry is made.
     pub(crate) fn moment(&self) -> Moment
         ensures { result ≡ record { time = self.now.time; clock = record { at = 0; to = self.now.setup.offset }; count = self.now.count + 1; number = vec_len self.now.history + 1 } }
@@ -62,15 +54,14 @@ impl Past {
 
 /// Makes room for an entry, for the line that it owes, and for the job that it ends.
 pub(crate) fn make_room(past: &mut Past, debts: &mut Vec<usize>) -> Result<(), NoMemory>
+    requires { vec_len past.old.history < most_entries }
     ensures ready { OnOk result (IsReady past.new) }
     ensures outcomes { OnOk result (vec_len past.new.outcomes < vec_capacity past.new.outcomes) }
     ensures debts { OnOk result (vec_len debts.new < vec_capacity debts.new) }
     ensures same { SamePast past.old past.new }
     ensures same_debts { debts.new.items ≡ debts.old.items }
 {
-    if past.ready().is_err() {
-        return Err(NoMemory);
-    }
+    past.reserve()?;
     debts.reserve(1)?;
     past.outcomes.reserve(1)?;
     Ok(())

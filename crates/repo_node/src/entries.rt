@@ -1,21 +1,22 @@
 //! The next entries of a node.
-ghost use Rattle.std.specs.Prelude.{◌≡◌, ℕ, ◌+◌, ◌<◌, ◌≤◌, ◌^◌, [], Some, length, max, slice_get, IfErr, IsErrOf, OnOk};
+ghost use Rattle.std.specs.Prelude.{◌≡◌, ℕ, ◌+◌, ◌<◌, ◌≤◌, ◌^◌, [], Some, length, max, nat_le, slice_get, vec_len, IfErr, IsErrOf, OnOk};
 ghost use Rattle.annex_base.specs.declared.kinds.Call.{Call};
 ghost use Rattle.object_store.specs.declared.keeper.KeeperFault.TheVariants as faults;
 ghost use Rattle.run_data.specs.declared.entry.By.{By};
 ghost use Rattle.repo_node.specs.Calls.{refusal_of};
 ghost use Rattle.repo_node.specs.Pasts.{AddsTo, FailsFor, IsReady, SamePast};
+ghost use Rattle.run_data.specs.Histories.{most_entries};
 
 use crate::past::Past;
 use crate::refused::NodeRefused;
 use crate::setup::Setup;
-use annex_base::{Call, Items, Line};
+use annex_base::{Call, Items, Line, NoMemory};
 use object_store::KeeperFault;
 use run_data::{By, Entry, EntryKind};
 use std::alloc::Global;
 
 /// How many entries a history has at most.
-pub(crate) const MOST_ENTRIES: usize = 100_000;
+const MOST_ENTRIES: usize = 100_000;
 
 /// No machine makes so many entries.
 const COUNT_LIMIT: u64 = 4_611_686_018_427_387_904;
@@ -61,20 +62,37 @@ impl Past {
         self.count = self.count.max(count);
     }
 
+    /// Whether it has as many entries as it may have.
+    pub(crate) fn is_full(&self) -> bool
+        ensures { result ≡ nat_le most_entries (vec_len self.now.history) }
+    {
+        self.history.len() >= MOST_ENTRIES
+    }
+
     /// Reserves the place of one more entry.
+    pub(crate) fn reserve(&mut self) -> Result<(), NoMemory>
+        requires { vec_len self.old.history < most_entries }
+        ensures ready { OnOk result (IsReady self.new) }
+        ensures same { SamePast self.old self.new }
+    {
+        if self.count + 1 >= COUNT_LIMIT {
+            return Err(NoMemory);
+        }
+        self.history.reserve(1)?;
+        Ok(())
+    }
+
+    /// The same, for a step that a full history refuses.
     pub(crate) fn ready(&mut self) -> Result<(), NodeRefused>
         ensures ready { OnOk result (IsReady self.new) }
         ensures same { SamePast self.old self.new }
         ensures err { IfErr result (λ e. (by : By) (call : Call) → FailsFor by e call self.old self.new) }
         ensures no_fault { IsErrOf result NodeRefused.StoreFault → ⊥ }
     {
-        if self.history.len() >= MOST_ENTRIES {
+        if self.is_full() {
             return Err(NodeRefused::Full);
         }
-        if self.count + 1 >= COUNT_LIMIT {
-            return Err(NodeRefused::NoMemory);
-        }
-        self.history.reserve(1)?;
+        self.reserve()?;
         Ok(())
     }
 

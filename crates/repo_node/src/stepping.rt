@@ -1,5 +1,5 @@
 //! The step of a node: the line that it owes first, or else the step of a session, or else of a job.
-ghost use Rattle.std.specs.Prelude.{◌≡◌, ◌≤◌, ℕ, true, false, Bool, [], map, is_some, IfOk, OnErr};
+ghost use Rattle.std.specs.Prelude.{◌≡◌, ◌≤◌, ◌<◌, ℕ, true, false, Bool, [], length, map, is_some, IfOk, OnErr};
 ghost use Rattle.std.specs.Option.{ForSome};
 ghost use Rattle.link_ring.specs.Ends.{after_drop};
 ghost use Rattle.node_ends.specs.Joined.{StayPaired};
@@ -15,6 +15,7 @@ ghost use Rattle.repo_node.specs.Owing.{is_owing};
 ghost use Rattle.repo_node.specs.Stepping.{AddsIf, MovesSo, ReadySo};
 ghost use Rattle.repo_node.specs.Stored.{TellsSame, store_view};
 ghost use Rattle.repo_node.specs.TurnCalls.{owed_calls, step_calls};
+ghost use Rattle.run_data.specs.Histories.{most_entries};
 
 use crate::entering::{enter_if, make_room};
 use crate::indexing::make_index;
@@ -52,6 +53,7 @@ impl<K: Keeper> Node<K> {
 
     /// Makes the first step that is ready, by one entry, and tells whether there was one.
     pub(crate) fn step(&mut self) -> Result<bool, NoMemory>
+        requires { length self.old.history < most_entries }
         ensures adds { IfOk result (λ b. AddsIf b self.old.parts.links (store_view (K.contents self.old.keeper) (K.parts self.old.keeper) (K.failing self.old.keeper) (K.faults self.old.keeper)) (store_view (K.contents self.new.keeper) (K.parts self.new.keeper) (K.failing self.new.keeper) (K.faults self.new.keeper)) self.old self.new) }
         ensures step { IfOk result (λ b. ForSome (told_of (K.contents self.old.keeper) (K.parts self.old.keeper)) (λ c. MovesSo b step step_calls (store_view (K.contents self.old.keeper) (K.parts self.old.keeper) (K.failing self.old.keeper) (K.faults self.old.keeper)) (store_view (K.contents self.new.keeper) (K.parts self.new.keeper) (K.failing self.new.keeper) (K.faults self.new.keeper)) self.old self.new)) }
         ensures told_parts { is_some (K.parts self.new.keeper) ≡ is_some (K.parts self.old.keeper) }
@@ -77,6 +79,7 @@ impl<K: Keeper> Node<K> {
     /// Pays the first line that is owed.
     fn pay_first(&mut self) -> Result<bool, NoMemory>
         requires owes { is_owing self.old.owed ≡ true }
+        requires room { length self.old.history < most_entries }
         ensures made { IfOk result (λ b. b ≡ true) }
         ensures adds { IfOk result (λ b. AddsIf b self.old.parts.links (store_view (K.contents self.old.keeper) (K.parts self.old.keeper) (K.failing self.old.keeper) (K.faults self.old.keeper)) (store_view (K.contents self.new.keeper) (K.parts self.new.keeper) (K.failing self.new.keeper) (K.faults self.new.keeper)) self.old self.new) }
         ensures step { IfOk result (λ b. ForSome (told_of (K.contents self.old.keeper) (K.parts self.old.keeper)) (λ c. MovesSo b owed_step owed_calls (store_view (K.contents self.old.keeper) (K.parts self.old.keeper) (K.failing self.old.keeper) (K.faults self.old.keeper)) (store_view (K.contents self.new.keeper) (K.parts self.new.keeper) (K.failing self.new.keeper) (K.faults self.new.keeper)) self.old self.new)) }
@@ -93,7 +96,7 @@ impl<K: Keeper> Node<K> {
         match self.pay() {
             Ok(()) => Ok(true),
             Err(NodeRefused::StoreFault) => Ok(true),
-            Err(NodeRefused::Full) => Err(NoMemory),
+            Err(NodeRefused::Full) => unreachable!(),
             Err(NodeRefused::BadBundle { .. }) => unreachable!(),
             Err(NodeRefused::NoMemory) => Err(NoMemory),
         }
@@ -102,6 +105,7 @@ impl<K: Keeper> Node<K> {
     /// The step of a session.
     fn serve(&mut self) -> Result<bool, NoMemory>
         requires paid { is_owing self.old.owed ≡ false }
+        requires room { length self.old.history < most_entries }
         ensures adds { IfOk result (λ b. AddsIf b self.old.parts.links (store_view (K.contents self.old.keeper) (K.parts self.old.keeper) (K.failing self.old.keeper) (K.faults self.old.keeper)) (store_view (K.contents self.new.keeper) (K.parts self.new.keeper) (K.failing self.new.keeper) (K.faults self.new.keeper)) self.old self.new) }
         ensures step { IfOk result (λ b. ForSome (told_of (K.contents self.old.keeper) (K.parts self.old.keeper)) (λ c. MovesSo b session_step session_calls (store_view (K.contents self.old.keeper) (K.parts self.old.keeper) (K.failing self.old.keeper) (K.faults self.old.keeper)) (store_view (K.contents self.new.keeper) (K.parts self.new.keeper) (K.failing self.new.keeper) (K.faults self.new.keeper)) self.old self.new)) }
         ensures told_parts { is_some (K.parts self.new.keeper) ≡ is_some (K.parts self.old.keeper) }
@@ -127,6 +131,7 @@ impl<K: Keeper> Node<K> {
     /// The step of a job.
     fn act(&mut self) -> Result<bool, NoMemory>
         requires paid { is_owing self.old.owed ≡ false }
+        requires room { length self.old.history < most_entries }
         ensures adds { IfOk result (λ b. AddsIf b self.old.parts.links (store_view (K.contents self.old.keeper) (K.parts self.old.keeper) (K.failing self.old.keeper) (K.faults self.old.keeper)) (store_view (K.contents self.new.keeper) (K.parts self.new.keeper) (K.failing self.new.keeper) (K.faults self.new.keeper)) self.old self.new) }
         ensures step { IfOk result (λ b. ForSome (told_of (K.contents self.old.keeper) (K.parts self.old.keeper)) (λ c. MovesSo b job_step job_calls (store_view (K.contents self.old.keeper) (K.parts self.old.keeper) (K.failing self.old.keeper) (K.faults self.old.keeper)) (store_view (K.contents self.new.keeper) (K.parts self.new.keeper) (K.failing self.new.keeper) (K.faults self.new.keeper)) self.old self.new)) }
         ensures told_parts { is_some (K.parts self.new.keeper) ≡ is_some (K.parts self.old.keeper) }

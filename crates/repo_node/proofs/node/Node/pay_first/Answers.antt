@@ -1,7 +1,7 @@
 -- What the proof of `node::Node::pay_first` needs beside the tactics.
 use Rattle.std.proofs.Common.{Err, drop, ap}
 use Rattle.repo_node.specs.Stored.{store_view}
-use Rattle.repo_node.proofs.PayLemmas.{adds_paid, failing_same, fault_adds, fault_parts, fault_steps, full_fault, memory_fault, no_bundle, owing_first, put_left, refused_same, steps_paid}
+use Rattle.repo_node.proofs.PayLemmas.{adds_paid, failing_same, fault_adds, fault_parts, fault_steps, memory_fault, no_bundle, no_full, owing_first, put_left, refused_same, steps_paid}
 use Rattle.repo_node.proofs.node.Node.pay_first.Goals as goal
 
 pub returns-in-Ok-clause-adds : goal.returns-in-Ok-clause-adds
@@ -55,20 +55,6 @@ returns-in-Err-StoreFault-clause-links g c =
     let it = c.in-Err-StoreFault in
     fault_parts it.field-0 n c.pay.new.self first.0 it.field-0-is (it.ensures.err first.0 (drop 1 n.owed) first.1)
 
-pub returns-in-Err-Full-clause-links : goal.returns-in-Err-Full-clause-links
-returns-in-Err-Full-clause-links g c =
-    let n = c.args.self.now in
-    let first = owing_first n.owed c.requires.owes in
-    let it = c.in-Err-Full in
-    ap (λ v. v.parts) (refused_same it.field-0 n c.pay.new.self first.0 (full_fault it.field-0 it.field-0-is) (it.ensures.err first.0 (drop 1 n.owed) first.1))
-
-pub returns-in-Err-Full-clause-err : goal.returns-in-Err-Full-clause-err
-returns-in-Err-Full-clause-err g c =
-    let n = c.args.self.now in
-    let first = owing_first n.owed c.requires.owes in
-    let it = c.in-Err-Full in
-    refused_same it.field-0 n c.pay.new.self first.0 (full_fault it.field-0 it.field-0-is) (it.ensures.err first.0 (drop 1 n.owed) first.1)
-
 pub returns-in-Err-NoMemory-clause-links : goal.returns-in-Err-NoMemory-clause-links
 returns-in-Err-NoMemory-clause-links g c =
     let n = c.args.self.now in
@@ -82,18 +68,6 @@ returns-in-Err-NoMemory-clause-err g c =
     let first = owing_first n.owed c.requires.owes in
     let it = c.in-Err-NoMemory in
     refused_same it.field-0 n c.pay.new.self first.0 (memory_fault it.field-0 it.field-0-is) (it.ensures.err first.0 (drop 1 n.owed) first.1)
-
-pub returns-in-Err-Full-clause-err_store : goal.returns-in-Err-Full-clause-err_store
-returns-in-Err-Full-clause-err_store g c =
-    let it = c.in-Err-Full in
-    let e = c.pay.ensures in
-    record {
-      contents = e.contents;
-      parts = e.parts;
-      records = e.records;
-      files = it.ensures.err_files;
-      failing = failing_same it.field-0 (g.K.Keeper.failing c.args.self.now.keeper) (g.K.Keeper.failing c.pay.new.self.keeper) (full_fault it.field-0 it.field-0-is) it.ensures.calls;
-    }
 
 pub returns-in-Err-NoMemory-clause-err_store : goal.returns-in-Err-NoMemory-clause-err_store
 returns-in-Err-NoMemory-clause-err_store g c =
@@ -109,6 +83,13 @@ returns-in-Err-NoMemory-clause-err_store g c =
 
 pub unreachable-requires : goal.unreachable-requires
 unreachable-requires g c =
+    let n = c.args.self.now in
+    let first = owing_first n.owed c.requires.owes in
+    let it = c.in-Err-Full in
+    no_full it.field-0 n c.pay.new.self first.0 it.field-0-is (it.ensures.err first.0 (drop 1 n.owed) first.1) c.requires.room
+
+pub unreachable-requires-in-Err-BadBundle : goal.unreachable-requires-in-Err-BadBundle
+unreachable-requires-in-Err-BadBundle g c =
     let n = c.args.self.now in
     let first = owing_first n.owed c.requires.owes in
     let it = c.in-Err-BadBundle in
