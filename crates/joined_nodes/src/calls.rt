@@ -47,7 +47,7 @@ impl<K: Keeper> Nodes<K> {
     pub fn advance(&mut self, repo: usize, time: u64, count: u64)
         requires there { repo < length self.old }
         requires time { time ≤ 1000000000000 }
-        requires count { count < 2 ^ 62 }
+        requires count { count < 2 ^ 61 }
         ensures node { AtNode repo self.old self.new (λ was now. now ≡ record was { time = max was.time time; count = max was.count count }) }
         ensures others { (i : ℕ) → i ≢ repo → slice_get self.new i ≡ slice_get self.old i }
         ensures count { length self.new ≡ length self.old }

@@ -1,5 +1,5 @@
 -- The past of a node and its next entries; for private contracts.
-use Rattle.std.specs.Prelude.{◌≡◌, ℕ, ◌+◌, ◌<◌, ◌^◌, vec_len, vec_capacity, true, List, [], ◌∷◌, ◌++◌, Option, Some, None}
+use Rattle.std.specs.Prelude.{◌≡◌, ℕ, ◌+◌, ◌<◌, vec_len, vec_capacity, true, List, [], ◌∷◌, ◌++◌, Option, Some, None}
 use Rattle.annex_base.specs.declared.kinds.Call.{Call}
 use Rattle.run_data.specs.declared.entry.Entry.{Entry}
 use Rattle.run_data.specs.declared.entry.EntryKind.{EntryKind}
@@ -22,11 +22,10 @@ pub record SamePast (was now : Past) : Type 0 where
   pub history : now.history.items ≡ was.history.items
   pub outcomes : now.outcomes.items ≡ was.outcomes.items
 
--- one more entry has its place, and its count is below 2 ^ 62
+-- one more entry has its place, and isn't one too many
 pub record IsReady (p : Past) : Type 0 where
   pub room : vec_len p.history < vec_capacity p.history
   pub few : vec_len p.history < most_entries
-  pub counted : p.count + 1 < 2 ^ 62
 
 abbrev pub entry_of : Past → EntryKind → List (List ℕ) → Entry
 entry_of p kind lines = record { time = p.time; count = p.count + 1; repo = Some p.setup.number; kind = kind; taken = None; sent = []; lines = lines }

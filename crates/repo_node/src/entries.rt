@@ -1,5 +1,5 @@
 //! The next entries of a node.
-ghost use Rattle.std.specs.Prelude.{◌≡◌, ℕ, ◌+◌, ◌<◌, ◌≤◌, ◌^◌, [], Some, length, max, nat_le, slice_get, vec_len, IfErr, IsErrOf, OnOk};
+ghost use Rattle.std.specs.Prelude.{◌≡◌, ◌<◌, ◌≤◌, ◌^◌, [], Some, length, max, nat_le, slice_get, vec_len, IfErr, IsErrOf, OnOk};
 ghost use Rattle.annex_base.specs.declared.kinds.Call.{Call};
 ghost use Rattle.object_store.specs.declared.keeper.KeeperFault.TheVariants as faults;
 ghost use Rattle.run_data.specs.declared.entry.By.{By};
@@ -17,9 +17,6 @@ use std::alloc::Global;
 
 /// How many entries a history has at most.
 const MOST_ENTRIES: usize = 100_000;
-
-/// No machine makes so many entries.
-const COUNT_LIMIT: u64 = 4_611_686_018_427_387_904;
 
 impl Past {
     pub(crate) fn new(alloc: Global, setup: Setup) -> Past
@@ -51,7 +48,7 @@ impl Past {
 
     pub(crate) fn advance(&mut self, time: u64, count: u64)
         requires time { time ≤ 1000000000000 }
-        requires count { count < 2 ^ 62 }
+        requires count { count < 2 ^ 61 }
         ensures time { self.new.time ≡ max self.old.time time }
         ensures count { self.new.count ≡ max self.old.count count }
         ensures setup { self.new.setup ≡ self.old.setup }
@@ -75,9 +72,6 @@ impl Past {
         ensures ready { OnOk result (IsReady self.new) }
         ensures same { SamePast self.old self.new }
     {
-        if self.count + 1 >= COUNT_LIMIT {
-            return Err(NoMemory);
-        }
         self.history.reserve(1)?;
         Ok(())
     }

@@ -110,7 +110,7 @@ impl<K: Keeper> Node<K> {
     /// Raises the time, in milliseconds of the script, and the count of the last entry. Neither ever falls.
     pub fn advance(&mut self, time: u64, count: u64)
         requires time { time ≤ 1000000000000 }
-        requires count { count < 2 ^ 62 }
+        requires count { count < 2 ^ 61 }
         ensures { self.new ≡ record self.old { time = max self.old.time time; count = max self.old.count count } }
     {
         self.past.advance(time, count);
