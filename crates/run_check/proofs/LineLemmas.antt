@@ -24,7 +24,7 @@ use Rattle.log_lines.specs.Keeping.{Says}
 use Rattle.log_lines.specs.Files.{file_name}
 use Rattle.trust_groups.specs.Settings.{Lines, claims, is_present, level, level_in, settings, value_in}
 use Rattle.trust_groups.specs.Claims.{IsClaimed}
-use Rattle.node_model.specs.Evidence.{standing_by, standing_seen}
+use Rattle.node_model.specs.Evidence.{Asked, standing_by, standing_seen}
 use Rattle.run_data.specs.declared.entry.Entry.{Entry}
 use Rattle.run_data.specs.declared.entry.EntryKind.{EntryKind}
 use Rattle.run_data.specs.declared.entry.EntryKind.TheVariants.{Log}
@@ -33,9 +33,7 @@ use Rattle.run_data.specs.Repos.{id_of, offset_of}
 use Rattle.run_model.specs.Past.{begun_job, is_of}
 use Rattle.run_model.specs.Logs.{added_by, lines_ever, read_at}
 use Rattle.run_model.specs.Drops.{key_in, standing}
-use Rattle.run_check.specs.declared.reading.Seen.TheVariants.{Asked as seen_asked}
-use Rattle.run_check.specs.Lines.{added_by_entry, has_present, is_added, level_said, present_said, standing_given, standing_said}
-use Rattle.run_check.specs.Values.{as_standing}
+use Rattle.run_check.specs.Lines.{added_by_entry, has_present, is_added, level_said, present_said, standing_said}
 
 -- ---- laws of the crates below, as their functions state them
 
@@ -81,30 +79,24 @@ said_claimed claimed lines key id alive h = go (newest_of kinds.Location (lines 
 
 -- ---- standings
 
-seen_same : (l : Level) (present claimed : Bool) → (l ≡ levels.Trusted → present ≡ claimed) → as_standing (standing_given l present) ≡ standing_seen l claimed
-seen_same levels.Trusted present claimed same = go present claimed (same refl)
-  where
-    go : (p c : Bool) → p ≡ c → as_standing (standing_given levels.Trusted p) ≡ standing_seen levels.Trusted c
-    go true true h = refl
-    go true false h = cc
-    go false true h = cc
-    go false false h = refl
+seen_same : (l : Level) (present claimed : Bool) → (l ≡ levels.Trusted → present ≡ claimed) → standing_seen l present ≡ standing_seen l claimed
+seen_same levels.Trusted present claimed same = ap (λ b. standing_seen levels.Trusted b) (same refl)
 seen_same levels.Semitrusted present claimed same = refl
 seen_same levels.Untrusted present claimed same = refl
 seen_same levels.Dead present claimed same = refl
 
-by_lines : ClaimsAreExact → (lines : Lines) (key id : List ℕ) → as_standing (standing_given (level lines id) (present_said (lines (location_path key)) id)) ≡ standing_by (settings lines) key id
+by_lines : ClaimsAreExact → (lines : Lines) (key id : List ℕ) → standing_seen (level lines id) (present_said (lines (location_path key)) id) ≡ standing_by (settings lines) key id
 by_lines claimed lines key id =
     seen_same (level lines id) (present_said (lines (location_path key)) id) (list_any (λ x. bytes_eq x id) (claims lines key))
     (λ trusted. let alive : level lines id ≢ levels.Dead = λ dead. absurd (cc) in same_test _ _ (said_claimed claimed lines key id alive) (claimed_said claimed lines key id alive))
 
 -- a job that read these lines sees each repository as the definitions do
 pub standing_same : ClaimsAreExact → (repos : List RepoView) (past : List Entry) (a j r : ℕ) (trust location : List (List ℕ)) → trust ≡ lines_ever (read_at past a j) a (file_name kinds.Trust)
-    → location ≡ lines_ever (read_at past a j) a (location_path (key_in (begun_job (read_at past a j) a j))) → as_standing (standing_said trust location (id_of repos r)) ≡ standing repos past a j r
+    → location ≡ lines_ever (read_at past a j) a (location_path (key_in (begun_job (read_at past a j) a j))) → standing_said trust location (id_of repos r) ≡ standing repos past a j r
 unfolding standing
 standing_same claimed repos past a j r trust location trust_is location_is =
-    ap (λ lines. as_standing (standing_given (level_said lines (id_of repos r)) (present_said location (id_of repos r)))) trust_is
-    ∙ ap (λ lines. as_standing (standing_given (level (lines_ever (read_at past a j) a) (id_of repos r)) (present_said lines (id_of repos r)))) location_is
+    ap (λ lines. standing_seen (level_said lines (id_of repos r)) (present_said location (id_of repos r))) trust_is
+    ∙ ap (λ lines. standing_seen (level (lines_ever (read_at past a j) a) (id_of repos r)) (present_said lines (id_of repos r))) location_is
     ∙ by_lines claimed (lines_ever (read_at past a j) a) (key_in (begun_job (read_at past a j) a j)) (id_of repos r)
 
 -- ---- identifiers and offsets
@@ -137,9 +129,9 @@ no_line lines e says topic =
     let long : length form.id ≡ 16 = form.repo.0 in
     absurd (omega (arith, long, ap length none))
 
-pub asked-none : NothingIsExact → (trust location : List (List ℕ)) (id : List ℕ) → id ≡ [] → standing_said trust location id ≡ seen_asked
+pub asked-none : NothingIsExact → (trust location : List (List ℕ)) (id : List ℕ) → id ≡ [] → standing_said trust location id ≡ Asked
 asked-none nothing trust location id none =
-    ap (λ x. standing_said trust location x) none ∙ ap (λ o. standing_given (level_in (value_in o)) (present_said location [])) ((nothing kinds.Trust trust (topics.Repo [])).1 (no_line trust))
+    ap (λ x. standing_said trust location x) none ∙ ap (λ o. standing_seen (level_in (value_in o)) (present_said location [])) ((nothing kinds.Trust trust (topics.Repo [])).1 (no_line trust))
 
 -- ---- the path
 

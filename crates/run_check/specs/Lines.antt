@@ -1,32 +1,21 @@
 -- What the checker reads of the lines of two files, of trust.log and of a key's location log; for private contracts (own).
-use Rattle.std.specs.Prelude.{ℕ, Bool, true, false, ◌&&◌, if◌then◌else◌, List, [], Option, Some, None, bytes_eq}
+use Rattle.std.specs.Prelude.{ℕ, Bool, false, ◌&&◌, if◌then◌else◌, List, [], Option, Some, None, bytes_eq}
 use Rattle.annex_base.specs.declared.kinds.Level.{Level}
-use Rattle.annex_base.specs.declared.kinds.Level.TheVariants as levels
 use Rattle.log_lines.specs.declared.entry.LogKind.TheVariants as kinds
 use Rattle.log_lines.specs.declared.entry.Topic.TheVariants as topics
 use Rattle.log_lines.specs.declared.entry.Value.{Value}
 use Rattle.log_lines.specs.Newest.{newest_of}
-use Rattle.trust_groups.specs.Settings.{is_present, level_in, value_in}
+use Rattle.trust_groups.specs.Settings.{is_present, level, value_in}
+use Rattle.node_model.specs.Evidence.{Standing, standing_seen}
 use Rattle.run_data.specs.declared.entry.Entry.{Entry}
 use Rattle.run_data.specs.declared.entry.EntryKind.{EntryKind}
 use Rattle.run_data.specs.declared.entry.EntryKind.TheVariants.{Log}
-use Rattle.run_data.specs.declared.job.Cause.TheVariants.{Untrusted, Dead}
 use Rattle.run_data.specs.Files.{file_path}
 use Rattle.run_model.specs.Past.{is_of}
-use Rattle.run_check.specs.declared.reading.Seen.{Seen}
-use Rattle.run_check.specs.declared.reading.Seen.TheVariants.{Claimed, Ignored, Asked}
-
--- a repository of this level, which has the key by its newest status or hasn't
-abbrev pub standing_given : Level → Bool → Seen
-standing_given levels.Trusted true = Claimed
-standing_given levels.Trusted false = Asked
-standing_given levels.Semitrusted present = Asked
-standing_given levels.Untrusted present = Ignored Untrusted
-standing_given levels.Dead present = Ignored Dead
 
 -- how far the lines of trust.log trust the repository
 abbrev pub level_said : List (List ℕ) → List ℕ → Level
-level_said lines repo = level_in (value_in (newest_of kinds.Trust lines (topics.Repo repo)))
+level_said lines repo = level (λ path. lines) repo
 
 abbrev pub has_present : Option Value → Bool
 has_present None = false
@@ -37,8 +26,8 @@ abbrev pub present_said : List (List ℕ) → List ℕ → Bool
 present_said lines repo = has_present (value_in (newest_of kinds.Location lines (topics.Repo repo)))
 
 -- how these lines see the repository
-abbrev pub standing_said : List (List ℕ) → List (List ℕ) → List ℕ → Seen
-standing_said trust location repo = standing_given (level_said trust repo) (present_said location repo)
+abbrev pub standing_said : List (List ℕ) → List (List ℕ) → List ℕ → Standing
+standing_said trust location repo = standing_seen (level_said trust repo) (present_said location repo)
 
 -- an entry of this kind adds its lines to the file of this path
 abbrev pub is_added : List ℕ → EntryKind → Bool

@@ -5,12 +5,13 @@ ghost use Rattle.std.specs.Option.{option_copied};
 ghost use Rattle.log_lines.specs.declared.entry.LogKind.TheVariants as kinds;
 ghost use Rattle.log_lines.specs.Files.{file_name};
 ghost use Rattle.hash_dirs.specs.LogPath.{location_log, location_path};
+ghost use Rattle.node_model.specs.Evidence.{standing_seen};
 ghost use Rattle.run_data.specs.Repos.{id_of};
 ghost use Rattle.run_model.specs.Past.{begun_job, is_of};
 ghost use Rattle.run_model.specs.Logs.{lines_ever, read_at};
 ghost use Rattle.run_model.specs.Drops.{key_in, standing};
 ghost use Rattle.trust_groups.specs.Settings.{is_present, level_in};
-ghost use Rattle.run_check.specs.Lines.{added_by_entry, is_added, level_said, present_said, standing_given, standing_said};
+ghost use Rattle.run_check.specs.Lines.{added_by_entry, is_added, level_said, present_said, standing_said};
 ghost use Rattle.run_check.specs.Values.{as_standing};
 
 use crate::pasts::{begun_job, is_of};
@@ -54,7 +55,7 @@ impl Reading {
 
     /// How these lines see the repository of this number.
     fn seen(&self, alloc: Global, repos: &[RepoView], repo: usize) -> Result<Seen, NoMemory>
-        ensures { IfOk result (λ s. s ≡ standing_said self.now.trust self.now.location (id_of repos.now repo)) }
+        ensures { IfOk result (λ s. as_standing s ≡ standing_said self.now.trust self.now.location (id_of repos.now repo)) }
     {
         // a law, for the proof that no line speaks of a repository without an identifier
         readings_are_exact();
@@ -88,7 +89,7 @@ pub(crate) fn standing(
 }
 
 fn standing_seen(level: Level, present: bool) -> Seen
-    ensures { result ≡ standing_given level present }
+    ensures { as_standing result ≡ standing_seen level present }
 {
     match level {
         Level::Trusted if present => Seen::Claimed,
