@@ -3,5 +3,4 @@ pub mod Kinds
 pub mod Lines
 pub mod Values
 pub mod Places
-pub mod Standing
 pub mod Whole

@@ -1,13 +1,13 @@
 //! Whether a run is safe, at one place for one key, and as a whole.
 
-ghost use Rattle.std.specs.Prelude.{◌≡◌, ◌==◌, ◌||◌, ◌&&◌, reverse, count_by, IfOk};
+ghost use Rattle.std.specs.Prelude.{◌≡◌, ◌==◌, ◌||◌, ◌&&◌, List, reverse, count_by, IfOk};
 ghost use Rattle.std.specs.List.{list_any, list_all, range_with_len};
 ghost use Rattle.drop_proof.specs.Judging.{is_enough};
 ghost use Rattle.node_model.specs.Evidence.{is_trusted};
+ghost use Rattle.run_data.specs.declared.run.RepoView.{RepoView};
 ghost use Rattle.run_model.specs.Past.{present};
-ghost use Rattle.run_model.specs.Safety.{count, has_enough, is_backed, is_gone, is_rightful, least_need, removals, smaller, trusts, within};
+ghost use Rattle.run_model.specs.Safety.{all_stand, count, has_enough, is_backed, is_gone, is_rightful, least_need, removals, smaller, stands, trusts, within};
 ghost use Rattle.run_check.specs.Places.{is_safe_at};
-ghost use Rattle.run_check.specs.Standing.{all_stand_by, stands_by};
 
 use crate::items::{Item, ItemKind, is_enough};
 use crate::pasts::{before, is_present};
@@ -189,8 +189,10 @@ fn is_backed(
     }
 }
 
+/// The same of the items of a removal, if there is one.
 fn all_stand(entries: &[Entry], key: &Key, removed: &[Removed], last: &Option<Removed>) -> bool
-    ensures { result ≡ all_stand_by (reverse entries.now) key.now (reverse removed.now) last.now }
+    ensures { (repos : List RepoView) → reverse removed.now ≡ removals repos (reverse entries.now) key.now
+        → result ≡ all_stand repos (reverse entries.now) key.now last.now }
 {
     match last {
         Some(last) => items_stand(last.items.as_slice(), entries, key, removed),
@@ -198,14 +200,17 @@ fn all_stand(entries: &[Entry], key: &Key, removed: &[Removed], last: &Option<Re
     }
 }
 
+/// Whether what the items stand for is there; `removed` are all removals of the key among the entries.
 fn items_stand(items: &[Item], entries: &[Entry], key: &Key, removed: &[Removed]) -> bool
-    ensures { result ≡ list_all (stands_by (reverse entries.now) key.now (reverse removed.now)) items.now }
+    ensures { (repos : List RepoView) → reverse removed.now ≡ removals repos (reverse entries.now) key.now
+        → result ≡ list_all (stands repos (reverse entries.now) key.now) items.now }
 {
     items.iter().all(|item| stands(item, entries, key, removed))
 }
 
 fn stands(item: &Item, entries: &[Entry], key: &Key, removed: &[Removed]) -> bool
-    ensures { result ≡ stands_by (reverse entries.now) key.now (reverse removed.now) item.now }
+    ensures { (repos : List RepoView) → reverse removed.now ≡ removals repos (reverse entries.now) key.now
+        → result ≡ stands repos (reverse entries.now) key.now item.now }
 {
     match item.kind {
         ItemKind::Locked { .. } => is_present(entries, item.repo, key.text()),
