@@ -1,14 +1,16 @@
 -- A run is safe where it is safe at each place for each key that is taken away.
-use Rattle.std.proofs.Common.{◌≡◌, ℕ, zero, suc, ◌+◌, ◌<◌, ◌≤◌, Bool, true, false, not, ◌&&◌, ◌||◌, List, [], ◌∷◌, ◌++◌, length, take, reverse, Option, Some, None, inl, inr, refl, sym, ap, ◌∙◌, subst, arith, add-one, add-zero, zero-add}
+use Rattle.std.proofs.Common.{◌≡◌, ℕ, ◌+◌, ◌<◌, ◌≤◌, Bool, true, false, not, ◌&&◌, ◌||◌, List, [], ◌∷◌, length, take, reverse, Option, Some, None, refl, sym, ap, ◌∙◌, subst, arith}
 use Rattle.std.specs.Prelude.{◌↔◌, IsTrue, nat_le}
 use Rattle.std.proofs.lemmas.Bool.Decides.{nat_tests}
 use Rattle.std.specs.List.{list_all, list_any, range_with_len}
 use Rattle.std.proofs.lemmas.List.{reverse-reverse, take_all}
+use Rattle.std.proofs.Math.Bool.{and-true, and_comm}
 use Rattle.std.proofs.lemmas.Bool.{and_from, and_parts}
-use Rattle.annex_base.specs.Lists.{Each, Member}
-use Rattle.annex_base.proofs.Lists.{Each-reverse, Each-take, list_all_member, list_any_found, list_any_nowhere}
+use Rattle.std.proofs.lemmas.List.Folds.{list_all-append}
+use Rattle.annex_base.specs.Lists.{Each}
+use Rattle.annex_base.proofs.Lists.{Each-always, Each-reverse, Each-take, list_all-from_Each, list_all_member, list_any_found, list_any_nowhere}
 use Rattle.annex_base.proofs.Conditions.{bytes_eq-true, by_test, decided}
-use Rattle.annex_base.proofs.Numbers.{range_suc}
+use Rattle.annex_base.proofs.Numbers.{Member-range, range_more}
 use Rattle.run_data.specs.declared.entry.By.TheVariants.{Script, Job as by_job, Peer}
 use Rattle.run_data.specs.declared.entry.Entry.{Entry}
 use Rattle.run_data.specs.declared.entry.EntryKind.{EntryKind}
@@ -64,24 +66,11 @@ stays run key place h =
 
 -- ---- the whole run
 
-range_member : (a n k : ℕ) → k < n → Member (a + k) (range_with_len a n)
-range_member a zero k lt = absurd (omega (arith, lt))
-range_member a (suc n) zero lt = inl (add-zero a)
-range_member a (suc n) (suc k) lt =
-    let at : (a + 1) + k ≡ a + suc k = omega arith in inr (subst (λ m. Member m (range_with_len (a + 1) n)) at (range_member (a + 1) n k (omega (arith, lt))))
-
 -- one place more
 pub all_range_more : (q : ℕ → Bool) (n : ℕ) → list_all q (range_with_len 0 (n + 1)) ≡ (q n && list_all q (range_with_len 0 n))
-all_range_more q n = rw add-one (ap (λ xs. list_all q xs) (range_suc 0 n) ∙ last (range_with_len 0 n))
-  where
-    swap : (a b c : Bool) → (a && (b && c)) ≡ (b && (a && c))
-    swap true b c = refl
-    swap false true c = refl
-    swap false false c = refl
-
-    last : (xs : List ℕ) → list_all q (xs ++ (0 + n) ∷ []) ≡ (q n && list_all q xs)
-    last [] = ap (λ k. q k && true) (zero-add n)
-    last (x ∷ xs) = ap (λ b. q x && b) (last xs) ∙ swap (q x) (q n) (list_all q xs)
+all_range_more q n =
+    let before = list_all q (range_with_len 0 n) in
+    ap (λ xs. list_all q xs) (range_more n) ∙ list_all-append q (range_with_len 0 n) (n ∷ []) ∙ ap (λ b. before && b) (and-true (q n)) ∙ and_comm before (q n)
 
 -- behind the end nothing changes
 past_behind : (run : Run) (place : ℕ) → length run.entries ≤ place → past_at run place ≡ past_at run (length run.entries)
@@ -97,7 +86,7 @@ safe_within run h key place lt = by_test (list_any (λ e. is_gone key e.kind) (r
   where
     here : list_all (λ e. is_safe_for run place e.kind) (reverse run.entries) ≡ true
     here = list_all_member (λ p. list_all (λ e. is_safe_for run p e.kind) (reverse run.entries)) (range_with_len 0 (length run.entries + 1)) place h
-        (subst (λ m. Member m (range_with_len 0 (length run.entries + 1))) (zero-add place) (range_member 0 (length run.entries + 1) place lt))
+        (Member-range 0 (length run.entries + 1) place (omega arith) (omega (arith, lt)))
 
     taken : list_any (λ e. is_gone key e.kind) (reverse run.entries) ≡ true → is_safe_at run key place ≡ true
     taken any =
@@ -119,8 +108,7 @@ safe_everywhere run h key place = by_test (nat_le place (length run.entries))
     beyond gt = grind (arith, nat_tests)
 
 all_of : {X : Type 0} (p : X → Bool) → ((x : X) → p x ≡ true) → (xs : List X) → list_all p xs ≡ true
-all_of p f [] = refl
-all_of p f (x ∷ xs) = and_from _ _ (f x) (all_of p f xs)
+all_of p f xs = list_all-from_Each p xs (Each-always (λ x. p x ≡ true) f xs)
 
 safe_kind : (run : Run) → IsSafe run → (place : ℕ) (kind : EntryKind) → is_safe_for run place kind ≡ true
 safe_kind run h place (Gone source key) = safe_there run h key place
