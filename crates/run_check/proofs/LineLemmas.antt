@@ -1,5 +1,5 @@
 -- What the checker reads of the lines of two files is how the logs see a repository.
-use Rattle.std.proofs.Common.{◌≡◌, ◌≢◌, ℕ, zero, suc, Bool, true, false, ◌&&◌, List, [], ◌∷◌, ◌++◌, length, Option, Some, None, refl, sym, ap, ◌∙◌, subst, arith}
+use Rattle.std.proofs.Common.{◌≡◌, ◌≢◌, ℕ, zero, suc, Bool, true, false, List, [], ◌∷◌, ◌++◌, length, Option, Some, None, refl, sym, ap, ◌∙◌, subst, arith}
 use Rattle.std.specs.Prelude.{◌↔◌, bytes_eq, if◌then◌else◌, slice_get}
 use Rattle.std.specs.List.{list_any}
 use Rattle.std.proofs.lemmas.List.{append_assoc, append-nil}
@@ -26,14 +26,12 @@ use Rattle.trust_groups.specs.Settings.{Lines, claims, is_present, level, level_
 use Rattle.trust_groups.specs.Claims.{IsClaimed}
 use Rattle.node_model.specs.Evidence.{Asked, standing_by, standing_seen}
 use Rattle.run_data.specs.declared.entry.Entry.{Entry}
-use Rattle.run_data.specs.declared.entry.EntryKind.{EntryKind}
-use Rattle.run_data.specs.declared.entry.EntryKind.TheVariants.{Log}
 use Rattle.run_data.specs.declared.run.RepoView.{RepoView}
 use Rattle.run_data.specs.Repos.{id_of, offset_of}
 use Rattle.run_model.specs.Past.{begun_job, is_of}
 use Rattle.run_model.specs.Logs.{added_by, lines_ever, read_at}
 use Rattle.run_model.specs.Drops.{key_in, standing}
-use Rattle.run_check.specs.Lines.{added_by_entry, has_present, is_added, level_said, present_said, standing_said}
+use Rattle.run_check.specs.Lines.{has_present, level_said, present_said, standing_said}
 
 -- ---- laws of the crates below, as their functions state them
 
@@ -146,28 +144,21 @@ path_without_key = ap (λ text. location_log text []) unchunked-none
 
 -- ---- lines
 
-added_is : (path : List ℕ) (kind : EntryKind) (lines : List (List ℕ)) → added_by path kind lines ≡ (if is_added path kind then lines else [])
-added_is path (Log file) lines = refl
-added_is path _ lines = refl
-
-ever-cons : (e : Entry) (past : List Entry) (r : ℕ) (path : List ℕ) → lines_ever (e ∷ past) r path ≡ added_by_entry r path e ++ lines_ever past r path
-ever-cons e past r path = go (is_of r e) ∙ ap (λ xs. xs ++ lines_ever past r path) (test (is_of r e) (is_added path e.kind))
-  where
-    go : (b : Bool) → (if b then added_by path e.kind e.lines ++ lines_ever past r path else lines_ever past r path) ≡ (if b then (if is_added path e.kind then e.lines else []) else []) ++ lines_ever past r path
-    go true = ap (λ xs. xs ++ lines_ever past r path) (added_is path e.kind e.lines)
-    go false = refl
-
-    test : (b c : Bool) → (if b then (if c then e.lines else []) else []) ≡ (if b && c then e.lines else [])
-    test true c = refl
-    test false c = refl
-
 pub ever-append : (xs ys : List Entry) (r : ℕ) (path : List ℕ) → lines_ever (xs ++ ys) r path ≡ lines_ever xs r path ++ lines_ever ys r path
 ever-append [] ys r path = refl
-ever-append (e ∷ xs) ys r path = ever-cons e (xs ++ ys) r path ∙ ap (λ zs. added_by_entry r path e ++ zs) (ever-append xs ys r path) ∙ sym (append_assoc (added_by_entry r path e) (lines_ever xs r path) (lines_ever ys r path)) ∙ ap (λ zs. zs ++ lines_ever ys r path) (sym (ever-cons e xs r path))
+ever-append (e ∷ xs) ys r path = go (is_of r e) (ever-append xs ys r path)
+  where
+    added : List (List ℕ)
+    added = added_by path e.kind e.lines
 
-pub ever-one : (e : Entry) (r : ℕ) (path : List ℕ) → lines_ever (e ∷ []) r path ≡ added_by_entry r path e
-ever-one e r path = ever-cons e [] r path ∙ append-nil (added_by_entry r path e)
+    go : (b : Bool) → lines_ever (xs ++ ys) r path ≡ lines_ever xs r path ++ lines_ever ys r path
+        → (if b then added ++ lines_ever (xs ++ ys) r path else lines_ever (xs ++ ys) r path) ≡ (if b then added ++ lines_ever xs r path else lines_ever xs r path) ++ lines_ever ys r path
+    go true older = ap (λ zs. added ++ zs) older ∙ sym (append_assoc added (lines_ever xs r path) (lines_ever ys r path))
+    go false older = older
+
+pub ever-one : (e : Entry) (r : ℕ) (path : List ℕ) → lines_ever (e ∷ []) r path ≡ (if is_of r e then added_by path e.kind e.lines else [])
+ever-one e r path = ap (λ xs. if is_of r e then xs else []) (append-nil (added_by path e.kind e.lines))
 
 -- one more entry, before the others
-pub ever_more : (entries : List Entry) (e : Entry) (r : ℕ) (path : List ℕ) (was new : List (List ℕ)) → was ≡ lines_ever entries r path → new ≡ was ++ added_by_entry r path e → new ≡ lines_ever (entries ++ e ∷ []) r path
-ever_more entries e r path was new old h = h ∙ ap (λ xs. xs ++ added_by_entry r path e) old ∙ ap (λ xs. lines_ever entries r path ++ xs) (sym (ever-one e r path)) ∙ sym (ever-append entries (e ∷ []) r path)
+pub ever_more : (entries : List Entry) (e : Entry) (r : ℕ) (path : List ℕ) (was new : List (List ℕ)) → was ≡ lines_ever entries r path → new ≡ was ++ (if is_of r e then added_by path e.kind e.lines else []) → new ≡ lines_ever (entries ++ e ∷ []) r path
+ever_more entries e r path was new old h = h ∙ ap (λ xs. xs ++ (if is_of r e then added_by path e.kind e.lines else [])) old ∙ ap (λ xs. lines_ever entries r path ++ xs) (sym (ever-one e r path)) ∙ sym (ever-append entries (e ∷ []) r path)

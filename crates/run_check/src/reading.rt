@@ -1,6 +1,6 @@
 //! How the logs see a repository, as a job reads them, by every line that was ever added.
 
-ghost use Rattle.std.specs.Prelude.{◌≡◌, ◌++◌, [], ◌&&◌, reverse, Some, IfOk, OnOk};
+ghost use Rattle.std.specs.Prelude.{◌≡◌, ◌++◌, [], if◌then◌else◌, reverse, Some, IfOk, OnOk};
 ghost use Rattle.std.specs.Option.{option_copied};
 ghost use Rattle.log_lines.specs.declared.entry.LogKind.TheVariants as kinds;
 ghost use Rattle.log_lines.specs.Files.{file_name};
@@ -8,10 +8,10 @@ ghost use Rattle.hash_dirs.specs.LogPath.{location_log, location_path};
 ghost use Rattle.node_model.specs.Evidence.{standing_seen};
 ghost use Rattle.run_data.specs.Repos.{id_of};
 ghost use Rattle.run_model.specs.Past.{begun_job, is_of};
-ghost use Rattle.run_model.specs.Logs.{lines_ever, read_at};
+ghost use Rattle.run_model.specs.Logs.{added_by, lines_ever, read_at};
 ghost use Rattle.run_model.specs.Drops.{key_in, standing};
 ghost use Rattle.trust_groups.specs.Settings.{is_present, level_in};
-ghost use Rattle.run_check.specs.Lines.{added_by_entry, is_added, level_said, present_said, standing_said};
+ghost use Rattle.run_check.specs.Lines.{level_said, present_said, standing_said};
 ghost use Rattle.run_check.specs.Values.{as_standing};
 
 use crate::pasts::{begun_job, is_of};
@@ -180,28 +180,31 @@ fn add(
     repo: usize,
     path: &[u8],
 ) -> Result<(), NoMemory>
-    ensures { OnOk result (lines.new ≡ lines.old ++ added_by_entry repo path.now entry.now) }
+    ensures { OnOk result (lines.new ≡ lines.old ++ (if is_of repo entry.now
+        then added_by path.now entry.now.kind entry.now.lines else [])) }
 {
-    if adds_to(alloc, entry, repo, path)? {
-        push_all(lines, entry.lines.as_slice())?;
+    if is_of(entry, repo) {
+        add_logged(alloc, lines, entry, path)?;
     }
     Ok(())
 }
 
-/// Whether the entry is one of the repository that adds lines to the file of this path.
-fn adds_to(alloc: Global, entry: &Entry, repo: usize, path: &[u8]) -> Result<bool, NoMemory>
-    ensures { IfOk result (λ b. b ≡ (is_of repo entry.now && is_added path.now entry.now.kind)) }
+/// Adds the lines that the entry adds to the file of this path.
+fn add_logged(
+    alloc: Global,
+    lines: &mut Items<Line>,
+    entry: &Entry,
+    path: &[u8],
+) -> Result<(), NoMemory>
+    ensures { OnOk result (lines.new ≡ lines.old ++ added_by path.now entry.now.kind entry.now.lines) }
 {
-    if !is_of(entry, repo) {
-        return Ok(false);
-    }
-    match &entry.kind {
-        EntryKind::Log { file } => {
-            let at = file.path(alloc)?;
-            Ok(at.bytes() == path)
+    if let EntryKind::Log { file } = &entry.kind {
+        let at = file.path(alloc)?;
+        if at.bytes() == path {
+            push_all(lines, entry.lines.as_slice())?;
         }
-        _ => Ok(false),
     }
+    Ok(())
 }
 
 fn push_all(lines: &mut Items<Line>, more: &[Line]) -> Result<(), NoMemory>
