@@ -7,7 +7,8 @@ ghost use Rattle.run_check.specs.Kinds.{kind_of};
 use drop_proof::{Need, Side};
 use std::marker::Model;
 
-/// What kind of evidence an item is. The end of a lock is in milliseconds; no end of any run is too great for it.
+/// What kind of evidence an item is. The end of a lock is in milliseconds; no end of any run is too great for it. In
+/// `drop_proof::Kind` it is below 2^64, and a run of any data may have locks that end later.
 #[derive(Clone, Copy)]
 pub(crate) enum ItemKind {
     Locked { end: u128 },
@@ -15,7 +16,8 @@ pub(crate) enum ItemKind {
     Recent,
 }
 
-/// An item of the evidence of a drop, which contracts see as such: what one repository, by its number, gave it.
+/// An item of the evidence of a drop, which contracts see as such: what one repository, by its number, gave it. A run
+/// of any data may have more repositories than the numbers of `drop_proof::Evidence` count.
 #[derive(Drop)]
 pub(crate) struct Item {
     pub(crate) repo: usize,
