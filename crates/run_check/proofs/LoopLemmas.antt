@@ -1,7 +1,6 @@
 -- The checker's loops over entries and frames, against the definitions.
-use Rattle.std.proofs.Common.{◌≡◌, ℕ, ◌+◌, ◌<◌, Bool, true, false, ◌&&◌, ◌||◌, count_by, List, [], ◌∷◌, ◌++◌, length, get_or, take, reverse, Option, Some, None, refl, sym, ap, ◌∙◌, arith}
+use Rattle.std.proofs.Common.{◌≡◌, ℕ, ◌+◌, ◌<◌, Bool, true, false, ◌&&◌, List, [], ◌∷◌, ◌++◌, length, get_or, take, reverse, Option, Some, None, refl, sym, ap, ◌∙◌, arith}
 use Rattle.std.specs.Prelude.{is_none, if◌then◌else◌, filter, option_map, option_to_list}
-use Rattle.std.specs.List.{list_any, range_with_len}
 use Rattle.std.proofs.lemmas.List.{append-nil, length-reverse, length-take-le, reverse-append, take_more}
 use Rattle.std.proofs.lemmas.List.Elements.{filter-append}
 use Rattle.annex_base.proofs.Pasts.{past_more}
@@ -13,13 +12,13 @@ use Rattle.run_check.specs.declared.said.Said.{Said as SeenSaid}
 use Rattle.run_check.specs.Values.{as_said}
 use Rattle.run_model.specs.Logs.{before_step, in_drop, is_step}
 use Rattle.run_model.specs.Drops.{option_is_none}
-use Rattle.run_model.specs.Past.{Decision, decided_after, decision, is_of, present}
+use Rattle.run_model.specs.Past.{Decision, decided_after, decision, is_of}
 use Rattle.node_model.specs.Evidence.{Offer, gather}
 use Rattle.drop_proof.specs.declared.evidence.Evidence.{Evidence}
 use Rattle.drop_proof.specs.declared.rule.Need.{Need}
 use Rattle.drop_proof.specs.declared.rule.Side.{Side}
 use Rattle.drop_proof.specs.Judging.{is_enough}
-use Rattle.run_model.specs.Safety.{Removal, add_removal, count, is_backed, is_rightful, least_need, removal, removals, trusts, within}
+use Rattle.run_model.specs.Safety.{Removal, add_removal, removal, removals}
 use Rattle.node_model.specs.Look.{first_of}
 use Rattle.run_model.specs.Drops.{Vouch, newer, reply, tells}
 use Rattle.run_check.specs.declared.vouching.Told.{Told}
@@ -111,21 +110,6 @@ last_said frames i x was new said lt is old read h =
     go : (b : Bool) → (if b then Some (message_in x.frame.body) else option_map said_of (last_of (filter (λ y. says is_request y.frame) (take i frames)))) ≡ option_map said_of (if b then Some x else last_of (filter (λ y. says is_request y.frame) (take i frames)))
     go true = refl
     go false = refl
-
--- ---- the three conditions
-
-pub within_same : (repos : List RepoView) (past : List Entry) (key : List ℕ) (removed : List Removal) → removed ≡ removals repos past key
-    → within (least_need removed) (count_by (λ r. present past r key || list_any (trusts r) removed) (range_with_len 0 (length repos))) ≡ within (least_need (removals repos past key)) (count repos past key)
-within_same repos past key removed h = ap (λ xs. within (least_need xs) (count_by (λ r. present past r key || list_any (trusts r) xs) (range_with_len 0 (length repos)))) h
-
-pub safe_same : (repos repos' : List RepoView) (past past' : List Entry) (key : List ℕ) (w r b all : Bool) → repos' ≡ repos → past' ≡ past
-    → w ≡ within (least_need (removals repos' past' key)) (count repos' past' key) → r ≡ is_rightful repos' past' key → b ≡ is_backed repos' past' key → all ≡ (w && (r && b))
-    → all ≡ (within (least_need (removals repos past key)) (count repos past key) && (is_rightful repos past key && is_backed repos past key))
-safe_same repos repos' past past' key w r b all er ep w_is r_is b_is all_is =
-    all_is ∙ ap (λ x. x && (r && b)) w_is ∙ ap (λ x. within (least_need (removals repos' past' key)) (count repos' past' key) && (x && b)) r_is
-    ∙ ap (λ x. within (least_need (removals repos' past' key)) (count repos' past' key) && (is_rightful repos' past' key && x)) b_is
-    ∙ ap (λ (m : List RepoView). within (least_need (removals m past' key)) (count m past' key) && (is_rightful m past' key && is_backed m past' key)) er
-    ∙ ap (λ p. within (least_need (removals repos p key)) (count repos p key) && (is_rightful repos p key && is_backed repos p key)) ep
 
 -- ---- replies
 

@@ -1,11 +1,10 @@
 //! Whether a run is safe, at one place for one key, and as a whole.
 
-ghost use Rattle.std.specs.Prelude.{◌≡◌, ◌==◌, ◌||◌, ◌&&◌, List, reverse, count_by, IfOk};
-ghost use Rattle.std.specs.List.{list_any, list_all, range_with_len};
+ghost use Rattle.std.specs.Prelude.{◌≡◌, ◌==◌, ◌&&◌, List, reverse, IfOk};
+ghost use Rattle.std.specs.List.{list_any, list_all};
 ghost use Rattle.drop_proof.specs.Judging.{is_enough};
 ghost use Rattle.node_model.specs.Evidence.{is_trusted};
 ghost use Rattle.run_data.specs.declared.run.RepoView.{RepoView};
-ghost use Rattle.run_model.specs.Past.{present};
 ghost use Rattle.run_model.specs.Safety.{all_stand, count, has_enough, is_backed, is_gone, is_rightful, least_need, removals, smaller, stands, trusts, within};
 ghost use Rattle.run_check.specs.Places.{is_safe_at};
 
@@ -44,7 +43,7 @@ fn is_within(entries: &[Entry], repos: &[RepoView], key: &Key, removed: &[Remove
     ensures { result ≡ within (least_need (removals repos.now (reverse entries.now) key.now)) (count repos.now (reverse entries.now) key.now) }
 {
     let least = least_need(removed);
-    let count = count(entries, repos.len(), key, removed);
+    let count = count(entries, repos, key, removed);
     within(least, count)
 }
 
@@ -77,15 +76,14 @@ fn within(least: Option<u32>, count: usize) -> bool
     }
 }
 
-/// How many repositories have a copy of the key or a claim.
+/// How many repositories have a copy of the key or a claim; `removed` are all removals of the key.
 #[tactic(auto, using(annex_base::proofs::Pasts::count_range_more))]
-fn count(entries: &[Entry], repos: usize, key: &Key, removed: &[Removed]) -> usize
-    ensures { result ≡ count_by
-        (λ r. present (reverse entries.now) r key.now || list_any (trusts r) (reverse removed.now))
-        (range_with_len 0 repos) }
+fn count(entries: &[Entry], repos: &[RepoView], key: &Key, removed: &[Removed]) -> usize
+    requires all { reverse removed.now ≡ removals repos.now (reverse entries.now) key.now }
+    ensures { result ≡ count repos.now (reverse entries.now) key.now }
 {
     let mut count = 0;
-    for repo in 0..repos {
+    for repo in 0..repos.len() {
         if is_present(entries, repo, key.text()) || has_claim(removed, repo) {
             count += 1;
         }
