@@ -43,7 +43,7 @@ pub record IsStep {K : Type 0} (tells : K → StoreView) (d : Driver) (r : ℕ) 
   pub few : length left.history ≤ most_entries
 
 -- the run with these entries behind its own
-abbrev with_more : Run → List Entry → Run
+abbrev pub with_more : Run → List Entry → Run
 with_more run more = record run { entries = run.entries ++ more }
 
 -- the past is that of the run
@@ -51,7 +51,7 @@ pub past_of : {K : Type 0} (tells : K → StoreView) (g : DriverInput) (d : Driv
 past_of tells g d f come = ap (λ run. reverse run.entries) come.run ∙ reverse-reverse d.past
 
 -- the node that was raised
-raised_is : {K : Type 0} (tells : K → StoreView) (g : DriverInput) (d : Driver) (r had : ℕ) (was up : FleetView K) (n p : NodeView K) → HasCome tells g d was → Raises tells r had was up
+pub raised_is : {K : Type 0} (tells : K → StoreView) (g : DriverInput) (d : Driver) (r had : ℕ) (was up : FleetView K) (n p : NodeView K) → HasCome tells g d was → Raises tells r had was up
     → slice_get was.nodes r ≡ Some n → slice_get up.nodes r ≡ Some p → p ≡ raised d n
 raised_is {K} tells g d r had was up n p come raises at_n at_p =
     subst (λ (past : List Entry). p ≡ record n { time = max n.time (now past); count = max n.count (newest_count past) }) (past_of tells g d was come) (raises.node n p at_n at_p)

@@ -16,7 +16,7 @@ use Rattle.fleet_model.specs.Fleets.{FleetView, HasCome}
 use Rattle.fleet_model.specs.Settling.{goes_rounds, power, unsettled}
 use Rattle.fleet_run.specs.Standing.{GoesOn, IsDriven, IsDrivenWithin, IsFew, IsAtDriver, most_lines}
 use Rattle.fleet_run.proofs.Few.{fewer, rounds_few}
-use Rattle.fleet_run.proofs.Turning.{past_of}
+use Rattle.fleet_run.proofs.Called.{past_of}
 
 -- ---- where it has come
 

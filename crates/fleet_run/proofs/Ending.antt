@@ -35,7 +35,8 @@ use Rattle.fleet_run.specs.Standing.{EndsAtFull, GoesOn, IsAtDriver}
 use Rattle.fleet_run.specs.Telling.{AreFew}
 use Rattle.fleet_run.proofs.Driving.{HasGone, below}
 use Rattle.fleet_run.proofs.Full.{each_at, run_stays}
-use Rattle.fleet_run.proofs.Turning.{IsTurned, node_raised, one_turns, stands_well, where_told}
+use Rattle.fleet_run.proofs.Called.{raised_is}
+use Rattle.fleet_run.proofs.Turning.{IsTurned, one_turns, stands_well, where_told}
 
 -- ---- a turn
 
@@ -53,7 +54,7 @@ pub turn_ends : {K : Type 0} (tells : K → StoreView) (r had : ℕ) (t : Turn) 
     → r < length was.nodes → IsTurned tells r had t was up turned carried after → t ≡ turnings.Full → AtNode r up.nodes turned (IsReady tells) → AreFew after.nodes → EndsAtFull tells r (λ g d. turn g r d) was after
 turn_ends {K} tells r had t was up turned carried after law there call full ready few g d stands =
     subst (λ (run : Run). StopsAtFull g r (turn g r d) run) (sym same_run)
-    (law g d r n was come first.1 others (stands_well tells g d r had was up n second.0 come call.raises first.1 second.1)
+    (law g d r n was come first.1 others (stands_well tells g d r had was up n second.0 come call.turn.raises first.1 second.1)
     (subst (λ (y : NodeView K). length y.history ≡ most_entries) up_is (ready second.0 m second.1 third.1).full)
     (where_told d r (tells n.keeper) ((s : SetUp) → nodes.MatchesSetup n.setup s → HasStep (raised d n) s) (come.each r n first.1).store
     (subst (λ (y : NodeView K). ForSome (told_of (tells y.keeper).contents (tells y.keeper).parts) (λ c. (s : SetUp) → nodes.MatchesSetup y.setup s → HasStep y s)) up_is (ready second.0 m second.1 third.1).ready)
@@ -69,22 +70,22 @@ turn_ends {K} tells r had t was up turned carried after law there call full read
     n = first.0
 
     second : (p : NodeView K) × (slice_get up.nodes r ≡ Some p)
-    second = slice_get-within up.nodes r (subst (λ (c : ℕ). r < c) (sym call.raises.count) there)
+    second = slice_get-within up.nodes r (subst (λ (c : ℕ). r < c) (sym call.turn.raises.count) there)
 
     third : (m : NodeView K) × (slice_get turned r ≡ Some m)
-    third = slice_get-within turned r (subst (λ (c : ℕ). r < c) (sym (call.count ∙ call.raises.count)) there)
+    third = slice_get-within turned r (subst (λ (c : ℕ). r < c) (sym (call.turn.count ∙ call.turn.raises.count)) there)
 
     m : NodeView K
     m = third.0
 
     fourth : (x : NodeView K) × (slice_get carried r ≡ Some x)
-    fourth = slice_get-within carried r (subst (λ (c : ℕ). r < c) (sym (call.carried_count ∙ (call.count ∙ call.raises.count))) there)
+    fourth = slice_get-within carried r (subst (λ (c : ℕ). r < c) (sym (call.carried_count ∙ (call.turn.count ∙ call.turn.raises.count))) there)
 
     one : OneTurns r n m was after
     one = one_turns tells r had t was up turned carried after n second.0 m fourth.0 call first.1 second.1 third.1 fourth.1
 
     up_is : second.0 ≡ raised d n
-    up_is = node_raised tells g d r had was up n second.0 come call.raises first.1 second.1
+    up_is = raised_is tells g d r had was up n second.0 come call.turn.raises first.1 second.1
 
     not_moved : t ≢ turnings.Moved
     not_moved moved = clash (sym full ∙ moved)
@@ -93,7 +94,7 @@ turn_ends {K} tells r had t was up turned carried after law there call full read
         clash e = absurd (cc)
 
     same_history : m.history ≡ n.history
-    same_history = ap (λ (y : NodeView K). y.history) (call.stays second.0 m second.1 third.1 not_moved) ∙ ap (λ (y : NodeView K). y.history) up_is
+    same_history = ap (λ (y : NodeView K). y.history) (call.turn.stays second.0 m second.1 third.1 not_moved) ∙ ap (λ (y : NodeView K). y.history) up_is
 
     same_run : after.run ≡ was.run
     same_run = run_stays n m was after one.run same_history

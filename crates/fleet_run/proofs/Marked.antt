@@ -28,23 +28,20 @@ driven_behind tells command was after less driven goes =
     driven_on tells (length was.run.marks) most_lines (does_command command) was after
     (λ g d few. fewer (length was.run.marks + 1) most_lines (does_command command g d).past (omega (arith, less)) (does_few (length was.run.marks) g d few command)) driven goes
 
--- and behind it
+-- and behind it the run has one mark more
+pub marked_once : {K : Type 0} (tells : K → StoreView) (command : Command) (was after : FleetView K) → MarksLaw → IsDrivenWithin tells (length was.run.marks) was
+    → GoesOn tells (does_and_marks command) was after → length after.run.marks ≡ length was.run.marks + 1
+marked_once {K} tells command was after law driven goes =
+    let g : DriverInput = driven.given in
+    let d : Driver = driven.driver in
+    let stands : IsAtDriver tells g (does_and_marks command g d) after = goes g d driven.stands in
+    ap (λ (run : Run). length run.marks) stands.come.run
+    ∙ (length-append (does_command command g d).marks (length (does_command command g d).past ∷ [])
+    ∙ (ap (λ (marks : List ℕ). length marks + 1) (marks_stay law g (line_of g.repos command) d)
+    ∙ ap (λ (run : Run). length run.marks + 1) (sym driven.stands.come.run)))
+
 pub driven_marked : {K : Type 0} (tells : K → StoreView) (command : Command) (was after : FleetView K) → MarksLaw → IsDrivenWithin tells (length was.run.marks) was
     → GoesOn tells (does_and_marks command) was after → IsDrivenWithin tells (length after.run.marks) after
 driven_marked {K} tells command was after law driven goes =
-    subst (λ (most : ℕ). IsDrivenWithin tells most after) (sym marked)
+    subst (λ (most : ℕ). IsDrivenWithin tells most after) (sym (marked_once tells command was after law driven goes))
     (driven_on tells (length was.run.marks) (length was.run.marks + 1) (does_and_marks command) was after (λ g d few. does_few (length was.run.marks) g d few command) driven goes)
-  where
-    g : DriverInput
-    g = driven.given
-
-    d : Driver
-    d = driven.driver
-
-    marked : length after.run.marks ≡ length was.run.marks + 1
-    marked =
-        let stands : IsAtDriver tells g (does_and_marks command g d) after = goes g d driven.stands in
-        ap (λ (run : Run). length run.marks) stands.come.run
-        ∙ (length-append (does_command command g d).marks (length (does_command command g d).past ∷ [])
-        ∙ (ap (λ (marks : List ℕ). length marks + 1) (marks_stay law g (line_of g.repos command) d)
-        ∙ ap (λ (run : Run). length run.marks + 1) (sym driven.stands.come.run)))

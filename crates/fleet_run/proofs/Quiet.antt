@@ -16,22 +16,17 @@ use Rattle.repo_node.specs.declared.turn.Turn.{Turn}
 use Rattle.repo_node.specs.declared.turn.Turn.TheVariants as turns
 use Rattle.driver_model.specs.Driver.{Driver, DriverInput, set_up_of}
 use Rattle.driver_model.specs.Turning.{turn}
-use Rattle.joined_nodes.specs.Joined.{AreNodes, AtNode}
+use Rattle.joined_nodes.specs.Joined.{AreNodes}
 use Rattle.fleet_model.specs.Fleets.{FleetView, HasCome}
 use Rattle.fleet_model.specs.Steps.{OneGoesOn, raised, with_links}
 use Rattle.fleet_model.specs.Turns.{StandsWell}
 use Rattle.fleet_run.specs.Standing.{GoesOn}
-use Rattle.fleet_run.specs.Telling.{Raises}
-use Rattle.fleet_run.proofs.Turning.{node_raised, stands_well, where_told}
+use Rattle.fleet_run.proofs.Called.{raised_is}
+use Rattle.fleet_run.proofs.Turning.{TakesTurn, dropped_with, stands_well, where_told}
 
--- The fleet was raised, and a turn of its node of r came to this, which had no step ready and no frame to drop.
+-- The turn had no step ready and no frame to drop.
 pub record IsRested {K : Type 0} (tells : K → StoreView) (r had : ℕ) (t : Turn) (was up : FleetView K) (turned : List (NodeView K)) : Type 0 where
-  pub raises : Raises tells r had was up
-  pub idle : AtNode r up.nodes turned (λ n m. t ≡ turns.Idle → ForSome (told_of (tells n.keeper).contents (tells n.keeper).parts) (λ c. (s : SetUp) → nodes.MatchesSetup n.setup s → IsIdle n s))
-  pub stays : AtNode r up.nodes turned (λ n m. t ≢ turns.Moved → m ≡ record n { keeper = m.keeper; parts = record n.parts { links = map after_drop n.parts.links } })
-  pub unasked : AtNode r up.nodes turned (λ n m. t ≢ turns.Moved → t ≢ turns.NoMemory → m.keeper ≡ n.keeper)
-  pub others : (q : ℕ) → q ≢ r → slice_get turned q ≡ slice_get up.nodes q
-  pub count : length turned ≡ length up.nodes
+  pub turn : TakesTurn tells r had t was up turned
   pub is_idle : t ≡ turns.Idle
   pub kept : (n : NodeView K) → slice_get was.nodes r ≡ Some n → map after_drop n.parts.links ≡ n.parts.links
   pub joined : AreNodes was.nodes
@@ -41,10 +36,6 @@ abbrev pub RestLaw : Type 0 → Type 0
 RestLaw K = (tells : K → StoreView) (g : DriverInput) (d : Driver) (r : ℕ) (n m : NodeView K) (was after : FleetView K)
     → HasCome tells g d was → OneGoesOn r n m was after → AreNodes was.nodes → StandsWell g d r n → map after_drop n.parts.links ≡ n.parts.links
     → m ≡ raised d n → IsIdle (raised d n) (set_up_of g d r) → HasCome tells g (turn g r d) after
-
--- the node over this store, once old frames were dropped
-abbrev dropped_with : {K : Type 0} → NodeView K → K → NodeView K
-dropped_with n keeper = record n { keeper = keeper; parts = record n.parts { links = map after_drop n.parts.links } }
 
 pub rests_on : {K : Type 0} → RestLaw K → (tells : K → StoreView) (r had : ℕ) (t : Turn) (was up : FleetView K) (turned : List (NodeView K))
     → r < length was.nodes → IsRested tells r had t was up turned → GoesOn tells (λ g d. turn g r d) was (record { nodes = turned; run = up.run })
@@ -63,19 +54,19 @@ rests_on {K} law tells r had t was up turned there call g d stands = record {
     n = first.0
 
     second : (p : NodeView K) × (slice_get up.nodes r ≡ Some p)
-    second = slice_get-within up.nodes r (subst (λ (c : ℕ). r < c) (sym call.raises.count) there)
+    second = slice_get-within up.nodes r (subst (λ (c : ℕ). r < c) (sym call.turn.raises.count) there)
 
     third : (m : NodeView K) × (slice_get turned r ≡ Some m)
-    third = slice_get-within turned r (subst (λ (c : ℕ). r < c) (sym (call.count ∙ call.raises.count)) there)
+    third = slice_get-within turned r (subst (λ (c : ℕ). r < c) (sym (call.turn.count ∙ call.turn.raises.count)) there)
 
     m : NodeView K
     m = third.0
 
     up_is : second.0 ≡ raised d n
-    up_is = node_raised tells g d r had was up n second.0 come call.raises first.1 second.1
+    up_is = raised_is tells g d r had was up n second.0 come call.turn.raises first.1 second.1
 
     well : StandsWell g d r n
-    well = stands_well tells g d r had was up n second.0 come call.raises first.1 second.1
+    well = stands_well tells g d r had was up n second.0 come call.turn.raises first.1 second.1
 
     not_moved : t ≢ turns.Moved
     not_moved moved = clash (sym call.is_idle ∙ moved)
@@ -91,14 +82,14 @@ rests_on {K} law tells r had t was up turned there call g d stands = record {
 
     dropped : m ≡ with_links (raised d n) (map after_drop n.parts.links)
     dropped = subst (λ (y : NodeView K). m ≡ with_links y (map after_drop y.parts.links)) up_is
-        (call.stays second.0 m second.1 third.1 not_moved ∙ ap (dropped_with second.0) (call.unasked second.0 m second.1 third.1 not_moved not_short))
+        (call.turn.stays second.0 m second.1 third.1 not_moved ∙ ap (dropped_with second.0) (call.turn.unasked second.0 m second.1 third.1 not_moved not_short))
 
     but : m ≡ raised d n
     but = dropped ∙ ap (with_links (raised d n)) (call.kept n first.1)
 
     idle : IsIdle (raised d n) (set_up_of g d r)
     idle = where_told d r (tells n.keeper) ((s : SetUp) → nodes.MatchesSetup n.setup s → IsIdle (raised d n) s) (come.each r n first.1).store
-        (subst (λ (y : NodeView K). ForSome (told_of (tells y.keeper).contents (tells y.keeper).parts) (λ c. (s : SetUp) → nodes.MatchesSetup y.setup s → IsIdle y s)) up_is (call.idle second.0 m second.1 third.1 call.is_idle))
+        (subst (λ (y : NodeView K). ForSome (told_of (tells y.keeper).contents (tells y.keeper).parts) (λ c. (s : SetUp) → nodes.MatchesSetup y.setup s → IsIdle y s)) up_is (call.turn.idle second.0 m second.1 third.1 call.is_idle))
         (set_up_of g d r) (come.each r n first.1).setup
 
     no_more : was.run.entries ++ drop (length n.history) m.history ≡ was.run.entries
@@ -108,7 +99,7 @@ rests_on {K} law tells r had t was up turned there call g d stands = record {
     on = record {
       before = first.1;
       there = third.1;
-      others = λ q other. call.others q other ∙ call.raises.others q other;
-      count = call.count ∙ call.raises.count;
-      run = call.raises.run ∙ (λ i. record was.run { entries = sym no_more i });
+      others = λ q other. call.turn.others q other ∙ call.turn.raises.others q other;
+      count = call.turn.count ∙ call.turn.raises.count;
+      run = call.turn.raises.run ∙ (λ i. record was.run { entries = sym no_more i });
     }

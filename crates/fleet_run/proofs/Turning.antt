@@ -36,10 +36,10 @@ use Rattle.fleet_model.specs.Stores.{IsStoreOf, IsTold, content_in}
 use Rattle.fleet_model.specs.Turns.{IsWhole, StandsWell}
 use Rattle.fleet_run.specs.Standing.{GoesOn, IsAtDriver}
 use Rattle.fleet_run.specs.Telling.{Raises, Tells}
+use Rattle.fleet_run.proofs.Called.{past_of, raised_is, with_more}
 
--- The fleet was raised; a turn of its node of r came to this, and then frames were carried between that node and all others; and
--- then it was told.
-pub record IsTurned {K : Type 0} (tells : K → StoreView) (r had : ℕ) (t : Turn) (was up : FleetView K) (turned carried : List (NodeView K)) (after : FleetView K) : Type 0 where
+-- The fleet was raised, and a turn of its node of r came to this.
+pub record TakesTurn {K : Type 0} (tells : K → StoreView) (r had : ℕ) (t : Turn) (was up : FleetView K) (turned : List (NodeView K)) : Type 0 where
   pub raises : Raises tells r had was up
   pub moved : AtNode r up.nodes turned (λ n m. t ≡ turns.Moved → Adds (map after_drop n.parts.links) (tells n.keeper) (tells m.keeper) n m)
   pub steps : AtNode r up.nodes turned (λ n m. t ≡ turns.Moved → ForSome (told_of (tells n.keeper).contents (tells n.keeper).parts) (λ c. StepsBy step step_calls (tells n.keeper) (tells m.keeper) n m))
@@ -49,6 +49,10 @@ pub record IsTurned {K : Type 0} (tells : K → StoreView) (r had : ℕ) (t : Tu
   pub small : AtNode r up.nodes turned (λ n m. AreSmallParts (tells n.keeper).parts → AreSmallParts (tells m.keeper).parts)
   pub others : (q : ℕ) → q ≢ r → slice_get turned q ≡ slice_get up.nodes q
   pub count : length turned ≡ length up.nodes
+
+-- Then frames were carried between that node and all others; and then it was told.
+pub record IsTurned {K : Type 0} (tells : K → StoreView) (r had : ℕ) (t : Turn) (was up : FleetView K) (turned carried : List (NodeView K)) (after : FleetView K) : Type 0 where
+  pub turn : TakesTurn tells r had t was up turned
   pub whole : (m : NodeView K) → slice_get turned r ≡ Some m → IsWhole tells m
   pub rest : AtNode r turned carried (λ n m. m ≡ joined.with_links n m.parts.links)
   pub links : AtNode r turned carried (λ n m. joined.AreAllCarried r turned n.parts.links m.parts.links)
@@ -69,16 +73,8 @@ pub record TurnLaws (K : Type 0) : Type 0 where
 
 -- ---- where the driver was
 
-pub past_of : {K : Type 0} (tells : K → StoreView) (g : DriverInput) (d : Driver) (f : FleetView K) → HasCome tells g d f → reverse f.run.entries ≡ d.past
-past_of tells g d f come = ap (λ (run : Run). reverse run.entries) come.run ∙ Rattle.std.proofs.lemmas.List.reverse-reverse d.past
-
 few_past : {K : Type 0} (tells : K → StoreView) (g : DriverInput) (d : Driver) (f : FleetView K) → HasCome tells g d f → length f.run.entries < 2 ^ 30 → length d.past < 2 ^ 30
 few_past tells g d f come few = subst (λ (n : ℕ). n < 2 ^ 30) (sym (length-reverse f.run.entries) ∙ ap length (past_of tells g d f come)) few
-
-pub node_raised : {K : Type 0} (tells : K → StoreView) (g : DriverInput) (d : Driver) (r had : ℕ) (was up : FleetView K) (n p : NodeView K) → HasCome tells g d was → Raises tells r had was up
-    → slice_get was.nodes r ≡ Some n → slice_get up.nodes r ≡ Some p → p ≡ raised d n
-node_raised {K} tells g d r had was up n p come raises at_n at_p =
-    subst (λ (past : List Entry). p ≡ record n { time = max n.time (now past); count = max n.count (newest_count past) }) (past_of tells g d was come) (raises.node n p at_n at_p)
 
 -- where a store tells, so does what is said of it
 pub where_told : (d : Driver) (r : ℕ) (v : StoreView) (P : Type 0) → IsStoreOf d r v → ForSome (told_of v.contents v.parts) (λ c. P) → P
@@ -100,7 +96,7 @@ pub stands_well : {K : Type 0} (tells : K → StoreView) (g : DriverInput) (d : 
     → slice_get was.nodes r ≡ Some n → slice_get up.nodes r ≡ Some p → StandsWell g d r n
 stands_well {K} tells g d r had was up n p come raises at_n at_p =
     let own = come.each r n at_n in
-    let whole : IsWhole tells (raised d n) = subst (IsWhole tells) (node_raised tells g d r had was up n p come raises at_n at_p) (raises.whole n p at_n at_p) in
+    let whole : IsWhole tells (raised d n) = subst (IsWhole tells) (raised_is tells g d r had was up n p come raises at_n at_p) (raises.whole n p at_n at_p) in
     record {
       known = subst (λ (c : ℕ). r < c) come.count (slice_get_within was.nodes r n at_n);
       few = few_past tells g d was come raises.few;
@@ -109,10 +105,6 @@ stands_well {K} tells g d r had was up n p come raises at_n at_p =
     }
 
 -- ---- the turn, and the frames that were carried
-
--- the run with these entries behind its own
-abbrev with_more : Run → List Entry → Run
-with_more run es = record run { entries = run.entries ++ es }
 
 abbrev ends_in : {K : Type 0} → Option (NodeView K) → List EndView
 ends_in {K} o = option_map_or (λ (n : NodeView K). n.parts.links) o []
@@ -126,7 +118,7 @@ one_turns {K} tells r had t was up turned carried after n p m x call at_n at_p a
       let less : q < length turned = subst (λ (c : ℕ). q < c) call.carried_count (slice_get_within carried q y (then_at q ∙ at)) in
       let found = slice_get-within turned q less in
       (found.0, was_at q other ∙ found.1, call.others_rest q other found.0 y found.1 (then_at q ∙ at));
-  count = ap length call.told.nodes ∙ (call.carried_count ∙ (call.count ∙ call.raises.count));
+  count = ap length call.told.nodes ∙ (call.carried_count ∙ (call.turn.count ∙ call.turn.raises.count));
   carried = record {
     own = λ q slot client known other low. own_carried q slot client known other low (slice_get-within turned q (subst (λ (c : ℕ). q < c) (sym counted) known));
     theirs = λ q slot client known other low. their_carried q slot client other low (slice_get-within turned q (subst (λ (c : ℕ). q < c) (sym counted) known)) (slice_get-within carried q (subst (λ (c : ℕ). q < c) (sym (call.carried_count ∙ counted)) known));
@@ -134,8 +126,8 @@ one_turns {K} tells r had t was up turned carried after n p m x call at_n at_p a
   };
   own = λ a own. ap (λ (links : List EndView). link_at links a) (links_then r x at_x) ∙ (call.links m x at_m at_x).others a (inl own);
   run = call.told.run x at_x
-      ∙ (ap (λ (run : Run). with_more run (drop had x.history)) call.raises.run
-      ∙ (ap (λ (k : ℕ). with_more was.run (drop k x.history)) (call.raises.entries n p at_n at_p)
+      ∙ (ap (λ (run : Run). with_more run (drop had x.history)) call.turn.raises.run
+      ∙ (ap (λ (k : ℕ). with_more was.run (drop k x.history)) (call.turn.raises.entries n p at_n at_p)
       ∙ ap (λ (y : NodeView K). with_more was.run (drop (length n.history) y.history)) (call.rest m x at_m at_x)));
 }
   where
@@ -143,10 +135,10 @@ one_turns {K} tells r had t was up turned carried after n p m x call at_n at_p a
     then_at q = ap (λ (ns : List (NodeView K)). slice_get ns q) (sym call.told.nodes)
 
     was_at : (q : ℕ) → q ≢ r → slice_get was.nodes q ≡ slice_get turned q
-    was_at q other = sym (call.others q other ∙ call.raises.others q other)
+    was_at q other = sym (call.turn.others q other ∙ call.turn.raises.others q other)
 
     counted : length turned ≡ length was.nodes
-    counted = call.count ∙ call.raises.count
+    counted = call.turn.count ∙ call.turn.raises.count
 
     links_then : (q : ℕ) (y : NodeView K) → slice_get carried q ≡ Some y → links_at after.nodes q ≡ y.parts.links
     links_then q y at = ap ends_in (sym (then_at q) ∙ at)
@@ -178,7 +170,7 @@ one_turns {K} tells r had t was up turned carried after n p m x call at_n at_p a
 -- ---- the driver's turn
 
 -- the node over this store, once old frames were dropped
-abbrev dropped_with : {K : Type 0} → NodeView K → K → NodeView K
+abbrev pub dropped_with : {K : Type 0} → NodeView K → K → NodeView K
 dropped_with n keeper = record n { keeper = keeper; parts = record n.parts { links = map after_drop n.parts.links } }
 
 pub turns_on : {K : Type 0} → TurnLaws K → (tells : K → StoreView) (r had : ℕ) (t : Turn) (was up : FleetView K) (turned carried : List (NodeView K)) (after : FleetView K)
@@ -198,25 +190,25 @@ turns_on {K} laws tells r had t was up turned carried after there call came g d 
     n = first.0
 
     second : (p : NodeView K) × (slice_get up.nodes r ≡ Some p)
-    second = slice_get-within up.nodes r (subst (λ (c : ℕ). r < c) (sym call.raises.count) there)
+    second = slice_get-within up.nodes r (subst (λ (c : ℕ). r < c) (sym call.turn.raises.count) there)
 
     third : (m : NodeView K) × (slice_get turned r ≡ Some m)
-    third = slice_get-within turned r (subst (λ (c : ℕ). r < c) (sym (call.count ∙ call.raises.count)) there)
+    third = slice_get-within turned r (subst (λ (c : ℕ). r < c) (sym (call.turn.count ∙ call.turn.raises.count)) there)
 
     m : NodeView K
     m = third.0
 
     fourth : (x : NodeView K) × (slice_get carried r ≡ Some x)
-    fourth = slice_get-within carried r (subst (λ (c : ℕ). r < c) (sym (call.carried_count ∙ (call.count ∙ call.raises.count))) there)
+    fourth = slice_get-within carried r (subst (λ (c : ℕ). r < c) (sym (call.carried_count ∙ (call.turn.count ∙ call.turn.raises.count))) there)
 
     up_is : second.0 ≡ raised d n
-    up_is = node_raised tells g d r had was up n second.0 come call.raises first.1 second.1
+    up_is = raised_is tells g d r had was up n second.0 come call.turn.raises first.1 second.1
 
     one : OneTurns r n m was after
     one = one_turns tells r had t was up turned carried after n second.0 m fourth.0 call first.1 second.1 third.1 fourth.1
 
     well : StandsWell g d r n
-    well = stands_well tells g d r had was up n second.0 come call.raises first.1 second.1
+    well = stands_well tells g d r had was up n second.0 come call.turn.raises first.1 second.1
 
     left_is : fourth.0 ≡ joined.with_links m fourth.0.parts.links
     left_is = call.rest m fourth.0 third.1 fourth.1
@@ -233,16 +225,16 @@ turns_on {K} laws tells r had t was up turned carried after there call came g d 
     by_turn : (t ≡ turns.Moved) ⊎ (t ≡ turns.Idle) → HasCome tells g (turn g r d) after
     by_turn (inl moved) =
         laws.moved tells g d r n m was after stands.decides come one well
-        (subst (λ (y : NodeView K). Adds (map after_drop y.parts.links) (tells y.keeper) (tells m.keeper) y m) up_is (call.moved second.0 m second.1 third.1 moved))
+        (subst (λ (y : NodeView K). Adds (map after_drop y.parts.links) (tells y.keeper) (tells m.keeper) y m) up_is (call.turn.moved second.0 m second.1 third.1 moved))
         (where_told d r (tells n.keeper) (StepsBy step step_calls (tells n.keeper) (tells m.keeper) (raised d n) m) store
-        (subst (λ (y : NodeView K). ForSome (told_of (tells y.keeper).contents (tells y.keeper).parts) (λ c. StepsBy step step_calls (tells y.keeper) (tells m.keeper) y m)) up_is (call.steps second.0 m second.1 third.1 moved)))
-        (subst (λ (y : NodeView K). AreSmallParts (tells y.keeper).parts → AreSmallParts (tells m.keeper).parts) up_is (call.small second.0 m second.1 third.1))
+        (subst (λ (y : NodeView K). ForSome (told_of (tells y.keeper).contents (tells y.keeper).parts) (λ c. StepsBy step step_calls (tells y.keeper) (tells m.keeper) y m)) up_is (call.turn.steps second.0 m second.1 third.1 moved)))
+        (subst (λ (y : NodeView K). AreSmallParts (tells y.keeper).parts → AreSmallParts (tells m.keeper).parts) up_is (call.turn.small second.0 m second.1 third.1))
         (call.whole m third.1) early few
     by_turn (inr idle) =
         laws.idle tells g d r n m was after come one well
         (subst (λ (y : NodeView K). m ≡ with_links y (map after_drop y.parts.links)) up_is kept)
         (where_told d r (tells n.keeper) ((s : SetUp) → nodes.MatchesSetup n.setup s → IsIdle (raised d n) s) store
-        (subst (λ (y : NodeView K). ForSome (told_of (tells y.keeper).contents (tells y.keeper).parts) (λ c. (s : SetUp) → nodes.MatchesSetup y.setup s → IsIdle y s)) up_is (call.idle second.0 m second.1 third.1 idle))
+        (subst (λ (y : NodeView K). ForSome (told_of (tells y.keeper).contents (tells y.keeper).parts) (λ c. (s : SetUp) → nodes.MatchesSetup y.setup s → IsIdle y s)) up_is (call.turn.idle second.0 m second.1 third.1 idle))
         (set_up_of g d r) (come.each r n first.1).setup)
       where
         not_moved : t ≢ turns.Moved
@@ -258,8 +250,8 @@ turns_on {K} laws tells r had t was up turned carried after there call came g d 
             clash e = absurd (cc)
 
         kept : m ≡ with_links second.0 (map after_drop second.0.parts.links)
-        kept = call.stays second.0 m second.1 third.1 not_moved
-            ∙ ap (dropped_with second.0) (call.unasked second.0 m second.1 third.1 not_moved not_short)
+        kept = call.turn.stays second.0 m second.1 third.1 not_moved
+            ∙ ap (dropped_with second.0) (call.turn.unasked second.0 m second.1 third.1 not_moved not_short)
 
 -- ---- it only grows
 
@@ -338,8 +330,3 @@ had_within {K} tells r had t was up turned carried raises there moved stays coun
 
     grows : length second.0.history ≤ length third.0.history
     grows = turn_grows tells t second.0 third.0 (moved second.0 third.0 second.1 third.1) (stays second.0 third.0 second.1 third.1)
-
--- what follows from what an answer leaves
-pub on_ok : {X E : Type 0} (done : Result X E) (P Q : Type 0) → OnOk done P → (P → Q) → OnOk done Q
-on_ok (Ok x) P Q holds follows = follows holds
-on_ok (Err e) P Q holds follows = tt

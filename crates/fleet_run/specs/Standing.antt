@@ -13,28 +13,13 @@ pub record IsAtDriver {K : Type 0} (tells : K → StoreView) (g : DriverInput) (
   pub come : HasCome tells g d f
   pub decides : DecidesMatches g
 
--- how many lines it does at most
+-- how many lines it does at most: 2 ^ 28 (own)
 abbrev pub most_lines : ℕ
 most_lines = 268435456
 
 -- wherever the driver was, the fleet goes on as this step of it
 abbrev pub GoesOn : {K : Type 0} → (K → StoreView) → (DriverInput → Driver → Driver) → FleetView K → FleetView K → Type 0
 GoesOn tells step was after = (g : DriverInput) (d : Driver) → IsAtDriver tells g d was → IsAtDriver tells g (step g d) after
-
--- wherever the driver was, this step of it comes to an entry of r, whose history is full, and the fleet's run has all entries before it
-abbrev pub EndsAtFull : {K : Type 0} → (K → StoreView) → ℕ → (DriverInput → Driver → Driver) → FleetView K → FleetView K → Type 0
-EndsAtFull tells r step was after = (g : DriverInput) (d : Driver) → IsAtDriver tells g d was → StopsAtFull g r (step g d) after.run
-
--- Wherever the driver was, r had made as many entries as it may, so that its store wasn't asked; all that this step of the driver adds
--- passes the limit, and the run is as it was.
-pub record WaitsForRoom {K : Type 0} (tells : K → StoreView) (r : ℕ) (step : DriverInput → Driver → Driver) (was after : FleetView K) : Type 0 where
-  pub full : (g : DriverInput) (d : Driver) → IsAtDriver tells g d was → count_of d.past r ≡ most_entries
-  pub past : (g : DriverInput) (d : Driver) → IsAtDriver tells g d was → within_limit g (step g d).past ≡ d.past
-  pub run : after.run ≡ was.run
-
--- wherever the driver was, r may make another entry
-abbrev pub HasRoom : {K : Type 0} → (K → StoreView) → ℕ → FleetView K → Type 0
-HasRoom tells r f = (g : DriverInput) (d : Driver) → IsAtDriver tells g d f → count_of d.past r < most_entries
 
 -- ---- how few entries there are; for private contracts
 
@@ -61,3 +46,20 @@ pub record IsDrivenWithin {K : Type 0} (tells : K → StoreView) (most : ℕ) (f
 -- within a line: there are at most as many waits as a fleet does lines
 abbrev pub IsDriven : {K : Type 0} → (K → StoreView) → FleetView K → Type 0
 IsDriven tells f = IsDrivenWithin tells most_lines f
+
+-- ---- where a history is full; for private contracts
+
+-- wherever the driver was, this step of it comes to an entry of r, whose history is full, and the fleet's run has all entries before it
+abbrev pub EndsAtFull : {K : Type 0} → (K → StoreView) → ℕ → (DriverInput → Driver → Driver) → FleetView K → FleetView K → Type 0
+EndsAtFull tells r step was after = (g : DriverInput) (d : Driver) → IsAtDriver tells g d was → StopsAtFull g r (step g d) after.run
+
+-- Wherever the driver was, r had made as many entries as it may, so that its store wasn't asked; all that this step of the driver adds
+-- passes the limit, and the run is as it was.
+pub record WaitsForRoom {K : Type 0} (tells : K → StoreView) (r : ℕ) (step : DriverInput → Driver → Driver) (was after : FleetView K) : Type 0 where
+  pub full : (g : DriverInput) (d : Driver) → IsAtDriver tells g d was → count_of d.past r ≡ most_entries
+  pub past : (g : DriverInput) (d : Driver) → IsAtDriver tells g d was → within_limit g (step g d).past ≡ d.past
+  pub run : after.run ≡ was.run
+
+-- wherever the driver was, r may make another entry
+abbrev pub HasRoom : {K : Type 0} → (K → StoreView) → ℕ → FleetView K → Type 0
+HasRoom tells r f = (g : DriverInput) (d : Driver) → IsAtDriver tells g d f → count_of d.past r < most_entries

@@ -1,5 +1,5 @@
 //! A fleet, and the run so far.
-ghost use Rattle.std.specs.Prelude.{◌≡◌, ◌<◌, ◌≤◌, ℕ, All, [], length, map, Err, IfOk, OnOk};
+ghost use Rattle.std.specs.Prelude.{◌≡◌, ◌+◌, ◌<◌, ◌≤◌, ℕ, All, [], length, map, Err, IfOk, OnOk};
 ghost use Rattle.run_data.specs.declared.run.RepoView.{RepoView};
 ghost use Rattle.object_store.specs.declared.memory.MemoryKeeper.{MemoryKeeper};
 ghost use Rattle.repo_node.specs.Stored.{HasNothing, store_view};
@@ -63,7 +63,7 @@ impl Fleet<MemoryKeeper> {
     /// The repositories that the script declares, at most eight, before its first line, each over a store in memory.
     pub fn new(alloc: Global, script: &Script) -> Result<Fleet<MemoryKeeper>, NoMemory>
         requires run { MayRun (repos_of script.now) }
-        requires few { length (repos_of script.now) ≤ 8 }
+        requires repos { length (repos_of script.now) ≤ 8 }
         ensures stands { IfOk result (λ f. (g : DriverInput) → g.repos ≡ repos_of script.now → DecidesMatches g → IsAtDriver (λ k. store_view (⟦<MemoryKeeper as Keeper>⟧.contents k) (⟦<MemoryKeeper as Keeper>⟧.parts k) (⟦<MemoryKeeper as Keeper>⟧.failing k) (⟦<MemoryKeeper as Keeper>⟧.faults k)) g at_first f) }
         ensures nodes { IfOk result (λ f. length f.nodes ≡ length (repos_of script.now)) }
         ensures empty { IfOk result (λ f. f.run ≡ record { repos = repos_of script.now; entries = []; tree = []; marks = [] }) }
@@ -83,7 +83,7 @@ impl<K: FailingKeeper> Fleet<K> {
         keepers: Vec<K>,
     ) -> Result<Fleet<K>, NoMemory>
         requires run { MayRun (repos_of script.now) }
-        requires few { length (repos_of script.now) ≤ 8 }
+        requires repos { length (repos_of script.now) ≤ 8 }
         requires count { length keepers.items ≡ length (repos_of script.now) }
         requires empty { All (λ k. HasNothing (K.contents k) (K.parts k) (K.records k) (K.files k)) keepers.items }
         requires tells { All (λ k. IsStoreOf at_first 0 (store_view (K.contents k) (K.parts k) (K.failing k) (K.faults k))) keepers.items }
@@ -98,7 +98,7 @@ impl<K: FailingKeeper> Fleet<K> {
     /// These repositories before the first line, each over the keeper at its place.
     fn over(alloc: Global, repos: Items<RepoView>, keepers: Vec<K>) -> Result<Fleet<K>, NoMemory>
         requires run { MayRun repos }
-        requires few { length repos ≤ 8 }
+        requires repos { length repos ≤ 8 }
         requires count { length keepers.items ≡ length repos }
         requires empty { All (λ k. HasNothing (K.contents k) (K.parts k) (K.records k) (K.files k)) keepers.items }
         requires tells { All (λ k. IsStoreOf at_first 0 (store_view (K.contents k) (K.parts k) (K.failing k) (K.faults k))) keepers.items }
@@ -129,6 +129,7 @@ impl<K: FailingKeeper> Fleet<K> {
         requires may { MayBeDone self.old command.now }
         requires few { length self.old.run.marks < most_lines }
         ensures ok { OnOk result (GoesOn (λ k. store_view (K.contents k) (K.parts k) (K.failing k) (K.faults k)) (does_and_marks command.now) self.old self.new) }
+        ensures marks { OnOk result (length self.new.run.marks ≡ length self.old.run.marks + 1) }
         ensures within { OnOk result (MeetsNone (λ k. store_view (K.contents k) (K.parts k) (K.failing k) (K.faults k)) command.now self.old) }
         ensures full { (r : ℕ) → result ≡ Err (FleetStop.Full r) → CutsAt (λ k. store_view (K.contents k) (K.parts k) (K.failing k) (K.faults k)) r command.now self.old self.new }
     {

@@ -83,6 +83,7 @@ impl<K: FailingKeeper> Running<K> {
         // Laws, for the proof.
         fleets_do_lines::<K>();
         drivers_stay_sound();
+        // For the proof: the count has room.
         self.entries_are_few();
         let count = self.newest_count();
         let entry = Entry {

@@ -1,5 +1,5 @@
 //! What a fleet does at each form of line.
-ghost use Rattle.std.specs.Prelude.{◌≡◌, ◌<◌, ℕ, length, Err, OnOk};
+ghost use Rattle.std.specs.Prelude.{◌≡◌, ◌+◌, ◌<◌, ℕ, length, Err, OnOk};
 ghost use Rattle.repo_node.specs.Stored.{store_view};
 ghost use Rattle.fleet_run.specs.Commands.{CutsAt, HasRoomFor, MayBeDone, MeetsNone, does_and_marks, does_command};
 ghost use Rattle.fleet_run.specs.Standing.{GoesOn, IsDriven, IsDrivenWithin, most_lines};
@@ -20,6 +20,7 @@ impl<K: FailingKeeper> Running<K> {
         requires may { MayBeDone self.old command.now }
         ensures ok { OnOk result (GoesOn (λ k. store_view (K.contents k) (K.parts k) (K.failing k) (K.faults k)) (does_and_marks command.now) self.old self.new) }
         ensures marked { OnOk result (IsDrivenWithin (λ k. store_view (K.contents k) (K.parts k) (K.failing k) (K.faults k)) (length self.new.run.marks) self.new) }
+        ensures marks { OnOk result (length self.new.run.marks ≡ length self.old.run.marks + 1) }
         ensures within { OnOk result (MeetsNone (λ k. store_view (K.contents k) (K.parts k) (K.failing k) (K.faults k)) command.now self.old) }
         ensures full { (r : ℕ) → result ≡ Err (FleetStop.Full r) → CutsAt (λ k. store_view (K.contents k) (K.parts k) (K.failing k) (K.faults k)) r command.now self.old self.new }
     {

@@ -108,6 +108,7 @@ impl<K: FailingKeeper> Running<K> {
         requires driven { IsDriven (λ k. store_view (K.contents k) (K.parts k) (K.failing k) (K.faults k)) self.old }
         ensures { Raises (λ k. store_view (K.contents k) (K.parts k) (K.failing k) (K.faults k)) repo result self.old self.new }
     {
+        // For the proof: the count has room.
         self.entries_are_few();
         let time = self.now();
         let count = self.newest_count();
@@ -139,6 +140,7 @@ impl<K: FailingKeeper> Running<K> {
         // Laws, for the proof.
         fleets_do_lines::<K>();
         drivers_stay_sound();
+        // For the proof: the place fits.
         self.entries_are_few();
         let place = self.made() as u32;
         self.run.marks.push(place)?;

@@ -19,7 +19,7 @@ use object_store::FailingKeeper;
 use repo_node::Turn;
 
 /// Two to the power 22. Of each two rounds one behind the other, but for the last two, one adds an entry, and no repository of at most
-/// 16 makes more than 100,000 entries; so so many are never made.
+/// eight makes more than 100,000 entries; so this many are never made.
 const MOST_ROUNDS: u32 = 4_194_304;
 
 /// Whether a turn found no step ready, and began where no frame was at hand.

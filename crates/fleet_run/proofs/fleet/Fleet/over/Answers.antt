@@ -10,7 +10,7 @@ pub invariant_of-result : goal.invariant_of-result
 invariant_of-result g c =
     let tells : g.row.K.Denot → StoreView = λ k. store_view (g.K.Keeper.contents k) (g.K.Keeper.parts k) (g.K.Keeper.failing k) (g.K.Keeper.faults k) in
     λ going. driven_first tells _ c.args.repos _ c.bytes_are_matched.ensures
-    (begins_so tells c.args.repos c.args.keepers.items c.in_ok-nodes.nodes c.empty_run.result c.fleets_begin.ensures c.drivers_stay_sound.ensures.first (subst (λ (rs : List RepoView). AreNew rs c.args.keepers.items c.in_ok-nodes.nodes) c.as_slice.ensures c.in_ok-nodes.ensures) c.requires.count c.requires.tells c.requires.run.each c.empty_run.ensures) c.requires.few
+    (begins_so tells c.args.repos c.args.keepers.items c.in_ok-nodes.nodes c.empty_run.result c.fleets_begin.ensures c.drivers_stay_sound.ensures.first (subst (λ (rs : List RepoView). AreNew rs c.args.keepers.items c.in_ok-nodes.nodes) c.as_slice.ensures c.in_ok-nodes.ensures) c.requires.count c.requires.tells c.requires.run.each c.empty_run.ensures) c.requires.repos
 
 pub returns-clause-stands : goal.returns-clause-stands
 returns-clause-stands g c =

@@ -7,7 +7,7 @@ use Rattle.fleet_run.proofs.Cutting.{meets_none}
 use Rattle.fleet_run.proofs.Full.{few_in, ok_or_err, same_err}
 use Rattle.fleet_run.specs.Standing.{most_lines}
 use Rattle.fleet_run.proofs.Driving.{driven_within}
-use Rattle.fleet_run.proofs.Marked.{driven_behind, driven_marked}
+use Rattle.fleet_run.proofs.Marked.{driven_behind, driven_marked, marked_once}
 use Rattle.fleet_run.proofs.Steps.{goes_twice}
 use Rattle.fleet_run.proofs.running.Running.does_and_marks.Goals as goal
 
@@ -29,6 +29,7 @@ returns g c =
     record {
       ok = goes;
       marked = driven_marked tells c.args.command.now c.args.self.now c.mark.new.self c.runs_are_cut_where_histories_are_full.ensures.marks c.requires.driven goes;
+      marks = marked_once tells c.args.command.now c.args.self.now c.mark.new.self c.runs_are_cut_where_histories_are_full.ensures.marks c.requires.driven goes;
       within = meets_none tells c.args.command.now c.args.self.now c.does.new.self c.runs_are_cut_where_histories_are_full.ensures.few c.in_ok-does.ensures.room c.in_ok-does.ensures.ok
           (few_in c.self.inside.nodes c.self.inside.run c.does.new.self c.self.view_is c.histories_are_few.ensures);
       full = λ r e. absurd (ok_or_err _ _ e);
