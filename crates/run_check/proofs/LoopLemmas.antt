@@ -1,24 +1,20 @@
 -- The checker's loops over entries and frames, against the definitions.
-use Rattle.std.proofs.Common.{◌≡◌, ℕ, ◌+◌, ◌<◌, Bool, true, false, ◌&&◌, List, [], ◌∷◌, ◌++◌, length, get_or, take, reverse, Option, Some, None, refl, sym, ap, ◌∙◌, arith}
-use Rattle.std.specs.Prelude.{is_none, if◌then◌else◌, filter, option_map, option_to_list}
-use Rattle.std.proofs.lemmas.List.{append-nil, length-reverse, length-take-le, reverse-append, take_more}
+use Rattle.std.proofs.Common.{◌≡◌, ℕ, ◌+◌, ◌<◌, Bool, true, false, List, [], ◌∷◌, ◌++◌, length, get_or, take, reverse, Option, Some, None, refl, sym, ap, ◌∙◌}
+use Rattle.std.specs.Prelude.{is_none, if◌then◌else◌, filter, option_map}
+use Rattle.std.proofs.lemmas.List.{append-nil, take_more}
 use Rattle.std.proofs.lemmas.List.Elements.{filter-append}
 use Rattle.annex_base.proofs.Pasts.{past_more}
 use Rattle.run_data.specs.declared.entry.Entry.{Entry}
-use Rattle.run_data.specs.declared.run.RepoView.{RepoView}
 use Rattle.run_model.specs.Frames.{FlyingFrame, last_of, said_of, says}
 use Rattle.run_model.specs.Said.{is_request, message_in}
 use Rattle.run_check.specs.declared.said.Said.{Said as SeenSaid}
 use Rattle.run_check.specs.Values.{as_said}
-use Rattle.run_model.specs.Logs.{before_step, in_drop, is_step}
 use Rattle.run_model.specs.Drops.{option_is_none}
-use Rattle.run_model.specs.Past.{Decision, decided_after, decision, is_of}
 use Rattle.node_model.specs.Evidence.{Offer, gather}
 use Rattle.drop_proof.specs.declared.evidence.Evidence.{Evidence}
 use Rattle.drop_proof.specs.declared.rule.Need.{Need}
 use Rattle.drop_proof.specs.declared.rule.Side.{Side}
 use Rattle.drop_proof.specs.Judging.{is_enough}
-use Rattle.run_model.specs.Safety.{Removal, add_removal, removal, removals}
 use Rattle.node_model.specs.Look.{first_of}
 use Rattle.run_model.specs.Drops.{Vouch, newer, reply, tells}
 use Rattle.run_check.specs.declared.vouching.Told.{Told}
@@ -27,19 +23,6 @@ use Rattle.run_check.specs.Values.{first_told, told_of}
 -- the past after the entry at an index
 pub past_read : {X : Type 0} (entries : List X) (i : ℕ) (e : X) → i < length entries → e ≡ get_or entries i e → reverse (take (i + 1) entries) ≡ e ∷ reverse (take i entries)
 past_read entries i e lt is = past_more entries i e lt ∙ ap (λ x. x ∷ reverse (take i entries)) (sym is)
-
--- ---- removals
-
--- one more entry
-pub removals_more : (repos : List RepoView) (entries : List Entry) (i : ℕ) (e : Entry) (key : List ℕ) (was new : List Removal) (o : Option Removal) → i < length entries → e ≡ get_or entries i e
-    → reverse was ≡ removals repos (reverse (take i entries)) key → o ≡ removal repos (reverse (take i entries)) key e
-    → new ≡ was ++ option_to_list o → reverse new ≡ removals repos (reverse (take (i + 1) entries)) key
-removals_more repos entries i e key was new o lt is old removed h =
-    ap (λ xs. reverse xs) h ∙ go o ∙ ap (λ x. add_removal x (removals repos (reverse (take i entries)) key)) removed ∙ ap (λ past. removals repos past key) (sym (past_read entries i e lt is))
-  where
-    go : (x : Option Removal) → reverse (was ++ option_to_list x) ≡ add_removal x (removals repos (reverse (take i entries)) key)
-    go None = ap (λ xs. reverse xs) (append-nil was) ∙ old
-    go (Some x) = reverse-append was (x ∷ []) ∙ ap (λ xs. x ∷ xs) old
 
 -- ---- frames
 
@@ -59,35 +42,11 @@ last_passes p xs i x lt is = ap (λ ys. last_of (filter p ys)) more ∙ ap last_
     go true t = last_more (filter p (take i xs)) x
     go false t = ap last_of (append-nil (filter p (take i xs)))
 
--- ---- first steps
-
--- the first place, seen as the past before it
-pub first_more : {X Y : Type 0} (f : X → Y) (o : Option X) (b : Bool) (x : X) → option_map f (first_of o (if b then Some x else None)) ≡ first_of (option_map f o) (if b then Some (f x) else None)
-first_more f None true x = refl
-first_more f None false x = refl
-first_more f (Some y) b x = refl
+-- ---- options and evidence
 
 pub none_mapped : {X Y : Type 0} (f : X → Y) (o : Option X) → option_is_none (option_map f o) ≡ is_none o
 none_mapped f None = refl
 none_mapped f (Some x) = refl
-
--- one more entry, at a place
-pub first_step_more : (entries : List Entry) (i : ℕ) (e : Entry) (a j : ℕ) (was new : Option ℕ) (b : Bool) → i < length entries → e ≡ get_or entries i e
-    → option_map (λ n. reverse (take n entries)) was ≡ before_step (reverse (take i entries)) a j → new ≡ first_of was (if b then Some i else None)
-    → b ≡ (is_of a e && (is_step j e.kind && in_drop (reverse (take i entries)) a j)) → option_map (λ n. reverse (take n entries)) new ≡ before_step (reverse (take (i + 1) entries)) a j
-first_step_more entries i e a j was new b lt is old h steps =
-    ap (λ o. option_map (λ n. reverse (take n entries)) o) h ∙ first_more (λ n. reverse (take n entries)) was b i
-    ∙ ap (λ o. first_of o (if b then Some (reverse (take i entries)) else None)) old
-    ∙ ap (λ c. first_of (before_step (reverse (take i entries)) a j) (if c then Some (reverse (take i entries)) else None)) steps
-    ∙ ap (λ past. before_step past a j) (sym (past_read entries i e lt is))
-
--- ---- decisions
-
-pub decision_more : (entries : List Entry) (i : ℕ) (e : Entry) (r j : ℕ) (was new : Option Decision) → i < length entries → e ≡ get_or entries i e
-    → was ≡ decision (reverse (take i entries)) r j → new ≡ (if is_of r e then decided_after i j was e.kind else was) → new ≡ decision (reverse (take (i + 1) entries)) r j
-decision_more entries i e r j was new lt is old h =
-    h ∙ ap (λ k. if is_of r e then decided_after k j was e.kind else was) (sym (length-reverse (take i entries) ∙ length-take-le i entries (omega (arith, lt))))
-    ∙ ap (λ o. if is_of r e then decided_after (length (reverse (take i entries))) j o e.kind else o) old ∙ ap (λ past. decision past r j) (sym (past_read entries i e lt is))
 
 -- nothing is gathered where there is enough
 pub gather_enough : (side : Side) (need : Need) (ask : ℕ → Offer) (cs : List ℕ) (items : List Evidence) → is_enough side need items ≡ true → gather side need ask cs items ≡ items
