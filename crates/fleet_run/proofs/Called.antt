@@ -80,9 +80,9 @@ is_step {K} tells g d r was up after Holds come there call =
       };
       holds = subst (λ (x : NodeView K). Holds x m) is (call.holds p m found_up.1 found_left.1);
       whole = subst (λ (x : NodeView K). IsWhole tells x) is (call.raises.whole n p found.1 found_up.1);
-      early = call.told.time m found_left.1;
-      counted = call.told.counted m found_left.1;
-      few = call.told.few m found_left.1;
+      early = (call.told.node m found_left.1).time;
+      counted = (call.told.node m found_left.1).counted;
+      few = (call.told.node m found_left.1).few;
     }
 
 -- it goes on so, where the laws have it come to each step of the driver

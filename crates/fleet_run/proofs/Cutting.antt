@@ -24,11 +24,12 @@ use Rattle.repo_node.specs.Nodes.{NodeView}
 use Rattle.repo_node.specs.Stored.{StoreView}
 use Rattle.fleet_model.specs.Fleets.{FleetView}
 use Rattle.fleet_run.specs.Commands.{CutsAt, HasRoomFor, MeetsNone, does_command}
-use Rattle.fleet_run.specs.Standing.{EndsAtFull, GoesOn, HasRoom, IsAtDriver, WaitsForRoom}
-use Rattle.fleet_run.specs.Telling.{AreFew, OnlyEntriesChange}
+use Rattle.fleet_run.specs.Standing.{EndsAtFull, GoesOn, HasRoom, IsAtDriver, OnlyAddsEntries, WaitsForRoom}
+use Rattle.fleet_run.specs.Telling.{AreFew}
 use Rattle.fleet_run.proofs.Called.{past_of}
 use Rattle.fleet_run.proofs.Commands.{is_quiet}
-use Rattle.fleet_run.proofs.Full.{counted, each_at}
+use Rattle.fleet_run.proofs.Ending.{Ends}
+use Rattle.fleet_run.proofs.Full.{counted, each_at, only_entries}
 
 -- ---- the lines that are built
 
@@ -208,12 +209,12 @@ pub record CutLaws : Type 0 where
 
 -- the run is the driver's up to there, where its entries are
 cut_run : {K : Type 0} (tells : K → StoreView) → CutLaws → (command : Command) (was after : FleetView K) (g : DriverInput) (d : Driver) (line : Line) → IsAtDriver tells g d was → line_of g.repos command ≡ Some line
-    → OnlyEntriesChange was after → reverse (within_limit g (does g line d).past) ≡ after.run.entries → after.run ≡ run_to_limit g line d
+    → OnlyAddsEntries was after → reverse (within_limit g (does g line d).past) ≡ after.run.entries → after.run ≡ run_to_limit g line d
 cut_run {K} tells laws command was after g d line stands is_line rest entries =
-    rest ∙ (ap (λ (run : Run). record run { entries = after.run.entries }) stands.come.run
+    only_entries was after rest ∙ (ap (λ (run : Run). record run { entries = after.run.entries }) stands.come.run
     ∙ (λ i. record { repos = g.repos; entries = sym entries i; tree = sym (laws.tree g line d (names_none g.repos command line is_line)) i; marks = sym (laws.marks g line d) i }))
 
-pub cuts : {K : Type 0} (tells : K → StoreView) → CutLaws → (r : ℕ) (command : Command) (was after : FleetView K) → EndsAtFull tells r (does_command command) was after → OnlyEntriesChange was after → CutsAt tells r command was after
+pub cuts : {K : Type 0} (tells : K → StoreView) → CutLaws → (r : ℕ) (command : Command) (was after : FleetView K) → EndsAtFull tells r (does_command command) was after → OnlyAddsEntries was after → CutsAt tells r command was after
 cuts {K} tells laws r command was after ends rest g d line stands is_line = record {
   meets = or_right (is_full d.past (asks_first line)) (is_too_long g (does g line d).past) (laws.cut g r (does g line d) after.run stops);
   run_is = cut_run tells laws command was after g d line stands is_line rest (laws.entries g r (does g line d) after.run stops);
@@ -226,7 +227,7 @@ cuts {K} tells laws r command was after ends rest g d line stands is_line = reco
 
 -- it asks a repository that has made all its entries
 cuts_unasked : {K : Type 0} (tells : K → StoreView) → CutLaws → (r : ℕ) (key content : List ℕ) (was after : FleetView K) → WaitsForRoom tells r (does_command (commands.Have r key content)) was after
-    → OnlyEntriesChange was after → CutsAt tells r (commands.Have r key content) was after
+    → OnlyAddsEntries was after → CutsAt tells r (commands.Have r key content) was after
 cuts_unasked {K} tells laws r key content was after waits rest g d line stands is_line = record {
   meets = or_left (is_full d.past (asks_first line)) (is_too_long g (does g line d).past)
       (ap (is_full d.past) (ap asks_some (sym is_line)) ∙ is_now_full most_entries (count_of d.past r) (waits.full g d stands));
@@ -237,7 +238,7 @@ cuts_unasked {K} tells laws r key content was after waits rest g d line stands i
 }
 
 pub have_cuts : {K : Type 0} (tells : K → StoreView) → CutLaws → (r q : ℕ) (key content : List ℕ) (was after : FleetView K)
-    → EndsAtFull tells q (does_command (commands.Have r key content)) was after ⊎ ((q ≡ r) × WaitsForRoom tells r (does_command (commands.Have r key content)) was after) → OnlyEntriesChange was after
+    → EndsAtFull tells q (does_command (commands.Have r key content)) was after ⊎ ((q ≡ r) × WaitsForRoom tells r (does_command (commands.Have r key content)) was after) → OnlyAddsEntries was after
     → CutsAt tells q (commands.Have r key content) was after
 have_cuts tells laws r q key content was after (inl ends) rest = cuts tells laws q (commands.Have r key content) was after ends rest
 have_cuts tells laws r q key content was after (inr waits) rest = subst (λ (k : ℕ). CutsAt tells k (commands.Have r key content) was after) (sym waits.0) (cuts_unasked tells laws r key content was after waits.1 rest)
@@ -247,15 +248,15 @@ pub cut_as : {K : Type 0} (tells : K → StoreView) (r : ℕ) (command form : Co
 cut_as tells r command form was after is cuts = subst (λ (x : Command). CutsAt tells r x was after) (sym is) cuts
 
 -- the driver's step ends where its form's does
-pub form_ends : {K : Type 0} (tells : K → StoreView) → CutLaws → (r : ℕ) (command form : Command) (was after : FleetView K) → command ≡ form → EndsAtFull tells r (does_command form) was after → OnlyEntriesChange was after
+pub form_ends : {K : Type 0} (tells : K → StoreView) → CutLaws → (r : ℕ) (command form : Command) (was after : FleetView K) → command ≡ form → EndsAtFull tells r (does_command form) was after → OnlyAddsEntries was after
     → CutsAt tells r command was after
 form_ends tells laws r command form was after is ends rest = cut_as tells r command form was after is (cuts tells laws r form was after ends rest)
 
 -- where its form is built
-pub built_ends : {K : Type 0} (tells : K → StoreView) (r : ℕ) (b : Bool) (line : Line) (was after : FleetView K) → is_some (if_built b line) ≡ true → EndsAtFull tells r (λ g d. does g line d) was after
-    → EndsAtFull tells r (λ g d. option_map_or (λ l. does g l d) (if_built b line) d) was after
-built_ends tells r true line was after built ends = ends
-built_ends tells r false line was after built ends = absurd (cc)
+pub built_ends : {K : Type 0} (tells : K → StoreView) (P : DriverInput → Driver → Run → Type 0) (b : Bool) (line : Line) (was after : FleetView K) → is_some (if_built b line) ≡ true → Ends tells P (λ g d. does g line d) was after
+    → Ends tells P (λ g d. option_map_or (λ l. does g l d) (if_built b line) d) was after
+built_ends tells P true line was after built ends = ends
+built_ends tells P false line was after built ends = absurd (cc)
 
 -- what holds whatever was answered
 pub always_ok : {X E : Type 0} (done : Result X E) (P : Type 0) → P → OnOk done P
@@ -263,5 +264,5 @@ always_ok (Ok x) P holds = holds
 always_ok (Err e) P holds = tt
 
 -- a settling, as the command's step is said
-pub settle_ends : {K : Type 0} (tells : K → StoreView) (r : ℕ) (was after : FleetView K) → EndsAtFull tells r (λ g d. settles g d) was after → EndsAtFull tells r (does_command commands.Settle) was after
-settle_ends tells r was after ends g d stands = ends g d stands
+pub settle_ends : {K : Type 0} (tells : K → StoreView) (P : DriverInput → Driver → Run → Type 0) (was after : FleetView K) → Ends tells P (λ g d. settles g d) was after → Ends tells P (does_command commands.Settle) was after
+settle_ends tells P was after ends g d stands = ends g d stands

@@ -108,30 +108,41 @@ turn_ends {K} tells r had t was up turned carried after law there call full read
 
 -- ---- steps one behind the other
 
--- what follows only adds entries
-abbrev pub LaterLaw : Type 0
-LaterLaw = (g : DriverInput) (r : ℕ) (mid after : Driver) (run : Run) → StopsAtFull g r mid run → OnlyAdds mid after → StopsAtFull g r after run
+-- wherever the driver was, this holds where this step of it ends, of the fleet's run
+abbrev pub Ends : {K : Type 0} → (K → StoreView) → (DriverInput → Driver → Run → Type 0) → (DriverInput → Driver → Driver) → FleetView K → FleetView K → Type 0
+Ends tells P step was after = (g : DriverInput) (d : Driver) → IsAtDriver tells g d was → P g (step g d) after.run
+
+-- and it still does after what follows, which only adds entries
+abbrev pub LaterLaw : (DriverInput → Driver → Run → Type 0) → Type 0
+LaterLaw P = (g : DriverInput) (mid after : Driver) (run : Run) → P g mid run → OnlyAdds mid after → P g after run
+
+-- the run ends there at an entry of r, whose history is full
+abbrev pub AtFull : ℕ → DriverInput → Driver → Run → Type 0
+AtFull r g d run = StopsAtFull g r d run
+
+pub later_full : ((g : DriverInput) (r : ℕ) (mid after : Driver) (run : Run) → StopsAtFull g r mid run → OnlyAdds mid after → StopsAtFull g r after run) → (r : ℕ) → LaterLaw (AtFull r)
+later_full law r g mid after run stops adds = law g r mid after run stops adds
 
 -- another step would follow
-pub ends_early : {K : Type 0} (tells : K → StoreView) (q : ℕ) (step next : DriverInput → Driver → Driver) (was after : FleetView K) → LaterLaw → ((g : DriverInput) (d : Driver) → OnlyAdds d (next g d)) → EndsAtFull tells q step was after
-    → EndsAtFull tells q (λ g d. next g (step g d)) was after
-ends_early tells q step next was after law adds ends g d stands = law g q (step g d) (next g (step g d)) after.run (ends g d stands) (adds g (step g d))
+pub ends_early : {K : Type 0} (tells : K → StoreView) (P : DriverInput → Driver → Run → Type 0) (step next : DriverInput → Driver → Driver) (was after : FleetView K) → LaterLaw P → ((g : DriverInput) (d : Driver) → OnlyAdds d (next g d)) → Ends tells P step was after
+    → Ends tells P (λ g d. next g (step g d)) was after
+ends_early tells P step next was after law adds ends g d stands = law g (step g d) (next g (step g d)) after.run (ends g d stands) (adds g (step g d))
 
 -- another step came before
-pub ends_late : {K : Type 0} (tells : K → StoreView) (q : ℕ) (step next : DriverInput → Driver → Driver) (was mid after : FleetView K) → GoesOn tells step was mid → EndsAtFull tells q next mid after
-    → EndsAtFull tells q (λ g d. next g (step g d)) was after
-ends_late tells q step next was mid after goes ends g d stands = ends g (step g d) (goes g d stands)
+pub ends_late : {K : Type 0} (tells : K → StoreView) (P : DriverInput → Driver → Run → Type 0) (step next : DriverInput → Driver → Driver) (was mid after : FleetView K) → GoesOn tells step was mid → Ends tells P next mid after
+    → Ends tells P (λ g d. next g (step g d)) was after
+ends_late tells P step next was mid after goes ends g d stands = ends g (step g d) (goes g d stands)
 
 -- it is the same step, wherever the driver was
-pub ends_as : {K : Type 0} (tells : K → StoreView) (q : ℕ) (step step' : DriverInput → Driver → Driver) (was after : FleetView K) → ((g : DriverInput) (d : Driver) → IsAtDriver tells g d was → step g d ≡ step' g d) → EndsAtFull tells q step was after
-    → EndsAtFull tells q step' was after
-ends_as tells q step step' was after same ends g d stands = subst (λ (x : Driver). StopsAtFull g q x after.run) (same g d stands) (ends g d stands)
+pub ends_as : {K : Type 0} (tells : K → StoreView) (P : DriverInput → Driver → Run → Type 0) (step step' : DriverInput → Driver → Driver) (was after : FleetView K) → ((g : DriverInput) (d : Driver) → IsAtDriver tells g d was → step g d ≡ step' g d) → Ends tells P step was after
+    → Ends tells P step' was after
+ends_as tells P step step' was after same ends g d stands = subst (λ (x : Driver). P g x after.run) (same g d stands) (ends g d stands)
 
 -- a setting of a repository by its identifier, with a copy of the value
-pub sets_end_at : {K : Type 0} (tells : K → StoreView) (q r target : ℕ) (was after : FleetView K) (kind : LogKind) (id : List ℕ) (value value' : Value) → id ≡ id_of was.run.repos target → value' ≡ value
-    → EndsAtFull tells q (λ g d. sets g r kind (topics.Repo id) value' d) was after → EndsAtFull tells q (λ g d. sets g r kind (topics.Repo (id_of g.repos target)) value d) was after
-sets_end_at tells q r target was after kind id value value' is same ends =
-    ends_as tells q (λ g d. sets g r kind (topics.Repo id) value' d) (λ g d. sets g r kind (topics.Repo (id_of g.repos target)) value d) was after
+pub sets_end_at : {K : Type 0} (tells : K → StoreView) (P : DriverInput → Driver → Run → Type 0) (r target : ℕ) (was after : FleetView K) (kind : LogKind) (id : List ℕ) (value value' : Value) → id ≡ id_of was.run.repos target → value' ≡ value
+    → Ends tells P (λ g d. sets g r kind (topics.Repo id) value' d) was after → Ends tells P (λ g d. sets g r kind (topics.Repo (id_of g.repos target)) value d) was after
+sets_end_at tells P r target was after kind id value value' is same ends =
+    ends_as tells P (λ g d. sets g r kind (topics.Repo id) value' d) (λ g d. sets g r kind (topics.Repo (id_of g.repos target)) value d) was after
     (λ g d stands i. sets g r kind (topics.Repo ((is ∙ ap (λ (run : Run). id_of run.repos target) stands.come.run) i)) (same i) d) ends
 
 -- what holds after so many steps, and is kept by each, holds after more
@@ -153,48 +164,48 @@ still_then Holds a n next few holds = still Holds a next holds (n - a) n (apart 
 
 -- ---- turns
 
-pub turns_end : {K : Type 0} (tells : K → StoreView) (q r k n : ℕ) (was between after : FleetView K) → LaterLaw → ((g : DriverInput) (r : ℕ) (d : Driver) → OnlyAdds d (turn g r d))
-    → ((g : DriverInput) (r n : ℕ) (d : Driver) → turns g r (suc n) d ≡ turn g r (turns g r n d)) → k < n → GoesOn tells (λ g d. turns g r k d) was between → EndsAtFull tells q (λ g d. turn g r d) between after
-    → EndsAtFull tells q (λ g d. turns g r n d) was after
-turns_end tells q r k n was between after later adds law less so_far ends g d stands =
-    still_then (λ m. StopsAtFull g q (turns g r m d) after.run) (suc k) n
-    (λ m stops. subst (λ (x : Driver). StopsAtFull g q x after.run) (sym (law g r m d)) (later g q (turns g r m d) (turn g r (turns g r m d)) after.run stops (adds g r (turns g r m d)))) (next k n less)
-    (subst (λ (x : Driver). StopsAtFull g q x after.run) (sym (law g r k d)) (ends g (turns g r k d) (so_far g d stands)))
+pub turns_end : {K : Type 0} (tells : K → StoreView) (P : DriverInput → Driver → Run → Type 0) (r k n : ℕ) (was between after : FleetView K) → LaterLaw P → ((g : DriverInput) (r : ℕ) (d : Driver) → OnlyAdds d (turn g r d))
+    → ((g : DriverInput) (r n : ℕ) (d : Driver) → turns g r (suc n) d ≡ turn g r (turns g r n d)) → k < n → GoesOn tells (λ g d. turns g r k d) was between → Ends tells P (λ g d. turn g r d) between after
+    → Ends tells P (λ g d. turns g r n d) was after
+turns_end tells P r k n was between after later adds law less so_far ends g d stands =
+    still_then (λ m. P g (turns g r m d) after.run) (suc k) n
+    (λ m stops. subst (λ (x : Driver). P g x after.run) (sym (law g r m d)) (later g (turns g r m d) (turn g r (turns g r m d)) after.run stops (adds g r (turns g r m d)))) (next k n less)
+    (subst (λ (x : Driver). P g x after.run) (sym (law g r k d)) (ends g (turns g r k d) (so_far g d stands)))
   where
     next : (k n : ℕ) → k < n → suc k ≤ n
     next k n less = omega (arith, less)
 
 -- those of a round
-pub round_ends : {K : Type 0} (tells : K → StoreView) (q k n : ℕ) (was between after : FleetView K) → LaterLaw → ((g : DriverInput) (r : ℕ) (d : Driver) → OnlyAdds d (turn g r d))
+pub round_ends : {K : Type 0} (tells : K → StoreView) (P : DriverInput → Driver → Run → Type 0) (k n : ℕ) (was between after : FleetView K) → LaterLaw P → ((g : DriverInput) (r : ℕ) (d : Driver) → OnlyAdds d (turn g r d))
     → ((g : DriverInput) (n : ℕ) (d : Driver) → turns_of g (range_with_len 0 (suc n)) d ≡ turn g n (turns_of g (range_with_len 0 n) d)) → n ≡ length was.nodes → k < n
-    → GoesOn tells (λ g d. turns_of g (range_with_len 0 k) d) was between → EndsAtFull tells q (λ g d. turn g k d) between after → EndsAtFull tells q (λ g d. round g d) was after
-round_ends tells q k n was between after later adds law all less so_far ends g d stands =
-    subst (λ (m : ℕ). StopsAtFull g q (turns_of g (range_with_len 0 m) d) after.run) (all ∙ stands.come.count)
-    (still_then (λ m. StopsAtFull g q (turns_of g (range_with_len 0 m) d) after.run) (suc k) n
-    (λ m stops. subst (λ (x : Driver). StopsAtFull g q x after.run) (sym (law g m d)) (later g q (turns_of g (range_with_len 0 m) d) (turn g m (turns_of g (range_with_len 0 m) d)) after.run stops (adds g m (turns_of g (range_with_len 0 m) d)))) (next k n less)
-    (subst (λ (x : Driver). StopsAtFull g q x after.run) (sym (law g k d)) (ends g (turns_of g (range_with_len 0 k) d) (so_far g d stands))))
+    → GoesOn tells (λ g d. turns_of g (range_with_len 0 k) d) was between → Ends tells P (λ g d. turn g k d) between after → Ends tells P (λ g d. round g d) was after
+round_ends tells P k n was between after later adds law all less so_far ends g d stands =
+    subst (λ (m : ℕ). P g (turns_of g (range_with_len 0 m) d) after.run) (all ∙ stands.come.count)
+    (still_then (λ m. P g (turns_of g (range_with_len 0 m) d) after.run) (suc k) n
+    (λ m stops. subst (λ (x : Driver). P g x after.run) (sym (law g m d)) (later g (turns_of g (range_with_len 0 m) d) (turn g m (turns_of g (range_with_len 0 m) d)) after.run stops (adds g m (turns_of g (range_with_len 0 m) d)))) (next k n less)
+    (subst (λ (x : Driver). P g x after.run) (sym (law g k d)) (ends g (turns_of g (range_with_len 0 k) d) (so_far g d stands))))
   where
     next : (k n : ℕ) → k < n → suc k ≤ n
     next k n less = omega (arith, less)
 
 -- ---- rounds
 
-pub settles_end : {K : Type 0} (tells : K → StoreView) (q n idle : ℕ) (was between after : FleetView K) → LaterLaw → ((g : DriverInput) (d : Driver) → OnlyAdds d (round g d))
+pub settles_end : {K : Type 0} (tells : K → StoreView) (P : DriverInput → Driver → Run → Type 0) (n idle : ℕ) (was between after : FleetView K) → LaterLaw P → ((g : DriverInput) (d : Driver) → OnlyAdds d (round g d))
     → ((g : DriverInput) (n : ℕ) (x : AfterRounds) → is_settled (goes_rounds g n x) ≡ false → goes_rounds g (suc n) x ≡ after_round (goes_rounds g n x) (round g (goes_rounds g n x).driver))
     → ((g : DriverInput) (d : Driver) → settles g d ≡ (goes_rounds g (power most_rounds) (unsettled d)).driver) → idle < 2 → suc n ≤ power most_rounds
-    → HasGone tells n idle was between → EndsAtFull tells q (λ g d. round g d) between after → EndsAtFull tells q (λ g d. settles g d) was after
-settles_end {K} tells q n idle was between after later adds law most low few gone ends g d stands =
-    subst (λ (x : Driver). StopsAtFull g q x after.run) (sym (most g d))
+    → HasGone tells n idle was between → Ends tells P (λ g d. round g d) between after → Ends tells P (λ g d. settles g d) was after
+settles_end {K} tells P n idle was between after later adds law most low few gone ends g d stands =
+    subst (λ (x : Driver). P g x after.run) (sym (most g d))
     (still_then Stops (suc n) (power most_rounds) next few
-    (subst (λ (x : AfterRounds). StopsAtFull g q x.driver after.run) (sym (law g n (unsettled d) (ap (Rattle.std.specs.Prelude.nat_le 2) (gone.idle_is g d stands) ∙ below idle low)))
+    (subst (λ (x : AfterRounds). P g x.driver after.run) (sym (law g n (unsettled d) (ap (Rattle.std.specs.Prelude.nat_le 2) (gone.idle_is g d stands) ∙ below idle low)))
     (ends g (goes_rounds g n (unsettled d)).driver (gone.stands g d stands))))
   where
     Stops : ℕ → Type 0
-    Stops m = StopsAtFull g q (goes_rounds g m (unsettled d)).driver after.run
+    Stops m = P g (goes_rounds g m (unsettled d)).driver after.run
 
-    goes : (b : Bool) (x : AfterRounds) → StopsAtFull g q x.driver after.run → StopsAtFull g q (if b then x else after_round x (round g x.driver)).driver after.run
+    goes : (b : Bool) (x : AfterRounds) → P g x.driver after.run → P g (if b then x else after_round x (round g x.driver)).driver after.run
     goes true x stops = stops
-    goes false x stops = later g q x.driver (round g x.driver) after.run stops (adds g x.driver)
+    goes false x stops = later g x.driver (round g x.driver) after.run stops (adds g x.driver)
 
     next : (m : ℕ) → Stops m → Stops (suc m)
     next m stops = goes (is_settled (goes_rounds g m (unsettled d))) (goes_rounds g m (unsettled d)) stops

@@ -2,7 +2,7 @@
 use Rattle.std.proofs.Common.{◌≡◌, ◌≢◌, ℕ, zero, suc, ◌+◌, ◌<◌, ◌≤◌, ◌^◌, ◌⊎◌, inl, inr, true, List, [], ◌∷◌, ◌++◌, Some, None, Result, Ok, Err, drop, length, sym, ap, ◌∙◌, subst, arith}
 use Rattle.std.specs.Prelude.{IfErr, IsErrAnd, IsErrOf, OnErr, OnOk, filter, slice_get}
 use Rattle.std.specs.Map.{keys_of}
-use Rattle.std.proofs.lemmas.List.{append-nil, length-append, length-reverse}
+use Rattle.std.proofs.lemmas.List.{append-nil, append_assoc, length-append, length-reverse}
 use Rattle.std.proofs.lemmas.Option.{same_Some}
 use Rattle.annex_base.specs.Lists.{Each}
 use Rattle.annex_base.specs.declared.kinds.Call.{Call}
@@ -37,10 +37,10 @@ use Rattle.repo_node.specs.declared.refused.NodeRefused.TheVariants as refusals
 use Rattle.fleet_model.specs.Fleets.{FleetView, HasCome, IsNodeOf}
 use Rattle.fleet_model.specs.Stopping.{OthersAreFew}
 use Rattle.fleet_model.specs.Steps.{OneGoesOn, raised}
-use Rattle.fleet_run.specs.Standing.{EndsAtFull, HasRoom, IsAtDriver, WaitsForRoom}
-use Rattle.fleet_run.specs.Telling.{AreFew, OnlyEntriesChange}
+use Rattle.fleet_run.specs.Standing.{EndsAtFull, HasRoom, IsAtDriver, OnlyAddsEntries, WaitsForRoom}
+use Rattle.fleet_run.specs.Telling.{AreFew}
 use Rattle.fleet_run.proofs.Beginning.{BeginsJob, has_parts, none_left}
-use Rattle.fleet_run.proofs.Called.{IsCalled, IsStep, branch_stays, is_step}
+use Rattle.fleet_run.proofs.Called.{IsCalled, IsStep, branch_stays, is_step, with_more}
 use Rattle.fleet_run.proofs.Growing.{come_grows}
 use Rattle.fleet_run.proofs.Placing.{PlacesContent}
 use Rattle.fleet_run.proofs.Writing.{Answer, IsEnded}
@@ -67,16 +67,21 @@ run_stays n m was after run same =
     run ∙ ap (λ (entries : List Entry). record was.run { entries = entries })
     (ap (λ (history : List Entry). was.run.entries ++ drop (length n.history) history) same ∙ (ap (λ (more : List Entry). was.run.entries ++ more) (none_left n.history) ∙ append-nil was.run.entries))
 
--- only its entries change, where a function raises a node, calls it and tells it
+-- it has some entries more, where a function raises a node, calls it and tells it
 pub rest_on : {K : Type 0} (was seen : FleetView K) (nodes now : List (NodeView K)) (run : Run) (after : FleetView K) → record { nodes = nodes; run = run } ≡ seen → seen.run ≡ was.run
-    → OnlyEntriesChange (record { nodes = now; run = run }) after → OnlyEntriesChange was after
-rest_on {K} was seen nodes now run after is same rest = rest ∙ ap (λ (r : Run). record r { entries = after.run.entries }) (ap (λ (f : FleetView K). f.run) is ∙ same)
+    → OnlyAddsEntries (record { nodes = now; run = run }) after → OnlyAddsEntries was after
+rest_on {K} was seen nodes now run after is same rest = (rest.0, rest.1 ∙ ap (λ (r : Run). with_more r rest.0) (ap (λ (f : FleetView K). f.run) is ∙ same))
 
-pub rest_where_same : {K : Type 0} (was after : FleetView K) → after.run ≡ was.run → OnlyEntriesChange was after
-rest_where_same was after same = same ∙ ap (λ (r : Run). record was.run { entries = r.entries }) (sym same)
+pub rest_where_same : {K : Type 0} (was after : FleetView K) → after.run ≡ was.run → OnlyAddsEntries was after
+rest_where_same was after same = ([], same ∙ (λ i. record was.run { entries = sym (append-nil was.run.entries) i }))
 
-pub rest_then : {K : Type 0} (was mid after : FleetView K) → OnlyEntriesChange was mid → OnlyEntriesChange mid after → OnlyEntriesChange was after
-rest_then was mid after first second = second ∙ ap (λ (r : Run). record r { entries = after.run.entries }) first
+pub rest_then : {K : Type 0} (was mid after : FleetView K) → OnlyAddsEntries was mid → OnlyAddsEntries mid after → OnlyAddsEntries was after
+rest_then was mid after first second =
+    (first.0 ++ second.0, second.1 ∙ (ap (λ (r : Run). with_more r second.0) first.1 ∙ (λ i. record was.run { entries = append_assoc was.run.entries first.0 second.0 i })))
+
+-- its other parts are as they were
+pub only_entries : {K : Type 0} (was after : FleetView K) → OnlyAddsEntries was after → after.run ≡ record was.run { entries = after.run.entries }
+only_entries was after rest = rest.1 ∙ ap (λ (es : List Entry). record was.run { entries = es }) (sym (ap (λ (r : Run). r.entries) rest.1))
 
 -- ---- steps that end there
 
@@ -345,10 +350,10 @@ has_room {K} tells r was up after there call g d stands =
     go a b n (inl less) few = less
     go a b n (inr less) few = omega (arith, less, few)
 
--- a function put these entries into the run that it sees
-pub rest_of : {K : Type 0} (nodes : List (NodeView K)) (run : Run) (entries : List Entry) (was : FleetView K) → record { nodes = nodes; run = run } ≡ was
-    → OnlyEntriesChange was (record { nodes = nodes; run = record run { entries = entries } })
-rest_of {K} nodes run entries was is = ap (λ (f : FleetView K). record f.run { entries = entries }) is
+-- a function put these entries behind those of the run that it sees
+pub rest_of : {K : Type 0} (nodes : List (NodeView K)) (run : Run) (entries more : List Entry) (was : FleetView K) → record { nodes = nodes; run = run } ≡ was → entries ≡ run.entries ++ more
+    → OnlyAddsEntries was (record { nodes = nodes; run = record run { entries = entries } })
+rest_of {K} nodes run entries more was is pushed = (more, (λ i. record run { entries = pushed i }) ∙ ap (λ (f : FleetView K). with_more f.run more) is)
 
 pub ok_or_err : {X E : Type 0} (x : X) (y : E) → Ok x ≡ Err y → ⊥
 ok_or_err x y e = absurd (cc)

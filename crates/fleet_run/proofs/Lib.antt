@@ -19,3 +19,4 @@ mod Cutting
 mod Few
 mod Entries
 mod Marked
+mod Starts

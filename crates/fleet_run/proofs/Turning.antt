@@ -214,10 +214,10 @@ turns_on {K} laws tells r had t was up turned carried after there call came g d 
     left_is = call.rest m fourth.0 third.1 fourth.1
 
     early : m.time ≤ 1000000000000
-    early = subst (λ (y : NodeView K). y.time ≤ 1000000000000) left_is (call.told.time fourth.0 fourth.1)
+    early = subst (λ (y : NodeView K). y.time ≤ 1000000000000) left_is (call.told.node fourth.0 fourth.1).time
 
     few : m.count < 2 ^ 62
-    few = subst (λ (y : NodeView K). y.count < 2 ^ 62) left_is (call.told.counted fourth.0 fourth.1)
+    few = subst (λ (y : NodeView K). y.count < 2 ^ 62) left_is (call.told.node fourth.0 fourth.1).counted
 
     store : IsStoreOf d r (tells n.keeper)
     store = (come.each r n first.1).store

@@ -1,7 +1,9 @@
 -- What a fleet has done is what the driver of scripts has done (own).
-use Rattle.std.specs.Prelude.{◌≡◌, ℕ, ◌<◌, ◌≤◌, Bool, List, filter, is_none, length}
+use Rattle.std.specs.Prelude.{◌≡◌, ℕ, ◌<◌, ◌≤◌, Bool, List, ◌++◌, filter, is_none, length, reverse}
 use Rattle.run_data.specs.Histories.{most_entries}
 use Rattle.run_data.specs.declared.entry.Entry.{Entry}
+use Rattle.run_data.specs.declared.run.Run.{Run}
+use Rattle.run_model.specs.Run.{IsRun}
 use Rattle.repo_node.specs.Stored.{StoreView}
 use Rattle.driver_model.specs.Driver.{Driver, DriverInput, newest_count}
 use Rattle.driver_model.specs.Limits.{StopsAtFull, count_of, within_limit}
@@ -20,6 +22,21 @@ most_lines = 268435456
 -- wherever the driver was, the fleet goes on as this step of it
 abbrev pub GoesOn : {K : Type 0} → (K → StoreView) → (DriverInput → Driver → Driver) → FleetView K → FleetView K → Type 0
 GoesOn tells step was after = (g : DriverInput) (d : Driver) → IsAtDriver tells g d was → IsAtDriver tells g (step g d) after
+
+-- ---- where a line is refused
+
+-- of the run only the entries change: some stand behind those that it had
+abbrev pub OnlyAddsEntries : {K : Type 0} → FleetView K → FleetView K → Type 0
+OnlyAddsEntries was after = (more : List Entry) × (after.run ≡ record was.run { entries = was.run.entries ++ more })
+
+-- The run is one of the definitions, and its entries are a start of those that the driver has made.
+pub record IsStartOf (d : Driver) (run : Run) : Type 0 where
+  pub lawful : IsRun run
+  pub entries : (left : List Entry) × (reverse d.past ≡ run.entries ++ left)
+
+-- wherever the driver was, the fleet's run is a start of what it has made after this step
+abbrev pub StopsWithin : {K : Type 0} → (K → StoreView) → (DriverInput → Driver → Driver) → FleetView K → FleetView K → Type 0
+StopsWithin tells step was after = (g : DriverInput) (d : Driver) → IsAtDriver tells g d was → IsStartOf (step g d) after.run
 
 -- ---- how few entries there are; for private contracts
 

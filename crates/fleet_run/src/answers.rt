@@ -1,10 +1,14 @@
 //! What the answers of the nodes are to a line.
-ghost use Rattle.std.specs.Prelude.{◌≡◌, ◌⊎◌, ℕ, Err, Ok, OnOk};
-ghost use Rattle.fleet_run.specs.Telling.{AreFew};
+ghost use Rattle.std.specs.Prelude.{◌≡◌, ◌⊎◌, ◌<◌, ◌≤◌, ℕ, length, slice_get, Some, Err, Ok, OnErr, OnOk};
+ghost use Rattle.repo_node.specs.Nodes.{NodeView};
+ghost use Rattle.repo_node.specs.Stored.{store_view};
+ghost use Rattle.fleet_run.specs.Standing.{OnlyAddsEntries};
+ghost use Rattle.fleet_run.specs.Telling.{AreFew, EndsShort, Tells};
 
 use crate::running::Running;
 use crate::stop::FleetStop;
 use object_store::FailingKeeper;
+use race_core::runs_grow;
 use repo_node::{BeginRefused, NodeRefused, Turn};
 
 impl<K: FailingKeeper> Running<K> {
@@ -66,5 +70,31 @@ impl<K: FailingKeeper> Running<K> {
             Turn::Full => Err(self.full(repo)),
             Turn::NoMemory => Err(FleetStop::NoMemory),
         }
+    }
+
+    /// Ends a call of a node, after which the line is to go on so: adds copies of the entries that the node has made since it had so
+    /// many. Where memory ran out for the node, none is added.
+    pub(crate) fn end_call(
+        &mut self,
+        repo: u32,
+        had: usize,
+        line: Result<(), FleetStop>,
+    ) -> Result<(), FleetStop>
+        requires there { repo < length self.old.nodes }
+        requires had { (n : NodeView K) → slice_get self.old.nodes repo ≡ Some n → had ≤ length n.history }
+        ensures ok { OnOk result ((line ≡ Ok tt) × Tells (λ k. store_view (K.contents k) (K.parts k) (K.failing k) (K.faults k)) repo had self.old self.new) }
+        ensures full { (r : ℕ) → result ≡ Err (FleetStop.Full r) → (line ≡ Err (FleetStop.Full r)) × Tells (λ k. store_view (K.contents k) (K.parts k) (K.failing k) (K.faults k)) repo had self.old self.new }
+        ensures stopped { OnErr result (EndsShort (λ k. store_view (K.contents k) (K.parts k) (K.failing k) (K.faults k)) repo had self.old self.new) }
+        ensures short { line ≡ Err FleetStop.NoMemory → self.new.run ≡ self.old.run }
+        ensures nodes { self.new.nodes ≡ self.old.nodes }
+        ensures rest { OnlyAddsEntries self.old self.new }
+    {
+        // A law, for the proof.
+        runs_grow();
+        if let Err(FleetStop::NoMemory) = line {
+            return line;
+        }
+        self.tell(repo, had)?;
+        line
     }
 }

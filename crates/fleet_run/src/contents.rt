@@ -1,17 +1,16 @@
 //! Contents that a script puts into a fleet.
-ghost use Rattle.std.specs.Prelude.{◌≡◌, ◌⊎◌, ℕ, ◌<◌, ◌^◌, length, Err, IfOk, OnOk};
+ghost use Rattle.std.specs.Prelude.{◌≡◌, ◌⊎◌, ℕ, ◌<◌, ◌^◌, length, Err, IfOk, OnErr, OnOk};
 ghost use Rattle.annex_key.specs.KeyText.{IsKeyText};
 ghost use Rattle.key_verify.specs.Matching.{MatchesKey};
 ghost use Rattle.repo_node.specs.Stored.{store_view};
 ghost use Rattle.driver_model.specs.ScriptSteps.{has};
-ghost use Rattle.fleet_run.specs.Standing.{EndsAtFull, GoesOn, HasRoom, IsDriven, WaitsForRoom};
-ghost use Rattle.fleet_run.specs.Telling.{OnlyEntriesChange};
+ghost use Rattle.fleet_run.specs.Standing.{EndsAtFull, GoesOn, HasRoom, IsDriven, OnlyAddsEntries, StopsWithin, WaitsForRoom};
 
 use crate::running::Running;
 use crate::stop::FleetStop;
 use annex_base::NoMemory;
 use annex_key::Key;
-use driver_model::drivers_stay_sound;
+use driver_model::{drivers_only_add, drivers_stay_sound};
 use fleet_model::{fleets_do_lines, fleets_stop_at_full_histories};
 use object_store::FailingKeeper;
 use script_words::Content;
@@ -37,17 +36,19 @@ impl<K: FailingKeeper> Running<K> {
         requires small { length content.now < 2 ^ 62 }
         ensures ok { OnOk result (GoesOn (λ k. store_view (K.contents k) (K.parts k) (K.failing k) (K.faults k)) (λ g d. has g repo key.now content.now d) self.old self.new) }
         ensures full { (r : ℕ) → result ≡ Err (FleetStop.Full r) → EndsAtFull (λ k. store_view (K.contents k) (K.parts k) (K.failing k) (K.faults k)) r (λ g d. has g repo key.now content.now d) self.old self.new ⊎ ((r ≡ repo) × WaitsForRoom (λ k. store_view (K.contents k) (K.parts k) (K.failing k) (K.faults k)) repo (λ g d. has g repo key.now content.now d) self.old self.new) }
+        ensures stopped { OnErr result (StopsWithin (λ k. store_view (K.contents k) (K.parts k) (K.failing k) (K.faults k)) (λ g d. has g repo key.now content.now d) self.old self.new) }
         ensures room { OnOk result (HasRoom (λ k. store_view (K.contents k) (K.parts k) (K.failing k) (K.faults k)) repo self.old) }
-        ensures rest { OnlyEntriesChange self.old self.new }
+        ensures rest { OnlyAddsEntries self.old self.new }
     {
         // Laws, for the proof.
         fleets_do_lines::<K>();
         drivers_stay_sound();
+        drivers_only_add();
         fleets_stop_at_full_histories::<K>();
         let bytes = bytes_of(self.alloc, content)?;
         let had = self.raise(repo);
         let done = self.nodes.place(repo as usize, key, &bytes);
-        self.tell(repo, had)?;
-        self.after_step(repo, done)
+        let line = self.after_step(repo, done);
+        self.end_call(repo, had, line)
     }
 }

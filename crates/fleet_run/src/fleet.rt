@@ -1,5 +1,5 @@
 //! A fleet, and the run so far.
-ghost use Rattle.std.specs.Prelude.{◌≡◌, ◌+◌, ◌<◌, ◌≤◌, ℕ, All, [], length, map, Err, IfOk, OnOk};
+ghost use Rattle.std.specs.Prelude.{◌≡◌, ◌+◌, ◌<◌, ◌≤◌, ℕ, All, [], length, map, Err, IfOk, OnErr, OnOk};
 ghost use Rattle.run_data.specs.declared.run.RepoView.{RepoView};
 ghost use Rattle.object_store.specs.declared.memory.MemoryKeeper.{MemoryKeeper};
 ghost use Rattle.repo_node.specs.Stored.{HasNothing, store_view};
@@ -8,14 +8,14 @@ ghost use Rattle.driver_model.specs.Driver.{DriverInput, at_first};
 ghost use Rattle.driver_script.specs.Lines.{repos_of};
 ghost use Rattle.fleet_model.specs.Matches.{DecidesMatches};
 ghost use Rattle.fleet_model.specs.Stores.{IsStoreOf};
-ghost use Rattle.fleet_run.specs.Commands.{CutsAt, MayBeDone, MeetsNone, does_and_marks};
-ghost use Rattle.fleet_run.specs.Standing.{GoesOn, IsAtDriver, most_lines};
+ghost use Rattle.fleet_run.specs.Commands.{CutsAt, MayBeDone, MeetsNone, does_and_marks, does_command};
+ghost use Rattle.fleet_run.specs.Standing.{GoesOn, IsAtDriver, OnlyAddsEntries, StopsWithin, most_lines};
 
 use crate::declaring::{memory_keepers, repositories};
 use crate::running::Running;
 use crate::stop::FleetStop;
 use annex_base::{Items, NoMemory};
-use driver_model::drivers_stay_sound;
+use driver_model::{drivers_only_add, drivers_stay_sound};
 use driver_script::bytes_are_matched;
 use fleet_model::fleets_begin;
 use joined_nodes::Nodes;
@@ -123,8 +123,10 @@ impl<K: FailingKeeper> Fleet<K> {
     }
 
     /// Does what the line says, and marks how many entries stand after it. It is refused as Full where the line meets a full history.
-    /// After a refusal the entries made so far stand; from then on each line is refused as for want of memory. A fleet does at most
-    /// 2^28 lines, so that its run has fewer than 2^30 entries: of each repository at most 100,000, and of each line at most one wait.
+    /// After a refusal the run has the entries that it had, and then a start of those that the line makes; so it is a run still. Its
+    /// repositories, tree and marks are as they were. From then on each line is refused as for want of memory, and does nothing. A fleet
+    /// does at most 2^28 lines, so that its run has fewer than 2^30 entries: of each repository at most 100,000, and of each line at most
+    /// one wait.
     pub fn line(&mut self, command: &Command) -> Result<(), FleetStop>
         requires may { MayBeDone self.old command.now }
         requires few { length self.old.run.marks < most_lines }
@@ -132,8 +134,12 @@ impl<K: FailingKeeper> Fleet<K> {
         ensures marks { OnOk result (length self.new.run.marks ≡ length self.old.run.marks + 1) }
         ensures within { OnOk result (MeetsNone (λ k. store_view (K.contents k) (K.parts k) (K.failing k) (K.faults k)) command.now self.old) }
         ensures full { (r : ℕ) → result ≡ Err (FleetStop.Full r) → CutsAt (λ k. store_view (K.contents k) (K.parts k) (K.failing k) (K.faults k)) r command.now self.old self.new }
+        ensures stopped { OnErr result (StopsWithin (λ k. store_view (K.contents k) (K.parts k) (K.failing k) (K.faults k)) (does_command command.now) self.old self.new) }
+        ensures kept { OnErr result (OnlyAddsEntries self.old self.new) }
     {
         if self.stopped {
+            // A law, for the proof.
+            drivers_only_add();
             return Err(FleetStop::NoMemory);
         }
         match self.running.does_and_marks(command) {

@@ -1,20 +1,26 @@
 //! Jobs that begin, store calls that will fail, and time that passes.
-ghost use Rattle.std.specs.Prelude.{◌≡◌, ℕ, ◌+◌, ◌<◌, ◌≤◌, length, reverse, None, Err, OnOk};
+ghost use Rattle.std.specs.Prelude.{◌≡◌, ℕ, ◌+◌, ◌<◌, ◌≤◌, length, reverse, None, Err, IfOk, OnErr, OnOk};
 ghost use Rattle.annex_key.specs.View.{first_fault};
 ghost use Rattle.repo_node.specs.Stored.{store_view};
 ghost use Rattle.run_model.specs.Past.{now};
 ghost use Rattle.driver_model.specs.Rounds.{settles};
 ghost use Rattle.driver_model.specs.ScriptSteps.{begins, waits, will_fail};
-ghost use Rattle.fleet_run.specs.Standing.{EndsAtFull, GoesOn, IsDriven};
-ghost use Rattle.fleet_run.specs.Telling.{OnlyEntriesChange};
+ghost use Rattle.fleet_run.specs.Standing.{EndsAtFull, GoesOn, IsDriven, OnlyAddsEntries, StopsWithin};
 
 use crate::running::Running;
 use crate::stop::FleetStop;
-use annex_base::{Call, Items};
+use annex_base::{Call, Items, NoMemory};
 use driver_model::{drivers_only_add, drivers_stay_sound, runs_are_cut_where_histories_are_full};
 use fleet_model::{fleets_do_lines, fleets_stop_at_full_histories};
 use object_store::FailingKeeper;
 use run_data::{Entry, EntryKind, Job, JobKind};
+
+/// A copy of the job.
+fn copied(job: &Job) -> Result<Job, NoMemory>
+    ensures { IfOk result (λ copy. copy ≡ job.now) }
+{
+    Ok(job.clone()?)
+}
 
 impl<K: FailingKeeper> Running<K> {
     /// A drop of the repository's own copy begins where fewer than four jobs run.
@@ -26,17 +32,19 @@ impl<K: FailingKeeper> Running<K> {
         requires key { first_fault job.now.key ≡ None }
         ensures ok { OnOk result (GoesOn (λ k. store_view (K.contents k) (K.parts k) (K.failing k) (K.faults k)) (λ g d. begins repo job.now d) self.old self.new) }
         ensures full { (r : ℕ) → result ≡ Err (FleetStop.Full r) → EndsAtFull (λ k. store_view (K.contents k) (K.parts k) (K.failing k) (K.faults k)) r (λ g d. begins repo job.now d) self.old self.new }
-        ensures rest { OnlyEntriesChange self.old self.new }
+        ensures stopped { OnErr result (StopsWithin (λ k. store_view (K.contents k) (K.parts k) (K.failing k) (K.faults k)) (λ g d. begins repo job.now d) self.old self.new) }
+        ensures rest { OnlyAddsEntries self.old self.new }
     {
         // Laws, for the proof.
         fleets_do_lines::<K>();
         drivers_stay_sound();
+        drivers_only_add();
         fleets_stop_at_full_histories::<K>();
-        let job = job.clone()?;
+        let job = copied(job)?;
         let had = self.raise(repo);
         let begun = self.nodes.begin(repo as usize, job);
-        self.tell(repo, had)?;
-        self.after_begin(repo, begun)
+        let line = self.after_begin(repo, begun);
+        self.end_call(repo, had, line)
     }
 
     /// Such a drop begins, and then all settles.
@@ -48,7 +56,8 @@ impl<K: FailingKeeper> Running<K> {
         requires key { first_fault job.now.key ≡ None }
         ensures ok { OnOk result (GoesOn (λ k. store_view (K.contents k) (K.parts k) (K.failing k) (K.faults k)) (λ g d. settles g (begins repo job.now d)) self.old self.new) }
         ensures full { (r : ℕ) → result ≡ Err (FleetStop.Full r) → EndsAtFull (λ k. store_view (K.contents k) (K.parts k) (K.failing k) (K.faults k)) r (λ g d. settles g (begins repo job.now d)) self.old self.new }
-        ensures rest { OnlyEntriesChange self.old self.new }
+        ensures stopped { OnErr result (StopsWithin (λ k. store_view (K.contents k) (K.parts k) (K.failing k) (K.faults k)) (λ g d. settles g (begins repo job.now d)) self.old self.new) }
+        ensures rest { OnlyAddsEntries self.old self.new }
     {
         // Laws, for the proof.
         drivers_only_add();
@@ -63,11 +72,13 @@ impl<K: FailingKeeper> Running<K> {
         requires driven { IsDriven (λ k. store_view (K.contents k) (K.parts k) (K.failing k) (K.faults k)) self.old }
         ensures ok { OnOk result (GoesOn (λ k. store_view (K.contents k) (K.parts k) (K.failing k) (K.faults k)) (λ g d. will_fail repo call d) self.old self.new) }
         ensures full { (r : ℕ) → result ≡ Err (FleetStop.Full r) → ⊥ }
-        ensures rest { OnlyEntriesChange self.old self.new }
+        ensures stopped { OnErr result (StopsWithin (λ k. store_view (K.contents k) (K.parts k) (K.failing k) (K.faults k)) (λ g d. will_fail repo call d) self.old self.new) }
+        ensures rest { OnlyAddsEntries self.old self.new }
     {
         // Laws, for the proof.
         fleets_do_lines::<K>();
         drivers_stay_sound();
+        drivers_only_add();
         self.nodes.fail_next(repo as usize, call)?;
         Ok(())
     }
@@ -78,11 +89,13 @@ impl<K: FailingKeeper> Running<K> {
         requires early { now (reverse self.old.run.entries) + milliseconds ≤ 1000000000000 }
         ensures ok { OnOk result (GoesOn (λ k. store_view (K.contents k) (K.parts k) (K.failing k) (K.faults k)) (λ g d. waits milliseconds d) self.old self.new) }
         ensures full { (r : ℕ) → result ≡ Err (FleetStop.Full r) → ⊥ }
-        ensures rest { OnlyEntriesChange self.old self.new }
+        ensures stopped { OnErr result (StopsWithin (λ k. store_view (K.contents k) (K.parts k) (K.failing k) (K.faults k)) (λ g d. waits milliseconds d) self.old self.new) }
+        ensures rest { OnlyAddsEntries self.old self.new }
     {
         // Laws, for the proof.
         fleets_do_lines::<K>();
         drivers_stay_sound();
+        drivers_only_add();
         // For the proof: the count has room.
         self.entries_are_few();
         let count = self.newest_count();

@@ -1,8 +1,8 @@
 //! What a fleet does at each form of line.
-ghost use Rattle.std.specs.Prelude.{◌≡◌, ◌+◌, ◌<◌, ℕ, length, Err, OnOk};
+ghost use Rattle.std.specs.Prelude.{◌≡◌, ◌+◌, ◌<◌, ℕ, length, Err, OnErr, OnOk};
 ghost use Rattle.repo_node.specs.Stored.{store_view};
 ghost use Rattle.fleet_run.specs.Commands.{CutsAt, HasRoomFor, MayBeDone, MeetsNone, does_and_marks, does_command};
-ghost use Rattle.fleet_run.specs.Standing.{GoesOn, IsDriven, IsDrivenWithin, most_lines};
+ghost use Rattle.fleet_run.specs.Standing.{GoesOn, IsDriven, IsDrivenWithin, OnlyAddsEntries, StopsWithin, most_lines};
 
 use crate::running::Running;
 use crate::stop::FleetStop;
@@ -23,6 +23,8 @@ impl<K: FailingKeeper> Running<K> {
         ensures marks { OnOk result (length self.new.run.marks ≡ length self.old.run.marks + 1) }
         ensures within { OnOk result (MeetsNone (λ k. store_view (K.contents k) (K.parts k) (K.failing k) (K.faults k)) command.now self.old) }
         ensures full { (r : ℕ) → result ≡ Err (FleetStop.Full r) → CutsAt (λ k. store_view (K.contents k) (K.parts k) (K.failing k) (K.faults k)) r command.now self.old self.new }
+        ensures stopped { OnErr result (StopsWithin (λ k. store_view (K.contents k) (K.parts k) (K.failing k) (K.faults k)) (does_command command.now) self.old self.new) }
+        ensures kept { OnErr result (OnlyAddsEntries self.old self.new) }
     {
         // A law, for the proof.
         runs_are_cut_where_histories_are_full();
@@ -40,6 +42,8 @@ impl<K: FailingKeeper> Running<K> {
         ensures ok { OnOk result (GoesOn (λ k. store_view (K.contents k) (K.parts k) (K.failing k) (K.faults k)) (does_command command.now) self.old self.new) }
         ensures room { OnOk result (HasRoomFor (λ k. store_view (K.contents k) (K.parts k) (K.failing k) (K.faults k)) command.now self.old) }
         ensures full { (r : ℕ) → result ≡ Err (FleetStop.Full r) → CutsAt (λ k. store_view (K.contents k) (K.parts k) (K.failing k) (K.faults k)) r command.now self.old self.new }
+        ensures stopped { OnErr result (StopsWithin (λ k. store_view (K.contents k) (K.parts k) (K.failing k) (K.faults k)) (does_command command.now) self.old self.new) }
+        ensures rest { OnlyAddsEntries self.old self.new }
     {
         // Laws, for the proof.
         key_texts_have_no_fault();

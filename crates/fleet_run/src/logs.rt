@@ -1,18 +1,17 @@
 //! Lines that a script lets nodes write into their logs, and what it does with whole branches.
-ghost use Rattle.std.specs.Prelude.{◌≡◌, ◌≢◌, ℕ, ◌<◌, length, None, Err, OnOk};
+ghost use Rattle.std.specs.Prelude.{◌≡◌, ◌≢◌, ℕ, ◌<◌, length, None, Err, OnErr, OnOk};
 ghost use Rattle.log_lines.specs.declared.entry.LogKind.TheVariants as kinds;
 ghost use Rattle.run_data.specs.Files.{HasPath, kind_of};
 ghost use Rattle.union_merge.specs.LineSet.{IsLine};
 ghost use Rattle.repo_node.specs.Stored.{store_view};
 ghost use Rattle.driver_model.specs.Scripts.{IsPlainTopic, IsPlainValue};
 ghost use Rattle.driver_model.specs.ScriptSteps.{compacts, merges, sets, writes};
-ghost use Rattle.fleet_run.specs.Standing.{EndsAtFull, GoesOn, IsDriven};
-ghost use Rattle.fleet_run.specs.Telling.{OnlyEntriesChange};
+ghost use Rattle.fleet_run.specs.Standing.{EndsAtFull, GoesOn, IsDriven, OnlyAddsEntries, StopsWithin};
 
 use crate::running::Running;
 use crate::stop::FleetStop;
 use annex_base::Line;
-use driver_model::{drivers_stay_sound, settings_are_lines};
+use driver_model::{drivers_only_add, drivers_stay_sound, settings_are_lines};
 use fleet_model::{fleets_do_lines, fleets_stop_at_full_histories};
 use log_lines::{Entry, LogKind, Topic, Value};
 use object_store::FailingKeeper;
@@ -34,11 +33,13 @@ impl<K: FailingKeeper> Running<K> {
         requires value { IsPlainValue value }
         ensures ok { OnOk result (GoesOn (λ k. store_view (K.contents k) (K.parts k) (K.failing k) (K.faults k)) (λ g d. sets g repo kind topic value d) self.old self.new) }
         ensures full { (r : ℕ) → result ≡ Err (FleetStop.Full r) → EndsAtFull (λ k. store_view (K.contents k) (K.parts k) (K.failing k) (K.faults k)) r (λ g d. sets g repo kind topic value d) self.old self.new }
-        ensures rest { OnlyEntriesChange self.old self.new }
+        ensures stopped { OnErr result (StopsWithin (λ k. store_view (K.contents k) (K.parts k) (K.failing k) (K.faults k)) (λ g d. sets g repo kind topic value d) self.old self.new) }
+        ensures rest { OnlyAddsEntries self.old self.new }
     {
         // Laws, for the proof.
         fleets_do_lines::<K>();
         drivers_stay_sound();
+        drivers_only_add();
         fleets_stop_at_full_histories::<K>();
         settings_are_lines();
         let entry = Entry {
@@ -48,8 +49,8 @@ impl<K: FailingKeeper> Running<K> {
         };
         let had = self.raise(repo);
         let done = self.nodes.write_log(repo as usize, kind, None, &entry);
-        self.tell(repo, had)?;
-        self.after_step(repo, done)
+        let line = self.after_step(repo, done);
+        self.end_call(repo, had, line)
     }
 
     /// A line as it stands.
@@ -61,11 +62,13 @@ impl<K: FailingKeeper> Running<K> {
         requires line { IsLine line.now }
         ensures ok { OnOk result (GoesOn (λ k. store_view (K.contents k) (K.parts k) (K.failing k) (K.faults k)) (λ g d. writes repo file.now line.now d) self.old self.new) }
         ensures full { (r : ℕ) → result ≡ Err (FleetStop.Full r) → EndsAtFull (λ k. store_view (K.contents k) (K.parts k) (K.failing k) (K.faults k)) r (λ g d. writes repo file.now line.now d) self.old self.new }
-        ensures rest { OnlyEntriesChange self.old self.new }
+        ensures stopped { OnErr result (StopsWithin (λ k. store_view (K.contents k) (K.parts k) (K.failing k) (K.faults k)) (λ g d. writes repo file.now line.now d) self.old self.new) }
+        ensures rest { OnlyAddsEntries self.old self.new }
     {
         // Laws, for the proof.
         fleets_do_lines::<K>();
         drivers_stay_sound();
+        drivers_only_add();
         fleets_stop_at_full_histories::<K>();
         files_have_their_paths();
         let path = file.path(self.alloc)?;
@@ -73,8 +76,8 @@ impl<K: FailingKeeper> Running<K> {
         let done = self
             .nodes
             .write_raw(repo as usize, path.bytes(), line.bytes());
-        self.tell(repo, had)?;
-        self.after_step(repo, done)
+        let line = self.after_step(repo, done);
+        self.end_call(repo, had, line)
     }
 
     /// The lines of another's branch.
@@ -84,16 +87,18 @@ impl<K: FailingKeeper> Running<K> {
         requires other { other < length self.old.nodes }
         ensures ok { OnOk result (GoesOn (λ k. store_view (K.contents k) (K.parts k) (K.failing k) (K.faults k)) (λ g d. merges repo other d) self.old self.new) }
         ensures full { (r : ℕ) → result ≡ Err (FleetStop.Full r) → EndsAtFull (λ k. store_view (K.contents k) (K.parts k) (K.failing k) (K.faults k)) r (λ g d. merges repo other d) self.old self.new }
-        ensures rest { OnlyEntriesChange self.old self.new }
+        ensures stopped { OnErr result (StopsWithin (λ k. store_view (K.contents k) (K.parts k) (K.failing k) (K.faults k)) (λ g d. merges repo other d) self.old self.new) }
+        ensures rest { OnlyAddsEntries self.old self.new }
     {
         // Laws, for the proof.
         fleets_do_lines::<K>();
         drivers_stay_sound();
+        drivers_only_add();
         fleets_stop_at_full_histories::<K>();
         let had = self.raise(repo);
         let done = self.nodes.merge(repo as usize, other as usize);
-        self.tell(repo, had)?;
-        self.after_step(repo, done)
+        let line = self.after_step(repo, done);
+        self.end_call(repo, had, line)
     }
 
     /// The outdated lines of its branch are taken away.
@@ -102,15 +107,17 @@ impl<K: FailingKeeper> Running<K> {
         requires driven { IsDriven (λ k. store_view (K.contents k) (K.parts k) (K.failing k) (K.faults k)) self.old }
         ensures ok { OnOk result (GoesOn (λ k. store_view (K.contents k) (K.parts k) (K.failing k) (K.faults k)) (λ g d. compacts repo d) self.old self.new) }
         ensures full { (r : ℕ) → result ≡ Err (FleetStop.Full r) → EndsAtFull (λ k. store_view (K.contents k) (K.parts k) (K.failing k) (K.faults k)) r (λ g d. compacts repo d) self.old self.new }
-        ensures rest { OnlyEntriesChange self.old self.new }
+        ensures stopped { OnErr result (StopsWithin (λ k. store_view (K.contents k) (K.parts k) (K.failing k) (K.faults k)) (λ g d. compacts repo d) self.old self.new) }
+        ensures rest { OnlyAddsEntries self.old self.new }
     {
         // Laws, for the proof.
         fleets_do_lines::<K>();
         drivers_stay_sound();
+        drivers_only_add();
         fleets_stop_at_full_histories::<K>();
         let had = self.raise(repo);
         let done = self.nodes.compact(repo as usize);
-        self.tell(repo, had)?;
-        self.after_step(repo, done)
+        let line = self.after_step(repo, done);
+        self.end_call(repo, had, line)
     }
 }

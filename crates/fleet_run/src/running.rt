@@ -1,13 +1,13 @@
 //! The nodes and the run, and how the run gets the entries of the nodes.
-ghost use Rattle.std.specs.Prelude.{◌≡◌, ◌+◌, ◌<◌, ◌≤◌, ◌^◌, ◌++◌, ℕ, length, reverse, slice_get, Some, IfOk, OnOk};
+ghost use Rattle.std.specs.Prelude.{◌≡◌, ◌+◌, ◌<◌, ◌≤◌, ◌^◌, ◌++◌, ℕ, drop, length, reverse, slice_get, take, Some, IfOk, OnErr, OnOk};
 ghost use Rattle.run_model.specs.Past.{now};
 ghost use Rattle.driver_model.specs.Driver.{newest_count};
 ghost use Rattle.driver_model.specs.Driving.{with_mark};
 ghost use Rattle.repo_node.specs.Nodes.{NodeView};
 ghost use Rattle.repo_node.specs.Stored.{store_view};
 ghost use Rattle.fleet_model.specs.Turns.{IsWhole};
-ghost use Rattle.fleet_run.specs.Standing.{GoesOn, IsDriven};
-ghost use Rattle.fleet_run.specs.Telling.{OnlyEntriesChange, Raises, Tells};
+ghost use Rattle.fleet_run.specs.Standing.{GoesOn, IsDriven, OnlyAddsEntries};
+ghost use Rattle.fleet_run.specs.Telling.{Raises, StandsWithin, Tells};
 
 use annex_base::{Items, NoMemory};
 use driver_model::drivers_stay_sound;
@@ -40,9 +40,10 @@ fn copied(entry: &Entry) -> Result<Entry, NoMemory>
     Ok(entry.clone()?)
 }
 
-/// Adds copies of the entries.
+/// Adds copies of the entries, or of some first ones.
 fn add_copies(entries: &mut Items<Entry>, made: &[Entry]) -> Result<(), NoMemory>
     ensures ok { OnOk result (entries.new ≡ entries.old ++ made.now) }
+    ensures some { (count : ℕ) × (entries.new ≡ entries.old ++ take count made.now) }
 {
     for entry in made {
         entries.push(copied(entry)?)?;
@@ -118,13 +119,15 @@ impl<K: FailingKeeper> Running<K> {
         self.nodes.node(repo as usize).history().len()
     }
 
-    /// Adds copies of the entries that a node has made since it had so many.
+    /// Adds copies of the entries that a node has made since it had so many, or of some first ones.
     pub(crate) fn tell(&mut self, repo: u32, had: usize) -> Result<(), NoMemory>
         requires there { repo < length self.old.nodes }
         requires had { (n : NodeView K) → slice_get self.old.nodes repo ≡ Some n → had ≤ length n.history }
         ensures ok { OnOk result (Tells (λ k. store_view (K.contents k) (K.parts k) (K.failing k) (K.faults k)) repo had self.old self.new) }
+        ensures some { (n : NodeView K) → slice_get self.old.nodes repo ≡ Some n → (count : ℕ) × (self.new.run ≡ record self.old.run { entries = self.old.run.entries ++ take count (drop had n.history) }) }
+        ensures node { (n : NodeView K) → slice_get self.old.nodes repo ≡ Some n → StandsWithin (λ k. store_view (K.contents k) (K.parts k) (K.failing k) (K.faults k)) n }
         ensures nodes { self.new.nodes ≡ self.old.nodes }
-        ensures rest { OnlyEntriesChange self.old self.new }
+        ensures rest { OnlyAddsEntries self.old self.new }
     {
         // For the proof: what the node has is the state that its history leaves.
         self.see(repo);
@@ -136,6 +139,7 @@ impl<K: FailingKeeper> Running<K> {
     pub(crate) fn mark(&mut self) -> Result<(), NoMemory>
         requires driven { IsDriven (λ k. store_view (K.contents k) (K.parts k) (K.failing k) (K.faults k)) self.old }
         ensures ok { OnOk result (GoesOn (λ k. store_view (K.contents k) (K.parts k) (K.failing k) (K.faults k)) (λ g d. with_mark d) self.old self.new) }
+        ensures err { OnErr result (self.new.run ≡ self.old.run) }
     {
         // Laws, for the proof.
         fleets_do_lines::<K>();

@@ -1,5 +1,5 @@
 //! The settings that nodes write into their logs.
-ghost use Rattle.std.specs.Prelude.{◌≡◌, ◌≢◌, ℕ, ◌<◌, length, Err, OnOk};
+ghost use Rattle.std.specs.Prelude.{◌≡◌, ◌≢◌, ℕ, ◌<◌, length, Err, IfOk, OnErr, OnOk};
 ghost use Rattle.annex_base.specs.Lines.{IsOneLine};
 ghost use Rattle.annex_base.specs.Lists.{Each};
 ghost use Rattle.log_lines.specs.declared.entry.LogKind.TheVariants as kinds;
@@ -8,14 +8,28 @@ ghost use Rattle.log_lines.specs.declared.entry.Value.TheVariants as values;
 ghost use Rattle.run_data.specs.Repos.{id_of};
 ghost use Rattle.repo_node.specs.Stored.{store_view};
 ghost use Rattle.driver_model.specs.ScriptSteps.{sets};
-ghost use Rattle.fleet_run.specs.Standing.{EndsAtFull, GoesOn, IsDriven};
-ghost use Rattle.fleet_run.specs.Telling.{OnlyEntriesChange};
+ghost use Rattle.fleet_run.specs.Standing.{EndsAtFull, GoesOn, IsDriven, OnlyAddsEntries, StopsWithin};
 
 use crate::running::Running;
 use crate::stop::FleetStop;
-use annex_base::{Level, RepoId, Text};
+use annex_base::{Level, NoMemory, RepoId, Text};
+use driver_model::drivers_only_add;
 use log_lines::{GroupList, LogKind, Topic, Value};
 use object_store::FailingKeeper;
+
+/// A copy of the text.
+fn copied_text(text: &Text) -> Result<Text, NoMemory>
+    ensures { IfOk result (λ copy. copy ≡ text.now) }
+{
+    Ok(text.clone()?)
+}
+
+/// A copy of the groups.
+fn copied_groups(groups: &GroupList) -> Result<GroupList, NoMemory>
+    ensures { IfOk result (λ copy. copy ≡ groups.now) }
+{
+    Ok(groups.clone()?)
+}
 
 impl<K: FailingKeeper> Running<K> {
     /// The identifier of the repository.
@@ -39,7 +53,8 @@ impl<K: FailingKeeper> Running<K> {
         requires kind { kind ≢ kinds.Location }
         ensures ok { OnOk result (GoesOn (λ k. store_view (K.contents k) (K.parts k) (K.failing k) (K.faults k)) (λ g d. sets g repo kind topics.Whole (values.Number number) d) self.old self.new) }
         ensures full { (r : ℕ) → result ≡ Err (FleetStop.Full r) → EndsAtFull (λ k. store_view (K.contents k) (K.parts k) (K.failing k) (K.faults k)) r (λ g d. sets g repo kind topics.Whole (values.Number number) d) self.old self.new }
-        ensures rest { OnlyEntriesChange self.old self.new }
+        ensures stopped { OnErr result (StopsWithin (λ k. store_view (K.contents k) (K.parts k) (K.failing k) (K.faults k)) (λ g d. sets g repo kind topics.Whole (values.Number number) d) self.old self.new) }
+        ensures rest { OnlyAddsEntries self.old self.new }
     {
         self.sets(repo, kind, Topic::Whole, Value::Number(number))
     }
@@ -56,7 +71,8 @@ impl<K: FailingKeeper> Running<K> {
         requires driven { IsDriven (λ k. store_view (K.contents k) (K.parts k) (K.failing k) (K.faults k)) self.old }
         ensures ok { OnOk result (GoesOn (λ k. store_view (K.contents k) (K.parts k) (K.failing k) (K.faults k)) (λ g d. sets g repo kinds.Trust (topics.Repo (id_of g.repos target)) (values.Level level) d) self.old self.new) }
         ensures full { (r : ℕ) → result ≡ Err (FleetStop.Full r) → EndsAtFull (λ k. store_view (K.contents k) (K.parts k) (K.failing k) (K.faults k)) r (λ g d. sets g repo kinds.Trust (topics.Repo (id_of g.repos target)) (values.Level level) d) self.old self.new }
-        ensures rest { OnlyEntriesChange self.old self.new }
+        ensures stopped { OnErr result (StopsWithin (λ k. store_view (K.contents k) (K.parts k) (K.failing k) (K.faults k)) (λ g d. sets g repo kinds.Trust (topics.Repo (id_of g.repos target)) (values.Level level) d) self.old self.new) }
+        ensures rest { OnlyAddsEntries self.old self.new }
     {
         let topic = Topic::Repo(self.id(target));
         self.sets(repo, LogKind::Trust, topic, Value::Level(level))
@@ -70,10 +86,13 @@ impl<K: FailingKeeper> Running<K> {
         requires line { IsOneLine text.now }
         ensures ok { OnOk result (GoesOn (λ k. store_view (K.contents k) (K.parts k) (K.failing k) (K.faults k)) (λ g d. sets g repo kinds.Uuid (topics.Repo (id_of g.repos target)) (values.Text text.now) d) self.old self.new) }
         ensures full { (r : ℕ) → result ≡ Err (FleetStop.Full r) → EndsAtFull (λ k. store_view (K.contents k) (K.parts k) (K.failing k) (K.faults k)) r (λ g d. sets g repo kinds.Uuid (topics.Repo (id_of g.repos target)) (values.Text text.now) d) self.old self.new }
-        ensures rest { OnlyEntriesChange self.old self.new }
+        ensures stopped { OnErr result (StopsWithin (λ k. store_view (K.contents k) (K.parts k) (K.failing k) (K.faults k)) (λ g d. sets g repo kinds.Uuid (topics.Repo (id_of g.repos target)) (values.Text text.now) d) self.old self.new) }
+        ensures rest { OnlyAddsEntries self.old self.new }
     {
+        // A law, for the proof.
+        drivers_only_add();
         let topic = Topic::Repo(self.id(target));
-        let text = text.clone()?;
+        let text = copied_text(text)?;
         self.sets(repo, LogKind::Uuid, topic, Value::Text(text))
     }
 
@@ -90,10 +109,13 @@ impl<K: FailingKeeper> Running<K> {
         requires lines { Each IsOneLine groups.now }
         ensures ok { OnOk result (GoesOn (λ k. store_view (K.contents k) (K.parts k) (K.failing k) (K.faults k)) (λ g d. sets g repo kinds.Group (topics.Repo (id_of g.repos target)) (values.Groups groups.now) d) self.old self.new) }
         ensures full { (r : ℕ) → result ≡ Err (FleetStop.Full r) → EndsAtFull (λ k. store_view (K.contents k) (K.parts k) (K.failing k) (K.faults k)) r (λ g d. sets g repo kinds.Group (topics.Repo (id_of g.repos target)) (values.Groups groups.now) d) self.old self.new }
-        ensures rest { OnlyEntriesChange self.old self.new }
+        ensures stopped { OnErr result (StopsWithin (λ k. store_view (K.contents k) (K.parts k) (K.failing k) (K.faults k)) (λ g d. sets g repo kinds.Group (topics.Repo (id_of g.repos target)) (values.Groups groups.now) d) self.old self.new) }
+        ensures rest { OnlyAddsEntries self.old self.new }
     {
+        // A law, for the proof.
+        drivers_only_add();
         let topic = Topic::Repo(self.id(target));
-        let groups = groups.clone()?;
+        let groups = copied_groups(groups)?;
         self.sets(repo, LogKind::Group, topic, Value::Groups(groups))
     }
 }

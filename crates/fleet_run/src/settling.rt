@@ -1,5 +1,5 @@
 //! Turns, and rounds of turns until all are idle.
-ghost use Rattle.std.specs.Prelude.{◌≡◌, ℕ, ◌+◌, ◌<◌, ◌==◌, if◌then◌else◌, true, false, length, map, slice_get, Err, OnOk, Some};
+ghost use Rattle.std.specs.Prelude.{◌≡◌, ℕ, ◌+◌, ◌<◌, ◌==◌, if◌then◌else◌, true, false, length, map, slice_get, Err, OnErr, OnOk, Some};
 ghost use Rattle.std.specs.List.{list_any};
 ghost use Rattle.link_ring.specs.Ends.{after_drop, has_frames};
 ghost use Rattle.repo_node.specs.Nodes.{NodeView};
@@ -8,8 +8,7 @@ ghost use Rattle.joined_nodes.specs.Joined.{AreNodes};
 ghost use Rattle.driver_model.specs.Driving.{turns};
 ghost use Rattle.driver_model.specs.Rounds.{round, settles};
 ghost use Rattle.driver_model.specs.Turning.{turn};
-ghost use Rattle.fleet_run.specs.Standing.{EndsAtFull, GoesOn, IsDriven};
-ghost use Rattle.fleet_run.specs.Telling.{OnlyEntriesChange};
+ghost use Rattle.fleet_run.specs.Standing.{EndsAtFull, GoesOn, IsDriven, OnlyAddsEntries, StopsWithin};
 
 use crate::running::Running;
 use crate::stop::FleetStop;
@@ -62,12 +61,14 @@ impl<K: FailingKeeper> Running<K> {
         requires driven { IsDriven (λ k. store_view (K.contents k) (K.parts k) (K.failing k) (K.faults k)) self.old }
         ensures ok { OnOk result (GoesOn (λ k. store_view (K.contents k) (K.parts k) (K.failing k) (K.faults k)) (λ g d. turn g repo d) self.old self.new) }
         ensures full { (r : ℕ) → result ≡ Err (FleetStop.Full r) → EndsAtFull (λ k. store_view (K.contents k) (K.parts k) (K.failing k) (K.faults k)) r (λ g d. turn g repo d) self.old self.new }
-        ensures rest { OnlyEntriesChange self.old self.new }
+        ensures stopped { OnErr result (StopsWithin (λ k. store_view (K.contents k) (K.parts k) (K.failing k) (K.faults k)) (λ g d. turn g repo d) self.old self.new) }
+        ensures rest { OnlyAddsEntries self.old self.new }
         ensures count { length self.new.nodes ≡ length self.old.nodes }
     {
         // Laws, for the proof.
         fleets_take_turns::<K>();
         fleets_rest::<K>();
+        drivers_only_add();
         fleets_stop_at_full_histories::<K>();
         let frames = self.has_frames(repo);
         let had = self.raise(repo);
@@ -78,8 +79,8 @@ impl<K: FailingKeeper> Running<K> {
         // For the proof: what the node has is the state that its history leaves.
         self.see(repo);
         self.nodes.carry(repo as usize);
-        self.tell(repo, had)?;
-        self.after_turn(repo, turn)
+        let line = self.after_turn(repo, turn);
+        self.end_call(repo, had, line)
     }
 
     /// So many turns of a repository.
@@ -88,7 +89,8 @@ impl<K: FailingKeeper> Running<K> {
         requires driven { IsDriven (λ k. store_view (K.contents k) (K.parts k) (K.failing k) (K.faults k)) self.old }
         ensures ok { OnOk result (GoesOn (λ k. store_view (K.contents k) (K.parts k) (K.failing k) (K.faults k)) (λ g d. turns g repo number d) self.old self.new) }
         ensures full { (r : ℕ) → result ≡ Err (FleetStop.Full r) → EndsAtFull (λ k. store_view (K.contents k) (K.parts k) (K.failing k) (K.faults k)) r (λ g d. turns g repo number d) self.old self.new }
-        ensures rest { OnlyEntriesChange self.old self.new }
+        ensures stopped { OnErr result (StopsWithin (λ k. store_view (K.contents k) (K.parts k) (K.failing k) (K.faults k)) (λ g d. turns g repo number d) self.old self.new) }
+        ensures rest { OnlyAddsEntries self.old self.new }
     {
         // Laws, for the proof.
         fleets_settle();
@@ -105,7 +107,8 @@ impl<K: FailingKeeper> Running<K> {
         requires driven { IsDriven (λ k. store_view (K.contents k) (K.parts k) (K.failing k) (K.faults k)) self.old }
         ensures ok { OnOk result (GoesOn (λ k. store_view (K.contents k) (K.parts k) (K.failing k) (K.faults k)) (λ g d. round g d) self.old self.new) }
         ensures full { (r : ℕ) → result ≡ Err (FleetStop.Full r) → EndsAtFull (λ k. store_view (K.contents k) (K.parts k) (K.failing k) (K.faults k)) r (λ g d. round g d) self.old self.new }
-        ensures rest { OnlyEntriesChange self.old self.new }
+        ensures stopped { OnErr result (StopsWithin (λ k. store_view (K.contents k) (K.parts k) (K.failing k) (K.faults k)) (λ g d. round g d) self.old self.new) }
+        ensures rest { OnlyAddsEntries self.old self.new }
     {
         // Laws, for the proof.
         fleets_settle();
@@ -122,7 +125,8 @@ impl<K: FailingKeeper> Running<K> {
         requires driven { IsDriven (λ k. store_view (K.contents k) (K.parts k) (K.failing k) (K.faults k)) self.old }
         ensures ok { OnOk result (GoesOn (λ k. store_view (K.contents k) (K.parts k) (K.failing k) (K.faults k)) (λ g d. settles g d) self.old self.new) }
         ensures full { (r : ℕ) → result ≡ Err (FleetStop.Full r) → EndsAtFull (λ k. store_view (K.contents k) (K.parts k) (K.failing k) (K.faults k)) r (λ g d. settles g d) self.old self.new }
-        ensures rest { OnlyEntriesChange self.old self.new }
+        ensures stopped { OnErr result (StopsWithin (λ k. store_view (K.contents k) (K.parts k) (K.failing k) (K.faults k)) (λ g d. settles g d) self.old self.new) }
+        ensures rest { OnlyAddsEntries self.old self.new }
     {
         // Laws, for the proof.
         fleets_settle();

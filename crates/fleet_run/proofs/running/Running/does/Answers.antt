@@ -9,7 +9,9 @@ use Rattle.driver_script.specs.Lines.{is_added, is_local_drop}
 use Rattle.fleet_run.proofs.Commands.{added_kind, added_path, as_form, built_as, built_goes, built_if, file_line, group_lines, in_time, local_alone, local_drops, mincopies_apart, never_unbuilt, numcopies_apart, quiet_of, quiet_stays, short_content, stands_as, within_as}
 use Rattle.fleet_run.proofs.Writing.{on_ok}
 use Rattle.fleet_run.proofs.Cutting.{CutLaws, always_ok, built_ends, cut_as, form_ends, have_cuts, room_had, room_quiet, room_unasked, settle_ends}
-use Rattle.fleet_run.proofs.Full.{ok_or_err}
+use Rattle.fleet_run.proofs.Full.{ok_or_err, rest_where_same}
+use Rattle.fleet_run.proofs.Ending.{AtFull}
+use Rattle.fleet_run.proofs.Starts.{AtStart, on_err, stops_as}
 use Rattle.fleet_run.proofs.running.Running.does.Goals as goal
 
 pub sets_number-requires-clause-there : goal.sets_number-requires-clause-there
@@ -29,6 +31,8 @@ returns-in-Numcopies g c =
       ok = on_ok c.sets_number.result _ _ c.sets_number.ensures.ok (λ goes. as_form tells c.args.command.now (commands.Numcopies c.in-Numcopies.repo c.in-Numcopies.number) c.args.self.now c.sets_number.new.self c.in-Numcopies.is goes);
       room = always_ok c.sets_number.result _ (room_unasked tells c.args.command.now (commands.Numcopies c.in-Numcopies.repo c.in-Numcopies.number) c.args.self.now c.in-Numcopies.is refl);
       full = λ r e. form_ends tells laws r c.args.command.now (commands.Numcopies c.in-Numcopies.repo c.in-Numcopies.number) c.args.self.now c.sets_number.new.self c.in-Numcopies.is (c.sets_number.ensures.full r e) c.sets_number.ensures.rest;
+      stopped = on_err c.sets_number.result _ _ c.sets_number.ensures.stopped (λ stops. stops_as tells c.args.command.now (commands.Numcopies c.in-Numcopies.repo c.in-Numcopies.number) c.args.self.now c.sets_number.new.self c.in-Numcopies.is stops);
+      rest = c.sets_number.ensures.rest;
     }
 
 pub sets_number-requires-in-Mincopies-clause-there : goal.sets_number-requires-in-Mincopies-clause-there
@@ -48,6 +52,8 @@ returns-in-Mincopies g c =
       ok = on_ok c.sets_number-in-Mincopies.result _ _ c.sets_number-in-Mincopies.ensures.ok (λ goes. as_form tells c.args.command.now (commands.Mincopies c.in-Mincopies.repo c.in-Mincopies.number) c.args.self.now c.sets_number-in-Mincopies.new.self c.in-Mincopies.is goes);
       room = always_ok c.sets_number-in-Mincopies.result _ (room_unasked tells c.args.command.now (commands.Mincopies c.in-Mincopies.repo c.in-Mincopies.number) c.args.self.now c.in-Mincopies.is refl);
       full = λ r e. form_ends tells laws r c.args.command.now (commands.Mincopies c.in-Mincopies.repo c.in-Mincopies.number) c.args.self.now c.sets_number-in-Mincopies.new.self c.in-Mincopies.is (c.sets_number-in-Mincopies.ensures.full r e) c.sets_number-in-Mincopies.ensures.rest;
+      stopped = on_err c.sets_number-in-Mincopies.result _ _ c.sets_number-in-Mincopies.ensures.stopped (λ stops. stops_as tells c.args.command.now (commands.Mincopies c.in-Mincopies.repo c.in-Mincopies.number) c.args.self.now c.sets_number-in-Mincopies.new.self c.in-Mincopies.is stops);
+      rest = c.sets_number-in-Mincopies.ensures.rest;
     }
 
 pub sets_level-requires-clause-there : goal.sets_level-requires-clause-there
@@ -67,6 +73,8 @@ returns-in-Trust g c =
       ok = on_ok c.sets_level.result _ _ c.sets_level.ensures.ok (λ goes. as_form tells c.args.command.now (commands.Trust c.in-Trust.repo c.in-Trust.target c.in-Trust.level) c.args.self.now c.sets_level.new.self c.in-Trust.is goes);
       room = always_ok c.sets_level.result _ (room_unasked tells c.args.command.now (commands.Trust c.in-Trust.repo c.in-Trust.target c.in-Trust.level) c.args.self.now c.in-Trust.is refl);
       full = λ r e. form_ends tells laws r c.args.command.now (commands.Trust c.in-Trust.repo c.in-Trust.target c.in-Trust.level) c.args.self.now c.sets_level.new.self c.in-Trust.is (c.sets_level.ensures.full r e) c.sets_level.ensures.rest;
+      stopped = on_err c.sets_level.result _ _ c.sets_level.ensures.stopped (λ stops. stops_as tells c.args.command.now (commands.Trust c.in-Trust.repo c.in-Trust.target c.in-Trust.level) c.args.self.now c.sets_level.new.self c.in-Trust.is stops);
+      rest = c.sets_level.ensures.rest;
     }
 
 pub sets_text-requires-clause-there : goal.sets_text-requires-clause-there
@@ -89,6 +97,8 @@ returns-in-Describe g c =
       ok = on_ok c.sets_text.result _ _ c.sets_text.ensures.ok (λ goes. as_form tells c.args.command.now (commands.Describe c.in-Describe.repo c.in-Describe.target c.in-Describe.text) c.args.self.now c.sets_text.new.self c.in-Describe.is goes);
       room = always_ok c.sets_text.result _ (room_unasked tells c.args.command.now (commands.Describe c.in-Describe.repo c.in-Describe.target c.in-Describe.text) c.args.self.now c.in-Describe.is refl);
       full = λ r e. form_ends tells laws r c.args.command.now (commands.Describe c.in-Describe.repo c.in-Describe.target c.in-Describe.text) c.args.self.now c.sets_text.new.self c.in-Describe.is (c.sets_text.ensures.full r e) c.sets_text.ensures.rest;
+      stopped = on_err c.sets_text.result _ _ c.sets_text.ensures.stopped (λ stops. stops_as tells c.args.command.now (commands.Describe c.in-Describe.repo c.in-Describe.target c.in-Describe.text) c.args.self.now c.sets_text.new.self c.in-Describe.is stops);
+      rest = c.sets_text.ensures.rest;
     }
 
 pub sets_groups-requires-clause-there : goal.sets_groups-requires-clause-there
@@ -111,6 +121,8 @@ returns-in-Group g c =
       ok = on_ok c.sets_groups.result _ _ c.sets_groups.ensures.ok (λ goes. as_form tells c.args.command.now (commands.Group c.in-Group.repo c.in-Group.target c.in-Group.groups) c.args.self.now c.sets_groups.new.self c.in-Group.is goes);
       room = always_ok c.sets_groups.result _ (room_unasked tells c.args.command.now (commands.Group c.in-Group.repo c.in-Group.target c.in-Group.groups) c.args.self.now c.in-Group.is refl);
       full = λ r e. form_ends tells laws r c.args.command.now (commands.Group c.in-Group.repo c.in-Group.target c.in-Group.groups) c.args.self.now c.sets_groups.new.self c.in-Group.is (c.sets_groups.ensures.full r e) c.sets_groups.ensures.rest;
+      stopped = on_err c.sets_groups.result _ _ c.sets_groups.ensures.stopped (λ stops. stops_as tells c.args.command.now (commands.Group c.in-Group.repo c.in-Group.target c.in-Group.groups) c.args.self.now c.sets_groups.new.self c.in-Group.is stops);
+      rest = c.sets_groups.ensures.rest;
     }
 
 pub writes-requires-clause-there : goal.writes-requires-clause-there
@@ -135,7 +147,9 @@ returns-in-Log g c =
     record {
       ok = on_ok c.writes.result _ _ c.writes.ensures.ok (λ goes. as_form tells c.args.command.now (commands.Log c.in-Log.repo c.in-Log.file c.in-Log.line) c.args.self.now c.writes.new.self c.in-Log.is (built_goes tells (is_added c.in-Log.file) (Raw c.in-Log.repo c.in-Log.file c.in-Log.line) c.args.self.now c.writes.new.self (built_as c.args.self.now.run.repos c.args.command.now (commands.Log c.in-Log.repo c.in-Log.file c.in-Log.line) c.in-Log.is c.requires.may.built) goes));
       room = always_ok c.writes.result _ (room_unasked tells c.args.command.now (commands.Log c.in-Log.repo c.in-Log.file c.in-Log.line) c.args.self.now c.in-Log.is refl);
-      full = λ r e. form_ends tells laws r c.args.command.now (commands.Log c.in-Log.repo c.in-Log.file c.in-Log.line) c.args.self.now c.writes.new.self c.in-Log.is (built_ends tells r (is_added c.in-Log.file) (Raw c.in-Log.repo c.in-Log.file c.in-Log.line) c.args.self.now c.writes.new.self (built_as c.args.self.now.run.repos c.args.command.now (commands.Log c.in-Log.repo c.in-Log.file c.in-Log.line) c.in-Log.is c.requires.may.built) (c.writes.ensures.full r e)) c.writes.ensures.rest;
+      full = λ r e. form_ends tells laws r c.args.command.now (commands.Log c.in-Log.repo c.in-Log.file c.in-Log.line) c.args.self.now c.writes.new.self c.in-Log.is (built_ends tells (AtFull r) (is_added c.in-Log.file) (Raw c.in-Log.repo c.in-Log.file c.in-Log.line) c.args.self.now c.writes.new.self (built_as c.args.self.now.run.repos c.args.command.now (commands.Log c.in-Log.repo c.in-Log.file c.in-Log.line) c.in-Log.is c.requires.may.built) (c.writes.ensures.full r e)) c.writes.ensures.rest;
+      stopped = on_err c.writes.result _ _ c.writes.ensures.stopped (λ stops. stops_as tells c.args.command.now (commands.Log c.in-Log.repo c.in-Log.file c.in-Log.line) c.args.self.now c.writes.new.self c.in-Log.is (built_ends tells AtStart (is_added c.in-Log.file) (Raw c.in-Log.repo c.in-Log.file c.in-Log.line) c.args.self.now c.writes.new.self (built_as c.args.self.now.run.repos c.args.command.now (commands.Log c.in-Log.repo c.in-Log.file c.in-Log.line) c.in-Log.is c.requires.may.built) stops));
+      rest = c.writes.ensures.rest;
     }
 
 pub has-requires-clause-there : goal.has-requires-clause-there
@@ -161,6 +175,8 @@ returns-in-Have g c =
       ok = on_ok c.has.result _ _ c.has.ensures.ok (λ goes. as_form tells c.args.command.now (commands.Have c.in-Have.repo c.in-Have.key c.in-Have.content) c.args.self.now c.has.new.self c.in-Have.is goes);
       room = on_ok c.has.result _ _ c.has.ensures.room (λ room. room_had tells c.in-Have.repo c.in-Have.key c.in-Have.content c.args.command.now c.args.self.now c.in-Have.is room);
       full = λ r e. cut_as tells r c.args.command.now (commands.Have c.in-Have.repo c.in-Have.key c.in-Have.content) c.args.self.now c.has.new.self c.in-Have.is (have_cuts tells laws c.in-Have.repo r c.in-Have.key c.in-Have.content c.args.self.now c.has.new.self (c.has.ensures.full r e) c.has.ensures.rest);
+      stopped = on_err c.has.result _ _ c.has.ensures.stopped (λ stops. stops_as tells c.args.command.now (commands.Have c.in-Have.repo c.in-Have.key c.in-Have.content) c.args.self.now c.has.new.self c.in-Have.is stops);
+      rest = c.has.ensures.rest;
     }
 
 pub begins_and_settles-requires-clause-there : goal.begins_and_settles-requires-clause-there
@@ -185,7 +201,9 @@ returns-in-Run g c =
     record {
       ok = on_ok c.begins_and_settles.result _ _ c.begins_and_settles.ensures.ok (λ goes. as_form tells c.args.command.now (commands.Run c.in-Run.repo c.in-Run.job) c.args.self.now c.begins_and_settles.new.self c.in-Run.is (built_goes tells (is_local_drop c.in-Run.job) (driver.Run c.in-Run.repo c.in-Run.job) c.args.self.now c.begins_and_settles.new.self (built_as c.args.self.now.run.repos c.args.command.now (commands.Run c.in-Run.repo c.in-Run.job) c.in-Run.is c.requires.may.built) goes));
       room = always_ok c.begins_and_settles.result _ (room_unasked tells c.args.command.now (commands.Run c.in-Run.repo c.in-Run.job) c.args.self.now c.in-Run.is refl);
-      full = λ r e. form_ends tells laws r c.args.command.now (commands.Run c.in-Run.repo c.in-Run.job) c.args.self.now c.begins_and_settles.new.self c.in-Run.is (built_ends tells r (is_local_drop c.in-Run.job) (driver.Run c.in-Run.repo c.in-Run.job) c.args.self.now c.begins_and_settles.new.self (built_as c.args.self.now.run.repos c.args.command.now (commands.Run c.in-Run.repo c.in-Run.job) c.in-Run.is c.requires.may.built) (c.begins_and_settles.ensures.full r e)) c.begins_and_settles.ensures.rest;
+      full = λ r e. form_ends tells laws r c.args.command.now (commands.Run c.in-Run.repo c.in-Run.job) c.args.self.now c.begins_and_settles.new.self c.in-Run.is (built_ends tells (AtFull r) (is_local_drop c.in-Run.job) (driver.Run c.in-Run.repo c.in-Run.job) c.args.self.now c.begins_and_settles.new.self (built_as c.args.self.now.run.repos c.args.command.now (commands.Run c.in-Run.repo c.in-Run.job) c.in-Run.is c.requires.may.built) (c.begins_and_settles.ensures.full r e)) c.begins_and_settles.ensures.rest;
+      stopped = on_err c.begins_and_settles.result _ _ c.begins_and_settles.ensures.stopped (λ stops. stops_as tells c.args.command.now (commands.Run c.in-Run.repo c.in-Run.job) c.args.self.now c.begins_and_settles.new.self c.in-Run.is (built_ends tells AtStart (is_local_drop c.in-Run.job) (driver.Run c.in-Run.repo c.in-Run.job) c.args.self.now c.begins_and_settles.new.self (built_as c.args.self.now.run.repos c.args.command.now (commands.Run c.in-Run.repo c.in-Run.job) c.in-Run.is c.requires.may.built) stops));
+      rest = c.begins_and_settles.ensures.rest;
     }
 
 pub begins-requires-clause-there : goal.begins-requires-clause-there
@@ -210,7 +228,9 @@ returns-in-Begin g c =
     record {
       ok = on_ok c.begins.result _ _ c.begins.ensures.ok (λ goes. as_form tells c.args.command.now (commands.Begin c.in-Begin.repo c.in-Begin.job) c.args.self.now c.begins.new.self c.in-Begin.is (built_goes tells (is_local_drop c.in-Begin.job) (driver.Begin c.in-Begin.repo c.in-Begin.job) c.args.self.now c.begins.new.self (built_as c.args.self.now.run.repos c.args.command.now (commands.Begin c.in-Begin.repo c.in-Begin.job) c.in-Begin.is c.requires.may.built) goes));
       room = always_ok c.begins.result _ (room_unasked tells c.args.command.now (commands.Begin c.in-Begin.repo c.in-Begin.job) c.args.self.now c.in-Begin.is refl);
-      full = λ r e. form_ends tells laws r c.args.command.now (commands.Begin c.in-Begin.repo c.in-Begin.job) c.args.self.now c.begins.new.self c.in-Begin.is (built_ends tells r (is_local_drop c.in-Begin.job) (driver.Begin c.in-Begin.repo c.in-Begin.job) c.args.self.now c.begins.new.self (built_as c.args.self.now.run.repos c.args.command.now (commands.Begin c.in-Begin.repo c.in-Begin.job) c.in-Begin.is c.requires.may.built) (c.begins.ensures.full r e)) c.begins.ensures.rest;
+      full = λ r e. form_ends tells laws r c.args.command.now (commands.Begin c.in-Begin.repo c.in-Begin.job) c.args.self.now c.begins.new.self c.in-Begin.is (built_ends tells (AtFull r) (is_local_drop c.in-Begin.job) (driver.Begin c.in-Begin.repo c.in-Begin.job) c.args.self.now c.begins.new.self (built_as c.args.self.now.run.repos c.args.command.now (commands.Begin c.in-Begin.repo c.in-Begin.job) c.in-Begin.is c.requires.may.built) (c.begins.ensures.full r e)) c.begins.ensures.rest;
+      stopped = on_err c.begins.result _ _ c.begins.ensures.stopped (λ stops. stops_as tells c.args.command.now (commands.Begin c.in-Begin.repo c.in-Begin.job) c.args.self.now c.begins.new.self c.in-Begin.is (built_ends tells AtStart (is_local_drop c.in-Begin.job) (driver.Begin c.in-Begin.repo c.in-Begin.job) c.args.self.now c.begins.new.self (built_as c.args.self.now.run.repos c.args.command.now (commands.Begin c.in-Begin.repo c.in-Begin.job) c.in-Begin.is c.requires.may.built) stops));
+      rest = c.begins.ensures.rest;
     }
 
 pub turns-requires-clause-there : goal.turns-requires-clause-there
@@ -227,6 +247,8 @@ returns-in-Turn g c =
       ok = on_ok c.turns.result _ _ c.turns.ensures.ok (λ goes. as_form tells c.args.command.now (commands.Turn c.in-Turn.repo c.in-Turn.turns) c.args.self.now c.turns.new.self c.in-Turn.is goes);
       room = always_ok c.turns.result _ (room_unasked tells c.args.command.now (commands.Turn c.in-Turn.repo c.in-Turn.turns) c.args.self.now c.in-Turn.is refl);
       full = λ r e. form_ends tells laws r c.args.command.now (commands.Turn c.in-Turn.repo c.in-Turn.turns) c.args.self.now c.turns.new.self c.in-Turn.is (c.turns.ensures.full r e) c.turns.ensures.rest;
+      stopped = on_err c.turns.result _ _ c.turns.ensures.stopped (λ stops. stops_as tells c.args.command.now (commands.Turn c.in-Turn.repo c.in-Turn.turns) c.args.self.now c.turns.new.self c.in-Turn.is stops);
+      rest = c.turns.ensures.rest;
     }
 
 pub settles-requires : goal.settles-requires
@@ -239,7 +261,9 @@ returns-in-Settle g c =
     record {
       ok = on_ok c.settles.result _ _ c.settles.ensures.ok (λ goes. as_form tells c.args.command.now commands.Settle c.args.self.now c.settles.new.self c.in-Settle.is goes);
       room = always_ok c.settles.result _ (room_unasked tells c.args.command.now commands.Settle c.args.self.now c.in-Settle.is refl);
-      full = λ r e. form_ends tells laws r c.args.command.now commands.Settle c.args.self.now c.settles.new.self c.in-Settle.is (settle_ends tells r c.args.self.now c.settles.new.self (c.settles.ensures.full r e)) c.settles.ensures.rest;
+      full = λ r e. form_ends tells laws r c.args.command.now commands.Settle c.args.self.now c.settles.new.self c.in-Settle.is (settle_ends tells (AtFull r) c.args.self.now c.settles.new.self (c.settles.ensures.full r e)) c.settles.ensures.rest;
+      stopped = on_err c.settles.result _ _ c.settles.ensures.stopped (λ stops. stops_as tells c.args.command.now commands.Settle c.args.self.now c.settles.new.self c.in-Settle.is (settle_ends tells AtStart c.args.self.now c.settles.new.self stops));
+      rest = c.settles.ensures.rest;
     }
 
 pub merges-requires-clause-there : goal.merges-requires-clause-there
@@ -259,6 +283,8 @@ returns-in-Merge g c =
       ok = on_ok c.merges.result _ _ c.merges.ensures.ok (λ goes. as_form tells c.args.command.now (commands.Merge c.in-Merge.repo c.in-Merge.other) c.args.self.now c.merges.new.self c.in-Merge.is goes);
       room = always_ok c.merges.result _ (room_unasked tells c.args.command.now (commands.Merge c.in-Merge.repo c.in-Merge.other) c.args.self.now c.in-Merge.is refl);
       full = λ r e. form_ends tells laws r c.args.command.now (commands.Merge c.in-Merge.repo c.in-Merge.other) c.args.self.now c.merges.new.self c.in-Merge.is (c.merges.ensures.full r e) c.merges.ensures.rest;
+      stopped = on_err c.merges.result _ _ c.merges.ensures.stopped (λ stops. stops_as tells c.args.command.now (commands.Merge c.in-Merge.repo c.in-Merge.other) c.args.self.now c.merges.new.self c.in-Merge.is stops);
+      rest = c.merges.ensures.rest;
     }
 
 pub compacts-requires-clause-there : goal.compacts-requires-clause-there
@@ -275,6 +301,8 @@ returns-in-Compact g c =
       ok = on_ok c.compacts.result _ _ c.compacts.ensures.ok (λ goes. as_form tells c.args.command.now (commands.Compact c.in-Compact.repo) c.args.self.now c.compacts.new.self c.in-Compact.is goes);
       room = always_ok c.compacts.result _ (room_unasked tells c.args.command.now (commands.Compact c.in-Compact.repo) c.args.self.now c.in-Compact.is refl);
       full = λ r e. form_ends tells laws r c.args.command.now (commands.Compact c.in-Compact.repo) c.args.self.now c.compacts.new.self c.in-Compact.is (c.compacts.ensures.full r e) c.compacts.ensures.rest;
+      stopped = on_err c.compacts.result _ _ c.compacts.ensures.stopped (λ stops. stops_as tells c.args.command.now (commands.Compact c.in-Compact.repo) c.args.self.now c.compacts.new.self c.in-Compact.is stops);
+      rest = c.compacts.ensures.rest;
     }
 
 pub waits-requires-clause-driven : goal.waits-requires-clause-driven
@@ -290,6 +318,8 @@ returns-in-Wait g c =
       ok = on_ok c.waits.result _ _ c.waits.ensures.ok (λ goes. as_form tells c.args.command.now (commands.Wait c.in-Wait.milliseconds) c.args.self.now c.waits.new.self c.in-Wait.is goes);
       room = always_ok c.waits.result _ (room_unasked tells c.args.command.now (commands.Wait c.in-Wait.milliseconds) c.args.self.now c.in-Wait.is refl);
       full = λ r e. absurd (c.waits.ensures.full r e);
+      stopped = on_err c.waits.result _ _ c.waits.ensures.stopped (λ stops. stops_as tells c.args.command.now (commands.Wait c.in-Wait.milliseconds) c.args.self.now c.waits.new.self c.in-Wait.is stops);
+      rest = c.waits.ensures.rest;
     }
 
 pub fails-requires-clause-there : goal.fails-requires-clause-there
@@ -305,6 +335,8 @@ returns-in-Fail g c =
       ok = on_ok c.fails.result _ _ c.fails.ensures.ok (λ goes. as_form tells c.args.command.now (commands.Fail c.in-Fail.repo c.in-Fail.call) c.args.self.now c.fails.new.self c.in-Fail.is goes);
       room = always_ok c.fails.result _ (room_unasked tells c.args.command.now (commands.Fail c.in-Fail.repo c.in-Fail.call) c.args.self.now c.in-Fail.is refl);
       full = λ r e. absurd (c.fails.ensures.full r e);
+      stopped = on_err c.fails.result _ _ c.fails.ensures.stopped (λ stops. stops_as tells c.args.command.now (commands.Fail c.in-Fail.repo c.in-Fail.call) c.args.self.now c.fails.new.self c.in-Fail.is stops);
+      rest = c.fails.ensures.rest;
     }
 
 pub returns-in-Repo : goal.returns-in-Repo
@@ -314,6 +346,8 @@ returns-in-Repo g c =
       ok = quiet_stays tells c.args.command.now c.args.self.now (quiet_of c.args.command.now c.in-Repo.is);
       room = room_quiet tells c.args.command.now c.args.self.now (quiet_of c.args.command.now c.in-Repo.is);
       full = λ r e. absurd (ok_or_err _ _ e);
+      stopped = tt;
+      rest = rest_where_same c.args.self.now c.args.self.now refl;
     }
 
 pub returns-in-Repo-2 : goal.returns-in-Repo-2
@@ -323,6 +357,8 @@ returns-in-Repo-2 g c =
       ok = quiet_stays tells c.args.command.now c.args.self.now (quiet_of c.args.command.now c.in-Repo.is);
       room = room_quiet tells c.args.command.now c.args.self.now (quiet_of c.args.command.now c.in-Repo.is);
       full = λ r e. absurd (ok_or_err _ _ e);
+      stopped = tt;
+      rest = rest_where_same c.args.self.now c.args.self.now refl;
     }
 
 pub returns-in-Repo-3 : goal.returns-in-Repo-3
@@ -332,6 +368,8 @@ returns-in-Repo-3 g c =
       ok = quiet_stays tells c.args.command.now c.args.self.now (quiet_of c.args.command.now c.in-Repo.is);
       room = room_quiet tells c.args.command.now c.args.self.now (quiet_of c.args.command.now c.in-Repo.is);
       full = λ r e. absurd (ok_or_err _ _ e);
+      stopped = tt;
+      rest = rest_where_same c.args.self.now c.args.self.now refl;
     }
 
 pub returns-in-Repo-4 : goal.returns-in-Repo-4
@@ -341,6 +379,8 @@ returns-in-Repo-4 g c =
       ok = quiet_stays tells c.args.command.now c.args.self.now (quiet_of c.args.command.now c.in-Repo.is);
       room = room_quiet tells c.args.command.now c.args.self.now (quiet_of c.args.command.now c.in-Repo.is);
       full = λ r e. absurd (ok_or_err _ _ e);
+      stopped = tt;
+      rest = rest_where_same c.args.self.now c.args.self.now refl;
     }
 
 pub returns-in-Repo-5 : goal.returns-in-Repo-5
@@ -350,6 +390,8 @@ returns-in-Repo-5 g c =
       ok = quiet_stays tells c.args.command.now c.args.self.now (quiet_of c.args.command.now c.in-Repo.is);
       room = room_quiet tells c.args.command.now c.args.self.now (quiet_of c.args.command.now c.in-Repo.is);
       full = λ r e. absurd (ok_or_err _ _ e);
+      stopped = tt;
+      rest = rest_where_same c.args.self.now c.args.self.now refl;
     }
 
 pub returns-in-Repo-6 : goal.returns-in-Repo-6
@@ -359,6 +401,8 @@ returns-in-Repo-6 g c =
       ok = quiet_stays tells c.args.command.now c.args.self.now (quiet_of c.args.command.now c.in-Repo.is);
       room = room_quiet tells c.args.command.now c.args.self.now (quiet_of c.args.command.now c.in-Repo.is);
       full = λ r e. absurd (ok_or_err _ _ e);
+      stopped = tt;
+      rest = rest_where_same c.args.self.now c.args.self.now refl;
     }
 
 pub returns-in-Repo-7 : goal.returns-in-Repo-7
@@ -368,6 +412,8 @@ returns-in-Repo-7 g c =
       ok = quiet_stays tells c.args.command.now c.args.self.now (quiet_of c.args.command.now c.in-Repo.is);
       room = room_quiet tells c.args.command.now c.args.self.now (quiet_of c.args.command.now c.in-Repo.is);
       full = λ r e. absurd (ok_or_err _ _ e);
+      stopped = tt;
+      rest = rest_where_same c.args.self.now c.args.self.now refl;
     }
 
 pub returns-in-Repo-8 : goal.returns-in-Repo-8
@@ -377,6 +423,8 @@ returns-in-Repo-8 g c =
       ok = quiet_stays tells c.args.command.now c.args.self.now (quiet_of c.args.command.now c.in-Repo.is);
       room = room_quiet tells c.args.command.now c.args.self.now (quiet_of c.args.command.now c.in-Repo.is);
       full = λ r e. absurd (ok_or_err _ _ e);
+      stopped = tt;
+      rest = rest_where_same c.args.self.now c.args.self.now refl;
     }
 
 pub returns-in-Repo-9 : goal.returns-in-Repo-9
@@ -386,6 +434,8 @@ returns-in-Repo-9 g c =
       ok = quiet_stays tells c.args.command.now c.args.self.now (quiet_of c.args.command.now c.in-Repo.is);
       room = room_quiet tells c.args.command.now c.args.self.now (quiet_of c.args.command.now c.in-Repo.is);
       full = λ r e. absurd (ok_or_err _ _ e);
+      stopped = tt;
+      rest = rest_where_same c.args.self.now c.args.self.now refl;
     }
 
 pub returns-in-Repo-10 : goal.returns-in-Repo-10
@@ -395,6 +445,8 @@ returns-in-Repo-10 g c =
       ok = quiet_stays tells c.args.command.now c.args.self.now (quiet_of c.args.command.now c.in-Repo.is);
       room = room_quiet tells c.args.command.now c.args.self.now (quiet_of c.args.command.now c.in-Repo.is);
       full = λ r e. absurd (ok_or_err _ _ e);
+      stopped = tt;
+      rest = rest_where_same c.args.self.now c.args.self.now refl;
     }
 
 pub unreachable-requires : goal.unreachable-requires

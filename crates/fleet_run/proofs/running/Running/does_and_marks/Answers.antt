@@ -4,11 +4,12 @@ use Rattle.repo_node.specs.Stored.{StoreView, store_view}
 use Rattle.driver_model.specs.Driving.{with_mark}
 use Rattle.fleet_run.specs.Commands.{does_command}
 use Rattle.fleet_run.proofs.Cutting.{meets_none}
-use Rattle.fleet_run.proofs.Full.{few_in, ok_or_err, same_err}
+use Rattle.fleet_run.proofs.Full.{few_in, ok_or_err, rest_then, rest_where_same, same_err}
 use Rattle.fleet_run.specs.Standing.{most_lines}
 use Rattle.fleet_run.proofs.Driving.{driven_within}
 use Rattle.fleet_run.proofs.Marked.{driven_behind, driven_marked, marked_once}
 use Rattle.fleet_run.proofs.Steps.{goes_twice}
+use Rattle.fleet_run.proofs.Starts.{always_err, start_kept}
 use Rattle.fleet_run.proofs.running.Running.does_and_marks.Goals as goal
 
 pub does-requires-clause-driven : goal.does-requires-clause-driven
@@ -33,9 +34,26 @@ returns g c =
       within = meets_none tells c.args.command.now c.args.self.now c.does.new.self c.runs_are_cut_where_histories_are_full.ensures.few c.in_ok-does.ensures.room c.in_ok-does.ensures.ok
           (few_in c.self.inside.nodes c.self.inside.run c.does.new.self c.self.view_is c.histories_are_few.ensures);
       full = λ r e. absurd (ok_or_err _ _ e);
+      stopped = tt;
+      kept = tt;
     }
 
 pub returns-in_err-does-clause-full : goal.returns-in_err-does-clause-full
 returns-in_err-does-clause-full g c =
     let tells : g.row.K.Denot → StoreView = λ k. store_view (g.K.Keeper.contents k) (g.K.Keeper.parts k) (g.K.Keeper.failing k) (g.K.Keeper.faults k) in
     λ r e. c.does.ensures.full r (same_err c.does.result c.from_residual.result c.in_err-does.field-0.0 _ c.in_err-does.was c.from_residual.ensures.1 e)
+
+pub returns-in_err-does-clause-stopped : goal.returns-in_err-does-clause-stopped
+returns-in_err-does-clause-stopped g c = always_err _ _ c.in_err-does.ensures.stopped
+
+pub returns-in_err-does-clause-kept : goal.returns-in_err-does-clause-kept
+returns-in_err-does-clause-kept g c = always_err _ _ c.does.ensures.rest
+
+pub returns-in_err-mark-clause-stopped : goal.returns-in_err-mark-clause-stopped
+returns-in_err-mark-clause-stopped g c =
+    let tells : g.row.K.Denot → StoreView = λ k. store_view (g.K.Keeper.contents k) (g.K.Keeper.parts k) (g.K.Keeper.failing k) (g.K.Keeper.faults k) in
+    always_err _ _ (start_kept tells (does_command c.args.command.now) c.args.self.now c.does.new.self c.mark.new.self c.in_ok-does.ensures.ok c.in_err-mark.ensures.err)
+
+pub returns-in_err-mark-clause-kept : goal.returns-in_err-mark-clause-kept
+returns-in_err-mark-clause-kept g c =
+    always_err _ _ (rest_then c.args.self.now c.does.new.self c.mark.new.self c.does.ensures.rest (rest_where_same c.does.new.self c.mark.new.self c.in_err-mark.ensures.err))

@@ -4,6 +4,8 @@ use Rattle.fleet_run.proofs.Beginning.{fails_go_so}
 use Rattle.fleet_model.specs.Fleets.{FleetView}
 use Rattle.std.proofs.Common.{ap}
 use Rattle.fleet_run.proofs.Full.{ok_or_err, rest_where_same}
+use Rattle.driver_model.specs.ScriptSteps.{will_fail}
+use Rattle.fleet_run.proofs.Starts.{always_err, start_same}
 use Rattle.fleet_run.proofs.running.Running.fails.Goals as goal
 
 pub returns : goal.returns
@@ -20,5 +22,16 @@ returns g c =
           })
           (λ given d. c.drivers_stay_sound.ensures.will_fail given c.args.repo c.args.call d);
       full = λ r e. absurd (ok_or_err _ _ e);
+      stopped = tt;
       rest = rest_where_same c.args.self.now (record { nodes = c.fail_next.new.self; run = c.self.inside.run }) (ap (λ (f : FleetView g.row.K.Denot). f.run) c.self.view_is);
     }
+
+pub returns-in_err-fail_next-clause-stopped : goal.returns-in_err-fail_next-clause-stopped
+returns-in_err-fail_next-clause-stopped g c =
+    let tells : g.row.K.Denot → StoreView = λ k. store_view (g.K.Keeper.contents k) (g.K.Keeper.parts k) (g.K.Keeper.failing k) (g.K.Keeper.faults k) in
+    always_err _ _ (start_same tells (λ given d. will_fail c.args.repo c.args.call d) c.args.self.now (record { nodes = c.fail_next.new.self; run = c.self.inside.run })
+    (λ given d. c.drivers_only_add.ensures.will_fail c.args.repo c.args.call d) (ap (λ (f : FleetView g.row.K.Denot). f.run) c.self.view_is))
+
+pub returns-in_err-fail_next-clause-rest : goal.returns-in_err-fail_next-clause-rest
+returns-in_err-fail_next-clause-rest g c =
+    rest_where_same c.args.self.now (record { nodes = c.fail_next.new.self; run = c.self.inside.run }) (ap (λ (f : FleetView g.row.K.Denot). f.run) c.self.view_is)

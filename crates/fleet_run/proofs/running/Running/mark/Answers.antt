@@ -5,6 +5,7 @@ use Rattle.driver_model.specs.Driving.{with_mark}
 use Rattle.fleet_model.specs.Fleets.{FleetView}
 use Rattle.fleet_run.specs.Standing.{GoesOn}
 use Rattle.fleet_run.proofs.Driving.{marks_on}
+use Rattle.fleet_run.proofs.Starts.{always_err}
 use Rattle.fleet_run.proofs.running.Running.mark.Goals as goal
 
 pub returns : goal.returns
@@ -16,4 +17,9 @@ returns g c =
       ok = subst (λ (f : FleetView g.row.K.Denot). GoesOn tells (λ given d. with_mark d) f after) c.self.view_is
           (marks_on tells was after (λ given d. c.fleets_do_lines.ensures.mark tells given d was after) (λ given d. c.drivers_stay_sound.ensures.mark given d) refl
           (λ i. record c.self.inside.run { marks = (c.in_ok-push.ensures.ok ∙ ap (λ (n : ℕ). c.self.inside.run.marks ++ n ∷ []) (c.made-place.ensures ∙ ap (λ (f : FleetView g.row.K.Denot). length f.run.entries) (sym c.self.view_is))) i }));
+      err = tt;
     }
+
+pub returns-in_err-push-clause-err : goal.returns-in_err-push-clause-err
+returns-in_err-push-clause-err g c =
+    always_err _ _ ((λ i. record c.self.inside.run { marks = c.in_err-push.ensures.err i }) ∙ ap (λ (f : FleetView g.row.K.Denot). f.run) c.self.view_is)

@@ -5,9 +5,10 @@ use Rattle.repo_node.specs.Stored.{StoreView, store_view}
 use Rattle.driver_model.specs.Rounds.{turns_of}
 use Rattle.fleet_run.specs.Standing.{most_lines}
 use Rattle.fleet_run.proofs.Driving.{driven_on, one_more_of_round, same_count, whole_round}
-use Rattle.fleet_run.proofs.Ending.{round_ends}
+use Rattle.fleet_run.proofs.Ending.{AtFull, later_full, round_ends}
 use Rattle.fleet_run.proofs.Few.{turns_of_few}
 use Rattle.fleet_run.proofs.Full.{rest_then, ok_or_err, same_err}
+use Rattle.fleet_run.proofs.Starts.{AtStart, always_err, later_start}
 use Rattle.fleet_run.proofs.running.Running.round.Goals as goal
 
 pub turn-requires-clause-there : goal.turn-requires-clause-there
@@ -37,6 +38,7 @@ returns g c =
     record {
       ok = whole_round tells c.loop-repo.repo c.args.self.now c.loop-repo.self all c.loop-repo.invariant.goes;
       full = λ r e. absurd (ok_or_err _ _ e);
+      stopped = tt;
       rest = c.loop-repo.invariant.rest;
     }
 
@@ -44,8 +46,15 @@ pub returns-in_err-turn-clause-full : goal.returns-in_err-turn-clause-full
 returns-in_err-turn-clause-full g c =
     let tells : g.row.K.Denot → StoreView = λ k. store_view (g.K.Keeper.contents k) (g.K.Keeper.parts k) (g.K.Keeper.failing k) (g.K.Keeper.faults k) in
     let below : c.loop-repo.repo < length c.args.self.now.nodes = search rules in
-    λ r e. round_ends tells r c.loop-repo.repo (length c.args.self.now.nodes) c.args.self.now c.loop-repo.self c.turn.new.self c.runs_are_cut_where_histories_are_full.ensures.later c.drivers_only_add.ensures.turn c.fleets_settle.ensures.turn
+    λ r e. round_ends tells (AtFull r) c.loop-repo.repo (length c.args.self.now.nodes) c.args.self.now c.loop-repo.self c.turn.new.self (later_full c.runs_are_cut_where_histories_are_full.ensures.later r) c.drivers_only_add.ensures.turn c.fleets_settle.ensures.turn
     refl below c.loop-repo.invariant.goes (c.turn.ensures.full r (same_err c.turn.result c.from_residual.result c.in_err-turn.field-0.0 _ c.in_err-turn.was c.from_residual.ensures.1 e))
+
+pub returns-in_err-turn-clause-stopped : goal.returns-in_err-turn-clause-stopped
+returns-in_err-turn-clause-stopped g c =
+    let tells : g.row.K.Denot → StoreView = λ k. store_view (g.K.Keeper.contents k) (g.K.Keeper.parts k) (g.K.Keeper.failing k) (g.K.Keeper.faults k) in
+    let below : c.loop-repo.repo < length c.args.self.now.nodes = search rules in
+    always_err _ _ (round_ends tells AtStart c.loop-repo.repo (length c.args.self.now.nodes) c.args.self.now c.loop-repo.self c.turn.new.self later_start c.drivers_only_add.ensures.turn c.fleets_settle.ensures.turn
+    refl below c.loop-repo.invariant.goes c.in_err-turn.ensures.stopped)
 
 pub returns-in_err-turn-clause-rest : goal.returns-in_err-turn-clause-rest
 returns-in_err-turn-clause-rest g c = rest_then c.args.self.now c.loop-repo.self c.turn.new.self c.loop-repo.invariant.rest c.turn.ensures.rest

@@ -2,8 +2,9 @@
 use Rattle.std.proofs.Common.{rules, ℕ, ◌≡◌, ◌+◌, sym, subst, ◌∙◌}
 use Rattle.repo_node.specs.Stored.{StoreView, store_view}
 use Rattle.fleet_run.proofs.Driving.{HasGone, driven_rounds, few_rounds, idle_then, last_round, one_more_round, settled_at_most, settled_early}
-use Rattle.fleet_run.proofs.Ending.{one_more_may_be, settles_end}
+use Rattle.fleet_run.proofs.Ending.{AtFull, later_full, one_more_may_be, settles_end}
 use Rattle.fleet_run.proofs.Full.{rest_then, ok_or_err, same_err}
+use Rattle.fleet_run.proofs.Starts.{AtStart, always_err, later_start}
 use Rattle.fleet_run.proofs.running.Running.settles.Goals as goal
 
 pub round-requires : goal.round-requires
@@ -17,6 +18,7 @@ returns-then-idle-ge2 g c =
     record {
       ok = settled_early tells c.loop.counter c.loop.idle c.args.self.now c.loop.self c.fleets_settle.ensures.early (few_rounds c.loop.counter c.loop-test.true) c.if-idle-ge2.true c.loop.invariant.gone;
       full = λ r e. absurd (ok_or_err _ _ e);
+      stopped = tt;
       rest = c.loop.invariant.rest;
     }
 
@@ -37,14 +39,21 @@ returns g c =
     record {
       ok = settled_at_most tells c.loop.idle c.args.self.now c.loop.self c.fleets_settle.ensures.most (last_round tells c.loop.counter c.loop.idle c.args.self.now c.loop.self all c.loop.invariant.gone);
       full = λ r e. absurd (ok_or_err _ _ e);
+      stopped = tt;
       rest = c.loop.invariant.rest;
     }
 
 pub returns-in_err-round-clause-full : goal.returns-in_err-round-clause-full
 returns-in_err-round-clause-full g c =
     let tells : g.row.K.Denot → StoreView = λ k. store_view (g.K.Keeper.contents k) (g.K.Keeper.parts k) (g.K.Keeper.failing k) (g.K.Keeper.faults k) in
-    λ r e. settles_end tells r c.loop.counter c.loop.idle c.args.self.now c.loop.self c.round.new.self c.runs_are_cut_where_histories_are_full.ensures.later c.drivers_only_add.ensures.round c.fleets_settle.ensures.round c.fleets_settle.ensures.most
+    λ r e. settles_end tells (AtFull r) c.loop.counter c.loop.idle c.args.self.now c.loop.self c.round.new.self (later_full c.runs_are_cut_where_histories_are_full.ensures.later r) c.drivers_only_add.ensures.round c.fleets_settle.ensures.round c.fleets_settle.ensures.most
     c.if-idle-ge2.false (one_more_may_be c.loop.counter c.loop-test.true) c.loop.invariant.gone (c.round.ensures.full r (same_err c.round.result c.from_residual.result c.in_err-round.field-0.0 _ c.in_err-round.was c.from_residual.ensures.1 e))
+
+pub returns-in_err-round-clause-stopped : goal.returns-in_err-round-clause-stopped
+returns-in_err-round-clause-stopped g c =
+    let tells : g.row.K.Denot → StoreView = λ k. store_view (g.K.Keeper.contents k) (g.K.Keeper.parts k) (g.K.Keeper.failing k) (g.K.Keeper.faults k) in
+    always_err _ _ (settles_end tells AtStart c.loop.counter c.loop.idle c.args.self.now c.loop.self c.round.new.self later_start c.drivers_only_add.ensures.round c.fleets_settle.ensures.round c.fleets_settle.ensures.most
+    c.if-idle-ge2.false (one_more_may_be c.loop.counter c.loop-test.true) c.loop.invariant.gone c.in_err-round.ensures.stopped)
 
 pub returns-in_err-round-clause-rest : goal.returns-in_err-round-clause-rest
 returns-in_err-round-clause-rest g c = rest_then c.args.self.now c.loop.self c.round.new.self c.loop.invariant.rest c.round.ensures.rest

@@ -4,15 +4,17 @@ use Rattle.repo_node.specs.Stored.{StoreView, store_view}
 use Rattle.fleet_run.proofs.Called.{seen_as}
 use Rattle.fleet_run.proofs.Quiet.{rests_on}
 use Rattle.fleet_run.proofs.Turning.{had_within, IsTurned, turns_on}
-use Rattle.fleet_run.proofs.Writing.{on_ok}
+use Rattle.fleet_run.proofs.Starts.{call_ends, few_told, start_full}
+use Rattle.fleet_run.specs.Standing.{EndsAtFull}
+use Rattle.fleet_run.specs.Telling.{Tells}
 use Rattle.fleet_run.proofs.Full.{ends_for, rest_on}
 use Rattle.fleet_run.proofs.Ending.{turn_ends}
 use Rattle.driver_model.specs.Turning.{turn}
 use Rattle.fleet_model.specs.Fleets.{FleetView}
 use Rattle.fleet_run.proofs.running.Running.turn.Goals as goal
 
-pub tell-requires-clause-had : goal.tell-requires-clause-had
-tell-requires-clause-had g c =
+pub end_call-requires-clause-had : goal.end_call-requires-clause-had
+end_call-requires-clause-had g c =
     let tells : g.row.K.Denot → StoreView = λ k. store_view (g.K.Keeper.contents k) (g.K.Keeper.parts k) (g.K.Keeper.failing k) (g.K.Keeper.faults k) in
     had_within tells c.args.repo c.raise-had.result c.turn-turn.result c.args.self.now (record { nodes = c.self.inside.nodes; run = c.self.inside.run }) c.turn-turn.new.self c.carry.new.self
     (seen_as tells c.args.repo c.raise-had.result c.args.self.now c.raise-had.new.self c.self.inside.nodes c.self.inside.run c.self.view_is c.raise-had.ensures) c.requires.there
@@ -22,7 +24,8 @@ pub returns : goal.returns
 returns g c =
     let tells : g.row.K.Denot → StoreView = λ k. store_view (g.K.Keeper.contents k) (g.K.Keeper.parts k) (g.K.Keeper.failing k) (g.K.Keeper.faults k) in
     let up : FleetView g.row.K.Denot = record { nodes = c.self.inside.nodes; run = c.self.inside.run } in
-    let turned : IsTurned tells c.args.repo c.raise-had.result c.turn-turn.result c.args.self.now up c.turn-turn.new.self c.carry.new.self c.tell.new.self = record {
+    let called_now : FleetView g.row.K.Denot = record { nodes = c.carry.new.self; run = c.self.inside.run } in
+    let turned : (all : FleetView g.row.K.Denot) → Tells tells c.args.repo c.raise-had.result called_now all → IsTurned tells c.args.repo c.raise-had.result c.turn-turn.result c.args.self.now up c.turn-turn.new.self c.carry.new.self all = λ all told. record {
       turn = record {
         raises = seen_as tells c.args.repo c.raise-had.result c.args.self.now c.raise-had.new.self c.self.inside.nodes c.self.inside.run c.self.view_is c.raise-had.ensures;
         moved = c.turn-turn.ensures.moved;
@@ -40,22 +43,29 @@ returns g c =
       others_rest = c.carry.ensures.others;
       others_links = c.carry.ensures.other_links;
       carried_count = c.carry.ensures.count;
-      told = c.in_ok-tell.ensures.ok;
+      told = told;
     } in
+    let ends = call_ends tells (λ given d. turn given c.args.repo d) c.args.repo c.raise-had.result c.args.self.now called_now c.end_call.new.self c.after_turn-line.result c.end_call.result _
+    (λ q all. EndsAtFull tells q (λ given d. turn given c.args.repo d) c.args.self.now all)
+    (ap (λ (f : FleetView g.row.K.Denot). f.run) c.self.view_is ∙ c.raise-had.ensures.run) (λ given d. c.drivers_only_add.ensures.turn given c.args.repo d)
+    (λ q all ends. start_full tells q (λ given d. turn given c.args.repo d) c.args.self.now all ends)
+    c.after_turn-line.ensures.ok
+    (λ all told came.
+    turns_on (record { moved = c.fleets_take_turns.ensures.moved; idle = c.fleets_take_turns.ensures.idle }) tells c.args.repo c.raise-had.result c.turn-turn.result c.args.self.now
+    up c.turn-turn.new.self c.carry.new.self all c.requires.there (turned all told) came)
+    (λ all told r e. let full = c.after_turn-line.ensures.full r e in
+    ends_for tells c.args.repo r (λ given d. turn given c.args.repo d) c.args.self.now all full.0
+    (turn_ends tells c.args.repo c.raise-had.result c.turn-turn.result c.args.self.now up c.turn-turn.new.self c.carry.new.self all (c.fleets_stop_at_full_histories.ensures.turn tells) c.requires.there (turned all told) full.1
+    (λ n m at_n at_m. record { full = c.turn-turn.ensures.full n m at_n at_m full.1; ready = c.turn-turn.ensures.ready n m at_n at_m full.1 })
+    (few_told tells c.args.repo c.raise-had.result called_now all told (c.after_turn-line.ensures.few r e))))
+    c.end_call.ensures.ok c.end_call.ensures.full c.end_call.ensures.stopped c.end_call.ensures.short in
     record {
-      ok = on_ok c.after_turn.result _ _ c.after_turn.ensures.ok (λ came.
-          turns_on (record { moved = c.fleets_take_turns.ensures.moved; idle = c.fleets_take_turns.ensures.idle }) tells c.args.repo c.raise-had.result c.turn-turn.result c.args.self.now
-          up c.turn-turn.new.self c.carry.new.self c.tell.new.self c.requires.there turned came);
-      full = λ r e. let full = c.after_turn.ensures.full r e in
-          ends_for tells c.args.repo r (λ given d. turn given c.args.repo d) c.args.self.now c.tell.new.self full.0
-          (turn_ends tells c.args.repo c.raise-had.result c.turn-turn.result c.args.self.now up c.turn-turn.new.self c.carry.new.self c.tell.new.self (c.fleets_stop_at_full_histories.ensures.turn tells) c.requires.there turned full.1
-          (λ n m at_n at_m. record { full = c.turn-turn.ensures.full n m at_n at_m full.1; ready = c.turn-turn.ensures.ready n m at_n at_m full.1 }) (c.after_turn.ensures.few r e));
-      rest = rest_on c.args.self.now c.raise-had.new.self c.self.inside.nodes c.carry.new.self c.self.inside.run c.tell.new.self c.self.view_is c.raise-had.ensures.run c.tell.ensures.rest;
-      count = ap length turned.told.nodes ∙ (turned.carried_count ∙ (turned.turn.count ∙ turned.turn.raises.count));
+      ok = ends.ok;
+      full = ends.full;
+      stopped = ends.stopped;
+      rest = rest_on c.args.self.now c.raise-had.new.self c.self.inside.nodes c.carry.new.self c.self.inside.run c.end_call.new.self c.self.view_is c.raise-had.ensures.run c.end_call.ensures.rest;
+      count = ap length c.end_call.ensures.nodes ∙ (c.carry.ensures.count ∙ (c.turn-turn.ensures.count ∙ (ap (λ (f : FleetView g.row.K.Denot). length f.nodes) c.self.view_is ∙ c.raise-had.ensures.count)));
     }
-
-pub returns-in_err-tell-clause-rest : goal.returns-in_err-tell-clause-rest
-returns-in_err-tell-clause-rest g c = rest_on c.args.self.now c.raise-had.new.self c.self.inside.nodes c.carry.new.self c.self.inside.run c.tell.new.self c.self.view_is c.raise-had.ensures.run c.tell.ensures.rest
 
 pub returns-then-is_still-clause-ok : goal.returns-then-is_still-clause-ok
 returns-then-is_still-clause-ok g c =

@@ -4,9 +4,10 @@ use Rattle.repo_node.specs.Stored.{StoreView, store_view}
 use Rattle.driver_model.specs.Driving.{turns}
 use Rattle.fleet_run.specs.Standing.{GoesOn, most_lines}
 use Rattle.fleet_run.proofs.Driving.{driven_on, one_more_turn, same_count}
-use Rattle.fleet_run.proofs.Ending.{turns_end}
+use Rattle.fleet_run.proofs.Ending.{AtFull, later_full, turns_end}
 use Rattle.fleet_run.proofs.Few.{turns_few}
 use Rattle.fleet_run.proofs.Full.{rest_then, ok_or_err, same_err}
+use Rattle.fleet_run.proofs.Starts.{AtStart, always_err, later_start}
 use Rattle.fleet_run.proofs.running.Running.turns.Goals as goal
 
 pub turn-requires-clause-there : goal.turn-requires-clause-there
@@ -34,6 +35,7 @@ returns g c =
     record {
       ok = subst (λ (n : ℕ). GoesOn tells (λ given d. turns given c.args.repo n d) c.args.self.now c.loop.self) all c.loop.invariant.goes;
       full = λ r e. absurd (ok_or_err _ _ e);
+      stopped = tt;
       rest = c.loop.invariant.rest;
     }
 
@@ -41,8 +43,15 @@ pub returns-in_err-turn-clause-full : goal.returns-in_err-turn-clause-full
 returns-in_err-turn-clause-full g c =
     let tells : g.row.K.Denot → StoreView = λ k. store_view (g.K.Keeper.contents k) (g.K.Keeper.parts k) (g.K.Keeper.failing k) (g.K.Keeper.faults k) in
     let less : c.loop.counter < c.args.number = search rules in
-    λ r e. turns_end tells r c.args.repo c.loop.counter c.args.number c.args.self.now c.loop.self c.turn.new.self c.runs_are_cut_where_histories_are_full.ensures.later c.drivers_only_add.ensures.turn c.fleets_settle.ensures.turns less
+    λ r e. turns_end tells (AtFull r) c.args.repo c.loop.counter c.args.number c.args.self.now c.loop.self c.turn.new.self (later_full c.runs_are_cut_where_histories_are_full.ensures.later r) c.drivers_only_add.ensures.turn c.fleets_settle.ensures.turns less
     c.loop.invariant.goes (c.turn.ensures.full r (same_err c.turn.result c.from_residual.result c.in_err-turn.field-0.0 _ c.in_err-turn.was c.from_residual.ensures.1 e))
+
+pub returns-in_err-turn-clause-stopped : goal.returns-in_err-turn-clause-stopped
+returns-in_err-turn-clause-stopped g c =
+    let tells : g.row.K.Denot → StoreView = λ k. store_view (g.K.Keeper.contents k) (g.K.Keeper.parts k) (g.K.Keeper.failing k) (g.K.Keeper.faults k) in
+    let less : c.loop.counter < c.args.number = search rules in
+    always_err _ _ (turns_end tells AtStart c.args.repo c.loop.counter c.args.number c.args.self.now c.loop.self c.turn.new.self later_start c.drivers_only_add.ensures.turn c.fleets_settle.ensures.turns less
+    c.loop.invariant.goes c.in_err-turn.ensures.stopped)
 
 pub returns-in_err-turn-clause-rest : goal.returns-in_err-turn-clause-rest
 returns-in_err-turn-clause-rest g c = rest_then c.args.self.now c.loop.self c.turn.new.self c.loop.invariant.rest c.turn.ensures.rest
