@@ -1,5 +1,5 @@
 -- The repositories that a script's first commands declare.
-use Rattle.std.proofs.Common.{◌≡◌, ℕ, ◌+◌, ◌<◌, ◌≤◌, List, [], ◌∷◌, ◌++◌, length, take, get_or, refl, sym, ap, ◌∙◌}
+use Rattle.std.proofs.Common.{◌≡◌, ℕ, ◌+◌, ◌<◌, List, [], ◌∷◌, ◌++◌, length, take, get_or, refl, sym, ap, ◌∙◌}
 use Rattle.std.proofs.lemmas.List.{take_more, append-nil, append_assoc}
 use Rattle.run_data.specs.declared.run.RepoView.{RepoView}
 use Rattle.script_lang.specs.declared.command.Command.{Command}

@@ -4,7 +4,6 @@ use Rattle.std.specs.Prelude.{OnErr, OnOk, reverse, slice_get}
 use Rattle.std.proofs.Math.Seq.{take-append_seam}
 use Rattle.std.proofs.lemmas.List.{append-nil, append_assoc, length-append, reverse-append, take-append-drop}
 use Rattle.std.proofs.lemmas.Option.{same_Some}
-use Rattle.annex_base.proofs.Lists.{slice_get-within}
 use Rattle.run_data.specs.declared.entry.Entry.{Entry}
 use Rattle.run_data.specs.declared.run.Run.{Run}
 use Rattle.run_model.specs.Run.{IsRun}

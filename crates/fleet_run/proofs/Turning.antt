@@ -1,13 +1,12 @@
 -- A turn of a node of a fleet, after which frames are carried: the driver's turn follows.
-use Rattle.std.proofs.Common.{◌≡◌, ◌≢◌, ℕ, ◌+◌, ◌<◌, ◌≤◌, ◌^◌, Bool, true, false, List, [], ◌∷◌, ◌++◌, Option, Some, None, Result, Ok, Err, ◌⊎◌, inl, inr, drop, length, map, refl, sym, ap, ◌∙◌, subst, arith}
-use Rattle.std.specs.Prelude.{OnOk, max, not, reverse, slice_get}
+use Rattle.std.proofs.Common.{◌≡◌, ◌≢◌, ℕ, ◌+◌, ◌<◌, ◌≤◌, ◌^◌, Bool, List, [], ◌∷◌, Option, Some, None, ◌⊎◌, inl, inr, drop, length, map, refl, sym, ap, ◌∙◌, subst, arith}
+use Rattle.std.specs.Prelude.{max, not, reverse, slice_get}
 use Rattle.std.specs.Option.{ForSome, option_map_or}
 use Rattle.std.proofs.lemmas.List.{length-append, length-reverse}
 use Rattle.std.proofs.lemmas.Option.{same_Some, slice_get_within}
 use Rattle.annex_base.proofs.Lists.{slice_get-within}
 use Rattle.link_ring.specs.Ends.{EndView, after_drop}
 use Rattle.object_store.specs.Stores.{AreSmallParts, Contents, Parts}
-use Rattle.run_data.specs.declared.entry.Entry.{Entry}
 use Rattle.run_data.specs.declared.run.Run.{Run}
 use Rattle.node_model.specs.Ends.{EndName}
 use Rattle.node_model.specs.SetUp.{SetUp}
@@ -15,7 +14,6 @@ use Rattle.node_model.specs.Step.{step}
 use Rattle.node_ends.specs.Ends.{link_at}
 use Rattle.node_ends.specs.Joined.{AreCarried, end_with, link_carried}
 use Rattle.node_parts.specs.Parts.{AreParts}
-use Rattle.link_flights.specs.Fleets as fleets
 use Rattle.repo_node.specs.Nodes as nodes
 use Rattle.repo_node.specs.Nodes.{NodeView, told_of}
 use Rattle.repo_node.specs.Stored.{StoreView}
@@ -24,8 +22,7 @@ use Rattle.repo_node.specs.Turning.{Adds, IsIdle, StepsBy}
 use Rattle.repo_node.specs.declared.turn.Turn.{Turn}
 use Rattle.repo_node.specs.declared.turn.Turn.TheVariants as turns
 use Rattle.run_model.specs.Past.{now}
-use Rattle.driver_model.specs.Driver.{Driver, DriverInput, content_at, newest_count, part_at, set_up_of}
-use Rattle.driver_model.specs.Scripts.{IsKnown}
+use Rattle.driver_model.specs.Driver.{Driver, DriverInput, newest_count, part_at, set_up_of}
 use Rattle.driver_model.specs.Turning.{turn}
 use Rattle.joined_nodes.specs.Joined as joined
 use Rattle.joined_nodes.specs.Joined.{AtNode}
@@ -34,7 +31,7 @@ use Rattle.fleet_model.specs.Matches.{DecidesMatches}
 use Rattle.fleet_model.specs.Steps.{OneTurns, raised, with_links}
 use Rattle.fleet_model.specs.Stores.{IsStoreOf, IsTold, content_in}
 use Rattle.fleet_model.specs.Turns.{IsWhole, StandsWell}
-use Rattle.fleet_run.specs.Standing.{GoesOn, IsAtDriver}
+use Rattle.fleet_run.specs.Standing.{GoesOn}
 use Rattle.fleet_run.specs.Telling.{Raises, Tells}
 use Rattle.fleet_run.proofs.Called.{past_of, raised_is, with_more}
 
