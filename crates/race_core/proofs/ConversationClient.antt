@@ -297,9 +297,6 @@ module _ (reads_back : SentAreRead) (run : Run) (repos : Each IsSetUp run.repos)
 
         -- ---- the connection is opened
 
-        new_epoch : ℕ
-        new_epoch = c.epoch + 1
-
         open_all : (fs : List FrameView) → Each (SentWell c) fs → bodies fs ≡ Opening ∷ [] → Each (λ g. g.epoch ≡ c.epoch + 1) fs × ((sends_all c fs).epoch ≡ c.epoch + 1)
         open_all [] all is = absurd (cc)
         open_all (g ∷ []) all is = ((one all.0, tt), ap (λ (body : FrameText). (end_sends c body).epoch) first_is)

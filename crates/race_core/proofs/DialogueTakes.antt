@@ -169,9 +169,6 @@ part_suits Puts phase m f s = put_suits phase m f s
 part_suits Drops phase m f s = drop_suits phase m f s
 
 module _ (t : Turn) (f : FrameView) (peer : ℕ) (x : Taking t f peer) (walks : Walks t) where
-  abbrev target' : Option ℕ
-  target' = t.w.what.peer
-
   -- in this phase
   same_peer : (phase : Phase) → t.w.phase ≡ phase → partner t.w.what.peer phase ≡ Some peer
   same_peer phase is = subst (λ (p : Phase). partner t.w.what.peer p ≡ Some peer) is x.on

@@ -288,9 +288,6 @@ module _ (s : SetUp) (past : List Entry) (words : ℕ → Option Word) (e : Entr
     abbrev c : End
     c = end_at past s.number a
 
-    after : End
-    after = sends_all (between a) (sent_at a e.sent)
-
     after_is : end_at (e ∷ past) s.number a ≡ sends_all (between a) (sent_at a e.sent)
     after_is = end_own s.number past a e is
 

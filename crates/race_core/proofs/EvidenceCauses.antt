@@ -1,5 +1,5 @@
 -- The causes of refusals that rest on a drop's evidence: its locks had expired, its target's protocol is old, or it lacks evidence.
-use Rattle.std.proofs.Common.{◌≡◌, ℕ, ◌≤◌, Bool, true, false, List, [], ◌∷◌, Option, Some, None, ◌⊎◌, inl, inr, refl, sym, ap, ◌∙◌, subst}
+use Rattle.std.proofs.Common.{◌≡◌, ℕ, Bool, true, false, List, [], ◌∷◌, Option, Some, None, ◌⊎◌, inl, inr, refl, sym, ap, ◌∙◌, subst}
 use Rattle.std.specs.Prelude.{◌||◌, find, length, min, nat_lt}
 use Rattle.std.specs.List.{list_any, reduce}
 use Rattle.std.proofs.lemmas.Bool.{ltb-false, ltb-true}

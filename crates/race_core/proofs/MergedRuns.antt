@@ -29,7 +29,7 @@ use Rattle.race_core.proofs.OwnState.{state_own}
 use Rattle.race_core.proofs.OwnParts.{part_whole}
 use Rattle.race_core.proofs.Flights.{always_before, get_append, map_member, occurs_always}
 use Rattle.race_core.proofs.Told.{taker_way, some_option}
-use Rattle.race_core.proofs.OwnWhole.{mine_occurs}
+use Rattle.race_core.proofs.OwnPasts.{mine_occurs}
 use Rattle.race_core.proofs.MergedLists.{IsNews, is_merge, never_earlier, earlier_trans}
 use Rattle.race_core.proofs.MergedOrder.{IsNew, each_by_own, follow_new, follow_rises, new_ordered, occurs_before, reverse_cons, rising_falls}
 
