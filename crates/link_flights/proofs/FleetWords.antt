@@ -5,7 +5,7 @@ use Rattle.std.specs.List.{AllZip}
 use Rattle.std.proofs.lemmas.List.{append-nil}
 use Rattle.std.proofs.lemmas.Bool.{ne_eqb}
 use Rattle.annex_base.specs.Lists.{Each, Member}
-use Rattle.annex_base.proofs.Lists.{Each-filter, Each-map}
+use Rattle.annex_base.proofs.Lists.{Each-filter, Each-map, Each-passes}
 use Rattle.annex_base.specs.declared.kinds.EntryStamp.{EntryStamp}
 use Rattle.annex_base.specs.declared.kinds.Word.{Word}
 use Rattle.annex_base.proofs.Conditions.{if_turned}
@@ -35,7 +35,6 @@ use Rattle.link_flights.specs.Words.{AreAllWorded, AreWorded, HaveWords, TellsWo
 use Rattle.link_flights.proofs.Dropped.{link_drop}
 use Rattle.link_flights.proofs.Fleet.{Becomes, Both, Listed, all_in, mapped, slot_low}
 use Rattle.link_flights.proofs.Flown.{hand_still, hand_young, listed_frames, stands_off, way_off, without_taken}
-use Rattle.link_flights.proofs.Lists.{each_filtered}
 use Rattle.link_flights.proofs.Quiet.{fresh_at}
 use Rattle.link_flights.proofs.WordsSent.{said_frames, said_match, way_said, words_came}
 use Rattle.link_flights.proofs.WordsTaken.{words_as, words_dropped, words_still, words_taken}
@@ -151,7 +150,7 @@ module _ (listed : Listed) (s : SetUp) (d : Driver) (was now : ℕ → List EndV
             (posted.posts a m.v (named (was s.number) a n.v within apart n.was) m.was) in
             subst (λ (y : EndView). Both (Worded (e ∷ d.past)) s.number a y w) (ap (link_after sender (word a) a e.taken (said a)) n.it ∙ m.it) (
               (λ client. words_here (without_old_flights (state_of s d.past) s.number d) s d.past s.number a (after_drop n.v) e (said a) sender (word a) posts mine apart w client
-                  (stood a n.v within apart n.was) (each_filtered (is_taken n.v) n.v.at_hand) (other_way a w within apart other)
+                  (stood a n.v within apart n.was) (Each-passes (is_taken n.v) n.v.at_hand) (other_way a w within apart other)
                   (words_dropped d.past s.number a n.v (stood a n.v within apart n.was) (own_words a n.v within apart n.was client))),
               (λ client. words_there (without_old_flights (state_of s d.past) s.number d) s d.past s.number a (after_drop n.v) e (said a) sender (word a) posts mine apart w (if_turned a.client client)
                   (λ y line asked. tells a y (if_turned a.client client) line asked) (own_way a n.v within apart n.was) (other_words a w within apart other client)),

@@ -1,5 +1,5 @@
 -- The causes of refusals that rest on a closed connection: a drop lost its target, a copy's connection was closed, a get's sources gave nothing.
-use Rattle.std.proofs.Common.{◌≡◌, ◌≢◌, ℕ, Bool, true, false, List, [], ◌∷◌, ◌++◌, Option, Some, None, ◌⊎◌, inl, inr, refl, sym, ap, ◌∙◌, subst, arith}
+use Rattle.std.proofs.Common.{◌≡◌, ◌≢◌, ℕ, Bool, true, false, List, [], ◌∷◌, Option, Some, None, ◌⊎◌, inl, inr, refl, sym, ap, ◌∙◌, subst, arith}
 use Rattle.std.proofs.lemmas.Bool.Decides.{nat_tests}
 use Rattle.std.specs.Prelude.{if◌then◌else◌, ◌==◌, ◌||◌}
 use Rattle.std.specs.List.{list_any}
@@ -46,6 +46,7 @@ use Rattle.race_core.proofs.Speaks.{hears}
 use Rattle.race_core.proofs.BySteps.{earlier}
 use Rattle.race_core.proofs.SaidDown.{said_is}
 use Rattle.race_core.proofs.PhaseFacts.{only_word}
+use Rattle.annex_base.proofs.Lists.{Each-push}
 
 -- ---- the premise: between nodes of a run no wrong message comes
 
@@ -189,10 +190,6 @@ word_taken_by t m p start size at part e = go (end_with t p).opened (subst (λ (
 abbrev pub SourcesTold : ℕ → List Entry → RunningJob → List SourceFailure → Type 0
 SourcesTold r past j xs = Each (λ x. SourceToldOf past r j.number j.what.key x.repo x.cause) xs
 
-each_more : (P : SourceFailure → Type 0) (xs : List SourceFailure) (x : SourceFailure) → Each P xs → P x → Each P (xs ++ x ∷ [])
-each_more P [] x a p = (p, tt)
-each_more P (y ∷ xs) x a p = (a.0, each_more P xs x a.1 p)
-
 module _ (reads_back : SentAreRead) (s : SetUp) (p : List Entry) (e : Entry) (h : OwnPast s (e ∷ p)) (is : is_of s.number e ≡ true) (x : Work) (b : Steps s p e x) where
   abbrev v : Work
   v = b.by.w
@@ -243,10 +240,10 @@ module _ (reads_back : SentAreRead) (s : SetUp) (p : List Entry) (e : Entry) (h 
   causes_now : ShutTold s p e → SourcesTold s.number p (running_job v) v.causes → Causes (rows_at p s.number) v e x → SourcesTold s.number (e ∷ p) (running_job v) x.causes
   causes_now told was (inl same) = subst (SourcesTold s.number (e ∷ p) (running_job v)) (sym same) (sources_grow s.number e p (running_job v) v.what.key v.causes was)
   causes_now told was (inr (inl a)) = subst (SourcesTold s.number (e ∷ p) (running_job v)) (sym a.list)
-      (each_more (λ y. SourceToldOf (e ∷ p) s.number v.number v.what.key y.repo y.cause) v.causes (record { repo = a.peer; cause = a.cause }) (sources_grow s.number e p (running_job v) v.what.key v.causes was)
+      (Each-push (λ y. SourceToldOf (e ∷ p) s.number v.number v.what.key y.repo y.cause) v.causes (record { repo = a.peer; cause = a.cause }) (sources_grow s.number e p (running_job v) v.what.key v.causes was)
       (subst (SourceToldOf (e ∷ p) s.number v.number v.what.key a.peer) (sym a.why.0) (subst (ClosedWith (e ∷ p) s.number v.number) a.why.2 (elim (told x b a.why.1) [ inl closed ↦ closed | inr y ↦ absurd (let both : Puts ≡ Gets = sym y.0 ∙ a.gets in cc) ]))))
   causes_now told was (inr (inr a)) = subst (SourcesTold s.number (e ∷ p) (running_job v)) (sym a.list)
-      (each_more (λ y. SourceToldOf (e ∷ p) s.number v.number v.what.key y.repo y.cause) v.causes (record { repo = a.peer; cause = source_cause a.start (taken_message e.taken) }) (sources_grow s.number e p (running_job v) v.what.key v.causes was) (word_cause a))
+      (Each-push (λ y. SourceToldOf (e ∷ p) s.number v.number v.what.key y.repo y.cause) v.causes (record { repo = a.peer; cause = source_cause a.start (taken_message e.taken) }) (sources_grow s.number e p (running_job v) v.what.key v.causes was) (word_cause a))
 
 -- **each cause of a get's peers stands in its entries**
 pub sources_told : SentAreRead → (s : SetUp) (past : List Entry) → OwnPast s past → ShutsTold s past → (w : Work) → Member w (works past s.number) → SourcesTold s.number past (running_job w) w.causes

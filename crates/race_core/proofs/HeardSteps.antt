@@ -18,11 +18,9 @@ use Rattle.race_core.proofs.JobFacts.{frame_found, goes_found}
 use Rattle.race_core.proofs.ClientTurns.{made_entry, moved, rows_of, talker, talker_phase, talker_slot}
 use Rattle.race_core.proofs.ClientLeaves.{Taking}
 use Rattle.race_core.proofs.HeardLists.{talker_heard}
+use Rattle.std.proofs.lemmas.Option.{same_Some}
 
 -- ---- the step that takes a frame
-
-some_same : (f g : FrameView) → Some f ≡ Some g → f ≡ g
-some_same f g e = cc
 
 -- a step that takes a frame is the taking of that frame, on the open connection of the partner
 pub took_as : (t : Turn) (m : Made) (peer : ℕ) → partner t.w.what.peer t.w.phase ≡ Some peer → (b : Bool) → with_partner t peer b ≡ Some m → (f : FrameView) → m.taken ≡ Some f
@@ -39,7 +37,7 @@ took_as t m peer on true e f took = go (is_awaiting t.w.phase) refl e
         room true k =
             let made : takes_frame t peer h h.body ≡ m = cc in
             let one : Some h ≡ Some f = sym (frame_found t peer h on h.body refl).0 ∙ (ap (λ (x : Made). x.taken) made ∙ took) in
-            sym made ∙ ap (λ (x : FrameView). takes_frame t peer x x.body) (some_same h f one)
+            sym made ∙ ap (λ (x : FrameView). takes_frame t peer x x.body) (same_Some h f one)
 
     go : (c : Bool) → is_awaiting t.w.phase ≡ c → (if c then awaits t peer (waiting (end_with t peer) t.look (job_end t.w peer)) else goes_on t) ≡ Some m → m ≡ takes_frame t peer f f.body
     go true awaiting g = takes_it (waiting (end_with t peer) t.look (job_end t.w peer)) g

@@ -27,6 +27,7 @@ use Rattle.node_model.specs.Jobs.{AsksTime, Drops, Ends, Fresh, Gets, GetsBytes,
 use Rattle.race_core.proofs.PhaseFacts.{readies_place}
 use Rattle.run_data.specs.declared.job.SourceCause.{SourceCause}
 use Rattle.race_core.proofs.TalkFacts.{Fits}
+use Rattle.std.proofs.lemmas.Option.{same_Some}
 
 -- ---- how a job moves: whose connection it is on, and whose cause it has gained
 
@@ -84,9 +85,6 @@ module _ (target : Option ℕ) where
     from_on peer left (Some (PutFrom start)) p on = puts_on (left == 0) peer start start left p on
     from_on peer left taken p on = on
 
-    same_peer : (a b : ℕ) → Some a ≡ Some b → a ≡ b
-    same_peer a b e = cc
-
     -- to the peer of the frame
     here : (f : FrameView) (fs : List FrameView) (y : Work) → y.causes ≡ w.causes → ((p : ℕ) → partner target y.phase ≡ Some p → f.peer ≡ p) → Moves target w (f ∷ fs) y
     here f fs y c at = record { causes = inl c; place = λ fi p on. inr (f, inl refl, at p on) }
@@ -99,7 +97,7 @@ module _ (target : Option ℕ) where
     says_moves time f fs taken (Version n) = here f fs (Jobs.to_phase w (Greets f.peer)) refl (λ p on. cc)
     says_moves time f fs taken (Get n file key) = here f fs (Jobs.to_phase w (Jobs.GetsData f.peer n)) refl (λ p on. cc)
     says_moves time f fs taken (Put file key) = here f fs (Jobs.to_phase w (Jobs.PutsOffer f.peer)) refl (λ p on. cc)
-    says_moves time f fs taken (Data n) = here f fs (Jobs.to_phase w (put_from f.peer n taken)) refl (λ p on. same_peer f.peer p (from_on f.peer n taken p on))
+    says_moves time f fs taken (Data n) = here f fs (Jobs.to_phase w (put_from f.peer n taken)) refl (λ p on. same_Some f.peer p (from_on f.peer n taken p on))
     says_moves time f fs taken Valid = answer_moves (f ∷ fs) w.phase refl
     says_moves time f fs taken (LockContent key) = here f fs (Jobs.to_phase w (Jobs.AsksLock f.peer time)) refl (λ p on. cc)
     says_moves time f fs taken (CheckPresent key) = here f fs (Jobs.to_phase w (Jobs.AsksLook f.peer)) refl (λ p on. cc)

@@ -3,7 +3,7 @@ use Rattle.std.proofs.Common.{◌≡◌, ℕ, ◌+◌, ◌<◌, ◌≤◌, Bool,
 use Rattle.std.specs.Prelude.{if◌then◌else◌, ◌==◌, ◌&&◌, not, option_map}
 use Rattle.std.proofs.lemmas.Bool.{or_from, and_right}
 use Rattle.annex_base.specs.Lists.{Member}
-use Rattle.annex_base.proofs.Conditions.{eqb_less, if_either}
+use Rattle.annex_base.proofs.Conditions.{eqb_less, if_either, eqb_more}
 use Rattle.race_core.proofs.Below.{SentAreRead}
 use Rattle.run_data.specs.declared.entry.Entry.{Entry}
 use Rattle.run_data.specs.declared.entry.EntryKind.{EntryKind}
@@ -52,7 +52,6 @@ use Rattle.race_core.proofs.PutsUnder.{ended_stays, first_step_off, is_live, put
 use Rattle.race_core.proofs.FreshSteps.{MovesLate, puts_was}
 use Rattle.race_core.proofs.Makers.{taken_of}
 use Rattle.race_core.proofs.BySteps.{earlier}
-use Rattle.race_core.proofs.Decisions.{more_off}
 
 -- ---- an answer by which the peer has the content ends a copy
 
@@ -272,7 +271,7 @@ puts_under reads_back s past h w m = invariant s (λ p x. OwnPast s p → Under 
         let mine = r.0 is in
         let below : x.number ≤ begun_count p s.number = number_begun s p r.1 x b.ran in
         in_more p s.number x.number e (was x b.ran (earlier s p e h) part live) (still_starts p s.number x.number e e.kind b.still
-        (λ job what kind. let next : job ≡ begun_count p s.number + 1 = begins_next s p mine.0 e mine.1 job what kind in more_off job x.number (omega arith)))
+        (λ job what kind. let next : job ≡ begun_count p s.number + 1 = begins_next s p mine.0 e mine.1 job what kind in eqb_more x.number job (omega arith)))
     own p e r is was x (inr (inr b)) h part live =
         let v = b.by.w in
         let v_part = puts_was v.part v.phase x.phase (subst (λ q. GoodTo v.part v.phase q x.phase) part (steps_good s p e x b (works_fit s p r.1 v (step_runs s p e x b)))) in
