@@ -26,7 +26,7 @@ use Rattle.race_core.proofs.Counting.{Pieces, bytes_counts}
 use Rattle.race_core.proofs.ServerEnds.{GivesHere, ServerDoes, TakesHere, server_does}
 use Rattle.race_core.proofs.EndMoves.{gave_one, may_epoch, takes_epoch}
 use Rattle.race_core.proofs.WayCounts.{way_in, way_out}
-use Rattle.race_core.proofs.SaidDown.{Alike, alike, said_bytes, said_closing, said_opening}
+use Rattle.race_core.proofs.SaidDown.{Alike, alike, bytes_end, closing_ends, said_opening}
 use Rattle.race_core.proofs.InTurn.{AllRead, in_turn}
 use Rattle.race_core.proofs.TurnFits.{busy}
 use Rattle.race_core.proofs.AnswersRead.{all_read}
@@ -61,12 +61,6 @@ invalid_alike k h = absurd h
 
 as_alike : (b : FrameText) (m k : Message) → b ≡ Line (text_of m) → message_in b ≡ Says k → message_of (text_of m) ≡ Some k
 as_alike b m k i e = read_of (text_of m) k (sym (ap message_in i) ∙ e)
-
-pub closing_ends : (b : FrameText) (k : Message) → b ≡ Closing → message_in b ≡ Says k → ⊥
-closing_ends b k i e = let no' : message_in Closing ≡ Says k = sym (ap message_in i) ∙ e in let no'' = sym said_closing ∙ no' in cc
-
-pub bytes_end : (b : FrameText) (n : ℕ) (k : Message) → b ≡ Bytes n → message_in b ≡ Says k → ⊥
-bytes_end b n k i e = let no' : message_in (Bytes n) ≡ Says k = sym (ap message_in i) ∙ e in let no'' = sym (said_bytes n) ∙ no' in cc
 
 -- a session that gives says no other answer
 pieces_plain : (was : Doing) (says : List FrameText) (b : FrameText) (k : Message) → Pieces was says → Member b says → message_in b ≡ Says k → is_plain k ≡ true → ⊥

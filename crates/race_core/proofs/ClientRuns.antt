@@ -1,11 +1,11 @@
 -- Over the own part of a run: what the phase of each running job says of requests and answers is so, at each of its open ends (J4).
 use Rattle.std.proofs.Common.{◌≡◌, ◌≢◌, ℕ, ◌<◌, Bool, true, false, List, [], ◌∷◌, length, Option, Some, None, ◌⊎◌, inl, inr, refl, sym, ap, ◌∙◌, subst}
-use Rattle.std.specs.Prelude.{if◌then◌else◌, ◌==◌, ◌&&◌, find, flat_map, fold, map, not}
+use Rattle.std.specs.Prelude.{if◌then◌else◌, ◌==◌, ◌&&◌, find, fold, map, not}
 use Rattle.std.proofs.lemmas.Bool.{true≢false, eqb-true, not-true, and_parts, and_right}
 use Rattle.annex_base.specs.Lists.{Each, Member}
 use Rattle.annex_base.specs.declared.kinds.Call.TheVariants.{PutFile}
 use Rattle.annex_base.specs.declared.kinds.Word.{Word}
-use Rattle.annex_base.proofs.Lists.{Each-append, Each-filter, Member-filter_parts, find_member}
+use Rattle.annex_base.proofs.Lists.{Each-filter, Member-filter_parts, find_member}
 use Rattle.annex_base.proofs.Conditions.{and_first, eqb_refl, eqb_sym, if_either}
 use Rattle.run_data.specs.declared.entry.By.{By}
 use Rattle.run_data.specs.declared.entry.By.TheVariants.{Script}
@@ -32,7 +32,7 @@ use Rattle.node_model.specs.SessionStep.{here, session_step}
 use Rattle.node_model.specs.JobStep.{Turn, end_with, farewell, turn_of, others_of}
 use Rattle.node_model.specs.Turns.{job_step, slot_step}
 use Rattle.node_model.specs.Step.{step}
-use Rattle.node_model.specs.AnyTime.{MayCome, close_at}
+use Rattle.node_model.specs.AnyTime.{MayCome}
 use Rattle.run_model.specs.Run.{IsStep, ComesAnyTime, OwnRun}
 use Rattle.node_model.specs.Found.{ByJob, ByOwed, BySession, GivesAt, IsJobEntry, TakesAt}
 use Rattle.race_core.proofs.JobSteps.{job_is, session_none}
@@ -46,6 +46,7 @@ use Rattle.race_core.proofs.StepFacts.{pays_found}
 use Rattle.race_core.proofs.ClientCounts.{Counted, Counts, Fits, counts_after, counts_at, counts_sends, counts_took}
 use Rattle.race_core.proofs.ClientTurns.{Even}
 use Rattle.race_core.proofs.ClientSteps.{Speaks, partner_even}
+use Rattle.race_core.proofs.ServerEnds.{close_closes, each_flat}
 
 -- ---- the invariant
 
@@ -171,9 +172,6 @@ closes_idle e slot none all p = record {
 
 -- ---- entries that may come at any point
 
-close_closes : (s : SetUp) (past : List Entry) (a : EndName) → Each (λ f. f.body ≡ Closing) (close_at s (state_of s past) a)
-close_closes s past a = if_either (Each (λ (f : FrameView). f.body ≡ Closing)) (end_at past s.number a).opened (frames a (end_at past s.number a) (Closing ∷ [])) [] (λ e. (refl, tt)) (λ e. tt)
-
 -- what an entry that may come at any point is to a job that ran
 pub record Aside (rows : RowsAndEnds) (r : ℕ) (e : Entry) (kind : EntryKind) : Type 0 where
   pub idle : (slot : ℕ) → IdleAt slot e
@@ -230,10 +228,6 @@ session_idle s st k m x slot p = elim (x.frame) [ inl t ↦ taking t | inr g ↦
 
 -- ---- the frames of a job are of its slot
 
-each_flat : {X Y : Type 0} (P : Y → Type 0) (f : X → List Y) (xs : List X) → ((x : X) → Each P (f x)) → Each P (flat_map f xs)
-each_flat P f [] all = tt
-each_flat P f (x ∷ xs) all = Each-append P (f x) (flat_map f xs) (all x) (each_flat P f xs all)
-
 frames_slot : (a : EndName) (c : End) (bodies : List FrameText) → Each (λ f. f.slot ≡ a.slot) (frames a c bodies)
 frames_slot a c [] = tt
 frames_slot a c (body ∷ bodies) = (refl, frames_slot a (end_sends c body) bodies)
@@ -245,8 +239,8 @@ job_frames t m (Gone by key) x = subst (Each (λ (f : FrameView). f.slot ≡ t.w
 job_frames t m (Order j peer deadline need key) x = subst (Each (λ (f : FrameView). f.slot ≡ t.w.slot)) (sym x.sent_is) (refl, tt)
 job_frames t m (Gain by size key) x = subst (Each (λ (f : FrameView). f.slot ≡ t.w.slot)) (sym x.sent_is) (refl, tt)
 job_frames t m (ends_job j outcome) x = subst (Each (λ (f : FrameView). f.slot ≡ t.w.slot)) (sym x.sent_is)
-    (each_flat (λ (f : FrameView). f.slot ≡ t.w.slot) (λ peer. frames (job_end t.w peer) (end_with t peer) (farewell t (is_lost_ordered outcome) peer (end_with t peer).opened)) (others_of t)
-    (λ peer. frames_slot (job_end t.w peer) (end_with t peer) (farewell t (is_lost_ordered outcome) peer (end_with t peer).opened)))
+    (each_flat (λ (f : FrameView). f.slot ≡ t.w.slot) (λ peer. frames (job_end t.w peer) (end_with t peer) (farewell t (is_lost_ordered outcome) peer (end_with t peer).opened))
+    (λ peer. frames_slot (job_end t.w peer) (end_with t peer) (farewell t (is_lost_ordered outcome) peer (end_with t peer).opened)) (others_of t))
 job_frames t m (Talk (Some j)) x = elim (x.1) [
   | inl none ↦ subst (Each (λ (f : FrameView). f.slot ≡ t.w.slot)) (sym none) tt
   | inr one ↦ subst (Each (λ (f : FrameView). f.slot ≡ t.w.slot)) (sym one.2) (refl, tt)

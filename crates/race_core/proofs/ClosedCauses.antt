@@ -34,9 +34,8 @@ use Rattle.node_model.specs.Turns.{awaits, by_partner, goes_on, has_room, is_awa
 use Rattle.run_model.specs.Run.{OwnPast, OwnRun}
 use Rattle.race_core.proofs.JobFacts.{frame_found}
 use Rattle.race_core.proofs.JobSteps.{Origin, Steps, invariant, turn_at}
-use Rattle.race_core.proofs.JobKept.{kind_kept}
 use Rattle.race_core.proofs.TalkFacts.{Fits}
-use Rattle.race_core.proofs.WorkFits.{step_runs, works_fit}
+use Rattle.race_core.proofs.WorkFits.{step_running, step_runs, works_fit}
 use Rattle.race_core.proofs.ClientCounts.{LastIs}
 use Rattle.race_core.proofs.EndReasons.{Reason, ShutOn, kind_reason}
 use Rattle.race_core.proofs.CopiesInPlace.{copies_in_place}
@@ -110,9 +109,6 @@ shut_now s p e run x b told (Ends (Refused (refusals.Lost ordered))) z = elim (t
 shut_now s p e run x b told (Ends (TransferRefused failures.Closed)) z = (z.0.peer, copies_in_place s p run b.by.w (step_runs s p e x b) z.1 z.0.peer z.0.on, elim (told x b z.0) [ inl closed ↦ inl closed | inr y ↦ inr y.1 ])
 shut_now s p e run x b told phase z = tt
 
-same_job : (s : SetUp) (p : List Entry) (e : Entry) (x : Work) (b : Steps s p e x) → running_job x ≡ running_job b.by.w
-same_job s p e x b = ap running_job b.work_is ∙ kind_kept (rows_at p s.number) s.number b.by.w e e.kind
-
 -- **why a connection was closed stands**
 pub shut_stands : (s : SetUp) (past : List Entry) → OwnRun s past → ShutsTold s past → (w : Work) → Member w (works past s.number) → ShutStands s.number past (running_job w) w.phase
 shut_stands s past run told w m = invariant s (λ p x. ShutsTold s p → ShutStands s.number p (running_job x) x.phase) (λ p e is x n was told. shut_grows s.number e p (running_job x) x.phase (was told.1)) own past run w m told
@@ -128,7 +124,7 @@ shut_stands s past run told w m = invariant s (λ p x. ShutsTold s p → ShutSta
           | inl same ↦ subst (ShutStands s.number (e ∷ p) (running_job v)) (sym same) (shut_grows s.number e p (running_job v) v.phase (was v (step_runs s p e x b) told.1))
           | inr reason ↦ shut_now s p e run.1 x b told.0 y.phase reason
         ] in
-        subst (λ (j : RunningJob). ShutStands s.number (e ∷ p) j x.phase) (sym (same_job s p e x b)) (subst (λ (z : Work). ShutStands s.number (e ∷ p) (running_job v) z.phase) (sym b.work_is) new)
+        subst (λ (j : RunningJob). ShutStands s.number (e ∷ p) j x.phase) (sym (step_running s p e x b)) (subst (λ (z : Work). ShutStands s.number (e ∷ p) (running_job v) z.phase) (sym b.work_is) new)
 
 -- ---- a get's sources
 
@@ -255,5 +251,5 @@ sources_told reads_back s past h told w m = invariant s (λ p x. OwnPast s p →
     own p e run is was x (inr (inl b)) h told = sources_grow s.number e p (running_job x) x.what.key x.causes (was x b.ran (earlier s p e h) told.1)
     own p e run is was x (inr (inr b)) h told =
         let v = b.by.w in
-        subst (λ (j : RunningJob). SourcesTold s.number (e ∷ p) j x.causes) (sym (same_job s p e x b))
+        subst (λ (j : RunningJob). SourcesTold s.number (e ∷ p) j x.causes) (sym (step_running s p e x b))
         (causes_now reads_back s p e h is x b told.0 (was v (step_runs s p e x b) (earlier s p e h) told.1) (subst (Causes (rows_at p s.number) v e) (sym b.work_is) (kind_carries (rows_at p s.number) s.number v e e.kind).2))

@@ -37,7 +37,7 @@ use Rattle.node_model.specs.Requests.{asks}
 use Rattle.node_model.specs.TransferStep.{takes_get, takes_put, content_of, gains, puts_from, puts_piece, takes_bytes}
 use Rattle.node_model.specs.Turns.{takes_answer, awaits, by_partner, goes_on, has_room, needs, with_partner, is_awaiting, goes, outcome_of, takes, takes_frame, takes_text}
 use Rattle.race_core.proofs.JobFacts.{frame_found}
-use Rattle.race_core.proofs.PhaseFacts.{only_puts}
+use Rattle.race_core.proofs.PhaseFacts.{only_offer, only_puts}
 use Rattle.race_core.proofs.TalkFacts.{Fits}
 use Rattle.race_core.proofs.ClientCounts.{IsLive, none_is}
 use Rattle.race_core.proofs.ClientTurns.{talker, talker_phase}
@@ -56,11 +56,6 @@ Converses at z up down = Dialogue.Dialogue at z up down
 transferred_alone : (target : Option ℕ) (x : Work) (outcome : Outcome) → partner target (after_transfer x outcome).phase ≡ None
 transferred_alone target x outcome =
     if_either (λ (y : Work). partner target y.phase ≡ None) (is_move x.what.kind) (record x { part = Drops; phase = Fresh; fills = false }) (record x { phase = Ends outcome; fills = false }) (λ e. refl) (λ e. refl)
-
-only_offer : (part : Part) (peer : ℕ) → Fits part (PutsOffer peer) → part ≡ Puts
-only_offer Puts peer f = refl
-only_offer Gets peer f = absurd f
-only_offer Drops peer f = absurd f
 
 gets_on : (target : Option ℕ) (p start size left : ℕ) → partner target (gets_more p start size left) ≡ Some p
 gets_on target p start size left = if_either (λ (x : Phase). partner target x ≡ Some p) (left == 0) (GetsWord p start size) (GetsBytes p start size left) (λ e. refl) (λ e. refl)

@@ -30,9 +30,8 @@ use Rattle.race_core.proofs.HeardTells.{taken_peer}
 use Rattle.race_core.proofs.KnownAgrees.{Agrees, heard_as, known_agrees, standing_same}
 use Rattle.race_core.proofs.Makers.{TakenBy, taken_of}
 use Rattle.race_core.proofs.ServerEnds.{end_of, takes_end}
-use Rattle.race_core.proofs.EndMoves.{may_epoch}
+use Rattle.race_core.proofs.EndMoves.{line_opens, may_epoch}
 use Rattle.race_core.proofs.OneClock.{one_clock}
-use Rattle.race_core.proofs.FoundOwn.{line_opens}
 use Rattle.race_core.proofs.HeardHolds.{Lists, gave_none}
 use Rattle.race_core.proofs.HeardInduction.{heard_holds}
 use Rattle.node_model.specs.SetUp.{SetUp}
@@ -121,7 +120,7 @@ removal_found s past words e own j key is = elim (own.does) [
     step : IsStep s past words e → ServerAnswers.MayRemove s past e j key
     step x = subst (λ (y : Entry). ServerAnswers.MayRemove s past y j key) (sym x.is) (may_remove s past x.look x.made x.makes j key (sym (ap (λ (y : Entry). y.kind) x.is) ∙ is))
 
-target_local : (r : ℕ) (side : Side) (peer : Option ℕ) → side ≡ Local → Jobs.or_own r side peer ≡ r
+pub target_local : (r : ℕ) (side : Side) (peer : Option ℕ) → side ≡ Local → Jobs.or_own r side peer ≡ r
 target_local r Local peer e = refl
 target_local r Remote peer e = absurd (cc)
 

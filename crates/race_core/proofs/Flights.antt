@@ -9,6 +9,8 @@ use Rattle.run_data.specs.declared.entry.FrameView.{FrameView}
 use Rattle.run_model.specs.Past.{Always, Occurs, is_of}
 use Rattle.run_model.specs.Frames.{Way, FlyingFrame, SendingEntry, flying_frame, on_way, sender_of, frames_sent, sending_entry, taken_count, way_of, sender}
 use Rattle.run_model.specs.Drops.{Vouch, vouch, vouches}
+use Rattle.std.specs.List.{list_any}
+use Rattle.std.proofs.lemmas.Bool.{or_left, or_right}
 
 -- ---- entries that stand in a past
 
@@ -26,6 +28,11 @@ pub occurs_earlier : (past : List Entry) (x y : Entry) (before older : List Entr
 occurs_earlier [] x y before older o p = absurd o
 occurs_earlier (e ∷ past) x y before older (inl o) p = inr (subst (λ (q : List Entry). Occurs q y older) o.1 p)
 occurs_earlier (e ∷ past) x y before older (inr o) p = inr (occurs_earlier past x y before older o p)
+
+pub occurs_any : (q : Entry → Bool) (past : List Entry) (x : Entry) (before : List Entry) → Occurs past x before → q x ≡ true → list_any q past ≡ true
+occurs_any q [] x before o h = absurd o
+occurs_any q (e ∷ past) x before (inl o) h = or_left (q e) (list_any q past) (subst (λ (y : Entry). q y ≡ true) o.0 h)
+occurs_any q (e ∷ past) x before (inr o) h = or_right (q e) (list_any q past) (occurs_any q past x before o h)
 
 pub occurs_vouch : (past : List Entry) (x : Entry) (before : List Entry) (r a j : ℕ) (v : Vouch) → Occurs past x before → Member v (vouch before x r a j) → Member v (vouches past r a j)
 occurs_vouch [] x before r a j v o m = absurd o

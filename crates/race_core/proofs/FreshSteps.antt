@@ -5,7 +5,7 @@ use Rattle.std.specs.Prelude.{if◌then◌else◌, ◌&&◌, ◌||◌, not}
 use Rattle.std.specs.List.{list_all, list_any}
 use Rattle.annex_base.specs.Lists.{Member}
 use Rattle.annex_base.specs.declared.kinds.Call.{Call}
-use Rattle.annex_base.proofs.Conditions.{if_either, or_first}
+use Rattle.annex_base.proofs.Conditions.{if_either}
 use Rattle.annex_base.specs.declared.kinds.Call.TheVariants as calls
 use Rattle.drop_proof.specs.declared.rule.Side.{Side}
 use Rattle.drop_proof.specs.declared.rule.Side.TheVariants.{Local, Remote}
@@ -53,6 +53,7 @@ use Rattle.race_core.proofs.ClientTurns.{made_entry, moved}
 use Rattle.race_core.proofs.ClientSteps.{attempts_even}
 use Rattle.race_core.proofs.GetsBegin.{no_release, owns_none, unasked_unheld, unstepped}
 use Rattle.race_core.proofs.BySteps.{earlier}
+use Rattle.race_core.proofs.NotDropping.{undropped_unread}
 
 -- a job that is to begin its part, at another phase afterwards
 abbrev pub at_start : Part → Turn → Turn
@@ -246,15 +247,9 @@ if_none a b true x e = absurd (cc)
 none_of : {X : Type 0} (a b : Option X) → a ≡ None → b ≡ None → first_of a b ≡ None
 none_of a b p q = rw (p, q) refl
 
-not_in : (past : List Entry) (r j : ℕ) → in_drop past r j ≡ false → before_step past r j ≡ None
-not_in [] r j none = refl
-not_in (e ∷ past) r j none =
-    let before : in_drop past r j ≡ false = or_first (in_drop past r j) _ none in
-    none_of (before_step past r j) (if is_of r e && (is_step j e.kind && in_drop past r j) then Some past else None) (not_in past r j before) (if_none (is_of r e) (is_step j e.kind) (in_drop past r j) past before)
-
 in_next : (past : List Entry) (e : Entry) (r j : ℕ) → in_drop past r j ≡ false → before_step (e ∷ past) r j ≡ None
 in_next past e r j none =
-    none_of (before_step past r j) (if is_of r e && (is_step j e.kind && in_drop past r j) then Some past else None) (not_in past r j none) (if_none (is_of r e) (is_step j e.kind) (in_drop past r j) past none)
+    none_of (before_step past r j) (if is_of r e && (is_step j e.kind && in_drop past r j) then Some past else None) (undropped_unread past r j none) (if_none (is_of r e) (is_step j e.kind) (in_drop past r j) past none)
 
 off_step : {X : Type 0} (a b c : Bool) (x : X) → b ≡ false → (if a && (b && c) then Some x else None) ≡ None
 off_step true false c x e = refl

@@ -216,7 +216,7 @@ runs_in past r w m = subst (λ js. in_slot js w.number w.slot ≡ true) (jobs_ar
         or_true true h = refl
         or_true false h = h
 
-no_close : (a : EndName) (e : Entry) → e.taken ≡ None → e.sent ≡ [] → TookClose a e ⊎ SentClose a e → ⊥
+pub no_close : (a : EndName) (e : Entry) → e.taken ≡ None → e.sent ≡ [] → TookClose a e ⊎ SentClose a e → ⊥
 no_close a e none nothing (inl t) = let bad : None ≡ Some t.f = sym none ∙ t.took in cc
 no_close a e none nothing (inr t) = subst (Member t.g) nothing t.sent
 

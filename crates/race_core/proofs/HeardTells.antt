@@ -40,6 +40,7 @@ use Rattle.race_core.proofs.Speaks
 use Rattle.race_core.proofs.Makers.{stepped_takes, taken_of, taker, TakenBy}
 use Rattle.race_core.proofs.JobSteps.{Stepped, stepped_job, stepped_runs, turn_at}
 use Rattle.race_core.proofs.HeardSteps.{lock_heard, lock_success, look_heard, look_success, took_as}
+use Rattle.race_core.proofs.PhaseFacts.{only_look}
 
 -- ---- what an entry tells, by the frame that it takes
 
@@ -125,11 +126,6 @@ only_lock : (part : Part) (peer since : ℕ) → Fits part (AsksLock peer since)
 only_lock Gets peer since f = absurd f
 only_lock Puts peer since f = absurd f
 only_lock Drops peer since f = refl
-
-only_look : (part : Part) (peer : ℕ) → Fits part (AsksLook peer) → part ≡ Drops
-only_look Gets peer f = absurd f
-only_look Puts peer f = absurd f
-only_look Drops peer f = refl
 
 module _ (reads_back : SentAreRead) (s : SetUp) (past : List Entry) (e : Entry) (x : Stepped s past e) (fit : Fits x.w.part x.w.phase) where
   abbrev t : Turn

@@ -27,12 +27,11 @@ use Rattle.node_model.specs.Look.{failing}
 use Rattle.node_model.specs.Sessions.{Doing, Gives, Session, reaches}
 use Rattle.node_model.specs.SessionStep.{Here, Reply, by_of, close_kind, content_of, gives_next, here, on_frame, on_piece, reply, shuts}
 use Rattle.race_core.proofs.AnswersRead.{all_read}
-use Rattle.race_core.proofs.AnswersTurn.{bytes_end, closing_ends}
 use Rattle.race_core.proofs.Cases.{unless_found}
 use Rattle.race_core.proofs.Counting.{bytes_counts}
 use Rattle.race_core.proofs.Giving.{GetTaken, gets_stand}
 use Rattle.race_core.proofs.InTurn.{AllRead, in_turn}
-use Rattle.race_core.proofs.SaidDown.{Alike, alike, said_line-is, said_opening}
+use Rattle.race_core.proofs.SaidDown.{Alike, alike, bytes_end, closing_ends, said_line-is, said_opening}
 use Rattle.race_core.proofs.ServerEnds.{GivesHere, ServerDoes, TakesHere, server_does}
 use Rattle.race_core.proofs.SessionAnswers.{AnswerFits, Answering, counts_answer, line_answer}
 use Rattle.race_core.proofs.SessionOwn.{down_closes, member_frames, taken_up, way_at}

@@ -28,10 +28,11 @@ use Rattle.race_core.specs.Merged.{AreFirstLetters, IsMerge, IsHistoryStep, Lett
 use Rattle.race_core.proofs.OwnState.{state_own}
 use Rattle.race_core.proofs.OwnParts.{part_whole}
 use Rattle.race_core.proofs.Flights.{always_before, get_append, map_member, occurs_always}
-use Rattle.race_core.proofs.Told.{taker_way, some_option}
+use Rattle.race_core.proofs.Told.{taker_way}
 use Rattle.race_core.proofs.OwnPasts.{mine_occurs}
 use Rattle.race_core.proofs.MergedLists.{IsNews, is_merge, never_earlier, earlier_trans}
 use Rattle.race_core.proofs.MergedOrder.{IsNew, each_by_own, follow_new, follow_rises, new_ordered, occurs_before, reverse_cons, rising_falls}
+use Rattle.race_core.proofs.Plain.{option_same}
 
 -- ---- lists and pasts
 
@@ -158,7 +159,7 @@ words_are got s j c (e ∷ p) h = go (words_are got s j c p h.1) (is_of r e) ref
         (ap (λ ws. if option_is (job_of e.kind) j && awaits_of c (find (λ w. w.number == j) ws) then word_taken p r c e.taken (word_told p r j c) else word_told p r j c) works_same
         ∙ ap (λ was. if option_is (job_of e.kind) j && awaits_of c (find (λ w. w.number == j) (works (mine r p) r)) then word_taken p r c e.taken was else was) ih
         ∙ ap (λ x. if option_is (job_of e.kind) j && awaits_of c (find (λ w. w.number == j) (works (mine r p) r)) then x else word_got got (mine r p) r j c)
-        (read (word_got got (mine r p) r j c) e.taken (some_option e.repo r is) refl)))
+        (read (word_got got (mine r p) r j c) e.taken (option_same e.repo r is) refl)))
     go ih false is = rw is ih
 
 -- ---- what was added

@@ -12,7 +12,7 @@ use Rattle.run_data.specs.declared.job.Job.{Job}
 use Rattle.run_data.specs.declared.job.JobKind.{JobKind}
 use Rattle.run_data.specs.declared.job.JobKind.TheVariants as kinds
 use Rattle.run_data.specs.declared.job.Outcome.{Outcome}
-use Rattle.node_model.specs.Slots.{RunningJob, is_begin}
+use Rattle.node_model.specs.Slots.{is_begin}
 use Rattle.run_model.specs.Past.{begun_count, is_of}
 use Rattle.run_model.specs.Logs.{before_step, in_drop, is_drop, is_step, starts_drop}
 use Rattle.node_model.specs.SetUp.{SetUp}
@@ -22,11 +22,10 @@ use Rattle.run_model.specs.States.{rows_at, works}
 use Rattle.node_model.specs.AnyTime.{IsPeer}
 use Rattle.run_model.specs.Run.{OwnRun}
 use Rattle.race_core.proofs.JobNumbers.{begins_next}
-use Rattle.race_core.proofs.JobKept.{kind_kept}
 use Rattle.race_core.proofs.JobSteps.{Origin, Steps, invariant, stepped_found, turn_at}
 use Rattle.race_core.proofs.WorkNumbers.{number_begun}
 use Rattle.race_core.proofs.PhaseFacts.{GoodTo}
-use Rattle.race_core.proofs.WorkFits.{step_number, step_runs, steps_good, works_fit}
+use Rattle.race_core.proofs.WorkFits.{step_number, step_runs, step_what, steps_good, works_fit}
 use Rattle.race_core.proofs.Untouched.{begins_later, begun_before, not_yet}
 use Rattle.race_core.proofs.Aims.{aims, kind_turns}
 use Rattle.race_core.proofs.ClientTurns.{made_entry, moved}
@@ -63,7 +62,7 @@ begin_apart s past e run is j later job what kind same =
     absurd (omega arith)
 
 -- a job that hasn't begun isn't in its drop
-future_undropped : (s : SetUp) (past : List Entry) → OwnRun s past → (j : ℕ) → begun_count past s.number < j → in_drop past s.number j ≡ false
+pub future_undropped : (s : SetUp) (past : List Entry) → OwnRun s past → (j : ℕ) → begun_count past s.number < j → in_drop past s.number j ≡ false
 future_undropped s [] run j later = refl
 future_undropped s (e ∷ past) run j later =
     let before = begun_before past e s.number j later in
@@ -143,9 +142,6 @@ stuck_stays s past e x b apart stuck = elim (stuck_ends (turn_at s past e b.by) 
     same : (w : Work) (time : ℕ) (phase : Phase) → (after_failed_release w time phase).part ≡ w.part
     same w time Jobs.AsksTime = refl
     same w time phase = refl
-
-step_what : (s : SetUp) (past : List Entry) (e : Entry) (x : Work) (b : Steps s past e x) → x.what ≡ b.by.w.what
-step_what s past e x b = ap (λ (j : RunningJob). j.what) (ap running_job b.work_is ∙ kind_kept (rows_at past s.number) s.number b.by.w e e.kind)
 
 -- **a move at its transfer that its entries tell is done is to end**
 pub transfers_stuck : (s : SetUp) (past : List Entry) → OwnRun s past → (w : Work) → Member w (works past s.number) → Transfers s past w

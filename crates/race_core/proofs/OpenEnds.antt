@@ -32,10 +32,10 @@ use Rattle.node_model.specs.Found.{IsJobEntry, JobTakes}
 use Rattle.run_model.specs.Run.{IsStep, OwnPart, OwnRun}
 use Rattle.race_core.proofs.StepFacts.{kind_found}
 use Rattle.race_core.proofs.ServerEnds.{BySessionAt, GivesHere, TakesHere, each_flat, end_of, same_end, same_end-is, sent_same, takes_end, takes_other}
-use Rattle.race_core.proofs.EndMoves.{NoOpening, OpensNone, all_opened, end_own, frame_none, frames_none, gave_one, own_induction, pieces_none, sends_all}
+use Rattle.race_core.proofs.EndMoves.{NoOpening, OpensNone, all_opened, closed_stays, end_own, frame_none, frames_none, gave_one, own_induction, pieces_none, sends_all}
 use Rattle.race_core.proofs.EndEpochs.{IsClose, SpeaksAlone, client_sends, from_end}
 use Rattle.race_core.proofs.JobEnds.{SentWell}
-use Rattle.race_core.proofs.Farewells.{farewells_close, fold_append, stays}
+use Rattle.race_core.proofs.Farewells.{farewells_close, fold_append}
 use Rattle.race_core.proofs.JobKept.{jobs_are}
 use Rattle.race_core.proofs.JobNumbers.{jobs_numbered, same_job}
 use Rattle.race_core.proofs.WorkNumbers.{free_is, running_member}
@@ -251,7 +251,7 @@ module _ (s : SetUp) (past : List Entry) (a : EndName) where
       split = ap (sends_all d) (filter-append (sends_at a) (close_at s (state_of s past) x) (flat_map (close_at s (state_of s past)) xs)) ∙ fold_append d (sent_at a (close_at s (state_of s past) x)) (sent_at a (flat_map (close_at s (state_of s past)) xs))
 
       go : ((f : End) → Member a xs → (sends_all f (sent_at a (flat_map (close_at s (state_of s past)) xs))).opened ≡ false) → (a ≡ x) ⊎ Member a xs → (sends_all (sends_all d (sent_at a (close_at s (state_of s past) x))) (sent_at a (flat_map (close_at s (state_of s past)) xs))).opened ≡ false
-      go more (inl i) = stays (sends_all d (sent_at a (close_at s (state_of s past) x))) (sent_at a (flat_map (close_at s (state_of s past)) xs)) (closes_none xs) (ap (λ z. (sends_all d (sent_at a (close_at s (state_of s past) z))).opened) (sym i) ∙ closes_it o d)
+      go more (inl i) = closed_stays (sends_all d (sent_at a (close_at s (state_of s past) x))) (sent_at a (flat_map (close_at s (state_of s past)) xs)) (closes_none xs) (ap (λ z. (sends_all d (sent_at a (close_at s (state_of s past) z))).opened) (sym i) ∙ closes_it o d)
       go more (inr n) = more (sends_all d (sent_at a (close_at s (state_of s past) x))) n
 
 pub crash_shuts : (s : SetUp) (past : List Entry) (words : ℕ → Option Word) (e : Entry) → OwnPart s past words e → is_of s.number e ≡ true → (clock : ℕ) → e.kind ≡ Crash clock → (a : EndName) → Member a (all_ends s) → (end_at past s.number a).opened ≡ true

@@ -6,7 +6,7 @@ use Rattle.std.proofs.lemmas.Bool.Decides.{nat_tests}
 use Rattle.std.proofs.lemmas.Option.{same_Some}
 use Rattle.annex_base.specs.Lists.{Each, Member}
 use Rattle.annex_base.specs.declared.kinds.Word.{Word}
-use Rattle.annex_base.proofs.Lists.{Each-filter, Each-member, Member-filter_from, filter_none, Member-append_cases}
+use Rattle.annex_base.proofs.Lists.{Each-filter, Each-member, Member-filter_from, filter_none, Member-append_cases, Member-filter_parts}
 use Rattle.race_core.proofs.Below.{SentAreRead}
 use Rattle.run_data.specs.declared.entry.By.TheVariants.{Peer, Script}
 use Rattle.run_data.specs.declared.entry.Entry.{Entry}
@@ -14,7 +14,7 @@ use Rattle.run_data.specs.declared.entry.EntryKind.{EntryKind}
 use Rattle.run_data.specs.declared.entry.EntryKind.TheVariants.{Share, Release, Begin, Gain, Log, Compact, Close, Crash, Fault}
 use Rattle.run_data.specs.declared.entry.FrameView.{FrameView}
 use Rattle.run_data.specs.declared.entry.FrameText.{FrameText}
-use Rattle.run_data.specs.declared.entry.FrameText.TheVariants.{Opening, Closing, Bytes, Line}
+use Rattle.run_data.specs.declared.entry.FrameText.TheVariants.{Closing, Line}
 use Rattle.run_model.specs.Past.{clock}
 use Rattle.p2p_wire.specs.declared.message.Message.{Message}
 use Rattle.p2p_wire.specs.declared.message.Message.TheVariants.{CheckPresent, LockContent, UnlockContent, Timestamp, Success}
@@ -39,7 +39,7 @@ use Rattle.run_data.specs.declared.run.RepoView.{RepoView}
 use Rattle.node_model.specs.Found.{GivesAt, StepFound, TakesAt}
 use Rattle.race_core.proofs.StepFacts.{SessionMade, release_found, step_found}
 use Rattle.race_core.proofs.ServerEnds.{BySessionAt, GivesHere, ServerDoes, Shuts, TakesHere, come_closes, job_sends, end_of, server_does, takes_end}
-use Rattle.race_core.proofs.EndMoves.{gave_one, may_epoch, takes_epoch}
+use Rattle.race_core.proofs.EndMoves.{gave_one, line_opens, may_epoch, takes_epoch}
 use Rattle.race_core.proofs.Guarding.{guards_stand}
 use Rattle.race_core.proofs.WayCounts.{way_in, way_out}
 use Rattle.race_core.proofs.SaidDown.{odd_answer, said_closing, said_is}
@@ -77,12 +77,6 @@ taken_up p q f t =
 
 -- ---- S1: release
 
-line_no : (body : FrameText) (m : Message) → line_in body ≡ Some m → is_opening body ≡ false
-line_no Opening m e = absurd (cc)
-line_no Closing m e = refl
-line_no (Bytes n) m e = refl
-line_no (Line text) m e = refl
-
 released : (s : SetUp) (past : List Entry) (k : Look) (m : Made) (hold : ℕ) (key : List ℕ) → OwnRun s past → SessionMade s (state_of s past) k m (Release hold key) → MayRelease s.number past (entry_of s.number k m) hold key
 released s past k m hold key run x = go x.by.frame
   where
@@ -99,7 +93,7 @@ released s past k m hold key run x = go x.by.frame
         let line : line_in y.f.body ≡ Some (UnlockContent key) = sym y.asked_is ∙ x.found.asks in
         let up = taken_up x.by.peer x.by.slot y.f y.of_end in
         let epoch : y.f.epoch ≡ (end_at past s.number (server_end x.by.peer x.by.slot)).epoch =
-        (may_epoch (end_at past s.number (server_end x.by.peer x.by.slot)) y.f (line_no y.f.body (UnlockContent key) line) y.may).1 in
+        (may_epoch (end_at past s.number (server_end x.by.peer x.by.slot)) y.f (line_opens y.f.body (UnlockContent key) line) y.may).1 in
         record {
           f = y.f;
           takes_it = y.taken_is;
@@ -263,14 +257,6 @@ of_flat f (x ∷ xs) y m = elim (Member-append_cases (f x) (flat_map f xs) y m) 
   | inr i ↦ (let z = of_flat f xs y i in (z.0, inr z.1, z.2))
 ]
 
-of_filter : {X : Type 0} (t : X → Bool) (xs : List X) (y : X) → Member y (filter t xs) → t y ≡ true
-of_filter t [] y m = absurd m
-of_filter {X = X} t (x ∷ xs) y m = go (λ n. of_filter t xs y n) (t x) refl m
-  where
-    go : (Member y (filter t xs) → t y ≡ true) → (b : Bool) → t x ≡ b → Member y (filter t (x ∷ xs)) → t y ≡ true
-    go rest true i n = elim (rw i at n) [ inl j ↦ ap t j ∙ i | inr j ↦ rest j ]
-    go rest false i n = rest (rw i at n)
-
 of_slots : (peer : ℕ) (xs : List ℕ) (p q : ℕ) → Member {X = ℕ × ℕ} (p, q) (map (λ slot. (peer, slot)) xs) → p ≡ peer
 of_slots peer [] p q m = absurd m
 of_slots peer (x ∷ xs) p q (inl i) = ap (λ (c : ℕ × ℕ). c.0) i
@@ -281,7 +267,7 @@ pub served_other : (s : SetUp) (p q : ℕ) → Member (p, q) (served_connections
 served_other s p q m same =
     let w = of_flat (λ peer. map (λ slot. (peer, slot)) slots) (others s) (p, q) m in
     let peer : p ≡ w.0 = of_slots w.0 slots p q w.2 in
-    let kept : not (w.0 == s.number) ≡ true = of_filter (λ x. not (x == s.number)) (range_with_len 0 (length s.repos)) w.0 w.1 in
+    let kept : not (w.0 == s.number) ≡ true = (Member-filter_parts (λ x. not (x == s.number)) (range_with_len 0 (length s.repos)) w.0 w.1).1 in
     let at : w.0 ≡ s.number = sym peer ∙ same in
     let yes' : (w.0 == s.number) ≡ true = eqb_eq w.0 s.number at in
     absurd (let no' : not true ≡ true = rw yes' at kept in cc)
@@ -483,7 +469,7 @@ pub ends_other : (s : SetUp) (a : EndName) → Member a (all_ends s) → a.peer 
 ends_other s a m same =
     let w = of_flat (λ peer. ends_with peer true ++ ends_with peer false) (others s) a m in
     let peer : a.peer ≡ w.0 = elim (Member-append_cases (ends_with w.0 true) (ends_with w.0 false) a w.2) [ inl i ↦ of_ends w.0 true slots a i | inr i ↦ of_ends w.0 false slots a i ] in
-    let kept : not (w.0 == s.number) ≡ true = of_filter (λ x. not (x == s.number)) (range_with_len 0 (length s.repos)) w.0 w.1 in
+    let kept : not (w.0 == s.number) ≡ true = (Member-filter_parts (λ x. not (x == s.number)) (range_with_len 0 (length s.repos)) w.0 w.1).1 in
     let at : w.0 ≡ s.number = sym peer ∙ same in
     let yes' : (w.0 == s.number) ≡ true = eqb_eq w.0 s.number at in
     absurd (let no' : not true ≡ true = rw yes' at kept in cc)

@@ -46,7 +46,7 @@ use Rattle.race_core.proofs.Speaks
 use Rattle.race_core.proofs.Refusals.{stepped_own}
 use Rattle.race_core.proofs.ClosedCauses.{closed_grows}
 use Rattle.race_core.proofs.ClientTurns.{closed_alone, made_entry, moved, rows_of, talker, talker_slot}
-use Rattle.race_core.proofs.HeardCauses.{SentClose, TookClose, client_sent, client_taken, runs_in, shut_by}
+use Rattle.race_core.proofs.HeardCauses.{SentClose, TookClose, client_sent, client_taken, no_close, runs_in, shut_by}
 use Rattle.race_core.proofs.SessionOwn.{in_says, member_frames, speaks}
 use Rattle.race_core.proofs.FromStep.{Part, own_past, part_of}
 use Rattle.race_core.proofs.ConversationClient
@@ -60,10 +60,6 @@ pub took_closes : (past : List Entry) (e : Entry) (r j p slot : ℕ) → is_job 
 took_closes past e r j p slot its t =
     let at = client_taken p slot t.f t.of_end in
     inl (record { entry = e; before = past; occurs = inl (refl, refl); own = its; f = t.f; takes_it = t.took; peer_is = at.0; down = at.2; says = ap message_in t.body_is ∙ said_closing })
-
-no_close : (a : EndName) (e : Entry) → e.taken ≡ None → e.sent ≡ [] → TookClose a e ⊎ SentClose a e → ⊥
-no_close a e none nothing (inl t) = let bad : None ≡ Some t.f = sym none ∙ t.took in cc
-no_close a e none nothing (inr t) = subst (Member t.g) nothing t.sent
 
 -- an entry that comes at any point closes it as a Close of it
 come_closed : (s : SetUp) (past : List Entry) (e : Entry) → is_of s.number e ≡ true → (w : Work) → Member w (works past s.number) → (p : ℕ) → e.taken ≡ None

@@ -44,7 +44,7 @@ use Rattle.race_core.proofs.TalkFacts.{Fits}
 use Rattle.race_core.proofs.JobSteps.{Begins, Origin, Stays, Stepped, Steps, invariant, stepped_job, stepped_runs, turn_at}
 use Rattle.race_core.proofs.WorkNumbers.{same_number_same_work}
 use Rattle.race_core.proofs.WordsTold.{word_now, word_still}
-use Rattle.race_core.proofs.PhaseFacts.{is_fresh}
+use Rattle.race_core.proofs.PhaseFacts.{is_fresh, only_look}
 use Rattle.race_core.proofs.DropLeaves.{fresh_unread}
 use Rattle.race_core.proofs.EvidenceCauses.{CausesTold}
 use Rattle.race_core.proofs.WorkFits.{step_kind, step_runs, step_sent, works_fit}
@@ -80,6 +80,7 @@ use Rattle.race_core.proofs.AnswersFit.{answer_of, failure_fits}
 use Rattle.run_data.specs.declared.run.Run.{Run}
 use Rattle.run_data.specs.Repos.{IsSetUp}
 use Rattle.race_core.proofs.Aims.{aims, other_target}
+use Rattle.race_core.proofs.DropOwn.{target_local}
 
 -- ---- a cause that is told without a refused look
 
@@ -198,11 +199,6 @@ pub record RefusedLook (s : SetUp) (past : List Entry) (e : Entry) (j c : ℕ) :
   pub p : ℕ
   pub phase : by.w.phase ≡ AsksLook p
   pub peer : f.peer ≡ c
-
-only_look : (part : Part) (peer : ℕ) → Fits part (AsksLook peer) → part ≡ Drops
-only_look Jobs.Gets peer f = absurd f
-only_look Jobs.Puts peer f = absurd f
-only_look Drops peer f = refl
 
 phase_or : (phase : Phase) → ((p : ℕ) × (phase ≡ AsksLook p)) ⊎ (refuses_look phase ≡ false)
 phase_or (AsksLook p) = inl (p, refl)
@@ -675,10 +671,6 @@ candidate_apart : (side : Side) (n r target c : ℕ) → (side ≡ Local → tar
 candidate_apart Local n r target c own apart m = subst (λ t. (t == c) ≡ false) (sym (own refl)) (eqb_apart c r (kept_true (λ x. not (x == r)) (_) c m).0)
 candidate_apart Remote n r target c own apart (inl same) = subst (λ d. (target == d) ≡ false) (sym same) (ne_eqb target r (apart refl))
 candidate_apart Remote n r target c own apart (inr m) = eqb_apart c target (kept_true (λ x. not (x == target)) (_) c m).0
-
-target_local : (r : ℕ) (side : Side) (peer : Option ℕ) → side ≡ Local → Jobs.or_own r side peer ≡ r
-target_local r Local peer e = refl
-target_local r Remote peer e = absurd (cc)
 
 -- a drop that is to begin has read nothing
 drops_unread : (s : SetUp) → DropsUnread s
