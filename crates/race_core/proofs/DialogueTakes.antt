@@ -1,7 +1,7 @@
 -- Each step of a job keeps the dialogue on its connections, where what it takes suits its phase: the steps that take a frame, and all.
 use Rattle.std.proofs.Common.{◌≡◌, ℕ, ◌+◌, ◌-◌, ◌/◌, ◌^◌, ◌≤◌, Bool, true, false, List, [], ◌∷◌, ◌++◌, Option, Some, None, inl, inr, ◌⊎◌, refl, sym, ap, ◌∙◌, subst, arith}
 use Rattle.std.specs.Prelude.{if◌then◌else◌, ◌==◌, ◌&&◌, not, min, nat_lt, nat_le, bytes_eq, codes}
-use Rattle.std.specs.List.{list_all, list_any}
+use Rattle.std.specs.List.{list_all}
 use Rattle.std.proofs.lemmas.Bool.{true≢false, and_parts}
 use Rattle.std.proofs.lemmas.Bool.Decides.{nat_tests}
 use Rattle.std.proofs.lemmas.Option.{same_Some}
@@ -29,7 +29,6 @@ use Rattle.node_model.specs.Jobs
 use Rattle.node_model.specs.Jobs.{Part, Gets, Puts, Drops, Phase, Fresh, Next, Opens, Greets, GetsData, GetsBytes, GetsWord, PutsOffer, PutsBytes, PutsWord, PutsAnswer, AsksLock, AsksLook, AsksTime, Removed, Denied, Late, Ends, Heard, Held, Work, gets_more, puts_more, is_move, job_end, listens, partner, side_of, after_frame, after_transfer, after_failed_release}
 use Rattle.node_model.specs.Calls.{to_commit, to_release}
 use Rattle.node_model.specs.Look.{Made, waiting}
-use Rattle.annex_base.specs.Calls.{same_call}
 use Rattle.node_model.specs.SessionStep.{bytes_left}
 use Rattle.node_model.specs.JobStep.{Turn, hears, attempts, by_me, clock_of, end_with, ends, farewells, key_of, owns_share, quietly, says_to, sends_to, talk, wrong, is_held}
 use Rattle.node_model.specs.DropStep.{takes_drop, takes_time, first_end, orders, target, times}
@@ -42,20 +41,16 @@ use Rattle.race_core.proofs.TalkFacts.{Fits}
 use Rattle.race_core.proofs.ClientCounts.{IsLive, none_is}
 use Rattle.race_core.proofs.ClientTurns.{talker, talker_phase}
 use Rattle.race_core.proofs.ClientLeaves.{Taking}
-use Rattle.race_core.proofs.ClientSteps.{attempts_even, release_is}
+use Rattle.race_core.proofs.ClientSteps.{attempts_even, commit_plain, failure_reads, is_plain, plain_in, release_is, took_listens, transferred_alone, valid_reads}
 use Rattle.race_core.proofs.Dialogue
 use Rattle.race_core.proofs.Dialogue.{Stance, Suits, SuitsBytes, SuitsLine, SuitsMessage, kept, phase_stance, rests, stance}
 use Rattle.race_core.proofs.DialogueSteps.{asked_reply, away_asks, bytes_gives, data_gives, heard_away, lock_locked, offer_starts, opened_greets, piece_sends, rests_away, valid_sends, was_answered, word_acks}
 use Rattle.race_core.proofs.DialogueTurns.{KeepsTo, rests_at, stands_on}
 use Rattle.race_core.proofs.DialogueLeaves.{closes_keeps, hears_keeps, hears_to_keeps, lost_keeps, says_keeps, says_to_keeps, sends_keeps, short_keeps, shut_keeps}
-use Rattle.race_core.proofs.DialogueWalk.{Asks, GoodMade, IsVersion, Walks, failure_reads, fault_on, first_asks, first_step_good, dead_good, ends_good, is_plain, next_step_good, order_good, plain_in, took_listens, valid_reads}
+use Rattle.race_core.proofs.DialogueWalk.{Asks, GoodMade, IsVersion, Walks, fault_on, first_asks, first_step_good, dead_good, ends_good, next_step_good, order_good}
 
 abbrev Converses : Stance → Session → List FrameText → List FrameText → Type 0
 Converses at z up down = Dialogue.Dialogue at z up down
-
-transferred_alone : (target : Option ℕ) (x : Work) (outcome : Outcome) → partner target (after_transfer x outcome).phase ≡ None
-transferred_alone target x outcome =
-    if_either (λ (y : Work). partner target y.phase ≡ None) (is_move x.what.kind) (record x { part = Drops; phase = Fresh; fills = false }) (record x { phase = Ends outcome; fills = false }) (λ e. refl) (λ e. refl)
 
 gets_on : (target : Option ℕ) (p start size left : ℕ) → partner target (gets_more p start size left) ≡ Some p
 gets_on target p start size left = if_either (λ (x : Phase). partner target x ≡ Some p) (left == 0) (GetsWord p start size) (GetsBytes p start size left) (λ e. refl) (λ e. refl)
@@ -277,10 +272,6 @@ module _ (t : Turn) (f : FrameView) (peer : ℕ) (x : Taking t f peer) (walks : 
     inl (refl, tt),
   )
   gains_good p start size is told false = refused_good p start size is (inl told)
-
-  commit_plain : (right : Bool) (call : Call) → list_any (same_call call) (to_commit right) ≡ true → is_plain call ≡ true
-  commit_plain true call e = plain_in call (to_commit true) refl refl e
-  commit_plain false call e = plain_in call (to_commit false) refl refl e
 
   -- bytes are to come
   more_gets : (p start size left : ℕ) → Some p ≡ Some peer → (k : Bool) (z : Session) (up down : List FrameText) → Converses (phase_stance (gets_more p start size left)) z up down → Converses (stance t.w.what.peer (gets_more p start size left) k peer) z up down

@@ -9,7 +9,6 @@ use Rattle.p2p_wire.specs.declared.message.Message.{Message}
 use Rattle.p2p_wire.specs.declared.message.Message.TheVariants.{Success}
 use Rattle.node_model.specs.Sessions.{line_in}
 use Rattle.node_model.specs.Ends.{EndName, End, end_after, end_takes, end_took}
-use Rattle.node_model.specs.Jobs
 use Rattle.node_model.specs.Jobs.{Drops, Part, Phase, AsksLock, AsksLook, Held, Seen, Heard, Work, closed_part, job_end, listens, partner, talks_on, after_frame}
 use Rattle.node_model.specs.Look.{Made, waiting}
 use Rattle.node_model.specs.JobStep.{Turn, end_with, hears, me, quietly, talk}
@@ -19,6 +18,7 @@ use Rattle.race_core.proofs.ClientTurns.{made_entry, moved, rows_of, talker, tal
 use Rattle.race_core.proofs.ClientLeaves.{Taking}
 use Rattle.race_core.proofs.HeardLists.{talker_heard}
 use Rattle.std.proofs.lemmas.Option.{same_Some}
+use Rattle.race_core.proofs.ClientSteps.{took_listens}
 
 -- ---- the step that takes a frame
 
@@ -73,19 +73,13 @@ line_open c epoch Opening m e = absurd (cc)
 line_open c epoch Closing m e = absurd (cc)
 line_open c epoch (Bytes n) m e = refl
 
-took_work : (x : Work) (body : FrameText) (m : Message) (phase : Phase) → line_in body ≡ Some m → x.phase ≡ phase → after_frame x body ≡ listens x phase m
-took_work x (Line text) m phase told is = ap (λ (o : Option Message). Jobs.after_line x o) told ∙ ap (λ (p : Phase). listens x p m) is
-took_work x Opening m phase told is = absurd (cc)
-took_work x Closing m phase told is = absurd (cc)
-took_work x (Bytes n) m phase told is = absurd (cc)
-
 -- a message that is heard moves the job as its phase says
 pub moved_listens : (t : Turn) (f : FrameView) (peer : ℕ) → Taking t f peer → (m : Message) (phase : Phase) → t.w.phase ≡ phase → line_in f.body ≡ Some m
     → moved t (hears t f) (talk t) ≡ listens (talker t (Some f)) phase m
 moved_listens t f peer x m phase is told =
     ap (λ (p : Option ℕ). talks_on (rows_of t) (me t) y (made_entry t (hears t f)) p) x.on
     ∙ (ap (λ (b : Bool). if b then after_frame y f.body else closed_part (me t) y peer y.part) opened
-    ∙ took_work y f.body m phase told (talker_phase t (Some f) ∙ is))
+    ∙ took_listens y f.body m phase told (talker_phase t (Some f) ∙ is))
   where
     y : Work
     y = talker t (Some f)
