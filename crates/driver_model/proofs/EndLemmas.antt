@@ -1,5 +1,5 @@
 -- The ends of connections: their names, and the frames that are taken and sent at them.
-use Rattle.std.proofs.Common.{◌≡◌, ◌≢◌, ℕ, Bool, true, false, List, [], ◌∷◌, Option, Some, None, refl, sym, ap, ◌∙◌, arith, true≢false}
+use Rattle.std.proofs.Common.{◌≡◌, ◌≢◌, ℕ, Bool, true, false, List, [], ◌∷◌, refl, sym, ap, ◌∙◌, arith, true≢false}
 use Rattle.std.specs.Prelude.{◌&&◌, ◌==◌, filter, fold, if◌then◌else◌, nat_lt, not}
 use Rattle.std.proofs.lemmas.Bool.{and_parts, eqb-true, false_from_ne_true}
 use Rattle.std.proofs.lemmas.Bool.Decides.{nat_tests}
@@ -102,7 +102,3 @@ is_out r a n g = and_regrouped (g.peer == a.peer) (g.slot == a.slot) (same_bool 
 pub on_out : (r : ℕ) (a : EndName) (n : ℕ) (e : Entry) → on_way (way_out r a n) e ≡ filter (λ g. g.epoch == n) (sent_at a e.sent)
 on_out r a n e = ap (λ p. filter (is_on (way_out r a n) p) e.sent) (out_taker-is r a n)
     ∙ filter_both (is_on (way_out r a n) a.peer) (λ g. g.epoch == n) (sends_at a) (is_out r a n) e.sent
-
--- an entry that takes none
-pub none_taken : {A : Type 0} (o : Option FrameView) (f : FrameView) → o ≡ None → o ≡ Some f → A
-none_taken o f n i = absurd (let no' : None ≡ Some f = sym n ∙ i in cc)
