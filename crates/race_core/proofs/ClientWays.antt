@@ -5,7 +5,7 @@ use Rattle.std.proofs.lemmas.Bool.Decides.{nat_tests}
 use Rattle.std.proofs.lemmas.Bool.{eqb-true}
 use Rattle.std.proofs.lemmas.List.Elements.{filter-append}
 use Rattle.annex_base.specs.Lists.{Each}
-use Rattle.annex_base.proofs.Conditions.{eqb_refl}
+use Rattle.annex_base.proofs.Conditions.{and_second, eqb_refl}
 use Rattle.run_data.specs.declared.entry.Entry.{Entry}
 use Rattle.run_data.specs.declared.entry.FrameView.{FrameView}
 use Rattle.run_data.specs.declared.entry.FrameText.{FrameText}
@@ -84,10 +84,6 @@ took_agree R T T' c q f may more x = go f.body refl
     epoch_is : (body : FrameText) → f.body ≡ body → (if is_opening body then not c.opened && nat_lt c.epoch f.epoch else c.opened && (f.epoch == c.epoch)) ≡ true
     epoch_is body is = subst (λ (b : FrameText). (if is_opening b then not c.opened && nat_lt c.epoch f.epoch else c.opened && (f.epoch == c.epoch)) ≡ true) is may
 
-    right : (a b : Bool) → (a && b) ≡ true → b ≡ true
-    right true b e = e
-    right false b e = absurd (cc)
-
     and_false : (b : Bool) → (b && false) ≡ false
     and_false true = refl
     and_false false = refl
@@ -97,7 +93,7 @@ took_agree R T T' c q f may more x = go f.body refl
 
     go : (body : FrameText) → f.body ≡ body → Agree R T' (end_takes c f.epoch body) (counts_takes q body)
     go Opening is =
-        let later : nat_lt c.epoch f.epoch ≡ true = right (not c.opened) (nat_lt c.epoch f.epoch) (epoch_is Opening is) in
+        let later : nat_lt c.epoch f.epoch ≡ true = and_second (not c.opened) (nat_lt c.epoch f.epoch) (epoch_is Opening is) in
         let l : c.epoch < f.epoch = grind (arith, nat_tests) in
         let e : (n : ℕ) → T' n ≡ T n = none Opening is refl in
         record {
@@ -114,7 +110,7 @@ took_agree R T T' c q f may more x = go f.body refl
     go (Line text) is = line (answers_it (message_of text)) refl
       where
         same : (f.epoch == c.epoch) ≡ true
-        same = right c.opened (f.epoch == c.epoch) (epoch_is (Line text) is)
+        same = and_second c.opened (f.epoch == c.epoch) (epoch_is (Line text) is)
 
         line : (b : Bool) → answers_it (message_of text) ≡ b → Agree R T' c (counts_answer q b)
         line false e = let s : (n : ℕ) → T' n ≡ T n = none (Line text) is e in

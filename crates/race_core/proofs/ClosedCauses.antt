@@ -1,7 +1,7 @@
 -- The causes of refusals that rest on a closed connection: a drop lost its target, a copy's connection was closed, a get's sources gave nothing.
 use Rattle.std.proofs.Common.{◌≡◌, ◌≢◌, ℕ, Bool, true, false, List, [], ◌∷◌, Option, Some, None, ◌⊎◌, inl, inr, refl, sym, ap, ◌∙◌, subst, arith}
 use Rattle.std.proofs.lemmas.Bool.Decides.{nat_tests}
-use Rattle.std.specs.Prelude.{if◌then◌else◌, ◌==◌, ◌||◌}
+use Rattle.std.specs.Prelude.{if◌then◌else◌, ◌==◌}
 use Rattle.std.specs.List.{list_any}
 use Rattle.annex_base.specs.Lists.{Each, Member}
 use Rattle.race_core.proofs.Below.{SentAreRead}
@@ -46,6 +46,7 @@ use Rattle.race_core.proofs.BySteps.{earlier}
 use Rattle.race_core.proofs.SaidDown.{said_is}
 use Rattle.race_core.proofs.PhaseFacts.{only_word}
 use Rattle.annex_base.proofs.Lists.{Each-push}
+use Rattle.std.proofs.lemmas.Bool.{or_left}
 
 -- ---- the premise: between nodes of a run no wrong message comes
 
@@ -220,12 +221,8 @@ module _ (reads_back : SentAreRead) (s : SetUp) (p : List Entry) (e : Entry) (h 
     where
       valid_now : (f : FrameView) → e.taken ≡ Some f → line_in f.body ≡ Some Valid → partner v.what.peer v.phase ≡ Some z.peer → SourceToldOf (e ∷ p) s.number v.number v.what.key z.peer sources.Wrong
       valid_now f took valid on =
-          let first : list_any (says is_failure) e.sent ≡ true = subst (λ fs. list_any (says is_failure) fs ≡ true) (sym z.says.sent_is) (yes_first (says is_failure z.says.f) (list_any (says is_failure) z.says.rest) (ap is_failure (said_is z.says.f.body Failure z.says.told))) in
+          let first : list_any (says is_failure) e.sent ≡ true = subst (λ fs. list_any (says is_failure) fs ≡ true) (sym z.says.sent_is) (or_left (says is_failure z.says.f) (list_any (says is_failure) z.says.rest) (ap is_failure (said_is z.says.f.body Failure z.says.told))) in
           (record { entry = e; before = p; occurs = inl (refl, refl); own = stepped_own s p e b.by is; f = f; takes_it = took; peer_is = took_peer reads_back s p e b.by is f took z.peer on; down = (hears s p e b.by f took).1; says = said_is f.body Valid valid }, first)
-        where
-          yes_first : (a c : Bool) → a ≡ true → (a || c) ≡ true
-          yes_first true c h = refl
-          yes_first false c h = absurd (cc)
 
       asked_now : (f : FrameView) → e.taken ≡ Some f → line_in f.body ≡ Some Invalid → partner v.what.peer v.phase ≡ Some z.peer → AnswersRequest (e ∷ p) s.number v.number z.peer (Says (Get z.start [] v.what.key)) (Says Invalid)
       asked_now f took invalid on =

@@ -38,6 +38,7 @@ use Rattle.race_core.proofs.ServerEnds.{BySessionAt, GivesHere, TakesHere, each_
 use Rattle.race_core.proofs.EndMoves.{NoOpening, all_epoch, end_own, frame_none, gave_one, may_epoch, own_induction, pieces_none, sends_all, takes_epoch}
 use Rattle.race_core.proofs.JobEnds.{JobSays, SentWell, job_speaks}
 use Rattle.node_model.specs.Look
+use Rattle.annex_base.proofs.Conditions.{eqb_refl}
 
 -- the end that sends a frame
 abbrev pub from_end : FrameView → EndName
@@ -150,9 +151,6 @@ speaks s past words e own = elim (own.does) [
 pub takes_self : (f : FrameView) → takes_at (end_of f) f ≡ true
 takes_self f = rw (eqb_refl f.peer, eqb_refl f.slot) (same (if f.up then false else true))
   where
-    eqb_refl : (n : ℕ) → (n == n) ≡ true
-    eqb_refl n = grind arith
-
     same : (b : Bool) → same_bool b b ≡ true
     same true = refl
     same false = refl

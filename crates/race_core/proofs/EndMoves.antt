@@ -1,8 +1,7 @@
 -- How an end of a server moves: only an Opening that it takes changes its epoch.
-use Rattle.std.proofs.Common.{◌≡◌, ℕ, Bool, true, false, List, [], ◌∷◌, Option, Some, None, inl, inr, refl, ap, ◌∙◌, arith, sym}
+use Rattle.std.proofs.Common.{◌≡◌, ℕ, Bool, true, false, List, [], ◌∷◌, Option, Some, None, inl, inr, refl, ap, ◌∙◌, sym}
 use Rattle.std.specs.Prelude.{if◌then◌else◌, ◌==◌, ◌&&◌, fold, nat_lt, not}
-use Rattle.std.proofs.lemmas.Bool.Decides.{nat_tests}
-use Rattle.std.proofs.lemmas.Bool.{and_parts, not-true}
+use Rattle.std.proofs.lemmas.Bool.{and_parts, eqb-true, not-true}
 use Rattle.annex_base.specs.Lists.{Each}
 use Rattle.annex_base.specs.declared.kinds.Word.{Word}
 use Rattle.run_data.specs.declared.entry.Entry.{Entry}
@@ -155,11 +154,8 @@ module _ (s : SetUp) (past : List Entry) (a : EndName) (e : Entry) where
 pub may_epoch : (c : End) (f : FrameView) → is_opening f.body ≡ false → may_take c f ≡ true → (c.opened ≡ true) × (f.epoch ≡ c.epoch)
 may_epoch c f n may = go f.body n may
   where
-    same_number : (x y : ℕ) → (x == y) ≡ true → x ≡ y
-    same_number x y e = grind (arith, nat_tests)
-
     go : (body : FrameText) → is_opening body ≡ false → (if is_opening body then not c.opened && nat_lt c.epoch f.epoch else c.opened && (f.epoch == c.epoch)) ≡ true → (c.opened ≡ true) × (f.epoch ≡ c.epoch)
-    go body n may = let two = and_parts c.opened (f.epoch == c.epoch) (rw n at may) in (two.0, same_number f.epoch c.epoch two.1)
+    go body n may = let two = and_parts c.opened (f.epoch == c.epoch) (rw n at may) in (two.0, eqb-true f.epoch c.epoch two.1)
 
 -- an Opening that may be taken comes to an end that isn't open
 pub opening_closed : (c : End) (f : FrameView) → is_opening f.body ≡ true → may_take c f ≡ true → c.opened ≡ false

@@ -1,7 +1,7 @@
 -- The first step of a job, and of its drop, leaves its place: so where it stands there, it has made none.
 use Rattle.node_model.specs.Clocks.{hold_time}
 use Rattle.std.proofs.Common.{◌≡◌, ◌≢◌, ℕ, ◌+◌, Bool, true, false, List, [], ◌∷◌, Option, Some, None, inl, inr, refl, sym, ap, ◌∙◌, subst}
-use Rattle.std.specs.Prelude.{if◌then◌else◌, ◌&&◌, ◌||◌, not}
+use Rattle.std.specs.Prelude.{if◌then◌else◌, ◌&&◌, not}
 use Rattle.std.specs.List.{list_all, list_any}
 use Rattle.annex_base.specs.Lists.{Member}
 use Rattle.annex_base.specs.declared.kinds.Call.{Call}
@@ -54,6 +54,7 @@ use Rattle.race_core.proofs.ClientSteps.{attempts_even}
 use Rattle.race_core.proofs.GetsBegin.{no_release, owns_none, unasked_unheld, unstepped}
 use Rattle.race_core.proofs.BySteps.{earlier}
 use Rattle.race_core.proofs.NotDropping.{undropped_unread}
+use Rattle.std.proofs.lemmas.Bool.{or_parts}
 
 -- a job that is to begin its part, at another phase afterwards
 abbrev pub at_start : Part → Turn → Turn
@@ -265,13 +266,9 @@ other_unread past e r j other none = rw (other, none) refl
 unstepped_unread : (past : List Entry) (r j : ℕ) → has_stepped past r j ≡ false → before_step past r j ≡ None
 unstepped_unread [] r j none = refl
 unstepped_unread (e ∷ past) r j none =
-    none_of (before_step past r j) (if is_of r e && (is_step j e.kind && in_drop past r j) then Some past else None) (unstepped_unread past r j (parts (is_of r e && is_step j e.kind) (has_stepped past r j) none).1)
-    (off_both (is_of r e) (is_step j e.kind) (in_drop past r j) (parts (is_of r e && is_step j e.kind) (has_stepped past r j) none).0)
+    none_of (before_step past r j) (if is_of r e && (is_step j e.kind && in_drop past r j) then Some past else None) (unstepped_unread past r j (or_parts (is_of r e && is_step j e.kind) (has_stepped past r j) none).1)
+    (off_both (is_of r e) (is_step j e.kind) (in_drop past r j) (or_parts (is_of r e && is_step j e.kind) (has_stepped past r j) none).0)
   where
-    parts : (a b : Bool) → (a || b) ≡ false → (a ≡ false) × (b ≡ false)
-    parts false b h = (refl, h)
-    parts true b h = absurd (cc)
-
     off_both : (a b c : Bool) → (a && b) ≡ false → (if a && (b && c) then Some past else None) ≡ None
     off_both true false c h = refl
     off_both false b c h = refl

@@ -33,6 +33,7 @@ use Rattle.race_core.proofs.OwnPasts.{mine_occurs}
 use Rattle.race_core.proofs.MergedLists.{IsNews, is_merge, never_earlier, earlier_trans}
 use Rattle.race_core.proofs.MergedOrder.{IsNew, each_by_own, follow_new, follow_rises, new_ordered, occurs_before, reverse_cons, rising_falls}
 use Rattle.race_core.proofs.Plain.{option_same}
+use Rattle.annex_base.proofs.Options.{some_none}
 
 -- ---- lists and pasts
 
@@ -242,11 +243,8 @@ module _ (run : Run) (news : List (List Entry)) (got : ℕ → Way → List Lett
       same h = cc
 
   waits_all : Always (λ p e. e.repo ≡ None → OnlyWaits e) past
-  waits_all = always_more _ (IsNew base (length run.repos)) (λ p e x is. absurd (never (sym x.is ∙ is))) (reverse all) base (Each-reverse _ all new_all)
+  waits_all = always_more _ (IsNew base (length run.repos)) (λ p e x is. absurd (some_none _ (sym x.is ∙ is))) (reverse all) base (Each-reverse _ all new_all)
       (always_of (set_up run) _ (λ p e x is. subst (λ (o : Option ℕ). MayBe (set_up run) p e o) is x.may) base old.steps)
-    where
-      never : {q : ℕ} → Some q ≡ None → ⊥
-      never h = cc
 
   known : (e : Entry) (before : List Entry) → Occurs past e before → (r : ℕ) → e.repo ≡ Some r → r < length run.repos
   known e before o = occurs_always _ past e before known_all o

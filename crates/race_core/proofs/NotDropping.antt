@@ -2,7 +2,7 @@
 -- that begins has read nothing before.
 use Rattle.std.proofs.Common.{◌≡◌, ◌≢◌, ℕ, ◌+◌, ◌<◌, ◌≤◌, Bool, true, false, List, [], ◌∷◌, Option, Some, None, ◌⊎◌, inl, inr, refl, sym, ap, ◌∙◌, subst, arith}
 use Rattle.std.specs.Prelude.{if◌then◌else◌, ◌&&◌, ◌||◌, ◌==◌}
-use Rattle.std.proofs.lemmas.Bool.{ne_eqb}
+use Rattle.std.proofs.lemmas.Bool.{and_right, ne_eqb}
 use Rattle.annex_base.specs.Lists.{Member}
 use Rattle.annex_base.proofs.Conditions.{or_first}
 use Rattle.run_data.specs.declared.entry.Entry.{Entry}
@@ -151,13 +151,9 @@ transfers_stuck s past run w m = invariant s (λ p x. Transfers s p x)
     own : (p : List Entry) (e : Entry) → OwnRun s (e ∷ p) → is_of s.number e ≡ true → ((x : Work) → Member x (works p s.number) → Transfers s p x) → (x : Work) → Origin s p e x → Transfers s (e ∷ p) x
     own p e r is was x (inl b) move apart drops =
         let kind : is_move b.what.kind ≡ true = subst (λ (y : Work). is_move y.what.kind ≡ true) b.work_is move in
-        let starts : starts_drop p s.number x.number e e.kind ≡ false = ap (starts_drop p s.number x.number e) b.kind_is ∙ off (b.job == x.number) (is_drop b.what.kind) (move_no_drop b.what.kind kind) in
+        let starts : starts_drop p s.number x.number e e.kind ≡ false = ap (starts_drop p s.number x.number e) b.kind_is ∙ and_right (b.job == x.number) (is_drop b.what.kind) (move_no_drop b.what.kind kind) in
         let none : in_drop (e ∷ p) s.number x.number ≡ false = not_started p s.number x.number e (λ own. starts) ∙ future_undropped s p r.1 x.number (begins_later s p e r is x b) in
         absurd (let both : true ≡ false = sym drops ∙ none in cc)
-      where
-        off : (a b : Bool) → b ≡ false → (a && b) ≡ false
-        off true b h = h
-        off false b h = refl
     own p e r is was x (inr (inl b)) move apart drops =
         let mine = r.0 is in
         let below : x.number ≤ begun_count p s.number = number_begun s p r.1 x b.ran in

@@ -44,6 +44,7 @@ use Rattle.race_core.proofs.Speaks.{hears, speaks}
 use Rattle.race_core.proofs.Makers.{who}
 use Rattle.race_core.proofs.JobOpens.{Called, stepped_calls}
 use Rattle.race_core.proofs.OwnTried.{called_other}
+use Rattle.annex_base.proofs.Conditions.{eqb_refl}
 
 -- ---- running jobs
 
@@ -285,10 +286,7 @@ module _ (reads_back : SentAreRead) (s : SetUp) (past : List Entry) (e : Entry) 
   stays_on x apart stands = record { peer = x.peer; job = x.job; runs = subst (Member x.job) (sym (jobs_own s.number past e is)) (runs_on (jobs past s.number) x.job e.kind x.runs apart stands); slot = x.slot }
 
   no_ends : OfNoJob e.kind → (job : ℕ) (outcome : Outcome) → e.kind ≡ ends_job job outcome → ⊥
-  no_ends none job outcome kind = true≢false (sym (self job) ∙ subst (λ k. is_step job k ≡ false) kind (none job))
-    where
-      self : (n : ℕ) → (n == n) ≡ true
-      self n = grind (arith, nat_tests)
+  no_ends none job outcome kind = true≢false (sym (eqb_refl job) ∙ subst (λ k. is_step job k ≡ false) kind (none job))
 
   still_runs : OfNoJob e.kind → Still a e → Runs s (e ∷ past) a
   still_runs none x =

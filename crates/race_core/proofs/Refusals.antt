@@ -1,10 +1,9 @@
 -- Where a job stands refused, the entries tell why: by an invariant of the running jobs.
-use Rattle.std.proofs.Common.{◌≡◌, ℕ, true, false, List, [], ◌∷◌, Option, Some, None, ◌⊎◌, inl, inr, refl, sym, ap, ◌∙◌, subst, arith}
-use Rattle.std.proofs.lemmas.Bool.Decides.{nat_tests}
+use Rattle.std.proofs.Common.{◌≡◌, ℕ, true, false, List, [], ◌∷◌, Option, Some, None, ◌⊎◌, inl, inr, refl, sym, ap, ◌∙◌, subst}
 use Rattle.std.specs.Prelude.{◌==◌, ◌&&◌, nat_lt, option_map, codes}
 use Rattle.std.proofs.lemmas.Bool.{eqb-true}
 use Rattle.annex_base.specs.declared.kinds.Call.TheVariants.{Unhold}
-use Rattle.annex_base.proofs.Conditions.{and_first}
+use Rattle.annex_base.proofs.Conditions.{and_first, eqb_refl}
 use Rattle.race_core.proofs.Below.{SentAreRead}
 use Rattle.drop_proof.specs.declared.rule.Side.{Side}
 use Rattle.drop_proof.specs.declared.rule.Side.TheVariants.{Local, Remote}
@@ -81,10 +80,7 @@ request_is (Some x) time m e =
     (x, refl, said_is x.frame.body m line)
 
 pub stepped_own : (s : SetUp) (past : List Entry) (e : Entry) (x : Stepped s past e) → is_of s.number e ≡ true → is_job s.number x.w.number e ≡ true
-stepped_own s past e x is = rw (is, stepped_job s past e x) (same_self x.w.number)
-  where
-    same_self : (n : ℕ) → (n == n) ≡ true
-    same_self n = grind (arith, nat_tests)
+stepped_own s past e x is = rw (is, stepped_job s past e x) (eqb_refl x.w.number)
 
 module _ (reads_back : SentAreRead) (s : SetUp) (past : List Entry) (e : Entry) (x : Stepped s past e) (is : is_of s.number e ≡ true) where
   -- the peer of the frame that it takes

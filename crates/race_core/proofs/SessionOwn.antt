@@ -47,6 +47,8 @@ use Rattle.race_core.proofs.InTurn.{AllRead, in_turn}
 use Rattle.race_core.proofs.TurnFits.{busy}
 use Rattle.race_core.proofs.SessionSays.{Agrees, FromServer, down_only, frame_agrees, frame_say, is_down, line_locks, line_looks, Short, frame_short, odd_message, odd_request, pieces_no, pieces_say, pieces_short, read_of}
 use Rattle.race_core.proofs.Own.{AtMostOne, InTurn, MayRelease, MaySend}
+use Rattle.std.proofs.lemmas.Bool.{eq-eqb}
+use Rattle.annex_base.proofs.Conditions.{eqb_refl}
 
 -- ---- ways of frames and of ends
 
@@ -382,9 +384,6 @@ module _ (s : SetUp) (e : Entry) (x : SessionSpeaks s e) where
 
 down_at : (g : FrameView) → g.up ≡ false → sends_at (server_end g.peer g.slot) g ≡ true
 down_at g u = rw (eqb_refl g.peer, eqb_refl g.slot, u) refl
-  where
-    eqb_refl : (n : ℕ) → (n == n) ≡ true
-    eqb_refl n = grind arith
 
 closing_says : (g : FrameView) (k : Message) → g.body ≡ Closing → message_in g.body ≡ Says k → ⊥
 closing_says g k i e = let no' : message_in Closing ≡ Says k = sym (ap message_in i) ∙ e in let no'' = sym said_closing ∙ no' in cc
@@ -471,11 +470,8 @@ ends_other s a m same =
     let peer : a.peer ≡ w.0 = elim (Member-append_cases (ends_with w.0 true) (ends_with w.0 false) a w.2) [ inl i ↦ of_ends w.0 true slots a i | inr i ↦ of_ends w.0 false slots a i ] in
     let kept : not (w.0 == s.number) ≡ true = (Member-filter_parts (λ x. not (x == s.number)) (range_with_len 0 (length s.repos)) w.0 w.1).1 in
     let at : w.0 ≡ s.number = sym peer ∙ same in
-    let yes' : (w.0 == s.number) ≡ true = eqb_eq w.0 s.number at in
+    let yes' : (w.0 == s.number) ≡ true = eq-eqb w.0 s.number at in
     absurd (let no' : not true ≡ true = rw yes' at kept in cc)
-  where
-    eqb_eq : (x y : ℕ) → x ≡ y → (x == y) ≡ true
-    eqb_eq x y e = grind (arith, nat_tests)
 
 close_to : (s : SetUp) (past : List Entry) (a : EndName) (g : FrameView) → Member g (close_at s (state_of s past) a) → g.peer ≡ a.peer
 close_to s past a g m = go (end_at past s.number a).opened m

@@ -2,7 +2,7 @@
 use Rattle.std.proofs.Common.{◌≡◌, ◌≢◌, ℕ, ◌<◌, Bool, true, false, List, [], ◌∷◌, Option, Some, None, ◌⊎◌, inl, inr, refl, sym, ap, ◌∙◌, subst}
 use Rattle.std.specs.Prelude.{if◌then◌else◌, ◌==◌, ◌&&◌, filter, length, not, option_map, slice_get}
 use Rattle.std.specs.List.{list_any}
-use Rattle.std.proofs.lemmas.Bool.{true≢false, and_parts, eqb-true, ne_eqb}
+use Rattle.std.proofs.lemmas.Bool.{true≢false, and_parts, eqb-true, ne_eqb, not-true}
 use Rattle.std.proofs.lemmas.Option.{same_Some}
 use Rattle.annex_base.specs.Lists.{Each, Member}
 use Rattle.annex_base.specs.declared.kinds.Found.TheVariants as found
@@ -221,7 +221,7 @@ module _ (reads_back : SentAreRead) (s : SetUp) (past : List Entry) (words : ℕ
           let asked = option_map said_of (last_request past (up_of (way_of r f))) in
           let whole : cause_with past e c r j from ≡ cause_said (message_in f.body) asked from = rw (other, its, open', took, at) refl in
           let two = and_parts (f.peer == c) (not f.up) at in
-          let down : f.up ≡ false = is_down f.up two.1 in
+          let down : f.up ≡ false = not-true f.up two.1 in
           let x = taker s past words e own f took down in
           elim (said_or (message_in f.body) asked from) [
             | inl y ↦ of_whole (cause_said (message_in f.body) asked from) whole y
@@ -239,10 +239,6 @@ module _ (reads_back : SentAreRead) (s : SetUp) (past : List Entry) (words : ℕ
               | inr n ↦ of_whole None (whole ∙ takes_failure reads_back s past h e f down (taken_of s past e x f took) failure from ∙ ap (λ q. cause_if q from) n) tt
             ]
           ]
-        where
-          is_down : (b : Bool) → not b ≡ true → b ≡ false
-          is_down false e = refl
-          is_down true e = absurd (cc)
 
       go : (b : Bool) → is_job r j e ≡ b → Lean (cause_with past e c r j from) ⊎ RefusedLook s past e j c
       go false its = of_whole None (rw (other, its) refl) tt
@@ -347,14 +343,10 @@ module _ (reads_back : SentAreRead) (s : SetUp) (past : List Entry) (words : ℕ
                   by_peer false at = rw (other, its, shuts_none, took, at) refl
                   by_peer true at =
                       let two = and_parts (f.peer == c) (not f.up) at in
-                      let x = taker s past words e own f took (is_down f.up two.1) in
+                      let x = taker s past words e own f took (not-true f.up two.1) in
                       let k = taken_of s past e x f took in
                       let peer : k.peer ≡ c = sym (taken_peer s past e f k) ∙ eqb-true f.peer c two.0 in
                       absurd (partner_not w m c o heard apart (subst (λ (y : Work). partner y.what.peer y.phase ≡ Some c) (numbered x) (k.on ∙ ap Some peer)))
-                    where
-                      is_down : (b : Bool) → not b ≡ true → b ≡ false
-                      is_down false e = refl
-                      is_down true e = absurd (cc)
 
   -- the word of such a repository stays
   word_passed : (w : Work) → Member w (works past r) → (c : ℕ) (o : Heard) → told_of w.heard c ≡ Some o → (target_in r (running_job w) == c) ≡ false → word_told (e ∷ past) r w.number c ≡ word_told past r w.number c
@@ -690,12 +682,9 @@ module _ (reads_back : SentAreRead) (run : Run) (repos : Each IsSetUp run.repos)
       let may = (part_of (set_up run) past e r step is).frames.takes f took in
       let a = answer_of reads_back run repos past e r f Failure h step is took down says refl may in
       let fit : table.AnswerFits a.asked may.it.entry.kind Failure = failure_fits a.asked may.it.entry.kind a.answering in
-      let same : Says a.asked ≡ Says (CheckPresent key) = sym a.asked_is ∙ said_inj (sym (ap (option_map said_of) a.last) ∙ last) in
+      let same : Says a.asked ≡ Says (CheckPresent key) = sym a.asked_is ∙ same_Some _ _ (sym (ap (option_map said_of) a.last) ∙ last) in
       (may.it, may.next, subst (λ m. table.AnswerFits m may.it.entry.kind Failure) (says_inj same) fit)
     where
-      said_inj : {m n : Said} → Some m ≡ Some n → m ≡ n
-      said_inj e = cc
-
       says_inj : {m n : Message} → Says m ≡ Says n → m ≡ n
       says_inj e = cc
 
