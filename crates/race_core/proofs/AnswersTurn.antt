@@ -32,7 +32,8 @@ use Rattle.race_core.proofs.TurnFits.{busy}
 use Rattle.race_core.proofs.AnswersRead.{all_read}
 use Rattle.race_core.proofs.SessionSays.{read_of}
 use Rattle.race_core.proofs.SessionAnswers.{Answering, LineAnswer, counts_answer, line_answer}
-use Rattle.race_core.proofs.SessionOwn.{down_closes, member_frames, taken_up, way_at}
+use Rattle.race_core.proofs.SessionOwn.{down_closes, member_frames, way_at}
+use Rattle.race_core.proofs.AnswerFacts.{end_takes_from}
 
 -- an answer but of an opening, or to GET
 abbrev pub is_plain : Message → Bool
@@ -168,7 +169,7 @@ module _ (s : SetUp) (past : List Entry) (e : Entry) (p q : ℕ) (run : OwnRun s
     f = x.f;
     takes_it = x.taken_is;
     back = out_is ∙ ap down_of (sym in_is);
-    from_client = (taken_up p q x.f x.of_end).2;
+    from_client = (end_takes_from p q x.f x.of_end).2;
     request = ap (λ b. is_request (message_in b)) line.1 ∙ told.completing.request;
     turn = ap (λ w. length (answers past w)) out_is ∙ turn_now ∙ ap (λ w. taken_if is_request past w) (sym in_is);
     asked = told.asked;

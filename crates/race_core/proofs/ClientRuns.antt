@@ -248,26 +248,21 @@ job_frames t m (Talk (Some j)) x = elim (x.1) [
 job_frames t m (Fault call by) x = subst (Each (λ (f : FrameView). f.slot ≡ t.w.slot)) (sym x.1) tt
 job_frames t m kind x = absurd x
 
+middle_off : (a b c : Bool) → b ≡ false → (a && b && c) ≡ false
+middle_off true true c e = absurd (cc)
+middle_off true false c e = refl
+middle_off false b c e = refl
+
 none_there : (p n slot : ℕ) (fs : List FrameView) → Each (λ f. f.slot ≡ slot) fs → (slot == n) ≡ false → sent_at (client_end p n) fs ≡ []
 none_there p n slot [] all apart = refl
-none_there p n slot (f ∷ fs) all apart = rw (off (f.peer == p) (f.slot == n) (same_bool f.up true) (subst (λ (k : ℕ). (k == n) ≡ false) (sym all.0) apart)) (none_there p n slot fs all.1 apart)
-  where
-    off : (a b c : Bool) → b ≡ false → (a && b && c) ≡ false
-    off true true c e = absurd (cc)
-    off true false c e = refl
-    off false b c e = refl
+none_there p n slot (f ∷ fs) all apart = rw (middle_off (f.peer == p) (f.slot == n) (same_bool f.up true) (subst (λ (k : ℕ). (k == n) ≡ false) (sym all.0) apart)) (none_there p n slot fs all.1 apart)
 
 other_takes : (w : Work) (peer : ℕ) (f : FrameView) (p n : ℕ) → takes_at (job_end w peer) f ≡ true → (w.slot == n) ≡ false → taken_at (client_end p n) (Some f) ≡ None
 other_takes w peer f p n e apart =
     let two : ((f.peer == peer) && (f.slot == w.slot)) ≡ true = and_first ((f.peer == peer) && (f.slot == w.slot)) (same_bool true (if f.up then false else true)) e in
     let is : f.slot ≡ w.slot = eqb-true f.slot w.slot (and_parts (f.peer == peer) (f.slot == w.slot) two).1 in
     let off : (f.slot == n) ≡ false = subst (λ (k : ℕ). (k == n) ≡ false) (sym is) apart in
-    rw (both_off (f.peer == p) (f.slot == n) (same_bool true (if f.up then false else true)) off) refl
-  where
-    both_off : (a b c : Bool) → b ≡ false → (a && b && c) ≡ false
-    both_off true true c e = absurd (cc)
-    both_off true false c e = refl
-    both_off false b c e = refl
+    rw (middle_off (f.peer == p) (f.slot == n) (same_bool true (if f.up then false else true)) off) refl
 
 pub job_idle : (s : SetUp) (st : State) (k : Look) (m : Made) (x : ByJob s st k m) (n : ℕ) → (x.w.slot == n) ≡ false → IdleAt n (entry_of s.number k m)
 job_idle s st k m x n apart p = record {

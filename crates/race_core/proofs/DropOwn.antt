@@ -53,6 +53,7 @@ use Rattle.race_core.proofs.Decisions.{order_stands_on, runs_begun}
 use Rattle.race_core.proofs.JobSteps.{Stepped, turn_at}
 use Rattle.race_core.proofs.ReadKeys.{decided_read, key_read}
 use Rattle.std.proofs.lemmas.Option.{same_Some}
+use Rattle.annex_base.proofs.Conditions.{if_turned}
 
 -- ---- the list agrees
 
@@ -158,11 +159,7 @@ removes_step reads_back s past words e h b is part j key kind =
 taken_here : (s : SetUp) (past : List Entry) (e : Entry) (f : FrameView) (k : TakenBy s past e f) → is_opening f.body ≡ false → (f.slot ≡ k.w.slot) × (f.up ≡ false) × (f.epoch ≡ (end_at past s.number (job_end k.w k.peer)).epoch)
 taken_here s past e f k line =
     let at : end_of f ≡ job_end k.w k.peer = takes_end (job_end k.w k.peer) f k.of_end in
-    (ap (λ (z : EndName). z.slot) at, down f.up (ap (λ (z : EndName). z.client) at), (may_epoch (end_at past s.number (job_end k.w k.peer)) f line k.may).1)
-  where
-    down : (b : Bool) → (if b then false else true) ≡ true → b ≡ false
-    down false h = refl
-    down true h = absurd (cc)
+    (ap (λ (z : EndName). z.slot) at, if_turned f.up (ap (λ (z : EndName). z.client) at), (may_epoch (end_at past s.number (job_end k.w k.peer)) f line k.may).1)
 
 back_way : (r : ℕ) (f g : FrameView) → f.up ≡ false → g.up ≡ true → f.peer ≡ g.peer → f.slot ≡ g.slot → f.epoch ≡ g.epoch → way_from r g ≡ up_of (way_of r f)
 back_way r f g down up peer slot epoch = goes ∙ comes

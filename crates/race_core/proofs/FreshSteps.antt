@@ -53,7 +53,7 @@ use Rattle.race_core.proofs.ClientTurns.{made_entry, moved}
 use Rattle.race_core.proofs.ClientSteps.{attempts_even}
 use Rattle.race_core.proofs.GetsBegin.{no_release, owns_none, unasked_unheld, unstepped}
 use Rattle.race_core.proofs.BySteps.{earlier}
-use Rattle.race_core.proofs.NotDropping.{undropped_unread}
+use Rattle.race_core.proofs.NotDropping.{if_none, undropped_unread}
 use Rattle.std.proofs.lemmas.Bool.{or_parts}
 
 -- a job that is to begin its part, at another phase afterwards
@@ -238,12 +238,6 @@ puts_unstepped reads_back s past h w m part fresh =
 -- while a copy is under way, no drop of it has begun, as the entries tell
 abbrev pub MovesLate : SetUp → Type 0
 MovesLate s = (past : List Entry) (e : Entry) → OwnPast s (e ∷ past) → is_of s.number e ≡ true → (w : Work) (x : Steps s past e w) → x.by.w.part ≡ Puts → w.part ≡ Drops → in_drop past s.number x.by.w.number ≡ false
-
-if_none : {X : Type 0} (a b c : Bool) (x : X) → c ≡ false → (if a && (b && c) then Some x else None) ≡ None
-if_none true true false x e = refl
-if_none true false false x e = refl
-if_none false b false x e = refl
-if_none a b true x e = absurd (cc)
 
 none_of : {X : Type 0} (a b : Option X) → a ≡ None → b ≡ None → first_of a b ≡ None
 none_of a b p q = rw (p, q) refl

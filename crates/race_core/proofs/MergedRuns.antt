@@ -34,6 +34,7 @@ use Rattle.race_core.proofs.MergedLists.{IsNews, is_merge, never_earlier, earlie
 use Rattle.race_core.proofs.MergedOrder.{IsNew, each_by_own, follow_new, follow_rises, new_ordered, occurs_before, reverse_cons, rising_falls}
 use Rattle.race_core.proofs.Plain.{option_same}
 use Rattle.annex_base.proofs.Options.{some_none}
+use Rattle.std.proofs.lemmas.Option.{same_Some}
 
 -- ---- lists and pasts
 
@@ -236,11 +237,8 @@ module _ (run : Run) (news : List (List Entry)) (got : ℕ → Way → List Lett
   -- ---- an entry of a repository
 
   known_all : Always (λ p e. (r : ℕ) → e.repo ≡ Some r → r < length run.repos) past
-  known_all = always_more _ (IsNew base (length run.repos)) (λ p e x r is. subst (λ q. q < length run.repos) (same (sym x.is ∙ is)) x.known) (reverse all) base (Each-reverse _ all new_all)
+  known_all = always_more _ (IsNew base (length run.repos)) (λ p e x r is. subst (λ q. q < length run.repos) (same_Some _ _ (sym x.is ∙ is)) x.known) (reverse all) base (Each-reverse _ all new_all)
       (always_of (set_up run) _ (λ p e x r is. let m : MayBe (set_up run) p e (Some r) = subst (λ (o : Option ℕ). MayBe (set_up run) p e o) is x.may in m.1.known) base old.steps)
-    where
-      same : {q r : ℕ} → Some q ≡ Some r → q ≡ r
-      same h = cc
 
   waits_all : Always (λ p e. e.repo ≡ None → OnlyWaits e) past
   waits_all = always_more _ (IsNew base (length run.repos)) (λ p e x is. absurd (some_none _ (sym x.is ∙ is))) (reverse all) base (Each-reverse _ all new_all)

@@ -69,17 +69,18 @@ future_undropped s (e ∷ past) run j later =
     not_started past s.number j e (λ is. let own = run.0 is in still_starts past s.number j e e.kind (begin_apart s past e run is j later) (not_yet s past own.0 e run.1 own.1 j before))
     ∙ future_undropped s past run.1 j before
 
+pub if_none : {X : Type 0} (a b c : Bool) (x : X) → c ≡ false → (if a && (b && c) then Some x else None) ≡ None
+if_none true true false x e = refl
+if_none true false false x e = refl
+if_none false b false x e = refl
+if_none a b true x e = absurd (cc)
+
 -- a job that isn't in its drop has read nothing
 pub undropped_unread : (past : List Entry) (r j : ℕ) → in_drop past r j ≡ false → before_step past r j ≡ None
 undropped_unread [] r j off = refl
 undropped_unread (e ∷ past) r j off =
     let was = or_first (in_drop past r j) (is_of r e && starts_drop past r j e e.kind) off in
-    rw (undropped_unread past r j was, was) (no_step (is_of r e) (is_step j e.kind))
-  where
-    no_step : (a b : Bool) → (if a && (b && false) then Some past else None) ≡ None
-    no_step true true = refl
-    no_step true false = refl
-    no_step false b = refl
+    rw (undropped_unread past r j was, was) (if_none (is_of r e) (is_step j e.kind) false past refl)
 
 -- it doesn't read by an entry that is none of its steps
 pub still_unread : (past : List Entry) (e : Entry) (r j : ℕ) → (is_of r e ≡ true → is_step j e.kind ≡ false) → before_step past r j ≡ None → before_step (e ∷ past) r j ≡ None
@@ -194,9 +195,4 @@ comes_unread s past e run x b apart part = subst (λ n. before_step (e ∷ past)
 
     go : (d : Bool) → in_drop past s.number v.number ≡ d → before_step (e ∷ past) s.number v.number ≡ None
     go true is = let stays = stuck_stays s past e x b apart (transfers_stuck s past run v (step_runs s past e x b) move apart is) in absurd (apart (sym stays.0 ∙ part))
-    go false is = rw (undropped_unread past s.number v.number is, is) (none (is_of s.number e) (is_step v.number e.kind))
-      where
-        none : (a b : Bool) → (if a && (b && false) then Some past else None) ≡ None
-        none true true = refl
-        none true false = refl
-        none false b = refl
+    go false is = rw (undropped_unread past s.number v.number is, is) (if_none (is_of s.number e) (is_step v.number e.kind) false past refl)

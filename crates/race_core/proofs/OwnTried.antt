@@ -63,6 +63,7 @@ use Rattle.race_core.proofs.PartTurns.{FirstTurn, HasIt, TakenTurn, on_turn}
 use Rattle.race_core.proofs.GetsBegin.{no_step}
 use Rattle.race_core.proofs.JobOpens.{Called}
 use Rattle.race_core.proofs.Flights.{get_member}
+use Rattle.race_core.proofs.Untouched.{fresh_is}
 
 fresh_off : (phase : Phase) → phase ≡ Fresh → is_fresh phase ≡ false → ⊥
 fresh_off phase is later = let no' : is_fresh Fresh ≡ false = subst (λ p. is_fresh p ≡ false) is later in cc
@@ -394,10 +395,6 @@ module _ (reads_back : SentAreRead) (s : SetUp) (p : List Entry) (e : Entry) (r 
       where
         t : Turn
         t = turn_at s p e b.by
-
-        fresh_is : (phase : Phase) → is_fresh phase ≡ true → phase ≡ Fresh
-        fresh_is Fresh h = refl
-        fresh_is phase h = absurd (cc)
 
         go : (c : Bool) → is_fresh v.phase ≡ c → is_to_ask s now x s.number ≡ false
         go false old = elim (share_or e.kind) [

@@ -2,7 +2,6 @@
 use Rattle.std.proofs.Common.{◌≡◌, ◌≢◌, ℕ, ◌+◌, ◌/◌, ◌^◌, ◌<◌, ◌≤◌, Bool, true, false, List, [], ◌∷◌, ◌++◌, length, Option, Some, None, ◌⊎◌, inl, inr, refl, sym, ap, ◌∙◌, subst, arith}
 use Rattle.std.specs.Prelude.{if◌then◌else◌, ◌==◌, filter, map, flat_map, not}
 use Rattle.std.specs.List.{range_with_len}
-use Rattle.std.proofs.lemmas.Bool.Decides.{nat_tests}
 use Rattle.std.proofs.lemmas.Option.{same_Some}
 use Rattle.annex_base.specs.Lists.{Each, Member}
 use Rattle.annex_base.specs.declared.kinds.Word.{Word}
@@ -49,6 +48,7 @@ use Rattle.race_core.proofs.SessionSays.{Agrees, FromServer, down_only, frame_ag
 use Rattle.race_core.proofs.Own.{AtMostOne, InTurn, MayRelease, MaySend}
 use Rattle.std.proofs.lemmas.Bool.{eq-eqb}
 use Rattle.annex_base.proofs.Conditions.{eqb_refl}
+use Rattle.race_core.proofs.AnswerFacts.{end_takes_from}
 
 -- ---- ways of frames and of ends
 
@@ -67,16 +67,6 @@ way_taken r f i = record { client = client_is r f.peer f.up i; server = client_i
 pub way_at : (r : ℕ) (a : EndName) (f : FrameView) → takes_at a f ≡ true → way_of r f ≡ way_in r a f.epoch
 way_at r a f t = way_taken r f ∙ ap (λ b. way_in r b f.epoch) (takes_end a f t)
 
--- what a server's end takes
-pub taken_up : (p q : ℕ) (f : FrameView) → takes_at (server_end p q) f ≡ true → (f.peer ≡ p) × (f.slot ≡ q) × (f.up ≡ true)
-taken_up p q f t =
-    let same = takes_end (server_end p q) f t in
-    (ap (λ (a : EndName). a.peer) same, ap (λ (a : EndName). a.slot) same, up f.up (ap (λ (a : EndName). a.client) same))
-  where
-    up : (b : Bool) → (if b then false else true) ≡ false → b ≡ true
-    up true e = refl
-    up false e = absurd (cc)
-
 -- ---- S1: release
 
 released : (s : SetUp) (past : List Entry) (k : Look) (m : Made) (hold : ℕ) (key : List ℕ) → OwnRun s past → SessionMade s (state_of s past) k m (Release hold key) → MayRelease s.number past (entry_of s.number k m) hold key
@@ -93,7 +83,7 @@ released s past k m hold key run x = go x.by.frame
     go (inl y) =
         let g = guards_stand s past x.by.peer x.by.slot run hold key x.found.guards in
         let line : line_in y.f.body ≡ Some (UnlockContent key) = sym y.asked_is ∙ x.found.asks in
-        let up = taken_up x.by.peer x.by.slot y.f y.of_end in
+        let up = end_takes_from x.by.peer x.by.slot y.f y.of_end in
         let epoch : y.f.epoch ≡ (end_at past s.number (server_end x.by.peer x.by.slot)).epoch =
         (may_epoch (end_at past s.number (server_end x.by.peer x.by.slot)) y.f (line_opens y.f.body (UnlockContent key) line) y.may).1 in
         record {
@@ -145,9 +135,6 @@ down_closes e g x m u =
     Each-member (λ (h : FrameView). h.body ≡ Closing) (sent_at (server_end g.peer g.slot) e.sent) g (x g.peer g.slot).closes
     (Member-filter_from (sends_at (server_end g.peer g.slot)) e.sent g m at)
   where
-    eqb_refl : (n : ℕ) → (n == n) ≡ true
-    eqb_refl n = grind arith
-
     at : sends_at (server_end g.peer g.slot) g ≡ true
     at = rw (eqb_refl g.peer, eqb_refl g.slot, u) refl
 
@@ -218,7 +205,7 @@ module _ (s : SetUp) (past : List Entry) (e : Entry) (p q : ℕ) (run : OwnRun s
     f = x.f;
     takes_it = x.taken_is;
     back = out_is ∙ ap down_of (sym in_is);
-    from_client = (taken_up p q x.f x.of_end).2;
+    from_client = (end_takes_from p q x.f x.of_end).2;
     request = agreed.0.request;
     turn = ap (λ w. length (answers past w)) out_is ∙ turn_now ∙ ap (λ w. taken_if is_request past w) (sym in_is);
     locked = λ key i. locks key i;
@@ -229,7 +216,7 @@ module _ (s : SetUp) (past : List Entry) (e : Entry) (p q : ℕ) (run : OwnRun s
       locks : (key : List ℕ) → message_in x.f.body ≡ Says (LockContent key) → (hold end : ℕ) × (e.kind ≡ Share hold end (Peer x.f.peer x.f.slot) key)
       locks key i =
           let y = line_locks h was agreed.1.0 key (by_line agreed.1.0 agreed.1.1 (LockContent key) i) (sym (ap (λ b. (on_frame h was b).says) agreed.1.1) ∙ agreed.0.alone) in
-          let up = taken_up p q x.f x.of_end in (
+          let up = end_takes_from p q x.f x.of_end in (
             y.0,
             y.1,
             x.kind_is ∙ ap (λ b. (on_frame h was b).kind) agreed.1.1 ∙ y.2
@@ -271,11 +258,8 @@ served_other s p q m same =
     let peer : p ≡ w.0 = of_slots w.0 slots p q w.2 in
     let kept : not (w.0 == s.number) ≡ true = (Member-filter_parts (λ x. not (x == s.number)) (range_with_len 0 (length s.repos)) w.0 w.1).1 in
     let at : w.0 ≡ s.number = sym peer ∙ same in
-    let yes' : (w.0 == s.number) ≡ true = eqb_eq w.0 s.number at in
+    let yes' : (w.0 == s.number) ≡ true = eq-eqb w.0 s.number at in
     absurd (let no' : not true ≡ true = rw yes' at kept in cc)
-  where
-    eqb_eq : (x y : ℕ) → x ≡ y → (x == y) ≡ true
-    eqb_eq x y e = grind (arith, nat_tests)
 
 abbrev frame_of : EndName → End → FrameText → FrameView
 frame_of a c body = record { peer = a.peer; slot = a.slot; up = a.client; epoch = (end_sends c body).epoch; seq = (end_sends c body).sent; body = body }
@@ -328,7 +312,7 @@ module _ (s : SetUp) (e : Entry) (x : SessionSpeaks s e) where
 
   -- the field `taken_from`
   pub session_from : (f : FrameView) → e.taken ≡ Some f → f.peer ≢ s.number
-  session_from f i same = served_other s x.p x.q x.serves (sym (taken_up x.p x.q f (x.takes f i)).0 ∙ same)
+  session_from f i same = served_other s x.p x.q x.serves (sym (end_takes_from x.p x.q f (x.takes f i)).0 ∙ same)
 
   -- the field `sent_to`
   pub session_to : (g : FrameView) → Member g e.sent → g.peer ≢ s.number

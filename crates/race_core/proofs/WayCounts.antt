@@ -42,10 +42,6 @@ in_taker : (r : ℕ) (p : ℕ) (b : Bool) → (if (if b then false else true) th
 in_taker r p true = refl
 in_taker r p false = refl
 
-in_sender : (r : ℕ) (p : ℕ) (b : Bool) → (if (if b then false else true) then (if b then r else p) else (if b then p else r)) ≡ p
-in_sender r p true = refl
-in_sender r p false = refl
-
 pub out_sender-is : (r : ℕ) (a : EndName) (n : ℕ) → sender_of (way_out r a n) ≡ r
 out_sender-is r a n = out_sender r a.peer a.client
 
@@ -56,7 +52,7 @@ pub in_taker-is : (r : ℕ) (a : EndName) (n : ℕ) → taker_of (way_in r a n) 
 in_taker-is r a n = in_taker r a.peer a.client
 
 pub in_sender-is : (r : ℕ) (a : EndName) (n : ℕ) → sender_of (way_in r a n) ≡ a.peer
-in_sender-is r a n = in_sender r a.peer a.client
+in_sender-is r a n = in_taker a.peer r a.client
 
 -- ---- which frames are on them
 
