@@ -22,7 +22,7 @@ use Rattle.node_model.specs.SetUp.{SetUp}
 use Rattle.run_model.specs.States.{end_at}
 use Rattle.node_model.specs.State.{State}
 use Rattle.run_model.specs.Run.{OwnPart}
-use Rattle.driver_model.proofs.EndLemmas.{end_own, may_epoch, out_sender-is, out_taker-is, same_self, sends_all, takes_self}
+use Rattle.driver_model.proofs.EndLemmas.{end_own, may_epoch, out_sender-is, out_taker-is, same_both, same_self, sends_all, takes_self}
 use Rattle.driver_model.proofs.Premises.{EntryLaws}
 use Rattle.driver_model.specs.Driver.{Driver, Flight, but_first, but_taken, end_to, flight, frames_to, is_at, is_old, old_at}
 use Rattle.driver_model.specs.Ways.{Flies, InOrder, AreOnTheWay, IsOver, NumberedBody, bodies_flying, is_flight, other_end, numbered_body, bodies_sent, views_sent, way_out}
@@ -150,16 +150,10 @@ on_parts r a n x e =
     let three = and_parts (x.frame.slot == a.slot) (same_bool x.frame.up a.client && (x.frame.epoch == n)) two.1 in
     let four = and_parts (same_bool x.frame.up a.client) (x.frame.epoch == n) three.1 in (
       eqb-true x.to a.peer one.0,
-      end_path (eqb-true x.frame.peer r two.0) (eqb-true x.frame.slot a.slot three.0) (ap (λ b. if b then false else true) (both x.frame.up a.client four.0)),
+      end_path (eqb-true x.frame.peer r two.0) (eqb-true x.frame.slot a.slot three.0) (ap (λ b. if b then false else true) (same_both x.frame.up a.client four.0)),
       eqb-true x.frame.epoch n four.1,
     )
   where
-    both : (b c : Bool) → same_bool b c ≡ true → b ≡ c
-    both true true e = refl
-    both true false e = absurd (cc)
-    both false true e = absurd (cc)
-    both false false e = refl
-
     end_path : x.frame.peer ≡ r → x.frame.slot ≡ a.slot → (if x.frame.up then false else true) ≡ (if a.client then false else true) → end_to x.frame ≡ other_end r a
     end_path i j k t = record { peer = i t; slot = j t; client = k t }
 
@@ -223,9 +217,6 @@ but_split q (y ∷ front) back x n i = rw n.0 (ap (λ zs. y ∷ zs) (but_split q
 -- one that comes to the same end comes there too
 at_same : (p : ℕ) (f : FrameView) (y : Flight) → y.to ≡ p → end_to y.frame ≡ end_to f → is_at p f y ≡ true
 at_same p f y i j = rw (i, eqb_refl p) (subst (λ (z : EndName). takes_at z y.frame ≡ true) j (takes_self y.frame))
-  where
-    takes_self : (g : FrameView) → takes_at (end_to g) g ≡ true
-    takes_self g = rw (eqb_refl g.peer, eqb_refl g.slot) (same_self (if g.up then false else true))
 
 module _ (p : ℕ) (f : FrameView) (xs : List Flight) (y : IsFirst p f xs) (r : ℕ) (a : EndName) (n : ℕ) where
   to_is : y.x.to ≡ p
