@@ -374,12 +374,6 @@ module _ (laws : EntryLaws) (s : SetUp) (past : List Entry) (words : ℕ → Opt
       → Flies past xs f.peer (record { peer = p; slot = f.slot; client = f.up }) f.epoch → InOrder past f.peer (record { peer = p; slot = f.slot; client = f.up }) f.epoch → MayTake past (way_of p f) f
   may_be_taken f i flies order = go flies
     where
-      a : EndName
-      a = record { peer = s.number; slot = f.slot; client = f.up }
-
-      y : IsFirst s.number f xs
-      y = first f i
-
       hit : is_flight f.peer (record { peer = s.number; slot = f.slot; client = f.up }) f.epoch (first f i).x ≡ true
       hit = subst (λ k. ((k == s.number) && is_on (way_out f.peer (record { peer = s.number; slot = f.slot; client = f.up }) f.epoch) f.peer (first f i).x.frame) ≡ true)
           (sym (to_is s.number f xs (first f i) f.peer (record { peer = s.number; slot = f.slot; client = f.up }) f.epoch))

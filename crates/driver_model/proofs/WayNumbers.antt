@@ -56,9 +56,6 @@ all_follow : (c : End) (fs : List FrameView) (n len : ℕ) → Numbered c fs →
 all_follow c [] n len a x = (tt, subst (HasCounted c n) (omega arith) x)
 all_follow c (f ∷ fs) n len a x = go (all_follow (end_sends c f.body) fs n) (f.epoch == n) refl
   where
-    d : End
-    d = end_sends c f.body
-
     go : ((k : ℕ) → Numbered (end_sends c f.body) fs → HasCounted (end_sends c f.body) n k → AreNumberedFrom k (of_epoch n fs) × HasCounted (sends_all (end_sends c f.body) fs) n (k + length (of_epoch n fs)))
         → (b : Bool) → (f.epoch == n) ≡ b → AreNumberedFrom len (cond b (f ∷ of_epoch n fs) (of_epoch n fs)) × HasCounted (sends_all (end_sends c f.body) fs) n (len + length (cond b (f ∷ of_epoch n fs) (of_epoch n fs)))
     go more true is =

@@ -330,9 +330,6 @@ talk_moved rows r w e peer f c took kept on says =
     subst (λ (p : Option ℕ). awaits_one (talks_on rows r y e p).phase ≡ false) (sym on)
     (on_moved rows r y e peer f c took (ap (λ (q : Phase). keeps_word q (line_in f.body)) phase_is ∙ kept) (elim (says) [ inl none ↦ inl none | inr closes ↦ inr (closes ∙ ap (λ (a : EndName). frames a c (Closing ∷ [])) end_is) ]))
   where
-    x : Work
-    x = claims w w.part w.phase
-
     y : Work
     y = learns (claims w w.part w.phase) w.phase e.taken
 
@@ -354,9 +351,6 @@ answers_move laws s past k m e w v f makes own kind taken sent jobs there there'
   where
     y : (y : TookBy s (state_of s past) k m f) × (y.w ≡ w)
     y = own_took laws s (state_of s past) k m f makes (sym taken ∙ t.taken) jobs w there (ap job_of (sym kind) ∙ t.made)
-
-    peer : ℕ
-    peer = y.0.peer
 
     on : partner w.what.peer w.phase ≡ Some y.0.peer
     on = subst (λ (u : Work). partner u.what.peer u.phase ≡ Some y.0.peer) y.1 y.0.on

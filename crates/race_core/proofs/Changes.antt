@@ -221,9 +221,6 @@ lasts-keep_of number until owner by key x k = go (same_owner x.owner by)
 lasts-other : (number until m : ℕ) (owner : By) (key : List ℕ) → (m == number) ≡ false → (x : Hold) → lasts_one number until owner key x ≡ true → not (x.number == m) ≡ true
 lasts-other number until m owner key e x k = go (x.number == m) refl
   where
-    is : x.number ≡ number
-    is = eqb-true x.number number (and_parts (x.number == number) _ k).0
-
     go : (b : Bool) → (x.number == m) ≡ b → not b ≡ true
     go false f = refl
     go true f = let same : x.number ≡ m = eqb-true x.number m f in let it : m ≡ number = cc in let not_so : (number == number) ≡ false = rw it at e in absurd (true≢false (sym (eqb_refl number) ∙ not_so))

@@ -559,12 +559,6 @@ module _ (reads_back : SentAreRead) (run : Run) (repos : Each IsSetUp run.repos)
   quiet_goes : (x : Work) (p : ℕ) → is_of p e ≡ false → IsLive x.phase → (end_at (e ∷ past) r (job_end x p)).opened ≡ true → Quiet s past e x (job_end x p) → Conversation (e ∷ past) r p x
   quiet_goes x p other live now q = record { z = old.z; up = old.up; down = old.down; talk = old.talk; knows = old.knows; there = there }
     where
-      a : EndName
-      a = job_end x p
-
-      n : ℕ
-      n = (end_at past r (job_end x p)).epoch
-
       old : Conversation past r p x
       old = was x q.ran p live (ap (λ (c : End). c.opened) (sym q.same) ∙ now)
 

@@ -51,9 +51,6 @@ module _ (reads_back : SentAreRead) (size : List ℕ → Option ℕ) (h : Here) 
       quiet : Reply
       quiet = silent_reply (Talk None)
 
-      Ends : Reply → Type 0
-      Ends x = (x.says ≡ Closing ∷ []) ⊎ ((x.says ≡ []) × (made v (takes_more key (k + n) (left - n)) ≡ made v next))
-
       go : (c : Bool) → (nat_lt 0 n && nat_le n left) ≡ c → (if c then Some (takes_more key (k + n) (left - n)) else None) ≡ Some next → SilentFrame v (Takes key k left) (Bytes n) next
       go false is e = absurd (cc)
       go true is e = rw is (unless_found (λ (x : Reply). (x.says ≡ Closing ∷ []) ⊎ ((x.says ≡ []) × (made v (takes_more key (k + n) (left - n)) ≡ made v next))) (failing h.fails (calls.Append ∷ [])) (λ call. record { kind = Fault call (by_of h); says = Closing ∷ [] }) quiet

@@ -179,9 +179,6 @@ failures_have : (f : ℕ → Offer) (g : ℕ → Cause) (cs : List ℕ) (c : ℕ
 failures_have f g [] c m fails = absurd m
 failures_have f g (d ∷ cs) c (inl same) fails = go (f d) (ap f (sym same) ∙ fails)
   where
-    it : CandidateCause
-    it = record { repo = c; cause = g c }
-
     go : (o : Offer) → o ≡ Fails → Member (record { repo = c; cause = g c }) (pick o (λ kind. failures f g cs) (record { repo = d; cause = g d } ∷ failures f g cs))
     go (Gives kind) is = absurd (cc)
     go Fails is = inl (λ i. record { repo = same i; cause = g (same i) })

@@ -136,9 +136,6 @@ server_apart p q a client = rw client (go ((p == a.peer) && (q == a.slot)))
 pub session_still : (s : SetUp) (past : List Entry) (a : EndName) (e : Entry) → a.client ≡ true → BySessionAt s past e → Still a e
 session_still s past a e client x = go x.3
   where
-    b : EndName
-    b = server_end x.0 x.1
-
     says_none : (c : End) (bodies : List FrameText) → NoOpening bodies → e.sent ≡ frames (server_end x.0 x.1) c bodies → OpensNone (sent_at a e.sent)
     says_none c bodies n i = Each-filter (λ g. is_opening g.body ≡ false) (sends_at a) e.sent (subst OpensNone (sym i) (frames_none (server_end x.0 x.1) c bodies n))
 

@@ -72,12 +72,6 @@ way_at r a f t = way_taken r f ∙ ap (λ b. way_in r b f.epoch) (takes_end a f 
 released : (s : SetUp) (past : List Entry) (k : Look) (m : Made) (hold : ℕ) (key : List ℕ) → OwnRun s past → SessionMade s (state_of s past) k m (Release hold key) → MayRelease s.number past (entry_of s.number k m) hold key
 released s past k m hold key run x = go x.by.frame
   where
-    p : ℕ
-    p = x.by.peer
-
-    q : ℕ
-    q = x.by.slot
-
     go : TakesAt s (state_of s past) (server_end x.by.peer x.by.slot) x.by.asked x.by.says m ⊎ GivesAt s (state_of s past) (server_end x.by.peer x.by.slot) x.by.asked x.by.says m → MayRelease s.number past (entry_of s.number k m) hold key
     go (inr y) = absurd (let no' : Some (UnlockContent key) ≡ None = sym x.found.asks ∙ y.asked_is in cc)
     go (inl y) =
@@ -279,9 +273,6 @@ pub record SessionSpeaks (s : SetUp) (e : Entry) : Type 0 where
 pub speaks : (s : SetUp) (past : List Entry) (e : Entry) → BySessionAt s past e → SessionSpeaks s e
 speaks s past e x = go x.3
   where
-    a : EndName
-    a = server_end x.0 x.1
-
     go : TakesHere s past (server_end x.0 x.1) e ⊎ GivesHere s past (server_end x.0 x.1) e → SessionSpeaks s e
     go (inl y) = record {
       p = x.0;

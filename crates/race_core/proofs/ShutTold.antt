@@ -81,9 +81,6 @@ come_closed s past e is w m p none (inr t) (Close q slot client) kind alive may 
   slot_is = subst (λ n. in_slot (jobs past s.number) w.number n ≡ true) (sym at.1 ∙ place.2) (runs_in past s.number w m);
 })
   where
-    a : EndName
-    a = record { peer = q; slot = slot; client = client }
-
     at : (t.g.peer ≡ p) × (t.g.slot ≡ w.slot) × (t.g.up ≡ true)
     at = client_sent p w.slot t.g t.of_end
 
@@ -202,9 +199,6 @@ module _ (reads_back : SentAreRead) (run : Run) (repos : Each IsSetUp run.repos)
   steps_told : (x : Work) (p : ℕ) → Steps s past e x → partner x.what.peer x.phase ≡ Some p → (end_at (e ∷ past) r (job_end x p)).opened ≡ false → ClosedWith (e ∷ past) r x.number p
   steps_told x p b on closed = subst (λ n. ClosedWith (e ∷ past) r n p) (sym number) (go (end_at past r (job_end v p)).opened refl)
     where
-      t : Turn
-      t = turn_at s past e b.by
-
       v : Work
       v = b.by.w
 

@@ -312,9 +312,6 @@ test_down p true hs h k = cc
 pub told_frame : (repos : List RepoView) (past : List Entry) (e : Entry) (a j r : ℕ) (f : FrameView) (k : Takes repos past e a j r f) → map heard_of (vouches_sent r a j (sender past a (Some f))) ≡ heard_frame past a r (Some f)
 told_frame repos past e a j r f k = whole
   where
-    w : Way
-    w = way_of a f
-
     t : MayTake past (way_of a f) f
     t = k.now'.frames a f k.is k.takes_it
 
