@@ -44,7 +44,7 @@ use Rattle.race_core.proofs.ClientLeaves.{Taking}
 use Rattle.race_core.proofs.ClientSteps.{attempts_even, commit_plain, failure_reads, is_plain, plain_in, release_is, took_listens, transferred_alone, valid_reads}
 use Rattle.race_core.proofs.Dialogue
 use Rattle.race_core.proofs.Dialogue.{Stance, Suits, SuitsBytes, SuitsLine, SuitsMessage, kept, phase_stance, rests, stance}
-use Rattle.race_core.proofs.DialogueSteps.{asked_reply, away_asks, bytes_gives, data_gives, heard_away, lock_locked, offer_starts, opened_greets, piece_sends, rests_away, valid_sends, was_answered, word_acks}
+use Rattle.race_core.proofs.DialogueSteps.{asked_reply, away_asks, bytes_gives, data_gives, heard_away, lock_locked, min_fits, offer_starts, opened_greets, piece_sends, rests_away, valid_sends, was_answered, word_acks}
 use Rattle.race_core.proofs.DialogueTurns.{KeepsTo, rests_at, stands_on}
 use Rattle.race_core.proofs.DialogueLeaves.{closes_keeps, hears_keeps, hears_to_keeps, lost_keeps, says_keeps, says_to_keeps, sends_keeps, short_keeps, shut_keeps}
 use Rattle.race_core.proofs.DialogueWalk.{Asks, GoodMade, IsVersion, Walks, fault_on, first_asks, first_step_good, dead_good, ends_good, next_step_good, order_good}
@@ -355,9 +355,6 @@ goes_alone t walks alone (PutsBytes peer start at left) is = let e : Some peer �
 goes_alone t walks alone (PutsWord peer start) is = let e : Some peer ≡ None = subst (λ (p : Phase). partner t.w.what.peer p ≡ None) is alone in absurd (cc)
 goes_alone t walks alone (Ends outcome) is = dead_good t (subst IsLive is) outcome
 goes_alone t walks alone phase is = ends_good t alone (subst IsLive (sym is) tt) (outcome_of t phase)
-
-min_fits : (left : ℕ) → (left == 0) ≡ false → (nat_lt 0 (min 32768 left) && nat_le (min 32768 left) left) ≡ true
-min_fits left e = let first : nat_lt 0 (min 32768 left) ≡ true = grind (arith, nat_tests) in let second : nat_le (min 32768 left) left ≡ true = grind (arith, nat_tests) in rw first second
 
 min_below : (left : ℕ) → nat_le (min 32768 left) left ≡ true
 min_below left = grind (arith, nat_tests)
