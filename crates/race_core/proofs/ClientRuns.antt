@@ -47,6 +47,7 @@ use Rattle.race_core.proofs.ClientCounts.{Counted, Counts, Fits, counts_after, c
 use Rattle.race_core.proofs.ClientTurns.{Even}
 use Rattle.race_core.proofs.ClientSteps.{Speaks, partner_even}
 use Rattle.race_core.proofs.ServerEnds.{close_closes, each_flat}
+use Rattle.race_core.proofs.Plain.{member_mapped}
 
 -- ---- the invariant
 
@@ -115,11 +116,6 @@ pub record Was (rows : RowsAndEnds) (r : ℕ) (was : List Work) (e : Entry) (x :
   pub goes_on : ends_it e.kind w.number ≡ false
   pub is : x ≡ work_after rows r e w
 
-member_map : {X Y : Type 0} (f : X → Y) (xs : List X) (y : Y) → Member y (map f xs) → (x : X) × Member x xs × (y ≡ f x)
-member_map f [] y m = absurd m
-member_map f (x ∷ xs) y (inl m) = (x, inl refl, m)
-member_map f (x ∷ xs) y (inr m) = let z = member_map f xs y m in (z.0, inr z.1, z.2)
-
 -- a job that begins
 pub record IsNew (was : List Work) (kind : EntryKind) (x : Work) : Type 0 where
   pub job : ℕ
@@ -146,7 +142,7 @@ works_were rows r was e (ends_job j outcome) is x m =
     same : (j == x.number) ≡ false → x ≡ work_after rows r e x
     same apart = subst (λ (k : EntryKind). x ≡ (if option_is (job_of k) x.number then work_kind rows r x e e.kind else x)) (sym is) (rw apart refl)
 works_were rows r was e (Crash clock) is x m = absurd m
-works_were rows r was e kind is x m = let z = member_map (work_after rows r e) was x m in inr (inr (record { w = z.0; ran = z.1; goes_on = ap (λ k. ends_it k z.0.number) is; is = z.2 }))
+works_were rows r was e kind is x m = let z = member_mapped (work_after rows r e) was x m in inr (inr (record { w = z.0; ran = z.1; goes_on = ap (λ k. ends_it k z.0.number) is; is = z.2 }))
 
 -- ---- an entry that is not of the job
 

@@ -5,7 +5,7 @@ use Rattle.std.proofs.lemmas.Bool.Decides.{nat_tests}
 use Rattle.std.proofs.lemmas.Bool.{eqb-true}
 use Rattle.std.proofs.lemmas.List.Elements.{filter-append}
 use Rattle.annex_base.specs.Lists.{Each}
-use Rattle.annex_base.proofs.Conditions.{and_second, eqb_refl}
+use Rattle.annex_base.proofs.Conditions.{and_regrouped, and_second, eqb_refl}
 use Rattle.run_data.specs.declared.entry.Entry.{Entry}
 use Rattle.run_data.specs.declared.entry.FrameView.{FrameView}
 use Rattle.run_data.specs.declared.entry.FrameText.{FrameText}
@@ -188,15 +188,9 @@ up_way r a n = record { client = r; server = a.peer; slot = a.slot; up = true; e
 abbrev pub down_way : ℕ → EndName → ℕ → Way
 down_way r a n = record { client = r; server = a.peer; slot = a.slot; up = false; epoch = n }
 
-regroup : (a b c d : Bool) → (a && (b && (c && d))) ≡ ((a && b && c) && d)
-regroup true true true d = refl
-regroup true true false d = refl
-regroup true false c d = refl
-regroup false b c d = refl
-
 -- a frame is on the way where it is the end's, of this epoch
 on_end : (r : ℕ) (peer slot n : ℕ) (g : FrameView) → is_on (up_way r (client_end peer slot) n) peer g ≡ (sends_at (client_end peer slot) g && (g.epoch == n))
-on_end r peer slot n g = regroup (g.peer == peer) (g.slot == slot) (same_bool g.up true) (g.epoch == n)
+on_end r peer slot n g = and_regrouped (g.peer == peer) (g.slot == slot) (same_bool g.up true) (g.epoch == n)
 
 filter_both : (p q t : FrameView → Bool) → ((g : FrameView) → p g ≡ (q g && t g)) → (fs : List FrameView) → filter p fs ≡ filter t (filter q fs)
 filter_both p q t same [] = refl
@@ -239,7 +233,7 @@ down_as true = refl
 down_as false = refl
 
 on_down : (r peer slot n : ℕ) (f : FrameView) → is_on (down_way r (client_end peer slot) n) peer f ≡ (takes_at (client_end peer slot) f && (f.epoch == n))
-on_down r peer slot n f = regroup (f.peer == peer) (f.slot == slot) (same_bool f.up false) (f.epoch == n)
+on_down r peer slot n f = and_regrouped (f.peer == peer) (f.slot == slot) (same_bool f.up false) (f.epoch == n)
     ∙ ap (λ b. (f.peer == peer) && (f.slot == slot) && b && (f.epoch == n)) (down_as f.up)
 
 got_none : (r peer slot : ℕ) (e : Entry) (past : List Entry) (n : ℕ) → is_of r e ≡ true → taken_at (client_end peer slot) e.taken ≡ None → got_on r peer slot (e ∷ past) n ≡ got_on r peer slot past n

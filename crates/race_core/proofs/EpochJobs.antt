@@ -7,7 +7,7 @@ use Rattle.std.proofs.lemmas.List.{length-map}
 use Rattle.annex_base.specs.Lists.{Member}
 use Rattle.annex_base.specs.declared.kinds.Word.{Word}
 use Rattle.annex_base.proofs.Conditions.{eqb_refl}
-use Rattle.annex_base.proofs.Lists.{Member-filter_parts}
+use Rattle.annex_base.proofs.Lists.{Member-filter_parts, list_any_found}
 use Rattle.race_core.proofs.Below.{SentAreRead}
 use Rattle.run_data.specs.declared.entry.Entry.{Entry}
 use Rattle.run_data.specs.declared.entry.EntryKind.{EntryKind}
@@ -40,14 +40,6 @@ use Rattle.race_core.proofs.Makers.{who}
 use Rattle.race_core.proofs.OpenEnds.{alone_still, jobs_own, open_runs, opened_before, opens_or, session_still, stepped_job_runs, took_opened, used_slot}
 use Rattle.node_model.specs.Slots
 use Rattle.race_core.proofs.Plain.{same_both}
-
-pub any_member : {X : Type 0} (q : X → Bool) (xs : List X) → list_any q xs ≡ true → (x : X) × (Member x xs) × (q x ≡ true)
-any_member q [] e = absurd (cc)
-any_member {X = X} q (x ∷ xs) e = go (λ h. any_member q xs h) (q x) refl e
-  where
-    go : (list_any q xs ≡ true → (y : X) × (Member y xs) × (q y ≡ true)) → (b : Bool) → q x ≡ b → (b || list_any q xs) ≡ true → (y : X) × (Member y (x ∷ xs)) × (q y ≡ true)
-    go more true is h = (x, inl refl, is)
-    go more false is h = let z = more h in (z.0, inr z.1, z.2)
 
 -- the entry of a client sends or takes a frame of the connection
 abbrev pub uses : Way → Entry → Bool
@@ -90,7 +82,7 @@ uses_touches w e used = go (list_any (is_on (up_of w) w.server) e.sent) refl use
 
     go : (b : Bool) → list_any (is_on (up_of w) w.server) e.sent ≡ b → (b || takes (down_of w) e.taken) ≡ true → Touches (end_to w) w.epoch e
     go true is h =
-        let g = any_member (is_on (up_of w) w.server) e.sent is in
+        let g = list_any_found (is_on (up_of w) w.server) e.sent is in
         let x = on_parts (up_of w) w.server g.0 g.2 in
         inl (g.0, g.1, (λ i. record { peer = x.peer_is i; slot = x.slot_is i; client = same_both g.0.up true x.side i }), x.epoch_is)
     go false is h = took e.taken refl h

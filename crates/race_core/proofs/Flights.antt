@@ -11,6 +11,7 @@ use Rattle.run_model.specs.Frames.{Way, FlyingFrame, SendingEntry, flying_frame,
 use Rattle.run_model.specs.Drops.{Vouch, vouch, vouches}
 use Rattle.std.specs.List.{list_any}
 use Rattle.std.proofs.lemmas.Bool.{or_left, or_right}
+use Rattle.race_core.proofs.Plain.{member_mapped}
 
 -- ---- entries that stand in a past
 
@@ -61,11 +62,6 @@ get_append [] ys k x h = inr (get_member ys k x h)
 get_append (y ∷ xs) ys zero x h = inl h
 get_append (y ∷ xs) ys (suc k) x h = get_append xs ys k x h
 
-pub map_member : {X Y : Type 0} (f : X → Y) (y : Y) (xs : List X) → Member y (map f xs) → (x : X) × (Member x xs × (y ≡ f x))
-map_member f y [] m = absurd m
-map_member f y (x ∷ xs) (inl e) = (x, (inl refl, e))
-map_member f y (x ∷ xs) (inr m) = let t = map_member f y xs m in (t.0, (inr t.1.0, t.1.1))
-
 -- a frame on a way was sent by an entry of the past
 pub record Sending (past : List Entry) (w : Way) (it : FlyingFrame) : Type 0 where
   pub occurs : Occurs past it.entry it.before
@@ -84,8 +80,8 @@ sending (e ∷ past) w k it h = go (λ g. sending past w k it g) (is_of (sender_
     go ih false is g = older (ih g)
     go ih true is g = elim (get_append (frames_sent past w) (map (flying_frame e past) (on_way w e)) k it g) [
       | inl s ↦ older (ih s)
-      | inr m ↦ let t = map_member (flying_frame e past) it (on_way w e) m in
-          subst (λ (x : FlyingFrame). Sending (e ∷ past) w x) (sym t.1.1) (record { occurs = inl (refl, refl); repo_is = is; sends = t.1.0 })
+      | inr m ↦ let t = member_mapped (flying_frame e past) (on_way w e) it m in
+          subst (λ (x : FlyingFrame). Sending (e ∷ past) w x) (sym t.2) (record { occurs = inl (refl, refl); repo_is = is; sends = t.1 })
     ]
 
 -- who sent the frame that was taken

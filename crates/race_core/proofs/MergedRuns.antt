@@ -27,12 +27,12 @@ use Rattle.run_model.specs.Run.{FramesPart, IsRun, MayBe, OnlyWaits, ComesInOrde
 use Rattle.race_core.specs.Merged.{AreFirstLetters, IsMerge, IsHistoryStep, Letter, MayMerge, StandInOrder, TakesNext, earlier, history, letter_of, letters, merge_all, merged_run, new_of, paths_with, set_up_with, stamp_of, stands_before, word_got, word_in, word_read}
 use Rattle.race_core.proofs.OwnState.{state_own}
 use Rattle.race_core.proofs.OwnParts.{part_whole}
-use Rattle.race_core.proofs.Flights.{always_before, get_append, map_member, occurs_always}
+use Rattle.race_core.proofs.Flights.{always_before, get_append, occurs_always}
 use Rattle.race_core.proofs.Told.{taker_way}
 use Rattle.race_core.proofs.OwnPasts.{mine_occurs}
 use Rattle.race_core.proofs.MergedLists.{IsNews, is_merge, never_earlier, earlier_trans}
 use Rattle.race_core.proofs.MergedOrder.{IsNew, each_by_own, follow_new, follow_rises, new_ordered, occurs_before, reverse_cons, rising_falls}
-use Rattle.race_core.proofs.Plain.{option_same}
+use Rattle.race_core.proofs.Plain.{member_mapped, option_same}
 use Rattle.annex_base.proofs.Options.{some_none}
 use Rattle.std.proofs.lemmas.Option.{same_Some}
 
@@ -121,7 +121,7 @@ sent_within (y ∷ past) e before h o w k it g l = go (λ g o. sent_within past 
         here false g = g
         here true g = elim (get_append (frames_sent past w) (map (flying_frame y past) (on_way w y)) k it g) [
           | inl s ↦ s
-          | inr m ↦ let t = map_member (flying_frame y past) it (on_way w y) m in absurd (never (ap (λ (x : FlyingFrame). x.entry) t.1.1))
+          | inr m ↦ let t = member_mapped (flying_frame y past) (on_way w y) it m in absurd (never (ap (λ (x : FlyingFrame). x.entry) t.2))
         ]
 
     go : (slice_get (frames_sent past w) k ≡ Some it → Occurs past e before → slice_get (frames_sent before w) k ≡ Some it) → ((e ≡ y) × (before ≡ past)) ⊎ Occurs past e before → slice_get (frames_sent before w) k ≡ Some it

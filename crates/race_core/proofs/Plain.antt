@@ -31,6 +31,11 @@ option_other o m n e apart = rw e apart
 pub each_map : {X Y : Type 0} (P : Y → Type 0) (f : X → Y) (xs : List X) (x : X) → Each P (map f xs) → Member x xs → P (f x)
 each_map P f xs x all m = Each-member P (map f xs) (f x) all (Member-map f xs x m)
 
+pub member_mapped : {X Y : Type 0} (f : X → Y) (xs : List X) (y : Y) → Member y (map f xs) → (x : X) × Member x xs × (y ≡ f x)
+member_mapped f [] y m = absurd m
+member_mapped f (x ∷ xs) y (inl m) = (x, inl refl, m)
+member_mapped f (x ∷ xs) y (inr m) = let z = member_mapped f xs y m in (z.0, inr z.1, z.2)
+
 pub one_in : {X : Type 0} (b : Bool) (x y : X) → Member y (if b then x ∷ [] else []) → (b ≡ true) × (y ≡ x)
 one_in true x y (inl e) = (refl, e)
 one_in true x y (inr m) = absurd m

@@ -1,6 +1,6 @@
 -- The causes that a drop was told by its entries have the values that its list has, with the words beside its answers.
 use Rattle.std.proofs.Common.{◌≡◌, ◌≢◌, ℕ, ◌<◌, Bool, true, false, List, [], ◌∷◌, Option, Some, None, ◌⊎◌, inl, inr, refl, sym, ap, ◌∙◌, subst}
-use Rattle.std.specs.Prelude.{if◌then◌else◌, ◌==◌, ◌&&◌, filter, length, not, option_map, slice_get}
+use Rattle.std.specs.Prelude.{if◌then◌else◌, ◌==◌, ◌&&◌, length, not, option_map, slice_get}
 use Rattle.std.specs.List.{list_any}
 use Rattle.std.proofs.lemmas.Bool.{true≢false, and_parts, eqb-true, ne_eqb, not-true}
 use Rattle.std.proofs.lemmas.Option.{same_Some}
@@ -81,6 +81,7 @@ use Rattle.run_data.specs.declared.run.Run.{Run}
 use Rattle.run_data.specs.Repos.{IsSetUp}
 use Rattle.race_core.proofs.Aims.{aims, other_target}
 use Rattle.race_core.proofs.DropOwn.{target_local}
+use Rattle.annex_base.proofs.Lists.{Member-filter_parts}
 
 -- ---- a cause that is told without a refused look
 
@@ -649,20 +650,11 @@ fails_none Jobs.Seen e = absurd (cc)
 fails_none Unseen e = refl
 fails_none (Lacks cause) e = refl
 
-kept_true : (q : ℕ → Bool) (xs : List ℕ) (c : ℕ) → Member c (filter q xs) → (q c ≡ true) × Member c xs
-kept_true q [] c m = absurd m
-kept_true q (x ∷ xs) c m = go (kept_true q xs c) (q x) refl m
-  where
-    go : (Member c (filter q xs) → (q c ≡ true) × Member c xs) → (b : Bool) → q x ≡ b → Member c (if b then x ∷ filter q xs else filter q xs) → (q c ≡ true) × Member c (x ∷ xs)
-    go more true is (inl same) = (ap q same ∙ is, inl same)
-    go more true is (inr n) = let z = more n in (z.0, inr z.1)
-    go more false is n = let z = more n in (z.0, inr z.1)
-
 -- a candidate isn't the target
 candidate_apart : (side : Side) (n r target c : ℕ) → (side ≡ Local → target ≡ r) → (side ≡ Remote → target ≢ r) → Member c (candidates side n r target) → (target == c) ≡ false
-candidate_apart Local n r target c own apart m = subst (λ t. (t == c) ≡ false) (sym (own refl)) (eqb_apart c r (kept_true (λ x. not (x == r)) (_) c m).0)
+candidate_apart Local n r target c own apart m = subst (λ t. (t == c) ≡ false) (sym (own refl)) (eqb_apart c r (Member-filter_parts (λ x. not (x == r)) (_) c m).1)
 candidate_apart Remote n r target c own apart (inl same) = subst (λ d. (target == d) ≡ false) (sym same) (ne_eqb target r (apart refl))
-candidate_apart Remote n r target c own apart (inr m) = eqb_apart c target (kept_true (λ x. not (x == target)) (_) c m).0
+candidate_apart Remote n r target c own apart (inr m) = eqb_apart c target (Member-filter_parts (λ x. not (x == target)) (_) c m).1
 
 -- a drop that is to begin has read nothing
 drops_unread : (s : SetUp) → DropsUnread s
