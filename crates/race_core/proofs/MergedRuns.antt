@@ -19,7 +19,7 @@ use Rattle.run_model.specs.Past.{Always, Occurs, is_of, now}
 use Rattle.node_model.specs.Rows.{option_is}
 use Rattle.run_model.specs.Frames.{FlyingFrame, Way, flying_frame, on_way, sender_of, frames_sent, taken_count, taker_of, takes, way_of}
 use Rattle.node_model.specs.Slots.{job_of}
-use Rattle.race_core.proofs.OwnPasts.{Bare, bare, mine, own_by, own_sent}
+use Rattle.race_core.proofs.OwnPasts.{Bare, bare, mine, mine_occurs, own_by, own_sent}
 use Rattle.node_model.specs.SetUp.{SetUp}
 use Rattle.run_model.specs.States.{works}
 use Rattle.run_model.specs.Words.{awaits_of, word_of, word_of_kind, word_taken, word_told}
@@ -29,7 +29,6 @@ use Rattle.race_core.proofs.OwnState.{state_own}
 use Rattle.race_core.proofs.OwnParts.{part_whole}
 use Rattle.race_core.proofs.Flights.{always_before, get_append, occurs_always}
 use Rattle.race_core.proofs.Told.{taker_way}
-use Rattle.race_core.proofs.OwnPasts.{mine_occurs}
 use Rattle.race_core.proofs.MergedLists.{IsNews, is_merge, never_earlier, earlier_trans}
 use Rattle.race_core.proofs.MergedOrder.{IsNew, each_by_own, follow_new, follow_rises, new_ordered, occurs_before, reverse_cons, rising_falls}
 use Rattle.race_core.proofs.Plain.{member_mapped, option_same}
