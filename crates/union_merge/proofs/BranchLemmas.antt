@@ -1,5 +1,5 @@
 -- The files of a branch: what a look-up finds, what a change leaves, and that a branch is told by its paths and lines.
-use Rattle.std.proofs.Common.{◌≡◌, ◌⊎◌, inl, inr, ℕ, List, [], ◌∷◌, Some, None, refl, sym, ap, subst, ◌∙◌}
+use Rattle.std.proofs.Common.{◌≡◌, ◌⊎◌, inl, inr, ℕ, List, [], ◌∷◌, Option, Some, None, IsSome, refl, sym, ap, subst, ◌∙◌, rules}
 use Rattle.std.specs.Map.{keys_of}
 use Rattle.annex_base.specs.ByteOrder.{text_cmp, Before, IsInOrder}
 use Rattle.annex_base.specs.Lists.{Member, Each}
@@ -64,6 +64,11 @@ file_at-there (f ∷ files) path among =
       | tied same ↦ file_at-tied f files path same ∙ ap Some (sym (lines_at-tied f files path same))
       | above more ↦ file_at-above f files path more ∙ later (λ same. Before-other f.0 path more (sym same)) ∙ ap (λ o. Some (or_none o)) (sym (file_at-above f files path more))
     ]
+
+-- a look-up that is said to find lines doesn't find none
+pub never_none : (o : Option Lines) → o ≡ None → IsSome o → ⊥
+never_none (Some x) e some = absurd cc
+never_none None e some = search rules
 
 pub Member-file_at : (files : Files) (path : List ℕ) (lines : Lines) → file_at files path ≡ Some lines → Member path (Paths files)
 Member-file_at [] path lines found = absurd (some_none lines (sym found))

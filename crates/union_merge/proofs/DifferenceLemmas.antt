@@ -1,5 +1,5 @@
 -- The lines of one set that another lacks.
-use Rattle.std.proofs.Common.{◌≡◌, ◌⊎◌, ◌↔◌, inl, inr, ℕ, List, [], ◌∷◌, ◌++◌, Bool, true, false, cond, ◌||◌, not, filter, refl, sym, ap, ◌∙◌, true≢false}
+use Rattle.std.proofs.Common.{◌≡◌, ◌⊎◌, ◌↔◌, inl, inr, ℕ, List, [], ◌∷◌, ◌++◌, Bool, true, false, cond, ◌||◌, not, filter, refl, sym, ap, subst, ◌∙◌, true≢false}
 use Rattle.std.specs.Prelude.{IsTrue, bytes_eq}
 use Rattle.std.proofs.lemmas.Bool.{cases_Bool}
 use Rattle.std.proofs.lemmas.Slice.Eq.{bytes_eq-Decides}
@@ -88,6 +88,15 @@ union-difference xs ys sorted =
         | inr old ↦ union-left z xs (difference ys xs) old
       ]
     ])
+
+-- lines that a set lacks are taken off its union with them
+pub difference-union : (xs ys : Lines) → IsInOrder xs → difference ys xs ≡ ys → difference (union xs ys) ys ≡ xs
+difference-union xs ys sorted lacks =
+    same_members (difference (union xs ys) ys) xs (filter-in_order (λ line. not (has_line ys line)) (union xs ys) (union-in_order xs ys sorted)) sorted
+    (λ z among.
+    let left = difference-parts z (union xs ys) ys among in
+    elim (Member-union z xs ys left.0) [ inl own ↦ own | inr new ↦ absurd (left.1 new) ])
+    (λ z among. difference-from z (union xs ys) ys (union-left z xs ys among) (λ new. (difference-parts z ys xs (subst (Member z) (sym lacks) new)).1 among))
 
 -- the lines of both in one list are the lines of both
 pub union-joined : (xs ys : Lines) → IsInOrder xs → union [] (xs ++ ys) ≡ union xs ys

@@ -5,8 +5,8 @@ ghost use Rattle.std.specs.List.Sorted.{IsStrictlySortedBy};
 ghost use Rattle.std.specs.Map.{keys_of};
 ghost use Rattle.annex_base.specs.ByteOrder.{text_cmp, path_cmp};
 ghost use Rattle.std.specs.Option.{option_copied};
-ghost use Rattle.union_merge.specs.LineSet.{IsLine};
-ghost use Rattle.union_merge.specs.Branch.{IsBranch, file_at, with_back, with_file, without_file, merged_file};
+ghost use Rattle.union_merge.specs.LineSet.{IsLine, difference};
+ghost use Rattle.union_merge.specs.Branch.{IsBranch, file_at, lines_at, with_back, with_file, without_file, merged_file};
 ghost use Rattle.union_merge.specs.FileView.{files_of};
 
 use crate::line_set::LineSet;
@@ -86,6 +86,15 @@ impl Branch {
             Some(lines) => self.set_file(path, lines),
             None => self.take_off(path),
         }
+    }
+
+    /// Takes lines off a file that is there. It takes no memory.
+    pub fn take_lines_off(&mut self, path: &[u8], lines: &LineSet)
+        requires line { IsLine path.now }
+        requires there { IsSome (file_at self.old path.now) }
+        ensures { self.new ≡ with_file self.old path.now (difference (lines_at self.old path.now) lines.now) }
+    {
+        take_lines(&mut self.files, path, lines);
     }
 
     fn set_file(&mut self, path: &[u8], lines: LineSet)
@@ -178,6 +187,18 @@ fn set_lines(files: &mut BTreeMap<Vec<u8>, LineSet>, path: &[u8], lines: LineSet
         unreachable!();
     };
     *own = lines;
+}
+
+// Takes lines off a file that is there.
+fn take_lines(files: &mut BTreeMap<Vec<u8>, LineSet>, path: &[u8], lines: &LineSet)
+    requires order { IsStrictlySortedBy text_cmp (keys_of (files_of files.old.entries)) }
+    requires there { IsSome (file_at (files_of files.old.entries) path.now) }
+    ensures { files_of files.new.entries ≡ with_file (files_of files.old.entries) path.now (difference (lines_at (files_of files.old.entries) path.now) lines.now) }
+{
+    let Some(own) = files.get_mut(path) else {
+        unreachable!();
+    };
+    own.take_off(lines);
 }
 
 fn take_off(files: &mut BTreeMap<Vec<u8>, LineSet>, path: &[u8])

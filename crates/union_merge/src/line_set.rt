@@ -92,6 +92,13 @@ impl LineSet {
         Ok(())
     }
 
+    /// Takes the lines of another set off. It takes no memory.
+    pub fn take_off(&mut self, other: &LineSet)
+        ensures { self.new ≡ difference self.old other.now }
+    {
+        keep_others(&mut self.lines, other);
+    }
+
     /// Those of its lines that the other set lacks.
     pub fn difference(&self, other: &LineSet) -> Result<LineSet, NoMemory>
         ensures { IfOk result (λ s. s ≡ difference self.now other.now) }
@@ -219,6 +226,13 @@ fn lines_without(alloc: Global, lines: &[Line], other: &LineSet) -> Result<Vec<L
         }
     }
     Ok(new)
+}
+
+// Keeps those of the lines that the set lacks.
+fn keep_others(lines: &mut Vec<Line>, other: &LineSet)
+    ensures { lines.new.items ≡ difference lines.old.items other.now }
+{
+    lines.retain(|line| !is_among(other, line.bytes()));
 }
 
 // Adds lines for which there is room: few each in its place, which moves what stands behind it, and many at the end,
