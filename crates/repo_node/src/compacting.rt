@@ -18,6 +18,7 @@ ghost use Rattle.repo_node.specs.Walks.{StopsAfter, compact_file, compact_files,
 use crate::logs::copies;
 use crate::node::Node;
 use crate::refused::NodeRefused;
+use crate::writing::Change;
 use annex_base::{Items, Line, NoMemory, Text};
 use log_lines::{LogKind, compact, compaction_keeps_the_reading, has_outdated};
 use object_store::Keeper;
@@ -84,7 +85,7 @@ impl<K: Keeper> Node<K> {
         let none = Items::new(alloc);
         self.write(
             path,
-            all,
+            Change::Replace(all),
             EntryKind::Compact { file },
             none,
             &[],

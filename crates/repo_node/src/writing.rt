@@ -1,10 +1,10 @@
 //! What a node writes into the files of its branch.
-ghost use Rattle.std.specs.Prelude.{◌≡◌, ◌≤◌, ℕ, List, [], ◌∷◌, Some, IfOk, IfErr, IsErrOf, OnOk, OnErr, option_map, IsSome};
+ghost use Rattle.std.specs.Prelude.{◌≡◌, ◌≤◌, ℕ, List, [], ◌∷◌, Some, IfOk, IfErr, IsErrOf, OnOk, OnErr, option_map, is_some, IsSome};
 ghost use Rattle.annex_base.specs.Causes.{Rose};
 ghost use Rattle.annex_base.specs.declared.kinds.Call.TheVariants as calls;
 ghost use Rattle.object_store.specs.Stores.{with_at};
 ghost use Rattle.run_data.specs.declared.entry.By.{By};
-ghost use Rattle.union_merge.specs.Branch.{file_at, lines_at, with_back, with_file};
+ghost use Rattle.union_merge.specs.Branch.{file_at, lines_at, merged_file, with_back, with_file};
 ghost use Rattle.union_merge.specs.LineSet.{IsLine, text_of};
 ghost use Rattle.node_model.specs.Files.{lines_after};
 ghost use Rattle.std.specs.Option.{ForSome};
@@ -12,6 +12,7 @@ ghost use Rattle.trust_groups.specs.Adding.{lines_and};
 ghost use Rattle.trust_groups.specs.Reads.{HaveReadLines};
 ghost use Rattle.trust_groups.specs.Settings.{Lines};
 ghost use Rattle.repo_node.specs.Calls.{Makes};
+ghost use Rattle.repo_node.specs.Changes.{AddsNew, AreNew, changed, changed_file, undone};
 ghost use Rattle.repo_node.specs.Kept.{IsOfFiles, first_goes};
 ghost use Rattle.repo_node.specs.Indexed.{ReadsAlike};
 ghost use Rattle.repo_node.specs.Nodes.{owed_now, with_entry};
@@ -28,8 +29,27 @@ use annex_base::{Call, Items, Line, NoMemory};
 use node_parts::{direct_entries_leave_rows, parts_stay, tables_fill_as_states};
 use object_store::Keeper;
 use run_data::{By, EntryKind};
+use std::alloc::Global;
 use trust_groups::Settings;
-use union_merge::{Branch, LineSet, files_are_changed_alone};
+use union_merge::{Branch, LineSet, files_are_changed_alone, new_lines_are_taken_off_again};
+
+/// What becomes of a file of the branch.
+#[derive(Drop)]
+pub(crate) enum Change<'a> {
+    /// It gets these lines, which it lacks, beside its own.
+    Add(&'a LineSet),
+    /// It has these lines in place of its own.
+    Replace(LineSet),
+}
+
+/// What makes a changed file as it was.
+#[derive(Drop)]
+enum Undo<'a> {
+    /// These lines are taken off.
+    TakeOff(&'a LineSet),
+    /// It had these lines, or wasn't there.
+    PutBack(Option<LineSet>),
+}
 
 /// What a file of a branch has, as a copy.
 fn file_of(branch: &Branch, path: &[u8]) -> Result<Option<LineSet>, NoMemory>
@@ -55,6 +75,74 @@ fn replaced(branch: &mut Branch, path: &[u8], all: LineSet) -> Result<Option<Lin
     let was = file_of(branch, path)?;
     branch.replace_file(path, all)?;
     Ok(was)
+}
+
+fn has_file(branch: &Branch, path: &[u8]) -> bool
+    ensures { result ≡ is_some (file_at branch.now path.now) }
+{
+    branch.file(path).is_some()
+}
+
+/// Adds lines that a file of the branch lacks, and answers what takes them off again.
+fn added<'a>(branch: &mut Branch, path: &[u8], new: &'a LineSet) -> Result<Undo<'a>, NoMemory>
+    requires line { IsLine path.now }
+    requires new { AreNew new.now (lines_at branch.old path.now) }
+    ensures ok { OnOk result (branch.new ≡ merged_file branch.old path.now new.now) }
+    ensures there { OnOk result (IsSome (file_at branch.new path.now)) }
+    ensures undo { IfOk result (λ undo. undone branch.new path.now undo ≡ branch.old) }
+    ensures err { OnErr result (branch.new ≡ branch.old) }
+{
+    // For the proof: laws, by which the branch is then as before, and that its files are in order.
+    files_are_changed_alone();
+    new_lines_are_taken_off_again();
+    let _ = branch.files();
+    let is_there = has_file(branch, path);
+    branch.merge_file(path, new)?;
+    if is_there {
+        Ok(Undo::TakeOff(new))
+    } else {
+        Ok(Undo::PutBack(None))
+    }
+}
+
+/// Changes a file of the branch, and answers what undoes it.
+fn changed<'a>(branch: &mut Branch, path: &[u8], change: Change<'a>) -> Result<Undo<'a>, NoMemory>
+    requires line { IsLine path.now }
+    requires new { AddsNew change (lines_at branch.old path.now) }
+    ensures ok { OnOk result (branch.new ≡ changed_file branch.old path.now change.entry) }
+    ensures there { OnOk result (IsSome (file_at branch.new path.now)) }
+    ensures undo { IfOk result (λ undo. undone branch.new path.now undo ≡ branch.old) }
+    ensures err { OnErr result (branch.new ≡ branch.old) }
+{
+    match change {
+        Change::Add(new) => added(branch, path, new),
+        Change::Replace(all) => {
+            let was = replaced(branch, path, all)?;
+            Ok(Undo::PutBack(was))
+        }
+    }
+}
+
+/// Makes a changed file as it was. It takes no memory.
+fn put_back(branch: &mut Branch, path: &[u8], undo: Undo<'_>)
+    requires line { IsLine path.now }
+    requires there { IsSome (file_at branch.old path.now) }
+    ensures { branch.new ≡ undone branch.old path.now undo.entry }
+{
+    match undo {
+        Undo::TakeOff(lines) => branch.take_lines_off(path, lines),
+        Undo::PutBack(was) => branch.put_back(path, was),
+    }
+}
+
+/// The text of a file of the branch.
+fn text_at(alloc: Global, branch: &Branch, path: &[u8]) -> Result<Vec<u8>, NoMemory>
+    ensures { IfOk result (λ v. v.items ≡ text_of (lines_at branch.now path.now)) }
+{
+    match branch.file(path) {
+        Some(lines) => lines.to_bytes(),
+        None => Ok(Vec::new(alloc)),
+    }
 }
 
 /// Puts the file into the store, and adds the entry that says so, or that the store failed.
@@ -86,53 +174,63 @@ fn put<K: Keeper>(
     }
 }
 
-/// A file that the branch has and the store doesn't have yet: its bytes, and what gives it back to the branch as it was.
+/// A file that the branch has and the store doesn't have yet: its bytes, and what makes it as it was in the branch.
 #[derive(Drop)]
-struct Draft {
+struct Draft<'a> {
     bytes: Vec<u8>,
-    was: Option<LineSet>,
+    undo: Undo<'a>,
 }
 
-/// Gives a file of the branch these lines, with room for the entry that says so. All that takes memory is done.
-fn drafted(
+/// Changes a file of the branch, with room for the entry that says so. All that takes memory is done; where memory runs out, the
+/// branch is as it was.
+fn drafted<'a>(
     branch: &mut Branch,
     past: &mut Past,
     path: &[u8],
-    all: LineSet,
-) -> Result<Draft, NodeRefused>
-    requires { IsLine path.now }
+    change: Change<'a>,
+) -> Result<Draft<'a>, NodeRefused>
+    requires line { IsLine path.now }
+    requires new { AddsNew change (lines_at branch.old path.now) }
     ensures ready { OnOk result (IsReady past.new) }
     ensures same { SamePast past.old past.new }
-    ensures bytes { IfOk result (λ d. d.bytes.items ≡ text_of all) }
-    ensures branch { OnOk result (branch.new ≡ with_file branch.old path.now all) }
+    ensures bytes { IfOk result (λ d. d.bytes.items ≡ text_of (changed change.entry (lines_at branch.old path.now))) }
+    ensures branch { OnOk result (branch.new ≡ changed_file branch.old path.now change.entry) }
     ensures there { OnOk result (IsSome (file_at branch.new path.now)) }
-    ensures back { IfOk result (λ d. with_back branch.new path.now d.was ≡ branch.old) }
+    ensures undo { IfOk result (λ d. undone branch.new path.now d.undo ≡ branch.old) }
     ensures err { (by : By) → IfErr result (λ e. FailsFor by e calls.PutFile past.old past.new) }
     ensures err_branch { OnErr result (branch.new ≡ branch.old) }
     ensures no_fault { IsErrOf result NodeRefused.StoreFault → ⊥ }
 {
+    // A law, for the proof: a file that is given lines has these.
+    files_are_changed_alone();
     past.ready()?;
-    let bytes = all.to_bytes()?;
-    let was = replaced(branch, path, all)?;
-    Ok(Draft { bytes, was })
+    let undo = changed(branch, path, change)?;
+    match text_at(past.alloc, branch, path) {
+        Ok(bytes) => Ok(Draft { bytes, undo }),
+        Err(NoMemory) => {
+            put_back(branch, path, undo);
+            Err(NodeRefused::NoMemory)
+        }
+    }
 }
 
-/// Gives a file of the branch these lines, in the store too, by an entry of this kind with those that are new. Where the store
-/// fails, the branch has the file back as it was.
+/// Changes a file of the branch, in the store too, by an entry of this kind with the lines that are new. Where the store fails, the
+/// branch has the file as it was.
 fn write_file<K: Keeper>(
     keeper: &mut K,
     branch: &mut Branch,
     past: &mut Past,
     path: &[u8],
-    all: LineSet,
+    change: Change<'_>,
     kind: EntryKind,
     lines: Items<Line>,
     by: By,
 ) -> Result<(), NodeRefused>
-    requires { IsLine path.now }
-    ensures branch { OnOk result (branch.new ≡ with_file branch.old path.now all) }
+    requires line { IsLine path.now }
+    requires new { AddsNew change (lines_at branch.old path.now) }
+    ensures branch { OnOk result (branch.new ≡ changed_file branch.old path.now change.entry) }
     ensures past { OnOk result (AddsTo kind lines past.old past.new) }
-    ensures files { OnOk result (K.files keeper.new ≡ option_map (λ f. with_at f path.now (Some (text_of all))) (K.files keeper.old)) }
+    ensures files { OnOk result (K.files keeper.new ≡ option_map (λ f. with_at f path.now (Some (text_of (changed change.entry (lines_at branch.old path.now))))) (K.files keeper.old)) }
     ensures err { IfErr result (λ e. FailsFor by e calls.PutFile past.old past.new) }
     ensures err_branch { OnErr result (branch.new ≡ branch.old) }
     ensures err_files { OnErr result (K.files keeper.new ≡ K.files keeper.old) }
@@ -141,11 +239,11 @@ fn write_file<K: Keeper>(
     ensures cause { IsErrOf result NodeRefused.StoreFault → Rose (K.faults keeper.old) (K.faults keeper.new) }
     ensures calls { Makes (calls.PutFile ∷ []) calls.PutFile result (K.failing keeper.old) (K.failing keeper.new) }
 {
-    let draft = drafted(branch, past, path, all)?;
+    let draft = drafted(branch, past, path, change)?;
     match put(keeper, past, path, &draft.bytes, kind, lines, by) {
         Ok(()) => Ok(()),
         Err(refused) => {
-            branch.put_back(path, draft.was);
+            put_back(branch, path, draft.undo);
             Err(refused)
         }
     }
@@ -158,18 +256,19 @@ fn write_indexed<K: Keeper>(
     past: &mut Past,
     index: &mut Option<Settings>,
     path: &[u8],
-    all: LineSet,
+    change: Change<'_>,
     kind: EntryKind,
     lines: Items<Line>,
     new: &[Line],
     by: By,
 ) -> Result<(), NodeRefused>
-    requires { IsLine path.now }
+    requires line { IsLine path.now }
+    requires new { AddsNew change (lines_at branch.old path.now) }
     ensures index { OnOk result ((was : Lines) → ForSome index.old (λ i. HaveReadLines i was) → ForSome index.new (λ i. HaveReadLines i (lines_and was path.now new.now))) }
     ensures err_index { OnErr result (index.new ≡ index.old) }
-    ensures branch { OnOk result (branch.new ≡ with_file branch.old path.now all) }
+    ensures branch { OnOk result (branch.new ≡ changed_file branch.old path.now change.entry) }
     ensures past { OnOk result (AddsTo kind lines past.old past.new) }
-    ensures files { OnOk result (K.files keeper.new ≡ option_map (λ f. with_at f path.now (Some (text_of all))) (K.files keeper.old)) }
+    ensures files { OnOk result (K.files keeper.new ≡ option_map (λ f. with_at f path.now (Some (text_of (changed change.entry (lines_at branch.old path.now))))) (K.files keeper.old)) }
     ensures err { IfErr result (λ e. FailsFor by e calls.PutFile past.old past.new) }
     ensures err_branch { OnErr result (branch.new ≡ branch.old) }
     ensures err_files { OnErr result (K.files keeper.new ≡ K.files keeper.old) }
@@ -178,7 +277,7 @@ fn write_indexed<K: Keeper>(
     ensures cause { IsErrOf result NodeRefused.StoreFault → Rose (K.faults keeper.old) (K.faults keeper.new) }
     ensures calls { Makes (calls.PutFile ∷ []) calls.PutFile result (K.failing keeper.old) (K.failing keeper.new) }
 {
-    match write_file(keeper, branch, past, path, all, kind, lines, by) {
+    match write_file(keeper, branch, past, path, change, kind, lines, by) {
         Ok(()) => {
             *index = grown(index.take(), path, new);
             Ok(())
@@ -218,20 +317,21 @@ fn write_beside<K: Keeper>(
     index: &mut Option<Settings>,
     debts: &mut Vec<usize>,
     path: &[u8],
-    all: LineSet,
+    change: Change<'_>,
     kind: EntryKind,
     lines: Items<Line>,
     new: &[Line],
     by: By,
     paid: bool,
 ) -> Result<(), NodeRefused>
-    requires { IsLine path.now }
+    requires line { IsLine path.now }
+    requires new { AddsNew change (lines_at branch.old path.now) }
     ensures debts { debts.new.items ≡ rest_if (first_goes paid by result) debts.old.items }
     ensures index { OnOk result ((was : Lines) → ForSome index.old (λ i. HaveReadLines i was) → ForSome index.new (λ i. HaveReadLines i (lines_and was path.now new.now))) }
     ensures err_index { OnErr result (index.new ≡ index.old) }
-    ensures branch { OnOk result (branch.new ≡ with_file branch.old path.now all) }
+    ensures branch { OnOk result (branch.new ≡ changed_file branch.old path.now change.entry) }
     ensures past { OnOk result (AddsTo kind lines past.old past.new) }
-    ensures files { OnOk result (K.files keeper.new ≡ option_map (λ f. with_at f path.now (Some (text_of all))) (K.files keeper.old)) }
+    ensures files { OnOk result (K.files keeper.new ≡ option_map (λ f. with_at f path.now (Some (text_of (changed change.entry (lines_at branch.old path.now))))) (K.files keeper.old)) }
     ensures err { IfErr result (λ e. FailsFor by e calls.PutFile past.old past.new) }
     ensures err_branch { OnErr result (branch.new ≡ branch.old) }
     ensures err_files { OnErr result (K.files keeper.new ≡ K.files keeper.old) }
@@ -240,19 +340,21 @@ fn write_beside<K: Keeper>(
     ensures cause { IsErrOf result NodeRefused.StoreFault → Rose (K.faults keeper.old) (K.faults keeper.new) }
     ensures calls { Makes (calls.PutFile ∷ []) calls.PutFile result (K.failing keeper.old) (K.failing keeper.new) }
 {
-    let answer = write_indexed(keeper, branch, past, index, path, all, kind, lines, new, by);
+    let answer = write_indexed(
+        keeper, branch, past, index, path, change, kind, lines, new, by,
+    );
     let goes = first_goes(paid, by, &answer);
     drop_first(debts, goes);
     answer
 }
 
 impl<K: Keeper> Node<K> {
-    /// Gives a file of the branch these lines, by an entry of this kind with those that are new; they are what the first owed line
-    /// is due, or aren't.
+    /// Changes a file of the branch, by an entry of this kind with the lines that are new; they are what the first owed line is due,
+    /// or aren't.
     pub(crate) fn write(
         &mut self,
         path: &[u8],
-        all: LineSet,
+        change: Change<'_>,
         kind: EntryKind,
         lines: Items<Line>,
         new: &[Line],
@@ -260,11 +362,12 @@ impl<K: Keeper> Node<K> {
         paid: bool,
     ) -> Result<(), NodeRefused>
         requires line { IsLine path.now }
+        requires new { AddsNew change (lines_at self.old.branch path.now) }
         requires kind { IsOfFiles kind }
         requires owed { owed_now self.old kind lines ≡ rest_if paid self.old.owed }
-        requires reads { ReadsAlike (lines_and (lines_at self.old.branch) path.now new.now) (lines_at (with_file self.old.branch path.now all)) }
-        requires lines { (p : List ℕ) → lines_at (with_file self.old.branch path.now all) p ≡ lines_after p (lines_at self.old.branch p) kind lines }
-        ensures ok { OnOk result (self.new ≡ with_entry self.old self.new.keeper (with_file self.old.branch path.now all) kind lines) }
+        requires reads { ReadsAlike (lines_and (lines_at self.old.branch) path.now new.now) (lines_at (changed_file self.old.branch path.now change)) }
+        requires lines { (p : List ℕ) → lines_at (changed_file self.old.branch path.now change) p ≡ lines_after p (lines_at self.old.branch p) kind lines }
+        ensures ok { OnOk result (self.new ≡ with_entry self.old self.new.keeper (changed_file self.old.branch path.now change.entry) kind lines) }
         ensures err { IfErr result (λ e. RefusesFor by e calls.PutFile self.old self.new) }
         ensures contents { K.contents self.new.keeper ≡ K.contents self.old.keeper }
         ensures parts { K.parts self.new.keeper ≡ K.parts self.old.keeper }
@@ -288,7 +391,7 @@ impl<K: Keeper> Node<K> {
             &mut self.index,
             &mut self.debts,
             path,
-            all,
+            change,
             kind,
             lines,
             new,
