@@ -22,7 +22,7 @@ use Rattle.repo_node.specs.declared.setup.Ended.{Ended}
 use Rattle.repo_node.specs.declared.setup.Setup.{Setup}
 use Rattle.node_model.specs.Owed.{Owed}
 use Rattle.repo_node.specs.Changes.{changed_file}
-use Rattle.repo_node.specs.declared.writing.Change.{Change}
+use Rattle.repo_node.specs.declared.changing.Change.{Change}
 use Rattle.repo_node.specs.Kept.{IsKept, IsOfFiles, owed_refused}
 use Rattle.repo_node.specs.Nodes.{HasFiles, NodeView, owed_now, with_entry}
 use Rattle.repo_node.specs.Owing.{rest_if}

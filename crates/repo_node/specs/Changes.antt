@@ -2,10 +2,10 @@
 use Rattle.std.specs.Prelude.{◌≡◌, ℕ, List}
 use Rattle.union_merge.specs.Branch.{Files, lines_at, with_back, with_file}
 use Rattle.union_merge.specs.LineSet.{difference, union}
-use Rattle.repo_node.specs.declared.writing.Change.{Change}
-use Rattle.repo_node.specs.declared.writing.Change.TheVariants.{Add, Replace}
-use Rattle.repo_node.specs.declared.writing.Undo.{Undo}
-use Rattle.repo_node.specs.declared.writing.Undo.TheVariants.{TakeOff, PutBack}
+use Rattle.repo_node.specs.declared.changing.Change.{Change}
+use Rattle.repo_node.specs.declared.changing.Change.TheVariants.{Add, Replace}
+use Rattle.repo_node.specs.declared.changing.Undo.{Undo}
+use Rattle.repo_node.specs.declared.changing.Undo.TheVariants.{TakeOff, PutBack}
 
 -- the lines of a file after a change
 abbrev pub changed : Change → List (List ℕ) → List (List ℕ)

@@ -15,10 +15,10 @@ ghost use Rattle.repo_node.specs.Nodes.{with_entry};
 ghost use Rattle.repo_node.specs.Refusals.{RefusesSo};
 ghost use Rattle.repo_node.specs.Walks.{StopsAfter, compact_file, compact_files, current, over};
 
+use crate::changing::Change;
 use crate::logs::copies;
 use crate::node::Node;
 use crate::refused::NodeRefused;
-use crate::writing::Change;
 use annex_base::{Items, Line, NoMemory, Text};
 use log_lines::{LogKind, compact, compaction_keeps_the_reading, has_outdated};
 use object_store::Keeper;

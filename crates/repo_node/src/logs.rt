@@ -12,9 +12,9 @@ ghost use Rattle.repo_node.specs.Logs.{with_lines, with_log};
 ghost use Rattle.repo_node.specs.Nodes.{are_due, with_entry};
 ghost use Rattle.repo_node.specs.Refusals.{RefusesFor, RefusesSo};
 
+use crate::changing::Change;
 use crate::node::Node;
 use crate::refused::NodeRefused;
-use crate::writing::Change;
 use annex_base::{Items, Line, NoMemory};
 use log_lines::readings_depend_on_the_set;
 use object_store::Keeper;

@@ -1,10 +1,10 @@
 //! What a node writes into the files of its branch.
-ghost use Rattle.std.specs.Prelude.{◌≡◌, ◌≤◌, ℕ, List, [], ◌∷◌, Some, IfOk, IfErr, IsErrOf, OnOk, OnErr, option_map, is_some, IsSome};
+ghost use Rattle.std.specs.Prelude.{◌≡◌, ◌≤◌, ℕ, List, [], ◌∷◌, Some, IfOk, IfErr, IsErrOf, OnOk, OnErr, option_map, IsSome};
 ghost use Rattle.annex_base.specs.Causes.{Rose};
 ghost use Rattle.annex_base.specs.declared.kinds.Call.TheVariants as calls;
 ghost use Rattle.object_store.specs.Stores.{with_at};
 ghost use Rattle.run_data.specs.declared.entry.By.{By};
-ghost use Rattle.union_merge.specs.Branch.{file_at, lines_at, merged_file, with_back, with_file};
+ghost use Rattle.union_merge.specs.Branch.{file_at, lines_at};
 ghost use Rattle.union_merge.specs.LineSet.{IsLine, text_of};
 ghost use Rattle.node_model.specs.Files.{lines_after};
 ghost use Rattle.std.specs.Option.{ForSome};
@@ -12,7 +12,7 @@ ghost use Rattle.trust_groups.specs.Adding.{lines_and};
 ghost use Rattle.trust_groups.specs.Reads.{HaveReadLines};
 ghost use Rattle.trust_groups.specs.Settings.{Lines};
 ghost use Rattle.repo_node.specs.Calls.{Makes};
-ghost use Rattle.repo_node.specs.Changes.{AddsNew, AreNew, changed, changed_file, undone};
+ghost use Rattle.repo_node.specs.Changes.{AddsNew, changed, changed_file, undone};
 ghost use Rattle.repo_node.specs.Kept.{IsOfFiles, first_goes};
 ghost use Rattle.repo_node.specs.Indexed.{ReadsAlike};
 ghost use Rattle.repo_node.specs.Nodes.{owed_now, with_entry};
@@ -21,6 +21,7 @@ ghost use Rattle.repo_node.specs.Pasts.{AddsTo, FailsFor, IsReady, SamePast};
 ghost use Rattle.repo_node.specs.Refusals.{RefusesFor};
 ghost use Rattle.repo_node.specs.Stored.{LeavesRest};
 
+use crate::changing::{Change, Undo, changed, put_back, text_at};
 use crate::indexing::grown;
 use crate::node::Node;
 use crate::past::Past;
@@ -29,121 +30,8 @@ use annex_base::{Call, Items, Line, NoMemory};
 use node_parts::{direct_entries_leave_rows, parts_stay, tables_fill_as_states};
 use object_store::Keeper;
 use run_data::{By, EntryKind};
-use std::alloc::Global;
 use trust_groups::Settings;
-use union_merge::{Branch, LineSet, files_are_changed_alone, new_lines_are_taken_off_again};
-
-/// What becomes of a file of the branch.
-#[derive(Drop)]
-pub(crate) enum Change<'a> {
-    /// It gets these lines, which it lacks, beside its own.
-    Add(&'a LineSet),
-    /// It has these lines in place of its own.
-    Replace(LineSet),
-}
-
-/// What makes a changed file as it was.
-#[derive(Drop)]
-enum Undo<'a> {
-    /// These lines are taken off.
-    TakeOff(&'a LineSet),
-    /// It had these lines, or wasn't there.
-    PutBack(Option<LineSet>),
-}
-
-/// What a file of a branch has, as a copy.
-fn file_of(branch: &Branch, path: &[u8]) -> Result<Option<LineSet>, NoMemory>
-    ensures { IfOk result (λ o. o ≡ file_at branch.now path.now) }
-{
-    match branch.file(path) {
-        Some(lines) => Ok(Some(lines.copy()?)),
-        None => Ok(None),
-    }
-}
-
-/// Gives a file of the branch these lines, and answers what gives it back as it was.
-fn replaced(branch: &mut Branch, path: &[u8], all: LineSet) -> Result<Option<LineSet>, NoMemory>
-    requires { IsLine path.now }
-    ensures ok { OnOk result (branch.new ≡ with_file branch.old path.now all) }
-    ensures there { OnOk result (IsSome (file_at branch.new path.now)) }
-    ensures back { IfOk result (λ was. with_back branch.new path.now was ≡ branch.old) }
-    ensures err { OnErr result (branch.new ≡ branch.old) }
-{
-    // For the proof: a law, by which a file that is put back leaves the branch as it was, and that its files are in order.
-    files_are_changed_alone();
-    let _ = branch.files();
-    let was = file_of(branch, path)?;
-    branch.replace_file(path, all)?;
-    Ok(was)
-}
-
-fn has_file(branch: &Branch, path: &[u8]) -> bool
-    ensures { result ≡ is_some (file_at branch.now path.now) }
-{
-    branch.file(path).is_some()
-}
-
-/// Adds lines that a file of the branch lacks, and answers what takes them off again.
-fn added<'a>(branch: &mut Branch, path: &[u8], new: &'a LineSet) -> Result<Undo<'a>, NoMemory>
-    requires line { IsLine path.now }
-    requires new { AreNew new.now (lines_at branch.old path.now) }
-    ensures ok { OnOk result (branch.new ≡ merged_file branch.old path.now new.now) }
-    ensures there { OnOk result (IsSome (file_at branch.new path.now)) }
-    ensures undo { IfOk result (λ undo. undone branch.new path.now undo ≡ branch.old) }
-    ensures err { OnErr result (branch.new ≡ branch.old) }
-{
-    // For the proof: laws, by which the branch is then as before, and that its files are in order.
-    files_are_changed_alone();
-    new_lines_are_taken_off_again();
-    let _ = branch.files();
-    let is_there = has_file(branch, path);
-    branch.merge_file(path, new)?;
-    if is_there {
-        Ok(Undo::TakeOff(new))
-    } else {
-        Ok(Undo::PutBack(None))
-    }
-}
-
-/// Changes a file of the branch, and answers what undoes it.
-fn changed<'a>(branch: &mut Branch, path: &[u8], change: Change<'a>) -> Result<Undo<'a>, NoMemory>
-    requires line { IsLine path.now }
-    requires new { AddsNew change (lines_at branch.old path.now) }
-    ensures ok { OnOk result (branch.new ≡ changed_file branch.old path.now change.entry) }
-    ensures there { OnOk result (IsSome (file_at branch.new path.now)) }
-    ensures undo { IfOk result (λ undo. undone branch.new path.now undo ≡ branch.old) }
-    ensures err { OnErr result (branch.new ≡ branch.old) }
-{
-    match change {
-        Change::Add(new) => added(branch, path, new),
-        Change::Replace(all) => {
-            let was = replaced(branch, path, all)?;
-            Ok(Undo::PutBack(was))
-        }
-    }
-}
-
-/// Makes a changed file as it was. It takes no memory.
-fn put_back(branch: &mut Branch, path: &[u8], undo: Undo<'_>)
-    requires line { IsLine path.now }
-    requires there { IsSome (file_at branch.old path.now) }
-    ensures { branch.new ≡ undone branch.old path.now undo.entry }
-{
-    match undo {
-        Undo::TakeOff(lines) => branch.take_lines_off(path, lines),
-        Undo::PutBack(was) => branch.put_back(path, was),
-    }
-}
-
-/// The text of a file of the branch.
-fn text_at(alloc: Global, branch: &Branch, path: &[u8]) -> Result<Vec<u8>, NoMemory>
-    ensures { IfOk result (λ v. v.items ≡ text_of (lines_at branch.now path.now)) }
-{
-    match branch.file(path) {
-        Some(lines) => lines.to_bytes(),
-        None => Ok(Vec::new(alloc)),
-    }
-}
+use union_merge::{Branch, files_are_changed_alone};
 
 /// Puts the file into the store, and adds the entry that says so, or that the store failed.
 fn put<K: Keeper>(

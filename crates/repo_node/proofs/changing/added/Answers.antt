@@ -1,10 +1,10 @@
--- What the proof of `writing::added` needs beside the tactics.
+-- What the proof of `changing::added` needs beside the tactics.
 use Rattle.std.proofs.Common.{List, ℕ, Option, None, sym, ap, subst, ◌∙◌}
 use Rattle.union_merge.specs.Branch.{Files, file_at, lines_at, or_none, with_back, with_file}
 use Rattle.union_merge.specs.LineSet.{difference, union}
 use Rattle.repo_node.specs.Changes.{AreNew}
 use Rattle.repo_node.proofs.ChangeLemmas.{not_there, some_there, there_some}
-use Rattle.repo_node.proofs.writing.added.Goals as goal
+use Rattle.repo_node.proofs.changing.added.Goals as goal
 
 pub returns-then-is_there-clause-there : goal.returns-then-is_there-clause-there
 returns-then-is_there-clause-there c =

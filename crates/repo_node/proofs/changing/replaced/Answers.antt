@@ -1,8 +1,8 @@
--- What the proof of `writing::replaced` needs beside the tactics.
+-- What the proof of `changing::replaced` needs beside the tactics.
 use Rattle.std.proofs.Common.{Option, List, ℕ, ◌∙◌, ap}
 use Rattle.union_merge.specs.Branch.{Files, file_at, with_back, with_file}
 use Rattle.repo_node.proofs.ChangeLemmas.{some_there}
-use Rattle.repo_node.proofs.writing.replaced.Goals as goal
+use Rattle.repo_node.proofs.changing.replaced.Goals as goal
 
 pub returns-clause-there : goal.returns-clause-there
 returns-clause-there c =
