@@ -72,13 +72,6 @@ pub cause_open : (r : Reading) (w : Worker) (c : ℕ) (s : Standing) → (s ≡ 
 cause_open r w c s (inl e) is = cause_claimed r w c (sym (ap standing_of e) ∙ is)
 cause_open r w c s (inr e) is = cause_asked r w c (sym (ap standing_of e) ∙ is)
 
-module _ (ask : ℕ → Offer) (cause : ℕ → Cause) (c : ℕ) (cs : List ℕ) where
-  pub fails_not : (kind : Kind) → Gives kind ≡ ask c → failures ask cause (c ∷ cs) ≡ failures ask cause cs
-  fails_not kind e = rw (← e) refl
-
-  pub fails_too : Fails ≡ ask c → failures ask cause (c ∷ cs) ≡ record { repo = c; cause = cause c } ∷ failures ask cause cs
-  fails_too e = rw (← e) refl
-
 -- ---- the outcomes
 
 module _ (x : Sight) (rows : Rows) (p : List ℕ → Bool) (fails : Option Call) (rest : Rest) (w : Worker) (items : List Evidence) (local : drop_side w.job.kind w.job.peer ≡ Local)

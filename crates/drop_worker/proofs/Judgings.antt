@@ -50,17 +50,3 @@ but_other r n other =
     let e : (n == r) ≡ false = grind (arith, nat_tests) in
     ap (but r) (range_more n) ∙ filter-append (λ x. not (x == r)) (range_with_len 0 n) (n ∷ [])
     ∙ ap (λ (b : Bool). but r (range_with_len 0 n) ++ (if not b then n ∷ [] else [])) e
-
-module _ (side : Side) (r : Reading) (w : Worker) (c : ℕ) (cs : List ℕ) (items : List Evidence) where
-  pub at_ask : asks_of r w c ≡ true → evidence_of side r w (c ∷ cs) items ≡ items
-  at_ask e = rw e refl
-
-  pub at_enough : asks_of r w c ≡ false → is_enough side r.need items ≡ true → evidence_of side r w (c ∷ cs) items ≡ items
-  at_enough e f = rw (e, f) refl
-
-  pub at_kind : (kind : Kind) → asks_of r w c ≡ false → is_enough side r.need items ≡ false → Gives kind ≡ offer_of r w c
-      → evidence_of side r w (c ∷ cs) items ≡ evidence_of side r w cs (items ++ record { repo = c; kind = kind } ∷ [])
-  at_kind kind e f g = rw (e, f, ← g) refl
-
-  pub at_none : asks_of r w c ≡ false → is_enough side r.need items ≡ false → Fails ≡ offer_of r w c → evidence_of side r w (c ∷ cs) items ≡ evidence_of side r w cs items
-  at_none e f g = rw (e, f, ← g) refl

@@ -45,15 +45,3 @@ module _ (x : Sight) (rows rows' : Rows) (k k' : Store) (w w' : Worker) (bar : B
     where
       then : AreAfter (Gone (by_job w.number) w.job.key) rows rows'
       then = subst (λ (key : List ℕ). AreAfter (Gone (by_job w.number) key) rows rows') mine.of_key (after (by_job w.number))
-
-  pub kept_did : drop_side w.job.kind w.job.peer ≡ Local → out.kind ≡ Fault calls.Remove (by_job w.number) → w' ≡ record w { phase = phases.Ends endings.StoreFault; token = tokens.Bar bar } → rows' ≡ rows
-      → k'.contents ≡ k.contents → Rose k.faults k'.faults → Did rows rows' k k' w w' (ActsOver x k.contents rows rows' w w' removes_now) (Ok out)
-  kept_did local kind next same contents rose = (
-    λ c is. quiet_does x rows rows' (present_in c) w w' removes_now (Fault calls.Remove (by_job w.number)) out kind sends (λ rest. refl)
-        (λ rest. ap (work_of rest) next ∙ sym (ap (λ (side : Side). fault_phase x.read.repo (work_of rest w) Drops side (phase_as w.phase)) local ∙ fault_ends x.read.repo (work_of rest w) (phase_as w.phase))) then refl,
-    leaves_so rows rows' k k' w (record w { phase = phases.Ends endings.StoreFault; token = tokens.Bar bar }) w' (Fault calls.Remove (by_job w.number)) out kind next then contents records later rose
-        (subst (λ (r : Rows). HasToken w.number w.job.key (tokens.Bar bar) r) (sym same) mine) (λ going. tt) refl refl refl (others_same w.number rows rows' same) holds,
-  )
-    where
-      then : AreAfter (Fault calls.Remove (by_job w.number)) rows rows'
-      then = subst (λ (r : Rows). AreAfter (Fault calls.Remove (by_job w.number)) rows r) (sym same) (record { holds = refl; bars = λ key. refl; fills = refl })

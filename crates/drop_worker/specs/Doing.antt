@@ -50,10 +50,6 @@ pub record DoesAsAsked (x : Sight) (rows rows' : Rows) (present : List ℕ → B
 abbrev pub Acts : Reading → (EndName → EndState) → ℕ → Rows → Rows → Worker → Worker → (Turn → Made) → Output → Type 0
 Acts read ends time rows rows' w w' asked out = (number : ℕ) (p : List ℕ → Bool) → DoesAsAsked (sight read ends time number) rows rows' p w w' None asked out
 
--- at every time
-abbrev pub ActsAnyTime : Reading → (EndName → EndState) → Rows → Rows → Worker → Worker → (Turn → Made) → Output → Type 0
-ActsAnyTime read ends rows rows' w w' asked out = (time : ℕ) → Acts read ends time rows rows' w w' asked out
-
 -- the contents after an entry of a drop
 abbrev pub contents_after : Option Contents → EntryKind → Option Contents
 contents_after known (Gone source key) = without_content known key
@@ -147,14 +143,3 @@ IsBar token = ⊥
 -- a removal in time
 abbrev pub removes_now : Turn → Made
 removes_now t = attempts t (calls.Remove ∷ []) None (quietly (Gone (by_me t) (key_of t)) None)
-
--- ---- ends
-
-abbrev pub IsEnd : EntryKind → Type 0
-IsEnd (End job outcome) = Unit {0}
-IsEnd kind = ⊥
-
--- the last step of a job
-pub record IsEnding (out : Output) : Type 0 where
-  pub kind : IsEnd out.kind
-  pub ended : out.ended ≡ true
