@@ -73,11 +73,6 @@ pub speaks_did : (target : ℕ) (rows : Rows) (k : Store) (w w' : Worker) (does 
 speaks_did target rows k w w' does (Ok out) stands d s same = (d, speaks_leaves target rows k w w' out stands s)
 speaks_did target rows k w w' does (Err e) stands d s same = subst (λ (u : Worker). Stays rows rows k k w u) (sym same) (stays_same rows k w)
 
-pub did_as_remote : (rows rows' : Rows) (k k' : Store) (w w' : Worker) (a b : Output → Type 0) (r : Result Output NoMemory) → DidRemote rows rows' k k' w w' a r → ((out : Output) → a out → b out)
-    → DidRemote rows rows' k k' w w' b r
-did_as_remote rows rows' k k' w w' a b (Ok out) (d, l) f = (f out d, l)
-did_as_remote rows rows' k k' w w' a b (Err e) s f = s
-
 -- ---- what it does
 
 pub takes_fed : (read : Reading) (ends_at : EndName → End) (time : ℕ) (rows : Rows) (peer : ℕ) (taken : Taken) (w w' : Worker) (out : Output) → TakesFed time peer taken w w' out → TakesRemote read ends_at time rows rows peer taken w w' out

@@ -146,11 +146,3 @@ module _ (x : Sight) (rows : Rows) (p : List ℕ → Bool) (w w' : Worker) (f : 
       (λ rest. (λ i. record { kind = Talk (Some w.number); taken = Some f; sent = close_parcel x w.slot peer i; lines = [] }) ∙ is rest)
       (λ rest. ap (work_of rest) next ∙ (sym (closed_local x.read.repo (record (work_of rest w) { version = n }) peer local comes.apart)
       ∙ (sym (moved_shut (turn rest) f peer took n refl (learn rest) with_peer line comes.live) ∙ ap (next_work (turn rest)) (is rest))))
-
-pub if_ok : {T E : Type 0} (r : Result T E) (P Q : T → Type 0) → IfOk r P → ((y : T) → P y → Q y) → IfOk r Q
-if_ok (Ok y) P Q a f = f y a
-if_ok (Err e) P Q a f = tt
-
-pub if_both : {T E : Type 0} (r : Result T E) (P Q R : T → Type 0) → IfOk r P → IfOk r Q → ((y : T) → P y → Q y → R y) → IfOk r R
-if_both (Ok y) P Q R a b f = f y a b
-if_both (Err e) P Q R a b f = tt
