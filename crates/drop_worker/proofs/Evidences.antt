@@ -8,16 +8,14 @@ use Rattle.annex_base.specs.declared.kinds.Word.TheVariants as words
 use Rattle.annex_base.specs.declared.kinds.Call.{Call}
 use Rattle.annex_base.proofs.Numbers.{range_more}
 use Rattle.drop_proof.specs.declared.evidence.Evidence.{Evidence}
-use Rattle.drop_proof.specs.declared.evidence.Kind.{Kind}
 use Rattle.drop_proof.specs.declared.rule.Side.{Side}
 use Rattle.drop_proof.specs.declared.rule.Side.TheVariants.{Local}
-use Rattle.run_data.specs.declared.job.Cause.{Cause}
 use Rattle.run_data.specs.declared.job.CandidateCause.{CandidateCause}
 use Rattle.run_data.specs.declared.job.Outcome.TheVariants.{Dropped, Refused}
 use Rattle.run_data.specs.declared.job.DropRefusal.TheVariants as refusals
 use Rattle.run_data.specs.declared.job.Proof.{Proof}
 use Rattle.node_model.specs.Evidence as drops
-use Rattle.node_model.specs.Evidence.{Offer, Gives, Fails, candidates, failures, gather, proof_of, reached_candidates}
+use Rattle.node_model.specs.Evidence.{candidates, failures, gather, proof_of, reached_candidates}
 use Rattle.node_model.specs.Jobs.{drop_side, target_of}
 use Rattle.node_model.specs.JobStep.{Turn}
 use Rattle.node_model.specs.DropStep.{lacking_outcome, removal_outcome}

@@ -1,6 +1,6 @@
 -- A local drop that is told of a frame that is no message, or of a connection that was closed here.
-use Rattle.std.proofs.Common.{◌≡◌, ℕ, Bool, true, false, List, [], ◌∷◌, Option, Some, None, refl, sym, ap, ◌∙◌}
-use Rattle.std.specs.Prelude.{◌==◌, if◌then◌else◌}
+use Rattle.std.proofs.Common.{◌≡◌, ℕ, Bool, List, [], Option, Some, None, refl, sym, ap, ◌∙◌}
+use Rattle.std.specs.Prelude.{if◌then◌else◌}
 use Rattle.drop_proof.specs.declared.rule.Side.TheVariants.{Local}
 use Rattle.run_data.specs.declared.entry.EntryKind.TheVariants.{Talk}
 use Rattle.run_data.specs.declared.entry.FrameText.{FrameText}

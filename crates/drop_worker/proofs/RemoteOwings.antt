@@ -1,31 +1,24 @@
 -- To which peers the next step of a remote drop may send more than a Close.
-use Rattle.std.proofs.Common.{◌≡◌, ℕ, Bool, true, false, List, [], ◌∷◌, filter, Option, Some, None, Result, Ok, Err, Vec, Global, refl, sym, ap, ◌∙◌}
+use Rattle.std.proofs.Common.{◌≡◌, ℕ, Bool, true, false, List, [], ◌∷◌, filter, Option, Some, None, Result, Ok, Err, Vec, Global, sym, ap, ◌∙◌}
 use Rattle.std.specs.Prelude.{IfOk, ◌&&◌, find, if◌then◌else◌, nat_lt}
 use Rattle.annex_base.specs.declared.kinds.Call.{Call}
-use Rattle.annex_base.specs.declared.kinds.Word.{Word}
-use Rattle.annex_base.specs.declared.kinds.Word.TheVariants as words
 use Rattle.annex_base.specs.declared.memory.NoMemory.{NoMemory}
 use Rattle.drop_proof.specs.declared.evidence.Evidence.{Evidence}
 use Rattle.drop_proof.specs.declared.rule.Need.{Need}
-use Rattle.drop_proof.specs.declared.rule.Side.{Side}
-use Rattle.drop_proof.specs.declared.rule.Side.TheVariants.{Local, Remote}
+use Rattle.drop_proof.specs.declared.rule.Side.TheVariants.{Remote}
 use Rattle.drop_proof.specs.Judging.{is_enough, least_end}
-use Rattle.run_data.specs.declared.job.Proof.{Proof}
-use Rattle.node_model.specs.DropStep.{expiry, first_end, removal_outcome, target as target_at}
 use Rattle.node_model.specs.Ends.{End, EndName}
 use Rattle.node_model.specs.Jobs.{Drops, side_of}
-use Rattle.node_model.specs.JobStep.{Turn, end_with, locked_peers}
-use Rattle.node_model.specs.Knows.{Reading, obeyed_outcome, next_by, proof_by}
-use Rattle.node_model.specs.Rows.{is_lost_ordered}
+use Rattle.node_model.specs.JobStep.{Turn, end_with}
+use Rattle.node_model.specs.Knows.{Reading, next_by}
 use Rattle.node_model.specs.Turns.{judge_needs, needs, next_needs, target_needs}
 use Rattle.content_lock.specs.Rows.{Rows}
-use Rattle.drop_worker.specs.declared.phase.Ending.TheVariants as endings
 use Rattle.drop_worker.specs.declared.phase.Phase.{Phase}
 use Rattle.drop_worker.specs.declared.phase.Phase.TheVariants as phases
 use Rattle.drop_worker.specs.Worker.{Worker}
 use Rattle.drop_worker.specs.Working.{Rest, Sight, phase_as, sight, turn_in}
 use Rattle.drop_worker.specs.Judging.{asks_of, is_owing, others_in}
-use Rattle.drop_worker.specs.Remote.{IsRemote, IsToEnd, known_remotely, owed_at_end, owed_by, remote_candidates, target_room}
+use Rattle.drop_worker.specs.Remote.{IsRemote, known_remotely, remote_candidates, target_room}
 use Rattle.drop_worker.proofs.Losing.{target_is}
 use Rattle.drop_worker.proofs.RemoteVerdicts.{end_is, enough_is, next_is}
 

@@ -1,28 +1,24 @@
 -- A local drop that removes the content, and one whose store fails to.
-use Rattle.std.proofs.Common.{◌≡◌, ◌≤◌, ℕ, List, [], Ok, refl, sym, ap, ◌∙◌, subst}
-use Rattle.annex_base.specs.Causes.{Rose}
-use Rattle.annex_base.specs.declared.kinds.Call.TheVariants as calls
-use Rattle.drop_proof.specs.declared.rule.Side.{Side}
+use Rattle.std.proofs.Common.{◌≡◌, ◌≤◌, ℕ, List, [], Ok, refl, ap, ◌∙◌, subst}
 use Rattle.drop_proof.specs.declared.rule.Side.TheVariants.{Local}
 use Rattle.run_data.specs.declared.entry.By.{By}
 use Rattle.run_data.specs.declared.entry.By.TheVariants.{Job as by_job}
-use Rattle.run_data.specs.declared.entry.EntryKind.TheVariants.{Fault, Gone}
+use Rattle.run_data.specs.declared.entry.EntryKind.TheVariants.{Gone}
 use Rattle.node_model.specs.Jobs as Jobs
-use Rattle.node_model.specs.Jobs.{drop_side, fault_phase, stores_fault, to_phase, Drops, Work}
+use Rattle.node_model.specs.Jobs.{fault_phase, stores_fault, to_phase, Drops, Work}
 use Rattle.content_lock.specs.Rows.{AreAfter, Rows}
 use Rattle.content_lock.specs.Stored.{without_content}
 use Rattle.content_lock.specs.Tokens.{BarView}
-use Rattle.drop_worker.specs.declared.phase.Ending.TheVariants as endings
 use Rattle.drop_worker.specs.declared.phase.Phase.TheVariants as phases
 use Rattle.drop_worker.specs.declared.phase.Token.{Token}
 use Rattle.drop_worker.specs.declared.phase.Token.TheVariants as tokens
 use Rattle.drop_worker.specs.declared.turn.Output.{Output}
 use Rattle.drop_worker.specs.Worker.{Worker}
-use Rattle.drop_worker.specs.Working.{Sight, phase_as, present_in, work_of}
+use Rattle.drop_worker.specs.Working.{Sight, present_in, work_of}
 use Rattle.drop_worker.specs.Doing.{HasToken, removes_now}
 use Rattle.drop_worker.specs.Leaving.{ActsOver, Did, Store}
 use Rattle.drop_worker.proofs.Leavings.{leaves_so, quiet_does}
-use Rattle.drop_worker.proofs.Tokens.{others_off, others_same, owns_none}
+use Rattle.drop_worker.proofs.Tokens.{others_off, owns_none}
 
 -- a call that fails ends a local drop next, wherever it stands
 pub fault_ends : (r : ℕ) (v : Work) (ph : Jobs.Phase) → fault_phase r v Drops Local ph ≡ to_phase v (Jobs.Ends (stores_fault v.part))

@@ -1,6 +1,6 @@
 -- The steps of a local drop that take a message.
-use Rattle.std.proofs.Common.{◌≡◌, ℕ, Bool, true, false, List, [], ◌∷◌, Option, Some, None, Result, Ok, Err, refl, sym, ap, ◌∙◌, subst}
-use Rattle.std.specs.Prelude.{IfOk, ◌==◌}
+use Rattle.std.proofs.Common.{◌≡◌, ℕ, Bool, true, false, List, [], ◌∷◌, Option, Some, None, refl, sym, ap, ◌∙◌}
+use Rattle.std.specs.Prelude.{◌==◌}
 use Rattle.std.proofs.lemmas.List.{append-nil}
 use Rattle.drop_proof.specs.declared.rule.Side.TheVariants.{Local}
 use Rattle.run_data.specs.declared.entry.EntryKind.TheVariants.{Talk}
@@ -27,7 +27,7 @@ use Rattle.drop_worker.specs.declared.turn.Taken.TheVariants as takens
 use Rattle.drop_worker.specs.Worker.{Worker}
 use Rattle.drop_worker.specs.Working.{Rest, Sight, heard_as, end_in, frames_of, phase_as, taken_line, taken_of, turn_in, work_of}
 use Rattle.node_model.specs.Slots.{job_of}
-use Rattle.drop_worker.specs.Doing.{DoesAsAsked, Comes, GoesOn, Grows, Talks, next_work}
+use Rattle.drop_worker.specs.Doing.{DoesAsAsked, Comes, next_work}
 use Rattle.drop_worker.proofs.Talks.{on_heard, on_said, on_shut, open_line}
 
 -- ---- the line that came

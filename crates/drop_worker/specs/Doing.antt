@@ -15,7 +15,7 @@ use Rattle.p2p_wire.specs.declared.message.Message.{Message}
 use Rattle.node_model.specs.Turns.{takes_frame}
 use Rattle.drop_worker.specs.declared.turn.Taken.{Taken}
 use Rattle.drop_worker.specs.declared.turn.Taken.TheVariants as takens
-use Rattle.run_data.specs.declared.entry.EntryKind.TheVariants.{End, Gone, Talk}
+use Rattle.run_data.specs.declared.entry.EntryKind.TheVariants.{Gone, Talk}
 use Rattle.annex_base.specs.declared.kinds.Call.TheVariants as calls
 use Rattle.run_data.specs.declared.job.Cause.TheVariants as causes
 use Rattle.drop_worker.specs.declared.phase.Heard.{Heard}
