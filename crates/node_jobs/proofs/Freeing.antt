@@ -78,11 +78,6 @@ module _ (p : PlaceView) (clock : ClockSet) (links : List EndView) (j : DropJob)
   free_by s st k room =
       subst (λ (q : Option ℕ). FindsAt (turn_of s st k (work_now j)) q None × FedAt (sight (place_reading p) (end_at links) time 0) j.worker.slot q None takens.Nothing) (sym at) (room, (refl, refl))
 
-  -- a job at its first step sends nothing more than a Close
-  pub fresh_answers : j.worker.phase ≡ phases.Fresh → Answers p clock links j time (Some (bare_feed takens.Nothing))
-  fresh_answers fresh = λ rows c s st k sees keeps.
-      free_by s st k (ap (λ (ph : Phase). list_all (has_room (turn_of s st k (work_now j))) (needs (turn_of s st k (work_now j)) (phase_as ph))) fresh)
-
   module _ (known : Known) (is : j.known ≡ Some known) (side : drop_side j.worker.job.kind j.worker.job.peer ≡ Local) (fits : FitsLocal j.worker.phase j.worker.token) (below : j.worker.slot < 4)
       (peers : List ℕ) (of : PeersOf p clock links j.worker known time peers) (others : Each (IsOther (place_reading p)) peers) (count : length links ≡ length p.ids * 8) where
     rooms_are : (rows : Rows) (c : Contents) (s : SetUp) (st : State) (k : Look) → SeesJob p clock links j time s st k → HaveState rows c st
