@@ -7,6 +7,7 @@ use Rattle.std.proofs.lemmas.Bool.Decides.{nat_tests}
 use Rattle.std.proofs.lemmas.List.Folds.{find_at}
 use Rattle.std.proofs.lemmas.Option.{same_Some, slice_get-get_or, slice_get_past}
 use Rattle.std.proofs.Math.Seq.{drop-append_seam}
+use Rattle.std.proofs.lemmas.List.{length-take-le, take_at}
 use Rattle.annex_base.specs.Lists.{Each}
 use Rattle.annex_base.proofs.Lists.{Each-member, find_member}
 use Rattle.annex_base.proofs.Options.{some_none}
@@ -23,7 +24,7 @@ use Rattle.node_jobs.specs.Feeds.{Answers, IsFedAt, SeesJob}
 use Rattle.node_jobs.specs.Finding.{FindsAtSlot, FindsFirst, IsAtSlot, IsOfSlot, IsSlotIdle, has_slot}
 use Rattle.node_jobs.specs.Places.{PlaceView}
 use Rattle.node_jobs.specs.Running.{DropJob, work_now}
-use Rattle.node_jobs.proofs.Among.{find_mapped}
+use Rattle.node_jobs.proofs.Among.{find_mapped, get_middle}
 
 -- ---- the first that passes
 
@@ -106,27 +107,14 @@ more_idle p clock links links' jobs time slot o same none finds idle =
 
 -- ---- a job that is taken out and put back
 
-pub take_len : {X : Type 0} (i : ℕ) (xs : List X) → i ≤ length xs → length (take i xs) ≡ i
-take_len zero xs h = refl
-take_len (suc i) [] h = absurd (omega (arith, h))
-take_len (suc i) (x ∷ xs) h = ap (λ (n : ℕ). suc n) (take_len i xs (omega (arith, h)))
-
-take_front : {X : Type 0} (a b : List X) → take (length a) (a ++ b) ≡ a
-take_front [] b = refl
-take_front (x ∷ a) b = ap (λ l. x ∷ l) (take_front a b)
-
 pub put_there : {X : Type 0} (xs ys zs k : List X) (i : ℕ) → i < length xs → ys ≡ take i xs ++ drop (i + 1) xs → zs ≡ take i ys ++ k ++ drop i ys → zs ≡ take i xs ++ (k ++ drop (i + 1) xs)
 put_there xs ys zs k i within out put =
-    let len : length (take i xs) ≡ i = take_len i xs (omega (arith, within)) in
-    let front : take i ys ≡ take i xs = ap (take i) out ∙ (ap (λ (n : ℕ). take n (take i xs ++ drop (i + 1) xs)) (sym len) ∙ take_front (take i xs) (drop (i + 1) xs)) in
+    let len : length (take i xs) ≡ i = length-take-le i xs (omega (arith, within)) in
+    let front : take i ys ≡ take i xs = ap (take i) out ∙ (ap (λ (n : ℕ). take n (take i xs ++ drop (i + 1) xs)) (sym len) ∙ take_at (take i xs) (drop (i + 1) xs) (length (take i xs)) refl) in
     let back : drop i ys ≡ drop (i + 1) xs = ap (drop i) out ∙ (ap (λ (n : ℕ). drop n (take i xs ++ drop (i + 1) xs)) (sym len) ∙ drop-append_seam (take i xs) (drop (i + 1) xs)) in
     put ∙ ((λ m. (front m ++ k) ++ back m) ∙ append_assoc (take i xs) k (drop (i + 1) xs))
 
-get_front : {X : Type 0} (a : List X) (x : X) (b : List X) → slice_get (a ++ x ∷ b) (length a) ≡ Some x
-get_front [] x b = refl
-get_front (y ∷ a) x b = get_front a x b
-
 pub taken_there : {X : Type 0} (xs : List X) (i : ℕ) (x : X) → i < length xs → xs ≡ take i xs ++ x ∷ drop (i + 1) xs → slice_get xs i ≡ Some x
 taken_there xs i x within was =
-    let len : length (take i xs) ≡ i = take_len i xs (omega (arith, within)) in
-    ap (λ l. slice_get l i) was ∙ (ap (slice_get (take i xs ++ x ∷ drop (i + 1) xs)) (sym len) ∙ get_front (take i xs) x (drop (i + 1) xs))
+    let len : length (take i xs) ≡ i = length-take-le i xs (omega (arith, within)) in
+    ap (λ l. slice_get l i) was ∙ (ap (slice_get (take i xs ++ x ∷ drop (i + 1) xs)) (sym len) ∙ get_middle (take i xs) x (drop (i + 1) xs))

@@ -54,7 +54,7 @@ use Rattle.node_jobs.specs.Finding.{Finds, FindsFirst, IsFirst, IsSlotIdle, has_
 use Rattle.node_jobs.specs.Places.{PlaceView}
 use Rattle.node_jobs.specs.Reads.{Known, need_in}
 use Rattle.node_jobs.specs.Running.{AllApart, AreApart, AreWorks, DropJob, Follows, HasRead, IsDrop, Jobs as JobsView, OwnAll, ReadSo, place_reading, work_now, words_at}
-use Rattle.node_jobs.proofs.Among.{apart_before, apart_behind, find_mapped, found_by_number, is_left, works_off, works_on}
+use Rattle.node_jobs.proofs.Among.{apart_before, apart_behind, find_mapped, found_by_number, get_middle, is_left, works_off, works_on}
 use Rattle.node_jobs.proofs.EntryKinds.{last_begun, last_works, onward_begun, onward_job, onward_works}
 use Rattle.node_jobs.proofs.Hearing.{awaiting}
 use Rattle.node_jobs.proofs.Knowing.{can_stand}
@@ -80,10 +80,6 @@ first_found p (suc (suc (suc (suc n)))) below before at = absurd (omega (arith, 
 
 pub none_found : (p : ℕ → Bool) → ((i : ℕ) → i < 4 → p i ≡ false) → find p slots ≡ None
 none_found p none = rw (none 0 (omega arith), none 1 (omega arith), none 2 (omega arith), none 3 (omega arith)) refl
-
-pub get_middle : {X : Type 0} (front : List X) (x : X) (back : List X) → slice_get (front ++ x ∷ back) (length front) ≡ Some x
-get_middle [] x back = refl
-get_middle (y ∷ front) x back = get_middle front x back
 
 pub middle_member : {X : Type 0} (front : List X) (x : X) (back : List X) → Member x (front ++ x ∷ back)
 middle_member front x back = Member-append_right front (x ∷ back) x (inl refl)
