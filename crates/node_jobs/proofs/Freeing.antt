@@ -8,21 +8,15 @@ use Rattle.annex_base.proofs.Lists.{Each-weaker}
 use Rattle.annex_base.proofs.Options.{some_none}
 use Rattle.drop_proof.specs.declared.rule.Side.{Side}
 use Rattle.drop_proof.specs.declared.rule.Side.TheVariants.{Local}
-use Rattle.run_data.specs.Repos.{id_of}
-use Rattle.run_data.specs.declared.entry.FrameView.{FrameView}
 use Rattle.link_ring.specs.Ends.{EndView}
-use Rattle.node_model.specs.Clocks.{ClockSet, runs_on}
-use Rattle.node_model.specs.Ends.{EndName}
-use Rattle.node_model.specs.Evidence as drops
+use Rattle.node_model.specs.Clocks.{ClockSet}
 use Rattle.node_model.specs.DropStep.{removal_outcome}
 use Rattle.node_model.specs.Jobs.{Work, drop_side, partner, side_of}
-use Rattle.node_model.specs.JobStep.{Turn, end_needs, turn_of}
-use Rattle.node_model.specs.Knows.{Reading, reading, standing_of}
+use Rattle.node_model.specs.JobStep.{end_needs, turn_of}
 use Rattle.node_model.specs.Look.{Look}
 use Rattle.node_model.specs.SetUp.{SetUp}
 use Rattle.node_model.specs.State.{State}
 use Rattle.node_model.specs.Turns.{by_partner, goes, has_room, needs, slot_step}
-use Rattle.node_model.specs.Wanted.{required}
 use Rattle.node_ends.specs.Ends.{end_at, room_at}
 use Rattle.object_store.specs.Stores.{Contents}
 use Rattle.content_lock.specs.Rows.{Rows}
@@ -33,12 +27,11 @@ use Rattle.drop_worker.specs.declared.phase.Token.{Token}
 use Rattle.drop_worker.specs.declared.turn.Taken.TheVariants as takens
 use Rattle.drop_worker.specs.Feeding.{FedAt, FindsAt, FitsLocal}
 use Rattle.drop_worker.specs.Leaving.{stands_on}
-use Rattle.drop_worker.specs.States.{IsSight, HaveState}
-use Rattle.drop_worker.specs.Worker.{Worker}
+use Rattle.drop_worker.specs.States.{HaveState}
 use Rattle.drop_worker.specs.Working.{end_in, phase_as, sight, words_of}
 use Rattle.node_jobs.specs.Feeds.{Answers, PeersOf, SeesJob, bare_feed}
-use Rattle.node_jobs.specs.Places.{IsPlace, PlaceView}
-use Rattle.node_jobs.specs.Reads.{Known, reading_of, standing_in}
+use Rattle.node_jobs.specs.Places.{PlaceView}
+use Rattle.node_jobs.specs.Reads.{Known}
 use Rattle.node_jobs.specs.Running.{DropJob, HasRead, place_reading, work_now}
 use Rattle.node_jobs.proofs.Hearing.{link_there}
 use Rattle.node_jobs.proofs.Knowing.{knows_read, sight_so}
