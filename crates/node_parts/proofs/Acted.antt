@@ -462,7 +462,3 @@ module _ (p : PartsView) (c : Contents) (clock : ClockSet) (time number : ℕ) (
         counts = sees.number;
         at = sym sees.time;
       }) (record { present = sees.stored.present; bar = sees.parts.bars; holds = sees.parts.holds })
-
-pub if_ok : {E : Type 0} (P Q : Bool → Type 0) → ((b : Bool) → P b → Q b) → (r : Result Bool E) → IfOk r P → IfOk r Q
-if_ok P Q f (Ok b) is = f b is
-if_ok P Q f (Err e) is = is
