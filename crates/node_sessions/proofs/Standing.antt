@@ -4,7 +4,7 @@ use Rattle.std.specs.Prelude.{◌&&◌, ◌||◌, slice_get}
 use Rattle.std.specs.Option.{ForSome}
 use Rattle.std.proofs.Math.ListN.{set}
 use Rattle.std.proofs.lemmas.Option.{slice_get_within}
-use Rattle.std.proofs.lemmas.Bool.{false_from_ne_true}
+use Rattle.std.proofs.lemmas.Bool.{false_from_ne_true, or_right}
 use Rattle.std.proofs.lemmas.Map.Keys.{any_passes_from_place}
 use Rattle.annex_base.proofs.Conditions.{eqb_refl}
 use Rattle.run_data.specs.declared.entry.By.{By}
@@ -87,11 +87,7 @@ filled_key xs i was now rows rows' key o at apart h f = go (session_fills key no
 
     free : session_fills key now ≡ true → (session_fills key was ≡ true → ⊥) → o ≡ true → ⊥
     free new none is =
-        new_was_free (session_of was).doing (session_of now).doing (is_filling rows) (is_filling rows') h key new none (f.filled ∙ rw is (or_true (fills_in xs key)))
-      where
-        or_true : (b : Bool) → (b || true) ≡ true
-        or_true true = refl
-        or_true false = refl
+        new_was_free (session_of was).doing (session_of now).doing (is_filling rows) (is_filling rows') h key new none (f.filled ∙ rw is (or_right (fills_in xs key) true refl))
 
     go : (a : Bool) → session_fills key now ≡ a → (b : Bool) → session_fills key was ≡ b → FilledAt (is_filling rows' key) (fills_in (set xs i now) key) o
     go true new true old =
