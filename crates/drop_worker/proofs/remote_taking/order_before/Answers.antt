@@ -10,9 +10,9 @@ use Rattle.drop_worker.specs.Remote.{EndsSo, Says, Speaks, TakesRemote, order_of
 use Rattle.drop_worker.proofs.Callings.{spoken_well}
 use Rattle.drop_worker.proofs.TakingCalls.{expired_makes, order_makes, timed_none}
 use Rattle.drop_worker.proofs.Feedings.{speaks_did}
+use Rattle.drop_worker.proofs.RemoteLeavings.{remote_did_as}
 use Rattle.drop_worker.proofs.Timing.{late_takes, order_speaks, order_takes, order_timed}
 use Rattle.drop_worker.proofs.remote_taking.order_before.Goals as goal
-use Rattle.drop_worker.proofs.RemoteLeavings.{remote_did_as}
 
 pub returns-in-Ok-clause-did : goal.returns-in-Ok-clause-did
 returns-in-Ok-clause-did g c =
