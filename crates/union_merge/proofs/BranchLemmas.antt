@@ -4,6 +4,7 @@ use Rattle.std.specs.Map.{keys_of}
 use Rattle.annex_base.specs.ByteOrder.{text_cmp, Before, IsInOrder}
 use Rattle.annex_base.specs.Lists.{Member, Each}
 use Rattle.annex_base.proofs.TextOrder.{below, tied, above, compared, text_cmp-same, before_after, Before-itself, Before-other, order_nil, order_cons, order_head, order_tail, BeforeAll-member, BeforeAll-from_members, BeforeAll-trans}
+use Rattle.annex_base.proofs.Options.{some_none}
 use Rattle.union_merge.specs.LineSet.{IsLine, IsLineSet, union}
 use Rattle.union_merge.specs.Branch.{Files, IsBranch, file_at, or_none, lines_at, with_file, merged_file}
 use Rattle.union_merge.proofs.SetLemmas.{Lines, same_members, union-is_set, empty-is_set}
@@ -50,9 +51,6 @@ pub file_at-missing : (files : Files) (path : List ℕ) → (Member path (Paths 
 file_at-missing [] path none = refl
 file_at-missing (f ∷ files) path none =
     file_at-other f files path (λ same. none (inl same)) ∙ file_at-missing files path (λ among. none (inr among))
-
-some_none : (lines : Lines) → Some lines ≡ None → ⊥
-some_none lines e = cc
 
 -- and one that a file has finds lines
 pub file_at-there : (files : Files) (path : List ℕ) → Member path (Paths files) → file_at files path ≡ Some (lines_at files path)

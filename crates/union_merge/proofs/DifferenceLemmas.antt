@@ -1,7 +1,7 @@
 -- The lines of one set that another lacks.
 use Rattle.std.proofs.Common.{◌≡◌, ◌⊎◌, ◌↔◌, inl, inr, ℕ, List, [], ◌∷◌, ◌++◌, Bool, true, false, cond, ◌||◌, not, filter, refl, sym, ap, subst, ◌∙◌, true≢false}
 use Rattle.std.specs.Prelude.{IsTrue, bytes_eq}
-use Rattle.std.proofs.lemmas.Bool.{cases_Bool}
+use Rattle.std.proofs.lemmas.Bool.{cases_Bool, or_right}
 use Rattle.std.proofs.lemmas.Slice.Eq.{bytes_eq-Decides}
 use Rattle.annex_base.specs.Lists.{Member}
 use Rattle.annex_base.specs.ByteOrder.{IsInOrder}
@@ -24,12 +24,8 @@ member_any : (line : List ℕ) (lines : Lines) → Member line lines → has_lin
 member_any line [] among = absurd among
 member_any line (x ∷ xs) among = elim among [
   | inl same ↦ rw ((bytes_eq-Decides line x).1 same) refl
-  | inr later ↦ or_true (bytes_eq line x) (has_line xs line) (member_any line xs later)
+  | inr later ↦ or_right (bytes_eq line x) (has_line xs line) (member_any line xs later)
 ]
-  where
-    or_true : (b c : Bool) → c ≡ true → (b || c) ≡ true
-    or_true true c e = refl
-    or_true false c e = e
 
 -- the test by a set of lines is the test of each line
 pub any_is : (line : List ℕ) (lines : Lines) (b : Bool) → IsTrue b ↔ Member line lines → b ≡ has_line lines line
