@@ -1,5 +1,5 @@
 -- What the proof of `branch::merge_into` needs beside the tactics.
-use Rattle.std.proofs.Common.{◌≡◌, ◌∙◌, Some, OnErr, sym, ap}
+use Rattle.std.proofs.Common.{◌≡◌, ◌∙◌, Some, sym, ap}
 use Rattle.annex_base.proofs.Rows.{lookup-shown}
 use Rattle.annex_base.proofs.Results.{OnErr-always}
 use Rattle.union_merge.specs.LineSet.{union}
