@@ -1,6 +1,6 @@
 -- The first and the last word of a line.
 use Rattle.std.proofs.Common.{◌⊎◌, inl, inr, ◌≡◌, ℕ, suc, ◌+◌, ◌-◌, ◌<◌, nat_lt, List, [], ◌∷◌, ◌++◌, length, length-append, take, drop, reverse, get_or, Some, None, refl, sym, ap, subst, ◌∙◌, arith}
-use Rattle.std.specs.List.{prefix_len, position_or_len, suffix_len}
+use Rattle.std.specs.List.{position_or_len, suffix_len}
 use Rattle.std.proofs.Math.Seq.{drop-append-add}
 use Rattle.std.proofs.lemmas.Bool.{ltb-true, lt-ltb, le-ltb, eqb-true, cases_Bool}
 use Rattle.std.proofs.lemmas.List.{reverse-append, length-reverse, take_at}
