@@ -11,7 +11,7 @@ ghost use Rattle.union_merge.specs.FileView.{files_of};
 
 use crate::line_set::LineSet;
 use annex_base::{NoMemory, Text};
-use std::alloc::{AllocError, Global};
+use std::alloc::Global;
 use std::collections::BTreeMap;
 use std::collections::btree_map::Iter;
 use std::marker::Model;
@@ -133,17 +133,6 @@ impl Branch {
         ensures { IfOk result (λ v. v.items ≡ keys_of self.now) }
     {
         paths_in(self.alloc, &self.files)
-    }
-}
-
-impl Clone for Branch {
-    ghost is_clone = { λ x y. y ≡ x };
-
-    fn clone(&self) -> Result<Branch, AllocError> {
-        Ok(Branch {
-            files: self.files.clone()?,
-            alloc: self.alloc,
-        })
     }
 }
 

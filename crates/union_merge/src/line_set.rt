@@ -20,7 +20,7 @@ const FEW: usize = 64;
 
 /// The lines of a file of a branch, as a set (git-annex internals: branch files). Contracts see it as the list of its
 /// lines in byte order, each once. A line has a byte or more, and no newline.
-#[derive(Debug, Drop)]
+#[derive(Clone, Debug, Drop)]
 pub struct LineSet {
     lines: Vec<Line>,
 }
@@ -149,16 +149,6 @@ pub fn is_line(bytes: &[u8]) -> bool
     ensures { IsTrue result ↔ IsLine bytes.now }
 {
     !bytes.is_empty() && !bytes.contains(&b'\n')
-}
-
-impl Clone for LineSet {
-    ghost is_clone = { λ x y. y ≡ x };
-
-    fn clone(&self) -> Result<LineSet, AllocError> {
-        Ok(LineSet {
-            lines: self.lines.clone()?,
-        })
-    }
 }
 
 impl PartialEq for LineSet {
