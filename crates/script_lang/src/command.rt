@@ -6,7 +6,7 @@ use annex_key::Key;
 use log_lines::GroupList;
 use run_data::{Job, LogFile};
 use script_words::Content;
-use std::alloc::{AllocError, Global};
+use std::alloc::Global;
 use std::marker::Model;
 
 /// A key as a line names it.
@@ -31,7 +31,7 @@ pub enum BlockLine {
 }
 
 /// The lines of a block, which contracts see as a list.
-#[derive(Debug, Drop)]
+#[derive(Clone, Debug, Drop)]
 pub struct BlockLines {
     lines: Vec<BlockLine>,
 }
@@ -69,16 +69,6 @@ impl BlockLines {
     {
         self.lines.push(line)?;
         Ok(())
-    }
-}
-
-impl Clone for BlockLines {
-    ghost is_clone = { λ x y. y ≡ x };
-
-    fn clone(&self) -> Result<BlockLines, AllocError> {
-        Ok(BlockLines {
-            lines: self.lines.clone()?,
-        })
     }
 }
 
