@@ -5,7 +5,7 @@ use Rattle.std.proofs.lemmas.Bool.{cases_Bool, eqb-true, lt-ltb, le-ltb, and_par
 use Rattle.annex_base.specs.Lines.{dash}
 use Rattle.annex_base.specs.Decimal.{number_of}
 use Rattle.annex_base.proofs.DecimalLemmas.{number_some}
-use Rattle.annex_base.proofs.Options.{none_by}
+use Rattle.annex_base.proofs.Options.{none_by, is_none_true, some_none}
 use Rattle.annex_key.specs.declared.fault.KeyFault.{KeyFault}
 use Rattle.annex_key.specs.declared.fault.KeyFault.TheVariants.{NoDashes, BadBackend, BadField, EmptyName, TooLong, BadEscape, BadName, NoMemory}
 use Rattle.annex_key.specs.KeyText.{KeyParts, is_backend, size_letter, mtime_letter, chunk_size_letter, chunk_letter, field_text, chunk_text}
@@ -131,16 +131,10 @@ abbrev at_place : List ℕ → List ℕ → Option ℕ → Option ℕ → Option
 at_place text backend size mtime cs c tail =
     text ≡ backend ++ (field_text size_letter size ++ (field_text mtime_letter mtime ++ (field_text chunk_size_letter cs ++ (field_text chunk_letter c ++ tail))))
 
-none_is : (o : Option ℕ) → is_none o ≡ true → o ≡ None
-none_is None h = refl
-none_is (Some n) h = absurd (true≢false (sym h))
-
 and_left : (a : Bool) (o : Option ℕ) → o ≡ None → (a && is_none o) ≡ false → a ≡ false
 and_left true None e h = h
 and_left false None e h = refl
-and_left a (Some n) e h = absurd (some_none n e) where
-  some_none : (n : ℕ) → Some n ≡ None → ⊥
-  some_none n e = cc
+and_left a (Some n) e h = absurd (some_none n e)
 
 and_left_twice : (a : Bool) (o p : Option ℕ) → o ≡ None → p ≡ None → (a && is_none o && is_none p) ≡ false → a ≡ false
 and_left_twice a o p e d h = and_left a o e (and_left (a && is_none o) p d h)
@@ -187,9 +181,9 @@ which size mtime letter may field =
       | inr fourth ↦
           let p = and_parts (eqb letter size_letter && is_none mtime) (is_none size) fourth in
           let q = and_parts (eqb letter size_letter) (is_none mtime) p.0 in
-          inr (inr (eqb-true letter size_letter q.0, none_is mtime q.1, none_is size p.1))
+          inr (inr (eqb-true letter size_letter q.0, is_none_true mtime q.1, is_none_true size p.1))
       | inl three ↦ elim (or_cases _ _ three) [
-        | inr third ↦ let q = and_parts (eqb letter mtime_letter) (is_none mtime) third in inr (inl (eqb-true letter mtime_letter q.0, none_is mtime q.1))
+        | inr third ↦ let q = and_parts (eqb letter mtime_letter) (is_none mtime) third in inr (inl (eqb-true letter mtime_letter q.0, is_none_true mtime q.1))
         | inl two ↦ elim (or_cases (eqb letter dash) (eqb letter chunk_size_letter) two) [
           | inl first ↦ absurd (field (eqb-true letter dash first))
           | inr second ↦ inl (eqb-true letter chunk_size_letter second)

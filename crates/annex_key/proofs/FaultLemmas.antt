@@ -1,6 +1,7 @@
 -- The first fault that reading meets is the first rule that the text breaks.
-use Rattle.std.proofs.Common.{◌⊎◌, inl, inr, ◌≡◌, ◌≢◌, ℕ, ◌+◌, ◌-◌, ◌<◌, ◌≤◌, ◌^◌, Bool, true, false, eqb, ltb, ◌&&◌, ◌||◌, List, [], ◌∷◌, ◌++◌, length, drop, is_none, Option, Some, None, Ok, Err, IfSome, refl, sym, ap, subst, ◌∙◌, append_assoc, length-append, arith, true≢false}
-use Rattle.std.proofs.lemmas.Bool.{eqb-true, ltb-true, ltb-false, and_parts, or_from}
+use Rattle.std.proofs.Common.{inl, inr, ◌≡◌, ◌≢◌, ℕ, ◌+◌, ◌-◌, ◌<◌, ◌≤◌, ◌^◌, Bool, true, false, eqb, ltb, ◌&&◌, List, [], ◌∷◌, ◌++◌, length, drop, is_none, Option, Some, None, Ok, Err, IfSome, refl, sym, ap, subst, ◌∙◌, append_assoc, length-append, arith, true≢false}
+use Rattle.std.proofs.lemmas.Bool.{eqb-true, ltb-true, ltb-false, and_parts, or_from, or_cases}
+use Rattle.std.proofs.lemmas.List.{nil_from_length}
 use Rattle.annex_base.specs.Lines.{dash}
 use Rattle.annex_base.specs.Decimal.{number_of}
 use Rattle.annex_base.proofs.DecimalLemmas.{number_is}
@@ -10,6 +11,7 @@ use Rattle.annex_key.specs.declared.fault.KeyFault.{KeyFault}
 use Rattle.annex_key.specs.declared.fault.KeyFault.TheVariants.{NoDashes, BadBackend, BadField, EmptyName, TooLong, BadName}
 use Rattle.annex_key.specs.KeyText.{KeyParts, is_backend, size_letter, mtime_letter, chunk_size_letter, chunk_letter, field_text, chunk_text}
 use Rattle.annex_base.specs.ResultSteps.{◌>>=◌}
+use Rattle.annex_base.proofs.Options.{none_and_some}
 use Rattle.annex_key.specs.Reading.{begins, comes, has_dashes, is_dash, word_of, after_word, backend_at, number_at, field_at, must_at, chunk_at, name_front, checked_name, name_at, parts_at, key_at}
 use Rattle.annex_key.specs.Faults.{HasDashes, IsNumber, Front, front_text, IsFront, may_follow, HasName, IsTried, Breaks}
 use Rattle.annex_key.proofs.Steps.{ok_is, err_is, option_err, comes_is}
@@ -23,15 +25,11 @@ use Rattle.annex_key.proofs.KeyLemmas.{named, from_chunk, from_mtime, from_size,
 pub has_is : (text : List ℕ) → has_dashes text ≡ true → HasDashes text
 has_is [] has = absurd (true≢false (sym has))
 has_is (b ∷ bs) has =
-    elim (chosen_or (eqb b dash && begins dash bs) (has_dashes bs) has) [
+    elim (or_cases (eqb b dash && begins dash bs) (has_dashes bs) has) [
       | inl here ↦
           record { front = []; rest = drop 1 bs; is = both_dashes b bs here }
       | inr later ↦ let more = has_is bs later in record { front = b ∷ more.front; rest = more.rest; is = ap (λ (w : List ℕ). b ∷ w) more.is }
     ] where
-      chosen_or : (a c : Bool) → (a || c) ≡ true → (a ≡ true) ⊎ (c ≡ true)
-      chosen_or true c h = inl refl
-      chosen_or false c h = inr h
-
       both_dashes : (b : ℕ) (bs : List ℕ) → (eqb b dash && begins dash bs) ≡ true → b ∷ bs ≡ dash ∷ dash ∷ drop 1 bs
       both_dashes b [] h = absurd (true≢false (sym (and_parts (eqb b dash) false h).1))
       both_dashes b (c ∷ cs) h = let p = and_parts (eqb b dash) (eqb c dash) h in rw (eqb-true b dash p.0, eqb-true c dash p.1) refl
@@ -41,14 +39,11 @@ is_has text has = ap has_dashes has.is ∙ has_dashes-append has.front (dash ∷
 
 -- ---- where each reader fails
 
-none_some : (n : ℕ) (o : Option ℕ) → o ≡ None → o ≡ Some n → ⊥
-none_some n o p q = cc
-
 pub number_err : (total : ℕ) (bytes : List ℕ) (e : KeyFault) → number_at total bytes ≡ Err e → (BadField (total - length bytes) ≡ e) × (¬ IsNumber (word_of bytes))
 unfolding number_at
 number_err total bytes e h =
     let o = option_err (number_of (word_of bytes)) (λ n. (n, after_word bytes)) (BadField (total - length bytes)) e h in
-    (o.1, λ is. none_some is.0 (number_of (word_of bytes)) o.0 (ap number_of is.2 ∙ number_is is.0 is.1))
+    (o.1, λ is. none_and_some (number_of (word_of bytes)) is.0 o.0 (ap number_of is.2 ∙ number_is is.0 is.1))
 
 field_err : (letter total : ℕ) (bytes : List ℕ) (e : KeyFault) → field_at letter total bytes ≡ Err e → (comes letter bytes ≡ true) × (number_at total (drop 2 bytes) ≡ Err e)
 unfolding field_at
@@ -231,7 +226,7 @@ unfolding checked_name
 checked_fault text name place has at e h tried =
     elim (if_is (eqb (length name) 0) (Err EmptyName) _ _ h) [
       | inl empty ↦
-          let none : name ≡ [] = length_zero name (eqb-true (length name) 0 empty.0) in
+          let none : name ≡ [] = nil_from_length name (eqb-true (length name) 0 empty.0) in
           subst (λ d. Breaks d text) (err_is (List ℕ) EmptyName e empty.1) (tried, place, subst (λ (w : List ℕ). HasName text w place) none has)
       | inr some ↦ elim (if_is (ltb (name_front name) (length name)) (Err (BadName (length text - length name + name_front name))) (Ok name) _ some.1) [
         | inl bad ↦
@@ -240,10 +235,7 @@ checked_fault text name place has at e h tried =
             (tried, record { name = name; from = place; has = has; good = name_front name; longest = front_longest name (ltb-true (name_front name) (length name) bad.0); place = from })
         | inr good ↦ absurd (ok_err e name good.1)
       ]
-    ] where
-      length_zero : (xs : List ℕ) → length xs ≡ 0 → xs ≡ []
-      length_zero [] h = refl
-      length_zero (x ∷ xs) h = absurd (omega (arith, h))
+    ]
 
 name_fault : (text : List ℕ) (backend : List ℕ) (size mtime : Option ℕ) (chunk : Option (ℕ × ℕ)) → IsFront (front_of backend size mtime chunk) → (bytes : List ℕ) → text ≡ front_text (front_of backend size mtime chunk) ++ bytes → IsLive bytes
     → (chunk ≡ None → comes chunk_size_letter bytes ≡ false) → (chunk ≡ None → mtime ≡ None → comes mtime_letter bytes ≡ false) → (chunk ≡ None → mtime ≡ None → size ≡ None → comes size_letter bytes ≡ false)

@@ -1,6 +1,6 @@
 -- A key's text has one line.
-use Rattle.std.proofs.Common.{◌≡◌, ℕ, ◌+◌, ◌≤◌, Bool, true, false, List, [], ◌∷◌, ◌++◌, Option, Some, None, refl, sym, ap, ◌∙◌, subst, arith}
-use Rattle.std.specs.Prelude.{◌==◌, ◌↔◌, nat_le, ◌&&◌, ◌||◌, IsTrue, Result, Ok, Err}
+use Rattle.std.proofs.Common.{◌≡◌, ℕ, true, false, List, [], ◌∷◌, Option, Some, None, refl, sym, ap, subst, arith}
+use Rattle.std.specs.Prelude.{◌==◌, ◌↔◌, nat_le, ◌&&◌, Result, Ok, Err}
 use Rattle.std.specs.List.{list_all}
 use Rattle.std.specs.Fmt.{decimal}
 use Rattle.std.proofs.lemmas.Bool.{and_parts}
@@ -9,7 +9,7 @@ use Rattle.annex_base.specs.Lines.{newline, is_not_newline, IsOneLine, dash}
 use Rattle.annex_base.proofs.Lists.{list_all_weaker}
 use Rattle.annex_base.proofs.Lines.{one_line-nil, one_line-append, one_line-cons, one_line-by_test, one_line-decimal}
 use Rattle.annex_key.specs.declared.fault.KeyFault.{KeyFault}
-use Rattle.annex_key.specs.KeyText.{KeyParts, IsKey, IsKeyText, key_text, field_text, chunk_text, is_backend, is_backend_byte, is_upper, size_letter, mtime_letter, chunk_size_letter, chunk_letter}
+use Rattle.annex_key.specs.KeyText.{KeyParts, IsKeyText, field_text, chunk_text, is_backend, is_backend_byte, is_upper, size_letter, mtime_letter, chunk_size_letter, chunk_letter}
 use Rattle.annex_key.specs.Reading.{key_at}
 use Rattle.annex_key.specs.View.{first_fault, fault_in}
 use Rattle.annex_key.proofs.KeyLemmas.{text_takes, text_again}

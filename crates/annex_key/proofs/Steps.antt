@@ -4,7 +4,7 @@ use Rattle.std.specs.Option.{option_map}
 use Rattle.std.proofs.lemmas.Bool.{eqb-true, and_parts}
 use Rattle.annex_base.specs.Lines.{dash}
 use Rattle.annex_key.specs.declared.fault.KeyFault.{KeyFault}
-use Rattle.annex_key.specs.Reading.{begins, comes, or_fault}
+use Rattle.annex_key.specs.Reading.{comes, or_fault}
 
 abbrev done : {A : Type 0} → A → Result A KeyFault
 done x = Ok x

@@ -15,8 +15,8 @@ use Rattle.annex_base.proofs.TextOrder.{BeforeAll, order_nil, order_cons, order_
 use Rattle.branch_bundle.proofs.NumberLemmas.{IsDigit, number_text-one, number_text-more, number_text-first, number_text-is}
 use Rattle.annex_base.proofs.Lists.{Each-append, Each-left, Each-right, two_cuts}
 use Rattle.branch_bundle.proofs.TextLemmas.{word, file_text-file_of, file_of-same, cut_same, number_free, word_same}
-use Rattle.branch_bundle.proofs.FillLemmas.{fill-bytes, fill-free, length-fill, before_fill, before_filled, before_none}
-use Rattle.branch_bundle.proofs.EndLemmas.{free_front, text_of-cons, after_set, begins_lines-large}
+use Rattle.branch_bundle.proofs.FillLemmas.{fill-bytes, fill-free, length-fill, before_fill, before_filled}
+use Rattle.branch_bundle.proofs.EndLemmas.{free_front, text_of-cons, after_set, begins_lines-large, some_line}
 
 -- ---- some lines of n bytes
 
@@ -46,10 +46,6 @@ path_free-told n before text bytes free begins =
       before_filled before text h.0 (length before + 1) bytes (omega arith) (ap (text_cmp before) (sym h.1) ∙ begins.below),
     )
 
-line_after : (before path : List ℕ) → Before before path → IsFree newline path → IsLine path
-line_after before [] less free = absurd (before_none before less)
-line_after before (b ∷ bs) less free = record { some = λ none. cc; single = free }
-
 free_append : (b : ℕ) (xs ys : List ℕ) → IsFree b xs → IsFree b ys → IsFree b (xs ++ ys)
 free_append b [] ys first second among = second among
 free_append b (x ∷ xs) ys first second among = elim among [ inl same ↦ first (inl same) | inr later ↦ free_append b xs ys (λ h. first (inr h)) second later ]
@@ -63,7 +59,7 @@ path_free-found n m before text free other less =
       rest = fill m ++ newline ∷ text_of some.0;
       bytes = Each-append IsByte (fill m) (newline ∷ text_of some.0) (fill-bytes m) (omega arith, some.3);
       below = less;
-      line = line_after before (text ++ fill m) less (free_append newline text (fill m) free (fill-free m));
+      line = some_line before (text ++ fill m) less (free_append newline text (fill m) free (fill-free m));
       set = some.1;
       long = some.2;
       spelled = append_assoc text (fill m) (newline ∷ text_of some.0);
@@ -86,7 +82,7 @@ path_cut-found n before text front back cut less begins = record {
   rest = begins.rest;
   bytes = begins.bytes;
   below = less;
-  line = line_after before front less cut.free;
+  line = some_line before front less cut.free;
   set = begins.set;
   long = begins.long;
   spelled = ap (λ (w : List ℕ). front ++ newline ∷ w) begins.spelled ∙ sym (append_assoc front (newline ∷ back) begins.rest) ∙ ap (λ (w : List ℕ). w ++ begins.rest) (sym cut.spelled);

@@ -1,5 +1,5 @@
 -- Lines that are cut short: whether some lines in order go on from there, to so many bytes.
-use Rattle.std.proofs.Common.{◌≡◌, inl, inr, ℕ, zero, suc, ◌+◌, ◌-◌, ◌*◌, ◌<◌, ◌≤◌, true, false, ◌&&◌, List, [], ◌∷◌, ◌++◌, length, arith, refl, sym, ap, subst, ◌∙◌, append_assoc, length-append}
+use Rattle.std.proofs.Common.{◌≡◌, inl, inr, ℕ, zero, suc, ◌+◌, ◌-◌, ◌*◌, ◌≤◌, true, false, ◌&&◌, List, [], ◌∷◌, ◌++◌, length, arith, refl, sym, ap, subst, ◌∙◌, append_assoc, length-append}
 use Rattle.std.specs.Ordering.{is_lt}
 use Rattle.std.specs.Bool.{◌==◌}
 use Rattle.std.proofs.lemmas.List.{append-nil, nil_from_length}
@@ -53,7 +53,8 @@ abbrev pub LinesAfter : List ℕ → Lines → Type 0
 LinesAfter line [] = Unit {0}
 LinesAfter line (x ∷ xs) = Before line x × IsFree newline x × LinesAfter x xs
 
-some_line : (line x : List ℕ) → Before line x → IsFree newline x → IsLine x
+-- a line that comes after another isn't empty
+pub some_line : (line x : List ℕ) → Before line x → IsFree newline x → IsLine x
 some_line line [] less free = absurd (before_none line less)
 some_line line (b ∷ bs) less free = record { some = λ none. cc; single = free }
 

@@ -17,7 +17,7 @@ use Rattle.content_lock.specs.declared.hold.Blocker.{Blocker}
 use Rattle.content_lock.specs.Blocking.{Names, last_blocking}
 use Rattle.content_lock.specs.Indexed.{AreFalling, AreRising, IsIndexed, after_hold, blocker_of, blocker_with, end_of, hold_at, listed_at, on_key, outlasts}
 use Rattle.content_lock.proofs.IndexedLemmas.{Lists, numbers_on}
-use Rattle.content_lock.proofs.NumberedLemmas.{below_other, falling-filter, lookup_is}
+use Rattle.content_lock.proofs.NumberedLemmas.{falling-filter, lookup_is}
 
 -- ---- until when holds block, with one more at the front
 
@@ -195,7 +195,7 @@ found_each [] rising = tt
 found_each (h ∷ hs) rising = (
   rw (eqb_refl h.number) refl,
   Each-both (λ x. h.number < x.number) (λ x. find (λ y. y.number == x.number) hs ≡ Some x) (λ x. find (λ y. y.number == x.number) (h ∷ hs) ≡ Some x)
-      (λ x lt is. rw (below_other x.number h.number lt) is) hs rising.0 (found_each hs rising.1),
+      (λ x lt is. rw (eqb_less h.number x.number lt) is) hs rising.0 (found_each hs rising.1),
 )
 
 module _ (key : List ℕ) (now : ℕ) where

@@ -6,12 +6,12 @@ use Rattle.std.specs.declared.alloc.Global.{Global}
 use Rattle.std.specs.declared.vec.Vec.{Vec}
 use Rattle.std.proofs.lemmas.List.Elements.{filter-append}
 use Rattle.annex_base.specs.Lists.{Each}
-use Rattle.annex_base.proofs.Conditions.{bytes_eq-true, eqb_refl, if_same}
+use Rattle.annex_base.proofs.Conditions.{bytes_eq-true, eqb_refl, if_same, eqb_less}
 use Rattle.annex_base.proofs.Lists.{Each-weaker}
 use Rattle.run_data.specs.declared.row.Hold.{Hold}
 use Rattle.content_lock.specs.Indexed.{AreRising, IsIndexed, items_in, listed_at, with_number, on_key}
 use Rattle.content_lock.specs.Tokens.{others_of}
-use Rattle.content_lock.proofs.NumberedLemmas.{below_other, numbered-append, one_of, rising-filter, rising-last, rising-map, values-numbered}
+use Rattle.content_lock.proofs.NumberedLemmas.{numbered-append, one_of, rising-filter, rising-last, rising-map, values-numbered}
 
 abbrev pub Lists : Type 0
 Lists = List (List ℕ × Vec ℕ Global)
@@ -123,7 +123,7 @@ came_last key (h ∷ hs) n less = go (bytes_eq h.key key) (came_last key hs n le
   where
     go : (b : Bool) → filter (λ m. not (m == n)) (numbers_on key hs ++ n ∷ []) ≡ numbers_on key hs
         → filter (λ m. not (m == n)) (map (λ (x : Hold). x.number) (if b then h ∷ on_key key hs else on_key key hs) ++ n ∷ []) ≡ map (λ (x : Hold). x.number) (if b then h ∷ on_key key hs else on_key key hs)
-    go true ih = rw (below_other n h.number less.0) (ap (λ (l : List ℕ). h.number ∷ l) ih)
+    go true ih = rw (eqb_less h.number n less.0) (ap (λ (l : List ℕ). h.number ∷ l) ih)
     go false ih = ih
 
 pub indexed_back : (es fs : List (ℕ × Hold)) (was mid now : Lists) (h : Hold) → IsIndexed es was → Each (λ x. x.number < h.number) (values_of es)

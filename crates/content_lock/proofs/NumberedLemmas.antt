@@ -42,9 +42,6 @@ at_is n m = grind arith
 not_at : (n m : ℕ) → n < m → not (m == n) ≡ true
 not_at n m lt = grind arith
 
-pub below_other : (n m : ℕ) → m < n → (m == n) ≡ false
-below_other n m lt = grind arith
-
 -- ---- a hold of a greater number goes last
 
 pub insert_last : (hs : List Hold) (n : ℕ) (h : Hold) → Each (λ x. x.number < n) hs → insert_entry nat_cmp (map with_number hs) n h ≡ map with_number hs ++ (n, h) ∷ []

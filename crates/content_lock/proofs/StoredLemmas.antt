@@ -6,7 +6,7 @@ use Rattle.std.specs.Option.{ForSome, option_map}
 use Rattle.std.proofs.lemmas.Option.{same_Some}
 use Rattle.annex_base.specs.Lists.{Each}
 use Rattle.annex_base.proofs.Conditions.{bytes_eq-refl, bytes_eq-true}
-use Rattle.annex_base.proofs.Lists.{All-from_Each, Each-from_All}
+use Rattle.annex_base.proofs.Lists.{All-from_Each, Each-from_All, cons_first, cons_rest}
 use Rattle.drop_proof.specs.declared.rule.Need.{Need}
 use Rattle.run_data.specs.declared.entry.By.{By}
 use Rattle.run_data.specs.declared.entry.EntryKind.TheVariants as kinds
@@ -21,18 +21,12 @@ use Rattle.content_lock.proofs.TokenLemmas.{given_new, others_own_new, owns_new}
 
 -- ---- records
 
-cons_label : (x y : Label) (xs ys : List Label) → x ∷ xs ≡ y ∷ ys → x ≡ y
-cons_label x y xs ys e = cc
-
-cons_labels : (x y : Label) (xs ys : List Label) → x ∷ xs ≡ y ∷ ys → xs ≡ ys
-cons_labels x y xs ys e = cc
-
 -- a greater number's record stands first
 stands_first : (rs : List HoldRecord) (hs : List Hold) (r : HoldRecord) → AreRecordsOf hs rs → Each (λ h. h.number < r.number) hs → with_record rs r ≡ r ∷ rs
 stands_first [] hs r same less = refl
 stands_first (x ∷ xs) [] r same less = absurd cc
 stands_first (x ∷ xs) (h ∷ hs) r same less =
-    let number : x.number ≡ h.number = ap (λ (l : Label). l.0) (cons_label (label_in x) (label_of h) (map label_in xs) (map label_of hs) same) in
+    let number : x.number ≡ h.number = ap (λ (l : Label). l.0) (cons_first (label_in x) (label_of h) (map label_in xs) (map label_of hs) same) in
     let lt : x.number < r.number = subst (λ (n : ℕ). n < r.number) (sym number) less.0 in
     let is : nat_lt x.number r.number ≡ true = grind arith in
     ap (λ (b : Bool). if b then r ∷ x ∷ xs else (if x.number == r.number then r ∷ xs else x ∷ with_record xs r)) is
@@ -46,8 +40,8 @@ numbers_each : (rs : List HoldRecord) (hs : List Hold) (n : ℕ) → AreRecordsO
 numbers_each rs [] n same less = tt
 numbers_each [] (h ∷ hs) n same less = absurd cc
 numbers_each (x ∷ xs) (h ∷ hs) n same less =
-    let number : x.number ≡ h.number = ap (λ (l : Label). l.0) (cons_label (label_in x) (label_of h) (map label_in xs) (map label_of hs) same) in
-    (subst (λ (m : ℕ). m < n) number less.0, numbers_each xs hs n (cons_labels (label_in x) (label_of h) (map label_in xs) (map label_of hs) same) less.1)
+    let number : x.number ≡ h.number = ap (λ (l : Label). l.0) (cons_first (label_in x) (label_of h) (map label_in xs) (map label_of hs) same) in
+    (subst (λ (m : ℕ). m < n) number less.0, numbers_each xs hs n (cons_rest (label_in x) (label_of h) (map label_in xs) (map label_of hs) same) less.1)
 
 pub numbers_told : (rs : List HoldRecord) (hs : List Hold) (n : ℕ) → AreRecordsOf hs rs → All (λ r. r.number < n) rs → All (λ h. h.number < n) hs
 numbers_told rs hs n same less = All-from_Each (λ h. h.number < n) hs (numbers_each rs hs n same (Each-from_All (λ r. r.number < n) rs less))

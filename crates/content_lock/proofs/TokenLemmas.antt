@@ -6,7 +6,7 @@ use Rattle.std.proofs.lemmas.Option.{same_Some}
 use Rattle.std.proofs.Math.Bool.{or-false, or-true}
 use Rattle.annex_base.specs.Lists.{Each, Member}
 use Rattle.annex_base.proofs.Conditions.{and_first, and_second, eqb_refl}
-use Rattle.annex_base.proofs.Lists.{Each-from_All, Each-member, Each-weaker, filter_all, find_member}
+use Rattle.annex_base.proofs.Lists.{Each-from_All, Each-member, Each-weaker, filter_all, find_member, Each-filter}
 use Rattle.annex_base.proofs.Options.{map_some}
 use Rattle.run_data.specs.declared.entry.By.{By}
 use Rattle.run_data.specs.declared.entry.By.TheVariants.{Script, Job, Peer}
@@ -75,9 +75,6 @@ each_filtered P q (h ∷ hs) each = go (q h) refl (each_filtered P q hs each.1)
     go : (b : Bool) → q h ≡ b → Each P (filter q hs) → Each P (if b then h ∷ filter q hs else filter q hs)
     go true is ih = (each.0 is, ih)
     go false is ih = ih
-
-filtered_each : (P : Hold → Type 0) (q : Hold → Bool) (hs : List Hold) → Each P hs → Each P (filter q hs)
-filtered_each P q hs each = each_filtered P q hs (Each-weaker P (λ h. q h ≡ true → P h) (λ h p _. p) hs each)
 
 find_filtered : (p q : Hold → Bool) → ((h : Hold) → p h ≡ true → q h ≡ true) → (hs : List Hold) → find p (filter q hs) ≡ find p hs
 find_filtered p q all [] = refl
@@ -178,7 +175,7 @@ pub others_own_off : (hs : List Hold) (s : ShareView) (by : By) (other : Option 
 others_own_off hs s by None has differ owns = record {
   owner = refl;
   given = refl;
-  kept = each_stays by (others_of s.number hs) (filtered_each (Stays by) (λ h. not (h.number == s.number)) hs (stays_each by hs owns.kept));
+  kept = each_stays by (others_of s.number hs) (Each-filter (Stays by) (λ h. not (h.number == s.number)) hs (stays_each by hs owns.kept));
 }
 others_own_off hs s by (Some t) has differ owns =
     let away = apart hs s t has owns.given (by_of s by t owns.owner differ) in
@@ -187,7 +184,7 @@ others_own_off hs s by (Some t) has differ owns =
       given = ap (option_map share_of) (find_filtered (opens t.number) (λ h. not (h.number == s.number)) (λ h is. other_number h.number (number_of_found t.number h is) away) hs) ∙ owns.given;
       kept = each_stays by (others_of t.number (others_of s.number hs))
           (each_filtered (Stays by) (λ h. not (h.number == t.number)) (others_of s.number hs)
-          (filtered_each (λ h. not (h.number == t.number) ≡ true → Stays by h) (λ h. not (h.number == s.number)) hs
+          (Each-filter (λ h. not (h.number == t.number) ≡ true → Stays by h) (λ h. not (h.number == s.number)) hs
           (each_passing (Stays by) (λ h. not (h.number == t.number)) hs (stays_each by (others_of t.number hs) owns.kept))));
     }
   where

@@ -1,8 +1,7 @@
 -- The ends of connections: their names, and the frames that are taken and sent at them.
-use Rattle.std.proofs.Common.{◌≡◌, ◌≢◌, ℕ, Bool, true, false, List, [], ◌∷◌, Option, Some, None, refl, sym, ap, ◌∙◌, arith, true≢false}
+use Rattle.std.proofs.Common.{◌≡◌, ◌≢◌, ℕ, Bool, true, false, List, [], ◌∷◌, refl, sym, ap, ◌∙◌, true≢false}
 use Rattle.std.specs.Prelude.{◌&&◌, ◌==◌, filter, fold, if◌then◌else◌, nat_lt, not}
 use Rattle.std.proofs.lemmas.Bool.{and_parts, eqb-true, false_from_ne_true}
-use Rattle.std.proofs.lemmas.Bool.Decides.{nat_tests}
 use Rattle.annex_base.proofs.Conditions.{and_regrouped, eqb_refl}
 use Rattle.annex_base.proofs.Lists.{filter_both}
 use Rattle.run_data.specs.declared.entry.Entry.{Entry}
@@ -78,11 +77,8 @@ end_own r past a e is = rw is refl
 pub may_epoch : (c : End) (f : FrameView) → is_opening f.body ≡ false → may_take c f ≡ true → (c.opened ≡ true) × (f.epoch ≡ c.epoch)
 may_epoch c f n may = go f.body n may
   where
-    same_number : (x y : ℕ) → (x == y) ≡ true → x ≡ y
-    same_number x y e = grind (arith, nat_tests)
-
     go : (body : FrameText) → is_opening body ≡ false → (if is_opening body then not c.opened && nat_lt c.epoch f.epoch else c.opened && (f.epoch == c.epoch)) ≡ true → (c.opened ≡ true) × (f.epoch ≡ c.epoch)
-    go body n may = let two = and_parts c.opened (f.epoch == c.epoch) (rw n at may) in (two.0, same_number f.epoch c.epoch two.1)
+    go body n may = let two = and_parts c.opened (f.epoch == c.epoch) (rw n at may) in (two.0, eqb-true f.epoch c.epoch two.1)
 
 -- ---- the way out of an end
 
@@ -102,7 +98,3 @@ is_out r a n g = and_regrouped (g.peer == a.peer) (g.slot == a.slot) (same_bool 
 pub on_out : (r : ℕ) (a : EndName) (n : ℕ) (e : Entry) → on_way (way_out r a n) e ≡ filter (λ g. g.epoch == n) (sent_at a e.sent)
 on_out r a n e = ap (λ p. filter (is_on (way_out r a n) p) e.sent) (out_taker-is r a n)
     ∙ filter_both (is_on (way_out r a n) a.peer) (λ g. g.epoch == n) (sends_at a) (is_out r a n) e.sent
-
--- an entry that takes none
-pub none_taken : {A : Type 0} (o : Option FrameView) (f : FrameView) → o ≡ None → o ≡ Some f → A
-none_taken o f n i = absurd (let no' : None ≡ Some f = sym n ∙ i in cc)

@@ -52,6 +52,9 @@ few_one a b c bodies few = no_more (length (sent_at a (frames b c bodies))) (len
 few_as : (a : EndName) (fs gs : List FrameView) → fs ≡ gs → length (sent_at a gs) ≤ 2 → length (sent_at a fs) ≤ 2
 few_as a fs gs same few = subst (λ (zs : List FrameView). length (sent_at a zs) ≤ 2) (sym same) few
 
+few_none : (a : EndName) (fs : List FrameView) → fs ≡ [] → length (sent_at a fs) ≤ 2
+few_none a fs none = few_as a fs [] none (omega arith)
+
 module _ (ends : EndName → End) (says : EndName → List FrameText) (few : (b : EndName) → length (says b) ≤ 2) where
   abbrev out : EndName → List FrameView
   out b = frames b (ends b) (says b)
@@ -141,9 +144,6 @@ module _ (s : SetUp) (st : State) (k : Look) (w : Work) where
   few_last a lost = few_as a (farewells t lost) _ (sym (named lost (others s)))
       (few_each st.ends (λ b. farewell t lost b.peer (st.ends b).opened) (λ b. few_farewell t lost b.peer (st.ends b).opened) a (map (job_end w) (others s)) (job_ends_apart s w))
 
-  few_none : (a : EndName) (fs : List FrameView) → fs ≡ [] → length (sent_at a fs) ≤ 2
-  few_none a fs none = few_as a fs [] none (omega arith)
-
   few_asks : (a : EndName) (fs : List FrameView) → AsksOne t fs → length (sent_at a fs) ≤ 2
   few_asks a fs (inl n) = few_none a fs n
   few_asks a fs (inr x) = few_as a fs _ x.2 (few_one a (job_end w x.0) (end_with t x.0) (x.1 ∷ []) (omega arith))
@@ -184,15 +184,12 @@ module _ (s : SetUp) (st : State) where
   few_crash : (a : EndName) → length (sent_at a (closes_all s st)) ≤ 2
   few_crash a = few_as a (closes_all s st) _ (closes_named (all_ends s)) (few_each st.ends (λ b. closing (st.ends b).opened) (λ b. few_closing (st.ends b).opened) a (all_ends s) (all_apart s))
 
-  nothing : (a : EndName) (fs : List FrameView) → fs ≡ [] → length (sent_at a fs) ≤ 2
-  nothing a fs none = few_as a fs [] none (omega arith)
-
   few_come : (a : EndName) (lines : List (List ℕ)) (sent : List FrameView) (kind : EntryKind) → MayCome s st lines sent kind → length (sent_at a sent) ≤ 2
-  few_come a lines sent (Begin job what) x = nothing a sent x.2
-  few_come a lines sent (Gain Script size key) x = nothing a sent x.2
-  few_come a lines sent (Log file) x = nothing a sent x.1
-  few_come a lines sent (Compact file) x = nothing a sent x.2
-  few_come a lines sent (Fault call Script) x = nothing a sent x.2
+  few_come a lines sent (Begin job what) x = few_none a sent x.2
+  few_come a lines sent (Gain Script size key) x = few_none a sent x.2
+  few_come a lines sent (Log file) x = few_none a sent x.1
+  few_come a lines sent (Compact file) x = few_none a sent x.2
+  few_come a lines sent (Fault call Script) x = few_none a sent x.2
   few_come a lines sent (Close peer slot client) x =
       let b : EndName = record { peer = peer; slot = slot; client = client } in
       few_as a sent _ (x.3 ∙ one_named b) (few_one a b (st.ends b) (closing (st.ends b).opened) (few_closing (st.ends b).opened))
@@ -201,8 +198,8 @@ module _ (s : SetUp) (st : State) where
 
   few_step : (a : EndName) (k : Look) (m : Made) → StepFound s st k m → length (sent_at a m.sent) ≤ 2
   few_step a k m (inl x) = elim (x.writes) [
-    | inl y ↦ nothing a m.sent (ap (λ (z : Made). z.sent) y)
-    | inr y ↦ nothing a m.sent (ap (λ (z : Made). z.sent) y)
+    | inl y ↦ few_none a m.sent (ap (λ (z : Made). z.sent) y)
+    | inr y ↦ few_none a m.sent (ap (λ (z : Made). z.sent) y)
   ]
   few_step a k m (inr (inl x)) = few_session s st a (server_end x.peer x.slot) x.asked x.says m (few_said (here s st k (server_end x.peer x.slot)) (st.sessions (server_end x.peer x.slot)).doing x.asked x.says m.kind x.found) x.frame
   few_step a k m (inr (inr x)) = few_job s st k x.w a m m.kind x.found

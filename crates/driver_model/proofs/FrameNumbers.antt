@@ -26,9 +26,10 @@ use Rattle.node_model.specs.Found.{AsksOne, ByJob, GivesAt, IsJobEntry, JobTakes
 use Rattle.node_model.specs.AnyTime.{MayCome, all_ends, close_at, closes_all}
 use Rattle.run_model.specs.Run.{ComesAnyTime, IsStep, OwnPart}
 use Rattle.driver_model.specs.Apart.{AreApart}
-use Rattle.driver_model.proofs.EndLemmas.{none_taken, same_end, same_end-is, same_end-not, sent_other, sent_same, takes_end}
+use Rattle.driver_model.proofs.EndLemmas.{same_end, same_end-is, same_end-not, sent_other, sent_same, takes_end}
 use Rattle.driver_model.proofs.EndsApart.{all_apart, job_ends_apart}
 use Rattle.driver_model.proofs.Premises.{StepsFind}
+use Rattle.annex_base.proofs.Options.{none_and_some}
 
 -- these frames are sent one after the other by an end that stands so
 abbrev pub Numbered : End → List FrameView → Type 0
@@ -228,7 +229,7 @@ module _ (s : SetUp) (past : List Entry) where
       no_opening y f i = go y.frame
         where
           go : (m.taken ≡ None) ⊎ JobTakes (turn_of s (state_of s past) k y.w) m → is_opening f.body ≡ false
-          go (inl n) = none_taken m.taken f n i
+          go (inl n) = absurd (none_and_some m.taken f n i)
           go (inr z) =
               let two : Some z.f ≡ Some f = sym z.taken_is ∙ i in
               let same : z.f ≡ f = cc in
@@ -245,4 +246,4 @@ numbered finds s past words e a own well = go own.does
     go : IsStep s past words e ⊎ ComesAnyTime s past e → Numbered (end_took (end_at past s.number a) (taken_at a e.taken)) (sent_at a e.sent)
     go (inl x) = subst (λ (z : Entry). Numbered (end_took (end_at past s.number a) (taken_at a z.taken)) (sent_at a z.sent)) (sym x.is)
         (step_numbered s past a x.look x.made (λ f i. well f (ap (λ (z : Entry). z.taken) x.is ∙ i)) (finds s (state_of s past) x.look x.made x.makes))
-    go (inr x) = to_between s past e.taken a (sent_at a e.sent) (λ f i. none_taken e.taken f x.takes_none i) (come_numbered s past a e.lines e.sent e.kind x.may)
+    go (inr x) = to_between s past e.taken a (sent_at a e.sent) (λ f i. absurd (none_and_some e.taken f x.takes_none i)) (come_numbered s past a e.lines e.sent e.kind x.may)

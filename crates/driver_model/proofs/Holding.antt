@@ -1,7 +1,6 @@
 -- What holds of the driver as it goes on: its entries are a run, and the frames on their way are those that were sent and not taken.
 use Rattle.std.proofs.Common.{◌≡◌, ◌≢◌, ℕ, ◌+◌, Bool, true, false, List, [], ◌∷◌, ◌++◌, Option, Some, None, inl, inr, refl, sym, ap, ◌∙◌, subst, arith}
-use Rattle.std.specs.Prelude.{cond, ◌==◌, length, map, reverse}
-use Rattle.std.proofs.lemmas.Bool.Decides.{nat_tests}
+use Rattle.std.specs.Prelude.{cond, length, map, reverse}
 use Rattle.std.proofs.lemmas.List.{length-reverse, reverse-append, reverse-reverse}
 use Rattle.annex_base.specs.Lists.{Each}
 use Rattle.annex_base.specs.declared.kinds.Word.{Word}
@@ -29,6 +28,7 @@ use Rattle.driver_model.proofs.FrameNumbers.{TakesWell}
 use Rattle.driver_model.proofs.InFlight.{IsFirst, flies_adds, may_be_taken}
 use Rattle.driver_model.proofs.Premises.{Laws}
 use Rattle.driver_model.proofs.WayNumbers.{order_other, order_own}
+use Rattle.std.proofs.lemmas.Bool.{eqb-true}
 
 -- ---- the run so far
 
@@ -125,15 +125,12 @@ module _ (laws : Laws) (g : DriverInput) (d : Driver) (h : IsSound g d) (r : ℕ
       go : (b : Bool) → is_of q e ≡ b → InOrder (e ∷ d.past) q a n
       go false i = order_other q a n d.past e i (h.order q a n)
       go true i =
-          let same : r ≡ q = same_number r q (ap (λ o. option_is o q) (sym x.repo_is) ∙ i) in
+          let same : r ≡ q = eqb-true r q (ap (λ o. option_is o q) (sym x.repo_is) ∙ i) in
           subst (λ k. InOrder (e ∷ d.past) k a n) same
           (order_own laws.entries (set_up_of g d r) a n d.past x.words e (ap (is_of' e) same ∙ i) x.own takes_well (h.order r a n))
         where
           is_of' : Entry → ℕ → Bool
           is_of' e k = is_of k e
-
-          same_number : (a b : ℕ) → (a == b) ≡ true → a ≡ b
-          same_number a b e = grind (arith, nat_tests)
 
   run_now : IsWithinBounds d.past e → IsRun (run_on g d.tree d.marks (e ∷ d.past))
   run_now fit = entry_on laws g d.tree d.marks d.past e h.run (entry_step fit)

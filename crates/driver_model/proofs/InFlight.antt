@@ -22,7 +22,7 @@ use Rattle.node_model.specs.SetUp.{SetUp}
 use Rattle.run_model.specs.States.{end_at}
 use Rattle.node_model.specs.State.{State}
 use Rattle.run_model.specs.Run.{OwnPart}
-use Rattle.driver_model.proofs.EndLemmas.{end_own, may_epoch, out_sender-is, out_taker-is, sends_all, takes_self}
+use Rattle.driver_model.proofs.EndLemmas.{end_own, may_epoch, out_sender-is, out_taker-is, same_both, same_self, sends_all, takes_self}
 use Rattle.driver_model.proofs.Premises.{EntryLaws}
 use Rattle.driver_model.specs.Driver.{Driver, Flight, but_first, but_taken, end_to, flight, frames_to, is_at, is_old, old_at}
 use Rattle.driver_model.specs.Ways.{Flies, InOrder, AreOnTheWay, IsOver, NumberedBody, bodies_flying, is_flight, other_end, numbered_body, bodies_sent, views_sent, way_out}
@@ -150,16 +150,10 @@ on_parts r a n x e =
     let three = and_parts (x.frame.slot == a.slot) (same_bool x.frame.up a.client && (x.frame.epoch == n)) two.1 in
     let four = and_parts (same_bool x.frame.up a.client) (x.frame.epoch == n) three.1 in (
       eqb-true x.to a.peer one.0,
-      end_path (eqb-true x.frame.peer r two.0) (eqb-true x.frame.slot a.slot three.0) (ap (λ b. if b then false else true) (both x.frame.up a.client four.0)),
+      end_path (eqb-true x.frame.peer r two.0) (eqb-true x.frame.slot a.slot three.0) (ap (λ b. if b then false else true) (same_both x.frame.up a.client four.0)),
       eqb-true x.frame.epoch n four.1,
     )
   where
-    both : (b c : Bool) → same_bool b c ≡ true → b ≡ c
-    both true true e = refl
-    both true false e = absurd (cc)
-    both false true e = absurd (cc)
-    both false false e = refl
-
     end_path : x.frame.peer ≡ r → x.frame.slot ≡ a.slot → (if x.frame.up then false else true) ≡ (if a.client then false else true) → end_to x.frame ≡ other_end r a
     end_path i j k t = record { peer = i t; slot = j t; client = k t }
 
@@ -220,16 +214,9 @@ but_split : (q : Flight → Bool) (front back : List Flight) (x : Flight) → Ea
 but_split q [] back x n i = rw i refl
 but_split q (y ∷ front) back x n i = rw n.0 (ap (λ zs. y ∷ zs) (but_split q front back x n.1 i))
 
-both_refl : (b : Bool) → same_bool b b ≡ true
-both_refl true = refl
-both_refl false = refl
-
 -- one that comes to the same end comes there too
 at_same : (p : ℕ) (f : FrameView) (y : Flight) → y.to ≡ p → end_to y.frame ≡ end_to f → is_at p f y ≡ true
 at_same p f y i j = rw (i, eqb_refl p) (subst (λ (z : EndName). takes_at z y.frame ≡ true) j (takes_self y.frame))
-  where
-    takes_self : (g : FrameView) → takes_at (end_to g) g ≡ true
-    takes_self g = rw (eqb_refl g.peer, eqb_refl g.slot) (both_refl (if g.up then false else true))
 
 module _ (p : ℕ) (f : FrameView) (xs : List Flight) (y : IsFirst p f xs) (r : ℕ) (a : EndName) (n : ℕ) where
   to_is : y.x.to ≡ p
@@ -387,17 +374,11 @@ module _ (laws : EntryLaws) (s : SetUp) (past : List Entry) (words : ℕ → Opt
       → Flies past xs f.peer (record { peer = p; slot = f.slot; client = f.up }) f.epoch → InOrder past f.peer (record { peer = p; slot = f.slot; client = f.up }) f.epoch → MayTake past (way_of p f) f
   may_be_taken f i flies order = go flies
     where
-      a : EndName
-      a = record { peer = s.number; slot = f.slot; client = f.up }
-
-      y : IsFirst s.number f xs
-      y = first f i
-
       hit : is_flight f.peer (record { peer = s.number; slot = f.slot; client = f.up }) f.epoch (first f i).x ≡ true
       hit = subst (λ k. ((k == s.number) && is_on (way_out f.peer (record { peer = s.number; slot = f.slot; client = f.up }) f.epoch) f.peer (first f i).x.frame) ≡ true)
           (sym (to_is s.number f xs (first f i) f.peer (record { peer = s.number; slot = f.slot; client = f.up }) f.epoch))
           (subst (λ g. ((s.number == s.number) && is_on (way_out f.peer (record { peer = s.number; slot = f.slot; client = f.up }) f.epoch) f.peer g) ≡ true) (sym (first f i).frame_is)
-          (rw (eqb_refl s.number, eqb_refl f.peer, eqb_refl f.slot, both_refl f.up, eqb_refl f.epoch) refl))
+          (rw (eqb_refl s.number, eqb_refl f.peer, eqb_refl f.slot, same_self f.up, eqb_refl f.epoch) refl))
 
       it' : AreOnTheWay past xs f.peer (record { peer = s.number; slot = f.slot; client = f.up }) f.epoch → MayTake past (way_of s.number f) f
       it' l =

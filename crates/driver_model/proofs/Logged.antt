@@ -1,14 +1,13 @@
 -- The files of branches: their paths are those of logs, and their lines are sets of lines. So what the script writes, merges and
 -- compacts may come.
-use Rattle.std.proofs.Common.{◌≡◌, ℕ, ◌<◌, Bool, true, false, List, [], ◌∷◌, ◌++◌, Option, Some, None, ◌⊎◌, inl, inr, refl, sym, ap, ◌∙◌, subst, arith, ◌≢◌}
-use Rattle.std.specs.Prelude.{cond, if◌then◌else◌, not, filter, length, nat_lt, bytes_eq}
+use Rattle.std.proofs.Common.{◌≡◌, ℕ, ◌<◌, Bool, true, false, List, [], ◌∷◌, ◌++◌, Option, Some, None, ◌⊎◌, inl, inr, refl, sym, ap, ◌∙◌, subst, ◌≢◌}
+use Rattle.std.specs.Prelude.{cond, if◌then◌else◌, not, filter, length, bytes_eq}
 use Rattle.std.specs.BTreeMap.{is_at}
 use Rattle.std.specs.Cmp.{Equal-is}
 use Rattle.std.specs.List.{list_any}
 use Rattle.std.specs.Ordering.{match_ordering}
 use Rattle.std.specs.declared.cmp.Ordering.{Ordering}
 use Rattle.std.specs.declared.cmp.Ordering.TheVariants.{Less, Equal, Greater}
-use Rattle.std.proofs.lemmas.Bool.Decides.{nat_tests}
 use Rattle.std.proofs.lemmas.List.Kept.{IsStrictlySortedBy-filter}
 use Rattle.annex_base.specs.ByteOrder.{text_cmp}
 use Rattle.annex_base.specs.Lists.{Each, Member}
@@ -59,6 +58,7 @@ use Rattle.driver_model.proofs.Holding.{Keeps, steps_on}
 use Rattle.driver_model.proofs.Premises.{Laws}
 use Rattle.driver_model.proofs.Scripted.{keeps_calling, keeps_faults, keeps_notes}
 use Rattle.driver_model.proofs.WrittenLines.{written_line}
+use Rattle.std.proofs.lemmas.Bool.{ltb-true}
 
 -- ---- sets of lines
 
@@ -295,15 +295,12 @@ module _ (laws : Laws) (g : DriverInput) (r : ℕ) (known : r < length g.repos) 
   keeps_compacted [] d k = k
   keeps_compacted (f ∷ files) d k = go (keeps_compacted files) (shrinks d r (file_of f.0)) refl (fails_at d r calls.PutFile)
     where
-      less : (a b : ℕ) → nat_lt a b ≡ true → a < b
-      less a b e = grind (arith, nat_tests)
-
       go : ((d : Driver) → Keeps g d → Keeps g (compacts_files r files d)) → (b : Bool) → shrinks d r (file_of f.0) ≡ b → (c : Bool)
           → Keeps g (if not b then compacts_files r files d else (if c then faults r calls.PutFile d else compacts_files r files (notes r (kinds.Compact (file_of f.0)) [] d)))
       go more false i c = more d k
       go more true i true = keeps_faults laws g d r calls.PutFile known refl k
       go more true i false = more (notes r (kinds.Compact (file_of f.0)) [] d)
-          (keeps_notes laws g d r (kinds.Compact (file_of f.0)) [] known (λ h small. (record { shrinks = less (length (compact_lines (kind_of (file_of f.0)) (lines_of d r (file_of f.0)))) (length (lines_of d r (file_of f.0))) i }, refl, refl)) k)
+          (keeps_notes laws g d r (kinds.Compact (file_of f.0)) [] known (λ h small. (record { shrinks = ltb-true (length (compact_lines (kind_of (file_of f.0)) (lines_of d r (file_of f.0)))) (length (lines_of d r (file_of f.0))) i }, refl, refl)) k)
 
   pub keeps_compacts : (d : Driver) → Keeps g d → Keeps g (compacts r d)
   keeps_compacts d k = keeps_compacted (branch d.past r) d k

@@ -348,10 +348,7 @@ module _ (laws : Laws) where
       where
         go : (o : Option ℕ) → option_is o r ≡ true → MayBe (set_ups repos P) past e o → (words : ℕ → Option Word) × OwnPart (set_ups repos P r) past words e
         go None i m = absurd (cc)
-        go (Some q) i m = (m.0, subst (λ k. OwnPart (set_ups repos P k) past m.0 e) (same_number q r i) m.1)
-          where
-            same_number : (a b : ℕ) → (a == b) ≡ true → a ≡ b
-            same_number a b e = eqb-true a b e
+        go (Some q) i m = (m.0, subst (λ k. OwnPart (set_ups repos P k) past m.0 e) (eqb-true q r i) m.1)
 
     all_well : (past : List Entry) → RunPast (set_ups repos P) past → (r : ℕ) → Well repos past r
     all_well [] run r = record { jobs = tt; doing = λ a. tt; owes_well = tt }

@@ -139,9 +139,6 @@ unsettled g (suc k) x i = go (unsettled g k) (is_settled x) refl
         is : goes_round g x ≡ after_round x (round g x.driver)
         is = rw j refl
 
-        e : AfterRounds
-        e = goes g k (after_round x (round g x.driver))
-
         at : (b : Bool) → is_idle x.driver (round g x.driver) ≡ b → k + (idle_after x.driver (round g x.driver) x.idle) + 2 * many (round g x.driver) ≤ 2 * many (goes g k (after_round x (round g x.driver))).driver + (goes g k (after_round x (round g x.driver))).idle
             → suc k + x.idle + 2 * many x.driver ≤ 2 * many (goes g k (after_round x (round g x.driver))).driver + (goes g k (after_round x (round g x.driver))).idle
         at true h y =

@@ -1,5 +1,5 @@
 -- The numbers of an end are at most twice as many as the entries of the run.
-use Rattle.std.proofs.Common.{◌≡◌, ℕ, zero, suc, ◌+◌, ◌<◌, ◌≤◌, Bool, true, false, List, [], ◌∷◌, ◌++◌, Option, Some, None, refl, sym, ap, ◌∙◌, subst, arith, true≢false}
+use Rattle.std.proofs.Common.{◌≡◌, ℕ, zero, suc, ◌+◌, ◌<◌, ◌≤◌, Bool, true, false, List, [], ◌∷◌, ◌++◌, Option, Some, None, refl, sym, ap, ◌∙◌, subst, arith}
 use Rattle.std.specs.Prelude.{◌*◌, ◌&&◌, ◌==◌, filter, if◌then◌else◌, length, map, nat_le, slice_get}
 use Rattle.std.proofs.lemmas.Bool.{and_parts, eqb-true}
 use Rattle.std.proofs.lemmas.Bool.Decides.{nat_tests}
@@ -23,7 +23,7 @@ use Rattle.node_model.specs.SetUp.{SetUp}
 use Rattle.driver_model.specs.Driver.{Driver, DriverInput}
 use Rattle.driver_model.specs.Sound.{IsSound}
 use Rattle.driver_model.specs.Ways.{InOrder}
-use Rattle.driver_model.proofs.EndLemmas.{sends_all}
+use Rattle.driver_model.proofs.EndLemmas.{same_both, sends_all}
 use Rattle.driver_model.proofs.FewFrames.{few_sent}
 use Rattle.driver_model.proofs.FrameNumbers.{TakesWell}
 use Rattle.driver_model.proofs.Holding.{run_on, steps_on}
@@ -61,12 +61,6 @@ one_taken c m (Line text) n i x = x
 -- a frame that goes down opens nothing
 abbrev Down : FrameView → Type 0
 Down g = g.up ≡ false → is_opening g.body ≡ false
-
-same_both : (b c : Bool) → same_bool b c ≡ true → b ≡ c
-same_both true true e = refl
-same_both true false e = absurd (true≢false (sym e))
-same_both false true e = absurd (true≢false (sym e))
-same_both false false e = refl
 
 -- what is known of the frames that were sent on a way
 abbrev GoesWell : Way → FlyingFrame → Type 0

@@ -1,9 +1,8 @@
 -- A turn is found from the step that is made at the driver's look for it: the plain look finds a step of the same session or job, which
 -- asks for the same part, and the first call of the step that is to fail is the one that failed.
-use Rattle.std.proofs.Common.{◌≡◌, ℕ, Bool, true, false, List, [], ◌∷◌, Option, Some, None, ◌⊎◌, inl, inr, refl, sym, ap, ◌∙◌, subst, arith}
+use Rattle.std.proofs.Common.{◌≡◌, ℕ, Bool, true, false, List, [], ◌∷◌, Option, Some, None, ◌⊎◌, inl, inr, refl, sym, ap, ◌∙◌, subst}
 use Rattle.std.specs.Prelude.{if◌then◌else◌, ◌==◌, cond, find}
 use Rattle.std.specs.List.{list_all}
-use Rattle.std.proofs.lemmas.Bool.Decides.{nat_tests}
 use Rattle.annex_base.specs.Calls.{call_number, same_call}
 use Rattle.annex_base.specs.Lists.{Each, Member}
 use Rattle.annex_base.specs.declared.kinds.Call.{Call}
@@ -38,6 +37,7 @@ use Rattle.driver_model.proofs.EndsAlike.{ends_alike, given_next}
 use Rattle.driver_model.proofs.Needed.{needed}
 use Rattle.driver_model.proofs.Premises.{NamedJobs}
 use Rattle.driver_model.proofs.WordsAside.{Told, step_told, words_aside}
+use Rattle.annex_base.proofs.Conditions.{eqb_refl}
 
 -- ---- any two looks that have the same time, count, frames and rooms find a step of the same session or job
 
@@ -156,10 +156,7 @@ every_call calls.PutFile = inr (inr (inr (inr (inr (inr (inr (inr (inr (inr (inr
 every_call calls.File = inr (inr (inr (inr (inr (inr (inr (inr (inr (inr (inr (inr (inr (inl refl)))))))))))))
 
 same_call-self : (c : Call) → same_call c c ≡ true
-same_call-self c = go (call_number c)
-  where
-    go : (n : ℕ) → (n == n) ≡ true
-    go n = grind (arith, nat_tests)
+same_call-self c = eqb_refl (call_number c)
 
 -- the first call of a list to which a test applies
 find_failed : (q : Call → Bool) (failed : Option Call) (cs : List Call) → ((call : Call) → failed ≡ Some call → Member call cs) → ((call : Call) → failed ≡ Some call → q call ≡ true)

@@ -3,7 +3,7 @@ use Rattle.std.proofs.Common.{◌≡◌, ℕ, zero, suc, ◌+◌, ◌<◌, Bool,
 use Rattle.std.specs.Prelude.{cond, if◌then◌else◌, ◌==◌, ◌&&◌, filter, length, map, nat_lt, not, slice_get}
 use Rattle.std.proofs.lemmas.Bool.{and_parts, eqb-false, eqb-true}
 use Rattle.std.proofs.lemmas.Bool.Decides.{nat_tests}
-use Rattle.std.proofs.lemmas.List.{map-append}
+use Rattle.std.proofs.lemmas.List.{length-append, map-append}
 use Rattle.annex_base.specs.declared.kinds.Word.{Word}
 use Rattle.run_data.specs.declared.entry.Entry.{Entry}
 use Rattle.run_data.specs.declared.entry.FrameView.{FrameView}
@@ -56,9 +56,6 @@ all_follow : (c : End) (fs : List FrameView) (n len : ℕ) → Numbered c fs →
 all_follow c [] n len a x = (tt, subst (HasCounted c n) (omega arith) x)
 all_follow c (f ∷ fs) n len a x = go (all_follow (end_sends c f.body) fs n) (f.epoch == n) refl
   where
-    d : End
-    d = end_sends c f.body
-
     go : ((k : ℕ) → Numbered (end_sends c f.body) fs → HasCounted (end_sends c f.body) n k → AreNumberedFrom k (of_epoch n fs) × HasCounted (sends_all (end_sends c f.body) fs) n (k + length (of_epoch n fs)))
         → (b : Bool) → (f.epoch == n) ≡ b → AreNumberedFrom len (cond b (f ∷ of_epoch n fs) (of_epoch n fs)) × HasCounted (sends_all (end_sends c f.body) fs) n (len + length (cond b (f ∷ of_epoch n fs) (of_epoch n fs)))
     go more true is =
@@ -98,10 +95,6 @@ sent_more e past w is = rw is (map-append (λ x. x.frame) (frames_sent past w) (
 
 pub sent_same_as : (e : Entry) (past : List Entry) (w : Way) → is_of (sender_of w) e ≡ false → views_sent (e ∷ past) w ≡ views_sent past w
 sent_same_as e past w is = rw is refl
-
-length_append : {X : Type 0} (xs ys : List X) → length (xs ++ ys) ≡ length xs + length ys
-length_append [] ys = omega arith
-length_append (x ∷ xs) ys = let i = length_append xs ys in omega (arith, i)
 
 pub order_begins : (r : ℕ) (a : EndName) (n : ℕ) → InOrder [] r a n
 order_begins r a n = record { counted = record { not_yet = λ i. refl; at_it = λ i. refl }; follow = tt }
@@ -144,7 +137,7 @@ order_own laws s a n past words e is own well x = record {
     more = sent_more e past (way_out s.number a n) (ap (λ k. is_of k e) (out_sender-is s.number a n) ∙ is) ∙ ap (λ gs. views_sent past (way_out s.number a n) ++ gs) (on_out s.number a n e)
 
     count : length (views_sent (e ∷ past) (way_out s.number a n)) ≡ length (views_sent past (way_out s.number a n)) + length (of_epoch n (sent_at a e.sent))
-    count = ap length more ∙ length_append (views_sent past (way_out s.number a n)) (of_epoch n (sent_at a e.sent))
+    count = ap length more ∙ length-append (views_sent past (way_out s.number a n)) (of_epoch n (sent_at a e.sent))
 
     took : HasCounted (end_took (end_at past s.number a) (taken_at a e.taken)) n (length (views_sent past (way_out s.number a n)))
     took = go e.taken refl

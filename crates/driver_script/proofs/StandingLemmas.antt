@@ -1,11 +1,11 @@
 -- What each command has where it stands, its line of the driver has.
-use Rattle.std.proofs.Common.{◌≡◌, ◌≢◌, ◌⊎◌, inl, inr, ℕ, ◌+◌, ◌<◌, ◌≤◌, Bool, true, false, ◌&&◌, ◌==◌, List, [], ◌∷◌, ◌++◌, length, Option, Some, None, IfSome, refl, sym, ap, ◌∙◌, subst, true≢false, arith, length-append}
-use Rattle.std.specs.Prelude.{is_none, if◌then◌else◌}
+use Rattle.std.proofs.Common.{◌≡◌, ◌≢◌, inl, inr, ℕ, ◌+◌, ◌<◌, ◌≤◌, Bool, true, false, ◌&&◌, List, [], ◌∷◌, length, Option, Some, None, IfSome, refl, sym, ◌∙◌, subst, true≢false, arith, length-append}
+use Rattle.std.specs.Prelude.{is_none}
 use Rattle.std.proofs.lemmas.Bool.{and_parts}
 use Rattle.std.proofs.lemmas.Bool.Decides.{eqb_tells}
 use Rattle.std.proofs.lemmas.List.{length-map}
 use Rattle.annex_base.specs.Lines.{IsOneLine, is_not_newline, newline}
-use Rattle.annex_base.specs.Lists.{Each, Member}
+use Rattle.annex_base.specs.Lists.{Each}
 use Rattle.annex_base.proofs.Conditions.{eqb_refl}
 use Rattle.annex_base.proofs.Lines.{one_line-by_test, one_line-members}
 use Rattle.annex_base.proofs.Lists.{Each-weaker, list_all_weaker}
@@ -13,7 +13,6 @@ use Rattle.annex_base.proofs.Options.{is_none_true, where_some}
 use Rattle.annex_key.specs.KeyText.{IsKeyText}
 use Rattle.annex_key.specs.View.{first_fault, size_part}
 use Rattle.log_lines.specs.LineText.{is_group, is_group_byte}
-use Rattle.log_lines.specs.declared.entry.LogKind.{LogKind}
 use Rattle.log_lines.specs.declared.entry.LogKind.TheVariants as kinds
 use Rattle.log_lines.specs.declared.entry.Topic.TheVariants as topics
 use Rattle.log_lines.specs.declared.entry.Value.TheVariants as values
@@ -36,8 +35,9 @@ use Rattle.driver_model.specs.Driver.{DriverInput}
 use Rattle.driver_model.specs.Lines.{Line}
 use Rattle.driver_model.specs.Lines as driver
 use Rattle.driver_model.specs.Scripts.{IsJob, IsOne}
-use Rattle.driver_script.specs.Lines.{declared_by, if_built, is_added, is_drop, is_local_drop, is_plain, is_plain_repo, is_shown, is_written, line_of, lines_of, repos_of, view_of}
+use Rattle.driver_script.specs.Lines.{declared_by, if_built, is_added, is_drop, is_local_drop, is_plain, is_plain_repo, is_shown, line_of, lines_of, repos_of, view_of}
 use Rattle.driver_script.proofs.BuiltLemmas.{first_line}
+use Rattle.std.proofs.lemmas.Option.{same_Some}
 
 -- ---- what a line has
 
@@ -89,10 +89,7 @@ job_is valid g r job e key =
 -- ---- one line
 
 line : (g : DriverInput) (l m : Line) → Some l ≡ Some m → IsOne g l → IsOne g m
-line g l m e is = subst (IsOne g) (some_is l m e) is
-  where
-    some_is : (l m : Line) → Some l ≡ Some m → l ≡ m
-    some_is l m e = cc
+line g l m e is = subst (IsOne g) (same_Some l m e) is
 
 built : (g : DriverInput) (b : Bool) (l m : Line) → if_built b l ≡ Some m → (b ≡ true → IsOne g l) → IsOne g m
 built g b l m e is = let w = where_some b (Some l) m e in line g l m w.1 (is w.0)
@@ -139,10 +136,7 @@ declares_alike c = sym (length-map (script.declared_by c) view_of)
 
 pub all_lines : KeysHaveNoFault → (g : DriverInput) (repos : List RepoView) (x : Context) (cs : List Command) (lines : List Line)
     → length x.repos + length (repos_of cs) ≤ length g.repos → standing.AllStand x cs → lines_of repos cs ≡ Some lines → Each (IsOne g) lines
-all_lines v g repos x [] lines n s e = subst (Each (IsOne g)) (some_is [] lines e) tt
-  where
-    some_is : (t u : List Line) → Some t ≡ Some u → t ≡ u
-    some_is t u e = cc
+all_lines v g repos x [] lines n s e = subst (Each (IsOne g)) (same_Some [] lines e) tt
 all_lines v g repos x (c ∷ cs) lines n s e =
     let first = first_line repos c cs lines e in
     let both = length-append (declared_by c) (repos_of cs) in

@@ -13,12 +13,10 @@ use Rattle.script_lang.specs.Script.{wait_of}
 use Rattle.driver_model.specs.Lines.{Line, waited_by}
 use Rattle.driver_model.specs.Lines as driver
 use Rattle.driver_script.specs.Lines.{if_built, is_added, is_local_drop, is_plain, is_plain_repo, is_shown, line_of}
+use Rattle.std.proofs.lemmas.Option.{same_Some}
 
 line : {n : ℕ} (l m : Line) → Some l ≡ Some m → waited_by l ≡ n → waited_by m ≡ n
-line {n} l m e is = subst (λ l. waited_by l ≡ n) (some_is l m e) is
-  where
-    some_is : (l m : Line) → Some l ≡ Some m → l ≡ m
-    some_is l m e = cc
+line {n} l m e is = subst (λ l. waited_by l ≡ n) (same_Some l m e) is
 
 built : {n : ℕ} (b : Bool) (l m : Line) → if_built b l ≡ Some m → waited_by l ≡ n → waited_by m ≡ n
 built b l m e is = line l m (where_some b (Some l) m e).1 is

@@ -1,16 +1,11 @@
 -- What the driver is given of a script (own).
-use Rattle.std.specs.Prelude.{ℕ, Bool, true, false, List}
-use Rattle.key_verify.specs.declared.verdict.Verdict.{Verdict}
-use Rattle.key_verify.specs.declared.verdict.Verdict.TheVariants.{Right}
+use Rattle.std.specs.Prelude.{ℕ, Bool, List}
 use Rattle.key_verify.specs.Matching.{verdict_of}
 use Rattle.key_verify.specs.Sums.{sum_of}
 use Rattle.script_lang.specs.declared.command.Command.{Command}
+use Rattle.script_lang.specs.Verify.{is_right}
 use Rattle.driver_model.specs.Driver.{DriverInput}
 use Rattle.driver_script.specs.Lines.{repos_of}
-
-abbrev pub is_right : Verdict → Bool
-is_right Right = true
-is_right verdict = false
 
 -- whether the bytes are the key's: they have its size and its digest, as far as the key tells these
 abbrev pub matches : List ℕ → List ℕ → Bool

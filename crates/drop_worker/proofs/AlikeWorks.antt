@@ -21,7 +21,7 @@ use Rattle.p2p_wire.specs.declared.message.Message.TheVariants as messages
 use Rattle.p2p_wire.specs.Messages.{message_of}
 use Rattle.node_model.specs.Ends.{end_after}
 use Rattle.node_model.specs.Jobs as jobs
-use Rattle.node_model.specs.Jobs.{Drops, Heard, Part, Phase, Work, after_failed_release, after_gain, after_transfer, claims, closed_part, fault_of, fault_phase, first_look, hears, hears_frame, heard_of, is_move, is_ordered, job_end, learns, listens, partner, quiet, says, says_some, sends, side_of, talks, talks_on, target_of, to_phase, after_frame, after_line, version_said, word_taken, work_after, work_kind}
+use Rattle.node_model.specs.Jobs.{Drops, Heard, Part, Phase, Work, after_failed_release, after_gain, after_transfer, claims, closed_part, fault_of, fault_phase, first_look, hears, hears_frame, is_move, is_ordered, job_end, learns, listens, partner, quiet, says, says_some, sends, side_of, talks, talks_on, target_of, to_phase, after_frame, after_line, version_said, word_taken, work_after, work_kind}
 use Rattle.node_model.specs.Knows.{Reading}
 use Rattle.node_model.specs.Rows.{option_is}
 use Rattle.node_model.specs.Sessions.{line_in}

@@ -6,7 +6,7 @@ use Rattle.std.proofs.lemmas.Bool.Decides.{nat_tests}
 use Rattle.run_data.specs.declared.entry.EntryKind.{EntryKind}
 use Rattle.run_data.specs.declared.entry.FrameView.{FrameView}
 use Rattle.node_model.specs.Jobs as Jobs
-use Rattle.node_model.specs.Jobs.{Drops, Work, hears, heard_of, to_phase}
+use Rattle.node_model.specs.Jobs.{Work, hears, heard_of, to_phase}
 use Rattle.node_model.specs.JobStep.{Turn, quietly}
 use Rattle.node_model.specs.Knows.{Reading}
 use Rattle.node_model.specs.Look.{Made}

@@ -1,6 +1,6 @@
 -- From what a store tells of each call to the calls of a step.
 use Rattle.std.proofs.Common.{◌≡◌, ℕ, ◌-◌, Bool, true, false, not, List, [], ◌∷◌, map, Option, Some, None, Result, Ok, Err, refl, sym, ap, ◌∙◌, subst, arith}
-use Rattle.std.specs.Prelude.{◌&&◌, ◌||◌, find, nat_lt, if◌then◌else◌, IfOk}
+use Rattle.std.specs.Prelude.{◌&&◌, find, nat_lt, if◌then◌else◌, IfOk}
 use Rattle.std.specs.List.{list_any}
 use Rattle.std.specs.Option.{option_map}
 use Rattle.annex_base.specs.Calls.{same_call}

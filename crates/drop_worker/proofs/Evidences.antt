@@ -8,16 +8,14 @@ use Rattle.annex_base.specs.declared.kinds.Word.TheVariants as words
 use Rattle.annex_base.specs.declared.kinds.Call.{Call}
 use Rattle.annex_base.proofs.Numbers.{range_more}
 use Rattle.drop_proof.specs.declared.evidence.Evidence.{Evidence}
-use Rattle.drop_proof.specs.declared.evidence.Kind.{Kind}
 use Rattle.drop_proof.specs.declared.rule.Side.{Side}
 use Rattle.drop_proof.specs.declared.rule.Side.TheVariants.{Local}
-use Rattle.run_data.specs.declared.job.Cause.{Cause}
 use Rattle.run_data.specs.declared.job.CandidateCause.{CandidateCause}
 use Rattle.run_data.specs.declared.job.Outcome.TheVariants.{Dropped, Refused}
 use Rattle.run_data.specs.declared.job.DropRefusal.TheVariants as refusals
 use Rattle.run_data.specs.declared.job.Proof.{Proof}
 use Rattle.node_model.specs.Evidence as drops
-use Rattle.node_model.specs.Evidence.{Offer, Gives, Fails, candidates, failures, gather, proof_of, reached_candidates}
+use Rattle.node_model.specs.Evidence.{candidates, failures, gather, proof_of, reached_candidates}
 use Rattle.node_model.specs.Jobs.{drop_side, target_of}
 use Rattle.node_model.specs.JobStep.{Turn}
 use Rattle.node_model.specs.DropStep.{lacking_outcome, removal_outcome}
@@ -71,13 +69,6 @@ cause_claimed r w c s = rw (← s) (told_at w c)
 pub cause_open : (r : Reading) (w : Worker) (c : ℕ) (s : Standing) → (s ≡ standings.Claimed) ⊎ (s ≡ standings.Asked) → standing_of s ≡ r.standing c → cause_told (newest_of w.heard c) ≡ cause_at r w c
 cause_open r w c s (inl e) is = cause_claimed r w c (sym (ap standing_of e) ∙ is)
 cause_open r w c s (inr e) is = cause_asked r w c (sym (ap standing_of e) ∙ is)
-
-module _ (ask : ℕ → Offer) (cause : ℕ → Cause) (c : ℕ) (cs : List ℕ) where
-  pub fails_not : (kind : Kind) → Gives kind ≡ ask c → failures ask cause (c ∷ cs) ≡ failures ask cause cs
-  fails_not kind e = rw (← e) refl
-
-  pub fails_too : Fails ≡ ask c → failures ask cause (c ∷ cs) ≡ record { repo = c; cause = cause c } ∷ failures ask cause cs
-  fails_too e = rw (← e) refl
 
 -- ---- the outcomes
 

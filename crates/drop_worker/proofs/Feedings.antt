@@ -9,7 +9,7 @@ use Rattle.p2p_wire.specs.declared.message.Message.{Message}
 use Rattle.p2p_wire.specs.declared.message.Message.TheVariants as messages
 use Rattle.node_model.specs.Ends.{End, EndName}
 use Rattle.node_model.specs.Jobs as Jobs
-use Rattle.node_model.specs.Jobs.{Drops, Work, learns, partner}
+use Rattle.node_model.specs.Jobs.{learns, partner}
 use Rattle.node_model.specs.JobStep.{Turn, wrong}
 use Rattle.node_model.specs.DropStep.{takes_drop}
 use Rattle.node_model.specs.Knows.{Reading}
@@ -72,11 +72,6 @@ pub speaks_did : (target : ℕ) (rows : Rows) (k : Store) (w w' : Worker) (does 
     → IfOk r does → IfOk r (Speaks w w') → OnErr r (w' ≡ w) → DidRemote rows rows k k w w' does r
 speaks_did target rows k w w' does (Ok out) stands d s same = (d, speaks_leaves target rows k w w' out stands s)
 speaks_did target rows k w w' does (Err e) stands d s same = subst (λ (u : Worker). Stays rows rows k k w u) (sym same) (stays_same rows k w)
-
-pub did_as_remote : (rows rows' : Rows) (k k' : Store) (w w' : Worker) (a b : Output → Type 0) (r : Result Output NoMemory) → DidRemote rows rows' k k' w w' a r → ((out : Output) → a out → b out)
-    → DidRemote rows rows' k k' w w' b r
-did_as_remote rows rows' k k' w w' a b (Ok out) (d, l) f = (f out d, l)
-did_as_remote rows rows' k k' w w' a b (Err e) s f = s
 
 -- ---- what it does
 

@@ -8,7 +8,6 @@ use Rattle.annex_base.proofs.Numbers.{range_below}
 use Rattle.annex_base.specs.declared.memory.NoMemory.{NoMemory}
 use Rattle.annex_base.proofs.Conditions.{eqb_apart}
 use Rattle.node_model.specs.Jobs.{partner}
-use Rattle.node_model.specs.Evidence.{but}
 use Rattle.node_model.specs.Knows.{Reading}
 use Rattle.drop_worker.specs.declared.phase.Phase.{Phase}
 use Rattle.drop_worker.specs.declared.phase.Phase.TheVariants as phases

@@ -47,7 +47,7 @@ said_else was messages.Success b = refl
 said_else was messages.Failure b = refl
 said_else was (messages.Error text) b = refl
 
-kept : (v : Work) (b : Bool) → (if b then record v { version = v.version } else v) ≡ v
+pub kept : (v : Work) (b : Bool) → (if b then record v { version = v.version } else v) ≡ v
 kept v true = refl
 kept v false = refl
 

@@ -1,23 +1,19 @@
 -- What a worker knows, candidate by candidate.
-use Rattle.std.proofs.Common.{◌≡◌, ◌≢◌, ℕ, ◌+◌, Bool, true, false, not, List, [], ◌∷◌, ◌++◌, Option, Some, None, refl, sym, ap, ◌∙◌, arith}
+use Rattle.std.proofs.Common.{◌≡◌, ◌≢◌, ℕ, ◌+◌, Bool, true, false, not, [], ◌∷◌, ◌++◌, Option, Some, None, refl, sym, ap, ◌∙◌, arith}
 use Rattle.std.specs.Prelude.{◌==◌, if◌then◌else◌, option_map}
 use Rattle.std.specs.List.{range_with_len}
 use Rattle.std.proofs.lemmas.Bool.Decides.{nat_tests}
 use Rattle.std.proofs.lemmas.List.{append-nil}
 use Rattle.std.proofs.lemmas.List.Elements.{filter-append}
 use Rattle.annex_base.proofs.Numbers.{range_more}
-use Rattle.drop_proof.specs.declared.evidence.Evidence.{Evidence}
-use Rattle.drop_proof.specs.declared.evidence.Kind.{Kind}
-use Rattle.drop_proof.specs.declared.rule.Side.{Side}
-use Rattle.drop_proof.specs.Judging.{is_enough}
 use Rattle.node_model.specs.Evidence as drops
-use Rattle.node_model.specs.Evidence.{Offer, Gives, Fails, but, gather, pick, reached_candidates}
+use Rattle.node_model.specs.Evidence.{but}
 use Rattle.node_model.specs.Knows.{Reading, heard_offer, is_unasked, offer_by}
 use Rattle.drop_worker.specs.declared.phase.Heard.{Heard}
 use Rattle.drop_worker.specs.declared.phase.Heard.TheVariants as heards
 use Rattle.drop_worker.specs.Worker.{Worker}
 use Rattle.drop_worker.specs.Working.{heard_as, newest_of}
-use Rattle.drop_worker.specs.Judging.{asks_of, evidence_of, offer_heard, offer_of}
+use Rattle.drop_worker.specs.Judging.{asks_of, offer_heard, offer_of}
 use Rattle.drop_worker.proofs.Heards.{heard_same}
 
 pub asked_none : (r : Reading) (w : Worker) (c : ℕ) → drops.Asked ≡ r.standing c → newest_of w.heard c ≡ None → true ≡ asks_of r w c
@@ -50,17 +46,3 @@ but_other r n other =
     let e : (n == r) ≡ false = grind (arith, nat_tests) in
     ap (but r) (range_more n) ∙ filter-append (λ x. not (x == r)) (range_with_len 0 n) (n ∷ [])
     ∙ ap (λ (b : Bool). but r (range_with_len 0 n) ++ (if not b then n ∷ [] else [])) e
-
-module _ (side : Side) (r : Reading) (w : Worker) (c : ℕ) (cs : List ℕ) (items : List Evidence) where
-  pub at_ask : asks_of r w c ≡ true → evidence_of side r w (c ∷ cs) items ≡ items
-  at_ask e = rw e refl
-
-  pub at_enough : asks_of r w c ≡ false → is_enough side r.need items ≡ true → evidence_of side r w (c ∷ cs) items ≡ items
-  at_enough e f = rw (e, f) refl
-
-  pub at_kind : (kind : Kind) → asks_of r w c ≡ false → is_enough side r.need items ≡ false → Gives kind ≡ offer_of r w c
-      → evidence_of side r w (c ∷ cs) items ≡ evidence_of side r w cs (items ++ record { repo = c; kind = kind } ∷ [])
-  at_kind kind e f g = rw (e, f, ← g) refl
-
-  pub at_none : asks_of r w c ≡ false → is_enough side r.need items ≡ false → Fails ≡ offer_of r w c → evidence_of side r w (c ∷ cs) items ≡ evidence_of side r w cs items
-  at_none e f g = rw (e, f, ← g) refl

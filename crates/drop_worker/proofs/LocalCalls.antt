@@ -4,14 +4,13 @@ use Rattle.std.specs.Prelude.{IfOk, if◌then◌else◌}
 use Rattle.annex_base.specs.declared.kinds.Call.{Call}
 use Rattle.annex_base.specs.declared.kinds.Call.TheVariants as calls
 use Rattle.annex_base.specs.declared.memory.NoMemory.{NoMemory}
-use Rattle.drop_proof.specs.declared.rule.Side.{Side}
 use Rattle.drop_proof.specs.declared.rule.Side.TheVariants.{Local}
 use Rattle.run_data.specs.declared.job.DropRefusal.{DropRefusal}
 use Rattle.object_store.specs.Calls.{FailsAsTold}
 use Rattle.object_store.specs.Stores.{Contents}
 use Rattle.node_model.specs.DropStep.{held_until, required_there, row_refusal}
 use Rattle.node_model.specs.Ends.{End, EndName}
-use Rattle.node_model.specs.Jobs.{Drops, Part, drop_side}
+use Rattle.node_model.specs.Jobs.{Drops, drop_side}
 use Rattle.node_model.specs.JobStep.{Turn, bar_there, is_there, owns_share}
 use Rattle.node_model.specs.Knows.{Reading}
 use Rattle.content_lock.specs.Rows.{Rows}
@@ -27,12 +26,11 @@ use Rattle.drop_worker.specs.declared.phase.Token.{Token}
 use Rattle.drop_worker.specs.declared.turn.Output.{Output}
 use Rattle.drop_worker.specs.Begun.{HasEnded}
 use Rattle.drop_worker.specs.Calling.{Failing, MakesOver, MakesPhase, calls_by, has_open}
-use Rattle.drop_worker.specs.Doing.{HasToken}
 use Rattle.drop_worker.specs.Feeding.{FitsEnding, FitsLocal, IsOfLocal}
 use Rattle.drop_worker.specs.Leaving.{Unbarred}
 use Rattle.drop_worker.specs.Remote.{IsToEnd}
 use Rattle.drop_worker.specs.Sends.{SendsView}
-use Rattle.drop_worker.specs.SlotCalls.{bar_calls, end_calls, first_drop_calls, next_calls, opening_calls, phase_calls, request_calls}
+use Rattle.drop_worker.specs.SlotCalls.{bar_calls, first_drop_calls, next_calls, opening_calls, phase_calls, request_calls}
 use Rattle.drop_worker.specs.Worker.{Worker}
 use Rattle.drop_worker.specs.Working.{Rest, Sight, failed_in, phase_as, present_in, sight, turn_in}
 use Rattle.drop_worker.proofs.Callings.{ended_well, makes_failed, makes_last, no_release, over_as, over_is, over_none, unfailed}

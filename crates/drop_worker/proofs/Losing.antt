@@ -5,7 +5,7 @@ use Rattle.run_data.specs.declared.job.Cause.TheVariants as causes
 use Rattle.run_data.specs.declared.job.DropRefusal.TheVariants as refusals
 use Rattle.run_data.specs.declared.job.Outcome.TheVariants.{Refused}
 use Rattle.node_model.specs.Jobs as Jobs
-use Rattle.node_model.specs.Jobs.{Drops, Work, closed_part, drop_side, is_ordered, or_own, target_of, to_phase}
+use Rattle.node_model.specs.Jobs.{Drops, Work, closed_part, is_ordered, or_own, target_of, to_phase}
 use Rattle.drop_worker.specs.declared.phase.Ending.TheVariants as endings
 use Rattle.drop_worker.specs.declared.phase.Heard.TheVariants as heards
 use Rattle.drop_worker.specs.declared.phase.Phase.{Phase}

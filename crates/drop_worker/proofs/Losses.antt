@@ -8,7 +8,7 @@ use Rattle.p2p_wire.specs.declared.message.Message.{Message}
 use Rattle.p2p_wire.specs.declared.message.Message.TheVariants as messages
 use Rattle.node_model.specs.DropStep.{takes_drop}
 use Rattle.node_model.specs.Jobs as Jobs
-use Rattle.node_model.specs.Jobs.{Drops, Work, closed_part, learns, partner, talks_on}
+use Rattle.node_model.specs.Jobs.{learns, partner}
 use Rattle.node_model.specs.JobStep.{Turn, wrong}
 use Rattle.node_model.specs.Turns.{takes, takes_frame}
 use Rattle.annex_base.specs.declared.memory.NoMemory.{NoMemory}

@@ -1,6 +1,6 @@
 -- A local drop that is told of a frame that is no message, or of a connection that was closed here.
-use Rattle.std.proofs.Common.{◌≡◌, ℕ, Bool, true, false, List, [], ◌∷◌, Option, Some, None, refl, sym, ap, ◌∙◌}
-use Rattle.std.specs.Prelude.{◌==◌, if◌then◌else◌}
+use Rattle.std.proofs.Common.{◌≡◌, ℕ, Bool, List, [], Option, Some, None, refl, sym, ap, ◌∙◌}
+use Rattle.std.specs.Prelude.{if◌then◌else◌}
 use Rattle.drop_proof.specs.declared.rule.Side.TheVariants.{Local}
 use Rattle.run_data.specs.declared.entry.EntryKind.TheVariants.{Talk}
 use Rattle.run_data.specs.declared.entry.FrameText.{FrameText}
@@ -27,6 +27,7 @@ use Rattle.drop_worker.specs.Working.{Rest, Sight, phase_as, taken_line, taken_o
 use Rattle.drop_worker.specs.Doing.{Comes, DoesAsAsked, Shuts, next_work}
 use Rattle.drop_worker.proofs.Talks.{on_shut}
 use Rattle.drop_worker.proofs.Takings.{close_parcel, closed_local, heard_next, talk_does}
+use Rattle.drop_worker.proofs.Greetings.{kept}
 
 bytes_else : (t : Turn) (f : FrameView) (peer n : ℕ) (ph : Phase) → takes_bytes t f peer n (phase_as ph) ≡ wrong t f peer
 bytes_else t f peer n phases.Fresh = refl
@@ -61,10 +62,6 @@ no_line Opening e = refl
 no_line Closing e = absurd (cc)
 no_line (Bytes n) e = refl
 no_line (Line text) e = no_message text e
-
-kept : (v : Work) (b : Bool) → (if b then record v { version = v.version } else v) ≡ v
-kept v true = refl
-kept v false = refl
 
 other_learns : (v : Work) (f : FrameView) (ph : Phase) → taken_of f.body ≡ takens.Other → learns v (phase_as ph) (Some f) ≡ v
 other_learns v f (phases.Greets peer) is =

@@ -1,13 +1,12 @@
 -- The calls of a remote drop's steps that take no frame.
-use Rattle.std.proofs.Common.{◌≡◌, ℕ, Bool, true, false, not, List, [], ◌∷◌, Option, Some, None, Result, Ok, Err, refl, sym, ap, ◌∙◌, subst}
-use Rattle.std.specs.Prelude.{◌==◌, ◌&&◌, IfOk, find}
+use Rattle.std.proofs.Common.{◌≡◌, ℕ, Bool, true, false, not, List, [], ◌∷◌, Option, Some, None, Result, Ok, Err, refl, sym, ap, ◌∙◌}
+use Rattle.std.specs.Prelude.{◌&&◌, IfOk, find}
 use Rattle.annex_base.specs.declared.kinds.Call.{Call}
 use Rattle.annex_base.specs.declared.kinds.Call.TheVariants as calls
 use Rattle.annex_base.specs.declared.memory.NoMemory.{NoMemory}
 use Rattle.annex_base.proofs.Conditions.{eqb_refl}
 use Rattle.drop_proof.specs.declared.evidence.Evidence.{Evidence}
 use Rattle.drop_proof.specs.declared.rule.Need.{Need}
-use Rattle.drop_proof.specs.declared.rule.Side.{Side}
 use Rattle.drop_proof.specs.declared.rule.Side.TheVariants.{Remote}
 use Rattle.drop_proof.specs.Judging.{is_enough}
 use Rattle.run_data.specs.declared.entry.By.TheVariants.{Job as by_job}
@@ -18,7 +17,7 @@ use Rattle.std.specs.Option.{option_map}
 use Rattle.node_model.specs.Calls.{to_hold, to_release}
 use Rattle.node_model.specs.DropStep.{lacking_outcome, target as target_at}
 use Rattle.node_model.specs.Evidence.{Asked, Standing}
-use Rattle.node_model.specs.Jobs.{Drops, drop_side, side_of}
+use Rattle.node_model.specs.Jobs.{drop_side, side_of}
 use Rattle.node_model.specs.JobStep as steps
 use Rattle.node_model.specs.Knows.{next_by}
 use Rattle.node_model.specs.Rows.{is_lost_ordered}
@@ -27,7 +26,7 @@ use Rattle.content_lock.specs.Looks.{LooksSo, NotShared}
 use Rattle.content_lock.specs.Rows.{Rows, bar_at}
 use Rattle.content_lock.specs.Stored.{HasContent}
 use Rattle.content_lock.specs.Tokens.{ShareView}
-use Rattle.content_lock.specs.Turns.{FailInTurn, Turn, share_turns}
+use Rattle.content_lock.specs.Turns.{FailInTurn, share_turns}
 use Rattle.content_lock.specs.declared.refusals.Look.TheVariants as looks
 use Rattle.content_lock.specs.declared.refusals.ShareRefused.{ShareRefused}
 use Rattle.content_lock.specs.declared.refusals.ShareRefused.TheVariants as refused
@@ -39,8 +38,8 @@ use Rattle.drop_worker.specs.Calling.{Failing, MakesEnd, MakesPhase, has_open}
 use Rattle.content_lock.specs.CallsMade.{MakesCalls}
 use Rattle.drop_worker.specs.Doing.{HasToken}
 use Rattle.drop_worker.specs.Judging.{asks_of}
-use Rattle.drop_worker.specs.Remote.{GivesNone, IsRemote, IsToEnd, Unshared, known_remotely, remote_candidates}
-use Rattle.drop_worker.specs.SlotCalls.{end_calls, first_drop_calls, judge_calls, next_calls, own_calls, phase_calls}
+use Rattle.drop_worker.specs.Remote.{IsRemote, IsToEnd, Unshared, known_remotely, remote_candidates}
+use Rattle.drop_worker.specs.SlotCalls.{end_calls, first_drop_calls, judge_calls, own_calls, phase_calls}
 use Rattle.drop_worker.specs.Worker.{Worker}
 use Rattle.drop_worker.specs.Working.{Rest, Sight, failed_in, phase_as, present_in, turn_in}
 use Rattle.drop_worker.proofs.Callings.{first_told, left_as, makes_as, makes_failed, makes_last, makes_none, makes_then, no_release, over_is, over_none, shareless, unfailed}

@@ -1,78 +1,30 @@
 -- To which peers the next step of a remote drop may send more than a Close.
-use Rattle.std.proofs.Common.{◌≡◌, ℕ, Bool, true, false, List, [], ◌∷◌, filter, Option, Some, None, Result, Ok, Err, Vec, Global, refl, sym, ap, ◌∙◌}
+use Rattle.std.proofs.Common.{◌≡◌, ℕ, Bool, true, false, List, [], ◌∷◌, filter, Option, Some, None, Result, Ok, Err, Vec, Global, sym, ap, ◌∙◌}
 use Rattle.std.specs.Prelude.{IfOk, ◌&&◌, find, if◌then◌else◌, nat_lt}
 use Rattle.annex_base.specs.declared.kinds.Call.{Call}
-use Rattle.annex_base.specs.declared.kinds.Word.{Word}
-use Rattle.annex_base.specs.declared.kinds.Word.TheVariants as words
 use Rattle.annex_base.specs.declared.memory.NoMemory.{NoMemory}
 use Rattle.drop_proof.specs.declared.evidence.Evidence.{Evidence}
 use Rattle.drop_proof.specs.declared.rule.Need.{Need}
-use Rattle.drop_proof.specs.declared.rule.Side.{Side}
-use Rattle.drop_proof.specs.declared.rule.Side.TheVariants.{Local, Remote}
+use Rattle.drop_proof.specs.declared.rule.Side.TheVariants.{Remote}
 use Rattle.drop_proof.specs.Judging.{is_enough, least_end}
-use Rattle.run_data.specs.declared.job.Proof.{Proof}
-use Rattle.node_model.specs.DropStep.{expiry, first_end, removal_outcome, target as target_at}
 use Rattle.node_model.specs.Ends.{End, EndName}
 use Rattle.node_model.specs.Jobs.{Drops, side_of}
-use Rattle.node_model.specs.JobStep.{Turn, end_with, locked_peers}
-use Rattle.node_model.specs.Knows.{Reading, obeyed_outcome, next_by, proof_by}
-use Rattle.node_model.specs.Rows.{is_lost_ordered}
+use Rattle.node_model.specs.JobStep.{Turn, end_with}
+use Rattle.node_model.specs.Knows.{Reading, next_by}
 use Rattle.node_model.specs.Turns.{judge_needs, needs, next_needs, target_needs}
 use Rattle.content_lock.specs.Rows.{Rows}
-use Rattle.drop_worker.specs.declared.phase.Ending.TheVariants as endings
 use Rattle.drop_worker.specs.declared.phase.Phase.{Phase}
 use Rattle.drop_worker.specs.declared.phase.Phase.TheVariants as phases
 use Rattle.drop_worker.specs.Worker.{Worker}
 use Rattle.drop_worker.specs.Working.{Rest, Sight, phase_as, sight, turn_in}
 use Rattle.drop_worker.specs.Judging.{asks_of, is_owing, others_in}
-use Rattle.drop_worker.specs.Remote.{IsRemote, IsToEnd, known_remotely, owed_at_end, owed_by, remote_candidates, target_room}
+use Rattle.drop_worker.specs.Remote.{IsRemote, known_remotely, remote_candidates, target_room}
 use Rattle.drop_worker.proofs.Losing.{target_is}
 use Rattle.drop_worker.proofs.RemoteVerdicts.{end_is, enough_is, next_is}
-
--- ---- where it is to end
-
-obeyed_plain : (word : Option Word) (proof : Proof) → is_lost_ordered (obeyed_outcome word proof) ≡ false
-obeyed_plain None proof = refl
-obeyed_plain (Some words.Absent) proof = refl
-obeyed_plain (Some words.Barred) proof = refl
-obeyed_plain (Some words.Late) proof = refl
-obeyed_plain (Some words.Held) proof = refl
-obeyed_plain (Some words.Fault) proof = refl
-
-removal_plain : (side : Side) (t : Turn) → is_lost_ordered (removal_outcome side t) ≡ false
-removal_plain Local t = obeyed_plain None (proof_by t.read t.w)
-removal_plain Remote t = obeyed_plain (t.look.words (target_at t)) (proof_by t.read t.w)
-
-expiry_plain : (clock : ℕ) (end : Option ℕ) → is_lost_ordered (expiry clock end) ≡ false
-expiry_plain clock None = refl
-expiry_plain clock (Some end) = refl
-
-by_loss : (t : Turn) (b : Bool) → b ≡ false → locked_peers t ≡ (if b then [] else locked_peers t)
-by_loss t b e = rw e refl
 
 module _ (x : Sight) (rows : Rows) (p : List ℕ → Bool) (fails : Option Call) (rest : Rest) (w : Worker) (target : ℕ) (remote : IsRemote target w) where
   abbrev turn : Turn
   turn = turn_in x rows p fails rest w
-
-  ends_needs : (ph : Phase) → IsToEnd ph → owed_by ph (filter (is_owing x.ends w) (others_in x.read)) ≡ needs turn (phase_as ph)
-  ends_needs phases.Removed to = by_loss turn (is_lost_ordered (removal_outcome (side_of turn.w) turn)) (removal_plain (side_of turn.w) turn)
-  ends_needs phases.Denied to = refl
-  ends_needs (phases.Late time) to = by_loss turn (is_lost_ordered (expiry (turn.clock time) (first_end turn))) (expiry_plain (turn.clock time) (first_end turn))
-  ends_needs (phases.Ends (endings.Lost true)) to = refl
-  ends_needs (phases.Ends (endings.Lost false)) to = refl
-  ends_needs (phases.Ends (endings.OldProtocol version)) to = refl
-  ends_needs (phases.Ends endings.StoreFault) to = refl
-  ends_needs phases.Fresh to = absurd to
-  ends_needs phases.Next to = absurd to
-  ends_needs (phases.Opens peer) to = absurd to
-  ends_needs (phases.Greets peer) to = absurd to
-  ends_needs (phases.AsksLock peer since) to = absurd to
-  ends_needs (phases.AsksLook peer) to = absurd to
-  ends_needs phases.AsksTime to = absurd to
-  ends_needs phases.Orders to = absurd to
-
-  pub ended_needs : IsToEnd w.phase → owed_at_end x.read x.ends w ≡ needs turn (phase_as w.phase)
-  ended_needs to = ends_needs w.phase to
 
   -- ---- where it is to judge
 
@@ -112,10 +64,6 @@ module _ (read : Reading) (ends_at : EndName → End) (w : Worker) where
   at_time time (Err e) is = tt
 
   module _ (target : ℕ) (remote : IsRemote target w) where
-    pub ended_all : IsToEnd w.phase → (r : Result (Vec ℕ Global) NoMemory) → IfOk r (λ peers. peers.items ≡ owed_at_end read ends_at w) → IfOk r (λ peers. Needs (λ t. needs t (phase_as w.phase)) peers.items)
-    ended_all to (Ok peers) is = λ time number rows p fails rest. is ∙ ended_needs (sight read ends_at time number) rows p fails rest w target remote to
-    ended_all to (Err e) is = tt
-
     module _ (need : Need) (items : List Evidence) (needs_same : need ≡ read.need) (known : items ≡ known_remotely read target w) where
       pub target_all : (end : Option ℕ) → is_enough Remote need items ≡ true → end ≡ least_end items → (r : Result (Vec ℕ Global) NoMemory) → IfOk r (λ peers. peers.items ≡ target_room ends_at w target end)
           → IfOk r (λ peers. Needs (λ t. next_needs t Drops) peers.items)

@@ -1,28 +1,24 @@
 -- A local drop that removes the content, and one whose store fails to.
-use Rattle.std.proofs.Common.{◌≡◌, ◌≤◌, ℕ, List, [], Ok, refl, sym, ap, ◌∙◌, subst}
-use Rattle.annex_base.specs.Causes.{Rose}
-use Rattle.annex_base.specs.declared.kinds.Call.TheVariants as calls
-use Rattle.drop_proof.specs.declared.rule.Side.{Side}
+use Rattle.std.proofs.Common.{◌≡◌, ◌≤◌, ℕ, List, [], Ok, refl, ap, ◌∙◌, subst}
 use Rattle.drop_proof.specs.declared.rule.Side.TheVariants.{Local}
 use Rattle.run_data.specs.declared.entry.By.{By}
 use Rattle.run_data.specs.declared.entry.By.TheVariants.{Job as by_job}
-use Rattle.run_data.specs.declared.entry.EntryKind.TheVariants.{Fault, Gone}
+use Rattle.run_data.specs.declared.entry.EntryKind.TheVariants.{Gone}
 use Rattle.node_model.specs.Jobs as Jobs
-use Rattle.node_model.specs.Jobs.{drop_side, fault_phase, stores_fault, to_phase, Drops, Work}
+use Rattle.node_model.specs.Jobs.{fault_phase, stores_fault, to_phase, Drops, Work}
 use Rattle.content_lock.specs.Rows.{AreAfter, Rows}
 use Rattle.content_lock.specs.Stored.{without_content}
 use Rattle.content_lock.specs.Tokens.{BarView}
-use Rattle.drop_worker.specs.declared.phase.Ending.TheVariants as endings
 use Rattle.drop_worker.specs.declared.phase.Phase.TheVariants as phases
 use Rattle.drop_worker.specs.declared.phase.Token.{Token}
 use Rattle.drop_worker.specs.declared.phase.Token.TheVariants as tokens
 use Rattle.drop_worker.specs.declared.turn.Output.{Output}
 use Rattle.drop_worker.specs.Worker.{Worker}
-use Rattle.drop_worker.specs.Working.{Sight, phase_as, present_in, work_of}
+use Rattle.drop_worker.specs.Working.{Sight, present_in, work_of}
 use Rattle.drop_worker.specs.Doing.{HasToken, removes_now}
 use Rattle.drop_worker.specs.Leaving.{ActsOver, Did, Store}
 use Rattle.drop_worker.proofs.Leavings.{leaves_so, quiet_does}
-use Rattle.drop_worker.proofs.Tokens.{others_off, others_same, owns_none}
+use Rattle.drop_worker.proofs.Tokens.{others_off, owns_none}
 
 -- a call that fails ends a local drop next, wherever it stands
 pub fault_ends : (r : ℕ) (v : Work) (ph : Jobs.Phase) → fault_phase r v Drops Local ph ≡ to_phase v (Jobs.Ends (stores_fault v.part))
@@ -45,15 +41,3 @@ module _ (x : Sight) (rows rows' : Rows) (k k' : Store) (w w' : Worker) (bar : B
     where
       then : AreAfter (Gone (by_job w.number) w.job.key) rows rows'
       then = subst (λ (key : List ℕ). AreAfter (Gone (by_job w.number) key) rows rows') mine.of_key (after (by_job w.number))
-
-  pub kept_did : drop_side w.job.kind w.job.peer ≡ Local → out.kind ≡ Fault calls.Remove (by_job w.number) → w' ≡ record w { phase = phases.Ends endings.StoreFault; token = tokens.Bar bar } → rows' ≡ rows
-      → k'.contents ≡ k.contents → Rose k.faults k'.faults → Did rows rows' k k' w w' (ActsOver x k.contents rows rows' w w' removes_now) (Ok out)
-  kept_did local kind next same contents rose = (
-    λ c is. quiet_does x rows rows' (present_in c) w w' removes_now (Fault calls.Remove (by_job w.number)) out kind sends (λ rest. refl)
-        (λ rest. ap (work_of rest) next ∙ sym (ap (λ (side : Side). fault_phase x.read.repo (work_of rest w) Drops side (phase_as w.phase)) local ∙ fault_ends x.read.repo (work_of rest w) (phase_as w.phase))) then refl,
-    leaves_so rows rows' k k' w (record w { phase = phases.Ends endings.StoreFault; token = tokens.Bar bar }) w' (Fault calls.Remove (by_job w.number)) out kind next then contents records later rose
-        (subst (λ (r : Rows). HasToken w.number w.job.key (tokens.Bar bar) r) (sym same) mine) (λ going. tt) refl refl refl (others_same w.number rows rows' same) holds,
-  )
-    where
-      then : AreAfter (Fault calls.Remove (by_job w.number)) rows rows'
-      then = subst (λ (r : Rows). AreAfter (Fault calls.Remove (by_job w.number)) rows r) (sym same) (record { holds = refl; bars = λ key. refl; fills = refl })

@@ -19,7 +19,7 @@ use Rattle.p2p_wire.specs.declared.message.Message.TheVariants.{GetTimestamp, Lo
 use Rattle.p2p_wire.specs.Messages.{message_of, text_of}
 use Rattle.node_model.specs.Ends.{EndName, End, frames}
 use Rattle.node_model.specs.Jobs as Jobs
-use Rattle.node_model.specs.Jobs.{Drops, Work, job_end, to_phase}
+use Rattle.node_model.specs.Jobs.{Drops, job_end, to_phase}
 use Rattle.node_model.specs.JobStep.{Turn, end_with, quietly, says_to, talk}
 use Rattle.node_model.specs.DropStep.{asks_copy, asks_lock, asks_target, first_end, target as target_at}
 use Rattle.node_model.specs.Knows.{Reading}

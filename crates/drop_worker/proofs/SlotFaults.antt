@@ -1,6 +1,6 @@
 -- That a step fails by one of its calls.
-use Rattle.std.proofs.Common.{◌≡◌, ℕ, ◌+◌, ◌/◌, ◌-◌, ◌^◌, Bool, true, false, List, [], ◌∷◌, Option, Some, None, refl, sym, ap, ◌∙◌}
-use Rattle.std.specs.Prelude.{◌==◌, ◌||◌, ◌&&◌, bytes_eq, codes, if◌then◌else◌, min, nat_le, nat_lt}
+use Rattle.std.proofs.Common.{◌≡◌, ℕ, ◌+◌, ◌^◌, Bool, true, false, List, [], ◌∷◌, Option, Some, None, refl}
+use Rattle.std.specs.Prelude.{◌==◌, ◌||◌, ◌&&◌, bytes_eq, codes, if◌then◌else◌, nat_le, nat_lt}
 use Rattle.std.specs.List.{list_all, list_any}
 use Rattle.annex_base.specs.Calls.{same_call}
 use Rattle.annex_base.specs.declared.kinds.Call.{Call}
@@ -21,19 +21,19 @@ use Rattle.run_data.specs.declared.job.TransferRefusal.TheVariants as failures
 use Rattle.p2p_wire.specs.declared.message.Message.{Message}
 use Rattle.p2p_wire.specs.declared.message.Message.TheVariants as messages
 use Rattle.p2p_wire.specs.Messages.{message_of}
-use Rattle.node_model.specs.Calls.{to_commit, to_hold, to_release, to_resume}
+use Rattle.node_model.specs.Calls.{to_commit, to_hold, to_resume}
 use Rattle.node_model.specs.Clocks.{hold_time}
-use Rattle.node_model.specs.DropStep.{asks_copy, asks_lock, asks_target, bars, expiry, first_drop, first_end, first_remote, in_time, lacking_outcome, orders, own_share, removes, required_there, row_refusal, held_until, takes_drop, takes_time, target, times, tries_own}
+use Rattle.node_model.specs.DropStep.{asks_copy, asks_lock, asks_target, bars, expiry, first_drop, first_end, first_remote, in_time, lacking_outcome, own_share, removes, required_there, row_refusal, held_until, takes_drop, takes_time, target, times, tries_own}
 use Rattle.node_model.specs.Evidence as seen
 use Rattle.node_model.specs.Jobs as Jobs
 use Rattle.node_model.specs.Jobs.{Drops, Gets, Part, Phase, Puts, Work, is_move, job_end, partner, side_of}
-use Rattle.node_model.specs.JobStep.{Turn, attempts, bar_there, by_me, clock_of, end_with, ends, hears, is_there, key_of, me, quietly, says_to, sends_to, talk, turn_of, wrong}
+use Rattle.node_model.specs.JobStep.{Turn, attempts, bar_there, by_me, clock_of, end_with, ends, hears, is_there, key_of, me, quietly, says_to, talk, turn_of, wrong}
 use Rattle.node_model.specs.Knows.{enough_by, next_by}
 use Rattle.node_model.specs.Look.{Look, Made, failing, unless, waiting}
 use Rattle.node_model.specs.Requests.{asks, goes_to}
 use Rattle.node_model.specs.SetUp.{SetUp}
 use Rattle.node_model.specs.State.{State}
-use Rattle.node_model.specs.TransferStep.{content_of, first_get, first_put, gains, next_get, next_source, puts_from, takes_bytes, takes_get, takes_put}
+use Rattle.node_model.specs.TransferStep.{content_of, first_get, first_put, gains, next_get, next_source, takes_bytes, takes_get, takes_put}
 use Rattle.node_model.specs.Turns.{awaits, by_partner, first_step, goes, goes_on, has_room, is_awaiting, judges, needs, next_step, outcome_of, slot_step, takes, takes_answer, takes_frame, takes_text, with_partner}
 use Rattle.node_model.specs.Sessions.{reaches}
 use Rattle.node_model.specs.SessionStep.{bytes_left}

@@ -1,5 +1,5 @@
 -- That no call of a step depends on which call is to fail, nor whether there is a step.
-use Rattle.std.proofs.Common.{◌≡◌, ℕ, ◌^◌, Bool, true, false, List, [], ◌∷◌, Option, Some, None, refl, sym, ap, ◌∙◌}
+use Rattle.std.proofs.Common.{◌≡◌, ℕ, ◌^◌, Bool, true, false, List, [], ◌∷◌, Option, Some, None, refl, ap, ◌∙◌}
 use Rattle.std.specs.Prelude.{if◌then◌else◌, is_some, length, nat_le, nat_lt, slice_get}
 use Rattle.std.specs.List.{list_all}
 use Rattle.std.specs.Option.{option_to_list}
@@ -11,7 +11,6 @@ use Rattle.run_data.specs.declared.entry.FrameText.{FrameText}
 use Rattle.run_data.specs.declared.entry.FrameText.TheVariants.{Bytes, Closing, Line, Opening}
 use Rattle.run_data.specs.declared.entry.FrameView.{FrameView}
 use Rattle.run_data.specs.declared.job.DropRefusal.{DropRefusal}
-use Rattle.run_data.specs.declared.job.Outcome.{Outcome}
 use Rattle.p2p_wire.specs.declared.message.Message.{Message}
 use Rattle.p2p_wire.specs.declared.message.Message.TheVariants as messages
 use Rattle.p2p_wire.specs.Messages.{message_of}
@@ -26,7 +25,7 @@ use Rattle.node_model.specs.SetUp.{SetUp}
 use Rattle.node_model.specs.State.{State}
 use Rattle.node_model.specs.TransferStep.{next_source, sources}
 use Rattle.node_model.specs.Turns.{awaits, by_partner, goes, goes_on, has_room, is_awaiting, judge_needs, needs, next_needs, outcome_of, peer_needs, slot_step, takes_frame, target_needs, with_partner}
-use Rattle.drop_worker.specs.SlotCalls.{answer_calls, bar_calls, bytes_calls, drop_calls, end_calls, first_calls, first_drop_calls, first_get_calls, first_put_calls, first_remote_calls, frame_calls, get_calls, judge_calls, line_calls, message_calls, next_calls, next_get_calls, opening_calls, order_calls, own_calls, partner_calls, partner_frame_calls, phase_calls, request_calls, room_calls, slot_calls, time_calls, turn_calls}
+use Rattle.drop_worker.specs.SlotCalls.{answer_calls, bar_calls, drop_calls, end_calls, first_calls, first_drop_calls, first_get_calls, first_put_calls, first_remote_calls, frame_calls, get_calls, judge_calls, line_calls, message_calls, next_calls, next_get_calls, opening_calls, order_calls, own_calls, partner_calls, partner_frame_calls, phase_calls, request_calls, room_calls, slot_calls, time_calls, turn_calls}
 
 module _ (t : Turn) (fails : Option Call) where
   -- the turn at which this call is to fail

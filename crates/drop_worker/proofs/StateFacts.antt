@@ -8,7 +8,7 @@ use Rattle.drop_proof.specs.declared.rule.Side.{Side}
 use Rattle.run_data.specs.declared.entry.FrameView.{FrameView}
 use Rattle.node_model.specs.SetUp.{SetUp}
 use Rattle.node_model.specs.Jobs as Jobs
-use Rattle.node_model.specs.Jobs.{Work, drop_side, work_after}
+use Rattle.node_model.specs.Jobs.{Work, work_after}
 use Rattle.node_model.specs.Look.{Look, Made, entry_of}
 use Rattle.node_model.specs.State.{State}
 use Rattle.node_model.specs.JobStep.{Turn, end_with, turn_of}

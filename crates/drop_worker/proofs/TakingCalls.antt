@@ -1,5 +1,5 @@
 -- The calls of the steps that are told what came from a peer.
-use Rattle.std.proofs.Common.{◌≡◌, ℕ, ◌<◌, ◌≤◌, ◌^◌, Bool, true, false, List, [], ◌∷◌, Option, Some, None, Result, Ok, Err, refl, sym, ap, ◌∙◌, subst, arith}
+use Rattle.std.proofs.Common.{◌≡◌, ℕ, ◌<◌, ◌≤◌, ◌^◌, Bool, true, false, List, [], Option, Some, None, Result, Ok, Err, refl, sym, ap, ◌∙◌, subst, arith}
 use Rattle.std.specs.Prelude.{IfOk, if◌then◌else◌, nat_le, nat_lt}
 use Rattle.std.proofs.lemmas.Bool.Decides.{nat_tests}
 use Rattle.annex_base.specs.declared.kinds.Call.{Call}
@@ -34,7 +34,7 @@ use Rattle.drop_worker.specs.Doing.{Talks}
 use Rattle.drop_worker.specs.Feeding.{Fed, FedAt, FitsLocal}
 use Rattle.drop_worker.specs.Leaving.{stands_on}
 use Rattle.drop_worker.specs.Remote.{IsRemote, known_remotely}
-use Rattle.drop_worker.specs.SlotCalls.{answer_calls, bytes_calls, end_calls, frame_calls, line_calls, message_calls, order_calls, phase_calls, request_calls, time_calls}
+use Rattle.drop_worker.specs.SlotCalls.{answer_calls, bytes_calls, end_calls, frame_calls, line_calls, message_calls, order_calls, request_calls, time_calls}
 use Rattle.drop_worker.specs.Worker.{Worker}
 use Rattle.drop_worker.specs.Working.{Rest, Sight, failed_in, phase_as, present_in, sight, taken_line, taken_of, turn_in}
 use Rattle.drop_worker.proofs.Callings.{all_left, makes_as, makes_none, talked_well}

@@ -1,6 +1,6 @@
 -- The steps of a local drop that take a message.
-use Rattle.std.proofs.Common.{◌≡◌, ℕ, Bool, true, false, List, [], ◌∷◌, Option, Some, None, Result, Ok, Err, refl, sym, ap, ◌∙◌, subst}
-use Rattle.std.specs.Prelude.{IfOk, ◌==◌}
+use Rattle.std.proofs.Common.{◌≡◌, ℕ, Bool, true, false, List, [], ◌∷◌, Option, Some, None, refl, sym, ap, ◌∙◌}
+use Rattle.std.specs.Prelude.{◌==◌}
 use Rattle.std.proofs.lemmas.List.{append-nil}
 use Rattle.drop_proof.specs.declared.rule.Side.TheVariants.{Local}
 use Rattle.run_data.specs.declared.entry.EntryKind.TheVariants.{Talk}
@@ -27,7 +27,7 @@ use Rattle.drop_worker.specs.declared.turn.Taken.TheVariants as takens
 use Rattle.drop_worker.specs.Worker.{Worker}
 use Rattle.drop_worker.specs.Working.{Rest, Sight, heard_as, end_in, frames_of, phase_as, taken_line, taken_of, turn_in, work_of}
 use Rattle.node_model.specs.Slots.{job_of}
-use Rattle.drop_worker.specs.Doing.{DoesAsAsked, Comes, GoesOn, Grows, Talks, next_work}
+use Rattle.drop_worker.specs.Doing.{DoesAsAsked, Comes, next_work}
 use Rattle.drop_worker.proofs.Talks.{on_heard, on_said, on_shut, open_line}
 
 -- ---- the line that came
@@ -128,13 +128,6 @@ module _ (x : Sight) (rows : Rows) (p : List ℕ → Bool) (w w' : Worker) (f : 
   line : Lined f.body took
   line = lined f.body took comes.is
 
-  pub hear_does : out.sends.items ≡ [] → ((rest : Rest) → hears (turn rest) f ≡ takes (turn rest) f peer (phase_as w.phase) took)
-      → ((rest : Rest) → work_of rest w' ≡ after_line (record (work_of rest w) { version = n }) (Some took)) → DoesAsAsked x rows rows p w w' (Some f) (λ t. takes_frame t peer f f.body) out
-  hear_does sends makes next =
-      let is : (rest : Rest) → hears (turn rest) f ≡ asked (turn rest) = λ rest. makes rest ∙ line_takes (turn rest) f peer took line in
-      talk_does x rows p w w' (Some f) asked [] out kind sends is
-      (λ rest. next rest ∙ (sym (moved_heard (turn rest) f peer took n refl (learn rest) with_peer line comes.live) ∙ ap (next_work (turn rest)) (is rest)))
-
   pub say_does : (m : Message) → out.sends.items ≡ record { peer = peer; body = bodies.Message m } ∷ [] → message_of (text_of m) ≡ Some m
       → ((rest : Rest) → says_to (turn rest) (talk (turn rest)) (Some f) peer m ≡ takes (turn rest) f peer (phase_as w.phase) took)
       → ((rest : Rest) → work_of rest w' ≡ says (record (work_of rest w) { version = n }) x.time peer (Some took) m) → DoesAsAsked x rows rows p w w' (Some f) (λ t. takes_frame t peer f f.body) out
@@ -153,18 +146,3 @@ module _ (x : Sight) (rows : Rows) (p : List ℕ → Bool) (w w' : Worker) (f : 
       (λ rest. (λ i. record { kind = Talk (Some w.number); taken = Some f; sent = close_parcel x w.slot peer i; lines = [] }) ∙ is rest)
       (λ rest. ap (work_of rest) next ∙ (sym (closed_local x.read.repo (record (work_of rest w) { version = n }) peer local comes.apart)
       ∙ (sym (moved_shut (turn rest) f peer took n refl (learn rest) with_peer line comes.live) ∙ ap (next_work (turn rest)) (is rest))))
-
-pub if_ok : {T E : Type 0} (r : Result T E) (P Q : T → Type 0) → IfOk r P → ((y : T) → P y → Q y) → IfOk r Q
-if_ok (Ok y) P Q a f = f y a
-if_ok (Err e) P Q a f = tt
-
--- ---- what stays of a worker that talks
-
-pub talks_as : (w v w' : Worker) (out : Output) → out.kind ≡ Talk (Some w.number) → out.ended ≡ false → w' ≡ v → v.number ≡ w.number → v.job ≡ w.job → v.token ≡ w.token → GoesOn v.phase → Grows w.heard v.heard
-    → Talks w w' out
-talks_as w v w' out kind ended is number job token phase heard =
-    subst (λ (u : Worker). Talks w u out) (sym is) (record { kind = kind; goes_on = ended; number = number; job = job; token = token; phase = phase; heard = heard })
-
-pub if_both : {T E : Type 0} (r : Result T E) (P Q R : T → Type 0) → IfOk r P → IfOk r Q → ((y : T) → P y → Q y → R y) → IfOk r R
-if_both (Ok y) P Q R a b f = f y a b
-if_both (Err e) P Q R a b f = tt

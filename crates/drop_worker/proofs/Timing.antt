@@ -15,7 +15,7 @@ use Rattle.p2p_wire.specs.declared.message.Message.TheVariants.{Remove, RemoveBe
 use Rattle.p2p_wire.specs.Messages.{message_of, text_of}
 use Rattle.node_model.specs.Ends.{End, EndName}
 use Rattle.node_model.specs.Jobs as Jobs
-use Rattle.node_model.specs.Jobs.{Work, learns, partner, says, side_of, to_phase}
+use Rattle.node_model.specs.Jobs.{Work, learns, partner, says, to_phase}
 use Rattle.node_model.specs.JobStep.{Turn, ends, says_to, wrong}
 use Rattle.node_model.specs.DropStep.{first_end, orders, takes_time, target as target_at, times}
 use Rattle.node_model.specs.Knows.{Reading}

@@ -15,7 +15,7 @@ use Rattle.p2p_wire.specs.declared.message.Message.{Message}
 use Rattle.node_model.specs.Turns.{takes_frame}
 use Rattle.drop_worker.specs.declared.turn.Taken.{Taken}
 use Rattle.drop_worker.specs.declared.turn.Taken.TheVariants as takens
-use Rattle.run_data.specs.declared.entry.EntryKind.TheVariants.{End, Gone, Talk}
+use Rattle.run_data.specs.declared.entry.EntryKind.TheVariants.{Gone, Talk}
 use Rattle.annex_base.specs.declared.kinds.Call.TheVariants as calls
 use Rattle.run_data.specs.declared.job.Cause.TheVariants as causes
 use Rattle.drop_worker.specs.declared.phase.Heard.{Heard}
@@ -49,10 +49,6 @@ pub record DoesAsAsked (x : Sight) (rows rows' : Rows) (present : List ℕ → B
 -- a step that takes no frame does what is asked, at this time
 abbrev pub Acts : Reading → (EndName → EndState) → ℕ → Rows → Rows → Worker → Worker → (Turn → Made) → Output → Type 0
 Acts read ends time rows rows' w w' asked out = (number : ℕ) (p : List ℕ → Bool) → DoesAsAsked (sight read ends time number) rows rows' p w w' None asked out
-
--- at every time
-abbrev pub ActsAnyTime : Reading → (EndName → EndState) → Rows → Rows → Worker → Worker → (Turn → Made) → Output → Type 0
-ActsAnyTime read ends rows rows' w w' asked out = (time : ℕ) → Acts read ends time rows rows' w w' asked out
 
 -- the contents after an entry of a drop
 abbrev pub contents_after : Option Contents → EntryKind → Option Contents
@@ -147,14 +143,3 @@ IsBar token = ⊥
 -- a removal in time
 abbrev pub removes_now : Turn → Made
 removes_now t = attempts t (calls.Remove ∷ []) None (quietly (Gone (by_me t) (key_of t)) None)
-
--- ---- ends
-
-abbrev pub IsEnd : EntryKind → Type 0
-IsEnd (End job outcome) = Unit {0}
-IsEnd kind = ⊥
-
--- the last step of a job
-pub record IsEnding (out : Output) : Type 0 where
-  pub kind : IsEnd out.kind
-  pub ended : out.ended ≡ true

@@ -1,6 +1,6 @@
 -- The calls of its store that the step of a slot's job makes, in order, up to the first that fails: in the cases of the step itself
 -- (the project's own).
-use Rattle.std.specs.Prelude.{ℕ, ◌+◌, ◌^◌, Bool, true, false, not, ◌&&◌, if◌then◌else◌, nat_le, nat_lt, List, [], ◌∷◌, Option, Some, None}
+use Rattle.std.specs.Prelude.{ℕ, ◌^◌, Bool, true, false, not, ◌&&◌, if◌then◌else◌, nat_le, nat_lt, List, [], ◌∷◌, Option, Some, None}
 use Rattle.std.specs.List.{list_all}
 use Rattle.annex_base.specs.declared.kinds.Call.{Call}
 use Rattle.annex_base.specs.declared.kinds.Call.TheVariants as calls
@@ -20,8 +20,7 @@ use Rattle.run_data.specs.declared.job.TransferRefusal.TheVariants as failures
 use Rattle.node_model.specs.Calls.{to_commit, to_hold, to_release, to_resume}
 use Rattle.node_model.specs.DropStep.{expiry, first_end, held_until, in_time, lacking_outcome, required_there, row_refusal, target}
 use Rattle.node_model.specs.Evidence.{Asked, Standing}
-use Rattle.node_model.specs.Jobs as Jobs
-use Rattle.node_model.specs.Jobs.{AsksTime, Drops, Fresh, Gets, GetsBytes, GetsWord, Greets, Next, Opens, Part, Phase, Puts, PutsBytes, PutsOffer, PutsWord, Work, is_move, job_end, partner, side_of}
+use Rattle.node_model.specs.Jobs.{AsksTime, Drops, Fresh, Gets, GetsBytes, GetsWord, Greets, Next, Part, Phase, Puts, PutsBytes, PutsOffer, PutsWord, Work, is_move, job_end, partner, side_of}
 use Rattle.node_model.specs.JobStep.{Turn, bar_there, clock_of, end_with, is_there, key_of, me, owns_share, turn_of}
 use Rattle.node_model.specs.Knows.{enough_by, next_by}
 use Rattle.node_model.specs.Look.{Look, Made, waiting}

@@ -19,7 +19,7 @@ use Rattle.node_model.specs.Rows.{option_is}
 use Rattle.node_model.specs.Evidence.{but}
 use Rattle.node_model.specs.Ends.{EndName, End, frames}
 use Rattle.node_model.specs.Jobs
-use Rattle.node_model.specs.Jobs.{Work, Drops, drop_side, job_end}
+use Rattle.node_model.specs.Jobs.{Work, Drops, drop_side}
 use Rattle.drop_proof.specs.declared.rule.Side.{Side}
 use Rattle.drop_proof.specs.declared.rule.Side.TheVariants.{Local, Remote}
 use Rattle.node_model.specs.Knows.{Reading}

@@ -1,10 +1,10 @@
 -- The part that a node's turn asks for, at the driver's look.
-use Rattle.std.proofs.Common.{◌≡◌, ℕ, Bool, true, false, List, [], ◌∷◌, Option, Some, None, refl, sym, ap, ◌∙◌, subst, arith}
+use Rattle.std.proofs.Common.{◌≡◌, ℕ, Bool, true, false, List, Option, Some, None, refl, sym, ap, ◌∙◌, subst, arith}
 use Rattle.std.specs.Prelude.{◌==◌, ◌&&◌, find, if◌then◌else◌}
 use Rattle.std.specs.List.{position_or_len}
 use Rattle.std.proofs.lemmas.Bool.Decides.{nat_tests}
 use Rattle.std.proofs.lemmas.List.Folds.{find_at}
-use Rattle.std.proofs.lemmas.Option.{same_Some}
+use Rattle.annex_base.proofs.Lists.{find_member}
 use Rattle.run_data.specs.declared.entry.By.TheVariants.{Peer}
 use Rattle.run_data.specs.declared.entry.FrameView.{FrameView}
 use Rattle.object_store.specs.Stores.{Parts}
@@ -38,21 +38,13 @@ same_ends a b c d e = λ i. server_end (first i) (second i)
     second : b ≡ d
     second = grind (arith, nat_tests)
 
-found_passes : {X : Type 0} (p : X → Bool) (xs : List X) (x : X) → find p xs ≡ Some x → p x ≡ true
-found_passes p [] x e = absurd (cc)
-found_passes {X} p (y ∷ xs) x e = go (p y) refl (found_passes p xs x)
-  where
-    go : (b : Bool) → p y ≡ b → (find p xs ≡ Some x → p x ≡ true) → p x ≡ true
-    go true is rest = subst (λ (z : X). p z ≡ true) (same_Some y x (subst (λ (b : Bool). (if b then Some y else find p xs) ≡ Some x) is e)) is
-    go false is rest = rest (subst (λ (b : Bool). (if b then Some y else find p xs) ≡ Some x) is e)
-
 pub asked_is : (s : SetUp) (now : EndName → sessions.Session) (xs : List Session) (f : FrameView) (x : Session) → AreSessions s now xs → f.up ≡ true
     → find (λ x. same_owner (owner_of x) (Peer f.peer f.slot)) xs ≡ Some x → session_of x ≡ now (end_to f)
 asked_is s now xs f x are up found =
     sym (are.each (position_or_len (λ x. same_owner (owner_of x) (Peer f.peer f.slot)) xs) x (sym (find_at (λ x. same_owner (owner_of x) (Peer f.peer f.slot)) xs) ∙ found)).session ∙ ap now there
   where
     there : end_of x ≡ end_to f
-    there = same_ends (place_of x).peer (place_of x).slot f.peer f.slot (found_passes (λ x. same_owner (owner_of x) (Peer f.peer f.slot)) xs x found)
+    there = same_ends (place_of x).peer (place_of x).slot f.peer f.slot (find_member (λ x. same_owner (owner_of x) (Peer f.peer f.slot)) xs x found).1
         ∙ (λ i. record { peer = f.peer; slot = f.slot; client = if sym up i then false else true })
 
 -- ---- the part

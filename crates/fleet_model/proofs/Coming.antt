@@ -48,6 +48,10 @@ links_stay {K} r q n m was after step links = go (q == r) refl
         subst (λ (p : ℕ). links_at after.nodes p ≡ links_at was.nodes p) (sym is) (ap ends_in step.there ∙ (links ∙ sym (ap ends_in step.before)))
     go false e = ap ends_in (step.others q (eqb-false q r e))
 
+pub stood_before : {K : Type 0} (r q : ℕ) (n m : NodeView K) (was after : FleetView K) → OneGoesOn r n m was after → m.parts.links ≡ n.parts.links
+    → (a : EndName) (v : EndView) → link_at (links_at after.nodes q) a ≡ Some v → link_at (links_at was.nodes q) a ≡ Some v
+stood_before r q n m was after step links a v at = ap (λ (xs : List EndView). link_at xs a) (sym (links_stay r q n m was after step links)) ∙ at
+
 pub came : {K : Type 0} → WordLaws → (tells : K → StoreView) (g : DriverInput) (d d' : Driver) (r : ℕ) (n m : NodeView K) (was after : FleetView K)
     → HasCome tells g d was → OneGoesOn r n m was after → GoesOnQuietly r d d' → IsRaised tells g d' r m → m.parts.links ≡ n.parts.links → HeardSo d'.past r (words_at m.parts.jobs.running) → m.time ≤ 1000000000000 → m.count < 2 ^ 62 → StaysSound g d d'
     → HasCome tells g d' after
@@ -62,15 +66,12 @@ came {K} laws tells g d d' r n m was after h step on own links heard early few s
       (subst (λ (past : List Entry). HeardSo past q (words_at x.parts.jobs.running)) (sym on.on.past) (others_hear laws r q (words_at x.parts.jobs.running) on.on.more d.past apart on.on.own (h.each q x (sym (step.others q apart) ∙ at)).heard)));
   ends = λ q a v q_in a_in apart at.
       subst (λ (xs : List _). IsEndIn xs q a v) (sym on.flights)
-      (h.ends q a v q_in a_in apart (as_before q a v at));
+      (h.ends q a v q_in a_in apart (stood_before r q n m was after step links a v at));
   words = λ q a v q_in a_in apart client at.
       subst (λ (past : List Entry). AreWorded past q a v.at_hand) (sym on.on.past)
-      (words_stay laws (length g.repos) (links_at was.nodes) on.on.more d.past on.quiet h.words q a v q_in a_in apart client (as_before q a v at));
-  selves = λ q a v at_self at. h.selves q a v at_self (as_before q a v at);
+      (words_stay laws (length g.repos) (links_at was.nodes) on.on.more d.past on.quiet h.words q a v q_in a_in apart client (stood_before r q n m was after step links a v at));
+  selves = λ q a v at_self at. h.selves q a v at_self (stood_before r q n m was after step links a v at);
 } where
-  as_before : (q : ℕ) (a : EndName) (v : EndView) → link_at (links_at after.nodes q) a ≡ Some v → link_at (links_at was.nodes q) a ≡ Some v
-  as_before q a v at = ap (λ (links : List EndView). link_at links a) (sym (links_stay r q n m was after step links)) ∙ at
-
   entries : reverse d'.past ≡ reverse d.past ++ drop (length n.history) m.history
   entries = entries_go_on r d d' n.history m.history on.on (h.each r n step.before).history own.entries.history
 

@@ -14,7 +14,7 @@ use Rattle.repo_node.specs.Stored.{StoreView}
 
 -- ---- lists
 
-positive : (n : ℕ) → nat_lt 0 (suc n) ≡ true
+pub positive : (n : ℕ) → nat_lt 0 (suc n) ≡ true
 positive n = grind (arith, nat_tests)
 
 pub any_counted : {X : Type 0} (p : X → Bool) (xs : List X) → nat_lt 0 (length (filter p xs)) ≡ list_any p xs

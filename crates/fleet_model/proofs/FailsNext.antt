@@ -1,24 +1,21 @@
 -- A fleet whose node was told that a call of its store is to fail has come to where the driver is.
-use Rattle.std.proofs.Common.{◌≡◌, ℕ, List, ◌++◌, Some, length, sym, ap, ◌∙◌}
+use Rattle.std.proofs.Common.{◌≡◌, ℕ, List, ◌++◌, length, sym, ap, ◌∙◌}
 use Rattle.std.specs.Prelude.{drop}
 use Rattle.std.specs.Option.{option_map}
 use Rattle.std.proofs.Math.Seq.{drop-length}
 use Rattle.std.proofs.lemmas.List.{append-nil}
 use Rattle.annex_base.specs.declared.kinds.Call.{Call}
 use Rattle.object_store.specs.Calls.{one_more}
-use Rattle.link_ring.specs.Ends.{EndView}
 use Rattle.run_data.specs.declared.entry.Entry.{Entry}
-use Rattle.node_model.specs.Ends.{EndName}
-use Rattle.node_ends.specs.Ends.{link_at}
 use Rattle.driver_model.specs.Driver.{Driver, DriverInput}
 use Rattle.driver_model.specs.ScriptSteps.{will_fail}
 use Rattle.driver_model.specs.Sound.{StaysSound}
 use Rattle.repo_node.specs.Nodes.{NodeView}
 use Rattle.repo_node.specs.Stored.{StoreView}
-use Rattle.fleet_model.specs.Fleets.{FleetView, HasCome, IsNodeOf, links_at}
+use Rattle.fleet_model.specs.Fleets.{FleetView, HasCome, IsNodeOf}
 use Rattle.fleet_model.specs.Steps.{OneGoesOn}
 use Rattle.fleet_model.proofs.Beside.{failing_node, other_failing}
-use Rattle.fleet_model.proofs.Coming.{by_number, links_stay}
+use Rattle.fleet_model.proofs.Coming.{by_number, stood_before}
 
 -- a step without an entry leaves the run as it was
 run_stays : {K : Type 0} (r : ℕ) (n m : NodeView K) (was after : FleetView K) → OneGoesOn r n m was after → m.history ≡ n.history → after.run ≡ was.run
@@ -38,9 +35,9 @@ fail_comes {K} tells g d r call n m was after h step but contents parts failing 
   count = step.count ∙ h.count;
   each = by_number (λ q x. IsNodeOf tells g (will_fail r call d) q x) after.nodes r m step.there (failing_node tells g d r call n m (h.each r n step.before) but contents parts failing)
       (λ q x apart at. other_failing tells g d r q call x apart (h.each q x (sym (step.others q apart) ∙ at)));
-  ends = λ q a v q_in a_in apart at. h.ends q a v q_in a_in apart (as_before q a v at);
-  words = λ q a v q_in a_in apart client at. h.words q a v q_in a_in apart client (as_before q a v at);
-  selves = λ q a v at_self at. h.selves q a v at_self (as_before q a v at);
+  ends = λ q a v q_in a_in apart at. h.ends q a v q_in a_in apart (stood_before r q n m was after step links a v at);
+  words = λ q a v q_in a_in apart client at. h.words q a v q_in a_in apart client (stood_before r q n m was after step links a v at);
+  selves = λ q a v at_self at. h.selves q a v at_self (stood_before r q n m was after step links a v at);
 } where
-  as_before : (q : ℕ) (a : EndName) (v : EndView) → link_at (links_at after.nodes q) a ≡ Some v → link_at (links_at was.nodes q) a ≡ Some v
-  as_before q a v at = ap (λ (links : List EndView). link_at links a) (sym (links_stay r q n m was after step (ap (λ (x : NodeView K). x.parts.links) but))) ∙ at
+  links : m.parts.links ≡ n.parts.links
+  links = ap (λ (x : NodeView K). x.parts.links) but

@@ -1,16 +1,16 @@
 -- The first call of a step that is to fail is the first of all that the driver finds.
-use Rattle.std.proofs.Common.{◌≡◌, ℕ, ◌<◌, ◌≤◌, Bool, true, false, List, [], ◌∷◌, Option, Some, None, refl, sym, ap, ◌∙◌, subst, arith}
-use Rattle.std.specs.Prelude.{◌==◌, ◌&&◌, ◌||◌, find, if◌then◌else◌, nat_lt}
+use Rattle.std.proofs.Common.{◌≡◌, ℕ, ◌<◌, ◌≤◌, Bool, true, false, List, [], ◌∷◌, Option, Some, None, refl, sym, ap, ◌∙◌, subst, arith, le_of_lt}
+use Rattle.std.specs.Prelude.{◌==◌, ◌&&◌, ◌||◌, find, nat_lt}
 use Rattle.std.specs.List.{list_all, list_any}
 use Rattle.std.proofs.lemmas.Bool.Decides.{nat_tests}
-use Rattle.std.proofs.lemmas.Option.{same_Some}
+use Rattle.std.proofs.lemmas.Option.{same_Some, none-some}
 use Rattle.std.proofs.lemmas.Bool.{false_from_ne_true, ltb-true}
 use Rattle.annex_base.specs.Calls.{call_number, same_call}
 use Rattle.annex_base.specs.declared.kinds.Call.{Call}
 use Rattle.annex_base.specs.declared.kinds.Call.TheVariants as calls
 use Rattle.annex_base.specs.Lists.{Each}
 use Rattle.annex_base.proofs.Calls.{same_call-is}
-use Rattle.annex_base.proofs.Lists.{Each-from_list_all, Each-from_members, Each-weaker}
+use Rattle.annex_base.proofs.Lists.{Each-from_list_all, Each-from_members, Each-weaker, find_member}
 use Rattle.annex_base.proofs.Conditions.{and_first, and_second}
 use Rattle.annex_base.proofs.Numbers.{not_both}
 use Rattle.node_model.specs.Look.{Look}
@@ -41,9 +41,6 @@ pub record IsLeast (o : Option Call) (c : Call) : Type 0 where
   pub is : o ≡ Some call
   pub least : call_number call ≤ call_number c
 
-at_most : (n m : ℕ) → n < m → n ≤ m
-at_most n m e = grind arith
-
 itself : (n m : ℕ) → (n == m) ≡ true → m ≤ n
 itself n m e = grind (arith, nat_tests)
 
@@ -56,20 +53,12 @@ found_least p (d ∷ cs) c rising among passes = go (p d) refl (same_call c d) r
 
     go : (b : Bool) → p d ≡ b → (e : Bool) → same_call c d ≡ e → (list_any (same_call c) cs ≡ true → p c ≡ true → IsLeast (find p cs) c) → IsLeast (find p (d ∷ cs)) c
     go true is true same rest = record { call = d; is = (rw is refl); least = itself (call_number c) (call_number d) same }
-    go true is false other rest = record { call = d; is = (rw is refl); least = at_most (call_number d) (call_number c) (among_all (call_number d) cs c rising.0 (more other)) }
+    go true is false other rest = record { call = d; is = (rw is refl); least = le_of_lt (among_all (call_number d) cs c rising.0 (more other)) }
     go false is true same rest = absurd (differ (sym is ∙ (ap p (sym (same_call-is c d same)) ∙ passes)))
       where
         differ : false ≡ true → ⊥
         differ e = cc
     go false is false other rest = let l = rest (more other) passes in record { call = l.call; is = (rw is l.is); least = l.least }
-
-found_passes : (p : Call → Bool) (cs : List Call) (c : Call) → find p cs ≡ Some c → p c ≡ true
-found_passes p [] c is = absurd (cc)
-found_passes p (d ∷ cs) c is = go (p d) refl (found_passes p cs c)
-  where
-    go : (b : Bool) → p d ≡ b → (find p cs ≡ Some c → p c ≡ true) → p c ≡ true
-    go true e rest = subst (λ (x : Call). p x ≡ true) (same_Some d c (subst (λ (b : Bool). (if b then Some d else find p cs) ≡ Some c) e is)) e
-    go false e rest = rest (subst (λ (b : Bool). (if b then Some d else find p cs) ≡ Some c) e is)
 
 -- ---- the calls before one
 
@@ -133,14 +122,11 @@ no_sooner d r s st k cs failed n rising met told first c waits meets_it =
     let l = found_least (λ c. nat_lt 0 (n c)) cs c rising (met c meets_it) (ap (nat_lt 0) (told c) ∙ (any_counted (is_failing r c) d.fails ∙ waits)) in
     record { call = l.call; is = first ∙ l.is; least = l.least }
 
-none_some : (c : Call) → None ≡ Some c → ⊥
-none_some c e = cc
-
 none_before : (d : Driver) (r : ℕ) (s : SetUp) (st : State) (k : Look) (failed : Option Call) → ((c : Call) → fails_at d r c ≡ true → meets s st k c ≡ true → IsLeast failed c)
     → (o : Option Call) → failed ≡ o → Each (λ call. fails_at d r call ≡ true → meets s st k call ≡ false) (calls_before o all_calls)
 none_before d r s st k failed least None e =
     Each-from_members (λ call. fails_at d r call ≡ true → meets s st k call ≡ false) all_calls
-    (λ c among waits. false_from_ne_true (meets s st k c) (λ meets_it. let l = least c waits meets_it in none_some l.call (sym e ∙ l.is)))
+    (λ c among waits. false_from_ne_true (meets s st k c) (λ meets_it. let l = least c waits meets_it in none-some l.call (sym e ∙ l.is)))
 none_before d r s st k failed least (Some x) e =
     Each-weaker (λ c. call_number c < call_number x) (λ call. fails_at d r call ≡ true → meets s st k call ≡ false)
     (λ c less waits. false_from_ne_true (meets s st k c) (λ meets_it.
@@ -158,6 +144,6 @@ fails_first d r s st k cs failed v after is made rising met = go v.failing is.fa
     go None told made = absurd told
     go (Some n) told made = record {
       waits = λ call e.
-          sym (any_counted (is_failing r call) d.fails) ∙ (ap (nat_lt 0) (sym (told call)) ∙ found_passes (λ c. nat_lt 0 (n c)) cs call (sym (made.first n refl) ∙ e));
+          sym (any_counted (is_failing r call) d.fails) ∙ (ap (nat_lt 0) (sym (told call)) ∙ (find_member (λ c. nat_lt 0 (n c)) cs call (sym (made.first n refl) ∙ e)).1);
       before = none_before d r s st k failed (no_sooner d r s st k cs failed n rising met told (made.first n refl)) failed refl;
     }

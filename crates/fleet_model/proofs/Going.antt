@@ -1,5 +1,5 @@
 -- A step of the driver by which one repository alone goes on, without a frame.
-use Rattle.std.proofs.Common.{◌≡◌, ◌≢◌, ◌⊎◌, inl, ℕ, ◌+◌, ◌<◌, ◌≤◌, ◌^◌, Bool, true, false, List, [], ◌∷◌, ◌++◌, Option, Some, None, length, refl, sym, ap, ◌∙◌, subst, arith}
+use Rattle.std.proofs.Common.{◌≡◌, ◌≢◌, ◌⊎◌, inl, ℕ, ◌+◌, ◌<◌, ◌≤◌, ◌^◌, Bool, true, false, List, [], ◌∷◌, ◌++◌, Option, Some, None, length, refl, sym, ap, ◌∙◌, subst, arith, le_refl, le_trans, le-add_right}
 use Rattle.std.specs.Prelude.{cond, drop, filter, if◌then◌else◌, reverse}
 use Rattle.std.proofs.lemmas.Bool.Decides.{nat_tests}
 use Rattle.std.proofs.lemmas.List.{append_assoc, reverse-append}
@@ -62,12 +62,6 @@ pub record GoesOnQuietly (r : ℕ) (d d' : Driver) : Type 0 where
 
 -- ---- how such steps are put together
 
-least : (n : ℕ) → n ≤ n
-least n = grind arith
-
-between : (a b c : ℕ) → a ≤ b → b ≤ c → a ≤ c
-between a b c x y = grind arith
-
 pub goes_nowhere : (r : ℕ) (d : Driver) → GoesOnQuietly r d d
 goes_nowhere r d = record {
   on = record {
@@ -78,7 +72,7 @@ goes_nowhere r d = record {
     marks = refl;
     stores = λ q v apart is. is;
     at = refl;
-    counted = least (newest_count d.past);
+    counted = le_refl (newest_count d.past);
     bounds = tt;
     large = λ e. e;
   };
@@ -96,19 +90,16 @@ goes_then r a b c x y = record {
     marks = y.on.marks ∙ x.on.marks;
     stores = λ q v apart is. y.on.stores q v apart (x.on.stores q v apart is);
     at = y.on.at ∙ x.on.at;
-    counted = between (newest_count a.past) (newest_count b.past) (newest_count c.past) x.on.counted y.on.counted;
+    counted = le_trans x.on.counted y.on.counted;
     bounds = Each-append (IsWithin (now a.past) (newest_count c.past)) y.on.more x.on.more
         (subst (λ (t : ℕ). Each (IsWithin t (newest_count c.past)) y.on.more) x.on.at y.on.bounds)
         (Each-weaker (IsWithin (now a.past) (newest_count b.past)) (IsWithin (now a.past) (newest_count c.past))
-        (λ e w. record { time_is = w.time_is; counted = between e.count (newest_count b.past) (newest_count c.past) w.counted y.on.counted; small = w.small }) x.on.more x.on.bounds);
+        (λ e w. record { time_is = w.time_is; counted = le_trans w.counted y.on.counted; small = w.small }) x.on.more x.on.bounds);
     large = λ e. y.on.large (x.on.large e);
   };
   flights = y.flights ∙ x.flights;
   quiet = Each-append IsQuiet y.on.more x.on.more y.quiet x.quiet;
 }
-
-one_more : (n : ℕ) → n ≤ n + 1
-one_more n = grind arith
 
 pub goes_noting : (r : ℕ) (kind : EntryKind) (lines : List (List ℕ)) (d : Driver) → IsSmall kind → (job_of kind ≡ None) ⊎ ((job : ℕ) × (what : Job) × (kind ≡ kinds.Begin job what)) → GoesOnQuietly r d (notes r kind lines d)
 goes_noting r kind lines d small jobless = record {
@@ -120,8 +111,8 @@ goes_noting r kind lines d small jobless = record {
     marks = refl;
     stores = λ q v apart is. record { contents = is.contents; parts = is.parts; failing = is.failing };
     at = refl;
-    counted = one_more (newest_count d.past);
-    bounds = (record { time_is = refl; counted = least (newest_count d.past + 1); small = small }, tt);
+    counted = le-add_right (newest_count d.past) 1;
+    bounds = (record { time_is = refl; counted = le_refl (newest_count d.past + 1); small = small }, tt);
     large = λ e. e;
   };
   flights = refl;
@@ -138,7 +129,7 @@ goes_answered r call d = record {
     marks = refl;
     stores = λ q v apart is. unanswered d r q call v apart is;
     at = refl;
-    counted = least (newest_count d.past);
+    counted = le_refl (newest_count d.past);
     bounds = tt;
     large = λ e. e;
   };
@@ -184,7 +175,7 @@ others_are tells g d d' r q m apart on is heard = record {
   branch = is.branch ∙ sym (ap (λ (p : List Entry). branch p q) on.past ∙ others_branch r q on.more d.past apart on.own);
   store = on.stores q (tells m.keeper) apart is.store;
   time = subst (λ (t : ℕ). m.time ≤ t) (sym on.at) is.time;
-  count = between m.count (newest_count d.past) (newest_count d'.past) is.count on.counted;
+  count = le_trans is.count on.counted;
   heard = heard;
 }
 

@@ -1,8 +1,7 @@
 -- A fleet whose node had no step ready has come to where the driver is after its own turn.
-use Rattle.std.proofs.Common.{◌≡◌, ◌≢◌, ℕ, ◌+◌, ◌≤◌, Bool, true, false, [], ◌++◌, Some, None, length, refl, sym, ap, ◌∙◌, subst, arith}
-use Rattle.std.specs.Prelude.{◌==◌, drop, flat_map, is_some, reverse, slice_get}
+use Rattle.std.proofs.Common.{◌≡◌, ℕ, ◌+◌, true, [], ◌++◌, None, length, refl, sym, ap, ◌∙◌, subst, le_refl}
+use Rattle.std.specs.Prelude.{drop, flat_map, is_some, reverse}
 use Rattle.std.specs.Option.{option_to_list}
-use Rattle.std.proofs.lemmas.Bool.{eqb-false, eqb-true}
 use Rattle.node_model.specs.After.{AgreesAtDrops}
 use Rattle.node_model.specs.AnyTime.{all_ends}
 use Rattle.node_model.specs.Ends.{EndName}
@@ -25,12 +24,12 @@ use Rattle.link_flights.specs.Heard.{HeardSo}
 use Rattle.link_flights.specs.Words.{AreAllWorded}
 use Rattle.node_jobs.specs.Running.{words_at}
 use Rattle.fleet_model.specs.Fleets.{AreUnused, FleetView, HasCome, IsNodeOf, links_at}
-use Rattle.fleet_model.specs.Steps.{OneTurns, with_links}
+use Rattle.fleet_model.specs.Steps.{OneTurns}
 use Rattle.fleet_model.proofs.Going.{GoesOn, entries_go_on, others_are}
 use Rattle.fleet_model.proofs.Looking.{LookLaws}
 use Rattle.fleet_model.proofs.Noting.{IsRaised, is_node}
 use Rattle.fleet_model.proofs.States.{state_is, step_is}
-use Rattle.fleet_model.proofs.Turned.{linked}
+use Rattle.fleet_model.proofs.Turned.{each_turned, linked}
 
 -- a node that finds no step ready stands where the driver finds none
 pub none_ready : {K : Type 0} → LookLaws → (tells : K → StoreView) (g : DriverInput) (d : Driver) (r : ℕ) (n : NodeView K) → IsSound g d → IsRaised tells g d r n
@@ -67,12 +66,10 @@ dropping_goes g d r = record {
   marks = refl;
   stores = λ q v apart is. record { contents = is.contents; parts = is.parts; failing = is.failing };
   at = refl;
-  counted = least (newest_count d.past);
+  counted = le_refl (newest_count d.past);
   bounds = tt;
   large = λ e. e;
-} where
-  least : (n : ℕ) → n ≤ n
-  least n = grind arith
+}
 
 pub turned_idly : {K : Type 0} (tells : K → StoreView) (g : DriverInput) (d : Driver) (r : ℕ) (n m : NodeView K) (was after : FleetView K)
     → HasCome tells g d was → OneTurns r n m was after → turn g r d ≡ driver_at_turn g r d → IsRaised tells g d r m
@@ -86,7 +83,8 @@ turned_idly {K} tells g d r n m was after h step is own ends words heard selves 
       sound = subst (StaysSound g d) is sound h.sound h.fits;
       fits = h.fits;
       count = step.count ∙ h.count;
-      each = λ q x at. by_number q x at (q == r) refl;
+      each = each_turned (λ q x. IsNodeOf tells g d' q x) r n m was after step (λ links. linked tells g d' r m links (as_before (is_node tells g d r m own heard)))
+          (λ q x links apart at. linked tells g d' q x links (others_are tells g d d' r q x apart on (h.each q x at) (h.each q x at).heard));
       ends = ends;
       words = words;
       selves = selves;
@@ -111,15 +109,3 @@ turned_idly {K} tells g d r n m was after h step is own ends words heard selves 
       count = is.count;
       heard = is.heard;
     }
-
-    by_number : (q : ℕ) (x : NodeView K) → slice_get after.nodes q ≡ Some x → (b : Bool) → (q == r) ≡ b → IsNodeOf tells g d' q x
-    by_number q x at true e =
-        let here : q ≡ r = eqb-true q r e in
-        let node : x ≡ with_links m x.parts.links = step.there x (ap (slice_get after.nodes) (sym here) ∙ at) in
-        subst (λ (p : ℕ). IsNodeOf tells g d' p x) (sym here)
-        (subst (λ (y : NodeView K). IsNodeOf tells g d' r y) (sym node) (linked tells g d' r m x.parts.links (as_before (is_node tells g d r m own heard))))
-    by_number q x at false e =
-        let apart : q ≢ r = eqb-false q r e in
-        let y = step.others q x apart at in
-        subst (λ (z : NodeView K). IsNodeOf tells g d' q z) (sym y.2)
-        (linked tells g d' q y.0 x.parts.links (others_are tells g d d' r q y.0 apart on (h.each q y.0 y.1) (h.each q y.0 y.1).heard))

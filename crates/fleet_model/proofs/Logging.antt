@@ -1,8 +1,7 @@
 -- Lines that the script adds to a file of a repository.
-use Rattle.std.proofs.Common.{◌≡◌, ℕ, suc, Bool, true, false, List, [], ◌∷◌, length, Option, Some, None, refl, sym, ap, ◌∙◌, subst, arith}
+use Rattle.std.proofs.Common.{◌≡◌, ℕ, Bool, true, false, List, [], ◌∷◌, length, Option, Some, None, refl, sym, ap, ◌∙◌, subst}
 use Rattle.std.specs.Prelude.{if◌then◌else◌, nat_lt}
 use Rattle.std.specs.Option.{option_map}
-use Rattle.std.proofs.lemmas.Bool.Decides.{nat_tests}
 use Rattle.annex_base.specs.declared.kinds.Call.{Call}
 use Rattle.annex_base.specs.declared.kinds.Call.TheVariants as calls
 use Rattle.object_store.specs.Calls.{one_fewer}
@@ -24,7 +23,7 @@ use Rattle.fleet_model.specs.Stores.{IsStoreOf}
 use Rattle.repo_node.specs.Stored.{StoreView}
 use Rattle.repo_node.specs.Refusals.{RefusesSo}
 use Rattle.repo_node.specs.declared.refused.NodeRefused.TheVariants as refusals
-use Rattle.fleet_model.proofs.Failing.{answered, first_fails, first_of_calls}
+use Rattle.fleet_model.proofs.Failing.{answered, first_fails, first_of_calls, positive}
 use Rattle.fleet_model.proofs.Noting.{IsRaised, noted}
 
 -- a store in which nothing has changed that the driver knows
@@ -67,9 +66,6 @@ add_some {K} tells g d r n m file line lines failed is stays made well fails = g
         subst (λ (x : NodeView K). IsRaised tells g (faults r calls.PutFile d) r x) (sym (fails calls.PutFile some))
         (noted tells g d (answers r calls.PutFile d) r n m.keeper n.branch (kinds.Fault calls.PutFile Script) [] is refl refl
         (store_noted (answers r calls.PutFile d) r (kinds.Fault calls.PutFile Script) [] (tells m.keeper) (answered d r calls.PutFile (tells n.keeper) (tells m.keeper) is.store stays.contents stays.parts left)))
-
-positive : (n : ℕ) → nat_lt 0 (suc n) ≡ true
-positive n = grind (arith, nat_tests)
 
 -- these lines, of which those that the file lacks are these
 log_new : {K : Type 0} (tells : K → StoreView) (g : DriverInput) (d : Driver) (r : ℕ) (n m : NodeView K) (file : LogFile) (failed : Option Call) → IsRaised tells g d r n

@@ -1,6 +1,6 @@
 -- One more entry of a repository that takes and sends nothing, in its node and in the driver.
-use Rattle.std.proofs.Common.{◌≡◌, ◌≢◌, ℕ, ◌+◌, ◌≤◌, Bool, true, false, List, [], ◌∷◌, ◌++◌, Some, None, sym, ap, ◌∙◌, subst, arith}
-use Rattle.std.specs.Prelude.{◌==◌, cond, filter, if◌then◌else◌, reverse}
+use Rattle.std.proofs.Common.{◌≡◌, ℕ, ◌+◌, Bool, true, false, List, [], ◌∷◌, ◌++◌, Some, None, sym, ap, ◌∙◌, subst, le_of_eq}
+use Rattle.std.specs.Prelude.{cond, filter, if◌then◌else◌, reverse}
 use Rattle.std.proofs.lemmas.Grind.{reverse_onto}
 use Rattle.annex_base.proofs.Conditions.{eqb_refl}
 use Rattle.run_data.specs.declared.entry.Entry.{Entry}
@@ -47,17 +47,14 @@ pub record IsRaised {K : Type 0} (tells : K → StoreView) (g : DriverInput) (d 
   pub entries : HasEntriesOf g d r n
   pub store : IsStoreOf d r (tells n.keeper)
 
-no_more : (n m : ℕ) → n ≡ m → n ≤ m
-no_more n m e = grind arith
-
 pub is_node : {K : Type 0} (tells : K → StoreView) (g : DriverInput) (d : Driver) (r : ℕ) (n : NodeView K) → IsRaised tells g d r n → HeardSo d.past r (words_at n.parts.jobs.running) → IsNodeOf tells g d r n
 is_node tells g d r n raised heard = record {
   setup = raised.entries.setup;
   history = raised.entries.history;
   branch = raised.entries.branch;
   store = raised.store;
-  time = no_more n.time (now d.past) raised.entries.time;
-  count = no_more n.count (newest_count d.past) raised.entries.count;
+  time = le_of_eq raised.entries.time;
+  count = le_of_eq raised.entries.count;
   heard = heard;
 }
 

@@ -1,10 +1,11 @@
 -- A part that the script gives a repository, in its node and in the driver.
-use Rattle.std.proofs.Common.{◌≡◌, inl, inr, ℕ, Bool, true, false, List, [], ◌∷◌, Option, Some, None, refl, ap, ◌∙◌, subst}
+use Rattle.std.proofs.Common.{◌≡◌, inl, inr, ℕ, Bool, true, false, List, [], ◌∷◌, Some, None, refl, ap, ◌∙◌, subst}
 use Rattle.std.specs.Prelude.{find, if◌then◌else◌}
 use Rattle.std.specs.Option.{option_map}
+use Rattle.std.proofs.lemmas.Iterator.Adapters.{option_map_id}
 use Rattle.annex_base.specs.declared.kinds.Call.{Call}
 use Rattle.annex_base.specs.declared.kinds.Call.TheVariants as calls
-use Rattle.object_store.specs.Stores.{Parts, with_at}
+use Rattle.object_store.specs.Stores.{with_at}
 use Rattle.driver_model.specs.Driver.{Driver, DriverInput, drops_part, fails_at, puts_part}
 use Rattle.driver_model.specs.ScriptSteps.{faults, is_busy, sets_part}
 use Rattle.content_lock.specs.CallsMade.{MakesCalls}
@@ -76,17 +77,13 @@ part_stopped {K} tells g d r n m key bytes raised busy stops = go (is_busy g d r
     at : (c : Call) → stops.call ≡ c → Stopped key bytes v w n m c
     at c e = subst (λ (c : Call). Stopped key bytes v w n m c) e (record { node = stops.refused; contents = stops.contents; parts = stops.parts; left = stops.calls.left })
 
-    same_parts : (o : Option Parts) → option_map (λ (p : Parts). p) o ≡ o
-    same_parts None = refl
-    same_parts (Some q) = refl
-
     at_first : Stopped key bytes v w n m calls.Has → IsRaised tells g (faults r calls.Has d) r m
     at_first s = fault_noted tells g d d r n m calls.Has w v.failing raised refl s.node refl s.left
-        (record { contents = rw s.contents raised.store.contents; parts = rw (s.parts ∙ same_parts v.parts) raised.store.parts; failing = raised.store.failing })
+        (record { contents = rw s.contents raised.store.contents; parts = rw (s.parts ∙ option_map_id v.parts) raised.store.parts; failing = raised.store.failing })
 
     at_drop : Stopped key bytes v w n m calls.DropPart → IsRaised tells g (faults r calls.DropPart d) r m
     at_drop s = fault_noted tells g d d r n m calls.DropPart w v.failing raised refl s.node refl s.left
-        (record { contents = rw s.contents raised.store.contents; parts = rw (s.parts ∙ same_parts v.parts) raised.store.parts; failing = raised.store.failing })
+        (record { contents = rw s.contents raised.store.contents; parts = rw (s.parts ∙ option_map_id v.parts) raised.store.parts; failing = raised.store.failing })
 
     at_append : Stopped key bytes v w n m calls.Append → IsRaised tells g (faults r calls.Append (drops_part r key d)) r m
     at_append s = fault_noted tells g d (drops_part r key d) r n m calls.Append w v.failing raised refl s.node refl s.left

@@ -1,5 +1,5 @@
 -- Each direct step of the script lets one repository alone go on.
-use Rattle.std.proofs.Common.{inl, inr, ℕ, ◌+◌, ◌<◌, ◌≤◌, ◌^◌, List, [], ◌∷◌, length, refl, arith}
+use Rattle.std.proofs.Common.{inl, inr, ℕ, ◌+◌, ◌<◌, ◌^◌, List, [], ◌∷◌, length, refl, arith, le_refl}
 use Rattle.std.specs.Prelude.{max, not}
 use Rattle.annex_base.specs.declared.kinds.Call.TheVariants as calls
 use Rattle.run_data.specs.declared.entry.By.TheVariants.{Script}
@@ -52,20 +52,17 @@ goes_compacts r d = goes_compacts_files r (branch d.past r) d
 
 -- ---- contents
 
-least : (n : ℕ) → n ≤ n
-least n = grind arith
-
 pub goes_dropping : (r : ℕ) (key : List ℕ) (d : Driver) → GoesOnQuietly r d (drops_part r key d)
-goes_dropping r key d = record { on = record { more = []; past = refl; own = tt; tree = refl; marks = refl; stores = λ q v apart is. dropped_elsewhere d r q key v apart is; at = refl; counted = least (newest_count d.past); bounds = tt; large = λ e. e }; flights = refl; quiet = tt }
+goes_dropping r key d = record { on = record { more = []; past = refl; own = tt; tree = refl; marks = refl; stores = λ q v apart is. dropped_elsewhere d r q key v apart is; at = refl; counted = le_refl (newest_count d.past); bounds = tt; large = λ e. e }; flights = refl; quiet = tt }
 
 greatest : (a b : ℕ) → b < 2 ^ 62 → a < 2 ^ 62 → max a b < 2 ^ 62
 greatest a b small large = grind arith
 
 pub goes_putting : (r : ℕ) (key bytes : List ℕ) (d : Driver) → length bytes < 2 ^ 62 → GoesOnQuietly r d (puts_part r key bytes d)
-goes_putting r key bytes d small = record { on = record { more = []; past = refl; own = tt; tree = refl; marks = refl; stores = λ q v apart is. put_elsewhere d r q key bytes v apart is; at = refl; counted = least (newest_count d.past); bounds = tt; large = greatest d.largest (length bytes) small }; flights = refl; quiet = tt }
+goes_putting r key bytes d small = record { on = record { more = []; past = refl; own = tt; tree = refl; marks = refl; stores = λ q v apart is. put_elsewhere d r q key bytes v apart is; at = refl; counted = le_refl (newest_count d.past); bounds = tt; large = greatest d.largest (length bytes) small }; flights = refl; quiet = tt }
 
 pub goes_committing : (r : ℕ) (key : List ℕ) (d : Driver) → GoesOnQuietly r d (commits r key d)
-goes_committing r key d = record { on = record { more = []; past = refl; own = tt; tree = refl; marks = refl; stores = λ q v apart is. committed_elsewhere d r q key v apart is; at = refl; counted = least (newest_count d.past); bounds = tt; large = λ e. e }; flights = refl; quiet = tt }
+goes_committing r key d = record { on = record { more = []; past = refl; own = tt; tree = refl; marks = refl; stores = λ q v apart is. committed_elsewhere d r q key v apart is; at = refl; counted = le_refl (newest_count d.past); bounds = tt; large = λ e. e }; flights = refl; quiet = tt }
 
 goes_unless_busy : (g : DriverInput) (r : ℕ) (key : List ℕ) (d done : Driver) → GoesOnQuietly r d done → GoesOnQuietly r d (unless_busy g r key d done)
 goes_unless_busy g r key d done on =

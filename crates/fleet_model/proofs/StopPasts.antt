@@ -1,5 +1,5 @@
 -- How many entries each repository has made, and the next entry, for which a full history has no room.
-use Rattle.std.proofs.Common.{◌≡◌, ◌≢◌, inl, inr, ℕ, ◌<◌, ◌≤◌, ◌^◌, Bool, true, false, List, [], ◌∷◌, ◌++◌, length, Option, Some, None, refl, sym, ap, ◌∙◌, subst, arith}
+use Rattle.std.proofs.Common.{◌≡◌, ◌≢◌, inl, inr, ℕ, ◌<◌, ◌≤◌, ◌^◌, Bool, true, false, List, [], ◌∷◌, ◌++◌, length, Option, Some, None, refl, sym, ap, ◌∙◌, subst, arith, le_of_eq}
 use Rattle.std.specs.Prelude.{◌==◌, drop, filter, if◌then◌else◌, reverse, slice_get}
 use Rattle.std.proofs.lemmas.List.{append_assoc, length-reverse, reverse-reverse}
 use Rattle.std.proofs.lemmas.List.Elements.{filter-append}
@@ -73,9 +73,6 @@ strangers_count g d q sound past_all =
 at_least_none : (most n : ℕ) → n ≡ 0 → n ≤ most
 at_least_none most n e = grind arith
 
-at_most : (most n : ℕ) → n ≡ most → n ≤ most
-at_most most n e = grind arith
-
 pub is_known : {K : Type 0} (tells : K → StoreView) (g : DriverInput) (d : Driver) (r : ℕ) (n : NodeView K) (was : FleetView K) → HasCome tells g d was → slice_get was.nodes r ≡ Some n → r < length g.repos
 is_known tells g d r n was h at = subst (λ (count : ℕ). r < count) h.count (slice_get_within was.nodes r n at)
 
@@ -90,7 +87,7 @@ pub all_are_few : (r : ℕ) (past : List Entry) → count_of past r ≡ most_ent
 all_are_few r past full few q = go (q == r) refl
   where
     go : (b : Bool) → (q == r) ≡ b → count_of past q ≤ most_entries
-    go true e = at_most most_entries (count_of past q) (ap (count_of past) (eqb-true q r e) ∙ full)
+    go true e = le_of_eq (ap (count_of past) (eqb-true q r e) ∙ full)
     go false e = few q (eqb-false q r e)
 
 -- ---- the entry that comes next

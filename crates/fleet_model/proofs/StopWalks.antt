@@ -4,6 +4,7 @@ use Rattle.std.specs.Prelude.{◌&&◌, ◌||◌, find, if◌then◌else◌, nat
 use Rattle.std.specs.List.{list_any}
 use Rattle.std.specs.Map.{keys_of}
 use Rattle.std.proofs.lemmas.Bool.{and_right, not-true, not_from_false}
+use Rattle.std.proofs.lemmas.Option.{none-some}
 use Rattle.annex_base.proofs.Lists.{cons_first, cons_nil, cons_rest}
 use Rattle.annex_base.specs.declared.kinds.Call.{Call}
 use Rattle.annex_base.specs.declared.kinds.Call.TheVariants as calls
@@ -128,15 +129,12 @@ shrinking_alike : {K : Type 0} (g : DriverInput) (d : Driver) (r : ℕ) (n : Nod
 shrinking_alike g d r n path is =
     ap (λ (b : Files). nat_lt (length (compact_lines (kind_of (file_of path)) (lines_at b (file_path (file_of path))))) (length (lines_at b (file_path (file_of path))))) is.branch
 
-absurd_call : (call : Call) → None ≡ Some call → ⊥
-absurd_call call e = cc
-
 -- the front of a merge, over the store that was there before
 merged_front : {K : Type 0} (tells : K → StoreView) (g : DriverInput) (d : Driver) (r : ℕ) (n : NodeView K) (done : Files) (after : Option (Call → ℕ)) → IsRaised tells g d r n
     → MakesCalls (to_write (list_any (lacks_of n) done)) None (tells n.keeper).failing after → HasEntriesOf g (merges_files r done d) r (over n.keeper (merge_files n done))
 merged_front {K} tells g d r n done after raised made =
     (merged tells g d r n (over n.keeper (merge_files n done)) done None raised (record { contents = refl; parts = refl })
-    (record { first = made.first; left = sym (none_fewer (tells n.keeper).failing) }) (λ e. refl) (λ call e. absurd (absurd_call call e))).entries
+    (record { first = made.first; left = sym (none_fewer (tells n.keeper).failing) }) (λ e. refl) (λ call e. absurd (none-some call e))).entries
 
 compacted_front : {K : Type 0} (tells : K → StoreView) (g : DriverInput) (d : Driver) (r : ℕ) (n : NodeView K) (done : Files) → IsRaised tells g d r n
     → (list_any (shrinks_at n) (map (λ f. f.0) done) && fails_at d r calls.PutFile) ≡ false → IsRaised tells g (compacts_files r done d) r (compact_files n (map (λ f. f.0) done))

@@ -1,5 +1,5 @@
 -- A fleet whose node made a turn has come to where the driver is after its own.
-use Rattle.std.proofs.Common.{◌≡◌, ◌≢◌, ℕ, ◌+◌, ◌<◌, ◌≤◌, ◌^◌, Bool, true, false, List, [], ◌∷◌, ◌++◌, Some, length, refl, sym, ap, ◌∙◌, subst, arith}
+use Rattle.std.proofs.Common.{◌≡◌, ◌≢◌, ℕ, ◌<◌, ◌≤◌, ◌^◌, Bool, true, false, List, [], ◌∷◌, ◌++◌, Some, length, refl, sym, ap, ◌∙◌, subst, le_refl, le-add_right}
 use Rattle.std.specs.Prelude.{◌==◌, drop, reverse, slice_get}
 use Rattle.std.proofs.lemmas.Bool.{eqb-false, eqb-true}
 use Rattle.annex_base.proofs.Conditions.{eqb_refl}
@@ -30,11 +30,20 @@ use Rattle.fleet_model.proofs.TurnStore.{ChangesStore, store_changes}
 pub linked : {K : Type 0} (tells : K → StoreView) (g : DriverInput) (d : Driver) (r : ℕ) (n : NodeView K) (links : List EndView) → IsNodeOf tells g d r n → IsNodeOf tells g d r (with_links n links)
 linked tells g d r n links is = record { setup = is.setup; history = is.history; branch = is.branch; store = is.store; time = is.time; count = is.count; heard = is.heard }
 
-more_counted : (n : ℕ) → n ≤ n + 1
-more_counted n = grind arith
-
-least : (n : ℕ) → n ≤ n
-least n = grind arith
+-- what holds of the node that made a turn and of each other one, whatever their ends are, holds of each
+pub each_turned : {K : Type 0} (P : ℕ → NodeView K → Type 0) (r : ℕ) (n m : NodeView K) (was after : FleetView K) → OneTurns r n m was after → ((links : List EndView) → P r (with_links m links))
+    → ((q : ℕ) (x : NodeView K) (links : List EndView) → q ≢ r → slice_get was.nodes q ≡ Some x → P q (with_links x links)) → (q : ℕ) (x : NodeView K) → slice_get after.nodes q ≡ Some x → P q x
+each_turned {K} P r n m was after step own others q x at = go (q == r) refl
+  where
+    go : (b : Bool) → (q == r) ≡ b → P q x
+    go true e =
+        let here : q ≡ r = eqb-true q r e in
+        let node : x ≡ with_links m x.parts.links = step.there x (ap (slice_get after.nodes) (sym here) ∙ at) in
+        subst (λ (p : ℕ). P p x) (sym here) (subst (P r) (sym node) (own x.parts.links))
+    go false e =
+        let apart : q ≢ r = eqb-false q r e in
+        let y = step.others q x apart at in
+        subst (P q) (sym y.2) (others q y.0 x.parts.links apart y.1)
 
 -- by its step r alone goes on
 pub turn_goes : (g : DriverInput) (d : Driver) (r : ℕ) (m : Made) → IsSmall m.kind → (d.largest < 2 ^ 62 → (after_step g r d m).largest < 2 ^ 62) → GoesOn r d (after_step g r d m)
@@ -46,8 +55,8 @@ turn_goes g d r m small large = record {
   marks = change.marks;
   stores = λ q v apart is. change.stores q v apart (record { contents = is.contents; parts = is.parts; failing = is.failing });
   at = ap now change.past;
-  counted = subst (λ (past : List Entry). newest_count d.past ≤ newest_count past) (sym change.past) (more_counted (newest_count d.past));
-  bounds = (record { time_is = refl; counted = subst (λ (past : List Entry). e.count ≤ newest_count past) (sym change.past) (least e.count); small = small }, tt);
+  counted = subst (λ (past : List Entry). newest_count d.past ≤ newest_count past) (sym change.past) (le-add_right (newest_count d.past) 1);
+  bounds = (record { time_is = refl; counted = subst (λ (past : List Entry). e.count ≤ newest_count past) (sym change.past) (le_refl e.count); small = small }, tt);
   large = large;
 } where
   e : Entry
@@ -73,7 +82,9 @@ turned {K} laws tells g d r n m made was after h step is own ends words heard se
       sound = subst (StaysSound g d) is sound h.sound fits;
       fits = fits;
       count = step.count ∙ h.count;
-      each = λ q x at. by_number q x at (q == r) refl;
+      each = each_turned (λ q x. IsNodeOf tells g d' q x) r n m was after step (λ links. linked tells g d' r m links (is_node tells g d' r m own heard))
+          (λ q x links apart at. linked tells g d' q x links (others_are tells g d d' r q x apart on (h.each q x at)
+          (subst (λ (past : List Entry). HeardSo past q (words_at x.parts.jobs.running)) (sym on.past) (others_hear laws r q (words_at x.parts.jobs.running) on.more d.past apart on.own (h.each q x at).heard))));
       ends = subst (λ (xs : List Flight). AreEndsIn xs (length g.repos) (links_at after.nodes)) (sym change.flights) ends;
       words = words;
       selves = selves;
@@ -94,16 +105,3 @@ turned {K} laws tells g d r n m made was after h step is own ends words heard se
 
     entries : reverse d'.past ≡ reverse d.past ++ drop (length n.history) m.history
     entries = entries_go_on r d d' n.history m.history on (h.each r n step.before).history own.entries.history
-
-    by_number : (q : ℕ) (x : NodeView K) → slice_get after.nodes q ≡ Some x → (b : Bool) → (q == r) ≡ b → IsNodeOf tells g d' q x
-    by_number q x at true e =
-        let here : q ≡ r = eqb-true q r e in
-        let node : x ≡ with_links m x.parts.links = step.there x (ap (slice_get after.nodes) (sym here) ∙ at) in
-        subst (λ (p : ℕ). IsNodeOf tells g d' p x) (sym here)
-        (subst (λ (y : NodeView K). IsNodeOf tells g d' r y) (sym node) (linked tells g d' r m x.parts.links (is_node tells g d' r m own heard)))
-    by_number q x at false e =
-        let apart : q ≢ r = eqb-false q r e in
-        let y = step.others q x apart at in
-        subst (λ (z : NodeView K). IsNodeOf tells g d' q z) (sym y.2)
-        (linked tells g d' q y.0 x.parts.links (others_are tells g d d' r q y.0 apart on (h.each q y.0 y.1)
-        (subst (λ (past : List Entry). HeardSo past q (words_at y.0.parts.jobs.running)) (sym on.past) (others_hear laws r q (words_at y.0.parts.jobs.running) on.more d.past apart on.own (h.each q y.0 y.1).heard))))

@@ -26,7 +26,7 @@ use Rattle.repo_node.specs.declared.refused.NodeRefused.TheVariants as refusals
 use Rattle.fleet_model.specs.Steps.{StaysStored}
 use Rattle.fleet_model.specs.Stores.{IsStoreOf}
 use Rattle.repo_node.specs.Stored.{StoreView}
-use Rattle.fleet_model.proofs.Failing.{first_of_calls}
+use Rattle.fleet_model.proofs.Failing.{first_of_calls, positive}
 use Rattle.fleet_model.proofs.Logging.{none_fewer, same_store}
 use Rattle.fleet_model.proofs.Noting.{IsRaised, over_store}
 use Rattle.fleet_model.proofs.Placing.{fault_noted}
@@ -60,9 +60,6 @@ write_found d r true = refl
 pub some_left : (xs : List (List ℕ)) → nat_lt 0 (length xs) ≡ not (is_nil xs)
 some_left [] = refl
 some_left (x ∷ xs) = positive (length xs)
-  where
-    positive : (n : ℕ) → nat_lt 0 (suc n) ≡ true
-    positive n = grind (arith, nat_tests)
 
 any_alike : {X : Type 0} (p q : X → Bool) (xs : List X) → ((x : X) → p x ≡ q x) → list_any p xs ≡ list_any q xs
 any_alike p q [] same = refl

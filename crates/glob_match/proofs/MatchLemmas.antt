@@ -1,16 +1,12 @@
 -- The test of a match says whether there is a cut.
-use Rattle.std.proofs.Common.{◌≡◌, ℕ, ◌||◌, ◌&&◌, ◌==◌, Bool, true, false, List, [], ◌∷◌, ◌++◌, length, refl, sym, ap, ◌∙◌, inl, inr, ◌⊎◌, arith}
-use Rattle.std.proofs.lemmas.Bool.{and_parts, eqb-true, or_right}
+use Rattle.std.proofs.Common.{◌≡◌, ℕ, ◌==◌, Bool, true, false, List, [], ◌∷◌, ◌++◌, length, refl, sym, ap, ◌∙◌, inl, inr, arith}
+use Rattle.std.proofs.lemmas.Bool.{and_parts, eqb-true, or_cases, or_right}
 use Rattle.std.specs.List.{concat}
 use Rattle.annex_base.proofs.Conditions.{by_test, eqb_refl}
 use Rattle.glob_match.specs.declared.item.Item.{Item}
 use Rattle.glob_match.specs.declared.item.Item.TheVariants.{AnyRun, AnyOne, OneOf, Only}
 use Rattle.glob_match.specs.Glob.{FitsItem, FitEach, IsMatch, is_run, takes, is_nothing, some_rest, first_and_rest, glob_matches}
-use Rattle.glob_match.proofs.WalkLemmas.{run_matches, one_matches}
-
-either_true : (b c : Bool) → (b || c) ≡ true → (b ≡ true) ⊎ (c ≡ true)
-either_true true c e = inl refl
-either_true false c e = inr e
+use Rattle.glob_match.proofs.WalkLemmas.{run_matches, one_matches, rest_from_whole}
 
 -- a front, and the rest that passes
 record Cut (passes : List ℕ → Bool) (text : List ℕ) : Type 0 where
@@ -22,17 +18,13 @@ record Cut (passes : List ℕ → Bool) (text : List ℕ) : Type 0 where
 rest_cut : (p : List ℕ → Bool) (text : List ℕ) → some_rest p text ≡ true → Cut p text
 rest_cut p [] e = record { front = []; rest = []; whole = refl; passed = e }
 rest_cut p (c ∷ cs) e =
-    elim (either_true (p (c ∷ cs)) (some_rest p cs) e) [
+    elim (or_cases (p (c ∷ cs)) (some_rest p cs) e) [
       | inl here ↦ record { front = []; rest = c ∷ cs; whole = refl; passed = here }
       | inr later ↦ let k = rest_cut p cs later in record { front = c ∷ k.front; rest = k.rest; whole = ap (λ (w : List ℕ). c ∷ w) k.whole; passed = k.passed }
     ]
 
-rest_here : (p : List ℕ → Bool) (text : List ℕ) → p text ≡ true → some_rest p text ≡ true
-rest_here p [] e = e
-rest_here p (c ∷ cs) e = rw e refl
-
 rest_after : (p : List ℕ → Bool) (front rest : List ℕ) → p rest ≡ true → some_rest p (front ++ rest) ≡ true
-rest_after p [] rest e = rest_here p rest e
+rest_after p [] rest e = rest_from_whole p rest e
 rest_after p (c ∷ front) rest e = or_right (p (c ∷ (front ++ rest))) (some_rest p (front ++ rest)) (rest_after p front rest e)
 
 run_fits : (i : Item) (part : List ℕ) → is_run i ≡ true → FitsItem i part

@@ -8,9 +8,9 @@ use Rattle.std.specs.List.{list_all, position_or_len}
 use Rattle.std.specs.Option.{option_map}
 use Rattle.std.specs.Str.{encode_utf8_all}
 use Rattle.std.proofs.lemmas.Option.{same_Some}
-use Rattle.std.proofs.lemmas.List.{append-nil}
+use Rattle.std.proofs.lemmas.List.{append-nil, nil_from_length}
 use Rattle.annex_base.proofs.Conditions.{by_test, if_is}
-use Rattle.annex_base.proofs.Lists.{list_all_append, nil_by_length}
+use Rattle.annex_base.proofs.Lists.{list_all_append}
 use Rattle.annex_base.proofs.Options.{is_none_true, some_none}
 use Rattle.glob_match.specs.declared.fault.GlobFault.{GlobFault}
 use Rattle.glob_match.specs.declared.fault.GlobFault.TheVariants.{OpenSet, NoMemory}
@@ -79,7 +79,7 @@ not_zero (suc n) e = omega arith
 
 pub set_open : (cs closed : List ℕ) → closed ≡ drop (position_or_len is_close cs) cs → length closed ≡ 0 → None ≡ set_at cs
 set_open cs closed d e =
-    let at : char_at (drop (position_or_len is_close cs) cs) ≡ None = ap char_at (sym d ∙ nil_by_length closed e) in
+    let at : char_at (drop (position_or_len is_close cs) cs) ≡ None = ap char_at (sym d ∙ nil_from_length closed e) in
     sym (set_cut cs ∙ rw at refl)
 
 pub set_within : (cs : List ℕ) → position_or_len is_close cs ≤ length cs
@@ -261,7 +261,7 @@ byte_len [] = refl
 byte_len (c ∷ cs) = sum_by-cons len_utf8 c cs ∙ (omega (arith, byte_len cs, length-encode c, length-append (encode c) (encode_utf8_all cs)))
 
 pub read_all : (items : List Item) (rest text : List ℕ) → Reads items rest text → length rest ≡ 0 → IsGlob items text
-read_all items rest text r e = record { items_are = r.items_are; spelled = r.spelled ∙ (ap (λ (w : List ℕ). flat_map item_text items ++ w) (nil_by_length rest e) ∙ append-nil (flat_map item_text items)) }
+read_all items rest text r e = record { items_are = r.items_are; spelled = r.spelled ∙ (ap (λ (w : List ℕ). flat_map item_text items ++ w) (nil_from_length rest e) ∙ append-nil (flat_map item_text items)) }
 
 pub read_open : (items : List Item) (rest text : List ℕ) (at : ℕ) → Reads items rest text → 0 < length rest → at ≡ length (encode_utf8_all (flat_map item_text items)) → HasOpenSet at text
 read_open items [] text at r e p = absurd (omega (arith, e))

@@ -1,6 +1,7 @@
 -- The walk finds a cut exactly where there is one.
-use Rattle.std.proofs.Common.{◌≡◌, ℕ, ◌≤◌, ◌||◌, ◌&&◌, Bool, true, false, if◌then◌else◌, List, [], ◌∷◌, length, Option, Some, None, refl, sym, ap, subst, ◌∙◌, inl, inr, ◌⊎◌, arith}
-use Rattle.std.proofs.lemmas.Bool.{or_right}
+use Rattle.std.proofs.Common.{◌≡◌, ℕ, ◌≤◌, ◌&&◌, Bool, true, false, if◌then◌else◌, List, [], ◌∷◌, length, Option, Some, None, refl, sym, ap, subst, ◌∙◌, inl, inr, arith}
+use Rattle.std.proofs.lemmas.Bool.{or_cases, or_right}
+use Rattle.std.proofs.lemmas.List.{nil_from_length}
 use Rattle.annex_base.proofs.Conditions.{and_second, by_test}
 use Rattle.glob_match.specs.declared.item.Item.{Item}
 use Rattle.glob_match.specs.Glob.{is_run, takes, is_nothing, some_rest, first_and_rest, glob_matches}
@@ -20,10 +21,6 @@ resumed (Some x) = glob_matches x.0 x.1
 abbrev pub Stops : List Item → Option (List Item × List ℕ) → Type 0
 Stops items None = Unit {0}
 Stops items (Some x) = (stops x.0 x.1 ≡ true) × (length x.0 ≤ length items)
-
-or_false : (b c : Bool) → (b || c) ≡ true → (b ≡ true) ⊎ (c ≡ true)
-or_false true c e = inl refl
-or_false false c e = inr e
 
 pub run_matches : (i : Item) (items : List Item) → is_run i ≡ true → glob_matches (i ∷ items) ≡ some_rest (glob_matches items)
 run_matches i items r = ap (λ (b : Bool). λ (text : List ℕ). if b then some_rest (glob_matches items) text else first_and_rest (takes i) (glob_matches items) text) r
@@ -59,26 +56,26 @@ pub find_stops : (items : List Item) (text : List ℕ) → Stops items (find_at 
 find_stops items [] = segment_stops items []
 find_stops items (c ∷ cs) = later_stops items (segment_at items (c ∷ cs)) (find_at items cs) (segment_stops items (c ∷ cs)) (find_stops items cs)
 
-rest_from_whole : (p : List ℕ → Bool) (text : List ℕ) → p text ≡ true → some_rest p text ≡ true
+pub rest_from_whole : (p : List ℕ → Bool) (text : List ℕ) → p text ≡ true → some_rest p text ≡ true
 rest_from_whole p [] e = e
 rest_from_whole p (c ∷ cs) e = rw e refl
 
 rest_twice : (p : List ℕ → Bool) (text : List ℕ) → some_rest (some_rest p) text ≡ true → some_rest p text ≡ true
 rest_twice p [] e = e
 rest_twice p (c ∷ cs) e =
-    elim (or_false (some_rest p (c ∷ cs)) (some_rest (some_rest p) cs) e) [
+    elim (or_cases (some_rest p (c ∷ cs)) (some_rest (some_rest p) cs) e) [
       | inl here ↦ here
       | inr later ↦ or_right (p (c ∷ cs)) (some_rest p cs) (rest_twice p cs later)
     ]
 
 rest_past_first : (one : ℕ → Bool) (p : List ℕ → Bool) (c : ℕ) (cs : List ℕ) → some_rest (first_and_rest one p) (c ∷ cs) ≡ true → some_rest p cs ≡ true
 rest_past_first one p c [] e =
-    elim (or_false (one c && p []) false e) [
+    elim (or_cases (one c && p []) false e) [
       | inl here ↦ and_second (one c) (p []) here
       | inr later ↦ cc
     ]
 rest_past_first one p c (d ∷ ds) e =
-    elim (or_false (one c && p (d ∷ ds)) (some_rest (first_and_rest one p) (d ∷ ds)) e) [
+    elim (or_cases (one c && p (d ∷ ds)) (some_rest (first_and_rest one p) (d ∷ ds)) e) [
       | inl here ↦ rest_from_whole p (d ∷ ds) (and_second (one c) (p (d ∷ ds)) here)
       | inr later ↦ or_right (p (d ∷ ds)) (some_rest p ds) (rest_past_first one p d ds later)
     ]
@@ -128,23 +125,19 @@ find_resumes items (c ∷ cs) = first_is_enough items c cs (segment_at items (c 
 
 -- What the code tells at each place.
 
-no_items : (items : List Item) → length items ≡ 0 → items ≡ []
-no_items [] e = refl
-no_items (i ∷ items) e = absurd (omega (arith, e))
-
 ends_here : (text : List ℕ) → None ≡ char_at text → Some ([], text) ≡ segment_at [] text
 ends_here [] e = refl
 ends_here (c ∷ cs) e = cc
 
 pub segment_ends : (items : List Item) (text : List ℕ) → length items ≡ 0 → None ≡ char_at text → Some (items, text) ≡ segment_at items text
-segment_ends items text none end = rw (no_items items none) (ends_here text end)
+segment_ends items text none end = rw (nil_from_length items none) (ends_here text end)
 
 goes_on : (text : List ℕ) (x : ℕ × List ℕ) → Some x ≡ char_at text → None ≡ segment_at [] text
 goes_on [] x e = cc
 goes_on (c ∷ cs) x e = refl
 
 pub segment_goes_on : (items : List Item) (text : List ℕ) (x : ℕ × List ℕ) → length items ≡ 0 → Some x ≡ char_at text → None ≡ segment_at items text
-segment_goes_on items text x none e = rw (no_items items none) (goes_on text x e)
+segment_goes_on items text x none e = rw (nil_from_length items none) (goes_on text x e)
 
 pub find_here : (items : List Item) (text : List ℕ) (x : List Item × List ℕ) → Some x ≡ segment_at items text → Some x ≡ find_at items text
 find_here items [] x e = e

@@ -43,9 +43,7 @@ use Rattle.link_flights.proofs.ActingJobs.{StepLaws, steps_begin_none}
 use Rattle.link_flights.proofs.JobMoves.{claims_like, learns_like}
 use Rattle.link_flights.proofs.Naming.{same_self, takes_end}
 use Rattle.link_flights.proofs.WordsHeard.{came_of, keeps_none, own_works}
-
-none_some : {A : Type 0} {X : Type 0} (o : Option X) (x : X) → o ≡ None → o ≡ Some x → A
-none_some o x none some = absurd (let no' : None ≡ Some x = sym none ∙ some in cc)
+use Rattle.annex_base.proofs.Options.{none_and_some}
 
 goes_up : (b : Bool) → (if b then false else true) ≡ false → b ≡ true
 goes_up true e = refl
@@ -130,14 +128,14 @@ module _ (laws : StepLaws) (s : SetUp) (st : State) (k : Look) (m : Made) (f : F
         more : (peer : ℕ) → partner w.what.peer w.phase ≡ Some peer → (b : Bool) → is_awaiting w.phase ≡ b
             → (if b then awaits (turn_of s st k w) peer (waiting (end_with (turn_of s st k w) peer) k (job_end w peer)) else goes_on (turn_of s st k w)) ≡ Some m → TookBy s st k m f
         more peer on true i h = awaits_took peer on (waiting (end_with (turn_of s st k w) peer) k (job_end w peer)) refl h
-        more peer on false i h = none_some m.taken f (on_none (inr i) h) took
+        more peer on false i h = absurd (none_and_some m.taken f (on_none (inr i) h) took)
 
         at : (peer : ℕ) → partner w.what.peer w.phase ≡ Some peer → (b : Bool) → with_partner (turn_of s st k w) peer b ≡ Some m → TookBy s st k m f
-        at peer on false h = let same : quietly (talk (turn_of s st k w)) None ≡ m = cc in none_some m.taken f (sym (ap (λ (z : Made). z.taken) same)) took
+        at peer on false h = let same : quietly (talk (turn_of s st k w)) None ≡ m = cc in absurd (none_and_some m.taken f (sym (ap (λ (z : Made). z.taken) same)) took)
         at peer on true h = more peer on (is_awaiting w.phase) refl h
 
         go : (p : Option ℕ) → partner w.what.peer w.phase ≡ p → by_partner (turn_of s st k w) p ≡ Some m → TookBy s st k m f
-        go None on h = none_some m.taken f (on_none (inl on) h) took
+        go None on h = absurd (none_and_some m.taken f (on_none (inl on) h) took)
         go (Some peer) on h = at peer on (end_with (turn_of s st k w) peer).opened h
 
   slots_took : (slot : ℕ) (o : Option Work) → find (λ w. w.slot == slot) st.works ≡ o → slot_step s st k o ≡ Some m → TookBy s st k m f
@@ -159,7 +157,7 @@ module _ (laws : StepLaws) (s : SetUp) (st : State) (k : Look) (m : Made) (f : F
         where
           given : (o : Option Reply) → gives_made a (st.ends a) o ≡ Some m → f.up ≡ true
           given None e = absurd (cc)
-          given (Some x) e = let same : reply_made a (st.ends a) None x ≡ m = cc in none_some m.taken f (sym (ap (λ (z : Made). z.taken) same)) took
+          given (Some x) e = let same : reply_made a (st.ends a) None x ≡ m = cc in absurd (none_and_some m.taken f (sym (ap (λ (z : Made). z.taken) same)) took)
 
           none : (b : Bool) → (if b then gives_made a (st.ends a) (gives_next (here s st k a) (st.sessions a).doing) else None) ≡ Some m → f.up ≡ true
           none true g = given (gives_next (here s st k a) (st.sessions a).doing) g
@@ -172,7 +170,7 @@ module _ (laws : StepLaws) (s : SetUp) (st : State) (k : Look) (m : Made) (f : F
   -- a step that takes what goes down is a job's
   took_by : f.up ≡ false → step s st k ≡ Some m → TookBy s st k m f
   took_by down e = elim (first_was (owed_step s st k) (first_of (session_step s st k) (job_step s st k)) m e) [
-    | inl o ↦ none_some m.taken f (owed_none s st k m st.owed o) took
+    | inl o ↦ absurd (none_and_some m.taken f (owed_none s st k m st.owed o) took)
     | inr r ↦ elim (first_was (session_step s st k) (job_step s st k) m r) [
       | inl g ↦
           let x = some_was (λ (c : ℕ × ℕ). session_at s st k (server_end c.0 c.1)) (served_connections s) m g in
@@ -209,11 +207,11 @@ own_took laws s st k m f makes took jobs w there number = go (laws.finds s st k 
 
     go : StepFound s st k m → (y : TookBy s st k m f) × (y.w ≡ w)
     go (inl x) = elim (x.writes) [
-      | inl y ↦ none_some m.taken f (ap (λ (z : Made). z.taken) y) took
-      | inr y ↦ none_some m.taken f (ap (λ (z : Made). z.taken) y) took
+      | inl y ↦ absurd (none_and_some m.taken f (ap (λ (z : Made). z.taken) y) took)
+      | inr y ↦ absurd (none_and_some m.taken f (ap (λ (z : Made). z.taken) y) took)
     ]
-    go (inr (inl x)) = none_some (job_of m.kind) w.number (laws.session s st k m x) number
-    go (inr (inr x)) = elim (x.frame) [ inl none ↦ none_some m.taken f none took | inr z ↦ by_job x z ]
+    go (inr (inl x)) = absurd (none_and_some (job_of m.kind) w.number (laws.session s st k m x) number)
+    go (inr (inr x)) = elim (x.frame) [ inl none ↦ absurd (none_and_some m.taken f none took) | inr z ↦ by_job x z ]
 
 -- ---- what is made of such an answer
 
@@ -332,9 +330,6 @@ talk_moved rows r w e peer f c took kept on says =
     subst (λ (p : Option ℕ). awaits_one (talks_on rows r y e p).phase ≡ false) (sym on)
     (on_moved rows r y e peer f c took (ap (λ (q : Phase). keeps_word q (line_in f.body)) phase_is ∙ kept) (elim (says) [ inl none ↦ inl none | inr closes ↦ inr (closes ∙ ap (λ (a : EndName). frames a c (Closing ∷ [])) end_is) ]))
   where
-    x : Work
-    x = claims w w.part w.phase
-
     y : Work
     y = learns (claims w w.part w.phase) w.phase e.taken
 
@@ -356,9 +351,6 @@ answers_move laws s past k m e w v f makes own kind taken sent jobs there there'
   where
     y : (y : TookBy s (state_of s past) k m f) × (y.w ≡ w)
     y = own_took laws s (state_of s past) k m f makes (sym taken ∙ t.taken) jobs w there (ap job_of (sym kind) ∙ t.made)
-
-    peer : ℕ
-    peer = y.0.peer
 
     on : partner w.what.peer w.phase ≡ Some y.0.peer
     on = subst (λ (u : Work). partner u.what.peer u.phase ≡ Some y.0.peer) y.1 y.0.on

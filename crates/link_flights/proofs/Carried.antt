@@ -16,10 +16,10 @@ use Rattle.driver_model.specs.Driver.{Driver, Flight, adds, flight, without_old_
 use Rattle.link_flights.specs.Entries.{PostsAt, link_after}
 use Rattle.driver_model.specs.Ways.{other_end}
 use Rattle.link_flights.specs.Flights.{HasAtHand, IsEndIn, comes_to, flight_at}
-use Rattle.link_flights.proofs.Lists.{each_filtered}
 use Rattle.link_flights.proofs.Naming.{other_twice}
 use Rattle.link_flights.proofs.Dropped.{hand_dropped, hand_elsewhere, sent_filter}
 use Rattle.link_flights.proofs.Flown.{come_elsewhere, come_there, hand_now_still, hand_now_young, way_now}
+use Rattle.annex_base.proofs.Lists.{Each-passes}
 
 none_more : (n : ℕ) → n + 0 ≡ n
 none_more n = omega arith
@@ -92,7 +92,7 @@ pub both_turned : (d : Driver) (st : State) (r : ℕ) (a : EndName) (v w : EndVi
 both_turned d st r a v w e said sender word apart at own other posts =
     both_posted (without_old_flights st r d) st r a (after_drop v) w e said sender word posts apart own.on_way
     (hand_elsewhere st d r a.peer (other_end r a) w apart other.at_hand) other.on_way
-    (hand_now_young (without_old_flights st r d) st r a (after_drop v) e.taken e.sent said sender word posts (each_filtered (is_taken v) v.at_hand) (hand_dropped st r d.flights a v at own.at_hand) apart)
+    (hand_now_young (without_old_flights st r d) st r a (after_drop v) e.taken e.sent said sender word posts (Each-passes (is_taken v) v.at_hand) (hand_dropped st r d.flights a v at own.at_hand) apart)
 
 -- a turn without an entry
 pub both_dropped : (d : Driver) (st : State) (r : ℕ) (a : EndName) (v w : EndView) → a.peer ≢ r → st.ends a ≡ stands v → IsEndIn d.flights r a v → IsEndIn d.flights a.peer (other_end r a) w

@@ -15,8 +15,9 @@ use Rattle.node_ends.specs.Ends.{frame_at, link_at, stands}
 use Rattle.driver_model.specs.Driver.{Driver, Flight, is_old, is_sent_by, old_at, without_old_flights}
 use Rattle.driver_model.specs.Ways.{other_end}
 use Rattle.link_flights.specs.Flights.{HasAtHand, IsEndIn, comes_to, flight_at}
-use Rattle.link_flights.proofs.Lists.{filter_like, filter_mapped, filter_swap, filter_within}
+use Rattle.link_flights.proofs.Lists.{filter_mapped, filter_swap, filter_within}
 use Rattle.link_flights.proofs.Naming.{end_own, other_number, sent_comes}
+use Rattle.std.proofs.lemmas.List.Elements.{filter_agree}
 
 -- the test of the driver is that of the end
 pub old_same : (v : EndView) (a : EndName) (f : Frame) → not (is_old (stands v) (frame_at a f)) ≡ is_taken v f
@@ -43,7 +44,7 @@ module _ (st : State) (r : ℕ) where
 
 -- what an end sent is what comes to the other one
 pub sent_filter : (r : ℕ) (a : EndName) (xs : List Flight) → filter (is_sent_by r a) xs ≡ filter (comes_to a.peer (other_end r a)) xs
-sent_filter r a xs = filter_like (is_sent_by r a) (comes_to a.peer (other_end r a)) (sent_comes r a) xs
+sent_filter r a xs = filter_agree (is_sent_by r a) (comes_to a.peer (other_end r a)) (sent_comes r a) xs
 
 pub sent_stay : (st : State) (r : ℕ) (xs : List Flight) (q : ℕ) (b : EndName) → b.peer ≢ r → filter (is_sent_by q b) (filter (stays st r) xs) ≡ filter (is_sent_by q b) xs
 sent_stay st r xs q b apart = sent_filter q b (filter (stays st r) xs) ∙ others_stay st r xs b.peer (other_end q b) apart ∙ sym (sent_filter q b xs)

@@ -118,15 +118,15 @@ both_are xs r a v w both = (both.own, both.other)
 abbrev pub Listed : Type 0
 Listed = (s : SetUp) (a : EndName) → IsEndOf s a → Member a (all_ends s)
 
+pub is_listed : Listed → (s : SetUp) (links : List EndView) (a : EndName) (v : EndView) → a.peer < length s.repos → a.peer ≢ s.number → link_at links a ≡ Some v → Member a (all_ends s)
+is_listed listed s links a v within apart is = listed s a (record { peer = within; other = apart; slot = slot_low links a v is })
+
 module _ (listed : Listed) (s : SetUp) (st : State) (d : Driver) (was now : ℕ → List EndView) (known : s.number < length s.repos) (ends : AreEndsIn d.flights (length s.repos) was) where
   abbrev r : ℕ
   r = s.number
 
   abbrev count : ℕ
   count = length s.repos
-
-  named : (links : List EndView) (a : EndName) (v : EndView) → a.peer < count → a.peer ≢ r → link_at links a ≡ Some v → Member a (all_ends s)
-  named links a v within apart is = listed s a (record { peer = within; other = apart; slot = slot_low links a v is })
 
   own_in : (a : EndName) (v : EndView) → a.peer < count → a.peer ≢ r → link_at (was r) a ≡ Some v → IsEndIn d.flights r a v
   own_in a v within apart is = ends r a v known within apart is
@@ -138,7 +138,7 @@ module _ (listed : Listed) (s : SetUp) (st : State) (d : Driver) (was now : ℕ 
 
   module _ (are : AreEnds (was r) s st) where
     stood : (a : EndName) (v : EndView) → a.peer < count → a.peer ≢ r → link_at (was r) a ≡ Some v → st.ends a ≡ stands v
-    stood a v within apart is = are.ends a (named (was r) a v within apart is) ∙ ap end_in is
+    stood a v within apart is = are.ends a (is_listed listed s (was r) a v within apart is) ∙ ap end_in is
 
     pub turned_in : (sender : EntryStamp) (word : EndName → Sending → Option Word) (said : EndName → List Sending) (e : Entry) (mine : List EndView)
         → Posted s st (without_old_flights st r d) sender word said (map after_drop (was r)) mine e → AreAllCarried count r mine was now
@@ -150,7 +150,7 @@ module _ (listed : Listed) (s : SetUp) (st : State) (d : Driver) (was now : ℕ 
             let m = mapped (link_after sender (word a) a e.taken (said a)) (link_at (map after_drop (was s.number)) a) x (sym (posted.links a) ∙ is) in
             let n = mapped after_drop (link_at (was s.number) a) m.v (sym (link_drop (was s.number) a) ∙ m.was) in
             let posts : PostsAt (without_old_flights st s.number d) st s.number a (after_drop n.v) e.taken e.sent (said a) =
-            subst (λ (y : EndView). PostsAt (without_old_flights st s.number d) st s.number a y e.taken e.sent (said a)) (sym n.it) (posted.posts a m.v (named (was s.number) a n.v within apart n.was) m.was) in
+            subst (λ (y : EndView). PostsAt (without_old_flights st s.number d) st s.number a y e.taken e.sent (said a)) (sym n.it) (posted.posts a m.v (is_listed listed s (was s.number) a n.v within apart n.was) m.was) in
             subst (λ (y : EndView). Both (In (adds st s.number e (without_old_flights st s.number d)).flights) s.number a y w)
             (ap (link_after sender (word a) a e.taken (said a)) n.it ∙ m.it)
             (both_are (adds st s.number e (without_old_flights st s.number d)).flights s.number a (link_after sender (word a) a e.taken (said a) (after_drop n.v)) w (both_turned d st s.number a n.v w e (said a) sender (word a) apart (stood a n.v within apart n.was) (own_in a n.v within apart n.was) (other_in a w within apart other) posts))
@@ -189,7 +189,7 @@ module _ (listed : Listed) (s : SetUp) (st : State) (d : Driver) (was now : ℕ 
           let m = mapped (link_after sender (word a) a e.taken (said a)) (link_at (was s.number) a) x (sym (posted.links a) ∙ is) in
           subst (λ (y : EndView). Both (In (adds st s.number e d).flights) s.number a y w) m.it
           (both_are (adds st s.number e d).flights s.number a (link_after sender (word a) a e.taken (said a) m.v) w (both_closed d st s.number a m.v w e (said a) sender (word a) apart (own_in a m.v within apart m.was) (other_in a w within apart other)
-          (posted.posts a m.v (named (was s.number) a m.v within apart m.was) m.was) (ap (taken_at a) none)
+          (posted.posts a m.v (is_listed listed s (was s.number) a m.v within apart m.was) m.was) (ap (taken_at a) none)
           (bodies (sent_at a e.sent) (Each-filter (λ f. is_opening f.body ≡ false) (sends_at a) e.sent closes))))
 
       beside : (q : ℕ) (b : EndName) (w : EndView) → q < length s.repos → b.peer < length s.repos → b.peer ≢ q → q ≢ s.number → b.peer ≢ s.number → link_at (was q) b ≡ Some w

@@ -1,24 +1,22 @@
 -- The words beside the frames at hand at the clients' ends of all repositories, after an entry of one of them.
 use Rattle.std.proofs.Common.{◌≡◌, ◌≢◌, ◌<◌, ◌⊎◌, inl, inr, ℕ, Bool, true, false, List, [], ◌∷◌, ◌++◌, Option, Some, None, refl, sym, ap, ◌∙◌, subst, arith, true≢false}
-use Rattle.std.specs.Prelude.{◌+◌, ◌*◌, ◌&&◌, filter, fold, if◌then◌else◌, length, map, nat_lt, replicate, slice_get}
+use Rattle.std.specs.Prelude.{◌+◌, ◌*◌, ◌&&◌, filter, fold, if◌then◌else◌, length, map, replicate}
 use Rattle.std.specs.List.{AllZip}
 use Rattle.std.proofs.lemmas.List.{append-nil}
 use Rattle.std.proofs.lemmas.Bool.{ne_eqb}
-use Rattle.annex_base.specs.Lists.{Each, Member}
-use Rattle.annex_base.proofs.Lists.{Each-filter, Each-map}
+use Rattle.annex_base.specs.Lists.{Each}
+use Rattle.annex_base.proofs.Lists.{Each-filter, Each-map, Each-passes}
 use Rattle.annex_base.specs.declared.kinds.EntryStamp.{EntryStamp}
 use Rattle.annex_base.specs.declared.kinds.Word.{Word}
 use Rattle.annex_base.proofs.Conditions.{if_turned}
 use Rattle.link_ring.specs.declared.frame.Frame.{Frame}
 use Rattle.link_ring.specs.Ends.{EndView, after_carry, after_drop, fresh, is_taken}
-use Rattle.link_ring.specs.Places.{end_place}
 use Rattle.run_data.specs.declared.entry.Entry.{Entry}
 use Rattle.run_data.specs.declared.entry.FrameView.{FrameView}
 use Rattle.run_model.specs.Frames.{flying_frame, frames_sent, is_on, on_way, taken_count, takes}
 use Rattle.run_model.specs.Past.{is_of}
 use Rattle.run_model.specs.States.{end_at, state_of}
 use Rattle.run_model.specs.Words.{word_of_kind}
-use Rattle.node_model.specs.AnyTime.{all_ends}
 use Rattle.node_model.specs.Ends.{EndName, end_after, end_sends, end_took, is_opening, sends_at, sent_at, taken_at}
 use Rattle.node_model.specs.Jobs.{taken_message}
 use Rattle.node_model.specs.Rows.{option_is}
@@ -33,10 +31,9 @@ use Rattle.link_flights.specs.Fleets.{AreAllCarried, AreEndsIn, Posted}
 use Rattle.race_core.specs.Jobs.{asks_word, is_asked}
 use Rattle.link_flights.specs.Words.{AreAllWorded, AreWorded, HaveWords, TellsWords, is_line, way_down}
 use Rattle.link_flights.proofs.Dropped.{link_drop}
-use Rattle.link_flights.proofs.Fleet.{Becomes, Both, Listed, all_in, mapped, slot_low}
+use Rattle.link_flights.proofs.Fleet.{Becomes, Both, Listed, all_in, is_listed, mapped}
 use Rattle.link_flights.proofs.Flown.{hand_still, hand_young, listed_frames, stands_off, way_off, without_taken}
-use Rattle.link_flights.proofs.Lists.{each_filtered}
-use Rattle.link_flights.proofs.Quiet.{fresh_at}
+use Rattle.link_flights.proofs.Quiet.{end_first}
 use Rattle.link_flights.proofs.WordsSent.{said_frames, said_match, way_said, words_came}
 use Rattle.link_flights.proofs.WordsTaken.{words_as, words_dropped, words_still, words_taken}
 
@@ -105,11 +102,8 @@ module _ (listed : Listed) (s : SetUp) (d : Driver) (was now : ℕ → List EndV
   abbrev count : ℕ
   count = length s.repos
 
-  named : (links : List EndView) (a : EndName) (v : EndView) → a.peer < count → a.peer ≢ r → link_at links a ≡ Some v → Member a (all_ends s)
-  named links a v within apart is = listed s a (record { peer = within; other = apart; slot = slot_low links a v is })
-
   stood : (a : EndName) (v : EndView) → a.peer < count → a.peer ≢ r → link_at (was r) a ≡ Some v → end_at d.past r a ≡ stands v
-  stood a v within apart is = are.ends a (named (was r) a v within apart is) ∙ ap end_in is
+  stood a v within apart is = are.ends a (is_listed listed s (was r) a v within apart is) ∙ ap end_in is
 
   own_way : (a : EndName) (v : EndView) → a.peer < count → a.peer ≢ r → link_at (was r) a ≡ Some v → v.on_way ≡ []
   own_way a v within apart is = (ends r a v known within apart is).on_way
@@ -148,10 +142,10 @@ module _ (listed : Listed) (s : SetUp) (d : Driver) (was now : ℕ → List EndV
             let n = mapped after_drop (link_at (was s.number) a) m.v (sym (link_drop (was s.number) a) ∙ m.was) in
             let posts : PostsAt (without_old_flights (state_of s d.past) s.number d) (state_of s d.past) s.number a (after_drop n.v) e.taken e.sent (said a) =
             subst (λ (y : EndView). PostsAt (without_old_flights (state_of s d.past) s.number d) (state_of s d.past) s.number a y e.taken e.sent (said a)) (sym n.it)
-            (posted.posts a m.v (named (was s.number) a n.v within apart n.was) m.was) in
+            (posted.posts a m.v (is_listed listed s (was s.number) a n.v within apart n.was) m.was) in
             subst (λ (y : EndView). Both (Worded (e ∷ d.past)) s.number a y w) (ap (link_after sender (word a) a e.taken (said a)) n.it ∙ m.it) (
               (λ client. words_here (without_old_flights (state_of s d.past) s.number d) s d.past s.number a (after_drop n.v) e (said a) sender (word a) posts mine apart w client
-                  (stood a n.v within apart n.was) (each_filtered (is_taken n.v) n.v.at_hand) (other_way a w within apart other)
+                  (stood a n.v within apart n.was) (Each-passes (is_taken n.v) n.v.at_hand) (other_way a w within apart other)
                   (words_dropped d.past s.number a n.v (stood a n.v within apart n.was) (own_words a n.v within apart n.was client))),
               (λ client. words_there (without_old_flights (state_of s d.past) s.number d) s d.past s.number a (after_drop n.v) e (said a) sender (word a) posts mine apart w (if_turned a.client client)
                   (λ y line asked. tells a y (if_turned a.client client) line asked) (own_way a n.v within apart n.was) (other_words a w within apart other client)),
@@ -168,7 +162,7 @@ module _ (listed : Listed) (s : SetUp) (d : Driver) (was now : ℕ → List EndV
         becomes : Becomes (Worded (e ∷ d.past)) (length s.repos) mine' was s.number
         becomes a x w within apart is other =
             let m = mapped (link_after sender (word a) a e.taken (said a)) (link_at (was s.number) a) x (sym (posted.links a) ∙ is) in
-            let posts = posted.posts a m.v (named (was s.number) a m.v within apart m.was) m.was in
+            let posts = posted.posts a m.v (is_listed listed s (was s.number) a m.v within apart m.was) m.was in
             subst (λ (y : EndView). Both (Worded (e ∷ d.past)) s.number a y w) m.it (
               (λ client. words_stay d s d.past s.number a m.v e (said a) sender (word a) posts mine apart w client (stood a m.v within apart m.was) none
                   (Each-map (λ b. is_opening b ≡ false) (λ (f : FrameView). f.body) (sent_at a e.sent) (Each-filter (λ f. is_opening f.body ≡ false) (sends_at a) e.sent closes))
@@ -197,11 +191,7 @@ module _ (listed : Listed) (s : SetUp) (d : Driver) (was now : ℕ → List EndV
 -- ---- at first, and what takes and sends nothing
 
 pub words_first : (number : ℕ) → AreAllWorded [] number (λ q. replicate (number * 8) fresh)
-words_first number q a v within peer apart client is n = inr (subst (λ (w : EndView). HaveWords [] (way_down q a n) w.at_hand) (sym (named (nat_lt a.slot 4) is)) (record { inside = omega arith; words = tt }))
-  where
-    named : (b : Bool) → (if b then slice_get (replicate (number * 8) fresh) (end_place a.peer a.slot a.client) else None) ≡ Some v → v ≡ fresh
-    named true at = fresh_at (number * 8) (end_place a.peer a.slot a.client) v at
-    named false at = absurd (cc)
+words_first number q a v within peer apart client is n = inr (subst (λ (w : EndView). HaveWords [] (way_down q a n) w.at_hand) (sym (end_first number a v is)) (record { inside = omega arith; words = tt }))
 
 pub words_quiet : (past : List Entry) (number : ℕ) (ends : ℕ → List EndView) (e : Entry) → e.taken ≡ None → e.sent ≡ [] → AreAllWorded past number ends → AreAllWorded (e ∷ past) number ends
 words_quiet past number ends e none nothing worded q a v within peer apart client is n = go (worded q a v within peer apart client is n)

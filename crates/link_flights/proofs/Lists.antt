@@ -9,13 +9,6 @@ use Rattle.driver_model.specs.Driver.{but_first}
 -- ---- two tests
 
 module _ {X : Type 0} where
-  pub filter_like : (p q : X → Bool) → ((x : X) → p x ≡ q x) → (xs : List X) → filter p xs ≡ filter q xs
-  filter_like p q same [] = refl
-  filter_like p q same (x ∷ xs) = elim (cases_Bool (q x)) [
-    | inl is ↦ let here : p x ≡ true = same x ∙ is in rw (here, is) (ap (λ (ys : List X). x ∷ ys) (filter_like p q same xs))
-    | inr other ↦ let here : p x ≡ false = same x ∙ other in rw (here, other) (filter_like p q same xs)
-  ]
-
   pub filter_swap : (p q : X → Bool) (xs : List X) → filter p (filter q xs) ≡ filter q (filter p xs)
   filter_swap p q [] = refl
   filter_swap p q (x ∷ xs) = elim (cases_Bool (p x)) [
@@ -33,10 +26,6 @@ module _ {X : Type 0} where
     | inl i ↦ let j : q x ≡ true = wider x i in rw (j, i) (ap (λ (ys : List X). x ∷ ys) (filter_within p q wider xs))
     | inr i ↦ elim (cases_Bool (q x)) [ inl j ↦ rw (j, i) (filter_within p q wider xs) | inr j ↦ rw (j, i) (filter_within p q wider xs) ]
   ]
-
-  pub each_filtered : (p : X → Bool) (xs : List X) → Each (λ x. p x ≡ true) (filter p xs)
-  each_filtered p [] = tt
-  each_filtered p (x ∷ xs) = elim (cases_Bool (p x)) [ inl i ↦ rw i (i, each_filtered p xs) | inr i ↦ rw i (each_filtered p xs) ]
 
 pub filter_mapped : {X Y : Type 0} (f : X → Y) (p : Y → Bool) (q : X → Bool) → ((x : X) → p (f x) ≡ q x) → (xs : List X) → filter p (map f xs) ≡ map f (filter q xs)
 filter_mapped f p q same [] = refl

@@ -19,21 +19,26 @@ use Rattle.driver_model.specs.Driver.{Driver, Flight, adds, at_first, but_taken,
 use Rattle.driver_model.specs.Turning.{asked_key, bytes_taken, is_failure, is_valid, makes, store_after, takes_frame, takes_into}
 use Rattle.link_flights.specs.Fleets.{AreEndsIn}
 use Rattle.link_flights.specs.Flights.{IsEndIn}
+use Rattle.node_ends.specs.Ends.{link_at}
 
 pub first_none : (r : ℕ) (a : EndName) → IsEndIn at_first.flights r a fresh
 first_none r a = record { at_hand = refl; on_way = refl; used = refl }
 
-pub fresh_at : (n i : ℕ) (v : EndView) → slice_get (replicate n fresh) i ≡ Some v → v ≡ fresh
+fresh_at : (n i : ℕ) (v : EndView) → slice_get (replicate n fresh) i ≡ Some v → v ≡ fresh
 fresh_at zero i v is = absurd (cc)
 fresh_at (suc n) zero v is = cc
 fresh_at (suc n) (suc i) v is = fresh_at n i v is
 
-pub all_first : (count : ℕ) → AreEndsIn at_first.flights count (λ q. replicate (count * 8) fresh)
-all_first count q a v within peer apart is = subst (λ (w : EndView). IsEndIn [] q a w) (sym (named (nat_lt a.slot 4) is)) (first_none q a)
+-- each end is fresh at first
+pub end_first : (count : ℕ) (a : EndName) (v : EndView) → link_at (replicate (count * 8) fresh) a ≡ Some v → v ≡ fresh
+end_first count a v is = go (nat_lt a.slot 4) is
   where
-    named : (b : Bool) → (if b then slice_get (replicate (count * 8) fresh) (end_place a.peer a.slot a.client) else None) ≡ Some v → v ≡ fresh
-    named true at = fresh_at (count * 8) (end_place a.peer a.slot a.client) v at
-    named false at = absurd (cc)
+    go : (b : Bool) → (if b then slice_get (replicate (count * 8) fresh) (end_place a.peer a.slot a.client) else None) ≡ Some v → v ≡ fresh
+    go true at = fresh_at (count * 8) (end_place a.peer a.slot a.client) v at
+    go false at = absurd (cc)
+
+pub all_first : (count : ℕ) → AreEndsIn at_first.flights count (λ q. replicate (count * 8) fresh)
+all_first count q a v within peer apart is = subst (λ (w : EndView). IsEndIn [] q a w) (sym (end_first count a v is)) (first_none q a)
 
 pub entry_quiet : (d : Driver) (st : State) (r : ℕ) (e : Entry) → e.taken ≡ None → e.sent ≡ [] → (adds st r e d).flights ≡ d.flights
 entry_quiet d st r e none nothing =

@@ -28,6 +28,7 @@ use Rattle.node_ends.specs.Ends.{frame_at, hand_at, link_at}
 use Rattle.driver_model.specs.Apart.{AreApart}
 use Rattle.link_flights.proofs.Naming.{end_own, takes_end}
 use Rattle.link_flights.proofs.Orderly.{Calm, InOrder, NoOpening, frames_alike, none_opens, one_end, same_end-refl, some_ends, took_alike}
+use Rattle.annex_base.proofs.Options.{none_and_some}
 
 -- by the laws of lower crates: what steps find, that the ends of a job are apart, and that a step opens closed ends of clients alone
 pub record SendLaws : Type 0 where
@@ -43,9 +44,6 @@ TakenAtHand = (s : SetUp) (st : State) (k : Look) (m : Made) (f : FrameView) →
 -- what it sends is sent in order
 abbrev pub IsOrderly : State → Made → Type 0
 IsOrderly st m = InOrder st.ends m.taken m.sent
-
-none_taken : {A : Type 0} (o : Option FrameView) (f : FrameView) → o ≡ None → o ≡ Some f → A
-none_taken o f n i = absurd (let no' : None ≡ Some f = sym n ∙ i in cc)
 
 -- at an open end no Opening is taken
 may_calm : (c : End) (f : FrameView) → c.opened ≡ true → may_take c f ≡ true → is_opening f.body ≡ false
@@ -108,7 +106,7 @@ module _ (laws : SendLaws) (s : SetUp) (st : State) (k : Look) (m : Made) (makes
     calm f is = go x.frame
       where
         go : (m.taken ≡ None) ⊎ JobTakes (turn_of s st k x.w) m → is_opening f.body ≡ false
-        go (inl none) = none_taken m.taken f none is
+        go (inl none) = absurd (none_and_some m.taken f none is)
         go (inr y) =
             let one : Some y.f ≡ Some f = sym y.taken_is ∙ is in
             let same : y.f ≡ f = cc in
@@ -255,4 +253,4 @@ all_named s st (b ∷ bs) = ap (λ (fs : List FrameView). fs ++ flat_map (λ b. 
 
 pub closes_in_order : (s : SetUp) (st : State) → AreApart (all_ends s) → InOrder st.ends None (closes_all s st)
 closes_in_order s st apart = subst (λ (fs : List FrameView). InOrder st.ends None fs) (all_named s st (all_ends s))
-    (some_ends st.ends (λ b. if (st.ends b).opened then Closing ∷ [] else []) None (λ f is. none_taken None f refl is) (all_ends s) apart (λ b. closes (st.ends b).opened))
+    (some_ends st.ends (λ b. if (st.ends b).opened then Closing ∷ [] else []) None (λ f is. absurd (none_and_some None f refl is)) (all_ends s) apart (λ b. closes (st.ends b).opened))

@@ -4,7 +4,7 @@ use Rattle.std.specs.Prelude.{◌==◌, drop, filter, fold, length, map}
 use Rattle.std.specs.List.{AllZip}
 use Rattle.std.proofs.lemmas.Bool.{cases_Bool, ne_eqb}
 use Rattle.std.proofs.lemmas.List.{append-nil}
-use Rattle.std.proofs.lemmas.List.Elements.{filter-append}
+use Rattle.std.proofs.lemmas.List.Elements.{filter-append, filter_agree}
 use Rattle.annex_base.proofs.Conditions.{and_regrouped, eqb_refl}
 use Rattle.annex_base.specs.declared.kinds.EntryStamp.{EntryStamp}
 use Rattle.annex_base.specs.declared.kinds.Word.{Word}
@@ -25,7 +25,6 @@ use Rattle.node_ends.specs.Sent.{body_of, link_sends, next_sent, opened_for, tex
 use Rattle.driver_model.specs.Ways.{IsOver, other_end}
 use Rattle.race_core.specs.Jobs.{is_asked}
 use Rattle.link_flights.specs.Words.{AreWorded, HasItsWord, HaveWords, is_line, of_epoch, way_down}
-use Rattle.link_flights.proofs.Lists.{filter_like}
 use Rattle.link_flights.proofs.Said.{stands_sent}
 
 -- ---- lists
@@ -132,7 +131,7 @@ module _ (past : List Entry) (r : ℕ) (a : EndName) (server : a.client ≡ fals
 
     sent_more : frames_sent (e ∷ past) w ≡ frames_sent past w ++ map (flying_frame e past) (filter (λ f. f.epoch == n) (sent_at a e.sent))
     sent_more = rw of_own (ap (λ (fs : List FrameView). frames_sent past w ++ map (flying_frame e past) fs)
-        (filter_like (is_on w a.peer) (λ f. sends_at a f && (f.epoch == n)) on_sends e.sent ∙ filter_both (sends_at a) (λ f. f.epoch == n) e.sent))
+        (filter_agree (is_on w a.peer) (λ f. sends_at a f && (f.epoch == n)) on_sends e.sent ∙ filter_both (sends_at a) (λ f. f.epoch == n) e.sent))
 
     taken_still : taken_count (e ∷ past) w ≡ taken_count past w
     taken_still = rw of_peer refl

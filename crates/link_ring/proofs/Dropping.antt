@@ -1,11 +1,11 @@
 -- An end after it dropped the frames that are passed over.
-use Rattle.std.proofs.Common.{inl, inr, ◌≡◌, ℕ, ◌+◌, ◌≤◌, Bool, List, [], ◌∷◌, length, refl, arith}
+use Rattle.std.proofs.Common.{inl, inr, ◌≡◌, Bool, List, [], ◌∷◌, refl, arith}
 use Rattle.std.specs.Prelude.{filter}
 use Rattle.std.specs.List.{find}
 use Rattle.std.proofs.lemmas.Bool.{cases_Bool}
+use Rattle.annex_base.proofs.Lists.{filter_shorter}
 use Rattle.link_ring.specs.declared.frame.Frame.{Frame}
 use Rattle.link_ring.specs.Ends.{EndView, ArePaired, after_drop, is_taken, next_frame}
-use Rattle.link_ring.proofs.Pairs.{filter_shorter}
 
 find_kept : (p : Frame → Bool) (fs : List Frame) → find p (filter p fs) ≡ find p fs
 find_kept p [] = refl

@@ -3,7 +3,7 @@ use Rattle.std.proofs.Common.{inl, inr, ◌≡◌, ℕ, ◌+◌, Bool, true, fal
 use Rattle.std.specs.Prelude.{filter}
 use Rattle.std.specs.List.{find, after_first}
 use Rattle.std.specs.Option.{option_to_list}
-use Rattle.std.proofs.lemmas.Bool.{cases_Bool}
+use Rattle.std.proofs.lemmas.Bool.{cases_Bool, eqb-true}
 use Rattle.std.proofs.lemmas.Bool.Decides.{nat_tests}
 use Rattle.std.proofs.lemmas.List.{append-nil}
 use Rattle.std.proofs.lemmas.List.Elements.{filter-append}
@@ -52,15 +52,11 @@ next_live a = (split a.epoch a.phase a.at_hand).live
 
 -- ---- epochs that are past
 
--- a frame of an epoch has that epoch's number
-same_epoch : (m n : ℕ) → eqb m n ≡ true → m ≡ n
-same_epoch m n is = grind (arith, nat_tests)
-
 -- where an epoch isn't past, none of its frames is old
 none_of : (epoch : ℕ) (phase : Phase) (e : ℕ) (fs : List Frame) → is_past epoch phase e ≡ false → Each (λ f. is_old epoch phase f ≡ true) fs → of_epoch e fs ≡ []
 none_of epoch phase e [] now old = refl
 none_of epoch phase e (f ∷ fs) now old = elim (cases_Bool (eqb f.epoch e)) [
-  | inl is ↦ absurd (true≢false (sym old.0 ∙ ap (is_past epoch phase) (same_epoch f.epoch e is) ∙ now))
+  | inl is ↦ absurd (true≢false (sym old.0 ∙ ap (is_past epoch phase) (eqb-true f.epoch e is) ∙ now))
   | inr other ↦ rw (other, none_of epoch phase e fs now old.1) refl
 ]
 
@@ -68,7 +64,7 @@ none_of epoch phase e (f ∷ fs) now old = elim (cases_Bool (eqb f.epoch e)) [
 not_of : (epoch : ℕ) (phase : Phase) (e : ℕ) (o : Option Frame) → is_past epoch phase e ≡ true → IfSome o (λ f. is_old epoch phase f ≡ false) → of_epoch e (option_to_list o) ≡ []
 not_of epoch phase e None past live = refl
 not_of epoch phase e (Some f) past live = elim (cases_Bool (eqb f.epoch e)) [
-  | inl is ↦ absurd (true≢false (sym past ∙ ap (is_past epoch phase) (sym (same_epoch f.epoch e is)) ∙ live))
+  | inl is ↦ absurd (true≢false (sym past ∙ ap (is_past epoch phase) (sym (eqb-true f.epoch e is)) ∙ live))
   | inr other ↦ rw other refl
 ]
 
@@ -223,14 +219,14 @@ kept_opens e w k =
       later_stay : (epoch e : ℕ) (fs : List Frame) → ltb epoch e ≡ true → of_epoch e (filter (λ f. ltb epoch f.epoch) fs) ≡ of_epoch e fs
       later_stay epoch e [] later = refl
       later_stay epoch e (f ∷ fs) later = elim (cases_Bool (eqb f.epoch e)) [
-        | inl is ↦ rw (ap (ltb epoch) (same_epoch f.epoch e is) ∙ later, is, later_stay epoch e fs later) refl
+        | inl is ↦ rw (ap (ltb epoch) (eqb-true f.epoch e is) ∙ later, is, later_stay epoch e fs later) refl
         | inr other ↦ elim (cases_Bool (ltb epoch f.epoch)) [ inl stays ↦ rw (stays, other, later_stay epoch e fs later) refl | inr goes ↦ rw (goes, other, later_stay epoch e fs later) refl ]
       ]
 
       earlier_go : (epoch e : ℕ) (fs : List Frame) → ltb epoch e ≡ false → of_epoch e (filter (λ f. ltb epoch f.epoch) fs) ≡ []
       earlier_go epoch e [] before = refl
       earlier_go epoch e (f ∷ fs) before = elim (cases_Bool (eqb f.epoch e)) [
-        | inl is ↦ rw (ap (ltb epoch) (same_epoch f.epoch e is) ∙ before, earlier_go epoch e fs before) refl
+        | inl is ↦ rw (ap (ltb epoch) (eqb-true f.epoch e is) ∙ before, earlier_go epoch e fs before) refl
         | inr other ↦ elim (cases_Bool (ltb epoch f.epoch)) [ inl stays ↦ rw (stays, other, earlier_go epoch e fs before) refl | inr goes ↦ rw (goes, earlier_go epoch e fs before) refl ]
       ]
 

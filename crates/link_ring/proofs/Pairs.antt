@@ -1,9 +1,9 @@
 -- Two ends of one connection stay so.
-use Rattle.std.proofs.Common.{inl, inr, ◌≡◌, ℕ, ◌+◌, ◌≤◌, Bool, ltb, List, [], ◌∷◌, length, Option, Some, None, refl, ap, arith, length-append}
-use Rattle.std.specs.Prelude.{filter}
+use Rattle.std.proofs.Common.{inl, inr, ◌≡◌, ℕ, ◌+◌, ◌≤◌, ltb, length, Option, Some, None, refl, ap, arith, length-append}
 use Rattle.std.specs.List.{after_first, position_or_len}
 use Rattle.std.proofs.lemmas.Bool.{cases_Bool}
 use Rattle.std.proofs.lemmas.List.{length-drop}
+use Rattle.annex_base.proofs.Lists.{filter_shorter}
 use Rattle.link_ring.specs.declared.frame.Frame.{Frame}
 use Rattle.link_ring.specs.declared.frame.Body.{Body}
 use Rattle.link_ring.specs.declared.frame.Body.TheVariants as bodies
@@ -26,11 +26,6 @@ used-after_call (Sends f) a = elim (cases_Bool (accepts a f)) [ inl is ↦ rw is
 used-after_call Takes a = omega (arith, used_with_taken (record a { at_hand = after_first (is_taken a) a.at_hand }) (next_frame a))
 used-after_call Opens a = omega arith
 used-after_call Closes a = omega arith
-
-pub filter_shorter : (p : Frame → Bool) (fs : List Frame) → length (filter p fs) ≤ length fs
-filter_shorter p [] = omega arith
-filter_shorter p (f ∷ fs) =
-    let more = filter_shorter p fs in elim (cases_Bool (p f)) [ inl is ↦ rw is (omega (arith, more)) | inr other ↦ rw other (omega (arith, more)) ]
 
 hand_shorter : (c : Call) (a : EndView) → length (after_call c a).at_hand ≤ length a.at_hand
 hand_shorter (Sends f) a = elim (cases_Bool (accepts a f)) [ inl is ↦ rw is (omega arith) | inr other ↦ rw other (omega arith) ]

@@ -1,15 +1,14 @@
 -- A line that is added: what it changes, and that an entry with the next stamp is the newest.
-use Rattle.std.proofs.Common.{inl, inr, ◌≡◌, ◌≢◌, ℕ, length-take, ◌^◌, ◌<◌, ◌≤◌, false, List, [], ◌∷◌, ◌++◌, length, take, Option, Some, None, refl, sym, ap, subst, ◌∙◌, lit<, arith}
+use Rattle.std.proofs.Common.{inl, inr, ◌≡◌, ◌≢◌, ℕ, ◌^◌, ◌<◌, ◌≤◌, false, List, [], ◌∷◌, ◌++◌, length, Option, Some, None, refl, sym, ap, subst, ◌∙◌, lit<, arith}
 use Rattle.std.specs.declared.cmp.Ordering.TheVariants.{Less, Greater}
 use Rattle.std.specs.Ordering.{ordering_reverse, is_lt}
 use Rattle.std.specs.Char.{is_ascii_digit}
 use Rattle.std.specs.List.{AllPass}
 use Rattle.std.specs.Str.Parse.{digits_value}
 use Rattle.std.proofs.Math.Nat.{pow-le-pow_right}
-use Rattle.std.proofs.lemmas.List.{get_or-take}
 use Rattle.std.proofs.lemmas.Option.{same_Some}
-use Rattle.annex_base.specs.StampText.{IsStamp, nanos_of}
-use Rattle.annex_base.proofs.StampLemmas.{digits_below, scaled_below}
+use Rattle.annex_base.specs.StampText.{IsStamp}
+use Rattle.annex_base.proofs.StampLemmas.{digits_below}
 use Rattle.annex_base.proofs.Conditions.{by_test}
 use Rattle.annex_base.proofs.Numbers.{nat_cmp_less}
 use Rattle.log_lines.specs.declared.entry.LogKind.{LogKind}
@@ -26,17 +25,9 @@ use Rattle.log_lines.proofs.OrderLemmas.{entry_total, same_topic_is}
 use Rattle.log_lines.proofs.NewerLemmas.{newer_later, newer_stays, newer_of_none, said_same, said_other}
 use Rattle.log_lines.proofs.NewestLemmas.{newest_of-cons, newest_of-push, newest_of_is}
 use Rattle.log_lines.proofs.CompactLemmas.{alike_turned}
+use Rattle.log_lines.proofs.StampLemmas.{nanos_below}
 
 -- ---- a stamp is below 10 ^ 19
-
-first_pass : (n : ℕ) (ds : List ℕ) → AllPass is_ascii_digit ds → AllPass is_ascii_digit (take n ds)
-first_pass n ds all k d within =
-    let short : k < n = omega (arith, within, length-take n ds) in
-    rw (get_or-take n ds k d short) (all k d (omega (arith, within, length-take n ds)))
-
-nanos_below : (ds : List ℕ) → AllPass is_ascii_digit ds → nanos_of ds < 10 ^ 9
-nanos_below ds all =
-    scaled_below (digits_value 10 (take 9 ds)) (length (take 9 ds)) 9 (omega (arith, length-take 9 ds)) (digits_below (take 9 ds) (first_pass 9 ds all))
 
 seconds_below : (ds : List ℕ) → AllPass is_ascii_digit ds → length ds ≤ 10 → digits_value 10 ds < 10 ^ 10
 seconds_below ds all short = omega (arith, digits_below ds all, pow-le-pow_right {n = 10} (lit< tt) {i = length ds} {j = 10} short)

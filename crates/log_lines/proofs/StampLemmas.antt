@@ -54,7 +54,7 @@ front_passes ds all k d within =
     let inside : k < length ds = omega (arith, length-take 9 ds, within) in
     rw (get_or-take 9 ds k d low) (all k d inside)
 
-nanos_below : (ds : List ℕ) → AllPass is_ascii_digit ds → nanos_of ds < 10 ^ 9
+pub nanos_below : (ds : List ℕ) → AllPass is_ascii_digit ds → nanos_of ds < 10 ^ 9
 nanos_below ds all =
     let front = take 9 ds in
     let short : length front ≤ 9 = omega (arith, length-take 9 ds) in

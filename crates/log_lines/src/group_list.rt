@@ -3,11 +3,11 @@
 ghost use Rattle.std.specs.Prelude.{◌≡◌, List, ℕ, [], ◌∷◌, ◌++◌, OnOk, OnErr};
 
 use annex_base::{NoMemory, Text};
-use std::alloc::{AllocError, Global};
+use std::alloc::Global;
 use std::marker::Model;
 
 /// The groups of a repository as a line of group.log has them: in its order, doubled names kept.
-#[derive(Debug, Drop)]
+#[derive(Clone, Debug, Drop)]
 pub struct GroupList {
     names: Vec<Text>,
 }
@@ -42,16 +42,6 @@ impl GroupList {
     {
         self.names.push(name)?;
         Ok(())
-    }
-}
-
-impl Clone for GroupList {
-    ghost is_clone = { λ x y. y ≡ x };
-
-    fn clone(&self) -> Result<GroupList, AllocError> {
-        Ok(GroupList {
-            names: self.names.clone()?,
-        })
     }
 }
 

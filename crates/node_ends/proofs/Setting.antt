@@ -1,5 +1,5 @@
 -- One of the ends is set.
-use Rattle.std.proofs.Common.{◌≡◌, ◌<◌, arith, inl, inr, ℕ, zero, suc, true, ◌&&◌, List, [], ◌∷◌, Option, Some, None, slice_set, refl, sym, ap, subst, ◌∙◌}
+use Rattle.std.proofs.Common.{◌≡◌, ◌<◌, arith, inl, inr, ℕ, zero, suc, true, List, [], ◌∷◌, Option, Some, None, slice_set, refl, sym, ap, subst, ◌∙◌}
 use Rattle.std.specs.Prelude.{nat_lt, slice_get, replicate}
 use Rattle.std.proofs.lemmas.Bool.{and_from, and_parts, cases_Bool}
 use Rattle.std.proofs.lemmas.Bool.Decides.{nat_tests}

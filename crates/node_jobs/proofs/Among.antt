@@ -1,6 +1,6 @@
 -- One job among those that run.
-use Rattle.std.proofs.Common.{◌≡◌, ◌≢◌, inl, inr, ℕ, ◌<◌, Bool, true, false, if◌then◌else◌, List, [], ◌∷◌, ◌++◌, filter, map, Option, Some, None, refl, sym, ap, subst, ◌∙◌}
-use Rattle.std.specs.Prelude.{find, not, ◌==◌}
+use Rattle.std.proofs.Common.{◌≡◌, ◌≢◌, inl, inr, ℕ, Bool, true, false, if◌then◌else◌, List, [], ◌∷◌, ◌++◌, filter, map, Option, Some, None, refl, sym, ap, subst, ◌∙◌}
+use Rattle.std.specs.Prelude.{find, length, not, slice_get, ◌==◌}
 use Rattle.std.specs.Option.{option_map}
 use Rattle.std.proofs.lemmas.Bool.{ne_eqb}
 use Rattle.annex_base.specs.Lists.{Each, Member}
@@ -17,6 +17,10 @@ find_mapped f p (x ∷ xs) = go (find_mapped f p xs) (p (f x))
     go : find p (map f xs) ≡ option_map f (find (λ y. p (f y)) xs) → (b : Bool) → (if b then Some (f x) else find p (map f xs)) ≡ option_map f (if b then Some x else find (λ y. p (f y)) xs)
     go ih true = refl
     go ih false = ih
+
+pub get_middle : {X : Type 0} (front : List X) (x : X) (back : List X) → slice_get (front ++ x ∷ back) (length front) ≡ Some x
+get_middle [] x back = refl
+get_middle (y ∷ front) x back = get_middle front x back
 
 -- ---- jobs with their own numbers and slots
 

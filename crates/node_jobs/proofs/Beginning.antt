@@ -1,5 +1,5 @@
 -- The works after a job has begun, and after an entry that is no job's.
-use Rattle.std.proofs.Common.{◌≡◌, inl, inr, ℕ, ◌+◌, ◌≤◌, Bool, true, false, if◌then◌else◌, List, [], ◌∷◌, map, Option, Some, None, refl, sym, ap, subst, ◌∙◌, arith}
+use Rattle.std.proofs.Common.{◌≡◌, ℕ, ◌+◌, ◌≤◌, Bool, true, false, if◌then◌else◌, List, [], ◌∷◌, map, Option, Some, None, refl, sym, ap, ◌∙◌, arith}
 use Rattle.std.specs.Prelude.{find, ◌==◌}
 use Rattle.std.specs.Option.{option_map}
 use Rattle.std.proofs.lemmas.Bool.Decides.{nat_tests}
@@ -13,7 +13,6 @@ use Rattle.run_data.specs.declared.entry.Entry.{Entry}
 use Rattle.run_data.specs.declared.entry.EntryKind.{EntryKind}
 use Rattle.run_data.specs.declared.entry.EntryKind.TheVariants as kinds
 use Rattle.run_data.specs.declared.job.Job.{Job}
-use Rattle.run_data.specs.declared.job.JobKind.{JobKind}
 use Rattle.run_data.specs.declared.job.JobKind.TheVariants as jobs_of
 use Rattle.node_model.specs.After.{has_read, read_after, state_after}
 use Rattle.node_model.specs.Evidence.{standing_by}
@@ -27,7 +26,7 @@ use Rattle.node_model.specs.State.{State}
 use Rattle.content_lock.specs.Rows.{Rows}
 use Rattle.drop_worker.specs.declared.phase.Phase.{Phase}
 use Rattle.drop_worker.specs.Working.{phase_as}
-use Rattle.node_jobs.specs.Acting.{new_worker, running_now, with_job}
+use Rattle.node_jobs.specs.Acting.{running_now, with_job}
 use Rattle.node_jobs.specs.Reads.{Known, need_in}
 use Rattle.node_jobs.specs.Running.{AreWorks, DropJob, Follows, HasRead, IsOwn, Jobs as JobsView, OwnAll, work_now}
 use Rattle.node_jobs.proofs.Among.{find_mapped, found_by_number}

@@ -9,7 +9,7 @@ use Rattle.annex_base.specs.Calls.{same_call}
 use Rattle.annex_base.specs.Lists.{Each}
 use Rattle.annex_base.specs.declared.kinds.Call.{Call}
 use Rattle.annex_base.specs.declared.kinds.Call.TheVariants as calls
-use Rattle.annex_base.proofs.Conditions.{if_either}
+use Rattle.annex_base.proofs.Conditions.{and_first, if_either}
 use Rattle.annex_base.proofs.Lists.{Each-from_members, Each-weaker, filter_none, find_member, list_all_member, Member-filter_from}
 use Rattle.drop_proof.specs.declared.rule.Side.{Side}
 use Rattle.drop_proof.specs.declared.rule.Side.TheVariants.{Local, Remote}
@@ -210,9 +210,6 @@ module _ (before : Turn) (local : side_of before.w ≡ Local) (Begins : Type 0) 
   goes_well peer room = if_either IsWell (end_with t peer).opened (asks t t.w.version None peer Drops) (sends_to t (talk t) None peer (Opening ∷ []))
       (λ live. copy_well t.w.version None peer (side_of t.w) local tt room) (λ shut. opens_well peer room)
 
-  and_head : (b c : Bool) → (b && c) ≡ true → b ≡ true
-  and_head b c is = (and_parts b c is).0
-
   removes_well : (b : Bool) → in_time (clock_of t) (first_end t) ≡ b → list_all (has_room t) (if b then [] else locked_peers t) ≡ true
       → IsWell (if b then attempts t (calls.Remove ∷ []) None (quietly (Gone (by_me t) (key_of t)) None) else ends t None (expiry (clock_of t) (first_end t)))
   removes_well true is room = attempts_well (calls.Remove ∷ []) (quietly (Gone (by_me t) (key_of t)) None) call_removes (quiet_well (Gone (by_me t) (key_of t)) None tt tt)
@@ -223,7 +220,7 @@ module _ (before : Turn) (local : side_of before.w ≡ Local) (Begins : Type 0) 
       expired (Some end) = ends_well (expiry (clock_of t) (Some end)) (λ b. with_room false room)
 
   judges_well : (enough : Bool) (next : Option ℕ) (side : Side) → side ≡ Local → list_all (has_room t) (judge_needs t enough next side) ≡ true → IsWell (judges t enough next side)
-  judges_well false (Some peer) side is room = goes_well peer (and_head (has_room t peer) true room)
+  judges_well false (Some peer) side is room = goes_well peer (and_first (has_room t peer) true room)
   judges_well false None side is room = ends_well (lacking_outcome t) (λ b. with_room false room)
   judges_well true next Local is room = removes_well (in_time (clock_of t) (first_end t)) refl room
   judges_well true next Remote is room = absurd cc

@@ -1,8 +1,8 @@
 -- The end of all jobs.
-use Rattle.std.proofs.Common.{◌≡◌, ◌≢◌, ℕ, ◌<◌, ◌≤◌, List, [], ◌∷◌, ◌++◌, refl, sym, ap, subst, ◌∙◌, arith}
+use Rattle.std.proofs.Common.{◌≢◌, ◌≤◌, List, [], ◌∷◌, ◌++◌, subst, arith}
 use Rattle.std.proofs.lemmas.List.{append-nil}
-use Rattle.annex_base.specs.Lists.{Each, Member}
-use Rattle.annex_base.proofs.Lists.{Each-both, Each-left, Each-from_members, Each-member, Each-right, Each-weaker}
+use Rattle.annex_base.specs.Lists.{Member}
+use Rattle.annex_base.proofs.Lists.{Each-both, Each-left, Each-member, Each-right, Each-weaker}
 use Rattle.content_lock.specs.Rows.{Rows}
 use Rattle.drop_worker.specs.declared.phase.Ending.{Ending}
 use Rattle.drop_worker.specs.declared.phase.Ending.TheVariants as endings

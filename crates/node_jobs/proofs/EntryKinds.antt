@@ -1,12 +1,11 @@
 -- What the entries of a job leave of the works.
-use Rattle.std.proofs.Common.{◌≡◌, ℕ, Bool, true, false, List, filter, map, Option, Some, refl, sym, ap, ◌∙◌}
+use Rattle.std.proofs.Common.{◌≡◌, ℕ, List, filter, map, Some, refl, ap}
 use Rattle.std.specs.Prelude.{not, ◌==◌}
 use Rattle.run_data.specs.declared.entry.Entry.{Entry}
 use Rattle.run_data.specs.declared.entry.EntryKind.{EntryKind}
 use Rattle.run_data.specs.declared.entry.EntryKind.TheVariants.{Bar, End, Fault, Gone, Order, Share, Talk}
 use Rattle.node_model.specs.Jobs.{RowsAndEnds, Work, work_after, works_after}
 use Rattle.node_model.specs.Slots.{begun_after, job_by, job_of}
-use Rattle.run_data.specs.declared.entry.By.{By}
 use Rattle.drop_worker.specs.Begun.{IsLast, IsOnward}
 
 pub onward_job : (n : ℕ) (kind : EntryKind) → IsOnward n kind → job_of kind ≡ Some n

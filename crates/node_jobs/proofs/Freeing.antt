@@ -8,21 +8,15 @@ use Rattle.annex_base.proofs.Lists.{Each-weaker}
 use Rattle.annex_base.proofs.Options.{some_none}
 use Rattle.drop_proof.specs.declared.rule.Side.{Side}
 use Rattle.drop_proof.specs.declared.rule.Side.TheVariants.{Local}
-use Rattle.run_data.specs.Repos.{id_of}
-use Rattle.run_data.specs.declared.entry.FrameView.{FrameView}
 use Rattle.link_ring.specs.Ends.{EndView}
-use Rattle.node_model.specs.Clocks.{ClockSet, runs_on}
-use Rattle.node_model.specs.Ends.{EndName}
-use Rattle.node_model.specs.Evidence as drops
+use Rattle.node_model.specs.Clocks.{ClockSet}
 use Rattle.node_model.specs.DropStep.{removal_outcome}
 use Rattle.node_model.specs.Jobs.{Work, drop_side, partner, side_of}
-use Rattle.node_model.specs.JobStep.{Turn, end_needs, turn_of}
-use Rattle.node_model.specs.Knows.{Reading, reading, standing_of}
+use Rattle.node_model.specs.JobStep.{end_needs, turn_of}
 use Rattle.node_model.specs.Look.{Look}
 use Rattle.node_model.specs.SetUp.{SetUp}
 use Rattle.node_model.specs.State.{State}
 use Rattle.node_model.specs.Turns.{by_partner, goes, has_room, needs, slot_step}
-use Rattle.node_model.specs.Wanted.{required}
 use Rattle.node_ends.specs.Ends.{end_at, room_at}
 use Rattle.object_store.specs.Stores.{Contents}
 use Rattle.content_lock.specs.Rows.{Rows}
@@ -33,12 +27,11 @@ use Rattle.drop_worker.specs.declared.phase.Token.{Token}
 use Rattle.drop_worker.specs.declared.turn.Taken.TheVariants as takens
 use Rattle.drop_worker.specs.Feeding.{FedAt, FindsAt, FitsLocal}
 use Rattle.drop_worker.specs.Leaving.{stands_on}
-use Rattle.drop_worker.specs.States.{IsSight, HaveState}
-use Rattle.drop_worker.specs.Worker.{Worker}
+use Rattle.drop_worker.specs.States.{HaveState}
 use Rattle.drop_worker.specs.Working.{end_in, phase_as, sight, words_of}
 use Rattle.node_jobs.specs.Feeds.{Answers, PeersOf, SeesJob, bare_feed}
-use Rattle.node_jobs.specs.Places.{IsPlace, PlaceView}
-use Rattle.node_jobs.specs.Reads.{Known, reading_of, standing_in}
+use Rattle.node_jobs.specs.Places.{PlaceView}
+use Rattle.node_jobs.specs.Reads.{Known}
 use Rattle.node_jobs.specs.Running.{DropJob, HasRead, place_reading, work_now}
 use Rattle.node_jobs.proofs.Hearing.{link_there}
 use Rattle.node_jobs.proofs.Knowing.{knows_read, sight_so}
@@ -77,11 +70,6 @@ module _ (p : PlaceView) (clock : ClockSet) (links : List EndView) (j : DropJob)
       → FindsAt (turn_of s st k (work_now j)) (stands_on j.worker) None × FedAt (sight (place_reading p) (end_at links) time 0) j.worker.slot (stands_on j.worker) None takens.Nothing
   free_by s st k room =
       subst (λ (q : Option ℕ). FindsAt (turn_of s st k (work_now j)) q None × FedAt (sight (place_reading p) (end_at links) time 0) j.worker.slot q None takens.Nothing) (sym at) (room, (refl, refl))
-
-  -- a job at its first step sends nothing more than a Close
-  pub fresh_answers : j.worker.phase ≡ phases.Fresh → Answers p clock links j time (Some (bare_feed takens.Nothing))
-  fresh_answers fresh = λ rows c s st k sees keeps.
-      free_by s st k (ap (λ (ph : Phase). list_all (has_room (turn_of s st k (work_now j))) (needs (turn_of s st k (work_now j)) (phase_as ph))) fresh)
 
   module _ (known : Known) (is : j.known ≡ Some known) (side : drop_side j.worker.job.kind j.worker.job.peer ≡ Local) (fits : FitsLocal j.worker.phase j.worker.token) (below : j.worker.slot < 4)
       (peers : List ℕ) (of : PeersOf p clock links j.worker known time peers) (others : Each (IsOther (place_reading p)) peers) (count : length links ≡ length p.ids * 8) where

@@ -1,6 +1,6 @@
 -- What a job is told of the end at which it awaits a frame.
-use Rattle.std.proofs.Common.{◌≡◌, ◌≢◌, ℕ, zero, suc, ◌+◌, ◌*◌, ◌<◌, ◌≤◌, Bool, true, false, if◌then◌else◌, List, [], ◌∷◌, ◌++◌, length, map, Option, Some, None, Result, Ok, Err, refl, sym, ap, subst, ◌∙◌, arith}
-use Rattle.std.specs.Prelude.{flat_map, not, is_some, option_and_then, slice_get, nat_lt, IfOk, IfSome, ◌==◌, ◌&&◌}
+use Rattle.std.proofs.Common.{◌≡◌, ℕ, zero, suc, ◌+◌, ◌*◌, ◌<◌, Bool, true, false, if◌then◌else◌, List, [], ◌∷◌, ◌++◌, length, Option, Some, None, Result, Ok, Err, refl, sym, ap, subst, ◌∙◌, arith}
+use Rattle.std.specs.Prelude.{not, is_some, option_and_then, slice_get, nat_lt, IfOk, IfSome, ◌==◌}
 use Rattle.std.specs.List.{range_with_len}
 use Rattle.std.specs.Option.{option_map}
 use Rattle.std.proofs.lemmas.Bool.Decides.{nat_tests}
@@ -21,15 +21,13 @@ use Rattle.node_model.specs.Knows.{Reading}
 use Rattle.node_model.specs.AnyTime.{all_ends, ends_with}
 use Rattle.node_model.specs.Clocks.{ClockSet}
 use Rattle.node_model.specs.Ends.{End, EndName, may_take, takes_at}
-use Rattle.node_model.specs.Jobs.{Work, job_end, partner}
+use Rattle.node_model.specs.Jobs.{partner}
 use Rattle.node_model.specs.JobStep.{Turn, end_with, turn_of}
-use Rattle.node_model.specs.Look.{Look, Made, waiting}
+use Rattle.node_model.specs.Look.{Look, waiting}
 use Rattle.node_model.specs.SetUp.{SetUp, others, slots}
 use Rattle.node_model.specs.State.{State}
 use Rattle.node_model.specs.Turns.{awaits, by_partner, goes_on, has_room, is_awaiting, slot_step, with_partner}
-use Rattle.node_ends.specs.Ends.{AreEnds, SeesEnds, end_at, frame_at, hand_at, if_may, link_at, room_at, wait_at}
-use Rattle.object_store.specs.Stores.{Contents}
-use Rattle.content_lock.specs.Rows.{Rows}
+use Rattle.node_ends.specs.Ends.{AreEnds, SeesEnds, end_at, frame_at, if_may, link_at, room_at, wait_at}
 use Rattle.drop_worker.specs.Begun.{HasBegun, IsOther}
 use Rattle.drop_worker.specs.declared.phase.Phase.{Phase}
 use Rattle.drop_worker.specs.declared.phase.Phase.TheVariants as phases
@@ -37,11 +35,10 @@ use Rattle.drop_worker.specs.declared.phase.Token.{Token}
 use Rattle.drop_worker.specs.declared.turn.Taken.TheVariants as takens
 use Rattle.drop_worker.specs.Feeding.{FedAt, FindsAt, FitsLocal}
 use Rattle.drop_worker.specs.Leaving.{stands_on}
-use Rattle.drop_worker.specs.States.{HaveState}
 use Rattle.drop_worker.specs.Working.{end_in, phase_as, sight, taken_of}
 use Rattle.node_jobs.specs.declared.feed.Feed.{Feed}
-use Rattle.node_jobs.specs.Acting.{WaitsFor, taken_by, word_at}
-use Rattle.node_jobs.specs.Feeds.{Answers, IsIdle, IsReady, SeesJob, IsFedAt, feed_at, feed_by, feed_of, bare_feed}
+use Rattle.node_jobs.specs.Acting.{WaitsFor, word_at}
+use Rattle.node_jobs.specs.Feeds.{Answers, SeesJob, IsFedAt, feed_at, feed_by, feed_of}
 use Rattle.node_jobs.specs.Places.{IsPlace, PlaceView}
 use Rattle.node_jobs.specs.Reads.{Known}
 use Rattle.node_jobs.specs.Running.{DropJob, HasReadByPhase, place_reading, work_now}

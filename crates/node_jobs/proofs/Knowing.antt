@@ -1,16 +1,12 @@
 -- What a job knows of the logs, and its step by that.
-use Rattle.std.proofs.Common.{◌≡◌, ℕ, zero, suc, ◌+◌, ◌<◌, Bool, true, List, [], ◌∷◌, ◌++◌, length, get_or, take, map, Option, Some, None, Result, Ok, Err, refl, sym, ap, subst, ◌∙◌}
-use Rattle.std.specs.Prelude.{slice_get, unwrap_or, IfOk}
-use Rattle.std.specs.Option.{ForSome}
+use Rattle.std.proofs.Common.{◌≡◌, ℕ, zero, suc, ◌+◌, ◌<◌, true, List, [], ◌∷◌, ◌++◌, length, get_or, take, map, Option, Some, None, Result, Ok, Err, refl, sym, ap, subst, ◌∙◌}
+use Rattle.std.specs.Prelude.{IfOk}
 use Rattle.std.proofs.lemmas.List.{map-append, map_more}
 use Rattle.annex_base.specs.Settings.{Settings}
-use Rattle.annex_base.specs.declared.kinds.Word.{Word}
 use Rattle.annex_base.specs.declared.memory.NoMemory.{NoMemory}
-use Rattle.drop_proof.specs.declared.rule.Need.{Need}
 use Rattle.drop_proof.specs.declared.rule.Side.{Side}
 use Rattle.drop_proof.specs.declared.rule.Side.TheVariants.{Local}
 use Rattle.run_data.specs.Repos.{id_of}
-use Rattle.run_data.specs.declared.job.Job.{Job}
 use Rattle.run_data.specs.declared.run.RepoView.{RepoView}
 use Rattle.run_data.specs.declared.entry.FrameView.{FrameView}
 use Rattle.link_ring.specs.Ends.{EndView}
@@ -28,7 +24,7 @@ use Rattle.node_model.specs.Wanted.{required}
 use Rattle.node_ends.specs.Ends.{end_at}
 use Rattle.object_store.specs.Stores.{Contents}
 use Rattle.content_lock.specs.Rows.{Rows}
-use Rattle.drop_worker.specs.Begun.{CanStand, HasBegun, HasGone}
+use Rattle.drop_worker.specs.Begun.{CanStand, HasBegun}
 use Rattle.drop_worker.specs.Standings as worker
 use Rattle.drop_worker.specs.declared.here.Standing.{Standing}
 use Rattle.drop_worker.specs.declared.phase.Phase.{Phase}
@@ -43,7 +39,7 @@ use Rattle.drop_worker.specs.States.{IsSight, Sees, StepsSo}
 use Rattle.drop_worker.specs.Worker.{Worker}
 use Rattle.drop_worker.specs.Working.{failed_in, phase_as, sight, words_of, work_of}
 use Rattle.node_jobs.specs.Calling.{Failing, JobMakes, WorkerMakes}
-use Rattle.node_jobs.specs.Doings.{Acts, ActsSo, Does, ReadsOn, SeesAct, Steps}
+use Rattle.node_jobs.specs.Doings.{Acts, Does, ReadsOn, SeesAct, Steps}
 use Rattle.node_jobs.specs.Places.{IsPlace, PlaceView}
 use Rattle.node_jobs.specs.Reads.{Known, need_in, reading_of, standing_at, standing_in, standings_by}
 use Rattle.node_jobs.specs.Running.{DropJob, HasRead, ReadSo, HasReadByPhase, place_reading, plain, work_now}

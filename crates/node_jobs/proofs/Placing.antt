@@ -1,18 +1,17 @@
 -- Where a job stands in the list.
-use Rattle.std.proofs.Common.{◌≡◌, ℕ, zero, suc, ◌+◌, ◌<◌, ◌≤◌, Bool, true, false, cond, List, [], ◌∷◌, ◌++◌, length, get_or, take, drop, map, Option, Some, None, refl, sym, ap, subst, ◌∙◌, arith, append_assoc, below_more}
+use Rattle.std.proofs.Common.{◌≡◌, ℕ, ◌+◌, ◌<◌, ◌≤◌, Bool, true, false, cond, List, ◌∷◌, ◌++◌, length, get_or, take, drop, Option, Some, None, refl, sym, ap, subst, ◌∙◌, arith, append_assoc, below_more}
 use Rattle.std.specs.Prelude.{find, nat_lt, position, slice_get, IfSome, ◌==◌}
 use Rattle.std.specs.List.{position_or_len}
-use Rattle.std.specs.Option.{ForSome, option_map}
+use Rattle.std.specs.Option.{option_map}
 use Rattle.std.proofs.lemmas.Bool.Decides.{nat_tests}
 use Rattle.std.proofs.lemmas.List.Folds.{find_at}
-use Rattle.std.proofs.lemmas.Option.{same_Some, slice_get-get_or, slice_get_past}
+use Rattle.std.proofs.lemmas.Option.{same_Some, slice_get_past, slice_get_read}
 use Rattle.std.proofs.Math.Seq.{drop-append_seam}
-use Rattle.annex_base.specs.Lists.{Each}
+use Rattle.std.proofs.lemmas.List.{length-take-le, take_at}
 use Rattle.annex_base.proofs.Lists.{Each-member, find_member}
 use Rattle.annex_base.proofs.Options.{some_none}
 use Rattle.link_ring.specs.Ends.{EndView}
 use Rattle.node_model.specs.Clocks.{ClockSet}
-use Rattle.node_model.specs.Jobs.{Work}
 use Rattle.node_model.specs.Turns.{slot_step}
 use Rattle.drop_worker.specs.Feeding.{ToldAt}
 use Rattle.drop_worker.specs.Leaving.{stands_on}
@@ -23,7 +22,7 @@ use Rattle.node_jobs.specs.Feeds.{Answers, IsFedAt, SeesJob}
 use Rattle.node_jobs.specs.Finding.{FindsAtSlot, FindsFirst, IsAtSlot, IsOfSlot, IsSlotIdle, has_slot}
 use Rattle.node_jobs.specs.Places.{PlaceView}
 use Rattle.node_jobs.specs.Running.{DropJob, work_now}
-use Rattle.node_jobs.proofs.Among.{find_mapped}
+use Rattle.node_jobs.proofs.Among.{find_mapped, get_middle}
 
 -- ---- the first that passes
 
@@ -44,17 +43,13 @@ place_some p xs i some = go (nat_lt (position_or_len p xs) (length xs)) refl som
         (subst (λ (n : ℕ). n < length xs) same within, find_at p xs ∙ ap (slice_get xs) same)
     go false is e = absurd (some_none i (sym e))
 
--- the element that was read there
-pub element_is : {X : Type 0} (xs : List X) (i : ℕ) (x : X) → i < length xs → x ≡ get_or xs i x → slice_get xs i ≡ Some x
-element_is xs i x within is = slice_get-get_or xs i x within ∙ ap (λ y. Some y) (sym is)
-
 module _ (p : PlaceView) (clock : ClockSet) (links : List EndView) (jobs : List DropJob) (time slot : ℕ) where
   pub none_idle : position (has_slot slot) jobs ≡ None → IsSlotIdle p clock links jobs time slot
   none_idle none = λ rows c s st k sees keeps. ap (slot_step s st k) (find_mapped work_now (λ w. w.slot == slot) jobs ∙ ap (option_map work_now) (place_none (has_slot slot) jobs none))
 
   module _ (index : ℕ) (at : position (has_slot slot) jobs ≡ Some index) (j : DropJob) (is : j ≡ get_or jobs index j) where
     element : slice_get jobs index ≡ Some j
-    element = element_is jobs index j (place_some (has_slot slot) jobs index at).0 is
+    element = slice_get_read jobs (length jobs) index j refl (place_some (has_slot slot) jobs index at).0 is
 
     found : find (has_slot slot) jobs ≡ Some j
     found = (place_some (has_slot slot) jobs index at).1 ∙ element
@@ -106,27 +101,14 @@ more_idle p clock links links' jobs time slot o same none finds idle =
 
 -- ---- a job that is taken out and put back
 
-pub take_len : {X : Type 0} (i : ℕ) (xs : List X) → i ≤ length xs → length (take i xs) ≡ i
-take_len zero xs h = refl
-take_len (suc i) [] h = absurd (omega (arith, h))
-take_len (suc i) (x ∷ xs) h = ap (λ (n : ℕ). suc n) (take_len i xs (omega (arith, h)))
-
-take_front : {X : Type 0} (a b : List X) → take (length a) (a ++ b) ≡ a
-take_front [] b = refl
-take_front (x ∷ a) b = ap (λ l. x ∷ l) (take_front a b)
-
 pub put_there : {X : Type 0} (xs ys zs k : List X) (i : ℕ) → i < length xs → ys ≡ take i xs ++ drop (i + 1) xs → zs ≡ take i ys ++ k ++ drop i ys → zs ≡ take i xs ++ (k ++ drop (i + 1) xs)
 put_there xs ys zs k i within out put =
-    let len : length (take i xs) ≡ i = take_len i xs (omega (arith, within)) in
-    let front : take i ys ≡ take i xs = ap (take i) out ∙ (ap (λ (n : ℕ). take n (take i xs ++ drop (i + 1) xs)) (sym len) ∙ take_front (take i xs) (drop (i + 1) xs)) in
+    let len : length (take i xs) ≡ i = length-take-le i xs (omega (arith, within)) in
+    let front : take i ys ≡ take i xs = ap (take i) out ∙ (ap (λ (n : ℕ). take n (take i xs ++ drop (i + 1) xs)) (sym len) ∙ take_at (take i xs) (drop (i + 1) xs) (length (take i xs)) refl) in
     let back : drop i ys ≡ drop (i + 1) xs = ap (drop i) out ∙ (ap (λ (n : ℕ). drop n (take i xs ++ drop (i + 1) xs)) (sym len) ∙ drop-append_seam (take i xs) (drop (i + 1) xs)) in
     put ∙ ((λ m. (front m ++ k) ++ back m) ∙ append_assoc (take i xs) k (drop (i + 1) xs))
 
-get_front : {X : Type 0} (a : List X) (x : X) (b : List X) → slice_get (a ++ x ∷ b) (length a) ≡ Some x
-get_front [] x b = refl
-get_front (y ∷ a) x b = get_front a x b
-
 pub taken_there : {X : Type 0} (xs : List X) (i : ℕ) (x : X) → i < length xs → xs ≡ take i xs ++ x ∷ drop (i + 1) xs → slice_get xs i ≡ Some x
 taken_there xs i x within was =
-    let len : length (take i xs) ≡ i = take_len i xs (omega (arith, within)) in
-    ap (λ l. slice_get l i) was ∙ (ap (slice_get (take i xs ++ x ∷ drop (i + 1) xs)) (sym len) ∙ get_front (take i xs) x (drop (i + 1) xs))
+    let len : length (take i xs) ≡ i = length-take-le i xs (omega (arith, within)) in
+    ap (λ l. slice_get l i) was ∙ (ap (slice_get (take i xs ++ x ∷ drop (i + 1) xs)) (sym len) ∙ get_middle (take i xs) x (drop (i + 1) xs))

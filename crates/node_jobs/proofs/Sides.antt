@@ -12,7 +12,7 @@ use Rattle.drop_worker.specs.declared.phase.Phase.TheVariants as phases
 use Rattle.drop_worker.specs.declared.turn.Input.{Input}
 use Rattle.drop_worker.specs.declared.turn.Output.{Output}
 use Rattle.drop_worker.specs.Doing.{Grows, contents_after}
-use Rattle.drop_worker.specs.Feeding.{FitsLocal, KeepsWord}
+use Rattle.drop_worker.specs.Feeding.{KeepsWord}
 use Rattle.drop_worker.specs.Sides.{FitsSide, side_in}
 use Rattle.drop_worker.specs.Worker.{Worker}
 use Rattle.node_jobs.specs.Doings.{Steps}

@@ -1,26 +1,24 @@
 -- The step of the first job that has one, and the works that follow.
-use Rattle.std.proofs.Common.{◌≡◌, ◌≢◌, inl, inr, ℕ, zero, suc, ◌+◌, ◌<◌, ◌≤◌, Bool, true, false, if◌then◌else◌, List, [], ◌∷◌, ◌++◌, length, filter, map, Option, Some, None, refl, sym, ap, subst, ◌∙◌, arith}
-use Rattle.std.specs.Prelude.{find, is_some, nat_lt, slice_get, ◌==◌, not}
+use Rattle.std.proofs.Common.{◌≡◌, inl, inr, ℕ, zero, suc, ◌+◌, ◌<◌, Bool, true, false, if◌then◌else◌, List, [], ◌∷◌, ◌++◌, length, filter, map, Option, Some, None, refl, sym, ap, subst, ◌∙◌, arith}
+use Rattle.std.specs.Prelude.{find, is_some, nat_lt, slice_get, ◌==◌}
 use Rattle.std.proofs.lemmas.Option.{slice_get_cases}
 use Rattle.std.specs.Option.{ForSome, option_map, option_map_or}
 use Rattle.std.proofs.lemmas.Bool.{ne_eqb}
 use Rattle.annex_base.specs.Lists.{Each, Member}
 use Rattle.annex_base.specs.Settings.{Settings}
 use Rattle.annex_base.specs.declared.kinds.Call.{Call}
-use Rattle.annex_base.specs.declared.kinds.Word.{Word}
 use Rattle.annex_base.proofs.Conditions.{eqb_refl}
-use Rattle.annex_base.proofs.Lists.{Each-append, Each-left, Each-member, Each-right, Each-weaker, Each-from_members, Member-append_left, Member-append_right, find_member}
+use Rattle.annex_base.proofs.Lists.{Each-append, Each-member, Each-weaker, Each-from_members, Member-append_left, Member-append_right, find_member}
 use Rattle.run_data.specs.declared.entry.Entry.{Entry}
-use Rattle.run_data.specs.declared.entry.EntryKind.{EntryKind}
 use Rattle.run_data.specs.declared.entry.FrameView.{FrameView}
 use Rattle.link_ring.specs.Ends.{EndView}
 use Rattle.node_model.specs.After.{has_read, read_after}
 use Rattle.node_model.specs.Clocks.{ClockSet}
 use Rattle.node_model.specs.Jobs as Jobs
-use Rattle.node_model.specs.Jobs.{Work, work_after, work_kind, works_after}
+use Rattle.node_model.specs.Jobs.{Work, work_after, work_kind}
 use Rattle.node_model.specs.Knows.{standing_of}
 use Rattle.node_model.specs.Evidence.{standing_by}
-use Rattle.node_model.specs.Look.{Look, Made, entry_of, first_of, first_some}
+use Rattle.node_model.specs.Look.{Look, Made, entry_of, first_some}
 use Rattle.node_model.specs.Rows.{option_is}
 use Rattle.node_model.specs.SetUp.{SetUp, slots}
 use Rattle.node_model.specs.Slots.{job_of}
@@ -35,7 +33,6 @@ use Rattle.content_lock.specs.Rows.{Rows}
 use Rattle.run_data.specs.Repos.{id_of}
 use Rattle.drop_worker.specs.Begun.{HasGone, IsLast, IsOnward}
 use Rattle.drop_worker.specs.declared.phase.Phase.{Phase}
-use Rattle.drop_worker.specs.declared.phase.Phase.TheVariants as phases
 use Rattle.drop_worker.specs.declared.turn.Taken.{Taken}
 use Rattle.drop_worker.specs.Feeding.{FedAt, FindsAt}
 use Rattle.drop_worker.specs.Leaving.{stands_on}
@@ -48,13 +45,13 @@ use Rattle.node_jobs.specs.Acting.{IsKindOf, SeesActed, SeesJobs, StepsJobs, Wai
 use Rattle.node_jobs.specs.Calling.{Failing, JobMakes}
 use Rattle.node_jobs.specs.Calls.{first_slot, job_calls, work_in}
 use Rattle.node_jobs.specs.Changes.{Changes, input_of, job_after, output_of}
-use Rattle.node_jobs.specs.Doings.{ActsSo, ReadsOn, SeesAct}
+use Rattle.node_jobs.specs.Doings.{ActsSo, SeesAct}
 use Rattle.node_jobs.specs.Feeds.{SeesJob}
 use Rattle.node_jobs.specs.Finding.{Finds, FindsFirst, IsFirst, IsSlotIdle, has_slot}
 use Rattle.node_jobs.specs.Places.{PlaceView}
 use Rattle.node_jobs.specs.Reads.{Known, need_in}
-use Rattle.node_jobs.specs.Running.{AllApart, AreApart, AreWorks, DropJob, Follows, HasRead, IsDrop, Jobs as JobsView, OwnAll, ReadSo, place_reading, work_now, words_at}
-use Rattle.node_jobs.proofs.Among.{apart_before, apart_behind, find_mapped, found_by_number, is_left, works_off, works_on}
+use Rattle.node_jobs.specs.Running.{AllApart, AreApart, AreWorks, DropJob, Follows, HasRead, IsDrop, Jobs as JobsView, OwnAll, place_reading, work_now}
+use Rattle.node_jobs.proofs.Among.{apart_before, apart_behind, find_mapped, found_by_number, get_middle, is_left, works_off, works_on}
 use Rattle.node_jobs.proofs.EntryKinds.{last_begun, last_works, onward_begun, onward_job, onward_works}
 use Rattle.node_jobs.proofs.Hearing.{awaiting}
 use Rattle.node_jobs.proofs.Knowing.{can_stand}
@@ -80,10 +77,6 @@ first_found p (suc (suc (suc (suc n)))) below before at = absurd (omega (arith, 
 
 pub none_found : (p : ℕ → Bool) → ((i : ℕ) → i < 4 → p i ≡ false) → find p slots ≡ None
 none_found p none = rw (none 0 (omega arith), none 1 (omega arith), none 2 (omega arith), none 3 (omega arith)) refl
-
-pub get_middle : {X : Type 0} (front : List X) (x : X) (back : List X) → slice_get (front ++ x ∷ back) (length front) ≡ Some x
-get_middle [] x back = refl
-get_middle (y ∷ front) x back = get_middle front x back
 
 pub middle_member : {X : Type 0} (front : List X) (x : X) (back : List X) → Member x (front ++ x ∷ back)
 middle_member front x back = Member-append_right front (x ∷ back) x (inl refl)

@@ -1,5 +1,5 @@
 -- The step of the first job that has one (own).
-use Rattle.std.specs.Prelude.{◌≡◌, ◌≢◌, ℕ, ◌+◌, ◌*◌, ◌∷◌, true, is_some, List, [], length, map, Option, Some, None, option_and_then, false}
+use Rattle.std.specs.Prelude.{◌≡◌, ℕ, ◌+◌, ◌*◌, ◌∷◌, true, is_some, List, [], length, map, Option, Some, None, option_and_then, false}
 use Rattle.std.specs.Option.{option_map}
 use Rattle.annex_base.specs.Settings.{Settings}
 use Rattle.annex_base.specs.declared.kinds.Word.{Word}

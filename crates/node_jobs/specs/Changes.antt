@@ -1,5 +1,5 @@
 -- What the step of one job makes of the list; for private contracts (own).
-use Rattle.std.specs.Prelude.{◌≡◌, ℕ, Bool, true, false, List, [], ◌∷◌, ◌++◌, length, Option, Some, None}
+use Rattle.std.specs.Prelude.{◌≡◌, ℕ, Bool, true, false, List, [], ◌∷◌, ◌++◌, length, Option}
 use Rattle.annex_base.specs.Settings.{Settings}
 use Rattle.link_ring.specs.Ends.{EndView}
 use Rattle.object_store.specs.Stores.{Contents}

@@ -1,8 +1,7 @@
 -- What the step of a job does and leaves; for private contracts (own).
-use Rattle.std.specs.Prelude.{◌≡◌, ℕ, ◌*◌, ◌+◌, true, false, List, [], length, Option, Some, None}
+use Rattle.std.specs.Prelude.{◌≡◌, ℕ, ◌+◌, false, List, [], Option, Some}
 use Rattle.std.specs.Option.{ForSome}
 use Rattle.annex_base.specs.Settings.{Settings}
-use Rattle.annex_base.specs.declared.kinds.Call.{Call}
 use Rattle.run_data.specs.declared.entry.FrameView.{FrameView}
 use Rattle.link_ring.specs.Ends.{EndView}
 use Rattle.node_ends.specs.Ends.{end_at}
@@ -25,11 +24,11 @@ use Rattle.drop_worker.specs.Feeding.{FedAt, FindsAt, FitsLocal, KeepsWord}
 use Rattle.drop_worker.specs.Leaving.{stands_on}
 use Rattle.drop_worker.specs.States.{HaveState, Sees, StepsSo}
 use Rattle.drop_worker.specs.Worker.{Worker}
-use Rattle.drop_worker.specs.Working.{failed_in, frames_of, made_of, sight, words_of}
+use Rattle.drop_worker.specs.Working.{failed_in, frames_of, sight, words_of}
 use Rattle.node_jobs.specs.Feeds.{SeesJob}
 use Rattle.node_jobs.specs.Places.{PlaceView}
 use Rattle.node_jobs.specs.Reads.{Known, reading_of}
-use Rattle.node_jobs.specs.Running.{DropJob, Follows, HasRead, place_reading, work_now}
+use Rattle.node_jobs.specs.Running.{DropJob, HasRead, place_reading, work_now}
 
 -- the step of a worker that knows this, as the worker's own contract says it
 abbrev pub Does : PlaceView → ClockSet → List EndView → Known → Input → Option Contents → Rows → Worker → Worker → Output → Type 0

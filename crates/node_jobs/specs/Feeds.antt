@@ -1,10 +1,9 @@
 -- What a job is told, and whether it has a step; for private contracts (own).
-use Rattle.std.specs.Prelude.{◌≡◌, ℕ, ◌*◌, Bool, true, false, List, [], length, Option, Some, None, option_and_then}
-use Rattle.annex_base.specs.Settings.{Settings}
+use Rattle.std.specs.Prelude.{◌≡◌, ℕ, ◌*◌, Bool, true, false, List, length, Option, Some, None}
 use Rattle.annex_base.specs.declared.kinds.Word.{Word}
 use Rattle.run_data.specs.declared.entry.FrameView.{FrameView}
 use Rattle.link_ring.specs.Ends.{EndView}
-use Rattle.node_ends.specs.Ends.{AreEnds, SeesEnds, end_at, link_at, room_at, wait_at}
+use Rattle.node_ends.specs.Ends.{SeesEnds, end_at, room_at, wait_at}
 use Rattle.object_store.specs.Stores.{Contents}
 use Rattle.node_model.specs.Clocks.{ClockSet, runs_on}
 use Rattle.node_model.specs.Ends.{EndName}

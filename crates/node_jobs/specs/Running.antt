@@ -1,8 +1,7 @@
 -- The running jobs of a repository, and the works of a state that they are (own).
-use Rattle.std.specs.Prelude.{◌≡◌, ◌≢◌, ℕ, ◌≤◌, ◌<◌, ◌==◌, Bool, true, false, List, [], ◌∷◌, find, length, map, Option, Some, None}
+use Rattle.std.specs.Prelude.{◌≡◌, ◌≢◌, ℕ, ◌≤◌, ◌<◌, ◌==◌, true, false, List, [], ◌∷◌, find, length, map, Option, Some, None}
 use Rattle.std.specs.Option.{option_map_or}
 use Rattle.annex_base.specs.Lists.{Each}
-use Rattle.annex_base.specs.Settings.{Settings}
 use Rattle.annex_base.specs.declared.kinds.Word.{Word}
 use Rattle.drop_proof.specs.declared.rule.Side.TheVariants.{Local}
 use Rattle.run_data.specs.declared.entry.Entry.{Entry}

@@ -1,6 +1,6 @@
 -- What a job does is the step of the parts.
 use Rattle.std.proofs.Common.{◌≡◌, ◌⊎◌, inl, inr, ℕ, ◌<◌, ◌+◌, ◌*◌, Bool, true, false, List, [], ◌∷◌, Option, Some, None, is_some, length, refl, sym, ap, subst, ◌∙◌, arith}
-use Rattle.std.specs.Prelude.{All, IfOk, Result, Ok, Err, bytes_eq, find, fold, not, ◌&&◌, ◌==◌, if◌then◌else◌}
+use Rattle.std.specs.Prelude.{All, bytes_eq, find, fold, not, ◌&&◌, ◌==◌, if◌then◌else◌}
 use Rattle.std.specs.List.{list_any}
 use Rattle.std.specs.Option.{ForSome, option_map, option_map_or}
 use Rattle.std.proofs.lemmas.Bool.{cases_Bool, true≢false}
@@ -462,7 +462,3 @@ module _ (p : PartsView) (c : Contents) (clock : ClockSet) (time number : ℕ) (
         counts = sees.number;
         at = sym sees.time;
       }) (record { present = sees.stored.present; bar = sees.parts.bars; holds = sees.parts.holds })
-
-pub if_ok : {E : Type 0} (P Q : Bool → Type 0) → ((b : Bool) → P b → Q b) → (r : Result Bool E) → IfOk r P → IfOk r Q
-if_ok P Q f (Ok b) is = f b is
-if_ok P Q f (Err e) is = is

@@ -7,7 +7,7 @@ use Rattle.std.proofs.lemmas.List.Elements.{filter-append}
 use Rattle.std.proofs.lemmas.Option.{slice_get_within}
 use Rattle.annex_base.specs.declared.kinds.EntryStamp.{EntryStamp}
 use Rattle.annex_base.proofs.Conditions.{eqb_refl}
-use Rattle.annex_base.proofs.Lists.{cons_first, cons_nil}
+use Rattle.annex_base.proofs.Lists.{append_nil_left, cons_first, cons_nil}
 use Rattle.run_data.specs.declared.entry.FrameText.{FrameText}
 use Rattle.run_data.specs.declared.entry.FrameText.TheVariants as texts
 use Rattle.run_data.specs.declared.entry.FrameView.{FrameView}
@@ -54,10 +54,6 @@ not_sent a f none = go (sends_at a f) none
     go true is = absurd (cons_nil f [] is)
     go false is = refl
 
-none_left : (xs ys : List FrameView) → xs ++ ys ≡ [] → xs ≡ []
-none_left [] ys is = refl
-none_left (x ∷ xs) ys is = absurd (cons_nil x (xs ++ ys) is)
-
 none_right : (xs ys : List FrameView) → xs ++ ys ≡ [] → ys ≡ []
 none_right [] ys is = is
 none_right (x ∷ xs) ys is = absurd (cons_nil x (xs ++ ys) is)
@@ -72,7 +68,7 @@ module _ (was now : List EndView) (taken : Option FrameView) (sent : List FrameV
         let split : sent_at b sent ++ sent_at b (f ∷ []) ≡ [] = sym (filter-append (sends_at b) sent (f ∷ [])) ∙ none in
         let other : sends_at b f ≡ false = not_sent b f (none_right (sent_at b sent) (sent_at b (f ∷ [])) split) in
         let apart : b ≢ a = λ same. true≢false (sym (ap (λ (x : EndName). sends_at x f) (same ∙ sym (frame_end a (end_at now a) (text_of_sending said) f is.view)) ∙ sends_its f) ∙ other) in
-        ap (passes has_room) (is.others b apart) ∙ posted.room quiet b room (none_left (sent_at b sent) (sent_at b (f ∷ [])) split);
+        ap (passes has_room) (is.others b apart) ∙ posted.room quiet b room (append_nil_left (sent_at b sent) (sent_at b (f ∷ [])) split);
   }
 
   -- how the end of a frame stands

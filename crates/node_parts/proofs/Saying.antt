@@ -1,8 +1,8 @@
 -- The frames of a session's step, one behind the other.
-use Rattle.std.proofs.Common.{◌≡◌, ℕ, true, List, [], ◌∷◌, ◌++◌, length, refl, ◌∙◌}
+use Rattle.std.proofs.Common.{◌≡◌, ℕ, true, List, length, refl}
 use Rattle.run_data.specs.declared.entry.FrameText.TheVariants as texts
 use Rattle.link_ring.specs.Ends.{EndView}
-use Rattle.node_model.specs.Ends.{End, EndName, end_sends, frames}
+use Rattle.node_model.specs.Ends.{End, EndName, end_sends}
 use Rattle.node_ends.specs.declared.sending.Sending.{Sending}
 use Rattle.node_ends.specs.declared.sending.Sending.TheVariants as sendings
 use Rattle.node_ends.specs.Sent.{IsListed, may_send, text_of_sending}

@@ -123,9 +123,6 @@ module _ (was now : PartsView) (v : Served) (d : Done) (contents : Option Conten
   step_is : session_step s st k ≡ Some (made_of d)
   step_is = steps.made ∙ ap (λ (m : Made). Some m) (sym same)
 
-  then_is : State
-  then_is = state_after s st (entry_of s.number k (made_of d))
-
   pub parts_served : EndsGo → ClosedLaw → JobsStay → OwnEntries → AreParts s (state_after s st (entry_of s.number k (made_of d))) now
   parts_served go shuts stay own =
       let is_own : IsOfSession d.kind = (own s st k (made_of d) step_is).0 in

@@ -1,10 +1,11 @@
 -- What one session serves is the step of its end.
 use Rattle.std.proofs.Common.{◌≡◌, ℕ, ◌<◌, Bool, true, false, List, [], ◌∷◌, ◌++◌, Option, Some, None, All, refl, sym, ap, subst, ◌∙◌, arith, true≢false, map}
-use Rattle.std.specs.Prelude.{◌&&◌, ◌==◌, if◌then◌else◌, bytes_eq, length}
+use Rattle.std.specs.Prelude.{◌==◌, if◌then◌else◌, bytes_eq, length}
 use Rattle.std.specs.Option.{option_map}
 use Rattle.std.proofs.lemmas.List.Elements.{All-weaker}
 use Rattle.annex_base.specs.declared.kinds.Call.{Call}
 use Rattle.annex_base.specs.declared.kinds.Call.TheVariants as calls
+use Rattle.annex_base.proofs.Conditions.{and_first}
 use Rattle.run_data.specs.declared.entry.By.{By}
 use Rattle.run_data.specs.declared.entry.EntryKind.{EntryKind}
 use Rattle.run_data.specs.declared.entry.EntryKind.TheVariants as kinds
@@ -20,7 +21,7 @@ use Rattle.node_model.specs.Ends.{End, EndName, end_takes, end_took, frames, may
 use Rattle.node_model.specs.Look.{Made}
 use Rattle.node_model.specs.Rows.{bar_after, content_after, holds_after, keep_of, present_after}
 use Rattle.node_model.specs.Sessions as sessions
-use Rattle.node_model.specs.Sessions.{gave_bytes, message_said, new_session, sends_close, session_after}
+use Rattle.node_model.specs.Sessions.{gave_bytes, message_said, sends_close, session_after}
 use Rattle.node_model.specs.SessionStep.{Here, Reply, gives_made, gives_next, on_frame, reply_made, session_makes}
 use Rattle.node_ends.specs.Ends.{end_at, wait_at}
 use Rattle.p2p_wire.specs.declared.message.Message.{Message}
@@ -83,15 +84,11 @@ taken_none links v takes = ap (λ (b : Bool). if b then wait_at links (end_by v)
 pub still_open : (c : End) (f : FrameView) → may_take c f ≡ true → (f.body ≡ Closing → ⊥) → (end_takes c f.epoch f.body).opened ≡ true
 still_open c f may other = go f.body refl may other
   where
-    opened : (b : Bool) (x : Bool) → (b && x) ≡ true → b ≡ true
-    opened true x e = refl
-    opened false x e = absurd (true≢false (sym e))
-
     go : (body : FrameText) → f.body ≡ body → may_take c (record f { body = body }) ≡ true → (body ≡ Closing → ⊥) → (end_takes c f.epoch body).opened ≡ true
     go Opening is m o = refl
     go Closing is m o = absurd (o refl)
-    go (Line text) is m o = opened c.opened (f.epoch == c.epoch) m
-    go (Bytes n) is m o = opened c.opened (f.epoch == c.epoch) m
+    go (Line text) is m o = and_first c.opened (f.epoch == c.epoch) m
+    go (Bytes n) is m o = and_first c.opened (f.epoch == c.epoch) m
 
 -- ---- what is said
 

@@ -4,6 +4,7 @@ use Rattle.std.specs.Prelude.{slice_get, ◌||◌, ◌&&◌, if◌then◌else◌
 use Rattle.std.specs.List.{list_any}
 use Rattle.std.proofs.lemmas.Option.{slice_get_within}
 use Rattle.std.proofs.lemmas.Bool.{false_from_ne_true}
+use Rattle.std.proofs.lemmas.Map.Keys.{any_passes_from_place}
 use Rattle.annex_base.specs.Lists.{Member}
 use Rattle.annex_base.proofs.Lists.{slice_get-left}
 use Rattle.run_data.specs.declared.entry.By.{By}
@@ -29,7 +30,7 @@ use Rattle.node_sessions.specs.Built.{AreLeft, ClosesAmong}
 use Rattle.node_sessions.specs.Serving.{closing_made, sessions_after}
 use Rattle.node_sessions.specs.Sessions.{AreFilled, AreSessions, Differ, FedAll, HaveEnds, OwnAll, connection_of, end_of, fills_in, owner_of, session_fills}
 use Rattle.node_sessions.proofs.Filling.{not_both, stays_filled}
-use Rattle.node_sessions.proofs.Listing.{Every-set, any_at, any_none, map_set}
+use Rattle.node_sessions.proofs.Listing.{Every-set, any_none, map_set}
 use Rattle.node_sessions.proofs.Standing.{StepsAt, filled_set, own_set}
 use Rattle.node_sessions.proofs.Stepping.{next_made}
 
@@ -80,7 +81,7 @@ left_key ys x rows rows' key o own e f = go (session_fills key x) refl
   where
     go : (b : Bool) → session_fills key x ≡ b → FilledIn (is_filling rows' key) (fills_in ys key) o
     go true is =
-        let has : fills_in (ys ++ x ∷ []) key ≡ true = any_at (session_fills key) (ys ++ x ∷ []) (length ys) x (last_at ys x) is in
+        let has : fills_in (ys ++ x ∷ []) key ≡ true = any_passes_from_place (session_fills key) (ys ++ x ∷ []) (length ys) x (last_at ys x) is in
         let other : o ≡ false = false_from_ne_true o (λ q. not_both (fills_in (ys ++ x ∷ []) key) o f.apart has q) in
         let none : fills_in ys key ≡ false = any_none (session_fills key) ys
         (λ k y at. false_from_ne_true (session_fills key y) (λ q. not_both (session_fills key x) (session_fills key y)

@@ -3,6 +3,7 @@ use Rattle.std.proofs.Common.{◌≡◌, ◌≢◌, ◌⊎◌, inl, inr, ℕ, ze
 use Rattle.std.specs.Prelude.{is_some, slice_get, ◌||◌, length}
 use Rattle.std.specs.List.{find, list_any}
 use Rattle.std.proofs.Math.ListN.{set}
+use Rattle.std.proofs.lemmas.Map.Keys.{any_passes_from_place}
 use Rattle.node_model.specs.Look.{first_of, first_some}
 use Rattle.node_sessions.specs.Sessions.{Every, EveryTwo}
 
@@ -40,21 +41,11 @@ map_set {X} {Y} f (y ∷ ys) (suc i) was now at same = ap (λ (ws : List Y). f y
 
 -- ---- tests
 
-pub any_at : {X : Type 0} (p : X → Bool) (xs : List X) (i : ℕ) (x : X) → slice_get xs i ≡ Some x → p x ≡ true → list_any p xs ≡ true
-any_at p [] i x at is = absurd cc
-any_at {X} p (y ∷ ys) zero x at is =
-    let e : y ≡ x = cc in rw (ap p e ∙ is) refl
-any_at {X} p (y ∷ ys) (suc i) x at is = go (p y) (any_at p ys i x at is)
-  where
-    go : (b : Bool) → list_any p ys ≡ true → (b || list_any p ys) ≡ true
-    go true h = refl
-    go false h = h
-
 pub none_any : {X : Type 0} (p : X → Bool) (xs : List X) → list_any p xs ≡ false → Every (λ x. p x ≡ false) xs
 none_any p xs none = λ i x at. go i x at (p x) refl
   where
     go : (i : ℕ) (x : _) → slice_get xs i ≡ Some x → (b : Bool) → p x ≡ b → b ≡ false
-    go i x at true is = sym (any_at p xs i x at is) ∙ none
+    go i x at true is = sym (any_passes_from_place p xs i x at is) ∙ none
     go i x at false is = refl
 
 pub any_none : {X : Type 0} (p : X → Bool) (xs : List X) → Every (λ x. p x ≡ false) xs → list_any p xs ≡ false

@@ -22,7 +22,7 @@ use Rattle.link_ring.specs.Ends.{EndView}
 use Rattle.node_model.specs.Ends.{End, EndName, end_took, frames, server_end}
 use Rattle.node_model.specs.Look.{Look}
 use Rattle.node_model.specs.Sessions as sessions
-use Rattle.node_model.specs.Sessions.{new_session, session_after, session_took}
+use Rattle.node_model.specs.Sessions.{session_after, session_took}
 use Rattle.node_model.specs.SessionStep.{Reply, gives_next, here, is_filled, on_frame}
 use Rattle.node_model.specs.SetUp.{SetUp}
 use Rattle.node_model.specs.State.{State}

@@ -4,7 +4,8 @@ use Rattle.std.specs.Prelude.{◌&&◌, ◌||◌, slice_get}
 use Rattle.std.specs.Option.{ForSome}
 use Rattle.std.proofs.Math.ListN.{set}
 use Rattle.std.proofs.lemmas.Option.{slice_get_within}
-use Rattle.std.proofs.lemmas.Bool.{false_from_ne_true}
+use Rattle.std.proofs.lemmas.Bool.{false_from_ne_true, or_right}
+use Rattle.std.proofs.lemmas.Map.Keys.{any_passes_from_place}
 use Rattle.annex_base.proofs.Conditions.{eqb_refl}
 use Rattle.run_data.specs.declared.entry.By.{By}
 use Rattle.run_data.specs.declared.entry.By.TheVariants.{Peer}
@@ -22,7 +23,7 @@ use Rattle.node_sessions.specs.Moments.{LeavesParts}
 use Rattle.node_sessions.specs.Serving.{end_by, server_in}
 use Rattle.node_sessions.specs.Sessions.{AreFilled, Differ, EveryTwo, FedAll, LeavesPartsOf, OwnAll, end_of, fills_in, owner_of, session_fills}
 use Rattle.node_sessions.proofs.Filling.{both_no, fills_told, new_was_free, not_both, stays_filled}
-use Rattle.node_sessions.proofs.Listing.{EveryTwo-set, Every-set, any_at, any_none, any_set_same, find_one, none_any, set_here}
+use Rattle.node_sessions.proofs.Listing.{EveryTwo-set, Every-set, any_none, any_set_same, find_one, none_any, set_here}
 
 -- one session's step over a table
 pub record StepsAt (was now : Session) (rows rows' : Rows) : Type 0 where
@@ -82,24 +83,20 @@ filled_key xs i was now rows rows' key o at apart h f = go (session_fills key no
     here = set_here xs i now (slice_get_within xs i was at)
 
     has : session_fills key was ≡ true → fills_in xs key ≡ true
-    has is = any_at (session_fills key) xs i was at is
+    has is = any_passes_from_place (session_fills key) xs i was at is
 
     free : session_fills key now ≡ true → (session_fills key was ≡ true → ⊥) → o ≡ true → ⊥
     free new none is =
-        new_was_free (session_of was).doing (session_of now).doing (is_filling rows) (is_filling rows') h key new none (f.filled ∙ rw is (or_true (fills_in xs key)))
-      where
-        or_true : (b : Bool) → (b || true) ≡ true
-        or_true true = refl
-        or_true false = refl
+        new_was_free (session_of was).doing (session_of now).doing (is_filling rows) (is_filling rows') h key new none (f.filled ∙ rw is (or_right (fills_in xs key) true refl))
 
     go : (a : Bool) → session_fills key now ≡ a → (b : Bool) → session_fills key was ≡ b → FilledAt (is_filling rows' key) (fills_in (set xs i now) key) o
     go true new true old =
-        let one : fills_in (set xs i now) key ≡ true = any_at (session_fills key) (set xs i now) i now here new in record {
+        let one : fills_in (set xs i now) key ≡ true = any_passes_from_place (session_fills key) (set xs i now) i now here new in record {
           filled = h.after key ∙ rw (new, one) refl;
           apart = both_no (fills_in (set xs i now) key) o (λ p q. not_both (fills_in xs key) o f.apart (has old) q);
         }
     go true new false old =
-        let one : fills_in (set xs i now) key ≡ true = any_at (session_fills key) (set xs i now) i now here new in record {
+        let one : fills_in (set xs i now) key ≡ true = any_passes_from_place (session_fills key) (set xs i now) i now here new in record {
           filled = h.after key ∙ rw (new, one) refl;
           apart = both_no (fills_in (set xs i now) key) o (λ p q. free new (λ e. true≢false (sym e ∙ old)) q);
         }

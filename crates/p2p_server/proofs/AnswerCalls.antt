@@ -1,5 +1,5 @@
 -- An answer tells a failed call exactly where that is one of its calls, and what isn't expected makes none.
-use Rattle.std.proofs.Common.{◌≡◌, ◌≢◌, ℕ, Bool, true, false, List, [], ◌∷◌, Option, Some, None, refl, sym, ap, ◌+◌, ◌∙◌}
+use Rattle.std.proofs.Common.{◌≡◌, ℕ, Bool, true, false, List, [], ◌∷◌, Option, Some, None, refl, sym, ap, ◌+◌, ◌∙◌}
 use Rattle.std.specs.List.{list_any}
 use Rattle.std.specs.Prelude.{◌/◌, ◌||◌, length, nat_le, nat_lt, ◌*◌, ◌&&◌, ◌==◌, if◌then◌else◌, bytes_eq}
 use Rattle.annex_base.specs.Calls.{call_number, same_call}
@@ -13,11 +13,11 @@ use Rattle.p2p_wire.specs.declared.message.Message.{Message}
 use Rattle.p2p_wire.specs.declared.message.Message.TheVariants as messages
 use Rattle.p2p_wire.specs.Messages.{message_of}
 use Rattle.run_data.specs.declared.entry.EntryKind.TheVariants as kinds
-use Rattle.node_model.specs.Calls.{to_commit, to_lock, to_offer}
+use Rattle.node_model.specs.Calls.{to_commit}
 use Rattle.node_model.specs.Clocks.{hold_time}
 use Rattle.node_model.specs.Look.{failing, unless}
 use Rattle.node_model.specs.Sessions as sessions
-use Rattle.node_model.specs.SessionStep.{Here, Reply, bar_on, by_of, check_answer, is_held, is_here, lock_answer, now_of, on_bytes, on_frame, on_lock, on_message, on_remove, on_remove_before, on_request, on_text, on_valid, failure_line, remove_answer, reply, tries, unexpected_reply, valid_answer}
+use Rattle.node_model.specs.SessionStep.{Here, Reply, bar_on, by_of, check_answer, is_held, is_here, lock_answer, now_of, on_bytes, on_frame, on_message, on_remove, on_remove_before, on_request, on_text, failure_line, remove_answer, reply, tries, unexpected_reply, valid_answer}
 use Rattle.p2p_server.specs.declared.incoming.Incoming.{Incoming}
 use Rattle.p2p_server.specs.declared.incoming.Incoming.TheVariants as incoming
 use Rattle.p2p_server.specs.Answers.{failed_in}

@@ -1,12 +1,12 @@
 -- The calls of a session's answers, by what is heard.
-use Rattle.std.proofs.Common.{◌≡◌, ℕ, ◌*◌, Bool, true, false, List, [], ◌∷◌, length, Option, Some, None, Result, Ok, Err, refl, sym, ap, subst, ◌∙◌}
+use Rattle.std.proofs.Common.{◌≡◌, ℕ, ◌*◌, Bool, true, List, [], ◌∷◌, length, Option, Some, None, Result, Ok, Err, refl, sym, ap, subst, ◌∙◌}
 use Rattle.std.specs.Prelude.{IfOk, OnErr, bytes_eq, if◌then◌else◌, nat_le, nat_lt, ◌&&◌}
 use Rattle.std.specs.Option.{ForSome, option_map}
 use Rattle.std.specs.declared.vec.Vec.{Vec}
 use Rattle.std.specs.declared.alloc.Global.{Global}
+use Rattle.std.proofs.lemmas.Bool.{cond-true}
 use Rattle.annex_base.specs.declared.kinds.Call.{Call}
 use Rattle.annex_base.specs.declared.kinds.Call.TheVariants as calls
-use Rattle.run_data.specs.declared.entry.EntryKind.{EntryKind}
 use Rattle.run_data.specs.declared.entry.FrameText.{FrameText}
 use Rattle.run_data.specs.declared.entry.FrameText.TheVariants as frames
 use Rattle.p2p_wire.specs.declared.message.Message.{Message}
@@ -80,9 +80,6 @@ request_quiet x m s rows contents parts failing step waits answer well =
 pub before_calls : (v n : ℕ) (key : List ℕ) → nat_le 3 v ≡ true → (h : Here) → calls_message h v sessions.Waits (messages.RemoveBefore n key) ≡ (if nat_lt (now_of h) (1000 * n) then to_remove_here h key else [])
 before_calls v n key speaks h = ap (λ (b : Bool). if b && nat_lt (now_of h) (1000 * n) then to_remove_here h key else []) speaks
 
-pub if_true : (b : Bool) (cs : List Call) → b ≡ true → (if b then cs else []) ≡ cs
-if_true b cs e = ap (λ (b : Bool). if b then cs else []) e
-
 -- ---- one that guards, and one that takes bytes
 
 pub unlock_makes : (x : Scene) (key : List ℕ) (s : Session) (share : ShareView) (rows : Rows) (contents : Option Contents) (parts : Option Parts) (before after : Option (Call → ℕ)) (step : Step)
@@ -93,7 +90,7 @@ unlock_makes x key s share rows contents parts before after step guarded has mad
       let h : Here = here_of x rows c (failed_in step.kind) part right in
       let same : bytes_eq key share.key ≡ true = ap (λ (d : Doing). guards_key d key) (sym has) ∙ guarded in
       let list : calls_message h s.spoken (doing_of s.doing) (messages.UnlockContent key) ≡ calls.Unhold ∷ [] =
-      ap (λ (d : Doing). calls_message h s.spoken (doing_of d) (messages.UnlockContent key)) has ∙ if_true (bytes_eq key share.key) (calls.Unhold ∷ []) same in
+      ap (λ (d : Doing). calls_message h s.spoken (doing_of d) (messages.UnlockContent key)) has ∙ cond-true (bytes_eq key share.key) (calls.Unhold ∷ []) [] same in
       subst (λ (cs : List Call). MakesCalls cs (failed_in step.kind) before after) (sym list) made;
   left = made.left;
 }
@@ -104,7 +101,7 @@ pub piece_makes : (x : Scene) (bytes : Vec ℕ Global) (s : Session) (t : Taking
 piece_makes x bytes s t rows contents parts before after step has fits made = record {
   calls = λ c is part right sees.
       let list : calls_bytes (length bytes.items) (doing_of s.doing) ≡ calls.Append ∷ [] =
-      ap (λ (d : Doing). calls_bytes (length bytes.items) (doing_of d)) has ∙ if_true (nat_lt 0 (length bytes.items) && nat_le (length bytes.items) t.left) (calls.Append ∷ []) fits in
+      ap (λ (d : Doing). calls_bytes (length bytes.items) (doing_of d)) has ∙ cond-true (nat_lt 0 (length bytes.items) && nat_le (length bytes.items) t.left) (calls.Append ∷ []) [] fits in
       subst (λ (cs : List Call). MakesCalls cs (failed_in step.kind) before after) (sym list) made;
   left = made.left;
 }

@@ -39,7 +39,7 @@ use Rattle.race_core.proofs.DeniedWords.{DeniedAt, DeniedBy, denied_words}
 use Rattle.race_core.proofs.RefusalCauses.{DropSettled, Ending, drop_settled, ending, ending_words, job_of, transfer_settled}
 use Rattle.race_core.proofs.Own.{Meets, MessagePast}
 use Rattle.race_core.proofs.Flights.{occurs_always}
-use Rattle.race_core.proofs.EpochJobs.{any_member}
+use Rattle.annex_base.proofs.Lists.{list_any_found}
 
 -- ---- what is left: answers fit their requests
 
@@ -188,5 +188,5 @@ module _ (reads_back : SentAreRead) (s : SetUp) (past : List Entry) (words : ℕ
       filled_by key any = go (list_any (λ c. session_fills (state_of s past) key (server_end c.0 c.1)) (served_connections s)) refl any
         where
           go : (b : Bool) → list_any (λ c. session_fills (state_of s past) key (server_end c.0 c.1)) (served_connections s) ≡ b → (b || list_any (λ w. w.fills && bytes_eq w.what.key key) (works past r)) ≡ true → Rattle.run_model.specs.Causes.FillsByGet past r key ⊎ FillsByPut past r key
-          go true at any = let z = any_member (λ (c : ℕ × ℕ). session_fills (state_of s past) key (server_end c.0 c.1)) (served_connections s) at in inr (fill key z.0.0 z.0.1 z.2)
+          go true at any = let z = list_any_found (λ (c : ℕ × ℕ). session_fills (state_of s past) key (server_end c.0 c.1)) (served_connections s) at in inr (fill key z.0.0 z.0.1 z.2)
           go false at any = inl (fills_by_get s past h key any)

@@ -36,7 +36,7 @@ use Rattle.race_core.proofs.ServerAnswers.{MayBar, MayRemove, MayObey, MayShare,
 use Rattle.race_core.proofs.StepFacts.{bar_found, removes_found, check_found, obeyed_found, own_share_found, share_found}
 
 -- what a server's end takes is listed with its peer and slot, on the way up
-end_takes_from : (peer slot : ℕ) (f : FrameView) → takes_at (server_end peer slot) f ≡ true → (f.peer ≡ peer) × (f.slot ≡ slot) × (f.up ≡ true)
+pub end_takes_from : (peer slot : ℕ) (f : FrameView) → takes_at (server_end peer slot) f ≡ true → (f.peer ≡ peer) × (f.slot ≡ slot) × (f.up ≡ true)
 end_takes_from peer slot f e =
     let two = and_parts ((f.peer == peer) && (f.slot == slot)) (same_bool false (if f.up then false else true)) e in
     let first = and_parts (f.peer == peer) (f.slot == slot) two.0 in

@@ -26,13 +26,14 @@ use Rattle.race_core.proofs.Counting.{Pieces, bytes_counts}
 use Rattle.race_core.proofs.ServerEnds.{GivesHere, ServerDoes, TakesHere, server_does}
 use Rattle.race_core.proofs.EndMoves.{gave_one, may_epoch, takes_epoch}
 use Rattle.race_core.proofs.WayCounts.{way_in, way_out}
-use Rattle.race_core.proofs.SaidDown.{Alike, alike, said_bytes, said_closing, said_opening}
+use Rattle.race_core.proofs.SaidDown.{Alike, alike, bytes_end, closing_ends, said_opening}
 use Rattle.race_core.proofs.InTurn.{AllRead, in_turn}
 use Rattle.race_core.proofs.TurnFits.{busy}
 use Rattle.race_core.proofs.AnswersRead.{all_read}
 use Rattle.race_core.proofs.SessionSays.{read_of}
 use Rattle.race_core.proofs.SessionAnswers.{Answering, LineAnswer, counts_answer, line_answer}
-use Rattle.race_core.proofs.SessionOwn.{down_closes, member_frames, taken_up, way_at}
+use Rattle.race_core.proofs.SessionOwn.{down_closes, member_frames, way_at}
+use Rattle.race_core.proofs.AnswerFacts.{end_takes_from}
 
 -- an answer but of an opening, or to GET
 abbrev pub is_plain : Message → Bool
@@ -61,12 +62,6 @@ invalid_alike k h = absurd h
 
 as_alike : (b : FrameText) (m k : Message) → b ≡ Line (text_of m) → message_in b ≡ Says k → message_of (text_of m) ≡ Some k
 as_alike b m k i e = read_of (text_of m) k (sym (ap message_in i) ∙ e)
-
-pub closing_ends : (b : FrameText) (k : Message) → b ≡ Closing → message_in b ≡ Says k → ⊥
-closing_ends b k i e = let no' : message_in Closing ≡ Says k = sym (ap message_in i) ∙ e in let no'' = sym said_closing ∙ no' in cc
-
-pub bytes_end : (b : FrameText) (n : ℕ) (k : Message) → b ≡ Bytes n → message_in b ≡ Says k → ⊥
-bytes_end b n k i e = let no' : message_in (Bytes n) ≡ Says k = sym (ap message_in i) ∙ e in let no'' = sym (said_bytes n) ∙ no' in cc
 
 -- a session that gives says no other answer
 pieces_plain : (was : Doing) (says : List FrameText) (b : FrameText) (k : Message) → Pieces was says → Member b says → message_in b ≡ Says k → is_plain k ≡ true → ⊥
@@ -174,7 +169,7 @@ module _ (s : SetUp) (past : List Entry) (e : Entry) (p q : ℕ) (run : OwnRun s
     f = x.f;
     takes_it = x.taken_is;
     back = out_is ∙ ap down_of (sym in_is);
-    from_client = (taken_up p q x.f x.of_end).2;
+    from_client = (end_takes_from p q x.f x.of_end).2;
     request = ap (λ b. is_request (message_in b)) line.1 ∙ told.completing.request;
     turn = ap (λ w. length (answers past w)) out_is ∙ turn_now ∙ ap (λ w. taken_if is_request past w) (sym in_is);
     asked = told.asked;

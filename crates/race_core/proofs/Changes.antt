@@ -30,6 +30,7 @@ use Rattle.annex_base.proofs.Conditions.{eqb_refl, if_is, bytes_eq-refl}
 use Rattle.annex_base.proofs.Lists.{list_any_weaker, Member-append_cases, Member-append_left, Member-append_right}
 use Rattle.race_core.proofs.Flights.{occurs_vouch, occurs_vouches, sender_occurs}
 use Rattle.race_core.proofs.Lists.{any_map, any_was_map, any_filter, any_was_filter}
+use Rattle.race_core.proofs.Plain.{one_in, option_at, option_same}
 
 -- the entry takes the key away from r
 pub record TakesAway (e : Entry) (r : ℕ) (key : List ℕ) : Type 0 where
@@ -220,9 +221,6 @@ lasts-keep_of number until owner by key x k = go (same_owner x.owner by)
 lasts-other : (number until m : ℕ) (owner : By) (key : List ℕ) → (m == number) ≡ false → (x : Hold) → lasts_one number until owner key x ≡ true → not (x.number == m) ≡ true
 lasts-other number until m owner key e x k = go (x.number == m) refl
   where
-    is : x.number ≡ number
-    is = eqb-true x.number number (and_parts (x.number == number) _ k).0
-
     go : (b : Bool) → (x.number == m) ≡ b → not b ≡ true
     go false f = refl
     go true f = let same : x.number ≡ m = eqb-true x.number m f in let it : m ≡ number = cc in let not_so : (number == number) ≡ false = rw it at e in absurd (true≢false (sym (eqb_refl number) ∙ not_so))
@@ -345,18 +343,11 @@ pub decided_new : (e : Entry) (past : List Entry) (a j : ℕ) (need : Need) (key
     → decision (e ∷ past) a j ≡ Some (record { place = length past; key = key; need = need })
 decided_new e past a j need key is kind = rw (is, kind, eqb_refl j) refl
 
-repo-some : (o : Option ℕ) (r : ℕ) → option_is o r ≡ true → o ≡ Some r
-repo-some None r e = cc
-repo-some (Some q) r e = ap (λ x. Some x) (eqb-true q r e)
-
 pub repo_of : (e : Entry) (r : ℕ) → is_of r e ≡ true → e.repo ≡ Some r
-repo_of e r is = repo-some e.repo r is
+repo_of e r is = option_same e.repo r is
 
 pub same_repo : (e : Entry) (r q : ℕ) → is_of r e ≡ true → is_of q e ≡ true → r ≡ q
 same_repo e r q f g = let k : Some r ≡ Some q = sym (repo_of e r f) ∙ repo_of e q g in cc
-
-pub is_some : (o : Option ℕ) (r : ℕ) → o ≡ Some r → option_is o r ≡ true
-is_some o r e = rw e (eqb_refl r)
 
 pub any_add : (p : Removal → Bool) (o : Option Removal) (xs : List Removal) → list_any p xs ≡ true → list_any p (add_removal o xs) ≡ true
 any_add p None xs h = h
@@ -365,7 +356,7 @@ any_add p (Some x) xs h = or_right (p x) (list_any p xs) h
 pub by_inj : (i j : ℕ) → by_job i ≡ by_job j → i ≡ j
 by_inj i j e = cc
 
-peer_no_job : (p s i : ℕ) → Peer p s ≡ by_job i → ⊥
+pub peer_no_job : (p s i : ℕ) → Peer p s ≡ by_job i → ⊥
 peer_no_job p s i e = cc
 
 -- ---- removals
@@ -444,9 +435,9 @@ removal-kind repos past key repo taken kind x h = cc
 
 pub removal_was : (repos : List RepoView) (e : Entry) (past : List Entry) (key : List ℕ) (x : Removal) → removal repos past key e ≡ Some x → Removes repos e past key x ⊎ Obeys repos e past key x
 removal_was repos e past key x h = elim (removal-kind repos past key e.repo e.taken e.kind x h) [
-  | inl w ↦ let is : is_of w.0 e ≡ true = is_some e.repo w.0 w.1.1.1.0 in
+  | inl w ↦ let is : is_of w.0 e ≡ true = option_at e.repo w.0 w.1.1.1.0 in
       inl (record { r = w.0; j = w.1.0; d = w.1.1.0; repo_is = is; kind_is = w.1.1.1.1; decided_is = w.1.1.1.2; key_is = w.1.1.1.3; is = w.1.1.1.4 })
-  | inr w ↦ let is : is_of w.0 e ≡ true = is_some e.repo w.0 w.3.1.1.1.1.0 in
+  | inr w ↦ let is : is_of w.0 e ≡ true = option_at e.repo w.0 w.3.1.1.1.1.0 in
       inr (record {
         r = w.0;
         a = w.1;
@@ -479,11 +470,6 @@ abbrev pub VouchedBy : ℕ → ℕ → ℕ → EntryKind → Vouch → Type 0
 VouchedBy r a j kind (Lock hold since owner key) = (end : ℕ) × ((kind ≡ Share hold end owner key) × ((i : ℕ) → owner ≡ by_job i → (r ≡ a) × (i ≡ j)))
 VouchedBy r a j kind (Look key) = (found : Found) × (kind ≡ Check found key)
 
-pub one_of : {X : Type 0} (b : Bool) (x y : X) → Member y (if b then x ∷ [] else []) → (b ≡ true) × (y ≡ x)
-one_of true x y (inl e) = (refl, e)
-one_of true x y (inr m) = absurd m
-one_of false x y m = absurd m
-
 look_kind : (r a j : ℕ) (found : Found) (key : List ℕ) (v : Vouch) → Member v (look_of found key) → VouchedBy r a j (Check found key) v
 look_kind r a j Present key v (inl e) = subst (λ x. VouchedBy r a j (Check Present key) x) (sym e) (Present, refl)
 look_kind r a j Present key v (inr m) = absurd m
@@ -491,11 +477,11 @@ look_kind r a j _ key v m = absurd m
 
 vouch-kind : (r a j time : ℕ) (asker : Option Asker) (kind : EntryKind) (v : Vouch) → Member v (vouch_kind r a j time asker kind) → VouchedBy r a j kind v
 vouch-kind r a j time asker (Share hold end (by_job i) key) v m =
-    let w = one_of ((r == a) && (i == j)) (Lock hold time (by_job i) key) v m in
+    let w = one_in ((r == a) && (i == j)) (Lock hold time (by_job i) key) v m in
     let k = and_parts (r == a) (i == j) w.0 in
     subst (λ x. VouchedBy r a j (Share hold end (by_job i) key) x) (sym w.1) (end, (refl, λ l e. (eqb-true r a k.0, by_inj l i (sym e) ∙ eqb-true i j k.1)))
 vouch-kind r a j time asker (Share hold end (Peer p s) key) v m =
-    let w = one_of (is_asker a j asker) (Lock hold (asked_at asker) (Peer p s) key) v m in
+    let w = one_in (is_asker a j asker) (Lock hold (asked_at asker) (Peer p s) key) v m in
     subst (λ x. VouchedBy r a j (Share hold end (Peer p s) key) x) (sym w.1) (end, (refl, λ l e. absurd (peer_no_job p s l e)))
 vouch-kind r a j time asker (Check found key) v m = go (is_asker a j asker) m
   where

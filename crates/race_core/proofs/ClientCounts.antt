@@ -16,6 +16,7 @@ use Rattle.p2p_wire.specs.declared.message.Message.TheVariants.{AuthSuccess, Ver
 use Rattle.p2p_wire.specs.Messages.{order_of, message_of}
 use Rattle.node_model.specs.Jobs.{Phase, AsksLock, AsksLook, AsksTime, GetsBytes, GetsData, GetsWord, Orders, PutsAnswer, PutsOffer, Ends, Work, job_end, partner}
 use Rattle.node_model.specs.Turns.{is_awaiting}
+use Rattle.race_core.proofs.Plain.{option_at, option_other}
 
 -- ---- requests and answers
 
@@ -202,30 +203,24 @@ Stays target phase peer = (partner target phase ≡ None) ⊎ (partner target ph
 pub none_is : (o : Option ℕ) (p : ℕ) → o ≡ None → option_is o p ≡ false
 none_is o p e = rw e refl
 
-some_is : (o : Option ℕ) (peer p : ℕ) → o ≡ Some peer → (peer == p) ≡ false → option_is o p ≡ false
-some_is o peer p e apart = rw e apart
-
-not_of : (target : Option ℕ) (phase : Phase) (peer p : ℕ) → Stays target phase peer → (peer == p) ≡ false → option_is (partner target phase) p ≡ false
+pub not_of : (target : Option ℕ) (phase : Phase) (peer p : ℕ) → Stays target phase peer → (peer == p) ≡ false → option_is (partner target phase) p ≡ false
 not_of target phase peer p (inl none) apart = none_is (partner target phase) p none
-not_of target phase peer p (inr some) apart = some_is (partner target phase) peer p some apart
+not_of target phase peer p (inr some) apart = option_other (partner target phase) peer p some apart
 
 -- on another's connection nothing is awaited
 pub away : (target : Option ℕ) (phase : Phase) (peer p : ℕ) → Stays target phase peer → (peer == p) ≡ false → awaits_of target phase p ≡ false
 away target phase peer p stays apart = and_right (is_awaiting phase) (option_is (partner target phase) p) (not_of target phase peer p stays apart)
 
-pub is_of_some : (o : Option ℕ) (p : ℕ) → o ≡ Some p → option_is o p ≡ true
-is_of_some o p e = rw e (eqb_refl p)
-
 pub last_away : (key : List ℕ) (target : Option ℕ) (phase : Phase) (p : ℕ) (last : Option Request) → option_is (partner target phase) p ≡ false → LastIs key target phase p last
-last_away key target (AsksLock peer since) p last apart = λ e. absurd (true≢false (sym (is_of_some (Some peer) p (ap (λ x. Some x) e)) ∙ apart))
-last_away key target (AsksLook peer) p last apart = λ e. absurd (true≢false (sym (is_of_some (Some peer) p (ap (λ x. Some x) e)) ∙ apart))
-last_away key target AsksTime p last apart = λ e. absurd (true≢false (sym (is_of_some target p e) ∙ apart))
-last_away key target Orders p last apart = λ e. absurd (true≢false (sym (is_of_some target p e) ∙ apart))
-last_away key target (PutsAnswer peer start) p last apart = λ e. absurd (true≢false (sym (is_of_some (Some peer) p (ap (λ x. Some x) e)) ∙ apart))
-last_away key target (PutsOffer peer) p last apart = λ e. absurd (true≢false (sym (is_of_some (Some peer) p (ap (λ x. Some x) e)) ∙ apart))
-last_away key target (GetsData peer start) p last apart = λ e. absurd (true≢false (sym (is_of_some (Some peer) p (ap (λ x. Some x) e)) ∙ apart))
-last_away key target (GetsBytes peer start size left) p last apart = λ e. absurd (true≢false (sym (is_of_some (Some peer) p (ap (λ x. Some x) e)) ∙ apart))
-last_away key target (GetsWord peer start size) p last apart = λ e. absurd (true≢false (sym (is_of_some (Some peer) p (ap (λ x. Some x) e)) ∙ apart))
+last_away key target (AsksLock peer since) p last apart = λ e. absurd (true≢false (sym (option_at (Some peer) p (ap (λ x. Some x) e)) ∙ apart))
+last_away key target (AsksLook peer) p last apart = λ e. absurd (true≢false (sym (option_at (Some peer) p (ap (λ x. Some x) e)) ∙ apart))
+last_away key target AsksTime p last apart = λ e. absurd (true≢false (sym (option_at target p e) ∙ apart))
+last_away key target Orders p last apart = λ e. absurd (true≢false (sym (option_at target p e) ∙ apart))
+last_away key target (PutsAnswer peer start) p last apart = λ e. absurd (true≢false (sym (option_at (Some peer) p (ap (λ x. Some x) e)) ∙ apart))
+last_away key target (PutsOffer peer) p last apart = λ e. absurd (true≢false (sym (option_at (Some peer) p (ap (λ x. Some x) e)) ∙ apart))
+last_away key target (GetsData peer start) p last apart = λ e. absurd (true≢false (sym (option_at (Some peer) p (ap (λ x. Some x) e)) ∙ apart))
+last_away key target (GetsBytes peer start size left) p last apart = λ e. absurd (true≢false (sym (option_at (Some peer) p (ap (λ x. Some x) e)) ∙ apart))
+last_away key target (GetsWord peer start size) p last apart = λ e. absurd (true≢false (sym (option_at (Some peer) p (ap (λ x. Some x) e)) ∙ apart))
 last_away key target phase p last apart = λ e. absurd (true≢false (sym e ∙ and_right (is_awaiting phase) (option_is (partner target phase) p) apart))
 
 -- what was counted there stands

@@ -1,7 +1,7 @@
 -- What an own entry does at a client's end of a running job that is open after it: nothing, or it is the job's step.
 use Rattle.std.proofs.Common.{◌≡◌, ◌≢◌, ℕ, Bool, true, false, List, [], ◌∷◌, Option, Some, None, ◌⊎◌, inl, inr, refl, sym, ap, ◌∙◌, subst}
 use Rattle.std.specs.Prelude.{if◌then◌else◌, ◌==◌, ◌&&◌}
-use Rattle.std.proofs.lemmas.Bool.{true≢false, eqb-true}
+use Rattle.std.proofs.lemmas.Bool.{true≢false, eqb-true, and_right}
 use Rattle.annex_base.specs.Lists.{Each, Member}
 use Rattle.annex_base.specs.declared.kinds.Word.{Word}
 use Rattle.annex_base.proofs.Lists.{Each-filter, filter_none}
@@ -157,16 +157,8 @@ module _ (reads_back : SentAreRead) (s : SetUp) (past : List Entry) (e : Entry) 
       alone (inr z) = come_closes s past e.lines e.sent e.kind z.may
 
       session : (c q : ℕ) → TakesHere s past (server_end c q) e ⊎ GivesHere s past (server_end c q) e → Shuts a e
-      session c q (inl z) = takes_elsewhere s past (server_end c q) a e (off ((c == p) && (q == x.slot))) z
-        where
-          off : (b : Bool) → (b && same_bool false true) ≡ false
-          off true = refl
-          off false = refl
-      session c q (inr z) = gives_elsewhere s past (server_end c q) a e (off ((c == p) && (q == x.slot))) z
-        where
-          off : (b : Bool) → (b && same_bool false true) ≡ false
-          off true = refl
-          off false = refl
+      session c q (inl z) = takes_elsewhere s past (server_end c q) a e (and_right ((c == p) && (q == x.slot)) (same_bool false true) refl) z
+      session c q (inr z) = gives_elsewhere s past (server_end c q) a e (and_right ((c == p) && (q == x.slot)) (same_bool false true) refl) z
 
       slots : (y : Stepped s past e) → (c : Bool) → (y.w.slot == x.slot) ≡ c → ClientDoes s past e x a
       slots y false apart = inl (closes_none (other_slot y apart) b.ran)

@@ -14,8 +14,9 @@ use Rattle.node_model.specs.Jobs.{Phase, Work, closed_part, job_end, partner, sa
 use Rattle.node_model.specs.Look.{Made}
 use Rattle.node_model.specs.JobStep.{Turn, end_with, key_of, me, quietly, says_to, sends_to}
 use Rattle.node_model.specs.Turns.{is_awaiting}
-use Rattle.race_core.proofs.ClientCounts.{last_away, none_is, Counted, Counts, LastIs, Request, Stays, IsLive, answers_here, answers_it, asks_for, awaits_of, counts_sends, counts_takes, is_answering, is_of_some, quiet_here, request, sends_here, takes_here, unit}
+use Rattle.race_core.proofs.ClientCounts.{last_away, none_is, Counted, Counts, LastIs, Request, Stays, IsLive, answers_here, answers_it, asks_for, awaits_of, counts_sends, counts_takes, is_answering, quiet_here, request, sends_here, takes_here, unit}
 use Rattle.race_core.proofs.ClientTurns.{EvenTo, alone_even, closed_alone, live_on, local_even, talker_phase, talker_slot, made_entry, rows_of, talk_even, talker}
+use Rattle.race_core.proofs.Plain.{option_at}
 
 -- ---- counts
 
@@ -44,7 +45,7 @@ unit_no : (b : Bool) → b ≡ false → unit b ≡ 0
 unit_no b e = rw e refl
 
 pub awaits_true : (target : Option ℕ) (phase : Phase) (peer : ℕ) → is_awaiting phase ≡ true → partner target phase ≡ Some peer → awaits_of target phase peer ≡ true
-awaits_true target phase peer waits on = rw (waits, on) (is_of_some (Some peer) peer refl)
+awaits_true target phase peer waits on = rw (waits, on) (option_at (Some peer) peer refl)
 
 pub awaits_none : (target : Option ℕ) (phase : Phase) (peer : ℕ) → partner target phase ≡ None → awaits_of target phase peer ≡ false
 awaits_none target phase peer on = rw on (and_right (is_awaiting phase) false refl)
@@ -204,7 +205,7 @@ module _ (t : Turn) (alone : partner t.w.what.peer t.w.phase ≡ None) (live : I
   -- the connection is opened
   pub opens_even : (kind : EntryKind) (peer : ℕ) → Goes t (sends_to t kind None peer (Opening ∷ []))
   opens_even kind peer = alone_even t (sends_to t kind None peer (Opening ∷ [])) peer (Jobs.Opens peer) alone live (sends_here t.w peer (end_with t peer) Opening) refl (inr refl)
-      (λ q fits l o. record { balance = let one : unit (awaits_of t.w.what.peer (Jobs.Opens peer) peer) ≡ 1 = unit_yes (awaits_of t.w.what.peer (Jobs.Opens peer) peer) (is_of_some (Some peer) peer refl) in omega (arith, one); last = λ e. refl })
+      (λ q fits l o. record { balance = let one : unit (awaits_of t.w.what.peer (Jobs.Opens peer) peer) ≡ 1 = unit_yes (awaits_of t.w.what.peer (Jobs.Opens peer) peer) (option_at (Some peer) peer refl) in omega (arith, one); last = λ e. refl })
 
   -- a request on one that is open
   pub first_even : (kind : EntryKind) (peer : ℕ) (m : Message) (next : Phase) → (end_with t peer).opened ≡ true → message_of (text_of m) ≡ Some m → asks_for (Some m) ≡ true

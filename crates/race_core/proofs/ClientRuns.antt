@@ -1,11 +1,11 @@
 -- Over the own part of a run: what the phase of each running job says of requests and answers is so, at each of its open ends (J4).
 use Rattle.std.proofs.Common.{◌≡◌, ◌≢◌, ℕ, ◌<◌, Bool, true, false, List, [], ◌∷◌, length, Option, Some, None, ◌⊎◌, inl, inr, refl, sym, ap, ◌∙◌, subst}
-use Rattle.std.specs.Prelude.{if◌then◌else◌, ◌==◌, ◌&&◌, find, flat_map, fold, map, not}
+use Rattle.std.specs.Prelude.{if◌then◌else◌, ◌==◌, ◌&&◌, find, fold, map, not}
 use Rattle.std.proofs.lemmas.Bool.{true≢false, eqb-true, not-true, and_parts, and_right}
 use Rattle.annex_base.specs.Lists.{Each, Member}
 use Rattle.annex_base.specs.declared.kinds.Call.TheVariants.{PutFile}
 use Rattle.annex_base.specs.declared.kinds.Word.{Word}
-use Rattle.annex_base.proofs.Lists.{Each-append, Each-filter, Member-filter_parts, find_member}
+use Rattle.annex_base.proofs.Lists.{Each-filter, Member-filter_parts, find_member}
 use Rattle.annex_base.proofs.Conditions.{and_first, eqb_refl, eqb_sym, if_either}
 use Rattle.run_data.specs.declared.entry.By.{By}
 use Rattle.run_data.specs.declared.entry.By.TheVariants.{Script}
@@ -32,7 +32,7 @@ use Rattle.node_model.specs.SessionStep.{here, session_step}
 use Rattle.node_model.specs.JobStep.{Turn, end_with, farewell, turn_of, others_of}
 use Rattle.node_model.specs.Turns.{job_step, slot_step}
 use Rattle.node_model.specs.Step.{step}
-use Rattle.node_model.specs.AnyTime.{MayCome, close_at}
+use Rattle.node_model.specs.AnyTime.{MayCome}
 use Rattle.run_model.specs.Run.{IsStep, ComesAnyTime, OwnRun}
 use Rattle.node_model.specs.Found.{ByJob, ByOwed, BySession, GivesAt, IsJobEntry, TakesAt}
 use Rattle.race_core.proofs.JobSteps.{job_is, session_none}
@@ -46,6 +46,8 @@ use Rattle.race_core.proofs.StepFacts.{pays_found}
 use Rattle.race_core.proofs.ClientCounts.{Counted, Counts, Fits, counts_after, counts_at, counts_sends, counts_took}
 use Rattle.race_core.proofs.ClientTurns.{Even}
 use Rattle.race_core.proofs.ClientSteps.{Speaks, partner_even}
+use Rattle.race_core.proofs.ServerEnds.{close_closes, each_flat}
+use Rattle.race_core.proofs.Plain.{member_mapped}
 
 -- ---- the invariant
 
@@ -114,11 +116,6 @@ pub record Was (rows : RowsAndEnds) (r : ℕ) (was : List Work) (e : Entry) (x :
   pub goes_on : ends_it e.kind w.number ≡ false
   pub is : x ≡ work_after rows r e w
 
-member_map : {X Y : Type 0} (f : X → Y) (xs : List X) (y : Y) → Member y (map f xs) → (x : X) × Member x xs × (y ≡ f x)
-member_map f [] y m = absurd m
-member_map f (x ∷ xs) y (inl m) = (x, inl refl, m)
-member_map f (x ∷ xs) y (inr m) = let z = member_map f xs y m in (z.0, inr z.1, z.2)
-
 -- a job that begins
 pub record IsNew (was : List Work) (kind : EntryKind) (x : Work) : Type 0 where
   pub job : ℕ
@@ -145,7 +142,7 @@ works_were rows r was e (ends_job j outcome) is x m =
     same : (j == x.number) ≡ false → x ≡ work_after rows r e x
     same apart = subst (λ (k : EntryKind). x ≡ (if option_is (job_of k) x.number then work_kind rows r x e e.kind else x)) (sym is) (rw apart refl)
 works_were rows r was e (Crash clock) is x m = absurd m
-works_were rows r was e kind is x m = let z = member_map (work_after rows r e) was x m in inr (inr (record { w = z.0; ran = z.1; goes_on = ap (λ k. ends_it k z.0.number) is; is = z.2 }))
+works_were rows r was e kind is x m = let z = member_mapped (work_after rows r e) was x m in inr (inr (record { w = z.0; ran = z.1; goes_on = ap (λ k. ends_it k z.0.number) is; is = z.2 }))
 
 -- ---- an entry that is not of the job
 
@@ -170,9 +167,6 @@ closes_idle e slot none all p = record {
 }
 
 -- ---- entries that may come at any point
-
-close_closes : (s : SetUp) (past : List Entry) (a : EndName) → Each (λ f. f.body ≡ Closing) (close_at s (state_of s past) a)
-close_closes s past a = if_either (Each (λ (f : FrameView). f.body ≡ Closing)) (end_at past s.number a).opened (frames a (end_at past s.number a) (Closing ∷ [])) [] (λ e. (refl, tt)) (λ e. tt)
 
 -- what an entry that may come at any point is to a job that ran
 pub record Aside (rows : RowsAndEnds) (r : ℕ) (e : Entry) (kind : EntryKind) : Type 0 where
@@ -230,10 +224,6 @@ session_idle s st k m x slot p = elim (x.frame) [ inl t ↦ taking t | inr g ↦
 
 -- ---- the frames of a job are of its slot
 
-each_flat : {X Y : Type 0} (P : Y → Type 0) (f : X → List Y) (xs : List X) → ((x : X) → Each P (f x)) → Each P (flat_map f xs)
-each_flat P f [] all = tt
-each_flat P f (x ∷ xs) all = Each-append P (f x) (flat_map f xs) (all x) (each_flat P f xs all)
-
 frames_slot : (a : EndName) (c : End) (bodies : List FrameText) → Each (λ f. f.slot ≡ a.slot) (frames a c bodies)
 frames_slot a c [] = tt
 frames_slot a c (body ∷ bodies) = (refl, frames_slot a (end_sends c body) bodies)
@@ -245,8 +235,8 @@ job_frames t m (Gone by key) x = subst (Each (λ (f : FrameView). f.slot ≡ t.w
 job_frames t m (Order j peer deadline need key) x = subst (Each (λ (f : FrameView). f.slot ≡ t.w.slot)) (sym x.sent_is) (refl, tt)
 job_frames t m (Gain by size key) x = subst (Each (λ (f : FrameView). f.slot ≡ t.w.slot)) (sym x.sent_is) (refl, tt)
 job_frames t m (ends_job j outcome) x = subst (Each (λ (f : FrameView). f.slot ≡ t.w.slot)) (sym x.sent_is)
-    (each_flat (λ (f : FrameView). f.slot ≡ t.w.slot) (λ peer. frames (job_end t.w peer) (end_with t peer) (farewell t (is_lost_ordered outcome) peer (end_with t peer).opened)) (others_of t)
-    (λ peer. frames_slot (job_end t.w peer) (end_with t peer) (farewell t (is_lost_ordered outcome) peer (end_with t peer).opened)))
+    (each_flat (λ (f : FrameView). f.slot ≡ t.w.slot) (λ peer. frames (job_end t.w peer) (end_with t peer) (farewell t (is_lost_ordered outcome) peer (end_with t peer).opened))
+    (λ peer. frames_slot (job_end t.w peer) (end_with t peer) (farewell t (is_lost_ordered outcome) peer (end_with t peer).opened)) (others_of t))
 job_frames t m (Talk (Some j)) x = elim (x.1) [
   | inl none ↦ subst (Each (λ (f : FrameView). f.slot ≡ t.w.slot)) (sym none) tt
   | inr one ↦ subst (Each (λ (f : FrameView). f.slot ≡ t.w.slot)) (sym one.2) (refl, tt)
@@ -254,26 +244,21 @@ job_frames t m (Talk (Some j)) x = elim (x.1) [
 job_frames t m (Fault call by) x = subst (Each (λ (f : FrameView). f.slot ≡ t.w.slot)) (sym x.1) tt
 job_frames t m kind x = absurd x
 
+middle_off : (a b c : Bool) → b ≡ false → (a && b && c) ≡ false
+middle_off true true c e = absurd (cc)
+middle_off true false c e = refl
+middle_off false b c e = refl
+
 none_there : (p n slot : ℕ) (fs : List FrameView) → Each (λ f. f.slot ≡ slot) fs → (slot == n) ≡ false → sent_at (client_end p n) fs ≡ []
 none_there p n slot [] all apart = refl
-none_there p n slot (f ∷ fs) all apart = rw (off (f.peer == p) (f.slot == n) (same_bool f.up true) (subst (λ (k : ℕ). (k == n) ≡ false) (sym all.0) apart)) (none_there p n slot fs all.1 apart)
-  where
-    off : (a b c : Bool) → b ≡ false → (a && b && c) ≡ false
-    off true true c e = absurd (cc)
-    off true false c e = refl
-    off false b c e = refl
+none_there p n slot (f ∷ fs) all apart = rw (middle_off (f.peer == p) (f.slot == n) (same_bool f.up true) (subst (λ (k : ℕ). (k == n) ≡ false) (sym all.0) apart)) (none_there p n slot fs all.1 apart)
 
 other_takes : (w : Work) (peer : ℕ) (f : FrameView) (p n : ℕ) → takes_at (job_end w peer) f ≡ true → (w.slot == n) ≡ false → taken_at (client_end p n) (Some f) ≡ None
 other_takes w peer f p n e apart =
     let two : ((f.peer == peer) && (f.slot == w.slot)) ≡ true = and_first ((f.peer == peer) && (f.slot == w.slot)) (same_bool true (if f.up then false else true)) e in
     let is : f.slot ≡ w.slot = eqb-true f.slot w.slot (and_parts (f.peer == peer) (f.slot == w.slot) two).1 in
     let off : (f.slot == n) ≡ false = subst (λ (k : ℕ). (k == n) ≡ false) (sym is) apart in
-    rw (both_off (f.peer == p) (f.slot == n) (same_bool true (if f.up then false else true)) off) refl
-  where
-    both_off : (a b c : Bool) → b ≡ false → (a && b && c) ≡ false
-    both_off true true c e = absurd (cc)
-    both_off true false c e = refl
-    both_off false b c e = refl
+    rw (middle_off (f.peer == p) (f.slot == n) (same_bool true (if f.up then false else true)) off) refl
 
 pub job_idle : (s : SetUp) (st : State) (k : Look) (m : Made) (x : ByJob s st k m) (n : ℕ) → (x.w.slot == n) ≡ false → IdleAt n (entry_of s.number k m)
 job_idle s st k m x n apart p = record {

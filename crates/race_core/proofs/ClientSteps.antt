@@ -59,16 +59,16 @@ pub record Speaks (t : Turn) : Type 0 where
   pub data' : (n : ℕ) → message_of (text_of (Data (bytes_left (content_of t) n))) ≡ Some (Data (bytes_left (content_of t) n))
   pub to_target : t.w.part ≡ Drops → side_of t.w ≡ Remote → t.w.what.peer ≡ Some (target t)
 
-time_reads : message_of (text_of GetTimestamp) ≡ Some GetTimestamp
+pub time_reads : message_of (text_of GetTimestamp) ≡ Some GetTimestamp
 time_reads = refl
 
-valid_reads : message_of (text_of Valid) ≡ Some Valid
+pub valid_reads : message_of (text_of Valid) ≡ Some Valid
 valid_reads = refl
 
 success_reads : message_of (text_of Success) ≡ Some Success
 success_reads = refl
 
-failure_reads : message_of (text_of Failure) ≡ Some Failure
+pub failure_reads : message_of (text_of Failure) ≡ Some Failure
 failure_reads = refl
 
 -- ---- store calls
@@ -88,31 +88,42 @@ attempts_even P t cs taken m bad good = go t.look.fails
     go (Some c) = if_either (λ (x : Option Call). P (unless x fault m)) (list_any (same_call c) cs) (Some c) None (λ e. bad c e) (λ e. good)
 
 -- neither the writing of a line, nor a release
-abbrev is_plain : Call → Bool
+abbrev pub is_plain : Call → Bool
 is_plain calls.PutFile = false
 is_plain calls.Unhold = false
 is_plain call = true
 
-plain_in : (call : Call) (cs : List Call) → list_any (same_call calls.PutFile) cs ≡ false → list_any (same_call calls.Unhold) cs ≡ false → list_any (same_call call) cs ≡ true → is_plain call ≡ true
+pub plain_in : (call : Call) (cs : List Call) → list_any (same_call calls.PutFile) cs ≡ false → list_any (same_call calls.Unhold) cs ≡ false → list_any (same_call call) cs ≡ true → is_plain call ≡ true
 plain_in calls.PutFile cs a b e = absurd (true≢false (sym e ∙ a))
 plain_in calls.Unhold cs a b e = absurd (true≢false (sym e ∙ b))
 plain_in call cs a b e = refl
 
 -- so is each of those that ask for a part
-resume_plain : (reads : Bool) (call : Call) → list_any (same_call call) (calls.PartSize ∷ to_read reads) ≡ true → is_plain call ≡ true
+pub resume_plain : (reads : Bool) (call : Call) → list_any (same_call call) (calls.PartSize ∷ to_read reads) ≡ true → is_plain call ≡ true
 resume_plain true call e = plain_in call (calls.PartSize ∷ to_read true) refl refl e
 resume_plain false call e = plain_in call (calls.PartSize ∷ to_read false) refl refl e
 
-fault_is : (r : ℕ) (w : Work) (time : ℕ) (call : Call) → is_plain call ≡ true → fault_of r w time call ≡ fault_phase r w w.part (side_of w) w.phase
+-- of those for a share of its own
+pub hold_plain : (here : Bool) (bar : Option ℕ) (call : Call) → list_any (same_call call) (to_hold here bar) ≡ true → is_plain call ≡ true
+hold_plain true None call e = plain_in call (to_hold true None) refl refl e
+hold_plain true (Some j) call e = plain_in call (to_hold true (Some j)) refl refl e
+hold_plain false bar call e = plain_in call (to_hold false bar) refl refl e
+
+-- and of those that keep what came
+pub commit_plain : (right : Bool) (call : Call) → list_any (same_call call) (to_commit right) ≡ true → is_plain call ≡ true
+commit_plain true call e = plain_in call (to_commit true) refl refl e
+commit_plain false call e = plain_in call (to_commit false) refl refl e
+
+pub fault_is : (r : ℕ) (w : Work) (time : ℕ) (call : Call) → is_plain call ≡ true → fault_of r w time call ≡ fault_phase r w w.part (side_of w) w.phase
 fault_is r w time calls.PutFile e = absurd (cc)
 fault_is r w time calls.Unhold e = absurd (cc)
 fault_is r w time call e = refl
 
-fault_alone : (target : Option ℕ) (r : ℕ) (w : Work) (part : Part) (side : Side) (phase : Phase) → partner target (fault_phase r w part side phase).phase ≡ None
+pub fault_alone : (target : Option ℕ) (r : ℕ) (w : Work) (part : Part) (side : Side) (phase : Phase) → partner target (fault_phase r w part side phase).phase ≡ None
 fault_alone target r w Drops Remote Fresh = refl
 fault_alone target r w part side phase = refl
 
-fault_dead : (target : Option ℕ) (r : ℕ) (w : Work) (part : Part) (side : Side) (phase : Phase) (peer : ℕ) → partner target phase ≡ Some peer → IsLive (fault_phase r w part side phase).phase → ⊥
+pub fault_dead : (target : Option ℕ) (r : ℕ) (w : Work) (part : Part) (side : Side) (phase : Phase) (peer : ℕ) → partner target phase ≡ Some peer → IsLive (fault_phase r w part side phase).phase → ⊥
 fault_dead target r w Drops Remote Fresh peer on live = let e : None ≡ Some peer = on in absurd (cc)
 fault_dead target r w part side phase peer on live = live
 
@@ -132,7 +143,7 @@ release_is true calls.Unhold e = refl
 release_is true call e = absurd (cc)
 release_is false call e = absurd (cc)
 
-unreleased_alone : (target : Option ℕ) (w : Work) (time : ℕ) (phase : Phase) → partner target w.phase ≡ None → partner target (after_failed_release w time phase).phase ≡ None
+pub unreleased_alone : (target : Option ℕ) (w : Work) (time : ℕ) (phase : Phase) → partner target w.phase ≡ None → partner target (after_failed_release w time phase).phase ≡ None
 unreleased_alone target w time AsksTime alone = refl
 unreleased_alone target w time phase alone = alone
 
@@ -155,14 +166,14 @@ dead_even t dead outcome =
     still_dead AsksTime is l = dead (subst IsLive (sym is) tt)
     still_dead phase is l = dead l
 
--- ---- what is said first on an open connection
-
--- the phase after a frame that is heard
-took_listens : (x : Work) (body : FrameText) (m : Message) (phase : Phase) → line_in body ≡ Some m → x.phase ≡ phase → (after_frame x body).phase ≡ (listens x phase m).phase
-took_listens x (Line text) m phase told is = ap (λ (o : Option Message). (Jobs.after_line x o).phase) told ∙ ap (λ (p : Phase). (listens x p m).phase) is
+-- the work after a frame that is heard
+pub took_listens : (x : Work) (body : FrameText) (m : Message) (phase : Phase) → line_in body ≡ Some m → x.phase ≡ phase → after_frame x body ≡ listens x phase m
+took_listens x (Line text) m phase told is = ap (λ (o : Option Message). Jobs.after_line x o) told ∙ ap (λ (p : Phase). listens x p m) is
 took_listens x Opening m phase told is = absurd (cc)
 took_listens x Closing m phase told is = absurd (cc)
 took_listens x (Bytes n) m phase told is = absurd (cc)
+
+-- ---- what is said first on an open connection
 
 answers_line : (body : FrameText) (m : Message) → line_in body ≡ Some m → answers_it (Some m) ≡ true → is_answering body ≡ true
 answers_line (Line text) m told e = ap answers_it told ∙ e
@@ -212,13 +223,13 @@ first_asks t version taken peer speaks asker old faults Drops is = copy_even t v
 
 -- ---- a job that stands on no connection
 
-look_alone : (target : Option ℕ) (r : ℕ) (x : Work) (part : Part) (here : Bool) (bar : Option ℕ) → partner target (first_look r x part here bar).phase ≡ None
+pub look_alone : (target : Option ℕ) (r : ℕ) (x : Work) (part : Part) (here : Bool) (bar : Option ℕ) → partner target (first_look r x part here bar).phase ≡ None
 look_alone target r x Gets true bar = if_either (λ (y : Work). partner target y.phase ≡ None) (is_move x.what.kind) (record x { part = Drops; phase = Fresh; fills = false }) (record x { phase = Ends (Got None None); fills = false }) (λ e. refl) (λ e. refl)
 look_alone target r x Drops false bar = refl
 look_alone target r x Drops true (Some i) = refl
 look_alone target r x part here bar = refl
 
-quiet_alone : (target : Option ℕ) (rows : RowsAndEnds) (r : ℕ) (x : Work) (phase : Phase) → partner target x.phase ≡ None → partner target (quiet rows r x phase).phase ≡ None
+pub quiet_alone : (target : Option ℕ) (rows : RowsAndEnds) (r : ℕ) (x : Work) (phase : Phase) → partner target x.phase ≡ None → partner target (quiet rows r x phase).phase ≡ None
 quiet_alone target rows r x Fresh alone = look_alone target r x x.part (rows.present x.what.key) (rows.bar x.what.key)
 quiet_alone target rows r x Next alone = refl
 quiet_alone target rows r x phase alone = alone
@@ -243,11 +254,6 @@ module _ (t : Turn) (alone : partner t.w.what.peer t.w.phase ≡ None) (live : I
   own_even true None = still_even t alone live (Share (t.number) (clock_of t + hold_time) (by_me t) (key_of t)) Next refl
   own_even true (Some j) = quiet_even
   own_even false bar = quiet_even
-
-  hold_plain : (here : Bool) (bar : Option ℕ) (call : Call) → list_any (same_call call) (to_hold here bar) ≡ true → is_plain call ≡ true
-  hold_plain true None call e = plain_in call (to_hold true None) refl refl e
-  hold_plain true (Some j) call e = plain_in call (to_hold true (Some j)) refl refl e
-  hold_plain false bar call e = plain_in call (to_hold false bar) refl refl e
 
   tries_even : (standing : Standing) → EvenMade t (tries_own t standing)
   tries_even Asked = attempts_even (EvenMade t) t (to_hold (is_there t) (bar_there t)) None
@@ -317,7 +323,7 @@ rests t next peer none = record {
   any = λ l. last_away (key_of t) t.w.what.peer next peer l (none_is (partner t.w.what.peer next) peer none);
 }
 
-transferred_alone : (target : Option ℕ) (x : Work) (outcome : Outcome) → partner target (after_transfer x outcome).phase ≡ None
+pub transferred_alone : (target : Option ℕ) (x : Work) (outcome : Outcome) → partner target (after_transfer x outcome).phase ≡ None
 transferred_alone target x outcome =
     if_either (λ (y : Work). partner target y.phase ≡ None) (is_move x.what.kind) (record x { part = Drops; phase = Fresh; fills = false }) (record x { phase = Ends outcome; fills = false }) (λ e. refl) (λ e. refl)
 
@@ -351,7 +357,7 @@ module _ (t : Turn) (f : FrameView) (peer : ℕ) (x : Taking t f peer) (speaks :
       → ((listens (talker t (Some f)) phase m).phase ≡ next) → partner t.w.what.peer next ≡ None → EvenMade t (hears t f)
   heard_even phase m next is told e goes none =
       let r = rests t next peer none in
-      hears_even t (talk t) f peer x next (answers_line f.body m told e) (took_listens (talker t (Some f)) f.body m phase told (talker_phase t (Some f) ∙ is) ∙ goes) r.stays r.now r.any
+      hears_even t (talk t) f peer x next (answers_line f.body m told e) (ap (λ (y : Work). y.phase) (took_listens (talker t (Some f)) f.body m phase told (talker_phase t (Some f) ∙ is)) ∙ goes) r.stays r.now r.any
 
   bad : EvenMade t (wrong t f peer)
   bad = wrong_even t (talk t) f peer x
@@ -420,15 +426,11 @@ module _ (t : Turn) (f : FrameView) (peer : ℕ) (x : Taking t f peer) (speaks :
       tells_to t (Gain (by_me t) size (key_of t)) f peer x Success (after_transfer t.w (Got (Some p) (Some start))).phase (answers_line f.body Valid told refl) success_reads refl r.stays r.now r.any)
   gains_even p start size is told false = refused_even p start size Valid is told refl
 
-  commit_plain : (right : Bool) (call : Call) → list_any (same_call call) (to_commit right) ≡ true → is_plain call ≡ true
-  commit_plain true call e = plain_in call (to_commit true) refl refl e
-  commit_plain false call e = plain_in call (to_commit false) refl refl e
-
   get_even : (phase : Phase) (m : Message) → t.w.phase ≡ phase → line_in f.body ≡ Some m → EvenMade t (takes_get t f peer phase m)
   get_even (GetsData p start) (Data n) is told =
       let r = more_gets t p peer start start n (same_peer (GetsData p start) is) in
       keeps_even t (talk t) f peer x (gets_more p start start n) (λ q. same_other q f.body (Data n) told refl)
-      (took_listens (talker t (Some f)) f.body (Data n) (GetsData p start) told (talker_phase t (Some f) ∙ is)) r.stays r.now
+      (ap (λ (y : Work). y.phase) (took_listens (talker t (Some f)) f.body (Data n) (GetsData p start) told (talker_phase t (Some f) ∙ is))) r.stays r.now
       (λ l h. r.any l (subst (λ (q : Phase). LastIs (key_of t) t.w.what.peer q peer l) is h (same_Some p peer (same_peer (GetsData p start) is))))
   get_even (GetsWord p start size) Valid is told = attempts_even (EvenMade t) t (to_commit t.look.right) (Some f) (gains t f peer size t.look.right)
       (λ call e. fault_here call (commit_plain t.look.right call e)) (gains_even p start size is told t.look.right)

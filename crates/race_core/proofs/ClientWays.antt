@@ -5,7 +5,7 @@ use Rattle.std.proofs.lemmas.Bool.Decides.{nat_tests}
 use Rattle.std.proofs.lemmas.Bool.{eqb-true}
 use Rattle.std.proofs.lemmas.List.Elements.{filter-append}
 use Rattle.annex_base.specs.Lists.{Each}
-use Rattle.annex_base.proofs.Conditions.{eqb_refl}
+use Rattle.annex_base.proofs.Conditions.{and_regrouped, and_second, eqb_refl}
 use Rattle.run_data.specs.declared.entry.Entry.{Entry}
 use Rattle.run_data.specs.declared.entry.FrameView.{FrameView}
 use Rattle.run_data.specs.declared.entry.FrameText.{FrameText}
@@ -84,10 +84,6 @@ took_agree R T T' c q f may more x = go f.body refl
     epoch_is : (body : FrameText) → f.body ≡ body → (if is_opening body then not c.opened && nat_lt c.epoch f.epoch else c.opened && (f.epoch == c.epoch)) ≡ true
     epoch_is body is = subst (λ (b : FrameText). (if is_opening b then not c.opened && nat_lt c.epoch f.epoch else c.opened && (f.epoch == c.epoch)) ≡ true) is may
 
-    right : (a b : Bool) → (a && b) ≡ true → b ≡ true
-    right true b e = e
-    right false b e = absurd (cc)
-
     and_false : (b : Bool) → (b && false) ≡ false
     and_false true = refl
     and_false false = refl
@@ -97,7 +93,7 @@ took_agree R T T' c q f may more x = go f.body refl
 
     go : (body : FrameText) → f.body ≡ body → Agree R T' (end_takes c f.epoch body) (counts_takes q body)
     go Opening is =
-        let later : nat_lt c.epoch f.epoch ≡ true = right (not c.opened) (nat_lt c.epoch f.epoch) (epoch_is Opening is) in
+        let later : nat_lt c.epoch f.epoch ≡ true = and_second (not c.opened) (nat_lt c.epoch f.epoch) (epoch_is Opening is) in
         let l : c.epoch < f.epoch = grind (arith, nat_tests) in
         let e : (n : ℕ) → T' n ≡ T n = none Opening is refl in
         record {
@@ -114,7 +110,7 @@ took_agree R T T' c q f may more x = go f.body refl
     go (Line text) is = line (answers_it (message_of text)) refl
       where
         same : (f.epoch == c.epoch) ≡ true
-        same = right c.opened (f.epoch == c.epoch) (epoch_is (Line text) is)
+        same = and_second c.opened (f.epoch == c.epoch) (epoch_is (Line text) is)
 
         line : (b : Bool) → answers_it (message_of text) ≡ b → Agree R T' c (counts_answer q b)
         line false e = let s : (n : ℕ) → T' n ≡ T n = none (Line text) is e in
@@ -192,15 +188,9 @@ up_way r a n = record { client = r; server = a.peer; slot = a.slot; up = true; e
 abbrev pub down_way : ℕ → EndName → ℕ → Way
 down_way r a n = record { client = r; server = a.peer; slot = a.slot; up = false; epoch = n }
 
-regroup : (a b c d : Bool) → (a && (b && (c && d))) ≡ ((a && b && c) && d)
-regroup true true true d = refl
-regroup true true false d = refl
-regroup true false c d = refl
-regroup false b c d = refl
-
 -- a frame is on the way where it is the end's, of this epoch
 on_end : (r : ℕ) (peer slot n : ℕ) (g : FrameView) → is_on (up_way r (client_end peer slot) n) peer g ≡ (sends_at (client_end peer slot) g && (g.epoch == n))
-on_end r peer slot n g = regroup (g.peer == peer) (g.slot == slot) (same_bool g.up true) (g.epoch == n)
+on_end r peer slot n g = and_regrouped (g.peer == peer) (g.slot == slot) (same_bool g.up true) (g.epoch == n)
 
 filter_both : (p q t : FrameView → Bool) → ((g : FrameView) → p g ≡ (q g && t g)) → (fs : List FrameView) → filter p fs ≡ filter t (filter q fs)
 filter_both p q t same [] = refl
@@ -243,7 +233,7 @@ down_as true = refl
 down_as false = refl
 
 on_down : (r peer slot n : ℕ) (f : FrameView) → is_on (down_way r (client_end peer slot) n) peer f ≡ (takes_at (client_end peer slot) f && (f.epoch == n))
-on_down r peer slot n f = regroup (f.peer == peer) (f.slot == slot) (same_bool f.up false) (f.epoch == n)
+on_down r peer slot n f = and_regrouped (f.peer == peer) (f.slot == slot) (same_bool f.up false) (f.epoch == n)
     ∙ ap (λ b. (f.peer == peer) && (f.slot == slot) && b && (f.epoch == n)) (down_as f.up)
 
 got_none : (r peer slot : ℕ) (e : Entry) (past : List Entry) (n : ℕ) → is_of r e ≡ true → taken_at (client_end peer slot) e.taken ≡ None → got_on r peer slot (e ∷ past) n ≡ got_on r peer slot past n

@@ -1,7 +1,7 @@
 -- The causes of refusals that rest on a closed connection: a drop lost its target, a copy's connection was closed, a get's sources gave nothing.
-use Rattle.std.proofs.Common.{◌≡◌, ◌≢◌, ℕ, Bool, true, false, List, [], ◌∷◌, ◌++◌, Option, Some, None, ◌⊎◌, inl, inr, refl, sym, ap, ◌∙◌, subst, arith}
+use Rattle.std.proofs.Common.{◌≡◌, ◌≢◌, ℕ, Bool, true, false, List, [], ◌∷◌, Option, Some, None, ◌⊎◌, inl, inr, refl, sym, ap, ◌∙◌, subst, arith}
 use Rattle.std.proofs.lemmas.Bool.Decides.{nat_tests}
-use Rattle.std.specs.Prelude.{if◌then◌else◌, ◌==◌, ◌||◌}
+use Rattle.std.specs.Prelude.{if◌then◌else◌, ◌==◌}
 use Rattle.std.specs.List.{list_any}
 use Rattle.annex_base.specs.Lists.{Each, Member}
 use Rattle.race_core.proofs.Below.{SentAreRead}
@@ -34,9 +34,8 @@ use Rattle.node_model.specs.Turns.{awaits, by_partner, goes_on, has_room, is_awa
 use Rattle.run_model.specs.Run.{OwnPast, OwnRun}
 use Rattle.race_core.proofs.JobFacts.{frame_found}
 use Rattle.race_core.proofs.JobSteps.{Origin, Steps, invariant, turn_at}
-use Rattle.race_core.proofs.JobKept.{kind_kept}
 use Rattle.race_core.proofs.TalkFacts.{Fits}
-use Rattle.race_core.proofs.WorkFits.{step_runs, works_fit}
+use Rattle.race_core.proofs.WorkFits.{step_running, step_runs, works_fit}
 use Rattle.race_core.proofs.ClientCounts.{LastIs}
 use Rattle.race_core.proofs.EndReasons.{Reason, ShutOn, kind_reason}
 use Rattle.race_core.proofs.CopiesInPlace.{copies_in_place}
@@ -46,6 +45,8 @@ use Rattle.race_core.proofs.Speaks.{hears}
 use Rattle.race_core.proofs.BySteps.{earlier}
 use Rattle.race_core.proofs.SaidDown.{said_is}
 use Rattle.race_core.proofs.PhaseFacts.{only_word}
+use Rattle.annex_base.proofs.Lists.{Each-push}
+use Rattle.std.proofs.lemmas.Bool.{or_left}
 
 -- ---- the premise: between nodes of a run no wrong message comes
 
@@ -109,9 +110,6 @@ shut_now s p e run x b told (Ends (Refused (refusals.Lost ordered))) z = elim (t
 shut_now s p e run x b told (Ends (TransferRefused failures.Closed)) z = (z.0.peer, copies_in_place s p run b.by.w (step_runs s p e x b) z.1 z.0.peer z.0.on, elim (told x b z.0) [ inl closed ↦ inl closed | inr y ↦ inr y.1 ])
 shut_now s p e run x b told phase z = tt
 
-same_job : (s : SetUp) (p : List Entry) (e : Entry) (x : Work) (b : Steps s p e x) → running_job x ≡ running_job b.by.w
-same_job s p e x b = ap running_job b.work_is ∙ kind_kept (rows_at p s.number) s.number b.by.w e e.kind
-
 -- **why a connection was closed stands**
 pub shut_stands : (s : SetUp) (past : List Entry) → OwnRun s past → ShutsTold s past → (w : Work) → Member w (works past s.number) → ShutStands s.number past (running_job w) w.phase
 shut_stands s past run told w m = invariant s (λ p x. ShutsTold s p → ShutStands s.number p (running_job x) x.phase) (λ p e is x n was told. shut_grows s.number e p (running_job x) x.phase (was told.1)) own past run w m told
@@ -127,7 +125,7 @@ shut_stands s past run told w m = invariant s (λ p x. ShutsTold s p → ShutSta
           | inl same ↦ subst (ShutStands s.number (e ∷ p) (running_job v)) (sym same) (shut_grows s.number e p (running_job v) v.phase (was v (step_runs s p e x b) told.1))
           | inr reason ↦ shut_now s p e run.1 x b told.0 y.phase reason
         ] in
-        subst (λ (j : RunningJob). ShutStands s.number (e ∷ p) j x.phase) (sym (same_job s p e x b)) (subst (λ (z : Work). ShutStands s.number (e ∷ p) (running_job v) z.phase) (sym b.work_is) new)
+        subst (λ (j : RunningJob). ShutStands s.number (e ∷ p) j x.phase) (sym (step_running s p e x b)) (subst (λ (z : Work). ShutStands s.number (e ∷ p) (running_job v) z.phase) (sym b.work_is) new)
 
 -- ---- a get's sources
 
@@ -189,10 +187,6 @@ word_taken_by t m p start size at part e = go (end_with t p).opened (subst (λ (
 abbrev pub SourcesTold : ℕ → List Entry → RunningJob → List SourceFailure → Type 0
 SourcesTold r past j xs = Each (λ x. SourceToldOf past r j.number j.what.key x.repo x.cause) xs
 
-each_more : (P : SourceFailure → Type 0) (xs : List SourceFailure) (x : SourceFailure) → Each P xs → P x → Each P (xs ++ x ∷ [])
-each_more P [] x a p = (p, tt)
-each_more P (y ∷ xs) x a p = (a.0, each_more P xs x a.1 p)
-
 module _ (reads_back : SentAreRead) (s : SetUp) (p : List Entry) (e : Entry) (h : OwnPast s (e ∷ p)) (is : is_of s.number e ≡ true) (x : Work) (b : Steps s p e x) where
   abbrev v : Work
   v = b.by.w
@@ -227,12 +221,8 @@ module _ (reads_back : SentAreRead) (s : SetUp) (p : List Entry) (e : Entry) (h 
     where
       valid_now : (f : FrameView) → e.taken ≡ Some f → line_in f.body ≡ Some Valid → partner v.what.peer v.phase ≡ Some z.peer → SourceToldOf (e ∷ p) s.number v.number v.what.key z.peer sources.Wrong
       valid_now f took valid on =
-          let first : list_any (says is_failure) e.sent ≡ true = subst (λ fs. list_any (says is_failure) fs ≡ true) (sym z.says.sent_is) (yes_first (says is_failure z.says.f) (list_any (says is_failure) z.says.rest) (ap is_failure (said_is z.says.f.body Failure z.says.told))) in
+          let first : list_any (says is_failure) e.sent ≡ true = subst (λ fs. list_any (says is_failure) fs ≡ true) (sym z.says.sent_is) (or_left (says is_failure z.says.f) (list_any (says is_failure) z.says.rest) (ap is_failure (said_is z.says.f.body Failure z.says.told))) in
           (record { entry = e; before = p; occurs = inl (refl, refl); own = stepped_own s p e b.by is; f = f; takes_it = took; peer_is = took_peer reads_back s p e b.by is f took z.peer on; down = (hears s p e b.by f took).1; says = said_is f.body Valid valid }, first)
-        where
-          yes_first : (a c : Bool) → a ≡ true → (a || c) ≡ true
-          yes_first true c h = refl
-          yes_first false c h = absurd (cc)
 
       asked_now : (f : FrameView) → e.taken ≡ Some f → line_in f.body ≡ Some Invalid → partner v.what.peer v.phase ≡ Some z.peer → AnswersRequest (e ∷ p) s.number v.number z.peer (Says (Get z.start [] v.what.key)) (Says Invalid)
       asked_now f took invalid on =
@@ -243,10 +233,10 @@ module _ (reads_back : SentAreRead) (s : SetUp) (p : List Entry) (e : Entry) (h 
   causes_now : ShutTold s p e → SourcesTold s.number p (running_job v) v.causes → Causes (rows_at p s.number) v e x → SourcesTold s.number (e ∷ p) (running_job v) x.causes
   causes_now told was (inl same) = subst (SourcesTold s.number (e ∷ p) (running_job v)) (sym same) (sources_grow s.number e p (running_job v) v.what.key v.causes was)
   causes_now told was (inr (inl a)) = subst (SourcesTold s.number (e ∷ p) (running_job v)) (sym a.list)
-      (each_more (λ y. SourceToldOf (e ∷ p) s.number v.number v.what.key y.repo y.cause) v.causes (record { repo = a.peer; cause = a.cause }) (sources_grow s.number e p (running_job v) v.what.key v.causes was)
+      (Each-push (λ y. SourceToldOf (e ∷ p) s.number v.number v.what.key y.repo y.cause) v.causes (record { repo = a.peer; cause = a.cause }) (sources_grow s.number e p (running_job v) v.what.key v.causes was)
       (subst (SourceToldOf (e ∷ p) s.number v.number v.what.key a.peer) (sym a.why.0) (subst (ClosedWith (e ∷ p) s.number v.number) a.why.2 (elim (told x b a.why.1) [ inl closed ↦ closed | inr y ↦ absurd (let both : Puts ≡ Gets = sym y.0 ∙ a.gets in cc) ]))))
   causes_now told was (inr (inr a)) = subst (SourcesTold s.number (e ∷ p) (running_job v)) (sym a.list)
-      (each_more (λ y. SourceToldOf (e ∷ p) s.number v.number v.what.key y.repo y.cause) v.causes (record { repo = a.peer; cause = source_cause a.start (taken_message e.taken) }) (sources_grow s.number e p (running_job v) v.what.key v.causes was) (word_cause a))
+      (Each-push (λ y. SourceToldOf (e ∷ p) s.number v.number v.what.key y.repo y.cause) v.causes (record { repo = a.peer; cause = source_cause a.start (taken_message e.taken) }) (sources_grow s.number e p (running_job v) v.what.key v.causes was) (word_cause a))
 
 -- **each cause of a get's peers stands in its entries**
 pub sources_told : SentAreRead → (s : SetUp) (past : List Entry) → OwnPast s past → ShutsTold s past → (w : Work) → Member w (works past s.number) → SourcesTold s.number past (running_job w) w.causes
@@ -258,5 +248,5 @@ sources_told reads_back s past h told w m = invariant s (λ p x. OwnPast s p →
     own p e run is was x (inr (inl b)) h told = sources_grow s.number e p (running_job x) x.what.key x.causes (was x b.ran (earlier s p e h) told.1)
     own p e run is was x (inr (inr b)) h told =
         let v = b.by.w in
-        subst (λ (j : RunningJob). SourcesTold s.number (e ∷ p) j x.causes) (sym (same_job s p e x b))
+        subst (λ (j : RunningJob). SourcesTold s.number (e ∷ p) j x.causes) (sym (step_running s p e x b))
         (causes_now reads_back s p e h is x b told.0 (was v (step_runs s p e x b) (earlier s p e h) told.1) (subst (Causes (rows_at p s.number) v e) (sym b.work_is) (kind_carries (rows_at p s.number) s.number v e e.kind).2))

@@ -81,7 +81,7 @@ take_all [] (suc n) e = refl
 take_all (x ∷ xs) zero e = absurd (cc)
 take_all (x ∷ xs) (suc n) e = ap (λ ys. x ∷ ys) (take_all xs n e)
 
-sources_same : (t : Turn) (o : Option ℕ) → sources t o ≡ sources_of t.read.repo t.read.count o
+pub sources_same : (t : Turn) (o : Option ℕ) → sources t o ≡ sources_of t.read.repo t.read.count o
 sources_same t None = refl
 sources_same t (Some peer) = refl
 

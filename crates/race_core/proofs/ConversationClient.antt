@@ -297,9 +297,6 @@ module _ (reads_back : SentAreRead) (run : Run) (repos : Each IsSetUp run.repos)
 
         -- ---- the connection is opened
 
-        new_epoch : ℕ
-        new_epoch = c.epoch + 1
-
         open_all : (fs : List FrameView) → Each (SentWell c) fs → bodies fs ≡ Opening ∷ [] → Each (λ g. g.epoch ≡ c.epoch + 1) fs × ((sends_all c fs).epoch ≡ c.epoch + 1)
         open_all [] all is = absurd (cc)
         open_all (g ∷ []) all is = ((one all.0, tt), ap (λ (body : FrameText). (end_sends c body).epoch) first_is)
@@ -562,12 +559,6 @@ module _ (reads_back : SentAreRead) (run : Run) (repos : Each IsSetUp run.repos)
   quiet_goes : (x : Work) (p : ℕ) → is_of p e ≡ false → IsLive x.phase → (end_at (e ∷ past) r (job_end x p)).opened ≡ true → Quiet s past e x (job_end x p) → Conversation (e ∷ past) r p x
   quiet_goes x p other live now q = record { z = old.z; up = old.up; down = old.down; talk = old.talk; knows = old.knows; there = there }
     where
-      a : EndName
-      a = job_end x p
-
-      n : ℕ
-      n = (end_at past r (job_end x p)).epoch
-
       old : Conversation past r p x
       old = was x q.ran p live (ap (λ (c : End). c.opened) (sym q.same) ∙ now)
 

@@ -49,6 +49,9 @@ up_way r p q n = way_out r (client_end p q) n
 abbrev pub down_way : ℕ → ℕ → ℕ → ℕ → Way
 down_way r p q n = way_in r (client_end p q) n
 
+apart_below : (i j k : ℕ) → i ≡ j → j < k → (i == k) ≡ false
+apart_below i j k same l = grind (arith, nat_tests)
+
 -- ---- where the server is, at the client's opening n
 
 -- it is to take the Opening
@@ -143,10 +146,7 @@ module _ (reads_back : SentAreRead) (run : Run) (repos : Each IsSetUp run.repos)
 
   each_none : (fs : List FrameView) → Each (λ g. (g.epoch ≡ mid.epoch) × (is_opening g.body ≡ false)) fs → mid.epoch < n → Each (λ g. (g.epoch == n) ≡ false) fs
   each_none [] all l = tt
-  each_none (g ∷ gs) all l = (less g.epoch mid.epoch n all.0.0 l, each_none gs all.1 l)
-    where
-      less : (i j k : ℕ) → i ≡ j → j < k → (i == k) ≡ false
-      less i j k same l = grind (arith, nat_tests)
+  each_none (g ∷ gs) all l = (apart_below g.epoch mid.epoch n all.0.0 l, each_none gs all.1 l)
 
   each_opens : (fs : List FrameView) → Each (λ g. (g.epoch ≡ mid.epoch) × (is_opening g.body ≡ false)) fs → OpensNone fs
   each_opens [] all = tt
@@ -367,9 +367,6 @@ module _ (reads_back : SentAreRead) (run : Run) (repos : Each IsSetUp run.repos)
         no_hit : (f.epoch == n) ≡ false → Queue (e ∷ past) (up_way r p q n) up
         no_hit apart = in_still p b n past e own other up (ap (λ o. hits n o) at_b ∙ apart) x.up_queue
 
-        below : (i j k : ℕ) → i ≡ j → j < k → (i == k) ≡ false
-        below i j k same l = grind (arith, nat_tests)
-
         less : (i j k : ℕ) → i ≡ j → j < k → i < k
         less i j k same l = omega (arith, same, l)
 
@@ -380,7 +377,7 @@ module _ (reads_back : SentAreRead) (run : Run) (repos : Each IsSetUp run.repos)
         older : (body : FrameText) → f.body ≡ body → is_opening body ≡ false → Then at z
         older body is o =
             let epoch : f.epoch ≡ d.epoch = (may_epoch d f (ap is_opening is ∙ o) may).1 in
-            stays_away (less mid.epoch d.epoch n (mid_is ∙ takes_epoch d f.epoch f.body (ap is_opening is ∙ o)) x.later) (no_hit (below f.epoch d.epoch n epoch x.later))
+            stays_away (less mid.epoch d.epoch n (mid_is ∙ takes_epoch d f.epoch f.body (ap is_opening is ∙ o)) x.later) (no_hit (apart_below f.epoch d.epoch n epoch x.later))
 
         by : (body : FrameText) → f.body ≡ body → (c : Bool) → (f.epoch == n) ≡ c → Then at z
         by Opening is true same = elim (at_server s past part.words e r q part.own) [

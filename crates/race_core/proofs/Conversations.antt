@@ -16,15 +16,11 @@ use Rattle.node_model.specs.Jobs.{Work, job_end}
 use Rattle.run_model.specs.Run.{RunPast, RunStep, set_up}
 use Rattle.race_core.proofs.Dialogue.{stands_at}
 use Rattle.race_core.proofs.Queues.{Queue, others_queue}
-use Rattle.race_core.proofs.Epochs.{client_end}
 use Rattle.race_core.proofs.ConversationServer.{Where, down_way, server_goes, up_way}
 use Rattle.race_core.proofs.ConversationClient.{Conversation, Conversing, client_goes}
 
 module _ (reads_back : SentAreRead) (run : Run) (repos : Each IsSetUp run.repos) (past : List Entry) (e : Entry) (h : RunPast (set_up run) past) (step : RunStep (set_up run) past e) (r : ℕ) (other : is_of r e ≡ false) (was : Conversing past r) where
   module _ (w : Work) (p : ℕ) (old : Conversation past r p w) where
-    n : ℕ
-    n = (end_at past r (client_end p w.slot)).epoch
-
     end_same : end_at (e ∷ past) r (job_end w p) ≡ end_at past r (job_end w p)
     end_same = rw other refl
 

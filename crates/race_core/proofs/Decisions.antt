@@ -1,10 +1,9 @@
 -- What a bar and an order of a repository's own part of a run stand on.
-use Rattle.std.proofs.Common.{◌≡◌, ◌≢◌, ℕ, ◌+◌, ◌<◌, ◌≤◌, true, false, List, [], ◌∷◌, Option, Some, None, ◌⊎◌, inl, inr, refl, sym, ap, ◌∙◌, subst, arith}
+use Rattle.std.proofs.Common.{◌≡◌, ◌≢◌, ℕ, ◌+◌, ◌≤◌, true, false, List, [], ◌∷◌, Option, Some, None, ◌⊎◌, inl, inr, refl, sym, ap, ◌∙◌, subst, arith}
 use Rattle.std.specs.Prelude.{◌==◌}
-use Rattle.std.proofs.lemmas.Bool.Decides.{nat_tests}
 use Rattle.annex_base.specs.Lists.{Member}
 use Rattle.annex_base.specs.declared.kinds.Word.{Word}
-use Rattle.annex_base.proofs.Conditions.{eqb_refl}
+use Rattle.annex_base.proofs.Conditions.{eqb_refl, eqb_more}
 use Rattle.race_core.proofs.Below.{SentAreRead}
 use Rattle.drop_proof.specs.declared.rule.Need.{Need}
 use Rattle.drop_proof.specs.declared.rule.Side.TheVariants.{Remote}
@@ -44,9 +43,6 @@ begun_off : (j : ℕ) (was : Option Job) (kind : EntryKind) → ((job : ℕ) (wh
 begun_off j was (Begin job what) off = rw (off job what refl) refl
 begun_off j was kind off = refl
 
-pub more_off : (a b : ℕ) → b < a → (a == b) ≡ false
-more_off a b h = grind (arith, nat_tests)
-
 step_no_begin : (j : ℕ) (kind : EntryKind) → is_step j kind ≡ true → (job : ℕ) (what : Job) → kind ≢ Begin job what
 step_no_begin j kind step job what is = let no_step : is_step j (Begin job what) ≡ true = subst (λ k. is_step j k ≡ true) is step in cc
 
@@ -66,7 +62,7 @@ runs_begun s past run w m =
         let mine = r.0 is in
         let below : x.number ≤ begun_count p s.number = number_begun s p r.1 x b.ran in
         rw is (begun_off x.number (begun_job p s.number x.number) e.kind
-        (λ job what k. let next : job ≡ begun_count p s.number + 1 = begins_next s p mine.0 e mine.1 job what k in more_off job x.number (omega arith)) ∙ was x b.ran)
+        (λ job what k. let next : job ≡ begun_count p s.number + 1 = begins_next s p mine.0 e mine.1 job what k in eqb_more x.number job (omega arith)) ∙ was x b.ran)
     own p e r is was x (inr (inr b)) =
         let v = b.by.w in
         let same : running_job x ≡ running_job v = ap running_job b.work_is ∙ kind_kept (rows_at p s.number) s.number v e e.kind in

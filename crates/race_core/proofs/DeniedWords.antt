@@ -2,13 +2,11 @@
 use Rattle.std.proofs.Common.{◌≡◌, ℕ, true, false, List, ◌∷◌, Option, Some, inl, inr, refl, sym, ap, ◌∙◌, subst}
 use Rattle.std.specs.Prelude.{slice_get}
 use Rattle.annex_base.specs.Lists.{Member}
-use Rattle.annex_base.proofs.Conditions.{eqb_refl}
 use Rattle.race_core.proofs.Below.{SentAreRead}
 use Rattle.drop_proof.specs.declared.rule.Side.TheVariants.{Remote}
 use Rattle.run_data.specs.declared.entry.Entry.{Entry}
 use Rattle.node_model.specs.Slots.{RunningJob}
 use Rattle.run_model.specs.Past.{is_of}
-use Rattle.node_model.specs.Rows.{option_is}
 use Rattle.p2p_wire.specs.declared.message.Message.TheVariants.{Failure}
 use Rattle.p2p_wire.specs.Messages.{order_of}
 use Rattle.run_model.specs.Said.{Says}
@@ -31,6 +29,7 @@ use Rattle.race_core.proofs.Standing.{orders_remote, refused_order, stands}
 use Rattle.race_core.proofs.BySteps.{earlier}
 use Rattle.race_core.proofs.WordsTold.{word_now, word_still}
 use Rattle.race_core.proofs.PhaseFacts.{only_orders}
+use Rattle.race_core.proofs.Plain.{option_at}
 
 -- the order was refused, and its word is the sender's
 pub record DeniedBy (s : SetUp) (past : List Entry) (j : RunningJob) : Type 0 where
@@ -62,9 +61,6 @@ denied_other s past e j phase is x = tt
 denied_still : (s : SetUp) (past : List Entry) (e : Entry) (w : Work) (phase : Phase) → OwnRun s past → Member w (works past s.number) → w.phase ≡ phase → DeniedAt s past (running_job w) phase → DeniedAt s (e ∷ past) (running_job w) phase
 denied_still s past e w Denied run m at x = grown s past e (running_job w) x (word_still s past e w (target_in s.number (running_job w)) run m (ap (awaits_word (target_in s.number (running_job w)) w.what.peer) at))
 denied_still s past e w phase run m at x = tt
-
-option_at : (o : Option ℕ) (n : ℕ) → o ≡ Some n → option_is o n ≡ true
-option_at o n is = ap (λ q. option_is q n) is ∙ eqb_refl n
 
 module _ (reads_back : SentAreRead) (s : SetUp) (p : List Entry) (e : Entry) (h : OwnPast s (e ∷ p)) (is : is_of s.number e ≡ true) (x : Work) (b : Steps s p e x) where
   abbrev v : Work

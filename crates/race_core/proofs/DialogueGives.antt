@@ -17,6 +17,7 @@ use Rattle.race_core.proofs.Cases.{unless_found}
 use Rattle.race_core.proofs.Dialogue
 use Rattle.race_core.proofs.Dialogue.{Stance}
 use Rattle.race_core.proofs.DialogueReplies.{Says}
+use Rattle.race_core.proofs.DialogueSteps.{min_fits}
 
 abbrev made : ℕ → Doing → Session
 made v d = record { version = v; doing = d }
@@ -155,12 +156,9 @@ module _ (key : List ℕ) (at left : ℕ) (good : Bool) (v : ℕ) where
         (if_either Gone (reaches (content_of h key) (at + n)) (record { kind = Talk None; says = Bytes n ∷ [] }) (shuts (close_kind h))
         (λ e. inr ((refl, tt), (λ g. refl), gives_on (made v (Gives key (at + n) (left - n) good)) (Bytes n) (piece_longer n fits) on up down x)) (λ e. inl refl))
 
-    min_fits : (left == 0) ≡ false → (nat_lt 0 (min 32768 left) && nat_le (min 32768 left) left) ≡ true
-    min_fits e = let first : nat_lt 0 (min 32768 left) ≡ true = grind (arith, nat_tests) in let second : nat_le (min 32768 left) left ≡ true = grind (arith, nat_tests) in rw first second
-
     next_says : Gone (if left == 0 then reply (Talk None) (if good then Valid else Invalid) else on_piece h key at (min 32768 left))
     next_says = if_either Gone (left == 0) (reply (Talk None) (if good then Valid else Invalid)) (on_piece h key at (min 32768 left))
-        (λ e. word_says (grind (arith, nat_tests)) good) (λ e. piece_says (min 32768 left) (min_fits e))
+        (λ e. word_says (grind (arith, nat_tests)) good) (λ e. piece_says (min 32768 left) (min_fits left e))
 
 -- **what a session gives keeps the dialogue**
 pub gives_serves : (h : Here) (on : Stance) (z : Session) (up down : List FrameText) (x : Reply) → Dialogue.Dialogue on z up down → gives_next h z.doing ≡ Some x → Says on z (gave_first z x.says) up down x.says

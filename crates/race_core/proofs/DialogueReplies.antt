@@ -141,27 +141,24 @@ module _ (reads_back : SentAreRead) (size : List ℕ → Option ℕ) (h : Here) 
         go true None true = order_says m order speaks (Check found.Held key) Failure (inr refl)
         go true None false = order_says m order speaks (Gone (by_of h) key) Success (inl refl)
 
+    old_version : nat_le 3 z.version ≡ false → 3 ≤ z.version → ⊥
+    old_version e new = grind (arith, nat_tests)
+
     pub before_served : (n : ℕ) (key : List ℕ) → 3 ≤ z.version → Served Dialogue.AtOrder (RemoveBefore n key) (on_request h z.version (RemoveBefore n key))
     before_served n key new = if_either (Served Dialogue.AtOrder (RemoveBefore n key)) (nat_le 3 z.version) (on_remove_before h n key) (unexpected_reply h)
         (λ e. if_either (Served Dialogue.AtOrder (RemoveBefore n key)) (nat_lt (now_of h) (1000 * n)) (on_remove h key) (reply (Check found.Late key) Failure)
         (λ e. remove_served (RemoveBefore n key) (λ kind told. refl) speaks key) (λ e. order_says (RemoveBefore n key) (λ kind told. refl) speaks (Check found.Late key) Failure (inr refl)))
-        (λ e. absurd (old e new))
+        (λ e. absurd (old_version e new))
       where
         speaks : 1 ≤ z.version
         speaks = omega (arith, new)
-
-        old : nat_le 3 z.version ≡ false → 3 ≤ z.version → ⊥
-        old e new = grind (arith, nat_tests)
 
     -- GETTIMESTAMP
     pub time_served : 3 ≤ z.version → Served Dialogue.AtTime GetTimestamp (on_request h z.version GetTimestamp)
     time_served new = if_either (Served Dialogue.AtTime GetTimestamp) (nat_le 3 z.version) (reply (Talk None) (Timestamp (now_of h / 1000))) (unexpected_reply h)
         (λ e. answers Dialogue.AtTime (λ z up down x. x) GetTimestamp (Talk None) (Timestamp (now_of h / 1000)) spot.time
         (record { waits = waits; speaks = omega (arith, new) }, new, spot.soon) (λ g. refl))
-        (λ e. absurd (old e new))
-      where
-        old : nat_le 3 z.version ≡ false → 3 ≤ z.version → ⊥
-        old e new = grind (arith, nat_tests)
+        (λ e. absurd (old_version e new))
 
     -- VERSION
     pub version_served : Served Dialogue.AtGreet (Version 3) (on_request h z.version (Version 3))

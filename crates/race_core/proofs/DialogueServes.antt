@@ -21,6 +21,7 @@ use Rattle.race_core.proofs.Dialogue
 use Rattle.race_core.proofs.Dialogue.{Stance}
 use Rattle.race_core.proofs.DialogueReplies
 use Rattle.race_core.proofs.DialogueReplies.{Opens, Says, Spot, after_frame, after_message, told_first}
+use Rattle.std.proofs.lemmas.Option.{same_Some}
 
 abbrev made : ℕ → Doing → Session
 made v d = record { version = v; doing = d }
@@ -35,16 +36,13 @@ module _ (reads_back : SentAreRead) (size : List ℕ → Option ℕ) (h : Here) 
   abbrev SilentFrame : ℕ → Doing → FrameText → Doing → Type 0
   SilentFrame v d b next = ((on_frame h (made v d) b).says ≡ Closing ∷ []) ⊎ (((on_frame h (made v d) b).says ≡ []) × (after_frame size (made v d) b (on_frame h (made v d) b) ≡ made v next))
 
-  some_doing : (d e : Doing) → Some d ≡ Some e → d ≡ e
-  some_doing d e is = cc
-
   acks_silent : (v : ℕ) (o : Option Message) (next : Doing) → Dialogue.acks o ≡ Some next → Silent v Gave o next
-  acks_silent v (Some Success) next e = inr (refl, ap (made v) (some_doing Waits next e))
-  acks_silent v (Some Failure) next e = inr (refl, ap (made v) (some_doing Waits next e))
+  acks_silent v (Some Success) next e = inr (refl, ap (made v) (same_Some Waits next e))
+  acks_silent v (Some Failure) next e = inr (refl, ap (made v) (same_Some Waits next e))
   acks_silent v o next e = absurd (cc)
 
   starts_silent : (v : ℕ) (key : List ℕ) (k : ℕ) (o : Option Message) (next : Doing) → Dialogue.starts key k o ≡ Some next → Silent v (Wants key k) o next
-  starts_silent v key k (Some (Data n)) next e = inr (refl, ap (made v) (some_doing (takes_more key k n) next e))
+  starts_silent v key k (Some (Data n)) next e = inr (refl, ap (made v) (same_Some (takes_more key k n) next e))
   starts_silent v key k o next e = absurd (cc)
 
   bytes_silent : (v : ℕ) (key : List ℕ) (k left n : ℕ) (next : Doing) → Dialogue.fills key k left (Bytes n) ≡ Some next → SilentFrame v (Takes key k left) (Bytes n) next
@@ -53,13 +51,10 @@ module _ (reads_back : SentAreRead) (size : List ℕ → Option ℕ) (h : Here) 
       quiet : Reply
       quiet = silent_reply (Talk None)
 
-      Ends : Reply → Type 0
-      Ends x = (x.says ≡ Closing ∷ []) ⊎ ((x.says ≡ []) × (made v (takes_more key (k + n) (left - n)) ≡ made v next))
-
       go : (c : Bool) → (nat_lt 0 n && nat_le n left) ≡ c → (if c then Some (takes_more key (k + n) (left - n)) else None) ≡ Some next → SilentFrame v (Takes key k left) (Bytes n) next
       go false is e = absurd (cc)
       go true is e = rw is (unless_found (λ (x : Reply). (x.says ≡ Closing ∷ []) ⊎ ((x.says ≡ []) × (made v (takes_more key (k + n) (left - n)) ≡ made v next))) (failing h.fails (calls.Append ∷ [])) (λ call. record { kind = Fault call (by_of h); says = Closing ∷ [] }) quiet
-          (λ call. inl refl) (inr (refl, ap (made v) (some_doing (takes_more key (k + n) (left - n)) next e))))
+          (λ call. inl refl) (inr (refl, ap (made v) (same_Some (takes_more key (k + n) (left - n)) next e))))
 
   silent_frame : (v : ℕ) (d : Doing) (b : FrameText) (next : Doing) → Dialogue.silently d b ≡ Some next → SilentFrame v d b next
   silent_frame v Gave (Line text) next e = acks_silent v (message_of text) next e

@@ -1,6 +1,6 @@
 -- What a job takes and says keeps the dialogue on its connection: what comes suits its phase, and what it says the session takes.
 use Rattle.std.proofs.Common.{◌≡◌, ℕ, ◌+◌, ◌-◌, ◌≤◌, Bool, true, false, List, [], ◌∷◌, ◌++◌, Option, Some, None, ◌⊎◌, inl, inr, refl, sym, ap, ◌∙◌, subst, arith}
-use Rattle.std.specs.Prelude.{◌==◌, ◌&&◌, nat_le, nat_lt}
+use Rattle.std.specs.Prelude.{◌==◌, ◌&&◌, nat_le, nat_lt, min}
 use Rattle.std.proofs.lemmas.Bool.Decides.{nat_tests}
 use Rattle.annex_base.proofs.Conditions.{if_either}
 use Rattle.run_data.specs.declared.entry.FrameText.{FrameText}
@@ -15,6 +15,9 @@ use Rattle.race_core.proofs.Dialogue
 
 abbrev Talk : Dialogue.Stance → Session → List FrameText → List FrameText → Type 0
 Talk at z up down = Dialogue.Dialogue at z up down
+
+pub min_fits : (left : ℕ) → (left == 0) ≡ false → (nat_lt 0 (min 32768 left) && nat_le (min 32768 left) left) ≡ true
+min_fits left e = let first : nat_lt 0 (min 32768 left) ≡ true = grind (arith, nat_tests) in let second : nat_le (min 32768 left) left ≡ true = grind (arith, nat_tests) in rw first second
 
 -- ---- lists
 

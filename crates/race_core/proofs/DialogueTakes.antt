@@ -1,7 +1,7 @@
 -- Each step of a job keeps the dialogue on its connections, where what it takes suits its phase: the steps that take a frame, and all.
 use Rattle.std.proofs.Common.{◌≡◌, ℕ, ◌+◌, ◌-◌, ◌/◌, ◌^◌, ◌≤◌, Bool, true, false, List, [], ◌∷◌, ◌++◌, Option, Some, None, inl, inr, ◌⊎◌, refl, sym, ap, ◌∙◌, subst, arith}
 use Rattle.std.specs.Prelude.{if◌then◌else◌, ◌==◌, ◌&&◌, not, min, nat_lt, nat_le, bytes_eq, codes}
-use Rattle.std.specs.List.{list_all, list_any}
+use Rattle.std.specs.List.{list_all}
 use Rattle.std.proofs.lemmas.Bool.{true≢false, and_parts}
 use Rattle.std.proofs.lemmas.Bool.Decides.{nat_tests}
 use Rattle.std.proofs.lemmas.Option.{same_Some}
@@ -29,7 +29,6 @@ use Rattle.node_model.specs.Jobs
 use Rattle.node_model.specs.Jobs.{Part, Gets, Puts, Drops, Phase, Fresh, Next, Opens, Greets, GetsData, GetsBytes, GetsWord, PutsOffer, PutsBytes, PutsWord, PutsAnswer, AsksLock, AsksLook, AsksTime, Removed, Denied, Late, Ends, Heard, Held, Work, gets_more, puts_more, is_move, job_end, listens, partner, side_of, after_frame, after_transfer, after_failed_release}
 use Rattle.node_model.specs.Calls.{to_commit, to_release}
 use Rattle.node_model.specs.Look.{Made, waiting}
-use Rattle.annex_base.specs.Calls.{same_call}
 use Rattle.node_model.specs.SessionStep.{bytes_left}
 use Rattle.node_model.specs.JobStep.{Turn, hears, attempts, by_me, clock_of, end_with, ends, farewells, key_of, owns_share, quietly, says_to, sends_to, talk, wrong, is_held}
 use Rattle.node_model.specs.DropStep.{takes_drop, takes_time, first_end, orders, target, times}
@@ -37,30 +36,21 @@ use Rattle.node_model.specs.Requests.{asks}
 use Rattle.node_model.specs.TransferStep.{takes_get, takes_put, content_of, gains, puts_from, puts_piece, takes_bytes}
 use Rattle.node_model.specs.Turns.{takes_answer, awaits, by_partner, goes_on, has_room, needs, with_partner, is_awaiting, goes, outcome_of, takes, takes_frame, takes_text}
 use Rattle.race_core.proofs.JobFacts.{frame_found}
-use Rattle.race_core.proofs.PhaseFacts.{only_puts}
+use Rattle.race_core.proofs.PhaseFacts.{only_offer, only_puts}
 use Rattle.race_core.proofs.TalkFacts.{Fits}
 use Rattle.race_core.proofs.ClientCounts.{IsLive, none_is}
 use Rattle.race_core.proofs.ClientTurns.{talker, talker_phase}
 use Rattle.race_core.proofs.ClientLeaves.{Taking}
-use Rattle.race_core.proofs.ClientSteps.{attempts_even, release_is}
+use Rattle.race_core.proofs.ClientSteps.{attempts_even, commit_plain, failure_reads, is_plain, plain_in, release_is, took_listens, transferred_alone, valid_reads}
 use Rattle.race_core.proofs.Dialogue
 use Rattle.race_core.proofs.Dialogue.{Stance, Suits, SuitsBytes, SuitsLine, SuitsMessage, kept, phase_stance, rests, stance}
-use Rattle.race_core.proofs.DialogueSteps.{asked_reply, away_asks, bytes_gives, data_gives, heard_away, lock_locked, offer_starts, opened_greets, piece_sends, rests_away, valid_sends, was_answered, word_acks}
+use Rattle.race_core.proofs.DialogueSteps.{asked_reply, away_asks, bytes_gives, data_gives, heard_away, lock_locked, min_fits, offer_starts, opened_greets, piece_sends, rests_away, valid_sends, was_answered, word_acks}
 use Rattle.race_core.proofs.DialogueTurns.{KeepsTo, rests_at, stands_on}
 use Rattle.race_core.proofs.DialogueLeaves.{closes_keeps, hears_keeps, hears_to_keeps, lost_keeps, says_keeps, says_to_keeps, sends_keeps, short_keeps, shut_keeps}
-use Rattle.race_core.proofs.DialogueWalk.{Asks, GoodMade, IsVersion, Walks, failure_reads, fault_on, first_asks, first_step_good, dead_good, ends_good, is_plain, next_step_good, order_good, plain_in, took_listens, valid_reads}
+use Rattle.race_core.proofs.DialogueWalk.{Asks, GoodMade, IsVersion, Walks, fault_on, first_asks, first_step_good, dead_good, ends_good, next_step_good, order_good}
 
 abbrev Converses : Stance → Session → List FrameText → List FrameText → Type 0
 Converses at z up down = Dialogue.Dialogue at z up down
-
-transferred_alone : (target : Option ℕ) (x : Work) (outcome : Outcome) → partner target (after_transfer x outcome).phase ≡ None
-transferred_alone target x outcome =
-    if_either (λ (y : Work). partner target y.phase ≡ None) (is_move x.what.kind) (record x { part = Drops; phase = Fresh; fills = false }) (record x { phase = Ends outcome; fills = false }) (λ e. refl) (λ e. refl)
-
-only_offer : (part : Part) (peer : ℕ) → Fits part (PutsOffer peer) → part ≡ Puts
-only_offer Puts peer f = refl
-only_offer Gets peer f = absurd f
-only_offer Drops peer f = absurd f
 
 gets_on : (target : Option ℕ) (p start size left : ℕ) → partner target (gets_more p start size left) ≡ Some p
 gets_on target p start size left = if_either (λ (x : Phase). partner target x ≡ Some p) (left == 0) (GetsWord p start size) (GetsBytes p start size left) (λ e. refl) (λ e. refl)
@@ -169,9 +159,6 @@ part_suits Puts phase m f s = put_suits phase m f s
 part_suits Drops phase m f s = drop_suits phase m f s
 
 module _ (t : Turn) (f : FrameView) (peer : ℕ) (x : Taking t f peer) (walks : Walks t) where
-  abbrev target' : Option ℕ
-  target' = t.w.what.peer
-
   -- in this phase
   same_peer : (phase : Phase) → t.w.phase ≡ phase → partner t.w.what.peer phase ≡ Some peer
   same_peer phase is = subst (λ (p : Phase). partner t.w.what.peer p ≡ Some peer) is x.on
@@ -286,10 +273,6 @@ module _ (t : Turn) (f : FrameView) (peer : ℕ) (x : Taking t f peer) (walks : 
   )
   gains_good p start size is told false = refused_good p start size is (inl told)
 
-  commit_plain : (right : Bool) (call : Call) → list_any (same_call call) (to_commit right) ≡ true → is_plain call ≡ true
-  commit_plain true call e = plain_in call (to_commit true) refl refl e
-  commit_plain false call e = plain_in call (to_commit false) refl refl e
-
   -- bytes are to come
   more_gets : (p start size left : ℕ) → Some p ≡ Some peer → (k : Bool) (z : Session) (up down : List FrameText) → Converses (phase_stance (gets_more p start size left)) z up down → Converses (stance t.w.what.peer (gets_more p start size left) k peer) z up down
   more_gets p start size left same k z up down y = to_on t.w.what.peer (gets_more p start size left) k peer z up down (gets_on t.w.what.peer p start size left ∙ same) y
@@ -372,9 +355,6 @@ goes_alone t walks alone (PutsBytes peer start at left) is = let e : Some peer �
 goes_alone t walks alone (PutsWord peer start) is = let e : Some peer ≡ None = subst (λ (p : Phase). partner t.w.what.peer p ≡ None) is alone in absurd (cc)
 goes_alone t walks alone (Ends outcome) is = dead_good t (subst IsLive is) outcome
 goes_alone t walks alone phase is = ends_good t alone (subst IsLive (sym is) tt) (outcome_of t phase)
-
-min_fits : (left : ℕ) → (left == 0) ≡ false → (nat_lt 0 (min 32768 left) && nat_le (min 32768 left) left) ≡ true
-min_fits left e = let first : nat_lt 0 (min 32768 left) ≡ true = grind (arith, nat_tests) in let second : nat_le (min 32768 left) left ≡ true = grind (arith, nat_tests) in rw first second
 
 min_below : (left : ℕ) → nat_le (min 32768 left) left ≡ true
 min_below left = grind (arith, nat_tests)

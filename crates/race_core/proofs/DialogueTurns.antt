@@ -16,11 +16,12 @@ use Rattle.node_model.specs.Jobs.{Phase, Puts, PutsBytes, Work, job_end, partner
 use Rattle.node_model.specs.Look.{Made}
 use Rattle.node_model.specs.JobStep.{Turn, end_with}
 use Rattle.node_model.specs.TransferStep.{content_of}
-use Rattle.race_core.proofs.ClientCounts.{IsLive, Local, Stays, is_of_some, none_is}
+use Rattle.race_core.proofs.ClientCounts.{IsLive, Local, Stays, not_of}
 use Rattle.race_core.proofs.ClientTurns.{end_then, made_entry, moved}
 use Rattle.race_core.proofs.Dialogue
 use Rattle.race_core.proofs.Dialogue.{Stance, is_greeted, kept, phase_stance, rests, stance, stands_at}
 use Rattle.race_core.proofs.DialogueSteps.{rests_more}
+use Rattle.race_core.proofs.Plain.{option_at}
 
 -- ---- frames
 
@@ -89,18 +90,11 @@ Good t m kind = KeepsTo t m (moved t m kind) × ClosesFor t m
 
 -- ---- one connection alone
 
-some_is : (o : Option ℕ) (peer p : ℕ) → o ≡ Some peer → (peer == p) ≡ false → option_is o p ≡ false
-some_is o peer p e apart = rw e apart
-
-not_of : (target : Option ℕ) (phase : Phase) (peer p : ℕ) → Stays target phase peer → (peer == p) ≡ false → option_is (partner target phase) p ≡ false
-not_of target phase peer p (inl none) apart = none_is (partner target phase) p none
-not_of target phase peer p (inr some) apart = some_is (partner target phase) peer p some apart
-
 pub rests_at : (target : Option ℕ) (phase : Phase) (k : Bool) (p : ℕ) → option_is (partner target phase) p ≡ false → stance target phase k p ≡ rests k
 rests_at target phase k p e = rw e refl
 
 pub stands_on : (target : Option ℕ) (phase : Phase) (k : Bool) (p : ℕ) → partner target phase ≡ Some p → stance target phase k p ≡ phase_stance phase
-stands_on target phase k p e = rw (is_of_some (partner target phase) p e) refl
+stands_on target phase k p e = rw (option_at (partner target phase) p e) refl
 
 -- where nothing is taken nor sent
 aside : (t : Turn) (next : Work) (p : ℕ) → IsLive t.w.phase → (end_with t p).opened ≡ true → option_is (partner t.w.what.peer t.w.phase) p ≡ false → option_is (partner t.w.what.peer next.phase) p ≡ false

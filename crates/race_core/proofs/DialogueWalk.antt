@@ -2,8 +2,7 @@
 use Rattle.node_model.specs.Clocks.{hold_time}
 use Rattle.std.proofs.Common.{◌≡◌, ◌≢◌, ℕ, ◌+◌, ◌≤◌, Bool, true, false, List, [], ◌∷◌, ◌++◌, Option, Some, None, inl, inr, refl, sym, ap, ◌∙◌, subst, arith}
 use Rattle.std.specs.Prelude.{◌==◌, ◌&&◌, not, nat_lt}
-use Rattle.std.specs.List.{list_any}
-use Rattle.std.proofs.lemmas.Bool.{true≢false, eqb-true}
+use Rattle.std.proofs.lemmas.Bool.{eqb-true}
 use Rattle.std.proofs.lemmas.Bool.Decides.{nat_tests}
 use Rattle.annex_base.specs.declared.kinds.Call.{Call}
 use Rattle.annex_base.proofs.Lists.{find_member}
@@ -15,7 +14,7 @@ use Rattle.run_data.specs.declared.entry.EntryKind.{EntryKind}
 use Rattle.run_data.specs.declared.entry.EntryKind.TheVariants.{Bar, Fault, Gone, Order, Share, End as ends_job}
 use Rattle.run_data.specs.declared.entry.FrameView.{FrameView}
 use Rattle.run_data.specs.declared.entry.FrameText.{FrameText}
-use Rattle.run_data.specs.declared.entry.FrameText.TheVariants.{Opening, Closing, Bytes, Line}
+use Rattle.run_data.specs.declared.entry.FrameText.TheVariants.{Opening, Line}
 use Rattle.run_data.specs.declared.job.Outcome.{Outcome}
 use Rattle.run_data.specs.declared.job.Outcome.TheVariants.{Got, Refused, TransferRefused}
 use Rattle.run_data.specs.declared.job.DropRefusal.{DropRefusal}
@@ -24,14 +23,13 @@ use Rattle.run_data.specs.declared.job.TransferRefusal.TheVariants as failures
 use Rattle.node_model.specs.Rows.{is_lost_ordered}
 use Rattle.node_model.specs.Evidence.{Standing, Asked}
 use Rattle.p2p_wire.specs.declared.message.Message.{Message}
-use Rattle.p2p_wire.specs.declared.message.Message.TheVariants.{LockContent, Remove, RemoveBefore, GetTimestamp, Get, Put, Valid, Failure}
+use Rattle.p2p_wire.specs.declared.message.Message.TheVariants.{LockContent, Remove, RemoveBefore, GetTimestamp, Get, Put}
 use Rattle.p2p_wire.specs.Messages.{order_of, message_of, text_of}
-use Rattle.node_model.specs.Sessions.{Session, line_in}
+use Rattle.node_model.specs.Sessions.{Session}
 use Rattle.node_model.specs.Jobs
 use Rattle.node_model.specs.Jobs.{Part, Gets, Puts, Drops, Phase, RowsAndEnds, Fresh, Next, GetsData, PutsOffer, AsksLock, AsksTime, Removed, Ends, Heard, Held, Work, heard_of, fault_of, fault_phase, first_look, is_move, listens, partner, quiet, says, side_of, taken_message, after_frame, after_failed_release}
-use Rattle.node_model.specs.Calls.{to_hold, to_release, to_resume, to_read}
+use Rattle.node_model.specs.Calls.{to_hold, to_release, to_resume}
 use Rattle.node_model.specs.Look.{Made}
-use Rattle.annex_base.specs.Calls.{same_call}
 use Rattle.node_model.specs.Knows.{enough_by, is_unasked, next_by, asks_by, candidates_by}
 use Rattle.node_model.specs.JobStep.{Turn, attempts, bar_there, by_me, clock_of, end_with, ends, farewells, is_there, key_of, me, owns_share, quietly, says_to, sends_to, talk, is_held}
 use Rattle.node_model.specs.DropStep.{asks_copy, asks_lock, asks_target, bars, expiry, first_drop, first_end, first_remote, held_until, in_time, lacking_outcome, need_now, orders, own_share, removes, required_there, row_refusal, target, tries_own}
@@ -41,7 +39,7 @@ use Rattle.node_model.specs.Turns.{first_step, goes, judges, next_step}
 use Rattle.race_core.proofs.TalkFacts.{Fits}
 use Rattle.race_core.proofs.ClientCounts.{IsLive, none_is}
 use Rattle.race_core.proofs.ClientTurns.{made_entry, rows_of, talker, talker_phase}
-use Rattle.race_core.proofs.ClientSteps.{Speaks, attempts_even, release_is}
+use Rattle.race_core.proofs.ClientSteps.{Speaks, attempts_even, fault_alone, fault_dead, fault_is, hold_plain, is_plain, plain_in, quiet_alone, release_is, resume_plain, time_reads, unreleased_alone}
 use Rattle.race_core.proofs.Dialogue
 use Rattle.race_core.proofs.Dialogue.{Stance, is_greeted, kept, phase_stance, rests, stands_at}
 use Rattle.race_core.proofs.DialogueSteps.{away_asks}
@@ -61,48 +59,10 @@ pub record Walks (t : Turn) : Type 0 where
 abbrev Converses : Stance → Session → List FrameText → List FrameText → Type 0
 Converses at z up down = Dialogue.Dialogue at z up down
 
-time_reads : message_of (text_of GetTimestamp) ≡ Some GetTimestamp
-time_reads = refl
-
-pub valid_reads : message_of (text_of Valid) ≡ Some Valid
-valid_reads = refl
-
-pub failure_reads : message_of (text_of Failure) ≡ Some Failure
-failure_reads = refl
-
 abbrev pub GoodMade : Turn → Made → Type 0
 GoodMade t m = Good t m m.kind
 
 -- ---- store calls
-
--- neither the writing of a line, nor a release
-abbrev pub is_plain : Call → Bool
-is_plain calls.PutFile = false
-is_plain calls.Unhold = false
-is_plain call = true
-
-pub plain_in : (call : Call) (cs : List Call) → list_any (same_call calls.PutFile) cs ≡ false → list_any (same_call calls.Unhold) cs ≡ false → list_any (same_call call) cs ≡ true → is_plain call ≡ true
-plain_in calls.PutFile cs a b e = absurd (true≢false (sym e ∙ a))
-plain_in calls.Unhold cs a b e = absurd (true≢false (sym e ∙ b))
-plain_in call cs a b e = refl
-
--- so is each of those that ask for a part
-pub resume_plain : (reads : Bool) (call : Call) → list_any (same_call call) (calls.PartSize ∷ to_read reads) ≡ true → is_plain call ≡ true
-resume_plain true call e = plain_in call (calls.PartSize ∷ to_read true) refl refl e
-resume_plain false call e = plain_in call (calls.PartSize ∷ to_read false) refl refl e
-
-fault_is : (r : ℕ) (w : Work) (time : ℕ) (call : Call) → is_plain call ≡ true → fault_of r w time call ≡ fault_phase r w w.part (side_of w) w.phase
-fault_is r w time calls.PutFile e = absurd (cc)
-fault_is r w time calls.Unhold e = absurd (cc)
-fault_is r w time call e = refl
-
-fault_alone : (target : Option ℕ) (r : ℕ) (w : Work) (part : Part) (side : Side) (phase : Phase) → partner target (fault_phase r w part side phase).phase ≡ None
-fault_alone target r w Drops Remote Fresh = refl
-fault_alone target r w part side phase = refl
-
-fault_dead : (target : Option ℕ) (r : ℕ) (w : Work) (part : Part) (side : Side) (phase : Phase) (peer : ℕ) → partner target phase ≡ Some peer → IsLive (fault_phase r w part side phase).phase → ⊥
-fault_dead target r w Drops Remote Fresh peer on live = let e : None ≡ Some peer = on in absurd (cc)
-fault_dead target r w part side phase peer on live = live
 
 -- a call of a job that stands on no connection fails
 pub fault_good : (t : Turn) → partner t.w.what.peer t.w.phase ≡ None → IsLive t.w.phase → (call : Call) → is_plain call ≡ true → GoodMade t (quietly (Fault call (by_me t)) None)
@@ -120,10 +80,6 @@ fault_on t peer on taken call plain = (
 )
 
 -- ---- the end
-
-unreleased_alone : (target : Option ℕ) (w : Work) (time : ℕ) (phase : Phase) → partner target w.phase ≡ None → partner target (after_failed_release w time phase).phase ≡ None
-unreleased_alone target w time AsksTime alone = refl
-unreleased_alone target w time phase alone = alone
 
 pub ends_good : (t : Turn) → partner t.w.what.peer t.w.phase ≡ None → IsLive t.w.phase → (outcome : Outcome) → GoodMade t (ends t None outcome)
 ends_good t alone live outcome =
@@ -145,13 +101,6 @@ dead_good t dead outcome =
     still_dead phase is l = dead l
 
 -- ---- what is said first on an open connection
-
--- the work after a frame that is heard
-pub took_listens : (x : Work) (body : FrameText) (m : Message) (phase : Phase) → line_in body ≡ Some m → x.phase ≡ phase → after_frame x body ≡ listens x phase m
-took_listens x (Line text) m phase told is = ap (λ (o : Option Message). Jobs.after_line x o) told ∙ ap (λ (p : Phase). listens x p m) is
-took_listens x Opening m phase told is = absurd (cc)
-took_listens x Closing m phase told is = absurd (cc)
-took_listens x (Bytes n) m phase told is = absurd (cc)
 
 -- how a job asks a peer, whose session is such a one: after it took this
 abbrev pub Asks : Turn → (Session → Type 0) → Option FrameView → ℕ → Type 0
@@ -207,17 +156,6 @@ first_asks t version taken peer speaks asker old faults Drops is = copy_good t v
 
 -- ---- a job that stands on no connection
 
-look_alone : (target : Option ℕ) (r : ℕ) (x : Work) (part : Part) (here : Bool) (bar : Option ℕ) → partner target (first_look r x part here bar).phase ≡ None
-look_alone target r x Gets true bar = if_either (λ (y : Work). partner target y.phase ≡ None) (is_move x.what.kind) (record x { part = Drops; phase = Fresh; fills = false }) (record x { phase = Ends (Got None None); fills = false }) (λ e. refl) (λ e. refl)
-look_alone target r x Drops false bar = refl
-look_alone target r x Drops true (Some i) = refl
-look_alone target r x part here bar = refl
-
-quiet_alone : (target : Option ℕ) (rows : RowsAndEnds) (r : ℕ) (x : Work) (phase : Phase) → partner target x.phase ≡ None → partner target (quiet rows r x phase).phase ≡ None
-quiet_alone target rows r x Fresh alone = look_alone target r x x.part (rows.present x.what.key) (rows.bar x.what.key)
-quiet_alone target rows r x Next alone = refl
-quiet_alone target rows r x phase alone = alone
-
 find_unasked : (t : Turn) (peer : ℕ) → next_by t.read t.w ≡ Some peer → kept t.w peer ≡ false
 find_unasked t peer e = go (t.read.standing peer) (heard_of t.w peer) (find_member (λ c. asks_by t.read t.w c) (candidates_by t.read t.w) peer e).1
   where
@@ -266,11 +204,6 @@ module _ (t : Turn) (alone : partner t.w.what.peer t.w.phase ≡ None) (live : I
   own_good true None = (still_keeps t alone live (Share (t.number) (clock_of t + hold_time) (by_me t) (key_of t)) (Jobs.hears t.w (me t) (Held t.look.time)) refl, inl tt)
   own_good true (Some j) = quiet_good
   own_good false bar = quiet_good
-
-  hold_plain : (here : Bool) (bar : Option ℕ) (call : Call) → list_any (same_call call) (to_hold here bar) ≡ true → is_plain call ≡ true
-  hold_plain true None call e = plain_in call (to_hold true None) refl refl e
-  hold_plain true (Some j) call e = plain_in call (to_hold true (Some j)) refl refl e
-  hold_plain false bar call e = plain_in call (to_hold false bar) refl refl e
 
   tries_good : (standing : Standing) → GoodMade t (tries_own t standing)
   tries_good Asked = attempts_even (GoodMade t) t (to_hold (is_there t) (bar_there t)) None

@@ -1,8 +1,7 @@
 -- The fields `removes` and `orders` of `Own`: a drop that knows enough by its list knows the same evidence by its entries.
-use Rattle.std.proofs.Common.{◌≡◌, ℕ, ◌+◌, ◌-◌, ◌/◌, ◌<◌, Bool, true, false, List, [], ◌∷◌, Option, Some, None, inl, inr, refl, sym, ap, ◌∙◌, subst, arith}
-use Rattle.std.specs.Prelude.{if◌then◌else◌, ◌==◌, nat_lt, not}
-use Rattle.std.proofs.lemmas.Bool.{true≢false, and_parts, not-true}
-use Rattle.std.proofs.lemmas.Bool.Decides.{nat_tests}
+use Rattle.std.proofs.Common.{◌≡◌, ℕ, ◌+◌, ◌-◌, ◌/◌, ◌<◌, Bool, true, false, List, [], ◌∷◌, Option, Some, None, inl, inr, refl, sym, ap, ◌∙◌, subst}
+use Rattle.std.specs.Prelude.{if◌then◌else◌, ◌==◌, not}
+use Rattle.std.proofs.lemmas.Bool.{true≢false, and_parts, not-true, ltb-true}
 use Rattle.annex_base.specs.Lists.{Member}
 use Rattle.annex_base.specs.declared.kinds.Word.{Word}
 use Rattle.race_core.proofs.Below.{SentAreRead}
@@ -30,9 +29,8 @@ use Rattle.race_core.proofs.HeardTells.{taken_peer}
 use Rattle.race_core.proofs.KnownAgrees.{Agrees, heard_as, known_agrees, standing_same}
 use Rattle.race_core.proofs.Makers.{TakenBy, taken_of}
 use Rattle.race_core.proofs.ServerEnds.{end_of, takes_end}
-use Rattle.race_core.proofs.EndMoves.{may_epoch}
+use Rattle.race_core.proofs.EndMoves.{line_opens, may_epoch}
 use Rattle.race_core.proofs.OneClock.{one_clock}
-use Rattle.race_core.proofs.FoundOwn.{line_opens}
 use Rattle.race_core.proofs.HeardHolds.{Lists, gave_none}
 use Rattle.race_core.proofs.HeardInduction.{heard_holds}
 use Rattle.node_model.specs.SetUp.{SetUp}
@@ -54,6 +52,8 @@ use Rattle.race_core.proofs.Bars.{removal_barred}
 use Rattle.race_core.proofs.Decisions.{order_stands_on, runs_begun}
 use Rattle.race_core.proofs.JobSteps.{Stepped, turn_at}
 use Rattle.race_core.proofs.ReadKeys.{decided_read, key_read}
+use Rattle.std.proofs.lemmas.Option.{same_Some}
+use Rattle.annex_base.proofs.Conditions.{if_turned}
 
 -- ---- the list agrees
 
@@ -121,7 +121,7 @@ removal_found s past words e own j key is = elim (own.does) [
     step : IsStep s past words e → ServerAnswers.MayRemove s past e j key
     step x = subst (λ (y : Entry). ServerAnswers.MayRemove s past y j key) (sym x.is) (may_remove s past x.look x.made x.makes j key (sym (ap (λ (y : Entry). y.kind) x.is) ∙ is))
 
-target_local : (r : ℕ) (side : Side) (peer : Option ℕ) → side ≡ Local → Jobs.or_own r side peer ≡ r
+pub target_local : (r : ℕ) (side : Side) (peer : Option ℕ) → side ≡ Local → Jobs.or_own r side peer ≡ r
 target_local r Local peer e = refl
 target_local r Remote peer e = absurd (cc)
 
@@ -159,11 +159,7 @@ removes_step reads_back s past words e h b is part j key kind =
 taken_here : (s : SetUp) (past : List Entry) (e : Entry) (f : FrameView) (k : TakenBy s past e f) → is_opening f.body ≡ false → (f.slot ≡ k.w.slot) × (f.up ≡ false) × (f.epoch ≡ (end_at past s.number (job_end k.w k.peer)).epoch)
 taken_here s past e f k line =
     let at : end_of f ≡ job_end k.w k.peer = takes_end (job_end k.w k.peer) f k.of_end in
-    (ap (λ (z : EndName). z.slot) at, down f.up (ap (λ (z : EndName). z.client) at), (may_epoch (end_at past s.number (job_end k.w k.peer)) f line k.may).1)
-  where
-    down : (b : Bool) → (if b then false else true) ≡ true → b ≡ false
-    down false h = refl
-    down true h = absurd (cc)
+    (ap (λ (z : EndName). z.slot) at, if_turned f.up (ap (λ (z : EndName). z.client) at), (may_epoch (end_at past s.number (job_end k.w k.peer)) f line k.may).1)
 
 back_way : (r : ℕ) (f g : FrameView) → f.up ≡ false → g.up ≡ true → f.peer ≡ g.peer → f.slot ≡ g.slot → f.epoch ≡ g.epoch → way_from r g ≡ up_of (way_of r f)
 back_way r f g down up peer slot epoch = goes ∙ comes
@@ -199,16 +195,10 @@ orders_step reads_back s past words e h b is part j target deadline need key kin
           (sym (ap least_end (ap (λ n. known_evidence Remote s.repos past s.number n target need) x.number_is ∙ same)) ∙ ends);
     }
   where
-    first_is : (a c : ℕ) → Some a ≡ Some c → a ≡ c
-    first_is a c k = cc
-
     target_remote : (r : ℕ) (side : Side) (peer : Option ℕ) (p : ℕ) → side ≡ Remote → peer ≡ Some p → Jobs.or_own r side peer ≡ p
-    target_remote r Remote (Some q) p a c = first_is q p c
+    target_remote r Remote (Some q) p a c = same_Some q p c
     target_remote r Remote None p a c = absurd (cc)
     target_remote r Local peer p a c = absurd (cc)
-
-    in_time : (a c : ℕ) → nat_lt a c ≡ true → a < c
-    in_time a c k = grind (arith, nat_tests)
 
     only : {X : Type 0} {x y : X} → Member x (y ∷ []) → x ≡ y
     only (inl m) = m
@@ -223,7 +213,7 @@ orders_step reads_back s past words e h b is part j target deadline need key kin
         let took : e.taken ≡ Some f = ap (λ (y : Entry). y.taken) by.is ∙ timed.1 in
         let k = taken_of s past e by f took in
         let on : by.w.what.peer ≡ Some k.peer = sym (ap (Jobs.partner by.w.what.peer) timed.2) ∙ k.on in
-        let last : words.1 ≡ first = first_is words.1 first (sym words.3 ∙ ends) in
+        let last : words.1 ≡ first = same_Some words.1 first (sym words.3 ∙ ends) in
         let time : clock s.repos past s.number e.time ≡ clock_of (turn_at s past e by) = ap (λ (y : Entry). clock s.repos past s.number y.time) by.is in
         let at_target : k.peer ≡ target = sym (target_remote s.number (side_of by.w) by.w.what.peer k.peer side on) ∙ sym aims in
         let here = taken_here s past e f k (line_opens f.body (Timestamp words.0) words.2) in
@@ -240,6 +230,6 @@ orders_step reads_back s past words e h b is part j target deadline need key kin
               (here.0 ∙ sym (ap (λ (z : FrameView). z.slot) it)) (here.2 ∙ (ap (λ n. (end_at past s.number (job_end by.w n)).epoch) at_target ∙ sym (ap (λ (z : FrameView). z.epoch) it)));
           seconds = words.0;
           told = said_is f.body (Timestamp words.0) words.2;
-          in_time = subst (λ n. n < first) (sym time) (subst (λ n. clock_of (turn_at s past e by) < n) last (in_time (clock_of (turn_at s past e by)) words.1 words.4));
+          in_time = subst (λ n. n < first) (sym time) (subst (λ n. clock_of (turn_at s past e by) < n) last (ltb-true (clock_of (turn_at s past e by)) words.1 words.4));
           deadline_is = ap (λ n. Some n) (words.5 ∙ ap (λ n. words.0 + (n - clock_of (turn_at s past e by)) / 1000) last ∙ ap (λ n. words.0 + (first - n) / 1000) (sym time));
         }

@@ -6,7 +6,6 @@ use Rattle.annex_base.specs.declared.kinds.Word.{Word}
 use Rattle.race_core.proofs.Below.{SentAreRead}
 use Rattle.run_data.specs.declared.entry.Entry.{Entry}
 use Rattle.run_data.specs.declared.entry.FrameText.TheVariants.{Opening}
-use Rattle.run_data.specs.declared.job.JobKind.{JobKind}
 use Rattle.run_data.specs.declared.job.Job.{Job}
 use Rattle.node_model.specs.Slots.{RunningJob}
 use Rattle.run_model.specs.Past.{is_of}
@@ -16,7 +15,6 @@ use Rattle.node_model.specs.Ends.{frames}
 use Rattle.node_model.specs.Jobs.{AsksLock, AsksLook, AsksTime, Drops, Fresh, Greets, Opens, Orders, Part, Phase, Work, job_end, partner, work_kind}
 use Rattle.node_model.specs.Jobs
 use Rattle.node_model.specs.JobStep.{Turn, end_with}
-use Rattle.node_model.specs.AnyTime.{IsPeer}
 use Rattle.run_model.specs.Run.{OwnPart, OwnRun}
 use Rattle.race_core.proofs.TalkFacts.{Fits}
 use Rattle.race_core.proofs.PhaseFacts.{Good, GoodTo}
@@ -25,15 +23,11 @@ use Rattle.race_core.proofs.WorkFits.{step_kind, step_runs, step_sent, step_talk
 use Rattle.race_core.proofs.JobKept.{kind_kept}
 use Rattle.race_core.proofs.Aims.{aims}
 use Rattle.race_core.proofs.Asking.{Came, is_on_one, kind_came}
-use Rattle.race_core.proofs.OwnTried.{peer_other}
+use Rattle.race_core.proofs.OwnTried.{kind_peer}
 use Rattle.race_core.proofs.OpenEnds.{job_sends_to, open_runs}
 
 abbrev Stood : SetUp → Part → Option ℕ → Phase → Type 0
 Stood s part target phase = part ≡ Drops → (p : ℕ) → partner target phase ≡ Some p → Member p (others s)
-
-peer_is : (s : SetUp) (kind : JobKind) (o : Option ℕ) (p : ℕ) → IsPeer s kind o → o ≡ Some p → Member p (others s)
-peer_is s kind (Some q) p is same = subst (λ n. Member n (others s)) (same_Some q p same) (peer_other s q is.0 is.1)
-peer_is s kind None p is same = absurd (cc)
 
 was_drop : (part : Part) (old : Phase) (phase : Phase) → GoodTo part old Drops phase → (part ≡ Drops) ⊎ (phase ≡ Fresh)
 was_drop Drops old phase g = inl refl
@@ -60,7 +54,7 @@ module _ (reads_back : SentAreRead) (s : SetUp) (past : List Entry) (e : Entry) 
   opened p o = (open_runs reads_back s past run (job_end v p) refl o).peer
 
   target_is : (p : ℕ) → v.what.peer ≡ Some p → Member p (others s)
-  target_is p on = peer_is s v.what.kind v.what.peer p (aims s past run v (step_runs s past e x b)).0 on
+  target_is p on = kind_peer s v.what.kind v.what.peer p (aims s past run v (step_runs s past e x b)).0 on
 
   came : v.part ≡ Drops → (phase : Phase) (p : ℕ) → is_on_one phase ≡ true → Came t e phase → partner v.what.peer phase ≡ Some p → Member p (others s)
   came part (Opens q) p one (inl at) on = of_old part (Opens q) p at on

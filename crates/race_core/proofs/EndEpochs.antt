@@ -38,6 +38,7 @@ use Rattle.race_core.proofs.ServerEnds.{BySessionAt, GivesHere, TakesHere, each_
 use Rattle.race_core.proofs.EndMoves.{NoOpening, all_epoch, end_own, frame_none, gave_one, may_epoch, own_induction, pieces_none, sends_all, takes_epoch}
 use Rattle.race_core.proofs.JobEnds.{JobSays, SentWell, job_speaks}
 use Rattle.node_model.specs.Look
+use Rattle.annex_base.proofs.Conditions.{eqb_refl, if_turned}
 
 -- the end that sends a frame
 abbrev pub from_end : FrameView → EndName
@@ -83,11 +84,7 @@ at_job s past k w g x = (x.0, subst (λ (a : EndName). SentWell (end_at past s.n
     same i = record { peer = g.peer; slot = sym x.1 i; client = sym x.0 i }
 
 client_takes : (w : Work) (peer : ℕ) (f : FrameView) → takes_at (job_end w peer) f ≡ true → f.up ≡ false
-client_takes w peer f t = go f.up (ap (λ (a : EndName). a.client) (takes_end (job_end w peer) f t))
-  where
-    go : (b : Bool) → (if b then false else true) ≡ true → b ≡ false
-    go true e = absurd (cc)
-    go false e = refl
+client_takes w peer f t = if_turned f.up (ap (λ (a : EndName). a.client) (takes_end (job_end w peer) f t))
 
 job_speaks_at : (s : SetUp) (past : List Entry) (k : Look) (m : Made) → job_step s (state_of s past) k ≡ Some m → JobSpeaksAt s past (entry_of s.number k m)
 job_speaks_at s past k m e =
@@ -150,9 +147,6 @@ speaks s past words e own = elim (own.does) [
 pub takes_self : (f : FrameView) → takes_at (end_of f) f ≡ true
 takes_self f = rw (eqb_refl f.peer, eqb_refl f.slot) (same (if f.up then false else true))
   where
-    eqb_refl : (n : ℕ) → (n == n) ≡ true
-    eqb_refl n = grind arith
-
     same : (b : Bool) → same_bool b b ≡ true
     same true = refl
     same false = refl
@@ -287,9 +281,6 @@ module _ (s : SetUp) (past : List Entry) (words : ℕ → Option Word) (e : Entr
   module _ (is : is_of s.number e ≡ true) (a : EndName) where
     abbrev c : End
     c = end_at past s.number a
-
-    after : End
-    after = sends_all (between a) (sent_at a e.sent)
 
     after_is : end_at (e ∷ past) s.number a ≡ sends_all (between a) (sent_at a e.sent)
     after_is = end_own s.number past a e is

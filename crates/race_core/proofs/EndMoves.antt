@@ -1,8 +1,7 @@
 -- How an end of a server moves: only an Opening that it takes changes its epoch.
-use Rattle.std.proofs.Common.{◌≡◌, ℕ, Bool, true, false, List, [], ◌∷◌, Option, Some, None, inl, inr, refl, ap, ◌∙◌, arith}
+use Rattle.std.proofs.Common.{◌≡◌, ℕ, Bool, true, false, List, [], ◌∷◌, Option, Some, None, inl, inr, refl, ap, ◌∙◌, sym}
 use Rattle.std.specs.Prelude.{if◌then◌else◌, ◌==◌, ◌&&◌, fold, nat_lt, not}
-use Rattle.std.proofs.lemmas.Bool.Decides.{nat_tests}
-use Rattle.std.proofs.lemmas.Bool.{and_parts, not-true}
+use Rattle.std.proofs.lemmas.Bool.{and_parts, eqb-true, not-true}
 use Rattle.annex_base.specs.Lists.{Each}
 use Rattle.annex_base.specs.declared.kinds.Word.{Word}
 use Rattle.run_data.specs.declared.entry.Entry.{Entry}
@@ -17,7 +16,7 @@ use Rattle.run_model.specs.Said.{wants_answer}
 use Rattle.node_model.specs.SetUp.{SetUp}
 use Rattle.node_model.specs.Ends.{End, EndName, end_after, end_sends, end_takes, end_took, frames, is_opening, may_take, sent_at, taken_at}
 use Rattle.run_model.specs.States.{end_at, content, session, state_of}
-use Rattle.node_model.specs.Sessions.{Doing, Session, session_after}
+use Rattle.node_model.specs.Sessions.{Doing, Session, line_in, session_after}
 use Rattle.node_model.specs.SessionStep.{Here, here, on_frame, on_message, on_text}
 use Rattle.run_model.specs.Run.{OwnPart, OwnRun}
 use Rattle.race_core.proofs.Counting.{Closes, Counts, GetCounts, GivesOne, Pieces, bytes_counts, get_counts, gives_counts, message_counts}
@@ -57,6 +56,14 @@ all_epoch c (f ∷ fs) n = all_epoch (end_sends c f.body) fs n.1 ∙ sends_epoch
 pub all_opened : (c : End) (fs : List FrameView) → OpensNone fs → (sends_all c fs).opened ≡ true → c.opened ≡ true
 all_opened c [] n e = e
 all_opened c (f ∷ fs) n e = sends_opened c f.body n.0 (all_opened (end_sends c f.body) fs n.1 e)
+
+-- a closed end stays so
+pub closed_stays : (d : End) (fs : List FrameView) → OpensNone fs → d.opened ≡ false → (sends_all d fs).opened ≡ false
+closed_stays d fs n shut = go (sends_all d fs).opened refl
+  where
+    go : (b : Bool) → (sends_all d fs).opened ≡ b → b ≡ false
+    go false i = refl
+    go true i = absurd (let no' : true ≡ false = sym (all_opened d fs n i) ∙ shut in cc)
 
 -- ---- what a session says opens nothing
 
@@ -147,15 +154,18 @@ module _ (s : SetUp) (past : List Entry) (a : EndName) (e : Entry) where
 pub may_epoch : (c : End) (f : FrameView) → is_opening f.body ≡ false → may_take c f ≡ true → (c.opened ≡ true) × (f.epoch ≡ c.epoch)
 may_epoch c f n may = go f.body n may
   where
-    same_number : (x y : ℕ) → (x == y) ≡ true → x ≡ y
-    same_number x y e = grind (arith, nat_tests)
-
     go : (body : FrameText) → is_opening body ≡ false → (if is_opening body then not c.opened && nat_lt c.epoch f.epoch else c.opened && (f.epoch == c.epoch)) ≡ true → (c.opened ≡ true) × (f.epoch ≡ c.epoch)
-    go body n may = let two = and_parts c.opened (f.epoch == c.epoch) (rw n at may) in (two.0, same_number f.epoch c.epoch two.1)
+    go body n may = let two = and_parts c.opened (f.epoch == c.epoch) (rw n at may) in (two.0, eqb-true f.epoch c.epoch two.1)
 
 -- an Opening that may be taken comes to an end that isn't open
 pub opening_closed : (c : End) (f : FrameView) → is_opening f.body ≡ true → may_take c f ≡ true → c.opened ≡ false
 opening_closed c f i may = not-true c.opened (and_parts (not c.opened) (nat_lt c.epoch f.epoch) (rw i at may)).0
+
+pub line_opens : (body : FrameText) (m : Message) → line_in body ≡ Some m → is_opening body ≡ false
+line_opens Opening m e = absurd (cc)
+line_opens Closing m e = refl
+line_opens (Bytes n) m e = refl
+line_opens (Line text) m e = refl
 
 pub takes_epoch : (c : End) (epoch : ℕ) (body : FrameText) → is_opening body ≡ false → (end_takes c epoch body).epoch ≡ c.epoch
 takes_epoch c epoch Opening n = absurd (cc)

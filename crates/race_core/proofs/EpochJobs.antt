@@ -7,7 +7,7 @@ use Rattle.std.proofs.lemmas.List.{length-map}
 use Rattle.annex_base.specs.Lists.{Member}
 use Rattle.annex_base.specs.declared.kinds.Word.{Word}
 use Rattle.annex_base.proofs.Conditions.{eqb_refl}
-use Rattle.annex_base.proofs.Lists.{Member-filter_parts}
+use Rattle.annex_base.proofs.Lists.{Member-filter_parts, list_any_found}
 use Rattle.race_core.proofs.Below.{SentAreRead}
 use Rattle.run_data.specs.declared.entry.Entry.{Entry}
 use Rattle.run_data.specs.declared.entry.EntryKind.{EntryKind}
@@ -39,14 +39,7 @@ use Rattle.race_core.proofs.Speaks.{hears, speaks}
 use Rattle.race_core.proofs.Makers.{who}
 use Rattle.race_core.proofs.OpenEnds.{alone_still, jobs_own, open_runs, opened_before, opens_or, session_still, stepped_job_runs, took_opened, used_slot}
 use Rattle.node_model.specs.Slots
-
-pub any_member : {X : Type 0} (q : X → Bool) (xs : List X) → list_any q xs ≡ true → (x : X) × (Member x xs) × (q x ≡ true)
-any_member q [] e = absurd (cc)
-any_member {X = X} q (x ∷ xs) e = go (λ h. any_member q xs h) (q x) refl e
-  where
-    go : (list_any q xs ≡ true → (y : X) × (Member y xs) × (q y ≡ true)) → (b : Bool) → q x ≡ b → (b || list_any q xs) ≡ true → (y : X) × (Member y (x ∷ xs)) × (q y ≡ true)
-    go more true is h = (x, inl refl, is)
-    go more false is h = let z = more h in (z.0, inr z.1, z.2)
+use Rattle.race_core.proofs.Plain.{same_both}
 
 -- the entry of a client sends or takes a frame of the connection
 abbrev pub uses : Way → Entry → Bool
@@ -77,10 +70,6 @@ on_parts w peer g e =
 pub uses_touches : (w : Way) (e : Entry) → uses w e ≡ true → Touches (end_to w) w.epoch e
 uses_touches w e used = go (list_any (is_on (up_of w) w.server) e.sent) refl used
   where
-    up_is : (b : Bool) → same_bool b true ≡ true → b ≡ true
-    up_is true h = refl
-    up_is false h = absurd (cc)
-
     down_is : (b : Bool) → same_bool b false ≡ true → (if b then false else true) ≡ true
     down_is true h = absurd (cc)
     down_is false h = refl
@@ -93,9 +82,9 @@ uses_touches w e used = go (list_any (is_on (up_of w) w.server) e.sent) refl use
 
     go : (b : Bool) → list_any (is_on (up_of w) w.server) e.sent ≡ b → (b || takes (down_of w) e.taken) ≡ true → Touches (end_to w) w.epoch e
     go true is h =
-        let g = any_member (is_on (up_of w) w.server) e.sent is in
+        let g = list_any_found (is_on (up_of w) w.server) e.sent is in
         let x = on_parts (up_of w) w.server g.0 g.2 in
-        inl (g.0, g.1, (λ i. record { peer = x.peer_is i; slot = x.slot_is i; client = up_is g.0.up x.side i }), x.epoch_is)
+        inl (g.0, g.1, (λ i. record { peer = x.peer_is i; slot = x.slot_is i; client = same_both g.0.up true x.side i }), x.epoch_is)
     go false is h = took e.taken refl h
 
 -- ---- an entry of a job that touches a client's end is a step of the job in its slot

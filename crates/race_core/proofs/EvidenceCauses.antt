@@ -1,5 +1,5 @@
 -- The causes of refusals that rest on a drop's evidence: its locks had expired, its target's protocol is old, or it lacks evidence.
-use Rattle.std.proofs.Common.{◌≡◌, ℕ, ◌≤◌, Bool, true, false, List, [], ◌∷◌, Option, Some, None, ◌⊎◌, inl, inr, refl, sym, ap, ◌∙◌, subst}
+use Rattle.std.proofs.Common.{◌≡◌, ℕ, Bool, true, false, List, [], ◌∷◌, Option, Some, None, ◌⊎◌, inl, inr, refl, sym, ap, ◌∙◌, subst}
 use Rattle.std.specs.Prelude.{◌||◌, find, length, min, nat_lt}
 use Rattle.std.specs.List.{list_any, reduce}
 use Rattle.std.proofs.lemmas.Bool.{ltb-false, ltb-true}
@@ -179,9 +179,6 @@ failures_have : (f : ℕ → Offer) (g : ℕ → Cause) (cs : List ℕ) (c : ℕ
 failures_have f g [] c m fails = absurd m
 failures_have f g (d ∷ cs) c (inl same) fails = go (f d) (ap f (sym same) ∙ fails)
   where
-    it : CandidateCause
-    it = record { repo = c; cause = g c }
-
     go : (o : Offer) → o ≡ Fails → Member (record { repo = c; cause = g c }) (pick o (λ kind. failures f g cs) (record { repo = d; cause = g d } ∷ failures f g cs))
     go (Gives kind) is = absurd (cc)
     go Fails is = inl (λ i. record { repo = same i; cause = g (same i) })

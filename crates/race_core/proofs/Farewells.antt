@@ -12,7 +12,7 @@ use Rattle.node_model.specs.Ends.{End, EndName, end_sends, frames, is_opening, s
 use Rattle.node_model.specs.Jobs.{job_end}
 use Rattle.node_model.specs.JobStep.{Turn, end_with, farewell, farewells, has_lock, key_of, others_of}
 use Rattle.race_core.proofs.ServerEnds.{each_flat, sent_same}
-use Rattle.race_core.proofs.EndMoves.{NoOpening, OpensNone, all_opened, frames_none, sends_all}
+use Rattle.race_core.proofs.EndMoves.{NoOpening, OpensNone, closed_stays, frames_none, sends_all}
 
 pub fold_append : (c : End) (fs gs : List FrameView) → sends_all c (fs ++ gs) ≡ sends_all (sends_all c fs) gs
 fold_append c [] gs = refl
@@ -34,14 +34,6 @@ all_none : (t : Turn) (lost : Bool) (a : EndName) (xs : List ℕ) → OpensNone 
 all_none t lost a xs = Each-filter (λ g. is_opening g.body ≡ false) (sends_at a) (flat_map (to_peer t lost) xs)
     (each_flat (λ g. is_opening g.body ≡ false) (to_peer t lost) (λ peer. frames_none (job_end t.w peer) (end_with t peer) (farewell t lost peer (end_with t peer).opened) (farewell_none t lost peer (end_with t peer).opened)) xs)
 
--- a closed end stays so
-pub stays : (d : End) (fs : List FrameView) → OpensNone fs → d.opened ≡ false → (sends_all d fs).opened ≡ false
-stays d fs n shut = go (sends_all d fs).opened refl
-  where
-    go : (b : Bool) → (sends_all d fs).opened ≡ b → b ≡ false
-    go false i = refl
-    go true i = absurd (let no' : true ≡ false = sym (all_opened d fs n i) ∙ shut in cc)
-
 -- an open one is closed
 closes_it : (t : Turn) (lost : Bool) (peer : ℕ) (d : End) → (end_with t peer).opened ≡ true → (sends_all d (sent_at (job_end t.w peer) (to_peer t lost peer))).opened ≡ false
 closes_it t lost peer d o =
@@ -62,7 +54,7 @@ module _ (t : Turn) (lost : Bool) (peer : ℕ) (o : (end_with t peer).opened ≡
   all_closed : (d : End) (xs : List ℕ) → Member peer xs → (sends_all d (sent_at a (flat_map (to_peer t lost) xs))).opened ≡ false
   all_closed d [] m = absurd m
   all_closed d (x ∷ xs) (inl i) = ap (λ (z : End). z.opened) (split d x xs)
-      ∙ stays (sends_all d (sent_at a (to_peer t lost x))) (sent_at a (flat_map (to_peer t lost) xs)) (all_none t lost a xs) (ap (λ y. (sends_all d (sent_at a (to_peer t lost y))).opened) (sym i) ∙ closes_it t lost peer d o)
+      ∙ closed_stays (sends_all d (sent_at a (to_peer t lost x))) (sent_at a (flat_map (to_peer t lost) xs)) (all_none t lost a xs) (ap (λ y. (sends_all d (sent_at a (to_peer t lost y))).opened) (sym i) ∙ closes_it t lost peer d o)
   all_closed d (x ∷ xs) (inr m) = ap (λ (z : End). z.opened) (split d x xs) ∙ all_closed (sends_all d (sent_at a (to_peer t lost x))) xs m
 
 -- after the farewells an end with another repository is closed
@@ -71,4 +63,4 @@ farewells_close t lost peer d was m = go d.opened refl
   where
     go : (b : Bool) → d.opened ≡ b → (sends_all d (sent_at (job_end t.w peer) (farewells t lost))).opened ≡ false
     go true i = all_closed t lost peer (was i) d (others_of t) m
-    go false i = stays d (sent_at (job_end t.w peer) (farewells t lost)) (all_none t lost (job_end t.w peer) (others_of t)) i
+    go false i = closed_stays d (sent_at (job_end t.w peer) (farewells t lost)) (all_none t lost (job_end t.w peer) (others_of t)) i

@@ -5,7 +5,7 @@ use Rattle.std.specs.List.{list_any}
 use Rattle.std.proofs.lemmas.Bool.{and_parts, or_right}
 use Rattle.annex_base.specs.Lists.{Member}
 use Rattle.annex_base.proofs.Conditions.{bytes_eq_tells, eqb_refl}
-use Rattle.annex_base.proofs.Lists.{list_any_member}
+use Rattle.annex_base.proofs.Lists.{list_any_found, list_any_member}
 use Rattle.run_data.specs.declared.entry.Entry.{Entry}
 use Rattle.run_data.specs.declared.job.Job.{Job}
 use Rattle.node_model.specs.Slots.{RunningJob}
@@ -23,7 +23,6 @@ use Rattle.race_core.proofs.WorkFits.{step_number, step_runs}
 use Rattle.race_core.proofs.Decisions.{runs_begun}
 use Rattle.race_core.proofs.Carried.{kind_carries}
 use Rattle.race_core.proofs.FreshSteps.{of_kind}
-use Rattle.race_core.proofs.EpochJobs.{any_member}
 
 abbrev pub Filling : SetUp → List Entry → Work → Type 0
 Filling s past w = w.fills ≡ true → (is_get w.what.kind ≡ true) × (has_stepped past s.number w.number ≡ true)
@@ -54,7 +53,7 @@ fills_stepped s past run w m = invariant s (Filling s) (λ p e is x n was f. let
 -- **a get that fills a key runs, and has made a step**
 pub fills_by_get : (s : SetUp) (past : List Entry) → OwnPast s past → (key : List ℕ) → list_any (λ w. w.fills && bytes_eq w.what.key key) (works past s.number) ≡ true → FillsByGet past s.number key
 fills_by_get s past h key any =
-    let x = any_member (λ (w : Work). w.fills && bytes_eq w.what.key key) (works past s.number) any in
+    let x = list_any_found (λ (w : Work). w.fills && bytes_eq w.what.key key) (works past s.number) any in
     let w = x.0 in
     let two = and_parts w.fills (bytes_eq w.what.key key) x.2 in
     let z = fills_stepped s past h.run w x.1 two.0 in

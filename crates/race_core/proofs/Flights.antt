@@ -9,6 +9,9 @@ use Rattle.run_data.specs.declared.entry.FrameView.{FrameView}
 use Rattle.run_model.specs.Past.{Always, Occurs, is_of}
 use Rattle.run_model.specs.Frames.{Way, FlyingFrame, SendingEntry, flying_frame, on_way, sender_of, frames_sent, sending_entry, taken_count, way_of, sender}
 use Rattle.run_model.specs.Drops.{Vouch, vouch, vouches}
+use Rattle.std.specs.List.{list_any}
+use Rattle.std.proofs.lemmas.Bool.{or_left, or_right}
+use Rattle.race_core.proofs.Plain.{member_mapped}
 
 -- ---- entries that stand in a past
 
@@ -26,6 +29,11 @@ pub occurs_earlier : (past : List Entry) (x y : Entry) (before older : List Entr
 occurs_earlier [] x y before older o p = absurd o
 occurs_earlier (e ∷ past) x y before older (inl o) p = inr (subst (λ (q : List Entry). Occurs q y older) o.1 p)
 occurs_earlier (e ∷ past) x y before older (inr o) p = inr (occurs_earlier past x y before older o p)
+
+pub occurs_any : (q : Entry → Bool) (past : List Entry) (x : Entry) (before : List Entry) → Occurs past x before → q x ≡ true → list_any q past ≡ true
+occurs_any q [] x before o h = absurd o
+occurs_any q (e ∷ past) x before (inl o) h = or_left (q e) (list_any q past) (subst (λ (y : Entry). q y ≡ true) o.0 h)
+occurs_any q (e ∷ past) x before (inr o) h = or_right (q e) (list_any q past) (occurs_any q past x before o h)
 
 pub occurs_vouch : (past : List Entry) (x : Entry) (before : List Entry) (r a j : ℕ) (v : Vouch) → Occurs past x before → Member v (vouch before x r a j) → Member v (vouches past r a j)
 occurs_vouch [] x before r a j v o m = absurd o
@@ -54,11 +62,6 @@ get_append [] ys k x h = inr (get_member ys k x h)
 get_append (y ∷ xs) ys zero x h = inl h
 get_append (y ∷ xs) ys (suc k) x h = get_append xs ys k x h
 
-pub map_member : {X Y : Type 0} (f : X → Y) (y : Y) (xs : List X) → Member y (map f xs) → (x : X) × (Member x xs × (y ≡ f x))
-map_member f y [] m = absurd m
-map_member f y (x ∷ xs) (inl e) = (x, (inl refl, e))
-map_member f y (x ∷ xs) (inr m) = let t = map_member f y xs m in (t.0, (inr t.1.0, t.1.1))
-
 -- a frame on a way was sent by an entry of the past
 pub record Sending (past : List Entry) (w : Way) (it : FlyingFrame) : Type 0 where
   pub occurs : Occurs past it.entry it.before
@@ -77,8 +80,8 @@ sending (e ∷ past) w k it h = go (λ g. sending past w k it g) (is_of (sender_
     go ih false is g = older (ih g)
     go ih true is g = elim (get_append (frames_sent past w) (map (flying_frame e past) (on_way w e)) k it g) [
       | inl s ↦ older (ih s)
-      | inr m ↦ let t = map_member (flying_frame e past) it (on_way w e) m in
-          subst (λ (x : FlyingFrame). Sending (e ∷ past) w x) (sym t.1.1) (record { occurs = inl (refl, refl); repo_is = is; sends = t.1.0 })
+      | inr m ↦ let t = member_mapped (flying_frame e past) (on_way w e) it m in
+          subst (λ (x : FlyingFrame). Sending (e ∷ past) w x) (sym t.2) (record { occurs = inl (refl, refl); repo_is = is; sends = t.1 })
     ]
 
 -- who sent the frame that was taken

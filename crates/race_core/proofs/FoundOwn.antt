@@ -1,13 +1,11 @@
 -- The facts of `Own` that inversions of the step give at once: known, share, shares_with, look, obeys, no_script.
-use Rattle.std.proofs.Common.{◌≡◌, ◌≢◌, ℕ, ◌<◌, ◌^◌, Bool, true, false, List, Some, inl, inr, refl, ap}
+use Rattle.std.proofs.Common.{◌≡◌, ◌≢◌, ℕ, ◌<◌, ◌^◌, Bool, true, false, List, Some, inl, inr, ap}
 use Rattle.std.specs.Prelude.{if◌then◌else◌, length}
 use Rattle.annex_base.specs.declared.kinds.Found.TheVariants.{Present}
 use Rattle.run_data.specs.declared.entry.By.{By}
 use Rattle.run_data.specs.declared.entry.By.TheVariants.{Script, Job as by_job, Peer}
 use Rattle.run_data.specs.declared.entry.Entry.{Entry}
 use Rattle.run_data.specs.declared.entry.EntryKind.TheVariants.{Share, Check, Gone}
-use Rattle.run_data.specs.declared.entry.FrameText.{FrameText}
-use Rattle.run_data.specs.declared.entry.FrameText.TheVariants.{Opening, Closing, Bytes, Line}
 use Rattle.run_data.specs.declared.entry.FrameView.{FrameView}
 use Rattle.run_data.specs.declared.run.RepoView.{RepoView}
 use Rattle.p2p_wire.specs.declared.message.Message.{Message}
@@ -17,8 +15,7 @@ use Rattle.run_model.specs.Said.{Says}
 use Rattle.run_model.specs.Frames.{Way, way_of}
 use Rattle.race_core.proofs.Ways.{down_of, way_from}
 use Rattle.node_model.specs.SetUp.{SetUp}
-use Rattle.node_model.specs.Ends.{is_opening, server_end}
-use Rattle.node_model.specs.Sessions.{line_in}
+use Rattle.node_model.specs.Ends.{server_end}
 use Rattle.run_model.specs.States.{state_of}
 use Rattle.node_model.specs.Look.{Look, Made, entry_of}
 use Rattle.node_model.specs.Step.{step}
@@ -33,6 +30,7 @@ use Rattle.race_core.proofs.SaidByClock.{said_by_clock}
 use Rattle.race_core.proofs.StepFacts.{gone_by_script, kind_found}
 use Rattle.race_core.specs.Lawful.{HasFreeContent}
 use Rattle.race_core.proofs.Own.{MayObey, MayShare, SaysYes, SharesWith}
+use Rattle.race_core.proofs.EndMoves.{line_opens}
 
 -- ---- facts of an entry by its repository's own part
 
@@ -98,12 +96,6 @@ obey_found : ByStep (λ s past e. (peer slot : ℕ) (key : List ℕ) → e.kind 
 obey_found = by_step (λ s past e. (peer slot : ℕ) (key : List ℕ) → e.kind ≡ Gone (Peer peer slot) key → answers.MayObey s.repos s.number past e peer slot key)
     (λ s past k m h b small e peer slot key kind. may_obey s past k m e peer slot key kind)
     (λ s past e h b is x peer slot key kind. absurd (any_kind s past e (Gone (Peer peer slot) key) x kind))
-
-pub line_opens : (body : FrameText) (m : Message) → line_in body ≡ Some m → is_opening body ≡ false
-line_opens Opening m e = absurd (cc)
-line_opens Closing m e = refl
-line_opens (Bytes n) m e = refl
-line_opens (Line text) m e = refl
 
 -- what goes down the way on which a frame came up was said by the server's end of it
 server_from : (r : ℕ) (f g : FrameView) → f.up ≡ true → g.up ≡ false → way_from r g ≡ down_of (way_of r f) → from_end g ≡ server_end f.peer f.slot

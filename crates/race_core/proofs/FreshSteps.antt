@@ -1,11 +1,11 @@
 -- The first step of a job, and of its drop, leaves its place: so where it stands there, it has made none.
 use Rattle.node_model.specs.Clocks.{hold_time}
 use Rattle.std.proofs.Common.{◌≡◌, ◌≢◌, ℕ, ◌+◌, Bool, true, false, List, [], ◌∷◌, Option, Some, None, inl, inr, refl, sym, ap, ◌∙◌, subst}
-use Rattle.std.specs.Prelude.{if◌then◌else◌, ◌&&◌, ◌||◌, not}
+use Rattle.std.specs.Prelude.{if◌then◌else◌, ◌&&◌, not}
 use Rattle.std.specs.List.{list_all, list_any}
 use Rattle.annex_base.specs.Lists.{Member}
 use Rattle.annex_base.specs.declared.kinds.Call.{Call}
-use Rattle.annex_base.proofs.Conditions.{if_either, or_first}
+use Rattle.annex_base.proofs.Conditions.{if_either}
 use Rattle.annex_base.specs.declared.kinds.Call.TheVariants as calls
 use Rattle.drop_proof.specs.declared.rule.Side.{Side}
 use Rattle.drop_proof.specs.declared.rule.Side.TheVariants.{Local, Remote}
@@ -53,6 +53,8 @@ use Rattle.race_core.proofs.ClientTurns.{made_entry, moved}
 use Rattle.race_core.proofs.ClientSteps.{attempts_even}
 use Rattle.race_core.proofs.GetsBegin.{no_release, owns_none, unasked_unheld, unstepped}
 use Rattle.race_core.proofs.BySteps.{earlier}
+use Rattle.race_core.proofs.NotDropping.{if_none, undropped_unread}
+use Rattle.std.proofs.lemmas.Bool.{or_parts}
 
 -- a job that is to begin its part, at another phase afterwards
 abbrev pub at_start : Part → Turn → Turn
@@ -237,24 +239,12 @@ puts_unstepped reads_back s past h w m part fresh =
 abbrev pub MovesLate : SetUp → Type 0
 MovesLate s = (past : List Entry) (e : Entry) → OwnPast s (e ∷ past) → is_of s.number e ≡ true → (w : Work) (x : Steps s past e w) → x.by.w.part ≡ Puts → w.part ≡ Drops → in_drop past s.number x.by.w.number ≡ false
 
-if_none : {X : Type 0} (a b c : Bool) (x : X) → c ≡ false → (if a && (b && c) then Some x else None) ≡ None
-if_none true true false x e = refl
-if_none true false false x e = refl
-if_none false b false x e = refl
-if_none a b true x e = absurd (cc)
-
 none_of : {X : Type 0} (a b : Option X) → a ≡ None → b ≡ None → first_of a b ≡ None
 none_of a b p q = rw (p, q) refl
 
-not_in : (past : List Entry) (r j : ℕ) → in_drop past r j ≡ false → before_step past r j ≡ None
-not_in [] r j none = refl
-not_in (e ∷ past) r j none =
-    let before : in_drop past r j ≡ false = or_first (in_drop past r j) _ none in
-    none_of (before_step past r j) (if is_of r e && (is_step j e.kind && in_drop past r j) then Some past else None) (not_in past r j before) (if_none (is_of r e) (is_step j e.kind) (in_drop past r j) past before)
-
 in_next : (past : List Entry) (e : Entry) (r j : ℕ) → in_drop past r j ≡ false → before_step (e ∷ past) r j ≡ None
 in_next past e r j none =
-    none_of (before_step past r j) (if is_of r e && (is_step j e.kind && in_drop past r j) then Some past else None) (not_in past r j none) (if_none (is_of r e) (is_step j e.kind) (in_drop past r j) past none)
+    none_of (before_step past r j) (if is_of r e && (is_step j e.kind && in_drop past r j) then Some past else None) (undropped_unread past r j none) (if_none (is_of r e) (is_step j e.kind) (in_drop past r j) past none)
 
 off_step : {X : Type 0} (a b c : Bool) (x : X) → b ≡ false → (if a && (b && c) then Some x else None) ≡ None
 off_step true false c x e = refl
@@ -270,13 +260,9 @@ other_unread past e r j other none = rw (other, none) refl
 unstepped_unread : (past : List Entry) (r j : ℕ) → has_stepped past r j ≡ false → before_step past r j ≡ None
 unstepped_unread [] r j none = refl
 unstepped_unread (e ∷ past) r j none =
-    none_of (before_step past r j) (if is_of r e && (is_step j e.kind && in_drop past r j) then Some past else None) (unstepped_unread past r j (parts (is_of r e && is_step j e.kind) (has_stepped past r j) none).1)
-    (off_both (is_of r e) (is_step j e.kind) (in_drop past r j) (parts (is_of r e && is_step j e.kind) (has_stepped past r j) none).0)
+    none_of (before_step past r j) (if is_of r e && (is_step j e.kind && in_drop past r j) then Some past else None) (unstepped_unread past r j (or_parts (is_of r e && is_step j e.kind) (has_stepped past r j) none).1)
+    (off_both (is_of r e) (is_step j e.kind) (in_drop past r j) (or_parts (is_of r e && is_step j e.kind) (has_stepped past r j) none).0)
   where
-    parts : (a b : Bool) → (a || b) ≡ false → (a ≡ false) × (b ≡ false)
-    parts false b h = (refl, h)
-    parts true b h = absurd (cc)
-
     off_both : (a b c : Bool) → (a && b) ≡ false → (if a && (b && c) then Some past else None) ≡ None
     off_both true false c h = refl
     off_both false b c h = refl

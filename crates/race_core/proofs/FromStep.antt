@@ -27,7 +27,7 @@ use Rattle.race_core.proofs.SendsOwn.{one_answer_step, one_request_step, sends_s
 use Rattle.race_core.proofs.ConnectionOwn.{one_job_step, sent_to_step, taken_from_step}
 use Rattle.race_core.proofs.PhaseOwn.{awaits_step, bar_put_step, ends_step}
 use Rattle.race_core.proofs.DropOwn.{orders_step, removes_step}
-use Rattle.race_core.proofs.Told.{some_option}
+use Rattle.race_core.proofs.Plain.{option_same}
 
 -- an entry that is its repository's own part, after the repository's own entries, has the facts that runs with messages need
 abbrev pub StepIsOwn : Type 0
@@ -77,7 +77,7 @@ pub record Part (s : ℕ → SetUp) (past : List Entry) (r : ℕ) (e : Entry) : 
 
 pub part_of : (s : ℕ → SetUp) (past : List Entry) (e : Entry) (r : ℕ) → RunStep s past e → is_of r e ≡ true → Part s past r e
 part_of s past e r x is =
-    let may : MayBe s past e (Some r) = subst (λ (o : Option ℕ). MayBe s past e o) (some_option e.repo r is) x.may in
+    let may : MayBe s past e (Some r) = subst (λ (o : Option ℕ). MayBe s past e o) (option_same e.repo r is) x.may in
     record { words = may.0; own = may.1; frames = may.2 }
 
 bounded : (past : List Entry) (e : Entry) → ComesInOrder past e → IsBounded e

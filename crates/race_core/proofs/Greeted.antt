@@ -29,12 +29,13 @@ use Rattle.race_core.proofs.JobFacts.{frame_found}
 use Rattle.race_core.proofs.JobKept.{claims_kept}
 use Rattle.race_core.proofs.Carried.{on_keeps}
 use Rattle.race_core.proofs.EndReasons.{talker_like}
-use Rattle.race_core.proofs.ClientCounts.{IsLive, is_of_some}
+use Rattle.race_core.proofs.ClientCounts.{IsLive}
 use Rattle.race_core.proofs.ClientTurns.{made_entry, moved, rows_of, talker, talker_slot}
 use Rattle.race_core.proofs.Dialogue
 use Rattle.race_core.proofs.Dialogue.{Suits, is_greeted, kept, stands_at}
 use Rattle.race_core.proofs.DialogueTurns.{stands_on}
 use Rattle.drop_proof.specs.declared.rule.Side.TheVariants.{Remote}
+use Rattle.race_core.proofs.Plain.{option_at}
 
 -- ---- as it is greeted
 
@@ -43,7 +44,7 @@ learnt : (w : Work) (p n : ℕ) (f : FrameView) (phase : Phase) → phase ≡ Gr
 learnt w p n f (Greets q) at to told =
     let same : q ≡ p = cc in
     subst (λ (m : Option Message). (if option_is w.what.peer q then record w { version = Jobs.version_said w.version m } else w).version ≡ n) (sym told)
-    (subst (λ (b : Bool). (if b then record w { version = n } else w).version ≡ n) (sym (is_of_some w.what.peer q (to ∙ ap (λ k. Some k) (sym same)))) refl)
+    (subst (λ (b : Bool). (if b then record w { version = n } else w).version ≡ n) (sym (option_at w.what.peer q (to ∙ ap (λ k. Some k) (sym same)))) refl)
 learnt w p n f phase at to told = absurd (cc)
 
 module _ (t : Turn) (m : Made) (p n : ℕ) (f : FrameView) (at : t.w.phase ≡ Greets p) (to : t.w.what.peer ≡ Some p) (took : m.taken ≡ Some f) (told : line_in f.body ≡ Some (Version n)) where

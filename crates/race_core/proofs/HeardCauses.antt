@@ -43,6 +43,7 @@ use Rattle.race_core.proofs.WorkNumbers.{same_slot_same_work}
 use Rattle.race_core.proofs.JobSteps.{Stepped, stepped_runs}
 use Rattle.race_core.proofs.ClientRuns.{client_end}
 use Rattle.race_core.proofs.Speaks
+use Rattle.race_core.proofs.Plain.{same_both}
 
 -- ---- a cause stays
 
@@ -180,11 +181,7 @@ pub client_sent : (peer slot : ℕ) (g : FrameView) → sends_at (client_end pee
 client_sent peer slot g e =
     let two = and_parts ((g.peer == peer) && (g.slot == slot)) (same_bool g.up true) e in
     let one = and_parts (g.peer == peer) (g.slot == slot) two.0 in
-    (eqb-true g.peer peer one.0, eqb-true g.slot slot one.1, up g.up two.1)
-  where
-    up : (b : Bool) → same_bool b true ≡ true → b ≡ true
-    up true h = refl
-    up false h = absurd (cc)
+    (eqb-true g.peer peer one.0, eqb-true g.slot slot one.1, same_both g.up true two.1)
 
 closing_closes : (body : FrameText) → body ≡ Closing → is_close (message_in body) ≡ true
 closing_closes body is = ap (λ b. is_close (message_in b)) is ∙ ap is_close said_closing
@@ -216,7 +213,7 @@ runs_in past r w m = subst (λ js. in_slot js w.number w.slot ≡ true) (jobs_ar
         or_true true h = refl
         or_true false h = h
 
-no_close : (a : EndName) (e : Entry) → e.taken ≡ None → e.sent ≡ [] → TookClose a e ⊎ SentClose a e → ⊥
+pub no_close : (a : EndName) (e : Entry) → e.taken ≡ None → e.sent ≡ [] → TookClose a e ⊎ SentClose a e → ⊥
 no_close a e none nothing (inl t) = let bad : None ≡ Some t.f = sym none ∙ t.took in cc
 no_close a e none nothing (inr t) = subst (Member t.g) nothing t.sent
 

@@ -41,7 +41,7 @@ use Rattle.run_model.specs.Run.{OwnPast, OwnRun}
 use Rattle.node_model.specs.Found.{IsJobEntry}
 use Rattle.race_core.proofs.JobKept.{kind_kept}
 use Rattle.race_core.proofs.TalkFacts.{Apart, Chosen, Fits}
-use Rattle.race_core.proofs.PhaseFacts.{Good, GoodTo, is_fresh}
+use Rattle.race_core.proofs.PhaseFacts.{Good, GoodTo, is_fresh, only_lock, only_look}
 use Rattle.race_core.proofs.WorkFits.{step_kind, step_runs, step_sent, step_talk, steps_good, works_fit}
 use Rattle.race_core.proofs.Untouched.{AtStart, begin_still, begins_later, begun_before, not_yet, start_before}
 use Rattle.race_core.proofs.JobSteps.{Begins, Origin, Stays, Steps, invariant, turn_at}
@@ -238,21 +238,11 @@ module _ (reads_back : SentAreRead) (s : SetUp) (past : List Entry) (e : Entry) 
     ]
     | inr w ↦ elim w [
       | inl g ↦ got g.f g.took g.told g.peer (Held g.since) (Locked_at g.since v.what.key) (ap (by_phase v.what.key) g.phase_is) refl refl (ap (partner v.what.peer) g.phase_is)
-          (lock_part v.part g.peer g.since (subst (Fits v.part) g.phase_is fit)) (lock_listens reads_back s past e b.by fit g)
+          (only_lock v.part g.peer g.since (subst (Fits v.part) g.phase_is fit)) (lock_listens reads_back s past e b.by fit g)
       | inr g ↦ got g.f g.took g.told g.peer Seen (Seen_there v.what.key) (ap (by_phase v.what.key) g.phase_is) refl refl (ap (partner v.what.peer) g.phase_is)
-          (look_part v.part g.peer (subst (Fits v.part) g.phase_is fit)) (look_listens reads_back s past e b.by fit g)
+          (only_look v.part g.peer (subst (Fits v.part) g.phase_is fit)) (look_listens reads_back s past e b.by fit g)
     ]
   ]
-    where
-      lock_part : (q : Part) (peer since : ℕ) → Fits q (AsksLock peer since) → q ≡ Drops
-      lock_part Gets peer since g = absurd g
-      lock_part Puts peer since g = absurd g
-      lock_part Drops peer since g = refl
-
-      look_part : (q : Part) (peer : ℕ) → Fits q (AsksLook peer) → q ≡ Drops
-      look_part Gets peer g = absurd g
-      look_part Puts peer g = absurd g
-      look_part Drops peer g = refl
 
   -- ---- where it stands
 

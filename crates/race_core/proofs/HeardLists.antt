@@ -229,11 +229,11 @@ kind_changed rows r w e s kind other = on_changed rows r w (learns (claims w w.p
 
 -- ---- the job as it talks
 
-learns_heard : (x : Work) (phase : Phase) (taken : Option FrameView) → (learns x phase taken).heard ≡ x.heard
+pub learns_heard : (x : Work) (phase : Phase) (taken : Option FrameView) → (learns x phase taken).heard ≡ x.heard
 learns_heard x (Jobs.Greets peer) (Some f) = if_either (λ (y : Work). y.heard ≡ x.heard) (option_is x.what.peer peer) (record x { version = Jobs.version_said x.version (line_in f.body) }) x (λ e. refl) (λ e. refl)
 learns_heard x phase taken = refl
 
-claims_heard : (w : Work) (part : Part) (phase : Phase) → (claims w part phase).heard ≡ w.heard
+pub claims_heard : (w : Work) (part : Part) (phase : Phase) → (claims w part phase).heard ≡ w.heard
 claims_heard w Gets Jobs.Fresh = refl
 claims_heard w part phase = refl
 

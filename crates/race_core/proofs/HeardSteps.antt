@@ -9,7 +9,6 @@ use Rattle.p2p_wire.specs.declared.message.Message.{Message}
 use Rattle.p2p_wire.specs.declared.message.Message.TheVariants.{Success}
 use Rattle.node_model.specs.Sessions.{line_in}
 use Rattle.node_model.specs.Ends.{EndName, End, end_after, end_takes, end_took}
-use Rattle.node_model.specs.Jobs
 use Rattle.node_model.specs.Jobs.{Drops, Part, Phase, AsksLock, AsksLook, Held, Seen, Heard, Work, closed_part, job_end, listens, partner, talks_on, after_frame}
 use Rattle.node_model.specs.Look.{Made, waiting}
 use Rattle.node_model.specs.JobStep.{Turn, end_with, hears, me, quietly, talk}
@@ -18,11 +17,10 @@ use Rattle.race_core.proofs.JobFacts.{frame_found, goes_found}
 use Rattle.race_core.proofs.ClientTurns.{made_entry, moved, rows_of, talker, talker_phase, talker_slot}
 use Rattle.race_core.proofs.ClientLeaves.{Taking}
 use Rattle.race_core.proofs.HeardLists.{talker_heard}
+use Rattle.std.proofs.lemmas.Option.{same_Some}
+use Rattle.race_core.proofs.ClientSteps.{took_listens}
 
 -- ---- the step that takes a frame
-
-some_same : (f g : FrameView) → Some f ≡ Some g → f ≡ g
-some_same f g e = cc
 
 -- a step that takes a frame is the taking of that frame, on the open connection of the partner
 pub took_as : (t : Turn) (m : Made) (peer : ℕ) → partner t.w.what.peer t.w.phase ≡ Some peer → (b : Bool) → with_partner t peer b ≡ Some m → (f : FrameView) → m.taken ≡ Some f
@@ -39,7 +37,7 @@ took_as t m peer on true e f took = go (is_awaiting t.w.phase) refl e
         room true k =
             let made : takes_frame t peer h h.body ≡ m = cc in
             let one : Some h ≡ Some f = sym (frame_found t peer h on h.body refl).0 ∙ (ap (λ (x : Made). x.taken) made ∙ took) in
-            sym made ∙ ap (λ (x : FrameView). takes_frame t peer x x.body) (some_same h f one)
+            sym made ∙ ap (λ (x : FrameView). takes_frame t peer x x.body) (same_Some h f one)
 
     go : (c : Bool) → is_awaiting t.w.phase ≡ c → (if c then awaits t peer (waiting (end_with t peer) t.look (job_end t.w peer)) else goes_on t) ≡ Some m → m ≡ takes_frame t peer f f.body
     go true awaiting g = takes_it (waiting (end_with t peer) t.look (job_end t.w peer)) g
@@ -75,19 +73,13 @@ line_open c epoch Opening m e = absurd (cc)
 line_open c epoch Closing m e = absurd (cc)
 line_open c epoch (Bytes n) m e = refl
 
-took_work : (x : Work) (body : FrameText) (m : Message) (phase : Phase) → line_in body ≡ Some m → x.phase ≡ phase → after_frame x body ≡ listens x phase m
-took_work x (Line text) m phase told is = ap (λ (o : Option Message). Jobs.after_line x o) told ∙ ap (λ (p : Phase). listens x p m) is
-took_work x Opening m phase told is = absurd (cc)
-took_work x Closing m phase told is = absurd (cc)
-took_work x (Bytes n) m phase told is = absurd (cc)
-
 -- a message that is heard moves the job as its phase says
 pub moved_listens : (t : Turn) (f : FrameView) (peer : ℕ) → Taking t f peer → (m : Message) (phase : Phase) → t.w.phase ≡ phase → line_in f.body ≡ Some m
     → moved t (hears t f) (talk t) ≡ listens (talker t (Some f)) phase m
 moved_listens t f peer x m phase is told =
     ap (λ (p : Option ℕ). talks_on (rows_of t) (me t) y (made_entry t (hears t f)) p) x.on
     ∙ (ap (λ (b : Bool). if b then after_frame y f.body else closed_part (me t) y peer y.part) opened
-    ∙ took_work y f.body m phase told (talker_phase t (Some f) ∙ is))
+    ∙ took_listens y f.body m phase told (talker_phase t (Some f) ∙ is))
   where
     y : Work
     y = talker t (Some f)

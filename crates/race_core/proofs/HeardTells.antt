@@ -40,6 +40,7 @@ use Rattle.race_core.proofs.Speaks
 use Rattle.race_core.proofs.Makers.{stepped_takes, taken_of, taker, TakenBy}
 use Rattle.race_core.proofs.JobSteps.{Stepped, stepped_job, stepped_runs, turn_at}
 use Rattle.race_core.proofs.HeardSteps.{lock_heard, lock_success, look_heard, look_success, took_as}
+use Rattle.race_core.proofs.PhaseFacts.{only_lock, only_look}
 
 -- ---- what an entry tells, by the frame that it takes
 
@@ -120,16 +121,6 @@ told_or key phase (Some f) = elim (success_or (line_in f.body)) [
     go (AsksLock peer since) is told = inr (inl (record { f = f; took = refl; told = told; peer = peer; since = since; phase_is = is }))
     go (AsksLook peer) is told = inr (inr (record { f = f; took = refl; told = told; peer = peer; phase_is = is }))
     go p is told = inl (λ g took h. ap (by_phase key) is)
-
-only_lock : (part : Part) (peer since : ℕ) → Fits part (AsksLock peer since) → part ≡ Drops
-only_lock Gets peer since f = absurd f
-only_lock Puts peer since f = absurd f
-only_lock Drops peer since f = refl
-
-only_look : (part : Part) (peer : ℕ) → Fits part (AsksLook peer) → part ≡ Drops
-only_look Gets peer f = absurd f
-only_look Puts peer f = absurd f
-only_look Drops peer f = refl
 
 module _ (reads_back : SentAreRead) (s : SetUp) (past : List Entry) (e : Entry) (x : Stepped s past e) (fit : Fits x.w.part x.w.phase) where
   abbrev t : Turn

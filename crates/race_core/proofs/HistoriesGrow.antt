@@ -1,8 +1,7 @@
--- A repository's history stays its own part as the history grows: as its set-up gets the paths of a new job, and as letters come.
-use Rattle.std.proofs.Common.{◌≡◌, ℕ, ◌+◌, ◌≤◌, Bool, true, false, List, [], ◌∷◌, ◌++◌, Option, Some, None, ◌⊎◌, inl, inr, refl, sym, ap, ◌∙◌, arith}
-use Rattle.std.specs.Prelude.{◌&&◌, ◌==◌, find, if◌then◌else◌}
+-- A repository's history stays its own part as its set-up gets the paths of a new job.
+use Rattle.std.proofs.Common.{◌≡◌, ℕ, ◌+◌, ◌≤◌, Bool, true, false, List, [], ◌∷◌, Option, Some, None, ◌⊎◌, inl, inr, ◌∙◌, arith}
+use Rattle.std.specs.Prelude.{◌&&◌, if◌then◌else◌}
 use Rattle.annex_base.specs.declared.kinds.Word.{Word}
-use Rattle.annex_base.proofs.Lists.{slice_get-left}
 use Rattle.run_data.specs.declared.entry.By.TheVariants.{Script}
 use Rattle.run_data.specs.declared.entry.Entry.{Entry}
 use Rattle.run_data.specs.declared.entry.EntryKind.{EntryKind}
@@ -10,15 +9,13 @@ use Rattle.run_data.specs.declared.entry.EntryKind.TheVariants.{Begin, Gain, Log
 use Rattle.run_data.specs.declared.entry.FrameView.{FrameView}
 use Rattle.run_data.specs.declared.job.JobKind.{JobKind}
 use Rattle.run_model.specs.Past.{begun_count, is_of}
-use Rattle.node_model.specs.Slots.{is_begin, job_of}
-use Rattle.node_model.specs.Rows.{option_is}
-use Rattle.run_model.specs.Frames.{Way, taken_count, way_of}
+use Rattle.node_model.specs.Slots.{is_begin}
+use Rattle.run_model.specs.Frames.{Way}
 use Rattle.node_model.specs.SetUp.{SetUp}
-use Rattle.run_model.specs.States.{works, state_of}
+use Rattle.run_model.specs.States.{state_of}
 use Rattle.node_model.specs.AnyTime.{IsPeer, MayCome}
-use Rattle.run_model.specs.Words.{awaits_of}
 use Rattle.run_model.specs.Run.{ComesAnyTime, IsStep, OwnPart, OwnRun}
-use Rattle.race_core.specs.Merged.{IsHistory, Letter, TakesNext, word_got, word_in, word_read}
+use Rattle.race_core.specs.Merged.{IsHistory, Letter}
 use Rattle.race_core.proofs.PathsRead.{step_paths, with_paths}
 use Rattle.race_core.proofs.WorkNumbers.{number_begun}
 
@@ -74,40 +71,3 @@ module _ (s : SetUp) (p : ℕ → List (List ℕ)) where
       let before = same_before e past same in
       let x = h.0 in
       (record { own = x.own; words = x.words; does = part_paths past x.words e (kept_run got past h.1) before x.does; takes = x.takes; tells = x.tells }, kept_paths got past before h.1)
-
--- ---- more letters
-
-module _ (s : SetUp) (got more : Way → List Letter) where
-  abbrev all : Way → List Letter
-  all w = got w ++ more w
-
-  next_more : (past : List Entry) (w : Way) (e : Entry) (f : FrameView) → TakesNext (got w) past w e f → TakesNext (all w) past w e f
-  next_more past w e f x = record { letter = x.letter; next = slice_get-left (got w) (more w) (taken_count past w) x.letter x.next; seq_is = x.seq_is; body_is = x.body_is; later = x.later }
-
-  word_more : (j c : ℕ) (past : List Entry) → IsHistory s got past → word_got got past s.number j c ≡ word_got all past s.number j c
-  word_more j c [] h = refl
-  word_more j c (e ∷ past) h =
-      ap (λ was. if here then word_read got past s.number c e.taken was else was) (word_more j c past h.1)
-      ∙ ap (λ x. if here then x else word_got all past s.number j c) (read (word_got all past s.number j c) e.taken refl)
-    where
-      here : Bool
-      here = is_of s.number e && option_is (job_of e.kind) j && awaits_of c (find (λ w. w.number == j) (works past s.number))
-
-      read : (was : Option Word) (o : Option FrameView) → e.taken ≡ o → word_read got past s.number c o was ≡ word_read all past s.number c o was
-      read was None is = refl
-      read was (Some f) is = let x = h.0.takes f is in ap (λ y. if f.peer == c then word_in y else was)
-          (x.next ∙ sym (slice_get-left (got (way_of s.number f)) (more (way_of s.number f)) (taken_count past (way_of s.number f)) x.letter x.next))
-
-  pub kept_more : (past : List Entry) → IsHistory s got past → IsHistory s all past
-  kept_more [] h = tt
-  kept_more (e ∷ past) h =
-      let x = h.0 in (
-        record {
-          own = x.own;
-          words = x.words;
-          does = x.does;
-          takes = λ f is. next_more past (way_of s.number f) e f (x.takes f is);
-          tells = λ j outcome is c. x.tells j outcome is c ∙ word_more j c past h.1;
-        },
-        kept_more past h.1,
-      )

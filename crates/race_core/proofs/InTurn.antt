@@ -30,6 +30,7 @@ use Rattle.race_core.proofs.NewSessions.{close_shuts, closed_new, new_left}
 use Rattle.race_core.proofs.WayCounts.{count_in, hits, in_count, in_other, one_if, out_count, out_other, way_in, way_out}
 use Rattle.race_core.proofs.SaidDown.{said_closing, said_opening}
 use Rattle.race_core.proofs.TurnFits.{Fits, ReadsOne, answers_in, busy, frame_fits, one_answers, pieces_fit}
+use Rattle.race_core.proofs.Filling.{plus_none}
 
 -- each line that is sent down is read
 abbrev pub IsRead : Entry → Type 0
@@ -216,9 +217,6 @@ module _ (s : SetUp) (past : List Entry) (e : Entry) (p q : ℕ) (is : is_of s.n
 
   abbrev was : Session
   was = session past s.number a
-
-  plus_none : (x y : ℕ) → y ≡ 0 → x + y ≡ x
-  plus_none x y z = omega (arith, z)
 
   turns_shut : Shuts a e → Turns r a past → Turns r a (e ∷ past)
   turns_shut x old =

@@ -27,19 +27,19 @@ use Rattle.node_model.specs.Look.{failing}
 use Rattle.node_model.specs.Sessions.{Doing, Gives, Session, reaches}
 use Rattle.node_model.specs.SessionStep.{Here, Reply, by_of, close_kind, content_of, gives_next, here, on_frame, on_piece, reply, shuts}
 use Rattle.race_core.proofs.AnswersRead.{all_read}
-use Rattle.race_core.proofs.AnswersTurn.{bytes_end, closing_ends}
 use Rattle.race_core.proofs.Cases.{unless_found}
 use Rattle.race_core.proofs.Counting.{bytes_counts}
 use Rattle.race_core.proofs.Giving.{GetTaken, gets_stand}
 use Rattle.race_core.proofs.InTurn.{AllRead, in_turn}
-use Rattle.race_core.proofs.SaidDown.{Alike, alike, said_line-is, said_opening}
+use Rattle.race_core.proofs.SaidDown.{Alike, alike, bytes_end, closing_ends, said_line-is, said_opening}
 use Rattle.race_core.proofs.ServerEnds.{GivesHere, ServerDoes, TakesHere, server_does}
 use Rattle.race_core.proofs.SessionAnswers.{AnswerFits, Answering, counts_answer, line_answer}
-use Rattle.race_core.proofs.SessionOwn.{down_closes, member_frames, taken_up, way_at}
+use Rattle.race_core.proofs.SessionOwn.{down_closes, member_frames, way_at}
 use Rattle.race_core.proofs.SessionSays.{read_of}
 use Rattle.race_core.proofs.TurnFits.{busy}
 use Rattle.race_core.proofs.WayCounts.{way_in, way_out}
 use Rattle.race_core.proofs.Ways.{answers, down_of, way_from}
+use Rattle.race_core.proofs.AnswerFacts.{end_takes_from}
 
 valid_not : (b : FrameText) → b ≡ Line (text_of Valid) → message_in b ≡ Says Invalid → ⊥
 valid_not b i e =
@@ -185,7 +185,7 @@ module _ (s : SetUp) (past : List Entry) (e : Entry) (p q : ℕ) (run : OwnRun s
     f = get.f;
     takes_it = get.takes_it;
     back = out_is ∙ ap down_of (sym in_is);
-    from_client = (taken_up p q get.f get.of_end).2;
+    from_client = (end_takes_from p q get.f get.of_end).2;
     turn = ap (λ w. length (answers past w)) out_is ∙ turn_now ∙ ap (λ w. taken_if is_request get.before w) (sym in_is);
     start = get.start;
     file = get.file;

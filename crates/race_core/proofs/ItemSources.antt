@@ -1,10 +1,9 @@
 -- What the locked and recent items of a run's removals stand on: who asked and who answered, and the hold, which is still there.
 use Rattle.node_model.specs.Clocks.{hold_time}
-use Rattle.std.proofs.Common.{◌≡◌, ℕ, ◌+◌, ◌≤◌, Bool, true, false, List, [], ◌∷◌, Option, Some, None, ◌⊎◌, inl, inr, refl, sym, ap, ◌∙◌, subst, arith}
+use Rattle.std.proofs.Common.{◌≡◌, ℕ, ◌+◌, ◌≤◌, Bool, true, false, List, [], ◌∷◌, Option, Some, None, ◌⊎◌, inl, inr, refl, sym, ap, ◌∙◌, subst}
 use Rattle.std.specs.Prelude.{if◌then◌else◌, ◌==◌, bytes_eq, nat_le, slice_get}
 use Rattle.std.specs.Cmp.Lexicographic.{bytes_decides}
-use Rattle.std.proofs.lemmas.Bool.{true≢false, and_parts, eqb-true}
-use Rattle.std.proofs.lemmas.Bool.Decides.{nat_tests}
+use Rattle.std.proofs.lemmas.Bool.{true≢false, and_parts, eqb-true, leb-true}
 use Rattle.annex_base.specs.Lists.{Each, Member}
 use Rattle.annex_base.proofs.Lists.{Each-member, list_any_found}
 use Rattle.race_core.proofs.Below.{SentAreRead}
@@ -179,10 +178,7 @@ lasting hs number until owner key h =
     let a = and_parts (x.number == number) _ t.2 in
     let b = and_parts (same_owner x.owner owner) _ a.1 in
     let c = and_parts (bytes_eq x.key key) (nat_le until x.end) b.1 in
-    record { hold = x; recorded = t.1; number_is = eqb-true x.number number a.0; owner_is = same_owner_true x.owner owner b.0; key_is = (bytes_decides x.key key).0 c.0; lasts_it = at_most until x.end c.1 }
-  where
-    at_most : (m n : ℕ) → nat_le m n ≡ true → m ≤ n
-    at_most m n k = grind (arith, nat_tests)
+    record { hold = x; recorded = t.1; number_is = eqb-true x.number number a.0; owner_is = same_owner_true x.owner owner b.0; key_is = (bytes_decides x.key key).0 c.0; lasts_it = leb-true until x.end c.1 }
 
 -- ---- locked items
 

@@ -22,7 +22,7 @@ use Rattle.node_model.specs.Look.{Made}
 use Rattle.node_model.specs.JobStep.{Turn, end_with, farewell, farewells, has_lock, key_of, others_of}
 use Rattle.node_model.specs.Found.{IsAsked, IsAsking, IsJobEntry}
 use Rattle.race_core.proofs.ReadAs.{IsJobs, SameHead}
-use Rattle.race_core.proofs.SaidDown.{said_bytes, said_closing, said_line-is, said_opening}
+use Rattle.race_core.proofs.SaidDown.{closing_ends, said_bytes, said_line-is, said_opening}
 use Rattle.race_core.proofs.ServerEnds.{each_flat}
 use Rattle.race_core.proofs.SessionSays.{read_of}
 use Rattle.race_core.proofs.WorkFits.{head_of}
@@ -122,12 +122,9 @@ order_jobs (Some n) key = tt
 pub line_head : (body : FrameText) (m x : Message) → body ≡ Line (text_of m) → IsJobs m → message_in body ≡ Says x → SameHead m x
 line_head body m x i jobs e = head_of m x jobs (read_of (text_of m) x (sym (ap message_in i) ∙ e))
 
-closing_no : (body : FrameText) (x : Message) → body ≡ Closing → message_in body ≡ Says x → ⊥
-closing_no body x i e = let no' = sym said_closing ∙ (sym (ap message_in i) ∙ e) in cc
-
 asked_head : (body : FrameText) (x : Message) → IsAsked body → message_in body ≡ Says x → (m : Message) × IsAsking m × SameHead m x
 asked_head Opening x a e = absurd (let no' = sym said_opening ∙ e in cc)
-asked_head Closing x a e = absurd (closing_no Closing x refl e)
+asked_head Closing x a e = absurd (closing_ends Closing x refl e)
 asked_head (Bytes n) x a e = absurd (let no' = sym (said_bytes n) ∙ e in cc)
 asked_head (Line text) x a e = (a.0, a.2, line_head (Line text) a.0 x (ap Line a.1) (asking_jobs a.0 a.2) e)
 
@@ -142,7 +139,7 @@ KindSays t kind m = ⊥
 pub said_head : (t : Turn) (kind : EntryKind) (g : FrameView) (x : Message) → JobSaid t kind g → message_in g.body ≡ Says x → (m : Message) × KindSays t kind m × SameHead m x
 said_head t (Order j peer deadline need key) g x i e = (order_of deadline key, refl, line_head g.body (order_of deadline key) x i.1 (order_jobs deadline key) e)
 said_head t (Gain by size key) g x i e = (Success, refl, line_head g.body Success x i tt e)
-said_head t (ends_job j outcome) g x (inl i) e = absurd (closing_no g.body x i e)
+said_head t (ends_job j outcome) g x (inl i) e = absurd (closing_ends g.body x i e)
 said_head t (ends_job j outcome) g x (inr i) e = (UnlockContent (key_of t), (refl, i.1), line_head g.body (UnlockContent (key_of t)) x i.0 tt e)
 said_head t (Talk j) g x i e = asked_head g.body x i e
 said_head t kind g x i e = absurd i

@@ -24,9 +24,10 @@ use Rattle.node_model.specs.Ends.{end_after}
 use Rattle.node_model.specs.Sessions.{line_in}
 use Rattle.node_model.specs.Jobs
 use Rattle.node_model.specs.Jobs.{AsksTime, Drops, Ends, Fresh, Gets, GetsBytes, GetsWord, Greets, Orders, Part, Phase, Puts, RowsAndEnds, Work, claims, closed_part, fault_of, fault_phase, first_look, gets_bytes, gets_more, hears_frame, job_end, learns, listens, partner, put_from, puts_answer, puts_bytes, puts_more, quiet, says, says_some, sends, side_of, taken_message, talks, talks_on, target_of, after_frame, after_line, after_transfer, after_failed_release, word_taken, work_kind}
-use Rattle.race_core.proofs.PhaseFacts.{readies_place}
+use Rattle.race_core.proofs.PhaseFacts.{only_word, readies_place}
 use Rattle.run_data.specs.declared.job.SourceCause.{SourceCause}
 use Rattle.race_core.proofs.TalkFacts.{Fits}
+use Rattle.std.proofs.lemmas.Option.{same_Some}
 
 -- ---- how a job moves: whose connection it is on, and whose cause it has gained
 
@@ -62,14 +63,9 @@ module _ (target : Option ℕ) where
   gains : (w : Work) (sent : List FrameView) (peer : ℕ) (cause : SourceCause) → partner target w.phase ≡ Some peer → w.part ≡ Gets → Moves target w sent (Jobs.fails_with w peer cause)
   gains w sent peer cause on part = record { causes = inr (record { peer = peer; cause = cause; on = on; list = refl; next = refl; part_is = part }); place = λ f p o. absurd (cc) }
 
-  only_gets : (part : Part) (peer start size : ℕ) → Fits part (GetsWord peer start size) → part ≡ Gets
-  only_gets Gets peer start size f = refl
-  only_gets Puts peer start size f = absurd f
-  only_gets Drops peer start size f = absurd f
-
   module _ (w : Work) (fit : Fits w.part w.phase) where
     word_moves : (sent : List FrameView) (word : Option Message) (phase : Phase) → w.phase ≡ phase → Moves target w sent (word_taken w word phase)
-    word_moves sent word (GetsWord peer start size) is = gains w sent peer (_) (ap (partner target) is) (only_gets w.part peer start size (subst (Fits w.part) is fit))
+    word_moves sent word (GetsWord peer start size) is = gains w sent peer (_) (ap (partner target) is) (only_word w.part peer start size (subst (Fits w.part) is fit))
     word_moves sent word phase is = stays w sent w refl (λ p on. on)
 
     answer_moves : (sent : List FrameView) (phase : Phase) → w.phase ≡ phase → Moves target w sent (Jobs.to_phase w (puts_answer phase))
@@ -84,9 +80,6 @@ module _ (target : Option ℕ) where
     from_on peer left (Some (PutFrom start)) p on = puts_on (left == 0) peer start start left p on
     from_on peer left taken p on = on
 
-    same_peer : (a b : ℕ) → Some a ≡ Some b → a ≡ b
-    same_peer a b e = cc
-
     -- to the peer of the frame
     here : (f : FrameView) (fs : List FrameView) (y : Work) → y.causes ≡ w.causes → ((p : ℕ) → partner target y.phase ≡ Some p → f.peer ≡ p) → Moves target w (f ∷ fs) y
     here f fs y c at = record { causes = inl c; place = λ fi p on. inr (f, inl refl, at p on) }
@@ -99,7 +92,7 @@ module _ (target : Option ℕ) where
     says_moves time f fs taken (Version n) = here f fs (Jobs.to_phase w (Greets f.peer)) refl (λ p on. cc)
     says_moves time f fs taken (Get n file key) = here f fs (Jobs.to_phase w (Jobs.GetsData f.peer n)) refl (λ p on. cc)
     says_moves time f fs taken (Put file key) = here f fs (Jobs.to_phase w (Jobs.PutsOffer f.peer)) refl (λ p on. cc)
-    says_moves time f fs taken (Data n) = here f fs (Jobs.to_phase w (put_from f.peer n taken)) refl (λ p on. same_peer f.peer p (from_on f.peer n taken p on))
+    says_moves time f fs taken (Data n) = here f fs (Jobs.to_phase w (put_from f.peer n taken)) refl (λ p on. same_Some f.peer p (from_on f.peer n taken p on))
     says_moves time f fs taken Valid = answer_moves (f ∷ fs) w.phase refl
     says_moves time f fs taken (LockContent key) = here f fs (Jobs.to_phase w (Jobs.AsksLock f.peer time)) refl (λ p on. cc)
     says_moves time f fs taken (CheckPresent key) = here f fs (Jobs.to_phase w (Jobs.AsksLook f.peer)) refl (λ p on. cc)

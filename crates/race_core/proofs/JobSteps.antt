@@ -41,6 +41,7 @@ use Rattle.race_core.proofs.JobFacts.{MadeBy, partner_found}
 use Rattle.race_core.proofs.StepFacts.{pays_found}
 use Rattle.race_core.proofs.WorkNumbers.{same_number_same_work}
 use Rattle.node_model.specs.Look
+use Rattle.race_core.proofs.Plain.{member_mapped}
 
 -- the job in a slot made the entry
 pub record Stepped (s : SetUp) (past : List Entry) (e : Entry) : Type 0 where
@@ -230,11 +231,6 @@ still_after s past w e (Fault call by) apart is = fault call is
         go false = refl
     fault c is = off_after s past w e (Fault c by) is
 still_after s past w e kind apart is = off_after s past w e kind is
-
-member_mapped : {X Y : Type 0} (f : X → Y) (xs : List X) (y : Y) → Member y (map f xs) → (x : X) × (Member x xs) × (y ≡ f x)
-member_mapped f [] y m = absurd m
-member_mapped f (x ∷ xs) y (inl m) = (x, inl refl, m)
-member_mapped f (x ∷ xs) y (inr m) = let z = member_mapped f xs y m in (z.0, inr z.1, z.2)
 
 module _ (s : SetUp) (past : List Entry) (e : Entry) (run : OwnRun s past) (made : OfNoJob e.kind ⊎ Stepped s past e) where
   at_step : (w : Work) → Member w (works past s.number) → is_step w.number e.kind ≡ true → (x : Stepped s past e) × (w ≡ x.w)

@@ -146,7 +146,6 @@ pub mod Known
 pub mod OwnFacts
 pub mod Evident
 pub mod ReadOnce
-pub mod OwnWhole
 pub mod Occurring
 pub mod ClockSets
 pub mod Releasing
@@ -172,7 +171,6 @@ pub mod AnswersFit
 pub mod ToldValues
 pub mod SessionsFill
 pub mod OrdersTold
-pub mod AnswersExpected
 pub mod SourcesInOrder
 pub mod Caused
 pub mod Queues

@@ -23,7 +23,7 @@ use Rattle.race_core.proofs.JobSteps.{Origin, Steps, invariant, turn_at}
 use Rattle.race_core.proofs.JobKept.{kind_kept}
 use Rattle.race_core.proofs.TalkFacts.{Fits}
 use Rattle.race_core.proofs.PhaseFacts.{GoodTo}
-use Rattle.race_core.proofs.WorkFits.{step_kind, step_runs, step_sent, step_talk, steps_good, works_fit}
+use Rattle.race_core.proofs.WorkFits.{drops_stay, good_fits, step_kind, step_runs, step_sent, step_talk, steps_good, works_fit}
 use Rattle.race_core.proofs.HeardLists.{Changed, SameList, kind_changed, share_or, talker_is}
 use Rattle.race_core.proofs.Asking.{Came, is_on_one, kind_came}
 use Rattle.race_core.proofs.Aims.{aims, other_target}
@@ -124,24 +124,6 @@ pub record FreeOf (s : SetUp) (w : Work) : Type 0 where
   pub asks_other : (peer since : ℕ) → w.phase ≡ AsksLock peer since → side_of w ≡ Remote → (target_of s.number w == peer) ≡ false
   pub target_free : w.part ≡ Drops → side_of w ≡ Remote → kept w (target_of s.number w) ≡ false
 
-was_part : (part : Part) (old : Phase) (to : Part) (phase : Phase) → GoodTo part old to phase → part ≡ Drops → to ≡ Drops
-was_part Drops old Drops phase g is = refl
-was_part Drops old Gets phase g is = absurd g
-was_part Drops old Puts phase g is = absurd g
-was_part Gets old to phase g is = absurd (cc)
-was_part Puts old to phase g is = absurd (cc)
-
-pub fits_to : (part : Part) (old : Phase) (to : Part) (phase : Phase) → GoodTo part old to phase → Fits to phase
-fits_to Gets old Gets phase g = g.0
-fits_to Gets old Puts phase g = absurd g
-fits_to Gets old Drops phase g = subst (Fits Drops) (sym g) tt
-fits_to Puts old Gets phase g = absurd g
-fits_to Puts old Puts phase g = g.0
-fits_to Puts old Drops phase g = subst (Fits Drops) (sym g) tt
-fits_to Drops old Gets phase g = absurd g
-fits_to Drops old Puts phase g = absurd g
-fits_to Drops old Drops phase g = g.0
-
 -- a drop that goes on was one
 pub drop_before : (part : Part) (old : Phase) (to : Part) (phase : Phase) → GoodTo part old to phase → to ≡ Drops → is_on_one phase ≡ true → part ≡ Drops
 drop_before Drops old to phase g is on = refl
@@ -188,7 +170,7 @@ free_of s past run w m = invariant s (λ p x. FreeOf s x) (λ p e is x n was. wa
         target_was = ap (λ (q : Job). Jobs.or_own s.number (Jobs.drop_side q.kind q.peer) q.peer) what
 
         later : v.part ≡ Drops → x.part ≡ Drops
-        later part = was_part v.part v.phase x.part x.phase (steps_good s p e x b fits) part
+        later part = drops_stay v.part v.phase x.part x.phase (steps_good s p e x b fits) part
 
         none : x.part ≢ Drops → x.heard ≡ []
         none apart = elim long [
@@ -197,7 +179,7 @@ free_of s past run w m = invariant s (λ p x. FreeOf s x) (λ p e is x n was. wa
         ]
 
         fits_x : Fits x.part x.phase
-        fits_x = fits_to v.part v.phase x.part x.phase (steps_good s p e x b fits)
+        fits_x = good_fits v.part v.phase x.part x.phase (steps_good s p e x b fits)
 
         -- a lock is asked of another than the target
         other : (peer since : ℕ) → x.phase ≡ AsksLock peer since → side_of x ≡ Remote → (target_of s.number x == peer) ≡ false

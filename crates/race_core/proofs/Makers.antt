@@ -1,11 +1,10 @@
 -- Who made an own entry: nobody, but that ends are closed; a session; or a job. And who takes a frame.
-use Rattle.std.proofs.Common.{◌≡◌, ℕ, Bool, true, false, List, [], Option, Some, None, ◌⊎◌, inl, inr, refl, sym, ap, ◌∙◌, subst}
-use Rattle.std.specs.Prelude.{◌==◌, ◌&&◌, if◌then◌else◌}
-use Rattle.std.proofs.lemmas.Bool.{true≢false, and_parts}
+use Rattle.std.proofs.Common.{◌≡◌, ℕ, true, false, List, [], Option, Some, None, ◌⊎◌, inl, inr, refl, sym, ap, ◌∙◌, subst}
+use Rattle.std.proofs.lemmas.Bool.{true≢false}
 use Rattle.std.proofs.lemmas.Option.{same_Some}
 use Rattle.annex_base.specs.Lists.{Member}
 use Rattle.run_data.specs.declared.entry.FrameView.{FrameView}
-use Rattle.node_model.specs.Ends.{same_bool, may_take, takes_at, server_end}
+use Rattle.node_model.specs.Ends.{may_take, takes_at, server_end}
 use Rattle.run_model.specs.States.{end_at, state_of, works}
 use Rattle.node_model.specs.Found.{JobTakes}
 use Rattle.node_model.specs.Turns.{is_awaiting}
@@ -23,6 +22,7 @@ use Rattle.race_core.proofs.StepFacts.{pays_found}
 use Rattle.race_core.proofs.ServerEnds.{BySessionAt, GivesHere, TakesHere, session_here}
 use Rattle.race_core.proofs.EndEpochs.{SpeaksAlone, come_well, owed_speaks}
 use Rattle.race_core.proofs.JobSteps.{OfNoJob, Stepped, come_no_job, owed_no_job, session_no_job, step_made, stepped_found, stepped_runs, turn_at}
+use Rattle.race_core.proofs.AnswerFacts.{end_takes_from}
 
 -- nobody, but that ends are closed; a session; a job
 abbrev pub Who : SetUp → List Entry → Entry → Type 0
@@ -63,11 +63,7 @@ who s past words e own = elim (own.does) [
 pub session_takes_up : (s : SetUp) (past : List Entry) (e : Entry) (p q : ℕ) → TakesHere s past (server_end p q) e ⊎ GivesHere s past (server_end p q) e → (f : FrameView) → e.taken ≡ Some f → f.up ≡ true
 session_takes_up s past e p q (inl y) f took =
     let same : f ≡ y.f = same_Some f y.f (sym took ∙ y.taken_is) in
-    ap (λ (g : FrameView). g.up) same ∙ up_only y.f.up (and_parts ((y.f.peer == p) && (y.f.slot == q)) (same_bool false (if y.f.up then false else true)) y.of_end).1
-  where
-    up_only : (b : Bool) → same_bool false (if b then false else true) ≡ true → b ≡ true
-    up_only true e = refl
-    up_only false e = absurd (cc)
+    ap (λ (g : FrameView). g.up) same ∙ (end_takes_from p q y.f y.of_end).2
 session_takes_up s past e p q (inr y) f took = absurd (let bad : None ≡ Some f = sym y.taken_is ∙ took in cc)
 
 -- a frame from a server is taken by a job's step

@@ -19,7 +19,7 @@ use Rattle.run_model.specs.Past.{Always, Occurs, is_of, now}
 use Rattle.node_model.specs.Rows.{option_is}
 use Rattle.run_model.specs.Frames.{FlyingFrame, Way, flying_frame, on_way, sender_of, frames_sent, taken_count, taker_of, takes, way_of}
 use Rattle.node_model.specs.Slots.{job_of}
-use Rattle.race_core.proofs.OwnPasts.{Bare, bare, mine, own_by, own_sent}
+use Rattle.race_core.proofs.OwnPasts.{Bare, bare, mine, mine_occurs, own_by, own_sent}
 use Rattle.node_model.specs.SetUp.{SetUp}
 use Rattle.run_model.specs.States.{works}
 use Rattle.run_model.specs.Words.{awaits_of, word_of, word_of_kind, word_taken, word_told}
@@ -27,11 +27,13 @@ use Rattle.run_model.specs.Run.{FramesPart, IsRun, MayBe, OnlyWaits, ComesInOrde
 use Rattle.race_core.specs.Merged.{AreFirstLetters, IsMerge, IsHistoryStep, Letter, MayMerge, StandInOrder, TakesNext, earlier, history, letter_of, letters, merge_all, merged_run, new_of, paths_with, set_up_with, stamp_of, stands_before, word_got, word_in, word_read}
 use Rattle.race_core.proofs.OwnState.{state_own}
 use Rattle.race_core.proofs.OwnParts.{part_whole}
-use Rattle.race_core.proofs.Flights.{always_before, get_append, map_member, occurs_always}
-use Rattle.race_core.proofs.Told.{taker_way, some_option}
-use Rattle.race_core.proofs.OwnWhole.{mine_occurs}
+use Rattle.race_core.proofs.Flights.{always_before, get_append, occurs_always}
+use Rattle.race_core.proofs.Told.{taker_way}
 use Rattle.race_core.proofs.MergedLists.{IsNews, is_merge, never_earlier, earlier_trans}
 use Rattle.race_core.proofs.MergedOrder.{IsNew, each_by_own, follow_new, follow_rises, new_ordered, occurs_before, reverse_cons, rising_falls}
+use Rattle.race_core.proofs.Plain.{member_mapped, option_same}
+use Rattle.annex_base.proofs.Options.{some_none}
+use Rattle.std.proofs.lemmas.Option.{same_Some}
 
 -- ---- lists and pasts
 
@@ -118,7 +120,7 @@ sent_within (y ∷ past) e before h o w k it g l = go (λ g o. sent_within past 
         here false g = g
         here true g = elim (get_append (frames_sent past w) (map (flying_frame y past) (on_way w y)) k it g) [
           | inl s ↦ s
-          | inr m ↦ let t = map_member (flying_frame y past) it (on_way w y) m in absurd (never (ap (λ (x : FlyingFrame). x.entry) t.1.1))
+          | inr m ↦ let t = member_mapped (flying_frame y past) (on_way w y) it m in absurd (never (ap (λ (x : FlyingFrame). x.entry) t.2))
         ]
 
     go : (slice_get (frames_sent past w) k ≡ Some it → Occurs past e before → slice_get (frames_sent before w) k ≡ Some it) → ((e ≡ y) × (before ≡ past)) ⊎ Occurs past e before → slice_get (frames_sent before w) k ≡ Some it
@@ -158,7 +160,7 @@ words_are got s j c (e ∷ p) h = go (words_are got s j c p h.1) (is_of r e) ref
         (ap (λ ws. if option_is (job_of e.kind) j && awaits_of c (find (λ w. w.number == j) ws) then word_taken p r c e.taken (word_told p r j c) else word_told p r j c) works_same
         ∙ ap (λ was. if option_is (job_of e.kind) j && awaits_of c (find (λ w. w.number == j) (works (mine r p) r)) then word_taken p r c e.taken was else was) ih
         ∙ ap (λ x. if option_is (job_of e.kind) j && awaits_of c (find (λ w. w.number == j) (works (mine r p) r)) then x else word_got got (mine r p) r j c)
-        (read (word_got got (mine r p) r j c) e.taken (some_option e.repo r is) refl)))
+        (read (word_got got (mine r p) r j c) e.taken (option_same e.repo r is) refl)))
     go ih false is = rw is ih
 
 -- ---- what was added
@@ -234,18 +236,12 @@ module _ (run : Run) (news : List (List Entry)) (got : ℕ → Way → List Lett
   -- ---- an entry of a repository
 
   known_all : Always (λ p e. (r : ℕ) → e.repo ≡ Some r → r < length run.repos) past
-  known_all = always_more _ (IsNew base (length run.repos)) (λ p e x r is. subst (λ q. q < length run.repos) (same (sym x.is ∙ is)) x.known) (reverse all) base (Each-reverse _ all new_all)
+  known_all = always_more _ (IsNew base (length run.repos)) (λ p e x r is. subst (λ q. q < length run.repos) (same_Some _ _ (sym x.is ∙ is)) x.known) (reverse all) base (Each-reverse _ all new_all)
       (always_of (set_up run) _ (λ p e x r is. let m : MayBe (set_up run) p e (Some r) = subst (λ (o : Option ℕ). MayBe (set_up run) p e o) is x.may in m.1.known) base old.steps)
-    where
-      same : {q r : ℕ} → Some q ≡ Some r → q ≡ r
-      same h = cc
 
   waits_all : Always (λ p e. e.repo ≡ None → OnlyWaits e) past
-  waits_all = always_more _ (IsNew base (length run.repos)) (λ p e x is. absurd (never (sym x.is ∙ is))) (reverse all) base (Each-reverse _ all new_all)
+  waits_all = always_more _ (IsNew base (length run.repos)) (λ p e x is. absurd (some_none _ (sym x.is ∙ is))) (reverse all) base (Each-reverse _ all new_all)
       (always_of (set_up run) _ (λ p e x is. subst (λ (o : Option ℕ). MayBe (set_up run) p e o) is x.may) base old.steps)
-    where
-      never : {q : ℕ} → Some q ≡ None → ⊥
-      never h = cc
 
   known : (e : Entry) (before : List Entry) → Occurs past e before → (r : ℕ) → e.repo ≡ Some r → r < length run.repos
   known e before o = occurs_always _ past e before known_all o

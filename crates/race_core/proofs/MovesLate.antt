@@ -1,9 +1,9 @@
 -- **A drop of a move to a peer has not begun, as the entries tell, before its copy is done.**
-use Rattle.std.proofs.Common.{◌≡◌, ℕ, ◌+◌, ◌<◌, ◌≤◌, Bool, true, false, List, [], ◌∷◌, Option, Some, None, ◌⊎◌, inl, inr, refl, sym, ap, ◌∙◌, subst, arith}
+use Rattle.std.proofs.Common.{◌≡◌, ℕ, ◌+◌, ◌≤◌, Bool, true, false, List, [], ◌∷◌, Option, Some, None, ◌⊎◌, inl, inr, refl, sym, ap, ◌∙◌, subst, arith}
 use Rattle.std.specs.Prelude.{if◌then◌else◌, ◌==◌, ◌&&◌, not, option_map}
 use Rattle.std.proofs.lemmas.Bool.{or_from, and_right}
 use Rattle.annex_base.specs.Lists.{Member}
-use Rattle.annex_base.proofs.Conditions.{eqb_less, if_either}
+use Rattle.annex_base.proofs.Conditions.{if_either, eqb_more}
 use Rattle.race_core.proofs.Below.{SentAreRead}
 use Rattle.run_data.specs.declared.entry.Entry.{Entry}
 use Rattle.run_data.specs.declared.entry.EntryKind.{EntryKind}
@@ -43,7 +43,7 @@ use Rattle.race_core.proofs.WorkNumbers.{number_begun}
 use Rattle.race_core.proofs.PhaseFacts.{GoodTo, is_fresh, readies_place}
 use Rattle.race_core.proofs.TalkFacts.{Fits}
 use Rattle.race_core.proofs.WorkFits.{step_kind, step_number, step_runs, steps_good, works_fit}
-use Rattle.race_core.proofs.Untouched.{begun_before, begins_later, fresh_is, not_yet}
+use Rattle.race_core.proofs.Untouched.{begins_later, fresh_is}
 use Rattle.race_core.proofs.ClientCounts.{answers_here}
 use Rattle.race_core.proofs.ClientLeaves.{Taking}
 use Rattle.race_core.proofs.ClientTurns.{made_entry, moved, rows_of, talker, talker_slot}
@@ -52,7 +52,7 @@ use Rattle.race_core.proofs.PutsUnder.{ended_stays, first_step_off, is_live, put
 use Rattle.race_core.proofs.FreshSteps.{MovesLate, puts_was}
 use Rattle.race_core.proofs.Makers.{taken_of}
 use Rattle.race_core.proofs.BySteps.{earlier}
-use Rattle.race_core.proofs.Decisions.{more_off}
+use Rattle.race_core.proofs.NotDropping.{future_undropped}
 
 -- ---- an answer by which the peer has the content ends a copy
 
@@ -139,21 +139,6 @@ in_more p r j e was starts = or_from (in_drop p r j) (is_of r e && starts_drop p
 
 in_other : (p : List Entry) (r j : ℕ) (e : Entry) → is_of r e ≡ false → in_drop p r j ≡ false → in_drop (e ∷ p) r j ≡ false
 in_other p r j e other was = or_from (in_drop p r j) (is_of r e && starts_drop p r j e e.kind) was (rw other refl)
-
--- no drop of a job that hasn't begun
-unbegun_in : (s : SetUp) (p : List Entry) → OwnRun s p → (j : ℕ) → begun_count p s.number < j → in_drop p s.number j ≡ false
-unbegun_in s [] run j later = refl
-unbegun_in s (e ∷ p) run j later = go (unbegun_in s p run.1 j (begun_before p e s.number j later)) (is_of s.number e) refl
-  where
-    go : in_drop p s.number j ≡ false → (b : Bool) → is_of s.number e ≡ b → in_drop (e ∷ p) s.number j ≡ false
-    go was false is = in_other p s.number j e is was
-    go was true is =
-        let own = run.0 is in
-        in_more p s.number j e was (still_starts p s.number j e e.kind (not_yet s p own.0 e run.1 own.1 j (begun_before p e s.number j later))
-        (λ job what kind. let next : job ≡ begun_count p s.number + 1 = begins_next s p own.0 e own.1 job what kind in
-        let count : begun_count (e ∷ p) s.number ≡ begun_count p s.number + 1 = rw (is, kind) refl in
-        let now : begun_count p s.number + 1 < j = subst (λ n. n < j) count later in
-        eqb_less job j (omega arith)))
 
 begins_none : (kind : KindOfJob) → first_part kind ≡ Puts → is_drop kind ≡ false
 begins_none kinds.Copy e = refl
@@ -266,13 +251,13 @@ puts_under reads_back s past h w m = invariant s (λ p x. OwnPast s p → Under 
     own : (p : List Entry) (e : Entry) → OwnRun s (e ∷ p) → is_of s.number e ≡ true → ((x : Work) → Member x (works p s.number) → OwnPast s p → Under s p x) → (x : Work) → Origin s p e x → OwnPast s (e ∷ p) → Under s (e ∷ p) x
     own p e r is was x (inl b) h part live =
         let first : first_part b.what.kind ≡ Puts = sym (ap (λ (y : Work). y.part) b.work_is) ∙ part in
-        in_more p s.number x.number e (unbegun_in s p r.1 x.number (begins_later s p e r is x b))
+        in_more p s.number x.number e (future_undropped s p r.1 x.number (begins_later s p e r is x b))
         (subst (λ k. starts_drop p s.number x.number e k ≡ false) (sym b.kind_is) (and_right (b.job == x.number) (is_drop b.what.kind) (begins_none b.what.kind first)))
     own p e r is was x (inr (inl b)) h part live =
         let mine = r.0 is in
         let below : x.number ≤ begun_count p s.number = number_begun s p r.1 x b.ran in
         in_more p s.number x.number e (was x b.ran (earlier s p e h) part live) (still_starts p s.number x.number e e.kind b.still
-        (λ job what kind. let next : job ≡ begun_count p s.number + 1 = begins_next s p mine.0 e mine.1 job what kind in more_off job x.number (omega arith)))
+        (λ job what kind. let next : job ≡ begun_count p s.number + 1 = begins_next s p mine.0 e mine.1 job what kind in eqb_more x.number job (omega arith)))
     own p e r is was x (inr (inr b)) h part live =
         let v = b.by.w in
         let v_part = puts_was v.part v.phase x.phase (subst (λ q. GoodTo v.part v.phase q x.phase) part (steps_good s p e x b (works_fit s p r.1 v (step_runs s p e x b)))) in

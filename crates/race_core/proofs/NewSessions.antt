@@ -11,20 +11,10 @@ use Rattle.node_model.specs.Ends.{End, EndName, end_sends, end_takes, is_opening
 use Rattle.run_model.specs.States.{end_at, content, session}
 use Rattle.node_model.specs.Sessions.{Session, is_closing, new_session, sends_close, sent_more, session_goes, session_left, session_took}
 use Rattle.run_model.specs.Run.{OwnRun}
-use Rattle.race_core.proofs.EndMoves.{OpensNone, end_gave, end_own, end_shuts, end_took-is, gave_none, may_epoch, own_induction, sends_all, session_own, shuts_none, took_at, took_none}
+use Rattle.race_core.proofs.EndMoves.{OpensNone, closed_stays, end_gave, end_own, end_shuts, end_took-is, gave_none, may_epoch, own_induction, sends_all, session_own, shuts_none, took_at, took_none}
 use Rattle.race_core.proofs.ServerEnds.{AtServer, GivesHere, Shuts, TakesHere, at_server}
 
 -- ---- a Close among what is sent
-
-closed_sends : (c : End) (body : FrameText) → is_opening body ≡ false → c.opened ≡ false → (end_sends c body).opened ≡ false
-closed_sends c Opening n e = absurd (cc)
-closed_sends c Closing n e = refl
-closed_sends c (Bytes k) n e = e
-closed_sends c (Line text) n e = e
-
-closed_stays : (c : End) (fs : List FrameView) → OpensNone fs → c.opened ≡ false → (sends_all c fs).opened ≡ false
-closed_stays c [] n e = e
-closed_stays c (f ∷ fs) n e = closed_stays (end_sends c f.body) fs n.1 (closed_sends c f.body n.0 e)
 
 close_sends : (c : End) (body : FrameText) → is_closing body ≡ true → (end_sends c body).opened ≡ false
 close_sends c Opening i = absurd (cc)

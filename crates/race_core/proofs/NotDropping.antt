@@ -2,7 +2,7 @@
 -- that begins has read nothing before.
 use Rattle.std.proofs.Common.{◌≡◌, ◌≢◌, ℕ, ◌+◌, ◌<◌, ◌≤◌, Bool, true, false, List, [], ◌∷◌, Option, Some, None, ◌⊎◌, inl, inr, refl, sym, ap, ◌∙◌, subst, arith}
 use Rattle.std.specs.Prelude.{if◌then◌else◌, ◌&&◌, ◌||◌, ◌==◌}
-use Rattle.std.proofs.lemmas.Bool.{ne_eqb}
+use Rattle.std.proofs.lemmas.Bool.{and_right, ne_eqb}
 use Rattle.annex_base.specs.Lists.{Member}
 use Rattle.annex_base.proofs.Conditions.{or_first}
 use Rattle.run_data.specs.declared.entry.Entry.{Entry}
@@ -12,7 +12,7 @@ use Rattle.run_data.specs.declared.job.Job.{Job}
 use Rattle.run_data.specs.declared.job.JobKind.{JobKind}
 use Rattle.run_data.specs.declared.job.JobKind.TheVariants as kinds
 use Rattle.run_data.specs.declared.job.Outcome.{Outcome}
-use Rattle.node_model.specs.Slots.{RunningJob, is_begin}
+use Rattle.node_model.specs.Slots.{is_begin}
 use Rattle.run_model.specs.Past.{begun_count, is_of}
 use Rattle.run_model.specs.Logs.{before_step, in_drop, is_drop, is_step, starts_drop}
 use Rattle.node_model.specs.SetUp.{SetUp}
@@ -22,11 +22,10 @@ use Rattle.run_model.specs.States.{rows_at, works}
 use Rattle.node_model.specs.AnyTime.{IsPeer}
 use Rattle.run_model.specs.Run.{OwnRun}
 use Rattle.race_core.proofs.JobNumbers.{begins_next}
-use Rattle.race_core.proofs.JobKept.{kind_kept}
 use Rattle.race_core.proofs.JobSteps.{Origin, Steps, invariant, stepped_found, turn_at}
 use Rattle.race_core.proofs.WorkNumbers.{number_begun}
 use Rattle.race_core.proofs.PhaseFacts.{GoodTo}
-use Rattle.race_core.proofs.WorkFits.{step_number, step_runs, steps_good, works_fit}
+use Rattle.race_core.proofs.WorkFits.{step_number, step_runs, step_what, steps_good, works_fit}
 use Rattle.race_core.proofs.Untouched.{begins_later, begun_before, not_yet}
 use Rattle.race_core.proofs.Aims.{aims, kind_turns}
 use Rattle.race_core.proofs.ClientTurns.{made_entry, moved}
@@ -63,24 +62,25 @@ begin_apart s past e run is j later job what kind same =
     absurd (omega arith)
 
 -- a job that hasn't begun isn't in its drop
-future_undropped : (s : SetUp) (past : List Entry) → OwnRun s past → (j : ℕ) → begun_count past s.number < j → in_drop past s.number j ≡ false
+pub future_undropped : (s : SetUp) (past : List Entry) → OwnRun s past → (j : ℕ) → begun_count past s.number < j → in_drop past s.number j ≡ false
 future_undropped s [] run j later = refl
 future_undropped s (e ∷ past) run j later =
     let before = begun_before past e s.number j later in
     not_started past s.number j e (λ is. let own = run.0 is in still_starts past s.number j e e.kind (begin_apart s past e run is j later) (not_yet s past own.0 e run.1 own.1 j before))
     ∙ future_undropped s past run.1 j before
 
+pub if_none : {X : Type 0} (a b c : Bool) (x : X) → c ≡ false → (if a && (b && c) then Some x else None) ≡ None
+if_none true true false x e = refl
+if_none true false false x e = refl
+if_none false b false x e = refl
+if_none a b true x e = absurd (cc)
+
 -- a job that isn't in its drop has read nothing
 pub undropped_unread : (past : List Entry) (r j : ℕ) → in_drop past r j ≡ false → before_step past r j ≡ None
 undropped_unread [] r j off = refl
 undropped_unread (e ∷ past) r j off =
     let was = or_first (in_drop past r j) (is_of r e && starts_drop past r j e e.kind) off in
-    rw (undropped_unread past r j was, was) (no_step (is_of r e) (is_step j e.kind))
-  where
-    no_step : (a b : Bool) → (if a && (b && false) then Some past else None) ≡ None
-    no_step true true = refl
-    no_step true false = refl
-    no_step false b = refl
+    rw (undropped_unread past r j was, was) (if_none (is_of r e) (is_step j e.kind) false past refl)
 
 -- it doesn't read by an entry that is none of its steps
 pub still_unread : (past : List Entry) (e : Entry) (r j : ℕ) → (is_of r e ≡ true → is_step j e.kind ≡ false) → before_step past r j ≡ None → before_step (e ∷ past) r j ≡ None
@@ -144,9 +144,6 @@ stuck_stays s past e x b apart stuck = elim (stuck_ends (turn_at s past e b.by) 
     same w time Jobs.AsksTime = refl
     same w time phase = refl
 
-step_what : (s : SetUp) (past : List Entry) (e : Entry) (x : Work) (b : Steps s past e x) → x.what ≡ b.by.w.what
-step_what s past e x b = ap (λ (j : RunningJob). j.what) (ap running_job b.work_is ∙ kind_kept (rows_at past s.number) s.number b.by.w e e.kind)
-
 -- **a move at its transfer that its entries tell is done is to end**
 pub transfers_stuck : (s : SetUp) (past : List Entry) → OwnRun s past → (w : Work) → Member w (works past s.number) → Transfers s past w
 transfers_stuck s past run w m = invariant s (λ p x. Transfers s p x)
@@ -155,13 +152,9 @@ transfers_stuck s past run w m = invariant s (λ p x. Transfers s p x)
     own : (p : List Entry) (e : Entry) → OwnRun s (e ∷ p) → is_of s.number e ≡ true → ((x : Work) → Member x (works p s.number) → Transfers s p x) → (x : Work) → Origin s p e x → Transfers s (e ∷ p) x
     own p e r is was x (inl b) move apart drops =
         let kind : is_move b.what.kind ≡ true = subst (λ (y : Work). is_move y.what.kind ≡ true) b.work_is move in
-        let starts : starts_drop p s.number x.number e e.kind ≡ false = ap (starts_drop p s.number x.number e) b.kind_is ∙ off (b.job == x.number) (is_drop b.what.kind) (move_no_drop b.what.kind kind) in
+        let starts : starts_drop p s.number x.number e e.kind ≡ false = ap (starts_drop p s.number x.number e) b.kind_is ∙ and_right (b.job == x.number) (is_drop b.what.kind) (move_no_drop b.what.kind kind) in
         let none : in_drop (e ∷ p) s.number x.number ≡ false = not_started p s.number x.number e (λ own. starts) ∙ future_undropped s p r.1 x.number (begins_later s p e r is x b) in
         absurd (let both : true ≡ false = sym drops ∙ none in cc)
-      where
-        off : (a b : Bool) → b ≡ false → (a && b) ≡ false
-        off true b h = h
-        off false b h = refl
     own p e r is was x (inr (inl b)) move apart drops =
         let mine = r.0 is in
         let below : x.number ≤ begun_count p s.number = number_begun s p r.1 x b.ran in
@@ -202,9 +195,4 @@ comes_unread s past e run x b apart part = subst (λ n. before_step (e ∷ past)
 
     go : (d : Bool) → in_drop past s.number v.number ≡ d → before_step (e ∷ past) s.number v.number ≡ None
     go true is = let stays = stuck_stays s past e x b apart (transfers_stuck s past run v (step_runs s past e x b) move apart is) in absurd (apart (sym stays.0 ∙ part))
-    go false is = rw (undropped_unread past s.number v.number is, is) (none (is_of s.number e) (is_step v.number e.kind))
-      where
-        none : (a b : Bool) → (if a && (b && false) then Some past else None) ≡ None
-        none true true = refl
-        none true false = refl
-        none false b = refl
+    go false is = rw (undropped_unread past s.number v.number is, is) (if_none (is_of s.number e) (is_step v.number e.kind) false past refl)

@@ -175,12 +175,6 @@ answers_taken repos past w run = let t = taken_of is_answer past w (prefixes rep
 pub ordered_open : (repos : List RepoView) (past : List Entry) (e : Entry) (r a : ℕ) (key : List ℕ) (k : Takes repos past e r a key) → (t : MayTake past (way_of r k.f) k.f) → (o : Ordered repos past r a key k.f k.deadline t.it) → is_done past a o.j ≡ false
 ordered_open repos past e r a key k t o = elim (cases_Bool (is_done past a o.j)) [ inl h ↦ absurd (ended (done_occurs past a o.j h)) | inr h ↦ h ]
   where
-    w : Way
-    w = way_of r k.f
-
-    x : Entry
-    x = t.it.entry
-
     p : List Entry
     p = t.it.before
 

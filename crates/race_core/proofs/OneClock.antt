@@ -1,8 +1,7 @@
 -- While a job runs, its clock is as it was set when the job asked for a copy: a crash would have ended it.
-use Rattle.std.proofs.Common.{◌≡◌, ℕ, Bool, true, false, List, [], ◌∷◌, inl, inr, sym, ap, ◌∙◌, subst}
+use Rattle.std.proofs.Common.{◌≡◌, ℕ, Bool, true, false, List, ◌∷◌, inl, inr, sym, ap, ◌∙◌, subst}
 use Rattle.std.specs.Prelude.{◌&&◌}
-use Rattle.std.specs.List.{list_any}
-use Rattle.std.proofs.lemmas.Bool.{true≢false, and_parts, or_left, or_right}
+use Rattle.std.proofs.lemmas.Bool.{true≢false, and_parts}
 use Rattle.annex_base.specs.Lists.{Member}
 use Rattle.run_data.specs.declared.entry.Entry.{Entry}
 use Rattle.run_model.specs.Past.{Occurs, clock_set, is_of}
@@ -15,6 +14,7 @@ use Rattle.race_core.proofs.JobSteps.{Origin, invariant}
 use Rattle.race_core.proofs.ClockKept.{clock_kept, clock_other, origin_stands}
 use Rattle.race_core.proofs.WorkFits.{step_number, step_runs}
 use Rattle.race_core.proofs.Untouched.{asks_by, begins_later, future}
+use Rattle.race_core.proofs.Flights.{occurs_any}
 
 -- the entry asks for a copy, for job j of r
 abbrev pub asks_for : ℕ → ℕ → Entry → Bool
@@ -22,11 +22,6 @@ asks_for r j e = is_job r j e && asks_by e.kind e.sent
 
 abbrev pub AskedByClock : SetUp → List Entry → ℕ → Type 0
 AskedByClock s past j = (x : Entry) (before : List Entry) → Occurs past x before → asks_for s.number j x ≡ true → clock_set s.repos before s.number ≡ clock_set s.repos past s.number
-
-occurs_any : (q : Entry → Bool) (past : List Entry) (x : Entry) (before : List Entry) → Occurs past x before → q x ≡ true → list_any q past ≡ true
-occurs_any q [] x before o h = absurd o
-occurs_any q (e ∷ past) x before (inl o) h = or_left (q e) (list_any q past) (subst (λ (y : Entry). q y ≡ true) o.0 h)
-occurs_any q (e ∷ past) x before (inr o) h = or_right (q e) (list_any q past) (occurs_any q past x before o h)
 
 -- the clock of a running job is as it was set when the job asked
 pub one_clock : (s : SetUp) (past : List Entry) → OwnRun s past → (w : Work) → Member w (works past s.number) → AskedByClock s past w.number

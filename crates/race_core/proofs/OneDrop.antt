@@ -23,7 +23,7 @@ use Rattle.race_core.proofs.Own.{Meets, MessagePast}
 use Rattle.race_core.specs.Readings.{Judge}
 use Rattle.race_core.specs.Removals.{HasOrder, IsAt, SendsFrame, TakesFrame}
 use Rattle.race_core.proofs.Changes.{bar_was, decided_keeps, repo_of, same_repo}
-use Rattle.race_core.proofs.Flights.{get_append, get_none, map_member, sending}
+use Rattle.race_core.proofs.Flights.{get_append, get_none, sending}
 use Rattle.race_core.proofs.Evident.{barred}
 use Rattle.race_core.proofs.Told.{on_own, sender_at, sender_way, taker_way, way_sent}
 use Rattle.race_core.proofs.Obeying
@@ -32,6 +32,7 @@ use Rattle.race_core.proofs.AtPlaces.{past_next}
 use Rattle.race_core.proofs.Dropped.{meets_at, messages_at, order_judge}
 use Rattle.race_core.proofs.EntryPlaces.{Placed, at_occurs, below_or_last, occurs_at, same_place, there_or_end}
 use Rattle.race_core.proofs.JobBegins.{order_alone, orderer}
+use Rattle.race_core.proofs.Plain.{member_mapped}
 
 -- ---- who removes
 
@@ -153,9 +154,9 @@ sent_place (e ∷ past) w k it h = go (λ g. sent_place past w k it g) (is_of (s
   where
     new : length (frames_sent past w) ≤ k → Member it (map (flying_frame e past) (on_way w e)) → (length (frames_sent it.before w) ≤ k) × (k < length (frames_sent (it.entry ∷ it.before) w))
     new le m =
-        let t = map_member (flying_frame e past) it (on_way w e) m in
+        let t = member_mapped (flying_frame e past) (on_way w e) it m in
         let within : k < length (frames_sent (e ∷ past) w) = slice_get_within (frames_sent (e ∷ past) w) k it h in
-        subst (λ (x : FlyingFrame). (length (frames_sent x.before w) ≤ k) × (k < length (frames_sent (x.entry ∷ x.before) w))) (sym t.1.1) (le, within)
+        subst (λ (x : FlyingFrame). (length (frames_sent x.before w) ≤ k) × (k < length (frames_sent (x.entry ∷ x.before) w))) (sym t.2) (le, within)
 
     go : (slice_get (frames_sent past w) k ≡ Some it → (length (frames_sent it.before w) ≤ k) × (k < length (frames_sent (it.entry ∷ it.before) w))) → (b : Bool) → is_of (sender_of w) e ≡ b
         → slice_get (if b then frames_sent past w ++ map (flying_frame e past) (on_way w e) else frames_sent past w) k ≡ Some it → (length (frames_sent it.before w) ≤ k) × (k < length (frames_sent (it.entry ∷ it.before) w))

@@ -32,10 +32,10 @@ use Rattle.node_model.specs.Found.{IsJobEntry, JobTakes}
 use Rattle.run_model.specs.Run.{IsStep, OwnPart, OwnRun}
 use Rattle.race_core.proofs.StepFacts.{kind_found}
 use Rattle.race_core.proofs.ServerEnds.{BySessionAt, GivesHere, TakesHere, each_flat, end_of, same_end, same_end-is, sent_same, takes_end, takes_other}
-use Rattle.race_core.proofs.EndMoves.{NoOpening, OpensNone, all_opened, end_own, frame_none, frames_none, gave_one, own_induction, pieces_none, sends_all}
+use Rattle.race_core.proofs.EndMoves.{NoOpening, OpensNone, all_opened, closed_stays, end_own, frame_none, frames_none, gave_one, own_induction, pieces_none, sends_all}
 use Rattle.race_core.proofs.EndEpochs.{IsClose, SpeaksAlone, client_sends, from_end}
 use Rattle.race_core.proofs.JobEnds.{SentWell}
-use Rattle.race_core.proofs.Farewells.{farewells_close, fold_append, stays}
+use Rattle.race_core.proofs.Farewells.{farewells_close, fold_append}
 use Rattle.race_core.proofs.JobKept.{jobs_are}
 use Rattle.race_core.proofs.JobNumbers.{jobs_numbered, same_job}
 use Rattle.race_core.proofs.WorkNumbers.{free_is, running_member}
@@ -44,6 +44,7 @@ use Rattle.race_core.proofs.Speaks.{hears, speaks}
 use Rattle.race_core.proofs.Makers.{who}
 use Rattle.race_core.proofs.JobOpens.{Called, stepped_calls}
 use Rattle.race_core.proofs.OwnTried.{called_other}
+use Rattle.annex_base.proofs.Conditions.{eqb_refl}
 
 -- ---- running jobs
 
@@ -135,9 +136,6 @@ server_apart p q a client = rw client (go ((p == a.peer) && (q == a.slot)))
 pub session_still : (s : SetUp) (past : List Entry) (a : EndName) (e : Entry) → a.client ≡ true → BySessionAt s past e → Still a e
 session_still s past a e client x = go x.3
   where
-    b : EndName
-    b = server_end x.0 x.1
-
     says_none : (c : End) (bodies : List FrameText) → NoOpening bodies → e.sent ≡ frames (server_end x.0 x.1) c bodies → OpensNone (sent_at a e.sent)
     says_none c bodies n i = Each-filter (λ g. is_opening g.body ≡ false) (sends_at a) e.sent (subst OpensNone (sym i) (frames_none (server_end x.0 x.1) c bodies n))
 
@@ -251,7 +249,7 @@ module _ (s : SetUp) (past : List Entry) (a : EndName) where
       split = ap (sends_all d) (filter-append (sends_at a) (close_at s (state_of s past) x) (flat_map (close_at s (state_of s past)) xs)) ∙ fold_append d (sent_at a (close_at s (state_of s past) x)) (sent_at a (flat_map (close_at s (state_of s past)) xs))
 
       go : ((f : End) → Member a xs → (sends_all f (sent_at a (flat_map (close_at s (state_of s past)) xs))).opened ≡ false) → (a ≡ x) ⊎ Member a xs → (sends_all (sends_all d (sent_at a (close_at s (state_of s past) x))) (sent_at a (flat_map (close_at s (state_of s past)) xs))).opened ≡ false
-      go more (inl i) = stays (sends_all d (sent_at a (close_at s (state_of s past) x))) (sent_at a (flat_map (close_at s (state_of s past)) xs)) (closes_none xs) (ap (λ z. (sends_all d (sent_at a (close_at s (state_of s past) z))).opened) (sym i) ∙ closes_it o d)
+      go more (inl i) = closed_stays (sends_all d (sent_at a (close_at s (state_of s past) x))) (sent_at a (flat_map (close_at s (state_of s past)) xs)) (closes_none xs) (ap (λ z. (sends_all d (sent_at a (close_at s (state_of s past) z))).opened) (sym i) ∙ closes_it o d)
       go more (inr n) = more (sends_all d (sent_at a (close_at s (state_of s past) x))) n
 
 pub crash_shuts : (s : SetUp) (past : List Entry) (words : ℕ → Option Word) (e : Entry) → OwnPart s past words e → is_of s.number e ≡ true → (clock : ℕ) → e.kind ≡ Crash clock → (a : EndName) → Member a (all_ends s) → (end_at past s.number a).opened ≡ true
@@ -285,10 +283,7 @@ module _ (reads_back : SentAreRead) (s : SetUp) (past : List Entry) (e : Entry) 
   stays_on x apart stands = record { peer = x.peer; job = x.job; runs = subst (Member x.job) (sym (jobs_own s.number past e is)) (runs_on (jobs past s.number) x.job e.kind x.runs apart stands); slot = x.slot }
 
   no_ends : OfNoJob e.kind → (job : ℕ) (outcome : Outcome) → e.kind ≡ ends_job job outcome → ⊥
-  no_ends none job outcome kind = true≢false (sym (self job) ∙ subst (λ k. is_step job k ≡ false) kind (none job))
-    where
-      self : (n : ℕ) → (n == n) ≡ true
-      self n = grind (arith, nat_tests)
+  no_ends none job outcome kind = true≢false (sym (eqb_refl job) ∙ subst (λ k. is_step job k ≡ false) kind (none job))
 
   still_runs : OfNoJob e.kind → Still a e → Runs s (e ∷ past) a
   still_runs none x =

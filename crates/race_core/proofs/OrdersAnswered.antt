@@ -63,11 +63,9 @@ use Rattle.race_core.proofs.Untouched.{begins_later}
 use Rattle.race_core.proofs.ClientKeeps.{all_keep, by_taken, taken_there}
 use Rattle.race_core.proofs.EndEpochs.{client_sends, from_end, sends_is}
 use Rattle.race_core.proofs.JobEnds.{SentWell}
-use Rattle.race_core.proofs.JobKept.{kind_kept}
 use Rattle.race_core.proofs.Aims.{aims}
-use Rattle.race_core.proofs.PhaseFacts.{GoodTo}
 use Rattle.race_core.proofs.TalkFacts.{Fits, OrderStands, TalkKind}
-use Rattle.race_core.proofs.WorkFits.{step_kind, step_number, step_runs, step_sent, step_talk, steps_good, works_fit}
+use Rattle.race_core.proofs.WorkFits.{drops_stay, step_kind, step_number, step_running, step_runs, step_sent, step_talk, step_what, steps_good, works_fit}
 use Rattle.race_core.proofs.BySteps.{earlier}
 use Rattle.race_core.proofs.PhasesFit.{target_peer}
 use Rattle.race_core.proofs.OrdersSent.{NowOrders, OrderEntry, Orderer, SentOrder, order_when, orderer, unordered}
@@ -280,14 +278,6 @@ asked_epoch past r e g keeps m up asks = elim (keeps.sends) [
     single : (f : FrameView) → sent_at (order_end g) e.sent ≡ f ∷ [] → f.epoch ≡ (end_after (order_end g) (end_at past r (order_end g)) e).epoch → g.epoch ≡ (end_after (order_end g) (end_at past r (order_end g)) e).epoch
     single f is epoch = elim (subst (Member g) is here) [ inl i ↦ ap (λ (h : FrameView). h.epoch) i ∙ epoch | inr i ↦ absurd i ]
 
--- what the job has before a step, it has after it
-pub drops_stay : (part : Part) (old : Phase) (to : Part) (phase : Phase) → GoodTo part old to phase → part ≡ Drops → to ≡ Drops
-drops_stay Drops old Drops phase g is = refl
-drops_stay Drops old Gets phase g is = absurd g
-drops_stay Drops old Puts phase g is = absurd g
-drops_stay Gets old to phase g is = absurd (cc)
-drops_stay Puts old to phase g is = absurd (cc)
-
 module _ (reads_back : SentAreRead) (s : SetUp) (past : List Entry) (e : Entry) (h : OwnPast s (e ∷ past)) (is : is_of s.number e ≡ true) (x : Work) (b : Steps s past e x) where
   abbrev r : ℕ
   r = s.number
@@ -304,14 +294,11 @@ module _ (reads_back : SentAreRead) (s : SetUp) (past : List Entry) (e : Entry) 
   runs : Member v (works past r)
   runs = step_runs s past e x b
 
-  same_running : running_job x ≡ running_job v
-  same_running = ap running_job b.work_is ∙ kind_kept (rows_at past r) r v e e.kind
-
   same_what : x.what ≡ v.what
-  same_what = ap (λ (j : RunningJob). j.what) same_running
+  same_what = step_what s past e x b
 
   same_slot : x.slot ≡ v.slot
-  same_slot = ap (λ (j : RunningJob). j.slot) same_running
+  same_slot = ap (λ (j : RunningJob). j.slot) (step_running s past e x b)
 
   entry_is : e ≡ made_entry t m
   entry_is = b.by.is

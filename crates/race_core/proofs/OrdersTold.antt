@@ -342,11 +342,8 @@ sent_order reads_back s (x ∷ past) h j e = go (λ old. sent_order reads_back s
         let both = and_parts (is_job s.number j x) (is_order x.kind) is in
         let own = (h.run.0 (and_parts (is_of s.number x) (option_is (job_of x.kind) j) both.0).0) in
         let k = order_kind x.kind both.1 in
-        let at : k.0 ≡ j = same (subst (λ q. option_is (job_of q) j ≡ true) k.5 (and_parts (is_of s.number x) (option_is (job_of x.kind) j) both.0).1) in
+        let at : k.0 ≡ j = eqb-true k.0 j (subst (λ q. option_is (job_of q) j ≡ true) k.5 (and_parts (is_of s.number x) (option_is (job_of x.kind) j) both.0).1) in
         packed reads_back s past own.0 x (earlier s past x h) own.1 k.0 k.1 k.2 k.3 k.4 k.5 j at
-      where
-        same : {a b : ℕ} → (a == b) ≡ true → a ≡ b
-        same {a = a} {b = b} e = eqb-true a b e
 
 -- **OrdersTold**, by own parts alone
 pub orders_told : SentAreRead → (s : SetUp) (past : List Entry) → OwnPast s past → OrdersTold s past

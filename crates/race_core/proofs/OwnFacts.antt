@@ -23,8 +23,9 @@ use Rattle.node_model.specs.Slots.{job_of}
 use Rattle.run_model.specs.Drops.{Vouch, Lock, Look, asked_at, asker, asker_by, asker_of, is_asker, key_of, look_of, vouch, vouch_kind, vouches}
 use Rattle.race_core.specs.Lawful.{HasFreeContent, since_of}
 use Rattle.race_core.proofs.Own.{Meets, MessagePast, SaysYes, asks_copy, has_asked, is_share, seeks}
-use Rattle.race_core.proofs.Flights.{Sending, sending}
+use Rattle.race_core.proofs.Flights.{Sending, occurs_any, sending}
 use Rattle.race_core.proofs.Told.{sends_member}
+use Rattle.race_core.proofs.Plain.{one_in}
 
 -- ---- time
 
@@ -71,11 +72,6 @@ VouchesBy past e r a j (Lock hold since owner key) = (end : ℕ) × (e.kind ≡ 
     × (((r ≡ a) × (owner ≡ by_job j) × (since ≡ e.time)) ⊎ ((peer slot : ℕ) × (owner ≡ Peer peer slot) × (is_asker a j (asker past r e) ≡ true) × (since ≡ asked_at (asker past r e))))
 VouchesBy past e r a j (Look key) = (e.kind ≡ Check Present key) × (is_asker a j (asker past r e) ≡ true)
 
-one_in : {X : Type 0} (b : Bool) (x y : X) → Member y (if b then x ∷ [] else []) → (b ≡ true) × (y ≡ x)
-one_in true x y (inl e) = (refl, e)
-one_in true x y (inr m) = absurd m
-one_in false x y m = absurd m
-
 pub vouches_by : (past : List Entry) (e : Entry) (r a j : ℕ) (v : Vouch) → Member v (vouch past e r a j) → (is_of r e ≡ true) × VouchesBy past e r a j v
 vouches_by past e r a j v m = go (is_of r e) refl m
   where
@@ -114,11 +110,6 @@ vouch_free repos past e r a j v run m k = let w = vouches_by past e r a j v k in
     by_vouch (Look key) is (kind, yes') = (((m.own r is).look key kind).0, omega arith)
 
 -- ---- nobody vouches to a job that has asked nobody
-
-occurs_any : (q : Entry → Bool) (past : List Entry) (x : Entry) (before : List Entry) → Occurs past x before → q x ≡ true → list_any q past ≡ true
-occurs_any q [] x before o h = absurd o
-occurs_any q (e ∷ past) x before (inl o) h = or_left (q e) (list_any q past) (subst (λ (y : Entry). q y ≡ true) o.0 h)
-occurs_any q (e ∷ past) x before (inr o) h = or_right (q e) (list_any q past) (occurs_any q past x before o h)
 
 -- the entry that asked for a copy is one that seeks it
 pub asker_seeks : (c r j : ℕ) (past : List Entry) (f : FrameView) (asked' : Said) → message_in f.body ≡ asked' → asks_copy asked' ≡ true → (t : AskedBy past c r j f) → seeks r j t.it.entry ≡ true

@@ -1,25 +1,20 @@
 -- What a repository finds is what its own entries say: the facts of an entry over the repository's own past hold over any past
 -- that has these entries in this order.
-use Rattle.std.proofs.Common.{◌≡◌, ℕ, ◌+◌, Bool, true, false, not, cond, ◌&&◌, ◌||◌, List, [], ◌∷◌, ◌++◌, length, Option, Some, None, refl, sym, ap, ◌∙◌, subst}
-use Rattle.std.specs.Prelude.{filter, map, option_map, if◌then◌else◌, ◌==◌}
+use Rattle.std.proofs.Common.{◌≡◌, ℕ, Bool, true, false, not, cond, ◌&&◌, ◌||◌, List, [], ◌∷◌, ◌++◌, Option, Some, None, ◌⊎◌, inl, inr, refl, sym, ap, ◌∙◌, subst}
+use Rattle.std.specs.Prelude.{filter, map, option_map, if◌then◌else◌}
 use Rattle.std.specs.Option.{unwrap_or}
-use Rattle.std.proofs.lemmas.List.{length-map, map-append}
-use Rattle.drop_proof.specs.declared.rule.Need.{Need}
+use Rattle.std.proofs.lemmas.List.{map-append}
 use Rattle.run_data.specs.declared.entry.Entry.{Entry}
 use Rattle.run_data.specs.declared.entry.EntryKind.{EntryKind}
 use Rattle.run_data.specs.declared.entry.FrameView.{FrameView}
-use Rattle.run_data.specs.declared.run.RepoView.{RepoView}
-use Rattle.run_data.specs.Repos.{id_of}
-use Rattle.run_data.specs.declared.entry.EntryKind.TheVariants.{Bar, Begin, Gain, Talk}
-use Rattle.run_model.specs.Past.{Decision, bar, begun_job, begun_job_after, decision, decided_after, holds, is_of, jobs, jobs_after, entry_count, present}
-use Rattle.node_model.specs.Rows.{option_is, bar_after, holds_after, present_after}
+use Rattle.run_data.specs.declared.entry.EntryKind.TheVariants.{Begin, Gain, Talk}
+use Rattle.run_model.specs.Past.{Occurs, is_of}
+use Rattle.node_model.specs.Rows.{option_is}
 use Rattle.run_model.specs.Said.{Said, is_request, message_in}
-use Rattle.run_model.specs.Frames.{FlyingFrame, Way, flying_frame, last_of, last_request, said_of, on_way, requests, says, sender_of, frames_sent, sent_if, taken_if, taker_of, takes_if, up_of, way_of}
+use Rattle.run_model.specs.Frames.{FlyingFrame, Way, flying_frame, last_of, last_request, said_of, on_way, requests, says, sender_of, frames_sent, sent_if, up_of, way_of}
 use Rattle.trust_groups.specs.Settings.{settings}
-use Rattle.run_model.specs.Logs.{added_by, before_step, ends_transfer, lines_ever, has_it, has_stepped, hears_has_it, in_drop, is_quiet, is_step, need_read, read_at, settings_of, starts_drop}
+use Rattle.run_model.specs.Logs.{added_by, before_step, ends_transfer, lines_ever, has_it, has_stepped, hears_has_it, in_drop, is_quiet, is_step, read_at, settings_of, starts_drop}
 use Rattle.node_model.specs.Look.{first_of}
-use Rattle.run_model.specs.Drops.{is_done, done_kind, key_in, standing}
-use Rattle.node_model.specs.Evidence.{standing_by}
 
 -- the entries of r
 abbrev pub mine : ℕ → List Entry → List Entry
@@ -40,48 +35,17 @@ pub own_fold : {X : Type 0} (r : ℕ) (f : List Entry → X) (g : X → Entry �
 own_fold r f g step = own_by r f (λ e past is. step e past ∙ ap (λ b. if b then g (f past) e else f past) is)
     (λ e past is ih. step e past ∙ ap (λ b. if b then g (f past) e else f past) is ∙ ap (λ x. g x e) ih ∙ sym (step e (mine r past) ∙ ap (λ b. if b then g (f (mine r past)) e else f (mine r past)) is))
 
--- ---- rows and jobs
+-- ---- entries that stand
 
-pub own_present : (r : ℕ) (key : List ℕ) (past : List Entry) → present past r key ≡ present (mine r past) r key
-own_present r key past = own_fold r (λ p. present p r key) (λ x e. present_after key x e.kind) (λ e p. refl) past
-
-pub own_bar : (r : ℕ) (key : List ℕ) (past : List Entry) → bar past r key ≡ bar (mine r past) r key
-own_bar r key past = own_fold r (λ p. bar p r key) (λ x e. bar_after key x e.kind) (λ e p. refl) past
-
-pub own_holds : (r : ℕ) (past : List Entry) → holds past r ≡ holds (mine r past) r
-own_holds r past = own_fold r (λ p. holds p r) (λ x e. holds_after x e.kind) (λ e p. refl) past
-
-pub own_jobs : (r : ℕ) (past : List Entry) → jobs past r ≡ jobs (mine r past) r
-own_jobs r past = own_fold r (λ p. jobs p r) (λ x e. jobs_after x e.kind) (λ e p. refl) past
-
-pub own_made : (r : ℕ) (past : List Entry) → entry_count past r ≡ entry_count (mine r past) r
-own_made r past = own_fold r (λ p. entry_count p r) (λ x e. x + 1) (λ e p. refl) past
-
-pub own_begun : (r j : ℕ) (past : List Entry) → begun_job past r j ≡ begun_job (mine r past) r j
-own_begun r j past = own_fold r (λ p. begun_job p r j) (λ x e. begun_job_after j x e.kind) (λ e p. refl) past
-
-if_or : (a b c : Bool) → (a && b) || c ≡ (if a then b || c else c)
-if_or true b c = refl
-if_or false b c = refl
-
-pub own_done : (r j : ℕ) (past : List Entry) → is_done past r j ≡ is_done (mine r past) r j
-own_done r j past = own_fold r (λ p. is_done p r j) (λ x e. done_kind j e.kind || x) (λ e p. if_or (is_of r e) (done_kind j e.kind) (is_done p r j)) past
-
--- a decision but for its place
-abbrev pub stated : Option Decision → Option (List ℕ × Need)
-stated None = None
-stated (Some d) = Some (d.key, d.need)
-
-decided_stated : (place place' j : ℕ) (was was' : Option Decision) (kind : EntryKind) → stated was ≡ stated was' → stated (decided_after place j was kind) ≡ stated (decided_after place' j was' kind)
-decided_stated place place' j was was' (Bar job need key) h = go (job == j)
+pub mine_occurs : (r : ℕ) (past : List Entry) (x : Entry) (before : List Entry) → Occurs past x before → is_of r x ≡ true → Occurs (mine r past) x (mine r before)
+mine_occurs r [] x before o is = absurd o
+mine_occurs r (e ∷ past) x before o is = go (λ k. mine_occurs r past x before k is) (is_of r e) refl o
   where
-    go : (b : Bool) → stated (if b then Some (record { place = place; key = key; need = need }) else was) ≡ stated (if b then Some (record { place = place'; key = key; need = need }) else was')
-    go true = refl
-    go false = h
-decided_stated place place' j was was' _ h = h
-
-pub own_decided : (r j : ℕ) (past : List Entry) → stated (decision past r j) ≡ stated (decision (mine r past) r j)
-own_decided r j past = own_by r (λ p. stated (decision p r j)) (λ e p is. rw is refl) (λ e p is ih. rw is (decided_stated (length p) (length (mine r p)) j (decision p r j) (decision (mine r p) r j) e.kind ih)) past
+    go : (Occurs past x before → Occurs (mine r past) x (mine r before)) → (b : Bool) → is_of r e ≡ b → ((x ≡ e) × (before ≡ past)) ⊎ Occurs past x before → Occurs (cond b (e ∷ mine r past) (mine r past)) x (mine r before)
+    go ih true h (inl k) = inl (k.0, ap (mine r) k.1)
+    go ih true h (inr k) = inr (ih k)
+    go ih false h (inl k) = let yes' : is_of r e ≡ true = subst (λ (y : Entry). is_of r y ≡ true) k.0 is in let it : true ≡ false = sym yes' ∙ h in absurd (cc)
+    go ih false h (inr k) = ih k
 
 -- ---- frames
 
@@ -122,9 +86,6 @@ bare_filter q (x ∷ xs) = go (bare_filter q xs) (says q x.frame)
 pub own_sent_if : (q : Said → Bool) (r : ℕ) (w : Way) → sender_of w ≡ r → (past : List Entry) → map bare (sent_if q past w) ≡ map bare (sent_if q (mine r past) w)
 own_sent_if q r w same past = bare_filter q (frames_sent past w) ∙ ap (filter (λ x. says q x.frame)) (own_sent r w same past) ∙ sym (bare_filter q (frames_sent (mine r past) w))
 
-pub own_count : (q : Said → Bool) (r : ℕ) (w : Way) → sender_of w ≡ r → (past : List Entry) → length (sent_if q past w) ≡ length (sent_if q (mine r past) w)
-own_count q r w same past = sym (length-map (sent_if q past w) bare) ∙ ap length (own_sent_if q r w same past) ∙ length-map (sent_if q (mine r past) w) bare
-
 last_map : {X Y : Type 0} (f : X → Y) (xs : List X) → last_of (map f xs) ≡ option_map f (last_of xs)
 last_map f [] = refl
 last_map f (x ∷ []) = refl
@@ -132,10 +93,6 @@ last_map f (x ∷ y ∷ ys) = last_map f (y ∷ ys)
 
 pub own_last : (r : ℕ) (w : Way) → sender_of w ≡ r → (past : List Entry) → option_map bare (last_request past w) ≡ option_map bare (last_request (mine r past) w)
 own_last r w same past = sym (last_map bare (requests past w)) ∙ ap last_of (own_sent_if is_request r w same past) ∙ last_map bare (requests (mine r past) w)
-
-pub own_taken : (q : Said → Bool) (r : ℕ) (w : Way) → taker_of w ≡ r → (past : List Entry) → taken_if q past w ≡ taken_if q (mine r past) w
-own_taken q r w same past = own_by r (λ p. taken_if q p w) (λ e p is. rw (subst (λ x. is_of x e ≡ false) (sym same) is) refl)
-    (λ e p is ih. rw (subst (λ x. is_of x e ≡ true) (sym same) is) (ap (λ n. if takes_if q w e.taken then n + 1 else n) ih)) past
 
 -- ---- logs
 
@@ -169,12 +126,6 @@ client_of r f h = rw h refl
 
 pub own_said : (r : ℕ) (f : FrameView) → f.up ≡ false → (past : List Entry) → option_map said_of (last_request past (up_of (way_of r f))) ≡ option_map said_of (last_request (mine r past) (up_of (way_of r f)))
 own_said r f down past = said_is (last_request past (up_of (way_of r f))) ∙ ap said_by (own_last r (up_of (way_of r f)) (client_of r f down) past) ∙ sym (said_is (last_request (mine r past) (up_of (way_of r f))))
-
--- a fact of a frame that is taken from a server, or nothing
-pub when_down : {X : Type 0} (b up : Bool) (x y z : X) → (up ≡ false → x ≡ y) → (if b && not up then x else z) ≡ (if b && not up then y else z)
-when_down true true x y z h = refl
-when_down true false x y z h = h refl
-when_down false up x y z h = refl
 
 own_has_it : (r : ℕ) (o : Option FrameView) (past : List Entry) → hears_has_it past r o ≡ hears_has_it (mine r past) r o
 own_has_it r None past = refl
@@ -238,12 +189,3 @@ own_read r j past = ap (λ o. unwrap_or o (mine r past)) (own_before r j past) �
 
 pub own_reading : (r j : ℕ) (past : List Entry) → settings_of (read_at past r j) r ≡ settings_of (read_at (mine r past) r j) r
 own_reading r j past = own_settings r (read_at past r j) ∙ ap (λ p. settings_of p r) (sym (own_read r j past))
-
-pub own_need : (r j : ℕ) (past : List Entry) → need_read past r j ≡ need_read (mine r past) r j
-own_need r j past = ap (λ s. record { n = s.numcopies; m = s.mincopies }) (own_reading r j past)
-
-pub own_standing : (repos : List RepoView) (r j c : ℕ) (past : List Entry) → standing repos past r j c ≡ standing repos (mine r past) r j c
-unfolding standing
-own_standing repos r j c past =
-    ap (λ s. standing_by s (key_in (begun_job (read_at past r j) r j)) (id_of repos c)) (own_reading r j past)
-    ∙ ap (λ o. standing_by (settings_of (read_at (mine r past) r j) r) (key_in o) (id_of repos c)) (own_begun r j (read_at past r j) ∙ ap (λ p. begun_job p r j) (sym (own_read r j past)))

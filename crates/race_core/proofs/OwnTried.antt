@@ -1,6 +1,6 @@
 -- A remote drop has tried its own repository before it asks any other; so a job opens connections with other repositories alone.
 use Rattle.node_model.specs.Clocks.{hold_time}
-use Rattle.std.proofs.Common.{◌≡◌, ◌≢◌, ℕ, zero, suc, ◌+◌, ◌<◌, ◌≤◌, Bool, true, false, List, [], ◌∷◌, length, Option, Some, None, ◌⊎◌, inl, inr, refl, sym, ap, ◌∙◌, subst, arith}
+use Rattle.std.proofs.Common.{◌≡◌, ◌≢◌, ℕ, ◌+◌, ◌<◌, Bool, true, false, List, [], ◌∷◌, length, Option, Some, None, ◌⊎◌, inl, inr, refl, sym, ap, ◌∙◌, subst, arith}
 use Rattle.std.specs.Prelude.{◌==◌, ◌&&◌, ◌||◌, find, not, slice_get, if◌then◌else◌}
 use Rattle.std.specs.List.{range_with_len, list_all}
 use Rattle.std.proofs.lemmas.Bool.{true≢false, and_from, or_left, or_right}
@@ -50,11 +50,11 @@ use Rattle.node_model.specs.Turns.{by_partner, first_step, goes, goes_on, has_ro
 use Rattle.node_model.specs.Found.{IsJobEntry as FoundBy}
 use Rattle.run_model.specs.Run.{OwnRun}
 use Rattle.race_core.proofs.Cases.{unless_found}
-use Rattle.race_core.proofs.JobKept.{claims_kept, fault_stays, kind_kept, learns_kept}
+use Rattle.race_core.proofs.JobKept.{claims_kept, fault_stays, learns_kept}
 use Rattle.race_core.proofs.TalkFacts.{Fits, TalkKind}
 use Rattle.race_core.proofs.PhaseFacts.{GoodTo, is_fresh, readies_place}
 use Rattle.race_core.proofs.JobSteps.{Origin, Stepped, Steps, invariant, stepped_runs, turn_at}
-use Rattle.race_core.proofs.WorkFits.{step_kind, step_number, step_runs, step_sent, step_talk, steps_good, works_fit}
+use Rattle.race_core.proofs.WorkFits.{step_kind, step_number, step_runs, step_sent, step_talk, step_what, steps_good, works_fit}
 use Rattle.race_core.proofs.HeardLists.{Changed, kind_changed, share_or, talker_heard, talker_is}
 use Rattle.race_core.proofs.Starts.{fresh_no_order}
 use Rattle.race_core.proofs.Aims.{aims, can_drop, kind_turns, move_drops, other_target}
@@ -62,6 +62,8 @@ use Rattle.race_core.proofs.DropReads.{begun_drop, read_kept, stays_read, step_r
 use Rattle.race_core.proofs.PartTurns.{FirstTurn, HasIt, TakenTurn, on_turn}
 use Rattle.race_core.proofs.GetsBegin.{no_step}
 use Rattle.race_core.proofs.JobOpens.{Called}
+use Rattle.race_core.proofs.Flights.{get_member}
+use Rattle.race_core.proofs.Untouched.{fresh_is}
 
 fresh_off : (phase : Phase) → phase ≡ Fresh → is_fresh phase ≡ false → ⊥
 fresh_off phase is later = let no' : is_fresh Fresh ≡ false = subst (λ p. is_fresh p ≡ false) is later in cc
@@ -85,12 +87,7 @@ other_apart s peer m same =
     let kept = (Member-filter_parts (λ x. not (x == s.number)) (range_with_len 0 (length s.repos)) peer m).1 in
     absurd (grind (arith, nat_tests))
 
-get_member : {X : Type 0} (xs : List X) (k : ℕ) (x : X) → slice_get xs k ≡ Some x → Member x xs
-get_member [] k x e = absurd (cc)
-get_member (y ∷ ys) zero x e = inl (cc)
-get_member (y ∷ ys) (suc k) x e = inr (get_member ys k x e)
-
-kind_peer : (s : SetUp) (kind : JobKind) (o : Option ℕ) (peer : ℕ) → IsPeer s kind o → o ≡ Some peer → Member peer (others s)
+pub kind_peer : (s : SetUp) (kind : JobKind) (o : Option ℕ) (peer : ℕ) → IsPeer s kind o → o ≡ Some peer → Member peer (others s)
 kind_peer s kind None peer is e = absurd (cc)
 kind_peer s kind (Some p) peer is e = let same : p ≡ peer = cc in subst (λ n. Member n (others s)) same (peer_other s p is.0 is.1)
 
@@ -300,9 +297,6 @@ good_part Puts phase Gets later first g was = absurd g
 good_part Drops phase Gets later first g was = absurd g
 good_part Drops phase Puts later first g was = absurd g
 
-step_what : (s : SetUp) (p : List Entry) (e : Entry) (x : Work) (b : Steps s p e x) → x.what ≡ b.by.w.what
-step_what s p e x b = ap (λ (y : Work). y.what) b.work_is ∙ ap (λ (j : RunningJob). j.what) (kind_kept (rows_at p s.number) s.number b.by.w e e.kind)
-
 parts_are : (s : SetUp) (past : List Entry) → OwnRun s past → (w : Work) → Member w (works past s.number) → PartIs w
 parts_are s past run w m = invariant s (λ p x. PartIs x) (λ p e is x n was. was) own past run w m
   where
@@ -401,10 +395,6 @@ module _ (reads_back : SentAreRead) (s : SetUp) (p : List Entry) (e : Entry) (r 
       where
         t : Turn
         t = turn_at s p e b.by
-
-        fresh_is : (phase : Phase) → is_fresh phase ≡ true → phase ≡ Fresh
-        fresh_is Fresh h = refl
-        fresh_is phase h = absurd (cc)
 
         go : (c : Bool) → is_fresh v.phase ≡ c → is_to_ask s now x s.number ≡ false
         go false old = elim (share_or e.kind) [

@@ -88,6 +88,16 @@ only_puts Gets peer start at left f = absurd f
 only_puts Puts peer start at left f = refl
 only_puts Drops peer start at left f = absurd f
 
+pub only_lock : (part : Part) (peer since : ℕ) → Fits part (AsksLock peer since) → part ≡ Drops
+only_lock Gets peer since f = absurd f
+only_lock Puts peer since f = absurd f
+only_lock Drops peer since f = refl
+
+pub only_look : (part : Part) (peer : ℕ) → Fits part (AsksLook peer) → part ≡ Drops
+only_look Gets peer f = absurd f
+only_look Puts peer f = absurd f
+only_look Drops peer f = refl
+
 pub only_answer : (part : Part) (peer start : ℕ) → Fits part (PutsAnswer peer start) → part ≡ Puts
 only_answer Gets peer start f = absurd f
 only_answer Puts peer start f = refl

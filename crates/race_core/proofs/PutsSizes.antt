@@ -47,6 +47,7 @@ use Rattle.race_core.proofs.FromStep.{own_past}
 use Rattle.race_core.proofs.ConversationClient
 use Rattle.race_core.proofs.ConversationClient.{Conversing}
 use Rattle.race_core.proofs.Conversations.{conversing}
+use Rattle.race_core.proofs.PhaseFacts.{only_offer}
 
 -- an entry of the job found a content of this size
 pub record WasSize (past : List Entry) (r j : ℕ) (key : List ℕ) (size : ℕ) : Type 0 where
@@ -121,11 +122,6 @@ offer_only : (phase : Phase) (n : ℕ) → SuitsMessage phase (PutFrom n) → (p
 offer_only (PutsOffer p) n h = (p, refl)
 offer_only phase n h = absurd h
 
-offer_puts : (part : Part) (peer : ℕ) → Fits part (PutsOffer peer) → part ≡ Puts
-offer_puts Puts peer f = refl
-offer_puts Jobs.Gets peer f = absurd f
-offer_puts Jobs.Drops peer f = absurd f
-
 line_suits : (phase : Phase) (b : FrameText) (m : Message) → line_in b ≡ Some m → Suits phase b → SuitsMessage phase m
 line_suits phase (Line text) m told h = subst (SuitsLine phase) told h
 line_suits phase Opening m told h = absurd (cc)
@@ -193,7 +189,7 @@ module _ (reads_back : SentAreRead) (run : Run) (repos : Each IsSetUp run.repos)
             let suits = ConversationClient.suits reads_back run repos past e h step r own talking b.by p took_it.f took_it.of_end took_it.may k.0.opened took_it.taken_is on (talking v runs p (live_on v.what.peer v.phase p on) k.0.opened) in
             let line : line_in took_it.f.body ≡ Some (PutFrom at) = ap (λ (g : FrameView). line_in g.body) same ∙ is in
             let offer = offer_only v.phase at (line_suits v.phase took_it.f.body (PutFrom at) line suits) in
-            let puts : v.part ≡ Puts = offer_puts v.part offer.0 (subst (Fits v.part) offer.1 (works_fit s past own_p.run v runs)) in
+            let puts : v.part ≡ Puts = only_offer v.part offer.0 (subst (Fits v.part) offer.1 (works_fit s past own_p.run v runs)) in
             let made : b.by.made ≡ puts_from t took_it.f p at = took_it.made_is ∙ offer_takes t took_it.f p offer.0 at offer.1 puts took_it.f.body line in
             let first : first_of (puts_from t took_it.f p at).sent ≡ Some z.0.f.body = ap (λ (m : Made). first_of m.sent) (sym made) ∙ ap first_of (sym made_sent ∙ z.0.sent_is) in
             record {

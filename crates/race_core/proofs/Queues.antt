@@ -12,7 +12,7 @@ use Rattle.run_model.specs.Past.{is_of}
 use Rattle.run_model.specs.Frames.{FlyingFrame, MayTake, Way, flying_frame, is_on, on_way, sender_of, frames_sent, taken_count, taker_of, takes}
 use Rattle.node_model.specs.Ends.{same_bool, EndName, sent_at, taken_at, takes_at}
 use Rattle.race_core.proofs.DialogueTurns.{bodies}
-use Rattle.race_core.proofs.WayCounts.{in_sender-is, in_taker-is, on_out, out_sender-is, way_in, way_out, out_taker-is}
+use Rattle.race_core.proofs.WayCounts.{in_sender-is, in_taker-is, on_out, out_sender-is, way_in, way_out, out_taker-is, other_side}
 
 abbrev pub flying_bodies : List FlyingFrame → List FrameText
 flying_bodies [] = []
@@ -91,12 +91,6 @@ module _ (past : List Entry) (e : Entry) (w : Way) where
   }
 
 -- ---- at one end of a repository
-
-other_side : (u c : Bool) → same_bool u (if c then false else true) ≡ same_bool c (if u then false else true)
-other_side true true = refl
-other_side true false = refl
-other_side false true = refl
-other_side false false = refl
 
 abbrev pub hits : ℕ → Option FrameView → Bool
 hits n None = false

@@ -1,5 +1,5 @@
 -- The causes of refusals that a repository's own entries show: of its row, of a call of its store that failed, and of what a peer answered.
-use Rattle.std.proofs.Common.{◌≡◌, ◌≢◌, ℕ, true, false, List, [], ◌∷◌, Option, Some, None, ◌⊎◌, inl, inr, refl, sym, ap, ◌∙◌, subst}
+use Rattle.std.proofs.Common.{◌≡◌, ◌≢◌, ℕ, true, false, List, Option, Some, None, ◌⊎◌, inl, inr, refl, sym, ap, ◌∙◌, subst}
 use Rattle.std.specs.Prelude.{◌==◌, filter, find}
 use Rattle.annex_base.specs.Lists.{Member}
 use Rattle.annex_base.specs.declared.kinds.Word.{Word}
@@ -20,11 +20,9 @@ use Rattle.run_data.specs.declared.job.DropRefusal.{DropRefusal}
 use Rattle.run_data.specs.declared.job.DropRefusal.TheVariants as refusals
 use Rattle.run_data.specs.declared.job.TransferRefusal.{TransferRefusal}
 use Rattle.run_data.specs.declared.job.TransferRefusal.TheVariants as failures
-use Rattle.run_data.specs.declared.row.Hold.{Hold}
 use Rattle.node_model.specs.Slots.{RunningJob}
 use Rattle.run_model.specs.Past.{clock, holds}
 use Rattle.node_model.specs.Rows.{blocks}
-use Rattle.run_model.specs.Causes
 use Rattle.run_model.specs.Causes.{AtFirst, FailedCall, FoundAbsent, FoundBarred, FoundHeld, FoundNotHere, HadFault, JobOf, is_put}
 use Rattle.run_model.specs.Logs.{is_step}
 use Rattle.node_model.specs.SetUp.{SetUp, slots}
@@ -223,10 +221,6 @@ module _ (reads_back : SentAreRead) (s : SetUp) (past : List Entry) (words : ℕ
       let y = judged (refusals.Barred other) x (row_apart (refusals.Barred other) (turn_at s past e x.by) (λ p k z. z) (λ a b q. cc) (λ a q. cc)) in
       subst (λ n. FoundBarred past r n other) (sym x.number_is) (record { d = job_of s past h w x.runs; at = at_first late w x.runs y.0.part_is y.0.first y.0.side; barred = y.2 })
 
-  until_same : (hs : List Hold) → until hs ≡ Causes.held_until hs
-  until_same [] = refl
-  until_same (x ∷ hs) = refl
-
   -- **Held**
   pub held_found : MovesLate s → (end : Option ℕ) → e.kind ≡ ends_job j (Refused (refusals.Held end)) → FoundHeld s.repos past r j e.time end
   held_found late end is =
@@ -239,7 +233,7 @@ module _ (reads_back : SentAreRead) (s : SetUp) (past : List Entry) (words : ℕ
         at = at_first late w x.runs y.0.part_is y.0.first y.0.side;
         there = y.1;
         free = y.2;
-        held = ap (λ t. Causes.held_until (filter (blocks w.what.key (clock s.repos past r t)) (holds past r))) time ∙ sym (until_same (filter (blocks w.what.key (clock s.repos past r x.by.look.time)) (holds past r))) ∙ y.3;
+        held = ap (λ t. until (filter (blocks w.what.key (clock s.repos past r t)) (holds past r))) time ∙ y.3;
       })
 
   -- **StoreFault**, of a drop

@@ -1,19 +1,16 @@
 -- Where a job stands refused, the entries tell why: by an invariant of the running jobs.
-use Rattle.std.proofs.Common.{◌≡◌, ℕ, true, false, List, [], ◌∷◌, Option, Some, None, ◌⊎◌, inl, inr, refl, sym, ap, ◌∙◌, subst, arith}
-use Rattle.std.proofs.lemmas.Bool.Decides.{nat_tests}
+use Rattle.std.proofs.Common.{◌≡◌, ℕ, true, false, List, [], ◌∷◌, Option, Some, None, ◌⊎◌, inl, inr, refl, sym, ap, ◌∙◌, subst}
 use Rattle.std.specs.Prelude.{◌==◌, ◌&&◌, nat_lt, option_map, codes}
 use Rattle.std.proofs.lemmas.Bool.{eqb-true}
 use Rattle.annex_base.specs.declared.kinds.Call.TheVariants.{Unhold}
-use Rattle.annex_base.proofs.Conditions.{and_first}
+use Rattle.annex_base.proofs.Conditions.{and_first, eqb_refl}
 use Rattle.race_core.proofs.Below.{SentAreRead}
 use Rattle.drop_proof.specs.declared.rule.Side.{Side}
-use Rattle.drop_proof.specs.declared.rule.Side.TheVariants.{Local, Remote}
+use Rattle.drop_proof.specs.declared.rule.Side.TheVariants.{Remote}
 use Rattle.run_data.specs.declared.entry.By.TheVariants.{Job as by_job}
 use Rattle.run_data.specs.declared.entry.Entry.{Entry}
 use Rattle.run_data.specs.declared.entry.EntryKind.TheVariants.{Fault}
 use Rattle.run_data.specs.declared.entry.FrameView.{FrameView}
-use Rattle.run_data.specs.declared.job.JobKind.{JobKind as KindOfJob}
-use Rattle.run_data.specs.declared.job.JobKind.TheVariants as kinds
 use Rattle.run_data.specs.declared.job.Outcome.{Outcome}
 use Rattle.run_data.specs.declared.job.Outcome.TheVariants.{Refused, TransferRefused}
 use Rattle.run_data.specs.declared.job.DropRefusal.{DropRefusal}
@@ -29,7 +26,7 @@ use Rattle.run_model.specs.Said.{Said, Says}
 use Rattle.race_core.proofs.Ways.{is_answer}
 use Rattle.run_model.specs.Frames.{FlyingFrame, is_job, last_request, said_of, up_of, way_of}
 use Rattle.run_model.specs.Drops.{is_first_step}
-use Rattle.run_model.specs.Causes.{AnswersRequest, FailedCall, HearsMessage, side_by, target_by}
+use Rattle.run_model.specs.Causes.{AnswersRequest, FailedCall, HearsMessage}
 use Rattle.node_model.specs.SetUp.{SetUp}
 use Rattle.node_model.specs.Sessions.{line_in}
 use Rattle.node_model.specs.Jobs
@@ -46,30 +43,16 @@ use Rattle.race_core.proofs.Makers.{taken_of}
 -- ---- the drop's side and target
 
 abbrev pub side_in : RunningJob → Side
-side_in j = side_by j.what.kind j.what.peer
+side_in j = Jobs.drop_side j.what.kind j.what.peer
 
 abbrev pub target_in : ℕ → RunningJob → ℕ
-target_in r j = target_by r (side_in j) j.what.peer
-
-side_same : (kind : KindOfJob) (peer : Option ℕ) → side_by kind peer ≡ Jobs.drop_side kind peer
-side_same kinds.Drop None = refl
-side_same kinds.Drop (Some p) = refl
-side_same kinds.MoveTo peer = refl
-side_same kinds.Get peer = refl
-side_same kinds.Copy peer = refl
-side_same kinds.MoveFrom peer = refl
-
-own_same : (r : ℕ) (side : Side) (peer : Option ℕ) → target_by r side peer ≡ Jobs.or_own r side peer
-own_same r Remote None = refl
-own_same r Remote (Some p) = refl
-own_same r Local None = refl
-own_same r Local (Some p) = refl
+target_in r j = Jobs.or_own r (side_in j) j.what.peer
 
 pub side_is : (w : Work) → side_in (running_job w) ≡ Jobs.side_of w
-side_is w = side_same w.what.kind w.what.peer
+side_is w = refl
 
 pub target_is : (r : ℕ) (w : Work) → target_in r (running_job w) ≡ Jobs.target_of r w
-target_is r w = ap (λ (d : Side). target_by r d w.what.peer) (side_is w) ∙ own_same r (Jobs.side_of w) w.what.peer
+target_is r w = refl
 
 -- ---- an answer that a job takes now
 
@@ -81,10 +64,7 @@ request_is (Some x) time m e =
     (x, refl, said_is x.frame.body m line)
 
 pub stepped_own : (s : SetUp) (past : List Entry) (e : Entry) (x : Stepped s past e) → is_of s.number e ≡ true → is_job s.number x.w.number e ≡ true
-stepped_own s past e x is = rw (is, stepped_job s past e x) (same_self x.w.number)
-  where
-    same_self : (n : ℕ) → (n == n) ≡ true
-    same_self n = grind (arith, nat_tests)
+stepped_own s past e x is = rw (is, stepped_job s past e x) (eqb_refl x.w.number)
 
 module _ (reads_back : SentAreRead) (s : SetUp) (past : List Entry) (e : Entry) (x : Stepped s past e) (is : is_of s.number e ≡ true) where
   -- the peer of the frame that it takes

@@ -4,7 +4,7 @@ use Rattle.std.proofs.lemmas.Bool.{and_parts}
 use Rattle.std.proofs.lemmas.Option.{same_Some}
 use Rattle.annex_base.specs.Lists.{Member}
 use Rattle.run_data.specs.declared.entry.By.{By}
-use Rattle.run_data.specs.declared.entry.By.TheVariants.{Job as by_job, Peer}
+use Rattle.run_data.specs.declared.entry.By.TheVariants.{Peer}
 use Rattle.run_data.specs.declared.entry.Entry.{Entry}
 use Rattle.run_data.specs.declared.job.Outcome.{Outcome}
 use Rattle.run_data.specs.declared.entry.EntryKind.{EntryKind}
@@ -20,16 +20,15 @@ use Rattle.race_core.proofs.Own.{MayRelease, Meets, MessagePast, uses}
 use Rattle.race_core.proofs.Flights.{occurs_always, occurs_earlier, sending}
 use Rattle.race_core.proofs.OwnFacts.{AskedBy, VouchesBy, asked_by, vouches_by}
 use Rattle.race_core.proofs.Occurring.{occurs_done, occurs_same, same_job, vouches_occur}
-use Rattle.race_core.proofs.Told.{message_at, own_at, sends_member, sender_way, some_option, up_is, uses_sent}
+use Rattle.race_core.proofs.Told.{message_at, own_at, sends_member, sender_way, up_is, uses_sent}
+use Rattle.race_core.proofs.Plain.{option_same}
+use Rattle.race_core.proofs.Changes.{peer_no_job}
 
 client_up : (r : ℕ) (f : FrameView) → f.up ≡ true → (way_of r f).client ≡ f.peer
 client_up r f h = rw h refl
 
 share_parts : (h i e f : ℕ) (o p : By) (k l : List ℕ) → Share h e o k ≡ Share i f p l → (h ≡ i) × (o ≡ p)
 share_parts h i e f o p k l eq = (cc, cc)
-
-peer_not_job : (p s j : ℕ) → Peer p s ≡ by_job j → ⊥
-peer_not_job p s j h = cc
 
 end_job_of : (kind : EntryKind) (j : ℕ) (outcome : Outcome) → kind ≡ End j outcome → job_of kind ≡ Some j
 end_job_of kind j outcome h = ap job_of h
@@ -48,7 +47,7 @@ released repos past e r hold key run m is rel a j since owner k member = finish 
     by_share : (p : List Entry) → Occurs past rel.share p → VouchesBy p rel.share r a j (Lock hold since owner k) → is_done past a j ≡ true
     by_share p o (end, kind, inl own) =
         let parts = share_parts hold hold rel.end end (Peer rel.f.peer rel.f.slot) owner key k (sym rel.share_is ∙ kind) in
-        absurd (peer_not_job rel.f.peer rel.f.slot j (parts.1 ∙ own.1))
+        absurd (peer_no_job rel.f.peer rel.f.slot j (parts.1 ∙ own.1))
     by_share p o (end, kind, inr (peer, slot, owner_is, yes', at)) = by_asker (asked_by repos p rel.share r a j rel.taken_then (occurs_always (Meets repos) past rel.share p run o) rel.own rel.took yes').0
       where
         by_asker : AskedBy p r a j rel.taken_then → is_done past a j ≡ true
@@ -58,9 +57,9 @@ released repos past e r hold key run m is rel a j since owner k member = finish 
             let earlier : Occurs past t.it.entry t.it.before = occurs_earlier past rel.share t.it.entry p t.it.before o t.sending.occurs in
             let client : w.client ≡ rel.f.peer = client_up r rel.f rel.from_client in
             let from_peer : is_of rel.f.peer t.it.entry ≡ true = subst (λ q. is_of q t.it.entry ≡ true) (ap (λ (v : Way). sender_of v) rel.same_epoch ∙ sender_way r rel.f) t.sending.repo_is in
-            let a_is : rel.f.peer ≡ a = same_Some rel.f.peer a (sym (some_option t.it.entry.repo rel.f.peer from_peer) ∙ some_option t.it.entry.repo a parts.0) in
+            let a_is : rel.f.peer ≡ a = same_Some rel.f.peer a (sym (option_same t.it.entry.repo rel.f.peer from_peer) ∙ option_same t.it.entry.repo a parts.0) in
             let uses_first : uses w t.it.entry ≡ true = uses_sent w t.it.entry t.it.frame (subst (λ v. Member t.it.frame (on_way v t.it.entry)) (rel.same_epoch ∙ sym (up_is r rel.f rel.from_client)) t.sending.sends) in
-            by_unlock parts.0 (some_option (job_of t.it.entry.kind) j parts.1) earlier (client ∙ a_is) a_is uses_first
+            by_unlock parts.0 (option_same (job_of t.it.entry.kind) j parts.1) earlier (client ∙ a_is) a_is uses_first
           where
             by_unlock : is_of a t.it.entry ≡ true → job_of t.it.entry.kind ≡ Some j → Occurs past t.it.entry t.it.before → w.client ≡ a → rel.f.peer ≡ a → uses w t.it.entry ≡ true → is_done past a j ≡ true
             by_unlock is_a job earlier client a_is uses_first =

@@ -24,9 +24,10 @@ use Rattle.race_core.proofs.PathsRead.{with_paths}
 use Rattle.race_core.proofs.HistoriesGrow.{SamePaths, part_paths, same_before}
 use Rattle.race_core.proofs.Flights.{Sending, sending}
 use Rattle.race_core.proofs.FromStep.{own_past}
-use Rattle.race_core.proofs.Told.{taker_way, some_option}
+use Rattle.race_core.proofs.Told.{taker_way}
 use Rattle.race_core.proofs.MergedOrder.{occurs_before}
 use Rattle.race_core.proofs.MergedRuns.{filter_reverse, letters_own, Reads, ReadsIts, always_of, take_own, words_are}
+use Rattle.race_core.proofs.Plain.{option_same}
 
 -- ---- one more entry
 
@@ -54,7 +55,7 @@ next_paths run e step r j l = go (is_of r e) refl
 
     not_begun : is_of r e ≡ true → (was : List (List ℕ)) (kind : EntryKind) → e.kind ≡ kind → paths_begun run.tree (length past) j was kind ≡ was
     not_begun is was (Begin job what) k =
-        let x = part (some_option e.repo r is) in
+        let x = part (option_same e.repo r is) in
         let next : job ≡ begun_count past r + 1 = begins_next (set_up run r) past x.0 e x.1 job what k in
         let other : (job == j) ≡ false = grind arith in
         rw other refl
@@ -210,7 +211,7 @@ module _ (run : Run) (r : ℕ) (got : Way → List Letter) where
       }
 
       go : IsHistory (set_up run r) got (mine r past) → (b : Bool) → is_of r e ≡ b → IsHistory (set_up run r) got (mine r (e ∷ past))
-      go ih true is = rw is (kept (some_option e.repo r is), ih)
+      go ih true is = rw is (kept (option_same e.repo r is), ih)
       go ih false is = rw is ih
 
 -- each repository of a run keeps its own history, and takes the letters of the others

@@ -146,5 +146,11 @@ pub said_bytes : (n : ℕ) → message_in (Bytes n) ≡ Piece
 unfolding message_in
 said_bytes n = refl
 
+pub closing_ends : (b : FrameText) (k : Message) → b ≡ Closing → message_in b ≡ Says k → ⊥
+closing_ends b k i e = let no' : message_in Closing ≡ Says k = sym (ap message_in i) ∙ e in let no'' = sym said_closing ∙ no' in cc
+
+pub bytes_end : (b : FrameText) (n : ℕ) (k : Message) → b ≡ Bytes n → message_in b ≡ Says k → ⊥
+bytes_end b n k i e = let no' : message_in (Bytes n) ≡ Says k = sym (ap message_in i) ∙ e in let no'' = sym (said_bytes n) ∙ no' in cc
+
 pub odd_answer : is_answer (message_in (Line (text_of (Error (codes "unexpected"))))) ≡ false
 odd_answer = ap is_answer (said_line-is (text_of (Error (codes "unexpected")))) ∙ unexpected_line

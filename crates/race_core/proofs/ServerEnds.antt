@@ -8,7 +8,7 @@ use Rattle.annex_base.specs.Lists.{Each, Member}
 use Rattle.annex_base.specs.declared.kinds.Call.{Call}
 use Rattle.annex_base.specs.declared.kinds.Call.TheVariants.{PutFile}
 use Rattle.annex_base.specs.declared.kinds.Word.{Word}
-use Rattle.annex_base.proofs.Lists.{Each-append, Each-filter, find_member}
+use Rattle.annex_base.proofs.Lists.{Each-always, Each-filter, Each-flat_map, find_member}
 use Rattle.annex_base.proofs.Conditions.{eqb_refl}
 use Rattle.run_data.specs.declared.entry.By.TheVariants.{Script}
 use Rattle.run_data.specs.declared.entry.Entry.{Entry}
@@ -35,7 +35,7 @@ use Rattle.node_model.specs.Found.{AsksOne, ByJob, IsJobEntry, JobTakes, success
 use Rattle.p2p_wire.specs.Messages.{order_of, text_of}
 use Rattle.node_model.specs.AnyTime.{MayCome, all_ends, close_at}
 use Rattle.run_model.specs.Run.{OwnPart}
-use Rattle.race_core.proofs.Plain.{same_both}
+use Rattle.race_core.proofs.Plain.{same_both, same_self}
 use Rattle.race_core.proofs.Cases.{first_was, some_was, unless_found}
 use Rattle.race_core.proofs.JobFacts.{job_found}
 use Rattle.node_model.specs.Look
@@ -43,8 +43,7 @@ use Rattle.node_model.specs.Look
 -- ---- lists
 
 pub each_flat : {X Y : Type 0} (P : Y → Type 0) (f : X → List Y) → ((x : X) → Each P (f x)) → (xs : List X) → Each P (flat_map f xs)
-each_flat P f all [] = tt
-each_flat P f all (x ∷ xs) = Each-append P (f x) (flat_map f xs) (all x) (each_flat P f all xs)
+each_flat P f all xs = Each-flat_map P f xs (Each-always (λ x. Each P (f x)) all xs)
 
 -- ---- names of ends
 
@@ -59,10 +58,6 @@ same_end-is b a e =
     let two = and_parts ((b.peer == a.peer) && (b.slot == a.slot)) (same_bool b.client a.client) e in
     let one = and_parts (b.peer == a.peer) (b.slot == a.slot) two.0 in
     end_path b.peer b.slot b.client a (eqb-true b.peer a.peer one.0) (eqb-true b.slot a.slot one.1) (same_both b.client a.client two.1)
-
-same_self : (b : Bool) → same_bool b b ≡ true
-same_self true = refl
-same_self false = refl
 
 pub same_end-refl : (a : EndName) → same_end a a ≡ true
 same_end-refl a = rw (eqb_refl a.peer, eqb_refl a.slot, same_self a.client) refl
@@ -261,7 +256,7 @@ step_does s past k m small e = elim (first_was (owed_step s (state_of s past) k)
     rest (inr x) = inr (λ p q. by_job_shuts s past k m p q (job_found s (state_of s past) k m x))
 
 -- a close is a Close
-close_closes : (s : SetUp) (past : List Entry) (a : EndName) → Each (λ g. g.body ≡ Closing) (close_at s (state_of s past) a)
+pub close_closes : (s : SetUp) (past : List Entry) (a : EndName) → Each (λ g. g.body ≡ Closing) (close_at s (state_of s past) a)
 close_closes s past a = go (end_at past s.number a).opened
   where
     go : (b : Bool) → Each (λ g. g.body ≡ Closing) (if b then frames a (end_at past s.number a) (Closing ∷ []) else [])

@@ -28,7 +28,7 @@ use Rattle.node_model.specs.Look.{failing}
 use Rattle.node_model.specs.SessionStep.{Here, Reply, bar_on, by_of, bytes_left, check_answer, content_of, is_held, is_here, lock_answer, now_of, on_frame, on_message, on_put, on_remove, on_remove_before, on_request, on_text, put_answer, failure_line, remove_answer, reply, silent_reply, tries, unexpected_reply, valid_answer}
 use Rattle.race_core.proofs.Cases.{unless_found}
 use Rattle.race_core.proofs.Counting.{Closes, Counts, GetCounts, calm, get_counts, message_counts}
-use Rattle.race_core.proofs.SaidDown.{Alike, alike, alike_completes, odd_answer, said_closing, said_line-is, tells}
+use Rattle.race_core.proofs.SaidDown.{Alike, alike, alike_completes, closing_ends, odd_answer, said_line-is, tells}
 use Rattle.race_core.proofs.SessionSays.{read_of}
 
 -- ---- the table
@@ -168,9 +168,6 @@ message_replied h v (Took key size) Invalid = fits Invalid (Talk None) Failure r
 message_replied h v doing m = odd h m
 
 -- ---- an answer among what is said
-
-closing_ends : (b : FrameText) (k : Message) → b ≡ Closing → message_in b ≡ Says k → ⊥
-closing_ends b k i e = let no' : message_in Closing ≡ Says k = sym (ap message_in i) ∙ e in let no'' = sym said_closing ∙ no' in cc
 
 closes_answer : (says : List FrameText) (b : FrameText) (k : Message) → Closes says → Member b says → message_in b ≡ Says k → completes k ≡ true → ⊥
 closes_answer says b k (inl x) m e c = elim (subst (Member b) x m) [ inl i ↦ closing_ends b k i e | inr i ↦ i ]

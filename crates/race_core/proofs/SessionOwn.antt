@@ -2,11 +2,10 @@
 use Rattle.std.proofs.Common.{◌≡◌, ◌≢◌, ℕ, ◌+◌, ◌/◌, ◌^◌, ◌<◌, ◌≤◌, Bool, true, false, List, [], ◌∷◌, ◌++◌, length, Option, Some, None, ◌⊎◌, inl, inr, refl, sym, ap, ◌∙◌, subst, arith}
 use Rattle.std.specs.Prelude.{if◌then◌else◌, ◌==◌, filter, map, flat_map, not}
 use Rattle.std.specs.List.{range_with_len}
-use Rattle.std.proofs.lemmas.Bool.Decides.{nat_tests}
 use Rattle.std.proofs.lemmas.Option.{same_Some}
 use Rattle.annex_base.specs.Lists.{Each, Member}
 use Rattle.annex_base.specs.declared.kinds.Word.{Word}
-use Rattle.annex_base.proofs.Lists.{Each-filter, Each-member, Member-filter_from, filter_none, Member-append_cases}
+use Rattle.annex_base.proofs.Lists.{Each-filter, Each-member, Member-filter_from, filter_none, Member-append_cases, Member-filter_parts}
 use Rattle.race_core.proofs.Below.{SentAreRead}
 use Rattle.run_data.specs.declared.entry.By.TheVariants.{Peer, Script}
 use Rattle.run_data.specs.declared.entry.Entry.{Entry}
@@ -14,7 +13,7 @@ use Rattle.run_data.specs.declared.entry.EntryKind.{EntryKind}
 use Rattle.run_data.specs.declared.entry.EntryKind.TheVariants.{Share, Release, Begin, Gain, Log, Compact, Close, Crash, Fault}
 use Rattle.run_data.specs.declared.entry.FrameView.{FrameView}
 use Rattle.run_data.specs.declared.entry.FrameText.{FrameText}
-use Rattle.run_data.specs.declared.entry.FrameText.TheVariants.{Opening, Closing, Bytes, Line}
+use Rattle.run_data.specs.declared.entry.FrameText.TheVariants.{Closing, Line}
 use Rattle.run_model.specs.Past.{clock}
 use Rattle.p2p_wire.specs.declared.message.Message.{Message}
 use Rattle.p2p_wire.specs.declared.message.Message.TheVariants.{CheckPresent, LockContent, UnlockContent, Timestamp, Success}
@@ -39,7 +38,7 @@ use Rattle.run_data.specs.declared.run.RepoView.{RepoView}
 use Rattle.node_model.specs.Found.{GivesAt, StepFound, TakesAt}
 use Rattle.race_core.proofs.StepFacts.{SessionMade, release_found, step_found}
 use Rattle.race_core.proofs.ServerEnds.{BySessionAt, GivesHere, ServerDoes, Shuts, TakesHere, come_closes, job_sends, end_of, server_does, takes_end}
-use Rattle.race_core.proofs.EndMoves.{gave_one, may_epoch, takes_epoch}
+use Rattle.race_core.proofs.EndMoves.{gave_one, line_opens, may_epoch, takes_epoch}
 use Rattle.race_core.proofs.Guarding.{guards_stand}
 use Rattle.race_core.proofs.WayCounts.{way_in, way_out}
 use Rattle.race_core.proofs.SaidDown.{odd_answer, said_closing, said_is}
@@ -47,6 +46,9 @@ use Rattle.race_core.proofs.InTurn.{AllRead, in_turn}
 use Rattle.race_core.proofs.TurnFits.{busy}
 use Rattle.race_core.proofs.SessionSays.{Agrees, FromServer, down_only, frame_agrees, frame_say, is_down, line_locks, line_looks, Short, frame_short, odd_message, odd_request, pieces_no, pieces_say, pieces_short, read_of}
 use Rattle.race_core.proofs.Own.{AtMostOne, InTurn, MayRelease, MaySend}
+use Rattle.std.proofs.lemmas.Bool.{eq-eqb}
+use Rattle.annex_base.proofs.Conditions.{eqb_refl}
+use Rattle.race_core.proofs.AnswerFacts.{end_takes_from}
 
 -- ---- ways of frames and of ends
 
@@ -65,41 +67,19 @@ way_taken r f i = record { client = client_is r f.peer f.up i; server = client_i
 pub way_at : (r : ℕ) (a : EndName) (f : FrameView) → takes_at a f ≡ true → way_of r f ≡ way_in r a f.epoch
 way_at r a f t = way_taken r f ∙ ap (λ b. way_in r b f.epoch) (takes_end a f t)
 
--- what a server's end takes
-pub taken_up : (p q : ℕ) (f : FrameView) → takes_at (server_end p q) f ≡ true → (f.peer ≡ p) × (f.slot ≡ q) × (f.up ≡ true)
-taken_up p q f t =
-    let same = takes_end (server_end p q) f t in
-    (ap (λ (a : EndName). a.peer) same, ap (λ (a : EndName). a.slot) same, up f.up (ap (λ (a : EndName). a.client) same))
-  where
-    up : (b : Bool) → (if b then false else true) ≡ false → b ≡ true
-    up true e = refl
-    up false e = absurd (cc)
-
 -- ---- S1: release
-
-line_no : (body : FrameText) (m : Message) → line_in body ≡ Some m → is_opening body ≡ false
-line_no Opening m e = absurd (cc)
-line_no Closing m e = refl
-line_no (Bytes n) m e = refl
-line_no (Line text) m e = refl
 
 released : (s : SetUp) (past : List Entry) (k : Look) (m : Made) (hold : ℕ) (key : List ℕ) → OwnRun s past → SessionMade s (state_of s past) k m (Release hold key) → MayRelease s.number past (entry_of s.number k m) hold key
 released s past k m hold key run x = go x.by.frame
   where
-    p : ℕ
-    p = x.by.peer
-
-    q : ℕ
-    q = x.by.slot
-
     go : TakesAt s (state_of s past) (server_end x.by.peer x.by.slot) x.by.asked x.by.says m ⊎ GivesAt s (state_of s past) (server_end x.by.peer x.by.slot) x.by.asked x.by.says m → MayRelease s.number past (entry_of s.number k m) hold key
     go (inr y) = absurd (let no' : Some (UnlockContent key) ≡ None = sym x.found.asks ∙ y.asked_is in cc)
     go (inl y) =
         let g = guards_stand s past x.by.peer x.by.slot run hold key x.found.guards in
         let line : line_in y.f.body ≡ Some (UnlockContent key) = sym y.asked_is ∙ x.found.asks in
-        let up = taken_up x.by.peer x.by.slot y.f y.of_end in
+        let up = end_takes_from x.by.peer x.by.slot y.f y.of_end in
         let epoch : y.f.epoch ≡ (end_at past s.number (server_end x.by.peer x.by.slot)).epoch =
-        (may_epoch (end_at past s.number (server_end x.by.peer x.by.slot)) y.f (line_no y.f.body (UnlockContent key) line) y.may).1 in
+        (may_epoch (end_at past s.number (server_end x.by.peer x.by.slot)) y.f (line_opens y.f.body (UnlockContent key) line) y.may).1 in
         record {
           f = y.f;
           takes_it = y.taken_is;
@@ -149,9 +129,6 @@ down_closes e g x m u =
     Each-member (λ (h : FrameView). h.body ≡ Closing) (sent_at (server_end g.peer g.slot) e.sent) g (x g.peer g.slot).closes
     (Member-filter_from (sends_at (server_end g.peer g.slot)) e.sent g m at)
   where
-    eqb_refl : (n : ℕ) → (n == n) ≡ true
-    eqb_refl n = grind arith
-
     at : sends_at (server_end g.peer g.slot) g ≡ true
     at = rw (eqb_refl g.peer, eqb_refl g.slot, u) refl
 
@@ -222,7 +199,7 @@ module _ (s : SetUp) (past : List Entry) (e : Entry) (p q : ℕ) (run : OwnRun s
     f = x.f;
     takes_it = x.taken_is;
     back = out_is ∙ ap down_of (sym in_is);
-    from_client = (taken_up p q x.f x.of_end).2;
+    from_client = (end_takes_from p q x.f x.of_end).2;
     request = agreed.0.request;
     turn = ap (λ w. length (answers past w)) out_is ∙ turn_now ∙ ap (λ w. taken_if is_request past w) (sym in_is);
     locked = λ key i. locks key i;
@@ -233,7 +210,7 @@ module _ (s : SetUp) (past : List Entry) (e : Entry) (p q : ℕ) (run : OwnRun s
       locks : (key : List ℕ) → message_in x.f.body ≡ Says (LockContent key) → (hold end : ℕ) × (e.kind ≡ Share hold end (Peer x.f.peer x.f.slot) key)
       locks key i =
           let y = line_locks h was agreed.1.0 key (by_line agreed.1.0 agreed.1.1 (LockContent key) i) (sym (ap (λ b. (on_frame h was b).says) agreed.1.1) ∙ agreed.0.alone) in
-          let up = taken_up p q x.f x.of_end in (
+          let up = end_takes_from p q x.f x.of_end in (
             y.0,
             y.1,
             x.kind_is ∙ ap (λ b. (on_frame h was b).kind) agreed.1.1 ∙ y.2
@@ -263,14 +240,6 @@ of_flat f (x ∷ xs) y m = elim (Member-append_cases (f x) (flat_map f xs) y m) 
   | inr i ↦ (let z = of_flat f xs y i in (z.0, inr z.1, z.2))
 ]
 
-of_filter : {X : Type 0} (t : X → Bool) (xs : List X) (y : X) → Member y (filter t xs) → t y ≡ true
-of_filter t [] y m = absurd m
-of_filter {X = X} t (x ∷ xs) y m = go (λ n. of_filter t xs y n) (t x) refl m
-  where
-    go : (Member y (filter t xs) → t y ≡ true) → (b : Bool) → t x ≡ b → Member y (filter t (x ∷ xs)) → t y ≡ true
-    go rest true i n = elim (rw i at n) [ inl j ↦ ap t j ∙ i | inr j ↦ rest j ]
-    go rest false i n = rest (rw i at n)
-
 of_slots : (peer : ℕ) (xs : List ℕ) (p q : ℕ) → Member {X = ℕ × ℕ} (p, q) (map (λ slot. (peer, slot)) xs) → p ≡ peer
 of_slots peer [] p q m = absurd m
 of_slots peer (x ∷ xs) p q (inl i) = ap (λ (c : ℕ × ℕ). c.0) i
@@ -281,13 +250,10 @@ pub served_other : (s : SetUp) (p q : ℕ) → Member (p, q) (served_connections
 served_other s p q m same =
     let w = of_flat (λ peer. map (λ slot. (peer, slot)) slots) (others s) (p, q) m in
     let peer : p ≡ w.0 = of_slots w.0 slots p q w.2 in
-    let kept : not (w.0 == s.number) ≡ true = of_filter (λ x. not (x == s.number)) (range_with_len 0 (length s.repos)) w.0 w.1 in
+    let kept : not (w.0 == s.number) ≡ true = (Member-filter_parts (λ x. not (x == s.number)) (range_with_len 0 (length s.repos)) w.0 w.1).1 in
     let at : w.0 ≡ s.number = sym peer ∙ same in
-    let yes' : (w.0 == s.number) ≡ true = eqb_eq w.0 s.number at in
+    let yes' : (w.0 == s.number) ≡ true = eq-eqb w.0 s.number at in
     absurd (let no' : not true ≡ true = rw yes' at kept in cc)
-  where
-    eqb_eq : (x y : ℕ) → x ≡ y → (x == y) ≡ true
-    eqb_eq x y e = grind (arith, nat_tests)
 
 abbrev frame_of : EndName → End → FrameText → FrameView
 frame_of a c body = record { peer = a.peer; slot = a.slot; up = a.client; epoch = (end_sends c body).epoch; seq = (end_sends c body).sent; body = body }
@@ -307,9 +273,6 @@ pub record SessionSpeaks (s : SetUp) (e : Entry) : Type 0 where
 pub speaks : (s : SetUp) (past : List Entry) (e : Entry) → BySessionAt s past e → SessionSpeaks s e
 speaks s past e x = go x.3
   where
-    a : EndName
-    a = server_end x.0 x.1
-
     go : TakesHere s past (server_end x.0 x.1) e ⊎ GivesHere s past (server_end x.0 x.1) e → SessionSpeaks s e
     go (inl y) = record {
       p = x.0;
@@ -340,7 +303,7 @@ module _ (s : SetUp) (e : Entry) (x : SessionSpeaks s e) where
 
   -- the field `taken_from`
   pub session_from : (f : FrameView) → e.taken ≡ Some f → f.peer ≢ s.number
-  session_from f i same = served_other s x.p x.q x.serves (sym (taken_up x.p x.q f (x.takes f i)).0 ∙ same)
+  session_from f i same = served_other s x.p x.q x.serves (sym (end_takes_from x.p x.q f (x.takes f i)).0 ∙ same)
 
   -- the field `sent_to`
   pub session_to : (g : FrameView) → Member g e.sent → g.peer ≢ s.number
@@ -396,9 +359,6 @@ module _ (s : SetUp) (e : Entry) (x : SessionSpeaks s e) where
 
 down_at : (g : FrameView) → g.up ≡ false → sends_at (server_end g.peer g.slot) g ≡ true
 down_at g u = rw (eqb_refl g.peer, eqb_refl g.slot, u) refl
-  where
-    eqb_refl : (n : ℕ) → (n == n) ≡ true
-    eqb_refl n = grind arith
 
 closing_says : (g : FrameView) (k : Message) → g.body ≡ Closing → message_in g.body ≡ Says k → ⊥
 closing_says g k i e = let no' : message_in Closing ≡ Says k = sym (ap message_in i) ∙ e in let no'' = sym said_closing ∙ no' in cc
@@ -483,13 +443,10 @@ pub ends_other : (s : SetUp) (a : EndName) → Member a (all_ends s) → a.peer 
 ends_other s a m same =
     let w = of_flat (λ peer. ends_with peer true ++ ends_with peer false) (others s) a m in
     let peer : a.peer ≡ w.0 = elim (Member-append_cases (ends_with w.0 true) (ends_with w.0 false) a w.2) [ inl i ↦ of_ends w.0 true slots a i | inr i ↦ of_ends w.0 false slots a i ] in
-    let kept : not (w.0 == s.number) ≡ true = of_filter (λ x. not (x == s.number)) (range_with_len 0 (length s.repos)) w.0 w.1 in
+    let kept : not (w.0 == s.number) ≡ true = (Member-filter_parts (λ x. not (x == s.number)) (range_with_len 0 (length s.repos)) w.0 w.1).1 in
     let at : w.0 ≡ s.number = sym peer ∙ same in
-    let yes' : (w.0 == s.number) ≡ true = eqb_eq w.0 s.number at in
+    let yes' : (w.0 == s.number) ≡ true = eq-eqb w.0 s.number at in
     absurd (let no' : not true ≡ true = rw yes' at kept in cc)
-  where
-    eqb_eq : (x y : ℕ) → x ≡ y → (x == y) ≡ true
-    eqb_eq x y e = grind (arith, nat_tests)
 
 close_to : (s : SetUp) (past : List Entry) (a : EndName) (g : FrameView) → Member g (close_at s (state_of s past) a) → g.peer ≡ a.peer
 close_to s past a g m = go (end_at past s.number a).opened m

@@ -20,7 +20,7 @@ use Rattle.node_model.specs.SessionStep.{Here, Reply, bar_on, by_of, check_answe
 use Rattle.race_core.proofs.TurnFits.{tells_of}
 use Rattle.race_core.proofs.Cases.{unless_found}
 use Rattle.race_core.proofs.Counting.{Closes, Counts, GetCounts, Pieces, bytes_counts, calm, get_counts, message_counts}
-use Rattle.race_core.proofs.SaidDown.{Alike, alike, odd_alike, said_bytes, said_closing, said_line-is, tells}
+use Rattle.race_core.proofs.SaidDown.{Alike, alike, bytes_end, closing_ends, odd_alike, said_bytes, said_closing, said_line-is, tells}
 
 -- ---- the bodies that a server says
 
@@ -117,12 +117,6 @@ alike_success Failure h = absurd h
 alike_success (Error t) h = absurd h
 alike_success m h = absurd h
 
-closing_no : (b : FrameText) → b ≡ Closing → message_in b ≡ Says Success → ⊥
-closing_no b i e = let no' : message_in Closing ≡ Says Success = sym (ap message_in i) ∙ e in let no'' = sym said_closing ∙ no' in cc
-
-bytes_no : (b : FrameText) (n : ℕ) → b ≡ Bytes n → message_in b ≡ Says Success → ⊥
-bytes_no b n i e = let no' : message_in (Bytes n) ≡ Says Success = sym (ap message_in i) ∙ e in let no'' = sym (said_bytes n) ∙ no' in cc
-
 odd_no : (b : FrameText) → b ≡ Line (text_of (Error (codes "unexpected"))) → message_in b ≡ Says Success → ⊥
 odd_no b i e = odd_alike Success (read_of (text_of (Error (codes "unexpected"))) Success (sym (ap message_in i) ∙ e))
 
@@ -130,12 +124,12 @@ line_success : (b : FrameText) (m : Message) → tells m ≡ true → b ≡ Line
 line_success b m t i e = alike_success m (alike m t Success (read_of (text_of m) Success (sym (ap message_in i) ∙ e)))
 
 closes_no : (says : List FrameText) (b : FrameText) → Closes says → Member b says → message_in b ≡ Says Success → ⊥
-closes_no says b (inl x) m e = elim (subst (Member b) x m) [ inl i ↦ closing_no b i e | inr i ↦ i ]
+closes_no says b (inl x) m e = elim (subst (Member b) x m) [ inl i ↦ closing_ends b Success i e | inr i ↦ i ]
 closes_no says b (inr x) m e = go (subst (Member b) x m)
   where
     go : Member b (Line (text_of (Error (codes "unexpected"))) ∷ Closing ∷ []) → ⊥
     go (inl i) = odd_no b i e
-    go (inr (inl i)) = closing_no b i e
+    go (inr (inl i)) = closing_ends b Success i e
     go (inr (inr i)) = i
 
 -- it is said alone, and to a request, by a session that gives nothing
@@ -158,7 +152,7 @@ get_no was says b (inr x) m e = elim (subst (Member b) x.1 m) [ inl i ↦ (let s
 
 pub pieces_no : (was : Doing) (says : List FrameText) (b : FrameText) → Pieces was says → Member b says → message_in b ≡ Says Success → ⊥
 pieces_no was says b (inl x) m e = closes_no says b (inl x) m e
-pieces_no was says b (inr (inl x)) m e = elim (subst (Member b) x.1 m) [ inl i ↦ bytes_no b x.0 i e | inr i ↦ i ]
+pieces_no was says b (inr (inl x)) m e = elim (subst (Member b) x.1 m) [ inl i ↦ bytes_end b x.0 Success i e | inr i ↦ i ]
 pieces_no was says b (inr (inr x)) m e = elim (subst (Member b) x.1 m) [ inl i ↦ word x.2 i | inr i ↦ i ]
   where
     word : (x.0 ≡ Valid) ⊎ (x.0 ≡ Invalid) → b ≡ Line (text_of x.0) → ⊥

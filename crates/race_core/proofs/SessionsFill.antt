@@ -11,7 +11,8 @@ use Rattle.node_model.specs.Sessions.{is_filling}
 use Rattle.run_model.specs.Run.{OwnPast}
 use Rattle.race_core.proofs.Filling.{puts_stand}
 use Rattle.race_core.proofs.AnswerCauses.{SessionsFill}
-use Rattle.race_core.proofs.SessionOwn.{taken_up, way_at}
+use Rattle.race_core.proofs.SessionOwn.{way_at}
+use Rattle.race_core.proofs.AnswerFacts.{end_takes_from}
 
 -- **SessionsFill**, by own parts alone
 pub sessions_fill : (s : SetUp) (past : List Entry) → OwnPast s past → SessionsFill s past
@@ -25,7 +26,7 @@ sessions_fill s past h key p q fills =
       own = g.own;
       f = g.f;
       takes_it = g.takes_it;
-      from_client = (taken_up p q g.f g.of_end).2;
+      from_client = (end_takes_from p q g.f g.of_end).2;
       file = g.file;
       asked = g.asked;
       answered = g.answered;

@@ -46,7 +46,7 @@ use Rattle.race_core.proofs.Speaks
 use Rattle.race_core.proofs.Refusals.{stepped_own}
 use Rattle.race_core.proofs.ClosedCauses.{closed_grows}
 use Rattle.race_core.proofs.ClientTurns.{closed_alone, made_entry, moved, rows_of, talker, talker_slot}
-use Rattle.race_core.proofs.HeardCauses.{SentClose, TookClose, client_sent, client_taken, runs_in, shut_by}
+use Rattle.race_core.proofs.HeardCauses.{SentClose, TookClose, client_sent, client_taken, no_close, runs_in, shut_by}
 use Rattle.race_core.proofs.SessionOwn.{in_says, member_frames, speaks}
 use Rattle.race_core.proofs.FromStep.{Part, own_past, part_of}
 use Rattle.race_core.proofs.ConversationClient
@@ -60,10 +60,6 @@ pub took_closes : (past : List Entry) (e : Entry) (r j p slot : ℕ) → is_job 
 took_closes past e r j p slot its t =
     let at = client_taken p slot t.f t.of_end in
     inl (record { entry = e; before = past; occurs = inl (refl, refl); own = its; f = t.f; takes_it = t.took; peer_is = at.0; down = at.2; says = ap message_in t.body_is ∙ said_closing })
-
-no_close : (a : EndName) (e : Entry) → e.taken ≡ None → e.sent ≡ [] → TookClose a e ⊎ SentClose a e → ⊥
-no_close a e none nothing (inl t) = let bad : None ≡ Some t.f = sym none ∙ t.took in cc
-no_close a e none nothing (inr t) = subst (Member t.g) nothing t.sent
 
 -- an entry that comes at any point closes it as a Close of it
 come_closed : (s : SetUp) (past : List Entry) (e : Entry) → is_of s.number e ≡ true → (w : Work) → Member w (works past s.number) → (p : ℕ) → e.taken ≡ None
@@ -85,9 +81,6 @@ come_closed s past e is w m p none (inr t) (Close q slot client) kind alive may 
   slot_is = subst (λ n. in_slot (jobs past s.number) w.number n ≡ true) (sym at.1 ∙ place.2) (runs_in past s.number w m);
 })
   where
-    a : EndName
-    a = record { peer = q; slot = slot; client = client }
-
     at : (t.g.peer ≡ p) × (t.g.slot ≡ w.slot) × (t.g.up ≡ true)
     at = client_sent p w.slot t.g t.of_end
 
@@ -206,9 +199,6 @@ module _ (reads_back : SentAreRead) (run : Run) (repos : Each IsSetUp run.repos)
   steps_told : (x : Work) (p : ℕ) → Steps s past e x → partner x.what.peer x.phase ≡ Some p → (end_at (e ∷ past) r (job_end x p)).opened ≡ false → ClosedWith (e ∷ past) r x.number p
   steps_told x p b on closed = subst (λ n. ClosedWith (e ∷ past) r n p) (sym number) (go (end_at past r (job_end v p)).opened refl)
     where
-      t : Turn
-      t = turn_at s past e b.by
-
       v : Work
       v = b.by.w
 

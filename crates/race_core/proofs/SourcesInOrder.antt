@@ -7,17 +7,15 @@ use Rattle.run_model.specs.Past.{is_of}
 use Rattle.node_model.specs.SetUp.{SetUp}
 use Rattle.node_model.specs.Jobs.{Drops, Gets, Part, Phase, Puts, Work, partner, work_kind}
 use Rattle.run_model.specs.States.{rows_at, works}
-use Rattle.node_model.specs.JobStep.{Turn}
 use Rattle.run_model.specs.Run.{OwnPast, OwnRun}
 use Rattle.run_model.specs.Causes.{sources_of}
-use Rattle.race_core.proofs.ClosedFound.{SourcesInOrder}
+use Rattle.race_core.proofs.ClosedFound.{SourcesInOrder, sources_same}
 use Rattle.race_core.proofs.PhaseFacts.{Good, GoodTo}
 use Rattle.race_core.proofs.JobKept.{kind_kept}
 use Rattle.race_core.proofs.JobSteps.{Origin, Steps, invariant, turn_at}
 use Rattle.race_core.proofs.WorkFits.{step_runs, works_fit, steps_good}
 use Rattle.run_data.specs.declared.job.SourceFailure.{SourceFailure}
 use Rattle.node_model.specs.Slots.{RunningJob}
-use Rattle.node_model.specs.TransferStep.{sources}
 use Rattle.race_core.proofs.TalkFacts.{Fits}
 use Rattle.race_core.proofs.JobMoves.{Moves, kind_moves}
 use Rattle.race_core.proofs.TransfersSpeak.{Place, Transfers, transfers_tell}
@@ -51,10 +49,6 @@ pub record InOrder (s : SetUp) (target : Option ℕ) (part : Part) (phase : Phas
 
 abbrev InOrderOf : SetUp → Work → Type 0
 InOrderOf s w = InOrder s w.what.peer w.part w.phase w.causes
-
-sources_same : (t : Turn) (o : Option ℕ) → sources t o ≡ sources_of t.read.repo t.read.count o
-sources_same t None = refl
-sources_same t (Some peer) = refl
 
 gets_was : (part : Part) (old phase : Phase) → GoodTo part old Gets phase → (part ≡ Gets) × Fits Gets phase
 gets_was Gets old phase g = (refl, g.0)

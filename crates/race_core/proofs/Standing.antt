@@ -1,6 +1,5 @@
 -- **Where a job stands refused, the entries tell why**: by induction over its repository's own part of a run.
-use Rattle.std.proofs.Common.{◌≡◌, ◌≢◌, ℕ, Bool, true, false, List, [], ◌∷◌, Option, Some, None, ◌⊎◌, inl, inr, refl, sym, ap, ◌∙◌, subst, arith}
-use Rattle.std.proofs.lemmas.Bool.Decides.{nat_tests}
+use Rattle.std.proofs.Common.{◌≡◌, ◌≢◌, ℕ, Bool, true, false, List, [], ◌∷◌, Option, Some, ◌⊎◌, inl, inr, refl, sym, ap, ◌∙◌, subst}
 use Rattle.std.specs.Prelude.{◌&&◌, nat_lt, codes}
 use Rattle.annex_base.specs.Lists.{Member}
 use Rattle.annex_base.specs.declared.kinds.Call.TheVariants.{Unhold}
@@ -21,7 +20,6 @@ use Rattle.run_data.specs.declared.job.TransferRefusal.{TransferRefusal}
 use Rattle.run_data.specs.declared.job.TransferRefusal.TheVariants as failures
 use Rattle.node_model.specs.Slots.{RunningJob}
 use Rattle.run_model.specs.Past.{is_of}
-use Rattle.node_model.specs.Rows.{option_is}
 use Rattle.p2p_wire.specs.declared.message.Message.{Message}
 use Rattle.p2p_wire.specs.declared.message.Message.TheVariants.{Error, Failure, Put, Valid, Version}
 use Rattle.p2p_wire.specs.Messages.{order_of}
@@ -40,9 +38,8 @@ use Rattle.node_model.specs.Found.{IsJobEntry}
 use Rattle.node_model.specs.Turns.{by_partner, takes_frame}
 use Rattle.run_model.specs.Run.{OwnPast, OwnRun}
 use Rattle.race_core.proofs.JobSteps.{Origin, Steps, invariant, turn_at}
-use Rattle.race_core.proofs.JobKept.{kind_kept}
 use Rattle.race_core.proofs.PhaseFacts.{is_fresh, only_answer, only_offer, only_orders}
-use Rattle.race_core.proofs.WorkFits.{step_kind, step_runs, works_fit}
+use Rattle.race_core.proofs.WorkFits.{step_kind, step_running, step_runs, works_fit}
 use Rattle.race_core.proofs.TalkFacts.{Fits}
 use Rattle.race_core.proofs.Aims.{aims}
 use Rattle.race_core.proofs.CopiesInPlace.{copies_in_place}
@@ -56,6 +53,7 @@ use Rattle.race_core.proofs.Carried.{Learns, kind_carries}
 use Rattle.race_core.proofs.Refusals.{DropStands, OutcomeStands, Stands, TransferStands, answers_now, hears_now, hears_grows, side_in, side_is, stands_grows, target_in, target_is}
 use Rattle.race_core.proofs.AtTargets.{at_targets}
 use Rattle.race_core.proofs.BySteps.{earlier}
+use Rattle.race_core.proofs.Plain.{option_same}
 
 -- ---- the version that its peer answered
 
@@ -65,13 +63,6 @@ VersionTold s past j version = nat_lt version 3 ≡ true → (peer : ℕ) × (j.
 
 told_grows : (s : SetUp) (past : List Entry) (e : Entry) (j : RunningJob) (version : ℕ) → VersionTold s past j version → VersionTold s (e ∷ past) j version
 told_grows s past e j version x old = let y = x old in (y.0, y.1, hears_grows s.number e past j y.0 (Says (Version version)) y.2)
-
-option_same : (o : Option ℕ) (p : ℕ) → option_is o p ≡ true → o ≡ Some p
-option_same None p e = absurd (cc)
-option_same (Some q) p e = grind (arith, nat_tests)
-
-same_job : (s : SetUp) (past : List Entry) (e : Entry) (w : Work) (b : Steps s past e w) → running_job w ≡ running_job b.by.w
-same_job s past e w b = ap running_job b.work_is ∙ kind_kept (rows_at past s.number) s.number b.by.w e e.kind
 
 pub versions_told : SentAreRead → (s : SetUp) (past : List Entry) → OwnRun s past → (w : Work) → Member w (works past s.number) → VersionTold s past (running_job w) w.version
 versions_told reads_back s past run w m = invariant s (λ p x. VersionTold s p (running_job x) x.version) (λ p e is x n was. told_grows s p e (running_job x) x.version was) own past run w m
@@ -84,7 +75,7 @@ versions_told reads_back s past run w m = invariant s (λ p x. VersionTold s p (
         let v = b.by.w in
         let y = work_kind (rows_at p s.number) s.number v e e.kind in
         let told : VersionTold s (e ∷ p) (running_job v) y.version = by_version (kind_carries (rows_at p s.number) s.number v e e.kind).0 in
-        subst (λ (j : RunningJob). VersionTold s (e ∷ p) j x.version) (sym (same_job s p e x b)) (subst (λ (z : Work). VersionTold s (e ∷ p) (running_job v) z.version) (sym b.work_is) told)
+        subst (λ (j : RunningJob). VersionTold s (e ∷ p) j x.version) (sym (step_running s p e x b)) (subst (λ (z : Work). VersionTold s (e ∷ p) (running_job v) z.version) (sym b.work_is) told)
       where
         by_version : {n : ℕ} → (n ≡ b.by.w.version) ⊎ Learns b.by.w e n → VersionTold s (e ∷ p) (running_job b.by.w) n
         by_version (inl same) = subst (VersionTold s (e ∷ p) (running_job b.by.w)) (sym same) (told_grows s p e (running_job b.by.w) b.by.w.version (was b.by.w (step_runs s p e x b)))
@@ -289,4 +280,4 @@ stands reads_back s past h w m = invariant s (λ p x. OwnPast s p → Stands s.n
           | inl same ↦ subst (Stands s.number (e ∷ p) (running_job v)) (sym same) (stands_grows s.number e p (running_job v) v.phase old)
           | inr reason ↦ stands_now reads_back s p e h is x b old y.phase reason
         ] in
-        subst (λ (j : RunningJob). Stands s.number (e ∷ p) j x.phase) (sym (same_job s p e x b)) (subst (λ (z : Work). Stands s.number (e ∷ p) (running_job v) z.phase) (sym b.work_is) new)
+        subst (λ (j : RunningJob). Stands s.number (e ∷ p) j x.phase) (sym (step_running s p e x b)) (subst (λ (z : Work). Stands s.number (e ∷ p) (running_job v) z.phase) (sym b.work_is) new)

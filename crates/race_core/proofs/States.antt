@@ -155,9 +155,6 @@ module _ (log_laws : LogLaws) (reads_back : SentAreRead) (s : SetUp) (past : Lis
           (still_unread past e r w.number (λ own. b.still) (fresh_unread s past before.run w b.ran part fresh))
   by_origin w (inr (inr b)) part = go b.by.w.part refl
     where
-      v : Work
-      v = b.by.w
-
       runs : Member b.by.w (works past s.number)
       runs = step_runs s past e w b
 

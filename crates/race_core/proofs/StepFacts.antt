@@ -1,15 +1,13 @@
 -- What a step found: one law over all kinds of entries, and what it says of each kind.
-use Rattle.std.proofs.Common.{◌≡◌, ℕ, Bool, List, [], ◌∷◌, Option, Some, None, ◌⊎◌, inl, inr, refl, sym, ap, ◌∙◌, subst}
+use Rattle.std.proofs.Common.{◌≡◌, ℕ, List, [], ◌∷◌, Option, Some, None, ◌⊎◌, inl, inr, refl, sym, ap, ◌∙◌, subst}
 use Rattle.annex_base.specs.declared.kinds.Call.{Call}
 use Rattle.annex_base.specs.declared.kinds.Call.TheVariants.{PutFile}
 use Rattle.annex_base.specs.declared.kinds.Found.{Found}
 use Rattle.drop_proof.specs.declared.rule.Need.{Need}
 use Rattle.run_data.specs.declared.entry.EntryKind.{EntryKind}
-use Rattle.run_data.specs.declared.entry.EntryKind.TheVariants.{Gain, Share, Release, Check, Bar, Order, Gone, Log, Talk, Close, Fault, End as ends_job}
+use Rattle.run_data.specs.declared.entry.EntryKind.TheVariants.{Share, Release, Check, Bar, Gone, Log, Fault}
 use Rattle.run_data.specs.declared.entry.By.TheVariants.{Script, Job as by_job, Peer}
-use Rattle.run_data.specs.declared.entry.LogFile.{LogFile}
 use Rattle.run_data.specs.declared.entry.LogFile.TheVariants.{Location}
-use Rattle.run_data.specs.declared.job.Outcome.{Outcome}
 use Rattle.node_model.specs.SetUp.{SetUp}
 use Rattle.node_model.specs.Ends.{server_end}
 use Rattle.node_model.specs.Owed.{Owed, due}
@@ -148,40 +146,3 @@ module _ (s : SetUp) (st : State) (k : Look) (m : Made) (e : step s st k ≡ Som
     | inl x ↦ (let no_peer : Script ≡ Peer x.by.peer x.by.slot = x.found.by_is in cc)
     | inr x ↦ (let no_job : Script ≡ by_job x.by.w.number = x.found.by_is in cc)
   ]
-
-  pub order_found : (j target : ℕ) (deadline : Option ℕ) (need : Need) (key : List ℕ) → m.kind ≡ Order j target deadline need key
-      → JobMade s st k m (Order j target deadline need key)
-  order_found j target deadline need key is = elim (kind_found s st k m (Order j target deadline need key) e is (λ x. x)) [ inl x ↦ absurd x.found | inr x ↦ x ]
-
-  pub end_found : (j : ℕ) (outcome : Outcome) → m.kind ≡ ends_job j outcome → JobMade s st k m (ends_job j outcome)
-  end_found j outcome is = elim (kind_found s st k m (ends_job j outcome) e is (λ x. x)) [ inl x ↦ absurd x.found | inr x ↦ x ]
-
-  pub gained_found : (p c size : ℕ) (key : List ℕ) → m.kind ≡ Gain (Peer p c) size key → SessionMade s st k m (Gain (Peer p c) size key)
-  gained_found p c size key is = elim (kind_found s st k m (Gain (Peer p c) size key) e is (λ x. x)) [
-    | inl x ↦ x
-    | inr x ↦ absurd (let no_job : Peer p c ≡ by_job x.by.w.number = x.found.by_is in cc)
-  ]
-
-  pub gains_found : (j size : ℕ) (key : List ℕ) → m.kind ≡ Gain (by_job j) size key → JobMade s st k m (Gain (by_job j) size key)
-  gains_found j size key is = elim (kind_found s st k m (Gain (by_job j) size key) e is (λ x. x)) [
-    | inl x ↦ absurd (let no_peer : by_job j ≡ Peer x.by.peer x.by.slot = x.found.by_is in cc)
-    | inr x ↦ x
-  ]
-
-  -- a talk of a session, and of a job
-  pub session_talk_found : m.kind ≡ Talk None → SessionMade s st k m (Talk None)
-  session_talk_found is = elim (kind_found s st k m (Talk None) e is (λ x. x)) [ inl x ↦ x | inr x ↦ absurd x.found ]
-
-  pub job_talk_found : (j : ℕ) → m.kind ≡ Talk (Some j) → JobMade s st k m (Talk (Some j))
-  job_talk_found j is = elim (kind_found s st k m (Talk (Some j)) e is (λ x. x)) [ inl x ↦ absurd x.found | inr x ↦ x ]
-
-  pub close_found : (p c : ℕ) (client : Bool) → m.kind ≡ Close p c client → SessionMade s st k m (Close p c client)
-  close_found p c client is = elim (kind_found s st k m (Close p c client) e is (λ x. x)) [ inl x ↦ x | inr x ↦ absurd x.found ]
-
-  -- a line is written by a step only where it is owed first
-  pub log_found : (file : LogFile) → m.kind ≡ Log file → ByOwed s st k m
-  log_found file is = elim (step_found s st k m e) [ inl o ↦ o | inr r ↦ absurd (none r) ]
-    where
-      none : BySession s st k m ⊎ ByJob s st k m → ⊥
-      none (inl x) = subst (IsSessionEntry (here s st k (server_end x.peer x.slot)) (st.sessions (server_end x.peer x.slot)).doing x.asked x.says) is x.found
-      none (inr x) = subst (IsJobEntry (turn_of s st k x.w) m) is x.found

@@ -19,7 +19,6 @@ use Rattle.run_data.specs.declared.job.Outcome.TheVariants.{Refused}
 use Rattle.run_data.specs.declared.job.DropRefusal.TheVariants as refusals
 use Rattle.node_model.specs.Clocks.{ClockSet, runs_on}
 use Rattle.run_model.specs.Past.{Occurs, clock, clock_set, is_of}
-use Rattle.node_model.specs.Slots.{RunningJob}
 use Rattle.run_data.specs.Repos.{id_of}
 use Rattle.run_model.specs.Logs.{read_at, settings_of}
 use Rattle.node_model.specs.Evidence.{candidates, gather, reached_candidates, standing_by}
@@ -34,11 +33,10 @@ use Rattle.node_model.specs.JobStep.{Turn}
 use Rattle.node_model.specs.Found.{IsJobEntry}
 use Rattle.run_model.specs.Run.{OwnPast, OwnRun}
 use Rattle.race_core.proofs.JobSteps.{Origin, Steps, invariant, turn_at}
-use Rattle.race_core.proofs.JobKept.{kind_kept}
 use Rattle.race_core.proofs.ClockKept.{clock_kept, clock_other, stepped_stands}
 use Rattle.race_core.proofs.PhaseFacts.{is_fresh, only_time}
 use Rattle.race_core.proofs.TalkFacts.{Fits}
-use Rattle.race_core.proofs.WorkFits.{step_kind, step_number, step_runs, steps_good, works_fit}
+use Rattle.race_core.proofs.WorkFits.{drops_stay, step_kind, step_number, step_runs, step_what, steps_good, works_fit}
 use Rattle.race_core.proofs.Aims.{aims, other_target}
 use Rattle.race_core.proofs.Targets.{at_target, next_but}
 use Rattle.race_core.proofs.PhasesFit.{target_peer}
@@ -50,7 +48,6 @@ use Rattle.race_core.proofs.Standing.{old_at, old_on, stands}
 use Rattle.race_core.proofs.AtTargets.{at_targets, enough_same}
 use Rattle.race_core.proofs.DropReads.{stays_read, step_read, told_of}
 use Rattle.race_core.proofs.BySteps.{earlier}
-use Rattle.race_core.proofs.OrdersAnswered.{drops_stay}
 
 -- ---- what was read and heard decides what a job knows
 
@@ -153,9 +150,6 @@ module _ (reads_back : SentAreRead) (s : SetUp) (p : List Entry) (e : Entry) (h 
     abbrev t : Turn
     t = turn_at s p e b.by
 
-    same_job : running_job x ≡ running_job v
-    same_job = ap running_job b.work_is ∙ kind_kept (rows_at p s.number) s.number v e e.kind
-
     list : ListOrNext v x
     list = subst (ListOrNext v) (sym b.work_is) (kind_carries (rows_at p s.number) s.number v e e.kind).3
 
@@ -169,7 +163,7 @@ module _ (reads_back : SentAreRead) (s : SetUp) (p : List Entry) (e : Entry) (h 
       set = set_same;
       read = ap (λ n. settings_of (read_at (e ∷ p) s.number n) s.number) (step_number s p e x b)
           ∙ ap (λ q. settings_of q s.number) (step_read p e s.number v.number is b.step ((at_targets reads_back s p before v runs).0 part)).1;
-      what = ap (λ (j : RunningJob). j.what) same_job;
+      what = step_what s p e x b;
       heard = heard;
     }
 

@@ -2,17 +2,15 @@
 use Rattle.race_core.proofs.WorkFits.{drop_is, drop_jobs, head_of}
 use Rattle.race_core.proofs.PhaseFacts.{only_word, readies_place}
 use Rattle.race_core.proofs.ReadAs.{SameHead}
-use Rattle.node_model.specs.Sessions.{line_in}
 use Rattle.node_model.specs.Found.{IsJobEntry}
 use Rattle.node_model.specs.Look.{Made}
 use Rattle.node_model.specs.Ends.{end_after}
-use Rattle.node_model.specs.Rows.{option_is}
 use Rattle.run_data.specs.declared.job.Outcome.{Outcome}
 use Rattle.run_data.specs.declared.entry.EntryKind.TheVariants.{Gain, Share, Bar, Gone, Order, Talk, Fault, End as ends_job}
 use Rattle.run_data.specs.declared.entry.Entry.{Entry}
 use Rattle.run_data.specs.declared.entry.EntryKind.{EntryKind}
 use Rattle.std.proofs.Common.{◌≡◌, ◌≢◌, ℕ, Bool, true, false, Option, Some, None, ◌⊎◌, inl, inr, refl, sym, ◌∙◌, subst, arith, ap, List, []}
-use Rattle.std.specs.Prelude.{◌==◌, find, filter, not, if◌then◌else◌}
+use Rattle.std.specs.Prelude.{◌==◌, find, filter, not}
 use Rattle.std.specs.List.{range_with_len}
 use Rattle.std.proofs.lemmas.Bool.Decides.{nat_tests}
 use Rattle.std.proofs.lemmas.Bool.{eqb-true}
@@ -39,6 +37,7 @@ use Rattle.node_model.specs.Knows.{enough_by, next_by, Reading, asks_by}
 use Rattle.node_model.specs.JobStep.{Turn, me}
 use Rattle.node_model.specs.DropStep.{target}
 use Rattle.race_core.proofs.TalkFacts.{Chosen, Fits, DropAsks, OrderStands, PartSays, SaysOne, TalkKind}
+use Rattle.race_core.proofs.HeardLists.{claims_heard, learns_heard}
 
 -- the job stands on the connection with its target, or waits for what it asked there
 abbrev pub at_target : ℕ → Phase → Bool
@@ -229,19 +228,7 @@ module _ (t : Turn) (side : side_of t.w ≡ Remote) (apart : target t ≢ me t) 
 
 -- what it learns and claims changes nothing that it heard
 pub readies_heard : (w : Work) (taken : Option FrameView) → (learns (claims w w.part w.phase) w.phase taken).heard ≡ w.heard
-readies_heard w taken = go_learns (claims w w.part w.phase) w.phase taken ∙ go_claims w w.part w.phase
-  where
-    go_claims : (v : Work) (part : Part) (phase : Phase) → (claims v part phase).heard ≡ v.heard
-    go_claims v Gets Fresh = refl
-    go_claims v part phase = refl
-
-    go_learns : (v : Work) (phase : Phase) (taken : Option FrameView) → (learns v phase taken).heard ≡ v.heard
-    go_learns v (Greets peer) (Some f) = go (option_is v.what.peer peer)
-      where
-        go : (b : Bool) → (if b then record v { version = Jobs.version_said v.version (line_in f.body) } else v).heard ≡ v.heard
-        go true = refl
-        go false = refl
-    go_learns v phase taken = refl
+readies_heard w taken = learns_heard (claims w w.part w.phase) w.phase taken ∙ claims_heard w w.part w.phase
 
 readied_comes : (n : ℕ) (P : Type 0) (w x y : Work) → x.phase ≡ w.phase → x.heard ≡ w.heard → Comes n P x y → Comes n P w y
 readied_comes n P w x y phase heard c at = let z = c at in (z.0 ∙ heard, subst (λ p. (at_target n p ≡ true) ⊎ P) phase z.1)

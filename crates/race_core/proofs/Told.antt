@@ -1,7 +1,7 @@
 -- What a job hears is what it was told: by what each repository does by itself, and because what is taken is a prefix of what
 -- is sent.
-use Rattle.std.proofs.Common.{◌≡◌, ℕ, Bool, true, false, not, cond, ◌&&◌, List, [], ◌∷◌, length, Option, Some, None, ◌⊎◌, inl, inr, refl, sym, ap, ◌∙◌, subst}
-use Rattle.std.specs.Prelude.{filter, map, slice_get, option_map, if◌then◌else◌, ◌==◌, ◌≢◌}
+use Rattle.std.proofs.Common.{◌≡◌, ℕ, Bool, true, false, not, ◌&&◌, List, [], ◌∷◌, length, Option, Some, None, ◌⊎◌, inl, inr, refl, sym, ap, ◌∙◌, subst}
+use Rattle.std.specs.Prelude.{map, slice_get, option_map, if◌then◌else◌, ◌==◌, ◌≢◌}
 use Rattle.std.proofs.lemmas.Bool.{true≢false, and_parts, and_from, eqb-true, or_left, or_right}
 use Rattle.annex_base.specs.Lists.{Member}
 use Rattle.annex_base.specs.declared.kinds.Found.{Found}
@@ -30,18 +30,9 @@ use Rattle.std.specs.List.{list_any}
 use Rattle.std.proofs.lemmas.Option.{same_Some}
 use Rattle.race_core.proofs.Flights.{Sending, occurs_always, occurs_earlier, sending, sent_from}
 use Rattle.race_core.proofs.Turns.{OneEach, Prefix, right_turn}
+use Rattle.race_core.proofs.Plain.{option_same, same_both, same_self}
 
 -- ---- ways
-
-same_true : (a b : Bool) → same_bool a b ≡ true → a ≡ b
-same_true true true h = refl
-same_true true false h = cc
-same_true false true h = cc
-same_true false false h = refl
-
-same_refl : (a : Bool) → same_bool a a ≡ true
-same_refl true = refl
-same_refl false = refl
 
 pub sender_way : (r : ℕ) (f : FrameView) → sender_of (way_of r f) ≡ f.peer
 sender_way r f = go f.up
@@ -69,11 +60,11 @@ on_parts w peer g h =
     let a = and_parts (g.peer == peer) _ h in
     let b = and_parts (g.slot == w.slot) _ a.1 in
     let c = and_parts (same_bool g.up w.up) _ b.1 in
-    record { peer_is = eqb-true g.peer peer a.0; slot_is = eqb-true g.slot w.slot b.0; up_is = same_true g.up w.up c.0; epoch_is = eqb-true g.epoch w.epoch c.1 }
+    record { peer_is = eqb-true g.peer peer a.0; slot_is = eqb-true g.slot w.slot b.0; up_is = same_both g.up w.up c.0; epoch_is = eqb-true g.epoch w.epoch c.1 }
 
 pub on_own : (r : ℕ) (f : FrameView) → is_on (way_of r f) (sender_of (way_of r f)) f ≡ true
 on_own r f = and_from (f.peer == sender_of (way_of r f)) _ (subst (λ p. (f.peer == p) ≡ true) (sym (sender_way r f)) (eqb_refl f.peer))
-    (and_from (f.slot == f.slot) _ (eqb_refl f.slot) (and_from (same_bool f.up f.up) _ (same_refl f.up) (eqb_refl f.epoch)))
+    (and_from (f.slot == f.slot) _ (eqb_refl f.slot) (and_from (same_bool f.up f.up) _ (same_self f.up) (eqb_refl f.epoch)))
 
 -- the way of a frame that is taken from it
 pub way_taken : (w : Way) (f : FrameView) → is_on w (sender_of w) f ≡ true → way_of (taker_of w) f ≡ w
@@ -99,17 +90,8 @@ way_sent w g h = let p = on_parts w (taker_of w) g h in go w.client w.server w.s
     go client server slot epoch true false peer s e p q u v = cc
     go client server slot epoch false true peer s e p q u v = cc
 
-filter_true : {X : Type 0} (p : X → Bool) (y : X) (xs : List X) → Member y (filter p xs) → p y ≡ true
-filter_true p y [] m = absurd m
-filter_true p y (x ∷ xs) m = go (filter_true p y xs) (p x) refl m
-  where
-    go : (Member y (filter p xs) → p y ≡ true) → (b : Bool) → p x ≡ b → Member y (cond b (x ∷ filter p xs) (filter p xs)) → p y ≡ true
-    go ih true e (inl same) = subst (λ z. p z ≡ true) (sym same) e
-    go ih true e (inr k) = ih k
-    go ih false e k = ih k
-
 pub sends_on : (w : Way) (e : Entry) (g : FrameView) → Member g (on_way w e) → is_on w (taker_of w) g ≡ true
-sends_on w e g m = filter_true (is_on w (taker_of w)) g e.sent m
+sends_on w e g m = (Member-filter_parts (is_on w (taker_of w)) e.sent g m).1
 
 pub sends_member : (w : Way) (e : Entry) (g : FrameView) → Member g (on_way w e) → Member g e.sent
 sends_member w e g m = (Member-filter_parts (is_on w (taker_of w)) e.sent g m).0
@@ -253,10 +235,6 @@ pub record Granted (past : List Entry) (a j r : ℕ) (f : FrameView) (it : Flyin
   pub locked : (key : List ℕ) → message_in g.body ≡ Says (LockContent key) → (hold end : ℕ) × (it.entry.kind ≡ Share hold end (Peer g.peer g.slot) key)
   pub looked : (key : List ℕ) → message_in g.body ≡ Says (CheckPresent key) → it.entry.kind ≡ Check Present key
 
-pub some_option : (o : Option ℕ) (r : ℕ) → option_is o r ≡ true → o ≡ Some r
-some_option None r h = cc
-some_option (Some m) r h = ap (λ x. Some x) (eqb-true m r h)
-
 pub up_at : (w : Way) (x : Entry) (g : FrameView) (b : Bool) → Member g (on_way w x) → w.up ≡ b → g.up ≡ b
 up_at w x g b m h = (on_parts w (taker_of w) g (sends_on w x g m)).up_is ∙ h
 
@@ -313,7 +291,7 @@ granted repos past e a j r f k t up success =
       body_is = asked.body_is;
       taken_is = turn.takes_it;
       by = sender_at before r x.taken turn.f asked.it turn.takes_it next;
-      repo_is = some_option asked.it.entry.repo a is_a;
+      repo_is = option_same asked.it.entry.repo a is_a;
       job_is = some_same (job_of asked.it.entry.kind) job.0 j job.1 same;
       occurs = o;
       locked = turn.locked;
@@ -334,9 +312,6 @@ test_down p true hs h k = cc
 pub told_frame : (repos : List RepoView) (past : List Entry) (e : Entry) (a j r : ℕ) (f : FrameView) (k : Takes repos past e a j r f) → map heard_of (vouches_sent r a j (sender past a (Some f))) ≡ heard_frame past a r (Some f)
 told_frame repos past e a j r f k = whole
   where
-    w : Way
-    w = way_of a f
-
     t : MayTake past (way_of a f) f
     t = k.now'.frames a f k.is k.takes_it
 
@@ -425,7 +400,7 @@ other_asks repos past e a j own = go (sender past a e.taken) refl
     go (Some s) h =
         let t = sent_from past a e.taken s h in
         let is : is_of t.f.peer t.it.entry ≡ true = subst (λ q. is_of q t.it.entry ≡ true) (sender_way a t.f) t.sending.repo_is in
-        let repo : s.entry.repo ≡ Some t.f.peer = ap (λ (x : SendingEntry). x.entry.repo) t.s_is ∙ some_option t.it.entry.repo t.f.peer is in
+        let repo : s.entry.repo ≡ Some t.f.peer = ap (λ (x : SendingEntry). x.entry.repo) t.s_is ∙ option_same t.it.entry.repo t.f.peer is in
         from s.entry.repo (job_of s.entry.kind) s.entry.time t.f.peer repo (own.taken_from t.f t.takes_it)
 
 -- its own share
@@ -471,13 +446,13 @@ tells_heard repos past e r a j run m = go (r == a) refl
             let q = sent_from past a (Some f) s h in
             let one : f ≡ q.f = same_Some f q.f q.takes_it in
             let is_q : is_of f.peer q.it.entry ≡ true = subst (λ x. is_of x q.it.entry ≡ true) (sender_way a q.f ∙ ap (λ (g : FrameView). g.peer) (sym one)) q.sending.repo_is in
-            let repo : s.entry.repo ≡ Some f.peer = ap (λ (x : SendingEntry). x.entry.repo) q.s_is ∙ some_option q.it.entry.repo f.peer is_q in
+            let repo : s.entry.repo ≡ Some f.peer = ap (λ (x : SendingEntry). x.entry.repo) q.s_is ∙ option_same q.it.entry.repo f.peer is_q in
             let no' : is_of r s.entry ≡ false = ap (λ o'. option_is o' r) repo ∙ p in
             rw no' refl
 
         peer : (b : Bool) → (f.peer == r) ≡ b → map heard_of (vouches_sent r a j (sender past a (Some f))) ≡ (if b && not f.up then heard_answer (message_in f.body) (last_request past (up_of (way_of a f))) else [])
         peer false p = ap (map heard_of) (strange p (sender past a (Some f)) refl)
-        peer true p = told_frame repos past e a j r f (record { run = run; now' = m; is = parts.0; job = some_option (job_of e.kind) j parts.1; takes_it = t; other = other; peer_is = eqb-true f.peer r p })
+        peer true p = told_frame repos past e a j r f (record { run = run; now' = m; is = parts.0; job = option_same (job_of e.kind) j parts.1; takes_it = t; other = other; peer_is = eqb-true f.peer r p })
             ∙ rw p refl
 
     taken_part : (b : Bool) → is_job a j e ≡ b → (r == a) ≡ false → map heard_of (if b then vouches_sent r a j (sender past a e.taken) else []) ≡ (if b then heard_frame past a r e.taken else [])

@@ -1,8 +1,8 @@
 -- The causes that a drop was told by its entries have the values that its list has, with the words beside its answers.
 use Rattle.std.proofs.Common.{◌≡◌, ◌≢◌, ℕ, ◌<◌, Bool, true, false, List, [], ◌∷◌, Option, Some, None, ◌⊎◌, inl, inr, refl, sym, ap, ◌∙◌, subst}
-use Rattle.std.specs.Prelude.{if◌then◌else◌, ◌==◌, ◌&&◌, filter, length, not, option_map, slice_get}
+use Rattle.std.specs.Prelude.{if◌then◌else◌, ◌==◌, ◌&&◌, length, not, option_map, slice_get}
 use Rattle.std.specs.List.{list_any}
-use Rattle.std.proofs.lemmas.Bool.{true≢false, and_parts, eqb-true, ne_eqb}
+use Rattle.std.proofs.lemmas.Bool.{true≢false, and_parts, eqb-true, ne_eqb, not-true}
 use Rattle.std.proofs.lemmas.Option.{same_Some}
 use Rattle.annex_base.specs.Lists.{Each, Member}
 use Rattle.annex_base.specs.declared.kinds.Found.TheVariants as found
@@ -44,7 +44,7 @@ use Rattle.race_core.proofs.TalkFacts.{Fits}
 use Rattle.race_core.proofs.JobSteps.{Begins, Origin, Stays, Stepped, Steps, invariant, stepped_job, stepped_runs, turn_at}
 use Rattle.race_core.proofs.WorkNumbers.{same_number_same_work}
 use Rattle.race_core.proofs.WordsTold.{word_now, word_still}
-use Rattle.race_core.proofs.PhaseFacts.{is_fresh}
+use Rattle.race_core.proofs.PhaseFacts.{is_fresh, only_look}
 use Rattle.race_core.proofs.DropLeaves.{fresh_unread}
 use Rattle.race_core.proofs.EvidenceCauses.{CausesTold}
 use Rattle.race_core.proofs.WorkFits.{step_kind, step_runs, step_sent, works_fit}
@@ -80,6 +80,8 @@ use Rattle.race_core.proofs.AnswersFit.{answer_of, failure_fits}
 use Rattle.run_data.specs.declared.run.Run.{Run}
 use Rattle.run_data.specs.Repos.{IsSetUp}
 use Rattle.race_core.proofs.Aims.{aims, other_target}
+use Rattle.race_core.proofs.DropOwn.{target_local}
+use Rattle.annex_base.proofs.Lists.{Member-filter_parts}
 
 -- ---- a cause that is told without a refused look
 
@@ -199,11 +201,6 @@ pub record RefusedLook (s : SetUp) (past : List Entry) (e : Entry) (j c : ℕ) :
   pub phase : by.w.phase ≡ AsksLook p
   pub peer : f.peer ≡ c
 
-only_look : (part : Part) (peer : ℕ) → Fits part (AsksLook peer) → part ≡ Drops
-only_look Jobs.Gets peer f = absurd f
-only_look Jobs.Puts peer f = absurd f
-only_look Drops peer f = refl
-
 phase_or : (phase : Phase) → ((p : ℕ) × (phase ≡ AsksLook p)) ⊎ (refuses_look phase ≡ false)
 phase_or (AsksLook p) = inl (p, refl)
 phase_or phase = inr refl
@@ -225,7 +222,7 @@ module _ (reads_back : SentAreRead) (s : SetUp) (past : List Entry) (words : ℕ
           let asked = option_map said_of (last_request past (up_of (way_of r f))) in
           let whole : cause_with past e c r j from ≡ cause_said (message_in f.body) asked from = rw (other, its, open', took, at) refl in
           let two = and_parts (f.peer == c) (not f.up) at in
-          let down : f.up ≡ false = is_down f.up two.1 in
+          let down : f.up ≡ false = not-true f.up two.1 in
           let x = taker s past words e own f took down in
           elim (said_or (message_in f.body) asked from) [
             | inl y ↦ of_whole (cause_said (message_in f.body) asked from) whole y
@@ -243,10 +240,6 @@ module _ (reads_back : SentAreRead) (s : SetUp) (past : List Entry) (words : ℕ
               | inr n ↦ of_whole None (whole ∙ takes_failure reads_back s past h e f down (taken_of s past e x f took) failure from ∙ ap (λ q. cause_if q from) n) tt
             ]
           ]
-        where
-          is_down : (b : Bool) → not b ≡ true → b ≡ false
-          is_down false e = refl
-          is_down true e = absurd (cc)
 
       go : (b : Bool) → is_job r j e ≡ b → Lean (cause_with past e c r j from) ⊎ RefusedLook s past e j c
       go false its = of_whole None (rw (other, its) refl) tt
@@ -351,14 +344,10 @@ module _ (reads_back : SentAreRead) (s : SetUp) (past : List Entry) (words : ℕ
                   by_peer false at = rw (other, its, shuts_none, took, at) refl
                   by_peer true at =
                       let two = and_parts (f.peer == c) (not f.up) at in
-                      let x = taker s past words e own f took (is_down f.up two.1) in
+                      let x = taker s past words e own f took (not-true f.up two.1) in
                       let k = taken_of s past e x f took in
                       let peer : k.peer ≡ c = sym (taken_peer s past e f k) ∙ eqb-true f.peer c two.0 in
                       absurd (partner_not w m c o heard apart (subst (λ (y : Work). partner y.what.peer y.phase ≡ Some c) (numbered x) (k.on ∙ ap Some peer)))
-                    where
-                      is_down : (b : Bool) → not b ≡ true → b ≡ false
-                      is_down false e = refl
-                      is_down true e = absurd (cc)
 
   -- the word of such a repository stays
   word_passed : (w : Work) → Member w (works past r) → (c : ℕ) (o : Heard) → told_of w.heard c ≡ Some o → (target_in r (running_job w) == c) ≡ false → word_told (e ∷ past) r w.number c ≡ word_told past r w.number c
@@ -661,24 +650,11 @@ fails_none Jobs.Seen e = absurd (cc)
 fails_none Unseen e = refl
 fails_none (Lacks cause) e = refl
 
-kept_true : (q : ℕ → Bool) (xs : List ℕ) (c : ℕ) → Member c (filter q xs) → (q c ≡ true) × Member c xs
-kept_true q [] c m = absurd m
-kept_true q (x ∷ xs) c m = go (kept_true q xs c) (q x) refl m
-  where
-    go : (Member c (filter q xs) → (q c ≡ true) × Member c xs) → (b : Bool) → q x ≡ b → Member c (if b then x ∷ filter q xs else filter q xs) → (q c ≡ true) × Member c (x ∷ xs)
-    go more true is (inl same) = (ap q same ∙ is, inl same)
-    go more true is (inr n) = let z = more n in (z.0, inr z.1)
-    go more false is n = let z = more n in (z.0, inr z.1)
-
 -- a candidate isn't the target
 candidate_apart : (side : Side) (n r target c : ℕ) → (side ≡ Local → target ≡ r) → (side ≡ Remote → target ≢ r) → Member c (candidates side n r target) → (target == c) ≡ false
-candidate_apart Local n r target c own apart m = subst (λ t. (t == c) ≡ false) (sym (own refl)) (eqb_apart c r (kept_true (λ x. not (x == r)) (_) c m).0)
+candidate_apart Local n r target c own apart m = subst (λ t. (t == c) ≡ false) (sym (own refl)) (eqb_apart c r (Member-filter_parts (λ x. not (x == r)) (_) c m).1)
 candidate_apart Remote n r target c own apart (inl same) = subst (λ d. (target == d) ≡ false) (sym same) (ne_eqb target r (apart refl))
-candidate_apart Remote n r target c own apart (inr m) = eqb_apart c target (kept_true (λ x. not (x == target)) (_) c m).0
-
-target_local : (r : ℕ) (side : Side) (peer : Option ℕ) → side ≡ Local → Jobs.or_own r side peer ≡ r
-target_local r Local peer e = refl
-target_local r Remote peer e = absurd (cc)
+candidate_apart Remote n r target c own apart (inr m) = eqb_apart c target (Member-filter_parts (λ x. not (x == target)) (_) c m).1
 
 -- a drop that is to begin has read nothing
 drops_unread : (s : SetUp) → DropsUnread s
@@ -698,12 +674,9 @@ module _ (reads_back : SentAreRead) (run : Run) (repos : Each IsSetUp run.repos)
       let may = (part_of (set_up run) past e r step is).frames.takes f took in
       let a = answer_of reads_back run repos past e r f Failure h step is took down says refl may in
       let fit : table.AnswerFits a.asked may.it.entry.kind Failure = failure_fits a.asked may.it.entry.kind a.answering in
-      let same : Says a.asked ≡ Says (CheckPresent key) = sym a.asked_is ∙ said_inj (sym (ap (option_map said_of) a.last) ∙ last) in
+      let same : Says a.asked ≡ Says (CheckPresent key) = sym a.asked_is ∙ same_Some _ _ (sym (ap (option_map said_of) a.last) ∙ last) in
       (may.it, may.next, subst (λ m. table.AnswerFits m may.it.entry.kind Failure) (says_inj same) fit)
     where
-      said_inj : {m n : Said} → Some m ≡ Some n → m ≡ n
-      said_inj e = cc
-
       says_inj : {m n : Message} → Says m ≡ Says n → m ≡ n
       says_inj e = cc
 

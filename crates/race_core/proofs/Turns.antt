@@ -13,16 +13,9 @@ use Rattle.race_core.proofs.Ways.{is_answer, answers}
 use Rattle.run_model.specs.Frames.{Way, FlyingFrame, MayTake, flying_frame, is_on, on_way, sender_of, taker_of, frames_sent, sent_if, says, taken_count, taken_if, up_of, requests, last_of, last_request}
 use Rattle.race_core.proofs.Own.{AtMostOne}
 use Rattle.race_core.proofs.Flights.{get_none, sending, always_before}
+use Rattle.race_core.proofs.Plain.{filter_map}
 
 -- ---- lists
-
-filter_map : {X Y : Type 0} (p : Y → Bool) (f : X → Y) (xs : List X) → filter p (map f xs) ≡ map f (filter (λ x. p (f x)) xs)
-filter_map p f [] = refl
-filter_map p f (x ∷ xs) = go (filter_map p f xs) (p (f x))
-  where
-    go : filter p (map f xs) ≡ map f (filter (λ y. p (f y)) xs) → (b : Bool) → cond b (f x ∷ filter p (map f xs)) (filter p (map f xs)) ≡ map f (cond b (x ∷ filter (λ y. p (f y)) xs) (filter (λ y. p (f y)) xs))
-    go ih true = ap (λ zs. f x ∷ zs) ih
-    go ih false = ih
 
 -- where an element stands that passes the test, among those that do
 filter_get : {X : Type 0} (p : X → Bool) (xs : List X) (n : ℕ) (x : X) → slice_get xs n ≡ Some x → p x ≡ true → slice_get (filter p xs) (length (filter p (take n xs))) ≡ Some x

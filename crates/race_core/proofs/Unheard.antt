@@ -30,11 +30,11 @@ use Rattle.race_core.proofs.HeardInduction.{heard_holds}
 use Rattle.race_core.proofs.HeardLists.{Changed, SameList, kind_changed, share_or, talker_is}
 use Rattle.race_core.proofs.JobKept.{kind_kept}
 use Rattle.race_core.proofs.JobSteps.{Origin, Steps, invariant, turn_at}
-use Rattle.race_core.proofs.LocksHeard.{FreeOf, drop_before, fits_to, free_of, lock_drops, look_drops}
+use Rattle.race_core.proofs.LocksHeard.{FreeOf, drop_before, free_of, lock_drops, look_drops}
 use Rattle.race_core.proofs.PhaseFacts.{GoodTo, only_orders}
 use Rattle.race_core.proofs.PhasesFit.{target_peer}
 use Rattle.race_core.proofs.TalkFacts.{Fits}
-use Rattle.race_core.proofs.WorkFits.{step_kind, step_runs, step_sent, step_talk, steps_good, works_fit}
+use Rattle.race_core.proofs.WorkFits.{good_fits, step_kind, step_runs, step_sent, step_talk, steps_good, works_fit}
 use Rattle.race_core.proofs.WorkNumbers.{same_number_same_work}
 
 -- ---- what a step adds to what was heard, it adds of another than the target
@@ -136,7 +136,7 @@ target_unheard s past run w m = invariant s (λ p x. TargetUnheard s x) (λ p e 
         target_was = ap (λ (q : Job). Jobs.or_own s.number (Jobs.drop_side q.kind q.peer) q.peer) what
 
         fits_x : Fits x.part x.phase
-        fits_x = fits_to v.part v.phase x.part x.phase (steps_good s p e x b fits)
+        fits_x = good_fits v.part v.phase x.part x.phase (steps_good s p e x b fits)
 
         looks_after : LooksElse s x
         looks_after peer at side = subst (λ n. (n == peer) ≡ false) (sym target_was) (elim came [

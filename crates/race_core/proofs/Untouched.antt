@@ -3,7 +3,7 @@
 use Rattle.std.proofs.Common.{◌≡◌, ◌≢◌, ℕ, ◌+◌, ◌<◌, ◌≤◌, Bool, true, false, List, [], ◌∷◌, Option, Some, None, ◌⊎◌, inl, inr, refl, sym, ap, ◌∙◌, subst, arith}
 use Rattle.std.specs.Prelude.{if◌then◌else◌, ◌==◌, ◌&&◌, ◌||◌, not, length}
 use Rattle.std.specs.List.{list_any}
-use Rattle.std.proofs.lemmas.Bool.{eqb-true, and_left, or_from}
+use Rattle.std.proofs.lemmas.Bool.{eqb-true, and_left, or_from, and_right}
 use Rattle.annex_base.specs.Lists.{Member}
 use Rattle.annex_base.specs.declared.kinds.Word.{Word}
 use Rattle.run_data.specs.declared.entry.By.TheVariants.{Script}
@@ -111,17 +111,9 @@ pub still_asks : (s : SetUp) (past : List Entry) (words : ℕ → Option Word) (
 still_asks s past words e own j still = go (option_is (job_of e.kind) j) refl
   where
     go : (b : Bool) → option_is (job_of e.kind) j ≡ b → (is_job s.number j e && asks_by e.kind e.sent) ≡ false
-    go false is = and_left (is_job s.number j e) (asks_by e.kind e.sent) (and_off (is_of s.number e) (option_is (job_of e.kind) j) is)
-      where
-        and_off : (a b : Bool) → b ≡ false → (a && b) ≡ false
-        and_off true b h = h
-        and_off false b h = refl
-    go true is = asks_off (is_job s.number j e) (asks_by e.kind e.sent) (or_from (is_share e.kind) (list_any (Frames.says asks_copy) e.sent) (no_step_share j e.kind still is)
+    go false is = and_left (is_job s.number j e) (asks_by e.kind e.sent) (and_right (is_of s.number e) (option_is (job_of e.kind) j) is)
+    go true is = and_right (is_job s.number j e) (asks_by e.kind e.sent) (or_from (is_share e.kind) (list_any (Frames.says asks_copy) e.sent) (no_step_share j e.kind still is)
         (subst (λ fs. list_any (Frames.says asks_copy) fs ≡ false) (sym (still_sends s past words e own j still is)) refl))
-      where
-        asks_off : (a b : Bool) → b ≡ false → (a && b) ≡ false
-        asks_off true b h = h
-        asks_off false b h = refl
 
 if_off : {X : Type 0} (b : Bool) (x : X) → b ≡ false → (if b then Some x else None) ≡ None
 if_off true x h = absurd (cc)
@@ -156,11 +148,7 @@ pub done_other : (past : List Entry) (r : ℕ) (e : Entry) (j : ℕ) → is_of r
 done_other past r e j is x = rw is x
 
 pub done_after : (past : List Entry) (r : ℕ) (e : Entry) (j : ℕ) → done_kind j e.kind ≡ false → is_done past r j ≡ false → is_done (e ∷ past) r j ≡ false
-done_after past r e j no_end x = or_from (is_of r e && done_kind j e.kind) (is_done past r j) (both (is_of r e) (done_kind j e.kind) no_end) x
-  where
-    both : (a b : Bool) → b ≡ false → (a && b) ≡ false
-    both true b h = h
-    both false b h = refl
+done_after past r e j no_end x = or_from (is_of r e && done_kind j e.kind) (is_done past r j) (and_right (is_of r e) (done_kind j e.kind) no_end) x
 
 -- an entry is no step of a job that hasn't begun
 pub not_yet : (s : SetUp) (past : List Entry) (words : ℕ → Option Word) (e : Entry) → OwnRun s past → OwnPart s past words e → (j : ℕ) → begun_count past s.number < j → is_step j e.kind ≡ false

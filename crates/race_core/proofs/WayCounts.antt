@@ -1,5 +1,5 @@
 -- What an own entry adds to the counts of the ways at one of its repository's ends.
-use Rattle.std.proofs.Common.{◌≡◌, ℕ, ◌+◌, Bool, true, false, cond, List, [], ◌∷◌, length, Option, Some, None, refl, sym, ap, ◌∙◌, length-append, add-zero}
+use Rattle.std.proofs.Common.{◌≡◌, ℕ, ◌+◌, Bool, true, false, List, ◌∷◌, length, Option, Some, None, refl, sym, ap, ◌∙◌, length-append, add-zero}
 use Rattle.std.proofs.lemmas.List.{length-map}
 use Rattle.std.specs.Prelude.{◌&&◌, ◌==◌, filter, map, if◌then◌else◌}
 use Rattle.std.proofs.lemmas.List.Elements.{filter-append}
@@ -11,6 +11,7 @@ use Rattle.run_model.specs.Past.{is_of}
 use Rattle.run_model.specs.Said.{Said}
 use Rattle.run_model.specs.Frames.{Way, FlyingFrame, flying_frame, is_on, on_way, sender_of, taker_of, frames_sent, sent_if, says, taken_if, takes_if}
 use Rattle.node_model.specs.Ends.{same_bool, EndName, sends_at, sent_at, taken_at, takes_at}
+use Rattle.race_core.proofs.Plain.{filter_map}
 
 -- the ways at an end of r: what it sends, and what it takes, in one epoch
 abbrev pub way_out : ℕ → EndName → ℕ → Way
@@ -41,10 +42,6 @@ in_taker : (r : ℕ) (p : ℕ) (b : Bool) → (if (if b then false else true) th
 in_taker r p true = refl
 in_taker r p false = refl
 
-in_sender : (r : ℕ) (p : ℕ) (b : Bool) → (if (if b then false else true) then (if b then r else p) else (if b then p else r)) ≡ p
-in_sender r p true = refl
-in_sender r p false = refl
-
 pub out_sender-is : (r : ℕ) (a : EndName) (n : ℕ) → sender_of (way_out r a n) ≡ r
 out_sender-is r a n = out_sender r a.peer a.client
 
@@ -55,11 +52,11 @@ pub in_taker-is : (r : ℕ) (a : EndName) (n : ℕ) → taker_of (way_in r a n) 
 in_taker-is r a n = in_taker r a.peer a.client
 
 pub in_sender-is : (r : ℕ) (a : EndName) (n : ℕ) → sender_of (way_in r a n) ≡ a.peer
-in_sender-is r a n = in_sender r a.peer a.client
+in_sender-is r a n = in_taker a.peer r a.client
 
 -- ---- which frames are on them
 
-other_side : (u c : Bool) → same_bool u (if c then false else true) ≡ same_bool c (if u then false else true)
+pub other_side : (u c : Bool) → same_bool u (if c then false else true) ≡ same_bool c (if u then false else true)
 other_side true true = refl
 other_side true false = refl
 other_side false true = refl
@@ -77,14 +74,6 @@ on_out r a n e = ap (λ p. filter (is_on (way_out r a n) p) e.sent) (out_taker-i
     ∙ filter_both (is_on (way_out r a n) a.peer) (λ g. g.epoch == n) (sends_at a) (is_out r a n) e.sent
 
 -- ---- what one entry adds
-
-filter_map : {X Y : Type 0} (p : Y → Bool) (f : X → Y) (xs : List X) → filter p (map f xs) ≡ map f (filter (λ x. p (f x)) xs)
-filter_map p f [] = refl
-filter_map p f (x ∷ xs) = go (filter_map p f xs) (p (f x))
-  where
-    go : filter p (map f xs) ≡ map f (filter (λ y. p (f y)) xs) → (b : Bool) → cond b (f x ∷ filter p (map f xs)) (filter p (map f xs)) ≡ map f (cond b (x ∷ filter (λ y. p (f y)) xs) (filter (λ y. p (f y)) xs))
-    go ih true = ap (λ zs. f x ∷ zs) ih
-    go ih false = ih
 
 pub sent_own : (q : Said → Bool) (e : Entry) (past : List Entry) (w : Way) → is_of (sender_of w) e ≡ true → length (sent_if q (e ∷ past) w) ≡ length (sent_if q past w) + length (filter (says q) (on_way w e))
 sent_own q e past w is = rw is

@@ -17,7 +17,7 @@ use Rattle.p2p_wire.specs.declared.message.Message.TheVariants.{CheckPresent, Da
 use Rattle.p2p_wire.specs.Messages.{message_of, text_of, order_of}
 use Rattle.node_model.specs.SetUp.{SetUp}
 use Rattle.run_model.specs.States.{state_of, rows_at, works}
-use Rattle.node_model.specs.Jobs.{AsksLock, Drops, Gets, Greets, Next, Opens, Part, Phase, Puts, Work}
+use Rattle.node_model.specs.Jobs.{AsksLock, Drops, Gets, Greets, Next, Opens, Part, Phase, Puts, Work, running_job}
 use Rattle.node_model.specs.Look.{Made}
 use Rattle.node_model.specs.JobStep.{Turn}
 use Rattle.run_model.specs.Run.{OwnRun}
@@ -186,10 +186,17 @@ module _ (s : SetUp) (past : List Entry) (e : Entry) (w : Work) (x : Steps s pas
   pub step_number : w.number ≡ x.by.w.number
   step_number = ap (λ (y : Work). y.number) x.work_is ∙ ap (λ (j : RunningJob). j.number) (kind_kept (rows_at past s.number) s.number x.by.w e e.kind)
 
+  -- it is the same job
+  pub step_running : running_job w ≡ running_job x.by.w
+  step_running = ap running_job x.work_is ∙ kind_kept (rows_at past s.number) s.number x.by.w e e.kind
+
+  pub step_what : w.what ≡ x.by.w.what
+  step_what = ap (λ (j : RunningJob). j.what) step_running
+
   pub step_runs : Member x.by.w (works past s.number)
   step_runs = stepped_runs s past e x.by
 
-good_fits : (part : Part) (old : Phase) (to : Part) (phase : Phase) → GoodTo part old to phase → Fits to phase
+pub good_fits : (part : Part) (old : Phase) (to : Part) (phase : Phase) → GoodTo part old to phase → Fits to phase
 good_fits Gets old Gets phase g = g.0
 good_fits Gets old Puts phase g = absurd g
 good_fits Gets old Drops phase g = subst (Fits Drops) (sym g) tt
@@ -199,6 +206,14 @@ good_fits Puts old Drops phase g = subst (Fits Drops) (sym g) tt
 good_fits Drops old Gets phase g = absurd g
 good_fits Drops old Puts phase g = absurd g
 good_fits Drops old Drops phase g = g.0
+
+-- what the job has before a step, it has after it
+pub drops_stay : (part : Part) (old : Phase) (to : Part) (phase : Phase) → GoodTo part old to phase → part ≡ Drops → to ≡ Drops
+drops_stay Drops old Drops phase g is = refl
+drops_stay Drops old Gets phase g is = absurd g
+drops_stay Drops old Puts phase g is = absurd g
+drops_stay Gets old to phase g is = absurd (cc)
+drops_stay Puts old to phase g is = absurd (cc)
 
 -- each running job's phase is one of its part
 pub works_fit : (s : SetUp) (past : List Entry) → OwnRun s past → (w : Work) → Member w (works past s.number) → Fits w.part w.phase

@@ -21,6 +21,7 @@ use Rattle.node_model.specs.Owed.{Owed, due, if_new, same_lines, status_line}
 use Rattle.node_model.specs.OwedStep.{owed_step, pays_first}
 use Rattle.node_model.specs.SetUp.{SetUp}
 use Rattle.node_model.specs.State.{State}
+use Rattle.repo_node.specs.Changes.{AreNew}
 use Rattle.repo_node.specs.Debts.{AddsStep, IsDraftOf, IsFirstDraft, WhereMade, failed_put, with_status}
 use Rattle.repo_node.specs.declared.owed.Draft.{Draft}
 use Rattle.repo_node.specs.Nodes.{MatchesSetup, IsState, NodeView, are_due, due_by, id_known, next_entry, state_of, with_entry}
@@ -28,6 +29,7 @@ use Rattle.repo_node.specs.Owing.{AreDebts, IsFirstOf, is_owing, owed_at, owed_o
 use Rattle.repo_node.specs.Refusals.{RefusesFor}
 use Rattle.repo_node.specs.declared.refused.NodeRefused.{NodeRefused}
 use Rattle.repo_node.specs.declared.refused.NodeRefused.TheVariants as refusals
+use Rattle.repo_node.proofs.ChangeLemmas.{if_new_new}
 use Rattle.repo_node.proofs.OwedLemmas.{due_is}
 
 none_one : ◌≡◌ {A = ℕ} 0 1 → ⊥
@@ -215,3 +217,11 @@ pub step_paid : {K : Type 0} (r : Result (Unit {0}) NodeRefused) (n m : NodeView
 step_paid {K} r n m d s k known f owes fits is time count fails ok err =
     subst (λ (os : List Owed). WhereMade r (AddsStep (pays_first s (state_of s n.history) k os) n.setup.number k n.history m.history)) (sym (owes ∙ f.first))
     (step_made r n m s k known f.owed (drop 1 n.owed) fits is time count fails (ok_drafted r n m d f.owed f.draft ok) (err_drafted r n m d f.owed f.draft err))
+
+-- ---- the line is one that the log lacks
+
+pub draft_new : {K : Type 0} (n : NodeView K) (o : Owed) (d : Draft) → IsDraftOf n o d → AreNew d.new (lines_at n.branch d.path)
+draft_new n o d is =
+    subst (λ (x : List (List ℕ)). AreNew x (lines_at n.branch d.path)) (sym is.new)
+    (subst (λ (p : List ℕ). AreNew (due_by n o.key o.repo o.there) (lines_at n.branch p)) (sym is.path)
+    (if_new_new (lines_at n.branch (location_path o.key)) (status_line (lines_at n.branch (location_path o.key)) (id_known n o.repo) o.there (n.time + n.setup.offset))))

@@ -4,6 +4,7 @@ pub mod StateLemmas
 pub mod WriteLemmas
 pub mod PastLemmas
 pub mod LogLemmas
+pub mod ChangeLemmas
 pub mod LineLemmas
 pub mod WalkLemmas
 pub mod DebtLemmas

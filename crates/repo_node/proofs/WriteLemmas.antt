@@ -21,6 +21,8 @@ use Rattle.repo_node.specs.declared.refused.NodeRefused.TheVariants as refusals
 use Rattle.repo_node.specs.declared.setup.Ended.{Ended}
 use Rattle.repo_node.specs.declared.setup.Setup.{Setup}
 use Rattle.node_model.specs.Owed.{Owed}
+use Rattle.repo_node.specs.Changes.{changed_file}
+use Rattle.repo_node.specs.declared.changing.Change.{Change}
 use Rattle.repo_node.specs.Kept.{IsKept, IsOfFiles, owed_refused}
 use Rattle.repo_node.specs.Nodes.{HasFiles, NodeView, owed_now, with_entry}
 use Rattle.repo_node.specs.Owing.{rest_if}
@@ -142,12 +144,12 @@ node_refused by (Ok x) call k k' t b b' was now owed owed' is fails owes = tt
 node_refused by (Err e) call k k' t b b' was now owed owed' is fails owes = node_failed by e call k k' t b b' was now owed owed' is fails owes
 
 -- the same, of the node as it is seen
-pub seen_written : {K : Type 0} (r : Result (Unit {0}) NodeRefused) (k k' : K) (t : PartsView) (b b' : Files) (was now : Past) (owed owed' : List Owed) (n : NodeView K) (path : List ℕ) (all : List (List ℕ)) (kind : EntryKind) (lines : List (List ℕ))
-    → node_of k t b was owed ≡ n → OnOk r (b' ≡ with_file b path all) → OnOk r (AddsTo kind lines was now) → OnOk r (owed' ≡ owed_now (storeless t b was owed) kind lines)
-    → OnOk r (node_of k' t b' now owed' ≡ with_entry n k' (with_file n.branch path all) kind lines)
-seen_written {K} r k k' t b b' was now owed owed' n path all kind lines view is adds owes =
-    subst (λ (m : NodeView K). OnOk r (node_of k' t b' now owed' ≡ with_entry m k' (with_file m.branch path all) kind lines)) view
-    (node_written r k k' t b b' (with_file b path all) was now owed owed' kind lines is adds owes)
+pub seen_written : {K : Type 0} (r : Result (Unit {0}) NodeRefused) (k k' : K) (t : PartsView) (b b' : Files) (was now : Past) (owed owed' : List Owed) (n : NodeView K) (path : List ℕ) (change : Change) (kind : EntryKind) (lines : List (List ℕ))
+    → node_of k t b was owed ≡ n → OnOk r (b' ≡ changed_file b path change) → OnOk r (AddsTo kind lines was now) → OnOk r (owed' ≡ owed_now (storeless t b was owed) kind lines)
+    → OnOk r (node_of k' t b' now owed' ≡ with_entry n k' (changed_file n.branch path change) kind lines)
+seen_written {K} r k k' t b b' was now owed owed' n path change kind lines view is adds owes =
+    subst (λ (m : NodeView K). OnOk r (node_of k' t b' now owed' ≡ with_entry m k' (changed_file m.branch path change) kind lines)) view
+    (node_written r k k' t b b' (changed_file b path change) was now owed owed' kind lines is adds owes)
 
 pub seen_refused : {K : Type 0} (by : By) (r : Result (Unit {0}) NodeRefused) (call : Call) (k k' : K) (t : PartsView) (b b' : Files) (was now : Past) (owed owed' : List Owed) (n : NodeView K)
     → node_of k t b was owed ≡ n → OnErr r (b' ≡ b) → IfErr r (λ e. FailsFor by e call was now) → IfErr r (λ e. owed' ≡ owed_refused by e call owed)

@@ -5,6 +5,7 @@ pub mod Stored
 pub mod Kept
 pub mod Logs
 pub mod Walks
+pub mod Changes
 pub mod Debts
 pub mod Placing
 pub mod Calls

@@ -15,6 +15,7 @@ ghost use Rattle.repo_node.specs.Nodes.{with_entry};
 ghost use Rattle.repo_node.specs.Refusals.{RefusesSo};
 ghost use Rattle.repo_node.specs.Walks.{StopsAfter, compact_file, compact_files, current, over};
 
+use crate::changing::Change;
 use crate::logs::copies;
 use crate::node::Node;
 use crate::refused::NodeRefused;
@@ -84,7 +85,7 @@ impl<K: Keeper> Node<K> {
         let none = Items::new(alloc);
         self.write(
             path,
-            all,
+            Change::Replace(all),
             EntryKind::Compact { file },
             none,
             &[],

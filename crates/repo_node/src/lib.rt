@@ -3,6 +3,7 @@
 
 mod beginning;
 mod carrying;
+mod changing;
 mod compacting;
 mod entering;
 mod entries;

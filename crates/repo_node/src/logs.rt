@@ -5,12 +5,14 @@ ghost use Rattle.annex_base.specs.declared.kinds.Call.TheVariants as calls;
 ghost use Rattle.run_data.specs.Files.{HasPath, file_of, file_path};
 ghost use Rattle.run_data.specs.declared.entry.EntryKind.TheVariants as kinds;
 ghost use Rattle.union_merge.specs.Branch.{lines_at, merged_file};
-ghost use Rattle.union_merge.specs.LineSet.{IsLine, difference, union};
+ghost use Rattle.union_merge.specs.LineSet.{IsLine, difference};
 ghost use Rattle.repo_node.specs.Calls.{Makes, lacks_some, to_log};
+ghost use Rattle.repo_node.specs.Changes.{AreNew};
 ghost use Rattle.repo_node.specs.Logs.{with_lines, with_log};
 ghost use Rattle.repo_node.specs.Nodes.{are_due, with_entry};
 ghost use Rattle.repo_node.specs.Refusals.{RefusesFor, RefusesSo};
 
+use crate::changing::Change;
 use crate::node::Node;
 use crate::refused::NodeRefused;
 use annex_base::{Items, Line, NoMemory};
@@ -33,23 +35,6 @@ fn new_lines(
         Some(known) => lines.difference(known),
         None => lines.difference(&LineSet::new(alloc)),
     }
-}
-
-/// The lines of a file of the branch and these.
-fn all_lines(
-    alloc: Global,
-    branch: &Branch,
-    path: &[u8],
-    new: &LineSet,
-) -> Result<LineSet, NoMemory>
-    ensures { IfOk result (λ s. s ≡ union (lines_at branch.now path.now) new.now) }
-{
-    let mut all = match branch.file(path) {
-        Some(known) => known.copy()?,
-        None => LineSet::new(alloc),
-    };
-    all.merge(new)?;
-    Ok(all)
 }
 
 /// The lines as an entry lists them.
@@ -96,6 +81,7 @@ impl<K: Keeper> Node<K> {
     ) -> Result<(), NodeRefused>
         requires line { IsLine path.now }
         requires here { path.now ≡ file_path file }
+        requires new { AreNew new.now (lines_at self.old.branch path.now) }
         ensures ok { OnOk result (self.new ≡ with_entry self.old self.new.keeper (merged_file self.old.branch (file_path file) new.now) (kinds.Log file) new.now) }
         ensures some { OnOk result (new.now ≢ [] → self.new ≡ with_log self.old self.new.keeper file new.now) }
         ensures err { IfErr result (λ e. RefusesFor by e calls.PutFile self.old self.new) }
@@ -120,6 +106,7 @@ impl<K: Keeper> Node<K> {
     ) -> Result<(), NodeRefused>
         requires line { IsLine path.now }
         requires here { path.now ≡ file_path file }
+        requires new { AreNew new.now (lines_at self.old.branch path.now) }
         requires paid { paid ≡ are_due self.old file new.now self.old.owed }
         ensures ok { OnOk result (self.new ≡ with_entry self.old self.new.keeper (merged_file self.old.branch (file_path file) new.now) (kinds.Log file) new.now) }
         ensures some { OnOk result (new.now ≢ [] → self.new ≡ with_log self.old self.new.keeper file new.now) }
@@ -137,11 +124,10 @@ impl<K: Keeper> Node<K> {
         unions_have_the_lines_of_both();
         readings_depend_on_the_set();
         let alloc = self.allocator();
-        let all = all_lines(alloc, self.branch(), path, new)?;
         let lines = listed(alloc, new.lines())?;
         self.write(
             path,
-            all,
+            Change::Add(new),
             EntryKind::Log { file },
             lines,
             new.lines(),

@@ -4,7 +4,7 @@ ghost use Rattle.annex_base.specs.Causes.{Rose};
 ghost use Rattle.annex_base.specs.declared.kinds.Call.TheVariants as calls;
 ghost use Rattle.object_store.specs.Stores.{with_at};
 ghost use Rattle.run_data.specs.declared.entry.By.{By};
-ghost use Rattle.union_merge.specs.Branch.{file_at, lines_at, with_back, with_file};
+ghost use Rattle.union_merge.specs.Branch.{file_at, lines_at};
 ghost use Rattle.union_merge.specs.LineSet.{IsLine, text_of};
 ghost use Rattle.node_model.specs.Files.{lines_after};
 ghost use Rattle.std.specs.Option.{ForSome};
@@ -12,6 +12,7 @@ ghost use Rattle.trust_groups.specs.Adding.{lines_and};
 ghost use Rattle.trust_groups.specs.Reads.{HaveReadLines};
 ghost use Rattle.trust_groups.specs.Settings.{Lines};
 ghost use Rattle.repo_node.specs.Calls.{Makes};
+ghost use Rattle.repo_node.specs.Changes.{AddsNew, changed, changed_file, undone};
 ghost use Rattle.repo_node.specs.Kept.{IsOfFiles, first_goes};
 ghost use Rattle.repo_node.specs.Indexed.{ReadsAlike};
 ghost use Rattle.repo_node.specs.Nodes.{owed_now, with_entry};
@@ -20,6 +21,7 @@ ghost use Rattle.repo_node.specs.Pasts.{AddsTo, FailsFor, IsReady, SamePast};
 ghost use Rattle.repo_node.specs.Refusals.{RefusesFor};
 ghost use Rattle.repo_node.specs.Stored.{LeavesRest};
 
+use crate::changing::{Change, Undo, changed, put_back, text_at};
 use crate::indexing::grown;
 use crate::node::Node;
 use crate::past::Past;
@@ -29,33 +31,7 @@ use node_parts::{direct_entries_leave_rows, parts_stay, tables_fill_as_states};
 use object_store::Keeper;
 use run_data::{By, EntryKind};
 use trust_groups::Settings;
-use union_merge::{Branch, LineSet, files_are_changed_alone};
-
-/// What a file of a branch has, as a copy.
-fn file_of(branch: &Branch, path: &[u8]) -> Result<Option<LineSet>, NoMemory>
-    ensures { IfOk result (λ o. o ≡ file_at branch.now path.now) }
-{
-    match branch.file(path) {
-        Some(lines) => Ok(Some(lines.copy()?)),
-        None => Ok(None),
-    }
-}
-
-/// Gives a file of the branch these lines, and answers what gives it back as it was.
-fn replaced(branch: &mut Branch, path: &[u8], all: LineSet) -> Result<Option<LineSet>, NoMemory>
-    requires { IsLine path.now }
-    ensures ok { OnOk result (branch.new ≡ with_file branch.old path.now all) }
-    ensures there { OnOk result (IsSome (file_at branch.new path.now)) }
-    ensures back { IfOk result (λ was. with_back branch.new path.now was ≡ branch.old) }
-    ensures err { OnErr result (branch.new ≡ branch.old) }
-{
-    // For the proof: a law, by which a file that is put back leaves the branch as it was, and that its files are in order.
-    files_are_changed_alone();
-    let _ = branch.files();
-    let was = file_of(branch, path)?;
-    branch.replace_file(path, all)?;
-    Ok(was)
-}
+use union_merge::{Branch, files_are_changed_alone};
 
 /// Puts the file into the store, and adds the entry that says so, or that the store failed.
 fn put<K: Keeper>(
@@ -86,53 +62,63 @@ fn put<K: Keeper>(
     }
 }
 
-/// A file that the branch has and the store doesn't have yet: its bytes, and what gives it back to the branch as it was.
+/// A file that the branch has and the store doesn't have yet: its bytes, and what makes it as it was in the branch.
 #[derive(Drop)]
-struct Draft {
+struct Draft<'a> {
     bytes: Vec<u8>,
-    was: Option<LineSet>,
+    undo: Undo<'a>,
 }
 
-/// Gives a file of the branch these lines, with room for the entry that says so. All that takes memory is done.
-fn drafted(
+/// Changes a file of the branch, with room for the entry that says so. All that takes memory is done; where memory runs out, the
+/// branch is as it was.
+fn drafted<'a>(
     branch: &mut Branch,
     past: &mut Past,
     path: &[u8],
-    all: LineSet,
-) -> Result<Draft, NodeRefused>
-    requires { IsLine path.now }
+    change: Change<'a>,
+) -> Result<Draft<'a>, NodeRefused>
+    requires line { IsLine path.now }
+    requires new { AddsNew change (lines_at branch.old path.now) }
     ensures ready { OnOk result (IsReady past.new) }
     ensures same { SamePast past.old past.new }
-    ensures bytes { IfOk result (λ d. d.bytes.items ≡ text_of all) }
-    ensures branch { OnOk result (branch.new ≡ with_file branch.old path.now all) }
+    ensures bytes { IfOk result (λ d. d.bytes.items ≡ text_of (changed change.entry (lines_at branch.old path.now))) }
+    ensures branch { OnOk result (branch.new ≡ changed_file branch.old path.now change.entry) }
     ensures there { OnOk result (IsSome (file_at branch.new path.now)) }
-    ensures back { IfOk result (λ d. with_back branch.new path.now d.was ≡ branch.old) }
+    ensures undo { IfOk result (λ d. undone branch.new path.now d.undo ≡ branch.old) }
     ensures err { (by : By) → IfErr result (λ e. FailsFor by e calls.PutFile past.old past.new) }
     ensures err_branch { OnErr result (branch.new ≡ branch.old) }
     ensures no_fault { IsErrOf result NodeRefused.StoreFault → ⊥ }
 {
+    // A law, for the proof: a file that is given lines has these.
+    files_are_changed_alone();
     past.ready()?;
-    let bytes = all.to_bytes()?;
-    let was = replaced(branch, path, all)?;
-    Ok(Draft { bytes, was })
+    let undo = changed(branch, path, change)?;
+    match text_at(past.alloc, branch, path) {
+        Ok(bytes) => Ok(Draft { bytes, undo }),
+        Err(NoMemory) => {
+            put_back(branch, path, undo);
+            Err(NodeRefused::NoMemory)
+        }
+    }
 }
 
-/// Gives a file of the branch these lines, in the store too, by an entry of this kind with those that are new. Where the store
-/// fails, the branch has the file back as it was.
+/// Changes a file of the branch, in the store too, by an entry of this kind with the lines that are new. Where the store fails, the
+/// branch has the file as it was.
 fn write_file<K: Keeper>(
     keeper: &mut K,
     branch: &mut Branch,
     past: &mut Past,
     path: &[u8],
-    all: LineSet,
+    change: Change<'_>,
     kind: EntryKind,
     lines: Items<Line>,
     by: By,
 ) -> Result<(), NodeRefused>
-    requires { IsLine path.now }
-    ensures branch { OnOk result (branch.new ≡ with_file branch.old path.now all) }
+    requires line { IsLine path.now }
+    requires new { AddsNew change (lines_at branch.old path.now) }
+    ensures branch { OnOk result (branch.new ≡ changed_file branch.old path.now change.entry) }
     ensures past { OnOk result (AddsTo kind lines past.old past.new) }
-    ensures files { OnOk result (K.files keeper.new ≡ option_map (λ f. with_at f path.now (Some (text_of all))) (K.files keeper.old)) }
+    ensures files { OnOk result (K.files keeper.new ≡ option_map (λ f. with_at f path.now (Some (text_of (changed change.entry (lines_at branch.old path.now))))) (K.files keeper.old)) }
     ensures err { IfErr result (λ e. FailsFor by e calls.PutFile past.old past.new) }
     ensures err_branch { OnErr result (branch.new ≡ branch.old) }
     ensures err_files { OnErr result (K.files keeper.new ≡ K.files keeper.old) }
@@ -141,11 +127,11 @@ fn write_file<K: Keeper>(
     ensures cause { IsErrOf result NodeRefused.StoreFault → Rose (K.faults keeper.old) (K.faults keeper.new) }
     ensures calls { Makes (calls.PutFile ∷ []) calls.PutFile result (K.failing keeper.old) (K.failing keeper.new) }
 {
-    let draft = drafted(branch, past, path, all)?;
+    let draft = drafted(branch, past, path, change)?;
     match put(keeper, past, path, &draft.bytes, kind, lines, by) {
         Ok(()) => Ok(()),
         Err(refused) => {
-            branch.put_back(path, draft.was);
+            put_back(branch, path, draft.undo);
             Err(refused)
         }
     }
@@ -158,18 +144,19 @@ fn write_indexed<K: Keeper>(
     past: &mut Past,
     index: &mut Option<Settings>,
     path: &[u8],
-    all: LineSet,
+    change: Change<'_>,
     kind: EntryKind,
     lines: Items<Line>,
     new: &[Line],
     by: By,
 ) -> Result<(), NodeRefused>
-    requires { IsLine path.now }
+    requires line { IsLine path.now }
+    requires new { AddsNew change (lines_at branch.old path.now) }
     ensures index { OnOk result ((was : Lines) → ForSome index.old (λ i. HaveReadLines i was) → ForSome index.new (λ i. HaveReadLines i (lines_and was path.now new.now))) }
     ensures err_index { OnErr result (index.new ≡ index.old) }
-    ensures branch { OnOk result (branch.new ≡ with_file branch.old path.now all) }
+    ensures branch { OnOk result (branch.new ≡ changed_file branch.old path.now change.entry) }
     ensures past { OnOk result (AddsTo kind lines past.old past.new) }
-    ensures files { OnOk result (K.files keeper.new ≡ option_map (λ f. with_at f path.now (Some (text_of all))) (K.files keeper.old)) }
+    ensures files { OnOk result (K.files keeper.new ≡ option_map (λ f. with_at f path.now (Some (text_of (changed change.entry (lines_at branch.old path.now))))) (K.files keeper.old)) }
     ensures err { IfErr result (λ e. FailsFor by e calls.PutFile past.old past.new) }
     ensures err_branch { OnErr result (branch.new ≡ branch.old) }
     ensures err_files { OnErr result (K.files keeper.new ≡ K.files keeper.old) }
@@ -178,7 +165,7 @@ fn write_indexed<K: Keeper>(
     ensures cause { IsErrOf result NodeRefused.StoreFault → Rose (K.faults keeper.old) (K.faults keeper.new) }
     ensures calls { Makes (calls.PutFile ∷ []) calls.PutFile result (K.failing keeper.old) (K.failing keeper.new) }
 {
-    match write_file(keeper, branch, past, path, all, kind, lines, by) {
+    match write_file(keeper, branch, past, path, change, kind, lines, by) {
         Ok(()) => {
             *index = grown(index.take(), path, new);
             Ok(())
@@ -218,20 +205,21 @@ fn write_beside<K: Keeper>(
     index: &mut Option<Settings>,
     debts: &mut Vec<usize>,
     path: &[u8],
-    all: LineSet,
+    change: Change<'_>,
     kind: EntryKind,
     lines: Items<Line>,
     new: &[Line],
     by: By,
     paid: bool,
 ) -> Result<(), NodeRefused>
-    requires { IsLine path.now }
+    requires line { IsLine path.now }
+    requires new { AddsNew change (lines_at branch.old path.now) }
     ensures debts { debts.new.items ≡ rest_if (first_goes paid by result) debts.old.items }
     ensures index { OnOk result ((was : Lines) → ForSome index.old (λ i. HaveReadLines i was) → ForSome index.new (λ i. HaveReadLines i (lines_and was path.now new.now))) }
     ensures err_index { OnErr result (index.new ≡ index.old) }
-    ensures branch { OnOk result (branch.new ≡ with_file branch.old path.now all) }
+    ensures branch { OnOk result (branch.new ≡ changed_file branch.old path.now change.entry) }
     ensures past { OnOk result (AddsTo kind lines past.old past.new) }
-    ensures files { OnOk result (K.files keeper.new ≡ option_map (λ f. with_at f path.now (Some (text_of all))) (K.files keeper.old)) }
+    ensures files { OnOk result (K.files keeper.new ≡ option_map (λ f. with_at f path.now (Some (text_of (changed change.entry (lines_at branch.old path.now))))) (K.files keeper.old)) }
     ensures err { IfErr result (λ e. FailsFor by e calls.PutFile past.old past.new) }
     ensures err_branch { OnErr result (branch.new ≡ branch.old) }
     ensures err_files { OnErr result (K.files keeper.new ≡ K.files keeper.old) }
@@ -240,19 +228,21 @@ fn write_beside<K: Keeper>(
     ensures cause { IsErrOf result NodeRefused.StoreFault → Rose (K.faults keeper.old) (K.faults keeper.new) }
     ensures calls { Makes (calls.PutFile ∷ []) calls.PutFile result (K.failing keeper.old) (K.failing keeper.new) }
 {
-    let answer = write_indexed(keeper, branch, past, index, path, all, kind, lines, new, by);
+    let answer = write_indexed(
+        keeper, branch, past, index, path, change, kind, lines, new, by,
+    );
     let goes = first_goes(paid, by, &answer);
     drop_first(debts, goes);
     answer
 }
 
 impl<K: Keeper> Node<K> {
-    /// Gives a file of the branch these lines, by an entry of this kind with those that are new; they are what the first owed line
-    /// is due, or aren't.
+    /// Changes a file of the branch, by an entry of this kind with the lines that are new; they are what the first owed line is due,
+    /// or aren't.
     pub(crate) fn write(
         &mut self,
         path: &[u8],
-        all: LineSet,
+        change: Change<'_>,
         kind: EntryKind,
         lines: Items<Line>,
         new: &[Line],
@@ -260,11 +250,12 @@ impl<K: Keeper> Node<K> {
         paid: bool,
     ) -> Result<(), NodeRefused>
         requires line { IsLine path.now }
+        requires new { AddsNew change (lines_at self.old.branch path.now) }
         requires kind { IsOfFiles kind }
         requires owed { owed_now self.old kind lines ≡ rest_if paid self.old.owed }
-        requires reads { ReadsAlike (lines_and (lines_at self.old.branch) path.now new.now) (lines_at (with_file self.old.branch path.now all)) }
-        requires lines { (p : List ℕ) → lines_at (with_file self.old.branch path.now all) p ≡ lines_after p (lines_at self.old.branch p) kind lines }
-        ensures ok { OnOk result (self.new ≡ with_entry self.old self.new.keeper (with_file self.old.branch path.now all) kind lines) }
+        requires reads { ReadsAlike (lines_and (lines_at self.old.branch) path.now new.now) (lines_at (changed_file self.old.branch path.now change)) }
+        requires lines { (p : List ℕ) → lines_at (changed_file self.old.branch path.now change) p ≡ lines_after p (lines_at self.old.branch p) kind lines }
+        ensures ok { OnOk result (self.new ≡ with_entry self.old self.new.keeper (changed_file self.old.branch path.now change.entry) kind lines) }
         ensures err { IfErr result (λ e. RefusesFor by e calls.PutFile self.old self.new) }
         ensures contents { K.contents self.new.keeper ≡ K.contents self.old.keeper }
         ensures parts { K.parts self.new.keeper ≡ K.parts self.old.keeper }
@@ -288,7 +279,7 @@ impl<K: Keeper> Node<K> {
             &mut self.index,
             &mut self.debts,
             path,
-            all,
+            change,
             kind,
             lines,
             new,

@@ -1,9 +1,8 @@
 -- A file is read off its path, and stands there.
-use Rattle.std.proofs.Common.{◌≡◌, ◌≢◌, ◌⊎◌, inl, inr, ◌↔◌, ℕ, Bool, true, false, List, [], Option, Some, None, IfSome, Result, Ok, Err, IfOk, refl, sym, ap, subst, ◌∙◌}
+use Rattle.std.proofs.Common.{◌≡◌, ◌≢◌, ◌⊎◌, inl, inr, ◌↔◌, ℕ, Bool, true, false, List, [], Option, Some, None, Result, Ok, Err, IfOk, refl, sym, ap, subst, ◌∙◌}
 use Rattle.std.specs.Prelude.{if◌then◌else◌, bytes_eq}
 use Rattle.std.specs.List.{list_all}
 use Rattle.std.proofs.lemmas.Slice.Eq.{bytes_eq-Decides}
-use Rattle.std.proofs.lemmas.Option.{none-some}
 use Rattle.annex_base.proofs.Lists.{Each-always, find_member, find_none}
 use Rattle.annex_base.specs.declared.memory.NoMemory.{NoMemory}
 use Rattle.annex_key.specs.FileKey.{key_of_file}
@@ -122,7 +121,7 @@ file_of-location names key is =
     let same : bytes_eq (location_path key) (location_path key) ≡ true = (bytes_eq-Decides (location_path key) (location_path key)).1 refl in
     ap (file_by (location_path key)) kind ∙ ap (location_of (location_path key)) found ∙ ap (λ (b : Bool). if b then Location key else Other (location_path key)) same
 
-pub named_kind : (kind : LogKind) → kind ≢ kinds.Location → kind_named (file_name kind) ≡ Some kind
+named_kind : (kind : LogKind) → kind ≢ kinds.Location → kind_named (file_name kind) ≡ Some kind
 named_kind kinds.Location other = absurd (other refl)
 named_kind kinds.Trust other = refl
 named_kind kinds.Uuid other = refl
@@ -132,14 +131,6 @@ named_kind kinds.Required other = refl
 named_kind kinds.GroupPreferred other = refl
 named_kind kinds.Numcopies other = refl
 named_kind kinds.Mincopies other = refl
-
--- .. and is another than that of a location log
-pub named_kind_other : (name : List ℕ) (kind : LogKind) → kind_named name ≡ Some kind → kind ≢ kinds.Location
-named_kind_other name kind found is = none-some kind (sym (ap kind_named (sym (named_path name kind found) ∙ ap file_name is)) ∙ found)
-
-pub named_found : (name : List ℕ) (o : Option LogKind) → o ≡ kind_named name → IfSome o (λ kind. (kind ≢ kinds.Location) × (file_name kind ≡ name))
-named_found name None is = tt
-named_found name (Some kind) is = (named_kind_other name kind (sym is), named_path name kind (sym is))
 
 -- the kind that a name tells, or none but a location log's
 abbrev or_location : Option LogKind → LogKind

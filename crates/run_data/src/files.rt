@@ -1,10 +1,7 @@
 //! The log files of a branch: their paths and their kinds, and the file of a path.
-ghost use Rattle.std.specs.Prelude.{◌≡◌, ◌≢◌, ◌≤◌, length, Some, IfOk, IfSome};
+ghost use Rattle.std.specs.Prelude.{◌≡◌, ◌≤◌, length, IfOk};
 ghost use Rattle.std.specs.List.{after_first, position_or_len};
-ghost use Rattle.log_lines.specs.declared.entry.LogKind.{LogKind};
-ghost use Rattle.log_lines.specs.declared.entry.LogKind.TheVariants as kinds;
 ghost use Rattle.union_merge.specs.LineSet.{IsLine};
-ghost use Rattle.log_lines.specs.Files.{file_name, kind_named};
 ghost use Rattle.run_data.specs.Files.{HasPath, file_of, file_path, is_slash, kind_of, location_at, log_name};
 
 use crate::entry::LogFile;
@@ -43,20 +40,11 @@ impl LogFile {
         ensures value { IfOk result (λ file. file ≡ file_of path.now) }
         ensures path { IsLine path.now → IfOk result HasPath }
     {
-        match kind_named(path) {
+        match LogKind::named(path) {
             Some(kind) => Ok(LogFile::Of(kind)),
             None => location_at(alloc, path),
         }
     }
-}
-
-/// The kind of log whose file has this name; a location log's has none (git-annex internals: branch files).
-pub fn kind_named(name: &[u8]) -> Option<LogKind>
-    ensures value { result ≡ kind_named name.now }
-    ensures found { IfSome result (λ kind. (kind ≢ kinds.Location) × (file_name kind ≡ name.now)) }
-    ensures only { (kind : LogKind) → kind ≢ kinds.Location → file_name kind ≡ name.now → result ≡ Some kind }
-{
-    LogKind::named(name)
 }
 
 /// The location log of the key whose file has this name, where the path is its; else the file of another name.

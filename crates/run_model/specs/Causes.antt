@@ -1,5 +1,5 @@
 -- Why a drop or a transfer was refused: the entries and the values that its outcome rests on stand in the run (own).
-use Rattle.std.specs.Prelude.{◌≡◌, ◌≢◌, ◌⊎◌, ℕ, ◌+◌, ◌<◌, ◌≤◌, Bool, true, false, not, ◌&&◌, if◌then◌else◌, max, List, [], ◌∷◌, filter, fold, length, map, reverse, Option, Some, None, codes}
+use Rattle.std.specs.Prelude.{◌≡◌, ◌≢◌, ◌⊎◌, ℕ, ◌+◌, ◌<◌, ◌≤◌, Bool, true, false, ◌&&◌, List, [], ◌∷◌, filter, length, map, reverse, Option, Some, None, codes}
 use Rattle.std.specs.List.{list_any, range_with_len}
 use Rattle.annex_base.specs.Lists.{Each, Member}
 use Rattle.annex_base.specs.declared.kinds.Call.{Call}
@@ -24,7 +24,6 @@ use Rattle.run_data.specs.declared.job.DropRefusal.TheVariants.{NotPresent, Held
 use Rattle.run_data.specs.declared.job.Job.{Job}
 use Rattle.run_data.specs.declared.job.JobKind.{JobKind}
 use Rattle.run_data.specs.declared.job.JobKind.TheVariants as kinds
-use Rattle.run_data.specs.declared.job.JobKind.TheVariants.{Drop, MoveTo}
 use Rattle.run_data.specs.declared.job.Outcome.TheVariants.{Refused, TransferRefused}
 use Rattle.run_data.specs.declared.job.Proof.{Proof}
 use Rattle.run_data.specs.declared.job.SourceCause.{SourceCause}
@@ -32,7 +31,6 @@ use Rattle.run_data.specs.declared.job.SourceCause.TheVariants as sources
 use Rattle.run_data.specs.declared.job.SourceFailure.{SourceFailure}
 use Rattle.run_data.specs.declared.job.TransferRefusal.{TransferRefusal}
 use Rattle.run_data.specs.declared.job.TransferRefusal.TheVariants as failures
-use Rattle.run_data.specs.declared.row.Hold.{Hold}
 use Rattle.run_model.specs.Past.{Occurs, bar, begun_job, clock, holds, is_of, jobs, present, is_running}
 use Rattle.node_model.specs.Rows.{blocks}
 use Rattle.p2p_wire.specs.declared.message.Message.TheVariants.{Error, Failure, Get, Invalid, Put, PutFrom, Valid, Version}
@@ -43,17 +41,10 @@ use Rattle.run_model.specs.Logs.{before_step, has_stepped, in_drop, need_read}
 use Rattle.run_model.specs.States.{content}
 use Rattle.run_model.specs.Drops.{evidence, offer_from, in_slot, is_first_step, shuts, standing, candidate_cause, told_cause}
 use Rattle.node_model.specs.Evidence.{candidates, but, is_locked, proof_of, Fails, Ignored}
+use Rattle.node_model.specs.DropStep
+use Rattle.node_model.specs.Jobs.{drop_side, or_own}
 
 -- ---- a job, and its drop
-
-abbrev pub side_by : JobKind → Option ℕ → Side
-side_by Drop None = Local
-side_by MoveTo peer = Local
-side_by _ peer = Remote
-
-abbrev pub target_by : ℕ → Side → Option ℕ → ℕ
-target_by r Remote (Some peer) = peer
-target_by r _ peer = r
 
 -- job j of r, by what it was begun with
 pub record JobOf (past : List Entry) (r j : ℕ) : Type 0 where
@@ -61,10 +52,10 @@ pub record JobOf (past : List Entry) (r j : ℕ) : Type 0 where
   pub begun : begun_job past r j ≡ Some what
 
 abbrev pub side_of : {past : List Entry} → {r j : ℕ} → JobOf past r j → Side
-side_of d = side_by d.what.kind d.what.peer
+side_of d = drop_side d.what.kind d.what.peer
 
 abbrev pub target_of : {past : List Entry} → {r j : ℕ} → JobOf past r j → ℕ
-target_of {r = r} d = target_by r (side_of d) d.what.peer
+target_of {r = r} d = or_own r (side_of d) d.what.peer
 
 -- it is at its first step
 pub record AtFirst (past : List Entry) (r j : ℕ) (d : JobOf past r j) : Type 0 where
@@ -79,17 +70,12 @@ pub record FoundAbsent (past : List Entry) (r j : ℕ) : Type 0 where
   pub at : AtFirst past r j d
   pub absent : present past r d.what.key ≡ false
 
--- until when holds block: an open one without an end
-abbrev pub held_until : List Hold → Option (Option ℕ)
-held_until [] = None
-held_until (h ∷ hs) = Some (if list_any (λ x. not x.kept) (h ∷ hs) then None else Some (fold (λ latest x. max latest x.end) h.end hs))
-
 pub record FoundHeld (repos : List RepoView) (past : List Entry) (r j time : ℕ) (until : Option ℕ) : Type 0 where
   pub d : JobOf past r j
   pub at : AtFirst past r j d
   pub there : present past r d.what.key ≡ true
   pub free : bar past r d.what.key ≡ None
-  pub held : held_until (filter (blocks d.what.key (clock repos past r time)) (holds past r)) ≡ Some until
+  pub held : DropStep.until (filter (blocks d.what.key (clock repos past r time)) (holds past r)) ≡ Some until
 
 pub record FoundBarred (past : List Entry) (r j other : ℕ) : Type 0 where
   pub d : JobOf past r j

@@ -1,7 +1,7 @@
 //! The log files of a branch, read off their paths.
 use annex_key::Key;
 use log_lines::LogKind;
-use run_data::{LogFile, kind_named};
+use run_data::LogFile;
 use std::test::Fail;
 
 #[test]
@@ -52,11 +52,4 @@ fn location_logs_are_of_their_keys(rt: HostRuntime) -> Result<(), Fail> {
         }
     }
     Ok(())
-}
-
-#[test]
-fn names_of_kinds(rt: HostRuntime) {
-    assert_eq!(rt; kind_named(b"group.log"), Some(LogKind::Group));
-    assert_eq!(rt; kind_named(b"975/c65/WORM-s3--abc.log"), None);
-    assert_eq!(rt; kind_named(b""), None);
 }

@@ -1,13 +1,10 @@
 //! The commands of a script, one for each form of line.
-ghost use Rattle.std.specs.Prelude.{◌≡◌, List, [], ◌∷◌, ◌++◌, OnOk, OnErr};
 
-use annex_base::{Call, Level, Line, NoMemory, RepoId, Text};
+use annex_base::{Call, Items, Level, Line, RepoId, Text};
 use annex_key::Key;
 use log_lines::GroupList;
 use run_data::{Job, LogFile};
 use script_words::Content;
-use std::alloc::{AllocError, Global};
-use std::marker::Model;
 
 /// A key as a line names it.
 #[derive(Clone, Debug, Drop)]
@@ -28,58 +25,6 @@ pub enum BlockLine {
     Close { repo: u32, other: u32 },
     /// `fail REPO CALL`
     Fail { repo: u32, call: Call },
-}
-
-/// The lines of a block, which contracts see as a list.
-#[derive(Debug, Drop)]
-pub struct BlockLines {
-    lines: Vec<BlockLine>,
-}
-
-impl Model for BlockLines {
-    ghost use Rattle.std.specs.Prelude.{List};
-    ghost use Rattle.script_lang.specs.declared.command.BlockLine.{BlockLine};
-
-    ghost Value = { List BlockLine };
-
-    ghost view = { λ b. b.lines.items };
-}
-
-impl BlockLines {
-    /// No lines.
-    pub fn new(alloc: Global) -> BlockLines
-        ensures { result ≡ [] }
-    {
-        BlockLines {
-            lines: Vec::new(alloc),
-        }
-    }
-
-    /// The lines in order.
-    pub fn as_slice(&self) -> &[BlockLine]
-        ensures { result.now ≡ self.now }
-    {
-        &self.lines
-    }
-
-    /// Adds a line at the end.
-    pub fn push(&mut self, line: BlockLine) -> Result<(), NoMemory>
-        ensures ok { OnOk result (self.new ≡ self.old ++ line ∷ []) }
-        ensures err { OnErr result (self.new ≡ self.old) }
-    {
-        self.lines.push(line)?;
-        Ok(())
-    }
-}
-
-impl Clone for BlockLines {
-    ghost is_clone = { λ x y. y ≡ x };
-
-    fn clone(&self) -> Result<BlockLines, AllocError> {
-        Ok(BlockLines {
-            lines: self.lines.clone()?,
-        })
-    }
 }
 
 /// A line of a script, or the lines of a block (own). A repository is named by its number, in order of the `repo`
@@ -240,7 +185,7 @@ pub enum Command {
     },
     /// `par`, the lines of the block, `end`
     Par {
-        lines: BlockLines,
+        lines: Items<BlockLine>,
     },
     /// `show presence KEY`
     ShowPresence {

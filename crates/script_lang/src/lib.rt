@@ -26,7 +26,7 @@ mod verify;
 
 use annex_base::crosses;
 pub use changes::{Change, change_of};
-pub use command::{BlockLine, BlockLines, Command, NamedKey};
+pub use command::{BlockLine, Command, NamedKey};
 pub use fault::{Quantity, ScriptFault};
 pub use laws::{
     first_faults_are_told, later_lines_change_no_fault, right_lines_say_their_commands,

@@ -8,7 +8,7 @@ ghost use Rattle.script_lang.specs.Script as spec;
 ghost use Rattle.script_lang.specs.Script.{line_verb_at, with_command, no_lines};
 
 use crate::applying::apply;
-use crate::command::{BlockLines, Command};
+use crate::command::{BlockLine, Command};
 use crate::context::Context;
 use crate::fault::LineFault;
 use crate::forms::read_command;
@@ -16,7 +16,7 @@ use crate::jobs::read_block_line;
 use crate::limits::first_limit;
 use crate::steps::{end, next_word, wrong, wrong_word};
 use crate::verb::{LineVerb, Verb};
-use annex_base::NoMemory;
+use annex_base::{Items, NoMemory};
 use annex_key::Tree;
 use script_words::Words;
 use std::alloc::Global;
@@ -27,7 +27,7 @@ use std::marker::Model;
 #[derive(Debug, Drop)]
 pub struct Block {
     pub number: u64,
-    pub lines: BlockLines,
+    pub lines: Items<BlockLine>,
 }
 
 /// What the lines so far say.
@@ -126,7 +126,7 @@ impl State {
                 end(words)?;
                 self.block = Some(Block {
                     number,
-                    lines: BlockLines::new(alloc),
+                    lines: Items::new(alloc),
                 });
                 Ok(())
             }

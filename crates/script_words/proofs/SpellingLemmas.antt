@@ -1,5 +1,5 @@
 -- What is found in a line is what is written there.
-use Rattle.std.proofs.Common.{◌≡◌, ◌≢◌, inl, inr, ℕ, suc, ◌+◌, true, false, List, [], ◌∷◌, ◌++◌, length, take, drop, refl, sym, ap, subst, ◌∙◌, arith, append_assoc, drop-drop}
+use Rattle.std.proofs.Common.{◌≡◌, ◌≢◌, inl, inr, ℕ, suc, ◌+◌, true, false, List, [], ◌∷◌, ◌++◌, length, take, drop, refl, sym, ap, subst, ◌∙◌, arith, append_assoc, drop-drop, one-add}
 use Rattle.std.specs.Prelude.{◌==◌}
 use Rattle.std.specs.List.{prefix_len, list_all}
 use Rattle.std.specs.Str.{is_utf8}
@@ -9,7 +9,8 @@ use Rattle.std.proofs.lemmas.List.Folds.{length-prefix_len}
 use Rattle.std.proofs.Math.ListN.{drop_of_length-le}
 use Rattle.annex_base.specs.Lines.{space, is_space, is_not_space}
 use Rattle.annex_base.proofs.Conditions.{if_is, by_test}
-use Rattle.script_words.proofs.FrontLemmas.{one_add, front_passes, Stops, rest_stops, front_len, all_len}
+use Rattle.annex_base.proofs.Lists.{prefix_len-whole}
+use Rattle.script_words.proofs.FrontLemmas.{front_passes, Stops, rest_stops, front_len}
 use Rattle.script_words.specs.Places.{LineWord}
 use Rattle.script_words.specs.declared.words.NextWord.TheVariants.{NoWord, BadWord, Word}
 use Rattle.script_words.specs.Words.{quote, is_not_quote, is_break, closes, text_word, quoted_word, plain_word, word_from, after_spaces, next_word, has_space, printed_word}
@@ -101,7 +102,7 @@ unfolding plain_word
 plain_written at b bytes w past unquoted e =
     let n = prefix_len is_not_space (b ∷ bytes) in
     let m = prefix_len is_not_space bytes in
-    let n_is : n ≡ suc m = rw past (one_add m) in
+    let n_is : n ≡ suc m = rw past (one-add m) in
     let is = text_is at (at + n) (take n (b ∷ bytes)) w e in
     let front : take n (b ∷ bytes) ≡ b ∷ take m bytes = ap (λ k. take k (b ∷ bytes)) n_is in
     subst (Written at (b ∷ bytes)) is.1 (record {
@@ -177,7 +178,7 @@ pub blank_found : (line : List ℕ) (place : ℕ) → IsBlank line place → nex
 unfolding next_word word_from
 blank_found line place blank =
     let d = drop place line in
-    let n = all_len is_space d blank in
+    let n = prefix_len-whole is_space d blank in
     let none : drop (place + length d) line ≡ [] = sym (drop-drop (length d) place line) ∙ drop_of_length-le d (omega arith) in
     ap (λ k. word_from (place + k) (drop (place + k) line)) n ∙ ap (word_from (place + length d)) none
 

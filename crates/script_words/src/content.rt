@@ -8,11 +8,11 @@ use crate::marks::behind;
 use crate::numbers::read_number;
 use annex_base::{NoMemory, Text, parse_decimal};
 use hex::FromHexError;
-use std::alloc::{AllocError, Global};
+use std::alloc::Global;
 use std::marker::Model;
 
 /// How the bytes are held.
-#[derive(Debug, Drop)]
+#[derive(Clone, Debug, Drop)]
 enum Form {
     Bytes(Text),
     Fill { size: u64, start: u8 },
@@ -20,7 +20,7 @@ enum Form {
 
 /// A content, which contracts see as the list of its bytes. It is held as it was described, so a long filling takes no
 /// memory.
-#[derive(Debug, Drop)]
+#[derive(Clone, Debug, Drop)]
 pub struct Content {
     form: Form,
 }
@@ -76,24 +76,6 @@ impl Content {
         ensures { IfOk result (λ c. c ≡ self.now) }
     {
         Ok(self.clone()?)
-    }
-}
-
-impl Clone for Content {
-    ghost is_clone = { λ x y. y ≡ x };
-
-    fn clone(&self) -> Result<Content, AllocError> {
-        match &self.form {
-            Form::Bytes(bytes) => Ok(Content {
-                form: Form::Bytes(bytes.clone()?),
-            }),
-            Form::Fill { size, start } => Ok(Content {
-                form: Form::Fill {
-                    size: *size,
-                    start: *start,
-                },
-            }),
-        }
     }
 }
 

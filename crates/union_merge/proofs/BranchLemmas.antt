@@ -1,9 +1,10 @@
 -- The files of a branch: what a look-up finds, what a change leaves, and that a branch is told by its paths and lines.
-use Rattle.std.proofs.Common.{◌≡◌, ◌⊎◌, inl, inr, ℕ, List, [], ◌∷◌, Some, None, refl, sym, ap, subst, ◌∙◌}
+use Rattle.std.proofs.Common.{◌≡◌, ◌⊎◌, inl, inr, ℕ, List, [], ◌∷◌, Option, Some, None, IsSome, refl, sym, ap, subst, ◌∙◌, rules}
 use Rattle.std.specs.Map.{keys_of}
 use Rattle.annex_base.specs.ByteOrder.{text_cmp, Before, IsInOrder}
 use Rattle.annex_base.specs.Lists.{Member, Each}
 use Rattle.annex_base.proofs.TextOrder.{below, tied, above, compared, text_cmp-same, before_after, Before-itself, Before-other, order_nil, order_cons, order_head, order_tail, BeforeAll-member, BeforeAll-from_members, BeforeAll-trans}
+use Rattle.annex_base.proofs.Options.{some_none}
 use Rattle.union_merge.specs.LineSet.{IsLine, IsLineSet, union}
 use Rattle.union_merge.specs.Branch.{Files, IsBranch, file_at, or_none, lines_at, with_file, merged_file}
 use Rattle.union_merge.proofs.SetLemmas.{Lines, same_members, union-is_set, empty-is_set}
@@ -51,9 +52,6 @@ file_at-missing [] path none = refl
 file_at-missing (f ∷ files) path none =
     file_at-other f files path (λ same. none (inl same)) ∙ file_at-missing files path (λ among. none (inr among))
 
-some_none : (lines : Lines) → Some lines ≡ None → ⊥
-some_none lines e = cc
-
 -- and one that a file has finds lines
 pub file_at-there : (files : Files) (path : List ℕ) → Member path (Paths files) → file_at files path ≡ Some (lines_at files path)
 file_at-there [] path among = absurd among
@@ -64,6 +62,11 @@ file_at-there (f ∷ files) path among =
       | tied same ↦ file_at-tied f files path same ∙ ap Some (sym (lines_at-tied f files path same))
       | above more ↦ file_at-above f files path more ∙ later (λ same. Before-other f.0 path more (sym same)) ∙ ap (λ o. Some (or_none o)) (sym (file_at-above f files path more))
     ]
+
+-- a look-up that is said to find lines doesn't find none
+pub never_none : (o : Option Lines) → o ≡ None → IsSome o → ⊥
+never_none (Some x) e some = absurd cc
+never_none None e some = search rules
 
 pub Member-file_at : (files : Files) (path : List ℕ) (lines : Lines) → file_at files path ≡ Some lines → Member path (Paths files)
 Member-file_at [] path lines found = absurd (some_none lines (sym found))

@@ -1,7 +1,7 @@
 -- The lines of one set that another lacks.
-use Rattle.std.proofs.Common.{◌≡◌, ◌⊎◌, ◌↔◌, inl, inr, ℕ, List, [], ◌∷◌, ◌++◌, Bool, true, false, cond, ◌||◌, not, filter, refl, sym, ap, ◌∙◌, true≢false}
+use Rattle.std.proofs.Common.{◌≡◌, ◌⊎◌, ◌↔◌, inl, inr, ℕ, List, [], ◌∷◌, ◌++◌, Bool, true, false, cond, ◌||◌, not, filter, refl, sym, ap, subst, ◌∙◌, true≢false}
 use Rattle.std.specs.Prelude.{IsTrue, bytes_eq}
-use Rattle.std.proofs.lemmas.Bool.{cases_Bool}
+use Rattle.std.proofs.lemmas.Bool.{cases_Bool, or_right}
 use Rattle.std.proofs.lemmas.Slice.Eq.{bytes_eq-Decides}
 use Rattle.annex_base.specs.Lists.{Member}
 use Rattle.annex_base.specs.ByteOrder.{IsInOrder}
@@ -24,12 +24,8 @@ member_any : (line : List ℕ) (lines : Lines) → Member line lines → has_lin
 member_any line [] among = absurd among
 member_any line (x ∷ xs) among = elim among [
   | inl same ↦ rw ((bytes_eq-Decides line x).1 same) refl
-  | inr later ↦ or_true (bytes_eq line x) (has_line xs line) (member_any line xs later)
+  | inr later ↦ or_right (bytes_eq line x) (has_line xs line) (member_any line xs later)
 ]
-  where
-    or_true : (b c : Bool) → c ≡ true → (b || c) ≡ true
-    or_true true c e = refl
-    or_true false c e = e
 
 -- the test by a set of lines is the test of each line
 pub any_is : (line : List ℕ) (lines : Lines) (b : Bool) → IsTrue b ↔ Member line lines → b ≡ has_line lines line
@@ -88,6 +84,15 @@ union-difference xs ys sorted =
         | inr old ↦ union-left z xs (difference ys xs) old
       ]
     ])
+
+-- lines that a set lacks are taken off its union with them
+pub difference-union : (xs ys : Lines) → IsInOrder xs → difference ys xs ≡ ys → difference (union xs ys) ys ≡ xs
+difference-union xs ys sorted lacks =
+    same_members (difference (union xs ys) ys) xs (filter-in_order (λ line. not (has_line ys line)) (union xs ys) (union-in_order xs ys sorted)) sorted
+    (λ z among.
+    let left = difference-parts z (union xs ys) ys among in
+    elim (Member-union z xs ys left.0) [ inl own ↦ own | inr new ↦ absurd (left.1 new) ])
+    (λ z among. difference-from z (union xs ys) ys (union-left z xs ys among) (λ new. (difference-parts z ys xs (subst (Member z) (sym lacks) new)).1 among))
 
 -- the lines of both in one list are the lines of both
 pub union-joined : (xs ys : Lines) → IsInOrder xs → union [] (xs ++ ys) ≡ union xs ys

@@ -1,5 +1,5 @@
 -- The place of a line in a list in order, and what sorting a list leaves.
-use Rattle.std.proofs.Common.{◌≡◌, ◌⊎◌, inl, inr, ℕ, zero, suc, ◌+◌, ◌<◌, ◌≤◌, List, [], ◌∷◌, true, false, length, get_or, Result, Ok, Err, arith, refl, sym, ap, subst, ◌∙◌}
+use Rattle.std.proofs.Common.{◌≡◌, inl, inr, ℕ, zero, suc, ◌+◌, ◌<◌, ◌≤◌, List, [], ◌∷◌, true, false, length, get_or, Result, Ok, Err, arith, refl, sym, ap, subst, ◌∙◌}
 use Rattle.std.specs.declared.cmp.Ordering.{Ordering}
 use Rattle.std.specs.declared.cmp.Ordering.TheVariants.{Less, Greater}
 use Rattle.std.specs.Ordering.{is_lt}
@@ -50,12 +50,10 @@ not_among : (line : List ℕ) (xs : Lines) (i : ℕ)
     → Member line xs → ⊥
 not_among line xs i front back among =
     let c = Contains-from_Member xs line among in
-    elim (low_or_high c.0 i) [
+    elim (cases_lt c.0 i) [
       | inl low ↦ Before-other (get_or xs c.0 line) line (front c.0 line (omega arith) low) c.2
       | inr high ↦ Before-other line (get_or xs c.0 line) (after_before (get_or xs c.0 line) line (back c.0 line high c.1)) (sym c.2)
-    ] where
-      low_or_high : (k i : ℕ) → (k < i) ⊎ (i ≤ k)
-      low_or_high k i = elim (cases_lt k i) [ inl a ↦ inl a | inr b ↦ inr b ]
+    ]
 
 pub searched : (line : List ℕ) (xs : Lines) (r : Result ℕ ℕ) → IsInOrder xs → MatchResult r (λ i. i < length xs) (λ i. i ≤ length xs) → IsBinarySearchResult (λ y. text_cmp y line) xs r
     → MatchResult r (λ i. Member line xs) (λ i. (insert xs i line ≡ with_line xs line) × (Member line xs → ⊥))

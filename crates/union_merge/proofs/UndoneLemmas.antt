@@ -1,14 +1,16 @@
 -- Files that are put back as they were, and files without one.
-use Rattle.std.proofs.Common.{◌≡◌, ◌⊎◌, inl, inr, ℕ, Bool, true, false, cond, List, [], ◌∷◌, Option, Some, None, refl, sym, ap, subst, ◌∙◌}
-use Rattle.std.specs.Map.{keys_of, remove_entry}
+use Rattle.std.proofs.Common.{◌≡◌, inl, inr, ℕ, Bool, true, false, cond, List, [], ◌∷◌, Option, Some, None, refl, sym, ap, subst, ◌∙◌}
+use Rattle.std.specs.Map.{remove_entry}
 use Rattle.std.specs.Ordering.{is_eq}
 use Rattle.annex_base.specs.ByteOrder.{text_cmp, Before, IsInOrder}
 use Rattle.annex_base.specs.Lists.{Member, Each}
-use Rattle.annex_base.proofs.TextOrder.{below, tied, above, compared, text_cmp-itself, before_after, Before-other, Before-back, order_nil, order_cons, order_head, order_tail, BeforeAll-member, BeforeAll-from_members}
-use Rattle.union_merge.specs.Branch.{Files, IsBranch, file_at, with_file, without_file, with_back}
+use Rattle.annex_base.proofs.TextOrder.{below, tied, above, compared, text_cmp-itself, before_after, Before-other, Before-back, order_cons, order_head, order_tail, BeforeAll-member, BeforeAll-from_members}
+use Rattle.union_merge.specs.Branch.{Files, IsBranch, file_at, lines_at, merged_file, or_none, with_file, without_file, with_back}
+use Rattle.union_merge.specs.LineSet.{difference, union}
 use Rattle.union_merge.specs.FileView.{files_of}
 use Rattle.union_merge.proofs.SetLemmas.{Lines}
-use Rattle.union_merge.proofs.BranchLemmas.{File, IsFile, Paths, file_at-missing, file_at-tied, file_at-above, with_file-tied, with_file-above, with_file-below}
+use Rattle.union_merge.proofs.BranchLemmas.{File, IsFile, Paths, file_at-missing, file_at-tied, file_at-above, lines_at-is_set, lines_at-with_file_same, with_file-tied, with_file-above, with_file-below}
+use Rattle.union_merge.proofs.DifferenceLemmas.{difference-union}
 use Rattle.union_merge.proofs.ViewLemmas.{Row, is_path}
 
 -- ---- without a file
@@ -84,3 +86,17 @@ put_back-whole (f ∷ files) path lines sorted = elim (compared path f.0) [
       ∙ with_back-above f (with_file files path lines) path (file_at files path) more
       ∙ ap (λ (w : Files). f ∷ w) (put_back-whole files path lines (order_tail f.0 (Paths files) sorted))
 ]
+
+-- ---- lines that are taken off
+
+pub new_lines-off : (files : Files) (path : List ℕ) (own lines : Lines) → IsBranch files → file_at files path ≡ Some own → difference lines own ≡ lines
+    → with_file (merged_file files path lines) path (difference (lines_at (merged_file files path lines) path) lines) ≡ files
+new_lines-off files path own lines is found lacks =
+    let at : lines_at files path ≡ own = ap or_none found in
+    let sorted : IsInOrder own = subst IsInOrder at (lines_at-is_set files path is.each).sorted in
+    let all = union (lines_at files path) lines in
+    ap (λ (w : Lines). with_file (with_file files path all) path (difference w lines)) (lines_at-with_file_same files path all)
+    ∙ ap (λ (w : Lines). with_file (with_file files path all) path (difference (union w lines) lines)) at
+    ∙ ap (with_file (with_file files path all) path) (difference-union own lines sorted lacks)
+    ∙ sym (ap (with_back (with_file files path all) path) found)
+    ∙ put_back-whole files path all is.sorted

@@ -5,7 +5,6 @@ use Rattle.std.specs.declared.alloc.Global.{Global}
 use Rattle.std.specs.Ordering.{is_eq}
 use Rattle.std.specs.Map.{keys_of, lookup, set_value}
 use Rattle.std.specs.BTreeMap.{insert_entry}
-use Rattle.std.specs.List.{AllZip}
 use Rattle.annex_base.specs.ByteOrder.{text_cmp, Before, IsInOrder, path_cmp}
 use Rattle.annex_base.specs.Lists.{Member}
 use Rattle.annex_base.proofs.TextOrder.{below, tied, above, compared, text_cmp-same, before_after, Before-other, Before-back, order_head, order_tail, BeforeAll-member}
@@ -21,15 +20,6 @@ Row = Vec ℕ Global × List (List ℕ)
 pub file_is : (old new : Files) (es : List Row) (path : Vec ℕ Global) (lines : Lines) (p : List ℕ) → new ≡ files_of (insert_entry path_cmp es path lines) → files_of es ≡ old → path.items ≡ p → new ≡ with_file old p lines
 file_is old new es path lines p is before same =
     is ∙ shown-insert_entry es path lines ∙ ap (λ (w : Files). with_file w path.items lines) before ∙ ap (λ (w : List ℕ). with_file old w lines) same
-
--- a clone has the same files
-pub files_of-clone : (C : Vec ℕ Global → Vec ℕ Global → Type 0) (D : Lines → Lines → Type 0) → ((x y : Vec ℕ Global) → C x y → y.items ≡ x.items) → ((v w : Lines) → D v w → w ≡ v) → (es fs : List Row) → AllZip (λ p q. C p.0 q.0 × D p.1 q.1) es fs → files_of fs ≡ files_of es
-files_of-clone C D paths lines [] [] all = refl
-files_of-clone C D paths lines [] (f ∷ fs) all = absurd all
-files_of-clone C D paths lines (e ∷ es) [] all = absurd all
-files_of-clone C D paths lines (e ∷ es) (f ∷ fs) all =
-    ap (λ (p : List ℕ). (p, f.1) ∷ files_of fs) (paths e.0 f.0 all.0.0) ∙ ap (λ (t : Lines). (e.0.items, t) ∷ files_of fs) (lines e.1 f.1 all.0.1)
-    ∙ ap (λ (w : Files). (e.0.items, e.1) ∷ w) (files_of-clone C D paths lines es fs all.1)
 
 pub keys_of-files_of : (es : List Row) → keys_of (files_of es) ≡ map (λ p. p.items) (keys_of es)
 keys_of-files_of [] = refl

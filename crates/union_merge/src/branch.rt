@@ -5,13 +5,13 @@ ghost use Rattle.std.specs.List.Sorted.{IsStrictlySortedBy};
 ghost use Rattle.std.specs.Map.{keys_of};
 ghost use Rattle.annex_base.specs.ByteOrder.{text_cmp, path_cmp};
 ghost use Rattle.std.specs.Option.{option_copied};
-ghost use Rattle.union_merge.specs.LineSet.{IsLine};
-ghost use Rattle.union_merge.specs.Branch.{IsBranch, file_at, with_back, with_file, without_file, merged_file};
+ghost use Rattle.union_merge.specs.LineSet.{IsLine, difference};
+ghost use Rattle.union_merge.specs.Branch.{IsBranch, file_at, lines_at, with_back, with_file, without_file, merged_file};
 ghost use Rattle.union_merge.specs.FileView.{files_of};
 
 use crate::line_set::LineSet;
 use annex_base::{NoMemory, Text};
-use std::alloc::{AllocError, Global};
+use std::alloc::Global;
 use std::collections::BTreeMap;
 use std::collections::btree_map::Iter;
 use std::marker::Model;
@@ -88,6 +88,15 @@ impl Branch {
         }
     }
 
+    /// Takes lines off a file that is there. It takes no memory.
+    pub fn take_lines_off(&mut self, path: &[u8], lines: &LineSet)
+        requires line { IsLine path.now }
+        requires there { IsSome (file_at self.old path.now) }
+        ensures { self.new ≡ with_file self.old path.now (difference (lines_at self.old path.now) lines.now) }
+    {
+        take_lines(&mut self.files, path, lines);
+    }
+
     fn set_file(&mut self, path: &[u8], lines: LineSet)
         requires line { IsLine path.now }
         requires there { IsSome (file_at self.old path.now) }
@@ -124,17 +133,6 @@ impl Branch {
         ensures { IfOk result (λ v. v.items ≡ keys_of self.now) }
     {
         paths_in(self.alloc, &self.files)
-    }
-}
-
-impl Clone for Branch {
-    ghost is_clone = { λ x y. y ≡ x };
-
-    fn clone(&self) -> Result<Branch, AllocError> {
-        Ok(Branch {
-            files: self.files.clone()?,
-            alloc: self.alloc,
-        })
     }
 }
 
@@ -178,6 +176,18 @@ fn set_lines(files: &mut BTreeMap<Vec<u8>, LineSet>, path: &[u8], lines: LineSet
         unreachable!();
     };
     *own = lines;
+}
+
+// Takes lines off a file that is there.
+fn take_lines(files: &mut BTreeMap<Vec<u8>, LineSet>, path: &[u8], lines: &LineSet)
+    requires order { IsStrictlySortedBy text_cmp (keys_of (files_of files.old.entries)) }
+    requires there { IsSome (file_at (files_of files.old.entries) path.now) }
+    ensures { files_of files.new.entries ≡ with_file (files_of files.old.entries) path.now (difference (lines_at (files_of files.old.entries) path.now) lines.now) }
+{
+    let Some(own) = files.get_mut(path) else {
+        unreachable!();
+    };
+    own.take_off(lines);
 }
 
 fn take_off(files: &mut BTreeMap<Vec<u8>, LineSet>, path: &[u8])

@@ -4,7 +4,7 @@ ghost use Rattle.std.specs.Prelude.{◌≡◌, ◌≢◌, ◌⊎◌, ◌↔◌, 
 ghost use Rattle.std.specs.Map.{keys_of};
 ghost use Rattle.annex_base.specs.Lists.{Member, Each};
 ghost use Rattle.union_merge.specs.LineSet.{IsLineSet, union, difference, set_of, text_of};
-ghost use Rattle.union_merge.specs.Branch.{Files, IsBranch, lines_at, file_at, with_back, with_file, merged_branch, merge_by_path, merged_branches, HasLinesOfBoth};
+ghost use Rattle.union_merge.specs.Branch.{Files, IsBranch, lines_at, file_at, with_back, with_file, merged_file, merged_branch, merge_by_path, merged_branches, HasLinesOfBoth};
 
 /// The union of two sets of lines has exactly the lines of both, whichever comes first, in whatever groups, and however
 /// often (git-annex internals: branch files).
@@ -66,4 +66,9 @@ pub fn files_are_changed_alone()
     ensures there { (files : Files) (path : List ℕ) (lines : List (List ℕ)) → file_at (with_file files path lines) path ≡ Some lines }
     ensures other { (files : Files) (path other : List ℕ) (lines : List (List ℕ)) → other ≢ path → lines_at (with_file files path lines) other ≡ lines_at files other }
     ensures back { (files : Files) (path : List ℕ) (lines : List (List ℕ)) → IsBranch files → with_back (with_file files path lines) path (file_at files path) ≡ files }
+{}
+
+/// Lines that a file lacked and was given are taken off again, and the branch is as before.
+pub fn new_lines_are_taken_off_again()
+    ensures { (files : Files) (path : List ℕ) (own lines : List (List ℕ)) → IsBranch files → file_at files path ≡ Some own → difference lines own ≡ lines → with_file (merged_file files path lines) path (difference (lines_at (merged_file files path lines) path) lines) ≡ files }
 {}

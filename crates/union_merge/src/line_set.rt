@@ -20,7 +20,7 @@ const FEW: usize = 64;
 
 /// The lines of a file of a branch, as a set (git-annex internals: branch files). Contracts see it as the list of its
 /// lines in byte order, each once. A line has a byte or more, and no newline.
-#[derive(Debug, Drop)]
+#[derive(Clone, Debug, Drop)]
 pub struct LineSet {
     lines: Vec<Line>,
 }
@@ -92,6 +92,13 @@ impl LineSet {
         Ok(())
     }
 
+    /// Takes the lines of another set off. It takes no memory.
+    pub fn take_off(&mut self, other: &LineSet)
+        ensures { self.new ≡ difference self.old other.now }
+    {
+        keep_others(&mut self.lines, other);
+    }
+
     /// Those of its lines that the other set lacks.
     pub fn difference(&self, other: &LineSet) -> Result<LineSet, NoMemory>
         ensures { IfOk result (λ s. s ≡ difference self.now other.now) }
@@ -142,16 +149,6 @@ pub fn is_line(bytes: &[u8]) -> bool
     ensures { IsTrue result ↔ IsLine bytes.now }
 {
     !bytes.is_empty() && !bytes.contains(&b'\n')
-}
-
-impl Clone for LineSet {
-    ghost is_clone = { λ x y. y ≡ x };
-
-    fn clone(&self) -> Result<LineSet, AllocError> {
-        Ok(LineSet {
-            lines: self.lines.clone()?,
-        })
-    }
 }
 
 impl PartialEq for LineSet {
@@ -219,6 +216,13 @@ fn lines_without(alloc: Global, lines: &[Line], other: &LineSet) -> Result<Vec<L
         }
     }
     Ok(new)
+}
+
+// Keeps those of the lines that the set lacks.
+fn keep_others(lines: &mut Vec<Line>, other: &LineSet)
+    ensures { lines.new.items ≡ difference lines.old.items other.now }
+{
+    lines.retain(|line| !is_among(other, line.bytes()));
 }
 
 // Adds lines for which there is room: few each in its place, which moves what stands behind it, and many at the end,

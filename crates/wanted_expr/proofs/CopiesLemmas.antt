@@ -6,7 +6,7 @@ use Rattle.std.specs.List.{list_all}
 use Rattle.std.proofs.lemmas.Bool.{and_parts, and_from, eqb-true}
 use Rattle.std.proofs.lemmas.List.{take-append-drop}
 use Rattle.annex_base.proofs.Conditions.{by_test}
-use Rattle.annex_base.proofs.Lists.{list_all_parts, list_all_weaker}
+use Rattle.annex_base.proofs.Lists.{list_all_parts, list_all_weaker, cons_first, cons_rest}
 use Rattle.wanted_expr.specs.declared.data.Among.{Among}
 use Rattle.wanted_expr.specs.declared.data.Among.TheVariants.{All, OfLevel, OfLevelOrMore, InGroup}
 use Rattle.wanted_expr.specs.declared.word.WordFault.{WordFault}
@@ -17,12 +17,6 @@ use Rattle.wanted_expr.proofs.WordLemmas.{digit_bounds}
 
 abbrev pub is_colonless : List ℕ → Bool
 is_colonless bs = list_all (λ b. not (b == 58)) bs
-
-same_first : (a b : ℕ) (xs ys : List ℕ) → a ∷ xs ≡ b ∷ ys → a ≡ b
-same_first a b xs ys e = cc
-
-same_rest : (a b : ℕ) (xs ys : List ℕ) → a ∷ xs ≡ b ∷ ys → xs ≡ ys
-same_rest a b xs ys e = cc
 
 cons_both : (a b : ℕ) (xs ys : List ℕ) → a ≡ b → xs ≡ ys → a ∷ xs ≡ b ∷ ys
 cons_both a b xs ys e f = cc
@@ -43,14 +37,14 @@ colon_inside front back all =
     true≢false (sym j.0)
 
 pub same_cut : (front back front2 back2 : List ℕ) → front ++ 58 ∷ back ≡ front2 ++ 58 ∷ back2 → is_colonless back ≡ true → is_colonless back2 ≡ true → (front ≡ front2) × (back ≡ back2)
-same_cut [] back [] back2 e c c2 = (refl, same_rest 58 58 back back2 e)
+same_cut [] back [] back2 e c c2 = (refl, cons_rest 58 58 back back2 e)
 same_cut [] back (y ∷ front2) back2 e c c2 =
-    absurd (colon_inside front2 back2 (subst (λ (w : List ℕ). is_colonless w ≡ true) (same_rest 58 y back (front2 ++ 58 ∷ back2) e) c))
+    absurd (colon_inside front2 back2 (subst (λ (w : List ℕ). is_colonless w ≡ true) (cons_rest 58 y back (front2 ++ 58 ∷ back2) e) c))
 same_cut (x ∷ front) back [] back2 e c c2 =
-    absurd (colon_inside front back (subst (λ (w : List ℕ). is_colonless w ≡ true) (sym (same_rest x 58 (front ++ 58 ∷ back) back2 e)) c2))
+    absurd (colon_inside front back (subst (λ (w : List ℕ). is_colonless w ≡ true) (sym (cons_rest x 58 (front ++ 58 ∷ back) back2 e)) c2))
 same_cut (x ∷ front) back (y ∷ front2) back2 e c c2 =
-    let k = same_cut front back front2 back2 (same_rest x y (front ++ 58 ∷ back) (front2 ++ 58 ∷ back2) e) c c2 in
-    (cons_both x y front front2 (same_first x y (front ++ 58 ∷ back) (front2 ++ 58 ∷ back2) e) k.0, k.1)
+    let k = same_cut front back front2 back2 (cons_rest x y (front ++ 58 ∷ back) (front2 ++ 58 ∷ back2) e) c c2 in
+    (cons_both x y front front2 (cons_first x y (front ++ 58 ∷ back) (front2 ++ 58 ∷ back2) e) k.0, k.1)
 
 colonless_by : (w : List ℕ) → ((k : ℕ) → k < length w → get_or w k 0 ≡ 58 → ⊥) → is_colonless w ≡ true
 colonless_by [] h = refl

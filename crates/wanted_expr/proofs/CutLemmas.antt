@@ -6,6 +6,7 @@ use Rattle.std.proofs.lemmas.Bool.{eqb-true}
 use Rattle.std.proofs.lemmas.List.{take-append-drop}
 use Rattle.std.proofs.lemmas.List.Sums.{prefix_len-le-length}
 use Rattle.annex_base.proofs.Conditions.{by_test}
+use Rattle.annex_base.proofs.Lists.{cons_first}
 use Rattle.wanted_expr.specs.Words.{name_of}
 
 abbrev pub end_of : List ℕ → ℕ
@@ -24,11 +25,8 @@ equals_next [] x rest e = absurd (omega (arith, ap length e))
 equals_next (b ∷ bs) x rest e =
     let one_more : 1 + end_of bs ≡ suc (end_of bs) = omega arith in
     by_test (b == 61)
-    (λ t. let k : b ∷ bs ≡ x ∷ rest = rw t at e in sym (first b x bs rest k) ∙ eqb-true b 61 t)
+    (λ t. let k : b ∷ bs ≡ x ∷ rest = rw t at e in sym (cons_first b x bs rest k) ∙ eqb-true b 61 t)
     (λ t. let k : drop (1 + end_of bs) (b ∷ bs) ≡ x ∷ rest = rw t at e in equals_next bs x rest (ap (λ (n : ℕ). drop n (b ∷ bs)) (sym one_more) ∙ k))
-  where
-    first : (a c : ℕ) (xs ys : List ℕ) → a ∷ xs ≡ c ∷ ys → a ≡ c
-    first a c xs ys e = cc
 
 pub within : (text : List ℕ) (end : ℕ) → end ≡ end_of text → end ≤ length text
 within text end e = rw e (prefix_len-le-length (λ b. not (b == 61)) text)

@@ -1,8 +1,8 @@
 -- Reading stops exactly at the first fault.
-use Rattle.std.proofs.Common.{◌≡◌, ◌⊎◌, inl, inr, ℕ, ◌<◌, false, List, [], ◌∷◌, length, Option, Some, None, Result, Ok, Err, refl, sym, ap, subst, ◌∙◌, arith, true≢false}
+use Rattle.std.proofs.Common.{◌≡◌, ◌⊎◌, inl, inr, ℕ, ◌<◌, false, List, [], ◌∷◌, length, Option, Some, None, Ok, Err, refl, sym, ap, subst, ◌∙◌, arith, true≢false}
 use Rattle.std.specs.Prelude.{nat_lt}
 use Rattle.annex_base.proofs.Conditions.{by_test}
-use Rattle.annex_base.proofs.Results.{guard_ok, guard_err}
+use Rattle.annex_base.proofs.Results.{guard_ok, guard_err, ok_is, err_is, err_ok, ok_err}
 use Rattle.wanted_expr.specs.declared.fault.ExprFault.{ExprFault}
 use Rattle.wanted_expr.specs.declared.fault.ExprFault.TheVariants.{BadParen, NoOperand, UnknownWord, BadValue, OpenQuote, TooDeep, TooLong, NoMemory}
 use Rattle.wanted_expr.specs.declared.lexeme.Operator.TheVariants.{And}
@@ -12,7 +12,7 @@ use Rattle.wanted_expr.specs.Expressions.{NextIs, IsEnd, BeginsWith, IsFaultAt, 
 use Rattle.wanted_expr.specs.Formula.{Formula, Atom, Negation, combination}
 use Rattle.wanted_expr.specs.Reading.{Pending, Negating, Grouping, Joining, State, Awaiting, Having, EndsHere, deeper, finish, has_pending, no_term, open_count, open_places, ready, run, settle, step, whole}
 use Rattle.wanted_expr.specs.Tokens.{IsNoLexeme}
-use Rattle.wanted_expr.proofs.ReadLemmas.{err_ok, err_same, ok_err, ok_same, run_bind}
+use Rattle.wanted_expr.proofs.ReadLemmas.{run_bind}
 use Rattle.wanted_expr.proofs.SoundLemmas.{begins_with, begun_with, none_pending, read_sound}
 
 -- ---- the `(` that are open
@@ -38,16 +38,16 @@ step_opened : (at : ℕ) (l : Lexeme) (s t : State) → step at l s ≡ Ok t →
 step_opened at Open s t e = ap (λ (w : List ℕ). at ∷ w) (sym (ready_opened s)) ∙ deeper_opened at (Grouping at) (ready s) t e
 step_opened at Not s t e = sym (ready_opened s) ∙ deeper_opened at Negating (ready s) t e
 step_opened at (Infix operator) (Awaiting k) t e = absurd (err_ok (NoOperand at) t e)
-step_opened at (Infix operator) (Having f k) t e = ap (λ (u : State). open_places (pending_in u)) (ok_same (Awaiting (Joining f operator ∷ k)) t e)
-step_opened at (Term word) s t e = sym (ready_opened s) ∙ (sym (settle_opened (ready s) (Atom word)) ∙ ap (λ (u : State). open_places (pending_in u)) (ok_same (settle (Atom word) (ready s)) t e))
+step_opened at (Infix operator) (Having f k) t e = ap (λ (u : State). open_places (pending_in u)) (ok_is ExprFault (Awaiting (Joining f operator ∷ k)) t e)
+step_opened at (Term word) s t e = sym (ready_opened s) ∙ (sym (settle_opened (ready s) (Atom word)) ∙ ap (λ (u : State). open_places (pending_in u)) (ok_is ExprFault (settle (Atom word) (ready s)) t e))
 step_opened at Close (Awaiting k) t e = absurd (err_ok (no_term at (open_places k)) t e)
 step_opened at Close (Having f []) t e = absurd (err_ok (BadParen at) t e)
 step_opened at Close (Having f (Negating ∷ k)) t e = absurd (err_ok (BadParen at) t e)
 step_opened at Close (Having f (Joining left operator ∷ k)) t e = absurd (err_ok (BadParen at) t e)
-step_opened at Close (Having f (Grouping place ∷ k)) t e = sym (settle_opened k f) ∙ ap (λ (u : State). open_places (pending_in u)) (ok_same (settle f k) t e)
+step_opened at Close (Having f (Grouping place ∷ k)) t e = sym (settle_opened k f) ∙ ap (λ (u : State). open_places (pending_in u)) (ok_is ExprFault (settle f k) t e)
 
 run_opened : (xs : List (ℕ × Lexeme)) (s t : State) → run xs s ≡ Ok t → open_parens (open_places (pending_in s)) xs ≡ open_places (pending_in t)
-run_opened [] s t e = ap (λ (u : State). open_places (pending_in u)) (ok_same s t e)
+run_opened [] s t e = ap (λ (u : State). open_places (pending_in u)) (ok_is ExprFault s t e)
 run_opened (x ∷ xs) s t e =
     let k = run_bind (step x.0 x.1 s) xs t e in
     ap (λ (w : List ℕ). open_parens w xs) (step_opened x.0 x.1 s k.0 k.1) ∙ run_opened xs k.0 t k.2
@@ -70,13 +70,7 @@ not_with read at l s fault e h b = let t = begun_with read at l s e b in err_ok 
 
 whole_err : (f : Formula) (o : Option ℕ) (fault : ExprFault) → Err fault ≡ whole f o → (at : ℕ) × (o ≡ Some at) × (fault ≡ BadParen at)
 whole_err f None fault e = absurd cc
-whole_err f (Some at) fault e = (at, refl, same fault (BadParen at) e)
-  where
-    same : (a b : ExprFault) → ◌≡◌ {A = Result Formula ExprFault} (Err a) (Err b) → a ≡ b
-    same a b h = cc
-
-formula_err : (e f : ExprFault) → ◌≡◌ {A = Result Formula ExprFault} (Err e) (Err f) → e ≡ f
-formula_err e f h = cc
+whole_err f (Some at) fault e = (at, refl, err_is Formula fault (BadParen at) e)
 
 no_term_is : (at : ℕ) (ps : List ℕ) (fault : ExprFault) → no_term at ps ≡ fault → ((ps ≡ []) × (fault ≡ BadParen at)) ⊎ ((0 < length ps) × (fault ≡ NoOperand at))
 no_term_is at [] fault e = inl (refl, sym e)
@@ -107,24 +101,24 @@ step_fault : (total : ℕ) (rest after : List ℕ) (read : List (ℕ × Lexeme))
 step_fault total rest after read s at Open fault e n h = deep_fault total rest after read s at Open (Grouping at) fault (inl refl) refl e n h
 step_fault total rest after read s at Not fault e n h = deep_fault total rest after read s at Not Negating fault (inr refl) refl e n h
 step_fault total rest after read s at (Term word) fault e n h = absurd (ok_err fault (settle (Atom word) (ready s)) h)
-step_fault total rest after read (Awaiting k) at (Infix operator) fault e n h = subst (IsFaultAt total read rest) (err_same (NoOperand at) fault h) (no_infix read k e, inl (operator, after, n))
+step_fault total rest after read (Awaiting k) at (Infix operator) fault e n h = subst (IsFaultAt total read rest) (err_is State (NoOperand at) fault h) (no_infix read k e, inl (operator, after, n))
 step_fault total rest after read (Having f k) at (Infix operator) fault e n h = absurd (ok_err fault (Awaiting (Joining f operator ∷ k)) h)
-step_fault total rest after read (Awaiting k) at Close fault e n h = closing_fault total rest after read k at fault e n (err_same (no_term at (open_places k)) fault h)
-step_fault total rest after read (Having f []) at Close fault e n h = subst (IsFaultAt total read rest) (err_same (BadParen at) fault h) (inl (after, n, opened_is read (Having f []) e))
+step_fault total rest after read (Awaiting k) at Close fault e n h = closing_fault total rest after read k at fault e n (err_is State (no_term at (open_places k)) fault h)
+step_fault total rest after read (Having f []) at Close fault e n h = subst (IsFaultAt total read rest) (err_is State (BadParen at) fault h) (inl (after, n, opened_is read (Having f []) e))
 step_fault total rest after read (Having f (Grouping place ∷ k)) at Close fault e n h = absurd (ok_err fault (settle f k) h)
 step_fault total rest after read (Having f (Negating ∷ k)) at Close fault e n h = absurd (true≢false (none_pending f (Negating ∷ k) _ (read_sound read (Having f (Negating ∷ k)) e)))
 step_fault total rest after read (Having f (Joining left operator ∷ k)) at Close fault e n h = absurd (true≢false (none_pending f (Joining left operator ∷ k) _ (read_sound read (Having f (Joining left operator ∷ k)) e)))
 
 end_fault : (total : ℕ) (rest : List ℕ) (read : List (ℕ × Lexeme)) (s : State) (fault : ExprFault) → run read (Awaiting []) ≡ Ok s → IsEnd total rest → Err fault ≡ finish total s → IsFaultAt total read rest fault
-end_fault total rest read (Awaiting k) fault e n h = subst (IsFaultAt total read rest) (sym (formula_err fault (NoOperand total) h)) (no_infix read k e, inr (inr (n, refl)))
+end_fault total rest read (Awaiting k) fault e n h = subst (IsFaultAt total read rest) (sym (err_is Formula fault (NoOperand total) h)) (no_infix read k e, inr (inr (n, refl)))
 end_fault total rest read (Having f k) fault e n h =
     let w = whole_err f (outermost (open_places k)) fault h in
     subst (IsFaultAt total read rest) (sym w.2) (inr (n, operator_next read f k e, ap outermost (opened_is read (Having f k) e) ∙ w.1))
 
 pub fault_found : (total : ℕ) (rest : List ℕ) (read : List (ℕ × Lexeme)) (s : State) (fault : ExprFault) → run read (Awaiting []) ≡ Ok s → EndsHere total rest s (Err fault) → IsFaultAt total read rest fault
 fault_found total rest read s fault e (inl h) = end_fault total rest read s fault e h.0 h.1
-fault_found total rest read s fault e (inr (inl h)) = lexical total rest read fault (subst (IsNoLexeme total rest) (sym (formula_err fault h.0 h.2)) h.1)
-fault_found total rest read s fault e (inr (inr h)) = subst (IsFaultAt total read rest) (sym (formula_err fault h.3 h.6)) (step_fault total rest h.2 read s h.0 h.1 h.3 e h.4 h.5)
+fault_found total rest read s fault e (inr (inl h)) = lexical total rest read fault (subst (IsNoLexeme total rest) (sym (err_is Formula fault h.0 h.2)) h.1)
+fault_found total rest read s fault e (inr (inr h)) = subst (IsFaultAt total read rest) (sym (err_is Formula fault h.3 h.6)) (step_fault total rest h.2 read s h.0 h.1 h.3 e h.4 h.5)
 
 -- ---- reading stops at a fault
 

@@ -1,8 +1,9 @@
 -- Reading from left to right is the grammar, in both directions.
 use Rattle.std.proofs.Common.{◌≡◌, ℕ, ◌+◌, ◌<◌, ◌≤◌, true, false, List, [], ◌∷◌, ◌++◌, Option, Some, None, Result, Ok, refl, sym, ap, ◌∙◌, arith, true≢false}
 use Rattle.std.specs.Prelude.{nat_lt, ◌&&◌}
-use Rattle.std.proofs.lemmas.Bool.{and_parts}
+use Rattle.std.proofs.lemmas.Bool.{and_parts, lt-ltb}
 use Rattle.annex_base.specs.ResultSteps.{◌>>=◌}
+use Rattle.annex_base.proofs.Lists.{cons_first, cons_rest}
 use Rattle.wanted_expr.specs.declared.fault.ExprFault.{ExprFault}
 use Rattle.wanted_expr.specs.declared.lexeme.Operator.{Operator}
 use Rattle.wanted_expr.specs.declared.lexeme.Operator.TheVariants.{And}
@@ -19,13 +20,7 @@ use Rattle.wanted_expr.proofs.StackLemmas.{settled}
 
 uncons : (ps : List (ℕ × Lexeme)) (l : Lexeme) (ls : List Lexeme) → without_places ps ≡ l ∷ ls → (at : ℕ) × (rest : List (ℕ × Lexeme)) × (ps ≡ (at, l) ∷ rest) × (without_places rest ≡ ls)
 uncons [] l ls e = absurd cc
-uncons (p ∷ ps) l ls e = (p.0, ps, ap (λ (m : Lexeme). (p.0, m) ∷ ps) (head p.1 l (without_places ps) ls e), tail p.1 l (without_places ps) ls e)
-  where
-    head : (a b : Lexeme) (xs ys : List Lexeme) → a ∷ xs ≡ b ∷ ys → a ≡ b
-    head a b xs ys h = cc
-
-    tail : (a b : Lexeme) (xs ys : List Lexeme) → a ∷ xs ≡ b ∷ ys → xs ≡ ys
-    tail a b xs ys h = cc
+uncons (p ∷ ps) l ls e = (p.0, ps, ap (λ (m : Lexeme). (p.0, m) ∷ ps) (cons_first p.1 l (without_places ps) ls e), cons_rest p.1 l (without_places ps) ls e)
 
 split : (ps : List (ℕ × Lexeme)) (xs ys : List Lexeme) → without_places ps ≡ xs ++ ys → (front back : List (ℕ × Lexeme)) × (ps ≡ front ++ back) × (without_places front ≡ xs) × (without_places back ≡ ys)
 split ps [] ys e = ([], ps, refl, refl, e)
@@ -42,16 +37,13 @@ pub unplaced_append : (xs ys : List (ℕ × Lexeme)) → without_places (xs ++ y
 unplaced_append [] ys = refl
 unplaced_append (x ∷ xs) ys = ap (λ (w : List Lexeme). x.1 ∷ w) (unplaced_append xs ys)
 
-below : (n : ℕ) → n < 64 → nat_lt n 64 ≡ true
-below n h = grind arith
-
 pub within : (n : ℕ) → nat_lt n 64 ≡ true → n < 64
 within n h = grind arith
 
 -- ---- what the grammar spells is read
 
 deeper_is : (at : ℕ) (p : Pending) (k : List Pending) → open_count k < 64 → deeper at p k ≡ Ok (Awaiting (p ∷ k))
-deeper_is at p k small = rw (below (open_count k) small) refl
+deeper_is at p k small = rw (lt-ltb (open_count k) 64 small) refl
 
 record IsRead (s : Syntax) : Type 0 where
   as_term : is_term s ≡ true → (k : List Pending) (ps : List (ℕ × Lexeme)) → depth s + open_count k ≤ 64 → without_places ps ≡ lexemes s → run ps (Awaiting k) ≡ Ok (settle (formula_said s) k)

@@ -66,44 +66,45 @@ valued_tag name value GroupWanted k = absurd k
 
 -- What is said of a word with the tag of this name.
 
-other : {P : Type 0} (name value : List ℕ) (w : Word) (n : ℕ) → name_tag name ≡ n → IsValued name value w → (tag w ≡ n → ⊥) → P
-other name value w n e k apart = absurd (apart (sym (valued_tag name value w k) ∙ e))
+-- no word that is valued so has another tag than the name
+pub not_tagged : {P : Type 0} (name value : List ℕ) (w : Word) (n : ℕ) → name_tag name ≡ n → IsValued name value w → (tag w ≡ n → ⊥) → P
+not_tagged name value w n e k apart = absurd (apart (sym (valued_tag name value w k) ∙ e))
 
 pub include_value : (name value : List ℕ) (w : Word) → name_tag name ≡ 1 → IsValued name value w → (g : List Item) × IsGlobText value g
 include_value name value (Include glob) e k = (glob, k.1)
-include_value name value w e k = other name value w 1 e k (λ t. omega (arith, t))
+include_value name value w e k = not_tagged name value w 1 e k (λ t. omega (arith, t))
 
 pub exclude_value : (name value : List ℕ) (w : Word) → name_tag name ≡ 2 → IsValued name value w → (g : List Item) × IsGlobText value g
 exclude_value name value (Exclude glob) e k = (glob, k.1)
-exclude_value name value w e k = other name value w 2 e k (λ t. omega (arith, t))
+exclude_value name value w e k = not_tagged name value w 2 e k (λ t. omega (arith, t))
 
 pub copies_value : (name value : List ℕ) (w : Word) → name_tag name ≡ 3 → IsValued name value w → (x : Among × ℕ) × IsCopies value x.0 x.1
 copies_value name value (Copies among n) e k = ((among, n), k.1)
-copies_value name value w e k = other name value w 3 e k (λ t. omega (arith, t))
+copies_value name value w e k = not_tagged name value w 3 e k (λ t. omega (arith, t))
 
 pub lacking_value : (name value : List ℕ) (w : Word) → name_tag name ≡ 4 → IsValued name value w → (n : ℕ) × IsCount value n
 lacking_value name value (LackingCopies n) e k = (n, k.1)
-lacking_value name value w e k = other name value w 4 e k (λ t. omega (arith, t))
+lacking_value name value w e k = not_tagged name value w 4 e k (λ t. omega (arith, t))
 
 pub in_all_value : (name value : List ℕ) (w : Word) → name_tag name ≡ 5 → IsValued name value w → (t : List ℕ) × IsText value t
 in_all_value name value (InAllGroup group) e k = (group, k.1)
-in_all_value name value w e k = other name value w 5 e k (λ t. omega (arith, t))
+in_all_value name value w e k = not_tagged name value w 5 e k (λ t. omega (arith, t))
 
 pub only_in_value : (name value : List ℕ) (w : Word) → name_tag name ≡ 6 → IsValued name value w → (t : List ℕ) × IsText value t
 only_in_value name value (OnlyInGroup group) e k = (group, k.1)
-only_in_value name value w e k = other name value w 6 e k (λ t. omega (arith, t))
+only_in_value name value w e k = not_tagged name value w 6 e k (λ t. omega (arith, t))
 
 pub backend_value : (name value : List ℕ) (w : Word) → name_tag name ≡ 7 → IsValued name value w → (t : List ℕ) × IsText value t
 backend_value name value (InBackend backend) e k = (backend, k.1)
-backend_value name value w e k = other name value w 7 e k (λ t. omega (arith, t))
+backend_value name value w e k = not_tagged name value w 7 e k (λ t. omega (arith, t))
 
 pub larger_value : (name value : List ℕ) (w : Word) → name_tag name ≡ 8 → IsValued name value w → (n : ℕ) × IsSize value n
 larger_value name value (LargerThan n) e k = (n, k.1)
-larger_value name value w e k = other name value w 8 e k (λ t. omega (arith, t))
+larger_value name value w e k = not_tagged name value w 8 e k (λ t. omega (arith, t))
 
 pub smaller_value : (name value : List ℕ) (w : Word) → name_tag name ≡ 9 → IsValued name value w → (n : ℕ) × IsSize value n
 smaller_value name value (SmallerThan n) e k = (n, k.1)
-smaller_value name value w e k = other name value w 9 e k (λ t. omega (arith, t))
+smaller_value name value w e k = not_tagged name value w 9 e k (λ t. omega (arith, t))
 
 -- A value that isn't found has no word.
 

@@ -1,5 +1,6 @@
 -- Reading ends with a formula exactly on expressions, and with a fault exactly where that is the first one.
-use Rattle.std.proofs.Common.{◌≡◌, ◌⊎◌, inl, inr, ℕ, ◌≤◌, List, [], length, Option, Some, None, Result, Ok, Err, refl, sym, ap, subst, ◌∙◌}
+use Rattle.std.proofs.Common.{◌≡◌, ◌⊎◌, inl, inr, ℕ, ◌≤◌, List, [], length, Option, Some, None, Ok, Err, refl, sym, ap, subst, ◌∙◌}
+use Rattle.annex_base.proofs.Results.{ok_is, err_is, ok_err}
 use Rattle.wanted_expr.specs.declared.fault.ExprFault.{ExprFault}
 use Rattle.wanted_expr.specs.declared.fault.ExprFault.TheVariants.{BadParen, NoOperand, UnknownWord, BadValue, OpenQuote, TooDeep, TooLong, NoMemory}
 use Rattle.wanted_expr.specs.declared.lexeme.Lexeme.{Lexeme}
@@ -14,24 +15,15 @@ use Rattle.wanted_expr.proofs.SoundLemmas.{begins, begun, ended_spells, none_pen
 use Rattle.wanted_expr.proofs.StackLemmas.{none_open}
 use Rattle.wanted_expr.proofs.UniqueLemmas.{GlobsAreUnique}
 
-ok_err : (f : Formula) (e : ExprFault) → ◌≡◌ {A = Result Formula ExprFault} (Ok f) (Err e) → ⊥
-ok_err f e h = cc
-
-ok_same : (f g : Formula) → ◌≡◌ {A = Result Formula ExprFault} (Ok f) (Ok g) → f ≡ g
-ok_same f g h = cc
-
-err_same : (e f : ExprFault) → ◌≡◌ {A = Result Formula ExprFault} (Err e) (Err f) → e ≡ f
-err_same e f h = cc
-
 pub expression_ends : (text : List ℕ) (f : Formula) → IsExpression text f → Ends text (Ok f)
 expression_ends text f h = record { read = h.read; rest = h.rest; state = Having f []; reads = h.reads; runs = spelled_is_read h.read f h.spells; ends = inl (h.at_end, refl) }
 
 whole_ok : (f g : Formula) (o : Option ℕ) → Ok f ≡ whole g o → (o ≡ None) × (f ≡ g)
-whole_ok f g None e = (refl, ok_same f g e)
-whole_ok f g (Some at) e = absurd (ok_err f (BadParen at) e)
+whole_ok f g None e = (refl, ok_is ExprFault f g e)
+whole_ok f g (Some at) e = absurd (ok_err (BadParen at) f e)
 
 finished : (total : ℕ) (read : List (ℕ × Lexeme)) (s : State) (f : Formula) → run read (Awaiting []) ≡ Ok s → Ok f ≡ finish total s → Spells (without_places read) f
-finished total read (Awaiting k) f r e = absurd (ok_err f (NoOperand total) e)
+finished total read (Awaiting k) f r e = absurd (ok_err (NoOperand total) f e)
 finished total read (Having g k) f r e =
     let w = whole_ok f g (outermost (open_places k)) e in
     let sound = read_sound read (Having g k) r in
@@ -43,8 +35,8 @@ ends_expression text f short h = go h.ends
   where
     go : EndsHere (length text) h.rest h.state (Ok f) → IsExpression text f
     go (inl e) = record { short = short; read = h.read; rest = h.rest; reads = h.reads; at_end = e.0; spells = finished (length text) h.read h.state f h.runs e.1 }
-    go (inr (inl e)) = absurd (ok_err f e.0 e.2)
-    go (inr (inr e)) = absurd (ok_err f e.3 e.6)
+    go (inr (inl e)) = absurd (ok_err e.0 f e.2)
+    go (inr (inr e)) = absurd (ok_err e.3 f e.6)
 
 pub fault_ends : (text : List ℕ) (e : ExprFault) → IsFirstFault text e → Ends text (Err e)
 fault_ends text e h =
@@ -58,25 +50,25 @@ ends_fault text e short h =
 -- ---- what the laws say
 
 pub one_formula : GlobsAreUnique → (text : List ℕ) (f g : Formula) → IsExpression text f → IsExpression text g → f ≡ g
-one_formula globs text f g h k = ok_same f g (one_end globs text (Ok f) (Ok g) (expression_ends text f h) (expression_ends text g k))
+one_formula globs text f g h k = ok_is ExprFault f g (one_end globs text (Ok f) (Ok g) (expression_ends text f h) (expression_ends text g k))
 
 pub one_fault : GlobsAreUnique → (text : List ℕ) (d e : ExprFault) → IsFirstFault text d → IsFirstFault text e → d ≡ e
-one_fault globs text d e h k = err_same d e (one_end globs text (Err d) (Err e) (fault_ends text d h) (fault_ends text e k))
+one_fault globs text d e h k = err_is Formula d e (one_end globs text (Err d) (Err e) (fault_ends text d h) (fault_ends text e k))
 
 pub not_both : GlobsAreUnique → (text : List ℕ) (f : Formula) (e : ExprFault) → IsExpression text f → IsFirstFault text e → ⊥
-not_both globs text f e h k = ok_err f e (one_end globs text (Ok f) (Err e) (expression_ends text f h) (fault_ends text e k))
+not_both globs text f e h k = ok_err e f (one_end globs text (Ok f) (Err e) (expression_ends text f h) (fault_ends text e k))
 
 -- ---- what parsing says
 
 pub refused_only : GlobsAreUnique → (text : List ℕ) (e : ExprFault) (f : Formula) → Answers text (Err e) → IsExpression text f → e ≡ NoMemory
 refused_only globs text NoMemory f a h = refl
-refused_only globs text (BadParen at) f a h = absurd (ok_err f (BadParen at) (one_end globs text (Ok f) (Err (BadParen at)) (expression_ends text f h) a))
-refused_only globs text (NoOperand at) f a h = absurd (ok_err f (NoOperand at) (one_end globs text (Ok f) (Err (NoOperand at)) (expression_ends text f h) a))
-refused_only globs text (UnknownWord at) f a h = absurd (ok_err f (UnknownWord at) (one_end globs text (Ok f) (Err (UnknownWord at)) (expression_ends text f h) a))
-refused_only globs text (BadValue at) f a h = absurd (ok_err f (BadValue at) (one_end globs text (Ok f) (Err (BadValue at)) (expression_ends text f h) a))
-refused_only globs text (OpenQuote at) f a h = absurd (ok_err f (OpenQuote at) (one_end globs text (Ok f) (Err (OpenQuote at)) (expression_ends text f h) a))
-refused_only globs text (TooDeep at) f a h = absurd (ok_err f (TooDeep at) (one_end globs text (Ok f) (Err (TooDeep at)) (expression_ends text f h) a))
-refused_only globs text TooLong f a h = absurd (ok_err f TooLong (one_end globs text (Ok f) (Err TooLong) (expression_ends text f h) a))
+refused_only globs text (BadParen at) f a h = absurd (ok_err (BadParen at) f (one_end globs text (Ok f) (Err (BadParen at)) (expression_ends text f h) a))
+refused_only globs text (NoOperand at) f a h = absurd (ok_err (NoOperand at) f (one_end globs text (Ok f) (Err (NoOperand at)) (expression_ends text f h) a))
+refused_only globs text (UnknownWord at) f a h = absurd (ok_err (UnknownWord at) f (one_end globs text (Ok f) (Err (UnknownWord at)) (expression_ends text f h) a))
+refused_only globs text (BadValue at) f a h = absurd (ok_err (BadValue at) f (one_end globs text (Ok f) (Err (BadValue at)) (expression_ends text f h) a))
+refused_only globs text (OpenQuote at) f a h = absurd (ok_err (OpenQuote at) f (one_end globs text (Ok f) (Err (OpenQuote at)) (expression_ends text f h) a))
+refused_only globs text (TooDeep at) f a h = absurd (ok_err (TooDeep at) f (one_end globs text (Ok f) (Err (TooDeep at)) (expression_ends text f h) a))
+refused_only globs text TooLong f a h = absurd (ok_err TooLong f (one_end globs text (Ok f) (Err TooLong) (expression_ends text f h) a))
 
 pub cause : (text : List ℕ) (e : ExprFault) → length text ≤ 4096 → Answers text (Err e) → IsCause text e
 cause text NoMemory short a = tt

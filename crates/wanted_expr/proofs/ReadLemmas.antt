@@ -1,6 +1,7 @@
 -- Reading goes on, or stops, with one more lexeme.
 use Rattle.std.proofs.Common.{◌≡◌, ℕ, inr, List, [], ◌∷◌, ◌++◌, length, Result, Ok, Err, IsErrAnd, refl, sym, ap, subst, ◌∙◌}
 use Rattle.annex_base.specs.ResultSteps.{◌>>=◌}
+use Rattle.annex_base.proofs.Results.{ok_is, err_ok}
 use Rattle.wanted_expr.specs.declared.data.Tree.{Tree}
 use Rattle.wanted_expr.specs.declared.fault.ExprFault.{ExprFault}
 use Rattle.wanted_expr.specs.declared.fault.ExprFault.TheVariants.{BadParen, NoOperand, UnknownWord, BadValue, OpenQuote, TooDeep, TooLong, NoMemory}
@@ -12,26 +13,12 @@ pub reads_on : (total : ℕ) (text : List ℕ) (read : List (ℕ × Lexeme)) (re
 reads_on total text [] rest after at lexeme r n = (after, subst (λ (w : List ℕ). NextIs total w at lexeme after) (sym r) n, refl)
 reads_on total text (x ∷ xs) rest after at lexeme r n = (r.0, r.1, reads_on total r.0 xs rest after at lexeme r.2 n)
 
--- two answers of a step
-
-pub ok_same : (s t : State) → ◌≡◌ {A = Result State ExprFault} (Ok s) (Ok t) → s ≡ t
-ok_same s t e = cc
-
-pub err_same : (e f : ExprFault) → ◌≡◌ {A = Result State ExprFault} (Err e) (Err f) → e ≡ f
-err_same e f h = cc
-
-pub err_ok : (e : ExprFault) (s : State) → Err e ≡ Ok s → ⊥
-err_ok e s h = cc
-
-pub ok_err : (e : ExprFault) (s : State) → Ok s ≡ Err e → ⊥
-ok_err e s h = cc
-
 pub run_bind : (r : Result State ExprFault) (xs : List (ℕ × Lexeme)) (s : State) → (r >>= run xs) ≡ Ok s → (t : State) × (r ≡ Ok t) × (run xs t ≡ Ok s)
 run_bind (Ok t) xs s e = (t, refl, e)
 run_bind (Err d) xs s e = absurd (err_ok d s e)
 
 pub run_append : (xs ys : List (ℕ × Lexeme)) (s t : State) → run xs s ≡ Ok t → run (xs ++ ys) s ≡ run ys t
-run_append [] ys s t e = ap (run ys) (ok_same s t e)
+run_append [] ys s t e = ap (run ys) (ok_is ExprFault s t e)
 run_append (x ∷ xs) ys s t e =
     let k = run_bind (step x.0 x.1 s) xs t e in
     ap (λ (r : Result State ExprFault). r >>= run (xs ++ ys)) k.1 ∙ run_append xs ys k.0 t k.2

@@ -1,6 +1,8 @@
 -- Reading a text ends in one way.
 use Rattle.std.proofs.Common.{◌≡◌, ◌⊎◌, inl, inr, ℕ, Bool, true, false, List, [], ◌∷◌, length, Option, Some, None, Result, Ok, Err, refl, sym, ap, subst, ◌∙◌, true≢false}
 use Rattle.std.specs.Prelude.{codes, bytes_eq, ◌||◌, if◌then◌else◌}
+use Rattle.std.proofs.lemmas.Option.{same_Some, none-some}
+use Rattle.annex_base.proofs.Results.{ok_is, err_is, err_ok}
 use Rattle.wanted_expr.specs.declared.data.Word.{Word}
 use Rattle.wanted_expr.specs.declared.fault.ExprFault.{ExprFault}
 use Rattle.wanted_expr.specs.declared.fault.ExprFault.TheVariants.{BadParen, NoOperand, UnknownWord, BadValue, OpenQuote, TooDeep, TooLong, NoMemory}
@@ -13,7 +15,7 @@ use Rattle.wanted_expr.specs.Pieces.{Piece, Opening, Closing, Written, PieceRead
 use Rattle.wanted_expr.specs.Reading.{State, Awaiting, Ends, EndsHere, run, step}
 use Rattle.wanted_expr.specs.Tokens.{IsNoLexeme}
 use Rattle.wanted_expr.specs.Words.{IsWord, has_name}
-use Rattle.wanted_expr.proofs.ReadLemmas.{err_ok, err_same, ok_same, run_bind}
+use Rattle.wanted_expr.proofs.ReadLemmas.{run_bind}
 use Rattle.wanted_expr.proofs.UniqueLemmas.{GlobsAreUnique, word_unique, no_operator, has_known_name}
 
 -- ---- one piece is one lexeme
@@ -55,19 +57,13 @@ tells piece (Infix Or) h = inl (ap sign_of h)
 tells piece (Term word) h = inr (record { word = word; text = h.0; lexeme_is = refl; piece_is = h.1; word_is = h.2 })
 
 term_no_sign : (piece : Piece) (l m : Lexeme) → IsTerm piece l → sign_of piece ≡ Some m → ⊥
-term_no_sign piece l m t e = none_some m (sym (no_sign t.text (no_operator t.text t.word t.word_is)) ∙ (sym (ap sign_of t.piece_is) ∙ e))
-  where
-    none_some : (n : Lexeme) → None ≡ Some n → ⊥
-    none_some n h = cc
-
-some_same : (l m : Lexeme) → Some l ≡ Some m → l ≡ m
-some_same l m e = cc
+term_no_sign piece l m t e = none-some m (sym (no_sign t.text (no_operator t.text t.word t.word_is)) ∙ (sym (ap sign_of t.piece_is) ∙ e))
 
 lexeme_unique : GlobsAreUnique → (piece : Piece) (l m : Lexeme) → IsLexeme piece l → IsLexeme piece m → l ≡ m
 lexeme_unique globs piece l m h k = both (tells piece l h) (tells piece m k)
   where
     both : (sign_of piece ≡ Some l) ⊎ IsTerm piece l → (sign_of piece ≡ Some m) ⊎ IsTerm piece m → l ≡ m
-    both (inl p) (inl q) = some_same l m (sym p ∙ q)
+    both (inl p) (inl q) = same_Some l m (sym p ∙ q)
     both (inl p) (inr q) = absurd (term_no_sign piece m l q p)
     both (inr p) (inl q) = absurd (term_no_sign piece l m p q)
     both (inr p) (inr q) =
@@ -178,7 +174,7 @@ here_same globs total rest s a b (inr (inr h)) (inl k) = absurd (next_end total 
 here_same globs total rest s a b (inr (inr h)) (inr (inl k)) = absurd (next_no_lexeme total rest h.0 h.1 h.2 k.0 h.4 k.1)
 here_same globs total rest s a b (inr (inr h)) (inr (inr k)) =
     let same = next_same globs total rest h.0 k.0 h.1 k.1 h.2 k.2 h.4 k.4 in
-    h.6 ∙ (ap Err (err_same h.3 k.3 (sym h.5 ∙ (ap (λ (at : ℕ). step at h.1 s) same.0 ∙ (ap (λ (l : Lexeme). step k.0 l s) same.1 ∙ k.5)))) ∙ sym k.6)
+    h.6 ∙ (ap Err (err_is State h.3 k.3 (sym h.5 ∙ (ap (λ (at : ℕ). step at h.1 s) same.0 ∙ (ap (λ (l : Lexeme). step k.0 l s) same.1 ∙ k.5)))) ∙ sym k.6)
 
 -- where reading ends, no lexeme leads on
 here_stays : GlobsAreUnique → {P : Type 0} (total : ℕ) (rest after : List ℕ) (s t : State) (a : Result Formula ExprFault) (at : ℕ) (l : Lexeme) → EndsHere total rest s a → NextIs total rest at l after → step at l s ≡ Ok t → P
@@ -191,20 +187,20 @@ here_stays globs total rest after s t a at l (inr (inr h)) n e =
 ends_same : GlobsAreUnique → (total : ℕ) (bytes : List ℕ) (start : State) (xs ys : List (ℕ × Lexeme)) (rest after : List ℕ) (s t : State) (a b : Result Formula ExprFault) → Reads total bytes xs rest → run xs start ≡ Ok s → EndsHere total rest s a → Reads total bytes ys after → run ys start ≡ Ok t → EndsHere total after t b → a ≡ b
 ends_same globs total bytes start [] [] rest after s t a b r u h q v k =
     here_same globs total after t a b
-    (subst (λ (w : List ℕ). EndsHere total w t a) (sym r ∙ q) (subst (λ (w : State). EndsHere total rest w a) (sym (ok_same start s u) ∙ ok_same start t v) h)) k
+    (subst (λ (w : List ℕ). EndsHere total w t a) (sym r ∙ q) (subst (λ (w : State). EndsHere total rest w a) (sym (ok_is ExprFault start s u) ∙ ok_is ExprFault start t v) h)) k
 ends_same globs total bytes start [] (y ∷ ys) rest after s t a b r u h q v k =
     let j = run_bind (step y.0 y.1 start) ys t v in
     here_stays globs total bytes q.0 start j.0 a y.0 y.1
-    (subst (λ (w : List ℕ). EndsHere total w start a) (sym r) (subst (λ (w : State). EndsHere total rest w a) (sym (ok_same start s u)) h)) q.1 j.1
+    (subst (λ (w : List ℕ). EndsHere total w start a) (sym r) (subst (λ (w : State). EndsHere total rest w a) (sym (ok_is ExprFault start s u)) h)) q.1 j.1
 ends_same globs total bytes start (x ∷ xs) [] rest after s t a b r u h q v k =
     let j = run_bind (step x.0 x.1 start) xs s u in
     here_stays globs total bytes r.0 start j.0 b x.0 x.1
-    (subst (λ (w : List ℕ). EndsHere total w start b) (sym q) (subst (λ (w : State). EndsHere total after w b) (sym (ok_same start t v)) k)) r.1 j.1
+    (subst (λ (w : List ℕ). EndsHere total w start b) (sym q) (subst (λ (w : State). EndsHere total after w b) (sym (ok_is ExprFault start t v)) k)) r.1 j.1
 ends_same globs total bytes start (x ∷ xs) (y ∷ ys) rest after s t a b r u h q v k =
     let same = next_same globs total bytes x.0 y.0 x.1 y.1 r.0 q.0 r.1 q.1 in
     let i = run_bind (step x.0 x.1 start) xs s u in
     let j = run_bind (step y.0 y.1 start) ys t v in
-    let one : i.0 ≡ j.0 = ok_same i.0 j.0 (sym i.1 ∙ (ap (λ (place : ℕ). step place x.1 start) same.0 ∙ (ap (λ (m : Lexeme). step y.0 m start) same.1 ∙ j.1))) in
+    let one : i.0 ≡ j.0 = ok_is ExprFault i.0 j.0 (sym i.1 ∙ (ap (λ (place : ℕ). step place x.1 start) same.0 ∙ (ap (λ (m : Lexeme). step y.0 m start) same.1 ∙ j.1))) in
     ends_same globs total q.0 j.0 xs ys rest after s t a b
     (subst (λ (w : List ℕ). Reads total w xs rest) same.2 r.2) (subst (λ (w : State). run xs w ≡ Ok s) one i.2) h q.2 j.2 k
 

@@ -2,7 +2,7 @@
 use Rattle.std.proofs.Common.{◌≡◌, ℕ, suc, ◌+◌, ◌≤◌, true, false, List, [], ◌∷◌, ◌++◌, Option, Some, None, Result, Ok, refl, sym, ap, subst, ◌∙◌, arith, append_assoc, append-nil}
 use Rattle.std.specs.Prelude.{nat_lt, ◌&&◌}
 use Rattle.std.proofs.lemmas.Bool.{and_from}
-use Rattle.annex_base.proofs.Results.{guard_ok}
+use Rattle.annex_base.proofs.Results.{guard_ok, ok_is}
 use Rattle.annex_base.specs.ResultSteps.{◌>>=◌}
 use Rattle.wanted_expr.specs.declared.data.Word.TheVariants.{Anything}
 use Rattle.wanted_expr.specs.declared.fault.ExprFault.{ExprFault}
@@ -16,7 +16,7 @@ use Rattle.wanted_expr.specs.Formula.{Formula, Atom, Negation, combination}
 use Rattle.wanted_expr.specs.Reading.{Pending, Negating, Grouping, Joining, State, Awaiting, Having, deeper, has_pending, open_count, ready, run, settle, step}
 use Rattle.wanted_expr.specs.Syntax.{Syntax, Plain, Negated, Grouped, Joined, Spells, Begins, depth, is_grammatical, is_term, lexemes, formula_said, sign}
 use Rattle.wanted_expr.proofs.GrammarLemmas.{spelled_is_read, unplaced_append, within}
-use Rattle.wanted_expr.proofs.ReadLemmas.{ok_same, run_append, run_bind, run_one}
+use Rattle.wanted_expr.proofs.ReadLemmas.{run_append, run_bind, run_one}
 use Rattle.wanted_expr.proofs.StackLemmas.{settled}
 
 abbrev pub operator_of : Option Operator → Operator
@@ -113,7 +113,7 @@ pub step_sound : (at : ℕ) (l : Lexeme) (s t : State) (front : List Lexeme) →
 step_sound at Open s t front h e = deeper_sound at (Grouping at) Open (ready s) front t (let one : 1 + open_count (ready s) ≡ suc (open_count (ready s)) = omega arith in one) (λ st. (front, refl, st)) (ready_sound s front h).1 e
 step_sound at Not s t front h e = deeper_sound at Negating Not (ready s) front t (let one : 1 + open_count (ready s) ≡ suc (open_count (ready s)) = omega arith in one) (λ st. (front, refl, st)) (ready_sound s front h).1 e
 step_sound at (Infix operator) (Awaiting k) t front h e = absurd cc
-step_sound at (Infix operator) (Having f k) t front h e = subst (λ (u : State). Sound u (front ++ Infix operator ∷ [])) (ok_same (Awaiting (Joining f operator ∷ k)) t e) (
+step_sound at (Infix operator) (Having f k) t front h e = subst (λ (u : State). Sound u (front ++ Infix operator ∷ [])) (ok_is ExprFault (Awaiting (Joining f operator ∷ k)) t e) (
   omega (arith, h.fitting.small),
   (
     h.before,
@@ -130,7 +130,7 @@ step_sound at (Infix operator) (Having f k) t front h e = subst (λ (u : State).
 )
 step_sound at (Term word) s t front h e =
     let r = ready_sound s front h in
-    subst (λ (u : State). Sound u (front ++ Term word ∷ [])) (ok_same (settle (Atom word) (ready s)) t e) (settle_sound (ready s) front (Plain word) refl refl (omega (arith, r.0)) r.1)
+    subst (λ (u : State). Sound u (front ++ Term word ∷ [])) (ok_is ExprFault (settle (Atom word) (ready s)) t e) (settle_sound (ready s) front (Plain word) refl refl (omega (arith, r.0)) r.1)
 step_sound at Close (Awaiting k) t front h e = absurd cc
 step_sound at Close (Having f []) t front h e = absurd cc
 step_sound at Close (Having f (Negating ∷ k)) t front h e = absurd cc
@@ -141,11 +141,11 @@ step_sound at Close (Having f (Grouping place ∷ k)) t front h e =
     let spelled : st.0 ++ lexemes (Grouped s) ≡ front ++ Close ∷ [] =
     sym (ap (λ (w : List Lexeme). w ++ Close ∷ []) (h.spelled ∙ (ap (λ (w : List Lexeme). w ++ lexemes s) st.1 ∙ append_assoc st.0 (Open ∷ []) (lexemes s))) ∙ append_assoc st.0 (Open ∷ lexemes s) (Close ∷ []))
     in
-    let ends : settle (formula_said (Grouped s)) k ≡ t = ap (λ (g : Formula). settle g k) (sym h.fitting.says) ∙ ok_same (settle f k) t e in
+    let ends : settle (formula_said (Grouped s)) k ≡ t = ap (λ (g : Formula). settle g k) (sym h.fitting.says) ∙ ok_is ExprFault (settle f k) t e in
     subst (λ (u : State). Sound u (front ++ Close ∷ [])) ends (sound_at (settle (formula_said (Grouped s)) k) (st.0 ++ lexemes (Grouped s)) (front ++ Close ∷ []) spelled (settle_sound k st.0 (Grouped s) refl h.fitting.grammatical (omega (arith, h.fitting.small)) st.2))
 
 pub run_sound : (xs : List (ℕ × Lexeme)) (s t : State) (front : List Lexeme) → Sound s front → run xs s ≡ Ok t → Sound t (front ++ without_places xs)
-run_sound [] s t front h e = sound_at t front (front ++ []) (sym (append-nil front)) (subst (λ (u : State). Sound u front) (ok_same s t e) h)
+run_sound [] s t front h e = sound_at t front (front ++ []) (sym (append-nil front)) (subst (λ (u : State). Sound u front) (ok_is ExprFault s t e) h)
 run_sound (x ∷ xs) s t front h e =
     let k = run_bind (step x.0 x.1 s) xs t e in
     sound_at t ((front ++ x.1 ∷ []) ++ without_places xs) (front ++ without_places (x ∷ xs)) (append_assoc front (x.1 ∷ []) (without_places xs))

@@ -1,8 +1,8 @@
 -- The frames in memory and what awaits its term.
-use Rattle.std.proofs.Common.{◌≡◌, ℕ, ◌+◌, ◌<◌, true, false, List, [], ◌∷◌, ◌++◌, length, take, Option, Some, None, Ok, refl, sym, ap, ◌∙◌, arith, true≢false}
-use Rattle.std.specs.Prelude.{nat_lt, not, option_to_list, IfSome}
+use Rattle.std.proofs.Common.{◌≡◌, ℕ, ◌<◌, true, false, List, [], ◌∷◌, ◌++◌, length, take, Option, Some, None, Ok, refl, sym, ap, ◌∙◌, true≢false}
+use Rattle.std.specs.Prelude.{not, option_to_list, IfSome}
 use Rattle.std.specs.Option.{option_map}
-use Rattle.std.proofs.lemmas.Bool.{not-true}
+use Rattle.std.proofs.lemmas.Bool.{not-true, lt-ltb}
 use Rattle.wanted_expr.specs.declared.data.Tree.{Tree}
 use Rattle.wanted_expr.specs.declared.fault.ExprFault.TheVariants as faults
 use Rattle.wanted_expr.specs.declared.lexeme.Operator.{Operator}
@@ -70,12 +70,9 @@ never_opened at ps e = sym (ap (no_term at) (none_open ps (sym e)))
 
 -- The innermost `(` is closed.
 
-below : (n : ℕ) → n < 64 → nat_lt n 64 ≡ true
-below n h = grind arith
-
 pub deepens : (at : ℕ) (p : Pending) (k whole pushed : List Pending) → k ≡ whole → open_count k < 64 → pushed ≡ p ∷ k → deeper at p whole ≡ Ok (Awaiting pushed)
 deepens at p k whole pushed same small e =
-    ap (deeper at p) (sym same) ∙ rw (below (open_count k) small) (ap (λ (w : List Pending). Ok (Awaiting w)) (sym e))
+    ap (deeper at p) (sym same) ∙ rw (lt-ltb (open_count k) 64 small) (ap (λ (w : List Pending). Ok (Awaiting w)) (sym e))
 
 take_front : (fs : List Frame) (f : Frame) → take (length fs) (fs ++ f ∷ []) ≡ fs
 take_front [] f = refl

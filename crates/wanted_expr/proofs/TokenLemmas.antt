@@ -2,21 +2,19 @@
 use Rattle.std.proofs.Common.{◌≡◌, ℕ, ◌==◌, true, false, Option, Some, None, Ok, Err, ap, append_assoc, List, [], ◌∷◌, ◌++◌, refl, sym, subst, ◌∙◌}
 use Rattle.std.proofs.lemmas.Bool.{ne_eqb}
 use Rattle.annex_base.proofs.Conditions.{by_test}
+use Rattle.annex_base.proofs.Lists.{cons_first}
 use Rattle.wanted_expr.specs.Pieces.{after_spaces, ends_word, WordRead, word_at, after_bytes}
 use Rattle.wanted_expr.specs.Tokens.{begins_word}
 
 no_head : (b : ℕ) (rest : List ℕ) → [] ≡ b ∷ rest → (b == 32) ≡ false
 no_head b rest e = cc
 
-same_head : (a b : ℕ) (xs ys : List ℕ) → a ∷ xs ≡ b ∷ ys → a ≡ b
-same_head a b xs ys e = cc
-
 pub no_space : (bytes : List ℕ) (b : ℕ) (rest : List ℕ) → after_spaces bytes ≡ b ∷ rest → (b == 32) ≡ false
 no_space [] b rest e = no_head b rest e
 no_space (c ∷ cs) b rest e =
     by_test (c == 32)
     (λ t. no_space cs b rest (rw t at e))
-    (λ t. let k : c ∷ cs ≡ b ∷ rest = rw t at e in subst (λ (n : ℕ). (n == 32) ≡ false) (same_head c b cs rest k) t)
+    (λ t. let k : c ∷ cs ≡ b ∷ rest = rw t at e in subst (λ (n : ℕ). (n == 32) ≡ false) (cons_first c b cs rest k) t)
 
 pub word_begins : (bytes text : List ℕ) (b : ℕ) (rest : List ℕ) → text ≡ after_spaces bytes → text ≡ b ∷ rest → (b ≡ 40 → ⊥) → (b ≡ 41 → ⊥) → begins_word text ≡ true
 word_begins bytes text b rest is e opened closed =

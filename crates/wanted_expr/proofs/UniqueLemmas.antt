@@ -4,6 +4,7 @@ use Rattle.std.specs.Prelude.{codes, bytes_eq, if◌then◌else◌, ◌||◌}
 use Rattle.std.specs.Str.{chars}
 use Rattle.std.specs.Str.Parse.{digits_value}
 use Rattle.std.proofs.lemmas.Bool.{or_right}
+use Rattle.std.proofs.lemmas.Option.{same_Some}
 use Rattle.annex_base.proofs.Conditions.{bytes_eq-other}
 use Rattle.annex_base.specs.declared.kinds.Level.{Level}
 use Rattle.annex_base.specs.declared.kinds.Level.TheVariants.{Dead, Untrusted, Semitrusted, Trusted}
@@ -16,7 +17,7 @@ use Rattle.wanted_expr.specs.declared.data.Word.TheVariants.{Anything, Nothing, 
 use Rattle.wanted_expr.specs.Expressions.{is_operator}
 use Rattle.wanted_expr.specs.Words.{IsDigits, IsCount, IsSize, IsLevel, IsAmong, IsCopies, IsText, IsGlobText, IsBare, IsValued, IsWord, SizeUnit, Bytes, Kilobytes, Megabytes, Gigabytes, unit_text, unit_size, is_bare_name, is_valued_name, has_name, name_of}
 use Rattle.wanted_expr.proofs.CopiesLemmas.{is_colonless, digits_colonless, colon_inside, same_cut, one_colon}
-use Rattle.wanted_expr.proofs.NameLemmas.{tag, name_tag, valued_tag}
+use Rattle.wanted_expr.proofs.NameLemmas.{name_tag, valued_tag, not_tagged}
 use Rattle.wanted_expr.proofs.ReadWordLemmas.{bare_again, valued_again, word_alone_is, word_valued_is}
 use Rattle.wanted_expr.proofs.WordLemmas.{kb_only, mb_only, gb_only}
 
@@ -134,52 +135,46 @@ bare_is text (InBackend backend) e = absurd e
 bare_is text (LargerThan n) e = absurd e
 bare_is text (SmallerThan n) e = absurd e
 
-some_same : (v w : Word) → Some v ≡ Some w → v ≡ w
-some_same v w e = cc
-
 bare_unique : (text : List ℕ) (v w : Word) → IsBare text v → IsBare text w → v ≡ w
-bare_unique text v w h k = some_same v w (sym (bare_is text v h) ∙ bare_is text w k)
+bare_unique text v w h k = same_Some v w (sym (bare_is text v h) ∙ bare_is text w k)
 
 -- what a word with the tag of this name is
 
-other : {P : Type 0} (name value : List ℕ) (w : Word) (n : ℕ) → name_tag name ≡ n → IsValued name value w → (tag w ≡ n → ⊥) → P
-other name value w n e k apart = absurd (apart (sym (valued_tag name value w k) ∙ e))
-
 include_is : (name value : List ℕ) (w : Word) → name_tag name ≡ 1 → IsValued name value w → (g : List Item) × IsGlobText value g × (w ≡ Include g)
 include_is name value (Include glob) e k = (glob, k.1, refl)
-include_is name value w e k = other name value w 1 e k (λ t. omega (arith, t))
+include_is name value w e k = not_tagged name value w 1 e k (λ t. omega (arith, t))
 
 exclude_is : (name value : List ℕ) (w : Word) → name_tag name ≡ 2 → IsValued name value w → (g : List Item) × IsGlobText value g × (w ≡ Exclude g)
 exclude_is name value (Exclude glob) e k = (glob, k.1, refl)
-exclude_is name value w e k = other name value w 2 e k (λ t. omega (arith, t))
+exclude_is name value w e k = not_tagged name value w 2 e k (λ t. omega (arith, t))
 
 copies_is : (name value : List ℕ) (w : Word) → name_tag name ≡ 3 → IsValued name value w → (a : Among) × (n : ℕ) × IsCopies value a n × (w ≡ Copies a n)
 copies_is name value (Copies among n) e k = (among, n, k.1, refl)
-copies_is name value w e k = other name value w 3 e k (λ t. omega (arith, t))
+copies_is name value w e k = not_tagged name value w 3 e k (λ t. omega (arith, t))
 
 lacking_is : (name value : List ℕ) (w : Word) → name_tag name ≡ 4 → IsValued name value w → (n : ℕ) × IsCount value n × (w ≡ LackingCopies n)
 lacking_is name value (LackingCopies n) e k = (n, k.1, refl)
-lacking_is name value w e k = other name value w 4 e k (λ t. omega (arith, t))
+lacking_is name value w e k = not_tagged name value w 4 e k (λ t. omega (arith, t))
 
 in_all_is : (name value : List ℕ) (w : Word) → name_tag name ≡ 5 → IsValued name value w → (t : List ℕ) × IsText value t × (w ≡ InAllGroup t)
 in_all_is name value (InAllGroup group) e k = (group, k.1, refl)
-in_all_is name value w e k = other name value w 5 e k (λ t. omega (arith, t))
+in_all_is name value w e k = not_tagged name value w 5 e k (λ t. omega (arith, t))
 
 only_in_is : (name value : List ℕ) (w : Word) → name_tag name ≡ 6 → IsValued name value w → (t : List ℕ) × IsText value t × (w ≡ OnlyInGroup t)
 only_in_is name value (OnlyInGroup group) e k = (group, k.1, refl)
-only_in_is name value w e k = other name value w 6 e k (λ t. omega (arith, t))
+only_in_is name value w e k = not_tagged name value w 6 e k (λ t. omega (arith, t))
 
 backend_is : (name value : List ℕ) (w : Word) → name_tag name ≡ 7 → IsValued name value w → (t : List ℕ) × IsText value t × (w ≡ InBackend t)
 backend_is name value (InBackend backend) e k = (backend, k.1, refl)
-backend_is name value w e k = other name value w 7 e k (λ t. omega (arith, t))
+backend_is name value w e k = not_tagged name value w 7 e k (λ t. omega (arith, t))
 
 larger_is : (name value : List ℕ) (w : Word) → name_tag name ≡ 8 → IsValued name value w → (n : ℕ) × IsSize value n × (w ≡ LargerThan n)
 larger_is name value (LargerThan n) e k = (n, k.1, refl)
-larger_is name value w e k = other name value w 8 e k (λ t. omega (arith, t))
+larger_is name value w e k = not_tagged name value w 8 e k (λ t. omega (arith, t))
 
 smaller_is : (name value : List ℕ) (w : Word) → name_tag name ≡ 9 → IsValued name value w → (n : ℕ) × IsSize value n × (w ≡ SmallerThan n)
 smaller_is name value (SmallerThan n) e k = (n, k.1, refl)
-smaller_is name value w e k = other name value w 9 e k (λ t. omega (arith, t))
+smaller_is name value w e k = not_tagged name value w 9 e k (λ t. omega (arith, t))
 
 abbrev pub GlobsAreUnique : Type 0
 GlobsAreUnique = (a b : List Item) (text : List ℕ) → IsGlob a text → IsGlob b text → a ≡ b

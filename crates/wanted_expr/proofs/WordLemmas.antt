@@ -1,5 +1,5 @@
 -- Digits and numbers, and texts cut before an end.
-use Rattle.std.proofs.Common.{◌≡◌, ℕ, zero, suc, ◌+◌, ◌-◌, ◌<◌, ◌≤◌, ◌^◌, ◌==◌, true, false, List, [], ◌∷◌, ◌++◌, length, get_or, take, drop, Option, Some, None, Result, Ok, Err, MatchOption, refl, sym, ap, subst, ◌∙◌, arith, length-append, true≢false, append-nil}
+use Rattle.std.proofs.Common.{◌≡◌, ℕ, zero, suc, ◌+◌, ◌-◌, ◌<◌, ◌≤◌, ◌^◌, true, false, List, [], ◌∷◌, ◌++◌, length, get_or, take, drop, Option, Some, None, Result, Ok, Err, MatchOption, refl, sym, ap, subst, ◌∙◌, arith, length-append, true≢false, append-nil}
 use Rattle.std.specs.Prelude.{codes, bytes_eq}
 use Rattle.std.specs.Char.{is_ascii_digit}
 use Rattle.std.specs.List.{list_all}
@@ -11,8 +11,9 @@ use Rattle.std.proofs.lemmas.Bool.{and_parts, eqb-false}
 use Rattle.std.proofs.lemmas.List.{append_cancel_right, take-append-drop}
 use Rattle.std.proofs.lemmas.Str.{IsUtf8-from_ascii}
 use Rattle.std.proofs.lemmas.Str.Parse.{without_leading_plus_none, digits_value_short}
+use Rattle.std.proofs.lemmas.List.Prefix.{end_rest}
 use Rattle.annex_base.proofs.Conditions.{bytes_eq-refl, bytes_eq-true}
-use Rattle.annex_base.proofs.Lists.{list_all_parts}
+use Rattle.annex_base.proofs.Lists.{list_all_parts, cons_first, cons_rest}
 use Rattle.annex_base.specs.Finding.{Found}
 use Rattle.annex_base.proofs.StampLemmas.{ascii_numerals}
 use Rattle.wanted_expr.specs.Finding.{Ends}
@@ -63,30 +64,19 @@ pub dropped : (front end : List ℕ) → drop (length front) (front ++ end) ≡ 
 dropped [] end = refl
 dropped (x ∷ front) end = dropped front end
 
-cut_place : (text front end : List ℕ) → text ≡ front ++ end → drop (length text - length end) text ≡ end
-cut_place text front end e =
-    let n : length text - length end ≡ length front = omega (arith, ap length e, length-append front end) in
-    ap (λ (k : ℕ). drop k text) n ∙ (ap (drop (length front)) e ∙ dropped front end)
-
 pub stripped : {X : Type 0} (now : X → List ℕ) (text end : List ℕ) (o : Option X) → MatchOption o (bytes_eq (drop (length text - length end) text) end ≡ false) (λ x. (bytes_eq (drop (length text - length end) text) end ≡ true) × (now x ≡ take (length text - length end) text) × (length (now x) + length end ≡ length text)) → MatchOption o ((front : List ℕ) → text ≡ front ++ end → ⊥) (λ x. text ≡ now x ++ end)
-stripped now text end None h = λ front e. true≢false (sym (ap (λ (w : List ℕ). bytes_eq w end) (cut_place text front end e) ∙ bytes_eq-refl end) ∙ h)
+stripped now text end None h = λ front e. true≢false (sym (ap (λ (w : List ℕ). bytes_eq w end) (end_rest text end front e) ∙ bytes_eq-refl end) ∙ h)
 stripped now text end (Some x) h =
     let n = length text - length end in
     sym (take-append-drop n text) ∙ (ap (λ (w : List ℕ). w ++ drop n text) (sym h.1) ∙ ap (λ (w : List ℕ). now x ++ w) (bytes_eq-true (drop n text) end h.0))
 
 -- Units of sizes.
 
-same_first : (a b : ℕ) (xs ys : List ℕ) → a ∷ xs ≡ b ∷ ys → a ≡ b
-same_first a b xs ys e = cc
-
-same_rest : (a b : ℕ) (xs ys : List ℕ) → a ∷ xs ≡ b ∷ ys → xs ≡ ys
-same_rest a b xs ys e = cc
-
 pub before_last : (xs ys : List ℕ) (a b c d : ℕ) → xs ++ a ∷ b ∷ [] ≡ ys ++ c ∷ d ∷ [] → a ≡ c
-before_last [] [] a b c d e = same_first a c (b ∷ []) (d ∷ []) e
+before_last [] [] a b c d e = cons_first a c (b ∷ []) (d ∷ []) e
 before_last [] (y ∷ ys) a b c d e = absurd (omega (arith, ap length e, length-append ys (c ∷ d ∷ [])))
 before_last (x ∷ xs) [] a b c d e = absurd (omega (arith, ap length e, length-append xs (a ∷ b ∷ [])))
-before_last (x ∷ xs) (y ∷ ys) a b c d e = before_last xs ys a b c d (same_rest x y (xs ++ a ∷ b ∷ []) (ys ++ c ∷ d ∷ []) e)
+before_last (x ∷ xs) (y ∷ ys) a b c d e = before_last xs ys a b c d (cons_rest x y (xs ++ a ∷ b ∷ []) (ys ++ c ∷ d ∷ []) e)
 
 pub not_digits : (digits front : List ℕ) (a b : ℕ) → IsDigits digits → is_ascii_digit a ≡ false → front ++ a ∷ b ∷ [] ≡ digits ++ [] → ⊥
 not_digits digits front a b is differs e =

@@ -2,7 +2,7 @@
 use Rattle.std.proofs.Common.{◌≡◌, true, ap, refl}
 use Rattle.key_verify.specs.declared.verdict.Verdict.{Verdict}
 use Rattle.key_verify.specs.declared.verdict.Verdict.TheVariants.{Right, WrongSize, WrongDigest}
-use Rattle.driver_script.specs.Given.{is_right}
+use Rattle.script_lang.specs.Verify.{is_right}
 use Rattle.driver_script.proofs.laws.bytes_are_matched.Goals as goal
 
 right_is : (verdict : Verdict) → is_right verdict ≡ true → verdict ≡ Right

@@ -1,5 +1,6 @@
 -- What the proof of `remote_taking::order_at` needs beside the tactics.
 use Rattle.std.proofs.Common.{None, refl, sym, ◌∙◌}
+use Rattle.std.proofs.lemmas.Result.{IfOk-weaker}
 use Rattle.p2p_wire.specs.declared.message.Message.TheVariants.{Timestamp}
 use Rattle.drop_worker.specs.declared.turn.Taken.TheVariants as takens
 use Rattle.drop_worker.specs.Leaving.{store}
@@ -7,7 +8,6 @@ use Rattle.drop_worker.specs.Remote.{Says, Speaks, TakesRemote, order_of}
 use Rattle.drop_worker.proofs.Callings.{spoken_well}
 use Rattle.drop_worker.proofs.TakingCalls.{order_makes}
 use Rattle.drop_worker.proofs.Feedings.{speaks_did}
-use Rattle.drop_worker.proofs.Takings.{if_ok}
 use Rattle.drop_worker.proofs.Timing.{order_plain, order_speaks, order_takes}
 use Rattle.drop_worker.proofs.remote_taking.order_at.Goals as goal
 
@@ -22,14 +22,14 @@ returns-in-None-clause-did g c =
     let lines = rw c.key.ensures at c.reads_all.ensures in
     speaks_did target c.args.table.now (store (g.K.Keeper.contents c.args.keeper.now) (g.K.Keeper.records c.args.keeper.now) (g.K.Keeper.faults c.args.keeper.now)) w w'
     (TakesRemote read ends c.args.time c.args.table.now c.args.table.now target (takens.Message (Timestamp c.args.now)) w w') c.order.result c.requires.stands
-    (if_ok c.order.result (Says (order_of read.need w target None) target w w') (TakesRemote read ends c.args.time c.args.table.now c.args.table.now target (takens.Message (Timestamp c.args.now)) w w') c.order.ensures.says (λ out s.
+    (IfOk-weaker c.order.result (Says (order_of read.need w target None) target w w') (TakesRemote read ends c.args.time c.args.table.now c.args.table.now target (takens.Message (Timestamp c.args.now)) w w') (λ out s.
     order_takes read ends c.args.time w target c.args.now remote c.requires.at w' None out c.args.table.now c.requires.early lines.order.0 s
-    (λ number p rest f. order_plain read ends c.args.time w target c.args.now remote c.requires.at (sym c.in-None.is ∙ c.in_ok-locks_end.ensures) number c.args.table.now p rest f)))
-    (if_ok c.order.result (Says (order_of read.need w target None) target w w') (Speaks w w') c.order.ensures.says (λ out s. order_speaks read w w' target None out s)) c.order.ensures.err
+    (λ number p rest f. order_plain read ends c.args.time w target c.args.now remote c.requires.at (sym c.in-None.is ∙ c.in_ok-locks_end.ensures) number c.args.table.now p rest f)) c.order.ensures.says)
+    (IfOk-weaker c.order.result (Says (order_of read.need w target None) target w w') (Speaks w w') (λ out s. order_speaks read w w' target None out s) c.order.ensures.says) c.order.ensures.err
 
 pub returns-in-None-clause-calls : goal.returns-in-None-clause-calls
 returns-in-None-clause-calls g c = λ number.
     order_makes (g.H.Here.reading c.args.here.now) (g.H.Here.ends c.args.here.now) c.args.time number c.args.table.now c.args.worker.now c.args.target c.args.now c.requires.stands.remote c.requires.at None (g.K.Keeper.failing c.args.keeper.now) c.order.result
     c.requires.early (sym c.in-None.is ∙ c.in_ok-locks_end.ensures) (λ t read clocks time. refl)
-    (spoken_well c.args.worker.now c.order.new.worker c.order.result (if_ok c.order.result (Says (order_of (g.H.Here.reading c.args.here.now).need c.args.worker.now c.args.target None) c.args.target c.args.worker.now c.order.new.worker) (Speaks c.args.worker.now c.order.new.worker) c.order.ensures.says
-    (λ out s. order_speaks (g.H.Here.reading c.args.here.now) c.args.worker.now c.order.new.worker c.args.target None out s)))
+    (spoken_well c.args.worker.now c.order.new.worker c.order.result (IfOk-weaker c.order.result (Says (order_of (g.H.Here.reading c.args.here.now).need c.args.worker.now c.args.target None) c.args.target c.args.worker.now c.order.new.worker) (Speaks c.args.worker.now c.order.new.worker) (λ out s. order_speaks (g.H.Here.reading c.args.here.now) c.args.worker.now c.order.new.worker c.args.target None out s)
+    c.order.ensures.says))

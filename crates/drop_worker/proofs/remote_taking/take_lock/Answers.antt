@@ -1,12 +1,13 @@
 -- What the proof of `remote_taking::take_lock` needs beside the tactics.
 use Rattle.std.proofs.Common.{ℕ, List, None, refl, sym, ◌∙◌, subst}
+use Rattle.std.proofs.lemmas.Result.{IfOk-weaker}
 use Rattle.p2p_wire.specs.declared.message.Message.TheVariants as messages
 use Rattle.p2p_wire.specs.Streams.{IsLine}
 use Rattle.drop_worker.specs.Doing.{Takes}
 use Rattle.drop_worker.specs.Remote.{ShutsRemote}
 use Rattle.drop_worker.specs.Working.{turn_in}
 use Rattle.drop_worker.proofs.Losses.{lost_does, shuts_speaks}
-use Rattle.drop_worker.proofs.Takings.{if_ok, say_does}
+use Rattle.drop_worker.proofs.Takings.{say_does}
 use Rattle.drop_worker.proofs.Unexpected.{lock_else}
 use Rattle.drop_worker.proofs.remote_taking.take_lock.Goals as goal
 
@@ -14,9 +15,9 @@ pub returns-in_default : goal.returns-in_default
 returns-in_default c =
     let w = c.args.worker.now in
     record {
-      does = if_ok c.shut.result (ShutsRemote c.args.target c.args.peer w c.shut.new.worker) (Takes c.args.time c.args.peer c.args.message.now w c.shut.new.worker) c.shut.ensures.shuts (λ out is x rows p f time comes.
+      does = IfOk-weaker c.shut.result (ShutsRemote c.args.target c.args.peer w c.shut.new.worker) (Takes c.args.time c.args.peer c.args.message.now w c.shut.new.worker) (λ out is x rows p f time comes.
           lost_does x rows p w c.shut.new.worker f c.args.target c.args.peer c.args.message.now out c.requires.remote is comes (λ rest. rw c.requires.at refl) (rw c.requires.at refl)
-          (λ rest. rw c.requires.at (sym (lock_else (turn_in x rows p None rest w) f c.args.peer c.args.peer c.args.since c.args.message.now c.in_default.not-Success c.in_default.not-Failure))));
+          (λ rest. rw c.requires.at (sym (lock_else (turn_in x rows p None rest w) f c.args.peer c.args.peer c.args.since c.args.message.now c.in_default.not-Success c.in_default.not-Failure)))) c.shut.ensures.shuts;
       speaks = shuts_speaks w c.shut.new.worker c.args.target c.args.peer c.shut.result c.shut.ensures.shuts;
       err = c.shut.ensures.err;
     }

@@ -1,8 +1,9 @@
 -- What is told, case by case.
+use Rattle.std.proofs.lemmas.Result.{IfOk-weaker}
+use Rattle.annex_base.proofs.Results.{IfOk-both}
 use Rattle.drop_worker.specs.Doing.{Takes}
 use Rattle.drop_worker.specs.Feeding.{FindsClosed, TakesClose, TakesFed, TakesOther}
 use Rattle.drop_worker.proofs.Doings.{fed_closed, fed_message, fed_other}
-use Rattle.drop_worker.proofs.Takings.{if_both, if_ok}
 use Rattle.drop_worker.proofs.taking.hear.Goals as goal
 
 pub returns-in-Message-clause-does : goal.returns-in-Message-clause-does
@@ -11,8 +12,8 @@ returns-in-Message-clause-does c =
     let w' = c.take_message.new.worker in
     let taken = c.args.input.now.taken in
     let time = c.args.input.now.time in
-    if_ok c.take_message.result (Takes time c.args.peer c.in-Message.message w w') (TakesFed time c.args.peer taken w w') c.take_message.ensures.does
-    (λ out takes. fed_message time c.args.peer c.in-Message.message w w' out taken c.in-Message.is takes)
+    IfOk-weaker c.take_message.result (Takes time c.args.peer c.in-Message.message w w') (TakesFed time c.args.peer taken w w') (λ out takes. fed_message time c.args.peer c.in-Message.message w w' out taken c.in-Message.is takes)
+    c.take_message.ensures.does
 
 pub returns-in-Other-clause-does : goal.returns-in-Other-clause-does
 returns-in-Other-clause-does c =
@@ -20,8 +21,8 @@ returns-in-Other-clause-does c =
     let w' = c.take_other.new.worker in
     let taken = c.args.input.now.taken in
     let time = c.args.input.now.time in
-    if_ok c.take_other.result (TakesOther c.args.peer w w') (TakesFed time c.args.peer taken w w') c.take_other.ensures.does
-    (λ out takes. fed_other time c.args.peer w w' out taken c.in-Other.is takes)
+    IfOk-weaker c.take_other.result (TakesOther c.args.peer w w') (TakesFed time c.args.peer taken w w') (λ out takes. fed_other time c.args.peer w w' out taken c.in-Other.is takes)
+    c.take_other.ensures.does
 
 pub returns-in-Closed-clause-does : goal.returns-in-Closed-clause-does
 returns-in-Closed-clause-does c =
@@ -29,5 +30,5 @@ returns-in-Closed-clause-does c =
     let w' = c.close.new.worker in
     let taken = c.args.input.now.taken in
     let time = c.args.input.now.time in
-    if_both c.close.result (TakesClose c.args.peer w w') (FindsClosed c.args.peer w w') (TakesFed time c.args.peer taken w w') c.close.ensures.does c.close.ensures.here
-    (λ out takes here. fed_closed time c.args.peer w w' out taken c.in-Closed.is takes here)
+    IfOk-both c.close.result (TakesClose c.args.peer w w') (FindsClosed c.args.peer w w') (TakesFed time c.args.peer taken w w') (λ out takes here. fed_closed time c.args.peer w w' out taken c.in-Closed.is takes here) c.close.ensures.does
+    c.close.ensures.here

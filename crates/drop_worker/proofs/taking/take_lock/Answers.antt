@@ -1,9 +1,10 @@
 -- What the proof of `taking::take_lock` needs beside the tactics.
 use Rattle.std.proofs.Common.{None, refl, sym}
+use Rattle.std.proofs.lemmas.Result.{IfOk-weaker}
 use Rattle.p2p_wire.specs.declared.message.Message.TheVariants as messages
 use Rattle.drop_worker.specs.Doing.{Shuts, Takes}
 use Rattle.drop_worker.specs.Working.{turn_in}
-use Rattle.drop_worker.proofs.Takings.{if_ok, say_does, shut_does}
+use Rattle.drop_worker.proofs.Takings.{say_does, shut_does}
 use Rattle.drop_worker.proofs.Unexpected.{lock_else}
 use Rattle.drop_worker.proofs.taking.take_lock.Goals as goal
 
@@ -17,9 +18,9 @@ pub returns-in_default : goal.returns-in_default
 returns-in_default c =
     let w = c.args.worker.now in
     record {
-      does = if_ok c.shut.result (Shuts c.args.peer w c.shut.new.worker) (Takes c.args.time c.args.peer c.args.message.now w c.shut.new.worker) c.shut.ensures.shuts (λ out is x rows p f time comes.
+      does = IfOk-weaker c.shut.result (Shuts c.args.peer w c.shut.new.worker) (Takes c.args.time c.args.peer c.args.message.now w c.shut.new.worker) (λ out is x rows p f time comes.
           shut_does x rows p w c.shut.new.worker f c.args.peer c.args.message.now w.version out is.kind comes (λ rest. rw c.requires.at refl) (rw c.requires.at refl) c.requires.local is.sends is.next
-          (λ rest. rw c.requires.at (sym (lock_else (turn_in x rows p None rest w) f c.args.peer c.args.peer c.args.since c.args.message.now c.in_default.not-Success c.in_default.not-Failure))));
+          (λ rest. rw c.requires.at (sym (lock_else (turn_in x rows p None rest w) f c.args.peer c.args.peer c.args.since c.args.message.now c.in_default.not-Success c.in_default.not-Failure)))) c.shut.ensures.shuts;
       talks = c.shut.ensures.talks;
       err = c.shut.ensures.err;
       stays = c.shut.ensures.stays;

@@ -1,9 +1,10 @@
 -- What the proof of `taking::take_opened` needs beside the tactics.
 use Rattle.std.proofs.Common.{None, refl, sym}
+use Rattle.std.proofs.lemmas.Result.{IfOk-weaker}
 use Rattle.p2p_wire.specs.declared.message.Message.TheVariants as messages
 use Rattle.drop_worker.specs.Doing.{Shuts, Takes}
 use Rattle.drop_worker.specs.Working.{turn_in}
-use Rattle.drop_worker.proofs.Takings.{if_ok, say_does, shut_does}
+use Rattle.drop_worker.proofs.Takings.{say_does, shut_does}
 use Rattle.drop_worker.proofs.Unexpected.{opens_else}
 use Rattle.drop_worker.proofs.taking.take_opened.Goals as goal
 
@@ -11,9 +12,9 @@ pub returns-in_default : goal.returns-in_default
 returns-in_default c =
     let w = c.args.worker.now in
     record {
-      does = if_ok c.shut.result (Shuts c.args.peer w c.shut.new.worker) (Takes c.args.time c.args.peer c.args.message.now w c.shut.new.worker) c.shut.ensures.shuts (λ out is x rows p f time comes.
+      does = IfOk-weaker c.shut.result (Shuts c.args.peer w c.shut.new.worker) (Takes c.args.time c.args.peer c.args.message.now w c.shut.new.worker) (λ out is x rows p f time comes.
           shut_does x rows p w c.shut.new.worker f c.args.peer c.args.message.now w.version out is.kind comes (λ rest. rw c.requires.at refl) (rw c.requires.at refl) c.requires.local is.sends is.next
-          (λ rest. rw c.requires.at (sym (opens_else (turn_in x rows p None rest w) f c.args.peer c.args.peer c.args.message.now refl c.in_default.not-AuthSuccess))));
+          (λ rest. rw c.requires.at (sym (opens_else (turn_in x rows p None rest w) f c.args.peer c.args.peer c.args.message.now refl c.in_default.not-AuthSuccess)))) c.shut.ensures.shuts;
       talks = c.shut.ensures.talks;
       err = c.shut.ensures.err;
       stays = c.shut.ensures.stays;

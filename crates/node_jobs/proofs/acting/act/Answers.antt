@@ -1,5 +1,5 @@
 -- By what it has read, or reads now.
-use Rattle.std.proofs.Common.{◌≡◌, Option, Some, sym, subst, ◌∙◌}
+use Rattle.std.proofs.Common.{◌≡◌, Option, Some, sym, subst}
 use Rattle.std.specs.Prelude.{IfOk}
 use Rattle.drop_proof.specs.declared.rule.Side.TheVariants.{Local}
 use Rattle.node_model.specs.Jobs.{drop_side}

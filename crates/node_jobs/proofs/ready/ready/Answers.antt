@@ -1,5 +1,5 @@
 -- What came for the job.
-use Rattle.std.proofs.Common.{sym, ◌∙◌}
+use Rattle.std.proofs.Common.{sym}
 use Rattle.std.specs.Prelude.{length}
 use Rattle.node_jobs.proofs.Hearing.{awaits_other, free_fed, free_waits, heard_fed, heard_ok, heard_waits, link_there}
 use Rattle.node_jobs.proofs.ready.ready.Goals as goal

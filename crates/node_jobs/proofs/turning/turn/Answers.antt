@@ -1,14 +1,14 @@
 -- The job out of the list, and back.
 use Rattle.std.proofs.Common.{◌+◌, take, drop, refl, sym, ap, subst, ◌∙◌, arith}
-use Rattle.std.specs.Prelude.{length}
 use Rattle.std.proofs.lemmas.Option.{same_Some}
+use Rattle.std.proofs.lemmas.List.{length-take-le}
 use Rattle.content_lock.specs.Rows.{Rows}
 use Rattle.trust_groups.specs.View.{settings_of}
 use Rattle.drop_worker.specs.Worker.{Worker}
 use Rattle.node_jobs.specs.Calling.{JobMakes}
 use Rattle.node_jobs.specs.Changes.{Changes, input_of, job_after}
 use Rattle.node_jobs.specs.Running.{DropJob}
-use Rattle.node_jobs.proofs.Placing.{put_there, take_len, taken_there}
+use Rattle.node_jobs.proofs.Placing.{put_there, taken_there}
 use Rattle.node_jobs.proofs.turning.turn.Goals as goal
 
 pub act-requires-clause-told : goal.act-requires-clause-told
@@ -26,7 +26,7 @@ returns-in-Ok-clause-changes g c =
       back = drop (index + 1) was;
       j = c.take_out-job.result;
       j' = c.act.new.job;
-      place = take_len index was (omega (arith, c.requires.there));
+      place = length-take-le index was (omega (arith, c.requires.there));
       was_is = c.take_out-job.ensures.was;
       now_is = put_there was c.take_out-job.new.running.items c.settle.new.running.items (job_after c.in-Ok.out.ended c.act.new.job) index c.requires.there c.take_out-job.ensures.now c.settle.ensures.list;
       job = c.number-number.ensures ∙ ap (λ (w : Worker). w.number) c.worker.ensures;

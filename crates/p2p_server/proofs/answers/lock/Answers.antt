@@ -1,10 +1,10 @@
 -- What the proof of `answers::lock` needs beside the tactics.
-use Rattle.std.proofs.Common.{true, false, Some, None, refl, ◌∙◌}
+use Rattle.std.proofs.Common.{false, Some, None, refl, ◌∙◌}
 use Rattle.annex_base.specs.declared.kinds.Call.TheVariants as calls
 use Rattle.p2p_server.specs.Answers.{here_of}
 use Rattle.p2p_server.proofs.Replies.{lock_gone, lock_barred, lock_failed, share_leaves}
 use Rattle.p2p_server.proofs.Doings.{checks, faults}
-use Rattle.p2p_server.proofs.Calling.{makes_none, makes_turn, makes_turns, turn_unfailed}
+use Rattle.p2p_server.proofs.Calling.{makes_turn, makes_turns, turn_unfailed}
 use Rattle.p2p_server.proofs.RowCalls.{hold_fails, hold_left}
 use Rattle.p2p_server.proofs.answers.lock.Goals as goal
 

@@ -1,5 +1,5 @@
 -- What the proof of `answers::remove` needs beside the tactics.
-use Rattle.std.proofs.Common.{true, false, Some, None, refl, ◌∙◌}
+use Rattle.std.proofs.Common.{false, Some, None, refl, ◌∙◌}
 use Rattle.annex_base.specs.declared.kinds.Call.TheVariants as calls
 use Rattle.p2p_server.specs.Answers.{here_of}
 use Rattle.p2p_server.proofs.Replies.{remove_there, remove_gone, remove_barred, remove_held, remove_failed, remove_leaves}

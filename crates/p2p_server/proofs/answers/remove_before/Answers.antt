@@ -1,6 +1,6 @@
 -- What the proof of `answers::remove_before` needs beside the tactics.
 use Rattle.std.proofs.Common.{◌≡◌, ℕ, ◌≤◌, ◌<◌, ◌*◌, ◌/◌, true, false, nat_lt, refl, arith}
-use Rattle.p2p_server.proofs.Calling.{makes_none, unmoved}
+use Rattle.p2p_server.proofs.Calling.{makes_none}
 use Rattle.p2p_server.proofs.answers.remove_before.Goals as goal
 
 in_time : (clock before : ℕ) → clock / 1000 < before → nat_lt clock (1000 * before) ≡ true

@@ -1,5 +1,5 @@
 -- The calls by which a part is asked for.
-use Rattle.std.proofs.Common.{◌≡◌, ℕ, ◌<◌, true, false, nat_lt, List, [], ◌∷◌, length, Option, Some, None, refl, sym, ap, subst, ◌∙◌, arith}
+use Rattle.std.proofs.Common.{◌≡◌, ℕ, ◌<◌, true, false, nat_lt, List, [], length, Option, Some, None, refl, sym, ap, subst, ◌∙◌, arith}
 use Rattle.std.specs.Prelude.{Err}
 use Rattle.std.specs.Option.{ForSome}
 use Rattle.annex_base.specs.declared.kinds.Call.{Call}

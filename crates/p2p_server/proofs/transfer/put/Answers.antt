@@ -1,5 +1,5 @@
 -- Bytes are asked for where the content isn't there, nor being filled.
-use Rattle.std.proofs.Common.{false, None, [], ◌∷◌, refl, sym, ap, ◌∙◌}
+use Rattle.std.proofs.Common.{false, refl, sym, ap, ◌∙◌}
 use Rattle.std.specs.Option.{option_map}
 use Rattle.std.proofs.lemmas.Result.{IfOk-weaker}
 use Rattle.annex_base.specs.declared.kinds.Call.TheVariants as calls

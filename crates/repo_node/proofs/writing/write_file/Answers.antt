@@ -18,7 +18,7 @@ pub returns-in-Err-clause-err : goal.returns-in-Err-clause-err
 returns-in-Err-clause-err g c = fails_after c.args.by c.in-Err.refused PutFile c.args.past.now c.drafted.new.past c.put.new.past c.drafted.ensures.same c.in-Err.ensures.err
 
 pub returns-in-Err-clause-err_branch : goal.returns-in-Err-clause-err_branch
-returns-in-Err-clause-err_branch g c = c.put_back.ensures ∙ c.in_ok-draft.ensures.back
+returns-in-Err-clause-err_branch g c = c.put_back.ensures ∙ c.in_ok-draft.ensures.undo
 
 pub returns-in_err-draft-clause-calls : goal.returns-in_err-draft-clause-calls
 returns-in_err-draft-clause-calls g c = makes_early {Y = Draft} (PutFile ∷ []) PutFile c.from_residual.result c.in_err-draft.field-0.0 (g.K.Keeper.failing c.args.keeper.now) c.from_residual.ensures.1 c.in_err-draft.ensures.no_fault

@@ -1,6 +1,7 @@
 -- What the proof of `branch::merge_into` needs beside the tactics.
-use Rattle.std.proofs.Common.{◌≡◌, ◌∙◌, Some, Result, Ok, Err, OnErr, sym, ap}
+use Rattle.std.proofs.Common.{◌≡◌, ◌∙◌, Some, sym, ap}
 use Rattle.annex_base.proofs.Rows.{lookup-shown}
+use Rattle.annex_base.proofs.Results.{OnErr-always}
 use Rattle.union_merge.specs.LineSet.{union}
 use Rattle.union_merge.specs.Branch.{file_at, or_none, with_file}
 use Rattle.union_merge.specs.FileView.{files_of}
@@ -13,13 +14,9 @@ pub returns-in_default-clause-missing : goal.returns-in_default-clause-missing
 returns-in_default-clause-missing c = λ is.
     (sym (lookup-shown c.args.files.now.entries c.args.path.now) ∙ sym c.in_default.ensures.value, ap (λ m. files_of m.entries) c.get_mut.follows.holds-at-none)
 
-in_any_err : {A E : Type 0} (r : Result A E) (X : Type 0) → X → OnErr r X
-in_any_err (Ok x) X h = tt
-in_any_err (Err e) X h = h
-
 pub returns-in_err-merge-clause-err : goal.returns-in_err-merge-clause-err
 returns-in_err-merge-clause-err c =
-    in_any_err c.from_residual.result _
+    OnErr-always _ c.from_residual.result
     (ap files_of ((c.get_mut.follows.holds c.merge.new.self).0 ∙ set_value-same c.args.files.now.entries c.args.path.now c.merge.new.self (sym c.in-Some.ensures.value ∙ ap Some (sym c.in_err-merge.ensures.err))))
 
 pub returns-clause-there : goal.returns-clause-there

@@ -1,16 +1,11 @@
 -- What the proof of `branch::set_lines` needs beside the tactics.
-use Rattle.std.proofs.Common.{◌≡◌, Option, Some, None, IsSome, ap, sym, ◌∙◌, rules}
+use Rattle.std.proofs.Common.{◌≡◌, Some, ap, sym, ◌∙◌}
 use Rattle.union_merge.specs.Branch.{file_at}
 use Rattle.union_merge.specs.FileView.{files_of}
-use Rattle.union_merge.proofs.BranchLemmas.{Member-file_at}
-use Rattle.union_merge.proofs.SetLemmas.{Lines}
+use Rattle.union_merge.proofs.BranchLemmas.{Member-file_at, never_none}
 use Rattle.annex_base.proofs.Rows.{lookup-shown}
 use Rattle.union_merge.proofs.ViewLemmas.{files_of-set_value}
 use Rattle.union_merge.proofs.branch.set_lines.Goals as goal
-
-never_none : (o : Option Lines) → o ≡ None → IsSome o → ⊥
-never_none (Some x) e some = absurd cc
-never_none None e some = search rules
 
 pub unreachable-requires : goal.unreachable-requires
 unreachable-requires c =

@@ -1,14 +1,13 @@
 -- One more job.
-use Rattle.std.proofs.Common.{◌≡◌, ℕ, ◌+◌, ◌<◌, List, [], ◌∷◌, length, None, sym, ap, subst, ◌∙◌}
+use Rattle.std.proofs.Common.{◌≡◌, ◌+◌, ◌<◌, [], ◌∷◌, length, None, sym, ap, subst, ◌∙◌}
 use Rattle.run_data.specs.declared.job.JobKind.{JobKind}
 use Rattle.run_data.specs.declared.job.JobKind.TheVariants as kinds
 use Rattle.drop_proof.specs.declared.rule.Side.TheVariants.{Local}
 use Rattle.drop_worker.specs.declared.phase.Phase.TheVariants as phases
 use Rattle.drop_worker.specs.declared.phase.Token.TheVariants as tokens
-use Rattle.drop_worker.specs.Worker.{Worker}
 use Rattle.node_model.specs.Jobs.{drop_side}
 use Rattle.node_jobs.specs.Acting.{with_job}
-use Rattle.node_jobs.specs.Running.{AreWorks, DropJob, Jobs, OwnAll}
+use Rattle.node_jobs.specs.Running.{AreWorks, Jobs, OwnAll}
 use Rattle.node_jobs.proofs.Beginning.{works_begun}
 use Rattle.node_jobs.proofs.Owning.{owns_begun}
 use Rattle.node_jobs.proofs.jobs.Jobs.begin.Goals as goal

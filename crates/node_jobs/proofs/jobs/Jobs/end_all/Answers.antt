@@ -1,7 +1,6 @@
 -- What is left when all have ended.
-use Rattle.std.proofs.Common.{List, [], refl, sym, ap, subst, ◌∙◌}
-use Rattle.content_lock.specs.Rows.{Rows}
-use Rattle.node_jobs.specs.Ending.{CanEnd, OthersKeep}
+use Rattle.std.proofs.Common.{List, sym, subst}
+use Rattle.node_jobs.specs.Ending.{CanEnd}
 use Rattle.node_jobs.specs.Running.{DropJob, Jobs, OwnAll}
 use Rattle.node_jobs.proofs.Ends.{can_end, owns_none}
 use Rattle.node_jobs.proofs.jobs.Jobs.end_all.Goals as goal

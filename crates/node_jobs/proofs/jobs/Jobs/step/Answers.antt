@@ -1,9 +1,8 @@
 -- The first job that has a step.
-use Rattle.std.proofs.Common.{Option, Some, None, sym, ap, subst, refl, ◌∙◌}
+use Rattle.std.proofs.Common.{Option, Some, None, sym, ap, subst, refl}
 use Rattle.annex_base.specs.Lists.{Each}
 use Rattle.annex_base.proofs.Lists.{Each-weaker}
 use Rattle.trust_groups.specs.View.{settings_of}
-use Rattle.content_lock.specs.Rows.{Rows}
 use Rattle.drop_worker.specs.Doing.{HasToken}
 use Rattle.node_jobs.specs.declared.finding.Found.{Found}
 use Rattle.node_jobs.specs.Acting.{SeesActed, SeesJobs, StepsJobs}

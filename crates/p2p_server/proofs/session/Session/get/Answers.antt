@@ -1,10 +1,9 @@
 -- By whether the content can be read.
-use Rattle.std.proofs.Common.{ap, sym, ◌∙◌}
-use Rattle.std.proofs.lemmas.Bool.{le-leb}
+use Rattle.std.proofs.Common.{[], ◌∷◌, ap, sym, ◌∙◌}
+use Rattle.std.proofs.lemmas.Bool.{cond-true, le-leb}
 use Rattle.p2p_server.proofs.Waiting.{get_so, giving_of, in_phase, spoken_of}
-use Rattle.std.proofs.Common.{[], ◌∷◌}
 use Rattle.annex_base.specs.declared.kinds.Call.TheVariants as calls
-use Rattle.p2p_server.proofs.Making.{if_true, request_makes}
+use Rattle.p2p_server.proofs.Making.{request_makes}
 use Rattle.p2p_server.proofs.session.Session.get.Goals as goal
 
 pub returns-in-Some-clause-goes : goal.returns-in-Some-clause-goes
@@ -29,13 +28,13 @@ pub returns-in-Some-clause-calls : goal.returns-in-Some-clause-calls
 returns-in-Some-clause-calls g c = λ file.
     let r = c.in_ok-step.ensures in
     request_makes c.args.scene _ c.args.self.now c.args.table.now _ _ _ _ c.in_ok-step.step (λ h. calls.Size ∷ []) c.requires.waits
-    (λ h. if_true _ (calls.Size ∷ []) (le-leb 1 c.args.self.now.spoken c.requires.spoken)) (λ k is part right sees. r.calls) r.calls.left
+    (λ h. cond-true _ (calls.Size ∷ []) [] (le-leb 1 c.args.self.now.spoken c.requires.spoken)) (λ k is part right sees. r.calls) r.calls.left
 
 pub returns-in-None-clause-calls : goal.returns-in-None-clause-calls
 returns-in-None-clause-calls g c = λ file.
     let r = c.in_ok-step.ensures in
     request_makes c.args.scene _ c.args.self.now c.args.table.now _ _ _ _ c.in_ok-step.step (λ h. calls.Size ∷ []) c.requires.waits
-    (λ h. if_true _ (calls.Size ∷ []) (le-leb 1 c.args.self.now.spoken c.requires.spoken)) (λ k is part right sees. r.calls) r.calls.left
+    (λ h. cond-true _ (calls.Size ∷ []) [] (le-leb 1 c.args.self.now.spoken c.requires.spoken)) (λ k is part right sees. r.calls) r.calls.left
 
 pub returns-in-Some-clause-contents : goal.returns-in-Some-clause-contents
 returns-in-Some-clause-contents g c = c.get.ensures.contents ∙ sym (c.in_ok-step.ensures.leaves _ _)

@@ -1,9 +1,11 @@
 -- What the proof of `node::Node::pay` needs beside the tactics.
-use Rattle.std.proofs.Common.{◌∷◌, []}
+use Rattle.std.proofs.Common.{ℕ, List, sym, subst, ◌∷◌, []}
 use Rattle.annex_base.specs.declared.kinds.Call.TheVariants.{PutFile}
+use Rattle.union_merge.specs.Branch.{lines_at}
+use Rattle.repo_node.specs.Changes.{AreNew}
 use Rattle.repo_node.specs.Nodes.{told_of}
 use Rattle.repo_node.proofs.CallLemmas.{makes_short}
-use Rattle.repo_node.proofs.DebtLemmas.{err_paid, ok_paid, pays_due, rest_paid, step_paid}
+use Rattle.repo_node.proofs.DebtLemmas.{draft_new, err_paid, ok_paid, pays_due, rest_paid, step_paid}
 use Rattle.repo_node.proofs.node.Node.pay.Goals as goal
 
 pub log_paid-requires-clause-paid : goal.log_paid-requires-clause-paid
@@ -33,3 +35,9 @@ returns-clause-pays g c x told s k fits time count fails =
 
 pub returns-in_err-draft-clause-calls : goal.returns-in_err-draft-clause-calls
 returns-in_err-draft-clause-calls g c = makes_short (PutFile ∷ []) PutFile c.from_residual.result (g.K.Keeper.failing c.args.self.now.keeper) c.from_residual.ensures.1
+
+pub log_paid-requires-clause-new : goal.log_paid-requires-clause-new
+log_paid-requires-clause-new g c =
+    let n = c.args.self.now in
+    let d = c.in_ok-draft.draft in
+    subst (λ (p : List ℕ). AreNew d.new (lines_at n.branch p)) (sym c.bytes.ensures) (draft_new n c.in_ok-draft.ensures.owed d c.in_ok-draft.ensures.draft)

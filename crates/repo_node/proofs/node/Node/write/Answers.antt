@@ -4,6 +4,7 @@ use Rattle.annex_base.specs.declared.kinds.Call.TheVariants.{PutFile}
 use Rattle.node_model.specs.Files.{lines_after}
 use Rattle.union_merge.specs.Branch.{Files, lines_at, with_file}
 use Rattle.trust_groups.specs.Adding.{lines_and}
+use Rattle.repo_node.specs.Changes.{AddsNew, changed, changed_file}
 use Rattle.repo_node.specs.Indexed.{ReadsAlike}
 use Rattle.repo_node.specs.Kept.{first_goes}
 use Rattle.repo_node.specs.Nodes.{told_of}
@@ -21,7 +22,7 @@ returns-clause-ok g c =
     let owed = owed_in i.past i.debts.items in
     let owed' = owed_in w.new.past w.new.debts.items in
     let grows = write_grows c.args.by w.result PutFile c.args.kind c.args.lines i.past w.new.past w.ensures.past w.ensures.err in
-    seen_written w.result i.keeper w.new.keeper i.parts i.branch w.new.branch i.past w.new.past owed owed' c.args.self.now c.args.path.now c.args.all c.args.kind c.args.lines
+    seen_written w.result i.keeper w.new.keeper i.parts i.branch w.new.branch i.past w.new.past owed owed' c.args.self.now c.args.path.now c.args.change c.args.kind c.args.lines
     c.self.view_is w.ensures.branch w.ensures.past
     (seen_owed w.result i.keeper i.parts i.branch i.past owed owed' c.args.self.now c.args.kind c.args.lines c.args.paid c.self.view_is c.requires.owed
     (owed_written c.args.paid c.args.by w.result i.past w.new.past i.debts.items w.new.debts.items grows w.ensures.debts c.self.invariant.4))
@@ -42,7 +43,7 @@ invariant_of-self g c =
     let w = c.write_beside in
     let law = c.files_are_changed_alone.ensures in
     let path = c.args.path.now in
-    let all = c.args.all in
+    let all = changed c.args.change (lines_at i.branch path) in
     let owed = owed_in i.past i.debts.items in
     let owed' = owed_in w.new.past w.new.debts.items in
     let rest = w.ensures.rest in
@@ -52,7 +53,7 @@ invariant_of-self g c =
     let grows = write_grows c.args.by w.result PutFile c.args.kind c.args.lines i.past w.new.past w.ensures.past w.ensures.err in
     let branch : i.branch ≡ c.args.self.now.branch = ap (λ n. n.branch) c.self.view_is in
     let here : (p : List ℕ) → lines_at (with_file i.branch path all) p ≡ lines_after p (lines_at i.branch p) c.args.kind c.args.lines =
-    subst (λ (b : Files). (p : List ℕ) → lines_at (with_file b path all) p ≡ lines_after p (lines_at b p) c.args.kind c.args.lines) (sym branch) c.requires.lines in (
+    subst (λ (b : Files). (p : List ℕ) → lines_at (changed_file b path c.args.change) p ≡ lines_after p (lines_at b p) c.args.kind c.args.lines) (sym branch) c.requires.lines in (
       kept_written c.args.by w.result i.past w.new.past i.parts i.branch w.new.branch (with_file i.branch path all) told told' c.args.kind c.args.lines owed owed'
           c.requires.kind here w.ensures.branch w.ensures.past w.ensures.err w.ensures.err_branch (told_same (g.K.Keeper.contents i.keeper) (g.K.Keeper.contents w.new.keeper) (g.K.Keeper.parts i.keeper) (g.K.Keeper.parts w.new.keeper) rest.contents (ap is_some rest.parts))
           (seen_owed w.result i.keeper i.parts i.branch i.past owed owed' c.args.self.now c.args.kind c.args.lines c.args.paid c.self.view_is c.requires.owed
@@ -62,7 +63,11 @@ invariant_of-self g c =
           (law.there i.branch path all) (λ p differ. law.other i.branch path p all differ) w.ensures.branch w.ensures.err_branch w.ensures.files w.ensures.err_files c.self.invariant.1,
       λ x told. c.self.invariant.2 x (sym w.ensures.rest.records ∙ told),
       indexed_written w.result i.index w.new.index i.branch w.new.branch path all c.args.new.now w.ensures.branch w.ensures.err_branch w.ensures.index w.ensures.err_index
-          (subst (λ (b : Files). ReadsAlike (lines_and (lines_at b) path c.args.new.now) (lines_at (with_file b path all))) (sym branch) c.requires.reads) c.self.invariant.3,
+          (subst (λ (b : Files). ReadsAlike (lines_and (lines_at b) path c.args.new.now) (lines_at (changed_file b path c.args.change))) (sym branch) c.requires.reads) c.self.invariant.3,
       debts_left i.past w.new.past (first_goes c.args.paid c.args.by w.result) i.debts.items w.new.debts.items grows w.ensures.debts c.self.invariant.4,
       λ q is. c.self.invariant.5 q (sym rest.parts ∙ is),
     )
+
+pub write_beside-requires-clause-new : goal.write_beside-requires-clause-new
+write_beside-requires-clause-new g c =
+    subst (λ (b : Files). AddsNew c.args.change (lines_at b c.args.path.now)) (sym (ap (λ n. n.branch) c.self.view_is)) c.requires.new

@@ -1,11 +1,8 @@
--- What the proof of `writing::replaced` needs beside the tactics.
-use Rattle.std.proofs.Common.{Option, List, ℕ, Some, ◌≡◌, ◌∙◌, refl, ap, sym, subst}
-use Rattle.std.specs.Prelude.{IsSome}
+-- What the proof of `changing::replaced` needs beside the tactics.
+use Rattle.std.proofs.Common.{Option, List, ℕ, ◌∙◌, ap}
 use Rattle.union_merge.specs.Branch.{Files, file_at, with_back, with_file}
-use Rattle.repo_node.proofs.writing.replaced.Goals as goal
-
-some_there : (o : Option (List (List ℕ))) (lines : List (List ℕ)) → o ≡ Some lines → IsSome o
-some_there o lines is = subst (λ (x : Option (List (List ℕ))). IsSome x) (sym is) refl
+use Rattle.repo_node.proofs.ChangeLemmas.{some_there}
+use Rattle.repo_node.proofs.changing.replaced.Goals as goal
 
 pub returns-clause-there : goal.returns-clause-there
 returns-clause-there c =

@@ -1,0 +1,31 @@
+-- What becomes of a file that a node writes; for private contracts.
+use Rattle.std.specs.Prelude.{◌≡◌, ℕ, List}
+use Rattle.union_merge.specs.Branch.{Files, lines_at, with_back, with_file}
+use Rattle.union_merge.specs.LineSet.{difference, union}
+use Rattle.repo_node.specs.declared.changing.Change.{Change}
+use Rattle.repo_node.specs.declared.changing.Change.TheVariants.{Add, Replace}
+use Rattle.repo_node.specs.declared.changing.Undo.{Undo}
+use Rattle.repo_node.specs.declared.changing.Undo.TheVariants.{TakeOff, PutBack}
+
+-- the lines of a file after a change
+abbrev pub changed : Change → List (List ℕ) → List (List ℕ)
+changed (Add new) lines = union lines new.now
+changed (Replace all) lines = all
+
+-- the branch after the change of a file
+abbrev pub changed_file : Files → List ℕ → Change → Files
+changed_file files path change = with_file files path (changed change (lines_at files path))
+
+-- these lines have none of the others
+abbrev pub AreNew : List (List ℕ) → List (List ℕ) → Type 0
+AreNew new lines = difference new lines ≡ new
+
+-- what is added to these lines is new
+abbrev pub AddsNew : Change → List (List ℕ) → Type 0
+AddsNew (Add new) lines = AreNew new.now lines
+AddsNew (Replace all) lines = Unit {0}
+
+-- the branch after the change of a file is undone
+abbrev pub undone : Files → List ℕ → Undo → Files
+undone files path (TakeOff new) = with_file files path (difference (lines_at files path) new.now)
+undone files path (PutBack was) = with_back files path was
