@@ -11,7 +11,7 @@ use Rattle.script_lang.specs.Script.{Reading, Commands, BadLine, PastLimit, read
 use Rattle.run_data.specs.Histories.{most_entries}
 use Rattle.driver_model.specs.Limits.{limited_run}
 use Rattle.driver_model.specs.Lines.{Line}
-use Rattle.driver_script.specs.Given.{driver_input_of}
+use Rattle.driver_script.specs.Inputs.{driver_input_of}
 use Rattle.driver_script.specs.Script.{IsScript, IsUnbuilt}
 use Rattle.report_text.specs.Report.{report}
 use Rattle.annex_cli.specs.declared.due.Due.{Due}

@@ -6,7 +6,7 @@ use Rattle.script_lang.specs.declared.command.Command.{Command}
 use Rattle.script_lang.specs.Script.{Reading, Commands, BadLine, PastLimit, reading}
 use Rattle.driver_model.specs.Limits.{limited_run}
 use Rattle.driver_model.specs.Lines.{Line}
-use Rattle.driver_script.specs.Given.{driver_input_of}
+use Rattle.driver_script.specs.Inputs.{driver_input_of}
 use Rattle.driver_script.specs.Script.{IsScript, IsUnbuilt}
 use Rattle.annex_cli.specs.declared.status.Status.{Status}
 use Rattle.annex_cli.specs.declared.status.Status.TheVariants.{Done, Script, Limit}

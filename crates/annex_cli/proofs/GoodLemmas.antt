@@ -9,11 +9,11 @@ use Rattle.run_model.specs.Safety.{IsSafe}
 use Rattle.script_lang.specs.declared.command.Command.{Command}
 use Rattle.script_lang.specs.declared.fault.Quantity.{Quantity}
 use Rattle.script_lang.specs.Script.{reading, BadLine, Commands, PastLimit, no_context}
-use Rattle.script_lang.specs.Standing.{AllStand}
+use Rattle.script_lang.specs.Preconditions.{AllStand}
 use Rattle.driver_model.specs.Driver.{Driver, DriverInput}
 use Rattle.driver_model.specs.Limits.{LimitedRun, drives_to_limit, limited_run, meets_limit}
 use Rattle.driver_model.specs.Lines.{Line}
-use Rattle.driver_script.specs.Given.{driver_input_of}
+use Rattle.driver_script.specs.Inputs.{driver_input_of}
 use Rattle.driver_script.specs.Lines.{repos_of}
 use Rattle.driver_script.specs.Script.{IsScript, IsUnbuilt}
 use Rattle.report_text.specs.Report.{report}

@@ -16,7 +16,7 @@ use Rattle.script_lang.specs.declared.command.Command.TheVariants as commands
 use Rattle.script_lang.specs.Context.{Context}
 use Rattle.script_lang.specs.Script as script
 use Rattle.script_lang.specs.Script.{context_with, no_context}
-use Rattle.script_lang.specs.Standing.{AllStand, IsValidIn}
+use Rattle.script_lang.specs.Preconditions.{AllStand, IsValidIn}
 use Rattle.driver_model.specs.Logged.{LogsWell}
 use Rattle.driver_script.specs.Lines.{declared_by, repos_of, view_of}
 use Rattle.report_text.specs.Branches.{LogsLines}

@@ -14,17 +14,17 @@ use Rattle.repo_node.specs.Stored.{StoreView}
 use Rattle.script_lang.specs.declared.command.Command.{Command}
 use Rattle.script_lang.specs.Script as script
 use Rattle.script_lang.specs.Script.{context_with, no_context, wait_of}
-use Rattle.script_lang.specs.Standing.{AllStand}
+use Rattle.script_lang.specs.Preconditions.{AllStand}
 use Rattle.driver_model.specs.Driver.{Driver, DriverInput, at_first}
 use Rattle.driver_model.specs.Driving.{does, with_mark}
 use Rattle.driver_model.specs.Limits.{LimitedRun, drives_to_limit, limited_run, meets_limit, run_to_limit}
 use Rattle.driver_model.specs.Lines.{Line, waited_by}
-use Rattle.driver_script.specs.Given.{driver_input_of}
+use Rattle.driver_script.specs.Inputs.{driver_input_of}
 use Rattle.driver_script.specs.Lines.{declared_by, line_of, lines_of, repos_of}
 use Rattle.fleet_model.specs.Fleets.{FleetView}
 use Rattle.fleet_run.specs.declared.stop.FleetStop.{FleetStop}
 use Rattle.fleet_run.specs.Commands.{CutsAt, MayBeDone, MeetsNone, does_and_marks}
-use Rattle.fleet_run.specs.Standing.{GoesOn, IsAtDriver}
+use Rattle.fleet_run.specs.AtDriver.{GoesOn, IsAtDriver}
 use Rattle.annex_cli.specs.Runs.{AreLines, HasDone, IsRunOf}
 use Rattle.annex_cli.proofs.ReportLemmas.{declares_alike}
 

@@ -6,14 +6,14 @@ use Rattle.run_model.specs.Run.{IsRun}
 use Rattle.repo_node.specs.Stored.{StoreView}
 use Rattle.script_lang.specs.declared.command.Command.{Command}
 use Rattle.script_lang.specs.Context.{Context}
-use Rattle.script_lang.specs.Standing.{AllStand}
+use Rattle.script_lang.specs.Preconditions.{AllStand}
 use Rattle.driver_model.specs.Driver.{Driver}
 use Rattle.driver_model.specs.Limits.{drives_to_limit, limited_run}
 use Rattle.driver_model.specs.Lines.{Line}
-use Rattle.driver_script.specs.Given.{driver_input_of}
+use Rattle.driver_script.specs.Inputs.{driver_input_of}
 use Rattle.driver_script.specs.Lines.{lines_of, repos_of}
 use Rattle.fleet_model.specs.Fleets.{FleetView}
-use Rattle.fleet_run.specs.Standing.{IsAtDriver}
+use Rattle.fleet_run.specs.AtDriver.{IsAtDriver}
 
 -- these are the lines of the driver that the script is
 abbrev pub AreLines : List Command → List Line → Type 0

@@ -14,7 +14,7 @@ use Rattle.script_lang.specs.Limits.{quantity_name, limit_of}
 use Rattle.script_lang.specs.Script.{reading, BadLine, PastLimit}
 use Rattle.driver_model.specs.Limits.{count_of, limited_run}
 use Rattle.driver_model.specs.Lines.{Line}
-use Rattle.driver_script.specs.Given.{driver_input_of}
+use Rattle.driver_script.specs.Inputs.{driver_input_of}
 use Rattle.driver_script.specs.Script.{IsScript, IsUnbuilt}
 use Rattle.report_text.specs.Report.{report}
 use Rattle.annex_cli.specs.declared.status.Status.{Status}

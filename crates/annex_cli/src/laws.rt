@@ -4,7 +4,7 @@ ghost use Rattle.std.specs.Prelude.{◌≡◌, ℕ, true, List};
 ghost use Rattle.script_lang.specs.declared.command.Command.{Command};
 ghost use Rattle.driver_model.specs.Limits.{limited_run};
 ghost use Rattle.driver_model.specs.Lines.{Line};
-ghost use Rattle.driver_script.specs.Given.{driver_input_of};
+ghost use Rattle.driver_script.specs.Inputs.{driver_input_of};
 ghost use Rattle.driver_script.specs.Script.{IsScript};
 ghost use Rattle.annex_cli.specs.declared.status.Status.{Status};
 ghost use Rattle.annex_cli.specs.Top.{HasFullHistory, IsDue};

@@ -9,7 +9,7 @@ ghost use Rattle.script_lang.specs.Script.{reading, Commands};
 ghost use Rattle.run_data.specs.Histories.{most_entries};
 ghost use Rattle.driver_model.specs.Limits.{limited_run};
 ghost use Rattle.driver_model.specs.Lines.{Line};
-ghost use Rattle.driver_script.specs.Given.{driver_input_of};
+ghost use Rattle.driver_script.specs.Inputs.{driver_input_of};
 ghost use Rattle.report_text.specs.Report.{report};
 ghost use Rattle.annex_cli.specs.declared.status.Status.{Status};
 ghost use Rattle.annex_cli.specs.Runs.{AreLines};

@@ -2,12 +2,12 @@
 ghost use Rattle.std.specs.Prelude.{◌≡◌, ◌≤◌, ℕ, true, [], List, length, Err, IfOk, OnOk};
 ghost use Rattle.repo_node.specs.Stored.{store_view};
 ghost use Rattle.script_lang.specs.Script.{no_context};
-ghost use Rattle.script_lang.specs.Standing.{AllStand};
+ghost use Rattle.script_lang.specs.Preconditions.{AllStand};
 ghost use Rattle.driver_model.specs.Driver.{at_first};
 ghost use Rattle.driver_model.specs.Lines.{Line};
-ghost use Rattle.driver_script.specs.Given.{driver_input_of};
+ghost use Rattle.driver_script.specs.Inputs.{driver_input_of};
 ghost use Rattle.driver_script.specs.Lines.{repos_of};
-ghost use Rattle.fleet_run.specs.Standing.{IsAtDriver, most_lines};
+ghost use Rattle.fleet_run.specs.AtDriver.{IsAtDriver, most_lines};
 ghost use Rattle.joined_nodes.specs.Joined.{MayRun};
 ghost use Rattle.annex_cli.specs.Runs.{AreLines, HasDone, IsRunOf};
 

@@ -7,12 +7,12 @@ use Rattle.object_store.specs.Calls.{FailsAsTold, has_failed, one_fewer}
 use Rattle.object_store.specs.declared.keeper.KeeperFault.{KeeperFault}
 use Rattle.object_store.specs.declared.keeper.KeeperFault.TheVariants as faults
 use Rattle.content_lock.specs.Looks.{IsOfHold, hold_fault}
-use Rattle.content_lock.specs.Turns.{FailInTurn, Turn, hold_turns, share_turns}
+use Rattle.content_lock.specs.Turns.{FailInTurn, CallOutcome, hold_turns, share_turns}
 use Rattle.content_lock.specs.declared.refusals.ShareRefused.{ShareRefused}
 use Rattle.content_lock.specs.declared.refusals.ShareRefused.TheVariants as shares
 
 -- one call, and what comes after it
-pub turn_first : (call : Call) (failed : Bool) (turns : List Turn) (was then after : Option (Call → ℕ)) → FailsAsTold call was then failed → FailInTurn turns then after → FailInTurn ((call, failed) ∷ turns) was after
+pub turn_first : (call : Call) (failed : Bool) (turns : List CallOutcome) (was then after : Option (Call → ℕ)) → FailsAsTold call was then failed → FailInTurn turns then after → FailInTurn ((call, failed) ∷ turns) was after
 turn_first call failed turns was then after first rest =
     (first.told, subst (λ (b : Option (Call → ℕ)). FailInTurn turns b after) first.count rest)
 
@@ -51,7 +51,7 @@ hold_refused faults.NoMemory was after only = unfailed was after only
 -- a look, and then the record of the hold
 pub look_first : {T : Type 0} (answer : Result T ShareRefused) (was then after : Option (Call → ℕ)) → IfErr answer IsOfHold → FailsAsTold calls.Has was then false → FailInTurn (hold_turns answer) then after → FailInTurn (share_turns answer) was after
 look_first answer was then after why first rest =
-    subst (λ (turns : List Turn). FailInTurn turns was after) (sym (share_turns_are answer why)) (turn_first calls.Has false (hold_turns answer) was then after first rest)
+    subst (λ (turns : List CallOutcome). FailInTurn turns was after) (sym (share_turns_are answer why)) (turn_first calls.Has false (hold_turns answer) was then after first rest)
   where
     share_turns_are : {T : Type 0} (answer : Result T ShareRefused) → IfErr answer IsOfHold → share_turns answer ≡ (calls.Has, false) ∷ hold_turns answer
     share_turns_are (Ok x) why = refl

@@ -16,28 +16,28 @@ use Rattle.content_lock.specs.declared.refusals.ShareRefused.{ShareRefused}
 use Rattle.content_lock.specs.declared.refusals.ShareRefused.TheVariants as shares
 
 -- a call of a store, and whether it failed
-abbrev pub Turn : Type 0
-Turn = Call × Bool
+abbrev pub CallOutcome : Type 0
+CallOutcome = Call × Bool
 
 -- where the store tells how many calls are still to fail, each of these calls in turn failed exactly where its kind's number wasn't 0, which is then one less
-abbrev pub FailInTurn : List Turn → Option (Call → ℕ) → Option (Call → ℕ) → Type 0
+abbrev pub FailInTurn : List CallOutcome → Option (Call → ℕ) → Option (Call → ℕ) → Type 0
 FailInTurn [] before after = after ≡ before
 FailInTurn ((call, failed) ∷ turns) before after =
     ForSome before (λ failing. failed ≡ nat_lt 0 (failing call)) × FailInTurn turns (option_map (one_fewer call) before) after
 
 -- a record that found no memory is a call that didn't fail, and takes nothing from a number that is 0 then
-abbrev pub hold_turns : {T : Type 0} → Result T ShareRefused → List Turn
+abbrev pub hold_turns : {T : Type 0} → Result T ShareRefused → List CallOutcome
 hold_turns (Ok share) = (calls.Hold, false) ∷ []
 hold_turns (Err (shares.StoreFault calls.Hold)) = (calls.Hold, true) ∷ []
 hold_turns (Err e) = []
 
 -- a share takes a look, and then a record of the hold
-abbrev pub share_turns : {T : Type 0} → Result T ShareRefused → List Turn
+abbrev pub share_turns : {T : Type 0} → Result T ShareRefused → List CallOutcome
 share_turns (Err (shares.StoreFault calls.Has)) = (calls.Has, true) ∷ []
 share_turns answer = (calls.Has, false) ∷ hold_turns answer
 
 -- a removal by an order takes a look, and then the removal
-abbrev pub removal_turns : Result Removed RemoveRefused → List Turn
+abbrev pub removal_turns : Result Removed RemoveRefused → List CallOutcome
 removal_turns (Ok removed.Absent) = (calls.Has, false) ∷ []
 removal_turns (Ok removed.Gone) = (calls.Has, false) ∷ (calls.Remove, false) ∷ []
 removal_turns (Err (removes.StoreFault calls.Has)) = (calls.Has, true) ∷ []

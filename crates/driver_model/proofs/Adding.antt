@@ -19,7 +19,7 @@ use Rattle.run_model.specs.Past.{begun_count, now}
 use Rattle.run_model.specs.States.{end_at, works}
 use Rattle.node_model.specs.AnyTime.{close_at, ends_with}
 use Rattle.node_model.specs.Ends.{EndName}
-use Rattle.node_model.specs.Look.{Look, Made, entry_of}
+use Rattle.node_model.specs.Look.{Look, Effect, entry_of}
 use Rattle.node_model.specs.SetUp.{SetUp}
 use Rattle.node_model.specs.State.{State}
 use Rattle.node_model.specs.Step.{step}
@@ -178,11 +178,11 @@ mark_adds d = stays d.past d.past refl
 
 -- ---- turns, and rounds of them
 
-makes_adds : (st : State) (r : ℕ) (k : Look) (o : Option Made) (d : Driver) → k.time ≡ now d.past → Adds d (makes st r k o d)
+makes_adds : (st : State) (r : ℕ) (k : Look) (o : Option Effect) (d : Driver) → k.time ≡ now d.past → Adds d (makes st r k o d)
 makes_adds st r k None d t = stays d.past d.past refl
 makes_adds st r k (Some m) d t = let is = store_past st r m (bytes_taken r m.taken d) m.kind (adds st r (entry_of r k m) d) in (entry_of r k m ∷ [], is, ap now is ∙ t)
 
-looks_adds : (g : DriverInput) (r : ℕ) (s : SetUp) (st : State) (o : Option Made) (d : Driver) → Adds d (looks g r s st o d)
+looks_adds : (g : DriverInput) (r : ℕ) (s : SetUp) (st : State) (o : Option Effect) (d : Driver) → Adds d (looks g r s st o d)
 looks_adds g r s st None d = stays d.past d.past refl
 looks_adds g r s st (Some m) d = makes_adds st r (look_for g d r s st m) (step s st (look_for g d r s st m)) d refl
 

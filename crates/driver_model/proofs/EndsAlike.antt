@@ -14,7 +14,7 @@ use Rattle.run_data.specs.declared.job.DropRefusal.{DropRefusal}
 use Rattle.run_data.specs.declared.job.Outcome.{Outcome}
 use Rattle.node_model.specs.Evidence.{Asked, Claimed, Ignored, Standing}
 use Rattle.node_model.specs.Slots.{job_of}
-use Rattle.node_model.specs.Look.{Look, Made, first_of, waiting}
+use Rattle.node_model.specs.Look.{Look, Effect, first_of, waiting_frame}
 use Rattle.p2p_wire.specs.declared.message.Message.{Message}
 use Rattle.p2p_wire.specs.declared.message.Message.TheVariants.{AlreadyHave, AuthSuccess, Data, Error, Failure, Invalid, PutFrom, Success, Timestamp, Valid, Version}
 use Rattle.p2p_wire.specs.Messages.{message_of}
@@ -24,7 +24,7 @@ use Rattle.node_model.specs.Sessions
 use Rattle.node_model.specs.Sessions.{Doing, Session, reaches}
 use Rattle.node_model.specs.Jobs
 use Rattle.node_model.specs.Jobs.{AsksLock, AsksLook, AsksTime, Drops, Fresh, Gets, GetsBytes, GetsData, GetsWord, Greets, Next, Opens, Part, Phase, Puts, PutsAnswer, PutsBytes, PutsOffer, PutsWord, Removed, Work, is_move, job_end, partner, side_of}
-use Rattle.node_model.specs.Owed.{Owed}
+use Rattle.node_model.specs.OwedLines.{OwedLine}
 use Rattle.node_model.specs.State.{State}
 use Rattle.node_model.specs.OwedStep.{owed_step, pays_first}
 use Rattle.node_model.specs.SessionStep.{Here, Reply, gives_made, gives_next, here, on_frame, on_piece, reply, session_at, session_makes, session_step}
@@ -45,7 +45,7 @@ abbrev ended : EntryKind → Option ℕ
 ended (ends_job j outcome) = Some j
 ended kind = None
 
-abbrev E : Made → Made → Type 0
+abbrev E : Effect → Effect → Type 0
 E m m' = ended m.kind ≡ ended m'.kind
 
 no_end : (x : Reply) → job_of x.kind ≡ None → ended x.kind ≡ None
@@ -72,7 +72,7 @@ module _ (names : NamedJobs) (s : SetUp) (st : State) (time count : ℕ) (hand :
 
   -- ---- an owed line, and a session
 
-  owed_alike : (os : List Owed) → Alike E (pays_first s st k0 os) (pays_first s st k1 os)
+  owed_alike : (os : List OwedLine) → Alike E (pays_first s st k0 os) (pays_first s st k1 os)
   owed_alike [] = tt
   owed_alike (o ∷ os) = refl
 
@@ -104,8 +104,8 @@ module _ (names : NamedJobs) (s : SetUp) (st : State) (time count : ℕ) (hand :
     session_alike : Alike E (session_at s st k0 a) (session_at s st k1 a)
     session_alike = go (room a)
       where
-        go : (b : Bool) → Alike E (if b then session_makes h0 (st.ends a) (st.sessions a) (waiting (st.ends a) k0 a) else None) (if b then session_makes h1 (st.ends a) (st.sessions a) (waiting (st.ends a) k1 a) else None)
-        go true = makes_alike (waiting (st.ends a) k0 a)
+        go : (b : Bool) → Alike E (if b then session_makes h0 (st.ends a) (st.sessions a) (waiting_frame (st.ends a) k0 a) else None) (if b then session_makes h1 (st.ends a) (st.sessions a) (waiting_frame (st.ends a) k1 a) else None)
+        go true = makes_alike (waiting_frame (st.ends a) k0 a)
         go false = tt
 
   -- ---- a job
@@ -265,8 +265,8 @@ module _ (names : NamedJobs) (s : SetUp) (st : State) (time count : ℕ) (hand :
     with_alike peer false = refl
     with_alike peer true = go (is_awaiting w.phase)
       where
-        go : (b : Bool) → Alike E (if b then awaits t0 peer (waiting (end_with t0 peer) k0 (job_end w peer)) else goes_on t0) (if b then awaits t1 peer (waiting (end_with t1 peer) k1 (job_end w peer)) else goes_on t1)
-        go true = awaits_alike peer (waiting (end_with t0 peer) k0 (job_end w peer))
+        go : (b : Bool) → Alike E (if b then awaits t0 peer (waiting_frame (end_with t0 peer) k0 (job_end w peer)) else goes_on t0) (if b then awaits t1 peer (waiting_frame (end_with t1 peer) k1 (job_end w peer)) else goes_on t1)
+        go true = awaits_alike peer (waiting_frame (end_with t0 peer) k0 (job_end w peer))
         go false = goes_on-alike
 
     by_alike : (o : Option ℕ) → Alike E (by_partner t0 o) (by_partner t1 o)
@@ -301,14 +301,14 @@ ends_alike names s st k part right words m m' j outcome calm' e e' is = ended_is
     go a = subst (λ o. Alike E (Some m) o) same' (subst (λ o. Alike E o (step s st (calm k.time k.count k.at_hand k.room part right words))) same a)
 
 -- where one is ready for the one look, one is for the other
-pub still_steps : NamedJobs → (s : SetUp) (st : State) (k : Look) (part : ℕ) (right : Bool) (words : ℕ → Option Word) (m : Made) → k.fails ≡ None → step s st k ≡ Some m
-    → (m' : Made) × (step s st (record k { part = part; right = right; words = words; fails = None }) ≡ Some m')
+pub still_steps : NamedJobs → (s : SetUp) (st : State) (k : Look) (part : ℕ) (right : Bool) (words : ℕ → Option Word) (m : Effect) → k.fails ≡ None → step s st k ≡ Some m
+    → (m' : Effect) × (step s st (record k { part = part; right = right; words = words; fails = None }) ≡ Some m')
 still_steps names s st k part right words m calm' e = go (step s st (calm k.time k.count k.at_hand k.room part right words)) refl
     (subst (λ o. Alike E o (step s st (calm k.time k.count k.at_hand k.room part right words))) same (step_alike names s st k.time k.count k.at_hand k.room k.part part k.right right k.words words))
   where
     same : step s st (calm k.time k.count k.at_hand k.room k.part k.right k.words) ≡ Some m
     same = ap (λ o. step s st (record { time = k.time; count = k.count; at_hand = k.at_hand; room = k.room; fails = o; part = k.part; right = k.right; words = k.words })) (sym calm') ∙ e
 
-    go : (o : Option Made) → step s st (calm k.time k.count k.at_hand k.room part right words) ≡ o → Alike E (Some m) o → (m' : Made) × (step s st (calm k.time k.count k.at_hand k.room part right words) ≡ Some m')
+    go : (o : Option Effect) → step s st (calm k.time k.count k.at_hand k.room part right words) ≡ o → Alike E (Some m) o → (m' : Effect) × (step s st (calm k.time k.count k.at_hand k.room part right words) ≡ Some m')
     go None i a = absurd a
     go (Some m') i a = (m', i)

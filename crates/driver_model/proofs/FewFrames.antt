@@ -22,7 +22,7 @@ use Rattle.node_model.specs.Ends.{End, EndName, end_sends, frames, sends_at, sen
 use Rattle.node_model.specs.Found.{AnswersAbsent, AsksOne, GivesAt, IsJobEntry, SaysClose, SaysFault, SaysTalk, IsSessionEntry, StepFound, TakesAt, success_line}
 use Rattle.node_model.specs.Jobs.{Work, job_end}
 use Rattle.node_model.specs.JobStep.{Turn, end_with, farewell, farewells, has_lock, key_of, turn_of}
-use Rattle.node_model.specs.Look.{Look, Made}
+use Rattle.node_model.specs.Look.{Look, Effect}
 use Rattle.node_model.specs.Rows.{is_lost_ordered}
 use Rattle.node_model.specs.SessionStep.{Here, here, now_of}
 use Rattle.node_model.specs.Sessions.{Doing}
@@ -116,7 +116,7 @@ few_said h doing asked says (Close peer slot client) x = few_close says x.1
 few_said h doing asked says (Fault call by) x = few_fault says x.1
 few_said h doing asked says kind x = absurd x
 
-few_session : (s : SetUp) (st : State) (a b : EndName) (asked : Option Message) (says : List FrameText) (m : Made) → length says ≤ 2 → TakesAt s st b asked says m ⊎ GivesAt s st b asked says m
+few_session : (s : SetUp) (st : State) (a b : EndName) (asked : Option Message) (says : List FrameText) (m : Effect) → length says ≤ 2 → TakesAt s st b asked says m ⊎ GivesAt s st b asked says m
     → length (sent_at a m.sent) ≤ 2
 few_session s st a b asked says m few (inl x) = few_as a m.sent _ x.sent_is (few_one a b _ says few)
 few_session s st a b asked says m few (inr x) = few_as a m.sent _ x.sent_is (few_one a b _ says few)
@@ -148,7 +148,7 @@ module _ (s : SetUp) (st : State) (k : Look) (w : Work) where
   few_asks a fs (inl n) = few_none a fs n
   few_asks a fs (inr x) = few_as a fs _ x.2 (few_one a (job_end w x.0) (end_with t x.0) (x.1 ∷ []) (omega arith))
 
-  few_job : (a : EndName) (m : Made) (kind : EntryKind) → IsJobEntry t m kind → length (sent_at a m.sent) ≤ 2
+  few_job : (a : EndName) (m : Effect) (kind : EntryKind) → IsJobEntry t m kind → length (sent_at a m.sent) ≤ 2
   few_job a m (Share hold end by key) x = few_none a m.sent x.sends_none
   few_job a m (Bar j need key) x = few_none a m.sent x.sends_none
   few_job a m (Gone by key) x = few_none a m.sent x.sends_none
@@ -196,10 +196,10 @@ module _ (s : SetUp) (st : State) where
   few_come a lines sent (Crash clock) x = few_as a sent _ x.1 (few_crash a)
   few_come a lines sent kind x = absurd x
 
-  few_step : (a : EndName) (k : Look) (m : Made) → StepFound s st k m → length (sent_at a m.sent) ≤ 2
+  few_step : (a : EndName) (k : Look) (m : Effect) → StepFound s st k m → length (sent_at a m.sent) ≤ 2
   few_step a k m (inl x) = elim (x.writes) [
-    | inl y ↦ few_none a m.sent (ap (λ (z : Made). z.sent) y)
-    | inr y ↦ few_none a m.sent (ap (λ (z : Made). z.sent) y)
+    | inl y ↦ few_none a m.sent (ap (λ (z : Effect). z.sent) y)
+    | inr y ↦ few_none a m.sent (ap (λ (z : Effect). z.sent) y)
   ]
   few_step a k m (inr (inl x)) = few_session s st a (server_end x.peer x.slot) x.asked x.says m (few_said (here s st k (server_end x.peer x.slot)) (st.sessions (server_end x.peer x.slot)).doing x.asked x.says m.kind x.found) x.frame
   few_step a k m (inr (inr x)) = few_job s st k x.w a m m.kind x.found

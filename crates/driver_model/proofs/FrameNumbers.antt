@@ -19,7 +19,7 @@ use Rattle.node_model.specs.Rows.{is_lost_ordered}
 use Rattle.node_model.specs.SetUp.{SetUp, others}
 use Rattle.run_model.specs.States.{end_at, state_of}
 use Rattle.node_model.specs.Jobs.{Work, job_end}
-use Rattle.node_model.specs.Look.{Look, Made}
+use Rattle.node_model.specs.Look.{Look, Effect}
 use Rattle.node_model.specs.JobStep.{Turn, end_with, farewell, farewells, turn_of}
 use Rattle.p2p_wire.specs.declared.message.Message.{Message}
 use Rattle.node_model.specs.Found.{AsksOne, ByJob, GivesAt, IsJobEntry, JobTakes, StepFound, TakesAt, success_line}
@@ -154,7 +154,7 @@ module _ (s : SetUp) (past : List Entry) where
     asks a fs (inl n) = none a fs n
     asks a fs (inr x) = some a fs x.0 (x.1 ∷ []) x.2
 
-    job_numbered : (a : EndName) (m : Made) (kind : EntryKind) → IsJobEntry t m kind → Numbered (end_now a) (sent_at a m.sent)
+    job_numbered : (a : EndName) (m : Effect) (kind : EntryKind) → IsJobEntry t m kind → Numbered (end_now a) (sent_at a m.sent)
     job_numbered a m (Share hold end by key) x = none a m.sent x.sends_none
     job_numbered a m (Bar j need key) x = none a m.sent x.sends_none
     job_numbered a m (Gone by key) x = none a m.sent x.sends_none
@@ -201,7 +201,7 @@ module _ (s : SetUp) (past : List Entry) where
   come_numbered a lines sent kind x = absurd x
 
   -- the session's frames are at one end
-  session_numbered : (a b : EndName) (asked : Option Message) (says : List FrameText) (m : Made) → TakesAt s (state_of s past) b asked says m ⊎ GivesAt s (state_of s past) b asked says m → Numbered (between m.taken a) (sent_at a m.sent)
+  session_numbered : (a b : EndName) (asked : Option Message) (says : List FrameText) (m : Effect) → TakesAt s (state_of s past) b asked says m ⊎ GivesAt s (state_of s past) b asked says m → Numbered (between m.taken a) (sent_at a m.sent)
   session_numbered a b asked says m (inl x) =
       let c = end_takes (end_now b) x.f.epoch x.f.body in
       subst (λ fs. Numbered (between m.taken a) (sent_at a fs)) (sym x.sent_is) (at_one b a c (between m.taken a) says same)
@@ -214,13 +214,13 @@ module _ (s : SetUp) (past : List Entry) where
       same : b ≡ a → end_now b ≡ between m.taken a
       same i = sym (ap (λ o. end_took (end_now b) (taken_at b o)) x.taken_is) ∙ ap (between m.taken) i
 
-  owed_numbered : (a : EndName) (m : Made) → m.taken ≡ None → m.sent ≡ [] → Numbered (between m.taken a) (sent_at a m.sent)
+  owed_numbered : (a : EndName) (m : Effect) → m.taken ≡ None → m.sent ≡ [] → Numbered (between m.taken a) (sent_at a m.sent)
   owed_numbered a m none nothing = subst (λ fs. Numbered (between m.taken a) (sent_at a fs)) (sym nothing) tt
 
-  step_numbered : (a : EndName) (k : Look) (m : Made) → TakesWell m.taken → StepFound s (state_of s past) k m → Numbered (between m.taken a) (sent_at a m.sent)
+  step_numbered : (a : EndName) (k : Look) (m : Effect) → TakesWell m.taken → StepFound s (state_of s past) k m → Numbered (between m.taken a) (sent_at a m.sent)
   step_numbered a k m well (inl x) = elim (x.writes) [
-    | inl y ↦ owed_numbered a m (ap (λ (z : Made). z.taken) y) (ap (λ (z : Made). z.sent) y)
-    | inr y ↦ owed_numbered a m (ap (λ (z : Made). z.taken) y) (ap (λ (z : Made). z.sent) y)
+    | inl y ↦ owed_numbered a m (ap (λ (z : Effect). z.taken) y) (ap (λ (z : Effect). z.sent) y)
+    | inr y ↦ owed_numbered a m (ap (λ (z : Effect). z.taken) y) (ap (λ (z : Effect). z.sent) y)
   ]
   step_numbered a k m well (inr (inl x)) = session_numbered a (server_end x.peer x.slot) x.asked x.says m x.frame
   step_numbered a k m well (inr (inr y)) = to_between m.taken a (sent_at a m.sent) (no_opening y) (job_numbered k y.w a m m.kind y.found)

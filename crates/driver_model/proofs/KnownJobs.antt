@@ -8,7 +8,7 @@ use Rattle.run_data.specs.declared.entry.Entry.{Entry}
 use Rattle.run_model.specs.Run.{set_up}
 use Rattle.run_model.specs.States.{state_of}
 use Rattle.node_model.specs.Ends.{EndName}
-use Rattle.node_model.specs.Look.{Look, Made}
+use Rattle.node_model.specs.Look.{Look, Effect}
 use Rattle.node_model.specs.Step.{step}
 use Rattle.driver_model.specs.Driver.{Driver, Flight, DriverInput, has_room, is_sent_by, set_up_of, state_at}
 use Rattle.driver_model.specs.Driving.{run_with}
@@ -16,7 +16,7 @@ use Rattle.driver_model.specs.Sound.{GoesToOther}
 use Rattle.driver_model.proofs.Holding.{set_up_on}
 
 -- the driver's step is the run's
-pub step_of_run : (g : DriverInput) (d : Driver) (r : ℕ) (k : Look) (m : Made) → step (set_up_of g d r) (state_at g d r) k ≡ Some m
+pub step_of_run : (g : DriverInput) (d : Driver) (r : ℕ) (k : Look) (m : Effect) → step (set_up_of g d r) (state_at g d r) k ≡ Some m
     → step (set_up (run_with g d) r) (state_of (set_up (run_with g d) r) (reverse (run_with g d).entries)) k ≡ Some m
 step_of_run g d r k m makes =
     subst (λ (past : List Entry). step (set_up_on g d.tree past r) (state_of (set_up_on g d.tree past r) past) k ≡ Some m) (sym (reverse-reverse d.past)) makes

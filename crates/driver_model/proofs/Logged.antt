@@ -39,8 +39,8 @@ use Rattle.node_model.specs.AnyTime.{MayCome}
 use Rattle.node_model.specs.Files.{compact_lines}
 use Rattle.node_model.specs.Found.{IsJobEntry, IsSessionEntry, StepFound}
 use Rattle.node_model.specs.JobStep.{Turn, turn_of}
-use Rattle.node_model.specs.Look.{Look, Made}
-use Rattle.node_model.specs.Owed.{Owed, due, if_new, stamp_at, status, status_line}
+use Rattle.node_model.specs.Look.{Look, Effect}
+use Rattle.node_model.specs.OwedLines.{OwedLine, due, if_new, stamp_at, status, status_line}
 use Rattle.node_model.specs.SessionStep.{Here, here}
 use Rattle.node_model.specs.Ends.{server_end}
 use Rattle.node_model.specs.Sessions.{Doing}
@@ -193,7 +193,7 @@ module _ (laws : Laws) where
     session_log h was asked says lines (kinds.Log file) x = absurd x
     session_log h was asked says lines kind x = tt
 
-    job_log : (t : Turn) (m : Made) (lines : List (List ℕ)) (kind : EntryKind) → IsJobEntry t m kind → LogsWell kind lines
+    job_log : (t : Turn) (m : Effect) (lines : List (List ℕ)) (kind : EntryKind) → IsJobEntry t m kind → LogsWell kind lines
     job_log t m lines (kinds.Log file) x = absurd x
     job_log t m lines kind x = tt
 
@@ -201,13 +201,13 @@ module _ (laws : Laws) where
     come_log lines sent (kinds.Log file) x = (x.0.path, x.0.known, x.0.set)
     come_log lines sent kind x = tt
 
-    owed_log : (o : Owed) (os : List Owed) (clock : ℕ) → (state_of s past).owed ≡ o ∷ os → LogsWell (kinds.Log (Location o.key)) (due s.repos (state_of s past).lines clock o)
+    owed_log : (o : OwedLine) (os : List OwedLine) (clock : ℕ) → (state_of s past).owed ≡ o ∷ os → LogsWell (kinds.Log (Location o.key)) (due s.repos (state_of s past).lines clock o)
     owed_log o os clock is = ((subst (Each (λ o. IsKeyText o.key)) is keys).0, (λ e. absurd (cc)), status_set _ (id_of s.repos o.repo) o.there clock)
 
-    step_log : (k : Look) (m : Made) → StepFound s (state_of s past) k m → LogsWell m.kind m.lines
+    step_log : (k : Look) (m : Effect) → StepFound s (state_of s past) k m → LogsWell m.kind m.lines
     step_log k m (inl x) = elim (x.writes) [
-      | inl y ↦ subst (λ (z : Made). LogsWell z.kind z.lines) (sym y) (owed_log x.first x.rest ((state_of s past).wall k.time) x.owes_it)
-      | inr y ↦ subst (λ (z : Made). LogsWell z.kind z.lines) (sym y) tt
+      | inl y ↦ subst (λ (z : Effect). LogsWell z.kind z.lines) (sym y) (owed_log x.first x.rest ((state_of s past).wall k.time) x.owes_it)
+      | inr y ↦ subst (λ (z : Effect). LogsWell z.kind z.lines) (sym y) tt
     ]
     step_log k m (inr (inl x)) = session_log (here s (state_of s past) k (server_end x.peer x.slot)) ((state_of s past).sessions (server_end x.peer x.slot)).doing x.asked x.says m.lines m.kind x.found
     step_log k m (inr (inr x)) = job_log (turn_of s (state_of s past) k x.w) m m.lines m.kind x.found

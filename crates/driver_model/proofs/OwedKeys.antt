@@ -31,8 +31,8 @@ use Rattle.node_model.specs.Ends.{EndName, sent_at, server_end, taken_at}
 use Rattle.node_model.specs.Found.{BySession, GivesAt, IsJobEntry, IsSessionEntry, StepFound, TakesAt}
 use Rattle.node_model.specs.Jobs.{Orders, Phase, PutsAnswer, PutsOffer, RowsAndEnds, Work, work_after, works_after}
 use Rattle.node_model.specs.JobStep.{turn_of}
-use Rattle.node_model.specs.Look.{Look, Made}
-use Rattle.node_model.specs.Owed.{Owed, owed_for, due, owed_without, owed_line, owed_after, pays, same_lines, told_frame, told_line, told_to}
+use Rattle.node_model.specs.Look.{Look, Effect}
+use Rattle.node_model.specs.OwedLines.{OwedLine, owed_for, due, owed_without, owed_line, owed_after, pays, same_lines, told_frame, told_line, told_to}
 use Rattle.node_model.specs.Rows.{option_is}
 use Rattle.node_model.specs.SessionStep.{here}
 use Rattle.node_model.specs.Sessions.{Doing, Gives, Session, Takes, Took, Wants, doing_after, gave_bytes, gives, guards, line_in, reaches, message_said, sends_close, sent_more, sent_one, session_after, session_goes, session_left, session_took, takes_more, took_bytes, took_message, takes_from, wants}
@@ -224,7 +224,7 @@ module _ (laws : Laws) where
   abbrev WorkWell : Work → Type 0
   WorkWell w = IsKeyText w.what.key
 
-  abbrev OwedWell : Owed → Type 0
+  abbrev OwedWell : OwedLine → Type 0
   OwedWell o = IsKeyText o.key
 
   pub record Well (repos : List RepoView) (past : List Entry) (r : ℕ) : Type 0 where
@@ -233,7 +233,7 @@ module _ (laws : Laws) where
     pub owes_well : Each OwedWell (owes repos past r)
 
   module _ (s : SetUp) (past : List Entry) (well : Well s.repos past s.number) where
-    asked_well : (a : EndName) (asked : Option Message) (says : List FrameText) (m : Made) (n : Message) → TakesAt s (state_of s past) a asked says m ⊎ GivesAt s (state_of s past) a asked says m → asked ≡ Some n → MessageWell n
+    asked_well : (a : EndName) (asked : Option Message) (says : List FrameText) (m : Effect) (n : Message) → TakesAt s (state_of s past) a asked says m ⊎ GivesAt s (state_of s past) a asked says m → asked ≡ Some n → MessageWell n
     asked_well a asked says m n (inl x) e = subst Read (sym x.asked_is ∙ e) (line_read x.f.body)
     asked_well a asked says m n (inr x) e = absurd (let no' : None ≡ Some n = sym x.asked_is ∙ e in cc)
 
@@ -241,23 +241,23 @@ module _ (laws : Laws) where
     ordered_well None key w = (laws.key_text key).0 w
     ordered_well (Some n) key w = (laws.key_text key).0 w
 
-    by_session : (k : Look) (m : Made) (x : BySession s (state_of s past) k m) (kind : EntryKind)
+    by_session : (k : Look) (m : Effect) (x : BySession s (state_of s past) k m) (kind : EntryKind)
         → IsSessionEntry (here s (state_of s past) k (server_end x.peer x.slot)) (session past s.number (server_end x.peer x.slot)).doing x.asked x.says kind → KindWell kind
     by_session k m x (Gain by size key) y = gain_well by size key (subst DoingWell y.took (well.doing (server_end x.peer x.slot)))
     by_session k m x (Gone by key) y = ordered_well y.deadline key (asked_well (server_end x.peer x.slot) x.asked x.says m (order_of y.deadline key) x.frame y.asks)
     by_session k m x (Begin job what) y = absurd y
     by_session k m x kind y = tt
 
-    by_work : (k : Look) (m : Made) (w : Work) → WorkWell w → (kind : EntryKind) → IsJobEntry (turn_of s (state_of s past) k w) m kind → KindWell kind
+    by_work : (k : Look) (m : Effect) (w : Work) → WorkWell w → (kind : EntryKind) → IsJobEntry (turn_of s (state_of s past) k w) m kind → KindWell kind
     by_work k m w is (Gain by size key) y = gain_well by size key (subst IsKeyText (sym y.key_is) is)
     by_work k m w is (Gone by key) y = subst IsKeyText (sym y.key_is) is
     by_work k m w is (Begin job what) y = absurd y
     by_work k m w is kind y = tt
 
-    by_step : (k : Look) (m : Made) → StepFound s (state_of s past) k m → KindWell m.kind
+    by_step : (k : Look) (m : Effect) → StepFound s (state_of s past) k m → KindWell m.kind
     by_step k m (inl x) = elim (x.writes) [
-      | inl y ↦ subst (λ (z : Made). KindWell z.kind) (sym y) tt
-      | inr y ↦ subst (λ (z : Made). KindWell z.kind) (sym y) tt
+      | inl y ↦ subst (λ (z : Effect). KindWell z.kind) (sym y) tt
+      | inr y ↦ subst (λ (z : Effect). KindWell z.kind) (sym y) tt
     ]
     by_step k m (inr (inl x)) = by_session k m x m.kind x.found
     by_step k m (inr (inr x)) = by_work k m x.w (Each-member WorkWell (works past s.number) x.w well.jobs (find_member (λ w. w.slot == x.slot) (works past s.number) x.w x.runs).0) m.kind x.found
@@ -291,7 +291,7 @@ module _ (laws : Laws) where
   works_well rows r ws e (Crash clock) k all = tt
   works_well rows r ws e kind k all = each_work rows r e ws all
 
-  pays_well : (repos : List RepoView) (lines : List ℕ → List (List ℕ)) (clock : ℕ) (e : Entry) (file : LogFile) (os : List Owed) → Each OwedWell os → Each OwedWell (pays repos lines clock e file os)
+  pays_well : (repos : List RepoView) (lines : List ℕ → List (List ℕ)) (clock : ℕ) (e : Entry) (file : LogFile) (os : List OwedLine) → Each OwedWell os → Each OwedWell (pays repos lines clock e file os)
   pays_well repos lines clock e file [] all = tt
   pays_well repos lines clock e file (o ∷ os) all =
       if_either (Each OwedWell) (bytes_eq (file_path file) (location_path o.key) && same_lines e.lines (due repos lines clock o)) os (o ∷ os) (λ b. all.1) (λ b. all)
@@ -315,7 +315,7 @@ module _ (laws : Laws) where
   told_frame-well (Some w) None is = tt
   told_frame-well None taken is = tt
 
-  lost_well : (call : Call) (by : By) (os : List Owed) → Each OwedWell os → Each OwedWell (owed_without call by os)
+  lost_well : (call : Call) (by : By) (os : List OwedLine) → Each OwedWell os → Each OwedWell (owed_without call by os)
   lost_well PutFile Script os all = all
   lost_well PutFile by os all = Each-drop OwedWell 1 os all
   lost_well call by os all = all
@@ -328,7 +328,7 @@ module _ (laws : Laws) where
   gained_well r Script size key is = tt
   gained_well r by size key is = (is, tt)
 
-  owed_well : (repos : List RepoView) (lines : List ℕ → List (List ℕ)) (clock : ℕ) (ws : List Work) (r : ℕ) (was : List Owed) (e : Entry) (kind : EntryKind)
+  owed_well : (repos : List RepoView) (lines : List ℕ → List (List ℕ)) (clock : ℕ) (ws : List Work) (r : ℕ) (was : List OwedLine) (e : Entry) (kind : EntryKind)
       → KindWell kind → Each WorkWell ws → Each OwedWell was → Each OwedWell (owed_after repos lines clock ws r was e kind)
   owed_well repos lines clock ws r was e (Gain by size key) k jobs all = Each-append OwedWell was (owed_for r by true key) all (gained_well r by size key k)
   owed_well repos lines clock ws r was e (Gone by key) k jobs all = Each-append OwedWell was (owed_for r by false key) all (changed_well r by false key k)

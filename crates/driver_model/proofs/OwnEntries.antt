@@ -18,7 +18,7 @@ use Rattle.run_data.specs.declared.job.Job.{Job}
 use Rattle.run_data.specs.Files.{file_of}
 use Rattle.run_model.specs.Past.{begun_count, is_of}
 use Rattle.run_model.specs.States.{works}
-use Rattle.node_model.specs.Look.{Look, Made, entry_of}
+use Rattle.node_model.specs.Look.{Look, Effect, entry_of}
 use Rattle.node_model.specs.SetUp.{SetUp}
 use Rattle.node_model.specs.State.{State}
 use Rattle.node_model.specs.Step.{step}
@@ -137,11 +137,11 @@ module _ (r : ℕ) where
       go true = one d.past _ (eqb_refl r)
       go false = stays d.past d.past refl
 
-  makes_owns : (st : State) (k : Look) (o : Option Made) (d : Driver) → Owns d (makes st r k o d)
+  makes_owns : (st : State) (k : Look) (o : Option Effect) (d : Driver) → Owns d (makes st r k o d)
   makes_owns st k None d = stays d.past d.past refl
   makes_owns st k (Some m) d = (entry_of r k m ∷ [], store_past st r m (bytes_taken r m.taken d) m.kind (adds st r (entry_of r k m) d), (eqb_refl r, tt))
 
-  looks_owns : (g : DriverInput) (s : SetUp) (st : State) (o : Option Made) (d : Driver) → Owns d (looks g r s st o d)
+  looks_owns : (g : DriverInput) (s : SetUp) (st : State) (o : Option Effect) (d : Driver) → Owns d (looks g r s st o d)
   looks_owns g s st None d = stays d.past d.past refl
   looks_owns g s st (Some m) d = makes_owns st (look_for g d r s st m) (step s st (look_for g d r s st m)) d
 

@@ -17,7 +17,7 @@ use Rattle.node_model.specs.Ends.{EndName, is_opening, may_take, takes_at}
 use Rattle.node_model.specs.Found.{StepFound}
 use Rattle.node_model.specs.Jobs.{RowsAndEnds, Work, partner, running_job, work_after}
 use Rattle.node_model.specs.JobStep.{Turn}
-use Rattle.node_model.specs.Look.{Look, Made}
+use Rattle.node_model.specs.Look.{Look, Effect}
 use Rattle.node_model.specs.Sessions.{Doing, Session}
 use Rattle.node_model.specs.SessionStep.{Here, Reply, gives_next, on_frame}
 use Rattle.node_model.specs.SetUp.{SetUp}
@@ -32,7 +32,7 @@ use Rattle.run_model.specs.States.{end_at}
 
 -- what a step found
 abbrev pub StepsFind : Type 0
-StepsFind = (s : SetUp) (st : State) (k : Look) (m : Made) → step s st k ≡ Some m → StepFound s st k m
+StepsFind = (s : SetUp) (st : State) (k : Look) (m : Effect) → step s st k ≡ Some m → StepFound s st k m
 
 -- the job that an entry names, of what a session answers and gives, and of what a job makes where it goes on, or takes a frame
 pub record NamedJobs : Type 0 where
@@ -49,7 +49,7 @@ pub record EntryLaws : Type 0 where
 
 pub record Laws : Type 0 where
   pub entries : EntryLaws
-  pub at_hand : (s : SetUp) (st : State) (k : Look) (m : Made) (f : FrameView) → step s st k ≡ Some m → m.taken ≡ Some f → Member f k.at_hand
+  pub at_hand : (s : SetUp) (st : State) (k : Look) (m : Effect) (f : FrameView) → step s st k ≡ Some m → m.taken ≡ Some f → Member f k.at_hand
   pub names : NamedJobs
   pub first : (run : Run) → Each IsSetUp run.repos → run.entries ≡ [] → IsRun run
   pub others : (run : Run) (e : Entry) (before : List Entry) (r : ℕ) → IsRun run → Occurs (reverse run.entries) e before → is_of r e ≡ true → Each (λ f. f.peer ≢ r) e.sent

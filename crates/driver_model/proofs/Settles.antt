@@ -13,7 +13,7 @@ use Rattle.run_data.specs.declared.entry.FrameText.TheVariants.{Bytes, Line}
 use Rattle.node_model.specs.SetUp.{SetUp}
 use Rattle.node_model.specs.Sessions.{line_in, message_said}
 use Rattle.node_model.specs.State.{State}
-use Rattle.node_model.specs.Look.{Look, Made}
+use Rattle.node_model.specs.Look.{Look, Effect}
 use Rattle.node_model.specs.Step.{step}
 use Rattle.annex_base.proofs.Lists.{find_member}
 use Rattle.driver_model.specs.Driver.{Driver, DriverInput, without_old_flights, drops_part, fails_at, set_up_of, state_at}
@@ -39,7 +39,7 @@ frame_past : (r : ℕ) (bytes : List ℕ) (key : Option (List ℕ)) (taken : Opt
 frame_past r bytes (Some key) (Some f) sent d = into_past r key bytes f.body sent d
 frame_past r bytes key taken sent d = refl
 
-pub store_past : (st : State) (r : ℕ) (m : Made) (bytes : List ℕ) (kind : EntryKind) (d : Driver) → (store_after st r m bytes kind d).past ≡ d.past
+pub store_past : (st : State) (r : ℕ) (m : Effect) (bytes : List ℕ) (kind : EntryKind) (d : Driver) → (store_after st r m bytes kind d).past ≡ d.past
 store_past st r m bytes (Gain by size key) d = refl
 store_past st r m bytes (Gone by key) d = refl
 store_past st r m bytes (Talk job) d = frame_past r bytes (asked_key st m) m.taken m.sent d
@@ -49,11 +49,11 @@ store_past st r m bytes kind d = refl
 abbrev many : Driver → ℕ
 many d = length d.past
 
-makes_more : (st : State) (r : ℕ) (k : Look) (o : Option Made) (d : Driver) → many d ≤ many (makes st r k o d)
+makes_more : (st : State) (r : ℕ) (k : Look) (o : Option Effect) (d : Driver) → many d ≤ many (makes st r k o d)
 makes_more st r k None d = omega arith
 makes_more st r k (Some m) d = subst (λ (past : List Entry). many d ≤ length past) (sym (store_past st r m (bytes_taken r m.taken d) m.kind _)) (omega arith)
 
-looks_more : (g : DriverInput) (r : ℕ) (s : SetUp) (st : State) (o : Option Made) (d : Driver) → many d ≤ many (looks g r s st o d)
+looks_more : (g : DriverInput) (r : ℕ) (s : SetUp) (st : State) (o : Option Effect) (d : Driver) → many d ≤ many (looks g r s st o d)
 looks_more g r s st None d = omega arith
 looks_more g r s st (Some m) d = makes_more st r (look_for g d r s st m) (step s st (look_for g d r s st m)) d
 
@@ -76,20 +76,20 @@ module _ (names : NamedJobs) (g : DriverInput) (r : ℕ) (d : Driver) where
   abbrev st : State
   st = state_at g d r
 
-  met : (m : Made) (o : Option Call) → find (fails_in d r s st (calm_look g d r s st m)) all_calls ≡ o → step s st (plain_look s d) ≡ Some m → (m' : Made) × (step s st (record (calm_look g d r s st m) { fails = o }) ≡ Some m')
+  met : (m : Effect) (o : Option Call) → find (fails_in d r s st (calm_look g d r s st m)) all_calls ≡ o → step s st (plain_look s d) ≡ Some m → (m' : Effect) × (step s st (record (calm_look g d r s st m) { fails = o }) ≡ Some m')
   met m None i e = still_steps names s st (plain_look s d) (calm_look g d r s st m).part (calm_look g d r s st m).right (calm_look g d r s st m).words m refl e
   met m (Some call) i e = go (fails_at d r call) (find_member (fails_in d r s st (calm_look g d r s st m)) all_calls call i).1
     where
-      some : (o : Option Made) → makes_fault o ≡ true → (m' : Made) × (o ≡ Some m')
+      some : (o : Option Effect) → makes_fault o ≡ true → (m' : Effect) × (o ≡ Some m')
       some None h = absurd (cc)
       some (Some m') h = (m', refl)
 
-      go : (b : Bool) → (if b then meets s st (calm_look g d r s st m) call else false) ≡ true → (m' : Made) × (step s st (record (calm_look g d r s st m) { fails = Some call }) ≡ Some m')
+      go : (b : Bool) → (if b then meets s st (calm_look g d r s st m) call else false) ≡ true → (m' : Effect) × (step s st (record (calm_look g d r s st m) { fails = Some call }) ≡ Some m')
       go true h = some (step s st (record (calm_look g d r s st m) { fails = Some call })) h
       go false h = absurd (cc)
 
   -- where a step is ready for a plain look, one is for the look of the turn
-  pub step_ready : (m : Made) → step s st (plain_look s d) ≡ Some m → (m' : Made) × (step s st (look_for g d r s st m) ≡ Some m')
+  pub step_ready : (m : Effect) → step s st (plain_look s d) ≡ Some m → (m' : Effect) × (step s st (look_for g d r s st m) ≡ Some m')
   step_ready m e = met m (find (fails_in d r s st (calm_look g d r s st m)) all_calls) refl e
 
 -- a turn that adds no entry found no step ready, with all frames at hand
@@ -105,13 +105,13 @@ idle_none names g r d same = go (step s' st' (plain_look s' c)) refl same
     c : Driver
     c = without_old_flights (state_at g d r) r d
 
-    made : (m : Made) (o : Option Made) (m' : Made) → o ≡ Some m' → many (makes (state_at g d r) r (look_for g (without_old_flights (state_at g d r) r d) r (set_up_of g d r) (state_at g d r) m) o (without_old_flights (state_at g d r) r d)) ≡ many d → ⊥
+    made : (m : Effect) (o : Option Effect) (m' : Effect) → o ≡ Some m' → many (makes (state_at g d r) r (look_for g (without_old_flights (state_at g d r) r d) r (set_up_of g d r) (state_at g d r) m) o (without_old_flights (state_at g d r) r d)) ≡ many d → ⊥
     made m None m' i e = absurd (cc)
     made m (Some x) m' i e =
         let grew : suc (many d) ≡ many d = ap length (sym (store_past (state_at g d r) r x (bytes_taken r x.taken (without_old_flights (state_at g d r) r d)) x.kind _)) ∙ e in
         omega (arith, grew)
 
-    go : (o : Option Made) → step (set_up_of g d r) (state_at g d r) (plain_look (set_up_of g d r) (without_old_flights (state_at g d r) r d)) ≡ o
+    go : (o : Option Effect) → step (set_up_of g d r) (state_at g d r) (plain_look (set_up_of g d r) (without_old_flights (state_at g d r) r d)) ≡ o
         → many (looks g r (set_up_of g d r) (state_at g d r) o (without_old_flights (state_at g d r) r d)) ≡ many d → o ≡ None
     go None i e = refl
     go (Some m) i e =

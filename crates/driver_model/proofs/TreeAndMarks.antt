@@ -19,8 +19,8 @@ use Rattle.run_model.specs.Past.{begun_count}
 use Rattle.run_model.specs.States.{end_at, works}
 use Rattle.node_model.specs.AnyTime.{close_at, ends_with}
 use Rattle.node_model.specs.Ends.{EndName}
-use Rattle.node_model.specs.Look.{Look, Made, entry_of}
-use Rattle.node_model.specs.Owed.{if_new, status_line}
+use Rattle.node_model.specs.Look.{Look, Effect, entry_of}
+use Rattle.node_model.specs.OwedLines.{if_new, status_line}
 use Rattle.node_model.specs.Sessions.{line_in, message_said}
 use Rattle.node_model.specs.SetUp.{SetUp}
 use Rattle.node_model.specs.State.{State}
@@ -160,18 +160,18 @@ frame_same : (r : ℕ) (bytes : List ℕ) (key : Option (List ℕ)) (taken : Opt
 frame_same r bytes (Some key) (Some f) sent d = into_same r key bytes f.body sent d
 frame_same r bytes key taken sent d = itself d
 
-store_same : (st : State) (r : ℕ) (m : Made) (bytes : List ℕ) (kind : EntryKind) (d : Driver) → Same d (store_after st r m bytes kind d)
+store_same : (st : State) (r : ℕ) (m : Effect) (bytes : List ℕ) (kind : EntryKind) (d : Driver) → Same d (store_after st r m bytes kind d)
 store_same st r m bytes (kinds.Gain by size key) d = (refl, refl)
 store_same st r m bytes (kinds.Gone by key) d = (refl, refl)
 store_same st r m bytes (kinds.Talk job) d = frame_same r bytes (asked_key st m) m.taken m.sent d
 store_same st r m bytes (kinds.Fault call by) d = (refl, refl)
 store_same st r m bytes kind d = itself d
 
-makes_same : (st : State) (r : ℕ) (k : Look) (o : Option Made) (d : Driver) → Same d (makes st r k o d)
+makes_same : (st : State) (r : ℕ) (k : Look) (o : Option Effect) (d : Driver) → Same d (makes st r k o d)
 makes_same st r k None d = itself d
 makes_same st r k (Some m) d = store_same st r m (bytes_taken r m.taken d) m.kind (adds st r (entry_of r k m) d)
 
-looks_same : (g : DriverInput) (r : ℕ) (s : SetUp) (st : State) (o : Option Made) (d : Driver) → Same d (looks g r s st o d)
+looks_same : (g : DriverInput) (r : ℕ) (s : SetUp) (st : State) (o : Option Effect) (d : Driver) → Same d (looks g r s st o d)
 looks_same g r s st None d = itself d
 looks_same g r s st (Some m) d = makes_same st r (look_for g d r s st m) (step s st (look_for g d r s st m)) d
 

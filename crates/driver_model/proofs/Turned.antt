@@ -16,7 +16,7 @@ use Rattle.node_model.specs.SetUp.{SetUp}
 use Rattle.node_model.specs.Ends.{EndName, takes_at}
 use Rattle.node_model.specs.Sessions.{line_in, message_said}
 use Rattle.node_model.specs.State.{State}
-use Rattle.node_model.specs.Look.{Look, Made, entry_of}
+use Rattle.node_model.specs.Look.{Look, Effect, entry_of}
 use Rattle.node_model.specs.Step.{step}
 use Rattle.node_model.specs.AnyTime.{all_ends}
 use Rattle.run_model.specs.Words.{word_told}
@@ -98,7 +98,7 @@ module _ (g : DriverInput) (d : Driver) where
   keeps_frame r bytes (Some key) (Some f) sent k = keeps_into r key bytes f.body sent k
   keeps_frame r bytes key taken sent k = k
 
-  pub keeps_store : (st : State) (r : ℕ) (m : Made) (bytes : List ℕ) (kind : EntryKind) → Keeps g d → Keeps g (store_after st r m bytes kind d)
+  pub keeps_store : (st : State) (r : ℕ) (m : Effect) (bytes : List ℕ) (kind : EntryKind) → Keeps g d → Keeps g (store_after st r m bytes kind d)
   keeps_store st r m bytes (Gain by size key) k = keeps_commits r key k
   keeps_store st r m bytes (Gone by key) k = keeps_removes r key k
   keeps_store st r m bytes (Talk job) k = keeps_frame r bytes (asked_key st m) m.taken m.sent k
@@ -141,7 +141,7 @@ size_small g d r (Some key) h fits = let i = part_in r key d.largest d.parts h.p
 
 -- two looks that differ in the part and the words alone end the same job
 abbrev pub EndsAlike : Type 0
-EndsAlike = (s : SetUp) (st : State) (k : Look) (part : ℕ) (right : Bool) (words : ℕ → Option Word) (m m' : Made) (j : ℕ) (outcome : Outcome) → k.fails ≡ None
+EndsAlike = (s : SetUp) (st : State) (k : Look) (part : ℕ) (right : Bool) (words : ℕ → Option Word) (m m' : Effect) (j : ℕ) (outcome : Outcome) → k.fails ≡ None
     → step s st k ≡ Some m → step s st (record k { part = part; right = right; words = words }) ≡ Some m' → m'.kind ≡ ends_job j outcome → (o : Outcome) × (m.kind ≡ ends_job j o)
 
 module _ (laws : Laws) (alike : EndsAlike) (g : DriverInput) (r : ℕ) (known : r < length g.repos) (d : Driver) where
@@ -152,7 +152,7 @@ module _ (laws : Laws) (alike : EndsAlike) (g : DriverInput) (r : ℕ) (known : 
   st = state_at g d r
 
   -- a step that ends a job met no failing call
-  calm : (m m' : Made) (o : Option Call) → find (fails_in d r s st (calm_look g d r s st m)) all_calls ≡ o → step s st (record (calm_look g d r s st m) { fails = o }) ≡ Some m'
+  calm : (m m' : Effect) (o : Option Call) → find (fails_in d r s st (calm_look g d r s st m)) all_calls ≡ o → step s st (record (calm_look g d r s st m) { fails = o }) ≡ Some m'
       → (j : ℕ) (outcome : Outcome) → m'.kind ≡ ends_job j outcome → step s st (calm_look g d r s st m) ≡ Some m'
   calm m m' None i e j outcome is = e
   calm m m' (Some call) i e j outcome is =
@@ -163,14 +163,14 @@ module _ (laws : Laws) (alike : EndsAlike) (g : DriverInput) (r : ℕ) (known : 
       met true h = h
       met false h = absurd (cc)
 
-  words_told : (m m' : Made) → step s st (plain_look s d) ≡ Some m → step s st (look_for g d r s st m) ≡ Some m'
+  words_told : (m m' : Effect) → step s st (plain_look s d) ≡ Some m → step s st (look_for g d r s st m) ≡ Some m'
       → (j : ℕ) (outcome : Outcome) → m'.kind ≡ ends_job j outcome → (c : ℕ) → told_words d.past r m.kind c ≡ word_told d.past r j c
   words_told m m' plain e j outcome is c =
       let quiet = calm m m' (find (fails_in d r s st (calm_look g d r s st m)) all_calls) refl e j outcome is in
       let same = alike s st (plain_look s d) (part_size d r (asked_key st m)) (part_right g d r (asked_key st m)) (told_words d.past r m.kind) m m' j outcome refl plain quiet is in
       ap (λ kind. told_words d.past r kind c) same.1
 
-  new_entry : (m m' : Made) → step s st (plain_look s d) ≡ Some m → step s st (look_for g d r s st m) ≡ Some m' → IsSound g d → HasBoundedPast d → NewEntry g d r (entry_of r (look_for g d r s st m) m')
+  new_entry : (m m' : Effect) → step s st (plain_look s d) ≡ Some m → step s st (look_for g d r s st m) ≡ Some m' → IsSound g d → HasBoundedPast d → NewEntry g d r (entry_of r (look_for g d r s st m) m')
   new_entry m m' plain e h fits = record {
     words = told_words d.past r m.kind;
     repo_is = refl;
@@ -181,13 +181,13 @@ module _ (laws : Laws) (alike : EndsAlike) (g : DriverInput) (r : ℕ) (known : 
     tells = words_told m m' plain e;
   }
 
-  keeps_makes : (m : Made) → step s st (plain_look s d) ≡ Some m → (o : Option Made) → step s st (look_for g d r s st m) ≡ o → Keeps g d → Keeps g (makes st r (look_for g d r s st m) o d)
+  keeps_makes : (m : Effect) → step s st (plain_look s d) ≡ Some m → (o : Option Effect) → step s st (look_for g d r s st m) ≡ o → Keeps g d → Keeps g (makes st r (look_for g d r s st m) o d)
   keeps_makes m plain None e k = k
   keeps_makes m plain (Some m') e k =
       keeps_store g (adds st r (entry_of r (look_for g d r s st m) m') d) st r m' (bytes_taken r m'.taken d) m'.kind
       (keeps_adds laws g d r st (entry_of r (look_for g d r s st m) m') k (λ h fits fit. new_entry m m' plain e h fits))
 
-  keeps_looks : (o : Option Made) → step s st (plain_look s d) ≡ o → Keeps g d → Keeps g (looks g r s st o d)
+  keeps_looks : (o : Option Effect) → step s st (plain_look s d) ≡ o → Keeps g d → Keeps g (looks g r s st o d)
   keeps_looks None e k = k
   keeps_looks (Some m) e k = keeps_makes m e (step s st (look_for g d r s st m)) refl k
 

@@ -17,8 +17,8 @@ use Rattle.run_data.specs.declared.job.Outcome.{Outcome}
 use Rattle.node_model.specs.Ends.{EndName, server_end}
 use Rattle.node_model.specs.Jobs.{Work, job_end, partner}
 use Rattle.node_model.specs.JobStep.{Turn, end_with, turn_of}
-use Rattle.node_model.specs.Look.{Look, Made, first_of, waiting}
-use Rattle.node_model.specs.Owed.{Owed}
+use Rattle.node_model.specs.Look.{Look, Effect, first_of, waiting_frame}
+use Rattle.node_model.specs.OwedLines.{OwedLine}
 use Rattle.node_model.specs.OwedStep.{pays_first}
 use Rattle.node_model.specs.SessionStep.{Here, gives_made, gives_next, here, session_at, session_makes, session_step}
 use Rattle.node_model.specs.Sessions
@@ -42,11 +42,11 @@ use Rattle.annex_base.proofs.Conditions.{eqb_refl}
 -- ---- any two looks that have the same time, count, frames and rooms find a step of the same session or job
 
 -- both ask for the part of the same key
-abbrev SameAsked : State → Made → Made → Type 0
+abbrev SameAsked : State → Effect → Effect → Type 0
 SameAsked st m m' = asked_key st m ≡ asked_key st m'
 
 -- the entry is one of the turn's job
-abbrev Mine : Turn → Made → Type 0
+abbrev Mine : Turn → Effect → Type 0
 Mine t m = job_of m.kind ≡ Some t.w.number
 
 -- the job stands on no connection, or on one where it awaits nothing
@@ -57,10 +57,10 @@ module _ (names : NamedJobs) (s : SetUp) (st : State) (k : Look) (fails : Option
   abbrev k1 : Look
   k1 = record k { fails = fails; part = part; right = right; words = others }
 
-  abbrev A : Made → Made → Type 0
+  abbrev A : Effect → Effect → Type 0
   A m m' = SameAsked st m m'
 
-  asked_by : (m : Made) (o : Option ℕ) → job_of m.kind ≡ o → asked_key st m ≡ step_key st o m.taken
+  asked_by : (m : Effect) (o : Option ℕ) → job_of m.kind ≡ o → asked_key st m ≡ step_key st o m.taken
   asked_by m o e = ap (λ (j : Option ℕ). step_key st j m.taken) e
 
   -- ---- a session
@@ -90,8 +90,8 @@ module _ (names : NamedJobs) (s : SetUp) (st : State) (k : Look) (fails : Option
     session_alike : Alike A (session_at s st k a) (session_at s st k1 a)
     session_alike = go (k.room a)
       where
-        go : (b : Bool) → Alike A (if b then session_makes h0 (st.ends a) (st.sessions a) (waiting (st.ends a) k a) else None) (if b then session_makes h1 (st.ends a) (st.sessions a) (waiting (st.ends a) k1 a) else None)
-        go true = makes_alike (waiting (st.ends a) k a)
+        go : (b : Bool) → Alike A (if b then session_makes h0 (st.ends a) (st.sessions a) (waiting_frame (st.ends a) k a) else None) (if b then session_makes h1 (st.ends a) (st.sessions a) (waiting_frame (st.ends a) k1 a) else None)
+        go true = makes_alike (waiting_frame (st.ends a) k a)
         go false = tt
 
   -- ---- a job
@@ -103,7 +103,7 @@ module _ (names : NamedJobs) (s : SetUp) (st : State) (k : Look) (fails : Option
     abbrev t1 : Turn
     t1 = turn_of s st k1 w
 
-    both_own : (m m' : Made) → Mine t0 m → Mine t1 m' → A m m'
+    both_own : (m m' : Effect) → Mine t0 m → Mine t1 m' → A m m'
     both_own m m' e e' = asked_by m (Some w.number) e ∙ sym (asked_by m' (Some w.number) e')
 
     goes_on-alike : IsFree w → Alike A (goes_on t0) (goes_on t1)
@@ -119,8 +119,8 @@ module _ (names : NamedJobs) (s : SetUp) (st : State) (k : Look) (fails : Option
     with_alike peer on false = refl
     with_alike peer on true = go (is_awaiting w.phase) refl
       where
-        go : (b : Bool) → is_awaiting w.phase ≡ b → Alike A (if b then awaits t0 peer (waiting (end_with t0 peer) k (job_end w peer)) else goes_on t0) (if b then awaits t1 peer (waiting (end_with t1 peer) k1 (job_end w peer)) else goes_on t1)
-        go true awaits_it = awaits_alike peer on (waiting (end_with t0 peer) k (job_end w peer))
+        go : (b : Bool) → is_awaiting w.phase ≡ b → Alike A (if b then awaits t0 peer (waiting_frame (end_with t0 peer) k (job_end w peer)) else goes_on t0) (if b then awaits t1 peer (waiting_frame (end_with t1 peer) k1 (job_end w peer)) else goes_on t1)
+        go true awaits_it = awaits_alike peer on (waiting_frame (end_with t0 peer) k (job_end w peer))
         go false awaits_none = goes_on-alike (inr awaits_none)
 
     by_alike : (o : Option ℕ) → partner w.what.peer w.phase ≡ o → Alike A (by_partner t0 o) (by_partner t1 o)
@@ -181,20 +181,20 @@ find_failed q (Some call) (c ∷ cs) among fails before = go (same_call c call) 
 -- ---- an owed line
 
 -- a step with these owed lines
-abbrev step_of : SetUp → State → List Owed → Look → Option Made
+abbrev step_of : SetUp → State → List OwedLine → Look → Option Effect
 step_of s st os k = first_of (pays_first s st k os) (first_of (session_step s st k) (job_step s st k))
 
 -- the driver's own look for this step, with all words that the job was told
-abbrev pub look_told : DriverInput → Driver → ℕ → SetUp → State → Made → Look
+abbrev pub look_told : DriverInput → Driver → ℕ → SetUp → State → Effect → Look
 look_told g d r s st m = record (calm_look g d r s st m) { fails = failed_call m.kind }
 
 -- the step is made at that look
-pub record IsTold (g : DriverInput) (r : ℕ) (d : Driver) (m : Made) : Type 0 where
+pub record IsTold (g : DriverInput) (r : ℕ) (d : Driver) (m : Effect) : Type 0 where
   pub steps : step (set_up_of g d r) (state_at g d r) (look_told g (driver_at_turn g r d) r (set_up_of g d r) (state_at g d r) m) ≡ Some m
   pub fails : FailsFirst (driver_at_turn g r d) r (set_up_of g d r) (state_at g d r) (look_told g (driver_at_turn g r d) r (set_up_of g d r) (state_at g d r) m) (failed_call m.kind)
 
 -- what the turn wants of the step that a plain look finds, where this is made
-pub record IsPlain (g : DriverInput) (r : ℕ) (d : Driver) (m m0 : Made) : Type 0 where
+pub record IsPlain (g : DriverInput) (r : ℕ) (d : Driver) (m m0 : Effect) : Type 0 where
   pub plain : step (set_up_of g d r) (state_at g d r) (plain_look (set_up_of g d r) (driver_at_turn g r d)) ≡ Some m0
   pub faults : (call : Call) → makes_fault (step (set_up_of g d r) (state_at g d r) (record (calm_look g (driver_at_turn g r d) r (set_up_of g d r) (state_at g d r) m0) { fails = Some call }))
       ≡ meets (set_up_of g d r) (state_at g d r) (look_told g (driver_at_turn g r d) r (set_up_of g d r) (state_at g d r) m) call
@@ -204,14 +204,14 @@ is_failed : (kind : EntryKind) (call : Call) → failed_call kind ≡ Some call 
 is_failed (Fault c by) call e = refl
 is_failed kind call e = absurd (cc)
 
-fault_same : (st : State) (agree : Work → Type 0) (o p : Option Made) → Alike (Told st agree) o p → makes_fault o ≡ makes_fault p
+fault_same : (st : State) (agree : Work → Type 0) (o p : Option Effect) → Alike (Told st agree) o p → makes_fault o ≡ makes_fault p
 fault_same st agree None None a = refl
-fault_same st agree (Some m) (Some m') (inl e) = ap (λ (z : Made). is_fault z.kind) e
+fault_same st agree (Some m) (Some m') (inl e) = ap (λ (z : Effect). is_fault z.kind) e
 fault_same st agree (Some m) (Some m') (inr x) = ap is_fault x.2.1 ∙ sym (ap is_fault x.3.1)
 fault_same st agree None (Some m') a = absurd a
 fault_same st agree (Some m) None a = absurd a
 
-module _ (names : NamedJobs) (g : DriverInput) (r : ℕ) (d : Driver) (m : Made) (x : IsTold g r d m) where
+module _ (names : NamedJobs) (g : DriverInput) (r : ℕ) (d : Driver) (m : Effect) (x : IsTold g r d m) where
   abbrev s : SetUp
   s = set_up_of g d r
 
@@ -226,7 +226,7 @@ module _ (names : NamedJobs) (g : DriverInput) (r : ℕ) (d : Driver) (m : Made)
 
   -- ---- the turn, by the plain step
 
-  module _ (m0 : Made) (p : IsPlain g r d m m0) where
+  module _ (m0 : Effect) (p : IsPlain g r d m m0) where
     abbrev calm : Look
     calm = calm_look g c r s st m0
 
@@ -246,17 +246,17 @@ module _ (names : NamedJobs) (g : DriverInput) (r : ℕ) (d : Driver) (m : Made)
 
     turn_by : turn g r d ≡ after_step g r d m
     turn_by =
-        ap (λ (o : Option Made). looks g r s st o c) p.plain
+        ap (λ (o : Option Effect). looks g r s st o c) p.plain
         ∙ ap (λ (o : Option Call). makes st r (record calm { fails = o }) (step s st (record calm { fails = o })) c) failed_is
-        ∙ ap (λ (o : Option Made). makes st r (record calm { fails = failed_call m.kind }) o c) p.makes_it
+        ∙ ap (λ (o : Option Effect). makes st r (record calm { fails = failed_call m.kind }) o c) p.makes_it
 
   -- ---- where a line is owed, it is paid first
 
-  module _ (o : Owed) (os : List Owed) (e : st.owed ≡ o ∷ os) where
+  module _ (o : OwedLine) (os : List OwedLine) (e : st.owed ≡ o ∷ os) where
     pays : (k : Look) → step s st k ≡ step_of s st (o ∷ os) k
-    pays k = ap (λ (os : List Owed). step_of s st os k) e
+    pays k = ap (λ (os : List OwedLine). step_of s st os k) e
 
-    owed_plain : (m0 : Made) → step_of s st (o ∷ os) (plain_look s c) ≡ Some m0 → IsPlain g r d m m0
+    owed_plain : (m0 : Effect) → step_of s st (o ∷ os) (plain_look s c) ≡ Some m0 → IsPlain g r d m m0
     owed_plain m0 i = record {
       plain = pays (plain_look s c) ∙ i;
       faults = λ call. ap makes_fault (pays (record (calm_look g c r s st m0) { fails = Some call }) ∙ sym (pays (record told { fails = Some call })));
@@ -270,16 +270,16 @@ module _ (names : NamedJobs) (g : DriverInput) (r : ℕ) (d : Driver) (m : Made)
 
   module _ (e : st.owed ≡ []) where
     goes_on-by : (k : Look) → step s st k ≡ first_of (session_step s st k) (job_step s st k)
-    goes_on-by k = ap (λ (os : List Owed). step_of s st os k) e
+    goes_on-by k = ap (λ (os : List OwedLine). step_of s st os k) e
 
     -- the look with this failing call, the part of this key, and these words
     abbrev look : Option Call → Option (List ℕ) → (ℕ → Option Word) → Look
     look fails key words = record (plain_look s c) { fails = fails; part = part_size c r key; right = part_right g c r key; words = words }
 
-    abbrev words_of : Made → ℕ → Option Word
+    abbrev words_of : Effect → ℕ → Option Word
     words_of m = told_words c.past r m.kind
 
-    module _ (m0 : Made) (i : step s st (plain_look s c) ≡ Some m0) (same : asked_key st m ≡ asked_key st m0) where
+    module _ (m0 : Effect) (i : step s st (plain_look s c) ≡ Some m0) (same : asked_key st m ≡ asked_key st m0) where
       words_agree : (w : Work) (outcome : Outcome) → m.kind ≡ ends_job w.number outcome → (peer : ℕ) → words_of m peer ≡ words_of m0 peer
       words_agree w outcome is peer =
           let calm : step s st (look None (asked_key st m) (words_of m)) ≡ Some m = ap (λ (o : Option Call). step s st (look o (asked_key st m) (words_of m))) (sym (ap failed_call is)) ∙ x.steps in
@@ -292,10 +292,10 @@ module _ (names : NamedJobs) (g : DriverInput) (r : ℕ) (d : Driver) (m : Made)
         faults = λ call. ap (λ (key : Option (List ℕ)). makes_fault (step s st (look (Some call) key (words_of m0)))) (sym same)
             ∙ fault_same st _ (step s st (look (Some call) (asked_key st m) (words_of m0))) (step s st (look (Some call) (asked_key st m) (words_of m))) (step_told s st (look (Some call) (asked_key st m) (words_of m0)) (words_of m));
         makes_it = ap (λ (key : Option (List ℕ)). step s st (look (failed_call m.kind) key (words_of m0))) (sym same)
-            ∙ sym (words_aside s st told (words_of m0) (λ m' j w outcome there is peer reads. words_agree w outcome (ap (λ (z : Made). z.kind) (made_same m' j) ∙ is) peer)) ∙ x.steps;
+            ∙ sym (words_aside s st told (words_of m0) (λ m' j w outcome there is peer reads. words_agree w outcome (ap (λ (z : Effect). z.kind) (made_same m' j) ∙ is) peer)) ∙ x.steps;
       }
         where
-          made_same : (m' : Made) → step s st told ≡ Some m' → m ≡ m'
+          made_same : (m' : Effect) → step s st told ≡ Some m' → m ≡ m'
           made_same m' j = let both : Some m ≡ Some m' = sym x.steps ∙ j in cc
 
     rest_turn : turn g r d ≡ after_step g r d m
@@ -307,7 +307,7 @@ module _ (names : NamedJobs) (g : DriverInput) (r : ℕ) (d : Driver) (m : Made)
   turn_told : turn g r d ≡ after_step g r d m
   turn_told = go st.owed refl
     where
-      go : (os : List Owed) → st.owed ≡ os → turn g r d ≡ after_step g r d m
+      go : (os : List OwedLine) → st.owed ≡ os → turn g r d ≡ after_step g r d m
       go [] e = rest_turn e
       go (o ∷ os) e = owed_turn o os e
 
@@ -318,7 +318,7 @@ look_path : (k l : Look) → k.time ≡ l.time → k.count ≡ l.count → k.at_
 look_path k l time count hand room fails part right i =
     record { time = time i; count = count i; at_hand = hand i; room = λ a. room a i; fails = fails i; part = part i; right = right i; words = k.words }
 
-module _ (g : DriverInput) (r : ℕ) (d : Driver) (m : Made) (x : MakesStep g r d m) where
+module _ (g : DriverInput) (r : ℕ) (d : Driver) (m : Effect) (x : MakesStep g r d m) where
   abbrev own : Look
   own = look_told g (driver_at_turn g r d) r (set_up_of g d r) (state_at g d r) m
 
@@ -340,7 +340,7 @@ module _ (g : DriverInput) (r : ℕ) (d : Driver) (m : Made) (x : MakesStep g r 
 
   is_told : IsTold g r d m
   is_told = record {
-    steps = sym (words_aside (set_up_of g d r) (state_at g d r) near own.words (λ m' i. subst (λ (z : Made). AgreeWhereRead (set_up_of g d r) (state_at g d r) z x.look.words own.words) (made_same m' i) x.is_look.words_are)) ∙ near_steps;
+    steps = sym (words_aside (set_up_of g d r) (state_at g d r) near own.words (λ m' i. subst (λ (z : Effect). AgreeWhereRead (set_up_of g d r) (state_at g d r) z x.look.words own.words) (made_same m' i) x.is_look.words_are)) ∙ near_steps;
     fails = record {
       waits = x.fails.waits;
       before = Each-weaker (λ call. fails_at (driver_at_turn g r d) r call ≡ true → meets (set_up_of g d r) (state_at g d r) x.look call ≡ false)
@@ -349,7 +349,7 @@ module _ (g : DriverInput) (r : ℕ) (d : Driver) (m : Made) (x : MakesStep g r 
     };
   }
     where
-      made_same : (m' : Made) → step (set_up_of g d r) (state_at g d r) near ≡ Some m' → m ≡ m'
+      made_same : (m' : Effect) → step (set_up_of g d r) (state_at g d r) near ≡ Some m' → m ≡ m'
       made_same m' i = let both : Some m ≡ Some m' = sym near_steps ∙ i in cc
 
   pub turn_found : NamedJobs → turn g r d ≡ after_step g r d m
@@ -357,4 +357,4 @@ module _ (g : DriverInput) (r : ℕ) (d : Driver) (m : Made) (x : MakesStep g r 
 
 -- where no step is ready
 pub turn_idle : (g : DriverInput) (r : ℕ) (d : Driver) → step (set_up_of g d r) (state_at g d r) (plain_look (set_up_of g d r) (driver_at_turn g r d)) ≡ None → turn g r d ≡ driver_at_turn g r d
-turn_idle g r d e = ap (λ (o : Option Made). looks g r (set_up_of g d r) (state_at g d r) o (driver_at_turn g r d)) e
+turn_idle g r d e = ap (λ (o : Option Effect). looks g r (set_up_of g d r) (state_at g d r) o (driver_at_turn g r d)) e

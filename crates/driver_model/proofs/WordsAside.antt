@@ -21,7 +21,7 @@ use Rattle.node_model.specs.Evidence.{Asked, Claimed, Ignored, Standing, failure
 use Rattle.node_model.specs.Jobs.{Denied, Drops, Fresh, Gets, Heard, Held, Lacks, Next, Part, Phase, Puts, PutsBytes, PutsWord, Removed, Seen, Unseen, Work, heard_of, job_end, partner, side_of, target_of}
 use Rattle.node_model.specs.JobStep.{Turn, attempts, by_me, end_with, ends, farewells, owns_share, turn_of}
 use Rattle.node_model.specs.Knows.{Reading, asks_by, candidates_by, cause_by, causes_by, denial_of, enough_by, is_unasked, knows_by, next_by, obeyed_outcome, offer_by, proof_by}
-use Rattle.node_model.specs.Look.{Look, Made, failing, first_of, unless, waiting}
+use Rattle.node_model.specs.Look.{Look, Effect, failing_call, first_of, unless, waiting_frame}
 use Rattle.node_model.specs.OwedStep.{owed_step}
 use Rattle.node_model.specs.Rows.{is_lost_ordered}
 use Rattle.node_model.specs.SessionStep.{session_step}
@@ -68,11 +68,11 @@ module _ (r : Reading) (w : Work) (w0 w1 : ℕ → Option Word) (agree : (c : �
 -- ---- what is made
 
 -- the entry ends the job
-abbrev EndsIt : Work → Made → Type 0
+abbrev EndsIt : Work → Effect → Type 0
 EndsIt w m = (outcome : Outcome) × (m.kind ≡ ends_job w.number outcome)
 
 -- the one entry is the other; or both end a job of the state, and are the same where its words are
-abbrev pub Told : State → (Work → Type 0) → Made → Made → Type 0
+abbrev pub Told : State → (Work → Type 0) → Effect → Effect → Type 0
 Told st agree m m' = (m ≡ m') ⊎ ((w : Work) × Member w st.works × EndsIt w m × EndsIt w m' × (agree w → m ≡ m'))
 
 module _ (s : SetUp) (st : State) (k : Look) (others : ℕ → Option Word) where
@@ -83,7 +83,7 @@ module _ (s : SetUp) (st : State) (k : Look) (others : ℕ → Option Word) wher
   abbrev Agree : Work → Type 0
   Agree w = (c : ℕ) → ReadsWord s.number w c → k.words c ≡ others c
 
-  abbrev T : Made → Made → Type 0
+  abbrev T : Effect → Effect → Type 0
   T m m' = Told st Agree m m'
 
   module _ (w : Work) (there : Member w st.works) where
@@ -94,13 +94,13 @@ module _ (s : SetUp) (st : State) (k : Look) (others : ℕ → Option Word) wher
     t1 = turn_of s st k1 w
 
     -- an end whose outcome says of no lost order
-    abbrev quiet_end : Turn → Bool → Outcome → Made
+    abbrev quiet_end : Turn → Bool → Outcome → Effect
     quiet_end t lost outcome = attempts t (to_release (owns_share t && not lost)) None (record { kind = ends_job t.w.number outcome; taken = None; sent = farewells t lost; lines = [] })
 
     quiet_told : (o0 o1 : Outcome) → (Agree w → o0 ≡ o1) → T (quiet_end t0 false o0) (quiet_end t1 false o1)
-    quiet_told o0 o1 same = go (failing k.fails (to_release (owns_share t0 && true)))
+    quiet_told o0 o1 same = go (failing_call k.fails (to_release (owns_share t0 && true)))
       where
-        done : Outcome → Made
+        done : Outcome → Effect
         done o = record { kind = ends_job w.number o; taken = None; sent = farewells t0 false; lines = [] }
 
         go : (c : Option Call) → T (unless c (λ call. record { kind = Fault call (by_me t0); taken = None; sent = []; lines = [] }) (record { kind = ends_job w.number o0; taken = None; sent = farewells t0 false; lines = [] }))
@@ -161,8 +161,8 @@ module _ (s : SetUp) (st : State) (k : Look) (others : ℕ → Option Word) wher
     with_told peer false = inl refl
     with_told peer true = go (is_awaiting w.phase)
       where
-        go : (b : Bool) → Alike T (if b then awaits t0 peer (waiting (end_with t0 peer) k (job_end w peer)) else goes_on t0) (if b then awaits t1 peer (waiting (end_with t1 peer) k1 (job_end w peer)) else goes_on t1)
-        go true = awaits_told peer (waiting (end_with t0 peer) k (job_end w peer))
+        go : (b : Bool) → Alike T (if b then awaits t0 peer (waiting_frame (end_with t0 peer) k (job_end w peer)) else goes_on t0) (if b then awaits t1 peer (waiting_frame (end_with t1 peer) k1 (job_end w peer)) else goes_on t1)
+        go true = awaits_told peer (waiting_frame (end_with t0 peer) k (job_end w peer))
         go false = goes_on-told
 
     by_told : (o : Option ℕ) → Alike T (by_partner t0 o) (by_partner t1 o)
@@ -182,11 +182,11 @@ module _ (s : SetUp) (st : State) (k : Look) (others : ℕ → Option Word) wher
       (λ slot. slot_told slot (find (λ w. w.slot == slot) st.works) refl) slots))
 
 -- the step is the same where the words are that it reads
-pub words_aside : (s : SetUp) (st : State) (k : Look) (others : ℕ → Option Word) → ((m : Made) → step s st k ≡ Some m → AgreeWhereRead s st m k.words others)
+pub words_aside : (s : SetUp) (st : State) (k : Look) (others : ℕ → Option Word) → ((m : Effect) → step s st k ≡ Some m → AgreeWhereRead s st m k.words others)
     → step s st k ≡ step s st (record k { words = others })
 words_aside s st k others agree = go (step s st k) refl (step s st (record k { words = others })) (step_told s st k others)
   where
-    go : (o : Option Made) → step s st k ≡ o → (p : Option Made) → Alike (Told st (λ w. (c : ℕ) → ReadsWord s.number w c → k.words c ≡ others c)) o p → o ≡ p
+    go : (o : Option Effect) → step s st k ≡ o → (p : Option Effect) → Alike (Told st (λ w. (c : ℕ) → ReadsWord s.number w c → k.words c ≡ others c)) o p → o ≡ p
     go None e None a = refl
     go (Some m) e (Some m') (inl a) = ap Some a
     go (Some m) e (Some m') (inr x) = ap Some (x.4 (λ c reads. agree m e x.0 x.2.0 x.1 x.2.1 c reads))

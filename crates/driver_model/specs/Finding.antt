@@ -6,7 +6,7 @@ use Rattle.annex_base.specs.Lists.{Each}
 use Rattle.run_data.specs.declared.entry.EntryKind.{EntryKind}
 use Rattle.run_data.specs.declared.entry.EntryKind.TheVariants.{Fault}
 use Rattle.node_model.specs.Ends.{EndName}
-use Rattle.node_model.specs.Look.{Look, Made, entry_of}
+use Rattle.node_model.specs.Look.{Look, Effect, entry_of}
 use Rattle.node_model.specs.SetUp.{SetUp}
 use Rattle.node_model.specs.State.{State}
 use Rattle.node_model.specs.Step.{step}
@@ -27,7 +27,7 @@ failed_call kind = None
 -- The look is the driver's for this step: the time, the count, the frames at hand and the rooms are the driver's; the part is the
 -- one that the step asks for, with whether it matches its key; the words agree with those told to the job that the step ends, where
 -- that end reads them; and the call fails that the step tells as failed.
-pub record IsLookFor (g : DriverInput) (d : Driver) (r : ℕ) (s : SetUp) (st : State) (m : Made) (k : Look) : Type 0 where
+pub record IsLookFor (g : DriverInput) (d : Driver) (r : ℕ) (s : SetUp) (st : State) (m : Effect) (k : Look) : Type 0 where
   pub time_is : k.time ≡ now d.past
   pub count_is : k.count ≡ newest_count d.past + 1
   pub hand_is : k.at_hand ≡ at_hand s (frames_to r d.flights)
@@ -49,14 +49,14 @@ pub record FailsFirst (d : Driver) (r : ℕ) (s : SetUp) (st : State) (k : Look)
   pub before : Each (λ call. fails_at d r call ≡ true → meets s st k call ≡ false) (calls_before failed all_calls)
 
 -- r makes this step at the driver's look for it, and the call that fails in it is the first that is to fail
-pub record MakesStep (g : DriverInput) (r : ℕ) (d : Driver) (m : Made) : Type 0 where
+pub record MakesStep (g : DriverInput) (r : ℕ) (d : Driver) (m : Effect) : Type 0 where
   pub look : Look
   pub is_look : IsLookFor g (driver_at_turn g r d) r (set_up_of g d r) (state_at g d r) m look
   pub steps : step (set_up_of g d r) (state_at g d r) look ≡ Some m
   pub fails : FailsFirst (driver_at_turn g r d) r (set_up_of g d r) (state_at g d r) look (failed_call m.kind)
 
 -- the driver after this step of r: its entry stands, its frames are taken and sent, and the store is as it leaves it
-abbrev pub after_step : DriverInput → ℕ → Driver → Made → Driver
+abbrev pub after_step : DriverInput → ℕ → Driver → Effect → Driver
 after_step g r d m =
     store_after (state_at g d r) r m (bytes_taken r m.taken (driver_at_turn g r d)) m.kind
     (adds (state_at g d r) r (entry_of r (plain_look (set_up_of g d r) (driver_at_turn g r d)) m) (driver_at_turn g r d))

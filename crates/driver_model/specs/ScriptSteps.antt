@@ -25,7 +25,7 @@ use Rattle.node_model.specs.Files.{compact_lines}
 use Rattle.run_data.specs.Files.{file_of, file_path, kind_of}
 use Rattle.node_model.specs.Ends.{EndName}
 use Rattle.run_model.specs.States.{end_at, works}
-use Rattle.node_model.specs.Owed.{if_new, stamp_at, status_line}
+use Rattle.node_model.specs.OwedLines.{if_new, stamp_at, status_line}
 use Rattle.node_model.specs.SessionStep.{is_filled}
 use Rattle.node_model.specs.AnyTime.{close_at, closes_all, ends_with}
 use Rattle.driver_model.specs.Driver.{Driver, DriverInput, adds, answers, commits, drops_part, entry, fails_at, newest_count, notes, puts_part, set_up_of, state_at}

@@ -11,7 +11,7 @@ use Rattle.run_data.specs.declared.entry.FrameView.{FrameView}
 use Rattle.run_data.specs.declared.entry.FrameText.{FrameText}
 use Rattle.run_data.specs.declared.entry.FrameText.TheVariants.{Bytes, Line}
 use Rattle.run_model.specs.Past.{now}
-use Rattle.node_model.specs.Look.{Look, Made, entry_of, first_of}
+use Rattle.node_model.specs.Look.{Look, Effect, entry_of, first_of}
 use Rattle.node_model.specs.Slots.{job_of}
 use Rattle.p2p_wire.specs.declared.message.Message.{Message}
 use Rattle.p2p_wire.specs.declared.message.Message.TheVariants.{Failure, Put, Valid}
@@ -70,7 +70,7 @@ abbrev pub step_key : State → Option ℕ → Option FrameView → Option (List
 step_key st (Some job) taken = work_key (find (λ w. w.number == job) st.works)
 step_key st None taken = session_key st taken
 
-abbrev pub asked_key : State → Made → Option (List ℕ)
+abbrev pub asked_key : State → Effect → Option (List ℕ)
 asked_key st m = step_key st (job_of m.kind) m.taken
 
 -- its size, and whether it matches the key
@@ -98,7 +98,7 @@ abbrev pub is_fault : EntryKind → Bool
 is_fault (Fault call by) = true
 is_fault kind = false
 
-abbrev pub makes_fault : Option Made → Bool
+abbrev pub makes_fault : Option Effect → Bool
 makes_fault None = false
 makes_fault (Some m) = is_fault m.kind
 
@@ -112,14 +112,14 @@ fails_in d r s st k call = if fails_at d r call then meets s st k call else fals
 -- ---- the look of a turn
 
 -- where this would be made with a plain look: the look without a failing call, and with it
-abbrev pub calm_look : DriverInput → Driver → ℕ → SetUp → State → Made → Look
+abbrev pub calm_look : DriverInput → Driver → ℕ → SetUp → State → Effect → Look
 calm_look g d r s st m = record (plain_look s d) {
   part = part_size d r (asked_key st m);
   right = part_right g d r (asked_key st m);
   words = told_words d.past r m.kind;
 }
 
-abbrev pub look_for : DriverInput → Driver → ℕ → SetUp → State → Made → Look
+abbrev pub look_for : DriverInput → Driver → ℕ → SetUp → State → Effect → Look
 look_for g d r s st m = record (calm_look g d r s st m) { fails = find (fails_in d r s st (calm_look g d r s st m)) all_calls }
 
 -- ---- contents and parts afterwards
@@ -151,7 +151,7 @@ takes_frame r bytes (Some key) (Some f) sent d = takes_into r key bytes f.body s
 takes_frame r bytes key taken sent d = d
 
 -- by the kind of the entry, which may have taken these bytes; the answered `fail` line is gone
-abbrev pub store_after : State → ℕ → Made → List ℕ → EntryKind → Driver → Driver
+abbrev pub store_after : State → ℕ → Effect → List ℕ → EntryKind → Driver → Driver
 store_after st r m bytes (Gain by size key) d = commits r key d
 store_after st r m bytes (Gone by key) d = removes_content r key d
 store_after st r m bytes (Talk job) d = takes_frame r bytes (asked_key st m) m.taken m.sent d
@@ -161,11 +161,11 @@ store_after st r m bytes kind d = d
 -- ---- the turn
 
 -- the step's entry, where there is one
-abbrev pub makes : State → ℕ → Look → Option Made → Driver → Driver
+abbrev pub makes : State → ℕ → Look → Option Effect → Driver → Driver
 makes st r k None d = d
 makes st r k (Some m) d = store_after st r m (bytes_taken r m.taken d) m.kind (adds st r (entry_of r k m) d)
 
-abbrev pub looks : DriverInput → ℕ → SetUp → State → Option Made → Driver → Driver
+abbrev pub looks : DriverInput → ℕ → SetUp → State → Option Effect → Driver → Driver
 looks g r s st None d = d
 looks g r s st (Some m) d = makes st r (look_for g d r s st m) (step s st (look_for g d r s st m)) d
 

@@ -7,7 +7,7 @@ use Rattle.drop_proof.specs.declared.rule.Side.TheVariants.{Remote}
 use Rattle.run_data.specs.declared.entry.EntryKind.TheVariants.{End as ends_job}
 use Rattle.run_data.specs.declared.job.Outcome.{Outcome}
 use Rattle.node_model.specs.Jobs.{Denied, Phase, Removed, Unseen, Work, heard_of, side_of, target_of}
-use Rattle.node_model.specs.Look.{Made}
+use Rattle.node_model.specs.Look.{Effect}
 use Rattle.node_model.specs.SetUp.{SetUp}
 use Rattle.node_model.specs.State.{State}
 
@@ -22,6 +22,6 @@ abbrev pub ReadsWord : ℕ → Work → ℕ → Type 0
 ReadsWord r w c = (heard_of w c ≡ Some Unseen) ⊎ ((is_answered (side_of w) w.phase ≡ true) × (c ≡ target_of r w))
 
 -- if this step ends a job, these words and the others are the same of each repository whose word that end reads
-abbrev pub AgreeWhereRead : SetUp → State → Made → (words others : ℕ → Option Word) → Type 0
+abbrev pub AgreeWhereRead : SetUp → State → Effect → (words others : ℕ → Option Word) → Type 0
 AgreeWhereRead s st m words others =
     (w : Work) (outcome : Outcome) → Member w st.works → m.kind ≡ ends_job w.number outcome → (c : ℕ) → ReadsWord s.number w c → words c ≡ others c

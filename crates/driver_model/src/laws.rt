@@ -9,7 +9,7 @@ ghost use Rattle.run_data.specs.declared.run.Run.{Run};
 ghost use Rattle.node_model.specs.AnyTime.{all_ends};
 ghost use Rattle.node_model.specs.Ends.{EndName};
 ghost use Rattle.node_model.specs.Jobs.{Work, job_end};
-ghost use Rattle.node_model.specs.Look.{Look, Made};
+ghost use Rattle.node_model.specs.Look.{Look, Effect};
 ghost use Rattle.node_model.specs.SetUp.{SetUp, others};
 ghost use Rattle.node_model.specs.Step.{step};
 ghost use Rattle.run_model.specs.Causes.{HasCauses};
@@ -124,9 +124,9 @@ pub fn ends_are_apart()
 pub fn sound_drivers_keep_their_jobs()
     ensures jobs { (g : DriverInput) (d : Driver) (r : ℕ) → IsSound g d → AreJobs (works d.past r) }
     ensures numbers { (g : DriverInput) (d : Driver) (r : ℕ) → IsSound g d → Each (λ w. w.number ≤ begun_count d.past r) (works d.past r) }
-    ensures sends { (g : DriverInput) (d : Driver) (r : ℕ) (k : Look) (m : Made) → IsSound g d → IsKnown g r → k.part < 2 ^ 62
+    ensures sends { (g : DriverInput) (d : Driver) (r : ℕ) (k : Look) (m : Effect) → IsSound g d → IsKnown g r → k.part < 2 ^ 62
         → step (set_up_of g d r) (state_at g d r) k ≡ Some m → Each (λ f. f.peer ≢ r) m.sent }
-    ensures takes { (g : DriverInput) (d : Driver) (r : ℕ) (k : Look) (m : Made) (f : FrameView) → IsSound g d → IsKnown g r → k.part < 2 ^ 62
+    ensures takes { (g : DriverInput) (d : Driver) (r : ℕ) (k : Look) (m : Effect) (f : FrameView) → IsSound g d → IsKnown g r → k.part < 2 ^ 62
         → step (set_up_of g d r) (state_at g d r) k ≡ Some m → m.taken ≡ Some f → f.peer ≢ r }
     ensures room { (g : DriverInput) (d : Driver) (r : ℕ) (a : EndName) → IsSound g d → a.peer ≡ r → has_room r d.flights a ≡ true }
     ensures asked { (g : DriverInput) (d : Driver) (past : List Entry) (e : Entry) (r : ℕ) → IsSound g d → d.past ≡ e ∷ past → is_of r e ≡ true

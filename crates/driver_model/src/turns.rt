@@ -2,7 +2,7 @@
 
 ghost use Rattle.std.specs.Prelude.{◌≡◌, ℕ, Option, Some, None};
 ghost use Rattle.annex_base.specs.declared.kinds.Word.{Word};
-ghost use Rattle.node_model.specs.Look.{Look, Made};
+ghost use Rattle.node_model.specs.Look.{Look, Effect};
 ghost use Rattle.node_model.specs.SetUp.{SetUp};
 ghost use Rattle.node_model.specs.State.{State};
 ghost use Rattle.node_model.specs.Step.{step};
@@ -18,7 +18,7 @@ use race_core::steps_name_their_jobs;
 /// the target that answered an order (own).
 pub fn words_where_unseen()
     ensures { (s : SetUp) (st : State) (k : Look) (words : ℕ → Option Word)
-        → ((m : Made) → step s st k ≡ Some m → AgreeWhereRead s st m k.words words) → step s st k ≡ step s st (record k { words = words }) }
+        → ((m : Effect) → step s st k ≡ Some m → AgreeWhereRead s st m k.words words) → step s st k ≡ step s st (record k { words = words }) }
 {}
 
 /// A turn of the driver, told from the step that its repository makes. Where no step is ready with the driver's frames, the turn only
@@ -27,7 +27,7 @@ pub fn words_where_unseen()
 pub fn turns_are_found()
     ensures idle { (g : DriverInput) (r : ℕ) (d : Driver) → step (set_up_of g d r) (state_at g d r) (plain_look (set_up_of g d r) (driver_at_turn g r d)) ≡ None
         → turn g r d ≡ driver_at_turn g r d }
-    ensures moved { (g : DriverInput) (r : ℕ) (d : Driver) (m : Made) → MakesStep g r d m → turn g r d ≡ after_step g r d m }
+    ensures moved { (g : DriverInput) (r : ℕ) (d : Driver) (m : Effect) → MakesStep g r d m → turn g r d ≡ after_step g r d m }
 {
     // A law, for the proof.
     steps_name_their_jobs();

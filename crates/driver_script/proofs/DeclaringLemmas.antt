@@ -18,7 +18,7 @@ use Rattle.script_lang.specs.Context.{Context, has_id}
 use Rattle.script_lang.specs.Limits.{first_limit}
 use Rattle.script_lang.specs.Script as script
 use Rattle.script_lang.specs.Script.{context_with}
-use Rattle.script_lang.specs.Standing as standing
+use Rattle.script_lang.specs.Preconditions as standing
 use Rattle.driver_model.specs.Lines.{Line}
 use Rattle.driver_model.specs.Lines as driver
 use Rattle.driver_script.specs.Lines.{declared_by, is_plain_repo, line_of, lines_of, repos_of, view_of}

@@ -30,7 +30,7 @@ use Rattle.script_lang.specs.declared.command.Command.TheVariants as commands
 use Rattle.script_lang.specs.Context.{Context}
 use Rattle.script_lang.specs.Script as script
 use Rattle.script_lang.specs.Script.{context_with}
-use Rattle.script_lang.specs.Standing as standing
+use Rattle.script_lang.specs.Preconditions as standing
 use Rattle.driver_model.specs.Driver.{DriverInput}
 use Rattle.driver_model.specs.Lines.{Line}
 use Rattle.driver_model.specs.Lines as driver

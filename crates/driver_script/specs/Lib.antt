@@ -1,4 +1,4 @@
 -- The definitions of this crate.
-pub mod Given
+pub mod Inputs
 pub mod Lines
 pub mod Script

@@ -8,7 +8,7 @@ ghost use Rattle.script_lang.specs.declared.command.Command.{Command};
 ghost use Rattle.script_lang.specs.Script.{Commands, reading, wait_of};
 ghost use Rattle.driver_model.specs.Lines.{Line, waited_by};
 ghost use Rattle.driver_model.specs.Scripts.{IsOne};
-ghost use Rattle.driver_script.specs.Given.{driver_input_of, matches};
+ghost use Rattle.driver_script.specs.Inputs.{driver_input_of, matches};
 ghost use Rattle.driver_script.specs.Lines.{first_unbuilt, line_of, lines_of, repos_of};
 ghost use Rattle.driver_script.specs.Script.{IsScript, IsUnbuilt};
 

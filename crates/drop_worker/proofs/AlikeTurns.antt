@@ -24,9 +24,9 @@ use Rattle.node_model.specs.Ends.{frames}
 use Rattle.node_model.specs.Evidence.{Asked, Claimed, Fails, Gives, Ignored, Offer, Standing, but, failures, gather, pick, proof_of, reached_candidates}
 use Rattle.node_model.specs.Jobs as jobs
 use Rattle.node_model.specs.Jobs.{Drops, Heard, Part, Phase, Work, heard_of, job_end, partner, side_of}
-use Rattle.node_model.specs.JobStep.{Turn, attempts, end_needs, end_with, ends, farewell, farewells, has_lock, is_held, key_of, locked_peers, owns_share, sends_to, talk, turn_of, wrong}
+use Rattle.node_model.specs.JobStep.{Turn, attempts, end_needs, end_with, ends, farewell, farewells, has_lock, is_held, key_of, locked_peers, owns_share, sends_to, talk, turn_of, wrong_message}
 use Rattle.node_model.specs.Knows.{Reading, asks_by, candidates_by, cause_by, cause_heard, causes_by, enough_by, heard_offer, is_unasked, known_by, knows_by, next_by, obeyed_outcome, offer_by, proof_by, reading, standing_of}
-use Rattle.node_model.specs.Look.{Look, Made, waiting}
+use Rattle.node_model.specs.Look.{Look, Effect, waiting_frame}
 use Rattle.node_model.specs.Requests.{asks, goes_to}
 use Rattle.node_model.specs.Rows.{is_lost_ordered}
 use Rattle.node_model.specs.SetUp.{SetUp}
@@ -188,14 +188,14 @@ module _ (t : Turn) (hs : List (ℕ × Heard)) (alike : HeardAlike t.read t.w.he
   copy_same : (version : ℕ) (taken : Option FrameView) (peer : ℕ) (side : Side) → asks_copy t version taken peer side ≡ asks_copy turn version taken peer side
   copy_same version taken peer Local = refl
   copy_same version taken peer Remote =
-      ap (λ (m : Made). if target t == peer then m else asks_lock t taken peer) (ap (asks_target t version taken) end_same ∙ target_same version taken (first_end turn))
+      ap (λ (m : Effect). if target t == peer then m else asks_lock t taken peer) (ap (asks_target t version taken) end_same ∙ target_same version taken (first_end turn))
 
   asks_alike : (version : ℕ) (taken : Option FrameView) (peer : ℕ) → asks t version taken peer t.w.part ≡ asks turn version taken peer t.w.part
   asks_alike version taken peer =
       ap (asks t version taken peer) drops ∙ (copy_same version taken peer (side_of t.w) ∙ sym (ap (asks turn version taken peer) drops))
 
   goes_to_same : (peer : ℕ) → goes_to t peer ≡ goes_to turn peer
-  goes_to_same peer = ap (λ (m : Made). if (end_with t peer).opened then m else sends_to t (talk t) None peer (Opening ∷ [])) (asks_alike t.w.version None peer)
+  goes_to_same peer = ap (λ (m : Effect). if (end_with t peer).opened then m else sends_to t (talk t) None peer (Opening ∷ [])) (asks_alike t.w.version None peer)
 
   -- its steps that take no frame
 
@@ -292,11 +292,11 @@ module _ (t : Turn) (hs : List (ℕ × Heard)) (alike : HeardAlike t.read t.w.he
   times_same f n None = refl
   times_same f n (Some end) =
       let deadline = n + (end - t.clock t.look.time) / 1000 in
-      ap (λ (m : Made). if nat_lt (t.clock t.look.time) end then orders t (Some f) (Some deadline) (RemoveBefore deadline (key_of t)) else m) (ends_same (Some f) (Refused (refusals.Expired end (t.clock t.look.time))))
+      ap (λ (m : Effect). if nat_lt (t.clock t.look.time) end then orders t (Some f) (Some deadline) (RemoveBefore deadline (key_of t)) else m) (ends_same (Some f) (Refused (refusals.Expired end (t.clock t.look.time))))
 
   time_same : (f : FrameView) (peer n : ℕ) (side : Side) → takes_time t f peer n side ≡ takes_time turn f peer n side
   time_same f peer n Local = refl
-  time_same f peer n Remote = ap (λ (m : Made). if nat_lt n (2 ^ 61) then m else wrong t f peer) (ap (times t f n) end_same ∙ times_same f n (first_end turn))
+  time_same f peer n Remote = ap (λ (m : Effect). if nat_lt n (2 ^ 61) then m else wrong_message t f peer) (ap (times t f n) end_same ∙ times_same f n (first_end turn))
 
   lock_taken : (f : FrameView) (peer : ℕ) (p since : ℕ) (m : Message) → takes_drop t f peer (jobs.AsksLock p since) m ≡ takes_drop turn f peer (jobs.AsksLock p since) m
   lock_taken f peer p since (messages.AuthSuccess id) = refl
@@ -430,7 +430,7 @@ module _ (t : Turn) (hs : List (ℕ × Heard)) (alike : HeardAlike t.read t.w.he
 
   greeting_taken : (f : FrameView) (peer p : ℕ) (m : Message) → takes t f peer (jobs.Greets p) m ≡ takes turn f peer (jobs.Greets p) m
   greeting_taken f peer p (messages.AuthSuccess id) = answer_taken f peer (jobs.Greets p) (messages.AuthSuccess id)
-  greeting_taken f peer p (messages.Version n) = ap (λ (m : Made). if nat_le n 3 then m else wrong t f peer) (asks_alike n (Some f) peer)
+  greeting_taken f peer p (messages.Version n) = ap (λ (m : Effect). if nat_le n 3 then m else wrong_message t f peer) (asks_alike n (Some f) peer)
   greeting_taken f peer p (messages.CheckPresent key) = answer_taken f peer (jobs.Greets p) (messages.CheckPresent key)
   greeting_taken f peer p (messages.LockContent key) = answer_taken f peer (jobs.Greets p) (messages.LockContent key)
   greeting_taken f peer p (messages.UnlockContent key) = answer_taken f peer (jobs.Greets p) (messages.UnlockContent key)
@@ -508,11 +508,11 @@ module _ (t : Turn) (hs : List (ℕ × Heard)) (alike : HeardAlike t.read t.w.he
 
   awaits_same : (peer : ℕ) (f : Option FrameView) → awaits t peer f ≡ awaits turn peer f
   awaits_same peer None = refl
-  awaits_same peer (Some f) = ap (λ (m : Made). if has_room t peer then Some m else None) (frame_taken peer f f.body)
+  awaits_same peer (Some f) = ap (λ (m : Effect). if has_room t peer then Some m else None) (frame_taken peer f f.body)
 
   partner_same : (peer : ℕ) (live : Bool) → with_partner t peer live ≡ with_partner turn peer live
   partner_same peer false = refl
-  partner_same peer true = λ i. if is_awaiting t.w.phase then awaits_same peer (waiting (end_with t peer) t.look (job_end t.w peer)) i else goes_on_same i
+  partner_same peer true = λ i. if is_awaiting t.w.phase then awaits_same peer (waiting_frame (end_with t peer) t.look (job_end t.w peer)) i else goes_on_same i
 
   pub step_same : (o : Option ℕ) → by_partner t o ≡ by_partner turn o
   step_same None = goes_on_same

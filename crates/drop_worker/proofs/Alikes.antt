@@ -9,7 +9,7 @@ use Rattle.node_model.specs.Jobs as Jobs
 use Rattle.node_model.specs.Jobs.{Work, hears, heard_of, to_phase}
 use Rattle.node_model.specs.JobStep.{Turn, quietly}
 use Rattle.node_model.specs.Knows.{Reading}
-use Rattle.node_model.specs.Look.{Made}
+use Rattle.node_model.specs.Look.{Effect}
 use Rattle.node_model.specs.Slots.{job_of}
 use Rattle.content_lock.specs.Rows.{AreAfter, Rows}
 use Rattle.drop_worker.specs.declared.turn.Output.{Output}
@@ -32,7 +32,7 @@ alike_same r v v' e = record {
   heard = λ c other. ap (λ (u : Work). heard_of u c) e;
 }
 
-pub does_alike : (x : Sight) (rows rows' : Rows) (p : List ℕ → Bool) (w w' : Worker) (taken : Option FrameView) (asked : Turn → Made) (out : Output)
+pub does_alike : (x : Sight) (rows rows' : Rows) (p : List ℕ → Bool) (w w' : Worker) (taken : Option FrameView) (asked : Turn → Effect) (out : Output)
     → DoesAsAsked x rows rows' p w w' taken asked out → DoesAlike x rows rows' p w w' taken asked out
 does_alike x rows rows' p w w' taken asked out d = record {
   makes = d.makes;
@@ -42,7 +42,7 @@ does_alike x rows rows' p w w' taken asked out d = record {
 }
 
 -- a step that sends nothing
-pub quiet_alike : (x : Sight) (rows rows' : Rows) (p : List ℕ → Bool) (w w' : Worker) (asked : Turn → Made) (kind : EntryKind) (out : Output) → out.kind ≡ kind → out.sends.items ≡ []
+pub quiet_alike : (x : Sight) (rows rows' : Rows) (p : List ℕ → Bool) (w w' : Worker) (asked : Turn → Effect) (kind : EntryKind) (out : Output) → out.kind ≡ kind → out.sends.items ≡ []
     → ((rest : Rest) → asked (turn_in x rows p (failed_in kind) rest w) ≡ quietly kind None)
     → ((rest : Rest) → Alike x.read (work_of rest w') (next_work (turn_in x rows p (failed_in kind) rest w) (quietly kind None)))
     → AreAfter kind rows rows' → job_of kind ≡ Some w.number → DoesAlike x rows rows' p w w' None asked out

@@ -20,7 +20,7 @@ use Rattle.node_model.specs.JobStep as steps
 use Rattle.node_model.specs.Rows.{keep_of, same_owner}
 use Rattle.content_lock.specs.Rows.{Rows}
 use Rattle.content_lock.specs.Tokens.{Owns, ShareView}
-use Rattle.content_lock.specs.Turns.{FailInTurn, Turn}
+use Rattle.content_lock.specs.Turns.{FailInTurn, CallOutcome}
 use Rattle.drop_worker.specs.declared.phase.Token.{Token}
 use Rattle.drop_worker.specs.declared.turn.Output.{Output}
 use Rattle.drop_worker.specs.Begun.{HasEnded, IsLast}
@@ -98,7 +98,7 @@ pub left_as : (ds : List Call) (gone failed : Option Call) (before after : Faili
 left_as ds gone failed before after same m = (makes_as ds ds failed gone before after refl same m).left
 
 -- the first of calls in turn
-pub first_told : (call : Call) (failed : Bool) (turns : List Turn) (before after : Failing) → FailInTurn ((call, failed) ∷ turns) before after → FailsAsTold call before (option_map (one_fewer call) before) failed
+pub first_told : (call : Call) (failed : Bool) (turns : List CallOutcome) (before after : Failing) → FailInTurn ((call, failed) ∷ turns) before after → FailsAsTold call before (option_map (one_fewer call) before) failed
 first_told call failed turns before after it = record { told = it.0; count = refl }
 
 -- ---- holds of its own

@@ -8,7 +8,7 @@ use Rattle.run_data.specs.declared.entry.FrameView.{FrameView}
 use Rattle.p2p_wire.specs.declared.message.Message.{Message}
 use Rattle.node_model.specs.Jobs as Jobs
 use Rattle.node_model.specs.JobStep.{Turn}
-use Rattle.node_model.specs.Look.{Made}
+use Rattle.node_model.specs.Look.{Effect}
 use Rattle.content_lock.specs.Rows.{AreAfter, Rows}
 use Rattle.drop_worker.specs.declared.phase.Phase.{Phase}
 use Rattle.drop_worker.specs.declared.phase.Phase.TheVariants as phases
@@ -22,7 +22,7 @@ use Rattle.drop_worker.specs.Working.{Rest, Sight, failed_in, phase_as, taken_li
 use Rattle.drop_worker.specs.Doing.{Comes, DoesAsAsked, GoesOn, HasToken, IsBar, Takes, Talks, next_work, share_in}
 use Rattle.drop_worker.specs.Feeding.{FindsClosed, FitsLocal, TakesClose, TakesFed, TakesOther, IsBare, IsOfLocal}
 
-pub does_as : (x : Sight) (rows rows' : Rows) (p : List ℕ → Bool) (w w' : Worker) (taken : Option FrameView) (a b : Turn → Made) (out : Output)
+pub does_as : (x : Sight) (rows rows' : Rows) (p : List ℕ → Bool) (w w' : Worker) (taken : Option FrameView) (a b : Turn → Effect) (out : Output)
     → DoesAsAsked x rows rows' p w w' taken a out → ((rest : Rest) → a (turn_in x rows p (failed_in out.kind) rest w) ≡ b (turn_in x rows p (failed_in out.kind) rest w)) → DoesAsAsked x rows rows' p w w' taken b out
 does_as x rows rows' p w w' taken a b out d e =
     record {

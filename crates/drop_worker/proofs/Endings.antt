@@ -14,18 +14,18 @@ use Rattle.run_data.specs.declared.row.Hold.{Hold}
 use Rattle.node_model.specs.Rows.{is_lost_ordered, keep_of, lost_ordered, same_owner}
 use Rattle.node_model.specs.Ends.{frames}
 use Rattle.node_model.specs.JobStep.{Turn, ends, farewell, farewells, others_of}
-use Rattle.node_model.specs.Look.{Made}
+use Rattle.node_model.specs.Look.{Effect}
 use Rattle.content_lock.specs.Rows.{AreAfter, Rows, bar_at}
 use Rattle.content_lock.specs.Tokens.{Owns, ShareView}
 use Rattle.drop_worker.specs.declared.phase.Token.{Token}
 use Rattle.drop_worker.specs.declared.turn.Output.{Output}
 use Rattle.drop_worker.specs.Sends.{SendsView}
 use Rattle.drop_worker.specs.Worker.{Worker}
-use Rattle.drop_worker.specs.Working.{Rest, Sight, end_in, frames_of, made_of, parting, partings, turn_in}
+use Rattle.drop_worker.specs.Working.{Rest, Sight, end_in, frames_of, made_of, end_frames, partings, turn_in}
 use Rattle.drop_worker.specs.Doing.{DoesAsAsked, HasToken, is_barring, share_in}
 
 parting_same : (x : Sight) (rows : Rows) (p : List ℕ → Bool) (fails : Option Call) (rest : Rest) (w : Worker) (lost : Bool) (peer : ℕ) (b : Bool)
-    → parting w lost peer b ≡ farewell (turn_in x rows p fails rest w) lost peer b
+    → end_frames w lost peer b ≡ farewell (turn_in x rows p fails rest w) lost peer b
 parting_same x rows p fails rest w lost peer true = refl
 parting_same x rows p fails rest w lost peer false = refl
 
@@ -65,7 +65,7 @@ ends_rows job key token rows rows' outcome plain bare own off same filling =
       fills = filling;
     }
 
-pub ends_does : (x : Sight) (rows rows' : Rows) (p : List ℕ → Bool) (w w' : Worker) (taken : Option FrameView) (asked : Turn → Made) (outcome : Outcome)
+pub ends_does : (x : Sight) (rows rows' : Rows) (p : List ℕ → Bool) (w w' : Worker) (taken : Option FrameView) (asked : Turn → Effect) (outcome : Outcome)
     (sends : SendsView) (out : Output) → out ≡ record { kind = ends_job w.number outcome; sends = sends; ended = true }
     → frames_of x.ends w.slot sends.items ≡ partings x.read x.ends w (is_lost_ordered outcome) → AreAfter (ends_job w.number outcome) rows rows'
     → ((rest : Rest) → ends (turn_in x rows p None rest w) taken outcome ≡ asked (turn_in x rows p None rest w)) → DoesAsAsked x rows rows' p w w' taken asked out
@@ -81,7 +81,7 @@ ends_does x rows rows' p w w' taken asked outcome sends out is sent after f =
     made rest = λ i. record { kind = ends_job w.number outcome; taken = taken; sent = (sent ∙ partings_same x rows p None rest w (is_lost_ordered outcome)) i; lines = [] }
 
 -- a refusal of a job that has nothing of its row
-pub refused_does : (x : Sight) (rows rows' : Rows) (p : List ℕ → Bool) (w w' : Worker) (asked : Turn → Made) (why : DropRefusal) (sends : SendsView) (out : Output)
+pub refused_does : (x : Sight) (rows rows' : Rows) (p : List ℕ → Bool) (w w' : Worker) (asked : Turn → Effect) (why : DropRefusal) (sends : SendsView) (out : Output)
     → out ≡ record { kind = ends_job w.number (Refused why); sends = sends; ended = true } → frames_of x.ends w.slot sends.items ≡ partings x.read x.ends w (lost_ordered why) → lost_ordered why ≡ false
     → w.token ≡ tokens.Nothing → HasToken w.number w.job.key w.token rows → rows' ≡ rows
     → ((rest : Rest) → ends (turn_in x rows p None rest w) None (Refused why) ≡ asked (turn_in x rows p None rest w)) → DoesAsAsked x rows rows' p w w' None asked out

@@ -10,7 +10,7 @@ use Rattle.p2p_wire.specs.declared.message.Message.TheVariants as messages
 use Rattle.node_model.specs.Ends.{End, EndName}
 use Rattle.node_model.specs.Jobs as Jobs
 use Rattle.node_model.specs.Jobs.{learns, partner}
-use Rattle.node_model.specs.JobStep.{Turn, wrong}
+use Rattle.node_model.specs.JobStep.{Turn, wrong_message}
 use Rattle.node_model.specs.DropStep.{takes_drop}
 use Rattle.node_model.specs.Knows.{Reading}
 use Rattle.node_model.specs.Turns.{takes}
@@ -94,7 +94,7 @@ closed_so read ends_at time rows peer w w' (Err e) t here = tt
 -- a message that isn't expected
 pub lost_takes : (read : Reading) (ends_at : EndName → End) (time : ℕ) (w w' : Worker) (target peer : ℕ) (took : Message) (r : Result Output NoMemory) → IsRemote target w → IfOk r (ShutsRemote target peer w w')
     → ((rest : Rest) (f : FrameView) → Lined f.body took → learns (work_of rest w) (phase_as w.phase) (Some f) ≡ work_of rest w) → partner w.job.peer (phase_as w.phase) ≡ Some peer
-    → ((x : Sight) (rows : Rows) (p : List ℕ → Bool) (rest : Rest) (f : FrameView) → wrong (turn_in x rows p None rest w) f peer ≡ takes (turn_in x rows p None rest w) f peer (phase_as w.phase) took)
+    → ((x : Sight) (rows : Rows) (p : List ℕ → Bool) (rest : Rest) (f : FrameView) → wrong_message (turn_in x rows p None rest w) f peer ≡ takes (turn_in x rows p None rest w) f peer (phase_as w.phase) took)
     → IfOk r (λ out. (rows : Rows) → TakesRemote read ends_at time rows rows peer (takens.Message took) w w' out)
 lost_takes read ends_at time w w' target peer took (Err e) remote shuts learn with_peer makes = tt
 lost_takes read ends_at time w w' target peer took (Ok out) remote shuts learn with_peer makes = λ rows number p f fed. go rows number p f fed
@@ -127,7 +127,7 @@ asked_peer w target peer there at stands = some_same target peer (sym there ∙ 
 -- ---- the words
 
 -- what isn't expected as the target's time
-pub time_else : (t : Turn) (f : FrameView) (peer : ℕ) (m : Message) → ((n : ℕ) → m ≡ messages.Timestamp n → ⊥) → wrong t f peer ≡ takes_drop t f peer Jobs.AsksTime m
+pub time_else : (t : Turn) (f : FrameView) (peer : ℕ) (m : Message) → ((n : ℕ) → m ≡ messages.Timestamp n → ⊥) → wrong_message t f peer ≡ takes_drop t f peer Jobs.AsksTime m
 time_else t f peer (messages.AuthSuccess id) a = refl
 time_else t f peer (messages.Version n) a = refl
 time_else t f peer (messages.CheckPresent k) a = refl

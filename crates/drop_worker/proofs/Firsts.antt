@@ -33,7 +33,7 @@ use Rattle.drop_worker.specs.Worker.{Worker}
 use Rattle.drop_worker.specs.Working.{Rest, Sight, frames_of, partings, phase_as, present_in, turn_in, work_of}
 use Rattle.drop_worker.specs.Doing.{HasToken}
 use Rattle.drop_worker.specs.Feeding.{IsOfLocal}
-use Rattle.drop_worker.specs.Leaving.{ActsOver, Did, Fails, GoesSo, IsRefusal, Store, Unbarred}
+use Rattle.drop_worker.specs.Leaving.{ActsOver, Did, Fails, GoesSo, IsRefusal, Store, FollowsBarRefused}
 use Rattle.drop_worker.proofs.Endings.{ends_rows, refused_does}
 use Rattle.drop_worker.proofs.Leavings.{goes_did, leaves_so, quiet_does}
 use Rattle.drop_worker.proofs.Removals.{fault_ends}
@@ -112,7 +112,7 @@ module _ (x : Sight) (rows rows' : Rows) (k k' : Store) (w w' : Worker) (local :
         after = subst (λ (q : Rows). AreAfter (Fault calls.Has (by_job w.number)) rows q) (sym same) (record { holds = refl; bars = λ key. refl; fills = refl })
 
     pub unbarred_did : (why : BarRefused) (r : Result Output NoMemory) → NotBarred why (HasContent k.contents w.job.key) (bar_at rows w.job.key) (blocking x rows w) → (why ≡ barred.StoreFault → Rose k.faults k'.faults)
-        → Unbarred why w w' sends r → Did rows rows' k k' w w' (GoesSo x k.contents rows rows' w w') r
+        → FollowsBarRefused why w w' sends r → Did rows rows' k k' w w' (GoesSo x k.contents rows rows' w w') r
     unbarred_did barred.Absent r found rose is = refusal_did refusals.NotPresent r is refl (λ c here rest. first_gone (turn_in x rows (present_in c) None rest w) refl (found c here))
     unbarred_did (barred.Barred job) r found rose is = refusal_did (refusals.Barred job) r is refl (λ c here rest. first_barred (turn_in x rows (present_in c) None rest w) job refl refl (found.0 c here) found.1)
     unbarred_did (barred.Held hold end) r found rose is =

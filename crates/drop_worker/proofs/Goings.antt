@@ -23,7 +23,7 @@ use Rattle.drop_worker.specs.Begun.{CanStand, HasBegun, HasEnded, HasGone, IsLas
 use Rattle.drop_worker.specs.Doing.{Talks}
 use Rattle.drop_worker.specs.Feeding.{FitsLocal}
 use Rattle.drop_worker.specs.Judging.{asks_of, others_in}
-use Rattle.drop_worker.specs.Leaving.{Unbarred}
+use Rattle.drop_worker.specs.Leaving.{FollowsBarRefused}
 
 pub others_there : (r : Reading) → Each (IsOther r) (others_in r)
 others_there r =
@@ -108,7 +108,7 @@ refusal_gone r w w' made result bare ended last same is =
     }
     )
 
-pub unbarred_gone : (r : Reading) (w w' : Worker) (sends : SendsView) (why : BarRefused) (result : Result Output NoMemory) → w.token ≡ tokens.Nothing → Unbarred why w w' sends result → IfOk result (HasGone r w w')
+pub unbarred_gone : (r : Reading) (w w' : Worker) (sends : SendsView) (why : BarRefused) (result : Result Output NoMemory) → w.token ≡ tokens.Nothing → FollowsBarRefused why w w' sends result → IfOk result (HasGone r w w')
 unbarred_gone r w w' sends bars.Absent result bare is = refusal_gone r w w' _ result bare refl refl is.0 is.1
 unbarred_gone r w w' sends (bars.Barred job) result bare is = refusal_gone r w w' _ result bare refl refl is.0 is.1
 unbarred_gone r w w' sends (bars.Held hold until) result bare is = refusal_gone r w w' _ result bare refl refl is.0 is.1

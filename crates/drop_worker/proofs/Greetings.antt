@@ -10,7 +10,7 @@ use Rattle.node_model.specs.Rows.{option_is}
 use Rattle.node_model.specs.Sessions.{line_in}
 use Rattle.node_model.specs.Jobs
 use Rattle.node_model.specs.Jobs.{Drops, Work, learns, side_of, version_said}
-use Rattle.node_model.specs.JobStep.{Turn, key_of, says_to, talk, wrong}
+use Rattle.node_model.specs.JobStep.{Turn, key_of, says_to, talk, wrong_message}
 use Rattle.node_model.specs.Turns.{takes}
 use Rattle.drop_worker.proofs.Takings.{Lined}
 
@@ -63,7 +63,7 @@ greets_low t f peer n low part side =
     let e : nat_le n 3 ≡ true = grind (arith, nat_tests) in
     rw (e, part, side) refl
 
-pub greets_high : (t : Turn) (f : FrameView) (peer n : ℕ) → 3 < n → wrong t f peer ≡ takes t f peer (Jobs.Greets peer) (messages.Version n)
+pub greets_high : (t : Turn) (f : FrameView) (peer n : ℕ) → 3 < n → wrong_message t f peer ≡ takes t f peer (Jobs.Greets peer) (messages.Version n)
 greets_high t f peer n high =
     let e : nat_le n 3 ≡ false = grind (arith, nat_tests) in
     rw e refl

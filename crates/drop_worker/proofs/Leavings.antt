@@ -9,7 +9,7 @@ use Rattle.node_model.specs.Ends.{End, EndName}
 use Rattle.node_model.specs.Jobs.{Drops}
 use Rattle.node_model.specs.JobStep.{Turn, quietly}
 use Rattle.node_model.specs.Knows.{Reading}
-use Rattle.node_model.specs.Look.{Made}
+use Rattle.node_model.specs.Look.{Effect}
 use Rattle.node_model.specs.Slots.{job_of}
 use Rattle.node_model.specs.Turns.{goes, next_step}
 use Rattle.object_store.specs.Stores.{Contents}
@@ -35,14 +35,14 @@ did_as rows rows' k k' w w' a b (Ok out) d f = (f out d.0, d.1)
 did_as rows rows' k k' w w' a b (Err e) d f = d
 
 -- where the job stands, it goes on from there
-pub stands_as : (x : Sight) (known : Option Contents) (rows rows' : Rows) (w w' : Worker) (ph : Phase) (a : Turn → Made) (out : Output) → w.phase ≡ ph
+pub stands_as : (x : Sight) (known : Option Contents) (rows rows' : Rows) (w w' : Worker) (ph : Phase) (a : Turn → Effect) (out : Output) → w.phase ≡ ph
     → ((p : List ℕ → Bool) (rest : Rest) → a (turn_in x rows p (failed_in out.kind) rest w) ≡ goes (turn_in x rows p (failed_in out.kind) rest w) (phase_as ph))
     → ActsOver x known rows rows' w w' a out → GoesSo x known rows rows' w w' out
 stands_as x known rows rows' w w' ph a out at e d = λ c is.
     does_as x rows rows' (present_in c) w w' None a (λ t. goes t t.w.phase) out (d c is)
     (λ rest. e (present_in c) rest ∙ ap (λ (u : Phase). goes (turn_in x rows (present_in c) (failed_in out.kind) rest w) (phase_as u)) (sym at))
 
-pub goes_did : (x : Sight) (rows rows' : Rows) (k k' : Store) (w w' : Worker) (ph : Phase) (a : Turn → Made) (r : Result Output NoMemory) → w.phase ≡ ph
+pub goes_did : (x : Sight) (rows rows' : Rows) (k k' : Store) (w w' : Worker) (ph : Phase) (a : Turn → Effect) (r : Result Output NoMemory) → w.phase ≡ ph
     → ((p : List ℕ → Bool) (fails : Option Call) (rest : Rest) → a (turn_in x rows p fails rest w) ≡ goes (turn_in x rows p fails rest w) (phase_as ph))
     → Did rows rows' k k' w w' (ActsOver x k.contents rows rows' w w' a) r → Did rows rows' k k' w w' (GoesSo x k.contents rows rows' w w') r
 goes_did x rows rows' k k' w w' ph a r at e d =
@@ -103,7 +103,7 @@ stays_same rows k w = record { worker = refl; table = refl; contents = refl; rec
 
 -- ---- a step that sends nothing
 
-pub quiet_does : (x : Sight) (rows rows' : Rows) (p : List ℕ → Bool) (w w' : Worker) (asked : Turn → Made) (kind : EntryKind) (out : Output) → out.kind ≡ kind → out.sends.items ≡ []
+pub quiet_does : (x : Sight) (rows rows' : Rows) (p : List ℕ → Bool) (w w' : Worker) (asked : Turn → Effect) (kind : EntryKind) (out : Output) → out.kind ≡ kind → out.sends.items ≡ []
     → ((rest : Rest) → asked (turn_in x rows p (failed_in kind) rest w) ≡ quietly kind None) → ((rest : Rest) → work_of rest w' ≡ next_work (turn_in x rows p (failed_in kind) rest w) (quietly kind None))
     → AreAfter kind rows rows' → job_of kind ≡ Some w.number → DoesAsAsked x rows rows' p w w' None asked out
 quiet_does x rows rows' p w w' asked kind out is sends asks moves after whose =

@@ -27,7 +27,7 @@ use Rattle.drop_worker.specs.declared.turn.Output.{Output}
 use Rattle.drop_worker.specs.Begun.{HasEnded}
 use Rattle.drop_worker.specs.Calling.{Failing, MakesOver, MakesPhase, calls_by, has_open}
 use Rattle.drop_worker.specs.Feeding.{FitsEnding, FitsLocal, IsOfLocal}
-use Rattle.drop_worker.specs.Leaving.{Unbarred}
+use Rattle.drop_worker.specs.Leaving.{FollowsBarRefused}
 use Rattle.drop_worker.specs.Remote.{IsToEnd}
 use Rattle.drop_worker.specs.Sends.{SendsView}
 use Rattle.drop_worker.specs.SlotCalls.{bar_calls, first_drop_calls, next_calls, opening_calls, phase_calls, request_calls}
@@ -96,7 +96,7 @@ module _ (x : Sight) (known : Option Contents) (rows : Rows) (w : Worker) (befor
   refusal_makes : (out : Output) (r : Result Output NoMemory) → r ≡ Ok out → failed_in out.kind ≡ None → FailsAsTold calls.Has before after false → MakesPhase x known rows w before after r
   refusal_makes out r is well it = subst (λ (o : Result Output NoMemory). MakesPhase x known rows w before after o) (sym is) (begin_makes out well it)
 
-  pub unbarred_makes : (w' : Worker) (sends : SendsView) (why : BarRefused) (r : Result Output NoMemory) → FailsAsTold calls.Has before after (bar_failed {T = Unit {0}} (Err why)) → Unbarred why w w' sends r
+  pub unbarred_makes : (w' : Worker) (sends : SendsView) (why : BarRefused) (r : Result Output NoMemory) → FailsAsTold calls.Has before after (bar_failed {T = Unit {0}} (Err why)) → FollowsBarRefused why w w' sends r
       → MakesPhase x known rows w before after r
   unbarred_makes w' sends barred.Absent r it is = refusal_makes _ r is.1 refl it
   unbarred_makes w' sends (barred.Barred job) r it is = refusal_makes _ r is.1 refl it

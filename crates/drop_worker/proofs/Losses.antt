@@ -9,7 +9,7 @@ use Rattle.p2p_wire.specs.declared.message.Message.TheVariants as messages
 use Rattle.node_model.specs.DropStep.{takes_drop}
 use Rattle.node_model.specs.Jobs as Jobs
 use Rattle.node_model.specs.Jobs.{learns, partner}
-use Rattle.node_model.specs.JobStep.{Turn, wrong}
+use Rattle.node_model.specs.JobStep.{Turn, wrong_message}
 use Rattle.node_model.specs.Turns.{takes, takes_frame}
 use Rattle.annex_base.specs.declared.memory.NoMemory.{NoMemory}
 use Rattle.content_lock.specs.Rows.{AreAfter, Rows}
@@ -33,17 +33,17 @@ use Rattle.drop_worker.proofs.Takings.{close_parcel, line_takes, lined, moved_sh
 -- a message that isn't expected
 pub lost_does : (x : Sight) (rows : Rows) (p : List ℕ → Bool) (w w' : Worker) (f : FrameView) (target peer : ℕ) (took : Message) (out : Output) → IsRemote target w → ShutsRemote target peer w w' out
     → Comes x w.slot peer f (takens.Message took) → ((rest : Rest) → learns (work_of rest w) (phase_as w.phase) (Some f) ≡ work_of rest w) → partner w.job.peer (phase_as w.phase) ≡ Some peer
-    → ((rest : Rest) → wrong (turn_in x rows p None rest w) f peer ≡ takes (turn_in x rows p None rest w) f peer (phase_as w.phase) took) → DoesAsAsked x rows rows p w w' (Some f) (λ t. takes_frame t peer f f.body) out
+    → ((rest : Rest) → wrong_message (turn_in x rows p None rest w) f peer ≡ takes (turn_in x rows p None rest w) f peer (phase_as w.phase) took) → DoesAsAsked x rows rows p w w' (Some f) (λ t. takes_frame t peer f f.body) out
 lost_does x rows p w w' f target peer took out remote shuts comes learn with_peer makes =
     let line = lined f.body took comes.is in
-    let is : (rest : Rest) → wrong (turn_in x rows p None rest w) f peer ≡ takes_frame (turn_in x rows p None rest w) peer f f.body = (λ rest. makes rest ∙ line_takes (turn_in x rows p None rest w) f peer took line) in
+    let is : (rest : Rest) → wrong_message (turn_in x rows p None rest w) f peer ≡ takes_frame (turn_in x rows p None rest w) peer f f.body = (λ rest. makes rest ∙ line_takes (turn_in x rows p None rest w) f peer took line) in
     talk_does x rows p w w' (Some f) (λ t. takes_frame t peer f f.body) _ out shuts.kind shuts.sends
     (λ rest. (λ i. record { kind = Talk (Some w.number); taken = Some f; sent = close_parcel x w.slot peer i; lines = [] }) ∙ is rest)
     (λ rest. ap (work_of rest) shuts.next ∙ (sym (closed_remote rest w target x.read.repo peer remote)
     ∙ (sym (moved_shut (turn_in x rows p None rest w) f peer took w.version refl (learn rest) with_peer line comes.live) ∙ ap (next_work (turn_in x rows p None rest w)) (is rest))))
 
 -- what isn't expected as the answer to an order
-pub orders_else : (t : Turn) (f : FrameView) (peer : ℕ) (m : Message) → (m ≡ messages.Success → ⊥) → (m ≡ messages.Failure → ⊥) → takes_drop t f peer Jobs.Orders m ≡ wrong t f peer
+pub orders_else : (t : Turn) (f : FrameView) (peer : ℕ) (m : Message) → (m ≡ messages.Success → ⊥) → (m ≡ messages.Failure → ⊥) → takes_drop t f peer Jobs.Orders m ≡ wrong_message t f peer
 orders_else t f peer (messages.AuthSuccess id) a b = refl
 orders_else t f peer (messages.Version n) a b = refl
 orders_else t f peer (messages.CheckPresent k) a b = refl

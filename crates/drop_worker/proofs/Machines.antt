@@ -26,7 +26,7 @@ use Rattle.drop_worker.specs.declared.turn.Taken.{Taken}
 use Rattle.drop_worker.specs.Worker.{Worker}
 use Rattle.drop_worker.specs.Working.{Sight, failed_in, phase_as, present_in, sight}
 use Rattle.drop_worker.specs.Doing.{DoesAsAsked, Grows, HasToken, IsBar, OthersStay, Talks, contents_after}
-use Rattle.drop_worker.specs.Feeding.{FedAt, FitsLocal, KeepsAnswer, KeepsWord, TakesFed, step_of}
+use Rattle.drop_worker.specs.Feeding.{FeedsFrameAt, FitsLocal, KeepsAnswer, KeepsWord, TakesFed, step_of}
 use Rattle.drop_worker.specs.Leaving.{Advances, Did, GoesSo, Stays, Store, stands_on}
 use Rattle.drop_worker.specs.Alike.{Alike}
 use Rattle.drop_worker.specs.Remote.{DidRemote, DoesAlike, GoesAlike, TakesRemote}
@@ -43,7 +43,7 @@ acts_advance : (x : Sight) (known : Option Contents) (rows rows' : Rows) (w w' :
 acts_advance x known rows rows' w w' taken word out none acts =
     record {
       told = λ peer at said. absurd (let both : Some peer ≡ None = sym (ap (λ (ph : Phase). partner w.job.peer (phase_as ph)) at) ∙ none in cc);
-      does = λ c is f. subst (λ (o : Option ℕ). FedAt x w.slot o f taken → DoesAsAsked x rows rows' (present_in c) w w' f (step_of o f) out) (sym none)
+      does = λ c is f. subst (λ (o : Option ℕ). FeedsFrameAt x w.slot o f taken → DoesAsAsked x rows rows' (present_in c) w w' f (step_of o f) out) (sym none)
           (λ fed. subst (λ (g : Option FrameView). DoesAsAsked x rows rows' (present_in c) w w' g (λ t. goes t t.w.phase) out) (sym fed.1) (acts c is));
     }
 
@@ -60,7 +60,7 @@ pub hears_did : (x : Sight) (rows : Rows) (k : Store) (w w' : Worker) (peer : �
 hears_did x rows k w w' peer taken word (Ok out) at bar own takes told talks same = (
   record {
     told = told;
-    does = λ c is f. subst (λ (o : Option ℕ). FedAt x w.slot o f taken → DoesAsAsked x rows rows (present_in c) w w' f (step_of o f) out) (sym at) (λ fed. takes x rows (present_in c) f refl fed);
+    does = λ c is f. subst (λ (o : Option ℕ). FeedsFrameAt x w.slot o f taken → DoesAsAsked x rows rows (present_in c) w w' f (step_of o f) out) (sym at) (λ fed. takes x rows (present_in c) f refl fed);
   },
   talk_leaves rows k w w' out talks bar own,
 )
@@ -151,7 +151,7 @@ acts_alike x rows rows' k k' w w' target taken word (Ok out) peer none (acts, l)
   record {
     told = λ p at said. absurd (let both : Some p ≡ None = sym (ap (λ (ph : Phase). partner w.job.peer (phase_as ph)) at) ∙ none in cc);
     answer = λ at said. absurd (let both : Some target ≡ None = sym peer ∙ (sym (ap (λ (ph : Phase). partner w.job.peer (phase_as ph)) at) ∙ none) in cc);
-    does = λ c is f. subst (λ (o : Option ℕ). FedAt x w.slot o f taken → DoesAlike x rows rows' (present_in c) w w' f (step_of o f) out) (sym none)
+    does = λ c is f. subst (λ (o : Option ℕ). FeedsFrameAt x w.slot o f taken → DoesAlike x rows rows' (present_in c) w w' f (step_of o f) out) (sym none)
         (λ fed. subst (λ (g : Option FrameView). DoesAlike x rows rows' (present_in c) w w' g (λ t. goes t t.w.phase) out) (sym fed.1) (acts c is));
   },
   l,
@@ -166,7 +166,7 @@ hears_alike read ends_at time number rows rows' k k' w w' peer taken word (Ok ou
   record {
     told = told;
     answer = answer;
-    does = λ c is f. subst (λ (o : Option ℕ). FedAt (sight read ends_at time number) w.slot o f taken → DoesAlike (sight read ends_at time number) rows rows' (present_in c) w w' f (step_of o f) out) (sym at)
+    does = λ c is f. subst (λ (o : Option ℕ). FeedsFrameAt (sight read ends_at time number) w.slot o f taken → DoesAlike (sight read ends_at time number) rows rows' (present_in c) w w' f (step_of o f) out) (sym at)
         (λ fed. does_alike (sight read ends_at time number) rows rows' (present_in c) w w' f (step_of (Some peer) f) out (takes number (present_in c) f fed));
   },
   l,

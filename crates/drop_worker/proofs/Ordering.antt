@@ -22,14 +22,14 @@ use Rattle.p2p_wire.specs.Messages.{message_of, text_of}
 use Rattle.node_model.specs.Jobs as Jobs
 use Rattle.node_model.specs.Jobs.{Drops, Part, Work, claims, job_end, learns, partner, says, taken_message, talks_on}
 use Rattle.node_model.specs.JobStep.{Turn, end_with, me, says_to}
-use Rattle.node_model.specs.Look.{Made, entry_of}
+use Rattle.node_model.specs.Look.{Effect, entry_of}
 use Rattle.content_lock.specs.Rows.{Rows}
 use Rattle.drop_worker.specs.declared.phase.Ending.TheVariants as endings
 use Rattle.drop_worker.specs.declared.phase.Phase.TheVariants as phases
 use Rattle.drop_worker.specs.Worker.{Worker}
-use Rattle.drop_worker.specs.Working.{Rest, Sight, end_in, learnt, phase_as, sight, turn_in, work_of}
+use Rattle.drop_worker.specs.Working.{Rest, Sight, end_in, with_version, phase_as, sight, turn_in, work_of}
 use Rattle.drop_worker.specs.Doing.{next_work}
-use Rattle.drop_worker.specs.Remote.{IsRemote, ReadsAll, Request, Says, Speaks, TakesRemote, first_request, known_remotely, target_request}
+use Rattle.drop_worker.specs.Remote.{IsRemote, AreRemoteProtocolLines, Request, Says, Speaks, TakesRemote, first_request, known_remotely, target_request}
 use Rattle.drop_worker.proofs.Takings.{Lined, line_takes, lined, moved_heard, moved_said}
 use Rattle.drop_worker.proofs.Talks.{on_said, open_line}
 use Rattle.drop_worker.proofs.Requesting.{asks_said, request_made, request_plain, request_speaks, said_does_as}
@@ -48,7 +48,7 @@ module _ (t : Turn) (f : FrameView) (peer : ℕ) (took : Message) (n : ℕ) (dro
       → next_work t (says_to t (Order job target deadline need key) (Some f) peer m) ≡ says now_work t.look.time peer (Some took) m
   moved_order job target deadline need key m reads =
       let rows : Jobs.RowsAndEnds = record { present = t.present; bar = t.bar; ends = t.ends } in
-      let made : Made = says_to t (Order job target deadline need key) (Some f) peer m in
+      let made : Effect = says_to t (Order job target deadline need key) (Some f) peer m in
       (λ i. talks_on rows (me t) ((ap (λ (part : Part). learns (claims t.w part t.w.phase) t.w.phase (Some f)) drops ∙ learn) i) (entry_of (me t) t.look made) (with_peer i))
       ∙ (on_said rows (me t) now_work (entry_of (me t) t.look made) peer m refl (open_line (job_end t.w peer) (end_with t peer) f l.text l.is live) reads
       ∙ ap (λ (o : Option Message). says now_work t.look.time peer o m) told)
@@ -59,7 +59,7 @@ greets_asks t f peer version small drops = let e : nat_le version 3 ≡ true = g
 -- a request after the version of the peer
 pub greet_request : (x : Sight) (rows : Rows) (p : List ℕ → Bool) (rest : Rest) (w : Worker) (f : FrameView) (need : Need) (target time peer version n : ℕ) (end : Option ℕ)
     → learns (work_of rest w) (phase_as w.phase) (Some f) ≡ record (work_of rest w) { version = n } → w.phase ≡ phases.Greets peer → Lined f.body (Version version) → (x.ends (end_in w.slot peer)).opened ≡ true
-    → x.time ≡ time → ReadsAll w.job.key
+    → x.time ≡ time → AreRemoteProtocolLines w.job.key
     → work_of rest (record w { phase = (first_request need w target time peer version end).phase; version = n })
     ≡ next_work (turn_in x rows p None rest w) (request_made (turn_in x rows p None rest w) (Some f) peer (first_request need w target time peer version end))
 greet_request x rows p rest w f need target time peer version n end learn stands l live same reads = by_peer (target == peer) end
@@ -90,7 +90,7 @@ greet_request x rows p rest w f need target time peer version n end learn stands
 
 -- the version is at most 3
 pub greet_takes : (read : Reading) (ends_at : EndName → End) (time : ℕ) (w v w' : Worker) (target peer version : ℕ) (end : Option ℕ) (out : Output) (rows : Rows) → IsRemote target w → w.phase ≡ phases.Greets peer
-    → end ≡ least_end (known_remotely read target w) → version ≤ 3 → ReadsAll w.job.key → Says (first_request read.need w target time peer version end) peer w v out → w' ≡ learnt v peer version
+    → end ≡ least_end (known_remotely read target w) → version ≤ 3 → AreRemoteProtocolLines w.job.key → Says (first_request read.need w target time peer version end) peer w v out → w' ≡ with_version v peer version
     → TakesRemote read ends_at time rows rows peer (takens.Message (Version version)) w w' out
 greet_takes read ends_at time w v w' target peer version end out rows remote stands known small reads s next number p None fed = absurd (let both : takens.Message (Version version) ≡ takens.Closed = fed.0 in cc)
 greet_takes read ends_at time w v w' target peer version end out rows remote stands known small reads s next number p (Some f) comes =
@@ -101,13 +101,13 @@ greet_takes read ends_at time w v w' target peer version end out rows remote sta
     let learn : (rest : Rest) → learns (work_of rest w) (phase_as w.phase) (Some f) ≡ record (work_of rest w) { version = n } =
     (λ rest. ap (λ (ph : Phase). learns (work_of rest w) (phase_as ph) (Some f)) stands ∙ learns_version (work_of rest w) f peer version l) in
     let plain = request_plain read.need w target time peer version end rows in
-    said_does_as x rows p w w' (record w { phase = q.phase; version = n }) (Some f) (λ t. takes_frame t peer f f.body) q peer out s.kind s.sends (next ∙ ap (λ (u : Worker). learnt u peer version) s.next) plain.faultless plain.after plain.whose
+    said_does_as x rows p w w' (record w { phase = q.phase; version = n }) (Some f) (λ t. takes_frame t peer f f.body) q peer out s.kind s.sends (next ∙ ap (λ (u : Worker). with_version u peer version) s.next) plain.faultless plain.after plain.whose
     (λ rest. sym (line_takes (turn_in x rows p None rest w) f peer (Version version) l) ∙ (ap (λ (ph : Phase). takes (turn_in x rows p None rest w) f peer (phase_as ph) (Version version)) stands
     ∙ (greets_asks (turn_in x rows p None rest w) f peer version small refl
     ∙ asks_said x rows p None rest w read.need target remote refl time version peer end (Some f) (known ∙ end_is x rows p None rest w read.need (known_remotely read target w) target remote refl refl))))
     (λ rest. greet_request x rows p rest w f read.need target time peer version n end (learn rest) stands l comes.live refl reads)
 
-pub greet_speaks : (need : Need) (w v w' : Worker) (target time peer version : ℕ) (end : Option ℕ) (out : Output) → Says (first_request need w target time peer version end) peer w v out → w' ≡ learnt v peer version → Speaks w w' out
+pub greet_speaks : (need : Need) (w v w' : Worker) (target time peer version : ℕ) (end : Option ℕ) (out : Output) → Says (first_request need w target time peer version end) peer w v out → w' ≡ with_version v peer version → Speaks w w' out
 greet_speaks need w v w' target time peer version end out s is =
     let was : Speaks w v out = request_speaks need w v target time peer version end (Ok out) s in
     subst (λ (u : Worker). Speaks w u out) (sym is) (record {

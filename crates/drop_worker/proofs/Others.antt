@@ -12,7 +12,7 @@ use Rattle.p2p_wire.specs.Messages.{message_of}
 use Rattle.node_model.specs.Rows.{option_is}
 use Rattle.node_model.specs.Sessions.{line_in}
 use Rattle.node_model.specs.Jobs.{Drops, Work, closed_part, drop_side, learns, partner, talks_on, version_said}
-use Rattle.node_model.specs.JobStep.{Turn, wrong}
+use Rattle.node_model.specs.JobStep.{Turn, wrong_message}
 use Rattle.node_model.specs.Look.{entry_of}
 use Rattle.node_model.specs.TransferStep.{takes_bytes}
 use Rattle.node_model.specs.Turns.{takes_frame, takes_text}
@@ -29,7 +29,7 @@ use Rattle.drop_worker.proofs.Talks.{on_shut}
 use Rattle.drop_worker.proofs.Takings.{close_parcel, closed_local, heard_next, talk_does}
 use Rattle.drop_worker.proofs.Greetings.{kept}
 
-bytes_else : (t : Turn) (f : FrameView) (peer n : ℕ) (ph : Phase) → takes_bytes t f peer n (phase_as ph) ≡ wrong t f peer
+bytes_else : (t : Turn) (f : FrameView) (peer n : ℕ) (ph : Phase) → takes_bytes t f peer n (phase_as ph) ≡ wrong_message t f peer
 bytes_else t f peer n phases.Fresh = refl
 bytes_else t f peer n phases.Next = refl
 bytes_else t f peer n (phases.Opens p) = refl
@@ -51,7 +51,7 @@ no_message text = go (message_of text)
     go None e = refl
     go (Some m) e = absurd (cc)
 
-pub other_wrong : (t : Turn) (f : FrameView) (peer : ℕ) (ph : Phase) (body : FrameText) → t.w.phase ≡ phase_as ph → taken_of body ≡ takens.Other → wrong t f peer ≡ takes_frame t peer f body
+pub other_wrong : (t : Turn) (f : FrameView) (peer : ℕ) (ph : Phase) (body : FrameText) → t.w.phase ≡ phase_as ph → taken_of body ≡ takens.Other → wrong_message t f peer ≡ takes_frame t peer f body
 other_wrong t f peer ph Opening at e = refl
 other_wrong t f peer ph Closing at e = absurd (cc)
 other_wrong t f peer ph (Bytes n) at e = sym (ap (takes_bytes t f peer n) at ∙ bytes_else t f peer n ph)
@@ -89,10 +89,10 @@ other_does x rows p w w' f peer out local with_peer shuts comes =
     turn : Rest → Turn
     turn rest = turn_in x rows p None rest w
 
-    is : (rest : Rest) → wrong (turn rest) f peer ≡ takes_frame (turn rest) peer f f.body
+    is : (rest : Rest) → wrong_message (turn rest) f peer ≡ takes_frame (turn rest) peer f f.body
     is rest = other_wrong (turn rest) f peer w.phase f.body refl comes.is
 
-    moves : (rest : Rest) → next_work (turn rest) (wrong (turn rest) f peer) ≡ closed_part x.read.repo (work_of rest w) peer Drops
+    moves : (rest : Rest) → next_work (turn rest) (wrong_message (turn rest) f peer) ≡ closed_part x.read.repo (work_of rest w) peer Drops
     moves rest =
-        (λ i. talks_on (record { present = p; bar = bar_at rows; ends = x.ends }) x.read.repo (other_learns (work_of rest w) f w.phase comes.is i) (entry_of x.read.repo (turn rest).look (wrong (turn rest) f peer)) (with_peer i))
-        ∙ on_shut (record { present = p; bar = bar_at rows; ends = x.ends }) x.read.repo (work_of rest w) (entry_of x.read.repo (turn rest).look (wrong (turn rest) f peer)) peer refl
+        (λ i. talks_on (record { present = p; bar = bar_at rows; ends = x.ends }) x.read.repo (other_learns (work_of rest w) f w.phase comes.is i) (entry_of x.read.repo (turn rest).look (wrong_message (turn rest) f peer)) (with_peer i))
+        ∙ on_shut (record { present = p; bar = bar_at rows; ends = x.ends }) x.read.repo (work_of rest w) (entry_of x.read.repo (turn rest).look (wrong_message (turn rest) f peer)) peer refl

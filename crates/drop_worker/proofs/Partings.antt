@@ -13,7 +13,7 @@ use Rattle.run_data.specs.declared.entry.FrameText.{FrameText}
 use Rattle.node_model.specs.Ends.{EndName, End, frames}
 use Rattle.drop_worker.specs.declared.turn.Parcel.{Parcel}
 use Rattle.drop_worker.specs.Worker.{Worker}
-use Rattle.drop_worker.specs.Working.{end_in, frames_of, parting, parting_at, texts_of}
+use Rattle.drop_worker.specs.Working.{end_in, frames_of, end_frames, parting_at, texts_of}
 
 abbrev pub upto : (ℕ → List FrameView) → ℕ → ℕ → List FrameView
 upto f r n = flat_map f (but r (range_with_len 0 n))
@@ -35,7 +35,7 @@ upto_other f r n other =
 
 -- a closed end is sent nothing
 pub shut_at : (ends : EndName → End) (w : Worker) (lost : Bool) (peer : ℕ) → (ends (end_in w.slot peer)).opened ≡ false → parting_at ends w lost peer ≡ []
-shut_at ends w lost peer shut = ap (λ (b : Bool). frames (end_in w.slot peer) (ends (end_in w.slot peer)) (parting w lost peer b)) shut
+shut_at ends w lost peer shut = ap (λ (b : Bool). frames (end_in w.slot peer) (ends (end_in w.slot peer)) (end_frames w lost peer b)) shut
 
 pub upto_shut : (ends : EndName → End) (w : Worker) (lost : Bool) (r peer : ℕ) → peer ≢ r → (ends (end_in w.slot peer)).opened ≡ false
     → upto (parting_at ends w lost) r (peer + 1) ≡ upto (parting_at ends w lost) r peer
@@ -51,11 +51,11 @@ frames_more ends slot ps p =
     ∙ ap (λ (l : List FrameView). frames_of ends slot ps ++ l) (append-nil (frames (end_in slot p.peer) (ends (end_in slot p.peer)) (texts_of p.body)))
 
 pub upto_parted : (ends : EndName → End) (w : Worker) (lost : Bool) (r peer : ℕ) (ps : List Parcel) (p : Parcel) → peer ≢ r → (ends (end_in w.slot peer)).opened ≡ true
-    → p.peer ≡ peer → texts_of p.body ≡ parting w lost peer true → frames_of ends w.slot ps ≡ upto (parting_at ends w lost) r peer
+    → p.peer ≡ peer → texts_of p.body ≡ end_frames w lost peer true → frames_of ends w.slot ps ≡ upto (parting_at ends w lost) r peer
     → frames_of ends w.slot (ps ++ p ∷ []) ≡ upto (parting_at ends w lost) r (peer + 1)
 upto_parted ends w lost r peer ps p other live to says was =
     let a = end_in w.slot peer in
     let this : frames (end_in w.slot p.peer) (ends (end_in w.slot p.peer)) (texts_of p.body) ≡ parting_at ends w lost peer =
-    ap (λ (n : ℕ). frames (end_in w.slot n) (ends (end_in w.slot n)) (texts_of p.body)) to ∙ ap (λ (l : List FrameText). frames a (ends a) l) (says ∙ ap (parting w lost peer) (sym live)) in
+    ap (λ (n : ℕ). frames (end_in w.slot n) (ends (end_in w.slot n)) (texts_of p.body)) to ∙ ap (λ (l : List FrameText). frames a (ends a) l) (says ∙ ap (end_frames w lost peer) (sym live)) in
     frames_more ends w.slot ps p ∙ ap (λ (l : List FrameView). l ++ frames (end_in w.slot p.peer) (ends (end_in w.slot p.peer)) (texts_of p.body)) was
     ∙ ap (λ (l : List FrameView). upto (parting_at ends w lost) r peer ++ l) this ∙ sym (upto_other (parting_at ends w lost) r peer other)

@@ -38,7 +38,7 @@ use Rattle.drop_worker.specs.Calling.{Failing, MakesEnd, MakesPhase, has_open}
 use Rattle.content_lock.specs.CallsMade.{MakesCalls}
 use Rattle.drop_worker.specs.Doing.{HasToken}
 use Rattle.drop_worker.specs.Judging.{asks_of}
-use Rattle.drop_worker.specs.Remote.{IsRemote, IsToEnd, Unshared, known_remotely, remote_candidates}
+use Rattle.drop_worker.specs.Remote.{IsRemote, IsToEnd, FollowsShareRefused, known_remotely, remote_candidates}
 use Rattle.drop_worker.specs.SlotCalls.{end_calls, first_drop_calls, judge_calls, own_calls, phase_calls}
 use Rattle.drop_worker.specs.Worker.{Worker}
 use Rattle.drop_worker.specs.Working.{Rest, Sight, failed_in, phase_as, present_in, turn_in}
@@ -139,7 +139,7 @@ module _ (x : Sight) (known : Option Contents) (rows : Rows) (w : Worker) (befor
         (makes_then calls.Has (calls.Hold ∷ []) None before (option_map (one_fewer calls.Has) before) after (first_told calls.Has false ((calls.Hold, false) ∷ []) before after it)
         (makes_last calls.Hold (option_map (one_fewer calls.Has) before) after (record { told = it.1.0; count = it.1.1 })))
 
-    pub unshared_makes : (v w' : Worker) (why : ShareRefused) (r : Result Output NoMemory) → NotShared why (HasContent known w.job.key) (bar_at rows w.job.key) → Unshared why v w' r
+    pub unshared_makes : (v w' : Worker) (why : ShareRefused) (r : Result Output NoMemory) → NotShared why (HasContent known w.job.key) (bar_at rows w.job.key) → FollowsShareRefused why v w' r
         → FailInTurn (share_turns {T = Unit {0}} (Err why)) before after → MakesPhase x known rows w before after r
     unshared_makes v w' refused.Absent (Ok out) found is it =
         over_is x known rows w (λ t. phase_calls t t.w.phase) (calls.Has ∷ []) None before after out (λ c told rest. hold_is false (bar_at rows w.job.key) found refl c told (failed_in out.kind) rest) (ap failed_in is.0.made) (look_only before after it)

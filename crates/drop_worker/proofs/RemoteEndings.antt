@@ -33,7 +33,7 @@ use Rattle.drop_worker.specs.Working.{Rest, failed_in, frames_of, partings, phas
 use Rattle.drop_worker.specs.Doing.{HasToken, OthersStay, next_work}
 use Rattle.drop_worker.specs.Leaving.{Store}
 use Rattle.drop_worker.specs.Feeding.{FitsRemote}
-use Rattle.drop_worker.specs.Remote.{DidRemote, EndsSo, Unreleased, unreleased_phase}
+use Rattle.drop_worker.specs.Remote.{DidRemote, EndsSo, FailsToRelease, unreleased_phase}
 use Rattle.drop_worker.proofs.Endings.{ends_does, ends_rows}
 use Rattle.drop_worker.proofs.RemoteLeavings.{leaves_remote}
 use Rattle.drop_worker.proofs.Tokens.{others_same, others_share, owns_after_share}
@@ -180,7 +180,7 @@ bare_fits (phases.Late late) = tt
 bare_fits (phases.Ends why) = tt
 
 unreleased_did : (read : Reading) (ends_at : EndName → End) (time : ℕ) (rows rows' : Rows) (k k' : Store) (w v w' : Worker) (share : ShareView) (outcome : Outcome) (out : Output)
-    → v ≡ record w { token = tokens.Nothing } → Unreleased time v w' out → is_lost_ordered outcome ≡ false → HasToken w.number w.job.key (tokens.Share share) rows
+    → v ≡ record w { token = tokens.Nothing } → FailsToRelease time v w' out → is_lost_ordered outcome ≡ false → HasToken w.number w.job.key (tokens.Share share) rows
     → (Owns share.owner (Some share) rows.holds → AreAfter (Fault calls.Unhold share.owner) rows rows') → HasToken w.number w.job.key tokens.Nothing rows' → OthersStay w.number rows rows'
     → k'.contents ≡ k.contents → Agrees k'.records rows'.holds → k.faults ≤ k'.faults → Rose k.faults k'.faults → DidRemote rows rows' k k' w w' (EndsSo read ends_at time rows rows' w w' outcome) (Ok out)
 unreleased_did read ends_at time rows rows' k k' w v w' share outcome out is u plain own after bare others contents agrees later rose = (
@@ -213,7 +213,7 @@ unreleased_did read ends_at time rows rows' k k' w v w' share outcome out is u p
 
 -- the release failed, and left all as it was
 pub failed_did : (read : Reading) (ends_at : EndName → End) (time : ℕ) (rows was rows' : Rows) (k k' : Store) (w v w' : Worker) (share back : ShareView) (outcome : Outcome) (out : Output)
-    → was ≡ rows → back ≡ share → HasToken w.number w.job.key (tokens.Share share) rows → v ≡ record w { token = tokens.Nothing } → Unreleased time v w' out → is_lost_ordered outcome ≡ false
+    → was ≡ rows → back ≡ share → HasToken w.number w.job.key (tokens.Share share) rows → v ≡ record w { token = tokens.Nothing } → FailsToRelease time v w' out → is_lost_ordered outcome ≡ false
     → (Owns back.owner (Some back) was.holds → AreAfter (Fault calls.Unhold back.owner) was rows') → (Owns back.owner (Some back) was.holds → Owns back.owner None rows'.holds) → KeepsOthers back was rows'
     → map label_of rows'.holds ≡ map label_of was.holds → k'.contents ≡ k.contents → Agrees k'.records was.holds → k.faults ≤ k'.faults → Rose k.faults k'.faults
     → DidRemote rows rows' k k' w w' (EndsSo read ends_at time rows rows' w w' outcome) (Ok out)

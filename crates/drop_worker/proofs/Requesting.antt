@@ -23,7 +23,7 @@ use Rattle.node_model.specs.Jobs.{Drops, job_end, to_phase}
 use Rattle.node_model.specs.JobStep.{Turn, end_with, quietly, says_to, talk}
 use Rattle.node_model.specs.DropStep.{asks_copy, asks_lock, asks_target, first_end, target as target_at}
 use Rattle.node_model.specs.Knows.{Reading}
-use Rattle.node_model.specs.Look.{Made}
+use Rattle.node_model.specs.Look.{Effect}
 use Rattle.node_model.specs.Requests.{asks, goes_to}
 use Rattle.node_model.specs.Slots.{job_of}
 use Rattle.object_store.specs.Stores.{Contents}
@@ -37,7 +37,7 @@ use Rattle.drop_worker.specs.Worker.{Worker}
 use Rattle.drop_worker.specs.Working.{Rest, Sight, end_in, failed_in, frames_of, phase_as, sight, turn_in, work_of}
 use Rattle.drop_worker.specs.Doing.{Acts, DoesAsAsked, contents_after, next_work}
 use Rattle.drop_worker.specs.Feeding.{FitsRemote, HasNoBar}
-use Rattle.drop_worker.specs.Remote.{IsRemote, ReadsAll, Request, Says, Speaks, first_request, known_remotely, said_parcels, target_request, time_request}
+use Rattle.drop_worker.specs.Remote.{IsRemote, AreRemoteProtocolLines, Request, Says, Speaks, first_request, known_remotely, said_parcels, target_request, time_request}
 use Rattle.drop_worker.proofs.Losing.{target_is}
 use Rattle.drop_worker.proofs.RemoteVerdicts.{end_is}
 
@@ -46,7 +46,7 @@ said_texts None = []
 said_texts (Some m) = Line (text_of m) ∷ []
 
 -- what a step makes that says this
-abbrev pub request_made : Turn → Option FrameView → ℕ → Request → Made
+abbrev pub request_made : Turn → Option FrameView → ℕ → Request → Effect
 request_made t taken peer q = record { kind = q.kind; taken = taken; sent = frames (job_end t.w peer) (end_with t peer) (said_texts q.says); lines = [] }
 
 module _ (x : Sight) (rows : Rows) (p : List ℕ → Bool) (fails : Option Call) (rest : Rest) (w : Worker) (need : Need) (target : ℕ) (remote : IsRemote target w) (needs : need ≡ x.read.need) where
@@ -95,7 +95,7 @@ next_order t peer target need key drops next reads = rw (drops, next, reads) ref
 next_old : (t : Turn) → t.w.part ≡ Drops → t.w.phase ≡ Jobs.Next → next_work t (quietly (talk t) None) ≡ to_phase t.w (Jobs.Ends (Refused (refusals.OldProtocol t.w.version)))
 next_old t drops next = rw (drops, next) refl
 
-pub next_request : (x : Sight) (rows : Rows) (p : List ℕ → Bool) (fails : Option Call) (rest : Rest) (w : Worker) (need : Need) (target time peer : ℕ) (end : Option ℕ) → w.phase ≡ phases.Next → x.time ≡ time → ReadsAll w.job.key
+pub next_request : (x : Sight) (rows : Rows) (p : List ℕ → Bool) (fails : Option Call) (rest : Rest) (w : Worker) (need : Need) (target time peer : ℕ) (end : Option ℕ) → w.phase ≡ phases.Next → x.time ≡ time → AreRemoteProtocolLines w.job.key
     → work_of rest (record w { phase = (first_request need w target time peer w.version end).phase })
     ≡ next_work (turn_in x rows p fails rest w) (request_made (turn_in x rows p fails rest w) None peer (first_request need w target time peer w.version end))
 next_request x rows p fails rest w need target time peer end at same reads = by_peer (target == peer) end
@@ -124,7 +124,7 @@ parcels_said : (ends : EndName → End) (slot peer : ℕ) (o : Option Message) �
 parcels_said ends slot peer None = refl
 parcels_said ends slot peer (Some m) = append-nil (frames (end_in slot peer) (ends (end_in slot peer)) (Line (text_of m) ∷ []))
 
-pub said_does_as : (x : Sight) (rows : Rows) (p : List ℕ → Bool) (w w' u : Worker) (taken : Option FrameView) (asked : Turn → Made) (q : Request) (peer : ℕ) (out : Output) → out.kind ≡ q.kind → out.sends.items ≡ said_parcels peer q.says → w' ≡ u
+pub said_does_as : (x : Sight) (rows : Rows) (p : List ℕ → Bool) (w w' u : Worker) (taken : Option FrameView) (asked : Turn → Effect) (q : Request) (peer : ℕ) (out : Output) → out.kind ≡ q.kind → out.sends.items ≡ said_parcels peer q.says → w' ≡ u
     → failed_in q.kind ≡ None → AreAfter q.kind rows rows → job_of q.kind ≡ Some w.number
     → ((rest : Rest) → asked (turn_in x rows p None rest w) ≡ request_made (turn_in x rows p None rest w) taken peer q)
     → ((rest : Rest) → work_of rest u ≡ next_work (turn_in x rows p None rest w) (request_made (turn_in x rows p None rest w) taken peer q))
@@ -142,7 +142,7 @@ said_does_as x rows p w w' u taken asked q peer out kind sends is plain after wh
     faultless : failed_in out.kind ≡ None
     faultless = ap failed_in kind ∙ plain
 
-pub said_does : (x : Sight) (rows : Rows) (p : List ℕ → Bool) (w w' : Worker) (taken : Option FrameView) (asked : Turn → Made) (q : Request) (peer : ℕ) (out : Output) → Says q peer w w' out
+pub said_does : (x : Sight) (rows : Rows) (p : List ℕ → Bool) (w w' : Worker) (taken : Option FrameView) (asked : Turn → Effect) (q : Request) (peer : ℕ) (out : Output) → Says q peer w w' out
     → failed_in q.kind ≡ None → AreAfter q.kind rows rows → job_of q.kind ≡ Some w.number
     → ((rest : Rest) → asked (turn_in x rows p None rest w) ≡ request_made (turn_in x rows p None rest w) taken peer q)
     → ((rest : Rest) → work_of rest (record w { phase = q.phase }) ≡ next_work (turn_in x rows p None rest w) (request_made (turn_in x rows p None rest w) taken peer q))
@@ -217,7 +217,7 @@ going : (t : Turn) (peer : ℕ) → (end_with t peer).opened ≡ true → goes_t
 going t peer live = rw live refl
 
 pub request_acts : (read : Reading) (ends_at : EndName → End) (time : ℕ) (w w' : Worker) (need : Need) (target peer version : ℕ) (end : Option ℕ) (r : Result Output NoMemory) → IsRemote target w → w.phase ≡ phases.Next
-    → end ≡ least_end (known_remotely read target w) → need ≡ read.need → version ≡ w.version → (ends_at (end_in w.slot peer)).opened ≡ true → ReadsAll w.job.key
+    → end ≡ least_end (known_remotely read target w) → need ≡ read.need → version ≡ w.version → (ends_at (end_in w.slot peer)).opened ≡ true → AreRemoteProtocolLines w.job.key
     → IfOk r (Says (first_request need w target time peer version end) peer w w') → IfOk r (λ out. (rows : Rows) → Acts read ends_at time rows rows w w' (λ t. goes_to t peer) out)
 request_acts read ends_at time w w' need target peer version end (Err e) remote stands known needs same live reads s = tt
 request_acts read ends_at time w w' need target peer version end (Ok out) remote stands known needs same live reads says = λ rows number p.

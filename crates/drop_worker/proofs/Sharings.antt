@@ -24,7 +24,7 @@ use Rattle.node_model.specs.Jobs.{Drops, Part, Work, first_look, hears, side_of,
 use Rattle.node_model.specs.JobStep.{Turn, bar_there, by_me, clock_of, is_there, key_of, me, quietly, talk}
 use Rattle.node_model.specs.DropStep.{first_drop, own_share, shares, tries_own}
 use Rattle.node_model.specs.Knows.{Reading}
-use Rattle.node_model.specs.Look.{Made, failing, unless}
+use Rattle.node_model.specs.Look.{Effect, failing_call, unless}
 use Rattle.node_model.specs.Slots.{job_of}
 use Rattle.node_model.specs.Turns.{goes}
 use Rattle.content_lock.specs.Looks.{IsShareFault, NotShared}
@@ -44,7 +44,7 @@ use Rattle.drop_worker.specs.Doing.{HasToken, contents_after, next_work}
 use Rattle.drop_worker.specs.Feeding.{HasNoBar, IsBare}
 use Rattle.drop_worker.specs.Leaving.{Store}
 use Rattle.drop_worker.specs.Alike.{Alike, is_asked}
-use Rattle.drop_worker.specs.Remote.{DidRemote, GivesNone, GoesAlike, IsRemote, Unshared}
+use Rattle.drop_worker.specs.Remote.{DidRemote, GivesNone, GoesAlike, IsRemote, FollowsShareRefused}
 use Rattle.drop_worker.proofs.Alikes.{alike_same, quiet_alike, unread}
 use Rattle.drop_worker.proofs.RemoteLeavings.{leaves_remote}
 use Rattle.drop_worker.proofs.Tokens.{others_same}
@@ -59,10 +59,10 @@ shares_barred t job fails there bar = rw (fails, there, bar) refl
 
 unfound : (t : Turn) → t.look.fails ≡ Some calls.Has → shares t ≡ quietly (Fault calls.Has (by_me t)) None
 unfound t fails =
-    ap (λ (f : Option Call). unless (failing f (to_hold (is_there t) (bar_there t))) (λ call. quietly (Fault call (by_me t)) None) made) fails
+    ap (λ (f : Option Call). unless (failing_call f (to_hold (is_there t) (bar_there t))) (λ call. quietly (Fault call (by_me t)) None) made) fails
     ∙ ap (λ (f : Option Call). unless f (λ call. quietly (Fault call (by_me t)) None) made) (go (is_there t) (bar_there t))
   where
-    made : Made
+    made : Effect
     made = quietly (own_share t.number (clock_of t + hold_time) t.w.number (key_of t) (talk t) (by_me t) (is_there t) (bar_there t)) None
 
     go : (here : Bool) (bar : Option ℕ) → (if list_any (same_call calls.Has) (to_hold here bar) then Some calls.Has else None) ≡ Some calls.Has
@@ -169,7 +169,7 @@ module _ (x : Sight) (rows rows' : Rows) (k k' : Store) (w w' : Worker) (target 
         next = gives.0.next x.read.repo (heards.Held x.time) w.heard refl
 
     pub unshared_did : (why : ShareRefused) (r : Result Output NoMemory) → NotShared why (HasContent k.contents w.job.key) (bar_at rows w.job.key) → (IsShareFault why → Rose k.faults k'.faults)
-        → Unshared why heard_first w' r → DidRemote rows rows' k k' w w' (GoesAlike x k.contents rows rows' w w') r
+        → FollowsShareRefused why heard_first w' r → DidRemote rows rows' k k' w w' (GoesAlike x k.contents rows rows' w w') r
     unshared_did refused.Absent r found rose is =
         none_did (Talk (Some w.number)) causes.Absent r is (record { holds = refl; bars = λ key. refl; fills = refl }) refl refl tt
         (λ c told rest. shares_gone (turn_in x rows (present_in c) None rest w) refl (found c told)) (λ c told rest. next_gone (turn_in x rows (present_in c) None rest w) refl at (found c told))

@@ -27,9 +27,9 @@ use Rattle.node_model.specs.DropStep.{asks_copy, asks_lock, asks_target, bars, e
 use Rattle.node_model.specs.Evidence as seen
 use Rattle.node_model.specs.Jobs as Jobs
 use Rattle.node_model.specs.Jobs.{Drops, Gets, Part, Phase, Puts, Work, is_move, job_end, partner, side_of}
-use Rattle.node_model.specs.JobStep.{Turn, attempts, bar_there, by_me, clock_of, end_with, ends, hears, is_there, key_of, me, quietly, says_to, talk, turn_of, wrong}
+use Rattle.node_model.specs.JobStep.{Turn, attempts, bar_there, by_me, clock_of, end_with, ends, hears, is_there, key_of, me, quietly, says_to, talk, turn_of, wrong_message}
 use Rattle.node_model.specs.Knows.{enough_by, next_by}
-use Rattle.node_model.specs.Look.{Look, Made, failing, unless, waiting}
+use Rattle.node_model.specs.Look.{Look, Effect, failing_call, unless, waiting_frame}
 use Rattle.node_model.specs.Requests.{asks, goes_to}
 use Rattle.node_model.specs.SetUp.{SetUp}
 use Rattle.node_model.specs.State.{State}
@@ -40,28 +40,28 @@ use Rattle.node_model.specs.SessionStep.{bytes_left}
 use Rattle.drop_worker.specs.SlotCalls.{answer_calls, bar_calls, bytes_calls, drop_calls, end_calls, failed_of, first_calls, first_drop_calls, first_get_calls, first_put_calls, first_remote_calls, frame_calls, get_calls, judge_calls, line_calls, message_calls, next_calls, next_get_calls, opening_calls, order_calls, own_calls, partner_calls, partner_frame_calls, phase_calls, put_calls, removal_calls, request_calls, room_calls, slot_calls, time_calls, turn_calls}
 use Rattle.drop_worker.specs.Working.{failed_in}
 
-none_failing : (fails : Option Call) → None ≡ failing fails []
+none_failing : (fails : Option Call) → None ≡ failing_call fails []
 none_failing None = refl
 none_failing (Some call) = refl
 
 module _ (t : Turn) where
-  abbrev FailsBy : Made → List Call → Type 0
-  FailsBy m cs = failed_in m.kind ≡ failing t.look.fails cs
+  abbrev FailsBy : Effect → List Call → Type 0
+  FailsBy m cs = failed_in m.kind ≡ failing_call t.look.fails cs
 
-  none : None ≡ failing t.look.fails []
+  none : None ≡ failing_call t.look.fails []
   none = none_failing t.look.fails
 
-  only : (cs : List Call) (taken : Option FrameView) (m : Made) → failed_in m.kind ≡ None → FailsBy (attempts t cs taken m) cs
-  only cs taken m well = go (failing t.look.fails cs)
+  only : (cs : List Call) (taken : Option FrameView) (m : Effect) → failed_in m.kind ≡ None → FailsBy (attempts t cs taken m) cs
+  only cs taken m well = go (failing_call t.look.fails cs)
     where
       go : (o : Option Call) → failed_in (unless o (λ call. quietly (Fault call (by_me t)) taken) m).kind ≡ o
       go None = well
       go (Some call) = refl
 
-  first : (call : Call) (behind : List Call) (taken : Option FrameView) (m : Made) → FailsBy m behind → FailsBy (attempts t (call ∷ []) taken m) (call ∷ behind)
+  first : (call : Call) (behind : List Call) (taken : Option FrameView) (m : Effect) → FailsBy m behind → FailsBy (attempts t (call ∷ []) taken m) (call ∷ behind)
   first call behind taken m by = go t.look.fails by
     where
-      go : (fails : Option Call) → failed_in m.kind ≡ failing fails behind → failed_in (unless (failing fails (call ∷ [])) (λ c. quietly (Fault c (by_me t)) taken) m).kind ≡ failing fails (call ∷ behind)
+      go : (fails : Option Call) → failed_in m.kind ≡ failing_call fails behind → failed_in (unless (failing_call fails (call ∷ [])) (λ c. quietly (Fault c (by_me t)) taken) m).kind ≡ failing_call fails (call ∷ behind)
       go None by = by
       go (Some c) by = at (same_call c call)
         where
@@ -69,7 +69,7 @@ module _ (t : Turn) where
           at true = refl
           at false = by
 
-  either : (b : Bool) (m n : Made) (cs ds : List Call) → FailsBy m cs → FailsBy n ds → FailsBy (if b then m else n) (if b then cs else ds)
+  either : (b : Bool) (m n : Effect) (cs ds : List Call) → FailsBy m cs → FailsBy n ds → FailsBy (if b then m else n) (if b then cs else ds)
   either true m n cs ds a c = a
   either false m n cs ds a c = c
 
@@ -184,7 +184,7 @@ module _ (t : Turn) where
   get_by f peer (Jobs.GetsWord p start size) messages.Invalid = none
   get_by f peer ph m = none
 
-  offer_kind : (f : FrameView) (peer n : ℕ) (b : Bool) → failed_in (if b then says_to t (talk t) (Some f) peer (messages.Data (bytes_left (content_of t) n)) else wrong t f peer).kind ≡ None
+  offer_kind : (f : FrameView) (peer n : ℕ) (b : Bool) → failed_in (if b then says_to t (talk t) (Some f) peer (messages.Data (bytes_left (content_of t) n)) else wrong_message t f peer).kind ≡ None
   offer_kind f peer n true = refl
   offer_kind f peer n false = refl
 
@@ -192,7 +192,7 @@ module _ (t : Turn) where
   put_by f peer (Jobs.PutsOffer p) (messages.PutFrom n) = only (calls.Size ∷ []) (Some f) _ (offer_kind f peer n (reaches (content_of t) n))
   put_by f peer (Jobs.PutsOffer p) (messages.Error text) = go (bytes_eq text (codes "busy"))
     where
-      go : (b : Bool) → FailsBy (if b then hears t f else wrong t f peer) []
+      go : (b : Bool) → FailsBy (if b then hears t f else wrong_message t f peer) []
       go true = none
       go false = none
   put_by f peer (Jobs.PutsOffer p) messages.AlreadyHave = none
@@ -249,8 +249,8 @@ module _ (t : Turn) where
 
   -- ---- the step
 
-  abbrev MayBy : Option Made → List Call → Type 0
-  MayBy o cs = failed_of o ≡ failing t.look.fails cs
+  abbrev MayBy : Option Effect → List Call → Type 0
+  MayBy o cs = failed_of o ≡ failing_call t.look.fails cs
 
   room_by : MayBy (goes_on t) (room_calls t)
   room_by = go (list_all (has_room t) (needs t t.w.phase))
@@ -271,14 +271,14 @@ module _ (t : Turn) where
   partner_by peer false = none
   partner_by peer true = go (is_awaiting t.w.phase)
     where
-      go : (b : Bool) → MayBy (if b then awaits t peer (waiting (end_with t peer) t.look (job_end t.w peer)) else goes_on t) (if b then partner_frame_calls t peer (waiting (end_with t peer) t.look (job_end t.w peer)) else room_calls t)
-      go true = await_by peer (waiting (end_with t peer) t.look (job_end t.w peer))
+      go : (b : Bool) → MayBy (if b then awaits t peer (waiting_frame (end_with t peer) t.look (job_end t.w peer)) else goes_on t) (if b then partner_frame_calls t peer (waiting_frame (end_with t peer) t.look (job_end t.w peer)) else room_calls t)
+      go true = await_by peer (waiting_frame (end_with t peer) t.look (job_end t.w peer))
       go false = room_by
 
   pub turn_by : (o : Option ℕ) → MayBy (by_partner t o) (turn_calls t o)
   turn_by None = room_by
   turn_by (Some peer) = partner_by peer (end_with t peer).opened
 
-pub slot_by : (s : SetUp) (st : State) (k : Look) (v : Option Work) → failed_of (slot_step s st k v) ≡ failing k.fails (slot_calls s st k v)
+pub slot_by : (s : SetUp) (st : State) (k : Look) (v : Option Work) → failed_of (slot_step s st k v) ≡ failing_call k.fails (slot_calls s st k v)
 slot_by s st k None = none_failing k.fails
 slot_by s st k (Some v) = turn_by (turn_of s st k v) (partner v.what.peer v.phase)

@@ -20,7 +20,7 @@ use Rattle.node_model.specs.Jobs as Jobs
 use Rattle.node_model.specs.Jobs.{Drops, Gets, Part, Phase, Puts, Work, job_end, partner, side_of}
 use Rattle.node_model.specs.JobStep.{Turn, bar_there, end_needs, end_with, is_there, key_of, me, turn_of}
 use Rattle.node_model.specs.Knows.{enough_by, next_by}
-use Rattle.node_model.specs.Look.{Look, waiting}
+use Rattle.node_model.specs.Look.{Look, waiting_frame}
 use Rattle.node_model.specs.SetUp.{SetUp}
 use Rattle.node_model.specs.State.{State}
 use Rattle.node_model.specs.TransferStep.{next_source, sources}
@@ -198,7 +198,7 @@ module _ (t : Turn) (fails : Option Call) where
   partner_free : (peer : ℕ) (opened : Bool) → partner_calls u peer opened ≡ partner_calls t peer opened
   partner_free peer false = refl
   partner_free peer true =
-      λ i. if is_awaiting t.w.phase then partner_frame_free peer (waiting (end_with t peer) t.look (job_end t.w peer)) i else room_free i
+      λ i. if is_awaiting t.w.phase then partner_frame_free peer (waiting_frame (end_with t peer) t.look (job_end t.w peer)) i else room_free i
 
   pub turn_free : (o : Option ℕ) → turn_calls u o ≡ turn_calls t o
   turn_free None = room_free
@@ -225,8 +225,8 @@ module _ (t : Turn) (fails : Option Call) where
   partner_ready peer false = refl
   partner_ready peer true = go (is_awaiting t.w.phase)
     where
-      go : (b : Bool) → is_some (if b then awaits u peer (waiting (end_with t peer) t.look (job_end t.w peer)) else goes_on u) ≡ is_some (if b then awaits t peer (waiting (end_with t peer) t.look (job_end t.w peer)) else goes_on t)
-      go true = await_ready peer (waiting (end_with t peer) t.look (job_end t.w peer))
+      go : (b : Bool) → is_some (if b then awaits u peer (waiting_frame (end_with t peer) t.look (job_end t.w peer)) else goes_on u) ≡ is_some (if b then awaits t peer (waiting_frame (end_with t peer) t.look (job_end t.w peer)) else goes_on t)
+      go true = await_ready peer (waiting_frame (end_with t peer) t.look (job_end t.w peer))
       go false = room_ready
 
   pub turn_ready : (o : Option ℕ) → is_some (by_partner u o) ≡ is_some (by_partner t o)

@@ -26,7 +26,7 @@ use Rattle.node_model.specs.Jobs as Jobs
 use Rattle.node_model.specs.Jobs.{Drops, Gets, Part, Phase, Puts, Work, is_move, job_end, partner, side_of}
 use Rattle.node_model.specs.JobStep.{Turn, bar_there, clock_of, end_with, is_there, key_of, me, owns_share, turn_of}
 use Rattle.node_model.specs.Knows.{enough_by, next_by}
-use Rattle.node_model.specs.Look.{Look, waiting}
+use Rattle.node_model.specs.Look.{Look, waiting_frame}
 use Rattle.node_model.specs.Rows.{is_lost_ordered}
 use Rattle.node_model.specs.SetUp.{SetUp}
 use Rattle.node_model.specs.State.{State}
@@ -211,7 +211,7 @@ module _ (t : Turn) where
   partner_rises : (peer : ℕ) (opened : Bool) → RiseFrom 0 (partner_calls t peer opened)
   partner_rises peer false = tt
   partner_rises peer true =
-      let f = waiting (end_with t peer) t.look (job_end t.w peer) in
+      let f = waiting_frame (end_with t peer) t.look (job_end t.w peer) in
       either 0 (is_awaiting t.w.phase) (partner_frame_calls t peer f) (room_calls t) (partner_frame_rises peer f) room_rises
 
   turn_rises : (o : Option ℕ) → RiseFrom 0 (turn_calls t o)

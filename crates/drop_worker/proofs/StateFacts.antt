@@ -9,7 +9,7 @@ use Rattle.run_data.specs.declared.entry.FrameView.{FrameView}
 use Rattle.node_model.specs.SetUp.{SetUp}
 use Rattle.node_model.specs.Jobs as Jobs
 use Rattle.node_model.specs.Jobs.{Work, work_after}
-use Rattle.node_model.specs.Look.{Look, Made, entry_of}
+use Rattle.node_model.specs.Look.{Look, Effect, entry_of}
 use Rattle.node_model.specs.State.{State}
 use Rattle.node_model.specs.JobStep.{Turn, end_with, turn_of}
 use Rattle.node_model.specs.Knows.{Reading, reading}
@@ -29,7 +29,7 @@ use Rattle.content_lock.specs.CallsMade.{MakesCalls}
 use Rattle.drop_worker.specs.Leaving.{stands_on}
 use Rattle.drop_worker.specs.SlotCalls.{slot_calls, turn_calls}
 use Rattle.drop_worker.specs.Doing.{next_work}
-use Rattle.drop_worker.specs.Feeding.{FedAt, FindsAt, step_of}
+use Rattle.drop_worker.specs.Feeding.{FeedsFrameAt, FindsAt, step_of}
 use Rattle.drop_worker.specs.Sides.{IsNext, side_in}
 use Rattle.drop_worker.specs.Stepping.{DoesSo}
 use Rattle.drop_worker.specs.States.{IsSight, HaveState, Sees, StepsSo, rest_of}
@@ -79,7 +79,7 @@ found_step t None f waits room live = rw room refl
 found_step t (Some peer) None waits shut live = rw shut refl
 found_step t (Some peer) (Some f) waits (at, room) live = rw (live, waits, at, room) refl
 
-fed_open : (x : Sight) (t : Turn) (slot : ℕ) (o : Option ℕ) (f : Option FrameView) (taken : Taken) → x.ends ≡ t.ends → slot ≡ t.w.slot → FedAt x slot o f taken → IsOpenAt t o f
+fed_open : (x : Sight) (t : Turn) (slot : ℕ) (o : Option ℕ) (f : Option FrameView) (taken : Taken) → x.ends ≡ t.ends → slot ≡ t.w.slot → FeedsFrameAt x slot o f taken → IsOpenAt t o f
 fed_open x t slot None f taken e same fed = tt
 fed_open x t slot (Some peer) None taken e same fed = tt
 fed_open x t slot (Some peer) (Some f) taken e same fed = sym (λ i. (e i (end_in (same i) peer)).opened) ∙ fed.live
@@ -96,7 +96,7 @@ steps_so x rows rows' contents w w' taken out s st k v f sees d =
     record {
       made = (λ i. by_partner now (Jobs.partner (sym work i).what.peer (sym work i).phase))
           ∙ (found_step now o f (ap (λ (u : Work). is_awaiting u.phase) (sym work) ∙ awaiting w.phase) sees.finds (fed_open x now w.slot o f taken sees.sight.ends (ap (λ (u : Work). u.slot) work) sees.fed)
-          ∙ ap (λ (m : Made). Some m) (sym (d.makes rest ∙ ap (step_of o f) is)));
+          ∙ ap (λ (m : Effect). Some m) (sym (d.makes rest ∙ ap (step_of o f) is)));
       next = λ going. next_at (side_in w) x.read (reading s st v) (work_of rest w') (next_work turned (step_of o f turned))
           (work_after (record { present = st.present; bar = st.bar; ends = st.ends }) s.number (entry_of s.number k made) v) sees.sight.read
           (ap (next_work turned) (sym (d.makes rest)) ∙ (ap (λ (t : Turn). next_work t made) is ∙ sym (own_entry (option_is (job_of out.kind) v.number) whose))) (d.next going rest);
@@ -120,7 +120,7 @@ steps_so x rows rows' contents w w' taken out s st k v f sees d =
     work : work_of rest w ≡ v
     work = sees.sight.work
 
-    made : Made
+    made : Effect
     made = made_of x w f out
 
     whose : option_is (job_of out.kind) v.number ≡ true

@@ -31,7 +31,7 @@ use Rattle.drop_worker.specs.declared.turn.Taken.TheVariants as takens
 use Rattle.drop_worker.specs.Calling.{AreLeft, Failing, MakesEnd, MakesFed, MakesPhase, MakesSo, calls_of}
 use Rattle.content_lock.specs.CallsMade.{MakesCalls}
 use Rattle.drop_worker.specs.Doing.{Talks}
-use Rattle.drop_worker.specs.Feeding.{Fed, FedAt, FitsLocal}
+use Rattle.drop_worker.specs.Feeding.{FeedsFrame, FeedsFrameAt, FitsLocal}
 use Rattle.drop_worker.specs.Leaving.{stands_on}
 use Rattle.drop_worker.specs.Remote.{IsRemote, known_remotely}
 use Rattle.drop_worker.specs.SlotCalls.{answer_calls, bytes_calls, end_calls, frame_calls, line_calls, message_calls, order_calls, request_calls, time_calls}
@@ -113,7 +113,7 @@ module _ (x : Sight) (rows : Rows) (w : Worker) (peer : ℕ) where
       → MakesFed x rows w peer taken before before r
   quiet_makes taken before (Ok out) well none = (all_left (failed_in out.kind) before well, go)
     where
-      go : (p : List ℕ → Bool) (f : Option FrameView) → Fed x w.slot peer f taken → (rest : Rest) → MakesCalls (calls_of (Some peer) f (turn_in x rows p (failed_in out.kind) rest w)) (failed_in out.kind) before before
+      go : (p : List ℕ → Bool) (f : Option FrameView) → FeedsFrame x w.slot peer f taken → (rest : Rest) → MakesCalls (calls_of (Some peer) f (turn_in x rows p (failed_in out.kind) rest w)) (failed_in out.kind) before before
       go p None fed rest = makes_none [] (failed_in out.kind) before refl well
       go p (Some f) comes rest =
           let t = turn_in x rows p (failed_in out.kind) rest w in
@@ -133,7 +133,7 @@ module _ (x : Sight) (rows : Rows) (w : Worker) (peer : ℕ) where
       → MakesFed x rows w peer (takens.Message m) before after r
   message_makes m before after (Ok out) made still = (made.0, go)
     where
-      go : (p : List ℕ → Bool) (f : Option FrameView) → Fed x w.slot peer f (takens.Message m) → (rest : Rest) → MakesCalls (calls_of (Some peer) f (turn_in x rows p (failed_in out.kind) rest w)) (failed_in out.kind) before after
+      go : (p : List ℕ → Bool) (f : Option FrameView) → FeedsFrame x w.slot peer f (takens.Message m) → (rest : Rest) → MakesCalls (calls_of (Some peer) f (turn_in x rows p (failed_in out.kind) rest w)) (failed_in out.kind) before after
       go p None fed rest = absurd (let both : takens.Message m ≡ takens.Closed = fed.0 in cc)
       go p (Some f) comes rest =
           let t = turn_in x rows p (failed_in out.kind) rest w in
@@ -205,7 +205,7 @@ fed_makes x known rows w peer taken before after (Err e) at m = m
 fed_makes x known rows w peer taken before after (Ok out) at m = (
   m.0,
   λ c told f.
-      subst (λ (o : Option ℕ). FedAt x w.slot o f taken → (rest : Rest) → MakesCalls (calls_of o f (turn_in x rows (present_in c) (failed_in out.kind) rest w)) (failed_in out.kind) before after) (sym at) (λ fed rest. m.1 (present_in c) f fed rest),
+      subst (λ (o : Option ℕ). FeedsFrameAt x w.slot o f taken → (rest : Rest) → MakesCalls (calls_of o f (turn_in x rows (present_in c) (failed_in out.kind) rest w)) (failed_in out.kind) before after) (sym at) (λ fed rest. m.1 (present_in c) f fed rest),
 )
 
 -- or on none
@@ -215,7 +215,7 @@ phase_makes x known rows w taken before after (Err e) at m = m
 phase_makes x known rows w taken before after (Ok out) at m = (
   m.0,
   λ c told f.
-      subst (λ (o : Option ℕ). FedAt x w.slot o f taken → (rest : Rest) → MakesCalls (calls_of o f (turn_in x rows (present_in c) (failed_in out.kind) rest w)) (failed_in out.kind) before after) (sym at) (λ fed rest. m.1 c told rest),
+      subst (λ (o : Option ℕ). FeedsFrameAt x w.slot o f taken → (rest : Rest) → MakesCalls (calls_of o f (turn_in x rows (present_in c) (failed_in out.kind) rest w)) (failed_in out.kind) before after) (sym at) (λ fed rest. m.1 c told rest),
 )
 
 -- no local drop awaits a time

@@ -13,8 +13,8 @@ use Rattle.p2p_wire.specs.Messages.{message_of, text_of}
 use Rattle.node_model.specs.Ends.{frames}
 use Rattle.node_model.specs.Jobs
 use Rattle.node_model.specs.Jobs.{Drops, Part, Work, claims, closed_part, drop_side, job_end, learns, partner, says, side_of, taken_message, talks_on, after_frame, after_line}
-use Rattle.node_model.specs.JobStep.{Turn, end_with, hears, me, says_to, talk, wrong}
-use Rattle.node_model.specs.Look.{Made, entry_of}
+use Rattle.node_model.specs.JobStep.{Turn, end_with, hears, me, says_to, talk, wrong_message}
+use Rattle.node_model.specs.Look.{Effect, entry_of}
 use Rattle.node_model.specs.Turns.{takes, takes_frame}
 use Rattle.content_lock.specs.Rows.{Rows}
 use Rattle.drop_worker.specs.declared.phase.Heard.{Heard}
@@ -58,13 +58,13 @@ took_was w body = after_frame w body
 -- n is the version that the work has learnt, or had
 module _ (t : Turn) (f : FrameView) (peer : ℕ) (took : Message) (n : ℕ) (drops : t.w.part ≡ Drops) (learn : learns t.w t.w.phase (Some f) ≡ record t.w { version = n }) (with_peer : partner t.w.what.peer t.w.phase ≡ Some peer)
     (l : Lined f.body took) (live : (end_with t peer).opened ≡ true) where
-  abbrev at_work : Made → Jobs.RowsAndEnds → Work
+  abbrev at_work : Effect → Jobs.RowsAndEnds → Work
   at_work m rows = talks_on rows (me t) (learns (claims t.w t.w.part t.w.phase) t.w.phase (Some f)) (entry_of (me t) t.look m) (partner t.w.what.peer t.w.phase)
 
   abbrev now_work : Work
   now_work = record t.w { version = n }
 
-  here : (m : Made) (rows : Jobs.RowsAndEnds) → at_work m rows ≡ talks_on rows (me t) now_work (entry_of (me t) t.look m) (Some peer)
+  here : (m : Effect) (rows : Jobs.RowsAndEnds) → at_work m rows ≡ talks_on rows (me t) now_work (entry_of (me t) t.look m) (Some peer)
   here m rows = λ i. talks_on rows (me t) ((ap (λ (part : Part). learns (claims t.w part t.w.phase) t.w.phase (Some f)) drops ∙ learn) i) (entry_of (me t) t.look m) (with_peer i)
 
   told : taken_message (Some f) ≡ Some took
@@ -83,10 +83,10 @@ module _ (t : Turn) (f : FrameView) (peer : ℕ) (took : Message) (n : ℕ) (dro
       ∙ (on_said rows (me t) now_work (entry_of (me t) t.look (says_to t (talk t) (Some f) peer m)) peer m refl (open_line (job_end t.w peer) (end_with t peer) f l.text l.is live) reads
       ∙ ap (λ (o : Option Message). says now_work t.look.time peer o m) told)
 
-  pub moved_shut : next_work t (wrong t f peer) ≡ closed_part (me t) now_work peer Drops
+  pub moved_shut : next_work t (wrong_message t f peer) ≡ closed_part (me t) now_work peer Drops
   moved_shut =
       let rows : Jobs.RowsAndEnds = record { present = t.present; bar = t.bar; ends = t.ends } in
-      here (wrong t f peer) rows ∙ (on_shut rows (me t) now_work (entry_of (me t) t.look (wrong t f peer)) peer refl ∙ ap (closed_part (me t) now_work peer) drops)
+      here (wrong_message t f peer) rows ∙ (on_shut rows (me t) now_work (entry_of (me t) t.look (wrong_message t f peer)) peer refl ∙ ap (closed_part (me t) now_work peer) drops)
 
 -- the local drop's target is itself
 pub closed_local : (r : ℕ) (w : Work) (peer : ℕ) → side_of w ≡ Local → (r == peer) ≡ false → closed_part r w peer Drops ≡ Jobs.hears w peer (Jobs.Lacks causes.Closed)
@@ -94,7 +94,7 @@ closed_local r w peer local apart = rw (local, apart) refl
 
 -- ---- a step that changes no row
 
-pub talk_does : (x : Sight) (rows : Rows) (p : List ℕ → Bool) (w w' : Worker) (taken : Option FrameView) (asked : Turn → Made) (items : List Parcel) (out : Output) → out.kind ≡ Talk (Some w.number)
+pub talk_does : (x : Sight) (rows : Rows) (p : List ℕ → Bool) (w w' : Worker) (taken : Option FrameView) (asked : Turn → Effect) (items : List Parcel) (out : Output) → out.kind ≡ Talk (Some w.number)
     → out.sends.items ≡ items
     → ((rest : Rest) → record { kind = Talk (Some w.number); taken = taken; sent = frames_of x.ends w.slot items; lines = [] } ≡ asked (turn_in x rows p None rest w))
     → ((rest : Rest) → work_of rest w' ≡ next_work (turn_in x rows p None rest w) (asked (turn_in x rows p None rest w))) → DoesAsAsked x rows rows p w w' taken asked out
@@ -122,7 +122,7 @@ module _ (x : Sight) (rows : Rows) (p : List ℕ → Bool) (w w' : Worker) (f : 
   abbrev turn : Rest → Turn
   turn rest = turn_in x rows p None rest w
 
-  abbrev asked : Turn → Made
+  abbrev asked : Turn → Effect
   asked t = takes_frame t peer f f.body
 
   line : Lined f.body took
@@ -139,9 +139,9 @@ module _ (x : Sight) (rows : Rows) (p : List ℕ → Bool) (w w' : Worker) (f : 
 
   pub shut_does : drop_side w.job.kind w.job.peer ≡ Local → out.sends.items ≡ record { peer = peer; body = bodies.Close } ∷ []
       → w' ≡ record w { heard = (peer, heards.Lacks causes.Closed) ∷ w.heard; phase = phases.Next; version = n }
-      → ((rest : Rest) → wrong (turn rest) f peer ≡ takes (turn rest) f peer (phase_as w.phase) took) → DoesAsAsked x rows rows p w w' (Some f) (λ t. takes_frame t peer f f.body) out
+      → ((rest : Rest) → wrong_message (turn rest) f peer ≡ takes (turn rest) f peer (phase_as w.phase) took) → DoesAsAsked x rows rows p w w' (Some f) (λ t. takes_frame t peer f f.body) out
   shut_does local sends next makes =
-      let is : (rest : Rest) → wrong (turn rest) f peer ≡ asked (turn rest) = λ rest. makes rest ∙ line_takes (turn rest) f peer took line in
+      let is : (rest : Rest) → wrong_message (turn rest) f peer ≡ asked (turn rest) = λ rest. makes rest ∙ line_takes (turn rest) f peer took line in
       talk_does x rows p w w' (Some f) asked _ out kind sends
       (λ rest. (λ i. record { kind = Talk (Some w.number); taken = Some f; sent = close_parcel x w.slot peer i; lines = [] }) ∙ is rest)
       (λ rest. ap (work_of rest) next ∙ (sym (closed_local x.read.repo (record (work_of rest w) { version = n }) peer local comes.apart)

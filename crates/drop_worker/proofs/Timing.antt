@@ -16,7 +16,7 @@ use Rattle.p2p_wire.specs.Messages.{message_of, text_of}
 use Rattle.node_model.specs.Ends.{End, EndName}
 use Rattle.node_model.specs.Jobs as Jobs
 use Rattle.node_model.specs.Jobs.{Work, learns, partner, says, to_phase}
-use Rattle.node_model.specs.JobStep.{Turn, ends, says_to, wrong}
+use Rattle.node_model.specs.JobStep.{Turn, ends, says_to, wrong_message}
 use Rattle.node_model.specs.DropStep.{first_end, orders, takes_time, target as target_at, times}
 use Rattle.node_model.specs.Knows.{Reading}
 use Rattle.node_model.specs.Turns.{takes, takes_frame}
@@ -59,7 +59,7 @@ told_time t f peer now e = rw e refl
 
 -- a time that no node tells
 pub no_time : (x : Sight) (rows : Rows) (p : List ℕ → Bool) (rest : Rest) (w : Worker) (f : FrameView) (target now : ℕ) → IsRemote target w → w.phase ≡ phases.AsksTime → 2 ^ 61 ≤ now
-    → wrong (turn_in x rows p None rest w) f target ≡ takes (turn_in x rows p None rest w) f target (phase_as w.phase) (Timestamp now)
+    → wrong_message (turn_in x rows p None rest w) f target ≡ takes (turn_in x rows p None rest w) f target (phase_as w.phase) (Timestamp now)
 no_time x rows p rest w f target now remote at big =
     let e : nat_lt now (2 ^ 61) ≡ false = grind (arith, nat_tests) in
     sym (ap (λ (ph : Phase). takes (turn_in x rows p None rest w) f target (phase_as ph) (Timestamp now)) at ∙ rw (remote.side, e) refl)

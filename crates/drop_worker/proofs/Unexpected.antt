@@ -4,11 +4,11 @@ use Rattle.run_data.specs.declared.entry.FrameView.{FrameView}
 use Rattle.p2p_wire.specs.declared.message.Message.{Message}
 use Rattle.p2p_wire.specs.declared.message.Message.TheVariants as messages
 use Rattle.node_model.specs.Jobs.{AsksLock, AsksLook, Drops, Greets, Opens}
-use Rattle.node_model.specs.JobStep.{Turn, wrong}
+use Rattle.node_model.specs.JobStep.{Turn, wrong_message}
 use Rattle.node_model.specs.DropStep.{takes_drop}
 use Rattle.node_model.specs.Turns.{takes}
 
-pub lock_else : (t : Turn) (f : FrameView) (peer p since : ℕ) (m : Message) → (m ≡ messages.Success → ⊥) → (m ≡ messages.Failure → ⊥) → takes_drop t f peer (AsksLock p since) m ≡ wrong t f peer
+pub lock_else : (t : Turn) (f : FrameView) (peer p since : ℕ) (m : Message) → (m ≡ messages.Success → ⊥) → (m ≡ messages.Failure → ⊥) → takes_drop t f peer (AsksLock p since) m ≡ wrong_message t f peer
 lock_else t f peer p since (messages.AuthSuccess id) a b = refl
 lock_else t f peer p since (messages.Version n) a b = refl
 lock_else t f peer p since (messages.CheckPresent k) a b = refl
@@ -29,7 +29,7 @@ lock_else t f peer p since messages.Success a b = absurd (a refl)
 lock_else t f peer p since messages.Failure a b = absurd (b refl)
 lock_else t f peer p since (messages.Error text) a b = refl
 
-pub look_else : (t : Turn) (f : FrameView) (peer p : ℕ) (m : Message) → (m ≡ messages.Success → ⊥) → (m ≡ messages.Failure → ⊥) → takes_drop t f peer (AsksLook p) m ≡ wrong t f peer
+pub look_else : (t : Turn) (f : FrameView) (peer p : ℕ) (m : Message) → (m ≡ messages.Success → ⊥) → (m ≡ messages.Failure → ⊥) → takes_drop t f peer (AsksLook p) m ≡ wrong_message t f peer
 look_else t f peer p (messages.AuthSuccess id) a b = refl
 look_else t f peer p (messages.Version n) a b = refl
 look_else t f peer p (messages.CheckPresent k) a b = refl
@@ -50,7 +50,7 @@ look_else t f peer p messages.Success a b = absurd (a refl)
 look_else t f peer p messages.Failure a b = absurd (b refl)
 look_else t f peer p (messages.Error text) a b = refl
 
-pub opens_else : (t : Turn) (f : FrameView) (peer p : ℕ) (m : Message) → t.w.part ≡ Drops → ((x : List ℕ) → m ≡ messages.AuthSuccess x → ⊥) → takes t f peer (Opens p) m ≡ wrong t f peer
+pub opens_else : (t : Turn) (f : FrameView) (peer p : ℕ) (m : Message) → t.w.part ≡ Drops → ((x : List ℕ) → m ≡ messages.AuthSuccess x → ⊥) → takes t f peer (Opens p) m ≡ wrong_message t f peer
 opens_else t f peer p (messages.AuthSuccess id) e b = absurd (b id refl)
 opens_else t f peer p (messages.Version n) e b = rw e refl
 opens_else t f peer p (messages.CheckPresent k) e b = rw e refl
@@ -71,7 +71,7 @@ opens_else t f peer p messages.Success e b = rw e refl
 opens_else t f peer p messages.Failure e b = rw e refl
 opens_else t f peer p (messages.Error text) e b = rw e refl
 
-pub greets_else : (t : Turn) (f : FrameView) (peer p : ℕ) (m : Message) → t.w.part ≡ Drops → ((x : ℕ) → m ≡ messages.Version x → ⊥) → takes t f peer (Greets p) m ≡ wrong t f peer
+pub greets_else : (t : Turn) (f : FrameView) (peer p : ℕ) (m : Message) → t.w.part ≡ Drops → ((x : ℕ) → m ≡ messages.Version x → ⊥) → takes t f peer (Greets p) m ≡ wrong_message t f peer
 greets_else t f peer p (messages.AuthSuccess id) e b = rw e refl
 greets_else t f peer p (messages.Version n) e b = absurd (b n refl)
 greets_else t f peer p (messages.CheckPresent k) e b = rw e refl

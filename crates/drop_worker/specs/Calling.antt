@@ -22,7 +22,7 @@ use Rattle.drop_worker.specs.declared.judging.Verdict.TheVariants as verdicts
 use Rattle.drop_worker.specs.declared.turn.Output.{Output}
 use Rattle.drop_worker.specs.declared.turn.Taken.{Taken}
 use Rattle.content_lock.specs.CallsMade.{MakesCalls, fewer}
-use Rattle.drop_worker.specs.Feeding.{Fed, FedAt}
+use Rattle.drop_worker.specs.Feeding.{FeedsFrame, FeedsFrameAt}
 use Rattle.drop_worker.specs.Leaving.{stands_on}
 use Rattle.drop_worker.specs.SlotCalls.{end_calls, frame_calls, opening_calls, phase_calls}
 use Rattle.drop_worker.specs.Worker.{Worker}
@@ -55,14 +55,14 @@ calls_of (Some peer) (Some f) t = frame_calls t f.body
 -- those of a step that is told of what came from this peer
 abbrev pub MakesFed : Sight → Rows → Worker → ℕ → Taken → Failing → Failing → Result Output NoMemory → Type 0
 MakesFed x rows w peer taken before after (Ok out) =
-    AreLeft (failed_in out.kind) before after × ((p : List ℕ → Bool) (f : Option FrameView) → Fed x w.slot peer f taken
+    AreLeft (failed_in out.kind) before after × ((p : List ℕ → Bool) (f : Option FrameView) → FeedsFrame x w.slot peer f taken
     → (rest : Rest) → MakesCalls (calls_of (Some peer) f (turn_in x rows p (failed_in out.kind) rest w)) (failed_in out.kind) before after)
 MakesFed x rows w peer taken before after (Err e) = after ≡ before
 
 -- those of a step that is told of its frame, or of none
 abbrev pub MakesSo : Sight → Option Contents → Rows → Worker → Taken → Failing → Failing → Result Output NoMemory → Type 0
 MakesSo x known rows w taken before after (Ok out) =
-    AreLeft (failed_in out.kind) before after × ForSome known (λ c. (f : Option FrameView) → FedAt x w.slot (stands_on w) f taken
+    AreLeft (failed_in out.kind) before after × ForSome known (λ c. (f : Option FrameView) → FeedsFrameAt x w.slot (stands_on w) f taken
     → (rest : Rest) → MakesCalls (calls_of (stands_on w) f (turn_in x rows (present_in c) (failed_in out.kind) rest w)) (failed_in out.kind) before after)
 MakesSo x known rows w taken before after (Err e) = after ≡ before
 

@@ -5,7 +5,7 @@ use Rattle.run_data.specs.declared.entry.FrameView.{FrameView}
 use Rattle.node_model.specs.Rows.{option_is}
 use Rattle.node_model.specs.Slots.{job_of}
 use Rattle.node_model.specs.Jobs.{Work, work_kind}
-use Rattle.node_model.specs.Look.{Made, entry_of}
+use Rattle.node_model.specs.Look.{Effect, entry_of}
 use Rattle.node_model.specs.JobStep.{Turn, attempts, by_me, key_of, me, quietly}
 use Rattle.p2p_wire.specs.declared.message.Message.TheVariants.{CheckPresent, LockContent, UnlockContent, Version}
 use Rattle.p2p_wire.specs.Streams.{IsLine}
@@ -35,19 +35,19 @@ use Rattle.drop_worker.specs.Worker.{Worker}
 use Rattle.drop_worker.specs.Working.{Rest, Sight, end_in, failed_in, taken_of, made_of, sight, turn_in, work_of}
 
 -- the work after the entry that a turn makes
-abbrev pub next_work : Turn → Made → Work
+abbrev pub next_work : Turn → Effect → Work
 next_work t m = work_kind (record { present = t.present; bar = t.bar; ends = t.ends }) (me t) t.w (entry_of (me t) t.look m) m.kind
 
 -- a step over rows, where these contents are there: it makes what is asked, its entry changes the rows, and the work that follows
 -- is the next one
-pub record DoesAsAsked (x : Sight) (rows rows' : Rows) (present : List ℕ → Bool) (w w' : Worker) (taken : Option FrameView) (asked : Turn → Made) (out : Output) : Type 0 where
+pub record DoesAsAsked (x : Sight) (rows rows' : Rows) (present : List ℕ → Bool) (w w' : Worker) (taken : Option FrameView) (asked : Turn → Effect) (out : Output) : Type 0 where
   pub makes : (rest : Rest) → made_of x w taken out ≡ asked (turn_in x rows present (failed_in out.kind) rest w)
   pub next : out.ended ≡ false → (rest : Rest) → work_of rest w' ≡ next_work (turn_in x rows present (failed_in out.kind) rest w) (asked (turn_in x rows present (failed_in out.kind) rest w))
   pub after : AreAfter out.kind rows rows'
   pub whose : job_of out.kind ≡ Some w.number
 
 -- a step that takes no frame does what is asked, at this time
-abbrev pub Acts : Reading → (EndName → EndState) → ℕ → Rows → Rows → Worker → Worker → (Turn → Made) → Output → Type 0
+abbrev pub Acts : Reading → (EndName → EndState) → ℕ → Rows → Rows → Worker → Worker → (Turn → Effect) → Output → Type 0
 Acts read ends time rows rows' w w' asked out = (number : ℕ) (p : List ℕ → Bool) → DoesAsAsked (sight read ends time number) rows rows' p w w' None asked out
 
 -- the contents after an entry of a drop
@@ -141,5 +141,5 @@ IsBar (tokens.Bar bar) = Unit {0}
 IsBar token = ⊥
 
 -- a removal in time
-abbrev pub removes_now : Turn → Made
+abbrev pub removes_now : Turn → Effect
 removes_now t = attempts t (calls.Remove ∷ []) None (quietly (Gone (by_me t) (key_of t)) None)

@@ -2,7 +2,7 @@
 use Rattle.std.specs.Prelude.{◌≡◌, ℕ, Bool, true, false, ◌==◌, List, ◌∷◌, Option, Some, None}
 use Rattle.std.specs.List.{list_all}
 use Rattle.run_data.specs.declared.entry.FrameView.{FrameView}
-use Rattle.node_model.specs.Look.{Made, waiting}
+use Rattle.node_model.specs.Look.{Effect, waiting_frame}
 use Rattle.node_model.specs.Jobs.{job_end}
 use Rattle.node_model.specs.JobStep.{Turn, end_with, quietly, talk}
 use Rattle.node_model.specs.Turns.{goes, has_room, needs, takes_frame}
@@ -68,20 +68,20 @@ FitsRemote phase token = HasNoBar token
 -- ---- frames
 
 -- the step of a turn whose job stands on the connection with this peer, or on none, and takes this frame, or none
-abbrev pub step_of : Option ℕ → Option FrameView → Turn → Made
+abbrev pub step_of : Option ℕ → Option FrameView → Turn → Effect
 step_of None f t = goes t t.w.phase
 step_of (Some peer) None t = quietly (talk t) None
 step_of (Some peer) (Some f) t = takes_frame t peer f f.body
 
 -- the worker is told of the frame that it takes from this peer, or that the connection was closed here
-abbrev pub Fed : Sight → ℕ → ℕ → Option FrameView → Taken → Type 0
-Fed x slot peer (Some f) taken = Comes x slot peer f taken
-Fed x slot peer None taken = (taken ≡ takens.Closed) × ((x.read.repo == peer) ≡ false) × ((x.ends (end_in slot peer)).opened ≡ false)
+abbrev pub FeedsFrame : Sight → ℕ → ℕ → Option FrameView → Taken → Type 0
+FeedsFrame x slot peer (Some f) taken = Comes x slot peer f taken
+FeedsFrame x slot peer None taken = (taken ≡ takens.Closed) × ((x.read.repo == peer) ≡ false) × ((x.ends (end_in slot peer)).opened ≡ false)
 
 -- the step does what the definitions do with what it is told
 abbrev pub TakesFed : ℕ → ℕ → Taken → Worker → Worker → Output → Type 0
 TakesFed time peer taken w w' out =
-    (x : Sight) (rows : Rows) (p : List ℕ → Bool) (f : Option FrameView) → x.time ≡ time → Fed x w.slot peer f taken → DoesAsAsked x rows rows p w w' f (step_of (Some peer) f) out
+    (x : Sight) (rows : Rows) (p : List ℕ → Bool) (f : Option FrameView) → x.time ≡ time → FeedsFrame x w.slot peer f taken → DoesAsAsked x rows rows p w w' f (step_of (Some peer) f) out
 
 -- the word beside a refused look is kept
 abbrev pub KeepsWord : Taken → Option Word → Worker → Worker → Type 0
@@ -112,9 +112,9 @@ FindsClosed peer w w' out =
     (x : Sight) (rows : Rows) (p : List ℕ → Bool) → (x.read.repo == peer) ≡ false → (x.ends (end_in w.slot peer)).opened ≡ false → DoesAsAsked x rows rows p w w' None (λ t. quietly (talk t) None) out
 
 -- the same of a job that stands on a connection, or on none
-abbrev pub FedAt : Sight → ℕ → Option ℕ → Option FrameView → Taken → Type 0
-FedAt x slot None f taken = (taken ≡ takens.Nothing) × (f ≡ None)
-FedAt x slot (Some peer) f taken = Fed x slot peer f taken
+abbrev pub FeedsFrameAt : Sight → ℕ → Option ℕ → Option FrameView → Taken → Type 0
+FeedsFrameAt x slot None f taken = (taken ≡ takens.Nothing) × (f ≡ None)
+FeedsFrameAt x slot (Some peer) f taken = FeedsFrame x slot peer f taken
 
 -- a frame is told where a job stands on a connection, and only there
 abbrev pub ToldAt : Option ℕ → Taken → Type 0
@@ -125,4 +125,4 @@ ToldAt (Some peer) taken = taken ≡ takens.Nothing → ⊥
 abbrev pub FindsAt : Turn → Option ℕ → Option FrameView → Type 0
 FindsAt t None f = list_all (has_room t) (needs t t.w.phase) ≡ true
 FindsAt t (Some peer) None = (end_with t peer).opened ≡ false
-FindsAt t (Some peer) (Some f) = (waiting (end_with t peer) t.look (job_end t.w peer) ≡ Some f) × (has_room t peer ≡ true)
+FindsAt t (Some peer) (Some f) = (waiting_frame (end_with t peer) t.look (job_end t.w peer) ≡ Some f) × (has_room t peer ≡ true)

@@ -7,7 +7,7 @@ use Rattle.drop_proof.specs.declared.rule.Side.{Side}
 use Rattle.node_model.specs.Evidence.{Offer, Gives, Fails, but, gather, is_locked, is_recent, is_trusted, reached_candidates}
 use Rattle.node_model.specs.Knows.{Reading, cause_by, is_unasked, offer_by}
 use Rattle.drop_proof.specs.declared.evidence.Kind.TheVariants.{Locked, Recent}
-use Rattle.node_model.specs.Look.{Made}
+use Rattle.node_model.specs.Look.{Effect}
 use Rattle.node_model.specs.Ends.{End, EndName}
 use Rattle.node_model.specs.JobStep.{Turn, ends, is_held, locked_peers}
 use Rattle.node_model.specs.DropStep.{lacking_outcome}
@@ -52,7 +52,7 @@ offer_heard clock (Some heards.Seen) = Gives Recent
 offer_heard clock _ = Fails
 
 -- the step of a local drop by its judgement
-abbrev pub step_by : Verdict → Turn → Made
+abbrev pub step_by : Verdict → Turn → Effect
 step_by (verdicts.Asks peer) t = goes_to t peer
 step_by verdicts.Removes t = removes_now t
 step_by (verdicts.Late end clock) t = ends t None (Refused (refusals.Expired end clock))

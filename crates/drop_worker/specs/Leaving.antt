@@ -15,7 +15,7 @@ use Rattle.object_store.specs.Stores.{Contents}
 use Rattle.object_store.specs.declared.keeper.HoldRecord.{HoldRecord}
 use Rattle.node_model.specs.Jobs.{partner}
 use Rattle.node_model.specs.JobStep.{Turn}
-use Rattle.node_model.specs.Look.{Made}
+use Rattle.node_model.specs.Look.{Effect}
 use Rattle.node_model.specs.Turns.{goes}
 use Rattle.content_lock.specs.Rows.{AreAfter, Rows}
 use Rattle.content_lock.specs.declared.refusals.BarRefused.{BarRefused}
@@ -28,7 +28,7 @@ use Rattle.drop_worker.specs.declared.turn.Taken.{Taken}
 use Rattle.drop_worker.specs.Worker.{Worker}
 use Rattle.drop_worker.specs.Working.{Sight, failed_in, phase_as, present_in}
 use Rattle.drop_worker.specs.Doing.{DoesAsAsked, Grows, HasToken, OthersStay, contents_after}
-use Rattle.drop_worker.specs.Feeding.{FedAt, FitsLocal, KeepsWord, step_of}
+use Rattle.drop_worker.specs.Feeding.{FeedsFrameAt, FitsLocal, KeepsWord, step_of}
 
 -- what a store tells of itself
 pub record Store : Type 0 where
@@ -68,7 +68,7 @@ Did rows rows' k k' w w' does (Ok out) = does out × Leaves rows rows' k k' w w'
 Did rows rows' k k' w w' does (Err e) = Stays rows rows' k k' w w'
 
 -- a step that takes no frame makes what is asked, where the store tells its contents
-abbrev pub ActsOver : Sight → Option Contents → Rows → Rows → Worker → Worker → (Turn → Made) → Output → Type 0
+abbrev pub ActsOver : Sight → Option Contents → Rows → Rows → Worker → Worker → (Turn → Effect) → Output → Type 0
 ActsOver x known rows rows' w w' asked out = ForSome known (λ c. DoesAsAsked x rows rows' (present_in c) w w' None asked out)
 
 -- a step goes on from where the job stands
@@ -82,7 +82,7 @@ stands_on w = partner w.job.peer (phase_as w.phase)
 -- a step does what the definitions do with what it is told, and keeps the word beside a refused look
 pub record Advances (x : Sight) (known : Option Contents) (rows rows' : Rows) (w w' : Worker) (taken : Taken) (word : Option Word) (out : Output) : Type 0 where
   pub told : KeepsWord taken word w w'
-  pub does : ForSome known (λ c. (f : Option FrameView) → FedAt x w.slot (stands_on w) f taken → DoesAsAsked x rows rows' (present_in c) w w' f (step_of (stands_on w) f) out)
+  pub does : ForSome known (λ c. (f : Option FrameView) → FeedsFrameAt x w.slot (stands_on w) f taken → DoesAsAsked x rows rows' (present_in c) w w' f (step_of (stands_on w) f) out)
 
 -- ---- a bar that was refused
 
@@ -98,9 +98,9 @@ pub record Fails (w w' : Worker) (out : Output) : Type 0 where
   pub next : w' ≡ record w { phase = phases.Ends endings.StoreFault }
 
 -- what follows a bar that wasn't put
-abbrev pub Unbarred : BarRefused → Worker → Worker → SendsView → Result Output NoMemory → Type 0
-Unbarred bars.Absent w w' sends r = IsRefusal refusals.NotPresent w w' sends r
-Unbarred (bars.Barred job) w w' sends r = IsRefusal (refusals.Barred job) w w' sends r
-Unbarred (bars.Held hold until) w w' sends r = IsRefusal (refusals.Held until) w w' sends r
-Unbarred bars.StoreFault w w' sends r = IfOk r (Fails w w') × OnErr r ⊥
-Unbarred bars.NoMemory w w' sends r = IfOk r (λ out. ⊥) × (w' ≡ w)
+abbrev pub FollowsBarRefused : BarRefused → Worker → Worker → SendsView → Result Output NoMemory → Type 0
+FollowsBarRefused bars.Absent w w' sends r = IsRefusal refusals.NotPresent w w' sends r
+FollowsBarRefused (bars.Barred job) w w' sends r = IsRefusal (refusals.Barred job) w w' sends r
+FollowsBarRefused (bars.Held hold until) w w' sends r = IsRefusal (refusals.Held until) w w' sends r
+FollowsBarRefused bars.StoreFault w w' sends r = IfOk r (Fails w w') × OnErr r ⊥
+FollowsBarRefused bars.NoMemory w w' sends r = IfOk r (λ out. ⊥) × (w' ≡ w)

@@ -25,7 +25,7 @@ use Rattle.node_model.specs.Evidence.{but}
 use Rattle.node_model.specs.Jobs.{drop_side}
 use Rattle.node_model.specs.JobStep.{Turn, ends}
 use Rattle.node_model.specs.Knows.{Reading}
-use Rattle.node_model.specs.Look.{Made}
+use Rattle.node_model.specs.Look.{Effect}
 use Rattle.node_model.specs.Slots.{job_of}
 use Rattle.node_model.specs.Turns.{goes}
 use Rattle.content_lock.specs.Rows.{AreAfter, Rows}
@@ -45,7 +45,7 @@ use Rattle.drop_worker.specs.Worker.{Worker}
 use Rattle.drop_worker.specs.Working.{Rest, Sight, end_in, failed_in, made_of, present_in, sight, turn_in, work_of}
 use Rattle.drop_worker.specs.Doing.{DoesAsAsked, Grows, HasToken, OthersStay, contents_after, next_work}
 use Rattle.drop_worker.specs.Alike.{Alike}
-use Rattle.drop_worker.specs.Feeding.{Fed, FitsRemote, HasNoBar, step_of}
+use Rattle.drop_worker.specs.Feeding.{FeedsFrame, FitsRemote, HasNoBar, step_of}
 use Rattle.drop_worker.specs.Judging.{evidence_of, is_owing, others_in}
 use Rattle.drop_worker.specs.Leaving.{Store, Stays}
 
@@ -117,7 +117,7 @@ pub record Says (q : Request) (peer : ℕ) (w w' : Worker) (out : Output) : Type
   pub next : w' ≡ record w { phase = q.phase }
 
 -- what a remote drop says are lines of the protocol, which are read as they were said
-pub record ReadsAll (key : List ℕ) : Type 0 where
+pub record AreRemoteProtocolLines (key : List ℕ) : Type 0 where
   pub version : IsLine (Version 3)
   pub lock : IsLine (LockContent key)
   pub look : IsLine (CheckPresent key)
@@ -163,7 +163,7 @@ EndsSo read ends_at time rows rows' w w' outcome out =
     (number : ℕ) (p : List ℕ → Bool) (taken : Option FrameView) → DoesAsAsked (sight read ends_at time number) rows rows' p w w' taken (λ t. ends t taken outcome) out
 
 -- a step does what is asked, and the job's work after it is alike the worker
-pub record DoesAlike (x : Sight) (rows rows' : Rows) (present : List ℕ → Bool) (w w' : Worker) (taken : Option FrameView) (asked : Turn → Made) (out : Output) : Type 0 where
+pub record DoesAlike (x : Sight) (rows rows' : Rows) (present : List ℕ → Bool) (w w' : Worker) (taken : Option FrameView) (asked : Turn → Effect) (out : Output) : Type 0 where
   pub makes : (rest : Rest) → made_of x w taken out ≡ asked (turn_in x rows present (failed_in out.kind) rest w)
   pub next : out.ended ≡ false → (rest : Rest) → Alike x.read (work_of rest w') (next_work (turn_in x rows present (failed_in out.kind) rest w) (asked (turn_in x rows present (failed_in out.kind) rest w)))
   pub after : AreAfter out.kind rows rows'
@@ -196,7 +196,7 @@ GoesAlike x known rows rows' w w' out = ForSome known (λ c. DoesAlike x rows ro
 -- a step does what the definitions do with what it is told at its partner's end
 abbrev pub TakesRemote : Reading → (EndName → End) → ℕ → Rows → Rows → ℕ → Taken → Worker → Worker → Output → Type 0
 TakesRemote read ends_at time rows rows' peer taken w w' out =
-    (number : ℕ) (p : List ℕ → Bool) (f : Option FrameView) → Fed (sight read ends_at time number) w.slot peer f taken
+    (number : ℕ) (p : List ℕ → Bool) (f : Option FrameView) → FeedsFrame (sight read ends_at time number) w.slot peer f taken
     → DoesAsAsked (sight read ends_at time number) rows rows' p w w' f (step_of (Some peer) f) out
 
 -- the job is to end
@@ -217,11 +217,11 @@ pub record GivesNone (kind : EntryKind) (cause : Cause) (w w' : Worker) (out : O
   pub next : (peer : ℕ) (before : Heard) (rest : List (ℕ × Heard)) → w.heard ≡ (peer, before) ∷ rest → w' ≡ record w { heard = (peer, heards.Lacks cause) ∷ rest }
 
 -- what follows a share that was refused, of a worker that heard last of its own repository
-abbrev pub Unshared : ShareRefused → Worker → Worker → Result Output NoMemory → Type 0
-Unshared shares.Absent w w' r = IfOk r (GivesNone (Talk (Some w.number)) causes.Absent w w') × OnErr r ⊥
-Unshared (shares.Barred job) w w' r = IfOk r (GivesNone (Talk (Some w.number)) causes.Barred w w') × OnErr r ⊥
-Unshared (shares.StoreFault call) w w' r = IfOk r (GivesNone (Fault call (by_job w.number)) causes.Fault w w') × OnErr r ⊥
-Unshared shares.NoMemory w w' r = IfOk r (λ out. ⊥) × ((x : ℕ × Heard) (rest : List (ℕ × Heard)) → w.heard ≡ x ∷ rest → w' ≡ record w { heard = rest; phase = phases.Fresh })
+abbrev pub FollowsShareRefused : ShareRefused → Worker → Worker → Result Output NoMemory → Type 0
+FollowsShareRefused shares.Absent w w' r = IfOk r (GivesNone (Talk (Some w.number)) causes.Absent w w') × OnErr r ⊥
+FollowsShareRefused (shares.Barred job) w w' r = IfOk r (GivesNone (Talk (Some w.number)) causes.Barred w w') × OnErr r ⊥
+FollowsShareRefused (shares.StoreFault call) w w' r = IfOk r (GivesNone (Fault call (by_job w.number)) causes.Fault w w') × OnErr r ⊥
+FollowsShareRefused shares.NoMemory w w' r = IfOk r (λ out. ⊥) × ((x : ℕ × Heard) (rest : List (ℕ × Heard)) → w.heard ≡ x ∷ rest → w' ≡ record w { heard = rest; phase = phases.Fresh })
 
 -- where the job stands after its own share couldn't be released at this time
 abbrev pub unreleased_phase : ℕ → Phase → Phase
@@ -229,7 +229,7 @@ unreleased_phase time phases.AsksTime = phases.Late time
 unreleased_phase time phase = phase
 
 -- the share couldn't be released: the job ends next, as it would have
-pub record Unreleased (time : ℕ) (w w' : Worker) (out : Output) : Type 0 where
+pub record FailsToRelease (time : ℕ) (w w' : Worker) (out : Output) : Type 0 where
   pub kind : out.kind ≡ Fault calls.Unhold (by_job w.number)
   pub sends : out.sends.items ≡ []
   pub goes_on : out.ended ≡ false

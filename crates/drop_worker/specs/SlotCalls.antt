@@ -23,7 +23,7 @@ use Rattle.node_model.specs.Evidence.{Asked, Standing}
 use Rattle.node_model.specs.Jobs.{AsksTime, Drops, Fresh, Gets, GetsBytes, GetsWord, Greets, Next, Part, Phase, Puts, PutsBytes, PutsOffer, PutsWord, Work, is_move, job_end, partner, side_of}
 use Rattle.node_model.specs.JobStep.{Turn, bar_there, clock_of, end_with, is_there, key_of, me, owns_share, turn_of}
 use Rattle.node_model.specs.Knows.{enough_by, next_by}
-use Rattle.node_model.specs.Look.{Look, Made, waiting}
+use Rattle.node_model.specs.Look.{Look, Effect, waiting_frame}
 use Rattle.node_model.specs.Rows.{is_lost_ordered}
 use Rattle.node_model.specs.SetUp.{SetUp}
 use Rattle.node_model.specs.State.{State}
@@ -168,7 +168,7 @@ partner_frame_calls t peer (Some f) = if has_room t peer then frame_calls t f.bo
 
 abbrev pub partner_calls : Turn → ℕ → Bool → List Call
 partner_calls t peer false = []
-partner_calls t peer true = if is_awaiting t.w.phase then partner_frame_calls t peer (waiting (end_with t peer) t.look (job_end t.w peer)) else room_calls t
+partner_calls t peer true = if is_awaiting t.w.phase then partner_frame_calls t peer (waiting_frame (end_with t peer) t.look (job_end t.w peer)) else room_calls t
 
 abbrev pub turn_calls : Turn → Option ℕ → List Call
 turn_calls t None = room_calls t
@@ -182,6 +182,6 @@ slot_calls s st k (Some v) = turn_calls (turn_of s st k v) (partner v.what.peer 
 -- ---- what failed
 
 -- the call that the step failed of, as its entry tells it
-abbrev pub failed_of : Option Made → Option Call
+abbrev pub failed_of : Option Effect → Option Call
 failed_of None = None
 failed_of (Some m) = failed_in m.kind

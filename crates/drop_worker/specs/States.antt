@@ -19,7 +19,7 @@ use Rattle.drop_worker.specs.Worker.{Worker}
 use Rattle.drop_worker.specs.declared.turn.Output.{Output}
 use Rattle.drop_worker.specs.declared.turn.Taken.{Taken}
 use Rattle.drop_worker.specs.Working.{Rest, Sight, made_of, phase_as, words_of, work_of}
-use Rattle.drop_worker.specs.Feeding.{FedAt, FindsAt}
+use Rattle.drop_worker.specs.Feeding.{FeedsFrameAt, FindsAt}
 use Rattle.drop_worker.specs.Sides.{IsNext, side_in}
 
 -- the table and the store have the rows and contents of this state
@@ -47,7 +47,7 @@ pub record Sees (x : Sight) (rows : Rows) (contents : Contents) (w : Worker) (ta
   pub keeps : HaveState rows contents st
   pub failing : k.fails ≡ fails
   pub finds : FindsAt (turn_of s st k v) (partner w.job.peer (phase_as w.phase)) f
-  pub fed : FedAt x w.slot (partner w.job.peer (phase_as w.phase)) f taken
+  pub fed : FeedsFrameAt x w.slot (partner w.job.peer (phase_as w.phase)) f taken
 
 -- the step is that of the job's slot, and the worker after it is the job's work after the entry, or of a remote drop alike
 pub record StepsSo (x : Sight) (w w' : Worker) (out : Output) (s : SetUp) (st : State) (k : Look) (v : Work) (f : Option FrameView) : Type 0 where

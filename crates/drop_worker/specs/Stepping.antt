@@ -8,7 +8,7 @@ use Rattle.drop_proof.specs.declared.rule.Side.TheVariants.{Local}
 use Rattle.run_data.specs.declared.entry.FrameView.{FrameView}
 use Rattle.object_store.specs.Stores.{Contents}
 use Rattle.node_model.specs.JobStep.{Turn}
-use Rattle.node_model.specs.Look.{Made}
+use Rattle.node_model.specs.Look.{Effect}
 use Rattle.node_model.specs.Slots.{job_of}
 use Rattle.content_lock.specs.Rows.{AreAfter, Rows}
 use Rattle.content_lock.specs.Stored.{Agrees}
@@ -17,13 +17,13 @@ use Rattle.drop_worker.specs.declared.turn.Taken.{Taken}
 use Rattle.drop_worker.specs.Worker.{Worker}
 use Rattle.drop_worker.specs.Working.{Rest, Sight, failed_in, made_of, present_in, turn_in, work_of}
 use Rattle.drop_worker.specs.Doing.{Grows, HasToken, OthersStay, contents_after, next_work}
-use Rattle.drop_worker.specs.Feeding.{FedAt, KeepsAnswer, KeepsWord, step_of}
+use Rattle.drop_worker.specs.Feeding.{FeedsFrameAt, KeepsAnswer, KeepsWord, step_of}
 use Rattle.drop_worker.specs.Leaving.{Stays, Store, stands_on}
 use Rattle.drop_worker.specs.Remote.{DoesAlike}
 use Rattle.drop_worker.specs.Sides.{FitsSide, IsNext, side_in}
 
 -- a step makes what is asked, its entry changes the rows, and the work that follows is the next one
-pub record DoesSo (x : Sight) (rows rows' : Rows) (present : List ℕ → Bool) (w w' : Worker) (taken : Option FrameView) (asked : Turn → Made) (out : Output) : Type 0 where
+pub record DoesSo (x : Sight) (rows rows' : Rows) (present : List ℕ → Bool) (w w' : Worker) (taken : Option FrameView) (asked : Turn → Effect) (out : Output) : Type 0 where
   pub makes : (rest : Rest) → made_of x w taken out ≡ asked (turn_in x rows present (failed_in out.kind) rest w)
   pub next : out.ended ≡ false → (rest : Rest)
       → IsNext (side_in w) x.read (work_of rest w') (next_work (turn_in x rows present (failed_in out.kind) rest w) (asked (turn_in x rows present (failed_in out.kind) rest w)))
@@ -55,10 +55,10 @@ DidSo rows rows' k k' w w' does (Err e) = Stays rows rows' k k' w w'
 pub record AdvancesSo (x : Sight) (known : Option Contents) (rows rows' : Rows) (w w' : Worker) (taken : Taken) (word : Option Word) (out : Output) : Type 0 where
   pub told : KeepsWord taken word w w'
   pub answer : KeepsAnswer taken word w w'
-  pub does : ForSome known (λ c. (f : Option FrameView) → FedAt x w.slot (stands_on w) f taken → DoesSo x rows rows' (present_in c) w w' f (step_of (stands_on w) f) out)
+  pub does : ForSome known (λ c. (f : Option FrameView) → FeedsFrameAt x w.slot (stands_on w) f taken → DoesSo x rows rows' (present_in c) w w' f (step_of (stands_on w) f) out)
 
 -- the same of a remote drop
 pub record AdvancesAlike (x : Sight) (known : Option Contents) (rows rows' : Rows) (w w' : Worker) (taken : Taken) (word : Option Word) (out : Output) : Type 0 where
   pub told : KeepsWord taken word w w'
   pub answer : KeepsAnswer taken word w w'
-  pub does : ForSome known (λ c. (f : Option FrameView) → FedAt x w.slot (stands_on w) f taken → DoesAlike x rows rows' (present_in c) w w' f (step_of (stands_on w) f) out)
+  pub does : ForSome known (λ c. (f : Option FrameView) → FeedsFrameAt x w.slot (stands_on w) f taken → DoesAlike x rows rows' (present_in c) w w' f (step_of (stands_on w) f) out)

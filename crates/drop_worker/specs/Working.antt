@@ -23,7 +23,7 @@ use Rattle.node_model.specs.Jobs.{Work, Drops, drop_side}
 use Rattle.drop_proof.specs.declared.rule.Side.{Side}
 use Rattle.drop_proof.specs.declared.rule.Side.TheVariants.{Local, Remote}
 use Rattle.node_model.specs.Knows.{Reading}
-use Rattle.node_model.specs.Look.{Look, Made}
+use Rattle.node_model.specs.Look.{Look, Effect}
 use Rattle.p2p_wire.specs.declared.message.Message.TheVariants.{UnlockContent}
 use Rattle.node_model.specs.JobStep.{Turn, is_held}
 use Rattle.content_lock.specs.Rows.{Rows, bar_at}
@@ -95,8 +95,8 @@ work_of rest w =
     }
 
 -- the version that the job's peer answered
-abbrev pub learnt : Worker → ℕ → ℕ → Worker
-learnt w peer n = record w { version = (if option_is w.job.peer peer then n else w.version) }
+abbrev pub with_version : Worker → ℕ → ℕ → Worker
+with_version w peer n = record w { version = (if option_is w.job.peer peer then n else w.version) }
 
 -- the newest that was heard of a repository, and the word beside a refused look
 abbrev pub newest_of : List (ℕ × Heard) → ℕ → Option Heard
@@ -168,7 +168,7 @@ end_in slot peer = record { peer = peer; slot = slot; client = true }
 abbrev pub frames_of : (EndName → End) → ℕ → List Parcel → List FrameView
 frames_of ends slot ps = flat_map (λ p. frames (end_in slot p.peer) (ends (end_in slot p.peer)) (texts_of p.body)) ps
 
-abbrev pub made_of : Sight → Worker → Option FrameView → Output → Made
+abbrev pub made_of : Sight → Worker → Option FrameView → Output → Effect
 made_of x w taken out = record { kind = out.kind; taken = taken; sent = frames_of x.ends w.slot out.sends.items; lines = [] }
 
 abbrev pub taken_line : Option Message → Taken
@@ -197,12 +197,12 @@ is_lock (Some (heards.Held since)) = true
 is_lock _ = false
 
 -- what is sent to a peer at the end
-abbrev pub parting : Worker → Bool → ℕ → Bool → List FrameText
-parting w lost peer false = []
-parting w lost peer true = (if is_held (heard_in w.heard peer) && not lost then Line (text_of (UnlockContent w.job.key)) ∷ [] else []) ++ Closing ∷ []
+abbrev pub end_frames : Worker → Bool → ℕ → Bool → List FrameText
+end_frames w lost peer false = []
+end_frames w lost peer true = (if is_held (heard_in w.heard peer) && not lost then Line (text_of (UnlockContent w.job.key)) ∷ [] else []) ++ Closing ∷ []
 
 abbrev pub parting_at : (EndName → End) → Worker → Bool → ℕ → List FrameView
-parting_at ends w lost peer = frames (end_in w.slot peer) (ends (end_in w.slot peer)) (parting w lost peer (ends (end_in w.slot peer)).opened)
+parting_at ends w lost peer = frames (end_in w.slot peer) (ends (end_in w.slot peer)) (end_frames w lost peer (ends (end_in w.slot peer)).opened)
 
 abbrev pub partings : Reading → (EndName → End) → Worker → Bool → List FrameView
 partings read ends w lost = flat_map (parting_at ends w lost) (but read.repo (range_with_len 0 read.count))

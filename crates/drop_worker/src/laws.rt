@@ -7,7 +7,7 @@ ghost use Rattle.node_model.specs.Jobs as jobs;
 ghost use Rattle.node_model.specs.Jobs.{Drops, Work, side_of, work_after};
 ghost use Rattle.node_model.specs.JobStep.{turn_of};
 ghost use Rattle.node_model.specs.Knows.{Reading, reading};
-ghost use Rattle.node_model.specs.Look.{Look, failing};
+ghost use Rattle.node_model.specs.Look.{Look, failing_call};
 ghost use Rattle.node_model.specs.SetUp.{SetUp};
 ghost use Rattle.node_model.specs.State.{State};
 ghost use Rattle.node_model.specs.Turns.{needs, slot_step};
@@ -39,5 +39,5 @@ pub fn steps_fail_of_their_calls()
     ensures free { (s : SetUp) (st : State) (k : Look) (fails : Option Call) (v : Option Work) → slot_calls s st (record k { fails = fails }) v ≡ slot_calls s st k v }
     ensures ready { (s : SetUp) (st : State) (k : Look) (fails : Option Call) (v : Option Work) → is_some (slot_step s st (record k { fails = fails }) v) ≡ is_some (slot_step s st k v) }
     ensures ordered { (s : SetUp) (st : State) (k : Look) (v : Option Work) → AreRising (slot_calls s st k v) }
-    ensures fault { (s : SetUp) (st : State) (k : Look) (v : Option Work) → failed_of (slot_step s st k v) ≡ failing k.fails (slot_calls s st k v) }
+    ensures fault { (s : SetUp) (st : State) (k : Look) (v : Option Work) → failed_of (slot_step s st k v) ≡ failing_call k.fails (slot_calls s st k v) }
 {}

@@ -14,7 +14,7 @@ ghost use Rattle.drop_worker.specs.Feeding.{FitsLocal, IsOfLocal};
 ghost use Rattle.drop_worker.specs.Begun.{HasEnded, HasGone, IsOther};
 ghost use Rattle.drop_worker.specs.Judging.{evidence_of, others_in};
 ghost use Rattle.drop_worker.specs.Calling.{MakesOver, MakesPhase};
-ghost use Rattle.drop_worker.specs.Leaving.{ActsOver, Did, GoesSo, Store, Unbarred, store};
+ghost use Rattle.drop_worker.specs.Leaving.{ActsOver, Did, GoesSo, Store, FollowsBarRefused, store};
 
 use crate::evidence::{failures, proof};
 use crate::here::Here;
@@ -109,7 +109,7 @@ fn unbarred(
     why: BarRefused,
     sends: Sends,
 ) -> Result<Output, NoMemory>
-    ensures { Unbarred why worker.old worker.new sends result }
+    ensures { FollowsBarRefused why worker.old worker.new sends result }
 {
     match why {
         BarRefused::Absent => Ok(refused(worker, DropRefusal::NotPresent, sends)),

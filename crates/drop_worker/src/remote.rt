@@ -17,7 +17,7 @@ ghost use Rattle.drop_worker.specs.Working.{Rest, outcome_as, phase_as, sight, t
 ghost use Rattle.drop_worker.specs.Doing.{Acts, HasToken};
 ghost use Rattle.drop_worker.specs.Leaving.{stands_on, store};
 ghost use Rattle.drop_worker.specs.Feeding.{HasNoBar};
-ghost use Rattle.drop_worker.specs.Remote.{DidRemote, EndsSo, GoesAlike, IsRemote, IsToEnd, Speaks, StandsRemote, Unreleased, Unshared, known_remotely, remote_candidates, unreleased_phase};
+ghost use Rattle.drop_worker.specs.Remote.{DidRemote, EndsSo, GoesAlike, IsRemote, IsToEnd, Speaks, StandsRemote, FailsToRelease, FollowsShareRefused, known_remotely, remote_candidates, unreleased_phase};
 ghost use Rattle.drop_worker.specs.Sides.{IsNumbered};
 ghost use Rattle.drop_worker.specs.Calling.{MakesEnd, MakesPhase};
 
@@ -145,7 +145,7 @@ fn share_own<K: Keeper, H: Here>(
 
 /// Its own repository gives nothing. Without memory the worker is as it was before it heard of its own repository.
 fn unshared(worker: &mut Worker, alloc: Global, why: ShareRefused) -> Result<Output, NoMemory>
-    ensures { Unshared why worker.old worker.new result }
+    ensures { FollowsShareRefused why worker.old worker.new result }
 {
     let number = worker.number();
     match why {
@@ -415,7 +415,7 @@ fn unreleased(
     time: Time,
 ) -> Output
     requires given { HasShare table.old.holds share }
-    ensures does { Unreleased time worker.old worker.new result }
+    ensures does { FailsToRelease time worker.old worker.new result }
     ensures after { Owns share.owner (Some share) table.old.holds → AreAfter (EntryKind.Fault Call.Unhold share.owner) table.old table.new }
     ensures owns { Owns share.owner (Some share) table.old.holds → Owns share.owner None table.new.holds }
     ensures others { (by : By) (other : Option ShareView) → same_owner share.owner by ≡ false → Owns by other table.old.holds → Owns by other table.new.holds }

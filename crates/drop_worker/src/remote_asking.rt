@@ -2,7 +2,7 @@
 ghost use Rattle.std.specs.Prelude.{◌≡◌, ◌<◌, ◌^◌, [], ◌∷◌, false, Some, IfOk, OnErr};
 ghost use Rattle.std.specs.Option.{ForSome};
 ghost use Rattle.p2p_wire.specs.Streams.{IsLine};
-ghost use Rattle.drop_worker.specs.Remote.{ReadsAll, Says, first_request, order_message, order_of, target_request, time_request};
+ghost use Rattle.drop_worker.specs.Remote.{AreRemoteProtocolLines, Says, first_request, order_message, order_of, target_request, time_request};
 
 use crate::here::Here;
 use crate::phase::{Ending, Phase};
@@ -149,7 +149,7 @@ fn talk(job: u32) -> EntryKind
 
 // For the proof: that what a remote drop says are lines of the protocol.
 pub(crate) fn reads_all(key: &Key)
-    ensures { ReadsAll key.now }
+    ensures { AreRemoteProtocolLines key.now }
 {
     key_texts_have_no_fault();
     sent_messages_have_lines();

@@ -7,7 +7,7 @@ ghost use Rattle.node_model.specs.Rows.{option_is};
 ghost use Rattle.node_model.specs.JobStep.{is_held};
 ghost use Rattle.drop_worker.specs.Doing.{AreProtocolLines};
 ghost use Rattle.drop_worker.specs.Sides.{side_in, target_on};
-ghost use Rattle.drop_worker.specs.Working.{frames_of, heard_in, is_lock, learnt, newest_of, parting, partings, phase_as, texts_of};
+ghost use Rattle.drop_worker.specs.Working.{frames_of, heard_in, is_lock, with_version, newest_of, end_frames, partings, phase_as, texts_of};
 
 use crate::here::Here;
 use crate::phase::{Ending, Heard, Phase, Token};
@@ -165,7 +165,7 @@ impl Worker {
 
     /// Keeps the version that the job's peer answered.
     pub(crate) fn learn(&mut self, peer: u32, version: u64)
-        ensures { self.new ≡ learnt self.old peer version }
+        ensures { self.new ≡ with_version self.old peer version }
     {
         if self.is_partner(peer) {
             self.version = version;
@@ -201,7 +201,7 @@ impl Worker {
 
     /// What is sent to a peer at the end, on an open connection.
     fn parting(&self, alloc: Global, peer: u32, lost: bool) -> Result<Parcel, NoMemory>
-        ensures { IfOk result (λ p. (p.peer ≡ peer) × (texts_of p.body ≡ parting self.now lost peer true)) }
+        ensures { IfOk result (λ p. (p.peer ≡ peer) × (texts_of p.body ≡ end_frames self.now lost peer true)) }
     {
         if self.has_lock(peer) && !lost {
             // For the proof: what it says are lines of the protocol.

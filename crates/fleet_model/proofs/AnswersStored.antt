@@ -14,7 +14,7 @@ use Rattle.p2p_wire.specs.declared.message.Message.TheVariants.{Valid}
 use Rattle.p2p_wire.specs.Messages.{message_of}
 use Rattle.object_store.specs.Stores.{Parts}
 use Rattle.node_model.specs.Calls.{to_commit}
-use Rattle.node_model.specs.Look.{failing, unless}
+use Rattle.node_model.specs.Look.{failing_call, unless}
 use Rattle.node_model.specs.Sessions.{Doing, Session, Takes, Took}
 use Rattle.node_model.specs.SessionStep.{Here, Reply, by_of, on_bytes, on_frame, on_message, on_text, failure_line, silent_reply, tries, unexpected_reply, valid_answer}
 use Rattle.driver_model.specs.Turning.{is_valid}
@@ -42,7 +42,7 @@ abbrev pub ReplyFits : Doing → FrameText → Reply → Type 0
 ReplyFits doing body x = Fits doing body x.says x.kind
 
 tries_fits : (h : Here) (doing : Doing) (body : FrameText) (cs : List Call) (says : List FrameText) (good : Reply) → ReplyFits doing body good → ReplyFits doing body (tries h cs says good)
-tries_fits h doing body cs says good fits = go (failing h.fails cs)
+tries_fits h doing body cs says good fits = go (failing_call h.fails cs)
   where
     go : (c : Option Call) → ReplyFits doing body (unless c (λ call. record { kind = Fault call (by_of h); says = says }) good)
     go None = fits

@@ -9,7 +9,7 @@ use Rattle.run_data.specs.declared.entry.By.TheVariants.{Peer}
 use Rattle.run_data.specs.declared.entry.FrameView.{FrameView}
 use Rattle.object_store.specs.Stores.{Parts}
 use Rattle.node_model.specs.Ends.{EndName, server_end}
-use Rattle.node_model.specs.Look.{Made}
+use Rattle.node_model.specs.Look.{Effect}
 use Rattle.node_model.specs.Rows.{same_owner}
 use Rattle.node_model.specs.Sessions as sessions
 use Rattle.node_model.specs.SetUp.{SetUp}
@@ -49,7 +49,7 @@ asked_is s now xs f x are up found =
 
 -- ---- the part
 
-asked_of : (g : DriverInput) (d : Driver) (r : ℕ) (s : SetUp) (st : State) (m : Made) (known : Option Parts) (xs : List Session) (f : FrameView) (part : ℕ) (right : Bool) → DecidesMatches g
+asked_of : (g : DriverInput) (d : Driver) (r : ℕ) (s : SetUp) (st : State) (m : Effect) (known : Option Parts) (xs : List Session) (f : FrameView) (part : ℕ) (right : Bool) → DecidesMatches g
     → AreSessions s st.sessions xs → IsTold known (λ p. (key : List ℕ) → p key ≡ part_at d r key) → m.taken ≡ Some f → (f.up ≡ true → job_of m.kind ≡ None)
     → SeesPartAt known (session_asked xs (Some f)) (Some f) part right
     → SeesPartAt known (session_asked xs (Some f)) (Some f) (part_size d r (asked_key st m)) (part_right g d r (asked_key st m))
@@ -70,7 +70,7 @@ asked_of g d r s st m known xs f part right decides are told taken no_job sees =
         (by_session (find (λ x. same_owner (owner_of x) (Peer f.peer f.slot)) xs) refl e
         (subst (λ (b : Bool). SeesPartAt known (if b then find (λ x. same_owner (owner_of x) (Peer f.peer f.slot)) xs else None) (Some f) part right) e sees))
 
-pub asks_the_drivers : (g : DriverInput) (d : Driver) (r : ℕ) (s : SetUp) (st : State) (m : Made) (known : Option Parts) (p : PartsView) (taken : Option FrameView) → DecidesMatches g
+pub asks_the_drivers : (g : DriverInput) (d : Driver) (r : ℕ) (s : SetUp) (st : State) (m : Effect) (known : Option Parts) (p : PartsView) (taken : Option FrameView) → DecidesMatches g
     → AreSessions s st.sessions p.sessions → IsTold known (λ q. (key : List ℕ) → q key ≡ part_at d r key) → m.taken ≡ taken → ((f : FrameView) → taken ≡ Some f → f.up ≡ true → job_of m.kind ≡ None)
     → HasPart known p taken → IsPartAsked known p taken (part_size d r (asked_key st m)) (part_right g d r (asked_key st m))
 asks_the_drivers g d r s st m known p None decides are told takes no_job has = tt

@@ -11,7 +11,7 @@ use Rattle.run_data.specs.declared.entry.FrameText.{FrameText}
 use Rattle.run_data.specs.declared.entry.FrameText.TheVariants as texts
 use Rattle.run_data.specs.declared.entry.FrameView.{FrameView}
 use Rattle.run_model.specs.Run.{IsSmall}
-use Rattle.node_model.specs.Look.{Made}
+use Rattle.node_model.specs.Look.{Effect}
 use Rattle.node_model.specs.Rows.{content_after}
 use Rattle.node_model.specs.Sessions.{line_in, message_said}
 use Rattle.node_model.specs.State.{State}
@@ -46,13 +46,13 @@ frame_fits : (r : ℕ) (bytes : List ℕ) (key : Option (List ℕ)) (taken : Opt
 frame_fits r bytes (Some key) (Some f) sent d small parts = into_fits r key bytes f.body sent d small parts
 frame_fits r bytes key taken sent d small parts = small
 
-pub largest_fits : (st : State) (r : ℕ) (m : Made) (bytes : List ℕ) (kind : EntryKind) (d : Driver) → d.largest < 2 ^ 62 → AreShortParts r (store_after st r m bytes kind d) → (store_after st r m bytes kind d).largest < 2 ^ 62
+pub largest_fits : (st : State) (r : ℕ) (m : Effect) (bytes : List ℕ) (kind : EntryKind) (d : Driver) → d.largest < 2 ^ 62 → AreShortParts r (store_after st r m bytes kind d) → (store_after st r m bytes kind d).largest < 2 ^ 62
 largest_fits st r m bytes (kinds.Talk job) d small parts = frame_fits r bytes (asked_key st m) m.taken m.sent d small parts
 largest_fits st r m bytes kind d small parts = small
 
 -- ---- contents
 
-pub kind_is_small : (st : State) (r : ℕ) (m : Made) (bytes : List ℕ) (kind : EntryKind) (d : Driver) (before : List ℕ → Option ℕ) (c : Contents) → AreShortParts r d
+pub kind_is_small : (st : State) (r : ℕ) (m : Effect) (bytes : List ℕ) (kind : EntryKind) (d : Driver) (before : List ℕ → Option ℕ) (c : Contents) → AreShortParts r d
     → ((clock : ℕ) → kind ≡ kinds.Crash clock → ⊥) → ((key : List ℕ) → c key ≡ content_in (store_after st r m bytes kind d) r key) → ((key : List ℕ) → option_map length (c key) ≡ content_after key (before key) kind)
     → IsSmall kind
 kind_is_small st r m bytes (kinds.Gain by size key) d before c parts never has counts =

@@ -17,7 +17,7 @@ use Rattle.repo_node.specs.Stored.{StoreView}
 use Rattle.repo_node.specs.Walks.{over}
 use Rattle.repo_node.specs.declared.refused.NodeRefused.TheVariants as refusals
 use Rattle.fleet_model.specs.Fleets.{FleetView, HasCome, IsNodeOf}
-use Rattle.fleet_model.specs.Steps.{OneGoesOn, raised}
+use Rattle.fleet_model.specs.Steps.{OneGoesOn, with_newest}
 use Rattle.fleet_model.specs.Stores.{IsTold, content_in}
 use Rattle.fleet_model.proofs.Busy.{taken_is_busy}
 use Rattle.fleet_model.proofs.Directs.{comes_directly}
@@ -63,40 +63,40 @@ at_parts call key bytes n = refl
 
 pub content_comes : {K : Type 0} → WordLaws → Carried → (tells : K → StoreView) (g : DriverInput) (d : Driver) (r : ℕ) (n m : NodeView K) (was after : FleetView K) (key bytes : List ℕ) → HasCome tells g d was → OneGoesOn r n m was after
     → nodes.IsState (set_up_of g d r) n.parts n.branch n.owed (nodes.told_of (tells n.keeper).contents (tells n.keeper).parts) (nodes.state_of (set_up_of g d r) n.history)
-    → IsPlaced key bytes (tells n.keeper).contents (tells n.keeper).parts (tells m.keeper).contents (raised d n) m
+    → IsPlaced key bytes (tells n.keeper).contents (tells n.keeper).parts (tells m.keeper).contents (with_newest d n) m
     → IsDoneBy to_place key [] n.parts.table (tells n.keeper).contents (tells n.keeper).parts (tells m.keeper).parts (tells n.keeper).failing (tells m.keeper).failing
     → length bytes < 2 ^ 62 → m.time ≤ 1000000000000 → m.count < 2 ^ 62 → StaysSound g d (has g r key bytes d) → HasCome tells g (has g r key bytes d) after
 content_comes {K} laws carried tells g d r n m was after key bytes h step state placed done small early few sound =
     comes_directly laws tells g d (has g r key bytes d) r n m was after h step (goes_has g r key bytes d small)
-    (placed_well tells g d r (raised d n) m key bytes (raised_is tells g d r n (h.each r n step.before)) (busy_is carried tells g d r n was key h (h.each r n step.before) state) placed done)
-    (placed_parts (raised d n) m key (length bytes) placed.taken placed.node) early few sound
+    (placed_well tells g d r (with_newest d n) m key bytes (raised_is tells g d r n (h.each r n step.before)) (busy_is carried tells g d r n was key h (h.each r n step.before) state) placed done)
+    (placed_parts (with_newest d n) m key (length bytes) placed.taken placed.node) early few sound
 
 pub content_stops : {K : Type 0} → WordLaws → Carried → (tells : K → StoreView) (g : DriverInput) (d : Driver) (r : ℕ) (n m : NodeView K) (was after : FleetView K) (key bytes : List ℕ) → HasCome tells g d was → OneGoesOn r n m was after
     → nodes.IsState (set_up_of g d r) n.parts n.branch n.owed (nodes.told_of (tells n.keeper).contents (tells n.keeper).parts) (nodes.state_of (set_up_of g d r) n.history)
-    → StopsAt to_place key bytes (tells n.keeper).contents (tells m.keeper).contents (tells n.keeper).parts (tells m.keeper).parts (tells n.keeper).failing (tells m.keeper).failing refusals.StoreFault (raised d n) m
+    → StopsAt to_place key bytes (tells n.keeper).contents (tells m.keeper).contents (tells n.keeper).parts (tells m.keeper).parts (tells n.keeper).failing (tells m.keeper).failing refusals.StoreFault (with_newest d n) m
     → length bytes < 2 ^ 62 → m.time ≤ 1000000000000 → m.count < 2 ^ 62 → StaysSound g d (has g r key bytes d) → HasCome tells g (has g r key bytes d) after
 content_stops {K} laws carried tells g d r n m was after key bytes h step state stops small early few sound =
     comes_directly laws tells g d (has g r key bytes d) r n m was after h step (goes_has g r key bytes d small)
-    (placed_stopped tells g d r (raised d n) m key bytes (raised_is tells g d r n (h.each r n step.before)) (busy_is carried tells g d r n was key h (h.each r n step.before) state) stops)
-    (ap (λ (x : NodeView K). x.parts) stops.refused ∙ at_parts stops.call key bytes (raised d n)) early few sound
+    (placed_stopped tells g d r (with_newest d n) m key bytes (raised_is tells g d r n (h.each r n step.before)) (busy_is carried tells g d r n was key h (h.each r n step.before) state) stops)
+    (ap (λ (x : NodeView K). x.parts) stops.refused ∙ at_parts stops.call key bytes (with_newest d n)) early few sound
 
 -- ---- parts
 
 pub part_comes : {K : Type 0} → WordLaws → Carried → (tells : K → StoreView) (g : DriverInput) (d : Driver) (r : ℕ) (n m : NodeView K) (was after : FleetView K) (key bytes : List ℕ) → HasCome tells g d was → OneGoesOn r n m was after
     → nodes.IsState (set_up_of g d r) n.parts n.branch n.owed (nodes.told_of (tells n.keeper).contents (tells n.keeper).parts) (nodes.state_of (set_up_of g d r) n.history)
-    → m ≡ over m.keeper (raised d n) → (tells m.keeper).contents ≡ (tells n.keeper).contents
+    → m ≡ over m.keeper (with_newest d n) → (tells m.keeper).contents ≡ (tells n.keeper).contents
     → IsDoneBy to_place_part key bytes n.parts.table (tells n.keeper).contents (tells n.keeper).parts (tells m.keeper).parts (tells n.keeper).failing (tells m.keeper).failing
     → length bytes < 2 ^ 62 → m.time ≤ 1000000000000 → m.count < 2 ^ 62 → StaysSound g d (sets_part g r key bytes d) → HasCome tells g (sets_part g r key bytes d) after
 part_comes {K} laws carried tells g d r n m was after key bytes h step state node contents done small early few sound =
     comes_directly laws tells g d (sets_part g r key bytes d) r n m was after h step (goes_sets_part g r key bytes d small)
-    (part_well tells g d r (raised d n) m key bytes (raised_is tells g d r n (h.each r n step.before)) (busy_is carried tells g d r n was key h (h.each r n step.before) state) node contents done)
+    (part_well tells g d r (with_newest d n) m key bytes (raised_is tells g d r n (h.each r n step.before)) (busy_is carried tells g d r n was key h (h.each r n step.before) state) node contents done)
     (ap (λ (x : NodeView K). x.parts) node) early few sound
 
 pub part_stops : {K : Type 0} → WordLaws → Carried → (tells : K → StoreView) (g : DriverInput) (d : Driver) (r : ℕ) (n m : NodeView K) (was after : FleetView K) (key bytes : List ℕ) → HasCome tells g d was → OneGoesOn r n m was after
     → nodes.IsState (set_up_of g d r) n.parts n.branch n.owed (nodes.told_of (tells n.keeper).contents (tells n.keeper).parts) (nodes.state_of (set_up_of g d r) n.history)
-    → StopsAt to_place_part key bytes (tells n.keeper).contents (tells m.keeper).contents (tells n.keeper).parts (tells m.keeper).parts (tells n.keeper).failing (tells m.keeper).failing refusals.StoreFault (raised d n) m
+    → StopsAt to_place_part key bytes (tells n.keeper).contents (tells m.keeper).contents (tells n.keeper).parts (tells m.keeper).parts (tells n.keeper).failing (tells m.keeper).failing refusals.StoreFault (with_newest d n) m
     → length bytes < 2 ^ 62 → m.time ≤ 1000000000000 → m.count < 2 ^ 62 → StaysSound g d (sets_part g r key bytes d) → HasCome tells g (sets_part g r key bytes d) after
 part_stops {K} laws carried tells g d r n m was after key bytes h step state stops small early few sound =
     comes_directly laws tells g d (sets_part g r key bytes d) r n m was after h step (goes_sets_part g r key bytes d small)
-    (part_stopped tells g d r (raised d n) m key bytes (raised_is tells g d r n (h.each r n step.before)) (busy_is carried tells g d r n was key h (h.each r n step.before) state) stops)
-    (ap (λ (x : NodeView K). x.parts) stops.refused ∙ at_parts stops.call key bytes (raised d n)) early few sound
+    (part_stopped tells g d r (with_newest d n) m key bytes (raised_is tells g d r n (h.each r n step.before)) (busy_is carried tells g d r n was key h (h.each r n step.before) state) stops)
+    (ap (λ (x : NodeView K). x.parts) stops.refused ∙ at_parts stops.call key bytes (with_newest d n)) early few sound

@@ -18,7 +18,7 @@ use Rattle.repo_node.specs.Stored.{StoreView}
 use Rattle.repo_node.specs.Walks.{compact_file, compact_files, merge_file, merge_files, over}
 use Rattle.repo_node.specs.declared.refused.NodeRefused.TheVariants as refusals
 use Rattle.fleet_model.specs.Fleets.{FleetView, HasCome}
-use Rattle.fleet_model.specs.Steps.{OneGoesOn, StaysStored, raised}
+use Rattle.fleet_model.specs.Steps.{OneGoesOn, StaysStored, with_newest}
 use Rattle.fleet_model.proofs.Directs.{comes_directly, log_parts}
 use Rattle.fleet_model.proofs.Hearing.{WordLaws}
 use Rattle.fleet_model.proofs.Noting.{IsRaised}
@@ -51,22 +51,22 @@ walked_parts n m whole (Some call) same well fails = ap (λ (x : NodeView _). x.
 pub merge_comes : {K : Type 0} → WordLaws → (tells : K → StoreView) (g : DriverInput) (d : Driver) (r other : ℕ) (n m o : NodeView K) (was after : FleetView K) (failed : Option Call)
     → HasCome tells g d was → OneGoesOn r n m was after → slice_get was.nodes other ≡ Some o → StaysStored (tells n.keeper) (tells m.keeper)
     → MakesCalls (to_merge n o.branch) failed (tells n.keeper).failing (tells m.keeper).failing
-    → (failed ≡ None → m ≡ over m.keeper (merge_files (raised d n) o.branch)) → ((call : Call) → failed ≡ Some call → RefusesSo refusals.StoreFault calls.PutFile (raised d n) m)
+    → (failed ≡ None → m ≡ over m.keeper (merge_files (with_newest d n) o.branch)) → ((call : Call) → failed ≡ Some call → RefusesSo refusals.StoreFault calls.PutFile (with_newest d n) m)
     → m.time ≤ 1000000000000 → m.count < 2 ^ 62 → StaysSound g d (merges r other d) → HasCome tells g (merges r other d) after
 merge_comes {K} laws tells g d r other n m o was after failed h step there stays made well fails early few sound =
     comes_directly laws tells g d (merges r other d) r n m was after h step (goes_merges r other d)
     (subst (λ (files : Files). IsRaised tells g (merges_files r files d) r m) (h.each other o there).branch
-    (merged tells g d r (raised d n) m o.branch failed (raised_is tells g d r n (h.each r n step.before)) stays made well fails))
-    (walked_parts (raised d n) m (merge_files (raised d n) o.branch) failed (merge_parts (raised d n) o.branch) well fails) early few sound
+    (merged tells g d r (with_newest d n) m o.branch failed (raised_is tells g d r n (h.each r n step.before)) stays made well fails))
+    (walked_parts (with_newest d n) m (merge_files (with_newest d n) o.branch) failed (merge_parts (with_newest d n) o.branch) well fails) early few sound
 
 -- ---- compacted
 
 pub compact_comes : {K : Type 0} → WordLaws → (tells : K → StoreView) (g : DriverInput) (d : Driver) (r : ℕ) (n m : NodeView K) (was after : FleetView K) (failed : Option Call)
     → HasCome tells g d was → OneGoesOn r n m was after → StaysStored (tells n.keeper) (tells m.keeper)
     → MakesCalls (to_compact n) failed (tells n.keeper).failing (tells m.keeper).failing
-    → (failed ≡ None → m ≡ over m.keeper (compact_files (raised d n) (keys_of n.branch))) → ((call : Call) → failed ≡ Some call → RefusesSo refusals.StoreFault calls.PutFile (raised d n) m)
+    → (failed ≡ None → m ≡ over m.keeper (compact_files (with_newest d n) (keys_of n.branch))) → ((call : Call) → failed ≡ Some call → RefusesSo refusals.StoreFault calls.PutFile (with_newest d n) m)
     → m.time ≤ 1000000000000 → m.count < 2 ^ 62 → StaysSound g d (compacts r d) → HasCome tells g (compacts r d) after
 compact_comes {K} laws tells g d r n m was after failed h step stays made well fails early few sound =
     comes_directly laws tells g d (compacts r d) r n m was after h step (goes_compacts r d)
-    (compacted tells g d r (raised d n) m failed (raised_is tells g d r n (h.each r n step.before)) stays made well fails)
-    (walked_parts (raised d n) m (compact_files (raised d n) (keys_of n.branch)) failed (compact_parts (raised d n) (keys_of n.branch)) well fails) early few sound
+    (compacted tells g d r (with_newest d n) m failed (raised_is tells g d r n (h.each r n step.before)) stays made well fails)
+    (walked_parts (with_newest d n) m (compact_files (with_newest d n) (keys_of n.branch)) failed (compact_parts (with_newest d n) (keys_of n.branch)) well fails) early few sound

@@ -12,7 +12,7 @@ use Rattle.run_data.specs.declared.entry.LogFile.TheVariants.{Of}
 use Rattle.run_data.specs.Files.{file_path}
 use Rattle.union_merge.specs.Branch.{lines_at}
 use Rattle.union_merge.specs.LineSet.{difference}
-use Rattle.node_model.specs.Owed.{stamp_at}
+use Rattle.node_model.specs.OwedLines.{stamp_at}
 use Rattle.node_parts.specs.Parts.{PartsView}
 use Rattle.node_jobs.specs.Running.{words_at}
 use Rattle.link_flights.specs.Heard.{HeardSo}
@@ -25,7 +25,7 @@ use Rattle.repo_node.specs.Logs.{stamped_by, with_log}
 use Rattle.repo_node.specs.Nodes.{NodeView}
 use Rattle.repo_node.specs.Stored.{StoreView}
 use Rattle.fleet_model.specs.Fleets.{FleetView, HasCome}
-use Rattle.fleet_model.specs.Steps.{HasLogged, OneGoesOn, StaysStored, raised}
+use Rattle.fleet_model.specs.Steps.{HasLogged, OneGoesOn, StaysStored, with_newest}
 use Rattle.fleet_model.proofs.Coming.{came}
 use Rattle.fleet_model.proofs.Going.{GoesOnQuietly}
 use Rattle.fleet_model.proofs.Hearing.{WordLaws, own_hears}
@@ -57,12 +57,12 @@ logged_parts n m file lines (Some call) is = ap (λ (x : NodeView _). x.parts) i
 
 pub line_comes : {K : Type 0} → WordLaws → (tells : K → StoreView) (g : DriverInput) (d : Driver) (r : ℕ) (n m : NodeView K) (was after : FleetView K) (file : LogFile) (line : List ℕ) (failed : Option Call)
     → HasCome tells g d was → OneGoesOn r n m was after → StaysStored (tells n.keeper) (tells m.keeper)
-    → MakesCalls (to_log n file (line ∷ [])) failed (tells n.keeper).failing (tells m.keeper).failing → HasLogged file (line ∷ []) failed (raised d n) m
+    → MakesCalls (to_log n file (line ∷ [])) failed (tells n.keeper).failing (tells m.keeper).failing → HasLogged file (line ∷ []) failed (with_newest d n) m
     → m.time ≤ 1000000000000 → m.count < 2 ^ 62 → StaysSound g d (writes r file line d) → HasCome tells g (writes r file line d) after
 line_comes {K} laws tells g d r n m was after file line failed h step stays made is early few sound =
     comes_directly laws tells g d (writes r file line d) r n m was after h step (goes_writes r file line d)
-    (logged tells g d r (raised d n) m file (line ∷ []) failed (raised_is tells g d r n (h.each r n step.before)) stays made is)
-    (logged_parts (raised d n) m file (line ∷ []) failed is) early few sound
+    (logged tells g d r (with_newest d n) m file (line ∷ []) failed (raised_is tells g d r n (h.each r n step.before)) stays made is)
+    (logged_parts (with_newest d n) m file (line ∷ []) failed is) early few sound
 
 -- the line of a setting is that of the driver
 pub setting_is : {K : Type 0} (tells : K → StoreView) (g : DriverInput) (d : Driver) (r : ℕ) (n : NodeView K) (kind : LogKind) (topic : Topic) (value : Value) → IsRaised tells g d r n
@@ -75,13 +75,13 @@ setting_is {K} tells g d r n kind topic value own =
 
 pub setting_comes : {K : Type 0} → WordLaws → (tells : K → StoreView) (g : DriverInput) (d : Driver) (r : ℕ) (n m : NodeView K) (was after : FleetView K) (kind : LogKind) (topic : Topic) (value : Value) (failed : Option Call)
     → HasCome tells g d was → OneGoesOn r n m was after → StaysStored (tells n.keeper) (tells m.keeper)
-    → MakesCalls (to_log n (Of kind) (line_text kind (stamped_by (raised d n) kind None (record { topic = topic; stamp = None; value = value })) ∷ [])) failed (tells n.keeper).failing (tells m.keeper).failing
-    → HasLogged (Of kind) (line_text kind (stamped_by (raised d n) kind None (record { topic = topic; stamp = None; value = value })) ∷ []) failed (raised d n) m
+    → MakesCalls (to_log n (Of kind) (line_text kind (stamped_by (with_newest d n) kind None (record { topic = topic; stamp = None; value = value })) ∷ [])) failed (tells n.keeper).failing (tells m.keeper).failing
+    → HasLogged (Of kind) (line_text kind (stamped_by (with_newest d n) kind None (record { topic = topic; stamp = None; value = value })) ∷ []) failed (with_newest d n) m
     → m.time ≤ 1000000000000 → m.count < 2 ^ 62 → StaysSound g d (sets g r kind topic value d) → HasCome tells g (sets g r kind topic value d) after
 setting_comes {K} laws tells g d r n m was after kind topic value failed h step stays made is early few sound =
     line_comes laws tells g d r n m was after (Of kind) (setting_line g d r kind topic value) failed h step stays
     (subst (λ (line : List ℕ). MakesCalls (to_log n (Of kind) (line ∷ [])) failed (tells n.keeper).failing (tells m.keeper).failing) same made)
-    (subst (λ (line : List ℕ). HasLogged (Of kind) (line ∷ []) failed (raised d n) m) same is) early few sound
+    (subst (λ (line : List ℕ). HasLogged (Of kind) (line ∷ []) failed (with_newest d n) m) same is) early few sound
   where
-    same : line_text kind (stamped_by (raised d n) kind None (record { topic = topic; stamp = None; value = value })) ≡ setting_line g d r kind topic value
-    same = setting_is tells g d r (raised d n) kind topic value (raised_is tells g d r n (h.each r n step.before))
+    same : line_text kind (stamped_by (with_newest d n) kind None (record { topic = topic; stamp = None; value = value })) ≡ setting_line g d r kind topic value
+    same = setting_is tells g d r (with_newest d n) kind topic value (raised_is tells g d r n (h.each r n step.before))

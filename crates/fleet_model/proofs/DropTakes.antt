@@ -24,7 +24,7 @@ use Rattle.node_model.specs.Ends.{may_take, same_bool, takes_at}
 use Rattle.node_model.specs.Evidence.{Asked, Standing}
 use Rattle.node_model.specs.Jobs
 use Rattle.node_model.specs.Jobs.{AsksLock, AsksLook, AsksTime, Drops, Fresh, GetsBytes, Gets, Greets, Next, Opens, Part, Phase, Puts, PutsBytes, PutsWord, Work, job_end, side_of}
-use Rattle.node_model.specs.Look.{Made, failing, unless, waiting}
+use Rattle.node_model.specs.Look.{Effect, failing_call, unless, waiting_frame}
 use Rattle.node_model.specs.Calls.{to_hold}
 use Rattle.node_model.specs.Knows.{enough_by, next_by}
 use Rattle.node_model.specs.JobStep.{Turn, attempts, bar_there, by_me, clock_of, end_with, ends, is_there, me, quietly, talk}
@@ -39,11 +39,11 @@ use Rattle.fleet_model.specs.Drops.{IsDrop, is_transfer}
 
 -- ---- it took this frame, or none
 
-abbrev Took : Option FrameView → Made → Type 0
+abbrev Took : Option FrameView → Effect → Type 0
 Took taken m = m.taken ≡ taken
 
-attempts_took : (t : Turn) (cs : List Call) (taken : Option FrameView) (m : Made) → Took taken m → Took taken (attempts t cs taken m)
-attempts_took t cs taken m took = go (failing t.look.fails cs)
+attempts_took : (t : Turn) (cs : List Call) (taken : Option FrameView) (m : Effect) → Took taken m → Took taken (attempts t cs taken m)
+attempts_took t cs taken m took = go (failing_call t.look.fails cs)
   where
     go : (c : Option Call) → Took taken (unless c (λ call. quietly (Fault call (by_me t)) taken) m)
     go None = took
@@ -167,7 +167,7 @@ bytes_leave t f peer n (GetsBytes p start size left) is = absurd (cc)
 bytes_leave t f peer n phase is = λ r key bytes d. refl
 
 -- a drop has no use for VALID, and closes
-SaysNoFailure : Made → Type 0
+SaysNoFailure : Effect → Type 0
 SaysNoFailure m = is_failure (message_said m.sent) ≡ false
 
 drop_at_valid : (t : Turn) (f : FrameView) (peer : ℕ) (phase : Phase) → SaysNoFailure (takes_drop t f peer phase Valid)
@@ -201,12 +201,12 @@ frame_leaves t peer f (Line text) drop = λ r key bytes d. text_leaves t f peer 
 -- ---- the step of a drop
 
 -- a job took this frame, which came to a client, and nothing of it goes into a part
-pub record IsHeard (m : Made) (f : FrameView) : Type 0 where
+pub record IsHeard (m : Effect) (f : FrameView) : Type 0 where
   pub taken : m.taken ≡ Some f
   pub down : f.up ≡ false
   pub leaves : LeavesParts f.body m.sent
 
-abbrev pub HearsAtMost : Made → Type 0
+abbrev pub HearsAtMost : Effect → Type 0
 HearsAtMost m = (m.taken ≡ None) ⊎ ((f : FrameView) × IsHeard m f)
 
 pub to_client : (w : Work) (peer : ℕ) (f : FrameView) → takes_at (job_end w peer) f ≡ true → f.up ≡ false
@@ -216,7 +216,7 @@ to_client w peer f e = go f.up (and_parts ((f.peer == peer) && (f.slot == w.slot
     go true g = absurd (cc)
     go false g = refl
 
-on_hears : (t : Turn) (m : Made) → IsDrop t.w → goes_on t ≡ Some m → HearsAtMost m
+on_hears : (t : Turn) (m : Effect) → IsDrop t.w → goes_on t ≡ Some m → HearsAtMost m
 on_hears t m drop e = go (list_all (has_room t) (needs t t.w.phase)) e
   where
     go : (b : Bool) → (if b then Some (goes t t.w.phase) else None) ≡ Some m → HearsAtMost m
@@ -225,7 +225,7 @@ on_hears t m drop e = go (list_all (has_room t) (needs t t.w.phase)) e
         inl (subst (Took None) same (goes_took t t.w.phase drop.part))
     go false g = absurd (cc)
 
-awaits_hears : (t : Turn) (peer : ℕ) (m : Made) → IsDrop t.w → (f : Option FrameView) → waiting (end_with t peer) t.look (job_end t.w peer) ≡ f → awaits t peer f ≡ Some m → HearsAtMost m
+awaits_hears : (t : Turn) (peer : ℕ) (m : Effect) → IsDrop t.w → (f : Option FrameView) → waiting_frame (end_with t peer) t.look (job_end t.w peer) ≡ f → awaits t peer f ≡ Some m → HearsAtMost m
 awaits_hears t peer m drop None is e = absurd (cc)
 awaits_hears t peer m drop (Some f) is e = go (has_room t peer) e
   where
@@ -244,15 +244,15 @@ awaits_hears t peer m drop (Some f) is e = go (has_room t peer) e
           }),
         )
 
-with_hears : (t : Turn) (peer : ℕ) (m : Made) → IsDrop t.w → (b : Bool) → with_partner t peer b ≡ Some m → HearsAtMost m
+with_hears : (t : Turn) (peer : ℕ) (m : Effect) → IsDrop t.w → (b : Bool) → with_partner t peer b ≡ Some m → HearsAtMost m
 with_hears t peer m drop false e =
     let same : quietly (talk t) None ≡ m = cc in inl (subst (Took None) same refl)
 with_hears t peer m drop true e = go (is_awaiting t.w.phase) e
   where
-    go : (b : Bool) → (if b then awaits t peer (waiting (end_with t peer) t.look (job_end t.w peer)) else goes_on t) ≡ Some m → HearsAtMost m
-    go true g = awaits_hears t peer m drop (waiting (end_with t peer) t.look (job_end t.w peer)) refl g
+    go : (b : Bool) → (if b then awaits t peer (waiting_frame (end_with t peer) t.look (job_end t.w peer)) else goes_on t) ≡ Some m → HearsAtMost m
+    go true g = awaits_hears t peer m drop (waiting_frame (end_with t peer) t.look (job_end t.w peer)) refl g
     go false g = on_hears t m drop g
 
-pub partner_hears : (t : Turn) (m : Made) (p : Option ℕ) → IsDrop t.w → by_partner t p ≡ Some m → HearsAtMost m
+pub partner_hears : (t : Turn) (m : Effect) (p : Option ℕ) → IsDrop t.w → by_partner t p ≡ Some m → HearsAtMost m
 partner_hears t m None drop e = on_hears t m drop e
 partner_hears t m (Some peer) drop e = with_hears t peer m drop (end_with t peer).opened e

@@ -24,7 +24,7 @@ use Rattle.repo_node.specs.Nodes as nodes
 use Rattle.repo_node.specs.Nodes.{NodeView}
 use Rattle.repo_node.specs.Stored.{StoreView}
 use Rattle.fleet_model.specs.Fleets.{FleetView, HasCome}
-use Rattle.fleet_model.specs.Steps.{OneGoesOn, raised}
+use Rattle.fleet_model.specs.Steps.{OneGoesOn, with_newest}
 use Rattle.fleet_model.proofs.Beginning.{begins_nowhere, begins_there, begun, has_slot, same_begun}
 use Rattle.fleet_model.proofs.Coming.{came}
 use Rattle.fleet_model.proofs.Directs.{comes_directly}
@@ -55,12 +55,12 @@ pub begin_comes : {K : Type 0} → WordLaws → (tells : K → StoreView) (g : D
     → HasCome tells g d was → OneGoesOn r n m was after
     → AgreesAtDrops (state_at g d r) (nodes.state_of (set_up_of g d r) n.history) → AreWorks (set_up_of g d r) (nodes.state_of (set_up_of g d r) n.history) n.parts.jobs
     → Each (λ w. w.number ≤ begun_count d.past r) (works d.past r)
-    → number ≡ n.parts.jobs.begun + 1 → length n.parts.jobs.running < 4 → m ≡ begun (raised d n) number job
+    → number ≡ n.parts.jobs.begun + 1 → length n.parts.jobs.running < 4 → m ≡ begun (with_newest d n) number job
     → m.time ≤ 1000000000000 → m.count < 2 ^ 62 → StaysSound g d (begins r job d) → HasCome tells g (begins r job d) after
 begin_comes {K} laws tells g d r n m was after number job h step agrees are numbers numbered free is early few sound =
     came laws tells g d (begins r job d) r n m was after h step (goes_begins r job d)
     (subst (λ (x : NodeView K). IsRaised tells g (begins r job d) r x) (sym is)
-    (begins_there tells g d r (raised d n) number job (raised_is tells g d r n (h.each r n step.before)) agrees are numbered free))
+    (begins_there tells g d r (with_newest d n) number job (raised_is tells g d r n (h.each r n step.before)) agrees are numbered free))
     (ap (λ (x : NodeView K). x.parts.links) is)
     (subst (λ (x : NodeView K). HeardSo (begins r job d).past r (words_at x.parts.jobs.running)) (sym is)
     (subst (λ (b : Bool). HeardSo (if b then notes r (kinds.Begin (begun_count d.past r + 1) job) [] d else d).past r (words_at (with_job n.parts.jobs job).running))
@@ -74,10 +74,10 @@ begin_comes {K} laws tells g d r n m was after number job h step agrees are numb
 pub begin_stops : {K : Type 0} → WordLaws → (tells : K → StoreView) (g : DriverInput) (d : Driver) (r : ℕ) (n m : NodeView K) (was after : FleetView K) (job : Job)
     → HasCome tells g d was → OneGoesOn r n m was after
     → AgreesAtDrops (state_at g d r) (nodes.state_of (set_up_of g d r) n.history) → AreWorks (set_up_of g d r) (nodes.state_of (set_up_of g d r) n.history) n.parts.jobs
-    → 4 ≤ length n.parts.jobs.running → m ≡ raised d n
+    → 4 ≤ length n.parts.jobs.running → m ≡ with_newest d n
     → m.time ≤ 1000000000000 → m.count < 2 ^ 62 → StaysSound g d (begins r job d) → HasCome tells g (begins r job d) after
 begin_stops {K} laws tells g d r n m was after job h step agrees are full is early few sound =
     comes_directly laws tells g d (begins r job d) r n m was after h step (goes_begins r job d)
-    (subst (λ (x : Driver). IsRaised tells g x r m) (sym (begins_nowhere tells g d r (raised d n) job agrees are full))
+    (subst (λ (x : Driver). IsRaised tells g x r m) (sym (begins_nowhere tells g d r (with_newest d n) job agrees are full))
     (subst (λ (x : NodeView K). IsRaised tells g d r x) (sym is) (raised_is tells g d r n (h.each r n step.before))))
     (ap (λ (x : NodeView K). x.parts) is) early few sound

@@ -18,7 +18,7 @@ use Rattle.repo_node.specs.Calls.{to_log, to_write}
 use Rattle.repo_node.specs.Logs.{with_log}
 use Rattle.repo_node.specs.Nodes.{NodeView, with_entry}
 use Rattle.content_lock.specs.CallsMade.{MakesCalls, fewer}
-use Rattle.fleet_model.specs.Steps.{HasLogged, StaysStored, raised}
+use Rattle.fleet_model.specs.Steps.{HasLogged, StaysStored, with_newest}
 use Rattle.fleet_model.specs.Stores.{IsStoreOf}
 use Rattle.repo_node.specs.Stored.{StoreView}
 use Rattle.repo_node.specs.Refusals.{RefusesSo}
@@ -71,16 +71,16 @@ add_some {K} tells g d r n m file line lines failed is stays made well fails = g
 log_new : {K : Type 0} (tells : K → StoreView) (g : DriverInput) (d : Driver) (r : ℕ) (n m : NodeView K) (file : LogFile) (failed : Option Call) → IsRaised tells g d r n
     → StaysStored (tells n.keeper) (tells m.keeper) → (new : List (List ℕ)) → MakesCalls (to_write (nat_lt 0 (length new))) failed (tells n.keeper).failing (tells m.keeper).failing
     → (failed ≡ None → m ≡ with_log n m.keeper file new) → ((call : Call) → failed ≡ Some call → RefusesSo refusals.StoreFault call n m) → IsRaised tells g (logs_some r file new d) r m
-log_new {K} tells g d r n m file failed raised stays [] made well fails =
-    subst (λ (x : NodeView K). IsRaised tells g d r x) (sym (well (first_of_calls d r [] (tells n.keeper) failed (tells m.keeper).failing raised.store made))) raised
-log_new tells g d r n m file failed raised stays (line ∷ lines) made well fails =
-    add_some tells g d r n m file line lines failed raised stays
+log_new {K} tells g d r n m file failed with_newest stays [] made well fails =
+    subst (λ (x : NodeView K). IsRaised tells g d r x) (sym (well (first_of_calls d r [] (tells n.keeper) failed (tells m.keeper).failing with_newest.store made))) with_newest
+log_new tells g d r n m file failed with_newest stays (line ∷ lines) made well fails =
+    add_some tells g d r n m file line lines failed with_newest stays
     (subst (λ (b : Bool). MakesCalls (to_write b) failed (tells n.keeper).failing (tells m.keeper).failing) (positive (length lines)) made) well fails
 
 pub logged : {K : Type 0} (tells : K → StoreView) (g : DriverInput) (d : Driver) (r : ℕ) (n m : NodeView K) (file : LogFile) (lines : List (List ℕ)) (failed : Option Call) → IsRaised tells g d r n
     → StaysStored (tells n.keeper) (tells m.keeper) → MakesCalls (to_log n file lines) failed (tells n.keeper).failing (tells m.keeper).failing → HasLogged file lines failed n m
     → IsRaised tells g (logs_some r file (unknown_lines d r file lines) d) r m
-logged {K} tells g d r n m file lines failed raised stays made is =
-    subst (λ (new : List (List ℕ)). IsRaised tells g (logs_some r file new d) r m) (ap (λ (b : Files). difference lines (lines_at b (file_path file))) raised.entries.branch)
-    (log_new tells g d r n m file failed raised stays (difference lines (lines_at n.branch (file_path file))) made
+logged {K} tells g d r n m file lines failed with_newest stays made is =
+    subst (λ (new : List (List ℕ)). IsRaised tells g (logs_some r file new d) r m) (ap (λ (b : Files). difference lines (lines_at b (file_path file))) with_newest.entries.branch)
+    (log_new tells g d r n m file failed with_newest stays (difference lines (lines_at n.branch (file_path file))) made
     (λ e. subst (λ (f : Option Call). HasLogged file lines f n m) e is) (λ call e. subst (λ (f : Option Call). HasLogged file lines f n m) e is))

@@ -13,7 +13,7 @@ use Rattle.run_model.specs.Past.{now}
 use Rattle.node_model.specs.After.{AgreesAtDrops}
 use Rattle.node_model.specs.AnyTime.{all_ends}
 use Rattle.node_model.specs.Ends.{EndName}
-use Rattle.node_model.specs.Look.{Look, Made, entry_of, failing}
+use Rattle.node_model.specs.Look.{Look, Effect, entry_of, failing_call}
 use Rattle.node_model.specs.SetUp.{SetUp}
 use Rattle.node_model.specs.Slots.{job_of}
 use Rattle.node_model.specs.State.{State}
@@ -48,7 +48,7 @@ pub record LookLaws : Type 0 where
   pub carried : Carried
   pub found : finds.Finds
   pub hand : (links : List EndView) (s : SetUp) (st : State) (d : Driver) (k : Look) → AreEnds links s st → AreOwnEndsIn d.flights s links → SeesEnds links s k → k.at_hand ≡ (plain_look s (without_old_flights st s.number d)).at_hand
-  pub fails : (s : SetUp) (st : State) (k : Look) → failed_of (step s st k) ≡ failing k.fails (step_calls s st k)
+  pub fails : (s : SetUp) (st : State) (k : Look) → failed_of (step s st k) ≡ failing_call k.fails (step_calls s st k)
   pub same : (s : SetUp) (st : State) (k : Look) (call : Option Call) → step_calls s st (record k { fails = call }) ≡ step_calls s st k
   pub rising : (s : SetUp) (st : State) (k : Look) → AreRising (step_calls s st k)
 
@@ -59,7 +59,7 @@ pub failed_alike : (kind : EntryKind) → failed_in kind ≡ failed_call kind
 failed_alike (Fault call by) = refl
 failed_alike kind = refl
 
-none_faulty : (o : Option Made) → failed_of o ≡ None → makes_fault o ≡ true → ⊥
+none_faulty : (o : Option Effect) → failed_of o ≡ None → makes_fault o ≡ true → ⊥
 none_faulty None e fault = cc
 none_faulty (Some m) e fault = go m.kind e fault
   where
@@ -84,7 +84,7 @@ met_is_made laws s st st' k c alike met = go (list_any (same_call c) (step_calls
 
 -- the driver's step, as the node made it: its entry is the node's last
 pub record TurnMade {K : Type 0} (g : DriverInput) (d : Driver) (r : ℕ) (n m : NodeView K) (kind : EntryKind) (taken : Option FrameView) : Type 0 where
-  pub made : Made
+  pub made : Effect
   pub kind_is : made.kind ≡ kind
   pub taken_is : made.taken ≡ taken
   pub look : Look
@@ -99,7 +99,7 @@ store_at_turn g d r v is = record { contents = is.contents; parts = is.parts; fa
 pub node_makes_step : {K : Type 0} → LookLaws → (tells : K → StoreView) (g : DriverInput) (d : Driver) (r : ℕ) (n m : NodeView K) → IsSound g d → IsRaised tells g d r n → DecidesMatches g
     → AreParts (set_up_of g d r) (nodes.state_of (set_up_of g d r) n.history) n.parts → AreOwnEndsIn d.flights (set_up_of g d r) n.parts.links
     → ((a : EndName) → is_some (link_at n.parts.links a) ≡ true → has_room r (driver_at_turn g r d).flights a ≡ room_at n.parts.links a)
-    → ((made : Made) → AgreeWhereRead (set_up_of g d r) (state_at g d r) made (words_by n made.kind) (told_words d.past r made.kind))
+    → ((made : Effect) → AgreeWhereRead (set_up_of g d r) (state_at g d r) made (words_by n made.kind) (told_words d.past r made.kind))
     → (by : StepsBy step step_calls (tells n.keeper) (tells m.keeper) n m) → TurnMade g d r n m by.kind by.taken
 node_makes_step {K} laws tells g d r n m sound raised decides parts own rooms words by = record {
   made = at.made;
@@ -164,7 +164,7 @@ node_makes_step {K} laws tells g d r n m sound raised decides parts own rooms wo
   no_job : (f : FrameView) → by.taken ≡ Some f → f.up ≡ true → job_of by.kind ≡ None
   no_job f taken up = ap job_of (sym at0.same) ∙ asks_no_job laws.found s st' k0 at0.made f at0.makes (at0.takes ∙ taken) up
 
-  key_of : Made
+  key_of : Effect
   key_of = record { kind = by.kind; taken = by.taken; sent = []; lines = [] }
 
   k : Look

@@ -8,7 +8,7 @@ use Rattle.p2p_wire.specs.declared.message.Message.TheVariants.{Put, Valid}
 use Rattle.p2p_wire.specs.Messages.{message_of}
 use Rattle.object_store.specs.Stores.{Parts}
 use Rattle.key_verify.specs.Matching.{MatchesKey}
-use Rattle.node_model.specs.Look.{Look, Made, first_of}
+use Rattle.node_model.specs.Look.{Look, Effect, first_of}
 use Rattle.node_model.specs.Sessions as sessions
 use Rattle.node_model.specs.Sessions.{line_in}
 use Rattle.node_model.specs.SetUp.{SetUp}
@@ -33,7 +33,7 @@ use Rattle.fleet_model.proofs.StepFinds.{Finds, serves_no_job}
 abbrev key_asked : sessions.Doing → Option Message → Option (List ℕ)
 key_asked doing told = first_of (put_key told) (filled_key doing)
 
-session_key_is : (st : State) (m : Made) (x : Session) (f : FrameView) → session_of x ≡ st.sessions (end_to f) → job_of m.kind ≡ None → m.taken ≡ Some f
+session_key_is : (st : State) (m : Effect) (x : Session) (f : FrameView) → session_of x ≡ st.sessions (end_to f) → job_of m.kind ≡ None → m.taken ≡ Some f
     → asked_key st m ≡ key_asked (doing_of x.doing) (line_in f.body)
 session_key_is st m x f same no_job taken =
     ap (λ (o : Option ℕ). step_key st o m.taken) no_job
@@ -91,7 +91,7 @@ frame_sees g d r known doing body i part right decides told brings sees =
     unasked known doing i (part_size d r (key_asked (doing_of doing) (line_in body))) (part_right g d r (key_asked (doing_of doing) (line_in body))) tt
 
 -- what the store's part is, the driver says
-pub part_asked : (g : DriverInput) (d : Driver) (r : ℕ) (st : State) (m : Made) (known : Option Parts) (x : Session) (f : FrameView) (part : ℕ) (right : Bool) → DecidesMatches g
+pub part_asked : (g : DriverInput) (d : Driver) (r : ℕ) (st : State) (m : Effect) (known : Option Parts) (x : Session) (f : FrameView) (part : ℕ) (right : Bool) → DecidesMatches g
     → session_of x ≡ st.sessions (end_to f) → job_of m.kind ≡ None → m.taken ≡ Some f → IsTold known (λ p. (key : List ℕ) → p key ≡ part_at d r key)
     → SeesPartAt known (Some x) (Some f) part right → SeesPartAt known (Some x) (Some f) (part_size d r (asked_key st m)) (part_right g d r (asked_key st m))
 part_asked g d r st m known x f part right decides same no_job taken told sees =
@@ -99,5 +99,5 @@ part_asked g d r st m known x f part right decides same no_job taken told sees =
     (frame_sees g d r known x.doing f.body i part right decides told brings (sees i brings))
 
 -- a step that took a frame which came to a server is no job's
-pub asks_no_job : Finds → (s : SetUp) (st : State) (k : Look) (m : Made) (f : FrameView) → step s st k ≡ Some m → m.taken ≡ Some f → f.up ≡ true → job_of m.kind ≡ None
+pub asks_no_job : Finds → (s : SetUp) (st : State) (k : Look) (m : Effect) (f : FrameView) → step s st k ≡ Some m → m.taken ≡ Some f → f.up ≡ true → job_of m.kind ≡ None
 asks_no_job laws s st k m f e taken up = serves_no_job s st k m f (laws.found s st k m e) taken up

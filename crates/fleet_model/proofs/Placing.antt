@@ -17,7 +17,7 @@ use Rattle.driver_model.specs.Driver.{Driver, DriverInput, answers, commits, dro
 use Rattle.hash_dirs.specs.LogPath.{location_path}
 use Rattle.run_data.specs.declared.entry.LogFile.TheVariants.{Location}
 use Rattle.union_merge.specs.Branch.{lines_at, merged_file}
-use Rattle.node_model.specs.Owed.{if_new, status_line}
+use Rattle.node_model.specs.OwedLines.{if_new, status_line}
 use Rattle.driver_model.specs.ScriptSteps.{faults, has, is_busy, lines_of, logs_status, wall_of}
 use Rattle.content_lock.specs.CallsMade.{MakesCalls}
 use Rattle.repo_node.specs.Calls.{IsDoneBy, StopsAt, contents_at, node_at, parts_at, to_place}

@@ -17,7 +17,7 @@ use Rattle.repo_node.specs.Stored.{StoreView}
 use Rattle.repo_node.specs.Turning.{IsIdle}
 use Rattle.joined_nodes.specs.Joined.{AreNodes}
 use Rattle.fleet_model.specs.Fleets.{FleetView, HasCome, links_at}
-use Rattle.fleet_model.specs.Steps.{OneGoesOn, OneTurns, raised, with_links}
+use Rattle.fleet_model.specs.Steps.{OneGoesOn, OneTurns, with_newest, with_links}
 use Rattle.fleet_model.specs.Turns.{StandsWell}
 use Rattle.fleet_model.proofs.Coming.{ends_in, links_stay}
 
@@ -31,7 +31,7 @@ StaysCarried = (d : Driver) (r : ℕ) (a : EndName) (v w : EndView) → IsEndIn 
 abbrev pub TurnsIdly : Type 0 → Type 0
 TurnsIdly K = (tells : K → StoreView) (g : DriverInput) (d : Driver) (r : ℕ) (n m : NodeView K) (was after : FleetView K)
     → HasCome tells g d was → OneTurns r n m was after → StandsWell g d r n
-    → m ≡ with_links (raised d n) (map after_drop n.parts.links) → IsIdle (raised d n) (set_up_of g d r) → HasCome tells g (turn g r d) after
+    → m ≡ with_links (with_newest d n) (map after_drop n.parts.links) → IsIdle (with_newest d n) (set_up_of g d r) → HasCome tells g (turn g r d) after
 
 -- ---- two ends
 
@@ -85,11 +85,11 @@ module _ {K : Type 0} (law : StaysCarried) (tells : K → StoreView) (g : Driver
 
 pub rested : {K : Type 0} → StaysCarried → TurnsIdly K → (tells : K → StoreView) (g : DriverInput) (d : Driver) (r : ℕ) (n m : NodeView K) (was after : FleetView K)
     → HasCome tells g d was → OneGoesOn r n m was after → AreNodes was.nodes → StandsWell g d r n → map after_drop n.parts.links ≡ n.parts.links
-    → m ≡ raised d n → IsIdle (raised d n) (set_up_of g d r) → HasCome tells g (turn g r d) after
+    → m ≡ with_newest d n → IsIdle (with_newest d n) (set_up_of g d r) → HasCome tells g (turn g r d) after
 rested {K} law idly tells g d r n m was after h on joined well kept but idle = idly tells g d r n m was after h one well (but ∙ links_kept) idle
   where
-    links_kept : raised d n ≡ with_links (raised d n) (map after_drop n.parts.links)
-    links_kept = ap (with_links (raised d n)) (sym kept)
+    links_kept : with_newest d n ≡ with_links (with_newest d n) (map after_drop n.parts.links)
+    links_kept = ap (with_links (with_newest d n)) (sym kept)
 
     mine : m.parts.links ≡ links_at was.nodes r
     mine = ap (λ (x : NodeView K). x.parts.links) but ∙ sym (ap ends_in on.before)

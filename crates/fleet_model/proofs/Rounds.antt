@@ -7,7 +7,7 @@ use Rattle.driver_model.specs.Driver.{Driver, DriverInput}
 use Rattle.driver_model.specs.Rounds.{AfterRounds, after_round, goes_round, is_settled, most_rounds, round, rounds, settles, turns_of}
 use Rattle.driver_model.specs.Driving.{turns}
 use Rattle.driver_model.specs.Turning.{turn}
-use Rattle.fleet_model.specs.Settling.{goes_rounds, power, unsettled}
+use Rattle.fleet_model.specs.Settling.{goes_rounds, power, before_rounds}
 
 -- what is settled stays
 settled_once : (g : DriverInput) (x : AfterRounds) → is_settled x ≡ true → goes_round g x ≡ x
@@ -47,12 +47,12 @@ rounds_are g (suc n) x = go (is_settled x) refl (rounds_are g n)
     go false unready half = ap (rounds g n) (half x) ∙ (half (goes_rounds g (power n) x) ∙ sym (twice g (power n) x))
 
 -- the driver is settled after so many rounds that no more come, or after as many as there are at most
-pub settles_by : (g : DriverInput) (d : Driver) → settles g d ≡ (goes_rounds g (power most_rounds) (unsettled d)).driver
-settles_by g d = ap (λ (x : AfterRounds). x.driver) (rounds_are g most_rounds (unsettled d))
+pub settles_by : (g : DriverInput) (d : Driver) → settles g d ≡ (goes_rounds g (power most_rounds) (before_rounds d)).driver
+settles_by g d = ap (λ (x : AfterRounds). x.driver) (rounds_are g most_rounds (before_rounds d))
 
-pub settles_early : (g : DriverInput) (d : Driver) (n : ℕ) → n ≤ power most_rounds → is_settled (goes_rounds g n (unsettled d)) ≡ true → settles g d ≡ (goes_rounds g n (unsettled d)).driver
+pub settles_early : (g : DriverInput) (d : Driver) (n : ℕ) → n ≤ power most_rounds → is_settled (goes_rounds g n (before_rounds d)) ≡ true → settles g d ≡ (goes_rounds g n (before_rounds d)).driver
 settles_early g d n few settled =
-    settles_by g d ∙ ap (λ (x : AfterRounds). x.driver) (ap (λ (k : ℕ). goes_rounds g k (unsettled d)) (sum (power most_rounds) few) ∙ (rounds_after g (power most_rounds - n) n (unsettled d) ∙ settled_stays g (power most_rounds - n) (goes_rounds g n (unsettled d)) settled))
+    settles_by g d ∙ ap (λ (x : AfterRounds). x.driver) (ap (λ (k : ℕ). goes_rounds g k (before_rounds d)) (sum (power most_rounds) few) ∙ (rounds_after g (power most_rounds - n) n (before_rounds d) ∙ settled_stays g (power most_rounds - n) (goes_rounds g n (before_rounds d)) settled))
   where
     sum : (m : ℕ) → n ≤ m → m ≡ (m - n) + n
     sum m few = grind arith

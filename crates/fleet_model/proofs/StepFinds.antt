@@ -11,7 +11,7 @@ use Rattle.p2p_wire.specs.declared.message.Message.TheVariants.{Valid}
 use Rattle.node_model.specs.Ends.{EndName, server_end}
 use Rattle.node_model.specs.Found.{ByJob, ByOwed, BySession, IsJobEntry, JobTakes, IsSessionEntry, StepFound}
 use Rattle.node_model.specs.JobStep.{turn_of}
-use Rattle.node_model.specs.Look.{Look, Made}
+use Rattle.node_model.specs.Look.{Look, Effect}
 use Rattle.node_model.specs.Sessions.{Doing, Took, line_in}
 use Rattle.node_model.specs.SessionStep.{Here, here}
 use Rattle.node_model.specs.SetUp.{SetUp}
@@ -25,12 +25,12 @@ use Rattle.fleet_model.proofs.StepOrigins.{to_server}
 
 -- the law of steps
 pub record Finds : Type 0 where
-  pub found : (s : SetUp) (st : State) (k : Look) (m : Made) → step s st k ≡ Some m → StepFound s st k m
+  pub found : (s : SetUp) (st : State) (k : Look) (m : Effect) → step s st k ≡ Some m → StepFound s st k m
 
 -- ---- a gain
 
 -- the session at whose end the frame came has taken the part, and the frame says VALID
-pub record IsGain (st : State) (m : Made) (size : ℕ) (key : List ℕ) : Type 0 where
+pub record IsGain (st : State) (m : Effect) (size : ℕ) (key : List ℕ) : Type 0 where
   pub f : FrameView
   pub taken : m.taken ≡ Some f
   pub up : f.up ≡ true
@@ -42,14 +42,14 @@ abbrev IsNoGain : EntryKind → Type 0
 IsNoGain (Gain by size key) = ⊥
 IsNoGain kind = Unit {0}
 
-owed_no_gain : (s : SetUp) (st : State) (k : Look) (m : Made) → ByOwed s st k m → IsNoGain m.kind
+owed_no_gain : (s : SetUp) (st : State) (k : Look) (m : Effect) → ByOwed s st k m → IsNoGain m.kind
 owed_no_gain s st k m x = elim (x.writes) [
-  | inl w ↦ subst (λ (y : Made). IsNoGain y.kind) (sym w) tt
-  | inr w ↦ subst (λ (y : Made). IsNoGain y.kind) (sym w) tt
+  | inl w ↦ subst (λ (y : Effect). IsNoGain y.kind) (sym w) tt
+  | inr w ↦ subst (λ (y : Effect). IsNoGain y.kind) (sym w) tt
 ]
 
 -- a drop gains nothing
-drop_no_gain : (s : SetUp) (st : State) (k : Look) (m : Made) → AreDrops st.works → ByJob s st k m → IsNoGain m.kind
+drop_no_gain : (s : SetUp) (st : State) (k : Look) (m : Effect) → AreDrops st.works → ByJob s st k m → IsNoGain m.kind
 drop_no_gain s st k m drops x = go m.kind x.found
   where
     drop : IsDrop x.w
@@ -60,7 +60,7 @@ drop_no_gain s st k m drops x = go m.kind x.found
         let now : true ≡ false = ap is_transfer (sym found.phase_is) ∙ drop.phase in cc
     go kind found = tt
 
-gain_by_session : (s : SetUp) (st : State) (k : Look) (m : Made) (by : By) (size : ℕ) (key : List ℕ) → m.kind ≡ Gain by size key → BySession s st k m → IsGain st m size key
+gain_by_session : (s : SetUp) (st : State) (k : Look) (m : Effect) (by : By) (size : ℕ) (key : List ℕ) → m.kind ≡ Gain by size key → BySession s st k m → IsGain st m size key
 gain_by_session s st k m by size key is x =
     let a : EndName = server_end x.peer x.slot in
     let found = subst (IsSessionEntry (here s st k a) (st.sessions a).doing x.asked x.says) is x.found in
@@ -75,7 +75,7 @@ gain_by_session s st k m by size key is x =
       | inr g ↦ absurd (let none : None ≡ Some Valid = sym g.asked_is ∙ found.asks in cc)
     ]
 
-pub gain_found : (s : SetUp) (st : State) (k : Look) (m : Made) (by : By) (size : ℕ) (key : List ℕ) → AreDrops st.works → StepFound s st k m → m.kind ≡ Gain by size key → IsGain st m size key
+pub gain_found : (s : SetUp) (st : State) (k : Look) (m : Effect) (by : By) (size : ℕ) (key : List ℕ) → AreDrops st.works → StepFound s st k m → m.kind ≡ Gain by size key → IsGain st m size key
 gain_found s st k m by size key drops (inl o) is = absurd (subst IsNoGain is (owed_no_gain s st k m o))
 gain_found s st k m by size key drops (inr (inl x)) is = gain_by_session s st k m by size key is x
 gain_found s st k m by size key drops (inr (inr x)) is = absurd (subst IsNoGain is (drop_no_gain s st k m drops x))
@@ -94,10 +94,10 @@ session_no_job h doing asked says (Fault call by) found = ap job_by found.0
 session_no_job h doing asked says kind found = absurd found
 
 -- an entry by a frame that came to a server is no job's
-pub serves_no_job : (s : SetUp) (st : State) (k : Look) (m : Made) (f : FrameView) → StepFound s st k m → m.taken ≡ Some f → f.up ≡ true → job_of m.kind ≡ None
+pub serves_no_job : (s : SetUp) (st : State) (k : Look) (m : Effect) (f : FrameView) → StepFound s st k m → m.taken ≡ Some f → f.up ≡ true → job_of m.kind ≡ None
 serves_no_job s st k m f (inl o) taken up = elim (o.writes) [
-  | inl w ↦ absurd (let none : None ≡ Some f = sym (ap (λ (y : Made). y.taken) w) ∙ taken in cc)
-  | inr w ↦ absurd (let none : None ≡ Some f = sym (ap (λ (y : Made). y.taken) w) ∙ taken in cc)
+  | inl w ↦ absurd (let none : None ≡ Some f = sym (ap (λ (y : Effect). y.taken) w) ∙ taken in cc)
+  | inr w ↦ absurd (let none : None ≡ Some f = sym (ap (λ (y : Effect). y.taken) w) ∙ taken in cc)
 ]
 serves_no_job s st k m f (inr (inl x)) taken up =
     session_no_job (here s st k (server_end x.peer x.slot)) (st.sessions (server_end x.peer x.slot)).doing x.asked x.says m.kind x.found

@@ -13,8 +13,8 @@ use Rattle.node_model.specs.Ends.{EndName, end_takes, may_take, same_bool, serve
 use Rattle.node_model.specs.Jobs.{Work, partner}
 use Rattle.node_model.specs.JobStep.{turn_of}
 use Rattle.node_model.specs.Look
-use Rattle.node_model.specs.Look.{Look, Made, failing, first_some, unless, waiting}
-use Rattle.node_model.specs.Owed.{Owed, due}
+use Rattle.node_model.specs.Look.{Look, Effect, failing_call, first_some, unless, waiting_frame}
+use Rattle.node_model.specs.OwedLines.{OwedLine, due}
 use Rattle.node_model.specs.OwedStep.{owed_step, pays_first}
 use Rattle.node_model.specs.SessionStep.{Reply, gives_made, gives_next, here, on_frame, reply_made, session_at, session_makes, session_step}
 use Rattle.node_model.specs.SetUp.{SetUp, served_connections, slots}
@@ -43,7 +43,7 @@ some_was {X = X} {Y = Y} f (x ∷ xs) y e = go (λ g. some_was f xs y g) (f x) r
 -- ---- a session
 
 -- a session took this frame, which came to a server, and the entry is its answer
-pub record IsAnswer (s : SetUp) (st : State) (k : Look) (m : Made) (f : FrameView) : Type 0 where
+pub record IsAnswer (s : SetUp) (st : State) (k : Look) (m : Effect) (f : FrameView) : Type 0 where
   pub up : f.up ≡ true
   pub made : m ≡ reply_made (end_to f) (end_takes (st.ends (end_to f)) f.epoch f.body) (Some f) (on_frame (here s st k (end_to f)) (st.sessions (end_to f)) f.body)
 
@@ -61,10 +61,10 @@ to_server peer slot f e =
     go false is p q g = absurd (cc)
 
 -- a session took nothing, or answered a frame
-abbrev pub AnswersAtMost : SetUp → State → Look → Made → Type 0
+abbrev pub AnswersAtMost : SetUp → State → Look → Effect → Type 0
 AnswersAtMost s st k m = (m.taken ≡ None) ⊎ ((f : FrameView) × IsAnswer s st k m f)
 
-makes_answer : (s : SetUp) (st : State) (k : Look) (peer slot : ℕ) (f : Option FrameView) (m : Made) → waiting (st.ends (server_end peer slot)) k (server_end peer slot) ≡ f
+makes_answer : (s : SetUp) (st : State) (k : Look) (peer slot : ℕ) (f : Option FrameView) (m : Effect) → waiting_frame (st.ends (server_end peer slot)) k (server_end peer slot) ≡ f
     → session_makes (here s st k (server_end peer slot)) (st.ends (server_end peer slot)) (st.sessions (server_end peer slot)) f ≡ Some m → AnswersAtMost s st k m
 makes_answer s st k peer slot (Some f) m is e =
     let a : EndName = server_end peer slot in
@@ -87,13 +87,13 @@ makes_answer s st k peer slot None m is e = go (st.ends a).opened e
     given : (o : Option Reply) → gives_made a (st.ends a) o ≡ Some m → AnswersAtMost s st k m
     given None g = absurd (cc)
     given (Some x) g =
-        let same : reply_made a (st.ends a) None x ≡ m = cc in inl (subst (λ (y : Made). y.taken ≡ None) same refl)
+        let same : reply_made a (st.ends a) None x ≡ m = cc in inl (subst (λ (y : Effect). y.taken ≡ None) same refl)
 
     go : (b : Bool) → (if b then gives_made a (st.ends a) (gives_next (here s st k a) (st.sessions a).doing) else None) ≡ Some m → AnswersAtMost s st k m
     go true g = given (gives_next (here s st k a) (st.sessions a).doing) g
     go false g = absurd (cc)
 
-session_answers : (s : SetUp) (st : State) (k : Look) (m : Made) → session_step s st k ≡ Some m → AnswersAtMost s st k m
+session_answers : (s : SetUp) (st : State) (k : Look) (m : Effect) → session_step s st k ≡ Some m → AnswersAtMost s st k m
 session_answers s st k m e =
     let w = some_was (λ (c : ℕ × ℕ). session_at s st k (server_end c.0 c.1)) (served_connections s) m e in at w.0.0 w.0.1 w.1
   where
@@ -101,20 +101,20 @@ session_answers s st k m e =
     at peer slot g = go (k.room (server_end peer slot)) g
       where
         go : (b : Bool)
-            → (if b then session_makes (here s st k (server_end peer slot)) (st.ends (server_end peer slot)) (st.sessions (server_end peer slot)) (waiting (st.ends (server_end peer slot)) k (server_end peer slot)) else None) ≡ Some m
+            → (if b then session_makes (here s st k (server_end peer slot)) (st.ends (server_end peer slot)) (st.sessions (server_end peer slot)) (waiting_frame (st.ends (server_end peer slot)) k (server_end peer slot)) else None) ≡ Some m
             → AnswersAtMost s st k m
-        go true h = makes_answer s st k peer slot (waiting (st.ends (server_end peer slot)) k (server_end peer slot)) m refl h
+        go true h = makes_answer s st k peer slot (waiting_frame (st.ends (server_end peer slot)) k (server_end peer slot)) m refl h
         go false h = absurd (cc)
 
 -- ---- a job
 
-slot_hears : (s : SetUp) (st : State) (k : Look) (slot : ℕ) (m : Made) (w : Option Work) → AreDrops st.works → find (λ w. w.slot == slot) st.works ≡ w → slot_step s st k w ≡ Some m → HearsAtMost m
+slot_hears : (s : SetUp) (st : State) (k : Look) (slot : ℕ) (m : Effect) (w : Option Work) → AreDrops st.works → find (λ w. w.slot == slot) st.works ≡ w → slot_step s st k w ≡ Some m → HearsAtMost m
 slot_hears s st k slot m None drops is e = absurd (cc)
 slot_hears s st k slot m (Some w) drops is e =
     let among = find_member (λ (w : Work). w.slot == slot) st.works w is in
     partner_hears (turn_of s st k w) m (partner w.what.peer w.phase) (Each-member IsDrop st.works w drops among.0) e
 
-job_hears : (s : SetUp) (st : State) (k : Look) (m : Made) → AreDrops st.works → job_step s st k ≡ Some m → HearsAtMost m
+job_hears : (s : SetUp) (st : State) (k : Look) (m : Effect) → AreDrops st.works → job_step s st k ≡ Some m → HearsAtMost m
 job_hears s st k m drops e =
     let x = some_was (λ slot. slot_step s st k (find (λ w. w.slot == slot) st.works)) slots m e in
     slot_hears s st k x.0 m (find (λ w. w.slot == x.0) st.works) drops refl x.1
@@ -122,24 +122,24 @@ job_hears s st k m drops e =
 -- ---- the step
 
 -- a line that is owed is written without a frame
-owed_takes_none : (s : SetUp) (st : State) (k : Look) (m : Made) (os : List Owed) → pays_first s st k os ≡ Some m → m.taken ≡ None
+owed_takes_none : (s : SetUp) (st : State) (k : Look) (m : Effect) (os : List OwedLine) → pays_first s st k os ≡ Some m → m.taken ≡ None
 owed_takes_none s st k m [] e = absurd (cc)
-owed_takes_none s st k m (o ∷ os) e = go (failing k.fails (PutFile ∷ [])) e
+owed_takes_none s st k m (o ∷ os) e = go (failing_call k.fails (PutFile ∷ [])) e
   where
-    written : Made
+    written : Effect
     written = record { kind = Log (Location o.key); taken = None; sent = []; lines = due s.repos st.lines (st.wall k.time) o }
 
     go : (c : Option Call) → Some (unless c (λ call. record { kind = Fault call o.by; taken = None; sent = []; lines = [] }) written) ≡ Some m → m.taken ≡ None
-    go None g = let same : written ≡ m = cc in subst (λ (y : Made). y.taken ≡ None) same refl
-    go (Some call) g = let same : record { kind = Fault call o.by; taken = None; sent = []; lines = [] } ≡ m = cc in subst (λ (y : Made). y.taken ≡ None) same refl
+    go None g = let same : written ≡ m = cc in subst (λ (y : Effect). y.taken ≡ None) same refl
+    go (Some call) g = let same : record { kind = Fault call o.by; taken = None; sent = []; lines = [] } ≡ m = cc in subst (λ (y : Effect). y.taken ≡ None) same refl
 
 -- what a step of a repository whose jobs are drops took
-pub data Origin (s : SetUp) (st : State) (k : Look) (m : Made) : Type 0 where
+pub data Origin (s : SetUp) (st : State) (k : Look) (m : Effect) : Type 0 where
   TakesNone : m.taken ≡ None → Origin s st k m
   Answers : (f : FrameView) → IsAnswer s st k m f → Origin s st k m
   Hears : (f : FrameView) → IsHeard m f → Origin s st k m
 
-pub origin_of : (s : SetUp) (st : State) (k : Look) (m : Made) → AreDrops st.works → step s st k ≡ Some m → Origin s st k m
+pub origin_of : (s : SetUp) (st : State) (k : Look) (m : Effect) → AreDrops st.works → step s st k ≡ Some m → Origin s st k m
 origin_of s st k m drops e = elim (first_was (owed_step s st k) (Look.first_of (session_step s st k) (job_step s st k)) m e) [
   | inl o ↦ TakesNone (owed_takes_none s st k m st.owed o)
   | inr r ↦ others r

@@ -6,7 +6,7 @@ use Rattle.run_data.specs.Repos.{id_of}
 use Rattle.run_data.specs.declared.entry.By.TheVariants.{Script}
 use Rattle.run_data.specs.declared.entry.EntryKind.TheVariants as kinds
 use Rattle.run_data.specs.declared.entry.LogFile.TheVariants.{Location}
-use Rattle.node_model.specs.Owed.{if_new, status_line}
+use Rattle.node_model.specs.OwedLines.{if_new, status_line}
 use Rattle.driver_model.specs.Driver.{Driver, DriverInput, commits, drops_part, fails_at, notes, part_at, puts_part, set_up_of}
 use Rattle.driver_model.specs.Limits.{StopsAtFull}
 use Rattle.driver_model.specs.Scripts.{IsContent}
@@ -16,7 +16,7 @@ use Rattle.repo_node.specs.Nodes as nodes
 use Rattle.repo_node.specs.Nodes.{NodeView}
 use Rattle.repo_node.specs.Stored.{StoreView}
 use Rattle.fleet_model.specs.Fleets.{FleetView, HasCome}
-use Rattle.fleet_model.specs.Steps.{OneGoesOn, raised}
+use Rattle.fleet_model.specs.Steps.{OneGoesOn, with_newest}
 use Rattle.fleet_model.specs.Stopping.{OthersAreFew}
 use Rattle.fleet_model.specs.Stores.{content_in}
 use Rattle.fleet_model.proofs.Busy.{taken_is_busy}
@@ -54,13 +54,13 @@ comes_to_log g r key d = comes_calling r calls.PutFile d (notes r (kinds.Log (Lo
 pub content_stops_behind : {K : Type 0} → StopLaws → Carried → (tells : K → StoreView) (g : DriverInput) (d : Driver) (r : ℕ) (n m : NodeView K) (was after : FleetView K) → HasCome tells g d was → OneGoesOn r n m was after
     → OthersAreFew r was.nodes → m.time ≤ 1000000000000 → m.count < 2 ^ 62 → (key bytes : List ℕ) → IsContent key bytes
     → nodes.IsState (set_up_of g d r) n.parts n.branch n.owed (nodes.told_of (tells n.keeper).contents (tells n.keeper).parts) (nodes.state_of (set_up_of g d r) n.history)
-    → MeetsFullBehind key bytes (tells n.keeper).contents (tells n.keeper).failing (tells m.keeper).failing (raised d n) m → length bytes < 2 ^ 62 → StopsAtFull g r (has g r key bytes d) after.run
+    → MeetsFullBehind key bytes (tells n.keeper).contents (tells n.keeper).failing (tells m.keeper).failing (with_newest d n) m → length bytes < 2 ^ 62 → StopsAtFull g r (has g r key bytes d) after.run
 content_stops_behind {K} laws carried tells g d r n m was after h step few early counted key bytes content state met small =
     subst (λ (x : Driver). StopsAtFull g r x after.run) (sym (has_gained g d r key bytes free calm))
     (stops_there tells g d gained (logs_status g r key gained) r n m was after h step few on.on entries met.full early counted
     (laws.content_start g r key bytes d (is_known tells g d r n was h step.before) content free) (comes_to_log g r key gained))
   where
-    own : IsRaised tells g d r (raised d n)
+    own : IsRaised tells g d r (with_newest d n)
     own = raised_is tells g d r n (h.each r n step.before)
 
     gained : Driver
@@ -79,4 +79,4 @@ content_stops_behind {K} laws carried tells g d r n m was after h step few early
     calm = first_of_calls d r (calls.Has ∷ calls.DropPart ∷ calls.Append ∷ calls.Commit ∷ []) (tells n.keeper) None (tells m.keeper).failing own.store met.calls
 
     entries : HasEntriesOf g gained r m
-    entries = subst (HasEntriesOf g gained r) (sym met.node) (noted_entry g d (come_by r key bytes d) r (raised d n) m.keeper n.branch (kinds.Gain Script (length bytes) key) [] own.entries refl refl)
+    entries = subst (HasEntriesOf g gained r) (sym met.node) (noted_entry g d (come_by r key bytes d) r (with_newest d n) m.keeper n.branch (kinds.Gain Script (length bytes) key) [] own.entries refl refl)

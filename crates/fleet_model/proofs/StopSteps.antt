@@ -19,7 +19,7 @@ use Rattle.union_merge.specs.Branch.{Files, lines_at}
 use Rattle.union_merge.specs.LineSet.{difference}
 use Rattle.node_ends.specs.Ends.{hand_at, room_at}
 use Rattle.node_model.specs.AnyTime.{all_ends}
-use Rattle.node_model.specs.Look.{Look, Made}
+use Rattle.node_model.specs.Look.{Look, Effect}
 use Rattle.node_model.specs.SetUp.{SetUp}
 use Rattle.node_model.specs.Step.{step}
 use Rattle.node_parts.specs.Parts.{AreParts}
@@ -35,7 +35,7 @@ use Rattle.repo_node.specs.Nodes.{NodeView}
 use Rattle.repo_node.specs.Stored.{StoreView}
 use Rattle.repo_node.specs.Turning.{HasStep, Looks}
 use Rattle.fleet_model.specs.Fleets.{FleetView, HasCome}
-use Rattle.fleet_model.specs.Steps.{raised}
+use Rattle.fleet_model.specs.Steps.{with_newest}
 use Rattle.fleet_model.specs.Stopping.{OthersAreFew}
 use Rattle.fleet_model.specs.Turns.{StandsWell}
 use Rattle.fleet_model.proofs.Beginning.{has_slot}
@@ -51,7 +51,7 @@ use Rattle.fleet_model.proofs.Directs.{setting_is}
 
 -- the driver's plain look is one of the node's
 looks_plainly : {K : Type 0} → TurnLaws → (tells : K → StoreView) (g : DriverInput) (d : Driver) (r : ℕ) (n : NodeView K) (was : FleetView K) → HasCome tells g d was → slice_get was.nodes r ≡ Some n → StandsWell g d r n
-    → Looks (raised d n) (set_up_of g d r) (plain_look (set_up_of g d r) (driver_at_turn g r d))
+    → Looks (with_newest d n) (set_up_of g d r) (plain_look (set_up_of g d r) (driver_at_turn g r d))
 looks_plainly {K} laws tells g d r n was h at well = record {
   ends = record { at_hand = sym hand; room = rooms_agree laws tells g d r n was h at well };
   time = sym own.entries.time;
@@ -60,7 +60,7 @@ looks_plainly {K} laws tells g d r n was h at well = record {
   s : SetUp
   s = set_up_of g d r
 
-  own : IsRaised tells g d r (raised d n)
+  own : IsRaised tells g d r (with_newest d n)
   own = raised_is tells g d r n (h.each r n at)
 
   hand : flat_map (λ a. option_to_list (hand_at n.parts.links a)) (all_ends s) ≡ at_hand s (frames_to r (driver_at_turn g r d).flights)
@@ -68,13 +68,13 @@ looks_plainly {K} laws tells g d r n was h at well = record {
       (record (plain_look s (driver_at_turn g r d)) { at_hand = flat_map (λ a. option_to_list (hand_at n.parts.links a)) (all_ends s); room = room_at n.parts.links })
       (ends_stand laws tells g d r n was h at well) (own_ends laws tells g d r n was h at well) (record { at_hand = refl; room = λ a there. refl })
 
-none_is_some : (o : Option Made) → o ≡ None → is_some o ≡ true → ⊥
+none_is_some : (o : Option Effect) → o ≡ None → is_some o ≡ true → ⊥
 none_is_some None e some = cc
 none_is_some (Some m) e some = cc
 
 -- a ready step adds an entry
 turn_grows : {K : Type 0} → TurnLaws → StopLaws → (tells : K → StoreView) (g : DriverInput) (d : Driver) (r : ℕ) (n : NodeView K) (was : FleetView K) → HasCome tells g d was → slice_get was.nodes r ≡ Some n → StandsWell g d r n
-    → HasStep (raised d n) (set_up_of g d r) → length (turn g r d).past ≡ length d.past → ⊥
+    → HasStep (with_newest d n) (set_up_of g d r) → length (turn g r d).past ≡ length d.past → ⊥
 turn_grows {K} laws stop tells g d r n was h at well ready same =
     none_is_some (step s (nodes.state_of s n.history) k) (sym (step_is laws.looks.carried g d r n k h.sound (h.each r n at).history) ∙ stop.idle g r d same)
     (ready k (looks_plainly laws tells g d r n was h at well))
@@ -86,7 +86,7 @@ turn_grows {K} laws stop tells g d r n was h at well ready same =
     k = plain_look s (driver_at_turn g r d)
 
 pub turn_stops : {K : Type 0} → TurnLaws → StopLaws → (tells : K → StoreView) (g : DriverInput) (d : Driver) (r : ℕ) (n : NodeView K) (was : FleetView K) → HasCome tells g d was → slice_get was.nodes r ≡ Some n → OthersAreFew r was.nodes
-    → StandsWell g d r n → length n.history ≡ most_entries → HasStep (raised d n) (set_up_of g d r) → StopsAtFull g r (turn g r d) was.run
+    → StandsWell g d r n → length n.history ≡ most_entries → HasStep (with_newest d n) (set_up_of g d r) → StopsAtFull g r (turn g r d) was.run
 turn_stops laws stop tells g d r n was h at few well full ready =
     stops_at_once tells g d (turn g r d) r n was h at few full (comes_adding r d (turn g r d) (stop.turn_adds g r d) (turn_grows laws stop tells g d r n was h at well ready))
 
@@ -118,10 +118,10 @@ line_stops tells g d r n was h at few file line full lacks =
 
 pub setting_stops : {K : Type 0} (tells : K → StoreView) (g : DriverInput) (d : Driver) (r : ℕ) (n : NodeView K) (was : FleetView K) → HasCome tells g d was → slice_get was.nodes r ≡ Some n → OthersAreFew r was.nodes
     → (kind : LogKind) (topic : Topic) (value : Value) → length n.history ≡ most_entries
-    → lacks_some n (Of kind) (line_text kind (stamped_by (raised d n) kind None (record { topic = topic; stamp = None; value = value })) ∷ []) ≡ true → StopsAtFull g r (sets g r kind topic value d) was.run
+    → lacks_some n (Of kind) (line_text kind (stamped_by (with_newest d n) kind None (record { topic = topic; stamp = None; value = value })) ∷ []) ≡ true → StopsAtFull g r (sets g r kind topic value d) was.run
 setting_stops tells g d r n was h at few kind topic value full lacks =
     line_stops tells g d r n was h at few (Of kind) (setting_line g d r kind topic value) full
-    (subst (λ (line : List ℕ). lacks_some n (Of kind) (line ∷ []) ≡ true) (setting_is tells g d r (raised d n) kind topic value (raised_is tells g d r n (h.each r n at))) lacks)
+    (subst (λ (line : List ℕ). lacks_some n (Of kind) (line ∷ []) ≡ true) (setting_is tells g d r (with_newest d n) kind topic value (raised_is tells g d r n (h.each r n at))) lacks)
 
 -- ---- contents that the store is asked for first
 

@@ -24,7 +24,7 @@ use Rattle.repo_node.specs.Nodes.{NodeView}
 use Rattle.repo_node.specs.Stored.{StoreView}
 use Rattle.repo_node.specs.Walks.{compact_files, merge_files, over}
 use Rattle.fleet_model.specs.Fleets.{FleetView, HasCome}
-use Rattle.fleet_model.specs.Steps.{OneGoesOn, raised}
+use Rattle.fleet_model.specs.Steps.{OneGoesOn, with_newest}
 use Rattle.fleet_model.specs.Stopping.{OthersAreFew}
 use Rattle.fleet_model.specs.Stores.{IsStoreOf}
 use Rattle.fleet_model.proofs.Failing.{first_of_calls}
@@ -132,13 +132,13 @@ shrinking_alike g d r n path is =
 -- the front of a merge, over the store that was there before
 merged_front : {K : Type 0} (tells : K → StoreView) (g : DriverInput) (d : Driver) (r : ℕ) (n : NodeView K) (done : Files) (after : Option (Call → ℕ)) → IsRaised tells g d r n
     → MakesCalls (to_write (list_any (lacks_of n) done)) None (tells n.keeper).failing after → HasEntriesOf g (merges_files r done d) r (over n.keeper (merge_files n done))
-merged_front {K} tells g d r n done after raised made =
-    (merged tells g d r n (over n.keeper (merge_files n done)) done None raised (record { contents = refl; parts = refl })
+merged_front {K} tells g d r n done after with_newest made =
+    (merged tells g d r n (over n.keeper (merge_files n done)) done None with_newest (record { contents = refl; parts = refl })
     (record { first = made.first; left = sym (none_fewer (tells n.keeper).failing) }) (λ e. refl) (λ call e. absurd (none-some call e))).entries
 
 compacted_front : {K : Type 0} (tells : K → StoreView) (g : DriverInput) (d : Driver) (r : ℕ) (n : NodeView K) (done : Files) → IsRaised tells g d r n
     → (list_any (shrinks_at n) (map (λ f. f.0) done) && fails_at d r calls.PutFile) ≡ false → IsRaised tells g (compacts_files r done d) r (compact_files n (map (λ f. f.0) done))
-compacted_front {K} tells g d r n done raised calm = go (fails_at d r calls.PutFile) refl
+compacted_front {K} tells g d r n done with_newest calm = go (fails_at d r calls.PutFile) refl
   where
     some : Bool
     some = list_any (shrinks_at n) (map (λ f. f.0) done)
@@ -148,21 +148,21 @@ compacted_front {K} tells g d r n done raised calm = go (fails_at d r calls.PutF
     none true e = e
 
     alike : some ≡ list_any (λ f. script.shrinks d r (file_of f.0)) done
-    alike = any_map (shrinks_at n) (λ f. f.0) done ∙ (λ i. list_any (λ f. shrinking_alike g d r n f.0 raised.entries i) done)
+    alike = any_map (shrinks_at n) (λ f. f.0) done ∙ (λ i. list_any (λ f. shrinking_alike g d r n f.0 with_newest.entries i) done)
 
     go : (b : Bool) → fails_at d r calls.PutFile ≡ b → IsRaised tells g (compacts_files r done d) r (compact_files n (map (λ f. f.0) done))
-    go false e = compacted_calm tells g r done d n raised e
+    go false e = compacted_calm tells g r done d n with_newest e
     go true e =
         let nothing : some ≡ false = none some (ap (λ (b : Bool). some && b) (sym e) ∙ calm) in
         subst (λ (x : Driver). IsRaised tells g x r (compact_files n (map (λ f. f.0) done)))
         (sym (compacted_failing d r done e ∙ ap (λ (b : Bool). if b then faults r calls.PutFile d else d) (sym alike ∙ nothing)))
-        (subst (λ (x : NodeView K). IsRaised tells g d r x) (sym (compacted_nothing n (map (λ f. f.0) done) nothing)) raised)
+        (subst (λ (x : NodeView K). IsRaised tells g d r x) (sym (compacted_nothing n (map (λ f. f.0) done) nothing)) with_newest)
 
 -- ---- merges
 
 pub merge_stops : {K : Type 0} → StopLaws → (tells : K → StoreView) (g : DriverInput) (d : Driver) (r : ℕ) (n m : NodeView K) (was after : FleetView K) → HasCome tells g d was → OneGoesOn r n m was after → OthersAreFew r was.nodes
     → m.time ≤ 1000000000000 → m.count < 2 ^ 62 → (other : ℕ) (o : NodeView K) → slice_get was.nodes other ≡ Some o
-    → MeetsFull (merge_files (raised d n)) lacks_of o.branch (tells n.keeper).failing (tells m.keeper).failing (raised d n) m → StopsAtFull g r (merges r other d) after.run
+    → MeetsFull (merge_files (with_newest d n)) lacks_of o.branch (tells n.keeper).failing (tells m.keeper).failing (with_newest d n) m → StopsAtFull g r (merges r other d) after.run
 merge_stops {K} laws tells g d r n m was after h step few early counted other o there met =
     subst (λ (x : Driver). StopsAtFull g r x after.run) (sym cut)
     (stops_there tells g d mid (merges_files r (met.next ∷ met.left) mid) r n m was after h step few (goes_merges_files r met.done d).on entries met.full early counted
@@ -172,24 +172,24 @@ merge_stops {K} laws tells g d r n m was after h step few early counted other o 
     mid : Driver
     mid = merges_files r met.done d
 
-    own : IsRaised tells g d r (raised d n)
+    own : IsRaised tells g d r (with_newest d n)
     own = raised_is tells g d r n (h.each r n step.before)
 
     whole : branch d.past other ≡ met.done ++ met.next ∷ met.left
     whole = sym (h.each other o there).branch ∙ met.whole
 
-    alike : list_any (lacks_of (raised d n)) met.done ≡ list_any (has_news d r) met.done
-    alike = λ i. list_any (λ f. lacking_alike g d r (raised d n) f own.entries i) met.done
+    alike : list_any (lacks_of (with_newest d n)) met.done ≡ list_any (has_news d r) met.done
+    alike = λ i. list_any (λ f. lacking_alike g d r (with_newest d n) f own.entries i) met.done
 
     calm : (list_any (has_news d r) met.done && fails_at d r calls.PutFile) ≡ false
     calm = subst (λ (b : Bool). (b && fails_at d r calls.PutFile) ≡ false) alike
-        (walk_is_calm d r (list_any (lacks_of (raised d n)) met.done) (tells n.keeper) (tells m.keeper).failing own.store met.calls)
+        (walk_is_calm d r (list_any (lacks_of (with_newest d n)) met.done) (tells n.keeper) (tells m.keeper).failing own.store met.calls)
 
     cut : merges r other d ≡ merges_files r (met.next ∷ met.left) mid
     cut = ap (λ (files : Files). merges_files r files d) whole ∙ merges_cut r met.done (met.next ∷ met.left) d calm
 
     entries : HasEntriesOf g mid r m
-    entries = entries_over g mid r (over n.keeper (merge_files (raised d n) met.done)) m (merged_front tells g d r (raised d n) met.done (tells m.keeper).failing own met.calls) met.node
+    entries = entries_over g mid r (over n.keeper (merge_files (with_newest d n) met.done)) m (merged_front tells g d r (with_newest d n) met.done (tells m.keeper).failing own met.calls) met.node
 
 -- ---- compactions
 
@@ -213,14 +213,14 @@ cut_at (f ∷ files) (path ∷ done) next left e =
 
 pub compact_stops : {K : Type 0} → StopLaws → (tells : K → StoreView) (g : DriverInput) (d : Driver) (r : ℕ) (n m : NodeView K) (was after : FleetView K) → HasCome tells g d was → OneGoesOn r n m was after → OthersAreFew r was.nodes
     → m.time ≤ 1000000000000 → m.count < 2 ^ 62
-    → MeetsFull (compact_files (raised d n)) shrinks_at (keys_of n.branch) (tells n.keeper).failing (tells m.keeper).failing (raised d n) m → StopsAtFull g r (compacts r d) after.run
+    → MeetsFull (compact_files (with_newest d n)) shrinks_at (keys_of n.branch) (tells n.keeper).failing (tells m.keeper).failing (with_newest d n) m → StopsAtFull g r (compacts r d) after.run
 compact_stops {K} laws tells g d r n m was after h step few early counted met =
     subst (λ (x : Driver). StopsAtFull g r x after.run) (sym cut)
     (stops_there tells g d mid (compacts_files r (at.file ∷ at.rest) mid) r n m was after h step few (goes_compacts_files r at.front d).on entries met.full early counted
     (laws.compacts_start g r at.front (at.file ∷ at.rest) d (is_known tells g d r n was h step.before) whole)
     (comes_compacting laws r at.file at.rest mid (sym (shrinking_alike g mid r m at.file.0 entries) ∙ (ap (shrinks_at m) at.key ∙ met.writes))))
   where
-    own : IsRaised tells g d r (raised d n)
+    own : IsRaised tells g d r (with_newest d n)
     own = raised_is tells g d r n (h.each r n step.before)
 
     at : CutAt n.branch met.done met.next
@@ -232,12 +232,12 @@ compact_stops {K} laws tells g d r n m was after h step few early counted met =
     whole : branch d.past r ≡ at.front ++ at.file ∷ at.rest
     whole = sym own.entries.branch ∙ at.whole
 
-    node_calm : (list_any (shrinks_at (raised d n)) (map (λ f. f.0) at.front) && fails_at d r calls.PutFile) ≡ false
-    node_calm = subst (λ (paths : List (List ℕ)). (list_any (shrinks_at (raised d n)) paths && fails_at d r calls.PutFile) ≡ false) (sym at.keys)
-        (walk_is_calm d r (list_any (shrinks_at (raised d n)) met.done) (tells n.keeper) (tells m.keeper).failing own.store met.calls)
+    node_calm : (list_any (shrinks_at (with_newest d n)) (map (λ f. f.0) at.front) && fails_at d r calls.PutFile) ≡ false
+    node_calm = subst (λ (paths : List (List ℕ)). (list_any (shrinks_at (with_newest d n)) paths && fails_at d r calls.PutFile) ≡ false) (sym at.keys)
+        (walk_is_calm d r (list_any (shrinks_at (with_newest d n)) met.done) (tells n.keeper) (tells m.keeper).failing own.store met.calls)
 
-    alike : list_any (shrinks_at (raised d n)) (map (λ f. f.0) at.front) ≡ list_any (λ f. script.shrinks d r (file_of f.0)) at.front
-    alike = any_map (shrinks_at (raised d n)) (λ f. f.0) at.front ∙ (λ i. list_any (λ f. shrinking_alike g d r (raised d n) f.0 own.entries i) at.front)
+    alike : list_any (shrinks_at (with_newest d n)) (map (λ f. f.0) at.front) ≡ list_any (λ f. script.shrinks d r (file_of f.0)) at.front
+    alike = any_map (shrinks_at (with_newest d n)) (λ f. f.0) at.front ∙ (λ i. list_any (λ f. shrinking_alike g d r (with_newest d n) f.0 own.entries i) at.front)
 
     calm : (list_any (λ f. script.shrinks d r (file_of f.0)) at.front && fails_at d r calls.PutFile) ≡ false
     calm = subst (λ (b : Bool). (b && fails_at d r calls.PutFile) ≡ false) alike node_calm
@@ -246,5 +246,5 @@ compact_stops {K} laws tells g d r n m was after h step few early counted met =
     cut = ap (λ (files : Files). compacts_files r files d) whole ∙ compacts_cut r at.front (at.file ∷ at.rest) d calm
 
     entries : HasEntriesOf g mid r m
-    entries = entries_over g mid r (compact_files (raised d n) (map (λ f. f.0) at.front)) m (compacted_front tells g d r (raised d n) at.front own node_calm).entries
-        (met.node ∙ ap (λ (paths : List (List ℕ)). over m.keeper (compact_files (raised d n) paths)) (sym at.keys))
+    entries = entries_over g mid r (compact_files (with_newest d n) (map (λ f. f.0) at.front)) m (compacted_front tells g d r (with_newest d n) at.front own node_calm).entries
+        (met.node ∙ ap (λ (paths : List (List ℕ)). over m.keeper (compact_files (with_newest d n) paths)) (sym at.keys))

@@ -25,7 +25,7 @@ use Rattle.run_model.specs.States.{works}
 use Rattle.node_model.specs.After.{AgreesAtDrops, states}
 use Rattle.node_model.specs.AnyTime.{all_ends}
 use Rattle.node_model.specs.Ends.{EndName, sends_at, sent_at, taken_at}
-use Rattle.node_model.specs.Look.{Look, Made, entry_of}
+use Rattle.node_model.specs.Look.{Look, Effect, entry_of}
 use Rattle.node_model.specs.Sessions.{Session}
 use Rattle.node_model.specs.SetUp.{SetUp}
 use Rattle.node_model.specs.State.{State}
@@ -37,7 +37,7 @@ use Rattle.node_sessions.specs.Pieces.{IsPieceOf}
 use Rattle.node_sessions.specs.Sessions.{AreSessions}
 use Rattle.node_jobs.specs.Running.{words_at, work_now}
 use Rattle.node_parts.specs.Posting.{Posts, after_step as end_after_step, word_with}
-use Rattle.link_flights.specs.Fleets.{AreAllCarried, AreEndsIn, AreOwnEndsIn, Posted}
+use Rattle.link_flights.specs.Fleets.{AreAllCarried, AreEndsIn, AreOwnEndsIn, PostsAsDefined}
 use Rattle.link_flights.specs.Flights.{HasAtHand, IsEndIn}
 use Rattle.race_core.specs.Jobs.{AnswersAsked, AreJobs}
 use Rattle.link_flights.specs.Heard.{HeardSo, WordsGoOn}
@@ -55,7 +55,7 @@ use Rattle.repo_node.specs.TurnCalls.{step_calls}
 use Rattle.repo_node.specs.Turning.{Adds, IsIdle, StepsBy, done_in, stamp_then, words_by}
 use Rattle.fleet_model.specs.Fleets.{AreUnused, FleetView, HasCome, links_at}
 use Rattle.fleet_model.specs.Matches.{DecidesMatches}
-use Rattle.fleet_model.specs.Steps.{OneTurns, raised, with_links}
+use Rattle.fleet_model.specs.Steps.{OneTurns, with_newest, with_links}
 use Rattle.fleet_model.specs.Stores.{IsTold, content_in}
 use Rattle.fleet_model.specs.Turns.{IsWhole, StandsWell}
 use Rattle.fleet_model.proofs.Bounds.{AreShortParts, kind_is_small, largest_fits}
@@ -83,28 +83,28 @@ pub record TurnLaws : Type 0 where
   pub looks : LookLaws
   pub ends : EndLaws
   pub words : WordLaws
-  pub found : (g : DriverInput) (r : ℕ) (d : Driver) (m : Made) → MakesStep g r d m → turn g r d ≡ after_step g r d m
+  pub found : (g : DriverInput) (r : ℕ) (d : Driver) (m : Effect) → MakesStep g r d m → turn g r d ≡ after_step g r d m
   pub idle : (g : DriverInput) (r : ℕ) (d : Driver) → step (set_up_of g d r) (state_at g d r) (plain_look (set_up_of g d r) (driver_at_turn g r d)) ≡ None → turn g r d ≡ driver_at_turn g r d
   pub stays : (g : DriverInput) (r : ℕ) (d : Driver) → IsKnown g r → StaysSound g d (turn g r d)
-  pub read : (s : SetUp) (past : List Entry) (m : Made) (words : ℕ → ℕ → Option Word) (own : ℕ → Option Word) → HeardSo past s.number words
+  pub read : (s : SetUp) (past : List Entry) (m : Effect) (words : ℕ → ℕ → Option Word) (own : ℕ → Option Word) → HeardSo past s.number words
       → ((j : ℕ) (outcome : Outcome) → m.kind ≡ kinds.End j outcome → (c : ℕ) → own c ≡ words j c) → AgreeWhereRead s (runs.state_of s past) m own (told_words past s.number m.kind)
   pub room : (g : DriverInput) (links : List EndView) (s : SetUp) (d : Driver) (a : EndName) (v : EndView) → IsSound g d → length d.past < 2 ^ 30 → AreEnds links s (runs.state_of s d.past) → Member a (all_ends s)
       → link_at links a ≡ Some v → IsEndIn d.flights s.number a v → room_at links a ≡ (plain_look s (without_old_flights (runs.state_of s d.past) s.number d)).room a
   pub own_room : (g : DriverInput) (d : Driver) (r : ℕ) (a : EndName) → IsSound g d → a.peer ≡ r → has_room r d.flights a ≡ true
-  pub sends : (g : DriverInput) (d : Driver) (r : ℕ) (k : Look) (m : Made) → IsSound g d → IsKnown g r → k.part < 2 ^ 62 → step (set_up_of g d r) (state_at g d r) k ≡ Some m → Each (λ f. f.peer ≢ r) m.sent
-  pub takes : (g : DriverInput) (d : Driver) (r : ℕ) (k : Look) (m : Made) (f : FrameView) → IsSound g d → IsKnown g r → k.part < 2 ^ 62 → step (set_up_of g d r) (state_at g d r) k ≡ Some m → m.taken ≡ Some f → f.peer ≢ r
+  pub sends : (g : DriverInput) (d : Driver) (r : ℕ) (k : Look) (m : Effect) → IsSound g d → IsKnown g r → k.part < 2 ^ 62 → step (set_up_of g d r) (state_at g d r) k ≡ Some m → Each (λ f. f.peer ≢ r) m.sent
+  pub takes : (g : DriverInput) (d : Driver) (r : ℕ) (k : Look) (m : Effect) (f : FrameView) → IsSound g d → IsKnown g r → k.part < 2 ^ 62 → step (set_up_of g d r) (state_at g d r) k ≡ Some m → m.taken ≡ Some f → f.peer ≢ r
   pub dropped : (d : Driver) (st : State) (r : ℕ) (a : EndName) (v : EndView) → a.peer ≢ r → st.ends a ≡ stands v → IsEndIn d.flights r a v → IsEndIn (without_old_flights st r d).flights r a (after_drop v)
   pub worded : (s : SetUp) (d : Driver) (was now : ℕ → List EndView) (mine : List EndView) (e : Entry) (sender : EntryStamp) (word : EndName → Sending → Option Word) (said : EndName → List Sending)
       → s.number < length s.repos → AreEnds (was s.number) s (runs.state_of s d.past) → AreEndsIn d.flights (length s.repos) was → AreAllWorded d.past (length s.repos) was → e.repo ≡ Some s.number → TellsWords e word
-      → Posted s (runs.state_of s d.past) (without_old_flights (runs.state_of s d.past) s.number d) sender word said (map after_drop (was s.number)) mine e
+      → PostsAsDefined s (runs.state_of s d.past) (without_old_flights (runs.state_of s d.past) s.number d) sender word said (map after_drop (was s.number)) mine e
       → AreAllCarried (length s.repos) s.number mine was now → AreAllWorded (e ∷ d.past) (length s.repos) now
   pub worded_idly : (s : SetUp) (d : Driver) (was now : ℕ → List EndView) → s.number < length s.repos → AreEnds (was s.number) s (runs.state_of s d.past) → AreEndsIn d.flights (length s.repos) was
       → AreAllWorded d.past (length s.repos) was → AreAllCarried (length s.repos) s.number (map after_drop (was s.number)) was now → AreAllWorded d.past (length s.repos) now
   pub jobs : (g : DriverInput) (d : Driver) (r : ℕ) → IsSound g d → AreJobs (works d.past r)
   pub asked : (g : DriverInput) (d : Driver) (past : List Entry) (e : Entry) (r : ℕ) → IsSound g d → d.past ≡ e ∷ past → is_of r e ≡ true → AnswersAsked past r e
-  pub changed : (s : SetUp) (past : List Entry) (k : Look) (m : Made) (e : Entry) → step s (runs.state_of s past) k ≡ Some m → e.repo ≡ Some s.number → e.kind ≡ m.kind → e.taken ≡ m.taken → e.sent ≡ m.sent
+  pub changed : (s : SetUp) (past : List Entry) (k : Look) (m : Effect) (e : Entry) → step s (runs.state_of s past) k ≡ Some m → e.repo ≡ Some s.number → e.kind ≡ m.kind → e.taken ≡ m.taken → e.sent ≡ m.sent
       → AreJobs (works past s.number) → ChangesByAnswers past s.number e
-  pub stepped : (s : SetUp) (past : List Entry) (k : Look) (m : Made) (e : Entry) (ends : ℕ → List EndView) (was now : ℕ → ℕ → Option Word) → s.number < length s.repos
+  pub stepped : (s : SetUp) (past : List Entry) (k : Look) (m : Effect) (e : Entry) (ends : ℕ → List EndView) (was now : ℕ → ℕ → Option Word) → s.number < length s.repos
       → AreEnds (ends s.number) s (runs.state_of s past) → AreAllWorded past (length s.repos) ends → k.at_hand ≡ flat_map (λ b. option_to_list (hand_at (map after_drop (ends s.number)) b)) (all_ends s)
       → step s (runs.state_of s past) k ≡ Some m → e.repo ≡ Some s.number → e.kind ≡ m.kind → e.taken ≡ m.taken → AreJobs (works past s.number) → AnswersAsked past s.number e
       → WordsGoOn (map after_drop (ends s.number)) past s.number e was now → HeardSo past s.number was → HeardSo (e ∷ past) s.number now
@@ -157,7 +157,7 @@ rooms_agree laws tells g d r n was h at well a there = go (link_at n.parts.links
 
 pub turn_comes : {K : Type 0} → TurnLaws → (tells : K → StoreView) (g : DriverInput) (d : Driver) (r : ℕ) (n m : NodeView K) (was after : FleetView K)
     → DecidesMatches g → HasCome tells g d was → OneTurns r n m was after → StandsWell g d r n
-    → Adds (map after_drop n.parts.links) (tells n.keeper) (tells m.keeper) (raised d n) m → StepsBy step step_calls (tells n.keeper) (tells m.keeper) (raised d n) m
+    → Adds (map after_drop n.parts.links) (tells n.keeper) (tells m.keeper) (with_newest d n) m → StepsBy step step_calls (tells n.keeper) (tells m.keeper) (with_newest d n) m
     → (AreSmallParts (tells n.keeper).parts → AreSmallParts (tells m.keeper).parts) → IsWhole tells m → m.time ≤ 1000000000000 → m.count < 2 ^ 62 → HasCome tells g (turn g r d) after
 turn_comes {K} laws tells g d r n m was after decides h one well ad by small whole early few =
     turned laws.words tells g d r n m made was after h one is raised_m ends_after words_after heard_after unused_after small_made (λ before. large) early few (laws.stays g r d well.known)
@@ -171,7 +171,7 @@ turn_comes {K} laws tells g d r n m was after decides h one well ad by small who
     c : Driver
     c = driver_at_turn g r d
 
-    own : IsRaised tells g d r (raised d n)
+    own : IsRaised tells g d r (with_newest d n)
     own = raised_is tells g d r n (h.each r n one.before)
 
     links_are : links_at was.nodes r ≡ n.parts.links
@@ -180,11 +180,11 @@ turn_comes {K} laws tells g d r n m was after decides h one well ad by small who
     ends_are : AreEnds n.parts.links s st
     ends_are = ends_stand laws tells g d r n was h one.before well
 
-    tm : TurnMade g d r (raised d n) m by.kind by.taken
-    tm = node_makes_step laws.looks tells g d r (raised d n) m h.sound own decides well.parts (own_ends laws tells g d r n was h one.before well) (rooms_agree laws tells g d r n was h one.before well)
-        (λ made. laws.read s d.past made (words_at n.parts.jobs.running) (words_by (raised d n) made.kind) (h.each r n one.before).heard (λ j outcome e c. ap (λ (kind : EntryKind). words_by (raised d n) kind c) e)) by
+    tm : TurnMade g d r (with_newest d n) m by.kind by.taken
+    tm = node_makes_step laws.looks tells g d r (with_newest d n) m h.sound own decides well.parts (own_ends laws tells g d r n was h one.before well) (rooms_agree laws tells g d r n was h one.before well)
+        (λ made. laws.read s d.past made (words_at n.parts.jobs.running) (words_by (with_newest d n) made.kind) (h.each r n one.before).heard (λ j outcome e c. ap (λ (kind : EntryKind). words_by (with_newest d n) kind c) e)) by
 
-    made : Made
+    made : Effect
     made = tm.made
 
     is : turn g r d ≡ after_step g r d made
@@ -219,7 +219,7 @@ turn_comes {K} laws tells g d r n m was after decides h one well ad by small who
         )
 
     raised_m : IsRaised tells g (after_step g r d made) r m
-    raised_m = turned_node laws.looks.found tells g d r (raised d n) m by.kind by.taken own (agreed laws tells g d r n was h one.before) well.parts hand ad tm
+    raised_m = turned_node laws.looks.found tells g d r (with_newest d n) m by.kind by.taken own (agreed laws tells g d r n was h one.before) well.parts hand ad tm
 
     -- the store stays small
 
@@ -266,7 +266,7 @@ turn_comes {K} laws tells g d r n m was after decides h one well ad by small who
         (λ key. stands_after.stands.stored.content key ∙ ap (λ (xs : List Entry). (states s xs).content key) history)
 
     sender : EntryStamp
-    sender = stamp_then (raised d n)
+    sender = stamp_then (with_newest d n)
 
     p : Posts sender e.kind (map after_drop (links_at was.nodes r)) m.parts.links e.taken e.sent
     p = record {
@@ -293,7 +293,7 @@ turn_comes {K} laws tells g d r n m was after decides h one well ad by small who
         go (Some x) has piece = piece_is_given c st r x a f bytes has (Member-filter_parts (sends_at a) ad.entry.sent f among).1 of_sessions.0 body
             (subst (λ (session : Session). IsPieceOf x session.doing bytes) (sym (ap (λ (y : State). y.sessions a) (agreed laws tells g d r n was h one.before).same)) (piece x refl s (nodes.state_of s n.history) well.parts.sessions))
 
-    posted : Posted s st c sender (λ a. word_with a e.taken e.kind) ad.posts.posts.said (map after_drop (links_at was.nodes r)) m.parts.links e
+    posted : PostsAsDefined s st c sender (λ a. word_with a e.taken e.kind) ad.posts.posts.said (map after_drop (links_at was.nodes r)) m.parts.links e
     posted = is_posted laws.ends s st d tm.is_step.look made e (links_at was.nodes) m.parts.links sender well.known ends_were h.ends tm.is_step.steps tm.is_step.is_look.hand_is refl refl p
         (λ a f bytes among told. pieces a f bytes (subst (λ (x : Entry). Member f (sent_at a x.sent)) (sym entry) among) told)
 
@@ -353,7 +353,7 @@ turn_comes {K} laws tells g d r n m was after decides h one well ad by small who
 
 pub idle_comes : {K : Type 0} → TurnLaws → (tells : K → StoreView) (g : DriverInput) (d : Driver) (r : ℕ) (n m : NodeView K) (was after : FleetView K)
     → HasCome tells g d was → OneTurns r n m was after → StandsWell g d r n
-    → m ≡ with_links (raised d n) (map after_drop n.parts.links) → IsIdle (raised d n) (set_up_of g d r) → HasCome tells g (turn g r d) after
+    → m ≡ with_links (with_newest d n) (map after_drop n.parts.links) → IsIdle (with_newest d n) (set_up_of g d r) → HasCome tells g (turn g r d) after
 idle_comes {K} laws tells g d r n m was after h one well but idle =
     turned_idly tells g d r n m was after h one is raised_m ends_after words_after heard_after unused_after (laws.stays g r d well.known)
   where
@@ -363,7 +363,7 @@ idle_comes {K} laws tells g d r n m was after h one well but idle =
     st : State
     st = state_at g d r
 
-    own : IsRaised tells g d r (raised d n)
+    own : IsRaised tells g d r (with_newest d n)
     own = raised_is tells g d r n (h.each r n one.before)
 
     links_are : links_at was.nodes r ≡ n.parts.links
@@ -376,7 +376,7 @@ idle_comes {K} laws tells g d r n m was after h one well but idle =
     ends_were = subst (λ (links : List EndView). AreEnds links s st) (sym links_are) (ends_stand laws tells g d r n was h one.before well)
 
     is : turn g r d ≡ driver_at_turn g r d
-    is = laws.idle g r d (none_ready laws.looks tells g d r (raised d n) h.sound own well.parts (own_ends laws tells g d r n was h one.before well) (rooms_agree laws tells g d r n was h one.before well) idle)
+    is = laws.idle g r d (none_ready laws.looks tells g d r (with_newest d n) h.sound own well.parts (own_ends laws tells g d r n was h one.before well) (rooms_agree laws tells g d r n was h one.before well) idle)
 
     raised_m : IsRaised tells g d r m
     raised_m = subst (λ (x : NodeView K). IsRaised tells g d r x) (sym but)

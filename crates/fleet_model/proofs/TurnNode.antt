@@ -22,7 +22,7 @@ use Rattle.node_model.specs.Ends.{server_end, takes_at}
 use Rattle.node_model.specs.Found.{ByJob, ByOwed, BySession, IsJobEntry, JobTakes, IsSessionEntry, StepFound}
 use Rattle.node_model.specs.Jobs.{job_end}
 use Rattle.node_model.specs.JobStep.{turn_of}
-use Rattle.node_model.specs.Look.{Look, Made, entry_of}
+use Rattle.node_model.specs.Look.{Look, Effect, entry_of}
 use Rattle.node_model.specs.Rows.{same_owner}
 use Rattle.node_model.specs.Sessions as sessions
 use Rattle.node_model.specs.SessionStep.{here}
@@ -94,28 +94,28 @@ is_scripted (kinds.Compact file) = true
 is_scripted (kinds.Crash clock) = true
 is_scripted kind = false
 
-no_session_makes : (s : SetUp) (st : State) (k : Look) (m : Made) → BySession s st k m → (kind : EntryKind) → is_scripted kind ≡ true → m.kind ≡ kind → ⊥
+no_session_makes : (s : SetUp) (st : State) (k : Look) (m : Effect) → BySession s st k m → (kind : EntryKind) → is_scripted kind ≡ true → m.kind ≡ kind → ⊥
 no_session_makes s st k m x (kinds.Compact file) scripted e =
     subst (λ (kind : EntryKind). IsSessionEntry (here s st k (server_end x.peer x.slot)) (st.sessions (server_end x.peer x.slot)).doing x.asked x.says kind) e x.found
 no_session_makes s st k m x (kinds.Crash clock) scripted e =
     subst (λ (kind : EntryKind). IsSessionEntry (here s st k (server_end x.peer x.slot)) (st.sessions (server_end x.peer x.slot)).doing x.asked x.says kind) e x.found
 no_session_makes s st k m x kind scripted e = absurd (cc)
 
-no_job_makes : (s : SetUp) (st : State) (k : Look) (m : Made) → ByJob s st k m → (kind : EntryKind) → is_scripted kind ≡ true → m.kind ≡ kind → ⊥
+no_job_makes : (s : SetUp) (st : State) (k : Look) (m : Effect) → ByJob s st k m → (kind : EntryKind) → is_scripted kind ≡ true → m.kind ≡ kind → ⊥
 no_job_makes s st k m x (kinds.Compact file) scripted e = subst (λ (kind : EntryKind). IsJobEntry (turn_of s st k x.w) m kind) e x.found
 no_job_makes s st k m x (kinds.Crash clock) scripted e = subst (λ (kind : EntryKind). IsJobEntry (turn_of s st k x.w) m kind) e x.found
 no_job_makes s st k m x kind scripted e = absurd (cc)
 
-no_owed_makes : (s : SetUp) (st : State) (k : Look) (m : Made) → ByOwed s st k m → (kind : EntryKind) → is_scripted kind ≡ true → m.kind ≡ kind → ⊥
+no_owed_makes : (s : SetUp) (st : State) (k : Look) (m : Effect) → ByOwed s st k m → (kind : EntryKind) → is_scripted kind ≡ true → m.kind ≡ kind → ⊥
 no_owed_makes s st k m x kind scripted e = elim (x.writes) [
-  | inl w ↦ clash (ap is_scripted (sym (ap (λ (y : Made). y.kind) w) ∙ e) ∙ scripted)
-  | inr w ↦ clash (ap is_scripted (sym (ap (λ (y : Made). y.kind) w) ∙ e) ∙ scripted)
+  | inl w ↦ clash (ap is_scripted (sym (ap (λ (y : Effect). y.kind) w) ∙ e) ∙ scripted)
+  | inr w ↦ clash (ap is_scripted (sym (ap (λ (y : Effect). y.kind) w) ∙ e) ∙ scripted)
 ]
   where
     clash : false ≡ true → ⊥
     clash e = cc
 
-pub no_step_makes : (s : SetUp) (st : State) (k : Look) (m : Made) → StepFound s st k m → (kind : EntryKind) → is_scripted kind ≡ true → m.kind ≡ kind → ⊥
+pub no_step_makes : (s : SetUp) (st : State) (k : Look) (m : Effect) → StepFound s st k m → (kind : EntryKind) → is_scripted kind ≡ true → m.kind ≡ kind → ⊥
 no_step_makes s st k m (inl x) kind scripted e = no_owed_makes s st k m x kind scripted e
 no_step_makes s st k m (inr (inl x)) kind scripted e = no_session_makes s st k m x kind scripted e
 no_step_makes s st k m (inr (inr x)) kind scripted e = no_job_makes s st k m x kind scripted e
@@ -128,10 +128,10 @@ branch_alike b kind lines never = refl
 -- ---- the parts
 
 -- a frame of a client comes to a session of s
-pub served_to : (s : SetUp) (st : State) (k : Look) (m : Made) (f : FrameView) → StepFound s st k m → m.taken ≡ Some f → f.up ≡ true → Member (f.peer, f.slot) (served_connections s)
+pub served_to : (s : SetUp) (st : State) (k : Look) (m : Effect) (f : FrameView) → StepFound s st k m → m.taken ≡ Some f → f.up ≡ true → Member (f.peer, f.slot) (served_connections s)
 served_to s st k m f (inl o) taken up = elim (o.writes) [
-  | inl w ↦ absurd (let none : None ≡ Some f = sym (ap (λ (y : Made). y.taken) w) ∙ taken in cc)
-  | inr w ↦ absurd (let none : None ≡ Some f = sym (ap (λ (y : Made). y.taken) w) ∙ taken in cc)
+  | inl w ↦ absurd (let none : None ≡ Some f = sym (ap (λ (y : Effect). y.taken) w) ∙ taken in cc)
+  | inr w ↦ absurd (let none : None ≡ Some f = sym (ap (λ (y : Effect). y.taken) w) ∙ taken in cc)
 ]
 served_to s st k m f (inr (inl x)) taken up = elim (x.frame) [
   | inl t ↦
@@ -192,7 +192,7 @@ parts_alike s st xs known kind f bytes are served = go f.up refl
         ∙ sym (ap (λ (b : Bool). if b then parts_after_frame (st.sessions (end_to f)).doing f.body bytes kind known else known) e))
 
 -- a node's parts after a step are those that the definitions leave, with the bytes that the driver says were taken
-pub parts_are : {K : Type 0} (s : SetUp) (st : State) (k : Look) (m : Made) (n : NodeView K) (r : ℕ) (c : Driver) (known : Option Parts) (kind : EntryKind) (sent : List FrameView) → AreSessions s st.sessions n.parts.sessions
+pub parts_are : {K : Type 0} (s : SetUp) (st : State) (k : Look) (m : Effect) (n : NodeView K) (r : ℕ) (c : Driver) (known : Option Parts) (kind : EntryKind) (sent : List FrameView) → AreSessions s st.sessions n.parts.sessions
     → StepFound s st k m → ((f : FrameView) → m.taken ≡ Some f → (v : EndView) × (link_at n.parts.links (end_to f) ≡ Some v) × HasAtHand c.flights r (end_to f) (after_drop v))
     → parts_after_step (record n.parts { links = map after_drop n.parts.links }) (record { kind = kind; taken = m.taken; sent = sent }) known ≡ parts_of_step st m.taken (turning.bytes_taken r m.taken c) kind known
 parts_are {K} s st k m n r c known kind sent are found hand = go m.taken refl

@@ -14,7 +14,7 @@ use Rattle.p2p_wire.specs.declared.message.Message.TheVariants.{Valid}
 use Rattle.p2p_wire.specs.Messages.{message_of}
 use Rattle.object_store.specs.Stores.{Parts, with_at}
 use Rattle.node_model.specs.Ends.{end_takes, frames}
-use Rattle.node_model.specs.Look.{Look, Made, first_of}
+use Rattle.node_model.specs.Look.{Look, Effect, first_of}
 use Rattle.node_model.specs.Sessions.{Doing, Takes, Took, line_in, message_said}
 use Rattle.node_model.specs.SessionStep.{Reply, here, on_frame}
 use Rattle.node_model.specs.SetUp.{SetUp}
@@ -50,11 +50,11 @@ server_parts : (st : State) (f : FrameView) (bytes : List ℕ) (kind : EntryKind
     → parts_of_step st (Some f) bytes kind known ≡ parts_after_frame (st.sessions (end_to f)).doing f.body bytes kind known
 server_parts st f bytes kind known up = ap (λ (b : Bool). if b then parts_after_frame (st.sessions (end_to f)).doing f.body bytes kind known else known) up
 
-taken_parts : (st : State) (m : Made) (f : FrameView) (bytes : List ℕ) (kind : EntryKind) (known : Option Parts) → m.taken ≡ Some f
+taken_parts : (st : State) (m : Effect) (f : FrameView) (bytes : List ℕ) (kind : EntryKind) (known : Option Parts) → m.taken ≡ Some f
     → parts_of_step st m.taken bytes kind known ≡ parts_of_step st (Some f) bytes kind known
 taken_parts st m f bytes kind known taken = ap (λ (o : Option FrameView). parts_of_step st o bytes kind known) taken
 
-none_parts : (st : State) (m : Made) (bytes : List ℕ) (kind : EntryKind) (known : Option Parts) → m.taken ≡ None → parts_of_step st m.taken bytes kind known ≡ known
+none_parts : (st : State) (m : Effect) (bytes : List ℕ) (kind : EntryKind) (known : Option Parts) → m.taken ≡ None → parts_of_step st m.taken bytes kind known ≡ known
 none_parts st m bytes kind known taken = ap (λ (o : Option FrameView). parts_of_step st o bytes kind known) taken
 
 -- a call that failed changed none
@@ -82,8 +82,8 @@ fault_parts st (Some f) bytes call by known = go f.up
 answer_fits : (s : SetUp) (st : State) (k : Look) (f : FrameView) → ReplyFits (st.sessions (end_to f)).doing f.body (on_frame (here s st k (end_to f)) (st.sessions (end_to f)) f.body)
 answer_fits s st k f = frame_fits (here s st k (end_to f)) (st.sessions (end_to f)) f.body
 
-answer_taken : (s : SetUp) (st : State) (k : Look) (m : Made) (f : FrameView) → IsAnswer s st k m f → m.taken ≡ Some f
-answer_taken s st k m f x = ap (λ (y : Made). y.taken) x.made
+answer_taken : (s : SetUp) (st : State) (k : Look) (m : Effect) (f : FrameView) → IsAnswer s st k m f → m.taken ≡ Some f
+answer_taken s st k m f x = ap (λ (y : Effect). y.taken) x.made
 
 -- a kind by which the parts stay
 abbrev IsQuiet : EntryKind → Type 0
@@ -98,14 +98,14 @@ quiet_stays doing body says (Gain by size key) quiet fits = absurd quiet
 quiet_stays doing body says (Fault call by) quiet fits = absurd quiet
 quiet_stays doing body says kind quiet fits = fits
 
-quiet_parts : (s : SetUp) (st : State) (k : Look) (m : Made) (kind : EntryKind) (bytes : List ℕ) (known : Option Parts) → Origin s st k m → m.kind ≡ kind → IsQuiet kind
+quiet_parts : (s : SetUp) (st : State) (k : Look) (m : Effect) (kind : EntryKind) (bytes : List ℕ) (known : Option Parts) → Origin s st k m → m.kind ≡ kind → IsQuiet kind
     → parts_of_step st m.taken bytes kind known ≡ known
 quiet_parts s st k m kind bytes known (TakesNone none) is quiet = none_parts st m bytes kind known none
 quiet_parts s st k m kind bytes known (Hears f x) is quiet = taken_parts st m f bytes kind known x.taken ∙ client_parts st f bytes kind known x.down
 quiet_parts s st k m kind bytes known (Answers f x) is quiet =
     let doing : Doing = (st.sessions (end_to f)).doing in
     let reply : Reply = on_frame (here s st k (end_to f)) (st.sessions (end_to f)) f.body in
-    let same : reply.kind ≡ kind = sym (ap (λ (y : Made). y.kind) x.made) ∙ is in
+    let same : reply.kind ≡ kind = sym (ap (λ (y : Effect). y.kind) x.made) ∙ is in
     taken_parts st m f bytes kind known (answer_taken s st k m f x)
     ∙ (server_parts st f bytes kind known x.up
     ∙ quiet_stays doing f.body reply.says kind quiet (subst (Fits doing f.body reply.says) same (answer_fits s st k f)) bytes known)
@@ -121,7 +121,7 @@ left_taken r bytes None f sent d leaves = refl
 left_taken r bytes (Some key) f sent d leaves = leaves r key bytes d
 
 -- the session's key is asked for
-session_asks : (st : State) (m : Made) (f : FrameView) (job : Option ℕ) (o : Option Message) (doing : Doing) → m.kind ≡ Talk job → job ≡ None → m.taken ≡ Some f
+session_asks : (st : State) (m : Effect) (f : FrameView) (job : Option ℕ) (o : Option Message) (doing : Doing) → m.kind ≡ Talk job → job ≡ None → m.taken ≡ Some f
     → line_in f.body ≡ o → (st.sessions (end_to f)).doing ≡ doing → asked_key st m ≡ first_of (put_key o) (filled_key doing)
 session_asks st m f job o doing kind no_job taken told does =
     ap (λ (y : Option ℕ). step_key st y m.taken) (ap job_of kind ∙ no_job)
@@ -139,7 +139,7 @@ stays_stored : (d d' : Driver) (r : ℕ) (v w : StoreView) → IsStoreOf d r v �
 stays_stored d d' r v w is same contents parts failing =
     subst (λ (x : Driver). IsStoreOf x r w) (sym same) (same_store d r v w is (record { contents = contents; parts = parts }) failing)
 
-module _ (s : SetUp) (st : State) (k : Look) (m : Made) (d : Driver) (r : ℕ) (bytes : List ℕ) (v w : StoreView) (is : IsStoreOf d r v) where
+module _ (s : SetUp) (st : State) (k : Look) (m : Effect) (d : Driver) (r : ℕ) (bytes : List ℕ) (v w : StoreView) (is : IsStoreOf d r v) where
   answered_talk : (f : FrameView) (x : IsAnswer s st k m f) (says : List FrameText) (job : Option ℕ) → m.kind ≡ Talk job
       → m.sent ≡ frames (end_to f) (end_takes (st.ends (end_to f)) f.epoch f.body) says → Talks (st.sessions (end_to f)).doing f.body says job
       → w.contents ≡ v.contents → w.parts ≡ parts_after_frame (st.sessions (end_to f)).doing f.body bytes (Talk job) v.parts → w.failing ≡ v.failing
@@ -191,8 +191,8 @@ module _ (s : SetUp) (st : State) (k : Look) (m : Made) (d : Driver) (r : ℕ) (
   talk_stored job (Answers f x) kind contents parts failing =
       let doing : Doing = (st.sessions (end_to f)).doing in
       let reply : Reply = on_frame (here s st k (end_to f)) (st.sessions (end_to f)) f.body in
-      let same : reply.kind ≡ Talk job = sym (ap (λ (y : Made). y.kind) x.made) ∙ kind in
-      answered_talk f x reply.says job kind (ap (λ (y : Made). y.sent) x.made) (subst (Fits doing f.body reply.says) same (answer_fits s st k f))
+      let same : reply.kind ≡ Talk job = sym (ap (λ (y : Effect). y.kind) x.made) ∙ kind in
+      answered_talk f x reply.says job kind (ap (λ (y : Effect). y.sent) x.made) (subst (Fits doing f.body reply.says) same (answer_fits s st k f))
       contents (parts ∙ (taken_parts st m f bytes (Talk job) v.parts (answer_taken s st k m f x) ∙ server_parts st f bytes (Talk job) v.parts x.up)) failing
 
   -- ---- a gain
@@ -210,7 +210,7 @@ module _ (s : SetUp) (st : State) (k : Look) (m : Made) (d : Driver) (r : ℕ) (
 
 -- ---- the step
 
-pub step_stored : Finds → (s : SetUp) (st : State) (k : Look) (m : Made) (d : Driver) (r : ℕ) (bytes : List ℕ) (v w : StoreView)
+pub step_stored : Finds → (s : SetUp) (st : State) (k : Look) (m : Effect) (d : Driver) (r : ℕ) (bytes : List ℕ) (v w : StoreView)
     → step s st k ≡ Some m → AreDrops st.works → IsStoreOf d r v
     → w.contents ≡ contents_after v.contents v.parts m.kind → w.parts ≡ parts_of_step st m.taken bytes m.kind v.parts → w.failing ≡ option_map (fewer (failed_call m.kind)) v.failing
     → IsStoreOf (store_after st r m bytes m.kind d) r w
@@ -265,7 +265,7 @@ frame_changes r bytes (Some key) (Some f) sent d = into_changes r key bytes f.bo
 frame_changes r bytes (Some key) None sent d = no_change r d
 frame_changes r bytes None taken sent d = no_change r d
 
-pub store_changes : (st : State) (r : ℕ) (m : Made) (bytes : List ℕ) (kind : EntryKind) (d : Driver) → ChangesStore r d (store_after st r m bytes kind d)
+pub store_changes : (st : State) (r : ℕ) (m : Effect) (bytes : List ℕ) (kind : EntryKind) (d : Driver) → ChangesStore r d (store_after st r m bytes kind d)
 store_changes st r m bytes (Gain by size key) d =
     record { past = refl; flights = refl; tree = refl; marks = refl; stores = λ q v apart is. committed_elsewhere d r q key v apart is }
 store_changes st r m bytes (Gone by key) d =

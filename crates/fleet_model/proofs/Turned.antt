@@ -7,7 +7,7 @@ use Rattle.link_ring.specs.Ends.{EndView}
 use Rattle.run_data.specs.declared.entry.Entry.{Entry}
 use Rattle.run_model.specs.Past.{now}
 use Rattle.run_model.specs.Run.{IsSmall}
-use Rattle.node_model.specs.Look.{Made, entry_of}
+use Rattle.node_model.specs.Look.{Effect, entry_of}
 use Rattle.link_flights.specs.Fleets.{AreEndsIn}
 use Rattle.driver_model.specs.Driver.{Driver, Flight, DriverInput, adds, newest_count, set_up_of, state_at}
 use Rattle.driver_model.specs.Finding.{after_step, driver_at_turn}
@@ -46,7 +46,7 @@ each_turned {K} P r n m was after step own others q x at = go (q == r) refl
         subst (P q) (sym y.2) (others q y.0 x.parts.links apart y.1)
 
 -- by its step r alone goes on
-pub turn_goes : (g : DriverInput) (d : Driver) (r : ℕ) (m : Made) → IsSmall m.kind → (d.largest < 2 ^ 62 → (after_step g r d m).largest < 2 ^ 62) → GoesOn r d (after_step g r d m)
+pub turn_goes : (g : DriverInput) (d : Driver) (r : ℕ) (m : Effect) → IsSmall m.kind → (d.largest < 2 ^ 62 → (after_step g r d m).largest < 2 ^ 62) → GoesOn r d (after_step g r d m)
 turn_goes g d r m small large = record {
   more = e ∷ [];
   past = change.past;
@@ -68,7 +68,7 @@ turn_goes g d r m small large = record {
   change : ChangesStore r d1 (after_step g r d m)
   change = store_changes (state_at g d r) r m (bytes_taken r m.taken (driver_at_turn g r d)) m.kind d1
 
-pub turned : {K : Type 0} → WordLaws → (tells : K → StoreView) (g : DriverInput) (d : Driver) (r : ℕ) (n m : NodeView K) (made : Made) (was after : FleetView K)
+pub turned : {K : Type 0} → WordLaws → (tells : K → StoreView) (g : DriverInput) (d : Driver) (r : ℕ) (n m : NodeView K) (made : Effect) (was after : FleetView K)
     → HasCome tells g d was → OneTurns r n m was after → turn g r d ≡ after_step g r d made → IsRaised tells g (after_step g r d made) r m
     → AreEndsIn (adds (state_at g d r) r (entry_of r (plain_look (set_up_of g d r) (driver_at_turn g r d)) made) (driver_at_turn g r d)).flights (length g.repos) (links_at after.nodes)
     → AreAllWorded (after_step g r d made).past (length g.repos) (links_at after.nodes) → HeardSo (after_step g r d made).past r (words_at m.parts.jobs.running) → AreUnused (links_at after.nodes)

@@ -9,8 +9,8 @@ goes_rounds g zero x = x
 goes_rounds g (suc n) x = goes_round g (goes_rounds g n x)
 
 -- before the first round
-abbrev pub unsettled : Driver → AfterRounds
-unsettled d = record { driver = d; idle = 0 }
+abbrev pub before_rounds : Driver → AfterRounds
+before_rounds d = record { driver = d; idle = 0 }
 
 -- two to this power
 abbrev pub power : ℕ → ℕ

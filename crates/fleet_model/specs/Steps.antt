@@ -16,8 +16,8 @@ use Rattle.fleet_model.specs.Fleets.{FleetView, links_at}
 use Rattle.repo_node.specs.Stored.{StoreView}
 
 -- the node with the time and the count of the driver's newest entry, which are no less than its own
-abbrev pub raised : {K : Type 0} → Driver → NodeView K → NodeView K
-raised d n = record n { time = max n.time (now d.past); count = max n.count (newest_count d.past) }
+abbrev pub with_newest : {K : Type 0} → Driver → NodeView K → NodeView K
+with_newest d n = record n { time = max n.time (now d.past); count = max n.count (newest_count d.past) }
 
 -- The node of r, which was n, is m; the others are as they were; and the run has m's new entries behind its own.
 pub record OneGoesOn {K : Type 0} (r : ℕ) (n m : NodeView K) (was after : FleetView K) : Type 0 where

@@ -42,8 +42,8 @@ ghost use Rattle.node_model.specs.Step.{step};
 ghost use Rattle.joined_nodes.specs.Joined.{AreNew, AreNodes};
 ghost use Rattle.fleet_model.specs.Fleets.{FleetView, HasCome};
 ghost use Rattle.fleet_model.specs.Matches.{DecidesMatches};
-ghost use Rattle.fleet_model.specs.Settling.{goes_rounds, power, unsettled};
-ghost use Rattle.fleet_model.specs.Steps.{HasLogged, OneGoesOn, OneTurns, StaysStored, raised, with_links};
+ghost use Rattle.fleet_model.specs.Settling.{goes_rounds, power, before_rounds};
+ghost use Rattle.fleet_model.specs.Steps.{HasLogged, OneGoesOn, OneTurns, StaysStored, with_newest, with_links};
 ghost use Rattle.fleet_model.specs.Stores.{IsStoreOf};
 ghost use Rattle.fleet_model.specs.Turns.{IsWhole, StandsWell};
 
@@ -74,47 +74,47 @@ pub fn fleets_begin<K>()
 pub fn fleets_do_lines<K>()
     ensures line { (tells : K → StoreView) (g : DriverInput) (d : Driver) (r : ℕ) (n m : NodeView K) (was after : FleetView K) (file : LogFile) (line : List ℕ) (failed : Option Call)
         → HasCome tells g d was → OneGoesOn r n m was after → StaysStored (tells n.keeper) (tells m.keeper)
-        → MakesCalls (to_log n file (line ∷ [])) failed (tells n.keeper).failing (tells m.keeper).failing → HasLogged file (line ∷ []) failed (raised d n) m
+        → MakesCalls (to_log n file (line ∷ [])) failed (tells n.keeper).failing (tells m.keeper).failing → HasLogged file (line ∷ []) failed (with_newest d n) m
         → m.time ≤ 1000000000000 → m.count < 2 ^ 62 → StaysSound g d (writes r file line d) → HasCome tells g (writes r file line d) after }
     ensures setting { (tells : K → StoreView) (g : DriverInput) (d : Driver) (r : ℕ) (n m : NodeView K) (was after : FleetView K) (kind : LogKind) (topic : Topic) (value : Value) (failed : Option Call)
         → HasCome tells g d was → OneGoesOn r n m was after → StaysStored (tells n.keeper) (tells m.keeper)
-        → MakesCalls (to_log n (Of kind) (line_text kind (stamped_by (raised d n) kind None (record { topic = topic; stamp = None; value = value })) ∷ [])) failed (tells n.keeper).failing (tells m.keeper).failing
-        → HasLogged (Of kind) (line_text kind (stamped_by (raised d n) kind None (record { topic = topic; stamp = None; value = value })) ∷ []) failed (raised d n) m
+        → MakesCalls (to_log n (Of kind) (line_text kind (stamped_by (with_newest d n) kind None (record { topic = topic; stamp = None; value = value })) ∷ [])) failed (tells n.keeper).failing (tells m.keeper).failing
+        → HasLogged (Of kind) (line_text kind (stamped_by (with_newest d n) kind None (record { topic = topic; stamp = None; value = value })) ∷ []) failed (with_newest d n) m
         → m.time ≤ 1000000000000 → m.count < 2 ^ 62 → StaysSound g d (sets g r kind topic value d) → HasCome tells g (sets g r kind topic value d) after }
     ensures merge { (tells : K → StoreView) (g : DriverInput) (d : Driver) (r other : ℕ) (n m o : NodeView K) (was after : FleetView K) (failed : Option Call)
         → HasCome tells g d was → OneGoesOn r n m was after → slice_get was.nodes other ≡ Some o → StaysStored (tells n.keeper) (tells m.keeper)
         → MakesCalls (to_merge n o.branch) failed (tells n.keeper).failing (tells m.keeper).failing
-        → (failed ≡ None → m ≡ over m.keeper (merge_files (raised d n) o.branch)) → ((call : Call) → failed ≡ Some call → RefusesSo refusals.StoreFault calls.PutFile (raised d n) m)
+        → (failed ≡ None → m ≡ over m.keeper (merge_files (with_newest d n) o.branch)) → ((call : Call) → failed ≡ Some call → RefusesSo refusals.StoreFault calls.PutFile (with_newest d n) m)
         → m.time ≤ 1000000000000 → m.count < 2 ^ 62 → StaysSound g d (merges r other d) → HasCome tells g (merges r other d) after }
     ensures compact { (tells : K → StoreView) (g : DriverInput) (d : Driver) (r : ℕ) (n m : NodeView K) (was after : FleetView K) (failed : Option Call)
         → HasCome tells g d was → OneGoesOn r n m was after → StaysStored (tells n.keeper) (tells m.keeper)
         → MakesCalls (to_compact n) failed (tells n.keeper).failing (tells m.keeper).failing
-        → (failed ≡ None → m ≡ over m.keeper (compact_files (raised d n) (keys_of n.branch))) → ((call : Call) → failed ≡ Some call → RefusesSo refusals.StoreFault calls.PutFile (raised d n) m)
+        → (failed ≡ None → m ≡ over m.keeper (compact_files (with_newest d n) (keys_of n.branch))) → ((call : Call) → failed ≡ Some call → RefusesSo refusals.StoreFault calls.PutFile (with_newest d n) m)
         → m.time ≤ 1000000000000 → m.count < 2 ^ 62 → StaysSound g d (compacts r d) → HasCome tells g (compacts r d) after }
     ensures content { (tells : K → StoreView) (g : DriverInput) (d : Driver) (r : ℕ) (n m : NodeView K) (was after : FleetView K) (key bytes : List ℕ) → HasCome tells g d was → OneGoesOn r n m was after
         → IsState (set_up_of g d r) n.parts n.branch n.owed (told_of (tells n.keeper).contents (tells n.keeper).parts) (state_of (set_up_of g d r) n.history)
-        → IsPlaced key bytes (tells n.keeper).contents (tells n.keeper).parts (tells m.keeper).contents (raised d n) m
+        → IsPlaced key bytes (tells n.keeper).contents (tells n.keeper).parts (tells m.keeper).contents (with_newest d n) m
         → IsDoneBy to_place key [] n.parts.table (tells n.keeper).contents (tells n.keeper).parts (tells m.keeper).parts (tells n.keeper).failing (tells m.keeper).failing
         → length bytes < 2 ^ 62 → m.time ≤ 1000000000000 → m.count < 2 ^ 62 → StaysSound g d (has g r key bytes d) → HasCome tells g (has g r key bytes d) after }
     ensures content_stops { (tells : K → StoreView) (g : DriverInput) (d : Driver) (r : ℕ) (n m : NodeView K) (was after : FleetView K) (key bytes : List ℕ) → HasCome tells g d was → OneGoesOn r n m was after
         → IsState (set_up_of g d r) n.parts n.branch n.owed (told_of (tells n.keeper).contents (tells n.keeper).parts) (state_of (set_up_of g d r) n.history)
-        → StopsAt to_place key bytes (tells n.keeper).contents (tells m.keeper).contents (tells n.keeper).parts (tells m.keeper).parts (tells n.keeper).failing (tells m.keeper).failing refusals.StoreFault (raised d n) m
+        → StopsAt to_place key bytes (tells n.keeper).contents (tells m.keeper).contents (tells n.keeper).parts (tells m.keeper).parts (tells n.keeper).failing (tells m.keeper).failing refusals.StoreFault (with_newest d n) m
         → length bytes < 2 ^ 62 → m.time ≤ 1000000000000 → m.count < 2 ^ 62 → StaysSound g d (has g r key bytes d) → HasCome tells g (has g r key bytes d) after }
     ensures part { (tells : K → StoreView) (g : DriverInput) (d : Driver) (r : ℕ) (n m : NodeView K) (was after : FleetView K) (key bytes : List ℕ) → HasCome tells g d was → OneGoesOn r n m was after
         → IsState (set_up_of g d r) n.parts n.branch n.owed (told_of (tells n.keeper).contents (tells n.keeper).parts) (state_of (set_up_of g d r) n.history)
-        → m ≡ over m.keeper (raised d n) → (tells m.keeper).contents ≡ (tells n.keeper).contents
+        → m ≡ over m.keeper (with_newest d n) → (tells m.keeper).contents ≡ (tells n.keeper).contents
         → IsDoneBy to_place_part key bytes n.parts.table (tells n.keeper).contents (tells n.keeper).parts (tells m.keeper).parts (tells n.keeper).failing (tells m.keeper).failing
         → length bytes < 2 ^ 62 → m.time ≤ 1000000000000 → m.count < 2 ^ 62 → StaysSound g d (sets_part g r key bytes d) → HasCome tells g (sets_part g r key bytes d) after }
     ensures part_stops { (tells : K → StoreView) (g : DriverInput) (d : Driver) (r : ℕ) (n m : NodeView K) (was after : FleetView K) (key bytes : List ℕ) → HasCome tells g d was → OneGoesOn r n m was after
         → IsState (set_up_of g d r) n.parts n.branch n.owed (told_of (tells n.keeper).contents (tells n.keeper).parts) (state_of (set_up_of g d r) n.history)
-        → StopsAt to_place_part key bytes (tells n.keeper).contents (tells m.keeper).contents (tells n.keeper).parts (tells m.keeper).parts (tells n.keeper).failing (tells m.keeper).failing refusals.StoreFault (raised d n) m
+        → StopsAt to_place_part key bytes (tells n.keeper).contents (tells m.keeper).contents (tells n.keeper).parts (tells m.keeper).parts (tells n.keeper).failing (tells m.keeper).failing refusals.StoreFault (with_newest d n) m
         → length bytes < 2 ^ 62 → m.time ≤ 1000000000000 → m.count < 2 ^ 62 → StaysSound g d (sets_part g r key bytes d) → HasCome tells g (sets_part g r key bytes d) after }
     ensures job { (tells : K → StoreView) (g : DriverInput) (d : Driver) (r : ℕ) (n m : NodeView K) (was after : FleetView K) (number : ℕ) (job : Job) → HasCome tells g d was → OneGoesOn r n m was after
         → AreParts (set_up_of g d r) (state_of (set_up_of g d r) n.history) n.parts → number ≡ n.parts.jobs.begun + 1 → length n.parts.jobs.running < 4
-        → m ≡ record (with_entry (raised d n) n.keeper n.branch (kinds.Begin number job) []) { parts = record n.parts { jobs = with_job n.parts.jobs job } }
+        → m ≡ record (with_entry (with_newest d n) n.keeper n.branch (kinds.Begin number job) []) { parts = record n.parts { jobs = with_job n.parts.jobs job } }
         → m.time ≤ 1000000000000 → m.count < 2 ^ 62 → StaysSound g d (begins r job d) → HasCome tells g (begins r job d) after }
     ensures no_slot { (tells : K → StoreView) (g : DriverInput) (d : Driver) (r : ℕ) (n m : NodeView K) (was after : FleetView K) (job : Job) → HasCome tells g d was → OneGoesOn r n m was after
-        → AreParts (set_up_of g d r) (state_of (set_up_of g d r) n.history) n.parts → 4 ≤ length n.parts.jobs.running → m ≡ raised d n
+        → AreParts (set_up_of g d r) (state_of (set_up_of g d r) n.history) n.parts → 4 ≤ length n.parts.jobs.running → m ≡ with_newest d n
         → m.time ≤ 1000000000000 → m.count < 2 ^ 62 → StaysSound g d (begins r job d) → HasCome tells g (begins r job d) after }
     ensures fail { (tells : K → StoreView) (g : DriverInput) (d : Driver) (r : ℕ) (call : Call) (n m : NodeView K) (was after : FleetView K) → HasCome tells g d was → OneGoesOn r n m was after
         → m ≡ record n { keeper = m.keeper } → (tells m.keeper).contents ≡ (tells n.keeper).contents → (tells m.keeper).parts ≡ (tells n.keeper).parts
@@ -140,11 +140,11 @@ pub fn fleets_do_lines<K>()
 pub fn fleets_take_turns<K>()
     ensures moved { (tells : K → StoreView) (g : DriverInput) (d : Driver) (r : ℕ) (n m : NodeView K) (was after : FleetView K)
         → DecidesMatches g → HasCome tells g d was → OneTurns r n m was after → StandsWell g d r n
-        → Adds (map after_drop n.parts.links) (tells n.keeper) (tells m.keeper) (raised d n) m → StepsBy step step_calls (tells n.keeper) (tells m.keeper) (raised d n) m
+        → Adds (map after_drop n.parts.links) (tells n.keeper) (tells m.keeper) (with_newest d n) m → StepsBy step step_calls (tells n.keeper) (tells m.keeper) (with_newest d n) m
         → (AreSmallParts (tells n.keeper).parts → AreSmallParts (tells m.keeper).parts) → IsWhole tells m → m.time ≤ 1000000000000 → m.count < 2 ^ 62 → HasCome tells g (turn g r d) after }
     ensures idle { (tells : K → StoreView) (g : DriverInput) (d : Driver) (r : ℕ) (n m : NodeView K) (was after : FleetView K)
         → HasCome tells g d was → OneTurns r n m was after → StandsWell g d r n
-        → m ≡ with_links (raised d n) (map after_drop n.parts.links) → IsIdle (raised d n) (set_up_of g d r) → HasCome tells g (turn g r d) after }
+        → m ≡ with_links (with_newest d n) (map after_drop n.parts.links) → IsIdle (with_newest d n) (set_up_of g d r) → HasCome tells g (turn g r d) after }
 {
     // For the proof, which cites them.
     carried_states_agree();
@@ -167,7 +167,7 @@ pub fn fleets_take_turns<K>()
 pub fn fleets_rest<K>()
     ensures { (tells : K → StoreView) (g : DriverInput) (d : Driver) (r : ℕ) (n m : NodeView K) (was after : FleetView K)
         → HasCome tells g d was → OneGoesOn r n m was after → AreNodes was.nodes → StandsWell g d r n → map after_drop n.parts.links ≡ n.parts.links
-        → m ≡ raised d n → IsIdle (raised d n) (set_up_of g d r) → HasCome tells g (turn g r d) after }
+        → m ≡ with_newest d n → IsIdle (with_newest d n) (set_up_of g d r) → HasCome tells g (turn g r d) after }
 {
     // For the proof, which cites them.
     ends_in_flight_are_carried();
@@ -177,8 +177,8 @@ pub fn fleets_rest<K>()
 /// The driver settles by rounds one behind the other, until it is settled, or until there were as many as there may be; and a round is
 /// a turn of each repository, in order of number (own).
 pub fn fleets_settle()
-    ensures early { (g : DriverInput) (d : Driver) (n : ℕ) → n ≤ power most_rounds → is_settled (goes_rounds g n (unsettled d)) ≡ true → settles g d ≡ (goes_rounds g n (unsettled d)).driver }
-    ensures most { (g : DriverInput) (d : Driver) → settles g d ≡ (goes_rounds g (power most_rounds) (unsettled d)).driver }
+    ensures early { (g : DriverInput) (d : Driver) (n : ℕ) → n ≤ power most_rounds → is_settled (goes_rounds g n (before_rounds d)) ≡ true → settles g d ≡ (goes_rounds g n (before_rounds d)).driver }
+    ensures most { (g : DriverInput) (d : Driver) → settles g d ≡ (goes_rounds g (power most_rounds) (before_rounds d)).driver }
     ensures round { (g : DriverInput) (n : ℕ) (x : AfterRounds) → is_settled (goes_rounds g n x) ≡ false → goes_rounds g (suc n) x ≡ after_round (goes_rounds g n x) (round g (goes_rounds g n x).driver) }
     ensures turn { (g : DriverInput) (n : ℕ) (d : Driver) → turns_of g (range_with_len 0 (suc n)) d ≡ turn g n (turns_of g (range_with_len 0 n) d) }
     ensures turns { (g : DriverInput) (r n : ℕ) (d : Driver) → turns g r (suc n) d ≡ turn g r (turns g r n d) }

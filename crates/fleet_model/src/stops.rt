@@ -22,7 +22,7 @@ ghost use Rattle.repo_node.specs.Stored.{StoreView};
 ghost use Rattle.repo_node.specs.Turning.{HasStep};
 ghost use Rattle.repo_node.specs.Walks.{compact_files, merge_files};
 ghost use Rattle.fleet_model.specs.Fleets.{FleetView, HasCome};
-ghost use Rattle.fleet_model.specs.Steps.{OneGoesOn, raised};
+ghost use Rattle.fleet_model.specs.Steps.{OneGoesOn, with_newest};
 ghost use Rattle.fleet_model.specs.Stopping.{OthersAreFew};
 ghost use Rattle.fleet_model.specs.Turns.{StandsWell};
 
@@ -43,7 +43,7 @@ use repo_node::steps_tell_the_failed_call;
 /// one (own).
 pub fn fleets_stop_at_full_histories<K>()
     ensures turn { (tells : K → StoreView) (g : DriverInput) (d : Driver) (r : ℕ) (n : NodeView K) (was : FleetView K) → HasCome tells g d was → slice_get was.nodes r ≡ Some n → OthersAreFew r was.nodes
-        → StandsWell g d r n → length n.history ≡ most_entries → HasStep (raised d n) (set_up_of g d r) → StopsAtFull g r (turn g r d) was.run }
+        → StandsWell g d r n → length n.history ≡ most_entries → HasStep (with_newest d n) (set_up_of g d r) → StopsAtFull g r (turn g r d) was.run }
     ensures job { (tells : K → StoreView) (g : DriverInput) (d : Driver) (r : ℕ) (n : NodeView K) (was : FleetView K) → HasCome tells g d was → slice_get was.nodes r ≡ Some n → OthersAreFew r was.nodes
         → (job : Job) → AreParts (set_up_of g d r) (state_of (set_up_of g d r) n.history) n.parts → length n.history ≡ most_entries → length n.parts.jobs.running < 4
         → StopsAtFull g r (begins r job d) was.run }
@@ -51,20 +51,20 @@ pub fn fleets_stop_at_full_histories<K>()
         → (file : LogFile) (line : List ℕ) → length n.history ≡ most_entries → lacks_some n file (line ∷ []) ≡ true → StopsAtFull g r (writes r file line d) was.run }
     ensures setting { (tells : K → StoreView) (g : DriverInput) (d : Driver) (r : ℕ) (n : NodeView K) (was : FleetView K) → HasCome tells g d was → slice_get was.nodes r ≡ Some n → OthersAreFew r was.nodes
         → (kind : LogKind) (topic : Topic) (value : Value) → length n.history ≡ most_entries
-        → lacks_some n (Of kind) (line_text kind (stamped_by (raised d n) kind None (record { topic = topic; stamp = None; value = value })) ∷ []) ≡ true
+        → lacks_some n (Of kind) (line_text kind (stamped_by (with_newest d n) kind None (record { topic = topic; stamp = None; value = value })) ∷ []) ≡ true
         → StopsAtFull g r (sets g r kind topic value d) was.run }
     ensures asked { (tells : K → StoreView) (g : DriverInput) (d : Driver) (r : ℕ) (n : NodeView K) (was : FleetView K) → HasCome tells g d was → slice_get was.nodes r ≡ Some n → OthersAreFew r was.nodes
         → (key bytes : List ℕ) → length n.history ≡ most_entries → (count_of d.past r ≡ most_entries) × (within_limit g (has g r key bytes d).past ≡ d.past) }
     ensures merge { (tells : K → StoreView) (g : DriverInput) (d : Driver) (r : ℕ) (n m : NodeView K) (was after : FleetView K) → HasCome tells g d was → OneGoesOn r n m was after → OthersAreFew r was.nodes
         → m.time ≤ 1000000000000 → m.count < 2 ^ 62 → (other : ℕ) (o : NodeView K) → slice_get was.nodes other ≡ Some o
-        → MeetsFull (merge_files (raised d n)) lacks_of o.branch (tells n.keeper).failing (tells m.keeper).failing (raised d n) m → StopsAtFull g r (merges r other d) after.run }
+        → MeetsFull (merge_files (with_newest d n)) lacks_of o.branch (tells n.keeper).failing (tells m.keeper).failing (with_newest d n) m → StopsAtFull g r (merges r other d) after.run }
     ensures compact { (tells : K → StoreView) (g : DriverInput) (d : Driver) (r : ℕ) (n m : NodeView K) (was after : FleetView K) → HasCome tells g d was → OneGoesOn r n m was after → OthersAreFew r was.nodes
         → m.time ≤ 1000000000000 → m.count < 2 ^ 62
-        → MeetsFull (compact_files (raised d n)) shrinks_at (keys_of n.branch) (tells n.keeper).failing (tells m.keeper).failing (raised d n) m → StopsAtFull g r (compacts r d) after.run }
+        → MeetsFull (compact_files (with_newest d n)) shrinks_at (keys_of n.branch) (tells n.keeper).failing (tells m.keeper).failing (with_newest d n) m → StopsAtFull g r (compacts r d) after.run }
     ensures content { (tells : K → StoreView) (g : DriverInput) (d : Driver) (r : ℕ) (n m : NodeView K) (was after : FleetView K) → HasCome tells g d was → OneGoesOn r n m was after → OthersAreFew r was.nodes
         → m.time ≤ 1000000000000 → m.count < 2 ^ 62 → (key bytes : List ℕ) → IsContent key bytes
         → IsState (set_up_of g d r) n.parts n.branch n.owed (told_of (tells n.keeper).contents (tells n.keeper).parts) (state_of (set_up_of g d r) n.history)
-        → MeetsFullBehind key bytes (tells n.keeper).contents (tells n.keeper).failing (tells m.keeper).failing (raised d n) m → length bytes < 2 ^ 62
+        → MeetsFullBehind key bytes (tells n.keeper).contents (tells n.keeper).failing (tells m.keeper).failing (with_newest d n) m → length bytes < 2 ^ 62
         → StopsAtFull g r (has g r key bytes d) after.run }
 {
     // For the proof, which cites them.

@@ -21,7 +21,7 @@ use Rattle.driver_model.specs.ScriptSteps.{begins, waits, will_fail}
 use Rattle.driver_model.specs.Sound.{StaysSound}
 use Rattle.node_jobs.specs.Acting.{with_job}
 use Rattle.node_parts.specs.Parts.{AreParts, PartsView}
-use Rattle.node_model.specs.Owed.{Owed}
+use Rattle.node_model.specs.OwedLines.{OwedLine}
 use Rattle.node_model.specs.SetUp.{SetUp}
 use Rattle.node_model.specs.State.{State}
 use Rattle.object_store.specs.Stores.{Contents, Parts}
@@ -34,8 +34,8 @@ use Rattle.joined_nodes.specs.Joined.{AtNode}
 use Rattle.fleet_model.specs.Fleets.{FleetView, HasCome, IsNodeOf}
 use Rattle.fleet_model.specs.Stores.{IsTold}
 use Rattle.fleet_model.specs.Turns.{IsWhole}
-use Rattle.fleet_model.specs.Steps.{OneGoesOn, raised}
-use Rattle.fleet_run.specs.Standing.{GoesOn}
+use Rattle.fleet_model.specs.Steps.{OneGoesOn, with_newest}
+use Rattle.fleet_run.specs.AtDriver.{GoesOn}
 use Rattle.fleet_run.proofs.Called.{IsCalled, goes_on, past_of}
 
 -- ---- jobs
@@ -44,13 +44,13 @@ use Rattle.fleet_run.proofs.Called.{IsCalled, goes_on, past_of}
 abbrev pub JobLaw : {K : Type 0} → (K → StoreView) → Type 0
 JobLaw {K} tells = (g : DriverInput) (d : Driver) (r : ℕ) (n m : NodeView K) (was after : FleetView K) (number : ℕ) (job : Job) → HasCome tells g d was → OneGoesOn r n m was after
     → AreParts (set_up_of g d r) (state_of (set_up_of g d r) n.history) n.parts → number ≡ n.parts.jobs.begun + 1 → length n.parts.jobs.running < 4
-    → m ≡ record (with_entry (raised d n) n.keeper n.branch (kinds.Begin number job) []) { parts = record n.parts { jobs = with_job n.parts.jobs job } }
+    → m ≡ record (with_entry (with_newest d n) n.keeper n.branch (kinds.Begin number job) []) { parts = record n.parts { jobs = with_job n.parts.jobs job } }
     → m.time ≤ 1000000000000 → m.count < 2 ^ 62 → StaysSound g d (begins r job d) → HasCome tells g (begins r job d) after
 
 -- the law of one that didn't
 abbrev pub NoSlotLaw : {K : Type 0} → (K → StoreView) → Type 0
 NoSlotLaw {K} tells = (g : DriverInput) (d : Driver) (r : ℕ) (n m : NodeView K) (was after : FleetView K) (job : Job) → HasCome tells g d was → OneGoesOn r n m was after
-    → AreParts (set_up_of g d r) (state_of (set_up_of g d r) n.history) n.parts → 4 ≤ length n.parts.jobs.running → m ≡ raised d n
+    → AreParts (set_up_of g d r) (state_of (set_up_of g d r) n.history) n.parts → 4 ≤ length n.parts.jobs.running → m ≡ with_newest d n
     → m.time ≤ 1000000000000 → m.count < 2 ^ 62 → StaysSound g d (begins r job d) → HasCome tells g (begins r job d) after
 
 -- what a call of a node that begins a job makes of it, where it answers so
@@ -62,13 +62,13 @@ pub record BeginsJob {K : Type 0} (job : Job) (done : Result ℕ BeginRefused) (
   pub err : OnErr done (m ≡ n)
 
 -- where the store tells, the node's parts are those of the state that its history leaves
-told_parts : (s : SetUp) (parts : PartsView) (branch : Files) (owed : List Owed) (cs : Option Contents) (ps : Option Parts) (st : State) (P : Contents → Type 0) (Q : Parts → Type 0)
+told_parts : (s : SetUp) (parts : PartsView) (branch : Files) (owed : List OwedLine) (cs : Option Contents) (ps : Option Parts) (st : State) (P : Contents → Type 0) (Q : Parts → Type 0)
     → IsTold cs P → IsTold ps Q → IsState s parts branch owed (told_of cs ps) st → AreParts s st parts
 told_parts s parts branch owed None ps st P Q c p is = absurd c
 told_parts s parts branch owed (Some contents) None st P Q c p is = absurd p
 told_parts s parts branch owed (Some contents) (Some stored) st P Q c p is = (is.stands contents refl).parts_are
 
-pub has_parts : {K : Type 0} (tells : K → StoreView) (g : DriverInput) (d : Driver) (r : ℕ) (n : NodeView K) → IsNodeOf tells g d r n → IsWhole tells (raised d n)
+pub has_parts : {K : Type 0} (tells : K → StoreView) (g : DriverInput) (d : Driver) (r : ℕ) (n : NodeView K) → IsNodeOf tells g d r n → IsWhole tells (with_newest d n)
     → AreParts (set_up_of g d r) (state_of (set_up_of g d r) n.history) n.parts
 has_parts tells g d r n is whole =
     told_parts (set_up_of g d r) n.parts n.branch n.owed (tells n.keeper).contents (tells n.keeper).parts (state_of (set_up_of g d r) n.history) _ _ is.store.contents is.store.parts (whole.state (set_up_of g d r) is.setup)
@@ -82,7 +82,7 @@ pub begins_go : {K : Type 0} (tells : K → StoreView) (r : ℕ) (was up after :
 begins_go {K} tells r was up after job done law no_slot there call (inl e) sound =
     goes_on tells (λ g d. begins r job d) r was up after (BeginsJob job done) there call
     (λ g d come known s.
-    let n : NodeView K = raised d s.before in
+    let n : NodeView K = with_newest d s.before in
     law g d r s.before s.left was after e.0 job come s.goes (has_parts tells g d r s.before (come.each r s.before s.goes.before) s.whole)
     (subst (λ (a : Result ℕ BeginRefused). IfOk a (λ number. number ≡ n.parts.jobs.begun + 1)) e.1 s.holds.number) (s.holds.free (begun_or_not done e.0 e.1))
     (subst (λ (a : Result ℕ BeginRefused). IfOk a (λ number. s.left ≡ record (with_entry n n.keeper n.branch (kinds.Begin number job) []) { parts = record n.parts { jobs = with_job n.parts.jobs job } })) e.1 s.holds.ok)
@@ -91,7 +91,7 @@ begins_go {K} tells r was up after job done law no_slot there call (inr e) sound
     goes_on tells (λ g d. begins r job d) r was up after (BeginsJob job done) there call
     (λ g d come known s.
     no_slot g d r s.before s.left was after job come s.goes (has_parts tells g d r s.before (come.each r s.before s.goes.before) s.whole) (s.holds.slot e)
-    (subst (λ (a : Result ℕ BeginRefused). OnErr a (s.left ≡ raised d s.before)) e s.holds.err)
+    (subst (λ (a : Result ℕ BeginRefused). OnErr a (s.left ≡ with_newest d s.before)) e s.holds.err)
     s.early s.counted (sound g d known))
 
 -- the same, where the node was given a copy of the job

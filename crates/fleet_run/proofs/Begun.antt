@@ -13,11 +13,11 @@ use Rattle.joined_nodes.specs.Joined.{AreNew}
 use Rattle.driver_model.specs.Driver.{DriverInput, at_first}
 use Rattle.driver_model.specs.Driving.{run_with}
 use Rattle.driver_model.specs.Sound.{IsSound}
-use Rattle.driver_script.specs.Given.{matches}
+use Rattle.driver_script.specs.Inputs.{matches}
 use Rattle.fleet_model.specs.Fleets.{FleetView, HasCome}
 use Rattle.fleet_model.specs.Matches.{DecidesMatches}
 use Rattle.fleet_model.specs.Stores.{IsStoreOf}
-use Rattle.fleet_run.specs.Standing.{IsDrivenWithin, IsAtDriver}
+use Rattle.fleet_run.specs.AtDriver.{IsDrivenWithin, IsAtDriver}
 
 -- what no repository has, none has
 first_of_each : (r : ℕ) (v : StoreView) → IsStoreOf at_first 0 v → IsStoreOf at_first r v

@@ -15,9 +15,9 @@ use Rattle.repo_node.specs.Nodes.{NodeView}
 use Rattle.repo_node.specs.Stored.{StoreView}
 use Rattle.joined_nodes.specs.Joined.{AtNode}
 use Rattle.fleet_model.specs.Fleets.{FleetView, HasCome}
-use Rattle.fleet_model.specs.Steps.{OneGoesOn, raised}
+use Rattle.fleet_model.specs.Steps.{OneGoesOn, with_newest}
 use Rattle.fleet_model.specs.Turns.{IsWhole}
-use Rattle.fleet_run.specs.Standing.{GoesOn}
+use Rattle.fleet_run.specs.AtDriver.{GoesOn}
 use Rattle.fleet_run.specs.Telling.{Raises, Tells}
 
 -- The fleet was raised; a call made this of its node of r, and left the others and the run as they were; and then it was told.
@@ -36,8 +36,8 @@ pub record IsStep {K : Type 0} (tells : K → StoreView) (d : Driver) (r : ℕ) 
   pub before : NodeView K
   pub left : NodeView K
   pub goes : OneGoesOn r before left was after
-  pub holds : Holds (raised d before) left
-  pub whole : IsWhole tells (raised d before)
+  pub holds : Holds (with_newest d before) left
+  pub whole : IsWhole tells (with_newest d before)
   pub early : left.time ≤ 1000000000000
   pub counted : left.count < 2 ^ 62
   pub few : length left.history ≤ most_entries
@@ -52,7 +52,7 @@ past_of tells g d f come = ap (λ run. reverse run.entries) come.run ∙ reverse
 
 -- the node that was raised
 pub raised_is : {K : Type 0} (tells : K → StoreView) (g : DriverInput) (d : Driver) (r had : ℕ) (was up : FleetView K) (n p : NodeView K) → HasCome tells g d was → Raises tells r had was up
-    → slice_get was.nodes r ≡ Some n → slice_get up.nodes r ≡ Some p → p ≡ raised d n
+    → slice_get was.nodes r ≡ Some n → slice_get up.nodes r ≡ Some p → p ≡ with_newest d n
 raised_is {K} tells g d r had was up n p come raises at_n at_p =
     subst (λ (past : List Entry). p ≡ record n { time = max n.time (now past); count = max n.count (newest_count past) }) (past_of tells g d was come) (raises.node n p at_n at_p)
 
@@ -65,7 +65,7 @@ is_step {K} tells g d r was up after Holds come there call =
     let n : NodeView K = found.0 in
     let p : NodeView K = found_up.0 in
     let m : NodeView K = found_left.0 in
-    let is : p ≡ raised d n = raised_is tells g d r call.had was up n p come call.raises found.1 found_up.1 in
+    let is : p ≡ with_newest d n = raised_is tells g d r call.had was up n p come call.raises found.1 found_up.1 in
     record {
       before = n;
       left = m;

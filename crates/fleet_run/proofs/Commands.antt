@@ -24,8 +24,8 @@ use Rattle.run_data.specs.declared.job.JobKind.TheVariants as job_kinds
 use Rattle.union_merge.specs.LineSet.{IsLine}
 use Rattle.script_lang.specs.Limits.{first_limit, passed_by}
 use Rattle.script_lang.specs.Context.{Context}
-use Rattle.script_lang.specs.Standing as script
-use Rattle.script_lang.specs.Standing.{IsGroup, IsLogFile, IsSmall}
+use Rattle.script_lang.specs.Preconditions as script
+use Rattle.script_lang.specs.Preconditions.{IsGroup, IsLogFile, IsSmall}
 use Rattle.script_lang.specs.declared.command.Command.TheVariants as commands
 use Rattle.script_lang.specs.declared.command.BlockLine.{BlockLine}
 use Rattle.script_lang.specs.declared.command.NamedKey.{NamedKey}
@@ -38,7 +38,7 @@ use Rattle.driver_script.specs.Lines.{if_built, is_added, is_drop, is_local_drop
 use Rattle.repo_node.specs.Stored.{StoreView}
 use Rattle.fleet_model.specs.Fleets.{FleetView}
 use Rattle.fleet_run.specs.Commands.{does_command}
-use Rattle.fleet_run.specs.Standing.{GoesOn, IsAtDriver}
+use Rattle.fleet_run.specs.AtDriver.{GoesOn, IsAtDriver}
 
 -- ---- the driver's step
 

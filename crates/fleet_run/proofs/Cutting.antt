@@ -24,7 +24,7 @@ use Rattle.repo_node.specs.Nodes.{NodeView}
 use Rattle.repo_node.specs.Stored.{StoreView}
 use Rattle.fleet_model.specs.Fleets.{FleetView}
 use Rattle.fleet_run.specs.Commands.{CutsAt, HasRoomFor, MeetsNone, does_command}
-use Rattle.fleet_run.specs.Standing.{EndsAtFull, GoesOn, HasRoom, IsAtDriver, OnlyAddsEntries, WaitsForRoom}
+use Rattle.fleet_run.specs.AtDriver.{EndsAtFull, GoesOn, HasRoom, IsAtDriver, OnlyAddsEntries, WaitsForRoom}
 use Rattle.fleet_run.specs.Telling.{AreFew}
 use Rattle.fleet_run.proofs.Called.{past_of}
 use Rattle.fleet_run.proofs.Commands.{is_quiet}

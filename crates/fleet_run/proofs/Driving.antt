@@ -13,8 +13,8 @@ use Rattle.driver_model.specs.Sound.{StaysSound}
 use Rattle.driver_model.specs.Turning.{turn}
 use Rattle.repo_node.specs.Stored.{StoreView}
 use Rattle.fleet_model.specs.Fleets.{FleetView, HasCome}
-use Rattle.fleet_model.specs.Settling.{goes_rounds, power, unsettled}
-use Rattle.fleet_run.specs.Standing.{GoesOn, IsDriven, IsDrivenWithin, IsFew, IsAtDriver, most_lines}
+use Rattle.fleet_model.specs.Settling.{goes_rounds, power, before_rounds}
+use Rattle.fleet_run.specs.AtDriver.{GoesOn, IsDriven, IsDrivenWithin, IsFew, IsAtDriver, most_lines}
 use Rattle.fleet_run.proofs.Few.{fewer, rounds_few}
 use Rattle.fleet_run.proofs.Called.{past_of}
 
@@ -75,8 +75,8 @@ whole_round tells n was after all turned g d stands = subst (λ (k : ℕ). IsAtD
 
 -- wherever the driver was, it has gone so many rounds, of which the last so many were idle
 pub record HasGone {K : Type 0} (tells : K → StoreView) (n idle : ℕ) (was after : FleetView K) : Type 0 where
-  pub stands : (g : DriverInput) (d : Driver) → IsAtDriver tells g d was → IsAtDriver tells g (goes_rounds g n (unsettled d)).driver after
-  pub idle_is : (g : DriverInput) (d : Driver) → IsAtDriver tells g d was → (goes_rounds g n (unsettled d)).idle ≡ idle
+  pub stands : (g : DriverInput) (d : Driver) → IsAtDriver tells g d was → IsAtDriver tells g (goes_rounds g n (before_rounds d)).driver after
+  pub idle_is : (g : DriverInput) (d : Driver) → IsAtDriver tells g d was → (goes_rounds g n (before_rounds d)).idle ≡ idle
 
 -- how many were idle after one more, by whether entries came between
 abbrev pub idle_then : ℕ → ℕ → ℕ → ℕ
@@ -92,30 +92,30 @@ pub one_more_round : {K : Type 0} (tells : K → StoreView) (n idle : ℕ) (was 
     → ((g : DriverInput) (n : ℕ) (x : AfterRounds) → is_settled (goes_rounds g n x) ≡ false → goes_rounds g (suc n) x ≡ after_round (goes_rounds g n x) (round g (goes_rounds g n x).driver))
     → idle < 2 → HasGone tells n idle was between → GoesOn tells (λ g d. round g d) between after → HasGone tells (n + 1) (idle_then (length between.run.entries) (length after.run.entries) idle) was after
 one_more_round {K} tells n idle was between after law low gone one = subst (λ (k : ℕ). HasGone tells k (idle_then (length between.run.entries) (length after.run.entries) idle) was after) (after_one n) (record {
-  stands = λ g d stands. subst (λ (x : AfterRounds). IsAtDriver tells g x.driver after) (sym (next g d stands)) (one g (goes_rounds g n (unsettled d)).driver (gone.stands g d stands));
-  idle_is = λ g d stands. ap (λ (x : AfterRounds). x.idle) (next g d stands) ∙ (ap (λ (k : ℕ). idle_after (goes_rounds g n (unsettled d)).driver (round g (goes_rounds g n (unsettled d)).driver) k) (gone.idle_is g d stands)
+  stands = λ g d stands. subst (λ (x : AfterRounds). IsAtDriver tells g x.driver after) (sym (next g d stands)) (one g (goes_rounds g n (before_rounds d)).driver (gone.stands g d stands));
+  idle_is = λ g d stands. ap (λ (x : AfterRounds). x.idle) (next g d stands) ∙ (ap (λ (k : ℕ). idle_after (goes_rounds g n (before_rounds d)).driver (round g (goes_rounds g n (before_rounds d)).driver) k) (gone.idle_is g d stands)
       ∙ (λ i. if entries_were g d stands i == entries_then g d stands i then idle + 1 else 0));
 })
   where
-    unready : (g : DriverInput) (d : Driver) → IsAtDriver tells g d was → is_settled (goes_rounds g n (unsettled d)) ≡ false
+    unready : (g : DriverInput) (d : Driver) → IsAtDriver tells g d was → is_settled (goes_rounds g n (before_rounds d)) ≡ false
     unready g d stands = ap (nat_le 2) (gone.idle_is g d stands) ∙ below idle low
 
-    next : (g : DriverInput) (d : Driver) → IsAtDriver tells g d was → goes_rounds g (suc n) (unsettled d) ≡ after_round (goes_rounds g n (unsettled d)) (round g (goes_rounds g n (unsettled d)).driver)
-    next g d stands = law g n (unsettled d) (unready g d stands)
+    next : (g : DriverInput) (d : Driver) → IsAtDriver tells g d was → goes_rounds g (suc n) (before_rounds d) ≡ after_round (goes_rounds g n (before_rounds d)) (round g (goes_rounds g n (before_rounds d)).driver)
+    next g d stands = law g n (before_rounds d) (unready g d stands)
 
-    entries_were : (g : DriverInput) (d : Driver) → IsAtDriver tells g d was → length (goes_rounds g n (unsettled d)).driver.past ≡ length between.run.entries
-    entries_were g d stands = sym (entries_are tells g (goes_rounds g n (unsettled d)).driver between (gone.stands g d stands).come)
+    entries_were : (g : DriverInput) (d : Driver) → IsAtDriver tells g d was → length (goes_rounds g n (before_rounds d)).driver.past ≡ length between.run.entries
+    entries_were g d stands = sym (entries_are tells g (goes_rounds g n (before_rounds d)).driver between (gone.stands g d stands).come)
 
-    entries_then : (g : DriverInput) (d : Driver) → IsAtDriver tells g d was → length (round g (goes_rounds g n (unsettled d)).driver).past ≡ length after.run.entries
-    entries_then g d stands = sym (entries_are tells g (round g (goes_rounds g n (unsettled d)).driver) after (one g (goes_rounds g n (unsettled d)).driver (gone.stands g d stands)).come)
+    entries_then : (g : DriverInput) (d : Driver) → IsAtDriver tells g d was → length (round g (goes_rounds g n (before_rounds d)).driver).past ≡ length after.run.entries
+    entries_then g d stands = sym (entries_are tells g (round g (goes_rounds g n (before_rounds d)).driver) after (one g (goes_rounds g n (before_rounds d)).driver (gone.stands g d stands)).come)
 
 pub settled_early : {K : Type 0} (tells : K → StoreView) (n idle : ℕ) (was after : FleetView K)
-    → ((g : DriverInput) (d : Driver) (n : ℕ) → n ≤ power most_rounds → is_settled (goes_rounds g n (unsettled d)) ≡ true → settles g d ≡ (goes_rounds g n (unsettled d)).driver)
+    → ((g : DriverInput) (d : Driver) (n : ℕ) → n ≤ power most_rounds → is_settled (goes_rounds g n (before_rounds d)) ≡ true → settles g d ≡ (goes_rounds g n (before_rounds d)).driver)
     → n ≤ power most_rounds → 2 ≤ idle → HasGone tells n idle was after → GoesOn tells (λ g d. settles g d) was after
 settled_early tells n idle was after law few enough gone g d stands =
     subst (λ (x : Driver). IsAtDriver tells g x after) (sym (law g d n few (ap (nat_le 2) (gone.idle_is g d stands) ∙ reached idle enough))) (gone.stands g d stands)
 
-pub settled_at_most : {K : Type 0} (tells : K → StoreView) (idle : ℕ) (was after : FleetView K) → ((g : DriverInput) (d : Driver) → settles g d ≡ (goes_rounds g (power most_rounds) (unsettled d)).driver)
+pub settled_at_most : {K : Type 0} (tells : K → StoreView) (idle : ℕ) (was after : FleetView K) → ((g : DriverInput) (d : Driver) → settles g d ≡ (goes_rounds g (power most_rounds) (before_rounds d)).driver)
     → HasGone tells (power most_rounds) idle was after → GoesOn tells (λ g d. settles g d) was after
 settled_at_most tells idle was after law gone g d stands = subst (λ (x : Driver). IsAtDriver tells g x after) (sym (law g d)) (gone.stands g d stands)
 
@@ -123,10 +123,10 @@ settled_at_most tells idle was after law gone g d stands = subst (λ (x : Driver
 pub driven_rounds : {K : Type 0} (tells : K → StoreView) (n idle : ℕ) (was after : FleetView K) → IsDriven tells was → HasGone tells n idle was after → IsDriven tells after
 driven_rounds tells n idle was after driven gone = record {
   given = driven.given;
-  driver = (goes_rounds driven.given n (unsettled driven.driver)).driver;
+  driver = (goes_rounds driven.given n (before_rounds driven.driver)).driver;
   stands = gone.stands driven.given driven.driver driven.stands;
   repos = driven.repos;
-  few = rounds_few most_lines driven.given n (unsettled driven.driver) driven.few;
+  few = rounds_few most_lines driven.given n (before_rounds driven.driver) driven.few;
 }
 
 -- ---- a mark

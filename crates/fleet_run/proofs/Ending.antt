@@ -27,11 +27,11 @@ use Rattle.repo_node.specs.declared.turn.Turn.{Turn}
 use Rattle.repo_node.specs.declared.turn.Turn.TheVariants as turnings
 use Rattle.joined_nodes.specs.Joined.{AtNode}
 use Rattle.fleet_model.specs.Fleets.{FleetView, HasCome}
-use Rattle.fleet_model.specs.Settling.{goes_rounds, power, unsettled}
-use Rattle.fleet_model.specs.Steps.{OneTurns, raised, with_links}
+use Rattle.fleet_model.specs.Settling.{goes_rounds, power, before_rounds}
+use Rattle.fleet_model.specs.Steps.{OneTurns, with_newest, with_links}
 use Rattle.fleet_model.specs.Stopping.{OthersAreFew}
 use Rattle.fleet_model.specs.Turns.{StandsWell}
-use Rattle.fleet_run.specs.Standing.{EndsAtFull, GoesOn, IsAtDriver}
+use Rattle.fleet_run.specs.AtDriver.{EndsAtFull, GoesOn, IsAtDriver}
 use Rattle.fleet_run.specs.Telling.{AreFew}
 use Rattle.fleet_run.proofs.Driving.{HasGone, below}
 use Rattle.fleet_run.proofs.Full.{each_at, run_stays}
@@ -43,7 +43,7 @@ use Rattle.fleet_run.proofs.Turning.{IsTurned, one_turns, stands_well, where_tol
 -- the law of a turn
 abbrev pub TurnStops : {K : Type 0} → (K → StoreView) → Type 0
 TurnStops {K} tells = (g : DriverInput) (d : Driver) (r : ℕ) (n : NodeView K) (was : FleetView K) → HasCome tells g d was → slice_get was.nodes r ≡ Some n → OthersAreFew r was.nodes
-    → StandsWell g d r n → length n.history ≡ most_entries → HasStep (raised d n) (set_up_of g d r) → StopsAtFull g r (turn g r d) was.run
+    → StandsWell g d r n → length n.history ≡ most_entries → HasStep (with_newest d n) (set_up_of g d r) → StopsAtFull g r (turn g r d) was.run
 
 -- the turn of a node whose history is full found a step
 pub record IsReady {K : Type 0} (tells : K → StoreView) (n m : NodeView K) : Type 0 where
@@ -56,7 +56,7 @@ turn_ends {K} tells r had t was up turned carried after law there call full read
     subst (λ (run : Run). StopsAtFull g r (turn g r d) run) (sym same_run)
     (law g d r n was come first.1 others (stands_well tells g d r had was up n second.0 come call.turn.raises first.1 second.1)
     (subst (λ (y : NodeView K). length y.history ≡ most_entries) up_is (ready second.0 m second.1 third.1).full)
-    (where_told d r (tells n.keeper) ((s : SetUp) → nodes.MatchesSetup n.setup s → HasStep (raised d n) s) (come.each r n first.1).store
+    (where_told d r (tells n.keeper) ((s : SetUp) → nodes.MatchesSetup n.setup s → HasStep (with_newest d n) s) (come.each r n first.1).store
     (subst (λ (y : NodeView K). ForSome (told_of (tells y.keeper).contents (tells y.keeper).parts) (λ c. (s : SetUp) → nodes.MatchesSetup y.setup s → HasStep y s)) up_is (ready second.0 m second.1 third.1).ready)
     (set_up_of g d r) (come.each r n first.1).setup))
   where
@@ -84,7 +84,7 @@ turn_ends {K} tells r had t was up turned carried after law there call full read
     one : OneTurns r n m was after
     one = one_turns tells r had t was up turned carried after n second.0 m fourth.0 call first.1 second.1 third.1 fourth.1
 
-    up_is : second.0 ≡ raised d n
+    up_is : second.0 ≡ with_newest d n
     up_is = raised_is tells g d r had was up n second.0 come call.turn.raises first.1 second.1
 
     not_moved : t ≢ turnings.Moved
@@ -192,23 +192,23 @@ round_ends tells P k n was between after later adds law all less so_far ends g d
 
 pub settles_end : {K : Type 0} (tells : K → StoreView) (P : DriverInput → Driver → Run → Type 0) (n idle : ℕ) (was between after : FleetView K) → LaterLaw P → ((g : DriverInput) (d : Driver) → OnlyAdds d (round g d))
     → ((g : DriverInput) (n : ℕ) (x : AfterRounds) → is_settled (goes_rounds g n x) ≡ false → goes_rounds g (suc n) x ≡ after_round (goes_rounds g n x) (round g (goes_rounds g n x).driver))
-    → ((g : DriverInput) (d : Driver) → settles g d ≡ (goes_rounds g (power most_rounds) (unsettled d)).driver) → idle < 2 → suc n ≤ power most_rounds
+    → ((g : DriverInput) (d : Driver) → settles g d ≡ (goes_rounds g (power most_rounds) (before_rounds d)).driver) → idle < 2 → suc n ≤ power most_rounds
     → HasGone tells n idle was between → Ends tells P (λ g d. round g d) between after → Ends tells P (λ g d. settles g d) was after
 settles_end {K} tells P n idle was between after later adds law most low few gone ends g d stands =
     subst (λ (x : Driver). P g x after.run) (sym (most g d))
     (still_then Stops (suc n) (power most_rounds) next few
-    (subst (λ (x : AfterRounds). P g x.driver after.run) (sym (law g n (unsettled d) (ap (Rattle.std.specs.Prelude.nat_le 2) (gone.idle_is g d stands) ∙ below idle low)))
-    (ends g (goes_rounds g n (unsettled d)).driver (gone.stands g d stands))))
+    (subst (λ (x : AfterRounds). P g x.driver after.run) (sym (law g n (before_rounds d) (ap (Rattle.std.specs.Prelude.nat_le 2) (gone.idle_is g d stands) ∙ below idle low)))
+    (ends g (goes_rounds g n (before_rounds d)).driver (gone.stands g d stands))))
   where
     Stops : ℕ → Type 0
-    Stops m = P g (goes_rounds g m (unsettled d)).driver after.run
+    Stops m = P g (goes_rounds g m (before_rounds d)).driver after.run
 
     goes : (b : Bool) (x : AfterRounds) → P g x.driver after.run → P g (if b then x else after_round x (round g x.driver)).driver after.run
     goes true x stops = stops
     goes false x stops = later g x.driver (round g x.driver) after.run stops (adds g x.driver)
 
     next : (m : ℕ) → Stops m → Stops (suc m)
-    next m stops = goes (is_settled (goes_rounds g m (unsettled d))) (goes_rounds g m (unsettled d)) stops
+    next m stops = goes (is_settled (goes_rounds g m (before_rounds d))) (goes_rounds g m (before_rounds d)) stops
 
 -- so many rounds are fewer than there may be at most
 pub one_more_may_be : (n : ℕ) → n < 4194304 → suc n ≤ power most_rounds

@@ -15,7 +15,7 @@ use Rattle.repo_node.specs.Stored.{StoreView}
 use Rattle.driver_model.specs.Driving.{run_with}
 use Rattle.driver_model.specs.Limits.{count_of}
 use Rattle.fleet_model.specs.Fleets.{FleetView, HasCome}
-use Rattle.fleet_run.specs.Standing.{IsDriven, is_wait, waits_in}
+use Rattle.fleet_run.specs.AtDriver.{IsDriven, is_wait, waits_in}
 use Rattle.fleet_run.specs.Telling.{AreFew}
 use Rattle.fleet_run.proofs.Driving.{entries_are}
 use Rattle.fleet_run.proofs.Full.{counted, each_at}

@@ -26,7 +26,7 @@ use Rattle.run_data.specs.Repos.{id_of}
 use Rattle.run_model.specs.Logs.{branch}
 use Rattle.run_model.specs.Past.{begun_count}
 use Rattle.run_model.specs.States.{works}
-use Rattle.node_model.specs.Look.{Look, Made, entry_of}
+use Rattle.node_model.specs.Look.{Look, Effect, entry_of}
 use Rattle.node_model.specs.Sessions.{line_in, message_said}
 use Rattle.node_model.specs.SetUp.{SetUp}
 use Rattle.node_model.specs.State.{State}
@@ -42,7 +42,7 @@ use Rattle.driver_model.specs.Lines as driver
 use Rattle.driver_model.specs.Lines.{Line}
 use Rattle.driver_script.specs.Lines.{if_built, is_added, is_local_drop, is_plain, is_plain_repo, is_shown, line_of}
 use Rattle.fleet_model.specs.Settling.{goes_rounds}
-use Rattle.fleet_run.specs.Standing.{IsFew, is_wait}
+use Rattle.fleet_run.specs.AtDriver.{IsFew, is_wait}
 
 -- ---- a turn's store leaves the entries as they are
 
@@ -60,7 +60,7 @@ frame_past : (r : ℕ) (bytes : List ℕ) (key : Option (List ℕ)) (taken : Opt
 frame_past r bytes (Some key) (Some f) sent d = into_past r key bytes f.body sent d
 frame_past r bytes key taken sent d = refl
 
-store_past : (st : State) (r : ℕ) (m : Made) (bytes : List ℕ) (kind : EntryKind) (d : Driver) → (store_after st r m bytes kind d).past ≡ d.past
+store_past : (st : State) (r : ℕ) (m : Effect) (bytes : List ℕ) (kind : EntryKind) (d : Driver) → (store_after st r m bytes kind d).past ≡ d.past
 store_past st r m bytes (Gain by size key) d = refl
 store_past st r m bytes (Gone by key) d = refl
 store_past st r m bytes (Talk job) d = frame_past r bytes (asked_key st m) m.taken m.sent d
@@ -176,12 +176,12 @@ module _ (most : ℕ) where
       go true = one most d.past _ refl refl few
       go false = few
 
-  makes_few : (st : State) (r : ℕ) (k : Look) (o : Option Made) (d : Driver) → k.count ≡ newest_count d.past + 1 → Few d → Few (makes st r k o d)
+  makes_few : (st : State) (r : ℕ) (k : Look) (o : Option Effect) (d : Driver) → k.count ≡ newest_count d.past + 1 → Few d → Few (makes st r k o d)
   makes_few st r k None d counted few = few
   makes_few st r k (Some m) d counted few =
       subst (λ (past : List Entry). IsFew most past) (sym (store_past st r m (bytes_taken r m.taken d) m.kind (adds st r (entry_of r k m) d))) (one most d.past (entry_of r k m) counted refl few)
 
-  looks_few : (g : DriverInput) (r : ℕ) (s : SetUp) (st : State) (o : Option Made) (d : Driver) → Few d → Few (looks g r s st o d)
+  looks_few : (g : DriverInput) (r : ℕ) (s : SetUp) (st : State) (o : Option Effect) (d : Driver) → Few d → Few (looks g r s st o d)
   looks_few g r s st None d few = few
   looks_few g r s st (Some m) d few = makes_few st r (look_for g d r s st m) (step s st (look_for g d r s st m)) d refl few
 

@@ -36,8 +36,8 @@ use Rattle.repo_node.specs.declared.beginning.BeginRefused.TheVariants as begin_
 use Rattle.repo_node.specs.declared.refused.NodeRefused.TheVariants as refusals
 use Rattle.fleet_model.specs.Fleets.{FleetView, HasCome, IsNodeOf}
 use Rattle.fleet_model.specs.Stopping.{OthersAreFew}
-use Rattle.fleet_model.specs.Steps.{OneGoesOn, raised}
-use Rattle.fleet_run.specs.Standing.{EndsAtFull, HasRoom, IsAtDriver, OnlyAddsEntries, WaitsForRoom}
+use Rattle.fleet_model.specs.Steps.{OneGoesOn, with_newest}
+use Rattle.fleet_run.specs.AtDriver.{EndsAtFull, HasRoom, IsAtDriver, OnlyAddsEntries, WaitsForRoom}
 use Rattle.fleet_run.specs.Telling.{AreFew}
 use Rattle.fleet_run.proofs.Beginning.{BeginsJob, has_parts, none_left}
 use Rattle.fleet_run.proofs.Called.{IsCalled, IsStep, branch_stays, is_step, with_more}
@@ -118,7 +118,7 @@ LineStops {K} tells = (g : DriverInput) (d : Driver) (r : ℕ) (n : NodeView K) 
 -- the law of a setting
 abbrev pub SettingStops : {K : Type 0} → (K → StoreView) → Type 0
 SettingStops {K} tells = (g : DriverInput) (d : Driver) (r : ℕ) (n : NodeView K) (was : FleetView K) → HasCome tells g d was → slice_get was.nodes r ≡ Some n → OthersAreFew r was.nodes
-    → (kind : LogKind) (topic : Topic) (value : Value) → length n.history ≡ most_entries → lacks_some n (Of kind) (line_text kind (stamped_by (raised d n) kind None (record { topic = topic; stamp = None; value = value })) ∷ []) ≡ true → StopsAtFull g r (sets g r kind topic value d) was.run
+    → (kind : LogKind) (topic : Topic) (value : Value) → length n.history ≡ most_entries → lacks_some n (Of kind) (line_text kind (stamped_by (with_newest d n) kind None (record { topic = topic; stamp = None; value = value })) ∷ []) ≡ true → StopsAtFull g r (sets g r kind topic value d) was.run
 
 pub writes_end : {K : Type 0} (tells : K → StoreView) (r : ℕ) (was up after : FleetView K) (file : LogFile) (line : List ℕ) → LineStops tells → r < length was.nodes
     → IsCalled tells r was up after (RefusesLines file (line ∷ [])) → AreFew after.nodes → EndsAtFull tells r (λ g d. writes r file line d) was after
@@ -152,13 +152,13 @@ sets_end {K} tells r was up after kind topic value law there call few =
 abbrev pub MergeStops : {K : Type 0} → (K → StoreView) → Type 0
 MergeStops {K} tells = (g : DriverInput) (d : Driver) (r : ℕ) (n m : NodeView K) (was after : FleetView K) → HasCome tells g d was → OneGoesOn r n m was after → OthersAreFew r was.nodes
     → m.time ≤ 1000000000000 → m.count < 2 ^ 62 → (other : ℕ) (o : NodeView K) → slice_get was.nodes other ≡ Some o
-    → MeetsFull (merge_files (raised d n)) lacks_of o.branch (tells n.keeper).failing (tells m.keeper).failing (raised d n) m → StopsAtFull g r (merges r other d) after.run
+    → MeetsFull (merge_files (with_newest d n)) lacks_of o.branch (tells n.keeper).failing (tells m.keeper).failing (with_newest d n) m → StopsAtFull g r (merges r other d) after.run
 
 -- the law of a compaction
 abbrev pub CompactStops : {K : Type 0} → (K → StoreView) → Type 0
 CompactStops {K} tells = (g : DriverInput) (d : Driver) (r : ℕ) (n m : NodeView K) (was after : FleetView K) → HasCome tells g d was → OneGoesOn r n m was after → OthersAreFew r was.nodes
     → m.time ≤ 1000000000000 → m.count < 2 ^ 62
-    → MeetsFull (compact_files (raised d n)) shrinks_at (keys_of n.branch) (tells n.keeper).failing (tells m.keeper).failing (raised d n) m → StopsAtFull g r (compacts r d) after.run
+    → MeetsFull (compact_files (with_newest d n)) shrinks_at (keys_of n.branch) (tells n.keeper).failing (tells m.keeper).failing (with_newest d n) m → StopsAtFull g r (compacts r d) after.run
 
 -- how far a merge of these files came at a node
 abbrev pub MergeMeets : {K : Type 0} → (K → StoreView) → Files → NodeView K → NodeView K → Type 0
@@ -177,7 +177,7 @@ merges_end {K} tells r other was up after law there there_too call few =
     let found : (o : NodeView K) × (slice_get was.nodes other ≡ Some o) = slice_get-within was.nodes other there_too in
     let up_too : (p : NodeView K) × (slice_get up.nodes other ≡ Some p) × (p.branch ≡ found.0.branch) = branch_stays tells r call.had other was up found.0 call.raises found.1 in
     law g d r s.before s.left was after come s.goes others s.early s.counted other found.0 found.1
-    (subst (λ (files : Files). MergeMeets tells files (raised d s.before) s.left) up_too.2 (s.holds up_too.0 up_too.1)))
+    (subst (λ (files : Files). MergeMeets tells files (with_newest d s.before) s.left) up_too.2 (s.holds up_too.0 up_too.1)))
 
 pub compacts_end : {K : Type 0} (tells : K → StoreView) (r : ℕ) (was up after : FleetView K) → CompactStops tells → r < length was.nodes → IsCalled tells r was up after (CompactMeets tells)
     → AreFew after.nodes → EndsAtFull tells r (λ g d. compacts r d) was after
@@ -232,7 +232,7 @@ abbrev pub ContentStops : {K : Type 0} → (K → StoreView) → Type 0
 ContentStops {K} tells = (g : DriverInput) (d : Driver) (r : ℕ) (n m : NodeView K) (was after : FleetView K) → HasCome tells g d was → OneGoesOn r n m was after → OthersAreFew r was.nodes
     → m.time ≤ 1000000000000 → m.count < 2 ^ 62 → (key bytes : List ℕ) → IsContent key bytes
     → IsState (set_up_of g d r) n.parts n.branch n.owed (told_of (tells n.keeper).contents (tells n.keeper).parts) (state_of (set_up_of g d r) n.history)
-    → MeetsFullBehind key bytes (tells n.keeper).contents (tells n.keeper).failing (tells m.keeper).failing (raised d n) m → length bytes < 2 ^ 62 → StopsAtFull g r (has g r key bytes d) after.run
+    → MeetsFullBehind key bytes (tells n.keeper).contents (tells n.keeper).failing (tells m.keeper).failing (with_newest d n) m → length bytes < 2 ^ 62 → StopsAtFull g r (has g r key bytes d) after.run
 
 -- how far a call that places a content came at a node: not at all, or to the line
 abbrev pub IsUnasked : {K : Type 0} → NodeView K → NodeView K → Type 0

@@ -9,7 +9,7 @@ use Rattle.driver_model.specs.Lines.{Line}
 use Rattle.driver_script.specs.Lines.{line_of}
 use Rattle.fleet_model.specs.Fleets.{FleetView}
 use Rattle.fleet_run.specs.Commands.{does_and_marks, does_command}
-use Rattle.fleet_run.specs.Standing.{GoesOn, IsDriven, IsDrivenWithin, IsAtDriver, most_lines}
+use Rattle.fleet_run.specs.AtDriver.{GoesOn, IsDriven, IsDrivenWithin, IsAtDriver, most_lines}
 use Rattle.fleet_run.proofs.Driving.{driven_on}
 use Rattle.fleet_run.proofs.Few.{does_few, does_some, fewer}
 

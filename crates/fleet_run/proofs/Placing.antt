@@ -11,8 +11,8 @@ use Rattle.repo_node.specs.Placing.{IsPlaced}
 use Rattle.repo_node.specs.Stored.{StoreView}
 use Rattle.repo_node.specs.declared.refused.NodeRefused.TheVariants as refusals
 use Rattle.fleet_model.specs.Fleets.{FleetView, HasCome}
-use Rattle.fleet_model.specs.Steps.{OneGoesOn, raised}
-use Rattle.fleet_run.specs.Standing.{GoesOn}
+use Rattle.fleet_model.specs.Steps.{OneGoesOn, with_newest}
+use Rattle.fleet_run.specs.AtDriver.{GoesOn}
 use Rattle.fleet_run.proofs.Called.{IsCalled, goes_on}
 use Rattle.fleet_run.proofs.Writing.{Answer, IsEnded}
 
@@ -20,7 +20,7 @@ use Rattle.fleet_run.proofs.Writing.{Answer, IsEnded}
 abbrev pub ContentLaw : {K : Type 0} → (K → StoreView) → Type 0
 ContentLaw {K} tells = (g : DriverInput) (d : Driver) (r : ℕ) (n m : NodeView K) (was after : FleetView K) (key bytes : List ℕ) → HasCome tells g d was → OneGoesOn r n m was after
     → IsState (set_up_of g d r) n.parts n.branch n.owed (told_of (tells n.keeper).contents (tells n.keeper).parts) (state_of (set_up_of g d r) n.history)
-    → IsPlaced key bytes (tells n.keeper).contents (tells n.keeper).parts (tells m.keeper).contents (raised d n) m
+    → IsPlaced key bytes (tells n.keeper).contents (tells n.keeper).parts (tells m.keeper).contents (with_newest d n) m
     → IsDoneBy to_place key [] n.parts.table (tells n.keeper).contents (tells n.keeper).parts (tells m.keeper).parts (tells n.keeper).failing (tells m.keeper).failing
     → length bytes < 2 ^ 62 → m.time ≤ 1000000000000 → m.count < 2 ^ 62 → StaysSound g d (has g r key bytes d) → HasCome tells g (has g r key bytes d) after
 
@@ -28,7 +28,7 @@ ContentLaw {K} tells = (g : DriverInput) (d : Driver) (r : ℕ) (n m : NodeView 
 abbrev pub StopLaw : {K : Type 0} → (K → StoreView) → Type 0
 StopLaw {K} tells = (g : DriverInput) (d : Driver) (r : ℕ) (n m : NodeView K) (was after : FleetView K) (key bytes : List ℕ) → HasCome tells g d was → OneGoesOn r n m was after
     → IsState (set_up_of g d r) n.parts n.branch n.owed (told_of (tells n.keeper).contents (tells n.keeper).parts) (state_of (set_up_of g d r) n.history)
-    → StopsAt to_place key bytes (tells n.keeper).contents (tells m.keeper).contents (tells n.keeper).parts (tells m.keeper).parts (tells n.keeper).failing (tells m.keeper).failing refusals.StoreFault (raised d n) m
+    → StopsAt to_place key bytes (tells n.keeper).contents (tells m.keeper).contents (tells n.keeper).parts (tells m.keeper).parts (tells n.keeper).failing (tells m.keeper).failing refusals.StoreFault (with_newest d n) m
     → length bytes < 2 ^ 62 → m.time ≤ 1000000000000 → m.count < 2 ^ 62 → StaysSound g d (has g r key bytes d) → HasCome tells g (has g r key bytes d) after
 
 -- what a call of a node that places a content makes of it, where it answers so
@@ -44,14 +44,14 @@ has_goes tells r was up after key bytes done law stop there call small (inl e) s
     goes_on tells (λ g d. has g r key bytes d) r was up after (PlacesContent tells key bytes done) there call
     (λ g d come known s.
     law g d r s.before s.left was after key bytes come s.goes (s.whole.state (set_up_of g d r) (come.each r s.before s.goes.before).setup)
-    (subst (λ (a : Answer). OnOk a (IsPlaced key bytes (tells s.before.keeper).contents (tells s.before.keeper).parts (tells s.left.keeper).contents (raised d s.before) s.left)) e s.holds.placed)
+    (subst (λ (a : Answer). OnOk a (IsPlaced key bytes (tells s.before.keeper).contents (tells s.before.keeper).parts (tells s.left.keeper).contents (with_newest d s.before) s.left)) e s.holds.placed)
     (subst (λ (a : Answer). OnOk a (IsDoneBy to_place key [] s.before.parts.table (tells s.before.keeper).contents (tells s.before.keeper).parts (tells s.left.keeper).parts (tells s.before.keeper).failing (tells s.left.keeper).failing)) e s.holds.by)
     small s.early s.counted (sound g d known))
 has_goes tells r was up after key bytes done law stop there call small (inr e) sound =
     goes_on tells (λ g d. has g r key bytes d) r was up after (PlacesContent tells key bytes done) there call
     (λ g d come known s.
     stop g d r s.before s.left was after key bytes come s.goes (s.whole.state (set_up_of g d r) (come.each r s.before s.goes.before).setup)
-    (subst (λ (a : Answer). IfErr a (λ x. StopsAt to_place key bytes (tells s.before.keeper).contents (tells s.left.keeper).contents (tells s.before.keeper).parts (tells s.left.keeper).parts (tells s.before.keeper).failing (tells s.left.keeper).failing x (raised d s.before) s.left)) e s.holds.stops)
+    (subst (λ (a : Answer). IfErr a (λ x. StopsAt to_place key bytes (tells s.before.keeper).contents (tells s.left.keeper).contents (tells s.before.keeper).parts (tells s.left.keeper).parts (tells s.before.keeper).failing (tells s.left.keeper).failing x (with_newest d s.before) s.left)) e s.holds.stops)
     small s.early s.counted (sound g d known))
 
 -- the same, where the node was given a copy of the bytes

@@ -18,9 +18,9 @@ use Rattle.driver_model.specs.Driver.{Driver, DriverInput, set_up_of}
 use Rattle.driver_model.specs.Turning.{turn}
 use Rattle.joined_nodes.specs.Joined.{AreNodes}
 use Rattle.fleet_model.specs.Fleets.{FleetView, HasCome}
-use Rattle.fleet_model.specs.Steps.{OneGoesOn, raised, with_links}
+use Rattle.fleet_model.specs.Steps.{OneGoesOn, with_newest, with_links}
 use Rattle.fleet_model.specs.Turns.{StandsWell}
-use Rattle.fleet_run.specs.Standing.{GoesOn}
+use Rattle.fleet_run.specs.AtDriver.{GoesOn}
 use Rattle.fleet_run.proofs.Called.{raised_is}
 use Rattle.fleet_run.proofs.Turning.{TakesTurn, dropped_with, stands_well, where_told}
 
@@ -35,7 +35,7 @@ pub record IsRested {K : Type 0} (tells : K → StoreView) (r had : ℕ) (t : Tu
 abbrev pub RestLaw : Type 0 → Type 0
 RestLaw K = (tells : K → StoreView) (g : DriverInput) (d : Driver) (r : ℕ) (n m : NodeView K) (was after : FleetView K)
     → HasCome tells g d was → OneGoesOn r n m was after → AreNodes was.nodes → StandsWell g d r n → map after_drop n.parts.links ≡ n.parts.links
-    → m ≡ raised d n → IsIdle (raised d n) (set_up_of g d r) → HasCome tells g (turn g r d) after
+    → m ≡ with_newest d n → IsIdle (with_newest d n) (set_up_of g d r) → HasCome tells g (turn g r d) after
 
 pub rests_on : {K : Type 0} → RestLaw K → (tells : K → StoreView) (r had : ℕ) (t : Turn) (was up : FleetView K) (turned : List (NodeView K))
     → r < length was.nodes → IsRested tells r had t was up turned → GoesOn tells (λ g d. turn g r d) was (record { nodes = turned; run = up.run })
@@ -62,7 +62,7 @@ rests_on {K} law tells r had t was up turned there call g d stands = record {
     m : NodeView K
     m = third.0
 
-    up_is : second.0 ≡ raised d n
+    up_is : second.0 ≡ with_newest d n
     up_is = raised_is tells g d r had was up n second.0 come call.turn.raises first.1 second.1
 
     well : StandsWell g d r n
@@ -80,15 +80,15 @@ rests_on {K} law tells r had t was up turned there call g d stands = record {
         clash : turns.Idle ≡ turns.NoMemory → ⊥
         clash e = absurd (cc)
 
-    dropped : m ≡ with_links (raised d n) (map after_drop n.parts.links)
+    dropped : m ≡ with_links (with_newest d n) (map after_drop n.parts.links)
     dropped = subst (λ (y : NodeView K). m ≡ with_links y (map after_drop y.parts.links)) up_is
         (call.turn.stays second.0 m second.1 third.1 not_moved ∙ ap (dropped_with second.0) (call.turn.unasked second.0 m second.1 third.1 not_moved not_short))
 
-    but : m ≡ raised d n
-    but = dropped ∙ ap (with_links (raised d n)) (call.kept n first.1)
+    but : m ≡ with_newest d n
+    but = dropped ∙ ap (with_links (with_newest d n)) (call.kept n first.1)
 
-    idle : IsIdle (raised d n) (set_up_of g d r)
-    idle = where_told d r (tells n.keeper) ((s : SetUp) → nodes.MatchesSetup n.setup s → IsIdle (raised d n) s) (come.each r n first.1).store
+    idle : IsIdle (with_newest d n) (set_up_of g d r)
+    idle = where_told d r (tells n.keeper) ((s : SetUp) → nodes.MatchesSetup n.setup s → IsIdle (with_newest d n) s) (come.each r n first.1).store
         (subst (λ (y : NodeView K). ForSome (told_of (tells y.keeper).contents (tells y.keeper).parts) (λ c. (s : SetUp) → nodes.MatchesSetup y.setup s → IsIdle y s)) up_is (call.turn.idle second.0 m second.1 third.1 call.is_idle))
         (set_up_of g d r) (come.each r n first.1).setup
 

@@ -18,7 +18,7 @@ use Rattle.repo_node.specs.Nodes.{NodeView}
 use Rattle.repo_node.specs.Stored.{StoreView}
 use Rattle.fleet_model.specs.Fleets.{FleetView}
 use Rattle.fleet_run.specs.Commands.{does_command}
-use Rattle.fleet_run.specs.Standing.{EndsAtFull, GoesOn, IsAtDriver, IsStartOf, StopsWithin, WaitsForRoom}
+use Rattle.fleet_run.specs.AtDriver.{EndsAtFull, GoesOn, IsAtDriver, IsStartOf, StopsWithin, WaitsForRoom}
 use Rattle.fleet_run.specs.Telling.{AreFew, EndsShort, StandsWithin, Tells, TellsSome}
 use Rattle.fleet_run.specs.declared.stop.FleetStop.{FleetStop}
 use Rattle.fleet_run.specs.declared.stop.FleetStop.TheVariants as stops

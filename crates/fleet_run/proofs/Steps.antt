@@ -11,7 +11,7 @@ use Rattle.driver_model.specs.Driver.{Driver, DriverInput}
 use Rattle.driver_model.specs.ScriptSteps.{sets}
 use Rattle.repo_node.specs.Stored.{StoreView}
 use Rattle.fleet_model.specs.Fleets.{FleetView}
-use Rattle.fleet_run.specs.Standing.{GoesOn, IsDriven, IsAtDriver}
+use Rattle.fleet_run.specs.AtDriver.{GoesOn, IsDriven, IsAtDriver}
 
 -- ---- identifiers
 

@@ -28,10 +28,10 @@ use Rattle.joined_nodes.specs.Joined as joined
 use Rattle.joined_nodes.specs.Joined.{AtNode}
 use Rattle.fleet_model.specs.Fleets.{FleetView, HasCome, links_at}
 use Rattle.fleet_model.specs.Matches.{DecidesMatches}
-use Rattle.fleet_model.specs.Steps.{OneTurns, raised, with_links}
+use Rattle.fleet_model.specs.Steps.{OneTurns, with_newest, with_links}
 use Rattle.fleet_model.specs.Stores.{IsStoreOf, IsTold, content_in}
 use Rattle.fleet_model.specs.Turns.{IsWhole, StandsWell}
-use Rattle.fleet_run.specs.Standing.{GoesOn}
+use Rattle.fleet_run.specs.AtDriver.{GoesOn}
 use Rattle.fleet_run.specs.Telling.{Raises, Tells}
 use Rattle.fleet_run.proofs.Called.{past_of, raised_is, with_more}
 
@@ -62,11 +62,11 @@ pub record IsTurned {K : Type 0} (tells : K → StoreView) (r had : ℕ) (t : Tu
 pub record TurnLaws (K : Type 0) : Type 0 where
   pub moved : (tells : K → StoreView) (g : DriverInput) (d : Driver) (r : ℕ) (n m : NodeView K) (was after : FleetView K)
       → DecidesMatches g → HasCome tells g d was → OneTurns r n m was after → StandsWell g d r n
-      → Adds (map after_drop n.parts.links) (tells n.keeper) (tells m.keeper) (raised d n) m → StepsBy step step_calls (tells n.keeper) (tells m.keeper) (raised d n) m
+      → Adds (map after_drop n.parts.links) (tells n.keeper) (tells m.keeper) (with_newest d n) m → StepsBy step step_calls (tells n.keeper) (tells m.keeper) (with_newest d n) m
       → (AreSmallParts (tells n.keeper).parts → AreSmallParts (tells m.keeper).parts) → IsWhole tells m → m.time ≤ 1000000000000 → m.count < 2 ^ 62 → HasCome tells g (turn g r d) after
   pub idle : (tells : K → StoreView) (g : DriverInput) (d : Driver) (r : ℕ) (n m : NodeView K) (was after : FleetView K)
       → HasCome tells g d was → OneTurns r n m was after → StandsWell g d r n
-      → m ≡ with_links (raised d n) (map after_drop n.parts.links) → IsIdle (raised d n) (set_up_of g d r) → HasCome tells g (turn g r d) after
+      → m ≡ with_links (with_newest d n) (map after_drop n.parts.links) → IsIdle (with_newest d n) (set_up_of g d r) → HasCome tells g (turn g r d) after
 
 -- ---- where the driver was
 
@@ -93,7 +93,7 @@ pub stands_well : {K : Type 0} (tells : K → StoreView) (g : DriverInput) (d : 
     → slice_get was.nodes r ≡ Some n → slice_get up.nodes r ≡ Some p → StandsWell g d r n
 stands_well {K} tells g d r had was up n p come raises at_n at_p =
     let own = come.each r n at_n in
-    let whole : IsWhole tells (raised d n) = subst (IsWhole tells) (raised_is tells g d r had was up n p come raises at_n at_p) (raises.whole n p at_n at_p) in
+    let whole : IsWhole tells (with_newest d n) = subst (IsWhole tells) (raised_is tells g d r had was up n p come raises at_n at_p) (raises.whole n p at_n at_p) in
     record {
       known = subst (λ (c : ℕ). r < c) come.count (slice_get_within was.nodes r n at_n);
       few = few_past tells g d was come raises.few;
@@ -198,7 +198,7 @@ turns_on {K} laws tells r had t was up turned carried after there call came g d 
     fourth : (x : NodeView K) × (slice_get carried r ≡ Some x)
     fourth = slice_get-within carried r (subst (λ (c : ℕ). r < c) (sym (call.carried_count ∙ (call.turn.count ∙ call.turn.raises.count))) there)
 
-    up_is : second.0 ≡ raised d n
+    up_is : second.0 ≡ with_newest d n
     up_is = raised_is tells g d r had was up n second.0 come call.turn.raises first.1 second.1
 
     one : OneTurns r n m was after
@@ -223,14 +223,14 @@ turns_on {K} laws tells r had t was up turned carried after there call came g d 
     by_turn (inl moved) =
         laws.moved tells g d r n m was after stands.decides come one well
         (subst (λ (y : NodeView K). Adds (map after_drop y.parts.links) (tells y.keeper) (tells m.keeper) y m) up_is (call.turn.moved second.0 m second.1 third.1 moved))
-        (where_told d r (tells n.keeper) (StepsBy step step_calls (tells n.keeper) (tells m.keeper) (raised d n) m) store
+        (where_told d r (tells n.keeper) (StepsBy step step_calls (tells n.keeper) (tells m.keeper) (with_newest d n) m) store
         (subst (λ (y : NodeView K). ForSome (told_of (tells y.keeper).contents (tells y.keeper).parts) (λ c. StepsBy step step_calls (tells y.keeper) (tells m.keeper) y m)) up_is (call.turn.steps second.0 m second.1 third.1 moved)))
         (subst (λ (y : NodeView K). AreSmallParts (tells y.keeper).parts → AreSmallParts (tells m.keeper).parts) up_is (call.turn.small second.0 m second.1 third.1))
         (call.whole m third.1) early few
     by_turn (inr idle) =
         laws.idle tells g d r n m was after come one well
         (subst (λ (y : NodeView K). m ≡ with_links y (map after_drop y.parts.links)) up_is kept)
-        (where_told d r (tells n.keeper) ((s : SetUp) → nodes.MatchesSetup n.setup s → IsIdle (raised d n) s) store
+        (where_told d r (tells n.keeper) ((s : SetUp) → nodes.MatchesSetup n.setup s → IsIdle (with_newest d n) s) store
         (subst (λ (y : NodeView K). ForSome (told_of (tells y.keeper).contents (tells y.keeper).parts) (λ c. (s : SetUp) → nodes.MatchesSetup y.setup s → IsIdle y s)) up_is (call.turn.idle second.0 m second.1 third.1 idle))
         (set_up_of g d r) (come.each r n first.1).setup)
       where

@@ -28,9 +28,9 @@ use Rattle.repo_node.specs.declared.refused.NodeRefused.{NodeRefused}
 use Rattle.repo_node.specs.declared.refused.NodeRefused.TheVariants as refusals
 use Rattle.joined_nodes.specs.Joined.{AtNode}
 use Rattle.fleet_model.specs.Fleets.{FleetView, HasCome}
-use Rattle.fleet_model.specs.Steps.{HasLogged, OneGoesOn, StaysStored, raised}
+use Rattle.fleet_model.specs.Steps.{HasLogged, OneGoesOn, StaysStored, with_newest}
 use Rattle.fleet_model.specs.Stores.{IsTold}
-use Rattle.fleet_run.specs.Standing.{GoesOn}
+use Rattle.fleet_run.specs.AtDriver.{GoesOn}
 use Rattle.fleet_run.proofs.Called.{IsCalled, branch_stays, goes_on}
 
 -- what a call of a node that writes files answers
@@ -105,15 +105,15 @@ wrote tells made Done done n m P is_told (inr e) w = record {
 abbrev pub LineLaw : {K : Type 0} → (K → StoreView) → Type 0
 LineLaw {K} tells = (g : DriverInput) (d : Driver) (r : ℕ) (n m : NodeView K) (was after : FleetView K) (file : LogFile) (line : List ℕ) (failed : Option Call)
     → HasCome tells g d was → OneGoesOn r n m was after → StaysStored (tells n.keeper) (tells m.keeper)
-    → MakesCalls (to_log n file (line ∷ [])) failed (tells n.keeper).failing (tells m.keeper).failing → HasLogged file (line ∷ []) failed (raised d n) m
+    → MakesCalls (to_log n file (line ∷ [])) failed (tells n.keeper).failing (tells m.keeper).failing → HasLogged file (line ∷ []) failed (with_newest d n) m
     → m.time ≤ 1000000000000 → m.count < 2 ^ 62 → StaysSound g d (writes r file line d) → HasCome tells g (writes r file line d) after
 
 -- the law of a setting
 abbrev pub SettingLaw : {K : Type 0} → (K → StoreView) → Type 0
 SettingLaw {K} tells = (g : DriverInput) (d : Driver) (r : ℕ) (n m : NodeView K) (was after : FleetView K) (kind : LogKind) (topic : Topic) (value : Value) (failed : Option Call)
     → HasCome tells g d was → OneGoesOn r n m was after → StaysStored (tells n.keeper) (tells m.keeper)
-    → MakesCalls (to_log n (Of kind) (line_text kind (stamped_by (raised d n) kind None (record { topic = topic; stamp = None; value = value })) ∷ [])) failed (tells n.keeper).failing (tells m.keeper).failing
-    → HasLogged (Of kind) (line_text kind (stamped_by (raised d n) kind None (record { topic = topic; stamp = None; value = value })) ∷ []) failed (raised d n) m
+    → MakesCalls (to_log n (Of kind) (line_text kind (stamped_by (with_newest d n) kind None (record { topic = topic; stamp = None; value = value })) ∷ [])) failed (tells n.keeper).failing (tells m.keeper).failing
+    → HasLogged (Of kind) (line_text kind (stamped_by (with_newest d n) kind None (record { topic = topic; stamp = None; value = value })) ∷ []) failed (with_newest d n) m
     → m.time ≤ 1000000000000 → m.count < 2 ^ 62 → StaysSound g d (sets g r kind topic value d) → HasCome tells g (sets g r kind topic value d) after
 
 -- the lines stand, or the call failed
@@ -130,8 +130,8 @@ writes_go {K} tells r was up after file line done law there call ended sound =
     (λ g d come known s.
     let n : NodeView K = s.before in
     let m : NodeView K = s.left in
-    let w = wrote tells (λ n. to_log n file (line ∷ [])) (λ n m. m ≡ with_lines n m.keeper file (line ∷ [])) done (raised d n) m _ (come.each r n s.goes.before).store.failing ended s.holds in
-    law g d r n m was after file line w.failed come s.goes w.stored w.asked (has_logged file (line ∷ []) w.failed (raised d n) m w.done w.refused) s.early s.counted (sound g d known))
+    let w = wrote tells (λ n. to_log n file (line ∷ [])) (λ n m. m ≡ with_lines n m.keeper file (line ∷ [])) done (with_newest d n) m _ (come.each r n s.goes.before).store.failing ended s.holds in
+    law g d r n m was after file line w.failed come s.goes w.stored w.asked (has_logged file (line ∷ []) w.failed (with_newest d n) m w.done w.refused) s.early s.counted (sound g d known))
 
 -- the same, where the call was made of a file and a line that are these
 pub writes_go_so : {K : Type 0} (tells : K → StoreView) (r : ℕ) (was up after : FleetView K) (file file' : LogFile) (line line' : List ℕ) (done : Answer) → file' ≡ file → line' ≡ line → LineLaw tells → r < length was.nodes
@@ -152,9 +152,9 @@ sets_go {K} tells r was up after kind topic value done law there call ended soun
     (λ g d come known s.
     let n : NodeView K = s.before in
     let m : NodeView K = s.left in
-    let lines : List (List ℕ) = line_text kind (stamped_by (raised d n) kind None (record { topic = topic; stamp = None; value = value })) ∷ [] in
-    let w : Wrote tells (to_log n (Of kind) lines) (m ≡ with_lines (raised d n) m.keeper (Of kind) lines) (raised d n) m = wrote tells _ _ done (raised d n) m _ (come.each r n s.goes.before).store.failing ended s.holds in
-    law g d r n m was after kind topic value w.failed come s.goes w.stored w.asked (has_logged (Of kind) lines w.failed (raised d n) m w.done w.refused) s.early s.counted (sound g d known))
+    let lines : List (List ℕ) = line_text kind (stamped_by (with_newest d n) kind None (record { topic = topic; stamp = None; value = value })) ∷ [] in
+    let w : Wrote tells (to_log n (Of kind) lines) (m ≡ with_lines (with_newest d n) m.keeper (Of kind) lines) (with_newest d n) m = wrote tells _ _ done (with_newest d n) m _ (come.each r n s.goes.before).store.failing ended s.holds in
+    law g d r n m was after kind topic value w.failed come s.goes w.stored w.asked (has_logged (Of kind) lines w.failed (with_newest d n) m w.done w.refused) s.early s.counted (sound g d known))
 
 -- ---- file by file
 
@@ -163,7 +163,7 @@ abbrev pub MergeLaw : {K : Type 0} → (K → StoreView) → Type 0
 MergeLaw {K} tells = (g : DriverInput) (d : Driver) (r other : ℕ) (n m o : NodeView K) (was after : FleetView K) (failed : Option Call)
     → HasCome tells g d was → OneGoesOn r n m was after → slice_get was.nodes other ≡ Some o → StaysStored (tells n.keeper) (tells m.keeper)
     → MakesCalls (to_merge n o.branch) failed (tells n.keeper).failing (tells m.keeper).failing
-    → (failed ≡ None → m ≡ over m.keeper (merge_files (raised d n) o.branch)) → ((call : Call) → failed ≡ Some call → RefusesSo refusals.StoreFault calls.PutFile (raised d n) m)
+    → (failed ≡ None → m ≡ over m.keeper (merge_files (with_newest d n) o.branch)) → ((call : Call) → failed ≡ Some call → RefusesSo refusals.StoreFault calls.PutFile (with_newest d n) m)
     → m.time ≤ 1000000000000 → m.count < 2 ^ 62 → StaysSound g d (merges r other d) → HasCome tells g (merges r other d) after
 
 -- the law of a compaction
@@ -171,7 +171,7 @@ abbrev pub CompactLaw : {K : Type 0} → (K → StoreView) → Type 0
 CompactLaw {K} tells = (g : DriverInput) (d : Driver) (r : ℕ) (n m : NodeView K) (was after : FleetView K) (failed : Option Call)
     → HasCome tells g d was → OneGoesOn r n m was after → StaysStored (tells n.keeper) (tells m.keeper)
     → MakesCalls (to_compact n) failed (tells n.keeper).failing (tells m.keeper).failing
-    → (failed ≡ None → m ≡ over m.keeper (compact_files (raised d n) (keys_of n.branch))) → ((call : Call) → failed ≡ Some call → RefusesSo refusals.StoreFault calls.PutFile (raised d n) m)
+    → (failed ≡ None → m ≡ over m.keeper (compact_files (with_newest d n) (keys_of n.branch))) → ((call : Call) → failed ≡ Some call → RefusesSo refusals.StoreFault calls.PutFile (with_newest d n) m)
     → m.time ≤ 1000000000000 → m.count < 2 ^ 62 → StaysSound g d (compacts r d) → HasCome tells g (compacts r d) after
 
 -- what a merge of the node of another number, as it is after the raising, makes of a node
@@ -190,10 +190,10 @@ merges_go {K} tells r other was up after done law there there_too call ended sou
     let found : (o : NodeView K) × (slice_get was.nodes other ≡ Some o) = slice_get-within was.nodes other there_too in
     let o : NodeView K = found.0 in
     let up_too : (p : NodeView K) × (slice_get up.nodes other ≡ Some p) × (p.branch ≡ o.branch) = branch_stays tells r call.had other was up o call.raises found.1 in
-    let made : WritesFiles tells (λ n. to_merge n o.branch) (λ n m. m ≡ over m.keeper (merge_files n o.branch)) done (raised d n) m
-    = subst (λ files. WritesFiles tells (λ n. to_merge n files) (λ n m. m ≡ over m.keeper (merge_files n files)) done (raised d n) m) up_too.2 (s.holds up_too.0 up_too.1) in
-    let w : Wrote tells (to_merge n o.branch) (m ≡ over m.keeper (merge_files (raised d n) o.branch)) (raised d n) m
-    = wrote tells (λ n. to_merge n o.branch) (λ n m. m ≡ over m.keeper (merge_files n o.branch)) done (raised d n) m _ (come.each r n s.goes.before).store.failing ended made in
+    let made : WritesFiles tells (λ n. to_merge n o.branch) (λ n m. m ≡ over m.keeper (merge_files n o.branch)) done (with_newest d n) m
+    = subst (λ files. WritesFiles tells (λ n. to_merge n files) (λ n m. m ≡ over m.keeper (merge_files n files)) done (with_newest d n) m) up_too.2 (s.holds up_too.0 up_too.1) in
+    let w : Wrote tells (to_merge n o.branch) (m ≡ over m.keeper (merge_files (with_newest d n) o.branch)) (with_newest d n) m
+    = wrote tells (λ n. to_merge n o.branch) (λ n m. m ≡ over m.keeper (merge_files n o.branch)) done (with_newest d n) m _ (come.each r n s.goes.before).store.failing ended made in
     law g d r other n m o was after w.failed come s.goes found.1 w.stored w.asked w.done (λ call some. w.fault call some) s.early s.counted (sound g d known))
 
 pub compacts_go : {K : Type 0} (tells : K → StoreView) (r : ℕ) (was up after : FleetView K) (done : Answer) → CompactLaw tells → r < length was.nodes
@@ -204,6 +204,6 @@ compacts_go {K} tells r was up after done law there call ended sound =
     (λ g d come known s.
     let n : NodeView K = s.before in
     let m : NodeView K = s.left in
-    let w : Wrote tells (to_compact n) (m ≡ over m.keeper (compact_files (raised d n) (keys_of n.branch))) (raised d n) m
-    = wrote tells (λ n. to_compact n) (λ n m. m ≡ over m.keeper (compact_files n (keys_of n.branch))) done (raised d n) m _ (come.each r n s.goes.before).store.failing ended s.holds in
+    let w : Wrote tells (to_compact n) (m ≡ over m.keeper (compact_files (with_newest d n) (keys_of n.branch))) (with_newest d n) m
+    = wrote tells (λ n. to_compact n) (λ n m. m ≡ over m.keeper (compact_files n (keys_of n.branch))) done (with_newest d n) m _ (come.each r n s.goes.before).store.failing ended s.holds in
     law g d r n m was after w.failed come s.goes w.stored w.asked w.done (λ call some. w.fault call some) s.early s.counted (sound g d known))

@@ -9,14 +9,14 @@ use Rattle.repo_node.specs.Stored.{StoreView}
 use Rattle.script_lang.specs.declared.command.Command.{Command}
 use Rattle.script_lang.specs.Context.{Context}
 use Rattle.script_lang.specs.Limits.{first_limit}
-use Rattle.script_lang.specs.Standing as script
+use Rattle.script_lang.specs.Preconditions as script
 use Rattle.driver_model.specs.Driver.{Driver, DriverInput}
 use Rattle.driver_model.specs.Driving.{does, with_mark}
 use Rattle.driver_model.specs.Limits.{asks_first, count_of, is_full, meets_limit, run_to_limit}
 use Rattle.driver_model.specs.Lines.{Line}
 use Rattle.driver_script.specs.Lines.{line_of}
 use Rattle.fleet_model.specs.Fleets.{FleetView}
-use Rattle.fleet_run.specs.Standing.{IsAtDriver}
+use Rattle.fleet_run.specs.AtDriver.{IsAtDriver}
 
 -- Its line stands behind lines of a script that declare no more repositories than there are nodes, and that waited until now; it
 -- passes no limit, and no part is missing for it.

@@ -1,4 +1,4 @@
 -- The definitions of this crate.
-pub mod Standing
+pub mod AtDriver
 pub mod Commands
 pub mod Telling

@@ -2,7 +2,7 @@
 ghost use Rattle.std.specs.Prelude.{◌≡◌, ◌⊎◌, ◌<◌, ◌≤◌, ℕ, length, slice_get, Some, Err, Ok, OnErr, OnOk};
 ghost use Rattle.repo_node.specs.Nodes.{NodeView};
 ghost use Rattle.repo_node.specs.Stored.{store_view};
-ghost use Rattle.fleet_run.specs.Standing.{OnlyAddsEntries};
+ghost use Rattle.fleet_run.specs.AtDriver.{OnlyAddsEntries};
 ghost use Rattle.fleet_run.specs.Telling.{AreFew, EndsShort, Tells};
 
 use crate::running::Running;

@@ -9,7 +9,7 @@ ghost use Rattle.driver_script.specs.Lines.{repos_of};
 ghost use Rattle.fleet_model.specs.Matches.{DecidesMatches};
 ghost use Rattle.fleet_model.specs.Stores.{IsStoreOf};
 ghost use Rattle.fleet_run.specs.Commands.{CutsAt, MayBeDone, MeetsNone, does_and_marks, does_command};
-ghost use Rattle.fleet_run.specs.Standing.{GoesOn, IsAtDriver, OnlyAddsEntries, StopsWithin, most_lines};
+ghost use Rattle.fleet_run.specs.AtDriver.{GoesOn, IsAtDriver, OnlyAddsEntries, StopsWithin, most_lines};
 
 use crate::declaring::{memory_keepers, repositories};
 use crate::running::Running;
@@ -37,7 +37,7 @@ pub struct Fleet<K: FailingKeeper> {
 impl<K: FailingKeeper> Model for Fleet<K> {
     ghost use Rattle.std.specs.Prelude.{◌≡◌, false, length};
     ghost use Rattle.fleet_model.specs.Fleets.{FleetView};
-    ghost use Rattle.fleet_run.specs.Standing.{IsDrivenWithin};
+    ghost use Rattle.fleet_run.specs.AtDriver.{IsDrivenWithin};
     ghost use Rattle.repo_node.specs.Stored.{store_view};
 
     ghost Value = { FleetView K };

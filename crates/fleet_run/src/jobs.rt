@@ -5,7 +5,7 @@ ghost use Rattle.repo_node.specs.Stored.{store_view};
 ghost use Rattle.run_model.specs.Past.{now};
 ghost use Rattle.driver_model.specs.Rounds.{settles};
 ghost use Rattle.driver_model.specs.ScriptSteps.{begins, waits, will_fail};
-ghost use Rattle.fleet_run.specs.Standing.{EndsAtFull, GoesOn, IsDriven, OnlyAddsEntries, StopsWithin};
+ghost use Rattle.fleet_run.specs.AtDriver.{EndsAtFull, GoesOn, IsDriven, OnlyAddsEntries, StopsWithin};
 
 use crate::running::Running;
 use crate::stop::FleetStop;

@@ -2,7 +2,7 @@
 ghost use Rattle.std.specs.Prelude.{◌≡◌, ◌+◌, ◌<◌, ℕ, length, Err, OnErr, OnOk};
 ghost use Rattle.repo_node.specs.Stored.{store_view};
 ghost use Rattle.fleet_run.specs.Commands.{CutsAt, HasRoomFor, MayBeDone, MeetsNone, does_and_marks, does_command};
-ghost use Rattle.fleet_run.specs.Standing.{GoesOn, IsDriven, IsDrivenWithin, OnlyAddsEntries, StopsWithin, most_lines};
+ghost use Rattle.fleet_run.specs.AtDriver.{GoesOn, IsDriven, IsDrivenWithin, OnlyAddsEntries, StopsWithin, most_lines};
 
 use crate::running::Running;
 use crate::stop::FleetStop;

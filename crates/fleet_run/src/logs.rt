@@ -6,7 +6,7 @@ ghost use Rattle.union_merge.specs.LineSet.{IsLine};
 ghost use Rattle.repo_node.specs.Stored.{store_view};
 ghost use Rattle.driver_model.specs.Scripts.{IsPlainTopic, IsPlainValue};
 ghost use Rattle.driver_model.specs.ScriptSteps.{compacts, merges, sets, writes};
-ghost use Rattle.fleet_run.specs.Standing.{EndsAtFull, GoesOn, IsDriven, OnlyAddsEntries, StopsWithin};
+ghost use Rattle.fleet_run.specs.AtDriver.{EndsAtFull, GoesOn, IsDriven, OnlyAddsEntries, StopsWithin};
 
 use crate::running::Running;
 use crate::stop::FleetStop;

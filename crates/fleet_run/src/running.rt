@@ -6,7 +6,7 @@ ghost use Rattle.driver_model.specs.Driving.{with_mark};
 ghost use Rattle.repo_node.specs.Nodes.{NodeView};
 ghost use Rattle.repo_node.specs.Stored.{store_view};
 ghost use Rattle.fleet_model.specs.Turns.{IsWhole};
-ghost use Rattle.fleet_run.specs.Standing.{GoesOn, IsDriven, OnlyAddsEntries};
+ghost use Rattle.fleet_run.specs.AtDriver.{GoesOn, IsDriven, OnlyAddsEntries};
 ghost use Rattle.fleet_run.specs.Telling.{Raises, StandsWithin, Tells};
 
 use annex_base::{Items, NoMemory};

@@ -8,7 +8,7 @@ ghost use Rattle.log_lines.specs.declared.entry.Value.TheVariants as values;
 ghost use Rattle.run_data.specs.Repos.{id_of};
 ghost use Rattle.repo_node.specs.Stored.{store_view};
 ghost use Rattle.driver_model.specs.ScriptSteps.{sets};
-ghost use Rattle.fleet_run.specs.Standing.{EndsAtFull, GoesOn, IsDriven, OnlyAddsEntries, StopsWithin};
+ghost use Rattle.fleet_run.specs.AtDriver.{EndsAtFull, GoesOn, IsDriven, OnlyAddsEntries, StopsWithin};
 
 use crate::running::Running;
 use crate::stop::FleetStop;

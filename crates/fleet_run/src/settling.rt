@@ -8,7 +8,7 @@ ghost use Rattle.joined_nodes.specs.Joined.{AreNodes};
 ghost use Rattle.driver_model.specs.Driving.{turns};
 ghost use Rattle.driver_model.specs.Rounds.{round, settles};
 ghost use Rattle.driver_model.specs.Turning.{turn};
-ghost use Rattle.fleet_run.specs.Standing.{EndsAtFull, GoesOn, IsDriven, OnlyAddsEntries, StopsWithin};
+ghost use Rattle.fleet_run.specs.AtDriver.{EndsAtFull, GoesOn, IsDriven, OnlyAddsEntries, StopsWithin};
 
 use crate::running::Running;
 use crate::stop::FleetStop;

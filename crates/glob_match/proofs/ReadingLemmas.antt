@@ -16,10 +16,10 @@ use Rattle.glob_match.specs.declared.fault.GlobFault.{GlobFault}
 use Rattle.glob_match.specs.declared.fault.GlobFault.TheVariants.{OpenSet, NoMemory}
 use Rattle.glob_match.specs.declared.item.Item.{Item}
 use Rattle.glob_match.specs.declared.item.Item.TheVariants.{AnyRun, AnyOne, OneOf, Only}
-use Rattle.glob_match.specs.Glob.{star, question, opening, closing, is_close, is_item, item_text, IsGlob, HasOpenSet}
+use Rattle.glob_match.specs.Glob.{star, question, open_bracket, close_bracket, is_close, is_item, item_text, IsGlob, HasOpenSet}
 use Rattle.glob_match.specs.Walk.{char_at, as_set, with_member, set_at, item_at, is_stuck, Reads, Tells}
 
-nil_or_cons : (cs : List ℕ) → [] ≡ opening ∷ cs → ⊥
+nil_or_cons : (cs : List ℕ) → [] ≡ open_bracket ∷ cs → ⊥
 nil_or_cons cs e = cc
 
 pair_up : (i j : Item) (a b : List Item) → i ≡ j → a ≡ b → i ∷ a ≡ j ∷ b
@@ -113,7 +113,7 @@ never_closed_open (c ∷ cs) e =
     (λ t. let bad : (false && never_closed cs) ≡ true = subst (λ (b : Bool). (not b && never_closed cs) ≡ true) t e in cc)
     (λ t. let k : never_closed cs ≡ true = subst (λ (b : Bool). (not b && never_closed cs) ≡ true) t e in rw t (rw (never_closed_open cs k) refl))
 
-set_again : (members rest : List ℕ) → never_closed members ≡ true → set_at (members ++ closing ∷ rest) ≡ Some (members, rest)
+set_again : (members rest : List ℕ) → never_closed members ≡ true → set_at (members ++ close_bracket ∷ rest) ≡ Some (members, rest)
 set_again [] rest e = refl
 set_again (c ∷ members) rest e =
     by_test (is_close c)
@@ -121,9 +121,9 @@ set_again (c ∷ members) rest e =
     (λ t. let k : never_closed members ≡ true = subst (λ (b : Bool). (not b && never_closed members) ≡ true) t e in rw t (rw (set_again members rest k) refl))
 
 abbrev IsSetText : List ℕ → List ℕ → List ℕ → Type 0
-IsSetText cs members rest = (never_closed members ≡ true) × (cs ≡ members ++ closing ∷ rest)
+IsSetText cs members rest = (never_closed members ≡ true) × (cs ≡ members ++ close_bracket ∷ rest)
 
-closes_here : (c : ℕ) (cs members rest : List ℕ) → c ≡ closing → parts [] cs ≡ parts members rest → IsSetText (c ∷ cs) members rest
+closes_here : (c : ℕ) (cs members rest : List ℕ) → c ≡ close_bracket → parts [] cs ≡ parts members rest → IsSetText (c ∷ cs) members rest
 closes_here c cs members rest is e =
     let m : [] ≡ members = ap (λ (o : Parts). first_of_parts o) e in
     let r : cs ≡ rest = ap (λ (o : Parts). rest_of_parts o) e in
@@ -141,7 +141,7 @@ set_takes : (cs members rest : List ℕ) → set_at cs ≡ parts members rest �
 set_takes [] members rest e = cc
 set_takes (c ∷ cs) members rest e =
     elim (if_is (is_close c) (Some ([], cs)) (option_map (with_member c) (set_at cs)) (Some (members, rest)) e) [
-      | inl k ↦ closes_here c cs members rest (eqb-true c closing k.0) k.1
+      | inl k ↦ closes_here c cs members rest (eqb-true c close_bracket k.0) k.1
       | inr k ↦ goes_on c cs members rest (set_at cs) (set_takes cs) k.0 k.1
     ]
 
@@ -157,14 +157,14 @@ item_of (c ∷ cs) = item_at c cs
 
 item_again_only : (c : ℕ) (rest : List ℕ) → is_item (Only c) ≡ true → item_at c rest ≡ Some (Only c, rest)
 item_again_only c rest e =
-    let k = and_parts (not (c == star) && not (c == question)) (not (c == opening)) e in
+    let k = and_parts (not (c == star) && not (c == question)) (not (c == open_bracket)) e in
     let j = and_parts (not (c == star)) (not (c == question)) k.0 in
-    rw (not-true (c == star) j.0, not-true (c == question) j.1, not-true (c == opening) k.1) refl
+    rw (not-true (c == star) j.0, not-true (c == question) j.1, not-true (c == open_bracket) k.1) refl
 
 pub item_again : (i : Item) (rest : List ℕ) → is_item i ≡ true → item_of (item_text i ++ rest) ≡ Some (i, rest)
 item_again AnyRun rest e = refl
 item_again AnyOne rest e = refl
-item_again (OneOf members) rest e = ap (λ (w : List ℕ). option_map as_set (set_at w)) (append_assoc members (closing ∷ []) rest) ∙ ap (option_map as_set) (set_again members rest e)
+item_again (OneOf members) rest e = ap (λ (w : List ℕ). option_map as_set (set_at w)) (append_assoc members (close_bracket ∷ []) rest) ∙ ap (option_map as_set) (set_again members rest e)
 item_again (Only c) rest e = item_again_only c rest e
 
 -- an item that is read is one, and is spelled so
@@ -174,11 +174,11 @@ IsStep text x = (is_item x.0 ≡ true) × (text ≡ item_text x.0 ++ x.1)
 step_is : (text : List ℕ) (x y : Item × List ℕ) → Some x ≡ Some y → IsStep text x → IsStep text y
 step_is text x y e k = let same : x ≡ y = same_Some x y e in subst (IsStep text) same k
 
-set_step : (c : ℕ) (after : List ℕ) (o : Parts) (x : Item × List ℕ) → c ≡ opening → set_at after ≡ o → option_map as_set o ≡ Some x → IsStep (c ∷ after) x
+set_step : (c : ℕ) (after : List ℕ) (o : Parts) (x : Item × List ℕ) → c ≡ open_bracket → set_at after ≡ o → option_map as_set o ≡ Some x → IsStep (c ∷ after) x
 set_step c after None x is s e = absurd (some_none x (sym e))
 set_step c after (Some p) x is s e =
     let k = set_takes after p.0 p.1 s in
-    step_is (c ∷ after) (as_set p) x e (k.0, rw (is, k.1) (ap (λ (w : List ℕ). opening ∷ w) (sym (append_assoc p.0 (closing ∷ []) p.1))))
+    step_is (c ∷ after) (as_set p) x e (k.0, rw (is, k.1) (ap (λ (w : List ℕ). open_bracket ∷ w) (sym (append_assoc p.0 (close_bracket ∷ []) p.1))))
 
 pub item_takes : (c : ℕ) (after : List ℕ) (x : Item × List ℕ) → item_at c after ≡ Some x → IsStep (c ∷ after) x
 item_takes c after x e =
@@ -186,29 +186,29 @@ item_takes c after x e =
       | inl k ↦ step_is (c ∷ after) (AnyRun, after) x k.1 (refl, ap (λ (d : ℕ). d ∷ after) (eqb-true c star k.0))
       | inr s ↦ elim (if_is (c == question) (Some (AnyOne, after)) _ (Some x) s.1) [
         | inl k ↦ step_is (c ∷ after) (AnyOne, after) x k.1 (refl, ap (λ (d : ℕ). d ∷ after) (eqb-true c question k.0))
-        | inr q ↦ elim (if_is (c == opening) (option_map as_set (set_at after)) (Some (Only c, after)) (Some x) q.1) [
-          | inl k ↦ set_step c after (set_at after) x (eqb-true c opening k.0) refl k.1
+        | inr q ↦ elim (if_is (c == open_bracket) (option_map as_set (set_at after)) (Some (Only c, after)) (Some x) q.1) [
+          | inl k ↦ set_step c after (set_at after) x (eqb-true c open_bracket k.0) refl k.1
           | inr k ↦ step_is (c ∷ after) (Only c, after) x k.1 (rw (s.0, q.0, k.0) refl, refl)
         ]
       ]
     ]
 
 -- an item that isn't read is an open set
-pub stuck_is_open : (c : ℕ) (after : List ℕ) → is_none (item_at c after) ≡ true → (c ≡ opening) × (never_closed after ≡ true)
+pub stuck_is_open : (c : ℕ) (after : List ℕ) → is_none (item_at c after) ≡ true → (c ≡ open_bracket) × (never_closed after ≡ true)
 stuck_is_open c after e =
     let none : item_at c after ≡ None = is_none_true (item_at c after) e in
     elim (if_is (c == star) (Some (AnyRun, after)) _ None none) [
       | inl k ↦ absurd (some_none (AnyRun, after) k.1)
       | inr s ↦ elim (if_is (c == question) (Some (AnyOne, after)) _ None s.1) [
         | inl k ↦ absurd (some_none (AnyOne, after) k.1)
-        | inr q ↦ elim (if_is (c == opening) (option_map as_set (set_at after)) (Some (Only c, after)) None q.1) [
-          | inl k ↦ (eqb-true c opening k.0, open_never_closed after (unset (set_at after) k.1))
+        | inr q ↦ elim (if_is (c == open_bracket) (option_map as_set (set_at after)) (Some (Only c, after)) None q.1) [
+          | inl k ↦ (eqb-true c open_bracket k.0, open_never_closed after (unset (set_at after) k.1))
           | inr k ↦ absurd (some_none (Only c, after) k.1)
         ]
       ]
     ]
 
-pub open_is_stuck : (rest : List ℕ) → never_closed rest ≡ true → is_stuck (opening ∷ rest) ≡ true
+pub open_is_stuck : (rest : List ℕ) → never_closed rest ≡ true → is_stuck (open_bracket ∷ rest) ≡ true
 open_is_stuck rest e = rw (never_closed_open rest e) refl
 
 -- Items in a row.
@@ -249,11 +249,11 @@ glob_unique a b text ga gb =
 -- an open set beside a glob, and beside another
 pub open_or_glob : (a : List Item) (at : ℕ) (text : List ℕ) → IsGlob a text → HasOpenSet at text → ⊥
 open_or_glob a at text g h =
-    nil_or_cons h.rest (one_reading a h.front [] (opening ∷ h.rest) g.items_are h.items_are refl (open_is_stuck h.rest h.never_closed) (append-nil (flat_map item_text a) ∙ (sym g.spelled ∙ h.spelled))).1
+    nil_or_cons h.rest (one_reading a h.front [] (open_bracket ∷ h.rest) g.items_are h.items_are refl (open_is_stuck h.rest h.never_closed) (append-nil (flat_map item_text a) ∙ (sym g.spelled ∙ h.spelled))).1
 
 pub open_once : (at other : ℕ) (text : List ℕ) → HasOpenSet at text → HasOpenSet other text → at ≡ other
 open_once at other text h k =
-    let same = one_reading h.front k.front (opening ∷ h.rest) (opening ∷ k.rest) h.items_are k.items_are (open_is_stuck h.rest h.never_closed) (open_is_stuck k.rest k.never_closed) (sym h.spelled ∙ k.spelled) in
+    let same = one_reading h.front k.front (open_bracket ∷ h.rest) (open_bracket ∷ k.rest) h.items_are k.items_are (open_is_stuck h.rest h.never_closed) (open_is_stuck k.rest k.never_closed) (sym h.spelled ∙ k.spelled) in
     h.place ∙ (ap (λ (items : List Item). length (encode_utf8_all (flat_map item_text items))) same.0 ∙ sym k.place)
 
 pub byte_len : (cs : List ℕ) → sum_by len_utf8 cs ≡ length (encode_utf8_all cs)

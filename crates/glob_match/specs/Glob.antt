@@ -13,23 +13,23 @@ star = 42
 abbrev pub question : ℕ
 question = 63
 
-abbrev pub opening : ℕ
-opening = 91
+abbrev pub open_bracket : ℕ
+open_bracket = 91
 
-abbrev pub closing : ℕ
-closing = 93
+abbrev pub close_bracket : ℕ
+close_bracket = 93
 
 abbrev pub contrary : ℕ
 contrary = 33
 
 abbrev pub is_close : ℕ → Bool
-is_close c = c == closing
+is_close c = c == close_bracket
 
 -- how an item is written
 abbrev pub item_text : Item → List ℕ
 item_text AnyRun = star ∷ []
 item_text AnyOne = question ∷ []
-item_text (OneOf members) = opening ∷ (members ++ closing ∷ [])
+item_text (OneOf members) = open_bracket ∷ (members ++ close_bracket ∷ [])
 item_text (Only c) = c ∷ []
 
 -- a set ends at the first `]`; a character that stands for itself is none of `*`, `?` and `[`
@@ -37,7 +37,7 @@ abbrev pub is_item : Item → Bool
 is_item AnyRun = true
 is_item AnyOne = true
 is_item (OneOf members) = list_all (λ c. not (is_close c)) members
-is_item (Only c) = not (c == star) && not (c == question) && not (c == opening)
+is_item (Only c) = not (c == star) && not (c == question) && not (c == open_bracket)
 
 -- the items that a text spells, all of the text
 pub record IsGlob (items : List Item) (text : List ℕ) : Type 0 where
@@ -49,7 +49,7 @@ pub record HasOpenSet (at : ℕ) (text : List ℕ) : Type 0 where
   pub front : List Item
   pub rest : List ℕ
   pub items_are : IsTrue (list_all is_item front)
-  pub spelled : text ≡ flat_map item_text front ++ opening ∷ rest
+  pub spelled : text ≡ flat_map item_text front ++ open_bracket ∷ rest
   pub never_closed : IsTrue (list_all (λ c. not (is_close c)) rest)
   pub place : at ≡ length (encode_utf8_all (flat_map item_text front))
 

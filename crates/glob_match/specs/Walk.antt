@@ -7,7 +7,7 @@ use Rattle.std.specs.Option.{option_map}
 use Rattle.annex_base.specs.Lines.{dash}
 use Rattle.glob_match.specs.declared.fault.GlobFault.{GlobFault}
 use Rattle.glob_match.specs.declared.fault.GlobFault.TheVariants.{OpenSet, NoMemory}
-use Rattle.glob_match.specs.Glob.{star, question, opening, is_close, is_run, takes, is_item, item_text, IsGlob, HasOpenSet}
+use Rattle.glob_match.specs.Glob.{star, question, open_bracket, is_close, is_run, takes, is_item, item_text, IsGlob, HasOpenSet}
 
 -- the first range of a set, and what follows it
 abbrev pub range_at : List ℕ → Option (ℕ × ℕ × List ℕ)
@@ -53,7 +53,7 @@ as_set x = (OneOf x.0, x.1)
 abbrev pub item_at : ℕ → List ℕ → Option (Item × List ℕ)
 item_at c after = if c == star then Some (AnyRun, after)
     else (if c == question then Some (AnyOne, after)
-    else (if c == opening then option_map as_set (set_at after) else Some (Only c, after)))
+    else (if c == open_bracket then option_map as_set (set_at after) else Some (Only c, after)))
 
 -- no item begins the text
 abbrev pub is_stuck : List ℕ → Bool

@@ -19,7 +19,7 @@ use Rattle.node_model.specs.Ends.{EndName, takes_at}
 use Rattle.node_model.specs.Found.{ByJob, BySession, IsJobEntry, JobTakes, IsSessionEntry, StepFound}
 use Rattle.node_model.specs.Jobs.{Work, job_end, partner, side_of}
 use Rattle.node_model.specs.JobStep.{Turn, turn_of}
-use Rattle.node_model.specs.Look.{Look, Made}
+use Rattle.node_model.specs.Look.{Look, Effect}
 use Rattle.node_model.specs.SessionStep.{Here}
 use Rattle.node_model.specs.Sessions.{Doing}
 use Rattle.node_model.specs.SetUp.{SetUp}
@@ -34,37 +34,37 @@ use Rattle.link_flights.proofs.Naming.{end_own, takes_end}
 
 -- as race_core has it: what steps found, what they take, and whose entries they make
 pub record StepLaws : Type 0 where
-  pub finds : (s : SetUp) (st : State) (k : Look) (m : Made) → step s st k ≡ Some m → StepFound s st k m
-  pub at_hand : (s : SetUp) (st : State) (k : Look) (m : Made) (f : FrameView) → step s st k ≡ Some m → m.taken ≡ Some f → Member f k.at_hand
+  pub finds : (s : SetUp) (st : State) (k : Look) (m : Effect) → step s st k ≡ Some m → StepFound s st k m
+  pub at_hand : (s : SetUp) (st : State) (k : Look) (m : Effect) (f : FrameView) → step s st k ≡ Some m → m.taken ≡ Some f → Member f k.at_hand
   pub goes : (t : Turn) → (partner t.w.what.peer t.w.phase ≡ None) ⊎ (is_awaiting t.w.phase ≡ false) → (Turns.goes t t.w.phase).taken ≡ None
   pub takes : (t : Turn) (peer : ℕ) (f : FrameView) → partner t.w.what.peer t.w.phase ≡ Some peer → (takes_frame t peer f f.body).taken ≡ Some f
-  pub session : (s : SetUp) (st : State) (k : Look) (m : Made) → BySession s st k m → job_of m.kind ≡ None
-  pub job : (s : SetUp) (st : State) (k : Look) (m : Made) (x : ByJob s st k m) → job_of m.kind ≡ Some x.w.number
+  pub session : (s : SetUp) (st : State) (k : Look) (m : Effect) → BySession s st k m → job_of m.kind ≡ None
+  pub job : (s : SetUp) (st : State) (k : Look) (m : Effect) (x : ByJob s st k m) → job_of m.kind ≡ Some x.w.number
 
-removes_local : (t : Turn) (m : Made) (kind : EntryKind) → IsJobEntry t m kind → (by : By) (key : List ℕ) → kind ≡ Gone by key → side_of t.w ≡ Local
+removes_local : (t : Turn) (m : Effect) (kind : EntryKind) → IsJobEntry t m kind → (by : By) (key : List ℕ) → kind ≡ Gone by key → side_of t.w ≡ Local
 removes_local t m kind x by key is = let y = subst (IsJobEntry t m) is x in y.side
 
 -- what it says of the job
-pub record Acts (w : Work) (m : Made) : Type 0 where
+pub record Acts (w : Work) (m : Effect) : Type 0 where
   pub local : (by : By) (key : List ℕ) → m.kind ≡ Gone by key → side_of w ≡ Local
   pub takes : (f : FrameView) → m.taken ≡ Some f → (peer : ℕ) × (partner w.what.peer w.phase ≡ Some peer) × (takes_at (job_end w peer) f ≡ true)
 
-job_acts : (s : SetUp) (st : State) (k : Look) (m : Made) (x : ByJob s st k m) → Acts x.w m
+job_acts : (s : SetUp) (st : State) (k : Look) (m : Effect) (x : ByJob s st k m) → Acts x.w m
 job_acts s st k m x = record { local = removes_local (turn_of s st k x.w) m m.kind x.found; takes = go x.frame }
   where
     go : (m.taken ≡ None) ⊎ JobTakes (turn_of s st k x.w) m → (f : FrameView) → m.taken ≡ Some f → (peer : ℕ) × (partner x.w.what.peer x.w.phase ≡ Some peer) × (takes_at (job_end x.w peer) f ≡ true)
     go (inl none) f is = absurd (let no' : None ≡ Some f = sym none ∙ is in cc)
     go (inr y) f is = let one : Some y.f ≡ Some f = sym y.taken_is ∙ is in let same : y.f ≡ f = cc in (y.peer, y.partner_is, subst (λ (g : FrameView). takes_at (job_end x.w y.peer) g ≡ true) same y.of_end)
 
-pub acts : StepLaws → (s : SetUp) (st : State) (k : Look) (m : Made) → step s st k ≡ Some m → AreJobs st.works → (w : Work) → Member w st.works → job_of m.kind ≡ Some w.number → Acts w m
+pub acts : StepLaws → (s : SetUp) (st : State) (k : Look) (m : Effect) → step s st k ≡ Some m → AreJobs st.works → (w : Work) → Member w st.works → job_of m.kind ≡ Some w.number → Acts w m
 acts laws s st k m makes jobs w there number = go (laws.finds s st k m makes)
   where
     go : StepFound s st k m → Acts w m
     go (inl x) = elim (x.writes) [
-      | inl y ↦ absurd (let no' : None ≡ Some w.number = ap (λ (z : Made). job_of z.kind) (sym y) ∙ number in cc)
+      | inl y ↦ absurd (let no' : None ≡ Some w.number = ap (λ (z : Effect). job_of z.kind) (sym y) ∙ number in cc)
       | inr y ↦ record {
-        local = λ by key is. absurd (let no' = sym (ap (λ (z : Made). z.kind) y) ∙ is in cc);
-        takes = λ f is. absurd (let no' = sym (ap (λ (z : Made). z.taken) y) ∙ is in cc);
+        local = λ by key is. absurd (let no' = sym (ap (λ (z : Effect). z.kind) y) ∙ is in cc);
+        takes = λ f is. absurd (let no' = sym (ap (λ (z : Effect). z.taken) y) ∙ is in cc);
       }
     ]
     go (inr (inl x)) = absurd (let no' : None ≡ Some w.number = sym (laws.session s st k m x) ∙ number in cc)
@@ -75,7 +75,7 @@ acts laws s st k m makes jobs w there number = go (laws.finds s st k m makes)
         subst (λ (v : Work). Acts v m) same (job_acts s st k m x)
 
 -- a step begins no job, and is no crash
-pub steps_begin_none : StepLaws → (s : SetUp) (st : State) (k : Look) (m : Made) → step s st k ≡ Some m → is_begin m.kind ≡ false
+pub steps_begin_none : StepLaws → (s : SetUp) (st : State) (k : Look) (m : Effect) → step s st k ≡ Some m → is_begin m.kind ≡ false
 steps_begin_none laws s st k m makes = go (laws.finds s st k m makes)
   where
     session : (h : Here) (doing : Doing) (asked : Option Message) (says : List FrameText) (kind : EntryKind) → IsSessionEntry h doing asked says kind → is_begin kind ≡ false
@@ -87,7 +87,7 @@ steps_begin_none laws s st k m makes = go (laws.finds s st k m makes)
     job t kind x = refl
 
     go : StepFound s st k m → is_begin m.kind ≡ false
-    go (inl x) = elim (x.writes) [ inl y ↦ ap (λ (z : Made). is_begin z.kind) y | inr y ↦ ap (λ (z : Made). is_begin z.kind) y ]
+    go (inl x) = elim (x.writes) [ inl y ↦ ap (λ (z : Effect). is_begin z.kind) y | inr y ↦ ap (λ (z : Effect). is_begin z.kind) y ]
     go (inr (inl x)) = session _ _ _ _ m.kind x.found
     go (inr (inr x)) = job (turn_of s st k x.w) m.kind x.found
 

@@ -26,9 +26,9 @@ use Rattle.node_model.specs.Ends.{End, EndName, end_after, end_sends, end_takes,
 use Rattle.node_model.specs.Found.{ByJob, JobTakes, StepFound}
 use Rattle.node_model.specs.Jobs
 use Rattle.node_model.specs.Jobs.{AsksLook, Drops, Gets, Orders, Part, Phase, Puts, RowsAndEnds, Work, claims, closed_part, hears_frame, job_end, learns, listens, partner, target_of, after_frame, after_line, talks, talks_on, work_after, work_kind, works_after}
-use Rattle.node_model.specs.JobStep.{Turn, end_with, hears, quietly, talk, turn_of, wrong}
-use Rattle.node_model.specs.Look.{Look, Made, failing, first_of, first_some, unless, waiting}
-use Rattle.node_model.specs.Owed.{Owed, due}
+use Rattle.node_model.specs.JobStep.{Turn, end_with, hears, quietly, talk, turn_of, wrong_message}
+use Rattle.node_model.specs.Look.{Look, Effect, failing_call, first_of, first_some, unless, waiting_frame}
+use Rattle.node_model.specs.OwedLines.{OwedLine, due}
 use Rattle.node_model.specs.OwedStep.{owed_step, pays_first}
 use Rattle.node_model.specs.Rows.{option_is}
 use Rattle.node_model.specs.SessionStep.{Reply, gives_made, gives_next, here, on_frame, reply_made, session_at, session_makes, session_step}
@@ -64,13 +64,13 @@ some_was {X = X} {Y = Y} f (x ∷ xs) y e = go (λ g. some_was f xs y g) (f x) r
     go more (Some z) is g = (x, is ∙ (rw is at g))
 
 -- a frame that waits comes to the end
-waits_at : (c : End) (k : Look) (a : EndName) (f : FrameView) → waiting c k a ≡ Some f → takes_at a f ≡ true
+waits_at : (c : End) (k : Look) (a : EndName) (f : FrameView) → waiting_frame c k a ≡ Some f → takes_at a f ≡ true
 waits_at c k a f e = (and_parts (takes_at a f) (may_take c f) (find_member (λ g. takes_at a g && may_take c g) k.at_hand f e).1).0
 
 -- ---- the step that takes a frame
 
 -- the job in a slot took it of its partner
-pub record TookBy (s : SetUp) (st : State) (k : Look) (m : Made) (f : FrameView) : Type 0 where
+pub record TookBy (s : SetUp) (st : State) (k : Look) (m : Effect) (f : FrameView) : Type 0 where
   pub w : Work
   pub slot : ℕ
   pub runs : find (λ w. w.slot == slot) st.works ≡ Some w
@@ -80,16 +80,16 @@ pub record TookBy (s : SetUp) (st : State) (k : Look) (m : Made) (f : FrameView)
   pub made : m ≡ takes_frame (turn_of s st k w) peer f f.body
 
 -- an owed line takes none
-owed_none : (s : SetUp) (st : State) (k : Look) (m : Made) (os : List Owed) → pays_first s st k os ≡ Some m → m.taken ≡ None
+owed_none : (s : SetUp) (st : State) (k : Look) (m : Effect) (os : List OwedLine) → pays_first s st k os ≡ Some m → m.taken ≡ None
 owed_none s st k m [] e = absurd (cc)
-owed_none s st k m (o ∷ os) e = go (failing k.fails (PutFile ∷ [])) e
+owed_none s st k m (o ∷ os) e = go (failing_call k.fails (PutFile ∷ [])) e
   where
     go : (c : Option Call) → Some (unless c (λ call. record { kind = Fault call o.by; taken = None; sent = []; lines = [] })
         (record { kind = Log (Location o.key); taken = None; sent = []; lines = due s.repos st.lines (st.wall k.time) o })) ≡ Some m → m.taken ≡ None
-    go None g = let same : record { kind = Log (Location o.key); taken = None; sent = []; lines = due s.repos st.lines (st.wall k.time) o } ≡ m = cc in sym (ap (λ (z : Made). z.taken) same)
-    go (Some call) g = let same : record { kind = Fault call o.by; taken = None; sent = []; lines = [] } ≡ m = cc in sym (ap (λ (z : Made). z.taken) same)
+    go None g = let same : record { kind = Log (Location o.key); taken = None; sent = []; lines = due s.repos st.lines (st.wall k.time) o } ≡ m = cc in sym (ap (λ (z : Effect). z.taken) same)
+    go (Some call) g = let same : record { kind = Fault call o.by; taken = None; sent = []; lines = [] } ≡ m = cc in sym (ap (λ (z : Effect). z.taken) same)
 
-module _ (laws : StepLaws) (s : SetUp) (st : State) (k : Look) (m : Made) (f : FrameView) (took : m.taken ≡ Some f) where
+module _ (laws : StepLaws) (s : SetUp) (st : State) (k : Look) (m : Effect) (f : FrameView) (took : m.taken ≡ Some f) where
   module _ (slot : ℕ) (w : Work) (runs : find (λ w. w.slot == slot) st.works ≡ Some w) where
     abbrev t : Turn
     t = turn_of s st k w
@@ -99,9 +99,9 @@ module _ (laws : StepLaws) (s : SetUp) (st : State) (k : Look) (m : Made) (f : F
       where
         go : (b : Bool) → (if b then Some (goes (turn_of s st k w) w.phase) else None) ≡ Some m → m.taken ≡ None
         go false h = absurd (cc)
-        go true h = let same : goes (turn_of s st k w) w.phase ≡ m = cc in subst (λ (z : Made). z.taken ≡ None) same (laws.goes (turn_of s st k w) free)
+        go true h = let same : goes (turn_of s st k w) w.phase ≡ m = cc in subst (λ (z : Effect). z.taken ≡ None) same (laws.goes (turn_of s st k w) free)
 
-    awaits_took : (peer : ℕ) → partner w.what.peer w.phase ≡ Some peer → (o : Option FrameView) → waiting (end_with (turn_of s st k w) peer) k (job_end w peer) ≡ o
+    awaits_took : (peer : ℕ) → partner w.what.peer w.phase ≡ Some peer → (o : Option FrameView) → waiting_frame (end_with (turn_of s st k w) peer) k (job_end w peer) ≡ o
         → awaits (turn_of s st k w) peer o ≡ Some m → TookBy s st k m f
     awaits_took peer on None i e = absurd (cc)
     awaits_took peer on (Some g) i e = go (has_room t peer) e
@@ -110,7 +110,7 @@ module _ (laws : StepLaws) (s : SetUp) (st : State) (k : Look) (m : Made) (f : F
         go false h = absurd (cc)
         go true h =
             let made : takes_frame (turn_of s st k w) peer g g.body ≡ m = cc in
-            let one : Some g ≡ Some f = sym (laws.takes (turn_of s st k w) peer g on) ∙ ap (λ (z : Made). z.taken) made ∙ took in
+            let one : Some g ≡ Some f = sym (laws.takes (turn_of s st k w) peer g on) ∙ ap (λ (z : Effect). z.taken) made ∙ took in
             let same : g ≡ f = cc in
             record {
               w = w;
@@ -126,12 +126,12 @@ module _ (laws : StepLaws) (s : SetUp) (st : State) (k : Look) (m : Made) (f : F
     slot_took e = go (partner w.what.peer w.phase) refl e
       where
         more : (peer : ℕ) → partner w.what.peer w.phase ≡ Some peer → (b : Bool) → is_awaiting w.phase ≡ b
-            → (if b then awaits (turn_of s st k w) peer (waiting (end_with (turn_of s st k w) peer) k (job_end w peer)) else goes_on (turn_of s st k w)) ≡ Some m → TookBy s st k m f
-        more peer on true i h = awaits_took peer on (waiting (end_with (turn_of s st k w) peer) k (job_end w peer)) refl h
+            → (if b then awaits (turn_of s st k w) peer (waiting_frame (end_with (turn_of s st k w) peer) k (job_end w peer)) else goes_on (turn_of s st k w)) ≡ Some m → TookBy s st k m f
+        more peer on true i h = awaits_took peer on (waiting_frame (end_with (turn_of s st k w) peer) k (job_end w peer)) refl h
         more peer on false i h = absurd (none_and_some m.taken f (on_none (inr i) h) took)
 
         at : (peer : ℕ) → partner w.what.peer w.phase ≡ Some peer → (b : Bool) → with_partner (turn_of s st k w) peer b ≡ Some m → TookBy s st k m f
-        at peer on false h = let same : quietly (talk (turn_of s st k w)) None ≡ m = cc in absurd (none_and_some m.taken f (sym (ap (λ (z : Made). z.taken) same)) took)
+        at peer on false h = let same : quietly (talk (turn_of s st k w)) None ≡ m = cc in absurd (none_and_some m.taken f (sym (ap (λ (z : Effect). z.taken) same)) took)
         at peer on true h = more peer on (is_awaiting w.phase) refl h
 
         go : (p : Option ℕ) → partner w.what.peer w.phase ≡ p → by_partner (turn_of s st k w) p ≡ Some m → TookBy s st k m f
@@ -146,10 +146,10 @@ module _ (laws : StepLaws) (s : SetUp) (st : State) (k : Look) (m : Made) (f : F
   session_up : (a : EndName) → a.client ≡ false → session_at s st k a ≡ Some m → f.up ≡ true
   session_up a server e = go (k.room a) e
     where
-      at : (o : Option FrameView) → waiting (st.ends a) k a ≡ o → session_makes (here s st k a) (st.ends a) (st.sessions a) o ≡ Some m → f.up ≡ true
+      at : (o : Option FrameView) → waiting_frame (st.ends a) k a ≡ o → session_makes (here s st k a) (st.ends a) (st.sessions a) o ≡ Some m → f.up ≡ true
       at (Some g) i h =
           let made : reply_made a (end_takes (st.ends a) g.epoch g.body) (Some g) (on_frame (here s st k a) (st.sessions a) g.body) ≡ m = cc in
-          let one : Some g ≡ Some f = ap (λ (z : Made). z.taken) made ∙ took in
+          let one : Some g ≡ Some f = ap (λ (z : Effect). z.taken) made ∙ took in
           let same : g ≡ f = cc in
           let comes : takes_at a f ≡ true = subst (λ (h : FrameView). takes_at a h ≡ true) same (waits_at (st.ends a) k a g i) in
           goes_up f.up (ap (λ (b : EndName). b.client) (takes_end a f comes) ∙ server)
@@ -157,14 +157,14 @@ module _ (laws : StepLaws) (s : SetUp) (st : State) (k : Look) (m : Made) (f : F
         where
           given : (o : Option Reply) → gives_made a (st.ends a) o ≡ Some m → f.up ≡ true
           given None e = absurd (cc)
-          given (Some x) e = let same : reply_made a (st.ends a) None x ≡ m = cc in absurd (none_and_some m.taken f (sym (ap (λ (z : Made). z.taken) same)) took)
+          given (Some x) e = let same : reply_made a (st.ends a) None x ≡ m = cc in absurd (none_and_some m.taken f (sym (ap (λ (z : Effect). z.taken) same)) took)
 
           none : (b : Bool) → (if b then gives_made a (st.ends a) (gives_next (here s st k a) (st.sessions a).doing) else None) ≡ Some m → f.up ≡ true
           none true g = given (gives_next (here s st k a) (st.sessions a).doing) g
           none false g = absurd (cc)
 
-      go : (b : Bool) → (if b then session_makes (here s st k a) (st.ends a) (st.sessions a) (waiting (st.ends a) k a) else None) ≡ Some m → f.up ≡ true
-      go true h = at (waiting (st.ends a) k a) refl h
+      go : (b : Bool) → (if b then session_makes (here s st k a) (st.ends a) (st.sessions a) (waiting_frame (st.ends a) k a) else None) ≡ Some m → f.up ≡ true
+      go true h = at (waiting_frame (st.ends a) k a) refl h
       go false h = absurd (cc)
 
   -- a step that takes what goes down is a job's
@@ -184,7 +184,7 @@ module _ (laws : StepLaws) (s : SetUp) (st : State) (k : Look) (m : Made) (f : F
 -- ---- the job that made the entry
 
 -- it is the one in its slot that took the frame
-pub own_took : StepLaws → (s : SetUp) (st : State) (k : Look) (m : Made) (f : FrameView) → step s st k ≡ Some m → m.taken ≡ Some f → AreJobs st.works → (w : Work) → Member w st.works → job_of m.kind ≡ Some w.number
+pub own_took : StepLaws → (s : SetUp) (st : State) (k : Look) (m : Effect) (f : FrameView) → step s st k ≡ Some m → m.taken ≡ Some f → AreJobs st.works → (w : Work) → Member w st.works → job_of m.kind ≡ Some w.number
     → (y : TookBy s st k m f) × (y.w ≡ w)
 own_took laws s st k m f makes took jobs w there number = go (laws.finds s st k m makes)
   where
@@ -207,8 +207,8 @@ own_took laws s st k m f makes took jobs w there number = go (laws.finds s st k 
 
     go : StepFound s st k m → (y : TookBy s st k m f) × (y.w ≡ w)
     go (inl x) = elim (x.writes) [
-      | inl y ↦ absurd (none_and_some m.taken f (ap (λ (z : Made). z.taken) y) took)
-      | inr y ↦ absurd (none_and_some m.taken f (ap (λ (z : Made). z.taken) y) took)
+      | inl y ↦ absurd (none_and_some m.taken f (ap (λ (z : Effect). z.taken) y) took)
+      | inr y ↦ absurd (none_and_some m.taken f (ap (λ (z : Effect). z.taken) y) took)
     ]
     go (inr (inl x)) = absurd (none_and_some (job_of m.kind) w.number (laws.session s st k m x) number)
     go (inr (inr x)) = elim (x.frame) [ inl none ↦ absurd (none_and_some m.taken f none took) | inr z ↦ by_job x z ]
@@ -216,8 +216,8 @@ own_took laws s st k m f makes took jobs w there number = go (laws.finds s st k 
 -- ---- what is made of such an answer
 
 -- it is heard, or the connection is closed
-abbrev HearsOrCloses : Turn → FrameView → ℕ → Made → Type 0
-HearsOrCloses t f peer m = (m ≡ hears t f) ⊎ (m ≡ wrong t f peer)
+abbrev HearsOrCloses : Turn → FrameView → ℕ → Effect → Type 0
+HearsOrCloses t f peer m = (m ≡ hears t f) ⊎ (m ≡ wrong_message t f peer)
 
 module _ (t : Turn) (f : FrameView) (peer : ℕ) where
   look_part : (p : ℕ) (part : Part) → HearsOrCloses t f peer (takes_answer t f peer part (AsksLook p) Failure)
@@ -344,7 +344,7 @@ talk_moved rows r w e peer f c took kept on says =
 
 -- ---- the law
 
-pub answers_move : StepLaws → (s : SetUp) (past : List Entry) (k : Look) (m : Made) (e : Entry) (w v : Work) (f : FrameView) → step s (state_of s past) k ≡ Some m → is_of s.number e ≡ true → e.kind ≡ m.kind
+pub answers_move : StepLaws → (s : SetUp) (past : List Entry) (k : Look) (m : Effect) (e : Entry) (w v : Work) (f : FrameView) → step s (state_of s past) k ≡ Some m → is_of s.number e ≡ true → e.kind ≡ m.kind
     → e.taken ≡ m.taken → e.sent ≡ m.sent → AreJobs (works past s.number) → Member w (works past s.number) → Member v (works (e ∷ past) s.number) → v.number ≡ w.number → TakesAnswer w e f
     → v.phase ≡ w.phase → ⊥
 answers_move laws s past k m e w v f makes own kind taken sent jobs there there' number t same = true≢false (sym (ap awaits_one same ∙ keeps_awaits w.phase (line_in f.body) t.kept) ∙ moved)
@@ -362,10 +362,10 @@ answers_move laws s past k m e w v f makes own kind taken sent jobs there there'
     either = subst (HearsOrCloses (turn_of s (state_of s past) k w) f y.0.peer) (sym made) (answer_made (turn_of s (state_of s past) k w) f y.0.peer f.body t.kept)
 
     kind_is : e.kind ≡ Talk (Some w.number)
-    kind_is = kind ∙ elim (either) [ inl h ↦ ap (λ (z : Made). z.kind) h | inr h ↦ ap (λ (z : Made). z.kind) h ]
+    kind_is = kind ∙ elim (either) [ inl h ↦ ap (λ (z : Effect). z.kind) h | inr h ↦ ap (λ (z : Effect). z.kind) h ]
 
     says : (e.sent ≡ []) ⊎ (e.sent ≡ frames (job_end w y.0.peer) (end_with (turn_of s (state_of s past) k w) y.0.peer) (Closing ∷ []))
-    says = elim (either) [ inl h ↦ inl (sent ∙ ap (λ (z : Made). z.sent) h) | inr h ↦ inr (sent ∙ ap (λ (z : Made). z.sent) h) ]
+    says = elim (either) [ inl h ↦ inl (sent ∙ ap (λ (z : Effect). z.sent) h) | inr h ↦ inr (sent ∙ ap (λ (z : Effect). z.sent) h) ]
 
     z : (u : Work) × (Member u (works past s.number)) × (v ≡ work_after (rows_at past s.number) s.number e u)
     z = came_of (rows_at past s.number) s.number (works past s.number) e e.kind refl (ap is_begin kind ∙ steps_begin_none laws s (state_of s past) k m makes) v

@@ -15,7 +15,7 @@ use Rattle.run_data.specs.declared.entry.FrameText.TheVariants as texts
 use Rattle.run_data.specs.declared.entry.FrameView.{FrameView}
 use Rattle.node_model.specs.AnyTime.{all_ends}
 use Rattle.node_model.specs.Ends.{End, EndName, is_opening, sends_at, sent_at, taken_at}
-use Rattle.node_model.specs.Look.{Look, Made}
+use Rattle.node_model.specs.Look.{Look, Effect}
 use Rattle.node_model.specs.SetUp.{SetUp}
 use Rattle.node_model.specs.Step.{step}
 use Rattle.node_model.specs.State.{State}
@@ -26,7 +26,7 @@ use Rattle.node_ends.specs.Sent.{text_of_sending}
 use Rattle.node_ends.specs.Joined.{end_with, link_carried}
 use Rattle.driver_model.specs.Driver.{Driver, Flight, adds, piece_of, without_old_flights}
 use Rattle.link_flights.specs.Entries.{PostsAt, SendsInOrder, link_after}
-use Rattle.link_flights.specs.Fleets.{AreAllCarried, AreEndsIn, Posted}
+use Rattle.link_flights.specs.Fleets.{AreAllCarried, AreEndsIn, PostsAsDefined}
 use Rattle.driver_model.specs.Ways.{other_end}
 use Rattle.link_flights.specs.Flights.{IsEndIn}
 use Rattle.link_flights.proofs.Naming.{end_path, other_named, other_twice}
@@ -141,7 +141,7 @@ module _ (listed : Listed) (s : SetUp) (st : State) (d : Driver) (was now : ℕ 
     stood a v within apart is = are.ends a (is_listed listed s (was r) a v within apart is) ∙ ap end_in is
 
     pub turned_in : (sender : EntryStamp) (word : EndName → Sending → Option Word) (said : EndName → List Sending) (e : Entry) (mine : List EndView)
-        → Posted s st (without_old_flights st r d) sender word said (map after_drop (was r)) mine e → AreAllCarried count r mine was now
+        → PostsAsDefined s st (without_old_flights st r d) sender word said (map after_drop (was r)) mine e → AreAllCarried count r mine was now
         → AreEndsIn (adds st r e (without_old_flights st r d)).flights count now
     turned_in sender word said e mine posted carried = all_in (In (adds st s.number e (without_old_flights st s.number d)).flights) (length s.repos) s.number mine was now carried becomes beside known
       where
@@ -177,7 +177,7 @@ module _ (listed : Listed) (s : SetUp) (st : State) (d : Driver) (was now : ℕ 
   -- ---- an entry that takes and opens nothing, and comes without a turn
 
   pub closed_in : (sender : EntryStamp) (word : EndName → Sending → Option Word) (said : EndName → List Sending) (e : Entry) (mine : List EndView)
-      → e.taken ≡ None → Each (λ f. is_opening f.body ≡ false) e.sent → Posted s st d sender word said (was r) mine e → AreAllCarried count r mine was now
+      → e.taken ≡ None → Each (λ f. is_opening f.body ≡ false) e.sent → PostsAsDefined s st d sender word said (was r) mine e → AreAllCarried count r mine was now
       → AreEndsIn (adds st r e d).flights count now
   closed_in sender word said e mine none closes posted carried = all_in (In (adds st s.number e d).flights) (length s.repos) s.number mine was now carried becomes beside known
     where
@@ -198,13 +198,13 @@ module _ (listed : Listed) (s : SetUp) (st : State) (d : Driver) (was now : ℕ 
 
 -- ---- a step
 
-pub step_posted : SendLaws → TakenAtHand → (s : SetUp) (st : State) (d : Driver) (k : Look) (m : Made) (e : Entry) (was now : List EndView) (sender : EntryStamp) (word : EndName → Sending → Option Word)
+pub step_posted : SendLaws → TakenAtHand → (s : SetUp) (st : State) (d : Driver) (k : Look) (m : Effect) (e : Entry) (was now : List EndView) (sender : EntryStamp) (word : EndName → Sending → Option Word)
     (said : EndName → List Sending) → AreEnds was s st → k.at_hand ≡ flat_map (λ (b : EndName). option_to_list (hand_at was b)) (all_ends s) → step s st k ≡ Some m
     → e.taken ≡ m.taken → e.sent ≡ m.sent
     → ((a : EndName) → map text_of_sending (said a) ≡ map (λ (f : FrameView). f.body) (sent_at a e.sent))
     → ((a : EndName) → link_at now a ≡ option_map (link_after sender (word a) a e.taken (said a)) (link_at was a))
     → ((a : EndName) (f : FrameView) (bytes : List ℕ) → Member f (sent_at a e.sent) → Member (sendings.Bytes bytes) (said a) → f.body ≡ texts.Bytes (length bytes) → bytes ≡ piece_of d st s.number f f.body)
-    → Posted s st d sender word said was now e
+    → PostsAsDefined s st d sender word said was now e
 step_posted laws at_hand s st d k m e was now sender word said are sees made taken sent listed links pieces = record {
   posts = λ a v member is.
       record {

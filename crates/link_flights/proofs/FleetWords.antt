@@ -27,7 +27,7 @@ use Rattle.node_ends.specs.Sent.{body_of}
 use Rattle.driver_model.specs.Driver.{Driver, without_old_flights}
 use Rattle.driver_model.specs.Ways.{IsOver, other_end}
 use Rattle.link_flights.specs.Entries.{PostsAt, link_after, taken_off}
-use Rattle.link_flights.specs.Fleets.{AreAllCarried, AreEndsIn, Posted}
+use Rattle.link_flights.specs.Fleets.{AreAllCarried, AreEndsIn, PostsAsDefined}
 use Rattle.race_core.specs.Jobs.{asks_word, is_asked}
 use Rattle.link_flights.specs.Words.{AreAllWorded, AreWorded, HaveWords, TellsWords, is_line, way_down}
 use Rattle.link_flights.proofs.Dropped.{link_drop}
@@ -132,7 +132,7 @@ module _ (listed : Listed) (s : SetUp) (d : Driver) (was now : ℕ → List EndV
     ordered links q a v within peer apart client is = links q a v within peer apart is client
 
     pub words_turned : (sender : EntryStamp) (word : EndName → Sending → Option Word) (said : EndName → List Sending) (mine' : List EndView) → TellsWords e word
-        → Posted s (state_of s d.past) (without_old_flights (state_of s d.past) s.number d) sender word said (map after_drop (was r)) mine' e → AreAllCarried count r mine' was now
+        → PostsAsDefined s (state_of s d.past) (without_old_flights (state_of s d.past) s.number d) sender word said (map after_drop (was r)) mine' e → AreAllCarried count r mine' was now
         → AreAllWorded (e ∷ d.past) count now
     words_turned sender word said mine' tells posted carried = ordered (all_in (Worded (e ∷ d.past)) (length s.repos) s.number mine' was now carried becomes beside known)
       where
@@ -153,7 +153,7 @@ module _ (listed : Listed) (s : SetUp) (d : Driver) (was now : ℕ → List EndV
 
     pub words_closed : (sender : EntryStamp) (word : EndName → Sending → Option Word) (said : EndName → List Sending) (mine' : List EndView)
         → e.taken ≡ None → Each (λ f. is_opening f.body ≡ false) e.sent
-        → Posted s (state_of s d.past) d sender word said (was r) mine' e → AreAllCarried count r mine' was now → AreAllWorded (e ∷ d.past) count now
+        → PostsAsDefined s (state_of s d.past) d sender word said (was r) mine' e → AreAllCarried count r mine' was now → AreAllWorded (e ∷ d.past) count now
     words_closed sender word said mine' none closes posted carried = ordered (all_in (Worded (e ∷ d.past)) (length s.repos) s.number mine' was now carried becomes beside known)
       where
         unasked : is_asked e ≡ true → ⊥

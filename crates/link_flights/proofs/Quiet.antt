@@ -12,7 +12,7 @@ use Rattle.run_data.specs.declared.entry.FrameView.{FrameView}
 use Rattle.run_data.specs.declared.entry.FrameText.{FrameText}
 use Rattle.run_data.specs.declared.entry.FrameText.TheVariants as texts
 use Rattle.node_model.specs.Ends.{EndName}
-use Rattle.node_model.specs.Look.{Look, Made, entry_of}
+use Rattle.node_model.specs.Look.{Look, Effect, entry_of}
 use Rattle.node_model.specs.Sessions.{line_in, message_said}
 use Rattle.node_model.specs.State.{State}
 use Rattle.driver_model.specs.Driver.{Driver, Flight, adds, at_first, but_taken, flight}
@@ -63,12 +63,12 @@ frame_flights r bytes None taken sent d = refl
 frame_flights r bytes (Some key) None sent d = refl
 frame_flights r bytes (Some key) (Some f) sent d = into_flights r key bytes f.body sent d
 
-pub store_flights : (d : Driver) (st : State) (r : ℕ) (m : Made) (bytes : List ℕ) (kind : EntryKind) → (store_after st r m bytes kind d).flights ≡ d.flights
+pub store_flights : (d : Driver) (st : State) (r : ℕ) (m : Effect) (bytes : List ℕ) (kind : EntryKind) → (store_after st r m bytes kind d).flights ≡ d.flights
 store_flights d st r m bytes (kinds.Gain by size key) = refl
 store_flights d st r m bytes (kinds.Gone by key) = refl
 store_flights d st r m bytes (kinds.Talk job) = frame_flights r bytes (asked_key st m) m.taken m.sent d
 store_flights d st r m bytes (kinds.Fault call by) = refl
 store_flights d st r m bytes kind = refl
 
-pub made_flights : (st : State) (r : ℕ) (k : Look) (m : Made) (d : Driver) → (makes st r k (Some m) d).flights ≡ (adds st r (entry_of r k m) d).flights
+pub made_flights : (st : State) (r : ℕ) (k : Look) (m : Effect) (d : Driver) → (makes st r k (Some m) d).flights ≡ (adds st r (entry_of r k m) d).flights
 made_flights st r k m d = store_flights (adds st r (entry_of r k m) d) st r m (bytes_taken r m.taken d) m.kind

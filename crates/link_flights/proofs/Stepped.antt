@@ -19,7 +19,7 @@ use Rattle.node_model.specs.Ends.{End, EndName, end_sends, end_takes, end_took, 
 use Rattle.node_model.specs.Found.{AsksOne, ByJob, BySession, IsJobEntry, JobTakes, StepFound, success_line}
 use Rattle.node_model.specs.JobStep.{Turn, end_with, farewell, farewells, has_lock, key_of, others_of, turn_of}
 use Rattle.node_model.specs.Jobs.{Work, job_end}
-use Rattle.node_model.specs.Look.{Look, Made}
+use Rattle.node_model.specs.Look.{Look, Effect}
 use Rattle.node_model.specs.Rows.{is_lost_ordered}
 use Rattle.node_model.specs.SetUp.{SetUp, others}
 use Rattle.node_model.specs.State.{State}
@@ -32,17 +32,17 @@ use Rattle.annex_base.proofs.Options.{none_and_some}
 
 -- by the laws of lower crates: what steps find, that the ends of a job are apart, and that a step opens closed ends of clients alone
 pub record SendLaws : Type 0 where
-  pub finds : (s : SetUp) (st : State) (k : Look) (m : Made) → step s st k ≡ Some m → StepFound s st k m
+  pub finds : (s : SetUp) (st : State) (k : Look) (m : Effect) → step s st k ≡ Some m → StepFound s st k m
   pub apart : (s : SetUp) (w : Work) → AreApart (map (job_end w) (others s))
-  pub opens : (s : SetUp) (st : State) (k : Look) (m : Made) (g : FrameView) (a : EndName) → step s st k ≡ Some m → Member g m.sent → sends_at a g ≡ true → is_opening g.body ≡ true
+  pub opens : (s : SetUp) (st : State) (k : Look) (m : Effect) (g : FrameView) (a : EndName) → step s st k ≡ Some m → Member g m.sent → sends_at a g ≡ true → is_opening g.body ≡ true
       → (a.client ≡ true) × ((st.ends a).opened ≡ false)
 
 -- by the law of race_core: what a step takes is at hand
 abbrev pub TakenAtHand : Type 0
-TakenAtHand = (s : SetUp) (st : State) (k : Look) (m : Made) (f : FrameView) → step s st k ≡ Some m → m.taken ≡ Some f → Member f k.at_hand
+TakenAtHand = (s : SetUp) (st : State) (k : Look) (m : Effect) (f : FrameView) → step s st k ≡ Some m → m.taken ≡ Some f → Member f k.at_hand
 
 -- what it sends is sent in order
-abbrev pub IsOrderly : State → Made → Type 0
+abbrev pub IsOrderly : State → Effect → Type 0
 IsOrderly st m = InOrder st.ends m.taken m.sent
 
 -- at an open end no Opening is taken
@@ -55,7 +55,7 @@ may_calm c f opened_is may = go (is_opening f.body) refl
 
 -- ---- a step
 
-module _ (laws : SendLaws) (s : SetUp) (st : State) (k : Look) (m : Made) (makes : step s st k ≡ Some m) where
+module _ (laws : SendLaws) (s : SetUp) (st : State) (k : Look) (m : Effect) (makes : step s st k ≡ Some m) where
   silent : m.sent ≡ [] → IsOrderly st m
   silent nothing = one_end st.ends m.taken m.sent (record { peer = 0; slot = 0; client = false }) [] nothing tt
 
@@ -186,8 +186,8 @@ module _ (laws : SendLaws) (s : SetUp) (st : State) (k : Look) (m : Made) (makes
     where
       go : StepFound s st k m → IsOrderly st m
       go (inl x) = elim (x.writes) [
-        | inl y ↦ silent (ap (λ (z : Made). z.sent) y)
-        | inr y ↦ silent (ap (λ (z : Made). z.sent) y)
+        | inl y ↦ silent (ap (λ (z : Effect). z.sent) y)
+        | inr y ↦ silent (ap (λ (z : Effect). z.sent) y)
       ]
       go (inr (inl x)) = session_orderly x
       go (inr (inr x)) = job_orderly x m.kind x.found

@@ -30,7 +30,7 @@ use Rattle.run_model.specs.Words.{awaits_of, awaits_word, word_of, word_taken, w
 use Rattle.node_model.specs.AnyTime.{all_ends}
 use Rattle.node_model.specs.Ends.{End, EndName, takes_at}
 use Rattle.node_model.specs.Jobs.{AsksLook, Denied, Fresh, Heard, Next, Orders, Phase, Removed, RowsAndEnds, Unseen, Work, drop_side, heard_of, is_ordered, job_end, new_work, or_own, partner, side_of, target_of, work_after, work_kind, works_after}
-use Rattle.node_model.specs.Look.{Look, Made}
+use Rattle.node_model.specs.Look.{Look, Effect}
 use Rattle.node_model.specs.Rows.{option_is}
 use Rattle.node_model.specs.Sessions.{line_in}
 use Rattle.node_model.specs.SetUp.{SetUp}
@@ -233,7 +233,7 @@ heard_begun past e r job what was now own begins none stay heard v c there reads
 
 -- ---- a step
 
-module _ (laws : StepLaws) (s : SetUp) (past : List Entry) (k : Look) (m : Made) (e : Entry) (links : List EndView) (was now : ℕ → ℕ → Option Word)
+module _ (laws : StepLaws) (s : SetUp) (past : List Entry) (k : Look) (m : Effect) (e : Entry) (links : List EndView) (was now : ℕ → ℕ → Option Word)
     (makes : step s (state_of s past) k ≡ Some m) (own : is_of s.number e ≡ true) (kind : e.kind ≡ m.kind) (taken : e.taken ≡ m.taken)
     (sees : k.at_hand ≡ flat_map (λ (b : EndName). option_to_list (hand_at links b)) (all_ends s))
     (worded : (a : EndName) (v : EndView) → Member a (all_ends s) → a.client ≡ true → link_at links a ≡ Some v → (end_at past s.number a ≡ stands v) × AreWorded past s.number a v.at_hand)
@@ -402,7 +402,7 @@ turn_worded numbers s past ends known are worded a v member client link =
 
 -- ---- the words that the end of a job reads
 
-pub heard_agree : (s : SetUp) (past : List Entry) (m : Made) (words : ℕ → ℕ → Option Word) (mine : ℕ → Option Word) → HeardSo past s.number words
+pub heard_agree : (s : SetUp) (past : List Entry) (m : Effect) (words : ℕ → ℕ → Option Word) (mine : ℕ → Option Word) → HeardSo past s.number words
     → ((j : ℕ) (outcome : Outcome) → m.kind ≡ ends_job j outcome → (c : ℕ) → mine c ≡ words j c) → AgreeWhereRead s (state_of s past) m mine (told_words past s.number m.kind)
 heard_agree s past m words mine heard same w outcome there ends c reads =
     same w.number outcome ends c ∙ heard w c there reads ∙ sym (ap (λ (kind : EntryKind). told_words past s.number kind c) ends)

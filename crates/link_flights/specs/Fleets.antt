@@ -32,6 +32,6 @@ pub record AreAllCarried (count r : ℕ) (mine : List EndView) (was now : ℕ �
   pub others : (q : ℕ) (b : EndName) → q < count → q ≢ r → b.peer ≢ r → link_at (now q) b ≡ link_at (was q) b
 
 -- The entry of a repository took and sent at its ends as the definition does; this was said at each, and these they became.
-pub record Posted (s : SetUp) (st : State) (d : Driver) (sender : EntryStamp) (word : EndName → Sending → Option Word) (said : EndName → List Sending) (was now : List EndView) (e : Entry) : Type 0 where
+pub record PostsAsDefined (s : SetUp) (st : State) (d : Driver) (sender : EntryStamp) (word : EndName → Sending → Option Word) (said : EndName → List Sending) (was now : List EndView) (e : Entry) : Type 0 where
   pub posts : (a : EndName) (v : EndView) → Member a (all_ends s) → link_at was a ≡ Some v → PostsAt d st s.number a v e.taken e.sent (said a)
   pub links : (a : EndName) → link_at now a ≡ option_map (link_after sender (word a) a e.taken (said a)) (link_at was a)

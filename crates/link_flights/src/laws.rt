@@ -17,7 +17,7 @@ ghost use Rattle.run_model.specs.States.{state_of, works};
 ghost use Rattle.node_model.specs.AnyTime.{all_ends, close_at, closes_all};
 ghost use Rattle.node_model.specs.Ends.{EndName, is_opening, sent_at, taken_at};
 ghost use Rattle.node_model.specs.Jobs.{Work};
-ghost use Rattle.node_model.specs.Look.{Look, Made, entry_of};
+ghost use Rattle.node_model.specs.Look.{Look, Effect, entry_of};
 ghost use Rattle.node_model.specs.SetUp.{SetUp};
 ghost use Rattle.node_model.specs.Slots.{job_of};
 ghost use Rattle.node_model.specs.State.{State};
@@ -30,7 +30,7 @@ ghost use Rattle.driver_model.specs.Driver.{Driver, DriverInput, adds, at_first,
 ghost use Rattle.driver_model.specs.Sound.{IsSound};
 ghost use Rattle.driver_model.specs.Turning.{makes, plain_look, store_after, told_words};
 ghost use Rattle.link_flights.specs.Entries.{PostsAt, SendsInOrder, link_after};
-ghost use Rattle.link_flights.specs.Fleets.{AreAllCarried, AreEndsIn, AreOwnEndsIn, Posted};
+ghost use Rattle.link_flights.specs.Fleets.{AreAllCarried, AreEndsIn, AreOwnEndsIn, PostsAsDefined};
 ghost use Rattle.driver_model.specs.Ways.{other_end};
 ghost use Rattle.driver_model.specs.WordsRead.{AgreeWhereRead};
 ghost use Rattle.link_flights.specs.Flights.{HasAtHand, IsEndIn};
@@ -112,7 +112,7 @@ pub fn turns_keep_all_ends()
     ensures moved { (s : SetUp) (st : State) (d : Driver) (was now : ℕ → List EndView) (mine : List EndView) (e : Entry) (sender : EntryStamp)
         (word : EndName → Sending → Option Word) (said : EndName → List Sending) → s.number < length s.repos → AreEnds (was s.number) s st
         → AreEndsIn d.flights (length s.repos) was
-        → Posted s st (without_old_flights st s.number d) sender word said (map after_drop (was s.number)) mine e
+        → PostsAsDefined s st (without_old_flights st s.number d) sender word said (map after_drop (was s.number)) mine e
         → AreAllCarried (length s.repos) s.number mine was now
         → AreEndsIn (adds st s.number e (without_old_flights st s.number d)).flights (length s.repos) now }
     ensures idle { (s : SetUp) (st : State) (d : Driver) (was now : ℕ → List EndView) → s.number < length s.repos → AreEnds (was s.number) s st
@@ -122,7 +122,7 @@ pub fn turns_keep_all_ends()
     ensures closed { (s : SetUp) (st : State) (d : Driver) (was now : ℕ → List EndView) (mine : List EndView) (e : Entry) (sender : EntryStamp)
         (word : EndName → Sending → Option Word) (said : EndName → List Sending) → s.number < length s.repos
         → AreEndsIn d.flights (length s.repos) was
-        → e.taken ≡ None → Each (λ f. is_opening f.body ≡ false) e.sent → Posted s st d sender word said (was s.number) mine e
+        → e.taken ≡ None → Each (λ f. is_opening f.body ≡ false) e.sent → PostsAsDefined s st d sender word said (was s.number) mine e
         → AreAllCarried (length s.repos) s.number mine was now → AreEndsIn (adds st s.number e d).flights (length s.repos) now }
 {
     // For the proof, which cites it.
@@ -135,18 +135,18 @@ pub fn ends_begin_without_flights()
     ensures first { (r : ℕ) (a : EndName) → IsEndIn at_first.flights r a fresh }
     ensures all { (count : ℕ) → AreEndsIn at_first.flights count (λ q. replicate (count * 8) fresh) }
     ensures quiet { (d : Driver) (st : State) (r : ℕ) (e : Entry) → e.taken ≡ None → e.sent ≡ [] → (adds st r e d).flights ≡ d.flights }
-    ensures store { (d : Driver) (st : State) (r : ℕ) (m : Made) (bytes : List ℕ) (kind : EntryKind) → (store_after st r m bytes kind d).flights ≡ d.flights }
-    ensures made { (d : Driver) (st : State) (r : ℕ) (k : Look) (m : Made) → (makes st r k (Some m) d).flights ≡ (adds st r (entry_of r k m) d).flights }
+    ensures store { (d : Driver) (st : State) (r : ℕ) (m : Effect) (bytes : List ℕ) (kind : EntryKind) → (store_after st r m bytes kind d).flights ≡ d.flights }
+    ensures made { (d : Driver) (st : State) (r : ℕ) (k : Look) (m : Effect) → (makes st r k (Some m) d).flights ≡ (adds st r (entry_of r k m) d).flights }
 {}
 
 /// What a step takes is the first frame at its end that isn't old, and what it sends is what the ends send next; an Opening is sent
 /// only as the first frame at an end, and that where the end is closed and nothing was taken at it. The same holds of the Closes that
 /// a script makes (own).
 pub fn steps_send_in_order()
-    ensures takes { (links : List EndView) (s : SetUp) (st : State) (k : Look) (m : Made) (a : EndName) (v : EndView)
+    ensures takes { (links : List EndView) (s : SetUp) (st : State) (k : Look) (m : Effect) (a : EndName) (v : EndView)
         → k.at_hand ≡ flat_map (λ b. option_to_list (hand_at links b)) (all_ends s) → step s st k ≡ Some m → link_at links a ≡ Some v
         → IfSome (taken_at a m.taken) (λ f. option_map (frame_at a) (next_frame v) ≡ Some f) }
-    ensures sends { (s : SetUp) (st : State) (k : Look) (m : Made) (a : EndName) → step s st k ≡ Some m → SendsInOrder (st.ends a) a m.taken m.sent }
+    ensures sends { (s : SetUp) (st : State) (k : Look) (m : Effect) (a : EndName) → step s st k ≡ Some m → SendsInOrder (st.ends a) a m.taken m.sent }
     ensures close { (s : SetUp) (st : State) (a b : EndName) → SendsInOrder (st.ends a) a None (close_at s st b) }
     ensures crash { (s : SetUp) (st : State) (a : EndName) → SendsInOrder (st.ends a) a None (closes_all s st) }
 {
@@ -160,14 +160,14 @@ pub fn steps_send_in_order()
 /// An entry with what a step takes and sends is posted, where what was said at each end is what the entry lists there, the ends became
 /// what node_ends' calls make of them, and each piece has the bytes that the definition gives (own).
 pub fn steps_are_posted()
-    ensures { (s : SetUp) (st : State) (d : Driver) (k : Look) (m : Made) (e : Entry) (was now : List EndView) (sender : EntryStamp)
+    ensures { (s : SetUp) (st : State) (d : Driver) (k : Look) (m : Effect) (e : Entry) (was now : List EndView) (sender : EntryStamp)
         (word : EndName → Sending → Option Word) (said : EndName → List Sending) → AreEnds was s st
         → k.at_hand ≡ flat_map (λ b. option_to_list (hand_at was b)) (all_ends s) → step s st k ≡ Some m → e.taken ≡ m.taken → e.sent ≡ m.sent
         → ((a : EndName) → map text_of_sending (said a) ≡ map (λ f. f.body) (sent_at a e.sent))
         → ((a : EndName) → link_at now a ≡ option_map (link_after sender (word a) a e.taken (said a)) (link_at was a))
         → ((a : EndName) (f : FrameView) (bytes : List ℕ) → Member f (sent_at a e.sent) → Member (sendings.Bytes bytes) (said a) → f.body ≡ texts.Bytes (length bytes)
         → bytes ≡ piece_of d st s.number f f.body)
-        → Posted s st d sender word said was now e }
+        → PostsAsDefined s st d sender word said was now e }
 {
     // For the proof, which cites them.
     ends_are_apart();
@@ -185,7 +185,7 @@ pub fn words_stay_with_frames()
         (word : EndName → Sending → Option Word) (said : EndName → List Sending) → s.number < length s.repos
         → AreEnds (was s.number) s (state_of s d.past) → AreEndsIn d.flights (length s.repos) was → AreAllWorded d.past (length s.repos) was
         → e.repo ≡ Some s.number → TellsWords e word
-        → Posted s (state_of s d.past) (without_old_flights (state_of s d.past) s.number d) sender word said (map after_drop (was s.number)) mine e
+        → PostsAsDefined s (state_of s d.past) (without_old_flights (state_of s d.past) s.number d) sender word said (map after_drop (was s.number)) mine e
         → AreAllCarried (length s.repos) s.number mine was now → AreAllWorded (e ∷ d.past) (length s.repos) now }
     ensures idle { (s : SetUp) (d : Driver) (was now : ℕ → List EndView) → s.number < length s.repos
         → AreEnds (was s.number) s (state_of s d.past) → AreEndsIn d.flights (length s.repos) was → AreAllWorded d.past (length s.repos) was
@@ -194,7 +194,7 @@ pub fn words_stay_with_frames()
         (word : EndName → Sending → Option Word) (said : EndName → List Sending) → s.number < length s.repos
         → AreEnds (was s.number) s (state_of s d.past) → AreEndsIn d.flights (length s.repos) was → AreAllWorded d.past (length s.repos) was
         → e.repo ≡ Some s.number → e.taken ≡ None → Each (λ f. is_opening f.body ≡ false) e.sent
-        → Posted s (state_of s d.past) d sender word said (was s.number) mine e
+        → PostsAsDefined s (state_of s d.past) d sender word said (was s.number) mine e
         → AreAllCarried (length s.repos) s.number mine was now → AreAllWorded (e ∷ d.past) (length s.repos) now }
     ensures quiet { (past : List Entry) (count : ℕ) (ends : ℕ → List EndView) (e : Entry) → e.taken ≡ None → e.sent ≡ []
         → AreAllWorded past count ends → AreAllWorded (e ∷ past) count ends }
@@ -209,13 +209,13 @@ pub fn words_stay_with_frames()
 /// as it was. So do entries of others, and those that no job makes or that begin one (own).
 pub fn heard_words_are_told()
     ensures first { (r : ℕ) (words : ℕ → ℕ → Option Word) → HeardSo [] r words }
-    ensures stepped { (s : SetUp) (past : List Entry) (k : Look) (m : Made) (e : Entry) (ends : ℕ → List EndView) (was now : ℕ → ℕ → Option Word)
+    ensures stepped { (s : SetUp) (past : List Entry) (k : Look) (m : Effect) (e : Entry) (ends : ℕ → List EndView) (was now : ℕ → ℕ → Option Word)
         → s.number < length s.repos → AreEnds (ends s.number) s (state_of s past) → AreAllWorded past (length s.repos) ends
         → k.at_hand ≡ flat_map (λ b. option_to_list (hand_at (map after_drop (ends s.number)) b)) (all_ends s)
         → step s (state_of s past) k ≡ Some m → e.repo ≡ Some s.number → e.kind ≡ m.kind → e.taken ≡ m.taken
         → AreJobs (works past s.number) → AnswersAsked past s.number e → WordsGoOn (map after_drop (ends s.number)) past s.number e was now
         → HeardSo past s.number was → HeardSo (e ∷ past) s.number now }
-    ensures changed { (s : SetUp) (past : List Entry) (k : Look) (m : Made) (e : Entry) (w v : Work) (f : FrameView)
+    ensures changed { (s : SetUp) (past : List Entry) (k : Look) (m : Effect) (e : Entry) (w v : Work) (f : FrameView)
         → step s (state_of s past) k ≡ Some m → e.repo ≡ Some s.number → e.kind ≡ m.kind → e.taken ≡ m.taken → e.sent ≡ m.sent
         → AreJobs (works past s.number) → Member w (works past s.number) → Member v (works (e ∷ past) s.number) → v.number ≡ w.number
         → TakesAnswer w e f → v.phase ≢ w.phase }
@@ -225,7 +225,7 @@ pub fn heard_words_are_told()
         → SameWords past r was now → HeardSo past r was → HeardSo (e ∷ past) r now }
     ensures begun { (past : List Entry) (e : Entry) (r job : ℕ) (what : Job) (was now : ℕ → ℕ → Option Word) → is_of r e ≡ true
         → e.kind ≡ kinds.Begin job what → e.taken ≡ None → SameWords past r was now → HeardSo past r was → HeardSo (e ∷ past) r now }
-    ensures read { (s : SetUp) (past : List Entry) (m : Made) (words : ℕ → ℕ → Option Word) (own : ℕ → Option Word) → HeardSo past s.number words
+    ensures read { (s : SetUp) (past : List Entry) (m : Effect) (words : ℕ → ℕ → Option Word) (own : ℕ → Option Word) → HeardSo past s.number words
         → ((j : ℕ) (outcome : Outcome) → m.kind ≡ kinds.End j outcome → (c : ℕ) → own c ≡ words j c)
         → AgreeWhereRead s (state_of s past) m own (told_words past s.number m.kind) }
 {

@@ -9,7 +9,7 @@ use Rattle.link_ring.specs.declared.frame.Frame.{Frame}
 use Rattle.link_ring.specs.Ends.{EndView, next_frame}
 use Rattle.run_data.specs.declared.entry.FrameView.{FrameView}
 use Rattle.node_model.specs.Ends.{End, EndName, may_take, takes_at}
-use Rattle.node_model.specs.Look.{Look, first_of, waiting}
+use Rattle.node_model.specs.Look.{Look, first_of, waiting_frame}
 use Rattle.node_model.specs.State.{State}
 use Rattle.node_model.specs.SetUp.{SetUp}
 use Rattle.node_model.specs.AnyTime.{all_ends}
@@ -86,8 +86,8 @@ among_is links a (x ∷ xs) (inr later) = elim (other_hand a x (end_at links a) 
 ]
 
 pub waits_so : (links : List EndView) (s : SetUp) (st : State) (k : Look) (a : EndName) → AreEnds links s st → SeesEnds links s k → Member a (all_ends s)
-    → waiting (st.ends a) k a ≡ wait_at links a
+    → waiting_frame (st.ends a) k a ≡ wait_at links a
 waits_so links s st k a are sees member =
-    ap (λ (c : End). waiting c k a) (are.ends a member)
+    ap (λ (c : End). waiting_frame c k a) (are.ends a member)
     ∙ ap (λ (fs : List FrameView). find (waits a (end_at links a)) fs) sees.at_hand
     ∙ among_is links a (all_ends s) member

@@ -8,7 +8,7 @@ ghost use Rattle.run_data.specs.declared.entry.FrameText.TheVariants as texts;
 ghost use Rattle.node_model.specs.After.{first_state, state_after};
 ghost use Rattle.node_model.specs.AnyTime.{all_ends};
 ghost use Rattle.node_model.specs.Ends.{EndName, never};
-ghost use Rattle.node_model.specs.Look.{Look, waiting};
+ghost use Rattle.node_model.specs.Look.{Look, waiting_frame};
 ghost use Rattle.node_model.specs.SetUp.{SetUp};
 ghost use Rattle.node_model.specs.State.{State};
 ghost use Rattle.node_ends.specs.Ends.{AreEnds, IsEndOf, SeesEnds, end_at, link_at, room_at, wait_at};
@@ -26,7 +26,7 @@ pub fn ends_are_there()
 /// What waits at an end for a look is what waits there.
 pub fn frames_wait_at_ends()
     ensures { (links : List EndView) (s : SetUp) (st : State) (k : Look) (a : EndName) → AreEnds links s st → SeesEnds links s k → Member a (all_ends s)
-        → waiting (st.ends a) k a ≡ wait_at links a }
+        → waiting_frame (st.ends a) k a ≡ wait_at links a }
 {}
 
 /// Before any entry the ends are those of the first state.

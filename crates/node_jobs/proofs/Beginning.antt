@@ -27,7 +27,7 @@ use Rattle.content_lock.specs.Rows.{Rows}
 use Rattle.drop_worker.specs.declared.phase.Phase.{Phase}
 use Rattle.drop_worker.specs.Working.{phase_as}
 use Rattle.node_jobs.specs.Acting.{running_now, with_job}
-use Rattle.node_jobs.specs.Reads.{Known, need_in}
+use Rattle.node_jobs.specs.Reads.{KnownLogs, need_in}
 use Rattle.node_jobs.specs.Running.{AreWorks, DropJob, Follows, HasRead, IsOwn, Jobs as JobsView, OwnAll, work_now}
 use Rattle.node_jobs.proofs.Among.{find_mapped, found_by_number}
 use Rattle.node_jobs.proofs.Stepping.{has_read_stays, read_stays}
@@ -98,7 +98,7 @@ still_works s st e jobs rows are own stay begun =
         ap (read_after (state_after s st e).logs (st.read j.worker.number)) (ap (find (λ w. w.number == j.worker.number)) are.works
         ∙ (find_mapped work_now (λ w. w.number == j.worker.number) jobs.running ∙ ap (option_map work_now) (found_by_number jobs.running j own.apart here)))
 
-    by_known : (j : DropJob) → Member j jobs.running → (known : Option Known) → HasRead s st j.worker known → HasRead s (state_after s st e) j.worker known
+    by_known : (j : DropJob) → Member j jobs.running → (known : Option KnownLogs) → HasRead s st j.worker known → HasRead s (state_after s st e) j.worker known
     by_known j here None fresh =
         (fresh.0, reads j here ∙ ap (λ (b : Bool). if b then st.read j.worker.number else (state_after s st e).logs) (ap (λ (ph : Phase). has_read Drops (phase_as ph)) fresh.0))
     by_known j here (Some known) h =

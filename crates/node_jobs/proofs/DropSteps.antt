@@ -29,9 +29,9 @@ use Rattle.node_model.specs.DropStep.{asks_copy, bars, expiry, first_drop, first
 use Rattle.node_model.specs.Ends.{End, EndName, end_sends, end_takes, end_took, frames, is_opening, may_take, same_bool, sends_at, sent_at, taken_at, takes_at}
 use Rattle.node_model.specs.Jobs as Jobs
 use Rattle.node_model.specs.Jobs.{Drops, job_end, side_of}
-use Rattle.node_model.specs.JobStep.{Turn, attempts, bar_there, by_me, clock_of, end_needs, end_with, ends, farewells, has_lock, hears, is_there, key_of, locked_peers, others_of, owns_share, quietly, says_to, sends_to, talk, wrong}
+use Rattle.node_model.specs.JobStep.{Turn, attempts, bar_there, by_me, clock_of, end_needs, end_with, ends, farewells, has_lock, hears, is_there, key_of, locked_peers, others_of, owns_share, quietly, says_to, sends_to, talk, wrong_message}
 use Rattle.node_model.specs.Knows.{enough_by, next_by}
-use Rattle.node_model.specs.Look.{Made, failing, unless, waiting}
+use Rattle.node_model.specs.Look.{Effect, failing_call, unless, waiting_frame}
 use Rattle.node_model.specs.Requests.{asks, goes_to}
 use Rattle.node_model.specs.Rows.{is_lost_ordered}
 use Rattle.node_model.specs.Sessions.{is_closing}
@@ -111,7 +111,7 @@ module _ (before : Turn) (local : side_of before.w ≡ Local) (Begins : Type 0) 
   no_opening None here = tt
   no_opening (Some f) here = here.1
 
-  pub record IsWell (m : Made) : Type 0 where
+  pub record IsWell (m : Effect) : Type 0 where
     pub kind : IsOfJob m.kind
     pub lines : m.lines ≡ []
     pub taken : IsTaken m.taken
@@ -148,13 +148,13 @@ module _ (before : Turn) (local : side_of before.w ≡ Local) (Begins : Type 0) 
   opens_well peer room = send_well None peer Opening tt (inr (refl, room, refl))
 
   -- a store call fails, or not
-  attempts_well : (cs : List Call) (m : Made) → ((c : Call) → list_any (same_call c) cs ≡ true → IsCallOfJob c) → IsWell m → IsWell (attempts t cs None m)
+  attempts_well : (cs : List Call) (m : Effect) → ((c : Call) → list_any (same_call c) cs ≡ true → IsCallOfJob c) → IsWell m → IsWell (attempts t cs None m)
   attempts_well cs m own well = go t.look.fails
     where
-      fault : Call → Made
+      fault : Call → Effect
       fault call = quietly (Fault call (by_me t)) None
 
-      go : (o : Option Call) → IsWell (unless (failing o cs) fault m)
+      go : (o : Option Call) → IsWell (unless (failing_call o cs) fault m)
       go None = well
       go (Some c) = if_either (λ (x : Option Call). IsWell (unless x fault m)) (list_any (same_call c) cs) (Some c) None (λ is. quiet_well (Fault c (by_me t)) None (own c is) tt) (λ is. well)
 
@@ -268,7 +268,7 @@ module _ (before : Turn) (local : side_of before.w ≡ Local) (Begins : Type 0) 
     open_after (Line text) is other = (and_parts (end_with t peer).opened (f.epoch == (end_with t peer).epoch) (subst (λ (b : FrameText). may_take (end_with t peer) (record f { body = b }) ≡ true) is may)).0
     open_after (Bytes n) is other = (and_parts (end_with t peer).opened (f.epoch == (end_with t peer).epoch) (subst (λ (b : FrameText). may_take (end_with t peer) (record f { body = b }) ≡ true) is may)).0
 
-    wrong_well : is_closing f.body ≡ false → IsWell (wrong t f peer)
+    wrong_well : is_closing f.body ≡ false → IsWell (wrong_message t f peer)
     wrong_well other = send_well (Some f) peer Closing up (inl (
       refl,
       ap (λ (o : Option FrameView). (end_took (end_with t peer) o).opened) (ap (λ (b : Bool). if b then Some f else None) mine) ∙ open_after f.body refl other,
@@ -277,7 +277,7 @@ module _ (before : Turn) (local : side_of before.w ≡ Local) (Begins : Type 0) 
     takes_well : (token : Token) (phase : Phase) (m : Message) → is_closing f.body ≡ false → FitsLocal phase token → IsWell (takes t f peer (phase_as phase) m)
     takes_well token (phases.Opens p) (AuthSuccess id) other fits = says_well (Some f) peer (Version 3) up room
     takes_well token (phases.Opens p) m other fits = wrong_well other
-    takes_well token (phases.Greets p) (Version n) other fits = if_either IsWell (nat_le n 3) (asks t n (Some f) peer Drops) (wrong t f peer)
+    takes_well token (phases.Greets p) (Version n) other fits = if_either IsWell (nat_le n 3) (asks t n (Some f) peer Drops) (wrong_message t f peer)
         (λ known. copy_well n (Some f) peer (side_of t.w) local up room) (λ unknown. wrong_well other)
     takes_well token (phases.Greets p) m other fits = wrong_well other
     takes_well token (phases.AsksLock p since) Success other fits = hears_well
@@ -307,11 +307,11 @@ module _ (before : Turn) (local : side_of before.w ≡ Local) (Begins : Type 0) 
 
   -- ---- the step
 
-  some_same : (m n : Made) → Some m ≡ Some n → IsWell m → IsWell n
+  some_same : (m n : Effect) → Some m ≡ Some n → IsWell m → IsWell n
   some_same m n is well = subst IsWell (same_Some m n is) well
 
   module _ (token : Token) (phase : Phase) (stands : t.w.phase ≡ phase_as phase) (fits : FitsLocal phase token) (begins : Begins → phase ≡ phases.Fresh → t.w.heard ≡ []) where
-    on_well : (m : Made) → goes_on t ≡ Some m → IsWell m
+    on_well : (m : Effect) → goes_on t ≡ Some m → IsWell m
     on_well m is = go (list_all (has_room t) (needs t t.w.phase)) refl is
       where
         go : (b : Bool) → list_all (has_room t) (needs t t.w.phase) ≡ b → (if b then Some (goes t t.w.phase) else None) ≡ Some m → IsWell m
@@ -319,7 +319,7 @@ module _ (before : Turn) (local : side_of before.w ≡ Local) (Begins : Type 0) 
         go true r g = some_same (goes t t.w.phase) m g
             (subst (λ (p : Jobs.Phase). IsWell (goes t p)) (sym stands) (going_well token phase fits begins (subst (λ (p : Jobs.Phase). list_all (has_room t) (needs t p) ≡ true) stands r)))
 
-    awaits_well : (peer : ℕ) (o : Option FrameView) (m : Made) → (end_with t peer).opened ≡ true → waiting (end_with t peer) t.look (job_end t.w peer) ≡ o → awaits t peer o ≡ Some m → IsWell m
+    awaits_well : (peer : ℕ) (o : Option FrameView) (m : Effect) → (end_with t peer).opened ≡ true → waiting_frame (end_with t peer) t.look (job_end t.w peer) ≡ o → awaits t peer o ≡ Some m → IsWell m
     awaits_well peer None m live at is = absurd (none-some m is)
     awaits_well peer (Some f) m live at is = go (has_room t peer) refl is
       where
@@ -333,21 +333,21 @@ module _ (before : Turn) (local : side_of before.w ≡ Local) (Begins : Type 0) 
         go false r g = absurd (none-some m g)
         go true r g = some_same (takes_frame t peer f f.body) m g (frame_well f peer r both.0 both.1 live token phase f.body stands fits refl)
 
-    partner_well : (peer : ℕ) (b : Bool) (m : Made) → (end_with t peer).opened ≡ b → with_partner t peer b ≡ Some m → IsWell m
+    partner_well : (peer : ℕ) (b : Bool) (m : Effect) → (end_with t peer).opened ≡ b → with_partner t peer b ≡ Some m → IsWell m
     partner_well peer false m stood is = some_same (quietly (talk t) None) m is (quiet_well (talk t) None tt tt)
     partner_well peer true m live is = go (is_awaiting t.w.phase) is
       where
-        go : (b : Bool) → (if b then awaits t peer (waiting (end_with t peer) t.look (job_end t.w peer)) else goes_on t) ≡ Some m → IsWell m
-        go true g = awaits_well peer (waiting (end_with t peer) t.look (job_end t.w peer)) m live refl g
+        go : (b : Bool) → (if b then awaits t peer (waiting_frame (end_with t peer) t.look (job_end t.w peer)) else goes_on t) ≡ Some m → IsWell m
+        go true g = awaits_well peer (waiting_frame (end_with t peer) t.look (job_end t.w peer)) m live refl g
         go false g = on_well m g
 
-    pub step_well : (o : Option ℕ) (m : Made) → by_partner t o ≡ Some m → IsWell m
+    pub step_well : (o : Option ℕ) (m : Effect) → by_partner t o ≡ Some m → IsWell m
     step_well None m is = on_well m is
     step_well (Some peer) m is = partner_well peer (end_with t peer).opened m refl is
 
   -- ---- what is told of it
 
-  pub well_own : (m : Made) → IsWell m → IsOwnEntry m
+  pub well_own : (m : Effect) → IsWell m → IsOwnEntry m
   well_own m well = record {
     kind = well.kind;
     lines = well.lines;

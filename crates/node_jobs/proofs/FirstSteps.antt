@@ -8,7 +8,7 @@ use Rattle.annex_base.proofs.Lists.{Each-member, find_member}
 use Rattle.node_model.specs.Ends.{end_took, taken_at}
 use Rattle.node_model.specs.Jobs.{Work, partner}
 use Rattle.node_model.specs.JobStep.{turn_of}
-use Rattle.node_model.specs.Look.{Look, Made, first_of, first_some}
+use Rattle.node_model.specs.Look.{Look, Effect, first_of, first_some}
 use Rattle.node_model.specs.SetUp.{SetUp, slots}
 use Rattle.node_model.specs.State.{State}
 use Rattle.node_model.specs.Turns.{job_step, slot_step}
@@ -19,15 +19,15 @@ use Rattle.node_jobs.specs.Sending.{IsOwnEntry, SendsWell}
 use Rattle.node_jobs.proofs.Among.{find_mapped}
 use Rattle.node_jobs.proofs.DropSteps.{step_well, well_own}
 
-some_first : (f : ℕ → Option Made) (xs : List ℕ) (m : Made) → first_some f xs ≡ Some m → (x : ℕ) × (f x ≡ Some m)
+some_first : (f : ℕ → Option Effect) (xs : List ℕ) (m : Effect) → first_some f xs ≡ Some m → (x : ℕ) × (f x ≡ Some m)
 some_first f [] m is = absurd (none-some m is)
 some_first f (x ∷ xs) m is = go (λ g. some_first f xs m g) (f x) refl is
   where
-    go : (first_some f xs ≡ Some m → (x : ℕ) × (f x ≡ Some m)) → (o : Option Made) → f x ≡ o → first_of o (first_some f xs) ≡ Some m → (x : ℕ) × (f x ≡ Some m)
+    go : (first_some f xs ≡ Some m → (x : ℕ) × (f x ≡ Some m)) → (o : Option Effect) → f x ≡ o → first_of o (first_some f xs) ≡ Some m → (x : ℕ) × (f x ≡ Some m)
     go more None at g = more g
     go more (Some n) at g = (x, at ∙ g)
 
-module _ (s : SetUp) (st : State) (k : Look) (jobs : JobsView) (m : Made) (are : AreWorks s st jobs) (drops : Each (IsDrop jobs.place) jobs.running) where
+module _ (s : SetUp) (st : State) (k : Look) (jobs : JobsView) (m : Effect) (are : AreWorks s st jobs) (drops : Each (IsDrop jobs.place) jobs.running) where
   -- the step of a job
   record IsBy (j : DropJob) : Type 0 where
     pub among : Member j jobs.running

@@ -25,13 +25,13 @@ use Rattle.drop_worker.specs.declared.phase.Phase.{Phase}
 use Rattle.drop_worker.specs.declared.phase.Phase.TheVariants as phases
 use Rattle.drop_worker.specs.declared.phase.Token.{Token}
 use Rattle.drop_worker.specs.declared.turn.Taken.TheVariants as takens
-use Rattle.drop_worker.specs.Feeding.{FedAt, FindsAt, FitsLocal}
+use Rattle.drop_worker.specs.Feeding.{FeedsFrameAt, FindsAt, FitsLocal}
 use Rattle.drop_worker.specs.Leaving.{stands_on}
 use Rattle.drop_worker.specs.States.{HaveState}
 use Rattle.drop_worker.specs.Working.{end_in, phase_as, sight, words_of}
 use Rattle.node_jobs.specs.Feeds.{Answers, PeersOf, SeesJob, bare_feed}
 use Rattle.node_jobs.specs.Places.{PlaceView}
-use Rattle.node_jobs.specs.Reads.{Known}
+use Rattle.node_jobs.specs.Reads.{KnownLogs}
 use Rattle.node_jobs.specs.Running.{DropJob, HasRead, place_reading, work_now}
 use Rattle.node_jobs.proofs.Hearing.{link_there}
 use Rattle.node_jobs.proofs.Knowing.{knows_read, sight_so}
@@ -67,11 +67,11 @@ module _ (p : PlaceView) (clock : ClockSet) (links : List EndView) (j : DropJob)
   goes_by s st k full = ap (by_partner (turn_of s st k (work_now j))) at ∙ (λ i. if full i then Some (goes (turn_of s st k (work_now j)) (work_now j).phase) else None)
 
   free_by : (s : SetUp) (st : State) (k : Look) → list_all (has_room (turn_of s st k (work_now j))) (needs (turn_of s st k (work_now j)) (work_now j).phase) ≡ true
-      → FindsAt (turn_of s st k (work_now j)) (stands_on j.worker) None × FedAt (sight (place_reading p) (end_at links) time 0) j.worker.slot (stands_on j.worker) None takens.Nothing
+      → FindsAt (turn_of s st k (work_now j)) (stands_on j.worker) None × FeedsFrameAt (sight (place_reading p) (end_at links) time 0) j.worker.slot (stands_on j.worker) None takens.Nothing
   free_by s st k room =
-      subst (λ (q : Option ℕ). FindsAt (turn_of s st k (work_now j)) q None × FedAt (sight (place_reading p) (end_at links) time 0) j.worker.slot q None takens.Nothing) (sym at) (room, (refl, refl))
+      subst (λ (q : Option ℕ). FindsAt (turn_of s st k (work_now j)) q None × FeedsFrameAt (sight (place_reading p) (end_at links) time 0) j.worker.slot q None takens.Nothing) (sym at) (room, (refl, refl))
 
-  module _ (known : Known) (is : j.known ≡ Some known) (side : drop_side j.worker.job.kind j.worker.job.peer ≡ Local) (fits : FitsLocal j.worker.phase j.worker.token) (below : j.worker.slot < 4)
+  module _ (known : KnownLogs) (is : j.known ≡ Some known) (side : drop_side j.worker.job.kind j.worker.job.peer ≡ Local) (fits : FitsLocal j.worker.phase j.worker.token) (below : j.worker.slot < 4)
       (peers : List ℕ) (of : PeersOf p clock links j.worker known time peers) (others : Each (IsOther (place_reading p)) peers) (count : length links ≡ length p.ids * 8) where
     rooms_are : (rows : Rows) (c : Contents) (s : SetUp) (st : State) (k : Look) → SeesJob p clock links j time s st k → HaveState rows c st
         → list_all (has_room (turn_of s st k (work_now j))) (needs (turn_of s st k (work_now j)) (work_now j).phase) ≡ list_all (λ peer. room_at links (end_in j.worker.slot peer)) peers

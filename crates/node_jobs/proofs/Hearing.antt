@@ -23,7 +23,7 @@ use Rattle.node_model.specs.Clocks.{ClockSet}
 use Rattle.node_model.specs.Ends.{End, EndName, may_take, takes_at}
 use Rattle.node_model.specs.Jobs.{partner}
 use Rattle.node_model.specs.JobStep.{Turn, end_with, turn_of}
-use Rattle.node_model.specs.Look.{Look, waiting}
+use Rattle.node_model.specs.Look.{Look, waiting_frame}
 use Rattle.node_model.specs.SetUp.{SetUp, others, slots}
 use Rattle.node_model.specs.State.{State}
 use Rattle.node_model.specs.Turns.{awaits, by_partner, goes_on, has_room, is_awaiting, slot_step, with_partner}
@@ -33,14 +33,14 @@ use Rattle.drop_worker.specs.declared.phase.Phase.{Phase}
 use Rattle.drop_worker.specs.declared.phase.Phase.TheVariants as phases
 use Rattle.drop_worker.specs.declared.phase.Token.{Token}
 use Rattle.drop_worker.specs.declared.turn.Taken.TheVariants as takens
-use Rattle.drop_worker.specs.Feeding.{FedAt, FindsAt, FitsLocal}
+use Rattle.drop_worker.specs.Feeding.{FeedsFrameAt, FindsAt, FitsLocal}
 use Rattle.drop_worker.specs.Leaving.{stands_on}
 use Rattle.drop_worker.specs.Working.{end_in, phase_as, sight, taken_of}
 use Rattle.node_jobs.specs.declared.feed.Feed.{Feed}
 use Rattle.node_jobs.specs.Acting.{WaitsFor, word_at}
 use Rattle.node_jobs.specs.Feeds.{Answers, SeesJob, IsFedAt, feed_at, feed_by, feed_of}
 use Rattle.node_jobs.specs.Places.{IsPlace, PlaceView}
-use Rattle.node_jobs.specs.Reads.{Known}
+use Rattle.node_jobs.specs.Reads.{KnownLogs}
 use Rattle.node_jobs.specs.Running.{DropJob, HasReadByPhase, place_reading, work_now}
 
 -- ---- the ends of a repository
@@ -103,7 +103,7 @@ no_room t peer (Some f) full = rw full refl
 
 module _ (p : PlaceView) (clock : ClockSet) (links : List EndView) (j : DropJob) (time peer : ℕ) (at : stands_on j.worker ≡ Some peer) (other : IsOther (place_reading p) peer) (below : j.worker.slot < 4)
     (there : is_some (link_at links (end_in j.worker.slot peer)) ≡ true)
-    (law : (ls : List EndView) (s : SetUp) (st : State) (k : Look) (a : EndName) → AreEnds ls s st → SeesEnds ls s k → Member a (all_ends s) → waiting (st.ends a) k a ≡ wait_at ls a) where
+    (law : (ls : List EndView) (s : SetUp) (st : State) (k : Look) (a : EndName) → AreEnds ls s st → SeesEnds ls s k → Member a (all_ends s) → waiting_frame (st.ends a) k a ≡ wait_at ls a) where
   abbrev here : EndName
   here = end_in j.worker.slot peer
 
@@ -111,7 +111,7 @@ module _ (p : PlaceView) (clock : ClockSet) (links : List EndView) (j : DropJob)
     abbrev t : Turn
     t = turn_of s st k (work_now j)
 
-    waits : waiting (end_with t peer) k here ≡ wait_at links here
+    waits : waiting_frame (end_with t peer) k here ≡ wait_at links here
     waits = law links s st k here (record { count = sees.count; ends = λ b _. sees.ends b }) sees.sees (client_end p s j.worker.slot peer sees.place other below)
 
     roomy : has_room t peer ≡ room_at links here
@@ -120,18 +120,18 @@ module _ (p : PlaceView) (clock : ClockSet) (links : List EndView) (j : DropJob)
     idle_by : (end_at links here).opened ≡ true → awaits t peer (wait_at links here) ≡ None → slot_step s st k (Some (work_now j)) ≡ None
     idle_by o none =
         ap (by_partner t) at ∙ (ap (λ (e : End). with_partner t peer e.opened) (sees.ends here) ∙ (ap (with_partner t peer) o
-        ∙ ((λ i. if awaiting j.worker.phase i then awaits t peer (waiting (end_with t peer) k here) else goes_on t) ∙ (ap (awaits t peer) waits ∙ none))))
+        ∙ ((λ i. if awaiting j.worker.phase i then awaits t peer (waiting_frame (end_with t peer) k here) else goes_on t) ∙ (ap (awaits t peer) waits ∙ none))))
 
   answer_by : (opened room : Bool) (f : Option FrameView) → (end_at links here).opened ≡ opened → room_at links here ≡ room → wait_at links here ≡ f
       → Answers p clock links j time (feed_by opened room (feed_of peer (word_at links here) f))
   answer_by false room f o r w = λ rows c s st k sees keeps.
-      subst (λ (q : Option ℕ). FindsAt (turn_of s st k (work_now j)) q None × FedAt (sight (place_reading p) (end_at links) time 0) j.worker.slot q None takens.Closed) (sym at)
+      subst (λ (q : Option ℕ). FindsAt (turn_of s st k (work_now j)) q None × FeedsFrameAt (sight (place_reading p) (end_at links) time 0) j.worker.slot q None takens.Closed) (sym at)
       (ap (λ (e : End). e.opened) (sees.ends here) ∙ o, (refl, other.1, o))
   answer_by true false f o r w = λ rows c s st k sees keeps. idle_by s st k sees o (no_room (turn_of s st k (work_now j)) peer (wait_at links here) (roomy s st k sees ∙ r))
   answer_by true true None o r w = λ rows c s st k sees keeps. idle_by s st k sees o (ap (awaits (turn_of s st k (work_now j)) peer) w)
   answer_by true true (Some f) o r w = λ rows c s st k sees keeps.
-      subst (λ (g : Option FrameView). FindsAt (turn_of s st k (work_now j)) (stands_on j.worker) g × FedAt (sight (place_reading p) (end_at links) time 0) j.worker.slot (stands_on j.worker) g (taken_of f.body)) (sym w)
-      (subst (λ (q : Option ℕ). FindsAt (turn_of s st k (work_now j)) q (Some f) × FedAt (sight (place_reading p) (end_at links) time 0) j.worker.slot q (Some f) (taken_of f.body)) (sym at)
+      subst (λ (g : Option FrameView). FindsAt (turn_of s st k (work_now j)) (stands_on j.worker) g × FeedsFrameAt (sight (place_reading p) (end_at links) time 0) j.worker.slot (stands_on j.worker) g (taken_of f.body)) (sym w)
+      (subst (λ (q : Option ℕ). FindsAt (turn_of s st k (work_now j)) q (Some f) × FeedsFrameAt (sight (place_reading p) (end_at links) time 0) j.worker.slot q (Some f) (taken_of f.body)) (sym at)
       ((waits s st k sees ∙ w, roomy s st k sees ∙ r), record { at = waits_there links here f w; live = o; apart = other.1; is = refl }))
 
   pub heard_answers : (feed : Option Feed) → feed ≡ feed_at links here → Answers p clock links j time feed
@@ -194,7 +194,7 @@ begun_other r target peer phases.Denied token fits at h = absurd cc
 begun_other r target peer (phases.Late time) token fits at h = absurd cc
 begun_other r target peer (phases.Ends why) token fits at h = absurd cc
 
-pub awaits_other : (p : PlaceView) (j : DropJob) (peer : ℕ) (known : Option Known) → FitsLocal j.worker.phase j.worker.token → stands_on j.worker ≡ Some peer → HasReadByPhase p j.worker.phase known → IsOther (place_reading p) peer
+pub awaits_other : (p : PlaceView) (j : DropJob) (peer : ℕ) (known : Option KnownLogs) → FitsLocal j.worker.phase j.worker.token → stands_on j.worker ≡ Some peer → HasReadByPhase p j.worker.phase known → IsOther (place_reading p) peer
 awaits_other p j peer None fits at fresh = absurd (let none : Some peer ≡ None = sym at ∙ ap (λ (ph : Phase). partner j.worker.job.peer (phase_as ph)) fresh in some_none peer none)
 awaits_other p j peer (Some known) fits at begun = begun_other (place_reading p) j.worker.job.peer peer j.worker.phase j.worker.token fits at begun
 

@@ -32,7 +32,7 @@ use Rattle.drop_worker.specs.declared.phase.Phase.TheVariants as phases
 use Rattle.drop_worker.specs.declared.turn.Input.{Input}
 use Rattle.drop_worker.specs.declared.turn.Output.{Output}
 use Rattle.drop_worker.specs.declared.turn.Taken.{Taken}
-use Rattle.drop_worker.specs.Feeding.{FedAt}
+use Rattle.drop_worker.specs.Feeding.{FeedsFrameAt}
 use Rattle.drop_worker.specs.Leaving.{stands_on}
 use Rattle.drop_worker.specs.Sides.{IsNext}
 use Rattle.drop_worker.specs.States.{IsSight, Sees, StepsSo}
@@ -41,18 +41,18 @@ use Rattle.drop_worker.specs.Working.{failed_in, phase_as, sight, words_of, work
 use Rattle.node_jobs.specs.Calling.{Failing, JobMakes, WorkerMakes}
 use Rattle.node_jobs.specs.Doings.{Acts, Does, ReadsOn, SeesAct, Steps}
 use Rattle.node_jobs.specs.Places.{IsPlace, PlaceView}
-use Rattle.node_jobs.specs.Reads.{Known, need_in, reading_of, standing_at, standing_in, standings_by}
+use Rattle.node_jobs.specs.Reads.{KnownLogs, need_in, reading_of, standing_at, standing_in, standings_by}
 use Rattle.node_jobs.specs.Running.{DropJob, HasRead, ReadSo, HasReadByPhase, place_reading, plain, work_now}
 use Rattle.node_jobs.proofs.Hearing.{count_is}
 
 -- ---- what the job reads
 
 -- what it knows is what the state says that it has read
-pub record Knows (s : SetUp) (st : State) (j : DropJob) (known : Known) : Type 0 where
+pub record Knows (s : SetUp) (st : State) (j : DropJob) (known : KnownLogs) : Type 0 where
   pub need : need_in (st.read j.worker.number) ≡ known.need
   pub standing : (c : ℕ) → standing_of s st (work_now j) c ≡ standing_in known c
 
-pub knows_read : (s : SetUp) (st : State) (j : DropJob) (known : Known) → HasRead s st j.worker (Some known) → Knows s st j known
+pub knows_read : (s : SetUp) (st : State) (j : DropJob) (known : KnownLogs) → HasRead s st j.worker (Some known) → Knows s st j known
 knows_read s st j known read = record { need = read.need; standing = read.standing }
 
 standing_listed : (f : List ℕ → drops.Standing) (repos : List RepoView) (c : ℕ) → f [] ≡ drops.Asked → standing_at (map f (map (λ (repo : RepoView). repo.id) repos)) c ≡ f (id_of repos c)
@@ -61,7 +61,7 @@ standing_listed f (x ∷ xs) zero nameless = refl
 standing_listed f (x ∷ xs) (suc c) nameless = standing_listed f xs c nameless
 
 -- at its first step it reads the logs
-pub knows_logs : (p : PlaceView) (s : SetUp) (st : State) (j : DropJob) (settings : Settings) (known : Known) → IsPlace p s → HasRead s st j.worker None → st.logs ≡ settings
+pub knows_logs : (p : PlaceView) (s : SetUp) (st : State) (j : DropJob) (settings : Settings) (known : KnownLogs) → IsPlace p s → HasRead s st j.worker None → st.logs ≡ settings
     → ((key : List ℕ) → standing_by settings key [] ≡ drops.Asked) → known.need ≡ need_in settings → map worker.standing_of known.standings ≡ standings_by settings j.worker.job.key p.ids → Knows s st j known
 unfolding standing_of
 knows_logs p s st j settings known place fresh logs nameless need standings =
@@ -85,7 +85,7 @@ unfolding required
 nothing_required st s v c = refl
 
 -- the job as its repository is, at a look that has its words
-pub sight_so : (p : PlaceView) (clock : ClockSet) (links : List EndView) (s : SetUp) (st : State) (k : Look) (j : DropJob) (known : Known) (time number : ℕ) → IsPlace p s → st.clock ≡ runs_on clock
+pub sight_so : (p : PlaceView) (clock : ClockSet) (links : List EndView) (s : SetUp) (st : State) (k : Look) (j : DropJob) (known : KnownLogs) (time number : ℕ) → IsPlace p s → st.clock ≡ runs_on clock
     → Knows s st j known → ((a : EndName) → st.ends a ≡ end_at links a) → number ≡ st.made + 1 → time ≡ k.time → words_of j.worker ≡ k.words
     → IsSight (sight (reading_of p clock known) (end_at links) time number) s st k j.worker (work_now j)
 sight_so p clock links s st k j known time number place ticks read ends count at words =
@@ -129,12 +129,12 @@ begun_stands p phases.Denied h = tt
 begun_stands p (phases.Late time) h = tt
 begun_stands p (phases.Ends why) h = tt
 
-pub can_stand : (p : PlaceView) (phase : Phase) (known : Option Known) → HasReadByPhase p phase known → CanStand (place_reading p) phase
+pub can_stand : (p : PlaceView) (phase : Phase) (known : Option KnownLogs) → HasReadByPhase p phase known → CanStand (place_reading p) phase
 can_stand p phase None fresh = subst (CanStand (place_reading p)) (sym fresh) tt
 can_stand p phase (Some known) begun = begun_stands p phase begun
 
 -- what it has read stays so
-reads_on : (s : SetUp) (st st' : State) (j : DropJob) (w' : Worker) (known : Known) → Knows s st j known → ReadsOn s st st' j → w'.number ≡ j.worker.number → w'.job ≡ j.worker.job → has_read Drops (phase_as w'.phase) ≡ true
+reads_on : (s : SetUp) (st st' : State) (j : DropJob) (w' : Worker) (known : KnownLogs) → Knows s st j known → ReadsOn s st st' j → w'.number ≡ j.worker.number → w'.job ≡ j.worker.job → has_read Drops (phase_as w'.phase) ≡ true
     → ReadSo s st' w' known
 unfolding standing_of
 reads_on s st st' j w' known knows on number job begun =
@@ -146,14 +146,14 @@ reads_on s st st' j w' known knows on number job begun =
     }
 
 -- what is told is told to a job that knows this
-fed_as : (p : PlaceView) (clock : ClockSet) (links : List EndView) (known : Known) (time number slot : ℕ) (o : Option ℕ) (f : Option FrameView) (taken : Taken) → FedAt (sight (place_reading p) (end_at links) time 0) slot o f taken
-    → FedAt (sight (reading_of p clock known) (end_at links) time number) slot o f taken
+fed_as : (p : PlaceView) (clock : ClockSet) (links : List EndView) (known : KnownLogs) (time number slot : ℕ) (o : Option ℕ) (f : Option FrameView) (taken : Taken) → FeedsFrameAt (sight (place_reading p) (end_at links) time 0) slot o f taken
+    → FeedsFrameAt (sight (reading_of p clock known) (end_at links) time number) slot o f taken
 fed_as p clock links known time number slot None f taken fed = fed
 fed_as p clock links known time number slot (Some peer) None taken fed = fed
 fed_as p clock links known time number slot (Some peer) (Some f) taken fed = record { at = fed.at; live = fed.live; apart = fed.apart; is = fed.is }
 
 -- what its worker sees
-worker_sees : (p : PlaceView) (clock : ClockSet) (links : List EndView) (settings : Settings) (input : Input) (rows : Rows) (c : Contents) (j : DropJob) (known : Known) (out : Output) (s : SetUp) (st : State) (k : Look) (f : Option FrameView)
+worker_sees : (p : PlaceView) (clock : ClockSet) (links : List EndView) (settings : Settings) (input : Input) (rows : Rows) (c : Contents) (j : DropJob) (known : KnownLogs) (out : Output) (s : SetUp) (st : State) (k : Look) (f : Option FrameView)
     → Knows s st j known → SeesAct p clock links settings input rows c j out s st k f
     → Sees (sight (reading_of p clock known) (end_at links) input.time input.number) rows c j.worker input.taken (failed_in out.kind) s st k (work_now j) f
 worker_sees p clock links settings input rows c j known out s st k f known_so sees =
@@ -168,7 +168,7 @@ worker_sees p clock links settings input rows c j known out s st k f known_so se
 next_local : (side : Side) (r : Reading) (v v' : Work) → side ≡ Local → IsNext side r v v' → v ≡ v'
 next_local side r v v' local next = let P : Side → Type 0 = λ x. IsNext x r v v' in subst P local next
 
-pub acts_so : (p : PlaceView) (clock : ClockSet) (links : List EndView) (settings : Settings) (input : Input) (contents contents' : Option Contents) (rows rows' : Rows) (j : DropJob) (w' : Worker) (known : Known) (out : Output) → drop_side j.worker.job.kind j.worker.job.peer ≡ Local
+pub acts_so : (p : PlaceView) (clock : ClockSet) (links : List EndView) (settings : Settings) (input : Input) (contents contents' : Option Contents) (rows rows' : Rows) (j : DropJob) (w' : Worker) (known : KnownLogs) (out : Output) → drop_side j.worker.job.kind j.worker.job.peer ≡ Local
     → ((s : SetUp) (st : State) → IsPlace p s → HasRead s st j.worker j.known → st.logs ≡ settings → ((key : List ℕ) → standing_by settings key [] ≡ drops.Asked) → Knows s st j known)
     → HasReadByPhase p j.worker.phase j.known → Does p clock links known input contents rows j.worker w' out → Steps p contents contents' input rows rows' j.worker w' out
     → Acts p clock links settings input contents rows j (record { worker = w'; known = Some known }) out
@@ -180,7 +180,7 @@ acts_so p clock links settings input contents contents' rows rows' j w' known ou
       λ going st' on. reads_on s st st' j w' known known_so on steps.number steps.job (has_begun p w'.phase ((steps.gone (can_stand p j.worker.phase j.known stands)).goes_on going)),
     )
 
-pub acts_ok : (p : PlaceView) (clock : ClockSet) (links : List EndView) (settings : Settings) (input : Input) (contents contents' : Option Contents) (rows rows' : Rows) (j : DropJob) (w' : Worker) (known : Known) (r : Result Output NoMemory) → drop_side j.worker.job.kind j.worker.job.peer ≡ Local
+pub acts_ok : (p : PlaceView) (clock : ClockSet) (links : List EndView) (settings : Settings) (input : Input) (contents contents' : Option Contents) (rows rows' : Rows) (j : DropJob) (w' : Worker) (known : KnownLogs) (r : Result Output NoMemory) → drop_side j.worker.job.kind j.worker.job.peer ≡ Local
     → ((s : SetUp) (st : State) → IsPlace p s → HasRead s st j.worker j.known → st.logs ≡ settings → ((key : List ℕ) → standing_by settings key [] ≡ drops.Asked) → Knows s st j known)
     → HasReadByPhase p j.worker.phase j.known → IfOk r (Does p clock links known input contents rows j.worker w') → IfOk r (Steps p contents contents' input rows rows' j.worker w')
     → IfOk r (Acts p clock links settings input contents rows j (record { worker = w'; known = Some known }))
@@ -189,13 +189,13 @@ acts_ok p clock links settings input contents contents' rows rows' j w' known (E
 
 -- ---- its calls
 
-pub makes_so : (p : PlaceView) (clock : ClockSet) (links : List EndView) (settings : Settings) (input : Input) (contents : Option Contents) (rows : Rows) (j : DropJob) (known : Known) (before after : Failing) (out : Output)
+pub makes_so : (p : PlaceView) (clock : ClockSet) (links : List EndView) (settings : Settings) (input : Input) (contents : Option Contents) (rows : Rows) (j : DropJob) (known : KnownLogs) (before after : Failing) (out : Output)
     → ((s : SetUp) (st : State) → IsPlace p s → HasRead s st j.worker j.known → st.logs ≡ settings → ((key : List ℕ) → standing_by settings key [] ≡ drops.Asked) → Knows s st j known)
     → WorkerMakes p clock links known input contents rows j.worker before after out → JobMakes p clock links settings input contents rows before after j out
 makes_so p clock links settings input contents rows j known before after out knows makes = λ c is s st k f sees.
     makes c is s st k (work_now j) f (worker_sees p clock links settings input rows c j known out s st k f (knows s st sees.job.place sees.job.read sees.logs sees.nameless) sees)
 
-pub makes_ok : (p : PlaceView) (clock : ClockSet) (links : List EndView) (settings : Settings) (input : Input) (contents : Option Contents) (rows : Rows) (j : DropJob) (known : Known) (before after : Failing) (r : Result Output NoMemory)
+pub makes_ok : (p : PlaceView) (clock : ClockSet) (links : List EndView) (settings : Settings) (input : Input) (contents : Option Contents) (rows : Rows) (j : DropJob) (known : KnownLogs) (before after : Failing) (r : Result Output NoMemory)
     → ((s : SetUp) (st : State) → IsPlace p s → HasRead s st j.worker j.known → st.logs ≡ settings → ((key : List ℕ) → standing_by settings key [] ≡ drops.Asked) → Knows s st j known)
     → IfOk r (WorkerMakes p clock links known input contents rows j.worker before after) → IfOk r (JobMakes p clock links settings input contents rows before after j)
 makes_ok p clock links settings input contents rows j known before after (Ok out) knows makes = makes_so p clock links settings input contents rows j known before after out knows makes

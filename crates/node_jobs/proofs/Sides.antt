@@ -18,11 +18,11 @@ use Rattle.drop_worker.specs.Worker.{Worker}
 use Rattle.node_jobs.specs.Doings.{Steps}
 use Rattle.node_model.specs.Clocks.{ClockSet}
 use Rattle.node_jobs.specs.Places.{PlaceView}
-use Rattle.node_jobs.specs.Reads.{Known, reading_of}
+use Rattle.node_jobs.specs.Reads.{KnownLogs, reading_of}
 use Rattle.node_jobs.specs.Running.{place_reading}
 
 -- where a drop may stand depends on its repository and on how many there are, whatever it has read
-stand_as : (p : PlaceView) (clock : ClockSet) (known : Known) (phase : Phase) → CanStand (place_reading p) phase → CanStand (reading_of p clock known) phase
+stand_as : (p : PlaceView) (clock : ClockSet) (known : KnownLogs) (phase : Phase) → CanStand (place_reading p) phase → CanStand (reading_of p clock known) phase
 stand_as p clock known phases.Fresh h = h
 stand_as p clock known phases.Next h = h
 stand_as p clock known (phases.Opens peer) h = h
@@ -36,7 +36,7 @@ stand_as p clock known phases.Denied h = h
 stand_as p clock known (phases.Late time) h = h
 stand_as p clock known (phases.Ends why) h = h
 
-begun_as : (p : PlaceView) (clock : ClockSet) (known : Known) (phase : Phase) → HasBegun (reading_of p clock known) phase → HasBegun (place_reading p) phase
+begun_as : (p : PlaceView) (clock : ClockSet) (known : KnownLogs) (phase : Phase) → HasBegun (reading_of p clock known) phase → HasBegun (place_reading p) phase
 begun_as p clock known phases.Fresh h = h
 begun_as p clock known phases.Next h = h
 begun_as p clock known (phases.Opens peer) h = h
@@ -50,10 +50,10 @@ begun_as p clock known phases.Denied h = h
 begun_as p clock known (phases.Late time) h = h
 begun_as p clock known (phases.Ends why) h = h
 
-gone_as : (p : PlaceView) (clock : ClockSet) (known : Known) (w w' : Worker) (out : Output) → HasGone (reading_of p clock known) w w' out → HasGone (place_reading p) w w' out
+gone_as : (p : PlaceView) (clock : ClockSet) (known : KnownLogs) (w w' : Worker) (out : Output) → HasGone (reading_of p clock known) w w' out → HasGone (place_reading p) w w' out
 gone_as p clock known w w' out h = record { goes_on = λ going. begun_as p clock known w'.phase (h.goes_on going); onward = h.onward; ended = h.ended; last = h.last; slot = h.slot }
 
-pub steps_local : (p : PlaceView) (clock : ClockSet) (known : Known) (contents contents' : Option Contents) (input : Input) (rows rows' : Rows) (w w' : Worker) (r : Result Output NoMemory) → side_in w ≡ Local → IfOk r (λ out. KeepsWord input.taken input.word w w')
+pub steps_local : (p : PlaceView) (clock : ClockSet) (known : KnownLogs) (contents contents' : Option Contents) (input : Input) (rows rows' : Rows) (w w' : Worker) (r : Result Output NoMemory) → side_in w ≡ Local → IfOk r (λ out. KeepsWord input.taken input.word w w')
     → Grows w.heard w'.heard → IfOk r (λ out. AreAfter out.kind rows rows') → IfOk r (λ out. contents' ≡ contents_after contents out.kind) → IfOk r (λ out. out.ended ≡ false → FitsSide (side_in w) w'.phase w'.token)
     → IfOk r (λ out. CanStand (reading_of p clock known) w.phase → HasGone (reading_of p clock known) w w' out) → (w'.number ≡ w.number) × (w'.job ≡ w.job) → IfOk r (Steps p contents contents' input rows rows' w w')
 steps_local p clock known contents contents' input rows rows' w w' (Ok out) side word heard after stored fits gone same =

@@ -18,7 +18,7 @@ use Rattle.node_model.specs.Jobs as Jobs
 use Rattle.node_model.specs.Jobs.{Work, work_after, work_kind}
 use Rattle.node_model.specs.Knows.{standing_of}
 use Rattle.node_model.specs.Evidence.{standing_by}
-use Rattle.node_model.specs.Look.{Look, Made, entry_of, first_some}
+use Rattle.node_model.specs.Look.{Look, Effect, entry_of, first_some}
 use Rattle.node_model.specs.Rows.{option_is}
 use Rattle.node_model.specs.SetUp.{SetUp, slots}
 use Rattle.node_model.specs.Slots.{job_of}
@@ -34,7 +34,7 @@ use Rattle.run_data.specs.Repos.{id_of}
 use Rattle.drop_worker.specs.Begun.{HasGone, IsLast, IsOnward}
 use Rattle.drop_worker.specs.declared.phase.Phase.{Phase}
 use Rattle.drop_worker.specs.declared.turn.Taken.{Taken}
-use Rattle.drop_worker.specs.Feeding.{FedAt, FindsAt}
+use Rattle.drop_worker.specs.Feeding.{FeedsFrameAt, FindsAt}
 use Rattle.drop_worker.specs.Leaving.{stands_on}
 use Rattle.drop_worker.specs.SlotCalls.{slot_calls}
 use Rattle.drop_worker.specs.States.{HaveState}
@@ -49,7 +49,7 @@ use Rattle.node_jobs.specs.Doings.{ActsSo, SeesAct}
 use Rattle.node_jobs.specs.Feeds.{SeesJob}
 use Rattle.node_jobs.specs.Finding.{Finds, FindsFirst, IsFirst, IsSlotIdle, has_slot}
 use Rattle.node_jobs.specs.Places.{PlaceView}
-use Rattle.node_jobs.specs.Reads.{Known, need_in}
+use Rattle.node_jobs.specs.Reads.{KnownLogs, need_in}
 use Rattle.node_jobs.specs.Running.{AllApart, AreApart, AreWorks, DropJob, Follows, HasRead, IsDrop, Jobs as JobsView, OwnAll, place_reading, work_now}
 use Rattle.node_jobs.proofs.Among.{apart_before, apart_behind, find_mapped, found_by_number, get_middle, is_left, works_off, works_on}
 use Rattle.node_jobs.proofs.EntryKinds.{last_begun, last_works, onward_begun, onward_job, onward_works}
@@ -58,14 +58,14 @@ use Rattle.node_jobs.proofs.Knowing.{can_stand}
 
 -- ---- the first slot that has a step
 
-pub first_step : (f : ℕ → Option Made) (n : ℕ) (m : Made) → n < 4 → ((i : ℕ) → i < n → f i ≡ None) → f n ≡ Some m → first_some f slots ≡ Some m
+pub first_step : (f : ℕ → Option Effect) (n : ℕ) (m : Effect) → n < 4 → ((i : ℕ) → i < n → f i ≡ None) → f n ≡ Some m → first_some f slots ≡ Some m
 first_step f zero m below before at = rw at refl
 first_step f (suc zero) m below before at = rw (before 0 (omega arith), at) refl
 first_step f (suc (suc zero)) m below before at = rw (before 0 (omega arith), before 1 (omega arith), at) refl
 first_step f (suc (suc (suc zero))) m below before at = rw (before 0 (omega arith), before 1 (omega arith), before 2 (omega arith), at) refl
 first_step f (suc (suc (suc (suc n)))) m below before at = absurd (omega (arith, below))
 
-pub no_step : (f : ℕ → Option Made) → ((i : ℕ) → i < 4 → f i ≡ None) → first_some f slots ≡ None
+pub no_step : (f : ℕ → Option Effect) → ((i : ℕ) → i < 4 → f i ≡ None) → first_some f slots ≡ None
 no_step f none = rw (none 0 (omega arith), none 1 (omega arith), none 2 (omega arith), none 3 (omega arith)) refl
 
 pub first_found : (p : ℕ → Bool) (n : ℕ) → n < 4 → ((i : ℕ) → i < n → p i ≡ false) → p n ≡ true → find p slots ≡ Some n
@@ -105,7 +105,7 @@ pub none_calls : (p : PlaceView) (clock : ClockSet) (links : List EndView) (js :
     → Each (λ j. SeesJob p clock links j time s st k) js → HaveState rows c st → st.works ≡ map work_now js → job_calls s st k ≡ []
 none_calls p clock links js time rows c s st k idle sees keeps works =
     ap (λ (o : Option ℕ). option_map_or (λ slot. slot_calls s st k (work_in st slot)) o [])
-    (none_found (λ slot. is_some (slot_step s st k (work_in st slot))) (λ slot below. ap (λ (m : Option Made). is_some m) (slot_none p clock links js time slot rows c s st k (idle slot below) sees keeps works)))
+    (none_found (λ slot. is_some (slot_step s st k (work_in st slot))) (λ slot below. ap (λ (m : Option Effect). is_some m) (slot_none p clock links js time slot rows c s st k (idle slot below) sees keeps works)))
 
 pub all_left : (before : Failing) → before ≡ option_map (fewer None) before
 all_left None = refl
@@ -126,13 +126,13 @@ ready_steps t (Some peer) None live waits shut = rw shut refl
 ready_steps t (Some peer) (Some f) live waits (at, room) = rw (live, waits, at, room) refl
 
 fed_live : (p : PlaceView) (links : List EndView) (time : ℕ) (t : Turn) (slot : ℕ) (o : Option ℕ) (f : Option FrameView) (taken : Taken) → ((a : EndName) → t.ends a ≡ end_at links a) → slot ≡ t.w.slot
-    → FedAt (sight (place_reading p) (end_at links) time 0) slot o f taken → IsOpenAt t o f
+    → FeedsFrameAt (sight (place_reading p) (end_at links) time 0) slot o f taken → IsOpenAt t o f
 fed_live p links time t slot None f taken ends same fed = tt
 fed_live p links time t slot (Some peer) None taken ends same fed = tt
 fed_live p links time t slot (Some peer) (Some f) taken ends same fed =
     ap (λ (e : End). e.opened) (ends (end_in t.w.slot peer)) ∙ (ap (λ (n : ℕ). (end_at links (end_in n peer)).opened) (sym same) ∙ fed.live)
 
-made_some : (o : Option Made) → is_some o ≡ true → (m : Made) × (o ≡ Some m)
+made_some : (o : Option Effect) → is_some o ≡ true → (m : Effect) × (o ≡ Some m)
 made_some None h = absurd cc
 made_some (Some m) h = (m, refl)
 
@@ -150,7 +150,7 @@ some_steps p clock links js time found rows c s st k drops finds sees keeps work
         let taken : Option FrameView = taken_by links j.worker.slot found.feed.takes in
         let made = made_some (slot_step s st k (Some (work_now j))) (ready_steps (turn_of s st k (work_now j)) (stands_on j.worker) taken
         (fed_live p links time (turn_of s st k (work_now j)) j.worker.slot (stands_on j.worker) taken found.feed.taken seen.ends refl ready.1) (awaiting j.worker.phase) ready.0) in
-        ap (λ (o : Option Made). is_some o) (first_step (λ slot. slot_step s st k (find (λ w. w.slot == slot) st.works)) j.worker.slot made.0 (Each-member (IsDrop p) js j drops among).slot
+        ap (λ (o : Option Effect). is_some o) (first_step (λ slot. slot_step s st k (find (λ w. w.slot == slot) st.works)) j.worker.slot made.0 (Each-member (IsDrop p) js j drops among).slot
         (λ slot below. slot_none p clock links js time slot rows c s st k (first.before slot below) sees keeps works)
         (ap (λ (ws : List Work). slot_step s st k (find (λ w. w.slot == j.worker.slot) ws)) works
         ∙ (ap (slot_step s st k) (find_mapped work_now (λ w. w.slot == j.worker.slot) js ∙ ap (option_map work_now) first.found) ∙ made.1)))
@@ -158,7 +158,7 @@ some_steps p clock links js time found rows c s st k drops finds sees keeps work
 -- so the search tells whether there is one
 pub ready_is : (p : PlaceView) (clock : ClockSet) (links : List EndView) (js : List DropJob) (time : ℕ) (o : Option Found) (rows : Rows) (c : Contents) (s : SetUp) (st : State) (k : Look) → Each (IsDrop p) js
     → Finds p clock links js time o → Each (λ j. SeesJob p clock links j time s st k) js → HaveState rows c st → st.works ≡ map work_now js → is_some (job_step s st k) ≡ is_some o
-ready_is p clock links js time None rows c s st k drops finds sees keeps works = ap (λ (m : Option Made). is_some m) (none_steps p clock links js time rows c s st k finds sees keeps works)
+ready_is p clock links js time None rows c s st k drops finds sees keeps works = ap (λ (m : Option Effect). is_some m) (none_steps p clock links js time rows c s st k finds sees keeps works)
 ready_is p clock links js time (Some found) rows c s st k drops finds sees keeps works = some_steps p clock links js time found rows c s st k drops finds sees keeps works
 
 -- ---- what stays of the others
@@ -174,7 +174,7 @@ read_stays s st st' jobs e j are apart among follows =
     ∙ (ap (read_after st.logs (st.read j.worker.number)) (ap (find (λ w. w.number == j.worker.number)) are.works ∙ (find_mapped work_now (λ w. w.number == j.worker.number) jobs.running ∙ ap (option_map work_now) (found_by_number jobs.running j apart among)))
     ∙ by_known j.known (Each-member (λ x. HasRead s st x.worker x.known) jobs.running j are.read among))
   where
-    by_known : (known : Option Known) → HasRead s st j.worker known → read_after st.logs (st.read j.worker.number) (Some (work_now j)) ≡ st.read j.worker.number
+    by_known : (known : Option KnownLogs) → HasRead s st j.worker known → read_after st.logs (st.read j.worker.number) (Some (work_now j)) ≡ st.read j.worker.number
     by_known None fresh = ap (λ (ph : Phase). if has_read Jobs.Drops (phase_as ph) then st.read j.worker.number else st.logs) fresh.0 ∙ sym fresh.1
     by_known (Some known) read = ap (λ (b : Bool). if b then st.read j.worker.number else st.logs) read.begun
 
@@ -182,7 +182,7 @@ pub has_read_stays : (s : SetUp) (st st' : State) (j : DropJob) → HasRead s st
 unfolding standing_of
 has_read_stays s st st' j was logs read = by_known j.known was
   where
-    by_known : (known : Option Known) → HasRead s st j.worker known → HasRead s st' j.worker known
+    by_known : (known : Option KnownLogs) → HasRead s st j.worker known → HasRead s st' j.worker known
     by_known None fresh = (fresh.0, read ∙ (fresh.1 ∙ sym logs))
     by_known (Some known) h = record {
       begun = h.begun;
@@ -225,7 +225,7 @@ module _ (links : List EndView) (clock : ClockSet) (settings : Settings) (jobs :
   )
 
   -- the same, as the list has it
-  abbrev made : Made
+  abbrev made : Effect
   made = record { kind = a.kind; taken = taken_by links ch.j.worker.slot found.feed.takes; sent = frames_of (end_at links) ch.j.worker.slot a.sends.items; lines = [] }
 
   made_is : made ≡ made_by links a
@@ -267,7 +267,7 @@ module _ (links : List EndView) (clock : ClockSet) (settings : Settings) (jobs :
         first_step (λ slot. slot_step s st k (find (λ w. w.slot == slot) st.works)) ch.j.worker.slot (made_by links a) drop.slot
         (λ slot below. slot_none jobs.place clock links jobs.running time slot rows c s st k (first_of_found.before slot below) each keeps sees.works.works)
         (ap (λ (ws : List Work). slot_step s st k (find (λ w. w.slot == ch.j.worker.slot) ws)) sees.works.works
-        ∙ (ap (slot_step s st k) (find_mapped work_now (λ w. w.slot == ch.j.worker.slot) jobs.running ∙ ap (option_map work_now) first_of_found.found) ∙ (acts.made ∙ ap (λ (m : Made). Some m) made_is)))
+        ∙ (ap (slot_step s st k) (find_mapped work_now (λ w. w.slot == ch.j.worker.slot) jobs.running ∙ ap (option_map work_now) first_of_found.found) ∙ (acts.made ∙ ap (λ (m : Effect). Some m) made_is)))
 
     -- ---- its calls
 
@@ -279,8 +279,8 @@ module _ (links : List EndView) (clock : ClockSet) (settings : Settings) (jobs :
     slot_there : first_slot s st k ≡ Some ch.j.worker.slot
     slot_there =
         first_found (λ slot. is_some (slot_step s st k (work_in st slot))) ch.j.worker.slot drop.slot
-        (λ slot below. ap (λ (m : Option Made). is_some m) (slot_none jobs.place clock links jobs.running time slot rows c s st k (first_of_found.before slot below) each keeps sees.works.works))
-        (ap (λ (o : Option Work). is_some (slot_step s st k o)) work_there ∙ ap (λ (m : Option Made). is_some m) acts.made)
+        (λ slot below. ap (λ (m : Option Effect). is_some m) (slot_none jobs.place clock links jobs.running time slot rows c s st k (first_of_found.before slot below) each keeps sees.works.works))
+        (ap (λ (o : Option Work). is_some (slot_step s st k o)) work_there ∙ ap (λ (m : Option Effect). is_some m) acts.made)
 
     calls_are : job_calls s st k ≡ slot_calls s st k (Some (work_now ch.j))
     calls_are = ap (λ (o : Option ℕ). option_map_or (λ slot. slot_calls s st k (work_in st slot)) o []) slot_there ∙ ap (slot_calls s st k) work_there
@@ -330,7 +330,7 @@ module _ (links : List EndView) (clock : ClockSet) (settings : Settings) (jobs :
               (λ x h. stays_by rr s.number ch.j.worker.number x.worker.number e (work_now x) mine refl (ne_eqb ch.j.worker.number x.worker.number h.number)) ch.back (apart_behind ch.front ch.j ch.back apart)
 
           goes : work_after rr s.number e (work_now ch.j) ≡ work_now ch.j'
-          goes = sym (acts.next going ∙ ap (λ (m : Made). work_after rr s.number (entry_of s.number k m) (work_now ch.j)) made_is)
+          goes = sym (acts.next going ∙ ap (λ (m : Effect). work_after rr s.number (entry_of s.number k m) (work_now ch.j)) made_is)
 
       works_off_so : IsLast ch.j.worker.number a.kind → AreWorks s st' (record jobs { running = ch.front ++ ch.back })
       works_off_so last =

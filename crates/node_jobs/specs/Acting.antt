@@ -12,7 +12,7 @@ use Rattle.node_model.specs.Clocks.{ClockSet, runs_on}
 use Rattle.node_model.specs.Ends.{EndName}
 use Rattle.node_model.specs.Evidence as drops
 use Rattle.node_model.specs.Evidence.{standing_by}
-use Rattle.node_model.specs.Look.{Look, Made, entry_of}
+use Rattle.node_model.specs.Look.{Look, Effect, entry_of}
 use Rattle.node_model.specs.SetUp.{SetUp}
 use Rattle.node_model.specs.Slots.{RunningJob, free_slot}
 use Rattle.node_model.specs.State.{State}
@@ -57,7 +57,7 @@ WaitsFor links slot takes = (peer : ℕ) → takes ≡ Some peer → (room_at li
 abbrev pub word_at : List EndView → EndName → Option Word
 word_at links a = option_and_then (λ (f : Frame). f.word) (option_and_then next_frame (link_at links a))
 
-abbrev pub made_by : List EndView → Acted → Made
+abbrev pub made_by : List EndView → Acted → Effect
 made_by links a = record { kind = a.kind; taken = taken_by links a.slot a.takes; sent = frames_of (end_at links) a.slot a.sends.items; lines = [] }
 
 -- ---- what its jobs see of a repository

@@ -22,7 +22,7 @@ use Rattle.drop_worker.specs.Worker.{Worker}
 use Rattle.drop_worker.specs.Working.{failed_in, sight}
 use Rattle.node_jobs.specs.Doings.{SeesAct}
 use Rattle.node_jobs.specs.Places.{PlaceView}
-use Rattle.node_jobs.specs.Reads.{Known, reading_of}
+use Rattle.node_jobs.specs.Reads.{KnownLogs, reading_of}
 use Rattle.node_jobs.specs.Running.{DropJob, work_now}
 
 -- how many calls of each kind are still to fail, where the store tells it
@@ -30,7 +30,7 @@ abbrev pub Failing : Type 0
 Failing = Option (Call → ℕ)
 
 -- the calls of a worker that knows this, as the worker's own contract says it
-abbrev pub WorkerMakes : PlaceView → ClockSet → List EndView → Known → Input → Option Contents → Rows → Worker → Failing → Failing → Output → Type 0
+abbrev pub WorkerMakes : PlaceView → ClockSet → List EndView → KnownLogs → Input → Option Contents → Rows → Worker → Failing → Failing → Output → Type 0
 WorkerMakes p clock links known input contents rows w before after out =
     ForSome contents (λ c. (s : SetUp) (st : State) (k : Look) (v : Work) (f : Option FrameView)
     → Sees (sight (reading_of p clock known) (end_at links) input.time input.number) rows c w input.taken (failed_in out.kind) s st k v f

@@ -20,18 +20,18 @@ use Rattle.drop_worker.specs.Begun.{CanStand, HasGone}
 use Rattle.drop_worker.specs.declared.turn.Input.{Input}
 use Rattle.drop_worker.specs.declared.turn.Output.{Output}
 use Rattle.drop_worker.specs.Doing.{Grows, contents_after}
-use Rattle.drop_worker.specs.Feeding.{FedAt, FindsAt, FitsLocal, KeepsWord}
+use Rattle.drop_worker.specs.Feeding.{FeedsFrameAt, FindsAt, FitsLocal, KeepsWord}
 use Rattle.drop_worker.specs.Leaving.{stands_on}
 use Rattle.drop_worker.specs.States.{HaveState, Sees, StepsSo}
 use Rattle.drop_worker.specs.Worker.{Worker}
 use Rattle.drop_worker.specs.Working.{failed_in, frames_of, sight, words_of}
 use Rattle.node_jobs.specs.Feeds.{SeesJob}
 use Rattle.node_jobs.specs.Places.{PlaceView}
-use Rattle.node_jobs.specs.Reads.{Known, reading_of}
+use Rattle.node_jobs.specs.Reads.{KnownLogs, reading_of}
 use Rattle.node_jobs.specs.Running.{DropJob, HasRead, place_reading, work_now}
 
 -- the step of a worker that knows this, as the worker's own contract says it
-abbrev pub Does : PlaceView → ClockSet → List EndView → Known → Input → Option Contents → Rows → Worker → Worker → Output → Type 0
+abbrev pub Does : PlaceView → ClockSet → List EndView → KnownLogs → Input → Option Contents → Rows → Worker → Worker → Output → Type 0
 Does p clock links known input contents rows w w' out =
     ForSome contents (λ c. (s : SetUp) (st : State) (k : Look) (v : Work) (f : Option FrameView)
     → Sees (sight (reading_of p clock known) (end_at links) input.time input.number) rows c w input.taken (failed_in out.kind) s st k v f
@@ -58,7 +58,7 @@ pub record SeesAct (p : PlaceView) (clock : ClockSet) (links : List EndView) (se
   pub fails : k.fails ≡ failed_in out.kind
   pub words : words_of j.worker ≡ k.words
   pub finds : FindsAt (turn_of s st k (work_now j)) (stands_on j.worker) f
-  pub fed : FedAt (sight (place_reading p) (end_at links) input.time 0) j.worker.slot (stands_on j.worker) f input.taken
+  pub fed : FeedsFrameAt (sight (place_reading p) (end_at links) input.time 0) j.worker.slot (stands_on j.worker) f input.taken
 
 -- its step is that of its slot, and it goes on as its work does
 pub record ActsSo (links : List EndView) (j j' : DropJob) (out : Output) (s : SetUp) (st : State) (k : Look) (f : Option FrameView) : Type 0 where

@@ -16,14 +16,14 @@ use Rattle.node_model.specs.Turns.{needs, slot_step}
 use Rattle.content_lock.specs.Rows.{Rows}
 use Rattle.drop_worker.specs.declared.turn.Taken.{Taken}
 use Rattle.drop_worker.specs.declared.turn.Taken.TheVariants as takens
-use Rattle.drop_worker.specs.Feeding.{FedAt, FindsAt}
+use Rattle.drop_worker.specs.Feeding.{FeedsFrameAt, FindsAt}
 use Rattle.drop_worker.specs.Leaving.{stands_on}
 use Rattle.drop_worker.specs.States.{IsSight, HaveState}
 use Rattle.drop_worker.specs.Worker.{Worker}
 use Rattle.drop_worker.specs.Working.{end_in, sight, taken_of}
 use Rattle.node_jobs.specs.declared.feed.Feed.{Feed}
 use Rattle.node_jobs.specs.Acting.{taken_by, word_at}
-use Rattle.node_jobs.specs.Reads.{Known, reading_of}
+use Rattle.node_jobs.specs.Reads.{KnownLogs, reading_of}
 use Rattle.node_jobs.specs.Places.{IsPlace, PlaceView}
 use Rattle.node_jobs.specs.Running.{DropJob, HasRead, place_reading, work_now}
 
@@ -58,7 +58,7 @@ pub record SeesJob (p : PlaceView) (clock : ClockSet) (links : List EndView) (j 
 abbrev pub IsReady : PlaceView → ClockSet → List EndView → DropJob → ℕ → Feed → Type 0
 IsReady p clock links j time feed = (rows : Rows) (c : Contents) (s : SetUp) (st : State) (k : Look) → SeesJob p clock links j time s st k → HaveState rows c st
     → FindsAt (turn_of s st k (work_now j)) (stands_on j.worker) (taken_by links j.worker.slot feed.takes)
-    × FedAt (sight (place_reading p) (end_at links) time 0) j.worker.slot (stands_on j.worker) (taken_by links j.worker.slot feed.takes) feed.taken
+    × FeedsFrameAt (sight (place_reading p) (end_at links) time 0) j.worker.slot (stands_on j.worker) (taken_by links j.worker.slot feed.takes) feed.taken
 
 -- it has none
 abbrev pub IsIdle : PlaceView → ClockSet → List EndView → DropJob → ℕ → Type 0
@@ -69,7 +69,7 @@ Answers p clock links j time None = IsIdle p clock links j time
 Answers p clock links j time (Some feed) = IsReady p clock links j time feed
 
 -- the peers to which a job that knows this may send more than a Close, where it awaits no frame
-abbrev pub PeersOf : PlaceView → ClockSet → List EndView → Worker → Known → ℕ → List ℕ → Type 0
+abbrev pub PeersOf : PlaceView → ClockSet → List EndView → Worker → KnownLogs → ℕ → List ℕ → Type 0
 PeersOf p clock links w known time peers = (number : ℕ) (rows : Rows) (c : Contents) (s : SetUp) (st : State) (k : Look) (v : Work)
     → IsSight (sight (reading_of p clock known) (end_at links) time number) s st k w v → HaveState rows c st → peers ≡ needs (turn_of s st k v) v.phase
 

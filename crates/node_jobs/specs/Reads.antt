@@ -11,7 +11,7 @@ use Rattle.drop_worker.specs.declared.here.Standing.{Standing}
 use Rattle.node_jobs.specs.Places.{PlaceView}
 
 -- the numbers of copies, and how the logs see each repository, in order of number
-pub record Known : Type 0 where
+pub record KnownLogs : Type 0 where
   pub need : Need
   pub standings : List Standing
 
@@ -19,7 +19,7 @@ pub record Known : Type 0 where
 abbrev pub standing_at : List drops.Standing → ℕ → drops.Standing
 standing_at standings c = unwrap_or (slice_get standings c) drops.Asked
 
-abbrev pub standing_in : Known → ℕ → drops.Standing
+abbrev pub standing_in : KnownLogs → ℕ → drops.Standing
 standing_in known = standing_at (map standing_of known.standings)
 
 abbrev pub need_in : Settings → Need
@@ -30,5 +30,5 @@ abbrev pub standings_by : Settings → List ℕ → List (List ℕ) → List dro
 standings_by s key ids = map (standing_by s key) ids
 
 -- what a job that has read this reads in a step
-abbrev pub reading_of : PlaceView → ClockSet → Known → Reading
+abbrev pub reading_of : PlaceView → ClockSet → KnownLogs → Reading
 reading_of p clock known = record { repo = p.number; count = length p.ids; clock = runs_on clock; need = known.need; standing = standing_in known }

@@ -22,12 +22,12 @@ use Rattle.drop_worker.specs.Feeding.{FitsLocal}
 use Rattle.drop_worker.specs.Worker.{Worker}
 use Rattle.drop_worker.specs.Working.{Rest, phase_as, words_of, work_of}
 use Rattle.node_jobs.specs.Places.{PlaceView}
-use Rattle.node_jobs.specs.Reads.{Known, need_in, standing_in}
+use Rattle.node_jobs.specs.Reads.{KnownLogs, need_in, standing_in}
 
 -- a drop: its worker, and what it read of the logs at its first step
 pub record DropJob : Type 0 where
   pub worker : Worker
-  pub known : Option Known
+  pub known : Option KnownLogs
 
 -- the running jobs, the newest first, and how many were begun
 pub record Jobs : Type 0 where
@@ -45,13 +45,13 @@ abbrev pub work_now : DropJob → Work
 work_now j = work_of plain j.worker
 
 -- it is past its first step, and has read of the logs what the state says that it has
-pub record ReadSo (s : SetUp) (st : State) (w : Worker) (known : Known) : Type 0 where
+pub record ReadSo (s : SetUp) (st : State) (w : Worker) (known : KnownLogs) : Type 0 where
   pub begun : has_read Drops (phase_as w.phase) ≡ true
   pub need : need_in (st.read w.number) ≡ known.need
   pub standing : (c : ℕ) → standing_of s st (work_of plain w) c ≡ standing_in known c
 
 -- before its first step it has read nothing, and would read the logs
-abbrev pub HasRead : SetUp → State → Worker → Option Known → Type 0
+abbrev pub HasRead : SetUp → State → Worker → Option KnownLogs → Type 0
 HasRead s st w None = (w.phase ≡ phases.Fresh) × (st.read w.number ≡ st.logs)
 HasRead s st w (Some known) = ReadSo s st w known
 
@@ -68,7 +68,7 @@ abbrev pub place_reading : PlaceView → Reading
 place_reading p = record { repo = p.number; count = length p.ids; clock = λ time. time; need = record { n = 0; m = 0 }; standing = λ c. drops.Asked }
 
 -- a job that has read nothing is to begin; another is past its first step
-abbrev pub HasReadByPhase : PlaceView → Phase → Option Known → Type 0
+abbrev pub HasReadByPhase : PlaceView → Phase → Option KnownLogs → Type 0
 HasReadByPhase p phase None = phase ≡ phases.Fresh
 HasReadByPhase p phase (Some known) = HasBegun (place_reading p) phase
 

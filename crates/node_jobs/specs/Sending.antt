@@ -7,7 +7,7 @@ use Rattle.run_data.specs.declared.entry.EntryKind.{EntryKind}
 use Rattle.run_data.specs.declared.entry.EntryKind.TheVariants.{Talk, Bar, Gone, Fault, End as ends_job}
 use Rattle.run_data.specs.declared.entry.FrameView.{FrameView}
 use Rattle.node_model.specs.Ends.{End, EndName, end_sends, frames, is_opening, sent_at, taken_at}
-use Rattle.node_model.specs.Look.{Made}
+use Rattle.node_model.specs.Look.{Effect}
 use Rattle.node_model.specs.Sessions.{is_closing}
 
 -- ---- room
@@ -58,7 +58,7 @@ TakesNoOpening None = Unit {0}
 TakesNoOpening (Some f) = is_opening f.body ≡ false
 
 -- such an entry adds no line, takes no opening, and takes and sends frames only at ends whose client the repository is
-pub record IsOwnEntry (m : Made) : Type 0 where
+pub record IsOwnEntry (m : Effect) : Type 0 where
   pub kind : IsOfJob m.kind
   pub lines : m.lines ≡ []
   pub opening : TakesNoOpening m.taken

@@ -17,7 +17,7 @@ ghost use Rattle.node_jobs.specs.Running.{HasReadByPhase};
 use crate::desk::Desk;
 use crate::feed::Feed;
 use crate::job::DropJob;
-use crate::known::Known;
+use crate::known::KnownLogs;
 use crate::place::{Clock, Place};
 use annex_base::NoMemory;
 use content_lock::LockTable;
@@ -74,7 +74,7 @@ pub(crate) fn act<K: Keeper>(
             input,
         ),
         None => {
-            let known = Known::read(alloc, settings, job.worker.key(), place.ids())?;
+            let known = KnownLogs::read(alloc, settings, job.worker.key(), place.ids())?;
             let out = advance(
                 &mut job.worker,
                 alloc,
@@ -98,7 +98,7 @@ fn advance<K: Keeper>(
     alloc: Global,
     place: &Place,
     clock: Clock,
-    known: &Known,
+    known: &KnownLogs,
     ends: &Ends,
     table: &mut LockTable,
     keeper: &mut K,

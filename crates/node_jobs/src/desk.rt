@@ -2,7 +2,7 @@
 ghost use Rattle.std.specs.Prelude.{◌≡◌, ◌*◌, length};
 ghost use Rattle.node_ends.specs.Ends.{end_at, name_of};
 
-use crate::known::Known;
+use crate::known::KnownLogs;
 use crate::place::{Clock, Place};
 use drop_proof::Need;
 use drop_worker::{Here, Standing, Time};
@@ -13,7 +13,7 @@ use node_ends::{EndId, Ends};
 pub(crate) struct Desk<'a> {
     pub place: &'a Place,
     pub clock: Clock,
-    pub known: &'a Known,
+    pub known: &'a KnownLogs,
     pub ends: &'a Ends,
     ghost count: { length ends.now ≡ length place.now.ids * 8 },
 }

@@ -2,7 +2,7 @@
 ghost use Rattle.std.specs.Prelude.{◌≡◌};
 ghost use Rattle.std.specs.Option.{option_copied};
 
-use crate::known::Known;
+use crate::known::KnownLogs;
 use drop_worker::Worker;
 use std::marker::Model;
 
@@ -10,7 +10,7 @@ use std::marker::Model;
 #[derive(Debug)]
 pub(crate) struct DropJob {
     pub worker: Worker,
-    pub known: Option<Known>,
+    pub known: Option<KnownLogs>,
 }
 
 impl Model for DropJob {
@@ -29,7 +29,7 @@ impl DropJob {
     }
 
     /// What it has read, if it is past its first step.
-    pub(crate) fn known(&self) -> Option<&Known>
+    pub(crate) fn known(&self) -> Option<&KnownLogs>
         ensures { option_copied result ≡ self.now.known }
     {
         self.known.as_ref()

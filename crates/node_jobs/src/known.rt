@@ -17,34 +17,34 @@ use trust_groups::Settings;
 
 /// The numbers of copies that must stay, and how each repository stands, in order of number.
 #[derive(Debug, Drop)]
-pub(crate) struct Known {
+pub(crate) struct KnownLogs {
     need: Need,
     standings: Vec<Standing>,
 }
 
-impl Model for Known {
-    ghost use Rattle.node_jobs.specs.Reads.{Known};
+impl Model for KnownLogs {
+    ghost use Rattle.node_jobs.specs.Reads.{KnownLogs};
 
-    ghost Value = { Known };
+    ghost Value = { KnownLogs };
 
     ghost view = { λ k. record { need = k.need; standings = k.standings.items } };
 }
 
-impl Known {
+impl KnownLogs {
     /// Reads these settings, for a job on a key, among these repositories.
     pub(crate) fn read(
         alloc: Global,
         settings: &Settings,
         key: &Key,
         ids: &[RepoId],
-    ) -> Result<Known, NoMemory>
+    ) -> Result<KnownLogs, NoMemory>
         ensures need { IfOk result (λ k. k.need ≡ need_in (settings_of settings.now)) }
         ensures standings { IfOk result (λ k. map standing_of k.standings ≡ standings_by (settings_of settings.now) key.now ids.now) }
     {
         let standings = standings(alloc, settings, key, ids)?;
         let n = settings.numcopies();
         let m = settings.mincopies();
-        Ok(Known {
+        Ok(KnownLogs {
             need: Need { n, m },
             standings,
         })

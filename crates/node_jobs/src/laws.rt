@@ -11,7 +11,7 @@ ghost use Rattle.node_model.specs.After.{state_after};
 ghost use Rattle.node_model.specs.Ends.{end_took, taken_at};
 ghost use Rattle.node_model.specs.Evidence as drops;
 ghost use Rattle.node_model.specs.Evidence.{standing_by};
-ghost use Rattle.node_model.specs.Look.{Look, Made, failing};
+ghost use Rattle.node_model.specs.Look.{Look, Effect, failing_call};
 ghost use Rattle.node_model.specs.SetUp.{SetUp};
 ghost use Rattle.node_model.specs.Slots.{job_of};
 ghost use Rattle.node_model.specs.State.{State};
@@ -51,20 +51,20 @@ pub fn nameless_are_asked()
 /// The step of a job that drops its own copy sends each frame where it has its place, at the ends after they took the frame that
 /// the step takes: it is what its end sends next; and it is a Close at an end that is open then, or the first at an end with room.
 pub fn local_drops_send_where_there_is_room()
-    ensures { (s : SetUp) (st : State) (k : Look) (jobs : Jobs) (m : Made) → AreWorks s st jobs → Each (IsDrop jobs.place) jobs.running → job_step s st k ≡ Some m
+    ensures { (s : SetUp) (st : State) (k : Look) (jobs : Jobs) (m : Effect) → AreWorks s st jobs → Each (IsDrop jobs.place) jobs.running → job_step s st k ≡ Some m
         → SendsWell (λ a. end_took (st.ends a) (taken_at a m.taken)) k.room m.sent }
 {}
 
 /// The entry that such a step makes is one of a job's: it adds no line, takes no opening, and takes and sends frames only at ends whose client the
 /// repository is.
 pub fn jobs_make_their_own_entries()
-    ensures { (s : SetUp) (st : State) (k : Look) (jobs : Jobs) (m : Made) → AreWorks s st jobs → Each (IsDrop jobs.place) jobs.running → job_step s st k ≡ Some m → IsOwnEntry m }
+    ensures { (s : SetUp) (st : State) (k : Look) (jobs : Jobs) (m : Effect) → AreWorks s st jobs → Each (IsDrop jobs.place) jobs.running → job_step s st k ≡ Some m → IsOwnEntry m }
 {}
 
 /// The step of the jobs fails of the call that the look has fail, exactly where that is one of the step's calls. Which calls these are doesn't depend on
 /// which fails, and they are made in the order of a store's calls (own).
 pub fn jobs_tell_the_failed_call()
-    ensures failed { (s : SetUp) (st : State) (k : Look) → failed_of (job_step s st k) ≡ failing k.fails (job_calls s st k) }
+    ensures failed { (s : SetUp) (st : State) (k : Look) → failed_of (job_step s st k) ≡ failing_call k.fails (job_calls s st k) }
     ensures same { (s : SetUp) (st : State) (k : Look) (fails : Option Call) → job_calls s st (record k { fails = fails }) ≡ job_calls s st k }
     ensures ordered { (s : SetUp) (st : State) (k : Look) → AreRising (job_calls s st k) }
 {

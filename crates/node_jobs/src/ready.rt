@@ -16,7 +16,7 @@ ghost use Rattle.node_jobs.specs.Running.{HasReadByPhase, place_reading};
 use crate::desk::Desk;
 use crate::feed::{Feed, bare_feed, heard};
 use crate::job::DropJob;
-use crate::known::Known;
+use crate::known::KnownLogs;
 use crate::place::{Clock, Place};
 use annex_base::NoMemory;
 use drop_worker::{Taken, Time, Worker, sends_to};
@@ -102,7 +102,7 @@ fn peers(
     alloc: Global,
     place: &Place,
     clock: Clock,
-    known: &Known,
+    known: &KnownLogs,
     ends: &Ends,
     time: Time,
 ) -> Result<Vec<u32>, NoMemory>

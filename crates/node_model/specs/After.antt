@@ -14,7 +14,7 @@ use Rattle.node_model.specs.SetUp.{SetUp}
 use Rattle.node_model.specs.Ends.{end_after, never, sent_at, taken_at}
 use Rattle.node_model.specs.Sessions.{new_session, session_after}
 use Rattle.node_model.specs.Jobs.{Drops, Fresh, Part, Phase, Work, works_after}
-use Rattle.node_model.specs.Owed.{owed_after}
+use Rattle.node_model.specs.OwedLines.{owed_after}
 use Rattle.node_model.specs.State.{State}
 use Rattle.annex_base.specs.Lists.{Member}
 

@@ -28,9 +28,9 @@ use Rattle.p2p_wire.specs.Messages.{order_of, text_of}
 use Rattle.node_model.specs.Ends.{EndName, end_takes, frames, may_take, server_end, takes_at}
 use Rattle.node_model.specs.Sessions.{Doing, Waits, Guards, Took, line_in}
 use Rattle.node_model.specs.Jobs.{Work, Gets, Drops, Puts, Fresh, Next, GetsWord, AsksTime, job_end, partner, side_of}
-use Rattle.node_model.specs.Owed.{Owed, due}
+use Rattle.node_model.specs.OwedLines.{OwedLine, due}
 use Rattle.node_model.specs.State.{State}
-use Rattle.node_model.specs.Look.{Look, Made}
+use Rattle.node_model.specs.Look.{Look, Effect}
 use Rattle.node_model.specs.SessionStep.{Here, Reply, bar_on, by_of, here, is_held, is_here, now_of, failure_line}
 use Rattle.node_model.specs.Knows.{enough_by, next_by, causes_by, proof_by}
 use Rattle.node_model.specs.JobStep.{Turn, bar_there, by_me, clock_of, end_with, farewells, is_there, key_of, me, turn_of}
@@ -156,7 +156,7 @@ abbrev pub SessionFound : Here → Doing → Option Message → Reply → Type 0
 SessionFound h doing asked x = IsSessionEntry h doing asked x.says x.kind
 
 -- the session took a frame that its end may take; or took none while it gives
-pub record TakesAt (s : SetUp) (st : State) (a : EndName) (asked : Option Message) (says : List FrameText) (m : Made) : Type 0 where
+pub record TakesAt (s : SetUp) (st : State) (a : EndName) (asked : Option Message) (says : List FrameText) (m : Effect) : Type 0 where
   pub f : FrameView
   pub taken_is : m.taken ≡ Some f
   pub of_end : takes_at a f ≡ true
@@ -164,14 +164,14 @@ pub record TakesAt (s : SetUp) (st : State) (a : EndName) (asked : Option Messag
   pub asked_is : asked ≡ line_in f.body
   pub sent_is : m.sent ≡ frames a (end_takes (st.ends a) f.epoch f.body) says
 
-pub record GivesAt (s : SetUp) (st : State) (a : EndName) (asked : Option Message) (says : List FrameText) (m : Made) : Type 0 where
+pub record GivesAt (s : SetUp) (st : State) (a : EndName) (asked : Option Message) (says : List FrameText) (m : Effect) : Type 0 where
   pub taken_is : m.taken ≡ None
   pub opened : (st.ends a).opened ≡ true
   pub asked_is : asked ≡ None
   pub sent_is : m.sent ≡ frames a (st.ends a) says
 
 -- a session of s made the entry, at an end where it is the server
-pub record BySession (s : SetUp) (st : State) (k : Look) (m : Made) : Type 0 where
+pub record BySession (s : SetUp) (st : State) (k : Look) (m : Effect) : Type 0 where
   pub peer : ℕ
   pub slot : ℕ
   pub serves : Member (peer, slot) (served_connections s)
@@ -183,7 +183,7 @@ pub record BySession (s : SetUp) (st : State) (k : Look) (m : Made) : Type 0 whe
 -- ---- jobs
 
 -- its first step found the row free, at its own repository
-pub record OwnShare (t : Turn) (hold end : ℕ) (by : By) (key : List ℕ) (m : Made) : Type 0 where
+pub record OwnShare (t : Turn) (hold end : ℕ) (by : By) (key : List ℕ) (m : Effect) : Type 0 where
   pub part_is : t.w.part ≡ Drops
   pub first : t.w.phase ≡ Fresh
   pub side : side_of t.w ≡ Remote
@@ -197,7 +197,7 @@ pub record OwnShare (t : Turn) (hold end : ℕ) (by : By) (key : List ℕ) (m : 
   pub takes_none : m.taken ≡ None
   pub sends_none : m.sent ≡ []
 
-pub record PutsBar (t : Turn) (j : ℕ) (need : Need) (key : List ℕ) (m : Made) : Type 0 where
+pub record PutsBar (t : Turn) (j : ℕ) (need : Need) (key : List ℕ) (m : Effect) : Type 0 where
   pub part_is : t.w.part ≡ Drops
   pub first : t.w.phase ≡ Fresh
   pub side : side_of t.w ≡ Local
@@ -211,7 +211,7 @@ pub record PutsBar (t : Turn) (j : ℕ) (need : Need) (key : List ℕ) (m : Made
   pub sends_none : m.sent ≡ []
 
 -- a local drop knows enough, in time
-pub record RemovesContent (t : Turn) (by : By) (key : List ℕ) (m : Made) : Type 0 where
+pub record RemovesContent (t : Turn) (by : By) (key : List ℕ) (m : Effect) : Type 0 where
   pub part_is : t.w.part ≡ Drops
   pub next : t.w.phase ≡ Next
   pub side : side_of t.w ≡ Local
@@ -223,13 +223,13 @@ pub record RemovesContent (t : Turn) (by : By) (key : List ℕ) (m : Made) : Typ
   pub sends_none : m.sent ≡ []
 
 -- without a lock there is no deadline; with one it comes of the target's timestamp, while there is time
-abbrev pub HasDeadline : Turn → Made → Option ℕ → Type 0
+abbrev pub HasDeadline : Turn → Effect → Option ℕ → Type 0
 HasDeadline t m None = first_end t ≡ None
 HasDeadline t m (Some deadline) =
     (f : FrameView) × (m.taken ≡ Some f) × (t.w.phase ≡ AsksTime) × ((n first : ℕ) × (line_in f.body ≡ Some (Timestamp n))
     × (first_end t ≡ Some first) × (nat_lt (clock_of t) first ≡ true) × (deadline ≡ n + (first - clock_of t) / 1000))
 
-pub record GivesOrder (t : Turn) (j peer : ℕ) (deadline : Option ℕ) (need : Need) (key : List ℕ) (m : Made) : Type 0 where
+pub record GivesOrder (t : Turn) (j peer : ℕ) (deadline : Option ℕ) (need : Need) (key : List ℕ) (m : Effect) : Type 0 where
   pub part_is : t.w.part ≡ Drops
   pub side : side_of t.w ≡ Remote
   pub number_is : j ≡ t.w.number
@@ -240,7 +240,7 @@ pub record GivesOrder (t : Turn) (j peer : ℕ) (deadline : Option ℕ) (need : 
   pub sent_is : m.sent ≡ frames (job_end t.w peer) (end_with t peer) (Line (text_of (order_of deadline key)) ∷ [])
 
 -- VALID, and the part matches its key
-pub record GainsPart (t : Turn) (by : By) (size : ℕ) (key : List ℕ) (m : Made) : Type 0 where
+pub record GainsPart (t : Turn) (by : By) (size : ℕ) (key : List ℕ) (m : Effect) : Type 0 where
   pub peer : ℕ
   pub start : ℕ
   pub phase_is : t.w.phase ≡ GetsWord peer start size
@@ -296,7 +296,7 @@ pub record HasOutcome (t : Turn) (taken : Option FrameView) (outcome : Outcome) 
   pub takes_none : taken ≡ None
   pub outcome_is : outcome ≡ outcome_of t t.w.phase
 
-pub record EndsJob (t : Turn) (j : ℕ) (outcome : Outcome) (m : Made) : Type 0 where
+pub record EndsJob (t : Turn) (j : ℕ) (outcome : Outcome) (m : Effect) : Type 0 where
   pub number_is : j ≡ t.w.number
   pub why : FindsOutcome t m.taken outcome ⊎ HasOutcome t m.taken outcome
   pub sent_is : m.sent ≡ farewells t (is_lost_ordered outcome)
@@ -324,7 +324,7 @@ IsAsked body = Unit {0}
 abbrev pub AsksOne : Turn → List FrameView → Type 0
 AsksOne t sent = (sent ≡ []) ⊎ ((peer : ℕ) × (body : FrameText) × (sent ≡ frames (job_end t.w peer) (end_with t peer) (body ∷ [])) × IsAsked body)
 
-abbrev pub IsJobEntry : Turn → Made → EntryKind → Type 0
+abbrev pub IsJobEntry : Turn → Effect → EntryKind → Type 0
 IsJobEntry t m (Share hold end by key) = OwnShare t hold end by key m
 IsJobEntry t m (Bar j need key) = PutsBar t j need key m
 IsJobEntry t m (Gone by key) = RemovesContent t by key m
@@ -336,11 +336,11 @@ IsJobEntry t m (Fault call by) = (by ≡ by_me t) × (m.sent ≡ [])
 IsJobEntry t m kind = ⊥
 
 -- what a job found that makes the entry, by this frame or by none
-abbrev pub JobFound : Turn → Option FrameView → Made → Type 0
+abbrev pub JobFound : Turn → Option FrameView → Effect → Type 0
 JobFound t taken m = (m.taken ≡ taken) × IsJobEntry t m m.kind
 
 -- a job takes a frame of the peer on whose open connection it awaits one
-pub record JobTakes (t : Turn) (m : Made) : Type 0 where
+pub record JobTakes (t : Turn) (m : Effect) : Type 0 where
   pub f : FrameView
   pub taken_is : m.taken ≡ Some f
   pub peer : ℕ
@@ -350,7 +350,7 @@ pub record JobTakes (t : Turn) (m : Made) : Type 0 where
   pub of_end : takes_at (job_end t.w peer) f ≡ true
   pub may : may_take (end_with t peer) f ≡ true
 
-pub record ByJob (s : SetUp) (st : State) (k : Look) (m : Made) : Type 0 where
+pub record ByJob (s : SetUp) (st : State) (k : Look) (m : Effect) : Type 0 where
   pub w : Work
   pub slot : ℕ
   pub runs : find (λ w. w.slot == slot) st.works ≡ Some w
@@ -359,13 +359,13 @@ pub record ByJob (s : SetUp) (st : State) (k : Look) (m : Made) : Type 0 where
 
 -- ---- the line that is owed first
 
-pub record ByOwed (s : SetUp) (st : State) (k : Look) (m : Made) : Type 0 where
-  pub first : Owed
-  pub rest : List Owed
+pub record ByOwed (s : SetUp) (st : State) (k : Look) (m : Effect) : Type 0 where
+  pub first : OwedLine
+  pub rest : List OwedLine
   pub owes_it : st.owed ≡ first ∷ rest
   pub writes : (m ≡ record { kind = Log (Location first.key); taken = None; sent = []; lines = due s.repos st.lines (st.wall k.time) first })
       ⊎ (m ≡ record { kind = Fault PutFile first.by; taken = None; sent = []; lines = [] })
 
 -- what the step found
-abbrev pub StepFound : SetUp → State → Look → Made → Type 0
+abbrev pub StepFound : SetUp → State → Look → Effect → Type 0
 StepFound s st k m = ByOwed s st k m ⊎ (BySession s st k m ⊎ ByJob s st k m)

@@ -24,7 +24,7 @@ use Rattle.p2p_wire.specs.Messages.{text_of}
 use Rattle.node_model.specs.Ends.{End, EndName, frames}
 use Rattle.node_model.specs.Jobs.{Heard, Held, Work, heard_of, job_end}
 use Rattle.node_model.specs.State.{State}
-use Rattle.node_model.specs.Look.{Look, Made, failing, unless}
+use Rattle.node_model.specs.Look.{Look, Effect, failing_call, unless}
 use Rattle.node_model.specs.Calls.{to_release}
 
 -- what the step of a job reads
@@ -90,26 +90,26 @@ end_with t peer = t.ends (job_end t.w peer)
 
 -- ---- what a step makes
 
-abbrev pub sends_to : Turn → EntryKind → Option FrameView → ℕ → List FrameText → Made
+abbrev pub sends_to : Turn → EntryKind → Option FrameView → ℕ → List FrameText → Effect
 sends_to t kind taken peer bodies = record { kind = kind; taken = taken; sent = frames (job_end t.w peer) (end_with t peer) bodies; lines = [] }
 
-abbrev pub says_to : Turn → EntryKind → Option FrameView → ℕ → Message → Made
+abbrev pub says_to : Turn → EntryKind → Option FrameView → ℕ → Message → Effect
 says_to t kind taken peer m = sends_to t kind taken peer (Line (text_of m) ∷ [])
 
-abbrev pub quietly : EntryKind → Option FrameView → Made
+abbrev pub quietly : EntryKind → Option FrameView → Effect
 quietly kind taken = record { kind = kind; taken = taken; sent = []; lines = [] }
 
 -- a store call of the job fails, or else this is made
-abbrev pub attempts : Turn → List Call → Option FrameView → Made → Made
-attempts t cs taken made = unless (failing t.look.fails cs) (λ call. quietly (Fault call (by_me t)) taken) made
+abbrev pub attempts : Turn → List Call → Option FrameView → Effect → Effect
+attempts t cs taken made = unless (failing_call t.look.fails cs) (λ call. quietly (Fault call (by_me t)) taken) made
 
 -- a frame that is heard, and answered nothing
-abbrev pub hears : Turn → FrameView → Made
+abbrev pub hears : Turn → FrameView → Effect
 hears t f = quietly (talk t) (Some f)
 
 -- a message that isn't permitted here is handled as Close, and closes the connection
-abbrev pub wrong : Turn → FrameView → ℕ → Made
-wrong t f peer = sends_to t (talk t) (Some f) peer (Closing ∷ [])
+abbrev pub wrong_message : Turn → FrameView → ℕ → Effect
+wrong_message t f peer = sends_to t (talk t) (Some f) peer (Closing ∷ [])
 
 -- ---- the end
 
@@ -140,7 +140,7 @@ farewells t lost =
     flat_map (λ peer. frames (job_end t.w peer) (end_with t peer) (farewell t lost peer (end_with t peer).opened)) (others_of t)
 
 -- the job ends so, by a step that may take a frame
-abbrev pub ends : Turn → Option FrameView → Outcome → Made
+abbrev pub ends : Turn → Option FrameView → Outcome → Effect
 ends t taken outcome =
     attempts t (to_release (owns_share t && not (is_lost_ordered outcome))) taken
     (record { kind = ends_job t.w.number outcome; taken = taken; sent = farewells t (is_lost_ordered outcome); lines = [] })

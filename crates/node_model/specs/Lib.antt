@@ -8,7 +8,7 @@ pub mod SetUp
 pub mod Ends
 pub mod Sessions
 pub mod Jobs
-pub mod Owed
+pub mod OwedLines
 pub mod State
 pub mod After
 pub mod Look

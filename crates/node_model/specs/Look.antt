@@ -25,27 +25,27 @@ pub record Look : Type 0 where
   pub words : ℕ → Option Word  -- at a job's end: the words beside what each repository answered it
 
 -- the entry, but for its time, its count and its repository
-pub record Made : Type 0 where
+pub record Effect : Type 0 where
   pub kind : EntryKind
   pub taken : Option FrameView
   pub sent : List FrameView
   pub lines : List (List ℕ)
 
-abbrev pub entry_of : ℕ → Look → Made → Entry
+abbrev pub entry_of : ℕ → Look → Effect → Entry
 entry_of r k m = record { time = k.time; count = k.count; repo = Some r; kind = m.kind; taken = m.taken; sent = m.sent; lines = m.lines }
 
 -- the frame that waits at an end that stands so
-abbrev pub waiting : End → Look → EndName → Option FrameView
-waiting c k a = find (λ f. takes_at a f && may_take c f) k.at_hand
+abbrev pub waiting_frame : End → Look → EndName → Option FrameView
+waiting_frame c k a = find (λ f. takes_at a f && may_take c f) k.at_hand
 
 abbrev pub first_some : {X Y : Type 0} → (X → Option Y) → List X → Option Y
 first_some f [] = None
 first_some f (x ∷ xs) = first_of (f x) (first_some f xs)
 
 -- the one of these calls that fails
-abbrev pub failing : Option Call → List Call → Option Call
-failing None cs = None
-failing (Some c) cs = if list_any (same_call c) cs then Some c else None
+abbrev pub failing_call : Option Call → List Call → Option Call
+failing_call None cs = None
+failing_call (Some c) cs = if list_any (same_call c) cs then Some c else None
 
 -- what is made where a call fails, and else
 abbrev pub unless : {X : Type 0} → Option Call → (Call → X) → X → X

@@ -22,7 +22,7 @@ use Rattle.p2p_wire.specs.Messages.{message_of, text_of}
 use Rattle.node_model.specs.Ends.{EndName, End, end_takes, frames, server_end}
 use Rattle.node_model.specs.Sessions.{Doing, Waits, Guards, Gives, Gave, Wants, Takes, Took, Session, is_filling, reaches}
 use Rattle.node_model.specs.State.{State}
-use Rattle.node_model.specs.Look.{Look, Made, failing, first_some, unless, waiting}
+use Rattle.node_model.specs.Look.{Look, Effect, failing_call, first_some, unless, waiting_frame}
 use Rattle.node_model.specs.Calls.{to_commit, to_lock, to_offer, to_remove}
 use Rattle.node_model.specs.Clocks.{hold_time}
 
@@ -149,7 +149,7 @@ unexpected_reply h = record { kind = close_kind h; says = Line (text_of (Error (
 
 -- one of these calls fails, and this is said; else the reply stands
 abbrev pub tries : Here → List Call → List FrameText → Reply → Reply
-tries h cs says good = unless (failing h.fails cs) (λ call. record { kind = Fault call (by_of h); says = says }) good
+tries h cs says good = unless (failing_call h.fails cs) (λ call. record { kind = Fault call (by_of h); says = says }) good
 
 abbrev pub failure_line : List FrameText
 failure_line = Line (text_of Failure) ∷ []
@@ -234,23 +234,23 @@ gives_next h doing = None
 
 -- ---- the step
 
-abbrev pub reply_made : EndName → End → Option FrameView → Reply → Made
+abbrev pub reply_made : EndName → End → Option FrameView → Reply → Effect
 reply_made a c taken x = record { kind = x.kind; taken = taken; sent = frames a c x.says; lines = [] }
 
-abbrev pub gives_made : EndName → End → Option Reply → Option Made
+abbrev pub gives_made : EndName → End → Option Reply → Option Effect
 gives_made a c None = None
 gives_made a c (Some x) = Some (reply_made a c None x)
 
 -- a frame that waits comes before the next piece; a closed end gives none
-abbrev pub session_makes : Here → End → Session → Option FrameView → Option Made
+abbrev pub session_makes : Here → End → Session → Option FrameView → Option Effect
 session_makes h c was (Some f) = Some (reply_made h.at (end_takes c f.epoch f.body) (Some f) (on_frame h was f.body))
 session_makes h c was None = if c.opened then gives_made h.at c (gives_next h was.doing) else None
 
-abbrev pub session_at : SetUp → State → Look → EndName → Option Made
+abbrev pub session_at : SetUp → State → Look → EndName → Option Effect
 session_at s st k a =
-    if k.room a then session_makes (here s st k a) (st.ends a) (st.sessions a) (waiting (st.ends a) k a)
+    if k.room a then session_makes (here s st k a) (st.ends a) (st.sessions a) (waiting_frame (st.ends a) k a)
     else None
 
 -- the first session, in order of client and slot, that has a step
-abbrev pub session_step : SetUp → State → Look → Option Made
+abbrev pub session_step : SetUp → State → Look → Option Effect
 session_step s st k = first_some (λ c. session_at s st k (server_end c.0 c.1)) (served_connections s)

@@ -5,7 +5,7 @@ use Rattle.run_data.specs.declared.row.Hold.{Hold}
 use Rattle.node_model.specs.Ends.{End, EndName}
 use Rattle.node_model.specs.Sessions.{Session}
 use Rattle.node_model.specs.Jobs.{Work}
-use Rattle.node_model.specs.Owed.{Owed}
+use Rattle.node_model.specs.OwedLines.{OwedLine}
 
 pub record State : Type 0 where
   pub clock : ℕ → ℕ  -- at a time, as it was set last
@@ -19,7 +19,7 @@ pub record State : Type 0 where
   pub ends : EndName → End
   pub sessions : EndName → Session
   pub works : List Work
-  pub owed : List Owed
+  pub owed : List OwedLine
   pub lines : List ℕ → List (List ℕ)  -- those that the file of a path has
   pub logs : Settings  -- what the logs say, and what they said as the drop of a job read them
   pub read : ℕ → Settings

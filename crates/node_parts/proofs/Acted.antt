@@ -26,7 +26,7 @@ use Rattle.node_model.specs.Clocks.{ClockSet}
 use Rattle.node_model.specs.Ends.{End, EndName, end_sends, end_took, sent_at, taken_at}
 use Rattle.node_model.specs.Evidence as drops
 use Rattle.node_model.specs.Evidence.{standing_by}
-use Rattle.node_model.specs.Look.{Look, Made, entry_of, first_of}
+use Rattle.node_model.specs.Look.{Look, Effect, entry_of, first_of}
 use Rattle.node_model.specs.Rows.{bar_after, holds_after}
 use Rattle.node_model.specs.Sessions.{new_session, session_after}
 use Rattle.node_model.specs.SessionStep.{session_step}
@@ -74,11 +74,11 @@ abbrev pub NamelessAsked : Type 0
 NamelessAsked = (lines : Lines) (key : List ℕ) → standing_by (settings lines) key [] ≡ drops.Asked
 
 abbrev pub RoomThere : Type 0
-RoomThere = (s : SetUp) (st : State) (k : Look) (jobs : Jobs) (m : Made) → AreWorks s st jobs → Each (IsDrop jobs.place) jobs.running → job_step s st k ≡ Some m
+RoomThere = (s : SetUp) (st : State) (k : Look) (jobs : Jobs) (m : Effect) → AreWorks s st jobs → Each (IsDrop jobs.place) jobs.running → job_step s st k ≡ Some m
     → SendsWell (λ a. end_took (st.ends a) (taken_at a m.taken)) k.room m.sent
 
 abbrev pub OwnEntries : Type 0
-OwnEntries = (s : SetUp) (st : State) (k : Look) (jobs : Jobs) (m : Made) → AreWorks s st jobs → Each (IsDrop jobs.place) jobs.running → job_step s st k ≡ Some m → IsOwnEntry m
+OwnEntries = (s : SetUp) (st : State) (k : Look) (jobs : Jobs) (m : Effect) → AreWorks s st jobs → Each (IsDrop jobs.place) jobs.running → job_step s st k ≡ Some m → IsOwnEntry m
 
 -- ---- the kinds of its entries
 
@@ -242,7 +242,7 @@ module _ (asked : NamelessAsked) (room_there : RoomThere) (own_entries : OwnEntr
     same = λ i. record { kind = acted.kind i; taken = acted.taken i; sent = sent i; lines = [] }
 
     made : job_step s st k ≡ Some (made_of d)
-    made = steps.made ∙ ap (λ (m : Made). Some m) (sym same)
+    made = steps.made ∙ ap (λ (m : Effect). Some m) (sym same)
 
     abbrev e : Entry
     e = entry_of s.number k (made_of d)
@@ -263,11 +263,11 @@ module _ (asked : NamelessAsked) (room_there : RoomThere) (own_entries : OwnEntr
     }
 
     works : AreWorks s (state_after s st e) now.jobs
-    works = steps.works (state_after s st e) (subst (λ (m : Made). Follows s st (entry_of s.number k m) (state_after s st e)) same follows)
+    works = steps.works (state_after s st e) (subst (λ (m : Effect). Follows s st (entry_of s.number k m) (state_after s st e)) same follows)
 
     -- nothing comes or goes at a server's end
     clients : (b : EndName) → b.client ≡ false → (taken_at b d.taken ≡ None) × (sent_at b d.sent ≡ [])
-    clients b server = subst (λ (m : Made). (taken_at b m.taken ≡ None) × (sent_at b m.sent ≡ [])) (sym same) (own.clients b server)
+    clients b server = subst (λ (m : Effect). (taken_at b m.taken ≡ None) × (sent_at b m.sent ≡ [])) (sym same) (own.clients b server)
 
     closed : (b : EndName) → b.client ≡ false → ((state_after s st e).ends b).opened ≡ false → (state_after s st e).sessions b ≡ new_session
     closed b server shut =
@@ -435,11 +435,11 @@ sound_acted was now sound count paired place still holds fills own = record {
 -- ---- whether there is a step
 
 module _ (p : PartsView) (c : Contents) (clock : ClockSet) (time number : ℕ) (s : SetUp) (st : State) (k : Look) (sees : SeesParts p c clock time number s st k) where
-  first_some : (o other : Option Made) → is_some o ≡ true → is_some (first_of o other) ≡ true
+  first_some : (o other : Option Effect) → is_some o ≡ true → is_some (first_of o other) ≡ true
   first_some None other is = absurd (true≢false (sym is))
   first_some (Some m) other is = refl
 
-  second_some : (o other : Option Made) → is_some o ≡ false → is_some (first_of o other) ≡ is_some other
+  second_some : (o other : Option Effect) → is_some o ≡ false → is_some (first_of o other) ≡ is_some other
   second_some None other is = refl
   second_some (Some m) other is = absurd (true≢false is)
 

@@ -10,7 +10,7 @@ use Rattle.run_data.specs.declared.entry.FrameView.{FrameView}
 use Rattle.object_store.specs.Stores.{Contents, Parts as StoredParts}
 use Rattle.link_ring.specs.Ends.{EndView, next_frame}
 use Rattle.node_model.specs.Ends.{EndName, may_take}
-use Rattle.node_model.specs.Look.{Made}
+use Rattle.node_model.specs.Look.{Effect}
 use Rattle.node_model.specs.Rows.{same_owner}
 use Rattle.node_ends.specs.Ends.{end_at, frame_at, hand_at, if_may, link_at, wait_at}
 use Rattle.p2p_server.specs.declared.session.Session.{Session}
@@ -88,10 +88,10 @@ made_same : (links : List EndView) (v : Served) (d : Done) → option_map made_o
 made_same links v d same = same_Some (made_of d) (made_by links v) same
 
 taken_same : (links : List EndView) (v : Served) (d : Done) → option_map made_of (Some d) ≡ option_map (made_by links) (Some v) → d.taken ≡ taken_by links v
-taken_same links v d same = ap (λ (m : Made). m.taken) (made_same links v d same)
+taken_same links v d same = ap (λ (m : Effect). m.taken) (made_same links v d same)
 
 pub kind_same : (links : List EndView) (v : Served) (d : Done) → option_map made_of (Some d) ≡ option_map (made_by links) (Some v) → d.kind ≡ v.kind
-kind_same links v d same = ap (λ (m : Made). m.kind) (made_same links v d same)
+kind_same links v d same = ap (λ (m : Effect). m.kind) (made_same links v d same)
 
 module _ (p : PartsView) where
   -- a look finds the part that the sessions ask for

@@ -18,7 +18,7 @@ use Rattle.node_model.specs.After.{state_after}
 use Rattle.node_model.specs.Clocks.{ClockSet, runs_on}
 use Rattle.node_model.specs.Ends.{End, EndName, end_sends, end_took, sent_at, taken_at}
 use Rattle.node_model.specs.Jobs.{Work}
-use Rattle.node_model.specs.Look.{Look, Made, entry_of}
+use Rattle.node_model.specs.Look.{Look, Effect, entry_of}
 use Rattle.node_model.specs.Rows.{bar_after, content_after, holds_after, present_after}
 use Rattle.node_model.specs.Sessions.{new_session}
 use Rattle.node_model.specs.SessionStep.{is_filled, session_step}
@@ -63,7 +63,7 @@ abbrev pub JobsStay : Type 0
 JobsStay = (s : SetUp) (st : State) (e : Entry) (jobs : Jobs) (rows : Rows) → AreWorks s st jobs → JobsOwn jobs rows → job_of e.kind ≡ None → ((clock : ℕ) → e.kind ≡ kinds.Crash clock → ⊥) → AreWorks s (state_after s st e) jobs
 
 abbrev pub OwnEntries : Type 0
-OwnEntries = (s : SetUp) (st : State) (k : Look) (m : Made) → session_step s st k ≡ Some m → IsOfSession m.kind × (m.lines ≡ [])
+OwnEntries = (s : SetUp) (st : State) (k : Look) (m : Effect) → session_step s st k ≡ Some m → IsOfSession m.kind × (m.lines ≡ [])
 
 -- ---- what the state is
 
@@ -118,10 +118,10 @@ module _ (was now : PartsView) (v : Served) (d : Done) (contents : Option Conten
     (sound : AreSound was) (are : AreParts s st was) (jobs : now.jobs ≡ was.jobs) (serves : ServesAt was.links v) (same : made_of d ≡ made_by was.links v)
     (after : AreAfterStep v.kind was.table now.table) (ends : AreAfter was.links now.links d.taken d.sent) (steps : StepsSo was.links (Some v) now.sessions now.table contents s st k) where
   kind_is : d.kind ≡ v.kind
-  kind_is = ap (λ (m : Made). m.kind) same
+  kind_is = ap (λ (m : Effect). m.kind) same
 
   step_is : session_step s st k ≡ Some (made_of d)
-  step_is = steps.made ∙ ap (λ (m : Made). Some m) (sym same)
+  step_is = steps.made ∙ ap (λ (m : Effect). Some m) (sym same)
 
   pub parts_served : EndsGo → ClosedLaw → JobsStay → OwnEntries → AreParts s (state_after s st (entry_of s.number k (made_of d))) now
   parts_served go shuts stay own =
@@ -132,8 +132,8 @@ module _ (was now : PartsView) (v : Served) (d : Done) (contents : Option Conten
         bars = λ key. after.bars key ∙ (λ i. bar_after key (are.bars key i) (sym kind_is i));
         ends = go was.links now.links s st (entry_of s.number k (made_of d)) are.ends ends;
         each = λ a. ap (λ (c : End). fold (λ (x : End) (f : FrameView). end_sends x f.body) (end_took c (taken_at a d.taken)) (sent_at a d.sent)) (are.each a) ∙ sym (ends.ends a);
-        sessions = subst (λ (m : Made). AreSessions s (sessions_after st (Some m)) now.sessions) (sym same) steps.next;
-        closed = λ a server shut. subst (λ (m : Made). (ends_after st (Some m) a).opened ≡ false → sessions_after st (Some m) a ≡ new_session) (sym same) (shuts was.links v st serves (are.each (end_by v)) are.closed a server) shut;
+        sessions = subst (λ (m : Effect). AreSessions s (sessions_after st (Some m)) now.sessions) (sym same) steps.next;
+        closed = λ a server shut. subst (λ (m : Effect). (ends_after st (Some m) a).opened ≡ false → sessions_after st (Some m) a ≡ new_session) (sym same) (shuts was.links v st serves (are.each (end_by v)) are.closed a server) shut;
         works = subst (AreWorks s (state_after s st (entry_of s.number k (made_of d)))) (sym jobs)
             (stay s st (entry_of s.number k (made_of d)) was.jobs was.table are.works sound.acting (no_job d.kind is_own) (λ clock e. no_crash d.kind is_own clock e));
         logs = refl;
@@ -167,7 +167,7 @@ then_some : EndsGo → ClosedLaw → JobsStay → OwnEntries → (was now : Part
     → AreSound was → now.jobs ≡ was.jobs → ServesAt was.links v → made_of d ≡ made_by was.links v → AreAfterStep v.kind was.table now.table → AreAfter was.links now.links d.taken d.sent
     → Then was now contents (Some v) (Some d)
 then_some go shuts stay own was now contents v d sound jobs serves same after ends s st k are steps = record {
-  made = steps.made ∙ ap (λ (m : Made). Some m) (sym same);
+  made = steps.made ∙ ap (λ (m : Effect). Some m) (sym same);
   parts = parts_served was now v d contents s st k sound are jobs serves same after ends steps go shuts stay own;
   stored = stored_served was now v d contents s st k sound are jobs serves same after ends steps;
 }

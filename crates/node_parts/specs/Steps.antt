@@ -13,7 +13,7 @@ use Rattle.node_ends.specs.Ends.{SeesEnds}
 use Rattle.node_ends.specs.Going.{AreAfter}
 use Rattle.node_model.specs.After.{state_after}
 use Rattle.node_model.specs.Clocks.{ClockSet, runs_on}
-use Rattle.node_model.specs.Look.{Look, Made, entry_of}
+use Rattle.node_model.specs.Look.{Look, Effect, entry_of}
 use Rattle.node_model.specs.Rows.{bar_after, holds_after, same_owner}
 use Rattle.node_model.specs.SetUp.{SetUp}
 use Rattle.node_model.specs.SessionStep.{session_step}
@@ -30,7 +30,7 @@ use Rattle.node_parts.specs.Parts.{AreParts, HasContents, PartsView}
 
 -- ---- what is made
 
-abbrev pub made_of : Done → Made
+abbrev pub made_of : Done → Effect
 made_of d = record { kind = d.kind; taken = d.taken; sent = d.sent; lines = [] }
 
 -- the store call that failed
@@ -83,7 +83,7 @@ state_then s st k None = st
 state_then s st k (Some d) = state_after s st (entry_of s.number k (made_of d))
 
 -- this is the step that the definitions have, and the parts and the contents are those of the state after it
-pub record Steps (step : SetUp → State → Look → Option Made) (now : PartsView) (contents : Option Contents) (s : SetUp) (st : State) (k : Look) (o : Option Done) : Type 0 where
+pub record Steps (step : SetUp → State → Look → Option Effect) (now : PartsView) (contents : Option Contents) (s : SetUp) (st : State) (k : Look) (o : Option Done) : Type 0 where
   pub made : step s st k ≡ option_map made_of o
   pub parts : AreParts s (state_then s st k o) now
   pub stored : ForSome contents (λ c. HasContents c (state_then s st k o))

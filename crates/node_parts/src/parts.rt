@@ -15,7 +15,7 @@ ghost use Rattle.node_model.specs.State.{State};
 ghost use Rattle.content_lock.specs.CallsMade.{MakesCalls, fewer};
 ghost use Rattle.node_ends.specs.Joined.{AreCarried, AreJoined, StayPaired};
 ghost use Rattle.node_sessions.specs.Calls.{session_calls};
-ghost use Rattle.node_sessions.specs.Sessions.{FedAll, IsSetUp};
+ghost use Rattle.node_sessions.specs.Sessions.{AreAllFed, IsSetUp};
 ghost use Rattle.node_jobs.specs.Acting.{with_job};
 ghost use Rattle.node_parts.specs.Kinds.{IsQuiet};
 ghost use Rattle.node_parts.specs.Parts.{AreParts};
@@ -81,7 +81,7 @@ impl Parts {
         ensures links { IfOk result (λ p. p.links ≡ replicate (length ids * 8) fresh) }
         ensures jobs { IfOk result (λ p. p.jobs ≡ record { place = record { number = number; ids = ids }; running = []; begun = 0 }) }
         ensures parts { IfOk result (λ p. (s : SetUp) → IsSetUp s id version locks number (length ids) → map (λ (repo : RepoView). repo.id) s.repos ≡ ids → AreParts s (first_state s) p) }
-        ensures fed { IfOk result (λ p. (q : StoredParts) → FedAll q p.sessions) }
+        ensures fed { IfOk result (λ p. (q : StoredParts) → AreAllFed q p.sessions) }
     {
         // A law, for the proof.
         ends_begin_closed();
@@ -169,7 +169,7 @@ impl Parts {
         // Over a store that tells: of each state that these and the store are, at each look that finds the part that is asked for,
         // this is the step of its sessions; and there is such a part.
         ensures step { IfOk result (λ o. ForSome (K.contents keeper.old) (λ c. Serves self.old self.new c (K.parts keeper.old) (K.contents keeper.new) moment.clock moment.time moment.number o)) }
-        ensures asked { IfOk result (λ o. ForSome (K.parts keeper.old) (λ q. FedAll q self.old.sessions → ForSome o (λ d. HasPart (Some q) self.old d.taken))) }
+        ensures asked { IfOk result (λ o. ForSome (K.parts keeper.old) (λ q. AreAllFed q self.old.sessions → ForSome o (λ d. HasPart (Some q) self.old d.taken))) }
 
         // At the same looks it makes the calls of its store that the state's own step makes; where one was to fail, it tells that call.
         ensures calls { IfOk result (λ o. ForSome (K.contents keeper.old) (λ c. WhereServed self.old c (K.parts keeper.old) moment.clock moment.time moment.number o (λ s st k. MakesCalls (session_calls s st k) (failed_by o) (K.failing keeper.old) (K.failing keeper.new)))) }
@@ -179,7 +179,7 @@ impl Parts {
         ensures leaves { IfOk result (LeavesSo moment.number self.old self.new) }
         ensures posts { IfOk result (λ o. ForSome o (λ d. PostsPieces (stamp_of moment self.old.jobs.place.number) d.kind self.old (K.contents keeper.old) self.new.links d.taken d.sent)) }
         ensures kind { IfOk result (λ o. ForSome o (λ d. IsQuiet d.kind)) }
-        ensures fed { ForSome (K.parts keeper.old) (λ q. FedAll q self.old.sessions → ForSome (K.parts keeper.new) (λ q'. FedAll q' self.new.sessions)) }
+        ensures fed { ForSome (K.parts keeper.old) (λ q. AreAllFed q self.old.sessions → ForSome (K.parts keeper.new) (λ q'. AreAllFed q' self.new.sessions)) }
         ensures told_contents { is_some (K.parts keeper.old) ≡ true → is_some (K.contents keeper.new) ≡ is_some (K.contents keeper.old) }
         ensures told_parts { is_some (K.parts keeper.new) ≡ is_some (K.parts keeper.old) }
         ensures small { AreSmallParts (K.parts keeper.old) → AreSmallParts (K.parts keeper.new) }

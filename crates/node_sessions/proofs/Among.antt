@@ -20,7 +20,7 @@ use Rattle.node_sessions.specs.declared.served.Served.{Served}
 use Rattle.node_sessions.specs.Moments.{ServesAmong}
 use Rattle.node_sessions.specs.Pieces.{PieceBy}
 use Rattle.node_sessions.specs.Serving.{JudgedBy, Sees, StepsSo, server_in, end_by, taken_by}
-use Rattle.node_sessions.specs.Sessions.{AreFilled, FedAll, HaveEnds, LeavesPartsOf, OwnAll, end_of, connection_of}
+use Rattle.node_sessions.specs.Sessions.{AreFilled, AreAllFed, HaveEnds, LeavesPartsOf, OwnAll, end_of, connection_of}
 use Rattle.node_sessions.specs.Stored.{bytes_at, contents_left, parts_after_taken, parts_left}
 use Rattle.node_sessions.proofs.Listing.{Every-set, map_set}
 use Rattle.node_sessions.proofs.Pieces.{piece_by}
@@ -73,9 +73,9 @@ among_left_parts links clock number at xs xs' rows rows' contents contents' part
     ∙ sym (ap (λ (o : Option Session). option_map_or (λ (x : Session). parts_after_taken (session_of x).doing (taken_by links v) (bytes_at links (end_by v)) v.kind parts) o parts) (server_is xs at a.was v a.here own.apart a.serves.at))
 
 pub among_fed : FedStays → (links : List EndView) (clock number at : ℕ) (xs xs' : List Session) (rows rows' : Rows) (contents contents' : Option Contents) (parts parts' : Option Parts) (records records' : Option (List HoldRecord)) (faults faults' : ℕ) (v : Served)
-    → ServesAmong links clock number at xs xs' rows rows' contents contents' parts parts' records records' faults faults' v → OwnAll rows xs → ForSome parts (λ p. FedAll p xs → ForSome parts' (λ p'. FedAll p' xs'))
+    → ServesAmong links clock number at xs xs' rows rows' contents contents' parts parts' records records' faults faults' v → OwnAll rows xs → ForSome parts (λ p. AreAllFed p xs → ForSome parts' (λ p'. AreAllFed p' xs'))
 among_fed law links clock number at xs xs' rows rows' contents contents' parts parts' records records' faults faults' v a own =
-    subst (λ (l : List Session). ForSome parts (λ p. FedAll p xs → ForSome parts' (λ p'. FedAll p' l))) (sym a.left)
+    subst (λ (l : List Session). ForSome parts (λ p. AreAllFed p xs → ForSome parts' (λ p'. AreAllFed p' l))) (sym a.left)
     (fed_set law xs at a.was a.now parts parts' a.here own.apart a.serves.parts a.serves.fed)
 
 pub among_bars : (links : List EndView) (clock number at : ℕ) (xs xs' : List Session) (rows rows' : Rows) (contents contents' : Option Contents) (parts parts' : Option Parts) (records records' : Option (List HoldRecord)) (faults faults' : ℕ) (v : Served)

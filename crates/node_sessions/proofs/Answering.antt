@@ -18,7 +18,7 @@ use Rattle.content_lock.specs.Rows.{Rows}
 use Rattle.content_lock.specs.Tokens.{Owns}
 use Rattle.link_ring.specs.Ends.{EndView}
 use Rattle.node_model.specs.Ends.{End, EndName, end_takes, end_took, frames, may_take}
-use Rattle.node_model.specs.Look.{Made}
+use Rattle.node_model.specs.Look.{Effect}
 use Rattle.node_model.specs.Rows.{bar_after, content_after, holds_after, keep_of, present_after}
 use Rattle.node_model.specs.Sessions as sessions
 use Rattle.node_model.specs.Sessions.{gave_bytes, message_said, sends_close, session_after}
@@ -48,7 +48,7 @@ use Rattle.node_sessions.specs.Serving.{end_by, made_by, reply_by, says_by, take
 
 -- ---- the entry
 
-abbrev made_at : List EndView → EndName → Option FrameView → Reply → Made
+abbrev made_at : List EndView → EndName → Option FrameView → Reply → Effect
 made_at links a taken r = reply_made a (end_took (end_at links a) taken) taken r
 
 pub made_is : (links : List EndView) (v : Served) (a : EndName) (taken : Option FrameView) (r : Reply) → end_by v ≡ a → taken_by links v ≡ taken → reply_by v ≡ r → made_by links v ≡ made_at links a taken r

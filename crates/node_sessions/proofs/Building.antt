@@ -25,7 +25,7 @@ use Rattle.p2p_server.specs.declared.place.Place.{Place}
 use Rattle.p2p_server.specs.declared.session.Session.{Session}
 use Rattle.p2p_server.specs.Talking.{place_of}
 use Rattle.node_sessions.specs.Built.{AreBuilt, IsNew, place_in, places_in, rank}
-use Rattle.node_sessions.specs.Sessions.{AreSessions, Every, EveryTwo, FedAll, HaveEnds, IsSetUp, OwnAll, connection_of, end_of, fills_in, owner_of, session_fills}
+use Rattle.node_sessions.specs.Sessions.{AreSessions, Every, EveryTwo, AreAllFed, HaveEnds, IsSetUp, OwnAll, connection_of, end_of, fills_in, owner_of, session_fills}
 use Rattle.node_sessions.proofs.Filling.{both_no}
 use Rattle.node_sessions.proofs.Listing.{any_none}
 
@@ -143,7 +143,7 @@ new_own id version locks n xs b rows kept =
 pub new_fills : (id : List ℕ) (version : ℕ) (locks : Bool) (n : ℕ) (xs : List Session) → AreBuilt id version locks n xs → (key : List ℕ) → fills_in xs key ≡ false
 new_fills id version locks n xs b key = any_none (session_fills key) xs (λ i x at. new_fills_none id version locks x (Every-from_Each (IsNew id version locks) xs b.new i x at) key)
 
-pub new_fed : (id : List ℕ) (version : ℕ) (locks : Bool) (n : ℕ) (xs : List Session) → AreBuilt id version locks n xs → (p : Parts) → FedAll p xs
+pub new_fed : (id : List ℕ) (version : ℕ) (locks : Bool) (n : ℕ) (xs : List Session) → AreBuilt id version locks n xs → (p : Parts) → AreAllFed p xs
 new_fed id version locks n xs b p = λ i x at. (Every-from_Each (IsNew id version locks) xs b.new i x at).fed p
 
 -- the law of `ends_are_there`

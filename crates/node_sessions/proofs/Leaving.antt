@@ -28,7 +28,7 @@ use Rattle.p2p_server.specs.Stepping.{LeavesOthers}
 use Rattle.p2p_server.specs.Talking.{AreAfterStep, FillsSo, IsFedOf, place_of, session_of, share_of}
 use Rattle.node_sessions.specs.Built.{AreLeft, ClosesAmong}
 use Rattle.node_sessions.specs.Serving.{closing_made, sessions_after}
-use Rattle.node_sessions.specs.Sessions.{AreFilled, AreSessions, Differ, FedAll, HaveEnds, OwnAll, connection_of, end_of, fills_in, owner_of, session_fills}
+use Rattle.node_sessions.specs.Sessions.{AreFilled, AreSessions, Differ, AreAllFed, HaveEnds, OwnAll, connection_of, end_of, fills_in, owner_of, session_fills}
 use Rattle.node_sessions.proofs.Filling.{not_both, stays_filled}
 use Rattle.node_sessions.proofs.Listing.{Every-set, any_none, map_set}
 use Rattle.node_sessions.proofs.Standing.{StepsAt, filled_set, own_set}
@@ -154,8 +154,8 @@ closes_there at xs xs' rows rows' a ends there =
     (Every-set (λ (x : Session). is_some (link_at ends (end_of x)) ≡ true) xs at a.now
     (subst (λ (p : Place). is_some (link_at ends (server_end p.peer p.slot)) ≡ true) (sym a.closed.place) (there at a.was a.here)) (λ k y ne aty. there k y aty))
 
-pub closes_fed : (at : ℕ) (xs xs' : List Session) (rows rows' : Rows) → ClosesAmong at xs xs' rows rows' → (p : Parts) → FedAll p xs → FedAll p xs'
-closes_fed at xs xs' rows rows' a p fed = subst (FedAll p) (sym a.left) (Every-set (IsFedOf p) xs at a.now (a.closed.fed p) (λ k y ne aty. fed k y aty))
+pub closes_fed : (at : ℕ) (xs xs' : List Session) (rows rows' : Rows) → ClosesAmong at xs xs' rows rows' → (p : Parts) → AreAllFed p xs → AreAllFed p xs'
+closes_fed at xs xs' rows rows' a p fed = subst (AreAllFed p) (sym a.left) (Every-set (IsFedOf p) xs at a.now (a.closed.fed p) (λ k y ne aty. fed k y aty))
 
 pub closes_sessions : (at : ℕ) (xs xs' : List Session) (rows rows' : Rows) (peer slot : ℕ) → (a : ClosesAmong at xs xs' rows rows') → connection_of a.was ≡ (peer, slot) → OwnAll rows xs
     → (s : SetUp) (st : State) (c : End) → AreSessions s st.sessions xs → AreSessions s (sessions_after st (Some (closing_made peer slot c))) xs'

@@ -16,7 +16,7 @@ use Rattle.p2p_wire.specs.Messages.{message_of}
 use Rattle.node_model.specs.Calls.{to_commit, to_hold, to_lock, to_offer, to_read, to_remove}
 use Rattle.node_model.specs.Clocks.{hold_time}
 use Rattle.node_model.specs.Ends.{End, EndName, end_takes, server_end}
-use Rattle.node_model.specs.Look.{Look, Made, failing, first_of, first_some, unless, waiting}
+use Rattle.node_model.specs.Look.{Look, Effect, failing_call, first_of, first_some, unless, waiting_frame}
 use Rattle.node_model.specs.Sessions as sessions
 use Rattle.node_model.specs.Sessions.{reaches}
 use Rattle.node_model.specs.SessionStep.{Here, Reply, bar_on, by_of, bytes_left, check_answer, close_kind, content_of, gives_made, gives_next, here, is_held, is_here, lock_answer, now_of, on_bytes, on_frame, on_message, on_piece, on_put, on_remove, on_remove_before, on_request, on_text, on_unlock, on_valid, put_answer, failure_line, remove_answer, reply, reply_made, session_at, session_makes, session_step, shuts, silent_reply, tries, unexpected_reply, valid_answer}
@@ -32,7 +32,7 @@ Own x = IsOfSession x.kind
 abbrev puts : List Call → Bool
 puts cs = list_any (same_call calls.PutFile) cs
 
-other_call : (fails : Option Call) (cs : List Call) (call : Call) → puts cs ≡ false → failing fails cs ≡ Some call → call ≢ calls.PutFile
+other_call : (fails : Option Call) (cs : List Call) (call : Call) → puts cs ≡ false → failing_call fails cs ≡ Some call → call ≢ calls.PutFile
 other_call None cs call none e = absurd cc
 other_call (Some c) cs call none e = go (list_any (same_call c) cs) refl e
   where
@@ -42,9 +42,9 @@ other_call (Some c) cs call none e = go (list_any (same_call c) cs) refl e
     go false is f = absurd cc
 
 tries_own : (h : Here) (cs : List Call) (says : List FrameText) (good : Reply) → puts cs ≡ false → Own good → Own (tries h cs says good)
-tries_own h cs says good none own = go (failing h.fails cs) refl
+tries_own h cs says good none own = go (failing_call h.fails cs) refl
   where
-    go : (o : Option Call) → failing h.fails cs ≡ o → Own (unless o (λ call. record { kind = Fault call (by_of h); says = says }) good)
+    go : (o : Option Call) → failing_call h.fails cs ≡ o → Own (unless o (λ call. record { kind = Fault call (by_of h); says = says }) good)
     go None is = own
     go (Some call) is = other_call h.fails cs call none is
 
@@ -185,10 +185,10 @@ gives_own h doing x e = absurd cc
 
 -- ---- the step
 
-abbrev IsOwn : Made → Type 0
+abbrev IsOwn : Effect → Type 0
 IsOwn m = IsOfSession m.kind × (m.lines ≡ [])
 
-makes_own : (h : Here) (c : End) (was : sessions.Session) (o : Option FrameView) (m : Made) → session_makes h c was o ≡ Some m → IsOwn m
+makes_own : (h : Here) (c : End) (was : sessions.Session) (o : Option FrameView) (m : Effect) → session_makes h c was o ≡ Some m → IsOwn m
 makes_own h c was (Some f) m e =
     let same : reply_made h.at (end_takes c f.epoch f.body) (Some f) (on_frame h was f.body) ≡ m = cc in subst IsOwn same (frame_own h was f.body, refl)
 makes_own h c was None m e = go c.opened e
@@ -202,22 +202,22 @@ makes_own h c was None m e = go c.opened e
     go true g = given (gives_next h was.doing) refl g
     go false g = absurd cc
 
-at_own : (s : SetUp) (st : State) (k : Look) (a : EndName) (m : Made) → session_at s st k a ≡ Some m → IsOwn m
+at_own : (s : SetUp) (st : State) (k : Look) (a : EndName) (m : Effect) → session_at s st k a ≡ Some m → IsOwn m
 at_own s st k a m e = go (k.room a) e
   where
-    go : (b : Bool) → (if b then session_makes (here s st k a) (st.ends a) (st.sessions a) (waiting (st.ends a) k a) else None) ≡ Some m → IsOwn m
-    go true g = makes_own (here s st k a) (st.ends a) (st.sessions a) (waiting (st.ends a) k a) m g
+    go : (b : Bool) → (if b then session_makes (here s st k a) (st.ends a) (st.sessions a) (waiting_frame (st.ends a) k a) else None) ≡ Some m → IsOwn m
+    go true g = makes_own (here s st k a) (st.ends a) (st.sessions a) (waiting_frame (st.ends a) k a) m g
     go false g = absurd cc
 
-first_own : (s : SetUp) (st : State) (k : Look) (cs : List (ℕ × ℕ)) (m : Made) → first_some (λ c. session_at s st k (server_end c.0 c.1)) cs ≡ Some m → IsOwn m
+first_own : (s : SetUp) (st : State) (k : Look) (cs : List (ℕ × ℕ)) (m : Effect) → first_some (λ c. session_at s st k (server_end c.0 c.1)) cs ≡ Some m → IsOwn m
 first_own s st k [] m e = absurd cc
 first_own s st k (c ∷ cs) m e = go (session_at s st k (server_end c.0 c.1)) refl (first_own s st k cs m) e
   where
-    go : (o : Option Made) → session_at s st k (server_end c.0 c.1) ≡ o → (first_some (λ c. session_at s st k (server_end c.0 c.1)) cs ≡ Some m → IsOwn m)
+    go : (o : Option Effect) → session_at s st k (server_end c.0 c.1) ≡ o → (first_some (λ c. session_at s st k (server_end c.0 c.1)) cs ≡ Some m → IsOwn m)
         → first_of o (first_some (λ c. session_at s st k (server_end c.0 c.1)) cs) ≡ Some m → IsOwn m
     go None is rest f = rest f
     go (Some x) is rest f =
         let same : x ≡ m = cc in at_own s st k (server_end c.0 c.1) m (is ∙ ap Some same)
 
-pub step_own : (s : SetUp) (st : State) (k : Look) (m : Made) → session_step s st k ≡ Some m → IsOfSession m.kind × (m.lines ≡ [])
+pub step_own : (s : SetUp) (st : State) (k : Look) (m : Effect) → session_step s st k ≡ Some m → IsOfSession m.kind × (m.lines ≡ [])
 step_own s st k m e = first_own s st k (served_connections s) m e

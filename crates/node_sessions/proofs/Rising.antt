@@ -13,7 +13,7 @@ use Rattle.p2p_wire.specs.Messages.{message_of}
 use Rattle.content_lock.specs.CallsMade.{AreRising}
 use Rattle.node_model.specs.Calls.{to_commit, to_hold, to_lock, to_offer, to_read, to_remove}
 use Rattle.node_model.specs.Ends.{End, server_end}
-use Rattle.node_model.specs.Look.{Look, waiting}
+use Rattle.node_model.specs.Look.{Look, waiting_frame}
 use Rattle.node_model.specs.Sessions as sessions
 use Rattle.node_model.specs.SessionStep.{Here, bar_on, here, is_held, is_here, now_of}
 use Rattle.node_model.specs.SetUp.{SetUp}
@@ -100,4 +100,4 @@ session_rising s st k = go (first_connection s st k)
   where
     go : (o : Option (ℕ × ℕ)) → AreRising (option_map_or (λ (c : ℕ × ℕ). calls_at s st k (server_end c.0 c.1)) o [])
     go None = tt
-    go (Some c) = end_rising (here s st k (server_end c.0 c.1)) (st.ends (server_end c.0 c.1)) (st.sessions (server_end c.0 c.1)) (waiting (st.ends (server_end c.0 c.1)) k (server_end c.0 c.1))
+    go (Some c) = end_rising (here s st k (server_end c.0 c.1)) (st.ends (server_end c.0 c.1)) (st.sessions (server_end c.0 c.1)) (waiting_frame (st.ends (server_end c.0 c.1)) k (server_end c.0 c.1))

@@ -25,7 +25,7 @@ use Rattle.p2p_server.specs.declared.session.Session.{Session}
 use Rattle.p2p_server.specs.Talking.{Brings, IsFed, IsSumOf, IsTakenOf, SeesPart, SeesTaken, heard_line}
 use Rattle.node_sessions.specs.declared.served.Served.{Served}
 use Rattle.node_sessions.specs.Serving.{HasPart, SeesPartAt, server_in, taken_by}
-use Rattle.node_sessions.specs.Sessions.{FedAll, owner_of}
+use Rattle.node_sessions.specs.Sessions.{AreAllFed, owner_of}
 
 -- ---- the one that is found
 
@@ -111,7 +111,7 @@ at_one law p xs links v (Some x) None fed = (0, false, tt)
 at_one law p xs links v (Some x) (Some f) fed =
     (part_of p f.body, right_of x.doing, λ i brings. sees_of p x.doing i (part_of p f.body) (right_of x.doing) (λ file key is. put_part p f.body i file key brings is) (took_right law p x.doing (fed x refl)))
 
-pub has_part : VerdictsMatch → (p : Parts) (xs : List Session) (links : List EndView) (o : Option Served) → FedAll p xs → HasPart (Some p) xs links o
+pub has_part : VerdictsMatch → (p : Parts) (xs : List Session) (links : List EndView) (o : Option Served) → AreAllFed p xs → HasPart (Some p) xs links o
 has_part law p xs links None fed = record { part = 0; right = false; sees = λ v e. absurd cc }
 has_part law p xs links (Some v) fed =
     let h = at_one law p xs links v (server_in xs v) (taken_by links v) (λ y e. let w = find_place (λ x. same_owner (owner_of x) (Peer v.peer v.slot)) xs y e in fed w.0 y w.1) in

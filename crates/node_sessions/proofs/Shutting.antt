@@ -12,7 +12,7 @@ use Rattle.run_data.specs.declared.entry.FrameView.{FrameView}
 use Rattle.link_ring.specs.Ends.{EndView}
 use Rattle.node_model.specs.After.{state_after}
 use Rattle.node_model.specs.Ends.{End, EndName, end_sends, end_took, frames, same_bool, sent_at, server_end, taken_at, takes_at}
-use Rattle.node_model.specs.Look.{Made}
+use Rattle.node_model.specs.Look.{Effect}
 use Rattle.node_model.specs.Sessions as sessions
 use Rattle.node_model.specs.Sessions.{new_session, sends_close, session_after, session_goes, session_left, session_took}
 use Rattle.node_model.specs.SetUp.{SetUp}
@@ -111,7 +111,7 @@ own_new size kind was b c d taken o false talk form opened shut =
 
 -- ---- any end
 
-abbrev shut_at : State → Option Made → EndName → Type 0
+abbrev shut_at : State → Option Effect → EndName → Type 0
 shut_at st m a = (ends_after st m a).opened ≡ false → sessions_after st m a ≡ new_session
 
 taken_form : (links : List EndView) (v : Served) (f : FrameView) → taken_by links v ≡ Some f → IsFrameAt (end_by v) (end_at links (end_by v)) f
@@ -144,7 +144,7 @@ shut_some links v st h ends was a server = go (meets (end_by v) a) refl
     go : (t : Bool) → meets (end_by v) a ≡ t → shut_at st (Some (made_by links v)) a
     go true is = subst (shut_at st (Some (made_by links v))) (same_end v.peer v.slot a is) (shut_own links v st h ends)
     go false is = λ shut.
-        let m : Made = made_by links v in
+        let m : Effect = made_by links v in
         let s : sent_at a m.sent ≡ [] = none_sent (end_by v) a _ _ is in
         let t : taken_at a m.taken ≡ None = untaken links v.peer v.slot a (taken_by links v) is (taken_waits links v (end_by v) refl) in
         let before : (st.ends a).opened ≡ false =

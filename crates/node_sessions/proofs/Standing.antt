@@ -21,7 +21,7 @@ use Rattle.p2p_server.specs.Talking.{FillsSo, HasFillOf, IsFedOf, place_of, sess
 use Rattle.node_sessions.specs.declared.served.Served.{Served}
 use Rattle.node_sessions.specs.Moments.{LeavesParts}
 use Rattle.node_sessions.specs.Serving.{end_by, server_in}
-use Rattle.node_sessions.specs.Sessions.{AreFilled, Differ, EveryTwo, FedAll, LeavesPartsOf, OwnAll, end_of, fills_in, owner_of, session_fills}
+use Rattle.node_sessions.specs.Sessions.{AreFilled, Differ, EveryTwo, AreAllFed, LeavesPartsOf, OwnAll, end_of, fills_in, owner_of, session_fills}
 use Rattle.node_sessions.proofs.Filling.{both_no, fills_told, new_was_free, not_both, stays_filled}
 use Rattle.node_sessions.proofs.Listing.{EveryTwo-set, Every-set, any_none, any_set_same, find_one, none_any, set_here}
 
@@ -136,7 +136,7 @@ abbrev pub FedStays : Type 0
 FedStays = (s : Session) (was now : Parts) → ((key : List ℕ) → sessions.is_filling key (session_of s).doing ≡ true → now key ≡ was key) → IsFedOf was s → IsFedOf now s
 
 pub fed_set : FedStays → (xs : List Session) (i : ℕ) (was now : Session) (known known' : Option Parts) → slice_get xs i ≡ Some was → EveryTwo Differ xs → LeavesParts (session_of was).doing known known'
-    → ForSome known (λ p. IsFedOf p was → ForSome known' (λ p'. IsFedOf p' now)) → ForSome known (λ p. FedAll p xs → ForSome known' (λ p'. FedAll p' (set xs i now)))
+    → ForSome known (λ p. IsFedOf p was → ForSome known' (λ p'. IsFedOf p' now)) → ForSome known (λ p. AreAllFed p xs → ForSome known' (λ p'. AreAllFed p' (set xs i now)))
 fed_set law xs i was now known known' at apart left fed = λ p is all p' is'.
     Every-set (IsFedOf p') xs i now (fed p is (all i was at) p' is')
     (λ k y ne aty. law y p p' (λ key fills. left.same p is p' is' key

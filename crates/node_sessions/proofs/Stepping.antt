@@ -11,7 +11,7 @@ use Rattle.object_store.specs.declared.keeper.HoldRecord.{HoldRecord}
 use Rattle.content_lock.specs.Rows.{Rows}
 use Rattle.link_ring.specs.Ends.{EndView}
 use Rattle.node_model.specs.Ends.{End, EndName, end_took, frames, sent_at, server_end, taken_at}
-use Rattle.node_model.specs.Look.{Look, Made, first_some}
+use Rattle.node_model.specs.Look.{Look, Effect, first_some}
 use Rattle.node_model.specs.Sessions as sessions
 use Rattle.node_model.specs.Sessions.{session_after}
 use Rattle.node_model.specs.SessionStep.{here, session_at, session_step}
@@ -119,7 +119,7 @@ taken_waits links v a end f e = go v.takes e
     go true g = ap (wait_at links) (sym end) ∙ g
     go false g = absurd cc
 
-pub next_made : (links : List EndView) (m : Made) (c : End) (bodies : List FrameText) (xs : List Session) (i : ℕ) (was now : Session) (s : SetUp) (st : State) → slice_get xs i ≡ Some was → EveryTwo Differ xs → m.sent ≡ frames (end_of was) c bodies
+pub next_made : (links : List EndView) (m : Effect) (c : End) (bodies : List FrameText) (xs : List Session) (i : ℕ) (was now : Session) (s : SetUp) (st : State) → slice_get xs i ≡ Some was → EveryTwo Differ xs → m.sent ≡ frames (end_of was) c bodies
     → ((f : FrameView) → m.taken ≡ Some f → wait_at links (end_of was) ≡ Some f) → place_of now ≡ place_of was → AreSessions s st.sessions xs → session_of now ≡ session_after st.content m.kind (session_of was) m.sent m.taken
     → AreSessions s (sessions_after st (Some m)) (set xs i now)
 next_made links m c bodies xs i was now s st at apart form waits place are next = record {

@@ -8,7 +8,7 @@ use Rattle.run_data.specs.declared.entry.FrameView.{FrameView}
 use Rattle.link_ring.specs.Ends.{EndView}
 use Rattle.node_model.specs.AnyTime.{all_ends, ends_with}
 use Rattle.node_model.specs.Ends.{End, EndName, server_end}
-use Rattle.node_model.specs.Look.{Look, Made, waiting}
+use Rattle.node_model.specs.Look.{Look, Effect, waiting_frame}
 use Rattle.node_model.specs.Sessions as sessions
 use Rattle.node_model.specs.SessionStep.{Here, gives_made, gives_next, here, session_at, session_makes}
 use Rattle.node_model.specs.SetUp.{SetUp, others, served_connections, slots}
@@ -60,15 +60,15 @@ end_among s xs i x are at = served_among (others s) (connection_of x) (subst (λ
 
 -- the law of `frames_wait_at_ends`
 abbrev pub FramesWait : Type 0
-FramesWait = (links : List EndView) (s : SetUp) (st : State) (k : Look) (a : EndName) → AreEnds links s st → SeesEnds links s k → Member a (all_ends s) → waiting (st.ends a) k a ≡ wait_at links a
+FramesWait = (links : List EndView) (s : SetUp) (st : State) (k : Look) (a : EndName) → AreEnds links s st → SeesEnds links s k → Member a (all_ends s) → waiting_frame (st.ends a) k a ≡ wait_at links a
 
-abbrev makes_if : Bool → Option Made → Option Made
+abbrev makes_if : Bool → Option Effect → Option Effect
 makes_if room m = if room then m else None
 
 pub step_at : FramesWait → (links : List EndView) (s : SetUp) (st : State) (k : Look) (a : EndName) → AreEnds links s st → SeesEnds links s k → Member a (all_ends s) → is_some (link_at links a) ≡ true
     → session_at s st k a ≡ makes_if (room_at links a) (session_makes (here s st k a) (end_at links a) (st.sessions a) (wait_at links a))
 step_at law links s st k a ends look among there =
-    ap (λ (b : Bool). makes_if b (session_makes (here s st k a) (st.ends a) (st.sessions a) (waiting (st.ends a) k a))) (look.room a there)
+    ap (λ (b : Bool). makes_if b (session_makes (here s st k a) (st.ends a) (st.sessions a) (waiting_frame (st.ends a) k a))) (look.room a there)
     ∙ ap (λ (o : Option FrameView). makes_if (room_at links a) (session_makes (here s st k a) (st.ends a) (st.sessions a) o)) (law links s st k a ends look among)
     ∙ ap (λ (c : End). makes_if (room_at links a) (session_makes (here s st k a) c (st.sessions a) (wait_at links a))) (ends.ends a among)
 

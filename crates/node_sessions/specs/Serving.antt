@@ -11,7 +11,7 @@ use Rattle.object_store.specs.Stores.{Contents, Parts}
 use Rattle.content_lock.specs.Rows.{Rows, is_filling}
 use Rattle.link_ring.specs.Ends.{EndView}
 use Rattle.node_model.specs.Ends.{End, EndName, end_sends, end_took, frames, sent_at, server_end, taken_at}
-use Rattle.node_model.specs.Look.{Look, Made}
+use Rattle.node_model.specs.Look.{Look, Effect}
 use Rattle.node_model.specs.Rows.{same_owner}
 use Rattle.node_model.specs.Sessions as sessions
 use Rattle.node_model.specs.Sessions.{session_after}
@@ -51,7 +51,7 @@ abbrev pub reply_by : Served → Reply
 reply_by v = record { kind = v.kind; says = says_by v }
 
 -- the entry, at these ends
-abbrev pub made_by : List EndView → Served → Made
+abbrev pub made_by : List EndView → Served → Effect
 made_by links v = reply_made (end_by v) (end_took (end_at links (end_by v)) (taken_by links v)) (taken_by links v) (reply_by v)
 
 -- a line or a piece, which has its memory
@@ -128,17 +128,17 @@ pub record Sees (links : List EndView) (rows : Rows) (contents : Option Contents
   pub fails : FailsBy o k.fails
 
 -- the sessions after an entry
-abbrev pub sessions_after : State → Option Made → EndName → sessions.Session
+abbrev pub sessions_after : State → Option Effect → EndName → sessions.Session
 sessions_after st None a = st.sessions a
 sessions_after st (Some m) a = session_after st.content m.kind (st.sessions a) (sent_at a m.sent) (taken_at a m.taken)
 
 -- and the ends
-abbrev pub ends_after : State → Option Made → EndName → End
+abbrev pub ends_after : State → Option Effect → EndName → End
 ends_after st None a = st.ends a
 ends_after st (Some m) a = fold (λ c f. end_sends c f.body) (end_took (st.ends a) (taken_at a m.taken)) (sent_at a m.sent)
 
 -- the entry of a close at a server's end that stands so
-abbrev pub closing_made : ℕ → ℕ → End → Made
+abbrev pub closing_made : ℕ → ℕ → End → Effect
 closing_made peer slot c = record { kind = Close peer slot false; taken = None; sent = frames (server_end peer slot) c (Closing ∷ []); lines = [] }
 
 -- this is the step of the state's sessions, and these are the sessions, the rows and the contents after it

@@ -75,8 +75,8 @@ abbrev pub fills_in : List Session → List ℕ → Bool
 fills_in xs key = list_any (session_fills key) xs
 
 -- what each has taken of a part is the store's part
-abbrev pub FedAll : Parts → List Session → Type 0
-FedAll p xs = Every (IsFedOf p) xs
+abbrev pub AreAllFed : Parts → List Session → Type 0
+AreAllFed p xs = Every (IsFedOf p) xs
 
 -- of the parts, those alone may change whose bytes a session takes
 pub record LeavesPartsOf (xs : List Session) (known known' : Option Parts) : Type 0 where

@@ -10,7 +10,7 @@ ghost use Rattle.run_data.specs.declared.entry.EntryKind.TheVariants.{Crash};
 ghost use Rattle.node_model.specs.After.{state_after};
 ghost use Rattle.node_model.specs.Ends.{EndName, sent_at, taken_at};
 ghost use Rattle.node_model.specs.Files.{lines_after};
-ghost use Rattle.node_model.specs.Look.{Look, Made, failing};
+ghost use Rattle.node_model.specs.Look.{Look, Effect, failing_call};
 ghost use Rattle.node_model.specs.Sessions.{new_session};
 ghost use Rattle.node_model.specs.SessionStep.{is_filled, session_step};
 ghost use Rattle.node_model.specs.SetUp.{SetUp};
@@ -25,14 +25,14 @@ ghost use Rattle.node_sessions.specs.Calls.{failed_of, session_calls};
 ghost use Rattle.node_sessions.specs.Kinds.{IsOfSession};
 ghost use Rattle.content_lock.specs.CallsMade.{AreRising};
 ghost use Rattle.node_sessions.specs.Serving.{HasPart, ServesAt, end_by, ends_after, made_by, sessions_after};
-ghost use Rattle.node_sessions.specs.Sessions.{AreSessions, FedAll, fills_in};
+ghost use Rattle.node_sessions.specs.Sessions.{AreSessions, AreAllFed, fills_in};
 
 use key_verify::verdicts_are_matches;
 use p2p_server::answers_tell_the_failed_call;
 
 /// Whatever a session is asked of a part, a store that tells its parts has an answer, so that a look may find it (own).
 pub fn looks_see_parts()
-    ensures { (p : Parts) (xs : List Session) (links : List EndView) (o : Option Served) → FedAll p xs → HasPart (Some p) xs links o }
+    ensures { (p : Parts) (xs : List Session) (links : List EndView) (o : Option Served) → AreAllFed p xs → HasPart (Some p) xs links o }
 {
     // For the proof, which cites it.
     verdicts_are_matches();
@@ -59,7 +59,7 @@ pub fn sessions_stay()
 /// The entry of the sessions' step tells a failed call exactly where a call of that step is the one that fails; and which calls
 /// it makes doesn't depend on that one. They are made in the order of Keeper's (own).
 pub fn sessions_tell_the_failed_call()
-    ensures failed { (s : SetUp) (st : State) (k : Look) → failed_of (session_step s st k) ≡ failing k.fails (session_calls s st k) }
+    ensures failed { (s : SetUp) (st : State) (k : Look) → failed_of (session_step s st k) ≡ failing_call k.fails (session_calls s st k) }
     ensures same { (s : SetUp) (st : State) (k : Look) (fails : Option Call) → session_calls s st (record k { fails = fails }) ≡ session_calls s st k }
     ensures ordered { (s : SetUp) (st : State) (k : Look) → AreRising (session_calls s st k) }
 {
@@ -69,7 +69,7 @@ pub fn sessions_tell_the_failed_call()
 
 /// What a session makes is an entry of its own, which adds no lines (own).
 pub fn sessions_make_their_own_entries()
-    ensures { (s : SetUp) (st : State) (k : Look) (m : Made) → session_step s st k ≡ Some m → IsOfSession m.kind × (m.lines ≡ []) }
+    ensures { (s : SetUp) (st : State) (k : Look) (m : Effect) → session_step s st k ≡ Some m → IsOfSession m.kind × (m.lines ≡ []) }
 {}
 
 /// An entry of a session is none of a job, and no crash, and adds no lines to a file (own).

@@ -26,7 +26,7 @@ ghost use Rattle.p2p_server.specs.Talking.{AreAfterStep, place_of};
 ghost use Rattle.node_sessions.specs.Calls.{session_calls};
 ghost use Rattle.node_sessions.specs.Pieces.{PieceBy};
 ghost use Rattle.node_sessions.specs.Serving.{AreAfterIf, JudgedBy, Sees, ServesIf, StepsSo, closing_made, failed_by, sessions_after};
-ghost use Rattle.node_sessions.specs.Sessions.{AreFilled, AreSessions, FedAll, HaveEnds, IsOther, IsSetUp, LeavesPartsOf, OwnAll, connection_of, fills_in};
+ghost use Rattle.node_sessions.specs.Sessions.{AreFilled, AreSessions, AreAllFed, HaveEnds, IsOther, IsSetUp, LeavesPartsOf, OwnAll, connection_of, fills_in};
 ghost use Rattle.node_sessions.specs.Stored.{contents_left, parts_left};
 
 use crate::beginning::all_sessions;
@@ -71,7 +71,7 @@ impl Sessions {
         ensures sessions { IfOk result (λ xs. (s : SetUp) → IsSetUp s id version locks number count → AreSessions s (λ a. new_session) xs) }
         ensures owns { IfOk result (λ xs. (rows : Rows) → All (λ h. h.kept ≡ true) rows.holds → OwnAll rows xs) }
         ensures fills { IfOk result (λ xs. (key : List ℕ) → fills_in xs key ≡ false) }
-        ensures fed { IfOk result (λ xs. (p : Parts) → FedAll p xs) }
+        ensures fed { IfOk result (λ xs. (p : Parts) → AreAllFed p xs) }
         ensures there { IfOk result (λ xs. (links : List EndView) → length links ≡ count * 8 → HaveEnds links xs) }
     {
         // For the proof, which cites it.
@@ -100,7 +100,7 @@ impl Sessions {
         ensures there { (links : List EndView) → HaveEnds links self.old → HaveEnds links self.new }
         ensures others { (by : By) (share : Option ShareView) → IsOther by self.old → Owns by share table.old.holds → Owns by share table.new.holds }
         ensures filled { (others : List ℕ → Bool) → AreFilled table.old self.old others → AreFilled table.new self.new others }
-        ensures fed { (p : Parts) → FedAll p self.old → FedAll p self.new }
+        ensures fed { (p : Parts) → AreAllFed p self.old → AreAllFed p self.new }
         ensures agrees { (known : Option (List HoldRecord)) → Agrees known table.old.holds → Agrees known table.new.holds }
     {
         let at = find_session(&self.list, peer, slot);
@@ -185,7 +185,7 @@ impl Sessions {
         ensures others { (by : By) (share : Option ShareView) → IsOther by self.old → Owns by share table.old.holds → Owns by share table.new.holds }
         ensures filled { (others : List ℕ → Bool) → AreFilled table.old self.old others → AreFilled table.new self.new others }
         ensures parts { LeavesPartsOf self.old (K.parts keeper.old) (K.parts keeper.new) }
-        ensures fed { ForSome (K.parts keeper.old) (λ p. FedAll p self.old → ForSome (K.parts keeper.new) (λ p'. FedAll p' self.new)) }
+        ensures fed { ForSome (K.parts keeper.old) (λ p. AreAllFed p self.old → ForSome (K.parts keeper.new) (λ p'. AreAllFed p' self.new)) }
 
         // The files stay, and a store that tells its parts and its contents goes on to tell its contents.
         ensures files { K.files keeper.new ≡ K.files keeper.old }

@@ -10,7 +10,7 @@ use Rattle.annex_base.proofs.Calls.{same_call-is}
 use Rattle.object_store.specs.Calls.{FailsAsTold, has_failed, one_fewer}
 use Rattle.object_store.specs.declared.keeper.KeeperFault.{KeeperFault}
 use Rattle.object_store.specs.declared.keeper.KeeperFault.TheVariants as faults
-use Rattle.content_lock.specs.Turns.{FailInTurn, Turn}
+use Rattle.content_lock.specs.Turns.{FailInTurn, CallOutcome}
 use Rattle.content_lock.specs.CallsMade.{MakesCalls, fewer}
 
 -- ---- one call
@@ -70,7 +70,7 @@ makes_one call false before after only = makes_first call [] None before after a
 pub turn_one : (call : Call) (failed : Bool) (before after : Option (Call → ℕ)) → FailInTurn ((call, failed) ∷ []) before after → FailsAsTold call before after failed
 turn_one call failed before after turns = record { told = turns.0; count = turns.1 }
 
-pub turn_first : (call : Call) (failed : Bool) (rest : List Turn) (before after : Option (Call → ℕ)) → FailInTurn ((call, failed) ∷ rest) before after → FailsAsTold call before (option_map (one_fewer call) before) failed
+pub turn_first : (call : Call) (failed : Bool) (rest : List CallOutcome) (before after : Option (Call → ℕ)) → FailInTurn ((call, failed) ∷ rest) before after → FailsAsTold call before (option_map (one_fewer call) before) failed
 turn_first call failed rest before after turns = record { told = turns.0; count = refl }
 
 -- one call in turn, and two

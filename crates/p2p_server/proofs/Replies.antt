@@ -14,7 +14,7 @@ use Rattle.content_lock.specs.Rows.{AreAfter, Rows, bar_at}
 use Rattle.content_lock.specs.Stored.{HasContent}
 use Rattle.content_lock.specs.declared.refusals.ShareRefused.TheVariants as shares
 use Rattle.content_lock.specs.declared.refusals.RemoveRefused.TheVariants as removes
-use Rattle.node_model.specs.Look.{failing}
+use Rattle.node_model.specs.Look.{failing_call}
 use Rattle.node_model.specs.Calls.{to_hold, to_remove}
 use Rattle.node_model.specs.SessionStep.{Here, Reply, bar_on, by_of, check_answer, is_held, is_here, on_lock, on_remove, failure_line, reply, tries}
 
@@ -36,18 +36,18 @@ lock_gone h key f l p = rw (f, l, p) refl
 pub lock_barred : (h : Here) (key : List ℕ) (job : ℕ) → h.fails ≡ None → h.locks ≡ true → h.present key ≡ true → h.bar key ≡ Some job → reply (Check found.Barred key) Failure ≡ on_lock h key
 lock_barred h key job f l p b = rw (f, l, p, b) refl
 
-failing_hold : (b : Bool) (bar : Option ℕ) → failing (Some calls.Has) (to_hold b bar) ≡ Some calls.Has
+failing_hold : (b : Bool) (bar : Option ℕ) → failing_call (Some calls.Has) (to_hold b bar) ≡ Some calls.Has
 failing_hold true None = refl
 failing_hold true (Some j) = refl
 failing_hold false bar = refl
 
-failing_remove : (b : Bool) (bar : Option ℕ) (held : Bool) → failing (Some calls.Has) (to_remove b bar held) ≡ Some calls.Has
+failing_remove : (b : Bool) (bar : Option ℕ) (held : Bool) → failing_call (Some calls.Has) (to_remove b bar held) ≡ Some calls.Has
 failing_remove true None true = refl
 failing_remove true None false = refl
 failing_remove true (Some j) held = refl
 failing_remove false bar held = refl
 
-lock_fails : (h : Here) (key : List ℕ) (call : Call) → h.fails ≡ Some call → h.locks ≡ true → failing (Some call) (to_hold (h.present key) (h.bar key)) ≡ Some call
+lock_fails : (h : Here) (key : List ℕ) (call : Call) → h.fails ≡ Some call → h.locks ≡ true → failing_call (Some call) (to_hold (h.present key) (h.bar key)) ≡ Some call
     → reply (Fault call (by_of h)) Failure ≡ on_lock h key
 lock_fails h key call f l is = rw (f, l, is) refl
 
@@ -74,7 +74,7 @@ remove_barred h key job f p b = rw (f, p, b) refl
 pub remove_held : (h : Here) (key : List ℕ) → h.fails ≡ None → h.present key ≡ true → h.bar key ≡ None → is_held h key ≡ true → reply (Check found.Held key) Failure ≡ on_remove h key
 remove_held h key f p b k = rw (f, p, b, k) refl
 
-remove_fails : (h : Here) (key : List ℕ) (call : Call) → h.fails ≡ Some call → failing (Some call) (to_remove (h.present key) (h.bar key) (is_held h key)) ≡ Some call
+remove_fails : (h : Here) (key : List ℕ) (call : Call) → h.fails ≡ Some call → failing_call (Some call) (to_remove (h.present key) (h.bar key) (is_held h key)) ≡ Some call
     → reply (Fault call (by_of h)) Failure ≡ on_remove h key
 remove_fails h key call f is = rw (f, is) refl
 

@@ -5,7 +5,7 @@ ghost use Rattle.p2p_wire.specs.declared.message.Message.{Message};
 ghost use Rattle.p2p_wire.specs.Messages.{text_of};
 ghost use Rattle.p2p_wire.specs.Streams.{IsLine};
 ghost use Rattle.object_store.specs.Stores.{Parts};
-ghost use Rattle.node_model.specs.Look.{failing};
+ghost use Rattle.node_model.specs.Look.{failing_call};
 ghost use Rattle.node_model.specs.Sessions as sessions;
 ghost use Rattle.node_model.specs.SessionStep.{Here, on_frame};
 ghost use Rattle.content_lock.specs.Rows.{Rows, is_filling};
@@ -36,5 +36,5 @@ pub fn replies_are_short_lines()
 
 /// An answer tells a failed call exactly where a call of its own is the one that fails (own).
 pub fn answers_tell_the_failed_call()
-    ensures { (h : Here) (was : sessions.Session) (body : FrameText) → failed_in (on_frame h was body).kind ≡ failing h.fails (calls_frame h was body) }
+    ensures { (h : Here) (was : sessions.Session) (body : FrameText) → failed_in (on_frame h was body).kind ≡ failing_call h.fails (calls_frame h was body) }
 {}

@@ -29,7 +29,7 @@ use Rattle.node_model.specs.Sessions.{line_in}
 use Rattle.node_model.specs.State.{State}
 use Rattle.run_model.specs.Frames.{Way, way_of}
 use Rattle.race_core.proofs.Ways.{down_of}
-use Rattle.node_model.specs.Look.{Look, Made, entry_of}
+use Rattle.node_model.specs.Look.{Look, Effect, entry_of}
 use Rattle.node_model.specs.Step.{step}
 use Rattle.node_model.specs.Found.{BySession, GivesAt, IsBeforeDeadline, TakesAt, success_line}
 use Rattle.race_core.proofs.ServerAnswers.{MayBar, MayRemove, MayObey, MayShare, OwnFree, SaysYes}
@@ -61,7 +61,7 @@ back_is : (r peer slot epoch : ℕ) (f : FrameView) → f.peer ≡ peer → f.sl
 back_is r peer slot epoch f p q u e = rw u (λ i. record { client = sym p i; server = r; slot = sym q i; up = false; epoch = e i })
 
 -- a session that agrees says SUCCESS alone, on the opening of what it takes
-agrees_found : (s : SetUp) (st : State) (k : Look) (m : Made) (peer slot : ℕ) (asked : Message)
+agrees_found : (s : SetUp) (st : State) (k : Look) (m : Effect) (peer slot : ℕ) (asked : Message)
     → TakesAt s st (server_end peer slot) (Some asked) success_line m ⊎ GivesAt s st (server_end peer slot) (Some asked) success_line m
     → SaysYes s.number (entry_of s.number k m) peer slot asked
 agrees_found s st k m peer slot asked (inr x) = absurd (let no : Some asked ≡ None = x.asked_is in cc)
@@ -90,7 +90,7 @@ below : (clock : ℕ) (end : Option ℕ) → in_time clock end ≡ true → (fir
 below clock None t first is = absurd (cc)
 below clock (Some n) t first is = let same : n ≡ first = cc in subst (λ q. clock < q) same (grind (arith, nat_tests))
 
-module _ (s : SetUp) (past : List Entry) (k : Look) (m : Made) (e : step s (state_of s past) k ≡ Some m) where
+module _ (s : SetUp) (past : List Entry) (k : Look) (m : Effect) (e : step s (state_of s past) k ≡ Some m) where
   -- the session was asked this, and agreed
   says_yes : (x : BySession s (state_of s past) k m) (asked : Message) → x.asked ≡ Some asked → x.says ≡ success_line → SaysYes s.number (entry_of s.number k m) x.peer x.slot asked
   says_yes x asked is says = agrees_found s (state_of s past) k m x.peer x.slot asked

@@ -23,7 +23,7 @@ use Rattle.p2p_wire.specs.Messages.{message_of, text_of, order_of}
 use Rattle.node_model.specs.Ends.{end_after, frames}
 use Rattle.node_model.specs.Jobs
 use Rattle.node_model.specs.Jobs.{AsksLock, AsksLook, AsksTime, Drops, Fresh, Gets, GetsBytes, GetsData, Greets, Next, Opens, Orders, Part, Phase, Puts, PutsAnswer, PutsBytes, PutsOffer, RowsAndEnds, Work, claims, closed_part, fault_of, fault_phase, first_look, hears_frame, job_end, learns, listens, quiet, says, says_some, sends, side_of, talks, talks_on, target_of, to_phase, after_frame, after_line, after_failed_release, work_kind}
-use Rattle.node_model.specs.Look.{Made}
+use Rattle.node_model.specs.Look.{Effect}
 use Rattle.node_model.specs.JobStep.{Turn, end_with}
 use Rattle.node_model.specs.Found.{IsJobEntry}
 use Rattle.race_core.proofs.ReadAs.{SameHead}
@@ -174,7 +174,7 @@ module _ (t : Turn) (e : Entry) where
         go x h = absurd h
 
     -- what it sends, nothing or one frame
-    sent_comes : (rows : RowsAndEnds) (r : ℕ) (m : Made) (sent : List FrameView) → t.w.part ≡ Drops → w.part ≡ Drops → Fits Drops w.phase → (sent ≡ []) ⊎ SaysOne t m → sent ≡ m.sent → e.sent ≡ sent
+    sent_comes : (rows : RowsAndEnds) (r : ℕ) (m : Effect) (sent : List FrameView) → t.w.part ≡ Drops → w.part ≡ Drops → Fits Drops w.phase → (sent ≡ []) ⊎ SaysOne t m → sent ≡ m.sent → e.sent ≡ sent
         → Comes w (talks rows r w e sent)
     sent_comes rows r m sent part mine f (inl none) is all = subst (λ fs. Comes w (talks rows r w e fs)) (sym none) (hears_comes rows r e.taken mine f)
     sent_comes rows r m sent part mine f (inr one) is all =
@@ -204,7 +204,7 @@ module _ (t : Turn) (e : Entry) where
   readied_comes w x y heard c at = let z = c at in (z.0 ∙ heard, z.1)
 
   -- **whence a drop's own entry brings it to a connection**
-  pub kind_came : (m : Made) (rows : RowsAndEnds) (r : ℕ) (kind : EntryKind) → IsJobEntry t m kind → TalkKind t m kind → Fits t.w.part t.w.phase → t.w.part ≡ Drops → e.sent ≡ m.sent
+  pub kind_came : (m : Effect) (rows : RowsAndEnds) (r : ℕ) (kind : EntryKind) → IsJobEntry t m kind → TalkKind t m kind → Fits t.w.part t.w.phase → t.w.part ≡ Drops → e.sent ≡ m.sent
       → ((j : ℕ) (outcome : Outcome) → kind ≢ ends_job j outcome) → Comes t.w (work_kind rows r t.w e kind)
   kind_came m rows r (Share hold end by key) x y fits part sent goes_on = away t.w (work_kind rows r t.w e (Share hold end by key)) refl
   kind_came m rows r (Bar j need key) x y fits part sent goes_on = away t.w (work_kind rows r t.w e (Bar j need key)) refl

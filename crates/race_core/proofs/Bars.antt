@@ -28,7 +28,7 @@ use Rattle.run_model.specs.States.{state_of, rows_at, works}
 use Rattle.node_model.specs.AnyTime.{MayCome}
 use Rattle.node_model.specs.Jobs
 use Rattle.node_model.specs.Jobs.{Puts, AsksTime, Drops, Fresh, Gets, Part, Phase, RowsAndEnds, Work, fault_of, fault_phase, running_job, side_of, after_failed_release, work_kind}
-use Rattle.node_model.specs.Look.{Made}
+use Rattle.node_model.specs.Look.{Effect}
 use Rattle.node_model.specs.JobStep.{Turn, key_of}
 use Rattle.run_model.specs.Run.{IsStep, OwnPart, OwnRun}
 use Rattle.node_model.specs.Found.{IsJobEntry}
@@ -65,7 +65,7 @@ fault_under r w time PutFile local u = u
 fault_under r w time Unhold local u = unreleased_under w time w.phase u
 fault_under r w time call local u = absurd (phase_under r w w.part (side_of w) w.phase local u)
 
-bars_or : (t : Turn) (m : Made) (rows : RowsAndEnds) (r : ℕ) (e : Entry) (kind : EntryKind) → IsJobEntry t m kind → TalkKind t m kind → Fits t.w.part t.w.phase → t.w.part ≡ Drops → side_of t.w ≡ Local
+bars_or : (t : Turn) (m : Effect) (rows : RowsAndEnds) (r : ℕ) (e : Entry) (kind : EntryKind) → IsJobEntry t m kind → TalkKind t m kind → Fits t.w.part t.w.phase → t.w.part ≡ Drops → side_of t.w ≡ Local
     → under_way (work_kind rows r t.w e kind).phase ≡ true → ((j : ℕ) (outcome : Outcome) → kind ≢ ends_job j outcome) → BarsOr t kind
 bars_or t m rows r e (Share hold end by key) x y fits part local under goes_on = absurd (local_not_remote (side_of t.w) local x.side)
 bars_or t m rows r e (Bar j need key) x y fits part local under goes_on = inl (need, λ i. Bar (x.number_is i) need (x.key_is i))

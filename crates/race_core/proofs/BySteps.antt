@@ -5,7 +5,7 @@ use Rattle.run_data.specs.declared.entry.Entry.{Entry}
 use Rattle.run_data.specs.declared.entry.EntryKind.{EntryKind}
 use Rattle.run_model.specs.Past.{Always, is_of}
 use Rattle.node_model.specs.SetUp.{SetUp}
-use Rattle.node_model.specs.Look.{Look, Made, entry_of}
+use Rattle.node_model.specs.Look.{Look, Effect, entry_of}
 use Rattle.node_model.specs.Step.{step}
 use Rattle.node_model.specs.AnyTime.{MayCome}
 use Rattle.annex_base.specs.declared.kinds.Word.{Word}
@@ -18,7 +18,7 @@ ByStep P = (s : SetUp) (past : List Entry) (words : ℕ → Option Word) (e : En
 
 -- what a step makes has the fact, and what may come at any point has it
 pub by_step : (P : SetUp → List Entry → Entry → Type 0)
-    → ((s : SetUp) (past : List Entry) (k : Look) (m : Made) → OwnPast s past → IsBounded (entry_of s.number k m) → k.part < 2 ^ 62 → step s (state_of s past) k ≡ Some m → P s past (entry_of s.number k m))
+    → ((s : SetUp) (past : List Entry) (k : Look) (m : Effect) → OwnPast s past → IsBounded (entry_of s.number k m) → k.part < 2 ^ 62 → step s (state_of s past) k ≡ Some m → P s past (entry_of s.number k m))
     → ((s : SetUp) (past : List Entry) (e : Entry) → OwnPast s past → IsBounded e → is_of s.number e ≡ true → ComesAnyTime s past e → P s past e)
     → ByStep P
 by_step P made any s past words e h b is part = go part.does

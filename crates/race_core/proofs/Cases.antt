@@ -3,7 +3,7 @@ use Rattle.std.proofs.Common.{◌≡◌, List, [], ◌∷◌, Option, Some, None
 use Rattle.annex_base.specs.declared.kinds.Call.{Call}
 use Rattle.annex_base.specs.Lists.{Member}
 use Rattle.run_data.specs.declared.entry.FrameView.{FrameView}
-use Rattle.node_model.specs.Look.{Look, Made, first_of, first_some, unless}
+use Rattle.node_model.specs.Look.{Look, Effect, first_of, first_some, unless}
 
 -- what holds where a call fails, and else
 pub unless_found : {X : Type 0} (P : X → Type 0) (c : Option Call) (fault : Call → X) (x : X) → ((call : Call) → P (fault call)) → P x → P (unless c fault x)
@@ -25,13 +25,13 @@ some_was {X = X} {Y = Y} f (x ∷ xs) y e = go (λ g. some_was f xs y g) (f x) r
     go more (Some z) is g = (x, inl refl, is ∙ (rw is at g))
 
 -- what it takes is at hand
-abbrev pub TakesAtHand : Look → Made → Type 0
+abbrev pub TakesAtHand : Look → Effect → Type 0
 TakesAtHand k m = (f : FrameView) → m.taken ≡ Some f → Member f k.at_hand
 
-pub takes_none : (k : Look) (m : Made) → m.taken ≡ None → TakesAtHand k m
+pub takes_none : (k : Look) (m : Effect) → m.taken ≡ None → TakesAtHand k m
 takes_none k m none f is = absurd (let no' : None ≡ Some f = sym none ∙ is in cc)
 
-pub takes_one : (k : Look) (m : Made) (f : FrameView) → m.taken ≡ Some f → Member f k.at_hand → TakesAtHand k m
+pub takes_one : (k : Look) (m : Effect) (f : FrameView) → m.taken ≡ Some f → Member f k.at_hand → TakesAtHand k m
 takes_one k m f taken there g is =
     let one : Some f ≡ Some g = sym taken ∙ is in
     let same : f ≡ g = cc in

@@ -14,7 +14,7 @@ use Rattle.run_data.specs.declared.entry.FrameView.{FrameView}
 use Rattle.run_data.specs.declared.entry.FrameText.{FrameText}
 use Rattle.run_data.specs.declared.entry.FrameText.TheVariants.{Opening, Closing, Bytes, Line}
 use Rattle.node_model.specs.Rows.{is_lost_ordered}
-use Rattle.node_model.specs.Look.{first_of, Look, Made, entry_of, waiting}
+use Rattle.node_model.specs.Look.{first_of, Look, Effect, entry_of, waiting_frame}
 use Rattle.p2p_wire.specs.declared.message.Message.TheVariants.{UnlockContent, Success}
 use Rattle.p2p_wire.specs.Messages.{message_of, order_of, text_of}
 use Rattle.node_model.specs.SetUp.{SetUp, others, slots}
@@ -23,7 +23,7 @@ use Rattle.run_model.specs.States.{end_at, works, state_of}
 use Rattle.node_model.specs.Jobs.{Work, job_end, partner}
 use Rattle.node_model.specs.OwedStep.{owed_step}
 use Rattle.node_model.specs.SessionStep.{session_step}
-use Rattle.node_model.specs.JobStep.{Turn, end_with, farewell, farewells, has_lock, key_of, quietly, talk, turn_of, wrong}
+use Rattle.node_model.specs.JobStep.{Turn, end_with, farewell, farewells, has_lock, key_of, quietly, talk, turn_of, wrong_message}
 use Rattle.node_model.specs.Turns.{awaits, by_partner, goes, goes_on, has_room, is_awaiting, job_step, needs, slot_step, takes_frame, with_partner}
 use Rattle.run_model.specs.Run.{IsStep, OwnPart, OwnPast}
 use Rattle.node_model.specs.Found.{ByOwed, BySession, IsJobEntry}
@@ -58,9 +58,9 @@ nothing_sent s past a e is = inl (subst (λ (fs : List FrameView). NoneAsks (sen
 
 -- ---- a step that takes a frame
 
-module _ (t : Turn) (m : Made) (f : FrameView) (took : m.taken ≡ Some f) where
-  none : {A : Type 0} (n : Made) → n ≡ m → n.taken ≡ None → A
-  none n same is = absurd (let both : None ≡ Some f = sym is ∙ ap (λ (y : Made). y.taken) same ∙ took in cc)
+module _ (t : Turn) (m : Effect) (f : FrameView) (took : m.taken ≡ Some f) where
+  none : {A : Type 0} (n : Effect) → n ≡ m → n.taken ≡ None → A
+  none n same is = absurd (let both : None ≡ Some f = sym is ∙ ap (λ (y : Effect). y.taken) same ∙ took in cc)
 
   on_its_own : {A : Type 0} → Goes t t.w.phase → goes_on t ≡ Some m → A
   on_its_own free e = go (list_all (has_room t) (needs t t.w.phase)) e
@@ -77,7 +77,7 @@ module _ (t : Turn) (m : Made) (f : FrameView) (took : m.taken ≡ Some f) where
       go false h = absurd (cc)
       go true h =
           let same : takes_frame t peer g g.body ≡ m = cc in
-          let both : Some g ≡ Some f = sym (frame_found t peer g on g.body refl).0 ∙ ap (λ (y : Made). y.taken) same ∙ took in
+          let both : Some g ≡ Some f = sym (frame_found t peer g on g.body refl).0 ∙ ap (λ (y : Effect). y.taken) same ∙ took in
           let it : g ≡ f = cc in
           subst (λ (h : FrameView). m ≡ takes_frame t peer h h.body) it (sym same)
 
@@ -85,8 +85,8 @@ module _ (t : Turn) (m : Made) (f : FrameView) (took : m.taken ≡ Some f) where
   by_peer peer on false e = let same : quietly (talk t) None ≡ m = cc in none (quietly (talk t) None) same refl
   by_peer peer on true e = go (is_awaiting t.w.phase) refl e
     where
-      go : (b : Bool) → is_awaiting t.w.phase ≡ b → (if b then awaits t peer (waiting (end_with t peer) t.look (job_end t.w peer)) else goes_on t) ≡ Some m → m ≡ takes_frame t peer f f.body
-      go true awaiting g = by_frame peer on (waiting (end_with t peer) t.look (job_end t.w peer)) g
+      go : (b : Bool) → is_awaiting t.w.phase ≡ b → (if b then awaits t peer (waiting_frame (end_with t peer) t.look (job_end t.w peer)) else goes_on t) ≡ Some m → m ≡ takes_frame t peer f f.body
+      go true awaiting g = by_frame peer on (waiting_frame (end_with t peer) t.look (job_end t.w peer)) g
       go false idle g = on_its_own (inr idle) g
 
   -- it is what the frame makes, on the connection of its partner
@@ -114,7 +114,7 @@ taken_there a (Some g) f e = go (takes_at a g) refl e
     go true is h = let same : g ≡ f = cc in (h, subst (λ (z : FrameView). takes_at a z ≡ true) same is)
     go false is h = absurd (cc)
 
-module _ (s : SetUp) (past : List Entry) (k : Look) (w : Work) (m : Made) (does : by_partner (turn_of s (state_of s past) k w) (partner w.what.peer w.phase) ≡ Some m)
+module _ (s : SetUp) (past : List Entry) (k : Look) (w : Work) (m : Effect) (does : by_partner (turn_of s (state_of s past) k w) (partner w.what.peer w.phase) ≡ Some m)
     (may : (f : FrameView) → m.taken ≡ Some f → may_take (end_at past s.number (end_of f)) f ≡ true) where
   abbrev t : Turn
   t = turn_of s (state_of s past) k w
@@ -141,8 +141,8 @@ module _ (s : SetUp) (past : List Entry) (k : Look) (w : Work) (m : Made) (does 
               refused : (b : FrameText) → f.body ≡ b → is_opening b ≡ true → ⊥
               refused Opening at h =
                   let x = by_taken t m f there.0 (partner w.what.peer w.phase) refl does in
-                  let made : m ≡ wrong t f x.0 = x.2 ∙ ap (takes_frame t x.0 f) at in
-                  let both : frames (job_end w peer) (end_with t peer) (body ∷ []) ≡ frames (job_end w x.0) (end_with t x.0) (Closing ∷ []) = sym sent ∙ ap (λ (y : Made). y.sent) made in
+                  let made : m ≡ wrong_message t f x.0 = x.2 ∙ ap (takes_frame t x.0 f) at in
+                  let both : frames (job_end w peer) (end_with t peer) (body ∷ []) ≡ frames (job_end w x.0) (end_with t x.0) (Closing ∷ []) = sym sent ∙ ap (λ (y : Effect). y.sent) made in
                   let same : body ≡ Closing = ap (first_body Closing) both in
                   let no'' : true ≡ false = sym asks ∙ ap is_asking same in cc
               refused Closing at h = absurd (cc)
@@ -202,10 +202,10 @@ module _ (s : SetUp) (past : List Entry) (k : Look) (w : Work) (m : Made) (does 
 -- ---- an own entry
 
 module _ (reads_back : SentAreRead) (s : SetUp) (past : List Entry) (h : OwnPast s past) where
-  owed_sends : (a : EndName) (k : Look) (m : Made) → ByOwed s (state_of s past) k m → Sends s past a (entry_of s.number k m)
-  owed_sends a k m o = nothing_sent s past a (entry_of s.number k m) (elim (o.writes) [ inl w ↦ ap (λ (y : Made). y.sent) w | inr w ↦ ap (λ (y : Made). y.sent) w ])
+  owed_sends : (a : EndName) (k : Look) (m : Effect) → ByOwed s (state_of s past) k m → Sends s past a (entry_of s.number k m)
+  owed_sends a k m o = nothing_sent s past a (entry_of s.number k m) (elim (o.writes) [ inl w ↦ ap (λ (y : Effect). y.sent) w | inr w ↦ ap (λ (y : Effect). y.sent) w ])
 
-  session_sends : (peer slot : ℕ) (k : Look) (m : Made) → BySession s (state_of s past) k m → Sends s past (client_end peer slot) (entry_of s.number k m)
+  session_sends : (peer slot : ℕ) (k : Look) (m : Effect) → BySession s (state_of s past) k m → Sends s past (client_end peer slot) (entry_of s.number k m)
   session_sends peer slot k m x = elim (x.frame) [
     | inl y ↦ at (end_takes ((state_of s past).ends (server_end x.peer x.slot)) y.f.epoch y.f.body) y.sent_is
     | inr y ↦ at ((state_of s past).ends (server_end x.peer x.slot)) y.sent_is
@@ -218,7 +218,7 @@ module _ (reads_back : SentAreRead) (s : SetUp) (past : List Entry) (h : OwnPast
       at : (c : End) → m.sent ≡ frames (server_end x.peer x.slot) c x.says → Sends s past (client_end peer slot) (entry_of s.number k m)
       at c is = inl (subst NoneAsks (sym (ap (sent_at (client_end peer slot)) is ∙ sent_other (server_end x.peer x.slot) (client_end peer slot) c x.says (apart ((x.peer == peer) && (x.slot == slot))))) tt)
 
-  job_sends : (a : EndName) (k : Look) (m : Made) → ((f : FrameView) → m.taken ≡ Some f → may_take (end_at past s.number (end_of f)) f ≡ true) → job_step s (state_of s past) k ≡ Some m
+  job_sends : (a : EndName) (k : Look) (m : Effect) → ((f : FrameView) → m.taken ≡ Some f → may_take (end_at past s.number (end_of f)) f ≡ true) → job_step s (state_of s past) k ≡ Some m
       → Sends s past a (entry_of s.number k m)
   job_sends a k m may e =
       let x = some_was (λ slot. slot_step s (state_of s past) k (find (λ w. w.slot == slot) (works past s.number))) slots m e in

@@ -11,7 +11,7 @@ use Rattle.p2p_wire.specs.Messages.{message_of, text_of}
 use Rattle.node_model.specs.Ends.{EndName, end_takes, takes_at}
 use Rattle.node_model.specs.Jobs
 use Rattle.node_model.specs.Jobs.{Phase, Work, closed_part, job_end, partner, says, taken_message, talks, talks_on, after_frame}
-use Rattle.node_model.specs.Look.{Made}
+use Rattle.node_model.specs.Look.{Effect}
 use Rattle.node_model.specs.JobStep.{Turn, end_with, key_of, me, quietly, says_to, sends_to}
 use Rattle.node_model.specs.Turns.{is_awaiting}
 use Rattle.race_core.proofs.ClientCounts.{last_away, none_is, Counted, Counts, LastIs, Request, Stays, IsLive, answers_here, answers_it, asks_for, awaits_of, counts_sends, counts_takes, is_answering, quiet_here, request, sends_here, takes_here, unit}
@@ -93,7 +93,7 @@ pub record Taking (t : Turn) (f : FrameView) (peer : ℕ) : Type 0 where
   pub of_end : takes_at (job_end t.w peer) f ≡ true
 
 -- the phase that a talk of this job leads to
-abbrev pub Goes : Turn → Made → Type 0
+abbrev pub Goes : Turn → Effect → Type 0
 Goes t m = EvenTo t m (talks_on (rows_of t) (me t) (talker t m.taken) (made_entry t m) (partner t.w.what.peer t.w.phase)).phase
 
 module _ (t : Turn) (kind : EntryKind) (f : FrameView) (peer : ℕ) (x : Taking t f peer) where
@@ -187,7 +187,7 @@ module _ (t : Turn) (kind : EntryKind) (peer : ℕ) (on : partner t.w.what.peer 
       (local_even t m (closed_part (me t) x peer x.part).phase peer (quiet_here t.w peer) (live_on t.w.what.peer t.w.phase peer on) (inr on) (inl (closed_alone t.w.what.peer (me t) x peer x.part))
       (λ q fits l o. absurd (true≢false (sym o ∙ shut)))))
     where
-      m : Made
+      m : Effect
       m = quietly kind None
 
       x : Work
@@ -221,5 +221,5 @@ module _ (t : Turn) (alone : partner t.w.what.peer t.w.phase ≡ None) (live : I
       (λ q fits l o. record { balance = (fits o).balance ∙ ap (λ b. q.got + unit b) (none_awaited 0 ∙ sym (awaits_none t.w.what.peer next 0 none)); last = last_away (key_of t) t.w.what.peer next 0 q.last (none_is (partner t.w.what.peer next) 0 none) })
 
 -- a job that is to end next
-pub over_even : (t : Turn) (m : Made) (phase : Phase) → (IsLive phase → ⊥) → EvenTo t m phase
+pub over_even : (t : Turn) (m : Effect) (phase : Phase) → (IsLive phase → ⊥) → EvenTo t m phase
 over_even t m phase dead p q fits = λ l. absurd (dead l)

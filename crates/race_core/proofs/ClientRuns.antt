@@ -21,11 +21,11 @@ use Rattle.node_model.specs.Slots.{RunningJob, job_by, job_of}
 use Rattle.node_model.specs.Rows.{is_lost_ordered, option_is}
 use Rattle.run_model.specs.Past.{is_of}
 use Rattle.node_model.specs.Ends.{same_bool, EndName, End, end_after, end_sends, end_takes, end_took, frames, sends_at, sent_at, server_end, taken_at, takes_at}
-use Rattle.node_model.specs.Look.{first_of, Look, Made, entry_of}
+use Rattle.node_model.specs.Look.{first_of, Look, Effect, entry_of}
 use Rattle.node_model.specs.SetUp.{SetUp, slots}
 use Rattle.run_model.specs.States.{end_at, rows_at, works, state_of}
 use Rattle.node_model.specs.Jobs.{Phase, Fresh, RowsAndEnds, Work, job_end, new_work, partner, running_job, work_after, work_kind, works_after}
-use Rattle.node_model.specs.Owed.{due}
+use Rattle.node_model.specs.OwedLines.{due}
 use Rattle.node_model.specs.State.{State}
 use Rattle.node_model.specs.OwedStep.{owed_step}
 use Rattle.node_model.specs.SessionStep.{here, session_step}
@@ -207,7 +207,7 @@ server_takes peer slot f p n e =
     let apart : takes_at (client_end p n) f ≡ false = and_right ((f.peer == p) && (f.slot == n)) (same_bool true (if f.up then false else true)) (up_of_server f.up up) in
     rw apart refl
 
-pub session_idle : (s : SetUp) (st : State) (k : Look) (m : Made) (x : BySession s st k m) (slot : ℕ) → IdleAt slot (entry_of s.number k m)
+pub session_idle : (s : SetUp) (st : State) (k : Look) (m : Effect) (x : BySession s st k m) (slot : ℕ) → IdleAt slot (entry_of s.number k m)
 session_idle s st k m x slot p = elim (x.frame) [ inl t ↦ taking t | inr g ↦ giving g ]
   where
     sent : (c : End) → m.sent ≡ frames (server_end x.peer x.slot) c x.says → Each (λ f. f.body ≡ Closing) (sent_at (client_end p slot) m.sent)
@@ -228,7 +228,7 @@ frames_slot : (a : EndName) (c : End) (bodies : List FrameText) → Each (λ f. 
 frames_slot a c [] = tt
 frames_slot a c (body ∷ bodies) = (refl, frames_slot a (end_sends c body) bodies)
 
-job_frames : (t : Turn) (m : Made) (kind : EntryKind) → IsJobEntry t m kind → Each (λ f. f.slot ≡ t.w.slot) m.sent
+job_frames : (t : Turn) (m : Effect) (kind : EntryKind) → IsJobEntry t m kind → Each (λ f. f.slot ≡ t.w.slot) m.sent
 job_frames t m (Share hold end by key) x = subst (Each (λ (f : FrameView). f.slot ≡ t.w.slot)) (sym x.sends_none) tt
 job_frames t m (Bar j need key) x = subst (Each (λ (f : FrameView). f.slot ≡ t.w.slot)) (sym x.sends_none) tt
 job_frames t m (Gone by key) x = subst (Each (λ (f : FrameView). f.slot ≡ t.w.slot)) (sym x.sends_none) tt
@@ -260,7 +260,7 @@ other_takes w peer f p n e apart =
     let off : (f.slot == n) ≡ false = subst (λ (k : ℕ). (k == n) ≡ false) (sym is) apart in
     rw (middle_off (f.peer == p) (f.slot == n) (same_bool true (if f.up then false else true)) off) refl
 
-pub job_idle : (s : SetUp) (st : State) (k : Look) (m : Made) (x : ByJob s st k m) (n : ℕ) → (x.w.slot == n) ≡ false → IdleAt n (entry_of s.number k m)
+pub job_idle : (s : SetUp) (st : State) (k : Look) (m : Effect) (x : ByJob s st k m) (n : ℕ) → (x.w.slot == n) ≡ false → IdleAt n (entry_of s.number k m)
 job_idle s st k m x n apart p = record {
   takes_none = elim (x.frame) [ inl none ↦ ap (taken_at (client_end p n)) none | inr t ↦ ap (taken_at (client_end p n)) t.taken_is ∙ other_takes x.w t.peer t.f p n t.of_end apart ];
   closes = subst (Each (λ (f : FrameView). f.body ≡ Closing)) (sym (none_there p n x.w.slot m.sent (job_frames (turn_of s st k x.w) m m.kind x.found) apart)) tt;
@@ -268,11 +268,11 @@ job_idle s st k m x n apart p = record {
 
 -- ---- the step of a job, and what it keeps
 
-pub record ByJobEven (s : SetUp) (st : State) (k : Look) (m : Made) : Type 0 where
+pub record ByJobEven (s : SetUp) (st : State) (k : Look) (m : Effect) : Type 0 where
   pub by : ByJob s st k m
   pub even : Even (turn_of s st k by.w) m m.kind
 
-slot_even : (s : SetUp) (st : State) (k : Look) → ((w : Work) → Member w st.works → Speaks (turn_of s st k w)) → (slot : ℕ) (m : Made) (w : Option Work)
+slot_even : (s : SetUp) (st : State) (k : Look) → ((w : Work) → Member w st.works → Speaks (turn_of s st k w)) → (slot : ℕ) (m : Effect) (w : Option Work)
     → find (λ w. w.slot == slot) st.works ≡ w → slot_step s st k w ≡ Some m → ByJobEven s st k m
 slot_even s st k speaks slot m None is e = absurd (cc)
 slot_even s st k speaks slot m (Some w) is e =
@@ -280,12 +280,12 @@ slot_even s st k speaks slot m (Some w) is e =
     let there = find_member (λ (y : Work). y.slot == slot) st.works w is in
     record { by = record { w = w; slot = slot; runs = is; frame = x.frame; found = x.found }; even = partner_even (turn_of s st k w) m (speaks w there.0) (partner w.what.peer w.phase) refl e }
 
-job_even : (s : SetUp) (st : State) (k : Look) → ((w : Work) → Member w st.works → Speaks (turn_of s st k w)) → (m : Made) → job_step s st k ≡ Some m → ByJobEven s st k m
+job_even : (s : SetUp) (st : State) (k : Look) → ((w : Work) → Member w st.works → Speaks (turn_of s st k w)) → (m : Effect) → job_step s st k ≡ Some m → ByJobEven s st k m
 job_even s st k speaks m e =
     let x = some_was (λ slot. slot_step s st k (find (λ w. w.slot == slot) st.works)) slots m e in
     slot_even s st k speaks x.0 m (find (λ w. w.slot == x.0) st.works) refl x.2
 
-pub step_even : (s : SetUp) (st : State) (k : Look) → ((w : Work) → Member w st.works → Speaks (turn_of s st k w)) → (m : Made) → step s st k ≡ Some m
+pub step_even : (s : SetUp) (st : State) (k : Look) → ((w : Work) → Member w st.works → Speaks (turn_of s st k w)) → (m : Effect) → step s st k ≡ Some m
     → ByOwed s st k m ⊎ (BySession s st k m ⊎ ByJobEven s st k m)
 step_even s st k speaks m e = elim (first_was (owed_step s st k) (first_of (session_step s st k) (job_step s st k)) m e) [
   | inl o ↦ inl (pays_found s st k m st.owed refl o)
@@ -348,7 +348,7 @@ module _ (s : SetUp) (past : List Entry) (e : Entry) (own : is_of s.number e ≡
 
   -- ---- an entry of a step
 
-  module _ (k : Look) (m : Made) (is : e ≡ entry_of s.number k m) where
+  module _ (k : Look) (m : Effect) (is : e ≡ entry_of s.number k m) where
     kind_is : e.kind ≡ m.kind
     kind_is = ap (λ (y : Entry). y.kind) is
 
@@ -356,8 +356,8 @@ module _ (s : SetUp) (past : List Entry) (e : Entry) (own : is_of s.number e ≡
     idle_of slot idle = subst (IdleAt slot) (sym is) idle
 
     -- a line that is owed
-    owed_made : (n : Made) → m ≡ n → n.taken ≡ None → n.sent ≡ [] → (slot : ℕ) → IdleAt slot e
-    owed_made n same none nothing slot = quiet_idle e slot (ap (λ (y : Entry). y.taken) is ∙ ap (λ (y : Made). y.taken) same ∙ none) (ap (λ (y : Entry). y.sent) is ∙ ap (λ (y : Made). y.sent) same ∙ nothing)
+    owed_made : (n : Effect) → m ≡ n → n.taken ≡ None → n.sent ≡ [] → (slot : ℕ) → IdleAt slot e
+    owed_made n same none nothing slot = quiet_idle e slot (ap (λ (y : Entry). y.taken) is ∙ ap (λ (y : Effect). y.taken) same ∙ none) (ap (λ (y : Entry). y.sent) is ∙ ap (λ (y : Effect). y.sent) same ∙ nothing)
 
     line_fault : (by : By) (w : Work) → e.kind ≡ Fault PutFile by → work_after (rows_at past r) r e w ≡ w
     line_fault by w h = subst (λ (kind : EntryKind). (if option_is (job_of kind) w.number then work_kind (rows_at past r) r w e kind else w) ≡ w) (sym h)
@@ -368,14 +368,14 @@ module _ (s : SetUp) (past : List Entry) (e : Entry) (own : is_of s.number e ≡
       where
         log : m ≡ record { kind = Log (Location o.first.key); taken = None; sent = []; lines = due s.repos (state_of s past).lines ((state_of s past).wall k.time) o.first } → After x
         log w =
-            let kind : e.kind ≡ Log (Location o.first.key) = kind_is ∙ ap (λ (y : Made). y.kind) w in
+            let kind : e.kind ≡ Log (Location o.first.key) = kind_is ∙ ap (λ (y : Effect). y.kind) w in
             moved_fits e.kind refl (λ job what h. let bad : Log (Location o.first.key) ≡ Begin job what = sym kind ∙ h in cc)
             (λ v ran goes_on. left v ran (owed_made (record { kind = Log (Location o.first.key); taken = None; sent = []; lines = due s.repos (state_of s past).lines ((state_of s past).wall k.time) o.first }) w refl refl v.slot)
             (not_its v (ap (λ q. option_is (job_of q) v.number) kind))) x mem
 
         fault : m ≡ record { kind = Fault PutFile o.first.by; taken = None; sent = []; lines = [] } → After x
         fault w =
-            let kind : e.kind ≡ Fault PutFile o.first.by = kind_is ∙ ap (λ (y : Made). y.kind) w in
+            let kind : e.kind ≡ Fault PutFile o.first.by = kind_is ∙ ap (λ (y : Effect). y.kind) w in
             moved_fits e.kind refl (λ job what h. let bad : Fault PutFile o.first.by ≡ Begin job what = sym kind ∙ h in cc)
             (λ v ran goes_on. left v ran (owed_made (record { kind = Fault PutFile o.first.by; taken = None; sent = []; lines = [] }) w refl refl v.slot) (line_fault o.first.by v kind)) x mem
 

@@ -31,11 +31,11 @@ use Rattle.node_model.specs.Sessions.{line_in, reaches}
 use Rattle.node_model.specs.Jobs
 use Rattle.node_model.specs.Jobs.{Part, Gets, Puts, Drops, Phase, RowsAndEnds, Fresh, Next, Opens, Greets, GetsData, GetsBytes, GetsWord, PutsOffer, PutsBytes, PutsWord, PutsAnswer, AsksLock, AsksLook, AsksTime, Removed, Denied, Late, Ends, Work, fault_of, fault_phase, first_look, gets_more, puts_more, is_move, job_end, listens, partner, quiet, says, side_of, taken_message, after_frame, after_transfer, after_failed_release}
 use Rattle.node_model.specs.Calls.{to_commit, to_hold, to_release, to_resume, to_read}
-use Rattle.node_model.specs.Look.{Made, failing, unless, waiting}
+use Rattle.node_model.specs.Look.{Effect, failing_call, unless, waiting_frame}
 use Rattle.annex_base.specs.Calls.{same_call}
 use Rattle.node_model.specs.SessionStep.{bytes_left}
 use Rattle.node_model.specs.Knows.{enough_by, next_by}
-use Rattle.node_model.specs.JobStep.{Turn, hears, attempts, bar_there, by_me, clock_of, end_with, ends, farewells, is_there, key_of, me, owns_share, quietly, says_to, sends_to, talk, wrong}
+use Rattle.node_model.specs.JobStep.{Turn, hears, attempts, bar_there, by_me, clock_of, end_with, ends, farewells, is_there, key_of, me, owns_share, quietly, says_to, sends_to, talk, wrong_message}
 use Rattle.node_model.specs.DropStep.{takes_drop, takes_time, asks_copy, asks_lock, asks_target, bars, expiry, first_drop, first_end, first_remote, held_until, in_time, lacking_outcome, need_now, orders, own_share, removes, required_there, row_refusal, target, times, tries_own}
 use Rattle.node_model.specs.Requests.{asks, goes_to}
 use Rattle.node_model.specs.TransferStep.{takes_get, takes_put, content_of, first_get, first_put, gains, next_get, next_source, puts_from, puts_piece, takes_bytes}
@@ -73,17 +73,17 @@ failure_reads = refl
 
 -- ---- store calls
 
-abbrev pub EvenMade : Turn → Made → Type 0
+abbrev pub EvenMade : Turn → Effect → Type 0
 EvenMade t m = Even t m m.kind
 
-pub attempts_even : (P : Made → Type 0) (t : Turn) (cs : List Call) (taken : Option FrameView) (m : Made)
+pub attempts_even : (P : Effect → Type 0) (t : Turn) (cs : List Call) (taken : Option FrameView) (m : Effect)
     → ((call : Call) → list_any (same_call call) cs ≡ true → P (quietly (Fault call (by_me t)) taken)) → P m → P (attempts t cs taken m)
 attempts_even P t cs taken m bad good = go t.look.fails
   where
-    fault : Call → Made
+    fault : Call → Effect
     fault call = quietly (Fault call (by_me t)) taken
 
-    go : (o : Option Call) → P (unless (failing o cs) fault m)
+    go : (o : Option Call) → P (unless (failing_call o cs) fault m)
     go None = good
     go (Some c) = if_either (λ (x : Option Call). P (unless x fault m)) (list_any (same_call c) cs) (Some c) None (λ e. bad c e) (λ e. good)
 
@@ -149,7 +149,7 @@ unreleased_alone target w time phase alone = alone
 
 ends_even : (t : Turn) → partner t.w.what.peer t.w.phase ≡ None → IsLive t.w.phase → (outcome : Outcome) → EvenMade t (ends t None outcome)
 ends_even t alone live outcome =
-    let rest : Made = record { kind = ends_job t.w.number outcome; taken = None; sent = farewells t (is_lost_ordered outcome); lines = [] } in
+    let rest : Effect = record { kind = ends_job t.w.number outcome; taken = None; sent = farewells t (is_lost_ordered outcome); lines = [] } in
     attempts_even (EvenMade t) t (to_release (owns_share t && not (is_lost_ordered outcome))) None rest
     (λ call e. subst (λ (c : Call). EvenMade t (quietly (Fault c (by_me t)) None)) (sym (release_is (owns_share t && not (is_lost_ordered outcome)) call e))
     (still_even t alone live (Fault calls.Unhold (by_me t)) (after_failed_release t.w t.look.time t.w.phase).phase (unreleased_alone t.w.what.peer t.w t.look.time t.w.phase alone))) tt
@@ -157,7 +157,7 @@ ends_even t alone live outcome =
 -- the end of a job that is to end
 dead_even : (t : Turn) → (IsLive t.w.phase → ⊥) → (outcome : Outcome) → EvenMade t (ends t None outcome)
 dead_even t dead outcome =
-    let rest : Made = record { kind = ends_job t.w.number outcome; taken = None; sent = farewells t (is_lost_ordered outcome); lines = [] } in
+    let rest : Effect = record { kind = ends_job t.w.number outcome; taken = None; sent = farewells t (is_lost_ordered outcome); lines = [] } in
     attempts_even (EvenMade t) t (to_release (owns_share t && not (is_lost_ordered outcome))) None rest
     (λ call e. subst (λ (c : Call). EvenMade t (quietly (Fault c (by_me t)) None)) (sym (release_is (owns_share t && not (is_lost_ordered outcome)) call e))
     (over_even t (quietly (Fault calls.Unhold (by_me t)) None) (after_failed_release t.w t.look.time t.w.phase).phase (still_dead t.w.phase refl))) tt
@@ -359,7 +359,7 @@ module _ (t : Turn) (f : FrameView) (peer : ℕ) (x : Taking t f peer) (speaks :
       let r = rests t next peer none in
       hears_even t (talk t) f peer x next (answers_line f.body m told e) (ap (λ (y : Work). y.phase) (took_listens (talker t (Some f)) f.body m phase told (talker_phase t (Some f) ∙ is)) ∙ goes) r.stays r.now r.any
 
-  bad : EvenMade t (wrong t f peer)
+  bad : EvenMade t (wrong_message t f peer)
   bad = wrong_even t (talk t) f peer x
 
   fault_here : (call : Call) → is_plain call ≡ true → EvenMade t (quietly (Fault call (by_me t)) (Some f))
@@ -371,7 +371,7 @@ module _ (t : Turn) (f : FrameView) (peer : ℕ) (x : Taking t f peer) (speaks :
   -- the release of its own share fails, as the timestamp comes too late
   late_even : (n : ℕ) (outcome : Outcome) → t.w.phase ≡ AsksTime → line_in f.body ≡ Some (Timestamp n) → EvenMade t (ends t (Some f) outcome)
   late_even n outcome is told =
-      let rest : Made = record { kind = ends_job t.w.number outcome; taken = Some f; sent = farewells t (is_lost_ordered outcome); lines = [] } in
+      let rest : Effect = record { kind = ends_job t.w.number outcome; taken = Some f; sent = farewells t (is_lost_ordered outcome); lines = [] } in
       attempts_even (EvenMade t) t (to_release (owns_share t && not (is_lost_ordered outcome))) (Some f) rest
       (λ call e. subst (λ (c : Call). EvenMade t (quietly (Fault c (by_me t)) (Some f))) (sym (release_is (owns_share t && not (is_lost_ordered outcome)) call e))
       (subst (λ (p : Phase). EvenTo t (quietly (Fault calls.Unhold (by_me t)) (Some f)) (after_failed_release t.w t.look.time p).phase) (sym is)
@@ -400,7 +400,7 @@ module _ (t : Turn) (f : FrameView) (peer : ℕ) (x : Taking t f peer) (speaks :
 
   time_even : (n : ℕ) → t.w.part ≡ Drops → t.w.phase ≡ AsksTime → line_in f.body ≡ Some (Timestamp n) → (side : Side) → side_of t.w ≡ side → EvenMade t (takes_time t f peer n side)
   time_even n part is told Local side = bad
-  time_even n part is told Remote side = if_either (EvenMade t) (nat_lt n (2 ^ 61)) (times t f n (first_end t)) (wrong t f peer)
+  time_even n part is told Remote side = if_either (EvenMade t) (nat_lt n (2 ^ 61)) (times t f n (first_end t)) (wrong_message t f peer)
       (λ e. times_even n e part side is told (first_end t) refl) (λ e. bad)
 
   drop_even : t.w.part ≡ Drops → (phase : Phase) (m : Message) → t.w.phase ≡ phase → line_in f.body ≡ Some m → EvenMade t (takes_drop t f peer phase m)
@@ -441,16 +441,16 @@ module _ (t : Turn) (f : FrameView) (peer : ℕ) (x : Taking t f peer) (speaks :
   from_even p n is told =
       let k = bytes_left (content_of t) n in
       let r = more_puts t peer peer n n k refl in
-      attempts_even (EvenMade t) t (calls.Size ∷ []) (Some f) (if reaches (content_of t) n then says_to t (talk t) (Some f) peer (Data k) else wrong t f peer)
+      attempts_even (EvenMade t) t (calls.Size ∷ []) (Some f) (if reaches (content_of t) n then says_to t (talk t) (Some f) peer (Data k) else wrong_message t f peer)
       (λ call e. fault_here call (plain_in call (calls.Size ∷ []) refl refl e))
-      (if_either (EvenMade t) (reaches (content_of t) n) (says_to t (talk t) (Some f) peer (Data k)) (wrong t f peer)
+      (if_either (EvenMade t) (reaches (content_of t) n) (says_to t (talk t) (Some f) peer (Data k)) (wrong_message t f peer)
       (λ e. tells_even t (talk t) f peer x (Data k) (puts_more peer n n k) (answers_line f.body (PutFrom n) told refl) (speaks.data' n) refl
       (ap (λ (o : Option Message). Jobs.put_from peer k o) told) r.stays r.now r.any) (λ e. bad))
 
   put_even : (phase : Phase) (m : Message) → t.w.phase ≡ phase → line_in f.body ≡ Some m → EvenMade t (takes_put t f peer phase m)
   put_even (PutsOffer p) AlreadyHave is told = heard_even (PutsOffer p) AlreadyHave (after_transfer (talker t (Some f)) (Copied None)).phase is told refl refl (transferred_alone t.w.what.peer (talker t (Some f)) (Copied None))
   put_even (PutsOffer p) Failure is told = heard_even (PutsOffer p) Failure (Ends (TransferRefused failures.Rejected)) is told refl refl refl
-  put_even (PutsOffer p) (Error text) is told = if_either (EvenMade t) (bytes_eq text (codes "busy")) (hears t f) (wrong t f peer)
+  put_even (PutsOffer p) (Error text) is told = if_either (EvenMade t) (bytes_eq text (codes "busy")) (hears t f) (wrong_message t f peer)
       (λ e. heard_even (PutsOffer p) (Error text) (Ends (TransferRefused failures.Busy)) is told e refl refl) (λ e. bad)
   put_even (PutsOffer p) (PutFrom n) is told = from_even p n is told
   put_even (PutsAnswer p start) Success is told = heard_even (PutsAnswer p start) Success (after_transfer (talker t (Some f)) (Copied (Some start))).phase is told refl refl (transferred_alone t.w.what.peer (talker t (Some f)) (Copied (Some start)))
@@ -465,7 +465,7 @@ module _ (t : Turn) (f : FrameView) (peer : ℕ) (x : Taking t f peer) (speaks :
   takes_even : (phase : Phase) (m : Message) → t.w.phase ≡ phase → line_in f.body ≡ Some m → EvenMade t (takes t f peer phase m)
   takes_even (Opens p) (AuthSuccess id) is told =
       asker (AuthSuccess id) told refl (talk t) (Version 3) (Greets peer) speaks.version refl refl (inr refl) (awaits_true t.w.what.peer (Greets peer) peer refl refl) (λ e. refl)
-  takes_even (Greets p) (Version n) is told = if_either (EvenMade t) (nat_le n 3) (asks t n (Some f) peer t.w.part) (wrong t f peer)
+  takes_even (Greets p) (Version n) is told = if_either (EvenMade t) (nat_le n 3) (asks t n (Some f) peer t.w.part) (wrong_message t f peer)
       (λ e. first_asks t n (Some f) peer speaks (asker (Version n) told refl) (heard_even (Greets p) (Version n) (Ends (Refused (refusals.OldProtocol n))) is told refl refl refl) fault_here t.w.part refl)
       (λ e. bad)
   takes_even phase m is told = answer_even phase m is told t.w.part refl
@@ -477,7 +477,7 @@ module _ (t : Turn) (f : FrameView) (peer : ℕ) (x : Taking t f peer) (speaks :
   bytes_taken : (n : ℕ) → f.body ≡ Bytes n → (phase : Phase) → t.w.phase ≡ phase → EvenMade t (takes_bytes t f peer n phase)
   bytes_taken n body (GetsBytes p start size left) is =
       let r = more_gets t p peer start (size + n) (left - n) (same_peer (GetsBytes p start size left) is) in
-      if_either (EvenMade t) (nat_lt 0 n && nat_le n left) (attempts t (calls.Append ∷ []) (Some f) (quietly (talk t) (Some f))) (wrong t f peer)
+      if_either (EvenMade t) (nat_lt 0 n && nat_le n left) (attempts t (calls.Append ∷ []) (Some f) (quietly (talk t) (Some f))) (wrong_message t f peer)
       (λ e. attempts_even (EvenMade t) t (calls.Append ∷ []) (Some f) (quietly (talk t) (Some f)) (λ call h. fault_here call (plain_in call (calls.Append ∷ []) refl refl h))
       (keeps_even t (talk t) f peer x (gets_more p start (size + n) (left - n)) (λ q. ap (λ (b : FrameText). counts_takes q b) body)
       (ap (λ (b : FrameText). (after_frame (talker t (Some f)) b).phase) body ∙ ap (λ (q : Phase). Jobs.gets_bytes n q) (talker_phase t (Some f) ∙ is)) r.stays r.now
@@ -534,15 +534,15 @@ goes_on_even t peer on opened idle (PutsWord p start) is =
     word_even t p start is (subst (λ n. (end_with t n).opened ≡ true) same opened)
 goes_on_even t peer on opened idle phase is = absurd (true≢false (subst (λ (q : Phase). is_awaiting q ≡ false) is idle))
 
-on_even : (t : Turn) (m : Made) → EvenMade t (goes t t.w.phase) → goes_on t ≡ Some m → EvenMade t m
+on_even : (t : Turn) (m : Effect) → EvenMade t (goes t t.w.phase) → goes_on t ≡ Some m → EvenMade t m
 on_even t m even e = go (list_all (has_room t) (needs t t.w.phase)) e
   where
     go : (b : Bool) → (if b then Some (goes t t.w.phase) else None) ≡ Some m → EvenMade t m
     go true g = let same : goes t t.w.phase ≡ m = cc in subst (EvenMade t) same even
     go false g = absurd (cc)
 
-wait_even : (t : Turn) (peer : ℕ) (m : Made) → Speaks t → partner t.w.what.peer t.w.phase ≡ Some peer → is_awaiting t.w.phase ≡ true → (end_with t peer).opened ≡ true
-    → (f : Option FrameView) → waiting (end_with t peer) t.look (job_end t.w peer) ≡ f → awaits t peer f ≡ Some m → EvenMade t m
+wait_even : (t : Turn) (peer : ℕ) (m : Effect) → Speaks t → partner t.w.what.peer t.w.phase ≡ Some peer → is_awaiting t.w.phase ≡ true → (end_with t peer).opened ≡ true
+    → (f : Option FrameView) → waiting_frame (end_with t peer) t.look (job_end t.w peer) ≡ f → awaits t peer f ≡ Some m → EvenMade t m
 wait_even t peer m speaks on awaiting opened None is e = absurd (cc)
 wait_even t peer m speaks on awaiting opened (Some f) is e = go (has_room t peer) e
   where
@@ -554,14 +554,14 @@ wait_even t peer m speaks on awaiting opened (Some f) is e = go (has_room t peer
         let both = and_parts (takes_at (job_end t.w peer) f) (may_take (end_with t peer) f) was.1 in
         subst (EvenMade t) same (frame_even t f peer (record { on = on; awaiting = awaiting; opened = opened; of_end = both.0 }) speaks f.body refl)
 
-with_even : (t : Turn) (peer : ℕ) (m : Made) → Speaks t → partner t.w.what.peer t.w.phase ≡ Some peer → (b : Bool) → (end_with t peer).opened ≡ b → with_partner t peer b ≡ Some m → EvenMade t m
+with_even : (t : Turn) (peer : ℕ) (m : Effect) → Speaks t → partner t.w.what.peer t.w.phase ≡ Some peer → (b : Bool) → (end_with t peer).opened ≡ b → with_partner t peer b ≡ Some m → EvenMade t m
 with_even t peer m speaks on false opened e = let same : quietly (talk t) None ≡ m = cc in subst (EvenMade t) same (lost_even t (talk t) peer on opened)
 with_even t peer m speaks on true opened e = go (is_awaiting t.w.phase) refl e
   where
-    go : (b : Bool) → is_awaiting t.w.phase ≡ b → (if b then awaits t peer (waiting (end_with t peer) t.look (job_end t.w peer)) else goes_on t) ≡ Some m → EvenMade t m
-    go true awaiting g = wait_even t peer m speaks on awaiting opened (waiting (end_with t peer) t.look (job_end t.w peer)) refl g
+    go : (b : Bool) → is_awaiting t.w.phase ≡ b → (if b then awaits t peer (waiting_frame (end_with t peer) t.look (job_end t.w peer)) else goes_on t) ≡ Some m → EvenMade t m
+    go true awaiting g = wait_even t peer m speaks on awaiting opened (waiting_frame (end_with t peer) t.look (job_end t.w peer)) refl g
     go false idle g = on_even t m (goes_on_even t peer on opened idle t.w.phase refl) g
 
-pub partner_even : (t : Turn) (m : Made) → Speaks t → (p : Option ℕ) → partner t.w.what.peer t.w.phase ≡ p → by_partner t p ≡ Some m → EvenMade t m
+pub partner_even : (t : Turn) (m : Effect) → Speaks t → (p : Option ℕ) → partner t.w.what.peer t.w.phase ≡ p → by_partner t p ≡ Some m → EvenMade t m
 partner_even t m speaks None on e = on_even t m (goes_alone t speaks on t.w.phase refl) e
 partner_even t m speaks (Some peer) on e = with_even t peer m speaks on (end_with t peer).opened refl e

@@ -15,7 +15,7 @@ use Rattle.node_model.specs.Rows.{option_is}
 use Rattle.node_model.specs.Sessions.{line_in}
 use Rattle.node_model.specs.Jobs
 use Rattle.node_model.specs.Jobs.{Part, Gets, Puts, Drops, Phase, RowsAndEnds, Work, claims, closed_part, job_end, learns, partner, talks, talks_on, work_kind}
-use Rattle.node_model.specs.Look.{Made, entry_of}
+use Rattle.node_model.specs.Look.{Effect, entry_of}
 use Rattle.node_model.specs.JobStep.{Turn, end_with, key_of, me}
 use Rattle.race_core.proofs.JobKept.{claims_kept, learns_kept}
 use Rattle.race_core.proofs.ClientCounts
@@ -25,31 +25,31 @@ use Rattle.race_core.proofs.ClientCounts
 abbrev pub rows_of : Turn → RowsAndEnds
 rows_of t = record { present = t.present; bar = t.bar; ends = t.ends }
 
-abbrev pub made_entry : Turn → Made → Entry
+abbrev pub made_entry : Turn → Effect → Entry
 made_entry t m = entry_of (me t) t.look m
 
-abbrev pub moved : Turn → Made → EntryKind → Work
+abbrev pub moved : Turn → Effect → EntryKind → Work
 moved t m kind = work_kind (rows_of t) (me t) t.w (made_entry t m) kind
 
 -- the phase after it fits what is counted then, at every end of the job, where the one before did
-abbrev pub EvenTo : Turn → Made → Phase → Type 0
+abbrev pub EvenTo : Turn → Effect → Phase → Type 0
 EvenTo t m next = (p : ℕ) (q : ClientCounts.Counts) → ClientCounts.Fits (key_of t) t.w.what.peer t.w.phase p (end_with t p) q
     → ClientCounts.Fits (key_of t) t.w.what.peer next p (end_after (job_end t.w p) (end_with t p) (made_entry t m)) (ClientCounts.counts_after (job_end t.w p) q (made_entry t m))
 
 -- a job that ends has no phase any more
-abbrev pub Even : Turn → Made → EntryKind → Type 0
+abbrev pub Even : Turn → Effect → EntryKind → Type 0
 Even t m (ends_job j outcome) = Unit {0}
 Even t m kind = EvenTo t m (moved t m kind).phase
 
-abbrev pub end_then : End → Made → End
+abbrev pub end_then : End → Effect → End
 end_then c m = fold (λ c f. end_sends c f.body) (end_took c m.taken) m.sent
 
-abbrev pub counts_then : ℕ → ClientCounts.Counts → Made → ClientCounts.Counts
+abbrev pub counts_then : ℕ → ClientCounts.Counts → Effect → ClientCounts.Counts
 counts_then time q m = fold (λ c f. ClientCounts.counts_sends time c f.body) (ClientCounts.counts_took q m.taken) m.sent
 
 -- ---- one end alone
 
-pub local_even : (t : Turn) (m : Made) (next : Phase) (peer : ℕ) → ClientCounts.Local t.w peer m.taken m.sent
+pub local_even : (t : Turn) (m : Effect) (next : Phase) (peer : ℕ) → ClientCounts.Local t.w peer m.taken m.sent
     → ClientCounts.IsLive t.w.phase → ClientCounts.Stays t.w.what.peer t.w.phase peer → ClientCounts.Stays t.w.what.peer next peer
     → ((q : ClientCounts.Counts) → ((end_with t peer).opened ≡ true → ClientCounts.Counted (key_of t) t.w.what.peer t.w.phase peer q) → ClientCounts.IsLive next
     → (end_then (end_with t peer) m).opened ≡ true → ClientCounts.Counted (key_of t) t.w.what.peer next peer (counts_then t.look.time q m))
@@ -100,7 +100,7 @@ live_on target phase peer on = tt
 -- ---- on an open connection
 
 -- a step on the connection of the partner: while that stays open, it goes where its frames say
-pub talk_even : (t : Turn) (m : Made) (peer : ℕ) (next : Phase) → partner t.w.what.peer t.w.phase ≡ Some peer → ClientCounts.Local t.w peer m.taken m.sent
+pub talk_even : (t : Turn) (m : Effect) (peer : ℕ) (next : Phase) → partner t.w.what.peer t.w.phase ≡ Some peer → ClientCounts.Local t.w peer m.taken m.sent
     → ((talks (rows_of t) (me t) (talker t m.taken) (made_entry t m) m.sent).phase ≡ next) → ClientCounts.Stays t.w.what.peer next peer
     → ((q : ClientCounts.Counts) → ((end_with t peer).opened ≡ true → ClientCounts.Counted (key_of t) t.w.what.peer t.w.phase peer q) → ClientCounts.IsLive next
     → (end_then (end_with t peer) m).opened ≡ true → ClientCounts.Counted (key_of t) t.w.what.peer next peer (counts_then t.look.time q m))
@@ -133,7 +133,7 @@ talk_even t m peer next on local goes stays here = subst (λ (p : Option ℕ). E
         (λ q fits l o. absurd (true≢false (sym o ∙ shut is)))
 
 -- a step of a job that stands on no connection
-pub alone_even : (t : Turn) (m : Made) (peer : ℕ) (next : Phase) → partner t.w.what.peer t.w.phase ≡ None → ClientCounts.IsLive t.w.phase → ClientCounts.Local t.w peer m.taken m.sent
+pub alone_even : (t : Turn) (m : Effect) (peer : ℕ) (next : Phase) → partner t.w.what.peer t.w.phase ≡ None → ClientCounts.IsLive t.w.phase → ClientCounts.Local t.w peer m.taken m.sent
     → ((talks (rows_of t) (me t) (talker t m.taken) (made_entry t m) m.sent).phase ≡ next) → ClientCounts.Stays t.w.what.peer next peer
     → ((q : ClientCounts.Counts) → ((end_with t peer).opened ≡ true → ClientCounts.Counted (key_of t) t.w.what.peer t.w.phase peer q) → ClientCounts.IsLive next
     → (end_then (end_with t peer) m).opened ≡ true → ClientCounts.Counted (key_of t) t.w.what.peer next peer (counts_then t.look.time q m))

@@ -28,8 +28,8 @@ use Rattle.node_model.specs.SetUp.{SetUp}
 use Rattle.run_model.specs.States.{rows_at, works}
 use Rattle.node_model.specs.Sessions.{line_in}
 use Rattle.node_model.specs.Jobs.{Drops, Ends, Gets, GetsWord, Part, Phase, Puts, Work, job_end, partner, running_job, source_cause, taken_message, work_kind}
-use Rattle.node_model.specs.Look.{Made, waiting}
-use Rattle.node_model.specs.JobStep.{Turn, end_with, quietly, talk, wrong}
+use Rattle.node_model.specs.Look.{Effect, waiting_frame}
+use Rattle.node_model.specs.JobStep.{Turn, end_with, quietly, talk, wrong_message}
 use Rattle.node_model.specs.Turns.{awaits, by_partner, goes_on, has_room, is_awaiting, takes, takes_answer, takes_frame, takes_text, with_partner}
 use Rattle.run_model.specs.Run.{OwnPast, OwnRun}
 use Rattle.race_core.proofs.JobFacts.{frame_found}
@@ -130,19 +130,19 @@ shut_stands s past run told w m = invariant s (λ p x. ShutsTold s p → ShutSta
 -- ---- a get's sources
 
 -- at the end of the bytes a job says FAILURE where it took VALID or INVALID
-pub record WordTaken (m : Made) : Type 0 where
+pub record WordTaken (m : Effect) : Type 0 where
   pub f : FrameView
   pub takes_it : m.taken ≡ Some f
   pub word : (line_in f.body ≡ Some Valid) ⊎ (line_in f.body ≡ Some Invalid)
 
-abbrev FirstSays : Made → Type 0
+abbrev FirstSays : Effect → Type 0
 FirstSays m = (f : FrameView) (rest : List FrameView) → m.sent ≡ f ∷ rest → line_in f.body ≡ Some Failure → WordTaken m
 
 abbrev first_body : List FrameView → Option FrameText
 first_body [] = None
 first_body (f ∷ fs) = Some f.body
 
-wrong_word : (t : Turn) (f : FrameView) (peer : ℕ) → FirstSays (wrong t f peer)
+wrong_word : (t : Turn) (f : FrameView) (peer : ℕ) → FirstSays (wrong_message t f peer)
 wrong_word t f peer g rest sent told =
     let same : Some Closing ≡ Some g.body = ap (λ fs. first_body fs) sent in
     let body : Closing ≡ g.body = cc in
@@ -163,9 +163,9 @@ body_word t f peer p start size at part (Line text) is took = line (message_of t
     line None told took = wrong_word t f peer
     line (Some m) told took =
         let same : takes t f peer t.w.phase m ≡ takes_answer t f peer Gets (GetsWord p start size) m = ap (λ (q : Phase). takes t f peer q m) at ∙ ap (λ (q : Part). takes_answer t f peer q (GetsWord p start size) m) part in
-        subst FirstSays (sym same) (get_word t f peer p start size m told (subst (λ (x : Made). x.taken ≡ Some f) same took))
+        subst FirstSays (sym same) (get_word t f peer p start size m told (subst (λ (x : Effect). x.taken ≡ Some f) same took))
 
-word_taken_by : (t : Turn) (m : Made) (p start size : ℕ) → t.w.phase ≡ GetsWord p start size → t.w.part ≡ Gets → by_partner t (partner t.w.what.peer t.w.phase) ≡ Some m → FirstSays m
+word_taken_by : (t : Turn) (m : Effect) (p start size : ℕ) → t.w.phase ≡ GetsWord p start size → t.w.part ≡ Gets → by_partner t (partner t.w.what.peer t.w.phase) ≡ Some m → FirstSays m
 word_taken_by t m p start size at part e = go (end_with t p).opened (subst (λ (q : Option ℕ). by_partner t q ≡ Some m) on e)
   where
     on : partner t.w.what.peer t.w.phase ≡ Some p
@@ -173,7 +173,7 @@ word_taken_by t m p start size at part e = go (end_with t p).opened (subst (λ (
 
     go : (b : Bool) → with_partner t p b ≡ Some m → FirstSays m
     go false g = let made : quietly (talk t) None ≡ m = cc in subst FirstSays made (λ f rest sent told. absurd (cc))
-    go true g = taken (waiting (end_with t p) t.look (job_end t.w p)) (subst (λ (b : Bool). (if b then awaits t p (waiting (end_with t p) t.look (job_end t.w p)) else goes_on t) ≡ Some m) (ap is_awaiting at) g)
+    go true g = taken (waiting_frame (end_with t p) t.look (job_end t.w p)) (subst (λ (b : Bool). (if b then awaits t p (waiting_frame (end_with t p) t.look (job_end t.w p)) else goes_on t) ≡ Some m) (ap is_awaiting at) g)
       where
         taken : (o : Option FrameView) → awaits t p o ≡ Some m → FirstSays m
         taken None k = absurd (cc)

@@ -26,7 +26,7 @@ use Rattle.node_model.specs.Ends.{End, EndName, end_after, end_takes, end_took, 
 use Rattle.run_model.specs.States.{end_at, session, works}
 use Rattle.node_model.specs.Sessions.{Session, line_in, new_session}
 use Rattle.node_model.specs.Jobs.{Drops, Greets, Heard, Opens, Phase, Work, job_end, partner, running_job}
-use Rattle.node_model.specs.Look.{Made}
+use Rattle.node_model.specs.Look.{Effect}
 use Rattle.node_model.specs.JobStep.{Turn, is_held}
 use Rattle.run_model.specs.Run.{OwnPast, OwnRun, RunPast, RunStep, set_up}
 use Rattle.node_model.specs.Turns.{is_awaiting}
@@ -121,7 +121,7 @@ known_or w p = go (partner w.what.peer w.phase) refl
     go (Some q) is = on q is (q == p) refl
     go None is = inl (ap is_greeted (rw is refl) ∙ greeted (kept w p))
 
-good_keeps : (t : Turn) (m : Made) (kind : EntryKind) → ((j : ℕ) (outcome : Outcome) → kind ≢ ends_job j outcome) → Good t m kind → KeepsTo t m (moved t m kind) × ClosesFor t m
+good_keeps : (t : Turn) (m : Effect) (kind : EntryKind) → ((j : ℕ) (outcome : Outcome) → kind ≢ ends_job j outcome) → Good t m kind → KeepsTo t m (moved t m kind) × ClosesFor t m
 good_keeps t m (ends_job j outcome) on g = absurd (on j outcome refl)
 good_keeps t m kind on g = g
 
@@ -151,7 +151,7 @@ module _ (reads_back : SentAreRead) (run : Run) (repos : Each IsSetUp run.repos)
     abbrev t : Turn
     t = turn_at s past e y
 
-    abbrev m : Made
+    abbrev m : Effect
     m = y.made
 
     abbrev w : Work

@@ -12,7 +12,7 @@ use Rattle.p2p_wire.specs.declared.message.Message.TheVariants.{Version, PutFrom
 use Rattle.p2p_wire.specs.Messages.{message_of, text_of}
 use Rattle.node_model.specs.Sessions.{Doing, Waits, Guards, Gives, Gave, Wants, Takes, Took, Session, line_in, reaches, sent_one}
 use Rattle.node_model.specs.SessionStep.{Here, Reply, by_of, close_kind, content_of, gives_next, on_piece, reply, shuts}
-use Rattle.node_model.specs.Look.{failing}
+use Rattle.node_model.specs.Look.{failing_call}
 use Rattle.race_core.proofs.Cases.{unless_found}
 use Rattle.race_core.proofs.Dialogue
 use Rattle.race_core.proofs.Dialogue.{Stance}
@@ -151,7 +151,7 @@ module _ (key : List ℕ) (at left : ℕ) (good : Bool) (v : ℕ) where
     word_says none false = inr ((refl, tt), (λ g. refl), gives_on (made v Gave) (Line (text_of Invalid)) (word_longer Invalid none (inr refl)) on up down x)
 
     piece_says : (n : ℕ) → (nat_lt 0 n && nat_le n left) ≡ true → Gone (on_piece h key at n)
-    piece_says n fits = unless_found Gone (failing h.fails (calls.Read ∷ [])) (λ call. record { kind = Fault call (by_of h); says = Closing ∷ [] })
+    piece_says n fits = unless_found Gone (failing_call h.fails (calls.Read ∷ [])) (λ call. record { kind = Fault call (by_of h); says = Closing ∷ [] })
         (if reaches (content_of h key) (at + n) then record { kind = Talk None; says = Bytes n ∷ [] } else shuts (close_kind h)) (λ call. inl refl)
         (if_either Gone (reaches (content_of h key) (at + n)) (record { kind = Talk None; says = Bytes n ∷ [] }) (shuts (close_kind h))
         (λ e. inr ((refl, tt), (λ g. refl), gives_on (made v (Gives key (at + n) (left - n) good)) (Bytes n) (piece_longer n fits) on up down x)) (λ e. inl refl))

@@ -15,7 +15,7 @@ use Rattle.node_model.specs.Ends.{EndName, end_after, end_sends, end_takes, end_
 use Rattle.node_model.specs.Sessions.{Session, is_closing}
 use Rattle.node_model.specs.Jobs
 use Rattle.node_model.specs.Jobs.{Phase, Work, closed_part, job_end, partner, says, taken_message, talks, talks_on, after_frame}
-use Rattle.node_model.specs.Look.{Made}
+use Rattle.node_model.specs.Look.{Effect}
 use Rattle.node_model.specs.JobStep.{Turn, end_with, me, quietly, says_to, sends_to}
 use Rattle.race_core.proofs.ClientCounts.{IsLive, Local, Stays, answers_here, none_is, quiet_here, sends_here, takes_here}
 use Rattle.race_core.proofs.ClientTurns.{closed_alone, end_then, live_on, made_entry, rows_of, talker, talker_phase, talker_slot}
@@ -29,18 +29,18 @@ abbrev Talk : Stance → Session → List FrameText → List FrameText → Type 
 Talk at z up down = Dialogue.Dialogue at z up down
 
 -- the work that a talk of this job leads to
-abbrev pub talked : Turn → Made → Work
+abbrev pub talked : Turn → Effect → Work
 talked t m = talks_on (rows_of t) (me t) (talker t m.taken) (made_entry t m) (partner t.w.what.peer t.w.phase)
 
-abbrev pub Goes : Turn → Made → Type 0
+abbrev pub Goes : Turn → Effect → Type 0
 Goes t m = KeepsTo t m (talked t m) × ClosesFor t m
 
-abbrev pub talked_here : Turn → Made → Work
+abbrev pub talked_here : Turn → Effect → Work
 talked_here t m = talks (rows_of t) (me t) (talker t m.taken) (made_entry t m) m.sent
 
 -- ---- on the connection of the partner
 
-pub talk_keeps : (t : Turn) (m : Made) (peer : ℕ) (next : Phase) → partner t.w.what.peer t.w.phase ≡ Some peer → Local t.w peer m.taken m.sent → (talked_here t m).phase ≡ next → Stays t.w.what.peer next peer
+pub talk_keeps : (t : Turn) (m : Effect) (peer : ℕ) (next : Phase) → partner t.w.what.peer t.w.phase ≡ Some peer → Local t.w peer m.taken m.sent → (talked_here t m).phase ≡ next → Stays t.w.what.peer next peer
     → (IsLive next → (end_then (end_with t peer) m).opened ≡ true → Keeps t peer m.taken m.sent (stance t.w.what.peer next (kept (talked_here t m) peer) peer))
     → KeepsTo t m (talked t m)
 talk_keeps t m peer to on local goes stays here = subst (λ (p : Option ℕ). KeepsTo t m (talks_on (rows_of t) (me t) x e p)) (sym on)
@@ -171,7 +171,7 @@ module _ (t : Turn) (kind : EntryKind) (peer : ℕ) (phase : Phase) (is : t.w.ph
     inl tt,
   )
     where
-      m : Made
+      m : Effect
       m = quietly kind None
 
       x : Work
@@ -183,7 +183,7 @@ module _ (t : Turn) (kind : EntryKind) (peer : ℕ) (phase : Phase) (is : t.w.ph
 -- ---- steps of a job that stands on no connection
 
 module _ (t : Turn) (alone : partner t.w.what.peer t.w.phase ≡ None) (live : IsLive t.w.phase) where
-  alone_keeps : (m : Made) (next : Work) (peer : ℕ) → (talked_here t m) ≡ next → Local t.w peer m.taken m.sent → Stays t.w.what.peer next.phase peer
+  alone_keeps : (m : Effect) (next : Work) (peer : ℕ) → (talked_here t m) ≡ next → Local t.w peer m.taken m.sent → Stays t.w.what.peer next.phase peer
       → ((end_then (end_with t peer) m).opened ≡ true → Keeps t peer m.taken m.sent (stance t.w.what.peer next.phase (kept next peer) peer))
       → ((end_then (end_with t peer) m).opened ≡ false → ⊥) → KeepsTo t m (talked t m)
   alone_keeps m next peer goes local stays here came = subst (λ (p : Option ℕ). KeepsTo t m (talks_on (rows_of t) (me t) (talker t m.taken) (made_entry t m) p)) (sym alone)
@@ -239,5 +239,5 @@ module _ (t : Turn) (alone : partner t.w.what.peer t.w.phase ≡ None) (live : I
       was p = none_is (partner t.w.what.peer t.w.phase) p alone
 
 -- a job that is to end next
-pub over_keeps : (t : Turn) (m : Made) (next : Work) → (IsLive next.phase → ⊥) → KeepsTo t m next
+pub over_keeps : (t : Turn) (m : Effect) (next : Work) → (IsLive next.phase → ⊥) → KeepsTo t m next
 over_keeps t m next over = (λ p locks l o. absurd (over l), λ p at o. absurd (over (live_on t.w.what.peer next.phase p at)))

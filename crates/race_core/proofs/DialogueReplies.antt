@@ -17,7 +17,7 @@ use Rattle.p2p_wire.specs.declared.message.Message.TheVariants.{AuthSuccess, Ver
 use Rattle.p2p_wire.specs.Messages.{message_of, text_of}
 use Rattle.node_model.specs.Sessions.{Waits, Session, doing_after, is_closing, line_in, new_session, reaches, took_bytes, took_message, version_told, guards}
 use Rattle.node_model.specs.SessionStep.{Here, Reply, bar_on, by_of, bytes_left, check_answer, content_of, is_here, is_held, lock_answer, now_of, on_put, on_remove, on_remove_before, on_request, put_answer, failure_line, remove_answer, reply, tries, unexpected_reply}
-use Rattle.node_model.specs.Look.{failing}
+use Rattle.node_model.specs.Look.{failing_call}
 use Rattle.node_model.specs.Calls.{to_lock, to_offer, to_remove}
 use Rattle.race_core.proofs.Cases.{unless_found}
 use Rattle.race_core.proofs.SessionReads.{busy_read}
@@ -87,7 +87,7 @@ module _ (reads_back : SentAreRead) (size : List ℕ → Option ℕ) (h : Here) 
   )
 
   try : (at : Stance) (m : Message) (cs : List Call) (says : List FrameText) (good : Reply) → ((call : Call) → Served at m (record { kind = Fault call (by_of h); says = says })) → Served at m good → Served at m (tries h cs says good)
-  try at m cs says good f g = unless_found (Served at m) (failing h.fails cs) (λ call. record { kind = Fault call (by_of h); says = says }) good f g
+  try at m cs says good f g = unless_found (Served at m) (failing_call h.fails cs) (λ call. record { kind = Fault call (by_of h); says = says }) good f g
 
   idle : (m : Message) (kind : EntryKind) (k : Message) → doing_after size kind z.doing (Some k) m ≡ Waits → 1 ≤ version_told z.version (Some k) → Dialogue.Idle (after_message size z m kind (Some k))
   idle m kind k waits speaks = record { waits = waits; speaks = speaks }

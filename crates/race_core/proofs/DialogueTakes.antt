@@ -28,9 +28,9 @@ use Rattle.node_model.specs.Sessions.{Session, line_in, reaches}
 use Rattle.node_model.specs.Jobs
 use Rattle.node_model.specs.Jobs.{Part, Gets, Puts, Drops, Phase, Fresh, Next, Opens, Greets, GetsData, GetsBytes, GetsWord, PutsOffer, PutsBytes, PutsWord, PutsAnswer, AsksLock, AsksLook, AsksTime, Removed, Denied, Late, Ends, Heard, Held, Work, gets_more, puts_more, is_move, job_end, listens, partner, side_of, after_frame, after_transfer, after_failed_release}
 use Rattle.node_model.specs.Calls.{to_commit, to_release}
-use Rattle.node_model.specs.Look.{Made, waiting}
+use Rattle.node_model.specs.Look.{Effect, waiting_frame}
 use Rattle.node_model.specs.SessionStep.{bytes_left}
-use Rattle.node_model.specs.JobStep.{Turn, hears, attempts, by_me, clock_of, end_with, ends, farewells, key_of, owns_share, quietly, says_to, sends_to, talk, wrong, is_held}
+use Rattle.node_model.specs.JobStep.{Turn, hears, attempts, by_me, clock_of, end_with, ends, farewells, key_of, owns_share, quietly, says_to, sends_to, talk, wrong_message, is_held}
 use Rattle.node_model.specs.DropStep.{takes_drop, takes_time, first_end, orders, target, times}
 use Rattle.node_model.specs.Requests.{asks}
 use Rattle.node_model.specs.TransferStep.{takes_get, takes_put, content_of, gains, puts_from, puts_piece, takes_bytes}
@@ -195,7 +195,7 @@ module _ (t : Turn) (f : FrameView) (peer : ℕ) (x : Taking t f peer) (walks : 
   -- the release of its own share fails, as the timestamp comes too late
   late_good : (n : ℕ) (outcome : Outcome) → t.w.phase ≡ AsksTime → line_in f.body ≡ Some (Timestamp n) → GoodMade t (ends t (Some f) outcome)
   late_good n outcome is told =
-      let rest : Made = record { kind = ends_job t.w.number outcome; taken = Some f; sent = farewells t (is_lost_ordered outcome); lines = [] } in
+      let rest : Effect = record { kind = ends_job t.w.number outcome; taken = Some f; sent = farewells t (is_lost_ordered outcome); lines = [] } in
       attempts_even (GoodMade t) t (to_release (owns_share t && not (is_lost_ordered outcome))) (Some f) rest
       (λ call e. subst (λ (c : Call). GoodMade t (quietly (Fault c (by_me t)) (Some f))) (sym (release_is (owns_share t && not (is_lost_ordered outcome)) call e)) (
         subst (λ (p : Phase). KeepsTo t (quietly (Fault calls.Unhold (by_me t)) (Some f)) (after_failed_release t.w t.look.time p)) (sym is)
@@ -230,7 +230,7 @@ module _ (t : Turn) (f : FrameView) (peer : ℕ) (x : Taking t f peer) (walks : 
 
   time_good : (n : ℕ) → nat_lt n (2 ^ 61) ≡ true → t.w.part ≡ Drops → t.w.phase ≡ AsksTime → line_in f.body ≡ Some (Timestamp n) → (side : Side) → side_of t.w ≡ side → GoodMade t (takes_time t f peer n side)
   time_good n small part is told Local side = absurd (let no' : Local ≡ Remote = sym side ∙ walks.times_remote is in cc)
-  time_good n small part is told Remote side = if_either (GoodMade t) (nat_lt n (2 ^ 61)) (times t f n (first_end t)) (wrong t f peer)
+  time_good n small part is told Remote side = if_either (GoodMade t) (nat_lt n (2 ^ 61)) (times t f n (first_end t)) (wrong_message t f peer)
       (λ e. times_good n e part side is told (first_end t) refl) (λ e. absurd (true≢false (sym small ∙ e)))
 
   -- a lock is given
@@ -291,9 +291,9 @@ module _ (t : Turn) (f : FrameView) (peer : ℕ) (x : Taking t f peer) (walks : 
   from_good : (p n : ℕ) → t.w.phase ≡ PutsOffer p → line_in f.body ≡ Some (PutFrom n) → GoodMade t (puts_from t f peer n)
   from_good p n is told =
       let k = bytes_left (content_of t) n in
-      attempts_even (GoodMade t) t (calls.Size ∷ []) (Some f) (if reaches (content_of t) n then says_to t (talk t) (Some f) peer (Data k) else wrong t f peer)
+      attempts_even (GoodMade t) t (calls.Size ∷ []) (Some f) (if reaches (content_of t) n then says_to t (talk t) (Some f) peer (Data k) else wrong_message t f peer)
       (λ call e. fault_here call (plain_in call (calls.Size ∷ []) refl refl e))
-      (if_either (GoodMade t) (reaches (content_of t) n) (says_to t (talk t) (Some f) peer (Data k)) (wrong t f peer)
+      (if_either (GoodMade t) (reaches (content_of t) n) (says_to t (talk t) (Some f) peer (Data k)) (wrong_message t f peer)
       (λ e. says_keeps t (talk t) f peer x (PutsOffer p) is (Data k) (puts_more peer n n k) (walks.speaks.data' n)
       (ap (λ (o : Option Message). Jobs.put_from peer k o) told) (inr (puts_on t.w.what.peer peer n n k))
       (λ q z up down v y. to_on t.w.what.peer (puts_more peer n n k) q peer z (up ++ Line (text_of (Data k)) ∷ []) down (puts_on t.w.what.peer peer n n k)
@@ -303,7 +303,7 @@ module _ (t : Turn) (f : FrameView) (peer : ℕ) (x : Taking t f peer) (walks : 
   put_good : (phase : Phase) (m : Message) → t.w.phase ≡ phase → line_in f.body ≡ Some m → PutSuits phase m → GoodMade t (takes_put t f peer phase m)
   put_good (PutsOffer p) AlreadyHave is told suits = heard_good (PutsOffer p) AlreadyHave (after_transfer (talker t (Some f)) (Copied None)).phase is told refl (transferred_alone t.w.what.peer (talker t (Some f)) (Copied None)) (asked_away Dialogue.AtPut AlreadyHave told (λ z a. a))
   put_good (PutsOffer p) Failure is told suits = heard_good (PutsOffer p) Failure (Ends (TransferRefused failures.Rejected)) is told refl refl (asked_away Dialogue.AtPut Failure told (λ z a. a))
-  put_good (PutsOffer p) (Error text) is told suits = if_either (GoodMade t) (bytes_eq text (codes "busy")) (hears t f) (wrong t f peer)
+  put_good (PutsOffer p) (Error text) is told suits = if_either (GoodMade t) (bytes_eq text (codes "busy")) (hears t f) (wrong_message t f peer)
       (λ e. heard_good (PutsOffer p) (Error text) (Ends (TransferRefused failures.Busy)) is told refl refl (asked_away Dialogue.AtPut (Error text) told (λ z a. a.0))) (λ e. absurd (true≢false (sym suits ∙ e)))
   put_good (PutsOffer p) (PutFrom n) is told suits = from_good p n is told
   put_good (PutsAnswer p start) Success is told suits = heard_good (PutsAnswer p start) Success (after_transfer (talker t (Some f)) (Copied (Some start))).phase is told refl (transferred_alone t.w.what.peer (talker t (Some f)) (Copied (Some start))) (answer_away Success told (λ z a. a))
@@ -318,7 +318,7 @@ module _ (t : Turn) (f : FrameView) (peer : ℕ) (x : Taking t f peer) (walks : 
   takes_good : (phase : Phase) (m : Message) → t.w.phase ≡ phase → line_in f.body ≡ Some m → SuitsMessage phase m → GoodMade t (takes t f peer phase m)
   takes_good (Opens p) (AuthSuccess id) is told suits = says_keeps t (talk t) f peer x (Opens p) is (Version 3) (Greets peer) walks.speaks.version refl (inr refl)
       (λ k z up down v y. to_on t.w.what.peer (Greets peer) k peer z (up ++ Line (text_of (Version 3)) ∷ []) down refl (opened_greets z up down f.body walks.speaks.version y))
-  takes_good (Greets p) (Version n) is told suits = if_either (GoodMade t) (nat_le n 3) (asks t n (Some f) peer t.w.part) (wrong t f peer)
+  takes_good (Greets p) (Version n) is told suits = if_either (GoodMade t) (nat_le n 3) (asks t n (Some f) peer t.w.part) (wrong_message t f peer)
       (λ e. first_asks t n (Some f) peer walks.speaks
       (asker (IsVersion t n peer) (Greets p) is (λ z up down y. (asked_away Dialogue.AtGreet (Version n) told (λ z a. a.0) z up down y, λ to. sym (asked_answer Dialogue.AtGreet (Version n) told z up down y).1)))
       (heard_good (Greets p) (Version n) (Ends (Refused (refusals.OldProtocol n))) is told refl refl (asked_away Dialogue.AtGreet (Version n) told (λ z a. a.0))) fault_here t.w.part refl)
@@ -332,7 +332,7 @@ module _ (t : Turn) (f : FrameView) (peer : ℕ) (x : Taking t f peer) (walks : 
   bytes_taken : (n : ℕ) → f.body ≡ Bytes n → (phase : Phase) → t.w.phase ≡ phase → SuitsBytes phase n → GoodMade t (takes_bytes t f peer n phase)
   bytes_taken n body (GetsBytes p start size left) is suits =
       let same = same_peer (GetsBytes p start size left) is in
-      if_either (GoodMade t) (nat_lt 0 n && nat_le n left) (attempts t (calls.Append ∷ []) (Some f) (quietly (talk t) (Some f))) (wrong t f peer)
+      if_either (GoodMade t) (nat_lt 0 n && nat_le n left) (attempts t (calls.Append ∷ []) (Some f) (quietly (talk t) (Some f))) (wrong_message t f peer)
       (λ e. attempts_even (GoodMade t) t (calls.Append ∷ []) (Some f) (quietly (talk t) (Some f)) (λ call h. fault_here call (plain_in call (calls.Append ∷ []) refl refl h))
       (hears_keeps t (talk t) f peer x (GetsBytes p start size left) is (gets_more p start (size + n) (left - n))
       (ap (λ (b : FrameText). (after_frame (talker t (Some f)) b).phase) body ∙ ap (λ (q : Phase). Jobs.gets_bytes n q) (talker_phase t (Some f) ∙ is)) (inr (gets_on t.w.what.peer p start (size + n) (left - n) ∙ same))
@@ -402,7 +402,7 @@ goes_on_good t peer fits on opened idle (PutsWord p start) is =
     word_good t p start is (subst (λ n. (end_with t n).opened ≡ true) same opened)
 goes_on_good t peer fits on opened idle phase is = absurd (true≢false (subst (λ (q : Phase). is_awaiting q ≡ false) is idle))
 
-on_good : (t : Turn) (m : Made) → GoodMade t (goes t t.w.phase) → goes_on t ≡ Some m → GoodMade t m
+on_good : (t : Turn) (m : Effect) → GoodMade t (goes t t.w.phase) → goes_on t ≡ Some m → GoodMade t m
 on_good t m good e = go (list_all (has_room t) (needs t t.w.phase)) e
   where
     go : (b : Bool) → (if b then Some (goes t t.w.phase) else None) ≡ Some m → GoodMade t m
@@ -410,11 +410,11 @@ on_good t m good e = go (list_all (has_room t) (needs t t.w.phase)) e
     go false g = absurd (cc)
 
 -- what waits for the job suits its phase, where that is taken
-abbrev pub WaitsSuit : Turn → Made → Type 0
-WaitsSuit t m = (peer : ℕ) → partner t.w.what.peer t.w.phase ≡ Some peer → (end_with t peer).opened ≡ true → is_awaiting t.w.phase ≡ true → (f : FrameView) → waiting (end_with t peer) t.look (job_end t.w peer) ≡ Some f → m.taken ≡ Some f → Suits t.w.phase f.body
+abbrev pub WaitsSuit : Turn → Effect → Type 0
+WaitsSuit t m = (peer : ℕ) → partner t.w.what.peer t.w.phase ≡ Some peer → (end_with t peer).opened ≡ true → is_awaiting t.w.phase ≡ true → (f : FrameView) → waiting_frame (end_with t peer) t.look (job_end t.w peer) ≡ Some f → m.taken ≡ Some f → Suits t.w.phase f.body
 
-wait_good : (t : Turn) (peer : ℕ) (m : Made) → Walks t → WaitsSuit t m → partner t.w.what.peer t.w.phase ≡ Some peer → is_awaiting t.w.phase ≡ true → (end_with t peer).opened ≡ true
-    → (f : Option FrameView) → waiting (end_with t peer) t.look (job_end t.w peer) ≡ f → awaits t peer f ≡ Some m → GoodMade t m
+wait_good : (t : Turn) (peer : ℕ) (m : Effect) → Walks t → WaitsSuit t m → partner t.w.what.peer t.w.phase ≡ Some peer → is_awaiting t.w.phase ≡ true → (end_with t peer).opened ≡ true
+    → (f : Option FrameView) → waiting_frame (end_with t peer) t.look (job_end t.w peer) ≡ f → awaits t peer f ≡ Some m → GoodMade t m
 wait_good t peer m walks suit on awaiting opened None is e = absurd (cc)
 wait_good t peer m walks suit on awaiting opened (Some f) is e = go (has_room t peer) e
   where
@@ -424,17 +424,17 @@ wait_good t peer m walks suit on awaiting opened (Some f) is e = go (has_room t 
         let same : takes_frame t peer f f.body ≡ m = cc in
         let was = find_member (λ g. takes_at (job_end t.w peer) g && may_take (end_with t peer) g) t.look.at_hand f is in
         let both = and_parts (takes_at (job_end t.w peer) f) (may_take (end_with t peer) f) was.1 in
-        subst (GoodMade t) same (frame_good t f peer (record { on = on; awaiting = awaiting; opened = opened; of_end = both.0 }) walks f.body refl (suit peer on opened awaiting f is (subst (λ (x : Made). x.taken ≡ Some f) same (frame_found t peer f on f.body refl).0)))
+        subst (GoodMade t) same (frame_good t f peer (record { on = on; awaiting = awaiting; opened = opened; of_end = both.0 }) walks f.body refl (suit peer on opened awaiting f is (subst (λ (x : Effect). x.taken ≡ Some f) same (frame_found t peer f on f.body refl).0)))
 
-with_good : (t : Turn) (peer : ℕ) (m : Made) → Walks t → WaitsSuit t m → partner t.w.what.peer t.w.phase ≡ Some peer → (b : Bool) → (end_with t peer).opened ≡ b → with_partner t peer b ≡ Some m → GoodMade t m
+with_good : (t : Turn) (peer : ℕ) (m : Effect) → Walks t → WaitsSuit t m → partner t.w.what.peer t.w.phase ≡ Some peer → (b : Bool) → (end_with t peer).opened ≡ b → with_partner t peer b ≡ Some m → GoodMade t m
 with_good t peer m walks suit on false opened e = let same : quietly (talk t) None ≡ m = cc in subst (GoodMade t) same (lost_keeps t (talk t) peer t.w.phase refl on opened)
 with_good t peer m walks suit on true opened e = go (is_awaiting t.w.phase) refl e
   where
-    go : (b : Bool) → is_awaiting t.w.phase ≡ b → (if b then awaits t peer (waiting (end_with t peer) t.look (job_end t.w peer)) else goes_on t) ≡ Some m → GoodMade t m
-    go true awaiting g = wait_good t peer m walks suit on awaiting opened (waiting (end_with t peer) t.look (job_end t.w peer)) refl g
+    go : (b : Bool) → is_awaiting t.w.phase ≡ b → (if b then awaits t peer (waiting_frame (end_with t peer) t.look (job_end t.w peer)) else goes_on t) ≡ Some m → GoodMade t m
+    go true awaiting g = wait_good t peer m walks suit on awaiting opened (waiting_frame (end_with t peer) t.look (job_end t.w peer)) refl g
     go false idle g = on_good t m (goes_on_good t peer walks.fits on opened idle t.w.phase refl) g
 
 -- **each step of a job keeps the dialogue**, where what waits for it suits its phase
-pub partner_good : (t : Turn) (m : Made) → Walks t → WaitsSuit t m → (p : Option ℕ) → partner t.w.what.peer t.w.phase ≡ p → by_partner t p ≡ Some m → GoodMade t m
+pub partner_good : (t : Turn) (m : Effect) → Walks t → WaitsSuit t m → (p : Option ℕ) → partner t.w.what.peer t.w.phase ≡ p → by_partner t p ≡ Some m → GoodMade t m
 partner_good t m walks suit None on e = on_good t m (goes_alone t walks on t.w.phase refl) e
 partner_good t m walks suit (Some peer) on e = with_good t peer m walks suit on (end_with t peer).opened refl e

@@ -13,7 +13,7 @@ use Rattle.p2p_wire.specs.declared.message.Message.TheVariants.{PutFrom}
 use Rattle.node_model.specs.Ends.{end_after, is_opening, sent_at, taken_at}
 use Rattle.node_model.specs.Sessions.{Session, is_closing, line_in, reaches}
 use Rattle.node_model.specs.Jobs.{Phase, Puts, PutsBytes, Work, job_end, partner}
-use Rattle.node_model.specs.Look.{Made}
+use Rattle.node_model.specs.Look.{Effect}
 use Rattle.node_model.specs.JobStep.{Turn, end_with}
 use Rattle.node_model.specs.TransferStep.{content_of}
 use Rattle.race_core.proofs.ClientCounts.{IsLive, Local, Stays, not_of}
@@ -60,20 +60,20 @@ abbrev pub LocksStay : Turn → Work → ℕ → Type 0
 LocksStay t next p = option_is (partner t.w.what.peer t.w.phase) p ≡ false → kept t.w p ≡ true → kept next p ≡ true
 
 -- on each connection that is open after it
-abbrev pub KeepsOpen : Turn → Made → Work → Type 0
+abbrev pub KeepsOpen : Turn → Effect → Work → Type 0
 KeepsOpen t m next = (p : ℕ) → LocksStay t next p → IsLive next.phase → (end_after (job_end t.w p) (end_with t p) (made_entry t m)).opened ≡ true
     → Keeps t p (taken_at (job_end t.w p) m.taken) (sent_at (job_end t.w p) m.sent) (stance t.w.what.peer next.phase (kept next p) p)
 
 -- it comes to no connection that is closed
-abbrev pub ComesFrom : Turn → Made → Work → Type 0
+abbrev pub ComesFrom : Turn → Effect → Work → Type 0
 ComesFrom t m next = (p : ℕ) → partner t.w.what.peer next.phase ≡ Some p → (end_after (job_end t.w p) (end_with t p) (made_entry t m)).opened ≡ false → partner t.w.what.peer t.w.phase ≡ Some p
 
 -- **a step keeps the dialogue**
-abbrev pub KeepsTo : Turn → Made → Work → Type 0
+abbrev pub KeepsTo : Turn → Effect → Work → Type 0
 KeepsTo t m next = KeepsOpen t m next × ComesFrom t m next
 
 -- the content is gone, or shorter than the place that the peer asks for, or than it was
-pub record FallsShort (t : Turn) (m : Made) : Type 0 where
+pub record FallsShort (t : Turn) (m : Effect) : Type 0 where
   pub place : ℕ
   pub short : reaches (content_of t) place ≡ false
   pub puts : t.w.part ≡ Puts
@@ -81,10 +81,10 @@ pub record FallsShort (t : Turn) (m : Made) : Type 0 where
       ⊎ ((peer : ℕ) × (start : ℕ) × (at : ℕ) × (left : ℕ) × (n : ℕ) × (t.w.phase ≡ PutsBytes peer start at left) × (nat_le n left ≡ true) × (m.taken ≡ None) × (place ≡ at + n))
 
 -- it closes no connection, but for such a content
-abbrev pub ClosesFor : Turn → Made → Type 0
+abbrev pub ClosesFor : Turn → Effect → Type 0
 ClosesFor t m = Each (λ g. is_closing g.body ≡ false) m.sent ⊎ FallsShort t m
 
-abbrev pub Good : Turn → Made → EntryKind → Type 0
+abbrev pub Good : Turn → Effect → EntryKind → Type 0
 Good t m (ends_job j outcome) = Unit {0}
 Good t m kind = KeepsTo t m (moved t m kind) × ClosesFor t m
 
@@ -108,7 +108,7 @@ aside t next p live opened was now locks = inr (record {
       (rests_more z up down (kept t.w p) (kept next p) (locks was) (subst (λ (at : Stance). Dialogue.Dialogue at z up down) (rests_at t.w.what.peer t.w.phase (kept t.w p) p was) x)));
 })
 
-pub local_keeps : (t : Turn) (m : Made) (next : Work) (peer : ℕ) → Local t.w peer m.taken m.sent → IsLive t.w.phase → Stays t.w.what.peer t.w.phase peer → Stays t.w.what.peer next.phase peer
+pub local_keeps : (t : Turn) (m : Effect) (next : Work) (peer : ℕ) → Local t.w peer m.taken m.sent → IsLive t.w.phase → Stays t.w.what.peer t.w.phase peer → Stays t.w.what.peer next.phase peer
     → (IsLive next.phase → (end_then (end_with t peer) m).opened ≡ true → Keeps t peer m.taken m.sent (stance t.w.what.peer next.phase (kept next peer) peer))
     → (partner t.w.what.peer next.phase ≡ Some peer → (end_then (end_with t peer) m).opened ≡ false → partner t.w.what.peer t.w.phase ≡ Some peer) → KeepsTo t m next
 local_keeps t m next peer local live stays goes here came = (λ p locks l o. go p locks l o (peer == p) refl, comes)

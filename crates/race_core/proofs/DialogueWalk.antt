@@ -29,7 +29,7 @@ use Rattle.node_model.specs.Sessions.{Session}
 use Rattle.node_model.specs.Jobs
 use Rattle.node_model.specs.Jobs.{Part, Gets, Puts, Drops, Phase, RowsAndEnds, Fresh, Next, GetsData, PutsOffer, AsksLock, AsksTime, Removed, Ends, Heard, Held, Work, heard_of, fault_of, fault_phase, first_look, is_move, listens, partner, quiet, says, side_of, taken_message, after_frame, after_failed_release}
 use Rattle.node_model.specs.Calls.{to_hold, to_release, to_resume}
-use Rattle.node_model.specs.Look.{Made}
+use Rattle.node_model.specs.Look.{Effect}
 use Rattle.node_model.specs.Knows.{enough_by, is_unasked, next_by, asks_by, candidates_by}
 use Rattle.node_model.specs.JobStep.{Turn, attempts, bar_there, by_me, clock_of, end_with, ends, farewells, is_there, key_of, me, owns_share, quietly, says_to, sends_to, talk, is_held}
 use Rattle.node_model.specs.DropStep.{asks_copy, asks_lock, asks_target, bars, expiry, first_drop, first_end, first_remote, held_until, in_time, lacking_outcome, need_now, orders, own_share, removes, required_there, row_refusal, target, tries_own}
@@ -59,7 +59,7 @@ pub record Walks (t : Turn) : Type 0 where
 abbrev Converses : Stance → Session → List FrameText → List FrameText → Type 0
 Converses at z up down = Dialogue.Dialogue at z up down
 
-abbrev pub GoodMade : Turn → Made → Type 0
+abbrev pub GoodMade : Turn → Effect → Type 0
 GoodMade t m = Good t m m.kind
 
 -- ---- store calls
@@ -83,7 +83,7 @@ fault_on t peer on taken call plain = (
 
 pub ends_good : (t : Turn) → partner t.w.what.peer t.w.phase ≡ None → IsLive t.w.phase → (outcome : Outcome) → GoodMade t (ends t None outcome)
 ends_good t alone live outcome =
-    let rest : Made = record { kind = ends_job t.w.number outcome; taken = None; sent = farewells t (is_lost_ordered outcome); lines = [] } in
+    let rest : Effect = record { kind = ends_job t.w.number outcome; taken = None; sent = farewells t (is_lost_ordered outcome); lines = [] } in
     attempts_even (GoodMade t) t (to_release (owns_share t && not (is_lost_ordered outcome))) None rest
     (λ call e. subst (λ (c : Call). GoodMade t (quietly (Fault c (by_me t)) None)) (sym (release_is (owns_share t && not (is_lost_ordered outcome)) call e))
     (still_keeps t alone live (Fault calls.Unhold (by_me t)) (after_failed_release t.w t.look.time t.w.phase) (unreleased_alone t.w.what.peer t.w t.look.time t.w.phase alone), inl tt)) tt
@@ -91,7 +91,7 @@ ends_good t alone live outcome =
 -- the end of a job that is to end
 pub dead_good : (t : Turn) → (IsLive t.w.phase → ⊥) → (outcome : Outcome) → GoodMade t (ends t None outcome)
 dead_good t dead outcome =
-    let rest : Made = record { kind = ends_job t.w.number outcome; taken = None; sent = farewells t (is_lost_ordered outcome); lines = [] } in
+    let rest : Effect = record { kind = ends_job t.w.number outcome; taken = None; sent = farewells t (is_lost_ordered outcome); lines = [] } in
     attempts_even (GoodMade t) t (to_release (owns_share t && not (is_lost_ordered outcome))) None rest
     (λ call e. subst (λ (c : Call). GoodMade t (quietly (Fault c (by_me t)) None)) (sym (release_is (owns_share t && not (is_lost_ordered outcome)) call e))
     (over_keeps t (quietly (Fault calls.Unhold (by_me t)) None) (after_failed_release t.w t.look.time t.w.phase) (still_dead t.w.phase refl), inl tt)) tt

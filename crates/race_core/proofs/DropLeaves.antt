@@ -23,7 +23,7 @@ use Rattle.node_model.specs.SetUp.{SetUp}
 use Rattle.node_model.specs.Jobs.{Drops, Fresh, Gets, Part, Puts, Work, fault_phase, first_look, partner, side_of}
 use Rattle.run_model.specs.States.{works}
 use Rattle.node_model.specs.Calls.{to_hold, to_release}
-use Rattle.node_model.specs.Look.{Made}
+use Rattle.node_model.specs.Look.{Effect}
 use Rattle.annex_base.specs.Calls.{same_call}
 use Rattle.node_model.specs.JobStep.{Turn, bar_there, by_me, clock_of, ends, farewells, is_there, key_of, me, owns_share, quietly, talk}
 use Rattle.node_model.specs.DropStep.{bars, first_drop, first_remote, held_until, own_share, required_there, row_refusal, tries_own}
@@ -46,11 +46,11 @@ module _ (before : Turn) where
   abbrev t : Turn
   t = record before { w = record before.w { part = Drops; phase = Fresh } }
 
-  abbrev Leaves : Made → EntryKind → Type 0
+  abbrev Leaves : Effect → EntryKind → Type 0
   Leaves m (ends_job j outcome) = Unit {0}
   Leaves m kind = is_fresh (moved t m kind).phase ≡ false
 
-  abbrev LeavesBy : Made → Type 0
+  abbrev LeavesBy : Effect → Type 0
   LeavesBy m = Leaves m m.kind
 
   side_leaves : (side : Side) → is_fresh (fault_phase (me t) t.w Drops side Fresh).phase ≡ false
@@ -113,14 +113,14 @@ module _ (before : Turn) where
         (fault_leaves (calls.Has ∷ []) refl refl) (bars_leaves (row_refusal (is_there t) (required_there t) (bar_there t) (held_until t)))
     drop_leaves Remote = remote_leaves (required_there t)
 
-    first_leaves : (m : Made) → by_partner t (partner t.w.what.peer t.w.phase) ≡ Some m → LeavesBy m
+    first_leaves : (m : Effect) → by_partner t (partner t.w.what.peer t.w.phase) ≡ Some m → LeavesBy m
     first_leaves m e = go (list_all (has_room t) (needs t Fresh)) e
       where
         go : (b : Bool) → (if b then Some (goes t Fresh) else None) ≡ Some m → LeavesBy m
         go false g = absurd (cc)
         go true g = let same : goes t Fresh ≡ m = cc in subst LeavesBy same (drop_leaves (side_of t.w))
 
-leaves_is : (before : Turn) (m : Made) (kind : EntryKind) → ((j : ℕ) (outcome : Outcome) → kind ≢ ends_job j outcome) → Leaves before m kind → is_fresh (moved (t before) m kind).phase ≡ false
+leaves_is : (before : Turn) (m : Effect) (kind : EntryKind) → ((j : ℕ) (outcome : Outcome) → kind ≢ ends_job j outcome) → Leaves before m kind → is_fresh (moved (t before) m kind).phase ≡ false
 leaves_is before m (ends_job j outcome) goes_on leaves = absurd (goes_on j outcome refl)
 leaves_is before m kind goes_on leaves = leaves
 

@@ -22,8 +22,8 @@ use Rattle.run_model.specs.Past.{Occurs, is_of}
 use Rattle.node_model.specs.SetUp.{SetUp, served_connections}
 use Rattle.run_model.specs.States.{end_at, session, state_of}
 use Rattle.node_model.specs.Jobs.{Work, job_end}
-use Rattle.node_model.specs.Owed.{Owed, due}
-use Rattle.node_model.specs.Look.{Look, Made, entry_of, failing, unless}
+use Rattle.node_model.specs.OwedLines.{OwedLine, due}
+use Rattle.node_model.specs.Look.{Look, Effect, entry_of, failing_call, unless}
 use Rattle.node_model.specs.OwedStep.{owed_step, pays_first}
 use Rattle.node_model.specs.SessionStep.{here, on_frame, session_at, session_step}
 use Rattle.node_model.specs.JobStep.{turn_of}
@@ -66,14 +66,14 @@ pub record JobSpeaksAt (s : SetUp) (past : List Entry) (e : Entry) : Type 0 wher
 abbrev pub Speaks : SetUp → List Entry → Entry → Type 0
 Speaks s past e = SpeaksAlone s past e ⊎ (BySessionAt s past e ⊎ JobSpeaksAt s past e)
 
-pub owed_speaks : (s : SetUp) (past : List Entry) (k : Look) (m : Made) (os : List Owed) → pays_first s (state_of s past) k os ≡ Some m → SpeaksAlone s past (entry_of s.number k m)
+pub owed_speaks : (s : SetUp) (past : List Entry) (k : Look) (m : Effect) (os : List OwedLine) → pays_first s (state_of s past) k os ≡ Some m → SpeaksAlone s past (entry_of s.number k m)
 owed_speaks s past k m [] e = absurd (cc)
 owed_speaks s past k m (o ∷ os) e =
-    let fault : Call → Made = λ call. record { kind = Fault call o.by; taken = None; sent = []; lines = [] } in
-    let line : Made = record { kind = Log (Location o.key); taken = None; sent = []; lines = due s.repos (state_of s past).lines ((state_of s past).wall k.time) o } in
-    let same : unless (failing k.fails (PutFile ∷ [])) fault line ≡ m = cc in
-    subst (λ (z : Made). SpeaksAlone s past (entry_of s.number k z)) same
-    (unless_found (λ (z : Made). SpeaksAlone s past (entry_of s.number k z)) (failing k.fails (PutFile ∷ [])) fault line
+    let fault : Call → Effect = λ call. record { kind = Fault call o.by; taken = None; sent = []; lines = [] } in
+    let line : Effect = record { kind = Log (Location o.key); taken = None; sent = []; lines = due s.repos (state_of s past).lines ((state_of s past).wall k.time) o } in
+    let same : unless (failing_call k.fails (PutFile ∷ [])) fault line ≡ m = cc in
+    subst (λ (z : Effect). SpeaksAlone s past (entry_of s.number k z)) same
+    (unless_found (λ (z : Effect). SpeaksAlone s past (entry_of s.number k z)) (failing_call k.fails (PutFile ∷ [])) fault line
     (λ call. record { takes_none = refl; well = tt }) (record { takes_none = refl; well = tt }))
 
 -- a job's frame is at its end
@@ -86,7 +86,7 @@ at_job s past k w g x = (x.0, subst (λ (a : EndName). SentWell (end_at past s.n
 client_takes : (w : Work) (peer : ℕ) (f : FrameView) → takes_at (job_end w peer) f ≡ true → f.up ≡ false
 client_takes w peer f t = if_turned f.up (ap (λ (a : EndName). a.client) (takes_end (job_end w peer) f t))
 
-job_speaks_at : (s : SetUp) (past : List Entry) (k : Look) (m : Made) → job_step s (state_of s past) k ≡ Some m → JobSpeaksAt s past (entry_of s.number k m)
+job_speaks_at : (s : SetUp) (past : List Entry) (k : Look) (m : Effect) → job_step s (state_of s past) k ≡ Some m → JobSpeaksAt s past (entry_of s.number k m)
 job_speaks_at s past k m e =
     let x = job_speaks s (state_of s past) k m e in
     let y = job_found s (state_of s past) k m e in
@@ -123,7 +123,7 @@ come_well s past lines sent (Close peer slot client) x = subst (Each (IsClose s 
 come_well s past lines sent (Crash clock) x = subst (Each (IsClose s past)) (sym x.1) (each_flat (IsClose s past) (close_at s (state_of s past)) (close_well s past) (all_ends s))
 come_well s past lines sent kind x = absurd x
 
-step_speaks : (s : SetUp) (past : List Entry) (k : Look) (m : Made) → k.part < 2 ^ 62 → step s (state_of s past) k ≡ Some m → Speaks s past (entry_of s.number k m)
+step_speaks : (s : SetUp) (past : List Entry) (k : Look) (m : Effect) → k.part < 2 ^ 62 → step s (state_of s past) k ≡ Some m → Speaks s past (entry_of s.number k m)
 step_speaks s past k m small e = elim (first_was (owed_step s (state_of s past) k) (Look.first_of (session_step s (state_of s past) k) (job_step s (state_of s past) k)) m e) [
   | inl o ↦ inl (owed_speaks s past k m (state_of s past).owed o)
   | inr r ↦ inr (rest (first_was (session_step s (state_of s past) k) (job_step s (state_of s past) k) m r))

@@ -24,9 +24,9 @@ use Rattle.p2p_wire.specs.declared.message.Message.TheVariants.{Error, Get, GetT
 use Rattle.p2p_wire.specs.Messages.{message_of}
 use Rattle.node_model.specs.Sessions.{line_in}
 use Rattle.node_model.specs.Jobs.{AsksTime, Drops, Gets, Greets, Next, Part, Phase, Puts, PutsOffer, job_end, partner, side_of}
-use Rattle.node_model.specs.Look.{Made, waiting}
+use Rattle.node_model.specs.Look.{Effect, waiting_frame}
 use Rattle.node_model.specs.Knows.{enough_by, next_by}
-use Rattle.node_model.specs.JobStep.{Turn, attempts, by_me, clock_of, end_with, ends, farewells, hears, key_of, quietly, says_to, sends_to, talk, wrong}
+use Rattle.node_model.specs.JobStep.{Turn, attempts, by_me, clock_of, end_with, ends, farewells, hears, key_of, quietly, says_to, sends_to, talk, wrong_message}
 use Rattle.node_model.specs.DropStep.{asks_copy, asks_lock, asks_target, first_end, in_time, expiry, lacking_outcome, orders, takes_drop, takes_time, target, times}
 use Rattle.node_model.specs.Requests.{asks, goes_to}
 use Rattle.node_model.specs.TransferStep.{next_get, next_source}
@@ -45,7 +45,7 @@ pub record Old (t : Turn) (version peer : ℕ) : Type 0 where
   pub end : ℕ
   pub first : first_end t ≡ Some end
 
-abbrev pub Silent : Made → Type 0
+abbrev pub Silent : Effect → Type 0
 Silent m = m.sent ≡ []
 
 target_old : (t : Turn) (version peer : ℕ) (taken : Option FrameView) → t.w.part ≡ Drops → side_of t.w ≡ Remote → target t ≡ peer → (end : Option ℕ) → first_end t ≡ end → Silent (asks_target t version taken end) → Old t version peer
@@ -69,14 +69,14 @@ abbrev pub IsTalkBy : EntryKind → Type 0
 IsTalkBy (Talk j) = Unit {0}
 IsTalkBy kind = ⊥
 
-abbrev pub QuietOld : Turn → ℕ → Made → Type 0
+abbrev pub QuietOld : Turn → ℕ → Effect → Type 0
 QuietOld t version m = IsTalkBy m.kind → Silent m → (peer : ℕ) × Old t version peer × ((enough_by t.read t.w ≡ true) ⊎ (next_by t.read t.w ≡ Some peer))
 
-attempts_old : (t : Turn) (version : ℕ) (cs : List Call) (taken : Option FrameView) (m : Made) → QuietOld t version m → QuietOld t version (attempts t cs taken m)
+attempts_old : (t : Turn) (version : ℕ) (cs : List Call) (taken : Option FrameView) (m : Effect) → QuietOld t version m → QuietOld t version (attempts t cs taken m)
 attempts_old t version cs taken m good = attempts_even (QuietOld t version) t cs taken m (λ call e k silent. absurd k) good
 
 asks_old : (t : Turn) (version peer : ℕ) (taken : Option FrameView) (part : Part) → t.w.part ≡ part → IsTalkBy (asks t version taken peer part).kind → Silent (asks t version taken peer part) → Old t version peer
-asks_old t version peer taken Gets is = attempts_even (λ (m : Made). IsTalkBy m.kind → Silent m → Old t version peer) t (to_resume t.look.part) taken (says_to t (talk t) taken peer (Get t.look.part [] (key_of t))) (λ call e k silent. absurd k) (λ k silent. absurd (cc))
+asks_old t version peer taken Gets is = attempts_even (λ (m : Effect). IsTalkBy m.kind → Silent m → Old t version peer) t (to_resume t.look.part) taken (says_to t (talk t) taken peer (Get t.look.part [] (key_of t))) (λ call e k silent. absurd k) (λ k silent. absurd (cc))
 asks_old t version peer taken Puts is = λ k silent. absurd (cc)
 asks_old t version peer taken Drops is = λ k silent. copy_old t version peer taken is (side_of t.w) refl silent
 
@@ -84,8 +84,8 @@ asks_old t version peer taken Drops is = λ k silent. copy_old t version peer ta
 pub greets_old : (t : Turn) (f : FrameView) (peer p n : ℕ) → t.w.phase ≡ Greets p → line_in f.body ≡ Some (Version n) → IsTalkBy (takes_frame t peer f f.body).kind → Silent (takes_frame t peer f f.body) → Old t n peer
 greets_old t f peer p n is told =
     let same = takes_line t peer f (Version n) (Greets p) is told in
-    subst (λ (m : Made). IsTalkBy m.kind → Silent m → Old t n peer) (sym same)
-    (if_either (λ (m : Made). IsTalkBy m.kind → Silent m → Old t n peer) (nat_le n 3) (asks t n (Some f) peer t.w.part) (wrong t f peer) (λ e. asks_old t n peer (Some f) t.w.part refl) (λ e k silent. absurd (cc)))
+    subst (λ (m : Effect). IsTalkBy m.kind → Silent m → Old t n peer) (sym same)
+    (if_either (λ (m : Effect). IsTalkBy m.kind → Silent m → Old t n peer) (nat_le n 3) (asks t n (Some f) peer t.w.part) (wrong_message t f peer) (λ e. asks_old t n peer (Some f) t.w.part refl) (λ e k silent. absurd (cc)))
 
 goes_old : (t : Turn) (peer : ℕ) → (t.w.part ≡ Drops → (enough_by t.read t.w ≡ true) ⊎ (next_by t.read t.w ≡ Some peer)) → QuietOld t t.w.version (goes_to t peer)
 goes_old t peer chosen = if_either (QuietOld t t.w.version) (end_with t peer).opened (asks t t.w.version None peer t.w.part) (sends_to t (talk t) None peer (Opening ∷ []))
@@ -111,7 +111,7 @@ next_part t Gets is = source_old t (next_source t) (λ d. let both : Gets ≡ Dr
 next_part t Puts is = source_old t (next_source t) (λ d. let both : Puts ≡ Drops = sym is ∙ d in cc)
 
 -- as it goes to a target that is open already
-pub next_old : (t : Turn) (m : Made) → t.w.phase ≡ Next → by_partner t (partner t.w.what.peer t.w.phase) ≡ Some m → QuietOld t t.w.version m
+pub next_old : (t : Turn) (m : Effect) → t.w.phase ≡ Next → by_partner t (partner t.w.what.peer t.w.phase) ≡ Some m → QuietOld t t.w.version m
 next_old t m is e = go (list_all (has_room t) (needs t t.w.phase)) (subst (λ (p : Option ℕ). by_partner t p ≡ Some m) (ap (partner t.w.what.peer) is) e)
   where
     go : (b : Bool) → (if b then Some (goes t t.w.phase) else None) ≡ Some m → QuietOld t t.w.version m
@@ -126,7 +126,7 @@ pub busy_text : (t : Turn) (f : FrameView) (peer p : ℕ) (text : List ℕ) → 
 busy_text t f peer p text is part told silent =
     go (bytes_eq text (codes "busy")) refl (subst Silent (takes_line t peer f (Error text) (PutsOffer p) is told ∙ ap (λ (q : Part). takes_answer t f peer q (PutsOffer p) (Error text)) part) silent)
   where
-    go : (b : Bool) → bytes_eq text (codes "busy") ≡ b → Silent (if b then hears t f else wrong t f peer) → bytes_eq text (codes "busy") ≡ true
+    go : (b : Bool) → bytes_eq text (codes "busy") ≡ b → Silent (if b then hears t f else wrong_message t f peer) → bytes_eq text (codes "busy") ≡ true
     go true is silent = is
     go false is silent = absurd (cc)
 
@@ -147,7 +147,7 @@ times_late t f n None first = tt
 times_late t f n (Some end) first = go (nat_lt (clock_of t) end) refl
   where
     ended : nat_lt (clock_of t) end ≡ false → LateBy t (ends t (Some f) (Refused (refusals.Expired end (clock_of t)))).kind
-    ended late = attempts_even (λ (m : Made). LateBy t m.kind) t _ (Some f) (record { kind = ends_job t.w.number (Refused (refusals.Expired end (clock_of t))); taken = Some f; sent = farewells t false; lines = [] })
+    ended late = attempts_even (λ (m : Effect). LateBy t m.kind) t _ (Some f) (record { kind = ends_job t.w.number (Refused (refusals.Expired end (clock_of t))); taken = Some f; sent = farewells t false; lines = [] })
         (λ call e. at call) tt
       where
         at : (call : Call) → LateBy t (Fault call (by_me t))
@@ -160,7 +160,7 @@ times_late t f n (Some end) first = go (nat_lt (clock_of t) end) refl
 
 time_late : (t : Turn) (f : FrameView) (peer n : ℕ) (side : Side) → LateBy t (takes_time t f peer n side).kind
 time_late t f peer n Local = tt
-time_late t f peer n Remote = if_either (λ (m : Made). LateBy t m.kind) (nat_lt n (2 ^ 61)) (times t f n (first_end t)) (wrong t f peer) (λ e. times_late t f n (first_end t) refl) (λ e. tt)
+time_late t f peer n Remote = if_either (λ (m : Effect). LateBy t m.kind) (nat_lt n (2 ^ 61)) (times t f n (first_end t)) (wrong_message t f peer) (λ e. times_late t f n (first_end t) refl) (λ e. tt)
 
 message_late : (t : Turn) (f : FrameView) (peer : ℕ) (m : Message) → LateBy t (takes_drop t f peer AsksTime m).kind
 message_late t f peer (Timestamp n) = time_late t f peer n (side_of t.w)
@@ -180,20 +180,20 @@ body_late t f peer (Line text) is part = line (message_of text)
     line (Some m) = text_late t f peer t.w.phase is part m
 
 -- a release fails for a job that has asked its target's time
-pub time_late_by : (t : Turn) (m : Made) (peer : ℕ) → t.w.phase ≡ AsksTime → t.w.part ≡ Drops → t.w.what.peer ≡ Some peer → by_partner t (partner t.w.what.peer t.w.phase) ≡ Some m → LateBy t m.kind
+pub time_late_by : (t : Turn) (m : Effect) (peer : ℕ) → t.w.phase ≡ AsksTime → t.w.part ≡ Drops → t.w.what.peer ≡ Some peer → by_partner t (partner t.w.what.peer t.w.phase) ≡ Some m → LateBy t m.kind
 time_late_by t m peer is part at e =
     go (end_with t peer).opened (subst (λ (p : Option ℕ). by_partner t p ≡ Some m) (ap (partner t.w.what.peer) is ∙ at) e)
   where
     go : (b : Bool) → with_partner t peer b ≡ Some m → LateBy t m.kind
-    go false g = let made : quietly (talk t) None ≡ m = cc in subst (λ (x : Made). LateBy t x.kind) made tt
-    go true g = taken (waiting (end_with t peer) t.look (job_end t.w peer)) (subst (λ (b : Bool). (if b then awaits t peer (waiting (end_with t peer) t.look (job_end t.w peer)) else goes_on t) ≡ Some m) (ap Rattle.node_model.specs.Turns.is_awaiting is) g)
+    go false g = let made : quietly (talk t) None ≡ m = cc in subst (λ (x : Effect). LateBy t x.kind) made tt
+    go true g = taken (waiting_frame (end_with t peer) t.look (job_end t.w peer)) (subst (λ (b : Bool). (if b then awaits t peer (waiting_frame (end_with t peer) t.look (job_end t.w peer)) else goes_on t) ≡ Some m) (ap Rattle.node_model.specs.Turns.is_awaiting is) g)
       where
         taken : (o : Option FrameView) → awaits t peer o ≡ Some m → LateBy t m.kind
         taken None h = absurd (cc)
         taken (Some f) h = room (has_room t peer) h
           where
             room : (b : Bool) → (if b then Some (takes_frame t peer f f.body) else None) ≡ Some m → LateBy t m.kind
-            room true k = let made : takes_frame t peer f f.body ≡ m = cc in subst (λ (x : Made). LateBy t x.kind) made (body_late t f peer f.body is part)
+            room true k = let made : takes_frame t peer f f.body ≡ m = cc in subst (λ (x : Effect). LateBy t x.kind) made (body_late t f peer f.body is part)
             room false k = absurd (cc)
 
 -- ---- a drop that is refused for its time knows enough
@@ -202,10 +202,10 @@ abbrev pub EnoughBy : Turn → EntryKind → Type 0
 EnoughBy t (ends_job j (Refused (refusals.Expired end clk))) = enough_by t.read t.w ≡ true
 EnoughBy t kind = Unit {0}
 
-abbrev EnoughMade : Turn → Made → Type 0
+abbrev EnoughMade : Turn → Effect → Type 0
 EnoughMade t m = EnoughBy t m.kind
 
-attempts_enough : (t : Turn) (cs : List Call) (taken : Option FrameView) (m : Made) → EnoughMade t m → EnoughMade t (attempts t cs taken m)
+attempts_enough : (t : Turn) (cs : List Call) (taken : Option FrameView) (m : Effect) → EnoughMade t m → EnoughMade t (attempts t cs taken m)
 attempts_enough t cs taken m good = attempts_even (EnoughMade t) t cs taken m (λ call e. tt) good
 
 target_enough : (t : Turn) (version : ℕ) (taken : Option FrameView) (end : Option ℕ) → EnoughMade t (asks_target t version taken end)
@@ -235,7 +235,7 @@ judges_enough t true next Local e = if_either (EnoughMade t) (in_time (clock_of 
     (λ h. attempts_enough t (calls.Remove ∷ []) None (quietly _ None) tt) (λ h. expired_enough t (clock_of t) (first_end t) e)
 judges_enough t true next Remote e = goes_enough t (target t)
 
-pub next_enough : (t : Turn) (m : Made) → t.w.phase ≡ Next → t.w.part ≡ Drops → by_partner t (partner t.w.what.peer t.w.phase) ≡ Some m → EnoughBy t m.kind
+pub next_enough : (t : Turn) (m : Effect) → t.w.phase ≡ Next → t.w.part ≡ Drops → by_partner t (partner t.w.what.peer t.w.phase) ≡ Some m → EnoughBy t m.kind
 next_enough t m is part e = go (list_all (has_room t) (needs t t.w.phase)) (subst (λ (p : Option ℕ). by_partner t p ≡ Some m) (ap (partner t.w.what.peer) is) e)
   where
     go : (b : Bool) → (if b then Some (goes t t.w.phase) else None) ≡ Some m → EnoughBy t m.kind

@@ -17,7 +17,7 @@ use Rattle.race_core.proofs.Ways.{down_of, way_from}
 use Rattle.node_model.specs.SetUp.{SetUp}
 use Rattle.node_model.specs.Ends.{server_end}
 use Rattle.run_model.specs.States.{state_of}
-use Rattle.node_model.specs.Look.{Look, Made, entry_of}
+use Rattle.node_model.specs.Look.{Look, Effect, entry_of}
 use Rattle.node_model.specs.Step.{step}
 use Rattle.race_core.proofs.BySteps.{ByStep}
 use Rattle.run_model.specs.Run.{IsBounded, OwnPast}
@@ -53,7 +53,7 @@ share_of : (repos : List RepoView) (r : ℕ) (past : List Entry) (e : Entry) (ho
 share_of repos r past e hold end key x = record { row = free_of past r key x.row; end_is = x.end_is; number_is = x.number_is }
 
 -- a script shares nothing
-script_share : (s : SetUp) (past : List Entry) (k : Look) (m : Made) (hold end : ℕ) (key : List ℕ) → step s (state_of s past) k ≡ Some m → m.kind ≡ Share hold end Script key → ⊥
+script_share : (s : SetUp) (past : List Entry) (k : Look) (m : Effect) (hold end : ℕ) (key : List ℕ) → step s (state_of s past) k ≡ Some m → m.kind ≡ Share hold end Script key → ⊥
 script_share s past k m hold end key e is = elim (kind_found s (state_of s past) k m (Share hold end Script key) e is (λ x. x)) [
   | inl x ↦ (let no_peer : Script ≡ Peer x.by.peer x.by.slot = x.found.by_is in cc)
   | inr x ↦ (let no_job : Script ≡ by_job x.by.w.number = x.found.by_is in cc)
@@ -68,7 +68,7 @@ pub share_step : ByStep (λ s past e. (hold end : ℕ) (by : By) (key : List ℕ
 share_step = by_step (λ s past e. (hold end : ℕ) (by : By) (key : List ℕ) → e.kind ≡ Share hold end by key → MayShare s.repos s.number past e hold end key) made
     (λ s past e h b is x hold end by key kind. absurd (any_kind s past e (Share hold end by key) x kind))
   where
-    made : (s : SetUp) (past : List Entry) (k : Look) (m : Made) → OwnPast s past → IsBounded (entry_of s.number k m) → k.part < 2 ^ 62 → step s (state_of s past) k ≡ Some m
+    made : (s : SetUp) (past : List Entry) (k : Look) (m : Effect) → OwnPast s past → IsBounded (entry_of s.number k m) → k.part < 2 ^ 62 → step s (state_of s past) k ≡ Some m
         → (hold end : ℕ) (by : By) (key : List ℕ) → m.kind ≡ Share hold end by key → MayShare s.repos s.number past (entry_of s.number k m) hold end key
     made s past k m h b small e hold end (Peer p c) key kind = share_of s.repos s.number past (entry_of s.number k m) hold end key (may_share s past k m e hold end p c key kind)
     made s past k m h b small e hold end (by_job j) key kind = share_of s.repos s.number past (entry_of s.number k m) hold end key (may_share_own s past k m e hold end j key kind)

@@ -27,7 +27,7 @@ use Rattle.run_model.specs.Past.{holds, is_of}
 use Rattle.node_model.specs.Rows.{is_lost_ordered}
 use Rattle.node_model.specs.Evidence.{Standing, Asked}
 use Rattle.run_model.specs.Logs.{before_step, has_stepped, in_drop, is_step}
-use Rattle.node_model.specs.Look.{first_of, Made}
+use Rattle.node_model.specs.Look.{first_of, Effect}
 use Rattle.annex_base.specs.Calls.{same_call}
 use Rattle.race_core.proofs.Below.{SentAreRead}
 use Rattle.p2p_wire.specs.declared.message.Message.TheVariants.{Put}
@@ -60,11 +60,11 @@ use Rattle.std.proofs.lemmas.Bool.{or_parts}
 abbrev pub at_start : Part → Turn → Turn
 at_start part before = record before { w = record before.w { part = part; phase = Fresh } }
 
-abbrev pub Off : Turn → Made → EntryKind → Type 0
+abbrev pub Off : Turn → Effect → EntryKind → Type 0
 Off t m (ends_job j outcome) = Unit {0}
 Off t m kind = is_fresh (moved t m kind).phase ≡ false
 
-abbrev OffBy : Turn → Made → Type 0
+abbrev OffBy : Turn → Effect → Type 0
 OffBy t m = Off t m m.kind
 
 pub plain_call : (cs : List Call) → list_any (same_call calls.PutFile) cs ≡ false → list_any (same_call calls.Unhold) cs ≡ false → (P : Call → Type 0) → ((call : Call) → call ≢ calls.PutFile → call ≢ calls.Unhold → P call) → (call : Call) → list_any (same_call call) cs ≡ true → P call
@@ -98,7 +98,7 @@ module _ (before : Turn) (none : owns_share before ≡ false) where
     put_first true None = ends_off p none (TransferRefused failures.NotHere)
     put_first false peer = ends_off p none (TransferRefused failures.NotHere)
 
-    put_off : (m : Made) → by_partner p None ≡ Some m → OffBy p m
+    put_off : (m : Effect) → by_partner p None ≡ Some m → OffBy p m
     put_off m e = go (list_all (has_room p) (needs p Fresh)) e
       where
         go : (b : Bool) → (if b then Some (goes p Fresh) else None) ≡ Some m → OffBy p m
@@ -138,7 +138,7 @@ module _ (before : Turn) (none : owns_share before ≡ false) where
   drop_shares : OffBy d (shares d)
   drop_shares = attempts_even (OffBy d) d (to_hold (is_there d) (bar_there d)) None (made_of (is_there d) (bar_there d)) (bad (is_there d) (bar_there d)) (go (is_there d) (bar_there d))
     where
-      made_of : Bool → Option ℕ → Made
+      made_of : Bool → Option ℕ → Effect
       made_of here bar = quietly (own_share (d.number) (clock_of d + hold_time) d.w.number (key_of d) (talk d) (by_me d) here bar) None
 
       bad : (here : Bool) (bar : Option ℕ) (call : Call) → list_any (same_call call) (to_hold here bar) ≡ true → OffBy d (quietly (Fault call (by_me d)) None)
@@ -164,7 +164,7 @@ module _ (before : Turn) (none : owns_share before ≡ false) where
       (plain_call (calls.Has ∷ []) refl refl (λ call. OffBy d (quietly (Fault call (by_me d)) None)) drop_fault) (drop_bars (row_refusal (is_there d) (required_there d) (bar_there d) (held_until d)))
   drop_first Remote = drop_remote (required_there d)
 
-  drop_off : (m : Made) → by_partner d None ≡ Some m → OffBy d m
+  drop_off : (m : Effect) → by_partner d None ≡ Some m → OffBy d m
   drop_off m e = go (list_all (has_room d) (needs d Fresh)) e
     where
       go : (b : Bool) → (if b then Some (goes d Fresh) else None) ≡ Some m → OffBy d m
@@ -173,13 +173,13 @@ module _ (before : Turn) (none : owns_share before ≡ false) where
 
 -- ---- over the run
 
-off_is : (t : Turn) (m : Made) (kind : EntryKind) → ((j : ℕ) (outcome : Outcome) → kind ≢ ends_job j outcome) → Off t m kind → is_fresh (moved t m kind).phase ≡ false
+off_is : (t : Turn) (m : Effect) (kind : EntryKind) → ((j : ℕ) (outcome : Outcome) → kind ≢ ends_job j outcome) → Off t m kind → is_fresh (moved t m kind).phase ≡ false
 off_is t m (ends_job j outcome) goes_on off = absurd (goes_on j outcome refl)
 off_is t m kind goes_on off = off
 
 -- a step of a job that is to begin its part leaves that place
 left : (s : SetUp) (past : List Entry) (e : Entry) (x : Work) (b : Steps s past e x) (part : Part) → b.by.w.part ≡ part → b.by.w.phase ≡ Fresh
-    → ((m : Made) → by_partner (at_start part (turn_at s past e b.by)) None ≡ Some m → Off (at_start part (turn_at s past e b.by)) m m.kind) → is_fresh x.phase ≡ false
+    → ((m : Effect) → by_partner (at_start part (turn_at s past e b.by)) None ≡ Some m → Off (at_start part (turn_at s past e b.by)) m m.kind) → is_fresh x.phase ≡ false
 left s past e x b part is fresh off =
     let turn = turn_at s past e b.by in
     let t = at_start part turn in

@@ -30,7 +30,7 @@ use Rattle.node_model.specs.SetUp.{SetUp}
 use Rattle.node_model.specs.Jobs.{Drops, Fresh, Gets, Part, Phase, Puts, Work, first_look, is_move, partner, says_some, work_kind}
 use Rattle.run_model.specs.States.{rows_at, works}
 use Rattle.node_model.specs.Calls.{to_release, to_read, to_resume}
-use Rattle.node_model.specs.Look.{Made}
+use Rattle.node_model.specs.Look.{Effect}
 use Rattle.annex_base.specs.Calls.{same_call}
 use Rattle.race_core.proofs.Below.{SentAreRead}
 use Rattle.node_model.specs.JobStep.{Turn, by_me, end_with, ends, farewells, is_there, key_of, me, owns_share, quietly, says_to, sends_to, talk}
@@ -132,11 +132,11 @@ module _ (before : Turn) where
   t = record before { w = record before.w { part = Gets; phase = Fresh } }
 
   -- it goes to another part, or to another phase
-  abbrev Leaves : Made → EntryKind → Type 0
+  abbrev Leaves : Effect → EntryKind → Type 0
   Leaves m (ends_job j outcome) = Unit {0}
   Leaves m kind = (moved t m kind).part ≡ Gets → is_fresh (moved t m kind).phase ≡ false
 
-  abbrev LeavesBy : Made → Type 0
+  abbrev LeavesBy : Effect → Type 0
   LeavesBy m = Leaves m m.kind
 
   fault_leaves : (cs : List Call) → list_any (same_call calls.PutFile) cs ≡ false → list_any (same_call calls.Unhold) cs ≡ false → (call : Call) → list_any (same_call call) cs ≡ true
@@ -177,7 +177,7 @@ module _ (before : Turn) where
     get_leaves false false None = quiet_leaves
     get_leaves false false (Some peer) = goes_leaves peer
 
-    first_leaves : (m : Made) → by_partner t (partner t.w.what.peer t.w.phase) ≡ Some m → LeavesBy m
+    first_leaves : (m : Effect) → by_partner t (partner t.w.what.peer t.w.phase) ≡ Some m → LeavesBy m
     first_leaves m e = go (list_all (has_room t) (needs t Fresh)) e
       where
         go : (b : Bool) → (if b then Some (goes t Fresh) else None) ≡ Some m → LeavesBy m
@@ -214,7 +214,7 @@ gets_before Drops old Gets phase g is fresh = absurd g
 gets_before Drops old Puts phase g is fresh = absurd g
 gets_before Drops old Drops phase g is fresh = absurd (cc)
 
-leaves_is : (before : Turn) (m : Made) (kind : EntryKind) → ((j : ℕ) (outcome : Outcome) → kind ≢ ends_job j outcome) → Leaves before m kind
+leaves_is : (before : Turn) (m : Effect) (kind : EntryKind) → ((j : ℕ) (outcome : Outcome) → kind ≢ ends_job j outcome) → Leaves before m kind
     → (moved (t before) m kind).part ≡ Gets → is_fresh (moved (t before) m kind).phase ≡ false
 leaves_is before m (ends_job j outcome) goes_on leaves = absurd (goes_on j outcome refl)
 leaves_is before m kind goes_on leaves = leaves

@@ -21,7 +21,7 @@ use Rattle.node_model.specs.Ends.{EndName, end_after, end_takes, end_took, may_t
 use Rattle.node_model.specs.Sessions.{line_in}
 use Rattle.node_model.specs.Jobs
 use Rattle.node_model.specs.Jobs.{Greets, Opens, Part, Phase, Work, claims, closed_part, fault_of, fault_phase, job_end, learns, partner, side_of, talks, talks_on}
-use Rattle.node_model.specs.Look.{Made, waiting}
+use Rattle.node_model.specs.Look.{Effect, waiting_frame}
 use Rattle.node_model.specs.JobStep.{Turn, end_with, me, says_to, talk}
 use Rattle.node_model.specs.Found.{IsJobEntry}
 use Rattle.node_model.specs.Turns.{awaits, by_partner, goes_on, has_room, is_awaiting, takes, takes_frame, with_partner, takes_text}
@@ -47,7 +47,7 @@ learnt w p n f (Greets q) at to told =
     (subst (λ (b : Bool). (if b then record w { version = n } else w).version ≡ n) (sym (option_at w.what.peer q (to ∙ ap (λ k. Some k) (sym same)))) refl)
 learnt w p n f phase at to told = absurd (cc)
 
-module _ (t : Turn) (m : Made) (p n : ℕ) (f : FrameView) (at : t.w.phase ≡ Greets p) (to : t.w.what.peer ≡ Some p) (took : m.taken ≡ Some f) (told : line_in f.body ≡ Some (Version n)) where
+module _ (t : Turn) (m : Effect) (p n : ℕ) (f : FrameView) (at : t.w.phase ≡ Greets p) (to : t.w.what.peer ≡ Some p) (took : m.taken ≡ Some f) (told : line_in f.body ≡ Some (Version n)) where
   abbrev e : Entry
   e = made_entry t m
 
@@ -96,16 +96,16 @@ module _ (t : Turn) (m : Made) (p n : ℕ) (f : FrameView) (at : t.w.phase ≡ G
 
 -- ---- a job that awaits takes a frame of its partner
 
-pub record Took (t : Turn) (m : Made) (p : ℕ) : Type 0 where
+pub record Took (t : Turn) (m : Effect) (p : ℕ) : Type 0 where
   pub f : FrameView
   pub taken_is : m.taken ≡ Some f
   pub of_end : takes_at (job_end t.w p) f ≡ true
   pub may : may_take (end_with t p) f ≡ true
-  pub waits : waiting (end_with t p) t.look (job_end t.w p) ≡ Some f
+  pub waits : waiting_frame (end_with t p) t.look (job_end t.w p) ≡ Some f
   pub made_is : m ≡ takes_frame t p f f.body
 
-pub partner_takes : (t : Turn) (m : Made) (p : ℕ) → partner t.w.what.peer t.w.phase ≡ Some p → is_awaiting t.w.phase ≡ true → (end_with t p).opened ≡ true → by_partner t (partner t.w.what.peer t.w.phase) ≡ Some m → Took t m p
-partner_takes t m p on awaiting opened does = go (waiting (end_with t p) t.look (job_end t.w p)) refl awaits_it
+pub partner_takes : (t : Turn) (m : Effect) (p : ℕ) → partner t.w.what.peer t.w.phase ≡ Some p → is_awaiting t.w.phase ≡ true → (end_with t p).opened ≡ true → by_partner t (partner t.w.what.peer t.w.phase) ≡ Some m → Took t m p
+partner_takes t m p on awaiting opened does = go (waiting_frame (end_with t p) t.look (job_end t.w p)) refl awaits_it
   where
     with_it : with_partner t p (end_with t p).opened ≡ Some m
     with_it = subst (λ (o : Option ℕ). by_partner t o ≡ Some m) on does
@@ -113,10 +113,10 @@ partner_takes t m p on awaiting opened does = go (waiting (end_with t p) t.look 
     opened_it : with_partner t p true ≡ Some m
     opened_it = subst (λ (b : Bool). with_partner t p b ≡ Some m) opened with_it
 
-    awaits_it : awaits t p (waiting (end_with t p) t.look (job_end t.w p)) ≡ Some m
-    awaits_it = subst (λ (b : Bool). (if b then awaits t p (waiting (end_with t p) t.look (job_end t.w p)) else goes_on t) ≡ Some m) awaiting opened_it
+    awaits_it : awaits t p (waiting_frame (end_with t p) t.look (job_end t.w p)) ≡ Some m
+    awaits_it = subst (λ (b : Bool). (if b then awaits t p (waiting_frame (end_with t p) t.look (job_end t.w p)) else goes_on t) ≡ Some m) awaiting opened_it
 
-    go : (o : Option FrameView) → waiting (end_with t p) t.look (job_end t.w p) ≡ o → awaits t p o ≡ Some m → Took t m p
+    go : (o : Option FrameView) → waiting_frame (end_with t p) t.look (job_end t.w p) ≡ o → awaits t p o ≡ Some m → Took t m p
     go None is e = absurd (cc)
     go (Some f) is e = room (has_room t p) e
       where
@@ -126,13 +126,13 @@ partner_takes t m p on awaiting opened does = go (waiting (end_with t p) t.look 
             let same : takes_frame t p f f.body ≡ m = cc in
             let was = find_member (λ g. takes_at (job_end t.w p) g && may_take (end_with t p) g) t.look.at_hand f is in
             let both = and_parts (takes_at (job_end t.w p) f) (may_take (end_with t p) f) was.1 in
-            record { f = f; taken_is = subst (λ (x : Made). x.taken ≡ Some f) same (frame_found t p f on f.body refl).0; of_end = both.0; may = both.1; waits = is; made_is = sym same }
+            record { f = f; taken_is = subst (λ (x : Effect). x.taken ≡ Some f) same (frame_found t p f on f.body refl).0; of_end = both.0; may = both.1; waits = is; made_is = sym same }
 
 -- ---- as the connection is opened, the version is asked
 
-module _ (t : Turn) (m : Made) (p : ℕ) (at : t.w.phase ≡ Opens p) (reads : message_of (text_of (Version 3)) ≡ Some (Version 3)) (x : Took t m p) (suits : Suits t.w.phase x.f.body)
+module _ (t : Turn) (m : Effect) (p : ℕ) (at : t.w.phase ≡ Opens p) (reads : message_of (text_of (Version 3)) ≡ Some (Version 3)) (x : Took t m p) (suits : Suits t.w.phase x.f.body)
     (now : (end_after (job_end t.w p) (end_with t p) (made_entry t m)).opened ≡ true) where
-  abbrev said : Made
+  abbrev said : Effect
   said = says_to t (talk t) (Some x.f) p (Version 3)
 
   asks_version : m ≡ said
@@ -144,7 +144,7 @@ module _ (t : Turn) (m : Made) (p : ℕ) (at : t.w.phase ≡ Opens p) (reads : m
       line None h = absurd h
 
       closes : x.f.body ≡ Closing → ⊥
-      closes is = true≢false (sym now ∙ (ap (λ (k : Made). (end_after (job_end t.w p) (end_with t p) (made_entry t k)).opened) (x.made_is ∙ ap (takes_frame t p x.f) is)
+      closes is = true≢false (sym now ∙ (ap (λ (k : Effect). (end_after (job_end t.w p) (end_with t p) (made_entry t k)).opened) (x.made_is ∙ ap (takes_frame t p x.f) is)
           ∙ (ap (λ (o : Option FrameView). (end_took (end_with t p) o).opened) here ∙ ap (λ (b : FrameText). (end_takes (end_with t p) x.f.epoch b).opened) is)))
         where
           here : taken_at (job_end t.w p) (Some x.f) ≡ Some x.f
@@ -158,7 +158,7 @@ module _ (t : Turn) (m : Made) (p : ℕ) (at : t.w.phase ≡ Opens p) (reads : m
 
   -- it doesn't know the version yet
   pub opens_unknown : is_greeted (stands_at (moved t m m.kind) p) ≡ false
-  opens_unknown = subst (λ (k : Made). is_greeted (stands_at (moved t k k.kind) p) ≡ false) (sym asks_version)
+  opens_unknown = subst (λ (k : Effect). is_greeted (stands_at (moved t k k.kind) p) ≡ false) (sym asks_version)
       (subst (λ (o : Option ℕ). is_greeted (stands_at (talks_on (rows_of t) (me t) y (made_entry t said) o) p) ≡ false) (sym (ap (partner t.w.what.peer) at))
       (subst (λ (b : Bool). is_greeted (stands_at (if b then talks (rows_of t) (me t) y (made_entry t said) said.sent else closed_part (me t) y p y.part) p) ≡ false) (sym opened)
       (at_greet (talks (rows_of t) (me t) y (made_entry t said) said.sent) (ap (λ (o : Option Message). (Jobs.says_some y t.look.time p (Jobs.taken_message (Some x.f)) o).phase) reads))))
@@ -170,7 +170,7 @@ module _ (t : Turn) (m : Made) (p : ℕ) (at : t.w.phase ≡ Opens p) (reads : m
       same = ap (λ (s : ℕ). let a : EndName = record { peer = p; slot = s; client = true } in a) (talker_slot t said.taken)
 
       opened : (end_after (job_end y p) (t.ends (job_end y p)) (made_entry t said)).opened ≡ true
-      opened = ap (λ (a : EndName). (end_after a (t.ends a) (made_entry t said)).opened) same ∙ subst (λ (k : Made). (end_after (job_end t.w p) (end_with t p) (made_entry t k)).opened ≡ true) asks_version now
+      opened = ap (λ (a : EndName). (end_after a (t.ends a) (made_entry t said)).opened) same ∙ subst (λ (k : Effect). (end_after (job_end t.w p) (end_with t p) (made_entry t k)).opened ≡ true) asks_version now
 
       at_greet : (w : Work) → w.phase ≡ Greets p → is_greeted (stands_at w p) ≡ false
       at_greet w is = ap is_greeted (stands_on w.what.peer w.phase (kept w p) p (ap (partner w.what.peer) is)) ∙ ap (λ (q : Phase). is_greeted (Dialogue.phase_stance q)) is

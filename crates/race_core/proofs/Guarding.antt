@@ -21,7 +21,7 @@ use Rattle.node_model.specs.Ends.{End, EndName, end_takes, is_opening, sent_at, 
 use Rattle.run_model.specs.States.{end_at, content, session, state_of}
 use Rattle.node_model.specs.Sessions.{Doing, Waits, Guards, Gives, Gave, Wants, Takes, Took, Session, doing_after, gave_bytes, gives, guards, new_session, reaches, message_said, sends_close, sent_more, sent_one, session_after, session_left, session_took, took_bytes, took_message, takes_more, takes_from, wants}
 use Rattle.node_model.specs.Calls.{to_lock}
-use Rattle.node_model.specs.Look.{failing}
+use Rattle.node_model.specs.Look.{failing_call}
 use Rattle.node_model.specs.SessionStep.{Here, Reply, bar_on, by_of, here, is_here, lock_answer, now_of, on_frame, on_lock, on_message, on_text, failure_line}
 use Rattle.run_model.specs.Run.{OwnPart, OwnRun}
 use Rattle.race_core.proofs.Cases.{unless_found}
@@ -106,7 +106,7 @@ lock_grants hold end by key true true None n k e =
 on_lock-grants : (h : Here) (key : List ℕ) → Grants (by_of h) (on_lock h key)
 on_lock-grants h key =
     let good : Reply = lock_answer h.number (now_of h + hold_time) (by_of h) key h.locks (is_here h key) (bar_on h key) in
-    unless_found (Grants (by_of h)) (failing h.fails (to_lock h.locks (is_here h key) (bar_on h key)))
+    unless_found (Grants (by_of h)) (failing_call h.fails (to_lock h.locks (is_here h key) (bar_on h key)))
     (λ call. record { kind = Fault call (by_of h); says = failure_line }) good (λ call n k e. absurd (cc))
     (lock_grants h.number (now_of h + hold_time) (by_of h) key h.locks (is_here h key) (bar_on h key))
 

@@ -10,7 +10,7 @@ use Rattle.p2p_wire.specs.declared.message.Message.TheVariants.{Success}
 use Rattle.node_model.specs.Sessions.{line_in}
 use Rattle.node_model.specs.Ends.{EndName, End, end_after, end_takes, end_took}
 use Rattle.node_model.specs.Jobs.{Drops, Part, Phase, AsksLock, AsksLook, Held, Seen, Heard, Work, closed_part, job_end, listens, partner, talks_on, after_frame}
-use Rattle.node_model.specs.Look.{Made, waiting}
+use Rattle.node_model.specs.Look.{Effect, waiting_frame}
 use Rattle.node_model.specs.JobStep.{Turn, end_with, hears, me, quietly, talk}
 use Rattle.node_model.specs.Turns.{awaits, goes, goes_on, has_room, is_awaiting, needs, takes, takes_answer, takes_frame, takes_text, with_partner}
 use Rattle.race_core.proofs.JobFacts.{frame_found, goes_found}
@@ -23,9 +23,9 @@ use Rattle.race_core.proofs.ClientSteps.{took_listens}
 -- ---- the step that takes a frame
 
 -- a step that takes a frame is the taking of that frame, on the open connection of the partner
-pub took_as : (t : Turn) (m : Made) (peer : ℕ) → partner t.w.what.peer t.w.phase ≡ Some peer → (b : Bool) → with_partner t peer b ≡ Some m → (f : FrameView) → m.taken ≡ Some f
+pub took_as : (t : Turn) (m : Effect) (peer : ℕ) → partner t.w.what.peer t.w.phase ≡ Some peer → (b : Bool) → with_partner t peer b ≡ Some m → (f : FrameView) → m.taken ≡ Some f
     → m ≡ takes_frame t peer f f.body
-took_as t m peer on false e f took = let same : quietly (talk t) None ≡ m = cc in absurd (let bad : None ≡ Some f = ap (λ (x : Made). x.taken) same ∙ took in cc)
+took_as t m peer on false e f took = let same : quietly (talk t) None ≡ m = cc in absurd (let bad : None ≡ Some f = ap (λ (x : Effect). x.taken) same ∙ took in cc)
 took_as t m peer on true e f took = go (is_awaiting t.w.phase) refl e
   where
     takes_it : (o : Option FrameView) → awaits t peer o ≡ Some m → m ≡ takes_frame t peer f f.body
@@ -36,18 +36,18 @@ took_as t m peer on true e f took = go (is_awaiting t.w.phase) refl e
         room false k = absurd (cc)
         room true k =
             let made : takes_frame t peer h h.body ≡ m = cc in
-            let one : Some h ≡ Some f = sym (frame_found t peer h on h.body refl).0 ∙ (ap (λ (x : Made). x.taken) made ∙ took) in
+            let one : Some h ≡ Some f = sym (frame_found t peer h on h.body refl).0 ∙ (ap (λ (x : Effect). x.taken) made ∙ took) in
             sym made ∙ ap (λ (x : FrameView). takes_frame t peer x x.body) (same_Some h f one)
 
-    go : (c : Bool) → is_awaiting t.w.phase ≡ c → (if c then awaits t peer (waiting (end_with t peer) t.look (job_end t.w peer)) else goes_on t) ≡ Some m → m ≡ takes_frame t peer f f.body
-    go true awaiting g = takes_it (waiting (end_with t peer) t.look (job_end t.w peer)) g
+    go : (c : Bool) → is_awaiting t.w.phase ≡ c → (if c then awaits t peer (waiting_frame (end_with t peer) t.look (job_end t.w peer)) else goes_on t) ≡ Some m → m ≡ takes_frame t peer f f.body
+    go true awaiting g = takes_it (waiting_frame (end_with t peer) t.look (job_end t.w peer)) g
     go false idle g = room (list_all (has_room t) (needs t t.w.phase)) g
       where
         room : (c : Bool) → (if c then Some (goes t t.w.phase) else None) ≡ Some m → m ≡ takes_frame t peer f f.body
         room false k = absurd (cc)
         room true k =
             let made : goes t t.w.phase ≡ m = cc in
-            absurd (let bad : None ≡ Some f = sym (goes_found t t.w.phase refl (inr idle)).0 ∙ (ap (λ (x : Made). x.taken) made ∙ took) in cc)
+            absurd (let bad : None ≡ Some f = sym (goes_found t t.w.phase refl (inr idle)).0 ∙ (ap (λ (x : Effect). x.taken) made ∙ took) in cc)
 
 -- the taking of a message by a drop
 pub takes_line : (t : Turn) (peer : ℕ) (f : FrameView) (m : Message) (phase : Phase) → t.w.phase ≡ phase → line_in f.body ≡ Some m → takes_frame t peer f f.body ≡ takes t f peer phase m

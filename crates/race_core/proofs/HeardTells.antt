@@ -29,7 +29,7 @@ use Rattle.node_model.specs.Sessions.{line_in}
 use Rattle.node_model.specs.Jobs
 use Rattle.node_model.specs.Jobs.{AsksLock, AsksLook, Drops, Gets, Held, Part, Phase, Puts, Seen, Work, work_kind}
 use Rattle.run_model.specs.States.{rows_at, works}
-use Rattle.node_model.specs.Look.{Made, entry_of}
+use Rattle.node_model.specs.Look.{Effect, entry_of}
 use Rattle.node_model.specs.JobStep.{Turn, end_with, hears as hears_it, talk}
 use Rattle.node_model.specs.Turns.{by_partner, takes_frame}
 use Rattle.run_model.specs.Run.{OwnPart, OwnPast}
@@ -137,7 +137,7 @@ module _ (reads_back : SentAreRead) (s : SetUp) (past : List Entry) (e : Entry) 
 
   -- the entry, where the frame is heard and nothing said
   heard_entry : (f : FrameView) → x.made ≡ hears_it t f → e ≡ made_entry t (hears_it t f)
-  heard_entry f same = x.is ∙ ap (λ (m : Made). entry_of s.number x.look m) same
+  heard_entry f same = x.is ∙ ap (λ (m : Effect). entry_of s.number x.look m) same
 
   after_heard : (f : FrameView) (hs : List (ℕ × Jobs.Heard)) → e ≡ made_entry t (hears_it t f) → (work_kind (rows_at past s.number) s.number x.w (made_entry t (hears_it t f)) (talk t)).heard ≡ hs
       → (work_kind (rows_at past s.number) s.number x.w e e.kind).heard ≡ hs

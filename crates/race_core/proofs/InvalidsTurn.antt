@@ -23,7 +23,7 @@ use Rattle.run_model.specs.Run.{OwnPart, OwnPast, OwnRun}
 use Rattle.run_model.specs.States.{content, end_at, session, state_of}
 use Rattle.node_model.specs.SetUp.{SetUp}
 use Rattle.node_model.specs.Ends.{End, EndName, end_sends, frames, server_end}
-use Rattle.node_model.specs.Look.{failing}
+use Rattle.node_model.specs.Look.{failing_call}
 use Rattle.node_model.specs.Sessions.{Doing, Gives, Session, reaches}
 use Rattle.node_model.specs.SessionStep.{Here, Reply, by_of, close_kind, content_of, gives_next, here, on_frame, on_piece, reply, shuts}
 use Rattle.race_core.proofs.AnswersRead.{all_read}
@@ -53,7 +53,7 @@ abbrev Refused : Doing → FrameText → List FrameText → Type 0
 Refused was b says = ((key : List ℕ) × (at : ℕ) × (left : ℕ) × (was ≡ Gives key at left false)) × (says ≡ b ∷ [])
 
 piece_not : (h : Here) (key : List ℕ) (at n : ℕ) (b : FrameText) → message_in b ≡ Says Invalid → Member b (on_piece h key at n).says → ⊥
-piece_not h key at n b e = unless_found (λ (x : Reply). Member b x.says → ⊥) (failing h.fails (calls.Read ∷ [])) (λ call. record { kind = Fault call (by_of h); says = Closing ∷ [] })
+piece_not h key at n b e = unless_found (λ (x : Reply). Member b x.says → ⊥) (failing_call h.fails (calls.Read ∷ [])) (λ call. record { kind = Fault call (by_of h); says = Closing ∷ [] })
     (if reaches (content_of h key) (at + n) then record { kind = Talk None; says = Bytes n ∷ [] } else shuts (close_kind h)) (λ call m. closes m)
     (if_either (λ (x : Reply). Member b x.says → ⊥) (reaches (content_of h key) (at + n)) (record { kind = Talk None; says = Bytes n ∷ [] }) (shuts (close_kind h)) (λ y m. bytes m) (λ y m. closes m))
   where

@@ -31,10 +31,10 @@ use Rattle.node_model.specs.Jobs
 use Rattle.node_model.specs.Jobs.{Work, Part, Phase, Gets, Puts, Drops, Fresh, Next, Opens, Greets, GetsData, GetsBytes, GetsWord, PutsOffer, PutsBytes, PutsWord, PutsAnswer, AsksLock, AsksLook, AsksTime, job_end, partner, side_of, is_move}
 use Rattle.node_model.specs.Calls.{to_commit, to_hold, to_release, to_resume}
 use Rattle.node_model.specs.State.{State}
-use Rattle.node_model.specs.Look.{Look, Made, failing, waiting}
+use Rattle.node_model.specs.Look.{Look, Effect, failing_call, waiting_frame}
 use Rattle.node_model.specs.SessionStep.{bytes_left}
 use Rattle.node_model.specs.Knows.{enough_by, next_by}
-use Rattle.node_model.specs.JobStep.{Turn, hears, attempts, bar_there, by_me, clock_of, end_with, ends, farewell, farewells, has_lock, is_there, key_of, me, owns_share, quietly, says_to, sends_to, talk, turn_of, wrong, others_of}
+use Rattle.node_model.specs.JobStep.{Turn, hears, attempts, bar_there, by_me, clock_of, end_with, ends, farewell, farewells, has_lock, is_there, key_of, me, owns_share, quietly, says_to, sends_to, talk, turn_of, wrong_message, others_of}
 use Rattle.node_model.specs.DropStep.{asks_copy, asks_lock, asks_target, bars, expiry, first_drop, first_end, held_until, in_time, lacking_outcome, need_now, orders, removes, required_there, row_refusal, takes_drop, takes_time, target, times, tries_own}
 use Rattle.node_model.specs.Requests.{asks, goes_to}
 use Rattle.node_model.specs.TransferStep.{content_of, first_get, first_put, gains, next_get, next_source, puts_from, puts_piece, takes_bytes, takes_get, takes_put}
@@ -51,19 +51,19 @@ SentWell c g = ((c.opened ≡ true) × (g.epoch ≡ c.epoch) × (is_opening g.bo
 abbrev pub JobSays : Turn → FrameView → Type 0
 JobSays t g = (g.up ≡ true) × (g.slot ≡ t.w.slot) × SentWell (end_with t g.peer) g
 
-abbrev pub Says : Turn → Made → Type 0
+abbrev pub Says : Turn → Effect → Type 0
 Says t m = Each (JobSays t) m.sent
 
 -- ---- what all jobs share
 
-attempts_says : (t : Turn) (cs : List Call) (taken : Option FrameView) (m : Made) → Says t m → Says t (attempts t cs taken m)
-attempts_says t cs taken m g = unless_found (Says t) (failing t.look.fails cs) (λ call. quietly (Fault call (by_me t)) taken) m (λ call. tt) g
+attempts_says : (t : Turn) (cs : List Call) (taken : Option FrameView) (m : Effect) → Says t m → Says t (attempts t cs taken m)
+attempts_says t cs taken m g = unless_found (Says t) (failing_call t.look.fails cs) (λ call. quietly (Fault call (by_me t)) taken) m (λ call. tt) g
 
 -- one frame on an open connection
 one_says : (t : Turn) (kind : EntryKind) (taken : Option FrameView) (peer : ℕ) (body : FrameText) → (end_with t peer).opened ≡ true → is_opening body ≡ false → Says t (sends_to t kind taken peer (body ∷ []))
 one_says t kind taken peer body o n = ((refl, refl, inl (o, sends_epoch (end_with t peer) body n, n)), tt)
 
-wrong_says : (t : Turn) (f : FrameView) (peer : ℕ) → (end_with t peer).opened ≡ true → Says t (wrong t f peer)
+wrong_says : (t : Turn) (f : FrameView) (peer : ℕ) → (end_with t peer).opened ≡ true → Says t (wrong_message t f peer)
 wrong_says t f peer o = one_says t (talk t) (Some f) peer Closing o refl
 
 farewell_says : (t : Turn) (lost : Bool) (peer : ℕ) (b : Bool) → (end_with t peer).opened ≡ b → Each (JobSays t) (frames (job_end t.w peer) (end_with t peer) (farewell t lost peer b))
@@ -191,11 +191,11 @@ times_says t f n (Some end) o =
 
 time_says : (t : Turn) (f : FrameView) (peer n : ℕ) (side : Side) → Open t peer → (side ≡ Remote → Open t (target t)) → Says t (takes_time t f peer n side)
 time_says t f peer n Local o p = wrong_says t f peer o
-time_says t f peer n Remote o p = if_either (Says t) (nat_lt n (2 ^ 61)) (times t f n (first_end t)) (wrong t f peer) (λ e. times_says t f n (first_end t) (p refl)) (λ e. wrong_says t f peer o)
+time_says t f peer n Remote o p = if_either (Says t) (nat_lt n (2 ^ 61)) (times t f n (first_end t)) (wrong_message t f peer) (λ e. times_says t f n (first_end t) (p refl)) (λ e. wrong_says t f peer o)
 
 bytes_says : (t : Turn) (f : FrameView) (peer n : ℕ) (phase : Phase) → Open t peer → Says t (takes_bytes t f peer n phase)
 bytes_says t f peer n (GetsBytes p start size left) o =
-    if_either (Says t) (nat_lt 0 n && nat_le n left) (attempts t (calls.Append ∷ []) (Some f) (quietly (talk t) (Some f))) (wrong t f peer)
+    if_either (Says t) (nat_lt 0 n && nat_le n left) (attempts t (calls.Append ∷ []) (Some f) (quietly (talk t) (Some f))) (wrong_message t f peer)
     (λ e. attempts_says t (calls.Append ∷ []) (Some f) (quietly (talk t) (Some f)) tt) (λ e. wrong_says t f peer o)
 bytes_says t f peer n phase o = wrong_says t f peer o
 
@@ -222,14 +222,14 @@ get_says t f peer phase m o = wrong_says t f peer o
 from_says : (t : Turn) (f : FrameView) (peer n : ℕ) → Open t peer → Says t (puts_from t f peer n)
 from_says t f peer n o =
     let m = Data (bytes_left (content_of t) n) in
-    let good = if reaches (content_of t) n then says_to t (talk t) (Some f) peer m else wrong t f peer in
+    let good = if reaches (content_of t) n then says_to t (talk t) (Some f) peer m else wrong_message t f peer in
     attempts_says t (calls.Size ∷ []) (Some f) good
-    (if_either (Says t) (reaches (content_of t) n) (says_to t (talk t) (Some f) peer m) (wrong t f peer) (λ e. one_says t (talk t) (Some f) peer (Line (text_of m)) o refl) (λ e. wrong_says t f peer o))
+    (if_either (Says t) (reaches (content_of t) n) (says_to t (talk t) (Some f) peer m) (wrong_message t f peer) (λ e. one_says t (talk t) (Some f) peer (Line (text_of m)) o refl) (λ e. wrong_says t f peer o))
 
 put_says : (t : Turn) (f : FrameView) (peer : ℕ) (phase : Phase) (m : Message) → Open t peer → Says t (takes_put t f peer phase m)
 put_says t f peer (PutsOffer p) AlreadyHave o = tt
 put_says t f peer (PutsOffer p) Failure o = tt
-put_says t f peer (PutsOffer p) (Error text) o = if_either (Says t) (bytes_eq text (codes "busy")) (hears t f) (wrong t f peer) (λ e. tt) (λ e. wrong_says t f peer o)
+put_says t f peer (PutsOffer p) (Error text) o = if_either (Says t) (bytes_eq text (codes "busy")) (hears t f) (wrong_message t f peer) (λ e. tt) (λ e. wrong_says t f peer o)
 put_says t f peer (PutsOffer p) (PutFrom n) o = from_says t f peer n o
 put_says t f peer (PutsAnswer p start) Success o = tt
 put_says t f peer (PutsAnswer p start) Failure o = tt
@@ -249,7 +249,7 @@ answer_says t f peer Drops phase m on o = drop_says t f peer phase m o (at_targe
 
 takes_says : (t : Turn) (f : FrameView) (peer : ℕ) (phase : Phase) (m : Message) → partner t.w.what.peer phase ≡ Some peer → Open t peer → Says t (takes t f peer phase m)
 takes_says t f peer (Opens p) (AuthSuccess id) on o = one_says t (talk t) (Some f) peer (Line (text_of (Version 3))) o refl
-takes_says t f peer (Greets p) (Version n) on o = if_either (Says t) (nat_le n 3) (asks t n (Some f) peer t.w.part) (wrong t f peer) (λ e. asks_says t n (Some f) peer t.w.part o) (λ e. wrong_says t f peer o)
+takes_says t f peer (Greets p) (Version n) on o = if_either (Says t) (nat_le n 3) (asks t n (Some f) peer t.w.part) (wrong_message t f peer) (λ e. asks_says t n (Some f) peer t.w.part o) (λ e. wrong_says t f peer o)
 takes_says t f peer phase m on o = answer_says t f peer t.w.part phase m on o
 
 text_says : (t : Turn) (f : FrameView) (peer : ℕ) (m : Option Message) → partner t.w.what.peer t.w.phase ≡ Some peer → Open t peer → Says t (takes_text t f peer m)
@@ -264,14 +264,14 @@ frame_says t peer f (Line text) on o = text_says t f peer (message_of text) on o
 
 -- ---- the step
 
-on_says : (t : Turn) (m : Made) → OnOpen t t.w.phase → goes_on t ≡ Some m → Says t m
+on_says : (t : Turn) (m : Effect) → OnOpen t t.w.phase → goes_on t ≡ Some m → Says t m
 on_says t m o e = go (list_all (has_room t) (needs t t.w.phase)) e
   where
     go : (b : Bool) → (if b then Some (goes t t.w.phase) else None) ≡ Some m → Says t m
     go true g = let same : goes t t.w.phase ≡ m = cc in subst (Says t) same (goes_says t t.w.phase o)
     go false g = absurd (cc)
 
-awaits_says : (t : Turn) (peer : ℕ) (m : Made) → partner t.w.what.peer t.w.phase ≡ Some peer → Open t peer → (f : Option FrameView) → awaits t peer f ≡ Some m → Says t m
+awaits_says : (t : Turn) (peer : ℕ) (m : Effect) → partner t.w.what.peer t.w.phase ≡ Some peer → Open t peer → (f : Option FrameView) → awaits t peer f ≡ Some m → Says t m
 awaits_says t peer m on o None e = absurd (cc)
 awaits_says t peer m on o (Some f) e = go (has_room t peer) e
   where
@@ -279,30 +279,30 @@ awaits_says t peer m on o (Some f) e = go (has_room t peer) e
     go true g = let same : takes_frame t peer f f.body ≡ m = cc in subst (Says t) same (frame_says t peer f f.body on o)
     go false g = absurd (cc)
 
-with_says : (t : Turn) (peer : ℕ) (m : Made) → partner t.w.what.peer t.w.phase ≡ Some peer → (b : Bool) → (end_with t peer).opened ≡ b → with_partner t peer b ≡ Some m → Says t m
+with_says : (t : Turn) (peer : ℕ) (m : Effect) → partner t.w.what.peer t.w.phase ≡ Some peer → (b : Bool) → (end_with t peer).opened ≡ b → with_partner t peer b ≡ Some m → Says t m
 with_says t peer m on false o e = let same : quietly (talk t) None ≡ m = cc in subst (Says t) same tt
 with_says t peer m on true o e = go (is_awaiting t.w.phase) e
   where
-    go : (b : Bool) → (if b then awaits t peer (waiting (end_with t peer) t.look (job_end t.w peer)) else goes_on t) ≡ Some m → Says t m
-    go true g = awaits_says t peer m on o (waiting (end_with t peer) t.look (job_end t.w peer)) g
+    go : (b : Bool) → (if b then awaits t peer (waiting_frame (end_with t peer) t.look (job_end t.w peer)) else goes_on t) ≡ Some m → Says t m
+    go true g = awaits_says t peer m on o (waiting_frame (end_with t peer) t.look (job_end t.w peer)) g
     go false g = on_says t m (λ p is. let same : Some peer ≡ Some p = sym on ∙ is in let it : peer ≡ p = cc in subst (Open t) it o) g
 
-partner_says : (t : Turn) (m : Made) (p : Option ℕ) → partner t.w.what.peer t.w.phase ≡ p → by_partner t p ≡ Some m → Says t m
+partner_says : (t : Turn) (m : Effect) (p : Option ℕ) → partner t.w.what.peer t.w.phase ≡ p → by_partner t p ≡ Some m → Says t m
 partner_says t m None on e = on_says t m (λ p is. absurd (let no' : None ≡ Some p = sym on ∙ is in cc)) e
 partner_says t m (Some peer) on e = with_says t peer m on (end_with t peer).opened refl e
 
 -- a job's entry speaks where the job in the slot may
-pub record JobSpeaks (s : SetUp) (st : State) (k : Look) (m : Made) : Type 0 where
+pub record JobSpeaks (s : SetUp) (st : State) (k : Look) (m : Effect) : Type 0 where
   pub w : Work
   pub slot : ℕ
   pub runs : find (λ w. w.slot == slot) st.works ≡ Some w
   pub says : Says (turn_of s st k w) m
 
-slot_says : (s : SetUp) (st : State) (k : Look) (slot : ℕ) (m : Made) (w : Option Work) → find (λ w. w.slot == slot) st.works ≡ w → slot_step s st k w ≡ Some m → JobSpeaks s st k m
+slot_says : (s : SetUp) (st : State) (k : Look) (slot : ℕ) (m : Effect) (w : Option Work) → find (λ w. w.slot == slot) st.works ≡ w → slot_step s st k w ≡ Some m → JobSpeaks s st k m
 slot_says s st k slot m None is e = absurd (cc)
 slot_says s st k slot m (Some w) is e = record { w = w; slot = slot; runs = is; says = partner_says (turn_of s st k w) m (partner w.what.peer w.phase) refl e }
 
-pub job_speaks : (s : SetUp) (st : State) (k : Look) (m : Made) → job_step s st k ≡ Some m → JobSpeaks s st k m
+pub job_speaks : (s : SetUp) (st : State) (k : Look) (m : Effect) → job_step s st k ≡ Some m → JobSpeaks s st k m
 job_speaks s st k m e =
     let x = some_was (λ slot. slot_step s st k (find (λ w. w.slot == slot) st.works)) slots m e in
     slot_says s st k x.0 m (find (λ w. w.slot == x.0) st.works) refl x.2

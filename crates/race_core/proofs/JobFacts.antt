@@ -30,10 +30,10 @@ use Rattle.node_model.specs.Sessions.{line_in, reaches}
 use Rattle.node_model.specs.Jobs
 use Rattle.node_model.specs.Jobs.{Part, Gets, Puts, Drops, Phase, Fresh, Next, Opens, Greets, GetsData, GetsBytes, GetsWord, PutsOffer, PutsBytes, PutsWord, PutsAnswer, AsksLock, AsksLook, AsksTime, is_move, Work, job_end, partner, side_of}
 use Rattle.node_model.specs.Calls.{to_commit, to_hold, to_release, to_resume}
-use Rattle.node_model.specs.Look.{Look, Made, failing, waiting}
+use Rattle.node_model.specs.Look.{Look, Effect, failing_call, waiting_frame}
 use Rattle.node_model.specs.SessionStep.{bytes_left}
 use Rattle.node_model.specs.Knows.{enough_by, next_by}
-use Rattle.node_model.specs.JobStep.{Turn, hears, turn_of, attempts, bar_there, by_me, clock_of, end_with, ends, farewells, is_there, key_of, me, owns_share, quietly, says_to, sends_to, talk, wrong}
+use Rattle.node_model.specs.JobStep.{Turn, hears, turn_of, attempts, bar_there, by_me, clock_of, end_with, ends, farewells, is_there, key_of, me, owns_share, quietly, says_to, sends_to, talk, wrong_message}
 use Rattle.node_model.specs.DropStep.{takes_drop, takes_time, asks_copy, asks_lock, asks_target, bars, expiry, first_drop, first_end, first_remote, held_until, in_time, lacking_outcome, orders, own_share, removes, required_there, row_refusal, shares, target, times, tries_own}
 use Rattle.node_model.specs.Requests.{asks, goes_to}
 use Rattle.node_model.specs.TransferStep.{takes_get, takes_put, content_of, first_get, first_put, gains, next_get, next_source, puts_from, puts_piece, takes_bytes}
@@ -43,8 +43,8 @@ use Rattle.race_core.proofs.Cases.{TakesAtHand, some_was, takes_none, takes_one,
 
 -- ---- what all jobs share
 
-attempts_found : (t : Turn) (cs : List Call) (taken : Option FrameView) (m : Made) → JobFound t taken m → JobFound t taken (attempts t cs taken m)
-attempts_found t cs taken m g = unless_found (JobFound t taken) (failing t.look.fails cs) (λ call. quietly (Fault call (by_me t)) taken) m (λ call. (refl, (refl, refl))) g
+attempts_found : (t : Turn) (cs : List Call) (taken : Option FrameView) (m : Effect) → JobFound t taken m → JobFound t taken (attempts t cs taken m)
+attempts_found t cs taken m g = unless_found (JobFound t taken) (failing_call t.look.fails cs) (λ call. quietly (Fault call (by_me t)) taken) m (λ call. (refl, (refl, refl))) g
 
 quiet_found : (t : Turn) (taken : Option FrameView) → JobFound t taken (quietly (talk t) taken)
 quiet_found t taken = (refl, (refl, inl refl))
@@ -52,12 +52,12 @@ quiet_found t taken = (refl, (refl, inl refl))
 sends_found : (t : Turn) (taken : Option FrameView) (peer : ℕ) (body : FrameText) → IsAsked body → JobFound t taken (sends_to t (talk t) taken peer (body ∷ []))
 sends_found t taken peer body asked = (refl, (refl, inr (peer, body, refl, asked)))
 
-wrong_found : (t : Turn) (f : FrameView) (peer : ℕ) → JobFound t (Some f) (wrong t f peer)
+wrong_found : (t : Turn) (f : FrameView) (peer : ℕ) → JobFound t (Some f) (wrong_message t f peer)
 wrong_found t f peer = sends_found t (Some f) peer Closing tt
 
 ends_found : (t : Turn) (taken : Option FrameView) (outcome : Outcome) → FindsOutcome t taken outcome ⊎ HasOutcome t taken outcome → JobFound t taken (ends t taken outcome)
 ends_found t taken outcome why =
-    let good : Made = record { kind = ends_job t.w.number outcome; taken = taken; sent = farewells t (is_lost_ordered outcome); lines = [] } in
+    let good : Effect = record { kind = ends_job t.w.number outcome; taken = taken; sent = farewells t (is_lost_ordered outcome); lines = [] } in
     attempts_found t (to_release (owns_share t && not (is_lost_ordered outcome))) taken good (refl, record { number_is = refl; why = why; sent_is = refl })
 
 -- ---- drops
@@ -89,7 +89,7 @@ shares_found : (t : Turn) → t.w.part ≡ Drops → t.w.phase ≡ Fresh → sid
 shares_found t part first side asked =
     attempts_found t (to_hold (is_there t) (bar_there t)) None (made_of (is_there t) (bar_there t)) (go (is_there t) (bar_there t) refl refl)
   where
-    made_of : Bool → Option ℕ → Made
+    made_of : Bool → Option ℕ → Effect
     made_of here bar = quietly (own_share (t.number) (clock_of t + hold_time) t.w.number (key_of t) (talk t) (by_me t) here bar) None
 
     go : (here : Bool) (bar : Option ℕ) → is_there t ≡ here → bar_there t ≡ bar → JobFound t None (made_of here bar)
@@ -237,9 +237,9 @@ piece_found t peer at n =
 from_found : (t : Turn) (f : FrameView) (peer n : ℕ) → JobFound t (Some f) (puts_from t f peer n)
 from_found t f peer n =
     let m = Data (bytes_left (content_of t) n) in
-    let good = if reaches (content_of t) n then says_to t (talk t) (Some f) peer m else wrong t f peer in
+    let good = if reaches (content_of t) n then says_to t (talk t) (Some f) peer m else wrong_message t f peer in
     attempts_found t (calls.Size ∷ []) (Some f) good
-    (if_either (JobFound t (Some f)) (reaches (content_of t) n) (says_to t (talk t) (Some f) peer m) (wrong t f peer)
+    (if_either (JobFound t (Some f)) (reaches (content_of t) n) (says_to t (talk t) (Some f) peer m) (wrong_message t f peer)
     (λ e. sends_found t (Some f) peer (Line (text_of m)) (m, refl, tt)) (λ e. wrong_found t f peer))
 
 gains_found : (t : Turn) (f : FrameView) (peer start size : ℕ) → t.w.phase ≡ GetsWord peer start size → line_in f.body ≡ Some Valid
@@ -308,7 +308,7 @@ time_found : (t : Turn) (f : FrameView) (peer n : ℕ) → t.w.part ≡ Drops �
     → (side : Side) → side_of t.w ≡ side → JobFound t (Some f) (takes_time t f peer n side)
 time_found t f peer n part phase told Local side = wrong_found t f peer
 time_found t f peer n part phase told Remote side =
-    if_either (JobFound t (Some f)) (nat_lt n (2 ^ 61)) (times t f n (first_end t)) (wrong t f peer)
+    if_either (JobFound t (Some f)) (nat_lt n (2 ^ 61)) (times t f n (first_end t)) (wrong_message t f peer)
     (λ e. times_found t f n part side phase told (first_end t) refl) (λ e. wrong_found t f peer)
 
 hears_found : (t : Turn) (f : FrameView) → JobFound t (Some f) (hears t f)
@@ -316,7 +316,7 @@ hears_found t f = quiet_found t (Some f)
 
 bytes_found : (t : Turn) (f : FrameView) (peer n : ℕ) (phase : Phase) → JobFound t (Some f) (takes_bytes t f peer n phase)
 bytes_found t f peer n (GetsBytes p start size left) =
-    if_either (JobFound t (Some f)) (nat_lt 0 n && nat_le n left) (attempts t (calls.Append ∷ []) (Some f) (quietly (talk t) (Some f))) (wrong t f peer)
+    if_either (JobFound t (Some f)) (nat_lt 0 n && nat_le n left) (attempts t (calls.Append ∷ []) (Some f) (quietly (talk t) (Some f))) (wrong_message t f peer)
     (λ e. attempts_found t (calls.Append ∷ []) (Some f) (quietly (talk t) (Some f)) (quiet_found t (Some f))) (λ e. wrong_found t f peer)
 bytes_found t f peer n phase = wrong_found t f peer
 
@@ -351,7 +351,7 @@ put_found : (t : Turn) (f : FrameView) (peer : ℕ) → partner t.w.what.peer t.
 put_found t f peer on (PutsOffer p) AlreadyHave is told = hears_found t f
 put_found t f peer on (PutsOffer p) Failure is told = hears_found t f
 put_found t f peer on (PutsOffer p) (Error text) is told =
-    if_either (JobFound t (Some f)) (bytes_eq text (codes "busy")) (hears t f) (wrong t f peer) (λ e. hears_found t f) (λ e. wrong_found t f peer)
+    if_either (JobFound t (Some f)) (bytes_eq text (codes "busy")) (hears t f) (wrong_message t f peer) (λ e. hears_found t f) (λ e. wrong_found t f peer)
 put_found t f peer on (PutsOffer p) (PutFrom n) is told = from_found t f peer n
 put_found t f peer on (PutsAnswer p start) Success is told = hears_found t f
 put_found t f peer on (PutsAnswer p start) Failure is told = hears_found t f
@@ -367,7 +367,7 @@ takes_found : (t : Turn) (f : FrameView) (peer : ℕ) → partner t.w.what.peer 
     → JobFound t (Some f) (takes t f peer phase m)
 takes_found t f peer on (Opens p) (AuthSuccess id) is told = sends_found t (Some f) peer (Line (text_of (Version 3))) (Version 3, refl, tt)
 takes_found t f peer on (Greets p) (Version n) is told =
-    if_either (JobFound t (Some f)) (nat_le n 3) (asks t n (Some f) peer t.w.part) (wrong t f peer) (λ e. asks_found t n (Some f) peer t.w.part refl) (λ e. wrong_found t f peer)
+    if_either (JobFound t (Some f)) (nat_le n 3) (asks t n (Some f) peer t.w.part) (wrong_message t f peer) (λ e. asks_found t n (Some f) peer t.w.part refl) (λ e. wrong_found t f peer)
 takes_found t f peer on phase m is told = answer_found t f peer on phase m is told t.w.part refl
 
 text_found : (t : Turn) (f : FrameView) (peer : ℕ) → partner t.w.what.peer t.w.phase ≡ Some peer → (m : Option Message) → line_in f.body ≡ m → JobFound t (Some f) (takes_text t f peer m)
@@ -383,12 +383,12 @@ frame_found t peer f on (Line text) is = text_found t f peer on (message_of text
 -- ---- the step
 
 -- what a job makes
-pub record MadeBy (t : Turn) (m : Made) : Type 0 where
+pub record MadeBy (t : Turn) (m : Effect) : Type 0 where
   pub frame : (m.taken ≡ None) ⊎ JobTakes t m
   pub found : IsJobEntry t m m.kind
   pub at_hand : TakesAtHand t.look m
 
-on_found : (t : Turn) (m : Made) → Goes t t.w.phase → goes_on t ≡ Some m → MadeBy t m
+on_found : (t : Turn) (m : Effect) → Goes t t.w.phase → goes_on t ≡ Some m → MadeBy t m
 on_found t m free e = go (list_all (has_room t) (needs t t.w.phase)) e
   where
     go : (b : Bool) → (if b then Some (goes t t.w.phase) else None) ≡ Some m → MadeBy t m
@@ -398,8 +398,8 @@ on_found t m free e = go (list_all (has_room t) (needs t t.w.phase)) e
         subst (MadeBy t) same (record { frame = inl found.0; found = found.1; at_hand = takes_none t.look (goes t t.w.phase) found.0 })
     go false g = absurd (cc)
 
-awaits_found : (t : Turn) (peer : ℕ) (m : Made) → partner t.w.what.peer t.w.phase ≡ Some peer → is_awaiting t.w.phase ≡ true → (end_with t peer).opened ≡ true
-    → (f : Option FrameView) → waiting (end_with t peer) t.look (job_end t.w peer) ≡ f → awaits t peer f ≡ Some m → MadeBy t m
+awaits_found : (t : Turn) (peer : ℕ) (m : Effect) → partner t.w.what.peer t.w.phase ≡ Some peer → is_awaiting t.w.phase ≡ true → (end_with t peer).opened ≡ true
+    → (f : Option FrameView) → waiting_frame (end_with t peer) t.look (job_end t.w peer) ≡ f → awaits t peer f ≡ Some m → MadeBy t m
 awaits_found t peer m on awaiting opened None is e = absurd (cc)
 awaits_found t peer m on awaiting opened (Some f) is e = go (has_room t peer) e
   where
@@ -416,37 +416,37 @@ awaits_found t peer m on awaiting opened (Some f) is e = go (has_room t peer) e
           at_hand = takes_one t.look (takes_frame t peer f f.body) f found.0 was.0;
         })
 
-with_found : (t : Turn) (peer : ℕ) (m : Made) → partner t.w.what.peer t.w.phase ≡ Some peer → (b : Bool) → (end_with t peer).opened ≡ b → with_partner t peer b ≡ Some m → MadeBy t m
+with_found : (t : Turn) (peer : ℕ) (m : Effect) → partner t.w.what.peer t.w.phase ≡ Some peer → (b : Bool) → (end_with t peer).opened ≡ b → with_partner t peer b ≡ Some m → MadeBy t m
 with_found t peer m on false opened e =
     let same : quietly (talk t) None ≡ m = cc in
     let found = quiet_found t None in
     subst (MadeBy t) same (record { frame = inl found.0; found = found.1; at_hand = takes_none t.look (quietly (talk t) None) found.0 })
 with_found t peer m on true opened e = go (is_awaiting t.w.phase) refl e
   where
-    go : (b : Bool) → is_awaiting t.w.phase ≡ b → (if b then awaits t peer (waiting (end_with t peer) t.look (job_end t.w peer)) else goes_on t) ≡ Some m → MadeBy t m
-    go true awaiting g = awaits_found t peer m on awaiting opened (waiting (end_with t peer) t.look (job_end t.w peer)) refl g
+    go : (b : Bool) → is_awaiting t.w.phase ≡ b → (if b then awaits t peer (waiting_frame (end_with t peer) t.look (job_end t.w peer)) else goes_on t) ≡ Some m → MadeBy t m
+    go true awaiting g = awaits_found t peer m on awaiting opened (waiting_frame (end_with t peer) t.look (job_end t.w peer)) refl g
     go false awaiting g = on_found t m (inr awaiting) g
 
-pub partner_found : (t : Turn) (m : Made) (p : Option ℕ) → partner t.w.what.peer t.w.phase ≡ p → by_partner t p ≡ Some m → MadeBy t m
+pub partner_found : (t : Turn) (m : Effect) (p : Option ℕ) → partner t.w.what.peer t.w.phase ≡ p → by_partner t p ≡ Some m → MadeBy t m
 partner_found t m None on e = on_found t m (inl on) e
 partner_found t m (Some peer) on e = with_found t peer m on (end_with t peer).opened refl e
 
-slot_found : (s : SetUp) (st : State) (k : Look) (slot : ℕ) (m : Made) (w : Option Work) → find (λ w. w.slot == slot) st.works ≡ w → slot_step s st k w ≡ Some m → ByJob s st k m
+slot_found : (s : SetUp) (st : State) (k : Look) (slot : ℕ) (m : Effect) (w : Option Work) → find (λ w. w.slot == slot) st.works ≡ w → slot_step s st k w ≡ Some m → ByJob s st k m
 slot_found s st k slot m None is e = absurd (cc)
 slot_found s st k slot m (Some w) is e =
     let x = partner_found (turn_of s st k w) m (partner w.what.peer w.phase) refl e in
     record { w = w; slot = slot; runs = is; frame = x.frame; found = x.found }
 
-pub job_found : (s : SetUp) (st : State) (k : Look) (m : Made) → job_step s st k ≡ Some m → ByJob s st k m
+pub job_found : (s : SetUp) (st : State) (k : Look) (m : Effect) → job_step s st k ≡ Some m → ByJob s st k m
 job_found s st k m e =
     let x = some_was (λ slot. slot_step s st k (find (λ w. w.slot == slot) st.works)) slots m e in
     slot_found s st k x.0 m (find (λ w. w.slot == x.0) st.works) refl x.2
 
-slot_at_hand : (s : SetUp) (st : State) (k : Look) (m : Made) (w : Option Work) → slot_step s st k w ≡ Some m → TakesAtHand k m
+slot_at_hand : (s : SetUp) (st : State) (k : Look) (m : Effect) (w : Option Work) → slot_step s st k w ≡ Some m → TakesAtHand k m
 slot_at_hand s st k m None e = absurd (cc)
 slot_at_hand s st k m (Some w) e = (partner_found (turn_of s st k w) m (partner w.what.peer w.phase) refl e).at_hand
 
-pub job_at_hand : (s : SetUp) (st : State) (k : Look) (m : Made) → job_step s st k ≡ Some m → TakesAtHand k m
+pub job_at_hand : (s : SetUp) (st : State) (k : Look) (m : Effect) → job_step s st k ≡ Some m → TakesAtHand k m
 job_at_hand s st k m e =
     let x = some_was (λ slot. slot_step s st k (find (λ w. w.slot == slot) st.works)) slots m e in
     slot_at_hand s st k m (find (λ w. w.slot == x.0) st.works) x.2

@@ -18,7 +18,7 @@ use Rattle.p2p_wire.specs.Messages.{message_of, order_of, text_of}
 use Rattle.run_model.specs.Said.{Said, Says, Unknown, message_in, said_line}
 use Rattle.node_model.specs.Ends.{frames}
 use Rattle.node_model.specs.Jobs.{job_end}
-use Rattle.node_model.specs.Look.{Made}
+use Rattle.node_model.specs.Look.{Effect}
 use Rattle.node_model.specs.JobStep.{Turn, end_with, farewell, farewells, has_lock, key_of, others_of}
 use Rattle.node_model.specs.Found.{IsAsked, IsAsking, IsJobEntry}
 use Rattle.race_core.proofs.ReadAs.{IsJobs, SameHead}
@@ -58,7 +58,7 @@ farewells_said t lost = each_flat (Farewell t lost) (λ peer. frames (job_end t.
 no_member : (sent : List FrameView) (g : FrameView) → sent ≡ [] → Member g sent → ⊥
 no_member sent g is m = subst (Member g) is m
 
-pub job_said : (t : Turn) (m : Made) (kind : EntryKind) → IsJobEntry t m kind → (g : FrameView) → Member g m.sent → JobSaid t kind g
+pub job_said : (t : Turn) (m : Effect) (kind : EntryKind) → IsJobEntry t m kind → (g : FrameView) → Member g m.sent → JobSaid t kind g
 job_said t m (Share hold end by key) x g i = no_member m.sent g x.sends_none i
 job_said t m (Bar j need key) x g i = no_member m.sent g x.sends_none i
 job_said t m (Gone by key) x g i = no_member m.sent g x.sends_none i
@@ -89,7 +89,7 @@ each_farewell : (t : Turn) (lost : Bool) (fs : List FrameView) → Each (Farewel
 each_farewell t lost [] a = tt
 each_farewell t lost (f ∷ fs) a = (elim (a.0) [ inl i ↦ inl i | inr i ↦ inr (key_of t, i.0) ], each_farewell t lost fs a.1)
 
-pub job_few : (t : Turn) (m : Made) (kind : EntryKind) → IsJobEntry t m kind → Few m.sent
+pub job_few : (t : Turn) (m : Effect) (kind : EntryKind) → IsJobEntry t m kind → Few m.sent
 job_few t m (Share hold end by key) x = inl x.sends_none
 job_few t m (Bar j need key) x = inl x.sends_none
 job_few t m (Gone by key) x = inl x.sends_none

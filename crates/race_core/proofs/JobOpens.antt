@@ -31,10 +31,10 @@ use Rattle.node_model.specs.Sessions.{reaches}
 use Rattle.node_model.specs.Jobs
 use Rattle.node_model.specs.Jobs.{Part, Gets, Puts, Drops, Phase, Fresh, Next, Opens, Greets, GetsData, GetsBytes, GetsWord, PutsOffer, PutsBytes, PutsWord, PutsAnswer, AsksLock, AsksLook, AsksTime, job_end, partner, side_of, is_move}
 use Rattle.node_model.specs.Calls.{to_commit, to_hold, to_release, to_resume}
-use Rattle.node_model.specs.Look.{Made, failing, waiting}
+use Rattle.node_model.specs.Look.{Effect, failing_call, waiting_frame}
 use Rattle.node_model.specs.SessionStep.{bytes_left}
 use Rattle.node_model.specs.Knows.{enough_by, next_by}
-use Rattle.node_model.specs.JobStep.{Turn, hears, attempts, bar_there, by_me, clock_of, end_with, ends, farewell, farewells, is_there, key_of, me, owns_share, quietly, says_to, sends_to, talk, wrong, others_of}
+use Rattle.node_model.specs.JobStep.{Turn, hears, attempts, bar_there, by_me, clock_of, end_with, ends, farewell, farewells, is_there, key_of, me, owns_share, quietly, says_to, sends_to, talk, wrong_message, others_of}
 use Rattle.node_model.specs.DropStep.{asks_copy, asks_lock, asks_target, bars, expiry, first_drop, first_end, first_remote, held_until, in_time, lacking_outcome, need_now, orders, removes, required_there, row_refusal, takes_drop, takes_time, target, times, tries_own}
 use Rattle.node_model.specs.Requests.{asks, goes_to}
 use Rattle.node_model.specs.TransferStep.{content_of, first_get, first_put, gains, next_get, next_source, puts_from, puts_piece, takes_bytes, takes_get, takes_put}
@@ -50,7 +50,7 @@ use Rattle.race_core.proofs.JobSteps.{Stepped, turn_at}
 abbrev pub Called : Turn → ℕ → Type 0
 Called t peer = (next_source t ≡ Some peer) ⊎ ((t.w.what.peer ≡ Some peer) ⊎ ((t.w.part ≡ Drops) × (t.w.phase ≡ Next) × Chosen t peer))
 
-abbrev Calls : Turn → Made → Type 0
+abbrev Calls : Turn → Effect → Type 0
 Calls t m = Each (λ g. is_opening g.body ≡ true → Called t g.peer) m.sent
 
 -- ---- what all jobs share
@@ -59,13 +59,13 @@ none_calls : (t : Turn) (fs : List FrameView) → OpensNone fs → Each (λ g. i
 none_calls t [] n = tt
 none_calls t (f ∷ fs) n = ((λ e. absurd (true≢false (sym e ∙ n.0))), none_calls t fs n.1)
 
-attempts_calls : (t : Turn) (cs : List Call) (taken : Option FrameView) (m : Made) → Calls t m → Calls t (attempts t cs taken m)
-attempts_calls t cs taken m g = unless_found (Calls t) (failing t.look.fails cs) (λ call. quietly (Fault call (by_me t)) taken) m (λ call. tt) g
+attempts_calls : (t : Turn) (cs : List Call) (taken : Option FrameView) (m : Effect) → Calls t m → Calls t (attempts t cs taken m)
+attempts_calls t cs taken m g = unless_found (Calls t) (failing_call t.look.fails cs) (λ call. quietly (Fault call (by_me t)) taken) m (λ call. tt) g
 
 one_calls : (t : Turn) (kind : EntryKind) (taken : Option FrameView) (peer : ℕ) (body : FrameText) → is_opening body ≡ false → Calls t (sends_to t kind taken peer (body ∷ []))
 one_calls t kind taken peer body n = ((λ e. absurd (true≢false (sym e ∙ n))), tt)
 
-wrong_calls : (t : Turn) (f : FrameView) (peer : ℕ) → Calls t (wrong t f peer)
+wrong_calls : (t : Turn) (f : FrameView) (peer : ℕ) → Calls t (wrong_message t f peer)
 wrong_calls t f peer = one_calls t (talk t) (Some f) peer Closing refl
 
 ends_calls : (t : Turn) (taken : Option FrameView) (outcome : Outcome) → Calls t (ends t taken outcome)
@@ -178,11 +178,11 @@ times_calls t f n (Some end) =
 
 time_calls : (t : Turn) (f : FrameView) (peer n : ℕ) (side : Side) → Calls t (takes_time t f peer n side)
 time_calls t f peer n Local = wrong_calls t f peer
-time_calls t f peer n Remote = if_either (Calls t) (nat_lt n (2 ^ 61)) (times t f n (first_end t)) (wrong t f peer) (λ e. times_calls t f n (first_end t)) (λ e. wrong_calls t f peer)
+time_calls t f peer n Remote = if_either (Calls t) (nat_lt n (2 ^ 61)) (times t f n (first_end t)) (wrong_message t f peer) (λ e. times_calls t f n (first_end t)) (λ e. wrong_calls t f peer)
 
 bytes_calls : (t : Turn) (f : FrameView) (peer n : ℕ) (phase : Phase) → Calls t (takes_bytes t f peer n phase)
 bytes_calls t f peer n (GetsBytes p start size left) =
-    if_either (Calls t) (nat_lt 0 n && nat_le n left) (attempts t (calls.Append ∷ []) (Some f) (quietly (talk t) (Some f))) (wrong t f peer)
+    if_either (Calls t) (nat_lt 0 n && nat_le n left) (attempts t (calls.Append ∷ []) (Some f) (quietly (talk t) (Some f))) (wrong_message t f peer)
     (λ e. attempts_calls t (calls.Append ∷ []) (Some f) (quietly (talk t) (Some f)) tt) (λ e. wrong_calls t f peer)
 bytes_calls t f peer n phase = wrong_calls t f peer
 
@@ -209,14 +209,14 @@ get_calls t f peer phase m = wrong_calls t f peer
 from_calls : (t : Turn) (f : FrameView) (peer n : ℕ) → Calls t (puts_from t f peer n)
 from_calls t f peer n =
     let m = Data (bytes_left (content_of t) n) in
-    let good = if reaches (content_of t) n then says_to t (talk t) (Some f) peer m else wrong t f peer in
+    let good = if reaches (content_of t) n then says_to t (talk t) (Some f) peer m else wrong_message t f peer in
     attempts_calls t (calls.Size ∷ []) (Some f) good
-    (if_either (Calls t) (reaches (content_of t) n) (says_to t (talk t) (Some f) peer m) (wrong t f peer) (λ e. one_calls t (talk t) (Some f) peer (Line (text_of m)) refl) (λ e. wrong_calls t f peer))
+    (if_either (Calls t) (reaches (content_of t) n) (says_to t (talk t) (Some f) peer m) (wrong_message t f peer) (λ e. one_calls t (talk t) (Some f) peer (Line (text_of m)) refl) (λ e. wrong_calls t f peer))
 
 put_calls : (t : Turn) (f : FrameView) (peer : ℕ) (phase : Phase) (m : Message) → Calls t (takes_put t f peer phase m)
 put_calls t f peer (PutsOffer p) AlreadyHave = tt
 put_calls t f peer (PutsOffer p) Failure = tt
-put_calls t f peer (PutsOffer p) (Error text) = if_either (Calls t) (bytes_eq text (codes "busy")) (hears t f) (wrong t f peer) (λ e. tt) (λ e. wrong_calls t f peer)
+put_calls t f peer (PutsOffer p) (Error text) = if_either (Calls t) (bytes_eq text (codes "busy")) (hears t f) (wrong_message t f peer) (λ e. tt) (λ e. wrong_calls t f peer)
 put_calls t f peer (PutsOffer p) (PutFrom n) = from_calls t f peer n
 put_calls t f peer (PutsAnswer p start) Success = tt
 put_calls t f peer (PutsAnswer p start) Failure = tt
@@ -229,7 +229,7 @@ answer_calls t f peer Drops phase m = drop_calls t f peer phase m
 
 takes_calls : (t : Turn) (f : FrameView) (peer : ℕ) (phase : Phase) (m : Message) → Calls t (takes t f peer phase m)
 takes_calls t f peer (Opens p) (AuthSuccess id) = one_calls t (talk t) (Some f) peer (Line (text_of (Version 3))) refl
-takes_calls t f peer (Greets p) (Version n) = if_either (Calls t) (nat_le n 3) (asks t n (Some f) peer t.w.part) (wrong t f peer) (λ e. asks_calls t n (Some f) peer t.w.part) (λ e. wrong_calls t f peer)
+takes_calls t f peer (Greets p) (Version n) = if_either (Calls t) (nat_le n 3) (asks t n (Some f) peer t.w.part) (wrong_message t f peer) (λ e. asks_calls t n (Some f) peer t.w.part) (λ e. wrong_calls t f peer)
 takes_calls t f peer phase m = answer_calls t f peer t.w.part phase m
 
 text_calls : (t : Turn) (f : FrameView) (peer : ℕ) (m : Option Message) → Calls t (takes_text t f peer m)
@@ -244,14 +244,14 @@ frame_calls t peer f (Line text) = text_calls t f peer (message_of text)
 
 -- ---- the step
 
-on_calls : (t : Turn) (m : Made) → goes_on t ≡ Some m → Calls t m
+on_calls : (t : Turn) (m : Effect) → goes_on t ≡ Some m → Calls t m
 on_calls t m e = go (list_all (has_room t) (needs t t.w.phase)) e
   where
     go : (b : Bool) → (if b then Some (goes t t.w.phase) else None) ≡ Some m → Calls t m
     go true g = let same : goes t t.w.phase ≡ m = cc in subst (Calls t) same (goes_calls t t.w.phase refl)
     go false g = absurd (cc)
 
-awaits_calls : (t : Turn) (peer : ℕ) (m : Made) (f : Option FrameView) → awaits t peer f ≡ Some m → Calls t m
+awaits_calls : (t : Turn) (peer : ℕ) (m : Effect) (f : Option FrameView) → awaits t peer f ≡ Some m → Calls t m
 awaits_calls t peer m None e = absurd (cc)
 awaits_calls t peer m (Some f) e = go (has_room t peer) e
   where
@@ -259,15 +259,15 @@ awaits_calls t peer m (Some f) e = go (has_room t peer) e
     go true g = let same : takes_frame t peer f f.body ≡ m = cc in subst (Calls t) same (frame_calls t peer f f.body)
     go false g = absurd (cc)
 
-with_calls : (t : Turn) (peer : ℕ) (m : Made) (b : Bool) → with_partner t peer b ≡ Some m → Calls t m
+with_calls : (t : Turn) (peer : ℕ) (m : Effect) (b : Bool) → with_partner t peer b ≡ Some m → Calls t m
 with_calls t peer m false e = let same : quietly (talk t) None ≡ m = cc in subst (Calls t) same tt
 with_calls t peer m true e = go (is_awaiting t.w.phase) e
   where
-    go : (b : Bool) → (if b then awaits t peer (waiting (end_with t peer) t.look (job_end t.w peer)) else goes_on t) ≡ Some m → Calls t m
-    go true g = awaits_calls t peer m (waiting (end_with t peer) t.look (job_end t.w peer)) g
+    go : (b : Bool) → (if b then awaits t peer (waiting_frame (end_with t peer) t.look (job_end t.w peer)) else goes_on t) ≡ Some m → Calls t m
+    go true g = awaits_calls t peer m (waiting_frame (end_with t peer) t.look (job_end t.w peer)) g
     go false g = on_calls t m g
 
-partner_calls : (t : Turn) (m : Made) (p : Option ℕ) → by_partner t p ≡ Some m → Calls t m
+partner_calls : (t : Turn) (m : Effect) (p : Option ℕ) → by_partner t p ≡ Some m → Calls t m
 partner_calls t m None e = on_calls t m e
 partner_calls t m (Some peer) e = with_calls t peer m (end_with t peer).opened e
 

@@ -28,7 +28,7 @@ use Rattle.run_model.specs.States.{state_of, rows_at, works}
 use Rattle.node_model.specs.AnyTime.{MayCome}
 use Rattle.node_model.specs.Sessions.{Doing}
 use Rattle.node_model.specs.Jobs.{Work, new_work, partner, work_after, work_kind, works_after}
-use Rattle.node_model.specs.Look.{Look, Made, entry_of}
+use Rattle.node_model.specs.Look.{Look, Effect, entry_of}
 use Rattle.node_model.specs.JobStep.{Turn, turn_of}
 use Rattle.node_model.specs.SessionStep.{Here, by_of, here, session_step}
 use Rattle.node_model.specs.OwedStep.{owed_step}
@@ -47,7 +47,7 @@ use Rattle.race_core.proofs.Plain.{member_mapped}
 pub record Stepped (s : SetUp) (past : List Entry) (e : Entry) : Type 0 where
   pub look : Look
   pub small : look.part < 2 ^ 62
-  pub made : Made
+  pub made : Effect
   pub is : e ≡ entry_of s.number look made
   pub w : Work
   pub slot : ℕ
@@ -96,10 +96,10 @@ come_no_job s past lines sent (Close peer slot client) x j = refl
 come_no_job s past lines sent (Crash clock) x j = refl
 come_no_job s past lines sent kind x j = absurd x
 
-pub owed_no_job : (s : SetUp) (past : List Entry) (look : Look) (made : Made) → owed_step s (state_of s past) look ≡ Some made → OfNoJob made.kind
+pub owed_no_job : (s : SetUp) (past : List Entry) (look : Look) (made : Effect) → owed_step s (state_of s past) look ≡ Some made → OfNoJob made.kind
 owed_no_job s past look made e j = elim ((pays_found s (state_of s past) look made (state_of s past).owed refl e).writes) [
-  | inl w ↦ subst (λ (m : Made). is_step j m.kind ≡ false) (sym w) refl
-  | inr w ↦ subst (λ (m : Made). is_step j m.kind ≡ false) (sym w) refl
+  | inl w ↦ subst (λ (m : Effect). is_step j m.kind ≡ false) (sym w) refl
+  | inr w ↦ subst (λ (m : Effect). is_step j m.kind ≡ false) (sym w) refl
 ]
 
 -- who made a step: an owed line, a session, or a job
@@ -155,7 +155,7 @@ session_none h doing asked says (Fault call by) x = ap (λ (b : By). job_of (Fau
 session_none h doing asked says kind x = absurd x
 
 -- a job's entry is its own
-pub job_is : (t : Turn) (m : Made) (kind : EntryKind) → IsJobEntry t m kind → job_of kind ≡ Some t.w.number
+pub job_is : (t : Turn) (m : Effect) (kind : EntryKind) → IsJobEntry t m kind → job_of kind ≡ Some t.w.number
 job_is t m (Share hold end by key) x = subst (λ b. job_of (Share hold end b key) ≡ Some t.w.number) (sym x.by_is) refl
 job_is t m (Bar j need key) x = ap Some x.number_is
 job_is t m (Gone by key) x = subst (λ b. job_of (Gone b key) ≡ Some t.w.number) (sym x.by_is) refl

@@ -14,7 +14,7 @@ use Rattle.node_model.specs.SetUp.{SetUp, served_connections}
 use Rattle.node_model.specs.SessionStep.{here, session_at, session_step}
 use Rattle.node_model.specs.Jobs.{Work, job_end, partner}
 use Rattle.node_model.specs.OwedStep.{owed_step}
-use Rattle.node_model.specs.Look.{Made}
+use Rattle.node_model.specs.Look.{Effect}
 use Rattle.run_model.specs.Run.{ComesAnyTime, IsStep, OwnPart}
 use Rattle.race_core.proofs.Cases.{some_was}
 use Rattle.race_core.proofs.SessionFacts.{session_found}
@@ -39,8 +39,8 @@ who s past words e own = elim (own.does) [
 
     silent : (x : IsStep s past words e) → owed_step s (state_of s past) x.look ≡ Some x.made → e.sent ≡ []
     silent x o = ap (λ (y : Entry). y.sent) x.is ∙ elim ((pays_found s (state_of s past) x.look x.made (state_of s past).owed refl o).writes) [
-      | inl w ↦ ap (λ (y : Made). y.sent) w
-      | inr w ↦ ap (λ (y : Made). y.sent) w
+      | inl w ↦ ap (λ (y : Effect). y.sent) w
+      | inr w ↦ ap (λ (y : Effect). y.sent) w
     ]
 
     by_session : (x : IsStep s past words e) → session_step s (state_of s past) x.look ≡ Some x.made → OfNoJob e.kind × BySessionAt s past e

@@ -17,7 +17,7 @@ use Rattle.run_model.specs.Frames.{Way, sender_of, taker_of}
 use Rattle.race_core.proofs.OwnPasts.{mine}
 use Rattle.node_model.specs.SetUp.{SetUp}
 use Rattle.run_model.specs.Run.{ComesAfter, IsRun, ComesInOrder, paths_at, paths_begun, set_up, tree_at}
-use Rattle.race_core.specs.Merged.{AreFirstLetters, ComeInOrder, HasPathsIn, IsNewEntry, IsHistory, Letter, MayMerge, NodeKeeps, history, last_count, merged_run, new_of, paths_with, set_up_with}
+use Rattle.race_core.specs.Merged.{AreFirstLetters, AllComeInOrder, HasPathsIn, IsNewEntry, IsHistory, Letter, MayMerge, NodeKeeps, history, last_count, merged_run, new_of, paths_with, set_up_with}
 use Rattle.race_core.proofs.HistoriesGrow.{kept_paths}
 use Rattle.race_core.proofs.JobNumbers.{begins_next}
 use Rattle.race_core.proofs.OwnParts.{begun_own}
@@ -28,7 +28,7 @@ use Rattle.race_core.proofs.MergedRuns.{always_of, filter_reverse, merged_runs_a
 abbrev Next : ℕ → ℕ → ℕ → List Entry → Type 0
 Next r t c es = Always (λ older e. IsNewEntry r t (last_count c older) e) es
 
-pub next_follow : (r c : ℕ) (past es : List Entry) → now past ≤ 1000000000000 → last_count 0 past ≤ c → Next r (now past) c es → ComeInOrder past es
+pub next_follow : (r c : ℕ) (past es : List Entry) → now past ≤ 1000000000000 → last_count 0 past ≤ c → Next r (now past) c es → AllComeInOrder past es
 next_follow r c past [] l m h = tt
 next_follow r c past (e ∷ es) l m h = (
   record {

@@ -10,7 +10,7 @@ use Rattle.run_data.specs.declared.entry.EntryKind.{EntryKind}
 use Rattle.run_data.specs.declared.entry.EntryKind.TheVariants.{Wait}
 use Rattle.run_model.specs.Past.{Always, Occurs, is_of, now}
 use Rattle.run_model.specs.Run.{ComesAfter, IsSmall, ComesInOrder, TimeIs}
-use Rattle.race_core.specs.Merged.{ComeInOrder, StandInOrder, stamp_of, stands_before}
+use Rattle.race_core.specs.Merged.{AllComeInOrder, StandInOrder, stamp_of, stands_before}
 use Rattle.race_core.proofs.FromStep.{in_order}
 use Rattle.race_core.proofs.MergedLists.{earlier_trans, is_earlier, was_earlier}
 
@@ -116,7 +116,7 @@ new_late base n (f ∷ es) e h k = over base h.0.late
     over (g ∷ past) l = earlier_trans (stamp_of g) (stamp_of f) (stamp_of e) l k
 
 -- one repository's new entries
-pub follow_new : (base : List Entry) (n r : ℕ) (es : List Entry) → r < n → ComeInOrder base es → Each (λ e. e.repo ≡ Some r) es → Each (IsNew base n) es
+pub follow_new : (base : List Entry) (n r : ℕ) (es : List Entry) → r < n → AllComeInOrder base es → Each (λ e. e.repo ≡ Some r) es → Each (IsNew base n) es
 follow_new base n r [] l h k = tt
 follow_new base n r (e ∷ es) l h k =
     let rest = follow_new base n r es l h.1 k.1 in (
@@ -137,11 +137,11 @@ late_all : (base es : List Entry) (e : Entry) → Late (es ++ base) e → Fallin
 late_all base [] e h k = tt
 late_all base (f ∷ es) e h k = (h, Each-weaker _ _ (λ g l. earlier_trans (stamp_of g) (stamp_of f) (stamp_of e) l h) es k.0)
 
-follow_falls : (base es : List Entry) → ComeInOrder base es → Falling es
+follow_falls : (base es : List Entry) → AllComeInOrder base es → Falling es
 follow_falls base [] h = tt
 follow_falls base (e ∷ es) h = let rest = follow_falls base es h.1 in (late_all base es e (is_late (es ++ base) e h.0) rest, rest)
 
-pub follow_rises : (base es : List Entry) → ComeInOrder base (reverse es) → StandInOrder es
+pub follow_rises : (base es : List Entry) → AllComeInOrder base (reverse es) → StandInOrder es
 follow_rises base es h = subst StandInOrder (reverse-reverse es) (falling_rises (reverse es) (follow_falls base (reverse es) h))
 
 -- entries of any repositories, in order among themselves

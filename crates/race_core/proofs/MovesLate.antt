@@ -30,8 +30,8 @@ use Rattle.node_model.specs.Sessions.{line_in}
 use Rattle.node_model.specs.Ends.{EndName, end_after}
 use Rattle.node_model.specs.Jobs
 use Rattle.node_model.specs.Jobs.{Drops, Ends, Fresh, Greets, Next, Opens, Part, Phase, Puts, PutsAnswer, PutsOffer, Work, closed_part, first_part, job_end, talks_on, after_transfer, work_kind}
-use Rattle.node_model.specs.Look.{Made}
-use Rattle.node_model.specs.JobStep.{Turn, end_with, me, wrong}
+use Rattle.node_model.specs.Look.{Effect}
+use Rattle.node_model.specs.JobStep.{Turn, end_with, me, wrong_message}
 use Rattle.node_model.specs.JobStep
 use Rattle.node_model.specs.TransferStep.{takes_put}
 use Rattle.node_model.specs.Found.{IsJobEntry}
@@ -56,10 +56,10 @@ use Rattle.race_core.proofs.NotDropping.{future_undropped}
 
 -- ---- an answer by which the peer has the content ends a copy
 
-abbrev DeadMade : Turn → Made → Type 0
+abbrev DeadMade : Turn → Effect → Type 0
 DeadMade t m = (moved t m m.kind).part ≡ Puts → is_live (moved t m m.kind).phase ≡ false
 
-wrong_dead : (t : Turn) (f : FrameView) (peer : ℕ) → Taking t f peer → t.w.part ≡ Puts → DeadMade t (wrong t f peer)
+wrong_dead : (t : Turn) (f : FrameView) (peer : ℕ) → Taking t f peer → t.w.part ≡ Puts → DeadMade t (wrong_message t f peer)
 wrong_dead t f peer x part is =
     ap (λ (p : Option ℕ). is_live (talks_on (rows_of t) (me t) y e p).phase) x.on
     ∙ (ap (λ (b : Bool). is_live (if b then Jobs.talks (rows_of t) (me t) y e e.sent else closed_part (me t) y peer y.part).phase) shut
@@ -69,7 +69,7 @@ wrong_dead t f peer x part is =
     y = talker t (Some f)
 
     e : Entry
-    e = made_entry t (wrong t f peer)
+    e = made_entry t (wrong_message t f peer)
 
     same : job_end y peer ≡ job_end t.w peer
     same = ap (λ (s : ℕ). let a : EndName = record { peer = peer; slot = s; client = true } in a) (talker_slot t (Some f))

@@ -22,7 +22,7 @@ use Rattle.node_model.specs.Evidence.{Standing, Asked}
 use Rattle.p2p_wire.specs.declared.message.Message.TheVariants.{Get, GetTimestamp}
 use Rattle.node_model.specs.Jobs.{Drops, Fresh, Gets, Next, Part, Phase, Puts, is_move, partner, side_of}
 use Rattle.node_model.specs.Calls.{to_hold, to_resume}
-use Rattle.node_model.specs.Look.{Made}
+use Rattle.node_model.specs.Look.{Effect}
 use Rattle.node_model.specs.Knows.{enough_by, next_by}
 use Rattle.node_model.specs.JobStep.{Turn, attempts, bar_there, by_me, clock_of, end_with, ends, farewells, is_there, key_of, me, quietly, says_to, sends_to, talk}
 use Rattle.node_model.specs.DropStep.{asks_copy, asks_lock, asks_target, bars, expiry, first_drop, first_end, first_remote, held_until, in_time, lacking_outcome, own_share, required_there, row_refusal, shares, target, tries_own}
@@ -39,10 +39,10 @@ abbrev pub NotKind : EntryKind → Type 0
 NotKind (ends_job j o) = NotOf o
 NotKind kind = Unit {0}
 
-abbrev Not : Made → Type 0
+abbrev Not : Effect → Type 0
 Not m = NotKind m.kind
 
-attempts_not : (t : Turn) (cs : List Call) (taken : Option FrameView) (m : Made) → Not m → Not (attempts t cs taken m)
+attempts_not : (t : Turn) (cs : List Call) (taken : Option FrameView) (m : Effect) → Not m → Not (attempts t cs taken m)
 attempts_not t cs taken m good = attempts_even Not t cs taken m (λ call e. tt) good
 
 ends_not : (t : Turn) (o : Outcome) → NotOf o → Not (ends t None o)
@@ -139,7 +139,7 @@ rest_alone target Fresh rest = refl
 rest_alone target Next rest = refl
 rest_alone target phase rest = absurd rest
 
-pub rest_not : (t : Turn) (m : Made) → AtRest t.w.phase → by_partner t (partner t.w.what.peer t.w.phase) ≡ Some m → NotKind m.kind
+pub rest_not : (t : Turn) (m : Effect) → AtRest t.w.phase → by_partner t (partner t.w.what.peer t.w.phase) ≡ Some m → NotKind m.kind
 rest_not t m rest e = go (list_all (has_room t) (needs t t.w.phase)) (subst (λ (p : Option ℕ). by_partner t p ≡ Some m) (rest_alone t.w.what.peer t.w.phase rest) e)
   where
     go : (b : Bool) → (if b then Some (goes t t.w.phase) else None) ≡ Some m → NotKind m.kind

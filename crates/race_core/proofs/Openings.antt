@@ -8,7 +8,7 @@ use Rattle.run_data.specs.declared.entry.FrameView.{FrameView}
 use Rattle.node_model.specs.Ends.{EndName, end_takes, is_opening, sends_at, server_end}
 use Rattle.node_model.specs.Jobs.{job_end}
 use Rattle.node_model.specs.JobStep.{turn_of}
-use Rattle.node_model.specs.Look.{Look, Made, first_of, waiting}
+use Rattle.node_model.specs.Look.{Look, Effect, first_of, waiting_frame}
 use Rattle.node_model.specs.OwedStep.{owed_step}
 use Rattle.node_model.specs.SessionStep.{Reply, gives_made, gives_next, here, on_frame, reply_made, session_at, session_makes, session_step}
 use Rattle.node_model.specs.SetUp.{SetUp, served_connections}
@@ -26,17 +26,17 @@ use Rattle.race_core.proofs.StepFacts.{pays_found}
 
 -- ---- a session opens nothing
 
-module _ (s : SetUp) (st : State) (k : Look) (m : Made) where
+module _ (s : SetUp) (st : State) (k : Look) (m : Effect) where
   given_none : (a : EndName) (o : Option Reply) → gives_next (here s st k a) (st.sessions a).doing ≡ o → gives_made a (st.ends a) o ≡ Some m → OpensNone m.sent
   given_none a None is e = absurd (cc)
   given_none a (Some x) is e =
       let same : reply_made a (st.ends a) None x ≡ m = cc in
-      subst (λ (y : Made). OpensNone y.sent) same (frames_none a (st.ends a) x.says (pieces_none (st.sessions a).doing x.says (gives_counts (here s st k a) (st.sessions a).doing x is).1))
+      subst (λ (y : Effect). OpensNone y.sent) same (frames_none a (st.ends a) x.says (pieces_none (st.sessions a).doing x.says (gives_counts (here s st k a) (st.sessions a).doing x is).1))
 
   makes_none : (a : EndName) (o : Option FrameView) → session_makes (here s st k a) (st.ends a) (st.sessions a) o ≡ Some m → OpensNone m.sent
   makes_none a (Some f) e =
       let same : reply_made a (end_takes (st.ends a) f.epoch f.body) (Some f) (on_frame (here s st k a) (st.sessions a) f.body) ≡ m = cc in
-      subst (λ (y : Made). OpensNone y.sent) same
+      subst (λ (y : Effect). OpensNone y.sent) same
       (frames_none a (end_takes (st.ends a) f.epoch f.body) (on_frame (here s st k a) (st.sessions a) f.body).says (frame_none (here s st k a) (st.sessions a) f.body))
   makes_none a None e = go (st.ends a).opened e
     where
@@ -47,8 +47,8 @@ module _ (s : SetUp) (st : State) (k : Look) (m : Made) where
   at_none : (a : EndName) → session_at s st k a ≡ Some m → OpensNone m.sent
   at_none a e = go (k.room a) e
     where
-      go : (b : Bool) → (if b then session_makes (here s st k a) (st.ends a) (st.sessions a) (waiting (st.ends a) k a) else None) ≡ Some m → OpensNone m.sent
-      go true g = makes_none a (waiting (st.ends a) k a) g
+      go : (b : Bool) → (if b then session_makes (here s st k a) (st.ends a) (st.sessions a) (waiting_frame (st.ends a) k a) else None) ≡ Some m → OpensNone m.sent
+      go true g = makes_none a (waiting_frame (st.ends a) k a) g
       go false g = absurd (cc)
 
   session_none : session_step s st k ≡ Some m → OpensNone m.sent
@@ -70,7 +70,7 @@ sends_end a g e =
 abbrev pub MayOpen : State → EndName → Type 0
 MayOpen st a = (a.client ≡ true) × ((st.ends a).opened ≡ false)
 
-job_opens : (s : SetUp) (st : State) (k : Look) (m : Made) (g : FrameView) (a : EndName) → JobSpeaks s st k m → Member g m.sent → sends_at a g ≡ true → is_opening g.body ≡ true → MayOpen st a
+job_opens : (s : SetUp) (st : State) (k : Look) (m : Effect) (g : FrameView) (a : EndName) → JobSpeaks s st k m → Member g m.sent → sends_at a g ≡ true → is_opening g.body ≡ true → MayOpen st a
 job_opens s st k m g a x among at opens = go (Each-member (JobSays (turn_of s st k x.w)) m.sent g x.says among)
   where
     go : JobSays (turn_of s st k x.w) g → MayOpen st a
@@ -82,11 +82,11 @@ job_opens s st k m g a x among at opens = go (Each-member (JobSays (turn_of s st
         own : JobSays (turn_of s st k x.w) g → job_end x.w g.peer ≡ from_end g
         own y i = record { peer = g.peer; slot = sym y.1 i; client = sym y.0 i }
 
-pub step_opens : (s : SetUp) (st : State) (k : Look) (m : Made) (g : FrameView) (a : EndName) → step s st k ≡ Some m → Member g m.sent → sends_at a g ≡ true → is_opening g.body ≡ true → MayOpen st a
+pub step_opens : (s : SetUp) (st : State) (k : Look) (m : Effect) (g : FrameView) (a : EndName) → step s st k ≡ Some m → Member g m.sent → sends_at a g ≡ true → is_opening g.body ≡ true → MayOpen st a
 step_opens s st k m g a e among at opens = elim (first_was (owed_step s st k) (first_of (session_step s st k) (job_step s st k)) m e) [
   | inl o ↦ elim ((pays_found s st k m st.owed refl o).writes) [
-    | inl w ↦ absurd (subst (λ (y : Made). Member g y.sent) w among)
-    | inr w ↦ absurd (subst (λ (y : Made). Member g y.sent) w among)
+    | inl w ↦ absurd (subst (λ (y : Effect). Member g y.sent) w among)
+    | inr w ↦ absurd (subst (λ (y : Effect). Member g y.sent) w among)
   ]
   | inr r ↦ elim (first_was (session_step s st k) (job_step s st k) m r) [
     | inl x ↦ absurd (true≢false (sym opens ∙ Each-member (λ (h : FrameView). is_opening h.body ≡ false) m.sent g (session_none s st k m x) among))

@@ -24,8 +24,8 @@ use Rattle.node_model.specs.Ends.{End, EndName, end_after, end_sends, end_takes,
 use Rattle.node_model.specs.Jobs
 use Rattle.node_model.specs.Jobs.{Denied, Drops, Ends, Orders, Phase, Removed, job_end, partner, side_of}
 use Rattle.node_model.specs.Calls.{to_release}
-use Rattle.node_model.specs.Look.{Made, waiting}
-use Rattle.node_model.specs.JobStep.{Turn, by_me, end_with, ends, farewells, hears, me, owns_share, quietly, talk, wrong}
+use Rattle.node_model.specs.Look.{Effect, waiting_frame}
+use Rattle.node_model.specs.JobStep.{Turn, by_me, end_with, ends, farewells, hears, me, owns_share, quietly, talk, wrong_message}
 use Rattle.node_model.specs.Turns.{awaits, by_partner, goes, has_room, needs, outcome_of, takes_frame, takes_text, with_partner}
 use Rattle.node_model.specs.DropStep.{takes_drop}
 use Rattle.race_core.proofs.ServerEnds.{sent_same}
@@ -44,14 +44,14 @@ Rested (Ends outcome) = Unit {0}
 Rested phase = ⊥
 
 -- its share couldn't be released, or it ends
-abbrev pub RestedMakes : Turn → Phase → Made → Type 0
+abbrev pub RestedMakes : Turn → Phase → Effect → Type 0
 RestedMakes t phase m = (m ≡ quietly (Fault Unhold (by_me t)) None) ⊎ (m.kind ≡ ends_job t.w.number (outcome_of t phase))
 
 ends_makes : (t : Turn) (phase : Phase) → RestedMakes t phase (ends t None (outcome_of t phase))
 ends_makes t phase =
     let outcome = outcome_of t phase in
     let released = to_release (owns_share t && not (is_lost_ordered outcome)) in
-    let rest : Made = record { kind = ends_job t.w.number outcome; taken = None; sent = farewells t (is_lost_ordered outcome); lines = [] } in
+    let rest : Effect = record { kind = ends_job t.w.number outcome; taken = None; sent = farewells t (is_lost_ordered outcome); lines = [] } in
     attempts_even (RestedMakes t phase) t released None rest
     (λ call e. inl (ap (λ (c : Call). quietly (Fault c (by_me t)) None) (release_is (owns_share t && not (is_lost_ordered outcome)) call e))) (inr refl)
 
@@ -61,7 +61,7 @@ rested_goes t Denied r = (refl, refl)
 rested_goes t (Ends outcome) r = (refl, refl)
 rested_goes t phase r = absurd r
 
-pub rested_makes : (t : Turn) (phase : Phase) → t.w.phase ≡ phase → Rested phase → (m : Made) → by_partner t (partner t.w.what.peer t.w.phase) ≡ Some m → RestedMakes t phase m
+pub rested_makes : (t : Turn) (phase : Phase) → t.w.phase ≡ phase → Rested phase → (m : Effect) → by_partner t (partner t.w.what.peer t.w.phase) ≡ Some m → RestedMakes t phase m
 rested_makes t phase is rested m e = go (list_all (has_room t) (needs t t.w.phase)) (subst (λ (p : Option ℕ). by_partner t p ≡ Some m) (ap (partner t.w.what.peer) is ∙ (rested_goes t phase rested).0) e)
   where
     go : (b : Bool) → (if b then Some (goes t t.w.phase) else None) ≡ Some m → RestedMakes t phase m
@@ -74,13 +74,13 @@ rested_makes t phase is rested m e = go (list_all (has_room t) (needs t t.w.phas
 -- ---- the steps of a job that awaits the answer to its order
 
 -- it took the answer, and goes to this phase
-pub record AnswersOrder (t : Turn) (m : Made) : Type 0 where
+pub record AnswersOrder (t : Turn) (m : Effect) : Type 0 where
   pub f : FrameView
   pub made : m ≡ hears t f
   pub answer : is_answer (message_in f.body) ≡ true
   pub phase : ((moved t m (talk t)).phase ≡ Removed) ⊎ ((moved t m (talk t)).phase ≡ Denied)
 
-abbrev pub OrdersMake : Turn → Made → Type 0
+abbrev pub OrdersMake : Turn → Effect → Type 0
 OrdersMake t m = (m.kind ≡ talk t) × (((moved t m (talk t)).phase ≡ lost) ⊎ AnswersOrder t m)
 
 line_answers : (text : List ℕ) (m : Message) → message_of text ≡ Some m → is_answer (Says m) ≡ true → is_answer (message_in (Line text)) ≡ true
@@ -99,14 +99,14 @@ module _ (before : Turn) (peer : ℕ) where
     target_is = ap (λ d. Jobs.or_own (me t) d (Some peer) == peer) side ∙ eqb_refl peer
 
     -- the connection is closed
-    closed : (m : Made) → (end_after a (end_with t peer) (made_entry t m)).opened ≡ false → (moved t m (talk t)).phase ≡ lost
+    closed : (m : Effect) → (end_after a (end_with t peer) (made_entry t m)).opened ≡ false → (moved t m (talk t)).phase ≡ lost
     closed m shut = rw shut (rw target_is refl)
 
-    wrong_makes : (f : FrameView) → OrdersMake t (wrong t f peer)
+    wrong_makes : (f : FrameView) → OrdersMake t (wrong_message t f peer)
     wrong_makes f =
         let c = end_took (end_with t peer) (taken_at a (Some f)) in
-        let shut : (end_after a (end_with t peer) (made_entry t (wrong t f peer))).opened ≡ false = ap (λ (fs : List FrameView). (fold (λ (d : End) (g : FrameView). end_sends d g.body) c fs).opened) (sent_same a (end_with t peer) (Closing ∷ [])) in
-        (refl, inl (closed (wrong t f peer) shut))
+        let shut : (end_after a (end_with t peer) (made_entry t (wrong_message t f peer))).opened ≡ false = ap (λ (fs : List FrameView). (fold (λ (d : End) (g : FrameView). end_sends d g.body) c fs).opened) (sent_same a (end_with t peer) (Closing ∷ [])) in
+        (refl, inl (closed (wrong_message t f peer) shut))
 
     module _ (f : FrameView) (of_end : takes_at a f ≡ true) (opened : (end_with t peer).opened ≡ true) where
       took_is : (end_after a (end_with t peer) (made_entry t (hears t f))) ≡ end_takes (end_with t peer) f.epoch f.body
@@ -132,10 +132,10 @@ module _ (before : Turn) (peer : ℕ) where
           go None e = wrong_makes f
           go (Some m) e = drop_makes text m is e
 
-    orders_make : (m : Made) → by_partner t (Some peer) ≡ Some m → OrdersMake t m
+    orders_make : (m : Effect) → by_partner t (Some peer) ≡ Some m → OrdersMake t m
     orders_make m e = go (end_with t peer).opened refl e
       where
-        by_frame : (end_with t peer).opened ≡ true → (o : Option FrameView) → waiting (end_with t peer) t.look a ≡ o → awaits t peer o ≡ Some m → OrdersMake t m
+        by_frame : (end_with t peer).opened ≡ true → (o : Option FrameView) → waiting_frame (end_with t peer) t.look a ≡ o → awaits t peer o ≡ Some m → OrdersMake t m
         by_frame opened None is g = absurd (cc)
         by_frame opened (Some f) is g = room (has_room t peer) g
           where
@@ -149,10 +149,10 @@ module _ (before : Turn) (peer : ℕ) where
 
         go : (b : Bool) → (end_with t peer).opened ≡ b → with_partner t peer b ≡ Some m → OrdersMake t m
         go false shut g = let same : quietly (talk t) None ≡ m = cc in subst (OrdersMake t) same (refl, inl (closed (quietly (talk t) None) shut))
-        go true opened g = by_frame opened (waiting (end_with t peer) t.look a) refl g
+        go true opened g = by_frame opened (waiting_frame (end_with t peer) t.look a) refl g
 
 -- of any job that stands so
-pub orders_at : (t : Turn) (peer : ℕ) → t.w.part ≡ Drops → t.w.phase ≡ Orders → t.w.what.peer ≡ Some peer → side_of t.w ≡ Remote → (m : Made) → by_partner t (partner t.w.what.peer t.w.phase) ≡ Some m → OrdersMake t m
+pub orders_at : (t : Turn) (peer : ℕ) → t.w.part ≡ Drops → t.w.phase ≡ Orders → t.w.what.peer ≡ Some peer → side_of t.w ≡ Remote → (m : Effect) → by_partner t (partner t.w.what.peer t.w.phase) ≡ Some m → OrdersMake t m
 orders_at t' peer part phase on side m e =
     subst (λ (y : Turn). OrdersMake y m) (sym same)
     (orders_make t' peer (subst (λ (q : Option ℕ). Jobs.drop_side t'.w.what.kind q ≡ Remote) on side) m (subst (λ (y : Turn). by_partner y (partner y.w.what.peer y.w.phase) ≡ Some m) same e))

@@ -24,7 +24,7 @@ use Rattle.node_model.specs.Slots.{RunningJob, job_of}
 use Rattle.node_model.specs.Rows.{is_lost_ordered, option_is}
 use Rattle.run_model.specs.Past.{is_of}
 use Rattle.run_model.specs.Frames.{Way, requests, says, taken_if, up_of, way_of}
-use Rattle.node_model.specs.Look.{first_of, Made, entry_of}
+use Rattle.node_model.specs.Look.{first_of, Effect, entry_of}
 use Rattle.run_model.specs.Logs.{is_step}
 use Rattle.p2p_wire.specs.declared.message.Message.{Message}
 use Rattle.p2p_wire.specs.Messages.{order_of, text_of}
@@ -179,10 +179,10 @@ stands_so s past w g (Ends (Refused (refusals.Lost true))) is x = inr (subst Res
 stands_so s past w g phase is x = absurd x
 
 -- such a job's entries are steps of it
-stands_step : (s : SetUp) (past : List Entry) (g : FrameView) (t : Turn) (m : Made) → Standing s past t.w g → by_partner t (partner t.w.what.peer t.w.phase) ≡ Some m → is_step t.w.number m.kind ≡ true
+stands_step : (s : SetUp) (past : List Entry) (g : FrameView) (t : Turn) (m : Effect) → Standing s past t.w g → by_partner t (partner t.w.what.peer t.w.phase) ≡ Some m → is_step t.w.number m.kind ≡ true
 stands_step s past g t m (inl x) e = ap (is_step t.w.number) (orders_at t g.peer x.1.part x.0 x.1.peer x.1.side m e).0 ∙ eqb_refl t.w.number
 stands_step s past g t m (inr x) e = elim (rested_makes t t.w.phase refl x m e) [
-  | inl quiet ↦ ap (λ (y : Made). is_step t.w.number y.kind) quiet ∙ eqb_refl t.w.number
+  | inl quiet ↦ ap (λ (y : Effect). is_step t.w.number y.kind) quiet ∙ eqb_refl t.w.number
   | inr over ↦ ap (is_step t.w.number) over ∙ eqb_refl t.w.number
 ]
 
@@ -204,8 +204,8 @@ stays_idle s past words e w g run own ran still stands = elim (own.does) [
       where
         owed : ByOwed s (state_of s past) x.look x.made → IdleAt w.slot (entry_of s.number x.look x.made)
         owed o = elim (o.writes) [
-          | inl y ↦ quiet_idle (entry_of s.number x.look x.made) w.slot (ap (λ (z : Made). z.taken) y) (ap (λ (z : Made). z.sent) y)
-          | inr y ↦ quiet_idle (entry_of s.number x.look x.made) w.slot (ap (λ (z : Made). z.taken) y) (ap (λ (z : Made). z.sent) y)
+          | inl y ↦ quiet_idle (entry_of s.number x.look x.made) w.slot (ap (λ (z : Effect). z.taken) y) (ap (λ (z : Effect). z.sent) y)
+          | inr y ↦ quiet_idle (entry_of s.number x.look x.made) w.slot (ap (λ (z : Effect). z.taken) y) (ap (λ (z : Effect). z.sent) y)
         ]
 
         by_slot : (slot : ℕ) (o : Option Work) → find (λ v. v.slot == slot) (works past s.number) ≡ o → slot_step s (state_of s past) x.look o ≡ Some x.made → IdleAt w.slot (entry_of s.number x.look x.made)
@@ -238,7 +238,7 @@ sends_order y time peer taken Opening deadline key e = absurd (cc)
 sends_order y time peer taken Closing deadline key e = absurd (cc)
 sends_order y time peer taken (Bytes n) deadline key e = absurd (cc)
 
-module _ (t : Turn) (m : Made) (peer : ℕ) (body : FrameText) (sent : m.sent ≡ frames (job_end t.w peer) (end_with t peer) (body ∷ [])) (deadline : Option ℕ) (key : List ℕ)
+module _ (t : Turn) (m : Effect) (peer : ℕ) (body : FrameText) (sent : m.sent ≡ frames (job_end t.w peer) (end_with t peer) (body ∷ [])) (deadline : Option ℕ) (key : List ℕ)
     (line : line_in body ≡ Some (order_of deadline key)) (open' : (end_after (job_end t.w peer) (end_with t peer) (made_entry t m)).opened ≡ true) where
   abbrev y : Work
   y = talker t m.taken
@@ -288,7 +288,7 @@ module _ (reads_back : SentAreRead) (s : SetUp) (past : List Entry) (e : Entry) 
   abbrev t : Turn
   t = turn_at s past e b.by
 
-  abbrev m : Made
+  abbrev m : Effect
   m = b.by.made
 
   runs : Member v (works past r)
@@ -353,7 +353,7 @@ module _ (reads_back : SentAreRead) (s : SetUp) (past : List Entry) (e : Entry) 
             let there = taken_there a m.taken f q in
             let made = by_taken t m f there.0 (partner v.what.peer v.phase) refl b.by.does in
             let kind : Order o.j o.peer o.deadline o.need o.key ≡ talk t =
-            sym o.kind_is ∙ ap (λ (y : Entry). y.kind) entry_is ∙ ap (λ (y : Made). y.kind) made.2 ∙ ap (λ (y : FrameText). (takes_frame t made.0 f y).kind) i in
+            sym o.kind_is ∙ ap (λ (y : Entry). y.kind) entry_is ∙ ap (λ (y : Effect). y.kind) made.2 ∙ ap (λ (y : FrameText). (takes_frame t made.0 f y).kind) i in
             absurd (cc)
 
     open' : (end_after a c (made_entry t m)).opened ≡ true
@@ -434,16 +434,16 @@ module _ (reads_back : SentAreRead) (s : SetUp) (past : List Entry) (e : Entry) 
     steps_at ordered stage (kind, inr ans) = elim (ans.phase) [ inl at ↦ goes Removed at answered | inr at ↦ goes Denied at answered ]
       where
         answered : Answered r (e ∷ past) g
-        answered = answered_now ordered stage ans.f (ap (λ (y : Entry). y.taken) entry_is ∙ ap (λ (y : Made). y.taken) ans.made) (ap (λ (y : Entry). y.sent) entry_is ∙ ap (λ (y : Made). y.sent) ans.made) ans.answer
+        answered = answered_now ordered stage ans.f (ap (λ (y : Entry). y.taken) entry_is ∙ ap (λ (y : Effect). y.taken) ans.made) (ap (λ (y : Entry). y.sent) entry_is ∙ ap (λ (y : Effect). y.sent) ans.made) ans.answer
 
         goes : (to : Phase) → (moved t m (talk t)).phase ≡ to → OrderIs s (e ∷ past) x g to → OrderIs s (e ∷ past) x g x.phase
         goes to at o = subst (OrderIs s (e ∷ past) x g) (sym (ap (λ (y : Work). y.phase) (after_is (talk t) (ap (λ (y : Entry). y.kind) entry_is ∙ kind)) ∙ at)) o
 
     rests_at : Rested v.phase → OrderIs s past v g v.phase → RestedMakes t v.phase m → OrderIs s (e ∷ past) x g x.phase
     rests_at rested ordered (inl quiet) =
-        let kind : e.kind ≡ Fault Unhold (by_me t) = ap (λ (y : Entry). y.kind) entry_is ∙ ap (λ (y : Made). y.kind) quiet in
+        let kind : e.kind ≡ Fault Unhold (by_me t) = ap (λ (y : Entry). y.kind) entry_is ∙ ap (λ (y : Effect). y.kind) quiet in
         let same : x ≡ v = after_is (Fault Unhold (by_me t)) kind ∙ unreleased_same v t.look.time v.phase rested in
-        let idle : IdleAt v.slot e = quiet_idle e v.slot (ap (λ (y : Entry). y.taken) entry_is ∙ ap (λ (y : Made). y.taken) quiet) (ap (λ (y : Entry). y.sent) entry_is ∙ ap (λ (y : Made). y.sent) quiet) in
+        let idle : IdleAt v.slot e = quiet_idle e v.slot (ap (λ (y : Entry). y.taken) entry_is ∙ ap (λ (y : Effect). y.taken) quiet) (ap (λ (y : Entry). y.sent) entry_is ∙ ap (λ (y : Effect). y.sent) quiet) in
         subst (λ (y : Work). OrderIs s (e ∷ past) y g y.phase) (sym same)
         (kept_own s past e v g is (subst (λ n. Idle (client_end g.peer n) e) (sym slot_is) (idle g.peer)) v.phase ordered)
     rests_at rested ordered (inr over) = absurd (b.goes_on v.number (outcome_of t v.phase) (ap (λ (y : Entry). y.kind) entry_is ∙ over))
@@ -519,7 +519,7 @@ module _ (reads_back : SentAreRead) (s : SetUp) where
       made_kind x = sym (ap (λ (y : Entry). y.kind) x.is) ∙ is
 
       by_rest : (x : Stepped s past e) (phase : Phase) → Rested phase → OrderIs s past x.w g phase → RestedMakes (turn_at s past e x) phase x.made → Answered s.number past g
-      by_rest x phase rested z (inl quiet) = absurd (let both : Fault Unhold (by_me (turn_at s past e x)) ≡ ends_job j outcome = sym (ap (λ (y : Made). y.kind) quiet) ∙ made_kind x in cc)
+      by_rest x phase rested z (inl quiet) = absurd (let both : Fault Unhold (by_me (turn_at s past e x)) ≡ ends_job j outcome = sym (ap (λ (y : Effect). y.kind) quiet) ∙ made_kind x in cc)
       by_rest x Removed rested z (inr over) = z
       by_rest x Denied rested z (inr over) = z
       by_rest x (Ends (Refused (refusals.Lost true))) rested z (inr over) =

@@ -34,7 +34,7 @@ use Rattle.node_model.specs.Ends.{end_after}
 use Rattle.node_model.specs.Sessions.{line_in}
 use Rattle.node_model.specs.Jobs
 use Rattle.node_model.specs.Jobs.{AsksTime, Drops, Ends, Fresh, Gets, GetsBytes, GetsWord, Greets, Orders, Part, Phase, Puts, RowsAndEnds, Work, claims, closed_part, fault_of, fault_phase, first_look, gets_bytes, hears_frame, job_end, learns, listens, partner, put_from, puts_answer, puts_bytes, quiet, says, says_some, sends, side_of, taken_message, talks, talks_on, target_of, after_frame, after_line, after_transfer, after_failed_release, word_taken, work_kind}
-use Rattle.node_model.specs.JobStep.{Turn, wrong}
+use Rattle.node_model.specs.JobStep.{Turn, wrong_message}
 use Rattle.node_model.specs.DropStep.{first_end, takes_time, times}
 use Rattle.node_model.specs.Turns.{takes_answer}
 use Rattle.node_model.specs.Found.{GivesOrder, HasDeadline, IsJobEntry}
@@ -276,7 +276,7 @@ time_small : (t : Turn) (f : FrameView) (peer n : ℕ) (side : Side) → side �
 time_small t f peer n Local is kind k o = absurd (cc)
 time_small t f peer n Remote is kind k o = go (nat_lt n (2 ^ 61)) k
   where
-    go : (b : Bool) → (if b then times t f n (first_end t) else wrong t f peer).kind ≡ kind → b ≡ true
+    go : (b : Bool) → (if b then times t f n (first_end t) else wrong_message t f peer).kind ≡ kind → b ≡ true
     go true k = refl
     go false k = absurd (true≢false (sym o ∙ ap is_order (sym k)))
 

@@ -11,7 +11,7 @@ use Rattle.run_data.specs.Repos.{IsSetUp}
 use Rattle.run_model.specs.Past.{Occurs, is_of}
 use Rattle.run_model.specs.Run.{OwnPart, OwnPast, RunPast, set_up}
 use Rattle.run_model.specs.States.{state_of}
-use Rattle.node_model.specs.Look.{Look, Made, entry_of}
+use Rattle.node_model.specs.Look.{Look, Effect, entry_of}
 use Rattle.node_model.specs.SetUp.{SetUp}
 use Rattle.node_model.specs.Step.{step}
 use Rattle.race_core.proofs.AnswersFit.{step_at}
@@ -64,7 +64,7 @@ module _ (reads_back : SentAreRead) (run : Run) (repos : Each IsSetUp run.repos)
         taken_from_others reads_back (set_up run r) before part.words e (own_past run repos r before at.1) part.own f took
 
   -- a step that may be made now
-  module _ (r : ℕ) (k : Look) (m : Made) (known : r < length run.repos) (small : k.part < 2 ^ 62) (makes : step (set_up run r) (state_of (set_up run r) past) k ≡ Some m) where
+  module _ (r : ℕ) (k : Look) (m : Effect) (known : r < length run.repos) (small : k.part < 2 ^ 62) (makes : step (set_up run r) (state_of (set_up run r) past) k ≡ Some m) where
     own : OwnPart (set_up run r) past k.words (entry_of r k m)
     own = record { known = known; does = inl (record { look = k; made = m; makes = makes; is = refl; words_are = refl; part_small = small }) }
 

@@ -22,7 +22,7 @@ use Rattle.run_model.specs.Drops.{cause_own}
 use Rattle.node_model.specs.Sessions.{line_in}
 use Rattle.node_model.specs.Jobs
 use Rattle.node_model.specs.Jobs.{AsksLook, Drops, Fresh, Heard, Lacks, Part, Phase, RowsAndEnds, Work, claims, fault_of, fault_phase, first_look, hears_frame, learns, partner, quiet, side_of, taken_message, talks, talks_on, after_frame, after_line, work_kind}
-use Rattle.node_model.specs.Look.{Made}
+use Rattle.node_model.specs.Look.{Effect}
 use Rattle.node_model.specs.JobStep.{Turn, hears}
 use Rattle.node_model.specs.Turns.{takes_answer, takes_frame}
 use Rattle.node_model.specs.Found.{IsJobEntry}
@@ -111,7 +111,7 @@ module _ (rows : RowsAndEnds) (r : ℕ) (v : Work) (e : Entry) (first : v.phase 
         (subst (λ (fs : List FrameView). SameList v (talks rows r y e fs)) (sym sent) (sends_list y e.time g.peer (taken_message e.taken) g.body ∙ s.list))
 
 -- **the own repository's cause is what the entry found**
-pub own_value : (t : Turn) (m : Made) (rows : RowsAndEnds) (r : ℕ) (e : Entry) (kind : EntryKind) → IsJobEntry t m kind → m.sent ≡ e.sent → ((j : ℕ) (outcome : Outcome) → kind ≢ ends_job j outcome)
+pub own_value : (t : Turn) (m : Effect) (rows : RowsAndEnds) (r : ℕ) (e : Entry) (kind : EntryKind) → IsJobEntry t m kind → m.sent ≡ e.sent → ((j : ℕ) (outcome : Outcome) → kind ≢ ends_job j outcome)
     → (o : OwnLacks r t.w (work_kind rows r t.w e kind)) → cause_own (rows.present t.w.what.key) kind ≡ Some o.cause
 own_value t m rows r e kind k sent goes_on o = by kind k goes_on o.list
   where

@@ -16,7 +16,7 @@ use Rattle.node_model.specs.Ends.{EndName, end_after, sent_at, taken_at}
 use Rattle.run_model.specs.States.{end_at, content, session, rows_at, works, owes, state_of}
 use Rattle.node_model.specs.Sessions.{session_after}
 use Rattle.node_model.specs.Jobs.{works_after}
-use Rattle.node_model.specs.Owed.{owed_after}
+use Rattle.node_model.specs.OwedLines.{owed_after}
 use Rattle.race_core.proofs.OwnPasts.{own_reading}
 
 -- the entries of r

@@ -40,7 +40,7 @@ use Rattle.node_model.specs.AnyTime.{IsPeer}
 use Rattle.node_model.specs.Jobs
 use Rattle.node_model.specs.Jobs.{Drops, Fresh, Gets, Heard, Part, Phase, Puts, RowsAndEnds, Work, claims, fault_of, first_look, first_part, learns, partner, side_of, talks, target_of, after_failed_release, work_kind}
 use Rattle.node_model.specs.Calls.{to_hold, to_release}
-use Rattle.node_model.specs.Look.{Made, failing}
+use Rattle.node_model.specs.Look.{Effect, failing_call}
 use Rattle.race_core.proofs.Knowing.{is_to_ask}
 use Rattle.node_model.specs.Knows.{is_unasked, standing_of}
 use Rattle.node_model.specs.JobStep.{Turn, attempts, bar_there, by_me, clock_of, farewells, is_there, key_of, me, owns_share, quietly, talk, others_of}
@@ -149,8 +149,8 @@ abbrev FirstSays : Turn → EntryKind → Type 0
 FirstSays t (Talk j) = Untold t
 FirstSays t kind = Unit {0}
 
-attempts_first : (t : Turn) (cs : List Call) (taken : Option FrameView) (m : Made) → FirstSays t m.kind → FirstSays t (attempts t cs taken m).kind
-attempts_first t cs taken m g = unless_found (λ (x : Made). FirstSays t x.kind) (failing t.look.fails cs) (λ call. quietly (Fault call (by_me t)) taken) m (λ call. tt) g
+attempts_first : (t : Turn) (cs : List Call) (taken : Option FrameView) (m : Effect) → FirstSays t m.kind → FirstSays t (attempts t cs taken m).kind
+attempts_first t cs taken m g = unless_found (λ (x : Effect). FirstSays t x.kind) (failing_call t.look.fails cs) (λ call. quietly (Fault call (by_me t)) taken) m (λ call. tt) g
 
 shares_first : (t : Turn) → FirstSays t (shares t).kind
 shares_first t =
@@ -173,14 +173,14 @@ remote_first t (Some text) =
     attempts_first t (to_release (owns_share t && not (is_lost_ordered outcome))) None (record { kind = ends_job t.w.number outcome; taken = None; sent = farewells t (is_lost_ordered outcome); lines = [] }) tt
 remote_first t None = own_first t (t.read.standing (me t)) refl
 
-step_first : (t : Turn) (m : Made) → t.w.part ≡ Drops → t.w.phase ≡ Fresh → side_of t.w ≡ Remote → by_partner t (partner t.w.what.peer t.w.phase) ≡ Some m → FirstSays t m.kind
+step_first : (t : Turn) (m : Effect) → t.w.part ≡ Drops → t.w.phase ≡ Fresh → side_of t.w ≡ Remote → by_partner t (partner t.w.what.peer t.w.phase) ≡ Some m → FirstSays t m.kind
 step_first t m part phase side e = go (list_all (has_room t) (needs t t.w.phase)) (subst (λ p. by_partner t (partner t.w.what.peer p) ≡ Some m) phase e)
   where
     goes_is : goes t t.w.phase ≡ first_remote t (required_there t)
     goes_is = ap (goes t) phase ∙ ap (first_step t) part ∙ ap (first_drop t) side
 
     go : (b : Bool) → (if b then Some (goes t t.w.phase) else None) ≡ Some m → FirstSays t m.kind
-    go true g = let same : goes t t.w.phase ≡ m = cc in subst (λ (x : Made). FirstSays t x.kind) (sym goes_is ∙ same) (remote_first t (required_there t))
+    go true g = let same : goes t t.w.phase ≡ m = cc in subst (λ (x : Effect). FirstSays t x.kind) (sym goes_is ∙ same) (remote_first t (required_there t))
     go false g = absurd (cc)
 
 -- how the job hears of its own repository then
@@ -223,7 +223,7 @@ fault_tells r w time PutFile part phase side later = absurd (fresh_off w.phase p
 fault_tells r w time Unhold part phase side later = absurd (fresh_off w.phase phase (subst (λ (x : Work). is_fresh x.phase ≡ false) (ap (after_failed_release w time) phase) later))
 fault_tells r w time call part phase side later = (Jobs.Lacks causes.Fault, λ i. (Jobs.fault_phase r w (part i) (side i) (phase i)).heard)
 
-module _ (t : Turn) (m : Made) (rows : RowsAndEnds) (e : Entry) (part : t.w.part ≡ Drops) (phase : t.w.phase ≡ Fresh) (side : side_of t.w ≡ Remote) (sent : e.sent ≡ m.sent) (taken : e.taken ≡ m.taken) (there : rows.present ≡ t.present) (bar : rows.bar ≡ t.bar) where
+module _ (t : Turn) (m : Effect) (rows : RowsAndEnds) (e : Entry) (part : t.w.part ≡ Drops) (phase : t.w.phase ≡ Fresh) (side : side_of t.w ≡ Remote) (sent : e.sent ≡ m.sent) (taken : e.taken ≡ m.taken) (there : rows.present ≡ t.present) (bar : rows.bar ≡ t.bar) where
   no_local : side_of t.w ≡ Local → ⊥
   no_local is = let both : Local ≡ Remote = sym is ∙ side in cc
 

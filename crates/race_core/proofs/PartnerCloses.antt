@@ -31,10 +31,10 @@ use Rattle.node_model.specs.Sessions.{reaches}
 use Rattle.node_model.specs.Jobs
 use Rattle.node_model.specs.Jobs.{Part, Gets, Puts, Drops, Phase, Fresh, Next, Opens, Greets, GetsData, GetsBytes, GetsWord, PutsOffer, PutsBytes, PutsWord, PutsAnswer, AsksLock, AsksLook, AsksTime, job_end, partner, side_of, is_move}
 use Rattle.node_model.specs.Calls.{to_commit, to_hold, to_release, to_resume}
-use Rattle.node_model.specs.Look.{Made, failing, waiting}
+use Rattle.node_model.specs.Look.{Effect, failing_call, waiting_frame}
 use Rattle.node_model.specs.SessionStep.{bytes_left}
 use Rattle.node_model.specs.Knows.{enough_by, next_by}
-use Rattle.node_model.specs.JobStep.{Turn, hears, attempts, bar_there, by_me, clock_of, end_with, ends, farewells, is_there, key_of, me, owns_share, quietly, says_to, sends_to, talk, wrong}
+use Rattle.node_model.specs.JobStep.{Turn, hears, attempts, bar_there, by_me, clock_of, end_with, ends, farewells, is_there, key_of, me, owns_share, quietly, says_to, sends_to, talk, wrong_message}
 use Rattle.node_model.specs.DropStep.{asks_copy, asks_lock, asks_target, bars, expiry, first_drop, first_end, first_remote, held_until, in_time, lacking_outcome, need_now, orders, removes, required_there, row_refusal, takes_drop, takes_time, target, times, tries_own}
 use Rattle.node_model.specs.Requests.{asks, goes_to}
 use Rattle.node_model.specs.TransferStep.{content_of, first_get, first_put, gains, next_get, next_source, puts_from, puts_piece, takes_bytes, takes_get, takes_put}
@@ -49,7 +49,7 @@ IsEnd kind = ⊥
 abbrev OnPartner : Turn → FrameView → Type 0
 OnPartner t g = g.body ≡ Closing → partner t.w.what.peer t.w.phase ≡ Some g.peer
 
-abbrev Shuts : Turn → Made → Type 0
+abbrev Shuts : Turn → Effect → Type 0
 Shuts t m = IsEnd m.kind ⊎ Each (OnPartner t) m.sent
 
 abbrev is_shutting : FrameText → Bool
@@ -58,8 +58,8 @@ is_shutting body = false
 
 -- ---- what all jobs share
 
-attempts_shuts : (t : Turn) (cs : List Call) (taken : Option FrameView) (m : Made) → Shuts t m → Shuts t (attempts t cs taken m)
-attempts_shuts t cs taken m g = unless_found (Shuts t) (failing t.look.fails cs) (λ call. quietly (Fault call (by_me t)) taken) m (λ call. inr tt) g
+attempts_shuts : (t : Turn) (cs : List Call) (taken : Option FrameView) (m : Effect) → Shuts t m → Shuts t (attempts t cs taken m)
+attempts_shuts t cs taken m g = unless_found (Shuts t) (failing_call t.look.fails cs) (λ call. quietly (Fault call (by_me t)) taken) m (λ call. inr tt) g
 
 open_is : (body : FrameText) → is_shutting body ≡ false → body ≡ Closing → ⊥
 open_is body n e = true≢false (sym (ap is_shutting e) ∙ n)
@@ -70,7 +70,7 @@ one_shuts t kind taken peer body n = inr ((λ e. absurd (open_is body n e)), tt)
 there_shuts : (t : Turn) (kind : EntryKind) (taken : Option FrameView) (peer : ℕ) (body : FrameText) → partner t.w.what.peer t.w.phase ≡ Some peer → Shuts t (sends_to t kind taken peer (body ∷ []))
 there_shuts t kind taken peer body on = inr ((λ e. on), tt)
 
-wrong_shuts : (t : Turn) (f : FrameView) (peer : ℕ) → partner t.w.what.peer t.w.phase ≡ Some peer → Shuts t (wrong t f peer)
+wrong_shuts : (t : Turn) (f : FrameView) (peer : ℕ) → partner t.w.what.peer t.w.phase ≡ Some peer → Shuts t (wrong_message t f peer)
 wrong_shuts t f peer on = there_shuts t (talk t) (Some f) peer Closing on
 
 ends_shuts : (t : Turn) (taken : Option FrameView) (outcome : Outcome) → Shuts t (ends t taken outcome)
@@ -181,11 +181,11 @@ times_shuts t f n (Some end) =
 
 time_shuts : (t : Turn) (f : FrameView) (peer n : ℕ) (side : Side) → partner t.w.what.peer t.w.phase ≡ Some peer → Shuts t (takes_time t f peer n side)
 time_shuts t f peer n Local on = wrong_shuts t f peer on
-time_shuts t f peer n Remote on = if_either (Shuts t) (nat_lt n (2 ^ 61)) (times t f n (first_end t)) (wrong t f peer) (λ e. times_shuts t f n (first_end t)) (λ e. wrong_shuts t f peer on)
+time_shuts t f peer n Remote on = if_either (Shuts t) (nat_lt n (2 ^ 61)) (times t f n (first_end t)) (wrong_message t f peer) (λ e. times_shuts t f n (first_end t)) (λ e. wrong_shuts t f peer on)
 
 bytes_shuts : (t : Turn) (f : FrameView) (peer n : ℕ) (phase : Phase) → partner t.w.what.peer t.w.phase ≡ Some peer → Shuts t (takes_bytes t f peer n phase)
 bytes_shuts t f peer n (GetsBytes p start size left) on =
-    if_either (Shuts t) (nat_lt 0 n && nat_le n left) (attempts t (calls.Append ∷ []) (Some f) (quietly (talk t) (Some f))) (wrong t f peer)
+    if_either (Shuts t) (nat_lt 0 n && nat_le n left) (attempts t (calls.Append ∷ []) (Some f) (quietly (talk t) (Some f))) (wrong_message t f peer)
     (λ e. attempts_shuts t (calls.Append ∷ []) (Some f) (quietly (talk t) (Some f)) (inr tt)) (λ e. wrong_shuts t f peer on)
 bytes_shuts t f peer n phase on = wrong_shuts t f peer on
 
@@ -212,14 +212,14 @@ get_shuts t f peer phase m on = wrong_shuts t f peer on
 from_shuts : (t : Turn) (f : FrameView) (peer n : ℕ) → partner t.w.what.peer t.w.phase ≡ Some peer → Shuts t (puts_from t f peer n)
 from_shuts t f peer n on =
     let m = Data (bytes_left (content_of t) n) in
-    let good = if reaches (content_of t) n then says_to t (talk t) (Some f) peer m else wrong t f peer in
+    let good = if reaches (content_of t) n then says_to t (talk t) (Some f) peer m else wrong_message t f peer in
     attempts_shuts t (calls.Size ∷ []) (Some f) good
-    (if_either (Shuts t) (reaches (content_of t) n) (says_to t (talk t) (Some f) peer m) (wrong t f peer) (λ e. one_shuts t (talk t) (Some f) peer (Line (text_of m)) refl) (λ e. wrong_shuts t f peer on))
+    (if_either (Shuts t) (reaches (content_of t) n) (says_to t (talk t) (Some f) peer m) (wrong_message t f peer) (λ e. one_shuts t (talk t) (Some f) peer (Line (text_of m)) refl) (λ e. wrong_shuts t f peer on))
 
 put_shuts : (t : Turn) (f : FrameView) (peer : ℕ) (phase : Phase) (m : Message) → partner t.w.what.peer t.w.phase ≡ Some peer → Shuts t (takes_put t f peer phase m)
 put_shuts t f peer (PutsOffer p) AlreadyHave on = inr tt
 put_shuts t f peer (PutsOffer p) Failure on = inr tt
-put_shuts t f peer (PutsOffer p) (Error text) on = if_either (Shuts t) (bytes_eq text (codes "busy")) (hears t f) (wrong t f peer) (λ e. inr tt) (λ e. wrong_shuts t f peer on)
+put_shuts t f peer (PutsOffer p) (Error text) on = if_either (Shuts t) (bytes_eq text (codes "busy")) (hears t f) (wrong_message t f peer) (λ e. inr tt) (λ e. wrong_shuts t f peer on)
 put_shuts t f peer (PutsOffer p) (PutFrom n) on = from_shuts t f peer n on
 put_shuts t f peer (PutsAnswer p start) Success on = inr tt
 put_shuts t f peer (PutsAnswer p start) Failure on = inr tt
@@ -232,7 +232,7 @@ answer_shuts t f peer Drops phase m on = drop_shuts t f peer phase m on
 
 takes_shuts : (t : Turn) (f : FrameView) (peer : ℕ) (phase : Phase) (m : Message) → partner t.w.what.peer t.w.phase ≡ Some peer → Shuts t (takes t f peer phase m)
 takes_shuts t f peer (Opens p) (AuthSuccess id) on = one_shuts t (talk t) (Some f) peer (Line (text_of (Version 3))) refl
-takes_shuts t f peer (Greets p) (Version n) on = if_either (Shuts t) (nat_le n 3) (asks t n (Some f) peer t.w.part) (wrong t f peer) (λ e. asks_shuts t n (Some f) peer t.w.part) (λ e. wrong_shuts t f peer on)
+takes_shuts t f peer (Greets p) (Version n) on = if_either (Shuts t) (nat_le n 3) (asks t n (Some f) peer t.w.part) (wrong_message t f peer) (λ e. asks_shuts t n (Some f) peer t.w.part) (λ e. wrong_shuts t f peer on)
 takes_shuts t f peer phase m on = answer_shuts t f peer t.w.part phase m on
 
 text_shuts : (t : Turn) (f : FrameView) (peer : ℕ) (m : Option Message) → partner t.w.what.peer t.w.phase ≡ Some peer → Shuts t (takes_text t f peer m)
@@ -247,14 +247,14 @@ frame_shuts t peer f (Line text) on = text_shuts t f peer (message_of text) on
 
 -- ---- the step
 
-on_shuts : (t : Turn) (m : Made) → goes_on t ≡ Some m → Shuts t m
+on_shuts : (t : Turn) (m : Effect) → goes_on t ≡ Some m → Shuts t m
 on_shuts t m e = go (list_all (has_room t) (needs t t.w.phase)) e
   where
     go : (b : Bool) → (if b then Some (goes t t.w.phase) else None) ≡ Some m → Shuts t m
     go true g = let same : goes t t.w.phase ≡ m = cc in subst (Shuts t) same (goes_shuts t t.w.phase refl)
     go false g = absurd (cc)
 
-awaits_shuts : (t : Turn) (peer : ℕ) (m : Made) → partner t.w.what.peer t.w.phase ≡ Some peer → (f : Option FrameView) → awaits t peer f ≡ Some m → Shuts t m
+awaits_shuts : (t : Turn) (peer : ℕ) (m : Effect) → partner t.w.what.peer t.w.phase ≡ Some peer → (f : Option FrameView) → awaits t peer f ≡ Some m → Shuts t m
 awaits_shuts t peer m on None e = absurd (cc)
 awaits_shuts t peer m on (Some f) e = go (has_room t peer) e
   where
@@ -262,15 +262,15 @@ awaits_shuts t peer m on (Some f) e = go (has_room t peer) e
     go true g = let same : takes_frame t peer f f.body ≡ m = cc in subst (Shuts t) same (frame_shuts t peer f f.body on)
     go false g = absurd (cc)
 
-with_shuts : (t : Turn) (peer : ℕ) (m : Made) → partner t.w.what.peer t.w.phase ≡ Some peer → (b : Bool) → with_partner t peer b ≡ Some m → Shuts t m
+with_shuts : (t : Turn) (peer : ℕ) (m : Effect) → partner t.w.what.peer t.w.phase ≡ Some peer → (b : Bool) → with_partner t peer b ≡ Some m → Shuts t m
 with_shuts t peer m on false e = let same : quietly (talk t) None ≡ m = cc in subst (Shuts t) same (inr tt)
 with_shuts t peer m on true e = go (is_awaiting t.w.phase) e
   where
-    go : (b : Bool) → (if b then awaits t peer (waiting (end_with t peer) t.look (job_end t.w peer)) else goes_on t) ≡ Some m → Shuts t m
-    go true g = awaits_shuts t peer m on (waiting (end_with t peer) t.look (job_end t.w peer)) g
+    go : (b : Bool) → (if b then awaits t peer (waiting_frame (end_with t peer) t.look (job_end t.w peer)) else goes_on t) ≡ Some m → Shuts t m
+    go true g = awaits_shuts t peer m on (waiting_frame (end_with t peer) t.look (job_end t.w peer)) g
     go false g = on_shuts t m g
 
-partner_shuts : (t : Turn) (m : Made) (p : Option ℕ) → partner t.w.what.peer t.w.phase ≡ p → by_partner t p ≡ Some m → Shuts t m
+partner_shuts : (t : Turn) (m : Effect) (p : Option ℕ) → partner t.w.what.peer t.w.phase ≡ p → by_partner t p ≡ Some m → Shuts t m
 partner_shuts t m None on e = on_shuts t m e
 partner_shuts t m (Some peer) on e = with_shuts t peer m on (end_with t peer).opened e
 

@@ -21,7 +21,7 @@ use Rattle.run_data.specs.Repos.{id_of}
 use Rattle.run_data.specs.declared.job.Outcome.{Outcome}
 use Rattle.node_model.specs.Rows.{is_lost_ordered}
 use Rattle.node_model.specs.Evidence.{Standing, Asked}
-use Rattle.node_model.specs.Look.{first_of, Look, first_some, waiting}
+use Rattle.node_model.specs.Look.{first_of, Look, first_some, waiting_frame}
 use Rattle.p2p_wire.specs.declared.message.Message.{Message}
 use Rattle.p2p_wire.specs.declared.message.Message.TheVariants.{AlreadyHave, AuthSuccess, CheckPresent, Data, Error, Failure, Get, GetTimestamp, Invalid, LockContent, Put, PutFrom, Remove, RemoveBefore, Success, Timestamp, UnlockContent, Valid, Version}
 use Rattle.p2p_wire.specs.Messages.{message_of}
@@ -32,13 +32,13 @@ use Rattle.node_model.specs.Jobs
 use Rattle.node_model.specs.Jobs.{AsksLock, AsksLook, AsksTime, Denied, Drops, Ends, Fresh, Gets, GetsBytes, GetsData, GetsWord, Greets, Late, Next, Opens, Part, Phase, Puts, PutsAnswer, PutsBytes, PutsOffer, PutsWord, Removed, Work, is_move, job_end, partner, side_of}
 use Rattle.node_model.specs.State.{State}
 use Rattle.node_model.specs.Calls.{to_commit, to_release}
-use Rattle.node_model.specs.Owed.{Owed}
+use Rattle.node_model.specs.OwedLines.{OwedLine}
 use Rattle.node_model.specs.Wanted.{required}
 use Rattle.node_model.specs.OwedStep.{owed_step, pays_first}
 use Rattle.node_model.specs.SessionStep.{is_filled, Here, gives_made, gives_next, here, on_bytes, on_frame, on_message, on_request, on_text, reply_made, session_at, session_makes, session_step}
 use Rattle.race_core.proofs.Knowing.{knows_enough, next_of}
 use Rattle.node_model.specs.Knows.{standing_of}
-use Rattle.node_model.specs.JobStep.{Turn, attempts, bar_there, by_me, clock_of, key_of, owns_share, quietly, sends_to, wrong, end_needs, end_with, ends, farewell, farewells, is_there, talk, turn_of}
+use Rattle.node_model.specs.JobStep.{Turn, attempts, bar_there, by_me, clock_of, key_of, owns_share, quietly, sends_to, wrong_message, end_needs, end_with, ends, farewell, farewells, is_there, talk, turn_of}
 use Rattle.node_model.specs.DropStep.{asks_copy, asks_lock, asks_target, expiry, in_time, lacking_outcome, orders, removes, bars, first_drop, first_end, first_remote, held_until, removal_outcome, required_there, row_refusal, takes_drop, takes_time, target, times, tries_own}
 use Rattle.node_model.specs.Requests.{asks, goes_to}
 use Rattle.node_model.specs.TransferStep.{gains, first_get, first_put, next_get, next_source, sources, takes_bytes, takes_get, takes_put}
@@ -214,7 +214,7 @@ module _ (s : SetUp) (st : State) (k : Look) (w : Work) (p : ℕ → List (List 
   time-same : (f : FrameView) (peer n : ℕ) (side : Side) → takes_time u f peer n side ≡ takes_time t f peer n side
   unfolding standing_of
   time-same f peer n Local = refl
-  time-same f peer n Remote = ap (λ x. if nat_lt n (2 ^ 61) then x else wrong t f peer) (times-same f n (first_end t))
+  time-same f peer n Remote = ap (λ x. if nat_lt n (2 ^ 61) then x else wrong_message t f peer) (times-same f n (first_end t))
 
   drop-same : (f : FrameView) (peer : ℕ) (phase : Phase) (m : Message) → takes_drop u f peer phase m ≡ takes_drop t f peer phase m
   drop-same f peer (AsksLock q since) Success = refl
@@ -233,7 +233,7 @@ module _ (s : SetUp) (st : State) (k : Look) (w : Work) (p : ℕ → List (List 
 
   takes-same : (f : FrameView) (peer : ℕ) (phase : Phase) (m : Message) → takes u f peer phase m ≡ takes t f peer phase m
   takes-same f peer (Opens q) (AuthSuccess id) = refl
-  takes-same f peer (Greets q) (Version n) = ap (λ x. if nat_le n 3 then x else wrong t f peer) (asks-same n (Some f) peer w.part)
+  takes-same f peer (Greets q) (Version n) = ap (λ x. if nat_le n 3 then x else wrong_message t f peer) (asks-same n (Some f) peer w.part)
   takes-same f peer phase m = answer-same f peer w.part phase m
 
   text-same : (f : FrameView) (peer : ℕ) (o : Option Message) → takes_text u f peer o ≡ takes_text t f peer o
@@ -278,8 +278,8 @@ module _ (s : SetUp) (st : State) (k : Look) (w : Work) (p : ℕ → List (List 
 
     partner-same : (peer : ℕ) (opened : Bool) → with_partner u peer opened ≡ with_partner t peer opened
     partner-same peer false = refl
-    partner-same peer true = ap (λ x. if is_awaiting w.phase then x else goes_on u) (awaits-same peer (waiting (end_with t peer) k (job_end w peer)))
-        ∙ ap (λ x. if is_awaiting w.phase then awaits t peer (waiting (end_with t peer) k (job_end w peer)) else x) goes_on-same
+    partner-same peer true = ap (λ x. if is_awaiting w.phase then x else goes_on u) (awaits-same peer (waiting_frame (end_with t peer) k (job_end w peer)))
+        ∙ ap (λ x. if is_awaiting w.phase then awaits t peer (waiting_frame (end_with t peer) k (job_end w peer)) else x) goes_on-same
 
     turn-same : (o : Option ℕ) → by_partner u o ≡ by_partner t o
     turn-same None = goes_on-same
@@ -339,11 +339,11 @@ module _ (s : SetUp) (st : State) (k : Look) (p : ℕ → List (List ℕ)) (a : 
   makes-same c was None = ap (λ x. if c.opened then gives_made a c x else None) (gives-same was.doing)
 
   session-same : session_at (with_paths s p) st k a ≡ session_at s st k a
-  session-same = ap (λ x. if k.room a then x else None) (makes-same (st.ends a) (st.sessions a) (waiting (st.ends a) k a))
+  session-same = ap (λ x. if k.room a then x else None) (makes-same (st.ends a) (st.sessions a) (waiting_frame (st.ends a) k a))
 
 -- ---- the step
 
-owed-same : (s : SetUp) (st : State) (k : Look) (p : ℕ → List (List ℕ)) (os : List Owed) → pays_first (with_paths s p) st k os ≡ pays_first s st k os
+owed-same : (s : SetUp) (st : State) (k : Look) (p : ℕ → List (List ℕ)) (os : List OwedLine) → pays_first (with_paths s p) st k os ≡ pays_first s st k os
 owed-same s st k p [] = refl
 owed-same s st k p (o ∷ os) = refl
 

@@ -26,8 +26,8 @@ use Rattle.node_model.specs.Sessions.{line_in, reaches}
 use Rattle.node_model.specs.SessionStep.{bytes_left}
 use Rattle.node_model.specs.Jobs
 use Rattle.node_model.specs.Jobs.{Part, Phase, Puts, PutsBytes, PutsOffer, Work, job_end, partner, running_job, taken_message}
-use Rattle.node_model.specs.Look.{Made, failing, waiting}
-use Rattle.node_model.specs.JobStep.{Turn, by_me, end_with, quietly, says_to, sends_to, talk, wrong}
+use Rattle.node_model.specs.Look.{Effect, failing_call, waiting_frame}
+use Rattle.node_model.specs.JobStep.{Turn, by_me, end_with, quietly, says_to, sends_to, talk, wrong_message}
 use Rattle.node_model.specs.TransferStep.{content_of, puts_from, puts_piece}
 use Rattle.node_model.specs.Turns.{by_partner, goes, goes_on, has_room, is_awaiting, needs, takes, takes_answer, takes_frame, takes_text, with_partner, awaits}
 use Rattle.run_model.specs.Run.{OwnPast, RunPast, RunStep, set_up}
@@ -68,7 +68,7 @@ first_of (f ∷ fs) = Some f.body
 
 -- a piece is no longer than what is left
 piece_first : (t : Turn) (peer at left n : ℕ) → first_of (puts_piece t peer at (min 32768 left)).sent ≡ Some (Bytes n) → n ≤ left
-piece_first t peer at left n = unless_found (λ (m : Made). first_of m.sent ≡ Some (Bytes n) → n ≤ left) (failing t.look.fails (calls.Read ∷ [])) (λ call. quietly (Fault call (by_me t)) None)
+piece_first t peer at left n = unless_found (λ (m : Effect). first_of m.sent ≡ Some (Bytes n) → n ≤ left) (failing_call t.look.fails (calls.Read ∷ [])) (λ call. quietly (Fault call (by_me t)) None)
     (sends_to t (talk t) None peer ((if reaches (content_of t) (at + min 32768 left) then Bytes (min 32768 left) else Closing) ∷ [])) (λ call e. absurd (cc)) (go (reaches (content_of t) (at + min 32768 left)))
   where
     low : (k : ℕ) → min 32768 left ≡ k → k ≤ left
@@ -79,26 +79,26 @@ piece_first t peer at left n = unless_found (λ (m : Made). first_of m.sent ≡ 
     go false e = absurd (cc)
 
 -- a step of a job that sends bytes
-bytes_step : (t : Turn) (m : Made) (peer start at left n : ℕ) → t.w.phase ≡ PutsBytes peer start at left → by_partner t (partner t.w.what.peer t.w.phase) ≡ Some m → first_of m.sent ≡ Some (Bytes n) → n ≤ left
+bytes_step : (t : Turn) (m : Effect) (peer start at left n : ℕ) → t.w.phase ≡ PutsBytes peer start at left → by_partner t (partner t.w.what.peer t.w.phase) ≡ Some m → first_of m.sent ≡ Some (Bytes n) → n ≤ left
 bytes_step t m peer start at left n is does first = go (end_with t peer).opened (subst (λ (o : Option ℕ). by_partner t o ≡ Some m) (ap (partner t.w.what.peer) is) does)
   where
     go : (b : Bool) → with_partner t peer b ≡ Some m → n ≤ left
-    go false e = let same : quietly (talk t) None ≡ m = cc in absurd (let no' : None ≡ Some (Bytes n) = ap (λ (k : Made). first_of k.sent) same ∙ first in cc)
-    go true e = on (list_all (has_room t) (needs t t.w.phase)) (subst (λ (b : Bool). (if b then awaits t peer (waiting (end_with t peer) t.look (job_end t.w peer)) else goes_on t) ≡ Some m) (ap is_awaiting is) e)
+    go false e = let same : quietly (talk t) None ≡ m = cc in absurd (let no' : None ≡ Some (Bytes n) = ap (λ (k : Effect). first_of k.sent) same ∙ first in cc)
+    go true e = on (list_all (has_room t) (needs t t.w.phase)) (subst (λ (b : Bool). (if b then awaits t peer (waiting_frame (end_with t peer) t.look (job_end t.w peer)) else goes_on t) ≡ Some m) (ap is_awaiting is) e)
       where
         on : (b : Bool) → (if b then Some (goes t t.w.phase) else None) ≡ Some m → n ≤ left
         on false g = absurd (cc)
         on true g =
             let same : goes t t.w.phase ≡ m = cc in
             let piece : puts_piece t peer at (min 32768 left) ≡ m = sym (ap (goes t) is) ∙ same in
-            piece_first t peer at left n (ap (λ (k : Made). first_of k.sent) piece ∙ first)
+            piece_first t peer at left n (ap (λ (k : Effect). first_of k.sent) piece ∙ first)
 
 -- a copy that tells how many bytes come has so many from that place on
 data_first : (t : Turn) (f : FrameView) (peer at left : ℕ) → message_of (text_of (Data (bytes_left (content_of t) at))) ≡ Some (Data (bytes_left (content_of t) at))
     → (b : FrameText) → first_of (puts_from t f peer at).sent ≡ Some b → line_in b ≡ Some (Data left) → content_of t ≡ Some (at + left)
-data_first t f peer at left reads b = unless_found (λ (m : Made). first_of m.sent ≡ Some b → line_in b ≡ Some (Data left) → content_of t ≡ Some (at + left)) (failing t.look.fails (calls.Size ∷ [])) (λ call. quietly (Fault call (by_me t)) (Some f))
-    (if reaches (content_of t) at then says_to t (talk t) (Some f) peer (Data (bytes_left (content_of t) at)) else wrong t f peer) (λ call e told. absurd (cc))
-    (if_either (λ (m : Made). first_of m.sent ≡ Some b → line_in b ≡ Some (Data left) → content_of t ≡ Some (at + left)) (reaches (content_of t) at) (says_to t (talk t) (Some f) peer (Data (bytes_left (content_of t) at))) (wrong t f peer)
+data_first t f peer at left reads b = unless_found (λ (m : Effect). first_of m.sent ≡ Some b → line_in b ≡ Some (Data left) → content_of t ≡ Some (at + left)) (failing_call t.look.fails (calls.Size ∷ [])) (λ call. quietly (Fault call (by_me t)) (Some f))
+    (if reaches (content_of t) at then says_to t (talk t) (Some f) peer (Data (bytes_left (content_of t) at)) else wrong_message t f peer) (λ call e told. absurd (cc))
+    (if_either (λ (m : Effect). first_of m.sent ≡ Some b → line_in b ≡ Some (Data left) → content_of t ≡ Some (at + left)) (reaches (content_of t) at) (says_to t (talk t) (Some f) peer (Data (bytes_left (content_of t) at))) (wrong_message t f peer)
     (λ there e told. size (content_of t) there (same_left (sym reads ∙ (ap line_in (body e) ∙ told)))) (λ gone e told. absurd (let none : None ≡ Some (Data left) = ap line_in (closes e) ∙ told in cc)))
   where
     body : Some (Line (text_of (Data (bytes_left (content_of t) at)))) ≡ Some b → Line (text_of (Data (bytes_left (content_of t) at))) ≡ b
@@ -191,7 +191,7 @@ module _ (reads_back : SentAreRead) (run : Run) (repos : Each IsSetUp run.repos)
             let offer = offer_only v.phase at (line_suits v.phase took_it.f.body (PutFrom at) line suits) in
             let puts : v.part ≡ Puts = only_offer v.part offer.0 (subst (Fits v.part) offer.1 (works_fit s past own_p.run v runs)) in
             let made : b.by.made ≡ puts_from t took_it.f p at = took_it.made_is ∙ offer_takes t took_it.f p offer.0 at offer.1 puts took_it.f.body line in
-            let first : first_of (puts_from t took_it.f p at).sent ≡ Some z.0.f.body = ap (λ (m : Made). first_of m.sent) (sym made) ∙ ap first_of (sym made_sent ∙ z.0.sent_is) in
+            let first : first_of (puts_from t took_it.f p at).sent ≡ Some z.0.f.body = ap (λ (m : Effect). first_of m.sent) (sym made) ∙ ap first_of (sym made_sent ∙ z.0.sent_is) in
             record {
               entry = e;
               before = past;

@@ -23,7 +23,7 @@ use Rattle.node_model.specs.SetUp.{SetUp}
 use Rattle.node_model.specs.Jobs.{Drops, Ends, Fresh, Next, Phase, Puts, Work, partner, says_some, work_kind}
 use Rattle.run_model.specs.States.{rows_at, works}
 use Rattle.node_model.specs.Calls.{to_release}
-use Rattle.node_model.specs.Look.{Made}
+use Rattle.node_model.specs.Look.{Effect}
 use Rattle.node_model.specs.JobStep.{Turn, by_me, end_with, ends, farewells, is_there, key_of, owns_share, quietly, sends_to, talk}
 use Rattle.node_model.specs.Found.{IsJobEntry}
 use Rattle.node_model.specs.Requests.{asks, goes_to}
@@ -58,11 +58,11 @@ is_live phase = true
 -- ---- the first step of a copy
 
 -- it comes to another phase than these two; and where it sends nothing, it is to end
-abbrev pub Off : Turn → Made → EntryKind → Type 0
+abbrev pub Off : Turn → Effect → EntryKind → Type 0
 Off t m (ends_job j outcome) = Unit {0}
 Off t m kind = (is_idle (moved t m kind).phase ≡ false) × (m.sent ≡ [] → is_live (moved t m kind).phase ≡ false)
 
-abbrev OffBy : Turn → Made → Type 0
+abbrev OffBy : Turn → Effect → Type 0
 OffBy t m = Off t m m.kind
 
 module _ (before : Turn) (none : owns_share before ≡ false) where
@@ -89,7 +89,7 @@ module _ (before : Turn) (none : owns_share before ≡ false) where
     put_first true None = put_ends (TransferRefused failures.NotHere)
     put_first false peer = put_ends (TransferRefused failures.NotHere)
 
-    put_off : (m : Made) → by_partner p None ≡ Some m → OffBy p m
+    put_off : (m : Effect) → by_partner p None ≡ Some m → OffBy p m
     put_off m e = go (list_all (has_room p) (needs p Fresh)) e
       where
         go : (b : Bool) → (if b then Some (goes p Fresh) else None) ≡ Some m → OffBy p m
@@ -99,7 +99,7 @@ module _ (before : Turn) (none : owns_share before ≡ false) where
             subst (OffBy p) same (attempts_even (OffBy p) p (calls.Has ∷ []) None (first_put p (is_there p) p.w.what.peer)
             (plain_call (calls.Has ∷ []) refl refl (λ call. OffBy p (quietly (Fault call (by_me p)) None)) put_fault) (put_first (is_there p) p.w.what.peer))
 
-off_is : (t : Turn) (m : Made) (kind : EntryKind) → ((j : ℕ) (outcome : Outcome) → kind ≢ ends_job j outcome) → Off t m kind → (is_idle (moved t m kind).phase ≡ false) × (m.sent ≡ [] → is_live (moved t m kind).phase ≡ false)
+off_is : (t : Turn) (m : Effect) (kind : EntryKind) → ((j : ℕ) (outcome : Outcome) → kind ≢ ends_job j outcome) → Off t m kind → (is_idle (moved t m kind).phase ≡ false) × (m.sent ≡ [] → is_live (moved t m kind).phase ≡ false)
 off_is t m (ends_job j outcome) goes_on off = absurd (goes_on j outcome refl)
 off_is t m kind goes_on off = off
 
@@ -121,7 +121,7 @@ first_step_off reads_back s past e x b h is fresh =
 
 -- ---- a copy never goes on to a next peer
 
-sets_drop : (t : Turn) (m : Made) (kind : EntryKind) → IsJobEntry t m kind → Sets kind → t.w.part ≡ Drops
+sets_drop : (t : Turn) (m : Effect) (kind : EntryKind) → IsJobEntry t m kind → Sets kind → t.w.part ≡ Drops
 sets_drop t m (Bar j need key) k z = k.part_is
 sets_drop t m (Share hold end by key) k z = k.part_is
 sets_drop t m kind k z = absurd z
@@ -162,7 +162,7 @@ puts_go_on reads_back s past h w m part = invariant s (λ p x. OwnPast s p → x
 
 -- ---- a job that is to end stays so
 
-abbrev EndedBy : Outcome → Turn → Made → EntryKind → Type 0
+abbrev EndedBy : Outcome → Turn → Effect → EntryKind → Type 0
 EndedBy o t m (ends_job j outcome) = Unit {0}
 EndedBy o t m kind = (moved t m kind).phase ≡ Ends o
 
@@ -185,14 +185,14 @@ ended_stays s past e x b o at =
     kind (ends_job j outcome) goes_on z = absurd (goes_on j outcome refl)
     kind k goes_on z = z
 
-    made : (m : Made) → by_partner t' None ≡ Some m → EndedBy o t' m m.kind
+    made : (m : Effect) → by_partner t' None ≡ Some m → EndedBy o t' m m.kind
     made m e' = go (list_all (has_room t') (needs t' (Ends o))) e'
       where
         go : (c : Bool) → (if c then Some (goes t' (Ends o)) else None) ≡ Some m → EndedBy o t' m m.kind
         go false g = absurd (cc)
         go true g =
             let same : goes t' (Ends o) ≡ m = cc in
-            subst (λ (y : Made). EndedBy o t' y y.kind) same (attempts_even (λ (y : Made). EndedBy o t' y y.kind) t' (to_release (owns_share t' && not (is_lost_ordered o))) None
+            subst (λ (y : Effect). EndedBy o t' y y.kind) same (attempts_even (λ (y : Effect). EndedBy o t' y y.kind) t' (to_release (owns_share t' && not (is_lost_ordered o))) None
             (record { kind = ends_job t'.w.number o; taken = None; sent = farewells t' (is_lost_ordered o); lines = [] })
             (λ call h. subst (λ (c : Call). EndedBy o t' (quietly (Fault c (by_me t')) None) (Fault c (by_me t'))) (sym (release_is (owns_share t' && not (is_lost_ordered o)) call h)) refl) tt)
 

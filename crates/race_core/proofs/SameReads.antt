@@ -11,7 +11,7 @@ use Rattle.drop_proof.specs.declared.rule.Side.TheVariants.{Local, Remote}
 use Rattle.node_model.specs.SetUp.{SetUp, slots}
 use Rattle.node_model.specs.State.{State}
 use Rattle.node_model.specs.Jobs.{Drops, Gets, Puts, Part, Phase, Fresh, Next, PutsBytes, PutsWord, Removed, Late, Work, job_end, partner, side_of}
-use Rattle.node_model.specs.Look.{Look, first_some, waiting, first_of}
+use Rattle.node_model.specs.Look.{Look, first_some, waiting_frame, first_of}
 use Rattle.node_model.specs.Knows.{standing_of}
 use Rattle.node_model.specs.OwedStep.{owed_step}
 use Rattle.node_model.specs.SessionStep.{session_step}
@@ -75,7 +75,7 @@ module _ (s : SetUp) (st : State) (k : Look) (w : Work) where
   with_is : (peer : ℕ) (b : Bool) → with_partner t peer b ≡ with_partner u peer b
   unfolding standing_of
   with_is peer false = refl
-  with_is peer true = (λ i. if is_awaiting w.phase then awaits t peer (waiting (end_with t peer) k (job_end w peer)) else on_is i)
+  with_is peer true = (λ i. if is_awaiting w.phase then awaits t peer (waiting_frame (end_with t peer) k (job_end w peer)) else on_is i)
 
   partner_is : (p : Option ℕ) → by_partner t p ≡ by_partner u p
   partner_is None = on_is
@@ -118,7 +118,7 @@ module _ (s : SetUp) (st : State) (k : Look) (x y : Settings) where
 
   other_with : (w : Work) (part : Part) → part ≢ Drops → Fits part w.phase → (peer : ℕ) (b : Bool) → with_partner (at x (of_part part w)) peer b ≡ with_partner (at y (of_part part w)) peer b
   other_with w part apart fits peer false = refl
-  other_with w part apart fits peer true = (λ i. if is_awaiting w.phase then other_awaits w part apart peer (waiting (st.ends (job_end w peer)) k (job_end w peer)) i else other_on w part apart fits i)
+  other_with w part apart fits peer true = (λ i. if is_awaiting w.phase then other_awaits w part apart peer (waiting_frame (st.ends (job_end w peer)) k (job_end w peer)) i else other_on w part apart fits i)
 
   other_by : (w : Work) (part : Part) → part ≢ Drops → Fits part w.phase → (p : Option ℕ) → by_partner (at x (of_part part w)) p ≡ by_partner (at y (of_part part w)) p
   other_by w part apart fits None = other_on w part apart fits

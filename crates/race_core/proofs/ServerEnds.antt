@@ -23,9 +23,9 @@ use Rattle.node_model.specs.SetUp.{SetUp, served_connections}
 use Rattle.run_model.specs.States.{end_at, session, state_of}
 use Rattle.node_model.specs.Jobs.{Work, job_end}
 use Rattle.run_data.specs.declared.entry.LogFile.TheVariants.{Location}
-use Rattle.node_model.specs.Owed.{Owed, due}
+use Rattle.node_model.specs.OwedLines.{OwedLine, due}
 use Rattle.node_model.specs.State.{State}
-use Rattle.node_model.specs.Look.{Look, Made, entry_of, failing, unless, waiting}
+use Rattle.node_model.specs.Look.{Look, Effect, entry_of, failing_call, unless, waiting_frame}
 use Rattle.node_model.specs.OwedStep.{owed_step, pays_first}
 use Rattle.node_model.specs.SessionStep.{Reply, gives_made, gives_next, here, on_frame, reply_made, session_at, session_makes, session_step}
 use Rattle.node_model.specs.JobStep.{Turn, end_with, farewell, farewells, turn_of, others_of}
@@ -130,17 +130,17 @@ module _ (s : SetUp) (past : List Entry) (k : Look) (small : k.part < 2 ^ 62) (b
   abbrev st : State
   st = state_of s past
 
-  abbrev Here' : Made → Type 0
+  abbrev Here' : Effect → Type 0
   Here' m = TakesHere s past b (entry_of s.number k m) ⊎ GivesHere s past b (entry_of s.number k m)
 
-  gives_here : (m : Made) → (end_at past s.number b).opened ≡ true → (o : Option Reply) → gives_next (here s st k b) (session past s.number b).doing ≡ o
+  gives_here : (m : Effect) → (end_at past s.number b).opened ≡ true → (o : Option Reply) → gives_next (here s st k b) (session past s.number b).doing ≡ o
       → gives_made b (end_at past s.number b) o ≡ Some m → Here' m
   gives_here m opened None is e = absurd (cc)
   gives_here m opened (Some x) is e =
       let same : reply_made b (end_at past s.number b) None x ≡ m = cc in
       subst Here' same (inr (record { k = k; part_small = small; time_is = refl; x = x; next = is; opened = opened; taken_is = refl; kind_is = refl; sent_is = refl }))
 
-  makes_here : (m : Made) (o : Option FrameView) → waiting (end_at past s.number b) k b ≡ o → session_makes (here s st k b) (end_at past s.number b) (session past s.number b) o ≡ Some m → Here' m
+  makes_here : (m : Effect) (o : Option FrameView) → waiting_frame (end_at past s.number b) k b ≡ o → session_makes (here s st k b) (end_at past s.number b) (session past s.number b) o ≡ Some m → Here' m
   makes_here m None is e = go (end_at past s.number b).opened refl e
     where
       go : (c : Bool) → (end_at past s.number b).opened ≡ c → (if c then gives_made b (end_at past s.number b) (gives_next (here s st k b) (session past s.number b).doing) else None) ≡ Some m → Here' m
@@ -152,11 +152,11 @@ module _ (s : SetUp) (past : List Entry) (k : Look) (small : k.part < 2 ^ 62) (b
       let same : reply_made b (end_takes (end_at past s.number b) f.epoch f.body) (Some f) (on_frame (here s st k b) (session past s.number b) f.body) ≡ m = cc in
       subst Here' same (inl (record { k = k; part_small = small; f = f; taken_is = refl; of_end = two.0; may = two.1; time_is = refl; kind_is = refl; sent_is = refl }))
 
-  pub session_here : (m : Made) → session_at s st k b ≡ Some m → Here' m
+  pub session_here : (m : Effect) → session_at s st k b ≡ Some m → Here' m
   session_here m e = go (k.room b) e
     where
-      go : (c : Bool) → (if c then session_makes (here s st k b) (st.ends b) (st.sessions b) (waiting (st.ends b) k b) else None) ≡ Some m → Here' m
-      go true g = makes_here m (waiting (end_at past s.number b) k b) refl g
+      go : (c : Bool) → (if c then session_makes (here s st k b) (st.ends b) (st.sessions b) (waiting_frame (st.ends b) k b) else None) ≡ Some m → Here' m
+      go true g = makes_here m (waiting_frame (end_at past s.number b) k b) refl g
       go false g = absurd (cc)
 
 -- at another end it does nothing
@@ -206,7 +206,7 @@ asks_other : (t : Turn) (sent : List FrameView) (p q : ℕ) → AsksOne t sent �
 asks_other t sent p q (inl x) = rw x refl
 asks_other t sent p q (inr x) = rw x.2 (sent_other (job_end t.w x.0) (server_end p q) (end_with t x.0) (x.1 ∷ []) (job_other t.w x.0 p q))
 
-pub job_sends : (t : Turn) (m : Made) (kind : EntryKind) (p q : ℕ) → IsJobEntry t m kind → sent_at (server_end p q) m.sent ≡ []
+pub job_sends : (t : Turn) (m : Effect) (kind : EntryKind) (p q : ℕ) → IsJobEntry t m kind → sent_at (server_end p q) m.sent ≡ []
 job_sends t m (Share hold end by key) p q x = rw x.sends_none refl
 job_sends t m (Bar j need key) p q x = rw x.sends_none refl
 job_sends t m (Gone by key) p q x = rw x.sends_none refl
@@ -217,21 +217,21 @@ job_sends t m (Talk (Some j)) p q x = asks_other t m.sent p q x.1
 job_sends t m (Fault call by) p q x = rw x.1 refl
 job_sends t m kind p q x = absurd x
 
-by_job_shuts : (s : SetUp) (past : List Entry) (k : Look) (m : Made) (p q : ℕ) → ByJob s (state_of s past) k m → Shuts (server_end p q) (entry_of s.number k m)
+by_job_shuts : (s : SetUp) (past : List Entry) (k : Look) (m : Effect) (p q : ℕ) → ByJob s (state_of s past) k m → Shuts (server_end p q) (entry_of s.number k m)
 by_job_shuts s past k m p q x = record { takes_none = takes x.frame; closes = rw (job_sends (turn_of s (state_of s past) k x.w) m m.kind p q x.found) tt }
   where
     takes : (m.taken ≡ None) ⊎ JobTakes (turn_of s (state_of s past) k x.w) m → taken_at (server_end p q) m.taken ≡ None
     takes (inl y) = rw y refl
     takes (inr y) = rw (y.taken_is, job_takes_other x.w y.peer p q y.f y.of_end) refl
 
-owed_shuts : (s : SetUp) (past : List Entry) (k : Look) (m : Made) (a : EndName) (os : List Owed) → pays_first s (state_of s past) k os ≡ Some m → Shuts a (entry_of s.number k m)
+owed_shuts : (s : SetUp) (past : List Entry) (k : Look) (m : Effect) (a : EndName) (os : List OwedLine) → pays_first s (state_of s past) k os ≡ Some m → Shuts a (entry_of s.number k m)
 owed_shuts s past k m a [] e = absurd (cc)
 owed_shuts s past k m a (o ∷ os) e =
-    let fault : Call → Made = λ call. record { kind = Fault call o.by; taken = None; sent = []; lines = [] } in
-    let line : Made = record { kind = Log (Location o.key); taken = None; sent = []; lines = due s.repos (state_of s past).lines ((state_of s past).wall k.time) o } in
-    let same : unless (failing k.fails (PutFile ∷ [])) fault line ≡ m = cc in
-    subst (λ (z : Made). Shuts a (entry_of s.number k z)) same
-    (unless_found (λ (z : Made). Shuts a (entry_of s.number k z)) (failing k.fails (PutFile ∷ [])) fault line
+    let fault : Call → Effect = λ call. record { kind = Fault call o.by; taken = None; sent = []; lines = [] } in
+    let line : Effect = record { kind = Log (Location o.key); taken = None; sent = []; lines = due s.repos (state_of s past).lines ((state_of s past).wall k.time) o } in
+    let same : unless (failing_call k.fails (PutFile ∷ [])) fault line ≡ m = cc in
+    subst (λ (z : Effect). Shuts a (entry_of s.number k z)) same
+    (unless_found (λ (z : Effect). Shuts a (entry_of s.number k z)) (failing_call k.fails (PutFile ∷ [])) fault line
     (λ call. record { takes_none = refl; closes = tt }) (record { takes_none = refl; closes = tt }))
 
 -- ---- any own entry
@@ -243,7 +243,7 @@ BySessionAt s past e = (p q : ℕ) × Member (p, q) (served_connections s) × (T
 abbrev pub ServerDoes : SetUp → List Entry → Entry → Type 0
 ServerDoes s past e = BySessionAt s past e ⊎ ((p q : ℕ) → Shuts (server_end p q) e)
 
-step_does : (s : SetUp) (past : List Entry) (k : Look) (m : Made) → k.part < 2 ^ 62 → step s (state_of s past) k ≡ Some m → ServerDoes s past (entry_of s.number k m)
+step_does : (s : SetUp) (past : List Entry) (k : Look) (m : Effect) → k.part < 2 ^ 62 → step s (state_of s past) k ≡ Some m → ServerDoes s past (entry_of s.number k m)
 step_does s past k m small e = elim (first_was (owed_step s (state_of s past) k) (Look.first_of (session_step s (state_of s past) k) (job_step s (state_of s past) k)) m e) [
   | inl o ↦ inr (λ p q. owed_shuts s past k m (server_end p q) (state_of s past).owed o)
   | inr r ↦ rest (first_was (session_step s (state_of s past) k) (job_step s (state_of s past) k) m r)

@@ -24,7 +24,7 @@ use Rattle.run_model.specs.Said.{Says, is_request, message_in, wants_answer}
 use Rattle.race_core.proofs.Ways.{completes, is_answer}
 use Rattle.node_model.specs.Sessions.{Doing, Waits, Guards, Gave, Wants, Took, Session}
 use Rattle.node_model.specs.Calls.{to_commit, to_lock, to_offer, to_remove}
-use Rattle.node_model.specs.Look.{failing}
+use Rattle.node_model.specs.Look.{failing_call}
 use Rattle.node_model.specs.SessionStep.{Here, Reply, bar_on, by_of, bytes_left, check_answer, content_of, is_held, is_here, lock_answer, now_of, on_frame, on_message, on_put, on_remove, on_remove_before, on_request, on_text, put_answer, failure_line, remove_answer, reply, silent_reply, tries, unexpected_reply, valid_answer}
 use Rattle.race_core.proofs.Cases.{unless_found}
 use Rattle.race_core.proofs.Counting.{Closes, Counts, GetCounts, calm, get_counts, message_counts}
@@ -73,7 +73,7 @@ fits : (asked : Message) (kind : EntryKind) (m : Message) → tells m ≡ true �
 fits asked kind m t a = inr (inr (m, refl, t, a))
 
 tries_replied : (h : Here) (asked : Message) (cs : List Call) (says : List FrameText) (good : Reply) → ((call : Call) → Replied asked (record { kind = Fault call (by_of h); says = says })) → Replied asked good → Replied asked (tries h cs says good)
-tries_replied h asked cs says good f g = unless_found (Replied asked) (failing h.fails cs) (λ call. record { kind = Fault call (by_of h); says = says }) good f g
+tries_replied h asked cs says good f g = unless_found (Replied asked) (failing_call h.fails cs) (λ call. record { kind = Fault call (by_of h); says = says }) good f g
 
 -- ---- a session that waits
 

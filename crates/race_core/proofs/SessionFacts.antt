@@ -20,7 +20,7 @@ use Rattle.p2p_wire.specs.Messages.{order_of, message_of}
 use Rattle.node_model.specs.Sessions.{Doing, Waits, Guards, Gives, Gave, Wants, Takes, Took, Session, line_in, reaches}
 use Rattle.node_model.specs.Calls.{to_commit, to_lock, to_offer, to_remove}
 use Rattle.node_model.specs.Ends.{End, EndName, end_takes, may_take, server_end, takes_at}
-use Rattle.node_model.specs.Look.{Look, Made, failing, waiting}
+use Rattle.node_model.specs.Look.{Look, Effect, failing_call, waiting_frame}
 use Rattle.node_model.specs.SessionStep.{Here, Reply, bar_on, by_of, bytes_left, check_answer, close_kind, content_of, gives_made, gives_next, here, is_held, is_here, lock_answer, now_of, on_bytes, on_frame, on_message, on_piece, on_put, on_remove, on_remove_before, on_request, on_text, on_unlock, put_answer, failure_line, remove_answer, reply, reply_made, session_at, session_makes, session_step, shuts, silent_reply, tries, unexpected_reply, valid_answer}
 use Rattle.node_model.specs.Found.{BySession, GivesAt, IsBeforeDeadline, SaysFault, SessionFound, IsSessionEntry, TakesAt}
 use Rattle.race_core.proofs.Cases.{TakesAtHand, some_was, takes_none, takes_one, unless_found}
@@ -28,7 +28,7 @@ use Rattle.race_core.proofs.Cases.{TakesAtHand, some_was, takes_none, takes_one,
 tries_found : (h : Here) (doing : Doing) (asked : Option Message) (cs : List Call) (says : List FrameText) (good : Reply)
     → SaysFault says → SessionFound h doing asked good → SessionFound h doing asked (tries h cs says good)
 tries_found h doing asked cs says good fs g =
-    unless_found (SessionFound h doing asked) (failing h.fails cs) (λ call. record { kind = Fault call (by_of h); says = says }) good (λ call. (refl, fs)) g
+    unless_found (SessionFound h doing asked) (failing_call h.fails cs) (λ call. record { kind = Fault call (by_of h); says = says }) good (λ call. (refl, fs)) g
 
 refused : SaysFault failure_line
 refused = inr (inr refl)
@@ -171,14 +171,14 @@ gives_found h doing x e = absurd (cc)
 -- ---- the step
 
 -- what a session makes at an end
-record MadeAt (s : SetUp) (st : State) (k : Look) (a : EndName) (m : Made) : Type 0 where
+record MadeAt (s : SetUp) (st : State) (k : Look) (a : EndName) (m : Effect) : Type 0 where
   asked : Option Message
   says : List FrameText
   frame : TakesAt s st a asked says m ⊎ GivesAt s st a asked says m
   found : IsSessionEntry (here s st k a) (st.sessions a).doing asked says m.kind
   at_hand : TakesAtHand k m
 
-makes_found : (s : SetUp) (st : State) (k : Look) (a : EndName) (f : Option FrameView) (m : Made) → waiting (st.ends a) k a ≡ f
+makes_found : (s : SetUp) (st : State) (k : Look) (a : EndName) (f : Option FrameView) (m : Effect) → waiting_frame (st.ends a) k a ≡ f
     → session_makes (here s st k a) (st.ends a) (st.sessions a) f ≡ Some m → MadeAt s st k a m
 makes_found s st k a (Some f) m is e =
     let h = here s st k a in
@@ -217,21 +217,21 @@ makes_found s st k a None m is e = go (st.ends a).opened refl e
     go true opened g = given opened (gives_next h (st.sessions a).doing) refl g
     go false opened g = absurd (cc)
 
-at_found : (s : SetUp) (st : State) (k : Look) (a : EndName) (m : Made) → session_at s st k a ≡ Some m → MadeAt s st k a m
+at_found : (s : SetUp) (st : State) (k : Look) (a : EndName) (m : Effect) → session_at s st k a ≡ Some m → MadeAt s st k a m
 at_found s st k a m e = go (k.room a) e
   where
-    go : (b : Bool) → (if b then session_makes (here s st k a) (st.ends a) (st.sessions a) (waiting (st.ends a) k a) else None) ≡ Some m → MadeAt s st k a m
-    go true g = makes_found s st k a (waiting (st.ends a) k a) m refl g
+    go : (b : Bool) → (if b then session_makes (here s st k a) (st.ends a) (st.sessions a) (waiting_frame (st.ends a) k a) else None) ≡ Some m → MadeAt s st k a m
+    go true g = makes_found s st k a (waiting_frame (st.ends a) k a) m refl g
     go false g = absurd (cc)
 
-pub session_found : (s : SetUp) (st : State) (k : Look) (m : Made) → session_step s st k ≡ Some m → BySession s st k m
+pub session_found : (s : SetUp) (st : State) (k : Look) (m : Effect) → session_step s st k ≡ Some m → BySession s st k m
 session_found s st k m e =
     let w = some_was (λ (c : ℕ × ℕ). session_at s st k (server_end c.0 c.1)) (served_connections s) m e in
     let c = w.0 in
     let x = at_found s st k (server_end c.0 c.1) m w.2 in
     record { peer = c.0; slot = c.1; serves = w.1; asked = x.asked; says = x.says; frame = x.frame; found = x.found }
 
-pub session_at_hand : (s : SetUp) (st : State) (k : Look) (m : Made) → session_step s st k ≡ Some m → TakesAtHand k m
+pub session_at_hand : (s : SetUp) (st : State) (k : Look) (m : Effect) → session_step s st k ≡ Some m → TakesAtHand k m
 session_at_hand s st k m e =
     let w = some_was (λ (c : ℕ × ℕ). session_at s st k (server_end c.0 c.1)) (served_connections s) m e in
     (at_found s st k (server_end w.0.0 w.0.1) m w.2).at_hand

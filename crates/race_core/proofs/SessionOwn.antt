@@ -25,7 +25,7 @@ use Rattle.node_model.specs.SetUp.{SetUp, others, served_connections, slots}
 use Rattle.node_model.specs.Ends.{End, EndName, end_sends, end_takes, frames, is_opening, sends_at, sent_at, server_end, takes_at}
 use Rattle.run_model.specs.States.{end_at, session, state_of}
 use Rattle.node_model.specs.Sessions.{Session, line_in}
-use Rattle.node_model.specs.Look.{Look, Made, entry_of}
+use Rattle.node_model.specs.Look.{Look, Effect, entry_of}
 use Rattle.node_model.specs.SessionStep.{Here, here, on_frame}
 use Rattle.race_core.proofs.BySteps.{ByStep}
 use Rattle.run_model.specs.Run.{ComesAnyTime, IsBounded, IsStep, OwnPart, OwnPast, OwnRun}
@@ -69,7 +69,7 @@ way_at r a f t = way_taken r f ∙ ap (λ b. way_in r b f.epoch) (takes_end a f 
 
 -- ---- S1: release
 
-released : (s : SetUp) (past : List Entry) (k : Look) (m : Made) (hold : ℕ) (key : List ℕ) → OwnRun s past → SessionMade s (state_of s past) k m (Release hold key) → MayRelease s.number past (entry_of s.number k m) hold key
+released : (s : SetUp) (past : List Entry) (k : Look) (m : Effect) (hold : ℕ) (key : List ℕ) → OwnRun s past → SessionMade s (state_of s past) k m (Release hold key) → MayRelease s.number past (entry_of s.number k m) hold key
 released s past k m hold key run x = go x.by.frame
   where
     go : TakesAt s (state_of s past) (server_end x.by.peer x.by.slot) x.by.asked x.by.says m ⊎ GivesAt s (state_of s past) (server_end x.by.peer x.by.slot) x.by.asked x.by.says m → MayRelease s.number past (entry_of s.number k m) hold key
@@ -363,11 +363,11 @@ down_at g u = rw (eqb_refl g.peer, eqb_refl g.slot, u) refl
 closing_says : (g : FrameView) (k : Message) → g.body ≡ Closing → message_in g.body ≡ Says k → ⊥
 closing_says g k i e = let no' : message_in Closing ≡ Says k = sym (ap message_in i) ∙ e in let no'' = sym said_closing ∙ no' in cc
 
-step_time : SentAreRead → (s : SetUp) (past : List Entry) (k : Look) (m : Made) (g : FrameView) (n : ℕ) → clock s.repos past s.number k.time / 1000 < 2 ^ 63 → StepFound s (state_of s past) k m → Member g m.sent → g.up ≡ false
+step_time : SentAreRead → (s : SetUp) (past : List Entry) (k : Look) (m : Effect) (g : FrameView) (n : ℕ) → clock s.repos past s.number k.time / 1000 < 2 ^ 63 → StepFound s (state_of s past) k m → Member g m.sent → g.up ≡ false
     → message_in g.body ≡ Says (Timestamp n) → n ≡ clock s.repos past s.number k.time / 1000
 step_time reads_back s past k m g n small (inl x) i u e = elim (x.writes) [
-  | inl w ↦ absurd (subst (λ (z : Made). Member g z.sent) w i)
-  | inr w ↦ absurd (subst (λ (z : Made). Member g z.sent) w i)
+  | inl w ↦ absurd (subst (λ (z : Effect). Member g z.sent) w i)
+  | inr w ↦ absurd (subst (λ (z : Effect). Member g z.sent) w i)
 ]
 step_time reads_back s past k m g n small (inr (inl x)) i u e = go x.frame
   where

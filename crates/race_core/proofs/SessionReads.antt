@@ -22,7 +22,7 @@ use Rattle.node_model.specs.SetUp.{SetUp, gives_locks, version_of}
 use Rattle.node_model.specs.Ends.{EndName}
 use Rattle.node_model.specs.Sessions.{Doing, Waits, Guards, Gives, Gave, Wants, Takes, Took, Session, reaches}
 use Rattle.run_model.specs.States.{state_of}
-use Rattle.node_model.specs.Look.{Look, failing}
+use Rattle.node_model.specs.Look.{Look, failing_call}
 use Rattle.node_model.specs.Calls.{to_commit, to_lock, to_offer, to_remove}
 use Rattle.node_model.specs.SessionStep.{Here, Reply, bar_on, by_of, bytes_left, check_answer, close_kind, content_of, gives_next, here, is_filled, is_held, is_here, lock_answer, now_of, on_bytes, on_frame, on_lock, on_message, on_piece, on_put, on_remove, on_remove_before, on_request, on_text, on_unlock, on_valid, put_answer, failure_line, remove_answer, reply, shuts, silent_reply, tries, unexpected_reply, valid_answer}
 use Rattle.run_model.specs.Run.{OwnPast}
@@ -107,7 +107,7 @@ module _ (reads_back : SentAreRead) (s : SetUp) (past : List Entry) (h : OwnPast
   spot = here s (state_of s past) k a
 
   tries_read : (cs : List Call) (says : List FrameText) (good : Reply) → SaysRead says → Read good → Read (tries spot cs says good)
-  tries_read cs says good f g = unless_found Read (failing k.fails cs) (λ call. record { kind = Fault call (by_of spot); says = says }) good (λ call. f) g
+  tries_read cs says good f g = unless_found Read (failing_call k.fails cs) (λ call. record { kind = Fault call (by_of spot); says = says }) good (λ call. f) g
 
   lock_ok : (key : List ℕ) → Read (on_lock spot key)
   lock_ok key = tries_read (to_lock (gives_locks s) (is_here spot key) (bar_on spot key)) failure_line

@@ -30,7 +30,7 @@ use Rattle.node_model.specs.AnyTime.{MayCome}
 use Rattle.node_model.specs.Ends.{End, EndName, end_after, frames}
 use Rattle.node_model.specs.Jobs
 use Rattle.node_model.specs.Jobs.{Work, job_end, partner, running_job}
-use Rattle.node_model.specs.Look.{Made}
+use Rattle.node_model.specs.Look.{Effect}
 use Rattle.node_model.specs.JobStep.{Turn, end_with, me}
 use Rattle.node_model.specs.Found.{IsJobEntry}
 use Rattle.run_model.specs.Run.{OwnPart, OwnRun, RunPast, RunStep, set_up}
@@ -106,7 +106,7 @@ line_closes : (a : EndName) (c : End) (text : List ℕ) (g : FrameView) → Memb
 line_closes a c text g (inl is) body = let no' : Line text ≡ Closing = sym (ap (λ (f : FrameView). f.body) is) ∙ body in cc
 line_closes a c text g (inr m) body = m
 
-close_talks : (t : Turn) (m : Made) (kind : EntryKind) → IsJobEntry t m kind → ((j : ℕ) (outcome : Outcome) → kind ≢ ends_job j outcome) → (g : FrameView) → Member g m.sent → g.body ≡ Closing → kind ≡ Talk (Some t.w.number)
+close_talks : (t : Turn) (m : Effect) (kind : EntryKind) → IsJobEntry t m kind → ((j : ℕ) (outcome : Outcome) → kind ≢ ends_job j outcome) → (g : FrameView) → Member g m.sent → g.body ≡ Closing → kind ≡ Talk (Some t.w.number)
 close_talks t m (Share hold end by key) x on g k body = absurd (subst (Member g) x.sends_none k)
 close_talks t m (Bar j need key) x on g k body = absurd (subst (Member g) x.sends_none k)
 close_talks t m (Gone by key) x on g k body = absurd (subst (Member g) x.sends_none k)
@@ -118,7 +118,7 @@ close_talks t m (Fault call by) x on g k body = absurd (subst (Member g) x.1 k)
 close_talks t m kind x on g k body = absurd x
 
 -- a talk that leaves its connection closed brings the job away
-talk_away : (t : Turn) (m : Made) (p j : ℕ) → partner t.w.what.peer t.w.phase ≡ Some p → (end_after (job_end t.w p) (t.ends (job_end t.w p)) (made_entry t m)).opened ≡ false → partner t.w.what.peer (moved t m (Talk (Some j))).phase ≡ None
+talk_away : (t : Turn) (m : Effect) (p j : ℕ) → partner t.w.what.peer t.w.phase ≡ Some p → (end_after (job_end t.w p) (t.ends (job_end t.w p)) (made_entry t m)).opened ≡ false → partner t.w.what.peer (moved t m (Talk (Some j))).phase ≡ None
 talk_away t m p j on shut = subst (λ (o : Option ℕ). partner t.w.what.peer (Jobs.talks_on (rows_of t) (me t) y (made_entry t m) o).phase ≡ None) (sym on)
     (subst (λ (b : Bool). partner t.w.what.peer (if b then Jobs.talks (rows_of t) (me t) y (made_entry t m) m.sent else Jobs.closed_part (me t) y p y.part).phase ≡ None) (sym closed) (closed_alone t.w.what.peer (me t) y p y.part))
   where

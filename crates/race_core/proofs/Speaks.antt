@@ -14,7 +14,7 @@ use Rattle.node_model.specs.Ends.{same_bool, End, EndName, end_sends, frames}
 use Rattle.run_model.specs.Frames.{takes}
 use Rattle.node_model.specs.SetUp.{SetUp}
 use Rattle.node_model.specs.Jobs.{job_end}
-use Rattle.node_model.specs.Look.{Made}
+use Rattle.node_model.specs.Look.{Effect}
 use Rattle.node_model.specs.JobStep.{Turn, end_with, farewell, others_of}
 use Rattle.node_model.specs.Found.{IsJobEntry, JobTakes, success_line}
 use Rattle.run_data.specs.declared.entry.FrameText.TheVariants.{Line}
@@ -44,7 +44,7 @@ farewells_at t lost (p ∷ peers) g m = go (λ n. farewells_at t lost peers g n)
 none_at : (slot : ℕ) (sent : List FrameView) (g : FrameView) → sent ≡ [] → Member g sent → AtSlot slot g
 none_at slot sent g is m = absurd (subst (Member g) is m)
 
-job_says : (t : Turn) (m : Made) (kind : EntryKind) → IsJobEntry t m kind → (g : FrameView) → Member g m.sent → AtSlot t.w.slot g
+job_says : (t : Turn) (m : Effect) (kind : EntryKind) → IsJobEntry t m kind → (g : FrameView) → Member g m.sent → AtSlot t.w.slot g
 job_says t m (Share hold end by key) x g n = none_at t.w.slot m.sent g x.sends_none n
 job_says t m (Bar j need key) x g n = none_at t.w.slot m.sent g x.sends_none n
 job_says t m (Gone by key) x g n = none_at t.w.slot m.sent g x.sends_none n

@@ -31,7 +31,7 @@ use Rattle.node_model.specs.SetUp.{SetUp}
 use Rattle.run_model.specs.States.{state_of, rows_at, works}
 use Rattle.node_model.specs.Jobs
 use Rattle.node_model.specs.Jobs.{AsksTime, Denied, Drops, Ends, Greets, Late, Next, Orders, Phase, Puts, PutsOffer, Work, partner, running_job, work_kind}
-use Rattle.node_model.specs.Look.{Made}
+use Rattle.node_model.specs.Look.{Effect}
 use Rattle.node_model.specs.JobStep.{Turn, end_with}
 use Rattle.race_core.proofs.Knowing.{knows_enough, next_of}
 use Rattle.node_model.specs.Found.{IsJobEntry}
@@ -84,7 +84,7 @@ versions_told reads_back s past run w m = invariant s (λ p x. VersionTold s p (
 
 -- ---- a step of the job itself
 
-talk_by : (t : Turn) (m : Made) (kind : EntryKind) → IsJobEntry t m kind → IsTalking kind → m.sent ≡ [] → ((j : ℕ) (outcome : Outcome) → kind ≢ ends_job j outcome) → IsTalkBy kind
+talk_by : (t : Turn) (m : Effect) (kind : EntryKind) → IsJobEntry t m kind → IsTalking kind → m.sent ≡ [] → ((j : ℕ) (outcome : Outcome) → kind ≢ ends_job j outcome) → IsTalkBy kind
 talk_by t m (Talk (Some j)) k talks silent goes_on = tt
 talk_by t m (Order j peer deadline need key) k talks silent goes_on = absurd (let both = sym k.sent_is ∙ silent in cc)
 talk_by t m (ends_job j outcome) k talks silent goes_on = absurd (goes_on j outcome refl)
@@ -154,7 +154,7 @@ module _ (reads_back : SentAreRead) (s : SetUp) (p : List Entry) (e : Entry) (h 
   pub old_at : (n peer : ℕ) → v.phase ≡ Greets peer → HearsOnly e (Version n) → IsTalking e.kind → Old t n peer
   old_at n peer at hr k =
       let made = took hr.f hr.takes_it peer (ap (partner v.what.peer) at) in
-      greets_old t hr.f peer peer n at hr.told (subst (λ (m : Made). IsTalkBy m.kind) made (talks k hr.sends_none)) (subst (λ (m : Made). Silent m) made (silent hr.sends_none))
+      greets_old t hr.f peer peer n at hr.told (subst (λ (m : Effect). IsTalkBy m.kind) made (talks k hr.sends_none)) (subst (λ (m : Effect). Silent m) made (silent hr.sends_none))
 
   old_now : (n peer : ℕ) → v.phase ≡ Greets peer → HearsOnly e (Version n) → IsTalking e.kind → DropStands r (e ∷ p) (running_job v) (refusals.OldProtocol n)
   old_now n peer at hr k =
@@ -195,7 +195,7 @@ module _ (reads_back : SentAreRead) (s : SetUp) (p : List Entry) (e : Entry) (h 
   busy_now peer text at hr =
       let on : partner v.what.peer v.phase ≡ Some peer = ap (partner v.what.peer) at in
       let part = only_offer v.part peer (subst (Fits v.part) at fits) in
-      let busy = busy_text t hr.f peer peer text at part hr.told (subst (λ (m : Made). Silent m) (took hr.f hr.takes_it peer on) (silent hr.sends_none)) in
+      let busy = busy_text t hr.f peer peer text at part hr.told (subst (λ (m : Effect). Silent m) (took hr.f hr.takes_it peer on) (silent hr.sends_none)) in
       let same : text ≡ codes "busy" = elim (bytes_eq_tells text (codes "busy")) [ inl y ↦ y.1 | inr y ↦ absurd (let both : true ≡ false = sym busy ∙ y.0 in cc) ] in
       let a = answers_now reads_back s p e b.by is before hr.f hr.takes_it (Error text) (λ m. m ≡ Put [] v.what.key) hr.told busy peer on
       (λ last l. let y = subst (λ (q : Phase). LastIs v.what.key v.what.peer q peer last) at l refl in (y.0, Put [] v.what.key, refl, y.1)) in

@@ -15,7 +15,7 @@ use Rattle.run_model.specs.Frames.{is_job}
 use Rattle.node_model.specs.SetUp.{SetUp}
 use Rattle.node_model.specs.Jobs.{AsksTime, Drops, Gets, Greets, Next, Part, Puts, RowsAndEnds, Work, work_kind}
 use Rattle.run_model.specs.States.{rows_at, works}
-use Rattle.node_model.specs.Look.{Made}
+use Rattle.node_model.specs.Look.{Effect}
 use Rattle.node_model.specs.JobStep.{Turn}
 use Rattle.node_model.specs.DropStep.{target}
 use Rattle.run_model.specs.Run.{OwnRun}
@@ -30,7 +30,7 @@ no_copies : (sent : List FrameView) → sent ≡ [] → list_any (Frames.says as
 no_copies sent is = subst (λ fs. list_any (Frames.says asks_copy) fs ≡ false) (sym is) refl
 
 -- what a step asks, of a job that is at its start and stays there
-abbrev AsksNone : Turn → Made → ℕ → EntryKind → Type 0
+abbrev AsksNone : Turn → Effect → ℕ → EntryKind → Type 0
 AsksNone t m place kind = (decided_after place t.w.number None kind ≡ None) × (asks_by kind m.sent ≡ false)
 
 pub fresh_no_order : (t : Turn) → is_fresh t.w.phase ≡ true → OrderStands t → ⊥
@@ -38,12 +38,12 @@ fresh_no_order t fresh (inl at) = let no_next : is_fresh Next ≡ true = subst (
 fresh_no_order t fresh (inr (inl at)) = let no_greets : is_fresh (Greets (target t)) ≡ true = subst (λ p. is_fresh p ≡ true) at fresh in cc
 fresh_no_order t fresh (inr (inr at)) = let no_asks : is_fresh AsksTime ≡ true = subst (λ p. is_fresh p ≡ true) at fresh in cc
 
-talk_none : (t : Turn) (m : Made) (part : Part) → t.w.part ≡ part → (t.w.part ≡ Drops → m.sent ≡ []) → OneAtMost m.sent → SentReads t.w.part m.sent → list_any (Frames.says asks_copy) m.sent ≡ false
+talk_none : (t : Turn) (m : Effect) (part : Part) → t.w.part ≡ part → (t.w.part ≡ Drops → m.sent ≡ []) → OneAtMost m.sent → SentReads t.w.part m.sent → list_any (Frames.says asks_copy) m.sent ≡ false
 talk_none t m Gets is none one reads = sent_copies t.w.part m.sent (λ e. let no_drop : Gets ≡ Drops = sym is ∙ e in cc) one reads
 talk_none t m Puts is none one reads = sent_copies t.w.part m.sent (λ e. let no_drop : Puts ≡ Drops = sym is ∙ e in cc) one reads
 talk_none t m Drops is none one reads = no_copies m.sent (none is)
 
-start_kind : (t : Turn) (m : Made) (rows : RowsAndEnds) (r : ℕ) (e : Entry) (place : ℕ) (kind : EntryKind) → IsJobEntry t m kind → TalkKind t m kind → Fits t.w.part t.w.phase → SentReads t.w.part m.sent
+start_kind : (t : Turn) (m : Effect) (rows : RowsAndEnds) (r : ℕ) (e : Entry) (place : ℕ) (kind : EntryKind) → IsJobEntry t m kind → TalkKind t m kind → Fits t.w.part t.w.phase → SentReads t.w.part m.sent
     → AtStart t.w.part t.w.phase → AtStart (work_kind rows r t.w e kind).part (work_kind rows r t.w e kind).phase → ((j : ℕ) (outcome : Outcome) → kind ≢ ends_job j outcome) → AsksNone t m place kind
 start_kind t m rows r e place (Share hold end by key) x y fits reads old new goes_on = absurd (let no_next : is_fresh Next ≡ true = new x.part_is in cc)
 start_kind t m rows r e place (Bar j need key) x y fits reads old new goes_on = absurd (let no_next : is_fresh Next ≡ true = new x.part_is in cc)

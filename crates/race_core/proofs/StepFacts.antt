@@ -10,9 +10,9 @@ use Rattle.run_data.specs.declared.entry.By.TheVariants.{Script, Job as by_job, 
 use Rattle.run_data.specs.declared.entry.LogFile.TheVariants.{Location}
 use Rattle.node_model.specs.SetUp.{SetUp}
 use Rattle.node_model.specs.Ends.{server_end}
-use Rattle.node_model.specs.Owed.{Owed, due}
+use Rattle.node_model.specs.OwedLines.{OwedLine, due}
 use Rattle.node_model.specs.State.{State}
-use Rattle.node_model.specs.Look.{Look, Made, failing, unless}
+use Rattle.node_model.specs.Look.{Look, Effect, failing_call, unless}
 use Rattle.node_model.specs.OwedStep.{owed_step, pays_first}
 use Rattle.node_model.specs.SessionStep.{here, session_step}
 use Rattle.node_model.specs.JobStep.{turn_of}
@@ -26,17 +26,17 @@ use Rattle.node_model.specs.Look
 
 -- ---- the law
 
-pub pays_found : (s : SetUp) (st : State) (k : Look) (m : Made) (os : List Owed) → st.owed ≡ os → pays_first s st k os ≡ Some m → ByOwed s st k m
+pub pays_found : (s : SetUp) (st : State) (k : Look) (m : Effect) (os : List OwedLine) → st.owed ≡ os → pays_first s st k os ≡ Some m → ByOwed s st k m
 pays_found s st k m [] is e = absurd (cc)
-pays_found s st k m (o ∷ os) is e = go (failing k.fails (PutFile ∷ [])) (fails k.fails) e
+pays_found s st k m (o ∷ os) is e = go (failing_call k.fails (PutFile ∷ [])) (fails k.fails) e
   where
-    lost : Call → Made
+    lost : Call → Effect
     lost call = record { kind = Fault call o.by; taken = None; sent = []; lines = [] }
 
-    written : Made
+    written : Effect
     written = record { kind = Log (Location o.key); taken = None; sent = []; lines = due s.repos st.lines (st.wall k.time) o }
 
-    fails : (c : Option Call) → (failing c (PutFile ∷ []) ≡ None) ⊎ (failing c (PutFile ∷ []) ≡ Some PutFile)
+    fails : (c : Option Call) → (failing_call c (PutFile ∷ []) ≡ None) ⊎ (failing_call c (PutFile ∷ []) ≡ Some PutFile)
     fails None = inl refl
     fails (Some PutFile) = inr refl
     fails (Some _) = inl refl
@@ -49,7 +49,7 @@ pays_found s st k m (o ∷ os) is e = go (failing k.fails (PutFile ∷ [])) (fai
         let it : call ≡ PutFile = cc in
         record { first = o; rest = os; owes_it = is; writes = inr (sym same ∙ ap lost it) }
 
-pub step_found : (s : SetUp) (st : State) (k : Look) (m : Made) → step s st k ≡ Some m → StepFound s st k m
+pub step_found : (s : SetUp) (st : State) (k : Look) (m : Effect) → step s st k ≡ Some m → StepFound s st k m
 step_found s st k m e = elim (first_was (owed_step s st k) (Look.first_of (session_step s st k) (job_step s st k)) m e) [
   | inl o ↦ inl (pays_found s st k m st.owed refl o)
   | inr r ↦ inr (others r)
@@ -62,9 +62,9 @@ step_found s st k m e = elim (first_was (owed_step s st k) (Look.first_of (sessi
     ]
 
 -- what it takes is at hand
-pub taken_at_hand : (s : SetUp) (st : State) (k : Look) (m : Made) → step s st k ≡ Some m → TakesAtHand k m
+pub taken_at_hand : (s : SetUp) (st : State) (k : Look) (m : Effect) → step s st k ≡ Some m → TakesAtHand k m
 taken_at_hand s st k m e = elim (first_was (owed_step s st k) (Look.first_of (session_step s st k) (job_step s st k)) m e) [
-  | inl o ↦ takes_none k m (elim ((pays_found s st k m st.owed refl o).writes) [ inl w ↦ ap (λ (z : Made). z.taken) w | inr w ↦ ap (λ (z : Made). z.taken) w ])
+  | inl o ↦ takes_none k m (elim ((pays_found s st k m st.owed refl o).writes) [ inl w ↦ ap (λ (z : Effect). z.taken) w | inr w ↦ ap (λ (z : Effect). z.taken) w ])
   | inr r ↦ elim (first_was (session_step s st k) (job_step s st k) m r) [ inl x ↦ session_at_hand s st k m x | inr x ↦ job_at_hand s st k m x ]
 ]
 
@@ -76,24 +76,24 @@ IsOwedKind (Log file) = Unit {0}
 IsOwedKind (Fault call by) = Unit {0}
 IsOwedKind kind = ⊥
 
-owed_kind : (s : SetUp) (st : State) (k : Look) (m : Made) (kind : EntryKind) → ByOwed s st k m → m.kind ≡ kind → IsOwedKind kind
+owed_kind : (s : SetUp) (st : State) (k : Look) (m : Effect) (kind : EntryKind) → ByOwed s st k m → m.kind ≡ kind → IsOwedKind kind
 owed_kind s st k m kind x is = elim (x.writes) [
   | inl w ↦ subst IsOwedKind (sym (ap (λ y. y.kind) w) ∙ is) tt
   | inr w ↦ subst IsOwedKind (sym (ap (λ y. y.kind) w) ∙ is) tt
 ]
 
 -- a session made it, and found this
-pub record SessionMade (s : SetUp) (st : State) (k : Look) (m : Made) (kind : EntryKind) : Type 0 where
+pub record SessionMade (s : SetUp) (st : State) (k : Look) (m : Effect) (kind : EntryKind) : Type 0 where
   pub by : BySession s st k m
   pub found : IsSessionEntry (here s st k (server_end by.peer by.slot)) (st.sessions (server_end by.peer by.slot)).doing by.asked by.says kind
 
 -- a job made it, and found this
-pub record JobMade (s : SetUp) (st : State) (k : Look) (m : Made) (kind : EntryKind) : Type 0 where
+pub record JobMade (s : SetUp) (st : State) (k : Look) (m : Effect) (kind : EntryKind) : Type 0 where
   pub by : ByJob s st k m
   pub found : IsJobEntry (turn_of s st k by.w) m kind
 
 -- an entry of a kind that writes no owed line is a session's or a job's
-pub kind_found : (s : SetUp) (st : State) (k : Look) (m : Made) (kind : EntryKind) → step s st k ≡ Some m → m.kind ≡ kind → (IsOwedKind kind → ⊥)
+pub kind_found : (s : SetUp) (st : State) (k : Look) (m : Effect) (kind : EntryKind) → step s st k ≡ Some m → m.kind ≡ kind → (IsOwedKind kind → ⊥)
     → SessionMade s st k m kind ⊎ JobMade s st k m kind
 kind_found s st k m kind e is not = elim (step_found s st k m e) [
   | inl o ↦ absurd (not (owed_kind s st k m kind o is))
@@ -104,7 +104,7 @@ kind_found s st k m kind e is not = elim (step_found s st k m e) [
     made (inl x) = inl (record { by = x; found = subst (IsSessionEntry (here s st k (server_end x.peer x.slot)) (st.sessions (server_end x.peer x.slot)).doing x.asked x.says) is x.found })
     made (inr x) = inr (record { by = x; found = subst (IsJobEntry (turn_of s st k x.w) m) is x.found })
 
-module _ (s : SetUp) (st : State) (k : Look) (m : Made) (e : step s st k ≡ Some m) where
+module _ (s : SetUp) (st : State) (k : Look) (m : Effect) (e : step s st k ≡ Some m) where
   -- a share for a peer: LOCKCONTENT found the content free
   pub share_found : (hold end p c : ℕ) (key : List ℕ) → m.kind ≡ Share hold end (Peer p c) key → SessionMade s st k m (Share hold end (Peer p c) key)
   share_found hold end p c key is = elim (kind_found s st k m (Share hold end (Peer p c) key) e is (λ x. x)) [

@@ -30,10 +30,10 @@ use Rattle.node_model.specs.Sessions.{reaches}
 use Rattle.node_model.specs.Jobs
 use Rattle.node_model.specs.Jobs.{Part, Gets, Puts, Drops, Phase, Fresh, Next, Opens, Greets, GetsData, GetsBytes, GetsWord, PutsOffer, PutsBytes, PutsWord, PutsAnswer, AsksLock, AsksLook, AsksTime, Removed, Denied, Late, Ends, is_move, Work, job_end, partner, side_of}
 use Rattle.node_model.specs.Calls.{to_commit, to_hold, to_release, to_resume}
-use Rattle.node_model.specs.Look.{Look, Made, failing, waiting}
+use Rattle.node_model.specs.Look.{Look, Effect, failing_call, waiting_frame}
 use Rattle.node_model.specs.SessionStep.{bytes_left}
 use Rattle.node_model.specs.Knows.{enough_by, next_by}
-use Rattle.node_model.specs.JobStep.{Turn, hears, turn_of, attempts, bar_there, by_me, clock_of, end_with, ends, farewells, is_there, key_of, me, owns_share, quietly, says_to, sends_to, talk, wrong}
+use Rattle.node_model.specs.JobStep.{Turn, hears, turn_of, attempts, bar_there, by_me, clock_of, end_with, ends, farewells, is_there, key_of, me, owns_share, quietly, says_to, sends_to, talk, wrong_message}
 use Rattle.node_model.specs.DropStep.{takes_drop, takes_time, asks_copy, asks_lock, asks_target, bars, expiry, first_drop, first_end, first_remote, held_until, in_time, lacking_outcome, orders, own_share, removes, required_there, row_refusal, shares, target, times, tries_own}
 use Rattle.node_model.specs.Requests.{asks, goes_to}
 use Rattle.node_model.specs.TransferStep.{takes_get, takes_put, content_of, first_get, first_put, gains, next_get, next_source, puts_from, puts_piece, takes_bytes}
@@ -97,19 +97,19 @@ PartSays t peer part (Line text) = (m : Message) × (text ≡ text_of m) × Part
 PartSays t peer part body = Unit {0}
 
 -- a drop's first step, where it talks
-pub record QuietStart (t : Turn) (m : Made) : Type 0 where
+pub record QuietStart (t : Turn) (m : Effect) : Type 0 where
   pub side : side_of t.w ≡ Remote
   pub takes_none : m.taken ≡ None
   pub sends_none : m.sent ≡ []
 
 -- one frame to one peer
-pub record SaysOne (t : Turn) (m : Made) : Type 0 where
+pub record SaysOne (t : Turn) (m : Effect) : Type 0 where
   pub peer : ℕ
   pub body : FrameText
   pub sent_is : m.sent ≡ frames (job_end t.w peer) (end_with t peer) (body ∷ [])
   pub says : PartSays t peer t.w.part body
 
-pub record TalkSays (t : Turn) (m : Made) : Type 0 where
+pub record TalkSays (t : Turn) (m : Effect) : Type 0 where
   pub first : t.w.part ≡ Drops → t.w.phase ≡ Fresh → QuietStart t m
   pub under : t.w.part ≡ Drops → (t.w.phase ≡ Fresh) ⊎ (under_way t.w.phase ≡ true)
   pub says : (m.sent ≡ []) ⊎ SaysOne t m
@@ -118,12 +118,12 @@ pub record TalkSays (t : Turn) (m : Made) : Type 0 where
 abbrev pub OrderStands : Turn → Type 0
 OrderStands t = ((t.w.phase ≡ Next) × Chosen t (target t)) ⊎ ((t.w.phase ≡ Greets (target t)) ⊎ (t.w.phase ≡ AsksTime))
 
-abbrev pub TalkKind : Turn → Made → EntryKind → Type 0
+abbrev pub TalkKind : Turn → Effect → EntryKind → Type 0
 TalkKind t m (Talk j) = TalkSays t m
 TalkKind t m (Order j peer deadline need key) = OrderStands t
 TalkKind t m kind = Unit {0}
 
-abbrev pub Talks : Turn → Made → Type 0
+abbrev pub Talks : Turn → Effect → Type 0
 Talks t m = TalkKind t m m.kind
 
 -- a drop is under way
@@ -138,8 +138,8 @@ at_under t phase is under = subst (λ p. under_way p ≡ true) (sym is) under
 
 -- ---- what all jobs share
 
-attempts_talks : (t : Turn) (cs : List Call) (taken : Option FrameView) (m : Made) → Talks t m → Talks t (attempts t cs taken m)
-attempts_talks t cs taken m g = unless_found (Talks t) (failing t.look.fails cs) (λ call. quietly (Fault call (by_me t)) taken) m (λ call. tt) g
+attempts_talks : (t : Turn) (cs : List Call) (taken : Option FrameView) (m : Effect) → Talks t m → Talks t (attempts t cs taken m)
+attempts_talks t cs taken m g = unless_found (Talks t) (failing_call t.look.fails cs) (λ call. quietly (Fault call (by_me t)) taken) m (λ call. tt) g
 
 quiet_talks : (t : Turn) (taken : Option FrameView) → Begun t → Talks t (quietly (talk t) taken)
 quiet_talks t taken begun = record { first = λ part fresh. absurd (not_fresh t begun part fresh); under = λ part. inr (begun part); says = inl refl }
@@ -150,12 +150,12 @@ sends_talks t taken peer body begun says = record { first = λ part fresh. absur
 says_talks : (t : Turn) (taken : Option FrameView) (peer : ℕ) (m : Message) → Begun t → PartAsks t peer t.w.part m → Talks t (says_to t (talk t) taken peer m)
 says_talks t taken peer m begun asks = sends_talks t taken peer (Line (text_of m)) begun (m, refl, asks)
 
-wrong_talks : (t : Turn) (f : FrameView) (peer : ℕ) → Begun t → Talks t (wrong t f peer)
+wrong_talks : (t : Turn) (f : FrameView) (peer : ℕ) → Begun t → Talks t (wrong_message t f peer)
 wrong_talks t f peer begun = sends_talks t (Some f) peer Closing begun tt
 
 ends_talks : (t : Turn) (taken : Option FrameView) (outcome : Outcome) → Talks t (ends t taken outcome)
 ends_talks t taken outcome =
-    let good : Made = record { kind = ends_job t.w.number outcome; taken = taken; sent = farewells t (is_lost_ordered outcome); lines = [] } in
+    let good : Effect = record { kind = ends_job t.w.number outcome; taken = taken; sent = farewells t (is_lost_ordered outcome); lines = [] } in
     attempts_talks t (to_release (owns_share t && not (is_lost_ordered outcome))) taken good tt
 
 -- ---- the first steps of a drop
@@ -173,7 +173,7 @@ start_talks t fresh side = record { first = λ part fresh. record { side = side;
 shares_talks : (t : Turn) → t.w.phase ≡ Fresh → side_of t.w ≡ Remote → Talks t (shares t)
 shares_talks t fresh side = attempts_talks t (to_hold (is_there t) (bar_there t)) None (made_of (is_there t) (bar_there t)) (go (is_there t) (bar_there t))
   where
-    made_of : Bool → Option ℕ → Made
+    made_of : Bool → Option ℕ → Effect
     made_of here bar = quietly (own_share (t.number) (clock_of t + hold_time) t.w.number (key_of t) (talk t) (by_me t) here bar) None
 
     go : (here : Bool) (bar : Option ℕ) → Talks t (made_of here bar)
@@ -316,9 +316,9 @@ piece_talks t peer at n begun =
 from_talks : (t : Turn) (f : FrameView) (peer n : ℕ) → t.w.part ≡ Puts → Talks t (puts_from t f peer n)
 from_talks t f peer n part =
     let m = Data (bytes_left (content_of t) n) in
-    let good = if reaches (content_of t) n then says_to t (talk t) (Some f) peer m else wrong t f peer in
+    let good = if reaches (content_of t) n then says_to t (talk t) (Some f) peer m else wrong_message t f peer in
     attempts_talks t (calls.Size ∷ []) (Some f) good
-    (if_either (Talks t) (reaches (content_of t) n) (says_to t (talk t) (Some f) peer m) (wrong t f peer)
+    (if_either (Talks t) (reaches (content_of t) n) (says_to t (talk t) (Some f) peer m) (wrong_message t f peer)
     (λ e. says_talks t (Some f) peer m (no_part t Puts part (λ e. cc)) (subst (λ p. PartAsks t peer p m) (sym part) tt)) (λ e. wrong_talks t f peer (no_part t Puts part (λ e. cc))))
 
 gains_talks : (t : Turn) (f : FrameView) (peer size : ℕ) → t.w.part ≡ Gets → (right : Bool) → Talks t (gains t f peer size right)
@@ -403,7 +403,7 @@ times_talks t f n phase (Some end) =
 time_talks : (t : Turn) (f : FrameView) (peer n : ℕ) → Begun t → t.w.phase ≡ AsksTime → (side : Side) → Talks t (takes_time t f peer n side)
 time_talks t f peer n begun phase Local = wrong_talks t f peer begun
 time_talks t f peer n begun phase Remote =
-    if_either (Talks t) (nat_lt n (2 ^ 61)) (times t f n (first_end t)) (wrong t f peer)
+    if_either (Talks t) (nat_lt n (2 ^ 61)) (times t f n (first_end t)) (wrong_message t f peer)
     (λ e. times_talks t f n phase (first_end t)) (λ e. wrong_talks t f peer begun)
 
 hears_talks : (t : Turn) (f : FrameView) → Begun t → Talks t (hears t f)
@@ -411,7 +411,7 @@ hears_talks t f begun = quiet_talks t (Some f) begun
 
 bytes_talks : (t : Turn) (f : FrameView) (peer n : ℕ) → Begun t → (phase : Phase) → Talks t (takes_bytes t f peer n phase)
 bytes_talks t f peer n begun (GetsBytes p start size left) =
-    if_either (Talks t) (nat_lt 0 n && nat_le n left) (attempts t (calls.Append ∷ []) (Some f) (quietly (talk t) (Some f))) (wrong t f peer)
+    if_either (Talks t) (nat_lt 0 n && nat_le n left) (attempts t (calls.Append ∷ []) (Some f) (quietly (talk t) (Some f))) (wrong_message t f peer)
     (λ e. attempts_talks t (calls.Append ∷ []) (Some f) (quietly (talk t) (Some f)) (quiet_talks t (Some f) begun)) (λ e. wrong_talks t f peer begun)
 bytes_talks t f peer n begun phase = wrong_talks t f peer begun
 
@@ -438,7 +438,7 @@ put_talks : (t : Turn) (f : FrameView) (peer : ℕ) → t.w.part ≡ Puts → (p
 put_talks t f peer part (PutsOffer p) AlreadyHave = hears_talks t f (no_part t Puts part (λ e. cc))
 put_talks t f peer part (PutsOffer p) Failure = hears_talks t f (no_part t Puts part (λ e. cc))
 put_talks t f peer part (PutsOffer p) (Error text) =
-    if_either (Talks t) (bytes_eq text (codes "busy")) (hears t f) (wrong t f peer) (λ e. hears_talks t f (no_part t Puts part (λ e. cc))) (λ e. wrong_talks t f peer (no_part t Puts part (λ e. cc)))
+    if_either (Talks t) (bytes_eq text (codes "busy")) (hears t f) (wrong_message t f peer) (λ e. hears_talks t f (no_part t Puts part (λ e. cc))) (λ e. wrong_talks t f peer (no_part t Puts part (λ e. cc)))
 put_talks t f peer part (PutsOffer p) (PutFrom n) = from_talks t f peer n part
 put_talks t f peer part (PutsAnswer p start) Success = hears_talks t f (no_part t Puts part (λ e. cc))
 put_talks t f peer part (PutsAnswer p start) Failure = hears_talks t f (no_part t Puts part (λ e. cc))
@@ -463,7 +463,7 @@ takes_talks t f peer on (Opens p) (AuthSuccess id) is =
 takes_talks t f peer on (Greets p) (Version n) is =
     let same : Some p ≡ Some peer = subst (λ x. partner t.w.what.peer x ≡ Some peer) is on in
     let at : t.w.phase ≡ Greets peer = cc in
-    if_either (Talks t) (nat_le n 3) (asks t n (Some f) peer t.w.part) (wrong t f peer) (λ e. asks_talks t n (Some f) peer t.w.part refl (λ drops. inr at)) (λ e. wrong_talks t f peer (on_begun t peer on))
+    if_either (Talks t) (nat_le n 3) (asks t n (Some f) peer t.w.part) (wrong_message t f peer) (λ e. asks_talks t n (Some f) peer t.w.part refl (λ drops. inr at)) (λ e. wrong_talks t f peer (on_begun t peer on))
 takes_talks t f peer on phase m is = answer_talks t f peer on phase m is t.w.part refl
 
 text_talks : (t : Turn) (f : FrameView) (peer : ℕ) → partner t.w.what.peer t.w.phase ≡ Some peer → (m : Option Message) → Talks t (takes_text t f peer m)
@@ -478,14 +478,14 @@ frame_talks t peer f on (Line text) = text_talks t f peer on (message_of text)
 
 -- ---- the step
 
-on_talks : (t : Turn) (m : Made) → Fits t.w.part t.w.phase → goes_on t ≡ Some m → Talks t m
+on_talks : (t : Turn) (m : Effect) → Fits t.w.part t.w.phase → goes_on t ≡ Some m → Talks t m
 on_talks t m fits e = go (list_all (has_room t) (needs t t.w.phase)) e
   where
     go : (b : Bool) → (if b then Some (goes t t.w.phase) else None) ≡ Some m → Talks t m
     go true g = let same : goes t t.w.phase ≡ m = cc in subst (Talks t) same (goes_talks t t.w.phase refl fits)
     go false g = absurd (cc)
 
-awaits_talks : (t : Turn) (peer : ℕ) (m : Made) → partner t.w.what.peer t.w.phase ≡ Some peer → (f : Option FrameView) → awaits t peer f ≡ Some m → Talks t m
+awaits_talks : (t : Turn) (peer : ℕ) (m : Effect) → partner t.w.what.peer t.w.phase ≡ Some peer → (f : Option FrameView) → awaits t peer f ≡ Some m → Talks t m
 awaits_talks t peer m on None e = absurd (cc)
 awaits_talks t peer m on (Some f) e = go (has_room t peer) e
   where
@@ -493,20 +493,20 @@ awaits_talks t peer m on (Some f) e = go (has_room t peer) e
     go false g = absurd (cc)
     go true g = let same : takes_frame t peer f f.body ≡ m = cc in subst (Talks t) same (frame_talks t peer f on f.body)
 
-with_talks : (t : Turn) (peer : ℕ) (m : Made) → Fits t.w.part t.w.phase → partner t.w.what.peer t.w.phase ≡ Some peer → (b : Bool) → with_partner t peer b ≡ Some m → Talks t m
+with_talks : (t : Turn) (peer : ℕ) (m : Effect) → Fits t.w.part t.w.phase → partner t.w.what.peer t.w.phase ≡ Some peer → (b : Bool) → with_partner t peer b ≡ Some m → Talks t m
 with_talks t peer m fits on false e =
     let same : quietly (talk t) None ≡ m = cc in
     subst (Talks t) same (quiet_talks t None (on_begun t peer on))
 with_talks t peer m fits on true e = go (is_awaiting t.w.phase) e
   where
-    go : (b : Bool) → (if b then awaits t peer (waiting (end_with t peer) t.look (job_end t.w peer)) else goes_on t) ≡ Some m → Talks t m
-    go true g = awaits_talks t peer m on (waiting (end_with t peer) t.look (job_end t.w peer)) g
+    go : (b : Bool) → (if b then awaits t peer (waiting_frame (end_with t peer) t.look (job_end t.w peer)) else goes_on t) ≡ Some m → Talks t m
+    go true g = awaits_talks t peer m on (waiting_frame (end_with t peer) t.look (job_end t.w peer)) g
     go false g = on_talks t m fits g
 
-partner_talks : (t : Turn) (m : Made) → Fits t.w.part t.w.phase → (p : Option ℕ) → partner t.w.what.peer t.w.phase ≡ p → by_partner t p ≡ Some m → Talks t m
+partner_talks : (t : Turn) (m : Effect) → Fits t.w.part t.w.phase → (p : Option ℕ) → partner t.w.what.peer t.w.phase ≡ p → by_partner t p ≡ Some m → Talks t m
 partner_talks t m fits None on e = on_talks t m fits e
 partner_talks t m fits (Some peer) on e = with_talks t peer m fits on (end_with t peer).opened e
 
 -- a step of a job in slot order
-pub slot_talks : (s : SetUp) (st : State) (k : Look) (m : Made) (w : Work) → Fits w.part w.phase → slot_step s st k (Some w) ≡ Some m → Talks (turn_of s st k w) m
+pub slot_talks : (s : SetUp) (st : State) (k : Look) (m : Effect) (w : Work) → Fits w.part w.phase → slot_step s st k (Some w) ≡ Some m → Talks (turn_of s st k w) m
 slot_talks s st k m w fits e = partner_talks (turn_of s st k w) m fits (partner w.what.peer w.phase) refl e

@@ -20,7 +20,7 @@ use Rattle.node_model.specs.Sessions.{line_in}
 use Rattle.node_model.specs.Ends.{End, EndName, frames}
 use Rattle.node_model.specs.Jobs
 use Rattle.node_model.specs.Jobs.{AsksLock, Drops, Gets, Greets, Next, Opens, Part, Phase, Puts, Work, job_end, side_of, target_of}
-use Rattle.node_model.specs.Look.{Made}
+use Rattle.node_model.specs.Look.{Effect}
 use Rattle.node_model.specs.JobStep.{Turn, end_with}
 use Rattle.node_model.specs.DropStep.{target}
 use Rattle.node_model.specs.Found.{IsJobEntry}
@@ -101,7 +101,7 @@ order_time None key h = h
 order_time (Some n) key h = h
 
 -- GETTIMESTAMP goes to the target, which is another repository
-to_target : (t : Turn) (m : Made) (e : Entry) (kind : EntryKind) → IsJobEntry t m kind → TalkKind t m kind → e.sent ≡ m.sent → ((j : ℕ) (outcome : Outcome) → kind ≢ ends_job j outcome) → (x : SaysFirst e GetTimestamp) → x.f.peer ≡ target t
+to_target : (t : Turn) (m : Effect) (e : Entry) (kind : EntryKind) → IsJobEntry t m kind → TalkKind t m kind → e.sent ≡ m.sent → ((j : ℕ) (outcome : Outcome) → kind ≢ ends_job j outcome) → (x : SaysFirst e GetTimestamp) → x.f.peer ≡ target t
 to_target t m e (Share hold end by key) k talk sent goes_on x = absurd (first_none e GetTimestamp m.sent x sent k.sends_none)
 to_target t m e (Bar j need key) k talk sent goes_on x = absurd (first_none e GetTimestamp m.sent x sent k.sends_none)
 to_target t m e (Gone by key) k talk sent goes_on x = absurd (first_none e GetTimestamp m.sent x sent k.sends_none)

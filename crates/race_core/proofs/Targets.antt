@@ -3,7 +3,7 @@ use Rattle.race_core.proofs.WorkFits.{drop_is, drop_jobs, head_of}
 use Rattle.race_core.proofs.PhaseFacts.{only_word, readies_place}
 use Rattle.race_core.proofs.ReadAs.{SameHead}
 use Rattle.node_model.specs.Found.{IsJobEntry}
-use Rattle.node_model.specs.Look.{Made}
+use Rattle.node_model.specs.Look.{Effect}
 use Rattle.node_model.specs.Ends.{end_after}
 use Rattle.run_data.specs.declared.job.Outcome.{Outcome}
 use Rattle.run_data.specs.declared.entry.EntryKind.TheVariants.{Gain, Share, Bar, Gone, Order, Talk, Fault, End as ends_job}
@@ -212,7 +212,7 @@ module _ (t : Turn) (side : side_of t.w ≡ Remote) (apart : target t ≢ me t) 
       go x h = absurd h
 
   -- what it sends, nothing or one frame
-  sent_comes : (rows : RowsAndEnds) (r : ℕ) (e : Entry) (m : Made) (sent : List FrameView) → t.w.part ≡ Drops → w.part ≡ Drops → Fits Drops w.phase → (sent ≡ []) ⊎ SaysOne t m → sent ≡ m.sent
+  sent_comes : (rows : RowsAndEnds) (r : ℕ) (e : Entry) (m : Effect) (sent : List FrameView) → t.w.part ≡ Drops → w.part ≡ Drops → Fits Drops w.phase → (sent ≡ []) ⊎ SaysOne t m → sent ≡ m.sent
       → Comes (target t) (Knew t) w (talks rows r w e sent)
   sent_comes rows r e m sent part mine f (inl none) is =
       subst (λ fs. Comes (target t) (Knew t) w (talks rows r w e fs)) (sym none) (hears_comes (target t) (Knew t) rows r w e.taken mine f)
@@ -233,7 +233,7 @@ readies_heard w taken = learns_heard (claims w w.part w.phase) w.phase taken ∙
 readied_comes : (n : ℕ) (P : Type 0) (w x y : Work) → x.phase ≡ w.phase → x.heard ≡ w.heard → Comes n P x y → Comes n P w y
 readied_comes n P w x y phase heard c at = let z = c at in (z.0 ∙ heard, subst (λ p. (at_target n p ≡ true) ⊎ P) phase z.1)
 
-pub kind_comes : (t : Turn) (m : Made) (rows : RowsAndEnds) (r : ℕ) (e : Entry) (kind : EntryKind) → IsJobEntry t m kind → TalkKind t m kind → Fits t.w.part t.w.phase → t.w.part ≡ Drops → side_of t.w ≡ Remote
+pub kind_comes : (t : Turn) (m : Effect) (rows : RowsAndEnds) (r : ℕ) (e : Entry) (kind : EntryKind) → IsJobEntry t m kind → TalkKind t m kind → Fits t.w.part t.w.phase → t.w.part ≡ Drops → side_of t.w ≡ Remote
     → target t ≢ me t → e.sent ≡ m.sent → ((j : ℕ) (outcome : Outcome) → kind ≢ ends_job j outcome) → Comes (target t) (Knew t) t.w (work_kind rows r t.w e kind)
 kind_comes t m rows r e (Share hold end by key) x y fits part side apart sent goes_on = away (target t) (Knew t) t.w (work_kind rows r t.w e (Share hold end by key)) refl
 kind_comes t m rows r e (Bar j need key) x y fits part side apart sent goes_on = away (target t) (Knew t) t.w (work_kind rows r t.w e (Bar j need key)) refl

@@ -21,9 +21,9 @@ use Rattle.node_model.specs.Sessions.{line_in, reaches}
 use Rattle.node_model.specs.Jobs
 use Rattle.node_model.specs.Jobs.{Drops, Fresh, Gets, GetsData, GetsWord, Greets, Next, Opens, Part, Phase, Puts, PutsAnswer, PutsBytes, PutsOffer, PutsWord, Work, is_move, job_end, partner}
 use Rattle.node_model.specs.Ends.{frames}
-use Rattle.node_model.specs.Look.{Made, waiting}
+use Rattle.node_model.specs.Look.{Effect, waiting_frame}
 use Rattle.node_model.specs.Calls.{to_release, to_resume}
-use Rattle.node_model.specs.JobStep.{Turn, attempts, by_me, end_with, ends, farewells, hears, is_there, key_of, owns_share, quietly, says_to, sends_to, talk, wrong}
+use Rattle.node_model.specs.JobStep.{Turn, attempts, by_me, end_with, ends, farewells, hears, is_there, key_of, owns_share, quietly, says_to, sends_to, talk, wrong_message}
 use Rattle.node_model.specs.Requests.{asks, goes_to}
 use Rattle.node_model.specs.TransferStep.{content_of, first_get, first_put, next_get, next_source, takes_get, takes_put}
 use Rattle.node_model.specs.Turns.{awaits, by_partner, first_step, goes, goes_on, has_room, is_awaiting, needs, next_step, outcome_of, takes, takes_answer, takes_frame, takes_text, with_partner}
@@ -54,17 +54,17 @@ module _ (t : Turn) where
   QuietBy = ((peer : ℕ) × (partner t.w.what.peer t.w.phase ≡ Some peer) × ((end_with t peer).opened ≡ false))
       ⊎ ((t.w.part ≡ Gets) × (t.w.phase ≡ Fresh) × ((is_there t ≡ true) ⊎ (next_source t ≡ None)))
 
-  abbrev pub Quiet : Made → Type 0
+  abbrev pub Quiet : Effect → Type 0
   Quiet m = (j : ℕ) → m.kind ≡ Talk (Some j) → m.taken ≡ None → m.sent ≡ [] → QuietBy
 
   -- it ends, or its share can't be released
-  abbrev pub Ending : Made → Type 0
+  abbrev pub Ending : Effect → Type 0
   Ending m = ((j : ℕ) × (outcome : Outcome) × (m.kind ≡ ends_job j outcome)) ⊎ ((by : By) × (m.kind ≡ Fault calls.Unhold by))
 
   fault_quiet : (taken : Option FrameView) (call : Call) → Quiet (quietly (Fault call (by_me t)) taken)
   fault_quiet taken call j kind none sent = absurd (let no_talk : Fault call (by_me t) ≡ Talk (Some j) = kind in cc)
 
-  attempts_quiet : (cs : List Call) (taken : Option FrameView) (m : Made) → Quiet m → Quiet (attempts t cs taken m)
+  attempts_quiet : (cs : List Call) (taken : Option FrameView) (m : Effect) → Quiet m → Quiet (attempts t cs taken m)
   attempts_quiet cs taken m good = attempts_even Quiet t cs taken m (λ call e. fault_quiet taken call) good
 
   sends_quiet : (taken : Option FrameView) (peer : ℕ) (body : FrameText) → Quiet (sends_to t (talk t) taken peer (body ∷ []))
@@ -122,7 +122,7 @@ module _ (t : Turn) where
     phase_quiet (PutsWord peer start) is = sends_quiet None peer (Line (text_of Valid))
     phase_quiet phase is = ends_quiet None (outcome_of t phase)
 
-    on_quiet : (m : Made) → goes_on t ≡ Some m → Quiet m
+    on_quiet : (m : Effect) → goes_on t ≡ Some m → Quiet m
     on_quiet m e = go (list_all (has_room t) (needs t t.w.phase)) e
       where
         go : (b : Bool) → (if b then Some (goes t t.w.phase) else None) ≡ Some m → Quiet m
@@ -130,7 +130,7 @@ module _ (t : Turn) where
         go false g = absurd (cc)
 
     -- it takes a frame
-    frame_quiet : (peer : ℕ) (m : Made) → partner t.w.what.peer t.w.phase ≡ Some peer → (f : Option FrameView) → awaits t peer f ≡ Some m → Quiet m
+    frame_quiet : (peer : ℕ) (m : Effect) → partner t.w.what.peer t.w.phase ≡ Some peer → (f : Option FrameView) → awaits t peer f ≡ Some m → Quiet m
     frame_quiet peer m on None e = absurd (cc)
     frame_quiet peer m on (Some f) e = go (has_room t peer) e
       where
@@ -141,7 +141,7 @@ module _ (t : Turn) where
         go false g = absurd (cc)
 
     -- **a get or a put that says and takes nothing**
-    pub by_quiet : (m : Made) (p : Option ℕ) → partner t.w.what.peer t.w.phase ≡ p → by_partner t p ≡ Some m → Quiet m
+    pub by_quiet : (m : Effect) (p : Option ℕ) → partner t.w.what.peer t.w.phase ≡ p → by_partner t p ≡ Some m → Quiet m
     by_quiet m None on e = on_quiet m e
     by_quiet m (Some peer) on e = at (end_with t peer).opened refl e
       where
@@ -149,23 +149,23 @@ module _ (t : Turn) where
         at false shut g = λ j kind none sent. inl (peer, on, shut)
         at true open' g = go (is_awaiting t.w.phase) g
           where
-            go : (b : Bool) → (if b then awaits t peer (waiting (end_with t peer) t.look (job_end t.w peer)) else goes_on t) ≡ Some m → Quiet m
-            go true h = frame_quiet peer m on (waiting (end_with t peer) t.look (job_end t.w peer)) h
+            go : (b : Bool) → (if b then awaits t peer (waiting_frame (end_with t peer) t.look (job_end t.w peer)) else goes_on t) ≡ Some m → Quiet m
+            go true h = frame_quiet peer m on (waiting_frame (end_with t peer) t.look (job_end t.w peer)) h
             go false h = on_quiet m h
 
     -- ---- it hears that its peer has the content
 
     -- it hears it, or it is wrong
-    abbrev pub Hears : ℕ → FrameView → Message → Made → Type 0
+    abbrev pub Hears : ℕ → FrameView → Message → Effect → Type 0
     Hears peer f m made = (HasIt t.w.phase m × (made.sent ≡ [])) ⊎ (made.sent ≡ frames (job_end t.w peer) (end_with t peer) (Closing ∷ []))
 
-    get_hears : (f : FrameView) (peer : ℕ) (phase : Phase) (m : Message) → SaysHas m → takes_get t f peer phase m ≡ wrong t f peer
+    get_hears : (f : FrameView) (peer : ℕ) (phase : Phase) (m : Message) → SaysHas m → takes_get t f peer phase m ≡ wrong_message t f peer
     get_hears f peer (GetsData p start) (Data n) has = absurd has
     get_hears f peer (GetsWord p start size) Valid has = absurd has
     get_hears f peer (GetsWord p start size) Invalid has = absurd has
     get_hears f peer phase m has = refl
 
-    put_hears : (f : FrameView) (peer : ℕ) (phase : Phase) (m : Message) → SaysHas m → (HasIt phase m × (takes_put t f peer phase m ≡ hears t f)) ⊎ (takes_put t f peer phase m ≡ wrong t f peer)
+    put_hears : (f : FrameView) (peer : ℕ) (phase : Phase) (m : Message) → SaysHas m → (HasIt phase m × (takes_put t f peer phase m ≡ hears t f)) ⊎ (takes_put t f peer phase m ≡ wrong_message t f peer)
     put_hears f peer (PutsOffer p) AlreadyHave has = inl (tt, refl)
     put_hears f peer (PutsOffer p) Failure has = absurd has
     put_hears f peer (PutsOffer p) (Error text) has = absurd has
@@ -175,7 +175,7 @@ module _ (t : Turn) where
     put_hears f peer phase m has = inr refl
 
     part_hears : (f : FrameView) (peer : ℕ) (part : Part) (phase : Phase) (m : Message) → part ≢ Drops → SaysHas m
-        → (HasIt phase m × (takes_answer t f peer part phase m ≡ hears t f)) ⊎ (takes_answer t f peer part phase m ≡ wrong t f peer)
+        → (HasIt phase m × (takes_answer t f peer part phase m ≡ hears t f)) ⊎ (takes_answer t f peer part phase m ≡ wrong_message t f peer)
     part_hears f peer Gets phase m off has = inr (get_hears f peer phase m has)
     part_hears f peer Puts phase m off has = put_hears f peer phase m has
     part_hears f peer Drops phase m off has = absurd (off refl)
@@ -189,15 +189,15 @@ module _ (t : Turn) where
     body_hears f peer m (Line text) is has =
         let made : takes_text t f peer (message_of text) ≡ takes_answer t f peer t.w.part t.w.phase m = ap (takes_text t f peer) is ∙ takes_is f peer t.w.phase m has in
         elim (part_hears f peer t.w.part t.w.phase m apart has) [
-          | inl x ↦ inl (x.0, ap (λ (z : Made). z.sent) (made ∙ x.1))
-          | inr x ↦ inr (ap (λ (z : Made). z.sent) (made ∙ x))
+          | inl x ↦ inl (x.0, ap (λ (z : Effect). z.sent) (made ∙ x.1))
+          | inr x ↦ inr (ap (λ (z : Effect). z.sent) (made ∙ x))
         ]
     body_hears f peer m Opening is has = absurd (cc)
     body_hears f peer m Closing is has = absurd (cc)
     body_hears f peer m (Bytes n) is has = absurd (cc)
 
     -- **a get or a put that takes a frame by which its peer has the content**
-    pub by_hears : (made : Made) (peer : ℕ) (f : FrameView) (m : Message) → partner t.w.what.peer t.w.phase ≡ Some peer → by_partner t (Some peer) ≡ Some made → made.taken ≡ Some f
+    pub by_hears : (made : Effect) (peer : ℕ) (f : FrameView) (m : Message) → partner t.w.what.peer t.w.phase ≡ Some peer → by_partner t (Some peer) ≡ Some made → made.taken ≡ Some f
         → line_in f.body ≡ Some m → SaysHas m → Hears peer f m made
     by_hears made peer f m on e taken is has = at (end_with t peer).opened e
       where
@@ -214,15 +214,15 @@ module _ (t : Turn) where
             go : (b : Bool) → (if b then Some (takes_frame t peer g g.body) else None) ≡ Some made → Hears peer f m made
             go true h =
                 let same : takes_frame t peer g g.body ≡ made = cc in
-                let both : Some g ≡ Some f = sym (frame_found t peer g on g.body refl).0 ∙ ap (λ (z : Made). z.taken) same ∙ taken in
+                let both : Some g ≡ Some f = sym (frame_found t peer g on g.body refl).0 ∙ ap (λ (z : Effect). z.taken) same ∙ taken in
                 let frame : g ≡ f = cc in
                 subst (Hears peer f m) same (body_hears g peer m g.body (ap (λ (z : FrameView). line_in z.body) frame ∙ is) has)
             go false h = absurd (cc)
 
         at : (b : Bool) → with_partner t peer b ≡ Some made → Hears peer f m made
-        at false h = absurd (let same : quietly (talk t) None ≡ made = cc in let none : None ≡ Some f = ap (λ (z : Made). z.taken) same ∙ taken in cc)
-        at true h = framed (waiting (end_with t peer) t.look (job_end t.w peer))
-            (subst (λ b. (if b then awaits t peer (waiting (end_with t peer) t.look (job_end t.w peer)) else goes_on t) ≡ Some made) awaiting h)
+        at false h = absurd (let same : quietly (talk t) None ≡ made = cc in let none : None ≡ Some f = ap (λ (z : Effect). z.taken) same ∙ taken in cc)
+        at true h = framed (waiting_frame (end_with t peer) t.look (job_end t.w peer))
+            (subst (λ b. (if b then awaits t peer (waiting_frame (end_with t peer) t.look (job_end t.w peer)) else goes_on t) ≡ Some made) awaiting h)
 
     -- ---- it is to end
 
@@ -249,7 +249,7 @@ module _ (t : Turn) where
         )
 
     -- **a get or a put that is to end, or has nobody left to ask, ends**
-    pub stuck_ends : (m : Made) → Stuck t.w → by_partner t (partner t.w.what.peer t.w.phase) ≡ Some m → Ending m
+    pub stuck_ends : (m : Effect) → Stuck t.w → by_partner t (partner t.w.what.peer t.w.phase) ≡ Some m → Ending m
     stuck_ends m stuck e = let x = stuck_goes stuck in go x.1 (list_all (has_room t) (needs t t.w.phase)) (ap (by_partner t) (sym x.0) ∙ e)
       where
         go : Ending (goes t t.w.phase) → (b : Bool) → (if b then Some (goes t t.w.phase) else None) ≡ Some m → Ending m

@@ -24,7 +24,7 @@ use Rattle.node_model.specs.Ends.{EndName, end_after, end_sends, end_took, frame
 use Rattle.node_model.specs.Sessions.{line_in}
 use Rattle.node_model.specs.Jobs
 use Rattle.node_model.specs.Jobs.{Drops, Fresh, Gets, Part, Phase, Puts, PutsAnswer, PutsOffer, Work, claims, closed_part, first_look, hears_frame, is_move, job_end, learns, listens, partner, quiet, talks, talks_on, after_frame, after_line, after_transfer}
-use Rattle.node_model.specs.Look.{Made}
+use Rattle.node_model.specs.Look.{Effect}
 use Rattle.node_model.specs.JobStep.{Turn, end_with, is_there, me}
 use Rattle.node_model.specs.TransferStep.{next_source}
 use Rattle.node_model.specs.Turns.{by_partner}
@@ -104,7 +104,7 @@ took_drops w Opening m move is has = absurd (cc)
 took_drops w Closing m move is has = absurd (cc)
 took_drops w (Bytes n) m move is has = absurd (cc)
 
-module _ (t : Turn) (m : Made) (does : by_partner t (partner t.w.what.peer t.w.phase) ≡ Some m) (apart : t.w.part ≢ Drops) (move : is_move t.w.what.kind ≡ true) (one : HasPeer t.w) where
+module _ (t : Turn) (m : Effect) (does : by_partner t (partner t.w.what.peer t.w.phase) ≡ Some m) (apart : t.w.part ≢ Drops) (move : is_move t.w.what.kind ≡ true) (one : HasPeer t.w) where
   abbrev e : Entry
   e = made_entry t m
 

@@ -23,8 +23,8 @@ use Rattle.p2p_wire.specs.Messages.{message_of, text_of}
 use Rattle.node_model.specs.SetUp.{SetUp}
 use Rattle.node_model.specs.Jobs.{Part, Gets, Puts, Drops, Phase, Fresh, Next, Opens, Greets, GetsData, GetsBytes, GetsWord, PutsAnswer, PutsBytes, PutsOffer, PutsWord, job_end, partner, is_move}
 use Rattle.node_model.specs.Calls.{to_commit, to_release, to_resume}
-use Rattle.node_model.specs.Look.{Made, failing, waiting}
-use Rattle.node_model.specs.JobStep.{Turn, attempts, by_me, end_with, ends, farewells, hears, is_there, key_of, owns_share, quietly, says_to, sends_to, talk, wrong}
+use Rattle.node_model.specs.Look.{Effect, failing_call, waiting_frame}
+use Rattle.node_model.specs.JobStep.{Turn, attempts, by_me, end_with, ends, farewells, hears, is_there, key_of, owns_share, quietly, says_to, sends_to, talk, wrong_message}
 use Rattle.node_model.specs.Sessions.{reaches}
 use Rattle.node_model.specs.SessionStep.{bytes_left}
 use Rattle.node_model.specs.Requests.{asks, goes_to}
@@ -47,11 +47,11 @@ Transfers Drops = ⊥
 abbrev pub Place : Turn → ℕ → Type 0
 Place t peer = (partner t.w.what.peer t.w.phase ≡ Some peer) ⊎ ((next_source t ≡ Some peer) ⊎ ((t.w.part ≡ Puts) × (t.w.what.peer ≡ Some peer)))
 
-abbrev Tells : Turn → Made → Type 0
+abbrev Tells : Turn → Effect → Type 0
 Tells t m = IsEnd m.kind ⊎ Each (λ g. Place t g.peer) m.sent
 
-attempts_tells : (t : Turn) (cs : List Call) (taken : Option FrameView) (m : Made) → Tells t m → Tells t (attempts t cs taken m)
-attempts_tells t cs taken m g = unless_found (Tells t) (failing t.look.fails cs) (λ call. quietly (Fault call (by_me t)) taken) m (λ call. inr tt) g
+attempts_tells : (t : Turn) (cs : List Call) (taken : Option FrameView) (m : Effect) → Tells t m → Tells t (attempts t cs taken m)
+attempts_tells t cs taken m g = unless_found (Tells t) (failing_call t.look.fails cs) (λ call. quietly (Fault call (by_me t)) taken) m (λ call. inr tt) g
 
 one_tells : (t : Turn) (kind : EntryKind) (taken : Option FrameView) (peer : ℕ) (body : FrameText) → Place t peer → Tells t (sends_to t kind taken peer (body ∷ []))
 one_tells t kind taken peer body place = inr (place, tt)
@@ -112,12 +112,12 @@ goes_tells t part phase is = ends_tells t None (outcome_of t phase)
 -- ---- the steps that take a frame
 
 module _ (t : Turn) (f : FrameView) (peer : ℕ) (part : Transfers t.w.part) (place : Place t peer) where
-  wrong_tells : Tells t (wrong t f peer)
+  wrong_tells : Tells t (wrong_message t f peer)
   wrong_tells = one_tells t (talk t) (Some f) peer Closing place
 
   bytes_tells : (n : ℕ) (phase : Phase) → Tells t (takes_bytes t f peer n phase)
   bytes_tells n (GetsBytes p start size left) =
-      if_either (Tells t) (nat_lt 0 n && nat_le n left) (attempts t (calls.Append ∷ []) (Some f) (quietly (talk t) (Some f))) (wrong t f peer)
+      if_either (Tells t) (nat_lt 0 n && nat_le n left) (attempts t (calls.Append ∷ []) (Some f) (quietly (talk t) (Some f))) (wrong_message t f peer)
       (λ e. attempts_tells t (calls.Append ∷ []) (Some f) (quietly (talk t) (Some f)) (inr tt)) (λ e. wrong_tells)
   bytes_tells n phase = wrong_tells
 
@@ -135,12 +135,12 @@ module _ (t : Turn) (f : FrameView) (peer : ℕ) (part : Transfers t.w.part) (pl
   from_tells n =
       let data' = says_to t (talk t) (Some f) peer (Data (bytes_left (t.content (key_of t)) n)) in
       let there = reaches (t.content (key_of t)) n in
-      attempts_tells t (calls.Size ∷ []) (Some f) (if there then data' else wrong t f peer) (if_either (Tells t) there data' (wrong t f peer) (λ e. one_tells t (talk t) (Some f) peer (Line (text_of (Data (bytes_left (t.content (key_of t)) n)))) place) (λ e. wrong_tells))
+      attempts_tells t (calls.Size ∷ []) (Some f) (if there then data' else wrong_message t f peer) (if_either (Tells t) there data' (wrong_message t f peer) (λ e. one_tells t (talk t) (Some f) peer (Line (text_of (Data (bytes_left (t.content (key_of t)) n)))) place) (λ e. wrong_tells))
 
   put_tells : (phase : Phase) (m : Message) → Tells t (takes_put t f peer phase m)
   put_tells (PutsOffer p) AlreadyHave = inr tt
   put_tells (PutsOffer p) Failure = inr tt
-  put_tells (PutsOffer p) (Error text) = if_either (Tells t) (bytes_eq text (codes "busy")) (hears t f) (wrong t f peer) (λ e. inr tt) (λ e. wrong_tells)
+  put_tells (PutsOffer p) (Error text) = if_either (Tells t) (bytes_eq text (codes "busy")) (hears t f) (wrong_message t f peer) (λ e. inr tt) (λ e. wrong_tells)
   put_tells (PutsOffer p) (PutFrom n) = from_tells n
   put_tells (PutsAnswer p start) Success = inr tt
   put_tells (PutsAnswer p start) Failure = inr tt
@@ -153,7 +153,7 @@ module _ (t : Turn) (f : FrameView) (peer : ℕ) (part : Transfers t.w.part) (pl
 
   takes_tells : (phase : Phase) (m : Message) → Tells t (takes t f peer phase m)
   takes_tells (Opens p) (AuthSuccess id) = one_tells t (talk t) (Some f) peer (Line (text_of (Version 3))) place
-  takes_tells (Greets p) (Version n) = if_either (Tells t) (nat_le n 3) (asks t n (Some f) peer t.w.part) (wrong t f peer) (λ e. asks_tells t n (Some f) peer t.w.part part place) (λ e. wrong_tells)
+  takes_tells (Greets p) (Version n) = if_either (Tells t) (nat_le n 3) (asks t n (Some f) peer t.w.part) (wrong_message t f peer) (λ e. asks_tells t n (Some f) peer t.w.part part place) (λ e. wrong_tells)
   takes_tells phase m = answer_tells t.w.part part phase m
 
   text_tells : (m : Option Message) → Tells t (takes_text t f peer m)
@@ -168,7 +168,7 @@ module _ (t : Turn) (f : FrameView) (peer : ℕ) (part : Transfers t.w.part) (pl
 
 -- ---- the step
 
-module _ (t : Turn) (m : Made) (part : Transfers t.w.part) where
+module _ (t : Turn) (m : Effect) (part : Transfers t.w.part) where
   on_tells : goes_on t ≡ Some m → Tells t m
   on_tells e = go (list_all (has_room t) (needs t t.w.phase)) e
     where
@@ -188,8 +188,8 @@ module _ (t : Turn) (m : Made) (part : Transfers t.w.part) where
   with_tells peer place false e = let same : quietly (talk t) None ≡ m = cc in subst (Tells t) same (inr tt)
   with_tells peer place true e = go (is_awaiting t.w.phase) e
     where
-      go : (b : Bool) → (if b then awaits t peer (waiting (end_with t peer) t.look (job_end t.w peer)) else goes_on t) ≡ Some m → Tells t m
-      go true g = awaits_tells peer place (waiting (end_with t peer) t.look (job_end t.w peer)) g
+      go : (b : Bool) → (if b then awaits t peer (waiting_frame (end_with t peer) t.look (job_end t.w peer)) else goes_on t) ≡ Some m → Tells t m
+      go true g = awaits_tells peer place (waiting_frame (end_with t peer) t.look (job_end t.w peer)) g
       go false g = on_tells g
 
   partner_tells : (p : Option ℕ) → partner t.w.what.peer t.w.phase ≡ p → by_partner t p ≡ Some m → Tells t m

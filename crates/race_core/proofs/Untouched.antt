@@ -29,7 +29,7 @@ use Rattle.node_model.specs.SetUp.{SetUp}
 use Rattle.run_model.specs.States.{state_of, works}
 use Rattle.node_model.specs.AnyTime.{MayCome}
 use Rattle.node_model.specs.Jobs.{Drops, Fresh, Gets, Part, Phase, Puts, Work}
-use Rattle.node_model.specs.Look.{Look, Made}
+use Rattle.node_model.specs.Look.{Look, Effect}
 use Rattle.node_model.specs.JobStep.{Turn, turn_of}
 use Rattle.node_model.specs.SessionStep.{here}
 use Rattle.node_model.specs.Ends.{server_end}
@@ -72,7 +72,7 @@ come_sends s past lines sent j (EntryKind.Close peer slot client) x is = absurd 
 come_sends s past lines sent j (Crash clock) x is = absurd (cc)
 come_sends s past lines sent j kind x is = absurd x
 
-job_sends : (t : Turn) (m : Made) (j : ℕ) (kind : EntryKind) → IsJobEntry t m kind → is_step j kind ≡ false → option_is (job_of kind) j ≡ true → m.sent ≡ []
+job_sends : (t : Turn) (m : Effect) (j : ℕ) (kind : EntryKind) → IsJobEntry t m kind → is_step j kind ≡ false → option_is (job_of kind) j ≡ true → m.sent ≡ []
 job_sends t m j (Fault call by) x still is = x.1
 job_sends t m j (Share hold end by key) x still is = absurd (cc)
 job_sends t m j (Bar k need key) x still is = absurd (cc)
@@ -92,9 +92,9 @@ still_sends s past words e own j still is = elim (own.does) [
   | inr x ↦ come_sends s past e.lines e.sent j e.kind x.may is
 ]
   where
-    steps : (k : Look) (m : Made) → (ByOwed s (state_of s past) k m ⊎ (BySession s (state_of s past) k m ⊎ ByJob s (state_of s past) k m))
+    steps : (k : Look) (m : Effect) → (ByOwed s (state_of s past) k m ⊎ (BySession s (state_of s past) k m ⊎ ByJob s (state_of s past) k m))
         → is_step j m.kind ≡ false → option_is (job_of m.kind) j ≡ true → m.sent ≡ []
-    steps k m (inl y) still is = elim (y.writes) [ inl w ↦ ap (λ (z : Made). z.sent) w | inr w ↦ ap (λ (z : Made). z.sent) w ]
+    steps k m (inl y) still is = elim (y.writes) [ inl w ↦ ap (λ (z : Effect). z.sent) w | inr w ↦ ap (λ (z : Effect). z.sent) w ]
     steps k m (inr (inl y)) still is =
         let none : job_of m.kind ≡ None = session_none (here s (state_of s past) k (server_end y.peer y.slot)) ((state_of s past).sessions (server_end y.peer y.slot)).doing y.asked y.says m.kind y.found in
         let no_job : option_is None j ≡ true = subst (λ o. option_is o j ≡ true) none is in

@@ -17,7 +17,7 @@ use Rattle.run_model.specs.Past.{is_of}
 use Rattle.run_model.specs.Run.{IsStep, OwnPart, OwnPast, RunPast, RunStep, set_up}
 use Rattle.run_model.specs.States.{state_of}
 use Rattle.node_model.specs.Jobs.{AsksLook, Orders, Phase, Work, partner, taken_message}
-use Rattle.node_model.specs.Look.{Made}
+use Rattle.node_model.specs.Look.{Effect}
 use Rattle.node_model.specs.OwedStep.{owed_step}
 use Rattle.node_model.specs.SessionStep.{session_step}
 use Rattle.node_model.specs.Sessions.{line_in}
@@ -51,8 +51,8 @@ stepped s past words e f j own took job = elim (own.does) [
   where
     owed : (x : IsStep s past words e) → owed_step s (state_of s past) x.look ≡ Some x.made → x.made.taken ≡ None
     owed x g = elim ((pays_found s (state_of s past) x.look x.made (state_of s past).owed refl g).writes) [
-      | inl w ↦ ap (λ (z : Made). z.taken) w
-      | inr w ↦ ap (λ (z : Made). z.taken) w
+      | inl w ↦ ap (λ (z : Effect). z.taken) w
+      | inr w ↦ ap (λ (z : Effect). z.taken) w
     ]
 
     made_taken : (x : IsStep s past words e) → x.made.taken ≡ Some f

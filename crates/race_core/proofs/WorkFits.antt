@@ -18,7 +18,7 @@ use Rattle.p2p_wire.specs.Messages.{message_of, text_of, order_of}
 use Rattle.node_model.specs.SetUp.{SetUp}
 use Rattle.run_model.specs.States.{state_of, rows_at, works}
 use Rattle.node_model.specs.Jobs.{AsksLock, Drops, Gets, Greets, Next, Opens, Part, Phase, Puts, Work, running_job}
-use Rattle.node_model.specs.Look.{Made}
+use Rattle.node_model.specs.Look.{Effect}
 use Rattle.node_model.specs.JobStep.{Turn}
 use Rattle.run_model.specs.Run.{OwnRun}
 use Rattle.node_model.specs.Found.{IsJobEntry}
@@ -127,7 +127,7 @@ none_reads : (part : Part) (sent : List FrameView) → sent ≡ [] → SentReads
 none_reads part sent is = subst (SentReads part) (sym is) tt
 
 -- what a job's step sends is of its part
-sent_reads : (t : Turn) (m : Made) (kind : EntryKind) → IsJobEntry t m kind → TalkKind t m kind → Fits t.w.part t.w.phase → ((j : ℕ) (outcome : Outcome) → kind ≢ ends_job j outcome) → SentReads t.w.part m.sent
+sent_reads : (t : Turn) (m : Effect) (kind : EntryKind) → IsJobEntry t m kind → TalkKind t m kind → Fits t.w.part t.w.phase → ((j : ℕ) (outcome : Outcome) → kind ≢ ends_job j outcome) → SentReads t.w.part m.sent
 sent_reads t m (Share hold end by key) x y fits goes_on = none_reads t.w.part m.sent x.sends_none
 sent_reads t m (Bar j need key) x y fits goes_on = none_reads t.w.part m.sent x.sends_none
 sent_reads t m (Gone by key) x y fits goes_on = none_reads t.w.part m.sent x.sends_none
@@ -148,7 +148,7 @@ sent_reads t m (Talk (Some j)) x y fits goes_on = elim (y.says) [
 sent_reads t m (Fault call by) x y fits goes_on = none_reads t.w.part m.sent x.1
 sent_reads t m kind x y fits goes_on = absurd x
 
-removes_drops : (t : Turn) (m : Made) (kind : EntryKind) → IsJobEntry t m kind → (source : By) (key : List ℕ) → kind ≡ Gone source key → t.w.part ≡ Drops
+removes_drops : (t : Turn) (m : Effect) (kind : EntryKind) → IsJobEntry t m kind → (source : By) (key : List ℕ) → kind ≡ Gone source key → t.w.part ≡ Drops
 removes_drops t m (Gone by key) x source k is = x.part_is
 removes_drops t m (Share hold end by key) x source k is = absurd (cc)
 removes_drops t m (Bar j need key) x source k is = absurd (cc)

@@ -122,9 +122,9 @@ abbrev pub IsHistory : SetUp → (Way → List Letter) → List Entry → Type 0
 IsHistory s got past = Always (IsHistoryStep s got) past
 
 -- the new entries of one repository, the newest first, are in order behind the run, were they alone there
-abbrev pub ComeInOrder : List Entry → List Entry → Type 0
-ComeInOrder past [] = Unit {0}
-ComeInOrder past (e ∷ es) = ComesInOrder (es ++ past) e × ComeInOrder past es
+abbrev pub AllComeInOrder : List Entry → List Entry → Type 0
+AllComeInOrder past [] = Unit {0}
+AllComeInOrder past (e ∷ es) = ComesInOrder (es ++ past) e × AllComeInOrder past es
 
 -- the letters that came on a way are the first of those that its sender, with this history, sent there
 pub record AreFirstLetters (got : List Letter) (past : List Entry) (w : Way) : Type 0 where
@@ -136,7 +136,7 @@ pub record MayMerge (run : Run) (news : List (List Entry)) (got : ℕ → Way �
   pub marked : Each (λ m. m.place ≤ length run.entries) run.tree
   pub number : length news ≤ length run.repos
   pub kept : (r : ℕ) → r < length run.repos → IsHistory (set_up_with run news r) (got r) (history run news r)
-  pub follow : (r : ℕ) → r < length run.repos → ComeInOrder (reverse run.entries) (reverse (new_of news r))
+  pub follow : (r : ℕ) → r < length run.repos → AllComeInOrder (reverse run.entries) (reverse (new_of news r))
   pub came : (r c : ℕ) (w : Way) → r < length run.repos → taker_of w ≡ r → sender_of w ≡ c → AreFirstLetters (got r w) (history run news c) w
 
 -- each entry stands before all that come after it

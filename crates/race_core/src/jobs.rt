@@ -6,7 +6,7 @@ ghost use Rattle.run_data.specs.declared.entry.Entry.{Entry};
 ghost use Rattle.run_data.specs.declared.entry.FrameView.{FrameView};
 ghost use Rattle.run_data.specs.declared.run.Run.{Run};
 ghost use Rattle.node_model.specs.Jobs.{RowsAndEnds, Work, running_job, work_after};
-ghost use Rattle.node_model.specs.Look.{Look, Made};
+ghost use Rattle.node_model.specs.Look.{Look, Effect};
 ghost use Rattle.node_model.specs.Step.{step};
 ghost use Rattle.run_model.specs.Past.{Occurs, begun_count, is_of};
 ghost use Rattle.run_model.specs.Run.{IsRun, set_up};
@@ -33,9 +33,9 @@ pub fn frames_go_to_others()
         → is_of r e ≡ true → Each (λ f. f.peer ≢ r) e.sent }
     ensures taken { (run : Run) (e : Entry) (before : List Entry) (r : ℕ) (f : FrameView) → IsRun run → Occurs (reverse run.entries) e before
         → is_of r e ≡ true → e.taken ≡ Some f → f.peer ≢ r }
-    ensures sends { (run : Run) (r : ℕ) (k : Look) (m : Made) → IsRun run → r < length run.repos → k.part < 2 ^ 62
+    ensures sends { (run : Run) (r : ℕ) (k : Look) (m : Effect) → IsRun run → r < length run.repos → k.part < 2 ^ 62
         → step (set_up run r) (state_of (set_up run r) (reverse run.entries)) k ≡ Some m → Each (λ f. f.peer ≢ r) m.sent }
-    ensures takes { (run : Run) (r : ℕ) (k : Look) (m : Made) (f : FrameView) → IsRun run → r < length run.repos → k.part < 2 ^ 62
+    ensures takes { (run : Run) (r : ℕ) (k : Look) (m : Effect) (f : FrameView) → IsRun run → r < length run.repos → k.part < 2 ^ 62
         → step (set_up run r) (state_of (set_up run r) (reverse run.entries)) k ≡ Some m → m.taken ≡ Some f → f.peer ≢ r }
 {
     // a law, for the proof

@@ -12,7 +12,7 @@ ghost use Rattle.node_model.specs.Ends.{EndName, is_opening, may_take, sends_at,
 ghost use Rattle.node_model.specs.Found.{ByJob, BySession, StepFound};
 ghost use Rattle.node_model.specs.Jobs.{partner};
 ghost use Rattle.node_model.specs.JobStep.{Turn};
-ghost use Rattle.node_model.specs.Look.{Look, Made};
+ghost use Rattle.node_model.specs.Look.{Look, Effect};
 ghost use Rattle.node_model.specs.Sessions.{Doing, Session};
 ghost use Rattle.node_model.specs.SessionStep.{Here, Reply, gives_next, on_frame};
 ghost use Rattle.node_model.specs.SetUp.{SetUp};
@@ -64,14 +64,14 @@ pub fn own_entries_suit_their_ends()
 
 /// A step sends an Opening as a client alone, at an end that is closed (own).
 pub fn steps_open_closed_ends()
-    ensures { (s : SetUp) (st : State) (k : Look) (m : Made) (g : FrameView) (a : EndName) → step s st k ≡ Some m → Member g m.sent
+    ensures { (s : SetUp) (st : State) (k : Look) (m : Effect) (g : FrameView) (a : EndName) → step s st k ≡ Some m → Member g m.sent
         → sends_at a g ≡ true → is_opening g.body ≡ true → (a.client ≡ true) × ((st.ends a).opened ≡ false) }
 {}
 
 /// What a step takes is among the frames at hand at its look. A job that goes on takes none, and one that takes a frame of its
 /// partner takes that (own).
 pub fn steps_take_what_is_at_hand()
-    ensures at_hand { (s : SetUp) (st : State) (k : Look) (m : Made) (f : FrameView) → step s st k ≡ Some m → m.taken ≡ Some f
+    ensures at_hand { (s : SetUp) (st : State) (k : Look) (m : Effect) (f : FrameView) → step s st k ≡ Some m → m.taken ≡ Some f
         → Member f k.at_hand }
     ensures goes { (t : Turn) → (partner t.w.what.peer t.w.phase ≡ None) ⊎ (is_awaiting t.w.phase ≡ false) → (goes t t.w.phase).taken ≡ None }
     ensures takes { (t : Turn) (peer : ℕ) (f : FrameView) → partner t.w.what.peer t.w.phase ≡ Some peer
@@ -81,8 +81,8 @@ pub fn steps_take_what_is_at_hand()
 /// The entry of a job's step names this job, and that of a session none. So do what a session answers and gives, and what a job makes
 /// where it goes on, or takes a frame of its partner (own).
 pub fn steps_name_their_jobs()
-    ensures session { (s : SetUp) (st : State) (k : Look) (m : Made) → BySession s st k m → job_of m.kind ≡ None }
-    ensures job { (s : SetUp) (st : State) (k : Look) (m : Made) (x : ByJob s st k m) → job_of m.kind ≡ Some x.w.number }
+    ensures session { (s : SetUp) (st : State) (k : Look) (m : Effect) → BySession s st k m → job_of m.kind ≡ None }
+    ensures job { (s : SetUp) (st : State) (k : Look) (m : Effect) (x : ByJob s st k m) → job_of m.kind ≡ Some x.w.number }
     ensures answers { (h : Here) (was : Session) (body : FrameText) → job_of (on_frame h was body).kind ≡ None }
     ensures gives { (h : Here) (doing : Doing) (x : Reply) → gives_next h doing ≡ Some x → job_of x.kind ≡ None }
     ensures goes { (t : Turn) → (partner t.w.what.peer t.w.phase ≡ None) ⊎ (is_awaiting t.w.phase ≡ false)
@@ -93,5 +93,5 @@ pub fn steps_name_their_jobs()
 
 /// A step that makes an entry found what the table of `Found` says of that kind of entry, in any state (own).
 pub fn steps_find_their_cause()
-    ensures { (s : SetUp) (st : State) (k : Look) (m : Made) → step s st k ≡ Some m → StepFound s st k m }
+    ensures { (s : SetUp) (st : State) (k : Look) (m : Effect) → step s st k ≡ Some m → StepFound s st k m }
 {}

@@ -12,7 +12,7 @@ use Rattle.union_merge.specs.Branch.{Files}
 use Rattle.node_jobs.specs.Acting.{with_job}
 use Rattle.node_jobs.specs.Running.{Jobs}
 use Rattle.node_model.specs.After.{state_after}
-use Rattle.node_model.specs.Owed.{Owed}
+use Rattle.node_model.specs.OwedLines.{OwedLine}
 use Rattle.node_model.specs.SetUp.{SetUp}
 use Rattle.node_model.specs.State.{State}
 use Rattle.node_parts.specs.Parts.{AreParts, PartsView}
@@ -20,7 +20,7 @@ use Rattle.node_parts.specs.Sound.{AreSound}
 use Rattle.repo_node.specs.declared.past.Past.{Past}
 use Rattle.repo_node.specs.declared.setup.Ended.{Ended}
 use Rattle.repo_node.specs.declared.setup.Setup.{Setup}
-use Rattle.node_sessions.specs.Sessions.{FedAll}
+use Rattle.node_sessions.specs.Sessions.{AreAllFed}
 use Rattle.std.specs.Option.{ForSome}
 use Rattle.repo_node.specs.Kept.{IsFed, IsKept}
 use Rattle.repo_node.specs.Nodes.{MatchesSetup, IsState, NodeView, state_of, with_entry}
@@ -32,7 +32,7 @@ use Rattle.repo_node.proofs.StepLemmas.{FillLaw, state_more}
 
 -- ---- frames alone have moved
 
-pub kept_links : (setup : Setup) (h : List Entry) (was now : PartsView) (branch : Files) (owed : List Owed) (told : Option Contents) → now.table ≡ was.table → now.jobs ≡ was.jobs → ((s : SetUp) (st : State) → AreParts s st was → AreParts s st now)
+pub kept_links : (setup : Setup) (h : List Entry) (was now : PartsView) (branch : Files) (owed : List OwedLine) (told : Option Contents) → now.table ≡ was.table → now.jobs ≡ was.jobs → ((s : SetUp) (st : State) → AreParts s st was → AreParts s st now)
     → IsKept setup h was branch owed told → IsKept setup h now branch owed told
 kept_links setup h was now branch owed told table jobs keep kept = record {
   state = λ s fits.
@@ -68,7 +68,7 @@ GoOn was now job what = (s : SetUp) (st : State) (e : Entry) → AreParts s st w
 later_numbers : (n m : ℕ) (hs : List Hold) → n ≤ m → All (λ (x : Hold). x.number < n) hs → All (λ (x : Hold). x.number < m) hs
 later_numbers n m hs more all = All-weaker (λ (x : Hold). x.number < n) (λ (x : Hold). x.number < m) (λ x few. omega (arith, few, more)) hs all
 
-module _ (setup : Setup) (h : List Entry) (was now : PartsView) (branch : Files) (owed : List Owed) (told : Option Contents) (time count job : ℕ) (what : Job)
+module _ (setup : Setup) (h : List Entry) (was now : PartsView) (branch : Files) (owed : List OwedLine) (told : Option Contents) (time count job : ℕ) (what : Job)
     (fills : FillLaw) (sound' : AreSound now) (same : now ≡ record was { jobs = with_job was.jobs what }) (go : GoOn was now job what) (kept : IsKept setup h was branch owed told) where
   abbrev begun_entry : Entry
   begun_entry = begin_entry setup time count job what
@@ -109,11 +109,11 @@ module _ (setup : Setup) (h : List Entry) (was now : PartsView) (branch : Files)
   }
 
 -- the same, of a past that was made ready
-pub kept_entered : (setup setup' : Setup) (h h' : List Entry) (p : PartsView) (branch : Files) (owed owed' : List Owed) (told : Option Contents) → setup' ≡ setup → h' ≡ h → owed' ≡ owed → IsKept setup h p branch owed told → IsKept setup' h' p branch owed' told
+pub kept_entered : (setup setup' : Setup) (h h' : List Entry) (p : PartsView) (branch : Files) (owed owed' : List OwedLine) (told : Option Contents) → setup' ≡ setup → h' ≡ h → owed' ≡ owed → IsKept setup h p branch owed told → IsKept setup' h' p branch owed' told
 kept_entered setup setup' h h' p branch owed owed' told es eh eo kept =
-    subst (λ (x : Setup). IsKept x h' p branch owed' told) (sym es) (subst (λ (x : List Entry). IsKept setup x p branch owed' told) (sym eh) (subst (λ (x : List Owed). IsKept setup h p branch x told) (sym eo) kept))
+    subst (λ (x : Setup). IsKept x h' p branch owed' told) (sym es) (subst (λ (x : List Entry). IsKept setup x p branch owed' told) (sym eh) (subst (λ (x : List OwedLine). IsKept setup h p branch x told) (sym eo) kept))
 
-pub begun_kept : FillLaw → (was ready now : Past) (parts parts' : PartsView) (branch : Files) (owed owed' : List Owed) (told : Option Contents) (job : ℕ) (what : Job) (lines : List (List ℕ))
+pub begun_kept : FillLaw → (was ready now : Past) (parts parts' : PartsView) (branch : Files) (owed owed' : List OwedLine) (told : Option Contents) (job : ℕ) (what : Job) (lines : List (List ℕ))
     → AreSound parts' → parts' ≡ record parts { jobs = with_job parts.jobs what } → GoOn parts parts' (parts.jobs.begun + 1) what → job ≡ parts.jobs.begun + 1 → lines ≡ [] → SamePast was ready → AddsTo (Begin job what) lines ready now → owed' ≡ owed
     → IsKept was.setup was.history.items parts branch owed told → IsKept now.setup now.history.items parts' branch owed' told
 begun_kept fills was ready now parts parts' branch owed owed' told job what lines sound same go number none ready_is adds owes kept =
@@ -125,11 +125,11 @@ begun_kept fills was ready now parts parts' branch owed owed' told job what line
     (kept_begun was.setup was.history.items parts parts' branch owed told was.time (was.count + 1) (parts.jobs.begun + 1) what fills sound same go kept)
 
 -- what is seen of the node then
-node_begun : {K : Type 0} (k : K) (parts parts' : PartsView) (branch : Files) (was now : Past) (owed owed' : List Owed) (job : ℕ) (what : Job)
+node_begun : {K : Type 0} (k : K) (parts parts' : PartsView) (branch : Files) (was now : Past) (owed owed' : List OwedLine) (job : ℕ) (what : Job)
     → parts' ≡ record parts { jobs = with_job parts.jobs what } → AddsTo (Begin job what) [] was now → owed' ≡ owed
     → seen k parts' branch now owed' ≡ record (with_entry (seen k parts branch was owed) k branch (Begin job what) []) { parts = record parts { jobs = with_job parts.jobs what } }
 node_begun {K} k parts parts' branch was now owed owed' job what ep adds eo =
-    let node : PartsView → Setup → ℕ → ℕ → List Entry → List Ended → List Owed → NodeView K =
+    let node : PartsView → Setup → ℕ → ℕ → List Entry → List Ended → List OwedLine → NodeView K =
     (λ p s t c h x o. record { setup = s; keeper = k; parts = p; branch = branch; time = t; count = c; history = h; outcomes = x; owed = o }) in
     let h' : List Entry = was.history.items ++ begin_entry was.setup was.time (was.count + 1) job what ∷ [] in
     let p' : PartsView = record parts { jobs = with_job parts.jobs what } in
@@ -139,9 +139,9 @@ node_begun {K} k parts parts' branch was now owed owed' job what ep adds eo =
     ∙ ap (λ (c : ℕ). node p' was.setup was.time c now.history.items now.outcomes.items owed') adds.count
     ∙ ap (λ (h : List Entry). node p' was.setup was.time (was.count + 1) h now.outcomes.items owed') adds.history
     ∙ ap (λ (x : List Ended). node p' was.setup was.time (was.count + 1) h' x owed') adds.outcomes
-    ∙ ap (λ (o : List Owed). node p' was.setup was.time (was.count + 1) h' was.outcomes.items o) eo
+    ∙ ap (λ (o : List OwedLine). node p' was.setup was.time (was.count + 1) h' was.outcomes.items o) eo
 
-pub seen_begun : {K : Type 0} (k : K) (parts parts' : PartsView) (branch : Files) (was ready now : Past) (owed owed' : List Owed) (job : ℕ) (what : Job) (lines : List (List ℕ)) (n : NodeView K)
+pub seen_begun : {K : Type 0} (k : K) (parts parts' : PartsView) (branch : Files) (was ready now : Past) (owed owed' : List OwedLine) (job : ℕ) (what : Job) (lines : List (List ℕ)) (n : NodeView K)
     → seen k parts branch was owed ≡ n → parts' ≡ record parts { jobs = with_job parts.jobs what } → lines ≡ [] → SamePast was ready → AddsTo (Begin job what) lines ready now → owed' ≡ owed
     → seen k parts' branch now owed' ≡ record (with_entry n n.keeper n.branch (Begin job what) []) { parts = record n.parts { jobs = with_job n.parts.jobs what } }
 seen_begun {K} k parts parts' branch was ready now owed owed' job what lines n view ep none same adds eo =
@@ -151,9 +151,9 @@ seen_begun {K} k parts parts' branch was ready now owed owed' job what lines n v
 -- ---- the store's parts
 
 pub fed_links : (stored : Option StoredParts) (was now : PartsView) → now.sessions ≡ was.sessions → IsFed stored was → IsFed stored now
-fed_links stored was now same fed = λ q known. subst (FedAll q) (sym same) (fed q known)
+fed_links stored was now same fed = λ q known. subst (AreAllFed q) (sym same) (fed q known)
 
-pub fed_after : (stored stored' : Option StoredParts) (was now : PartsView) → is_some stored' ≡ is_some stored → ForSome stored (λ q. FedAll q was.sessions → ForSome stored' (λ q'. FedAll q' now.sessions)) → IsFed stored was → IsFed stored' now
+pub fed_after : (stored stored' : Option StoredParts) (was now : PartsView) → is_some stored' ≡ is_some stored → ForSome stored (λ q. AreAllFed q was.sessions → ForSome stored' (λ q'. AreAllFed q' now.sessions)) → IsFed stored was → IsFed stored' now
 fed_after None None was now told feeds fed = λ q known. absurd cc
 fed_after None (Some q') was now told feeds fed = absurd cc
 fed_after (Some q) stored' was now told feeds fed = feeds q refl (fed q refl)

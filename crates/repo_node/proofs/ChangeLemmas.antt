@@ -4,7 +4,7 @@ use Rattle.std.specs.Prelude.{bytes_eq, cond, is_some, IsSome}
 use Rattle.std.specs.List.{list_any}
 use Rattle.annex_base.proofs.Conditions.{bytes_eq-refl, bytes_eq-true, same_test}
 use Rattle.annex_base.proofs.Lists.{list_any_found, list_any_member}
-use Rattle.node_model.specs.Owed.{if_new}
+use Rattle.node_model.specs.OwedLines.{if_new}
 use Rattle.union_merge.specs.LineSet.{difference, has_line}
 use Rattle.repo_node.specs.Changes.{AreNew}
 

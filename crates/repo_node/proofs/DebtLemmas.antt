@@ -16,8 +16,8 @@ use Rattle.run_data.specs.declared.entry.EntryKind.TheVariants.{Log, Fault}
 use Rattle.run_data.specs.declared.entry.LogFile.{LogFile}
 use Rattle.run_data.specs.declared.entry.LogFile.TheVariants.{Location}
 use Rattle.union_merge.specs.Branch.{Files, lines_at, merged_file}
-use Rattle.node_model.specs.Look.{Look, Made, entry_of, failing, unless}
-use Rattle.node_model.specs.Owed.{Owed, due, if_new, same_lines, status_line}
+use Rattle.node_model.specs.Look.{Look, Effect, entry_of, failing_call, unless}
+use Rattle.node_model.specs.OwedLines.{OwedLine, due, if_new, same_lines, status_line}
 use Rattle.node_model.specs.OwedStep.{owed_step, pays_first}
 use Rattle.node_model.specs.SetUp.{SetUp}
 use Rattle.node_model.specs.State.{State}
@@ -38,16 +38,16 @@ none_one one = absurd cc
 some_place : (p q : ℕ) → Some p ≡ Some q → p ≡ q
 some_place p q is = cc
 
-cons_same : (d o : Owed) (ds os : List Owed) → d ∷ ds ≡ o ∷ os → d ≡ o
+cons_same : (d o : OwedLine) (ds os : List OwedLine) → d ∷ ds ≡ o ∷ os → d ≡ o
 cons_same d o ds os is = cc
 
 -- ---- the first line that is owed
 
-one_first : (o : Option Owed) (xs ys : List Owed) → option_to_list o ≡ xs → length xs ≡ 1 → IsFirstOf o (xs ++ ys)
-one_first None xs ys is one = absurd (none_one (ap (λ (w : List Owed). length w) is ∙ one))
-one_first (Some o) xs ys is one = subst (λ (w : List Owed). w ++ ys ≡ o ∷ drop 1 (w ++ ys)) is refl
+one_first : (o : Option OwedLine) (xs ys : List OwedLine) → option_to_list o ≡ xs → length xs ≡ 1 → IsFirstOf o (xs ++ ys)
+one_first None xs ys is one = absurd (none_one (ap (λ (w : List OwedLine). length w) is ∙ one))
+one_first (Some o) xs ys is one = subst (λ (w : List OwedLine). w ++ ys ≡ o ∷ drop 1 (w ++ ys)) is refl
 
-pub first_some : (r : ℕ) (h : List Entry) (places : List ℕ) (place : ℕ) (o : Option Owed) → slice_get places 0 ≡ Some place → option_to_list o ≡ owed_of r (slice_get h place) → AreDebts r h places → IsFirstOf o (owed_at r h places)
+pub first_some : (r : ℕ) (h : List Entry) (places : List ℕ) (place : ℕ) (o : Option OwedLine) → slice_get places 0 ≡ Some place → option_to_list o ≡ owed_of r (slice_get h place) → AreDebts r h places → IsFirstOf o (owed_at r h places)
 first_some r h [] place o at is debts = absurd (none-some place at)
 first_some r h (p ∷ places) place o at is debts =
     one_first o (owed_of r (slice_get h p)) (owed_at r h places) (is ∙ ap (λ (x : ℕ). owed_of r (slice_get h x)) (sym (some_place p place at))) debts.0
@@ -56,7 +56,7 @@ pub first_none : (r : ℕ) (h : List Entry) (places : List ℕ) → slice_get pl
 first_none r h [] at = refl
 first_none r h (p ∷ places) at = absurd (none-some p (sym at))
 
-one_owing : (xs ys : List Owed) → length xs ≡ 1 → true ≡ is_owing (xs ++ ys)
+one_owing : (xs ys : List OwedLine) → length xs ≡ 1 → true ≡ is_owing (xs ++ ys)
 one_owing [] ys one = absurd (none_one one)
 one_owing (x ∷ xs) ys one = refl
 
@@ -80,19 +80,19 @@ same_self [] = refl
 same_self (x ∷ xs) = ap (λ (b : Bool). b && same_lines xs xs) (bytes_eq-refl x) ∙ same_self xs
 
 -- lines of a file are what the first owed line is due, or aren't
-pub due_first : {K E : Type 0} (r : Result Bool E) (n : NodeView K) (file : LogFile) (path : List ℕ) (lines : List (List ℕ)) (o : Owed) → path ≡ file_path file → n.owed ≡ o ∷ drop 1 n.owed
+pub due_first : {K E : Type 0} (r : Result Bool E) (n : NodeView K) (file : LogFile) (path : List ℕ) (lines : List (List ℕ)) (o : OwedLine) → path ≡ file_path file → n.owed ≡ o ∷ drop 1 n.owed
     → IfOk r (λ b. b ≡ (bytes_eq path (location_path o.key) && same_lines lines (due_by n o.key o.repo o.there))) → IfOk r (λ b. b ≡ are_due n file lines n.owed)
 due_first {K} (Ok b) n file path lines o here first is =
     is ∙ ap (λ (p : List ℕ). bytes_eq p (location_path o.key) && same_lines lines (due_by n o.key o.repo o.there)) here ∙ ap (are_due n file lines) (sym first)
 due_first (Err e) n file path lines o here first is = tt
 
 -- what it is due is due
-due_paid : {K : Type 0} (n : NodeView K) (o : Owed) (os : List Owed) → are_due n (Location o.key) (due_by n o.key o.repo o.there) (o ∷ os) ≡ true
+due_paid : {K : Type 0} (n : NodeView K) (o : OwedLine) (os : List OwedLine) → are_due n (Location o.key) (due_by n o.key o.repo o.there) (o ∷ os) ≡ true
 due_paid n o os =
     ap (λ (b : Bool). b && same_lines (due_by n o.key o.repo o.there) (due_by n o.key o.repo o.there)) (bytes_eq-refl (location_path o.key))
     ∙ same_self (due_by n o.key o.repo o.there)
 
-pub pays_due : {K : Type 0} (n : NodeView K) (file : LogFile) (new : List (List ℕ)) (o : Owed) → file ≡ Location o.key → new ≡ due_by n o.key o.repo o.there → n.owed ≡ o ∷ drop 1 n.owed → true ≡ are_due n file new n.owed
+pub pays_due : {K : Type 0} (n : NodeView K) (file : LogFile) (new : List (List ℕ)) (o : OwedLine) → file ≡ Location o.key → new ≡ due_by n o.key o.repo o.there → n.owed ≡ o ∷ drop 1 n.owed → true ≡ are_due n file new n.owed
 pays_due n file new o is due first =
     sym (ap (λ (f : LogFile). are_due n f new n.owed) is ∙ ap (λ (w : List (List ℕ)). are_due n (Location o.key) w n.owed) due
     ∙ ap (are_due n (Location o.key) (due_by n o.key o.repo o.there)) first ∙ due_paid n o (drop 1 n.owed))
@@ -117,39 +117,39 @@ ok_status {K} (Ok x) n m key repo there file new is due ok =
     ∙ ap (λ (ls : List (List ℕ)). with_entry n m.keeper (merged_file n.branch (location_path key) ls) (Log (Location key)) ls) due
 ok_status (Err e) n m key repo there file new is due ok = tt
 
-paid_rest : {K : Type 0} (r : Result (Unit {0}) NodeRefused) (n m : NodeView K) (o : Owed) (os : List Owed) → n.owed ≡ o ∷ os → OnOk r (m ≡ with_status n m.keeper o.key o.repo o.there) → OnOk r (m.owed ≡ os)
+paid_rest : {K : Type 0} (r : Result (Unit {0}) NodeRefused) (n m : NodeView K) (o : OwedLine) (os : List OwedLine) → n.owed ≡ o ∷ os → OnOk r (m ≡ with_status n m.keeper o.key o.repo o.there) → OnOk r (m.owed ≡ os)
 paid_rest {K} (Ok x) n m o os is ok =
     ap (λ (v : NodeView K). v.owed) ok
-    ∙ ap (λ (w : List Owed). rest_if (are_due n (Location o.key) (due_by n o.key o.repo o.there) w) w) is
+    ∙ ap (λ (w : List OwedLine). rest_if (are_due n (Location o.key) (due_by n o.key o.repo o.there) w) w) is
     ∙ ap (λ (b : Bool). rest_if b (o ∷ os)) (due_paid n o os)
 paid_rest (Err e) n m o os is ok = tt
 
 -- ---- the draft of the first line
 
-pub ok_first : {K E : Type 0} (r : Result Draft E) (n : NodeView K) (o : Owed) → n.owed ≡ o ∷ drop 1 n.owed → IfOk r (λ d. IsDraftOf n o d) → IfOk r (λ d. IsFirstDraft n d)
+pub ok_first : {K E : Type 0} (r : Result Draft E) (n : NodeView K) (o : OwedLine) → n.owed ≡ o ∷ drop 1 n.owed → IfOk r (λ d. IsDraftOf n o d) → IfOk r (λ d. IsFirstDraft n d)
 ok_first (Ok d) n o first draft = record { owed = o; first = first; draft = draft }
 ok_first (Err e) n o first draft = tt
 
 -- the first line that is owed is this one
-draft_same : {K : Type 0} (n : NodeView K) (d : Draft) (o : Owed) (os : List Owed) → IsFirstDraft n d → n.owed ≡ o ∷ os → IsDraftOf n o d
-draft_same n d o os f is = subst (λ (x : Owed). IsDraftOf n x d) (cons_same f.owed o (drop 1 n.owed) os (sym f.first ∙ is)) f.draft
+draft_same : {K : Type 0} (n : NodeView K) (d : Draft) (o : OwedLine) (os : List OwedLine) → IsFirstDraft n d → n.owed ≡ o ∷ os → IsDraftOf n o d
+draft_same n d o os f is = subst (λ (x : OwedLine). IsDraftOf n x d) (cons_same f.owed o (drop 1 n.owed) os (sym f.first ∙ is)) f.draft
 
-ok_drafted : {K : Type 0} (r : Result (Unit {0}) NodeRefused) (n m : NodeView K) (d : Draft) (o : Owed) → IsDraftOf n o d
+ok_drafted : {K : Type 0} (r : Result (Unit {0}) NodeRefused) (n m : NodeView K) (d : Draft) (o : OwedLine) → IsDraftOf n o d
     → OnOk r (m ≡ with_entry n m.keeper (merged_file n.branch (file_path d.file) d.new) (Log d.file) d.new) → OnOk r (m ≡ with_status n m.keeper o.key o.repo o.there)
 ok_drafted r n m d o draft ok = ok_status r n m o.key o.repo o.there d.file d.new draft.file draft.new ok
 
-err_drafted : {K : Type 0} (r : Result (Unit {0}) NodeRefused) (n m : NodeView K) (d : Draft) (o : Owed) → IsDraftOf n o d → IfErr r (λ e. RefusesFor d.by e PutFile n m) → IfErr r (λ e. RefusesFor o.by e PutFile n m)
+err_drafted : {K : Type 0} (r : Result (Unit {0}) NodeRefused) (n m : NodeView K) (d : Draft) (o : OwedLine) → IsDraftOf n o d → IfErr r (λ e. RefusesFor d.by e PutFile n m) → IfErr r (λ e. RefusesFor o.by e PutFile n m)
 err_drafted r n m d o draft err = subst (λ (by : By). IfErr r (λ e. RefusesFor by e PutFile n m)) draft.by err
 
-pub ok_paid : {K : Type 0} (r : Result (Unit {0}) NodeRefused) (n m : NodeView K) (d : Draft) (o : Owed) (os : List Owed) → IsFirstDraft n d → n.owed ≡ o ∷ os
+pub ok_paid : {K : Type 0} (r : Result (Unit {0}) NodeRefused) (n m : NodeView K) (d : Draft) (o : OwedLine) (os : List OwedLine) → IsFirstDraft n d → n.owed ≡ o ∷ os
     → OnOk r (m ≡ with_entry n m.keeper (merged_file n.branch (file_path d.file) d.new) (Log d.file) d.new) → OnOk r (m ≡ with_status n m.keeper o.key o.repo o.there)
 ok_paid r n m d o os f is ok = ok_drafted r n m d o (draft_same n d o os f is) ok
 
-pub rest_paid : {K : Type 0} (r : Result (Unit {0}) NodeRefused) (n m : NodeView K) (d : Draft) (o : Owed) (os : List Owed) → IsFirstDraft n d → n.owed ≡ o ∷ os
+pub rest_paid : {K : Type 0} (r : Result (Unit {0}) NodeRefused) (n m : NodeView K) (d : Draft) (o : OwedLine) (os : List OwedLine) → IsFirstDraft n d → n.owed ≡ o ∷ os
     → OnOk r (m ≡ with_entry n m.keeper (merged_file n.branch (file_path d.file) d.new) (Log d.file) d.new) → OnOk r (m.owed ≡ os)
 rest_paid r n m d o os f is ok = paid_rest r n m o os is (ok_paid r n m d o os f is ok)
 
-pub err_paid : {K : Type 0} (r : Result (Unit {0}) NodeRefused) (n m : NodeView K) (d : Draft) (o : Owed) (os : List Owed) → IsFirstDraft n d → n.owed ≡ o ∷ os
+pub err_paid : {K : Type 0} (r : Result (Unit {0}) NodeRefused) (n m : NodeView K) (d : Draft) (o : OwedLine) (os : List OwedLine) → IsFirstDraft n d → n.owed ≡ o ∷ os
     → IfErr r (λ e. RefusesFor d.by e PutFile n m) → IfErr r (λ e. RefusesFor o.by e PutFile n m)
 err_paid r n m d o os f is err = err_drafted r n m d o (draft_same n d o os f is) err
 
@@ -169,8 +169,8 @@ history_is : {K : Type 0} (n m : NodeView K) (k : Look) (kind : EntryKind) (line
     → m.history ≡ n.history ++ entry_of n.setup.number k (record { kind = kind; taken = None; sent = []; lines = others }) ∷ []
 history_is n m k kind lines others time count same adds = adds ∙ ap (λ (e : Entry). n.history ++ e ∷ []) (entry_is n k kind lines others time count same)
 
-pub step_made : {K : Type 0} (r : Result (Unit {0}) NodeRefused) (n m : NodeView K) (s : SetUp) (k : Look) (known : Option Contents) (o : Owed) (os : List Owed)
-    → MatchesSetup n.setup s → IsState s n.parts n.branch n.owed known (state_of s n.history) → k.time ≡ n.time → k.count ≡ n.count + 1 → failing k.fails (PutFile ∷ []) ≡ failed_put r
+pub step_made : {K : Type 0} (r : Result (Unit {0}) NodeRefused) (n m : NodeView K) (s : SetUp) (k : Look) (known : Option Contents) (o : OwedLine) (os : List OwedLine)
+    → MatchesSetup n.setup s → IsState s n.parts n.branch n.owed known (state_of s n.history) → k.time ≡ n.time → k.count ≡ n.count + 1 → failing_call k.fails (PutFile ∷ []) ≡ failed_put r
     → OnOk r (m ≡ with_status n m.keeper o.key o.repo o.there) → IfErr r (λ e. RefusesFor o.by e PutFile n m)
     → WhereMade r (AddsStep (pays_first s (state_of s n.history) k (o ∷ os)) n.setup.number k n.history m.history)
 step_made {K} (Ok x) n m s k known o os fits is time count fails ok err = record {
@@ -182,10 +182,10 @@ step_made {K} (Ok x) n m s k known o os fits is time count fails ok err = record
     st : State
     st = state_of s n.history
 
-    fault : Call → Made
+    fault : Call → Effect
     fault call = record { kind = Fault call o.by; taken = None; sent = []; lines = [] }
 
-    paid : Made
+    paid : Effect
     paid = record { kind = Log (Location o.key); taken = None; sent = []; lines = due s.repos st.lines (st.wall k.time) o }
 
     due_same : paid.lines ≡ due_by n o.key o.repo o.there
@@ -199,10 +199,10 @@ step_made {K} (Err refusals.StoreFault) n m s k known o os fits is time count fa
     st : State
     st = state_of s n.history
 
-    fault : Call → Made
+    fault : Call → Effect
     fault call = record { kind = Fault call o.by; taken = None; sent = []; lines = [] }
 
-    paid : Made
+    paid : Effect
     paid = record { kind = Log (Location o.key); taken = None; sent = []; lines = due s.repos st.lines (st.wall k.time) o }
 step_made (Err refusals.Full) n m s k known o os fits is time count fails ok err = tt
 step_made (Err (refusals.BadBundle at)) n m s k known o os fits is time count fails ok err = tt
@@ -211,16 +211,16 @@ step_made (Err refusals.NoMemory) n m s k known o os fits is time count fails ok
 -- the same, of the step of the state
 pub step_paid : {K : Type 0} (r : Result (Unit {0}) NodeRefused) (n m : NodeView K) (d : Draft) (s : SetUp) (k : Look) (known : Option Contents)
     → IsFirstDraft n d → (state_of s n.history).owed ≡ n.owed
-    → MatchesSetup n.setup s → IsState s n.parts n.branch n.owed known (state_of s n.history) → k.time ≡ n.time → k.count ≡ n.count + 1 → failing k.fails (PutFile ∷ []) ≡ failed_put r
+    → MatchesSetup n.setup s → IsState s n.parts n.branch n.owed known (state_of s n.history) → k.time ≡ n.time → k.count ≡ n.count + 1 → failing_call k.fails (PutFile ∷ []) ≡ failed_put r
     → OnOk r (m ≡ with_entry n m.keeper (merged_file n.branch (file_path d.file) d.new) (Log d.file) d.new) → IfErr r (λ e. RefusesFor d.by e PutFile n m)
     → WhereMade r (AddsStep (owed_step s (state_of s n.history) k) n.setup.number k n.history m.history)
 step_paid {K} r n m d s k known f owes fits is time count fails ok err =
-    subst (λ (os : List Owed). WhereMade r (AddsStep (pays_first s (state_of s n.history) k os) n.setup.number k n.history m.history)) (sym (owes ∙ f.first))
+    subst (λ (os : List OwedLine). WhereMade r (AddsStep (pays_first s (state_of s n.history) k os) n.setup.number k n.history m.history)) (sym (owes ∙ f.first))
     (step_made r n m s k known f.owed (drop 1 n.owed) fits is time count fails (ok_drafted r n m d f.owed f.draft ok) (err_drafted r n m d f.owed f.draft err))
 
 -- ---- the line is one that the log lacks
 
-pub draft_new : {K : Type 0} (n : NodeView K) (o : Owed) (d : Draft) → IsDraftOf n o d → AreNew d.new (lines_at n.branch d.path)
+pub draft_new : {K : Type 0} (n : NodeView K) (o : OwedLine) (d : Draft) → IsDraftOf n o d → AreNew d.new (lines_at n.branch d.path)
 draft_new n o d is =
     subst (λ (x : List (List ℕ)). AreNew x (lines_at n.branch d.path)) (sym is.new)
     (subst (λ (p : List ℕ). AreNew (due_by n o.key o.repo o.there) (lines_at n.branch p)) (sym is.path)

@@ -9,7 +9,7 @@ use Rattle.object_store.specs.Stores.{Contents, Parts, contents_after_commit, wi
 use Rattle.run_data.specs.declared.entry.EntryKind.TheVariants.{Gain}
 use Rattle.run_data.specs.declared.entry.By.{By}
 use Rattle.run_data.specs.declared.entry.By.TheVariants.{Script}
-use Rattle.node_model.specs.Owed.{Owed}
+use Rattle.node_model.specs.OwedLines.{OwedLine}
 use Rattle.node_model.specs.Rows.{content_after, present_after}
 use Rattle.annex_base.specs.declared.kinds.Call.{Call}
 use Rattle.annex_base.specs.declared.kinds.Call.TheVariants.{Commit, PutFile}
@@ -147,14 +147,14 @@ pub on_err : {X E : Type 0} {P : Type 0} (r : Result X E) → P → OnErr r P
 on_err (Ok x) p = tt
 on_err (Err e) p = p
 
-pub kept_brought : {X : Type 0} (r : Result X NodeRefused) (was now : Past) (parts : PartsView) (branch : Files) (told told' : Option Contents) (owed owed' : List Owed)
+pub kept_brought : {X : Type 0} (r : Result X NodeRefused) (was now : Past) (parts : PartsView) (branch : Files) (told told' : Option Contents) (owed owed' : List OwedLine)
     → OnOk r (SamePast was now) → IfErr r (λ e. FailsAtScripts e was now) → told' ≡ told → owed' ≡ owed
     → Laws parts → IsKept was.setup was.history.items parts branch owed told → IsKept now.setup now.history.items parts branch owed' told'
 kept_brought (Ok x) was now parts branch told told' owed owed' same fails is owes laws kept = kept_past was now parts branch branch told told' owed owed' same refl is owes kept
 kept_brought (Err e) was now parts branch told told' owed owed' same fails is owes laws kept =
     kept_failed Script e fails.call was now parts branch branch told told' owed owed' fails.scripts fails.fails refl is (owes ∙ sym (refused_stay e fails.call owed)) laws kept
 
-pub kept_gained : (r : Result (Unit {0}) NodeRefused) (was now : Past) (parts : PartsView) (branch : Files) (known known' : Option Contents) (stored stored' : Option Parts) (key : List ℕ) (size : ℕ) (owed owed' : List Owed)
+pub kept_gained : (r : Result (Unit {0}) NodeRefused) (was now : Past) (parts : PartsView) (branch : Files) (known known' : Option Contents) (stored stored' : Option Parts) (key : List ℕ) (size : ℕ) (owed owed' : List OwedLine)
     → OnOk r (AddsTo (Gain Script size key) [] was now) → IfErr r (λ e. FailsFor Script e Commit was now)
     → OnOk r (known' ≡ contents_after_commit known stored key) → OnErr r (known' ≡ known)
     → OnOk r (stored' ≡ option_map (λ (p : Parts). with_at p key []) stored) → OnErr r (stored' ≡ stored) → ForSome stored (λ p. length (p key) ≡ size) → owed' ≡ owed
@@ -167,12 +167,12 @@ kept_gained (Err e) was now parts branch known known' stored stored' key size ow
 
 -- ---- what clauses see
 
-pub seen_same : {K X : Type 0} (r : Result X NodeRefused) (k k' : K) (t : PartsView) (b : Files) (was now : Past) (owed owed' : List Owed) (n : NodeView K) → node_of k t b was owed ≡ n → OnOk r (SamePast was now) → owed' ≡ owed
+pub seen_same : {K X : Type 0} (r : Result X NodeRefused) (k k' : K) (t : PartsView) (b : Files) (was now : Past) (owed owed' : List OwedLine) (n : NodeView K) → node_of k t b was owed ≡ n → OnOk r (SamePast was now) → owed' ≡ owed
     → OnOk r (node_of k' t b now owed' ≡ over k' n)
 seen_same {K} (Ok x) k k' t b was now owed owed' n view same owes = node_same k k' t b b was now owed owed' refl same owes ∙ ap (λ (m : NodeView K). over k' m) view
 seen_same (Err e) k k' t b was now owed owed' n view same owes = tt
 
-pub seen_stops : {K X : Type 0} (r : Result X NodeRefused) (k k' : K) (t : PartsView) (b : Files) (was now : Past) (owed owed' : List Owed) (n : NodeView K) → node_of k t b was owed ≡ n → IfErr r (λ e. FailsAtScripts e was now) → owed' ≡ owed
+pub seen_stops : {K X : Type 0} (r : Result X NodeRefused) (k k' : K) (t : PartsView) (b : Files) (was now : Past) (owed owed' : List OwedLine) (n : NodeView K) → node_of k t b was owed ≡ n → IfErr r (λ e. FailsAtScripts e was now) → owed' ≡ owed
     → IfErr r (λ e. StopsBefore e n (node_of k' t b now owed'))
 seen_stops (Ok x) k k' t b was now owed owed' n view fails owes = tt
 seen_stops {K} (Err e) k k' t b was now owed owed' n view fails owes = record {
@@ -182,7 +182,7 @@ seen_stops {K} (Err e) k k' t b was now owed owed' n view fails owes = record {
       (node_failed Script e fails.call k k' t b b was now owed owed' refl fails.fails (owes ∙ sym (refused_stay e fails.call owed)));
 }
 
-pub seen_gained : {K : Type 0} (r : Result (Unit {0}) NodeRefused) (k k' : K) (t : PartsView) (b : Files) (was now : Past) (owed owed' : List Owed) (n : NodeView K) (key : List ℕ) (size : ℕ) → node_of k t b was owed ≡ n → OnOk r (AddsTo (Gain Script size key) [] was now) → owed' ≡ owed
+pub seen_gained : {K : Type 0} (r : Result (Unit {0}) NodeRefused) (k k' : K) (t : PartsView) (b : Files) (was now : Past) (owed owed' : List OwedLine) (n : NodeView K) (key : List ℕ) (size : ℕ) → node_of k t b was owed ≡ n → OnOk r (AddsTo (Gain Script size key) [] was now) → owed' ≡ owed
     → OnOk r (node_of k' t b now owed' ≡ with_gain n k' key size)
 seen_gained {K} (Ok x) k k' t b was now owed owed' n key size view adds owes = node_adds k k' t b b b was now owed owed' (Gain Script size key) [] refl adds owes ∙ ap (λ (m : NodeView K). with_gain m k' key size) view
 seen_gained (Err e) k k' t b was now owed owed' n key size view adds owes = tt
@@ -192,7 +192,7 @@ pub grows_brought : {X : Type 0} (r : Result X NodeRefused) (was now : Past) →
 grows_brought (Ok x) was now same fails = grows_same was now same
 grows_brought (Err e) was now same fails = grows_failed Script e fails.call was now fails.fails
 
-pub refused_same : {X : Type 0} (r : Result X NodeRefused) (call : Call) (owed owed' : List Owed) → owed' ≡ owed → IfErr r (λ e. owed' ≡ owed_refused Script e call owed)
+pub refused_same : {X : Type 0} (r : Result X NodeRefused) (call : Call) (owed owed' : List OwedLine) → owed' ≡ owed → IfErr r (λ e. owed' ≡ owed_refused Script e call owed)
 refused_same (Ok x) call owed owed' owes = tt
 refused_same (Err e) call owed owed' owes = owes ∙ sym (refused_stay e call owed)
 

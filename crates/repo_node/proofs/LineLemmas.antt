@@ -12,7 +12,7 @@ use Rattle.annex_base.proofs.Lists.{append_nil_left, cons_nil, list_any_found, l
 use Rattle.log_lines.specs.declared.entry.LogKind.TheVariants as kinds
 use Rattle.log_lines.specs.declared.entry.Topic.TheVariants as topics
 use Rattle.log_lines.specs.LineText.{line_text, location_text, value_text}
-use Rattle.node_model.specs.Owed.{status}
+use Rattle.node_model.specs.OwedLines.{status}
 use Rattle.union_merge.specs.LineSet.{IsLine}
 
 not_empty : (xs ys : List ℕ) (y : ℕ) → xs ++ (y ∷ ys) ≡ [] → ⊥

@@ -18,17 +18,17 @@ use Rattle.union_merge.specs.Branch.{Files, lines_at}
 use Rattle.union_merge.specs.LineSet.{union}
 use Rattle.drop_worker.specs.Working.{failed_in}
 use Rattle.annex_base.specs.declared.memory.NoMemory.{NoMemory}
-use Rattle.node_model.specs.Look.{Look, Made, first_of}
+use Rattle.node_model.specs.Look.{Look, Effect, first_of}
 use Rattle.node_model.specs.SessionStep.{session_step}
 use Rattle.node_model.specs.SetUp.{SetUp}
 use Rattle.node_model.specs.State.{State}
-use Rattle.node_model.specs.Owed.{Owed}
+use Rattle.node_model.specs.OwedLines.{OwedLine}
 use Rattle.node_model.specs.Turns.{job_step}
 use Rattle.content_lock.specs.CallsMade.{MakesCalls, fewer}
 use Rattle.p2p_server.specs.declared.session.Session.{Session}
 use Rattle.node_sessions.specs.Calls.{session_calls}
 use Rattle.node_sessions.specs.Serving.{SeesPartAt}
-use Rattle.node_sessions.specs.Sessions.{FedAll}
+use Rattle.node_sessions.specs.Sessions.{AreAllFed}
 use Rattle.node_jobs.specs.Calls.{job_calls}
 use Rattle.node_jobs.specs.Places.{PlaceView}
 use Rattle.node_parts.specs.declared.done.Done.{Done}
@@ -50,7 +50,7 @@ use Rattle.repo_node.specs.Turning.{Adds, Caller, GoOn, Looks, Stepper, StepsBy,
 use Rattle.repo_node.proofs.StepLemmas.{CountLaw, DoesBy, WhereDone, sees_parts, told_some}
 
 -- the node that these are
-abbrev pub seen : {K : Type 0} → K → PartsView → Files → Past → List Owed → NodeView K
+abbrev pub seen : {K : Type 0} → K → PartsView → Files → Past → List OwedLine → NodeView K
 seen keeper parts branch p owed = record { setup = p.setup; keeper = keeper; parts = parts; branch = branch; time = p.time; count = p.count; history = p.history.items; outcomes = p.outcomes.items; owed = owed }
 
 some_done : (x y : Done) → Some x ≡ Some y → x ≡ y
@@ -83,10 +83,10 @@ enters_after d was ready now same enters = record {
 
 -- ---- what is added
 
-same_node : {K : Type 0} (k k' : K) (parts parts' : PartsView) (branch : Files) (was now : Past) (owed owed' : List Owed) → parts' ≡ parts → SamePast was now → owed' ≡ owed
+same_node : {K : Type 0} (k k' : K) (parts parts' : PartsView) (branch : Files) (was now : Past) (owed owed' : List OwedLine) → parts' ≡ parts → SamePast was now → owed' ≡ owed
     → seen k' parts' branch now owed' ≡ record (seen k parts branch was owed) { keeper = k' }
 same_node {K} k k' parts parts' branch was now owed owed' ep same eo =
-    let node : PartsView → Setup → ℕ → ℕ → List Entry → List Ended → List Owed → NodeView K =
+    let node : PartsView → Setup → ℕ → ℕ → List Entry → List Ended → List OwedLine → NodeView K =
     (λ p s t c h x o. record { setup = s; keeper = k'; parts = p; branch = branch; time = t; count = c; history = h; outcomes = x; owed = o }) in
     ap (λ (p : PartsView). node p now.setup now.time now.count now.history.items now.outcomes.items owed') ep
     ∙ ap (λ (s : Setup). node parts s now.time now.count now.history.items now.outcomes.items owed') same.setup
@@ -94,9 +94,9 @@ same_node {K} k k' parts parts' branch was now owed owed' ep same eo =
     ∙ ap (λ (c : ℕ). node parts was.setup was.time c now.history.items now.outcomes.items owed') same.count
     ∙ ap (λ (h : List Entry). node parts was.setup was.time was.count h now.outcomes.items owed') same.history
     ∙ ap (λ (x : List Ended). node parts was.setup was.time was.count was.history.items x owed') same.outcomes
-    ∙ ap (λ (o : List Owed). node parts was.setup was.time was.count was.history.items was.outcomes.items o) eo
+    ∙ ap (λ (o : List OwedLine). node parts was.setup was.time was.count was.history.items was.outcomes.items o) eo
 
-pub seen_same : {K : Type 0} (k k' : K) (parts parts' : PartsView) (branch : Files) (was now : Past) (owed owed' : List Owed) (n : NodeView K) → seen k parts branch was owed ≡ n → parts' ≡ parts → SamePast was now → owed' ≡ owed
+pub seen_same : {K : Type 0} (k k' : K) (parts parts' : PartsView) (branch : Files) (was now : Past) (owed owed' : List OwedLine) (n : NodeView K) → seen k parts branch was owed ≡ n → parts' ≡ parts → SamePast was now → owed' ≡ owed
     → seen k' parts' branch now owed' ≡ record n { keeper = k' }
 seen_same {K} k k' parts parts' branch was now owed owed' n view ep same eo =
     subst (λ (m : NodeView K). seen k' parts' branch now owed' ≡ record m { keeper = k' }) view (same_node k k' parts parts' branch was now owed owed' ep same eo)
@@ -124,7 +124,7 @@ pub record LeavesStore (p : PartsView) (before after : StoreView) (o : Option Do
 keeper_same : {K : Type 0} (k k' : K) (n : NodeView K) → k ≡ n.keeper → k' ≡ k → record n { keeper = k' } ≡ n
 keeper_same {K} k k' n here same = ap (λ (x : K). record n { keeper = x }) (same ∙ here)
 
-adds_entry : {K : Type 0} (d : Done) (k k' : K) (parts parts' : PartsView) (branch : Files) (number : ℕ) (was now : Past) (owed owed' : List Owed) (before after : StoreView)
+adds_entry : {K : Type 0} (d : Done) (k k' : K) (parts parts' : PartsView) (branch : Files) (number : ℕ) (was now : Past) (owed owed' : List OwedLine) (before after : StoreView)
     → EntersStep d was now → Leaves number parts parts' d → PostsIn was parts before.contents parts' d → GoOn parts parts' d → IsQuiet d.kind → IfSome (failed_in d.kind) (λ call. Rose before.faults after.faults) → LeavesStore parts before after (Some d)
     → Adds parts.links before after (seen k parts branch was owed) (seen k' parts' branch now owed')
 adds_entry d k k' parts parts' branch number was now owed owed' before after enters leaves posts goes quiet cause store = record {
@@ -147,7 +147,7 @@ adds_entry d k k' parts parts' branch number was now owed owed' before after ent
   cause = cause;
 }
 
-pub adds_if : {K : Type 0} (view : K → StoreView) (o : Option Done) (b : Bool) (k k' : K) (parts parts' : PartsView) (branch : Files) (number : ℕ) (was ready now : Past) (debts debts' : List ℕ) (owed owed' : List Owed) (n : NodeView K)
+pub adds_if : {K : Type 0} (view : K → StoreView) (o : Option Done) (b : Bool) (k k' : K) (parts parts' : PartsView) (branch : Files) (number : ℕ) (was ready now : Past) (debts debts' : List ℕ) (owed owed' : List OwedLine) (n : NodeView K)
     → seen k parts branch was owed ≡ n → b ≡ is_some o → SamePast was ready → EntersIf o ready now debts debts' → LeavesSo number parts parts' o → ForSome o (PostsIn was parts (view k).contents parts') → ForSome o (GoOn parts parts') → ForSome o (λ d. IsQuiet d.kind)
     → IfSome (failed_by o) (λ call. Rose (view k).faults (view k').faults) → LeavesStore parts (view k) (view k') o → (o ≡ None → owed' ≡ owed) → (o ≡ None → k' ≡ k)
     → AddsIf b n.parts.links (view n.keeper) (view k') n (seen k' parts' branch now owed')
@@ -162,14 +162,14 @@ adds_if {K} view (Some d) b k k' parts parts' branch number was ready now debts 
 -- ---- the step
 
 -- no look of these finds a step
-none_steps : {K : Type 0} (step : Stepper) (law : CountLaw) (k : K) (parts parts' : PartsView) (branch : Files) (was : Past) (owed : List Owed) (cs cs' : Option Contents) (qs : Option StoredParts)
+none_steps : {K : Type 0} (step : Stepper) (law : CountLaw) (k : K) (parts parts' : PartsView) (branch : Files) (was : Past) (owed : List OwedLine) (cs cs' : Option Contents) (qs : Option StoredParts)
     → IsKept was.setup was.history.items parts branch owed (told_of cs qs) → (c : Contents) → told_of cs qs ≡ Some c → DoesBy step parts parts' c qs cs' was.setup was.history.items was.time None
     → NoStep step (seen k parts branch was owed)
 none_steps step law k parts parts' branch was owed cs cs' qs kept c told by s look fits looks =
     (by.does s look fits (sees_parts law was.setup was.history.items parts branch owed (told_of cs qs) c was.time (length was.history.items + 1) s look kept told refl fits looks.ends looks.time)
     (λ d is. no_done d is) (λ d is. no_done d is) (λ d is. no_done d is)).made
 
-entry_same : (r r' time time' count count' : ℕ) (m : Made) → r ≡ r' → time ≡ time' → count ≡ count'
+entry_same : (r r' time time' count count' : ℕ) (m : Effect) → r ≡ r' → time ≡ time' → count ≡ count'
     → ◌≡◌ {A = Entry} (record { time = time'; count = count'; repo = Some r'; kind = m.kind; taken = m.taken; sent = m.sent; lines = m.lines }) (record { time = time; count = count; repo = Some r; kind = m.kind; taken = m.taken; sent = m.sent; lines = m.lines })
 entry_same r r' time time' count count' m er et ec =
     let entry : ℕ → ℕ → ℕ → Entry = (λ x t c. record { time = t; count = c; repo = Some x; kind = m.kind; taken = m.taken; sent = m.sent; lines = m.lines }) in
@@ -186,7 +186,7 @@ module _ (known : Option StoredParts) (d : Done) (parts : PartsView) (k : Look) 
   finds_words : k.words ≡ words_heard parts (Some d) → Hears parts (Some d) k
   finds_words words x is = words ∙ ap (λ (y : Done). words_heard parts (Some y)) (some_done d x is)
 
-some_steps : {K : Type 0} (step : Stepper) (caller : Caller) (law : CountLaw) (d : Done) (k k' : K) (parts parts' : PartsView) (branch : Files) (was now : Past) (owed owed' : List Owed) (before after : StoreView)
+some_steps : {K : Type 0} (step : Stepper) (caller : Caller) (law : CountLaw) (d : Done) (k k' : K) (parts parts' : PartsView) (branch : Files) (was now : Past) (owed owed' : List OwedLine) (before after : StoreView)
     → IsKept was.setup was.history.items parts branch owed (told_of before.contents before.parts) → EntersStep d was now → (c : Contents) → told_of before.contents before.parts ≡ Some c
     → DoesBy step parts parts' c before.parts after.contents was.setup was.history.items was.time (Some d)
     → WhereDone parts c before.parts was.setup was.history.items was.time (Some d) (λ s st x. MakesCalls (caller s st x) (failed_in d.kind) before.failing after.failing)
@@ -208,7 +208,7 @@ some_steps step caller law d k k' parts parts' branch was now owed owed' before 
       (finds_fails before.parts d parts look finds.fails) (finds_part before.parts d parts look finds.part) (finds_words before.parts d parts look finds.words);
 }
 
-pub steps_if : {K : Type 0} (view : K → StoreView) (step : Stepper) (caller : Caller) (law : CountLaw) (o : Option Done) (b : Bool) (k k' : K) (parts parts' : PartsView) (branch : Files) (was ready now : Past) (debts debts' : List ℕ) (owed owed' : List Owed) (n : NodeView K)
+pub steps_if : {K : Type 0} (view : K → StoreView) (step : Stepper) (caller : Caller) (law : CountLaw) (o : Option Done) (b : Bool) (k k' : K) (parts parts' : PartsView) (branch : Files) (was ready now : Past) (debts debts' : List ℕ) (owed owed' : List OwedLine) (n : NodeView K)
     → seen k parts branch was owed ≡ n → b ≡ is_some o → SamePast was ready → EntersIf o ready now debts debts' → IsKept was.setup was.history.items parts branch owed (told_of (view k).contents (view k).parts)
     → ForSome (told_of (view k).contents (view k).parts) (λ c. DoesBy step parts parts' c (view k).parts (view k').contents was.setup was.history.items was.time o)
     → ForSome (told_of (view k).contents (view k).parts) (λ c. WhereDone parts c (view k).parts was.setup was.history.items was.time o (λ s st x. MakesCalls (caller s st x) (failed_by o) (view k).failing (view k').failing))
@@ -251,7 +251,7 @@ served_where m was ready parts c known o P at same there s k fits sees fails ask
 
 pub served_does : (m : Moment) (was ready : Past) (parts parts' : PartsView) (cs cs' : Option Contents) (qs : Option StoredParts) (o : Option Done)
     → m ≡ moment_in ready → SamePast was ready → IsFed qs parts
-    → ForSome cs (λ c. Serves parts parts' c qs cs' m.clock m.time m.number o) → ForSome qs (λ q. FedAll q parts.sessions → ForSome o (λ d. HasPart (Some q) parts d.taken))
+    → ForSome cs (λ c. Serves parts parts' c qs cs' m.clock m.time m.number o) → ForSome qs (λ q. AreAllFed q parts.sessions → ForSome o (λ d. HasPart (Some q) parts d.taken))
     → ForSome (told_of cs qs) (λ c. DoesBy session_step parts parts' c qs cs' was.setup was.history.items was.time o)
 served_does m was ready parts parts' cs cs' qs o at same fed serves asked c told =
     let q = told_both cs qs c told in
@@ -267,7 +267,7 @@ served_calls m was ready parts cs qs o before after at same calls c told =
     served_where m was ready parts c qs o (λ s st k. MakesCalls (session_calls s st k) (failed_by o) before after) at same (calls c (told_some cs qs c told).0)
 
 -- what the jobs read is what the state has read
-pub settings_are : (setup : Setup) (h : List Entry) (parts : PartsView) (branch : Files) (owed : List Owed) (told : Option Contents) (i : Indices) (s : SetUp)
+pub settings_are : (setup : Setup) (h : List Entry) (parts : PartsView) (branch : Files) (owed : List OwedLine) (told : Option Contents) (i : Indices) (s : SetUp)
     → ((x : Indices) (lines : Lines) → HaveReadLines x lines → settings_of x ≡ settings lines) → HaveReadLines i (lines_at branch) → IsKept setup h parts branch owed told → MatchesSetup setup s → settings (state_of s h).lines ≡ settings_of i
 settings_are setup h parts branch owed told i s law reads kept fits =
     let is = kept.state s fits in
@@ -283,7 +283,7 @@ none_asked : (known : Option StoredParts) (p : PartsView) (taken : Option FrameV
 none_asked known p taken is = record { part = 0; right = false; asked = subst (λ (x : Option Session). SeesPartAt known x taken 0 false) (sym is) (none_sees known taken) }
 
 -- the premises on the moment, and on what the index has read
-module _ (m : Moment) (was ready : Past) (parts : PartsView) (branch : Files) (owed : List Owed) (cs : Option Contents) (qs : Option StoredParts) (i : Indices) (o : Option Done)
+module _ (m : Moment) (was ready : Past) (parts : PartsView) (branch : Files) (owed : List OwedLine) (cs : Option Contents) (qs : Option StoredParts) (i : Indices) (o : Option Done)
     (at : m ≡ moment_in ready) (same : SamePast was ready) (law : (x : Indices) (lines : Lines) → HaveReadLines x lines → settings_of x ≡ settings lines) (reads : HaveReadLines i (lines_at branch))
     (kept : IsKept was.setup was.history.items parts branch owed (told_of cs qs)) where
   acted_where : (c : Contents) (P : SetUp → State → Look → Type 0) → WhereActed parts c m.clock (settings_of i) m.time m.number o P → WhereDone parts c qs was.setup was.history.items was.time o P
@@ -304,7 +304,7 @@ module _ (m : Moment) (was ready : Past) (parts : PartsView) (branch : Files) (o
 
 -- ---- whether a step is ready
 
-pub ready_parts : {K : Type 0} (r : Result Bool NoMemory) (law : CountLaw) (m : Moment) (k : K) (parts : PartsView) (branch : Files) (was : Past) (owed : List Owed) (cs : Option Contents) (qs : Option StoredParts) (n : NodeView K)
+pub ready_parts : {K : Type 0} (r : Result Bool NoMemory) (law : CountLaw) (m : Moment) (k : K) (parts : PartsView) (branch : Files) (was : Past) (owed : List OwedLine) (cs : Option Contents) (qs : Option StoredParts) (n : NodeView K)
     → seen k parts branch was owed ≡ n → m ≡ moment_in was → IsKept was.setup was.history.items parts branch owed (told_of cs qs)
     → IfOk r (λ b. (c : Contents) (s : SetUp) (st : State) (look : Look) → SeesParts parts c m.clock m.time m.number s st look → is_some (first_of (session_step s st look) (job_step s st look)) ≡ b)
     → {told : Option Contents} → told_of cs qs ≡ told

@@ -9,7 +9,7 @@ use Rattle.run_data.specs.declared.entry.EntryKind.{EntryKind}
 use Rattle.run_data.specs.declared.entry.EntryKind.TheVariants.{Gain, Gone}
 use Rattle.object_store.specs.Stores.{Contents, Parts as StoredParts}
 use Rattle.union_merge.specs.Branch.{Files}
-use Rattle.node_model.specs.Owed.{Owed}
+use Rattle.node_model.specs.OwedLines.{OwedLine}
 use Rattle.node_parts.specs.declared.done.Done.{Done}
 use Rattle.node_parts.specs.Kinds.{IsQuiet}
 use Rattle.node_parts.specs.Parts.{PartsView}
@@ -33,7 +33,7 @@ use Rattle.repo_node.proofs.StepLemmas.{CountLaw, DoesBy, FillLaw, entry_done, k
 none_one : ◌≡◌ {A = ℕ} 0 1 → ⊥
 none_one one = absurd cc
 
-no_head : (xs ys : List Owed) → length xs ≡ 1 → xs ++ ys ≡ [] → ⊥
+no_head : (xs ys : List OwedLine) → length xs ≡ 1 → xs ++ ys ≡ [] → ⊥
 no_head [] ys one none = none_one one
 no_head (x ∷ xs) ys one none = absurd cc
 
@@ -137,4 +137,4 @@ kept_if step fills law (Some d) was ready now parts parts' branch debts ready_de
     kept_entered was.setup now.setup (was.history.items ++ made_in was d ∷ []) now.history.items parts' branch (owed_by was.setup.number d.kind) (owed_in now debts') (told_of cs' qs') added.setup added.history
     (owed_noted d was ready now debts ready_debts debts' same same_debts enters are none)
     (kept_stepped step was.setup was.history.items parts parts' branch cs cs' qs qs' was.time (was.count + 1) d fills law sound sound'
-    (subst (λ (os : List Owed). IsKept was.setup was.history.items parts branch os (told_of cs qs)) none kept) leaves (quiet d refl) does told_parts told_contents place begun)
+    (subst (λ (os : List OwedLine). IsKept was.setup was.history.items parts branch os (told_of cs qs)) none kept) leaves (quiet d refl) does told_parts told_contents place begun)

@@ -19,7 +19,7 @@ use Rattle.run_data.specs.Repos.{id_of}
 use Rattle.union_merge.specs.Branch.{lines_at}
 use Rattle.node_model.specs.After.{states}
 use Rattle.node_model.specs.Clocks.{wall}
-use Rattle.node_model.specs.Owed.{Owed, due, if_new, owed_after, owed_without, pays, same_lines, status_line}
+use Rattle.node_model.specs.OwedLines.{OwedLine, due, if_new, owed_after, owed_without, pays, same_lines, status_line}
 use Rattle.node_model.specs.SetUp.{SetUp}
 use Rattle.node_model.specs.State.{State}
 use Rattle.node_parts.specs.Direct.{IsDirect}
@@ -44,7 +44,7 @@ wall_is : (s : SetUp) (past : List Entry) → (states s past).wall ≡ wall s.re
 wall_is s [] = refl
 wall_is s (e ∷ past) = wall_is s past
 
-pub due_is : {K : Type 0} (n : NodeView K) (s : SetUp) (known : Option Contents) (o : Owed) → MatchesSetup n.setup s → IsState s n.parts n.branch n.owed known (state_of s n.history)
+pub due_is : {K : Type 0} (n : NodeView K) (s : SetUp) (known : Option Contents) (o : OwedLine) → MatchesSetup n.setup s → IsState s n.parts n.branch n.owed known (state_of s n.history)
     → due s.repos (state_of s n.history).lines ((state_of s n.history).wall n.time) o ≡ due_by n o.key o.repo o.there
 due_is n s known o fits is =
     let st : State = state_of s n.history in
@@ -59,7 +59,7 @@ due_is n s known o fits is =
 
 -- ---- the lines that the state owes
 
-paid_is : {K : Type 0} (n : NodeView K) (s : SetUp) (known : Option Contents) (file : LogFile) (lines : List (List ℕ)) (os : List Owed) → MatchesSetup n.setup s → IsState s n.parts n.branch n.owed known (state_of s n.history)
+paid_is : {K : Type 0} (n : NodeView K) (s : SetUp) (known : Option Contents) (file : LogFile) (lines : List (List ℕ)) (os : List OwedLine) → MatchesSetup n.setup s → IsState s n.parts n.branch n.owed known (state_of s n.history)
     → pays s.repos (state_of s n.history).lines ((state_of s n.history).wall n.time) (next_entry n (Log file) lines) file os ≡ rest_if (are_due n file lines os) os
 paid_is n s known file lines [] fits is = refl
 paid_is n s known file lines (o ∷ os) fits is =
@@ -70,7 +70,7 @@ pub owed_is : {K : Type 0} (n : NodeView K) (s : SetUp) (known : Option Contents
     → owed_after s.repos (state_of s n.history).lines ((state_of s n.history).wall n.time) (state_of s n.history).works s.number (state_of s n.history).owed (next_entry n kind lines) kind ≡ owed_now n kind lines
 owed_is n s known (Gain Script size key) lines direct fits is owes = append-nil (state_of s n.history).owed ∙ owes
 owed_is n s known (Log file) lines direct fits is owes =
-    ap (λ (os : List Owed). pays s.repos (state_of s n.history).lines ((state_of s n.history).wall n.time) (next_entry n (Log file) lines) file os) owes
+    ap (λ (os : List OwedLine). pays s.repos (state_of s n.history).lines ((state_of s n.history).wall n.time) (next_entry n (Log file) lines) file os) owes
     ∙ paid_is n s known file lines n.owed fits is
 owed_is n s known (Compact file) lines direct fits is owes = owes
 owed_is n s known (Fault call by) lines direct fits is owes = ap (owed_without call by) owes
@@ -108,7 +108,7 @@ places_more : (r : ℕ) (h more : List Entry) (places : List ℕ) → AreDebts r
 places_more r h more [] debts = refl
 places_more r h more (place ∷ places) debts =
     ap (λ (e : Option Entry). owed_of r e ++ owed_at r (h ++ more) places) (at_more r h more place debts.0)
-    ∙ ap (λ (os : List Owed). owed_of r (slice_get h place) ++ os) (places_more r h more places debts.1)
+    ∙ ap (λ (os : List OwedLine). owed_of r (slice_get h place) ++ os) (places_more r h more places debts.1)
 
 debts_more : (r : ℕ) (h more : List Entry) (places : List ℕ) → AreDebts r h places → AreDebts r (h ++ more) places
 debts_more r h more [] debts = tt
@@ -120,7 +120,7 @@ debts_rest r h false places debts = debts
 debts_rest r h true [] debts = debts
 debts_rest r h true (place ∷ places) debts = debts.1
 
-drop_one : (xs ys : List Owed) → length xs ≡ 1 → drop 1 (xs ++ ys) ≡ ys
+drop_one : (xs ys : List OwedLine) → length xs ≡ 1 → drop 1 (xs ++ ys) ≡ ys
 drop_one [] ys one = absurd cc
 drop_one (x ∷ []) ys one = refl
 drop_one (x ∷ y ∷ xs) ys one = absurd cc
@@ -130,7 +130,7 @@ places_rest r h false places debts = refl
 places_rest r h true [] debts = refl
 places_rest r h true (place ∷ places) debts = sym (drop_one (owed_of r (slice_get h place)) (owed_at r h places) debts.0)
 
-abbrev pub owed_in : Past → List ℕ → List Owed
+abbrev pub owed_in : Past → List ℕ → List OwedLine
 owed_in p places = owed_at p.setup.number p.history.items places
 
 abbrev pub DebtsIn : Past → List ℕ → Type 0
@@ -160,22 +160,22 @@ debts_left was now b places places' grows left debts =
 
 -- ---- refusals
 
-pub scripts_stay : (call : Call) (os : List Owed) → owed_without call Script os ≡ os
+pub scripts_stay : (call : Call) (os : List OwedLine) → owed_without call Script os ≡ os
 scripts_stay PutFile os = refl
 scripts_stay _ os = refl
 
-pub refused_stay : (e : NodeRefused) (call : Call) (os : List Owed) → owed_refused Script e call os ≡ os
+pub refused_stay : (e : NodeRefused) (call : Call) (os : List OwedLine) → owed_refused Script e call os ≡ os
 refused_stay refusals.StoreFault call os = scripts_stay call os
 refused_stay refusals.Full call os = refl
 refused_stay (refusals.BadBundle at) call os = refl
 refused_stay refusals.NoMemory call os = refl
 
-debtor_is : (by : By) (os : List Owed) → owed_without PutFile by os ≡ rest_if (is_debtor by) os
+debtor_is : (by : By) (os : List OwedLine) → owed_without PutFile by os ≡ rest_if (is_debtor by) os
 debtor_is Script os = refl
 debtor_is (by_job job) os = refl
 debtor_is (Peer peer slot) os = refl
 
-refused_is : (paid : Bool) (by : By) (e : NodeRefused) (os : List Owed) → rest_if (first_goes paid by (Err e)) os ≡ owed_refused by e PutFile os
+refused_is : (paid : Bool) (by : By) (e : NodeRefused) (os : List OwedLine) → rest_if (first_goes paid by (Err e)) os ≡ owed_refused by e PutFile os
 refused_is paid by refusals.StoreFault os = sym (debtor_is by os)
 refused_is paid by refusals.Full os = refl
 refused_is paid by (refusals.BadBundle at) os = refl

@@ -20,8 +20,8 @@ use Rattle.content_lock.specs.CallsMade.{MakesCalls, fewer}
 use Rattle.node_ends.specs.Ends.{link_at}
 use Rattle.node_ends.specs.Going.{AreAfter}
 use Rattle.node_model.specs.Ends.{EndName}
-use Rattle.node_model.specs.Look.{Look, entry_of, failing}
-use Rattle.node_model.specs.Owed.{Owed}
+use Rattle.node_model.specs.Look.{Look, entry_of, failing_call}
+use Rattle.node_model.specs.OwedLines.{OwedLine}
 use Rattle.node_model.specs.OwedStep.{owed_step}
 use Rattle.node_model.specs.SetUp.{SetUp}
 use Rattle.p2p_server.specs.Answers.{contents_after}
@@ -40,7 +40,7 @@ use Rattle.repo_node.specs.TurnCalls.{owed_calls}
 use Rattle.repo_node.specs.Turning.{Adds, StepsBy, branch_by, ended_by, stamp_then}
 
 -- the first of the lines that are owed
-pub owing_first : (os : List Owed) → is_owing os ≡ true → (o : Owed) × (os ≡ o ∷ drop 1 os)
+pub owing_first : (os : List OwedLine) → is_owing os ≡ true → (o : OwedLine) × (os ≡ o ∷ drop 1 os)
 owing_first [] owes = absurd cc
 owing_first (o ∷ os) owes = (o, refl)
 
@@ -109,25 +109,25 @@ adds_quiet law n m kind lines before after setup time count history outcomes bra
   cause = cause;
 }
 
-pub adds_paid : {K : Type 0} (law : StayLaw) (n m : NodeView K) (o : Owed) (before after : StoreView) → m ≡ with_status n m.keeper o.key o.repo o.there → StaysStored before after None → Adds n.parts.links before after n m
+pub adds_paid : {K : Type 0} (law : StayLaw) (n m : NodeView K) (o : OwedLine) (before after : StoreView) → m ≡ with_status n m.keeper o.key o.repo o.there → StaysStored before after None → Adds n.parts.links before after n m
 adds_paid {K} law n m o before after is stored = adds_quiet law n m (Log (Location o.key)) (due_by n o.key o.repo o.there) before after (ap (λ (x : NodeView K). x.setup) is) (ap (λ (x : NodeView K). x.time) is) (ap (λ (x : NodeView K). x.count) is) (ap (λ (x : NodeView K). x.history) is)
     (ap (λ (x : NodeView K). x.outcomes) is) (ap (λ (x : NodeView K). x.branch) is) (ap (λ (x : NodeView K). x.parts) is) refl refl stored tt
 
-pub adds_failed : {K : Type 0} (law : StayLaw) (n m : NodeView K) (o : Owed) (before after : StoreView) → m ≡ with_entry n m.keeper n.branch (Fault PutFile o.by) [] → StaysStored before after (Some PutFile) → Rose before.faults after.faults → Adds n.parts.links before after n m
+pub adds_failed : {K : Type 0} (law : StayLaw) (n m : NodeView K) (o : OwedLine) (before after : StoreView) → m ≡ with_entry n m.keeper n.branch (Fault PutFile o.by) [] → StaysStored before after (Some PutFile) → Rose before.faults after.faults → Adds n.parts.links before after n m
 adds_failed {K} law n m o before after is stored rose = adds_quiet law n m (Fault PutFile o.by) [] before after (ap (λ (x : NodeView K). x.setup) is) (ap (λ (x : NodeView K). x.time) is) (ap (λ (x : NodeView K). x.count) is) (ap (λ (x : NodeView K). x.history) is)
     (ap (λ (x : NodeView K). x.outcomes) is) (ap (λ (x : NodeView K). x.branch) is) (ap (λ (x : NodeView K). x.parts) is) refl refl stored rose
 
 -- ---- the step
 
-steps_by : {K : Type 0} (r : Result (Unit {0}) NodeRefused) (n m : NodeView K) (kind : EntryKind) (lines : List (List ℕ)) (before after : StoreView) → m.history ≡ n.history ++ next_entry n kind lines ∷ [] → failing (failed_in kind) (PutFile ∷ []) ≡ failed_put r
-    → ((s : SetUp) (k : Look) → MatchesSetup n.setup s → k.time ≡ n.time → k.count ≡ n.count + 1 → failing k.fails (PutFile ∷ []) ≡ failed_put r → AddsStep (owed_step s (state_of s n.history) k) n.setup.number k n.history m.history)
+steps_by : {K : Type 0} (r : Result (Unit {0}) NodeRefused) (n m : NodeView K) (kind : EntryKind) (lines : List (List ℕ)) (before after : StoreView) → m.history ≡ n.history ++ next_entry n kind lines ∷ [] → failing_call (failed_in kind) (PutFile ∷ []) ≡ failed_put r
+    → ((s : SetUp) (k : Look) → MatchesSetup n.setup s → k.time ≡ n.time → k.count ≡ n.count + 1 → failing_call k.fails (PutFile ∷ []) ≡ failed_put r → AddsStep (owed_step s (state_of s n.history) k) n.setup.number k n.history m.history)
     → MakesCalls (PutFile ∷ []) (failed_in kind) before.failing after.failing → StepsBy owed_step owed_calls before after n m
 steps_by r n m kind lines before after history fault pays calls = record {
   kind = kind;
   taken = None;
   part = record { part = 0; right = false; asked = tt };
   makes = λ s k fits looks finds.
-      let it = pays s k fits looks.time looks.count (ap (λ (o : Option Call). failing o (PutFile ∷ [])) finds.fails ∙ fault) in
+      let it = pays s k fits looks.time looks.count (ap (λ (o : Option Call). failing_call o (PutFile ∷ [])) finds.fails ∙ fault) in
       let last = last_same n.history (next_entry n kind lines) (entry_of n.setup.number k it.made) (sym history ∙ it.adds) in
       record {
         made = it.made;
@@ -139,13 +139,13 @@ steps_by r n m kind lines before after history fault pays calls = record {
   calls = λ s k fits looks finds. calls;
 }
 
-pub steps_paid : {K : Type 0} (x : Unit {0}) (n m : NodeView K) (o : Owed) (before after : StoreView) → m ≡ with_status n m.keeper o.key o.repo o.there
-    → ((s : SetUp) (k : Look) → MatchesSetup n.setup s → k.time ≡ n.time → k.count ≡ n.count + 1 → failing k.fails (PutFile ∷ []) ≡ failed_put (Ok x) → AddsStep (owed_step s (state_of s n.history) k) n.setup.number k n.history m.history)
+pub steps_paid : {K : Type 0} (x : Unit {0}) (n m : NodeView K) (o : OwedLine) (before after : StoreView) → m ≡ with_status n m.keeper o.key o.repo o.there
+    → ((s : SetUp) (k : Look) → MatchesSetup n.setup s → k.time ≡ n.time → k.count ≡ n.count + 1 → failing_call k.fails (PutFile ∷ []) ≡ failed_put (Ok x) → AddsStep (owed_step s (state_of s n.history) k) n.setup.number k n.history m.history)
     → Makes (PutFile ∷ []) PutFile (Ok x) before.failing after.failing → StepsBy owed_step owed_calls before after n m
 steps_paid {K} x n m o before after is pays puts = steps_by (Ok x) n m (Log (Location o.key)) (due_by n o.key o.repo o.there) before after (ap (λ (v : NodeView K). v.history) is) refl pays puts
 
-pub steps_failed : {K : Type 0} (n m : NodeView K) (o : Owed) (before after : StoreView) → m ≡ with_entry n m.keeper n.branch (Fault PutFile o.by) []
-    → ((s : SetUp) (k : Look) → MatchesSetup n.setup s → k.time ≡ n.time → k.count ≡ n.count + 1 → failing k.fails (PutFile ∷ []) ≡ failed_put (Err refusals.StoreFault) → AddsStep (owed_step s (state_of s n.history) k) n.setup.number k n.history m.history)
+pub steps_failed : {K : Type 0} (n m : NodeView K) (o : OwedLine) (before after : StoreView) → m ≡ with_entry n m.keeper n.branch (Fault PutFile o.by) []
+    → ((s : SetUp) (k : Look) → MatchesSetup n.setup s → k.time ≡ n.time → k.count ≡ n.count + 1 → failing_call k.fails (PutFile ∷ []) ≡ failed_put (Err refusals.StoreFault) → AddsStep (owed_step s (state_of s n.history) k) n.setup.number k n.history m.history)
     → StopsIn (PutFile ∷ []) PutFile refusals.StoreFault before.failing after.failing → StepsBy owed_step owed_calls before after n m
 steps_failed {K} n m o before after is pays puts = steps_by (Err refusals.StoreFault) n m (Fault PutFile o.by) [] before after (ap (λ (v : NodeView K). v.history) is) refl pays puts
 
@@ -168,41 +168,41 @@ failing_same refusals.NoMemory before after other puts = puts
 
 -- ---- by the refusal
 
-pub refused_same : {K : Type 0} (e : NodeRefused) (n m : NodeView K) (o : Owed) → (e ≡ refusals.StoreFault → ⊥) → RefusesFor o.by e PutFile n m → m ≡ record n { keeper = m.keeper }
+pub refused_same : {K : Type 0} (e : NodeRefused) (n m : NodeView K) (o : OwedLine) → (e ≡ refusals.StoreFault → ⊥) → RefusesFor o.by e PutFile n m → m ≡ record n { keeper = m.keeper }
 refused_same refusals.Full n m o other refuses = refuses.0
 refused_same refusals.StoreFault n m o other refuses = absurd (other refl)
 refused_same (refusals.BadBundle at) n m o other refuses = absurd refuses
 refused_same refusals.NoMemory n m o other refuses = refuses
 
 -- the line is never refused as no bundle
-pub no_bundle : {K : Type 0} (e : NodeRefused) (at : ℕ) (n m : NodeView K) (o : Owed) → e ≡ refusals.BadBundle at → RefusesFor o.by e PutFile n m → ⊥
+pub no_bundle : {K : Type 0} (e : NodeRefused) (at : ℕ) (n m : NodeView K) (o : OwedLine) → e ≡ refusals.BadBundle at → RefusesFor o.by e PutFile n m → ⊥
 no_bundle refusals.Full at n m o is refuses = absurd cc
 no_bundle refusals.StoreFault at n m o is refuses = absurd cc
 no_bundle (refusals.BadBundle place) at n m o is refuses = refuses
 no_bundle refusals.NoMemory at n m o is refuses = absurd cc
 
 -- nor for a full history, where it has room
-pub no_full : {K : Type 0} (e : NodeRefused) (n m : NodeView K) (o : Owed) → e ≡ refusals.Full → RefusesFor o.by e PutFile n m → length n.history < most_entries → ⊥
+pub no_full : {K : Type 0} (e : NodeRefused) (n m : NodeView K) (o : OwedLine) → e ≡ refusals.Full → RefusesFor o.by e PutFile n m → length n.history < most_entries → ⊥
 no_full refusals.Full n m o is refuses room = omega (arith, refuses.1, room)
 no_full refusals.StoreFault n m o is refuses room = absurd cc
 no_full (refusals.BadBundle at) n m o is refuses room = absurd cc
 no_full refusals.NoMemory n m o is refuses room = absurd cc
 
-fault_is : {K : Type 0} (e : NodeRefused) (n m : NodeView K) (o : Owed) → e ≡ refusals.StoreFault → RefusesFor o.by e PutFile n m → m ≡ with_entry n m.keeper n.branch (Fault PutFile o.by) []
+fault_is : {K : Type 0} (e : NodeRefused) (n m : NodeView K) (o : OwedLine) → e ≡ refusals.StoreFault → RefusesFor o.by e PutFile n m → m ≡ with_entry n m.keeper n.branch (Fault PutFile o.by) []
 fault_is refusals.Full n m o is refuses = absurd cc
 fault_is refusals.StoreFault n m o is refuses = refuses
 fault_is (refusals.BadBundle at) n m o is refuses = absurd cc
 fault_is refusals.NoMemory n m o is refuses = absurd cc
 
-pub fault_parts : {K : Type 0} (e : NodeRefused) (n m : NodeView K) (o : Owed) → e ≡ refusals.StoreFault → RefusesFor o.by e PutFile n m → m.parts ≡ n.parts
+pub fault_parts : {K : Type 0} (e : NodeRefused) (n m : NodeView K) (o : OwedLine) → e ≡ refusals.StoreFault → RefusesFor o.by e PutFile n m → m.parts ≡ n.parts
 fault_parts {K} e n m o is refuses = ap (λ (v : NodeView K). v.parts) (fault_is e n m o is refuses)
 
-pub fault_adds : {K : Type 0} (law : StayLaw) (e : NodeRefused) (n m : NodeView K) (o : Owed) (before after : StoreView) → e ≡ refusals.StoreFault → RefusesFor o.by e PutFile n m
+pub fault_adds : {K : Type 0} (law : StayLaw) (e : NodeRefused) (n m : NodeView K) (o : OwedLine) (before after : StoreView) → e ≡ refusals.StoreFault → RefusesFor o.by e PutFile n m
     → after.contents ≡ before.contents → after.parts ≡ before.parts → StopsIn (PutFile ∷ []) PutFile e before.failing after.failing → Rose before.faults after.faults → Adds n.parts.links before after n m
 fault_adds law e n m o before after is refuses contents parts puts rose = adds_failed law n m o before after (fault_is e n m o is refuses) (fault_left e before after is contents parts puts) rose
 
-pub fault_steps : {K : Type 0} (e : NodeRefused) (n m : NodeView K) (o : Owed) (before after : StoreView) → e ≡ refusals.StoreFault → RefusesFor o.by e PutFile n m
-    → ((s : SetUp) (k : Look) → MatchesSetup n.setup s → k.time ≡ n.time → k.count ≡ n.count + 1 → failing k.fails (PutFile ∷ []) ≡ failed_put (Err e) → WhereMade (Err e) (AddsStep (owed_step s (state_of s n.history) k) n.setup.number k n.history m.history))
+pub fault_steps : {K : Type 0} (e : NodeRefused) (n m : NodeView K) (o : OwedLine) (before after : StoreView) → e ≡ refusals.StoreFault → RefusesFor o.by e PutFile n m
+    → ((s : SetUp) (k : Look) → MatchesSetup n.setup s → k.time ≡ n.time → k.count ≡ n.count + 1 → failing_call k.fails (PutFile ∷ []) ≡ failed_put (Err e) → WhereMade (Err e) (AddsStep (owed_step s (state_of s n.history) k) n.setup.number k n.history m.history))
     → StopsIn (PutFile ∷ []) PutFile e before.failing after.failing → StepsBy owed_step owed_calls before after n m
 fault_steps refusals.Full n m o before after is refuses pays puts = absurd cc
 fault_steps refusals.StoreFault n m o before after is refuses pays puts = steps_failed n m o before after refuses pays puts

@@ -10,7 +10,7 @@ use Rattle.content_lock.specs.Rows.{Rows, is_filling}
 use Rattle.run_data.specs.declared.entry.By.TheVariants.{Script}
 use Rattle.union_merge.specs.Branch.{Files}
 use Rattle.node_model.specs.AnyTime.{is_scripts}
-use Rattle.node_model.specs.Owed.{Owed}
+use Rattle.node_model.specs.OwedLines.{OwedLine}
 use Rattle.node_parts.specs.Parts.{PartsView}
 use Rattle.repo_node.specs.declared.past.Past.{Past}
 use Rattle.repo_node.specs.declared.refused.NodeRefused.{NodeRefused}
@@ -307,7 +307,7 @@ taken_done taken key bytes rows cs ps ps' failing failing' is told made same = r
 }
 
 -- a node that was brought the bytes, or wasn't
-pub node_brought : {K X : Type 0} (r : Result X NodeRefused) (k k' : K) (t : PartsView) (b : Files) (was now : Past) (owed owed' : List Owed) (n : NodeView K) (key bytes : List ℕ) (rows : Rows) (cs cs' : Option Contents) (ps ps' : Option Parts) (failing failing' : Failing)
+pub node_brought : {K X : Type 0} (r : Result X NodeRefused) (k k' : K) (t : PartsView) (b : Files) (was now : Past) (owed owed' : List OwedLine) (n : NodeView K) (key bytes : List ℕ) (rows : Rows) (cs cs' : Option Contents) (ps ps' : Option Parts) (failing failing' : Failing)
     → node_of k t b was owed ≡ n → rows ≡ t.table → IfErr r (λ e. StopsTold key bytes rows cs ps ps' failing failing' e was now) → cs' ≡ cs → owed' ≡ owed
     → IfErr r (λ e. StopsAt to_place_part key bytes cs cs' ps ps' failing failing' e n (node_of k' t b now owed'))
 node_brought (Ok x) k k' t b was now owed owed' n key bytes rows cs cs' ps ps' failing failing' view at stops same owes = tt

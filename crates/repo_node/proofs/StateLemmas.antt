@@ -20,7 +20,7 @@ use Rattle.run_data.specs.declared.run.RepoView.{RepoView}
 use Rattle.node_model.specs.After.{clock_after, first_state, state_after, states}
 use Rattle.node_model.specs.Clocks.{runs_on}
 use Rattle.node_model.specs.Files.{lines_after}
-use Rattle.node_model.specs.Owed.{Owed}
+use Rattle.node_model.specs.OwedLines.{OwedLine}
 use Rattle.node_model.specs.Rows.{bar_after, content_after, holds_after, present_after}
 use Rattle.node_model.specs.SessionStep.{is_filled}
 use Rattle.node_model.specs.SetUp.{SetUp}
@@ -115,7 +115,7 @@ files_move kind told told' of_files same = λ c is. record {
   present = λ key had h. h ∙ sym (present_same key had kind of_files);
 }
 
-stands_more : {K : Type 0} (n : NodeView K) (s : SetUp) (told : Option Contents) (owed' : List Owed) (kind : EntryKind) (lines : List (List ℕ)) (now : Contents)
+stands_more : {K : Type 0} (n : NodeView K) (s : SetUp) (told : Option Contents) (owed' : List OwedLine) (kind : EntryKind) (lines : List (List ℕ)) (now : Contents)
     → Laws n.parts → IsDirect kind → MatchesSetup n.setup s → IsState s n.parts n.branch n.owed told (state_of s n.history) → owed' ≡ owed_now n kind lines
     → (m : MovesTo kind told now) → IsStateOfParts s n.parts n.owed m.was (state_of s n.history)
     → IsStateOfParts s n.parts owed' now (state_after s (state_of s n.history) (made n.time (n.count + 1) n.setup.number kind lines))
@@ -129,7 +129,7 @@ stands_more n s told owed' kind lines now laws d fits is owes m stood =
       owed_are = owed_is n s told kind lines d fits is stood.owed_are ∙ sym owes;
     }
 
-state_kept : {K : Type 0} (n : NodeView K) (s : SetUp) (branch' : Files) (told told' : Option Contents) (owed' : List Owed) (kind : EntryKind) (lines : List (List ℕ))
+state_kept : {K : Type 0} (n : NodeView K) (s : SetUp) (branch' : Files) (told told' : Option Contents) (owed' : List OwedLine) (kind : EntryKind) (lines : List (List ℕ))
     → Laws n.parts → IsDirect kind → MatchesSetup n.setup s → IsState s n.parts n.branch n.owed told (state_of s n.history)
     → ((p : List ℕ) → lines_at branch' p ≡ lines_after p (lines_at n.branch p) kind lines)
     → Moves kind told told' → owed' ≡ owed_now n kind lines
@@ -143,7 +143,7 @@ state_kept n s branch' told told' owed' kind lines laws d fits was here moves ow
     }
 
 -- a node with one more entry is kept
-pub kept_more : {K : Type 0} (n : NodeView K) (branch' : Files) (told told' : Option Contents) (owed' : List Owed) (kind : EntryKind) (lines : List (List ℕ))
+pub kept_more : {K : Type 0} (n : NodeView K) (branch' : Files) (told told' : Option Contents) (owed' : List OwedLine) (kind : EntryKind) (lines : List (List ℕ))
     → Laws n.parts → IsDirect kind → IsKept n.setup n.history n.parts n.branch n.owed told
     → ((p : List ℕ) → lines_at branch' p ≡ lines_after p (lines_at n.branch p) kind lines)
     → Moves kind told told' → owed' ≡ owed_now n kind lines

@@ -7,8 +7,8 @@ use Rattle.run_data.specs.declared.entry.EntryKind.TheVariants as kinds
 use Rattle.run_data.specs.declared.entry.FrameView.{FrameView}
 use Rattle.run_data.specs.declared.entry.LogFile.TheVariants.{Location}
 use Rattle.node_model.specs.Ends.{End, EndName, server_end}
-use Rattle.node_model.specs.Look.{Look, Made, failing, first_of, first_some, unless, waiting}
-use Rattle.node_model.specs.Owed.{Owed, due}
+use Rattle.node_model.specs.Look.{Look, Effect, failing_call, first_of, first_some, unless, waiting_frame}
+use Rattle.node_model.specs.OwedLines.{OwedLine, due}
 use Rattle.node_model.specs.OwedStep.{owed_step, pays_first}
 use Rattle.node_model.specs.Sessions.{Doing, Gives, Session}
 use Rattle.node_model.specs.SessionStep.{Here, gives_made, gives_next, here, session_at, session_makes, session_step}
@@ -42,9 +42,9 @@ same_session s st k fails a = go (k.room a)
     k' : Look
     k' = record k { fails = fails }
 
-    go : (b : Bool) → is_some (if b then session_makes (here s st k' a) (st.ends a) (st.sessions a) (waiting (st.ends a) k' a) else None)
-        ≡ is_some (if b then session_makes (here s st k a) (st.ends a) (st.sessions a) (waiting (st.ends a) k a) else None)
-    go true = same_made (here s st k' a) (here s st k a) (st.ends a) (st.sessions a) (waiting (st.ends a) k a) refl
+    go : (b : Bool) → is_some (if b then session_makes (here s st k' a) (st.ends a) (st.sessions a) (waiting_frame (st.ends a) k' a) else None)
+        ≡ is_some (if b then session_makes (here s st k a) (st.ends a) (st.sessions a) (waiting_frame (st.ends a) k a) else None)
+    go true = same_made (here s st k' a) (here s st k a) (st.ends a) (st.sessions a) (waiting_frame (st.ends a) k a) refl
     go false = refl
 
 same_first : {X Y : Type 0} (f g : X → Option Y) (xs : List X) → ((x : X) → is_some (f x) ≡ is_some (g x)) → is_some (first_some f xs) ≡ is_some (first_some g xs)
@@ -61,25 +61,25 @@ session_ready : (s : SetUp) (st : State) (k : Look) (fails : Option Call) → is
 session_ready s st k fails =
     same_first (λ c. session_at s st (record k { fails = fails }) (server_end c.0 c.1)) (λ c. session_at s st k (server_end c.0 c.1)) (served_connections s) (λ c. same_session s st k fails (server_end c.0 c.1))
 
-owed_ready : (s : SetUp) (st : State) (k : Look) (fails : Option Call) (os : List Owed) → is_some (pays_first s st (record k { fails = fails }) os) ≡ is_some (pays_first s st k os)
+owed_ready : (s : SetUp) (st : State) (k : Look) (fails : Option Call) (os : List OwedLine) → is_some (pays_first s st (record k { fails = fails }) os) ≡ is_some (pays_first s st k os)
 owed_ready s st k fails [] = refl
 owed_ready s st k fails (o ∷ os) = refl
 
 -- ---- the laws of sessions and of jobs
 
 pub record Lower : Type 0 where
-  pub session_failed : (s : SetUp) (st : State) (k : Look) → failed_of (session_step s st k) ≡ failing k.fails (session_calls s st k)
+  pub session_failed : (s : SetUp) (st : State) (k : Look) → failed_of (session_step s st k) ≡ failing_call k.fails (session_calls s st k)
   pub session_same : (s : SetUp) (st : State) (k : Look) (fails : Option Call) → session_calls s st (record k { fails = fails }) ≡ session_calls s st k
   pub session_ordered : (s : SetUp) (st : State) (k : Look) → AreRising (session_calls s st k)
-  pub job_failed : (s : SetUp) (st : State) (k : Look) → failed_of (job_step s st k) ≡ failing k.fails (job_calls s st k)
+  pub job_failed : (s : SetUp) (st : State) (k : Look) → failed_of (job_step s st k) ≡ failing_call k.fails (job_calls s st k)
   pub job_same : (s : SetUp) (st : State) (k : Look) (fails : Option Call) → job_calls s st (record k { fails = fails }) ≡ job_calls s st k
   pub job_ordered : (s : SetUp) (st : State) (k : Look) → AreRising (job_calls s st k)
 
 -- ---- the call that fails
 
-line_failed : (s : SetUp) (st : State) (k : Look) (os : List Owed) → is_some (pays_first s st k os) ≡ true → failed_of (pays_first s st k os) ≡ failing k.fails (PutFile ∷ [])
+line_failed : (s : SetUp) (st : State) (k : Look) (os : List OwedLine) → is_some (pays_first s st k os) ≡ true → failed_of (pays_first s st k os) ≡ failing_call k.fails (PutFile ∷ [])
 line_failed s st k [] ready = absurd (cc)
-line_failed s st k (o ∷ os) ready = go (failing k.fails (PutFile ∷ []))
+line_failed s st k (o ∷ os) ready = go (failing_call k.fails (PutFile ∷ []))
   where
     go : (failed : Option Call) → failed_of (Some (unless failed
         (λ call. record { kind = kinds.Fault call o.by; taken = None; sent = []; lines = [] })
@@ -87,17 +87,17 @@ line_failed s st k (o ∷ os) ready = go (failing k.fails (PutFile ∷ []))
     go None = refl
     go (Some call) = refl
 
-moving_failed : Lower → (s : SetUp) (st : State) (k : Look) → failed_of (first_of (session_step s st k) (job_step s st k)) ≡ failing k.fails (moving_calls s st k)
+moving_failed : Lower → (s : SetUp) (st : State) (k : Look) → failed_of (first_of (session_step s st k) (job_step s st k)) ≡ failing_call k.fails (moving_calls s st k)
 moving_failed laws s st k = go (session_step s st k) (laws.session_failed s st k)
   where
-    go : (o : Option Made) → failed_of o ≡ failing k.fails (session_calls s st k) → failed_of (first_of o (job_step s st k)) ≡ failing k.fails (if is_some o then session_calls s st k else job_calls s st k)
+    go : (o : Option Effect) → failed_of o ≡ failing_call k.fails (session_calls s st k) → failed_of (first_of o (job_step s st k)) ≡ failing_call k.fails (if is_some o then session_calls s st k else job_calls s st k)
     go None e = laws.job_failed s st k
     go (Some m) e = e
 
-pub step_failed : Lower → (s : SetUp) (st : State) (k : Look) → failed_of (step s st k) ≡ failing k.fails (step_calls s st k)
+pub step_failed : Lower → (s : SetUp) (st : State) (k : Look) → failed_of (step s st k) ≡ failing_call k.fails (step_calls s st k)
 step_failed laws s st k = go (owed_step s st k) (line_failed s st k st.owed)
   where
-    go : (o : Option Made) → (is_some o ≡ true → failed_of o ≡ failing k.fails (PutFile ∷ [])) → failed_of (first_of o (first_of (session_step s st k) (job_step s st k))) ≡ failing k.fails (if is_some o then owed_calls s st k else moving_calls s st k)
+    go : (o : Option Effect) → (is_some o ≡ true → failed_of o ≡ failing_call k.fails (PutFile ∷ [])) → failed_of (first_of o (first_of (session_step s st k) (job_step s st k))) ≡ failing_call k.fails (if is_some o then owed_calls s st k else moving_calls s st k)
     go None e = moving_failed laws s st k
     go (Some m) e = e refl
 

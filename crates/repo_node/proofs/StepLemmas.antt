@@ -30,7 +30,7 @@ use Rattle.node_model.specs.After.{clock_after, state_after, states}
 use Rattle.node_model.specs.AnyTime.{all_ends}
 use Rattle.node_model.specs.Jobs.{Work}
 use Rattle.node_model.specs.Look.{Look, entry_of}
-use Rattle.node_model.specs.Owed.{Owed, owed_after, owed_without, told_frame, told_line, told_to}
+use Rattle.node_model.specs.OwedLines.{OwedLine, owed_after, owed_without, told_frame, told_line, told_to}
 use Rattle.node_model.specs.Rows.{bar_after, holds_after}
 use Rattle.node_model.specs.Sessions.{line_in}
 use Rattle.node_model.specs.SessionStep.{is_filled}
@@ -147,7 +147,7 @@ told_before cs cs' qs qs' c' parts contents told =
 
 -- ---- what parts and a store that tells are
 
-pub sees_parts : CountLaw → (setup : Setup) (h : List Entry) (parts : PartsView) (branch : Files) (owed : List Owed) (told : Option Contents) (c : Contents) (time number : ℕ) (s : SetUp) (k : Look)
+pub sees_parts : CountLaw → (setup : Setup) (h : List Entry) (parts : PartsView) (branch : Files) (owed : List OwedLine) (told : Option Contents) (c : Contents) (time number : ℕ) (s : SetUp) (k : Look)
     → IsKept setup h parts branch owed told → told ≡ Some c → number ≡ length h + 1 → MatchesSetup setup s → SeesEnds parts.links s k → k.time ≡ time
     → SeesParts parts c (record { at = 0; to = setup.offset }) time number s (state_of s h) k
 sees_parts law setup h parts branch owed told c time number s k kept is count fits ends at = record {
@@ -215,7 +215,7 @@ module _ (step : Stepper) (setup : Setup) (h : List Entry) (was now : PartsView)
     owes =
         let stands = (kept.state s fits).stands c told in
         let st : State = state_of s h in
-        ap (λ (os : List Owed). owed_after s.repos st.lines (st.wall time) st.works s.number os made_by d.kind) stands.owed_are
+        ap (λ (os : List OwedLine). owed_after s.repos st.lines (st.wall time) st.works s.number os made_by d.kind) stands.owed_are
         ∙ owes_own s.repos st.lines (st.wall time) st.works s.number made_by d.kind
         (λ job. ap (λ (ws : List Work). told_frame (find (λ w. w.number == job) ws) d.taken) stands.parts_are.works.works ∙ untold was.jobs.place was.jobs.running job d.taken sound.acting.drops)
         ∙ ap (λ (r : ℕ). owed_by r d.kind) fits.number
@@ -250,7 +250,7 @@ module _ (step : Stepper) (setup : Setup) (h : List Entry) (was now : PartsView)
 -- ---- no step
 
 -- the store may have been asked, and the rest is as it was
-pub kept_asked : (step : Stepper) (law : CountLaw) (setup : Setup) (h : List Entry) (was : PartsView) (branch : Files) (owed : List Owed) (cs cs' : Option Contents) (qs qs' : Option StoredParts) (time : ℕ)
+pub kept_asked : (step : Stepper) (law : CountLaw) (setup : Setup) (h : List Entry) (was : PartsView) (branch : Files) (owed : List OwedLine) (cs cs' : Option Contents) (qs qs' : Option StoredParts) (time : ℕ)
     → IsKept setup h was branch owed (told_of cs qs) → ForSome (told_of cs qs) (λ c. DoesBy step was was c qs cs' setup h time None) → is_some qs' ≡ is_some qs → (is_some qs ≡ true → is_some cs' ≡ is_some cs)
     → IsKept setup h was branch owed (told_of cs' qs')
 kept_asked step law setup h was branch owed cs cs' qs qs' time kept does told_parts told_contents = record {

@@ -14,8 +14,8 @@ use Rattle.content_lock.specs.CallsMade.{MakesCalls}
 use Rattle.node_ends.specs.Ends.{SeesEnds}
 use Rattle.node_jobs.specs.Calls.{job_calls}
 use Rattle.node_sessions.specs.Calls.{session_calls}
-use Rattle.node_model.specs.Look.{Look, Made, first_of}
-use Rattle.node_model.specs.Owed.{Owed}
+use Rattle.node_model.specs.Look.{Look, Effect, first_of}
+use Rattle.node_model.specs.OwedLines.{OwedLine}
 use Rattle.node_model.specs.OwedStep.{owed_step, pays_first}
 use Rattle.node_model.specs.SessionStep.{session_step}
 use Rattle.node_model.specs.SetUp.{SetUp}
@@ -33,18 +33,18 @@ use Rattle.repo_node.specs.Turns.{turn_full, turn_made}
 
 -- ---- a line that is owed comes first
 
-pub none_owing : (os : List Owed) → is_owing os ≡ false → os ≡ []
+pub none_owing : (os : List OwedLine) → is_owing os ≡ false → os ≡ []
 none_owing [] none = refl
 none_owing (o ∷ os) none = absurd cc
 
-some_owing : (s : SetUp) (st : State) (k : Look) (os : List Owed) → is_owing os ≡ true → is_some (pays_first s st k os) ≡ true
+some_owing : (s : SetUp) (st : State) (k : Look) (os : List OwedLine) → is_owing os ≡ true → is_some (pays_first s st k os) ≡ true
 some_owing s st k [] owes = absurd cc
 some_owing s st k (o ∷ os) owes = refl
 
-none_owed : (s : SetUp) (st : State) (k : Look) (os : List Owed) → st.owed ≡ os → is_owing os ≡ false → owed_step s st k ≡ None
+none_owed : (s : SetUp) (st : State) (k : Look) (os : List OwedLine) → st.owed ≡ os → is_owing os ≡ false → owed_step s st k ≡ None
 none_owed s st k os is none = ap (pays_first s st k) (is ∙ none_owing os none)
 
-first_some : (x y : Option Made) → is_some x ≡ true → is_some (first_of x y) ≡ true
+first_some : (x y : Option Effect) → is_some x ≡ true → is_some (first_of x y) ≡ true
 first_some None y there = absurd cc
 first_some (Some x) y there = refl
 
@@ -58,7 +58,7 @@ pub owes_told : {K : Type 0} (n : NodeView K) (told : Option Contents) (c : Cont
 owes_told n told c is known s fits = ((is s fits).stands c known).owed_are
 
 steps_first : {K : Type 0} (first : Stepper) (caller : Caller) (before after : StoreView) (n m : NodeView K)
-    → ((s : SetUp) (k : Look) (made : Made) → MatchesSetup n.setup s → Looks n s k → first s (state_of s n.history) k ≡ Some made → (step s (state_of s n.history) k ≡ Some made) × (step_calls s (state_of s n.history) k ≡ caller s (state_of s n.history) k))
+    → ((s : SetUp) (k : Look) (made : Effect) → MatchesSetup n.setup s → Looks n s k → first s (state_of s n.history) k ≡ Some made → (step s (state_of s n.history) k ≡ Some made) × (step_calls s (state_of s n.history) k ≡ caller s (state_of s n.history) k))
     → StepsBy first caller before after n m → StepsBy step step_calls before after n m
 steps_first first caller before after n m is by = record {
   kind = by.kind;
@@ -78,7 +78,7 @@ owed_first (Ok true) before after n m told made moves = λ c known.
     steps_first owed_step owed_calls before after n m
     (λ s k it fits looks is.
     let st : State = state_of s n.history in
-    (ap (λ (o : Option Made). first_of o (first_of (session_step s st k) (job_step s st k))) is, ap (λ (o : Option Made). if is_some o then owed_calls s st k else moving_calls s st k) is)) (moves c known)
+    (ap (λ (o : Option Effect). first_of o (first_of (session_step s st k) (job_step s st k))) is, ap (λ (o : Option Effect). if is_some o then owed_calls s st k else moving_calls s st k) is)) (moves c known)
 owed_first (Ok false) before after n m told made moves = absurd cc
 owed_first (Err e) before after n m told made moves = tt
 
@@ -88,8 +88,8 @@ served_first before after n m owes none by = steps_first session_step session_ca
     (λ s k it fits looks is.
     let st : State = state_of s n.history in
     let unowed = none_owed s st k n.owed (owes s fits) none in (
-      ap (λ (o : Option Made). first_of o (first_of (session_step s st k) (job_step s st k))) unowed ∙ ap (λ (o : Option Made). first_of o (job_step s st k)) is,
-      ap (λ (o : Option Made). if is_some o then owed_calls s st k else moving_calls s st k) unowed ∙ ap (λ (o : Option Made). if is_some o then session_calls s st k else job_calls s st k) is,
+      ap (λ (o : Option Effect). first_of o (first_of (session_step s st k) (job_step s st k))) unowed ∙ ap (λ (o : Option Effect). first_of o (job_step s st k)) is,
+      ap (λ (o : Option Effect). if is_some o then owed_calls s st k else moving_calls s st k) unowed ∙ ap (λ (o : Option Effect). if is_some o then session_calls s st k else job_calls s st k) is,
     )) by
 
 -- neither, and a job has one or hasn't
@@ -99,13 +99,13 @@ module _ {K : Type 0} (n : NodeView K) (owes : Owes n) (none : is_owing n.owed �
 
   job_is : step s here k ≡ job_step s here k
   job_is =
-      ap (λ (o : Option Made). first_of o (first_of (session_step s here k) (job_step s here k))) (none_owed s here k n.owed (owes s fits) none)
-      ∙ ap (λ (o : Option Made). first_of o (job_step s here k)) (idle s k fits looks)
+      ap (λ (o : Option Effect). first_of o (first_of (session_step s here k) (job_step s here k))) (none_owed s here k n.owed (owes s fits) none)
+      ∙ ap (λ (o : Option Effect). first_of o (job_step s here k)) (idle s k fits looks)
 
   job_calls_are : step_calls s here k ≡ job_calls s here k
   job_calls_are =
-      ap (λ (o : Option Made). if is_some o then owed_calls s here k else moving_calls s here k) (none_owed s here k n.owed (owes s fits) none)
-      ∙ ap (λ (o : Option Made). if is_some o then session_calls s here k else job_calls s here k) (idle s k fits looks)
+      ap (λ (o : Option Effect). if is_some o then owed_calls s here k else moving_calls s here k) (none_owed s here k n.owed (owes s fits) none)
+      ∙ ap (λ (o : Option Effect). if is_some o then session_calls s here k else job_calls s here k) (idle s k fits looks)
 
 acted_same : {K : Type 0} (b : Bool) (before after : StoreView) (n m : NodeView K) → Owes n → is_owing n.owed ≡ false → NoStep session_step n → MovesSo b job_step job_calls before after n m → MovesSo b step step_calls before after n m
 acted_same true before after n m owes none idle moves = steps_first job_step job_calls before after n m
@@ -117,13 +117,13 @@ acted_same false before after n m owes none idle moves = λ s k fits looks. job_
 pub ready_owed : {K : Type 0} (n : NodeView K) → Owes n → is_owing n.owed ≡ true → ReadySo true step n
 ready_owed n owes some s k fits looks =
     let st : State = state_of s n.history in
-    first_some (owed_step s st k) (first_of (session_step s st k) (job_step s st k)) (ap (λ (os : List Owed). is_some (pays_first s st k os)) (owes s fits) ∙ some_owing s st k n.owed some)
+    first_some (owed_step s st k) (first_of (session_step s st k) (job_step s st k)) (ap (λ (os : List OwedLine). is_some (pays_first s st k os)) (owes s fits) ∙ some_owing s st k n.owed some)
 
 pub ready_else : {K : Type 0} (b : Bool) (n : NodeView K) → Owes n → is_owing n.owed ≡ false
     → ((s : SetUp) (k : Look) → MatchesSetup n.setup s → Looks n s k → is_some (first_of (session_step s (state_of s n.history) k) (job_step s (state_of s n.history) k)) ≡ b) → ReadySo b step n
 ready_else b n owes none ready s k fits looks =
     let st : State = state_of s n.history in
-    ap (λ (o : Option Made). is_some (first_of o (first_of (session_step s st k) (job_step s st k)))) (none_owed s st k n.owed (owes s fits) none) ∙ ready s k fits looks
+    ap (λ (o : Option Effect). is_some (first_of o (first_of (session_step s st k) (job_step s st k)))) (none_owed s st k n.owed (owes s fits) none) ∙ ready s k fits looks
 
 -- ---- a turn
 
@@ -226,7 +226,7 @@ pub turn_idle : {K : Type 0} (r : Result Bool NoMemory) (before after : StoreVie
 turn_idle {K} r before after n n' m c told law same is known moves s fits k looks =
     (subst (λ (x : NodeView K). NoStep step x) same (where_idle (λ b. ForSome told (λ c. MovesSo b step step_calls before after n' m)) r is moves c known)) s k fits (looks_dropped n s k law looks)
 
-none_is : (o : Option Made) → is_some o ≡ false → o ≡ None
+none_is : (o : Option Effect) → is_some o ≡ false → o ≡ None
 none_is None is = refl
 none_is (Some m) is = absurd cc
 

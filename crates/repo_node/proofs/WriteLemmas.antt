@@ -20,7 +20,7 @@ use Rattle.repo_node.specs.declared.refused.NodeRefused.{NodeRefused}
 use Rattle.repo_node.specs.declared.refused.NodeRefused.TheVariants as refusals
 use Rattle.repo_node.specs.declared.setup.Ended.{Ended}
 use Rattle.repo_node.specs.declared.setup.Setup.{Setup}
-use Rattle.node_model.specs.Owed.{Owed}
+use Rattle.node_model.specs.OwedLines.{OwedLine}
 use Rattle.repo_node.specs.Changes.{changed_file}
 use Rattle.repo_node.specs.declared.changing.Change.{Change}
 use Rattle.repo_node.specs.Kept.{IsKept, IsOfFiles, owed_refused}
@@ -32,31 +32,31 @@ use Rattle.repo_node.proofs.StateLemmas.{Laws, direct, files_move, kept_more, pu
 
 -- ---- the state
 
-abbrev pub node_of : {K : Type 0} → K → PartsView → Files → Past → List Owed → NodeView K
+abbrev pub node_of : {K : Type 0} → K → PartsView → Files → Past → List OwedLine → NodeView K
 node_of keeper parts branch p owed = record { setup = p.setup; keeper = keeper; parts = parts; branch = branch; time = p.time; count = p.count; history = p.history.items; outcomes = p.outcomes.items; owed = owed }
 
 -- the same without a store
-abbrev pub storeless : PartsView → Files → Past → List Owed → NodeView (Unit {0})
+abbrev pub storeless : PartsView → Files → Past → List OwedLine → NodeView (Unit {0})
 storeless parts branch p owed = node_of tt parts branch p owed
 
-pub kept_equal : (s s' : Setup) (h h' : List Entry) (parts : PartsView) (b b' : Files) (k : Option Contents) (o : List Owed) → s' ≡ s → h' ≡ h → b' ≡ b → IsKept s h parts b o k → IsKept s' h' parts b' o k
+pub kept_equal : (s s' : Setup) (h h' : List Entry) (parts : PartsView) (b b' : Files) (k : Option Contents) (o : List OwedLine) → s' ≡ s → h' ≡ h → b' ≡ b → IsKept s h parts b o k → IsKept s' h' parts b' o k
 kept_equal s s' h h' parts b b' k o setup history branch kept =
     subst (λ (x : Setup). IsKept x h' parts b' o k) (sym setup) (subst (λ (x : List Entry). IsKept s x parts b' o k) (sym history) (subst (λ (x : Files). IsKept s h parts x o k) (sym branch) kept))
 
-kept_adds : (was now : Past) (parts : PartsView) (branch branch' all : Files) (known known' : Option Contents) (kind : EntryKind) (lines : List (List ℕ)) (owed owed' : List Owed)
+kept_adds : (was now : Past) (parts : PartsView) (branch branch' all : Files) (known known' : Option Contents) (kind : EntryKind) (lines : List (List ℕ)) (owed owed' : List OwedLine)
     → IsOfFiles kind → ((p : List ℕ) → lines_at all p ≡ lines_after p (lines_at branch p) kind lines) → branch' ≡ all → AddsTo kind lines was now → known' ≡ known → owed' ≡ owed_now (storeless parts branch was owed) kind lines
     → Laws parts → IsKept was.setup was.history.items parts branch owed known → IsKept now.setup now.history.items parts branch' owed' known'
 kept_adds was now parts branch branch' all known known' kind lines owed owed' of_files here is adds same owes laws kept =
     kept_equal was.setup now.setup _ now.history.items parts all branch' known' owed' adds.setup adds.history is
     (kept_more (storeless parts branch was owed) all known known' owed' kind lines laws (direct kind of_files) kept here (files_move kind known known' of_files same) owes)
 
-pub kept_past : (was now : Past) (parts : PartsView) (branch branch' : Files) (known known' : Option Contents) (owed owed' : List Owed) → SamePast was now → branch' ≡ branch → known' ≡ known → owed' ≡ owed
+pub kept_past : (was now : Past) (parts : PartsView) (branch branch' : Files) (known known' : Option Contents) (owed owed' : List OwedLine) → SamePast was now → branch' ≡ branch → known' ≡ known → owed' ≡ owed
     → IsKept was.setup was.history.items parts branch owed known → IsKept now.setup now.history.items parts branch' owed' known'
 kept_past was now parts branch branch' known known' owed owed' same is contents owes kept =
     kept_equal was.setup now.setup was.history.items now.history.items parts branch branch' known' owed' same.setup same.history is
-    (subst (λ (k : Option Contents). IsKept was.setup was.history.items parts branch owed' k) (sym contents) (subst (λ (o : List Owed). IsKept was.setup was.history.items parts branch o known) (sym owes) kept))
+    (subst (λ (k : Option Contents). IsKept was.setup was.history.items parts branch owed' k) (sym contents) (subst (λ (o : List OwedLine). IsKept was.setup was.history.items parts branch o known) (sym owes) kept))
 
-pub kept_failed : (by : By) (e : NodeRefused) (call : Call) (was now : Past) (parts : PartsView) (branch branch' : Files) (known known' : Option Contents) (owed owed' : List Owed)
+pub kept_failed : (by : By) (e : NodeRefused) (call : Call) (was now : Past) (parts : PartsView) (branch branch' : Files) (known known' : Option Contents) (owed owed' : List OwedLine)
     → may_fail by call ≡ true → FailsFor by e call was now → branch' ≡ branch → known' ≡ known → owed' ≡ owed_refused by e call owed
     → Laws parts → IsKept was.setup was.history.items parts branch owed known → IsKept now.setup now.history.items parts branch' owed' known'
 kept_failed by refusals.Full call was now parts branch branch' known known' owed owed' may fails is same owes laws kept = kept_past was now parts branch branch' known known' owed owed' fails.0 is same owes kept
@@ -65,7 +65,7 @@ kept_failed by refusals.StoreFault call was now parts branch branch' known known
 kept_failed by (refusals.BadBundle at) call was now parts branch branch' known known' owed owed' may fails is same owes laws kept = absurd fails
 kept_failed by refusals.NoMemory call was now parts branch branch' known known' owed owed' may fails is same owes laws kept = kept_past was now parts branch branch' known known' owed owed' fails is same owes kept
 
-pub kept_written : (by : By) (r : Result (Unit {0}) NodeRefused) (was now : Past) (parts : PartsView) (branch branch' all : Files) (known known' : Option Contents) (kind : EntryKind) (lines : List (List ℕ)) (owed owed' : List Owed)
+pub kept_written : (by : By) (r : Result (Unit {0}) NodeRefused) (was now : Past) (parts : PartsView) (branch branch' all : Files) (known known' : Option Contents) (kind : EntryKind) (lines : List (List ℕ)) (owed owed' : List OwedLine)
     → IsOfFiles kind → ((p : List ℕ) → lines_at all p ≡ lines_after p (lines_at branch p) kind lines)
     → OnOk r (branch' ≡ all) → OnOk r (AddsTo kind lines was now) → IfErr r (λ e. FailsFor by e PutFile was now) → OnErr r (branch' ≡ branch) → known' ≡ known
     → OnOk r (owed' ≡ owed_now (storeless parts branch was owed) kind lines) → IfErr r (λ e. owed' ≡ owed_refused by e PutFile owed)
@@ -100,7 +100,7 @@ files_written (Err e) branch branch' stored stored' path all there other is stay
 
 -- ---- what clauses see
 
-node_parts : {K : Type 0} (k : K) (t : PartsView) (b b' : Files) (s s' : Setup) (time time' count count' : ℕ) (h h' : List Entry) (o o' : List Ended) (w w' : List Owed)
+node_parts : {K : Type 0} (k : K) (t : PartsView) (b b' : Files) (s s' : Setup) (time time' count count' : ℕ) (h h' : List Entry) (o o' : List Ended) (w w' : List OwedLine)
     → b' ≡ b → s' ≡ s → time' ≡ time → count' ≡ count → h' ≡ h → o' ≡ o → w' ≡ w
     → ◌≡◌ {A = NodeView K} (record { setup = s'; keeper = k; parts = t; branch = b'; time = time'; count = count'; history = h'; outcomes = o'; owed = w' })
     (record { setup = s; keeper = k; parts = t; branch = b; time = time; count = count; history = h; outcomes = o; owed = w })
@@ -111,54 +111,54 @@ node_parts {K} k t b b' s s' time time' count count' h h' o o' w w' eb es et ec 
     let f4 : ℕ → NodeView K = λ x. record { setup = s; keeper = k; parts = t; branch = b; time = time; count = x; history = h'; outcomes = o'; owed = w' } in
     let f5 : List Entry → NodeView K = λ x. record { setup = s; keeper = k; parts = t; branch = b; time = time; count = count; history = x; outcomes = o'; owed = w' } in
     let f6 : List Ended → NodeView K = λ x. record { setup = s; keeper = k; parts = t; branch = b; time = time; count = count; history = h; outcomes = x; owed = w' } in
-    let f7 : List Owed → NodeView K = λ x. record { setup = s; keeper = k; parts = t; branch = b; time = time; count = count; history = h; outcomes = o; owed = x } in
+    let f7 : List OwedLine → NodeView K = λ x. record { setup = s; keeper = k; parts = t; branch = b; time = time; count = count; history = h; outcomes = o; owed = x } in
     ap f1 eb ∙ ap f2 es ∙ ap f3 et ∙ ap f4 ec ∙ ap f5 eh ∙ ap f6 eo ∙ ap f7 ew
 
-pub node_adds : {K : Type 0} (k k' : K) (t : PartsView) (b b' all : Files) (was now : Past) (owed owed' : List Owed) (kind : EntryKind) (lines : List (List ℕ)) → b' ≡ all → AddsTo kind lines was now → owed' ≡ owed_now (storeless t b was owed) kind lines
+pub node_adds : {K : Type 0} (k k' : K) (t : PartsView) (b b' all : Files) (was now : Past) (owed owed' : List OwedLine) (kind : EntryKind) (lines : List (List ℕ)) → b' ≡ all → AddsTo kind lines was now → owed' ≡ owed_now (storeless t b was owed) kind lines
     → node_of k' t b' now owed' ≡ with_entry (node_of k t b was owed) k' all kind lines
 node_adds k k' t b b' all was now owed owed' kind lines is adds owes =
     node_parts k' t all b' was.setup now.setup was.time now.time (was.count + 1) now.count _ now.history.items was.outcomes.items now.outcomes.items _ owed' is adds.setup adds.time adds.count adds.history adds.outcomes owes
 
-pub node_same : {K : Type 0} (k k' : K) (t : PartsView) (b b' : Files) (was now : Past) (owed owed' : List Owed) → b' ≡ b → SamePast was now → owed' ≡ owed
+pub node_same : {K : Type 0} (k k' : K) (t : PartsView) (b b' : Files) (was now : Past) (owed owed' : List OwedLine) → b' ≡ b → SamePast was now → owed' ≡ owed
     → node_of k' t b' now owed' ≡ record (node_of k t b was owed) { keeper = k' }
 node_same k k' t b b' was now owed owed' is same owes =
     node_parts k' t b b' was.setup now.setup was.time now.time was.count now.count was.history.items now.history.items was.outcomes.items now.outcomes.items owed owed' is same.setup same.time same.count same.history same.outcomes owes
 
-pub node_failed : {K : Type 0} (by : By) (e : NodeRefused) (call : Call) (k k' : K) (t : PartsView) (b b' : Files) (was now : Past) (owed owed' : List Owed) → b' ≡ b → FailsFor by e call was now → owed' ≡ owed_refused by e call owed
+pub node_failed : {K : Type 0} (by : By) (e : NodeRefused) (call : Call) (k k' : K) (t : PartsView) (b b' : Files) (was now : Past) (owed owed' : List OwedLine) → b' ≡ b → FailsFor by e call was now → owed' ≡ owed_refused by e call owed
     → RefusesFor by e call (node_of k t b was owed) (node_of k' t b' now owed')
 node_failed by refusals.Full call k k' t b b' was now owed owed' is fails owes = (node_same k k' t b b' was now owed owed' is fails.0 owes, sym was.history.ok.0 ∙ fails.1)
 node_failed by refusals.StoreFault call k k' t b b' was now owed owed' is fails owes = node_adds k k' t b b' b was now owed owed' (Fault call by) [] is fails owes
 node_failed by (refusals.BadBundle at) call k k' t b b' was now owed owed' is fails owes = absurd fails
 node_failed by refusals.NoMemory call k k' t b b' was now owed owed' is fails owes = node_same k k' t b b' was now owed owed' is fails owes
 
-pub node_written : {K : Type 0} (r : Result (Unit {0}) NodeRefused) (k k' : K) (t : PartsView) (b b' all : Files) (was now : Past) (owed owed' : List Owed) (kind : EntryKind) (lines : List (List ℕ))
+pub node_written : {K : Type 0} (r : Result (Unit {0}) NodeRefused) (k k' : K) (t : PartsView) (b b' all : Files) (was now : Past) (owed owed' : List OwedLine) (kind : EntryKind) (lines : List (List ℕ))
     → OnOk r (b' ≡ all) → OnOk r (AddsTo kind lines was now) → OnOk r (owed' ≡ owed_now (storeless t b was owed) kind lines)
     → OnOk r (node_of k' t b' now owed' ≡ with_entry (node_of k t b was owed) k' all kind lines)
 node_written (Ok x) k k' t b b' all was now owed owed' kind lines is adds owes = node_adds k k' t b b' all was now owed owed' kind lines is adds owes
 node_written (Err e) k k' t b b' all was now owed owed' kind lines is adds owes = tt
 
-pub node_refused : {K : Type 0} (by : By) (r : Result (Unit {0}) NodeRefused) (call : Call) (k k' : K) (t : PartsView) (b b' : Files) (was now : Past) (owed owed' : List Owed)
+pub node_refused : {K : Type 0} (by : By) (r : Result (Unit {0}) NodeRefused) (call : Call) (k k' : K) (t : PartsView) (b b' : Files) (was now : Past) (owed owed' : List OwedLine)
     → OnErr r (b' ≡ b) → IfErr r (λ e. FailsFor by e call was now) → IfErr r (λ e. owed' ≡ owed_refused by e call owed)
     → IfErr r (λ e. RefusesFor by e call (node_of k t b was owed) (node_of k' t b' now owed'))
 node_refused by (Ok x) call k k' t b b' was now owed owed' is fails owes = tt
 node_refused by (Err e) call k k' t b b' was now owed owed' is fails owes = node_failed by e call k k' t b b' was now owed owed' is fails owes
 
 -- the same, of the node as it is seen
-pub seen_written : {K : Type 0} (r : Result (Unit {0}) NodeRefused) (k k' : K) (t : PartsView) (b b' : Files) (was now : Past) (owed owed' : List Owed) (n : NodeView K) (path : List ℕ) (change : Change) (kind : EntryKind) (lines : List (List ℕ))
+pub seen_written : {K : Type 0} (r : Result (Unit {0}) NodeRefused) (k k' : K) (t : PartsView) (b b' : Files) (was now : Past) (owed owed' : List OwedLine) (n : NodeView K) (path : List ℕ) (change : Change) (kind : EntryKind) (lines : List (List ℕ))
     → node_of k t b was owed ≡ n → OnOk r (b' ≡ changed_file b path change) → OnOk r (AddsTo kind lines was now) → OnOk r (owed' ≡ owed_now (storeless t b was owed) kind lines)
     → OnOk r (node_of k' t b' now owed' ≡ with_entry n k' (changed_file n.branch path change) kind lines)
 seen_written {K} r k k' t b b' was now owed owed' n path change kind lines view is adds owes =
     subst (λ (m : NodeView K). OnOk r (node_of k' t b' now owed' ≡ with_entry m k' (changed_file m.branch path change) kind lines)) view
     (node_written r k k' t b b' (changed_file b path change) was now owed owed' kind lines is adds owes)
 
-pub seen_refused : {K : Type 0} (by : By) (r : Result (Unit {0}) NodeRefused) (call : Call) (k k' : K) (t : PartsView) (b b' : Files) (was now : Past) (owed owed' : List Owed) (n : NodeView K)
+pub seen_refused : {K : Type 0} (by : By) (r : Result (Unit {0}) NodeRefused) (call : Call) (k k' : K) (t : PartsView) (b b' : Files) (was now : Past) (owed owed' : List OwedLine) (n : NodeView K)
     → node_of k t b was owed ≡ n → OnErr r (b' ≡ b) → IfErr r (λ e. FailsFor by e call was now) → IfErr r (λ e. owed' ≡ owed_refused by e call owed)
     → IfErr r (λ e. RefusesFor by e call n (node_of k' t b' now owed'))
 seen_refused {K} by r call k k' t b b' was now owed owed' n view is fails owes =
     subst (λ (m : NodeView K). IfErr r (λ e. RefusesFor by e call m (node_of k' t b' now owed'))) view (node_refused by r call k k' t b b' was now owed owed' is fails owes)
 
 -- what is owed then, of the node as it is seen
-pub seen_owed : {K : Type 0} (r : Result (Unit {0}) NodeRefused) (k : K) (t : PartsView) (b : Files) (was : Past) (owed owed' : List Owed) (n : NodeView K) (kind : EntryKind) (lines : List (List ℕ)) (paid : Bool)
+pub seen_owed : {K : Type 0} (r : Result (Unit {0}) NodeRefused) (k : K) (t : PartsView) (b : Files) (was : Past) (owed owed' : List OwedLine) (n : NodeView K) (kind : EntryKind) (lines : List (List ℕ)) (paid : Bool)
     → node_of k t b was owed ≡ n → owed_now n kind lines ≡ rest_if paid n.owed → OnOk r (owed' ≡ rest_if paid owed) → OnOk r (owed' ≡ owed_now (storeless t b was owed) kind lines)
 seen_owed {K} (Ok x) k t b was owed owed' n kind lines paid view pays left =
     left ∙ sym (subst (λ (m : NodeView K). owed_now m kind lines ≡ rest_if paid m.owed) (sym view) pays)

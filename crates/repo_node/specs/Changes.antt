@@ -8,13 +8,13 @@ use Rattle.repo_node.specs.declared.changing.Undo.{Undo}
 use Rattle.repo_node.specs.declared.changing.Undo.TheVariants.{TakeOff, PutBack}
 
 -- the lines of a file after a change
-abbrev pub changed : Change → List (List ℕ) → List (List ℕ)
-changed (Add new) lines = union lines new.now
-changed (Replace all) lines = all
+abbrev pub lines_after_change : Change → List (List ℕ) → List (List ℕ)
+lines_after_change (Add new) lines = union lines new.now
+lines_after_change (Replace all) lines = all
 
 -- the branch after the change of a file
 abbrev pub changed_file : Files → List ℕ → Change → Files
-changed_file files path change = with_file files path (changed change (lines_at files path))
+changed_file files path change = with_file files path (lines_after_change change (lines_at files path))
 
 -- these lines have none of the others
 abbrev pub AreNew : List (List ℕ) → List (List ℕ) → Type 0
@@ -26,6 +26,6 @@ AddsNew (Add new) lines = AreNew new.now lines
 AddsNew (Replace all) lines = Unit {0}
 
 -- the branch after the change of a file is undone
-abbrev pub undone : Files → List ℕ → Undo → Files
-undone files path (TakeOff new) = with_file files path (difference (lines_at files path) new.now)
-undone files path (PutBack was) = with_back files path was
+abbrev pub after_undo : Files → List ℕ → Undo → Files
+after_undo files path (TakeOff new) = with_file files path (difference (lines_at files path) new.now)
+after_undo files path (PutBack was) = with_back files path was

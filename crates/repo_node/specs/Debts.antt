@@ -8,8 +8,8 @@ use Rattle.run_data.specs.declared.entry.EntryKind.TheVariants.{Log}
 use Rattle.run_data.specs.declared.entry.LogFile.TheVariants.{Location}
 use Rattle.union_merge.specs.Branch.{merged_file}
 use Rattle.union_merge.specs.LineSet.{IsLine}
-use Rattle.node_model.specs.Look.{Look, Made, entry_of}
-use Rattle.node_model.specs.Owed.{Owed}
+use Rattle.node_model.specs.Look.{Look, Effect, entry_of}
+use Rattle.node_model.specs.OwedLines.{OwedLine}
 use Rattle.repo_node.specs.Nodes.{NodeView, due_by, with_entry}
 use Rattle.repo_node.specs.declared.owed.Debt.{Debt}
 use Rattle.repo_node.specs.declared.owed.Draft.{Draft}
@@ -22,11 +22,11 @@ with_status n keeper key repo there =
     let new = due_by n key repo there in with_entry n keeper (merged_file n.branch (location_path key) new) (Log (Location key)) new
 
 -- the line that is owed, of the repository of this number, as the definitions have it
-abbrev pub owed_line_of : ℕ → Debt → Owed
+abbrev pub owed_line_of : ℕ → Debt → OwedLine
 owed_line_of r d = record { by = d.by; repo = r; there = d.there; key = d.key.now }
 
 -- the draft of the entry that writes this line
-pub record IsDraftOf {K : Type 0} (n : NodeView K) (o : Owed) (d : Draft) : Type 0 where
+pub record IsDraftOf {K : Type 0} (n : NodeView K) (o : OwedLine) (d : Draft) : Type 0 where
   pub by : d.by ≡ o.by
   pub file : d.file ≡ Location o.key
   pub path : d.path ≡ location_path o.key
@@ -35,7 +35,7 @@ pub record IsDraftOf {K : Type 0} (n : NodeView K) (o : Owed) (d : Draft) : Type
 
 -- that of the first line that is owed
 pub record IsFirstDraft {K : Type 0} (n : NodeView K) (d : Draft) : Type 0 where
-  pub owed : Owed
+  pub owed : OwedLine
   pub first : n.owed ≡ owed ∷ drop 1 n.owed
   pub draft : IsDraftOf n owed d
 
@@ -53,7 +53,7 @@ WhereMade (Err refusals.StoreFault) P = P
 WhereMade (Err e) P = Unit {0}
 
 -- the entry of this step, of the repository of this number at this look, was added to the history
-pub record AddsStep (step : Option Made) (number : ℕ) (k : Look) (was now : List Entry) : Type 0 where
-  pub made : Made
+pub record AddsStep (step : Option Effect) (number : ℕ) (k : Look) (was now : List Entry) : Type 0 where
+  pub made : Effect
   pub is : step ≡ Some made
   pub adds : now ≡ was ++ entry_of number k made ∷ []

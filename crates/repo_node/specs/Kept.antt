@@ -10,9 +10,9 @@ use Rattle.run_data.specs.declared.entry.EntryKind.TheVariants.{Log, Compact, Fa
 use Rattle.object_store.specs.Stores.{Contents, Parts}
 use Rattle.union_merge.specs.Branch.{Files}
 use Rattle.node_model.specs.Clocks.{runs_on}
-use Rattle.node_model.specs.Owed.{Owed, owed_without}
+use Rattle.node_model.specs.OwedLines.{OwedLine, owed_without}
 use Rattle.node_model.specs.SetUp.{SetUp}
-use Rattle.node_sessions.specs.Sessions.{FedAll}
+use Rattle.node_sessions.specs.Sessions.{AreAllFed}
 use Rattle.node_parts.specs.Direct.{may_fail}
 use Rattle.node_parts.specs.Parts.{PartsView}
 use Rattle.repo_node.specs.declared.refused.NodeRefused.{NodeRefused}
@@ -22,12 +22,12 @@ use Rattle.repo_node.specs.Nodes.{MatchesSetup, IsState, state_of}
 
 -- the part of the store that the sessions take is what they have taken
 abbrev pub IsFed : Option Parts → PartsView → Type 0
-IsFed stored parts = ForSome stored (λ q. FedAll q parts.sessions)
+IsFed stored parts = ForSome stored (λ q. AreAllFed q parts.sessions)
 
 -- Its rows, its branch and, where its store tells, all that it has are those of the state that its history leaves. Its clock was
 -- never set, each hold has the number of one of its entries, its jobs know where it stands among the repositories, and each that
 -- was begun has its entry.
-pub record IsKept (setup : Setup) (history : List Entry) (parts : PartsView) (branch : Files) (owed : List Owed) (told : Option Contents) : Type 0 where
+pub record IsKept (setup : Setup) (history : List Entry) (parts : PartsView) (branch : Files) (owed : List OwedLine) (told : Option Contents) : Type 0 where
   pub state : (s : SetUp) → MatchesSetup setup s → IsState s parts branch owed told (state_of s history)
   pub clock : (s : SetUp) → MatchesSetup setup s → (state_of s history).clock ≡ runs_on (record { at = 0; to = setup.offset })
   pub numbered : All (λ h. h.number < length history + 1) parts.table.holds
@@ -49,7 +49,7 @@ is_debtor Script = false
 is_debtor by = true
 
 -- the lines that are owed after such a step was refused
-abbrev pub owed_refused : By → NodeRefused → Call → List Owed → List Owed
+abbrev pub owed_refused : By → NodeRefused → Call → List OwedLine → List OwedLine
 owed_refused by refusals.StoreFault call os = owed_without call by os
 owed_refused by e call os = os
 

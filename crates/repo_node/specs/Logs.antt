@@ -10,7 +10,7 @@ use Rattle.run_data.specs.declared.entry.LogFile.{LogFile}
 use Rattle.run_data.specs.declared.entry.LogFile.TheVariants.{Location, Of}
 use Rattle.union_merge.specs.Branch.{lines_at, merged_file}
 use Rattle.union_merge.specs.LineSet.{difference}
-use Rattle.node_model.specs.Owed.{stamp_at}
+use Rattle.node_model.specs.OwedLines.{stamp_at}
 use Rattle.repo_node.specs.Nodes.{NodeView, with_entry}
 
 -- ---- lines
@@ -41,9 +41,9 @@ abbrev pub wall_stamp : {K : Type 0} → NodeView K → ℕ
 wall_stamp n = stamp_at (n.time + n.setup.offset)
 
 -- the entry with the stamp that it has when it is added to these lines at this clock
-abbrev pub stamped : LogKind → List (List ℕ) → ℕ → Entry → Entry
-stamped kind lines clock e = record e { stamp = Some (next_stamp (newest_stamp kind lines e.topic) clock) }
+abbrev pub with_next_stamp : LogKind → List (List ℕ) → ℕ → Entry → Entry
+with_next_stamp kind lines clock e = record e { stamp = Some (next_stamp (newest_stamp kind lines e.topic) clock) }
 
 -- the entry as the node writes it now
 abbrev pub stamped_by : {K : Type 0} → NodeView K → LogKind → Option (List ℕ) → Entry → Entry
-stamped_by n kind key e = stamped kind (lines_at n.branch (file_path (log_of kind key))) (wall_stamp n) e
+stamped_by n kind key e = with_next_stamp kind (lines_at n.branch (file_path (log_of kind key))) (wall_stamp n) e

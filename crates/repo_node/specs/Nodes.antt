@@ -15,7 +15,7 @@ use Rattle.run_data.specs.declared.entry.EntryKind.TheVariants.{Fault, Log}
 use Rattle.run_data.specs.declared.entry.LogFile.{LogFile}
 use Rattle.node_model.specs.SetUp.{SetUp, version_of, gives_locks}
 use Rattle.node_model.specs.State.{State}
-use Rattle.node_model.specs.Owed.{Owed, if_new, owed_without, same_lines, status_line}
+use Rattle.node_model.specs.OwedLines.{OwedLine, if_new, owed_without, same_lines, status_line}
 use Rattle.node_model.specs.After.{states}
 use Rattle.node_model.specs.SessionStep.{is_filled}
 use Rattle.repo_node.specs.declared.setup.Setup.{Setup}
@@ -33,7 +33,7 @@ pub record NodeView (K : Type 0) : Type 0 where
   pub count : ℕ
   pub history : List Entry  -- its entries, the oldest first
   pub outcomes : List Ended  -- of its jobs that have ended, in the order of their ends
-  pub owed : List Owed  -- the lines that it owes its branch, in the order in which it pays them
+  pub owed : List OwedLine  -- the lines that it owes its branch, in the order in which it pays them
 
 -- ---- the state that a history leaves
 
@@ -55,14 +55,14 @@ told_of contents None = None
 told_of contents (Some parts) = contents
 
 -- a node's parts, the lines that it owes and these contents are those of a state, and so are the keys that its table fills
-pub record IsStateOfParts (s : SetUp) (parts : PartsView) (owed : List Owed) (c : Contents) (st : State) : Type 0 where
+pub record IsStateOfParts (s : SetUp) (parts : PartsView) (owed : List OwedLine) (c : Contents) (st : State) : Type 0 where
   pub parts_are : AreParts s st parts
   pub fills : (key : List ℕ) → is_filling parts.table key ≡ is_filled s st key
   pub stored : HasContents c st
   pub owed_are : st.owed ≡ owed
 
 -- Rows and a branch are those of a state; and where the store tells, so is all that the node has.
-pub record IsState (s : SetUp) (parts : PartsView) (branch : Files) (owed : List Owed) (told : Option Contents) (st : State) : Type 0 where
+pub record IsState (s : SetUp) (parts : PartsView) (branch : Files) (owed : List OwedLine) (told : Option Contents) (st : State) : Type 0 where
   pub holds : parts.table.holds ≡ st.holds
   pub bars : (key : List ℕ) → bar_at parts.table key ≡ st.bar key
   pub lines : (path : List ℕ) → lines_at branch path ≡ st.lines path
@@ -84,16 +84,16 @@ due_by n key repo there =
     let has = lines_at n.branch (location_path key) in if_new has (status_line has (id_known n repo) there (n.time + n.setup.offset))
 
 -- whether new lines of the file of this path are just those that a line is due
-abbrev pub is_due : {K : Type 0} → NodeView K → List ℕ → List (List ℕ) → Owed → Bool
+abbrev pub is_due : {K : Type 0} → NodeView K → List ℕ → List (List ℕ) → OwedLine → Bool
 is_due n path lines o = bytes_eq path (location_path o.key) && same_lines lines (due_by n o.key o.repo o.there)
 
 -- whether those of a file are those of the first of these owed lines
-abbrev pub are_due : {K : Type 0} → NodeView K → LogFile → List (List ℕ) → List Owed → Bool
+abbrev pub are_due : {K : Type 0} → NodeView K → LogFile → List (List ℕ) → List OwedLine → Bool
 are_due n file lines [] = false
 are_due n file lines (o ∷ os) = is_due n (file_path file) lines o
 
 -- the lines that it owes after its next entry: who writes what the first is due pays it, and a job or a peer that fails to leaves it
-abbrev pub owed_now : {K : Type 0} → NodeView K → EntryKind → List (List ℕ) → List Owed
+abbrev pub owed_now : {K : Type 0} → NodeView K → EntryKind → List (List ℕ) → List OwedLine
 owed_now n (Log file) lines = rest_if (are_due n file lines n.owed) n.owed
 owed_now n (Fault call by) lines = owed_without call by n.owed
 owed_now n kind lines = n.owed

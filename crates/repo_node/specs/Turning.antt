@@ -19,7 +19,7 @@ use Rattle.node_ends.specs.Ends.{SeesEnds}
 use Rattle.node_ends.specs.Going.{AreAfter}
 use Rattle.p2p_server.specs.Answers.{contents_after}
 use Rattle.node_jobs.specs.Running.{words_at}
-use Rattle.node_model.specs.Look.{Look, Made, entry_of}
+use Rattle.node_model.specs.Look.{Look, Effect, entry_of}
 use Rattle.node_model.specs.SetUp.{SetUp}
 use Rattle.node_model.specs.Slots.{job_of}
 use Rattle.node_model.specs.State.{State}
@@ -98,7 +98,7 @@ pub record Adds {K : Type 0} (links : List EndView) (before after : StoreView) (
 
 -- what is to be made of a state, at a look: as `step` has it, or steps of one kind alone
 abbrev pub Stepper : Type 0
-Stepper = SetUp → State → Look → Option Made
+Stepper = SetUp → State → Look → Option Effect
 
 -- the calls of its store that a step makes, of a state and at a look, in order, up to the first that fails
 abbrev pub Caller : Type 0
@@ -114,7 +114,7 @@ pub record Finds {K : Type 0} (known : Option StoredParts) (n : NodeView K) (kin
 -- Of the state that the history leaves, at this look, there is a step of this kind, which takes this frame; and its entry is the
 -- history's last, behind those that were there.
 pub record MakesAt {K : Type 0} (step : Stepper) (kind : EntryKind) (taken : Option FrameView) (was now : NodeView K) (s : SetUp) (k : Look) : Type 0 where
-  pub made : Made
+  pub made : Effect
   pub same : made.kind ≡ kind
   pub takes : made.taken ≡ taken
   pub makes : step s (state_of s was.history) k ≡ Some made

@@ -2,7 +2,7 @@
 ghost use Rattle.std.specs.Prelude.{◌≡◌, IfOk, OnOk, OnErr, is_some, IsSome};
 ghost use Rattle.union_merge.specs.Branch.{file_at, lines_at, merged_file, with_back, with_file};
 ghost use Rattle.union_merge.specs.LineSet.{IsLine, text_of};
-ghost use Rattle.repo_node.specs.Changes.{AddsNew, AreNew, changed_file, undone};
+ghost use Rattle.repo_node.specs.Changes.{AddsNew, AreNew, changed_file, after_undo};
 
 use annex_base::NoMemory;
 use std::alloc::Global;
@@ -64,7 +64,7 @@ fn added<'a>(branch: &mut Branch, path: &[u8], new: &'a LineSet) -> Result<Undo<
     requires new { AreNew new.now (lines_at branch.old path.now) }
     ensures ok { OnOk result (branch.new ≡ merged_file branch.old path.now new.now) }
     ensures there { OnOk result (IsSome (file_at branch.new path.now)) }
-    ensures undo { IfOk result (λ undo. undone branch.new path.now undo ≡ branch.old) }
+    ensures undo { IfOk result (λ undo. after_undo branch.new path.now undo ≡ branch.old) }
     ensures err { OnErr result (branch.new ≡ branch.old) }
 {
     // For the proof: laws, by which the branch is then as before, and that its files are in order.
@@ -90,7 +90,7 @@ pub(crate) fn changed<'a>(
     requires new { AddsNew change (lines_at branch.old path.now) }
     ensures ok { OnOk result (branch.new ≡ changed_file branch.old path.now change.entry) }
     ensures there { OnOk result (IsSome (file_at branch.new path.now)) }
-    ensures undo { IfOk result (λ undo. undone branch.new path.now undo ≡ branch.old) }
+    ensures undo { IfOk result (λ undo. after_undo branch.new path.now undo ≡ branch.old) }
     ensures err { OnErr result (branch.new ≡ branch.old) }
 {
     match change {
@@ -106,7 +106,7 @@ pub(crate) fn changed<'a>(
 pub(crate) fn put_back(branch: &mut Branch, path: &[u8], undo: Undo<'_>)
     requires line { IsLine path.now }
     requires there { IsSome (file_at branch.old path.now) }
-    ensures { branch.new ≡ undone branch.old path.now undo.entry }
+    ensures { branch.new ≡ after_undo branch.old path.now undo.entry }
 {
     match undo {
         Undo::TakeOff(lines) => branch.take_lines_off(path, lines),

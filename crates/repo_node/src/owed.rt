@@ -4,8 +4,8 @@ ghost use Rattle.std.specs.List.{list_any};
 ghost use Rattle.std.specs.Option.{ForSome};
 ghost use Rattle.annex_base.specs.Causes.{Rose};
 ghost use Rattle.annex_base.specs.declared.kinds.Call.TheVariants as calls;
-ghost use Rattle.node_model.specs.Look.{Look, failing};
-ghost use Rattle.node_model.specs.Owed.{Owed, if_new, owed_for, same_lines, stamp_at, status, status_line};
+ghost use Rattle.node_model.specs.Look.{Look, failing_call};
+ghost use Rattle.node_model.specs.OwedLines.{OwedLine, if_new, owed_for, same_lines, stamp_at, status, status_line};
 ghost use Rattle.node_model.specs.OwedStep.{owed_step};
 ghost use Rattle.node_model.specs.SetUp.{SetUp};
 ghost use Rattle.union_merge.specs.Branch.{lines_at};
@@ -283,10 +283,10 @@ impl<K: Keeper> Node<K> {
     /// Pays the first line that it owes, by the entry of that step. Over a store that tells, it is the step of the state.
     pub(crate) fn pay(&mut self) -> Result<(), NodeRefused>
         requires { is_owing self.old.owed ≡ true }
-        ensures ok { (o : Owed) (os : List Owed) → self.old.owed ≡ o ∷ os → OnOk result (self.new ≡ with_status self.old self.new.keeper o.key o.repo o.there) }
-        ensures paid { (o : Owed) (os : List Owed) → self.old.owed ≡ o ∷ os → OnOk result (self.new.owed ≡ os) }
-        ensures err { (o : Owed) (os : List Owed) → self.old.owed ≡ o ∷ os → IfErr result (λ e. RefusesFor o.by e calls.PutFile self.old self.new) }
-        ensures pays { ForSome (told_of (K.contents self.old.keeper) (K.parts self.old.keeper)) (λ c. (s : SetUp) (k : Look) → MatchesSetup self.old.setup s → k.time ≡ self.old.time → k.count ≡ self.old.count + 1 → failing k.fails (calls.PutFile ∷ []) ≡ failed_put result → WhereMade result (AddsStep (owed_step s (state_of s self.old.history) k) self.old.setup.number k self.old.history self.new.history)) }
+        ensures ok { (o : OwedLine) (os : List OwedLine) → self.old.owed ≡ o ∷ os → OnOk result (self.new ≡ with_status self.old self.new.keeper o.key o.repo o.there) }
+        ensures paid { (o : OwedLine) (os : List OwedLine) → self.old.owed ≡ o ∷ os → OnOk result (self.new.owed ≡ os) }
+        ensures err { (o : OwedLine) (os : List OwedLine) → self.old.owed ≡ o ∷ os → IfErr result (λ e. RefusesFor o.by e calls.PutFile self.old self.new) }
+        ensures pays { ForSome (told_of (K.contents self.old.keeper) (K.parts self.old.keeper)) (λ c. (s : SetUp) (k : Look) → MatchesSetup self.old.setup s → k.time ≡ self.old.time → k.count ≡ self.old.count + 1 → failing_call k.fails (calls.PutFile ∷ []) ≡ failed_put result → WhereMade result (AddsStep (owed_step s (state_of s self.old.history) k) self.old.setup.number k self.old.history self.new.history)) }
         ensures contents { K.contents self.new.keeper ≡ K.contents self.old.keeper }
         ensures parts { K.parts self.new.keeper ≡ K.parts self.old.keeper }
         ensures records { K.records self.new.keeper ≡ K.records self.old.keeper }

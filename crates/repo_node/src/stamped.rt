@@ -5,12 +5,12 @@ ghost use Rattle.annex_base.specs.Causes.{Rose};
 ghost use Rattle.annex_base.specs.declared.kinds.Call.TheVariants as calls;
 ghost use Rattle.log_lines.specs.LineText.{line_text};
 ghost use Rattle.log_lines.specs.Newest.{newest_stamp, stamp_in};
-ghost use Rattle.node_model.specs.Owed.{stamp_at};
+ghost use Rattle.node_model.specs.OwedLines.{stamp_at};
 ghost use Rattle.run_data.specs.Files.{HasPath};
 ghost use Rattle.union_merge.specs.Branch.{lines_at};
 ghost use Rattle.union_merge.specs.LineSet.{IsLine};
 ghost use Rattle.repo_node.specs.Calls.{Makes, lacks_some, to_log};
-ghost use Rattle.repo_node.specs.Logs.{IsLogOf, log_of, stamped, stamped_by, with_lines};
+ghost use Rattle.repo_node.specs.Logs.{IsLogOf, log_of, with_next_stamp, stamped_by, with_lines};
 ghost use Rattle.repo_node.specs.Refusals.{RefusesSo};
 
 use crate::logs::set_of_line;
@@ -99,7 +99,7 @@ pub(crate) fn line_at(
     kind: LogKind,
     entry: &Entry,
 ) -> Result<Line, NoMemory>
-    ensures { IfOk result (λ line. line ≡ line_text kind (stamped kind (lines_at branch.now path.now) clock entry.now)) }
+    ensures { IfOk result (λ line. line ≡ line_text kind (with_next_stamp kind (lines_at branch.now path.now) clock entry.now)) }
 {
     let newest = newest_stamp(alloc, branch, path, kind, &entry.topic)?;
     let stamped = with_stamp(entry, next_stamp(newest, clock))?;

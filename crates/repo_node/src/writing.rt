@@ -12,7 +12,7 @@ ghost use Rattle.trust_groups.specs.Adding.{lines_and};
 ghost use Rattle.trust_groups.specs.Reads.{HaveReadLines};
 ghost use Rattle.trust_groups.specs.Settings.{Lines};
 ghost use Rattle.repo_node.specs.Calls.{Makes};
-ghost use Rattle.repo_node.specs.Changes.{AddsNew, changed, changed_file, undone};
+ghost use Rattle.repo_node.specs.Changes.{AddsNew, lines_after_change, changed_file, after_undo};
 ghost use Rattle.repo_node.specs.Kept.{IsOfFiles, first_goes};
 ghost use Rattle.repo_node.specs.Indexed.{ReadsAlike};
 ghost use Rattle.repo_node.specs.Nodes.{owed_now, with_entry};
@@ -81,10 +81,10 @@ fn drafted<'a>(
     requires new { AddsNew change (lines_at branch.old path.now) }
     ensures ready { OnOk result (IsReady past.new) }
     ensures same { SamePast past.old past.new }
-    ensures bytes { IfOk result (λ d. d.bytes.items ≡ text_of (changed change.entry (lines_at branch.old path.now))) }
+    ensures bytes { IfOk result (λ d. d.bytes.items ≡ text_of (lines_after_change change.entry (lines_at branch.old path.now))) }
     ensures branch { OnOk result (branch.new ≡ changed_file branch.old path.now change.entry) }
     ensures there { OnOk result (IsSome (file_at branch.new path.now)) }
-    ensures undo { IfOk result (λ d. undone branch.new path.now d.undo ≡ branch.old) }
+    ensures undo { IfOk result (λ d. after_undo branch.new path.now d.undo ≡ branch.old) }
     ensures err { (by : By) → IfErr result (λ e. FailsFor by e calls.PutFile past.old past.new) }
     ensures err_branch { OnErr result (branch.new ≡ branch.old) }
     ensures no_fault { IsErrOf result NodeRefused.StoreFault → ⊥ }
@@ -118,7 +118,7 @@ fn write_file<K: Keeper>(
     requires new { AddsNew change (lines_at branch.old path.now) }
     ensures branch { OnOk result (branch.new ≡ changed_file branch.old path.now change.entry) }
     ensures past { OnOk result (AddsTo kind lines past.old past.new) }
-    ensures files { OnOk result (K.files keeper.new ≡ option_map (λ f. with_at f path.now (Some (text_of (changed change.entry (lines_at branch.old path.now))))) (K.files keeper.old)) }
+    ensures files { OnOk result (K.files keeper.new ≡ option_map (λ f. with_at f path.now (Some (text_of (lines_after_change change.entry (lines_at branch.old path.now))))) (K.files keeper.old)) }
     ensures err { IfErr result (λ e. FailsFor by e calls.PutFile past.old past.new) }
     ensures err_branch { OnErr result (branch.new ≡ branch.old) }
     ensures err_files { OnErr result (K.files keeper.new ≡ K.files keeper.old) }
@@ -156,7 +156,7 @@ fn write_indexed<K: Keeper>(
     ensures err_index { OnErr result (index.new ≡ index.old) }
     ensures branch { OnOk result (branch.new ≡ changed_file branch.old path.now change.entry) }
     ensures past { OnOk result (AddsTo kind lines past.old past.new) }
-    ensures files { OnOk result (K.files keeper.new ≡ option_map (λ f. with_at f path.now (Some (text_of (changed change.entry (lines_at branch.old path.now))))) (K.files keeper.old)) }
+    ensures files { OnOk result (K.files keeper.new ≡ option_map (λ f. with_at f path.now (Some (text_of (lines_after_change change.entry (lines_at branch.old path.now))))) (K.files keeper.old)) }
     ensures err { IfErr result (λ e. FailsFor by e calls.PutFile past.old past.new) }
     ensures err_branch { OnErr result (branch.new ≡ branch.old) }
     ensures err_files { OnErr result (K.files keeper.new ≡ K.files keeper.old) }
@@ -219,7 +219,7 @@ fn write_beside<K: Keeper>(
     ensures err_index { OnErr result (index.new ≡ index.old) }
     ensures branch { OnOk result (branch.new ≡ changed_file branch.old path.now change.entry) }
     ensures past { OnOk result (AddsTo kind lines past.old past.new) }
-    ensures files { OnOk result (K.files keeper.new ≡ option_map (λ f. with_at f path.now (Some (text_of (changed change.entry (lines_at branch.old path.now))))) (K.files keeper.old)) }
+    ensures files { OnOk result (K.files keeper.new ≡ option_map (λ f. with_at f path.now (Some (text_of (lines_after_change change.entry (lines_at branch.old path.now))))) (K.files keeper.old)) }
     ensures err { IfErr result (λ e. FailsFor by e calls.PutFile past.old past.new) }
     ensures err_branch { OnErr result (branch.new ≡ branch.old) }
     ensures err_files { OnErr result (K.files keeper.new ≡ K.files keeper.old) }

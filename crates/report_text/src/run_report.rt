@@ -4,7 +4,7 @@ ghost use Rattle.std.specs.Prelude.{◌≡◌, ◌++◌, ◌<◌, ◌^◌, IfOk,
 ghost use Rattle.annex_base.specs.Lists.{Each};
 ghost use Rattle.report_text.specs.Report.{changes_of, line_text, report, tree_changes};
 ghost use Rattle.report_text.specs.Walk.{IsAhead, IsWellFormed, ShowsKnown, StandsIn};
-ghost use Rattle.script_lang.specs.Changes.{seen};
+ghost use Rattle.script_lang.specs.Changes.{as_change};
 
 use crate::lines::{put_ended, put_slot};
 use crate::shown::put_shown;
@@ -70,7 +70,7 @@ fn changes_of(command: &Command) -> usize
 }
 
 fn tree_changes(change: &Change<'_>) -> usize
-    ensures { result ≡ tree_changes (seen change.now) }
+    ensures { result ≡ tree_changes (as_change change.now) }
 {
     match change {
         Change::Adds { .. } | Change::Names { .. } => 1,

@@ -16,7 +16,7 @@ use Rattle.run_data.specs.declared.run.TreeMark.{TreeMark}
 use Rattle.run_model.specs.Past.{Always, is_of, now}
 use Rattle.run_data.specs.Repos.{IsSetUp}
 use Rattle.node_model.specs.SetUp.{SetUp}
-use Rattle.node_model.specs.Look.{Look, Made, entry_of}
+use Rattle.node_model.specs.Look.{Look, Effect, entry_of}
 use Rattle.node_model.specs.Step.{step}
 use Rattle.node_model.specs.AnyTime.{MayCome}
 use Rattle.run_model.specs.Frames.{MayTake, way_of}
@@ -74,7 +74,7 @@ pub record ComesInOrder (past : List Entry) (e : Entry) : Type 0 where
 -- the entry is the step of the repository, where it finds this
 pub record IsStep (s : SetUp) (past : List Entry) (words : ℕ → Option Word) (e : Entry) : Type 0 where
   pub look : Look
-  pub made : Made
+  pub made : Effect
   pub makes : step s (state_of s past) look ≡ Some made
   pub is : e ≡ entry_of s.number look made
   pub words_are : look.words ≡ words

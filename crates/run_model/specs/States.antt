@@ -11,7 +11,7 @@ use Rattle.node_model.specs.Clocks.{wall}
 use Rattle.run_model.specs.Logs.{lines_of_file, read_at, settings_of}
 use Rattle.node_model.specs.Jobs.{Work, RowsAndEnds, works_after}
 use Rattle.node_model.specs.SetUp.{SetUp}
-use Rattle.node_model.specs.Owed.{Owed, owed_after}
+use Rattle.node_model.specs.OwedLines.{OwedLine, owed_after}
 use Rattle.node_model.specs.State.{State}
 
 -- how an end of r stands
@@ -40,7 +40,7 @@ works [] r = []
 works (e ∷ past) r = if is_of r e then works_after (rows_at past r) r (works past r) e e.kind else works past r
 
 -- the lines that r owes, the first first
-abbrev pub owes : List RepoView → List Entry → ℕ → List Owed
+abbrev pub owes : List RepoView → List Entry → ℕ → List OwedLine
 owes repos [] r = []
 owes repos (e ∷ past) r =
     if is_of r e then owed_after repos (lines_of_file past r) (wall repos r e.time) (works past r) r (owes repos past r) e e.kind else owes repos past r

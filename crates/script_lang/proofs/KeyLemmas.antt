@@ -35,7 +35,7 @@ use Rattle.script_words.specs.declared.key_word.KeyWord.TheVariants.{OfKey, OfPa
 use Rattle.script_lang.specs.declared.command.NamedKey.{NamedKey}
 use Rattle.script_lang.specs.declared.fault.LineFault.{LineFault}
 use Rattle.script_lang.specs.Context.{Context, is_placed}
-use Rattle.script_lang.specs.Standing.{IsRepo, AreTwo, IsLineText, IsKnownKey, IsNamedKey, IsPath, IsNamedFile, IsLogFile, IsSmall}
+use Rattle.script_lang.specs.Preconditions.{IsRepo, AreTwo, IsLineText, IsKnownKey, IsNamedKey, IsPath, IsNamedFile, IsLogFile, IsSmall}
 use Rattle.script_lang.specs.Steps
 use Rattle.script_lang.specs.Verify.{is_content_of}
 use Rattle.script_lang.proofs.StepLemmas.{Gives, Always, saying_gives, option_gives, next_stays, holds_some, other_gives, number_bounded, path_some}

@@ -35,7 +35,7 @@ use Rattle.script_lang.specs.declared.verb.Show.TheVariants as shows
 use Rattle.script_lang.specs.Context.{Context, has_path}
 use Rattle.script_lang.specs.Forms
 use Rattle.script_lang.specs.Forms.{Form}
-use Rattle.script_lang.specs.Standing.{IsRepo, AreTwo, IsLineText, IsKnownKey, IsNamedKey, IsGroup, IsPath, IsNamedFile, IsLogFile, IsSmall, IsJob, MayDeclare, IsValidIn, StandsInBlock}
+use Rattle.script_lang.specs.Preconditions.{IsRepo, AreTwo, IsLineText, IsKnownKey, IsNamedKey, IsGroup, IsPath, IsNamedFile, IsLogFile, IsSmall, IsJob, MayDeclare, IsValidIn, StandsInBlock}
 use Rattle.script_lang.specs.Steps
 use Rattle.script_lang.specs.Verify.{is_content_of}
 use Rattle.script_lang.proofs.StepLemmas.{Gives, Always, Ends, IsNewName, IsNewId, IsFullText, saying_gives, repo_gives, other_gives, new_name_gives, new_id_gives, number_gives, level_gives, call_gives, path_gives, tree_path_gives, group_gives, rest_ends, full_rest_ends, text_ends, glob_ends, groups_ends}

@@ -38,7 +38,7 @@ use Rattle.script_lang.specs.Limits.{first_limit}
 use Rattle.script_lang.specs.Numbering.{begun_by, numbers_by, numbers_from, numbers_then, line_numbers}
 use Rattle.script_lang.specs.Script
 use Rattle.script_lang.specs.Script.{State, Reading, Commands, context_with, no_context, no_lines}
-use Rattle.script_lang.specs.Standing.{AllStand, IsValidIn, StandsInBlock}
+use Rattle.script_lang.specs.Preconditions.{AllStand, IsValidIn, StandsInBlock}
 use Rattle.script_lang.specs.Steps
 use Rattle.script_lang.specs.Verify.{is_content_of, made_key}
 use Rattle.script_lang.proofs.KeyLemmas.{KeysAreTexts, HasKeys}

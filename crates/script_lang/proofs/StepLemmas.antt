@@ -49,7 +49,7 @@ use Rattle.script_lang.specs.declared.context.Repository.{Repository}
 use Rattle.script_lang.specs.declared.fault.LineFault.{LineFault}
 use Rattle.script_lang.specs.declared.fault.LineFault.TheVariants.{Wrong}
 use Rattle.script_lang.specs.Context.{Context, number_of_repo, number_of_other, unless, has_name, has_id, has_path, is_placed}
-use Rattle.script_lang.specs.Standing.{IsRepo, AreTwo, IsLineText, IsKnownKey, IsNamedKey, IsGroup, IsPath, IsNamedFile, IsLogFile}
+use Rattle.script_lang.specs.Preconditions.{IsRepo, AreTwo, IsLineText, IsKnownKey, IsNamedKey, IsGroup, IsPath, IsNamedFile, IsLogFile}
 use Rattle.script_lang.specs.Steps
 use Rattle.script_lang.specs.Verify.{is_content_of}
 

@@ -65,14 +65,14 @@ change_of commands.ShowTotals = Nothing
 change_of commands.ShowJournal = Nothing
 
 -- a change that borrows a line's parts
-abbrev pub seen : BorrowedChange → Change
-seen (borrowed.Declares name id offset version locks) = Declares (record { name = name.now; id = id.now; offset = offset; version = version; locks = locks })
-seen (borrowed.Puts r key content) = Puts r key.now content.now
-seen (borrowed.Brings content) = Brings content.now
-seen (borrowed.Adds r path key content) = Adds r path.now key.now content.now
-seen (borrowed.Names path key) = Names path.now key.now
-seen (borrowed.Waits milliseconds) = Waits milliseconds
-seen borrowed.Nothing = Nothing
+abbrev pub as_change : BorrowedChange → Change
+as_change (borrowed.Declares name id offset version locks) = Declares (record { name = name.now; id = id.now; offset = offset; version = version; locks = locks })
+as_change (borrowed.Puts r key content) = Puts r key.now content.now
+as_change (borrowed.Brings content) = Brings content.now
+as_change (borrowed.Adds r path key content) = Adds r path.now key.now content.now
+as_change (borrowed.Names path key) = Names path.now key.now
+as_change (borrowed.Waits milliseconds) = Waits milliseconds
+as_change borrowed.Nothing = Nothing
 
 -- ---- what a change makes of what lines are read by
 

@@ -78,8 +78,8 @@ placed_key r next context at = Steps.placed_key_at context r at >>= λ x. next x
 abbrev pub content : {A : Type 0} → (List ℕ → Form A) → Form A
 content next context at = Steps.content_at at >>= λ x. next x.0 context x.1
 
-abbrev pub matching : {A : Type 0} → List ℕ → (List ℕ → Form A) → Form A
-matching key next context at = Steps.matching_at key at >>= λ x. next x.0 context x.1
+abbrev pub matching_content : {A : Type 0} → List ℕ → (List ℕ → Form A) → Form A
+matching_content key next context at = Steps.matching_at key at >>= λ x. next x.0 context x.1
 
 abbrev pub file : {A : Type 0} → (LogFile → Form A) → Form A
 file next context at = Steps.file_at at >>= λ x. next x.0 context x.1
@@ -238,7 +238,7 @@ row verbs.Required = (codes "required", repo λ r. repo λ t. text (Required r t
 row verbs.Group = (codes "group", repo λ r. repo λ t. groups (Group r t))
 row verbs.GroupWanted = (codes "groupwanted", repo λ r. short (group λ g. rest (GroupWanted r g)))
 row verbs.Log = (codes "log", repo λ r. log_file λ f. raw_line (Log r f))
-row verbs.Have = (codes "have", repo λ r. key λ k. matching k.key λ c. ends_within c (Have r k.key c))
+row verbs.Have = (codes "have", repo λ r. key λ k. matching_content k.key λ c. ends_within c (Have r k.key c))
 row verbs.Part = (codes "part", repo λ r. key λ k. content λ c. ends_within c (Part r k.key c))
 row verbs.Damage = (codes "damage", repo λ r. placed_key r λ k. content λ c. ends_within c (Damage r k.key c))
 row verbs.Add = (codes "add", repo λ r. path λ p. content λ c. ends_within c (Add r p (made_key p c) c))

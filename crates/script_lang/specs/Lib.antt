@@ -8,5 +8,5 @@ pub mod Forms
 pub mod Limits
 pub mod Script
 pub mod Laws
-pub mod Standing
+pub mod Preconditions
 pub mod Numbering

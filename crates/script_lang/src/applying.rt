@@ -2,7 +2,7 @@
 ghost use Rattle.std.specs.Prelude.{◌≡◌, ◌≤◌, ◌++◌, ◌||◌, not, None, OnOk, OnErr};
 ghost use Rattle.std.specs.BTreeSet.{insert_key};
 ghost use Rattle.script_lang.specs.Changes as spec;
-ghost use Rattle.script_lang.specs.Changes.{seen, declares, repos_by, tree_by, files_by, placed_by};
+ghost use Rattle.script_lang.specs.Changes.{as_change, declares, repos_by, tree_by, files_by, placed_by};
 ghost use Rattle.script_lang.specs.Context.{new_paths, placed_cmp};
 ghost use Rattle.script_lang.specs.Limits as limits;
 ghost use Rattle.script_lang.specs.Script.{context_with};
@@ -17,7 +17,7 @@ use std::collections::BTreeSet;
 
 /// Whether no repository may be declared after the change, if it is `closed` before it.
 fn closes(closed: bool, change: &Change<'_>) -> bool
-    ensures { result ≡ (closed || not (declares (seen change.now))) }
+    ensures { result ≡ (closed || not (declares (as_change change.now))) }
 {
     match change {
         Change::Declares { .. } => closed,
@@ -32,7 +32,7 @@ fn closes(closed: bool, change: &Change<'_>) -> bool
 
 /// Adds the repository that the change declares, if it does.
 fn declare(repos: &mut Vec<Repository>, change: &Change<'_>) -> Result<(), NoMemory>
-    ensures ok { OnOk result (repos.new.items ≡ repos.old.items ++ repos_by (seen change.now)) }
+    ensures ok { OnOk result (repos.new.items ≡ repos.old.items ++ repos_by (as_change change.now)) }
     ensures err { OnErr result (repos.new.items ≡ repos.old.items) }
 {
     match *change {
@@ -64,7 +64,7 @@ fn declare(repos: &mut Vec<Repository>, change: &Change<'_>) -> Result<(), NoMem
 
 /// Enters the path that the change gives a key, if it does.
 fn enter(tree: &mut Tree, alloc: Global, change: &Change<'_>) -> Result<(), NoMemory>
-    ensures { OnOk result (tree.new ≡ tree_by tree.old (seen change.now)) }
+    ensures { OnOk result (tree.new ≡ tree_by tree.old (as_change change.now)) }
 {
     match *change {
         Change::Declares { .. } => Ok(()),
@@ -91,7 +91,7 @@ pub fn new_path(tree: &Tree, path: &Text) -> u64
 
 /// How many paths the tree has more after the change.
 fn files_of(tree: &Tree, change: &Change<'_>) -> u64
-    ensures value { result ≡ files_by tree.now (seen change.now) }
+    ensures value { result ≡ files_by tree.now (as_change change.now) }
     ensures bound { result ≤ 1 }
 {
     match *change {
@@ -115,7 +115,7 @@ fn put(placed: &mut BTreeSet<(u32, Key)>, repo: u32, key: &Key) -> Result<(), No
 
 /// Notes the content that the change puts, if it does.
 fn place(placed: &mut BTreeSet<(u32, Key)>, change: &Change<'_>) -> Result<(), NoMemory>
-    ensures { OnOk result (placed.new.keys ≡ placed_by placed.old.keys (seen change.now)) }
+    ensures { OnOk result (placed.new.keys ≡ placed_by placed.old.keys (as_change change.now)) }
 {
     match *change {
         Change::Declares { .. } => Ok(()),
@@ -130,7 +130,7 @@ fn place(placed: &mut BTreeSet<(u32, Key)>, change: &Change<'_>) -> Result<(), N
 
 /// The bytes of the change's content.
 fn size_of(change: &Change<'_>) -> u64
-    ensures { result ≡ spec.content_size (seen change.now) }
+    ensures { result ≡ spec.content_size (as_change change.now) }
 {
     match *change {
         Change::Declares { .. } => 0,
@@ -145,7 +145,7 @@ fn size_of(change: &Change<'_>) -> u64
 
 /// The milliseconds that go by.
 fn wait_of(change: &Change<'_>) -> u64
-    ensures { result ≡ spec.wait_by (seen change.now) }
+    ensures { result ≡ spec.wait_by (as_change change.now) }
 {
     match *change {
         Change::Declares { .. } => 0,
@@ -160,8 +160,8 @@ fn wait_of(change: &Change<'_>) -> u64
 
 /// Makes the change.
 fn make(context: &mut Context, alloc: Global, change: &Change<'_>) -> Result<(), NoMemory>
-    requires { limits.limit_passed context.old (seen change.now) ≡ None }
-    ensures { OnOk result (context.new ≡ spec.context_by context.old (seen change.now)) }
+    requires { limits.limit_passed context.old (as_change change.now) ≡ None }
+    ensures { OnOk result (context.new ≡ spec.context_by context.old (as_change change.now)) }
 {
     place(&mut context.placed, change)?;
     declare(&mut context.repos, change)?;

@@ -1,7 +1,7 @@
 //! What a line changes for the lines behind it.
 ghost use Rattle.std.specs.Prelude.{◌≡◌};
 ghost use Rattle.script_lang.specs.Changes as spec;
-ghost use Rattle.script_lang.specs.Changes.{seen};
+ghost use Rattle.script_lang.specs.Changes.{as_change};
 
 use crate::command::Command;
 use annex_base::{RepoId, Text};
@@ -52,7 +52,7 @@ pub enum Change<'a> {
 
 /// What the line changes for the lines behind it.
 pub fn change_of(command: &Command) -> Change<'_>
-    ensures { seen result ≡ spec.change_of command.now }
+    ensures { as_change result ≡ spec.change_of command.now }
 {
     match command {
         Command::Repo {

@@ -1,6 +1,6 @@
 //! The limits of what is counted.
 ghost use Rattle.std.specs.Prelude.{◌≡◌, ◌+◌, nat_lt, length, Some, None, if◌then◌else◌};
-ghost use Rattle.script_lang.specs.Changes.{seen};
+ghost use Rattle.script_lang.specs.Changes.{as_change};
 ghost use Rattle.script_lang.specs.Context.{new_paths};
 ghost use Rattle.script_lang.specs.Limits as limits;
 
@@ -59,7 +59,7 @@ fn add_passes(context: &Context, content: &Content, path: &Text) -> Option<Quant
 
 /// The first limit that the change passes.
 fn limit_passed(context: &Context, change: &Change<'_>) -> Option<Quantity>
-    ensures { result ≡ limits.limit_passed context.now (seen change.now) }
+    ensures { result ≡ limits.limit_passed context.now (as_change change.now) }
 {
     match *change {
         Change::Declares { .. } => told(repositories_pass(context), Quantity::Repositories),

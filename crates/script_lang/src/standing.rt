@@ -3,7 +3,7 @@ ghost use Rattle.std.specs.Prelude.{◌≡◌, ◌+◌, ◌≤◌, List, ℕ, le
 ghost use Rattle.script_lang.specs.declared.command.Command.{Command};
 ghost use Rattle.script_lang.specs.Numbering.{line_numbers};
 ghost use Rattle.script_lang.specs.Script.{reading, no_context, Commands};
-ghost use Rattle.script_lang.specs.Standing.{AllStand};
+ghost use Rattle.script_lang.specs.Preconditions.{AllStand};
 
 use annex_key::key_texts_have_no_fault;
 use key_verify::{made_keys_match, verdicts_are_matches};

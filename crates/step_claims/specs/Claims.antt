@@ -14,7 +14,7 @@ use Rattle.run_data.specs.declared.job.Proof.{Proof}
 use Rattle.run_data.specs.declared.run.RepoView.{RepoView}
 use Rattle.node_model.specs.SetUp.{SetUp}
 use Rattle.node_model.specs.Ends.{EndName}
-use Rattle.node_model.specs.Look.{Look, Made}
+use Rattle.node_model.specs.Look.{Look, Effect}
 use Rattle.node_model.specs.AnyTime.{close_at, closes_all}
 use Rattle.node_model.specs.Step.{step}
 use Rattle.run_model.specs.States.{state_of}
@@ -69,7 +69,7 @@ abbrev pub words_of : List (ℕ × Word) → ℕ → Option Word
 words_of [] c = None
 words_of (w ∷ ws) c = if w.0 == c then Some w.1 else words_of ws c
 
-abbrev pub made_of : Entry → Made
+abbrev pub made_of : Entry → Effect
 made_of e = record { kind = e.kind; taken = e.taken; sent = e.sent; lines = e.lines }
 
 -- the entry is the step, with these frames at hand, room but at these ends, the store call that fails, the size of the part that

@@ -17,7 +17,7 @@ use Rattle.log_lines.specs.declared.entry.Entry.{Entry}
 use Rattle.log_lines.specs.Newest.{IsReading, newest, entry_at}
 use Rattle.log_lines.specs.Files.{file_name}
 use Rattle.hash_dirs.specs.LogPath.{location_path}
-use Rattle.trust_groups.specs.Settings.{Lines, location_entries, value_in, groups_in, number_in, level, groups, is_dead, is_present, repo_of, are_dead, is_claim, claims, is_some, has_groups, grouped}
+use Rattle.trust_groups.specs.Settings.{Lines, location_entries, value_in, groups_in, number_in, level, groups, is_dead, is_present, repo_of, are_dead, is_claim, claims, is_some, has_groups, repos_in_groups}
 use Rattle.trust_groups.specs.Claims.{IsClaimed}
 use Rattle.trust_groups.specs.Kept.{groups_among, grouped_among}
 use Rattle.trust_groups.proofs.RepoLemmas.{IsRising, repos_member, member_repos, repos_sorted}
@@ -113,10 +113,10 @@ pub grouped_among-sorted : (es : List Entry) → IsRising es → IsStrictlySorte
 grouped_among-sorted es rising = repos_sorted has_groups es rising
 
 -- of a branch
-pub grouped_exact : AreReadings → AreFound → (lines : Lines) (repo : List ℕ) → Member repo (grouped lines) ↔ (groups lines repo ≢ [])
+pub grouped_exact : AreReadings → AreFound → (lines : Lines) (repo : List ℕ) → Member repo (repos_in_groups lines) ↔ (groups lines repo ≢ [])
 grouped_exact reading finds lines repo = let file = lines (file_name kinds.Group) in grouped_among-exact finds (newest kinds.Group file) repo (reading kinds.Group file).sorted
 
-pub grouped_sorted : AreReadings → (lines : Lines) → IsStrictlySortedBy text_cmp (grouped lines)
+pub grouped_sorted : AreReadings → (lines : Lines) → IsStrictlySortedBy text_cmp (repos_in_groups lines)
 grouped_sorted reading lines = let file = lines (file_name kinds.Group) in grouped_among-sorted (newest kinds.Group file) (reading kinds.Group file).sorted
 
 -- ---- numbers

@@ -118,8 +118,8 @@ abbrev pub has_groups : Entry → Bool
 has_groups e = is_some (groups_in (Some e.value))
 
 -- the repositories that are in at least one group, in order
-abbrev pub grouped : Lines → List (List ℕ)
-grouped lines = repos_of (filter has_groups (newest kinds.Group (lines (file_name kinds.Group))))
+abbrev pub repos_in_groups : Lines → List (List ℕ)
+repos_in_groups lines = repos_of (filter has_groups (newest kinds.Group (lines (file_name kinds.Group))))
 
 -- all that is read of a branch
 abbrev pub settings : Lines → Settings
@@ -132,6 +132,6 @@ settings lines = record {
   preferred = preferred lines;
   required = required lines;
   group_preferred = group_preferred lines;
-  grouped = grouped lines;
+  repos_in_groups = repos_in_groups lines;
   claims = claims lines;
 }

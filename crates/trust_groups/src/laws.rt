@@ -4,7 +4,7 @@ ghost use Rattle.std.specs.List.Sorted.{IsStrictlySortedBy};
 ghost use Rattle.annex_base.specs.ByteOrder.{text_cmp};
 ghost use Rattle.annex_base.specs.Lists.{Member, Each};
 ghost use Rattle.union_merge.specs.Branch.{Files, IsBranch, lines_at, merged_branch, merged_branches};
-ghost use Rattle.trust_groups.specs.Settings.{Lines, settings, claims, grouped, groups, numcopies, mincopies};
+ghost use Rattle.trust_groups.specs.Settings.{Lines, settings, claims, repos_in_groups, groups, numcopies, mincopies};
 ghost use Rattle.trust_groups.specs.Alike.{SameFiles, SameReading, KeepsFiles, CompactsFiles, IsNoLog};
 ghost use Rattle.trust_groups.specs.Reads.{Indices, HaveReadLines, lines_with};
 ghost use Rattle.trust_groups.specs.View.{settings_of};
@@ -75,8 +75,8 @@ pub fn claims_are_exact()
 
 /// A repository is grouped exactly where it is in a group (git-annex-group). Each stands once, in order of identifier.
 pub fn grouped_are_exact()
-    ensures each { (lines : Lines) (repo : List ℕ) → Member repo (grouped lines) ↔ (groups lines repo ≢ []) }
-    ensures sorted { (lines : Lines) → IsStrictlySortedBy text_cmp (grouped lines) }
+    ensures each { (lines : Lines) (repo : List ℕ) → Member repo (repos_in_groups lines) ↔ (groups lines repo ≢ []) }
+    ensures sorted { (lines : Lines) → IsStrictlySortedBy text_cmp (repos_in_groups lines) }
 {
     // laws, for the proof
     readings_are_exact();

@@ -2,7 +2,7 @@
 use Rattle.std.proofs.Common.{◌++◌}
 use Rattle.run_data.specs.Histories.{most_entries}
 use Rattle.driver_model.specs.Limits.{limited_run}
-use Rattle.driver_script.specs.Given.{driver_input_of}
+use Rattle.driver_script.specs.Inputs.{driver_input_of}
 use Rattle.report_text.specs.Report.{report}
 use Rattle.annex_cli.specs.Top.{entries_name, limit_text}
 use Rattle.annex_cli.proofs.DueLemmas.{HaveOneReading, due_answered, due_cut, due_report}

@@ -1,7 +1,7 @@
 -- Each line of a script is one of a run of its repositories.
 use Rattle.driver_model.specs.Driver.{at_first}
 use Rattle.driver_model.specs.Limits.{limited_run}
-use Rattle.driver_script.specs.Given.{driver_input_of}
+use Rattle.driver_script.specs.Inputs.{driver_input_of}
 use Rattle.annex_cli.proofs.FullLemmas.{full_run}
 use Rattle.annex_cli.proofs.GoodLemmas.{all_have_repos}
 use Rattle.annex_cli.proofs.laws.cut_script_runs_have_a_full_history.Goals as goal

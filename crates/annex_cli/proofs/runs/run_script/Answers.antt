@@ -1,7 +1,7 @@
 -- A new fleet stands where the driver begins; after all lines it has the script's run.
 use Rattle.std.proofs.Common.{false, refl, sym, subst}
 use Rattle.run_data.specs.declared.run.Run.{Run}
-use Rattle.driver_script.specs.Given.{driver_input_of}
+use Rattle.driver_script.specs.Inputs.{driver_input_of}
 use Rattle.annex_cli.specs.Runs.{IsRunOf}
 use Rattle.annex_cli.proofs.RunLemmas.{done_at_last}
 use Rattle.annex_cli.proofs.runs.run_script.Goals as goal

@@ -2,9 +2,9 @@
 use Rattle.std.proofs.Common.{◌≡◌, List, Some, arith}
 use Rattle.script_lang.specs.declared.command.Command.{Command}
 use Rattle.script_lang.specs.Script.{no_context}
-use Rattle.script_lang.specs.Standing.{AllStand}
+use Rattle.script_lang.specs.Preconditions.{AllStand}
 use Rattle.driver_model.specs.Lines.{Line}
-use Rattle.driver_script.specs.Given.{driver_input_of}
+use Rattle.driver_script.specs.Inputs.{driver_input_of}
 use Rattle.driver_script.specs.Lines.{lines_of, repos_of}
 use Rattle.driver_script.proofs.DeclaringLemmas.{Declares, all_declare, none_declared}
 use Rattle.driver_script.proofs.StandingLemmas.{all_lines}

@@ -9,7 +9,7 @@ use Rattle.drop_worker.specs.declared.phase.Phase.{Phase}
 use Rattle.drop_worker.specs.declared.phase.Phase.TheVariants as phases
 use Rattle.drop_worker.specs.Leaving.{store}
 use Rattle.drop_worker.specs.Feeding.{FitsRemote}
-use Rattle.drop_worker.specs.Remote.{Unshared}
+use Rattle.drop_worker.specs.Remote.{FollowsShareRefused}
 use Rattle.drop_worker.specs.Worker.{Worker}
 use Rattle.drop_worker.specs.Working.{failed_in, sight}
 use Rattle.drop_worker.proofs.RemoteCalls.{shared_makes, unshared_makes}
@@ -26,7 +26,7 @@ returns-in-Err-clause-did g c =
     c.in-Err.ensures.err c.in-Err.ensures.contents c.in-Err.ensures.err_records c.requires.stands.agrees c.in-Err.ensures.later c.in-Err.why c.unshared.result
     (subst (λ (key : List ℕ). NotShared c.in-Err.why (HasContent (g.K.Keeper.contents c.args.keeper.now) key) (bar_at c.args.table.now key)) (c.key-3.ensures ∙ ap (λ (u : Worker). u.job.key) c.in_ok-hear.ensures.ok) c.in-Err.ensures.why)
     c.in-Err.ensures.cause
-    (subst (λ (u : Worker). Unshared c.in-Err.why u c.unshared.new.worker c.unshared.result)
+    (subst (λ (u : Worker). FollowsShareRefused c.in-Err.why u c.unshared.new.worker c.unshared.result)
     (c.in_ok-hear.ensures.ok ∙ (λ i. record w { heard = (c.repo.ensures i, heards.Held c.args.input.now.time) ∷ w.heard; phase = phases.Next })) c.unshared.ensures)
 
 pub returns-in-Ok-clause-calls : goal.returns-in-Ok-clause-calls

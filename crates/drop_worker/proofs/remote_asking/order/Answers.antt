@@ -3,10 +3,10 @@ use Rattle.std.proofs.Common.{◌<◌, ◌^◌, ℕ, List, Option, Some, None, r
 use Rattle.std.specs.Option.{ForSome}
 use Rattle.p2p_wire.specs.declared.message.Message.{Message}
 use Rattle.p2p_wire.specs.Streams.{IsLine}
-use Rattle.drop_worker.specs.Remote.{ReadsAll, order_message}
+use Rattle.drop_worker.specs.Remote.{AreRemoteProtocolLines, order_message}
 use Rattle.drop_worker.proofs.remote_asking.order.Goals as goal
 
-order_line : (key : List ℕ) (deadline : Option ℕ) → ReadsAll key → ForSome deadline (λ n. n < 2 ^ 63) → IsLine (order_message key deadline)
+order_line : (key : List ℕ) (deadline : Option ℕ) → AreRemoteProtocolLines key → ForSome deadline (λ n. n < 2 ^ 63) → IsLine (order_message key deadline)
 order_line key None reads early = reads.order
 order_line key (Some n) reads early = reads.timed n (early n refl)
 

@@ -6,7 +6,7 @@ use Rattle.node_model.specs.Jobs.{drop_side}
 use Rattle.trust_groups.specs.View.{settings_of}
 use Rattle.node_jobs.specs.Calling.{JobMakes}
 use Rattle.node_jobs.specs.Doings.{Acts}
-use Rattle.node_jobs.specs.Reads.{Known}
+use Rattle.node_jobs.specs.Reads.{KnownLogs}
 use Rattle.node_jobs.specs.Running.{DropJob, HasRead, HasReadByPhase}
 use Rattle.node_jobs.proofs.Knowing.{acts_ok, acts_so, knows_logs, knows_read, makes_ok, makes_so}
 use Rattle.node_jobs.proofs.acting.act.Goals as goal
@@ -18,7 +18,7 @@ returns-in-Some-clause-acts g c =
     let settings = settings_of c.args.settings.now in
     let contents = g.K.Keeper.contents c.args.keeper.now in
     subst (λ (was : DropJob). IfOk c.advance.result (Acts p c.args.clock c.args.ends.now settings c.args.input.now contents c.args.table.now was (record { worker = c.advance.new.worker; known = c.job.inside.known }))) c.job.view_is
-    (subst (λ (o : Option Known). IfOk c.advance.result (Acts p c.args.clock c.args.ends.now settings c.args.input.now contents c.args.table.now j (record { worker = c.advance.new.worker; known = o }))) (sym c.in-Some.is)
+    (subst (λ (o : Option KnownLogs). IfOk c.advance.result (Acts p c.args.clock c.args.ends.now settings c.args.input.now contents c.args.table.now j (record { worker = c.advance.new.worker; known = o }))) (sym c.in-Some.is)
     (acts_ok p c.args.clock c.args.ends.now settings c.args.input.now contents (g.K.Keeper.contents c.advance.new.keeper) c.args.table.now c.advance.new.table j c.advance.new.worker c.in-Some.known c.advance.result (subst (λ (was : DropJob). drop_side was.worker.job.kind was.worker.job.peer ≡ Local) (sym c.job.view_is) c.requires.side)
     (λ s st place read logs nameless. knows_read s st j c.in-Some.known (subst (HasRead s st j.worker) c.in-Some.is read))
     (subst (λ (was : DropJob). HasReadByPhase p was.worker.phase was.known) (sym c.job.view_is) c.requires.stands) c.advance.ensures.does c.advance.ensures.steps))

@@ -4,7 +4,7 @@ use Rattle.std.specs.Prelude.{OnErr}
 use Rattle.repo_node.specs.Stored.{StoreView, store_view}
 use Rattle.fleet_model.specs.Fleets.{FleetView}
 use Rattle.fleet_run.specs.Commands.{does_command}
-use Rattle.fleet_run.specs.Standing.{IsAtDriver, OnlyAddsEntries, StopsWithin}
+use Rattle.fleet_run.specs.AtDriver.{IsAtDriver, OnlyAddsEntries, StopsWithin}
 use Rattle.fleet_run.specs.declared.stop.FleetStop.{FleetStop}
 use Rattle.fleet_run.proofs.Full.{ok_or_err}
 use Rattle.fleet_run.proofs.Starts.{command_adds, start_same}

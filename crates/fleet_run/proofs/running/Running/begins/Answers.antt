@@ -7,7 +7,7 @@ use Rattle.fleet_run.proofs.Growing.{begin_grows, had_at_most}
 use Rattle.fleet_run.proofs.Full.{RefusesJob, begins_end, ends_for, refuses_job, rest_on, rest_where_same}
 use Rattle.driver_model.specs.ScriptSteps.{begins}
 use Rattle.fleet_run.proofs.Starts.{always_err, call_ends, few_told, start_full, start_same}
-use Rattle.fleet_run.specs.Standing.{EndsAtFull}
+use Rattle.fleet_run.specs.AtDriver.{EndsAtFull}
 use Rattle.fleet_model.specs.Fleets.{FleetView}
 use Rattle.run_data.specs.declared.job.Job.{Job}
 use Rattle.fleet_run.proofs.running.Running.begins.Goals as goal

@@ -2,7 +2,7 @@
 use Rattle.repo_node.specs.Stored.{StoreView, store_view}
 use Rattle.driver_model.specs.Rounds.{settles}
 use Rattle.driver_model.specs.ScriptSteps.{begins}
-use Rattle.fleet_run.specs.Standing.{most_lines}
+use Rattle.fleet_run.specs.AtDriver.{most_lines}
 use Rattle.fleet_run.proofs.Driving.{driven_on}
 use Rattle.fleet_run.proofs.Few.{begins_few}
 use Rattle.fleet_run.proofs.Steps.{goes_twice}

@@ -10,7 +10,7 @@ use Rattle.fleet_run.proofs.Writing.{WritesFiles, compacts_go, never_bundle}
 use Rattle.fleet_run.proofs.Full.{CompactMeets, ends_for, compacts_end, rest_on}
 use Rattle.driver_model.specs.ScriptSteps.{compacts}
 use Rattle.fleet_run.proofs.Starts.{call_ends, few_told, start_full}
-use Rattle.fleet_run.specs.Standing.{EndsAtFull}
+use Rattle.fleet_run.specs.AtDriver.{EndsAtFull}
 use Rattle.fleet_model.specs.Fleets.{FleetView}
 use Rattle.fleet_run.proofs.running.Running.compacts.Goals as goal
 

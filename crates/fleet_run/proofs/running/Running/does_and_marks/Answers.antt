@@ -5,7 +5,7 @@ use Rattle.driver_model.specs.Driving.{with_mark}
 use Rattle.fleet_run.specs.Commands.{does_command}
 use Rattle.fleet_run.proofs.Cutting.{meets_none}
 use Rattle.fleet_run.proofs.Full.{few_in, ok_or_err, rest_then, rest_where_same, same_err}
-use Rattle.fleet_run.specs.Standing.{most_lines}
+use Rattle.fleet_run.specs.AtDriver.{most_lines}
 use Rattle.fleet_run.proofs.Driving.{driven_within}
 use Rattle.fleet_run.proofs.Marked.{driven_behind, driven_marked, marked_once}
 use Rattle.fleet_run.proofs.Steps.{goes_twice}

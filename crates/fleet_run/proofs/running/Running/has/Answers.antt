@@ -9,7 +9,7 @@ use Rattle.fleet_run.proofs.Placing.{PlacesContent, has_goes_so}
 use Rattle.fleet_run.proofs.Writing.{never_bundle}
 use Rattle.fleet_run.proofs.Full.{HadRoom, had_room, IsUnasked, PlaceMeets, has_ends_so, has_room, rest_on, rest_where_same}
 use Rattle.fleet_run.proofs.Starts.{always_err, call_ends, ended_ok, few_told, start_same, start_waits}
-use Rattle.fleet_run.specs.Standing.{EndsAtFull, WaitsForRoom}
+use Rattle.fleet_run.specs.AtDriver.{EndsAtFull, WaitsForRoom}
 use Rattle.fleet_model.specs.Fleets.{FleetView}
 use Rattle.driver_model.specs.ScriptSteps.{has}
 use Rattle.fleet_run.proofs.running.Running.has.Goals as goal

@@ -3,7 +3,7 @@ use Rattle.std.proofs.Common.{ℕ, ◌∷◌, [], ◌++◌, ◌∙◌, ap, lengt
 use Rattle.repo_node.specs.Stored.{StoreView, store_view}
 use Rattle.driver_model.specs.Driving.{with_mark}
 use Rattle.fleet_model.specs.Fleets.{FleetView}
-use Rattle.fleet_run.specs.Standing.{GoesOn}
+use Rattle.fleet_run.specs.AtDriver.{GoesOn}
 use Rattle.fleet_run.proofs.Driving.{marks_on}
 use Rattle.fleet_run.proofs.Starts.{always_err}
 use Rattle.fleet_run.proofs.running.Running.mark.Goals as goal

@@ -11,7 +11,7 @@ use Rattle.std.proofs.Common.{◌≡◌, Some, ap, ◌∙◌}
 use Rattle.std.specs.Prelude.{slice_get}
 use Rattle.annex_base.proofs.Lists.{slice_get-within}
 use Rattle.fleet_run.proofs.Starts.{call_ends, few_told, start_full}
-use Rattle.fleet_run.specs.Standing.{EndsAtFull}
+use Rattle.fleet_run.specs.AtDriver.{EndsAtFull}
 use Rattle.fleet_model.specs.Fleets.{FleetView}
 use Rattle.fleet_run.proofs.running.Running.merges.Goals as goal
 

@@ -3,7 +3,7 @@ use Rattle.std.proofs.Common.{rules, ℕ, ◌≡◌, ◌<◌, length, refl, subs
 use Rattle.std.specs.List.{range_with_len}
 use Rattle.repo_node.specs.Stored.{StoreView, store_view}
 use Rattle.driver_model.specs.Rounds.{turns_of}
-use Rattle.fleet_run.specs.Standing.{most_lines}
+use Rattle.fleet_run.specs.AtDriver.{most_lines}
 use Rattle.fleet_run.proofs.Driving.{driven_on, one_more_of_round, same_count, whole_round}
 use Rattle.fleet_run.proofs.Ending.{AtFull, later_full, round_ends}
 use Rattle.fleet_run.proofs.Few.{turns_of_few}

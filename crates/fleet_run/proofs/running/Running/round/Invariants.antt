@@ -2,7 +2,7 @@
 use Rattle.std.specs.List.{range_with_len}
 use Rattle.repo_node.specs.Stored.{store_view}
 use Rattle.driver_model.specs.Rounds.{turns_of}
-use Rattle.fleet_run.specs.Standing.{GoesOn, OnlyAddsEntries}
+use Rattle.fleet_run.specs.AtDriver.{GoesOn, OnlyAddsEntries}
 use Rattle.fleet_run.proofs.running.Running.round.Given as goal
 
 abbrev pub invariant-loop-repo : goal.invariant-loop-repo

@@ -14,7 +14,7 @@ use Rattle.fleet_run.proofs.Writing.{WritesFiles, never_bundle, one_fault, sets_
 use Rattle.fleet_run.proofs.Full.{RefusesLines, ends_for, refuses_lines, rest_on, sets_end}
 use Rattle.driver_model.specs.ScriptSteps.{sets}
 use Rattle.fleet_run.proofs.Starts.{call_ends, few_told, start_full}
-use Rattle.fleet_run.specs.Standing.{EndsAtFull}
+use Rattle.fleet_run.specs.AtDriver.{EndsAtFull}
 use Rattle.fleet_model.specs.Fleets.{FleetView}
 use Rattle.fleet_run.proofs.running.Running.sets.Goals as goal
 

@@ -5,7 +5,7 @@ use Rattle.fleet_run.proofs.Called.{seen_as}
 use Rattle.fleet_run.proofs.Quiet.{rests_on}
 use Rattle.fleet_run.proofs.Turning.{had_within, IsTurned, turns_on}
 use Rattle.fleet_run.proofs.Starts.{call_ends, few_told, start_full}
-use Rattle.fleet_run.specs.Standing.{EndsAtFull}
+use Rattle.fleet_run.specs.AtDriver.{EndsAtFull}
 use Rattle.fleet_run.specs.Telling.{Tells}
 use Rattle.fleet_run.proofs.Full.{ends_for, rest_on}
 use Rattle.fleet_run.proofs.Ending.{turn_ends}

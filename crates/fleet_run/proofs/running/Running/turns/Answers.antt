@@ -2,7 +2,7 @@
 use Rattle.std.proofs.Common.{rules, subst, sym, ℕ, ◌<◌, ◌≡◌}
 use Rattle.repo_node.specs.Stored.{StoreView, store_view}
 use Rattle.driver_model.specs.Driving.{turns}
-use Rattle.fleet_run.specs.Standing.{GoesOn, most_lines}
+use Rattle.fleet_run.specs.AtDriver.{GoesOn, most_lines}
 use Rattle.fleet_run.proofs.Driving.{driven_on, one_more_turn, same_count}
 use Rattle.fleet_run.proofs.Ending.{AtFull, later_full, turns_end}
 use Rattle.fleet_run.proofs.Few.{turns_few}

@@ -12,7 +12,7 @@ use Rattle.fleet_run.proofs.Writing.{WritesFiles, never_bundle, one_fault, write
 use Rattle.fleet_run.proofs.Full.{RefusesLines, ends_for, refuses_lines, rest_on, rest_where_same, writes_end_so}
 use Rattle.driver_model.specs.ScriptSteps.{writes}
 use Rattle.fleet_run.proofs.Starts.{always_err, call_ends, few_told, start_full, start_same}
-use Rattle.fleet_run.specs.Standing.{EndsAtFull}
+use Rattle.fleet_run.specs.AtDriver.{EndsAtFull}
 use Rattle.fleet_model.specs.Fleets.{FleetView}
 use Rattle.fleet_run.proofs.running.Running.writes.Goals as goal
 

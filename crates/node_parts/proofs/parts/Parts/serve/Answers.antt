@@ -8,7 +8,7 @@ use Rattle.content_lock.specs.CallsMade.{MakesCalls, fewer}
 use Rattle.node_ends.specs.Joined.{StayPaired}
 use Rattle.node_sessions.specs.Calls.{session_calls}
 use Rattle.node_sessions.specs.Serving.{ServesIf}
-use Rattle.node_sessions.specs.Sessions.{FedAll}
+use Rattle.node_sessions.specs.Sessions.{AreAllFed}
 use Rattle.node_parts.specs.Parts.{PartsView}
 use Rattle.node_parts.specs.Posting.{PostsPieces, stamp_of}
 use Rattle.node_parts.specs.declared.done.Done.{Done}
@@ -22,11 +22,11 @@ use Rattle.node_parts.proofs.parts.Parts.serve.Goals as goal
 
 pub returns-in_err-served-clause-fed : goal.returns-in_err-served-clause-fed
 returns-in_err-served-clause-fed g c = λ q told fed q' told' i x at.
-    c.in_err-served.ensures.fed q told (subst (λ (p : PartsView). FedAll q p.sessions) (sym c.self.view_is) fed) q' told' i x at
+    c.in_err-served.ensures.fed q told (subst (λ (p : PartsView). AreAllFed q p.sessions) (sym c.self.view_is) fed) q' told' i x at
 
 pub returns-clause-fed : goal.returns-clause-fed
 returns-clause-fed g c = λ q told fed q' told' i x at.
-    c.in_ok-served.ensures.fed q told (subst (λ (p : PartsView). FedAll q p.sessions) (sym c.self.view_is) fed) q' told' i x at
+    c.in_ok-served.ensures.fed q told (subst (λ (p : PartsView). AreAllFed q p.sessions) (sym c.self.view_is) fed) q' told' i x at
 
 pub serve_if-requires-clause-serves : goal.serve_if-requires-clause-serves
 serve_if-requires-clause-serves g c =
@@ -64,7 +64,7 @@ returns-clause-asked g c = λ q told fed.
     let done = c.serve_if.result in
     let same = made_at was.links c.step.new.ends served done c.in_ok-served.ensures.same c.serve_if.ensures.made in
     subst (λ (p : PartsView). ForSome done (λ d. HasPart (Some q) p d.taken)) c.self.view_is
-    (has_of was (Some q) served done same (c.looks_see_parts.ensures q was.sessions was.links served (subst (λ (p : PartsView). FedAll q p.sessions) (sym c.self.view_is) fed)))
+    (has_of was (Some q) served done same (c.looks_see_parts.ensures q was.sessions was.links served (subst (λ (p : PartsView). AreAllFed q p.sessions) (sym c.self.view_is) fed)))
 
 pub returns-clause-calls : goal.returns-clause-calls
 returns-clause-calls g c =

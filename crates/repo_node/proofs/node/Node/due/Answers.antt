@@ -1,6 +1,6 @@
 -- What the proof of `node::Node::due` needs beside the tactics.
 use Rattle.std.proofs.Common.{◌≡◌, List, ℕ, ◌+◌, IfOk, ap, subst, ◌∙◌}
-use Rattle.node_model.specs.Owed.{if_new, stamp_at}
+use Rattle.node_model.specs.OwedLines.{if_new, stamp_at}
 use Rattle.union_merge.specs.Branch.{lines_at}
 use Rattle.repo_node.proofs.DebtLemmas.{ok_due}
 use Rattle.repo_node.proofs.node.Node.due.Goals as goal

@@ -4,7 +4,7 @@ use Rattle.annex_base.specs.declared.kinds.Call.TheVariants.{PutFile}
 use Rattle.node_model.specs.Files.{lines_after}
 use Rattle.union_merge.specs.Branch.{Files, lines_at, with_file}
 use Rattle.trust_groups.specs.Adding.{lines_and}
-use Rattle.repo_node.specs.Changes.{AddsNew, changed, changed_file}
+use Rattle.repo_node.specs.Changes.{AddsNew, lines_after_change, changed_file}
 use Rattle.repo_node.specs.Indexed.{ReadsAlike}
 use Rattle.repo_node.specs.Kept.{first_goes}
 use Rattle.repo_node.specs.Nodes.{told_of}
@@ -43,7 +43,7 @@ invariant_of-self g c =
     let w = c.write_beside in
     let law = c.files_are_changed_alone.ensures in
     let path = c.args.path.now in
-    let all = changed c.args.change (lines_at i.branch path) in
+    let all = lines_after_change c.args.change (lines_at i.branch path) in
     let owed = owed_in i.past i.debts.items in
     let owed' = owed_in w.new.past w.new.debts.items in
     let rest = w.ensures.rest in

@@ -3,12 +3,12 @@ use Rattle.std.proofs.Common.{◌≡◌, List, ℕ, ◌+◌, OnOk, sym, ap, subs
 use Rattle.std.specs.Option.{option_copied}
 use Rattle.log_lines.specs.declared.entry.Entry.{Entry}
 use Rattle.log_lines.specs.LineText.{line_text}
-use Rattle.node_model.specs.Owed.{stamp_at}
+use Rattle.node_model.specs.OwedLines.{stamp_at}
 use Rattle.run_data.specs.Files.{file_path}
 use Rattle.run_data.specs.declared.entry.LogFile.{LogFile}
 use Rattle.union_merge.specs.Branch.{Files, lines_at}
 use Rattle.union_merge.specs.LineSet.{IsLine}
-use Rattle.repo_node.specs.Logs.{log_of, stamped, stamped_by, with_lines}
+use Rattle.repo_node.specs.Logs.{log_of, with_next_stamp, stamped_by, with_lines}
 use Rattle.annex_base.specs.declared.kinds.Call.TheVariants.{PutFile}
 use Rattle.repo_node.specs.Calls.{to_log}
 use Rattle.repo_node.proofs.CallLemmas.{makes_short}
@@ -23,9 +23,9 @@ set_of_line-requires g c =
     let clock = c.stamp-clock.result in
     let place = file_path (log_of kind (option_copied c.args.key)) in
     let is =
-    ap (λ (b : Files). stamped kind (lines_at b c.bytes.result.now) clock e) c.branch-branch.ensures
-    ∙ ap (λ (p : List ℕ). stamped kind (lines_at n.branch p) clock e) (c.bytes.ensures ∙ c.in_ok-path.ensures.value ∙ ap file_path c.in_ok-file.ensures.value)
-    ∙ ap (λ (t : ℕ). stamped kind (lines_at n.branch place) t e) (c.stamp-clock.ensures ∙ ap (λ v. stamp_at (v.time + v.setup.offset)) c.self.view_is) in
+    ap (λ (b : Files). with_next_stamp kind (lines_at b c.bytes.result.now) clock e) c.branch-branch.ensures
+    ∙ ap (λ (p : List ℕ). with_next_stamp kind (lines_at n.branch p) clock e) (c.bytes.ensures ∙ c.in_ok-path.ensures.value ∙ ap file_path c.in_ok-file.ensures.value)
+    ∙ ap (λ (t : ℕ). with_next_stamp kind (lines_at n.branch place) t e) (c.stamp-clock.ensures ∙ ap (λ v. stamp_at (v.time + v.setup.offset)) c.self.view_is) in
     subst (λ (l : List ℕ). IsLine l) (sym (c.bytes-2.ensures ∙ c.in_ok-line.ensures ∙ ap (line_text kind) is)) c.requires.line
 
 pub returns-clause-ok : goal.returns-clause-ok
@@ -37,9 +37,9 @@ returns-clause-ok g c =
     let place = file_path (log_of kind (option_copied c.args.key)) in
     let line = line_text kind (stamped_by n kind (option_copied c.args.key) e) in
     let is =
-    ap (λ (b : Files). stamped kind (lines_at b c.bytes.result.now) clock e) c.branch-branch.ensures
-    ∙ ap (λ (p : List ℕ). stamped kind (lines_at n.branch p) clock e) (c.bytes.ensures ∙ c.in_ok-path.ensures.value ∙ ap file_path c.in_ok-file.ensures.value)
-    ∙ ap (λ (t : ℕ). stamped kind (lines_at n.branch place) t e) (c.stamp-clock.ensures ∙ ap (λ v. stamp_at (v.time + v.setup.offset)) c.self.view_is) in
+    ap (λ (b : Files). with_next_stamp kind (lines_at b c.bytes.result.now) clock e) c.branch-branch.ensures
+    ∙ ap (λ (p : List ℕ). with_next_stamp kind (lines_at n.branch p) clock e) (c.bytes.ensures ∙ c.in_ok-path.ensures.value ∙ ap file_path c.in_ok-file.ensures.value)
+    ∙ ap (λ (t : ℕ). with_next_stamp kind (lines_at n.branch place) t e) (c.stamp-clock.ensures ∙ ap (λ v. stamp_at (v.time + v.setup.offset)) c.self.view_is) in
     subst (λ (f : LogFile). OnOk c.add_lines.result (c.add_lines.new.self ≡ with_lines n c.add_lines.new.self.keeper f (line ∷ []))) c.in_ok-file.ensures.value
     (subst (λ (ls : List (List ℕ)). OnOk c.add_lines.result (c.add_lines.new.self ≡ with_lines n c.add_lines.new.self.keeper c.in_ok-file.file ls))
     (c.in_ok-lines.ensures ∙ ap (λ (l : List ℕ). l ∷ []) (c.bytes-2.ensures ∙ c.in_ok-line.ensures ∙ ap (line_text kind) is)) c.add_lines.ensures.ok)
@@ -64,9 +64,9 @@ returns-clause-calls g c =
     let clock = c.stamp-clock.result in
     let place = file_path (log_of kind (option_copied c.args.key)) in
     let is =
-    ap (λ (b : Files). stamped kind (lines_at b c.bytes.result.now) clock e) c.branch-branch.ensures
-    ∙ ap (λ (p : List ℕ). stamped kind (lines_at n.branch p) clock e) (c.bytes.ensures ∙ c.in_ok-path.ensures.value ∙ ap file_path c.in_ok-file.ensures.value)
-    ∙ ap (λ (t : ℕ). stamped kind (lines_at n.branch place) t e) (c.stamp-clock.ensures ∙ ap (λ v. stamp_at (v.time + v.setup.offset)) c.self.view_is) in
+    ap (λ (b : Files). with_next_stamp kind (lines_at b c.bytes.result.now) clock e) c.branch-branch.ensures
+    ∙ ap (λ (p : List ℕ). with_next_stamp kind (lines_at n.branch p) clock e) (c.bytes.ensures ∙ c.in_ok-path.ensures.value ∙ ap file_path c.in_ok-file.ensures.value)
+    ∙ ap (λ (t : ℕ). with_next_stamp kind (lines_at n.branch place) t e) (c.stamp-clock.ensures ∙ ap (λ v. stamp_at (v.time + v.setup.offset)) c.self.view_is) in
     logged_as c.add_lines.result n c.in_ok-file.file (log_of kind (option_copied c.args.key)) c.in_ok-lines.lines (line_text kind (stamped_by n kind (option_copied c.args.key) e) ∷ []) (g.K.Keeper.failing c.args.self.now.keeper) (g.K.Keeper.failing c.add_lines.new.self.keeper)
     c.in_ok-file.ensures.value (c.in_ok-lines.ensures ∙ ap (λ (l : List ℕ). l ∷ []) (c.bytes-2.ensures ∙ c.in_ok-line.ensures ∙ ap (line_text kind) is)) c.add_lines.ensures.calls
 
@@ -78,8 +78,8 @@ returns-clause-full g c =
     let clock = c.stamp-clock.result in
     let place = file_path (log_of kind (option_copied c.args.key)) in
     let is =
-    ap (λ (b : Files). stamped kind (lines_at b c.bytes.result.now) clock e) c.branch-branch.ensures
-    ∙ ap (λ (p : List ℕ). stamped kind (lines_at n.branch p) clock e) (c.bytes.ensures ∙ c.in_ok-path.ensures.value ∙ ap file_path c.in_ok-file.ensures.value)
-    ∙ ap (λ (t : ℕ). stamped kind (lines_at n.branch place) t e) (c.stamp-clock.ensures ∙ ap (λ v. stamp_at (v.time + v.setup.offset)) c.self.view_is) in
+    ap (λ (b : Files). with_next_stamp kind (lines_at b c.bytes.result.now) clock e) c.branch-branch.ensures
+    ∙ ap (λ (p : List ℕ). with_next_stamp kind (lines_at n.branch p) clock e) (c.bytes.ensures ∙ c.in_ok-path.ensures.value ∙ ap file_path c.in_ok-file.ensures.value)
+    ∙ ap (λ (t : ℕ). with_next_stamp kind (lines_at n.branch place) t e) (c.stamp-clock.ensures ∙ ap (λ v. stamp_at (v.time + v.setup.offset)) c.self.view_is) in
     λ full. lacks_as n c.in_ok-file.file (log_of kind (option_copied c.args.key)) c.in_ok-lines.lines (line_text kind (stamped_by n kind (option_copied c.args.key) e) ∷ [])
     c.in_ok-file.ensures.value (c.in_ok-lines.ensures ∙ ap (λ (l : List ℕ). l ∷ []) (c.bytes-2.ensures ∙ c.in_ok-line.ensures ∙ ap (line_text kind) is)) (c.add_lines.ensures.full full)

@@ -27,13 +27,13 @@ use Rattle.node_model.specs.Sessions.{line_in}
 use Rattle.node_model.specs.Jobs.{Work, Phase, PutsOffer, PutsAnswer, Orders}
 
 -- a line that is owed: by what, and of whose copy of the key, which is there or isn't
-pub record Owed : Type 0 where
+pub record OwedLine : Type 0 where
   pub by : By
   pub repo : ℕ
   pub there : Bool
   pub key : List ℕ
 
-abbrev pub owed_line : By → ℕ → Bool → List ℕ → Owed
+abbrev pub owed_line : By → ℕ → Bool → List ℕ → OwedLine
 owed_line by repo there key = record { by = by; repo = repo; there = there; key = key }
 
 -- ---- the entry that writes it
@@ -57,7 +57,7 @@ abbrev pub if_new : List (List ℕ) → List ℕ → List (List ℕ)
 if_new lines line = if list_any (λ old. bytes_eq old line) lines then [] else line ∷ []
 
 -- the lines that the entry of an owed line would add to what the file at its path has, at this clock
-abbrev pub due : List RepoView → (List ℕ → List (List ℕ)) → ℕ → Owed → List (List ℕ)
+abbrev pub due : List RepoView → (List ℕ → List (List ℕ)) → ℕ → OwedLine → List (List ℕ)
 due repos lines clock o =
     let has = lines (location_path o.key) in if_new has (status_line has (id_of repos o.repo) o.there clock)
 
@@ -69,38 +69,38 @@ same_lines (x ∷ xs) (y ∷ ys) = bytes_eq x y && same_lines xs ys
 same_lines _ _ = false
 
 -- whoever writes exactly what the first owed line is due pays that line
-abbrev pub pays : List RepoView → (List ℕ → List (List ℕ)) → ℕ → Entry → LogFile → List Owed → List Owed
+abbrev pub pays : List RepoView → (List ℕ → List (List ℕ)) → ℕ → Entry → LogFile → List OwedLine → List OwedLine
 pays repos lines clock e file [] = []
 pays repos lines clock e file (o ∷ os) =
     if bytes_eq (file_path file) (location_path o.key) && same_lines e.lines (due repos lines clock o) then os else o ∷ os
 
 -- a job's peer answered it that it has the copy, or has removed it
-abbrev pub told_to : Work → Phase → Message → List Owed
+abbrev pub told_to : Work → Phase → Message → List OwedLine
 told_to w (PutsOffer peer) AlreadyHave = owed_line (by_job w.number) peer true w.what.key ∷ []
 told_to w (PutsAnswer peer start) Success = owed_line (by_job w.number) peer true w.what.key ∷ []
 told_to w Orders Success = map (λ peer. owed_line (by_job w.number) peer false w.what.key) (option_to_list w.what.peer)
 told_to w phase m = []
 
-abbrev pub told_line : Work → Option Message → List Owed
+abbrev pub told_line : Work → Option Message → List OwedLine
 told_line w None = []
 told_line w (Some m) = told_to w w.phase m
 
-abbrev pub told_frame : Option Work → Option FrameView → List Owed
+abbrev pub told_frame : Option Work → Option FrameView → List OwedLine
 told_frame (Some w) (Some f) = told_line w (line_in f.body)
 told_frame w f = []
 
 -- the copy of r came or went by this
-abbrev pub owed_for : ℕ → By → Bool → List ℕ → List Owed
+abbrev pub owed_for : ℕ → By → Bool → List ℕ → List OwedLine
 owed_for r Script there key = []
 owed_for r by there key = owed_line by r there key ∷ []
 
-abbrev pub owed_without : Call → By → List Owed → List Owed
+abbrev pub owed_without : Call → By → List OwedLine → List OwedLine
 owed_without PutFile Script os = os
 owed_without PutFile by os = drop 1 os
 owed_without call by os = os
 
 -- with the lines of its files, its wall clock at the entry, and its jobs
-abbrev pub owed_after : List RepoView → (List ℕ → List (List ℕ)) → ℕ → List Work → ℕ → List Owed → Entry → EntryKind → List Owed
+abbrev pub owed_after : List RepoView → (List ℕ → List (List ℕ)) → ℕ → List Work → ℕ → List OwedLine → Entry → EntryKind → List OwedLine
 owed_after repos lines clock ws r was e (Gain by size key) = was ++ owed_for r by true key
 owed_after repos lines clock ws r was e (Gone by key) = was ++ owed_for r by false key
 owed_after repos lines clock ws r was e (Log file) = pays repos lines clock e file was
