@@ -2,6 +2,7 @@
 use Rattle.std.proofs.Common.{◌≡◌, ◌≢◌, ◌⊎◌, inl, inr, ◌↔◌, ℕ, ◌<◌, Bool, true, false, IsTrue, List, refl, sym, ◌∙◌, arith}
 use Rattle.std.specs.Prelude.{if◌then◌else◌, ◌==◌, ◌&&◌, ◌||◌, not, bytes_eq}
 use Rattle.std.specs.Cmp.Lexicographic.{bytes_decides}
+use Rattle.annex_base.specs.Bools.{same_bool}
 use Rattle.std.proofs.lemmas.Bool.{cases_Bool, false_from_ne_true, true≢false}
 use Rattle.std.proofs.lemmas.Bool.Decides.{nat_tests}
 
@@ -39,6 +40,17 @@ if_not false = refl
 pub if_turned : (b : Bool) → (if b then false else true) ≡ true → b ≡ false
 if_turned true e = absurd (true≢false (sym e))
 if_turned false e = refl
+
+-- ---- the same truth value
+
+pub same_bool_refl : (b : Bool) → same_bool b b ≡ true
+same_bool_refl true = refl
+same_bool_refl false = refl
+
+pub same_bool_is : (b c : Bool) → same_bool b c ≡ true → b ≡ c
+same_bool_is true c is = sym is
+same_bool_is false true is = absurd (true≢false (sym is))
+same_bool_is false false is = refl
 
 -- ---- two tests
 

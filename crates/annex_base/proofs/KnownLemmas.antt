@@ -1,7 +1,7 @@
 -- Known bytes that are read or written in turns, for the callers of sources and sinks.
 use Rattle.std.proofs.Common.{◌≡◌, ℕ, ◌+◌, Option, Some, None, List, ◌++◌, take, drop, refl, ap, sym, ◌∙◌, append_assoc}
 use Rattle.std.proofs.Math.Seq.{take-add}
-use Rattle.std.specs.Io.KnownBytes.{append_known, prepend_known}
+use Rattle.std.specs.Io.KnownBytes.{append_known}
 
 -- one piece was taken after another
 pub append_known-append : (known : Option (List ℕ)) (first second : List ℕ)
@@ -14,9 +14,3 @@ pub append_known-front : (known : Option (List ℕ)) (text : List ℕ) (at n : �
     → append_known (append_known known (take at text)) (take n (drop at text)) ≡ append_known known (take (at + n) text)
 append_known-front known text at n =
     append_known-append known (take at text) (take n (drop at text)) ∙ ap (append_known known) (sym (take-add at n text))
-
--- one piece was read after another
-pub prepend_known-append : (first second : List ℕ) (known : Option (List ℕ))
-    → prepend_known first (prepend_known second known) ≡ prepend_known (first ++ second) known
-prepend_known-append first second None = refl
-prepend_known-append first second (Some xs) = ap Some (sym (append_assoc first second xs))

@@ -1,7 +1,6 @@
 -- Texts of one line: no byte of them is a newline.
 use Rattle.std.proofs.Common.{◌≡◌, inl, inr, ℕ, ◌≤◌, true, false, ◌==◌, List, [], ◌∷◌, ◌++◌, take, drop, refl, sym, ap, subst, ◌∙◌, true≢false, arith}
 use Rattle.std.specs.Prelude.{flat_map}
-use Rattle.std.specs.Bool.{Decides}
 use Rattle.std.specs.Char.{is_ascii_digit}
 use Rattle.std.specs.Fmt.{decimal}
 use Rattle.std.specs.List.{onto_first, slice_split}
@@ -40,9 +39,6 @@ one_line-passes (b ∷ text) one = elim (eqb_tells b newline) [
   | inl is ↦ absurd (one_line-members (b ∷ text) one (inl (sym is.1)))
   | inr other ↦ rw other.0 (one_line-passes text (λ has. one (Contains-append_right (b ∷ []) text newline has)))
 ]
-
-pub is_one_line-Decides : (text : List ℕ) → Decides (is_one_line text) (IsOneLine text)
-is_one_line-Decides text = (one_line-by_test text, one_line-passes text)
 
 -- ---- how texts are put together
 

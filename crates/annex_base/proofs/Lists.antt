@@ -2,7 +2,7 @@
 use Rattle.std.proofs.Common.{◌≡◌, ◌⊎◌, inl, inr, ℕ, zero, suc, ◌<◌, ◌≤◌, Bool, true, false, cond, ◌&&◌, List, [], ◌∷◌, ◌++◌, length, get_or, take, drop, Some, None, refl, sym, ap, subst, ◌∙◌, arith, true≢false}
 use Rattle.std.specs.Prelude.{if◌then◌else◌, filter, map, reverse, slice_get, All, Contains, flat_map}
 use Rattle.std.specs.List.{find, list_all, list_any, prefix_len}
-use Rattle.std.proofs.lemmas.Bool.{and_from, and_parts, or_cases, or_left, or_parts, or_right}
+use Rattle.std.proofs.lemmas.Bool.{and_from, and_parts, cases_Bool, or_cases, or_left, or_parts, or_right}
 use Rattle.std.proofs.lemmas.List.{reverse-append}
 use Rattle.std.proofs.lemmas.List.Elements.{All-cons, All-head, All-nil, All-tail, Contains-append_right}
 use Rattle.annex_base.specs.Lists.{Each, Member}
@@ -23,10 +23,6 @@ cons_nil x xs e = cc
 
 pub not_longer : {X : Type 0} (x : X) (xs : List X) → xs ≡ x ∷ xs → ⊥
 not_longer x xs e = let both : length xs ≡ suc (length xs) = ap length e in absurd (omega (arith, both))
-
-pub nil_by_length : {X : Type 0} (xs : List X) → length xs ≡ 0 → xs ≡ []
-nil_by_length [] e = refl
-nil_by_length (x ∷ xs) e = absurd (omega (arith, e))
 
 pub append_nil_left : {X : Type 0} (xs ys : List X) → xs ++ ys ≡ [] → xs ≡ []
 append_nil_left [] ys e = refl
@@ -89,10 +85,6 @@ pub Each-map : {X Y : Type 0} (P : Y → Type 0) (f : X → Y) (xs : List X) →
 Each-map P f [] h = tt
 Each-map P f (x ∷ xs) h = (h.0, Each-map P f xs h.1)
 
-pub Each-from_map : {X Y : Type 0} (P : Y → Type 0) (f : X → Y) (xs : List X) → Each P (map f xs) → Each (λ x. P (f x)) xs
-Each-from_map P f [] h = tt
-Each-from_map P f (x ∷ xs) h = (h.0, Each-from_map P f xs h.1)
-
 pub Each-flat_map : {X Y : Type 0} (P : Y → Type 0) (f : X → List Y) (xs : List X) → Each (λ x. Each P (f x)) xs → Each P (flat_map f xs)
 Each-flat_map P f [] h = tt
 Each-flat_map P f (x ∷ xs) h = Each-append P (f x) (flat_map f xs) h.0 (Each-flat_map P f xs h.1)
@@ -101,10 +93,6 @@ pub Each-get_or : {X : Type 0} (P : X → Type 0) (xs : List X) (i : ℕ) (d : X
 Each-get_or P [] i d within h = absurd (omega (arith, within))
 Each-get_or P (x ∷ xs) zero d within h = h.0
 Each-get_or P (x ∷ xs) (suc i) d within h = Each-get_or P xs i d (omega arith) h.1
-
--- what a read of `xs[i]` gave
-pub Each-read : {X : Type 0} (P : X → Type 0) (xs : List X) (i : ℕ) (x : X) → i < length xs → x ≡ get_or xs i x → Each P xs → P x
-Each-read P xs i x within is h = subst P (sym is) (Each-get_or P xs i x within h)
 
 pub Each-take : {X : Type 0} (P : X → Type 0) (n : ℕ) (xs : List X) → Each P xs → Each P (take n xs)
 Each-take P zero xs h = tt
@@ -289,9 +277,9 @@ find_member {X} p (y ∷ ys) x e = go (λ g. find_member p ys x g) (p y) refl e
         let same : y ≡ x = cc in (inl (sym same), subst (λ (z : X). p z ≡ true) same is)
     go more false is g = let w = more g in (inr w.0, w.1)
 
-pub find_after : {X : Type 0} (p : X → Bool) (front : List X) (x : X) (xs : List X) → Each (λ y. p y ≡ false) front → p x ≡ true → find p (front ++ x ∷ xs) ≡ Some x
-find_after p [] x xs none is = rw is refl
-find_after p (y ∷ front) x xs none is = rw none.0 (find_after p front x xs none.1 is)
+pub find-filter : {X : Type 0} (p : X → Bool) (xs : List X) → find p (filter p xs) ≡ find p xs
+find-filter p [] = refl
+find-filter p (x ∷ xs) = elim (cases_Bool (p x)) [ inl is ↦ rw is (rw is refl) | inr other ↦ rw other (find-filter p xs) ]
 
 pub find_none : {X : Type 0} (p : X → Bool) (xs : List X) → Each (λ y. p y ≡ false) xs → find p xs ≡ None
 find_none p [] none = refl

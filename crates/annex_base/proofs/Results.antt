@@ -1,5 +1,5 @@
 -- Steps that may fail.
-use Rattle.std.proofs.Common.{◌≡◌, ◌⊎◌, inl, inr, Bool, true, false, if◌then◌else◌, Result, Ok, Err, IfOk, OnOk, OnErr, refl}
+use Rattle.std.proofs.Common.{◌≡◌, ◌⊎◌, inl, inr, Bool, true, false, if◌then◌else◌, Result, Ok, Err, IfOk, OnErr, refl}
 use Rattle.annex_base.specs.ResultSteps.{◌>>=◌}
 
 -- the value of a step that did not fail
@@ -35,10 +35,6 @@ pub ok_err : {A E : Type 0} (d : E) (y : A) → Ok y ≡ Err d → ⊥
 ok_err d y e = cc
 
 -- ---- what a clause says of an answer
-
-pub OnOk-always : {A E : Type 0} (P : Type 0) (r : Result A E) → P → OnOk r P
-OnOk-always P (Ok x) p = p
-OnOk-always P (Err d) p = tt
 
 pub OnErr-always : {A E : Type 0} (P : Type 0) (r : Result A E) → P → OnErr r P
 OnErr-always P (Ok x) p = tt

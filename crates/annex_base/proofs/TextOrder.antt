@@ -42,9 +42,6 @@ Before-trans x y z first second = nat_list_cmp_total.trans x y z first second
 less_equal : Less ≡ Equal → ⊥
 less_equal e = cc
 
-less_greater : Less ≡ Greater → ⊥
-less_greater e = cc
-
 pub Before-itself : (x : List ℕ) → Before x x → ⊥
 Before-itself x below = less_equal (sym below ∙ text_cmp-itself x)
 

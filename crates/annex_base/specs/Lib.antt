@@ -1,4 +1,5 @@
 -- The definitions of this crate.
+pub mod Bools
 pub mod ByteOrder
 pub mod Calls
 pub mod Causes

@@ -1,7 +1,9 @@
 -- What two looks find of a step: where it is ready for the one it is ready for the other, and what is made is related.
 use Rattle.std.proofs.Common.{◌≡◌, Bool, true, false, List, [], ◌∷◌, Option, Some, None, refl, subst}
 use Rattle.std.specs.Prelude.{if◌then◌else◌}
-use Rattle.node_model.specs.Look.{Effect, first_of, first_some}
+use Rattle.std.specs.Option.{option_or}
+use Rattle.annex_base.specs.OptionSteps.{first_some}
+use Rattle.node_model.specs.Look.{Effect}
 
 abbrev pub Alike : (Effect → Effect → Type 0) → Option Effect → Option Effect → Type 0
 Alike E None None = Unit {0}
@@ -17,7 +19,7 @@ module _ (E : Effect → Effect → Type 0) where
   some_alike true x x' e = e
   some_alike false x x' e = tt
 
-  pub first_alike : (x x' y y' : Option Effect) → Alike E x x' → Alike E y y' → Alike E (first_of x y) (first_of x' y')
+  pub first_alike : (x x' y y' : Option Effect) → Alike E x x' → Alike E y y' → Alike E (option_or x y) (option_or x' y')
   first_alike None None y y' a b = b
   first_alike (Some m) (Some m') y y' a b = a
   first_alike None (Some m') y y' a b = absurd a

@@ -2,12 +2,13 @@
 use Rattle.std.proofs.Common.{◌≡◌, ◌≢◌, ℕ, Bool, true, false, List, [], ◌∷◌, refl, sym, ap, ◌∙◌, true≢false}
 use Rattle.std.specs.Prelude.{◌&&◌, ◌==◌, filter, fold, if◌then◌else◌, nat_lt, not}
 use Rattle.std.proofs.lemmas.Bool.{and_parts, eqb-true, false_from_ne_true}
-use Rattle.annex_base.proofs.Conditions.{and_regrouped, eqb_refl}
+use Rattle.annex_base.proofs.Conditions.{and_regrouped, eqb_refl, same_bool_is, same_bool_refl}
 use Rattle.annex_base.proofs.Lists.{filter_both}
+use Rattle.annex_base.specs.Bools.{same_bool}
 use Rattle.run_data.specs.declared.entry.Entry.{Entry}
 use Rattle.run_data.specs.declared.entry.FrameView.{FrameView}
 use Rattle.run_data.specs.declared.entry.FrameText.{FrameText}
-use Rattle.node_model.specs.Ends.{End, EndName, end_after, end_sends, frames, is_opening, may_take, same_bool, sends_at, sent_at, takes_at}
+use Rattle.node_model.specs.Ends.{End, EndName, end_after, end_sends, frames, is_opening, may_take, sends_at, sent_at, takes_at}
 use Rattle.run_model.specs.Frames.{is_on, on_way, sender_of, taker_of}
 use Rattle.run_model.specs.Past.{is_of}
 use Rattle.run_model.specs.States.{end_at}
@@ -15,16 +16,6 @@ use Rattle.driver_model.specs.Driver.{end_to}
 use Rattle.driver_model.specs.Ways.{way_out}
 
 -- ---- names of ends
-
-pub same_both : (a b : Bool) → same_bool a b ≡ true → a ≡ b
-same_both true true e = refl
-same_both true false e = absurd (cc)
-same_both false true e = absurd (cc)
-same_both false false e = refl
-
-pub same_self : (b : Bool) → same_bool b b ≡ true
-same_self true = refl
-same_self false = refl
 
 abbrev pub same_end : EndName → EndName → Bool
 same_end b a = (b.peer == a.peer) && (b.slot == a.slot) && same_bool b.client a.client
@@ -36,10 +27,10 @@ pub same_end-is : (b a : EndName) → same_end b a ≡ true → b ≡ a
 same_end-is b a e =
     let two = and_parts ((b.peer == a.peer) && (b.slot == a.slot)) (same_bool b.client a.client) e in
     let one = and_parts (b.peer == a.peer) (b.slot == a.slot) two.0 in
-    end_path b.peer b.slot b.client a (eqb-true b.peer a.peer one.0) (eqb-true b.slot a.slot one.1) (same_both b.client a.client two.1)
+    end_path b.peer b.slot b.client a (eqb-true b.peer a.peer one.0) (eqb-true b.slot a.slot one.1) (same_bool_is b.client a.client two.1)
 
 pub same_end-refl : (a : EndName) → same_end a a ≡ true
-same_end-refl a = rw (eqb_refl a.peer, eqb_refl a.slot, same_self a.client) refl
+same_end-refl a = rw (eqb_refl a.peer, eqb_refl a.slot, same_bool_refl a.client) refl
 
 pub same_end-not : (b a : EndName) → b ≢ a → same_end b a ≡ false
 same_end-not b a differs = false_from_ne_true (same_end b a) (λ is. differs (same_end-is b a is))
@@ -51,10 +42,10 @@ pub takes_end : (a : EndName) (f : FrameView) → takes_at a f ≡ true → end_
 takes_end a f e =
     let two = and_parts ((f.peer == a.peer) && (f.slot == a.slot)) (same_bool a.client (if f.up then false else true)) e in
     let one = and_parts (f.peer == a.peer) (f.slot == a.slot) two.0 in
-    end_path f.peer f.slot (if f.up then false else true) a (eqb-true f.peer a.peer one.0) (eqb-true f.slot a.slot one.1) (sym (same_both a.client (if f.up then false else true) two.1))
+    end_path f.peer f.slot (if f.up then false else true) a (eqb-true f.peer a.peer one.0) (eqb-true f.slot a.slot one.1) (sym (same_bool_is a.client (if f.up then false else true) two.1))
 
 pub takes_self : (f : FrameView) → takes_at (end_to f) f ≡ true
-takes_self f = rw (eqb_refl f.peer, eqb_refl f.slot) (same_self (if f.up then false else true))
+takes_self f = rw (eqb_refl f.peer, eqb_refl f.slot) (same_bool_refl (if f.up then false else true))
 
 -- what an end sends is found at that end alone
 pub sent_other : (b a : EndName) (c : End) (bodies : List FrameText) → same_end b a ≡ false → sent_at a (frames b c bodies) ≡ []

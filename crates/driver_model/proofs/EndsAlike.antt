@@ -2,6 +2,7 @@
 use Rattle.std.proofs.Common.{◌≡◌, ℕ, ◌^◌, Bool, true, false, List, [], ◌∷◌, Option, Some, None, refl, sym, ap, ◌∙◌, subst}
 use Rattle.std.specs.Prelude.{if◌then◌else◌, ◌==◌, ◌&&◌, bytes_eq, codes, find, min, nat_le, nat_lt}
 use Rattle.std.specs.List.{list_all}
+use Rattle.std.specs.Option.{option_or}
 use Rattle.annex_base.specs.declared.kinds.Word.{Word}
 use Rattle.drop_proof.specs.declared.rule.Side.{Side}
 use Rattle.drop_proof.specs.declared.rule.Side.TheVariants.{Local, Remote}
@@ -14,16 +15,16 @@ use Rattle.run_data.specs.declared.job.DropRefusal.{DropRefusal}
 use Rattle.run_data.specs.declared.job.Outcome.{Outcome}
 use Rattle.node_model.specs.Evidence.{Asked, Claimed, Ignored, Standing}
 use Rattle.node_model.specs.Slots.{job_of}
-use Rattle.node_model.specs.Look.{Look, Effect, first_of, waiting_frame}
+use Rattle.node_model.specs.Look.{Look, Effect, waiting_frame}
 use Rattle.p2p_wire.specs.declared.message.Message.{Message}
 use Rattle.p2p_wire.specs.declared.message.Message.TheVariants.{AlreadyHave, AuthSuccess, Data, Error, Failure, Invalid, PutFrom, Success, Timestamp, Valid, Version}
 use Rattle.p2p_wire.specs.Messages.{message_of}
 use Rattle.node_model.specs.SetUp.{SetUp, served_connections, slots}
 use Rattle.node_model.specs.Ends.{EndName, server_end}
 use Rattle.node_model.specs.Sessions
-use Rattle.node_model.specs.Sessions.{Doing, Session, reaches}
+use Rattle.node_model.specs.Sessions.{Doing, reaches}
 use Rattle.node_model.specs.Jobs
-use Rattle.node_model.specs.Jobs.{AsksLock, AsksLook, AsksTime, Drops, Fresh, Gets, GetsBytes, GetsData, GetsWord, Greets, Next, Opens, Part, Phase, Puts, PutsAnswer, PutsBytes, PutsOffer, PutsWord, Removed, Work, is_move, job_end, partner, side_of}
+use Rattle.node_model.specs.Jobs.{AsksLock, AsksLook, AsksTime, Drops, Fresh, Gets, GetsBytes, GetsData, GetsWord, Greets, Next, Opens, Part, Phase, Puts, PutsAnswer, PutsBytes, PutsOffer, PutsWord, Work, is_move, job_end, partner, side_of}
 use Rattle.node_model.specs.OwedLines.{OwedLine}
 use Rattle.node_model.specs.State.{State}
 use Rattle.node_model.specs.OwedStep.{owed_step, pays_first}
@@ -278,7 +279,7 @@ module _ (names : NamedJobs) (s : SetUp) (st : State) (time count : ℕ) (hand :
   slot_alike (Some w) = by_alike w (partner w.what.peer w.phase)
 
   step_alike : Alike E (step s st k0) (step s st k1)
-  step_alike = first_alike E (owed_step s st k0) (owed_step s st k1) (first_of (session_step s st k0) (job_step s st k0)) (first_of (session_step s st k1) (job_step s st k1)) (owed_alike st.owed)
+  step_alike = first_alike E (owed_step s st k0) (owed_step s st k1) (option_or (session_step s st k0) (job_step s st k0)) (option_or (session_step s st k1) (job_step s st k1)) (owed_alike st.owed)
       (first_alike E (session_step s st k0) (session_step s st k1) (job_step s st k0) (job_step s st k1)
       (list_alike E (λ (c : ℕ × ℕ). session_at s st k0 (server_end c.0 c.1)) (λ (c : ℕ × ℕ). session_at s st k1 (server_end c.0 c.1)) (λ c. session_alike (server_end c.0 c.1)) (served_connections s))
       (list_alike E (λ slot. slot_step s st k0 (find (λ w. w.slot == slot) st.works)) (λ slot. slot_step s st k1 (find (λ w. w.slot == slot) st.works)) (λ slot. slot_alike (find (λ w. w.slot == slot) st.works)) slots))

@@ -6,8 +6,9 @@ use Rattle.annex_base.specs.Lists.{Each}
 use Rattle.annex_base.proofs.Lists.{Each-append, Each-filter}
 use Rattle.annex_base.proofs.Numbers.{range_above}
 use Rattle.annex_base.proofs.Conditions.{eqb_more}
+use Rattle.annex_base.specs.Bools.{same_bool}
 use Rattle.node_model.specs.AnyTime.{all_ends}
-use Rattle.node_model.specs.Ends.{EndName, same_bool}
+use Rattle.node_model.specs.Ends.{EndName}
 use Rattle.node_model.specs.Jobs.{Work, job_end}
 use Rattle.node_model.specs.SetUp.{SetUp, others}
 use Rattle.driver_model.specs.Apart.{AreApart}

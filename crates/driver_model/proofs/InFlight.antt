@@ -9,20 +9,21 @@ use Rattle.std.proofs.lemmas.List.{append-nil, map-append}
 use Rattle.annex_base.specs.Lists.{Each}
 use Rattle.annex_base.specs.declared.kinds.Word.{Word}
 use Rattle.annex_base.proofs.Lists.{slice_get-map_some}
-use Rattle.annex_base.proofs.Conditions.{eqb_refl}
+use Rattle.annex_base.proofs.Conditions.{eqb_refl, same_bool_is, same_bool_refl}
+use Rattle.annex_base.specs.Bools.{same_bool}
 use Rattle.run_data.specs.declared.entry.Entry.{Entry}
 use Rattle.run_data.specs.declared.entry.FrameView.{FrameView}
 use Rattle.run_data.specs.declared.entry.FrameText.{FrameText}
 use Rattle.run_data.specs.declared.entry.FrameText.TheVariants.{Opening, Closing, Bytes, Line}
 use Rattle.run_model.specs.Frames.{FlyingFrame, MayTake, Way, is_on, on_way, sender_of, frames_sent, taken_count, taker_of, takes, way_of}
-use Rattle.node_model.specs.Ends.{End, EndName, end_sends, end_takes, end_took, is_opening, may_take, same_bool, sent_at, taken_at, takes_at}
+use Rattle.node_model.specs.Ends.{End, EndName, end_sends, end_takes, end_took, is_opening, may_take, sent_at, taken_at, takes_at}
 use Rattle.run_model.specs.Past.{is_of}
 use Rattle.node_model.specs.Rows.{option_is}
 use Rattle.node_model.specs.SetUp.{SetUp}
 use Rattle.run_model.specs.States.{end_at}
 use Rattle.node_model.specs.State.{State}
 use Rattle.run_model.specs.Run.{OwnPart}
-use Rattle.driver_model.proofs.EndLemmas.{end_own, may_epoch, out_sender-is, out_taker-is, same_both, same_self, sends_all, takes_self}
+use Rattle.driver_model.proofs.EndLemmas.{end_own, may_epoch, out_sender-is, out_taker-is, sends_all, takes_self}
 use Rattle.driver_model.proofs.Premises.{EntryLaws}
 use Rattle.driver_model.specs.Driver.{Driver, Flight, but_first, but_taken, end_to, flight, frames_to, is_at, is_old, old_at}
 use Rattle.driver_model.specs.Ways.{Flies, InOrder, AreOnTheWay, IsOver, NumberedBody, bodies_flying, is_flight, other_end, numbered_body, bodies_sent, views_sent, way_out}
@@ -150,7 +151,7 @@ on_parts r a n x e =
     let three = and_parts (x.frame.slot == a.slot) (same_bool x.frame.up a.client && (x.frame.epoch == n)) two.1 in
     let four = and_parts (same_bool x.frame.up a.client) (x.frame.epoch == n) three.1 in (
       eqb-true x.to a.peer one.0,
-      end_path (eqb-true x.frame.peer r two.0) (eqb-true x.frame.slot a.slot three.0) (ap (λ b. if b then false else true) (same_both x.frame.up a.client four.0)),
+      end_path (eqb-true x.frame.peer r two.0) (eqb-true x.frame.slot a.slot three.0) (ap (λ b. if b then false else true) (same_bool_is x.frame.up a.client four.0)),
       eqb-true x.frame.epoch n four.1,
     )
   where
@@ -378,7 +379,7 @@ module _ (laws : EntryLaws) (s : SetUp) (past : List Entry) (words : ℕ → Opt
       hit = subst (λ k. ((k == s.number) && is_on (way_out f.peer (record { peer = s.number; slot = f.slot; client = f.up }) f.epoch) f.peer (first f i).x.frame) ≡ true)
           (sym (to_is s.number f xs (first f i) f.peer (record { peer = s.number; slot = f.slot; client = f.up }) f.epoch))
           (subst (λ g. ((s.number == s.number) && is_on (way_out f.peer (record { peer = s.number; slot = f.slot; client = f.up }) f.epoch) f.peer g) ≡ true) (sym (first f i).frame_is)
-          (rw (eqb_refl s.number, eqb_refl f.peer, eqb_refl f.slot, same_self f.up, eqb_refl f.epoch) refl))
+          (rw (eqb_refl s.number, eqb_refl f.peer, eqb_refl f.slot, same_bool_refl f.up, eqb_refl f.epoch) refl))
 
       it' : AreOnTheWay past xs f.peer (record { peer = s.number; slot = f.slot; client = f.up }) f.epoch → MayTake past (way_of s.number f) f
       it' l =

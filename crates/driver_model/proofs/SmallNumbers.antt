@@ -6,8 +6,9 @@ use Rattle.std.proofs.lemmas.Bool.Decides.{nat_tests}
 use Rattle.std.proofs.lemmas.List.{length-map}
 use Rattle.annex_base.specs.Lists.{Each}
 use Rattle.annex_base.specs.declared.kinds.Word.{Word}
-use Rattle.annex_base.proofs.Conditions.{eqb_refl}
+use Rattle.annex_base.proofs.Conditions.{eqb_refl, same_bool_is}
 use Rattle.annex_base.proofs.Lists.{Each-append}
+use Rattle.annex_base.specs.Bools.{same_bool}
 use Rattle.run_data.specs.declared.entry.Entry.{Entry}
 use Rattle.run_data.specs.declared.entry.FrameView.{FrameView}
 use Rattle.run_data.specs.declared.entry.FrameText.{FrameText}
@@ -17,13 +18,13 @@ use Rattle.run_model.specs.Frames.{FlyingFrame, MayTake, Way, flying_frame, fram
 use Rattle.run_model.specs.Past.{is_of}
 use Rattle.run_model.specs.Run.{MayBe, OwnPart, RunPast, RunStep, set_up}
 use Rattle.run_model.specs.States.{end_at}
-use Rattle.node_model.specs.Ends.{End, EndName, end_after, end_sends, end_takes, end_took, is_opening, same_bool, sent_at, taken_at, takes_at}
+use Rattle.node_model.specs.Ends.{End, EndName, end_after, end_sends, end_takes, end_took, is_opening, sent_at, taken_at, takes_at}
 use Rattle.node_model.specs.Rows.{option_is}
 use Rattle.node_model.specs.SetUp.{SetUp}
 use Rattle.driver_model.specs.Driver.{Driver, DriverInput}
 use Rattle.driver_model.specs.Sound.{IsSound}
 use Rattle.driver_model.specs.Ways.{InOrder}
-use Rattle.driver_model.proofs.EndLemmas.{same_both, sends_all}
+use Rattle.driver_model.proofs.EndLemmas.{sends_all}
 use Rattle.driver_model.proofs.FewFrames.{few_sent}
 use Rattle.driver_model.proofs.FrameNumbers.{TakesWell}
 use Rattle.driver_model.proofs.Holding.{run_on, steps_on}
@@ -92,7 +93,7 @@ sent_well w e past (g ∷ fs) all = go (is_on w (taker_of w) g) refl (sent_well 
     up is =
         let one = and_parts (g.peer == taker_of w) ((g.slot == w.slot) && (same_bool g.up w.up && (g.epoch == w.epoch))) is in
         let two = and_parts (g.slot == w.slot) (same_bool g.up w.up && (g.epoch == w.epoch)) one.1 in
-        same_both g.up w.up (and_parts (same_bool g.up w.up) (g.epoch == w.epoch) two.1).0
+        same_bool_is g.up w.up (and_parts (same_bool g.up w.up) (g.epoch == w.epoch) two.1).0
 
     go : (b : Bool) → is_on w (taker_of w) g ≡ b → Each (GoesWell w) (map (flying_frame e past) (filter (is_on w (taker_of w)) fs)) → Each (GoesWell w) (map (flying_frame e past) (filter (is_on w (taker_of w)) (g ∷ fs)))
     go true is more = rw is ((up is, all.0), more)

@@ -3,6 +3,7 @@
 use Rattle.std.proofs.Common.{◌≡◌, ℕ, Bool, true, false, List, [], ◌∷◌, Option, Some, None, ◌⊎◌, inl, inr, refl, sym, ap, ◌∙◌, subst}
 use Rattle.std.specs.Prelude.{if◌then◌else◌, ◌==◌, cond, find}
 use Rattle.std.specs.List.{list_all}
+use Rattle.std.specs.Option.{option_or}
 use Rattle.annex_base.specs.Calls.{call_number, same_call}
 use Rattle.annex_base.specs.Lists.{Each, Member}
 use Rattle.annex_base.specs.declared.kinds.Call.{Call}
@@ -17,7 +18,7 @@ use Rattle.run_data.specs.declared.job.Outcome.{Outcome}
 use Rattle.node_model.specs.Ends.{EndName, server_end}
 use Rattle.node_model.specs.Jobs.{Work, job_end, partner}
 use Rattle.node_model.specs.JobStep.{Turn, end_with, turn_of}
-use Rattle.node_model.specs.Look.{Look, Effect, first_of, waiting_frame}
+use Rattle.node_model.specs.Look.{Look, Effect, waiting_frame}
 use Rattle.node_model.specs.OwedLines.{OwedLine}
 use Rattle.node_model.specs.OwedStep.{pays_first}
 use Rattle.node_model.specs.SessionStep.{Here, gives_made, gives_next, here, session_at, session_makes, session_step}
@@ -132,7 +133,7 @@ module _ (names : NamedJobs) (s : SetUp) (st : State) (k : Look) (fails : Option
   slot_alike (Some w) = by_alike w (partner w.what.peer w.phase) refl
 
   -- where no line is owed
-  pub rest_alike : Alike A (first_of (session_step s st k) (job_step s st k)) (first_of (session_step s st k1) (job_step s st k1))
+  pub rest_alike : Alike A (option_or (session_step s st k) (job_step s st k)) (option_or (session_step s st k1) (job_step s st k1))
   rest_alike = first_alike A (session_step s st k) (session_step s st k1) (job_step s st k) (job_step s st k1)
       (list_alike A (λ (c : ℕ × ℕ). session_at s st k (server_end c.0 c.1)) (λ (c : ℕ × ℕ). session_at s st k1 (server_end c.0 c.1)) (λ c. session_alike (server_end c.0 c.1)) (served_connections s))
       (list_alike A (λ slot. slot_step s st k (find (λ w. w.slot == slot) st.works)) (λ slot. slot_step s st k1 (find (λ w. w.slot == slot) st.works)) (λ slot. slot_alike (find (λ w. w.slot == slot) st.works)) slots)
@@ -182,7 +183,7 @@ find_failed q (Some call) (c ∷ cs) among fails before = go (same_call c call) 
 
 -- a step with these owed lines
 abbrev step_of : SetUp → State → List OwedLine → Look → Option Effect
-step_of s st os k = first_of (pays_first s st k os) (first_of (session_step s st k) (job_step s st k))
+step_of s st os k = option_or (pays_first s st k os) (option_or (session_step s st k) (job_step s st k))
 
 -- the driver's own look for this step, with all words that the job was told
 abbrev pub look_told : DriverInput → Driver → ℕ → SetUp → State → Effect → Look
@@ -269,7 +270,7 @@ module _ (names : NamedJobs) (g : DriverInput) (r : ℕ) (d : Driver) (m : Effec
   -- ---- where none is owed
 
   module _ (e : st.owed ≡ []) where
-    goes_on-by : (k : Look) → step s st k ≡ first_of (session_step s st k) (job_step s st k)
+    goes_on-by : (k : Look) → step s st k ≡ option_or (session_step s st k) (job_step s st k)
     goes_on-by k = ap (λ (os : List OwedLine). step_of s st os k) e
 
     -- the look with this failing call, the part of this key, and these words
@@ -300,7 +301,7 @@ module _ (names : NamedJobs) (g : DriverInput) (r : ℕ) (d : Driver) (m : Effec
 
     rest_turn : turn g r d ≡ after_step g r d m
     rest_turn =
-        let ready = other_ready (SameAsked st) (first_of (session_step s st told) (job_step s st told)) (first_of (session_step s st (plain_look s c)) (job_step s st (plain_look s c))) m
+        let ready = other_ready (SameAsked st) (option_or (session_step s st told) (job_step s st told)) (option_or (session_step s st (plain_look s c)) (job_step s st (plain_look s c))) m
         (sym (goes_on-by told) ∙ x.steps) (rest_alike names s st told None 0 false (λ peer. None)) in
         turn_by ready.0 (rest_plain ready.0 (goes_on-by (plain_look s c) ∙ ready.1) ready.2)
 

@@ -2,6 +2,7 @@
 use Rattle.std.proofs.Common.{◌≡◌, ℕ, Bool, true, false, List, [], ◌∷◌, Option, Some, None, ◌⊎◌, inl, inr, refl, sym, ap, ◌∙◌, subst}
 use Rattle.std.specs.Prelude.{if◌then◌else◌, ◌&&◌, ◌==◌, cond, find, not}
 use Rattle.std.specs.List.{list_all}
+use Rattle.std.specs.Option.{option_or}
 use Rattle.annex_base.specs.Lists.{Member}
 use Rattle.annex_base.specs.declared.kinds.Call.{Call}
 use Rattle.annex_base.specs.declared.kinds.Word.{Word}
@@ -21,7 +22,7 @@ use Rattle.node_model.specs.Evidence.{Asked, Claimed, Ignored, Standing, failure
 use Rattle.node_model.specs.Jobs.{Denied, Drops, Fresh, Gets, Heard, Held, Lacks, Next, Part, Phase, Puts, PutsBytes, PutsWord, Removed, Seen, Unseen, Work, heard_of, job_end, partner, side_of, target_of}
 use Rattle.node_model.specs.JobStep.{Turn, attempts, by_me, end_with, ends, farewells, owns_share, turn_of}
 use Rattle.node_model.specs.Knows.{Reading, asks_by, candidates_by, cause_by, causes_by, denial_of, enough_by, is_unasked, knows_by, next_by, obeyed_outcome, offer_by, proof_by}
-use Rattle.node_model.specs.Look.{Look, Effect, failing_call, first_of, unless, waiting_frame}
+use Rattle.node_model.specs.Look.{Look, Effect, failing_call, unless, waiting_frame}
 use Rattle.node_model.specs.OwedStep.{owed_step}
 use Rattle.node_model.specs.Rows.{is_lost_ordered}
 use Rattle.node_model.specs.SessionStep.{session_step}
@@ -174,7 +175,7 @@ module _ (s : SetUp) (st : State) (k : Look) (others : ℕ → Option Word) wher
   slot_told slot (Some w) e = by_told w (find_member (λ (w : Work). w.slot == slot) st.works w e).0 (partner w.what.peer w.phase)
 
   pub step_told : Alike T (step s st k) (step s st k1)
-  step_told = first_alike T (owed_step s st k) (owed_step s st k1) (first_of (session_step s st k) (job_step s st k)) (first_of (session_step s st k1) (job_step s st k1))
+  step_told = first_alike T (owed_step s st k) (owed_step s st k1) (option_or (session_step s st k) (job_step s st k)) (option_or (session_step s st k1) (job_step s st k1))
       (alike_same T (λ m. inl refl) (owed_step s st k) (owed_step s st k1) refl)
       (first_alike T (session_step s st k) (session_step s st k1) (job_step s st k) (job_step s st k1)
       (alike_same T (λ m. inl refl) (session_step s st k) (session_step s st k1) refl)

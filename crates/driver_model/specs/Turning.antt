@@ -1,6 +1,6 @@
 -- A turn of a repository: what it finds, and the entry that it makes (the project's own).
 use Rattle.std.specs.Prelude.{ℕ, ◌+◌, Bool, true, false, if◌then◌else◌, ◌==◌, List, [], ◌∷◌, ◌++◌, find, flat_map, length, Option, Some, None}
-use Rattle.std.specs.Option.{option_to_list}
+use Rattle.std.specs.Option.{option_or, option_to_list}
 use Rattle.annex_base.specs.declared.kinds.Call.{Call}
 use Rattle.annex_base.specs.declared.kinds.Call.TheVariants as calls
 use Rattle.annex_base.specs.declared.kinds.Word.{Word}
@@ -11,7 +11,7 @@ use Rattle.run_data.specs.declared.entry.FrameView.{FrameView}
 use Rattle.run_data.specs.declared.entry.FrameText.{FrameText}
 use Rattle.run_data.specs.declared.entry.FrameText.TheVariants.{Bytes, Line}
 use Rattle.run_model.specs.Past.{now}
-use Rattle.node_model.specs.Look.{Look, Effect, entry_of, first_of}
+use Rattle.node_model.specs.Look.{Look, Effect, entry_of}
 use Rattle.node_model.specs.Slots.{job_of}
 use Rattle.p2p_wire.specs.declared.message.Message.{Message}
 use Rattle.p2p_wire.specs.declared.message.Message.TheVariants.{Failure, Put, Valid}
@@ -59,7 +59,7 @@ filled_key _ = None
 -- the key of a session's step: that of the PUT which it takes, or that which it fills
 abbrev pub session_key : State → Option FrameView → Option (List ℕ)
 session_key st None = None
-session_key st (Some f) = first_of (put_key (line_in f.body)) (filled_key (st.sessions (end_to f)).doing)
+session_key st (Some f) = option_or (put_key (line_in f.body)) (filled_key (st.sessions (end_to f)).doing)
 
 abbrev pub work_key : Option Work → Option (List ℕ)
 work_key None = None

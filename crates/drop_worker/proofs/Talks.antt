@@ -7,9 +7,10 @@ use Rattle.run_data.specs.declared.entry.FrameText.TheVariants.{Closing, Line}
 use Rattle.run_data.specs.declared.entry.FrameView.{FrameView}
 use Rattle.p2p_wire.specs.declared.message.Message.{Message}
 use Rattle.p2p_wire.specs.Messages.{message_of, text_of}
-use Rattle.node_model.specs.Ends.{End, EndName, end_sends, end_took, frames, same_bool, sends_at, sent_at, taken_at, takes_at}
+use Rattle.node_model.specs.Ends.{End, EndName, end_sends, end_took, frames, sends_at, sent_at, taken_at, takes_at}
 use Rattle.node_model.specs.Jobs.{RowsAndEnds, Work, closed_part, hears_frame, job_end, says, taken_message, talks_on}
 use Rattle.annex_base.proofs.Conditions.{eqb_refl}
+use Rattle.annex_base.specs.Bools.{same_bool}
 
 sends_itself : (a : EndName) (epoch seq : ℕ) (body : FrameText) → sends_at a (record { peer = a.peer; slot = a.slot; up = a.client; epoch = epoch; seq = seq; body = body }) ≡ true
 sends_itself a epoch seq body = rw (eqb_refl a.peer, eqb_refl a.slot) (elim a.client as (λ b. same_bool b b ≡ true) [ true ↦ refl | false ↦ refl ])

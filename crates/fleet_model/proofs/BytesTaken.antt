@@ -4,6 +4,7 @@ use Rattle.std.specs.Prelude.{filter, find, if◌then◌else◌, nat_lt, option_
 use Rattle.std.specs.Option.{option_map, option_map_or}
 use Rattle.std.proofs.lemmas.Option.{slice_get-map}
 use Rattle.annex_base.proofs.Conditions.{not_by_if}
+use Rattle.annex_base.proofs.Lists.{find-filter}
 use Rattle.link_ring.specs.declared.frame.Body.{Body}
 use Rattle.link_ring.specs.declared.frame.Body.TheVariants as bodies
 use Rattle.link_ring.specs.declared.frame.Frame.{Frame}
@@ -30,14 +31,6 @@ first_of_filter p (x ∷ xs) = go (p x) refl (first_of_filter p xs)
   where
     go : (b : Bool) → p x ≡ b → find anything (filter p xs) ≡ find p xs → find anything (filter p (x ∷ xs)) ≡ find p (x ∷ xs)
     go true e rest = rw e refl
-    go false e rest = rw e rest
-
-found_in_filter : {X : Type 0} (p : X → Bool) (xs : List X) → find p (filter p xs) ≡ find p xs
-found_in_filter p [] = refl
-found_in_filter {X} p (x ∷ xs) = go (p x) refl (found_in_filter p xs)
-  where
-    go : (b : Bool) → p x ≡ b → find p (filter p xs) ≡ find p xs → find p (filter p (x ∷ xs)) ≡ find p (x ∷ xs)
-    go true e rest = rw e (rw e refl)
     go false e rest = rw e rest
 
 first_of_map : {X Y : Type 0} (f : X → Y) (xs : List X) → find anything (map f xs) ≡ option_map f (find anything xs)
@@ -79,4 +72,4 @@ taken_bytes r xs links f v there hand =
         sym (first_of_filter (comes_to r (end_to f)) xs)
         ∙ (ap (find anything) (sym hand)
         ∙ (first_of_map (flight_at r (end_to f)) (after_drop v).at_hand
-        ∙ ap (option_map (flight_at r (end_to f))) (first_of_filter (is_taken v) v.at_hand ∙ sym (found_in_filter (is_taken v) v.at_hand))))
+        ∙ ap (option_map (flight_at r (end_to f))) (first_of_filter (is_taken v) v.at_hand ∙ sym (find-filter (is_taken v) v.at_hand))))

@@ -7,6 +7,7 @@ use Rattle.annex_base.proofs.Conditions.{if_either}
 use Rattle.annex_base.proofs.Lists.{find_member}
 use Rattle.annex_base.specs.declared.kinds.Call.{Call}
 use Rattle.annex_base.specs.declared.kinds.Call.TheVariants as calls
+use Rattle.annex_base.specs.Bools.{same_bool}
 use Rattle.drop_proof.specs.declared.rule.Side.{Side}
 use Rattle.drop_proof.specs.declared.rule.Side.TheVariants.{Local, Remote}
 use Rattle.run_data.specs.declared.entry.EntryKind.TheVariants.{Fault}
@@ -20,7 +21,7 @@ use Rattle.run_data.specs.declared.job.DropRefusal.TheVariants as refusals
 use Rattle.p2p_wire.specs.declared.message.Message.{Message}
 use Rattle.p2p_wire.specs.declared.message.Message.TheVariants.{AuthSuccess, Failure, Success, Timestamp, Valid, Version}
 use Rattle.p2p_wire.specs.Messages.{message_of}
-use Rattle.node_model.specs.Ends.{may_take, same_bool, takes_at}
+use Rattle.node_model.specs.Ends.{may_take, takes_at}
 use Rattle.node_model.specs.Evidence.{Asked, Standing}
 use Rattle.node_model.specs.Jobs
 use Rattle.node_model.specs.Jobs.{AsksLock, AsksLook, AsksTime, Drops, Fresh, GetsBytes, Gets, Greets, Next, Opens, Part, Phase, Puts, PutsBytes, PutsWord, Work, job_end, side_of}

@@ -6,11 +6,12 @@ use Rattle.std.proofs.lemmas.Bool.Decides.{nat_tests}
 use Rattle.std.proofs.lemmas.Option.{slice_get_within}
 use Rattle.annex_base.specs.Lists.{Each}
 use Rattle.annex_base.proofs.Conditions.{eqb_refl}
+use Rattle.annex_base.specs.Bools.{same_bool}
 use Rattle.link_ring.specs.Ends.{EndView, after_drop, fresh, next_frame}
 use Rattle.link_ring.specs.Places.{end_place}
 use Rattle.run_data.specs.declared.entry.FrameView.{FrameView}
-use Rattle.node_model.specs.Ends.{EndName, same_bool, taken_at, takes_at}
-use Rattle.node_ends.specs.Ends.{hand_at, link_at, room_at, wait_at}
+use Rattle.node_model.specs.Ends.{EndName, taken_at, takes_at}
+use Rattle.node_ends.specs.Ends.{link_at, room_at, wait_at}
 use Rattle.driver_model.specs.Driver.{Driver, Flight, DriverInput, end_to, has_room, is_sent_by, old_at, part_at, state_at}
 use Rattle.driver_model.specs.Finding.{driver_at_turn}
 use Rattle.driver_model.specs.Scripts.{HasBoundedPast}

@@ -1,5 +1,6 @@
 -- The part that a session's step asks for is the driver's.
 use Rattle.std.proofs.Common.{◌≡◌, ◌↔◌, ℕ, Bool, true, List, Option, Some, None, length, refl, sym, ap, ◌∙◌, subst}
+use Rattle.std.specs.Option.{option_or}
 use Rattle.run_data.specs.declared.entry.FrameText.{FrameText}
 use Rattle.run_data.specs.declared.entry.FrameText.TheVariants.{Bytes, Closing, Line, Opening}
 use Rattle.run_data.specs.declared.entry.FrameView.{FrameView}
@@ -8,7 +9,7 @@ use Rattle.p2p_wire.specs.declared.message.Message.TheVariants.{Put, Valid}
 use Rattle.p2p_wire.specs.Messages.{message_of}
 use Rattle.object_store.specs.Stores.{Parts}
 use Rattle.key_verify.specs.Matching.{MatchesKey}
-use Rattle.node_model.specs.Look.{Look, Effect, first_of}
+use Rattle.node_model.specs.Look.{Look, Effect}
 use Rattle.node_model.specs.Sessions as sessions
 use Rattle.node_model.specs.Sessions.{line_in}
 use Rattle.node_model.specs.SetUp.{SetUp}
@@ -31,7 +32,7 @@ use Rattle.fleet_model.proofs.StepFinds.{Finds, serves_no_job}
 
 -- the key that a session's step asks for, by what it does and what it is told
 abbrev key_asked : sessions.Doing → Option Message → Option (List ℕ)
-key_asked doing told = first_of (put_key told) (filled_key doing)
+key_asked doing told = option_or (put_key told) (filled_key doing)
 
 session_key_is : (st : State) (m : Effect) (x : Session) (f : FrameView) → session_of x ≡ st.sessions (end_to f) → job_of m.kind ≡ None → m.taken ≡ Some f
     → asked_key st m ≡ key_asked (doing_of x.doing) (line_in f.body)

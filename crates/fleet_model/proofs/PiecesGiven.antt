@@ -3,10 +3,12 @@ use Rattle.std.proofs.Common.{◌≡◌, ℕ, Bool, true, false, List, [], Optio
 use Rattle.std.specs.Prelude.{◌==◌, ◌&&◌, drop, find, if◌then◌else◌, take}
 use Rattle.std.specs.Option.{option_map, unwrap_or}
 use Rattle.std.proofs.lemmas.Bool.{and_parts, eqb-true}
+use Rattle.annex_base.specs.Bools.{same_bool}
+use Rattle.annex_base.proofs.Conditions.{same_bool_is}
 use Rattle.object_store.specs.Stores.{Contents, bytes_of}
 use Rattle.run_data.specs.declared.entry.FrameText.TheVariants as texts
 use Rattle.run_data.specs.declared.entry.FrameView.{FrameView}
-use Rattle.node_model.specs.Ends.{EndName, same_bool, sends_at}
+use Rattle.node_model.specs.Ends.{EndName, sends_at}
 use Rattle.node_model.specs.Sessions.{Doing, Gives}
 use Rattle.node_model.specs.State.{State}
 use Rattle.node_sessions.specs.Pieces.{IsPieceOf}
@@ -31,19 +33,13 @@ given_is d r c doing bytes has piece = absurd piece
 
 -- ---- the end that a frame leaves
 
-same_way : (up client : Bool) → same_bool up client ≡ true → up ≡ client
-same_way true true e = refl
-same_way true false e = absurd (cc)
-same_way false true e = absurd (cc)
-same_way false false e = refl
-
 leaves : (a : EndName) (f : FrameView) → sends_at a f ≡ true → (f.up ≡ a.client) × (end_from f ≡ a)
 leaves a f sends =
     let parts = and_parts ((f.peer == a.peer) && (f.slot == a.slot)) (same_bool f.up a.client) sends in
     let named = and_parts (f.peer == a.peer) (f.slot == a.slot) parts.0 in
     let peer : f.peer ≡ a.peer = eqb-true f.peer a.peer named.0 in
     let slot : f.slot ≡ a.slot = eqb-true f.slot a.slot named.1 in
-    let way : f.up ≡ a.client = same_way f.up a.client parts.1 in
+    let way : f.up ≡ a.client = same_bool_is f.up a.client parts.1 in
     (way, λ i. record { peer = peer i; slot = slot i; client = way i })
 
 -- a piece that a server sends at this end has the bytes that its session is giving

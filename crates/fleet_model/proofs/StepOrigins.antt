@@ -1,19 +1,21 @@
 -- What a step took: none, a frame that a session answered, or one that a drop heard.
-use Rattle.std.proofs.Common.{◌≡◌, ℕ, Bool, true, false, List, [], ◌∷◌, Option, Some, None, ◌⊎◌, inl, inr, refl, sym, ◌∙◌, subst, arith}
+use Rattle.std.proofs.Common.{◌≡◌, ℕ, Bool, true, false, List, [], ◌∷◌, Option, Some, None, ◌⊎◌, inl, inr, refl, sym, subst, arith}
 use Rattle.std.specs.Prelude.{◌&&◌, ◌==◌, find, if◌then◌else◌}
 use Rattle.std.proofs.lemmas.Bool.{and_parts}
 use Rattle.std.proofs.lemmas.Bool.Decides.{nat_tests}
+use Rattle.std.specs.Option.{option_or}
 use Rattle.annex_base.specs.declared.kinds.Call.{Call}
 use Rattle.annex_base.specs.declared.kinds.Call.TheVariants.{PutFile}
 use Rattle.annex_base.proofs.Lists.{Each-member, find_member}
+use Rattle.annex_base.specs.Bools.{same_bool}
+use Rattle.annex_base.proofs.Options.{first_some-was, option_or-was}
 use Rattle.run_data.specs.declared.entry.EntryKind.TheVariants.{Fault, Log}
 use Rattle.run_data.specs.declared.entry.FrameView.{FrameView}
 use Rattle.run_data.specs.declared.entry.LogFile.TheVariants.{Location}
-use Rattle.node_model.specs.Ends.{EndName, end_takes, may_take, same_bool, server_end, takes_at}
+use Rattle.node_model.specs.Ends.{EndName, end_takes, may_take, server_end, takes_at}
 use Rattle.node_model.specs.Jobs.{Work, partner}
 use Rattle.node_model.specs.JobStep.{turn_of}
-use Rattle.node_model.specs.Look
-use Rattle.node_model.specs.Look.{Look, Effect, failing_call, first_some, unless, waiting_frame}
+use Rattle.node_model.specs.Look.{Look, Effect, failing_call, unless, waiting_frame}
 use Rattle.node_model.specs.OwedLines.{OwedLine, due}
 use Rattle.node_model.specs.OwedStep.{owed_step, pays_first}
 use Rattle.node_model.specs.SessionStep.{Reply, gives_made, gives_next, here, on_frame, reply_made, session_at, session_makes, session_step}
@@ -26,19 +28,6 @@ use Rattle.fleet_model.specs.Drops.{AreDrops, IsDrop}
 use Rattle.fleet_model.proofs.DropTakes.{HearsAtMost, IsHeard, partner_hears}
 
 -- ---- cases of what a step may be
-
-first_was : {X : Type 0} (x y : Option X) (z : X) → Look.first_of x y ≡ Some z → (x ≡ Some z) ⊎ (y ≡ Some z)
-first_was None y z e = inr e
-first_was (Some x) y z e = inl e
-
--- the element of a list by which a search ends
-some_was : {X Y : Type 0} (f : X → Option Y) (xs : List X) (y : Y) → first_some f xs ≡ Some y → (x : X) × (f x ≡ Some y)
-some_was f [] y e = absurd (cc)
-some_was {X = X} {Y = Y} f (x ∷ xs) y e = go (λ g. some_was f xs y g) (f x) refl e
-  where
-    go : (first_some f xs ≡ Some y → (z : X) × (f z ≡ Some y)) → (o : Option Y) → f x ≡ o → first_some f (x ∷ xs) ≡ Some y → (z : X) × (f z ≡ Some y)
-    go more None is g = more (rw is at g)
-    go more (Some z) is g = (x, is ∙ (rw is at g))
 
 -- ---- a session
 
@@ -95,7 +84,7 @@ makes_answer s st k peer slot None m is e = go (st.ends a).opened e
 
 session_answers : (s : SetUp) (st : State) (k : Look) (m : Effect) → session_step s st k ≡ Some m → AnswersAtMost s st k m
 session_answers s st k m e =
-    let w = some_was (λ (c : ℕ × ℕ). session_at s st k (server_end c.0 c.1)) (served_connections s) m e in at w.0.0 w.0.1 w.1
+    let w = first_some-was (λ (c : ℕ × ℕ). session_at s st k (server_end c.0 c.1)) (served_connections s) m e in at w.0.0 w.0.1 w.2
   where
     at : (peer slot : ℕ) → session_at s st k (server_end peer slot) ≡ Some m → AnswersAtMost s st k m
     at peer slot g = go (k.room (server_end peer slot)) g
@@ -116,8 +105,8 @@ slot_hears s st k slot m (Some w) drops is e =
 
 job_hears : (s : SetUp) (st : State) (k : Look) (m : Effect) → AreDrops st.works → job_step s st k ≡ Some m → HearsAtMost m
 job_hears s st k m drops e =
-    let x = some_was (λ slot. slot_step s st k (find (λ w. w.slot == slot) st.works)) slots m e in
-    slot_hears s st k x.0 m (find (λ w. w.slot == x.0) st.works) drops refl x.1
+    let x = first_some-was (λ slot. slot_step s st k (find (λ w. w.slot == slot) st.works)) slots m e in
+    slot_hears s st k x.0 m (find (λ w. w.slot == x.0) st.works) drops refl x.2
 
 -- ---- the step
 
@@ -140,7 +129,7 @@ pub data Origin (s : SetUp) (st : State) (k : Look) (m : Effect) : Type 0 where
   Hears : (f : FrameView) → IsHeard m f → Origin s st k m
 
 pub origin_of : (s : SetUp) (st : State) (k : Look) (m : Effect) → AreDrops st.works → step s st k ≡ Some m → Origin s st k m
-origin_of s st k m drops e = elim (first_was (owed_step s st k) (Look.first_of (session_step s st k) (job_step s st k)) m e) [
+origin_of s st k m drops e = elim (option_or-was (owed_step s st k) (option_or (session_step s st k) (job_step s st k)) m e) [
   | inl o ↦ TakesNone (owed_takes_none s st k m st.owed o)
   | inr r ↦ others r
 ]
@@ -153,8 +142,8 @@ origin_of s st k m drops e = elim (first_was (owed_step s st k) (Look.first_of (
     by_job (inl none) = TakesNone none
     by_job (inr x) = Hears x.0 x.1
 
-    others : Look.first_of (session_step s st k) (job_step s st k) ≡ Some m → Origin s st k m
-    others r = elim (first_was (session_step s st k) (job_step s st k) m r) [
+    others : option_or (session_step s st k) (job_step s st k) ≡ Some m → Origin s st k m
+    others r = elim (option_or-was (session_step s st k) (job_step s st k) m r) [
       | inl x ↦ by_session (session_answers s st k m x)
       | inr x ↦ by_job (job_hears s st k m drops x)
     ]

@@ -1,7 +1,7 @@
 -- What a step leaves of its repository's store is what the driver says of it.
 use Rattle.std.proofs.Common.{◌≡◌, ◌≢◌, ℕ, Bool, true, false, List, [], ◌∷◌, ◌++◌, Option, Some, None, refl, sym, ap, ◌∙◌, subst}
 use Rattle.std.specs.Prelude.{if◌then◌else◌}
-use Rattle.std.specs.Option.{option_map}
+use Rattle.std.specs.Option.{option_map, option_or}
 use Rattle.annex_base.specs.declared.kinds.Call.{Call}
 use Rattle.run_data.specs.declared.entry.By.{By}
 use Rattle.run_data.specs.declared.entry.EntryKind.{EntryKind}
@@ -14,7 +14,7 @@ use Rattle.p2p_wire.specs.declared.message.Message.TheVariants.{Valid}
 use Rattle.p2p_wire.specs.Messages.{message_of}
 use Rattle.object_store.specs.Stores.{Parts, with_at}
 use Rattle.node_model.specs.Ends.{end_takes, frames}
-use Rattle.node_model.specs.Look.{Look, Effect, first_of}
+use Rattle.node_model.specs.Look.{Look, Effect}
 use Rattle.node_model.specs.Sessions.{Doing, Takes, Took, line_in, message_said}
 use Rattle.node_model.specs.SessionStep.{Reply, here, on_frame}
 use Rattle.node_model.specs.SetUp.{SetUp}
@@ -122,11 +122,11 @@ left_taken r bytes (Some key) f sent d leaves = leaves r key bytes d
 
 -- the session's key is asked for
 session_asks : (st : State) (m : Effect) (f : FrameView) (job : Option ℕ) (o : Option Message) (doing : Doing) → m.kind ≡ Talk job → job ≡ None → m.taken ≡ Some f
-    → line_in f.body ≡ o → (st.sessions (end_to f)).doing ≡ doing → asked_key st m ≡ first_of (put_key o) (filled_key doing)
+    → line_in f.body ≡ o → (st.sessions (end_to f)).doing ≡ doing → asked_key st m ≡ option_or (put_key o) (filled_key doing)
 session_asks st m f job o doing kind no_job taken told does =
     ap (λ (y : Option ℕ). step_key st y m.taken) (ap job_of kind ∙ no_job)
     ∙ (ap (λ (y : Option FrameView). session_key st y) taken
-    ∙ (ap (λ (y : Option Message). first_of (put_key y) (filled_key (st.sessions (end_to f)).doing)) told ∙ ap (λ (y : Doing). first_of (put_key o) (filled_key y)) does))
+    ∙ (ap (λ (y : Option Message). option_or (put_key y) (filled_key (st.sessions (end_to f)).doing)) told ∙ ap (λ (y : Doing). option_or (put_key o) (filled_key y)) does))
 
 -- the part that the store tells is the driver's, and grows with it
 told_more : (known : Option Parts) (d : Driver) (r : ℕ) (key bytes : List ℕ) → IsTold known (λ p. (k : List ℕ) → p k ≡ part_at d r k)

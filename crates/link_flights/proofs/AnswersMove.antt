@@ -3,7 +3,8 @@ use Rattle.std.proofs.Common.{◌≡◌, ◌⊎◌, inl, inr, ℕ, Bool, true, f
 use Rattle.std.specs.Prelude.{◌==◌, ◌&&◌, find, fold, if◌then◌else◌}
 use Rattle.std.specs.List.{list_all}
 use Rattle.std.proofs.lemmas.Bool.{and_parts, eqb-true}
-use Rattle.annex_base.proofs.Conditions.{eqb_refl, if_either, if_turned}
+use Rattle.std.specs.Option.{option_or}
+use Rattle.annex_base.proofs.Conditions.{eqb_refl, if_either, if_turned, same_bool_refl}
 use Rattle.annex_base.proofs.Lists.{find_member}
 use Rattle.annex_base.specs.Lists.{Member}
 use Rattle.annex_base.specs.declared.kinds.Call.{Call}
@@ -25,9 +26,9 @@ use Rattle.run_model.specs.States.{rows_at, state_of, works}
 use Rattle.node_model.specs.Ends.{End, EndName, end_after, end_sends, end_takes, end_took, frames, may_take, sent_at, server_end, taken_at, takes_at}
 use Rattle.node_model.specs.Found.{ByJob, JobTakes, StepFound}
 use Rattle.node_model.specs.Jobs
-use Rattle.node_model.specs.Jobs.{AsksLook, Drops, Gets, Orders, Part, Phase, Puts, RowsAndEnds, Work, claims, closed_part, hears_frame, job_end, learns, listens, partner, target_of, after_frame, after_line, talks, talks_on, work_after, work_kind, works_after}
+use Rattle.node_model.specs.Jobs.{AsksLook, Drops, Gets, Orders, Part, Phase, Puts, RowsAndEnds, Work, claims, closed_part, hears_frame, job_end, learns, listens, partner, target_of, after_frame, after_line, talks, talks_on, work_after, work_kind}
 use Rattle.node_model.specs.JobStep.{Turn, end_with, hears, quietly, talk, turn_of, wrong_message}
-use Rattle.node_model.specs.Look.{Look, Effect, failing_call, first_of, first_some, unless, waiting_frame}
+use Rattle.node_model.specs.Look.{Look, Effect, failing_call, unless, waiting_frame}
 use Rattle.node_model.specs.OwedLines.{OwedLine, due}
 use Rattle.node_model.specs.OwedStep.{owed_step, pays_first}
 use Rattle.node_model.specs.Rows.{option_is}
@@ -41,27 +42,15 @@ use Rattle.node_model.specs.Turns.{awaits, by_partner, goes, goes_on, has_room, 
 use Rattle.race_core.specs.Jobs.{AreJobs, TakesAnswer, keeps_word}
 use Rattle.link_flights.proofs.ActingJobs.{StepLaws, steps_begin_none}
 use Rattle.link_flights.proofs.JobMoves.{claims_like, learns_like}
-use Rattle.link_flights.proofs.Naming.{same_self, takes_end}
+use Rattle.link_flights.proofs.Naming.{takes_end}
 use Rattle.link_flights.proofs.WordsHeard.{came_of, keeps_none, own_works}
-use Rattle.annex_base.proofs.Options.{none_and_some}
+use Rattle.annex_base.proofs.Options.{first_some-was, none_and_some, option_or-was}
 
 goes_up : (b : Bool) → (if b then false else true) ≡ false → b ≡ true
 goes_up true e = refl
 goes_up false e = absurd (true≢false e)
 
 -- ---- cases of what a step may be
-
-first_was : {X : Type 0} (x y : Option X) (z : X) → first_of x y ≡ Some z → (x ≡ Some z) ⊎ (y ≡ Some z)
-first_was None y z e = inr e
-first_was (Some x) y z e = inl e
-
-some_was : {X Y : Type 0} (f : X → Option Y) (xs : List X) (y : Y) → first_some f xs ≡ Some y → (x : X) × (f x ≡ Some y)
-some_was f [] y e = absurd (cc)
-some_was {X = X} {Y = Y} f (x ∷ xs) y e = go (λ g. some_was f xs y g) (f x) refl e
-  where
-    go : (first_some f xs ≡ Some y → (z : X) × (f z ≡ Some y)) → (o : Option Y) → f x ≡ o → first_some f (x ∷ xs) ≡ Some y → (z : X) × (f z ≡ Some y)
-    go more None is g = more (rw is at g)
-    go more (Some z) is g = (x, is ∙ (rw is at g))
 
 -- a frame that waits comes to the end
 waits_at : (c : End) (k : Look) (a : EndName) (f : FrameView) → waiting_frame c k a ≡ Some f → takes_at a f ≡ true
@@ -169,15 +158,15 @@ module _ (laws : StepLaws) (s : SetUp) (st : State) (k : Look) (m : Effect) (f :
 
   -- a step that takes what goes down is a job's
   took_by : f.up ≡ false → step s st k ≡ Some m → TookBy s st k m f
-  took_by down e = elim (first_was (owed_step s st k) (first_of (session_step s st k) (job_step s st k)) m e) [
+  took_by down e = elim (option_or-was (owed_step s st k) (option_or (session_step s st k) (job_step s st k)) m e) [
     | inl o ↦ absurd (none_and_some m.taken f (owed_none s st k m st.owed o) took)
-    | inr r ↦ elim (first_was (session_step s st k) (job_step s st k) m r) [
+    | inr r ↦ elim (option_or-was (session_step s st k) (job_step s st k) m r) [
       | inl g ↦
-          let x = some_was (λ (c : ℕ × ℕ). session_at s st k (server_end c.0 c.1)) (served_connections s) m g in
-          absurd (true≢false (sym (session_up (server_end x.0.0 x.0.1) refl x.1) ∙ down))
+          let x = first_some-was (λ (c : ℕ × ℕ). session_at s st k (server_end c.0 c.1)) (served_connections s) m g in
+          absurd (true≢false (sym (session_up (server_end x.0.0 x.0.1) refl x.2) ∙ down))
       | inr g ↦
-          let x = some_was (λ slot. slot_step s st k (find (λ w. w.slot == slot) st.works)) slots m g in
-          slots_took x.0 (find (λ w. w.slot == x.0) st.works) refl x.1
+          let x = first_some-was (λ slot. slot_step s st k (find (λ w. w.slot == slot) st.works)) slots m g in
+          slots_took x.0 (find (λ w. w.slot == x.0) st.works) refl x.2
     ]
   ]
 
@@ -306,7 +295,7 @@ module _ (rows : RowsAndEnds) (r : ℕ) (x : Work) where
 
   -- a Close that is sent there closes the end
   shut : (a : EndName) (c d : End) → (fold (λ c f. end_sends c f.body) d (sent_at a (frames a c (Closing ∷ [])))).opened ≡ false
-  shut a c d = rw (eqb_refl a.peer, eqb_refl a.slot, same_self a.client) refl
+  shut a c d = rw (eqb_refl a.peer, eqb_refl a.slot, same_bool_refl a.client) refl
 
   -- it took the answer, and said nothing, or closed the connection
   on_moved : (e : Entry) (peer : ℕ) (f : FrameView) (c : End) → e.taken ≡ Some f → keeps_word x.phase (line_in f.body) ≡ true

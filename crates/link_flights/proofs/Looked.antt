@@ -5,6 +5,7 @@ use Rattle.std.specs.Option.{option_and_then, option_map, option_to_list}
 use Rattle.std.proofs.lemmas.Bool.{cases_Bool}
 use Rattle.std.proofs.lemmas.Bool.Decides.{nat_tests}
 use Rattle.annex_base.specs.Lists.{Member}
+use Rattle.annex_base.proofs.Lists.{find-filter}
 use Rattle.link_ring.specs.declared.frame.Frame.{Frame}
 use Rattle.link_ring.specs.Ends.{EndView, after_drop, free, is_taken, next_frame}
 use Rattle.run_data.specs.declared.entry.FrameView.{FrameView}
@@ -89,13 +90,9 @@ same_room st d r links a v apart is end sent epoch =
 
 -- ---- once old frames were dropped, the same is seen
 
-find_kept : (p : Frame → Bool) (fs : List Frame) → find p (filter p fs) ≡ find p fs
-find_kept p [] = refl
-find_kept p (f ∷ fs) = elim (cases_Bool (p f)) [ inl is ↦ rw is (rw is refl) | inr other ↦ rw other (find_kept p fs) ]
-
 next_in : (o : Option EndView) → option_and_then next_frame (option_map after_drop o) ≡ option_and_then next_frame o
 next_in None = refl
-next_in (Some v) = find_kept (is_taken v) v.at_hand
+next_in (Some v) = find-filter (is_taken v) v.at_hand
 
 hand_drop : (links : List EndView) (a : EndName) → hand_at (map after_drop links) a ≡ hand_at links a
 hand_drop links a =

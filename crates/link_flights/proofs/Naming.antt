@@ -2,10 +2,11 @@
 use Rattle.std.proofs.Common.{◌≡◌, ◌≢◌, ℕ, Bool, true, false, not, ◌&&◌, if◌then◌else◌, List, [], ◌∷◌, refl, sym, ap, ◌∙◌, subst}
 use Rattle.std.specs.Prelude.{◌==◌, filter, map}
 use Rattle.std.proofs.lemmas.Bool.{and_parts, eqb-true, false_from_ne_true, ne_eqb, true≢false}
-use Rattle.annex_base.proofs.Conditions.{eqb_refl, if_not, not_by_if}
+use Rattle.annex_base.proofs.Conditions.{eqb_refl, if_not, not_by_if, same_bool_is, same_bool_refl}
+use Rattle.annex_base.specs.Bools.{same_bool}
 use Rattle.link_ring.specs.declared.frame.Frame.{Frame}
 use Rattle.run_data.specs.declared.entry.FrameView.{FrameView}
-use Rattle.node_model.specs.Ends.{EndName, same_bool, sends_at, sent_at, takes_at}
+use Rattle.node_model.specs.Ends.{EndName, sends_at, sent_at, takes_at}
 use Rattle.node_model.specs.State.{State}
 use Rattle.node_ends.specs.Ends.{frame_at}
 use Rattle.node_ends.specs.Joined.{end_with}
@@ -42,24 +43,14 @@ other_twice r b is q = end_path r b.slot (if (if b.client then false else true) 
 pub end_own : (a : EndName) (f : Frame) → end_to (frame_at a f) ≡ a
 end_own a f = end_path a.peer a.slot (if not a.client then false else true) a refl refl (if_not a.client)
 
-pub same_both : (a b : Bool) → same_bool a b ≡ true → a ≡ b
-same_both true true e = refl
-same_both true false e = absurd (true≢false (sym e))
-same_both false true e = absurd (true≢false (sym e))
-same_both false false e = refl
-
 pub takes_end : (a : EndName) (f : FrameView) → takes_at a f ≡ true → end_to f ≡ a
 takes_end a f e =
     let two = and_parts ((f.peer == a.peer) && (f.slot == a.slot)) (same_bool a.client (if f.up then false else true)) e in
     let one = and_parts (f.peer == a.peer) (f.slot == a.slot) two.0 in
-    end_path f.peer f.slot (if f.up then false else true) a (eqb-true f.peer a.peer one.0) (eqb-true f.slot a.slot one.1) (sym (same_both a.client (if f.up then false else true) two.1))
-
-pub same_self : (b : Bool) → same_bool b b ≡ true
-same_self true = refl
-same_self false = refl
+    end_path f.peer f.slot (if f.up then false else true) a (eqb-true f.peer a.peer one.0) (eqb-true f.slot a.slot one.1) (sym (same_bool_is a.client (if f.up then false else true) two.1))
 
 pub takes_self : (f : FrameView) → takes_at (end_to f) f ≡ true
-takes_self f = rw (eqb_refl f.peer, eqb_refl f.slot) (same_self (if f.up then false else true))
+takes_self f = rw (eqb_refl f.peer, eqb_refl f.slot) (same_bool_refl (if f.up then false else true))
 
 -- the test of the frame that is taken is that of the end at which it is taken
 pub at_own : (r : ℕ) (a : EndName) (f : FrameView) → takes_at a f ≡ true → (x : Flight) → is_at r f x ≡ comes_to r a x

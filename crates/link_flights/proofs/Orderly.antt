@@ -5,14 +5,15 @@ use Rattle.std.proofs.lemmas.Bool.{and_parts, eqb-true, false_from_ne_true}
 use Rattle.std.proofs.lemmas.List.{append-nil}
 use Rattle.std.proofs.lemmas.List.Elements.{filter-append}
 use Rattle.annex_base.specs.Lists.{Each}
-use Rattle.annex_base.proofs.Conditions.{eqb_refl}
+use Rattle.annex_base.proofs.Conditions.{eqb_refl, same_bool_is, same_bool_refl}
+use Rattle.annex_base.specs.Bools.{same_bool}
 use Rattle.run_data.specs.declared.entry.FrameView.{FrameView}
 use Rattle.run_data.specs.declared.entry.FrameText.{FrameText}
 use Rattle.run_data.specs.declared.entry.FrameText.TheVariants as texts
-use Rattle.node_model.specs.Ends.{End, EndName, end_sends, end_takes, end_took, frames, is_opening, same_bool, sends_at, sent_at, taken_at, takes_at}
+use Rattle.node_model.specs.Ends.{End, EndName, end_sends, end_takes, end_took, frames, is_opening, sends_at, sent_at, taken_at, takes_at}
 use Rattle.driver_model.specs.Apart.{AreApart}
 use Rattle.link_flights.specs.Entries.{OpensClosed, SendsInOrder}
-use Rattle.link_flights.proofs.Naming.{end_path, same_both, same_self}
+use Rattle.link_flights.proofs.Naming.{end_path}
 
 -- ---- names of ends
 
@@ -23,10 +24,10 @@ same_end-is : (b a : EndName) → same_end b a ≡ true → b ≡ a
 same_end-is b a e =
     let two = and_parts ((b.peer == a.peer) && (b.slot == a.slot)) (same_bool b.client a.client) e in
     let one = and_parts (b.peer == a.peer) (b.slot == a.slot) two.0 in
-    end_path b.peer b.slot b.client a (eqb-true b.peer a.peer one.0) (eqb-true b.slot a.slot one.1) (same_both b.client a.client two.1)
+    end_path b.peer b.slot b.client a (eqb-true b.peer a.peer one.0) (eqb-true b.slot a.slot one.1) (same_bool_is b.client a.client two.1)
 
 pub same_end-refl : (a : EndName) → same_end a a ≡ true
-same_end-refl a = rw (eqb_refl a.peer, eqb_refl a.slot) (same_self a.client)
+same_end-refl a = rw (eqb_refl a.peer, eqb_refl a.slot) (same_bool_refl a.client)
 
 same_end-not : (b a : EndName) → b ≢ a → same_end b a ≡ false
 same_end-not b a differs = false_from_ne_true (same_end b a) (λ is. differs (same_end-is b a is))

@@ -8,6 +8,7 @@ use Rattle.std.proofs.lemmas.List.Elements.{filter-append, filter_agree}
 use Rattle.annex_base.proofs.Conditions.{and_regrouped, eqb_refl}
 use Rattle.annex_base.specs.declared.kinds.EntryStamp.{EntryStamp}
 use Rattle.annex_base.specs.declared.kinds.Word.{Word}
+use Rattle.annex_base.specs.Bools.{same_bool}
 use Rattle.link_ring.specs.declared.frame.Frame.{Frame}
 use Rattle.link_ring.specs.Ends.{EndView}
 use Rattle.run_data.specs.declared.entry.Entry.{Entry}
@@ -16,7 +17,7 @@ use Rattle.run_model.specs.Frames.{Way, flying_frame, frames_sent, is_on, taken_
 use Rattle.run_model.specs.Past.{is_of}
 use Rattle.run_model.specs.States.{end_at}
 use Rattle.run_model.specs.Words.{word_of_kind}
-use Rattle.node_model.specs.Ends.{End, EndName, end_sends, frames, same_bool, sends_at, sent_at}
+use Rattle.node_model.specs.Ends.{End, EndName, end_sends, frames, sends_at, sent_at}
 use Rattle.node_model.specs.Rows.{option_is}
 use Rattle.node_ends.specs.declared.sending.Sending.{Sending}
 use Rattle.node_ends.specs.declared.sending.Sending.TheVariants as sendings

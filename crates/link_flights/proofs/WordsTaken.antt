@@ -6,6 +6,7 @@ use Rattle.std.specs.Option.{option_map}
 use Rattle.std.proofs.lemmas.Bool.{eqb-true, ne_eqb}
 use Rattle.annex_base.specs.Lists.{Each}
 use Rattle.annex_base.proofs.Conditions.{eqb_refl}
+use Rattle.annex_base.specs.Bools.{same_bool}
 use Rattle.link_ring.specs.declared.frame.Frame.{Frame}
 use Rattle.link_ring.specs.Ends.{EndView, after_drop, is_taken, next_frame}
 use Rattle.run_data.specs.declared.entry.Entry.{Entry}
@@ -13,7 +14,7 @@ use Rattle.run_data.specs.declared.entry.FrameView.{FrameView}
 use Rattle.run_model.specs.Frames.{Way, frames_sent, is_on, taken_count, takes}
 use Rattle.run_model.specs.Past.{is_of}
 use Rattle.run_model.specs.States.{end_at}
-use Rattle.node_model.specs.Ends.{End, EndName, end_after, end_took, same_bool, sent_at, taken_at, takes_at}
+use Rattle.node_model.specs.Ends.{End, EndName, end_after, end_took, sent_at, taken_at, takes_at}
 use Rattle.node_model.specs.Rows.{option_is}
 use Rattle.node_ends.specs.Ends.{frame_at, stands}
 use Rattle.driver_model.specs.Ways.{IsOver}

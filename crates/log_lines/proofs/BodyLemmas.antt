@@ -9,7 +9,7 @@ use Rattle.std.proofs.lemmas.List.Splits.{slice_split_none, slice_split_at, slic
 use Rattle.std.proofs.lemmas.List.Sums.{AllPass-from_list_all, list_all-from_AllPass}
 use Rattle.std.proofs.lemmas.Option.{cond_some, same_Some}
 use Rattle.annex_base.specs.declared.kinds.Level.{Level}
-use Rattle.annex_base.proofs.Options.{first_some, where_some}
+use Rattle.annex_base.proofs.Options.{some_where, where_some}
 use Rattle.annex_base.specs.declared.kinds.Level.TheVariants as levels
 use Rattle.log_lines.specs.declared.entry.Value.{Value}
 use Rattle.log_lines.specs.declared.entry.Value.TheVariants as values
@@ -22,9 +22,9 @@ use Rattle.log_lines.proofs.WordLemmas.{word_len, word_len-whole}
 
 letter_status_takes : (letter : ℕ) (v : Value) → letter_status letter ≡ Some v → IsStatus v letter
 letter_status_takes letter v e =
-    elim (first_some (letter == 49) values.Present v _ e) [
+    elim (some_where (letter == 49) values.Present v _ e) [
       | inl one ↦ subst (λ (w : Value). IsStatus w letter) one.1 (ap (λ (c : ℕ). c ∷ []) (sym (eqb-true letter 49 one.0)))
-      | inr more ↦ elim (first_some (letter == 48) values.Absent v _ more.1) [
+      | inr more ↦ elim (some_where (letter == 48) values.Absent v _ more.1) [
         | inl zero' ↦ subst (λ (w : Value). IsStatus w letter) zero'.1 (ap (λ (c : ℕ). c ∷ []) (sym (eqb-true letter 48 zero'.0)))
         | inr last ↦
             let x = cond_some (letter == 88) values.Gone v last.1 in
@@ -50,11 +50,11 @@ status_again v letter is = absurd is
 
 letter_level_takes : (letter : ℕ) (l : Level) → letter_level letter ≡ Some l → letter ∷ [] ≡ level_letter l
 letter_level_takes letter l e =
-    elim (first_some (letter == 49) levels.Trusted l _ e) [
+    elim (some_where (letter == 49) levels.Trusted l _ e) [
       | inl is ↦ subst (λ (m : Level). letter ∷ [] ≡ level_letter m) is.1 (ap (λ (c : ℕ). c ∷ []) (eqb-true letter 49 is.0))
-      | inr a ↦ elim (first_some (letter == 63) levels.Semitrusted l _ a.1) [
+      | inr a ↦ elim (some_where (letter == 63) levels.Semitrusted l _ a.1) [
         | inl is ↦ subst (λ (m : Level). letter ∷ [] ≡ level_letter m) is.1 (ap (λ (c : ℕ). c ∷ []) (eqb-true letter 63 is.0))
-        | inr b ↦ elim (first_some (letter == 48) levels.Untrusted l _ b.1) [
+        | inr b ↦ elim (some_where (letter == 48) levels.Untrusted l _ b.1) [
           | inl is ↦ subst (λ (m : Level). letter ∷ [] ≡ level_letter m) is.1 (ap (λ (c : ℕ). c ∷ []) (eqb-true letter 48 is.0))
           | inr d ↦
               let is = cond_some (letter == 88) levels.Dead l d.1 in

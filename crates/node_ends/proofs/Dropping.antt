@@ -1,13 +1,13 @@
 -- Ends after each dropped the frames that are never taken.
 use Rattle.std.proofs.Common.{inl, inr, ◌≡◌, Bool, false, ◌&&◌, List, [], ◌∷◌, ◌++◌, length, Option, Some, None, is_some, refl, sym, ap, subst, ◌∙◌, arith}
 use Rattle.std.specs.Prelude.{filter, flat_map, map, nat_lt}
-use Rattle.std.specs.List.{find, list_any}
+use Rattle.std.specs.List.{list_any}
 use Rattle.std.specs.Option.{option_map, option_and_then, option_to_list}
 use Rattle.std.proofs.lemmas.Bool.{cases_Bool, or_parts}
 use Rattle.std.proofs.lemmas.Bool.Decides.{nat_tests}
 use Rattle.std.proofs.lemmas.List.{length-map}
 use Rattle.std.proofs.lemmas.Option.{slice_get-map}
-use Rattle.annex_base.proofs.Lists.{filter_shorter}
+use Rattle.annex_base.proofs.Lists.{filter_shorter, find-filter}
 use Rattle.link_ring.specs.declared.frame.Frame.{Frame}
 use Rattle.link_ring.specs.Ends.{EndView, StaysPaired, after_drop, has_frames, is_taken, next_frame}
 use Rattle.link_ring.specs.Places.{end_place}
@@ -23,12 +23,8 @@ use Rattle.node_ends.specs.Joined.{StaysSo, StayPaired}
 
 -- ---- one end
 
-find_kept : (p : Frame → Bool) (fs : List Frame) → find p (filter p fs) ≡ find p fs
-find_kept p [] = refl
-find_kept p (f ∷ fs) = elim (cases_Bool (p f)) [ inl is ↦ rw is (rw is refl) | inr other ↦ rw other (find_kept p fs) ]
-
 first_stays : (v : EndView) → next_frame (after_drop v) ≡ next_frame v
-first_stays v = find_kept (is_taken v) v.at_hand
+first_stays v = find-filter (is_taken v) v.at_hand
 
 paired_drop : (v : EndView) → StaysPaired v (after_drop v)
 paired_drop v = λ other pair. record {

@@ -5,22 +5,14 @@ use Rattle.std.proofs.lemmas.Bool.{and_parts, cases_Bool, eqb-true}
 use Rattle.std.proofs.lemmas.List.Elements.{filter-append}
 use Rattle.std.proofs.lemmas.List.{append-nil}
 use Rattle.std.proofs.lemmas.List.Sums.{fold-append}
-use Rattle.annex_base.proofs.Conditions.{eqb_refl}
+use Rattle.annex_base.proofs.Conditions.{eqb_refl, same_bool_is, same_bool_refl}
+use Rattle.annex_base.specs.Bools.{same_bool}
 use Rattle.link_ring.specs.declared.frame.Frame.{Frame}
 use Rattle.link_ring.specs.Ends.{EndView}
 use Rattle.run_data.specs.declared.entry.FrameView.{FrameView}
-use Rattle.node_model.specs.Ends.{End, EndName, same_bool, sends_at, takes_at, taken_at, sent_at, end_took, end_takes, end_sends}
+use Rattle.node_model.specs.Ends.{End, EndName, sends_at, takes_at, taken_at, sent_at, end_took, end_takes, end_sends}
 use Rattle.node_ends.specs.Ends.{end_at, end_in, frame_at, link_at, text_in}
 use Rattle.node_ends.specs.Going.{AreAfter}
-
-same_bool_refl : (b : Bool) → same_bool b b ≡ true
-same_bool_refl true = refl
-same_bool_refl false = refl
-
-same_bool_is : (b c : Bool) → same_bool b c ≡ true → b ≡ c
-same_bool_is true c is = sym is
-same_bool_is false true is = absurd (true≢false (sym is))
-same_bool_is false false is = refl
 
 -- the way to the taker's end
 turned : (b c : Bool) → same_bool b (if (not c) then false else true) ≡ true → b ≡ c

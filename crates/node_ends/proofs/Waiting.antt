@@ -2,14 +2,14 @@
 use Rattle.std.proofs.Common.{◌≡◌, ◌⊎◌, inl, inr, Bool, ◌&&◌, List, [], ◌∷◌, ◌++◌, Option, Some, None, refl, sym, ap, subst, ◌∙◌}
 use Rattle.std.specs.Prelude.{flat_map}
 use Rattle.std.specs.List.{find}
-use Rattle.std.specs.Option.{option_map, option_and_then, option_to_list}
+use Rattle.std.specs.Option.{option_map, option_and_then, option_to_list, option_or}
 use Rattle.std.proofs.lemmas.Bool.{cases_Bool}
 use Rattle.annex_base.specs.Lists.{Member}
 use Rattle.link_ring.specs.declared.frame.Frame.{Frame}
 use Rattle.link_ring.specs.Ends.{EndView, next_frame}
 use Rattle.run_data.specs.declared.entry.FrameView.{FrameView}
 use Rattle.node_model.specs.Ends.{End, EndName, may_take, takes_at}
-use Rattle.node_model.specs.Look.{Look, first_of, waiting_frame}
+use Rattle.node_model.specs.Look.{Look, waiting_frame}
 use Rattle.node_model.specs.State.{State}
 use Rattle.node_model.specs.SetUp.{SetUp}
 use Rattle.node_model.specs.AnyTime.{all_ends}
@@ -30,7 +30,7 @@ at_one links a = option_to_list (hand_at links a)
 
 -- what an end has at hand is found there where it may be taken
 own_hand : (a : EndName) (c : End) (o : Option Frame) (rest : List FrameView)
-    → find (waits a c) (option_to_list (option_map (frame_at a) o) ++ rest) ≡ first_of (option_and_then (if_may c) (option_map (frame_at a) o)) (find (waits a c) rest)
+    → find (waits a c) (option_to_list (option_map (frame_at a) o) ++ rest) ≡ option_or (option_and_then (if_may c) (option_map (frame_at a) o)) (find (waits a c) rest)
 own_hand a c None rest = refl
 own_hand a c (Some f) rest = elim (cases_Bool (may_take c (frame_at a f))) [
   | inl is ↦ rw (takes_own a f, is) refl
@@ -52,11 +52,11 @@ other_hand a x c (Some f) rest = elim (cases_Bool (takes_at a (frame_at x f))) [
 abbrev IsAt : List EndView → EndName → Option FrameView → Type 0
 IsAt links a o = (o ≡ None) ⊎ (o ≡ wait_at links a)
 
-either : (w o : Option FrameView) → (o ≡ None) ⊎ (o ≡ w) → (first_of w o ≡ None) ⊎ (first_of w o ≡ w)
+either : (w o : Option FrameView) → (o ≡ None) ⊎ (o ≡ w) → (option_or w o ≡ None) ⊎ (option_or w o ≡ w)
 either None o is = is
 either (Some f) o is = inr refl
 
-first : (w o : Option FrameView) → (o ≡ None) ⊎ (o ≡ w) → first_of w o ≡ w
+first : (w o : Option FrameView) → (o ≡ None) ⊎ (o ≡ w) → option_or w o ≡ w
 first None o (inl none) = none
 first None o (inr same) = same
 first (Some f) o is = refl
@@ -64,7 +64,7 @@ first (Some f) o is = refl
 abbrev among : List EndView → EndName → List EndName → Option FrameView
 among links a xs = find (waits a (end_at links a)) (flat_map (at_one links) xs)
 
-own_first : (links : List EndView) (a : EndName) (xs : List EndName) → among links a (a ∷ xs) ≡ first_of (wait_at links a) (among links a xs)
+own_first : (links : List EndView) (a : EndName) (xs : List EndName) → among links a (a ∷ xs) ≡ option_or (wait_at links a) (among links a xs)
 own_first links a xs = own_hand a (end_at links a) (hand links a) (flat_map (at_one links) xs)
 
 none_or_own : (links : List EndView) (a : EndName) (xs : List EndName) → IsAt links a (among links a xs)

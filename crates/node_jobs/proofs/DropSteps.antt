@@ -11,6 +11,7 @@ use Rattle.annex_base.specs.declared.kinds.Call.{Call}
 use Rattle.annex_base.specs.declared.kinds.Call.TheVariants as calls
 use Rattle.annex_base.proofs.Conditions.{and_first, if_either}
 use Rattle.annex_base.proofs.Lists.{Each-from_members, Each-weaker, filter_none, find_member, list_all_member, Member-filter_from}
+use Rattle.annex_base.specs.Bools.{same_bool}
 use Rattle.drop_proof.specs.declared.rule.Side.{Side}
 use Rattle.drop_proof.specs.declared.rule.Side.TheVariants.{Local, Remote}
 use Rattle.run_data.specs.declared.entry.EntryKind.{EntryKind}
@@ -26,7 +27,7 @@ use Rattle.p2p_wire.specs.declared.message.Message.TheVariants.{AuthSuccess, Che
 use Rattle.p2p_wire.specs.Messages.{message_of, text_of}
 use Rattle.node_model.specs.Calls.{to_release}
 use Rattle.node_model.specs.DropStep.{asks_copy, bars, expiry, first_drop, first_end, first_local, held_until, in_time, lacking_outcome, required_there, row_refusal}
-use Rattle.node_model.specs.Ends.{End, EndName, end_sends, end_takes, end_took, frames, is_opening, may_take, same_bool, sends_at, sent_at, taken_at, takes_at}
+use Rattle.node_model.specs.Ends.{End, EndName, end_sends, end_takes, end_took, frames, is_opening, may_take, sends_at, sent_at, taken_at, takes_at}
 use Rattle.node_model.specs.Jobs as Jobs
 use Rattle.node_model.specs.Jobs.{Drops, job_end, side_of}
 use Rattle.node_model.specs.JobStep.{Turn, attempts, bar_there, by_me, clock_of, end_needs, end_with, ends, farewells, has_lock, hears, is_there, key_of, locked_peers, others_of, owns_share, quietly, says_to, sends_to, talk, wrong_message}

@@ -1,14 +1,15 @@
 -- The job that makes the step of a repository's jobs, and what it makes.
 use Rattle.std.proofs.Common.{◌≡◌, ℕ, List, [], ◌∷◌, map, Option, Some, None, refl, sym, ap, ◌∙◌}
 use Rattle.std.specs.Prelude.{find, ◌==◌}
-use Rattle.std.specs.Option.{option_map}
+use Rattle.std.specs.Option.{option_map, option_or}
 use Rattle.std.proofs.lemmas.Option.{none-some}
 use Rattle.annex_base.specs.Lists.{Each, Member}
 use Rattle.annex_base.proofs.Lists.{Each-member, find_member}
+use Rattle.annex_base.specs.OptionSteps.{first_some}
 use Rattle.node_model.specs.Ends.{end_took, taken_at}
 use Rattle.node_model.specs.Jobs.{Work, partner}
 use Rattle.node_model.specs.JobStep.{turn_of}
-use Rattle.node_model.specs.Look.{Look, Effect, first_of, first_some}
+use Rattle.node_model.specs.Look.{Look, Effect}
 use Rattle.node_model.specs.SetUp.{SetUp, slots}
 use Rattle.node_model.specs.State.{State}
 use Rattle.node_model.specs.Turns.{job_step, slot_step}
@@ -23,7 +24,7 @@ some_first : (f : ℕ → Option Effect) (xs : List ℕ) (m : Effect) → first_
 some_first f [] m is = absurd (none-some m is)
 some_first f (x ∷ xs) m is = go (λ g. some_first f xs m g) (f x) refl is
   where
-    go : (first_some f xs ≡ Some m → (x : ℕ) × (f x ≡ Some m)) → (o : Option Effect) → f x ≡ o → first_of o (first_some f xs) ≡ Some m → (x : ℕ) × (f x ≡ Some m)
+    go : (first_some f xs ≡ Some m → (x : ℕ) × (f x ≡ Some m)) → (o : Option Effect) → f x ≡ o → option_or o (first_some f xs) ≡ Some m → (x : ℕ) × (f x ≡ Some m)
     go more None at g = more g
     go more (Some n) at g = (x, at ∙ g)
 

@@ -3,8 +3,9 @@ use Rattle.std.proofs.Common.{◌≡◌, ℕ, List, [], ◌∷◌, Option, Some,
 use Rattle.std.specs.Prelude.{find, is_some}
 use Rattle.std.specs.Option.{option_map_or}
 use Rattle.annex_base.specs.declared.kinds.Call.{Call}
+use Rattle.annex_base.specs.OptionSteps.{first_some}
 use Rattle.node_model.specs.Jobs.{Work}
-use Rattle.node_model.specs.Look.{Look, Effect, failing_call, first_some}
+use Rattle.node_model.specs.Look.{Look, Effect, failing_call}
 use Rattle.node_model.specs.SetUp.{SetUp, slots}
 use Rattle.node_model.specs.State.{State}
 use Rattle.node_model.specs.Turns.{job_step, slot_step}

@@ -9,6 +9,7 @@ use Rattle.annex_base.specs.Settings.{Settings}
 use Rattle.annex_base.specs.declared.kinds.Call.{Call}
 use Rattle.annex_base.proofs.Conditions.{eqb_refl}
 use Rattle.annex_base.proofs.Lists.{Each-append, Each-member, Each-weaker, Each-from_members, Member-append_left, Member-append_right, find_member}
+use Rattle.annex_base.specs.OptionSteps.{first_some}
 use Rattle.run_data.specs.declared.entry.Entry.{Entry}
 use Rattle.run_data.specs.declared.entry.FrameView.{FrameView}
 use Rattle.link_ring.specs.Ends.{EndView}
@@ -18,7 +19,7 @@ use Rattle.node_model.specs.Jobs as Jobs
 use Rattle.node_model.specs.Jobs.{Work, work_after, work_kind}
 use Rattle.node_model.specs.Knows.{standing_of}
 use Rattle.node_model.specs.Evidence.{standing_by}
-use Rattle.node_model.specs.Look.{Look, Effect, entry_of, first_some}
+use Rattle.node_model.specs.Look.{Look, Effect, entry_of}
 use Rattle.node_model.specs.Rows.{option_is}
 use Rattle.node_model.specs.SetUp.{SetUp, slots}
 use Rattle.node_model.specs.Slots.{job_of}

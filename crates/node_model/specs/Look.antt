@@ -1,7 +1,6 @@
 -- What a turn finds beside the repository's own past, and what it makes of it.
-use Rattle.std.specs.Prelude.{ℕ, Bool, ◌&&◌, if◌then◌else◌, List, [], ◌∷◌, Option, Some, None, find}
+use Rattle.std.specs.Prelude.{ℕ, Bool, ◌&&◌, if◌then◌else◌, List, Option, Some, None, find}
 use Rattle.std.specs.List.{list_any}
-use Rattle.annex_base.specs.declared.kinds.Call.TheVariants.{PutFile}
 use Rattle.run_data.specs.declared.entry.Entry.{Entry}
 use Rattle.run_data.specs.declared.entry.EntryKind.{EntryKind}
 use Rattle.run_data.specs.declared.entry.FrameView.{FrameView}
@@ -9,10 +8,6 @@ use Rattle.annex_base.specs.declared.kinds.Call.{Call}
 use Rattle.annex_base.specs.Calls.{same_call}
 use Rattle.annex_base.specs.declared.kinds.Word.{Word}
 use Rattle.node_model.specs.Ends.{EndName, End, may_take, takes_at}
-
-abbrev pub first_of : {X : Type 0} → Option X → Option X → Option X
-first_of None other = other
-first_of (Some x) other = Some x
 
 pub record Look : Type 0 where
   pub time : ℕ
@@ -37,10 +32,6 @@ entry_of r k m = record { time = k.time; count = k.count; repo = Some r; kind = 
 -- the frame that waits at an end that stands so
 abbrev pub waiting_frame : End → Look → EndName → Option FrameView
 waiting_frame c k a = find (λ f. takes_at a f && may_take c f) k.at_hand
-
-abbrev pub first_some : {X Y : Type 0} → (X → Option Y) → List X → Option Y
-first_some f [] = None
-first_some f (x ∷ xs) = first_of (f x) (first_some f xs)
 
 -- the one of these calls that fails
 abbrev pub failing_call : Option Call → List Call → Option Call

@@ -1,7 +1,8 @@
 -- The one entry that a turn of a repository makes (the project's own): a line that is owed, or else a step of a session, or else
 -- of a job.
 use Rattle.std.specs.Prelude.{Option}
-use Rattle.node_model.specs.Look.{first_of, Look, Effect}
+use Rattle.std.specs.Option.{option_or}
+use Rattle.node_model.specs.Look.{Look, Effect}
 use Rattle.node_model.specs.SetUp.{SetUp}
 use Rattle.node_model.specs.State.{State}
 use Rattle.node_model.specs.OwedStep.{owed_step}
@@ -10,4 +11,4 @@ use Rattle.node_model.specs.Turns.{job_step}
 
 -- none where no step is ready
 abbrev pub step : SetUp → State → Look → Option Effect
-step s st k = first_of (owed_step s st k) (first_of (session_step s st k) (job_step s st k))
+step s st k = option_or (owed_step s st k) (option_or (session_step s st k) (job_step s st k))

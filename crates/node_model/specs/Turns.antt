@@ -3,6 +3,7 @@ use Rattle.std.specs.Prelude.{ℕ, Bool, true, false, ◌&&◌, if◌then◌else
 use Rattle.std.specs.List.{list_all}
 use Rattle.std.specs.Option.{option_to_list}
 use Rattle.annex_base.specs.declared.kinds.Call.TheVariants as calls
+use Rattle.annex_base.specs.OptionSteps.{first_some}
 use Rattle.drop_proof.specs.declared.rule.Side.{Side}
 use Rattle.drop_proof.specs.declared.rule.Side.TheVariants.{Local, Remote}
 use Rattle.run_data.specs.declared.entry.FrameView.{FrameView}
@@ -17,7 +18,7 @@ use Rattle.p2p_wire.specs.declared.message.Message.{Message}
 use Rattle.p2p_wire.specs.declared.message.Message.TheVariants.{AuthSuccess, Version, Valid}
 use Rattle.p2p_wire.specs.Messages.{message_of}
 use Rattle.node_model.specs.Jobs.{Work, Part, Gets, Puts, Drops, Phase, Fresh, Next, Opens, Greets, PutsBytes, PutsWord, Removed, Denied, Late, Ends, job_end, partner, side_of}
-use Rattle.node_model.specs.Look.{Look, Effect, first_some, waiting_frame}
+use Rattle.node_model.specs.Look.{Look, Effect, waiting_frame}
 use Rattle.node_model.specs.Knows.{enough_by, next_by}
 use Rattle.node_model.specs.JobStep.{Turn, hears, attempts, clock_of, end_needs, end_with, ends, is_there, key_of, locked_peers, quietly, says_to, talk, turn_of, wrong_message}
 use Rattle.node_model.specs.DropStep.{takes_drop, denial_outcome, expiry, first_drop, first_end, in_time, lacking_outcome, removal_outcome, removes, target}

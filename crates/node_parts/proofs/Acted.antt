@@ -2,7 +2,7 @@
 use Rattle.std.proofs.Common.{◌≡◌, ◌⊎◌, inl, inr, ℕ, ◌<◌, ◌+◌, ◌*◌, Bool, true, false, List, [], ◌∷◌, Option, Some, None, is_some, length, refl, sym, ap, subst, ◌∙◌, arith}
 use Rattle.std.specs.Prelude.{All, bytes_eq, find, fold, not, ◌&&◌, ◌==◌, if◌then◌else◌}
 use Rattle.std.specs.List.{list_any}
-use Rattle.std.specs.Option.{ForSome, option_map, option_map_or}
+use Rattle.std.specs.Option.{ForSome, option_map, option_map_or, option_or}
 use Rattle.std.proofs.lemmas.Bool.{cases_Bool, true≢false}
 use Rattle.std.proofs.lemmas.List.Elements.{All-weaker}
 use Rattle.std.proofs.lemmas.Option.{same_Some}
@@ -26,7 +26,7 @@ use Rattle.node_model.specs.Clocks.{ClockSet}
 use Rattle.node_model.specs.Ends.{End, EndName, end_sends, end_took, sent_at, taken_at}
 use Rattle.node_model.specs.Evidence as drops
 use Rattle.node_model.specs.Evidence.{standing_by}
-use Rattle.node_model.specs.Look.{Look, Effect, entry_of, first_of}
+use Rattle.node_model.specs.Look.{Look, Effect, entry_of}
 use Rattle.node_model.specs.Rows.{bar_after, holds_after}
 use Rattle.node_model.specs.Sessions.{new_session, session_after}
 use Rattle.node_model.specs.SessionStep.{session_step}
@@ -435,19 +435,19 @@ sound_acted was now sound count paired place still holds fills own = record {
 -- ---- whether there is a step
 
 module _ (p : PartsView) (c : Contents) (clock : ClockSet) (time number : ℕ) (s : SetUp) (st : State) (k : Look) (sees : SeesParts p c clock time number s st k) where
-  first_some : (o other : Option Effect) → is_some o ≡ true → is_some (first_of o other) ≡ true
+  first_some : (o other : Option Effect) → is_some o ≡ true → is_some (option_or o other) ≡ true
   first_some None other is = absurd (true≢false (sym is))
   first_some (Some m) other is = refl
 
-  second_some : (o other : Option Effect) → is_some o ≡ false → is_some (first_of o other) ≡ is_some other
+  second_some : (o other : Option Effect) → is_some o ≡ false → is_some (option_or o other) ≡ is_some other
   second_some None other is = refl
   second_some (Some m) other is = absurd (true≢false is)
 
-  pub session_ready : (AreEnds p.links s st → SeesEnds p.links s k → AreSessions s st.sessions p.sessions → is_some (session_step s st k) ≡ true) → is_some (first_of (session_step s st k) (job_step s st k)) ≡ true
+  pub session_ready : (AreEnds p.links s st → SeesEnds p.links s k → AreSessions s st.sessions p.sessions → is_some (session_step s st k) ≡ true) → is_some (option_or (session_step s st k) (job_step s st k)) ≡ true
   session_ready session = first_some (session_step s st k) (job_step s st k) (session sees.parts.ends sees.ends sees.parts.sessions)
 
   pub job_ready : NamelessAsked → (ready : Bool) → (AreEnds p.links s st → SeesEnds p.links s k → AreSessions s st.sessions p.sessions → is_some (session_step s st k) ≡ false)
-      → ((view : Settings) → SeesJobs p.links clock view p.jobs number time s st k → HaveState p.table c st → is_some (job_step s st k) ≡ ready) → is_some (first_of (session_step s st k) (job_step s st k)) ≡ ready
+      → ((view : Settings) → SeesJobs p.links clock view p.jobs number time s st k → HaveState p.table c st → is_some (job_step s st k) ≡ ready) → is_some (option_or (session_step s st k) (job_step s st k)) ≡ ready
   job_ready asked ready session job =
       second_some (session_step s st k) (job_step s st k) (session sees.parts.ends sees.ends sees.parts.sessions)
       ∙ job st.logs (record {

@@ -6,14 +6,15 @@ use Rattle.std.proofs.lemmas.Bool.{and_parts, cases_Bool, eqb-true, true≢false
 use Rattle.std.proofs.lemmas.List.Elements.{filter-append}
 use Rattle.std.proofs.lemmas.Option.{slice_get_within}
 use Rattle.annex_base.specs.declared.kinds.EntryStamp.{EntryStamp}
-use Rattle.annex_base.proofs.Conditions.{eqb_refl}
+use Rattle.annex_base.proofs.Conditions.{eqb_refl, same_bool_is, same_bool_refl}
 use Rattle.annex_base.proofs.Lists.{append_nil_left, cons_first, cons_nil}
+use Rattle.annex_base.specs.Bools.{same_bool}
 use Rattle.run_data.specs.declared.entry.FrameText.{FrameText}
 use Rattle.run_data.specs.declared.entry.FrameText.TheVariants as texts
 use Rattle.run_data.specs.declared.entry.FrameView.{FrameView}
 use Rattle.link_ring.specs.Ends.{EndView, free}
 use Rattle.link_ring.specs.Places.{end_place}
-use Rattle.node_model.specs.Ends.{End, EndName, end_sends, end_takes, end_took, frames, is_opening, same_bool, sends_at, sent_at, taken_at}
+use Rattle.node_model.specs.Ends.{End, EndName, end_sends, end_takes, end_took, frames, is_opening, sends_at, sent_at, taken_at}
 use Rattle.node_model.specs.Sessions.{is_closing}
 use Rattle.node_ends.specs.declared.sending.Sending.{Sending}
 use Rattle.node_ends.specs.Ends.{end_at, end_in as end_of_link, has_room, link_at, passes, room_at, stands}
@@ -35,10 +36,6 @@ pub record Permits : Type 0 where
   pub closing : (links : List EndView) (a : EndName) → (end_at links a).opened ≡ true → may_send links a texts.Closing ≡ true
 
 -- ---- the end that sends a frame
-
-pub same_bool_refl : (b : Bool) → same_bool b b ≡ true
-same_bool_refl true = refl
-same_bool_refl false = refl
 
 -- the end that sends a frame does so
 pub sends_its : (f : FrameView) → sends_at (end_of f) f ≡ true
@@ -179,11 +176,6 @@ room_after_take was now a f other room may state = go (link_at was a) (link_at n
         let numbers = and_parts (nat_lt (v.sent + 1) (2 ^ 62)) (nat_lt v.epoch (2 ^ 32 - 1)) (and_parts (nat_le 2 (free v)) (nat_lt (v.sent + 1) (2 ^ 62) && nat_lt v.epoch (2 ^ 32 - 1)) had).1 in
         let epoch : w.epoch ≡ v.epoch = ap (λ (c : End). c.epoch) is ∙ same_epoch (stands v) f.epoch f.body other in
         all_three (nat_le 2 (free w)) (nat_lt (w.sent + 1) (2 ^ 62)) (nat_lt w.epoch (2 ^ 32 - 1)) places.0 places.1 (ap (λ (n : ℕ). nat_lt n (2 ^ 32 - 1)) epoch ∙ numbers.1)
-
-pub same_bool_is : (b c : Bool) → same_bool b c ≡ true → b ≡ c
-same_bool_is true c is = sym is
-same_bool_is false true is = absurd (true≢false (sym is))
-same_bool_is false false is = refl
 
 abbrev name_test : EndName → EndName → Bool
 name_test p q = (p.peer == q.peer) && ((p.slot == q.slot) && same_bool p.client q.client)

@@ -9,15 +9,16 @@ use Rattle.std.proofs.lemmas.List.Sums.{fold-append}
 use Rattle.annex_base.specs.Lists.{Member}
 use Rattle.annex_base.specs.declared.kinds.EntryStamp.{EntryStamp}
 use Rattle.annex_base.specs.declared.kinds.Word.{Word}
-use Rattle.annex_base.proofs.Conditions.{eqb_refl, if_not}
+use Rattle.annex_base.proofs.Conditions.{eqb_refl, if_not, same_bool_is}
 use Rattle.annex_base.proofs.Lists.{Member-append_cases, cons_first}
 use Rattle.annex_base.proofs.Options.{where_some}
+use Rattle.annex_base.specs.Bools.{same_bool}
 use Rattle.run_data.specs.declared.entry.EntryKind.{EntryKind}
 use Rattle.run_data.specs.declared.entry.FrameText.{FrameText}
 use Rattle.run_data.specs.declared.entry.FrameView.{FrameView}
 use Rattle.link_ring.specs.declared.frame.Frame.{Frame}
 use Rattle.link_ring.specs.Ends.{EndView, after_take}
-use Rattle.node_model.specs.Ends.{EndName, end_sends, same_bool, sends_at, sent_at, taken_at, takes_at}
+use Rattle.node_model.specs.Ends.{EndName, end_sends, sends_at, sent_at, taken_at, takes_at}
 use Rattle.node_ends.specs.declared.sending.Sending.{Sending}
 use Rattle.node_ends.specs.declared.sending.Sending.TheVariants as sendings
 use Rattle.node_ends.specs.Ends.{end_at, frame_at, link_at, wait_at}
@@ -29,7 +30,7 @@ use Rattle.node_sessions.specs.Words.{word_to}
 use Rattle.node_parts.specs.declared.done.Done.{Done}
 use Rattle.node_parts.specs.declared.moment.Moment.{Moment}
 use Rattle.node_parts.specs.Posting.{Answer, PostsNothing, PostsOn, PostsOnly, after_step, stamp_of, taken_off, word_with}
-use Rattle.node_parts.proofs.Posting.{frame_end, same_bool_is, same_or_other, sends_its}
+use Rattle.node_parts.proofs.Posting.{frame_end, same_or_other, sends_its}
 
 -- ---- the word
 

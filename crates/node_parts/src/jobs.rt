@@ -1,11 +1,11 @@
 //! The step of the running jobs, and whether there is one.
-ghost use Rattle.std.specs.Prelude.{◌≡◌, ℕ, ◌≤◌, ◌<◌, All, None, IfOk, IfSome, OnErr, is_some};
-ghost use Rattle.std.specs.Option.{ForSome, option_map};
+ghost use Rattle.std.specs.Prelude.{◌≡◌, ◌≤◌, ◌<◌, All, None, IfOk, IfSome, OnErr, is_some};
+ghost use Rattle.std.specs.Option.{ForSome, option_map, option_or};
 ghost use Rattle.annex_base.specs.Causes.{Rose};
 ghost use Rattle.object_store.specs.Stores.{Contents};
 ghost use Rattle.trust_groups.specs.View.{settings_of};
 ghost use Rattle.content_lock.specs.Stored.{Agrees};
-ghost use Rattle.node_model.specs.Look.{Look, first_of};
+ghost use Rattle.node_model.specs.Look.{Look};
 ghost use Rattle.node_model.specs.SessionStep.{session_step};
 ghost use Rattle.node_model.specs.SetUp.{SetUp};
 ghost use Rattle.node_model.specs.State.{State};
@@ -107,7 +107,7 @@ impl Parts {
 
     /// Whether a session or a job has a step; nothing changes.
     pub fn is_ready(&mut self, alloc: Global, moment: Moment) -> Result<bool, NoMemory>
-        ensures ready { IfOk result (λ b. (c : Contents) (s : SetUp) (st : State) (k : Look) → SeesParts self.old c moment.clock moment.time moment.number s st k → is_some (first_of (session_step s st k) (job_step s st k)) ≡ b) }
+        ensures ready { IfOk result (λ b. (c : Contents) (s : SetUp) (st : State) (k : Look) → SeesParts self.old c moment.clock moment.time moment.number s st k → is_some (option_or (session_step s st k) (job_step s st k)) ≡ b) }
         ensures same { self.new ≡ self.old }
     {
         // A law, for the proof.

@@ -2,22 +2,18 @@
 use Rattle.std.proofs.Common.{◌≡◌, ℕ, Bool, true, false, List, [], ◌∷◌, Option, Some, None, refl, ap, ◌∙◌}
 use Rattle.std.specs.Prelude.{◌&&◌, ◌==◌, if◌then◌else◌}
 use Rattle.std.specs.Option.{option_map, option_and_then}
-use Rattle.annex_base.proofs.Conditions.{eqb_refl}
+use Rattle.annex_base.proofs.Conditions.{eqb_refl, same_bool_refl}
 use Rattle.run_data.specs.declared.entry.FrameText.{FrameText}
 use Rattle.run_data.specs.declared.entry.FrameView.{FrameView}
 use Rattle.link_ring.specs.declared.frame.Frame.{Frame}
 use Rattle.link_ring.specs.Ends.{EndView, next_frame}
-use Rattle.node_model.specs.Ends.{End, EndName, end_sends, frames, may_take, same_bool, sends_at, sent_at, server_end, taken_at, takes_at}
+use Rattle.node_model.specs.Ends.{End, EndName, end_sends, frames, may_take, sends_at, sent_at, server_end, taken_at, takes_at}
 use Rattle.node_ends.specs.Ends.{end_at, frame_at, if_may, link_at, wait_at}
-
-same_itself : (b : Bool) → same_bool b b ≡ true
-same_itself true = refl
-same_itself false = refl
 
 -- ---- frames that are sent
 
 one_mine : (peer slot : ℕ) (client : Bool) (epoch seq : ℕ) (body : FrameText) → sends_at (record { peer = peer; slot = slot; client = client }) (record { peer = peer; slot = slot; up = client; epoch = epoch; seq = seq; body = body }) ≡ true
-one_mine peer slot client epoch seq body = rw (eqb_refl peer, eqb_refl slot, same_itself client) refl
+one_mine peer slot client epoch seq body = rw (eqb_refl peer, eqb_refl slot, same_bool_refl client) refl
 
 pub sent_mine : (a : EndName) (c : End) (bodies : List FrameText) → sent_at a (frames a c bodies) ≡ frames a c bodies
 sent_mine a c [] = refl

@@ -4,7 +4,8 @@ use Rattle.std.specs.Prelude.{is_some, slice_get, ◌||◌, length}
 use Rattle.std.specs.List.{find, list_any}
 use Rattle.std.proofs.Math.ListN.{set}
 use Rattle.std.proofs.lemmas.Map.Keys.{any_passes_from_place}
-use Rattle.node_model.specs.Look.{first_of, first_some}
+use Rattle.std.specs.Option.{option_or}
+use Rattle.annex_base.specs.OptionSteps.{first_some}
 use Rattle.node_sessions.specs.Sessions.{Every, EveryTwo}
 
 pub set_here : {X : Type 0} (xs : List X) (i : ℕ) (x : X) → i < length xs → slice_get (set xs i x) i ≡ Some x
@@ -79,12 +80,12 @@ first_is f g [] i x at here = absurd cc
 first_is {X} {Y} {Z} f g (y ∷ ys) zero x at here =
     let e : y ≡ x = cc in go (f (g y)) (ap (λ (w : X). is_some (f (g w))) e ∙ here)
   where
-    go : (o : Option Z) → is_some o ≡ true → is_some (first_of o (first_some f (map g ys))) ≡ true
+    go : (o : Option Z) → is_some o ≡ true → is_some (option_or o (first_some f (map g ys))) ≡ true
     go None h = absurd (true≢false (sym h))
     go (Some z) h = refl
 first_is {X} {Y} {Z} f g (y ∷ ys) (suc i) x at here = go (f (g y)) (first_is f g ys i x at here)
   where
-    go : (o : Option Z) → is_some (first_some f (map g ys)) ≡ true → is_some (first_of o (first_some f (map g ys))) ≡ true
+    go : (o : Option Z) → is_some (first_some f (map g ys)) ≡ true → is_some (option_or o (first_some f (map g ys))) ≡ true
     go None h = h
     go (Some z) h = refl
 

@@ -2,10 +2,12 @@
 use Rattle.std.proofs.Common.{◌≡◌, ◌≢◌, ℕ, ◌+◌, ◌*◌, ◌/◌, Bool, true, false, List, [], ◌∷◌, Option, Some, None, refl, sym, ap, subst, ◌∙◌, true≢false}
 use Rattle.std.specs.Prelude.{◌&&◌, ◌==◌, if◌then◌else◌, bytes_eq, min, nat_le, nat_lt}
 use Rattle.std.specs.List.{list_any}
+use Rattle.std.specs.Option.{option_or}
 use Rattle.annex_base.specs.declared.kinds.Call.{Call}
 use Rattle.annex_base.specs.declared.kinds.Call.TheVariants as calls
 use Rattle.annex_base.specs.Calls.{same_call}
 use Rattle.annex_base.proofs.Conditions.{if_either}
+use Rattle.annex_base.specs.OptionSteps.{first_some}
 use Rattle.run_data.specs.declared.entry.EntryKind.TheVariants.{Fault, Release, Talk}
 use Rattle.run_data.specs.declared.entry.FrameText.{FrameText}
 use Rattle.run_data.specs.declared.entry.FrameText.TheVariants.{Opening, Closing, Bytes, Line}
@@ -16,7 +18,7 @@ use Rattle.p2p_wire.specs.Messages.{message_of}
 use Rattle.node_model.specs.Calls.{to_commit, to_hold, to_lock, to_offer, to_read, to_remove}
 use Rattle.node_model.specs.Clocks.{hold_time}
 use Rattle.node_model.specs.Ends.{End, EndName, end_takes, server_end}
-use Rattle.node_model.specs.Look.{Look, Effect, failing_call, first_of, first_some, unless, waiting_frame}
+use Rattle.node_model.specs.Look.{Look, Effect, failing_call, unless, waiting_frame}
 use Rattle.node_model.specs.Sessions as sessions
 use Rattle.node_model.specs.Sessions.{reaches}
 use Rattle.node_model.specs.SessionStep.{Here, Reply, bar_on, by_of, bytes_left, check_answer, close_kind, content_of, gives_made, gives_next, here, is_held, is_here, lock_answer, now_of, on_bytes, on_frame, on_message, on_piece, on_put, on_remove, on_remove_before, on_request, on_text, on_unlock, on_valid, put_answer, failure_line, remove_answer, reply, reply_made, session_at, session_makes, session_step, shuts, silent_reply, tries, unexpected_reply, valid_answer}
@@ -214,7 +216,7 @@ first_own s st k [] m e = absurd cc
 first_own s st k (c ∷ cs) m e = go (session_at s st k (server_end c.0 c.1)) refl (first_own s st k cs m) e
   where
     go : (o : Option Effect) → session_at s st k (server_end c.0 c.1) ≡ o → (first_some (λ c. session_at s st k (server_end c.0 c.1)) cs ≡ Some m → IsOwn m)
-        → first_of o (first_some (λ c. session_at s st k (server_end c.0 c.1)) cs) ≡ Some m → IsOwn m
+        → option_or o (first_some (λ c. session_at s st k (server_end c.0 c.1)) cs) ≡ Some m → IsOwn m
     go None is rest f = rest f
     go (Some x) is rest f =
         let same : x ≡ m = cc in at_own s st k (server_end c.0 c.1) m (is ∙ ap Some same)

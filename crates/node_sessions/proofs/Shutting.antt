@@ -4,6 +4,7 @@ use Rattle.std.specs.Prelude.{◌&&◌, ◌==◌, if◌then◌else◌, fold, is_
 use Rattle.std.specs.Option.{ForSome}
 use Rattle.std.proofs.lemmas.Bool.{and_parts}
 use Rattle.std.proofs.lemmas.Bool.Decides.{nat_tests}
+use Rattle.annex_base.specs.Bools.{same_bool}
 use Rattle.run_data.specs.declared.entry.Entry.{Entry}
 use Rattle.run_data.specs.declared.entry.EntryKind.{EntryKind}
 use Rattle.run_data.specs.declared.entry.FrameText.{FrameText}
@@ -11,7 +12,7 @@ use Rattle.run_data.specs.declared.entry.FrameText.TheVariants.{Opening, Closing
 use Rattle.run_data.specs.declared.entry.FrameView.{FrameView}
 use Rattle.link_ring.specs.Ends.{EndView}
 use Rattle.node_model.specs.After.{state_after}
-use Rattle.node_model.specs.Ends.{End, EndName, end_sends, end_took, frames, same_bool, sent_at, server_end, taken_at, takes_at}
+use Rattle.node_model.specs.Ends.{End, EndName, end_sends, end_took, frames, sent_at, server_end, taken_at, takes_at}
 use Rattle.node_model.specs.Look.{Effect}
 use Rattle.node_model.specs.Sessions as sessions
 use Rattle.node_model.specs.Sessions.{new_session, sends_close, session_after, session_goes, session_left, session_took}

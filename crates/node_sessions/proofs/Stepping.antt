@@ -3,6 +3,7 @@ use Rattle.std.proofs.Common.{◌≡◌, ◌≢◌, ℕ, ◌<◌, Bool, true, fa
 use Rattle.std.specs.Prelude.{is_some, slice_get, ◌&&◌, ◌==◌, if◌then◌else◌}
 use Rattle.std.proofs.Math.ListN.{set}
 use Rattle.annex_base.proofs.Lists.{slice_get-within}
+use Rattle.annex_base.specs.OptionSteps.{first_some}
 use Rattle.run_data.specs.declared.entry.EntryKind.{EntryKind}
 use Rattle.run_data.specs.declared.entry.FrameText.{FrameText}
 use Rattle.run_data.specs.declared.entry.FrameView.{FrameView}
@@ -11,7 +12,7 @@ use Rattle.object_store.specs.declared.keeper.HoldRecord.{HoldRecord}
 use Rattle.content_lock.specs.Rows.{Rows}
 use Rattle.link_ring.specs.Ends.{EndView}
 use Rattle.node_model.specs.Ends.{End, EndName, end_took, frames, sent_at, server_end, taken_at}
-use Rattle.node_model.specs.Look.{Look, Effect, first_some}
+use Rattle.node_model.specs.Look.{Look, Effect}
 use Rattle.node_model.specs.Sessions as sessions
 use Rattle.node_model.specs.Sessions.{session_after}
 use Rattle.node_model.specs.SessionStep.{here, session_at, session_step}

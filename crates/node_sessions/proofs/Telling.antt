@@ -1,9 +1,10 @@
 -- The entry of the sessions' step tells a failed call exactly where that is one of its calls, and these don't depend on which fails.
 use Rattle.std.proofs.Common.{◌≡◌, ℕ, ◌+◌, Bool, true, false, List, [], ◌∷◌, Option, Some, None, refl, sym, ap, ◌∙◌}
 use Rattle.std.specs.Prelude.{◌==◌, if◌then◌else◌, find, is_some, min}
-use Rattle.std.specs.Option.{option_map_or}
+use Rattle.std.specs.Option.{option_map_or, option_or}
 use Rattle.annex_base.specs.declared.kinds.Call.{Call}
 use Rattle.annex_base.specs.declared.kinds.Call.TheVariants as calls
+use Rattle.annex_base.specs.OptionSteps.{first_some}
 use Rattle.run_data.specs.declared.entry.EntryKind.TheVariants as kinds
 use Rattle.run_data.specs.declared.entry.FrameText.{FrameText}
 use Rattle.run_data.specs.declared.entry.FrameText.TheVariants as frames
@@ -12,7 +13,7 @@ use Rattle.p2p_wire.specs.declared.message.Message.{Message}
 use Rattle.p2p_wire.specs.declared.message.Message.TheVariants as messages
 use Rattle.p2p_wire.specs.Messages.{message_of}
 use Rattle.node_model.specs.Ends.{End, EndName, end_takes, server_end}
-use Rattle.node_model.specs.Look.{Look, Effect, failing_call, first_of, first_some, unless, waiting_frame}
+use Rattle.node_model.specs.Look.{Look, Effect, failing_call, unless, waiting_frame}
 use Rattle.node_model.specs.Sessions as sessions
 use Rattle.node_model.specs.Sessions.{reaches}
 use Rattle.node_model.specs.SessionStep.{Here, Reply, by_of, close_kind, content_of, gives_made, gives_next, here, on_frame, on_piece, reply, reply_made, session_at, session_makes, session_step, shuts, tries}
@@ -153,7 +154,7 @@ first_told fails makes made told [] = no_calls fails
 first_told fails makes made told (c ∷ cs) = go (makes c) refl (first_told fails makes made told cs)
   where
     go : (o : Option Effect) → makes c ≡ o → failed_of (first_some makes cs) ≡ failing_call fails (option_map_or made (find (λ d. is_some (makes d)) cs) [])
-        → failed_of (first_of o (first_some makes cs)) ≡ failing_call fails (option_map_or made (if is_some o then Some c else find (λ d. is_some (makes d)) cs) [])
+        → failed_of (option_or o (first_some makes cs)) ≡ failing_call fails (option_map_or made (if is_some o then Some c else find (λ d. is_some (makes d)) cs) [])
     go None is rest = rest
     go (Some m) is rest = told c m is
 

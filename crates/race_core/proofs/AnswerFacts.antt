@@ -9,13 +9,14 @@ use Rattle.run_data.specs.declared.entry.By.TheVariants.{Job as by_job, Peer}
 use Rattle.run_data.specs.declared.entry.FrameView.{FrameView}
 use Rattle.run_data.specs.declared.entry.FrameText.{FrameText}
 use Rattle.run_data.specs.declared.entry.FrameText.TheVariants.{Opening, Closing, Bytes, Line}
-use Rattle.node_model.specs.Ends.{same_bool, End, end_takes, is_opening, may_take, server_end, takes_at}
+use Rattle.node_model.specs.Ends.{End, end_takes, is_opening, may_take, server_end, takes_at}
 use Rattle.run_data.specs.declared.row.Hold.{Hold}
 use Rattle.run_model.specs.Past.{bar, clock, holds, present}
 use Rattle.node_model.specs.Rows.{blocks, is_blocked}
 use Rattle.std.specs.List.{list_any}
 use Rattle.std.proofs.lemmas.Bool.{and_parts, eqb-true}
 use Rattle.annex_base.proofs.Lists.{find_member}
+use Rattle.annex_base.specs.Bools.{same_bool}
 use Rattle.drop_proof.specs.declared.rule.Need.{Need}
 use Rattle.drop_proof.specs.Judging.{least_end}
 use Rattle.run_model.specs.States.{works, state_of}

@@ -4,6 +4,7 @@ use Rattle.std.specs.Prelude.{if◌then◌else◌, ◌==◌, ◌&&◌, nat_lt, o
 use Rattle.std.proofs.lemmas.Bool.{true≢false, eqb-true, and_parts}
 use Rattle.annex_base.specs.declared.kinds.Word.{Word}
 use Rattle.annex_base.proofs.Conditions.{and_first}
+use Rattle.annex_base.specs.Bools.{same_bool}
 use Rattle.race_core.proofs.Below.{SentAreRead}
 use Rattle.run_data.specs.declared.entry.Entry.{Entry}
 use Rattle.run_data.specs.declared.entry.FrameView.{FrameView}
@@ -12,7 +13,7 @@ use Rattle.run_data.specs.declared.entry.FrameText.TheVariants.{Opening, Closing
 use Rattle.run_model.specs.Said.{message_in}
 use Rattle.race_core.proofs.Ways.{is_answer}
 use Rattle.run_model.specs.Frames.{Way, last_request, requests, taken_if, up_of, way_of}
-use Rattle.node_model.specs.Ends.{same_bool, End, is_opening, may_take}
+use Rattle.node_model.specs.Ends.{End, is_opening, may_take}
 use Rattle.race_core.proofs.ClientKeeps.{all_keep}
 use Rattle.race_core.proofs.PhasesFit.{phases_fit}
 use Rattle.node_model.specs.SetUp.{SetUp}

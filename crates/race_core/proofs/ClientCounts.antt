@@ -4,13 +4,14 @@ use Rattle.std.proofs.Common.{◌≡◌, ℕ, ◌+◌, Bool, true, false, List, 
 use Rattle.std.specs.Prelude.{if◌then◌else◌, ◌==◌, ◌&&◌, bytes_eq, codes, fold}
 use Rattle.std.proofs.lemmas.Bool.{true≢false, eqb-true, and_right}
 use Rattle.annex_base.proofs.Conditions.{and_first, eqb_refl}
+use Rattle.annex_base.specs.Bools.{same_bool}
 use Rattle.run_data.specs.declared.entry.Entry.{Entry}
 use Rattle.run_data.specs.declared.entry.FrameView.{FrameView}
 use Rattle.run_data.specs.declared.entry.FrameText.{FrameText}
 use Rattle.run_data.specs.declared.entry.FrameText.TheVariants.{Opening, Line}
 use Rattle.run_model.specs.Past.{is_of}
 use Rattle.node_model.specs.Rows.{option_is}
-use Rattle.node_model.specs.Ends.{same_bool, EndName, End, frames, sent_at, taken_at, takes_at}
+use Rattle.node_model.specs.Ends.{EndName, End, frames, sent_at, taken_at, takes_at}
 use Rattle.p2p_wire.specs.declared.message.Message.{Message}
 use Rattle.p2p_wire.specs.declared.message.Message.TheVariants.{AuthSuccess, Version, CheckPresent, LockContent, Remove, RemoveBefore, GetTimestamp, Timestamp, Get, Put, PutFrom, AlreadyHave, Valid, Invalid, Success, Failure, Error}
 use Rattle.p2p_wire.specs.Messages.{order_of, message_of}

@@ -3,9 +3,11 @@
 use Rattle.std.proofs.Common.{◌≡◌, ℕ, ◌+◌, Bool, true, false, List, [], ◌∷◌, ◌++◌, Option, Some, None, ◌⊎◌, inl, inr, refl, sym, ap, ◌∙◌, subst}
 use Rattle.std.specs.Prelude.{if◌then◌else◌, ◌==◌, ◌&&◌, find, fold, not}
 use Rattle.std.specs.List.{list_all}
+use Rattle.std.specs.Option.{option_or}
 use Rattle.annex_base.specs.Lists.{Each}
 use Rattle.annex_base.specs.declared.kinds.Word.{Word}
 use Rattle.annex_base.proofs.Lists.{Each-filter, find_member}
+use Rattle.annex_base.proofs.Options.{first_some-was, option_or-was}
 use Rattle.race_core.proofs.Below.{SentAreRead}
 use Rattle.run_data.specs.declared.entry.Entry.{Entry}
 use Rattle.run_data.specs.declared.entry.EntryKind.{EntryKind}
@@ -14,7 +16,7 @@ use Rattle.run_data.specs.declared.entry.FrameView.{FrameView}
 use Rattle.run_data.specs.declared.entry.FrameText.{FrameText}
 use Rattle.run_data.specs.declared.entry.FrameText.TheVariants.{Opening, Closing, Bytes, Line}
 use Rattle.node_model.specs.Rows.{is_lost_ordered}
-use Rattle.node_model.specs.Look.{first_of, Look, Effect, entry_of, waiting_frame}
+use Rattle.node_model.specs.Look.{Look, Effect, entry_of, waiting_frame}
 use Rattle.p2p_wire.specs.declared.message.Message.TheVariants.{UnlockContent, Success}
 use Rattle.p2p_wire.specs.Messages.{message_of, order_of, text_of}
 use Rattle.node_model.specs.SetUp.{SetUp, others, slots}
@@ -27,7 +29,6 @@ use Rattle.node_model.specs.JobStep.{Turn, end_with, farewell, farewells, has_lo
 use Rattle.node_model.specs.Turns.{awaits, by_partner, goes, goes_on, has_room, is_awaiting, job_step, needs, slot_step, takes_frame, with_partner}
 use Rattle.run_model.specs.Run.{IsStep, OwnPart, OwnPast}
 use Rattle.node_model.specs.Found.{ByOwed, BySession, IsJobEntry}
-use Rattle.race_core.proofs.Cases.{first_was, some_was}
 use Rattle.race_core.proofs.SessionFacts.{session_found}
 use Rattle.race_core.proofs.StepFacts.{pays_found}
 use Rattle.race_core.proofs.JobFacts.{Goes, frame_found, goes_found, partner_found}
@@ -221,7 +222,7 @@ module _ (reads_back : SentAreRead) (s : SetUp) (past : List Entry) (h : OwnPast
   job_sends : (a : EndName) (k : Look) (m : Effect) → ((f : FrameView) → m.taken ≡ Some f → may_take (end_at past s.number (end_of f)) f ≡ true) → job_step s (state_of s past) k ≡ Some m
       → Sends s past a (entry_of s.number k m)
   job_sends a k m may e =
-      let x = some_was (λ slot. slot_step s (state_of s past) k (find (λ w. w.slot == slot) (works past s.number))) slots m e in
+      let x = first_some-was (λ slot. slot_step s (state_of s past) k (find (λ w. w.slot == slot) (works past s.number))) slots m e in
       by_slot x.0 (find (λ w. w.slot == x.0) (works past s.number)) refl x.2
     where
       by_slot : (slot : ℕ) (o : Option Work) → find (λ w. w.slot == slot) (works past s.number) ≡ o → slot_step s (state_of s past) k o ≡ Some m → Sends s past a (entry_of s.number k m)
@@ -237,9 +238,9 @@ module _ (reads_back : SentAreRead) (s : SetUp) (past : List Entry) (h : OwnPast
   ]
     where
       stepped : (x : IsStep s past words e) → Sends s past (client_end peer slot) (entry_of s.number x.look x.made)
-      stepped x = elim (first_was (owed_step s (state_of s past) x.look) (first_of (session_step s (state_of s past) x.look) (job_step s (state_of s past) x.look)) x.made x.makes) [
+      stepped x = elim (option_or-was (owed_step s (state_of s past) x.look) (option_or (session_step s (state_of s past) x.look) (job_step s (state_of s past) x.look)) x.made x.makes) [
         | inl o ↦ owed_sends (client_end peer slot) x.look x.made (pays_found s (state_of s past) x.look x.made (state_of s past).owed refl o)
-        | inr r ↦ elim (first_was (session_step s (state_of s past) x.look) (job_step s (state_of s past) x.look) x.made r) [
+        | inr r ↦ elim (option_or-was (session_step s (state_of s past) x.look) (job_step s (state_of s past) x.look) x.made r) [
           | inl g ↦ session_sends peer slot x.look x.made (session_found s (state_of s past) x.look x.made g)
           | inr g ↦ job_sends (client_end peer slot) x.look x.made
               (λ f took. own_takes s past words e f own (ap (λ (y : Entry). y.taken) x.is ∙ took)) g

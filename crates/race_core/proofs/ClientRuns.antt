@@ -2,11 +2,14 @@
 use Rattle.std.proofs.Common.{◌≡◌, ◌≢◌, ℕ, ◌<◌, Bool, true, false, List, [], ◌∷◌, length, Option, Some, None, ◌⊎◌, inl, inr, refl, sym, ap, ◌∙◌, subst}
 use Rattle.std.specs.Prelude.{if◌then◌else◌, ◌==◌, ◌&&◌, find, fold, map, not}
 use Rattle.std.proofs.lemmas.Bool.{true≢false, eqb-true, not-true, and_parts, and_right}
+use Rattle.std.specs.Option.{option_or}
 use Rattle.annex_base.specs.Lists.{Each, Member}
 use Rattle.annex_base.specs.declared.kinds.Call.TheVariants.{PutFile}
 use Rattle.annex_base.specs.declared.kinds.Word.{Word}
 use Rattle.annex_base.proofs.Lists.{Each-filter, Member-filter_parts, find_member}
 use Rattle.annex_base.proofs.Conditions.{and_first, eqb_refl, eqb_sym, if_either}
+use Rattle.annex_base.specs.Bools.{same_bool}
+use Rattle.annex_base.proofs.Options.{first_some-was, option_or-was}
 use Rattle.run_data.specs.declared.entry.By.{By}
 use Rattle.run_data.specs.declared.entry.By.TheVariants.{Script}
 use Rattle.run_data.specs.declared.entry.Entry.{Entry}
@@ -20,8 +23,8 @@ use Rattle.run_data.specs.declared.job.Job.{Job}
 use Rattle.node_model.specs.Slots.{RunningJob, job_by, job_of}
 use Rattle.node_model.specs.Rows.{is_lost_ordered, option_is}
 use Rattle.run_model.specs.Past.{is_of}
-use Rattle.node_model.specs.Ends.{same_bool, EndName, End, end_after, end_sends, end_takes, end_took, frames, sends_at, sent_at, server_end, taken_at, takes_at}
-use Rattle.node_model.specs.Look.{first_of, Look, Effect, entry_of}
+use Rattle.node_model.specs.Ends.{EndName, End, end_after, end_sends, end_takes, end_took, frames, sends_at, sent_at, server_end, taken_at, takes_at}
+use Rattle.node_model.specs.Look.{Look, Effect, entry_of}
 use Rattle.node_model.specs.SetUp.{SetUp, slots}
 use Rattle.run_model.specs.States.{end_at, rows_at, works, state_of}
 use Rattle.node_model.specs.Jobs.{Phase, Fresh, RowsAndEnds, Work, job_end, new_work, partner, running_job, work_after, work_kind, works_after}
@@ -37,7 +40,6 @@ use Rattle.run_model.specs.Run.{IsStep, ComesAnyTime, OwnRun}
 use Rattle.node_model.specs.Found.{ByJob, ByOwed, BySession, GivesAt, IsJobEntry, TakesAt}
 use Rattle.race_core.proofs.JobSteps.{job_is, session_none}
 use Rattle.race_core.proofs.WorkNumbers.{same_work}
-use Rattle.race_core.proofs.Cases.{first_was, some_was}
 use Rattle.race_core.proofs.JobFacts.{partner_found}
 use Rattle.race_core.proofs.JobKept.{after_kept, jobs_are}
 use Rattle.race_core.proofs.JobNumbers.{Falling, jobs_numbered}
@@ -282,14 +284,14 @@ slot_even s st k speaks slot m (Some w) is e =
 
 job_even : (s : SetUp) (st : State) (k : Look) → ((w : Work) → Member w st.works → Speaks (turn_of s st k w)) → (m : Effect) → job_step s st k ≡ Some m → ByJobEven s st k m
 job_even s st k speaks m e =
-    let x = some_was (λ slot. slot_step s st k (find (λ w. w.slot == slot) st.works)) slots m e in
+    let x = first_some-was (λ slot. slot_step s st k (find (λ w. w.slot == slot) st.works)) slots m e in
     slot_even s st k speaks x.0 m (find (λ w. w.slot == x.0) st.works) refl x.2
 
 pub step_even : (s : SetUp) (st : State) (k : Look) → ((w : Work) → Member w st.works → Speaks (turn_of s st k w)) → (m : Effect) → step s st k ≡ Some m
     → ByOwed s st k m ⊎ (BySession s st k m ⊎ ByJobEven s st k m)
-step_even s st k speaks m e = elim (first_was (owed_step s st k) (first_of (session_step s st k) (job_step s st k)) m e) [
+step_even s st k speaks m e = elim (option_or-was (owed_step s st k) (option_or (session_step s st k) (job_step s st k)) m e) [
   | inl o ↦ inl (pays_found s st k m st.owed refl o)
-  | inr r ↦ inr (elim (first_was (session_step s st k) (job_step s st k) m r) [ inl x ↦ inl (session_found s st k m x) | inr x ↦ inr (job_even s st k speaks m x) ])
+  | inr r ↦ inr (elim (option_or-was (session_step s st k) (job_step s st k) m r) [ inl x ↦ inl (session_found s st k m x) | inr x ↦ inr (job_even s st k speaks m x) ])
 ]
 
 -- ---- a running job is known by its number

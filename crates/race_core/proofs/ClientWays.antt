@@ -6,6 +6,7 @@ use Rattle.std.proofs.lemmas.Bool.{eqb-true}
 use Rattle.std.proofs.lemmas.List.Elements.{filter-append}
 use Rattle.annex_base.specs.Lists.{Each}
 use Rattle.annex_base.proofs.Conditions.{and_regrouped, and_second, eqb_refl}
+use Rattle.annex_base.specs.Bools.{same_bool}
 use Rattle.run_data.specs.declared.entry.Entry.{Entry}
 use Rattle.run_data.specs.declared.entry.FrameView.{FrameView}
 use Rattle.run_data.specs.declared.entry.FrameText.{FrameText}
@@ -17,7 +18,7 @@ use Rattle.race_core.proofs.Ways.{is_answer}
 use Rattle.run_model.specs.Past.{Always, is_of}
 use Rattle.run_model.specs.Frames
 use Rattle.run_model.specs.Frames.{Way, FlyingFrame, flying_frame, is_on, last_of, on_way, requests, says, taken_if, takes_if}
-use Rattle.node_model.specs.Ends.{same_bool, is_opening, end_takes, EndName, End, end_after, end_sends, end_took, may_take, sends_at, sent_at, taken_at, takes_at}
+use Rattle.node_model.specs.Ends.{is_opening, end_takes, EndName, End, end_after, end_sends, end_took, may_take, sends_at, sent_at, taken_at, takes_at}
 use Rattle.run_model.specs.States.{end_at}
 use Rattle.node_model.specs.Sessions.{line_in}
 use Rattle.race_core.proofs.ClientCounts.{counts_takes, counts_answer, counts_line, Counts, Request, answers_it, asks_for, counts_after, counts_at, counts_sends, counts_took, is_answering, is_asking, request}

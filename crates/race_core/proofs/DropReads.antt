@@ -1,7 +1,7 @@
 -- What a drop reads is fixed from its first step.
 use Rattle.std.proofs.Common.{◌≡◌, ℕ, Bool, true, false, List, ◌∷◌, Option, Some, None, refl, sym, ap, ◌∙◌, subst}
 use Rattle.std.specs.Prelude.{if◌then◌else◌, ◌==◌, ◌&&◌, find, option_map}
-use Rattle.std.specs.Option.{unwrap_or}
+use Rattle.std.specs.Option.{option_or, unwrap_or}
 use Rattle.std.proofs.lemmas.Bool.{and_from, or_right}
 use Rattle.annex_base.proofs.Conditions.{eqb_refl}
 use Rattle.run_data.specs.declared.entry.Entry.{Entry}
@@ -10,7 +10,6 @@ use Rattle.run_data.specs.declared.job.JobKind.{JobKind}
 use Rattle.run_data.specs.declared.job.JobKind.TheVariants as kinds
 use Rattle.run_model.specs.Past.{is_of}
 use Rattle.run_model.specs.Logs.{before_step, in_drop, is_drop, is_step, read_at, settings_of, starts_drop}
-use Rattle.node_model.specs.Look.{first_of}
 use Rattle.node_model.specs.SetUp.{SetUp}
 use Rattle.node_model.specs.Jobs.{Drops, Heard, Work, first_part}
 use Rattle.race_core.proofs.JobSteps.{Begins}
@@ -39,7 +38,7 @@ step_read past e r j is step drop =
     go (before_step past r j) (is_of r e && (is_step j e.kind && in_drop past r j)) all
   where
     go : (o : Option (List Entry)) (b : Bool) → b ≡ true
-        → ((x : List Entry) × (first_of o (if b then Some past else None) ≡ Some x)) × (unwrap_or (first_of o (if b then Some past else None)) (e ∷ past) ≡ unwrap_or o past)
+        → ((x : List Entry) × (option_or o (if b then Some past else None) ≡ Some x)) × (unwrap_or (option_or o (if b then Some past else None)) (e ∷ past) ≡ unwrap_or o past)
     go None true h = ((past, refl), refl)
     go (Some x) true h = ((x, refl), refl)
     go o false h = absurd (cc)

@@ -4,6 +4,7 @@ use Rattle.std.proofs.Common.{◌≡◌, ℕ, ◌+◌, ◌^◌, ◌<◌, ◌≤�
 use Rattle.std.specs.Prelude.{if◌then◌else◌, ◌==◌, ◌&&◌, nat_lt}
 use Rattle.std.proofs.lemmas.Bool.Decides.{nat_tests}
 use Rattle.std.proofs.lemmas.Bool.{and_parts}
+use Rattle.std.specs.Option.{option_or}
 use Rattle.annex_base.specs.Lists.{Each, Member}
 use Rattle.annex_base.specs.declared.kinds.Call.{Call}
 use Rattle.annex_base.specs.declared.kinds.Call.TheVariants.{PutFile}
@@ -17,7 +18,7 @@ use Rattle.run_data.specs.declared.entry.FrameView.{FrameView}
 use Rattle.run_data.specs.declared.entry.FrameText.{FrameText}
 use Rattle.run_data.specs.declared.entry.FrameText.TheVariants.{Opening, Closing, Bytes, Line}
 use Rattle.run_data.specs.declared.entry.LogFile.TheVariants.{Location}
-use Rattle.node_model.specs.Ends.{same_bool, End, EndName, end_sends, end_takes, end_took, frames, is_opening, may_take, sends_at, sent_at, server_end, taken_at, takes_at}
+use Rattle.node_model.specs.Ends.{End, EndName, end_sends, end_takes, end_took, frames, is_opening, may_take, sends_at, sent_at, server_end, taken_at, takes_at}
 use Rattle.run_model.specs.Past.{Occurs, is_of}
 use Rattle.node_model.specs.SetUp.{SetUp, served_connections}
 use Rattle.run_model.specs.States.{end_at, session, state_of}
@@ -32,13 +33,14 @@ use Rattle.node_model.specs.Step.{step}
 use Rattle.node_model.specs.Found.{ByJob, JobTakes}
 use Rattle.node_model.specs.AnyTime.{MayCome, all_ends, close_at}
 use Rattle.run_model.specs.Run.{OwnPart, OwnRun}
-use Rattle.race_core.proofs.Cases.{first_was, some_was, unless_found}
+use Rattle.race_core.proofs.Cases.{unless_found}
 use Rattle.race_core.proofs.JobFacts.{job_found}
 use Rattle.race_core.proofs.ServerEnds.{BySessionAt, GivesHere, TakesHere, each_flat, end_of, same_end-refl, session_here, takes_end}
 use Rattle.race_core.proofs.EndMoves.{NoOpening, all_epoch, end_own, frame_none, gave_one, may_epoch, own_induction, pieces_none, sends_all, takes_epoch}
 use Rattle.race_core.proofs.JobEnds.{JobSays, SentWell, job_speaks}
-use Rattle.node_model.specs.Look
 use Rattle.annex_base.proofs.Conditions.{eqb_refl, if_turned}
+use Rattle.annex_base.specs.Bools.{same_bool}
+use Rattle.annex_base.proofs.Options.{first_some-was, option_or-was}
 
 -- the end that sends a frame
 abbrev pub from_end : FrameView → EndName
@@ -124,14 +126,14 @@ come_well s past lines sent (Crash clock) x = subst (Each (IsClose s past)) (sym
 come_well s past lines sent kind x = absurd x
 
 step_speaks : (s : SetUp) (past : List Entry) (k : Look) (m : Effect) → k.part < 2 ^ 62 → step s (state_of s past) k ≡ Some m → Speaks s past (entry_of s.number k m)
-step_speaks s past k m small e = elim (first_was (owed_step s (state_of s past) k) (Look.first_of (session_step s (state_of s past) k) (job_step s (state_of s past) k)) m e) [
+step_speaks s past k m small e = elim (option_or-was (owed_step s (state_of s past) k) (option_or (session_step s (state_of s past) k) (job_step s (state_of s past) k)) m e) [
   | inl o ↦ inl (owed_speaks s past k m (state_of s past).owed o)
-  | inr r ↦ inr (rest (first_was (session_step s (state_of s past) k) (job_step s (state_of s past) k) m r))
+  | inr r ↦ inr (rest (option_or-was (session_step s (state_of s past) k) (job_step s (state_of s past) k) m r))
 ]
   where
     rest : (session_step s (state_of s past) k ≡ Some m) ⊎ (job_step s (state_of s past) k ≡ Some m) → BySessionAt s past (entry_of s.number k m) ⊎ JobSpeaksAt s past (entry_of s.number k m)
     rest (inl x) =
-        let w = some_was (λ (c : ℕ × ℕ). session_at s (state_of s past) k (server_end c.0 c.1)) (served_connections s) m x in
+        let w = first_some-was (λ (c : ℕ × ℕ). session_at s (state_of s past) k (server_end c.0 c.1)) (served_connections s) m x in
         inl (w.0.0, w.0.1, w.1, session_here s past k small (server_end w.0.0 w.0.1) m w.2)
     rest (inr x) = inr (job_speaks_at s past k m x)
 

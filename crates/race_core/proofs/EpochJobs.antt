@@ -6,8 +6,9 @@ use Rattle.std.proofs.lemmas.Bool.{true≢false, and_parts, eqb-true}
 use Rattle.std.proofs.lemmas.List.{length-map}
 use Rattle.annex_base.specs.Lists.{Member}
 use Rattle.annex_base.specs.declared.kinds.Word.{Word}
-use Rattle.annex_base.proofs.Conditions.{eqb_refl}
+use Rattle.annex_base.proofs.Conditions.{eqb_refl, same_bool_is}
 use Rattle.annex_base.proofs.Lists.{Member-filter_parts, list_any_found}
+use Rattle.annex_base.specs.Bools.{same_bool}
 use Rattle.race_core.proofs.Below.{SentAreRead}
 use Rattle.run_data.specs.declared.entry.Entry.{Entry}
 use Rattle.run_data.specs.declared.entry.EntryKind.{EntryKind}
@@ -21,7 +22,7 @@ use Rattle.node_model.specs.Slots.{RunningJob, free_slot, job_of}
 use Rattle.node_model.specs.Rows.{option_is}
 use Rattle.run_model.specs.Frames.{Way, is_on, takes, up_of}
 use Rattle.race_core.proofs.Ways.{down_of}
-use Rattle.node_model.specs.Ends.{same_bool, End, EndName, end_took, is_opening, may_take, sent_at, server_end, taken_at}
+use Rattle.node_model.specs.Ends.{End, EndName, end_took, is_opening, may_take, sent_at, server_end, taken_at}
 use Rattle.node_model.specs.SetUp.{SetUp}
 use Rattle.run_model.specs.States.{end_at, works}
 use Rattle.node_model.specs.Jobs.{running_job}
@@ -39,7 +40,6 @@ use Rattle.race_core.proofs.Speaks.{hears, speaks}
 use Rattle.race_core.proofs.Makers.{who}
 use Rattle.race_core.proofs.OpenEnds.{alone_still, jobs_own, open_runs, opened_before, opens_or, session_still, stepped_job_runs, took_opened, used_slot}
 use Rattle.node_model.specs.Slots
-use Rattle.race_core.proofs.Plain.{same_both}
 
 -- the entry of a client sends or takes a frame of the connection
 abbrev pub uses : Way → Entry → Bool
@@ -84,7 +84,7 @@ uses_touches w e used = go (list_any (is_on (up_of w) w.server) e.sent) refl use
     go true is h =
         let g = list_any_found (is_on (up_of w) w.server) e.sent is in
         let x = on_parts (up_of w) w.server g.0 g.2 in
-        inl (g.0, g.1, (λ i. record { peer = x.peer_is i; slot = x.slot_is i; client = same_both g.0.up true x.side i }), x.epoch_is)
+        inl (g.0, g.1, (λ i. record { peer = x.peer_is i; slot = x.slot_is i; client = same_bool_is g.0.up true x.side i }), x.epoch_is)
     go false is h = took e.taken refl h
 
 -- ---- an entry of a job that touches a client's end is a step of the job in its slot

@@ -1,7 +1,7 @@
 -- What the judge of a removal read of the logs is what stood before the first step of its drop.
 use Rattle.std.proofs.Common.{◌≡◌, ℕ, Bool, true, false, ◌&&◌, List, [], ◌∷◌, Option, Some, None, inl, inr, refl, sym, ap, ◌∙◌, subst}
 use Rattle.std.specs.Prelude.{if◌then◌else◌, slice_get}
-use Rattle.std.specs.Option.{unwrap_or}
+use Rattle.std.specs.Option.{option_or, unwrap_or}
 use Rattle.std.proofs.lemmas.Option.{same_Some}
 use Rattle.annex_base.proofs.Conditions.{eqb_refl}
 use Rattle.race_core.proofs.Below.{SentAreRead}
@@ -9,7 +9,6 @@ use Rattle.run_data.specs.declared.entry.Entry.{Entry}
 use Rattle.run_data.specs.declared.run.Run.{Run}
 use Rattle.run_model.specs.Past.{Occurs, is_of}
 use Rattle.run_model.specs.Logs.{before_step, in_drop, is_step, read_at}
-use Rattle.node_model.specs.Look.{first_of}
 use Rattle.run_model.specs.Safety.{Removal, past_at}
 use Rattle.run_model.specs.Run.{IsRun}
 use Rattle.race_core.specs.Places.{removal_at}
@@ -49,7 +48,7 @@ stepped_first (e ∷ past) r j b h = go (λ k. stepped_first past r j b k) (befo
     now' none false q d is step drops k = absurd (cc)
 
     go : (before_step past r j ≡ Some b → Stepped past r j b) → (o : Option (List Entry)) → before_step past r j ≡ o
-        → first_of o (if is_of r e && (is_step j e.kind && in_drop past r j) then Some past else None) ≡ Some b → Stepped (e ∷ past) r j b
+        → option_or o (if is_of r e && (is_step j e.kind && in_drop past r j) then Some past else None) ≡ Some b → Stepped (e ∷ past) r j b
     go ih None is k = now' is (is_of r e) (is_step j e.kind) (in_drop past r j) refl refl refl k
     go ih (Some q) is k =
         let t = ih (is ∙ k) in

@@ -27,7 +27,7 @@ use Rattle.run_model.specs.Past.{holds, is_of}
 use Rattle.node_model.specs.Rows.{is_lost_ordered}
 use Rattle.node_model.specs.Evidence.{Standing, Asked}
 use Rattle.run_model.specs.Logs.{before_step, has_stepped, in_drop, is_step}
-use Rattle.node_model.specs.Look.{first_of, Effect}
+use Rattle.node_model.specs.Look.{Effect}
 use Rattle.annex_base.specs.Calls.{same_call}
 use Rattle.race_core.proofs.Below.{SentAreRead}
 use Rattle.p2p_wire.specs.declared.message.Message.TheVariants.{Put}
@@ -55,6 +55,7 @@ use Rattle.race_core.proofs.GetsBegin.{no_release, owns_none, unasked_unheld, un
 use Rattle.race_core.proofs.BySteps.{earlier}
 use Rattle.race_core.proofs.NotDropping.{if_none, undropped_unread}
 use Rattle.std.proofs.lemmas.Bool.{or_parts}
+use Rattle.std.specs.Option.{option_or}
 
 -- a job that is to begin its part, at another phase afterwards
 abbrev pub at_start : Part → Turn → Turn
@@ -239,7 +240,7 @@ puts_unstepped reads_back s past h w m part fresh =
 abbrev pub MovesLate : SetUp → Type 0
 MovesLate s = (past : List Entry) (e : Entry) → OwnPast s (e ∷ past) → is_of s.number e ≡ true → (w : Work) (x : Steps s past e w) → x.by.w.part ≡ Puts → w.part ≡ Drops → in_drop past s.number x.by.w.number ≡ false
 
-none_of : {X : Type 0} (a b : Option X) → a ≡ None → b ≡ None → first_of a b ≡ None
+none_of : {X : Type 0} (a b : Option X) → a ≡ None → b ≡ None → option_or a b ≡ None
 none_of a b p q = rw (p, q) refl
 
 in_next : (past : List Entry) (e : Entry) (r j : ℕ) → in_drop past r j ≡ false → before_step (e ∷ past) r j ≡ None

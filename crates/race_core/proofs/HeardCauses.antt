@@ -5,10 +5,12 @@ use Rattle.std.proofs.Common.{◌≡◌, ◌≢◌, ℕ, Bool, true, false, List
 use Rattle.std.specs.Prelude.{if◌then◌else◌, ◌==◌, ◌&&◌, ◌||◌, fold, map, not, option_map}
 use Rattle.std.specs.List.{list_any}
 use Rattle.std.proofs.lemmas.Bool.{true≢false, and_parts, eqb-true}
+use Rattle.std.specs.Option.{option_or}
 use Rattle.annex_base.specs.Lists.{Member}
 use Rattle.annex_base.specs.declared.kinds.Word.{Word}
-use Rattle.annex_base.proofs.Conditions.{eqb_refl}
+use Rattle.annex_base.proofs.Conditions.{eqb_refl, same_bool_is}
 use Rattle.annex_base.proofs.Lists.{Member-filter_parts, list_any_member}
+use Rattle.annex_base.specs.Bools.{same_bool}
 use Rattle.race_core.proofs.Below.{SentAreRead}
 use Rattle.run_data.specs.declared.entry.By.TheVariants.{Script}
 use Rattle.run_data.specs.declared.entry.Entry.{Entry}
@@ -23,8 +25,7 @@ use Rattle.p2p_wire.specs.declared.message.Message.TheVariants.{Failure}
 use Rattle.run_model.specs.Said.{Said, is_close, message_in}
 use Rattle.run_model.specs.Past.{is_of, jobs}
 use Rattle.run_model.specs.Frames.{is_job, last_request, said_of, up_of, way_of}
-use Rattle.node_model.specs.Ends.{same_bool, EndName, End, end_after, end_sends, end_takes, end_took, frames, sends_at, sent_at, taken_at, takes_at}
-use Rattle.node_model.specs.Look.{first_of}
+use Rattle.node_model.specs.Ends.{EndName, End, end_after, end_sends, end_takes, end_took, frames, sends_at, sent_at, taken_at, takes_at}
 use Rattle.run_model.specs.Drops.{cause_closed, cause_said, cause_taken, cause_with, in_slot, newer_cause, option_is_none, or_closed, shuts}
 use Rattle.race_core.proofs.Heard.{heard_cause}
 use Rattle.race_core.proofs.SaidDown.{said_is, said_closing}
@@ -43,14 +44,13 @@ use Rattle.race_core.proofs.WorkNumbers.{same_slot_same_work}
 use Rattle.race_core.proofs.JobSteps.{Stepped, stepped_runs}
 use Rattle.race_core.proofs.ClientRuns.{client_end}
 use Rattle.race_core.proofs.Speaks
-use Rattle.race_core.proofs.Plain.{same_both}
 
 -- ---- a cause stays
 
 abbrev pub Told : List Entry → ℕ → ℕ → ℕ → Type 0
 Told past a j r = option_is_none (heard_cause past a j r) ≡ false
 
-newer_some : (c o x : Option Cause) → option_is_none o ≡ false → option_is_none (newer_cause c (first_of o x)) ≡ false
+newer_some : (c o x : Option Cause) → option_is_none o ≡ false → option_is_none (newer_cause c (option_or o x)) ≡ false
 newer_some None None x e = absurd (cc)
 newer_some None (Some o) x e = refl
 newer_some (Some c) o x e = refl
@@ -65,7 +65,7 @@ newer_first (Some c) o e = refl
 pub told_now : (past : List Entry) (e : Entry) (a j r : ℕ) → option_is_none (cause_with past e r a j None) ≡ false → Told (e ∷ past) a j r
 told_now past e a j r h = newer_first (cause_with past e r a j None) (or_closed past e r a j (heard_cause past a j r)) h
 
-newer_last : (c o x : Option Cause) → option_is_none x ≡ false → option_is_none (newer_cause c (first_of o x)) ≡ false
+newer_last : (c o x : Option Cause) → option_is_none x ≡ false → option_is_none (newer_cause c (option_or o x)) ≡ false
 newer_last (Some c) o x e = refl
 newer_last None (Some o) x e = refl
 newer_last None None None e = absurd (cc)
@@ -181,7 +181,7 @@ pub client_sent : (peer slot : ℕ) (g : FrameView) → sends_at (client_end pee
 client_sent peer slot g e =
     let two = and_parts ((g.peer == peer) && (g.slot == slot)) (same_bool g.up true) e in
     let one = and_parts (g.peer == peer) (g.slot == slot) two.0 in
-    (eqb-true g.peer peer one.0, eqb-true g.slot slot one.1, same_both g.up true two.1)
+    (eqb-true g.peer peer one.0, eqb-true g.slot slot one.1, same_bool_is g.up true two.1)
 
 closing_closes : (body : FrameText) → body ≡ Closing → is_close (message_in body) ≡ true
 closing_closes body is = ap (λ b. is_close (message_in b)) is ∙ ap is_close said_closing

@@ -6,6 +6,7 @@ use Rattle.std.proofs.lemmas.Option.{same_Some}
 use Rattle.annex_base.specs.Lists.{Member}
 use Rattle.annex_base.specs.declared.kinds.Word.{Word}
 use Rattle.annex_base.proofs.Conditions.{and_first, eqb_refl}
+use Rattle.annex_base.specs.Bools.{same_bool}
 use Rattle.race_core.proofs.Below.{SentAreRead}
 use Rattle.run_data.specs.declared.entry.By.TheVariants.{Script, Job as by_job, Peer}
 use Rattle.run_data.specs.declared.entry.Entry.{Entry}
@@ -19,7 +20,6 @@ use Rattle.run_model.specs.Past.{is_of}
 use Rattle.node_model.specs.Rows.{option_is}
 use Rattle.run_model.specs.Frames.{is_job, last_request, up_of, way_of}
 use Rattle.node_model.specs.Slots.{job_of}
-use Rattle.node_model.specs.Ends.{same_bool}
 use Rattle.run_model.specs.Logs.{is_step}
 use Rattle.race_core.proofs.Heard.{Heard, heard_answer, heard_frame, heard_kind, hears}
 use Rattle.race_core.proofs.SaidDown.{is_said, said_is}
@@ -27,7 +27,7 @@ use Rattle.race_core.proofs.HeardAgrees.{by_phase, takes_other, takes_success}
 use Rattle.node_model.specs.SetUp.{SetUp}
 use Rattle.node_model.specs.Sessions.{line_in}
 use Rattle.node_model.specs.Jobs
-use Rattle.node_model.specs.Jobs.{AsksLock, AsksLook, Drops, Gets, Held, Part, Phase, Puts, Seen, Work, work_kind}
+use Rattle.node_model.specs.Jobs.{AsksLock, AsksLook, Held, Phase, Seen, Work, work_kind}
 use Rattle.run_model.specs.States.{rows_at, works}
 use Rattle.node_model.specs.Look.{Effect, entry_of}
 use Rattle.node_model.specs.JobStep.{Turn, end_with, hears as hears_it, talk}

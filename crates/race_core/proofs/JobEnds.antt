@@ -7,6 +7,7 @@ use Rattle.annex_base.specs.Lists.{Each}
 use Rattle.annex_base.specs.declared.kinds.Call.{Call}
 use Rattle.annex_base.proofs.Conditions.{if_either}
 use Rattle.annex_base.specs.declared.kinds.Call.TheVariants as calls
+use Rattle.annex_base.proofs.Options.{first_some-was}
 use Rattle.drop_proof.specs.declared.rule.Side.{Side}
 use Rattle.drop_proof.specs.declared.rule.Side.TheVariants.{Local, Remote}
 use Rattle.run_data.specs.declared.entry.EntryKind.{EntryKind}
@@ -40,7 +41,7 @@ use Rattle.node_model.specs.Requests.{asks, goes_to}
 use Rattle.node_model.specs.TransferStep.{content_of, first_get, first_put, gains, next_get, next_source, puts_from, puts_piece, takes_bytes, takes_get, takes_put}
 use Rattle.node_model.specs.Turns.{awaits, by_partner, first_step, goes, goes_on, has_room, is_awaiting, job_step, judges, needs, next_step, outcome_of, slot_step, takes, takes_answer, takes_frame, takes_text, with_partner}
 use Rattle.race_core.proofs.EndMoves.{sends_epoch}
-use Rattle.race_core.proofs.Cases.{some_was, unless_found}
+use Rattle.race_core.proofs.Cases.{unless_found}
 use Rattle.race_core.proofs.ServerEnds.{each_flat}
 
 -- a frame at an end that stands so: of its epoch while it is open, or the Opening of the next where it is closed
@@ -304,5 +305,5 @@ slot_says s st k slot m (Some w) is e = record { w = w; slot = slot; runs = is; 
 
 pub job_speaks : (s : SetUp) (st : State) (k : Look) (m : Effect) → job_step s st k ≡ Some m → JobSpeaks s st k m
 job_speaks s st k m e =
-    let x = some_was (λ slot. slot_step s st k (find (λ w. w.slot == slot) st.works)) slots m e in
+    let x = first_some-was (λ slot. slot_step s st k (find (λ w. w.slot == slot) st.works)) slots m e in
     slot_says s st k x.0 m (find (λ w. w.slot == x.0) st.works) refl x.2

@@ -8,6 +8,7 @@ use Rattle.annex_base.specs.declared.kinds.Call.{Call}
 use Rattle.annex_base.proofs.Lists.{find_member}
 use Rattle.annex_base.proofs.Conditions.{if_either}
 use Rattle.annex_base.specs.declared.kinds.Call.TheVariants as calls
+use Rattle.annex_base.proofs.Options.{first_some-was}
 use Rattle.drop_proof.specs.declared.rule.Side.{Side}
 use Rattle.drop_proof.specs.declared.rule.Side.TheVariants.{Local, Remote}
 use Rattle.run_data.specs.declared.entry.EntryKind.TheVariants.{Fault, Gone, End as ends_job}
@@ -39,7 +40,7 @@ use Rattle.node_model.specs.Requests.{asks, goes_to}
 use Rattle.node_model.specs.TransferStep.{takes_get, takes_put, content_of, first_get, first_put, gains, next_get, next_source, puts_from, puts_piece, takes_bytes}
 use Rattle.node_model.specs.Turns.{takes_answer, awaits, by_partner, goes_on, has_room, job_step, needs, slot_step, with_partner, is_awaiting, first_step, goes, judges, next_step, outcome_of, takes, takes_frame, takes_text}
 use Rattle.node_model.specs.Found.{ByJob, FirstLocal, HasDeadline, IsAsked, JobFound, IsJobEntry, JobTakes, FindsOutcome, HasOutcome}
-use Rattle.race_core.proofs.Cases.{TakesAtHand, some_was, takes_none, takes_one, unless_found}
+use Rattle.race_core.proofs.Cases.{TakesAtHand, takes_none, takes_one, unless_found}
 
 -- ---- what all jobs share
 
@@ -439,7 +440,7 @@ slot_found s st k slot m (Some w) is e =
 
 pub job_found : (s : SetUp) (st : State) (k : Look) (m : Effect) → job_step s st k ≡ Some m → ByJob s st k m
 job_found s st k m e =
-    let x = some_was (λ slot. slot_step s st k (find (λ w. w.slot == slot) st.works)) slots m e in
+    let x = first_some-was (λ slot. slot_step s st k (find (λ w. w.slot == slot) st.works)) slots m e in
     slot_found s st k x.0 m (find (λ w. w.slot == x.0) st.works) refl x.2
 
 slot_at_hand : (s : SetUp) (st : State) (k : Look) (m : Effect) (w : Option Work) → slot_step s st k w ≡ Some m → TakesAtHand k m
@@ -448,5 +449,5 @@ slot_at_hand s st k m (Some w) e = (partner_found (turn_of s st k w) m (partner 
 
 pub job_at_hand : (s : SetUp) (st : State) (k : Look) (m : Effect) → job_step s st k ≡ Some m → TakesAtHand k m
 job_at_hand s st k m e =
-    let x = some_was (λ slot. slot_step s st k (find (λ w. w.slot == slot) st.works)) slots m e in
+    let x = first_some-was (λ slot. slot_step s st k (find (λ w. w.slot == slot) st.works)) slots m e in
     slot_at_hand s st k m (find (λ w. w.slot == x.0) st.works) x.2

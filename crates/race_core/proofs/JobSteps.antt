@@ -3,12 +3,14 @@ use Rattle.std.proofs.Common.{◌≡◌, ◌≢◌, ℕ, Bool, true, false, List
 use Rattle.std.specs.Prelude.{◌<◌, ◌^◌, if◌then◌else◌, ◌==◌, find, map, not}
 use Rattle.std.proofs.lemmas.Bool.Decides.{nat_tests}
 use Rattle.std.proofs.lemmas.Bool.{eqb-true}
+use Rattle.std.specs.Option.{option_or}
 use Rattle.annex_base.specs.Lists.{Member}
 use Rattle.annex_base.specs.declared.kinds.Call.{Call}
 use Rattle.annex_base.specs.declared.kinds.Call.TheVariants.{PutFile}
 use Rattle.annex_base.specs.declared.kinds.Word.{Word}
 use Rattle.annex_base.proofs.Lists.{Member-filter_parts, find_member}
 use Rattle.annex_base.proofs.Conditions.{eqb_apart}
+use Rattle.annex_base.proofs.Options.{first_some-was, option_or-was}
 use Rattle.run_data.specs.declared.entry.By.{By}
 use Rattle.run_data.specs.declared.entry.By.TheVariants.{Script}
 use Rattle.run_data.specs.declared.entry.Entry.{Entry}
@@ -35,12 +37,10 @@ use Rattle.node_model.specs.OwedStep.{owed_step}
 use Rattle.node_model.specs.Turns.{job_step, slot_step}
 use Rattle.run_model.specs.Run.{IsStep, OwnPart, OwnRun}
 use Rattle.node_model.specs.Found.{IsJobEntry, IsSessionEntry}
-use Rattle.race_core.proofs.Cases.{first_was, some_was}
 use Rattle.race_core.proofs.SessionFacts.{session_found}
 use Rattle.race_core.proofs.JobFacts.{MadeBy, partner_found}
 use Rattle.race_core.proofs.StepFacts.{pays_found}
 use Rattle.race_core.proofs.WorkNumbers.{same_number_same_work}
-use Rattle.node_model.specs.Look
 use Rattle.race_core.proofs.Plain.{member_mapped}
 
 -- the job in a slot made the entry
@@ -105,9 +105,9 @@ owed_no_job s past look made e j = elim ((pays_found s (state_of s past) look ma
 -- who made a step: an owed line, a session, or a job
 pub step_made : (s : SetUp) (past : List Entry) (words : ℕ → Option Word) (e : Entry) (x : IsStep s past words e)
     → (owed_step s (state_of s past) x.look ≡ Some x.made) ⊎ ((session_step s (state_of s past) x.look ≡ Some x.made) ⊎ Stepped s past e)
-step_made s past words e x = elim (first_was (owed_step s (state_of s past) x.look) (Look.first_of (session_step s (state_of s past) x.look) (job_step s (state_of s past) x.look)) x.made x.makes) [
+step_made s past words e x = elim (option_or-was (owed_step s (state_of s past) x.look) (option_or (session_step s (state_of s past) x.look) (job_step s (state_of s past) x.look)) x.made x.makes) [
   | inl o ↦ inl o
-  | inr r ↦ inr (elim (first_was (session_step s (state_of s past) x.look) (job_step s (state_of s past) x.look) x.made r) [ inl g ↦ inl g | inr g ↦ inr (by_job g) ])
+  | inr r ↦ inr (elim (option_or-was (session_step s (state_of s past) x.look) (job_step s (state_of s past) x.look) x.made r) [ inl g ↦ inl g | inr g ↦ inr (by_job g) ])
 ]
   where
     by_slot : (slot : ℕ) (w : Option Work) → find (λ w. w.slot == slot) (works past s.number) ≡ w → slot_step s (state_of s past) x.look w ≡ Some x.made → Stepped s past e
@@ -116,7 +116,7 @@ step_made s past words e x = elim (first_was (owed_step s (state_of s past) x.lo
 
     by_job : job_step s (state_of s past) x.look ≡ Some x.made → Stepped s past e
     by_job g =
-        let y = some_was (λ slot. slot_step s (state_of s past) x.look (find (λ w. w.slot == slot) (works past s.number))) slots x.made g in
+        let y = first_some-was (λ slot. slot_step s (state_of s past) x.look (find (λ w. w.slot == slot) (works past s.number))) slots x.made g in
         by_slot y.0 (find (λ w. w.slot == y.0) (works past s.number)) refl y.2
 
 -- an entry is one of no job, or a job made it

@@ -9,6 +9,7 @@ use Rattle.run_model.specs.States.{end_at, state_of, works}
 use Rattle.node_model.specs.Found.{JobTakes}
 use Rattle.node_model.specs.Turns.{is_awaiting}
 use Rattle.annex_base.specs.declared.kinds.Word.{Word}
+use Rattle.annex_base.proofs.Options.{first_some-was}
 use Rattle.run_data.specs.declared.entry.Entry.{Entry}
 use Rattle.node_model.specs.SetUp.{SetUp, served_connections}
 use Rattle.node_model.specs.SessionStep.{here, session_at, session_step}
@@ -16,7 +17,6 @@ use Rattle.node_model.specs.Jobs.{Work, job_end, partner}
 use Rattle.node_model.specs.OwedStep.{owed_step}
 use Rattle.node_model.specs.Look.{Effect}
 use Rattle.run_model.specs.Run.{ComesAnyTime, IsStep, OwnPart}
-use Rattle.race_core.proofs.Cases.{some_was}
 use Rattle.race_core.proofs.SessionFacts.{session_found}
 use Rattle.race_core.proofs.StepFacts.{pays_found}
 use Rattle.race_core.proofs.ServerEnds.{BySessionAt, GivesHere, TakesHere, session_here}
@@ -46,7 +46,7 @@ who s past words e own = elim (own.does) [
     by_session : (x : IsStep s past words e) → session_step s (state_of s past) x.look ≡ Some x.made → OfNoJob e.kind × BySessionAt s past e
     by_session x g =
         let y = session_found s (state_of s past) x.look x.made g in
-        let w = some_was (λ (c : ℕ × ℕ). session_at s (state_of s past) x.look (server_end c.0 c.1)) (served_connections s) x.made g in (
+        let w = first_some-was (λ (c : ℕ × ℕ). session_at s (state_of s past) x.look (server_end c.0 c.1)) (served_connections s) x.made g in (
           kind_of x (session_no_job (here s (state_of s past) x.look (server_end y.peer y.slot)) ((state_of s past).sessions (server_end y.peer y.slot)).doing y.asked y.says x.made.kind y.found),
           subst (BySessionAt s past) (sym x.is) (w.0.0, w.0.1, w.1, session_here s past x.look x.part_small (server_end w.0.0 w.0.1) x.made w.2),
         )

@@ -2,25 +2,26 @@
 use Rattle.std.proofs.Common.{◌≡◌, ℕ, Bool, true, false, Option, Some, None, inl, inr, refl, sym, ap, ◌∙◌, subst, true≢false}
 use Rattle.std.specs.Prelude.{if◌then◌else◌, ◌==◌, ◌&&◌}
 use Rattle.std.proofs.lemmas.Bool.{and_parts, eqb-true}
+use Rattle.std.specs.Option.{option_or}
 use Rattle.annex_base.specs.Lists.{Member}
 use Rattle.annex_base.proofs.Lists.{Each-member}
+use Rattle.annex_base.proofs.Conditions.{same_bool_is}
+use Rattle.annex_base.proofs.Options.{first_some-was, option_or-was}
 use Rattle.run_data.specs.declared.entry.FrameView.{FrameView}
 use Rattle.node_model.specs.Ends.{EndName, end_takes, is_opening, sends_at, server_end}
 use Rattle.node_model.specs.Jobs.{job_end}
 use Rattle.node_model.specs.JobStep.{turn_of}
-use Rattle.node_model.specs.Look.{Look, Effect, first_of, waiting_frame}
+use Rattle.node_model.specs.Look.{Look, Effect, waiting_frame}
 use Rattle.node_model.specs.OwedStep.{owed_step}
 use Rattle.node_model.specs.SessionStep.{Reply, gives_made, gives_next, here, on_frame, reply_made, session_at, session_makes, session_step}
 use Rattle.node_model.specs.SetUp.{SetUp, served_connections}
 use Rattle.node_model.specs.State.{State}
 use Rattle.node_model.specs.Step.{step}
 use Rattle.node_model.specs.Turns.{job_step}
-use Rattle.race_core.proofs.Cases.{first_was, some_was}
 use Rattle.race_core.proofs.Counting.{gives_counts}
 use Rattle.race_core.proofs.EndEpochs.{from_end}
 use Rattle.race_core.proofs.EndMoves.{OpensNone, frame_none, frames_none, pieces_none}
 use Rattle.race_core.proofs.JobEnds.{JobSays, JobSpeaks, job_speaks}
-use Rattle.race_core.proofs.Plain.{same_both}
 use Rattle.race_core.proofs.ServerEnds.{end_path}
 use Rattle.race_core.proofs.StepFacts.{pays_found}
 
@@ -53,7 +54,7 @@ module _ (s : SetUp) (st : State) (k : Look) (m : Effect) where
 
   session_none : session_step s st k ≡ Some m → OpensNone m.sent
   session_none e =
-      let x = some_was (λ (c : ℕ × ℕ). session_at s st k (server_end c.0 c.1)) (served_connections s) m e in
+      let x = first_some-was (λ (c : ℕ × ℕ). session_at s st k (server_end c.0 c.1)) (served_connections s) m e in
       at_none (server_end x.0.0 x.0.1) x.2
 
 -- ---- the end at which a frame is sent
@@ -62,7 +63,7 @@ sends_end : (a : EndName) (g : FrameView) → sends_at a g ≡ true → from_end
 sends_end a g e =
     let two = and_parts ((g.peer == a.peer) && (g.slot == a.slot)) _ e in
     let one = and_parts (g.peer == a.peer) (g.slot == a.slot) two.0 in
-    end_path g.peer g.slot g.up a (eqb-true g.peer a.peer one.0) (eqb-true g.slot a.slot one.1) (same_both g.up a.client two.1)
+    end_path g.peer g.slot g.up a (eqb-true g.peer a.peer one.0) (eqb-true g.slot a.slot one.1) (same_bool_is g.up a.client two.1)
 
 -- ---- the step
 
@@ -83,12 +84,12 @@ job_opens s st k m g a x among at opens = go (Each-member (JobSays (turn_of s st
         own y i = record { peer = g.peer; slot = sym y.1 i; client = sym y.0 i }
 
 pub step_opens : (s : SetUp) (st : State) (k : Look) (m : Effect) (g : FrameView) (a : EndName) → step s st k ≡ Some m → Member g m.sent → sends_at a g ≡ true → is_opening g.body ≡ true → MayOpen st a
-step_opens s st k m g a e among at opens = elim (first_was (owed_step s st k) (first_of (session_step s st k) (job_step s st k)) m e) [
+step_opens s st k m g a e among at opens = elim (option_or-was (owed_step s st k) (option_or (session_step s st k) (job_step s st k)) m e) [
   | inl o ↦ elim ((pays_found s st k m st.owed refl o).writes) [
     | inl w ↦ absurd (subst (λ (y : Effect). Member g y.sent) w among)
     | inr w ↦ absurd (subst (λ (y : Effect). Member g y.sent) w among)
   ]
-  | inr r ↦ elim (first_was (session_step s st k) (job_step s st k) m r) [
+  | inr r ↦ elim (option_or-was (session_step s st k) (job_step s st k) m r) [
     | inl x ↦ absurd (true≢false (sym opens ∙ Each-member (λ (h : FrameView). is_opening h.body ≡ false) m.sent g (session_none s st k m x) among))
     | inr x ↦ job_opens s st k m g a (job_speaks s st k m x) among at opens
   ]

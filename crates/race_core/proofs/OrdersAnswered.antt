@@ -3,11 +3,13 @@
 use Rattle.std.proofs.Common.{◌≡◌, ℕ, ◌+◌, ◌≤◌, Bool, true, false, List, [], ◌∷◌, length, Option, Some, None, ◌⊎◌, inl, inr, refl, sym, ap, ◌∙◌, subst, arith}
 use Rattle.std.specs.Prelude.{◌==◌, if◌then◌else◌, ◌&&◌, filter, find, fold}
 use Rattle.std.proofs.lemmas.Bool.{and_parts, eqb-true}
+use Rattle.std.specs.Option.{option_or}
 use Rattle.annex_base.specs.Lists.{Each, Member}
 use Rattle.annex_base.specs.declared.kinds.Call.TheVariants.{Unhold}
 use Rattle.annex_base.specs.declared.kinds.Word.{Word}
 use Rattle.annex_base.proofs.Lists.{Each-filter, Each-member, Member-filter_from, find_member, filter_none}
 use Rattle.annex_base.proofs.Conditions.{eqb_refl}
+use Rattle.annex_base.proofs.Options.{first_some-was, option_or-was}
 use Rattle.race_core.proofs.Below.{SentAreRead}
 use Rattle.drop_proof.specs.declared.rule.Side.TheVariants.{Remote}
 use Rattle.run_data.specs.declared.entry.Entry.{Entry}
@@ -24,7 +26,7 @@ use Rattle.node_model.specs.Slots.{RunningJob, job_of}
 use Rattle.node_model.specs.Rows.{is_lost_ordered, option_is}
 use Rattle.run_model.specs.Past.{is_of}
 use Rattle.run_model.specs.Frames.{Way, requests, says, taken_if, up_of, way_of}
-use Rattle.node_model.specs.Look.{first_of, Effect, entry_of}
+use Rattle.node_model.specs.Look.{Effect, entry_of}
 use Rattle.run_model.specs.Logs.{is_step}
 use Rattle.p2p_wire.specs.declared.message.Message.{Message}
 use Rattle.p2p_wire.specs.Messages.{order_of, text_of}
@@ -35,14 +37,13 @@ use Rattle.node_model.specs.Sessions.{line_in}
 use Rattle.node_model.specs.Ends.{End, EndName, end_after, end_sends, end_takes, end_took, frames, sends_at, sent_at, taken_at, takes_at}
 use Rattle.run_model.specs.States.{end_at, rows_at, works, state_of}
 use Rattle.node_model.specs.Jobs
-use Rattle.node_model.specs.Jobs.{Denied, Drops, Ends, Gets, Orders, Part, Phase, Puts, Removed, Work, job_end, partner, running_job, side_of, talks, talks_on, work_kind}
+use Rattle.node_model.specs.Jobs.{Denied, Drops, Ends, Orders, Phase, Removed, Work, job_end, partner, side_of, talks, talks_on, work_kind}
 use Rattle.node_model.specs.OwedStep.{owed_step}
 use Rattle.node_model.specs.SessionStep.{session_step}
 use Rattle.node_model.specs.JobStep.{Turn, by_me, end_with, me, talk, turn_of}
 use Rattle.node_model.specs.Turns.{by_partner, job_step, outcome_of, slot_step, takes_frame}
 use Rattle.run_model.specs.Run.{IsStep, OwnPart, OwnPast, OwnRun}
 use Rattle.node_model.specs.Found.{ByJob, ByOwed, GivesOrder, IsJobEntry}
-use Rattle.race_core.proofs.Cases.{first_was, some_was}
 use Rattle.race_core.proofs.ServerEnds.{come_closes, sent_same}
 use Rattle.race_core.proofs.WayCounts.{hits, in_count, in_other, one_if, out_count, out_other}
 use Rattle.race_core.proofs.SaidDown.{said_closing}
@@ -194,9 +195,9 @@ stays_idle s past words e w g run own ran still stands = elim (own.does) [
 ]
   where
     stepped : (x : IsStep s past words e) → IdleAt w.slot (entry_of s.number x.look x.made)
-    stepped x = elim (first_was (owed_step s (state_of s past) x.look) (first_of (session_step s (state_of s past) x.look) (job_step s (state_of s past) x.look)) x.made x.makes) [
+    stepped x = elim (option_or-was (owed_step s (state_of s past) x.look) (option_or (session_step s (state_of s past) x.look) (job_step s (state_of s past) x.look)) x.made x.makes) [
       | inl o ↦ owed (pays_found s (state_of s past) x.look x.made (state_of s past).owed refl o)
-      | inr r ↦ elim (first_was (session_step s (state_of s past) x.look) (job_step s (state_of s past) x.look) x.made r) [
+      | inr r ↦ elim (option_or-was (session_step s (state_of s past) x.look) (job_step s (state_of s past) x.look) x.made r) [
         | inl h ↦ session_idle s (state_of s past) x.look x.made (session_found s (state_of s past) x.look x.made h) w.slot
         | inr h ↦ job h
       ]
@@ -226,7 +227,7 @@ stays_idle s past words e w g run own ran still stands = elim (own.does) [
 
         job : job_step s (state_of s past) x.look ≡ Some x.made → IdleAt w.slot (entry_of s.number x.look x.made)
         job h =
-            let y = some_was (λ slot. slot_step s (state_of s past) x.look (find (λ v. v.slot == slot) (works past s.number))) slots x.made h in
+            let y = first_some-was (λ slot. slot_step s (state_of s past) x.look (find (λ v. v.slot == slot) (works past s.number))) slots x.made h in
             by_slot y.0 (find (λ v. v.slot == y.0) (works past s.number)) refl y.2
 
 -- ---- the step by which a job orders

@@ -2,8 +2,9 @@
 -- that has these entries in this order.
 use Rattle.std.proofs.Common.{◌≡◌, ℕ, Bool, true, false, not, cond, ◌&&◌, ◌||◌, List, [], ◌∷◌, ◌++◌, Option, Some, None, ◌⊎◌, inl, inr, refl, sym, ap, ◌∙◌, subst}
 use Rattle.std.specs.Prelude.{filter, map, option_map, if◌then◌else◌}
-use Rattle.std.specs.Option.{unwrap_or}
+use Rattle.std.specs.Option.{option_or, unwrap_or}
 use Rattle.std.proofs.lemmas.List.{map-append}
+use Rattle.annex_base.proofs.Options.{option_or-none}
 use Rattle.run_data.specs.declared.entry.Entry.{Entry}
 use Rattle.run_data.specs.declared.entry.EntryKind.{EntryKind}
 use Rattle.run_data.specs.declared.entry.FrameView.{FrameView}
@@ -14,7 +15,6 @@ use Rattle.run_model.specs.Said.{Said, is_request, message_in}
 use Rattle.run_model.specs.Frames.{FlyingFrame, Way, flying_frame, last_of, last_request, said_of, on_way, requests, says, sender_of, frames_sent, sent_if, up_of, way_of}
 use Rattle.trust_groups.specs.Settings.{settings}
 use Rattle.run_model.specs.Logs.{added_by, before_step, ends_transfer, lines_ever, has_it, has_stepped, hears_has_it, in_drop, is_quiet, is_step, read_at, settings_of, starts_drop}
-use Rattle.node_model.specs.Look.{first_of}
 
 -- the entries of r
 abbrev pub mine : ℕ → List Entry → List Entry
@@ -159,26 +159,22 @@ own_in_drop r j past = own_by r (λ p. in_drop p r j)
     (λ e p is. or_nothing (in_drop p r j) (is_of r e && starts_drop p r j e e.kind) (rw is refl))
     (λ e p is ih. ap (λ b. b || (is_of r e && starts_drop p r j e e.kind)) ih ∙ ap (λ b. in_drop (mine r p) r j || (is_of r e && b)) (own_starts r j e e.kind p)) past
 
-pub first_none : {X : Type 0} (o : Option X) → first_of o None ≡ o
-first_none None = refl
-first_none (Some x) = refl
-
 pub own_before : (r j : ℕ) (past : List Entry) → before_step (mine r past) r j ≡ option_map (mine r) (before_step past r j)
 own_before r j [] = refl
 own_before r j (e ∷ past) = go (own_before r j past) (is_of r e) refl
   where
-    here : (o : Option (List Entry)) (b : Bool) → first_of (option_map (mine r) o) (if b then Some (mine r past) else None) ≡ option_map (mine r) (first_of o (if b then Some past else None))
+    here : (o : Option (List Entry)) (b : Bool) → option_or (option_map (mine r) o) (if b then Some (mine r past) else None) ≡ option_map (mine r) (option_or o (if b then Some past else None))
     here None true = refl
     here None false = refl
     here (Some x) b = refl
 
     go : before_step (mine r past) r j ≡ option_map (mine r) (before_step past r j) → (b : Bool) → is_of r e ≡ b
-        → before_step (cond b (e ∷ mine r past) (mine r past)) r j ≡ option_map (mine r) (first_of (before_step past r j) (if b && (is_step j e.kind && in_drop past r j) then Some past else None))
-    go ih true is = ap (λ o. first_of (before_step (mine r past) r j) (if o && (is_step j e.kind && in_drop (mine r past) r j) then Some (mine r past) else None)) is
-        ∙ ap (λ o. first_of o (if is_step j e.kind && in_drop (mine r past) r j then Some (mine r past) else None)) ih
-        ∙ ap (λ b. first_of (option_map (mine r) (before_step past r j)) (if is_step j e.kind && b then Some (mine r past) else None)) (sym (own_in_drop r j past))
+        → before_step (cond b (e ∷ mine r past) (mine r past)) r j ≡ option_map (mine r) (option_or (before_step past r j) (if b && (is_step j e.kind && in_drop past r j) then Some past else None))
+    go ih true is = ap (λ o. option_or (before_step (mine r past) r j) (if o && (is_step j e.kind && in_drop (mine r past) r j) then Some (mine r past) else None)) is
+        ∙ ap (λ o. option_or o (if is_step j e.kind && in_drop (mine r past) r j then Some (mine r past) else None)) ih
+        ∙ ap (λ b. option_or (option_map (mine r) (before_step past r j)) (if is_step j e.kind && b then Some (mine r past) else None)) (sym (own_in_drop r j past))
         ∙ here (before_step past r j) (is_step j e.kind && in_drop past r j)
-    go ih false is = ih ∙ ap (option_map (mine r)) (sym (first_none (before_step past r j)))
+    go ih false is = ih ∙ ap (option_map (mine r)) (sym (option_or-none (before_step past r j)))
 
 own_read : (r j : ℕ) (past : List Entry) → read_at (mine r past) r j ≡ mine r (read_at past r j)
 own_read r j past = ap (λ o. unwrap_or o (mine r past)) (own_before r j past) ∙ out (before_step past r j)

@@ -2,11 +2,12 @@
 use Rattle.std.proofs.Common.{◌≡◌, ℕ, Bool, true, false, List, [], ◌∷◌, Option, Some, None, refl, ap, ◌∙◌}
 use Rattle.std.specs.Prelude.{◌+◌, ◌-◌, ◌/◌, ◌^◌, length, slice_get, ◌&&◌, ◌==◌, find, flat_map, if◌then◌else◌, nat_le, nat_lt, not}
 use Rattle.std.specs.List.{list_all}
-use Rattle.std.specs.Option.{option_to_list}
+use Rattle.std.specs.Option.{option_or, option_to_list}
 use Rattle.annex_base.specs.Lists.{Member}
 use Rattle.annex_base.proofs.Lists.{find_member}
 use Rattle.annex_base.proofs.Functions.{funext}
 use Rattle.annex_base.specs.declared.kinds.Call.TheVariants as calls
+use Rattle.annex_base.specs.OptionSteps.{first_some}
 use Rattle.drop_proof.specs.declared.rule.Side.{Side}
 use Rattle.drop_proof.specs.declared.rule.Side.TheVariants.{Local, Remote}
 use Rattle.run_data.specs.declared.entry.FrameView.{FrameView}
@@ -21,7 +22,7 @@ use Rattle.run_data.specs.Repos.{id_of}
 use Rattle.run_data.specs.declared.job.Outcome.{Outcome}
 use Rattle.node_model.specs.Rows.{is_lost_ordered}
 use Rattle.node_model.specs.Evidence.{Standing, Asked}
-use Rattle.node_model.specs.Look.{first_of, Look, first_some, waiting_frame}
+use Rattle.node_model.specs.Look.{Look, waiting_frame}
 use Rattle.p2p_wire.specs.declared.message.Message.{Message}
 use Rattle.p2p_wire.specs.declared.message.Message.TheVariants.{AlreadyHave, AuthSuccess, CheckPresent, Data, Error, Failure, Get, GetTimestamp, Invalid, LockContent, Put, PutFrom, Remove, RemoveBefore, Success, Timestamp, UnlockContent, Valid, Version}
 use Rattle.p2p_wire.specs.Messages.{message_of}
@@ -354,8 +355,8 @@ slot-same s st k p same slot (Some w) is = turn-same s st k w p (same w (find_me
 
 -- a step reads of the paths only those of the running jobs
 pub step_paths : (s : SetUp) (st : State) (k : Look) (p : ℕ → List (List ℕ)) → ((w : Work) → Member w st.works → p w.number ≡ s.paths w.number) → step (with_paths s p) st k ≡ step s st k
-step_paths s st k p same = ap (λ x. first_of x (first_of (session_step (with_paths s p) st k) (job_step (with_paths s p) st k))) (owed-same s st k p st.owed)
-    ∙ ap (λ f. first_of (owed_step s st k) (first_of (first_some f (served_connections s)) (job_step (with_paths s p) st k)))
+step_paths s st k p same = ap (λ x. option_or x (option_or (session_step (with_paths s p) st k) (job_step (with_paths s p) st k))) (owed-same s st k p st.owed)
+    ∙ ap (λ f. option_or (owed_step s st k) (option_or (first_some f (served_connections s)) (job_step (with_paths s p) st k)))
     (funext (λ c. session_at (with_paths s p) st k (server_end c.0 c.1)) (λ c. session_at s st k (server_end c.0 c.1)) (λ c. session-same s st k p (server_end c.0 c.1)))
-    ∙ ap (λ f. first_of (owed_step s st k) (first_of (session_step s st k) (first_some f slots)))
+    ∙ ap (λ f. option_or (owed_step s st k) (option_or (session_step s st k) (first_some f slots)))
     (funext (λ slot. slot_step (with_paths s p) st k (find (λ w. w.slot == slot) st.works)) (λ slot. slot_step s st k (find (λ w. w.slot == slot) st.works)) (λ slot. slot-same s st k p same slot (find (λ w. w.slot == slot) st.works) refl))

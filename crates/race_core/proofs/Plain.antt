@@ -6,17 +6,6 @@ use Rattle.annex_base.proofs.Conditions.{eqb_refl}
 use Rattle.annex_base.proofs.Lists.{Each-member, Member-map}
 use Rattle.node_model.specs.Rows.{option_is}
 use Rattle.annex_base.specs.Lists.{Each, Member}
-use Rattle.node_model.specs.Ends.{same_bool}
-
-pub same_both : (a b : Bool) → same_bool a b ≡ true → a ≡ b
-same_both true true e = refl
-same_both true false e = absurd (cc)
-same_both false true e = absurd (cc)
-same_both false false e = refl
-
-pub same_self : (b : Bool) → same_bool b b ≡ true
-same_self true = refl
-same_self false = refl
 
 pub option_same : (o : Option ℕ) (n : ℕ) → option_is o n ≡ true → o ≡ Some n
 option_same None n e = absurd (cc)

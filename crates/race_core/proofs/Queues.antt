@@ -5,12 +5,13 @@ use Rattle.std.proofs.lemmas.Bool.Decides.{nat_tests}
 use Rattle.std.proofs.lemmas.Option.{same_Some}
 use Rattle.annex_base.specs.Lists.{Each}
 use Rattle.annex_base.proofs.Conditions.{and_regrouped}
+use Rattle.annex_base.specs.Bools.{same_bool}
 use Rattle.run_data.specs.declared.entry.Entry.{Entry}
 use Rattle.run_data.specs.declared.entry.FrameView.{FrameView}
 use Rattle.run_data.specs.declared.entry.FrameText.{FrameText}
 use Rattle.run_model.specs.Past.{is_of}
 use Rattle.run_model.specs.Frames.{FlyingFrame, MayTake, Way, flying_frame, is_on, on_way, sender_of, frames_sent, taken_count, taker_of, takes}
-use Rattle.node_model.specs.Ends.{same_bool, EndName, sent_at, taken_at, takes_at}
+use Rattle.node_model.specs.Ends.{EndName, sent_at, taken_at, takes_at}
 use Rattle.race_core.proofs.DialogueTurns.{bodies}
 use Rattle.race_core.proofs.WayCounts.{in_sender-is, in_taker-is, on_out, out_sender-is, way_in, way_out, out_taker-is, other_side}
 

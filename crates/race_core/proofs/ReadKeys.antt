@@ -6,6 +6,7 @@ use Rattle.std.proofs.lemmas.Option.{same_Some}
 use Rattle.annex_base.specs.Lists.{Member}
 use Rattle.annex_base.specs.Settings.{Settings}
 use Rattle.annex_base.proofs.Conditions.{eqb_refl}
+use Rattle.annex_base.proofs.Options.{option_or-was}
 use Rattle.race_core.proofs.Below.{SentAreRead}
 use Rattle.drop_proof.specs.declared.rule.Need.{Need}
 use Rattle.run_data.specs.declared.entry.Entry.{Entry}
@@ -21,7 +22,6 @@ use Rattle.node_model.specs.Jobs.{Work, running_job}
 use Rattle.node_model.specs.Knows.{need_of}
 use Rattle.run_model.specs.Run.{OwnPast, OwnRun}
 use Rattle.node_model.specs.Found.{IsJobEntry}
-use Rattle.race_core.proofs.Cases.{first_was}
 use Rattle.race_core.proofs.JobKept.{kind_kept}
 use Rattle.race_core.proofs.JobSteps.{Origin, Steps, invariant, stepped_runs, turn_at}
 use Rattle.race_core.proofs.WorkFits.{step_kind, step_number, step_runs}
@@ -35,7 +35,7 @@ use Rattle.race_core.proofs.Decisions.{runs_begun}
 
 -- the first step of the drop stood before, or is this entry
 read_was : (past : List Entry) (e : Entry) (r j : ℕ) (b : List Entry) → before_step (e ∷ past) r j ≡ Some b → (before_step past r j ≡ Some b) ⊎ ((is_step j e.kind ≡ true) × (is_of r e ≡ true) × (past ≡ b))
-read_was past e r j b h = elim (first_was (before_step past r j) (if is_of r e && (is_step j e.kind && in_drop past r j) then Some past else None) b h) [
+read_was past e r j b h = elim (option_or-was (before_step past r j) (if is_of r e && (is_step j e.kind && in_drop past r j) then Some past else None) b h) [
   | inl old ↦ inl old
   | inr now' ↦ inr (go (is_of r e) (is_step j e.kind) (in_drop past r j) now')
 ]

@@ -1,23 +1,15 @@
 -- What a drop reads of the logs stays what it was from the drop's first step on; its bar states what it read.
 use Rattle.std.proofs.Common.{◌≡◌, ℕ, true, ◌&&◌, List, [], ◌∷◌, Option, Some, None, ◌⊎◌, inl, inr, refl, sym, ap, ◌∙◌}
 use Rattle.std.specs.Prelude.{if◌then◌else◌}
-use Rattle.std.specs.Option.{unwrap_or}
+use Rattle.std.specs.Option.{option_or, unwrap_or}
 use Rattle.annex_base.proofs.Conditions.{eqb_refl}
+use Rattle.annex_base.proofs.Options.{option_or-first, option_or-other}
 use Rattle.run_data.specs.declared.entry.Entry.{Entry}
 use Rattle.run_data.specs.declared.run.RepoView.{RepoView}
 use Rattle.run_model.specs.Past.{Decision, decision, is_of}
 use Rattle.run_model.specs.Logs.{before_step, in_drop, is_step, need_read, read_at, settings_of}
-use Rattle.node_model.specs.Look.{first_of}
 use Rattle.race_core.proofs.Own.{MessagePast}
 use Rattle.race_core.proofs.Changes.{Decides, decided_was}
-
-first_of-some : {X : Type 0} (o other : Option X) (x : X) → o ≡ Some x → (y : X) × (first_of o other ≡ Some y)
-first_of-some None other x h = cc
-first_of-some (Some z) other x h = (z, refl)
-
-first_of-other : {X : Type 0} (o other : Option X) (x : X) → other ≡ Some x → (y : X) × (first_of o other ≡ Some y)
-first_of-other None other x h = (x, h)
-first_of-other (Some z) other x h = (z, refl)
 
 -- the entry is the first step of its job's drop, or a later one
 step_here : (e : Entry) (past : List Entry) (a j : ℕ) → is_of a e ≡ true → is_step j e.kind ≡ true → in_drop past a j ≡ true → (if is_of a e && (is_step j e.kind && in_drop past a j) then Some past else None) ≡ Some past
@@ -32,17 +24,17 @@ step_made repos [] a j d run h = absurd (cc)
 step_made repos (e ∷ past) a j d run h = go (λ k. step_made repos past a j d run.1 k) (decided_was e past a j d h)
   where
     go : (decision past a j ≡ Some d → (before : List Entry) × (before_step past a j ≡ Some before)) → (decision past a j ≡ Some d) ⊎ Decides e past a j d → (before : List Entry) × (before_step (e ∷ past) a j ≡ Some before)
-    go ih (inl k) = let w = ih k in first_of-some (before_step past a j) (if is_of a e && (is_step j e.kind && in_drop past a j) then Some past else None) w.0 w.1
-    go ih (inr t) = first_of-other (before_step past a j) (if is_of a e && (is_step j e.kind && in_drop past a j) then Some past else None) past
+    go ih (inl k) = let w = ih k in option_or-first (before_step past a j) (if is_of a e && (is_step j e.kind && in_drop past a j) then Some past else None) w.0 w.1
+    go ih (inr t) = option_or-other (before_step past a j) (if is_of a e && (is_step j e.kind && in_drop past a j) then Some past else None) past
         (step_here e past a j t.repo_is (bar_step e past a j d t) ((run.0.own a t.repo_is).bar_put j d.need d.key t.kind_is).dropping)
 
-unwrap-first : (o : Option (List Entry)) (past more : List Entry) → unwrap_or (first_of o (Some past)) more ≡ unwrap_or o past
+unwrap-first : (o : Option (List Entry)) (past more : List Entry) → unwrap_or (option_or o (Some past)) more ≡ unwrap_or o past
 unwrap-first None past more = refl
 unwrap-first (Some before) past more = refl
 
 -- a step of the drop is made by what is read before it
 pub read_at-step : (e : Entry) (past : List Entry) (a j : ℕ) → is_of a e ≡ true → is_step j e.kind ≡ true → in_drop past a j ≡ true → read_at (e ∷ past) a j ≡ read_at past a j
-read_at-step e past a j is step dropping = ap (λ o. unwrap_or (first_of (before_step past a j) o) (e ∷ past)) (step_here e past a j is step dropping) ∙ unwrap-first (before_step past a j) past (e ∷ past)
+read_at-step e past a j is step dropping = ap (λ o. unwrap_or (option_or (before_step past a j) o) (e ∷ past)) (step_here e past a j is step dropping) ∙ unwrap-first (before_step past a j) past (e ∷ past)
 
 -- after the bar, what is read stays
 pub read_at-kept : (repos : List RepoView) (e : Entry) (past : List Entry) (a j : ℕ) (d : Decision) → MessagePast repos past → decision past a j ≡ Some d → read_at (e ∷ past) a j ≡ read_at past a j

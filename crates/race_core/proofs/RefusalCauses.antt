@@ -1,9 +1,11 @@
 -- The causes of refusals that a repository's own entries show: of its row, of a call of its store that failed, and of what a peer answered.
 use Rattle.std.proofs.Common.{◌≡◌, ◌≢◌, ℕ, true, false, List, Option, Some, None, ◌⊎◌, inl, inr, refl, sym, ap, ◌∙◌, subst}
 use Rattle.std.specs.Prelude.{◌==◌, filter, find}
+use Rattle.std.specs.Option.{option_or}
 use Rattle.annex_base.specs.Lists.{Member}
 use Rattle.annex_base.specs.declared.kinds.Word.{Word}
 use Rattle.annex_base.proofs.Conditions.{eqb_refl}
+use Rattle.annex_base.proofs.Options.{first_some-was, option_or-was}
 use Rattle.race_core.proofs.Below.{SentAreRead}
 use Rattle.drop_proof.specs.declared.rule.Side.{Side}
 use Rattle.drop_proof.specs.declared.rule.Side.TheVariants.{Local, Remote}
@@ -29,7 +31,6 @@ use Rattle.node_model.specs.SetUp.{SetUp, slots}
 use Rattle.run_model.specs.States.{state_of, works}
 use Rattle.node_model.specs.AnyTime.{IsPeer}
 use Rattle.node_model.specs.Jobs.{Denied, Drops, Ends, Fresh, Late, Phase, Removed, Work, running_job, side_of}
-use Rattle.node_model.specs.Look.{Look}
 use Rattle.node_model.specs.Knows.{obeyed_outcome, proof_by}
 use Rattle.node_model.specs.JobStep.{Turn}
 use Rattle.node_model.specs.DropStep
@@ -40,7 +41,6 @@ use Rattle.node_model.specs.OwedStep.{owed_step}
 use Rattle.node_model.specs.SessionStep.{here, session_step}
 use Rattle.run_model.specs.Run.{IsStep, OwnPart, OwnPast}
 use Rattle.race_core.proofs.JobSteps.{OfNoJob, Stepped, come_no_job, owed_no_job, session_no_job, stepped_runs, turn_at}
-use Rattle.race_core.proofs.Cases.{first_was, some_was}
 use Rattle.race_core.proofs.SessionFacts.{session_found}
 use Rattle.race_core.proofs.Aims.{aims}
 use Rattle.race_core.proofs.Decisions.{kind_of, runs_begun}
@@ -48,7 +48,6 @@ use Rattle.race_core.proofs.FreshSteps.{MovesLate, drop_unread, of_kind, puts_un
 use Rattle.race_core.proofs.Refusals.{DropStands, Stands, TransferStands, side_is}
 use Rattle.race_core.proofs.Standing.{stands}
 use Rattle.race_core.proofs.AtTargets.{at_targets}
-use Rattle.node_model.specs.Look
 
 -- ---- the job that ends
 
@@ -83,13 +82,13 @@ stepped_words s past words e own j kind is step = elim (own.does) [
 
     by_job_step : (x : IsStep s past words e) → job_step s (state_of s past) x.look ≡ Some x.made → (y : Stepped s past e) × (y.look.words ≡ words)
     by_job_step x g =
-        let y = some_was (λ slot. slot_step s (state_of s past) x.look (find (λ w. w.slot == slot) (works past s.number))) slots x.made g in
+        let y = first_some-was (λ slot. slot_step s (state_of s past) x.look (find (λ w. w.slot == slot) (works past s.number))) slots x.made g in
         by_slot x y.0 (find (λ w. w.slot == y.0) (works past s.number)) refl y.2
 
     steps : (x : IsStep s past words e) → (y : Stepped s past e) × (y.look.words ≡ words)
-    steps x = elim (first_was (owed_step s (state_of s past) x.look) (Look.first_of (session_step s (state_of s past) x.look) (job_step s (state_of s past) x.look)) x.made x.makes) [
+    steps x = elim (option_or-was (owed_step s (state_of s past) x.look) (option_or (session_step s (state_of s past) x.look) (job_step s (state_of s past) x.look)) x.made x.makes) [
       | inl o ↦ absurd (none_made x (owed_no_job s past x.look x.made o))
-      | inr q ↦ elim (first_was (session_step s (state_of s past) x.look) (job_step s (state_of s past) x.look) x.made q) [
+      | inr q ↦ elim (option_or-was (session_step s (state_of s past) x.look) (job_step s (state_of s past) x.look) x.made q) [
         | inl g ↦ absurd (by_session x g)
         | inr g ↦ by_job_step x g
       ]

@@ -3,15 +3,17 @@ use Rattle.node_model.specs.After.{AgreesAtDrops}
 use Rattle.std.proofs.Common.{◌≡◌, ◌≢◌, ℕ, Bool, true, false, Option, Some, None, refl, sym, ap, ◌∙◌}
 use Rattle.std.specs.Prelude.{if◌then◌else◌, find, ◌==◌}
 use Rattle.std.specs.List.{list_all}
+use Rattle.std.specs.Option.{option_or}
 use Rattle.annex_base.specs.Lists.{Member}
 use Rattle.annex_base.specs.Settings.{Settings}
 use Rattle.annex_base.proofs.Lists.{find_member}
+use Rattle.annex_base.specs.OptionSteps.{first_some}
 use Rattle.drop_proof.specs.declared.rule.Side.{Side}
 use Rattle.drop_proof.specs.declared.rule.Side.TheVariants.{Local, Remote}
 use Rattle.node_model.specs.SetUp.{SetUp, slots}
 use Rattle.node_model.specs.State.{State}
 use Rattle.node_model.specs.Jobs.{Drops, Gets, Puts, Part, Phase, Fresh, Next, PutsBytes, PutsWord, Removed, Late, Work, job_end, partner, side_of}
-use Rattle.node_model.specs.Look.{Look, first_some, waiting_frame, first_of}
+use Rattle.node_model.specs.Look.{Look, waiting_frame}
 use Rattle.node_model.specs.Knows.{standing_of}
 use Rattle.node_model.specs.OwedStep.{owed_step}
 use Rattle.node_model.specs.SessionStep.{session_step}
@@ -147,8 +149,8 @@ module _ (s : SetUp) (st other : State) (k : Look) (fits : AllFit st) (agrees : 
 
   -- **so they make the same step**
   pub step_same : step s st k ≡ step s other k
-  step_same i = first_of ((owed_is s st k (other.read 0) ∙ ap (λ (z : State). owed_step s z k) (read_same (other.read 0)) ∙ sym (owed_is s other k (other.read 0))) i)
-      (first_of ((session_is s st k (other.read 0) ∙ ap (λ (z : State). session_step s z k) (read_same (other.read 0)) ∙ sym (session_is s other k (other.read 0))) i) (jobs_same i))
+  step_same i = option_or ((owed_is s st k (other.read 0) ∙ ap (λ (z : State). owed_step s z k) (read_same (other.read 0)) ∙ sym (owed_is s other k (other.read 0))) i)
+      (option_or ((session_is s st k (other.read 0) ∙ ap (λ (z : State). session_step s z k) (read_same (other.read 0)) ∙ sym (session_is s other k (other.read 0))) i) (jobs_same i))
     where
       works_same : st.works ≡ other.works
       works_same = ap (λ (z : State). z.works) agrees.same

@@ -4,12 +4,15 @@ use Rattle.std.proofs.Common.{◌≡◌, ℕ, ◌<◌, ◌^◌, Bool, true, fals
 use Rattle.std.specs.Prelude.{if◌then◌else◌, ◌==◌, ◌&&◌, filter, flat_map}
 use Rattle.std.proofs.lemmas.Bool.{and_parts, eqb-true}
 use Rattle.std.proofs.lemmas.List.Elements.{filter-append}
+use Rattle.std.specs.Option.{option_or}
 use Rattle.annex_base.specs.Lists.{Each, Member}
 use Rattle.annex_base.specs.declared.kinds.Call.{Call}
 use Rattle.annex_base.specs.declared.kinds.Call.TheVariants.{PutFile}
 use Rattle.annex_base.specs.declared.kinds.Word.{Word}
 use Rattle.annex_base.proofs.Lists.{Each-always, Each-filter, Each-flat_map, find_member}
-use Rattle.annex_base.proofs.Conditions.{eqb_refl}
+use Rattle.annex_base.proofs.Conditions.{eqb_refl, same_bool_is, same_bool_refl}
+use Rattle.annex_base.specs.Bools.{same_bool}
+use Rattle.annex_base.proofs.Options.{first_some-was, option_or-was}
 use Rattle.run_data.specs.declared.entry.By.TheVariants.{Script}
 use Rattle.run_data.specs.declared.entry.Entry.{Entry}
 use Rattle.run_data.specs.declared.entry.EntryKind.{EntryKind}
@@ -17,7 +20,7 @@ use Rattle.run_data.specs.declared.entry.EntryKind.TheVariants.{Begin, Gain, Sha
 use Rattle.run_data.specs.declared.entry.FrameView.{FrameView}
 use Rattle.run_data.specs.declared.entry.FrameText.{FrameText}
 use Rattle.run_data.specs.declared.entry.FrameText.TheVariants.{Closing, Line}
-use Rattle.node_model.specs.Ends.{same_bool, End, EndName, end_sends, end_takes, frames, may_take, sends_at, sent_at, server_end, taken_at, takes_at}
+use Rattle.node_model.specs.Ends.{End, EndName, end_sends, end_takes, frames, may_take, sends_at, sent_at, server_end, taken_at, takes_at}
 use Rattle.node_model.specs.Rows.{is_lost_ordered}
 use Rattle.node_model.specs.SetUp.{SetUp, served_connections}
 use Rattle.run_model.specs.States.{end_at, session, state_of}
@@ -35,10 +38,8 @@ use Rattle.node_model.specs.Found.{AsksOne, ByJob, IsJobEntry, JobTakes, success
 use Rattle.p2p_wire.specs.Messages.{order_of, text_of}
 use Rattle.node_model.specs.AnyTime.{MayCome, all_ends, close_at}
 use Rattle.run_model.specs.Run.{OwnPart}
-use Rattle.race_core.proofs.Plain.{same_both, same_self}
-use Rattle.race_core.proofs.Cases.{first_was, some_was, unless_found}
+use Rattle.race_core.proofs.Cases.{unless_found}
 use Rattle.race_core.proofs.JobFacts.{job_found}
-use Rattle.node_model.specs.Look
 
 -- ---- lists
 
@@ -57,10 +58,10 @@ pub same_end-is : (b a : EndName) → same_end b a ≡ true → b ≡ a
 same_end-is b a e =
     let two = and_parts ((b.peer == a.peer) && (b.slot == a.slot)) (same_bool b.client a.client) e in
     let one = and_parts (b.peer == a.peer) (b.slot == a.slot) two.0 in
-    end_path b.peer b.slot b.client a (eqb-true b.peer a.peer one.0) (eqb-true b.slot a.slot one.1) (same_both b.client a.client two.1)
+    end_path b.peer b.slot b.client a (eqb-true b.peer a.peer one.0) (eqb-true b.slot a.slot one.1) (same_bool_is b.client a.client two.1)
 
 pub same_end-refl : (a : EndName) → same_end a a ≡ true
-same_end-refl a = rw (eqb_refl a.peer, eqb_refl a.slot, same_self a.client) refl
+same_end-refl a = rw (eqb_refl a.peer, eqb_refl a.slot, same_bool_refl a.client) refl
 
 -- the end that takes a frame
 abbrev pub end_of : FrameView → EndName
@@ -70,7 +71,7 @@ pub takes_end : (a : EndName) (f : FrameView) → takes_at a f ≡ true → end_
 takes_end a f e =
     let two = and_parts ((f.peer == a.peer) && (f.slot == a.slot)) (same_bool a.client (if f.up then false else true)) e in
     let one = and_parts (f.peer == a.peer) (f.slot == a.slot) two.0 in
-    end_path f.peer f.slot (if f.up then false else true) a (eqb-true f.peer a.peer one.0) (eqb-true f.slot a.slot one.1) (sym (same_both a.client (if f.up then false else true) two.1))
+    end_path f.peer f.slot (if f.up then false else true) a (eqb-true f.peer a.peer one.0) (eqb-true f.slot a.slot one.1) (sym (same_bool_is a.client (if f.up then false else true) two.1))
 
 pub takes_other : (b a : EndName) (f : FrameView) → takes_at b f ≡ true → same_end b a ≡ false → takes_at a f ≡ false
 takes_other b a f t e = go (takes_at a f) refl
@@ -244,14 +245,14 @@ abbrev pub ServerDoes : SetUp → List Entry → Entry → Type 0
 ServerDoes s past e = BySessionAt s past e ⊎ ((p q : ℕ) → Shuts (server_end p q) e)
 
 step_does : (s : SetUp) (past : List Entry) (k : Look) (m : Effect) → k.part < 2 ^ 62 → step s (state_of s past) k ≡ Some m → ServerDoes s past (entry_of s.number k m)
-step_does s past k m small e = elim (first_was (owed_step s (state_of s past) k) (Look.first_of (session_step s (state_of s past) k) (job_step s (state_of s past) k)) m e) [
+step_does s past k m small e = elim (option_or-was (owed_step s (state_of s past) k) (option_or (session_step s (state_of s past) k) (job_step s (state_of s past) k)) m e) [
   | inl o ↦ inr (λ p q. owed_shuts s past k m (server_end p q) (state_of s past).owed o)
-  | inr r ↦ rest (first_was (session_step s (state_of s past) k) (job_step s (state_of s past) k) m r)
+  | inr r ↦ rest (option_or-was (session_step s (state_of s past) k) (job_step s (state_of s past) k) m r)
 ]
   where
     rest : (session_step s (state_of s past) k ≡ Some m) ⊎ (job_step s (state_of s past) k ≡ Some m) → ServerDoes s past (entry_of s.number k m)
     rest (inl x) =
-        let w = some_was (λ (c : ℕ × ℕ). session_at s (state_of s past) k (server_end c.0 c.1)) (served_connections s) m x in
+        let w = first_some-was (λ (c : ℕ × ℕ). session_at s (state_of s past) k (server_end c.0 c.1)) (served_connections s) m x in
         inl (w.0.0, w.0.1, w.1, session_here s past k small (server_end w.0.0 w.0.1) m w.2)
     rest (inr x) = inr (λ p q. by_job_shuts s past k m p q (job_found s (state_of s past) k m x))
 

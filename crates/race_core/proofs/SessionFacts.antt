@@ -8,6 +8,7 @@ use Rattle.annex_base.specs.declared.kinds.Call.{Call}
 use Rattle.annex_base.proofs.Lists.{find_member}
 use Rattle.annex_base.proofs.Conditions.{if_either}
 use Rattle.annex_base.specs.declared.kinds.Call.TheVariants as calls
+use Rattle.annex_base.proofs.Options.{first_some-was}
 use Rattle.run_data.specs.declared.entry.EntryKind.TheVariants.{Release, Talk, Fault}
 use Rattle.run_data.specs.declared.entry.FrameView.{FrameView}
 use Rattle.run_data.specs.declared.entry.FrameText.{FrameText}
@@ -23,7 +24,7 @@ use Rattle.node_model.specs.Ends.{End, EndName, end_takes, may_take, server_end,
 use Rattle.node_model.specs.Look.{Look, Effect, failing_call, waiting_frame}
 use Rattle.node_model.specs.SessionStep.{Here, Reply, bar_on, by_of, bytes_left, check_answer, close_kind, content_of, gives_made, gives_next, here, is_held, is_here, lock_answer, now_of, on_bytes, on_frame, on_message, on_piece, on_put, on_remove, on_remove_before, on_request, on_text, on_unlock, put_answer, failure_line, remove_answer, reply, reply_made, session_at, session_makes, session_step, shuts, silent_reply, tries, unexpected_reply, valid_answer}
 use Rattle.node_model.specs.Found.{BySession, GivesAt, IsBeforeDeadline, SaysFault, SessionFound, IsSessionEntry, TakesAt}
-use Rattle.race_core.proofs.Cases.{TakesAtHand, some_was, takes_none, takes_one, unless_found}
+use Rattle.race_core.proofs.Cases.{TakesAtHand, takes_none, takes_one, unless_found}
 
 tries_found : (h : Here) (doing : Doing) (asked : Option Message) (cs : List Call) (says : List FrameText) (good : Reply)
     → SaysFault says → SessionFound h doing asked good → SessionFound h doing asked (tries h cs says good)
@@ -226,12 +227,12 @@ at_found s st k a m e = go (k.room a) e
 
 pub session_found : (s : SetUp) (st : State) (k : Look) (m : Effect) → session_step s st k ≡ Some m → BySession s st k m
 session_found s st k m e =
-    let w = some_was (λ (c : ℕ × ℕ). session_at s st k (server_end c.0 c.1)) (served_connections s) m e in
+    let w = first_some-was (λ (c : ℕ × ℕ). session_at s st k (server_end c.0 c.1)) (served_connections s) m e in
     let c = w.0 in
     let x = at_found s st k (server_end c.0 c.1) m w.2 in
     record { peer = c.0; slot = c.1; serves = w.1; asked = x.asked; says = x.says; frame = x.frame; found = x.found }
 
 pub session_at_hand : (s : SetUp) (st : State) (k : Look) (m : Effect) → session_step s st k ≡ Some m → TakesAtHand k m
 session_at_hand s st k m e =
-    let w = some_was (λ (c : ℕ × ℕ). session_at s st k (server_end c.0 c.1)) (served_connections s) m e in
+    let w = first_some-was (λ (c : ℕ × ℕ). session_at s st k (server_end c.0 c.1)) (served_connections s) m e in
     (at_found s st k (server_end w.0.0 w.0.1) m w.2).at_hand

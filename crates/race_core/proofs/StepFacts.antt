@@ -1,8 +1,10 @@
 -- What a step found: one law over all kinds of entries, and what it says of each kind.
 use Rattle.std.proofs.Common.{◌≡◌, ℕ, List, [], ◌∷◌, Option, Some, None, ◌⊎◌, inl, inr, refl, sym, ap, ◌∙◌, subst}
+use Rattle.std.specs.Option.{option_or}
 use Rattle.annex_base.specs.declared.kinds.Call.{Call}
 use Rattle.annex_base.specs.declared.kinds.Call.TheVariants.{PutFile}
 use Rattle.annex_base.specs.declared.kinds.Found.{Found}
+use Rattle.annex_base.proofs.Options.{option_or-was}
 use Rattle.drop_proof.specs.declared.rule.Need.{Need}
 use Rattle.run_data.specs.declared.entry.EntryKind.{EntryKind}
 use Rattle.run_data.specs.declared.entry.EntryKind.TheVariants.{Share, Release, Check, Bar, Gone, Log, Fault}
@@ -19,10 +21,9 @@ use Rattle.node_model.specs.JobStep.{turn_of}
 use Rattle.node_model.specs.Turns.{job_step}
 use Rattle.node_model.specs.Step.{step}
 use Rattle.node_model.specs.Found.{ByJob, ByOwed, BySession, IsJobEntry, IsSessionEntry, StepFound}
-use Rattle.race_core.proofs.Cases.{TakesAtHand, first_was, takes_none}
+use Rattle.race_core.proofs.Cases.{TakesAtHand, takes_none}
 use Rattle.race_core.proofs.SessionFacts.{session_at_hand, session_found}
 use Rattle.race_core.proofs.JobFacts.{job_at_hand, job_found}
-use Rattle.node_model.specs.Look
 
 -- ---- the law
 
@@ -50,22 +51,22 @@ pays_found s st k m (o ∷ os) is e = go (failing_call k.fails (PutFile ∷ []))
         record { first = o; rest = os; owes_it = is; writes = inr (sym same ∙ ap lost it) }
 
 pub step_found : (s : SetUp) (st : State) (k : Look) (m : Effect) → step s st k ≡ Some m → StepFound s st k m
-step_found s st k m e = elim (first_was (owed_step s st k) (Look.first_of (session_step s st k) (job_step s st k)) m e) [
+step_found s st k m e = elim (option_or-was (owed_step s st k) (option_or (session_step s st k) (job_step s st k)) m e) [
   | inl o ↦ inl (pays_found s st k m st.owed refl o)
   | inr r ↦ inr (others r)
 ]
   where
-    others : Look.first_of (session_step s st k) (job_step s st k) ≡ Some m → BySession s st k m ⊎ ByJob s st k m
-    others r = elim (first_was (session_step s st k) (job_step s st k) m r) [
+    others : option_or (session_step s st k) (job_step s st k) ≡ Some m → BySession s st k m ⊎ ByJob s st k m
+    others r = elim (option_or-was (session_step s st k) (job_step s st k) m r) [
       | inl x ↦ inl (session_found s st k m x)
       | inr x ↦ inr (job_found s st k m x)
     ]
 
 -- what it takes is at hand
 pub taken_at_hand : (s : SetUp) (st : State) (k : Look) (m : Effect) → step s st k ≡ Some m → TakesAtHand k m
-taken_at_hand s st k m e = elim (first_was (owed_step s st k) (Look.first_of (session_step s st k) (job_step s st k)) m e) [
+taken_at_hand s st k m e = elim (option_or-was (owed_step s st k) (option_or (session_step s st k) (job_step s st k)) m e) [
   | inl o ↦ takes_none k m (elim ((pays_found s st k m st.owed refl o).writes) [ inl w ↦ ap (λ (z : Effect). z.taken) w | inr w ↦ ap (λ (z : Effect). z.taken) w ])
-  | inr r ↦ elim (first_was (session_step s st k) (job_step s st k) m r) [ inl x ↦ session_at_hand s st k m x | inr x ↦ job_at_hand s st k m x ]
+  | inr r ↦ elim (option_or-was (session_step s st k) (job_step s st k) m r) [ inl x ↦ session_at_hand s st k m x | inr x ↦ job_at_hand s st k m x ]
 ]
 
 -- ---- by its kind

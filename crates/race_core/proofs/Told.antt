@@ -7,7 +7,8 @@ use Rattle.annex_base.specs.Lists.{Member}
 use Rattle.annex_base.specs.declared.kinds.Found.{Found}
 use Rattle.annex_base.specs.declared.kinds.Found.TheVariants.{Present}
 use Rattle.annex_base.proofs.Lists.{list_any_member, Member-filter_parts}
-use Rattle.annex_base.proofs.Conditions.{eqb_refl}
+use Rattle.annex_base.proofs.Conditions.{eqb_refl, same_bool_is, same_bool_refl}
+use Rattle.annex_base.specs.Bools.{same_bool}
 use Rattle.run_data.specs.declared.entry.By.TheVariants.{Job as by_job, Peer}
 use Rattle.run_data.specs.declared.entry.Entry.{Entry}
 use Rattle.run_data.specs.declared.entry.EntryKind.{EntryKind}
@@ -22,7 +23,6 @@ use Rattle.run_model.specs.Said.{Said, Says, message_in, is_request}
 use Rattle.race_core.proofs.Ways.{is_answer, way_from, down_of, answers}
 use Rattle.run_model.specs.Frames.{Way, FlyingFrame, MayTake, SendingEntry, is_on, is_job, on_way, sender, sender_of, frames_sent, sending_entry, taker_of, taken_count, taken_if, takes, way_of, up_of, last_request}
 use Rattle.node_model.specs.Slots.{job_of}
-use Rattle.node_model.specs.Ends.{same_bool}
 use Rattle.run_model.specs.Drops.{Asker, Vouch, Lock, Look, asked_at, asker, asker_by, asker_of, is_asker, newer, reply, tells, vouches_sent, vouch, vouch_kind}
 use Rattle.race_core.proofs.Heard.{Heard, Locked_at, Seen_there, heard, heard_answer, heard_frame, heard_kind, heard_request, hears, newer_heard}
 use Rattle.race_core.proofs.Own.{Meets, MessagePast, Own, SaysYes, asks_copy, uses}
@@ -30,7 +30,7 @@ use Rattle.std.specs.List.{list_any}
 use Rattle.std.proofs.lemmas.Option.{same_Some}
 use Rattle.race_core.proofs.Flights.{Sending, occurs_always, occurs_earlier, sending, sent_from}
 use Rattle.race_core.proofs.Turns.{OneEach, Prefix, right_turn}
-use Rattle.race_core.proofs.Plain.{option_same, same_both, same_self}
+use Rattle.race_core.proofs.Plain.{option_same}
 
 -- ---- ways
 
@@ -60,11 +60,11 @@ on_parts w peer g h =
     let a = and_parts (g.peer == peer) _ h in
     let b = and_parts (g.slot == w.slot) _ a.1 in
     let c = and_parts (same_bool g.up w.up) _ b.1 in
-    record { peer_is = eqb-true g.peer peer a.0; slot_is = eqb-true g.slot w.slot b.0; up_is = same_both g.up w.up c.0; epoch_is = eqb-true g.epoch w.epoch c.1 }
+    record { peer_is = eqb-true g.peer peer a.0; slot_is = eqb-true g.slot w.slot b.0; up_is = same_bool_is g.up w.up c.0; epoch_is = eqb-true g.epoch w.epoch c.1 }
 
 pub on_own : (r : ℕ) (f : FrameView) → is_on (way_of r f) (sender_of (way_of r f)) f ≡ true
 on_own r f = and_from (f.peer == sender_of (way_of r f)) _ (subst (λ p. (f.peer == p) ≡ true) (sym (sender_way r f)) (eqb_refl f.peer))
-    (and_from (f.slot == f.slot) _ (eqb_refl f.slot) (and_from (same_bool f.up f.up) _ (same_self f.up) (eqb_refl f.epoch)))
+    (and_from (f.slot == f.slot) _ (eqb_refl f.slot) (and_from (same_bool f.up f.up) _ (same_bool_refl f.up) (eqb_refl f.epoch)))
 
 -- the way of a frame that is taken from it
 pub way_taken : (w : Way) (f : FrameView) → is_on w (sender_of w) f ≡ true → way_of (taker_of w) f ≡ w

@@ -4,6 +4,7 @@ use Rattle.std.specs.Prelude.{if◌then◌else◌, ◌==◌, ◌&&◌, length, n
 use Rattle.std.specs.List.{list_any}
 use Rattle.std.proofs.lemmas.Bool.{true≢false, and_parts, eqb-true, ne_eqb, not-true}
 use Rattle.std.proofs.lemmas.Option.{same_Some}
+use Rattle.std.specs.Option.{option_or}
 use Rattle.annex_base.specs.Lists.{Each, Member}
 use Rattle.annex_base.specs.declared.kinds.Found.TheVariants as found
 use Rattle.annex_base.specs.declared.kinds.Word.{Word}
@@ -27,7 +28,6 @@ use Rattle.node_model.specs.Slots.{RunningJob, job_of}
 use Rattle.node_model.specs.Rows.{option_is}
 use Rattle.run_model.specs.Frames.{FlyingFrame, SendingEntry, is_job, last_request, said_of, sender, frames_sent, sending_entry, taken_count, up_of, way_of}
 use Rattle.run_model.specs.Logs.{before_step, in_drop, is_step}
-use Rattle.node_model.specs.Look.{first_of}
 use Rattle.run_model.specs.Drops.{cause_by_sender, cause_closed, cause_of_kind, cause_own, cause_said, cause_taken, cause_with, is_first_step, key_in, newer_cause, option_is_none, or_closed, or_fault, shuts, tells_cause, told_cause}
 use Rattle.node_model.specs.Evidence.{Fails, candidates}
 use Rattle.node_model.specs.SetUp.{SetUp}
@@ -95,7 +95,7 @@ newer_lean : (a b : Option Cause) → Lean a → Lean b → Lean (newer_cause a 
 newer_lean None b x y = y
 newer_lean (Some c) b x y = x
 
-first_lean : (a b : Option Cause) → Lean a → Lean b → Lean (first_of a b)
+first_lean : (a b : Option Cause) → Lean a → Lean b → Lean (option_or a b)
 first_lean None b x y = y
 first_lean (Some c) b x y = x
 
@@ -119,7 +119,7 @@ lean_more past e r j c now old = newer_lean (tells_cause past e c r j) (or_close
     (first_lean (told_cause past r j c) (if is_of r e then cause_closed (jobs past r) j c e.kind else None) old (if_lean (is_of r e) (cause_closed (jobs past r) j c e.kind) None (closed_lean (jobs past r) j c e.kind) tt))
 
 told_more : (past : List Entry) (e : Entry) (r j c : ℕ) (q : Cause) → cause_with past e c r j (sender past r e.taken) ≡ None → told_cause past r j c ≡ Some q → told_cause (e ∷ past) r j c ≡ Some q
-told_more past e r j c q none old i = newer_cause (none i) (first_of (old i) (if is_of r e then cause_closed (jobs past r) j c e.kind else None))
+told_more past e r j c q none old i = newer_cause (none i) (option_or (old i) (if is_of r e then cause_closed (jobs past r) j c e.kind else None))
 
 told_new : (past : List Entry) (e : Entry) (r j c : ℕ) (q : Cause) → cause_with past e c r j (sender past r e.taken) ≡ Some q → told_cause (e ∷ past) r j c ≡ Some q
 told_new past e r j c q new i = newer_cause (new i) (or_closed past e c r j (told_cause past r j c))

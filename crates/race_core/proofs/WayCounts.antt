@@ -5,12 +5,13 @@ use Rattle.std.specs.Prelude.{◌&&◌, ◌==◌, filter, map, if◌then◌else�
 use Rattle.std.proofs.lemmas.List.Elements.{filter-append}
 use Rattle.annex_base.proofs.Conditions.{and_regrouped}
 use Rattle.annex_base.proofs.Lists.{filter_both}
+use Rattle.annex_base.specs.Bools.{same_bool}
 use Rattle.run_data.specs.declared.entry.Entry.{Entry}
 use Rattle.run_data.specs.declared.entry.FrameView.{FrameView}
 use Rattle.run_model.specs.Past.{is_of}
 use Rattle.run_model.specs.Said.{Said}
 use Rattle.run_model.specs.Frames.{Way, FlyingFrame, flying_frame, is_on, on_way, sender_of, taker_of, frames_sent, sent_if, says, taken_if, takes_if}
-use Rattle.node_model.specs.Ends.{same_bool, EndName, sends_at, sent_at, taken_at, takes_at}
+use Rattle.node_model.specs.Ends.{EndName, sends_at, sent_at, taken_at, takes_at}
 use Rattle.race_core.proofs.Plain.{filter_map}
 
 -- the ways at an end of r: what it sends, and what it takes, in one epoch

@@ -1,7 +1,7 @@
 -- What a step of the sessions or of the jobs adds to a node.
 use Rattle.std.proofs.Common.{◌≡◌, ℕ, ◌+◌, Bool, false, List, [], ◌∷◌, ◌++◌, Option, Some, None, Result, Ok, Err, IfOk, length, is_some, refl, sym, ap, subst, ◌∙◌}
 use Rattle.std.specs.Prelude.{IfSome, if◌then◌else◌, vec_len}
-use Rattle.std.specs.Option.{ForSome, option_map}
+use Rattle.std.specs.Option.{ForSome, option_map, option_or}
 use Rattle.annex_base.specs.Causes.{Rose}
 use Rattle.annex_base.specs.declared.kinds.Call.{Call}
 use Rattle.annex_base.proofs.Conditions.{bytes_eq-refl}
@@ -18,7 +18,7 @@ use Rattle.union_merge.specs.Branch.{Files, lines_at}
 use Rattle.union_merge.specs.LineSet.{union}
 use Rattle.drop_worker.specs.Working.{failed_in}
 use Rattle.annex_base.specs.declared.memory.NoMemory.{NoMemory}
-use Rattle.node_model.specs.Look.{Look, Effect, first_of}
+use Rattle.node_model.specs.Look.{Look, Effect}
 use Rattle.node_model.specs.SessionStep.{session_step}
 use Rattle.node_model.specs.SetUp.{SetUp}
 use Rattle.node_model.specs.State.{State}
@@ -306,11 +306,11 @@ module _ (m : Moment) (was ready : Past) (parts : PartsView) (branch : Files) (o
 
 pub ready_parts : {K : Type 0} (r : Result Bool NoMemory) (law : CountLaw) (m : Moment) (k : K) (parts : PartsView) (branch : Files) (was : Past) (owed : List OwedLine) (cs : Option Contents) (qs : Option StoredParts) (n : NodeView K)
     → seen k parts branch was owed ≡ n → m ≡ moment_in was → IsKept was.setup was.history.items parts branch owed (told_of cs qs)
-    → IfOk r (λ b. (c : Contents) (s : SetUp) (st : State) (look : Look) → SeesParts parts c m.clock m.time m.number s st look → is_some (first_of (session_step s st look) (job_step s st look)) ≡ b)
+    → IfOk r (λ b. (c : Contents) (s : SetUp) (st : State) (look : Look) → SeesParts parts c m.clock m.time m.number s st look → is_some (option_or (session_step s st look) (job_step s st look)) ≡ b)
     → {told : Option Contents} → told_of cs qs ≡ told
-    → IfOk r (λ b. ForSome told (λ c. (s : SetUp) (look : Look) → MatchesSetup n.setup s → Looks n s look → is_some (first_of (session_step s (state_of s n.history) look) (job_step s (state_of s n.history) look)) ≡ b))
+    → IfOk r (λ b. ForSome told (λ c. (s : SetUp) (look : Look) → MatchesSetup n.setup s → Looks n s look → is_some (option_or (session_step s (state_of s n.history) look) (job_step s (state_of s n.history) look)) ≡ b))
 ready_parts {K} (Ok b) law m k parts branch was owed cs qs n view at kept ready {told} same = λ c known.
-    subst (λ (x : NodeView K). (s : SetUp) (look : Look) → MatchesSetup x.setup s → Looks x s look → is_some (first_of (session_step s (state_of s x.history) look) (job_step s (state_of s x.history) look)) ≡ b) view
+    subst (λ (x : NodeView K). (s : SetUp) (look : Look) → MatchesSetup x.setup s → Looks x s look → is_some (option_or (session_step s (state_of s x.history) look) (job_step s (state_of s x.history) look)) ≡ b) view
     (λ s look fits looks.
     let sees : SeesParts parts c (moment_in was).clock (moment_in was).time (moment_in was).number s (state_of s was.history.items) look =
     sees_parts law was.setup was.history.items parts branch owed (told_of cs qs) c was.time (vec_len was.history + 1) s look kept (same ∙ known) (ap (λ (x : ℕ). x + 1) was.history.ok.0) fits looks.ends looks.time in

@@ -1,13 +1,15 @@
 -- Which store calls a node's step makes: those of its line, its session or its job.
 use Rattle.std.proofs.Common.{◌≡◌, Bool, true, false, List, [], ◌∷◌, Option, Some, None, refl, ap, ◌∙◌}
 use Rattle.std.specs.Prelude.{if◌then◌else◌, is_some}
+use Rattle.std.specs.Option.{option_or}
 use Rattle.annex_base.specs.declared.kinds.Call.{Call}
 use Rattle.annex_base.specs.declared.kinds.Call.TheVariants.{PutFile}
+use Rattle.annex_base.specs.OptionSteps.{first_some}
 use Rattle.run_data.specs.declared.entry.EntryKind.TheVariants as kinds
 use Rattle.run_data.specs.declared.entry.FrameView.{FrameView}
 use Rattle.run_data.specs.declared.entry.LogFile.TheVariants.{Location}
 use Rattle.node_model.specs.Ends.{End, EndName, server_end}
-use Rattle.node_model.specs.Look.{Look, Effect, failing_call, first_of, first_some, unless, waiting_frame}
+use Rattle.node_model.specs.Look.{Look, Effect, failing_call, unless, waiting_frame}
 use Rattle.node_model.specs.OwedLines.{OwedLine, due}
 use Rattle.node_model.specs.OwedStep.{owed_step, pays_first}
 use Rattle.node_model.specs.Sessions.{Doing, Gives, Session}
@@ -51,7 +53,7 @@ same_first : {X Y : Type 0} (f g : X → Option Y) (xs : List X) → ((x : X) �
 same_first f g [] same = refl
 same_first {X} {Y} f g (x ∷ xs) same = go (f x) (g x) (same x) (same_first f g xs same)
   where
-    go : (o p : Option Y) → is_some o ≡ is_some p → is_some (first_some f xs) ≡ is_some (first_some g xs) → is_some (first_of o (first_some f xs)) ≡ is_some (first_of p (first_some g xs))
+    go : (o p : Option Y) → is_some o ≡ is_some p → is_some (first_some f xs) ≡ is_some (first_some g xs) → is_some (option_or o (first_some f xs)) ≡ is_some (option_or p (first_some g xs))
     go None None e rest = rest
     go None (Some y) e rest = absurd (cc)
     go (Some y) None e rest = absurd (cc)
@@ -87,17 +89,17 @@ line_failed s st k (o ∷ os) ready = go (failing_call k.fails (PutFile ∷ []))
     go None = refl
     go (Some call) = refl
 
-moving_failed : Lower → (s : SetUp) (st : State) (k : Look) → failed_of (first_of (session_step s st k) (job_step s st k)) ≡ failing_call k.fails (moving_calls s st k)
+moving_failed : Lower → (s : SetUp) (st : State) (k : Look) → failed_of (option_or (session_step s st k) (job_step s st k)) ≡ failing_call k.fails (moving_calls s st k)
 moving_failed laws s st k = go (session_step s st k) (laws.session_failed s st k)
   where
-    go : (o : Option Effect) → failed_of o ≡ failing_call k.fails (session_calls s st k) → failed_of (first_of o (job_step s st k)) ≡ failing_call k.fails (if is_some o then session_calls s st k else job_calls s st k)
+    go : (o : Option Effect) → failed_of o ≡ failing_call k.fails (session_calls s st k) → failed_of (option_or o (job_step s st k)) ≡ failing_call k.fails (if is_some o then session_calls s st k else job_calls s st k)
     go None e = laws.job_failed s st k
     go (Some m) e = e
 
 pub step_failed : Lower → (s : SetUp) (st : State) (k : Look) → failed_of (step s st k) ≡ failing_call k.fails (step_calls s st k)
 step_failed laws s st k = go (owed_step s st k) (line_failed s st k st.owed)
   where
-    go : (o : Option Effect) → (is_some o ≡ true → failed_of o ≡ failing_call k.fails (PutFile ∷ [])) → failed_of (first_of o (first_of (session_step s st k) (job_step s st k))) ≡ failing_call k.fails (if is_some o then owed_calls s st k else moving_calls s st k)
+    go : (o : Option Effect) → (is_some o ≡ true → failed_of o ≡ failing_call k.fails (PutFile ∷ [])) → failed_of (option_or o (option_or (session_step s st k) (job_step s st k))) ≡ failing_call k.fails (if is_some o then owed_calls s st k else moving_calls s st k)
     go None e = moving_failed laws s st k
     go (Some m) e = e refl
 

@@ -1,7 +1,7 @@
 -- A turn of a node, from its steps.
 use Rattle.std.proofs.Common.{◌≡◌, ◌≢◌, ℕ, Bool, true, false, List, [], ◌∷◌, Option, Some, None, Result, Ok, Err, IfOk, OnErr, map, is_some, refl, sym, ap, subst, ◌∙◌}
 use Rattle.std.specs.Prelude.{if◌then◌else◌}
-use Rattle.std.specs.Option.{ForSome}
+use Rattle.std.specs.Option.{ForSome, option_or}
 use Rattle.annex_base.specs.declared.kinds.Call.{Call}
 use Rattle.annex_base.specs.declared.memory.NoMemory.{NoMemory}
 use Rattle.run_data.specs.declared.entry.EntryKind.{EntryKind}
@@ -14,7 +14,7 @@ use Rattle.content_lock.specs.CallsMade.{MakesCalls}
 use Rattle.node_ends.specs.Ends.{SeesEnds}
 use Rattle.node_jobs.specs.Calls.{job_calls}
 use Rattle.node_sessions.specs.Calls.{session_calls}
-use Rattle.node_model.specs.Look.{Look, Effect, first_of}
+use Rattle.node_model.specs.Look.{Look, Effect}
 use Rattle.node_model.specs.OwedLines.{OwedLine}
 use Rattle.node_model.specs.OwedStep.{owed_step, pays_first}
 use Rattle.node_model.specs.SessionStep.{session_step}
@@ -44,7 +44,7 @@ some_owing s st k (o ∷ os) owes = refl
 none_owed : (s : SetUp) (st : State) (k : Look) (os : List OwedLine) → st.owed ≡ os → is_owing os ≡ false → owed_step s st k ≡ None
 none_owed s st k os is none = ap (pays_first s st k) (is ∙ none_owing os none)
 
-first_some : (x y : Option Effect) → is_some x ≡ true → is_some (first_of x y) ≡ true
+first_some : (x y : Option Effect) → is_some x ≡ true → is_some (option_or x y) ≡ true
 first_some None y there = absurd cc
 first_some (Some x) y there = refl
 
@@ -78,7 +78,7 @@ owed_first (Ok true) before after n m told made moves = λ c known.
     steps_first owed_step owed_calls before after n m
     (λ s k it fits looks is.
     let st : State = state_of s n.history in
-    (ap (λ (o : Option Effect). first_of o (first_of (session_step s st k) (job_step s st k))) is, ap (λ (o : Option Effect). if is_some o then owed_calls s st k else moving_calls s st k) is)) (moves c known)
+    (ap (λ (o : Option Effect). option_or o (option_or (session_step s st k) (job_step s st k))) is, ap (λ (o : Option Effect). if is_some o then owed_calls s st k else moving_calls s st k) is)) (moves c known)
 owed_first (Ok false) before after n m told made moves = absurd cc
 owed_first (Err e) before after n m told made moves = tt
 
@@ -88,7 +88,7 @@ served_first before after n m owes none by = steps_first session_step session_ca
     (λ s k it fits looks is.
     let st : State = state_of s n.history in
     let unowed = none_owed s st k n.owed (owes s fits) none in (
-      ap (λ (o : Option Effect). first_of o (first_of (session_step s st k) (job_step s st k))) unowed ∙ ap (λ (o : Option Effect). first_of o (job_step s st k)) is,
+      ap (λ (o : Option Effect). option_or o (option_or (session_step s st k) (job_step s st k))) unowed ∙ ap (λ (o : Option Effect). option_or o (job_step s st k)) is,
       ap (λ (o : Option Effect). if is_some o then owed_calls s st k else moving_calls s st k) unowed ∙ ap (λ (o : Option Effect). if is_some o then session_calls s st k else job_calls s st k) is,
     )) by
 
@@ -99,8 +99,8 @@ module _ {K : Type 0} (n : NodeView K) (owes : Owes n) (none : is_owing n.owed �
 
   job_is : step s here k ≡ job_step s here k
   job_is =
-      ap (λ (o : Option Effect). first_of o (first_of (session_step s here k) (job_step s here k))) (none_owed s here k n.owed (owes s fits) none)
-      ∙ ap (λ (o : Option Effect). first_of o (job_step s here k)) (idle s k fits looks)
+      ap (λ (o : Option Effect). option_or o (option_or (session_step s here k) (job_step s here k))) (none_owed s here k n.owed (owes s fits) none)
+      ∙ ap (λ (o : Option Effect). option_or o (job_step s here k)) (idle s k fits looks)
 
   job_calls_are : step_calls s here k ≡ job_calls s here k
   job_calls_are =
@@ -117,13 +117,13 @@ acted_same false before after n m owes none idle moves = λ s k fits looks. job_
 pub ready_owed : {K : Type 0} (n : NodeView K) → Owes n → is_owing n.owed ≡ true → ReadySo true step n
 ready_owed n owes some s k fits looks =
     let st : State = state_of s n.history in
-    first_some (owed_step s st k) (first_of (session_step s st k) (job_step s st k)) (ap (λ (os : List OwedLine). is_some (pays_first s st k os)) (owes s fits) ∙ some_owing s st k n.owed some)
+    first_some (owed_step s st k) (option_or (session_step s st k) (job_step s st k)) (ap (λ (os : List OwedLine). is_some (pays_first s st k os)) (owes s fits) ∙ some_owing s st k n.owed some)
 
 pub ready_else : {K : Type 0} (b : Bool) (n : NodeView K) → Owes n → is_owing n.owed ≡ false
-    → ((s : SetUp) (k : Look) → MatchesSetup n.setup s → Looks n s k → is_some (first_of (session_step s (state_of s n.history) k) (job_step s (state_of s n.history) k)) ≡ b) → ReadySo b step n
+    → ((s : SetUp) (k : Look) → MatchesSetup n.setup s → Looks n s k → is_some (option_or (session_step s (state_of s n.history) k) (job_step s (state_of s n.history) k)) ≡ b) → ReadySo b step n
 ready_else b n owes none ready s k fits looks =
     let st : State = state_of s n.history in
-    ap (λ (o : Option Effect). is_some (first_of o (first_of (session_step s st k) (job_step s st k)))) (none_owed s st k n.owed (owes s fits) none) ∙ ready s k fits looks
+    ap (λ (o : Option Effect). is_some (option_or o (option_or (session_step s st k) (job_step s st k)))) (none_owed s st k n.owed (owes s fits) none) ∙ ready s k fits looks
 
 -- ---- a turn
 
@@ -243,7 +243,7 @@ full_steps {K} r n n' c told law same is known ready s fits k looks =
 -- ---- whether one is ready
 
 abbrev pub ReadyElse : {K : Type 0} → Bool → NodeView K → Type 0
-ReadyElse b n = (s : SetUp) (k : Look) → MatchesSetup n.setup s → Looks n s k → is_some (first_of (session_step s (state_of s n.history) k) (job_step s (state_of s n.history) k)) ≡ b
+ReadyElse b n = (s : SetUp) (k : Look) → MatchesSetup n.setup s → Looks n s k → is_some (option_or (session_step s (state_of s n.history) k) (job_step s (state_of s n.history) k)) ≡ b
 
 pub ready_if : {K : Type 0} (r : Result Bool NoMemory) (n : NodeView K) (told : Option Contents) → ((s : SetUp) → MatchesSetup n.setup s → IsState s n.parts n.branch n.owed told (state_of s n.history)) → is_owing n.owed ≡ false
     → IfOk r (λ b. ForSome told (λ c. ReadyElse b n)) → IfOk r (λ b. ForSome told (λ c. ReadySo b step n))

@@ -3,6 +3,7 @@ use Rattle.std.proofs.Common.{◌≡◌, ℕ, ◌+◌, ◌<◌, Bool, true, fals
 use Rattle.std.specs.Prelude.{is_none, if◌then◌else◌, filter, option_map}
 use Rattle.std.proofs.lemmas.List.{append-nil, take_more}
 use Rattle.std.proofs.lemmas.List.Elements.{filter-append}
+use Rattle.std.specs.Option.{option_or}
 use Rattle.annex_base.proofs.Pasts.{past_more}
 use Rattle.run_data.specs.declared.entry.Entry.{Entry}
 use Rattle.run_model.specs.Frames.{FlyingFrame, last_of, said_of, says}
@@ -15,7 +16,6 @@ use Rattle.drop_proof.specs.declared.evidence.Evidence.{Evidence}
 use Rattle.drop_proof.specs.declared.rule.Need.{Need}
 use Rattle.drop_proof.specs.declared.rule.Side.{Side}
 use Rattle.drop_proof.specs.Judging.{is_enough}
-use Rattle.node_model.specs.Look.{first_of}
 use Rattle.run_model.specs.Drops.{Vouch, newer, reply, tells}
 use Rattle.run_check.specs.declared.vouching.Told.{Told}
 use Rattle.run_check.specs.Values.{first_told, told_of}
@@ -72,14 +72,14 @@ last_said frames i x was new said lt is old read h =
 
 -- ---- replies
 
-newer_told : (vs : List Vouch) (o : Option Vouch) → option_map told_of (newer vs o) ≡ first_of (first_told vs) (option_map told_of o)
+newer_told : (vs : List Vouch) (o : Option Vouch) → option_map told_of (newer vs o) ≡ option_or (first_told vs) (option_map told_of o)
 newer_told [] o = refl
 newer_told (v ∷ vs) o = refl
 
 -- one more entry
 pub reply_more : (entries : List Entry) (i : ℕ) (e : Entry) (a j r : ℕ) (was new told : Option Told) → i < length entries → e ≡ get_or entries i e
-    → was ≡ option_map told_of (reply (reverse (take i entries)) a j r) → new ≡ first_told (tells (reverse (take i entries)) e r a j) → told ≡ first_of new was
+    → was ≡ option_map told_of (reply (reverse (take i entries)) a j r) → new ≡ first_told (tells (reverse (take i entries)) e r a j) → told ≡ option_or new was
     → told ≡ option_map told_of (reply (reverse (take (i + 1) entries)) a j r)
 reply_more entries i e a j r was new told lt is old new_is h =
-    h ∙ ap (λ x. first_of x was) new_is ∙ ap (λ x. first_of (first_told (tells (reverse (take i entries)) e r a j)) x) old
+    h ∙ ap (λ x. option_or x was) new_is ∙ ap (λ x. option_or (first_told (tells (reverse (take i entries)) e r a j)) x) old
     ∙ sym (newer_told (tells (reverse (take i entries)) e r a j) (reply (reverse (take i entries)) a j r)) ∙ ap (λ past. option_map told_of (reply past a j r)) (sym (past_read entries i e lt is))

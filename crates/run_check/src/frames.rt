@@ -1,7 +1,7 @@
 //! Who sent the frame that an entry took, and what was asked last on a way.
 
-ghost use Rattle.std.specs.Prelude.{◌≡◌, Some, filter, ◌<◌, ◌+◌, ◌≤◌, ◌^◌, ◌&&◌, ◌++◌, [], ◌∷◌, map, length, reverse, if◌then◌else◌, option_map, slice_get, IfOk, OnOk};
-ghost use Rattle.node_model.specs.Ends.{same_bool};
+ghost use Rattle.std.specs.Prelude.{◌≡◌, Some, filter, ◌<◌, ◌+◌, ◌^◌, ◌&&◌, ◌++◌, [], ◌∷◌, map, reverse, if◌then◌else◌, option_map, slice_get, IfOk, OnOk};
+ghost use Rattle.annex_base.specs.Bools.{same_bool};
 ghost use Rattle.run_model.specs.Past.{is_of};
 ghost use Rattle.run_model.specs.Frames.{flying_frame, frames_sent, is_job, is_on, last_of, last_request, next_sender, says, on_way, said_of, sender, sender_of, sending_entry, taken_count, taker_of, takes, up_of, way_of};
 ghost use Rattle.run_model.specs.Said.{is_request};

@@ -1,7 +1,7 @@
 //! The steps of a job, and when its drop made the first: then it read the logs.
 
 ghost use Rattle.std.specs.Prelude.{◌≡◌, Some, None, not, ◌&&◌, ◌||◌, reverse, take, if◌then◌else◌, option_map, IfOk};
-ghost use Rattle.node_model.specs.Look.{first_of};
+ghost use Rattle.std.specs.Option.{option_or};
 ghost use Rattle.p2p_wire.specs.declared.message.Message.TheVariants.{Success};
 ghost use Rattle.run_model.specs.Past.{is_of};
 ghost use Rattle.run_model.specs.Logs.{before_step, ends_transfer, has_it, has_stepped, hears_has_it, in_drop, is_quiet, is_step, read_at, starts_drop};
@@ -208,7 +208,7 @@ pub(crate) fn before_step(
 }
 
 fn first_place(first: Option<usize>, at: usize, steps: bool) -> Option<usize>
-    ensures { result ≡ first_of first (if steps then Some at else None) }
+    ensures { result ≡ option_or first (if steps then Some at else None) }
 {
     match first {
         Some(place) => Some(place),

@@ -1,7 +1,7 @@
 //! What a repository vouched to a job of another, and what the job was told of that.
 
 ghost use Rattle.std.specs.Prelude.{◌≡◌, Some, None, if◌then◌else◌, reverse, option_map, IfOk};
-ghost use Rattle.node_model.specs.Look.{first_of};
+ghost use Rattle.std.specs.Option.{option_or};
 ghost use Rattle.node_model.specs.Slots.{job_of};
 ghost use Rattle.run_model.specs.Frames.{sender};
 ghost use Rattle.run_model.specs.Drops.{asked_at, asker, asker_of, is_asker, reply, tells, vouches_sent, vouch, vouch_kind};
@@ -204,7 +204,7 @@ pub(crate) fn reply(
 }
 
 fn newer(new: Option<Told>, old: Option<Told>) -> Option<Told>
-    ensures { result ≡ first_of new old }
+    ensures { result ≡ option_or new old }
 {
     match new {
         Some(told) => Some(told),

@@ -1,22 +1,18 @@
 -- An entry of another repository changes nothing of a repository's state.
 use Rattle.std.proofs.Common.{◌≡◌, ℕ, Bool, false, List, ◌∷◌, Option, Some, None, refl, ap, ◌∙◌}
 use Rattle.std.specs.Prelude.{◌&&◌, if◌then◌else◌}
-use Rattle.std.specs.Option.{unwrap_or}
+use Rattle.std.specs.Option.{option_or, unwrap_or}
 use Rattle.annex_base.proofs.Functions.{funext}
+use Rattle.annex_base.proofs.Options.{option_or-none}
 use Rattle.union_merge.specs.Branch.{Files, lines_at}
 use Rattle.trust_groups.specs.Settings.{settings}
 use Rattle.run_data.specs.declared.entry.Entry.{Entry}
 use Rattle.run_data.specs.declared.run.RepoView.{RepoView}
 use Rattle.node_model.specs.Clocks.{runs_on}
-use Rattle.node_model.specs.Look.{first_of}
 use Rattle.node_model.specs.SetUp.{SetUp}
 use Rattle.run_model.specs.Past.{begun_count, clock_set, holds, is_of, entry_count}
 use Rattle.run_model.specs.Logs.{before_step, branch, lines_ever, in_drop, is_step, read_at, settings_of}
 use Rattle.run_model.specs.States.{owes, state_of, works}
-
-first_none : {X : Type 0} (o : Option X) → first_of o None ≡ o
-first_none None = refl
-first_none (Some x) = refl
 
 module _ (past : List Entry) (e : Entry) (r : ℕ) (is : is_of r e ≡ false) where
   set_other : (repos : List RepoView) → clock_set repos (e ∷ past) r ≡ clock_set repos past r
@@ -44,7 +40,7 @@ module _ (past : List Entry) (e : Entry) (r : ℕ) (is : is_of r e ≡ false) wh
   settings_other = ap settings (funext (lines_ever (e ∷ past) r) (lines_ever past r) (λ path. rw is refl))
 
   before_other : (j : ℕ) → before_step (e ∷ past) r j ≡ before_step past r j
-  before_other j = ap (λ (b : Bool). first_of (before_step past r j) (if b && (is_step j e.kind && in_drop past r j) then Some past else None)) is ∙ first_none (before_step past r j)
+  before_other j = ap (λ (b : Bool). option_or (before_step past r j) (if b && (is_step j e.kind && in_drop past r j) then Some past else None)) is ∙ option_or-none (before_step past r j)
 
   read_other : (j : ℕ) → settings_of (read_at (e ∷ past) r j) r ≡ settings_of (read_at past r j) r
   read_other j = ap (λ o. settings_of (unwrap_or o (e ∷ past)) r) (before_other j) ∙ go (before_step past r j)

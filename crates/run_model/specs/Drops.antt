@@ -1,6 +1,7 @@
 -- The evidence of a drop (git-annex-numcopies and git-annex-mincopies; how it is gathered is the project's own).
 use Rattle.std.specs.Prelude.{ℕ, ◌+◌, Bool, true, false, not, ◌&&◌, ◌||◌, if◌then◌else◌, ◌==◌, List, [], ◌∷◌, ◌++◌, length, Option, Some, None, option_map}
 use Rattle.std.specs.List.{list_any}
+use Rattle.std.specs.Option.{option_or}
 use Rattle.annex_base.specs.declared.kinds.Found.{Found}
 use Rattle.annex_base.specs.declared.kinds.Found.TheVariants.{Present, Absent as found_absent, Barred as found_barred}
 use Rattle.drop_proof.specs.declared.rule.Need.{Need}
@@ -25,7 +26,6 @@ use Rattle.p2p_wire.specs.declared.message.Message.TheVariants.{CheckPresent, Fa
 use Rattle.run_model.specs.Said.{Said, Says, CloseIt, is_close, message_in}
 use Rattle.run_model.specs.Frames.{SendingEntry, is_job, last_request, said_of, sender, up_of, way_of}
 use Rattle.run_model.specs.Logs.{before_step, in_drop, is_step, read_at, settings_of}
-use Rattle.node_model.specs.Look.{first_of}
 use Rattle.node_model.specs.Evidence.{Standing, Claimed, Ignored, Asked, standing_by, Offer, Gives, Fails, gather, candidates, reached_candidates}
 use Rattle.node_model.specs.Clocks.{hold_time}
 
@@ -185,7 +185,7 @@ tells_cause past e r a j = cause_with past e r a j (sender past a e.taken)
 
 -- a close here tells a job that has not been told yet
 abbrev pub or_closed : List Entry → Entry → ℕ → ℕ → ℕ → Option Cause → Option Cause
-or_closed past e r a j old = first_of old (if is_of a e then cause_closed (jobs past a) j r e.kind else None)
+or_closed past e r a j old = option_or old (if is_of a e then cause_closed (jobs past a) j r e.kind else None)
 
 -- the last that job j of a was told of why r gave nothing
 abbrev pub told_cause : List Entry → ℕ → ℕ → ℕ → Option Cause

@@ -2,7 +2,7 @@
 -- the project's own).
 use Rattle.std.specs.Prelude.{ℕ, Bool, true, false, ◌&&◌, ◌||◌, ◌==◌, if◌then◌else◌, not, List, [], ◌∷◌, ◌++◌, Option, Some, None, bytes_eq, option_map}
 use Rattle.std.specs.List.{list_any}
-use Rattle.std.specs.Option.{unwrap_or}
+use Rattle.std.specs.Option.{option_or, unwrap_or}
 use Rattle.annex_base.specs.Settings.{Settings}
 use Rattle.drop_proof.specs.declared.rule.Need.{Need}
 use Rattle.union_merge.specs.Branch.{Files, file_at, lines_at, with_file, merged_file}
@@ -23,7 +23,6 @@ use Rattle.node_model.specs.Slots.{job_by, job_of}
 use Rattle.run_model.specs.Frames.{last_request, said_of, up_of, way_of}
 use Rattle.run_data.specs.Files.{file_path, kind_of}
 use Rattle.node_model.specs.Files.{compact_lines}
-use Rattle.node_model.specs.Look.{first_of}
 
 -- ---- every line ever added
 
@@ -105,7 +104,7 @@ in_drop (e ∷ past) a j = in_drop past a j || (is_of a e && starts_drop past a 
 -- what stood before the first step of the drop of job j of a, once it has made one
 abbrev pub before_step : List Entry → ℕ → ℕ → Option (List Entry)
 before_step [] a j = None
-before_step (e ∷ past) a j = first_of (before_step past a j) (if is_of a e && (is_step j e.kind && in_drop past a j) then Some past else None)
+before_step (e ∷ past) a j = option_or (before_step past a j) (if is_of a e && (is_step j e.kind && in_drop past a j) then Some past else None)
 
 -- The past that job j of a reads: its drop reads the logs at its first step.
 abbrev pub read_at : List Entry → ℕ → ℕ → List Entry

@@ -1,0 +1,7 @@
+-- When two truth values are the same.
+use Rattle.std.specs.Prelude.{Bool, true, false}
+
+abbrev pub same_bool : Bool → Bool → Bool
+same_bool true b = b
+same_bool false true = false
+same_bool false false = true
