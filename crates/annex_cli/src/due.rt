@@ -59,7 +59,7 @@ fn script_due(alloc: Global, bytes: &[u8], script: &Script) -> Result<Due, NoMem
     ensures due { IfOk result (λ d. IsDue bytes.now d.status d.text.items) }
     ensures good { OnOk result (HasGoodRun bytes.now) }
 {
-    // A law, for the proof.
+    // A law: commands for none of which a part is missing have their lines.
     scripts_without_a_missing_form_have_lines();
     let commands = script.lines();
     match first_missing(commands) {

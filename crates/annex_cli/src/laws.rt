@@ -18,7 +18,7 @@ pub fn cut_script_runs_have_a_full_history()
     ensures { (bytes : List ℕ) (script : List Command) (lines : List Line) → IsScript bytes script lines
         → (limited_run (driver_input_of script) lines).is_cut ≡ true → HasFullHistory (limited_run (driver_input_of script) lines).run }
 {
-    // For the proof, which cites them.
+    // Laws: a cut run has a full history where each line is one of a run, as those of a script are.
     cut_runs_have_a_full_history();
     scripts_may_be_driven();
 }
@@ -29,7 +29,7 @@ pub fn one_answer_is_due_for_every_text()
     ensures one { (bytes text more : List ℕ) (status other : Status) → IsDue bytes status text → IsDue bytes other more
         → (status ≡ other) × (text ≡ more) }
 {
-    // For the proof, which cites them.
+    // Laws: a script can be driven or misses a part, not both; where its run is cut, a history is full.
     scripts_run_or_miss_a_form();
     scripts_are_built_or_not();
     cut_script_runs_have_a_full_history();

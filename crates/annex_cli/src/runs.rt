@@ -39,7 +39,7 @@ fn run_lines<K: FailingKeeper>(fleet: &mut Fleet<K>, script: &Script) -> Result<
     ensures done { OnOk result (HasDone (λ k. store_view (K.contents k) (K.parts k) (K.failing k) (K.faults k)) script.now [] fleet.new) }
     ensures cut { (r : ℕ) → result ≡ Err (FleetStop.Full r) → IsRunOf script.now true fleet.new.run }
 {
-    // Laws, for the proof.
+    // Laws: no line changes the marks before it, and each takes as much time as its command waits.
     runs_are_cut_where_histories_are_full();
     only_waits_take_time();
     lines_wait_as_long();
@@ -59,7 +59,7 @@ pub fn run_script(alloc: Global, script: &Script) -> Result<Ran, NoMemory>
     requires few { length script.now ≤ most_lines }
     ensures { IfOk result (λ ran. IsRunOf script.now ran.is_cut ran.run) }
 {
-    // A law, for the proof.
+    // A law: what the driver is given decides whether bytes are a key's.
     bytes_are_matched();
     let mut fleet = Fleet::new(alloc, script)?;
     let ended = run_lines(&mut fleet, script);

@@ -51,16 +51,19 @@ pub fn driven_runs_are_runs()
     ensures causes { (g : DriverInput) (lines : List Line) → Each IsSetUp g.repos → Each (IsOne g) lines → HasBoundedPast (driver_after g lines)
         → HasCauses (run_of g lines) }
 {
-    // For the proof, which cites them.
+    // Laws of a step: what it found, takes and names, and that its entry suits its ends and goes to others.
     steps_find_their_cause();
     own_entries_suit_their_ends();
     steps_take_what_is_at_hand();
     steps_name_their_jobs();
     frames_go_to_others();
+    // A law: a running job keeps the key that was asked of it.
     running_jobs_stay_the_same();
+    // Laws: a run grows by each such entry, is safe, and has the cause of each refusal.
     runs_grow();
     runs_are_safe();
     refusals_have_causes();
+    // Laws: a file is read off its path, what its log lacks is a set of lines, and a text without a fault is a key's.
     files_have_their_paths();
     unions_have_the_lines_of_both();
     differences_make_the_union();
@@ -71,17 +74,21 @@ pub fn driven_runs_are_runs()
 pub fn runs_log_lines()
     ensures { (run : Run) → IsRun run → Each (λ e. LogsWell e.kind e.lines) run.entries }
 {
-    // For the proof, which cites them.
+    // A law: what a step found tells the lines of its entry, and its key.
     steps_find_their_cause();
+    // The shared lemmas take these along, for other facts.
     own_entries_suit_their_ends();
     steps_take_what_is_at_hand();
     steps_name_their_jobs();
     frames_go_to_others();
+    // A law: a running job keeps the key that was asked of it.
     running_jobs_stay_the_same();
+    // The shared lemmas take these along, for other facts.
     runs_grow();
     files_have_their_paths();
     unions_have_the_lines_of_both();
     differences_make_the_union();
+    // A law: a text without a fault is a key's, so its log has a path.
     key_texts_have_no_fault();
 }
 
@@ -96,7 +103,7 @@ pub fn settlings_come_to_rest()
     ensures idle { (g : DriverInput) (r : ℕ) (d : Driver) → length (turn g r d).past ≡ length d.past
         → step (set_up_of g d r) (state_at g d r) (plain_look (set_up_of g d r) (without_old_flights (state_at g d r) r d)) ≡ None }
 {
-    // A law, for the proof.
+    // A law: an entry names the job of its step, so looks that differ in part and words find a step alike.
     steps_name_their_jobs();
 }
 
@@ -106,7 +113,7 @@ pub fn ends_have_small_numbers()
     ensures sent { (g : DriverInput) (d : Driver) (r : ℕ) (a : EndName) → IsSound g d → (end_at d.past r a).sent ≤ 2 * length d.past }
     ensures epoch { (g : DriverInput) (d : Driver) (r : ℕ) (a : EndName) → IsSound g d → (end_at d.past r a).epoch ≤ 2 * length d.past }
 {
-    // For the proof, which cites them.
+    // Laws: what a step found tells what it sends, and its entry suits its ends.
     steps_find_their_cause();
     own_entries_suit_their_ends();
 }
@@ -132,7 +139,7 @@ pub fn sound_drivers_keep_their_jobs()
     ensures asked { (g : DriverInput) (d : Driver) (past : List Entry) (e : Entry) (r : ℕ) → IsSound g d → d.past ≡ e ∷ past → is_of r e ≡ true
         → AnswersAsked past r e }
 {
-    // For the proof, which cites them.
+    // Laws: what holds of the jobs, frames and words of a run, which the entries of a sound driver are.
     jobs_hear_nobody_twice();
     frames_go_to_others();
     kept_words_were_asked();

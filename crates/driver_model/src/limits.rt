@@ -52,14 +52,17 @@ pub fn starts_of_steps_stay_sound()
     ensures content { (g : DriverInput) (r : ℕ) (key bytes : List ℕ) (d : Driver) → IsKnown g r → IsContent key bytes
         → is_busy g d r key ≡ false → StaysSound g d (gets_content r key bytes (puts_part r key bytes (drops_part r key d))) }
 {
-    // For the proof, which cites them.
+    // Laws: what a step found, and that its entry suits its ends.
     steps_find_their_cause();
     own_entries_suit_their_ends();
+    // The shared lemmas take these along, for turns.
     steps_take_what_is_at_hand();
     steps_name_their_jobs();
+    // Laws: frames go to others, a running job keeps its key, and a run grows by each such entry.
     frames_go_to_others();
     running_jobs_stay_the_same();
     runs_grow();
+    // Laws: a file is read off its path, what its log lacks is a set of lines, and a text without a fault is a key's.
     files_have_their_paths();
     unions_have_the_lines_of_both();
     differences_make_the_union();

@@ -27,7 +27,7 @@ pub fn merges_leave_the_union()
     ensures failed { (r other q : ℕ) (d : Driver) → fails_at d r calls.PutFile ≡ true → branch (merges r other d).past q ≡ branch d.past q }
     ensures others { (r other q : ℕ) (d : Driver) → q ≢ r → branch (merges r other d).past q ≡ branch d.past q }
 {
-    // For the proof, which cites them.
+    // Laws: the files of a run are read off their paths and are sets of lines; their merge has the lines of both.
     runs_log_lines();
     files_have_their_paths();
     files_are_changed_alone();

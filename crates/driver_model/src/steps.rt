@@ -54,14 +54,17 @@ pub fn drivers_stay_sound()
     ensures mark { (g : DriverInput) (d : Driver) → StaysSound g d (with_mark d) }
     ensures line { (g : DriverInput) (line : Line) (d : Driver) → IsOne g line → StaysSound g d (does g line d) }
 {
-    // For the proof, which cites them.
+    // Laws of a step: what it found, takes and names, and that its entry suits its ends and goes to others.
     steps_find_their_cause();
     own_entries_suit_their_ends();
     steps_take_what_is_at_hand();
     steps_name_their_jobs();
     frames_go_to_others();
+    // A law: a running job keeps the key that was asked of it.
     running_jobs_stay_the_same();
+    // A law: a run begins without entries, and grows by each such entry, mark and change of the tree.
     runs_grow();
+    // Laws: a file is read off its path, what its log lacks is a set of lines, and a text without a fault is a key's.
     files_have_their_paths();
     unions_have_the_lines_of_both();
     differences_make_the_union();

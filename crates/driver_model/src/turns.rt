@@ -29,6 +29,6 @@ pub fn turns_are_found()
         → turn g r d ≡ driver_at_turn g r d }
     ensures moved { (g : DriverInput) (r : ℕ) (d : Driver) (m : Effect) → MakesStep g r d m → turn g r d ≡ after_step g r d m }
 {
-    // A law, for the proof.
+    // A law: an entry names the job of its step, so looks that differ in part and words find steps of one job.
     steps_name_their_jobs();
 }

@@ -24,7 +24,7 @@ pub fn scripts_may_be_driven()
     ensures apart { (text : List ℕ) (all : List Command) (lines : List Line) → IsScript text all lines → AllPairs (λ a b. a ≢ b) (map (λ repo. repo.id) (repos_of all)) }
     ensures lines { (text : List ℕ) (all : List Command) (lines : List Line) → IsScript text all lines → Each (IsOne (driver_input_of all)) lines }
 {
-    // For the proof, which cites them.
+    // Laws: what each command has where it stands, and that the text of a key has no fault.
     commands_stand();
     key_texts_have_no_fault();
 }
@@ -33,7 +33,7 @@ pub fn scripts_may_be_driven()
 pub fn bytes_are_matched()
     ensures { (key bytes : List ℕ) → (matches key bytes ≡ true) ↔ MatchesKey key bytes }
 {
-    // For the proof, which cites it.
+    // A law: a verdict is Right exactly on the content of the key.
     verdicts_are_matches();
 }
 

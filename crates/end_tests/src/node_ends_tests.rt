@@ -96,7 +96,7 @@ fn is_end_of_two(ends: &Ends, id: EndId) -> bool
     requires { length ends.now ≡ 16 }
     ensures { result ≡ true → is_some (link_at ends.now (name_of id)) ≡ true }
 {
-    // A law, for the proof.
+    // A law: each end of two repositories is there.
     ends_are_there();
     id.peer < 2 && id.slot < 4
 }
@@ -106,7 +106,7 @@ fn open(ends: &mut Ends, id: EndId) -> Option<Seen>
     ensures count { length ends.new ≡ 16 }
     ensures paired { StayPaired ends.old ends.new }
 {
-    // A law, for the proof.
+    // A law: where an end has room, it may send an Opening.
     room_permits_frames();
     if !is_end_of_two(ends, id) {
         return None;
@@ -123,7 +123,7 @@ fn say(alloc: Global, ends: &mut Ends, id: EndId, byte: u8) -> Result<Option<See
     ensures count { length ends.new ≡ 16 }
     ensures paired { StayPaired ends.old ends.new }
 {
-    // A law, for the proof.
+    // A law: where an end has room, it may send a line.
     room_permits_frames();
     if !is_end_of_two(ends, id) {
         return Ok(None);
@@ -142,7 +142,7 @@ fn give(alloc: Global, ends: &mut Ends, id: EndId) -> Result<Option<Seen>, NoMem
     ensures count { length ends.new ≡ 16 }
     ensures paired { StayPaired ends.old ends.new }
 {
-    // A law, for the proof.
+    // A law: where an end has room, it may send bytes.
     room_permits_frames();
     if !is_end_of_two(ends, id) {
         return Ok(None);
@@ -178,7 +178,7 @@ fn close(ends: &mut Ends, id: EndId) -> Option<Seen>
     ensures count { length ends.new ≡ 16 }
     ensures paired { StayPaired ends.old ends.new }
 {
-    // A law, for the proof.
+    // A law: where an end is open, it may send a Close.
     room_permits_frames();
     if !is_end_of_two(ends, id) {
         return None;
@@ -231,7 +231,7 @@ fn at_client(
     ensures second { length second.new ≡ 16 }
     ensures joined { AreJoined 0 1 first.new second.new }
 {
-    // A law, for the proof.
+    // A law: the ends stay joined, whatever the first repository takes and sends.
     ends_stay_joined();
     let seen = does(alloc, first, CLIENT, what);
     carry_ends(first, 0, second, 1);
@@ -252,7 +252,7 @@ fn at_server(
     ensures second { length second.new ≡ 16 }
     ensures joined { AreJoined 0 1 first.new second.new }
 {
-    // A law, for the proof.
+    // A law: the ends stay joined, whatever the second repository takes and sends.
     ends_stay_joined();
     let seen = does(alloc, second, SERVER, what);
     carry_ends(first, 0, second, 1);
@@ -280,7 +280,7 @@ fn go_on(
 }
 
 fn first_other(alloc: Global, steps: &[(Side, Act, Option<Seen>)]) -> Result<Option<usize>, Fail> {
-    // A law, for the proof.
+    // A law: the ends of two repositories are joined at first.
     ends_stay_joined();
     let mut first = ends_of_two(alloc)?;
     let mut second = ends_of_two(alloc)?;

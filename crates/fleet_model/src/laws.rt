@@ -63,7 +63,7 @@ pub fn fleets_begin<K>()
         → ((r : ℕ) (keeper : K) → slice_get keepers r ≡ Some keeper → IsStoreOf at_first r (tells keeper)) → f.run ≡ run_with g at_first → IsSound g at_first
         → HasCome tells g at_first f }
 {
-    // For the proof, which cites them.
+    // Laws: at first the ends are as the flights tell, and the words beside frames and of jobs as the past has them.
     ends_begin_without_flights();
     words_stay_with_frames();
     heard_words_are_told();
@@ -128,9 +128,10 @@ pub fn fleets_do_lines<K>()
     ensures mark { (tells : K → StoreView) (g : DriverInput) (d : Driver) (f f' : FleetView K) → f'.nodes ≡ f.nodes → f'.run ≡ record f.run { marks = f.run.marks ++ length f.run.entries ∷ [] }
         → StaysSound g d (with_mark d) → HasCome tells g d f → HasCome tells g (with_mark d) f' }
 {
-    // For the proof, which cites them.
+    // Laws: an entry of a script keeps the words beside frames, and those that jobs were told, as the past has them.
     words_stay_with_frames();
     heard_words_are_told();
+    // Laws: a node's state agrees with the driver's, whose jobs have the numbers of their beginnings.
     carried_states_agree();
     sound_drivers_keep_their_jobs();
 }
@@ -146,19 +147,23 @@ pub fn fleets_take_turns<K>()
         → HasCome tells g d was → OneTurns r n m was after → StandsWell g d r n
         → m ≡ with_links (with_newest d n) (map after_drop n.parts.links) → IsIdle (with_newest d n) (set_up_of g d r) → HasCome tells g (turn g r d) after }
 {
-    // For the proof, which cites them.
+    // Laws: a node's state agrees with the driver's, and what a step found says what it changes.
     carried_states_agree();
     steps_find_their_cause();
+    // Laws: a node's look sees the flights, and after the turn all ends are as the flights tell.
     looks_see_the_flights();
     dropped_ends_keep_their_flights();
     turns_keep_all_ends();
     steps_are_posted();
+    // Laws: the words beside frames, and those that jobs were told, stay those of the past.
     words_stay_with_frames();
     heard_words_are_told();
+    // Laws: all ends are listed; the driver's turn is the step that the node makes, and leaves it sound, with its jobs.
     ends_are_there();
     turns_are_found();
     drivers_stay_sound();
     sound_drivers_keep_their_jobs();
+    // A law: a step fails of the call that its look has fail, where that is one of its calls.
     steps_tell_the_failed_call();
 }
 
@@ -169,7 +174,7 @@ pub fn fleets_rest<K>()
         → HasCome tells g d was → OneGoesOn r n m was after → AreNodes was.nodes → StandsWell g d r n → map after_drop n.parts.links ≡ n.parts.links
         → m ≡ with_newest d n → IsIdle (with_newest d n) (set_up_of g d r) → HasCome tells g (turn g r d) after }
 {
-    // For the proof, which cites them.
+    // Laws: to carry frames changes no end that is as the flights tell, and an idle turn comes to where the driver is.
     ends_in_flight_are_carried();
     fleets_take_turns::<K>();
 }

@@ -67,11 +67,12 @@ pub fn fleets_stop_at_full_histories<K>()
         → MeetsFullBehind key bytes (tells n.keeper).contents (tells n.keeper).failing (tells m.keeper).failing (with_newest d n) m → length bytes < 2 ^ 62
         → StopsAtFull g r (has g r key bytes d) after.run }
 {
-    // For the proof, which cites them.
+    // Laws: steps add own entries, a full history none within the limit; starts are sound; an idle turn found no step.
     steps_add_own_entries();
     starts_of_steps_stay_sound();
     runs_are_cut_where_histories_are_full();
     settlings_come_to_rest();
+    // Laws of a turn: the node's state, frames and room are the driver's. The lemmas take the others along.
     carried_states_agree();
     steps_find_their_cause();
     looks_see_the_flights();

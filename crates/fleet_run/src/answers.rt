@@ -89,7 +89,7 @@ impl<K: FailingKeeper> Running<K> {
         ensures nodes { self.new.nodes ≡ self.old.nodes }
         ensures rest { OnlyAddsEntries self.old self.new }
     {
-        // A law, for the proof.
+        // A law: each start of a run is a run.
         runs_grow();
         if let Err(FleetStop::NoMemory) = line {
             return line;

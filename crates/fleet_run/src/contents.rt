@@ -40,7 +40,7 @@ impl<K: FailingKeeper> Running<K> {
         ensures room { OnOk result (HasRoom (λ k. store_view (K.contents k) (K.parts k) (K.failing k) (K.faults k)) repo self.old) }
         ensures rest { OnlyAddsEntries self.old self.new }
     {
-        // Laws, for the proof.
+        // Laws: the fleet goes on as the driver, which stays sound and only adds entries, or stops at a full history.
         fleets_do_lines::<K>();
         drivers_stay_sound();
         drivers_only_add();

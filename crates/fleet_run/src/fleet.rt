@@ -106,7 +106,7 @@ impl<K: FailingKeeper> Fleet<K> {
         ensures nodes { IfOk result (λ f. length f.nodes ≡ length repos) }
         ensures empty { IfOk result (λ f. f.run ≡ record { repos = repos; entries = []; tree = []; marks = [] }) }
     {
-        // Laws, for the proof.
+        // Laws: new nodes are where the driver is at first, it is sound there, and is given what decides matches.
         fleets_begin::<K>();
         drivers_stay_sound();
         bytes_are_matched();
@@ -138,7 +138,7 @@ impl<K: FailingKeeper> Fleet<K> {
         ensures kept { OnErr result (OnlyAddsEntries self.old self.new) }
     {
         if self.stopped {
-            // A law, for the proof.
+            // A law: a line only adds entries to the driver's, so the fleet's run is a start of them.
             drivers_only_add();
             return Err(FleetStop::NoMemory);
         }

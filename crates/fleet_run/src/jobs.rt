@@ -35,7 +35,7 @@ impl<K: FailingKeeper> Running<K> {
         ensures stopped { OnErr result (StopsWithin (λ k. store_view (K.contents k) (K.parts k) (K.failing k) (K.faults k)) (λ g d. begins repo job.now d) self.old self.new) }
         ensures rest { OnlyAddsEntries self.old self.new }
     {
-        // Laws, for the proof.
+        // Laws: the fleet goes on as the driver, which stays sound and only adds entries, or stops at a full history.
         fleets_do_lines::<K>();
         drivers_stay_sound();
         drivers_only_add();
@@ -59,7 +59,7 @@ impl<K: FailingKeeper> Running<K> {
         ensures stopped { OnErr result (StopsWithin (λ k. store_view (K.contents k) (K.parts k) (K.failing k) (K.faults k)) (λ g d. settles g (begins repo job.now d)) self.old self.new) }
         ensures rest { OnlyAddsEntries self.old self.new }
     {
-        // Laws, for the proof.
+        // Laws: a settling only adds entries, and a full history that the job meets is met still.
         drivers_only_add();
         runs_are_cut_where_histories_are_full();
         self.begins(repo, job)?;
@@ -75,7 +75,7 @@ impl<K: FailingKeeper> Running<K> {
         ensures stopped { OnErr result (StopsWithin (λ k. store_view (K.contents k) (K.parts k) (K.failing k) (K.faults k)) (λ g d. will_fail repo call d) self.old self.new) }
         ensures rest { OnlyAddsEntries self.old self.new }
     {
-        // Laws, for the proof.
+        // Laws: the fleet goes on as the driver, which stays sound and only adds entries.
         fleets_do_lines::<K>();
         drivers_stay_sound();
         drivers_only_add();
@@ -92,7 +92,7 @@ impl<K: FailingKeeper> Running<K> {
         ensures stopped { OnErr result (StopsWithin (λ k. store_view (K.contents k) (K.parts k) (K.failing k) (K.faults k)) (λ g d. waits milliseconds d) self.old self.new) }
         ensures rest { OnlyAddsEntries self.old self.new }
     {
-        // Laws, for the proof.
+        // Laws: the fleet goes on as the driver, which stays sound and only adds entries.
         fleets_do_lines::<K>();
         drivers_stay_sound();
         drivers_only_add();

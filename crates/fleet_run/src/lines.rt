@@ -26,7 +26,7 @@ impl<K: FailingKeeper> Running<K> {
         ensures stopped { OnErr result (StopsWithin (λ k. store_view (K.contents k) (K.parts k) (K.failing k) (K.faults k)) (does_command command.now) self.old self.new) }
         ensures kept { OnErr result (OnlyAddsEntries self.old self.new) }
     {
-        // A law, for the proof.
+        // A law: no line changes the marks before it, and no past with few entries of each repository is too long.
         runs_are_cut_where_histories_are_full();
         self.does(command)?;
         // For the proof: no history is longer than it may be.
@@ -45,7 +45,7 @@ impl<K: FailingKeeper> Running<K> {
         ensures stopped { OnErr result (StopsWithin (λ k. store_view (K.contents k) (K.parts k) (K.failing k) (K.faults k)) (does_command command.now) self.old self.new) }
         ensures rest { OnlyAddsEntries self.old self.new }
     {
-        // Laws, for the proof.
+        // Laws: the text of a key has no fault, and the run is cut where a line meets a full history.
         key_texts_have_no_fault();
         runs_are_cut_where_histories_are_full();
         match command {

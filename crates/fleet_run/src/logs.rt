@@ -36,11 +36,12 @@ impl<K: FailingKeeper> Running<K> {
         ensures stopped { OnErr result (StopsWithin (λ k. store_view (K.contents k) (K.parts k) (K.failing k) (K.faults k)) (λ g d. sets g repo kind topic value d) self.old self.new) }
         ensures rest { OnlyAddsEntries self.old self.new }
     {
-        // Laws, for the proof.
+        // Laws: the fleet goes on as the driver, which stays sound and only adds entries, or stops at a full history.
         fleets_do_lines::<K>();
         drivers_stay_sound();
         drivers_only_add();
         fleets_stop_at_full_histories::<K>();
+        // A law: the line of a setting is one line.
         settings_are_lines();
         let entry = Entry {
             topic,
@@ -65,11 +66,12 @@ impl<K: FailingKeeper> Running<K> {
         ensures stopped { OnErr result (StopsWithin (λ k. store_view (K.contents k) (K.parts k) (K.failing k) (K.faults k)) (λ g d. writes repo file.now line.now d) self.old self.new) }
         ensures rest { OnlyAddsEntries self.old self.new }
     {
-        // Laws, for the proof.
+        // Laws: the fleet goes on as the driver, which stays sound and only adds entries, or stops at a full history.
         fleets_do_lines::<K>();
         drivers_stay_sound();
         drivers_only_add();
         fleets_stop_at_full_histories::<K>();
+        // A law: a file is read off its path.
         files_have_their_paths();
         let path = file.path(self.alloc)?;
         let had = self.raise(repo);
@@ -90,7 +92,7 @@ impl<K: FailingKeeper> Running<K> {
         ensures stopped { OnErr result (StopsWithin (λ k. store_view (K.contents k) (K.parts k) (K.failing k) (K.faults k)) (λ g d. merges repo other d) self.old self.new) }
         ensures rest { OnlyAddsEntries self.old self.new }
     {
-        // Laws, for the proof.
+        // Laws: the fleet goes on as the driver, which stays sound and only adds entries, or stops at a full history.
         fleets_do_lines::<K>();
         drivers_stay_sound();
         drivers_only_add();
@@ -110,7 +112,7 @@ impl<K: FailingKeeper> Running<K> {
         ensures stopped { OnErr result (StopsWithin (λ k. store_view (K.contents k) (K.parts k) (K.failing k) (K.faults k)) (λ g d. compacts repo d) self.old self.new) }
         ensures rest { OnlyAddsEntries self.old self.new }
     {
-        // Laws, for the proof.
+        // Laws: the fleet goes on as the driver, which stays sound and only adds entries, or stops at a full history.
         fleets_do_lines::<K>();
         drivers_stay_sound();
         drivers_only_add();

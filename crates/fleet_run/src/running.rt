@@ -141,7 +141,7 @@ impl<K: FailingKeeper> Running<K> {
         ensures ok { OnOk result (GoesOn (λ k. store_view (K.contents k) (K.parts k) (K.failing k) (K.faults k)) (λ g d. with_mark d) self.old self.new) }
         ensures err { OnErr result (self.new.run ≡ self.old.run) }
     {
-        // Laws, for the proof.
+        // Laws: with a mark the fleet goes on as the driver, which stays sound.
         fleets_do_lines::<K>();
         drivers_stay_sound();
         // For the proof: the place fits.

@@ -89,7 +89,7 @@ impl<K: FailingKeeper> Running<K> {
         ensures stopped { OnErr result (StopsWithin (λ k. store_view (K.contents k) (K.parts k) (K.failing k) (K.faults k)) (λ g d. sets g repo kinds.Uuid (topics.Repo (id_of g.repos target)) (values.Text text.now) d) self.old self.new) }
         ensures rest { OnlyAddsEntries self.old self.new }
     {
-        // A law, for the proof.
+        // A law: a setting only adds entries to the driver's, so the run is a start of them where memory runs out.
         drivers_only_add();
         let topic = Topic::Repo(self.id(target));
         let text = copied_text(text)?;
@@ -112,7 +112,7 @@ impl<K: FailingKeeper> Running<K> {
         ensures stopped { OnErr result (StopsWithin (λ k. store_view (K.contents k) (K.parts k) (K.failing k) (K.faults k)) (λ g d. sets g repo kinds.Group (topics.Repo (id_of g.repos target)) (values.Groups groups.now) d) self.old self.new) }
         ensures rest { OnlyAddsEntries self.old self.new }
     {
-        // A law, for the proof.
+        // A law: a setting only adds entries to the driver's, so the run is a start of them where memory runs out.
         drivers_only_add();
         let topic = Topic::Repo(self.id(target));
         let groups = copied_groups(groups)?;

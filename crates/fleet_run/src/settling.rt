@@ -65,7 +65,7 @@ impl<K: FailingKeeper> Running<K> {
         ensures rest { OnlyAddsEntries self.old self.new }
         ensures count { length self.new.nodes ≡ length self.old.nodes }
     {
-        // Laws, for the proof.
+        // Laws: the fleet takes turns, or rests, as the driver, which only adds entries, or stops at a full history.
         fleets_take_turns::<K>();
         fleets_rest::<K>();
         drivers_only_add();
@@ -92,7 +92,7 @@ impl<K: FailingKeeper> Running<K> {
         ensures stopped { OnErr result (StopsWithin (λ k. store_view (K.contents k) (K.parts k) (K.failing k) (K.faults k)) (λ g d. turns g repo number d) self.old self.new) }
         ensures rest { OnlyAddsEntries self.old self.new }
     {
-        // Laws, for the proof.
+        // Laws: turns come one behind the other and only add entries; a full history that one meets is met by all.
         fleets_settle();
         drivers_only_add();
         runs_are_cut_where_histories_are_full();
@@ -110,7 +110,7 @@ impl<K: FailingKeeper> Running<K> {
         ensures stopped { OnErr result (StopsWithin (λ k. store_view (K.contents k) (K.parts k) (K.failing k) (K.faults k)) (λ g d. round g d) self.old self.new) }
         ensures rest { OnlyAddsEntries self.old self.new }
     {
-        // Laws, for the proof.
+        // Laws: a round is a turn of each, which only adds entries; a full history that one meets is met by the round.
         fleets_settle();
         drivers_only_add();
         runs_are_cut_where_histories_are_full();
@@ -128,7 +128,7 @@ impl<K: FailingKeeper> Running<K> {
         ensures stopped { OnErr result (StopsWithin (λ k. store_view (K.contents k) (K.parts k) (K.failing k) (K.faults k)) (λ g d. settles g d) self.old self.new) }
         ensures rest { OnlyAddsEntries self.old self.new }
     {
-        // Laws, for the proof.
+        // Laws: a settling is rounds, which only add entries; a full history that one meets is met by the settling.
         fleets_settle();
         drivers_only_add();
         runs_are_cut_where_histories_are_full();

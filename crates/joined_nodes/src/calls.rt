@@ -52,7 +52,7 @@ impl<K: Keeper> Nodes<K> {
         ensures others { (i : ℕ) → i ≢ repo → slice_get self.new i ≡ slice_get self.old i }
         ensures count { length self.new ≡ length self.old }
     {
-        // A law, for the proof.
+        // A law, for the proof that the nodes stay joined.
         nodes_stay_joined::<K>();
         self.nodes[repo].advance(time, count);
     }
@@ -71,7 +71,7 @@ impl<K: Keeper> Nodes<K> {
         ensures others { (i : ℕ) → i ≢ repo → slice_get self.new i ≡ slice_get self.old i }
         ensures count { length self.new ≡ length self.old }
     {
-        // A law, for the proof.
+        // A law, for the proof that the nodes stay joined.
         nodes_stay_joined::<K>();
         self.nodes[repo].begin(job)
     }
@@ -95,7 +95,7 @@ impl<K: Keeper> Nodes<K> {
         ensures others { (i : ℕ) → i ≢ repo → slice_get self.new i ≡ slice_get self.old i }
         ensures count { length self.new ≡ length self.old }
     {
-        // A law, for the proof.
+        // A law, for the proof that the nodes stay joined.
         nodes_stay_joined::<K>();
         self.nodes[repo].turn()
     }
@@ -116,7 +116,7 @@ impl<K: Keeper> Nodes<K> {
         ensures others { (i : ℕ) → i ≢ repo → slice_get self.new i ≡ slice_get self.old i }
         ensures count { length self.new ≡ length self.old }
     {
-        // A law, for the proof.
+        // A law, for the proof that the nodes stay joined.
         nodes_stay_joined::<K>();
         self.nodes[repo].write_raw(path, line)
     }
@@ -143,7 +143,7 @@ impl<K: Keeper> Nodes<K> {
         ensures others { (i : ℕ) → i ≢ repo → slice_get self.new i ≡ slice_get self.old i }
         ensures count { length self.new ≡ length self.old }
     {
-        // A law, for the proof.
+        // A law, for the proof that the nodes stay joined.
         nodes_stay_joined::<K>();
         self.nodes[repo].write_log(kind, key, entry)
     }
@@ -164,7 +164,7 @@ impl<K: Keeper> Nodes<K> {
         ensures others { (i : ℕ) → i ≢ repo → slice_get self.new i ≡ slice_get self.old i }
         ensures count { length self.new ≡ length self.old }
     {
-        // A law, for the proof.
+        // A law, for the proof that the nodes stay joined.
         nodes_stay_joined::<K>();
         let bundle = self.nodes[from].bundle()?;
         self.nodes[repo].merge_bundle(&bundle)
@@ -190,7 +190,7 @@ impl<K: Keeper> Nodes<K> {
         ensures others { (i : ℕ) → i ≢ repo → slice_get self.new i ≡ slice_get self.old i }
         ensures count { length self.new ≡ length self.old }
     {
-        // Laws, for the proof.
+        // Laws: the nodes stay joined, since a text is the bundle of a branch or goes wrong at a place.
         nodes_stay_joined::<K>();
         bundles_are_exact();
         self.nodes[repo].merge_bundle(bytes)
@@ -211,7 +211,7 @@ impl<K: Keeper> Nodes<K> {
         ensures others { (i : ℕ) → i ≢ repo → slice_get self.new i ≡ slice_get self.old i }
         ensures count { length self.new ≡ length self.old }
     {
-        // A law, for the proof.
+        // A law, for the proof that the nodes stay joined.
         nodes_stay_joined::<K>();
         self.nodes[repo].compact()
     }
@@ -231,7 +231,7 @@ impl<K: Keeper> Nodes<K> {
         ensures others { (i : ℕ) → i ≢ repo → slice_get self.new i ≡ slice_get self.old i }
         ensures count { length self.new ≡ length self.old }
     {
-        // A law, for the proof.
+        // A law, for the proof that the nodes stay joined.
         nodes_stay_joined::<K>();
         self.nodes[repo].place(key, bytes)
     }
@@ -251,7 +251,7 @@ impl<K: Keeper> Nodes<K> {
         ensures others { (i : ℕ) → i ≢ repo → slice_get self.new i ≡ slice_get self.old i }
         ensures count { length self.new ≡ length self.old }
     {
-        // A law, for the proof.
+        // A law, for the proof that the nodes stay joined.
         nodes_stay_joined::<K>();
         self.nodes[repo].place_part(key, bytes)
     }
@@ -272,7 +272,7 @@ impl<K: FailingKeeper> Nodes<K> {
         ensures others { (i : ℕ) → i ≢ repo → slice_get self.new i ≡ slice_get self.old i }
         ensures count { length self.new ≡ length self.old }
     {
-        // A law, for the proof.
+        // A law, for the proof that the nodes stay joined.
         nodes_stay_joined::<K>();
         self.nodes[repo].fail_next(call)
     }

@@ -18,7 +18,7 @@ fn carry_two<K: Keeper>(nodes: &mut [Node<K>], low: usize, high: usize)
     ensures carried { AreCarriedTwo low high nodes.old nodes.new }
     ensures nodes { AreNodes nodes.new }
 {
-    // A law, for the proof.
+    // A law: the ends of either node and those of a third stay joined when frames are carried.
     ends_stay_joined();
     let (before, from) = nodes.split_at_mut(high);
     carry_nodes(&mut before[low], &mut from[0]);

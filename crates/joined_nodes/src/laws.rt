@@ -11,6 +11,6 @@ use object_store::Keeper;
 pub(crate) fn nodes_stay_joined<K: Keeper>()
     ensures { (nodes : List (NodeView K)) (repo : ℕ) (was now : NodeView K) → AreNodes nodes → slice_get nodes repo ≡ Some was → now.setup ≡ was.setup → StayPaired was.parts.links now.parts.links → AreNodes (slice_set nodes repo now) }
 {
-    // For the proof, which cites it.
+    // A law: the ends of two repositories stay joined, whatever either takes and sends.
     ends_stay_joined();
 }

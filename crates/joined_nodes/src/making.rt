@@ -85,7 +85,7 @@ pub(crate) fn make<K: Keeper>(
     ensures new { IfOk result (λ nodes. AreNew repos.now keepers.items nodes.items) }
     ensures nodes { IfOk result (λ nodes. AreNodes nodes.items) }
 {
-    // A law, for the proof.
+    // A law: the ends of each two repositories are joined at first.
     ends_stay_joined();
     let links = make_links(alloc, repos.len() as u32)?;
     let mut nodes = Vec::with_capacity(alloc, repos.len())?;

@@ -63,7 +63,7 @@ pub fn looks_see_the_flights()
         → AreEnds links s (state_of s d.past) → Member a (all_ends s) → link_at links a ≡ Some v → IsEndIn d.flights s.number a v
         → room_at links a ≡ (plain_look s (without_old_flights (state_of s d.past) s.number d)).room a }
 {
-    // For the proof, which cites them.
+    // Laws: all ends are there, each at another repository, and have small numbers where the driver is sound.
     ends_are_there();
     ends_have_small_numbers();
 }
@@ -125,7 +125,7 @@ pub fn turns_keep_all_ends()
         → e.taken ≡ None → Each (λ f. is_opening f.body ≡ false) e.sent → PostsAsDefined s st d sender word said (was s.number) mine e
         → AreAllCarried (length s.repos) s.number mine was now → AreEndsIn (adds st s.number e d).flights (length s.repos) now }
 {
-    // For the proof, which cites it.
+    // A law: all ends of a repository are listed, so what is known of the listed ones is known of each.
     ends_are_there();
 }
 
@@ -150,7 +150,7 @@ pub fn steps_send_in_order()
     ensures close { (s : SetUp) (st : State) (a b : EndName) → SendsInOrder (st.ends a) a None (close_at s st b) }
     ensures crash { (s : SetUp) (st : State) (a : EndName) → SendsInOrder (st.ends a) a None (closes_all s st) }
 {
-    // For the proof, which cites them.
+    // Laws: ends are listed once; a step found its cause, opens closed ends alone, and takes what is at hand.
     ends_are_apart();
     steps_find_their_cause();
     steps_open_closed_ends();
@@ -169,7 +169,7 @@ pub fn steps_are_posted()
         → bytes ≡ piece_of d st s.number f f.body)
         → PostsAsDefined s st d sender word said was now e }
 {
-    // For the proof, which cites them.
+    // Laws: the ends of a job are apart; a step found its cause, opens closed ends, and takes what is at hand.
     ends_are_apart();
     steps_find_their_cause();
     steps_open_closed_ends();
@@ -199,7 +199,7 @@ pub fn words_stay_with_frames()
     ensures quiet { (past : List Entry) (count : ℕ) (ends : ℕ → List EndView) (e : Entry) → e.taken ≡ None → e.sent ≡ []
         → AreAllWorded past count ends → AreAllWorded (e ∷ past) count ends }
 {
-    // For the proof, which cites it.
+    // A law: all ends of a repository are listed, so what is known of the listed ones is known of each.
     ends_are_there();
 }
 
@@ -229,7 +229,7 @@ pub fn heard_words_are_told()
         → ((j : ℕ) (outcome : Outcome) → m.kind ≡ kinds.End j outcome → (c : ℕ) → own c ≡ words j c)
         → AgreeWhereRead s (state_of s past) m own (told_words past s.number m.kind) }
 {
-    // For the proof, which cites them.
+    // Laws: all ends are at other repositories; a step found its cause, takes what is at hand, and names its job.
     ends_are_there();
     steps_find_their_cause();
     steps_take_what_is_at_hand();

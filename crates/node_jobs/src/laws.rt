@@ -44,7 +44,7 @@ pub fn jobs_stay_where_lines_fail()
 pub fn nameless_are_asked()
     ensures { (lines : Lines) (key : List ℕ) → standing_by (settings lines) key [] ≡ drops.Asked }
 {
-    // A law, for the proof.
+    // A law, for the proof: there is no newest entry of a repository of which no line speaks.
     readings_are_exact();
 }
 
@@ -68,6 +68,6 @@ pub fn jobs_tell_the_failed_call()
     ensures same { (s : SetUp) (st : State) (k : Look) (fails : Option Call) → job_calls s st (record k { fails = fails }) ≡ job_calls s st k }
     ensures ordered { (s : SetUp) (st : State) (k : Look) → AreRising (job_calls s st k) }
 {
-    // A law, for the proof.
+    // A law, for the proof that the step of each slot fails of its own calls.
     steps_fail_of_their_calls();
 }

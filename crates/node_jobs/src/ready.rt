@@ -43,7 +43,7 @@ pub(crate) fn ready(
     ensures waits { IfOk result (λ f. IfSome f (λ feed. WaitsFor ends.old job.now.worker.slot feed.takes)) }
     ensures same { ends.new ≡ ends.old }
 {
-    // A law, for the proof.
+    // A law, for the proof that a look finds the frame that waits at the end.
     frames_wait_at_ends();
     match job.worker().awaits() {
         Some(peer) => {

@@ -34,7 +34,7 @@ fn take_from(ends: &mut Ends, slot: u32, takes: Option<u32>) -> Option<FrameView
     ensures paired { StayPaired ends.old ends.new }
     ensures count { length ends.new ≡ length ends.old }
 {
-    // A law, for the proof.
+    // A law, for the proof that the ends stay as they are where nothing is taken.
     ends_go_on();
     let peer = takes?;
     let id = EndId {
@@ -74,7 +74,7 @@ fn post(ends: &mut Ends, id: EndId, stamp: EntryStamp, said: Sending, sent: &mut
     ensures paired { StayPaired ends.old ends.new }
     ensures count { length ends.new ≡ length ends.old }
 {
-    // A law, for the proof.
+    // A law, for the proof that the end may send a frame that has its place.
     room_permits_frames();
     let frame = ends.post(id, stamp, None, said);
     list(sent, frame);
@@ -171,7 +171,7 @@ fn post_to(
     ensures paired { StayPaired ends.old ends.new }
     ensures count { length ends.new ≡ length ends.old }
 {
-    // Laws, for the proof.
+    // Laws, for the proof that the ends of the repositories are there, and that no frame has its place at other ends.
     ends_are_there();
     room_permits_frames();
     if parcel.peer < repositories {

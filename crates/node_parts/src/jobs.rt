@@ -75,7 +75,7 @@ impl Parts {
         ensures err { OnErr result ((self.new ≡ self.old) × (K.contents keeper.new ≡ K.contents keeper.old)) }
         ensures err_failing { OnErr result (K.failing keeper.new ≡ K.failing keeper.old) }
     {
-        // Laws, for the proof.
+        // Laws, for the proof that the step is the state's: what it reads and sends, and the ends and sessions then.
         ends_go_on();
         jobs_make_their_own_entries();
         local_drops_send_where_there_is_room();
@@ -110,7 +110,7 @@ impl Parts {
         ensures ready { IfOk result (λ b. (c : Contents) (s : SetUp) (st : State) (k : Look) → SeesParts self.old c moment.clock moment.time moment.number s st k → is_some (option_or (session_step s st k) (job_step s st k)) ≡ b) }
         ensures same { self.new ≡ self.old }
     {
-        // A law, for the proof.
+        // A law, for the proof that the logs see a repository without an identifier as one that is asked.
         nameless_are_asked();
         let Moment {
             time,

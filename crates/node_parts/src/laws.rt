@@ -23,7 +23,7 @@ use node_sessions::{sessions_and_jobs_fill, sessions_stay};
 pub fn parts_stay()
     ensures { (s : SetUp) (st : State) (e : Entry) (p : PartsView) → AreSound p → MovesNothing e → AreParts s st p → AreParts s (state_after s st e) p }
 {
-    // Laws, for the proof.
+    // Laws, for the proof that the ends, the jobs and the sessions are those of the state after the entry.
     ends_go_on();
     jobs_stay();
     jobs_stay_where_lines_fail();
@@ -40,7 +40,7 @@ pub fn direct_entries_leave_rows()
 pub fn tables_fill_as_states()
     ensures { (s : SetUp) (st : State) (p : PartsView) (key : List ℕ) → AreSound p → AreParts s st p → is_filling p.table key ≡ is_filled s st key }
 {
-    // A law, for the proof.
+    // A law, for the proof that a state fills what its sessions and jobs fill.
     sessions_and_jobs_fill();
 }
 

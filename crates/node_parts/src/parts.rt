@@ -83,7 +83,7 @@ impl Parts {
         ensures parts { IfOk result (λ p. (s : SetUp) → IsSetUp s id version locks number (length ids) → map (λ (repo : RepoView). repo.id) s.repos ≡ ids → AreParts s (first_state s) p) }
         ensures fed { IfOk result (λ p. (q : StoredParts) → AreAllFed q p.sessions) }
     {
-        // A law, for the proof.
+        // A law, for the proof that the ends are those of the first state.
         ends_begin_closed();
         let count = ids.as_slice().len();
         let table = LockTable::new(alloc)?;
@@ -133,7 +133,7 @@ impl Parts {
         ensures err { OnErr result (self.new ≡ self.old) }
         ensures parts { OnOk result ((s : SetUp) (st : State) (e : Entry) → AreParts s st self.old → e.kind ≡ Begin (self.old.jobs.begun + 1) what → e.taken ≡ None → e.sent ≡ [] → AreParts s (state_after s st e) self.new) }
     {
-        // Laws, for the proof.
+        // Laws, for the proof that the ends and the sessions are those of the state after the entry.
         ends_go_on();
         sessions_stay();
         self.jobs.begin(alloc, what)
@@ -202,7 +202,7 @@ impl Parts {
             count,
             number,
         } = moment;
-        // Laws, for the proof.
+        // Laws, for the proof that a look sees a part and the keys filled, and that all parts are then the state's.
         ends_go_on();
         jobs_stay();
         looks_see_parts();

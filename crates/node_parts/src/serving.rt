@@ -49,7 +49,7 @@ fn take_if(ends: &mut Ends, id: EndId, takes: bool) -> Option<FrameView>
     ensures paired { StayPaired ends.old ends.new }
     ensures count { length ends.new ≡ length ends.old }
 {
-    // Laws, for the proof.
+    // Laws, for the proof where nothing is taken: the ends stay, and with room a line and bytes may be sent.
     ends_go_on();
     room_permits_frames();
     if takes { Some(take(ends, id)) } else { None }
@@ -102,7 +102,7 @@ fn close_if(
     ensures paired { StayPaired ends.old ends.new }
     ensures count { length ends.new ≡ length ends.old }
 {
-    // A law, for the proof.
+    // A law, for the proof that an end that is open may send a Close.
     room_permits_frames();
     let mut all = sent;
     if close {

@@ -117,7 +117,7 @@ fn reply_to<K: Keeper>(
     ensures told { is_some (K.parts keeper.old) ≡ true → is_some (K.contents keeper.new) ≡ is_some (K.contents keeper.old) }
     ensures later { K.faults keeper.old ≤ K.faults keeper.new }
 {
-    // For the proof, which cites it.
+    // A law, for the proof that the reply is a line of the protocol.
     replies_are_short_lines();
     let incoming = heard(alloc, &frame.body)?;
     let room = Room::new(alloc)?;

@@ -34,7 +34,7 @@ use p2p_server::answers_tell_the_failed_call;
 pub fn looks_see_parts()
     ensures { (p : Parts) (xs : List Session) (links : List EndView) (o : Option Served) → AreAllFed p xs → HasPart (Some p) xs links o }
 {
-    // For the proof, which cites it.
+    // A law, for the proof that the verdict on what a session took is Right exactly where that is the key's content.
     verdicts_are_matches();
 }
 
@@ -63,7 +63,7 @@ pub fn sessions_tell_the_failed_call()
     ensures same { (s : SetUp) (st : State) (k : Look) (fails : Option Call) → session_calls s st (record k { fails = fails }) ≡ session_calls s st k }
     ensures ordered { (s : SetUp) (st : State) (k : Look) → AreRising (session_calls s st k) }
 {
-    // For the proof, which cites it.
+    // A law, for the proof that the answer to a frame tells the failed call.
     answers_tell_the_failed_call();
 }
 

@@ -54,7 +54,7 @@ impl Room {
         requires { IsReply message.now }
         ensures { result ≡ Line (text_of message.now) (text_of message.now) }
     {
-        // For the proof, which cites it.
+        // A law, for the proof that the reply is a line of at most 64 bytes.
         replies_are_short_lines();
         let Room { line, listed } = self;
         let line = encoded(line, message);

@@ -74,7 +74,7 @@ impl Sessions {
         ensures fed { IfOk result (λ xs. (p : Parts) → AreAllFed p xs) }
         ensures there { IfOk result (λ xs. (links : List EndView) → length links ≡ count * 8 → HaveEnds links xs) }
     {
-        // For the proof, which cites it.
+        // A law, for the proof that each session's end is there.
         ends_are_there();
         let place = Place {
             id,
@@ -129,7 +129,7 @@ impl Sessions {
         ensures ready { (s : SetUp) (st : State) (k : Look) → AreEnds ends.old s st → SeesEnds ends.old s k → AreSessions s st.sessions self.now → is_some (session_step s st k) ≡ result }
         ensures ends { ends.new ≡ ends.old }
     {
-        // For the proof, which cites it.
+        // A law, for the proof that what waits at an end for a look is what waits there.
         frames_wait_at_ends();
         first_turn(&self.list, ends).is_some()
     }
@@ -204,7 +204,7 @@ impl Sessions {
         ensures err_records { OnErr result (K.records keeper.new ≡ K.records keeper.old) }
         ensures err_failing { OnErr result (K.failing keeper.new ≡ K.failing keeper.old) }
     {
-        // For the proof, which cites them.
+        // Laws, for the proof: a look finds what waits at the ends, and a part that stays is what its session took.
         frames_wait_at_ends();
         others_leave_it();
         match first_turn(&self.list, ends) {

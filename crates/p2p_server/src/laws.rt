@@ -30,7 +30,7 @@ pub fn replies_are_short_lines()
     ensures line { (m : Message) → IsReply m → IsLine m }
     ensures short { (m : Message) → IsReply m → length (text_of m) ≤ 64 }
 {
-    // For the proof, which cites it.
+    // A law, for the proof that a reply has a line of the protocol, as each message that is sent.
     sent_messages_have_lines();
 }
 

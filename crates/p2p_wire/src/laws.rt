@@ -21,7 +21,7 @@ pub fn sent_messages_are_read()
 pub fn sent_messages_have_lines()
     ensures { (m : Message) → IsWire m → IsShort m → IsSaidInOneLine m → IsLine m }
 {
-    // For the proof, which cites it.
+    // A law, for the proof that a key in a message is one line.
     key_texts_have_no_fault();
 }
 

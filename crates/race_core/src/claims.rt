@@ -36,7 +36,7 @@ pub fn least_is_what_drops_read()
     ensures count { (run : Run) (key : List ℕ) (place least : ℕ) → IsRun run → IsReadBefore run key place least
         → ((m : ℕ) → IsReadBefore run key place m → least ≤ m) → least ≤ count_at run key place }
 {
-    // a law, for the proof
+    // a law, for the proof that runs are safe, and each removal judged: each message that is sent is read from its line
     sent_messages_are_read();
 }
 
@@ -53,6 +53,6 @@ pub fn copies_are_enough_without_claims()
         → ((x : Removal) (item : Evidence) → Member x (removals_at run key place) → Member item x.items → is_trusted item.kind ≡ false)
         → least_need (removals_at run key place) ≡ Some least → least ≤ copies_at run key place }
 {
-    // a law, for the proof
+    // a law, for the proof that runs are safe: each message that is sent is read from its line
     sent_messages_are_read();
 }

@@ -30,7 +30,7 @@ pub fn each_removal_is_one_drops()
         → (x : Removal) × (removal_at run key place e ≡ Some x)
         × (is_enough x.side x.need x.items ≡ true) }
 {
-    // a law, for the proof
+    // a law, for the proof that each entry finds what it has to: each message that is sent is read from its line
     sent_messages_are_read();
 }
 
@@ -42,7 +42,7 @@ pub fn removals_by_jobs_are_one_drops()
     ensures once { (run : Run) (place other r j : ℕ) (key also : List ℕ)
         → IsRun run → IsAt run place r (Gone (by_job j) key) → IsAt run other r (Gone (by_job j) also) → other ≡ place }
 {
-    // a law, for the proof
+    // a law, for the proof that a job removes under its bar: each message that is sent is read from its line
     sent_messages_are_read();
 }
 
@@ -55,6 +55,6 @@ pub fn removals_by_orders_are_one_drops()
     ensures once { (run : Run) (place other r q a b : ℕ) (key also : List ℕ) → IsRun run
         → (x : HasOrder run place r a key) → (y : HasOrder run other q b also) → x.at ≡ y.at → other ≡ place }
 {
-    // a law, for the proof
+    // a law, for the proof that an order is taken as it was sent: each message that is sent is read from its line
     sent_messages_are_read();
 }

@@ -29,7 +29,7 @@ pub fn evidence_is_of_other_repositories()
         → IsRun run → slice_get run.entries place ≡ Some e → removal_at run key place e ≡ Some x
         → Member item x.items → item.repo < length run.repos }
 {
-    // a law, for the proof
+    // a law, for the proof of which drop judged the items: each message that is sent is read from its line
     sent_messages_are_read();
 }
 
@@ -45,7 +45,7 @@ pub fn removals_leave_as_many()
         → ((item : Evidence) → Member item x.items → is_full item ≡ true)
         → max x.need.n x.need.m ≤ count_at run key (place + 1) }
 {
-    // a law, for the proof
+    // a law, for the proof that runs are safe, and each removal judged: each message that is sent is read from its line
     sent_messages_are_read();
 }
 
@@ -57,7 +57,7 @@ pub fn recent_items_were_seen()
         → judge_at run place e ≡ Some judge → Member item x.items → item.kind ≡ Recent
         → WasSeen judge item.repo key }
 {
-    // a law, for the proof
+    // a law, for the proof of what the judging drop was told: each message that is sent is read from its line
     sent_messages_are_read();
 }
 
@@ -71,6 +71,6 @@ pub fn locked_items_are_held()
         → judge_at run place e ≡ Some judge → Member item x.items → item.kind ≡ Locked end
         → IsHeld run key place judge item.repo end }
 {
-    // a law, for the proof
+    // a law, for the proof of what the judging drop was told: each message that is sent is read from its line
     sent_messages_are_read();
 }

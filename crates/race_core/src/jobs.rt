@@ -22,7 +22,7 @@ pub fn jobs_hear_nobody_twice()
     ensures numbers { (run : Run) (r : ℕ) → IsRun run
         → Each (λ w. w.number ≤ begun_count (reverse run.entries) r) (works (reverse run.entries) r) }
 {
-    // a law, for the proof
+    // a law, for the proof of what a job has heard, and of whom: each message that is sent is read from its line
     sent_messages_are_read();
 }
 
@@ -38,7 +38,7 @@ pub fn frames_go_to_others()
     ensures takes { (run : Run) (r : ℕ) (k : Look) (m : Effect) (f : FrameView) → IsRun run → r < length run.repos → k.part < 2 ^ 62
         → step (set_up run r) (state_of (set_up run r) (reverse run.entries)) k ≡ Some m → m.taken ≡ Some f → f.peer ≢ r }
 {
-    // a law, for the proof
+    // a law, for the proof that a job's open ends are with others: each message that is sent is read from its line
     sent_messages_are_read();
 }
 
@@ -48,7 +48,7 @@ pub fn kept_words_were_asked()
     ensures { (run : Run) (past : List Entry) (e : Entry) (r : ℕ) → IsRun run → reverse run.entries ≡ e ∷ past → is_of r e ≡ true
         → AnswersAsked past r e }
 {
-    // a law, for the proof
+    // a law, for the proof that an answer is to the job's last request: each message that is sent is read from its line
     sent_messages_are_read();
 }
 

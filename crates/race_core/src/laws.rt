@@ -27,7 +27,7 @@ use union_merge::{files_are_changed_alone, unions_have_the_lines_of_both};
 pub fn runs_are_lawful()
     ensures { (run : Run) → IsRun run → IsLawful run }
 {
-    // a law, for the proof
+    // a law, for the proof that an entry finds what others have said: each message that is sent is read from its line
     sent_messages_are_read();
 }
 
@@ -36,7 +36,7 @@ pub fn runs_are_lawful()
 pub fn runs_are_safe()
     ensures { (run : Run) → IsRun run → IsSafe run }
 {
-    // a law, for the proof
+    // a law, for the proof that runs are lawful: each message that is sent is read from its line
     sent_messages_are_read();
 }
 
@@ -45,7 +45,7 @@ pub fn runs_are_safe()
 pub fn refusals_have_causes()
     ensures { (run : Run) → IsRun run → HasCauses run }
 {
-    // a law, for the proof
+    // a law, for the proof that a job is told the cause: each message that is sent is read from its line
     sent_messages_are_read();
 }
 
@@ -62,7 +62,7 @@ pub fn never_fewer_than_mincopies()
     ensures least { (run : Run) (key : List ℕ) (place least : ℕ) → IsRun run
         → least_need (removals_at run key place) ≡ Some least → least ≤ count_at run key place }
 {
-    // a law, for the proof
+    // a law, for the proof that runs are safe: each message that is sent is read from its line
     sent_messages_are_read();
 }
 
@@ -78,7 +78,7 @@ pub fn drops_leave_their_evidence()
         → Member item x.items → is_trusted item.kind ≡ true
         → claim_at run key (place + 1) item.repo ≡ true }
 {
-    // a law, for the proof
+    // a law, for the proof that runs are safe: each message that is sent is read from its line
     sent_messages_are_read();
 }
 
@@ -87,7 +87,7 @@ pub fn drops_leave_their_evidence()
 pub fn kept_lines_read_as_all()
     ensures { (past : List Entry) (r : ℕ) → settings (lines_of_file past r) ≡ settings_of past r }
 {
-    // laws, for the proof
+    // laws, for the proof, entry by entry: it changes one file, which goes on to read as all lines ever added to it
     readings_depend_on_the_set();
     compaction_keeps_the_reading();
     unions_have_the_lines_of_both();
@@ -135,6 +135,6 @@ pub fn drops_read_their_need()
         → (w : IsLocalRemoval run key place r j) → removal_at run key place w.entry ≡ Some x
         → x.need ≡ need_read (past_at run place) r j }
 {
-    // a law, for the proof
+    // a law, for the proof of which job judged a removal: each message that is sent is read from its line
     sent_messages_are_read();
 }

@@ -44,7 +44,7 @@ pub fn carried_states_agree()
     ensures own_steps { (s : SetUp) (past : List Entry) (k : Look) → OwnPast s past
         → step s (state_of s past) k ≡ step s (states s (filter (is_of s.number) past)) k }
 {
-    // laws, for the proof
+    // laws, for the proof: messages are read from their lines, and a file reads as all lines ever added to it
     sent_messages_are_read();
     readings_depend_on_the_set();
     compaction_keeps_the_reading();

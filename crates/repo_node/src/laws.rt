@@ -19,7 +19,7 @@ pub fn steps_tell_the_failed_call()
     ensures same { (s : SetUp) (st : State) (k : Look) (fails : Option Call) → step_calls s st (record k { fails = fails }) ≡ step_calls s st k }
     ensures ordered { (s : SetUp) (st : State) (k : Look) → AreRising (step_calls s st k) }
 {
-    // For the proof, which cites them.
+    // Laws, for the proof: a step is one of the sessions or of the jobs, and each tells its failed call.
     sessions_tell_the_failed_call();
     jobs_tell_the_failed_call();
 }

@@ -261,7 +261,7 @@ impl<K: Keeper> Node<K> {
         ensures stops { IfErr result (λ e. StopsAt to_place_part key.now bytes.now (K.contents self.old.keeper) (K.contents self.new.keeper) (K.parts self.old.keeper) (K.parts self.new.keeper) (K.failing self.old.keeper) (K.failing self.new.keeper) e self.old self.new) }
         ensures room { OnOk result (length self.old.history < most_entries) }
     {
-        // Laws, for the proof.
+        // Laws, for the proof that parts and rows are the state's, and that the store's parts are what sessions took.
         parts_stay();
         tables_fill_as_states();
         direct_entries_leave_rows();
@@ -289,7 +289,7 @@ impl<K: Keeper> Node<K> {
         ensures err_parts { OnErr result (K.parts self.new.keeper ≡ K.parts self.old.keeper) }
         ensures calls { Makes (calls.Commit ∷ []) calls.Commit result (K.failing self.old.keeper) (K.failing self.new.keeper) }
     {
-        // Laws, for the proof.
+        // Laws, for the proof that parts and rows are the state's, and that the store's parts are what sessions took.
         parts_stay();
         tables_fill_as_states();
         direct_entries_leave_rows();

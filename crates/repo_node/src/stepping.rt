@@ -90,7 +90,7 @@ impl<K: Keeper> Node<K> {
         ensures later { K.faults self.old.keeper ≤ K.faults self.new.keeper }
         ensures err { OnErr result (self.new ≡ record self.old { keeper = self.new.keeper }) }
     {
-        // A law, for the proof.
+        // A law, for the proof that ends that take and send nothing stay as they are.
         ends_go_on();
         // Written out for the proof, which names each answer.
         match self.pay() {

@@ -14,7 +14,7 @@ pub fn files_have_their_paths()
     ensures line { (file : LogFile) → HasPath file → IsLine (file_path file) }
     ensures has { (path : List ℕ) → IsLine path → HasPath (file_of path) }
 {
-    // For the proof, which cites it.
+    // A law, for the proof that the name of a location log's file says its key.
     files_name_their_keys();
 }
 

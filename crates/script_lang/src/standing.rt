@@ -14,7 +14,7 @@ use key_verify::{made_keys_match, verdicts_are_matches};
 pub fn commands_stand()
     ensures { (text : List ℕ) (commands : List Command) → reading text ≡ Commands commands → AllStand no_context commands }
 {
-    // laws, for the proof
+    // laws, for the proof, line by line, that a command's keys are texts of keys, and its content is its key's
     key_texts_have_no_fault();
     verdicts_are_matches();
     made_keys_match();
@@ -24,7 +24,7 @@ pub fn commands_stand()
 pub fn commands_have_lines()
     ensures { (text : List ℕ) (commands : List Command) → reading text ≡ Commands commands → length (line_numbers text) ≡ length commands }
 {
-    // laws, for the proof
+    // laws, for the proof, line by line, that a command's keys are texts of keys, and its content is its key's
     key_texts_have_no_fault();
     verdicts_are_matches();
     made_keys_match();
@@ -34,7 +34,7 @@ pub fn commands_have_lines()
 pub fn scripts_have_few_lines()
     ensures { (text : List ℕ) (commands : List Command) → reading text ≡ Commands commands → length commands ≤ length text + 1 }
 {
-    // laws, for the proof
+    // laws, for the proof, line by line, that a command's keys are texts of keys, and its content is its key's
     key_texts_have_no_fault();
     verdicts_are_matches();
     made_keys_match();

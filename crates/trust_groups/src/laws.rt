@@ -27,7 +27,7 @@ pub fn equal_lines_read_alike()
     ensures compacted { (old new : Lines) → CompactsFiles old new → settings new ≡ settings old }
     ensures kept { (kept ever : Lines) → KeepsFiles kept ever → settings kept ≡ settings ever }
 {
-    // laws, for the proof
+    // laws, for the proof that files with the same lines read alike, and so do compacted and kept ones
     readings_depend_on_the_set();
     compaction_keeps_the_reading();
 }
@@ -43,7 +43,7 @@ pub fn merges_read_alike()
     ensures merged { (xs ys : Files) (ever others : Lines) → IsBranch xs → IsBranch ys → KeepsFiles (lines_at xs) ever → KeepsFiles (lines_at ys) others → KeepsFiles (lines_at (merged_branch xs ys)) (λ path. ever path ++ others path) }
     ensures order { (start : Files) (xs ys : List Files) → IsBranch start → Each IsBranch xs → Each IsBranch ys → ((b : Files) → Member b xs ↔ Member b ys) → settings (lines_at (merged_branches start xs)) ≡ settings (lines_at (merged_branches start ys)) }
 {
-    // laws, for the proof
+    // laws, for the proof that merged files have the lines of both, and that any order of merges gives one branch
     unions_have_the_lines_of_both();
     merges_have_the_files_of_both();
     any_order_of_merges_gives_one_branch();
@@ -57,7 +57,7 @@ pub fn settings_are_those_of_the_lines_read()
     ensures kept { (indices : Indices) (read kept ever : Lines) → HaveReadLines indices read → SameFiles read ever → KeepsFiles kept ever → (settings_of indices ≡ settings kept) × (settings_of indices ≡ settings ever) }
     ensures other { (lines : Lines) (path line : List ℕ) → IsNoLog path → settings (lines_with lines path line) ≡ settings lines }
 {
-    // laws, for the proof
+    // laws, for the proof that files with the same lines read alike, and so do those that keep what was ever added
     readings_depend_on_the_set();
     compaction_keeps_the_reading();
 }
@@ -68,7 +68,7 @@ pub fn claims_are_exact()
     ensures each { (lines : Lines) (key repo : List ℕ) → Member repo (claims lines key) ↔ IsClaimed lines key repo }
     ensures sorted { (lines : Lines) (key : List ℕ) → IsStrictlySortedBy text_cmp (claims lines key) }
 {
-    // laws, for the proof
+    // laws, for the proof that the newest entries are in order of topic, and that one is found by its topic
     readings_are_exact();
     entries_are_found_by_topic();
 }
@@ -78,7 +78,7 @@ pub fn grouped_are_exact()
     ensures each { (lines : Lines) (repo : List ℕ) → Member repo (repos_in_groups lines) ↔ (groups lines repo ≢ []) }
     ensures sorted { (lines : Lines) → IsStrictlySortedBy text_cmp (repos_in_groups lines) }
 {
-    // laws, for the proof
+    // laws, for the proof that the newest entries are in order of topic, and that one is found by its topic
     readings_are_exact();
     entries_are_found_by_topic();
 }

@@ -46,7 +46,7 @@ impl Expr {
         if text.len() > TEXT_LIMIT {
             return Err(ExprFault::TooLong);
         }
-        // for the proof
+        // for the proof that a text has one formula at most, or one first fault: each of its globs is one list of items
         globs_are_unique();
         match read(alloc, text.as_bytes()) {
             Ok(tree) => Ok(Expr { tree }),

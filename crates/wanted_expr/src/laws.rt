@@ -12,7 +12,7 @@ use glob_match::globs_are_unique;
 pub fn expressions_have_one_formula()
     ensures { (text : List ℕ) (f g : Formula) → IsExpression text f → IsExpression text g → f ≡ g }
 {
-    // for the proof
+    // for the proof that the text of a glob spells one list of items at most
     globs_are_unique();
 }
 
@@ -20,7 +20,7 @@ pub fn expressions_have_one_formula()
 pub fn first_faults_are_unique()
     ensures { (text : List ℕ) (d e : ExprFault) → IsFirstFault text d → IsFirstFault text e → d ≡ e }
 {
-    // for the proof
+    // for the proof that the text of a glob spells one list of items at most
     globs_are_unique();
 }
 
@@ -28,7 +28,7 @@ pub fn first_faults_are_unique()
 pub fn expressions_have_no_fault()
     ensures { (text : List ℕ) (f : Formula) (e : ExprFault) → IsExpression text f → IsFirstFault text e → ⊥ }
 {
-    // for the proof
+    // for the proof that the text of a glob spells one list of items at most
     globs_are_unique();
 }
 

@@ -15,7 +15,7 @@ fn written(alloc: Global, line: &[u8]) -> Result<(Vec<u8>, Vec<u8>), Fail> {
     if line.contains(&b'\n') {
         return Ok((Vec::new(alloc), room));
     }
-    // For the proof, which cites it.
+    // A law, for the proof that the message's line is this one, which has no newline.
     lines_have_one_message();
     let Some(message) = Message::read(alloc, line)? else {
         return Ok((Vec::new(alloc), room));

@@ -22,7 +22,7 @@ fn rest_after(line: &[u8], number: usize) -> NextWord {
 
 #[test]
 fn words_stand_at_their_places(rt: HostRuntime) {
-    // A law, for the proof.
+    // A law: a word is found behind the place from which it is looked for, and within its line.
     words_are_ahead();
     for (line, number, place, text) in [
         ("numcopies a 2", 0, 0, "numcopies"),

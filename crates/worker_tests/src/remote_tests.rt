@@ -111,7 +111,7 @@ fn run<K: Keeper>(
     requires bare { table.old.holds ≡ [] }
     ensures owns { HasToken worker.new.number worker.new.job.key worker.new.token table.new }
 {
-    // A law, for the proof.
+    // A law, for the proof that the numbers of holds stay below that of the next entry.
     holds_are_numbered();
     let mut pending = Answer::Closed;
     for count in 0u64..40 {
