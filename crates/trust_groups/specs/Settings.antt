@@ -132,6 +132,6 @@ settings lines = record {
   preferred = preferred lines;
   required = required lines;
   group_preferred = group_preferred lines;
-  repos_in_groups = repos_in_groups lines;
+  grouped = repos_in_groups lines;
   claims = claims lines;
 }
