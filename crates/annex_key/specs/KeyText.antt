@@ -1,5 +1,4 @@
--- What a key is, and its one text (git-annex internals: keys; the order of the fields, the limits and the ban on
--- leading zeros are the project's own).
+-- What a key is, and its one text (git-annex internals: keys).
 use Rattle.std.specs.Prelude.{◌≡◌, ℕ, ◌<◌, ◌≤◌, ◌^◌, ◌==◌, Bool, false, nat_le, ◌&&◌, ◌||◌, IsTrue, List, [], ◌∷◌, ◌++◌, length, Option, Some, None, IfSome, codes}
 use Rattle.std.specs.List.{list_all, list_any}
 use Rattle.std.specs.Str.{IsUtf8, bytes_eq}
@@ -39,12 +38,12 @@ is_upper b = nat_le 65 b && nat_le b 90
 abbrev pub is_backend_byte : ℕ → Bool
 is_backend_byte b = is_upper b || (nat_le 48 b && nat_le b 57) || (b == underscore)
 
--- an upper-case letter and then backend bytes, 32 bytes at most
+-- an upper-case letter and then backend bytes, 32 bytes at most (the limit is own)
 abbrev pub is_backend : List ℕ → Bool
 is_backend [] = false
 is_backend (b ∷ bs) = is_upper b && list_all is_backend_byte bs && nat_le (length bs) 31
 
--- a field: a dash, its letter and its number
+-- a field: a dash, its letter and its number, which has no leading zeros (own)
 abbrev pub field_text : ℕ → Option ℕ → List ℕ
 field_text letter None = []
 field_text letter (Some n) = dash ∷ letter ∷ decimal n
@@ -54,7 +53,7 @@ abbrev pub chunk_text : Option (ℕ × ℕ) → List ℕ
 chunk_text None = []
 chunk_text (Some c) = field_text chunk_size_letter (Some c.0) ++ field_text chunk_letter (Some c.1)
 
--- BACKEND[-sSIZE][-mMTIME][-SCHUNKSIZE-CCHUNK]--NAME
+-- BACKEND[-sSIZE][-mMTIME][-SCHUNKSIZE-CCHUNK]--NAME (the order of the fields is own)
 abbrev pub key_text : KeyParts → List ℕ
 key_text k = k.backend ++ (field_text size_letter k.size ++ (field_text mtime_letter k.mtime ++ (chunk_text k.chunk ++ (dash ∷ dash ∷ k.name))))
 
@@ -63,7 +62,7 @@ pub record IsName (name : List ℕ) : Type 0 where
   pub utf8 : IsUtf8 name
   pub one_line : IsOneLine name
 
--- the parts of a key
+-- the parts of a key (the limits of its numbers and of its text are own)
 pub record IsKey (k : KeyParts) : Type 0 where
   pub backend : IsTrue (is_backend k.backend)
   pub size : IfSome k.size (λ n. n < 2 ^ 64)

@@ -1,6 +1,4 @@
--- Reading a key from left to right, with the first fault that is met. A reader of a part takes the length of the whole
--- text and the bytes from its place on, and gives the part and the bytes after it, so the place of what is left is the
--- length of the text less the length of what is left.
+-- Reading a key from left to right, with the first fault that is met.
 use Rattle.std.specs.Prelude.{◌≡◌, ℕ, ◌+◌, ◌-◌, min, Bool, false, List, [], ◌∷◌, length, take, drop, Option, Some, None, Result, Ok, Err, nat_lt, ◌==◌, ◌&&◌, ◌||◌, if◌then◌else◌}
 use Rattle.std.specs.List.{before_first, position_or_len}
 use Rattle.std.specs.Option.{option_map}
@@ -11,6 +9,9 @@ use Rattle.annex_base.specs.ResultSteps.{◌>>=◌}
 use Rattle.annex_key.specs.declared.fault.KeyFault.{KeyFault}
 use Rattle.annex_key.specs.declared.fault.KeyFault.TheVariants.{NoDashes, BadBackend, BadField, EmptyName, TooLong, BadName}
 use Rattle.annex_key.specs.KeyText.{KeyParts, is_backend, size_letter, mtime_letter, chunk_size_letter, chunk_letter}
+
+-- A reader of a part takes the length of the whole text and the bytes from its place on, and gives the part and the
+-- bytes after it, so the place of what is left is the length of the text less the length of what is left.
 
 -- what a call returned, seen by view, is what reading gives
 abbrev pub Reads : {X Y : Type 0} → (X → Y) → Result X KeyFault → Result Y KeyFault → Type 0

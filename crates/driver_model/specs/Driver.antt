@@ -1,5 +1,4 @@
--- The state of the sequential driver (the project's own), and how one more entry changes it. All that a repository knows is
--- `state_of` of the past.
+-- The state of the sequential driver (own), and how one more entry changes it.
 use Rattle.std.specs.Prelude.{ℕ, ◌+◌, Bool, true, false, not, ◌&&◌, ◌||◌, if◌then◌else◌, ◌==◌, nat_lt, nat_le, max, List, [], ◌∷◌, ◌++◌, drop, filter, find, length, map, take, Option, Some, None}
 use Rattle.std.specs.List.{list_any}
 use Rattle.annex_base.specs.declared.kinds.Call.{Call}
@@ -54,6 +53,7 @@ at_first = record { past = []; flights = []; fails = []; contents = []; parts = 
 abbrev pub set_up_of : DriverInput → Driver → ℕ → SetUp
 set_up_of g d r = record { number = r; repos = g.repos; paths = paths_at d.tree d.past r }
 
+-- all that a repository knows: `state_of` of the past
 abbrev pub state_at : DriverInput → Driver → ℕ → State
 state_at g d r = state_of (set_up_of g d r) d.past
 
@@ -151,7 +151,8 @@ but_taken r (Some f) xs = but_first (is_at r f) xs
 
 -- ---- one more entry
 
--- an entry of r, which found this state: it stands from now on, the frame that it took is gone, those that it sent are on their way
+-- an entry of r, which found this state: it stands from now on, the frame that it took is gone, those that it sent are
+-- on their way
 abbrev pub adds : State → ℕ → Entry → Driver → Driver
 adds st r e d = record d { past = e ∷ d.past; flights = but_taken r e.taken d.flights ++ map (flight d st r) e.sent }
 

@@ -1,5 +1,4 @@
--- The rule of a drop: how much evidence is enough, and until when it holds
--- (git-annex-numcopies, git-annex-mincopies; what a drop from either side asks is the project's own).
+-- The rule of a drop: how much evidence is enough, and until when it holds (git-annex-numcopies, git-annex-mincopies).
 use Rattle.std.specs.Prelude.{ℕ, Bool, true, false, ◌&&◌, ◌≤◌, List, All, Contains, Option, Some, None, length, count_by, filter_map, max, min, nat_le, if◌then◌else◌}
 use Rattle.std.specs.List.{reduce}
 use Rattle.drop_proof.specs.declared.evidence.Kind.{Kind}
@@ -21,7 +20,7 @@ is_full_kind Recent = false
 abbrev pub is_full : Evidence → Bool
 is_full i = is_full_kind i.kind
 
--- whether an item counts towards the mincopies of a drop: any does where the drop is local
+-- whether an item counts towards the mincopies of a drop: any does where the drop is local (own)
 abbrev pub counts : Side → Evidence → Bool
 counts Local i = true
 counts Remote i = is_full i
@@ -31,7 +30,7 @@ abbrev pub is_enough : Side → Need → List Evidence → Bool
 is_enough side need items =
     nat_le (max need.n need.m) (length items) && nat_le need.m (count_by (counts side) items)
 
--- how many of the items have to be locked or trusted
+-- how many of the items have to be locked or trusted, by the side of the drop (own)
 abbrev pub full_needed : Side → Need → ℕ
 full_needed Local need = 0
 full_needed Remote need = need.m

@@ -1,5 +1,4 @@
--- The calls of its store that the step of a slot's job makes, in order, up to the first that fails: in the cases of the step itself
--- (the project's own).
+-- The calls of its store that the step of a slot's job makes, in order, up to the first that fails (own).
 use Rattle.std.specs.Prelude.{ℕ, ◌^◌, Bool, true, false, not, ◌&&◌, if◌then◌else◌, nat_le, nat_lt, List, [], ◌∷◌, Option, Some, None}
 use Rattle.std.specs.List.{list_all}
 use Rattle.annex_base.specs.declared.kinds.Call.{Call}
@@ -30,6 +29,8 @@ use Rattle.node_model.specs.State.{State}
 use Rattle.node_model.specs.TransferStep.{next_source}
 use Rattle.node_model.specs.Turns.{has_room, is_awaiting, needs, outcome_of}
 use Rattle.drop_worker.specs.Working.{failed_in}
+
+-- The cases are those of the step itself.
 
 -- at the end of a job
 abbrev pub end_calls : Turn → Outcome → List Call

@@ -1,5 +1,4 @@
--- What a log file still says when lines were added, merged and left out (git-annex internals: branch files; compaction is the
--- project's own).
+-- What a log file still says when lines were added, merged and left out (git-annex internals: branch files).
 use Rattle.std.specs.Prelude.{◌≡◌, ◌↔◌, ℕ, true, List, [], ◌++◌}
 use Rattle.annex_base.specs.Lists.{Member, Each}
 use Rattle.log_lines.specs.declared.entry.LogKind.{LogKind}
@@ -25,7 +24,8 @@ pub record HasNewer (kind : LogKind) (lines : List (List ℕ)) (line : List ℕ)
 abbrev pub SameLines : List (List ℕ) → List (List ℕ) → Type 0
 SameLines xs ys = (line : List ℕ) → Member line xs ↔ Member line ys
 
--- the lines that a file keeps, of all lines that were ever added to it or to a file that was merged into it
+-- the lines that a file keeps, of all lines that were ever added to it or to a file that was merged into it (compaction
+-- is own)
 pub data Keeps (kind : LogKind) : List (List ℕ) → List (List ℕ) → Type 0 where
   Empty : Keeps kind [] []
   Add : (kept ever lines : List (List ℕ)) → Keeps kind kept ever → Keeps kind (kept ++ lines) (ever ++ lines)

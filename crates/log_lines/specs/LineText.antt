@@ -1,6 +1,4 @@
--- What the lines of the log files say (git-annex internals: location log, trust.log, uuid.log, group.log,
--- preferred-content.log, required-content.log, group-preferred-content.log, numcopies.log, mincopies.log; the limits of
--- lines and numbers and the bytes of a group's name are the project's own).
+-- What the lines of the log files say (git-annex internals: location log, trust.log and the other log files).
 use Rattle.std.specs.Prelude.{◌≡◌, ◌⊎◌, ℕ, ◌<◌, ◌≤◌, ◌==◌, Bool, true, false, not, ◌&&◌, if◌then◌else◌, IsTrue, List, [], ◌∷◌, ◌++◌, length, Option, Some, None, Contains, codes, flat_map}
 use Rattle.std.specs.Char.{is_ascii_digit, is_ascii_control}
 use Rattle.std.specs.List.{AllPass, list_all}
@@ -20,7 +18,7 @@ use Rattle.log_lines.specs.declared.entry.Value.{Value}
 use Rattle.log_lines.specs.declared.entry.Value.TheVariants as values
 use Rattle.log_lines.specs.declared.entry.Entry.{Entry}
 
--- UTF-8 without a newline, of at most 8,192 bytes
+-- UTF-8 without a newline, of at most 8,192 bytes (the limit is own)
 pub record IsLineText (line : List ℕ) : Type 0 where
   pub short : length line ≤ 8192
   pub utf8 : IsUtf8 line
@@ -30,7 +28,7 @@ pub record IsLineText (line : List ℕ) : Type 0 where
 abbrev pub IsWord : List ℕ → Type 0
 IsWord word = IsTrue (list_all is_not_space word)
 
--- a group's name has neither spaces nor control bytes, and isn't empty
+-- a group's name has neither spaces nor control bytes, and isn't empty (which bytes it has is own)
 abbrev pub is_group_byte : ℕ → Bool
 is_group_byte b = not (is_ascii_control b) && is_not_space b
 
@@ -139,7 +137,7 @@ pub record IsGroupTextLine (line : List ℕ) (e : Entry) : Type 0 where
   pub topic : e.topic ≡ topics.Group group
   pub at : e.stamp ≡ Some time
 
--- one to nine digits, and the number that they write
+-- one to nine digits (the limit is own), and the number that they write
 abbrev pub IsNumber : Value → List ℕ → Type 0
 IsNumber (values.Number n) digits = (0 < length digits) × (length digits ≤ 9) × AllPass is_ascii_digit digits × (n ≡ digits_value 10 digits)
 IsNumber v digits = ⊥
@@ -153,7 +151,8 @@ pub record IsNumberLine (line : List ℕ) (e : Entry) : Type 0 where
   pub topic : e.topic ≡ topics.Whole
   pub at : e.stamp ≡ Some time
 
--- the form of the lines of each file
+-- the form of the lines of each file (git-annex internals: location log, trust.log, uuid.log, group.log,
+-- preferred-content.log, required-content.log, group-preferred-content.log, numcopies.log, mincopies.log)
 abbrev pub HasForm : LogKind → List ℕ → Entry → Type 0
 HasForm kinds.Location = IsLocationLine
 HasForm kinds.Trust = IsRepoLine IsLevelBody

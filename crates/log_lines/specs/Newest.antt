@@ -1,5 +1,4 @@
--- What the lines of a log file say together: of each topic its newest entry (git-annex internals: branch files; which of
--- two entries of one stamp is the newer, and compaction, are the project's own).
+-- What the lines of a log file say together: of each topic its newest entry (git-annex internals: branch files).
 use Rattle.std.specs.Prelude.{◌≡◌, ◌↔◌, ℕ, ◌+◌, Bool, false, not, ◌&&◌, if◌then◌else◌, List, [], ◌∷◌, filter, map, max, min, Option, Some, None}
 use Rattle.std.specs.declared.cmp.Ordering.{Ordering}
 use Rattle.std.specs.Ordering.{nat_cmp, ordering_then, is_eq, is_lt, match_ordering}
@@ -64,8 +63,8 @@ value_weight (values.Text t) = t ∷ []
 value_weight (values.Groups gs) = gs
 value_weight (values.Number n) = (n ∷ []) ∷ []
 
--- At one stamp X is preferred to 0, and 0 to 1; the lesser trust to the greater; the greater number; the text and the list
--- of groups that is greater in byte order.
+-- At one stamp X is preferred to 0, and 0 to 1; the lesser trust to the greater; the greater number; the text and the
+-- list of groups that is greater in byte order (own).
 abbrev pub value_cmp : Value → Value → Ordering
 value_cmp v w = ordering_then (nat_cmp (value_class v) (value_class w)) (slice_cmp text_cmp (value_weight v) (value_weight w))
 
@@ -138,7 +137,7 @@ stamp_in (Some e) = e.stamp
 abbrev pub newest_stamp : LogKind → List (List ℕ) → Topic → Option ℕ
 newest_stamp kind lines topic = stamp_in (newest_of kind lines topic)
 
--- ---- compaction
+-- ---- compaction (own)
 
 abbrev pub says_newer : Entry → Option Entry → Bool
 says_newer e None = false

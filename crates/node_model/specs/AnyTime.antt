@@ -1,5 +1,4 @@
--- The entries that a repository may make at any point of a run, whatever it is about: what the script begins, adds, closes or
--- lets crash.
+-- The entries that a repository may make at any point of a run: what the script begins, adds, closes or lets crash.
 use Rattle.std.specs.Prelude.{◌≡◌, ◌≢◌, ℕ, ◌+◌, ◌<◌, ◌^◌, Bool, true, false, if◌then◌else◌, List, [], ◌∷◌, ◌++◌, flat_map, length, map, Option, Some, None}
 use Rattle.annex_base.specs.Lists.{Each, Member}
 use Rattle.annex_base.specs.declared.kinds.Call.{Call}
@@ -86,7 +85,7 @@ all_ends s = flat_map (λ peer. ends_with peer true ++ ends_with peer false) (ot
 abbrev pub closes_all : SetUp → State → List FrameView
 closes_all s st = flat_map (close_at s st) (all_ends s)
 
--- ---- an entry of this kind may come, with these lines and these frames sent
+-- ---- an entry of this kind may come, with these lines and these frames sent, whatever the repository is about
 
 abbrev pub MayCome : SetUp → State → List (List ℕ) → List FrameView → EntryKind → Type 0
 MayCome s st lines sent (Begin job what) = MayBegin s st job what × (lines ≡ []) × (sent ≡ [])

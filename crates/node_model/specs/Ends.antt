@@ -1,5 +1,4 @@
--- The ends of a repository's connections. An end is named by the peer, the client's slot, and whether this side is the
--- client's.
+-- The ends of a repository's connections.
 use Rattle.std.specs.Prelude.{ℕ, ◌+◌, Bool, true, false, ◌&&◌, if◌then◌else◌, ◌==◌, List, [], ◌∷◌, filter, Option, Some, None, nat_lt, not, fold}
 use Rattle.annex_base.specs.Bools.{same_bool}
 use Rattle.run_data.specs.declared.entry.Entry.{Entry}
@@ -7,7 +6,7 @@ use Rattle.run_data.specs.declared.entry.FrameView.{FrameView}
 use Rattle.run_data.specs.declared.entry.FrameText.{FrameText}
 use Rattle.run_data.specs.declared.entry.FrameText.TheVariants.{Opening, Closing}
 
--- one end of a connection
+-- one end of a connection, by the peer, the client's slot, and whether this side is the client's
 pub record EndName : Type 0 where
   pub peer : ℕ
   pub slot : ℕ

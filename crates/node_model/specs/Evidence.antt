@@ -1,5 +1,4 @@
--- The candidates of a drop, what they offer, and the evidence of that (git-annex-numcopies, git-annex-mincopies; how it is
--- gathered is the project's own).
+-- The candidates of a drop, what they offer, and the evidence of that (git-annex-numcopies, git-annex-mincopies).
 use Rattle.std.specs.Prelude.{ℕ, Bool, true, false, not, ◌&&◌, if◌then◌else◌, ◌==◌, List, [], ◌∷◌, ◌++◌, filter, bytes_eq}
 use Rattle.std.specs.List.{range_with_len, list_any}
 use Rattle.annex_base.specs.Settings.{Settings}
@@ -44,7 +43,7 @@ abbrev pub pick : {X : Type 0} → Offer → (Kind → X) → X → X
 pick (Gives kind) gives fails = gives kind
 pick Fails gives fails = fails
 
--- the candidates are asked in order, one after the other, until the evidence is enough
+-- the candidates are asked in order, one after the other, until the evidence is enough (own)
 abbrev pub gather : Side → Need → (ℕ → Offer) → List ℕ → List Evidence → List Evidence
 gather side need ask [] items = items
 gather side need ask (c ∷ cs) items =

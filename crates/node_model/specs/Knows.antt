@@ -1,5 +1,4 @@
--- What a drop knows: its candidates' offers by what it heard of each, its evidence, and the outcome that it states
--- (git-annex-numcopies, git-annex-mincopies; how it is gathered is the project's own).
+-- What a drop knows: its candidates' offers, its evidence and its outcome (git-annex-numcopies, git-annex-mincopies).
 use Rattle.std.specs.Prelude.{ℕ, ◌+◌, Bool, true, false, List, [], find, length, Option, Some, None}
 use Rattle.annex_base.specs.declared.kinds.Word.{Word}
 use Rattle.annex_base.specs.declared.kinds.Word.TheVariants as words
@@ -24,8 +23,8 @@ use Rattle.node_model.specs.Clocks.{hold_time}
 
 -- ---- what a drop reads
 
--- of the set-up: its repository, and how many there are; its clock; of the settings: the numbers of copies, and how they see each
--- repository
+-- of the set-up: its repository, and how many there are; its clock; of the settings: the numbers of copies, and how
+-- they see each repository
 pub record Reading : Type 0 where
   pub repo : ℕ
   pub count : ℕ
@@ -33,7 +32,7 @@ pub record Reading : Type 0 where
   pub need : Need
   pub standing : ℕ → Standing
 
--- ---- offers
+-- ---- what a candidate offers, by what the job heard of it
 
 abbrev pub heard_offer : (ℕ → ℕ) → Option Heard → Offer
 heard_offer clock (Some (Held since)) = Gives (Locked (clock since + hold_time))
@@ -49,7 +48,8 @@ abbrev pub is_unasked : Standing → Option Heard → Bool
 is_unasked Asked None = true
 is_unasked _ _ = false
 
--- how the logs that the job read see a repository. Only a proof that names it opens this definition: laws hold whatever is read
+-- how the logs that the job read see a repository. Only a proof that names it opens this definition: laws hold whatever
+-- is read
 unfoldable pub standing_of : SetUp → State → Work → ℕ → Standing
 standing_of s st w c = standing_by (st.read w.number) w.what.key (id_of s.repos c)
 
@@ -71,6 +71,7 @@ asks_by r w c = is_unasked (r.standing c) (heard_of w c)
 abbrev pub candidates_by : Reading → Work → List ℕ
 candidates_by r w = candidates (side_of w) r.count r.repo (target_of r.repo w)
 
+-- its evidence (how it is gathered is own)
 abbrev pub known_by : Reading → Work → List Evidence
 known_by r w = gather (side_of w) r.need (knows_by r w) (reached_candidates (asks_by r w) (candidates_by r w)) []
 
@@ -83,7 +84,7 @@ next_by r w = find (asks_by r w) (candidates_by r w)
 abbrev pub proof_by : Reading → Work → Proof
 proof_by r w = proof_of r.count r.need (known_by r w)
 
--- ---- what is stated at the end
+-- ---- what the outcome states
 
 -- the word beside a refusal to say that a content is there
 abbrev pub cause_of_word : Option Word → Cause

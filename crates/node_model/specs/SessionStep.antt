@@ -1,5 +1,4 @@
--- The step of a session: what it answers to a frame, by its row (git-annex P2P protocol; what is marked there as free is the
--- project's own), and the next piece of a content that it gives.
+-- The step of a session: its answer to a frame, and the next piece of a content that it gives (git-annex P2P protocol).
 use Rattle.std.specs.Prelude.{ℕ, ◌+◌, ◌-◌, ◌*◌, ◌/◌, Bool, true, false, ◌&&◌, ◌||◌, if◌then◌else◌, ◌==◌, min, nat_lt, nat_le, List, [], ◌∷◌, Option, Some, None, bytes_eq, codes}
 use Rattle.std.specs.List.{list_any}
 use Rattle.annex_base.specs.declared.kinds.Call.{Call}
@@ -26,6 +25,8 @@ use Rattle.node_model.specs.State.{State}
 use Rattle.node_model.specs.Look.{Look, Effect, failing_call, unless, waiting_frame}
 use Rattle.node_model.specs.Calls.{to_commit, to_lock, to_offer, to_remove}
 use Rattle.node_model.specs.Clocks.{hold_time}
+
+-- What the P2P protocol leaves open is own.
 
 -- an entry, and what is sent with it
 pub record Reply : Type 0 where

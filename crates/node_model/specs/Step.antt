@@ -1,5 +1,4 @@
--- The one entry that a turn of a repository makes (the project's own): a line that is owed, or else a step of a session, or else
--- of a job.
+-- The one entry that a turn of a repository makes (own).
 use Rattle.std.specs.Prelude.{Option}
 use Rattle.std.specs.Option.{option_or}
 use Rattle.node_model.specs.Look.{Look, Effect}
@@ -9,6 +8,6 @@ use Rattle.node_model.specs.OwedStep.{owed_step}
 use Rattle.node_model.specs.SessionStep.{session_step}
 use Rattle.node_model.specs.Turns.{job_step}
 
--- none where no step is ready
+-- a line that is owed, or else a step of a session, or else of a job; none where no step is ready
 abbrev pub step : SetUp → State → Look → Option Effect
 step s st k = option_or (owed_step s st k) (option_or (session_step s st k) (job_step s st k))

@@ -1,5 +1,4 @@
--- The steps of a get and of a copy, and of the transfer of a move (the project's own, over git-annex-get, git-annex-copy and the
--- P2P protocol).
+-- The steps of a get, a copy and the transfer of a move (own, over git-annex-get, git-annex-copy and the P2P protocol).
 use Rattle.std.specs.Prelude.{bytes_eq, codes, ℕ, ◌+◌, Bool, true, false, ◌&&◌, if◌then◌else◌, nat_lt, nat_le, List, [], ◌∷◌, length, Option, Some, None, slice_get}
 use Rattle.annex_base.specs.declared.kinds.Call.TheVariants as calls
 use Rattle.run_data.specs.declared.entry.EntryKind.TheVariants.{Gain}

@@ -1,6 +1,4 @@
--- What a client sends and awaits: each request's message, and the one table of the answers that are permitted (git-annex P2P
--- protocol, version 3; that a File is empty, the answer `ERROR busy`, and that a server may answer each version up to the
--- asked one are the project's own).
+-- What a client sends and awaits: each request's message and the permitted answers (git-annex P2P protocol, version 3).
 use Rattle.std.specs.Prelude.{ℕ, ◌<◌, ◌^◌, if◌then◌else◌, [], Option, Some, None, nat_le, bytes_eq, codes}
 use Rattle.p2p_wire.specs.declared.message.Message.{Message}
 use Rattle.p2p_wire.specs.declared.message.Message.TheVariants as wire
@@ -13,7 +11,7 @@ use Rattle.p2p_client.specs.declared.dialog.Request.TheVariants as requests
 use Rattle.p2p_client.specs.declared.dialog.Took.{Took}
 use Rattle.p2p_client.specs.declared.dialog.Took.TheVariants as took
 
--- the message of a request
+-- the message of a request (that a File is empty is own)
 abbrev pub message_for : Request → Message
 message_for (requests.Version n) = wire.Version n
 message_for (requests.CheckPresent key) = wire.CheckPresent key
@@ -50,7 +48,8 @@ then_awaits answer next = Some (answer, next)
 abbrev pub finally : Answer → Option (Answer × Awaited)
 finally answer = then_awaits answer awaits.Nothing
 
--- the answers that are permitted where this is awaited; nothing else is
+-- The one table of the answers that are permitted where this is awaited; nothing else is. That a server may answer each
+-- version up to the asked one, and the answer `ERROR busy`, are own.
 abbrev pub permitted_answer : Awaited → Message → Option (Answer × Awaited)
 permitted_answer awaits.Auth (wire.AuthSuccess id) = finally (answers.Auth id)
 permitted_answer (awaits.Version asked) (wire.Version n) = if nat_le n asked then finally (answers.Version n) else None

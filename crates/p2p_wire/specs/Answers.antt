@@ -1,5 +1,4 @@
--- When each answer of a decoder comes, in the protocol's words (git-annex P2P protocol; the limit of a line and what follows a
--- fault are the project's own).
+-- When each answer of a decoder comes, in the protocol's words (git-annex P2P protocol).
 use Rattle.std.specs.Prelude.{◌≡◌, ◌⊎◌, ◌↔◌, ℕ, ◌<◌, ◌≤◌, List, [], ◌∷◌, ◌++◌, length, take, Some, None}
 use Rattle.annex_base.specs.Lines.{newline, IsOneLine}
 use Rattle.p2p_wire.specs.declared.message.Message.{Message}
@@ -8,7 +7,7 @@ use Rattle.p2p_wire.specs.declared.decoder.Why.TheVariants.{NotAMessage, TooLong
 use Rattle.p2p_wire.specs.Messages.{message_of, text_of}
 use Rattle.p2p_wire.specs.Streams.{DecoderView, Says, Gives, Waits, Refuses, after, next_answer}
 
--- an unfinished line of at most 8,192 bytes, or raw bytes to come of which none is at hand
+-- an unfinished line of at most 8,192 bytes (the limit is own), or raw bytes to come of which none is at hand
 abbrev pub NeedsMore : DecoderView → Type 0
 NeedsMore u = ((u.left ≡ 0) × IsOneLine u.bytes × (length u.bytes ≤ 8192)) ⊎ ((0 < u.left) × (u.bytes ≡ []))
 
@@ -27,7 +26,7 @@ pub record HasLine (u : DecoderView) (line : List ℕ) : Type 0 where
 abbrev pub HasLongLine : DecoderView → Type 0
 HasLongLine u = (u.left ≡ 0) × (8192 < length u.bytes) × IsOneLine (take 8193 u.bytes)
 
--- the answers of a decoder that met no fault; a fault is told again for ever
+-- the answers of a decoder that met no fault; a fault is told again for ever (own)
 pub record Answers (u : DecoderView) : Type 0 where
   pub more : u.fault ≡ None → (next_answer u ≡ Waits) ↔ NeedsMore u
   pub raw : u.fault ≡ None → (raw : List ℕ) → (next_answer u ≡ Gives raw) ↔ HasRaw u raw

@@ -1,5 +1,4 @@
--- Streams of messages and raw bytes, and what a decoder answers that is fed one in pieces (git-annex P2P protocol; the
--- limit of a line and what follows a fault are the project's own).
+-- Streams of messages and raw bytes, and what a decoder answers that is fed one in pieces (git-annex P2P protocol).
 use Rattle.std.specs.Prelude.{◌≡◌, ℕ, ◌+◌, ◌-◌, ◌^◌, min, if◌then◌else◌, ◌==◌, nat_lt, List, [], ◌∷◌, ◌++◌, length, take, drop, map, flat_map, Option, Some, None}
 use Rattle.std.specs.List.{before_first, position_or_len}
 use Rattle.annex_base.specs.Lines.{newline, is_newline, IsOneLine}
@@ -82,7 +81,7 @@ abbrev pub whole_line : ℕ → Option Message → DecoderAnswer
 whole_line place None = Refuses place NotAMessage
 whole_line place (Some m) = Says m
 
--- where a line comes next: it is too long, unfinished, or whole
+-- where a line comes next: it is too long (the limit is own), unfinished, or whole
 abbrev pub line_told : ℕ → List ℕ → DecoderAnswer
 line_told place bytes =
     if nat_lt 8192 (line_len bytes) then Refuses place TooLong
@@ -94,6 +93,7 @@ abbrev pub raw_told : List ℕ → DecoderAnswer
 raw_told [] = Waits
 raw_told (b ∷ raw) = Gives (b ∷ raw)
 
+-- a fault is told again for ever (own)
 abbrev pub unread_told : DecoderView → Option Why → DecoderAnswer
 unread_told u (Some why) = Refuses u.place why
 unread_told u None = if u.left == 0 then line_told u.place u.bytes else raw_told (take u.left u.bytes)
@@ -116,7 +116,7 @@ after_told u (Refuses at why) = record { place = u.place; left = u.left; bytes =
 abbrev pub after : DecoderView → DecoderView
 after u = after_told u (next_answer u)
 
--- nothing is kept after a fault
+-- nothing is kept after a fault (own)
 abbrev pub after_piece_by : DecoderView → List ℕ → Option Why → DecoderView
 after_piece_by u piece (Some why) = u
 after_piece_by u piece None = record { place = u.place; left = u.left; bytes = u.bytes ++ piece; fault = None }

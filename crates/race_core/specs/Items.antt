@@ -1,5 +1,4 @@
--- What the locked and recent items of a removal stand on: what was asked for, what was answered, and the hold (git-annex P2P protocol,
--- LOCKCONTENT and CHECKPRESENT; the ten minutes are the project's own).
+-- What locked and recent items of a removal stand on: the request, the answer and the hold (git-annex P2P protocol).
 use Rattle.std.specs.Prelude.{◌≡◌, ◌⊎◌, ℕ, ◌+◌, ◌≤◌, true, List, Some, None}
 use Rattle.annex_base.specs.Lists.{Member}
 use Rattle.annex_base.specs.declared.kinds.Found.TheVariants.{Present}
@@ -55,10 +54,10 @@ pub record GivesHold (e : Entry) (r : ℕ) (hold : Hold) : Type 0 where
   pub end : ℕ
   pub kind_is : e.kind ≡ Share hold.number end hold.owner hold.key
 
--- A locked item with this end, of the removal at this place: its judge's job asked for the lock, and the item ends ten minutes after
--- that, on the clock of the judge's repository. The item's repository gave the hold for this by a share, of which the job was told. It
--- still has the hold as the removal comes; and this ends no earlier than ten minutes after the lock was asked for, on that repository's
--- clock.
+-- A locked item with this end, of the removal at this place: its judge's job asked for the lock (LOCKCONTENT), and the
+-- item ends ten minutes (own) after that, on the clock of the judge's repository. The item's repository gave the hold
+-- for this by a share, of which the job was told. It still has the hold as the removal comes; and this ends no earlier
+-- than ten minutes after the lock was asked for, on that repository's clock.
 pub record IsHeld (run : Run) (key : List ℕ) (place : ℕ) (judge : Judge) (repo end : ℕ) : Type 0 where
   pub asking : Entry
   pub before : List Entry
@@ -76,8 +75,8 @@ pub record IsHeld (run : Run) (key : List ℕ) (place : ℕ) (judge : Judge) (re
   pub recorded : Member hold (holds (past_at run place) repo)
   pub lasts : clock run.repos (past_at run place) repo (asking.time + hold_time) ≤ hold.end
 
--- A recent item: its judge's job asked the item's repository whether the content is present; this looked after that, and found it present
--- and without a bar; and the job was told so before it judged.
+-- A recent item: its judge's job asked the item's repository whether the content is present (CHECKPRESENT); this looked
+-- after that, and found it present and without a bar; and the job was told so before it judged.
 pub record WasSeen (judge : Judge) (repo : ℕ) (key : List ℕ) : Type 0 where
   pub look : Entry
   pub earlier : List Entry

@@ -1,5 +1,4 @@
--- Which drop a removal belongs to: the job that removes the content, or the order that another repository's job sent; and where a claim
--- comes from (own). A place is the number of the entries before it.
+-- Which drop a removal belongs to, a job's or that of another repository's order; and where a claim comes from (own).
 use Rattle.std.specs.Prelude.{◌≡◌, ℕ, ◌+◌, ◌<◌, ◌≤◌, true, ◌||◌, List, length, Option, Some, slice_get}
 use Rattle.annex_base.specs.Lists.{Member}
 use Rattle.drop_proof.specs.declared.evidence.Evidence.{Evidence}
@@ -23,6 +22,8 @@ use Rattle.node_model.specs.Jobs.{drop_side, is_move, or_own}
 use Rattle.race_core.specs.Places.{removal_at}
 use Rattle.race_core.specs.Readings.{Judge, judge_at}
 
+-- A place is the number of the entries before it.
+
 -- the entry at this place is one of r, and of this kind
 pub record IsAt (run : Run) (place r : ℕ) (kind : EntryKind) : Type 0 where
   pub entry : Entry
@@ -30,8 +31,8 @@ pub record IsAt (run : Run) (place r : ℕ) (kind : EntryKind) : Type 0 where
   pub repo_is : is_of r entry ≡ true
   pub kind_is : entry.kind ≡ kind
 
--- job j of r begins at one place of the run, which is before this one: it is a drop or a move of the key, and removes on this side, at
--- this target
+-- job j of r begins at one place of the run, which is before this one: it is a drop or a move of the key, and removes
+-- on this side, at this target
 pub record HasJob (run : Run) (place r j : ℕ) (key : List ℕ) (side : Side) (target : ℕ) : Type 0 where
   pub at : ℕ
   pub earlier : at < place
@@ -61,8 +62,8 @@ pub record TakesFrame (run : Run) (place r : ℕ) (w : Way) (n : ℕ) : Type 0 w
   pub way_is : way_of r f ≡ w
   pub seq_is : f.seq ≡ n
 
--- the entry at this place, one of r, took a frame of a: the order to remove this key, which one entry of the run sent, an order of this key
--- to r by one job of a, which judged as it sent it; and no other entry of r took the frame
+-- the entry at this place, one of r, took a frame of a: the order to remove this key, which one entry of the run sent,
+-- an order of this key to r by one job of a, which judged as it sent it; and no other entry of r took the frame
 pub record HasOrder (run : Run) (place r a : ℕ) (key : List ℕ) : Type 0 where
   pub w : Way
   pub n : ℕ

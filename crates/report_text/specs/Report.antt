@@ -1,6 +1,4 @@
--- The report of a run (own). A line ends with a newline; lists are joined by commas, or are a dash. These have no text yet: the line
--- of a sync, which is also to hold back the lines of its jobs that are done; those of jobs that a crash ends; and what is shown of
--- numbers of a path, of wants, plans and totals.
+-- The report of a run (own).
 use Rattle.std.specs.Prelude.{ℕ, ◌+◌, ◌-◌, Bool, false, ◌&&◌, if◌then◌else◌, nat_lt, List, [], ◌∷◌, ◌++◌, length, filter, map, take, codes, not, bytes_eq, Option, Some, None, slice_get}
 use Rattle.std.specs.List.{flat_map, range_with_len, list_any}
 use Rattle.std.specs.Fmt.{decimal}
@@ -37,6 +35,10 @@ use Rattle.script_lang.specs.declared.command.NamedKey.{NamedKey}
 use Rattle.script_lang.specs.declared.command.Command.{Command}
 use Rattle.script_lang.specs.declared.command.Command.TheVariants as commands
 
+-- A line ends with a newline. Lists are joined by commas, names after `presence` and `claims` by spaces; an empty list
+-- is a dash. These have no text yet: the line of a sync, which is also to hold back the lines of its jobs that are
+-- done; those of jobs that a crash ends; and what is shown of numbers of a path, of wants, plans and totals.
+
 -- ---- lines
 
 abbrev pub end_line : List RepoView → ℕ → Option Job → Outcome → List ℕ
@@ -68,7 +70,8 @@ abbrev pub begins_job : ℕ → Option Entry → Bool
 begins_job r None = false
 begins_job r (Some e) = is_of r e && is_begin e.kind
 
--- A line that begins a job of r has made the entries from one place up to another. A job that gets a slot begins by the first of them.
+-- A line that begins a job of r has made the entries from one place up to another. A job that gets a slot begins by the
+-- first of them.
 abbrev pub noslot_line : Run → ℕ → ℕ → ℕ → List ℕ
 noslot_line run from upto r =
     if nat_lt from upto && begins_job r (slice_get run.entries from) then [] else codes "noslot " ++ name_of run.repos r ++ codes "\n"
@@ -121,7 +124,8 @@ slot_text run from upto commands.ShowJournal = []
 abbrev pub possessors : Run → ℕ → List ℕ → List ℕ
 possessors run place key = filter (λ r. present (past_at run place) r key) (range_with_len 0 (length run.repos))
 
--- repositories by their names, in order of number, and after them identifiers that no repository of the run has, in byte order
+-- repositories by their names, in order of number, and after them identifiers that no repository of the run has, in
+-- byte order
 abbrev pub names_of_ids : List RepoView → List (List ℕ) → List (List ℕ)
 names_of_ids repos ids =
     map (λ repo. repo.name) (filter (λ repo. list_any (λ id. bytes_eq id repo.id) ids) repos)
@@ -213,7 +217,8 @@ show_text run place changes (commands.ShowWants r target path) = []
 show_text run place changes (commands.ShowPlan r) = []
 show_text run place changes commands.ShowTotals = []
 
--- what a line of the script prints: that no slot was free, what ended and what failed while it was done, and what it shows then
+-- what a line of the script prints: that no slot was free, what ended and what failed while it was done, and what it
+-- shows then
 abbrev pub line_text : Run → ℕ → ℕ → ℕ → Command → List ℕ
 line_text run from upto changes c = slot_text run from upto c ++ outcome_lines run from upto ++ show_text run upto changes c
 

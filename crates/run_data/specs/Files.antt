@@ -1,5 +1,4 @@
--- The log files of a branch: their paths and their kinds, and the file of a path (git-annex internals: branch files, location
--- tracking).
+-- The log files of a branch: their paths and kinds, and the file of a path (git-annex internals: branch files).
 use Rattle.std.specs.Prelude.{◌≢◌, ℕ, ◌-◌, ◌==◌, Bool, if◌then◌else◌, List, length, take, Option, Some, None, bytes_eq}
 use Rattle.std.specs.List.{after_first}
 use Rattle.annex_key.specs.FileKey.{key_of_file}
@@ -26,7 +25,8 @@ kind_of (Location key) = Some kinds.Location
 kind_of (Of kind) = Some kind
 kind_of (Other name) = None
 
--- A branch can have the file: its path isn't empty and has no newline, as that of a key and that of a kind with a file of its own.
+-- A branch can have the file: its path isn't empty and has no newline, as that of a key and that of a kind with a file
+-- of its own.
 abbrev pub HasPath : LogFile → Type 0
 HasPath (Location key) = IsKeyText key
 HasPath (Of kind) = kind ≢ kinds.Location
@@ -46,7 +46,7 @@ abbrev pub location_of : List ℕ → Option (List ℕ) → LogFile
 location_of path None = Other path
 location_of path (Some key) = if bytes_eq (location_path key) path then Location key else Other path
 
--- the location log that stands at the path, or the file of another name
+-- the location log that stands at the path, or the file of another name (git-annex internals: location tracking)
 abbrev pub location_at : List ℕ → LogFile
 location_at path = location_of path (key_of_file (log_name path))
 

@@ -1,5 +1,4 @@
--- Who sent the frame that an entry took (own). A connection belongs to a client, a server and one of the client's slots; each
--- of its openings has the next epoch. What is taken on a way of it is the first of what was sent there, in order.
+-- Who sent the frame that an entry took (own).
 use Rattle.std.specs.Prelude.{◌≡◌, ℕ, ◌+◌, Bool, true, false, ◌&&◌, if◌then◌else◌, ◌==◌, List, [], ◌∷◌, ◌++◌, filter, map, slice_get, Option, Some, None, option_map}
 use Rattle.annex_base.specs.Bools.{same_bool}
 use Rattle.run_data.specs.declared.entry.Entry.{Entry}
@@ -9,7 +8,8 @@ use Rattle.node_model.specs.Rows.{option_is}
 use Rattle.run_model.specs.Said.{Said, message_in, is_request}
 use Rattle.node_model.specs.Slots.{job_of}
 
--- one way of a connection in one epoch: up, from the client to the server, or down
+-- One way of a connection in one epoch: up, from the client to the server, or down. A connection belongs to a client, a
+-- server and one of the client's slots; each of its openings has the next epoch.
 pub record Way : Type 0 where
   pub client : ℕ
   pub server : ℕ

@@ -1,5 +1,4 @@
--- What the entries so far say of the log files of each repository (git-annex internals: branch files; when a drop reads them is
--- the project's own).
+-- What the entries so far say of the log files of each repository (git-annex internals: branch files).
 use Rattle.std.specs.Prelude.{ℕ, Bool, true, false, ◌&&◌, ◌||◌, ◌==◌, if◌then◌else◌, not, List, [], ◌∷◌, ◌++◌, Option, Some, None, bytes_eq, option_map}
 use Rattle.std.specs.List.{list_any}
 use Rattle.std.specs.Option.{option_or, unwrap_or}
@@ -82,7 +81,8 @@ is_quiet _ sent = false
 abbrev pub has_stepped : List Entry → ℕ → ℕ → Bool
 has_stepped past a j = list_any (λ e. is_of a e && is_step j e.kind) past
 
--- the transfer of a move is done by this entry of its job: the content has come, or the peer has it, or it was there at once
+-- the transfer of a move is done by this entry of its job: the content has come, or the peer has it, or it was there at
+-- once
 abbrev pub ends_transfer : List Entry → ℕ → ℕ → Entry → EntryKind → Bool
 ends_transfer past a j e (Gain source size key) = option_is (job_by source) j
 ends_transfer past a j e (Talk job) = option_is job j && ((is_quiet e.taken e.sent && not (has_stepped past a j)) || hears_has_it past a e.taken)
@@ -106,7 +106,7 @@ abbrev pub before_step : List Entry → ℕ → ℕ → Option (List Entry)
 before_step [] a j = None
 before_step (e ∷ past) a j = option_or (before_step past a j) (if is_of a e && (is_step j e.kind && in_drop past a j) then Some past else None)
 
--- The past that job j of a reads: its drop reads the logs at its first step.
+-- The past that job j of a reads: its drop reads the logs at its first step (own).
 abbrev pub read_at : List Entry → ℕ → ℕ → List Entry
 read_at past a j = unwrap_or (before_step past a j) past
 

@@ -1,6 +1,4 @@
--- What the entries so far say of each repository (own). A past is the entries before some place, the newest first,
--- so each definition here is a recursion on it: what an entry changes, and else what was before. Only the entries
--- of a repository change what is said of it.
+-- What the entries so far say of each repository (own).
 use Rattle.std.specs.Prelude.{◌≡◌, ◌⊎◌, ℕ, ◌+◌, Bool, false, not, ◌&&◌, if◌then◌else◌, ◌==◌, List, [], ◌∷◌, length, filter, Option, Some, None}
 use Rattle.std.specs.List.{list_any}
 use Rattle.run_data.specs.declared.entry.Entry.{Entry}
@@ -14,6 +12,9 @@ use Rattle.run_data.specs.declared.entry.EntryKind.TheVariants.{Begin, Bar, Cras
 use Rattle.node_model.specs.Rows.{option_is, present_after, bar_after, holds_after}
 use Rattle.node_model.specs.Clocks.{ClockSet, runs_on}
 use Rattle.node_model.specs.Slots.{RunningJob, free_slot, is_begin}
+
+-- A past is the entries before some place, the newest first, so each definition here is a recursion on it: what an
+-- entry changes, and else what was before. Only the entries of a repository change what is said of it.
 
 -- the entry is one of this repository
 abbrev pub is_of : ℕ → Entry → Bool

@@ -1,5 +1,4 @@
--- Runs of several repositories: in which order entries stand, what each repository does by its own past, and how frames go
--- from one to the other.
+-- Runs of several repositories: the order of entries, what each does by its own past, and how frames go between them.
 use Rattle.run_model.specs.States.{state_of}
 use Rattle.std.specs.Prelude.{◌≡◌, ◌⊎◌, ℕ, ◌+◌, ◌<◌, ◌≤◌, ◌^◌, if◌then◌else◌, ◌==◌, nat_le, List, [], ◌∷◌, length, reverse, Option, Some, None, true}
 use Rattle.std.specs.List.{fold}

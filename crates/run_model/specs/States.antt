@@ -1,5 +1,4 @@
--- The state of a repository after the entries so far: each part is a function of the repository's own entries; and the step
--- that it makes next.
+-- The state of a repository after the entries so far: each part is a function of the repository's own entries.
 use Rattle.std.specs.Prelude.{ℕ, if◌then◌else◌, List, [], ◌∷◌, Option, None}
 use Rattle.run_data.specs.declared.entry.Entry.{Entry}
 use Rattle.run_model.specs.Past.{is_of, bar, present, begun_count, clock, holds, entry_count}

@@ -1,5 +1,4 @@
--- The forms of a script's lines (own): one row for each, with the word that a line of it begins with, and what its other
--- words say.
+-- The forms of a script's lines (own): a row for each, with the word that it begins with, and what its other words say.
 use Rattle.std.specs.Prelude.{ℕ, Bool, true, false, List, [], ◌∷◌, Option, Some, None, Result, Ok, Err, codes, bytes_eq, if◌then◌else◌}
 use Rattle.std.specs.List.{find}
 use Rattle.std.specs.Option.{option_map}

@@ -1,5 +1,4 @@
 -- The steps by which a line is read: each reads the words that come next, and stands before what follows them (own).
--- A word that is missing is wrong at the line's length, any other wrong word at its first byte.
 use Rattle.std.specs.Prelude.{◌≡◌, ℕ, zero, suc, ◌+◌, ◌-◌, Bool, true, false, ◌&&◌, ◌||◌, not, nat_le, nat_lt, ◌==◌, List, [], ◌∷◌, ◌++◌, length, Option, Some, None, Result, Ok, Err, codes, bytes_eq, is_some, if◌then◌else◌}
 use Rattle.std.specs.Option.{option_map}
 use Rattle.annex_base.specs.ResultSteps.{◌>>=◌}
@@ -29,7 +28,8 @@ use Rattle.script_lang.specs.declared.fault.LineFault.TheVariants.{Wrong}
 use Rattle.script_lang.specs.Context.{Context, number_of_repo, number_of_other, has_name, has_id, has_path, is_placed}
 use Rattle.script_lang.specs.Verify.{is_content_of}
 
--- what a step reads, with the place behind it
+-- what a step reads, with the place behind it; a word that is missing is wrong at the line's length, any other wrong
+-- word at its first byte
 abbrev pub Step : Type 0 → Type 0
 Step A = Cursor → Result (A × Cursor) LineFault
 

@@ -1,5 +1,4 @@
--- How a line of a script is cut into words (the project's own): words are separated by spaces, and a word whose first
--- byte is a double quote runs to the next quote.
+-- How a line of a script is cut into words, and how a word is printed (own).
 use Rattle.std.specs.Prelude.{ℕ, ◌+◌, ◌<◌, ◌≤◌, Bool, true, false, not, ◌==◌, List, [], ◌∷◌, ◌++◌, length, take, drop, if◌then◌else◌}
 use Rattle.std.specs.List.{prefix_len, list_any}
 use Rattle.std.specs.Str.{is_utf8}
@@ -38,7 +37,8 @@ quoted_word place bytes =
 unfoldable pub plain_word : ℕ → List ℕ → NextWord
 plain_word place bytes = let n = prefix_len is_not_space bytes in text_word place (take n bytes) (place + n)
 
--- the word at the place, of the bytes from there on
+-- The word at the place, of the bytes from there on: words are separated by spaces, and a word whose first byte is a
+-- double quote runs to the next quote.
 unfoldable pub word_from : ℕ → List ℕ → NextWord
 word_from place [] = NoWord
 word_from place (b ∷ bytes) = if b == quote then quoted_word place bytes else plain_word place (b ∷ bytes)

@@ -1,5 +1,4 @@
--- Which repositories are claimed to have a key, and which are in a group, said of each repository by itself (git-annex
--- internals: location log; git-annex-dead, git-annex-group).
+-- Which repositories are claimed to have a key, each by itself (git-annex internals: location log; git-annex-dead).
 use Rattle.std.specs.Prelude.{◌≡◌, ◌≢◌, ℕ, List, Some}
 use Rattle.annex_base.specs.declared.kinds.Level.TheVariants as levels
 use Rattle.log_lines.specs.declared.entry.LogKind.TheVariants as kinds

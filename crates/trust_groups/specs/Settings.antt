@@ -1,6 +1,4 @@
--- What the lines of a branch set (git-annex trust, git-annex-group, git-annex-describe, git-annex-numcopies,
--- git-annex-mincopies, git-annex-preferred-content; git-annex internals: location log. That 0 reads as 1, and that X isn't
--- present, is the project's own).
+-- What the lines of a branch set (git-annex internals: location log; git-annex: the pages named below).
 use Rattle.std.specs.Prelude.{ℕ, Bool, true, false, not, ◌&&◌, List, [], ◌∷◌, filter, flat_map, max, Option, Some, None}
 use Rattle.annex_base.specs.Settings.{Settings}
 use Rattle.annex_base.specs.declared.kinds.Level.{Level}
@@ -54,25 +52,27 @@ number_in _ = 1
 
 -- ---- what is read of them
 
--- semitrusted without an entry
+-- semitrusted without an entry (git-annex trust)
 abbrev pub level : Lines → List ℕ → Level
 level lines repo = level_in (value_in (entry_in kinds.Trust lines (topics.Repo repo)))
 
--- 1 without an entry; 0 is read as 1
+-- 1 without an entry (git-annex-numcopies; that 0 is read as 1 is own)
 abbrev pub numcopies : Lines → ℕ
 numcopies lines = number_in (value_in (entry_in kinds.Numcopies lines topics.Whole))
 
+-- the same (git-annex-mincopies)
 abbrev pub mincopies : Lines → ℕ
 mincopies lines = number_in (value_in (entry_in kinds.Mincopies lines topics.Whole))
 
--- none without an entry
+-- none without an entry (git-annex-group)
 abbrev pub groups : Lines → List ℕ → List (List ℕ)
 groups lines repo = groups_in (value_in (entry_in kinds.Group lines (topics.Repo repo)))
 
--- empty without an entry
+-- empty without an entry (git-annex-describe)
 abbrev pub description : Lines → List ℕ → List ℕ
 description lines repo = text_in (value_in (entry_in kinds.Uuid lines (topics.Repo repo)))
 
+-- expressions, each empty without an entry (git-annex-preferred-content)
 abbrev pub preferred : Lines → List ℕ → List ℕ
 preferred lines repo = text_in (value_in (entry_in kinds.Preferred lines (topics.Repo repo)))
 
@@ -86,6 +86,7 @@ abbrev pub is_dead : Level → Bool
 is_dead levels.Dead = true
 is_dead _ = false
 
+-- X isn't present (own)
 abbrev pub is_present : Value → Bool
 is_present values.Present = true
 is_present _ = false

@@ -1,5 +1,4 @@
--- The files of a branch, as a map of their paths to the sets of their lines (git-annex internals: branch files). A branch
--- stands as the list of its files in byte order of path.
+-- The files of a branch, as a map of their paths to the sets of their lines (git-annex internals: branch files).
 use Rattle.std.specs.Prelude.{◌≡◌, ℕ, List, [], ◌∷◌, Option, Some, None}
 use Rattle.std.specs.List.{fold}
 use Rattle.std.specs.List.Sorted.{IsStrictlySortedBy}
@@ -9,6 +8,7 @@ use Rattle.annex_base.specs.ByteOrder.{text_cmp}
 use Rattle.annex_base.specs.Lists.{Each}
 use Rattle.union_merge.specs.LineSet.{IsLine, IsLineSet, union, difference}
 
+-- a branch stands as the list of its files in byte order of path
 abbrev pub Files : Type 0
 Files = List (List ℕ × List (List ℕ))
 

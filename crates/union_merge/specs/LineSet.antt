@@ -1,5 +1,4 @@
--- The lines of a file of a branch, as a set (git-annex internals: branch files, which merge as the union of their lines). A
--- set stands as the list of its lines, each once, in byte order.
+-- The lines of a file of a branch, as a set (git-annex internals: branch files).
 use Rattle.std.specs.Prelude.{◌≢◌, ℕ, Bool, true, false, not, ◌==◌, List, [], ◌∷◌, ◌++◌, filter, flat_map, bytes_eq}
 use Rattle.std.specs.List.{fold, list_any, slice_split}
 use Rattle.std.specs.List.Sorted.{IsStrictlySortedBy}
@@ -13,7 +12,7 @@ pub record IsLine (line : List ℕ) : Type 0 where
   pub some : line ≢ []
   pub single : ¬ Member newline line
 
--- lines in byte order, each once
+-- a set stands as the list of its lines, each once, in byte order
 pub record IsLineSet (lines : List (List ℕ)) : Type 0 where
   pub sorted : IsStrictlySortedBy text_cmp lines
   pub each : Each IsLine lines
@@ -22,7 +21,7 @@ pub record IsLineSet (lines : List (List ℕ)) : Type 0 where
 abbrev pub with_line : List (List ℕ) → List ℕ → List (List ℕ)
 with_line lines line = insert_key text_cmp lines line
 
--- the lines of both
+-- the lines of both, as files merge (git-annex internals: branch files)
 abbrev pub union : List (List ℕ) → List (List ℕ) → List (List ℕ)
 union lines others = fold with_line lines others
 

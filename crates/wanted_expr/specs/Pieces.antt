@@ -1,9 +1,9 @@
--- How a text is cut into parentheses and words (own): spaces part words, a parenthesis stands alone or touches a word, and
--- double quotes group spaces and parentheses. A place counts the bytes before it.
+-- How a text is cut into parentheses and words (own).
 use Rattle.std.specs.Prelude.{IsTrue, ℕ, ◌-◌, ◌==◌, ◌||◌, Bool, if◌then◌else◌, List, [], ◌∷◌, ◌++◌, length, Option, Some, None, Result, Ok, Err}
 use Rattle.std.specs.Str.{is_utf8}
 
--- a parenthesis, or a word without its quotes
+-- A parenthesis, or a word without its quotes. Spaces part words, a parenthesis stands alone or touches a word, and
+-- double quotes group spaces and parentheses.
 pub data Piece : Type 0 where
   Opening : Piece
   Closing : Piece
@@ -17,7 +17,7 @@ abbrev pub after_spaces : List ℕ → List ℕ
 after_spaces [] = []
 after_spaces (b ∷ bs) = if b == 32 then after_spaces bs else b ∷ bs
 
--- a word and what follows it, or the place of a quote that is never closed
+-- a word and what follows it, or the place of a quote that is never closed; a place counts the bytes before it
 abbrev pub WordRead : Type 0
 WordRead = Result (List ℕ × List ℕ) ℕ
 
