@@ -1,4 +1,4 @@
--- The calls of a store, told apart (the project's own).
+-- The calls of a store, told apart (own).
 use Rattle.std.specs.Prelude.{ℕ, Bool, ◌==◌}
 use Rattle.annex_base.specs.declared.kinds.Call.{Call}
 use Rattle.annex_base.specs.declared.kinds.Call.TheVariants as calls

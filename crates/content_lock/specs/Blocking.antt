@@ -1,4 +1,4 @@
--- Which hold is named of those that block (the project's own).
+-- Which hold is named of those that block (own).
 use Rattle.std.specs.Prelude.{◌≡◌, ◌≤◌, ℕ, not, ◌==◌, List, filter, map, Option, Some, None, Contains, All}
 use Rattle.node_model.specs.DropStep.{until}
 use Rattle.run_data.specs.declared.row.Hold.{Hold}

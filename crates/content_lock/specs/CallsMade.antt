@@ -1,4 +1,4 @@
--- Which calls of its store a step made, and which of these failed (the project's own).
+-- Which calls of its store a step made, and which of these failed (own).
 use Rattle.std.specs.Prelude.{◌≡◌, ◌<◌, ℕ, nat_lt, List, [], ◌∷◌, find, Option, Some, None}
 use Rattle.std.specs.Option.{ForSome, option_map}
 use Rattle.annex_base.specs.Calls.{call_number}

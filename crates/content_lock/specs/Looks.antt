@@ -1,4 +1,4 @@
--- What the calls of a table find: each answer and refusal with its row, in the order in which they are tested (the project's own).
+-- What the calls of a table find: each answer and refusal with its row, in the order in which they are tested (own).
 use Rattle.std.specs.Prelude.{◌≡◌, ℕ, Bool, true, false, List, Option, Some, None}
 use Rattle.annex_base.specs.declared.kinds.Call.TheVariants as calls
 use Rattle.node_model.specs.DropStep.{until}

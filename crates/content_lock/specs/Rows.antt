@@ -1,4 +1,4 @@
--- The rows of a table: its holds, the newest first, the bars by key, and the keys that are being filled (the project's own).
+-- The rows of a table: its holds, the newest first, the bars by key, and the keys that are being filled (own).
 use Rattle.std.specs.Prelude.{◌≡◌, ℕ, Bool, List, Option, bytes_eq}
 use Rattle.std.specs.List.{list_any}
 use Rattle.std.specs.Map.{lookup}

@@ -1,4 +1,4 @@
--- What a store has of a table's rows, where it tells (the project's own).
+-- What a store has of a table's rows, where it tells (own).
 use Rattle.std.specs.Prelude.{◌≡◌, ℕ, ◌+◌, Bool, true, List, ◌∷◌, length, map, Option, None, is_some}
 use Rattle.std.specs.Option.{ForSome, option_map}
 use Rattle.run_data.specs.declared.entry.By.TheVariants.{Script}

@@ -1,4 +1,4 @@
--- Tokens of a table: whose hold stands open there, and what an owner's share says of the owner's other holds (the project's own).
+-- Tokens of a table: whose hold stands open there, and what an owner's share says of the owner's other holds (own).
 use Rattle.std.specs.Prelude.{◌≡◌, ℕ, not, ◌&&◌, ◌||◌, ◌==◌, List, filter, find, map, Option, Some, None}
 use Rattle.std.specs.Option.{option_map}
 use Rattle.run_data.specs.declared.entry.By.{By}

@@ -1,4 +1,4 @@
--- Which calls of its store each answer of a table took, and which of these failed (the project's own).
+-- Which calls of its store each answer of a table took, and which of these failed (own).
 use Rattle.std.specs.Prelude.{◌≡◌, ℕ, Bool, true, false, nat_lt, List, [], ◌∷◌, Option, Result, Ok, Err}
 use Rattle.std.specs.Option.{ForSome, option_map}
 use Rattle.annex_base.specs.declared.kinds.Call.{Call}

@@ -1,4 +1,4 @@
--- The sequential driver (the project's own): the run that it makes of a script, line by line.
+-- The sequential driver (own): the run that it makes of a script, line by line.
 use Rattle.std.specs.Prelude.{ℕ, zero, suc, List, [], ◌∷◌, ◌++◌, length, reverse}
 use Rattle.run_data.specs.declared.run.Run.{Run}
 use Rattle.driver_model.specs.Lines.{Line, Have, SetPart, Add, File, Set, Raw, Merge, Compact, Begin, Turns, Settle, Close, Crash, Wait, Fail, Par, Shows}

@@ -1,4 +1,4 @@
--- Rounds of turns, until all are idle, and blocks (the project's own).
+-- Rounds of turns, until all are idle, and blocks (own).
 use Rattle.std.specs.Prelude.{ℕ, zero, suc, ◌+◌, Bool, true, not, ◌&&◌, if◌then◌else◌, ◌==◌, nat_le, nat_lt, List, [], ◌∷◌, filter, flat_map, length, map}
 use Rattle.std.specs.List.{list_any, range_with_len}
 use Rattle.run_model.specs.Past.{begun_count}

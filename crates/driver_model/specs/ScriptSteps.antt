@@ -1,4 +1,4 @@
--- What the lines of a script do that aren't turns (the project's own). A step stops at the first store call that fails.
+-- What the lines of a script do that aren't turns (own). A step stops at the first store call that fails.
 use Rattle.std.specs.Prelude.{ℕ, ◌+◌, Bool, true, false, not, ◌||◌, if◌then◌else◌, nat_lt, List, [], ◌∷◌, ◌++◌, length, Some, None}
 use Rattle.annex_base.specs.declared.kinds.Call.{Call}
 use Rattle.annex_base.specs.declared.kinds.Call.TheVariants as calls

@@ -1,6 +1,6 @@
 //! What a repository said of a content.
 /// What a repository answered about a content, and so how far its copy is relied on
-/// (git-annex-numcopies, git-annex-mincopies; the three kinds are the project's own).
+/// (git-annex-numcopies, git-annex-mincopies; the three kinds are own).
 #[derive(Debug, Clone, Copy, PartialEq, Eq, PartialOrd, Ord)]
 pub enum Kind {
     /// A hold on the content. It ends at `end`, in milliseconds on the clock of the job that drops.

@@ -37,8 +37,8 @@ pub enum Judged {
 }
 
 /// Judges whether this evidence is enough to drop a copy (git-annex-numcopies, git-annex-mincopies). It is where it has
-/// max(numcopies, mincopies) items and, for a remote drop, mincopies of them are locked or trusted (the split is the
-/// project's own). The caller sees to it that it has at most one item for each repository.
+/// max(numcopies, mincopies) items and, for a remote drop, mincopies of them are locked or trusted (the split is own).
+/// The caller sees to it that it has at most one item for each repository.
 pub fn judge(evidence: &[Evidence], need: Need, side: Side) -> Judged
     requires { length evidence.now < 2 ^ 32 }
     ensures exact { result ≡ judgement side need evidence.now }

@@ -1,4 +1,4 @@
--- Works of a remote drop that no step tells apart (the project's own).
+-- Works of a remote drop that no step tells apart (own).
 use Rattle.std.specs.Prelude.{◌≡◌, ◌==◌, ◌&&◌, ℕ, Bool, true, false, not}
 use Rattle.node_model.specs.Evidence.{Standing, Asked}
 use Rattle.node_model.specs.Jobs.{Work, heard_of}

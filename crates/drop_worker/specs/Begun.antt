@@ -1,4 +1,4 @@
--- Where a job's drop stands: on a connection with another repository, or on none (the project's own).
+-- Where a job's drop stands: on a connection with another repository, or on none (own).
 use Rattle.std.specs.Prelude.{◌≡◌, ℕ, ◌<◌, ◌==◌, true, false, Some}
 use Rattle.run_data.specs.declared.entry.By.TheVariants.{Job as by_job}
 use Rattle.run_data.specs.declared.entry.EntryKind.{EntryKind}

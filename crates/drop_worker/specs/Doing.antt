@@ -1,4 +1,4 @@
--- What a worker's step does, in the words of the step (the project's own).
+-- What a worker's step does, in the words of the step (own).
 use Rattle.std.specs.Prelude.{◌≡◌, ℕ, Bool, true, false, ◌==◌, ◌⊎◌, List, [], ◌∷◌, Option, Some, None, bytes_eq}
 use Rattle.run_data.specs.declared.entry.By.TheVariants.{Job as by_job}
 use Rattle.run_data.specs.declared.entry.FrameView.{FrameView}

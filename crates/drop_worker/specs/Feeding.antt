@@ -1,4 +1,4 @@
--- What a step of a drop is told of its frame, and which token goes with which phase (the project's own).
+-- What a step of a drop is told of its frame, and which token goes with which phase (own).
 use Rattle.std.specs.Prelude.{◌≡◌, ℕ, Bool, true, false, ◌==◌, List, ◌∷◌, Option, Some, None}
 use Rattle.std.specs.List.{list_all}
 use Rattle.run_data.specs.declared.entry.FrameView.{FrameView}

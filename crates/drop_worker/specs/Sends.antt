@@ -1,4 +1,4 @@
--- What a step sends, as contracts see it (the project's own).
+-- What a step sends, as contracts see it (own).
 use Rattle.std.specs.Prelude.{◌≡◌, ◌≤◌, ◌*◌, ℕ, List, []}
 use Rattle.run_data.specs.declared.entry.FrameView.{FrameView}
 use Rattle.drop_worker.specs.declared.turn.Parcel.{Parcel}

@@ -1,4 +1,4 @@
--- What the step of a drop needs and does on either side (the project's own).
+-- What the step of a drop needs and does on either side (own).
 use Rattle.std.specs.Prelude.{◌≡◌, ◌<◌, ◌==◌, ℕ, All, false, List, Option, Some, None}
 use Rattle.drop_proof.specs.declared.rule.Side.{Side}
 use Rattle.drop_proof.specs.declared.rule.Side.TheVariants.{Local, Remote}

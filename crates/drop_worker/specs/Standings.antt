@@ -1,4 +1,4 @@
--- How the settings see a repository, as the Rust value says it (the project's own).
+-- How the settings see a repository, as the Rust value says it (own).
 use Rattle.node_model.specs.Evidence as drops
 use Rattle.drop_worker.specs.declared.here.Standing.{Standing}
 use Rattle.drop_worker.specs.declared.here.Standing.TheVariants as standings

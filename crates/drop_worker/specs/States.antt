@@ -1,4 +1,4 @@
--- A state of a repository, and a job's work, that are what a worker, a table and a store are (the project's own).
+-- A state of a repository, and a job's work, that are what a worker, a table and a store are (own).
 use Rattle.std.specs.Prelude.{◌≡◌, ℕ, ◌+◌, false, List, Option, Some, None, is_some}
 use Rattle.object_store.specs.Stores.{Contents}
 use Rattle.run_data.specs.Repos.{id_of}

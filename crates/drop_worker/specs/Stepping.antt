@@ -1,4 +1,4 @@
--- What a step of a drop does and leaves on either side, in one fact, for private contracts (the project's own).
+-- What a step of a drop does and leaves on either side, in one fact, for private contracts (own).
 use Rattle.std.specs.Prelude.{◌≡◌, ◌≤◌, ℕ, Bool, false, List, Option, Some, IfSome, Result, Ok, Err}
 use Rattle.std.specs.Option.{ForSome}
 use Rattle.annex_base.specs.Causes.{Rose}

@@ -1,4 +1,4 @@
--- What contracts see of a worker (the project's own).
+-- What contracts see of a worker (own).
 use Rattle.std.specs.Prelude.{ℕ, List, Option}
 use Rattle.annex_base.specs.declared.kinds.Word.{Word}
 use Rattle.run_data.specs.declared.job.Job.{Job}

@@ -1,4 +1,4 @@
--- The work that a worker is, and what it reads in a turn (the project's own).
+-- The work that a worker is, and what it reads in a turn (own).
 use Rattle.std.specs.Prelude.{ℕ, ◌==◌, Bool, true, false, ◌&&◌, not, if◌then◌else◌, List, [], ◌∷◌, ◌++◌, find, flat_map, map, Option, Some, None, option_map, is_some}
 use Rattle.object_store.specs.Stores.{Contents}
 use Rattle.std.specs.List.{range_with_len}

@@ -1,4 +1,4 @@
--- The calls of its store that the step of a repository's jobs makes, in order, up to the first that fails (the project's own).
+-- The calls of its store that the step of a repository's jobs makes, in order, up to the first that fails (own).
 use Rattle.std.specs.Prelude.{ℕ, ◌==◌, find, is_some, List, [], Option, Some, None}
 use Rattle.std.specs.Option.{option_map_or}
 use Rattle.annex_base.specs.declared.kinds.Call.{Call}

@@ -1,4 +1,4 @@
--- The two clocks of a repository (the project's own): the wall clock makes stamps, and the other one times locks and orders.
+-- The two clocks of a repository (own): the wall clock makes stamps, and the other one times locks and orders.
 use Rattle.std.specs.Prelude.{ℕ, ◌+◌, ◌-◌, List}
 use Rattle.run_data.specs.declared.run.RepoView.{RepoView}
 use Rattle.run_data.specs.Repos.{offset_of}

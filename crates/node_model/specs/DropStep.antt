@@ -1,4 +1,4 @@
--- The steps of a drop, and of the drop of a move (the project's own, over git-annex-drop and the P2P protocol).
+-- The steps of a drop, and of the drop of a move (own, over git-annex-drop and the P2P protocol).
 use Rattle.std.specs.Prelude.{ℕ, ◌+◌, ◌-◌, ◌/◌, ◌^◌, Bool, true, false, not, if◌then◌else◌, ◌==◌, max, nat_lt, List, [], ◌∷◌, filter, fold, Option, Some, None}
 use Rattle.std.specs.List.{list_any}
 use Rattle.annex_base.specs.declared.kinds.Call.TheVariants as calls

@@ -1,4 +1,4 @@
--- The step of a job, by where it stands (the project's own).
+-- The step of a job, by where it stands (own).
 use Rattle.std.specs.Prelude.{ℕ, Bool, true, false, ◌&&◌, if◌then◌else◌, ◌==◌, min, nat_lt, nat_le, List, [], ◌∷◌, find, Option, Some, None}
 use Rattle.std.specs.List.{list_all}
 use Rattle.std.specs.Option.{option_to_list}

@@ -1,4 +1,4 @@
--- The calls of its store that the step of a repository's sessions makes, in order, up to the first that fails (the project's own).
+-- The calls of its store that the step of a repository's sessions makes, in order, up to the first that fails (own).
 use Rattle.std.specs.Prelude.{ℕ, if◌then◌else◌, List, [], find, Option, Some, None, is_some}
 use Rattle.std.specs.Option.{option_map_or}
 use Rattle.annex_base.specs.declared.kinds.Call.{Call}

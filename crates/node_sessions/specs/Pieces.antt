@@ -1,4 +1,4 @@
--- The pieces of a content that a session says (the project's own).
+-- The pieces of a content that a session says (own).
 use Rattle.std.specs.Prelude.{◌≡◌, ℕ, List, length, take, drop, Option, Some}
 use Rattle.std.specs.Option.{ForSome}
 use Rattle.object_store.specs.Stores.{Contents, bytes_of}

@@ -1,4 +1,4 @@
--- What a step of the sessions leaves of the store's contents and parts (the project's own).
+-- What a step of the sessions leaves of the store's contents and parts (own).
 use Rattle.std.specs.Prelude.{ℕ, Bool, true, false, if◌then◌else◌, List, [], ◌++◌, Option, Some, None}
 use Rattle.std.specs.Option.{option_and_then, option_map, option_map_or}
 use Rattle.run_data.specs.declared.entry.EntryKind.{EntryKind}

@@ -1,4 +1,4 @@
--- How bytes stand in blocks, for private contracts (the project's own).
+-- How bytes stand in blocks, for private contracts (own).
 use Rattle.std.specs.Prelude.{◌≡◌, ℕ, ◌<◌, ◌≤◌, ◌^◌, List, ◌++◌, length, flat_map}
 use Rattle.std.specs.declared.vec.Vec.{Vec}
 use Rattle.std.specs.declared.alloc.Global.{Global}

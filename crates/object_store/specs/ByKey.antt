@@ -1,4 +1,4 @@
--- What the maps of a store in memory have, for private contracts (the project's own).
+-- What the maps of a store in memory have, for private contracts (own).
 use Rattle.std.specs.Prelude.{ℕ, List, [], Option}
 use Rattle.std.specs.BTreeMap.{is_at}
 use Rattle.std.specs.Map.{lookup}

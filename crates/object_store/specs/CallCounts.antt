@@ -1,4 +1,4 @@
--- How many calls of each kind are still to fail, in a list by the calls' numbers; for private contracts (the project's own).
+-- How many calls of each kind are still to fail, in a list by the calls' numbers; for private contracts (own).
 use Rattle.std.specs.Prelude.{ℕ, List, slice_index_or}
 use Rattle.annex_base.specs.declared.kinds.Call.{Call}
 use Rattle.annex_base.specs.Calls.{call_number}

@@ -1,4 +1,4 @@
--- Which calls of a store fail (the project's own).
+-- Which calls of a store fail (own).
 use Rattle.std.specs.Prelude.{◌≡◌, ℕ, ◌+◌, ◌-◌, ◌==◌, Bool, true, false, nat_lt, if◌then◌else◌, Option, Result, Ok, Err}
 use Rattle.std.specs.Option.{ForSome, option_map}
 use Rattle.annex_base.specs.declared.kinds.Call.{Call}

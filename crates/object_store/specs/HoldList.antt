@@ -1,4 +1,4 @@
--- The hold records that a map has, for private contracts (the project's own).
+-- The hold records that a map has, for private contracts (own).
 use Rattle.std.specs.Prelude.{ℕ, List, map}
 use Rattle.std.specs.declared.cmp.Reverse.{Reverse}
 use Rattle.object_store.specs.declared.hold.Hold.{Hold}

@@ -1,4 +1,4 @@
--- What a store of contents, parts, hold records and files tells, and how its calls change it (the project's own).
+-- What a store of contents, parts, hold records and files tells, and how its calls change it (own).
 use Rattle.std.specs.Prelude.{◌≢◌, ℕ, ◌<◌, ◌-◌, ◌^◌, ◌==◌, not, nat_lt, if◌then◌else◌, List, [], ◌∷◌, ◌++◌, length, take, drop, min, filter, Option, Some, None, All, AllPairs, bytes_eq}
 use Rattle.std.specs.Option.{ForSome, unwrap_or}
 use Rattle.object_store.specs.declared.keeper.HoldRecord.{HoldRecord}

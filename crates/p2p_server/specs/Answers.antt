@@ -1,4 +1,4 @@
--- What a session says and leaves behind, in the words of the step (the project's own).
+-- What a session says and leaves behind, in the words of the step (own).
 use Rattle.std.specs.Prelude.{◌≡◌, ℕ, Bool, true, false, List, [], ◌∷◌, length, Option, Some, None, is_some}
 use Rattle.std.specs.Option.{option_map}
 use Rattle.annex_base.specs.declared.kinds.Call.{Call}

@@ -1,4 +1,4 @@
--- What each step keeps: its entry is a session's, a hold has its number, and replies are short lines (the project's own).
+-- What each step keeps: its entry is a session's, a hold has its number, and replies are short lines (own).
 use Rattle.std.specs.Prelude.{◌≡◌, ℕ, ◌<◌, ◌≤◌, ◌^◌, true, false, ◌||◌, length, Option, Some, None, bytes_eq, codes}
 use Rattle.annex_base.specs.Calls.{same_call}
 use Rattle.annex_base.specs.declared.kinds.Call.TheVariants.{PutFile}

@@ -1,4 +1,4 @@
--- What a session sends of a content (git-annex P2P protocol; pieces are the project's own).
+-- What a session sends of a content (git-annex P2P protocol; pieces are own).
 use Rattle.std.specs.Prelude.{◌≡◌, ℕ, ◌<◌, ◌≤◌, Bool, true, false, List, [], ◌∷◌, length, take, drop, Option, Some, None}
 use Rattle.annex_base.specs.declared.kinds.Call.{Call}
 use Rattle.run_data.specs.declared.entry.EntryKind.TheVariants as kinds

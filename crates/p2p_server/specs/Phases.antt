@@ -1,4 +1,4 @@
--- Phases of a session, and the verdict on a part by its sum, which a session's contract cites (the project's own).
+-- Phases of a session, and the verdict on a part by its sum, which a session's contract cites (own).
 use Rattle.std.specs.Prelude.{◌≡◌, ℕ, ◌<◌, ◌≤◌, ◌-◌, ◌^◌, List, ◌++◌, length, Option, Some, None}
 use Rattle.run_data.specs.declared.entry.EntryKind.{EntryKind}
 use Rattle.run_data.specs.declared.entry.EntryKind.TheVariants.{Gain}

@@ -1,4 +1,4 @@
--- A state of a repository that is what a session, a table and a store are (the project's own).
+-- A state of a repository that is what a session, a table and a store are (own).
 use Rattle.std.specs.Prelude.{◌≡◌, ℕ, ◌+◌, Bool, List, Option, Some}
 use Rattle.run_data.specs.declared.entry.EntryKind.{EntryKind}
 use Rattle.run_data.specs.declared.row.Hold.{Hold}

@@ -1,4 +1,4 @@
--- What a session is, what it hears, and what it goes on to be (the project's own).
+-- What a session is, what it hears, and what it goes on to be (own).
 use Rattle.std.specs.Prelude.{◌≡◌, ◌↔◌, ℕ, ◌-◌, Bool, true, false, not, ◌&&◌, if◌then◌else◌, List, [], ◌++◌, length, Option, Some, None}
 use Rattle.std.specs.Option.{option_map}
 use Rattle.run_data.specs.declared.entry.EntryKind.{EntryKind}

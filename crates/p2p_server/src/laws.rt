@@ -24,8 +24,7 @@ pub fn others_leave_it()
     ensures fed { (s : Session) (was now : Parts) → ((key : List ℕ) → sessions.is_filling key (session_of s).doing ≡ true → now key ≡ was key) → IsFedOf was s → IsFedOf now s }
 {}
 
-/// What a session says is a line of the protocol, of at most 64 bytes (git-annex P2P protocol; the bound is the project's
-/// own).
+/// What a session says is a line of the protocol, of at most 64 bytes (git-annex P2P protocol; the bound is own).
 pub fn replies_are_short_lines()
     ensures line { (m : Message) → IsReply m → IsLine m }
     ensures short { (m : Message) → IsReply m → length (text_of m) ≤ 64 }

@@ -405,9 +405,9 @@ impl Session {
         }
     }
 
-    /// The answer to a frame, and what follows from it: the step of the definitions (git-annex P2P protocol; what is marked
-    /// there as free is the project's own). The clock is the repository's, in milliseconds; the number is that of the entry
-    /// that is to be made. After NoMemory all is as before.
+    /// The answer to a frame, and what follows from it: the step of the definitions (git-annex P2P protocol; what this
+    /// leaves open is own). The clock is the repository's, in milliseconds; the number is that of the entry that is to
+    /// be made. After NoMemory all is as before.
     pub fn take<K: Keeper>(
         &mut self,
         alloc: Global,

@@ -9,8 +9,8 @@ ghost use Rattle.p2p_wire.specs.Streams.{Accounts, Decodes, DecoderEvent, IsItem
 
 use annex_key::key_texts_have_no_fault;
 
-/// Each message that is sent is read from its line, which has at most 8,192 bytes (git-annex P2P protocol; the limit is
-/// the project's own).
+/// Each message that is sent is read from its line, which has at most 8,192 bytes (git-annex P2P protocol; the limit
+/// is own).
 pub fn sent_messages_are_read()
     ensures read { (m : Message) → IsWire m → IsShort m → message_of (text_of m) ≡ Some m }
     ensures short { (m : Message) → IsWire m → IsShort m → length (text_of m) ≤ 8192 }

@@ -190,7 +190,7 @@ fn with_key(alloc: Global, word: &[u8], rest: &[u8]) -> Result<Option<Message>, 
 
 impl Message {
     /// The message of a line, which is given without its newline; None where the line is none of the protocol
-    /// (git-annex P2P protocol; that a line has at most 8,192 bytes is the project's own).
+    /// (git-annex P2P protocol; that a line has at most 8,192 bytes is own).
     pub fn read(alloc: Global, line: &[u8]) -> Result<Option<Message>, NoMemory>
         ensures { IfOk result (λ found. found ≡ message_of line.now) }
     {

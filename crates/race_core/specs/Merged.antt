@@ -1,4 +1,4 @@
--- Histories that several threads kept, one of each repository, merged behind the run that they extend (the project's own).
+-- Histories that several threads kept, one of each repository, merged behind the run that they extend (own).
 use Rattle.std.specs.Prelude.{◌≡◌, ℕ, zero, suc, ◌+◌, ◌<◌, ◌≤◌, ◌^◌, Bool, true, ◌&&◌, ◌||◌, if◌then◌else◌, ◌==◌, nat_lt, List, [], ◌∷◌, ◌++◌, filter, find, length, map, reverse, slice_get, Option, Some, None}
 use Rattle.annex_base.specs.Lists.{Each}
 use Rattle.annex_base.specs.declared.kinds.EntryStamp.{EntryStamp}

@@ -41,7 +41,7 @@ pub fn least_is_what_drops_read()
 }
 
 /// A repository has a claim only where the drop of a removal before had it as a trusted item. This is so in any run, lawful
-/// or not (counting claims is the project's own).
+/// or not (counting claims is own).
 pub fn claims_are_trusted_items()
     ensures { (run : Run) (key : List ℕ) (place r : ℕ) → claim_at run key place r ≡ true → IsTrustedBefore run key place r }
 {}

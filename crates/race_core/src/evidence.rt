@@ -17,7 +17,7 @@ ghost use Rattle.race_core.specs.Readings.{Judge, judge_at};
 use p2p_wire::sent_messages_are_read;
 
 /// The evidence of a removal has each repository at most once, never the one that loses the content, and no repository that
-/// isn't one of the run (git-annex-numcopies; at most one item of a repository is the project's own).
+/// isn't one of the run (git-annex-numcopies; at most one item of a repository is own).
 pub fn evidence_is_of_other_repositories()
     ensures distinct { (run : Run) (key : List ℕ) (place : ℕ) (e : Entry) (x : Removal)
         → IsRun run → slice_get run.entries place ≡ Some e → removal_at run key place e ≡ Some x
@@ -35,7 +35,7 @@ pub fn evidence_is_of_other_repositories()
 
 /// Right after a removal of the key, the repositories with a copy or a claim are no fewer than the locked and trusted
 /// items of its drop; and where all its items were locked or trusted, no fewer than the larger of the two numbers that it
-/// read (git-annex-numcopies, git-annex-mincopies; counting claims is the project's own).
+/// read (git-annex-numcopies, git-annex-mincopies; counting claims is own).
 pub fn removals_leave_as_many()
     ensures evidence { (run : Run) (key : List ℕ) (place : ℕ) (e : Entry) (x : Removal)
         → IsRun run → slice_get run.entries place ≡ Some e → removal_at run key place e ≡ Some x
@@ -63,8 +63,7 @@ pub fn recent_items_were_seen()
 
 /// A locked item of a removal ends ten minutes after its drop asked for the lock, on the clock of the repository that judged.
 /// As the removal comes, the item's repository still has the hold that it gave for this, which ends no earlier than ten
-/// minutes after the asking, on that repository's clock (git-annex P2P protocol, LOCKCONTENT; the clocks are the
-/// project's own).
+/// minutes after the asking, on that repository's clock (git-annex P2P protocol, LOCKCONTENT; the clocks are own).
 pub fn locked_items_are_held()
     ensures { (run : Run) (key : List ℕ) (place : ℕ) (e : Entry) (x : Removal) (judge : Judge) (item : Evidence) (end : ℕ)
         → IsRun run → slice_get run.entries place ≡ Some e → removal_at run key place e ≡ Some x

@@ -67,7 +67,7 @@ pub fn never_fewer_than_mincopies()
 }
 
 /// Right after a removal of the key, each repository that its drop had locked still has the content, and each whose
-/// claim its drop trusted is among the claims (git-annex-mincopies; counting claims is the project's own).
+/// claim its drop trusted is among the claims (git-annex-mincopies; counting claims is own).
 pub fn drops_leave_their_evidence()
     ensures locked { (run : Run) (key : List ℕ) (place : ℕ) (e : Entry) (x : Removal) (item : Evidence)
         → IsRun run → slice_get run.entries place ≡ Some e → removal_at run key place e ≡ Some x
@@ -98,8 +98,8 @@ pub fn kept_lines_read_as_all()
 
 /// In every run, lawful or not, no evidence of a removal is of a repository that its drop read as untrusted or dead, and
 /// a repository that counts without a lock, by its claim, was read as trusted, and as one that is claimed to have the
-/// key of the drop's job (git-annex untrust, git-annex dead; counting claims is the project's own). Each removal has
-/// one judge: the job that read the logs, with what had happened as it judged its evidence.
+/// key of the drop's job (git-annex untrust, git-annex dead; counting claims is own). Each removal has one judge: the
+/// job that read the logs, with what had happened as it judged its evidence.
 pub fn ignored_never_count()
     ensures judged { (run : Run) (key : List ℕ) (place : ℕ) (e : Entry) (x : Removal)
         → removal_at run key place e ≡ Some x → (judge : Judge) × (judge_at run place e ≡ Some judge) }

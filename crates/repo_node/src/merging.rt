@@ -77,8 +77,8 @@ impl<K: Keeper> Node<K> {
     }
 
     /// Merges another branch, which travels as a bundle, into its own, by one log entry with the new lines for each file that gains
-    /// some, in order of path (git-annex internals: branch files; the bundle is the project's own). A text that is no bundle
-    /// changes nothing, and a refusal in the middle keeps the files that are done.
+    /// some, in order of path (git-annex internals: branch files; the bundle is own). A text that is no bundle changes
+    /// nothing, and a refusal in the middle keeps the files that are done.
     pub fn merge_bundle(&mut self, bytes: &[u8]) -> Result<(), NodeRefused>
         ensures found { OnOk result (IsOfBundle bytes.now) }
         ensures ok { (files : Files) → IsBundle bytes.now files → OnOk result (self.new ≡ over self.new.keeper (merge_files self.old files)) }

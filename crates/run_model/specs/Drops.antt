@@ -1,4 +1,4 @@
--- The evidence of a drop (git-annex-numcopies and git-annex-mincopies; how it is gathered is the project's own).
+-- The evidence of a drop (git-annex-numcopies and git-annex-mincopies; how it is gathered is own).
 use Rattle.std.specs.Prelude.{ℕ, ◌+◌, Bool, true, false, not, ◌&&◌, ◌||◌, if◌then◌else◌, ◌==◌, List, [], ◌∷◌, ◌++◌, length, Option, Some, None, option_map}
 use Rattle.std.specs.List.{list_any}
 use Rattle.std.specs.Option.{option_or}

@@ -1,4 +1,4 @@
--- The contents that a script describes (the project's own; hexadecimal text is that of RFC 4648).
+-- The contents that a script describes (own; hexadecimal text is that of RFC 4648).
 use Rattle.std.specs.Prelude.{◌≡◌, ℕ, ◌+◌, ◌%◌, ◌<◌, ◌^◌, Bool, ◌==◌, List, ◌∷◌, ◌++◌, map, codes, Option, Some, Ok, length, take, drop}
 use Rattle.std.specs.List.{range_with_len, before_first, after_first}
 use Rattle.std.specs.Option.{option_or}

@@ -1,4 +1,4 @@
--- What single words of a script say (the project's own, where no other source is named).
+-- What single words of a script say (own, where no other source is named).
 use Rattle.std.specs.Prelude.{ℕ, ◌-◌, Bool, false, not, ◌==◌, ◌&&◌, ◌||◌, nat_le, List, [], ◌∷◌, length, codes, Option, Some, None, bytes_eq, slice_get, is_none, if◌then◌else◌}
 use Rattle.std.specs.Char.{is_ascii_digit, is_ascii_lowercase}
 use Rattle.std.specs.List.{list_all, find}

@@ -1,4 +1,4 @@
--- A line with a place in it, and a word of a line (the project's own).
+-- A line with a place in it, and a word of a line (own).
 use Rattle.std.specs.Prelude.{ℕ, List}
 
 -- a line, and the place up to which it is read

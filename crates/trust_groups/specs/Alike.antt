@@ -1,4 +1,4 @@
--- When two branches say the same (git-annex internals: branch files; compaction is the project's own).
+-- When two branches say the same (git-annex internals: branch files; compaction is own).
 use Rattle.std.specs.Prelude.{◌≡◌, ◌≢◌, ◌⊎◌, ℕ, List}
 use Rattle.log_lines.specs.declared.entry.LogKind.{LogKind}
 use Rattle.log_lines.specs.declared.entry.LogKind.TheVariants as kinds
