@@ -148,7 +148,7 @@ stays_bar s past words e own barring w stays bars kind is = refl
 
 -- ---- the invariant
 
--- J2: a local drop that is under way has its bar, on its key
+-- a local drop that is under way has its bar, on its key
 pub bars_stand : (s : SetUp) (past : List Entry) → OwnRun s past → (w : Work) → Member w (works past s.number) → Barring s.number past w
 bars_stand s past run w m =
     invariant s (Barring s.number) (λ p e is x n was part local under. rw is (was part local under)) own past run w m

@@ -81,7 +81,7 @@ module _ (reads_back : SentAreRead) (s : SetUp) (past : List Entry) (past_is : O
       ap (λ (w : Way). option_map asked_by (last_request past (up_of w))) taken_way ∙ agree.last in
       subst (LastIs t.w.what.key t.w.what.peer t.w.phase t.peer) (sym same ∙ is) counted.last
 
--- **J4, awaits**: an entry of the repository that takes an answer awaits it
+-- **an entry of the repository that takes an answer awaits it**
 pub own_awaits : SentAreRead → (s : SetUp) (past : List Entry) → OwnPast s past → (words : ℕ → Option Word) (e : Entry) → OwnPart s past words e
     → (f : FrameView) → e.taken ≡ Some f → f.up ≡ false → is_answer (message_in f.body) ≡ true → length (requests past (up_of (way_of s.number f))) ≡ taken_if is_answer past (way_of s.number f) + 1
 own_awaits reads_back s past past_is words e own f took down answer = taken_awaits reads_back s past past_is e f down answer (taken_of s past e (taker s past words e own f took down) f took)

@@ -1,4 +1,4 @@
--- Over the own part of a run: what the phase of each running job says of requests and answers is so, at each of its open ends (J4).
+-- Over the own part of a run: at each open end of a running job, requests and answers are as its phase says.
 use Rattle.std.proofs.Common.{◌≡◌, ◌≢◌, ℕ, ◌<◌, Bool, true, false, List, [], ◌∷◌, length, Option, Some, None, ◌⊎◌, inl, inr, refl, sym, ap, ◌∙◌, subst}
 use Rattle.std.specs.Prelude.{if◌then◌else◌, ◌==◌, ◌&&◌, find, fold, map, not}
 use Rattle.std.proofs.lemmas.Bool.{true≢false, eqb-true, not-true, and_parts, and_right}
@@ -451,7 +451,7 @@ module _ (s : SetUp) (past : List Entry) (e : Entry) (own : is_of s.number e ≡
   does_fits words (inl x) speaks = step_fits x.look x.made x.is (step_even s (state_of s past) x.look speaks x.made x.makes)
   does_fits words (inr y) speaks = any_fits y.takes_none e.kind refl y.may
 
--- **J4**: at each open end of a running job, requests and answers are as its phase says
+-- **at each open end of a running job, requests and answers are as its phase says**
 pub all_fit : (s : SetUp) (past : List Entry) (run : OwnRun s past) → Given s past run → AllFit s past
 all_fit s [] run given = λ w m. absurd m
 all_fit s (e ∷ past) run given = go (all_fit s past run.1 given.2) (is_of s.number e) refl

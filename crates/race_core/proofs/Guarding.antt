@@ -238,7 +238,7 @@ module _ (s : SetUp) (past : List Entry) (e : Entry) (a : EndName) (is : is_of s
         epoch_is = (may_epoch (end_at past s.number a) x.f none x.may).1 ∙ sym same;
       }
 
--- S1: while a session guards a hold, its share stands
+-- while a session guards a hold, its share stands
 pub guards_stand : (s : SetUp) (past : List Entry) (p q : ℕ) → OwnRun s past → Guarded s.number (server_end p q) past
 guards_stand s past p q run = own_induction s (Guarded s.number (server_end p q)) (λ hold key g. absurd (cc)) others own past run
   where

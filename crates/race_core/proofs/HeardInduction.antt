@@ -1,4 +1,4 @@
--- **H**: the list of each running job agrees with what it heard by its repository's entries.
+-- The list of what each running job heard agrees with what its repository's entries say that it heard.
 use Rattle.std.proofs.Common.{◌≡◌, ◌≢◌, ℕ, ◌<◌, Bool, true, false, List, [], ◌∷◌, Option, Some, None, ◌⊎◌, inl, inr, refl, sym, ap, ◌∙◌, subst}
 use Rattle.std.specs.Prelude.{if◌then◌else◌, ◌==◌, fold}
 use Rattle.std.proofs.lemmas.Bool.{true≢false, eqb-true, ne_eqb}
@@ -390,7 +390,7 @@ module _ (reads_back : SentAreRead) (s : SetUp) where
         asking = λ drops. subst (Asking s (e ∷ past) (running_job w) w.heard) (sym phase) tt;
       }
 
-  -- **H**
+  -- **the list of a running job agrees with what it heard by the entries**
   pub heard_holds : (past : List Entry) → OwnPast s past → (w : Work) → Member w (works past s.number) → HoldsOf s past w
   heard_holds past h w m = invariant s (λ p x. OwnPast s p → HoldsOf s p x)
       (λ p e is x n was k. holds_kept s p e (running_job x) x.heard x.part x.phase (λ c. other_tells s.number c x.number p e is) (other_shut s p e (running_job x) is) (was (earlier s p e k)))

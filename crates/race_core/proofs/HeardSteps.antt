@@ -92,7 +92,7 @@ moved_listens t f peer x m phase is told =
         (subst (λ (b : Bool). (end_took (end_with t peer) (if b then Some f else None)).opened ≡ true) (sym x.of_end)
         (ap (λ (c : End). c.opened) (line_open (end_with t peer) f.epoch f.body m told) ∙ x.opened))
 
--- **H, of one entry**: SUCCESS to LOCKCONTENT, SUCCESS and FAILURE to CHECKPRESENT
+-- **what one entry adds to the list**: SUCCESS to LOCKCONTENT, SUCCESS and FAILURE to CHECKPRESENT
 pub lock_heard : (t : Turn) (f : FrameView) (peer : ℕ) → Taking t f peer → (p since : ℕ) → t.w.phase ≡ AsksLock p since → line_in f.body ≡ Some Success
     → (moved t (hears t f) (talk t)).heard ≡ (p, Held since) ∷ t.w.heard
 lock_heard t f peer x p since is told = ap (λ (w : Work). w.heard) (moved_listens t f peer x Success (AsksLock p since) is told) ∙ ap (λ (hs : List (ℕ × Heard)). (p, Held since) ∷ hs) (talker_heard t (Some f))

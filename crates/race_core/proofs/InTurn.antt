@@ -197,7 +197,7 @@ answered r a past n = length (sent_if is_answer past (way_out r a n))
 abbrev pub asked : ℕ → EndName → List Entry → ℕ → ℕ
 asked r a past n = taken_if is_request past (way_in r a n)
 
--- S2
+-- the answers of an end come in turn
 abbrev pub Turns : ℕ → EndName → List Entry → Type 0
 Turns r a past = Balanced (end_at past r a) (busy (session past r a).doing) (answered r a past) (asked r a past)
 
@@ -362,7 +362,7 @@ module _ (s : SetUp) (past : List Entry) (e : Entry) (p q : ℕ) (is : is_of s.n
   turns_own (inr (inl x)) old = turns_take x old
   turns_own (inr (inr x)) old = turns_give x old
 
--- S2: answers come in turn
+-- answers come in turn at each end of a server
 pub in_turn : (s : SetUp) (p q : ℕ) (past : List Entry) → OwnRun s past → AllRead s.number past → Turns s.number (server_end p q) past
 in_turn s p q past run = own_induction s (λ past. AllRead s.number past → Turns s.number (server_end p q) past)
     (λ all. record { later = λ n l. (refl, refl); older = λ n. omega arith; now = λ o. absurd (cc) })

@@ -32,7 +32,7 @@ heard_as key (Some Seen) = Some (Seen_there key)
 heard_as key (Some Unseen) = None
 heard_as key (Some (Lacks cause)) = None
 
--- **H**: the list of a job agrees with its entries
+-- the list of a job agrees with its entries
 pub record Agrees (s : SetUp) (past : List Entry) (w : Work) : Type 0 where
   pub standing_is : (c : ℕ) → standing_of s (state_of s past) w c ≡ standing s.repos past s.number w.number c
   pub heard_is : (c : ℕ) → heard past s.number w.number c ≡ heard_as w.what.key (heard_of w c)

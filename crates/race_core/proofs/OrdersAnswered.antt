@@ -504,7 +504,7 @@ module _ (reads_back : SentAreRead) (s : SetUp) where
           let y = orderer s p (r.0 is).0 e x.number g (r.0 is).1 now in
           orders_now reads_back s p e h is x b g now y.order
 
-  -- **J5**: each order that a running job has sent awaits its answer, or has it, or is lost
+  -- **each order that a running job has sent awaits its answer, or has it, or is lost**
   pub orders_stand : (past : List Entry) → OwnPast s past → (w : Work) → Member w (works past s.number) → Ordered s past w
   orders_stand past h w n = invariant s At of_other of_own past h.run w n h
 

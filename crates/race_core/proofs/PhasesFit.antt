@@ -1,5 +1,4 @@
--- Over a repository's own part of a run within bounds: the words of its jobs are read as they are meant, and so what the phase of each
--- running job says of requests and answers is so (J4).
+-- Over a repository's own part of a run within bounds, requests and answers are as the phase of each running job says.
 use Rattle.std.proofs.Common.{◌≡◌, ℕ, ◌<◌, ◌^◌, true, List, [], ◌∷◌, Option, Some, None, ◌⊎◌, inl, inr, refl, ap, arith}
 use Rattle.std.proofs.lemmas.Bool.{ltb-true}
 use Rattle.annex_base.specs.Lists.{Member}
@@ -72,6 +71,6 @@ all_given reads_back s (e ∷ past) h =
     fluent words (inl x) before = λ w m. works_speak reads_back s past x.look before x.part_small w m
     fluent words (inr y) before = tt
 
--- **J4**
+-- **the words of the jobs are read as they are meant, and so requests and answers are as their phases say**
 pub phases_fit : SentAreRead → (s : SetUp) (past : List Entry) → OwnPast s past → AllFit s past
 phases_fit reads_back s past h = all_fit s past h.run (all_given reads_back s past h)

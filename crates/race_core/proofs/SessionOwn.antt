@@ -67,7 +67,7 @@ way_taken r f i = record { client = client_is r f.peer f.up i; server = client_i
 pub way_at : (r : ℕ) (a : EndName) (f : FrameView) → takes_at a f ≡ true → way_of r f ≡ way_in r a f.epoch
 way_at r a f t = way_taken r f ∙ ap (λ b. way_in r b f.epoch) (takes_end a f t)
 
--- ---- S1: release
+-- ---- a release ends a share that stands
 
 released : (s : SetUp) (past : List Entry) (k : Look) (m : Effect) (hold : ℕ) (key : List ℕ) → OwnRun s past → SessionMade s (state_of s past) k m (Release hold key) → MayRelease s.number past (entry_of s.number k m) hold key
 released s past k m hold key run x = go x.by.frame
@@ -106,7 +106,7 @@ may_release s past words e hold key run own is = elim (own.does) [
   | inr x ↦ absurd (subst (MayCome s (state_of s past) e.lines e.sent) is x.may)
 ]
 
--- ---- S2: answered
+-- ---- no more answers are sent than requests taken
 
 -- the field `answered`
 pub answered_in : (s : SetUp) (past : List Entry) → OwnRun s past → AllRead s.number past → (w : Way) → w.server ≡ s.number → length (answers past (down_of w)) ≤ taken_if is_request past (up_of w)
@@ -132,7 +132,7 @@ down_closes e g x m u =
     at : sends_at (server_end g.peer g.slot) g ≡ true
     at = rw (eqb_refl g.peer, eqb_refl g.slot, u) refl
 
--- ---- S2: SUCCESS in turn
+-- ---- SUCCESS comes in turn
 
 module _ (s : SetUp) (past : List Entry) (e : Entry) (p q : ℕ) (run : OwnRun s past) (read : AllRead s.number past) (x : TakesHere s past (server_end p q) e) (g : FrameView) (m : Member g e.sent) (yes' : message_in g.body ≡ Says Success) where
   abbrev r : ℕ

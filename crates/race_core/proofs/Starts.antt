@@ -62,7 +62,7 @@ start_kind t m rows r e place (Talk (Some j)) x y fits reads old new goes_on =
 start_kind t m rows r e place (Fault call by) x y fits reads old new goes_on = (refl, no_copies m.sent x.1)
 start_kind t m rows r e place kind x y fits reads old new goes_on = absurd x
 
--- J1': at its transfer, or at the first step of its drop, a running job has decided nothing and asked nobody for a copy
+-- at its transfer, or at the first step of its drop, a running job has decided nothing and asked nobody for a copy
 pub starts_unasked : (s : SetUp) (past : List Entry) → OwnRun s past → (w : Work) → Member w (works past s.number) → AtStart w.part w.phase → Unasked past s.number w.number
 starts_unasked s past run w m start =
     invariant s (λ p x. AtStart x.part x.phase → Unasked p s.number x.number) (λ p e is x n was at. unasked_other p s.number e x.number is (was at)) own past run w m start
