@@ -1,4 +1,4 @@
--- The elements of lists.
+-- Lists: when two are the same, facts, tests and membership of elements, filters, what is found first, places, cuts.
 use Rattle.std.proofs.Common.{◌≡◌, ◌⊎◌, inl, inr, ℕ, zero, suc, ◌<◌, ◌≤◌, Bool, true, false, cond, ◌&&◌, List, [], ◌∷◌, ◌++◌, length, get_or, take, drop, Some, None, refl, sym, ap, subst, ◌∙◌, arith, true≢false}
 use Rattle.std.specs.Prelude.{if◌then◌else◌, filter, map, reverse, slice_get, All, Contains, flat_map}
 use Rattle.std.specs.List.{find, list_all, list_any, prefix_len}
@@ -248,8 +248,6 @@ pub filter_none : {X : Type 0} (p : X → Bool) (xs : List X) → Each (λ x. p 
 filter_none p [] h = refl
 filter_none p (x ∷ xs) h = filter_no p x xs h.0 ∙ filter_none p xs h.1
 
--- ---- the first that passes
-
 pub filter_shorter : {X : Type 0} (p : X → Bool) (xs : List X) → length (filter p xs) ≤ length xs
 filter_shorter p [] = omega arith
 filter_shorter p (x ∷ xs) = go (filter_shorter p xs) (p x)
@@ -267,6 +265,8 @@ filter_both {X = X} p q s both (x ∷ xs) = go (filter_both p q s both xs) (s x)
     go more true true i j h = let k : p x ≡ true = rw (i, j) at h in rw (k, i) (rw j (ap (λ (zs : List X). x ∷ zs) more))
     go more true false i j h = let k : p x ≡ false = rw (i, j) at h in rw (k, i) (rw j more)
     go more false c i j h = let k : p x ≡ false = rw i at h in rw (k, i) more
+
+-- ---- the first that passes
 
 pub find_member : {X : Type 0} (p : X → Bool) (xs : List X) (x : X) → find p xs ≡ Some x → Member x xs × (p x ≡ true)
 find_member p [] x e = absurd cc

@@ -1,4 +1,4 @@
-//! The laws of running jobs: what they have heard, with whom they speak, what comes of the answers that they take, and what stays of them.
+//! The laws of running jobs, of the frames that repositories send and take, and of the answers whose words are kept.
 
 ghost use Rattle.std.specs.Prelude.{◌≡◌, ◌≢◌, ◌<◌, ◌≤◌, ◌^◌, ℕ, List, ◌∷◌, Some, true, length, reverse};
 ghost use Rattle.annex_base.specs.Lists.{Each};
