@@ -1,4 +1,4 @@
--- What the two maps of a tree say: its entries without where their paths lie in memory, and the paths of each key; for private contracts.
+-- What the two maps of a tree say: its entries by path, and the paths of each key; for private contracts.
 use Rattle.std.specs.Prelude.{◌≡◌, ℕ, Bool, true, false, cond, not, ◌&&◌, List, map, Option, Some, None, is_some}
 use Rattle.std.specs.BTreeMap.{is_at}
 use Rattle.std.specs.Ordering.{is_gt}
@@ -14,6 +14,7 @@ use Rattle.std.specs.declared.alloc.Global.{Global}
 use Rattle.annex_base.specs.ByteOrder.{text_cmp}
 use Rattle.annex_key.specs.Tree.{Entries, key_of}
 
+-- the entries without where their paths lie in memory
 abbrev pub view_of : List (Vec ℕ Global × List ℕ) → List (List ℕ × List ℕ)
 view_of entries = map (λ e. (e.0.items, e.1)) entries
 

@@ -1,4 +1,4 @@
--- Where the location log of a key stands in a branch (git-annex internals: location tracking, hash directories, chunking).
+-- Where a key's location log stands in a branch (git-annex internals: location tracking, hash directories, chunking).
 use Rattle.std.specs.Prelude.{ℕ, List, ◌∷◌, ◌++◌, take, drop, codes}
 use Rattle.annex_base.specs.Lines.{slash}
 use Rattle.hex.specs.Hex.{encode_lower}

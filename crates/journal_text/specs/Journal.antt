@@ -1,4 +1,4 @@
--- The journal of a run (own): its repositories, the changes of its tree, and its entries, each with its frames and lines. A line ends with a newline.
+-- The journal of a run (own): its repositories, the changes of its tree, and its entries with their frames and lines.
 use Rattle.std.specs.Prelude.{ℕ, Bool, true, false, List, [], ◌∷◌, ◌++◌, length, codes, Option, Some, None}
 use Rattle.std.specs.List.{flat_map}
 use Rattle.std.specs.Fmt.{decimal}
@@ -27,6 +27,8 @@ use Rattle.run_text.specs.Words.{number_or_dash}
 use Rattle.run_text.specs.Names.{name_of, name_or_dash}
 use Rattle.run_text.specs.Jobs.{job_text}
 use Rattle.run_text.specs.Outcomes.{outcome_text}
+
+-- A line ends with a newline.
 
 -- ---- fields
 

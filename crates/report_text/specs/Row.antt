@@ -1,4 +1,4 @@
--- The row of a key as a report prints it: whether the content is there, the job whose bar stands, and the holds that block (own).
+-- The row of a key as a report prints it (own): whether the content is there, whose bar stands, and which holds block.
 use Rattle.std.specs.Prelude.{ℕ, Bool, true, false, if◌then◌else◌, List, ◌++◌, filter, map, reverse, codes}
 use Rattle.std.specs.Fmt.{decimal}
 use Rattle.run_data.specs.declared.row.Hold.{Hold}

@@ -1,4 +1,4 @@
--- What the checker reads of the lines of two files, of trust.log and of a key's location log; for private contracts (own).
+-- What the checker reads of the lines of trust.log and of a key's location log; for private contracts (own).
 use Rattle.std.specs.Prelude.{ℕ, Bool, false, List, Option, Some, None}
 use Rattle.annex_base.specs.declared.kinds.Level.{Level}
 use Rattle.log_lines.specs.declared.entry.LogKind.TheVariants as kinds

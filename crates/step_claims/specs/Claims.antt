@@ -1,4 +1,4 @@
--- For proofs, which are the claims: how a claim on an entry is written, entries and frames in one line each, and what is claimed of them (own).
+-- For proofs, which are the claims: entries and frames in one line each, and what is claimed of them (own).
 use Rattle.std.specs.Prelude.{◌≡◌, ℕ, Bool, true, false, ◌==◌, ◌&&◌, if◌then◌else◌, not, List, [], ◌∷◌, Option, Some, None}
 use Rattle.std.specs.List.{list_any}
 use Rattle.annex_base.specs.declared.kinds.Call.{Call}

@@ -1,4 +1,4 @@
--- Settings that are kept while lines are added: of each file of a branch, by its path, an index of its newest entries (own).
+-- Settings that are kept while lines are added: an index of the newest entries of each file of a branch (own).
 use Rattle.std.specs.Prelude.{◌≡◌, ℕ, if◌then◌else◌, List, [], ◌∷◌, ◌++◌, map, bytes_eq, Option, Some, None}
 use Rattle.std.specs.declared.vec.Vec.{Vec}
 use Rattle.std.specs.declared.alloc.Global.{Global}
@@ -14,7 +14,7 @@ use Rattle.log_lines.specs.Index.{Index, index_of}
 use Rattle.log_lines.specs.Newest.{newest}
 use Rattle.trust_groups.specs.Settings.{Lines}
 
--- in order of path
+-- of each file, by its path, its index; in order of path
 abbrev pub Indices : Type 0
 Indices = List (List ℕ × Index)
 

@@ -1,4 +1,4 @@
--- The grammar of expressions (own): `expression = term { ["and" | "or"] term }`, `term = "not" term | "(" expression ")" | word`.
+-- The grammar of expressions (own).
 use Rattle.std.specs.Prelude.{◌≡◌, ℕ, suc, max, ◌≤◌, Bool, true, false, ◌&&◌, IsTrue, List, [], ◌∷◌, ◌++◌, Option, Some, None}
 use Rattle.wanted_expr.specs.declared.data.Word.{Word}
 use Rattle.wanted_expr.specs.declared.lexeme.Operator.{Operator}
@@ -6,7 +6,8 @@ use Rattle.wanted_expr.specs.declared.lexeme.Lexeme.{Lexeme}
 use Rattle.wanted_expr.specs.declared.lexeme.Lexeme.TheVariants.{Open, Close, Not, Infix, Term}
 use Rattle.wanted_expr.specs.Formula.{Formula, Atom, Negation, combination}
 
--- how an expression is written
+-- how an expression is written: `expression = term { ["and" | "or"] term }`,
+-- `term = "not" term | "(" expression ")" | word`
 pub data Syntax : Type 0 where
   Plain : (word : Word) → Syntax
   Negated : (part : Syntax) → Syntax
