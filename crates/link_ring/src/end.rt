@@ -91,6 +91,7 @@ fn keep_new(frames: &mut Vec<Frame>, epoch: u32, phase: Phase)
     ensures rest { frames.new.items ≡ filter (λ f. not (is_old epoch phase f)) frames.old.items }
     ensures room { vec_capacity frames.new ≡ vec_capacity frames.old }
 {
+    // Each turn comes here with every end, and most have no frame at hand: these cost one test.
     if !frames.is_empty() {
         frames.retain(|frame: &Frame| !is_old(epoch, phase, frame));
     }
@@ -262,6 +263,7 @@ fn arrive(on_way: &mut Vec<Frame>, at_hand: &mut Vec<Frame>)
     ensures on_way { on_way.new.items ≡ [] }
     ensures room { (vec_capacity at_hand.old ≤ vec_capacity at_hand.new) × (vec_capacity on_way.new ≡ vec_capacity on_way.old) }
 {
+    // Every end is carried, and most have no frame on the way: these cost one test.
     if on_way.is_empty() {
         return;
     }
