@@ -1,4 +1,4 @@
--- The run of a script whose repositories make at most 100,000 entries each (own): it ends where a line meets that.
+-- The run of a script, with at most 100,000 entries a repository (own): it ends where a line meets a full history.
 use Rattle.std.specs.Prelude.{◌≡◌, ℕ, ◌<◌, ◌≤◌, Bool, true, false, ◌||◌, if◌then◌else◌, nat_le, nat_lt, List, [], ◌∷◌, ◌++◌, filter, length, reverse, Option, Some, None}
 use Rattle.std.specs.List.{list_any}
 use Rattle.annex_base.specs.Lists.{Each}
