@@ -142,8 +142,8 @@ module _ (reads_back : SentAreRead) (s : SetUp) where
       knew_by x part side apart (inl at) = x.2 part side apart at
       knew_by x part side apart (inr knew) = knew
 
-  -- the drop of a running job has begun by the entries too; what it read is fixed from its first step; and a remote drop
-  -- that stands at its target knows enough
+  -- the drop of a running job has begun by the entries too; what it read is fixed from its first step; and a remote
+  -- drop that stands at its target knows enough
   pub at_targets : (past : List Entry) → OwnPast s past → (w : Work) → Member w (works past s.number) → AtTarget s past w
   at_targets past h w m = invariant s (λ p x. OwnPast s p → AtTarget s p x) (λ p e is x n was h. kept_at s p e x (clock_other s.repos p s.number e is) (was (earlier s p e h)))
       (λ p e r is was x o h. own p e h is (λ y n. was y n (earlier s p e h)) x o) past h.run w m h

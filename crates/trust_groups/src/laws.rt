@@ -32,9 +32,9 @@ pub fn equal_lines_read_alike()
     compaction_keeps_the_reading();
 }
 
-/// A branch keeps the lines that are in it, also those that are added to one of its files, still after some of its files
-/// are compacted, and after a merge it keeps the lines that either branch kept. So whichever branches are merged, in
-/// whatever order and however often, and whatever is compacted in between, what is read in the end is what all lines
+/// A branch keeps the lines that are in it, also those that are added to one of its files, still after some of its
+/// files are compacted, and after a merge it keeps the lines that either branch kept. So whichever branches are merged,
+/// in whatever order and however often, and whatever is compacted in between, what is read in the end is what all lines
 /// together say (git-annex internals: branch files; compaction is own).
 pub fn merges_read_alike()
     ensures own { (x : Lines) → KeepsFiles x x }
