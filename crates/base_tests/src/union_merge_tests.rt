@@ -1,4 +1,7 @@
 //! Sets of lines, and branches of files.
+ghost use Rattle.std.specs.Prelude.{◌≡◌, is_some};
+ghost use Rattle.union_merge.specs.Branch.{file_at};
+
 use branch_bundle::{bundle, read_bundle};
 use std::test::Fail;
 use union_merge::{Branch, LineSet, is_line};
@@ -60,6 +63,25 @@ fn differences_of_texts(rt: HostRuntime) -> Result<(), Fail> {
         let set = LineSet::from_bytes(rt.alloc(), ours)?;
         let other = LineSet::from_bytes(rt.alloc(), theirs)?;
         let out = set.difference(&other)?.to_bytes()?;
+        assert_eq!(rt; out.as_slice(), want, "at {ours:?} and {theirs:?}");
+    }
+    Ok(())
+}
+
+#[test]
+fn lines_are_taken_off_a_set(rt: HostRuntime) -> Result<(), Fail> {
+    let rows: [(&[u8], &[u8], &[u8]); 5] = [
+        (b"a\n", b"", b"a\n"),
+        (b"a\nb\nc\n", b"b\n", b"a\nc\n"),
+        (b"a\nb\nc\n", b"c\nd\n", b"a\nb\n"),
+        (b"a\nab\n", b"ab\na\n", b""),
+        (b"", b"a\n", b""),
+    ];
+    for (ours, theirs, want) in rows {
+        let mut set = LineSet::from_bytes(rt.alloc(), ours)?;
+        let other = LineSet::from_bytes(rt.alloc(), theirs)?;
+        set.take_off(&other);
+        let out = set.to_bytes()?;
         assert_eq!(rt; out.as_slice(), want, "at {ours:?} and {theirs:?}");
     }
     Ok(())
@@ -232,5 +254,59 @@ fn files_of_a_branch(rt: HostRuntime) -> Result<(), Fail> {
         count = count.saturating_add(1);
     }
     assert_eq!(rt; count, 2);
+    Ok(())
+}
+
+fn has_file(branch: &Branch, path: &[u8]) -> bool
+    ensures { result ≡ is_some (file_at branch.now path.now) }
+{
+    branch.file(path).is_some()
+}
+
+/// Each row is a branch, the lines that its file q gets, and the branch with them and when they are taken off. A file
+/// without lines stays a file of the branch.
+#[test]
+fn lines_that_a_file_got_are_taken_off_again(rt: HostRuntime) -> Result<(), Fail> {
+    let rows: [(&[u8], &[u8], &[u8], &[u8]); 4] = [
+        (
+            b"annex-bundle 1\nfile 2 p\n2\nfile 4 q\n1\n3\n",
+            b"2\n4\n",
+            b"annex-bundle 1\nfile 2 p\n2\nfile 8 q\n1\n2\n3\n4\n",
+            b"annex-bundle 1\nfile 2 p\n2\nfile 4 q\n1\n3\n",
+        ),
+        (
+            b"annex-bundle 1\nfile 4 q\n1\n2\n",
+            b"2\n3\n",
+            b"annex-bundle 1\nfile 6 q\n1\n2\n3\n",
+            b"annex-bundle 1\nfile 2 q\n1\n",
+        ),
+        (
+            b"annex-bundle 1\nfile 0 q\n",
+            b"1\n",
+            b"annex-bundle 1\nfile 2 q\n1\n",
+            b"annex-bundle 1\nfile 0 q\n",
+        ),
+        (
+            b"annex-bundle 1\n",
+            b"1\n",
+            b"annex-bundle 1\nfile 2 q\n1\n",
+            b"annex-bundle 1\nfile 0 q\n",
+        ),
+    ];
+    let path: &[u8] = b"q";
+    for (before, text, with, without) in rows {
+        let mut branch = read_bundle(rt.alloc(), before)?;
+        let lines = LineSet::from_bytes(rt.alloc(), text)?;
+        if is_line(path) {
+            branch.merge_file(path, &lines)?;
+            let out = bundle(rt.alloc(), &branch)?;
+            assert_eq!(rt; out.as_slice(), with, "at {before:?}");
+            if has_file(&branch, path) {
+                branch.take_lines_off(path, &lines);
+            }
+        }
+        let out = bundle(rt.alloc(), &branch)?;
+        assert_eq!(rt; out.as_slice(), without, "at {before:?}");
+    }
     Ok(())
 }
