@@ -143,72 +143,75 @@ fn levels_of_trust(rt: HostRuntime) -> Result<(), Fail> {
     Ok(())
 }
 
+/// Lines of logs of descriptions or content expressions, each with the stamp and the text that are read of it.
+const TEXTS: [(&str, Option<(Option<&str>, &str)>); 21] = [
+    // As git-annex reads them.
+    (
+        "22222222-2222-4222-8222-222222222222  timestamp=1700000000s",
+        Some((Some("1700000000s"), "")),
+    ),
+    ("22222222-2222-4222-8222-222222222222", Some((None, ""))),
+    (
+        "22222222-2222-4222-8222-222222222222   timestamp=1700000000s",
+        Some((Some("1700000000s"), " ")),
+    ),
+    (
+        "22222222-2222-4222-8222-222222222222 timestamp=1700000000s",
+        Some((Some("1700000000s"), "")),
+    ),
+    (
+        "22222222-2222-4222-8222-222222222222 present   timestamp=1700000000s",
+        Some((Some("1700000000s"), "present  ")),
+    ),
+    (
+        "22222222-2222-4222-8222-222222222222 a\tb timestamp=1700000000s",
+        Some((Some("1700000000s"), "a\tb")),
+    ),
+    (
+        "22222222-2222-4222-8222-222222222222 present timestamp=x",
+        None,
+    ),
+    // The rules of the grammar.
+    ("22222222-2222-4222-8222-222222222222 ", Some((None, ""))),
+    (
+        "22222222-2222-4222-8222-222222222222 my disk",
+        Some((None, "my disk")),
+    ),
+    (
+        "22222222-2222-4222-8222-222222222222 my disk ",
+        Some((None, "my disk ")),
+    ),
+    (
+        "22222222-2222-4222-8222-222222222222 \u{e9} timestamp=1s",
+        Some((Some("1s"), "\u{e9}")),
+    ),
+    (
+        "22222222-2222-4222-8222-222222222222 timestamp=x timestamp=1s",
+        Some((Some("1s"), "timestamp=x")),
+    ),
+    (
+        "22222222-2222-4222-8222-222222222222 timestamp=1s x",
+        Some((None, "timestamp=1s x")),
+    ),
+    (
+        "22222222-2222-4222-8222-222222222222 timestamp=1s ",
+        Some((None, "timestamp=1s ")),
+    ),
+    ("22222222-2222-4222-8222-222222222222 timestamp=", None),
+    (
+        "22222222-2222-4222-8222-222222222222 a timestamp=12345678901s",
+        None,
+    ),
+    ("22222222-2222-4222-8222-222222222222-", None),
+    ("22222222-2222-4222-8222-2222222222222 a", None),
+    ("22222222-2222-4222-8222-222222222222\na", None),
+    ("22222222-2222-4222-8222-22222222222A a", None),
+    ("", None),
+];
+
 #[test]
 fn descriptions_and_content_expressions(rt: HostRuntime) -> Result<(), Fail> {
-    for (line, want) in [
-        // As git-annex reads them.
-        (
-            "22222222-2222-4222-8222-222222222222  timestamp=1700000000s",
-            Some((Some("1700000000s"), "")),
-        ),
-        ("22222222-2222-4222-8222-222222222222", Some((None, ""))),
-        (
-            "22222222-2222-4222-8222-222222222222   timestamp=1700000000s",
-            Some((Some("1700000000s"), " ")),
-        ),
-        (
-            "22222222-2222-4222-8222-222222222222 timestamp=1700000000s",
-            Some((Some("1700000000s"), "")),
-        ),
-        (
-            "22222222-2222-4222-8222-222222222222 present   timestamp=1700000000s",
-            Some((Some("1700000000s"), "present  ")),
-        ),
-        (
-            "22222222-2222-4222-8222-222222222222 a\tb timestamp=1700000000s",
-            Some((Some("1700000000s"), "a\tb")),
-        ),
-        (
-            "22222222-2222-4222-8222-222222222222 present timestamp=x",
-            None,
-        ),
-        // The rules of the grammar.
-        ("22222222-2222-4222-8222-222222222222 ", Some((None, ""))),
-        (
-            "22222222-2222-4222-8222-222222222222 my disk",
-            Some((None, "my disk")),
-        ),
-        (
-            "22222222-2222-4222-8222-222222222222 my disk ",
-            Some((None, "my disk ")),
-        ),
-        (
-            "22222222-2222-4222-8222-222222222222 \u{e9} timestamp=1s",
-            Some((Some("1s"), "\u{e9}")),
-        ),
-        (
-            "22222222-2222-4222-8222-222222222222 timestamp=x timestamp=1s",
-            Some((Some("1s"), "timestamp=x")),
-        ),
-        (
-            "22222222-2222-4222-8222-222222222222 timestamp=1s x",
-            Some((None, "timestamp=1s x")),
-        ),
-        (
-            "22222222-2222-4222-8222-222222222222 timestamp=1s ",
-            Some((None, "timestamp=1s ")),
-        ),
-        ("22222222-2222-4222-8222-222222222222 timestamp=", None),
-        (
-            "22222222-2222-4222-8222-222222222222 a timestamp=12345678901s",
-            None,
-        ),
-        ("22222222-2222-4222-8222-222222222222-", None),
-        ("22222222-2222-4222-8222-2222222222222 a", None),
-        ("22222222-2222-4222-8222-222222222222\na", None),
-        ("22222222-2222-4222-8222-22222222222A a", None),
-        ("", None),
-    ] {
+    for (line, want) in TEXTS {
         for kind in [LogKind::Uuid, LogKind::Preferred, LogKind::Required] {
             let want = match want {
                 None => None,
@@ -377,79 +380,82 @@ fn lines_are_texts_of_limited_length(rt: HostRuntime) -> Result<(), Fail> {
     Ok(())
 }
 
+/// Lines of logs, each with the line that is written of its entry.
+const WRITTEN: [(LogKind, &str, &str); 17] = [
+    (
+        LogKind::Location,
+        "1.50 X 22222222-2222-4222-8222-222222222222",
+        "1.5s X 22222222-2222-4222-8222-222222222222",
+    ),
+    (
+        LogKind::Location,
+        "1 1 22222222-2222-4222-8222-222222222222",
+        "1s 1 22222222-2222-4222-8222-222222222222",
+    ),
+    (
+        LogKind::Location,
+        "1 0 22222222-2222-4222-8222-222222222222",
+        "1s 0 22222222-2222-4222-8222-222222222222",
+    ),
+    (
+        LogKind::Trust,
+        "22222222-2222-4222-8222-222222222222 ? timestamp=01",
+        "22222222-2222-4222-8222-222222222222 ? timestamp=1s",
+    ),
+    (
+        LogKind::Trust,
+        "22222222-2222-4222-8222-222222222222 X",
+        "22222222-2222-4222-8222-222222222222 X",
+    ),
+    (
+        LogKind::Uuid,
+        "22222222-2222-4222-8222-222222222222 my disk timestamp=1",
+        "22222222-2222-4222-8222-222222222222 my disk timestamp=1s",
+    ),
+    (
+        LogKind::Uuid,
+        "22222222-2222-4222-8222-222222222222",
+        "22222222-2222-4222-8222-222222222222 ",
+    ),
+    (
+        LogKind::Preferred,
+        "22222222-2222-4222-8222-222222222222 timestamp=1s",
+        "22222222-2222-4222-8222-222222222222  timestamp=1s",
+    ),
+    (
+        LogKind::Required,
+        "22222222-2222-4222-8222-222222222222  a",
+        "22222222-2222-4222-8222-222222222222  a",
+    ),
+    (
+        LogKind::Group,
+        "22222222-2222-4222-8222-222222222222 b a timestamp=1s",
+        "22222222-2222-4222-8222-222222222222 b a timestamp=1s",
+    ),
+    (
+        LogKind::Group,
+        "22222222-2222-4222-8222-222222222222 timestamp=1s",
+        "22222222-2222-4222-8222-222222222222 timestamp=1s",
+    ),
+    (
+        LogKind::Group,
+        "22222222-2222-4222-8222-222222222222  timestamp=1s",
+        "22222222-2222-4222-8222-222222222222 timestamp=1s",
+    ),
+    (
+        LogKind::Group,
+        "22222222-2222-4222-8222-222222222222",
+        "22222222-2222-4222-8222-222222222222",
+    ),
+    (LogKind::GroupPreferred, "1 archive", "1s archive "),
+    (LogKind::GroupPreferred, "1 archive a b", "1s archive a b"),
+    (LogKind::Numcopies, "1 07", "1s 7"),
+    (LogKind::Mincopies, "1 000", "1s 0"),
+];
+
 #[test]
 fn lines_are_written(rt: HostRuntime) -> Result<(), Fail> {
-    for (kind, line, want) in [
-        (
-            LogKind::Location,
-            "1.50 X 22222222-2222-4222-8222-222222222222",
-            "1.5s X 22222222-2222-4222-8222-222222222222",
-        ),
-        (
-            LogKind::Location,
-            "1 1 22222222-2222-4222-8222-222222222222",
-            "1s 1 22222222-2222-4222-8222-222222222222",
-        ),
-        (
-            LogKind::Location,
-            "1 0 22222222-2222-4222-8222-222222222222",
-            "1s 0 22222222-2222-4222-8222-222222222222",
-        ),
-        (
-            LogKind::Trust,
-            "22222222-2222-4222-8222-222222222222 ? timestamp=01",
-            "22222222-2222-4222-8222-222222222222 ? timestamp=1s",
-        ),
-        (
-            LogKind::Trust,
-            "22222222-2222-4222-8222-222222222222 X",
-            "22222222-2222-4222-8222-222222222222 X",
-        ),
-        (
-            LogKind::Uuid,
-            "22222222-2222-4222-8222-222222222222 my disk timestamp=1",
-            "22222222-2222-4222-8222-222222222222 my disk timestamp=1s",
-        ),
-        (
-            LogKind::Uuid,
-            "22222222-2222-4222-8222-222222222222",
-            "22222222-2222-4222-8222-222222222222 ",
-        ),
-        (
-            LogKind::Preferred,
-            "22222222-2222-4222-8222-222222222222 timestamp=1s",
-            "22222222-2222-4222-8222-222222222222  timestamp=1s",
-        ),
-        (
-            LogKind::Required,
-            "22222222-2222-4222-8222-222222222222  a",
-            "22222222-2222-4222-8222-222222222222  a",
-        ),
-        (
-            LogKind::Group,
-            "22222222-2222-4222-8222-222222222222 b a timestamp=1s",
-            "22222222-2222-4222-8222-222222222222 b a timestamp=1s",
-        ),
-        (
-            LogKind::Group,
-            "22222222-2222-4222-8222-222222222222 timestamp=1s",
-            "22222222-2222-4222-8222-222222222222 timestamp=1s",
-        ),
-        (
-            LogKind::Group,
-            "22222222-2222-4222-8222-222222222222  timestamp=1s",
-            "22222222-2222-4222-8222-222222222222 timestamp=1s",
-        ),
-        (
-            LogKind::Group,
-            "22222222-2222-4222-8222-222222222222",
-            "22222222-2222-4222-8222-222222222222",
-        ),
-        (LogKind::GroupPreferred, "1 archive", "1s archive "),
-        (LogKind::GroupPreferred, "1 archive a b", "1s archive a b"),
-        (LogKind::Numcopies, "1 07", "1s 7"),
-        (LogKind::Mincopies, "1 000", "1s 0"),
-    ] {
+    for (kind, line, want) in WRITTEN {
         let Some(entry) = read_line(rt.alloc(), kind, line.as_bytes())? else {
             assert!(rt; false, "at {line}");
             continue;

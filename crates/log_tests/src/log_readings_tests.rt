@@ -105,68 +105,71 @@ fn each_order_reads_alike(rt: HostRuntime) -> Result<(), Fail> {
     Ok(())
 }
 
+/// The lines of a log, and those of its newest entries.
+const NEWEST_ENTRIES: [(LogKind, &str, &str); 13] = [
+    // At one stamp X is preferred to 0, and 0 to 1.
+    (
+        LogKind::Location,
+        "1s 1 22222222-2222-4222-8222-222222222222\n1s 0 22222222-2222-4222-8222-222222222222",
+        "1s 0 22222222-2222-4222-8222-222222222222\n",
+    ),
+    (
+        LogKind::Location,
+        "1s 0 22222222-2222-4222-8222-222222222222\n1s X 22222222-2222-4222-8222-222222222222",
+        "1s X 22222222-2222-4222-8222-222222222222\n",
+    ),
+    (
+        LogKind::Location,
+        "1s X 22222222-2222-4222-8222-222222222222\n2s 1 22222222-2222-4222-8222-222222222222",
+        "2s 1 22222222-2222-4222-8222-222222222222\n",
+    ),
+    // The lesser trust.
+    (
+        LogKind::Trust,
+        "22222222-2222-4222-8222-222222222222 1 timestamp=1s\n22222222-2222-4222-8222-222222222222 ? timestamp=1s",
+        "22222222-2222-4222-8222-222222222222 ? timestamp=1s\n",
+    ),
+    (
+        LogKind::Trust,
+        "22222222-2222-4222-8222-222222222222 ? timestamp=1s\n22222222-2222-4222-8222-222222222222 0 timestamp=1s",
+        "22222222-2222-4222-8222-222222222222 0 timestamp=1s\n",
+    ),
+    (
+        LogKind::Trust,
+        "22222222-2222-4222-8222-222222222222 0 timestamp=1s\n22222222-2222-4222-8222-222222222222 X timestamp=1s",
+        "22222222-2222-4222-8222-222222222222 X timestamp=1s\n",
+    ),
+    // Without a stamp a line is older than all others.
+    (
+        LogKind::Trust,
+        "22222222-2222-4222-8222-222222222222 X\n22222222-2222-4222-8222-222222222222 1 timestamp=0s",
+        "22222222-2222-4222-8222-222222222222 1 timestamp=0s\n",
+    ),
+    // The greater number, text and list of groups.
+    (LogKind::Numcopies, "1s 3\n1s 2", "1s 3\n"),
+    (LogKind::Mincopies, "1s 10\n1s 9", "1s 10\n"),
+    (
+        LogKind::Uuid,
+        "22222222-2222-4222-8222-222222222222 ab timestamp=1s\n22222222-2222-4222-8222-222222222222 b timestamp=1s",
+        "22222222-2222-4222-8222-222222222222 b timestamp=1s\n",
+    ),
+    (
+        LogKind::Group,
+        "22222222-2222-4222-8222-222222222222 a timestamp=1s\n22222222-2222-4222-8222-222222222222 a b timestamp=1s",
+        "22222222-2222-4222-8222-222222222222 a b timestamp=1s\n",
+    ),
+    // Each topic has its own, in order.
+    (
+        LogKind::GroupPreferred,
+        "2s backup x\n1s archive y\n3s archive z",
+        "3s archive z\n2s backup x\n",
+    ),
+    (LogKind::Location, "hello", ""),
+];
+
 #[test]
 fn newest_entries(rt: HostRuntime) -> Result<(), Fail> {
-    for (kind, lines, want) in [
-        // At one stamp X is preferred to 0, and 0 to 1.
-        (
-            LogKind::Location,
-            "1s 1 22222222-2222-4222-8222-222222222222\n1s 0 22222222-2222-4222-8222-222222222222",
-            "1s 0 22222222-2222-4222-8222-222222222222\n",
-        ),
-        (
-            LogKind::Location,
-            "1s 0 22222222-2222-4222-8222-222222222222\n1s X 22222222-2222-4222-8222-222222222222",
-            "1s X 22222222-2222-4222-8222-222222222222\n",
-        ),
-        (
-            LogKind::Location,
-            "1s X 22222222-2222-4222-8222-222222222222\n2s 1 22222222-2222-4222-8222-222222222222",
-            "2s 1 22222222-2222-4222-8222-222222222222\n",
-        ),
-        // The lesser trust.
-        (
-            LogKind::Trust,
-            "22222222-2222-4222-8222-222222222222 1 timestamp=1s\n22222222-2222-4222-8222-222222222222 ? timestamp=1s",
-            "22222222-2222-4222-8222-222222222222 ? timestamp=1s\n",
-        ),
-        (
-            LogKind::Trust,
-            "22222222-2222-4222-8222-222222222222 ? timestamp=1s\n22222222-2222-4222-8222-222222222222 0 timestamp=1s",
-            "22222222-2222-4222-8222-222222222222 0 timestamp=1s\n",
-        ),
-        (
-            LogKind::Trust,
-            "22222222-2222-4222-8222-222222222222 0 timestamp=1s\n22222222-2222-4222-8222-222222222222 X timestamp=1s",
-            "22222222-2222-4222-8222-222222222222 X timestamp=1s\n",
-        ),
-        // Without a stamp a line is older than all others.
-        (
-            LogKind::Trust,
-            "22222222-2222-4222-8222-222222222222 X\n22222222-2222-4222-8222-222222222222 1 timestamp=0s",
-            "22222222-2222-4222-8222-222222222222 1 timestamp=0s\n",
-        ),
-        // The greater number, text and list of groups.
-        (LogKind::Numcopies, "1s 3\n1s 2", "1s 3\n"),
-        (LogKind::Mincopies, "1s 10\n1s 9", "1s 10\n"),
-        (
-            LogKind::Uuid,
-            "22222222-2222-4222-8222-222222222222 ab timestamp=1s\n22222222-2222-4222-8222-222222222222 b timestamp=1s",
-            "22222222-2222-4222-8222-222222222222 b timestamp=1s\n",
-        ),
-        (
-            LogKind::Group,
-            "22222222-2222-4222-8222-222222222222 a timestamp=1s\n22222222-2222-4222-8222-222222222222 a b timestamp=1s",
-            "22222222-2222-4222-8222-222222222222 a b timestamp=1s\n",
-        ),
-        // Each topic has its own, in order.
-        (
-            LogKind::GroupPreferred,
-            "2s backup x\n1s archive y\n3s archive z",
-            "3s archive z\n2s backup x\n",
-        ),
-        (LogKind::Location, "hello", ""),
-    ] {
+    for (kind, lines, want) in NEWEST_ENTRIES {
         let lines = lines_of(rt.alloc(), lines)?;
         let entries = newest(rt.alloc(), kind, &lines)?;
         let text = written(rt.alloc(), kind, &entries)?;
