@@ -4,4 +4,12 @@
 #[cfg(test)]
 mod driver_script_tests;
 #[cfg(test)]
-mod report_text_tests;
+mod report_branch_tests;
+#[cfg(test)]
+mod report_job_tests;
+#[cfg(test)]
+mod report_refusal_tests;
+#[cfg(test)]
+mod report_runs;
+#[cfg(test)]
+mod report_show_tests;
