@@ -215,7 +215,7 @@ fn level_one(alloc: Global, log: &str) -> Result<Level, Fail> {
 }
 
 // A trust log, and the level of the repository.
-const LEVELS: [(&str, Level); 15] = [
+const TRUST_LEVELS: [(&str, Level); 15] = [
     // As git-annex reads them.
     (
         "22222222-2222-4222-8222-222222222222 0 timestamp=1700000000s",
@@ -276,7 +276,7 @@ const LEVELS: [(&str, Level); 15] = [
 
 #[test]
 fn levels_of_a_repository(rt: HostRuntime) -> Result<(), Fail> {
-    for (log, want) in LEVELS {
+    for (log, want) in TRUST_LEVELS {
         assert_eq!(rt; level_in(rt.alloc(), log)?, want, "at {log}");
         assert_eq!(rt; level_alone(rt.alloc(), log)?, want, "at {log}");
         assert_eq!(rt; level_one(rt.alloc(), log)?, want, "at {log}");
