@@ -310,3 +310,31 @@ fn lines_that_a_file_got_are_taken_off_again(rt: HostRuntime) -> Result<(), Fail
     }
     Ok(())
 }
+
+/// A file gets what it had before, also where that is no line, and a new one goes.
+#[test]
+fn files_are_put_back(rt: HostRuntime) -> Result<(), Fail> {
+    let rows: [&[u8]; 3] = [
+        b"annex-bundle 1\nfile 4 q\n1\n2\n",
+        b"annex-bundle 1\nfile 0 q\n",
+        b"annex-bundle 1\nfile 2 p\n1\n",
+    ];
+    let path: &[u8] = b"q";
+    for before in rows {
+        let mut branch = read_bundle(rt.alloc(), before)?;
+        let lines = LineSet::from_bytes(rt.alloc(), b"3\n")?;
+        if is_line(path) {
+            let was = match branch.file(path) {
+                Some(lines) => Some(lines.clone()?),
+                None => None,
+            };
+            branch.merge_file(path, &lines)?;
+            if has_file(&branch, path) {
+                branch.put_back(path, was);
+            }
+        }
+        let out = bundle(rt.alloc(), &branch)?;
+        assert_eq!(rt; out.as_slice(), before, "at {before:?}");
+    }
+    Ok(())
+}
