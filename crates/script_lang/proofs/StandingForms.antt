@@ -181,7 +181,7 @@ module _ (law : KeysAreTexts) (matches : (key content : List ℕ) → is_content
   placed_then : {A : Type 0} (P : A → Type 0) (r : ℕ) (next : NamedKey → Form A) → ((k : NamedKey) → IsPlacedKey law context keys r k → Says P context (next k)) → Says P context (Forms.placed_key r next)
   placed_then P r next others = record { given = behind (IsPlacedKey law context keys r) P context (Steps.placed_key_at context r) next (placed_key_gives law context keys r) others }
 
-  matching_then : {A : Type 0} (P : A → Type 0) (key : List ℕ) (next : List ℕ → Form A) → ((c : List ℕ) → MayBeContent key c → Says P context (next c)) → Says P context (Forms.matching key next)
+  matching_then : {A : Type 0} (P : A → Type 0) (key : List ℕ) (next : List ℕ → Form A) → ((c : List ℕ) → MayBeContent key c → Says P context (next c)) → Says P context (Forms.matching_content key next)
   matching_then P key next others = record { given = behind (MayBeContent key) P context (Steps.matching_at key) next (matching_gives key) others }
 
   text_says : {A : Type 0} (P : A → Type 0) (said : List ℕ → A) → ((x : List ℕ) → IsLineText x → P (said x)) → Says P context (Forms.text said)
