@@ -2,6 +2,7 @@
 use Rattle.std.proofs.Common.{◌≡◌, ℕ, ◌^◌, ◌<◌, ◌≤◌, Bool, true, false, List, [], ◌∷◌, ◌++◌, Option, Some, None, ◌⊎◌, inl, inr, refl, sym, ap, ◌∙◌, subst, arith}
 use Rattle.std.specs.Prelude.{cond, if◌then◌else◌, not, filter, find, flat_map, length, max}
 use Rattle.std.specs.Option.{option_to_list}
+use Rattle.std.proofs.Math.Nat.{le-max_left, le-max_right}
 use Rattle.annex_base.specs.Lists.{Each, Member}
 use Rattle.annex_base.specs.declared.kinds.Call.{Call}
 use Rattle.annex_base.specs.declared.kinds.Word.{Word}
@@ -39,12 +40,6 @@ each_larger : (m n : ℕ) (xs : List StoredBytes) → m ≤ n → Each (Small m)
 each_larger m n [] i a = tt
 each_larger m n (x ∷ xs) i a = let j = a.0 in (omega (arith, i, j), each_larger m n xs i a.1)
 
-max_first : (a b : ℕ) → a ≤ max a b
-max_first a b = omega arith
-
-max_second : (a b : ℕ) → b ≤ max a b
-max_second a b = omega arith
-
 module _ (g : DriverInput) (d : Driver) where
   pub keeps_commits : (r : ℕ) (key : List ℕ) → Keeps g d → Keeps g (commits r key d)
   keeps_commits r key k fits = let h = k fits in record { run = h.run; flies = h.flies; order = h.order; down = h.down; apart = h.apart; parts = Each-filter (Small d.largest) (λ x. not (is_stored r key x)) d.parts h.parts }
@@ -60,7 +55,7 @@ module _ (g : DriverInput) (d : Driver) where
 
   pub keeps_puts : (r : ℕ) (key bytes : List ℕ) → Keeps g d → Keeps g (puts_part r key bytes d)
   keeps_puts r key bytes k fits =
-      let more = max_first d.largest (length bytes) in
+      let more = le-max_left d.largest (length bytes) in
       let small = fits.1 in
       let h = k (fits.0, omega (arith, more, small)) in
       record {
@@ -69,7 +64,7 @@ module _ (g : DriverInput) (d : Driver) where
         order = h.order;
         down = h.down;
         apart = h.apart;
-        parts = (max_second d.largest (length bytes), each_larger d.largest (max d.largest (length bytes)) (filter (λ x. not (is_stored r key x)) d.parts) more (Each-filter (Small d.largest) (λ x. not (is_stored r key x)) d.parts h.parts));
+        parts = (le-max_right d.largest (length bytes), each_larger d.largest (max d.largest (length bytes)) (filter (λ x. not (is_stored r key x)) d.parts) more (Each-filter (Small d.largest) (λ x. not (is_stored r key x)) d.parts h.parts));
       }
 
   pub keeps_cleared : (r : ℕ) → Keeps g d → Keeps g (without_old_flights (state_at g d r) r d)

@@ -36,7 +36,7 @@ pub record Flight : Type 0 where
   pub frame : FrameView
   pub bytes : List ℕ
 
--- the past has the newest entry first, all other lists the newest last
+-- the past has the newest entry first, and contents and parts what was stored last; the other lists have the newest last
 pub record Driver : Type 0 where
   pub past : List Entry
   pub flights : List Flight

@@ -1,4 +1,4 @@
--- The lines of a script (own), but for those that sync, `damage`, and the numbers of copies by path.
+-- The lines of a script (own), but for `sync`, `damage`, `numcopiesfor` and `mincopiesfor`.
 use Rattle.std.specs.Prelude.{ℕ, List}
 use Rattle.annex_base.specs.declared.kinds.Call.{Call}
 use Rattle.log_lines.specs.declared.entry.LogKind.{LogKind}

@@ -134,7 +134,7 @@ abbrev pub block_rounds : DriverInput → ℕ → InBlock → InBlock
 block_rounds g zero x = block_round g x
 block_rounds g (suc n) x = if is_over x then x else block_rounds g n (block_rounds g n x)
 
--- this bound is never met either: of each two such rounds one adds an entry or takes a line
+-- the bound is that of a settling: of each two such rounds but the last one adds an entry or takes a line (no law says so yet)
 abbrev pub blocks : DriverInput → List Agendum → Driver → Driver
 blocks g xs d =
     settles g (block_rounds g most_rounds (record { driver = d; left = map (agenda xs) (numbers g); idle = 0; took = true })).driver

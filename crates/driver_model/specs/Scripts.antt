@@ -60,8 +60,8 @@ IsBlockLine g r (Fails call) = Unit {0}
 abbrev pub IsAgendum : DriverInput → Agendum → Type 0
 IsAgendum g x = IsKnown g x.repo × IsBlockLine g x.repo x.line
 
--- The line is one of the script's: it names repositories of the run and jobs that they may begin; a content is of a key, and
--- has its size; what is written is a line of a file whose kind is known.
+-- The line is one of the script's: the repository that acts is one of the run, and a job one that it may begin; a content is
+-- of a key, and has its size; what is written is a line of a file whose kind is known.
 abbrev pub IsOne : DriverInput → Line → Type 0
 IsOne g (Have r key bytes) = IsKnown g r × IsContent key bytes
 IsOne g (SetPart r key bytes) = IsKnown g r

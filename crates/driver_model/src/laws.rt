@@ -39,8 +39,8 @@ use run_data::files_have_their_paths;
 use union_merge::{differences_make_the_union, unions_have_the_lines_of_both};
 
 /// What the driver makes of a script is a run, where the script's lines are right and the run stays within its bounds; and so
-/// is each start of it, by which a driver ends that meets a full history. It is safe: the last copies stay; and each refused job
-/// has its cause there (git-annex-mincopies; causes are own).
+/// is each start of it, by which a driver ends that meets a full history. It is safe, and each refused job has its cause there
+/// (git-annex-mincopies; causes are own).
 pub fn driven_runs_are_runs()
     ensures run { (g : DriverInput) (lines : List Line) → Each IsSetUp g.repos → Each (IsOne g) lines → HasBoundedPast (driver_after g lines)
         → IsRun (run_of g lines) }

@@ -10,7 +10,7 @@ use Rattle.drop_proof.specs.declared.rule.Side.TheVariants.{Local, Remote}
 use Rattle.drop_proof.specs.declared.rule.Judged.{Judged}
 use Rattle.drop_proof.specs.declared.rule.Judged.TheVariants.{Enough, Lacking}
 
--- whether a copy of this kind counts towards mincopies: one that is locked or trusted
+-- whether a copy of this kind is a full one: locked or trusted
 abbrev pub is_full_kind : Kind → Bool
 is_full_kind (Locked end) = true
 is_full_kind Trusted = true
@@ -20,7 +20,7 @@ is_full_kind Recent = false
 abbrev pub is_full : Evidence → Bool
 is_full i = is_full_kind i.kind
 
--- whether an item counts towards the mincopies of a drop: any does where the drop is local (own)
+-- whether an item counts towards the mincopies of a drop: each of a local one, the full ones of a remote one (own)
 abbrev pub counts : Side → Evidence → Bool
 counts Local i = true
 counts Remote i = is_full i

@@ -1,7 +1,6 @@
 -- The causes of refusals that rest on a peer's answer: the target denied the order, a copy's peer rejected it or is filling the key.
-use Rattle.std.proofs.Common.{◌≡◌, ℕ, Bool, true, false, List, [], Option, Some, None, ◌⊎◌, inl, inr, refl, sym, ap, ◌∙◌, subst}
-use Rattle.std.specs.Prelude.{◌||◌, ◌&&◌, bytes_eq, option_map, slice_get}
-use Rattle.std.specs.List.{list_any}
+use Rattle.std.proofs.Common.{◌≡◌, ℕ, true, false, List, [], Option, Some, None, ◌⊎◌, inl, inr, sym, ap, ◌∙◌, subst}
+use Rattle.std.specs.Prelude.{option_map, slice_get}
 use Rattle.std.proofs.lemmas.Bool.{and_parts}
 use Rattle.annex_base.specs.declared.kinds.Found.TheVariants as found
 use Rattle.annex_base.specs.declared.kinds.Word.{Word}
@@ -19,27 +18,22 @@ use Rattle.p2p_wire.specs.declared.message.Message.TheVariants.{Failure, Put, Re
 use Rattle.p2p_wire.specs.Messages.{order_of}
 use Rattle.run_model.specs.Said.{Said, Says, message_in}
 use Rattle.run_model.specs.Frames.{FlyingFrame, is_job, last_request, said_of, frames_sent, sending_entry, taken_count, up_of, way_of}
-use Rattle.run_model.specs.Causes.{AnswersRequest, FillsByPut, FoundFilled, HearsMessage, IsSentBy, WasBusy, WasDenied, WasRejected, denied_by, rejects}
-use Rattle.node_model.specs.SetUp.{SetUp, served_connections}
-use Rattle.run_model.specs.States.{state_of, works}
-use Rattle.node_model.specs.Ends.{server_end}
+use Rattle.run_model.specs.Causes.{AnswersRequest, FoundFilled, HearsMessage, IsSentBy, WasBusy, WasDenied, WasRejected, denied_by, rejects}
+use Rattle.node_model.specs.SetUp.{SetUp}
 use Rattle.run_model.specs.Words.{word_of, word_of_kind, word_told}
 use Rattle.node_model.specs.Jobs.{running_job}
 use Rattle.node_model.specs.Knows.{denial_of}
 use Rattle.node_model.specs.DropStep
-use Rattle.node_model.specs.SessionStep.{is_filled, session_fills}
 use Rattle.run_model.specs.Run.{FramesPart, OwnPart, OwnPast}
 use Rattle.race_core.proofs.JobSteps.{turn_at}
 use Rattle.race_core.proofs.GetsBegin.{no_step}
 use Rattle.race_core.proofs.FreshSteps.{of_kind}
-use Rattle.race_core.proofs.FillsStepped.{fills_by_get}
 use Rattle.race_core.proofs.Refusals.{TransferStands, target_in, target_is}
 use Rattle.race_core.proofs.Standing.{stands}
 use Rattle.race_core.proofs.DeniedWords.{DeniedAt, DeniedBy, denied_words}
 use Rattle.race_core.proofs.RefusalCauses.{DropSettled, Ending, drop_settled, ending, ending_words, job_of, transfer_settled}
 use Rattle.race_core.proofs.Own.{Meets, MessagePast}
 use Rattle.race_core.proofs.Flights.{occurs_always}
-use Rattle.annex_base.proofs.Lists.{list_any_found}
 
 -- ---- what is left: answers fit their requests
 
@@ -54,10 +48,6 @@ FailsFor asked kind = Unit {0}
 abbrev pub FailuresFit : List Entry → Type 0
 FailuresFit past = (r : ℕ) (x : Entry) (before : List Entry) → Occurs past x before → is_of r x ≡ true → (f : FrameView) → x.taken ≡ Some f → f.up ≡ false → message_in f.body ≡ Says Failure
     → (asked it : FlyingFrame) → last_request before (up_of (way_of r f)) ≡ Some asked → slice_get (frames_sent before (way_of r f)) (taken_count before (way_of r f)) ≡ Some it → FailsFor (said_of asked) it.entry.kind
-
--- **what is left of a get's Busy**: a session that takes the bytes of a key has taken PUT of it, and nothing that wants an answer since
-abbrev pub SessionsFill : SetUp → List Entry → Type 0
-SessionsFill s past = (key : List ℕ) (p q : ℕ) → session_fills (state_of s past) key (server_end p q) ≡ true → FillsByPut past s.number key
 
 -- ---- the sender
 
@@ -166,27 +156,20 @@ module _ (reads_back : SentAreRead) (s : SetUp) (past : List Entry) (words : ℕ
               by kind (inr v) y = subst (λ m. FailsFor (Says m) kind) v y
 
   -- **Busy**
-  pub busy_found : SessionsFill s past → e.kind ≡ ends_job j (TransferRefused failures.Busy) → FoundFilled past r j ⊎ WasBusy past r j
-  busy_found fill is =
+  pub busy_found : e.kind ≡ ends_job j (TransferRefused failures.Busy) → FoundFilled s.repos past r j ⊎ WasBusy past r j
+  busy_found is =
       let x = ending s past words e own j (TransferRefused failures.Busy) is in
       let w = x.by.w in
-      subst (λ n. FoundFilled past r n ⊎ WasBusy past r n) (sym x.number_is) (elim (x.why) [
+      subst (λ n. FoundFilled s.repos past r n ⊎ WasBusy past r n) (sym x.number_is) (elim (x.why) [
         | inl y ↦ inl (record {
           d = job_of s past h w x.runs;
           kind_is = (of_kind s past h.run w x.runs).0 y.0;
           first = no_step reads_back s past h.run w x.runs y.0 y.1;
           absent = y.2;
-          filled = filled_by w.what.key y.3;
+          filled = y.3;
         })
         | inr y ↦ elim (transfer_settled (turn_at s past e x.by) past failures.Busy x.by.made.taken (stands reads_back s past h w x.runs) y) [
           | inl z ↦ inr (record { d = job_of s past h w x.runs; peer = z.0; peer_is = z.1; file = []; busy = z.2 })
           | inr z ↦ absurd (cc)
         ]
       ])
-    where
-      filled_by : (key : List ℕ) → is_filled s (state_of s past) key ≡ true → Rattle.run_model.specs.Causes.FillsByGet past r key ⊎ FillsByPut past r key
-      filled_by key any = go (list_any (λ c. session_fills (state_of s past) key (server_end c.0 c.1)) (served_connections s)) refl any
-        where
-          go : (b : Bool) → list_any (λ c. session_fills (state_of s past) key (server_end c.0 c.1)) (served_connections s) ≡ b → (b || list_any (λ w. w.fills && bytes_eq w.what.key key) (works past r)) ≡ true → Rattle.run_model.specs.Causes.FillsByGet past r key ⊎ FillsByPut past r key
-          go true at any = let z = list_any_found (λ (c : ℕ × ℕ). session_fills (state_of s past) key (server_end c.0 c.1)) (served_connections s) at in inr (fill key z.0.0 z.0.1 z.2)
-          go false at any = inl (fills_by_get s past h key any)

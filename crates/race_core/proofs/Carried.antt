@@ -1,4 +1,4 @@
--- What a job carries from entry to entry: the version that its peer answered, that it fills a key, and the causes of a get.
+-- What a job carries from entry to entry: the version that its peer answered, and the causes of a get.
 use Rattle.std.proofs.Common.{◌≡◌, ℕ, Bool, true, false, List, [], ◌∷◌, ◌++◌, Option, Some, None, ◌⊎◌, inl, inr, refl, sym, ap, ◌∙◌, subst}
 use Rattle.std.specs.Prelude.{if◌then◌else◌, ◌==◌}
 use Rattle.annex_base.specs.declared.kinds.Call.{Call}
@@ -56,29 +56,29 @@ abbrev pub ListOrNext : Work → Work → Type 0
 ListOrNext w x = (x.phase ≡ Next) ⊎ (x.heard ≡ w.heard)
 
 abbrev pub Carries : RowsAndEnds → Work → Entry → Work → Type 0
-Carries rows w e x = (x.version ≡ w.version) × (x.fills ≡ true → w.fills ≡ true) × Causes rows w e x × ListOrNext w x
+Carries rows w e x = (x.version ≡ w.version) × Causes rows w e x × ListOrNext w x
 
 module _ (rows : RowsAndEnds) (r : ℕ) (e : Entry) where
   abbrev Keeps : Work → Work → Type 0
   Keeps w x = Carries rows w e x
 
   same : (w : Work) (phase : Phase) → Keeps w (to_phase w phase)
-  same w phase = (refl, (λ f. f), inl refl, inr refl)
+  same w phase = (refl, inl refl, inr refl)
 
   stays : (w : Work) → Keeps w w
-  stays w = (refl, (λ f. f), inl refl, inr refl)
+  stays w = (refl, inl refl, inr refl)
 
   transferred_keeps : (w : Work) (o : Outcome) → Keeps w (after_transfer w o)
   transferred_keeps w o = if_either (Keeps w) (is_move w.what.kind) (record w { part = Drops; phase = Fresh; fills = false }) (record w { phase = Ends o; fills = false })
-      (λ h. (refl, (λ f. let no' : false ≡ true = f in cc), inl refl, inr refl)) (λ h. (refl, (λ f. let no' : false ≡ true = f in cc), inl refl, inr refl))
+      (λ h. (refl, inl refl, inr refl)) (λ h. (refl, inl refl, inr refl))
 
   closed_keeps : (w : Work) (x : ShutOn rows w e) (part : Part) → w.part ≡ part → Keeps w (closed_part r w x.peer part)
-  closed_keeps w x Gets is = (refl, (λ f. f), inr (inl (record { peer = x.peer; cause = sources.Closed; list = refl; gets = is; on = x.on; next = refl; why = (refl, x, refl) })), inr refl)
+  closed_keeps w x Gets is = (refl, inr (inl (record { peer = x.peer; cause = sources.Closed; list = refl; gets = is; on = x.on; next = refl; why = (refl, x, refl) })), inr refl)
   closed_keeps w x Puts is = same w _
-  closed_keeps w x Drops is = if_either (Keeps w) (target_of r w == x.peer) (to_phase w (Ends (Refused (refusals.Lost (Jobs.is_ordered w.phase))))) (Jobs.hears w x.peer (Jobs.Lacks causes.Closed)) (λ h. same w _) (λ h. (refl, (λ f. f), inl refl, inl refl))
+  closed_keeps w x Drops is = if_either (Keeps w) (target_of r w == x.peer) (to_phase w (Ends (Refused (refusals.Lost (Jobs.is_ordered w.phase))))) (Jobs.hears w x.peer (Jobs.Lacks causes.Closed)) (λ h. same w _) (λ h. (refl, inl refl, inl refl))
 
   word_keeps : (w : Work) (phase : Phase) → w.phase ≡ phase → SaysFirst e Failure → Keeps w (word_taken w (taken_message e.taken) phase)
-  word_keeps w (GetsWord peer start size) is h = (refl, (λ f. f), inr (inr (record { peer = peer; start = start; size = size; phase_is = is; list = refl; next = refl; says = h })), inr refl)
+  word_keeps w (GetsWord peer start size) is h = (refl, inr (inr (record { peer = peer; start = start; size = size; phase_is = is; list = refl; next = refl; says = h })), inr refl)
   word_keeps w phase is h = stays w
 
   says_keeps : (w : Work) (time peer : ℕ) (m : Message) → SaysFirst e m → Keeps w (says w time peer (taken_message e.taken) m)
@@ -106,9 +106,9 @@ module _ (rows : RowsAndEnds) (r : ℕ) (e : Entry) where
   sends_keeps w time peer f rest sent (Line text) is = some_keeps w time peer (message_of text) (λ x h. record { f = f; rest = rest; sent_is = sent; told = ap line_in is ∙ h })
 
   listens_keeps : (w : Work) (phase : Phase) (m : Message) → Keeps w (listens w phase m)
-  listens_keeps w (AsksLock peer since) Success = (refl, (λ f. f), inl refl, inl refl)
-  listens_keeps w (AsksLook peer) Success = (refl, (λ f. f), inl refl, inl refl)
-  listens_keeps w (AsksLook peer) Failure = (refl, (λ f. f), inl refl, inl refl)
+  listens_keeps w (AsksLock peer since) Success = (refl, inl refl, inl refl)
+  listens_keeps w (AsksLook peer) Success = (refl, inl refl, inl refl)
+  listens_keeps w (AsksLook peer) Failure = (refl, inl refl, inl refl)
   listens_keeps w Orders Success = same w _
   listens_keeps w Orders Failure = same w _
   listens_keeps w (Greets peer) (Version n) = same w _
@@ -131,8 +131,8 @@ module _ (rows : RowsAndEnds) (r : ℕ) (e : Entry) where
 
   first_keeps : (w : Work) (part : Part) (here : Bool) (bar : Option ℕ) → Keeps w (first_look r w part here bar)
   first_keeps w Gets true bar = transferred_keeps w (Got None None)
-  first_keeps w Drops false bar = (refl, (λ f. f), inl refl, inl refl)
-  first_keeps w Drops true (Some i) = (refl, (λ f. f), inl refl, inl refl)
+  first_keeps w Drops false bar = (refl, inl refl, inl refl)
+  first_keeps w Drops true (Some i) = (refl, inl refl, inl refl)
   first_keeps w part here bar = same w _
 
   quiet_keeps : (w : Work) (phase : Phase) → Keeps w (quiet rows r w phase)
@@ -158,7 +158,7 @@ module _ (rows : RowsAndEnds) (r : ℕ) (e : Entry) where
   unreleased_keeps w time phase = stays w
 
   fault_keeps : (w : Work) (part : Part) (side : Side) (phase : Phase) → Keeps w (fault_phase r w part side phase)
-  fault_keeps w Drops Remote Fresh = (refl, (λ f. f), inl refl, inl refl)
+  fault_keeps w Drops Remote Fresh = (refl, inl refl, inl refl)
   fault_keeps w part side phase = same w _
 
   call_keeps : (w : Work) (call : Call) → Keeps w (fault_of r w e.time call)
@@ -182,7 +182,7 @@ pub record Learns (w : Work) (e : Entry) (version : ℕ) : Type 0 where
   pub told : line_in f.body ≡ Some (Version version)
 
 abbrev pub CarriesOn : RowsAndEnds → Work → Entry → Work → Type 0
-CarriesOn rows w e x = ((x.version ≡ w.version) ⊎ Learns w e x.version) × (x.fills ≡ true → (w.fills ≡ true) ⊎ ((w.part ≡ Gets) × (w.phase ≡ Fresh))) × Causes rows w e x × ListOrNext w x
+CarriesOn rows w e x = ((x.version ≡ w.version) ⊎ Learns w e x.version) × Causes rows w e x × ListOrNext w x
 
 learned : (w : Work) (e : Entry) (phase : Phase) → w.phase ≡ phase → (v : Work) → v.version ≡ w.version → v.what.peer ≡ w.what.peer → ((learns v phase e.taken).version ≡ w.version) ⊎ Learns w e (learns v phase e.taken).version
 learned w e (Greets peer) is v same at = taken e.taken refl
@@ -202,20 +202,15 @@ claims_carry : (w : Work) (part : Part) (phase : Phase) → ((claims w part phas
 claims_carry w Gets Fresh = (refl, refl, refl, refl)
 claims_carry w part phase = (refl, refl, refl, refl)
 
-claims_fill : (w : Work) (part : Part) (phase : Phase) → w.part ≡ part → w.phase ≡ phase → (claims w part phase).fills ≡ true → (w.fills ≡ true) ⊎ ((w.part ≡ Gets) × (w.phase ≡ Fresh))
-claims_fill w Gets Fresh is at f = inr (is, at)
-claims_fill w part phase is at f = inl f
-
-learns_carry : (v : Work) (phase : Phase) (taken : Option FrameView) → ((learns v phase taken).fills ≡ v.fills) × ((learns v phase taken).causes ≡ v.causes) × ((learns v phase taken).heard ≡ v.heard)
-learns_carry v (Greets peer) (Some f) = if_either (λ (y : Work). (y.fills ≡ v.fills) × (y.causes ≡ v.causes) × (y.heard ≡ v.heard)) (option_is v.what.peer peer) (record v { version = Jobs.version_said v.version (line_in f.body) }) v (λ e. (refl, refl, refl)) (λ e. (refl, refl, refl))
-learns_carry v phase taken = (refl, refl, refl)
+learns_carry : (v : Work) (phase : Phase) (taken : Option FrameView) → ((learns v phase taken).causes ≡ v.causes) × ((learns v phase taken).heard ≡ v.heard)
+learns_carry v (Greets peer) (Some f) = if_either (λ (y : Work). (y.causes ≡ v.causes) × (y.heard ≡ v.heard)) (option_is v.what.peer peer) (record v { version = Jobs.version_said v.version (line_in f.body) }) v (λ e. (refl, refl)) (λ e. (refl, refl))
+learns_carry v phase taken = (refl, refl)
 
 keeps_on : (rows : RowsAndEnds) (w : Work) (e : Entry) (x : Work) → Carries rows w e x → CarriesOn rows w e x
-keeps_on rows w e x k = (inl k.0, (λ f. inl (k.1 f)), k.2, k.3)
+keeps_on rows w e x k = (inl k.0, k.1, k.2)
 
-talker_on : (rows : RowsAndEnds) (r : ℕ) (w : Work) (e : Entry) (kind : EntryKind) (y x : Work) → Like w y → y.causes ≡ w.causes → y.heard ≡ w.heard → ((y.version ≡ w.version) ⊎ Learns w e y.version) → (y.fills ≡ true → (w.fills ≡ true) ⊎ ((w.part ≡ Gets) × (w.phase ≡ Fresh)))
-    → Carries rows y e x → CarriesOn rows w e x
-talker_on rows r w e kind y x like list heard version fills k = (elim (version) [ inl a ↦ inl (k.0 ∙ a) | inr a ↦ inr (subst (Learns w e) (sym k.0) a) ], (λ f. fills (k.1 f)), cause k.2, elim (k.3) [ inl n ↦ inl n | inr same ↦ inr (same ∙ heard) ])
+talker_on : (rows : RowsAndEnds) (r : ℕ) (w : Work) (e : Entry) (kind : EntryKind) (y x : Work) → Like w y → y.causes ≡ w.causes → y.heard ≡ w.heard → ((y.version ≡ w.version) ⊎ Learns w e y.version) → Carries rows y e x → CarriesOn rows w e x
+talker_on rows r w e kind y x like list heard version k = (elim (version) [ inl a ↦ inl (k.0 ∙ a) | inr a ↦ inr (subst (Learns w e) (sym k.0) a) ], cause k.1, elim (k.2) [ inl n ↦ inl n | inr same ↦ inr (same ∙ heard) ])
   where
     what : y.what ≡ w.what
     what = ap (λ (j : Rattle.node_model.specs.Slots.RunningJob). j.what) like.job_is
@@ -245,7 +240,7 @@ talker_on rows r w e kind y x like list heard version fills k = (elim (version) 
 pub kind_carries : (rows : RowsAndEnds) (r : ℕ) (w : Work) (e : Entry) (kind : EntryKind) → CarriesOn rows w e (work_kind rows r w e kind)
 kind_carries rows r w e (Fault call owner) = keeps_on rows w e _ (call_keeps rows r e w call)
 kind_carries rows r w e (Bar job need key) = keeps_on rows w e _ (same rows r e w Next)
-kind_carries rows r w e (Share hold end owner key) = (inl refl, (λ f. inl f), inl refl, inl refl)
+kind_carries rows r w e (Share hold end owner key) = (inl refl, inl refl, inl refl)
 kind_carries rows r w e (Gone source key) = keeps_on rows w e _ (same rows r e w Jobs.Removed)
 kind_carries rows r w e (Gain source size key) = keeps_on rows w e _ (gained_keeps rows r e w w.phase)
 kind_carries rows r w e kind =
@@ -255,5 +250,5 @@ kind_carries rows r w e kind =
     let a = claims_carry w w.part w.phase in
     let b = learns_carry v w.phase e.taken in
     let what : y.what ≡ w.what = ap (λ (j : Rattle.node_model.specs.Slots.RunningJob). j.what) like.job_is in
-    talker_on rows r w e kind y (talks_on rows r y e (partner w.what.peer w.phase)) like (b.1 ∙ a.2) (b.2 ∙ a.3) (learned w e w.phase refl v a.0 (ap (λ q. q.peer) a.1))
-    (λ f. claims_fill w w.part w.phase refl refl (sym b.0 ∙ f)) (on_keeps rows r e y (partner w.what.peer w.phase) (λ i. partner (what i).peer (like.phase_is i)))
+    talker_on rows r w e kind y (talks_on rows r y e (partner w.what.peer w.phase)) like (b.0 ∙ a.2) (b.1 ∙ a.3) (learned w e w.phase refl v a.0 (ap (λ q. q.peer) a.1))
+    (on_keeps rows r e y (partner w.what.peer w.phase) (λ i. partner (what i).peer (like.phase_is i)))

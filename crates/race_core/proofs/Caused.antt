@@ -34,10 +34,9 @@ use Rattle.race_core.proofs.ClosedCauses.{ShutsTold}
 use Rattle.race_core.proofs.ClosedFound.{InvalidsFit, OrdersTold, SourcesInOrder, closed_found, lost_found, no_source_found}
 use Rattle.race_core.proofs.Own.{MessagePast}
 use Rattle.race_core.proofs.EvidenceCauses.{CausesTold, expired_found, lacking_found, old_found}
-use Rattle.race_core.proofs.AnswerCauses.{FailuresFit, SessionsFill, busy_found, denied_found, rejected_found}
+use Rattle.race_core.proofs.AnswerCauses.{FailuresFit, busy_found, denied_found, rejected_found}
 use Rattle.race_core.proofs.AnswersFit.{failures_fit}
 use Rattle.race_core.proofs.ToldValues.{run_told}
-use Rattle.race_core.proofs.SessionsFill.{sessions_fill}
 use Rattle.race_core.proofs.InvalidsFit.{invalids_fit}
 use Rattle.race_core.proofs.OrdersTold.{orders_told}
 use Rattle.race_core.proofs.SourcesInOrder.{sources_in_order}
@@ -47,7 +46,6 @@ use Rattle.race_core.proofs.FromStep.{message_past, own_past, part_of}
 pub record Grounds (s : SetUp) (past : List Entry) : Type 0 where
   pub told : (w : Work) → Member w (works past s.number) → w.part ≡ Drops → CausesTold s past w
   pub fit : FailuresFit past
-  pub fill : SessionsFill s past
   pub shut' : ShutsTold s past
   pub orders : OrdersTold s past
   pub order : SourcesInOrder s past
@@ -110,7 +108,7 @@ module _ (reads_back : SentAreRead) (s : SetUp) (past : List Entry) (words : ℕ
   transfer_caused : (refusal : TransferRefusal) → e.kind ≡ ends_job j (TransferRefused refusal) → TransferCauseOf s.repos past s.number j refusal
   transfer_caused failures.NotHere is = not_here_found reads_back s past words e h own j is
   transfer_caused (failures.NoSource reasons) is = no_source_found reads_back s past words e h own left.shut' j left.order left.invalids reasons is
-  transfer_caused failures.Busy is = busy_found reads_back s past words e h own j left.fill is
+  transfer_caused failures.Busy is = busy_found reads_back s past words e h own j is
   transfer_caused failures.Closed is = closed_found reads_back s past words e h own left.shut' j is
   transfer_caused failures.Rejected is = rejected_found reads_back s past words e h own j run left.fit is
   transfer_caused failures.StoreFault is = transfer_fault_found reads_back s past words e h own j is
@@ -142,7 +140,6 @@ module _ (reads_back : SentAreRead) (run : Run) (repos : Each IsSetUp run.repos)
   grounds r past h = let l = left r past h in record {
     told = run_told reads_back run repos r past h;
     fit = failures_fit reads_back run repos past h;
-    fill = sessions_fill (set_up run r) past (own_past run repos r past h);
     shut' = l.shut';
     orders = orders_told reads_back (set_up run r) past (own_past run repos r past h);
     order = sources_in_order (set_up run r) past (own_past run repos r past h);

@@ -249,4 +249,4 @@ sources_told reads_back s past h told w m = invariant s (λ p x. OwnPast s p →
     own p e run is was x (inr (inr b)) h told =
         let v = b.by.w in
         subst (λ (j : RunningJob). SourcesTold s.number (e ∷ p) j x.causes) (sym (step_running s p e x b))
-        (causes_now reads_back s p e h is x b told.0 (was v (step_runs s p e x b) (earlier s p e h) told.1) (subst (Causes (rows_at p s.number) v e) (sym b.work_is) (kind_carries (rows_at p s.number) s.number v e e.kind).2))
+        (causes_now reads_back s p e h is x b told.0 (was v (step_runs s p e x b) (earlier s p e h) told.1) (subst (Causes (rows_at p s.number) v e) (sym b.work_is) (kind_carries (rows_at p s.number) s.number v e e.kind).1))

@@ -58,6 +58,7 @@ pub record CallFailed (kind : EntryKind) : Type 0 where
   pub owner : By
   pub kind_is : kind ≡ Fault call owner
   pub not_owed : call ≢ PutFile
+  pub not_release : call ≢ Unhold
 
 -- an entry that only talks
 abbrev pub IsTalking : EntryKind → Type 0
@@ -256,7 +257,7 @@ module _ (rows : RowsAndEnds) (r : ℕ) (e : Entry) (kind : EntryKind) where
   call_stood : (w : Work) (call : Call) (owner : By) → kind ≡ Fault call owner → Stood w (fault_of r w e.time call)
   call_stood w PutFile owner k = inl refl
   call_stood w Unhold owner k = unreleased_stood w owner w.phase refl k
-  call_stood w call owner k = fault_stood w w.part (side_of w) w.phase refl refl refl (record { call = call; owner = owner; kind_is = k; not_owed = λ is. cc })
+  call_stood w call owner k = fault_stood w w.part (side_of w) w.phase refl refl refl (record { call = call; owner = owner; kind_is = k; not_owed = λ is. cc; not_release = λ is. cc })
 
   gained_stood : (w : Work) (phase : Phase) → Stood w (after_gain w phase)
   gained_stood w (GetsWord peer start size) = transferred_stood w (Got (Some peer) (Some start)) tt

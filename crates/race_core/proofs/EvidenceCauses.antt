@@ -23,8 +23,8 @@ use Rattle.run_model.specs.Logs.{need_read}
 use Rattle.run_data.specs.declared.job.Cause.{Cause}
 use Rattle.run_model.specs.Drops
 use Rattle.node_model.specs.Evidence.{Standing, gather, proof_of, Claimed, Ignored, Asked, Offer, Gives, Fails, candidates, failures, is_locked, pick, reached_candidates}
-use Rattle.run_model.specs.Drops.{offer_from, candidate_cause, told_cause}
-use Rattle.run_model.specs.Causes.{FoundExpired, FoundLacking, FoundOld, IsCauseOf, items}
+use Rattle.run_model.specs.Drops.{Vouch, offer, offer_from, candidate_cause, is_waiting, reply, told_cause}
+use Rattle.run_model.specs.Causes.{FoundExpired, FoundLacking, FoundOld, items}
 use Rattle.node_model.specs.SetUp.{SetUp}
 use Rattle.run_model.specs.States.{state_of, works}
 use Rattle.node_model.specs.Jobs
@@ -82,6 +82,10 @@ module _ (reads_back : SentAreRead) (s : SetUp) (past : List Entry) (words : ℕ
   pub items_known : (w : Work) (m : Member w (works past r)) → knows_enough s (state_of s past) w ≡ true → items s.repos past r w.number (job_of s past h w m) ≡ known s (state_of s past) w
   items_known w m enough = items_as w m ∙ known_agrees s past w (list_agrees reads_back s past h w m) enough
 
+  -- and they are enough
+  enough_known : (w : Work) (m : Member w (works past r)) → knows_enough s (state_of s past) w ≡ true → is_enough (side_in (running_job w)) (need_read past r w.number) (items s.repos past r w.number (job_of s past h w m)) ≡ true
+  enough_known w m enough = (λ i. is_enough (side_is w i) (need_read past r w.number) (items_known w m enough i)) ∙ enough
+
   -- **Expired**
   pub expired_found : (end clk : ℕ) → e.kind ≡ ends_job j (Refused (refusals.Expired end clk)) → FoundExpired s.repos past r j e.time end clk
   expired_found end clk is =
@@ -101,6 +105,7 @@ module _ (reads_back : SentAreRead) (s : SetUp) (past : List Entry) (words : ℕ
           ] in
           record {
             d = job_of s past h w x.runs;
+            enough = enough_known w x.runs enough;
             first = ap least_end (items_known w x.runs enough) ∙ y.first_is;
             late = ltb-false clk end y.late;
             when = inl (y.clock_is ∙ ap (λ t. clock s.repos past r t) (sym (ap (λ (q : Entry). q.time) x.by.is)));
@@ -118,6 +123,7 @@ module _ (reads_back : SentAreRead) (s : SetUp) (past : List Entry) (words : ℕ
           let same_clock : clk ≡ clock s.repos past r time = clocks both in
           record {
             d = job_of s past h w x.runs;
+            enough = enough_known w x.runs k.1.enough;
             first = ap least_end (items_known w x.runs k.1.enough) ∙ k.1.first ∙ ap Some (sym same_end);
             late = ltb-false clk end (ap (λ c. nat_lt c end) same_clock ∙ ap (nat_lt (clock s.repos past r time)) same_end ∙ k.2);
             when = inr (k.3.entry, k.3.before, k.3.occurs, k.3.own, k.3.kind_is, same_clock ∙ (ap (λ (c : ClockSet). runs_on c time) (sym k.3.set) ∙ ap (λ q. clock s.repos k.3.before r q) k.3.time_is));
@@ -142,7 +148,13 @@ module _ (reads_back : SentAreRead) (s : SetUp) (past : List Entry) (words : ℕ
       settled x (inl z) =
           let w = x.by.w in
           let k : KnewAt s past w (Ends (Refused (refusals.OldProtocol n))) = subst (KnewAt s past w) z.0 (knew reads_back s past h w x.runs) in
-          record { d = job_of s past h w x.runs; hears = z.1.0; old = ltb-true n 3 z.1.1; locked = locked_by (items s.repos past r w.number (job_of s past h w x.runs)) k.0 (ap least_end (items_known w x.runs k.1.enough) ∙ k.1.first) }
+          record {
+            d = job_of s past h w x.runs;
+            enough = enough_known w x.runs k.1.enough;
+            hears = z.1.0;
+            old = ltb-true n 3 z.1.1;
+            locked = locked_by (items s.repos past r w.number (job_of s past h w x.runs)) k.0 (ap least_end (items_known w x.runs k.1.enough) ∙ k.1.first);
+          }
       settled x (inr (inl z)) = absurd (let no' : Refused (refusals.OldProtocol n) ≡ DropStep.denial_outcome (turn_at s past e x.by) = z.1 in cc)
       settled x (inr (inr z)) = absurd (apart (DropStep.first_end (turn_at s past e x.by)) _ z.2)
         where
@@ -166,27 +178,15 @@ abbrev pub CausesTold : SetUp → List Entry → Work → Type 0
 CausesTold s past w = (c : ℕ) → Member c (candidates_of s w) → standing_of s (state_of s past) w c ≡ Asked → (heard : Heard) → heard_of w c ≡ Some heard → heard_offer (λ time. time) (Some heard) ≡ Fails
     → told_cause past s.number w.number c ≡ Some (cause_heard (word_told past s.number w.number c) (Some heard))
 
--- each failure is a candidate's that gave nothing, with its cause
-failures_each : (P : CandidateCause → Type 0) (f : ℕ → Offer) (g : ℕ → Cause) (cs all : List ℕ) → ((c : ℕ) → Member c cs → Member c all) → ((c : ℕ) → Member c all → f c ≡ Fails → P (record { repo = c; cause = g c })) → Each P (failures f g cs)
-failures_each P f g [] all sub each = tt
-failures_each P f g (c ∷ cs) all sub each = go (f c) refl (failures_each P f g cs all (λ d m. sub d (inr m)) each)
+-- alike offers and causes are listed alike
+failures_same : (f f' : ℕ → Offer) (g g' : ℕ → Cause) (cs : List ℕ) → ((c : ℕ) → Member c cs → f c ≡ f' c) → ((c : ℕ) → Member c cs → f' c ≡ Fails → g c ≡ g' c) → failures f g cs ≡ failures f' g' cs
+failures_same f f' g g' [] offers causes = refl
+failures_same f f' g g' (c ∷ cs) offers causes = go (f' c) refl (failures_same f f' g g' cs (λ d m. offers d (inr m)) (λ d m. causes d (inr m)))
   where
-    go : (o : Offer) → f c ≡ o → Each P (failures f g cs) → Each P (pick o (λ kind. failures f g cs) (record { repo = c; cause = g c } ∷ failures f g cs))
-    go (Gives kind) is more = more
-    go Fails is more = (each c (sub c (inl refl)) is, more)
-
-failures_have : (f : ℕ → Offer) (g : ℕ → Cause) (cs : List ℕ) (c : ℕ) → Member c cs → f c ≡ Fails → Member (record { repo = c; cause = g c }) (failures f g cs)
-failures_have f g [] c m fails = absurd m
-failures_have f g (d ∷ cs) c (inl same) fails = go (f d) (ap f (sym same) ∙ fails)
-  where
-    go : (o : Offer) → o ≡ Fails → Member (record { repo = c; cause = g c }) (pick o (λ kind. failures f g cs) (record { repo = d; cause = g d } ∷ failures f g cs))
-    go (Gives kind) is = absurd (cc)
-    go Fails is = inl (λ i. record { repo = same i; cause = g (same i) })
-failures_have f g (d ∷ cs) c (inr m) fails = go (f d) (failures_have f g cs c m fails)
-  where
-    go : (o : Offer) → Member (record { repo = c; cause = g c }) (failures f g cs) → Member (record { repo = c; cause = g c }) (pick o (λ kind. failures f g cs) (record { repo = d; cause = g d } ∷ failures f g cs))
-    go (Gives kind) more = more
-    go Fails more = inr more
+    go : (o : Offer) → f' c ≡ o → failures f g cs ≡ failures f' g' cs
+        → pick (f c) (λ kind. failures f g cs) (record { repo = c; cause = g c } ∷ failures f g cs) ≡ pick (f' c) (λ kind. failures f' g' cs) (record { repo = c; cause = g' c } ∷ failures f' g' cs)
+    go (Gives kind) is more = rw (offers c (inl refl) ∙ is, is) more
+    go Fails is more = rw (offers c (inl refl) ∙ is, is) (λ i. record { repo = c; cause = causes c (inl refl) is i } ∷ more i)
 
 offers_none : (clock : ℕ → ℕ) (h : Heard) → heard_offer clock (Some h) ≡ Fails → heard_offer (λ time. time) (Some h) ≡ Fails
 offers_none clock (Jobs.Held since) e = absurd (cc)
@@ -224,16 +224,31 @@ module _ (reads_back : SentAreRead) (s : SetUp) (past : List Entry) (words : ℕ
       off false f = refl
       off true f = absurd (let both = f refl in cc)
 
-  asked_fails : (w : Work) → Member w (works past s.number) → (c : ℕ) → Knowing.knows s (state_of s past) w c ≡ Fails → offer_from s.repos past s.number w.number c ≡ Fails
-  asked_fails w m c fails = asked_known s.repos past s.number w.number c run ∙ knows_same s past w (list_agrees reads_back s past h w m) c ∙ fails
+  offers_same : (w : Work) → Member w (works past s.number) → (c : ℕ) → offer_from s.repos past s.number w.number c ≡ Knowing.knows s (state_of s past) w c
+  offers_same w m c = asked_known s.repos past s.number w.number c run ∙ knows_same s past w (list_agrees reads_back s past h w m) c
 
-  caused : (w : Work) (m : Member w (works past s.number)) → w.part ≡ Drops → next_of s (state_of s past) w ≡ None → (c : ℕ) → Member c (candidates_of s w) → Knowing.knows s (state_of s past) w c ≡ Fails
-      → IsCauseOf s.repos past s.number w.number (candidates_of s w) (record { repo = c; cause = cause_by (word_told past s.number w.number c) (standing_of s (state_of s past) w c) (heard_of w c) })
-  caused w m part last c n fails = record {
-    candidate = n;
-    failed = asked_fails w m c fails;
-    told = elim (lacked w m part last c n fails) [ inl x ↦ inl x.0 | inr x ↦ inr (sym ((list_agrees reads_back s past h w m).standing_is c) ∙ x) ];
-  }
+  -- no candidate is still waited for, its own repository neither
+  none_waits : (w : Work) → Member w (works past s.number) → w.part ≡ Drops → next_of s (state_of s past) w ≡ None → (c : ℕ) → Member c (candidates_of s w)
+      → is_waiting (Drops.standing s.repos past s.number w.number c) (reply past s.number w.number c) (told_cause past s.number w.number c) ≡ false
+  none_waits w m part last c n = go (Drops.standing s.repos past s.number w.number c) refl (reply past s.number w.number c) refl (told_cause past s.number w.number c) refl
+    where
+      go : (st : Standing) → Drops.standing s.repos past s.number w.number c ≡ st → (o : Option Vouch) → reply past s.number w.number c ≡ o → (t : Option Cause) → told_cause past s.number w.number c ≡ t → is_waiting st o t ≡ false
+      go Claimed is o has t why = refl
+      go (Ignored cause) is o has t why = refl
+      go Asked is (Some v) has t why = refl
+      go Asked is None has (Some x) why = refl
+      go Asked is None has None why =
+          let fails : offer_from s.repos past s.number w.number c ≡ Fails = (λ i. offer (clock s.repos past s.number) (is i) (has i)) in
+          absurd (elim (lacked w m part last c n (sym (offers_same w m c) ∙ fails)) [
+            | inl x ↦ told_none (sym x.0 ∙ why)
+            | inr x ↦ ignored_none (sym x ∙ (list_agrees reads_back s past h w m).standing_is c ∙ is)
+          ])
+        where
+          told_none : {x : Cause} → Some x ≡ None → ⊥
+          told_none e = cc
+
+          ignored_none : {x : Cause} → Ignored x ≡ Asked → ⊥
+          ignored_none e = cc
 
   why_is : (w : Work) (m : Member w (works past s.number)) → w.part ≡ Drops → next_of s (state_of s past) w ≡ None → (c : ℕ) → Member c (candidates_of s w) → Knowing.knows s (state_of s past) w c ≡ Fails
       → candidate_cause s.repos past s.number w.number c ≡ cause_by (word_told past s.number w.number c) (standing_of s (state_of s past) w c) (heard_of w c)
@@ -259,20 +274,17 @@ module _ (reads_back : SentAreRead) (s : SetUp) (past : List Entry) (words : ℕ
           let same = items_lacking w m y.last in
           let same_words : words ≡ word_told past s.number w.number = (λ i c. (frames.tells j (Refused (refusals.Lacking proof reasons)) is c ∙ ap (λ n. word_told past s.number n c) x.number_is) i) in
           let reasons_are : reasons ≡ causes_known s (state_of s past) (word_told past s.number w.number) w = y.causes_are ∙ ap (λ f. causes_known s (state_of s past) f w) (spoke ∙ same_words) in
-          let f = Knowing.knows s (state_of s past) w in
-          let g : ℕ → Cause = λ c. cause_by (word_told past s.number w.number c) (standing_of s (state_of s past) w c) (heard_of w c) in
           let cands : cs ≡ candidates (side_in (running_job w)) (length s.repos) s.number (target_in s.number (running_job w)) = (λ i. candidates (sym (side_is w) i) (length s.repos) s.number (sym (target_is s.number w) i)) in
-          let knows_none : (c : ℕ) → offer_from s.repos past s.number w.number c ≡ Fails → Knowing.knows s (state_of s past) w c ≡ Fails = (λ c a. sym (knows_same s past w (list_agrees reads_back s past h w m) c) ∙ sym (asked_known s.repos past s.number w.number c run) ∙ a) in
-          let each = failures_each (IsCauseOf s.repos past s.number w.number cs) f g cs cs (λ c n. n) (λ c n fails. caused w m y.part_is y.last c n fails) in
-          let all = Each-from_members (λ c. offer_from s.repos past s.number w.number c ≡ Fails → Member (record { repo = c; cause = candidate_cause s.repos past s.number w.number c }) reasons) cs
-          (λ c n a. subst (Member (record { repo = c; cause = candidate_cause s.repos past s.number w.number c })) (sym reasons_are)
-          (subst (λ q. Member (record { repo = c; cause = q }) (failures f g cs)) (sym (why_is w m y.part_is y.last c n (knows_none c a))) (failures_have f g cs c n (knows_none c a)))) in
+          let listed : causes_known s (state_of s past) (word_told past s.number w.number) w ≡ failures (offer_from s.repos past s.number w.number) (candidate_cause s.repos past s.number w.number) cs =
+          sym (failures_same (offer_from s.repos past s.number w.number) (Knowing.knows s (state_of s past) w) (candidate_cause s.repos past s.number w.number)
+          (λ c. cause_by (word_told past s.number w.number c) (standing_of s (state_of s past) w c) (heard_of w c)) cs (λ c n. offers_same w m c) (λ c n fails. why_is w m y.part_is y.last c n fails)) in
+          let answered = Each-from_members (λ c. is_waiting (Drops.standing s.repos past s.number w.number c) (reply past s.number w.number c) (told_cause past s.number w.number c) ≡ false) cs (λ c n. none_waits w m y.part_is y.last c n) in
           record {
             d = job_of s past h w m;
             wants = (λ i. is_enough (side_is w i) (need_read past s.number w.number) (same i)) ∙ y.wants;
             proof_is = y.proof_is ∙ ap (proof_of (length s.repos) (need_read past s.number w.number)) (sym same);
-            causes = subst (λ ds. Each (IsCauseOf s.repos past s.number w.number ds) reasons) cands (subst (Each (IsCauseOf s.repos past s.number w.number cs)) (sym reasons_are) each);
-            all = subst (Each (λ c. offer_from s.repos past s.number w.number c ≡ Fails → Member (record { repo = c; cause = candidate_cause s.repos past s.number w.number c }) reasons)) cands all;
+            answered = subst (Each (λ c. is_waiting (Drops.standing s.repos past s.number w.number c) (reply past s.number w.number c) (told_cause past s.number w.number c) ≡ false)) cands answered;
+            causes_are = reasons_are ∙ listed ∙ ap (failures (offer_from s.repos past s.number w.number) (candidate_cause s.repos past s.number w.number)) cands;
           }
 
       settled : (x : Ending s past e j (Refused (refusals.Lacking proof reasons))) → DropSettled (turn_at s past e x.by) past (refusals.Lacking proof reasons) → ⊥

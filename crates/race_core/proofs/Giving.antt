@@ -28,8 +28,7 @@ use Rattle.race_core.proofs.ServerEnds.{GivesHere, Shuts, TakesHere, at_server}
 use Rattle.race_core.proofs.SaidDown.{said_is}
 use Rattle.race_core.proofs.NewSessions.{closed_new}
 use Rattle.race_core.proofs.TurnFits.{closes_opened}
-use Rattle.race_core.proofs.WayCounts.{hits, in_count, in_other, one_if, way_in}
-use Rattle.race_core.proofs.Filling.{on_hits, plus_none}
+use Rattle.race_core.proofs.WayCounts.{hits, in_count, in_other, on_hits, one_if, plus_none, way_in}
 
 -- ---- what makes a session give
 

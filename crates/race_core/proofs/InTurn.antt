@@ -27,10 +27,9 @@ use Rattle.run_model.specs.Run.{OwnRun}
 use Rattle.race_core.proofs.ServerEnds.{AtServer, GivesHere, Shuts, TakesHere, at_server}
 use Rattle.race_core.proofs.EndMoves.{NoOpening, OpensNone, all_epoch, all_opened, end_gave, end_own, end_shuts, end_took-is, frame_none, gave_none, gave_one, may_epoch, opening_closed, own_induction, pieces_none, sends_all, sent_gave, sent_took, session_own, shuts_none, taken_none, takes_epoch, took_at, took_none}
 use Rattle.race_core.proofs.NewSessions.{close_shuts, closed_new, new_left}
-use Rattle.race_core.proofs.WayCounts.{count_in, hits, in_count, in_other, one_if, out_count, out_other, way_in, way_out}
+use Rattle.race_core.proofs.WayCounts.{count_in, hits, in_count, in_other, one_if, out_count, out_other, plus_none, way_in, way_out}
 use Rattle.race_core.proofs.SaidDown.{said_closing, said_opening}
 use Rattle.race_core.proofs.TurnFits.{Fits, ReadsOne, answers_in, busy, frame_fits, one_answers, pieces_fit}
-use Rattle.race_core.proofs.Filling.{plus_none}
 
 -- each line that is sent down is read
 abbrev pub IsRead : Entry → Type 0

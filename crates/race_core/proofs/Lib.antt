@@ -36,7 +36,6 @@ pub mod WayCounts
 pub mod EndMoves
 pub mod NewSessions
 pub mod Guarding
-pub mod Filling
 pub mod Giving
 pub mod InvalidsTurn
 pub mod InvalidsFit
@@ -112,7 +111,6 @@ pub mod Refusals
 pub mod Standing
 pub mod StillKnown
 pub mod FreshSteps
-pub mod FillsStepped
 pub mod PutsUnder
 pub mod MovesLate
 pub mod DeniedWords
@@ -169,7 +167,6 @@ pub mod EvidenceCauses
 pub mod AnswerCauses
 pub mod AnswersFit
 pub mod ToldValues
-pub mod SessionsFill
 pub mod OrdersTold
 pub mod SourcesInOrder
 pub mod Caused

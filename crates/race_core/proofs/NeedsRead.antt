@@ -66,7 +66,8 @@ least_read reads_back run key place least h is = let t = least_removal run key p
 pub least_below : SentAreRead → (run : Run) (key : List ℕ) (place least m : ℕ) → IsRun run → least_need (removals_at run key place) ≡ Some least → IsReadBefore run key place m → least ≤ m
 least_below reads_back run key place least m h is w = subst (λ n. least ≤ n) (needs_read reads_back run key place m h w) (least_of_all run key place least w.removal is w.before)
 
-some_least : (xs : List Removal) (x : Removal) → Member x xs → (least : ℕ) × (least_need xs ≡ Some least)
+-- where there is a removal, there is a least need
+pub some_least : (xs : List Removal) (x : Removal) → Member x xs → (least : ℕ) × (least_need xs ≡ Some least)
 some_least [] x m = absurd m
 some_least (y ∷ xs) x m = (_, refl)
 

@@ -2,6 +2,7 @@
 use Rattle.std.proofs.Common.{◌≡◌, ◌≢◌, ℕ, Bool, true, false, List, [], ◌∷◌, Option, Some, None, inl, inr, refl, sym, ap, ◌∙◌, subst}
 use Rattle.std.specs.Prelude.{if◌then◌else◌, ◌&&◌, not}
 use Rattle.std.specs.List.{list_all}
+use Rattle.std.proofs.lemmas.Bool.{or_right}
 use Rattle.annex_base.specs.Lists.{Member}
 use Rattle.annex_base.specs.declared.kinds.Call.{Call}
 use Rattle.annex_base.proofs.Conditions.{if_either}
@@ -16,7 +17,7 @@ use Rattle.run_data.specs.declared.job.Outcome.TheVariants.{TransferRefused}
 use Rattle.run_data.specs.declared.job.TransferRefusal.TheVariants as failures
 use Rattle.node_model.specs.Rows.{is_lost_ordered}
 use Rattle.run_model.specs.Past.{is_of}
-use Rattle.run_model.specs.Logs.{has_stepped}
+use Rattle.run_model.specs.Logs.{has_stepped, is_step}
 use Rattle.p2p_wire.specs.declared.message.Message.TheVariants.{Put}
 use Rattle.p2p_wire.specs.Messages.{message_of, text_of}
 use Rattle.node_model.specs.SetUp.{SetUp}
@@ -39,7 +40,6 @@ use Rattle.race_core.proofs.ClientTurns.{made_entry, moved}
 use Rattle.race_core.proofs.ClientSteps.{attempts_even, release_is}
 use Rattle.race_core.proofs.GetsBegin.{no_release}
 use Rattle.race_core.proofs.EndReasons.{NextReason, Sets, kind_reason}
-use Rattle.race_core.proofs.FillsStepped.{stepped_more, stepped_now}
 use Rattle.race_core.proofs.FreshSteps.{at_start, plain_call, puts_was, unowned}
 use Rattle.race_core.proofs.BySteps.{earlier}
 
@@ -197,6 +197,12 @@ ended_stays s past e x b o at =
             (λ call h. subst (λ (c : Call). EndedBy o t' (quietly (Fault c (by_me t')) None) (Fault c (by_me t'))) (sym (release_is (owns_share t' && not (is_lost_ordered o)) call h)) refl) tt)
 
 -- ---- a job that has begun its part has made a step
+
+stepped_more : (past : List Entry) (e : Entry) (r j : ℕ) → has_stepped past r j ≡ true → has_stepped (e ∷ past) r j ≡ true
+stepped_more past e r j h = or_right (is_of r e && is_step j e.kind) (has_stepped past r j) h
+
+stepped_now : (past : List Entry) (e : Entry) (r j : ℕ) → is_of r e ≡ true → is_step j e.kind ≡ true → has_stepped (e ∷ past) r j ≡ true
+stepped_now past e r j is step = rw (is, step) refl
 
 pub stepped_on : (s : SetUp) (past : List Entry) → OwnRun s past → (w : Work) → Member w (works past s.number) → is_fresh w.phase ≡ false → has_stepped past s.number w.number ≡ true
 stepped_on s past run w m = invariant s (λ p x. is_fresh x.phase ≡ false → has_stepped p s.number x.number ≡ true) (λ p e is x n was later. stepped_more p e s.number x.number (was later)) own past run w m

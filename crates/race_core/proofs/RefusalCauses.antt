@@ -246,7 +246,7 @@ module _ (reads_back : SentAreRead) (s : SetUp) (past : List Entry) (words : ℕ
       ])
     where
       settled : (x : Ending s past e j (Refused refusals.StoreFault)) → DropSettled (turn_at s past e x.by) past refusals.StoreFault → HadFault past r x.by.w.number
-      settled x (inl z) = record { d = job_of s past h x.by.w x.runs; fault = z.1.0; not_own = z.1.1 }
+      settled x (inl z) = record { d = job_of s past h x.by.w x.runs; fault = z.1.0; not_release = z.1.1; not_own = z.1.2 }
       settled x (inr (inl z)) = absurd (same z.1)
         where
           same : {a : DenialOf} → Refused refusals.StoreFault ≡ Refused (refusals.Denied a) → ⊥

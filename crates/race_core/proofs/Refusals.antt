@@ -1,5 +1,5 @@
 -- Where a job stands refused, the entries tell why: by an invariant of the running jobs.
-use Rattle.std.proofs.Common.{◌≡◌, ℕ, true, false, List, [], ◌∷◌, Option, Some, None, ◌⊎◌, inl, inr, refl, sym, ap, ◌∙◌, subst}
+use Rattle.std.proofs.Common.{◌≡◌, ◌≢◌, ℕ, true, false, List, [], ◌∷◌, Option, Some, None, ◌⊎◌, inl, inr, refl, sym, ap, ◌∙◌, subst}
 use Rattle.std.specs.Prelude.{◌==◌, ◌&&◌, nat_lt, option_map, codes}
 use Rattle.std.proofs.lemmas.Bool.{eqb-true}
 use Rattle.annex_base.specs.declared.kinds.Call.TheVariants.{Unhold}
@@ -111,7 +111,7 @@ module _ (reads_back : SentAreRead) (s : SetUp) (past : List Entry) (e : Entry) 
 -- why a drop is to end refused, as its repository's entries tell
 abbrev pub DropStands : ℕ → List Entry → RunningJob → DropRefusal → Type 0
 DropStands r past j (refusals.OldProtocol n) = HearsMessage past r j.number (target_in r j) (Says (Version n)) × (nat_lt n 3 ≡ true)
-DropStands r past j refusals.StoreFault = (x : FailedCall past r j.number) × (side_in j ≡ Remote → is_first_step x.before r j.number x.entry ≡ false)
+DropStands r past j refusals.StoreFault = (x : FailedCall past r j.number) × (x.call ≢ Unhold) × (side_in j ≡ Remote → is_first_step x.before r j.number x.entry ≡ false)
 DropStands r past j (refusals.Lost ordered) = Unit {0}
 DropStands r past j refusal = ⊥
 
@@ -160,7 +160,7 @@ module _ (r : ℕ) (e : Entry) (past : List Entry) (j : RunningJob) where
   drop_grows : (refusal : DropRefusal) → DropStands r past j refusal → DropStands r (e ∷ past) j refusal
   unfolding failed_grows
   drop_grows (refusals.OldProtocol n) x = (hears_grows (target_in r j) (Says (Version n)) x.0, x.1)
-  drop_grows refusals.StoreFault x = (failed_grows x.0, x.1)
+  drop_grows refusals.StoreFault x = (failed_grows x.0, x.1, x.2)
   drop_grows (refusals.Lost ordered) x = tt
   drop_grows refusal x = absurd x
 

@@ -179,6 +179,7 @@ module _ (reads_back : SentAreRead) (s : SetUp) (p : List Entry) (e : Entry) (h 
   unfolding failed
   fault_now part k later = (
     failed k,
+    k.not_release,
     λ remote.
         let read = (at_targets reads_back s p before v runs).1 part (later (sym (side_is v) ∙ remote)) in
         and_off (is_of r e) (is_step v.number e.kind) (in_drop p r v.number) (option_is_none (before_step p r v.number)) (ap option_is_none read.1),

@@ -151,7 +151,7 @@ module _ (reads_back : SentAreRead) (s : SetUp) (p : List Entry) (e : Entry) (h 
     t = turn_at s p e b.by
 
     list : ListOrNext v x
-    list = subst (ListOrNext v) (sym b.work_is) (kind_carries (rows_at p s.number) s.number v e e.kind).3
+    list = subst (ListOrNext v) (sym b.work_is) (kind_carries (rows_at p s.number) s.number v e e.kind).2
 
     set_same : clock_set s.repos (e ∷ p) s.number ≡ clock_set s.repos p s.number
     set_same = clock_kept s.repos p s.number e (stepped_stands s p e b.by)

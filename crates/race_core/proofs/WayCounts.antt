@@ -1,5 +1,5 @@
 -- What an own entry adds to the counts of the ways at one of its repository's ends.
-use Rattle.std.proofs.Common.{◌≡◌, ℕ, ◌+◌, Bool, true, false, List, ◌∷◌, length, Option, Some, None, refl, sym, ap, ◌∙◌, length-append, add-zero}
+use Rattle.std.proofs.Common.{◌≡◌, ℕ, ◌+◌, Bool, true, false, List, ◌∷◌, length, Option, Some, None, refl, sym, ap, ◌∙◌, length-append, add-zero, arith}
 use Rattle.std.proofs.lemmas.List.{length-map}
 use Rattle.std.specs.Prelude.{◌&&◌, ◌==◌, filter, map, if◌then◌else◌}
 use Rattle.std.proofs.lemmas.List.Elements.{filter-append}
@@ -9,7 +9,7 @@ use Rattle.annex_base.specs.Bools.{same_bool}
 use Rattle.run_data.specs.declared.entry.Entry.{Entry}
 use Rattle.run_data.specs.declared.entry.FrameView.{FrameView}
 use Rattle.run_model.specs.Past.{is_of}
-use Rattle.run_model.specs.Said.{Said}
+use Rattle.run_model.specs.Said.{Said, is_request, message_in}
 use Rattle.run_model.specs.Frames.{Way, FlyingFrame, flying_frame, is_on, on_way, sender_of, taker_of, frames_sent, sent_if, says, taken_if, takes_if}
 use Rattle.node_model.specs.Ends.{EndName, sends_at, sent_at, taken_at, takes_at}
 use Rattle.race_core.proofs.Plain.{filter_map}
@@ -110,3 +110,11 @@ in_count q r a n e past is = ap (λ b. if b then taken_if q past (way_in r a n) 
 
 pub in_other : (q : Said → Bool) (r : ℕ) (a : EndName) (n : ℕ) (e : Entry) (past : List Entry) → is_of r e ≡ false → taken_if q (e ∷ past) (way_in r a n) ≡ taken_if q past (way_in r a n)
 in_other q r a n e past is = let no : is_of (taker_of (way_in r a n)) e ≡ false = ap (λ k. is_of k e) (in_taker-is r a n) ∙ is in rw no refl
+
+-- ---- an entry that adds nothing, and one that adds a request
+
+pub plus_none : (x y : ℕ) → y ≡ 0 → x + y ≡ x
+plus_none x y z = omega (arith, z)
+
+pub on_hits : (f : FrameView) → is_request (message_in f.body) ≡ true → one_if (hits is_request f.epoch (Some f)) ≡ 1
+on_hits f e = let self : (f.epoch == f.epoch) ≡ true = grind arith in rw (self, e) refl

@@ -1,7 +1,7 @@
 -- Why a drop or a transfer was refused: the entries and the values that its outcome rests on stand in the run (own).
-use Rattle.std.specs.Prelude.{◌≡◌, ◌≢◌, ◌⊎◌, ℕ, ◌+◌, ◌<◌, ◌≤◌, Bool, true, false, ◌&&◌, List, [], ◌∷◌, filter, length, map, reverse, Option, Some, None, codes}
+use Rattle.std.specs.Prelude.{◌≡◌, ◌≢◌, ◌⊎◌, ℕ, ◌<◌, ◌≤◌, Bool, true, false, ◌&&◌, List, [], ◌∷◌, filter, length, map, reverse, Option, Some, None, codes}
 use Rattle.std.specs.List.{list_any, range_with_len}
-use Rattle.annex_base.specs.Lists.{Each, Member}
+use Rattle.annex_base.specs.Lists.{Each}
 use Rattle.annex_base.specs.declared.kinds.Call.{Call}
 use Rattle.annex_base.specs.declared.kinds.Call.TheVariants.{PutFile, Unhold}
 use Rattle.annex_base.specs.declared.kinds.Found.TheVariants as found
@@ -31,18 +31,21 @@ use Rattle.run_data.specs.declared.job.SourceCause.TheVariants as sources
 use Rattle.run_data.specs.declared.job.SourceFailure.{SourceFailure}
 use Rattle.run_data.specs.declared.job.TransferRefusal.{TransferRefusal}
 use Rattle.run_data.specs.declared.job.TransferRefusal.TheVariants as failures
-use Rattle.run_model.specs.Past.{Occurs, bar, begun_job, clock, holds, is_of, jobs, present, is_running}
+use Rattle.run_model.specs.Past.{Occurs, bar, begun_job, clock, holds, is_of, jobs, present}
 use Rattle.node_model.specs.Rows.{blocks}
 use Rattle.p2p_wire.specs.declared.message.Message.TheVariants.{Error, Failure, Get, Invalid, Put, PutFrom, Valid, Version}
 use Rattle.p2p_wire.specs.Messages.{order_of}
-use Rattle.run_model.specs.Said.{Said, Says, CloseIt, is_request, message_in}
-use Rattle.run_model.specs.Frames.{FlyingFrame, MayTake, SendingEntry, is_job, last_request, said_of, says, sender, taken_if, up_of, way_of}
+use Rattle.run_model.specs.Said.{Said, Says, CloseIt, message_in}
+use Rattle.run_model.specs.Frames.{FlyingFrame, MayTake, SendingEntry, is_job, last_request, said_of, says, sender, up_of, way_of}
 use Rattle.run_model.specs.Logs.{before_step, has_stepped, in_drop, need_read}
-use Rattle.run_model.specs.States.{content}
-use Rattle.run_model.specs.Drops.{evidence, offer_from, in_slot, is_first_step, shuts, standing, candidate_cause, told_cause}
-use Rattle.node_model.specs.Evidence.{candidates, but, is_locked, proof_of, Fails, Ignored}
+use Rattle.run_model.specs.States.{content, state_of}
+use Rattle.run_model.specs.Drops.{evidence, offer_from, in_slot, is_first_step, is_waiting, reply, shuts, standing, candidate_cause, told_cause}
+use Rattle.node_model.specs.Evidence
+use Rattle.node_model.specs.Evidence.{candidates, but, is_locked, proof_of}
 use Rattle.node_model.specs.DropStep
 use Rattle.node_model.specs.Jobs.{drop_side, or_own}
+use Rattle.node_model.specs.SessionStep.{is_filled}
+use Rattle.node_model.specs.SetUp.{SetUp}
 
 -- ---- a job, and its drop
 
@@ -87,23 +90,19 @@ pub record FoundBarred (past : List Entry) (r j other : ℕ) : Type 0 where
 abbrev pub items : (repos : List RepoView) (past : List Entry) (r j : ℕ) → JobOf past r j → List Evidence
 items repos past r j d = evidence (side_of d) repos past r j (target_of d) (need_read past r j)
 
--- the candidate gave nothing, and an entry told the job why, or the logs did
-pub record IsCauseOf (repos : List RepoView) (past : List Entry) (r j : ℕ) (cs : List ℕ) (x : CandidateCause) : Type 0 where
-  pub candidate : Member x.repo cs
-  pub failed : offer_from repos past r j x.repo ≡ Fails
-  pub told : (told_cause past r j x.repo ≡ Some x.cause) ⊎ (standing repos past r j x.repo ≡ Ignored x.cause)
-
--- each candidate gave evidence or a cause, the evidence is not enough, and the outcome states both
+-- none of the candidates is still waited for, the evidence is not enough, and the outcome states it, with one cause for each candidate that
+-- gave nothing, in the order in which they are asked
 pub record FoundLacking (repos : List RepoView) (past : List Entry) (r j : ℕ) (proof : Proof) (reasons : List CandidateCause) : Type 0 where
   pub d : JobOf past r j
+  pub answered : Each (λ c. is_waiting (standing repos past r j c) (reply past r j c) (told_cause past r j c) ≡ false) (candidates (side_of d) (length repos) r (target_of d))
   pub wants : is_enough (side_of d) (need_read past r j) (items repos past r j d) ≡ false
   pub proof_is : proof ≡ proof_of (length repos) (need_read past r j) (items repos past r j d)
-  pub causes : Each (IsCauseOf repos past r j (candidates (side_of d) (length repos) r (target_of d))) reasons
-  pub all : Each (λ c. offer_from repos past r j c ≡ Fails → Member (record { repo = c; cause = candidate_cause repos past r j c }) reasons) (candidates (side_of d) (length repos) r (target_of d))
+  pub causes_are : reasons ≡ Evidence.failures (offer_from repos past r j) (candidate_cause repos past r j) (candidates (side_of d) (length repos) r (target_of d))
 
--- the clock wasn't below the first end of the locked items: now, or as the release of the own share failed
+-- the evidence is enough, but the clock wasn't below the first end of its locked items: now, or as the release of the own share failed
 pub record FoundExpired (repos : List RepoView) (past : List Entry) (r j time end clk : ℕ) : Type 0 where
   pub d : JobOf past r j
+  pub enough : is_enough (side_of d) (need_read past r j) (items repos past r j d) ≡ true
   pub first : least_end (items repos past r j d) ≡ Some end
   pub late : end ≤ clk
   pub when : (clk ≡ clock repos past r time)
@@ -176,9 +175,10 @@ pub record WasLost (past : List Entry) (r j : ℕ) (ordered : Bool) : Type 0 whe
   pub closed : ClosedWith past r j (target_of d)
   pub ordered_is : list_any (λ e. is_job r j e && is_order e.kind) past ≡ ordered
 
--- the target speaks a version without deadlines, and there is a lock
+-- the evidence is enough, but the target speaks a version without deadlines, and there is a lock
 pub record FoundOld (repos : List RepoView) (past : List Entry) (r j version : ℕ) : Type 0 where
   pub d : JobOf past r j
+  pub enough : is_enough (side_of d) (need_read past r j) (items repos past r j d) ≡ true
   pub hears : HearsMessage past r j (target_of d) (Says (Version version))
   pub old : version < 3
   pub locked : list_any (λ i. is_locked i.kind) (items repos past r j d) ≡ true
@@ -195,10 +195,11 @@ pub record FailedCall (past : List Entry) (r j : ℕ) : Type 0 where
   pub kind_is : entry.kind ≡ Fault call (by_job j)
   pub not_owed : call ≢ PutFile
 
--- and other than for its own share in a remote drop
+-- and other than to release its own share, or in a remote drop to take it
 pub record HadFault (past : List Entry) (r j : ℕ) : Type 0 where
   pub d : JobOf past r j
   pub fault : FailedCall past r j
+  pub not_release : fault.call ≢ Unhold
   pub not_own : side_of d ≡ Remote → is_first_step fault.before r j fault.entry ≡ false
 
 -- The cause of a drop's refusal. Required content is not refused yet; a crash ends its jobs without an entry of theirs.
@@ -275,40 +276,17 @@ pub record FoundNoSource (repos : List RepoView) (past : List Entry) (r j : ℕ)
   pub all : map (λ x. x.repo) reasons ≡ sources_of r (length repos) d.what.peer
   pub causes : Each (λ x. SourceCauseOf past r j d.what.key x.repo x.cause) reasons
 
--- another get of the key runs here, and has made a step
-pub record FillsByGet (past : List Entry) (r : ℕ) (key : List ℕ) : Type 0 where
-  pub other : ℕ
-  pub d : JobOf past r other
-  pub runs_it : is_running (jobs past r) other ≡ true
-  pub kind_is : is_get d.what.kind ≡ true
-  pub key_is : d.what.key ≡ key
-  pub begun : has_stepped past r other ≡ true
-
-abbrev pub is_put_from : Said → Bool
-is_put_from (Says (PutFrom n)) = true
-is_put_from _ = false
-
--- a client was told to send the content, and nothing else was asked on that connection since
-pub record FillsByPut (past : List Entry) (r : ℕ) (key : List ℕ) : Type 0 where
-  pub entry : Entry
-  pub before : List Entry
-  pub occurs : Occurs past entry before
-  pub own : is_of r entry ≡ true
-  pub f : FrameView
-  pub takes_it : entry.taken ≡ Some f
-  pub from_client : f.up ≡ true
-  pub file : List ℕ
-  pub asked : message_in f.body ≡ Says (Put file key)
-  pub answered : list_any (says is_put_from) entry.sent ≡ true
-  pub last : taken_if is_request past (way_of r f) ≡ taken_if is_request before (way_of r f) + 1
+-- a session or another get of r takes the bytes of the key. Of the set-up this reads no paths
+abbrev pub is_filled_at : List RepoView → List Entry → ℕ → List ℕ → Bool
+is_filled_at repos past r key = let s : SetUp = record { number = r; repos = repos; paths = λ j. [] } in is_filled s (state_of s past) key
 
 -- a get's first step found the content absent, and being filled
-pub record FoundFilled (past : List Entry) (r j : ℕ) : Type 0 where
+pub record FoundFilled (repos : List RepoView) (past : List Entry) (r j : ℕ) : Type 0 where
   pub d : JobOf past r j
   pub kind_is : is_get d.what.kind ≡ true
   pub first : has_stepped past r j ≡ false
   pub absent : present past r d.what.key ≡ false
-  pub filled : FillsByGet past r d.what.key ⊎ FillsByPut past r d.what.key
+  pub filled : is_filled_at repos past r d.what.key ≡ true
 
 -- a copy's peer answered that the key is being filled there
 pub record WasBusy (past : List Entry) (r j : ℕ) : Type 0 where
@@ -358,7 +336,7 @@ pub record WasRejected (past : List Entry) (r j : ℕ) : Type 0 where
 abbrev pub TransferCauseOf : List RepoView → List Entry → ℕ → ℕ → TransferRefusal → Type 0
 TransferCauseOf repos past r j failures.NotHere = FoundNotHere past r j
 TransferCauseOf repos past r j (failures.NoSource reasons) = FoundNoSource repos past r j reasons
-TransferCauseOf repos past r j failures.Busy = FoundFilled past r j ⊎ WasBusy past r j
+TransferCauseOf repos past r j failures.Busy = FoundFilled repos past r j ⊎ WasBusy past r j
 TransferCauseOf repos past r j failures.Closed = WasClosed past r j
 TransferCauseOf repos past r j failures.Rejected = WasRejected past r j
 TransferCauseOf repos past r j failures.StoreFault = FailedCall past r j

@@ -142,7 +142,7 @@ cause_by_sender (Some s) = or_fault (cause_of_kind s.entry.kind)
 
 -- a frame says why the server gives nothing: it closes the connection, or refuses a look that was asked for last
 abbrev pub cause_said : Said → Option Said → Option SendingEntry → Option Cause
-cause_said CloseIt offer_from s = Some Closed
+cause_said CloseIt asked s = Some Closed
 cause_said (Says Failure) (Some (Says (CheckPresent key))) s = Some (cause_by_sender s)
 cause_said _ _ s = None
 
@@ -159,7 +159,8 @@ abbrev pub cause_closed : List RunningJob → ℕ → ℕ → EntryKind → Opti
 cause_closed js j r (Close peer slot true) = if (peer == r) && in_slot js j slot then Some Closed else None
 cause_closed js j r _ = None
 
--- a drop whose first step is no share of its own found its content absent or barred, or a store's fault
+-- a drop whose first step is no share of its own found its content absent or barred, or a store's fault. Where the logs claim or ignore its
+-- own repository that step tries nothing; offer and cause_by go by the logs then, and read no such cause
 abbrev pub cause_own : Bool → EntryKind → Option Cause
 cause_own there (Talk job) = Some (if there then Barred else Absent)
 cause_own there (fault_entry call by) = Some Fault
@@ -215,12 +216,13 @@ offer clock Asked v = vouch_offer clock v
 abbrev pub offer_from : List RepoView → List Entry → ℕ → ℕ → ℕ → Offer
 offer_from repos past a j r = offer (clock repos past a) (standing repos past a j r) (reply past a j r)
 
--- the candidate is to be asked, and has told nothing yet
+-- the candidate is to be asked, and the job has been told nothing of it yet: neither a vouch nor why there is none
 abbrev pub is_waiting : {X Y : Type 0} → Standing → Option X → Option Y → Bool
 is_waiting Asked None None = true
 is_waiting _ _ _ = false
 
--- job j of a still waits for what r tells; its own repository it has tried before it asks any other
+-- job j of a still waits for what r tells, up to the close of their connection, which is a cause too; its own repository it has tried before
+-- it asks any other
 abbrev pub waits : List RepoView → List Entry → ℕ → ℕ → ℕ → Bool
 waits repos past a j r = not (r == a) && is_waiting (standing repos past a j r) (reply past a j r) (told_cause past a j r)
 

@@ -96,7 +96,7 @@ abbrev pub starts_drop : List Entry → ℕ → ℕ → Entry → EntryKind → 
 starts_drop past a j e (Begin job what) = (job == j) && is_drop what.kind
 starts_drop past a j e kind = ends_transfer past a j e kind
 
--- job j of a is a drop, or a move that is done with its transfer
+-- job j of a is a drop, or is done with its transfer: then a move drops, and a get or a copy ends
 abbrev pub in_drop : List Entry → ℕ → ℕ → Bool
 in_drop [] a j = false
 in_drop (e ∷ past) a j = in_drop past a j || (is_of a e && starts_drop past a j e e.kind)

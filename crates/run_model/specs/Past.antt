@@ -1,6 +1,5 @@
 -- What the entries so far say of each repository (own).
 use Rattle.std.specs.Prelude.{◌≡◌, ◌⊎◌, ℕ, ◌+◌, Bool, false, not, ◌&&◌, if◌then◌else◌, ◌==◌, List, [], ◌∷◌, length, filter, Option, Some, None}
-use Rattle.std.specs.List.{list_any}
 use Rattle.run_data.specs.declared.entry.Entry.{Entry}
 use Rattle.run_data.specs.declared.run.RepoView.{RepoView}
 use Rattle.run_data.specs.Repos.{offset_of}
@@ -81,10 +80,6 @@ jobs_after js _ = js
 abbrev pub jobs : List Entry → ℕ → List RunningJob
 jobs [] r = []
 jobs (e ∷ past) r = if is_of r e then jobs_after (jobs past r) e.kind else jobs past r
-
--- the job is among the running ones
-abbrev pub is_running : List RunningJob → ℕ → Bool
-is_running js job = list_any (λ j. j.number == job) js
 
 -- the bar of a local drop, which is its decision: where it stands, on what, and how many copies are needed
 pub record Decision : Type 0 where

@@ -46,7 +46,7 @@ abbrev pub repo_number : Option ℕ → ℕ
 repo_number None = 0
 repo_number (Some r) = r
 
--- after the newest entry, by count and then by number
+-- after the newest entry, by time, then by count and then by number
 abbrev pub ComesAfter : List Entry → Entry → Type 0
 ComesAfter [] e = Unit {0}
 ComesAfter (f ∷ past) e = (f.time < e.time) ⊎ ((f.count < e.count) ⊎ ((f.count ≡ e.count) × (repo_number f.repo < repo_number e.repo)))
