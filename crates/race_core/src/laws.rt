@@ -12,11 +12,15 @@ ghost use Rattle.annex_base.specs.Lists.{Member};
 ghost use Rattle.run_model.specs.Past.{present};
 ghost use Rattle.run_model.specs.Safety.{IsSafe, Removal, least_need, past_at, within};
 ghost use Rattle.run_model.specs.Run.{IsRun};
+ghost use Rattle.race_core.specs.Copies.{KeepsCopies};
 ghost use Rattle.race_core.specs.Lawful.{IsLawful};
 ghost use Rattle.race_core.specs.Places.{claim_at, count_at, removal_at, removals_at};
 ghost use Rattle.race_core.specs.Readings.{IsFirstStep, IsLocalRemoval, Judge, claim_read, judge_at, key_read, level_read};
 ghost use Rattle.trust_groups.specs.Settings.{settings};
 
+use crate::claims::{least_is_what_drops_read, removals_are_of_entries};
+use crate::drops::each_removal_is_one_drops;
+use crate::evidence::removals_leave_as_many;
 use log_lines::{compaction_keeps_the_reading, readings_depend_on_the_set};
 use p2p_wire::sent_messages_are_read;
 use run_data::paths_tell_their_kind;
@@ -38,6 +42,22 @@ pub fn runs_are_safe()
 {
     // a law, for the proof that runs are lawful: each message that is sent is read from its line
     sent_messages_are_read();
+}
+
+/// Each run keeps the last copies, by what its drops read: once a key was dropped anywhere, its copies, with the claims that
+/// its drops trusted, are no fewer than the least mincopies that they read; a drop leaves at least as many, so counted, as its
+/// locked and trusted items; and each removal is one drop's, with evidence enough for what it read that it needs
+/// (git-annex-numcopies, git-annex-mincopies; counting claims is own).
+pub fn runs_keep_copies()
+    ensures { (run : Run) → IsRun run → KeepsCopies run }
+{
+    // Laws, of which these are the fields: the least number that was read, what a removal leaves, its evidence and its need.
+    removals_are_of_entries();
+    least_is_what_drops_read();
+    removals_leave_as_many();
+    each_removal_is_one_drops();
+    ignored_never_count();
+    drops_read_their_need();
 }
 
 /// Each drop and each transfer of a run that was refused has its cause there: by its row, by a candidate or a source, by
