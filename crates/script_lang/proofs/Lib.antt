@@ -2,6 +2,7 @@
 pub mod GroupLemmas
 pub mod LawLemmas
 pub mod LineLemmas
+pub mod MemoryLemmas
 pub mod PieceLemmas
 pub mod StepLemmas
 pub mod KeyLemmas

@@ -29,7 +29,8 @@ pub use changes::{Change, change_of};
 pub use command::{BlockLine, Command, NamedKey};
 pub use fault::{Quantity, ScriptFault};
 pub use laws::{
-    first_faults_are_told, later_lines_change_no_fault, right_lines_say_their_commands,
+    each_text_says_one_thing, first_faults_are_told, later_lines_change_no_fault,
+    lines_never_want_memory, right_lines_say_their_commands,
 };
 pub use numbering::line_numbers;
 pub use script::Script;

@@ -1,4 +1,4 @@
-//! Laws of the commands that a text says, which no call depends on.
+//! Laws of the commands that a text says: each is the contract of a function that does nothing.
 ghost use Rattle.std.specs.Prelude.{◌≡◌, ◌+◌, ◌≤◌, List, ℕ, length};
 ghost use Rattle.script_lang.specs.declared.command.Command.{Command};
 ghost use Rattle.script_lang.specs.Numbering.{line_numbers};
