@@ -109,10 +109,12 @@ impl<K: Keeper> Nodes<K> {
         ensures err { AtNode repo self.old self.new (λ was now. IfErr result (λ e. RefusesSo e calls.PutFile was now)) }
         ensures contents { AtNode repo self.old self.new (λ was now. K.contents now.keeper ≡ K.contents was.keeper) }
         ensures parts { AtNode repo self.old self.new (λ was now. K.parts now.keeper ≡ K.parts was.keeper) }
+        ensures records { AtNode repo self.old self.new (λ was now. K.records now.keeper ≡ K.records was.keeper) }
         ensures later { AtNode repo self.old self.new (λ was now. K.faults was.keeper ≤ K.faults now.keeper) }
         ensures cause { AtNode repo self.old self.new (λ was now. IsErrOf result NodeRefused.StoreFault → Rose (K.faults was.keeper) (K.faults now.keeper)) }
         ensures calls { AtNode repo self.old self.new (λ was now. Makes (to_log was (file_of path.now) (line.now ∷ [])) calls.PutFile result (K.failing was.keeper) (K.failing now.keeper)) }
         ensures full { AtNode repo self.old self.new (λ was now. IsErrOf result NodeRefused.Full → lacks_some was (file_of path.now) (line.now ∷ []) ≡ true) }
+        ensures unasked { AtNode repo self.old self.new (λ was now. IsErrOf result NodeRefused.Full → now.keeper ≡ was.keeper) }
         ensures others { (i : ℕ) → i ≢ repo → slice_get self.new i ≡ slice_get self.old i }
         ensures count { length self.new ≡ length self.old }
     {
@@ -136,10 +138,12 @@ impl<K: Keeper> Nodes<K> {
         ensures err { AtNode repo self.old self.new (λ was now. IfErr result (λ e. RefusesSo e calls.PutFile was now)) }
         ensures contents { AtNode repo self.old self.new (λ was now. K.contents now.keeper ≡ K.contents was.keeper) }
         ensures parts { AtNode repo self.old self.new (λ was now. K.parts now.keeper ≡ K.parts was.keeper) }
+        ensures records { AtNode repo self.old self.new (λ was now. K.records now.keeper ≡ K.records was.keeper) }
         ensures later { AtNode repo self.old self.new (λ was now. K.faults was.keeper ≤ K.faults now.keeper) }
         ensures cause { AtNode repo self.old self.new (λ was now. IsErrOf result NodeRefused.StoreFault → Rose (K.faults was.keeper) (K.faults now.keeper)) }
         ensures calls { AtNode repo self.old self.new (λ was now. Makes (to_log was (log_of kind (option_copied key.entry)) (line_text kind (stamped_by was kind (option_copied key.entry) entry.now) ∷ [])) calls.PutFile result (K.failing was.keeper) (K.failing now.keeper)) }
         ensures full { AtNode repo self.old self.new (λ was now. IsErrOf result NodeRefused.Full → lacks_some was (log_of kind (option_copied key.entry)) (line_text kind (stamped_by was kind (option_copied key.entry) entry.now) ∷ []) ≡ true) }
+        ensures unasked { AtNode repo self.old self.new (λ was now. IsErrOf result NodeRefused.Full → now.keeper ≡ was.keeper) }
         ensures others { (i : ℕ) → i ≢ repo → slice_get self.new i ≡ slice_get self.old i }
         ensures count { length self.new ≡ length self.old }
     {
@@ -156,6 +160,7 @@ impl<K: Keeper> Nodes<K> {
         ensures err { (other : NodeView K) → slice_get self.old from ≡ Some other → AtNode repo self.old self.new (λ was now. IfErr result (λ e. StopsAfter (merge_files was) other.branch e now)) }
         ensures contents { AtNode repo self.old self.new (λ was now. K.contents now.keeper ≡ K.contents was.keeper) }
         ensures parts { AtNode repo self.old self.new (λ was now. K.parts now.keeper ≡ K.parts was.keeper) }
+        ensures records { AtNode repo self.old self.new (λ was now. K.records now.keeper ≡ K.records was.keeper) }
         ensures later { AtNode repo self.old self.new (λ was now. K.faults was.keeper ≤ K.faults now.keeper) }
         ensures cause { AtNode repo self.old self.new (λ was now. IsErrOf result NodeRefused.StoreFault → Rose (K.faults was.keeper) (K.faults now.keeper)) }
         ensures calls { (other : NodeView K) → slice_get self.old from ≡ Some other → AtNode repo self.old self.new (λ was now. Makes (to_merge was other.branch) calls.PutFile result (K.failing was.keeper) (K.failing now.keeper)) }
@@ -181,6 +186,7 @@ impl<K: Keeper> Nodes<K> {
         ensures unread { (at : ℕ) → IsFirstWrong bytes.now at → AtNode repo self.old self.new (λ was now. now ≡ was) }
         ensures contents { AtNode repo self.old self.new (λ was now. K.contents now.keeper ≡ K.contents was.keeper) }
         ensures parts { AtNode repo self.old self.new (λ was now. K.parts now.keeper ≡ K.parts was.keeper) }
+        ensures records { AtNode repo self.old self.new (λ was now. K.records now.keeper ≡ K.records was.keeper) }
         ensures later { AtNode repo self.old self.new (λ was now. K.faults was.keeper ≤ K.faults now.keeper) }
         ensures cause { AtNode repo self.old self.new (λ was now. IsErrOf result NodeRefused.StoreFault → Rose (K.faults was.keeper) (K.faults now.keeper)) }
         ensures calls { (files : Files) → IsBundle bytes.now files → AtNode repo self.old self.new (λ was now. Makes (to_merge was files) calls.PutFile result (K.failing was.keeper) (K.failing now.keeper)) }
@@ -203,6 +209,7 @@ impl<K: Keeper> Nodes<K> {
         ensures err { AtNode repo self.old self.new (λ was now. IfErr result (λ e. StopsAfter (compact_files was) (keys_of was.branch) e now)) }
         ensures contents { AtNode repo self.old self.new (λ was now. K.contents now.keeper ≡ K.contents was.keeper) }
         ensures parts { AtNode repo self.old self.new (λ was now. K.parts now.keeper ≡ K.parts was.keeper) }
+        ensures records { AtNode repo self.old self.new (λ was now. K.records now.keeper ≡ K.records was.keeper) }
         ensures later { AtNode repo self.old self.new (λ was now. K.faults was.keeper ≤ K.faults now.keeper) }
         ensures cause { AtNode repo self.old self.new (λ was now. IsErrOf result NodeRefused.StoreFault → Rose (K.faults was.keeper) (K.faults now.keeper)) }
         ensures calls { AtNode repo self.old self.new (λ was now. Makes (to_compact was) calls.PutFile result (K.failing was.keeper) (K.failing now.keeper)) }
@@ -222,6 +229,7 @@ impl<K: Keeper> Nodes<K> {
         requires right { MatchesKey key.now bytes.now }
         ensures ok { AtNode repo self.old self.new (λ was now. OnOk result (IsPlaced key.now bytes.now (K.contents was.keeper) (K.parts was.keeper) (K.contents now.keeper) was now)) }
         ensures err { AtNode repo self.old self.new (λ was now. IfErr result (λ e. StopsPlacing key.now bytes.now (K.contents was.keeper) (K.parts was.keeper) (K.contents now.keeper) e was now)) }
+        ensures records { AtNode repo self.old self.new (λ was now. K.records now.keeper ≡ K.records was.keeper) }
         ensures later { AtNode repo self.old self.new (λ was now. K.faults was.keeper ≤ K.faults now.keeper) }
         ensures cause { AtNode repo self.old self.new (λ was now. IsErrOf result NodeRefused.StoreFault → Rose (K.faults was.keeper) (K.faults now.keeper)) }
         ensures done { AtNode repo self.old self.new (λ was now. OnOk result (IsDoneBy to_place key.now [] was.parts.table (K.contents was.keeper) (K.parts was.keeper) (K.parts now.keeper) (K.failing was.keeper) (K.failing now.keeper))) }
@@ -243,6 +251,7 @@ impl<K: Keeper> Nodes<K> {
         ensures part { AtNode repo self.old self.new (λ was now. OnOk result ((taken : Bool) × IsTaken taken (K.contents was.keeper) was.parts.table key.now × PartAfter taken key.now bytes.now (K.parts was.keeper) (K.parts now.keeper))) }
         ensures err { AtNode repo self.old self.new (λ was now. IfErr result (λ e. StopsBefore e was now)) }
         ensures contents { AtNode repo self.old self.new (λ was now. K.contents now.keeper ≡ K.contents was.keeper) }
+        ensures records { AtNode repo self.old self.new (λ was now. K.records now.keeper ≡ K.records was.keeper) }
         ensures later { AtNode repo self.old self.new (λ was now. K.faults was.keeper ≤ K.faults now.keeper) }
         ensures cause { AtNode repo self.old self.new (λ was now. IsErrOf result NodeRefused.StoreFault → Rose (K.faults was.keeper) (K.faults now.keeper)) }
         ensures done { AtNode repo self.old self.new (λ was now. OnOk result (IsDoneBy to_place_part key.now bytes.now was.parts.table (K.contents was.keeper) (K.parts was.keeper) (K.parts now.keeper) (K.failing was.keeper) (K.failing now.keeper))) }

@@ -71,6 +71,7 @@ impl<K: Keeper> Node<K> {
         ensures err { IfErr result (λ e. RefusesSo e calls.PutFile self.old self.new) }
         ensures contents { K.contents self.new.keeper ≡ K.contents self.old.keeper }
         ensures parts { K.parts self.new.keeper ≡ K.parts self.old.keeper }
+        ensures records { K.records self.new.keeper ≡ K.records self.old.keeper }
         ensures later { K.faults self.old.keeper ≤ K.faults self.new.keeper }
         ensures cause { IsErrOf result NodeRefused.StoreFault → Rose (K.faults self.old.keeper) (K.faults self.new.keeper) }
         ensures calls { Makes (calls.PutFile ∷ []) calls.PutFile result (K.failing self.old.keeper) (K.failing self.new.keeper) }
@@ -101,6 +102,7 @@ impl<K: Keeper> Node<K> {
         ensures err { IfErr result (λ e. RefusesSo e calls.PutFile self.old self.new) }
         ensures contents { K.contents self.new.keeper ≡ K.contents self.old.keeper }
         ensures parts { K.parts self.new.keeper ≡ K.parts self.old.keeper }
+        ensures records { K.records self.new.keeper ≡ K.records self.old.keeper }
         ensures later { K.faults self.old.keeper ≤ K.faults self.new.keeper }
         ensures cause { IsErrOf result NodeRefused.StoreFault → Rose (K.faults self.old.keeper) (K.faults self.new.keeper) }
         ensures calls { Makes (to_write (shrinks self.old (file_of path.now))) calls.PutFile result (K.failing self.old.keeper) (K.failing self.new.keeper) }
@@ -129,6 +131,7 @@ impl<K: Keeper> Node<K> {
         ensures err { IfErr result (λ e. StopsAfter (compact_files self.old) (keys_of self.old.branch) e self.new) }
         ensures contents { K.contents self.new.keeper ≡ K.contents self.old.keeper }
         ensures parts { K.parts self.new.keeper ≡ K.parts self.old.keeper }
+        ensures records { K.records self.new.keeper ≡ K.records self.old.keeper }
         ensures later { K.faults self.old.keeper ≤ K.faults self.new.keeper }
         ensures cause { IsErrOf result NodeRefused.StoreFault → Rose (K.faults self.old.keeper) (K.faults self.new.keeper) }
         ensures calls { Makes (to_compact self.old) calls.PutFile result (K.failing self.old.keeper) (K.failing self.new.keeper) }

@@ -115,6 +115,7 @@ impl Past {
         ensures failed { result ≡ NodeRefused.StoreFault → fault ≡ faults.Failed }
         ensures told { fault ≡ faults.Failed → result ≡ NodeRefused.StoreFault }
         ensures answer { result ≡ refusal_of fault }
+        ensures not_full { result ≡ NodeRefused.Full → ⊥ }
     {
         match fault {
             KeeperFault::NoMemory => NodeRefused::NoMemory,

@@ -87,9 +87,11 @@ impl<K: Keeper> Node<K> {
         ensures err { IfErr result (λ e. RefusesFor by e calls.PutFile self.old self.new) }
         ensures contents { K.contents self.new.keeper ≡ K.contents self.old.keeper }
         ensures parts { K.parts self.new.keeper ≡ K.parts self.old.keeper }
+        ensures records { K.records self.new.keeper ≡ K.records self.old.keeper }
         ensures later { K.faults self.old.keeper ≤ K.faults self.new.keeper }
         ensures cause { IsErrOf result NodeRefused.StoreFault → Rose (K.faults self.old.keeper) (K.faults self.new.keeper) }
         ensures calls { Makes (calls.PutFile ∷ []) calls.PutFile result (K.failing self.old.keeper) (K.failing self.new.keeper) }
+        ensures unasked { IsErrOf result NodeRefused.Full → self.new.keeper ≡ self.old.keeper }
     {
         let paid = self.are_due(path, new.lines())?;
         self.log_paid(file, path, new, by, paid)
@@ -118,6 +120,7 @@ impl<K: Keeper> Node<K> {
         ensures later { K.faults self.old.keeper ≤ K.faults self.new.keeper }
         ensures cause { IsErrOf result NodeRefused.StoreFault → Rose (K.faults self.old.keeper) (K.faults self.new.keeper) }
         ensures calls { Makes (calls.PutFile ∷ []) calls.PutFile result (K.failing self.old.keeper) (K.failing self.new.keeper) }
+        ensures unasked { IsErrOf result NodeRefused.Full → self.new.keeper ≡ self.old.keeper }
     {
         // Laws, for the proof: only the file of this path changes, and what lines say depends on which they are.
         files_are_changed_alone();
@@ -143,10 +146,12 @@ impl<K: Keeper> Node<K> {
         ensures err { IfErr result (λ e. RefusesSo e calls.PutFile self.old self.new) }
         ensures contents { K.contents self.new.keeper ≡ K.contents self.old.keeper }
         ensures parts { K.parts self.new.keeper ≡ K.parts self.old.keeper }
+        ensures records { K.records self.new.keeper ≡ K.records self.old.keeper }
         ensures later { K.faults self.old.keeper ≤ K.faults self.new.keeper }
         ensures cause { IsErrOf result NodeRefused.StoreFault → Rose (K.faults self.old.keeper) (K.faults self.new.keeper) }
         ensures calls { Makes (to_log self.old file lines.now) calls.PutFile result (K.failing self.old.keeper) (K.failing self.new.keeper) }
         ensures full { IsErrOf result NodeRefused.Full → lacks_some self.old file lines.now ≡ true }
+        ensures unasked { IsErrOf result NodeRefused.Full → self.new.keeper ≡ self.old.keeper }
     {
         let alloc = self.allocator();
         let path = file.path(alloc)?;
@@ -166,10 +171,12 @@ impl<K: Keeper> Node<K> {
         ensures err { IfErr result (λ e. RefusesSo e calls.PutFile self.old self.new) }
         ensures contents { K.contents self.new.keeper ≡ K.contents self.old.keeper }
         ensures parts { K.parts self.new.keeper ≡ K.parts self.old.keeper }
+        ensures records { K.records self.new.keeper ≡ K.records self.old.keeper }
         ensures later { K.faults self.old.keeper ≤ K.faults self.new.keeper }
         ensures cause { IsErrOf result NodeRefused.StoreFault → Rose (K.faults self.old.keeper) (K.faults self.new.keeper) }
         ensures calls { Makes (to_log self.old (file_of path.now) (line.now ∷ [])) calls.PutFile result (K.failing self.old.keeper) (K.failing self.new.keeper) }
         ensures full { IsErrOf result NodeRefused.Full → lacks_some self.old (file_of path.now) (line.now ∷ []) ≡ true }
+        ensures unasked { IsErrOf result NodeRefused.Full → self.new.keeper ≡ self.old.keeper }
     {
         let alloc = self.allocator();
         let lines = set_of_line(alloc, line)?;

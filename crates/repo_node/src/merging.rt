@@ -45,6 +45,7 @@ impl<K: Keeper> Node<K> {
         ensures err { IfErr result (λ e. RefusesSo e calls.PutFile self.old self.new) }
         ensures contents { K.contents self.new.keeper ≡ K.contents self.old.keeper }
         ensures parts { K.parts self.new.keeper ≡ K.parts self.old.keeper }
+        ensures records { K.records self.new.keeper ≡ K.records self.old.keeper }
         ensures later { K.faults self.old.keeper ≤ K.faults self.new.keeper }
         ensures cause { IsErrOf result NodeRefused.StoreFault → Rose (K.faults self.old.keeper) (K.faults self.new.keeper) }
         ensures calls { Makes (to_log self.old (file_of path.now) lines.now) calls.PutFile result (K.failing self.old.keeper) (K.failing self.new.keeper) }
@@ -61,6 +62,7 @@ impl<K: Keeper> Node<K> {
         ensures err { IfErr result (λ e. StopsAfter (merge_files self.old) other.now e self.new) }
         ensures contents { K.contents self.new.keeper ≡ K.contents self.old.keeper }
         ensures parts { K.parts self.new.keeper ≡ K.parts self.old.keeper }
+        ensures records { K.records self.new.keeper ≡ K.records self.old.keeper }
         ensures later { K.faults self.old.keeper ≤ K.faults self.new.keeper }
         ensures cause { IsErrOf result NodeRefused.StoreFault → Rose (K.faults self.old.keeper) (K.faults self.new.keeper) }
         ensures calls { Makes (to_merge self.old other.now) calls.PutFile result (K.failing self.old.keeper) (K.failing self.new.keeper) }
@@ -88,6 +90,7 @@ impl<K: Keeper> Node<K> {
         ensures unread { (at : ℕ) → IsFirstWrong bytes.now at → self.new ≡ self.old }
         ensures contents { K.contents self.new.keeper ≡ K.contents self.old.keeper }
         ensures parts { K.parts self.new.keeper ≡ K.parts self.old.keeper }
+        ensures records { K.records self.new.keeper ≡ K.records self.old.keeper }
         ensures later { K.faults self.old.keeper ≤ K.faults self.new.keeper }
         ensures cause { IsErrOf result NodeRefused.StoreFault → Rose (K.faults self.old.keeper) (K.faults self.new.keeper) }
         ensures calls { (files : Files) → IsBundle bytes.now files → Makes (to_merge self.old files) calls.PutFile result (K.failing self.old.keeper) (K.failing self.new.keeper) }

@@ -1,9 +1,6 @@
 //! A node, and what it shows of itself.
 ghost use Rattle.std.specs.Prelude.{◌≡◌, ◌≢◌, ◌≤◌, ◌<◌, ◌^◌, ◌*◌, ℕ, [], Some, max, length, replicate, slice_get, AllPairs, IfOk, OnOk, OnErr};
-ghost use Rattle.std.specs.Option.{ForSome, option_copied, option_map};
-ghost use Rattle.trust_groups.specs.Settings.{settings};
-ghost use Rattle.trust_groups.specs.View.{settings_of};
-ghost use Rattle.union_merge.specs.Branch.{lines_at};
+ghost use Rattle.std.specs.Option.{option_map};
 ghost use Rattle.content_lock.specs.Stored.{Agrees};
 ghost use Rattle.link_ring.specs.Ends.{fresh};
 ghost use Rattle.object_store.specs.Calls.{one_more};
@@ -13,7 +10,6 @@ ghost use Rattle.repo_node.specs.Nodes.{MatchesSetup, HasFiles, IsState, state_o
 ghost use Rattle.run_data.specs.Histories.{most_entries};
 ghost use Rattle.repo_node.specs.Stored.{HasNothing};
 
-use crate::indexing::make_index;
 use crate::past::Past;
 use crate::setup::{Ended, Setup};
 use annex_base::{Call, Items, NoMemory, RepoId};
@@ -24,7 +20,7 @@ use object_store::{FailingKeeper, Keeper};
 use run_data::Entry;
 use std::alloc::Global;
 use std::marker::Model;
-use trust_groups::{Settings, settings_are_those_of_the_lines_read};
+use trust_groups::Settings;
 use union_merge::Branch;
 
 /// A repository of a run (own). It knows its own store, rows and branch, and of the others what reaches it over its ends. What
@@ -151,22 +147,6 @@ impl<K: Keeper> Node<K> {
         ensures { result.now ≡ self.now.branch }
     {
         &self.branch
-    }
-
-    /// What it knows from its branch, unless memory ran out for it; `make_index` reads it anew then.
-    pub(crate) fn settings(&self) -> Option<&Settings>
-        ensures { ForSome (option_copied result) (λ i. settings_of i ≡ settings (lines_at self.now.branch)) }
-    {
-        // A law, for the proof: an index that has read lines has their settings.
-        settings_are_those_of_the_lines_read();
-        self.index.as_ref()
-    }
-
-    /// Reads its settings anew where it has none at hand.
-    pub(crate) fn make_index(&mut self) -> Result<(), NoMemory>
-        ensures { self.new ≡ self.old }
-    {
-        make_index(self.past.alloc, &mut self.index, &self.branch)
     }
 
     pub fn table(&self) -> &LockTable

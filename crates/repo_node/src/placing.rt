@@ -254,6 +254,7 @@ impl<K: Keeper> Node<K> {
         ensures left { IfOk result (λ taken. taken ≡ true → K.parts self.new.keeper ≡ K.parts self.old.keeper) }
         ensures err { IfErr result (λ e. StopsBefore e self.old self.new) }
         ensures contents { K.contents self.new.keeper ≡ K.contents self.old.keeper }
+        ensures records { K.records self.new.keeper ≡ K.records self.old.keeper }
         ensures later { K.faults self.old.keeper ≤ K.faults self.new.keeper }
         ensures cause { IsErrOf result NodeRefused.StoreFault → Rose (K.faults self.old.keeper) (K.faults self.new.keeper) }
         ensures put { IfOk result (λ taken. taken ≡ false → K.parts self.new.keeper ≡ option_map (λ p. with_at p key.now bytes.now) (K.parts self.old.keeper)) }
@@ -283,6 +284,7 @@ impl<K: Keeper> Node<K> {
         ensures content { OnOk result (K.contents self.new.keeper ≡ contents_after_commit (K.contents self.old.keeper) (K.parts self.old.keeper) key.now) }
         ensures err { IfErr result (λ e. RefusesSo e calls.Commit self.old self.new) }
         ensures err_contents { OnErr result (K.contents self.new.keeper ≡ K.contents self.old.keeper) }
+        ensures records { K.records self.new.keeper ≡ K.records self.old.keeper }
         ensures later { K.faults self.old.keeper ≤ K.faults self.new.keeper }
         ensures cause { IsErrOf result NodeRefused.StoreFault → Rose (K.faults self.old.keeper) (K.faults self.new.keeper) }
         ensures part { OnOk result (K.parts self.new.keeper ≡ option_map (λ p. with_at p key.now []) (K.parts self.old.keeper)) }
@@ -305,6 +307,7 @@ impl<K: Keeper> Node<K> {
         ensures part { OnOk result ((taken : Bool) × IsTaken taken (K.contents self.old.keeper) self.old.parts.table key.now × PartAfter taken key.now bytes.now (K.parts self.old.keeper) (K.parts self.new.keeper)) }
         ensures err { IfErr result (λ e. StopsBefore e self.old self.new) }
         ensures contents { K.contents self.new.keeper ≡ K.contents self.old.keeper }
+        ensures records { K.records self.new.keeper ≡ K.records self.old.keeper }
         ensures later { K.faults self.old.keeper ≤ K.faults self.new.keeper }
         ensures cause { IsErrOf result NodeRefused.StoreFault → Rose (K.faults self.old.keeper) (K.faults self.new.keeper) }
         ensures done { OnOk result (IsDoneBy to_place_part key.now bytes.now self.old.parts.table (K.contents self.old.keeper) (K.parts self.old.keeper) (K.parts self.new.keeper) (K.failing self.old.keeper) (K.failing self.new.keeper)) }
@@ -321,6 +324,7 @@ impl<K: Keeper> Node<K> {
         requires right { MatchesKey key.now bytes.now }
         ensures ok { OnOk result (IsPlaced key.now bytes.now (K.contents self.old.keeper) (K.parts self.old.keeper) (K.contents self.new.keeper) self.old self.new) }
         ensures err { IfErr result (λ e. StopsPlacing key.now bytes.now (K.contents self.old.keeper) (K.parts self.old.keeper) (K.contents self.new.keeper) e self.old self.new) }
+        ensures records { K.records self.new.keeper ≡ K.records self.old.keeper }
         ensures later { K.faults self.old.keeper ≤ K.faults self.new.keeper }
         ensures cause { IsErrOf result NodeRefused.StoreFault → Rose (K.faults self.old.keeper) (K.faults self.new.keeper) }
         ensures done { OnOk result (IsDoneBy to_place key.now [] self.old.parts.table (K.contents self.old.keeper) (K.parts self.old.keeper) (K.parts self.new.keeper) (K.failing self.old.keeper) (K.failing self.new.keeper)) }

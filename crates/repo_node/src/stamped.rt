@@ -123,10 +123,12 @@ impl<K: Keeper> Node<K> {
         ensures err { IfErr result (λ e. RefusesSo e calls.PutFile self.old self.new) }
         ensures contents { K.contents self.new.keeper ≡ K.contents self.old.keeper }
         ensures parts { K.parts self.new.keeper ≡ K.parts self.old.keeper }
+        ensures records { K.records self.new.keeper ≡ K.records self.old.keeper }
         ensures later { K.faults self.old.keeper ≤ K.faults self.new.keeper }
         ensures cause { IsErrOf result NodeRefused.StoreFault → Rose (K.faults self.old.keeper) (K.faults self.new.keeper) }
         ensures calls { Makes (to_log self.old (log_of kind (option_copied key.entry)) (line_text kind (stamped_by self.old kind (option_copied key.entry) entry.now) ∷ [])) calls.PutFile result (K.failing self.old.keeper) (K.failing self.new.keeper) }
         ensures full { IsErrOf result NodeRefused.Full → lacks_some self.old (log_of kind (option_copied key.entry)) (line_text kind (stamped_by self.old kind (option_copied key.entry) entry.now) ∷ []) ≡ true }
+        ensures unasked { IsErrOf result NodeRefused.Full → self.new.keeper ≡ self.old.keeper }
     {
         let alloc = self.allocator();
         let file = log_of(kind, key)?;

@@ -52,6 +52,7 @@ fn put<K: Keeper>(
     ensures later { K.faults keeper.old ≤ K.faults keeper.new }
     ensures cause { IsErrOf result NodeRefused.StoreFault → Rose (K.faults keeper.old) (K.faults keeper.new) }
     ensures calls { Makes (calls.PutFile ∷ []) calls.PutFile result (K.failing keeper.old) (K.failing keeper.new) }
+    ensures not_full { IsErrOf result NodeRefused.Full → ⊥ }
 {
     match keeper.put_file(path, bytes) {
         Ok(()) => {
@@ -126,6 +127,7 @@ fn write_file<K: Keeper>(
     ensures later { K.faults keeper.old ≤ K.faults keeper.new }
     ensures cause { IsErrOf result NodeRefused.StoreFault → Rose (K.faults keeper.old) (K.faults keeper.new) }
     ensures calls { Makes (calls.PutFile ∷ []) calls.PutFile result (K.failing keeper.old) (K.failing keeper.new) }
+    ensures unasked { IsErrOf result NodeRefused.Full → keeper.new ≡ keeper.old }
 {
     let draft = drafted(branch, past, path, change)?;
     match put(keeper, past, path, &draft.bytes, kind, lines, by) {
@@ -164,6 +166,7 @@ fn write_indexed<K: Keeper>(
     ensures later { K.faults keeper.old ≤ K.faults keeper.new }
     ensures cause { IsErrOf result NodeRefused.StoreFault → Rose (K.faults keeper.old) (K.faults keeper.new) }
     ensures calls { Makes (calls.PutFile ∷ []) calls.PutFile result (K.failing keeper.old) (K.failing keeper.new) }
+    ensures unasked { IsErrOf result NodeRefused.Full → keeper.new ≡ keeper.old }
 {
     match write_file(keeper, branch, past, path, change, kind, lines, by) {
         Ok(()) => {
@@ -227,6 +230,7 @@ fn write_beside<K: Keeper>(
     ensures later { K.faults keeper.old ≤ K.faults keeper.new }
     ensures cause { IsErrOf result NodeRefused.StoreFault → Rose (K.faults keeper.old) (K.faults keeper.new) }
     ensures calls { Makes (calls.PutFile ∷ []) calls.PutFile result (K.failing keeper.old) (K.failing keeper.new) }
+    ensures unasked { IsErrOf result NodeRefused.Full → keeper.new ≡ keeper.old }
 {
     let answer = write_indexed(
         keeper, branch, past, index, path, change, kind, lines, new, by,
@@ -264,6 +268,7 @@ impl<K: Keeper> Node<K> {
         ensures later { K.faults self.old.keeper ≤ K.faults self.new.keeper }
         ensures cause { IsErrOf result NodeRefused.StoreFault → Rose (K.faults self.old.keeper) (K.faults self.new.keeper) }
         ensures calls { Makes (calls.PutFile ∷ []) calls.PutFile result (K.failing self.old.keeper) (K.failing self.new.keeper) }
+        ensures unasked { IsErrOf result NodeRefused.Full → self.new.keeper ≡ self.old.keeper }
     {
         // Laws, for the proof. The first: only the file of this path changes.
         files_are_changed_alone();

@@ -24,6 +24,9 @@ returns-clause-contents g c = at_node c.args.self.now c.self.inside.nodes.items 
 pub returns-clause-parts : goal.returns-clause-parts
 returns-clause-parts g c = at_node c.args.self.now c.self.inside.nodes.items c.args.repo c.index_mut.result.now c.compact.new.self c.self.view_is c.requires.there c.index_mut.ensures.value _ c.compact.ensures.parts
 
+pub returns-clause-records : goal.returns-clause-records
+returns-clause-records g c = at_node c.args.self.now c.self.inside.nodes.items c.args.repo c.index_mut.result.now c.compact.new.self c.self.view_is c.requires.there c.index_mut.ensures.value _ c.compact.ensures.records
+
 pub returns-clause-later : goal.returns-clause-later
 returns-clause-later g c = at_node c.args.self.now c.self.inside.nodes.items c.args.repo c.index_mut.result.now c.compact.new.self c.self.view_is c.requires.there c.index_mut.ensures.value _ c.compact.ensures.later
 

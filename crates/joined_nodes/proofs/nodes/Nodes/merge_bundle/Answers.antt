@@ -35,6 +35,9 @@ returns-clause-contents g c = at_node c.args.self.now c.self.inside.nodes.items 
 pub returns-clause-parts : goal.returns-clause-parts
 returns-clause-parts g c = at_node c.args.self.now c.self.inside.nodes.items c.args.repo c.index_mut.result.now c.merge_bundle.new.self c.self.view_is c.requires.there c.index_mut.ensures.value _ c.merge_bundle.ensures.parts
 
+pub returns-clause-records : goal.returns-clause-records
+returns-clause-records g c = at_node c.args.self.now c.self.inside.nodes.items c.args.repo c.index_mut.result.now c.merge_bundle.new.self c.self.view_is c.requires.there c.index_mut.ensures.value _ c.merge_bundle.ensures.records
+
 pub returns-clause-later : goal.returns-clause-later
 returns-clause-later g c = at_node c.args.self.now c.self.inside.nodes.items c.args.repo c.index_mut.result.now c.merge_bundle.new.self c.self.view_is c.requires.there c.index_mut.ensures.value _ c.merge_bundle.ensures.later
 

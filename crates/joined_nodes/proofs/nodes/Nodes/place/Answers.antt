@@ -16,6 +16,9 @@ returns-clause-ok g c = at_node c.args.self.now c.self.inside.nodes.items c.args
 pub returns-clause-err : goal.returns-clause-err
 returns-clause-err g c = at_node c.args.self.now c.self.inside.nodes.items c.args.repo c.index_mut.result.now c.place.new.self c.self.view_is c.requires.there c.index_mut.ensures.value _ c.place.ensures.err
 
+pub returns-clause-records : goal.returns-clause-records
+returns-clause-records g c = at_node c.args.self.now c.self.inside.nodes.items c.args.repo c.index_mut.result.now c.place.new.self c.self.view_is c.requires.there c.index_mut.ensures.value _ c.place.ensures.records
+
 pub returns-clause-later : goal.returns-clause-later
 returns-clause-later g c = at_node c.args.self.now c.self.inside.nodes.items c.args.repo c.index_mut.result.now c.place.new.self c.self.view_is c.requires.there c.index_mut.ensures.value _ c.place.ensures.later
 

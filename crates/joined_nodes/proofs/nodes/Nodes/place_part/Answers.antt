@@ -22,6 +22,9 @@ returns-clause-err g c = at_node c.args.self.now c.self.inside.nodes.items c.arg
 pub returns-clause-contents : goal.returns-clause-contents
 returns-clause-contents g c = at_node c.args.self.now c.self.inside.nodes.items c.args.repo c.index_mut.result.now c.place_part.new.self c.self.view_is c.requires.there c.index_mut.ensures.value _ c.place_part.ensures.contents
 
+pub returns-clause-records : goal.returns-clause-records
+returns-clause-records g c = at_node c.args.self.now c.self.inside.nodes.items c.args.repo c.index_mut.result.now c.place_part.new.self c.self.view_is c.requires.there c.index_mut.ensures.value _ c.place_part.ensures.records
+
 pub returns-clause-later : goal.returns-clause-later
 returns-clause-later g c = at_node c.args.self.now c.self.inside.nodes.items c.args.repo c.index_mut.result.now c.place_part.new.self c.self.view_is c.requires.there c.index_mut.ensures.value _ c.place_part.ensures.later
 

@@ -30,6 +30,9 @@ returns-clause-contents g c = at_node c.args.self.now c.self.inside.nodes.items 
 pub returns-clause-parts : goal.returns-clause-parts
 returns-clause-parts g c = at_node c.args.self.now c.self.inside.nodes.items c.args.repo c.index_mut.result.now c.write_log.new.self c.self.view_is c.requires.there c.index_mut.ensures.value _ c.write_log.ensures.parts
 
+pub returns-clause-records : goal.returns-clause-records
+returns-clause-records g c = at_node c.args.self.now c.self.inside.nodes.items c.args.repo c.index_mut.result.now c.write_log.new.self c.self.view_is c.requires.there c.index_mut.ensures.value _ c.write_log.ensures.records
+
 pub returns-clause-later : goal.returns-clause-later
 returns-clause-later g c = at_node c.args.self.now c.self.inside.nodes.items c.args.repo c.index_mut.result.now c.write_log.new.self c.self.view_is c.requires.there c.index_mut.ensures.value _ c.write_log.ensures.later
 
@@ -44,3 +47,6 @@ returns-clause-calls g c = at_node c.args.self.now c.self.inside.nodes.items c.a
 
 pub returns-clause-full : goal.returns-clause-full
 returns-clause-full g c = at_node c.args.self.now c.self.inside.nodes.items c.args.repo c.index_mut.result.now c.write_log.new.self c.self.view_is c.requires.there c.index_mut.ensures.value _ c.write_log.ensures.full
+
+pub returns-clause-unasked : goal.returns-clause-unasked
+returns-clause-unasked g c = at_node c.args.self.now c.self.inside.nodes.items c.args.repo c.index_mut.result.now c.write_log.new.self c.self.view_is c.requires.there c.index_mut.ensures.value _ c.write_log.ensures.unasked

@@ -77,6 +77,7 @@ loop-path-preserved g c =
       lines = inv.lines;
       contents = c.compact_file.ensures.contents ∙ inv.contents;
       parts = c.compact_file.ensures.parts ∙ inv.parts;
+      records = c.compact_file.ensures.records ∙ inv.records;
       later = omega (arith, inv.later, c.compact_file.ensures.later);
     }
 

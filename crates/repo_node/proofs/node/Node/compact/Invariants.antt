@@ -17,5 +17,6 @@ invariant-loop-path g l = record {
   lines : Each IsLine l.path-items;
   contents : g.K.Keeper.contents l.self.keeper ≡ g.K.Keeper.contents l.fn.self.keeper;
   parts : g.K.Keeper.parts l.self.keeper ≡ g.K.Keeper.parts l.fn.self.keeper;
+  records : g.K.Keeper.records l.self.keeper ≡ g.K.Keeper.records l.fn.self.keeper;
   later : g.K.Keeper.faults l.fn.self.keeper ≤ g.K.Keeper.faults l.self.keeper;
 }

@@ -47,6 +47,7 @@ loop-path-preserved g c =
       each = each.1;
       contents = c.merge_file.ensures.contents ∙ i.contents;
       parts = c.merge_file.ensures.parts ∙ i.parts;
+      records = c.merge_file.ensures.records ∙ i.records;
       later = omega (arith, i.later, c.merge_file.ensures.later);
     }
 
