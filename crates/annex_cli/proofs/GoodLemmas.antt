@@ -6,6 +6,7 @@ use Rattle.run_data.specs.declared.run.Run.{Run}
 use Rattle.run_model.specs.Causes.{HasCauses}
 use Rattle.run_model.specs.Run as runs
 use Rattle.run_model.specs.Safety.{IsSafe}
+use Rattle.race_core.specs.Copies.{KeepsCopies}
 use Rattle.script_lang.specs.declared.command.Command.{Command}
 use Rattle.script_lang.specs.declared.fault.Quantity.{Quantity}
 use Rattle.script_lang.specs.Script.{reading, BadLine, Commands, PastLimit, no_context}
@@ -41,6 +42,7 @@ all_have_repos g (line ∷ others) d = one_has_repos g line others d (meets_limi
 
 -- the laws that the lemmas take
 pub record Laws : Type 0 where
+  pub copies : (run : Run) → runs.IsRun run → KeepsCopies run
   pub safe : (run : Run) → runs.IsRun run → IsSafe run
   pub causes : (run : Run) → runs.IsRun run → HasCauses run
 
@@ -57,7 +59,7 @@ module _ (bytes : List ℕ) (script : List Command) (is_cut : Bool) (run : Run) 
   -- it is good, up to where it is cut
   pub good_run : HaveOneReading → Laws → HasGoodRun bytes
   good_run x laws = λ other more is.
-      let good : IsGood run = record { lawful = r.lawful; safe = laws.safe run r.lawful; causes = laws.causes run r.lawful } in
+      let good : IsGood run = record { is_run = r.lawful; copies = laws.copies run r.lawful; safe = laws.safe run r.lawful; causes = laws.causes run r.lawful } in
       let same = x.script bytes script other r.lines more script_is is in
       subst (λ (lines : List Line). IsGood (limited_run (driver_input_of other) lines).run) same.1
       (subst (λ (all : List Command). IsGood (limited_run (driver_input_of all) r.lines).run) same.0 (subst IsGood (sym run_is) good))

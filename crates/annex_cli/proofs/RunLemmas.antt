@@ -24,7 +24,7 @@ use Rattle.driver_script.specs.Lines.{declared_by, line_of, lines_of, repos_of}
 use Rattle.fleet_model.specs.Fleets.{FleetView}
 use Rattle.fleet_run.specs.declared.stop.FleetStop.{FleetStop}
 use Rattle.fleet_run.specs.Commands.{CutsAt, MayBeDone, MeetsNone, does_and_marks}
-use Rattle.fleet_run.specs.AtDriver.{GoesOn, IsAtDriver}
+use Rattle.fleet_run.specs.AtDriver.{GoesOn, IsAtDriver, IsDrivenWithin}
 use Rattle.annex_cli.specs.Runs.{AreLines, HasDone, IsRunOf}
 use Rattle.annex_cli.proofs.ReportLemmas.{declares_alike}
 
@@ -65,8 +65,8 @@ module _ {K : Type 0} (tells : K → StoreView) (all : List Command) where
   Done left f = HasDone tells all left f
 
   -- before the first line
-  pub done_at_first : (f : FleetView K) (lines : List Line) → AreLines all lines → AllStand no_context all → IsAtDriver tells (driver_input_of all) at_first f → HasDone tells all all f
-  done_at_first f lines are stand stands = record {
+  pub done_at_first : (f : FleetView K) (lines : List Line) → AreLines all lines → AllStand no_context all → IsAtDriver tells (driver_input_of all) at_first f → IsDrivenWithin tells (length f.run.marks) f → HasDone tells all all f
+  done_at_first f lines are stand stands driven = record {
     lines = lines;
     are = are;
     context = no_context;
@@ -76,6 +76,7 @@ module _ {K : Type 0} (tells : K → StoreView) (all : List Command) where
     waited = refl;
     marks = omega arith;
     stands = stands;
+    driven = driven;
     others = lines;
     behind = are;
     ends = refl;
@@ -122,8 +123,8 @@ module _ {K : Type 0} (tells : K → StoreView) (all : List Command) where
         omega (arith, run, marks)
 
     -- where its line meets no full history, the rest is left then
-    pub done_next : TimeLaw → WaitLaw → MarksLaw → (after : FleetView K) → MeetsNone tells c f → GoesOn tells (does_and_marks c) f after → HasDone tells all left after
-    done_next time wait marks after within goes =
+    pub done_next : TimeLaw → WaitLaw → MarksLaw → (after : FleetView K) → MeetsNone tells c f → GoesOn tells (does_and_marks c) f after → IsDrivenWithin tells (length after.run.marks) after → HasDone tells all left after
+    done_next time wait marks after within goes driven =
         let after_line : Driver = with_mark (does g next.line h.driver) in
         let both = length-append (declared_by c) (repos_of left) in
         let long = length-append h.context.repos (script.declared_by c) in
@@ -142,6 +143,7 @@ module _ {K : Type 0} (tells : K → StoreView) (all : List Command) where
           marks = omega (arith, were, marked, stay);
           waited = ap (λ n. n + wait_of c) h.waited ∙ ap (λ n. now h.driver.past + n) (sym (wait (repos_of all) c next.line next.here)) ∙ sym (time g next.line h.driver);
           stands = subst (λ (o : Option Line). IsAtDriver tells g (with_mark (option_map_or (λ line. does g line h.driver) o h.driver)) after) next.here (goes g h.driver h.stands);
+          driven = driven;
           others = next.others;
           behind = next.behind;
           ends = sym (goes_on g next.line next.others h.driver (within g h.driver next.line h.stands next.here)) ∙ ap (λ ls. drives_to_limit g ls h.driver) next.both ∙ h.ends;

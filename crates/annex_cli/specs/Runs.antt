@@ -13,7 +13,7 @@ use Rattle.driver_model.specs.Lines.{Line}
 use Rattle.driver_script.specs.Inputs.{driver_input_of}
 use Rattle.driver_script.specs.Lines.{lines_of, repos_of}
 use Rattle.fleet_model.specs.Fleets.{FleetView}
-use Rattle.fleet_run.specs.AtDriver.{IsAtDriver}
+use Rattle.fleet_run.specs.AtDriver.{IsAtDriver, IsDrivenWithin}
 
 -- these are the lines of the driver that the script is
 abbrev pub AreLines : List Command → List Line → Type 0
@@ -27,7 +27,8 @@ pub record IsRunOf (script : List Command) (is_cut : Bool) (run : Run) : Type 0 
   pub lawful : IsRun run
 
 -- The fleet has done the lines of the script's commands up to these, which are left: it stands where the driver does, which has then
--- to do the lines of these, and none met a full history. Its marks and the commands that are left are as many as the script's.
+-- to do the lines of these, and none met a full history; so it can do another line. Its marks and the commands that are left are as
+-- many as the script's.
 pub record HasDone {K : Type 0} (tells : K → StoreView) (script left : List Command) (fleet : FleetView K) : Type 0 where
   pub lines : List Line
   pub are : AreLines script lines
@@ -38,6 +39,7 @@ pub record HasDone {K : Type 0} (tells : K → StoreView) (script left : List Co
   pub waited : context.waited ≡ now driver.past
   pub marks : length driver.marks + length left ≡ length script
   pub stands : IsAtDriver tells (driver_input_of script) driver fleet
+  pub driven : IsDrivenWithin tells (length fleet.run.marks) fleet
   pub others : List Line
   pub behind : lines_of (repos_of script) left ≡ Some others
   pub ends : drives_to_limit (driver_input_of script) others driver ≡ limited_run (driver_input_of script) lines

@@ -12,6 +12,7 @@ use Rattle.script_lang.specs.declared.command.Command.{Command}
 use Rattle.script_lang.specs.declared.fault.Quantity.{Quantity}
 use Rattle.script_lang.specs.Limits.{quantity_name, limit_of}
 use Rattle.script_lang.specs.Script.{reading, BadLine, PastLimit}
+use Rattle.race_core.specs.Copies.{KeepsCopies}
 use Rattle.driver_model.specs.Limits.{count_of, limited_run}
 use Rattle.driver_model.specs.Lines.{Line}
 use Rattle.driver_script.specs.Inputs.{driver_input_of}
@@ -28,10 +29,11 @@ IsRunCommand words = words ≡ codes "run" ∷ []
 abbrev pub usage_text : List ℕ
 usage_text = codes "usage: annex run | threads | storm NUMBER JOBS\n"
 
--- what is promised of a run: it is one that repositories may make, the last copies are safe in it, and each refused job has its
--- cause
+-- what is promised of a run: it is one that repositories may make, it keeps the last copies by what its drops read, it is safe, and
+-- each refused job has its cause
 pub record IsGood (run : Run) : Type 0 where
-  pub lawful : runs.IsRun run
+  pub is_run : runs.IsRun run
+  pub copies : KeepsCopies run
   pub safe : IsSafe run
   pub causes : HasCauses run
 

@@ -18,7 +18,7 @@ use driver_script::{
     first_missing, scripts_are_built_or_not, scripts_may_be_driven,
     scripts_without_a_missing_form_have_lines,
 };
-use race_core::{refusals_have_causes, runs_are_safe};
+use race_core::{refusals_have_causes, runs_are_safe, runs_keep_copies};
 use report_text::report;
 use script_lang::{
     Script, ScriptFault, commands_have_lines, commands_stand, line_numbers, scripts_have_few_lines,
@@ -96,6 +96,7 @@ fn report_due(alloc: Global, _bytes: &[u8], script: &Script, ran: &Ran) -> Resul
     commands_stand();
     scripts_may_be_driven();
     scripts_are_built_or_not();
+    runs_keep_copies();
     runs_are_safe();
     refusals_have_causes();
     runs_log_lines();

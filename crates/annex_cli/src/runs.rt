@@ -7,7 +7,7 @@ ghost use Rattle.driver_model.specs.Driver.{at_first};
 ghost use Rattle.driver_model.specs.Lines.{Line};
 ghost use Rattle.driver_script.specs.Inputs.{driver_input_of};
 ghost use Rattle.driver_script.specs.Lines.{repos_of};
-ghost use Rattle.fleet_run.specs.AtDriver.{IsAtDriver, most_lines};
+ghost use Rattle.fleet_run.specs.AtDriver.{IsAtDriver, IsDrivenWithin, most_lines};
 ghost use Rattle.joined_nodes.specs.Joined.{MayRun};
 ghost use Rattle.annex_cli.specs.Runs.{AreLines, HasDone, IsRunOf};
 
@@ -36,6 +36,7 @@ fn run_lines<K: FailingKeeper>(fleet: &mut Fleet<K>, script: &Script) -> Result<
     requires stand { AllStand no_context script.now }
     requires few { length script.now ≤ most_lines }
     requires stands { IsAtDriver (λ k. store_view (K.contents k) (K.parts k) (K.failing k) (K.faults k)) (driver_input_of script.now) at_first fleet.old }
+    requires driven { IsDrivenWithin (λ k. store_view (K.contents k) (K.parts k) (K.failing k) (K.faults k)) (length fleet.old.run.marks) fleet.old }
     ensures done { OnOk result (HasDone (λ k. store_view (K.contents k) (K.parts k) (K.failing k) (K.faults k)) script.now [] fleet.new) }
     ensures cut { (r : ℕ) → result ≡ Err (FleetStop.Full r) → IsRunOf script.now true fleet.new.run }
 {

@@ -1,5 +1,5 @@
 -- A fleet that stops within a step: its run is a start of what the driver makes, and so is one that has fewer entries.
-use Rattle.std.proofs.Common.{◌≡◌, ℕ, ◌+◌, ◌≤◌, ◌⊎◌, inl, inr, List, [], ◌∷◌, ◌++◌, Option, Some, None, Result, Ok, Err, drop, length, take, refl, sym, ap, ◌∙◌, subst, arith}
+use Rattle.std.proofs.Common.{◌≡◌, ℕ, ◌+◌, ◌≤◌, ◌⊎◌, inl, inr, List, [], ◌∷◌, ◌++◌, Some, Result, Ok, Err, drop, length, take, refl, sym, ap, ◌∙◌, subst, arith}
 use Rattle.std.specs.Prelude.{OnErr, OnOk, reverse, slice_get}
 use Rattle.std.proofs.Math.Seq.{take-append_seam}
 use Rattle.std.proofs.lemmas.List.{append-nil, append_assoc, length-append, reverse-append, take-append-drop}
@@ -9,11 +9,8 @@ use Rattle.run_data.specs.declared.run.Run.{Run}
 use Rattle.run_model.specs.Run.{IsRun}
 use Rattle.script_lang.specs.declared.command.Command.{Command}
 use Rattle.driver_model.specs.Driver.{Driver, DriverInput}
-use Rattle.driver_model.specs.Driving.{does}
 use Rattle.driver_model.specs.Limits.{StopsAtFull}
-use Rattle.driver_model.specs.Lines.{Line}
 use Rattle.driver_model.specs.Sound.{OnlyAdds}
-use Rattle.driver_script.specs.Lines.{line_of}
 use Rattle.repo_node.specs.Nodes.{NodeView}
 use Rattle.repo_node.specs.Stored.{StoreView}
 use Rattle.fleet_model.specs.Fleets.{FleetView}
@@ -23,7 +20,6 @@ use Rattle.fleet_run.specs.Telling.{AreFew, EndsShort, StandsWithin, Tells, Tell
 use Rattle.fleet_run.specs.declared.stop.FleetStop.{FleetStop}
 use Rattle.fleet_run.specs.declared.stop.FleetStop.TheVariants as stops
 use Rattle.fleet_run.proofs.Called.{with_more}
-use Rattle.fleet_run.proofs.Few.{does_some}
 
 -- ---- starts
 
@@ -126,10 +122,6 @@ pub tells_some_there : {K : Type 0} (tells : K → StoreView) (r had : ℕ) (was
     → ((n : NodeView K) → slice_get was.nodes r ≡ Some n → (count : ℕ) × (after.run ≡ record was.run { entries = was.run.entries ++ take count (drop had n.history) })) → TellsSome tells r had was after
 tells_some_there tells r had was after law found node some = tells_some tells r had was after law found.0 found.1 (node found.0 found.1) (some found.0 found.1)
 
--- all are told
-pub tells_all : {K : Type 0} (tells : K → StoreView) (r had : ℕ) (was after : FleetView K) → Tells tells r had was after → TellsSome tells r had was after
-tells_all tells r had was after told = record { all = after; told = told; left = ([], sym (append-nil after.run.entries)); lawful = λ lawful. lawful }
-
 -- what all would be is a start, and so are some
 some_start : {K : Type 0} (tells : K → StoreView) (step : DriverInput → Driver → Driver) (r had : ℕ) (was called after : FleetView K) (some : TellsSome tells r had called after) → StopsWithin tells step was some.all → StopsWithin tells step was after
 some_start tells step r had was called after some within g d stands =
@@ -190,21 +182,7 @@ pub always_err : {X E : Type 0} (done : Result X E) (P : Type 0) → P → OnErr
 always_err (Ok x) P holds = tt
 always_err (Err e) P holds = holds
 
--- ---- how a call ends
-
-pub ends_ok : (line : Going) (P : Type 0) → P → OnOk line ((line ≡ Ok tt) × P)
-ends_ok (Ok x) P holds = (refl, holds)
-ends_ok (Err e) P holds = tt
-
 -- ---- lines
-
--- a command only adds entries
-pub command_adds : ((g : DriverInput) (line : Line) (d : Driver) → OnlyAdds d (does g line d)) → (command : Command) (g : DriverInput) (d : Driver) → OnlyAdds d (does_command command g d)
-command_adds law command g d = go (line_of g.repos command)
-  where
-    go : (o : Option Line) → OnlyAdds d (does_some g o d)
-    go None = ([], sym (append-nil (reverse d.past)))
-    go (Some line) = law g line d
 
 -- a command stops as its form does
 pub stops_as : {K : Type 0} (tells : K → StoreView) (command form : Command) (was after : FleetView K) → command ≡ form → StopsWithin tells (does_command form) was after → StopsWithin tells (does_command command) was after

@@ -38,8 +38,9 @@ pub record IsStartOf (d : Driver) (run : Run) : Type 0 where
 abbrev pub StopsWithin : {K : Type 0} → (K → StoreView) → (DriverInput → Driver → Driver) → FleetView K → FleetView K → Type 0
 StopsWithin tells step was after = (g : DriverInput) (d : Driver) → IsAtDriver tells g d was → IsStartOf (step g d) after.run
 
--- ---- how few entries there are; for private contracts
+-- ---- where a line can be done
 
+-- a wait of the script: an entry of no repository
 abbrev pub is_wait : Entry → Bool
 is_wait e = is_none e.repo
 
@@ -47,12 +48,15 @@ is_wait e = is_none e.repo
 abbrev pub waits_in : List Entry → ℕ
 waits_in past = length (filter is_wait past)
 
--- There are at most so many waits, and the newest count is at most the number of entries.
+-- There are at most so many waits, and the newest count is at most the number of entries. So counts and places stay small: each other
+-- entry is of a repository, which makes no more of them than its history has room for.
 pub record IsFew (most : ℕ) (past : List Entry) : Type 0 where
   pub waits : waits_in past ≤ most
   pub count : newest_count past ≤ length past
 
--- it has come to where some driver is, which has at most eight repositories and at most so many waits
+-- The fleet has come to where some driver is, which has at most eight repositories and has made at most so many waits. A line can be
+-- done only where this holds with as many waits as the run has marks, one for each line that was done: so it does before the first
+-- line, and after each line that was done. After a refusal nothing says so, since the run may lack entries that a node made.
 pub record IsDrivenWithin {K : Type 0} (tells : K → StoreView) (most : ℕ) (f : FleetView K) : Type 0 where
   pub given : DriverInput
   pub driver : Driver
@@ -60,7 +64,9 @@ pub record IsDrivenWithin {K : Type 0} (tells : K → StoreView) (most : ℕ) (f
   pub repos : length given.repos ≤ 8
   pub few : IsFew most driver.past
 
--- within a line: there are at most as many waits as a fleet does lines
+-- ---- within a line; for private contracts
+
+-- it has come to where some driver is, and there are at most as many waits as a fleet does lines
 abbrev pub IsDriven : {K : Type 0} → (K → StoreView) → FleetView K → Type 0
 IsDriven tells f = IsDrivenWithin tells most_lines f
 

@@ -43,8 +43,8 @@ fn declare(repos: &mut Items<RepoView>, command: &Command) -> Result<(), NoMemor
     }
 }
 
-/// The repositories that the lines declare, in order of number.
-pub(crate) fn repositories(alloc: Global, commands: &[Command]) -> Result<Items<RepoView>, NoMemory>
+/// The repositories that the lines declare, in order of number (own).
+pub fn repositories(alloc: Global, commands: &[Command]) -> Result<Items<RepoView>, NoMemory>
     ensures { IfOk result (λ repos. repos ≡ repos_of commands.now) }
 {
     let mut repos = Items::new(alloc);
@@ -54,8 +54,8 @@ pub(crate) fn repositories(alloc: Global, commands: &[Command]) -> Result<Items<
     Ok(repos)
 }
 
-/// So many stores in memory.
-pub(crate) fn memory_keepers(alloc: Global, count: usize) -> Result<Vec<MemoryKeeper>, NoMemory>
+/// So many stores in memory, which have nothing, and of which no call is to fail (own).
+pub fn memory_keepers(alloc: Global, count: usize) -> Result<Vec<MemoryKeeper>, NoMemory>
     ensures count { IfOk result (λ keepers. length keepers.items ≡ count) }
     ensures empty { IfOk result (λ keepers. All (λ k. HasNothing (⟦<MemoryKeeper as Keeper>⟧.contents k) (⟦<MemoryKeeper as Keeper>⟧.parts k) (⟦<MemoryKeeper as Keeper>⟧.records k) (⟦<MemoryKeeper as Keeper>⟧.files k)) keepers.items) }
     ensures tells { IfOk result (λ keepers. All (λ k. IsStoreOf at_first 0 (store_view (⟦<MemoryKeeper as Keeper>⟧.contents k) (⟦<MemoryKeeper as Keeper>⟧.parts k) (⟦<MemoryKeeper as Keeper>⟧.failing k) (⟦<MemoryKeeper as Keeper>⟧.faults k))) keepers.items) }

@@ -9,13 +9,13 @@ ghost use Rattle.driver_script.specs.Lines.{repos_of};
 ghost use Rattle.fleet_model.specs.Matches.{DecidesMatches};
 ghost use Rattle.fleet_model.specs.Stores.{IsStoreOf};
 ghost use Rattle.fleet_run.specs.Commands.{CutsAt, MayBeDone, MeetsNone, does_and_marks, does_command};
-ghost use Rattle.fleet_run.specs.AtDriver.{GoesOn, IsAtDriver, OnlyAddsEntries, StopsWithin, most_lines};
+ghost use Rattle.fleet_run.specs.AtDriver.{GoesOn, IsAtDriver, IsDrivenWithin, OnlyAddsEntries, StopsWithin, most_lines};
 
 use crate::declaring::{memory_keepers, repositories};
 use crate::running::Running;
 use crate::stop::FleetStop;
 use annex_base::{Items, NoMemory};
-use driver_model::{drivers_only_add, drivers_stay_sound};
+use driver_model::drivers_stay_sound;
 use driver_script::bytes_are_matched;
 use fleet_model::fleets_begin;
 use joined_nodes::Nodes;
@@ -25,26 +25,20 @@ use script_lang::{Command, Script};
 use std::alloc::Global;
 use std::marker::Model;
 
-/// The repositories of a script as nodes, and the run so far: copies of the entries that they made, in order (own). It has come to
-/// where the driver of scripts is after the lines that it has done, unless it stopped at one. It has at most eight repositories. It
-/// has tokens to spend, so it is finished and never dropped.
+/// The repositories of a script as nodes, and the run so far: copies of the entries that they made, in order (own). Before the first
+/// line, and after each line that was done, it has come to where the driver of scripts is. After a refusal the fleet does no further
+/// line: its run may lack entries that a node made. It has at most eight repositories. It has tokens to spend, so it is finished and
+/// never dropped.
 pub struct Fleet<K: FailingKeeper> {
     running: Running<K>,
-    /// Whether a line was refused. No line is done from then on, since the run may lack entries of a node.
-    stopped: bool,
 }
 
 impl<K: FailingKeeper> Model for Fleet<K> {
-    ghost use Rattle.std.specs.Prelude.{◌≡◌, false, length};
     ghost use Rattle.fleet_model.specs.Fleets.{FleetView};
-    ghost use Rattle.fleet_run.specs.AtDriver.{IsDrivenWithin};
-    ghost use Rattle.repo_node.specs.Stored.{store_view};
 
     ghost Value = { FleetView K };
 
     ghost view = { λ f. f.running };
-
-    ghost invariant = { λ f. f.stopped ≡ false → IsDrivenWithin (λ k. store_view (K.contents k) (K.parts k) (K.failing k) (K.faults k)) (length f.running.run.marks) f.running };
 }
 
 /// The run before the first line.
@@ -65,6 +59,7 @@ impl Fleet<MemoryKeeper> {
         requires run { MayRun (repos_of script.now) }
         requires repos { length (repos_of script.now) ≤ 8 }
         ensures stands { IfOk result (λ f. (g : DriverInput) → g.repos ≡ repos_of script.now → DecidesMatches g → IsAtDriver (λ k. store_view (⟦<MemoryKeeper as Keeper>⟧.contents k) (⟦<MemoryKeeper as Keeper>⟧.parts k) (⟦<MemoryKeeper as Keeper>⟧.failing k) (⟦<MemoryKeeper as Keeper>⟧.faults k)) g at_first f) }
+        ensures driven { IfOk result (λ f. IsDrivenWithin (λ k. store_view (⟦<MemoryKeeper as Keeper>⟧.contents k) (⟦<MemoryKeeper as Keeper>⟧.parts k) (⟦<MemoryKeeper as Keeper>⟧.failing k) (⟦<MemoryKeeper as Keeper>⟧.faults k)) (length f.run.marks) f) }
         ensures nodes { IfOk result (λ f. length f.nodes ≡ length (repos_of script.now)) }
         ensures empty { IfOk result (λ f. f.run ≡ record { repos = repos_of script.now; entries = []; tree = []; marks = [] }) }
     {
@@ -88,6 +83,7 @@ impl<K: FailingKeeper> Fleet<K> {
         requires empty { All (λ k. HasNothing (K.contents k) (K.parts k) (K.records k) (K.files k)) keepers.items }
         requires tells { All (λ k. IsStoreOf at_first 0 (store_view (K.contents k) (K.parts k) (K.failing k) (K.faults k))) keepers.items }
         ensures stands { IfOk result (λ f. (g : DriverInput) → g.repos ≡ repos_of script.now → DecidesMatches g → IsAtDriver (λ k. store_view (K.contents k) (K.parts k) (K.failing k) (K.faults k)) g at_first f) }
+        ensures driven { IfOk result (λ f. IsDrivenWithin (λ k. store_view (K.contents k) (K.parts k) (K.failing k) (K.faults k)) (length f.run.marks) f) }
         ensures nodes { IfOk result (λ f. length f.nodes ≡ length (repos_of script.now)) }
         ensures empty { IfOk result (λ f. f.run ≡ record { repos = repos_of script.now; entries = []; tree = []; marks = [] }) }
     {
@@ -103,6 +99,7 @@ impl<K: FailingKeeper> Fleet<K> {
         requires empty { All (λ k. HasNothing (K.contents k) (K.parts k) (K.records k) (K.files k)) keepers.items }
         requires tells { All (λ k. IsStoreOf at_first 0 (store_view (K.contents k) (K.parts k) (K.failing k) (K.faults k))) keepers.items }
         ensures stands { IfOk result (λ f. (g : DriverInput) → g.repos ≡ repos → DecidesMatches g → IsAtDriver (λ k. store_view (K.contents k) (K.parts k) (K.failing k) (K.faults k)) g at_first f) }
+        ensures driven { IfOk result (λ f. IsDrivenWithin (λ k. store_view (K.contents k) (K.parts k) (K.failing k) (K.faults k)) (length f.run.marks) f) }
         ensures nodes { IfOk result (λ f. length f.nodes ≡ length repos) }
         ensures empty { IfOk result (λ f. f.run ≡ record { repos = repos; entries = []; tree = []; marks = [] }) }
     {
@@ -116,39 +113,28 @@ impl<K: FailingKeeper> Fleet<K> {
             nodes,
             run: empty_run(alloc, repos),
         };
-        Ok(Fleet {
-            running,
-            stopped: false,
-        })
+        Ok(Fleet { running })
     }
 
     /// Does what the line says, and marks how many entries stand after it. It is refused as Full where the line meets a full history.
     /// After a refusal the run has the entries that it had, and then a start of those that the line makes; so it is a run still. Its
-    /// repositories, tree and marks are as they were. From then on each line is refused as for want of memory, and does nothing. A fleet
-    /// does at most 2^28 lines, so that its run has fewer than 2^30 entries: of each repository at most 100,000, and of each line at most
-    /// one wait.
+    /// repositories, tree and marks are as they were. After a refusal the fleet does no further line: its run may lack entries that a
+    /// node made. So a line is done only where the fleet has come to where some driver is, as it has before the first line and after each
+    /// line that was done. A fleet does at most 2^28 lines, so that its run has fewer than 2^30 entries: of each repository at most
+    /// 100,000, and of each line at most one wait.
     pub fn line(&mut self, command: &Command) -> Result<(), FleetStop>
         requires may { MayBeDone self.old command.now }
         requires few { length self.old.run.marks < most_lines }
+        requires driven { IsDrivenWithin (λ k. store_view (K.contents k) (K.parts k) (K.failing k) (K.faults k)) (length self.old.run.marks) self.old }
         ensures ok { OnOk result (GoesOn (λ k. store_view (K.contents k) (K.parts k) (K.failing k) (K.faults k)) (does_and_marks command.now) self.old self.new) }
+        ensures driven { OnOk result (IsDrivenWithin (λ k. store_view (K.contents k) (K.parts k) (K.failing k) (K.faults k)) (length self.new.run.marks) self.new) }
         ensures marks { OnOk result (length self.new.run.marks ≡ length self.old.run.marks + 1) }
         ensures within { OnOk result (MeetsNone (λ k. store_view (K.contents k) (K.parts k) (K.failing k) (K.faults k)) command.now self.old) }
         ensures full { (r : ℕ) → result ≡ Err (FleetStop.Full r) → CutsAt (λ k. store_view (K.contents k) (K.parts k) (K.failing k) (K.faults k)) r command.now self.old self.new }
         ensures stopped { OnErr result (StopsWithin (λ k. store_view (K.contents k) (K.parts k) (K.failing k) (K.faults k)) (does_command command.now) self.old self.new) }
         ensures kept { OnErr result (OnlyAddsEntries self.old self.new) }
     {
-        if self.stopped {
-            // A law: a line only adds entries to the driver's, so the fleet's run is a start of them.
-            drivers_only_add();
-            return Err(FleetStop::NoMemory);
-        }
-        match self.running.does_and_marks(command) {
-            Ok(()) => Ok(()),
-            Err(stop) => {
-                self.stopped = true;
-                Err(stop)
-            }
-        }
+        self.running.does_and_marks(command)
     }
 
     /// The run of the lines so far.
@@ -162,10 +148,7 @@ impl<K: FailingKeeper> Fleet<K> {
     pub fn finish(self) -> Run
         ensures { result ≡ self.run }
     {
-        let Fleet {
-            running,
-            stopped: _,
-        } = self;
+        let Fleet { running } = self;
         let Running {
             alloc: _,
             nodes,

@@ -13,5 +13,6 @@ mod settings;
 mod settling;
 mod stop;
 
+pub use declaring::{memory_keepers, repositories};
 pub use fleet::Fleet;
 pub use stop::FleetStop;

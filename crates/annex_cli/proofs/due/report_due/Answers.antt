@@ -41,7 +41,7 @@ pub returns-then-ran-clause-good : goal.returns-then-ran-clause-good
 returns-then-ran-clause-good c =
     let law = c.scripts_are_built_or_not.ensures in
     let one : HaveOneReading = record { script = law.script; line = law.line; one = law.one } in
-    let laws : Laws = record { safe = c.runs_are_safe.ensures; causes = c.refusals_have_causes.ensures } in
+    let laws : Laws = record { copies = c.runs_keep_copies.ensures; safe = c.runs_are_safe.ensures; causes = c.refusals_have_causes.ensures } in
     good_run c.args._bytes.now c.args.script.now _ c.args.ran.now.run c.requires.says c.requires.run one laws
 
 pub returns-clause-due : goal.returns-clause-due
@@ -53,5 +53,5 @@ pub returns-clause-good : goal.returns-clause-good
 returns-clause-good c =
     let law = c.scripts_are_built_or_not.ensures in
     let one : HaveOneReading = record { script = law.script; line = law.line; one = law.one } in
-    let laws : Laws = record { safe = c.runs_are_safe.ensures; causes = c.refusals_have_causes.ensures } in
+    let laws : Laws = record { copies = c.runs_keep_copies.ensures; safe = c.runs_are_safe.ensures; causes = c.refusals_have_causes.ensures } in
     good_run c.args._bytes.now c.args.script.now _ c.args.ran.now.run c.requires.says c.requires.run one laws

@@ -10,7 +10,7 @@ use Rattle.annex_cli.proofs.runs.run_lines.Goals as goal
 pub loop-command-init : goal.loop-command-init
 loop-command-init g c =
     subst (λ (cs : List Command). HasDone (λ k. store_view (g.K.Keeper.contents k) (g.K.Keeper.parts k) (g.K.Keeper.failing k) (g.K.Keeper.faults k)) cs cs c.args.fleet.now) (sym c.lines-commands.ensures)
-    (done_at_first _ c.args.script.now c.args.fleet.now c.requires.lines.0 c.requires.lines.1 c.requires.stand c.requires.stands)
+    (done_at_first _ c.args.script.now c.args.fleet.now c.requires.lines.0 c.requires.lines.1 c.requires.stand c.requires.stands c.requires.driven)
 
 pub line-requires : goal.line-requires
 line-requires g c =
@@ -21,7 +21,7 @@ line-requires g c =
     let done = few_done _ all c.command-item.result (drop (i + 1) all) c.loop-command.fleet before in
     let same : length all ≡ length c.args.script.now = ap length c.lines-commands.ensures in
     let few = c.requires.few in
-    record { may = may_be_done _ all c.command-item.result (drop (i + 1) all) c.loop-command.fleet before; few = omega (arith, done, same, few) }
+    record { may = may_be_done _ all c.command-item.result (drop (i + 1) all) c.loop-command.fleet before; few = omega (arith, done, same, few); driven = before.driven }
 
 pub loop-command-preserved : goal.loop-command-preserved
 loop-command-preserved g c =
@@ -29,7 +29,7 @@ loop-command-preserved g c =
     let i = c.loop-command.command-index in
     let within : i < length all = omega arith in
     let before = done_before _ all i c.command-item.result c.loop-command.fleet within c.command-item.is c.loop-command.invariant in
-    done_next _ all c.command-item.result (drop (i + 1) all) c.loop-command.fleet before c.only_waits_take_time.ensures c.lines_wait_as_long.ensures c.runs_are_cut_where_histories_are_full.ensures.marks c.line.new.self c.in_ok-line.ensures.within c.in_ok-line.ensures.ok
+    done_next _ all c.command-item.result (drop (i + 1) all) c.loop-command.fleet before c.only_waits_take_time.ensures c.lines_wait_as_long.ensures c.runs_are_cut_where_histories_are_full.ensures.marks c.line.new.self c.in_ok-line.ensures.within c.in_ok-line.ensures.ok c.in_ok-line.ensures.driven
 
 pub returns-in_err-line-clause-cut : goal.returns-in_err-line-clause-cut
 returns-in_err-line-clause-cut g c = λ r stops.
