@@ -4,6 +4,7 @@ use Rattle.std.specs.Fmt.{decimal}
 use Rattle.std.proofs.lemmas.Bool.{cases_Bool, eqb-true, lt-ltb, le-ltb, and_parts, or_cases, or_parts}
 use Rattle.annex_base.specs.Lines.{dash}
 use Rattle.annex_base.specs.Decimal.{number_of}
+use Rattle.annex_base.proofs.Conditions.{eqb_refl}
 use Rattle.annex_base.proofs.DecimalLemmas.{number_some}
 use Rattle.annex_base.proofs.Options.{none_by, is_none_true, some_none}
 use Rattle.annex_key.specs.declared.fault.KeyFault.{KeyFault}
@@ -24,14 +25,11 @@ bad_number total bytes bad =
     let none : number_of (word_of bytes) ≡ None = none_by (number_of (word_of bytes)) (λ n is. let s = number_some (word_of bytes) n is in bad (n, s.1, s.0)) in
     rw none refl
 
-same_letter : (a : ℕ) → eqb a a ≡ true
-same_letter a = grind arith
-
 -- a bad number of a field that may stand
 field_bad : (letter total : ℕ) (rest : List ℕ) → (¬ IsNumber (word_of rest)) → field_at letter total (dash ∷ letter ∷ rest) ≡ Err (BadField (total - length rest))
 unfolding field_at
 field_bad letter total rest bad =
-    let is : eqb letter letter ≡ true = same_letter letter in
+    let is : eqb letter letter ≡ true = eqb_refl letter in
     let fails : number_at total rest ≡ Err (BadField (total - length rest)) = bad_number total rest bad in
     rw (is, fails) refl
 
@@ -169,9 +167,7 @@ letter_breaks text backend size mtime (Some n) (Some m) letter rest is spelled b
     to_chunk text backend size mtime (field_text chunk_size_letter (Some n) ++ (field_text chunk_letter (Some m) ++ tail)) is.backend is.size is.mtime spelled refl (λ _. refl) (λ _ _. refl)
     ∙ ap (λ (w : List ℕ). from_mtime total backend size (mtime, w)) (pair_text n m tail)
     ∙ up_to_name total backend size mtime (Some (n, m)) tail (is.chunk_size, is.chunk.0) refl (λ e. absurd (some_none (n, m) e))
-    ∙ name_fails total backend size mtime (Some (n, m)) tail (BadField (total - length tail + 1)) (name_bad_letter total letter rest bad) where
-      some_none : (p : ℕ × ℕ) → Some p ≡ None → ⊥
-      some_none p e = cc
+    ∙ name_fails total backend size mtime (Some (n, m)) tail (BadField (total - length tail + 1)) (name_bad_letter total letter rest bad)
 
 -- which field it is
 which : (size mtime : Option ℕ) (letter : ℕ) → may_come size mtime None None letter ≡ true → letter ≢ dash

@@ -68,9 +68,6 @@ field_live letter total bytes x e other alive =
       | inr left ↦ subst P (ok_is (None, bytes) x left.1) alive
     ]
 
-some_none : (n : ℕ) (o : Option ℕ) → Some n ≡ o → o ≡ None → ⊥
-some_none n o p q = cc
-
 -- a field that wasn't there: nothing was read, and its letter doesn't come
 field_none : (letter total : ℕ) (bytes : List ℕ) (x : Option ℕ × List ℕ) → field_at letter total bytes ≡ Ok x → x.0 ≡ None → comes letter x.1 ≡ false
 unfolding field_at
@@ -78,7 +75,7 @@ field_none letter total bytes x e none =
     elim (if_is (comes letter bytes) _ _ _ e) [
       | inl took ↦
           let b = bind_ok (number_at total (drop 2 bytes)) (λ n. Ok (Some n.0, n.1)) x took.1 in
-          absurd (some_none b.0.0 x.0 (ap (λ (y : Option ℕ × List ℕ). y.0) (ok_is (Some b.0.0, b.0.1) x b.2)) none)
+          absurd (none_and_some x.0 b.0.0 none (sym (ap (λ (y : Option ℕ × List ℕ). y.0) (ok_is (Some b.0.0, b.0.1) x b.2))))
       | inr left ↦ subst (λ (y : Option ℕ × List ℕ). comes letter y.1 ≡ false) (ok_is (None, bytes) x left.1) left.0
     ]
 
@@ -89,7 +86,7 @@ field_same letter total bytes x e none =
     elim (if_is (comes letter bytes) _ _ _ e) [
       | inl took ↦
           let b = bind_ok (number_at total (drop 2 bytes)) (λ n. Ok (Some n.0, n.1)) x took.1 in
-          absurd (some_none b.0.0 x.0 (ap (λ (y : Option ℕ × List ℕ). y.0) (ok_is (Some b.0.0, b.0.1) x b.2)) none)
+          absurd (none_and_some x.0 b.0.0 none (sym (ap (λ (y : Option ℕ × List ℕ). y.0) (ok_is (Some b.0.0, b.0.1) x b.2))))
       | inr left ↦ ap (λ (y : Option ℕ × List ℕ). y.1) (ok_is (None, bytes) x left.1)
     ]
 
@@ -110,9 +107,6 @@ chunk_live total bytes x e alive =
       | inr left ↦ subst P (ok_is (None, bytes) x left.1) alive
     ]
 
-some_none_pair : (n : ℕ × ℕ) (o : Option (ℕ × ℕ)) → Some n ≡ o → o ≡ None → ⊥
-some_none_pair n o p q = cc
-
 chunk_none : (total : ℕ) (bytes : List ℕ) (x : Option (ℕ × ℕ) × List ℕ) → chunk_at total bytes ≡ Ok x → x.0 ≡ None → (comes chunk_size_letter x.1 ≡ false) × (bytes ≡ x.1)
 unfolding chunk_at
 chunk_none total bytes x e none =
@@ -120,7 +114,7 @@ chunk_none total bytes x e none =
       | inl took ↦
           let a = bind_ok (number_at total (drop 2 bytes)) (λ size. must_at chunk_letter total size.1 >>= λ chunk. Ok (Some (size.0, chunk.0), chunk.1)) x took.1 in
           let b = bind_ok (must_at chunk_letter total a.0.1) (λ chunk. Ok (Some (a.0.0, chunk.0), chunk.1)) x a.2 in
-          absurd (some_none_pair (a.0.0, b.0.0) x.0 (ap (λ (y : Option (ℕ × ℕ) × List ℕ). y.0) (ok_is (Some (a.0.0, b.0.0), b.0.1) x b.2)) none)
+          absurd (none_and_some x.0 (a.0.0, b.0.0) none (sym (ap (λ (y : Option (ℕ × ℕ) × List ℕ). y.0) (ok_is (Some (a.0.0, b.0.0), b.0.1) x b.2))))
       | inr left ↦
           let is = ok_is (None, bytes) x left.1 in
           (subst (λ (y : Option (ℕ × ℕ) × List ℕ). comes chunk_size_letter y.1 ≡ false) is left.0, ap (λ (y : Option (ℕ × ℕ) × List ℕ). y.1) is)

@@ -1,10 +1,11 @@
 -- The key that is computed of a file name is the one whose file has this name.
-use Rattle.std.proofs.Common.{inl, inr, ◌≡◌, ◌≢◌, ◌↔◌, ℕ, Bool, true, false, eqb, ◌&&◌, List, [], ◌∷◌, ◌++◌, Option, Some, None, Result, Ok, Err, IfOk, IsErrAnd, MatchResult, refl, sym, ap, subst, ◌∙◌}
+use Rattle.std.proofs.Common.{inl, inr, ◌≡◌, ◌≢◌, ◌↔◌, ℕ, Bool, true, false, eqb, ◌&&◌, List, [], ◌∷◌, ◌++◌, Some, None, Result, Ok, Err, IfOk, IsErrAnd, MatchResult, refl, sym, ap, subst, ◌∙◌}
 use Rattle.std.specs.Prelude.{if◌then◌else◌}
 use Rattle.std.specs.Str.{bytes_eq}
 use Rattle.std.proofs.lemmas.Bool.{cases_Bool, eqb-true}
 use Rattle.std.proofs.lemmas.Slice.Eq.{bytes_eq-Decides}
 use Rattle.annex_base.specs.Lines.{colon, slash}
+use Rattle.annex_base.proofs.Options.{none_by}
 use Rattle.annex_key.specs.declared.fault.KeyFault.{KeyFault}
 use Rattle.annex_key.specs.declared.fault.KeyFault.TheVariants.{NoMemory}
 use Rattle.annex_key.specs.KeyText.{KeyParts, IsKeyText}
@@ -58,10 +59,6 @@ key_of_file-is file key = (
 )
 
 -- ---- what a call answers
-
-none_by : (o : Option (List ℕ)) → ((key : List ℕ) → o ≡ Some key → ⊥) → o ≡ None
-none_by None some = refl
-none_by (Some key) some = absurd (some key refl)
 
 pub exact : (file : List ℕ) (r : Result (List ℕ) KeyFault) → IfOk r (λ k. (file ≡ file_text k) × IsKeyText k)
     → ((text : List ℕ) → IsKeyText text → file ≡ file_text text → MatchResult r (λ k. k ≡ text) (λ e. e ≡ NoMemory))

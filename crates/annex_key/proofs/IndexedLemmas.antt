@@ -9,7 +9,7 @@ use Rattle.std.specs.Str.{bytes_eq}
 use Rattle.std.proofs.lemmas.Cmp.{nat_list_cmp_total}
 use Rattle.std.proofs.lemmas.Map.Lookups.{btree_set_from_contains, exact_bytes}
 use Rattle.std.proofs.lemmas.Map.Views.{btree_set_contains_iff}
-use Rattle.std.proofs.Math.Bool.{and-false, and-true, or-false}
+use Rattle.std.proofs.Math.Bool.{and-false, and-true, or-false, or_self}
 use Rattle.annex_base.specs.ByteOrder.{text_cmp}
 use Rattle.annex_base.proofs.Conditions.{bytes_eq-other, bytes_eq-refl, bytes_eq-true, bytes_eq_tells, same_test}
 use Rattle.annex_key.specs.Tree.{Entries, with_key, key_of, paths_of}
@@ -17,19 +17,13 @@ use Rattle.annex_key.specs.TreeView.{has_path, is_key, was_left, IsIndexed}
 use Rattle.annex_key.proofs.IndexLemmas.{Index}
 use Rattle.annex_key.proofs.TreeLaws.{key_of-with_key_same, key_of-with_key_other, paths_of-each, paths_of-sorted}
 
--- ---- tests
-
-or_same : (a : Bool) → (a || a) ≡ a
-or_same true = refl
-or_same false = refl
-
 -- ---- a path that got a key, and left its old one
 
 -- at the path itself
 at_path : (o : Option (List ℕ)) (now key : List ℕ) → bytes_eq now key ≡ (not (was_left o now key) && (bytes_eq now key || is_key o key))
 at_path None now key = sym (or-false (bytes_eq now key))
 at_path (Some old) now key = elim (bytes_eq_tells old now) [
-  | inl same ↦ rw (same.0, same.1) (sym (or_same (bytes_eq now key)))
+  | inl same ↦ rw (same.0, same.1) (sym (or_self (bytes_eq now key)))
   | inr other ↦ elim (bytes_eq_tells old key) [
     | inl is ↦ rw (other.0, is.0, bytes_eq-other now key (λ e. other.1 (is.1 ∙ sym e))) refl
     | inr isnt ↦ rw (other.0, isnt.0) (sym (or-false (bytes_eq now key)))

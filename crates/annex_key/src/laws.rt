@@ -1,4 +1,4 @@
-//! Laws on keys and their texts, which no call depends on.
+//! Laws on keys and their texts: each is the contract of a function that does nothing.
 ghost use Rattle.std.specs.Prelude.{◌≡◌, ◌↔◌, List, ℕ, Some, None};
 ghost use Rattle.annex_base.specs.Lines.{IsOneLine};
 ghost use Rattle.annex_key.specs.KeyText.{KeyParts, IsKey, IsKeyText, key_text};

@@ -12,6 +12,7 @@ use Rattle.std.proofs.lemmas.Slice.Eq.{bytes_eq-Decides}
 use Rattle.std.proofs.lemmas.List.{nil_from_length}
 use Rattle.std.proofs.lemmas.List.{length-take-le}
 use Rattle.std.proofs.lemmas.Option.{none-some}
+use Rattle.std.proofs.Math.Seq.{take-append_seam}
 use Rattle.annex_base.specs.Decimal.{number_of}
 use Rattle.annex_base.specs.Lists.{Member}
 use Rattle.annex_base.proofs.DecimalLemmas.{number_is, number_some}
@@ -25,15 +26,11 @@ use Rattle.branch_bundle.proofs.TextLemmas.{word, cut_same, number_free, word_sa
 
 -- ---- a prefix
 
-take_front : (xs ys : List ℕ) → take (length xs) (xs ++ ys) ≡ xs
-take_front [] ys = refl
-take_front (x ∷ xs) ys = ap (λ (w : List ℕ). x ∷ w) (take_front xs ys)
-
 pub stripped : (text prefix : List ℕ) (r : Option (Bor (List ℕ)))
     → MatchOption r (pointwise nat_eq (take (length prefix) text) prefix ≡ false) (λ x. (pointwise nat_eq (take (length prefix) text) prefix ≡ true) × (x.now ≡ drop (length prefix) text) × (length x.now + length prefix ≡ length text))
     → MatchOption r ((rest : List ℕ) → text ≡ prefix ++ rest → ⊥) (λ rest. text ≡ prefix ++ rest.now)
 stripped text prefix None other = λ rest is.
-    true≢false (sym ((bytes_eq-Decides (take (length prefix) text) prefix).1 (ap (take (length prefix)) is ∙ take_front prefix rest)) ∙ other)
+    true≢false (sym ((bytes_eq-Decides (take (length prefix) text) prefix).1 (ap (take (length prefix)) is ∙ take-append_seam prefix rest)) ∙ other)
 stripped text prefix (Some x) h =
     sym (take-append-drop (length prefix) text) ∙ ap (λ (w : List ℕ). w ++ drop (length prefix) text) ((bytes_eq-Decides (take (length prefix) text) prefix).0 h.0)
     ∙ ap (λ (w : List ℕ). prefix ++ w) (sym h.1)

@@ -1,4 +1,4 @@
-//! Laws on what a table's calls leave in its store, which no call depends on.
+//! Laws on what a table's calls leave in its store: each is the contract of a function that does nothing.
 ghost use Rattle.std.specs.Prelude.{◌<◌, List, ℕ, All};
 ghost use Rattle.std.specs.declared.option.Option.{Option};
 ghost use Rattle.std.specs.Option.{ForSome};

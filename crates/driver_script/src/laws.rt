@@ -1,4 +1,4 @@
-//! Laws of scripts that can be driven, which no call depends on.
+//! Laws of scripts that can be driven: each is the contract of a function that does nothing.
 ghost use Rattle.std.specs.Prelude.{◌≡◌, ◌≢◌, ◌↔◌, ◌⊎◌, ◌≤◌, AllPairs, List, ℕ, length, map, true, Some, None};
 ghost use Rattle.annex_base.specs.Lists.{Each};
 ghost use Rattle.key_verify.specs.Matching.{MatchesKey};

@@ -19,7 +19,7 @@ use Rattle.node_model.specs.Ends.{End, EndName}
 use Rattle.node_model.specs.Knows.{Reading, cause_by, denial_of, obeyed_outcome, proof_by}
 use Rattle.node_model.specs.Turns.{outcome_of}
 use Rattle.annex_base.specs.declared.memory.NoMemory.{NoMemory}
-use Rattle.annex_base.proofs.Conditions.{eqb_turned}
+use Rattle.annex_base.proofs.Conditions.{eqb_refl, eqb_turned}
 use Rattle.drop_proof.specs.Judging.{least_end}
 use Rattle.content_lock.specs.Rows.{Rows}
 use Rattle.drop_worker.specs.declared.phase.Ending.{Ending}
@@ -31,7 +31,6 @@ use Rattle.drop_worker.specs.Judging.{cause_at, offer_of}
 use Rattle.drop_worker.specs.Remote.{IsRemote, known_remotely, remote_candidates}
 use Rattle.drop_worker.proofs.Losing.{target_is}
 use Rattle.drop_worker.proofs.RemoteVerdicts.{end_is, known_is}
-use Rattle.drop_worker.proofs.Tokens.{same_number}
 
 -- causes that differ at the target alone
 failures_but : (ask : ℕ → Offer) (f g : ℕ → Cause) (target : ℕ) → ((c : ℕ) → (target == c) ≡ false → f c ≡ g c) → (xs : List ℕ) → failures ask f (but target xs) ≡ failures ask g (but target xs)
@@ -77,7 +76,7 @@ module _ (x : Sight) (rows : Rows) (p : List ℕ → Bool) (fails : Option Call)
 
   -- the word beside the target's answer to an order
   word_is : words_of w target ≡ w.word
-  word_is = (λ i. if is_target (remote.side i) (remote.peer i) target then w.word else word_in (newest_of w.heard target)) ∙ ap (λ (b : Bool). if b then w.word else word_in (newest_of w.heard target)) (same_number target)
+  word_is = (λ i. if is_target (remote.side i) (remote.peer i) target then w.word else word_in (newest_of w.heard target)) ∙ ap (λ (b : Bool). if b then w.word else word_in (newest_of w.heard target)) (eqb_refl target)
 
   target_word : w.word ≡ words_of w (target_of x.read.repo (work_of rest w))
   target_word = sym word_is ∙ ap (words_of w) at
@@ -112,7 +111,7 @@ module _ (read : Reading) (ends_at : EndName → End) (w : Worker) (target : ℕ
       is ∙ ((λ i. Refused (refusals.Denied (denial_of (told rest i)))) ∙ ap (λ (ph : Phase). outcome_of (turned time number rows p fails rest) (phase_as ph)) (sym stands))
     where
       told : (rest : Rest) → w.word ≡ words_of w (target_of read.repo (work_of rest w))
-      told rest = sym ((λ i. if is_target (remote.side i) (remote.peer i) target then w.word else word_in (newest_of w.heard target)) ∙ ap (λ (b : Bool). if b then w.word else word_in (newest_of w.heard target)) (same_number target))
+      told rest = sym ((λ i. if is_target (remote.side i) (remote.peer i) target then w.word else word_in (newest_of w.heard target)) ∙ ap (λ (b : Bool). if b then w.word else word_in (newest_of w.heard target)) (eqb_refl target))
           ∙ ap (words_of w) (sym (target_is rest w target read.repo remote))
 
   pub ends_so : (why : Ending) → w.phase ≡ phases.Ends why → (o : Outcome) → o ≡ outcome_as why → Ends o

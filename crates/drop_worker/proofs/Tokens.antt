@@ -3,6 +3,7 @@ use Rattle.std.proofs.Common.{◌≡◌, ℕ, Bool, true, false, List, Option, S
 use Rattle.std.specs.Prelude.{◌==◌, if◌then◌else◌, bytes_eq}
 use Rattle.std.specs.Cmp.Lexicographic.{same_text}
 use Rattle.std.proofs.lemmas.Bool.Decides.{nat_tests}
+use Rattle.annex_base.proofs.Conditions.{eqb_refl}
 use Rattle.run_data.specs.declared.row.Hold.{Hold}
 use Rattle.run_data.specs.declared.entry.By.{By}
 use Rattle.run_data.specs.declared.entry.By.TheVariants.{Job as by_job}
@@ -20,9 +21,6 @@ Puts rows rows' key job = (k : List ℕ) → bar_at rows' k ≡ (if bytes_eq key
 abbrev pub TakesOff : Rows → Rows → List ℕ → Type 0
 TakesOff rows rows' key = (k : List ℕ) → bar_at rows' k ≡ (if bytes_eq key k then None else bar_at rows k)
 
-pub same_number : (n : ℕ) → n == n ≡ true
-same_number n = grind arith
-
 -- a bar of the job's, where it had none
 pub owns_bar : (job : ℕ) (bar : BarView) (key : List ℕ) (rows rows' : Rows) → bar.key ≡ key → bar.job ≡ job → Puts rows rows' key job → rows'.holds ≡ rows.holds → HasToken job key tokens.Nothing rows → HasToken job key (tokens.Bar bar) rows'
 owns_bar job bar key rows rows' same of put stay own =
@@ -34,7 +32,7 @@ owns_bar job bar key rows rows' same of put stay own =
     }
   where
     go : (k : List ℕ) (b : Bool) → option_is (bar_at rows k) job ≡ false → option_is (if b then Some job else bar_at rows k) job ≡ b
-    go k true e = same_number job
+    go k true e = eqb_refl job
     go k false e = e
 
 -- the job's bar taken off

@@ -1,4 +1,4 @@
-//! Laws of the works of remote drops, and of the numbers of holds, which no call depends on.
+//! Laws of the works of remote drops, and of the numbers of holds: each is the contract of a function that does nothing.
 ghost use Rattle.std.specs.Prelude.{◌≡◌, ◌<◌, ℕ, All, Some, is_some};
 ghost use Rattle.drop_proof.specs.declared.rule.Side.TheVariants as sides;
 ghost use Rattle.run_data.specs.declared.entry.Entry.{Entry};

@@ -1,4 +1,4 @@
-//! Laws on globs, which no call depends on.
+//! Laws on globs: each is the contract of a function that does nothing.
 ghost use Rattle.std.specs.Prelude.{◌≡◌, ◌↔◌, List, ℕ, IsTrue};
 ghost use Rattle.glob_match.specs.declared.item.Item.{Item};
 ghost use Rattle.glob_match.specs.Glob.{IsGlob, IsMatch, glob_matches};

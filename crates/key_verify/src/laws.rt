@@ -1,4 +1,4 @@
-//! Laws on verdicts and made keys, which no call depends on.
+//! Laws on verdicts and made keys: each is the contract of a function that does nothing.
 ghost use Rattle.std.specs.Prelude.{◌≡◌, ◌↔◌, ◌<◌, ◌^◌, List, ℕ, length};
 ghost use Rattle.annex_key.specs.KeyText.{IsKey, key_text};
 ghost use Rattle.key_verify.specs.MakingKeys.{made_key};

@@ -1,4 +1,4 @@
-//! Laws on the ends of connections, which no call depends on.
+//! Laws on the ends of connections: each is the contract of a function that does nothing.
 ghost use Rattle.std.specs.Prelude.{◌≡◌, ℕ, List, false, IfSome};
 ghost use Rattle.link_ring.specs.Frames.{is_old};
 ghost use Rattle.link_ring.specs.Ends.{EndView, ArePaired, after_carry, fresh, next_frame};

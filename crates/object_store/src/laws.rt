@@ -1,4 +1,4 @@
-//! Laws on what stores tell, which no call depends on.
+//! Laws on what stores tell: each is the contract of a function that does nothing.
 ghost use Rattle.std.specs.Prelude.{◌≡◌, ◌<◌, List, ◌∷◌, All};
 ghost use Rattle.object_store.specs.declared.keeper.HoldRecord.{HoldRecord};
 ghost use Rattle.object_store.specs.Stores.{with_record};

@@ -6,6 +6,7 @@ use Rattle.std.proofs.lemmas.Bool.{eqb-true, eqb-false}
 use Rattle.std.proofs.lemmas.Bool.Decides.{nat_tests}
 use Rattle.std.proofs.lemmas.List.{append_assoc, length-append, length-take, length-take-le, get_or-take, take_at, take-append-drop}
 use Rattle.std.proofs.lemmas.List.Sums.{split_at_first, passes_at_first, fails_before_first}
+use Rattle.std.proofs.Math.Seq.{take-length}
 use Rattle.annex_base.specs.Lines.{is_newline, newline, IsOneLine}
 use Rattle.p2p_wire.specs.declared.message.Message.{Message}
 use Rattle.p2p_wire.specs.declared.decoder.Why.{Why}
@@ -26,12 +27,8 @@ clear_before n bytes low found =
     let same : get_or (take n bytes) found.0 newline ≡ get_or bytes found.0 newline = get_or-take n bytes found.0 newline among in
     eqb-false (get_or bytes found.0 newline) newline fails (sym same ∙ found.2)
 
-take_whole : (bytes : List ℕ) → take (length bytes) bytes ≡ bytes
-take_whole [] = refl
-take_whole (b ∷ bytes) = ap (λ xs. b ∷ xs) (take_whole bytes)
-
 clear_by_len : (bytes : List ℕ) → line_len bytes ≡ length bytes → IsOneLine bytes
-clear_by_len bytes same = subst IsOneLine (take_whole bytes) (clear_before (length bytes) bytes (omega (arith, same)))
+clear_by_len bytes same = subst IsOneLine (take-length bytes) (clear_before (length bytes) bytes (omega (arith, same)))
 
 -- the first line, where its newline is at hand
 first_line : (bytes : List ℕ) → line_len bytes < length bytes → bytes ≡ before_first is_newline bytes ++ newline ∷ after_first is_newline bytes

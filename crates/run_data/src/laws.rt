@@ -1,4 +1,4 @@
-//! Laws on the log files of a branch, which no call depends on.
+//! Laws on the log files of a branch: each is the contract of a function that does nothing.
 ghost use Rattle.std.specs.Prelude.{◌≡◌, ◌≢◌, ◌⊎◌, ℕ, List, Some, None};
 ghost use Rattle.log_lines.specs.declared.entry.LogKind.{LogKind};
 ghost use Rattle.union_merge.specs.LineSet.{IsLine};

@@ -1,5 +1,5 @@
 -- A content is read exactly from the words that describe it.
-use Rattle.std.proofs.Common.{◌≡◌, ◌⊎◌, inl, inr, ℕ, ◌+◌, ◌<◌, ◌^◌, true, List, [], ◌∷◌, ◌++◌, length, take, drop, Option, Some, None, Result, Ok, Err, refl, sym, ap, subst, ◌∙◌, arith, drop-drop}
+use Rattle.std.proofs.Common.{◌≡◌, inl, inr, ℕ, ◌+◌, ◌<◌, ◌^◌, true, List, [], ◌∷◌, ◌++◌, length, take, drop, Some, Result, Ok, Err, refl, sym, ap, subst, ◌∙◌, arith, drop-drop}
 use Rattle.std.specs.Prelude.{not, codes, bytes_eq}
 use Rattle.std.specs.Char.{is_ascii_digit}
 use Rattle.std.specs.Fmt.{decimal}
@@ -18,7 +18,7 @@ use Rattle.annex_base.specs.OptionSteps.{◌>>=◌}
 use Rattle.annex_base.proofs.Conditions.{bytes_eq-refl, bytes_eq-true}
 use Rattle.annex_base.proofs.DecimalLemmas.{number_is, number_some}
 use Rattle.annex_base.proofs.Numbers.{decimal-all}
-use Rattle.annex_base.proofs.Options.{bind_some}
+use Rattle.annex_base.proofs.Options.{bind_some, option_or-was}
 use Rattle.script_words.specs.Marks.{behind_mark}
 use Rattle.script_words.specs.Numbers.{number_up_to}
 use Rattle.script_words.specs.Contents.{is_colon, fill_bytes, fill_numbers, text_content, hex_content, fill_content, content_of, Describes}
@@ -64,10 +64,6 @@ content_found _ _ (Hex digits bytes is) = rw is refl
 content_found _ _ (Fill n s small low) = rw (numbers_found n s small low) refl
 
 -- ---- a content that is read is described
-
-or_some : {A : Type 0} (o p : Option A) (y : A) → option_or o p ≡ Some y → (o ≡ Some y) ⊎ (p ≡ Some y)
-or_some None p y e = inr e
-or_some (Some x) p y e = inl e
 
 ok_some : {A E : Type 0} (r : Result A E) (y : A) → result_ok r ≡ Some y → r ≡ Ok y
 ok_some (Ok x) y e = cc
@@ -119,9 +115,9 @@ fill_described word content e =
 
 pub content_described : (word content : List ℕ) → content_of word ≡ Some content → Describes word content
 unfolding content_of
-content_described word content e = elim (or_some (text_content word) (option_or (hex_content word) (fill_content word)) content e) [
+content_described word content e = elim (option_or-was (text_content word) (option_or (hex_content word) (fill_content word)) content e) [
   | inl text ↦ text_described word content text
-  | inr other ↦ elim (or_some (hex_content word) (fill_content word) content other) [
+  | inr other ↦ elim (option_or-was (hex_content word) (fill_content word) content other) [
     | inl hex ↦ hex_described word content hex
     | inr fill ↦ fill_described word content fill
   ]

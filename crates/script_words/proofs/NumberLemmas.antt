@@ -2,22 +2,18 @@
 use Rattle.std.proofs.Common.{◌≡◌, ℕ, ◌<◌, ◌≤◌, ◌^◌, List, [], Some, length, refl, sym, ap, subst, ◌∙◌, arith}
 use Rattle.std.specs.Prelude.{nat_le}
 use Rattle.std.specs.Fmt.{decimal}
-use Rattle.std.specs.Str.Parse.{AllDigits, digits_value}
+use Rattle.std.specs.Str.Parse.{digits_value}
 use Rattle.std.proofs.lemmas.Bool.{leb-true, le-leb}
 use Rattle.std.proofs.lemmas.Fmt.{digits_value-decimal, decimal_digit}
 use Rattle.std.proofs.lemmas.Option.{cond_some}
-use Rattle.std.proofs.lemmas.Str.Parse.{IsNumeralModel, numerals_by_value, tells_digits}
 use Rattle.annex_base.specs.Decimal.{number_of}
-use Rattle.annex_base.proofs.DecimalLemmas.{number_is, number_some}
+use Rattle.annex_base.proofs.DecimalLemmas.{number_is, number_some, numerals}
 use Rattle.annex_base.proofs.Options.{bind_some}
 use Rattle.script_words.specs.Numbers.{up_to, number_up_to}
 
-own : IsNumeralModel (AllDigits 10) (digits_value 10)
-own = numerals_by_value (AllDigits 10) tells_digits
-
 pub decimal_filled : (n : ℕ) → n < 2 ^ 64 → [] ≡ decimal n → ⊥
 decimal_filled n small none =
-    let zero_is : 0 ≡ n = ap (digits_value 10) none ∙ digits_value-decimal own n small in
+    let zero_is : 0 ≡ n = ap (digits_value 10) none ∙ digits_value-decimal numerals n small in
     omega (arith, ap length none ∙ ap (λ k. length (decimal k)) (sym zero_is) ∙ ap length (decimal_digit 0 (omega arith)))
 
 pub number_read : (greatest n : ℕ) → n ≤ greatest → n < 2 ^ 64 → number_up_to greatest (decimal n) ≡ Some n

@@ -1,5 +1,5 @@
 -- The claims and grouped repositories of entries, and that they are those of the branch which the entries were read of.
-use Rattle.std.proofs.Common.{◌≡◌, ◌≢◌, ℕ, not, ◌&&◌, List, [], ◌∷◌, filter, Option, Some, None, Result, Ok, Err, IfOk, refl, sym, ap, ◌∙◌}
+use Rattle.std.proofs.Common.{◌≡◌, ◌≢◌, ℕ, not, ◌&&◌, List, [], ◌∷◌, filter, Option, Some, None, refl, sym, ap, ◌∙◌}
 use Rattle.std.specs.List.Sorted.{IsStrictlySortedBy}
 use Rattle.std.proofs.lemmas.Bool.{and_parts}
 use Rattle.annex_base.specs.ByteOrder.{text_cmp}
@@ -22,10 +22,6 @@ use Rattle.trust_groups.specs.View.{entries_of, settings_of}
 use Rattle.trust_groups.proofs.PathLemmas.{location_kind}
 use Rattle.trust_groups.proofs.RepoLemmas.{IsRising, repos_member, repos_sorted}
 use Rattle.trust_groups.proofs.ClaimLemmas.{not_dead}
-
-pub ok_then : {T E : Type 0} {P Q : T → Type 0} (r : Result T E) → IfOk r P → ((v : T) → P v → Q v) → IfOk r Q
-ok_then (Ok v) h f = f v h
-ok_then (Err e) h f = tt
 
 -- ---- of a branch
 

@@ -1,4 +1,4 @@
-//! Laws of what a branch says, which no call depends on.
+//! Laws of what a branch says: each is the contract of a function that does nothing.
 ghost use Rattle.std.specs.Prelude.{◌≡◌, ◌≢◌, ◌↔◌, ◌≤◌, ◌++◌, ℕ, List, []};
 ghost use Rattle.std.specs.List.Sorted.{IsStrictlySortedBy};
 ghost use Rattle.annex_base.specs.ByteOrder.{text_cmp};

@@ -4,7 +4,7 @@ use Rattle.std.specs.Prelude.{codes}
 use Rattle.std.specs.Char.{is_ascii_digit}
 use Rattle.std.specs.List.{list_all}
 use Rattle.std.proofs.lemmas.Bool.{and_parts, and_from, eqb-true}
-use Rattle.std.proofs.lemmas.List.{take-append-drop}
+use Rattle.std.proofs.lemmas.List.{get_or-drop, take-append-drop}
 use Rattle.annex_base.proofs.Conditions.{by_test}
 use Rattle.annex_base.proofs.Lists.{list_all_parts, list_all_weaker, cons_first, cons_rest}
 use Rattle.wanted_expr.specs.declared.data.Among.{Among}
@@ -53,11 +53,6 @@ colonless_by (c ∷ cs) h =
     (by_test (c == 58) (λ t. let is : c ≡ 58 = eqb-true c 58 t in absurd (h 0 (omega arith) is)) (λ t. ap not t))
     (colonless_by cs (λ k within e. h (suc k) (omega (arith, within)) e))
 
-at_drop : (n : ℕ) (xs : List ℕ) (k : ℕ) → get_or (drop n xs) k 0 ≡ get_or xs (n + k) 0
-at_drop zero xs k = ap (λ (m : ℕ). get_or xs m 0) (let e : k ≡ 0 + k = omega arith in e)
-at_drop (suc n) [] k = refl
-at_drop (suc n) (x ∷ xs) k = at_drop n xs k ∙ ap (λ (m : ℕ). get_or (x ∷ xs) m 0) (let e : suc (n + k) ≡ suc n + k = omega arith in e)
-
 length_drop : (n : ℕ) (xs : List ℕ) (x : ℕ) (ys : List ℕ) → drop n xs ≡ x ∷ ys → n + suc (length ys) ≡ length xs
 length_drop zero xs x ys e = omega (arith, ap length e)
 length_drop (suc n) [] x ys e = absurd (omega (arith, ap length e))
@@ -70,8 +65,8 @@ record IsCut (value kind digits : List ℕ) : Type 0 where
 
 cut_is : (value kind digits : List ℕ) (x colon : ℕ) → kind ≡ take colon value → drop colon value ≡ x ∷ digits → get_or value colon 0 ≡ 58 → ((k : ℕ) → colon < k → k < length value → get_or value k 0 ≡ 58 → ⊥) → IsCut value kind digits
 cut_is value kind digits x colon front back is later =
-    let first : x ≡ 58 = sym (ap (λ (w : List ℕ). get_or w 0 0) back) ∙ (at_drop colon value 0 ∙ (ap (λ (m : ℕ). get_or value m 0) (let e : colon + 0 ≡ colon = omega arith in e) ∙ is)) in
-    let place : (k : ℕ) → get_or digits k 0 ≡ get_or value (colon + suc k) 0 = λ k. sym (ap (λ (w : List ℕ). get_or w (suc k) 0) back) ∙ at_drop colon value (suc k) in
+    let first : x ≡ 58 = sym (ap (λ (w : List ℕ). get_or w 0 0) back) ∙ (get_or-drop colon value 0 0 ∙ (ap (λ (m : ℕ). get_or value m 0) (let e : colon + 0 ≡ colon = omega arith in e) ∙ is)) in
+    let place : (k : ℕ) → get_or digits k 0 ≡ get_or value (colon + suc k) 0 = λ k. sym (ap (λ (w : List ℕ). get_or w (suc k) 0) back) ∙ get_or-drop colon value (suc k) 0 in
     let long : colon + suc (length digits) ≡ length value = length_drop colon value x digits back in
     record {
       spelled = sym (take-append-drop colon value) ∙ (ap (λ (w : List ℕ). w ++ drop colon value) (sym front) ∙ ap (λ (w : List ℕ). kind ++ w) (back ∙ ap (λ (d : ℕ). d ∷ digits) first));

@@ -5,10 +5,10 @@ use Rattle.std.specs.Char.{IsScalar}
 use Rattle.std.specs.Str.{IsUtf8, IsCharBoundary, is_utf8}
 use Rattle.std.proofs.lemmas.Bool.{and_parts, eqb-true, ne_eqb}
 use Rattle.std.proofs.lemmas.Str.{IsUtf8-append, IsUtf8-encode, IsUtf8-nil, IsUtf8-from_is_utf8, is_utf8-from_IsUtf8, IsUtf8-past_char, IsUtf8-drop, IsCharBoundary-after_ascii, encode_ascii, inside_one}
+use Rattle.std.proofs.Math.Seq.{drop-append_seam}
 use Rattle.annex_base.proofs.Conditions.{by_test, if_either}
 use lib.Utf8.{encode, encodes, scalar, scalars}
 use Rattle.wanted_expr.proofs.TokenLemmas.{byte_on}
-use Rattle.wanted_expr.proofs.WordLemmas.{dropped}
 use Rattle.wanted_expr.specs.Pieces.{Piece, Opening, Closing, PieceRead, WordRead, IsTextPiece, after_bytes, after_spaces, as_piece, ends_word, piece_at, piece_here, word_at}
 
 -- the bytes of a character past ASCII are none of ASCII
@@ -120,5 +120,5 @@ value_text name value u =
     let is = equals_at name value in
     let long : length text ≡ length name + 1 + length value = omega (arith, length-append (name ++ codes "=") value, length-append name (codes "=")) in
     let cut : IsCharBoundary text (length name + 1) = IsCharBoundary-after_ascii text (length name) all (omega (arith, long)) (omega (arith, is)) in
-    let rest : drop (length name + 1) text ≡ value = ap (λ (n : ℕ). drop n text) (let e : length name + 1 ≡ length (name ++ codes "=") = omega (arith, length-append name (codes "=")) in e) ∙ dropped (name ++ codes "=") value in
+    let rest : drop (length name + 1) text ≡ value = ap (λ (n : ℕ). drop n text) (let e : length name + 1 ≡ length (name ++ codes "=") = omega (arith, length-append name (codes "=")) in e) ∙ drop-append_seam (name ++ codes "=") value in
     is_utf8-from_IsUtf8 value (subst IsUtf8 rest (IsUtf8-drop text (length name + 1) all cut))

@@ -60,10 +60,6 @@ fits_count w n (Err e) h k short = λ m j. h (omega (arith, k.1, digits_value_sh
 
 -- Texts cut before an end.
 
-pub dropped : (front end : List ℕ) → drop (length front) (front ++ end) ≡ end
-dropped [] end = refl
-dropped (x ∷ front) end = dropped front end
-
 pub stripped : {X : Type 0} (now : X → List ℕ) (text end : List ℕ) (o : Option X) → MatchOption o (bytes_eq (drop (length text - length end) text) end ≡ false) (λ x. (bytes_eq (drop (length text - length end) text) end ≡ true) × (now x ≡ take (length text - length end) text) × (length (now x) + length end ≡ length text)) → MatchOption o ((front : List ℕ) → text ≡ front ++ end → ⊥) (λ x. text ≡ now x ++ end)
 stripped now text end None h = λ front e. true≢false (sym (ap (λ (w : List ℕ). bytes_eq w end) (end_rest text end front e) ∙ bytes_eq-refl end) ∙ h)
 stripped now text end (Some x) h =

@@ -1,4 +1,4 @@
-//! Laws on expressions, which no call depends on.
+//! Laws on expressions: each is the contract of a function that does nothing.
 ghost use Rattle.std.specs.Prelude.{◌≡◌, ◌++◌, IsTrue, List, Ok, Some, codes, ℕ};
 ghost use Rattle.std.specs.Str.{is_utf8};
 ghost use Rattle.wanted_expr.specs.declared.fault.ExprFault.{ExprFault};

@@ -1,9 +1,9 @@
 -- What the proof of `indices::add_line` needs beside the tactics.
 use Rattle.std.proofs.Common.{sym, ap, subst, ◌∙◌}
+use Rattle.std.proofs.lemmas.Result.{IfOk-weaker}
 use Rattle.log_lines.specs.Index.{empty_index, index_with}
 use Rattle.trust_groups.specs.Adding.{indices_and}
 use Rattle.trust_groups.specs.Reads.{Indices, HaveReadLines, kind_at, lines_with, view_of}
-use Rattle.trust_groups.proofs.KeptLemmas.{ok_then}
 use Rattle.trust_groups.proofs.ReadsLemmas.{known_reads, first_reads}
 use Rattle.trust_groups.proofs.indices.add_line.Goals as goal
 
@@ -18,7 +18,7 @@ returns-clause-reads c =
     let path = c.args.path.now in
     let line = c.args.line.now in
     let unknown = c.in_ok-add_known.ensures.unknown c.if-branch.false in
-    ok_then c.add_first.result c.add_first.ensures.ok (λ v is lines reads.
+    IfOk-weaker c.add_first.result _ _ (λ v is lines reads.
     subst (λ (es : Indices). HaveReadLines es (lines_with lines path line))
     (sym (is ∙ ap (λ (es : Indices). indices_and es path (index_with (empty_index (kind_at path)) line)) unknown.1))
-    (first_reads (view_of c.args.files.now.entries) path line lines unknown.0 reads))
+    (first_reads (view_of c.args.files.now.entries) path line lines unknown.0 reads)) c.add_first.ensures.ok
