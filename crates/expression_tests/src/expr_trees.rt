@@ -7,11 +7,11 @@ fn shown(alloc: Global, text: &str) -> Option<String> {
     format!(in alloc; "{expr:?}").ok()
 }
 
-fn same_tree(alloc: Global, text: &str, other: &str) -> bool {
-    match (shown(alloc, text), shown(alloc, other)) {
-        (Some(text), Some(other)) => text == other,
-        _ => false,
-    }
+/// Whether two texts have one tree, where both are expressions.
+fn same_tree(alloc: Global, text: &str, other: &str) -> Option<bool> {
+    let text = shown(alloc, text)?;
+    let other = shown(alloc, other)?;
+    Some(text == other)
 }
 
 #[test]
@@ -58,7 +58,7 @@ fn and_and_or_are_taken_from_left_to_right(rt: HostRuntime) {
         ),
     ];
     for (text, grouped) in rows {
-        assert!(rt; same_tree(rt.alloc(), text, grouped), "{text}");
+        assert_eq!(rt; same_tree(rt.alloc(), text, grouped), Some(true), "{text}");
     }
 }
 
@@ -87,7 +87,7 @@ fn not_takes_one_term(rt: HostRuntime) {
         ),
     ];
     for (text, grouped) in rows {
-        assert!(rt; same_tree(rt.alloc(), text, grouped), "{text}");
+        assert_eq!(rt; same_tree(rt.alloc(), text, grouped), Some(true), "{text}");
     }
 }
 
@@ -103,7 +103,7 @@ fn other_trees_are_told_apart(rt: HostRuntime) {
         ("not not present", "present"),
     ];
     for (text, other) in rows {
-        assert!(rt; !same_tree(rt.alloc(), text, other), "{text}");
+        assert_eq!(rt; same_tree(rt.alloc(), text, other), Some(false), "{text}");
     }
 }
 
@@ -125,7 +125,7 @@ fn words_have_several_spellings(rt: HostRuntime) {
         ("copies=0:1", "copies=\"0:1\""),
     ];
     for (text, other) in rows {
-        assert!(rt; same_tree(rt.alloc(), text, other), "{text}");
+        assert_eq!(rt; same_tree(rt.alloc(), text, other), Some(true), "{text}");
     }
 }
 
@@ -172,6 +172,6 @@ fn expressions_of_the_manual_pages_are_read(rt: HostRuntime) {
         ),
     ];
     for (text, grouped) in rows {
-        assert!(rt; same_tree(rt.alloc(), text, grouped), "{text}");
+        assert_eq!(rt; same_tree(rt.alloc(), text, grouped), Some(true), "{text}");
     }
 }

@@ -218,13 +218,6 @@ impl Dialog {
         }
     }
 
-    /// What is awaited now.
-    pub fn awaited(&self) -> Awaited
-        ensures { result ≡ self.now }
-    {
-        self.awaited
-    }
-
     /// The message of a request. File is sent empty (own), which takes no memory.
     pub fn ask(&mut self, alloc: Global, request: Request) -> Result<Message, NoMemory>
         requires { self.old ≡ Awaited.Nothing }

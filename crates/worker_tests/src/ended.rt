@@ -44,6 +44,25 @@ pub enum Ended {
     Never,
 }
 
+/// A drop that is done, with so many repositories in its proof.
+pub fn dropped(locked: usize, trusted: usize, recent: usize) -> Ended {
+    Ended::Dropped {
+        locked,
+        trusted,
+        recent,
+    }
+}
+
+/// A drop that lacks copies: so many were locked, and so many candidates had a cause.
+pub fn lacking(locked: usize, causes: usize) -> Ended {
+    Ended::Lacking {
+        locked,
+        trusted: 0,
+        recent: 0,
+        causes,
+    }
+}
+
 pub fn ended_so(kind: Option<EntryKind>) -> Ended {
     match kind {
         Some(EntryKind::End { job: _, outcome }) => outcome_so(outcome),

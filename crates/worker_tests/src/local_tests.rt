@@ -8,7 +8,7 @@ ghost use Rattle.drop_worker.specs.Feeding.{ToldAt};
 ghost use Rattle.drop_worker.specs.Sides.{FitsSide, side_in};
 
 use crate::desk::Desk;
-use crate::ended::{Ended, ended_so};
+use crate::ended::{Ended, dropped, ended_so, lacking};
 use crate::peers::{Answer, Peer, reply, told};
 use annex_base::{Call, NoMemory, RepoId, Word};
 use annex_key::Key;
@@ -177,40 +177,19 @@ fn drop_of(alloc: Global, row: Row) -> Result<Ended, Fail> {
 // A drop with enough evidence removes its content and states it; any other is refused with its cause.
 #[test]
 fn drops_end_so(rt: HostRuntime) -> Result<(), Fail> {
-    let none = Ended::Lacking {
-        locked: 0,
-        trusted: 0,
-        recent: 0,
-        causes: 3,
+    let expired = Ended::Expired {
+        end: 1_200_000,
+        clock: 1_800_000,
     };
+    let absent = Peer::Lacks(Some(Word::Absent));
     for (name, row, wanted) in [
         (
             "two locks of three peers",
             Row::new(2, Peer::Locks),
-            Ended::Dropped {
-                locked: 2,
-                trusted: 0,
-                recent: 0,
-            },
+            dropped(2, 0, 0),
         ),
-        (
-            "a look",
-            Row::new(1, Peer::Has),
-            Ended::Dropped {
-                locked: 0,
-                trusted: 0,
-                recent: 1,
-            },
-        ),
-        (
-            "a trusted claim",
-            Row::trusting(2),
-            Ended::Dropped {
-                locked: 0,
-                trusted: 1,
-                recent: 0,
-            },
-        ),
+        ("a look", Row::new(1, Peer::Has), dropped(0, 0, 1)),
+        ("a trusted claim", Row::trusting(2), dropped(0, 1, 0)),
         ("no content", Row::absent(), Ended::NotPresent),
         (
             "a look that fails",
@@ -224,33 +203,17 @@ fn drops_end_so(rt: HostRuntime) -> Result<(), Fail> {
         ),
         (
             "peers without the content",
-            Row::new(1, Peer::Lacks(Some(Word::Absent))),
-            none,
+            Row::new(1, absent),
+            lacking(0, 3),
         ),
-        ("peers that close", Row::new(1, Peer::Closes), none),
+        ("peers that close", Row::new(1, Peer::Closes), lacking(0, 3)),
         (
             "peers of a strange version",
             Row::new(1, Peer::Speaks(4)),
-            none,
+            lacking(0, 3),
         ),
-        (
-            "one untrusted of three",
-            Row::wary(2),
-            Ended::Lacking {
-                locked: 2,
-                trusted: 0,
-                recent: 0,
-                causes: 1,
-            },
-        ),
-        (
-            "locks that expired",
-            Row::late(),
-            Ended::Expired {
-                end: 1_200_000,
-                clock: 1_800_000,
-            },
-        ),
+        ("one untrusted of three", Row::wary(2), lacking(2, 1)),
+        ("locks that expired", Row::late(), expired),
     ] {
         assert_eq!(rt; drop_of(rt.alloc(), row)?, wanted, "{name}");
     }

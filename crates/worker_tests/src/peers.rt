@@ -1,8 +1,8 @@
 //! Peers that answer by a script.
 ghost use Rattle.std.specs.Prelude.{◌≡◌, IfOk};
 
-use annex_base::{NoMemory, RepoId, Text, Word};
-use drop_worker::{Parcel, ParcelBody, Taken};
+use annex_base::{RepoId, Word};
+use drop_worker::{ParcelBody, Taken};
 use p2p_wire::Message;
 
 /// How a peer answers a drop.

@@ -6,7 +6,7 @@ ghost use Rattle.drop_worker.specs.Doing.{HasToken};
 ghost use Rattle.drop_worker.specs.Sides.{FitsSide, side_in};
 
 use crate::desk::Desk;
-use crate::ended::{Ended, ended_so};
+use crate::ended::{Ended, dropped, ended_so, lacking};
 use crate::local_tests::feed;
 use crate::peers::{Answer, Peer, Target, obey, reply};
 use annex_base::{Call, NoMemory, RepoId, Word};
@@ -14,7 +14,7 @@ use annex_key::Key;
 use content_lock::LockTable;
 use drop_proof::Need;
 use drop_worker::{Input, Parcel, Time, Worker, end, holds_are_numbered, step};
-use object_store::{FailingKeeper, Keeper, KeeperFault, MemoryKeeper};
+use object_store::{FailingKeeper, Keeper, MemoryKeeper};
 use run_data::{Denial, EntryKind, Job, JobKind};
 use std::alloc::Global;
 use std::mem;
@@ -169,14 +169,6 @@ fn drop_of(alloc: Global, row: Row) -> Result<Ended, Fail> {
     Ok(ended_so(kind?))
 }
 
-fn dropped(locked: usize, trusted: usize, recent: usize) -> Ended {
-    Ended::Dropped {
-        locked,
-        trusted,
-        recent,
-    }
-}
-
 fn denied(answer: Denial) -> Ended {
     Ended::Denied { answer }
 }
@@ -238,12 +230,7 @@ fn drops_are_refused(rt: HostRuntime) -> Result<(), Fail> {
         (
             "no content but the target's",
             Row::absent(1, Peer::Lacks(None)),
-            Ended::Lacking {
-                locked: 0,
-                trusted: 0,
-                recent: 0,
-                causes: 3,
-            },
+            lacking(0, 3),
         ),
         (
             "a target that closes before the order",
