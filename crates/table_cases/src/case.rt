@@ -46,6 +46,11 @@ impl Case {
         &self.question
     }
 
+    /// The texts after it.
+    pub fn texts(&self) -> &[Vec<u8>] {
+        &self.texts
+    }
+
     /// The text at this place, from 0; the empty text where there are fewer.
     pub fn text(&self, at: usize) -> &[u8] {
         match self.texts.get(at) {
