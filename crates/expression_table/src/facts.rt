@@ -43,7 +43,7 @@ fn claimant(alloc: Global, text: &str) -> Result<Claimant, TableFault> {
     })
 }
 
-/// The claimants of the case: its texts from the fourth on.
+/// The claimants of the case: its fourth to sixth text, where there are so many.
 fn claimants(alloc: Global, case: &Case) -> Result<Items<Claimant>, TableFault> {
     let mut claimed = Items::new(alloc);
     for at in 3..6 {

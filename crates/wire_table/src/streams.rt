@@ -96,7 +96,7 @@ fn decoded(alloc: Global, pieces: [&[u8]; 3]) -> Result<Seen, NoMemory> {
     Ok(seen)
 }
 
-/// The messages of the case: what its texts from the third on say.
+/// The messages of the case: what its third to eighth text say, where there are so many.
 fn wanted(alloc: Global, case: &Case) -> Result<Vec<Message>, TableFault> {
     let mut messages = Vec::new(alloc);
     for at in 2..8 {
