@@ -1,36 +1,8 @@
 //! How a table spells a text: on one line, by signs.
 
-use annex_base::NoMemory;
+use crate::fault::TableFault;
 use hex::FromHexError;
-use std::alloc::{AllocError, AllocFailed, Global};
-use thiserror::Error;
-
-/// Why a line is none of a table.
-#[derive(Clone, Copy, Debug, PartialEq, Eq, Error)]
-pub enum TableFault {
-    #[error("no line of a table")]
-    Wrong,
-    #[error("out of memory")]
-    NoMemory,
-}
-
-impl From<NoMemory> for TableFault {
-    fn from(_e: NoMemory) -> TableFault {
-        TableFault::NoMemory
-    }
-}
-
-impl From<AllocError> for TableFault {
-    fn from(_e: AllocError) -> TableFault {
-        TableFault::NoMemory
-    }
-}
-
-impl<T: Drop> From<AllocFailed<T>> for TableFault {
-    fn from(_e: AllocFailed<T>) -> TableFault {
-        TableFault::NoMemory
-    }
-}
+use std::alloc::{AllocError, Global};
 
 /// The last decimal digit of a number.
 fn digit(number: u32) -> u8 {
