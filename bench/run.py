@@ -160,14 +160,6 @@ def read_time(script):
     return median_time([str(PROGRAM), "run"], script, 2)
 
 
-def bench_time(words):
-    """The time of the program `bench`, which is built where it is missing, with these words."""
-    program = TOP / "crates" / "bench" / "out" / "bench"
-    if not program.exists():
-        subprocess.run(["rt", "run"], cwd=program.parent.parent, stdout=subprocess.DEVNULL, check=True)
-    return median_time([str(program), *map(str, words)])
-
-
 # A line of each kind: '#' stands for its number, and '%' for that number's rest by 4,095, since the tree has at most 4,096 paths.
 LINES = (
     ("a comment", "# comment #"),
@@ -299,18 +291,6 @@ def main():
             [(n, n, script_of(line, n)) for n in (65_536, 131_072, 262_144, 524_288, 1_048_576)],
             read_time,
         )
-    for work in ("messages", "data"):
-        for piece in (1, 100, 32768):
-            table(
-                "kibibytes of %s, decoded in pieces of %d bytes" % (work, piece),
-                [(n, n, (work, piece, n)) for n in (256, 1024, 4096, 16384)],
-                bench_time,
-            )
-    for work, title in (
-        ("read", "bytes of an expression, read 1,000 times"),
-        ("judge", "bytes of an expression, read once and judged 1,000 times"),
-    ):
-        table(title, [(n, n, (work, n)) for n in (10, 100, 1000, 4000)], bench_time)
 
 
 if __name__ == "__main__":
