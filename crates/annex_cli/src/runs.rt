@@ -24,7 +24,7 @@ use std::alloc::Global;
 pub const ENTRY_LIMIT: u64 = 100_000;
 
 /// The run of a script, and whether it ended where a line met a full history (own).
-#[derive(Debug, Drop)]
+#[derive(Drop)]
 pub struct Ran {
     pub run: Run,
     pub is_cut: bool,

@@ -44,7 +44,7 @@ pub enum ParcelBody {
 }
 
 /// What a step does: an entry, and what is sent with it. The last step ends the job.
-#[derive(Debug, Drop)]
+#[derive(Drop)]
 pub struct Output {
     pub kind: EntryKind,
     pub sends: Sends,
