@@ -31,9 +31,9 @@ use Rattle.run_text.specs.Outcomes.{outcome_text}
 use Rattle.journal_text.specs.Journal.{journal_of}
 use Rattle.report_text.specs.Row.{row_at, row_text}
 use Rattle.script_lang.specs.Changes.{Change, Declares, Puts, Brings, Adds, Names, Waits, Nothing, change_of}
-use Rattle.script_lang.specs.declared.command.NamedKey.{NamedKey}
-use Rattle.script_lang.specs.declared.command.Command.{Command}
-use Rattle.script_lang.specs.declared.command.Command.TheVariants as commands
+use Rattle.script_commands.specs.declared.command.NamedKey.{NamedKey}
+use Rattle.script_commands.specs.declared.command.Command.{Command}
+use Rattle.script_commands.specs.declared.command.Command.TheVariants as commands
 
 -- A line ends with a newline. Lists are joined by commas, names after `presence` and `claims` by spaces; an empty list
 -- is a dash. These have no text yet: the line of a sync, which is also to hold back the lines of its jobs that are

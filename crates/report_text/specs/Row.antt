@@ -11,7 +11,7 @@ use Rattle.run_model.specs.Safety.{past_at}
 use Rattle.run_text.specs.Jobs.{key_text}
 use Rattle.run_text.specs.Words.{joined_text, number_or_dash}
 use Rattle.run_text.specs.Names.{name_of}
-use Rattle.script_lang.specs.declared.command.NamedKey.{NamedKey}
+use Rattle.script_commands.specs.declared.command.NamedKey.{NamedKey}
 
 -- ---- the row
 

@@ -10,8 +10,8 @@ use Rattle.report_text.specs.Branches.{HasBranches, LogsLines}
 use Rattle.report_text.specs.Contents.{Tracks}
 use Rattle.report_text.specs.Rows.{HasRows}
 use Rattle.report_text.specs.declared.walk.Walk.{Walk}
-use Rattle.script_lang.specs.declared.command.Command.{Command}
-use Rattle.script_lang.specs.declared.command.Command.TheVariants as commands
+use Rattle.script_commands.specs.declared.command.Command.{Command}
+use Rattle.script_commands.specs.declared.command.Command.TheVariants as commands
 
 -- the walk knows the contents, the branches and the rows after these entries, the newest first
 pub record Knows (walk : Walk) (repos : List RepoView) (past : List Entry) : Type 0 where

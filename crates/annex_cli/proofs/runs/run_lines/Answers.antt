@@ -1,7 +1,7 @@
 -- One line more, and after the last none is left.
 use Rattle.std.proofs.Common.{◌+◌, ◌<◌, ◌≤◌, true, [], List, ◌≡◌, length, drop, Err, sym, ap, ◌∙◌, subst, arith}
 use Rattle.repo_node.specs.Stored.{store_view}
-use Rattle.script_lang.specs.declared.command.Command.{Command}
+use Rattle.script_commands.specs.declared.command.Command.{Command}
 use Rattle.fleet_run.specs.declared.stop.FleetStop.TheVariants.{Full}
 use Rattle.annex_cli.specs.Runs.{HasDone, IsRunOf}
 use Rattle.annex_cli.proofs.RunLemmas.{cut_here, done_at_first, done_before, done_next, few_done, may_be_done, none_left, stop_is}
