@@ -1,4 +1,4 @@
--- What a worker knows, by what it reads; for private contracts (own).
+-- What a worker knows, by what it reads; for the crates of drops (own).
 use Rattle.std.specs.Prelude.{ℕ, ◌+◌, ◌&&◌, Bool, List, [], ◌∷◌, Option, Some, None}
 use Rattle.std.specs.List.{range_with_len}
 use Rattle.drop_proof.specs.declared.evidence.Evidence.{Evidence}

@@ -1,4 +1,4 @@
--- Which calls of its store a step of a drop makes, where the store tells its contents, for private contracts (own).
+-- Which calls of its store a step of a drop makes, where the store tells its contents, for the crates of drops (own).
 use Rattle.std.specs.Prelude.{◌≡◌, ℕ, Bool, not, ◌&&◌, List, [], Option, Some, None, Result, Ok, Err}
 use Rattle.std.specs.List.{list_any}
 use Rattle.std.specs.Option.{ForSome, option_map}

@@ -1,4 +1,4 @@
--- What a step of a local drop does and leaves, in one fact, for private contracts (own).
+-- What a step of a local drop does and leaves, in one fact, for the crates of drops (own).
 use Rattle.std.specs.Prelude.{◌≡◌, ◌≤◌, ℕ, true, false, List, [], Option, None, IfSome, IfOk, OnErr, Result, Ok, Err}
 use Rattle.std.specs.Option.{ForSome}
 use Rattle.annex_base.specs.Causes.{Rose}

@@ -1,4 +1,4 @@
--- What a remote drop has and knows at a step, and what its step leaves; for private contracts (own).
+-- What a remote drop has and knows at a step, and what its step leaves; for the crates of drops (own).
 use Rattle.std.specs.Prelude.{◌≡◌, ◌≤◌, ◌<◌, ◌^◌, ◌==◌, ◌&&◌, ℕ, Bool, true, false, nat_lt, if◌then◌else◌, List, [], ◌∷◌, Option, Some, None, IfSome, Result, Ok, Err, IfOk, OnErr, filter}
 use Rattle.std.specs.List.{range_with_len}
 use Rattle.std.specs.Option.{ForSome}
