@@ -1,5 +1,5 @@
 -- Lemmas on remote drops, for their crates.
-pub mod Candidates
+pub mod CandidateLists
 pub mod EndCalls
 pub mod Losing
 pub mod RemoteEndings

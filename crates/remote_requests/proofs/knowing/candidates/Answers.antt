@@ -1,6 +1,6 @@
 -- One repository more.
 use Rattle.std.proofs.Common.{ℕ, ◌<◌, List, ◌∷◌, [], ◌++◌, sym, ap, ◌∙◌, arith, length-append}
-use Rattle.remote_requests.proofs.Candidates.{one_more, same_own, same_target}
+use Rattle.remote_requests.proofs.CandidateLists.{one_more, same_own, same_target}
 use Rattle.remote_requests.proofs.knowing.candidates.Goals as goal
 use Rattle.remote_requests.proofs.knowing.candidates.Goals.{then-c-repo+then-c-target+in_ok-push-2, else-c-repo, else-c-repo-via-then-c-repo+else-c-target, else-c-repo-via-else-c-repo}
 
