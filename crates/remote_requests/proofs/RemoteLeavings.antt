@@ -14,6 +14,7 @@ use Rattle.drop_phases.specs.Doing.{Grows, HasToken, OthersStay, contents_after}
 use Rattle.drop_phases.specs.Leaving.{Store}
 use Rattle.drop_phases.specs.Feeding.{FitsRemote, HasNoBar}
 use Rattle.remote_requests.specs.Remote.{DidRemote, LeavesRemote, Speaks}
+use Rattle.drop_phases.proofs.Numbers.{no_rows, no_share}
 use Rattle.drop_phases.proofs.Tokens.{others_same}
 use Rattle.drop_phases.specs.Sides.{IsNumbered}
 
