@@ -36,7 +36,7 @@ use Rattle.content_lock.specs.CallsMade.{MakesCalls, fewer}
 use Rattle.session_state.specs.SessionCalls.{Makes, MakesStep, calls_bytes, calls_frame, calls_heard, calls_message, calls_text, to_remove_here}
 use Rattle.session_state.specs.States.{IsScene, HaveRows, stand_of}
 use Rattle.session_state.specs.Stepping.{IsUnexpected, guards_key}
-use Rattle.session_state.specs.Talking.{Brings, SeesPart, SeesPartOf, SeesTaken, doing_of, heard_line, session_of}
+use Rattle.session_state.specs.Talking.{Brings, SeesPart, SeesTaken, doing_of, heard_line, session_of}
 use Rattle.session_state.proofs.AnswerCalls.{unexpected_calls}
 use Rattle.session_state.proofs.Calling.{as_it_was, makes_none}
 use Rattle.session_state.proofs.StateFacts.{here_is}
@@ -137,7 +137,7 @@ calls_are h was i (frames.Line text) e = go (message_of text) e
 pub calls_told : {E : Type 0} (x : Scene) (i : Incoming) (was : SessionState) (rows : Rows) (contents : Option Contents) (parts : Option Parts) (before after : Option (Call → ℕ)) (r : Result Step E)
     → Makes x i was rows contents parts before after r
     → IfOk r (λ step. (s : SetUp) (st : State) (k : Look) (a : EndName) (body : FrameText) → IsScene x s st k a → HaveRows rows contents (stand_of st) → ((key : List ℕ) → is_filled s st key ≡ is_filling rows key)
-    → st.sessions a ≡ session_of was → Brings body i → SeesPartOf parts was i k.part k.right → k.fails ≡ failed_in step.kind
+    → st.sessions a ≡ session_of was → Brings body i → SeesPart parts was.doing i k.part k.right → k.fails ≡ failed_in step.kind
     → MakesCalls (calls_frame (here s st k a) (st.sessions a) body) k.fails before after)
 calls_told x i was rows contents parts before after (Ok step) made = λ s st k a body e r filled same brings sees f.
     let list : calls_heard (here_of x rows r.contents (failed_in step.kind) k.part k.right) (session_of was) i ≡ calls_frame (here s st k a) (st.sessions a) body =
