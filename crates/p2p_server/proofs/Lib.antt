@@ -1,5 +1,5 @@
 -- The lemmas of this crate.
+pub mod Following
 pub mod Numbers
 pub mod ReplyLines
 pub mod Small
-pub mod Taking

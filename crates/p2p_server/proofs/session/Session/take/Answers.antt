@@ -1,7 +1,7 @@
 -- What the one value of an answer tells.
 use Rattle.std.proofs.Common.{refl}
 use Rattle.p2p_server.proofs.Numbers.{guards_so}
-use Rattle.p2p_server.proofs.Taking.{after_told, bars_told, cause_told, contents_as_before, fed_told, filled_told, judged_told, kind_told, next_told, numbers_told, parts_as_before, parts_told, records_as_before, remains, reply_told, rows_told, session_as_before, step_told}
+use Rattle.p2p_server.proofs.Following.{after_told, bars_told, cause_told, contents_as_before, fed_told, filled_told, judged_told, kind_told, next_told, numbers_told, parts_as_before, parts_told, records_as_before, remains, reply_told, rows_told, session_as_before, step_told}
 use Rattle.session_state.proofs.Making.{calls_told, failing_as_before, left_told}
 use Rattle.p2p_server.proofs.session.Session.take.Goals as goal
 
