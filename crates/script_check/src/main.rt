@@ -1,7 +1,6 @@
 //! Reads scripts as a table from standard input says, and prints each that is read otherwise, and how many there are.
 #![tactic(auto)]
 
-mod spelling;
 mod table;
 
 use std::io::{self, BufRead, BufReader};
@@ -22,7 +21,7 @@ fn main(rt: HostRuntime) -> io::Result<ExitCode> {
             }
         }
     }
-    let differing = table.differing();
-    println!(rt; "{} texts, {differing} differ", table.texts())?;
+    let differing = table.tally().differing();
+    println!(rt; "{} texts, {differing} differ", table.tally().cases())?;
     Ok(ExitCode::from(if differing == 0 { 0 } else { 1 }))
 }

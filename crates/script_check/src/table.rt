@@ -1,9 +1,9 @@
 //! A table of texts, and of what each says as a script.
 
-use crate::spelling::{TableFault, spelled};
 use annex_base::NoMemory;
 use script_lang::{Script, ScriptFault};
 use std::alloc::Global;
+use table_cases::{TableFault, Tally, spelled};
 
 /// What the text says, by one word: the number of its commands, the line and the byte of its first fault, or the
 /// quantity of which it has too much.
@@ -23,8 +23,7 @@ fn reading(alloc: Global, text: &[u8]) -> Result<String, NoMemory> {
 pub struct Table {
     front: Vec<u8>,
     back: Vec<u8>,
-    texts: u64,
-    differing: u64,
+    tally: Tally,
 }
 
 impl Table {
@@ -33,8 +32,7 @@ impl Table {
         Table {
             front: Vec::new(alloc),
             back: Vec::new(alloc),
-            texts: 0,
-            differing: 0,
+            tally: Tally::new(),
         }
     }
 
@@ -70,21 +68,13 @@ impl Table {
         whole.extend_from_slice(text)?;
         whole.extend_from_slice(&self.back)?;
         let found = reading(alloc, &whole)?;
-        self.texts = self.texts.saturating_add(1);
-        if found.as_str() == wanted {
-            return Ok(None);
-        }
-        self.differing = self.differing.saturating_add(1);
-        Ok(Some(found))
+        let as_wanted = found.as_str() == wanted;
+        self.tally.count(as_wanted);
+        Ok(if as_wanted { None } else { Some(found) })
     }
 
-    /// How many texts it has.
-    pub fn texts(&self) -> u64 {
-        self.texts
-    }
-
-    /// How many of them are read otherwise.
-    pub fn differing(&self) -> u64 {
-        self.differing
+    /// How many texts it has, and how many of them are read otherwise.
+    pub fn tally(&self) -> &Tally {
+        &self.tally
     }
 }
