@@ -1,9 +1,5 @@
-//! Tests of what the program is made of that need calls: faults in mid-stream, and runs of scripts.
+//! The program's top call over sources and sinks that fail in mid-stream; nothing else stands here.
 #![tactic(auto)]
 
 #[cfg(test)]
 mod faults;
-#[cfg(test)]
-mod fleets;
-#[cfg(test)]
-mod runs;

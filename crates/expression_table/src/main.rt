@@ -1,0 +1,15 @@
+//! Asks the cases of a table from standard input of globs and of preferred content expressions, and prints each that is
+//! answered otherwise, and how many there are.
+#![tactic(auto)]
+
+mod answers;
+mod facts;
+
+use answers::Expressions;
+use std::io;
+use std::process::ExitCode;
+use table_cases::run_table;
+
+fn main(rt: HostRuntime) -> io::Result<ExitCode> {
+    run_table(&rt, rt.alloc(), &Expressions)
+}
