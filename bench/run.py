@@ -101,12 +101,51 @@ def trust_lines(number):
     return ["trust.log %s 0 timestamp=1600000000s" % identifier(n) for n in range(number)]
 
 
-def median_time(command, text=b""):
+def merged(count):
+    """Each of two repositories has so many lines of one log, and one gets those of the other."""
+    lines = declare(2)
+    for n in range(count):
+        lines += ["log %s location %s %ds 1 %s" % (name(r), key(0), 1_600_000_000 + n, identifier(r)) for r in range(2)]
+    return lines + ["merge %s %s" % (name(0), name(1))]
+
+
+def claims(keys, count):
+    return with_keys(1, keys, short_key) + ["show claims %s %s" % (name(0), short_key(0))] * count
+
+
+def contents(keys, mebibytes):
+    return declare(1) + ["have %s %s fill:%d:0" % (name(0), short_key(k), mebibytes << 20) for k in range(keys)]
+
+
+def placed(count):
+    """Two repositories, of which the first has so many contents."""
+    return declare(2) + ["have %s %s text:a" % (name(0), short_key(k)) for k in range(count)]
+
+
+def located(count):
+    return declare(2) + ["log %s location %s 1s 1 %s" % (name(0), short_key(k), identifier(0)) for k in range(count)]
+
+
+def trusted(count):
+    return declare(2) + ["log %s %s" % (name(0), line) for line in trust_lines(count)]
+
+
+def some_drops(count):
+    """So many contents that come to two repositories, and are dropped at the first."""
+    return [line % k for k in range(count) for line in ("have r0 WORM--d%d text:a", "have r1 WORM--d%d text:a", "drop r0 WORM--d%d")]
+
+
+def some_writes(count):
+    return ["log %s trust.log %s 1 timestamp=1650000000s" % (name(0), identifier(n)) for n in range(count)]
+
+
+def median_time(command, text=b"", status=0):
     times = []
     for _ in range(RUNS):
         begin = time.perf_counter()
-        subprocess.run(command, input=text, stdout=subprocess.PIPE, check=True)
+        ended = subprocess.run(command, input=text, stdout=subprocess.PIPE)
         times.append(time.perf_counter() - begin)
+        assert ended.returncode == status, "status %d, not %d" % (ended.returncode, status)
     return statistics.median(times)
 
 
@@ -116,12 +155,9 @@ def run_time(lines):
     return median_time([str(PROGRAM), "run"], script)
 
 
-def bench(name, *words, text=b""):
-    """The median time of the small program of this name, which is built where it is missing."""
-    program = TOP / "crates" / name / "out" / name
-    if not program.exists():
-        subprocess.run(["rt", "run"], cwd=program.parent.parent, stdout=subprocess.DEVNULL, check=True)
-    return median_time([str(program), *map(str, words)], text)
+def read_time(script):
+    """The time of the program on a script that is read and not run, since it has a line that isn't built yet."""
+    return median_time([str(PROGRAM), "run"], script, 2)
 
 
 # A line of each kind: '#' stands for its number, and '%' for that number's rest by 4,095, since the tree has at most 4,096 paths.
@@ -233,63 +269,28 @@ def main():
                 "lines, added one by one to %s%s" % (title, drops_title),
                 [(n, n, reads(lines_of(n), count)) for n in (10, 100, 1000, 10000)],
             )
-    for work, title in (
-        ("sets", "lines, made into a set; half of the number"),
-        ("merge", "lines, two sets of half the number merged"),
-        ("lines", "lines, added one by one to one file of a branch"),
-        ("newest", "lines, merged and their newest entries read"),
+    table("lines of a location log in each of two branches, of which one is merged into the other", [(n, n, merged(n)) for n in (10, 100, 1000, 6000)])
+    table("location logs, and 1,000 looks at the claims of one key", [(n, n, claims(n, 1000)) for n in (10, 100, 1000, 10000)])
+    table("MiB of one content", [(n, n, contents(1, n)) for n in (1, 2, 4, 8, 16)])
+    table("contents of a MiB", [(n, n, contents(n, 1)) for n in (1, 4, 16, 64, 256)])
+    for beside, title, numbers in (
+        (placed, "keys at a node", (10, 100, 1000, 10000, 30000)),
+        (located, "entries of a node, each a file of one line", (10, 100, 1000, 10000)),
+        (trusted, "lines of the trust log", (10, 100, 1000, 10000)),
     ):
-        table(title, [(n, n, n) for n in (1000, 10000, 100000)], lambda n: bench("log_bench", work, n))
-    for work, title in (
-        ("branch", "location logs, put into a branch"),
-        ("settings", "location logs, and the settings of their branch read"),
-        ("claims", "location logs, and the claims of one key read"),
-    ):
-        table(title, [(n, n, n) for n in (100, 1000, 10000, 30000)], lambda n: bench("log_bench", work, n))
-    for work, title in (
-        ("copy", "MiB, put into a plain vector in pieces"),
-        ("append", "MiB, appended to a part in pieces and committed"),
-        ("read", "MiB, appended in pieces, committed and read back in pieces"),
-    ):
-        table(title, [(n, n, n) for n in (1, 4, 16, 64)], lambda n: bench("store_bench", work, n))
-    for work in ("messages", "data"):
-        for piece in (1, 100, 32768):
-            table(
-                "kibibytes of %s, decoded in pieces of %d bytes" % (work, piece),
-                [(n, n, n) for n in (256, 1024, 4096, 16384)],
-                lambda n: bench("wire_bench", work, piece, n),
-            )
-    for work, title in (
-        ("parse", "bytes of an expression, read 1,000 times"),
-        ("eval", "bytes of an expression, read once and judged 1,000 times"),
-    ):
-        table(title, [(n, n, n) for n in (10, 100, 1000, 4000)], lambda n: bench("expr_bench", work, n))
+        for lines, done in (
+            ([], ""),
+            (["turn %s 10000" % name(0)] * 10, ", and 100,000 idle turns"),
+            (some_drops(500), ", and 500 drops that ask a peer"),
+            (some_writes(100), ", and 100 lines added to the trust log"),
+        ):
+            table(title + done, [(n, n, beside(n) + lines) for n in numbers])
     for kind, line in LINES:
         table(
             "bytes of a script, read: %s" % kind,
             [(n, n, script_of(line, n)) for n in (65_536, 131_072, 262_144, 524_288, 1_048_576)],
-            lambda text: bench("script_bench", text=text),
+            read_time,
         )
-    for work, title in (
-        ("rows", "rows of a lock table, each with a hold"),
-        ("check", "rows, and 100,000 looks at another"),
-        ("bar", "rows, and 100,000 bars that are put on another and taken off"),
-        ("share", "rows, and 100,000 holds that are taken on another and released"),
-    ):
-        table(title, [(n, n, n) for n in (1, 10, 100, 1000, 10000, 100000)], lambda n: bench("lock_bench", work, n))
-    # a key that comes makes two entries of its node, and a history has at most 100,000
-    for beside, title, numbers in (
-        ("keys", "keys at a node", (10, 100, 1000, 10000, 45000)),
-        ("entries", "entries of a node, each a file of one line", (10, 100, 1000, 10000, 50000)),
-        ("lines", "lines of the trust log", (10, 100, 1000, 10000, 20000)),
-    ):
-        for work, times, done in (
-            ("turns", 0, ""),
-            ("turns", 100000, ", and 100,000 idle turns"),
-            ("drops", 500, ", and 500 drops that ask a peer"),
-            ("writes", 100, ", and 100 lines added to the trust log"),
-        ):
-            table(title + done, [(n, n, n) for n in numbers], lambda n: bench("node_bench", beside, n, work, times))
 
 
 if __name__ == "__main__":

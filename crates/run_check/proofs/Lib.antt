@@ -1,4 +1,0 @@
--- The lemmas of this crate.
-pub mod LineLemmas
-pub mod LoopLemmas
-pub mod SafeLemmas

@@ -1,7 +1,0 @@
--- What the proof of `pasts::take_off` needs beside the tactics.
-use Rattle.std.proofs.Common.{rules}
-use Rattle.std.proofs.lemmas.Fn.{filter_same}
-use Rattle.run_check.proofs.pasts.take_off.Goals as goal
-
-pub returns : goal.returns
-returns c = filter_same _ _ _ (λ x b f' k. search rules) _ _ c.retain.ensures.filtered

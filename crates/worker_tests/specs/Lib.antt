@@ -1,2 +1,0 @@
--- What the tests' own trait implementation cites.
-pub mod Desks
