@@ -12,6 +12,7 @@
 
 Unproved, and no part of the program.
 """
+import functools
 import os
 import pathlib
 import re
@@ -26,6 +27,8 @@ WORD = re.compile(r"(?:`[^`]*`|[^\s`]+|`)+")
 MARK = re.compile(r"[-+*]+$|\d+[.)]$|[#>|]")
 # what an import takes of a module of definitions: a part of it, and names there; or a name for the module itself
 IMPORT = re.compile(r"use Rattle\.(\w+)\.specs\.([A-Z]\w*)\.?([\w.]*?)(?:\.?\{([^}]*)\}| as (\w+))?(?:;|$)", re.M)
+# a module of definitions that a crate passes on
+PASSED = re.compile(r"^pub use Rattle\.(\w+)\.specs\.(\w+)$", re.M)
 # where a definition begins, and its name
 DEFINED = re.compile(r"^(?:(?:abbrev|unfoldable|pub|record|data) )+(\S+)", re.M)
 # where an item of code begins: its indent, who sees it, its sort, and its name, of an impl that of its type
@@ -99,12 +102,24 @@ def foreign_names(text, known):
             yield from (span for word in words if word and word not in known and not word.isupper())
 
 
+@functools.cache
+def home_of(crate, module):
+    """The crate where a module of definitions stands that is named as this crate's, which may pass it on."""
+    library = TOP / "crates" / crate / "specs" / "Lib.antt"
+    for lower, passed in PASSED.findall(library.read_text()) if library.exists() else ():
+        if passed == module:
+            return home_of(lower, module)
+    return crate
+
+
 def below(modules):
     """Each of these modules and those below them, with its lines."""
     found, left = {}, list(modules)
     while left:
         name = left.pop()
         crate, _, path = name.partition("/specs/")
+        crate = home_of(crate, path.partition("/")[0])
+        name = "%s/specs/%s" % (crate, path)
         file = TOP / "crates" / crate / "specs" / (path + ".antt")
         if name in found or not file.exists():
             continue
@@ -121,7 +136,7 @@ def uses(text):
     """The definitions that each name of this file stands for; of a module's name it is the module with no name."""
     names = {}
     for crate, module, part, taken, alias in IMPORT.findall(text):
-        home = "%s/specs/%s" % (crate, module)
+        home = "%s/specs/%s" % (home_of(crate, module), module)
         for word in taken.split(",") if taken else [alias or module]:
             # a variant belongs to its type
             name = part.split(".")[0] or (word.split()[0] if taken else "")

@@ -1,5 +1,5 @@
 -- A fleet does the lines of a script, one after the other.
-use Rattle.std.proofs.Common.{◌≡◌, ℕ, ◌+◌, ◌<◌, ◌≤◌, Bool, true, false, if◌then◌else◌, List, [], ◌∷◌, length, drop, get_or, reverse, Option, Some, Result, Ok, Err, IsErrAnd, refl, sym, ap, ◌∙◌, subst, arith, length-append}
+use Rattle.std.proofs.Common.{◌≡◌, ℕ, ◌+◌, ◌<◌, ◌≤◌, true, false, List, [], ◌∷◌, length, drop, get_or, reverse, Option, Some, Result, Ok, Err, IsErrAnd, refl, sym, ap, ◌∙◌, subst, arith, length-append}
 use Rattle.std.specs.Prelude.{is_some}
 use Rattle.std.specs.Option.{option_map_or}
 use Rattle.std.proofs.lemmas.List.{drop_all, drop_more, reverse-reverse}
@@ -17,7 +17,7 @@ use Rattle.script_lang.specs.Script.{context_with, no_context, wait_of}
 use Rattle.script_lang.specs.Preconditions.{AllStand}
 use Rattle.driver_model.specs.Driver.{Driver, DriverInput, at_first}
 use Rattle.driver_model.specs.Driving.{does, with_mark}
-use Rattle.driver_model.specs.Limits.{LimitedRun, drives_to_limit, limited_run, meets_limit, run_to_limit}
+use Rattle.driver_model.specs.Limits.{drives_to_limit, limited_run, meets_limit, run_to_limit}
 use Rattle.driver_model.specs.Lines.{Line, waited_by}
 use Rattle.driver_script.specs.Inputs.{driver_input_of}
 use Rattle.driver_script.specs.Lines.{declared_by, line_of, lines_of, repos_of}
@@ -25,8 +25,10 @@ use Rattle.fleet_model.specs.Fleets.{FleetView}
 use Rattle.fleet_run.specs.declared.stop.FleetStop.{FleetStop}
 use Rattle.fleet_run.specs.Commands.{CutsAt, MayBeDone, MeetsNone, does_and_marks}
 use Rattle.fleet_run.specs.AtDriver.{GoesOn, IsAtDriver, IsDrivenWithin}
-use Rattle.annex_cli.specs.Runs.{AreLines, HasDone, IsRunOf}
-use Rattle.annex_cli.proofs.ReportLemmas.{declares_alike}
+use Rattle.script_answers.specs.Runs.{AreLines, IsRunOf}
+use Rattle.annex_cli.specs.Doing.{HasDone}
+use Rattle.script_answers.proofs.GoodLemmas.{comes_of, limited}
+use Rattle.script_answers.proofs.ReportLemmas.{declares_alike}
 
 -- the stop that is handed on is the one that came
 pub stop_is : {T : Type 0} (r : Result T FleetStop) (came stop : FleetStop) → IsErrAnd r (λ d. d ≡ came) → r ≡ Err stop → came ≡ stop
@@ -42,13 +44,6 @@ TimeLaw = (g : DriverInput) (line : Line) (d : Driver) → now (does g line d).p
 
 abbrev pub WaitLaw : Type 0
 WaitLaw = (repos : List RepoView) (command : Command) (line : Line) → line_of repos command ≡ Some line → waited_by line ≡ wait_of command
-
-abbrev limited : Bool → Run → LimitedRun
-limited is_cut run = record { run = run; is_cut = is_cut }
-
--- what comes of the lines from the first one on, where that meets a full history, and where it doesn't
-abbrev pub comes_of : DriverInput → Line → List Line → Driver → Bool → LimitedRun
-comes_of g line others d meets = if meets then limited true (run_to_limit g line d) else drives_to_limit g others (with_mark (does g line d))
 
 goes_on : (g : DriverInput) (line : Line) (others : List Line) (d : Driver) → meets_limit g line d ≡ false → drives_to_limit g (line ∷ others) d ≡ drives_to_limit g others (with_mark (does g line d))
 goes_on g line others d none = ap (comes_of g line others d) none

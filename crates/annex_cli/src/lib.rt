@@ -11,29 +11,25 @@ ghost use Rattle.driver_model.specs.Limits.{limited_run};
 ghost use Rattle.driver_model.specs.Lines.{Line};
 ghost use Rattle.driver_script.specs.Inputs.{driver_input_of};
 ghost use Rattle.report_text.specs.Report.{report};
-ghost use Rattle.annex_cli.specs.declared.status.Status.{Status};
-ghost use Rattle.annex_cli.specs.Runs.{AreLines};
-ghost use Rattle.annex_cli.specs.Whole.{script_limit};
-ghost use Rattle.annex_cli.specs.Top.{IsRunCommand, IsDue, EndsWith, Answers, AnswersRun, entries_name, limit_text};
+ghost use Rattle.script_answers.specs.declared.status.Status.{Status};
+ghost use Rattle.script_answers.specs.Runs.{AreLines};
+ghost use Rattle.script_answers.specs.Whole.{script_limit};
+ghost use Rattle.script_answers.specs.Top.{IsRunCommand, IsDue, EndsWith, Answers, AnswersRun, entries_name, limit_text};
 
 mod due;
-mod laws;
 mod runs;
-mod status;
-mod whole;
-mod words;
 
 use annex_base::{Failed, Gate, Sink, Source};
 use driver_script::scripts_are_built_or_not;
 use due::due_text;
-pub use laws::{cut_script_runs_have_a_full_history, one_answer_is_due_for_every_text};
-pub use runs::{Ran, run_script};
-pub use status::Status;
+pub use runs::run_script;
+use script_answers::{ReadStop, is_run, read_whole, write_whole};
+pub use script_answers::{
+    Ran, Status, cut_script_runs_have_a_full_history, one_answer_is_due_for_every_text,
+};
 use std::alloc::Global;
 use std::sync::Wait;
 use std::thread::Threads;
-use whole::{ReadStop, read_whole, write_whole};
-use words::is_run;
 
 const USAGE: &[u8] = b"usage: annex run | threads | storm NUMBER JOBS\n";
 

@@ -9,26 +9,17 @@ ghost use Rattle.driver_script.specs.Inputs.{driver_input_of};
 ghost use Rattle.driver_script.specs.Lines.{repos_of};
 ghost use Rattle.fleet_run.specs.AtDriver.{IsAtDriver, IsDrivenWithin, most_lines};
 ghost use Rattle.joined_nodes.specs.Joined.{MayRun};
-ghost use Rattle.annex_cli.specs.Runs.{AreLines, HasDone, IsRunOf};
+ghost use Rattle.script_answers.specs.Runs.{AreLines, IsRunOf};
+ghost use Rattle.annex_cli.specs.Doing.{HasDone};
 
 use annex_base::NoMemory;
 use driver_model::{only_waits_take_time, runs_are_cut_where_histories_are_full};
 use driver_script::{bytes_are_matched, lines_wait_as_long};
 use fleet_run::{Fleet, FleetStop};
 use object_store::{FailingKeeper, MemoryKeeper};
-use run_data::Run;
+use script_answers::Ran;
 use script_lang::Script;
 use std::alloc::Global;
-
-/// The greatest number of entries that a repository makes.
-pub const ENTRY_LIMIT: u64 = 100_000;
-
-/// The run of a script, and whether it ended where a line met a full history (own).
-#[derive(Debug, Drop)]
-pub struct Ran {
-    pub run: Run,
-    pub is_cut: bool,
-}
 
 /// Does the script's lines, one after the other, up to one that meets a full history.
 fn run_lines<K: FailingKeeper>(fleet: &mut Fleet<K>, script: &Script) -> Result<(), FleetStop>

@@ -8,15 +8,16 @@ use Rattle.std.proofs.lemmas.Option.{same_Some}
 use Rattle.annex_base.specs.Lists.{Member, Each}
 use Rattle.annex_base.proofs.Conditions.{by_test}
 use Rattle.annex_base.proofs.Lists.{Each-member, filter_shorter, list_any_found, list_any_member, Member-append_cases, Member-append_left, Member-append_right, Member-filter_from, Member-filter_parts}
-use Rattle.log_lines.specs.declared.entry.LogKind.{LogKind}
-use Rattle.log_lines.specs.declared.entry.Entry.{Entry}
-use Rattle.log_lines.specs.Reading.{entry_of}
+use Rattle.log_grammar.specs.declared.entry.LogKind.{LogKind}
+use Rattle.log_grammar.specs.declared.entry.Entry.{Entry}
+use Rattle.log_grammar.specs.Reading.{entry_of}
 use Rattle.log_lines.specs.Newest.{same_topic, is_older, IsNewest, newer, newest, newest_of, ReadAlike, says_newer, outdated_by, is_outdated, current_lines}
 use Rattle.log_lines.specs.Latest.{said_of, newer_of, is_outdated_in}
 use Rattle.log_lines.specs.Keeping.{HasNewer, Keeps}
 use Rattle.log_lines.specs.Keeping.Keeps.{Empty, Add, AddAgain, Merge, Arrange, Compact}
-use Rattle.log_lines.proofs.FormLemmas.{entry_takes, entry_again}
-use Rattle.log_lines.proofs.OrderLemmas.{other, same_topic_own}
+use Rattle.log_grammar.proofs.FormLemmas.{entry_takes, entry_again}
+use Rattle.log_grammar.proofs.EqualLemmas.{other}
+use Rattle.log_lines.proofs.OrderLemmas.{same_topic_own}
 use Rattle.log_lines.proofs.NewerLemmas.{newer_topic, lt_newer}
 use Rattle.log_lines.proofs.NewestLemmas.{newest_of-cons, newest_of_is, said_is, alike_by_newest, alike_by_members, alike_append}
 

@@ -1,20 +1,8 @@
 -- The lemmas of this crate.
-pub mod EqualLemmas
 pub mod StatementLemmas
 pub mod CompactLemmas
-pub mod BodyLemmas
-pub mod FileLemmas
-pub mod FormLemmas
-pub mod GroupLemmas
 pub mod NewerLemmas
 pub mod NewestLemmas
 pub mod NextLemmas
-pub mod NumberLemmas
 pub mod OrderLemmas
-pub mod PlainLemmas
 pub mod PutLemmas
-pub mod ReadLemmas
-pub mod RepoLemmas
-pub mod StampLemmas
-pub mod WordLemmas
-pub mod WriteLemmas

@@ -7,11 +7,12 @@ use Rattle.std.specs.Cmp.{IsTotalOrder}
 use Rattle.std.proofs.lemmas.Cmp.{upto}
 use Rattle.annex_base.proofs.Conditions.{by_test}
 use Rattle.annex_base.proofs.Numbers.{is_lt_true}
-use Rattle.log_lines.specs.declared.entry.Topic.{Topic}
-use Rattle.log_lines.specs.declared.entry.Entry.{Entry}
+use Rattle.log_grammar.specs.declared.entry.Topic.{Topic}
+use Rattle.log_grammar.specs.declared.entry.Entry.{Entry}
 use Rattle.log_lines.specs.Newest.{same_topic, entry_cmp, newer}
 use Rattle.log_lines.specs.Latest.{said_of, newer_of}
-use Rattle.log_lines.proofs.OrderLemmas.{other, entry_total, entry_exact, same_topic_own}
+use Rattle.log_grammar.proofs.EqualLemmas.{other}
+use Rattle.log_lines.proofs.OrderLemmas.{entry_total, entry_exact, same_topic_own}
 
 gt_reverse : (o : Ordering) → is_gt (ordering_reverse o) ≡ is_lt o
 gt_reverse Less = refl

@@ -9,15 +9,15 @@ use Rattle.std.proofs.lemmas.Option.{same_Some, none-some}
 use Rattle.annex_base.specs.Lists.{Member}
 use Rattle.annex_base.proofs.Options.{none_by}
 use Rattle.annex_base.proofs.Conditions.{by_test}
-use Rattle.log_lines.specs.declared.entry.LogKind.{LogKind}
-use Rattle.log_lines.specs.declared.entry.Topic.{Topic}
-use Rattle.log_lines.specs.declared.entry.Entry.{Entry}
-use Rattle.log_lines.specs.LineText.{IsLine}
-use Rattle.log_lines.specs.Reading.{entry_of}
+use Rattle.log_grammar.specs.declared.entry.LogKind.{LogKind}
+use Rattle.log_grammar.specs.declared.entry.Topic.{Topic}
+use Rattle.log_grammar.specs.declared.entry.Entry.{Entry}
+use Rattle.log_grammar.specs.LineText.{IsLine}
+use Rattle.log_grammar.specs.Reading.{entry_of}
 use Rattle.log_lines.specs.Newest.{same_topic, entry_cmp, is_older, IsNewest, IsReading, newer, with_entry_if, newest, entry_at, newest_of, ReadAlike}
 use Rattle.log_lines.specs.Latest.{said_of, newer_of}
 use Rattle.log_lines.specs.Keeping.{Says}
-use Rattle.log_lines.proofs.FormLemmas.{entry_takes, entry_again}
+use Rattle.log_grammar.proofs.FormLemmas.{entry_takes, entry_again}
 use Rattle.log_lines.proofs.OrderLemmas.{same_topic_is, same_topic_own}
 use Rattle.log_lines.proofs.NewerLemmas.{newer_stays, newer_later, newer_not_before, newer_not_after, not_lt_through, tied_is, newer_of_assoc, newer_of_none, said_same}
 use Rattle.log_lines.proofs.PutLemmas.{IsRising, none_rising, put_if_rising, put_at, at_member, member_at, rising_same}

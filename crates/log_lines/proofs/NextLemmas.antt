@@ -11,21 +11,21 @@ use Rattle.annex_base.specs.StampText.{IsStamp}
 use Rattle.annex_base.proofs.StampLemmas.{digits_below}
 use Rattle.annex_base.proofs.Conditions.{by_test}
 use Rattle.annex_base.proofs.Numbers.{nat_cmp_less}
-use Rattle.log_lines.specs.declared.entry.LogKind.{LogKind}
-use Rattle.log_lines.specs.declared.entry.LogKind.TheVariants as kinds
-use Rattle.log_lines.specs.declared.entry.Topic.{Topic}
-use Rattle.log_lines.specs.declared.entry.Value.{Value}
-use Rattle.log_lines.specs.declared.entry.Entry.{Entry}
-use Rattle.log_lines.specs.LineText.{IsLine, HasForm, IsRepoLine, Ends}
-use Rattle.log_lines.specs.Reading.{entry_of}
+use Rattle.log_grammar.specs.declared.entry.LogKind.{LogKind}
+use Rattle.log_grammar.specs.declared.entry.LogKind.TheVariants as kinds
+use Rattle.log_grammar.specs.declared.entry.Topic.{Topic}
+use Rattle.log_grammar.specs.declared.entry.Value.{Value}
+use Rattle.log_grammar.specs.declared.entry.Entry.{Entry}
+use Rattle.log_grammar.specs.LineText.{IsLine, HasForm, IsRepoLine, Ends}
+use Rattle.log_grammar.specs.Reading.{entry_of}
 use Rattle.log_lines.specs.Newest.{same_topic, entry_cmp, newer, entry_at, newest_of, ReadAlike, greatest_stamp, next_stamp, stamp_in, newest_stamp}
 use Rattle.log_lines.specs.Latest.{said_of, newer_of}
-use Rattle.log_lines.proofs.FormLemmas.{entry_again}
+use Rattle.log_grammar.proofs.FormLemmas.{entry_again}
 use Rattle.log_lines.proofs.OrderLemmas.{entry_total, same_topic_is}
 use Rattle.log_lines.proofs.NewerLemmas.{newer_later, newer_stays, newer_of_none, said_same, said_other}
 use Rattle.log_lines.proofs.NewestLemmas.{newest_of-cons, newest_of-push, newest_of_is}
 use Rattle.log_lines.proofs.CompactLemmas.{alike_turned}
-use Rattle.log_lines.proofs.StampLemmas.{nanos_below}
+use Rattle.log_grammar.proofs.StampLemmas.{nanos_below}
 
 -- ---- a stamp is below 10 ^ 19
 

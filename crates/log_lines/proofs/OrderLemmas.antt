@@ -1,5 +1,5 @@
 -- Topics, values and entries are in a total order, and what the order doesn't tell apart is the same.
-use Rattle.std.proofs.Common.{◌≡◌, ℕ, true, false, List, [], ◌∷◌, Some, None, refl, sym, ap, subst, true≢false}
+use Rattle.std.proofs.Common.{◌≡◌, ℕ, true, List, [], ◌∷◌, Some, None, refl, ap, subst}
 use Rattle.std.specs.declared.cmp.Ordering.{Ordering}
 use Rattle.std.specs.declared.cmp.Ordering.TheVariants.{Less, Equal, Greater}
 use Rattle.std.specs.Ordering.{nat_cmp, ordering_then, is_eq}
@@ -11,14 +11,12 @@ use Rattle.std.proofs.lemmas.Map.Lookups.{CmpEqualImpliesEq, exact_unsigned, exa
 use Rattle.annex_base.specs.ByteOrder.{text_cmp}
 use Rattle.annex_base.specs.declared.kinds.Level.{Level}
 use Rattle.annex_base.specs.declared.kinds.Level.TheVariants as levels
-use Rattle.log_lines.specs.declared.entry.Topic.{Topic}
-use Rattle.log_lines.specs.declared.entry.Topic.TheVariants as topics
-use Rattle.log_lines.specs.declared.entry.Value.TheVariants as values
-use Rattle.log_lines.specs.declared.entry.Entry.{Entry}
+use Rattle.log_grammar.specs.declared.entry.Topic.{Topic}
+use Rattle.log_grammar.specs.declared.entry.Topic.TheVariants as topics
+use Rattle.log_grammar.specs.declared.entry.Value.TheVariants as values
+use Rattle.log_grammar.specs.declared.entry.Entry.{Entry}
+use Rattle.log_grammar.proofs.EqualLemmas.{other}
 use Rattle.log_lines.specs.Newest.{topic_rank, topic_cmp, same_topic, distrust, value_class, value_weight, value_cmp, entry_cmp}
-
-pub other : {A : Type 0} → false ≡ true → A
-other e = absurd (true≢false (sym e))
 
 -- what is first and then second is told apart by neither
 then_equal : (o p : Ordering) → ordering_then o p ≡ Equal → (o ≡ Equal) × (p ≡ Equal)

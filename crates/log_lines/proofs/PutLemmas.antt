@@ -9,11 +9,12 @@ use Rattle.std.proofs.lemmas.Option.{same_Some}
 use Rattle.annex_base.specs.Lists.{Member}
 use Rattle.annex_base.proofs.Conditions.{by_test}
 use Rattle.annex_base.proofs.TextOrder.{by_order}
-use Rattle.log_lines.specs.declared.entry.Topic.{Topic}
-use Rattle.log_lines.specs.declared.entry.Entry.{Entry}
+use Rattle.log_grammar.specs.declared.entry.Topic.{Topic}
+use Rattle.log_grammar.specs.declared.entry.Entry.{Entry}
 use Rattle.log_lines.specs.Newest.{topic_cmp, same_topic, newer, with_entry, with_entry_if, entry_at}
 use Rattle.log_lines.specs.Latest.{said_of, newer_of}
-use Rattle.log_lines.proofs.OrderLemmas.{other, topic_total, topic_exact, same_topic_is, same_topic_own}
+use Rattle.log_grammar.proofs.EqualLemmas.{other}
+use Rattle.log_lines.proofs.OrderLemmas.{topic_total, topic_exact, same_topic_is, same_topic_own}
 use Rattle.log_lines.proofs.NewerLemmas.{newer_topic, newer_of_none}
 
 -- the topics rise

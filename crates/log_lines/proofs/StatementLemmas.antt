@@ -7,17 +7,17 @@ use Rattle.std.specs.Option.{option_map}
 use Rattle.std.specs.BTreeMap.{insert_entry, is_at}
 use Rattle.annex_base.proofs.Conditions.{by_test}
 use Rattle.annex_base.proofs.TextOrder.{by_order}
-use Rattle.log_lines.specs.declared.entry.Topic.{Topic}
-use Rattle.log_lines.specs.declared.entry.Topic.TheVariants as topics
+use Rattle.log_grammar.specs.declared.entry.Topic.{Topic}
+use Rattle.log_grammar.specs.declared.entry.Topic.TheVariants as topics
 use Rattle.log_lines.specs.declared.statement.Statement.{Statement}
-use Rattle.log_lines.specs.contracts.entry.TopicOrd.TheImpl as topic_ord
+use Rattle.log_grammar.specs.contracts.entry.TopicOrd.TheImpl as topic_ord
 use Rattle.log_lines.specs.Newest.{topic_cmp, same_topic, with_entry, with_entry_if, entry_at, says_newer}
-use Rattle.log_lines.specs.declared.entry.Entry.{Entry}
+use Rattle.log_grammar.specs.declared.entry.Entry.{Entry}
 use Rattle.log_lines.specs.Index.{statement_of, entry_with, entries_in}
 use Rattle.log_lines.specs.Latest.{statement_cmp, is_news, is_old}
-use Rattle.log_lines.specs.contracts.entry.TopicPartialEq.TheImpl as topic_impl
-use Rattle.log_lines.proofs.EqualLemmas.{topic_same, topic_equal}
-use Rattle.log_lines.proofs.OrderLemmas.{other, topic_exact, same_topic_is, same_topic_own}
+use Rattle.log_grammar.specs.contracts.entry.TopicPartialEq.TheImpl as topic_impl
+use Rattle.log_grammar.proofs.EqualLemmas.{other, topic_same, topic_equal}
+use Rattle.log_lines.proofs.OrderLemmas.{topic_exact, same_topic_is, same_topic_own}
 use Rattle.log_lines.proofs.PutLemmas.{IsRising, put_if_rising, ArePast, rising_parts, past_further}
 
 -- the derived order of topics is theirs

@@ -1,10 +1,10 @@
 -- The newest entries of a log file's lines, as they are kept while lines are added (own).
 use Rattle.std.specs.Prelude.{ℕ, List, [], map}
-use Rattle.log_lines.specs.declared.entry.LogKind.{LogKind}
-use Rattle.log_lines.specs.declared.entry.Topic.{Topic}
-use Rattle.log_lines.specs.declared.entry.Entry.{Entry}
+use Rattle.log_grammar.specs.declared.entry.LogKind.{LogKind}
+use Rattle.log_grammar.specs.declared.entry.Topic.{Topic}
+use Rattle.log_grammar.specs.declared.entry.Entry.{Entry}
 use Rattle.log_lines.specs.declared.statement.Statement.{Statement}
-use Rattle.log_lines.specs.Reading.{entry_of}
+use Rattle.log_grammar.specs.Reading.{entry_of}
 use Rattle.log_lines.specs.Newest.{with_entry_if, newest}
 
 -- the newest entries of a file of this kind, in order of topic

@@ -1,9 +1,9 @@
 -- What a log file still says when lines were added, merged and left out (git-annex internals: branch files).
 use Rattle.std.specs.Prelude.{◌≡◌, ◌↔◌, ℕ, true, List, [], ◌++◌}
 use Rattle.annex_base.specs.Lists.{Member, Each}
-use Rattle.log_lines.specs.declared.entry.LogKind.{LogKind}
-use Rattle.log_lines.specs.declared.entry.Entry.{Entry}
-use Rattle.log_lines.specs.LineText.{IsLine}
+use Rattle.log_grammar.specs.declared.entry.LogKind.{LogKind}
+use Rattle.log_grammar.specs.declared.entry.Entry.{Entry}
+use Rattle.log_grammar.specs.LineText.{IsLine}
 use Rattle.log_lines.specs.Newest.{is_older, current_lines}
 
 -- a line among these says the entry

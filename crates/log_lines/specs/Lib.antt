@@ -1,7 +1,7 @@
--- The definitions of this crate.
-pub mod LineText
-pub mod Files
-pub mod Reading
+-- The definitions of this crate, and those of `log_grammar`.
+pub use Rattle.log_grammar.specs.LineText
+pub use Rattle.log_grammar.specs.Files
+pub use Rattle.log_grammar.specs.Reading
 pub mod Newest
 pub mod Index
 pub mod Latest

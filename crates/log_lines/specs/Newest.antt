@@ -10,14 +10,14 @@ use Rattle.annex_base.specs.ByteOrder.{text_cmp}
 use Rattle.annex_base.specs.Lists.{Member}
 use Rattle.annex_base.specs.declared.kinds.Level.{Level}
 use Rattle.annex_base.specs.declared.kinds.Level.TheVariants as levels
-use Rattle.log_lines.specs.declared.entry.LogKind.{LogKind}
-use Rattle.log_lines.specs.declared.entry.Topic.{Topic}
-use Rattle.log_lines.specs.declared.entry.Topic.TheVariants as topics
-use Rattle.log_lines.specs.declared.entry.Value.{Value}
-use Rattle.log_lines.specs.declared.entry.Value.TheVariants as values
-use Rattle.log_lines.specs.declared.entry.Entry.{Entry}
-use Rattle.log_lines.specs.LineText.{IsLine}
-use Rattle.log_lines.specs.Reading.{entry_of}
+use Rattle.log_grammar.specs.declared.entry.LogKind.{LogKind}
+use Rattle.log_grammar.specs.declared.entry.Topic.{Topic}
+use Rattle.log_grammar.specs.declared.entry.Topic.TheVariants as topics
+use Rattle.log_grammar.specs.declared.entry.Value.{Value}
+use Rattle.log_grammar.specs.declared.entry.Value.TheVariants as values
+use Rattle.log_grammar.specs.declared.entry.Entry.{Entry}
+use Rattle.log_grammar.specs.LineText.{IsLine}
+use Rattle.log_grammar.specs.Reading.{entry_of}
 
 -- ---- topics
 

@@ -5,17 +5,17 @@ ghost use Rattle.std.specs.BTreeMap.{get};
 ghost use Rattle.std.specs.List.Sorted.{IsStrictlySortedBy};
 ghost use Rattle.std.specs.Map.{lookup};
 ghost use Rattle.std.specs.Option.{option_copied, option_map};
-ghost use Rattle.log_lines.specs.declared.entry.LogKind.{LogKind};
-ghost use Rattle.log_lines.specs.declared.entry.Topic.TheVariants as topics;
-ghost use Rattle.log_lines.specs.Reading.{entry_of};
+ghost use Rattle.log_grammar.specs.declared.entry.LogKind.{LogKind};
+ghost use Rattle.log_grammar.specs.declared.entry.Topic.TheVariants as topics;
+ghost use Rattle.log_grammar.specs.Reading.{entry_of};
 ghost use Rattle.log_lines.specs.Newest.{topic_cmp, same_topic, entry_at, with_entry, with_entry_if};
 ghost use Rattle.log_lines.specs.Index.{empty_index, index_of, index_with, statement_of, entries_in};
 ghost use Rattle.log_lines.specs.Latest.{is_news, is_old, is_outdated_in};
 
 use crate::entry::{Entry, LogKind, Topic};
-use crate::read::read;
 use crate::statement::{Statement, is_older};
 use annex_base::{Line, NoMemory};
+use log_grammar::read_line;
 use std::alloc::Global;
 use std::collections::BTreeMap;
 use std::collections::btree_map::Iter;
@@ -170,7 +170,7 @@ fn put_line(
     ensures ok { OnOk result (entries_in statements.new.entries ≡ with_entry_if (entries_in statements.old.entries) (entry_of kind line.now)) }
     ensures err { OnErr result (statements.new.entries ≡ statements.old.entries) }
 {
-    if let Some(entry) = read(alloc, kind, line.bytes())? {
+    if let Some(entry) = read_line(alloc, kind, line.bytes())? {
         put(statements, entry)?;
     }
     Ok(())
@@ -218,7 +218,7 @@ fn is_outdated(
 ) -> Result<bool, NoMemory>
     ensures { IfOk result (λ b. b ≡ is_outdated_in (entries_in statements.now.entries) (entry_of kind line.now)) }
 {
-    match read(alloc, kind, line.bytes())? {
+    match read_line(alloc, kind, line.bytes())? {
         None => Ok(false),
         Some(entry) => {
             let Entry {

@@ -5,19 +5,12 @@ ghost use Rattle.std.specs.declared.cmp.Ordering.TheVariants.{Equal};
 ghost use Rattle.std.specs.Cmp.{IsTotalOrder};
 ghost use Rattle.std.specs.List.Sorted.{IsStrictlySortedBy};
 ghost use Rattle.annex_base.specs.Lists.{Member};
-ghost use Rattle.log_lines.specs.declared.entry.LogKind.{LogKind};
-ghost use Rattle.log_lines.specs.declared.entry.LogKind.TheVariants as kinds;
-ghost use Rattle.log_lines.specs.declared.entry.Topic.{Topic};
-ghost use Rattle.log_lines.specs.declared.entry.Entry.{Entry};
-ghost use Rattle.log_lines.specs.Files.{file_name, kind_named};
-ghost use Rattle.log_lines.specs.LineText.{IsLine};
+ghost use Rattle.log_grammar.specs.declared.entry.LogKind.{LogKind};
+ghost use Rattle.log_grammar.specs.declared.entry.Topic.{Topic};
+ghost use Rattle.log_grammar.specs.declared.entry.Entry.{Entry};
+ghost use Rattle.log_grammar.specs.LineText.{IsLine};
 ghost use Rattle.log_lines.specs.Newest.{topic_cmp, entry_cmp, newer, IsNewest, IsReading, ReadAlike, newest, entry_at, newest_of, newest_stamp, next_stamp, greatest_stamp, current_lines};
 ghost use Rattle.log_lines.specs.Keeping.{Says, HasNewer, SameLines, Keeps};
-
-/// A file's name tells its kind: of each kind but that of location logs there is one file (git-annex internals).
-pub fn file_names_are_exact()
-    ensures { (name : List ℕ) (kind : LogKind) → (kind_named name ≡ Some kind) ↔ ((kind ≢ kinds.Location) × (file_name kind ≡ name)) }
-{}
 
 /// Topics are in a total order, and so are entries; topics that the order doesn't tell apart are the same, and so are
 /// entries of one topic (own).

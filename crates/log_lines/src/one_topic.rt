@@ -7,8 +7,8 @@ ghost use Rattle.log_lines.specs.Latest.{said_of, newer_of};
 
 use crate::compare::compare_values;
 use crate::entry::{Entry, LogKind, Topic};
-use crate::read::read;
 use annex_base::{Line, NoMemory};
+use log_grammar::read_line;
 use std::alloc::Global;
 
 fn is_older(one: &Entry, other: &Entry) -> bool
@@ -61,7 +61,7 @@ pub fn newest_of(
 {
     let mut known = None;
     for line in lines {
-        let entry = read(alloc, kind, line.bytes())?;
+        let entry = read_line(alloc, kind, line.bytes())?;
         known = newer_of(known, said_of(topic, entry));
     }
     Ok(known)

@@ -4,8 +4,8 @@ use Rattle.run_data.specs.Histories.{most_entries}
 use Rattle.driver_model.specs.Limits.{limited_run}
 use Rattle.driver_script.specs.Inputs.{driver_input_of}
 use Rattle.report_text.specs.Report.{report}
-use Rattle.annex_cli.specs.Top.{entries_name, limit_text}
-use Rattle.annex_cli.proofs.DueLemmas.{HaveOneReading, due_answered, due_cut, due_report}
+use Rattle.script_answers.specs.Top.{entries_name, limit_text}
+use Rattle.script_answers.proofs.DueLemmas.{HaveOneReading, due_answered, due_cut, due_report}
 use Rattle.annex_cli.proofs.annex.Goals as goal
 
 pub returns-clause-due : goal.returns-clause-due

@@ -3,10 +3,10 @@ use Rattle.std.proofs.Common.{◌≡◌, ap, sym, subst, ◌∙◌, arith}
 use Rattle.script_lang.specs.declared.fault.ScriptFault.{ScriptFault}
 use Rattle.script_lang.specs.Limits.{limit_of, quantity_name}
 use Rattle.script_lang.specs.Script.{reading, BadLine, PastLimit, IsFault}
-use Rattle.annex_cli.specs.declared.status.Status.TheVariants.{Limit}
-use Rattle.annex_cli.specs.Top.{IsDue, limit_text}
-use Rattle.annex_cli.proofs.DueLemmas.{due_by, complaint_is_due, past_is_due}
-use Rattle.annex_cli.proofs.GoodLemmas.{always_good, bad_has_none, good_by, long_is_none, past_has_none}
+use Rattle.script_answers.specs.declared.status.Status.TheVariants.{Limit}
+use Rattle.script_answers.specs.Top.{IsDue, limit_text}
+use Rattle.script_answers.proofs.DueLemmas.{due_by, complaint_is_due, past_is_due}
+use Rattle.script_answers.proofs.GoodLemmas.{always_good, bad_has_none, good_by, long_is_none, past_has_none}
 use Rattle.annex_cli.proofs.due.due_text.Goals as goal
 
 pub returns-then-bytes-gt-SCRIPT_LIMIT-clause-good_start : goal.returns-then-bytes-gt-SCRIPT_LIMIT-clause-good_start

@@ -3,7 +3,8 @@ use Rattle.std.proofs.Common.{◌+◌, ◌<◌, ◌≤◌, true, [], List, ◌�
 use Rattle.repo_node.specs.Stored.{store_view}
 use Rattle.script_lang.specs.declared.command.Command.{Command}
 use Rattle.fleet_run.specs.declared.stop.FleetStop.TheVariants.{Full}
-use Rattle.annex_cli.specs.Runs.{HasDone, IsRunOf}
+use Rattle.script_answers.specs.Runs.{IsRunOf}
+use Rattle.annex_cli.specs.Doing.{HasDone}
 use Rattle.annex_cli.proofs.RunLemmas.{cut_here, done_at_first, done_before, done_next, few_done, may_be_done, none_left, stop_is}
 use Rattle.annex_cli.proofs.runs.run_lines.Goals as goal
 

@@ -2,7 +2,7 @@
 use Rattle.std.proofs.Common.{false, refl, sym, subst}
 use Rattle.run_data.specs.declared.run.Run.{Run}
 use Rattle.driver_script.specs.Inputs.{driver_input_of}
-use Rattle.annex_cli.specs.Runs.{IsRunOf}
+use Rattle.script_answers.specs.Runs.{IsRunOf}
 use Rattle.annex_cli.proofs.RunLemmas.{done_at_last}
 use Rattle.annex_cli.proofs.runs.run_script.Goals as goal
 

@@ -1,6 +1,6 @@
 -- What the proof of `compaction::compact` needs beside the tactics.
 use Rattle.std.proofs.Common.{sym, ap, ◌∙◌, ◌++◌, ◌∷◌, [], not}
-use Rattle.log_lines.specs.Reading.{entry_of}
+use Rattle.log_grammar.specs.Reading.{entry_of}
 use Rattle.log_lines.specs.Index.{Index, index_of}
 use Rattle.log_lines.specs.Newest.{is_outdated}
 use Rattle.log_lines.specs.Latest.{is_outdated_in}

@@ -3,7 +3,7 @@ use Rattle.std.proofs.Common.{sym, ap, ◌∙◌, ◌||◌, get_or, arith}
 use Rattle.std.specs.List.{list_any}
 use Rattle.std.proofs.lemmas.List.{take_all}
 use Rattle.std.proofs.lemmas.List.Folds.{list_any_at, list_any_more}
-use Rattle.log_lines.specs.Reading.{entry_of}
+use Rattle.log_grammar.specs.Reading.{entry_of}
 use Rattle.log_lines.specs.Newest.{is_outdated}
 use Rattle.log_lines.specs.Index.{Index}
 use Rattle.log_lines.specs.Latest.{is_outdated_in}

@@ -1,7 +1,7 @@
 -- What holds at each turn of the loops of `index::group_in`.
 use Rattle.std.proofs.Common.{◌≡◌}
 use Rattle.std.specs.Map.{lookup}
-use Rattle.log_lines.specs.declared.entry.Topic.TheVariants as topics
+use Rattle.log_grammar.specs.declared.entry.Topic.TheVariants as topics
 use Rattle.log_lines.specs.Newest.{same_topic}
 use Rattle.log_lines.proofs.index.group_in.Given as goal
 

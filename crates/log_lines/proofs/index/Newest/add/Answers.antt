@@ -1,5 +1,5 @@
 -- What the proof of `index::Newest::add` needs beside the tactics.
-use Rattle.log_lines.specs.Reading.{entry_of}
+use Rattle.log_grammar.specs.Reading.{entry_of}
 use Rattle.log_lines.proofs.StatementLemmas.{kept_rising}
 use Rattle.log_lines.proofs.index.Newest.add.Goals as goal
 

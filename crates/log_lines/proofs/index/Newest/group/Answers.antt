@@ -1,7 +1,7 @@
 -- What the proof of `index::Newest::group` needs beside the tactics.
 use Rattle.std.proofs.Common.{ap, ◌∙◌}
 use Rattle.std.specs.Option.{option_map}
-use Rattle.log_lines.specs.declared.entry.Topic.TheVariants as topics
+use Rattle.log_grammar.specs.declared.entry.Topic.TheVariants as topics
 use Rattle.log_lines.specs.Newest.{entry_at}
 use Rattle.log_lines.specs.Index.{Index, statement_of}
 use Rattle.log_lines.proofs.StatementLemmas.{statement_at}

@@ -1,0 +1,4 @@
+-- The definitions of this crate.
+pub mod LineText
+pub mod Files
+pub mod Reading

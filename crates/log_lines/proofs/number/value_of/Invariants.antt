@@ -1,8 +1,0 @@
--- What holds at each turn of the loops of `number::value_of`.
-use Rattle.std.proofs.Common.{◌≡◌, take}
-use Rattle.std.specs.Str.Parse.{digits_value}
-use Rattle.log_lines.proofs.number.value_of.Given as goal
-
--- the value of the digits so far
-abbrev pub invariant-loop-digit : goal.invariant-loop-digit
-invariant-loop-digit l = l.value ≡ digits_value 10 (take l.digit-index l.digits)

@@ -1,0 +1,8 @@
+-- The lemmas of this crate, and those that `annex_cli` has in common with it.
+pub mod WordLemmas
+pub mod DueLemmas
+pub mod ReportLemmas
+pub mod GoodLemmas
+pub mod FullLemmas
+pub mod EveryText
+pub mod PlaceLemmas

@@ -1,0 +1,5 @@
+-- The definitions of this crate.
+pub mod Exit
+pub mod Whole
+pub mod Runs
+pub mod Top
