@@ -10,7 +10,7 @@ use std::marker::Model;
 
 /// A message that is to be sent, which contracts see as the message. Its line, without the newline, stands in it twice, for the
 /// connection and for the entry that lists it: so a node sends it without memory (git-annex P2P protocol).
-#[derive(Debug, Drop)]
+#[derive(Drop)]
 pub struct Said {
     message: Message,
     line: Text,

@@ -10,7 +10,7 @@ use std::marker::Model;
 
 /// What a step sends, in order. Its entry lists two frames of each parcel at most, and there is room for them: so a node sends
 /// what a step gives without memory (own).
-#[derive(Debug, Drop)]
+#[derive(Drop)]
 pub struct Sends {
     parcels: Vec<Parcel>,
     listing: Vec<FrameView>,

@@ -7,7 +7,7 @@ use p2p_wire::Message;
 use run_data::EntryKind;
 
 /// What a step takes.
-#[derive(Debug, Drop)]
+#[derive(Drop)]
 pub enum Taken {
     /// Nothing: the job awaits no frame.
     Nothing,
@@ -19,7 +19,7 @@ pub enum Taken {
 }
 
 /// What a step takes, the time, the number of the entry that is to be made, and the word beside the frame.
-#[derive(Debug, Drop)]
+#[derive(Drop)]
 pub struct Input {
     pub taken: Taken,
     pub time: Time,
@@ -28,13 +28,13 @@ pub struct Input {
 }
 
 /// What is sent to a peer.
-#[derive(Debug, Drop)]
+#[derive(Drop)]
 pub struct Parcel {
     pub peer: u32,
     pub body: ParcelBody,
 }
 
-#[derive(Debug, Drop)]
+#[derive(Drop)]
 pub enum ParcelBody {
     Open,
     Close,
@@ -44,7 +44,7 @@ pub enum ParcelBody {
 }
 
 /// What a step does: an entry, and what is sent with it. The last step ends the job.
-#[derive(Debug, Drop)]
+#[derive(Drop)]
 pub struct Output {
     pub kind: EntryKind,
     pub sends: Sends,

@@ -25,7 +25,6 @@ use std::marker::Model;
 use std::mem;
 
 /// A job's drop. Job numbers count a repository's begun jobs.
-#[derive(Debug)]
 pub struct Worker {
     pub(crate) number: u32,
     pub(crate) slot: u32,

@@ -1,5 +1,4 @@
 -- The lemmas of this crate.
-mod Copies
 mod Called
 mod Writing
 mod Placing

@@ -1,5 +1,5 @@
 //! The nodes and the run, and how the run gets the entries of the nodes.
-ghost use Rattle.std.specs.Prelude.{◌≡◌, ◌+◌, ◌<◌, ◌≤◌, ◌^◌, ◌++◌, ℕ, drop, length, reverse, slice_get, take, Some, IfOk, OnErr, OnOk};
+ghost use Rattle.std.specs.Prelude.{◌≡◌, ◌+◌, ◌<◌, ◌≤◌, ◌^◌, ◌++◌, ℕ, drop, length, reverse, slice_get, take, Some, OnErr, OnOk};
 ghost use Rattle.run_model.specs.Past.{now};
 ghost use Rattle.driver_model.specs.Driver.{newest_count};
 ghost use Rattle.driver_model.specs.Driving.{with_mark};
@@ -11,6 +11,7 @@ ghost use Rattle.fleet_run.specs.Telling.{Raises, StandsWithin, Tells};
 
 use annex_base::{Items, NoMemory};
 use driver_model::drivers_stay_sound;
+use entry_copies::entry_copy;
 use fleet_model::fleets_do_lines;
 use joined_nodes::Nodes;
 use object_store::FailingKeeper;
@@ -33,20 +34,13 @@ impl<K: FailingKeeper> Model for Running<K> {
     ghost view = { λ f. record { nodes = f.nodes; run = f.run } };
 }
 
-/// A copy of the entry.
-fn copied(entry: &Entry) -> Result<Entry, NoMemory>
-    ensures { IfOk result (λ copy. copy ≡ entry.now) }
-{
-    Ok(entry.clone()?)
-}
-
 /// Adds copies of the entries, or of some first ones.
-fn add_copies(entries: &mut Items<Entry>, made: &[Entry]) -> Result<(), NoMemory>
+fn add_copies(alloc: Global, entries: &mut Items<Entry>, made: &[Entry]) -> Result<(), NoMemory>
     ensures ok { OnOk result (entries.new ≡ entries.old ++ made.now) }
     ensures some { (count : ℕ) × (entries.new ≡ entries.old ++ take count made.now) }
 {
     for entry in made {
-        entries.push(copied(entry)?)?;
+        entries.push(entry_copy(alloc, entry)?)?;
     }
     Ok(())
 }
@@ -132,7 +126,7 @@ impl<K: FailingKeeper> Running<K> {
         // For the proof: what the node has is the state that its history leaves.
         self.see(repo);
         let (_, made) = self.nodes.node(repo as usize).history().split_at(had);
-        add_copies(&mut self.run.entries, made)
+        add_copies(self.alloc, &mut self.run.entries, made)
     }
 
     /// Marks how many entries stand after a line.

@@ -3,7 +3,7 @@ use drop_worker::Sends;
 use run_data::EntryKind;
 
 /// What a job's step does: an entry, and what is taken and sent with it. The last step ends the job (own).
-#[derive(Debug, Drop)]
+#[derive(Drop)]
 pub struct Acted {
     /// The job's number, and its slot.
     pub job: u32,

@@ -12,7 +12,7 @@ use p2p_wire::Message;
 use std::alloc::Global;
 
 /// What a job's step takes, the word beside it, and the peer from whose end it takes a frame.
-#[derive(Debug, Drop)]
+#[derive(Drop)]
 pub(crate) struct Feed {
     pub taken: Taken,
     pub word: Option<Word>,

@@ -14,7 +14,7 @@ use node_ends::Ends;
 use std::alloc::Global;
 
 /// A job that has a step, by its place in the list, and what it is told.
-#[derive(Debug, Drop)]
+#[derive(Drop)]
 pub(crate) struct Found {
     pub index: usize,
     pub feed: Feed,

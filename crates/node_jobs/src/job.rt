@@ -7,7 +7,6 @@ use drop_worker::Worker;
 use std::marker::Model;
 
 /// A drop: its worker, and what it read of the logs at its first step.
-#[derive(Debug)]
 pub(crate) struct DropJob {
     pub worker: Worker,
     pub known: Option<KnownLogs>,

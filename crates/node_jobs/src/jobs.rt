@@ -42,7 +42,6 @@ use trust_groups::Settings;
 
 /// The running jobs of a repository, at most four, each in a slot of its own (own). They have tokens to spend, so they are
 /// ended and never dropped.
-#[derive(Debug)]
 pub struct Jobs {
     place: Place,
     running: Vec<DropJob>,

@@ -5,7 +5,7 @@ use run_data::EntryKind;
 
 /// What is to be done at the server's end of a connection: the frame that waits there is taken, if `takes`; an entry of this kind
 /// is made; and then this is sent, and a Close after it where the connection closes. The word stands beside the reply (own).
-#[derive(Debug, Drop)]
+#[derive(Drop)]
 pub struct Served {
     /// The number of the client's repository.
     pub peer: u32,

@@ -19,7 +19,7 @@ pub enum Why {
 }
 
 /// What comes next of a stream.
-#[derive(Debug, PartialEq, Eq, Drop)]
+#[derive(PartialEq, Eq, Drop)]
 pub enum Next {
     Message(Message),
     /// All raw bytes of a `DATA` that are at hand, at least one.

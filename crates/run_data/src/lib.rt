@@ -1,6 +1,7 @@
 //! The plain data of runs of several repositories: jobs and their outcomes, entries and their log files, rows, set-ups and runs.
 #![tactic(auto)]
 
+mod copying;
 mod entry;
 mod files;
 mod job;

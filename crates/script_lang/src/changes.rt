@@ -10,7 +10,7 @@ use script_words::Content;
 
 /// What a line changes for the lines behind it (own). It borrows the line's parts; a repository is named by its number,
 /// in order of the `repo` lines from 0.
-#[derive(Debug, Drop)]
+#[derive(Drop)]
 pub enum Change<'a> {
     /// There is a repository more. Its offset is in milliseconds.
     Declares {

@@ -15,7 +15,7 @@ pub struct NamedKey {
 }
 
 /// A line of a block.
-#[derive(Clone, Debug, Drop)]
+#[derive(Clone, Drop)]
 pub enum BlockLine {
     /// `drop`, `get`, `copy` or `move`
     Run { repo: u32, job: Job },
@@ -29,7 +29,7 @@ pub enum BlockLine {
 
 /// A line of a script, or the lines of a block (own). A repository is named by its number, in order of the `repo`
 /// lines from 0.
-#[derive(Debug, Drop)]
+#[derive(Drop)]
 pub enum Command {
     /// `repo NAME UUID [offset=MS] [version=V] [nolock]`: its clock is ahead of the script's time by MS milliseconds, at
     /// most 100,000,000,000, without the option 0; it speaks the protocol up to version 1, 2 or 3, without the option 3

@@ -24,14 +24,14 @@ use std::collections::BTreeSet;
 use std::marker::Model;
 
 /// The lines of an open block, and the number of the line that began it.
-#[derive(Debug, Drop)]
+#[derive(Drop)]
 pub struct Block {
     pub number: u64,
     pub lines: Items<BlockLine>,
 }
 
 /// What the lines so far say.
-#[derive(Debug, Drop)]
+#[derive(Drop)]
 pub struct State {
     context: Context,
     commands: Vec<Command>,
