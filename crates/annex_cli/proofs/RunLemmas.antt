@@ -11,7 +11,7 @@ use Rattle.run_data.specs.declared.run.Run.{Run}
 use Rattle.run_model.specs.Past.{now}
 use Rattle.run_model.specs.Run.{IsRun}
 use Rattle.repo_node.specs.Stored.{StoreView}
-use Rattle.script_lang.specs.declared.command.Command.{Command}
+use Rattle.script_commands.specs.declared.command.Command.{Command}
 use Rattle.script_lang.specs.Script as script
 use Rattle.script_lang.specs.Script.{context_with, no_context, wait_of}
 use Rattle.script_lang.specs.Preconditions.{AllStand}

@@ -2,7 +2,7 @@
 use Rattle.std.specs.Prelude.{◌≡◌, ◌+◌, List, Some, length}
 use Rattle.run_model.specs.Past.{now}
 use Rattle.repo_node.specs.Stored.{StoreView}
-use Rattle.script_lang.specs.declared.command.Command.{Command}
+use Rattle.script_commands.specs.declared.command.Command.{Command}
 use Rattle.script_lang.specs.Context.{Context}
 use Rattle.script_lang.specs.Preconditions.{AllStand}
 use Rattle.driver_model.specs.Driver.{Driver}

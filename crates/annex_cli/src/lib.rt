@@ -4,7 +4,7 @@
 ghost use Rattle.std.specs.Prelude.{◌≡◌, ℕ, ◌<◌, ◌≤◌, true, false, List, ◌++◌, length, map, Some};
 ghost use Rattle.std.specs.String.{string_bytes};
 ghost use Rattle.annex_base.specs.Causes.{Rose};
-ghost use Rattle.script_lang.specs.declared.command.Command.{Command};
+ghost use Rattle.script_commands.specs.declared.command.Command.{Command};
 ghost use Rattle.script_lang.specs.Script.{reading, Commands};
 ghost use Rattle.run_data.specs.Histories.{most_entries};
 ghost use Rattle.driver_model.specs.Limits.{limited_run};

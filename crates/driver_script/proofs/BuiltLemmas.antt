@@ -7,7 +7,7 @@ use Rattle.std.proofs.lemmas.Option.{same_Some}
 use Rattle.annex_base.specs.OptionSteps.{◌>>=◌}
 use Rattle.annex_base.proofs.Options.{bind_some, map_some}
 use Rattle.run_data.specs.declared.run.RepoView.{RepoView}
-use Rattle.script_lang.specs.declared.command.Command.{Command}
+use Rattle.script_commands.specs.declared.command.Command.{Command}
 use Rattle.driver_model.specs.Lines.{Line}
 use Rattle.driver_script.specs.Lines.{first_unbuilt, line_of, lines_of, unless_built}
 

@@ -10,10 +10,10 @@ use Rattle.annex_base.proofs.Lists.{Each-get_or, Each-push}
 use Rattle.annex_base.proofs.Options.{where_some}
 use Rattle.run_data.specs.Repos.{IsSetUp}
 use Rattle.run_data.specs.declared.run.RepoView.{RepoView}
-use Rattle.script_lang.specs.declared.command.Command.{Command}
-use Rattle.script_lang.specs.declared.command.Command.TheVariants as commands
-use Rattle.script_lang.specs.declared.context.Repository.{Repository}
-use Rattle.script_lang.specs.declared.fault.Quantity.{Quantity}
+use Rattle.script_commands.specs.declared.command.Command.{Command}
+use Rattle.script_commands.specs.declared.command.Command.TheVariants as commands
+use Rattle.script_commands.specs.declared.context.Repository.{Repository}
+use Rattle.script_commands.specs.declared.fault.Quantity.{Quantity}
 use Rattle.script_lang.specs.Context.{Context, has_id}
 use Rattle.script_lang.specs.Limits.{first_limit}
 use Rattle.script_lang.specs.Script as script

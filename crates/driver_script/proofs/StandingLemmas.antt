@@ -25,8 +25,8 @@ use Rattle.run_data.specs.declared.job.Job.{Job}
 use Rattle.run_data.specs.declared.job.JobKind.{JobKind}
 use Rattle.run_data.specs.declared.job.JobKind.TheVariants as job_kinds
 use Rattle.run_data.specs.declared.run.RepoView.{RepoView}
-use Rattle.script_lang.specs.declared.command.Command.{Command}
-use Rattle.script_lang.specs.declared.command.Command.TheVariants as commands
+use Rattle.script_commands.specs.declared.command.Command.{Command}
+use Rattle.script_commands.specs.declared.command.Command.TheVariants as commands
 use Rattle.script_lang.specs.Context.{Context}
 use Rattle.script_lang.specs.Script as script
 use Rattle.script_lang.specs.Script.{context_with}

@@ -7,8 +7,8 @@ use Rattle.log_lines.specs.declared.entry.Topic.TheVariants as topics
 use Rattle.log_lines.specs.declared.entry.Value.TheVariants as values
 use Rattle.run_data.specs.Repos.{id_of}
 use Rattle.run_data.specs.declared.run.RepoView.{RepoView}
-use Rattle.script_lang.specs.declared.command.Command.{Command}
-use Rattle.script_lang.specs.declared.command.Command.TheVariants as commands
+use Rattle.script_commands.specs.declared.command.Command.{Command}
+use Rattle.script_commands.specs.declared.command.Command.TheVariants as commands
 use Rattle.script_lang.specs.Script.{wait_of}
 use Rattle.driver_model.specs.Lines.{Line, waited_by}
 use Rattle.driver_model.specs.Lines as driver

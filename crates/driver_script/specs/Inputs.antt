@@ -2,7 +2,7 @@
 use Rattle.std.specs.Prelude.{ℕ, Bool, List}
 use Rattle.key_verify.specs.Matching.{verdict_of}
 use Rattle.key_verify.specs.Sums.{sum_of}
-use Rattle.script_lang.specs.declared.command.Command.{Command}
+use Rattle.script_commands.specs.declared.command.Command.{Command}
 use Rattle.script_lang.specs.Verify.{is_right}
 use Rattle.driver_model.specs.Driver.{DriverInput}
 use Rattle.driver_script.specs.Lines.{repos_of}

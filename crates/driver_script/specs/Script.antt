@@ -1,6 +1,6 @@
 -- Scripts that can be driven (own).
 use Rattle.std.specs.Prelude.{◌≡◌, ℕ, List, Some, slice_get}
-use Rattle.script_lang.specs.declared.command.Command.{Command}
+use Rattle.script_commands.specs.declared.command.Command.{Command}
 use Rattle.script_lang.specs.Script.{reading, Commands}
 use Rattle.script_lang.specs.Numbering.{line_numbers}
 use Rattle.driver_model.specs.Lines.{Line}

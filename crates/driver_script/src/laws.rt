@@ -4,7 +4,7 @@ ghost use Rattle.annex_base.specs.Lists.{Each};
 ghost use Rattle.key_verify.specs.Matching.{MatchesKey};
 ghost use Rattle.run_data.specs.Repos.{IsSetUp};
 ghost use Rattle.run_data.specs.declared.run.RepoView.{RepoView};
-ghost use Rattle.script_lang.specs.declared.command.Command.{Command};
+ghost use Rattle.script_commands.specs.declared.command.Command.{Command};
 ghost use Rattle.script_lang.specs.Script.{Commands, reading, wait_of};
 ghost use Rattle.driver_model.specs.Lines.{Line, waited_by};
 ghost use Rattle.driver_model.specs.Scripts.{IsOne};

@@ -26,11 +26,11 @@ use Rattle.script_lang.specs.Limits.{first_limit, passed_by}
 use Rattle.script_lang.specs.Context.{Context}
 use Rattle.script_lang.specs.Preconditions as script
 use Rattle.script_lang.specs.Preconditions.{IsGroup, IsLogFile, IsSmall}
-use Rattle.script_lang.specs.declared.command.Command.TheVariants as commands
-use Rattle.script_lang.specs.declared.command.BlockLine.{BlockLine}
-use Rattle.script_lang.specs.declared.command.NamedKey.{NamedKey}
-use Rattle.script_lang.specs.declared.command.Command.{Command}
-use Rattle.script_lang.specs.declared.fault.Quantity.TheVariants.{Time}
+use Rattle.script_commands.specs.declared.command.Command.TheVariants as commands
+use Rattle.script_commands.specs.declared.command.BlockLine.{BlockLine}
+use Rattle.script_commands.specs.declared.command.NamedKey.{NamedKey}
+use Rattle.script_commands.specs.declared.command.Command.{Command}
+use Rattle.script_commands.specs.declared.fault.Quantity.TheVariants.{Time}
 use Rattle.driver_model.specs.Driver.{Driver, DriverInput}
 use Rattle.driver_model.specs.Driving.{does}
 use Rattle.driver_model.specs.Lines.{Line, Shows}

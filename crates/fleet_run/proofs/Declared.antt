@@ -2,7 +2,7 @@
 use Rattle.std.proofs.Common.{◌≡◌, ℕ, ◌+◌, ◌<◌, List, [], ◌∷◌, ◌++◌, length, take, get_or, refl, sym, ap, ◌∙◌}
 use Rattle.std.proofs.lemmas.List.{take_more, append-nil, append_assoc}
 use Rattle.run_data.specs.declared.run.RepoView.{RepoView}
-use Rattle.script_lang.specs.declared.command.Command.{Command}
+use Rattle.script_commands.specs.declared.command.Command.{Command}
 use Rattle.driver_script.specs.Lines.{declared_by, repos_of}
 
 repos_behind : (xs ys : List Command) → repos_of (xs ++ ys) ≡ repos_of xs ++ repos_of ys

@@ -31,8 +31,8 @@ use Rattle.node_model.specs.Sessions.{line_in, message_said}
 use Rattle.node_model.specs.SetUp.{SetUp}
 use Rattle.node_model.specs.State.{State}
 use Rattle.node_model.specs.Step.{step}
-use Rattle.script_lang.specs.declared.command.Command.{Command}
-use Rattle.script_lang.specs.declared.command.Command.TheVariants as commands
+use Rattle.script_commands.specs.declared.command.Command.{Command}
+use Rattle.script_commands.specs.declared.command.Command.TheVariants as commands
 use Rattle.driver_model.specs.Driver.{Driver, DriverInput, adds, drops_part, fails_at, newest_count, notes, puts_part, set_up_of, state_at, without_old_flights}
 use Rattle.driver_model.specs.Driving.{does, turns}
 use Rattle.driver_model.specs.Rounds.{AfterRounds, after_round, goes_round, is_settled, most_rounds, numbers, round, rounds, settles, turns_of}

@@ -1,11 +1,3 @@
 -- The lemmas of this crate.
-mod BranchLemmas
-mod Chosen
-mod Ended
-mod Identifiers
-mod Pasts
-mod Places
+mod Firsts
 mod Reported
-mod RowLemmas
-mod RowTables
-mod Tables

@@ -1,8 +1,9 @@
 -- The end of a report.
 use Rattle.std.proofs.Common.{◌≡◌, ◌⊎◌, ℕ, List, [], ◌∷◌, length, refl, inl, inr}
 use Rattle.run_data.specs.declared.run.Run.{Run}
-use Rattle.script_lang.specs.declared.command.Command.{Command}
-use Rattle.report_text.specs.Report.{report_from, outcome_lines}
+use Rattle.script_commands.specs.declared.command.Command.{Command}
+use Rattle.report_text.specs.Report.{report_from}
+use Rattle.shown_text.specs.Lines.{outcome_lines}
 
 no_marks : (run : Run) (from changes : ℕ) (commands : List Command) → report_from run from changes commands [] ≡ outcome_lines run from (length run.entries)
 no_marks run from changes [] = refl

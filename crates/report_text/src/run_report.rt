@@ -3,15 +3,15 @@
 ghost use Rattle.std.specs.Prelude.{◌≡◌, ◌++◌, ◌<◌, ◌^◌, IfOk, OnOk, length};
 ghost use Rattle.annex_base.specs.Lists.{Each};
 ghost use Rattle.report_text.specs.Report.{changes_of, line_text, report, tree_changes};
-ghost use Rattle.report_text.specs.Walk.{IsAhead, IsWellFormed, ShowsKnown, StandsIn};
-ghost use Rattle.script_lang.specs.Changes.{as_change};
+ghost use Rattle.report_tables.specs.Walk.{IsAhead, IsWellFormed, ShowsKnown, StandsIn};
+ghost use Rattle.script_commands.specs.Changes.{as_change};
 
-use crate::lines::{put_ended, put_slot};
 use crate::shown::put_shown;
-use crate::walk::Walk;
 use annex_base::NoMemory;
+use report_tables::Walk;
 use run_data::Run;
 use script_lang::{Change, Command, change_of};
+use shown_text::{put_ended, put_slot};
 use std::alloc::Global;
 
 /// The report of a run of this script (own): for each line of the script that its job found no slot, the lines of the

@@ -1,29 +1,22 @@
 //! What the lines of a script show.
-ghost use Rattle.std.specs.Prelude.{◌≡◌, ◌++◌, ◌<◌, ◌^◌, List, OnOk, IfOk, length, filter, take, codes};
-ghost use Rattle.std.specs.List.{range_with_len};
+ghost use Rattle.std.specs.Prelude.{◌≡◌, ◌++◌, ◌<◌, ◌^◌, ℕ, OnOk, length, take};
 ghost use Rattle.annex_base.specs.Lists.{Each};
-ghost use Rattle.run_data.specs.declared.entry.Entry.{Entry};
-ghost use Rattle.run_model.specs.Past.{present};
-ghost use Rattle.run_text.specs.Jobs.{key_text};
-ghost use Rattle.run_text.specs.Words.{joined_text};
-ghost use Rattle.run_text.specs.Names.{name_of};
 ghost use Rattle.journal_text.specs.Journal.{journal_of};
-ghost use Rattle.report_text.specs.Contents.{Tracks};
-ghost use Rattle.report_text.specs.Report.{show_text};
-ghost use Rattle.report_text.specs.Walk.{IsAhead, IsWellFormed, ShowsKnown, StandsIn};
+ghost use Rattle.report_tables.specs.Before.{row_at};
+ghost use Rattle.report_tables.specs.Walk.{IsAhead, IsWellFormed, KnowsRow, ShowsKnown, StandsAt, StandsIn};
+ghost use Rattle.report_text.specs.Report.{presence_text, show_text};
+ghost use Rattle.shown_text.specs.Row.{row_text};
 
-use crate::contents::Contents;
-use crate::logs::{put_claims, put_file, put_files, put_location};
-use crate::row::{first, put_row};
-use crate::settings::{put_level, put_numbers_for};
-use crate::walk::Walk;
 use annex_base::NoMemory;
-use annex_key::Key;
 use journal_text::put_journal;
-use run_data::{RepoView, Run};
+use report_tables::Walk;
+use run_data::Run;
 use run_text::{put_key, put_names};
 use script_lang::{Command, NamedKey};
-use std::alloc::{AllocError, Global};
+use shown_text::{
+    put_claims, put_file, put_files, put_level, put_location, put_numbers_for, put_row,
+};
+use std::alloc::AllocError;
 
 /// Adds what a line of a script shows at a place of the run, after lines that made so many changes of the tree.
 pub(crate) fn put_shown(
@@ -46,7 +39,7 @@ pub(crate) fn put_shown(
     match command {
         Command::ShowPresence { key } => {
             walk.move_to(alloc, run, place)?;
-            put_presence(out, run.repos.as_slice(), walk.contents(), key)?;
+            put_presence(out, run, walk, key)?;
         }
         Command::ShowClaims { repo, key } => {
             walk.move_to(alloc, run, place)?;
@@ -74,7 +67,7 @@ pub(crate) fn put_shown(
         }
         Command::ShowRow { repo, key } => {
             walk.move_to(alloc, run, place)?;
-            put_row(out, run, walk, *repo, key)?;
+            put_row_at(out, run, walk, *repo, key)?;
         }
         Command::ShowJournal => put_journal_at(out, run, place, changes)?,
         Command::Repo { .. }
@@ -128,42 +121,39 @@ fn put_journal_at(
     Ok(())
 }
 
-fn put_presence(
-    out: &mut Vec<u8>,
-    repos: &[RepoView],
-    contents: &Contents,
-    key: &NamedKey,
-) -> Result<(), NoMemory>
-    requires { length repos.now < 2 ^ 32 }
-    ensures { OnOk result ((past : List Entry) → Tracks contents.now (length repos.now) past → out.new.items ≡ out.old.items
-        ++ (codes "presence " ++ key_text key.now.key key.now.path ++ codes " "
-        ++ joined_text 32 (name_of repos.now) (filter (λ r. present past r key.now.key) (range_with_len 0 (length repos.now))) ++ codes "\n")) }
+fn put_presence(out: &mut Vec<u8>, run: &Run, walk: &Walk, key: &NamedKey) -> Result<(), NoMemory>
+    requires { length run.now.repos < 2 ^ 32 }
+    ensures { OnOk result ((place : ℕ) → StandsAt walk.now run.now place → out.new.items ≡ out.old.items ++ presence_text run.now place key.now) }
 {
     out.extend_from_slice(b"presence ")?;
     put_key(out, &key.key, &key.path)?;
     out.push(b' ')?;
-    let numbers = possessors(*out.allocator(), contents, repos.len(), &key.key)?;
-    put_names(out, repos, b' ', &numbers)?;
+    let numbers = walk.possessors(*out.allocator(), run, &key.key)?;
+    put_names(out, run.repos.as_slice(), b' ', &numbers)?;
     out.push(b'\n')?;
     Ok(())
 }
 
-/// The numbers of the repositories that have the key, in order.
-fn possessors(
-    alloc: Global,
-    contents: &Contents,
-    repositories: usize,
-    key: &Key,
-) -> Result<Vec<u32>, NoMemory>
-    requires { repositories < 2 ^ 32 }
-    ensures { IfOk result (λ numbers. (past : List Entry) → Tracks contents.now repositories past
-        → numbers.items ≡ filter (λ r. present past r key.now) (range_with_len 0 repositories)) }
+/// Adds the row of a key at a repository, as it is where the walk stands.
+fn put_row_at(
+    out: &mut Vec<u8>,
+    run: &Run,
+    walk: &Walk,
+    repo: u32,
+    key: &NamedKey,
+) -> Result<(), NoMemory>
+    requires { KnowsRow walk.now repo }
+    ensures { OnOk result ((place : ℕ) → StandsAt walk.now run.now place → out.new.items ≡ out.old.items ++ row_text run.now repo key.now (row_at run.now place repo key.now.key)) }
 {
-    let mut numbers = Vec::new(alloc);
-    for repo in 0..repositories as u32 {
-        if contents.has(repo, key) {
-            numbers.push(repo)?;
-        }
-    }
-    Ok(numbers)
+    let row = walk.row(*out.allocator(), repo, &key.key)?;
+    put_row(out, run, repo, key, &row)?;
+    Ok(())
+}
+
+/// The first items, at most so many.
+fn first<T>(items: &[T], count: usize) -> &[T]
+    ensures { result.now ≡ take count items.now }
+{
+    let (first, _) = items.split_at(count.min(items.len()));
+    first
 }

@@ -7,8 +7,8 @@ use Rattle.run_model.specs.Causes.{HasCauses}
 use Rattle.run_model.specs.Run as runs
 use Rattle.run_model.specs.Safety.{IsSafe}
 use Rattle.race_core.specs.Copies.{KeepsCopies}
-use Rattle.script_lang.specs.declared.command.Command.{Command}
-use Rattle.script_lang.specs.declared.fault.Quantity.{Quantity}
+use Rattle.script_commands.specs.declared.command.Command.{Command}
+use Rattle.script_commands.specs.declared.fault.Quantity.{Quantity}
 use Rattle.script_lang.specs.Script.{reading, BadLine, Commands, PastLimit, no_context}
 use Rattle.script_lang.specs.Preconditions.{AllStand}
 use Rattle.driver_model.specs.Driver.{Driver, DriverInput}

@@ -2,7 +2,7 @@
 use Rattle.std.proofs.Common.{◌≡◌, ℕ, ◌+◌, ◌<◌, List, [], ◌∷◌, length, Option, Some, None, arith}
 use Rattle.annex_base.proofs.Options.{map_some}
 use Rattle.run_data.specs.declared.run.RepoView.{RepoView}
-use Rattle.script_lang.specs.declared.command.Command.{Command}
+use Rattle.script_commands.specs.declared.command.Command.{Command}
 use Rattle.driver_model.specs.Lines.{Line}
 use Rattle.driver_script.specs.Lines.{first_unbuilt, line_of, unless_built}
 

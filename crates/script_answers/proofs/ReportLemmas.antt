@@ -11,8 +11,8 @@ use Rattle.run_data.specs.declared.entry.EntryKind.TheVariants.{Crash, Log}
 use Rattle.run_data.specs.declared.run.Run.{Run}
 use Rattle.node_model.specs.SetUp.{SetUp}
 use Rattle.run_model.specs.Run.{IsBounded, IsRun, IsSmall, RunPast, set_up}
-use Rattle.script_lang.specs.declared.command.Command.{Command}
-use Rattle.script_lang.specs.declared.command.Command.TheVariants as commands
+use Rattle.script_commands.specs.declared.command.Command.{Command}
+use Rattle.script_commands.specs.declared.command.Command.TheVariants as commands
 use Rattle.script_lang.specs.Context.{Context}
 use Rattle.script_lang.specs.Script as script
 use Rattle.script_lang.specs.Script.{context_with, no_context}

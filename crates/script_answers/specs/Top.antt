@@ -8,8 +8,8 @@ use Rattle.run_data.specs.declared.run.Run.{Run}
 use Rattle.run_model.specs.Causes.{HasCauses}
 use Rattle.run_model.specs.Run as runs
 use Rattle.run_model.specs.Safety.{IsSafe}
-use Rattle.script_lang.specs.declared.command.Command.{Command}
-use Rattle.script_lang.specs.declared.fault.Quantity.{Quantity}
+use Rattle.script_commands.specs.declared.command.Command.{Command}
+use Rattle.script_commands.specs.declared.fault.Quantity.{Quantity}
 use Rattle.script_lang.specs.Limits.{quantity_name, limit_of}
 use Rattle.script_lang.specs.Script.{reading, BadLine, PastLimit}
 use Rattle.race_core.specs.Copies.{KeepsCopies}

@@ -1,7 +1,7 @@
 //! Laws of what is due for a text, each the contract of a function that does nothing.
 
 ghost use Rattle.std.specs.Prelude.{◌≡◌, ℕ, true, List};
-ghost use Rattle.script_lang.specs.declared.command.Command.{Command};
+ghost use Rattle.script_commands.specs.declared.command.Command.{Command};
 ghost use Rattle.driver_model.specs.Limits.{limited_run};
 ghost use Rattle.driver_model.specs.Lines.{Line};
 ghost use Rattle.driver_script.specs.Inputs.{driver_input_of};

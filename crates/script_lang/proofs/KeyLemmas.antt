@@ -32,12 +32,12 @@ use Rattle.script_words.specs.Fields.{is_path, key_word, whole_key, path_word, i
 use Rattle.script_words.specs.Contents.{content_of}
 use Rattle.script_words.specs.declared.key_word.KeyWord.{KeyWord}
 use Rattle.script_words.specs.declared.key_word.KeyWord.TheVariants.{OfKey, OfPath}
-use Rattle.script_lang.specs.declared.command.NamedKey.{NamedKey}
-use Rattle.script_lang.specs.declared.fault.LineFault.{LineFault}
-use Rattle.script_lang.specs.Context.{Context, is_placed}
+use Rattle.script_commands.specs.declared.command.NamedKey.{NamedKey}
+use Rattle.script_commands.specs.declared.fault.LineFault.{LineFault}
+use Rattle.script_commands.specs.Context.{Context, is_placed}
 use Rattle.script_lang.specs.Preconditions.{IsRepo, AreTwo, IsLineText, IsKnownKey, IsNamedKey, IsPath, IsNamedFile, IsLogFile, IsSmall}
-use Rattle.script_lang.specs.Steps
-use Rattle.script_lang.specs.Verify.{is_content_of}
+use Rattle.script_commands.specs.Steps
+use Rattle.script_commands.specs.Verify.{is_content_of}
 use Rattle.script_lang.proofs.StepLemmas.{Gives, Always, saying_gives, option_gives, next_stays, holds_some, other_gives, number_bounded, path_some}
 
 -- ---- keys

@@ -1,9 +1,7 @@
 -- The lemmas of this crate.
-pub mod GroupLemmas
 pub mod LawLemmas
 pub mod LineLemmas
 pub mod MemoryLemmas
-pub mod PieceLemmas
 pub mod StepLemmas
 pub mod KeyLemmas
 pub mod StandingForms

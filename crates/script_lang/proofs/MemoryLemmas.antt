@@ -21,33 +21,33 @@ use Rattle.script_words.specs.Fields.{level_of, call_of}
 use Rattle.script_words.specs.Contents.{content_of}
 use Rattle.script_words.specs.declared.words.NextWord.{NextWord}
 use Rattle.script_words.specs.declared.words.NextWord.TheVariants.{NoWord, BadWord, Word}
-use Rattle.script_lang.specs.declared.command.NamedKey.{NamedKey}
-use Rattle.script_lang.specs.declared.command.BlockLine.{BlockLine}
-use Rattle.script_lang.specs.declared.command.BlockLine.TheVariants as blocks
-use Rattle.script_lang.specs.declared.command.Command.{Command}
-use Rattle.script_lang.specs.declared.command.Command.TheVariants as commands
-use Rattle.script_lang.specs.declared.fault.LineFault.{LineFault}
-use Rattle.script_lang.specs.declared.fault.LineFault.TheVariants.{Wrong, Past, NoMemory}
-use Rattle.script_lang.specs.declared.fault.Quantity.{Quantity}
-use Rattle.script_lang.specs.declared.fault.Quantity.TheVariants.{Content}
+use Rattle.script_commands.specs.declared.command.NamedKey.{NamedKey}
+use Rattle.script_commands.specs.declared.command.BlockLine.{BlockLine}
+use Rattle.script_commands.specs.declared.command.BlockLine.TheVariants as blocks
+use Rattle.script_commands.specs.declared.command.Command.{Command}
+use Rattle.script_commands.specs.declared.command.Command.TheVariants as commands
+use Rattle.script_commands.specs.declared.fault.LineFault.{LineFault}
+use Rattle.script_commands.specs.declared.fault.LineFault.TheVariants.{Wrong, Past, NoMemory}
+use Rattle.script_commands.specs.declared.fault.Quantity.{Quantity}
+use Rattle.script_commands.specs.declared.fault.Quantity.TheVariants.{Content}
 use Rattle.script_lang.specs.declared.state.Block.{Block}
-use Rattle.script_lang.specs.declared.verb.Verb.{Verb}
-use Rattle.script_lang.specs.declared.verb.Verb.TheVariants as verbs
-use Rattle.script_lang.specs.declared.verb.BlockVerb.{BlockVerb}
-use Rattle.script_lang.specs.declared.verb.BlockVerb.TheVariants as block_verbs
-use Rattle.script_lang.specs.declared.verb.JobVerb.{JobVerb}
-use Rattle.script_lang.specs.declared.verb.JobVerb.TheVariants as job_verbs
-use Rattle.script_lang.specs.declared.verb.LineVerb.{LineVerb}
-use Rattle.script_lang.specs.declared.verb.LineVerb.TheVariants.{Par, End, Says}
-use Rattle.script_lang.specs.declared.verb.Show.{Show}
-use Rattle.script_lang.specs.declared.verb.Show.TheVariants as shows
-use Rattle.script_lang.specs.Context.{Context, number_of_repo, number_of_other, has_path}
-use Rattle.script_lang.specs.Forms
-use Rattle.script_lang.specs.Forms.{Form}
-use Rattle.script_lang.specs.Limits.{first_limit}
+use Rattle.script_commands.specs.declared.verb.Verb.{Verb}
+use Rattle.script_commands.specs.declared.verb.Verb.TheVariants as verbs
+use Rattle.script_commands.specs.declared.verb.BlockVerb.{BlockVerb}
+use Rattle.script_commands.specs.declared.verb.BlockVerb.TheVariants as block_verbs
+use Rattle.script_commands.specs.declared.verb.JobVerb.{JobVerb}
+use Rattle.script_commands.specs.declared.verb.JobVerb.TheVariants as job_verbs
+use Rattle.script_commands.specs.declared.verb.LineVerb.{LineVerb}
+use Rattle.script_commands.specs.declared.verb.LineVerb.TheVariants.{Par, End, Says}
+use Rattle.script_commands.specs.declared.verb.Show.{Show}
+use Rattle.script_commands.specs.declared.verb.Show.TheVariants as shows
+use Rattle.script_commands.specs.Context.{Context, number_of_repo, number_of_other, has_path}
+use Rattle.script_commands.specs.Forms
+use Rattle.script_commands.specs.Forms.{Form}
+use Rattle.script_commands.specs.Limits.{first_limit}
 use Rattle.script_lang.specs.Script
 use Rattle.script_lang.specs.Script.{State}
-use Rattle.script_lang.specs.Steps
+use Rattle.script_commands.specs.Steps
 
 -- the answer isn't that memory is wanted
 pub record WantsNone {A : Type 0} (r : Result A LineFault) : Type 0 where

@@ -16,28 +16,28 @@ use Rattle.run_data.specs.declared.job.JobKind.{JobKind}
 use Rattle.run_data.specs.declared.job.JobKind.TheVariants as kinds
 use Rattle.script_words.specs.Places.{Cursor}
 use Rattle.script_words.specs.Fields.{greatest_offset}
-use Rattle.script_lang.specs.declared.command.NamedKey.{NamedKey}
-use Rattle.script_lang.specs.declared.command.BlockLine.{BlockLine}
-use Rattle.script_lang.specs.declared.command.BlockLine.TheVariants as blocks
-use Rattle.script_lang.specs.declared.command.Command.{Command}
-use Rattle.script_lang.specs.declared.command.Command.TheVariants.{Begin, Repo, ShowNumbers, Turn}
-use Rattle.script_lang.specs.declared.fault.LineFault.{LineFault}
-use Rattle.script_lang.specs.declared.fault.LineFault.TheVariants.{Wrong, Past}
-use Rattle.script_lang.specs.declared.fault.Quantity.TheVariants.{Content}
-use Rattle.script_lang.specs.declared.verb.Verb.{Verb}
-use Rattle.script_lang.specs.declared.verb.Verb.TheVariants as verbs
-use Rattle.script_lang.specs.declared.verb.BlockVerb.{BlockVerb}
-use Rattle.script_lang.specs.declared.verb.BlockVerb.TheVariants as block_verbs
-use Rattle.script_lang.specs.declared.verb.JobVerb.{JobVerb}
-use Rattle.script_lang.specs.declared.verb.JobVerb.TheVariants as job_verbs
-use Rattle.script_lang.specs.declared.verb.Show.{Show}
-use Rattle.script_lang.specs.declared.verb.Show.TheVariants as shows
-use Rattle.script_lang.specs.Context.{Context, has_path}
-use Rattle.script_lang.specs.Forms
-use Rattle.script_lang.specs.Forms.{Form}
+use Rattle.script_commands.specs.declared.command.NamedKey.{NamedKey}
+use Rattle.script_commands.specs.declared.command.BlockLine.{BlockLine}
+use Rattle.script_commands.specs.declared.command.BlockLine.TheVariants as blocks
+use Rattle.script_commands.specs.declared.command.Command.{Command}
+use Rattle.script_commands.specs.declared.command.Command.TheVariants.{Begin, Repo, ShowNumbers, Turn}
+use Rattle.script_commands.specs.declared.fault.LineFault.{LineFault}
+use Rattle.script_commands.specs.declared.fault.LineFault.TheVariants.{Wrong, Past}
+use Rattle.script_commands.specs.declared.fault.Quantity.TheVariants.{Content}
+use Rattle.script_commands.specs.declared.verb.Verb.{Verb}
+use Rattle.script_commands.specs.declared.verb.Verb.TheVariants as verbs
+use Rattle.script_commands.specs.declared.verb.BlockVerb.{BlockVerb}
+use Rattle.script_commands.specs.declared.verb.BlockVerb.TheVariants as block_verbs
+use Rattle.script_commands.specs.declared.verb.JobVerb.{JobVerb}
+use Rattle.script_commands.specs.declared.verb.JobVerb.TheVariants as job_verbs
+use Rattle.script_commands.specs.declared.verb.Show.{Show}
+use Rattle.script_commands.specs.declared.verb.Show.TheVariants as shows
+use Rattle.script_commands.specs.Context.{Context, has_path}
+use Rattle.script_commands.specs.Forms
+use Rattle.script_commands.specs.Forms.{Form}
 use Rattle.script_lang.specs.Preconditions.{IsRepo, AreTwo, IsLineText, IsKnownKey, IsNamedKey, IsGroup, IsPath, IsNamedFile, IsLogFile, IsSmall, IsJob, MayDeclare, IsValidIn, StandsInBlock}
-use Rattle.script_lang.specs.Steps
-use Rattle.script_lang.specs.Verify.{is_content_of}
+use Rattle.script_commands.specs.Steps
+use Rattle.script_commands.specs.Verify.{is_content_of}
 use Rattle.script_lang.proofs.StepLemmas.{Gives, Always, Ends, IsNewName, IsNewId, IsFullText, saying_gives, repo_gives, other_gives, new_name_gives, new_id_gives, number_gives, level_gives, call_gives, path_gives, tree_path_gives, group_gives, rest_ends, full_rest_ends, text_ends, glob_ends, groups_ends}
 use Rattle.script_lang.proofs.KeyLemmas.{KeysAreTexts, HasKeys, IsPlacedKey, MayBeContent, IsPeer, key_gives, placed_key_gives, file_gives, log_file_gives, content_gives, matching_gives, content_is, small_is, offset_gives, clock_gives, version_gives, locks_gives, turns_gives, maybe_path_gives, from_gives, to_gives, way_gives}
 

@@ -20,27 +20,27 @@ use Rattle.annex_key.specs.KeyText.{IsKeyText}
 use Rattle.annex_key.specs.Tree.{Entries, with_key}
 use Rattle.key_verify.specs.Matching.{MatchesKey}
 use Rattle.script_words.specs.Places.{Cursor}
-use Rattle.script_lang.specs.declared.command.BlockLine.{BlockLine}
-use Rattle.script_lang.specs.declared.command.Command.{Command}
-use Rattle.script_lang.specs.declared.command.Command.TheVariants as commands
-use Rattle.script_lang.specs.declared.fault.LineFault.{LineFault}
-use Rattle.script_lang.specs.declared.fault.LineFault.TheVariants.{Wrong, Past, NoMemory}
-use Rattle.script_lang.specs.declared.fault.Quantity.{Quantity}
+use Rattle.script_commands.specs.declared.command.BlockLine.{BlockLine}
+use Rattle.script_commands.specs.declared.command.Command.{Command}
+use Rattle.script_commands.specs.declared.command.Command.TheVariants as commands
+use Rattle.script_commands.specs.declared.fault.LineFault.{LineFault}
+use Rattle.script_commands.specs.declared.fault.LineFault.TheVariants.{Wrong, Past, NoMemory}
+use Rattle.script_commands.specs.declared.fault.Quantity.{Quantity}
 use Rattle.script_lang.specs.declared.state.Block.{Block}
-use Rattle.script_lang.specs.declared.verb.Verb.{Verb}
-use Rattle.script_lang.specs.declared.verb.Verb.TheVariants as verbs
-use Rattle.script_lang.specs.declared.verb.LineVerb.{LineVerb}
-use Rattle.script_lang.specs.declared.verb.LineVerb.TheVariants.{Par, End, Says}
-use Rattle.script_lang.specs.Changes.{change_of, tree_by}
-use Rattle.script_lang.specs.Context.{Context}
-use Rattle.script_lang.specs.Forms.{row, block_row, line_named}
-use Rattle.script_lang.specs.Limits.{first_limit}
+use Rattle.script_commands.specs.declared.verb.Verb.{Verb}
+use Rattle.script_commands.specs.declared.verb.Verb.TheVariants as verbs
+use Rattle.script_commands.specs.declared.verb.LineVerb.{LineVerb}
+use Rattle.script_commands.specs.declared.verb.LineVerb.TheVariants.{Par, End, Says}
+use Rattle.script_commands.specs.Changes.{change_of, tree_by}
+use Rattle.script_commands.specs.Context.{Context}
+use Rattle.script_commands.specs.Forms.{row, block_row, line_named}
+use Rattle.script_commands.specs.Limits.{first_limit}
 use Rattle.script_lang.specs.Numbering.{begun_by, numbers_by, numbers_from, numbers_then, line_numbers}
 use Rattle.script_lang.specs.Script
 use Rattle.script_lang.specs.Script.{State, Reading, Commands, context_with, no_context, no_lines}
 use Rattle.script_lang.specs.Preconditions.{AllStand, IsValidIn, StandsInBlock}
-use Rattle.script_lang.specs.Steps
-use Rattle.script_lang.specs.Verify.{is_content_of, made_key}
+use Rattle.script_commands.specs.Steps
+use Rattle.script_commands.specs.Verify.{is_content_of, made_key}
 use Rattle.script_lang.proofs.KeyLemmas.{KeysAreTexts, HasKeys}
 use Rattle.script_lang.proofs.StepLemmas.{saying_gives}
 use Rattle.script_lang.proofs.StandingForms.{block_says, row_says}

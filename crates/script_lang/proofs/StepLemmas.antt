@@ -44,14 +44,14 @@ use Rattle.script_words.specs.declared.words.NextWord.{NextWord}
 use Rattle.script_words.specs.declared.words.NextWord.TheVariants.{NoWord, BadWord, Word}
 use Rattle.script_words.specs.declared.key_word.KeyWord.{KeyWord}
 use Rattle.script_words.specs.declared.key_word.KeyWord.TheVariants.{OfKey, OfPath}
-use Rattle.script_lang.specs.declared.command.NamedKey.{NamedKey}
-use Rattle.script_lang.specs.declared.context.Repository.{Repository}
-use Rattle.script_lang.specs.declared.fault.LineFault.{LineFault}
-use Rattle.script_lang.specs.declared.fault.LineFault.TheVariants.{Wrong}
-use Rattle.script_lang.specs.Context.{Context, number_of_repo, number_of_other, unless, has_name, has_id, has_path, is_placed}
+use Rattle.script_commands.specs.declared.command.NamedKey.{NamedKey}
+use Rattle.script_commands.specs.declared.context.Repository.{Repository}
+use Rattle.script_commands.specs.declared.fault.LineFault.{LineFault}
+use Rattle.script_commands.specs.declared.fault.LineFault.TheVariants.{Wrong}
+use Rattle.script_commands.specs.Context.{Context, number_of_repo, number_of_other, unless, has_name, has_id, has_path, is_placed}
 use Rattle.script_lang.specs.Preconditions.{IsRepo, AreTwo, IsLineText, IsKnownKey, IsNamedKey, IsGroup, IsPath, IsNamedFile, IsLogFile}
-use Rattle.script_lang.specs.Steps
-use Rattle.script_lang.specs.Verify.{is_content_of}
+use Rattle.script_commands.specs.Steps
+use Rattle.script_commands.specs.Verify.{is_content_of}
 
 -- ---- words
 

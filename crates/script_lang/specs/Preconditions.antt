@@ -13,16 +13,16 @@ use Rattle.run_data.specs.declared.entry.LogFile.{LogFile}
 use Rattle.run_data.specs.declared.entry.LogFile.TheVariants.{Location, Of, Other}
 use Rattle.run_data.specs.declared.job.Job.{Job}
 use Rattle.script_words.specs.Fields.{is_name, is_path}
-use Rattle.script_lang.specs.declared.command.NamedKey.{NamedKey}
-use Rattle.script_lang.specs.declared.command.BlockLine.{BlockLine}
-use Rattle.script_lang.specs.declared.command.BlockLine.TheVariants as blocks
-use Rattle.script_lang.specs.declared.command.Command.{Command}
-use Rattle.script_lang.specs.declared.command.Command.TheVariants.{Repo, Numcopies, Mincopies, NumcopiesFor, MincopiesFor, Trust, Describe, Wanted, Required, Group, GroupWanted, Log, Have, Part, Damage, Add, File, Run, Begin, Turn, Settle, Merge, Compact, Sync, Close, Crash, Wait, Fail, Par, ShowPresence, ShowClaims, ShowLocation, ShowLog, ShowLogs, ShowNumbers, ShowLevel, ShowWants, ShowRow, ShowPlan, ShowTotals, ShowJournal}
-use Rattle.script_lang.specs.Context.{Context, has_id, has_name, has_path, is_placed}
-use Rattle.script_lang.specs.Limits.{first_limit}
+use Rattle.script_commands.specs.declared.command.NamedKey.{NamedKey}
+use Rattle.script_commands.specs.declared.command.BlockLine.{BlockLine}
+use Rattle.script_commands.specs.declared.command.BlockLine.TheVariants as blocks
+use Rattle.script_commands.specs.declared.command.Command.{Command}
+use Rattle.script_commands.specs.declared.command.Command.TheVariants.{Repo, Numcopies, Mincopies, NumcopiesFor, MincopiesFor, Trust, Describe, Wanted, Required, Group, GroupWanted, Log, Have, Part, Damage, Add, File, Run, Begin, Turn, Settle, Merge, Compact, Sync, Close, Crash, Wait, Fail, Par, ShowPresence, ShowClaims, ShowLocation, ShowLog, ShowLogs, ShowNumbers, ShowLevel, ShowWants, ShowRow, ShowPlan, ShowTotals, ShowJournal}
+use Rattle.script_commands.specs.Context.{Context, has_id, has_name, has_path, is_placed}
+use Rattle.script_commands.specs.Limits.{first_limit}
 use Rattle.script_lang.specs.Script.{context_with}
-use Rattle.script_lang.specs.Steps.{is_path_file, most_content}
-use Rattle.script_lang.specs.Verify.{made_key}
+use Rattle.script_commands.specs.Steps.{is_path_file, most_content}
+use Rattle.script_commands.specs.Verify.{made_key}
 
 -- the number of a repository that is declared
 abbrev pub IsRepo : Context → ℕ → Type 0

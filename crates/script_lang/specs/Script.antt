@@ -6,25 +6,25 @@ use Rattle.std.specs.Str.Lossy.{utf8_valid_len}
 use Rattle.annex_base.specs.Lines.{is_newline, is_not_space}
 use Rattle.annex_base.specs.ResultSteps.{◌>>=◌}
 use Rattle.script_words.specs.Places.{Cursor}
-use Rattle.script_lang.specs.declared.command.BlockLine.{BlockLine}
-use Rattle.script_lang.specs.declared.command.Command.{Command}
-use Rattle.script_lang.specs.declared.command.Command.TheVariants as commands
+use Rattle.script_commands.specs.declared.command.BlockLine.{BlockLine}
+use Rattle.script_commands.specs.declared.command.Command.{Command}
+use Rattle.script_commands.specs.declared.command.Command.TheVariants as commands
 use Rattle.script_lang.specs.declared.state.Block.{Block}
-use Rattle.script_lang.specs.declared.verb.Verb.{Verb}
-use Rattle.script_lang.specs.declared.verb.Verb.TheVariants as verbs
-use Rattle.script_lang.specs.declared.verb.LineVerb.{LineVerb}
-use Rattle.script_lang.specs.declared.verb.LineVerb.TheVariants.{Par, End, Says}
-use Rattle.script_lang.specs.declared.fault.LineFault.{LineFault}
-use Rattle.script_lang.specs.declared.fault.LineFault.TheVariants.{Wrong, Past, NoMemory}
-use Rattle.script_lang.specs.declared.fault.ScriptFault.{ScriptFault}
-use Rattle.script_lang.specs.declared.fault.ScriptFault.TheVariants as faults
-use Rattle.script_lang.specs.declared.fault.Quantity.{Quantity}
-use Rattle.script_lang.specs.Changes.{change_of, context_by, repos_by, wait_by}
-use Rattle.script_lang.specs.Context.{Context}
-use Rattle.script_lang.specs.declared.context.Repository.{Repository}
-use Rattle.script_lang.specs.Steps.{Step, saying_at, end_at}
-use Rattle.script_lang.specs.Forms.{row, block_row, line_named}
-use Rattle.script_lang.specs.Limits.{first_limit}
+use Rattle.script_commands.specs.declared.verb.Verb.{Verb}
+use Rattle.script_commands.specs.declared.verb.Verb.TheVariants as verbs
+use Rattle.script_commands.specs.declared.verb.LineVerb.{LineVerb}
+use Rattle.script_commands.specs.declared.verb.LineVerb.TheVariants.{Par, End, Says}
+use Rattle.script_commands.specs.declared.fault.LineFault.{LineFault}
+use Rattle.script_commands.specs.declared.fault.LineFault.TheVariants.{Wrong, Past, NoMemory}
+use Rattle.script_commands.specs.declared.fault.ScriptFault.{ScriptFault}
+use Rattle.script_commands.specs.declared.fault.ScriptFault.TheVariants as faults
+use Rattle.script_commands.specs.declared.fault.Quantity.{Quantity}
+use Rattle.script_commands.specs.Changes.{change_of, context_by, repos_by, wait_by}
+use Rattle.script_commands.specs.Context.{Context}
+use Rattle.script_commands.specs.declared.context.Repository.{Repository}
+use Rattle.script_commands.specs.Steps.{Step, saying_at, end_at}
+use Rattle.script_commands.specs.Forms.{row, block_row, line_named}
+use Rattle.script_commands.specs.Limits.{first_limit}
 
 -- ---- what a command changes for the lines behind it
 

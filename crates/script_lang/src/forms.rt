@@ -1,20 +1,16 @@
 //! The command that a line says, by its form.
 ghost use Rattle.std.specs.Prelude.{◌≡◌};
-ghost use Rattle.script_lang.specs.Answers.{Gives};
-ghost use Rattle.script_lang.specs.Forms.{row};
+ghost use Rattle.script_commands.specs.Answers.{Gives};
+ghost use Rattle.script_commands.specs.Forms.{row};
 
-use crate::actions::{compact, merge, settle, sync, turn, wait};
-use crate::command::Command;
-use crate::contents::{add, damage, file, have, part};
-use crate::context::Context;
-use crate::fault::LineFault;
-use crate::jobs::{begin, read_alone};
-use crate::settings::{
-    declare, describe, group_wanted, mincopies, mincopies_for, numcopies, numcopies_for, raw_log,
-    required, set_groups, trust, wanted,
+use script_commands::{Command, Context, LineFault, Verb};
+use script_jobs::{
+    add, begin, compact, damage, file, have, merge, part, read_alone, settle, sync, turn, wait,
 };
-use crate::shows::show;
-use crate::verb::Verb;
+use script_settings::{
+    declare, describe, group_wanted, mincopies, mincopies_for, numcopies, numcopies_for, raw_log,
+    required, set_groups, show, trust, wanted,
+};
 use script_words::Words;
 use std::alloc::Global;
 

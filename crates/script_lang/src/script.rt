@@ -3,9 +3,8 @@ ghost use Rattle.std.specs.Prelude.{◌≡◌, ◌<◌, ◌^◌, IfOk, IfErr, On
 ghost use Rattle.script_lang.specs.Script.{IsReading, IsFault, Reading, reading, lines_of, lines_reading, line_step, goes_on, ended_by, no_lines};
 ghost use Rattle.script_lang.specs.Script.{State as SpecState};
 
-use crate::command::Command;
-use crate::fault::{LineFault, ScriptFault};
 use crate::state::State;
+use script_commands::{Command, LineFault, ScriptFault};
 use std::alloc::{AllocError, Global};
 use std::marker::Model;
 
@@ -17,7 +16,7 @@ pub struct Script {
 
 impl Model for Script {
     ghost use Rattle.std.specs.Prelude.{List};
-    ghost use Rattle.script_lang.specs.declared.command.Command.{Command};
+    ghost use Rattle.script_commands.specs.declared.command.Command.{Command};
 
     ghost Value = { List Command };
 

@@ -1,6 +1,6 @@
 //! Laws of the commands that a text says: each is the contract of a function that does nothing.
 ghost use Rattle.std.specs.Prelude.{◌≡◌, ◌+◌, ◌≤◌, List, ℕ, length};
-ghost use Rattle.script_lang.specs.declared.command.Command.{Command};
+ghost use Rattle.script_commands.specs.declared.command.Command.{Command};
 ghost use Rattle.script_lang.specs.Numbering.{line_numbers};
 ghost use Rattle.script_lang.specs.Script.{reading, no_context, Commands};
 ghost use Rattle.script_lang.specs.Preconditions.{AllStand};

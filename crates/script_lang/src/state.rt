@@ -2,22 +2,19 @@
 ghost use Rattle.std.specs.Prelude.{◌≡◌, IfOk, IfErr, None, length};
 ghost use Rattle.std.specs.List.{suffix_len};
 ghost use Rattle.annex_base.specs.Lines.{is_not_space};
-ghost use Rattle.script_lang.specs.Answers.{Gives, Reads};
+ghost use Rattle.script_commands.specs.Answers.{Gives, Reads};
 ghost use Rattle.script_lang.specs.Numbering.{begun_by};
 ghost use Rattle.script_lang.specs.Script as spec;
 ghost use Rattle.script_lang.specs.Script.{line_verb_at, with_command, no_lines};
 
 use crate::applying::apply;
-use crate::command::{BlockLine, Command};
-use crate::context::Context;
-use crate::fault::LineFault;
 use crate::forms::read_command;
-use crate::jobs::read_block_line;
 use crate::limits::first_limit;
-use crate::steps::{end, next_word, wrong, wrong_word};
-use crate::verb::{LineVerb, Verb};
 use annex_base::{Items, NoMemory};
 use annex_key::Tree;
+use script_commands::{BlockLine, Command, Context, LineFault, LineVerb, Verb};
+use script_jobs::read_block_line;
+use script_steps::{end, next_word, wrong, wrong_word};
 use script_words::Words;
 use std::alloc::Global;
 use std::collections::BTreeSet;

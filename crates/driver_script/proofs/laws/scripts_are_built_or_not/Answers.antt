@@ -1,6 +1,6 @@
 -- A reading is one thing, and so are the lines and the first place that it gives.
 use Rattle.std.proofs.Common.{◌≡◌, List, ap, sym, ◌∙◌}
-use Rattle.script_lang.specs.declared.command.Command.{Command}
+use Rattle.script_commands.specs.declared.command.Command.{Command}
 use Rattle.script_lang.specs.Script.{Reading, Commands}
 use Rattle.driver_script.specs.Lines.{first_unbuilt, repos_of}
 use Rattle.driver_script.proofs.BuiltLemmas.{built_has_all}

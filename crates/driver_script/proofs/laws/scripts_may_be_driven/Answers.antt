@@ -1,6 +1,6 @@
 -- What each command has where it stands, its line has; and the repositories are those that the commands declare.
 use Rattle.std.proofs.Common.{◌≡◌, List, Some, arith}
-use Rattle.script_lang.specs.declared.command.Command.{Command}
+use Rattle.script_commands.specs.declared.command.Command.{Command}
 use Rattle.script_lang.specs.Script.{no_context}
 use Rattle.script_lang.specs.Preconditions.{AllStand}
 use Rattle.driver_model.specs.Lines.{Line}

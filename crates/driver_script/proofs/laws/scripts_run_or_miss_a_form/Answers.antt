@@ -1,7 +1,7 @@
 -- All commands can be driven, or the first that can't stands on a line.
 use Rattle.std.proofs.Common.{◌≡◌, ◌⊎◌, inl, inr, ℕ, List, length, get_or, arith}
 use Rattle.std.proofs.lemmas.Option.{slice_get-get_or}
-use Rattle.script_lang.specs.declared.command.Command.{Command}
+use Rattle.script_commands.specs.declared.command.Command.{Command}
 use Rattle.script_lang.specs.Script.{reading, Commands}
 use Rattle.script_lang.specs.Numbering.{line_numbers}
 use Rattle.driver_model.specs.Lines.{Line}

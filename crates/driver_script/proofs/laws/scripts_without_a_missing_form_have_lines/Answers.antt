@@ -1,6 +1,6 @@
 -- All commands have their lines, or the first that has none is missing.
 use Rattle.std.proofs.Common.{◌≡◌, inl, inr, List, None, Some, sym, ◌∙◌}
-use Rattle.script_lang.specs.declared.command.Command.{Command}
+use Rattle.script_commands.specs.declared.command.Command.{Command}
 use Rattle.driver_model.specs.Lines.{Line}
 use Rattle.driver_script.specs.Lines.{first_unbuilt, lines_of, repos_of}
 use Rattle.driver_script.proofs.BuiltLemmas.{IsEither, built_or_first}

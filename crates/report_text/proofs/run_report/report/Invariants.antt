@@ -4,7 +4,7 @@ use Rattle.std.specs.Slice.Iter.{iter_rest}
 use Rattle.std.specs.Iterator.Adapters.{zip_first, zip_second}
 use Rattle.annex_base.specs.Lists.{Each}
 use Rattle.report_text.specs.Report.{report, report_from}
-use Rattle.report_text.specs.Walk.{ShowsKnown, StandsIn}
+use Rattle.report_tables.specs.Walk.{ShowsKnown, StandsIn}
 use Rattle.report_text.proofs.run_report.report.Given as goal
 
 abbrev pub invariant-loop-command : goal.invariant-loop-command

@@ -2,14 +2,12 @@
 use Rattle.std.proofs.Common.{◌<◌, ◌++◌, ℕ, ap, ◌∙◌, sym, subst}
 use Rattle.union_merge.specs.Branch.{Files, lines_at}
 use Rattle.trust_groups.specs.Settings.{claims}
-use Rattle.run_model.specs.Safety.{past_at}
-use Rattle.report_text.specs.Report.{claims_text}
+use Rattle.shown_text.specs.Shown.{claims_text}
 use Rattle.report_text.proofs.shown.put_shown.Goals as goal
 
 pub returns-in_ok-put_presence-in-ShowPresence-clause-text : goal.returns-in_ok-put_presence-in-ShowPresence-clause-text
 returns-in_ok-put_presence-in-ShowPresence-clause-text c =
-    let told = rw (c.as_slice.ensures, c.contents.ensures) at c.in_ok-put_presence-in-ShowPresence.ensures in
-    rw c.in-ShowPresence.is (told (past_at c.args.run.now c.args.place) c.in_ok-move_to-in-ShowPresence.ensures.knows.contents)
+    rw c.in-ShowPresence.is (c.in_ok-put_presence-in-ShowPresence.ensures c.args.place c.in_ok-move_to-in-ShowPresence.ensures)
 
 pub returns-in_ok-put_claims-in-ShowClaims-clause-text : goal.returns-in_ok-put_claims-in-ShowClaims-clause-text
 returns-in_ok-put_claims-in-ShowClaims-clause-text c =
@@ -17,9 +15,9 @@ returns-in_ok-put_claims-in-ShowClaims-clause-text c =
     rw c.in-ShowClaims.is (c.in_ok-put_claims-in-ShowClaims.ensures
     ∙ ap (λ (b : Files). c.args.out.now.items ++ text (claims (lines_at b) c.in-ShowClaims.key.key)) (c.branch-walk.ensures c.args.run.now c.args.place c.in_ok-move_to-in-ShowClaims.ensures))
 
-pub put_row-requires : goal.put_row-requires
-put_row-requires c =
+pub put_row_at-requires : goal.put_row_at-requires
+put_row_at-requires c =
     subst (λ (n : ℕ). c.in-ShowRow.repo < n) (sym c.in_ok-move_to-in-ShowRow.ensures.knows.rows.number_is) (rw c.in-ShowRow.is at c.requires.known)
 
-pub returns-in_ok-put_row-in-ShowRow-clause-text : goal.returns-in_ok-put_row-in-ShowRow-clause-text
-returns-in_ok-put_row-in-ShowRow-clause-text c = rw c.in-ShowRow.is (c.in_ok-put_row-in-ShowRow.ensures c.args.place c.in_ok-move_to-in-ShowRow.ensures)
+pub returns-in_ok-put_row_at-in-ShowRow-clause-text : goal.returns-in_ok-put_row_at-in-ShowRow-clause-text
+returns-in_ok-put_row_at-in-ShowRow-clause-text c = rw c.in-ShowRow.is (c.in_ok-put_row_at-in-ShowRow.ensures c.args.place c.in_ok-move_to-in-ShowRow.ensures)

@@ -1,7 +1,7 @@
 -- The run of the script is what the report wants, and is good.
 use Rattle.std.proofs.Common.{◌++◌, inr, sym, ap, ◌∙◌, subst, List, length, arith}
 use Rattle.annex_base.specs.Lists.{Each}
-use Rattle.script_lang.specs.declared.command.Command.{Command}
+use Rattle.script_commands.specs.declared.command.Command.{Command}
 use Rattle.driver_script.specs.Script.{IsScript}
 use Rattle.report_text.specs.Report.{report}
 use Rattle.report_text.specs.Walk.{ShowsKnown}

@@ -2,7 +2,7 @@
 use Rattle.std.proofs.Common.{length, refl, subst, ◌+◌, ◌≤◌}
 use Rattle.annex_base.proofs.Numbers.{below_more}
 use Rattle.repo_node.specs.Stored.{StoreView, store_view}
-use Rattle.script_lang.specs.declared.command.Command.TheVariants as commands
+use Rattle.script_commands.specs.declared.command.Command.TheVariants as commands
 use Rattle.driver_model.specs.Lines as driver
 use Rattle.driver_model.specs.Lines.{Raw}
 use Rattle.driver_script.specs.Lines.{is_added, is_local_drop}

@@ -1,0 +1,7 @@
+-- The lemmas of this crate.
+mod BranchLemmas
+mod Numbers
+mod Pasts
+mod RowLemmas
+mod RowTables
+mod Tables

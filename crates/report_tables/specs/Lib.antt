@@ -1,0 +1,7 @@
+-- The definitions of this crate.
+pub mod Before
+pub mod Branches
+pub mod Contents
+pub mod Rows
+pub mod Scan
+pub mod Walk

@@ -1,7 +1,0 @@
--- What holds at each turn of the loops of `lines::put_ended`.
-use Rattle.std.proofs.Common.{◌≡◌, ◌≤◌, ◌⊎◌, ◌++◌, min, length}
-use Rattle.report_text.specs.Report.{outcome_lines}
-use Rattle.report_text.proofs.lines.put_ended.Given as goal
-
-abbrev pub invariant-loop-place : goal.invariant-loop-place
-invariant-loop-place l = (l.out.items ≡ l.fn.out.items ++ outcome_lines l.run l.fn.from l.place) × ((l.place ≡ l.fn.from) ⊎ (l.place ≤ min l.fn.upto (length l.entries)))

@@ -1,0 +1,99 @@
+-- The lines of jobs that end or find no slot, and of faults (own).
+use Rattle.std.specs.Prelude.{ℕ, ◌-◌, Bool, false, ◌&&◌, if◌then◌else◌, nat_lt, List, [], ◌++◌, codes, Option, Some, None, slice_get}
+use Rattle.std.specs.List.{flat_map, range_with_len}
+use Rattle.run_data.specs.declared.run.Run.{Run}
+use Rattle.run_data.specs.declared.run.RepoView.{RepoView}
+use Rattle.run_data.specs.declared.entry.Entry.{Entry}
+use Rattle.run_data.specs.declared.entry.EntryKind.{EntryKind}
+use Rattle.run_data.specs.declared.entry.EntryKind.TheVariants.{End, Fault}
+use Rattle.run_data.specs.declared.job.Job.{Job}
+use Rattle.run_data.specs.declared.job.Outcome.{Outcome}
+use Rattle.annex_base.specs.declared.kinds.Call.{Call}
+use Rattle.node_model.specs.Slots.{is_begin}
+use Rattle.run_model.specs.Past.{begun_job, is_of}
+use Rattle.run_model.specs.Safety.{past_at}
+use Rattle.script_words.specs.Fields.{call_word}
+use Rattle.run_text.specs.Names.{name_of}
+use Rattle.run_text.specs.Jobs.{begun_text}
+use Rattle.run_text.specs.Outcomes.{outcome_text}
+use Rattle.script_commands.specs.declared.command.Command.{Command}
+use Rattle.script_commands.specs.declared.command.Command.TheVariants as commands
+
+abbrev pub end_line : List RepoView → ℕ → Option Job → Outcome → List ℕ
+end_line repos r job outcome = begun_text repos r job ++ outcome_text repos job outcome ++ codes "\n"
+
+-- a call of the store of r failed
+abbrev pub fault_line : List RepoView → ℕ → Call → List ℕ
+fault_line repos r call = codes "fault " ++ name_of repos r ++ codes " " ++ call_word call ++ codes "\n"
+
+abbrev pub kind_line : List RepoView → List Entry → ℕ → EntryKind → List ℕ
+kind_line repos past r (End j outcome) = end_line repos r (begun_job past r j) outcome
+kind_line repos past r (Fault call by) = fault_line repos r call
+kind_line repos past r _ = []
+
+abbrev pub repo_line : List RepoView → List Entry → Option ℕ → EntryKind → List ℕ
+repo_line repos past None kind = []
+repo_line repos past (Some r) kind = kind_line repos past r kind
+
+abbrev pub entry_line : List RepoView → List Entry → Option Entry → List ℕ
+entry_line repos past None = []
+entry_line repos past (Some e) = repo_line repos past e.repo e.kind
+
+-- the lines of the entries from one place up to another: one for each job that ends, and for each fault
+abbrev pub outcome_lines : Run → ℕ → ℕ → List ℕ
+outcome_lines run from upto = flat_map (λ place. entry_line run.repos (past_at run place) (slice_get run.entries place)) (range_with_len from (upto - from))
+
+-- the entry is the beginning of a job of r
+abbrev pub begins_job : ℕ → Option Entry → Bool
+begins_job r None = false
+begins_job r (Some e) = is_of r e && is_begin e.kind
+
+-- A line that begins a job of r has made the entries from one place up to another. A job that gets a slot begins by the
+-- first of them.
+abbrev pub noslot_line : Run → ℕ → ℕ → ℕ → List ℕ
+noslot_line run from upto r =
+    if nat_lt from upto && begins_job r (slice_get run.entries from) then [] else codes "noslot " ++ name_of run.repos r ++ codes "\n"
+
+-- the line that no slot was free, for a line that begins a job
+abbrev pub slot_text : Run → ℕ → ℕ → Command → List ℕ
+slot_text run from upto (commands.Run r job) = noslot_line run from upto r
+slot_text run from upto (commands.Begin r job) = noslot_line run from upto r
+slot_text run from upto (commands.Repo name id offset version locks) = []
+slot_text run from upto (commands.Numcopies r number) = []
+slot_text run from upto (commands.Mincopies r number) = []
+slot_text run from upto (commands.NumcopiesFor r number glob) = []
+slot_text run from upto (commands.MincopiesFor r number glob) = []
+slot_text run from upto (commands.Trust r target level) = []
+slot_text run from upto (commands.Describe r target text) = []
+slot_text run from upto (commands.Wanted r target text) = []
+slot_text run from upto (commands.Required r target text) = []
+slot_text run from upto (commands.Group r target groups) = []
+slot_text run from upto (commands.GroupWanted r group text) = []
+slot_text run from upto (commands.Log r file line) = []
+slot_text run from upto (commands.Have r key content) = []
+slot_text run from upto (commands.Part r key content) = []
+slot_text run from upto (commands.Damage r key content) = []
+slot_text run from upto (commands.Add r path key content) = []
+slot_text run from upto (commands.File path key) = []
+slot_text run from upto (commands.Turn r turns) = []
+slot_text run from upto commands.Settle = []
+slot_text run from upto (commands.Merge r other) = []
+slot_text run from upto (commands.Compact r) = []
+slot_text run from upto (commands.Sync r) = []
+slot_text run from upto (commands.Close r other) = []
+slot_text run from upto (commands.Crash r clock) = []
+slot_text run from upto (commands.Wait milliseconds) = []
+slot_text run from upto (commands.Fail r call) = []
+slot_text run from upto (commands.Par lines) = []
+slot_text run from upto (commands.ShowPresence k) = []
+slot_text run from upto (commands.ShowClaims r k) = []
+slot_text run from upto (commands.ShowLocation r k) = []
+slot_text run from upto (commands.ShowLog r file) = []
+slot_text run from upto (commands.ShowLogs r) = []
+slot_text run from upto (commands.ShowNumbers r path) = []
+slot_text run from upto (commands.ShowLevel r target) = []
+slot_text run from upto (commands.ShowWants r target path) = []
+slot_text run from upto (commands.ShowRow r k) = []
+slot_text run from upto (commands.ShowPlan r) = []
+slot_text run from upto commands.ShowTotals = []
+slot_text run from upto commands.ShowJournal = []

@@ -1,0 +1,13 @@
+//! The lines of a report: of jobs and faults, and what is shown of a branch and of a row.
+#![tactic(auto)]
+
+mod lines;
+mod logs;
+mod named;
+mod row;
+mod settings;
+
+pub use lines::{put_ended, put_slot};
+pub use logs::{put_claims, put_file, put_files, put_location};
+pub use row::put_row;
+pub use settings::{put_level, put_numbers_for};

@@ -1,0 +1,83 @@
+//! What a branch sets: numbers of copies, levels and groups.
+
+ghost use Rattle.std.specs.Prelude.{◌≡◌, ◌++◌, ◌<◌, length, OnOk};
+ghost use Rattle.union_merge.specs.Branch.{lines_at};
+ghost use Rattle.trust_groups.specs.Settings.{settings};
+ghost use Rattle.run_data.specs.Repos.{id_of};
+ghost use Rattle.shown_text.specs.Shown.{numbers_for, numbers_text, trust_text};
+
+use annex_base::{NoMemory, RepoId, Text, put_number};
+use run_data::{RepoView, Run};
+use run_text::{OwnWords, put_joined, put_name};
+use script_words::level_text;
+use trust_groups::{groups_of, level_of, mincopies_of, numcopies_of};
+use union_merge::Branch;
+
+/// Adds the numbers of copies that the branch sets; those of a path have no text yet.
+pub fn put_numbers_for(
+    out: &mut Vec<u8>,
+    run: &Run,
+    repo: u32,
+    path: &Option<Text>,
+    branch: &Branch,
+) -> Result<(), NoMemory>
+    ensures { OnOk result (out.new.items ≡ out.old.items ++ numbers_for run.now repo path.now (settings (lines_at branch.now))) }
+{
+    match path {
+        None => put_numbers(out, run, repo, branch)?,
+        Some(_) => {}
+    }
+    Ok(())
+}
+
+/// Adds the numbers of copies that the branch sets.
+fn put_numbers(out: &mut Vec<u8>, run: &Run, repo: u32, branch: &Branch) -> Result<(), NoMemory>
+    ensures { OnOk result (out.new.items ≡ out.old.items ++ numbers_text run.now repo (settings (lines_at branch.now))) }
+{
+    let alloc = *out.allocator();
+    let numcopies = numcopies_of(alloc, branch)?;
+    let mincopies = mincopies_of(alloc, branch)?;
+    out.extend_from_slice(b"numbers ")?;
+    put_name(out, run.repos.as_slice(), repo)?;
+    out.push(b' ')?;
+    put_number(out, u64::from(numcopies))?;
+    out.push(b' ')?;
+    put_number(out, u64::from(mincopies))?;
+    out.push(b'\n')?;
+    Ok(())
+}
+
+fn id_of(repos: &[RepoView], repo: u32) -> RepoId
+    requires { repo < length repos.now }
+    ensures { result ≡ id_of repos.now repo }
+{
+    repos[repo as usize].id
+}
+
+/// Adds how far the branch trusts a repository, and its groups.
+pub fn put_level(
+    out: &mut Vec<u8>,
+    run: &Run,
+    repo: u32,
+    target: u32,
+    branch: &Branch,
+) -> Result<(), NoMemory>
+    requires { target < length run.now.repos }
+    ensures { OnOk result (out.new.items ≡ out.old.items ++ trust_text run.now repo target (settings (lines_at branch.now))) }
+{
+    let alloc = *out.allocator();
+    let repos = run.repos.as_slice();
+    let id = id_of(repos, target);
+    let level = level_of(alloc, branch, id)?;
+    let groups = groups_of(alloc, branch, id)?;
+    out.extend_from_slice(b"level ")?;
+    put_name(out, repos, repo)?;
+    out.push(b' ')?;
+    put_name(out, repos, target)?;
+    out.push(b' ')?;
+    out.extend_from_slice(level_text(level))?;
+    out.extend_from_slice(b" groups=")?;
+    put_joined(out, b',', &OwnWords, groups.as_slice())?;
+    out.push(b'\n')?;
+    Ok(())
+}
