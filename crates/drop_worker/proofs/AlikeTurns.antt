@@ -33,7 +33,7 @@ use Rattle.node_model.specs.SetUp.{SetUp}
 use Rattle.node_model.specs.State.{State}
 use Rattle.node_model.specs.TransferStep.{takes_bytes}
 use Rattle.node_model.specs.Turns.{awaits, by_partner, first_step, goes, goes_on, has_room, is_awaiting, judge_needs, judges, needs, next_needs, next_step, outcome_of, peer_needs, slot_step, takes, takes_answer, takes_frame, takes_text, target_needs, with_partner}
-use Rattle.drop_worker.specs.Alike.{Alike, is_asked}
+use Rattle.drop_phases.specs.Alike.{Alike, is_asked}
 use Rattle.drop_worker.proofs.AlikeWorks.{HeardAlike, alike_is, newest, with_heard}
 
 -- ---- lists

@@ -26,7 +26,7 @@ use Rattle.node_model.specs.Knows.{Reading}
 use Rattle.node_model.specs.Rows.{option_is}
 use Rattle.node_model.specs.Sessions.{line_in}
 use Rattle.node_model.specs.Slots.{job_of}
-use Rattle.drop_worker.specs.Alike.{Alike, is_asked}
+use Rattle.drop_phases.specs.Alike.{Alike, is_asked}
 
 abbrev pub newest : List (ℕ × Heard) → ℕ → Option Heard
 newest hs c = option_map (λ (x : ℕ × Heard). x.1) (find (λ x. x.0 == c) hs)

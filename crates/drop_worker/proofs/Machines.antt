@@ -20,21 +20,22 @@ use Rattle.object_store.specs.Stores.{Contents}
 use Rattle.object_store.specs.declared.keeper.HoldRecord.{HoldRecord}
 use Rattle.content_lock.specs.Rows.{AreAfter, Rows}
 use Rattle.content_lock.specs.Stored.{Agrees}
-use Rattle.drop_worker.specs.declared.phase.Phase.{Phase}
-use Rattle.drop_worker.specs.declared.turn.Output.{Output}
-use Rattle.drop_worker.specs.declared.turn.Taken.{Taken}
-use Rattle.drop_worker.specs.Worker.{Worker}
-use Rattle.drop_worker.specs.Working.{Sight, failed_in, phase_as, present_in, sight}
-use Rattle.drop_worker.specs.Doing.{DoesAsAsked, Grows, HasToken, IsBar, OthersStay, Talks, contents_after}
-use Rattle.drop_worker.specs.Feeding.{FeedsFrameAt, FitsLocal, KeepsAnswer, KeepsWord, TakesFed, step_of}
-use Rattle.drop_worker.specs.Leaving.{Advances, Did, GoesSo, Stays, Store, stands_on}
-use Rattle.drop_worker.specs.Alike.{Alike}
-use Rattle.drop_worker.specs.Remote.{DidRemote, DoesAlike, GoesAlike, TakesRemote}
-use Rattle.drop_worker.specs.Sides.{FitsSide, HasTarget, IsNext, side_in, target_on}
+use Rattle.drop_phases.specs.declared.phase.Phase.{Phase}
+use Rattle.drop_phases.specs.declared.turn.Output.{Output}
+use Rattle.drop_phases.specs.declared.turn.Taken.{Taken}
+use Rattle.drop_phases.specs.Worker.{Worker}
+use Rattle.drop_phases.specs.Working.{Sight, failed_in, phase_as, present_in, sight}
+use Rattle.drop_phases.specs.Doing.{DoesAsAsked, Grows, HasToken, IsBar, OthersStay, Talks, contents_after}
+use Rattle.drop_phases.specs.Feeding.{FeedsFrameAt, FitsLocal, KeepsAnswer, KeepsWord, TakesFed, step_of}
+use Rattle.drop_phases.specs.Leaving.{Advances, Did, GoesSo, Stays, Store, stands_on}
+use Rattle.drop_phases.specs.Alike.{Alike}
+use Rattle.remote_requests.specs.Remote.{DidRemote, GoesAlike, TakesRemote}
+use Rattle.drop_phases.specs.Alike.{DoesAlike}
+use Rattle.drop_phases.specs.Sides.{FitsSide, HasTarget, IsNext, side_in, target_on}
 use Rattle.drop_worker.specs.States.{Sees, StepsSo}
 use Rattle.drop_worker.specs.Stepping.{AdvancesAlike, AdvancesSo, DidSo}
-use Rattle.drop_worker.proofs.Alikes.{does_alike}
-use Rattle.drop_worker.proofs.Leavings.{did_as, stays_same, talk_leaves}
+use Rattle.drop_phases.proofs.Alikes.{does_alike}
+use Rattle.drop_phases.proofs.Leavings.{did_as, stays_same, talk_leaves}
 use Rattle.drop_worker.proofs.StateFacts.{steps_so}
 
 -- a job that awaits no frame goes on from where it stands

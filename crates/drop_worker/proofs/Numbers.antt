@@ -1,9 +1,8 @@
--- The numbers of holds that a step adds.
-use Rattle.std.proofs.Common.{◌≡◌, ℕ, ◌<◌, Result, Ok, Err, IfOk, Bool, true, false, List, [], map, filter, All, length, refl, sym, subst, ap, arith}
+-- The numbers of holds stay below that of the next entry.
+use Rattle.std.proofs.Common.{◌≡◌, ℕ, ◌<◌, Bool, true, false, List, map, filter, All, refl, sym, subst, arith}
 use Rattle.std.specs.Prelude.{if◌then◌else◌, not, ◌||◌, ◌==◌}
 use Rattle.std.proofs.lemmas.List.Elements.{All-cons, All-filter, All-map, All-weaker}
 use Rattle.annex_base.specs.declared.kinds.Call.TheVariants.{Unhold}
-use Rattle.annex_base.specs.declared.memory.NoMemory.{NoMemory}
 use Rattle.run_data.specs.declared.entry.By.{By}
 use Rattle.run_data.specs.declared.entry.By.TheVariants.{Job as by_job, Peer}
 use Rattle.run_data.specs.declared.entry.EntryKind.{EntryKind}
@@ -11,30 +10,7 @@ use Rattle.run_data.specs.declared.entry.EntryKind.TheVariants.{Share, Release, 
 use Rattle.run_data.specs.declared.row.Hold.{Hold}
 use Rattle.node_model.specs.Rows.{holds_after, is_lost_ordered, keep_of, restart, same_owner}
 use Rattle.content_lock.specs.Rows.{AreAfter, Rows}
-use Rattle.drop_worker.specs.declared.turn.Output.{Output}
-use Rattle.drop_worker.specs.Remote.{Speaks}
-use Rattle.drop_worker.specs.Sides.{IsNumbered}
-use Rattle.drop_worker.specs.Worker.{Worker}
-
--- an entry that adds no hold
-no_share : (n : ℕ) (kind : EntryKind) (hs : List Hold) → hs ≡ holds_after hs kind → IsNumbered n kind
-no_share n (Share hold end owner key) hs same = absurd (omega (arith, ap length same))
-no_share n kind hs same = tt
-
-abbrev no_rows : Rows
-no_rows = record { holds = []; bars = []; fills = [] }
-
--- a step that says something at most
-pub speaks_numbered : (w w' : Worker) (r : Result Output NoMemory) → IfOk r (Speaks w w') → IfOk r (λ out. (n : ℕ) → IsNumbered n out.kind)
-speaks_numbered w w' (Ok out) s = λ n. no_share n out.kind [] (s.after no_rows).holds
-speaks_numbered w w' (Err e) s = tt
-
--- of each number, and so of this one
-pub each_number : (n : ℕ) (r : Result Output NoMemory) → IfOk r (λ out. (m : ℕ) → IsNumbered m out.kind) → IfOk r (λ out. IsNumbered n out.kind)
-each_number n (Ok out) all = all n
-each_number n (Err e) all = tt
-
--- ---- they stay below one that is greater than the entry's
+use Rattle.drop_phases.specs.Sides.{IsNumbered}
 
 abbrev Below : ℕ → Hold → Type 0
 Below m h = h.number < m

@@ -1,69 +1,40 @@
--- To which peers the next step may send more than a Close.
-use Rattle.std.proofs.Common.{◌≡◌, ℕ, Bool, List, [], ◌∷◌, filter, Option, Result, Ok, Err, Vec, Global, refl, sym, ap, ◌∙◌}
+-- To which peers the next step may send more than a Close, of a state.
+use Rattle.std.proofs.Common.{◌≡◌, ℕ, Bool, List, Option, Result, Ok, Err, Vec, Global, refl, ap, ◌∙◌}
 use Rattle.std.specs.Prelude.{IfOk}
 use Rattle.annex_base.specs.declared.kinds.Call.{Call}
 use Rattle.annex_base.specs.declared.memory.NoMemory.{NoMemory}
 use Rattle.object_store.specs.Stores.{Contents}
 use Rattle.node_model.specs.Ends.{End, EndName}
-use Rattle.node_model.specs.Jobs.{Drops, Work}
-use Rattle.node_model.specs.JobStep.{Turn, locked_peers, turn_of}
+use Rattle.node_model.specs.Jobs.{Work}
+use Rattle.node_model.specs.JobStep.{Turn, turn_of}
 use Rattle.node_model.specs.Knows.{Reading}
 use Rattle.node_model.specs.Look.{Look}
 use Rattle.node_model.specs.SetUp.{SetUp}
 use Rattle.node_model.specs.State.{State}
-use Rattle.node_model.specs.Turns.{needs, next_needs}
+use Rattle.node_model.specs.Turns.{needs}
 use Rattle.content_lock.specs.Rows.{Rows}
-use Rattle.drop_worker.specs.declared.judging.Verdict.{Verdict}
-use Rattle.drop_worker.specs.declared.judging.Verdict.TheVariants as verdicts
-use Rattle.drop_worker.specs.declared.phase.Phase.{Phase}
-use Rattle.drop_worker.specs.declared.phase.Phase.TheVariants as phases
-use Rattle.drop_worker.specs.Worker.{Worker}
-use Rattle.drop_worker.specs.Working.{Rest, phase_as, present_in, sight, turn_in}
-use Rattle.drop_worker.specs.Judging.{is_owing, needs_by, others_in}
+use Rattle.drop_phases.specs.Worker.{Worker}
+use Rattle.drop_phases.specs.Working.{Rest, phase_as, present_in, sight, turn_in}
 use Rattle.drop_worker.specs.States.{IsSight, HaveState, rest_of}
 use Rattle.drop_worker.proofs.StateFacts.{turn_is}
 
 module _ (read : Reading) (ends_at : EndName → End) (time : ℕ) (w : Worker) where
-  -- the peers are those that are asked for, at each turn of the worker
-  abbrev Needs : (Turn → List ℕ) → List ℕ → Type 0
-  Needs asked peers = (number : ℕ) (rows : Rows) (p : List ℕ → Bool) (fails : Option Call) (rest : Rest) → peers ≡ asked (turn_in (sight read ends_at time number) rows p fails rest w)
-
-  -- what a judgement says of them
-  abbrev Judges : Verdict → Type 0
-  Judges v = (number : ℕ) (rows : Rows) (p : List ℕ → Bool) (fails : Option Call) (rest : Rest)
-      → needs_by v (turn_in (sight read ends_at time number) rows p fails rest w) ≡ next_needs (turn_in (sight read ends_at time number) rows p fails rest w) Drops
-
-  locked_by : (v : Verdict) → ((t : Turn) → locked_peers t ≡ needs_by v t) → Judges v → (r : Result (Vec ℕ Global) NoMemory)
-      → IfOk r (λ peers. peers.items ≡ filter (is_owing ends_at w) (others_in read)) → IfOk r (λ peers. Needs (λ t. next_needs t Drops) peers.items)
-  locked_by v locks judges (Ok peers) is = λ number rows p fails rest. is ∙ (locks (turn_in (sight read ends_at time number) rows p fails rest w) ∙ judges number rows p fails rest)
-  locked_by v locks judges (Err e) is = tt
-
-  pub locked_late : (v : Verdict) (end clock : ℕ) → v ≡ verdicts.Late end clock → Judges v → (r : Result (Vec ℕ Global) NoMemory)
-      → IfOk r (λ peers. peers.items ≡ filter (is_owing ends_at w) (others_in read)) → IfOk r (λ peers. Needs (λ t. next_needs t Drops) peers.items)
-  locked_late v end clock is = locked_by v (λ t. ap (λ (u : Verdict). needs_by u t) (sym is))
-
-  pub locked_lacks : (v : Verdict) → v ≡ verdicts.Lacks → Judges v → (r : Result (Vec ℕ Global) NoMemory)
-      → IfOk r (λ peers. peers.items ≡ filter (is_owing ends_at w) (others_in read)) → IfOk r (λ peers. Needs (λ t. next_needs t Drops) peers.items)
-  locked_lacks v is = locked_by v (λ t. ap (λ (u : Verdict). needs_by u t) (sym is))
-
-  pub asked_one : (v : Verdict) (peer : ℕ) → v ≡ verdicts.Asks peer → Judges v → (r : Result (Vec ℕ Global) NoMemory)
-      → IfOk r (λ peers. peers.items ≡ peer ∷ []) → IfOk r (λ peers. Needs (λ t. next_needs t Drops) peers.items)
-  asked_one v peer is judges (Ok peers) one = λ number rows p fails rest.
-      one ∙ (ap (λ (u : Verdict). needs_by u (turn_in (sight read ends_at time number) rows p fails rest w)) (sym is) ∙ judges number rows p fails rest)
-  asked_one v peer is judges (Err e) one = tt
-
-  -- the same where the job stands
-  pub needs_next : w.phase ≡ phases.Next → (r : Result (Vec ℕ Global) NoMemory) → IfOk r (λ peers. Needs (λ t. next_needs t Drops) peers.items)
-      → IfOk r (λ peers. Needs (λ t. needs t (phase_as w.phase)) peers.items)
-  needs_next at (Ok peers) is = λ number rows p fails rest.
-      is number rows p fails rest ∙ ap (λ (ph : Phase). needs (turn_in (sight read ends_at time number) rows p fails rest w) (phase_as ph)) (sym at)
-  needs_next at (Err e) is = tt
+  -- the peers are those that are asked for, at each turn of the worker at this time
+  abbrev Needs : List ℕ → Type 0
+  Needs peers = (number : ℕ) (rows : Rows) (p : List ℕ → Bool) (fails : Option Call) (rest : Rest) → peers ≡ needs (turn_in (sight read ends_at time number) rows p fails rest w) (phase_as w.phase)
 
   -- the same of a state
-  pub needs_so : (r : Result (Vec ℕ Global) NoMemory) → IfOk r (λ peers. Needs (λ t. needs t (phase_as w.phase)) peers.items)
+  pub needs_so : (r : Result (Vec ℕ Global) NoMemory) → IfOk r (λ peers. Needs peers.items)
       → IfOk r (λ peers. (number : ℕ) (rows : Rows) (contents : Contents) (s : SetUp) (st : State) (k : Look) (v : Work)
       → IsSight (sight read ends_at time number) s st k w v → HaveState rows contents st → peers.items ≡ needs (turn_of s st k v) v.phase)
   needs_so (Ok peers) is = λ number rows contents s st k v e keeps.
       is number rows (present_in contents) k.fails (rest_of s st k v)
       ∙ ap (λ (t : Turn). needs t t.w.phase) (turn_is (sight read ends_at time number) rows contents s st k w v k.fails e keeps refl)
   needs_so (Err e) is = tt
+
+  -- those of each time
+  pub at_time : (r : Result (Vec ℕ Global) NoMemory)
+      → IfOk r (λ peers. (time number : ℕ) (rows : Rows) (p : List ℕ → Bool) (fails : Option Call) (rest : Rest) → peers.items ≡ needs (turn_in (sight read ends_at time number) rows p fails rest w) (phase_as w.phase))
+      → IfOk r (λ peers. Needs peers.items)
+  at_time (Ok peers) is = is time
+  at_time (Err e) is = tt

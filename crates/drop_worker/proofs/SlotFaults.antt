@@ -37,8 +37,8 @@ use Rattle.node_model.specs.TransferStep.{content_of, first_get, first_put, gain
 use Rattle.node_model.specs.Turns.{awaits, by_partner, first_step, goes, goes_on, has_room, is_awaiting, judges, needs, next_step, outcome_of, slot_step, takes, takes_answer, takes_frame, takes_text, with_partner}
 use Rattle.node_model.specs.Sessions.{reaches}
 use Rattle.node_model.specs.SessionStep.{bytes_left}
-use Rattle.drop_worker.specs.SlotCalls.{answer_calls, bar_calls, bytes_calls, drop_calls, end_calls, failed_of, first_calls, first_drop_calls, first_get_calls, first_put_calls, first_remote_calls, frame_calls, get_calls, judge_calls, line_calls, message_calls, next_calls, next_get_calls, opening_calls, order_calls, own_calls, partner_calls, partner_frame_calls, phase_calls, put_calls, removal_calls, request_calls, room_calls, slot_calls, time_calls, turn_calls}
-use Rattle.drop_worker.specs.Working.{failed_in}
+use Rattle.drop_phases.specs.SlotCalls.{answer_calls, bar_calls, bytes_calls, drop_calls, end_calls, failed_of, first_calls, first_drop_calls, first_get_calls, first_put_calls, first_remote_calls, frame_calls, get_calls, judge_calls, line_calls, message_calls, next_calls, next_get_calls, opening_calls, order_calls, own_calls, partner_calls, partner_frame_calls, phase_calls, put_calls, removal_calls, request_calls, room_calls, slot_calls, time_calls, turn_calls}
+use Rattle.drop_phases.specs.Working.{failed_in}
 
 none_failing : (fails : Option Call) → None ≡ failing_call fails []
 none_failing None = refl

@@ -25,7 +25,7 @@ use Rattle.node_model.specs.SetUp.{SetUp}
 use Rattle.node_model.specs.State.{State}
 use Rattle.node_model.specs.TransferStep.{next_source, sources}
 use Rattle.node_model.specs.Turns.{awaits, by_partner, goes, goes_on, has_room, is_awaiting, judge_needs, needs, next_needs, outcome_of, peer_needs, slot_step, takes_frame, target_needs, with_partner}
-use Rattle.drop_worker.specs.SlotCalls.{answer_calls, bar_calls, drop_calls, end_calls, first_calls, first_drop_calls, first_get_calls, first_put_calls, first_remote_calls, frame_calls, get_calls, judge_calls, line_calls, message_calls, next_calls, next_get_calls, opening_calls, order_calls, own_calls, partner_calls, partner_frame_calls, phase_calls, request_calls, room_calls, slot_calls, time_calls, turn_calls}
+use Rattle.drop_phases.specs.SlotCalls.{answer_calls, bar_calls, drop_calls, end_calls, first_calls, first_drop_calls, first_get_calls, first_put_calls, first_remote_calls, frame_calls, get_calls, judge_calls, line_calls, message_calls, next_calls, next_get_calls, opening_calls, order_calls, own_calls, partner_calls, partner_frame_calls, phase_calls, request_calls, room_calls, slot_calls, time_calls, turn_calls}
 
 module _ (t : Turn) (fails : Option Call) where
   -- the turn at which this call is to fail

@@ -33,7 +33,7 @@ use Rattle.node_model.specs.State.{State}
 use Rattle.node_model.specs.TransferStep.{next_source}
 use Rattle.node_model.specs.Turns.{has_room, is_awaiting, needs, outcome_of}
 use Rattle.content_lock.specs.CallsMade.{AreRising}
-use Rattle.drop_worker.specs.SlotCalls.{answer_calls, bar_calls, bytes_calls, drop_calls, end_calls, first_calls, first_drop_calls, first_get_calls, first_put_calls, first_remote_calls, frame_calls, get_calls, judge_calls, line_calls, message_calls, next_calls, next_get_calls, opening_calls, order_calls, own_calls, partner_calls, partner_frame_calls, phase_calls, put_calls, removal_calls, request_calls, room_calls, slot_calls, time_calls, turn_calls}
+use Rattle.drop_phases.specs.SlotCalls.{answer_calls, bar_calls, bytes_calls, drop_calls, end_calls, first_calls, first_drop_calls, first_get_calls, first_put_calls, first_remote_calls, frame_calls, get_calls, judge_calls, line_calls, message_calls, next_calls, next_get_calls, opening_calls, order_calls, own_calls, partner_calls, partner_frame_calls, phase_calls, put_calls, removal_calls, request_calls, room_calls, slot_calls, time_calls, turn_calls}
 
 -- their numbers rise from this one on
 abbrev pub RiseFrom : ℕ → List Call → Type 0

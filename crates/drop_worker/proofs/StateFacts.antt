@@ -18,23 +18,23 @@ use Rattle.node_model.specs.Slots.{job_of}
 use Rattle.node_model.specs.Turns.{by_partner, is_awaiting}
 use Rattle.object_store.specs.Stores.{Contents}
 use Rattle.content_lock.specs.Rows.{Rows}
-use Rattle.drop_worker.specs.declared.phase.Phase.{Phase}
-use Rattle.drop_worker.specs.declared.phase.Phase.TheVariants as phases
-use Rattle.drop_worker.specs.declared.turn.Taken.{Taken}
-use Rattle.drop_worker.specs.declared.turn.Output.{Output}
-use Rattle.drop_worker.specs.Worker.{Worker}
-use Rattle.drop_worker.specs.Working.{Rest, Sight, end_in, failed_in, made_of, phase_as, present_in, turn_in, work_of}
-use Rattle.drop_worker.specs.Calling.{AreLeft, Failing, MakesSo, calls_of}
+use Rattle.drop_phases.specs.declared.phase.Phase.{Phase}
+use Rattle.drop_phases.specs.declared.phase.Phase.TheVariants as phases
+use Rattle.drop_phases.specs.declared.turn.Taken.{Taken}
+use Rattle.drop_phases.specs.declared.turn.Output.{Output}
+use Rattle.drop_phases.specs.Worker.{Worker}
+use Rattle.drop_phases.specs.Working.{Rest, Sight, end_in, failed_in, made_of, phase_as, present_in, turn_in, work_of}
+use Rattle.drop_phases.specs.Calling.{AreLeft, Failing, MakesSo, calls_of}
 use Rattle.content_lock.specs.CallsMade.{MakesCalls}
-use Rattle.drop_worker.specs.Leaving.{stands_on}
-use Rattle.drop_worker.specs.SlotCalls.{slot_calls, turn_calls}
-use Rattle.drop_worker.specs.Doing.{next_work}
-use Rattle.drop_worker.specs.Feeding.{FeedsFrameAt, FindsAt, step_of}
-use Rattle.drop_worker.specs.Sides.{IsNext, side_in}
+use Rattle.drop_phases.specs.Leaving.{stands_on}
+use Rattle.drop_phases.specs.SlotCalls.{slot_calls, turn_calls}
+use Rattle.drop_phases.specs.Doing.{next_work}
+use Rattle.drop_phases.specs.Feeding.{FeedsFrameAt, FindsAt, step_of}
+use Rattle.drop_phases.specs.Sides.{IsNext, side_in}
 use Rattle.drop_worker.specs.Stepping.{DoesSo}
 use Rattle.drop_worker.specs.States.{IsSight, HaveState, Sees, StepsSo, rest_of}
 use Rattle.annex_base.proofs.Conditions.{eqb_refl}
-use Rattle.drop_worker.proofs.Callings.{makes_as}
+use Rattle.drop_phases.proofs.Callings.{makes_as}
 
 pub turn_is : (x : Sight) (rows : Rows) (contents : Contents) (s : SetUp) (st : State) (k : Look) (w : Worker) (v : Work) (fails : Option Call)
     → IsSight x s st k w v → HaveState rows contents st → k.fails ≡ fails → turn_in x rows (present_in contents) fails (rest_of s st k v) w ≡ turn_of s st k v

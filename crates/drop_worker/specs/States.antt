@@ -15,12 +15,12 @@ use Rattle.node_model.specs.SessionStep.{is_filled}
 use Rattle.node_model.specs.State.{State}
 use Rattle.node_model.specs.Wanted.{required}
 use Rattle.content_lock.specs.Rows.{Rows, bar_at}
-use Rattle.drop_worker.specs.Worker.{Worker}
-use Rattle.drop_worker.specs.declared.turn.Output.{Output}
-use Rattle.drop_worker.specs.declared.turn.Taken.{Taken}
-use Rattle.drop_worker.specs.Working.{Rest, Sight, made_of, phase_as, words_of, work_of}
-use Rattle.drop_worker.specs.Feeding.{FeedsFrameAt, FindsAt}
-use Rattle.drop_worker.specs.Sides.{IsNext, side_in}
+use Rattle.drop_phases.specs.Worker.{Worker}
+use Rattle.drop_phases.specs.declared.turn.Output.{Output}
+use Rattle.drop_phases.specs.declared.turn.Taken.{Taken}
+use Rattle.drop_phases.specs.Working.{Rest, Sight, made_of, phase_as, words_of, work_of}
+use Rattle.drop_phases.specs.Feeding.{FeedsFrameAt, FindsAt}
+use Rattle.drop_phases.specs.Sides.{IsNext, side_in}
 
 -- the table and the store have the rows and contents of this state
 pub record HaveState (rows : Rows) (contents : Contents) (st : State) : Type 0 where

@@ -12,15 +12,15 @@ use Rattle.node_model.specs.Look.{Effect}
 use Rattle.node_model.specs.Slots.{job_of}
 use Rattle.content_lock.specs.Rows.{AreAfter, Rows}
 use Rattle.content_lock.specs.Stored.{Agrees}
-use Rattle.drop_worker.specs.declared.turn.Output.{Output}
-use Rattle.drop_worker.specs.declared.turn.Taken.{Taken}
-use Rattle.drop_worker.specs.Worker.{Worker}
-use Rattle.drop_worker.specs.Working.{Rest, Sight, failed_in, made_of, present_in, turn_in, work_of}
-use Rattle.drop_worker.specs.Doing.{Grows, HasToken, OthersStay, contents_after, next_work}
-use Rattle.drop_worker.specs.Feeding.{FeedsFrameAt, KeepsAnswer, KeepsWord, step_of}
-use Rattle.drop_worker.specs.Leaving.{Stays, Store, stands_on}
-use Rattle.drop_worker.specs.Remote.{DoesAlike}
-use Rattle.drop_worker.specs.Sides.{FitsSide, IsNext, side_in}
+use Rattle.drop_phases.specs.declared.turn.Output.{Output}
+use Rattle.drop_phases.specs.declared.turn.Taken.{Taken}
+use Rattle.drop_phases.specs.Worker.{Worker}
+use Rattle.drop_phases.specs.Working.{Rest, Sight, failed_in, made_of, present_in, turn_in, work_of}
+use Rattle.drop_phases.specs.Doing.{Grows, HasToken, OthersStay, contents_after, next_work}
+use Rattle.drop_phases.specs.Feeding.{FeedsFrameAt, KeepsAnswer, KeepsWord, step_of}
+use Rattle.drop_phases.specs.Leaving.{Stays, Store, stands_on}
+use Rattle.drop_phases.specs.Alike.{DoesAlike}
+use Rattle.drop_phases.specs.Sides.{FitsSide, IsNext, side_in}
 
 -- a step makes what is asked, its entry changes the rows, and the work that follows is the next one
 pub record DoesSo (x : Sight) (rows rows' : Rows) (present : List ℕ → Bool) (w w' : Worker) (taken : Option FrameView) (asked : Turn → Effect) (out : Output) : Type 0 where

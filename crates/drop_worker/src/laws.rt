@@ -12,10 +12,10 @@ ghost use Rattle.node_model.specs.SetUp.{SetUp};
 ghost use Rattle.node_model.specs.State.{State};
 ghost use Rattle.node_model.specs.Turns.{needs, slot_step};
 ghost use Rattle.content_lock.specs.Rows as locks;
-ghost use Rattle.drop_worker.specs.Alike.{Alike};
-ghost use Rattle.drop_worker.specs.Sides.{IsNumbered};
+ghost use Rattle.drop_phases.specs.Alike.{Alike};
+ghost use Rattle.drop_phases.specs.Sides.{IsNumbered};
 ghost use Rattle.content_lock.specs.CallsMade.{AreRising};
-ghost use Rattle.drop_worker.specs.SlotCalls.{failed_of, slot_calls};
+ghost use Rattle.drop_phases.specs.SlotCalls.{failed_of, slot_calls};
 ghost use Rattle.std.specs.declared.option.Option.{Option};
 ghost use Rattle.annex_base.specs.declared.kinds.Call.{Call};
 

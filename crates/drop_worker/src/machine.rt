@@ -11,26 +11,22 @@ ghost use Rattle.node_model.specs.Look.{Look};
 ghost use Rattle.node_model.specs.Jobs.{Work, partner};
 ghost use Rattle.content_lock.specs.Rows.{AreAfter, bar_at};
 ghost use Rattle.content_lock.specs.Stored.{Agrees, label_of};
-ghost use Rattle.drop_worker.specs.Working.{failed_in, phase_as, sight};
-ghost use Rattle.drop_worker.specs.Doing.{Grows, HasToken, OthersStay, contents_after, is_barring};
-ghost use Rattle.drop_worker.specs.Begun.{CanStand, HasGone};
-ghost use Rattle.drop_worker.specs.Feeding.{FitsLocal, IsOfLocal, KeepsAnswer, KeepsWord, ToldAt};
-ghost use Rattle.drop_worker.specs.Leaving.{Advances, Did, store};
-ghost use Rattle.drop_worker.specs.Remote.{DidRemote, StandsRemote};
-ghost use Rattle.drop_worker.specs.Sides.{CanShare, FitsSide, HasTarget, IsNumbered, side_in};
+ghost use Rattle.drop_phases.specs.Working.{failed_in, phase_as, sight};
+ghost use Rattle.drop_phases.specs.Doing.{Grows, HasToken, OthersStay, contents_after, is_barring};
+ghost use Rattle.drop_phases.specs.Begun.{CanStand, HasGone};
+ghost use Rattle.drop_phases.specs.Feeding.{FitsLocal, IsOfLocal, KeepsAnswer, KeepsWord, ToldAt};
+ghost use Rattle.drop_phases.specs.Leaving.{Advances, Did, store};
+ghost use Rattle.remote_requests.specs.Remote.{DidRemote, StandsRemote};
+ghost use Rattle.drop_phases.specs.Sides.{CanShare, FitsSide, HasTarget, IsNumbered, side_in};
 ghost use Rattle.drop_worker.specs.States.{Sees, StepsSo};
-ghost use Rattle.drop_worker.specs.Calling.{MakesSo};
+ghost use Rattle.drop_phases.specs.Calling.{MakesSo};
 ghost use Rattle.content_lock.specs.CallsMade.{MakesCalls, fewer};
-ghost use Rattle.drop_worker.specs.SlotCalls.{slot_calls};
+ghost use Rattle.drop_phases.specs.SlotCalls.{slot_calls};
 ghost use Rattle.drop_worker.specs.Stepping.{AdvancesAlike, AdvancesSo, DidSo};
 
-use crate::here::Here;
-use crate::phase::Token;
-use crate::turn::{Input, Output};
-use crate::worker::Worker;
-use crate::{local, remote, remote_taking, taking};
 use annex_base::NoMemory;
 use content_lock::LockTable;
+use drop_phases::{Here, Input, Output, Token, Worker};
 use object_store::Keeper;
 use std::alloc::Global;
 
@@ -137,8 +133,8 @@ fn step_local<K: Keeper, H: Here>(
     ensures files { K.files keeper.new ≡ K.files keeper.old }
 {
     match worker.awaits() {
-        Some(peer) => taking::hear(worker, alloc, input, peer),
-        None => local::act(worker, alloc, here, table, keeper, input),
+        Some(peer) => local_drops::hear(worker, alloc, input, peer),
+        None => local_drops::act(worker, alloc, here, table, keeper, input),
     }
 }
 
@@ -165,9 +161,9 @@ fn step_remote<K: Keeper, H: Here>(
 {
     match worker.awaits() {
         Some(peer) => {
-            remote_taking::hear(worker, alloc, here, table, keeper, input, target, peer)
+            remote_answers::hear(worker, alloc, here, table, keeper, input, target, peer)
         }
-        None => remote::act(worker, alloc, here, table, keeper, input, target),
+        None => remote_drops::act(worker, alloc, here, table, keeper, input, target),
     }
 }
 

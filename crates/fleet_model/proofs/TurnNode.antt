@@ -28,8 +28,8 @@ use Rattle.node_model.specs.Sessions as sessions
 use Rattle.node_model.specs.SessionStep.{here}
 use Rattle.node_model.specs.SetUp.{SetUp, served_connections}
 use Rattle.node_model.specs.State.{State}
-use Rattle.drop_worker.specs.declared.phase.Phase.{Phase}
-use Rattle.drop_worker.specs.declared.phase.Phase.TheVariants as phases
+use Rattle.drop_phases.specs.declared.phase.Phase.{Phase}
+use Rattle.drop_phases.specs.declared.phase.Phase.TheVariants as phases
 use Rattle.drop_worker.specs.Working.{failed_in, phase_as}
 use Rattle.node_jobs.specs.Running.{AreWorks, DropJob, Jobs, work_now}
 use Rattle.repo_node.specs.Turning.{branch_by}

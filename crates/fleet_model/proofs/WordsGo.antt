@@ -24,11 +24,11 @@ use Rattle.node_model.specs.Jobs as models
 use Rattle.node_model.specs.Jobs.{Work, side_of}
 use Rattle.node_model.specs.Sessions.{line_in}
 use Rattle.node_model.specs.Slots.{job_of}
-use Rattle.drop_worker.specs.declared.phase.Heard.{Heard}
-use Rattle.drop_worker.specs.declared.phase.Heard.TheVariants as heards
-use Rattle.drop_worker.specs.declared.phase.Phase.{Phase}
-use Rattle.drop_worker.specs.declared.phase.Phase.TheVariants as phases
-use Rattle.drop_worker.specs.declared.turn.Taken.TheVariants as takens
+use Rattle.drop_phases.specs.declared.phase.Heard.{Heard}
+use Rattle.drop_phases.specs.declared.phase.Heard.TheVariants as heards
+use Rattle.drop_phases.specs.declared.phase.Phase.{Phase}
+use Rattle.drop_phases.specs.declared.phase.Phase.TheVariants as phases
+use Rattle.drop_phases.specs.declared.turn.Taken.TheVariants as takens
 use Rattle.drop_worker.specs.Working.{end_in, heard_as, is_target, newest_of, phase_as, taken_of, word_in, words_of}
 use Rattle.node_jobs.specs.Acting.{word_at}
 use Rattle.node_jobs.specs.Leaving.{heard_at, phase_at}

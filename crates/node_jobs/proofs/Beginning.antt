@@ -24,7 +24,7 @@ use Rattle.node_model.specs.SetUp.{SetUp}
 use Rattle.node_model.specs.Slots.{RunningJob, begun_after, free_slot, job_of}
 use Rattle.node_model.specs.State.{State}
 use Rattle.content_lock.specs.Rows.{Rows}
-use Rattle.drop_worker.specs.declared.phase.Phase.{Phase}
+use Rattle.drop_phases.specs.declared.phase.Phase.{Phase}
 use Rattle.drop_worker.specs.Working.{phase_as}
 use Rattle.node_jobs.specs.Acting.{running_now, with_job}
 use Rattle.node_jobs.specs.Reads.{KnownLogs, need_in}

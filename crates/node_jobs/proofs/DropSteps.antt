@@ -38,9 +38,9 @@ use Rattle.node_model.specs.Rows.{is_lost_ordered}
 use Rattle.node_model.specs.Sessions.{is_closing}
 use Rattle.node_model.specs.TransferStep.{takes_bytes}
 use Rattle.node_model.specs.Turns.{awaits, by_partner, goes, goes_on, has_room, is_awaiting, judge_needs, judges, needs, outcome_of, takes, takes_frame, takes_text, with_partner}
-use Rattle.drop_worker.specs.declared.phase.Phase.{Phase}
-use Rattle.drop_worker.specs.declared.phase.Phase.TheVariants as phases
-use Rattle.drop_worker.specs.declared.phase.Token.{Token}
+use Rattle.drop_phases.specs.declared.phase.Phase.{Phase}
+use Rattle.drop_phases.specs.declared.phase.Phase.TheVariants as phases
+use Rattle.drop_phases.specs.declared.phase.Token.{Token}
 use Rattle.drop_worker.specs.Feeding.{FitsLocal}
 use Rattle.drop_worker.specs.Working.{phase_as}
 use Rattle.node_jobs.specs.Sending.{IsCallOfJob, IsOfJob, IsOwnEntry, MaySend, SendsWell, TakesNoOpening}

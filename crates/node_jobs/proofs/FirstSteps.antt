@@ -13,7 +13,7 @@ use Rattle.node_model.specs.Look.{Look, Effect}
 use Rattle.node_model.specs.SetUp.{SetUp, slots}
 use Rattle.node_model.specs.State.{State}
 use Rattle.node_model.specs.Turns.{job_step, slot_step}
-use Rattle.drop_worker.specs.declared.phase.Phase.TheVariants as phases
+use Rattle.drop_phases.specs.declared.phase.Phase.TheVariants as phases
 use Rattle.drop_worker.specs.Working.{heard_as}
 use Rattle.node_jobs.specs.Running.{AreWorks, BeginsUnheard, DropJob, IsDrop, Jobs as JobsView, work_now}
 use Rattle.node_jobs.specs.Sending.{IsOwnEntry, SendsWell}

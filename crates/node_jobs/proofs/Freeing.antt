@@ -21,10 +21,10 @@ use Rattle.node_ends.specs.Ends.{end_at, room_at}
 use Rattle.object_store.specs.Stores.{Contents}
 use Rattle.content_lock.specs.Rows.{Rows}
 use Rattle.drop_worker.specs.Begun.{IsOther}
-use Rattle.drop_worker.specs.declared.phase.Phase.{Phase}
-use Rattle.drop_worker.specs.declared.phase.Phase.TheVariants as phases
-use Rattle.drop_worker.specs.declared.phase.Token.{Token}
-use Rattle.drop_worker.specs.declared.turn.Taken.TheVariants as takens
+use Rattle.drop_phases.specs.declared.phase.Phase.{Phase}
+use Rattle.drop_phases.specs.declared.phase.Phase.TheVariants as phases
+use Rattle.drop_phases.specs.declared.phase.Token.{Token}
+use Rattle.drop_phases.specs.declared.turn.Taken.TheVariants as takens
 use Rattle.drop_worker.specs.Feeding.{FeedsFrameAt, FindsAt, FitsLocal}
 use Rattle.drop_worker.specs.Leaving.{stands_on}
 use Rattle.drop_worker.specs.States.{HaveState}

@@ -29,10 +29,10 @@ use Rattle.node_model.specs.State.{State}
 use Rattle.node_model.specs.Turns.{awaits, by_partner, goes_on, has_room, is_awaiting, slot_step, with_partner}
 use Rattle.node_ends.specs.Ends.{AreEnds, SeesEnds, end_at, frame_at, if_may, link_at, room_at, wait_at}
 use Rattle.drop_worker.specs.Begun.{HasBegun, IsOther}
-use Rattle.drop_worker.specs.declared.phase.Phase.{Phase}
-use Rattle.drop_worker.specs.declared.phase.Phase.TheVariants as phases
-use Rattle.drop_worker.specs.declared.phase.Token.{Token}
-use Rattle.drop_worker.specs.declared.turn.Taken.TheVariants as takens
+use Rattle.drop_phases.specs.declared.phase.Phase.{Phase}
+use Rattle.drop_phases.specs.declared.phase.Phase.TheVariants as phases
+use Rattle.drop_phases.specs.declared.phase.Token.{Token}
+use Rattle.drop_phases.specs.declared.turn.Taken.TheVariants as takens
 use Rattle.drop_worker.specs.Feeding.{FeedsFrameAt, FindsAt, FitsLocal}
 use Rattle.drop_worker.specs.Leaving.{stands_on}
 use Rattle.drop_worker.specs.Working.{end_in, phase_as, sight, taken_of}

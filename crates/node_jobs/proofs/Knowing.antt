@@ -26,12 +26,12 @@ use Rattle.object_store.specs.Stores.{Contents}
 use Rattle.content_lock.specs.Rows.{Rows}
 use Rattle.drop_worker.specs.Begun.{CanStand, HasBegun}
 use Rattle.drop_worker.specs.Standings as worker
-use Rattle.drop_worker.specs.declared.here.Standing.{Standing}
-use Rattle.drop_worker.specs.declared.phase.Phase.{Phase}
-use Rattle.drop_worker.specs.declared.phase.Phase.TheVariants as phases
-use Rattle.drop_worker.specs.declared.turn.Input.{Input}
-use Rattle.drop_worker.specs.declared.turn.Output.{Output}
-use Rattle.drop_worker.specs.declared.turn.Taken.{Taken}
+use Rattle.drop_phases.specs.declared.here.Standing.{Standing}
+use Rattle.drop_phases.specs.declared.phase.Phase.{Phase}
+use Rattle.drop_phases.specs.declared.phase.Phase.TheVariants as phases
+use Rattle.drop_phases.specs.declared.turn.Input.{Input}
+use Rattle.drop_phases.specs.declared.turn.Output.{Output}
+use Rattle.drop_phases.specs.declared.turn.Taken.{Taken}
 use Rattle.drop_worker.specs.Feeding.{FeedsFrameAt}
 use Rattle.drop_worker.specs.Leaving.{stands_on}
 use Rattle.drop_worker.specs.Sides.{IsNext}

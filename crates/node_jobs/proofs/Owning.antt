@@ -18,12 +18,12 @@ use Rattle.node_model.specs.Clocks.{ClockSet}
 use Rattle.node_model.specs.Jobs.{drop_side, partner}
 use Rattle.node_model.specs.Slots.{RunningJob, free_slot, uses}
 use Rattle.content_lock.specs.Rows.{Rows}
-use Rattle.drop_worker.specs.declared.phase.Heard.{Heard}
-use Rattle.drop_worker.specs.declared.phase.Heard.TheVariants as heards
-use Rattle.drop_worker.specs.declared.phase.Phase.{Phase}
-use Rattle.drop_worker.specs.declared.phase.Phase.TheVariants as phases
-use Rattle.drop_worker.specs.declared.turn.Taken.TheVariants as takens
-use Rattle.drop_worker.specs.declared.phase.Token.TheVariants as tokens
+use Rattle.drop_phases.specs.declared.phase.Heard.{Heard}
+use Rattle.drop_phases.specs.declared.phase.Heard.TheVariants as heards
+use Rattle.drop_phases.specs.declared.phase.Phase.{Phase}
+use Rattle.drop_phases.specs.declared.phase.Phase.TheVariants as phases
+use Rattle.drop_phases.specs.declared.turn.Taken.TheVariants as takens
+use Rattle.drop_phases.specs.declared.phase.Token.TheVariants as tokens
 use Rattle.drop_worker.specs.Working.{end_in, phase_as, taken_of}
 use Rattle.drop_worker.specs.Doing.{Grows, HasToken, OthersStay}
 use Rattle.node_jobs.specs.declared.acted.Acted.{Acted}

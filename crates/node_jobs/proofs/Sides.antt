@@ -7,10 +7,10 @@ use Rattle.drop_proof.specs.declared.rule.Side.TheVariants.{Local}
 use Rattle.object_store.specs.Stores.{Contents}
 use Rattle.content_lock.specs.Rows.{AreAfter, Rows}
 use Rattle.drop_worker.specs.Begun.{CanStand, HasBegun, HasGone}
-use Rattle.drop_worker.specs.declared.phase.Phase.{Phase}
-use Rattle.drop_worker.specs.declared.phase.Phase.TheVariants as phases
-use Rattle.drop_worker.specs.declared.turn.Input.{Input}
-use Rattle.drop_worker.specs.declared.turn.Output.{Output}
+use Rattle.drop_phases.specs.declared.phase.Phase.{Phase}
+use Rattle.drop_phases.specs.declared.phase.Phase.TheVariants as phases
+use Rattle.drop_phases.specs.declared.turn.Input.{Input}
+use Rattle.drop_phases.specs.declared.turn.Output.{Output}
 use Rattle.drop_worker.specs.Doing.{Grows, contents_after}
 use Rattle.drop_worker.specs.Feeding.{KeepsWord}
 use Rattle.drop_worker.specs.Sides.{FitsSide, side_in}

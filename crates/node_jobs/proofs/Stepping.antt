@@ -33,8 +33,8 @@ use Rattle.content_lock.specs.CallsMade.{MakesCalls, fewer}
 use Rattle.content_lock.specs.Rows.{Rows}
 use Rattle.run_data.specs.Repos.{id_of}
 use Rattle.drop_worker.specs.Begun.{HasGone, IsLast, IsOnward}
-use Rattle.drop_worker.specs.declared.phase.Phase.{Phase}
-use Rattle.drop_worker.specs.declared.turn.Taken.{Taken}
+use Rattle.drop_phases.specs.declared.phase.Phase.{Phase}
+use Rattle.drop_phases.specs.declared.turn.Taken.{Taken}
 use Rattle.drop_worker.specs.Feeding.{FeedsFrameAt, FindsAt}
 use Rattle.drop_worker.specs.Leaving.{stands_on}
 use Rattle.drop_worker.specs.SlotCalls.{slot_calls}

@@ -17,8 +17,8 @@ use Rattle.node_model.specs.SetUp.{SetUp}
 use Rattle.node_model.specs.Slots.{RunningJob, free_slot}
 use Rattle.node_model.specs.State.{State}
 use Rattle.node_model.specs.Turns.{job_step}
-use Rattle.drop_worker.specs.declared.phase.Phase.TheVariants as phases
-use Rattle.drop_worker.specs.declared.phase.Token.TheVariants as tokens
+use Rattle.drop_phases.specs.declared.phase.Phase.TheVariants as phases
+use Rattle.drop_phases.specs.declared.phase.Token.TheVariants as tokens
 use Rattle.drop_worker.specs.Begun.{IsLast, IsOnward}
 use Rattle.drop_worker.specs.Worker.{Worker}
 use Rattle.drop_worker.specs.Working.{end_in, failed_in, frames_of}

@@ -14,8 +14,8 @@ use Rattle.node_model.specs.SetUp.{SetUp}
 use Rattle.node_model.specs.State.{State}
 use Rattle.content_lock.specs.CallsMade.{MakesCalls}
 use Rattle.content_lock.specs.Rows.{Rows}
-use Rattle.drop_worker.specs.declared.turn.Input.{Input}
-use Rattle.drop_worker.specs.declared.turn.Output.{Output}
+use Rattle.drop_phases.specs.declared.turn.Input.{Input}
+use Rattle.drop_phases.specs.declared.turn.Output.{Output}
 use Rattle.drop_worker.specs.SlotCalls.{slot_calls}
 use Rattle.drop_worker.specs.States.{Sees}
 use Rattle.drop_worker.specs.Worker.{Worker}

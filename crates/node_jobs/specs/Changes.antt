@@ -5,8 +5,8 @@ use Rattle.link_ring.specs.Ends.{EndView}
 use Rattle.object_store.specs.Stores.{Contents}
 use Rattle.node_model.specs.Clocks.{ClockSet}
 use Rattle.content_lock.specs.Rows.{Rows}
-use Rattle.drop_worker.specs.declared.turn.Input.{Input}
-use Rattle.drop_worker.specs.declared.turn.Output.{Output}
+use Rattle.drop_phases.specs.declared.turn.Input.{Input}
+use Rattle.drop_phases.specs.declared.turn.Output.{Output}
 use Rattle.drop_worker.specs.Doing.{HasToken, OthersStay}
 use Rattle.node_jobs.specs.declared.acted.Acted.{Acted}
 use Rattle.node_jobs.specs.declared.feed.Feed.{Feed}

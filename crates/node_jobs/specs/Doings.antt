@@ -17,8 +17,8 @@ use Rattle.node_model.specs.State.{State}
 use Rattle.node_model.specs.Turns.{slot_step}
 use Rattle.content_lock.specs.Rows.{AreAfter, Rows}
 use Rattle.drop_worker.specs.Begun.{CanStand, HasGone}
-use Rattle.drop_worker.specs.declared.turn.Input.{Input}
-use Rattle.drop_worker.specs.declared.turn.Output.{Output}
+use Rattle.drop_phases.specs.declared.turn.Input.{Input}
+use Rattle.drop_phases.specs.declared.turn.Output.{Output}
 use Rattle.drop_worker.specs.Doing.{Grows, contents_after}
 use Rattle.drop_worker.specs.Feeding.{FeedsFrameAt, FindsAt, FitsLocal, KeepsWord}
 use Rattle.drop_worker.specs.Leaving.{stands_on}

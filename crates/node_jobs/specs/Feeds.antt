@@ -14,8 +14,8 @@ use Rattle.node_model.specs.State.{State}
 use Rattle.node_model.specs.Jobs.{Work}
 use Rattle.node_model.specs.Turns.{needs, slot_step}
 use Rattle.content_lock.specs.Rows.{Rows}
-use Rattle.drop_worker.specs.declared.turn.Taken.{Taken}
-use Rattle.drop_worker.specs.declared.turn.Taken.TheVariants as takens
+use Rattle.drop_phases.specs.declared.turn.Taken.{Taken}
+use Rattle.drop_phases.specs.declared.turn.Taken.TheVariants as takens
 use Rattle.drop_worker.specs.Feeding.{FeedsFrameAt, FindsAt}
 use Rattle.drop_worker.specs.Leaving.{stands_on}
 use Rattle.drop_worker.specs.States.{IsSight, HaveState}

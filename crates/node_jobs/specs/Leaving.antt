@@ -7,11 +7,11 @@ use Rattle.object_store.specs.Stores.{Contents}
 use Rattle.p2p_wire.specs.declared.message.Message.TheVariants.{Failure}
 use Rattle.run_data.specs.declared.entry.FrameView.{FrameView}
 use Rattle.content_lock.specs.Rows.{AreAfter, Rows}
-use Rattle.drop_worker.specs.declared.phase.Heard.{Heard}
-use Rattle.drop_worker.specs.declared.phase.Heard.TheVariants as heards
-use Rattle.drop_worker.specs.declared.phase.Phase.{Phase}
-use Rattle.drop_worker.specs.declared.phase.Phase.TheVariants as phases
-use Rattle.drop_worker.specs.declared.turn.Taken.TheVariants as takens
+use Rattle.drop_phases.specs.declared.phase.Heard.{Heard}
+use Rattle.drop_phases.specs.declared.phase.Heard.TheVariants as heards
+use Rattle.drop_phases.specs.declared.phase.Phase.{Phase}
+use Rattle.drop_phases.specs.declared.phase.Phase.TheVariants as phases
+use Rattle.drop_phases.specs.declared.turn.Taken.TheVariants as takens
 use Rattle.drop_worker.specs.Doing.{Grows, OthersStay, contents_after}
 use Rattle.drop_worker.specs.Working.{end_in, taken_of}
 use Rattle.node_jobs.specs.declared.acted.Acted.{Acted}

@@ -7,7 +7,7 @@ use Rattle.node_model.specs.Evidence as drops
 use Rattle.node_model.specs.Evidence.{standing_by}
 use Rattle.node_model.specs.Knows.{Reading}
 use Rattle.drop_worker.specs.Standings.{standing_of}
-use Rattle.drop_worker.specs.declared.here.Standing.{Standing}
+use Rattle.drop_phases.specs.declared.here.Standing.{Standing}
 use Rattle.node_jobs.specs.Places.{PlaceView}
 
 -- the numbers of copies, and how the logs see each repository, in order of number

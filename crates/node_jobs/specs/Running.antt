@@ -14,9 +14,9 @@ use Rattle.node_model.specs.Slots.{begun_after}
 use Rattle.node_model.specs.State.{State}
 use Rattle.content_lock.specs.Rows.{Rows}
 use Rattle.drop_worker.specs.Begun.{HasBegun}
-use Rattle.drop_worker.specs.declared.phase.Phase.{Phase}
-use Rattle.drop_worker.specs.declared.phase.Phase.TheVariants as phases
-use Rattle.drop_worker.specs.declared.phase.Token.TheVariants as tokens
+use Rattle.drop_phases.specs.declared.phase.Phase.{Phase}
+use Rattle.drop_phases.specs.declared.phase.Phase.TheVariants as phases
+use Rattle.drop_phases.specs.declared.phase.Token.TheVariants as tokens
 use Rattle.drop_worker.specs.Doing.{HasToken}
 use Rattle.drop_worker.specs.Feeding.{FitsLocal}
 use Rattle.drop_worker.specs.Worker.{Worker}

@@ -5,7 +5,7 @@ ghost use Rattle.annex_base.specs.Causes.{Rose};
 ghost use Rattle.annex_base.specs.Lists.{Each};
 ghost use Rattle.trust_groups.specs.View.{settings_of};
 ghost use Rattle.content_lock.specs.CallsMade.{fewer};
-ghost use Rattle.drop_worker.specs.declared.phase.Token.TheVariants as tokens;
+ghost use Rattle.drop_phases.specs.declared.phase.Token.TheVariants as tokens;
 ghost use Rattle.drop_worker.specs.Doing.{HasToken};
 ghost use Rattle.drop_worker.specs.Feeding.{ToldAt};
 ghost use Rattle.drop_worker.specs.Leaving.{stands_on};

@@ -43,9 +43,9 @@ use Rattle.p2p_server.specs.Answers.{contents_after as contents_by_kind}
 use Rattle.p2p_server.specs.Talking.{session_of, share_of}
 use Rattle.node_sessions.specs.Sessions.{AreFilled, AreSessions, HaveEnds, OwnAll, owner_of}
 use Rattle.node_sessions.specs.Stored.{parts_after_taken}
-use Rattle.drop_worker.specs.declared.phase.Heard.TheVariants as heards
-use Rattle.drop_worker.specs.declared.phase.Phase.TheVariants as phases
-use Rattle.drop_worker.specs.declared.turn.Taken.TheVariants as takens
+use Rattle.drop_phases.specs.declared.phase.Heard.TheVariants as heards
+use Rattle.drop_phases.specs.declared.phase.Phase.TheVariants as phases
+use Rattle.drop_phases.specs.declared.turn.Taken.TheVariants as takens
 use Rattle.drop_worker.specs.Begun.{IsLast, IsOnward}
 use Rattle.drop_worker.specs.Doing.{contents_after}
 use Rattle.drop_worker.specs.States.{HaveState}

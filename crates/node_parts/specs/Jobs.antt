@@ -3,9 +3,9 @@ use Rattle.std.specs.Prelude.{◌≡◌, ◌≢◌, ℕ, true, ◌∷◌, Some, 
 use Rattle.run_data.specs.declared.entry.FrameView.{FrameView}
 use Rattle.p2p_wire.specs.declared.message.Message.TheVariants.{Failure}
 use Rattle.node_model.specs.Slots.{job_of}
-use Rattle.drop_worker.specs.declared.phase.Heard.TheVariants as heards
-use Rattle.drop_worker.specs.declared.phase.Phase.TheVariants as phases
-use Rattle.drop_worker.specs.declared.turn.Taken.TheVariants as takens
+use Rattle.drop_phases.specs.declared.phase.Heard.TheVariants as heards
+use Rattle.drop_phases.specs.declared.phase.Phase.TheVariants as phases
+use Rattle.drop_phases.specs.declared.turn.Taken.TheVariants as takens
 use Rattle.drop_worker.specs.Doing.{Grows}
 use Rattle.drop_worker.specs.Working.{end_in, taken_of}
 use Rattle.node_jobs.specs.Acting.{word_at}

@@ -21,9 +21,9 @@ use Rattle.content_lock.specs.Rows.{is_filling}
 use Rattle.union_merge.specs.Branch.{Files}
 use Rattle.drop_worker.specs.Feeding.{FitsLocal}
 use Rattle.drop_worker.specs.Working.{failed_in, phase_as}
-use Rattle.drop_worker.specs.declared.phase.Phase.{Phase}
-use Rattle.drop_worker.specs.declared.phase.Phase.TheVariants as phases
-use Rattle.drop_worker.specs.declared.phase.Token.{Token}
+use Rattle.drop_phases.specs.declared.phase.Phase.{Phase}
+use Rattle.drop_phases.specs.declared.phase.Phase.TheVariants as phases
+use Rattle.drop_phases.specs.declared.phase.Token.{Token}
 use Rattle.link_ring.specs.Ends.{EndView}
 use Rattle.node_ends.specs.Ends.{SeesEnds, hand_at, room_at}
 use Rattle.node_model.specs.After.{clock_after, state_after, states}

@@ -1,9 +1,9 @@
 -- Of a local drop, or of a remote one.
 use Rattle.std.proofs.Common.{sym, ◌∙◌, subst}
 use Rattle.drop_proof.specs.declared.rule.Side.{Side}
-use Rattle.drop_worker.specs.Leaving.{store}
-use Rattle.drop_worker.specs.Sides.{CanShare, FitsSide, side_in}
-use Rattle.drop_worker.specs.Working.{sight}
+use Rattle.drop_phases.specs.Leaving.{store}
+use Rattle.drop_phases.specs.Sides.{CanShare, FitsSide, side_in}
+use Rattle.drop_phases.specs.Working.{sight}
 use Rattle.drop_worker.proofs.Machines.{local_did, no_target, remote_did, target_apart, target_peer, target_remote}
 use Rattle.drop_worker.proofs.machine.advance.Goals as goal
 

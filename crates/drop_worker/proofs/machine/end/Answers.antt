@@ -1,8 +1,8 @@
 -- What other jobs have.
 use Rattle.std.proofs.Common.{sym, ◌∙◌, subst}
-use Rattle.drop_worker.specs.declared.phase.Token.{Token}
-use Rattle.drop_worker.specs.Doing.{HasToken}
-use Rattle.drop_worker.proofs.Tokens.{others_off}
+use Rattle.drop_phases.specs.declared.phase.Token.{Token}
+use Rattle.drop_phases.specs.Doing.{HasToken}
+use Rattle.drop_phases.proofs.Tokens.{others_off}
 use Rattle.drop_worker.proofs.machine.end.Goals as goal
 
 pub returns-in-Bar-clause-others : goal.returns-in-Bar-clause-others

@@ -1,6 +1,6 @@
 -- What the step of the slot promises.
-use Rattle.drop_worker.specs.Leaving.{store}
-use Rattle.drop_worker.specs.Working.{sight}
+use Rattle.drop_phases.specs.Leaving.{store}
+use Rattle.drop_phases.specs.Working.{sight}
 use Rattle.drop_worker.proofs.Machines.{all_of}
 use Rattle.drop_worker.proofs.StateFacts.{all_makes}
 use Rattle.drop_worker.proofs.machine.step.Goals as goal

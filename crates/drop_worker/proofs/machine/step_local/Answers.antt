@@ -1,10 +1,10 @@
 -- Told of a frame, or of none.
 use Rattle.std.proofs.Common.{sym, ◌∙◌}
-use Rattle.drop_worker.specs.Leaving.{store}
-use Rattle.drop_worker.specs.Working.{sight}
-use Rattle.drop_worker.proofs.Doings.{talks_barred}
+use Rattle.drop_phases.specs.Leaving.{store}
+use Rattle.drop_phases.specs.Working.{sight}
+use Rattle.drop_phases.proofs.Doings.{talks_barred}
 use Rattle.drop_worker.proofs.Machines.{acts_did, hears_did}
-use Rattle.drop_worker.proofs.TakingCalls.{local_makes, phase_makes}
+use Rattle.drop_phases.proofs.FrameCalls.{local_makes, phase_makes}
 use Rattle.drop_worker.proofs.Goings.{acts_gone, hears_gone}
 use Rattle.drop_worker.proofs.machine.step_local.Goals as goal
 

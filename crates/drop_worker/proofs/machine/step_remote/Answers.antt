@@ -1,10 +1,10 @@
 -- Told of a frame, or of none.
 use Rattle.std.proofs.Common.{sym, ◌∙◌}
-use Rattle.drop_worker.specs.Leaving.{store}
-use Rattle.drop_worker.specs.Working.{sight}
+use Rattle.drop_phases.specs.Leaving.{store}
+use Rattle.drop_phases.specs.Working.{sight}
 use Rattle.drop_worker.proofs.Machines.{acts_alike, hears_alike}
-use Rattle.drop_worker.proofs.TakingCalls.{fed_makes, phase_makes}
-use Rattle.drop_worker.proofs.Numbers.{each_number}
+use Rattle.drop_phases.proofs.FrameCalls.{fed_makes, phase_makes}
+use Rattle.drop_phases.proofs.Numbers.{each_number}
 use Rattle.drop_worker.proofs.machine.step_remote.Goals as goal
 
 pub returns-in-Some-clause-did : goal.returns-in-Some-clause-did

@@ -1,10 +1,9 @@
 -- The peers, of a state.
 use Rattle.std.proofs.Common.{sym, ◌∙◌, subst}
 use Rattle.drop_proof.specs.declared.rule.Side.{Side}
-use Rattle.drop_worker.specs.Sides.{FitsSide, side_in}
+use Rattle.drop_phases.specs.Sides.{FitsSide, side_in}
 use Rattle.drop_worker.proofs.Machines.{no_target, target_peer, target_remote}
-use Rattle.drop_worker.proofs.Owings.{needs_so}
-use Rattle.drop_worker.proofs.RemoteOwings.{at_time}
+use Rattle.drop_worker.proofs.Owings.{at_time, needs_so}
 use Rattle.drop_worker.proofs.needs.sends_to.Goals as goal
 
 pub needed-requires-clause-local : goal.needed-requires-clause-local
@@ -27,4 +26,4 @@ returns-in-None-clause-does g c = needs_so (g.H.Here.reading c.args.here.now) (g
 pub returns-in-Some-clause-does : goal.returns-in-Some-clause-does
 returns-in-Some-clause-does g c =
     needs_so (g.H.Here.reading c.args.here.now) (g.H.Here.ends c.args.here.now) c.args.time c.args.worker.now c.needed_remotely.result
-    (at_time (g.H.Here.reading c.args.here.now) (g.H.Here.ends c.args.here.now) c.args.worker.now c.args.time c.needed_remotely.result c.needed_remotely.ensures)
+    (at_time (g.H.Here.reading c.args.here.now) (g.H.Here.ends c.args.here.now) c.args.time c.args.worker.now c.needed_remotely.result c.needed_remotely.ensures)

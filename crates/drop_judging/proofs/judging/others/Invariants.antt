@@ -1,0 +1,8 @@
+-- The repositories that were passed.
+use Rattle.std.proofs.Common.{◌≡◌, ◌≤◌, length}
+use Rattle.std.specs.List.{range_with_len}
+use Rattle.node_model.specs.Evidence.{but}
+use Rattle.drop_judging.proofs.judging.others.Given as goal
+
+abbrev pub invariant-loop-c : goal.invariant-loop-c
+invariant-loop-c g l = record { all : l.found.items ≡ but l.repo (range_with_len 0 l.c); few : length l.found.items ≤ l.c }

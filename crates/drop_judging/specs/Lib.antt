@@ -1,0 +1,2 @@
+-- What contracts of judgements cite.
+pub mod Judging

@@ -1,0 +1,13 @@
+-- What contracts of a drop cite.
+pub mod Worker
+pub mod Sends
+pub mod Standings
+pub mod Working
+pub mod Doing
+pub mod Alike
+pub mod Feeding
+pub mod Leaving
+pub mod Begun
+pub mod Sides
+pub mod SlotCalls
+pub mod Calling

@@ -1,0 +1,23 @@
+-- What the proof of `remote_taking::take_answer` needs beside the tactics.
+use Rattle.std.proofs.Common.{◌≡◌, None, refl, sym}
+use Rattle.std.proofs.lemmas.Result.{IfOk-weaker}
+use Rattle.p2p_wire.specs.declared.message.Message.TheVariants as messages
+use Rattle.drop_phases.specs.Doing.{Takes}
+use Rattle.remote_requests.specs.Remote.{ShutsRemote}
+use Rattle.drop_phases.specs.Working.{turn_in}
+use Rattle.remote_answers.proofs.Losses.{lost_does, orders_else, shuts_speaks}
+use Rattle.drop_phases.proofs.Words.{if_all}
+use Rattle.remote_answers.proofs.taking.take_answer.Goals as goal
+
+pub returns-in_default : goal.returns-in_default
+returns-in_default c =
+    let w = c.args.worker.now in
+    record {
+      does = IfOk-weaker c.shut.result (ShutsRemote c.args.target c.args.target w c.shut.new.worker) (Takes c.args.time c.args.target c.args.message.now w c.shut.new.worker) (λ out is x rows p f time comes.
+          lost_does x rows p w c.shut.new.worker f c.args.target c.args.target c.args.message.now out c.requires.remote is comes (λ rest. rw c.requires.at refl) (rw c.requires.at c.requires.remote.peer)
+          (λ rest. rw c.requires.at (sym (orders_else (turn_in x rows p None rest w) f c.args.target c.args.message.now c.in_default.not-Success c.in_default.not-Failure)))) c.shut.ensures.shuts;
+      obeyed = if_all c.shut.result (c.args.message.now ≡ messages.Success → c.shut.new.worker.word ≡ c.args.word) (λ is. absurd (c.in_default.not-Success is));
+      denied = if_all c.shut.result (c.args.message.now ≡ messages.Failure → c.shut.new.worker.word ≡ c.args.word) (λ is. absurd (c.in_default.not-Failure is));
+      speaks = shuts_speaks w c.shut.new.worker c.args.target c.args.target c.shut.result c.shut.ensures.shuts;
+      err = c.shut.ensures.err;
+    }

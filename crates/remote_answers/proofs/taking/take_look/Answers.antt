@@ -1,0 +1,25 @@
+-- What the proof of `remote_taking::take_look` needs beside the tactics.
+use Rattle.std.proofs.Common.{None, refl, sym}
+use Rattle.std.proofs.lemmas.Result.{IfOk-weaker}
+use Rattle.p2p_wire.specs.declared.message.Message.TheVariants as messages
+use Rattle.drop_phases.specs.declared.turn.Taken.TheVariants as takens
+use Rattle.drop_phases.specs.Doing.{Takes}
+use Rattle.drop_phases.specs.Feeding.{KeepsWord}
+use Rattle.drop_phases.proofs.Words.{if_all, same_message}
+use Rattle.remote_requests.specs.Remote.{ShutsRemote}
+use Rattle.drop_phases.specs.Working.{turn_in}
+use Rattle.remote_answers.proofs.Losses.{lost_does, shuts_speaks}
+use Rattle.drop_phases.proofs.Unexpected.{look_else}
+use Rattle.remote_answers.proofs.taking.take_look.Goals as goal
+
+pub returns-in_default : goal.returns-in_default
+returns-in_default c =
+    let w = c.args.worker.now in
+    record {
+      does = IfOk-weaker c.shut.result (ShutsRemote c.args.target c.args.peer w c.shut.new.worker) (Takes c.args.time c.args.peer c.args.message.now w c.shut.new.worker) (λ out is x rows p f time comes.
+          lost_does x rows p w c.shut.new.worker f c.args.target c.args.peer c.args.message.now out c.requires.remote is comes (λ rest. rw c.requires.at refl) (rw c.requires.at refl)
+          (λ rest. rw c.requires.at (sym (look_else (turn_in x rows p None rest w) f c.args.peer c.args.peer c.args.message.now c.in_default.not-Success c.in_default.not-Failure)))) c.shut.ensures.shuts;
+      word = if_all c.shut.result (KeepsWord (takens.Message c.args.message.now) c.args.word w c.shut.new.worker) (λ p at is. absurd (c.in_default.not-Failure (same_message c.args.message.now messages.Failure is)));
+      speaks = shuts_speaks w c.shut.new.worker c.args.target c.args.peer c.shut.result c.shut.ensures.shuts;
+      err = c.shut.ensures.err;
+    }

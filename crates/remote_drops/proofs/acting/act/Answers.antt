@@ -1,0 +1,31 @@
+-- Where it goes on from.
+use Rattle.std.proofs.Common.{rules}
+use Rattle.drop_phases.specs.Leaving.{store}
+use Rattle.drop_phases.specs.Working.{sight}
+use Rattle.remote_drops.proofs.RemoteCalls.{outcome_makes}
+use Rattle.remote_drops.proofs.RemoteGoings.{outcome_goes}
+use Rattle.drop_phases.proofs.Numbers.{each_number}
+use Rattle.remote_drops.proofs.acting.act.Goals as goal
+
+pub returns-in-Next-clause-did : goal.returns-in-Next-clause-did
+returns-in-Next-clause-did g c = c.go_on.ensures.did c.args.input.now.number
+
+pub returns-in_ok-outcome-in-Removed-clause-did : goal.returns-in_ok-outcome-in-Removed-clause-did
+returns-in_ok-outcome-in-Removed-clause-did g c =
+    outcome_goes (g.H.Here.reading c.args.here.now) (g.H.Here.ends c.args.here.now) c.args.input.now.time c.args.input.now.number c.args.worker.now c.finish.new.worker c.args.table.now c.finish.new.table
+    (store (g.K.Keeper.contents c.args.keeper.now) (g.K.Keeper.records c.args.keeper.now) (g.K.Keeper.faults c.args.keeper.now)) (store (g.K.Keeper.contents c.finish.new.keeper) (g.K.Keeper.records c.finish.new.keeper) (g.K.Keeper.faults c.finish.new.keeper))
+    c.in_ok-outcome-in-Removed.outcome c.finish.result (search rules) c.in_ok-outcome-in-Removed.ensures c.finish.ensures.did
+
+pub returns-in-Next-clause-numbered : goal.returns-in-Next-clause-numbered
+returns-in-Next-clause-numbered g c = each_number c.args.input.now.number c.go_on.result c.go_on.ensures.numbered
+
+pub returns-in_ok-outcome-in-Removed-clause-numbered : goal.returns-in_ok-outcome-in-Removed-clause-numbered
+returns-in_ok-outcome-in-Removed-clause-numbered g c = each_number c.args.input.now.number c.finish.result c.finish.ensures.numbered
+
+pub returns-in-Next-clause-calls : goal.returns-in-Next-clause-calls
+returns-in-Next-clause-calls g c = c.go_on.ensures.calls c.args.input.now.number
+
+pub returns-in_ok-outcome-in-Removed-clause-calls : goal.returns-in_ok-outcome-in-Removed-clause-calls
+returns-in_ok-outcome-in-Removed-clause-calls g c =
+    outcome_makes (sight (g.H.Here.reading c.args.here.now) (g.H.Here.ends c.args.here.now) c.args.input.now.time c.args.input.now.number) (g.K.Keeper.contents c.args.keeper.now) c.args.table.now c.args.worker.now (g.K.Keeper.failing c.args.keeper.now) (g.K.Keeper.failing c.finish.new.keeper) c.in_ok-outcome-in-Removed.outcome c.finish.result (search rules)
+    (λ p fails rest. c.in_ok-outcome-in-Removed.ensures c.args.input.now.time c.args.input.now.number c.args.table.now p fails rest) c.finish.ensures.calls

@@ -1,0 +1,72 @@
+-- By the judgement.
+use Rattle.std.proofs.Common.{sym, ap, subst, ◌∙◌, []}
+use Rattle.std.specs.Prelude.{find}
+use Rattle.drop_proof.specs.declared.rule.Side.TheVariants.{Remote}
+use Rattle.run_data.specs.declared.job.Outcome.TheVariants.{Refused}
+use Rattle.drop_phases.specs.declared.phase.Phase.{Phase}
+use Rattle.drop_judging.specs.Judging.{asks_of, evidence_of}
+use Rattle.drop_phases.specs.Leaving.{store}
+use Rattle.drop_phases.specs.Feeding.{FitsRemote}
+use Rattle.drop_phases.specs.Working.{sight}
+use Rattle.remote_requests.proofs.RemoteLeavings.{spoken_well}
+use Rattle.remote_drops.proofs.RemoteCalls.{asks_makes, lacks_makes, orders_makes}
+use Rattle.remote_drops.proofs.RemoteGoings.{asks_did, lacks_did_remotely, orders_did}
+use Rattle.remote_requests.proofs.RemoteLeavings.{speaks_numbered}
+use Rattle.remote_drops.proofs.acting.go_on.Goals as goal
+
+pub returns-in-Enough-clause-did : goal.returns-in-Enough-clause-did
+returns-in-Enough-clause-did g c = λ number.
+    let read = g.H.Here.reading c.args.here.now in
+    let w = c.args.worker.now in
+    orders_did read (g.H.Here.ends c.args.here.now) c.args.time number w c.go_to.new.worker c.args.target c.requires.stands.remote c.requires.at c.need.result c.deref-3.result.now c.need.ensures
+    (c.deref-3.ensures.value ∙ (c.in_ok-items.ensures.known ∙ ap (λ l. evidence_of Remote read w l []) (c.deref.ensures.value ∙ c.in_ok-candidates.ensures.all)))
+    c.args.table.now (store (g.K.Keeper.contents c.args.keeper.now) (g.K.Keeper.records c.args.keeper.now) (g.K.Keeper.faults c.args.keeper.now)) c.go_to.result (c.judge.ensures.enough c.in-Enough.end c.in-Enough.is)
+    c.go_to.ensures.does c.go_to.ensures.speaks c.go_to.ensures.err (subst (λ (ph : Phase). FitsRemote ph w.token) c.requires.at c.requires.stands.fits) c.requires.stands.owns c.requires.stands.agrees
+
+pub returns-in-Some-clause-did : goal.returns-in-Some-clause-did
+returns-in-Some-clause-did g c = λ number.
+    let read = g.H.Here.reading c.args.here.now in
+    let w = c.args.worker.now in
+    asks_did read (g.H.Here.ends c.args.here.now) c.args.time number w c.go_to-in-Some.new.worker c.args.target c.requires.stands.remote c.requires.at c.need.result c.deref-3.result.now c.need.ensures
+    (c.deref-3.ensures.value ∙ (c.in_ok-items.ensures.known ∙ ap (λ l. evidence_of Remote read w l []) (c.deref.ensures.value ∙ c.in_ok-candidates.ensures.all)))
+    c.args.table.now (store (g.K.Keeper.contents c.args.keeper.now) (g.K.Keeper.records c.args.keeper.now) (g.K.Keeper.faults c.args.keeper.now)) c.in-Some.peer c.go_to-in-Some.result
+    (c.judge.ensures.lacking c.in-Lacking.counted c.in-Lacking.needed c.in-Lacking.full c.in-Lacking.full_needed c.in-Lacking.is).0
+    (ap (find (asks_of read w)) (sym (c.deref-in-Lacking.ensures.value ∙ c.in_ok-candidates.ensures.all)) ∙ (sym c.next.ensures ∙ c.in-Some.is))
+    c.go_to-in-Some.ensures.does c.go_to-in-Some.ensures.speaks c.go_to-in-Some.ensures.err (subst (λ (ph : Phase). FitsRemote ph w.token) c.requires.at c.requires.stands.fits) c.requires.stands.owns c.requires.stands.agrees
+
+pub returns-clause-did : goal.returns-clause-did
+returns-clause-did g c = λ number.
+    let read = g.H.Here.reading c.args.here.now in
+    let w = c.args.worker.now in
+    lacks_did_remotely read (g.H.Here.ends c.args.here.now) c.args.time number w c.finish.new.worker c.args.target c.requires.stands.remote c.requires.at c.need.result c.deref-3.result.now c.need.ensures
+    (c.deref-3.ensures.value ∙ (c.in_ok-items.ensures.known ∙ ap (λ l. evidence_of Remote read w l []) (c.deref.ensures.value ∙ c.in_ok-candidates.ensures.all)))
+    c.args.table.now c.finish.new.table (store (g.K.Keeper.contents c.args.keeper.now) (g.K.Keeper.records c.args.keeper.now) (g.K.Keeper.faults c.args.keeper.now)) (store (g.K.Keeper.contents c.finish.new.keeper) (g.K.Keeper.records c.finish.new.keeper) (g.K.Keeper.faults c.finish.new.keeper)) (Refused c.in_ok-why-in-None.why) c.finish.result
+    (c.judge.ensures.lacking c.in-Lacking.counted c.in-Lacking.needed c.in-Lacking.full c.in-Lacking.full_needed c.in-Lacking.is).0
+    (ap (find (asks_of read w)) (sym (c.deref-in-Lacking.ensures.value ∙ c.in_ok-candidates.ensures.all)) ∙ (sym c.next.ensures ∙ c.in-None.is))
+    c.in_ok-why-in-None.ensures c.finish.ensures.did
+
+pub returns-in-Enough-clause-numbered : goal.returns-in-Enough-clause-numbered
+returns-in-Enough-clause-numbered g c = speaks_numbered c.args.worker.now c.go_to.new.worker c.go_to.result c.go_to.ensures.speaks
+
+pub returns-in-Some-clause-numbered : goal.returns-in-Some-clause-numbered
+returns-in-Some-clause-numbered g c = speaks_numbered c.args.worker.now c.go_to-in-Some.new.worker c.go_to-in-Some.result c.go_to-in-Some.ensures.speaks
+
+pub returns-in-Enough-clause-calls : goal.returns-in-Enough-clause-calls
+returns-in-Enough-clause-calls g c = λ number.
+    orders_makes (sight (g.H.Here.reading c.args.here.now) (g.H.Here.ends c.args.here.now) c.args.time number) (g.K.Keeper.contents c.args.keeper.now) c.args.table.now c.args.worker.now (g.K.Keeper.failing c.args.keeper.now) (g.K.Keeper.failing c.args.keeper.now) c.args.target c.requires.stands.remote c.requires.at c.need.result c.deref-3.result.now c.need.ensures
+    (c.deref-3.ensures.value ∙ (c.in_ok-items.ensures.known ∙ ap (λ l. evidence_of Remote (g.H.Here.reading c.args.here.now) c.args.worker.now l []) (c.deref.ensures.value ∙ c.in_ok-candidates.ensures.all))) c.go_to.result
+    (c.judge.ensures.enough c.in-Enough.end c.in-Enough.is) (spoken_well c.args.worker.now c.go_to.new.worker c.go_to.result c.go_to.ensures.speaks)
+
+pub returns-in-Some-clause-calls : goal.returns-in-Some-clause-calls
+returns-in-Some-clause-calls g c = λ number.
+    asks_makes (sight (g.H.Here.reading c.args.here.now) (g.H.Here.ends c.args.here.now) c.args.time number) (g.K.Keeper.contents c.args.keeper.now) c.args.table.now c.args.worker.now (g.K.Keeper.failing c.args.keeper.now) (g.K.Keeper.failing c.args.keeper.now) c.args.target c.requires.stands.remote c.requires.at c.need.result c.deref-3.result.now c.need.ensures
+    (c.deref-3.ensures.value ∙ (c.in_ok-items.ensures.known ∙ ap (λ l. evidence_of Remote (g.H.Here.reading c.args.here.now) c.args.worker.now l []) (c.deref.ensures.value ∙ c.in_ok-candidates.ensures.all))) c.in-Some.peer c.go_to-in-Some.result
+    (c.judge.ensures.lacking c.in-Lacking.counted c.in-Lacking.needed c.in-Lacking.full c.in-Lacking.full_needed c.in-Lacking.is).0
+    (ap (find (asks_of (g.H.Here.reading c.args.here.now) c.args.worker.now)) (sym (c.deref-in-Lacking.ensures.value ∙ c.in_ok-candidates.ensures.all)) ∙ (sym c.next.ensures ∙ c.in-Some.is)) (spoken_well c.args.worker.now c.go_to-in-Some.new.worker c.go_to-in-Some.result c.go_to-in-Some.ensures.speaks)
+
+pub returns-clause-calls : goal.returns-clause-calls
+returns-clause-calls g c = λ number.
+    lacks_makes (sight (g.H.Here.reading c.args.here.now) (g.H.Here.ends c.args.here.now) c.args.time number) (g.K.Keeper.contents c.args.keeper.now) c.args.table.now c.args.worker.now (g.K.Keeper.failing c.args.keeper.now) (g.K.Keeper.failing c.finish.new.keeper) c.args.target c.requires.stands.remote c.requires.at c.need.result c.deref-3.result.now c.need.ensures
+    (c.deref-3.ensures.value ∙ (c.in_ok-items.ensures.known ∙ ap (λ l. evidence_of Remote (g.H.Here.reading c.args.here.now) c.args.worker.now l []) (c.deref.ensures.value ∙ c.in_ok-candidates.ensures.all))) (Refused c.in_ok-why-in-None.why) c.finish.result
+    (c.judge.ensures.lacking c.in-Lacking.counted c.in-Lacking.needed c.in-Lacking.full c.in-Lacking.full_needed c.in-Lacking.is).0
+    (ap (find (asks_of (g.H.Here.reading c.args.here.now) c.args.worker.now)) (sym (c.deref-in-Lacking.ensures.value ∙ c.in_ok-candidates.ensures.all)) ∙ (sym c.next.ensures ∙ c.in-None.is)) (λ p fails rest. c.in_ok-why-in-None.ensures c.args.time number c.args.table.now p fails rest) c.finish.ensures.calls

@@ -1,0 +1,9 @@
+-- Lemmas on remote drops, for their crates.
+pub mod CandidateLists
+pub mod EndCalls
+pub mod Losing
+pub mod RemoteEndings
+pub mod RemoteLeavings
+pub mod RemoteOwings
+pub mod RemoteVerdicts
+pub mod Requesting

@@ -1,0 +1,2 @@
+-- What contracts of remote drops cite.
+pub mod Remote
