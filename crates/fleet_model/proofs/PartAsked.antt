@@ -16,11 +16,11 @@ use Rattle.node_model.specs.SetUp.{SetUp}
 use Rattle.node_model.specs.Slots.{job_of}
 use Rattle.node_model.specs.State.{State}
 use Rattle.node_model.specs.Step.{step}
-use Rattle.p2p_server.specs.declared.doing.Doing.{Doing}
-use Rattle.p2p_server.specs.declared.doing.Doing.TheVariants as doings
-use Rattle.p2p_server.specs.declared.doing.Taken.{Taken}
-use Rattle.p2p_server.specs.declared.incoming.Incoming.{Incoming}
-use Rattle.p2p_server.specs.declared.incoming.Incoming.TheVariants as incoming
+use Rattle.p2p_server.specs.declared.Doing.{Doing}
+use Rattle.p2p_server.specs.declared.Doing.TheVariants as doings
+use Rattle.p2p_server.specs.declared.Taken.{Taken}
+use Rattle.p2p_server.specs.declared.Incoming.{Incoming}
+use Rattle.p2p_server.specs.declared.Incoming.TheVariants as incoming
 use Rattle.p2p_server.specs.declared.session.Session.{Session}
 use Rattle.p2p_server.specs.Talking.{Brings, heard_line, SeesPart, SeesPartOf, SeesTaken, Tells, doing_of, session_of}
 use Rattle.node_sessions.specs.Serving.{SeesPartAt}
@@ -35,7 +35,7 @@ abbrev key_asked : sessions.Doing → Option Message → Option (List ℕ)
 key_asked doing told = option_or (put_key told) (filled_key doing)
 
 session_key_is : (st : State) (m : Effect) (x : Session) (f : FrameView) → session_of x ≡ st.sessions (end_to f) → job_of m.kind ≡ None → m.taken ≡ Some f
-    → asked_key st m ≡ key_asked (doing_of x.doing) (line_in f.body)
+    → asked_key st m ≡ key_asked (doing_of x.state.doing) (line_in f.body)
 session_key_is st m x f same no_job taken =
     ap (λ (o : Option ℕ). step_key st o m.taken) no_job
     ∙ (ap (λ (o : Option FrameView). session_key st o) taken ∙ ap (λ (y : sessions.Session). key_asked y.doing (line_in f.body)) (sym same))
@@ -97,7 +97,7 @@ pub part_asked : (g : DriverInput) (d : Driver) (r : ℕ) (st : State) (m : Effe
     → SeesPartAt known (Some x) (Some f) part right → SeesPartAt known (Some x) (Some f) (part_size d r (asked_key st m)) (part_right g d r (asked_key st m))
 part_asked g d r st m known x f part right decides same no_job taken told sees =
     λ i brings. subst (λ (key : Option (List ℕ)). SeesPartOf known x i (part_size d r key) (part_right g d r key)) (sym (session_key_is st m x f same no_job taken))
-    (frame_sees g d r known x.doing f.body i part right decides told brings (sees i brings))
+    (frame_sees g d r known x.state.doing f.body i part right decides told brings (sees i brings))
 
 -- a step that took a frame which came to a server is no job's
 pub asks_no_job : Finds → (s : SetUp) (st : State) (k : Look) (m : Effect) (f : FrameView) → step s st k ≡ Some m → m.taken ≡ Some f → f.up ≡ true → job_of m.kind ≡ None

@@ -12,7 +12,7 @@ use Rattle.node_model.specs.Look.{Look}
 use Rattle.node_model.specs.SetUp.{SetUp}
 use Rattle.node_model.specs.State.{State}
 use Rattle.node_ends.specs.Ends.{link_at}
-use Rattle.p2p_server.specs.declared.place.Place.{Place}
+use Rattle.p2p_server.specs.declared.Place.{Place}
 use Rattle.p2p_server.specs.declared.session.Session.{Session}
 use Rattle.p2p_server.specs.Bounds.{IsKind}
 use Rattle.p2p_server.specs.Talking.{IsJudgedOf, place_of, session_of}

@@ -28,15 +28,15 @@ use Rattle.p2p_wire.specs.declared.message.Message.{Message}
 use Rattle.p2p_wire.specs.declared.message.Message.TheVariants as messages
 use Rattle.p2p_wire.specs.Messages.{text_of}
 use Rattle.p2p_wire.specs.Streams.{IsLine}
-use Rattle.p2p_server.specs.declared.doing.Doing.{Doing}
-use Rattle.p2p_server.specs.declared.doing.Doing.TheVariants as doings
-use Rattle.p2p_server.specs.declared.incoming.Incoming.{Incoming}
-use Rattle.p2p_server.specs.declared.incoming.Incoming.TheVariants as incoming
-use Rattle.p2p_server.specs.declared.more.More.{More}
-use Rattle.p2p_server.specs.declared.more.More.TheVariants as more
-use Rattle.p2p_server.specs.declared.place.Place.{Place}
+use Rattle.p2p_server.specs.declared.Doing.{Doing}
+use Rattle.p2p_server.specs.declared.Doing.TheVariants as doings
+use Rattle.p2p_server.specs.declared.Incoming.{Incoming}
+use Rattle.p2p_server.specs.declared.Incoming.TheVariants as incoming
+use Rattle.p2p_server.specs.declared.More.{More}
+use Rattle.p2p_server.specs.declared.More.TheVariants as more
+use Rattle.p2p_server.specs.declared.Place.{Place}
 use Rattle.p2p_server.specs.declared.session.Session.{Session}
-use Rattle.p2p_server.specs.declared.step.Step.{Step}
+use Rattle.p2p_server.specs.declared.Step.{Step}
 use Rattle.p2p_server.specs.Answers.{closes, owner_at, says}
 use Rattle.p2p_server.specs.Bounds.{IsReply, IsReplyIf}
 use Rattle.p2p_server.specs.Giving.{is_giving, reply_more, session_sent}

@@ -21,7 +21,7 @@ use Rattle.node_model.specs.Sessions as sessions
 use Rattle.node_model.specs.Sessions.{new_session}
 use Rattle.node_model.specs.SetUp.{SetUp, served_connections, slots}
 use Rattle.node_ends.specs.Ends.{link_at}
-use Rattle.p2p_server.specs.declared.place.Place.{Place}
+use Rattle.p2p_server.specs.declared.Place.{Place}
 use Rattle.p2p_server.specs.declared.session.Session.{Session}
 use Rattle.p2p_server.specs.Talking.{place_of}
 use Rattle.node_sessions.specs.Built.{AreBuilt, IsNew, place_in, places_in, rank}

@@ -4,8 +4,8 @@ use Rattle.std.specs.Prelude.{not, ◌&&◌, if◌then◌else◌}
 use Rattle.annex_base.proofs.Conditions.{bytes_eq-true, bytes_eq-refl}
 use Rattle.content_lock.specs.Rows.{Rows, is_filling}
 use Rattle.node_model.specs.Sessions as sessions
-use Rattle.p2p_server.specs.declared.doing.Doing.{Doing}
-use Rattle.p2p_server.specs.declared.doing.Doing.TheVariants as doings
+use Rattle.p2p_server.specs.declared.Doing.{Doing}
+use Rattle.p2p_server.specs.declared.Doing.TheVariants as doings
 use Rattle.p2p_server.specs.Talking.{FillsSo, HasFill, doing_of}
 
 -- ---- tests

@@ -22,7 +22,7 @@ use Rattle.node_model.specs.Sessions as sessions
 use Rattle.node_model.specs.SetUp.{SetUp}
 use Rattle.node_model.specs.State.{State}
 use Rattle.node_ends.specs.Ends.{link_at}
-use Rattle.p2p_server.specs.declared.place.Place.{Place}
+use Rattle.p2p_server.specs.declared.Place.{Place}
 use Rattle.p2p_server.specs.declared.session.Session.{Session}
 use Rattle.p2p_server.specs.Stepping.{LeavesOthers}
 use Rattle.p2p_server.specs.Talking.{AreAfterStep, FillsSo, IsFedOf, place_of, session_of, share_of}

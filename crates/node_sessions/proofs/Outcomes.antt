@@ -27,11 +27,11 @@ use Rattle.node_model.specs.SessionStep.{Reply, gives_next, here, is_filled, on_
 use Rattle.node_model.specs.SetUp.{SetUp}
 use Rattle.node_model.specs.State.{State}
 use Rattle.node_ends.specs.Ends.{end_at, frame_at, room_at, text_in, wait_at}
-use Rattle.p2p_server.specs.declared.incoming.Incoming.{Incoming}
-use Rattle.p2p_server.specs.declared.more.More.{More}
-use Rattle.p2p_server.specs.declared.place.Place.{Place}
+use Rattle.p2p_server.specs.declared.Incoming.{Incoming}
+use Rattle.p2p_server.specs.declared.More.{More}
+use Rattle.p2p_server.specs.declared.Place.{Place}
 use Rattle.p2p_server.specs.declared.session.Session.{Session}
-use Rattle.p2p_server.specs.declared.step.Step.{Step}
+use Rattle.p2p_server.specs.declared.Step.{Step}
 use Rattle.p2p_server.specs.Answers.{LeavesContents, contents_after, failed_in, owner_at, reply_of, size_in}
 use Rattle.p2p_server.specs.Bounds.{IsKind, IsReplyIf}
 use Rattle.p2p_server.specs.Giving.{IsPieceOf, failed_more, reply_more, session_sent}
@@ -220,7 +220,7 @@ replies law links clock number i frame was now rows rows' contents contents' par
     took = taken_is links v (end_of was) (end_is v.peer v.slot p (place_of was) y.peer y.slot place) y.takes ∙ w.waits
 
     left : parts' ≡ parts_after_taken (session_of was).doing (taken_by links v) (bytes_at links (end_by v)) v.kind parts
-    left = t.parts_are ∙ parts_answered was.doing i frame.body x.kind parts brings bytes
+    left = t.parts_are ∙ parts_answered was.state.doing i frame.body x.kind parts brings bytes
         ∙ ap (λ (bs : List ℕ). parts_after_taken (session_of was).doing (Some (frame_at (end_of was) frame)) bs x.kind parts) (sym (ap (bytes_at links) end ∙ bytes_are links was frame w))
         ∙ ap (λ (kind : EntryKind). parts_after_taken (session_of was).doing (Some (frame_at (end_of was) frame)) (bytes_at links (end_by v)) kind parts) (sym y.kind)
         ∙ ap (λ (o : Option FrameView). parts_after_taken (session_of was).doing o (bytes_at links (end_by v)) v.kind parts) (sym took)
@@ -352,7 +352,7 @@ gives_so links clock number was now rows contents contents' parts parts' records
 
     so : KindSo (place_of was) rows v.kind
     so = given_kind (place_of was) m v rows (subst (λ (q : Place). reply_more q m ≡ Some (reply_by v)) place y.reply)
-        (subst (λ (o : Option ShareView). Owns (owner_of was) o rows.holds) (giving_bare was.doing w.gives) ready.owns)
+        (subst (λ (o : Option ShareView). Owns (owner_of was) o rows.holds) (giving_bare was.state.doing w.gives) ready.owns)
 
     stands : ServesAt links v
     stands = record {

@@ -6,8 +6,8 @@ use Rattle.node_model.specs.Sessions.{Doing}
 use Rattle.node_model.specs.Sessions as sessions
 use Rattle.node_ends.specs.declared.sending.Sending.{Sending}
 use Rattle.node_ends.specs.declared.sending.Sending.TheVariants as sendings
-use Rattle.p2p_server.specs.declared.more.More.{More}
-use Rattle.p2p_server.specs.declared.more.More.TheVariants as more
+use Rattle.p2p_server.specs.declared.More.{More}
+use Rattle.p2p_server.specs.declared.More.TheVariants as more
 use Rattle.p2p_server.specs.declared.session.Session.{Session}
 use Rattle.p2p_server.specs.Giving.{is_giving, IsPieceOf as IsMorePieceOf}
 use Rattle.p2p_server.specs.Talking.{session_of}

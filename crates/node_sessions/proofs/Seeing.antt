@@ -16,11 +16,11 @@ use Rattle.object_store.specs.Stores.{Parts}
 use Rattle.p2p_wire.specs.declared.message.Message.{Message}
 use Rattle.p2p_wire.specs.declared.message.Message.TheVariants as messages
 use Rattle.p2p_wire.specs.Messages.{message_of}
-use Rattle.p2p_server.specs.declared.doing.Doing.{Doing}
-use Rattle.p2p_server.specs.declared.doing.Doing.TheVariants as doings
-use Rattle.p2p_server.specs.declared.doing.Taken.{Taken}
-use Rattle.p2p_server.specs.declared.incoming.Incoming.{Incoming}
-use Rattle.p2p_server.specs.declared.incoming.Incoming.TheVariants as incoming
+use Rattle.p2p_server.specs.declared.Doing.{Doing}
+use Rattle.p2p_server.specs.declared.Doing.TheVariants as doings
+use Rattle.p2p_server.specs.declared.Taken.{Taken}
+use Rattle.p2p_server.specs.declared.Incoming.{Incoming}
+use Rattle.p2p_server.specs.declared.Incoming.TheVariants as incoming
 use Rattle.p2p_server.specs.declared.session.Session.{Session}
 use Rattle.p2p_server.specs.Talking.{Brings, IsFed, IsSumOf, IsTakenOf, SeesPart, SeesTaken, heard_line}
 use Rattle.node_sessions.specs.declared.served.Served.{Served}
@@ -105,11 +105,11 @@ took_right law p d fed t is =
     let taken : IsTakenOf t (p t.fill) = subst (IsFed p) is fed in
     subst (λ (x : Doing). SeesTaken (Some p) t (right_of x)) (sym is) (taken, right_told law t.sum t.fill (p t.fill) taken.1)
 
-at_one : VerdictsMatch → (p : Parts) (xs : List Session) (links : List EndView) (v : Served) (x : Option Session) (f : Option FrameView) → ((y : Session) → x ≡ Some y → IsFed p y.doing) → (part : ℕ) × (right : Bool) × SeesPartAt (Some p) x f part right
+at_one : VerdictsMatch → (p : Parts) (xs : List Session) (links : List EndView) (v : Served) (x : Option Session) (f : Option FrameView) → ((y : Session) → x ≡ Some y → IsFed p y.state.doing) → (part : ℕ) × (right : Bool) × SeesPartAt (Some p) x f part right
 at_one law p xs links v None f fed = (0, false, tt)
 at_one law p xs links v (Some x) None fed = (0, false, tt)
 at_one law p xs links v (Some x) (Some f) fed =
-    (part_of p f.body, right_of x.doing, λ i brings. sees_of p x.doing i (part_of p f.body) (right_of x.doing) (λ file key is. put_part p f.body i file key brings is) (took_right law p x.doing (fed x refl)))
+    (part_of p f.body, right_of x.state.doing, λ i brings. sees_of p x.state.doing i (part_of p f.body) (right_of x.state.doing) (λ file key is. put_part p f.body i file key brings is) (took_right law p x.state.doing (fed x refl)))
 
 pub has_part : VerdictsMatch → (p : Parts) (xs : List Session) (links : List EndView) (o : Option Served) → AreAllFed p xs → HasPart (Some p) xs links o
 has_part law p xs links None fed = record { part = 0; right = false; sees = λ v e. absurd cc }

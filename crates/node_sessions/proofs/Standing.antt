@@ -61,7 +61,7 @@ pub own_set : (xs : List Session) (i : ℕ) (was now : Session) (rows rows' : Ro
 own_set xs i was now rows rows' at own step = record {
   shares = Every-set (λ (x : Session). Owns (owner_of x) (share_of x) rows'.holds) xs i now step.owns
       (λ k y ne aty. step.others (owner_of y) (share_of y) (own.apart i k was y (λ e. ne (sym e)) at aty).owners (own.shares k y aty));
-  fills = Every-set (λ (x : Session). (key : List ℕ) → session_fills key x ≡ true → is_filling rows' key ≡ true) xs i now (fills_told rows' now.doing step.fills)
+  fills = Every-set (λ (x : Session). (key : List ℕ) → session_fills key x ≡ true → is_filling rows' key ≡ true) xs i now (fills_told rows' now.state.doing step.fills)
       (λ k y ne aty key is. stays_filled (session_of was).doing (session_of now).doing (is_filling rows) (is_filling rows') step.filled key
       (λ old. not_both (session_fills key was) (session_fills key y) ((own.apart i k was y (λ e. ne (sym e)) at aty).fills key) old is) (own.fills k y aty key is));
   apart = EveryTwo-set Differ xs i now own.apart

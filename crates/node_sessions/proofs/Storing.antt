@@ -13,12 +13,12 @@ use Rattle.link_ring.specs.declared.frame.Body.{Body}
 use Rattle.link_ring.specs.declared.frame.Body.TheVariants as bodies
 use Rattle.node_model.specs.Sessions as sessions
 use Rattle.node_ends.specs.Ends.{text_in}
-use Rattle.p2p_server.specs.declared.doing.Doing.{Doing}
-use Rattle.p2p_server.specs.declared.doing.Doing.TheVariants as doings
-use Rattle.p2p_server.specs.declared.doing.Taken.{Taken}
-use Rattle.p2p_server.specs.declared.doing.Taking.{Taking}
-use Rattle.p2p_server.specs.declared.incoming.Incoming.{Incoming}
-use Rattle.p2p_server.specs.declared.incoming.Incoming.TheVariants as incoming
+use Rattle.p2p_server.specs.declared.Doing.{Doing}
+use Rattle.p2p_server.specs.declared.Doing.TheVariants as doings
+use Rattle.p2p_server.specs.declared.Taken.{Taken}
+use Rattle.p2p_server.specs.declared.Taking.{Taking}
+use Rattle.p2p_server.specs.declared.Incoming.{Incoming}
+use Rattle.p2p_server.specs.declared.Incoming.TheVariants as incoming
 use Rattle.p2p_server.specs.Talking.{Brings, doing_of, heard_line, parts_after, parts_after_valid}
 use Rattle.node_sessions.specs.Moments.{bytes_heard}
 use Rattle.node_sessions.specs.Stored.{bytes_of, is_verdict, parts_after_frame}

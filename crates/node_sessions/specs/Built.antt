@@ -12,7 +12,7 @@ use Rattle.node_model.specs.Rows.{holds_after, same_owner}
 use Rattle.node_model.specs.Sessions as sessions
 use Rattle.node_model.specs.Sessions.{new_session}
 use Rattle.node_model.specs.SetUp.{slots}
-use Rattle.p2p_server.specs.declared.place.Place.{Place}
+use Rattle.p2p_server.specs.declared.Place.{Place}
 use Rattle.p2p_server.specs.declared.session.Session.{Session}
 use Rattle.p2p_server.specs.Answers.{owner_at}
 use Rattle.p2p_server.specs.Stepping.{LeavesOthers}

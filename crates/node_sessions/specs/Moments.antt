@@ -18,8 +18,8 @@ use Rattle.node_model.specs.SessionStep.{here, is_filled, session_makes}
 use Rattle.node_model.specs.SetUp.{SetUp}
 use Rattle.node_model.specs.State.{State}
 use Rattle.node_ends.specs.Ends.{end_at, frame_at, link_at, room_at, wait_at}
-use Rattle.p2p_server.specs.declared.incoming.Incoming.{Incoming}
-use Rattle.p2p_server.specs.declared.incoming.Incoming.TheVariants as incoming
+use Rattle.p2p_server.specs.declared.Incoming.{Incoming}
+use Rattle.p2p_server.specs.declared.Incoming.TheVariants as incoming
 use Rattle.p2p_server.specs.declared.session.Session.{Session}
 use Rattle.p2p_server.specs.Answers.{contents_after, failed_in}
 use Rattle.p2p_server.specs.Bounds.{IsKind}
@@ -35,7 +35,7 @@ use Rattle.node_sessions.specs.Serving.{SeesPartAt, ServesAt, end_by, made_by, t
 use Rattle.node_sessions.specs.Stored.{bytes_at, parts_after_taken}
 
 -- what the session reads is so in the state, at the look
-pub record SeesOne (links : List EndView) (clock number : ℕ) (was : Moment) (v : Served) (s : SetUp) (st : State) (k : Look) : Type 0 where
+pub record SeesOne (links : List EndView) (clock number : ℕ) (was : Moment Session) (v : Served) (s : SetUp) (st : State) (k : Look) : Type 0 where
   pub scene : IsScene (record { place = place_of was.session; clock = clock; number = number }) s st k (end_of was.session)
   pub keeps : HaveRows was.rows was.contents (stand_of st)
   pub filled : (key : List ℕ) → is_filled s st key ≡ is_filling was.rows key
@@ -57,7 +57,7 @@ pub record GivesAt (links : List EndView) (x : Session) : Type 0 where
   pub gives : is_giving (session_of x).doing ≡ true
 
 -- the session has what it must of the table, and no hold has a number from this on
-pub record IsReady (number : ℕ) (was : Moment) : Type 0 where
+pub record IsReady (number : ℕ) (was : Moment Session) : Type 0 where
   pub agrees : Agrees was.records was.rows.holds
   pub fresh : All (λ h. h.number < number) was.rows.holds
   pub owns : Owns (owner_of was.session) (share_of was.session) was.rows.holds
@@ -69,13 +69,13 @@ pub record LeavesParts (doing : sessions.Doing) (known known' : Option Parts) : 
   pub same : ForSome known (λ p. ForSome known' (λ p'. (key : List ℕ) → sessions.is_filling key doing ≡ false → p' key ≡ p key))
 
 -- what this says of a state is the entry of its end's session, and its session and rows after it
-pub record Makes (links : List EndView) (was now : Moment) (v : Served) (s : SetUp) (st : State) (k : Look) : Type 0 where
+pub record Makes (links : List EndView) (was now : Moment Session) (v : Served) (s : SetUp) (st : State) (k : Look) : Type 0 where
   pub made : session_makes (here s st k (end_of was.session)) (end_at links (end_of was.session)) (st.sessions (end_of was.session)) (wait_at links (end_of was.session)) ≡ Some (made_by links v)
   pub next : session_of now.session ≡ session_after st.content v.kind (session_of was.session) (made_by links v).sent (taken_by links v)
   pub keeps : HaveRows now.rows now.contents (stand_after v.kind (stand_of st))
 
 -- this is served, from one moment to the next
-pub record Serves (links : List EndView) (clock number : ℕ) (was now : Moment) (v : Served) : Type 0 where
+pub record Serves (links : List EndView) (clock number : ℕ) (was now : Moment Session) (v : Served) : Type 0 where
   pub place : place_of now.session ≡ place_of was.session
   pub at : end_by v ≡ end_of was.session
   pub stands : ServesAt links v
@@ -99,7 +99,7 @@ pub record Serves (links : List EndView) (clock number : ℕ) (was now : Moment)
   pub cause : IfSome (failed_in v.kind) (λ call. Rose was.faults now.faults)
 
 -- the calls of its store that were made are those of the state's session at its end, and the numbers are fewer by the one that failed
-pub record MakesSo (links : List EndView) (clock number : ℕ) (was : Moment) (v : Served) (before after : Option (Call → ℕ)) : Type 0 where
+pub record MakesSo (links : List EndView) (clock number : ℕ) (was : Moment Session) (v : Served) (before after : Option (Call → ℕ)) : Type 0 where
   pub at : end_by v ≡ end_of was.session
   pub calls : (s : SetUp) (st : State) (k : Look) → SeesOne links clock number was v s st k
       → MakesCalls (end_calls (here s st k (end_of was.session)) (end_at links (end_of was.session)) (st.sessions (end_of was.session)) (wait_at links (end_of was.session))) (failed_in v.kind) before after

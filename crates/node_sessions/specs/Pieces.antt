@@ -5,8 +5,8 @@ use Rattle.object_store.specs.Stores.{Contents, bytes_of}
 use Rattle.node_model.specs.Sessions.{Doing, Gives}
 use Rattle.node_ends.specs.declared.sending.Sending.{Sending}
 use Rattle.node_ends.specs.declared.sending.Sending.TheVariants as sendings
-use Rattle.p2p_server.specs.declared.more.More.{More}
-use Rattle.p2p_server.specs.declared.more.More.TheVariants as more
+use Rattle.p2p_server.specs.declared.More.{More}
+use Rattle.p2p_server.specs.declared.More.TheVariants as more
 use Rattle.p2p_server.specs.declared.session.Session.{Session}
 use Rattle.p2p_server.specs.Talking.{session_of}
 use Rattle.node_sessions.specs.declared.served.Served.{Served}

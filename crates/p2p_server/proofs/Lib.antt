@@ -1,25 +1,5 @@
 -- The lemmas of this crate.
-pub mod Replies
-pub mod Doings
-pub mod Agreeing
-pub mod AnswerCalls
-pub mod Calling
-pub mod Calm
-pub mod StateFacts
-pub mod Transfers
+pub mod Following
 pub mod Numbers
-pub mod Holding
-pub mod Leaving
-pub mod Phases
 pub mod ReplyLines
-pub mod Sending
-pub mod Making
-pub mod Moves
-pub mod Reading
-pub mod RowCalls
 pub mod Small
-pub mod Stepping
-pub mod Taking
-pub mod Telling
-pub mod Unexpected
-pub mod Waiting

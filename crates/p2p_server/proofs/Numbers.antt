@@ -9,12 +9,12 @@ use Rattle.run_data.specs.declared.entry.EntryKind.{EntryKind}
 use Rattle.run_data.specs.declared.entry.EntryKind.TheVariants.{Share, Release, Close, Crash, Fault, End}
 use Rattle.run_data.specs.declared.row.Hold.{Hold}
 use Rattle.node_model.specs.Rows.{holds_after, is_lost_ordered, keep_of, restart, same_owner}
-use Rattle.p2p_server.specs.declared.doing.Doing.{Doing}
-use Rattle.p2p_server.specs.declared.doing.Doing.TheVariants as doings
+use Rattle.session_state.specs.declared.doing.Doing.{Doing}
+use Rattle.session_state.specs.declared.doing.Doing.TheVariants as doings
 use Rattle.content_lock.specs.Rows.{Rows}
-use Rattle.p2p_server.specs.declared.step.Step.{Step}
-use Rattle.p2p_server.specs.Bounds.{IsNumberedStep, IsKind}
-use Rattle.p2p_server.specs.Talking.{AreAfterStep, doing_of, guarded_in, label_in, share_in}
+use Rattle.session_state.specs.declared.step.Step.{Step}
+use Rattle.session_state.specs.Bounds.{IsNumberedStep, IsKind}
+use Rattle.session_state.specs.Talking.{AreAfterStep, doing_of, guarded_in, label_in, share_in}
 
 abbrev Below : ℕ → Hold → Type 0
 Below m h = h.number < m

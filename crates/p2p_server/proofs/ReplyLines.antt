@@ -20,7 +20,7 @@ use Rattle.p2p_wire.specs.declared.message.Message.{Message}
 use Rattle.p2p_wire.specs.declared.message.Message.TheVariants.{AuthSuccess, Version, Timestamp, PutFrom, AlreadyHave, Data, Valid, Invalid, Success, Failure, Error}
 use Rattle.p2p_wire.specs.Messages.{IsShort, IsWire, ◌⊳◌, text_of}
 use Rattle.p2p_wire.specs.Streams.{IsSaidInOneLine}
-use Rattle.p2p_server.specs.Bounds.{IsReply}
+use Rattle.session_state.specs.Bounds.{IsReply}
 
 either : (text : List ℕ) → (bytes_eq text (codes "unexpected") || bytes_eq text (codes "busy")) ≡ true → (P : List ℕ → Type 0) → P (codes "unexpected") → P (codes "busy") → P text
 either text is P p q = go (bytes_eq text (codes "unexpected")) refl is

@@ -7,13 +7,14 @@ use Rattle.run_data.specs.declared.entry.EntryKind.TheVariants.{Fault}
 use Rattle.p2p_wire.specs.declared.message.Message.{Message}
 use Rattle.p2p_wire.specs.declared.message.Message.TheVariants.{Valid}
 use Rattle.object_store.specs.Stores.{AreSmallParts, Parts, with_at}
-use Rattle.p2p_server.specs.declared.doing.Doing.{Doing}
-use Rattle.p2p_server.specs.declared.doing.Doing.TheVariants as doings
-use Rattle.p2p_server.specs.declared.incoming.Incoming.TheVariants as incoming
-use Rattle.p2p_server.specs.declared.place.Scene.{Scene}
-use Rattle.p2p_server.specs.declared.step.Step.{Step}
-use Rattle.p2p_server.specs.Stepping.{Goes, Moment}
-use Rattle.p2p_server.specs.Talking.{parts_after, parts_after_valid}
+use Rattle.session_state.specs.declared.doing.Doing.{Doing}
+use Rattle.session_state.specs.declared.doing.Doing.TheVariants as doings
+use Rattle.session_state.specs.declared.incoming.Incoming.TheVariants as incoming
+use Rattle.session_state.specs.declared.place.Scene.{Scene}
+use Rattle.session_state.specs.declared.state.SessionState.{SessionState}
+use Rattle.session_state.specs.declared.step.Step.{Step}
+use Rattle.session_state.specs.Stepping.{Goes, Moment}
+use Rattle.session_state.specs.Talking.{parts_after, parts_after_valid}
 
 short_at : (p : Parts) (key place : List ℕ) (b : Bool) → length (p place) < 2 ^ 62 → length (if b then [] else p place) < 2 ^ 62
 short_at p key place true short = omega arith
@@ -34,6 +35,6 @@ answered (doings.Took t) Valid kind known small = judged t.fill kind known small
 answered d m kind known small = small
 
 -- after the answer to a message
-pub parts_small : {E : Type 0} (x : Scene) (m : Message) (was now : Moment) (r : Result Step E) → Goes x (incoming.Message m) was now r → AreSmallParts was.parts → AreSmallParts now.parts
+pub parts_small : {E : Type 0} (x : Scene) (m : Message) (was now : Moment SessionState) (r : Result Step E) → Goes x (incoming.Message m) was now r → AreSmallParts was.parts → AreSmallParts now.parts
 parts_small x m was now (Ok step) goes small = subst AreSmallParts (sym goes.parts) (answered was.session.doing m step.kind was.parts small)
 parts_small x m was now (Err e) goes small = subst AreSmallParts (sym goes.parts) small

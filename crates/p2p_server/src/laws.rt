@@ -10,9 +10,9 @@ ghost use Rattle.node_model.specs.Sessions as sessions;
 ghost use Rattle.node_model.specs.SessionStep.{Here, on_frame};
 ghost use Rattle.content_lock.specs.Rows.{Rows, is_filling};
 ghost use Rattle.p2p_server.specs.declared.session.Session.{Session};
-ghost use Rattle.p2p_server.specs.Answers.{failed_in};
-ghost use Rattle.p2p_server.specs.Bounds.{IsReply};
-ghost use Rattle.p2p_server.specs.SessionCalls.{calls_frame};
+ghost use Rattle.session_state.specs.Answers.{failed_in};
+ghost use Rattle.session_state.specs.Bounds.{IsReply};
+ghost use Rattle.session_state.specs.SessionCalls.{calls_frame};
 ghost use Rattle.p2p_server.specs.Talking.{HasFillOf, IsFedOf, session_of};
 
 use p2p_wire::sent_messages_have_lines;

@@ -1,9 +1,8 @@
 //! A session at a server's end of a connection.
-ghost use Rattle.std.specs.Prelude.{◌≡◌, ◌≤◌, ◌+◌, ◌<◌, ◌^◌, ℕ, Bool, List, length, All, min, codes, true, false, Some, None, IfOk, OnOk, OnErr, IfSome, is_some};
+ghost use Rattle.std.specs.Prelude.{◌≡◌, ◌≤◌, ◌+◌, ◌<◌, ◌^◌, ℕ, Bool, List, All, true, false, Some, None, IfOk, OnOk, OnErr, IfSome, is_some};
 ghost use Rattle.std.specs.declared.option.Option.{Option};
 ghost use Rattle.std.specs.Option.{ForSome, option_map};
 ghost use Rattle.annex_base.specs.Causes.{Rose};
-ghost use Rattle.annex_base.specs.declared.kinds.Call.{Call};
 ghost use Rattle.run_data.specs.declared.entry.By.{By};
 ghost use Rattle.run_data.specs.declared.entry.FrameText.{FrameText};
 ghost use Rattle.run_data.specs.declared.entry.FrameView.{FrameView};
@@ -12,45 +11,34 @@ ghost use Rattle.object_store.specs.declared.keeper.HoldRecord.{HoldRecord};
 ghost use Rattle.node_model.specs.Ends.{EndName, server_end};
 ghost use Rattle.node_model.specs.Look.{Look};
 ghost use Rattle.node_model.specs.Rows.{same_owner};
-ghost use Rattle.node_model.specs.Sessions as sessions;
-ghost use Rattle.node_model.specs.Sessions.{gave_bytes, new_session, session_after, takes_from, took_bytes};
+ghost use Rattle.node_model.specs.Sessions.{new_session, session_after};
 ghost use Rattle.node_model.specs.SessionStep.{gives_next, here, is_filled, on_frame};
 ghost use Rattle.node_model.specs.SetUp.{SetUp};
 ghost use Rattle.node_model.specs.State.{State};
 ghost use Rattle.content_lock.specs.Rows.{Rows, bar_at, is_filling};
 ghost use Rattle.content_lock.specs.Stored.{Agrees};
-ghost use Rattle.content_lock.specs.Tokens.{Owns, ShareView, given_in};
-ghost use Rattle.p2p_server.specs.Answers.{LeavesContents, contents_after, failed_in, owner_at, reply_of, size_in};
-ghost use Rattle.p2p_server.specs.Bounds.{IsNumberedStep, FitsMore, IsKind, IsReplyIf};
+ghost use Rattle.content_lock.specs.Tokens.{Owns, ShareView};
+ghost use Rattle.session_state.specs.Answers.{contents_after, failed_in, owner_at, reply_of, size_in};
+ghost use Rattle.session_state.specs.Bounds.{FitsMore, IsKind, IsReplyIf};
 ghost use Rattle.content_lock.specs.CallsMade.{MakesCalls, fewer};
-ghost use Rattle.p2p_server.specs.Giving.{IsPieceOf, failed_more, is_giving, reply_more, session_sent};
-ghost use Rattle.p2p_server.specs.Phases.{HasLeft, HasRoom, IsBare, IsGave, IsGuarding, IsLonger, IsMoving, IsTook, IsWanting, WithinOf};
-ghost use Rattle.p2p_server.specs.SessionCalls.{Makes, MakesStep, calls_frame, calls_next};
-ghost use Rattle.p2p_server.specs.States.{IsScene, HaveRows, Stand, stand_after, stand_of};
-ghost use Rattle.p2p_server.specs.Stepping.{Goes, IsAt, IsLetGo, IsStep, IsUnexpected, guards_key, moment_of};
-ghost use Rattle.p2p_server.specs.Talking.{AreAfterStep, Brings, FillsSo, HasFill, HasFillOf, IsFed, IsFedOf, IsJudgedOf, SaysSo, SeesPartOf, SeesSize, doing_of, guarded_in, label_in, parts_after_of, place_of, session_of, share_in, share_of};
+ghost use Rattle.session_state.specs.Giving.{IsPieceOf, failed_more, is_giving, reply_more, session_sent};
+ghost use Rattle.session_state.specs.SessionCalls.{calls_frame, calls_next};
+ghost use Rattle.session_state.specs.States.{IsScene, HaveRows, Stand, stand_after, stand_of};
+ghost use Rattle.p2p_server.specs.Talking.{AreAfterStep, Brings, FillsSo, HasFillOf, IsFedOf, IsJudgedOf, SaysSo, SeesPartOf, SeesSize, guarded_in, label_in, parts_after_of, place_of, session_of, share_of};
+ghost use Rattle.node_model.specs.Sessions as sessions;
 
-use crate::doing::{Doing, Giving, Taken, Taking, Wanting};
-use crate::incoming::Incoming;
-use crate::more::{More, next_of};
-use crate::place::{Place, Scene};
-use crate::step::Step;
-use crate::{answers, transfer};
-use annex_base::{Call, NoMemory, Text};
-use annex_key::Key;
-use content_lock::{LockTable, Share};
-use object_store::{Keeper, KeeperFault};
-use p2p_wire::Message;
+use crate::hearing::hear;
+use annex_base::NoMemory;
+use content_lock::LockTable;
+use object_store::Keeper;
 use run_data::EntryKind;
+use session_sending::{next_of, sent};
+use session_state::{Doing, Incoming, More, Place, Scene, SessionState, Step, spend};
 use std::alloc::Global;
-use std::mem;
 
 /// A session at a server's end of a connection (git-annex P2P protocol). That of a closed one is new.
 pub struct Session {
-    pub(crate) place: Place,
-    // The version that was agreed on; 0 before.
-    pub(crate) spoken: u64,
-    pub(crate) doing: Doing,
+    pub(crate) state: SessionState,
 }
 
 impl Session {
@@ -62,346 +50,28 @@ impl Session {
         ensures fills { (rows : Rows) → HasFillOf rows result }
         ensures fed { (p : Parts) → IsFedOf p result }
     {
-        Session {
+        let state = SessionState {
             place,
             spoken: 0,
             doing: Doing::Waits,
-        }
+        };
+        Session { state }
     }
 
     /// Where it stands.
     pub fn place(&self) -> Place
         ensures { result ≡ place_of self.now }
     {
-        self.place
+        self.state.place
     }
 
     /// Whether it is sending a content.
     pub fn is_giving(&self) -> bool
         ensures { result ≡ is_giving (session_of self.now).doing }
     {
-        match &self.doing {
+        match &self.state.doing {
             Doing::Gives(_) => true,
             _ => false,
-        }
-    }
-
-    /// Lets go of what it has: a hold that it guards is kept, and a part that it fills stays.
-    pub(crate) fn let_go(&mut self, table: &mut LockTable)
-        requires owns { Owns (owner_at self.old.place) (share_in self.old.doing) table.old.holds }
-        requires fills { HasFill table.old self.old.doing }
-        ensures session { self.new ≡ record { place = self.old.place; spoken = self.old.spoken; doing = Doing.Waits } }
-        ensures table { IsLetGo self.old.place self.old.doing table.old table.new }
-    {
-        let doing = mem::replace(&mut self.doing, Doing::Waits);
-        spend(doing, table);
-    }
-
-    /// Makes it new.
-    pub(crate) fn reset(&mut self, table: &mut LockTable)
-        requires owns { Owns (owner_at self.old.place) (share_in self.old.doing) table.old.holds }
-        requires fills { HasFill table.old self.old.doing }
-        ensures session { self.new ≡ record { place = self.old.place; spoken = 0; doing = Doing.Waits } }
-        ensures table { IsLetGo self.old.place self.old.doing table.old table.new }
-    {
-        self.spoken = 0;
-        self.let_go(table);
-    }
-
-    /// Closes the connection on what isn't expected.
-    pub(crate) fn refuse(&mut self, alloc: Global, table: &mut LockTable) -> Result<Step, NoMemory>
-        requires owns { Owns (owner_at self.old.place) (share_in self.old.doing) table.old.holds }
-        requires fills { HasFill table.old self.old.doing }
-        ensures goes { (x : Scene) (i : Incoming) (contents : Option Contents) (parts : Option Parts) (records : Option (List HoldRecord)) (faults : ℕ) → x.place ≡ self.old.place → IsUnexpected i self.old → Agrees records table.old.holds
-            → Goes x i
-            (moment_of self.old table.old contents parts records faults)
-            (moment_of self.new table.new contents parts records faults) result }
-        ensures calls { (x : Scene) (i : Incoming) (contents : Option Contents) (parts : Option Parts) (failing : Option (Call → ℕ)) → IsUnexpected i self.old → Makes x i self.old table.old contents parts failing failing result }
-        ensures leaves { IfOk result (λ step. LeavesContents step.kind) }
-    {
-        let text = Text::new(alloc, b"unexpected")?;
-        self.reset(table);
-        Ok(Step::closes(self.place.close_kind(), Some(Message::Error(text))))
-    }
-
-    /// ERROR: closes the connection.
-    pub(crate) fn give_up(&mut self, table: &mut LockTable) -> Step
-        requires owns { Owns (owner_at self.old.place) (share_in self.old.doing) table.old.holds }
-        requires fills { HasFill table.old self.old.doing }
-        ensures goes { (x : Scene) (text : List ℕ) (contents : Option Contents) (parts : Option Parts) (records : Option (List HoldRecord)) (faults : ℕ) → x.place ≡ self.old.place → Agrees records table.old.holds
-            → IsStep x (Incoming.Message (Message.Error text))
-            (moment_of self.old table.old contents parts records faults)
-            (moment_of self.new table.new contents parts records faults) result }
-        ensures calls { (x : Scene) (text : List ℕ) (contents : Option Contents) (parts : Option Parts) (failing : Option (Call → ℕ)) → MakesStep x (Incoming.Message (Message.Error text)) self.old table.old contents parts failing failing result }
-        ensures leaves { LeavesContents result.kind }
-    {
-        self.reset(table);
-        Step::closes(self.place.close_kind(), None)
-    }
-
-    /// VERSION: the greatest version that both speak.
-    fn agree(&mut self, n: u64) -> Step
-        ensures says { result ≡ record { kind = EntryKind.Talk None; reply = Some (Message.Version (min n self.old.place.version)); close = false } }
-        ensures session { self.new ≡ record { place = self.old.place; spoken = min n self.old.place.version; doing = self.old.doing } }
-        ensures fits { (number : ℕ) → IsNumberedStep number result }
-    {
-        self.spoken = n.min(self.place.version as u64);
-        Step::says(EntryKind::Talk { job: None }, Message::Version(self.spoken))
-    }
-
-    /// LOCKCONTENT: the session guards the key where it was granted.
-    fn lock<K: Keeper>(
-        &mut self,
-        table: &mut LockTable,
-        keeper: &mut K,
-        key: &Key,
-        scene: Scene,
-    ) -> Result<Step, NoMemory>
-        requires at { IsAt scene self.old table.old }
-        requires agrees { Agrees (K.records keeper.old) table.old.holds }
-        requires early { scene.clock + 600000 < 2 ^ 62 }
-        requires fresh { All (λ h. h.number < scene.number) table.old.holds }
-        requires waits { self.old.doing ≡ Doing.Waits }
-        ensures goes { Goes scene (Incoming.Message (Message.LockContent key.now))
-            (moment_of self.old table.old (K.contents keeper.old) (K.parts keeper.old) (K.records keeper.old) (K.faults keeper.old))
-            (moment_of self.new table.new (K.contents keeper.new) (K.parts keeper.new) (K.records keeper.new) (K.faults keeper.new)) result }
-        ensures files { K.files keeper.new ≡ K.files keeper.old }
-        ensures told { is_some (K.contents keeper.new) ≡ is_some (K.contents keeper.old) }
-        ensures calls { Makes scene (Incoming.Message (Message.LockContent key.now)) self.old table.old (K.contents keeper.old) (K.parts keeper.old) (K.failing keeper.old) (K.failing keeper.new) result }
-        ensures contents { IfOk result (λ step. K.contents keeper.new ≡ contents_after (K.contents keeper.old) (K.parts keeper.old) step.kind) }
-    {
-        let key = key.copy()?;
-        let (step, share) = answers::lock(scene, table, keeper, key)?;
-        match share {
-            None => Ok(step),
-            Some(share) => {
-                begin(&mut self.doing, Doing::Guards { share });
-                Ok(step)
-            }
-        }
-    }
-
-    /// The answer to a message, of a session that waits.
-    fn request<K: Keeper>(
-        &mut self,
-        alloc: Global,
-        table: &mut LockTable,
-        keeper: &mut K,
-        message: &Message,
-        scene: Scene,
-    ) -> Result<Step, NoMemory>
-        requires at { IsAt scene self.old table.old }
-        requires agrees { Agrees (K.records keeper.old) table.old.holds }
-        requires early { scene.clock + 600000 < 2 ^ 62 }
-        requires fresh { All (λ h. h.number < scene.number) table.old.holds }
-        requires waits { self.old.doing ≡ Doing.Waits }
-        ensures goes { Goes scene (Incoming.Message message.now)
-            (moment_of self.old table.old (K.contents keeper.old) (K.parts keeper.old) (K.records keeper.old) (K.faults keeper.old))
-            (moment_of self.new table.new (K.contents keeper.new) (K.parts keeper.new) (K.records keeper.new) (K.faults keeper.new)) result }
-        ensures files { K.files keeper.new ≡ K.files keeper.old }
-        ensures told { is_some (K.contents keeper.new) ≡ is_some (K.contents keeper.old) }
-        ensures calls { Makes scene (Incoming.Message message.now) self.old table.old (K.contents keeper.old) (K.parts keeper.old) (K.failing keeper.old) (K.failing keeper.new) result }
-        ensures contents { IfOk result (λ step. K.contents keeper.new ≡ contents_after (K.contents keeper.old) (K.parts keeper.old) step.kind) }
-    {
-        match message {
-            Message::Error(_) => Ok(self.give_up(table)),
-            Message::Version(n) => Ok(self.agree(*n)),
-            Message::CheckPresent(key) => {
-                let key = key.copy()?;
-                Ok(answers::check_present(scene, table, keeper, key))
-            }
-            Message::LockContent(key) => self.lock(table, keeper, key, scene),
-            Message::Remove(key) => {
-                let key = key.copy()?;
-                Ok(answers::remove(scene, table, keeper, key))
-            }
-            Message::RemoveBefore { before, key } => {
-                if self.spoken < 3 {
-                    return self.refuse(alloc, table);
-                }
-                let key = key.copy()?;
-                Ok(answers::remove_before(scene, table, keeper, *before, key))
-            }
-            Message::GetTimestamp => {
-                if self.spoken < 3 {
-                    return self.refuse(alloc, table);
-                }
-                Ok(answers::time(scene))
-            }
-            Message::Get {
-                start,
-                file: _,
-                key,
-            } => {
-                if self.spoken < 1 {
-                    return self.refuse(alloc, table);
-                }
-                self.get(table, keeper, *start, key, scene)
-            }
-            Message::Put { file: _, key } => {
-                if self.spoken < 1 {
-                    return self.refuse(alloc, table);
-                }
-                self.put(alloc, table, keeper, key, scene)
-            }
-            _ => self.refuse(alloc, table),
-        }
-    }
-
-    /// The answer to a message, of a session that guards: only the key's UNLOCKCONTENT is expected.
-    fn guarded<K: Keeper>(
-        &mut self,
-        alloc: Global,
-        table: &mut LockTable,
-        keeper: &mut K,
-        message: &Message,
-        scene: Scene,
-    ) -> Result<Step, NoMemory>
-        requires at { IsAt scene self.old table.old }
-        requires agrees { Agrees (K.records keeper.old) table.old.holds }
-        requires phase { IsGuarding self.old.doing }
-        ensures goes { Goes scene (Incoming.Message message.now)
-            (moment_of self.old table.old (K.contents keeper.old) (K.parts keeper.old) (K.records keeper.old) (K.faults keeper.old))
-            (moment_of self.new table.new (K.contents keeper.new) (K.parts keeper.new) (K.records keeper.new) (K.faults keeper.new)) result }
-        ensures files { K.files keeper.new ≡ K.files keeper.old }
-        ensures told { is_some (K.contents keeper.new) ≡ is_some (K.contents keeper.old) }
-        ensures calls { Makes scene (Incoming.Message message.now) self.old table.old (K.contents keeper.old) (K.parts keeper.old) (K.failing keeper.old) (K.failing keeper.new) result }
-        ensures contents { IfOk result (λ step. K.contents keeper.new ≡ contents_after (K.contents keeper.old) (K.parts keeper.old) step.kind) }
-    {
-        match message {
-            Message::Error(_) => Ok(self.give_up(table)),
-            Message::UnlockContent(key) => {
-                if !guards(&self.doing, key) {
-                    return self.refuse(alloc, table);
-                }
-                let key = key.copy()?;
-                Ok(self.unlock(table, keeper, key, scene))
-            }
-            _ => self.refuse(alloc, table),
-        }
-    }
-
-    /// UNLOCKCONTENT of the key that it guards. A hold that can't be released is kept.
-    fn unlock<K: Keeper>(
-        &mut self,
-        table: &mut LockTable,
-        keeper: &mut K,
-        key: Key,
-        scene: Scene,
-    ) -> Step
-        requires at { IsAt scene self.old table.old }
-        requires agrees { Agrees (K.records keeper.old) table.old.holds }
-        requires guards { guards_key self.old.doing key ≡ true }
-        ensures goes { IsStep scene (Incoming.Message (Message.UnlockContent key))
-            (moment_of self.old table.old (K.contents keeper.old) (K.parts keeper.old) (K.records keeper.old) (K.faults keeper.old))
-            (moment_of self.new table.new (K.contents keeper.new) (K.parts keeper.new) (K.records keeper.new) (K.faults keeper.new)) result }
-        ensures files { K.files keeper.new ≡ K.files keeper.old }
-        ensures told { is_some (K.contents keeper.new) ≡ is_some (K.contents keeper.old) }
-        ensures calls { MakesStep scene (Incoming.Message (Message.UnlockContent key)) self.old table.old (K.contents keeper.old) (K.parts keeper.old) (K.failing keeper.old) (K.failing keeper.new) result }
-        ensures leaves { LeavesContents result.kind }
-        ensures contents { K.contents keeper.new ≡ K.contents keeper.old }
-    {
-        let share = unguard(&mut self.doing);
-        let hold = share.number();
-        match table.release(keeper, share) {
-            Ok(()) => Step::silent(EntryKind::Release { hold, key }),
-            Err(share) => {
-                table.abandon(share);
-                Step::silent(EntryKind::Fault {
-                    call: Call::Unhold,
-                    by: scene.owner(),
-                })
-            }
-        }
-    }
-
-    /// The answer to a message, of a session that gives or takes bytes: none is expected.
-    fn unasked(
-        &mut self,
-        alloc: Global,
-        table: &mut LockTable,
-        message: &Message,
-        scene: Scene,
-    ) -> Result<Step, NoMemory>
-        requires at { IsAt scene self.old table.old }
-        requires phase { IsMoving self.old.doing }
-        ensures goes { (contents : Option Contents) (parts : Option Parts) (records : Option (List HoldRecord)) (faults : ℕ) → Agrees records table.old.holds → Goes scene (Incoming.Message message.now)
-            (moment_of self.old table.old contents parts records faults)
-            (moment_of self.new table.new contents parts records faults) result }
-        ensures calls { (contents : Option Contents) (parts : Option Parts) (failing : Option (Call → ℕ)) → Makes scene (Incoming.Message message.now) self.old table.old contents parts failing failing result }
-        ensures leaves { IfOk result (λ step. LeavesContents step.kind) }
-    {
-        match message {
-            Message::Error(_) => Ok(self.give_up(table)),
-            _ => self.refuse(alloc, table),
-        }
-    }
-
-    /// The answer to a message, of a session that gave a content: what the client says of it.
-    fn judged(
-        &mut self,
-        alloc: Global,
-        table: &mut LockTable,
-        message: &Message,
-        scene: Scene,
-    ) -> Result<Step, NoMemory>
-        requires at { IsAt scene self.old table.old }
-        requires phase { IsGave self.old.doing }
-        ensures goes { (contents : Option Contents) (parts : Option Parts) (records : Option (List HoldRecord)) (faults : ℕ) → Agrees records table.old.holds → Goes scene (Incoming.Message message.now)
-            (moment_of self.old table.old contents parts records faults)
-            (moment_of self.new table.new contents parts records faults) result }
-        ensures calls { (contents : Option Contents) (parts : Option Parts) (failing : Option (Call → ℕ)) → Makes scene (Incoming.Message message.now) self.old table.old contents parts failing failing result }
-        ensures leaves { IfOk result (λ step. LeavesContents step.kind) }
-    {
-        match message {
-            Message::Error(_) => Ok(self.give_up(table)),
-            Message::Success | Message::Failure => {
-                begin(&mut self.doing, Doing::Waits);
-                Ok(Step::silent(EntryKind::Talk { job: None }))
-            }
-            _ => self.refuse(alloc, table),
-        }
-    }
-
-    /// The answer to what is heard.
-    fn hear<K: Keeper>(
-        &mut self,
-        alloc: Global,
-        table: &mut LockTable,
-        keeper: &mut K,
-        incoming: &Incoming,
-        scene: Scene,
-    ) -> Result<Step, NoMemory>
-        requires at { IsAt scene self.old table.old }
-        requires agrees { Agrees (K.records keeper.old) table.old.holds }
-        requires early { scene.clock + 600000 < 2 ^ 62 }
-        requires fresh { All (λ h. h.number < scene.number) table.old.holds }
-        ensures goes { Goes scene (incoming.now)
-            (moment_of self.old table.old (K.contents keeper.old) (K.parts keeper.old) (K.records keeper.old) (K.faults keeper.old))
-            (moment_of self.new table.new (K.contents keeper.new) (K.parts keeper.new) (K.records keeper.new) (K.faults keeper.new)) result }
-        ensures files { K.files keeper.new ≡ K.files keeper.old }
-        ensures told { is_some (K.parts keeper.old) ≡ true → is_some (K.contents keeper.new) ≡ is_some (K.contents keeper.old) }
-        ensures calls { Makes scene incoming.now self.old table.old (K.contents keeper.old) (K.parts keeper.old) (K.failing keeper.old) (K.failing keeper.new) result }
-        ensures small { AreSmallParts (K.parts keeper.old) → AreSmallParts (K.parts keeper.new) }
-        ensures contents { IfOk result (λ step. K.contents keeper.new ≡ contents_after (K.contents keeper.old) (K.parts keeper.old) step.kind) }
-    {
-        match incoming {
-            Incoming::Opening => Ok(answers::welcome(scene.place.id)),
-            Incoming::Closing => {
-                self.reset(table);
-                Ok(Step::silent(self.place.close_kind()))
-            }
-            Incoming::Message(message) => match &self.doing {
-                Doing::Waits => self.request(alloc, table, keeper, message, scene),
-                Doing::Guards { share: _ } => self.guarded(alloc, table, keeper, message, scene),
-                Doing::Gives(_) => self.unasked(alloc, table, message, scene),
-                Doing::Takes(_) => self.unasked(alloc, table, message, scene),
-                Doing::Gave => self.judged(alloc, table, message, scene),
-                Doing::Wants(_) => self.announced(alloc, table, message, scene),
-                Doing::Took(_) => self.received(alloc, table, keeper, message, scene),
-            },
-            Incoming::Bytes(bytes) => self.piece(alloc, table, keeper, bytes, scene),
-            Incoming::Bad => self.refuse(alloc, table),
         }
     }
 
@@ -481,11 +151,11 @@ impl Session {
         ensures contents { IfOk result (λ step. K.contents keeper.new ≡ contents_after (K.contents keeper.old) (K.parts keeper.old) step.kind) }
     {
         let scene = Scene {
-            place: self.place,
+            place: self.state.place,
             clock: now,
             number,
         };
-        self.hear(alloc, table, keeper, incoming, scene)
+        hear(&mut self.state, alloc, table, keeper, incoming, scene)
     }
 
     /// What is sent next of a content, where nothing has come. After Gone and Fault the connection is closed, and the session
@@ -514,30 +184,12 @@ impl Session {
         ensures calls { IfOk result (λ more. MakesCalls (calls_next (session_of self.old).doing) (failed_more more) (K.failing keeper.old) (K.failing keeper.new)) }
         ensures err_failing { OnErr result (K.failing keeper.new ≡ K.failing keeper.old) }
     {
-        let Doing::Gives(giving) = &self.doing else {
+        let Doing::Gives(giving) = &self.state.doing else {
             return Ok(More::Nothing);
         };
-        let more = next_of(self.place, alloc, keeper, giving)?;
-        self.sent(&more);
+        let more = next_of(self.state.place, alloc, keeper, giving)?;
+        sent(&mut self.state, &more);
         Ok(more)
-    }
-
-    /// Goes on after it sent this of a content.
-    fn sent(&mut self, more: &More)
-        requires within { WithinOf more.now self.old.doing }
-        ensures next { session_of self.new ≡ session_sent more.now (session_of self.old) }
-        ensures place { self.new.place ≡ self.old.place }
-        ensures bare { IsBare self.new.doing }
-    {
-        match more {
-            More::Piece(bytes) => pass(&mut self.doing, bytes.len() as u64),
-            More::Last(_) => begin(&mut self.doing, Doing::Gave),
-            More::Nothing => {}
-            More::Gone | More::Fault(_) => {
-                self.spoken = 0;
-                begin(&mut self.doing, Doing::Waits);
-            }
-        }
     }
 
     /// The connection was closed: a hold that the session guards is kept, a part that it fills stays, and it is as new.
@@ -556,7 +208,7 @@ impl Session {
         ensures others { (by : By) (share : Option ShareView) → same_owner (owner_at (place_of self.old)) by ≡ false → Owns by share table.old.holds → Owns by share table.new.holds }
         ensures agrees { (known : Option (List HoldRecord)) → Agrees known table.old.holds → Agrees known table.new.holds }
     {
-        self.reset(table);
+        self.state.reset(table);
     }
 
     /// Spends the session, as `closed` does.
@@ -570,98 +222,12 @@ impl Session {
         ensures others { (by : By) (share : Option ShareView) → same_owner (owner_at (place_of self)) by ≡ false → Owns by share table.old.holds → Owns by share table.new.holds }
         ensures agrees { (known : Option (List HoldRecord)) → Agrees known table.old.holds → Agrees known table.new.holds }
     {
-        let Session {
+        let Session { state } = self;
+        let SessionState {
             place: _,
             spoken: _,
             doing,
-        } = self;
+        } = state;
         spend(doing, table);
-    }
-}
-
-/// A session without a token does this from now on.
-pub(crate) fn begin(doing: &mut Doing, next: Doing)
-    requires { IsBare doing.old }
-    ensures { doing.new ≡ next }
-{
-    match mem::replace(doing, next) {
-        Doing::Waits | Doing::Gives(_) | Doing::Gave => {}
-        _ => unreachable!(),
-    }
-}
-
-/// Spends what a session has: a hold that it guards is kept, and a part that it fills stays.
-fn spend(doing: Doing, table: &mut LockTable)
-    requires given { given_in table.old.holds (share_in doing) ≡ share_in doing }
-    requires fills { HasFill table.old doing }
-    ensures { (place : Place) → Owns (owner_at place) (share_in doing) table.old.holds → IsLetGo place doing table.old table.new }
-{
-    match doing {
-        Doing::Waits | Doing::Gives(_) | Doing::Gave => {}
-        Doing::Guards { share } => table.abandon(share),
-        Doing::Wants(
-            Wanting {
-                fill,
-                size: _,
-                digester: _,
-            },
-        ) => table.unfill(fill),
-        Doing::Takes(
-            Taking {
-                fill,
-                size: _,
-                left: _,
-                digester: _,
-            },
-        ) => table.unfill(fill),
-        Doing::Took(
-            Taken {
-                fill,
-                size: _,
-                sum: _,
-            },
-        ) => table.unfill(fill),
-    }
-}
-
-/// So many bytes of a content were sent.
-fn pass(doing: &mut Doing, count: u64)
-    requires room { HasLeft doing.old count }
-    ensures doing { doing_of doing.new ≡ gave_bytes count (doing_of doing.old) }
-    ensures bare { IsBare doing.new }
-{
-    match mem::replace(doing, Doing::Waits) {
-        Doing::Gives(Giving { key, at, end, good }) => begin(
-            doing,
-            Doing::Gives(Giving {
-                key,
-                at: at + count,
-                end,
-                good,
-            }),
-        ),
-        _ => unreachable!(),
-    }
-}
-
-/// Whether the session guards this key.
-fn guards(doing: &Doing, key: &Key) -> bool
-    ensures { result ≡ guards_key doing.now key.now }
-{
-    match doing {
-        Doing::Guards { share } => key == share.key(),
-        _ => false,
-    }
-}
-
-/// The share that a session guards, which it does no more.
-fn unguard(doing: &mut Doing) -> Share
-    requires { IsGuarding doing.old }
-    ensures guards { doing.old ≡ Doing.Guards result }
-    ensures waits { doing.new ≡ Doing.Waits }
-{
-    match mem::replace(doing, Doing::Waits) {
-        Doing::Guards { share } => share,
-        _ => unreachable!(),
     }
 }

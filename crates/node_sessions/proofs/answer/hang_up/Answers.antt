@@ -1,6 +1,6 @@
 -- The session that was closed answers nothing.
 use Rattle.std.proofs.Common.{sym, subst}
-use Rattle.p2p_server.specs.declared.place.Place.{Place}
+use Rattle.p2p_server.specs.declared.Place.{Place}
 use Rattle.p2p_server.specs.Stepping.{moment_of}
 use Rattle.node_sessions.specs.Moments.{MakesSo, Serves}
 use Rattle.node_sessions.proofs.Outcomes.{closing_at, hung_up, hung_up_makes}

@@ -1,6 +1,6 @@
 -- A new session stands at the end.
 use Rattle.std.proofs.Common.{List, ◌*◌, ◌+◌, ◌<◌, sym, ap, subst}
-use Rattle.p2p_server.specs.declared.place.Place.{Place}
+use Rattle.p2p_server.specs.declared.Place.{Place}
 use Rattle.p2p_server.specs.declared.session.Session.{Session}
 use Rattle.node_sessions.specs.Built.{AreBuilt}
 use Rattle.node_sessions.proofs.Building.{built_push}

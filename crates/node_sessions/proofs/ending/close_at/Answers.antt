@@ -13,7 +13,7 @@ pub closed-requires-clause-fills : goal.closed-requires-clause-fills
 closed-requires-clause-fills c =
     let xs = c.args.sessions.now.items in
     let x = c.index_mut.result.now in
-    fills_had c.args.table.now x.doing (c.requires.owns.fills c.args.at x (slice_get_read xs (length xs) c.args.at x refl c.requires.within c.index_mut.ensures.value))
+    fills_had c.args.table.now x.state.doing (c.requires.owns.fills c.args.at x (slice_get_read xs (length xs) c.args.at x refl c.requires.within c.index_mut.ensures.value))
 
 pub returns : goal.returns
 returns c =

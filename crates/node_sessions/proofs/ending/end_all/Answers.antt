@@ -16,7 +16,7 @@ pub end-requires-clause-fills : goal.end-requires-clause-fills
 end-requires-clause-fills c =
     let ys = c.pop.new.self.items in
     let x = c.in-Some.session in
-    fills_had c.loop-session.table x.doing ((subst (OwnAll c.loop-session.table) c.in-Some.ensures.items c.loop-session.invariant.own).fills (length ys) x (last_at ys x))
+    fills_had c.loop-session.table x.state.doing ((subst (OwnAll c.loop-session.table) c.in-Some.ensures.items c.loop-session.invariant.own).fills (length ys) x (last_at ys x))
 
 pub loop-session-preserved : goal.loop-session-preserved
 loop-session-preserved c =

@@ -14,7 +14,7 @@ pub act-requires-clause-fills : goal.act-requires-clause-fills
 act-requires-clause-fills g c =
     let xs = c.args.sessions.now.items in
     let x = c.index_mut-session.result.now in
-    fills_had c.args.table.now x.doing (c.requires.owns.fills c.args.first.at x (slice_get_read xs (length xs) c.args.first.at x refl c.requires.first.within c.index_mut-session.ensures.value))
+    fills_had c.args.table.now x.state.doing (c.requires.owns.fills c.args.first.at x (slice_get_read xs (length xs) c.args.first.at x refl c.requires.first.within c.index_mut-session.ensures.value))
 
 pub act-requires-clause-there : goal.act-requires-clause-there
 act-requires-clause-there g c =

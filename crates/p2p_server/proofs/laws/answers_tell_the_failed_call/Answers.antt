@@ -1,5 +1,5 @@
 -- By the frame.
-use Rattle.p2p_server.proofs.AnswerCalls.{frame_told}
+use Rattle.session_state.proofs.AnswerCalls.{frame_told}
 use Rattle.p2p_server.proofs.laws.answers_tell_the_failed_call.Goals as goal
 
 pub returns : goal.returns

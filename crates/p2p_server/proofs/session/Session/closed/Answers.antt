@@ -1,9 +1,9 @@
 -- The session is as new, and the table is what was let go of.
 use Rattle.std.proofs.Common.{sym, subst}
-use Rattle.p2p_server.specs.declared.session.Session.{Session}
+use Rattle.session_state.specs.declared.state.SessionState.{SessionState}
 use Rattle.content_lock.specs.Tokens.{Owns}
-use Rattle.p2p_server.specs.Answers.{owner_at}
-use Rattle.p2p_server.specs.Talking.{share_in}
+use Rattle.session_state.specs.Answers.{owner_at}
+use Rattle.session_state.specs.Talking.{share_in}
 use Rattle.p2p_server.proofs.Numbers.{closed_numbers}
 use Rattle.p2p_server.proofs.session.Session.closed.Goals as goal
 
@@ -17,7 +17,7 @@ pub returns-clause-filled : goal.returns-clause-filled
 returns-clause-filled c = c.reset.ensures.table.filled
 
 pub returns-clause-owns : goal.returns-clause-owns
-returns-clause-owns c = subst (λ (s : Session). Owns (owner_at s.place) (share_in s.doing) c.reset.new.table.holds) (sym c.reset.ensures.session) c.reset.ensures.table.owns
+returns-clause-owns c = subst (λ (s : SessionState). Owns (owner_at s.place) (share_in s.doing) c.reset.new.table.holds) (sym c.reset.ensures.session) c.reset.ensures.table.owns
 
 pub returns-clause-others : goal.returns-clause-others
 returns-clause-others c = c.reset.ensures.table.others

@@ -2,7 +2,7 @@
 use Rattle.std.proofs.Common.{sym, ap, ◌∙◌}
 use Rattle.node_model.specs.Sessions as sessions
 use Rattle.node_model.specs.SessionStep.{gives_next, here}
-use Rattle.p2p_server.specs.Talking.{doing_of}
+use Rattle.session_state.specs.Talking.{doing_of}
 use Rattle.p2p_server.proofs.session.Session.more.Goals as goal
 
 pub returns-clause-step : goal.returns-clause-step

@@ -1,8 +1,8 @@
 -- What the one value of an answer tells.
 use Rattle.std.proofs.Common.{refl}
 use Rattle.p2p_server.proofs.Numbers.{guards_so}
-use Rattle.p2p_server.proofs.Taking.{after_told, bars_told, cause_told, contents_as_before, fed_told, filled_told, judged_told, kind_told, next_told, numbers_told, parts_as_before, parts_told, records_as_before, remains, reply_told, rows_told, session_as_before, step_told}
-use Rattle.p2p_server.proofs.Making.{calls_told, failing_as_before, left_told}
+use Rattle.p2p_server.proofs.Following.{after_told, bars_told, cause_told, contents_as_before, fed_told, filled_told, judged_told, kind_told, next_told, numbers_told, parts_as_before, parts_told, records_as_before, remains, reply_told, rows_told, session_as_before, step_told}
+use Rattle.session_state.proofs.Making.{calls_told, failing_as_before, left_told}
 use Rattle.p2p_server.proofs.session.Session.take.Goals as goal
 
 pub hear-requires-clause-at : goal.hear-requires-clause-at
@@ -51,7 +51,7 @@ pub returns-clause-place : goal.returns-clause-place
 returns-clause-place g c = (remains _ _ _ _ c.hear.result c.hear.ensures.goes (record { here = refl; owns = c.requires.owns; fills = c.requires.fills }) c.requires.agrees).place
 
 pub returns-clause-guards : goal.returns-clause-guards
-returns-clause-guards g c = guards_so c.hear.new.self.doing
+returns-clause-guards g c = guards_so c.hear.new.session.doing
 
 pub returns-clause-owns : goal.returns-clause-owns
 returns-clause-owns g c = (remains _ _ _ _ c.hear.result c.hear.ensures.goes (record { here = refl; owns = c.requires.owns; fills = c.requires.fills }) c.requires.agrees).owns

@@ -1,8 +1,0 @@
--- Which calls were made.
-use Rattle.std.proofs.Common.{false}
-use Rattle.annex_base.specs.declared.kinds.Call.TheVariants as calls
-use Rattle.p2p_server.proofs.Calling.{makes_one}
-use Rattle.p2p_server.proofs.transfer.discard.Goals as goal
-
-pub returns-in-Ok-clause-calls : goal.returns-in-Ok-clause-calls
-returns-in-Ok-clause-calls g c = rw c.says.ensures (makes_one calls.DropPart false _ _ c.in-Ok.ensures.failing)
