@@ -2,7 +2,7 @@
 use Rattle.std.specs.Prelude.{◌≡◌, Bool, List, Some}
 use Rattle.run_data.specs.declared.run.Run.{Run}
 use Rattle.run_model.specs.Run.{IsRun}
-use Rattle.script_lang.specs.declared.command.Command.{Command}
+use Rattle.script_commands.specs.declared.command.Command.{Command}
 use Rattle.driver_model.specs.Limits.{limited_run}
 use Rattle.driver_model.specs.Lines.{Line}
 use Rattle.driver_script.specs.Inputs.{driver_input_of}

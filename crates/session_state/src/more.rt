@@ -7,7 +7,7 @@ pub const PIECE: usize = 32_768;
 
 /// What is sent next of a content: a piece, or at the end whether the bytes were good. The connection is closed where the
 /// content is gone, and where a call of the store failed.
-#[derive(Debug, Drop)]
+#[derive(Drop)]
 pub enum More {
     Piece(Vec<u8>),
     Last(Message),

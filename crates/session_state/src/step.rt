@@ -9,7 +9,7 @@ use p2p_wire::Message;
 use run_data::EntryKind;
 
 /// What a session does: an entry, what it answers, and whether it closes the connection.
-#[derive(Debug, Drop)]
+#[derive(Drop)]
 pub struct Step {
     pub kind: EntryKind,
     pub reply: Option<Message>,
