@@ -1,7 +1,9 @@
-//! A case is one store that has nothing at first, and the calls that are made of it.
+//! A case is one store that is empty at first, with the lock table beside it, and the calls that are made of the two.
 
+use crate::rows::call_table;
 use crate::store::call_store;
 use crate::words::words_of;
+use content_lock::LockTable;
 use object_store::{FailingKeeper, KeeperFault, MemoryKeeper};
 use std::alloc::Global;
 use table_cases::{Case, Subject, TableFault};
@@ -15,12 +17,17 @@ pub struct StoreCases;
 /// Makes the call, and adds what it answers: `ok` where that is nothing, and `failed` where it failed.
 fn call<K: FailingKeeper>(
     alloc: Global,
+    table: &mut LockTable,
     keeper: &mut K,
     words: &[&[u8]],
     out: &mut String,
 ) -> Result<(), TableFault> {
     let before = out.len();
-    match call_store(alloc, keeper, words, out) {
+    let is_named = match call_store(alloc, keeper, words, out) {
+        Ok(false) => call_table(alloc, table, keeper, words, out),
+        answer => answer,
+    };
+    match is_named {
         Ok(true) => {
             if out.len() == before {
                 out.push_str("ok")?;
@@ -39,6 +46,7 @@ fn call<K: FailingKeeper>(
 impl Subject for StoreCases {
     fn answer(&self, alloc: Global, case: &Case, out: &mut String) -> Result<(), TableFault> {
         let mut keeper = MemoryKeeper::new(alloc)?;
+        let mut table = LockTable::new(alloc)?;
         for place in 0..MOST {
             let text = case.text(place);
             if text.is_empty() {
@@ -48,7 +56,7 @@ impl Subject for StoreCases {
                 out.push(' ')?;
             }
             let words = words_of(alloc, text)?;
-            call(alloc, &mut keeper, &words, out)?;
+            call(alloc, &mut table, &mut keeper, &words, out)?;
         }
         Ok(())
     }

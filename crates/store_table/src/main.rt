@@ -1,7 +1,8 @@
-//! Asks stores in memory what a table from standard input says, and prints each case that differs.
+//! Asks a store and the lock table beside it what a table from standard input says, and prints each case that differs.
 #![tactic(auto)]
 
 mod cases;
+mod rows;
 mod store;
 mod words;
 

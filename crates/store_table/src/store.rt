@@ -1,7 +1,7 @@
 //! Calls of a store.
 
 use crate::words::{number, word};
-use annex_base::NoMemory;
+use annex_base::{Call, NoMemory};
 use annex_key::Key;
 use object_store::{FailingKeeper, HoldRecord, Keeper, KeeperFault};
 use script_words::read_call;
@@ -84,53 +84,28 @@ fn put_size(out: &mut String, size: Option<u64>) -> Result<(), KeeperFault> {
     Ok(())
 }
 
-/// Makes a call that reads a content or a part. Whether the words name one.
-fn look<K: Keeper>(
-    alloc: Global,
+/// Reads four bytes of a content from this place on.
+fn read<K: Keeper>(
     keeper: &mut K,
     key: &Key,
-    words: &[&[u8]],
+    at: u64,
     out: &mut String,
-) -> Result<bool, KeeperFault> {
-    let at = number(words, 2);
+) -> Result<(), KeeperFault> {
     let mut room = *b"....";
-    match word(words, 0) {
-        b"has" => out.push_str(if keeper.has(key)? { "yes" } else { "no" })?,
-        b"size" => put_size(out, keeper.size(key)?)?,
-        b"partsize" => put_size(out, Some(keeper.part_size(key)?))?,
-        b"same" => put_size(out, Some(read_filling(alloc, keeper, key, at as usize)?))?,
-        b"read" => {
-            let count = keeper.read_piece(key, at, &mut room)?;
-            put_room(out, count, &room)?;
-        }
-        b"readpart" => {
-            let count = keeper.read_part(key, at, &mut room)?;
-            put_room(out, count, &room)?;
-        }
-        _ => return Ok(false),
-    }
-    Ok(true)
+    let count = keeper.read_piece(key, at, &mut room)?;
+    put_room(out, count, &room)
 }
 
-/// Makes a call that changes a content or a part. Whether the words name one.
-fn change<K: Keeper>(
-    alloc: Global,
+/// The same of a part.
+fn read_part<K: Keeper>(
     keeper: &mut K,
     key: &Key,
-    words: &[&[u8]],
-) -> Result<bool, KeeperFault> {
-    match word(words, 0) {
-        b"append" => keeper.append_part(key, word(words, 2))?,
-        b"fill" => {
-            let bytes = filling(alloc, number(words, 2))?;
-            append(keeper, key, &bytes, number(words, 3) as usize)?;
-        }
-        b"commit" => keeper.commit(key)?,
-        b"droppart" => keeper.drop_part(key)?,
-        b"remove" => keeper.remove(key)?,
-        _ => return Ok(false),
-    }
-    Ok(true)
+    at: u64,
+    out: &mut String,
+) -> Result<(), KeeperFault> {
+    let mut room = *b"....";
+    let count = keeper.read_part(key, at, &mut room)?;
+    put_room(out, count, &room)
 }
 
 fn put_holds<K: Keeper>(keeper: &mut K, out: &mut String) -> Result<(), KeeperFault> {
@@ -172,27 +147,83 @@ fn keep_hold<K: Keeper>(
     Ok(true)
 }
 
-/// Makes a call that speaks of no key, or of a hold. Whether the words name one.
-fn call_other<K: FailingKeeper>(
+/// Makes a call that speaks of a key. Whether it is one.
+fn call_of_key<K: Keeper>(
+    keeper: &mut K,
+    call: Call,
+    key: &Key,
+    words: &[&[u8]],
+    out: &mut String,
+) -> Result<bool, KeeperFault> {
+    match call {
+        Call::Has => out.push_str(if keeper.has(key)? { "yes" } else { "no" })?,
+        Call::Size => put_size(out, keeper.size(key)?)?,
+        Call::PartSize => put_size(out, Some(keeper.part_size(key)?))?,
+        Call::Read => read(keeper, key, number(words, 2), out)?,
+        Call::ReadPart => read_part(keeper, key, number(words, 2), out)?,
+        Call::Append => keeper.append_part(key, word(words, 2))?,
+        Call::Commit => keeper.commit(key)?,
+        Call::DropPart => keeper.drop_part(key)?,
+        Call::Remove => keeper.remove(key)?,
+        Call::Hold | Call::Unhold | Call::Holds | Call::PutFile | Call::File => return Ok(false),
+    }
+    Ok(true)
+}
+
+/// Makes the call. Whether the words behind its own are right.
+fn call_named<K: Keeper>(
+    alloc: Global,
+    keeper: &mut K,
+    call: Call,
+    words: &[&[u8]],
+    out: &mut String,
+) -> Result<bool, KeeperFault> {
+    match call {
+        Call::Hold => return keep_hold(alloc, keeper, words),
+        Call::Unhold => keeper.remove_hold(number(words, 1))?,
+        Call::Holds => put_holds(keeper, out)?,
+        Call::PutFile => keeper.put_file(word(words, 1), word(words, 2))?,
+        Call::File => put_file(keeper, word(words, 1), out)?,
+        _ => match Key::parse(alloc, word(words, 1)) {
+            Ok(key) => return call_of_key(keeper, call, &key, words, out),
+            Err(_) => return Ok(false),
+        },
+    }
+    Ok(true)
+}
+
+/// Fills a part, or reads a filling. Whether the words say so.
+fn call_many<K: Keeper>(
     alloc: Global,
     keeper: &mut K,
     words: &[&[u8]],
     out: &mut String,
 ) -> Result<bool, KeeperFault> {
-    let name = word(words, 1);
-    match word(words, 0) {
-        b"hold" => return keep_hold(alloc, keeper, words),
-        b"unhold" => keeper.remove_hold(number(words, 1))?,
-        b"holds" => put_holds(keeper, out)?,
-        b"putfile" => keeper.put_file(name, word(words, 2))?,
-        b"file" => put_file(keeper, name, out)?,
-        b"fail" => match read_call(name) {
-            Some(call) => keeper.fail_next(call)?,
-            None => return Ok(false),
-        },
-        _ => return Ok(false),
+    let Ok(key) = Key::parse(alloc, word(words, 1)) else {
+        return Ok(false);
+    };
+    if word(words, 0) == b"fill".as_slice() {
+        let bytes = filling(alloc, number(words, 2))?;
+        append(keeper, &key, &bytes, number(words, 3) as usize)?;
+        return Ok(true);
     }
-    Ok(true)
+    if word(words, 0) == b"same".as_slice() {
+        let count = read_filling(alloc, keeper, &key, number(words, 2) as usize)?;
+        put_size(out, Some(count))?;
+        return Ok(true);
+    }
+    Ok(false)
+}
+
+/// Lets the next call that the words name fail. Whether they name one.
+fn fail<K: FailingKeeper>(keeper: &mut K, words: &[&[u8]]) -> Result<bool, KeeperFault> {
+    match read_call(word(words, 1)) {
+        Some(call) => {
+            keeper.fail_next(call)?;
+            Ok(true)
+        }
+        None => Ok(false),
+    }
 }
 
 /// Makes the call of a store that the words name, and adds what it answers, if anything. Whether they name one.
@@ -202,14 +233,9 @@ pub fn call_store<K: FailingKeeper>(
     words: &[&[u8]],
     out: &mut String,
 ) -> Result<bool, KeeperFault> {
-    if call_other(alloc, keeper, words, out)? {
-        return Ok(true);
+    match read_call(word(words, 0)) {
+        Some(call) => call_named(alloc, keeper, call, words, out),
+        None if word(words, 0) == b"fail".as_slice() => fail(keeper, words),
+        None => call_many(alloc, keeper, words, out),
     }
-    let Ok(key) = Key::parse(alloc, word(words, 1)) else {
-        return Ok(false);
-    };
-    if look(alloc, keeper, &key, words, out)? {
-        return Ok(true);
-    }
-    change(alloc, keeper, &key, words)
 }
