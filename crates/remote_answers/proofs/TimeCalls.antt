@@ -25,6 +25,7 @@ use Rattle.drop_phases.specs.SlotCalls.{answer_calls, end_calls, message_calls, 
 use Rattle.drop_phases.specs.Worker.{Worker}
 use Rattle.drop_phases.specs.Working.{Rest, failed_in, phase_as, sight, turn_in}
 use Rattle.drop_phases.proofs.Callings.{makes_as}
+use Rattle.drop_phases.proofs.FrameCalls.{message_makes, quiet_makes}
 use Rattle.remote_requests.proofs.RemoteVerdicts.{end_is}
 use Rattle.p2p_wire.specs.declared.message.Message.TheVariants as messages
 
