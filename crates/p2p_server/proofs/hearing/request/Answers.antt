@@ -19,7 +19,7 @@ returns-in-Error-clause-goes g c = rw c.in-Error.is (c.give_up.ensures.goes c.ar
 
 pub returns-in-Version-clause-goes : goal.returns-in-Version-clause-goes
 returns-in-Version-clause-goes g c = rw c.in-Version.is (
-    version_so c.args.scene _ c.args.session.now c.agree.new.self c.args.table.now _ _ _ _ _ c.requires.waits c.requires.at c.requires.agrees c.agree.ensures.says c.agree.ensures.session (c.agree.ensures.fits _))
+    version_so c.args.scene _ c.args.session.now c.agree.new.session c.args.table.now _ _ _ _ _ c.requires.waits c.requires.at c.requires.agrees c.agree.ensures.says c.agree.ensures.session (c.agree.ensures.fits _))
 
 pub returns-in_ok-key-in-CheckPresent-clause-goes : goal.returns-in_ok-key-in-CheckPresent-clause-goes
 returns-in_ok-key-in-CheckPresent-clause-goes g c =
