@@ -51,8 +51,9 @@ pub fn merged(alloc: Global, case: &Case, out: &mut String) -> Result<(), TableF
 pub fn replaced(alloc: Global, case: &Case, out: &mut String) -> Result<(), TableFault> {
     let mut branch = branch_of(alloc, case.text(0))?;
     let lines = LineSet::from_bytes(alloc, case.text(2))?;
-    if is_line(case.text(1)) {
-        branch.replace_file(case.text(1), lines)?;
+    let path = case.text(1);
+    if is_line(path) {
+        branch.replace_file(path, lines)?;
     }
     put_branch(out, alloc, &branch)
 }
