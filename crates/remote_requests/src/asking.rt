@@ -99,6 +99,7 @@ pub fn order<H: Here>(
     reads_all(worker.key());
     let key = worker.key().copy()?;
     let said = order_message(worker.key().copy()?, deadline);
+    let sends = saying(alloc, target, said)?;
     let kind = EntryKind::Order {
         job: worker.number(),
         target,
@@ -106,9 +107,12 @@ pub fn order<H: Here>(
         need: here.need(),
         key,
     };
-    let out = saying(alloc, kind, target, said)?;
     worker.go_to(Phase::Orders);
-    Ok(out)
+    Ok(Output {
+        kind,
+        sends,
+        ended: false,
+    })
 }
 
 fn order_message(key: Key, deadline: Option<u64>) -> Message
@@ -120,10 +124,10 @@ fn order_message(key: Key, deadline: Option<u64>) -> Message
     }
 }
 
-/// A peer is told a message, with this entry.
-fn saying(alloc: Global, kind: EntryKind, peer: u32, said: Message) -> Result<Output, NoMemory>
+/// A peer is told a message.
+fn saying(alloc: Global, peer: u32, said: Message) -> Result<Sends, NoMemory>
     requires { IsLine said }
-    ensures { IfOk result (λ out. (out.kind ≡ kind) × (out.sends.items ≡ record { peer = peer; body = ParcelBody.Message said } ∷ []) × (out.ended ≡ false)) }
+    ensures { IfOk result (λ sends. sends.items ≡ record { peer = peer; body = ParcelBody.Message said } ∷ []) }
 {
     let said = Said::new(alloc, said)?;
     let mut sends = Sends::new(alloc);
@@ -131,11 +135,7 @@ fn saying(alloc: Global, kind: EntryKind, peer: u32, said: Message) -> Result<Ou
         peer,
         body: ParcelBody::Message(said),
     })?;
-    Ok(Output {
-        kind,
-        sends,
-        ended: false,
-    })
+    Ok(sends)
 }
 
 /// That what a remote drop says are lines of the protocol: it is called for proofs alone, and does nothing (own).
