@@ -202,7 +202,7 @@ replies law links clock number i frame was now rows rows' contents contents' par
   filled = t.filled;
   contents = t.contents_are ∙ ap (contents_after contents parts) (sym y.kind);
   left_parts = left;
-  parts = subst (λ (o : Option Parts). LeavesParts (session_of was).doing parts o) (sym t.parts_are) (parts_stay was.doing i x.kind parts);
+  parts = subst (λ (o : Option Parts). LeavesParts (session_of was).doing parts o) (sym t.parts_are) (parts_stay was.state.doing i x.kind parts);
   fed = t.fed;
   judged = subst (IsJudgedOf was) (sym y.kind) t.judged;
   owns = t.owns;
