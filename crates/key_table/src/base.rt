@@ -9,7 +9,7 @@ use std::alloc::Global;
 use table_cases::{Case, TableFault, put_bytes};
 
 /// `uuid TEXT`: the identifier as it is written.
-pub fn uuid(alloc: Global, case: &Case, out: &mut String) -> Result<(), TableFault> {
+fn uuid(alloc: Global, case: &Case, out: &mut String) -> Result<(), TableFault> {
     match RepoId::parse(case.text(0)) {
         Ok(id) => put_bytes(out, alloc, &id.print()),
         Err(NotUuid) => Ok(out.push_str("none")?),
@@ -17,7 +17,7 @@ pub fn uuid(alloc: Global, case: &Case, out: &mut String) -> Result<(), TableFau
 }
 
 /// `number TEXT`: the number as it is written.
-pub fn number(alloc: Global, case: &Case, out: &mut String) -> Result<(), TableFault> {
+fn number(alloc: Global, case: &Case, out: &mut String) -> Result<(), TableFault> {
     let Some(number) = parse_decimal(case.text(0)) else {
         return Ok(out.push_str("none")?);
     };
@@ -27,7 +27,7 @@ pub fn number(alloc: Global, case: &Case, out: &mut String) -> Result<(), TableF
 }
 
 /// `stamp TEXT`: the nanoseconds of the stamp.
-pub fn stamp(case: &Case, out: &mut String) -> Result<(), TableFault> {
+fn stamp(case: &Case, out: &mut String) -> Result<(), TableFault> {
     match Stamp::parse(case.text(0)) {
         Ok(stamp) => Ok(write!(out, "{}", stamp.nanos)?),
         Err(_) => Ok(out.push_str("none")?),
@@ -35,7 +35,7 @@ pub fn stamp(case: &Case, out: &mut String) -> Result<(), TableFault> {
 }
 
 /// `stamp-text TEXT`: the stamp as it is written.
-pub fn stamp_text(alloc: Global, case: &Case, out: &mut String) -> Result<(), TableFault> {
+fn stamp_text(alloc: Global, case: &Case, out: &mut String) -> Result<(), TableFault> {
     let Ok(stamp) = Stamp::parse(case.text(0)) else {
         return Err(TableFault::Wrong);
     };
@@ -103,7 +103,7 @@ fn piece_of(case: &Case) -> Result<usize, TableFault>
 }
 
 /// `source CALLS | PIECE | FAILING .. | TEXT`: what each call gives.
-pub fn source(alloc: Global, case: &Case, out: &mut String) -> Result<(), TableFault> {
+fn source(alloc: Global, case: &Case, out: &mut String) -> Result<(), TableFault> {
     let piece = piece_of(case)?;
     let failing = numbers(alloc, case.text(2))?;
     let bytes = Vec::from_slice(alloc, case.text(3))?;
@@ -112,7 +112,7 @@ pub fn source(alloc: Global, case: &Case, out: &mut String) -> Result<(), TableF
 }
 
 /// `sink CALLS | PIECE | FAILING .. | TEXT`: how much each call takes, and what was taken.
-pub fn sink(alloc: Global, case: &Case, out: &mut String) -> Result<(), TableFault> {
+fn sink(alloc: Global, case: &Case, out: &mut String) -> Result<(), TableFault> {
     let piece = piece_of(case)?;
     let failing = numbers(alloc, case.text(2))?;
     let mut sink = VecSink::new(alloc, piece, failing);
@@ -121,9 +121,24 @@ pub fn sink(alloc: Global, case: &Case, out: &mut String) -> Result<(), TableFau
 }
 
 /// `standard CALLS | TEXT`: the same of a reader and of a writer of std.
-pub fn standard(alloc: Global, case: &Case, out: &mut String) -> Result<(), TableFault> {
+fn standard(alloc: Global, case: &Case, out: &mut String) -> Result<(), TableFault> {
     let calls = case.number(0)?;
     put_reads(out, alloc, &mut StdSource::new(case.text(1)), calls)?;
     let mut sink = StdSink::new(Vec::new(alloc));
     put_writes(out, &mut sink, case.text(1), calls)
+}
+
+/// Answers the case, if its question is of this module.
+pub fn answer(alloc: Global, case: &Case, out: &mut String) -> Result<bool, TableFault> {
+    match case.question() {
+        b"uuid" => uuid(alloc, case, out)?,
+        b"number" => number(alloc, case, out)?,
+        b"stamp" => stamp(case, out)?,
+        b"stamp-text" => stamp_text(alloc, case, out)?,
+        b"source" => source(alloc, case, out)?,
+        b"sink" => sink(alloc, case, out)?,
+        b"standard" => standard(alloc, case, out)?,
+        _ => return Ok(false),
+    }
+    Ok(true)
 }

@@ -10,7 +10,7 @@ use std::alloc::Global;
 use table_cases::{Case, TableFault, put_bytes};
 
 /// `dirs NAME`: the two hash directories.
-pub fn dirs(alloc: Global, case: &Case, out: &mut String) -> Result<(), TableFault> {
+fn dirs(alloc: Global, case: &Case, out: &mut String) -> Result<(), TableFault> {
     let dirs = dirs_of(case.text(0));
     put_bytes(out, alloc, &dirs.first)?;
     out.push(' ')?;
@@ -18,7 +18,7 @@ pub fn dirs(alloc: Global, case: &Case, out: &mut String) -> Result<(), TableFau
 }
 
 /// `path KEY`: the path of the key's location log.
-pub fn path(alloc: Global, case: &Case, out: &mut String) -> Result<(), TableFault> {
+fn path(alloc: Global, case: &Case, out: &mut String) -> Result<(), TableFault> {
     let key = key_of(alloc, case.text(0))?;
     put_bytes(out, alloc, location_path(alloc, &key)?.bytes())
 }
@@ -36,7 +36,7 @@ fn put_verdict(out: &mut String, alloc: Global, verdict: Verdict) -> Result<(), 
 }
 
 /// `verdict KEY | CONTENT`: whether the content is the key's, or which size or digest it should have and which it has.
-pub fn verdict(alloc: Global, case: &Case, out: &mut String) -> Result<(), TableFault> {
+fn verdict(alloc: Global, case: &Case, out: &mut String) -> Result<(), TableFault> {
     let key = key_of(alloc, case.text(0))?;
     put_verdict(out, alloc, matches(alloc, &key, case.text(1))?)
 }
@@ -67,7 +67,7 @@ fn wrong_cut(alloc: Global, key: &Key, bytes: &[u8]) -> Result<Option<usize>, No
 }
 
 /// `cut KEY | CONTENT`: whether the content is the key's wherever it is cut in two.
-pub fn cut(alloc: Global, case: &Case, out: &mut String) -> Result<(), TableFault> {
+fn cut(alloc: Global, case: &Case, out: &mut String) -> Result<(), TableFault> {
     let key = key_of(alloc, case.text(0))?;
     match wrong_cut(alloc, &key, case.text(1))? {
         None => Ok(out.push_str("right")?),
@@ -76,10 +76,23 @@ pub fn cut(alloc: Global, case: &Case, out: &mut String) -> Result<(), TableFaul
 }
 
 /// `made PATH | CONTENT`: the key that is made.
-pub fn made(alloc: Global, case: &Case, out: &mut String) -> Result<(), TableFault> {
+fn made(alloc: Global, case: &Case, out: &mut String) -> Result<(), TableFault> {
     let Ok(path) = str::from_utf8(case.text(0)) else {
         return Err(TableFault::Wrong);
     };
     let key = make_key(alloc, path, case.text(1))?;
     put_bytes(out, alloc, key.text())
+}
+
+/// Answers the case, if its question is of this module.
+pub fn answer(alloc: Global, case: &Case, out: &mut String) -> Result<bool, TableFault> {
+    match case.question() {
+        b"dirs" => dirs(alloc, case, out)?,
+        b"path" => path(alloc, case, out)?,
+        b"verdict" => verdict(alloc, case, out)?,
+        b"cut" => cut(alloc, case, out)?,
+        b"made" => made(alloc, case, out)?,
+        _ => return Ok(false),
+    }
+    Ok(true)
 }

@@ -50,7 +50,7 @@ fn put_judged(out: &mut String, judged: Judged) -> Result<(), TableFault> {
 
 /// `judged SIDE | N | M | ITEM ..`: whether the items are enough, or how many there are of how many, and how many that
 /// are locked or trusted.
-pub fn judged(alloc: Global, case: &Case, out: &mut String) -> Result<(), TableFault> {
+fn judged(alloc: Global, case: &Case, out: &mut String) -> Result<(), TableFault> {
     let need = need_of(case)?;
     let side = match case.text(0) {
         b"local" => Side::Local,
@@ -65,7 +65,7 @@ pub fn judged(alloc: Global, case: &Case, out: &mut String) -> Result<(), TableF
 }
 
 /// `due END | CLOCK | TIMESTAMP`: the time up to which a peer may drop.
-pub fn due(case: &Case, out: &mut String) -> Result<(), TableFault> {
+fn due(case: &Case, out: &mut String) -> Result<(), TableFault> {
     let end = case.number(0)?;
     let clock = case.number(1)?;
     let timestamp = case.number(2)?;
@@ -77,4 +77,14 @@ pub fn due(case: &Case, out: &mut String) -> Result<(), TableFault> {
         Ok(time) => Ok(write!(out, "{time}")?),
         Err(Expired { end, clock }) => Ok(write!(out, "ended at {end}, is {clock}")?),
     }
+}
+
+/// Answers the case, if its question is of this module.
+pub fn answer(alloc: Global, case: &Case, out: &mut String) -> Result<bool, TableFault> {
+    match case.question() {
+        b"judged" => judged(alloc, case, out)?,
+        b"due" => due(case, out)?,
+        _ => return Ok(false),
+    }
+    Ok(true)
 }

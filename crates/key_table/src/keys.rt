@@ -26,12 +26,12 @@ fn put_found(
 }
 
 /// `key TEXT`: the key's text, or the first fault.
-pub fn key(alloc: Global, case: &Case, out: &mut String) -> Result<(), TableFault> {
+fn key(alloc: Global, case: &Case, out: &mut String) -> Result<(), TableFault> {
     put_found(out, alloc, Key::parse(alloc, case.text(0)))
 }
 
 /// `file TEXT`: the text of the key of this file name, or the first fault.
-pub fn file(alloc: Global, case: &Case, out: &mut String) -> Result<(), TableFault> {
+fn file(alloc: Global, case: &Case, out: &mut String) -> Result<(), TableFault> {
     put_found(out, alloc, Key::from_file(alloc, case.text(0)))
 }
 
@@ -43,7 +43,7 @@ fn put_size(out: &mut String, size: Option<u64>) -> Result<(), TableFault> {
 }
 
 /// `parts KEY`: the backend, the size or `-`, and the file name.
-pub fn parts(alloc: Global, case: &Case, out: &mut String) -> Result<(), TableFault> {
+fn parts(alloc: Global, case: &Case, out: &mut String) -> Result<(), TableFault> {
     let key = key_of(alloc, case.text(0))?;
     put_bytes(out, alloc, key.backend())?;
     put_size(out, key.size())?;
@@ -52,17 +52,17 @@ pub fn parts(alloc: Global, case: &Case, out: &mut String) -> Result<(), TableFa
 }
 
 /// `name KEY`: the name.
-pub fn name(alloc: Global, case: &Case, out: &mut String) -> Result<(), TableFault> {
+fn name(alloc: Global, case: &Case, out: &mut String) -> Result<(), TableFault> {
     put_bytes(out, alloc, key_of(alloc, case.text(0))?.name())
 }
 
 /// `digests KEY`: whether the names of the backend are digests.
-pub fn digests(alloc: Global, case: &Case, out: &mut String) -> Result<(), TableFault> {
+fn digests(alloc: Global, case: &Case, out: &mut String) -> Result<(), TableFault> {
     put_truth(out, key_of(alloc, case.text(0))?.is_digest_backend())
 }
 
 /// `unchunked KEY`: the key without its chunk, and its size or `-`.
-pub fn unchunked(alloc: Global, case: &Case, out: &mut String) -> Result<(), TableFault> {
+fn unchunked(alloc: Global, case: &Case, out: &mut String) -> Result<(), TableFault> {
     let key = key_of(alloc, case.text(0))?.unchunked(alloc)?;
     put_bytes(out, alloc, key.text())?;
     put_size(out, key.size())
@@ -100,7 +100,7 @@ fn put_paths(out: &mut String, alloc: Global, tree: &Tree, key: &Key) -> Result<
 }
 
 /// `tree PATH KEY | PATH KEY ..`: each key of the tree and its paths.
-pub fn tree(alloc: Global, case: &Case, out: &mut String) -> Result<(), TableFault> {
+fn tree(alloc: Global, case: &Case, out: &mut String) -> Result<(), TableFault> {
     let tree = tree_of(alloc, case.texts())?;
     for key in &tree.keys(alloc)? {
         put_paths(out, alloc, &tree, key)?;
@@ -109,10 +109,26 @@ pub fn tree(alloc: Global, case: &Case, out: &mut String) -> Result<(), TableFau
 }
 
 /// `tree-key PATH | PATH KEY ..`: the key of the first path.
-pub fn tree_key(alloc: Global, case: &Case, out: &mut String) -> Result<(), TableFault> {
+fn tree_key(alloc: Global, case: &Case, out: &mut String) -> Result<(), TableFault> {
     let tree = tree_of(alloc, case.texts())?;
     match tree.key(case.text(0)) {
         Some(key) => put_bytes(out, alloc, key.text()),
         None => Ok(out.push_str("none")?),
     }
+}
+
+/// Answers the case, if its question is of this module.
+pub fn answer(alloc: Global, case: &Case, out: &mut String) -> Result<bool, TableFault> {
+    match case.question() {
+        b"key" => key(alloc, case, out)?,
+        b"file" => file(alloc, case, out)?,
+        b"parts" => parts(alloc, case, out)?,
+        b"name" => name(alloc, case, out)?,
+        b"digests" => digests(alloc, case, out)?,
+        b"unchunked" => unchunked(alloc, case, out)?,
+        b"tree" => tree(alloc, case, out)?,
+        b"tree-key" => tree_key(alloc, case, out)?,
+        _ => return Ok(false),
+    }
+    Ok(true)
 }

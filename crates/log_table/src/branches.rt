@@ -23,7 +23,7 @@ fn branch_of(alloc: Global, text: &[u8]) -> Result<Branch, TableFault> {
 }
 
 /// `bundled TEXT`: the bundle of the branch whose bundle the text is, or where it goes wrong.
-pub fn bundled(alloc: Global, case: &Case, out: &mut String) -> Result<(), TableFault> {
+fn bundled(alloc: Global, case: &Case, out: &mut String) -> Result<(), TableFault> {
     match read_bundle(alloc, case.text(0)) {
         Ok(branch) => put_branch(out, alloc, &branch),
         Err(BundleFault::NoMemory) => Err(TableFault::NoMemory),
@@ -41,14 +41,14 @@ fn merge(branch: &mut Branch, other: &Branch) -> Result<(), NoMemory> {
 }
 
 /// `merged BUNDLE | BUNDLE`: the bundle of both branches.
-pub fn merged(alloc: Global, case: &Case, out: &mut String) -> Result<(), TableFault> {
+fn merged(alloc: Global, case: &Case, out: &mut String) -> Result<(), TableFault> {
     let mut branch = branch_of(alloc, case.text(0))?;
     merge(&mut branch, &branch_of(alloc, case.text(1))?)?;
     put_branch(out, alloc, &branch)
 }
 
 /// `replaced BUNDLE | PATH | LINES`: the bundle in which the file has these lines.
-pub fn replaced(alloc: Global, case: &Case, out: &mut String) -> Result<(), TableFault> {
+fn replaced(alloc: Global, case: &Case, out: &mut String) -> Result<(), TableFault> {
     let mut branch = branch_of(alloc, case.text(0))?;
     let lines = LineSet::from_bytes(alloc, case.text(2))?;
     let path = case.text(1);
@@ -75,7 +75,7 @@ fn take_off(branch: &mut Branch, path: &[u8], lines: &LineSet) -> Result<(), NoM
 }
 
 /// `taken-off BUNDLE | PATH | LINES`: the bundle in which the file got these lines, and they were taken off again.
-pub fn taken_off(alloc: Global, case: &Case, out: &mut String) -> Result<(), TableFault> {
+fn taken_off(alloc: Global, case: &Case, out: &mut String) -> Result<(), TableFault> {
     let mut branch = branch_of(alloc, case.text(0))?;
     let lines = LineSet::from_bytes(alloc, case.text(2))?;
     take_off(&mut branch, case.text(1), &lines)?;
@@ -101,7 +101,7 @@ fn change_and_put_back(branch: &mut Branch, path: &[u8], lines: &LineSet) -> Res
 }
 
 /// `put-back BUNDLE | PATH | LINES`: the bundle in which the file got these lines, and then what it had before.
-pub fn put_back(alloc: Global, case: &Case, out: &mut String) -> Result<(), TableFault> {
+fn put_back(alloc: Global, case: &Case, out: &mut String) -> Result<(), TableFault> {
     let mut branch = branch_of(alloc, case.text(0))?;
     let lines = LineSet::from_bytes(alloc, case.text(2))?;
     change_and_put_back(&mut branch, case.text(1), &lines)?;
@@ -109,10 +109,24 @@ pub fn put_back(alloc: Global, case: &Case, out: &mut String) -> Result<(), Tabl
 }
 
 /// `file PATH`: the key of the location log at the path, the name of another log file, or none.
-pub fn file(alloc: Global, case: &Case, out: &mut String) -> Result<(), TableFault> {
+fn file(alloc: Global, case: &Case, out: &mut String) -> Result<(), TableFault> {
     match LogFile::of_path(alloc, case.text(0))? {
         LogFile::Location(key) => put_bytes(out, alloc, key.text()),
         LogFile::Of(kind) => put_bytes(out, alloc, kind.file_name()),
         LogFile::Other(_) => Ok(out.push_str("none")?),
     }
+}
+
+/// Answers the case, if its question is of this module.
+pub fn answer(alloc: Global, case: &Case, out: &mut String) -> Result<bool, TableFault> {
+    match case.question() {
+        b"bundled" => bundled(alloc, case, out)?,
+        b"merged" => merged(alloc, case, out)?,
+        b"replaced" => replaced(alloc, case, out)?,
+        b"taken-off" => taken_off(alloc, case, out)?,
+        b"put-back" => put_back(alloc, case, out)?,
+        b"file" => file(alloc, case, out)?,
+        _ => return Ok(false),
+    }
+    Ok(true)
 }

@@ -14,7 +14,7 @@ pub fn kind_of(word: &[u8]) -> Result<LogKind, TableFault> {
 }
 
 /// `named NAME`: the name of the log file of this name, or none.
-pub fn named(alloc: Global, case: &Case, out: &mut String) -> Result<(), TableFault> {
+fn named(alloc: Global, case: &Case, out: &mut String) -> Result<(), TableFault> {
     match LogKind::named(case.text(0)) {
         Some(kind) => put_bytes(out, alloc, kind.file_name()),
         None => Ok(out.push_str("none")?),
@@ -77,7 +77,7 @@ pub fn put_entry(out: &mut String, alloc: Global, entry: &Entry) -> Result<(), T
 }
 
 /// `read KIND | LINE`: the stamp or `-`, the topic and the value of the line's entry, or none.
-pub fn read(alloc: Global, case: &Case, out: &mut String) -> Result<(), TableFault> {
+fn read(alloc: Global, case: &Case, out: &mut String) -> Result<(), TableFault> {
     match read_line(alloc, kind_of(case.text(0))?, case.text(1))? {
         Some(entry) => put_entry(out, alloc, &entry),
         None => Ok(out.push_str("none")?),
@@ -100,7 +100,7 @@ fn put_line(
 }
 
 /// `written KIND | LINE`: the line that is written of the line's entry.
-pub fn written(alloc: Global, case: &Case, out: &mut String) -> Result<(), TableFault> {
+fn written(alloc: Global, case: &Case, out: &mut String) -> Result<(), TableFault> {
     let kind = kind_of(case.text(0))?;
     match read_line(alloc, kind, case.text(1))? {
         Some(entry) => put_line(out, alloc, kind, &entry),
@@ -120,4 +120,15 @@ pub fn put_entries(
         out.push('\n')?;
     }
     Ok(())
+}
+
+/// Answers the case, if its question is of this module.
+pub fn answer(alloc: Global, case: &Case, out: &mut String) -> Result<bool, TableFault> {
+    match case.question() {
+        b"named" => named(alloc, case, out)?,
+        b"read" => read(alloc, case, out)?,
+        b"written" => written(alloc, case, out)?,
+        _ => return Ok(false),
+    }
+    Ok(true)
 }

@@ -16,7 +16,7 @@ fn lines_of(alloc: Global, text: &[u8]) -> Result<Vec<Line>, TableFault> {
 }
 
 /// `newest KIND | LINES`: the lines of the newest entries.
-pub fn newest_entries(alloc: Global, case: &Case, out: &mut String) -> Result<(), TableFault> {
+fn newest_entries(alloc: Global, case: &Case, out: &mut String) -> Result<(), TableFault> {
     let kind = kind_of(case.text(0))?;
     let lines = lines_of(alloc, case.text(1))?;
     put_entries(out, alloc, kind, &newest(alloc, kind, &lines)?)
@@ -28,7 +28,7 @@ pub fn repo_of(text: &[u8]) -> Result<RepoId, TableFault> {
 }
 
 /// `newest-of KIND | REPOSITORY | LINES`: the newest entry of the repository, or none.
-pub fn newest_entry(alloc: Global, case: &Case, out: &mut String) -> Result<(), TableFault> {
+fn newest_entry(alloc: Global, case: &Case, out: &mut String) -> Result<(), TableFault> {
     let kind = kind_of(case.text(0))?;
     let topic = Topic::Repo(repo_of(case.text(1))?);
     let lines = lines_of(alloc, case.text(2))?;
@@ -39,7 +39,7 @@ pub fn newest_entry(alloc: Global, case: &Case, out: &mut String) -> Result<(), 
 }
 
 /// `compacted KIND | LINES`: the lines that compaction keeps.
-pub fn compacted(alloc: Global, case: &Case, out: &mut String) -> Result<(), TableFault> {
+fn compacted(alloc: Global, case: &Case, out: &mut String) -> Result<(), TableFault> {
     let kind = kind_of(case.text(0))?;
     let lines = lines_of(alloc, case.text(1))?;
     for line in &compact(alloc, kind, lines)? {
@@ -50,17 +50,30 @@ pub fn compacted(alloc: Global, case: &Case, out: &mut String) -> Result<(), Tab
 }
 
 /// `outdated KIND | LINES`: whether compaction leaves out a line.
-pub fn outdated(alloc: Global, case: &Case, out: &mut String) -> Result<(), TableFault> {
+fn outdated(alloc: Global, case: &Case, out: &mut String) -> Result<(), TableFault> {
     let kind = kind_of(case.text(0))?;
     let lines = lines_of(alloc, case.text(1))?;
     put_truth(out, has_outdated(alloc, kind, &lines)?)
 }
 
 /// `next NEWEST | CLOCK`: the stamp of an entry that is added; the newest stamp may be empty.
-pub fn next(alloc: Global, case: &Case, out: &mut String) -> Result<(), TableFault> {
+fn next(alloc: Global, case: &Case, out: &mut String) -> Result<(), TableFault> {
     let newest = Stamp::parse(case.text(0)).ok();
     let Ok(clock) = Stamp::parse(case.text(1)) else {
         return Err(TableFault::Wrong);
     };
     put_bytes(out, alloc, &next_stamp(newest, clock).print(alloc)?)
+}
+
+/// Answers the case, if its question is of this module.
+pub fn answer(alloc: Global, case: &Case, out: &mut String) -> Result<bool, TableFault> {
+    match case.question() {
+        b"newest" => newest_entries(alloc, case, out)?,
+        b"newest-of" => newest_entry(alloc, case, out)?,
+        b"compacted" => compacted(alloc, case, out)?,
+        b"outdated" => outdated(alloc, case, out)?,
+        b"next" => next(alloc, case, out)?,
+        _ => return Ok(false),
+    }
+    Ok(true)
 }

@@ -9,12 +9,12 @@ fn put_set(out: &mut String, alloc: Global, set: &LineSet) -> Result<(), TableFa
 }
 
 /// `set TEXT`: the text of the set of its lines.
-pub fn set(alloc: Global, case: &Case, out: &mut String) -> Result<(), TableFault> {
+fn set(alloc: Global, case: &Case, out: &mut String) -> Result<(), TableFault> {
     put_set(out, alloc, &LineSet::from_bytes(alloc, case.text(0))?)
 }
 
 /// `added LINE | LINE ..`: the text of the set to which these lines were added.
-pub fn added(alloc: Global, case: &Case, out: &mut String) -> Result<(), TableFault> {
+fn added(alloc: Global, case: &Case, out: &mut String) -> Result<(), TableFault> {
     let mut set = LineSet::new(alloc);
     for line in case.texts() {
         if is_line(line) {
@@ -25,28 +25,42 @@ pub fn added(alloc: Global, case: &Case, out: &mut String) -> Result<(), TableFa
 }
 
 /// `has TEXT | LINE`: whether the line is in the set.
-pub fn has(alloc: Global, case: &Case, out: &mut String) -> Result<(), TableFault> {
+fn has(alloc: Global, case: &Case, out: &mut String) -> Result<(), TableFault> {
     let set = LineSet::from_bytes(alloc, case.text(0))?;
     put_truth(out, set.contains(case.text(1)))
 }
 
 /// `union TEXT | TEXT`: the text of the lines of both.
-pub fn union(alloc: Global, case: &Case, out: &mut String) -> Result<(), TableFault> {
+fn union(alloc: Global, case: &Case, out: &mut String) -> Result<(), TableFault> {
     let mut set = LineSet::from_bytes(alloc, case.text(0))?;
     set.merge(&LineSet::from_bytes(alloc, case.text(1))?)?;
     put_set(out, alloc, &set)
 }
 
 /// `difference TEXT | TEXT`: the text of the lines that the second lacks.
-pub fn difference(alloc: Global, case: &Case, out: &mut String) -> Result<(), TableFault> {
+fn difference(alloc: Global, case: &Case, out: &mut String) -> Result<(), TableFault> {
     let set = LineSet::from_bytes(alloc, case.text(0))?;
     let other = LineSet::from_bytes(alloc, case.text(1))?;
     put_set(out, alloc, &set.difference(&other)?)
 }
 
 /// `without TEXT | TEXT`: the same, by taking lines off in place.
-pub fn without(alloc: Global, case: &Case, out: &mut String) -> Result<(), TableFault> {
+fn without(alloc: Global, case: &Case, out: &mut String) -> Result<(), TableFault> {
     let mut set = LineSet::from_bytes(alloc, case.text(0))?;
     set.take_off(&LineSet::from_bytes(alloc, case.text(1))?);
     put_set(out, alloc, &set)
+}
+
+/// Answers the case, if its question is of this module.
+pub fn answer(alloc: Global, case: &Case, out: &mut String) -> Result<bool, TableFault> {
+    match case.question() {
+        b"set" => set(alloc, case, out)?,
+        b"added" => added(alloc, case, out)?,
+        b"has" => has(alloc, case, out)?,
+        b"union" => union(alloc, case, out)?,
+        b"difference" => difference(alloc, case, out)?,
+        b"without" => without(alloc, case, out)?,
+        _ => return Ok(false),
+    }
+    Ok(true)
 }

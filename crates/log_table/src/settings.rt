@@ -60,7 +60,7 @@ fn put_claims(
 
 /// `claims LOG | TRUST`: the first digit of each repository that is said to have the key of this location log, as
 /// two calls have them.
-pub fn claims(alloc: Global, case: &Case, out: &mut String) -> Result<(), TableFault> {
+fn claims(alloc: Global, case: &Case, out: &mut String) -> Result<(), TableFault> {
     let mut branch = one_file(alloc, b"975/c65/WORM-s3--abc.log", case.text(0))?;
     put_file(&mut branch, alloc, b"trust.log", case.text(1))?;
     let key = key_of(alloc, b"WORM-s3--abc")?;
@@ -68,14 +68,14 @@ pub fn claims(alloc: Global, case: &Case, out: &mut String) -> Result<(), TableF
 }
 
 /// `claimed PATH | LINE | KEY`: the same of a key and the line of a file.
-pub fn claimed(alloc: Global, case: &Case, out: &mut String) -> Result<(), TableFault> {
+fn claimed(alloc: Global, case: &Case, out: &mut String) -> Result<(), TableFault> {
     let branch = one_file(alloc, case.text(0), case.text(1))?;
     let key = key_of(alloc, case.text(2))?;
     put_claims(out, alloc, &branch, &key)
 }
 
 /// `level LOG`: how far the repository is trusted, as two calls have it.
-pub fn level(alloc: Global, case: &Case, out: &mut String) -> Result<(), TableFault> {
+fn level(alloc: Global, case: &Case, out: &mut String) -> Result<(), TableFault> {
     let branch = one_file(alloc, b"trust.log", case.text(0))?;
     let repo = repo_of(REPO)?;
     let settings = Settings::read(alloc, &branch)?;
@@ -86,7 +86,7 @@ pub fn level(alloc: Global, case: &Case, out: &mut String) -> Result<(), TableFa
 }
 
 /// `copies FILE | LOG`: numcopies and mincopies, as two calls have them.
-pub fn copies(alloc: Global, case: &Case, out: &mut String) -> Result<(), TableFault> {
+fn copies(alloc: Global, case: &Case, out: &mut String) -> Result<(), TableFault> {
     let branch = one_file(alloc, case.text(0), case.text(1))?;
     let settings = Settings::read(alloc, &branch)?;
     write!(out, "{} {}/", settings.numcopies(), settings.mincopies())?;
@@ -97,7 +97,7 @@ pub fn copies(alloc: Global, case: &Case, out: &mut String) -> Result<(), TableF
 }
 
 /// `texts FILE | LOG`: the repository's description and its preferred and required expressions.
-pub fn texts(alloc: Global, case: &Case, out: &mut String) -> Result<(), TableFault> {
+fn texts(alloc: Global, case: &Case, out: &mut String) -> Result<(), TableFault> {
     let branch = one_file(alloc, case.text(0), case.text(1))?;
     let settings = Settings::read(alloc, &branch)?;
     let repo = repo_of(REPO)?;
@@ -109,7 +109,7 @@ pub fn texts(alloc: Global, case: &Case, out: &mut String) -> Result<(), TableFa
 }
 
 /// `groups LOG`: the repository's groups as two calls have them, and the first digit of each repository that is in one.
-pub fn groups(alloc: Global, case: &Case, out: &mut String) -> Result<(), TableFault> {
+fn groups(alloc: Global, case: &Case, out: &mut String) -> Result<(), TableFault> {
     let branch = one_file(alloc, b"group.log", case.text(0))?;
     let repo = repo_of(REPO)?;
     let settings = Settings::read(alloc, &branch)?;
@@ -121,8 +121,23 @@ pub fn groups(alloc: Global, case: &Case, out: &mut String) -> Result<(), TableF
 }
 
 /// `group-text GROUP | LOG`: the expression of the content that the group prefers.
-pub fn group_text(alloc: Global, case: &Case, out: &mut String) -> Result<(), TableFault> {
+fn group_text(alloc: Global, case: &Case, out: &mut String) -> Result<(), TableFault> {
     let branch = one_file(alloc, b"group-preferred-content.log", case.text(1))?;
     let settings = Settings::read(alloc, &branch)?;
     put_bytes(out, alloc, settings.group_preferred(case.text(0)))
+}
+
+/// Answers the case, if its question is of this module.
+pub fn answer(alloc: Global, case: &Case, out: &mut String) -> Result<bool, TableFault> {
+    match case.question() {
+        b"claims" => claims(alloc, case, out)?,
+        b"claimed" => claimed(alloc, case, out)?,
+        b"level" => level(alloc, case, out)?,
+        b"copies" => copies(alloc, case, out)?,
+        b"texts" => texts(alloc, case, out)?,
+        b"groups" => groups(alloc, case, out)?,
+        b"group-text" => group_text(alloc, case, out)?,
+        _ => return Ok(false),
+    }
+    Ok(true)
 }
