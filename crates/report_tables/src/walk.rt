@@ -46,7 +46,8 @@ impl Walk {
         requires { length run.now.repos < 2 ^ 32 }
         ensures { IfOk result (λ numbers. (place : ℕ) → StandsAt self.now run.now place → numbers.items ≡ possessors run.now place key.now) }
     {
-        possessors(alloc, &self.contents, run.repos.as_slice().len(), key)
+        let numbers = possessors(alloc, &self.contents, run.repos.as_slice().len(), key)?;
+        Ok(numbers)
     }
 
     /// The branch of a repository of the run.
