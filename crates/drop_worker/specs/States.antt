@@ -13,7 +13,7 @@ use Rattle.node_model.specs.Knows.{reading}
 use Rattle.node_model.specs.Look.{Look, entry_of}
 use Rattle.node_model.specs.SessionStep.{is_filled}
 use Rattle.node_model.specs.State.{State}
-use Rattle.node_model.specs.Wanted.{required}
+use Rattle.wanted_expr.specs.Wanted.{required}
 use Rattle.content_lock.specs.Rows.{Rows, bar_at}
 use Rattle.drop_phases.specs.Worker.{Worker}
 use Rattle.drop_phases.specs.declared.turn.Output.{Output}

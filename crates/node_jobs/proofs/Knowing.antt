@@ -20,7 +20,7 @@ use Rattle.node_model.specs.Knows.{Reading, reading, standing_of}
 use Rattle.node_model.specs.Look.{Look}
 use Rattle.node_model.specs.SetUp.{SetUp}
 use Rattle.node_model.specs.State.{State}
-use Rattle.node_model.specs.Wanted.{required}
+use Rattle.wanted_expr.specs.Wanted.{required}
 use Rattle.node_ends.specs.Ends.{end_at}
 use Rattle.object_store.specs.Stores.{Contents}
 use Rattle.content_lock.specs.Rows.{Rows}

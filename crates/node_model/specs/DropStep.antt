@@ -23,7 +23,7 @@ use Rattle.node_model.specs.Jobs
 use Rattle.node_model.specs.Jobs.{side_of, Phase, AsksLock, AsksLook, AsksTime, target_of}
 use Rattle.node_model.specs.Look.{Effect}
 use Rattle.node_model.specs.Calls.{to_hold}
-use Rattle.node_model.specs.Wanted.{required}
+use Rattle.wanted_expr.specs.Wanted.{required}
 use Rattle.node_model.specs.Knows.{denial_of, obeyed_outcome, causes_by, proof_by, known_by}
 use Rattle.node_model.specs.JobStep.{Turn, hears, wrong_message, attempts, bar_there, by_me, clock_of, ends, is_there, key_of, me, quietly, says_to, talk}
 use Rattle.node_model.specs.Clocks.{hold_time}

@@ -204,6 +204,7 @@ pub record PutsBar (t : Turn) (j : ℕ) (need : Need) (key : List ℕ) (m : Effe
   pub there : is_there t ≡ true
   pub free : bar_there t ≡ None
   pub unheld : held_until t ≡ None
+  pub spared : required_there t ≡ None
   pub number_is : j ≡ t.w.number
   pub need_is : need ≡ need_now t
   pub key_is : key ≡ key_of t
@@ -279,7 +280,7 @@ pub record LocksExpire (t : Turn) (taken : Option FrameView) (end clock : ℕ) :
 -- what this step itself found: by the row, or by what the job knows
 abbrev pub FindsOutcome : Turn → Option FrameView → Outcome → Type 0
 FindsOutcome t taken (Refused refusals.NotPresent) = FirstLocal t × (is_there t ≡ false)
-FindsOutcome t taken (Refused (refusals.Required text)) = (t.w.phase ≡ Fresh) × (required_there t ≡ Some text)
+FindsOutcome t taken (Refused (refusals.Required text)) = (t.w.part ≡ Drops) × (t.w.phase ≡ Fresh) × (required_there t ≡ Some text)
 FindsOutcome t taken (Refused (refusals.Barred j)) = FirstLocal t × (is_there t ≡ true) × (bar_there t ≡ Some j)
 FindsOutcome t taken (Refused (refusals.Held end)) = FirstLocal t × (is_there t ≡ true) × (bar_there t ≡ None) × (held_until t ≡ Some end)
 FindsOutcome t taken (Refused (refusals.Lacking proof reasons)) = LacksCopies t proof reasons

@@ -6,7 +6,7 @@ use Rattle.node_model.specs.Evidence.{but}
 use Rattle.run_data.specs.declared.row.Hold.{Hold}
 use Rattle.node_model.specs.Knows.{Reading, reading}
 use Rattle.node_model.specs.SessionStep.{is_filled}
-use Rattle.node_model.specs.Wanted.{required}
+use Rattle.wanted_expr.specs.Wanted.{required}
 use Rattle.annex_base.specs.declared.kinds.Call.{Call}
 use Rattle.run_data.specs.declared.entry.EntryKind.{EntryKind}
 use Rattle.run_data.specs.declared.entry.EntryKind.TheVariants.{Talk, Fault, End as ends_job}

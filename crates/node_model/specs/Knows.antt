@@ -2,6 +2,8 @@
 use Rattle.std.specs.Prelude.{ℕ, ◌+◌, Bool, true, false, List, [], find, length, Option, Some, None}
 use Rattle.annex_base.specs.declared.kinds.Word.{Word}
 use Rattle.annex_base.specs.declared.kinds.Word.TheVariants as words
+use Rattle.annex_base.specs.Settings.{Settings}
+use Rattle.glob_match.specs.Numbers.{mincopies_of, numcopies_of}
 use Rattle.drop_proof.specs.declared.evidence.Evidence.{Evidence}
 use Rattle.drop_proof.specs.declared.evidence.Kind.TheVariants.{Locked, Trusted, Recent}
 use Rattle.drop_proof.specs.declared.rule.Need.{Need}
@@ -53,12 +55,16 @@ is_unasked _ _ = false
 unfoldable pub standing_of : SetUp → State → Work → ℕ → Standing
 standing_of s st w c = standing_by (st.read w.number) w.what.key (id_of s.repos c)
 
--- the numbers of copies that the job read
-abbrev pub need_of : State → Work → Need
-need_of st w = let read = st.read w.number in record { n = read.numcopies; m = read.mincopies }
+-- the numbers of copies that settings give for a content with these paths. Only a proof that names it opens this definition
+unfoldable pub need_by : Settings → List (List ℕ) → Need
+need_by settings paths = record { n = numcopies_of settings paths; m = mincopies_of settings paths }
+
+-- the numbers of copies that the job read, for the paths that its key had as it began
+abbrev pub need_of : SetUp → State → Work → Need
+need_of s st w = need_by (st.read w.number) (s.paths w.number)
 
 abbrev pub reading : SetUp → State → Work → Reading
-reading s st w = record { repo = s.number; count = length s.repos; clock = st.clock; need = need_of st w; standing = standing_of s st w }
+reading s st w = record { repo = s.number; count = length s.repos; clock = st.clock; need = need_of s st w; standing = standing_of s st w }
 
 -- ---- what it knows, by what it reads
 

@@ -73,29 +73,29 @@ module _ (reads_back : SentAreRead) (s : SetUp) (past : List Entry) (words : ℕ
   r = s.number
 
   -- the evidence of its entries, as the job puts its side and target
-  items_as : (w : Work) (m : Member w (works past r)) → items s.repos past r w.number (job_of s past h w m)
-      ≡ known_evidence (side_of w) s.repos past r w.number (target_of r w) (need_of (state_of s past) w)
+  items_as : (w : Work) (m : Member w (works past r)) → items s.repos (s.paths w.number) past r w.number (job_of s past h w m)
+      ≡ known_evidence (side_of w) s.repos past r w.number (target_of r w) (need_of s (state_of s past) w)
   items_as w m =
-      evidence_known (side_in (running_job w)) s.repos past r w.number (target_in r (running_job w)) (need_read past r w.number) run
-      ∙ (λ i. known_evidence (side_is w i) s.repos past r w.number (target_is r w i) (need_read past r w.number))
+      evidence_known (side_in (running_job w)) s.repos past r w.number (target_in r (running_job w)) (need_read (s.paths w.number) past r w.number) run
+      ∙ (λ i. known_evidence (side_is w i) s.repos past r w.number (target_is r w i) (need_read (s.paths w.number) past r w.number))
 
-  pub items_known : (w : Work) (m : Member w (works past r)) → knows_enough s (state_of s past) w ≡ true → items s.repos past r w.number (job_of s past h w m) ≡ known s (state_of s past) w
+  pub items_known : (w : Work) (m : Member w (works past r)) → knows_enough s (state_of s past) w ≡ true → items s.repos (s.paths w.number) past r w.number (job_of s past h w m) ≡ known s (state_of s past) w
   items_known w m enough = items_as w m ∙ known_agrees s past w (list_agrees reads_back s past h w m) enough
 
   -- and they are enough
-  enough_known : (w : Work) (m : Member w (works past r)) → knows_enough s (state_of s past) w ≡ true → is_enough (side_in (running_job w)) (need_read past r w.number) (items s.repos past r w.number (job_of s past h w m)) ≡ true
-  enough_known w m enough = (λ i. is_enough (side_is w i) (need_read past r w.number) (items_known w m enough i)) ∙ enough
+  enough_known : (w : Work) (m : Member w (works past r)) → knows_enough s (state_of s past) w ≡ true → is_enough (side_in (running_job w)) (need_read (s.paths w.number) past r w.number) (items s.repos (s.paths w.number) past r w.number (job_of s past h w m)) ≡ true
+  enough_known w m enough = (λ i. is_enough (side_is w i) (need_read (s.paths w.number) past r w.number) (items_known w m enough i)) ∙ enough
 
   -- **Expired**
-  pub expired_found : (end clk : ℕ) → e.kind ≡ ends_job j (Refused (refusals.Expired end clk)) → FoundExpired s.repos past r j e.time end clk
+  pub expired_found : (end clk : ℕ) → e.kind ≡ ends_job j (Refused (refusals.Expired end clk)) → FoundExpired s.repos (s.paths j) past r j e.time end clk
   expired_found end clk is =
       let x = ending s past words e own j (Refused (refusals.Expired end clk)) is in
-      subst (λ n. FoundExpired s.repos past r n e.time end clk) (sym x.number_is) (elim (x.why) [
+      subst (λ n. FoundExpired s.repos (s.paths n) past r n e.time end clk) (sym x.number_is) (elim (x.why) [
         | inl y ↦ now x y
         | inr y ↦ settled x (drop_settled (turn_at s past e x.by) past (refusals.Expired end clk) x.by.made.taken (stands reads_back s past h x.by.w x.runs) y)
       ])
     where
-      now : (x : Ending s past e j (Refused (refusals.Expired end clk))) → LocksExpire (turn_at s past e x.by) x.by.made.taken end clk → FoundExpired s.repos past r x.by.w.number e.time end clk
+      now : (x : Ending s past e j (Refused (refusals.Expired end clk))) → LocksExpire (turn_at s past e x.by) x.by.made.taken end clk → FoundExpired s.repos (s.paths x.by.w.number) past r x.by.w.number e.time end clk
       now x y =
           let w = x.by.w in
           let kind : x.by.made.kind ≡ ends_job j (Refused (refusals.Expired end clk)) = sym (ap (λ (q : Entry). q.kind) x.by.is) ∙ is in
@@ -111,7 +111,7 @@ module _ (reads_back : SentAreRead) (s : SetUp) (past : List Entry) (words : ℕ
             when = inl (y.clock_is ∙ ap (λ t. clock s.repos past r t) (sym (ap (λ (q : Entry). q.time) x.by.is)));
           }
 
-      settled : (x : Ending s past e j (Refused (refusals.Expired end clk))) → DropSettled (turn_at s past e x.by) past (refusals.Expired end clk) → FoundExpired s.repos past r x.by.w.number e.time end clk
+      settled : (x : Ending s past e j (Refused (refusals.Expired end clk))) → DropSettled (turn_at s past e x.by) past (refusals.Expired end clk) → FoundExpired s.repos (s.paths x.by.w.number) past r x.by.w.number e.time end clk
       settled x (inl z) = absurd z.1
       settled x (inr (inl z)) = absurd (let no' : Refused (refusals.Expired end clk) ≡ DropStep.denial_outcome (turn_at s past e x.by) = z.1 in cc)
       settled x (inr (inr z)) =
@@ -136,15 +136,15 @@ module _ (reads_back : SentAreRead) (s : SetUp) (past : List Entry) (words : ℕ
           clocks e = cc
 
   -- **OldProtocol**
-  pub old_found : (n : ℕ) → e.kind ≡ ends_job j (Refused (refusals.OldProtocol n)) → FoundOld s.repos past r j n
+  pub old_found : (n : ℕ) → e.kind ≡ ends_job j (Refused (refusals.OldProtocol n)) → FoundOld s.repos (s.paths j) past r j n
   old_found n is =
       let x = ending s past words e own j (Refused (refusals.OldProtocol n)) is in
-      subst (λ k. FoundOld s.repos past r k n) (sym x.number_is) (elim (x.why) [
+      subst (λ k. FoundOld s.repos (s.paths k) past r k n) (sym x.number_is) (elim (x.why) [
         | inl y ↦ absurd y
         | inr y ↦ settled x (drop_settled (turn_at s past e x.by) past (refusals.OldProtocol n) x.by.made.taken (stands reads_back s past h x.by.w x.runs) y)
       ])
     where
-      settled : (x : Ending s past e j (Refused (refusals.OldProtocol n))) → DropSettled (turn_at s past e x.by) past (refusals.OldProtocol n) → FoundOld s.repos past r x.by.w.number n
+      settled : (x : Ending s past e j (Refused (refusals.OldProtocol n))) → DropSettled (turn_at s past e x.by) past (refusals.OldProtocol n) → FoundOld s.repos (s.paths x.by.w.number) past r x.by.w.number n
       settled x (inl z) =
           let w = x.by.w in
           let k : KnewAt s past w (Ends (Refused (refusals.OldProtocol n))) = subst (KnewAt s past w) z.0 (knew reads_back s past h w x.runs) in
@@ -153,7 +153,7 @@ module _ (reads_back : SentAreRead) (s : SetUp) (past : List Entry) (words : ℕ
             enough = enough_known w x.runs k.1.enough;
             hears = z.1.0;
             old = ltb-true n 3 z.1.1;
-            locked = locked_by (items s.repos past r w.number (job_of s past h w x.runs)) k.0 (ap least_end (items_known w x.runs k.1.enough) ∙ k.1.first);
+            locked = locked_by (items s.repos (s.paths w.number) past r w.number (job_of s past h w x.runs)) k.0 (ap least_end (items_known w x.runs k.1.enough) ∙ k.1.first);
           }
       settled x (inr (inl z)) = absurd (let no' : Refused (refusals.OldProtocol n) ≡ DropStep.denial_outcome (turn_at s past e x.by) = z.1 in cc)
       settled x (inr (inr z)) = absurd (apart (DropStep.first_end (turn_at s past e x.by)) _ z.2)
@@ -209,7 +209,7 @@ module _ (reads_back : SentAreRead) (s : SetUp) (past : List Entry) (words : ℕ
       go Asked is (Some x) has f = inl (told w m part c n is x has (offers_none (clock s.repos past s.number) x f), refl)
 
   -- all candidates were asked, so what it knows is its entries' evidence
-  items_lacking : (w : Work) (m : Member w (works past s.number)) → next_of s (state_of s past) w ≡ None → items s.repos past s.number w.number (job_of s past h w m) ≡ known s (state_of s past) w
+  items_lacking : (w : Work) (m : Member w (works past s.number)) → next_of s (state_of s past) w ≡ None → items s.repos (s.paths w.number) past s.number w.number (job_of s past h w m) ≡ known s (state_of s past) w
   items_lacking w m last =
       let cs = candidates_of s w in
       let a = list_agrees reads_back s past h w m in
@@ -217,8 +217,8 @@ module _ (reads_back : SentAreRead) (s : SetUp) (past : List Entry) (words : ℕ
       let waits : reached_candidates (still_waits s.repos past s.number w.number) cs ≡ cs = reached_all (still_waits s.repos past s.number w.number) cs (λ c n. off (still_waits s.repos past s.number w.number c) (λ yes'. sym (none c n) ∙ a.waits_too c yes')) in
       let asks : reached_candidates (is_to_ask s (state_of s past) w) cs ≡ cs = reached_all (is_to_ask s (state_of s past) w) cs none in
       items_as reads_back s past words e h own run j w m
-      ∙ ap (λ zs. gather (side_of w) (need_of (state_of s past) w) (heards.knows s.repos past s.number w.number) zs []) (waits ∙ sym asks)
-      ∙ gather_same (side_of w) (need_of (state_of s past) w) (heards.knows s.repos past s.number w.number) (Knowing.knows s (state_of s past) w) (knows_same s past w a) (reached_candidates (is_to_ask s (state_of s past) w) cs) []
+      ∙ ap (λ zs. gather (side_of w) (need_of s (state_of s past) w) (heards.knows s.repos past s.number w.number) zs []) (waits ∙ sym asks)
+      ∙ gather_same (side_of w) (need_of s (state_of s past) w) (heards.knows s.repos past s.number w.number) (Knowing.knows s (state_of s past) w) (knows_same s past w a) (reached_candidates (is_to_ask s (state_of s past) w) cs) []
     where
       off : (b : Bool) → (b ≡ true → false ≡ true) → b ≡ false
       off false f = refl
@@ -258,15 +258,15 @@ module _ (reads_back : SentAreRead) (s : SetUp) (past : List Entry) (words : ℕ
   ]
 
   -- **Lacking**
-  pub lacking_found : FramesPart past s.number words e → (proof : Proof) (reasons : List CandidateCause) → e.kind ≡ ends_job j (Refused (refusals.Lacking proof reasons)) → FoundLacking s.repos past s.number j proof reasons
+  pub lacking_found : FramesPart past s.number words e → (proof : Proof) (reasons : List CandidateCause) → e.kind ≡ ends_job j (Refused (refusals.Lacking proof reasons)) → FoundLacking s.repos (s.paths j) past s.number j proof reasons
   lacking_found frames proof reasons is =
       let z = ending_words s past words e own j (Refused (refusals.Lacking proof reasons)) is in
-      subst (λ n. FoundLacking s.repos past s.number n proof reasons) (sym z.0.number_is) (elim (z.0.why) [
+      subst (λ n. FoundLacking s.repos (s.paths n) past s.number n proof reasons) (sym z.0.number_is) (elim (z.0.why) [
         | inl y ↦ now z.0 z.1 y
         | inr y ↦ absurd (settled z.0 (drop_settled (turn_at s past e z.0.by) past (refusals.Lacking proof reasons) z.0.by.made.taken (stands reads_back s past h z.0.by.w z.0.runs) y))
       ])
     where
-      now : (x : Ending s past e j (Refused (refusals.Lacking proof reasons))) → x.by.look.words ≡ words → LacksCopies (turn_at s past e x.by) proof reasons → FoundLacking s.repos past s.number x.by.w.number proof reasons
+      now : (x : Ending s past e j (Refused (refusals.Lacking proof reasons))) → x.by.look.words ≡ words → LacksCopies (turn_at s past e x.by) proof reasons → FoundLacking s.repos (s.paths x.by.w.number) past s.number x.by.w.number proof reasons
       now x spoke y =
           let w = x.by.w in
           let m = x.runs in
@@ -281,8 +281,8 @@ module _ (reads_back : SentAreRead) (s : SetUp) (past : List Entry) (words : ℕ
           let answered = Each-from_members (λ c. is_waiting (Drops.standing s.repos past s.number w.number c) (reply past s.number w.number c) (told_cause past s.number w.number c) ≡ false) cs (λ c n. none_waits w m y.part_is y.last c n) in
           record {
             d = job_of s past h w m;
-            wants = (λ i. is_enough (side_is w i) (need_read past s.number w.number) (same i)) ∙ y.wants;
-            proof_is = y.proof_is ∙ ap (proof_of (length s.repos) (need_read past s.number w.number)) (sym same);
+            wants = (λ i. is_enough (side_is w i) (need_read (s.paths w.number) past s.number w.number) (same i)) ∙ y.wants;
+            proof_is = y.proof_is ∙ ap (proof_of (length s.repos) (need_read (s.paths w.number) past s.number w.number)) (sym same);
             answered = subst (Each (λ c. is_waiting (Drops.standing s.repos past s.number w.number c) (reply past s.number w.number c) (told_cause past s.number w.number c) ≡ false)) cands answered;
             causes_are = reasons_are ∙ listed ∙ ap (failures (offer_from s.repos past s.number w.number) (candidate_cause s.repos past s.number w.number)) cands;
           }

@@ -66,7 +66,7 @@ ends_found t taken outcome why =
 bars_found : (t : Turn) → FirstLocal t → (here : Bool) (required : Option (List ℕ)) (bar : Option ℕ) (held : Option (Option ℕ))
     → is_there t ≡ here → required_there t ≡ required → bar_there t ≡ bar → held_until t ≡ held → JobFound t None (bars t (row_refusal here required bar held))
 bars_found t first false required bar held there wanted free unheld = ends_found t None (Refused refusals.NotPresent) (inl (first, there))
-bars_found t first true (Some text) bar held there wanted free unheld = ends_found t None (Refused (refusals.Required text)) (inl (first.first, wanted))
+bars_found t first true (Some text) bar held there wanted free unheld = ends_found t None (Refused (refusals.Required text)) (inl (first.part_is, first.first, wanted))
 bars_found t first true None (Some j) held there wanted free unheld = ends_found t None (Refused (refusals.Barred j)) (inl (first, there, free))
 bars_found t first true None None (Some end) there wanted free unheld = ends_found t None (Refused (refusals.Held end)) (inl (first, there, free, unheld))
 bars_found t first true None None None there wanted free unheld = (
@@ -78,6 +78,7 @@ bars_found t first true None None None there wanted free unheld = (
     there = there;
     free = free;
     unheld = unheld;
+    spared = wanted;
     number_is = refl;
     need_is = refl;
     key_is = refl;
@@ -121,7 +122,7 @@ own_found t part first side standing is = quiet_found t None
 
 remote_found : (t : Turn) → t.w.part ≡ Drops → t.w.phase ≡ Fresh → side_of t.w ≡ Remote → (required : Option (List ℕ)) → required_there t ≡ required
     → JobFound t None (first_remote t required)
-remote_found t part first side (Some text) is = ends_found t None (Refused (refusals.Required text)) (inl (first, is))
+remote_found t part first side (Some text) is = ends_found t None (Refused (refusals.Required text)) (inl (part, first, is))
 remote_found t part first side None is = own_found t part first side (t.read.standing (me t)) refl
 
 first_drop_found : (t : Turn) → t.w.part ≡ Drops → t.w.phase ≡ Fresh → (side : Side) → side_of t.w ≡ side → JobFound t None (first_drop t side)

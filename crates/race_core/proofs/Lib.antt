@@ -98,6 +98,7 @@ pub mod DropLeaves
 pub mod SameReads
 pub mod States
 pub mod AtTargets
+pub mod NotRequired
 pub mod Decisions
 pub mod ReadKeys
 pub mod OrdersSent

@@ -7,7 +7,6 @@ use Rattle.annex_base.specs.declared.kinds.Call.TheVariants.{Unhold}
 use Rattle.annex_base.proofs.Conditions.{eqb_refl}
 use Rattle.race_core.proofs.Below.{SentAreRead}
 use Rattle.drop_proof.specs.declared.evidence.Evidence.{Evidence}
-use Rattle.drop_proof.specs.declared.rule.Need.{Need}
 use Rattle.drop_proof.specs.declared.rule.Side.TheVariants.{Remote}
 use Rattle.drop_proof.specs.Judging.{least_end}
 use Rattle.run_data.specs.declared.entry.By.{By}
@@ -27,7 +26,7 @@ use Rattle.node_model.specs.State.{State}
 use Rattle.run_model.specs.States.{state_of, rows_at, works}
 use Rattle.node_model.specs.Jobs
 use Rattle.node_model.specs.Jobs.{AsksTime, Drops, Ends, Heard, Late, Next, Phase, Work, running_job, side_of, target_of}
-use Rattle.node_model.specs.Knows.{is_unasked, offer_by, standing_of, reading}
+use Rattle.node_model.specs.Knows.{is_unasked, offer_by, standing_of, reading, need_by}
 use Rattle.race_core.proofs.Knowing.{known, knows_enough, next_of}
 use Rattle.node_model.specs.JobStep.{Turn}
 use Rattle.node_model.specs.Found.{IsJobEntry}
@@ -51,19 +50,19 @@ use Rattle.race_core.proofs.BySteps.{earlier}
 
 -- ---- what was read and heard decides what a job knows
 
-abbrev known_of : SetUp → (ℕ → ℕ) → Settings → Job → List (ℕ × Heard) → List Evidence
-known_of s clock read what heard =
+abbrev known_of : SetUp → (ℕ → ℕ) → Settings → List (List ℕ) → Job → List (ℕ × Heard) → List Evidence
+known_of s clock read paths what heard =
     let side = Jobs.drop_side what.kind what.peer in
-    let need : Need = record { n = read.numcopies; m = read.mincopies } in
+    let need = need_by read paths in
     gather side need (λ c. offer_by clock (standing_by read what.key (id_of s.repos c)) (told_of heard c))
     (reached_candidates (λ c. is_unasked (standing_by read what.key (id_of s.repos c)) (told_of heard c)) (candidates side (length s.repos) s.number (Jobs.or_own s.number side what.peer))) []
 
-known_is : (s : SetUp) (st : State) (w : Work) → known s st w ≡ known_of s st.clock (st.read w.number) w.what w.heard
+known_is : (s : SetUp) (st : State) (w : Work) → known s st w ≡ known_of s st.clock (st.read w.number) (s.paths w.number) w.what w.heard
 unfolding standing_of
 known_is s st w = refl
 
-pub known_same : (s : SetUp) (st other : State) (w v : Work) → st.clock ≡ other.clock → st.read w.number ≡ other.read v.number → w.what ≡ v.what → w.heard ≡ v.heard → known s st w ≡ known s other v
-known_same s st other w v clock read what heard = known_is s st w ∙ (λ i. known_of s (clock i) (read i) (what i) (heard i)) ∙ sym (known_is s other v)
+pub known_same : (s : SetUp) (st other : State) (w v : Work) → st.clock ≡ other.clock → st.read w.number ≡ other.read v.number → w.number ≡ v.number → w.what ≡ v.what → w.heard ≡ v.heard → known s st w ≡ known s other v
+known_same s st other w v clock read number what heard = known_is s st w ∙ (λ i. known_of s (clock i) (read i) (s.paths (number i)) (what i) (heard i)) ∙ sym (known_is s other v)
 
 -- ---- what it knew stands
 
@@ -102,8 +101,8 @@ knew_same s past w past' w' end same k =
     let z = same k.part_is in
     record {
       part_is = z.part_is k.part_is;
-      enough = enough_same s (state_of s past') (state_of s past) w' w (ap (λ c. runs_on c) z.set) z.read z.what z.heard ∙ k.enough;
-      first = ap least_end (known_same s (state_of s past') (state_of s past) w' w (ap (λ c. runs_on c) z.set) z.read z.what z.heard) ∙ k.first;
+      enough = enough_same s (state_of s past') (state_of s past) w' w (ap (λ c. runs_on c) z.set) z.read z.number_is z.what z.heard ∙ k.enough;
+      first = ap least_end (known_same s (state_of s past') (state_of s past) w' w (ap (λ c. runs_on c) z.set) z.read z.number_is z.what z.heard) ∙ k.first;
     }
 
 knew_kept : (s : SetUp) (past : List Entry) (w : Work) (e : Entry) (w' : Work) (phase : Phase) → (w.part ≡ Drops → is_fresh phase ≡ false → SameRead s past w (e ∷ past) w') → KnewAt s past w phase → KnewAt s (e ∷ past) w' phase

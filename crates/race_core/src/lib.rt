@@ -28,8 +28,8 @@ pub use jobs::{
 };
 pub use laws::{
     drops_leave_their_evidence, drops_read_their_need, ignored_never_count, kept_lines_read_as_all,
-    lawful_runs_are_safe, never_fewer_than_mincopies, refusals_have_causes, runs_are_lawful,
-    runs_are_safe, runs_keep_copies,
+    lawful_runs_are_safe, never_fewer_than_mincopies, refusals_have_causes, required_content_stays,
+    runs_are_lawful, runs_are_safe, runs_keep_copies,
 };
 pub use run_data;
 pub use steps::{
