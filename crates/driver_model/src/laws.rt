@@ -30,6 +30,7 @@ ghost use Rattle.driver_model.specs.Sound.{IsSound};
 ghost use Rattle.driver_model.specs.Turning.{plain_look, turn};
 
 use annex_key::key_texts_have_no_fault;
+use node_model::steps_tell_their_calls;
 use race_core::{
     frames_go_to_others, jobs_hear_nobody_twice, kept_words_were_asked,
     own_entries_suit_their_ends, refusals_have_causes, running_jobs_stay_the_same, runs_are_safe,
@@ -56,6 +57,8 @@ pub fn driven_runs_are_runs()
     own_entries_suit_their_ends();
     steps_take_what_is_at_hand();
     steps_name_their_jobs();
+    // A law: the calls that a step makes.
+    steps_tell_their_calls();
     frames_go_to_others();
     // A law: a running job keeps the key that was asked of it.
     running_jobs_stay_the_same();
@@ -80,6 +83,8 @@ pub fn runs_log_lines()
     own_entries_suit_their_ends();
     steps_take_what_is_at_hand();
     steps_name_their_jobs();
+    // A law: the calls that a step makes.
+    steps_tell_their_calls();
     frames_go_to_others();
     // A law: a running job keeps the key that was asked of it.
     running_jobs_stay_the_same();
@@ -105,6 +110,8 @@ pub fn settlings_come_to_rest()
 {
     // A law: an entry names the job of its step, so looks that differ in part and words find a step alike.
     steps_name_their_jobs();
+    // A law: the calls that a step makes.
+    steps_tell_their_calls();
 }
 
 /// Where the driver is sound, each end has sent at most twice as many frames since it was opened as there are entries, and its opening

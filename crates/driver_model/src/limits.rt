@@ -22,6 +22,7 @@ ghost use Rattle.driver_model.specs.Sound.{OnlyAdds, StaysSound};
 ghost use Rattle.driver_model.specs.Turning.{turn};
 
 use annex_key::key_texts_have_no_fault;
+use node_model::steps_tell_their_calls;
 use race_core::{
     frames_go_to_others, own_entries_suit_their_ends, running_jobs_stay_the_same, runs_grow,
     steps_find_their_cause, steps_name_their_jobs, steps_take_what_is_at_hand,
@@ -58,6 +59,8 @@ pub fn starts_of_steps_stay_sound()
     // The shared lemmas take these along, for turns.
     steps_take_what_is_at_hand();
     steps_name_their_jobs();
+    // A law: the calls that a step makes.
+    steps_tell_their_calls();
     // Laws: frames go to others, a running job keeps its key, and a run grows by each such entry.
     frames_go_to_others();
     running_jobs_stay_the_same();

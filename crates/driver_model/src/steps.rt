@@ -24,6 +24,7 @@ ghost use Rattle.driver_model.specs.Sound.{IsSound, OnlyAdds, StaysSound};
 ghost use Rattle.driver_model.specs.Turning.{turn};
 
 use annex_key::key_texts_have_no_fault;
+use node_model::steps_tell_their_calls;
 use race_core::{
     frames_go_to_others, own_entries_suit_their_ends, running_jobs_stay_the_same, runs_grow,
     steps_find_their_cause, steps_name_their_jobs, steps_take_what_is_at_hand,
@@ -59,6 +60,8 @@ pub fn drivers_stay_sound()
     own_entries_suit_their_ends();
     steps_take_what_is_at_hand();
     steps_name_their_jobs();
+    // A law: the calls that a step makes.
+    steps_tell_their_calls();
     frames_go_to_others();
     // A law: a running job keeps the key that was asked of it.
     running_jobs_stay_the_same();

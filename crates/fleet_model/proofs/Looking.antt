@@ -165,7 +165,7 @@ node_makes_step {K} laws tells g d r n m sound raised decides parts own rooms wo
   no_job f taken up = ap job_of (sym at0.same) ∙ asks_no_job laws.found s st' k0 at0.made f at0.makes (at0.takes ∙ taken) up
 
   key_of : Effect
-  key_of = record { kind = by.kind; taken = by.taken; sent = []; lines = [] }
+  key_of = record { kind = by.kind; taken = by.taken; sent = []; lines = []; calls = [] }
 
   k : Look
   k = look_with (part_size c r (asked_key st key_of)) (part_right g c r (asked_key st key_of))
@@ -186,7 +186,7 @@ node_makes_step {K} laws tells g d r n m sound raised decides parts own rooms wo
   steps = alike k ∙ at.makes
 
   key_is : asked_key st key_of ≡ asked_key st at.made
-  key_is = λ i. asked_key st (record { kind = sym at.same i; taken = sym at.takes i; sent = []; lines = [] })
+  key_is = λ i. asked_key st (record { kind = sym at.same i; taken = sym at.takes i; sent = []; lines = []; calls = [] })
 
   is_look : IsLookFor g c r s st at.made k
   is_look = record {

@@ -91,17 +91,17 @@ end_with t peer = t.ends (job_end t.w peer)
 -- ---- what a step makes
 
 abbrev pub sends_to : Turn → EntryKind → Option FrameView → ℕ → List FrameText → Effect
-sends_to t kind taken peer bodies = record { kind = kind; taken = taken; sent = frames (job_end t.w peer) (end_with t peer) bodies; lines = [] }
+sends_to t kind taken peer bodies = record { kind = kind; taken = taken; sent = frames (job_end t.w peer) (end_with t peer) bodies; lines = []; calls = [] }
 
 abbrev pub says_to : Turn → EntryKind → Option FrameView → ℕ → Message → Effect
 says_to t kind taken peer m = sends_to t kind taken peer (Line (text_of m) ∷ [])
 
 abbrev pub quietly : EntryKind → Option FrameView → Effect
-quietly kind taken = record { kind = kind; taken = taken; sent = []; lines = [] }
+quietly kind taken = record { kind = kind; taken = taken; sent = []; lines = []; calls = [] }
 
--- a store call of the job fails, or else this is made
+-- one of these store calls of the job fails, or else this is made
 abbrev pub attempts : Turn → List Call → Option FrameView → Effect → Effect
-attempts t cs taken made = unless (failing_call t.look.fails cs) (λ call. quietly (Fault call (by_me t)) taken) made
+attempts t cs taken made = record (unless (failing_call t.look.fails cs) (λ call. quietly (Fault call (by_me t)) taken) made) { calls = cs ++ made.calls }
 
 -- a frame that is heard, and answered nothing
 abbrev pub hears : Turn → FrameView → Effect
@@ -143,7 +143,7 @@ farewells t lost =
 abbrev pub ends : Turn → Option FrameView → Outcome → Effect
 ends t taken outcome =
     attempts t (to_release (owns_share t && not (is_lost_ordered outcome))) taken
-    (record { kind = ends_job t.w.number outcome; taken = taken; sent = farewells t (is_lost_ordered outcome); lines = [] })
+    (record { kind = ends_job t.w.number outcome; taken = taken; sent = farewells t (is_lost_ordered outcome); lines = []; calls = [] })
 
 -- the ends on which such an end sends more than a Close
 abbrev pub end_needs : Turn → Outcome → List ℕ

@@ -18,7 +18,7 @@ use Rattle.node_model.specs.After.{state_after}
 use Rattle.node_model.specs.Clocks.{ClockSet, runs_on}
 use Rattle.node_model.specs.Ends.{End, EndName, end_sends, end_took, sent_at, taken_at}
 use Rattle.node_model.specs.Jobs.{Work}
-use Rattle.node_model.specs.Look.{Look, Effect, entry_of}
+use Rattle.node_model.specs.Look.{Effect, Look, entry_of, failed_in as failed_here}
 use Rattle.node_model.specs.Rows.{bar_after, content_after, holds_after, present_after}
 use Rattle.node_model.specs.Sessions.{new_session}
 use Rattle.node_model.specs.SessionStep.{is_filled, session_step}
@@ -30,7 +30,6 @@ use Rattle.content_lock.specs.CallsMade.{MakesCalls}
 use Rattle.node_ends.specs.Ends.{end_at}
 use Rattle.node_ends.specs.Going.{AreAfter}
 use Rattle.p2p_server.specs.declared.session.Session.{Session}
-use Rattle.p2p_server.specs.Answers.{failed_in as failed_here}
 use Rattle.p2p_server.specs.Bounds.{IsKind}
 use Rattle.p2p_server.specs.Talking.{AreAfterStep}
 use Rattle.drop_worker.specs.Working.{failed_in}

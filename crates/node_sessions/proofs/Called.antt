@@ -10,13 +10,12 @@ use Rattle.content_lock.specs.CallsMade.{MakesCalls, fewer}
 use Rattle.content_lock.specs.Rows.{Rows}
 use Rattle.link_ring.specs.Ends.{EndView}
 use Rattle.node_model.specs.Ends.{End, EndName, server_end}
-use Rattle.node_model.specs.Look.{Look}
+use Rattle.node_model.specs.Look.{Look, failed_in}
 use Rattle.node_model.specs.SessionStep.{here, session_at}
 use Rattle.node_model.specs.SetUp.{SetUp}
 use Rattle.node_model.specs.State.{State}
 use Rattle.node_ends.specs.Ends.{end_at, wait_at}
 use Rattle.p2p_server.specs.declared.session.Session.{Session}
-use Rattle.p2p_server.specs.Answers.{failed_in}
 use Rattle.node_sessions.specs.declared.served.Served.{Served}
 use Rattle.node_sessions.specs.declared.turn.First.{First}
 use Rattle.node_sessions.specs.Calls.{calls_at, end_calls, session_calls}

@@ -20,7 +20,7 @@ use Rattle.link_ring.specs.declared.frame.Body.TheVariants as bodies
 use Rattle.link_ring.specs.declared.frame.Frame.{Frame}
 use Rattle.link_ring.specs.Ends.{EndView}
 use Rattle.node_model.specs.Ends.{End, EndName, end_took, frames, server_end}
-use Rattle.node_model.specs.Look.{Look}
+use Rattle.node_model.specs.Look.{Look, failed_in}
 use Rattle.node_model.specs.Sessions as sessions
 use Rattle.node_model.specs.Sessions.{session_after, session_took}
 use Rattle.node_model.specs.SessionStep.{Reply, gives_next, here, is_filled, on_frame}
@@ -32,7 +32,7 @@ use Rattle.p2p_server.specs.declared.More.{More}
 use Rattle.p2p_server.specs.declared.Place.{Place}
 use Rattle.p2p_server.specs.declared.session.Session.{Session}
 use Rattle.p2p_server.specs.declared.Step.{Step}
-use Rattle.p2p_server.specs.Answers.{LeavesContents, contents_after, failed_in, owner_at, reply_of, size_in}
+use Rattle.p2p_server.specs.Answers.{LeavesContents, contents_after, owner_at, reply_of, size_in}
 use Rattle.p2p_server.specs.Bounds.{IsKind, IsReplyIf}
 use Rattle.p2p_server.specs.Giving.{IsPieceOf, failed_more, reply_more, session_sent}
 use Rattle.p2p_server.specs.SessionCalls.{calls_frame, calls_next}

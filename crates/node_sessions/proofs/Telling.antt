@@ -13,13 +13,12 @@ use Rattle.p2p_wire.specs.declared.message.Message.{Message}
 use Rattle.p2p_wire.specs.declared.message.Message.TheVariants as messages
 use Rattle.p2p_wire.specs.Messages.{message_of}
 use Rattle.node_model.specs.Ends.{End, EndName, end_takes, server_end}
-use Rattle.node_model.specs.Look.{Look, Effect, failing_call, unless, waiting_frame}
+use Rattle.node_model.specs.Look.{Effect, Look, failed_in, failing_call, unless, waiting_frame}
 use Rattle.node_model.specs.Sessions as sessions
 use Rattle.node_model.specs.Sessions.{reaches}
 use Rattle.node_model.specs.SessionStep.{Here, Reply, by_of, close_kind, content_of, gives_made, gives_next, here, on_frame, on_piece, reply, reply_made, session_at, session_makes, session_step, shuts, tries}
 use Rattle.node_model.specs.SetUp.{SetUp, served_connections}
 use Rattle.node_model.specs.State.{State}
-use Rattle.p2p_server.specs.Answers.{failed_in}
 use Rattle.p2p_server.specs.SessionCalls.{calls_frame, calls_message, calls_next, calls_request, calls_text}
 use Rattle.node_sessions.specs.Calls.{calls_at, end_calls, failed_of, first_connection, session_calls}
 

@@ -4,12 +4,11 @@ use Rattle.std.specs.Option.{option_map_or}
 use Rattle.annex_base.specs.declared.kinds.Call.{Call}
 use Rattle.run_data.specs.declared.entry.FrameView.{FrameView}
 use Rattle.node_model.specs.Ends.{End, EndName, server_end}
-use Rattle.node_model.specs.Look.{Look, Effect, waiting_frame}
+use Rattle.node_model.specs.Look.{Effect, Look, failed_in, waiting_frame}
 use Rattle.node_model.specs.Sessions.{Session}
 use Rattle.node_model.specs.SessionStep.{Here, here, session_at}
 use Rattle.node_model.specs.SetUp.{SetUp, served_connections}
 use Rattle.node_model.specs.State.{State}
-use Rattle.p2p_server.specs.Answers.{failed_in}
 use Rattle.p2p_server.specs.SessionCalls.{calls_frame, calls_next}
 
 -- those of a session whose end stands so, where this frame waits

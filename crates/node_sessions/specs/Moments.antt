@@ -11,7 +11,7 @@ use Rattle.content_lock.specs.Stored.{Agrees}
 use Rattle.content_lock.specs.Tokens.{Owns}
 use Rattle.link_ring.specs.declared.frame.Frame.{Frame}
 use Rattle.link_ring.specs.Ends.{EndView, next_frame}
-use Rattle.node_model.specs.Look.{Look}
+use Rattle.node_model.specs.Look.{Look, failed_in}
 use Rattle.node_model.specs.Sessions as sessions
 use Rattle.node_model.specs.Sessions.{session_after}
 use Rattle.node_model.specs.SessionStep.{here, is_filled, session_makes}
@@ -21,7 +21,7 @@ use Rattle.node_ends.specs.Ends.{end_at, frame_at, link_at, room_at, wait_at}
 use Rattle.p2p_server.specs.declared.Incoming.{Incoming}
 use Rattle.p2p_server.specs.declared.Incoming.TheVariants as incoming
 use Rattle.p2p_server.specs.declared.session.Session.{Session}
-use Rattle.p2p_server.specs.Answers.{contents_after, failed_in}
+use Rattle.p2p_server.specs.Answers.{contents_after}
 use Rattle.p2p_server.specs.Bounds.{IsKind}
 use Rattle.p2p_server.specs.Giving.{is_giving}
 use Rattle.p2p_server.specs.States.{IsScene, HaveRows, stand_after, stand_of}

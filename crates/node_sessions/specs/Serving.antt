@@ -11,7 +11,7 @@ use Rattle.object_store.specs.Stores.{Contents, Parts}
 use Rattle.content_lock.specs.Rows.{Rows, is_filling}
 use Rattle.link_ring.specs.Ends.{EndView}
 use Rattle.node_model.specs.Ends.{End, EndName, end_sends, end_took, frames, sent_at, server_end, taken_at}
-use Rattle.node_model.specs.Look.{Look, Effect}
+use Rattle.node_model.specs.Look.{Effect, Look, failed_in}
 use Rattle.node_model.specs.Rows.{same_owner}
 use Rattle.node_model.specs.Sessions as sessions
 use Rattle.node_model.specs.Sessions.{session_after}
@@ -23,7 +23,7 @@ use Rattle.node_ends.specs.declared.sending.Sending.TheVariants as sendings
 use Rattle.node_ends.specs.Ends.{AreEnds, SeesEnds, end_at, room_at, wait_at}
 use Rattle.node_ends.specs.Sent.{text_of_sending}
 use Rattle.p2p_server.specs.declared.session.Session.{Session}
-use Rattle.p2p_server.specs.Answers.{closes, failed_in}
+use Rattle.p2p_server.specs.Answers.{closes}
 use Rattle.p2p_server.specs.States.{HaveRows, Stand, stand_after, stand_of}
 use Rattle.p2p_server.specs.Talking.{AreAfterStep, Brings, IsJudgedOf, SeesPartOf}
 use Rattle.node_sessions.specs.declared.served.Served.{Served}

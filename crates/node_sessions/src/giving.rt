@@ -3,7 +3,8 @@ ghost use Rattle.std.specs.Prelude.{◌≡◌, ◌≤◌, ◌+◌, ◌<◌, ◌^
 ghost use Rattle.std.specs.Option.{ForSome};
 ghost use Rattle.link_ring.specs.Ends.{EndView};
 ghost use Rattle.content_lock.specs.Rows.{Rows};
-ghost use Rattle.p2p_server.specs.Answers.{LeavesContents, failed_in};
+ghost use Rattle.p2p_server.specs.Answers.{LeavesContents};
+ghost use Rattle.node_model.specs.Look.{failed_in};
 ghost use Rattle.p2p_server.specs.Bounds.{FitsMore, IsKind};
 ghost use Rattle.p2p_server.specs.Giving.{failed_more, is_giving, reply_more};
 ghost use Rattle.p2p_server.specs.Stepping.{moment_of};

@@ -147,7 +147,7 @@ pub record OrderStandsOn (s : SetUp) (past : List Entry) (e : Entry) (j peer : �
   pub key_is : key ≡ key_in (begun_job past s.number j)
   pub need_is : need ≡ need_read (s.paths j) past s.number j
   pub spared : required (settings_of (read_at past s.number j) s.number) (id_of s.repos peer) key (s.paths j) ≡ None
-  pub timed : HasDeadline (turn_at s past e by) by.made deadline
+  pub timed : HasDeadline (turn_at s past e by) by.made.taken deadline
   pub sent_is : by.made.sent ≡ frames (job_end by.w peer) (end_at past s.number (job_end by.w peer)) (Line (text_of (order_of deadline key)) ∷ [])
 
 pub order_stands_on : SentAreRead → (s : SetUp) (past : List Entry) (words : ℕ → Option Word) (e : Entry) → OwnPast s past → OwnPart s past words e

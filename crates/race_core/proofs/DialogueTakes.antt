@@ -195,7 +195,7 @@ module _ (t : Turn) (f : FrameView) (peer : ℕ) (x : Taking t f peer) (walks : 
   -- the release of its own share fails, as the timestamp comes too late
   late_good : (n : ℕ) (outcome : Outcome) → t.w.phase ≡ AsksTime → line_in f.body ≡ Some (Timestamp n) → GoodMade t (ends t (Some f) outcome)
   late_good n outcome is told =
-      let rest : Effect = record { kind = ends_job t.w.number outcome; taken = Some f; sent = farewells t (is_lost_ordered outcome); lines = [] } in
+      let rest : Effect = record { kind = ends_job t.w.number outcome; taken = Some f; sent = farewells t (is_lost_ordered outcome); lines = []; calls = [] } in
       attempts_even (GoodMade t) t (to_release (owns_share t && not (is_lost_ordered outcome))) (Some f) rest
       (λ call e. subst (λ (c : Call). GoodMade t (quietly (Fault c (by_me t)) (Some f))) (sym (release_is (owns_share t && not (is_lost_ordered outcome)) call e)) (
         subst (λ (p : Phase). KeepsTo t (quietly (Fault calls.Unhold (by_me t)) (Some f)) (after_failed_release t.w t.look.time p)) (sym is)

@@ -83,7 +83,7 @@ fault_on t peer on taken call plain = (
 
 pub ends_good : (t : Turn) → partner t.w.what.peer t.w.phase ≡ None → IsLive t.w.phase → (outcome : Outcome) → GoodMade t (ends t None outcome)
 ends_good t alone live outcome =
-    let rest : Effect = record { kind = ends_job t.w.number outcome; taken = None; sent = farewells t (is_lost_ordered outcome); lines = [] } in
+    let rest : Effect = record { kind = ends_job t.w.number outcome; taken = None; sent = farewells t (is_lost_ordered outcome); lines = []; calls = [] } in
     attempts_even (GoodMade t) t (to_release (owns_share t && not (is_lost_ordered outcome))) None rest
     (λ call e. subst (λ (c : Call). GoodMade t (quietly (Fault c (by_me t)) None)) (sym (release_is (owns_share t && not (is_lost_ordered outcome)) call e))
     (still_keeps t alone live (Fault calls.Unhold (by_me t)) (after_failed_release t.w t.look.time t.w.phase) (unreleased_alone t.w.what.peer t.w t.look.time t.w.phase alone), inl tt)) tt
@@ -91,7 +91,7 @@ ends_good t alone live outcome =
 -- the end of a job that is to end
 pub dead_good : (t : Turn) → (IsLive t.w.phase → ⊥) → (outcome : Outcome) → GoodMade t (ends t None outcome)
 dead_good t dead outcome =
-    let rest : Effect = record { kind = ends_job t.w.number outcome; taken = None; sent = farewells t (is_lost_ordered outcome); lines = [] } in
+    let rest : Effect = record { kind = ends_job t.w.number outcome; taken = None; sent = farewells t (is_lost_ordered outcome); lines = []; calls = [] } in
     attempts_even (GoodMade t) t (to_release (owns_share t && not (is_lost_ordered outcome))) None rest
     (λ call e. subst (λ (c : Call). GoodMade t (quietly (Fault c (by_me t)) None)) (sym (release_is (owns_share t && not (is_lost_ordered outcome)) call e))
     (over_keeps t (quietly (Fault calls.Unhold (by_me t)) None) (after_failed_release t.w t.look.time t.w.phase) (still_dead t.w.phase refl), inl tt)) tt

@@ -204,7 +204,7 @@ orders_step reads_back s past words e h b is part j target deadline need key kin
     only (inr m) = absurd m
 
     has_deadline : (s : SetUp) (past : List Entry) (e : Entry) (by : Stepped s past e) → side_of by.w ≡ Remote → (target : ℕ) → target ≡ target_of s.number by.w → (key : List ℕ) (deadline : Option ℕ)
-        → Found.HasDeadline (turn_at s past e by) by.made deadline → by.made.sent ≡ frames (job_end by.w target) (end_at past s.number (job_end by.w target)) (Line (text_of (order_of deadline key)) ∷ []) → (first : ℕ) → first_end (turn_at s past e by) ≡ Some first → HasDeadline s.repos s.number past e target deadline first
+        → Found.HasDeadline (turn_at s past e by) by.made.taken deadline → by.made.sent ≡ frames (job_end by.w target) (end_at past s.number (job_end by.w target)) (Line (text_of (order_of deadline key)) ∷ []) → (first : ℕ) → first_end (turn_at s past e by) ≡ Some first → HasDeadline s.repos s.number past e target deadline first
     has_deadline s past e by side target aims key None timed says first ends = absurd (let bad : None ≡ Some first = sym timed ∙ ends in cc)
     has_deadline s past e by side target aims key (Some deadline) timed says first ends =
         let f = timed.0 in

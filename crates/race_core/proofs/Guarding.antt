@@ -107,7 +107,7 @@ on_lock-grants : (h : Here) (key : List ℕ) → Grants (by_of h) (on_lock h key
 on_lock-grants h key =
     let good : Reply = lock_answer h.number (now_of h + hold_time) (by_of h) key h.locks (is_here h key) (bar_on h key) in
     unless_found (Grants (by_of h)) (failing_call h.fails (to_lock h.locks (is_here h key) (bar_on h key)))
-    (λ call. record { kind = Fault call (by_of h); says = failure_line }) good (λ call n k e. absurd (cc))
+    (λ call. record { kind = Fault call (by_of h); says = failure_line; calls = [] }) good (λ call n k e. absurd (cc))
     (lock_grants h.number (now_of h + hold_time) (by_of h) key h.locks (is_here h key) (bar_on h key))
 
 message_grants : (h : Here) (v : ℕ) (doing : Doing) (k : List ℕ) → Grants (by_of h) (on_message h v doing (LockContent k))

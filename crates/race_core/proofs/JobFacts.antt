@@ -58,7 +58,7 @@ wrong_found t f peer = sends_found t (Some f) peer Closing tt
 
 ends_found : (t : Turn) (taken : Option FrameView) (outcome : Outcome) → FindsOutcome t taken outcome ⊎ HasOutcome t taken outcome → JobFound t taken (ends t taken outcome)
 ends_found t taken outcome why =
-    let good : Effect = record { kind = ends_job t.w.number outcome; taken = taken; sent = farewells t (is_lost_ordered outcome); lines = [] } in
+    let good : Effect = record { kind = ends_job t.w.number outcome; taken = taken; sent = farewells t (is_lost_ordered outcome); lines = []; calls = [] } in
     attempts_found t (to_release (owns_share t && not (is_lost_ordered outcome))) taken good (refl, record { number_is = refl; why = why; sent_is = refl })
 
 -- ---- drops
@@ -132,7 +132,7 @@ first_drop_found t part first Local side =
 first_drop_found t part first Remote side = remote_found t part first side (required_there t) refl
 
 orders_found : (t : Turn) (taken : Option FrameView) (deadline : Option ℕ) → t.w.part ≡ Drops → side_of t.w ≡ Remote
-    → HasDeadline t (orders t taken deadline (order_of deadline (key_of t))) deadline → JobFound t taken (orders t taken deadline (order_of deadline (key_of t)))
+    → HasDeadline t taken deadline → JobFound t taken (orders t taken deadline (order_of deadline (key_of t)))
 orders_found t taken deadline part side timed = (
   refl,
   record {

@@ -68,7 +68,7 @@ module _ (before : Turn) (none : owns_share (begins before) ≡ false) where
 
   ends_spare : (outcome : Outcome) → Spares (ends t None outcome)
   ends_spare outcome = attempts_even Spares t (to_release (owns_share t && not (is_lost_ordered outcome))) None
-      (record { kind = ends_job t.w.number outcome; taken = None; sent = farewells t (is_lost_ordered outcome); lines = [] })
+      (record { kind = ends_job t.w.number outcome; taken = None; sent = farewells t (is_lost_ordered outcome); lines = []; calls = [] })
       (λ call e. absurd (no_release (owns_share t) (not (is_lost_ordered outcome)) none call e)) (inr tt)
 
   remote_spares : (text : Option (List ℕ)) → required_there t ≡ text → Spares (first_remote t text)

@@ -54,7 +54,7 @@ module _ (reads_back : SentAreRead) (run : Run) (repos : Each IsSetUp run.repos)
     closing : ClosesFor (turn_at s past e b.by) b.by.made
     closing = (ConversationClient.keeps reads_back run repos past e h step r own (conversing reads_back run repos past h r) b.by (moved_on s past e w b)).1
 
-    fell : (p : ℕ) → SentClose (job_end v p) e → FallsShort (turn_at s past e b.by) b.by.made → FellShort (e ∷ past) r v.number p v.what.key
+    fell : (p : ℕ) → SentClose (job_end v p) e → FallsShort (turn_at s past e b.by) b.by.made.taken → FellShort (e ∷ past) r v.number p v.what.key
     fell p t short = go short.why
       where
         at : (t.g.peer ≡ p) × (t.g.slot ≡ v.slot) × (t.g.up ≡ true)
