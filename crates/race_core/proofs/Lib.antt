@@ -200,3 +200,5 @@ pub mod FirstSteps
 pub mod Unheard
 pub mod WordsAsked
 pub mod Others
+pub mod GuardsOpen
+pub mod SoundStates

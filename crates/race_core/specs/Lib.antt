@@ -7,3 +7,4 @@ pub mod Copies
 pub mod Items
 pub mod Merged
 pub mod Jobs
+pub mod Sound

@@ -33,6 +33,6 @@ pub use laws::{
 };
 pub use run_data;
 pub use steps::{
-    carried_states_agree, own_entries_suit_their_ends, steps_find_their_cause,
+    carried_states_agree, own_entries_suit_their_ends, states_are_sound, steps_find_their_cause,
     steps_name_their_jobs, steps_open_closed_ends, steps_take_what_is_at_hand,
 };

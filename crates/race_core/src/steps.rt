@@ -21,7 +21,8 @@ ghost use Rattle.node_model.specs.State.{State};
 ghost use Rattle.node_model.specs.Step.{step};
 ghost use Rattle.node_model.specs.Turns.{goes, is_awaiting, takes_frame};
 ghost use Rattle.run_model.specs.Past.{is_of};
-ghost use Rattle.run_model.specs.Run.{IsRun, OwnPart, OwnPast, set_up};
+ghost use Rattle.run_model.specs.Run.{IsRun, OwnPart, OwnPast, OwnRun, set_up};
+ghost use Rattle.race_core.specs.Sound.{IsSeated, IsSound};
 ghost use Rattle.run_model.specs.States.{end_at, state_of};
 
 use log_lines::{compaction_keeps_the_reading, readings_depend_on_the_set};
@@ -94,4 +95,11 @@ pub fn steps_name_their_jobs()
 /// A step that makes an entry found what the table of `Found` says of that kind of entry, in any state (own).
 pub fn steps_find_their_cause()
     ensures { (s : SetUp) (st : State) (k : Look) (m : Effect) → step s st k ≡ Some m → StepFound s st k m }
+{}
+
+/// In the state of a repository after its own entries, jobs of one number are one, each the one in its slot; the hold that a session
+/// guards is open; and a local drop that is under way has its bar (own).
+pub fn states_are_sound()
+    ensures sound { (s : SetUp) (past : List Entry) → OwnRun s past → IsSound (state_of s past) }
+    ensures seated { (s : SetUp) (past : List Entry) → OwnRun s past → IsSeated (state_of s past) }
 {}
