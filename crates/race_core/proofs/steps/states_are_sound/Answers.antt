@@ -1,9 +1,0 @@
--- What the proof of `steps::states_are_sound` needs beside the tactics.
-use Rattle.race_core.proofs.SoundStates.{own_seated, own_sound}
-use Rattle.race_core.proofs.steps.states_are_sound.Goals as goal
-
-pub returns-clause-sound : goal.returns-clause-sound
-returns-clause-sound c = own_sound
-
-pub returns-clause-seated : goal.returns-clause-seated
-returns-clause-seated c = own_seated
