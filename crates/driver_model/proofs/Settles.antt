@@ -16,7 +16,6 @@ use Rattle.node_model.specs.Sessions.{line_in, message_said}
 use Rattle.node_model.specs.State.{State}
 use Rattle.node_model.specs.Look.{Look, Effect}
 use Rattle.node_model.specs.Step.{step}
-use Rattle.annex_base.proofs.Lists.{find_member}
 use Rattle.driver_model.specs.Driver.{Driver, DriverInput, without_old_flights, drops_part, fails_at, set_up_of, state_at}
 use Rattle.driver_model.specs.Turning.{asked_key, bytes_taken, calm_look, made_calls, is_failure, is_valid, look_for, looks, makes, plain_look, store_after, takes_frame, takes_into, turn}
 use Rattle.driver_model.specs.Rounds.{AfterRounds, after_round, goes_round, idle_after, is_idle, is_settled, most_rounds, numbers, round, rounds, turns_of}

@@ -45,16 +45,16 @@ each_larger m n (x ∷ xs) i a = let j = a.0 in (omega (arith, i, j), each_large
 
 module _ (g : DriverInput) (d : Driver) where
   pub keeps_commits : (r : ℕ) (key : List ℕ) → Keeps g d → Keeps g (commits r key d)
-  keeps_commits r key k fits = let h = k fits in record { run = h.run; flies = h.flies; order = h.order; down = h.down; apart = h.apart; parts = Each-filter (Small d.largest) (λ x. not (is_stored r key x)) d.parts h.parts }
+  keeps_commits r key k fits = let h = k fits in record { run = h.run; flies = h.flies; order = h.order; down = h.down; apart = h.apart; parts = Each-filter (Small d.largest) (λ x. not (is_stored r key x)) d.parts h.parts; keys = h.keys }
 
   pub keeps_removes : (r : ℕ) (key : List ℕ) → Keeps g d → Keeps g (removes_content r key d)
-  keeps_removes r key k fits = let h = k fits in record { run = h.run; flies = h.flies; order = h.order; down = h.down; apart = h.apart; parts = h.parts }
+  keeps_removes r key k fits = let h = k fits in record { run = h.run; flies = h.flies; order = h.order; down = h.down; apart = h.apart; parts = h.parts; keys = h.keys }
 
   pub keeps_drops : (r : ℕ) (key : List ℕ) → Keeps g d → Keeps g (drops_part r key d)
-  keeps_drops r key k fits = let h = k fits in record { run = h.run; flies = h.flies; order = h.order; down = h.down; apart = h.apart; parts = Each-filter (Small d.largest) (λ x. not (is_stored r key x)) d.parts h.parts }
+  keeps_drops r key k fits = let h = k fits in record { run = h.run; flies = h.flies; order = h.order; down = h.down; apart = h.apart; parts = Each-filter (Small d.largest) (λ x. not (is_stored r key x)) d.parts h.parts; keys = h.keys }
 
   pub keeps_answers : (r : ℕ) (call : Call) → Keeps g d → Keeps g (answers r call d)
-  keeps_answers r call k fits = let h = k fits in record { run = h.run; flies = h.flies; order = h.order; down = h.down; apart = h.apart; parts = h.parts }
+  keeps_answers r call k fits = let h = k fits in record { run = h.run; flies = h.flies; order = h.order; down = h.down; apart = h.apart; parts = h.parts; keys = h.keys }
 
   pub keeps_puts : (r : ℕ) (key bytes : List ℕ) → Keeps g d → Keeps g (puts_part r key bytes d)
   keeps_puts r key bytes k fits =
@@ -68,6 +68,7 @@ module _ (g : DriverInput) (d : Driver) where
         down = h.down;
         apart = h.apart;
         parts = (le-max_right d.largest (length bytes), each_larger d.largest (max d.largest (length bytes)) (filter (λ x. not (is_stored r key x)) d.parts) more (Each-filter (Small d.largest) (λ x. not (is_stored r key x)) d.parts h.parts));
+        keys = h.keys;
       }
 
   pub keeps_cleared : (r : ℕ) → Keeps g d → Keeps g (without_old_flights (state_at g d r) r d)
@@ -80,6 +81,7 @@ module _ (g : DriverInput) (d : Driver) where
         down = Each-filter ComesDown (λ x. not (old_at (state_at g d r) r x)) d.flights h.down;
         apart = Each-filter GoesToOther (λ x. not (old_at (state_at g d r) r x)) d.flights h.apart;
         parts = h.parts;
+        keys = h.keys;
       }
 
   keeps_into : (r : ℕ) (key bytes : List ℕ) (body : FrameText) (sent : List FrameView) → Keeps g d → Keeps g (takes_into r key bytes body sent d)

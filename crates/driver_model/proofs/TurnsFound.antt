@@ -1,18 +1,13 @@
 -- A turn is found from the step that is made at the driver's look for it: the plain look finds a step of the same session or job, which
 -- asks for the same part, and the first call of the step that is to fail is the one that failed.
 use Rattle.std.proofs.Common.{◌≡◌, ℕ, Bool, true, false, List, [], ◌∷◌, Option, Some, None, ◌⊎◌, inl, inr, refl, sym, ap, ◌∙◌, subst}
-use Rattle.std.specs.Prelude.{if◌then◌else◌, ◌==◌, cond, find}
+use Rattle.std.specs.Prelude.{if◌then◌else◌, ◌==◌, find}
 use Rattle.std.specs.List.{list_all}
 use Rattle.std.specs.Option.{option_map, option_or}
-use Rattle.annex_base.specs.Calls.{call_number, same_call}
-use Rattle.annex_base.specs.Lists.{Each, Member}
 use Rattle.annex_base.specs.declared.kinds.Call.{Call}
-use Rattle.annex_base.specs.declared.kinds.Call.TheVariants as calls
 use Rattle.annex_base.specs.declared.kinds.Word.{Word}
-use Rattle.annex_base.proofs.Calls.{same_call-is}
-use Rattle.annex_base.proofs.Lists.{Each-weaker, find_none}
 use Rattle.run_data.specs.declared.entry.EntryKind.{EntryKind}
-use Rattle.run_data.specs.declared.entry.EntryKind.TheVariants.{Fault, End as ends_job}
+use Rattle.run_data.specs.declared.entry.EntryKind.TheVariants.{End as ends_job}
 use Rattle.run_data.specs.declared.entry.FrameView.{FrameView}
 use Rattle.run_data.specs.declared.job.Outcome.{Outcome}
 use Rattle.node_model.specs.Ends.{EndName, server_end}
@@ -37,8 +32,7 @@ use Rattle.driver_model.proofs.Alike.{Alike, first_alike, list_alike, other_read
 use Rattle.driver_model.proofs.EndsAlike.{ends_alike, given_next}
 use Rattle.driver_model.proofs.Needed.{needed}
 use Rattle.driver_model.proofs.Premises.{NamedJobs}
-use Rattle.driver_model.proofs.WordsAside.{Told, step_told, words_aside}
-use Rattle.annex_base.proofs.Conditions.{eqb_refl}
+use Rattle.driver_model.proofs.WordsAside.{words_aside}
 
 -- ---- any two looks that have the same time, count, frames and rooms find a step of the same session or job
 

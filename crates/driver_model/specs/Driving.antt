@@ -1,12 +1,13 @@
 -- The sequential driver (own): the run that it makes of a script, line by line.
 use Rattle.std.specs.Prelude.{ℕ, zero, suc, List, [], ◌∷◌, ◌++◌, length, reverse}
 use Rattle.run_data.specs.declared.run.Run.{Run}
-use Rattle.driver_model.specs.Lines.{Line, Have, SetPart, Add, File, Set, Raw, Merge, Compact, Begin, Turns, Settle, Close, Crash, Wait, Fail, Par, Shows}
+use Rattle.driver_model.specs.Lines.{Line, Have, SetPart, Add, File, Set, Raw, Merge, Compact, Sync, Begin, Turns, Settle, Close, Crash, Wait, Fail, Par, Shows}
 use Rattle.driver_model.specs.Lines
 use Rattle.driver_model.specs.Driver.{Driver, DriverInput, at_first}
 use Rattle.driver_model.specs.ScriptSteps.{begins, closes, compacts, crashes, enters, has, merges, sets, sets_part, waits, will_fail, writes}
 use Rattle.driver_model.specs.Turning.{turn}
 use Rattle.driver_model.specs.Rounds.{blocks, settles}
+use Rattle.driver_model.specs.Syncs.{syncs}
 
 abbrev pub turns : DriverInput → ℕ → ℕ → Driver → Driver
 turns g r zero d = d
@@ -22,6 +23,7 @@ does g (Set r kind topic value) d = sets g r kind topic value d
 does g (Raw r file line) d = writes r file line d
 does g (Merge r other) d = merges r other d
 does g (Compact r) d = compacts r d
+does g (Sync r) d = syncs g r d
 does g (Begin r job) d = begins r job d
 does g (Lines.Run r job) d = settles g (begins r job d)
 does g (Turns r n) d = turns g r n d

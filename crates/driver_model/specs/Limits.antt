@@ -1,7 +1,7 @@
 -- The run of a script, with at most 100,000 entries a repository (own): it ends where a line meets a full history.
 use Rattle.std.specs.Prelude.{◌≡◌, ℕ, ◌<◌, ◌≤◌, Bool, true, false, ◌||◌, if◌then◌else◌, nat_le, nat_lt, List, [], ◌∷◌, ◌++◌, filter, length, reverse, Option, Some, None}
 use Rattle.std.specs.List.{list_any}
-use Rattle.annex_base.specs.Lists.{Each}
+use Rattle.annex_base.specs.Lists.{Each, Member}
 use Rattle.run_data.specs.Histories.{most_entries}
 use Rattle.run_data.specs.declared.entry.Entry.{Entry}
 use Rattle.run_data.specs.declared.run.Run.{Run}
@@ -9,9 +9,10 @@ use Rattle.run_model.specs.Past.{is_of}
 use Rattle.run_model.specs.Run.{IsRun}
 use Rattle.driver_model.specs.Driver.{Driver, DriverInput, at_first}
 use Rattle.driver_model.specs.Driving.{does, run_with, with_mark}
-use Rattle.driver_model.specs.Lines.{Line, Have, SetPart, Add, File, Set, Raw, Merge, Compact, Begin, Turns, Settle, Close, Crash, Wait, Fail, Par, Shows}
+use Rattle.driver_model.specs.Lines.{Line, Closes, Have, SetPart, Add, File, Set, Raw, Merge, Compact, Sync, Begin, Turns, Settle, Close, Crash, Wait, Fail, Par, Shows}
 use Rattle.driver_model.specs.Lines
-use Rattle.driver_model.specs.Rounds.{numbers}
+use Rattle.driver_model.specs.Rounds.{block_end, is_stuck, numbers}
+use Rattle.driver_model.specs.ScriptSteps.{lacks_places}
 
 -- ---- full histories
 
@@ -40,6 +41,7 @@ asks_first (Set r kind topic value) = None
 asks_first (Raw r file line) = None
 asks_first (Merge r other) = None
 asks_first (Compact r) = None
+asks_first (Sync r) = None
 asks_first (Begin r job) = None
 asks_first (Lines.Run r job) = None
 asks_first (Turns r n) = None
@@ -55,13 +57,39 @@ abbrev pub is_full : List Entry → Option ℕ → Bool
 is_full past None = false
 is_full past (Some r) = nat_le most_entries (count_of past r)
 
--- the line asks the store of a repository whose history is full, or would make an entry too many
+-- the line is a close that lacks places, which then closes no end, or a block that comes to one, and ends there
+abbrev pub lacks_at : DriverInput → Line → Driver → Bool
+lacks_at g (Close r other) d = lacks_places d.past r other
+lacks_at g (Par lines) d = is_stuck (block_end g lines d).driver (block_end g lines d).left
+lacks_at g line d = false
+
+-- the line asks the store of a repository whose history is full, or would make an entry too many, or comes to a close that lacks places
 abbrev pub meets_limit : DriverInput → Line → Driver → Bool
-meets_limit g line d = is_full d.past (asks_first line) || is_too_long g (does g line d).past
+meets_limit g line d = is_full d.past (asks_first line) || (is_too_long g (does g line d).past || lacks_at g line d)
 
 -- the run then: the line's entries up to there, and the marks of the lines before it
 abbrev pub run_to_limit : DriverInput → Line → Driver → Run
 run_to_limit g line d = record (run_with g (does g line d)) { entries = reverse (within_limit g (does g line d).past) }
+
+-- the line is this close, or has it in its block
+abbrev pub HasClose : Line → ℕ → ℕ → Type 0
+HasClose (Close r other) q peer = (q ≡ r) × (peer ≡ other)
+HasClose (Par lines) q peer = Member (record { repo = q; line = Closes peer }) lines
+HasClose line q peer = ⊥
+
+-- After these entries one of the lines comes to a close of more ends than there are places left in the history of its repository.
+pub record LacksPlaces (g : DriverInput) (lines : List Line) (past : List Entry) : Type 0 where
+  pub line : Line
+  pub among : Member line lines
+  pub repo : ℕ
+  pub other : ℕ
+  pub closes : HasClose line repo other
+  pub known : repo < length g.repos
+  pub lacks : lacks_places past repo other ≡ true
+
+-- in which some repository has made all entries that it may
+abbrev pub HasFull : DriverInput → List Entry → Type 0
+HasFull g past = (r : ℕ) × (r < length g.repos) × (count_of past r ≡ most_entries)
 
 -- ---- scripts
 

@@ -1,4 +1,4 @@
--- The lines of a script (own), but for `sync`, `damage`, `numcopiesfor` and `mincopiesfor`.
+-- The lines of a script (own), but for `damage`, `numcopiesfor` and `mincopiesfor`.
 use Rattle.std.specs.Prelude.{ℕ, List}
 use Rattle.annex_base.specs.declared.kinds.Call.{Call}
 use Rattle.log_lines.specs.declared.entry.LogKind.{LogKind}
@@ -30,6 +30,7 @@ pub data Line : Type 0 where
   Raw : (r : ℕ) → LogFile → (line : List ℕ) → Line
   Merge : (r other : ℕ) → Line
   Compact : (r : ℕ) → Line
+  Sync : (r : ℕ) → Line
   Begin : (r : ℕ) → Job → Line
   Run : (r : ℕ) → Job → Line
   Turns : (r n : ℕ) → Line

@@ -17,7 +17,7 @@ use Rattle.run_data.specs.Repos.{fits_size}
 use Rattle.node_model.specs.AnyTime.{IsPeer}
 use Rattle.run_model.specs.Past.{Always}
 use Rattle.run_model.specs.Run.{IsSmall}
-use Rattle.driver_model.specs.Lines.{Agendum, BlockLine, Line, Runs, Crashes, Closes, Fails, Have, SetPart, Add, File, Set, Raw, Merge, Compact, Begin, Turns, Settle, Close, Crash, Wait, Fail, Par, Shows}
+use Rattle.driver_model.specs.Lines.{Agendum, BlockLine, Line, Runs, Crashes, Closes, Fails, Have, SetPart, Add, File, Set, Raw, Merge, Compact, Sync, Begin, Turns, Settle, Close, Crash, Wait, Fail, Par, Shows}
 use Rattle.driver_model.specs.Lines
 use Rattle.driver_model.specs.Driver.{Driver, DriverInput}
 
@@ -62,16 +62,17 @@ abbrev pub IsAgendum : DriverInput → Agendum → Type 0
 IsAgendum g x = IsKnown g x.repo × IsBlockLine g x.repo x.line
 
 -- The line is one of the script's: the repository that acts is one of the run, and a job one that it may begin; a content is
--- of a key, and has its size; what is written is a line of a file whose kind is known.
+-- of a key, and has its size; a path of the tree names a key; what is written is a line of a file whose kind is known.
 abbrev pub IsOne : DriverInput → Line → Type 0
 IsOne g (Have r key bytes) = IsKnown g r × IsContent key bytes
 IsOne g (SetPart r key bytes) = IsKnown g r
 IsOne g (Add r path key bytes) = IsKnown g r × IsContent key bytes
-IsOne g (File path key) = Unit {0}
+IsOne g (File path key) = IsKeyText key
 IsOne g (Set r kind topic value) = IsKnown g r × (kind ≢ Location) × IsPlainTopic topic × IsPlainValue value
 IsOne g (Raw r file line) = IsKnown g r × HasPath file × (kind_of file ≢ None) × IsLine line
 IsOne g (Merge r other) = IsKnown g r
 IsOne g (Compact r) = IsKnown g r
+IsOne g (Sync r) = IsKnown g r
 IsOne g (Begin r job) = IsKnown g r × IsJob g r job
 IsOne g (Lines.Run r job) = IsKnown g r × IsJob g r job
 IsOne g (Turns r n) = IsKnown g r

@@ -1,6 +1,6 @@
 //! The laws of a driver whose repositories make at most 100,000 entries each. Each is the contract of a function that does nothing.
 
-ghost use Rattle.std.specs.Prelude.{◌≡◌, ℕ, ◌<◌, ◌≤◌, true, false, List, ◌++◌, length, reverse};
+ghost use Rattle.std.specs.Prelude.{◌≡◌, ◌⊎◌, ℕ, ◌<◌, ◌≤◌, true, false, List, ◌++◌, length, reverse};
 ghost use Rattle.annex_base.specs.Lists.{Each};
 ghost use Rattle.log_lines.specs.declared.entry.LogKind.{LogKind};
 ghost use Rattle.log_lines.specs.declared.entry.Topic.{Topic};
@@ -14,7 +14,7 @@ ghost use Rattle.run_data.specs.declared.run.Run.{Run};
 ghost use Rattle.run_model.specs.Logs.{branch};
 ghost use Rattle.driver_model.specs.Driver.{Driver, DriverInput, drops_part, puts_part};
 ghost use Rattle.driver_model.specs.Driving.{does, run_of};
-ghost use Rattle.driver_model.specs.Limits.{AddsOwn, StopsAtFull, count_of, is_too_long, limited_run, names_path, within_limit};
+ghost use Rattle.driver_model.specs.Limits.{AddsOwn, HasFull, LacksPlaces, StopsAtFull, count_of, is_too_long, limited_run, names_path, within_limit};
 ghost use Rattle.driver_model.specs.Lines.{Line};
 ghost use Rattle.driver_model.specs.Scripts.{IsContent, IsKnown, IsOne};
 ghost use Rattle.driver_model.specs.ScriptSteps.{begins, compacts_files, gets_content, has, is_busy, merges_files, sets, sets_part, writes};
@@ -92,8 +92,9 @@ pub fn runs_are_cut_where_histories_are_full()
         → (limited_run g lines).run ≡ run_of g lines }
 {}
 
-/// Where a script's run is cut, some repository has a full history in it (own).
+/// Where a script's run is cut, some repository has a full history in it, or a line comes to a close of more ends than there are places
+/// left in the history of its repository, and closes none (own).
 pub fn cut_runs_have_a_full_history()
     ensures { (g : DriverInput) (lines : List Line) → Each (IsOne g) lines → (limited_run g lines).is_cut ≡ true
-        → (r : ℕ) × (r < length g.repos) × (count_of (reverse (limited_run g lines).run.entries) r ≡ most_entries) }
+        → HasFull g (reverse (limited_run g lines).run.entries) ⊎ LacksPlaces g lines (reverse (limited_run g lines).run.entries) }
 {}
