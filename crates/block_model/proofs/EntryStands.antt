@@ -1,6 +1,6 @@
 -- One more entry of a block keeps the driver sound.
-use Rattle.std.proofs.Common.{◌≡◌, ◌≢◌, ℕ, ◌+◌, ◌<◌, ◌≤◌, ◌^◌, Bool, true, false, List, [], ◌∷◌, ◌++◌, Option, Some, None, ◌⊎◌, inl, inr, refl, sym, ap, ◌∙◌, subst, arith}
-use Rattle.std.specs.Prelude.{cond, ◌==◌, find, length, map, reverse}
+use Rattle.std.proofs.Common.{◌≡◌, ◌≢◌, ℕ, ◌<◌, ◌≤◌, ◌^◌, Bool, true, false, List, [], ◌∷◌, ◌++◌, Option, Some, None, ◌⊎◌, inl, inr, refl, sym, ap, ◌∙◌, subst, arith}
+use Rattle.std.specs.Prelude.{cond, find, length, map}
 use Rattle.std.proofs.lemmas.Bool.{eqb-true}
 use Rattle.std.proofs.lemmas.List.{reverse-reverse}
 use Rattle.annex_base.specs.Lists.{Each}
@@ -12,8 +12,6 @@ use Rattle.run_data.specs.declared.entry.EntryKind.{EntryKind}
 use Rattle.run_data.specs.declared.entry.EntryKind.TheVariants as kinds
 use Rattle.run_data.specs.declared.entry.FrameView.{FrameView}
 use Rattle.run_data.specs.declared.job.Outcome.{Outcome}
-use Rattle.run_data.specs.declared.run.Run.{Run}
-use Rattle.run_model.specs.Frames.{way_of}
 use Rattle.run_model.specs.Past.{Occurs, is_of}
 use Rattle.run_model.specs.Run.{ComesInOrder, FramesPart, IsRun, MayBe, OwnPart, RunStep, repo_number}
 use Rattle.run_model.specs.States.{end_at}
@@ -27,7 +25,7 @@ use Rattle.driver_model.specs.Scripts.{HasBoundedPast}
 use Rattle.driver_model.specs.Sound.{ComesDown, GoesToOther, IsSound}
 use Rattle.driver_model.specs.Stores.{StoredBytes, bytes_in, is_stored, stored_bytes}
 use Rattle.driver_model.specs.Turning.{asked_key, part_size}
-use Rattle.driver_model.specs.Ways.{AreOnTheWay, Flies, InOrder, IsOver, bodies_flying, is_flight, numbered_body, other_end}
+use Rattle.driver_model.specs.Ways.{Flies, InOrder, bodies_flying, is_flight, numbered_body}
 use Rattle.driver_model.proofs.EndLemmas.{takes_self}
 use Rattle.driver_model.proofs.FrameNumbers.{TakesWell}
 use Rattle.driver_model.proofs.Holding.{Keeps, entry_on, run_on, set_up_on}

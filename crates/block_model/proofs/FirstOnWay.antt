@@ -1,6 +1,6 @@
 -- The first frame that is on a way, and the flights with it in front.
-use Rattle.std.proofs.Common.{◌≡◌, ℕ, zero, suc, ◌+◌, Bool, true, false, List, [], ◌∷◌, ◌++◌, Option, Some, None, ◌⊎◌, inl, inr, refl, sym, ap, ◌∙◌, subst, arith}
-use Rattle.std.specs.Prelude.{cond, ◌==◌, ◌&&◌, drop, filter, length, map, slice_get}
+use Rattle.std.proofs.Common.{◌≡◌, ℕ, zero, suc, Bool, true, false, List, [], ◌∷◌, ◌++◌, Some, refl, sym, ap, ◌∙◌, arith}
+use Rattle.std.specs.Prelude.{cond, ◌==◌, ◌&&◌, drop, filter, map, slice_get}
 use Rattle.std.proofs.lemmas.Bool.{and_parts, eqb-true}
 use Rattle.annex_base.specs.Bools.{same_bool}
 use Rattle.annex_base.specs.Lists.{Each}
@@ -11,7 +11,7 @@ use Rattle.run_data.specs.declared.entry.FrameView.{FrameView}
 use Rattle.run_model.specs.Frames.{FlyingFrame, MayTake, Way, frames_sent, is_on, taken_count, way_of}
 use Rattle.node_model.specs.Ends.{EndName}
 use Rattle.driver_model.specs.Driver.{Flight, but_first}
-use Rattle.driver_model.specs.Ways.{AreOnTheWay, Flies, InOrder, NumberedBody, bodies_flying, bodies_sent, is_flight, numbered_body, views_sent, way_out}
+use Rattle.driver_model.specs.Ways.{AreOnTheWay, InOrder, NumberedBody, bodies_flying, bodies_sent, is_flight, numbered_body, views_sent, way_out}
 use Rattle.driver_model.proofs.WayNumbers.{follow_at}
 
 -- ---- lists

@@ -1,20 +1,16 @@
 -- How the frames on their way go on by an entry of a repository: their order, and their bytes.
-use Rattle.std.proofs.Common.{◌≡◌, ℕ, suc, ◌+◌, ◌<◌, ◌≤◌, Bool, true, false, List, [], ◌∷◌, ◌++◌, Option, Some, None, ◌⊎◌, inl, inr, refl, sym, ap, ◌∙◌, subst, append_assoc, arith}
-use Rattle.std.specs.Prelude.{cond, if◌then◌else◌, ◌==◌, ◌&&◌, drop, filter, find, length, map, slice_get}
+use Rattle.std.proofs.Common.{◌≡◌, ℕ, suc, ◌+◌, ◌<◌, Bool, true, false, List, [], ◌∷◌, ◌++◌, Option, Some, None, inl, inr, refl, sym, ap, ◌∙◌, subst, arith}
+use Rattle.std.specs.Prelude.{if◌then◌else◌, ◌==◌, ◌&&◌, drop, filter, find, length, map, slice_get}
 use Rattle.std.proofs.lemmas.Bool.{eqb-true}
-use Rattle.std.proofs.lemmas.List.{map-append}
-use Rattle.std.proofs.lemmas.List.Elements.{filter-append}
 use Rattle.annex_base.specs.Bools.{same_bool}
 use Rattle.annex_base.specs.Lists.{Each}
 use Rattle.annex_base.specs.declared.kinds.Word.{Word}
-use Rattle.annex_base.proofs.Conditions.{eqb_refl}
-use Rattle.annex_base.proofs.Functions.{funext}
 use Rattle.annex_base.proofs.Lists.{Each-append, Each-map, Each-middle, filter_no, filter_yes, slice_get-within}
 use Rattle.run_data.specs.declared.entry.Entry.{Entry}
 use Rattle.run_data.specs.declared.entry.FrameView.{FrameView}
 use Rattle.run_data.specs.declared.entry.FrameText.{FrameText}
 use Rattle.run_data.specs.declared.entry.FrameText.TheVariants.{Bytes}
-use Rattle.run_model.specs.Frames.{MayTake, Way, is_on, on_way, sender_of, taken_count, taker_of, takes, way_of}
+use Rattle.run_model.specs.Frames.{MayTake, Way, is_on, sender_of, taken_count, taker_of, takes, way_of}
 use Rattle.run_model.specs.Past.{is_of}
 use Rattle.run_model.specs.Run.{OwnPart}
 use Rattle.run_model.specs.States.{end_at}
@@ -28,17 +24,17 @@ use Rattle.driver_model.specs.Driver.{Driver, Flight, but_first, end_from, end_t
 use Rattle.driver_model.specs.Sound.{ComesDown}
 use Rattle.driver_model.specs.Stores.{stored_bytes}
 use Rattle.driver_model.specs.Turning.{bytes_of}
-use Rattle.driver_model.specs.Ways.{AreOnTheWay, Flies, InOrder, IsOver, is_flight, numbered_body, way_out}
+use Rattle.driver_model.specs.Ways.{Flies, InOrder, is_flight, numbered_body, way_out}
 use Rattle.driver_model.proofs.EndLemmas.{out_sender-is, out_taker-is, takes_self}
 use Rattle.driver_model.proofs.FrameNumbers.{TakesWell}
-use Rattle.driver_model.proofs.InFlight.{IsFirst, flies_adds, not_over}
+use Rattle.driver_model.proofs.InFlight.{flies_adds, not_over}
 use Rattle.driver_model.proofs.Premises.{EntryLaws}
 use Rattle.driver_model.proofs.WayNumbers.{order_other, order_own}
-use Rattle.block_model.specs.Alone.{CameWhole, bytes_came, bytes_flying, piece_in}
+use Rattle.block_model.specs.Alone.{IsAlone, CameWhole, bytes_flying, piece_in}
 use Rattle.block_model.specs.Following.{but_next, bytes_next, is_next}
 use Rattle.block_model.proofs.EntryStands.{Moved, move_some, next_each}
 use Rattle.block_model.proofs.FirstOnWay.{OnWay, Split, but_split, drop_at, filter_front, first_body, one_way, split_of, way_parts}
-use Rattle.block_model.proofs.OwnStores.{IsAlone, content_alone}
+use Rattle.block_model.proofs.OwnStores.{content_alone}
 
 -- ---- lists
 

@@ -2,18 +2,16 @@
 use Rattle.std.proofs.Common.{ap, ◌∙◌, ◌≡◌, Bool, false, List, [], ◌∷◌, ◌++◌, refl, sym, subst}
 use Rattle.std.specs.Prelude.{if◌then◌else◌}
 use Rattle.annex_base.specs.Lists.{Each}
-use Rattle.run_data.specs.Repos.{IsSetUp}
-use Rattle.driver_model.specs.Driver.{Driver, DriverInput, at_first}
-use Rattle.driver_model.specs.Driving.{does, drives, run_with, with_mark}
-use Rattle.driver_model.specs.Lines.{Agendum, Line, Have, SetPart, Add, File, Set, Raw, Merge, Compact, Begin, Turns, Settle, Close, Crash, Wait, Fail, Par, Shows}
-use Rattle.driver_model.specs.Lines
+use Rattle.driver_model.specs.Driver.{Driver, DriverInput}
+use Rattle.driver_model.specs.Driving.{does, drives, with_mark}
+use Rattle.driver_model.specs.Lines.{Agendum, Line, Settle, Par}
 use Rattle.driver_model.specs.Rounds.{InBlock, block_end, is_stuck, numbers, settles, settles_after}
 use Rattle.driver_model.specs.Scripts.{IsOne}
 use Rattle.driver_model.proofs.Driven.{line_keys, keeps_line, keeps_marked}
 use Rattle.driver_model.proofs.Holding.{Keeps}
 use Rattle.driver_model.proofs.Logged.{OwedKeys}
 use Rattle.driver_model.proofs.Premises.{Laws}
-use Rattle.block_model.specs.Blocks.{HasBegun, IsBlock, with_fails}
+use Rattle.block_model.specs.Blocks.{HasBegun, with_fails}
 use Rattle.block_model.specs.Following.{after_entries}
 use Rattle.block_model.specs.Leading.{IsSingle, LineLeads, LinesLead, MakesBlock, MakesBlocks, block_of}
 use Rattle.driver_model.proofs.Planned.{HasKeys}

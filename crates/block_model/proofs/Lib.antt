@@ -10,3 +10,4 @@ pub mod Serving
 pub mod KeptAlone
 pub mod OtherPaths
 pub mod NodesJoin
+pub mod Resting

@@ -1,6 +1,6 @@
 -- Merged histories are a block, where the stores serve their entries and each repository has kept to its agenda.
-use Rattle.std.proofs.Common.{◌≡◌, ◌⊎◌, ℕ, zero, suc, ◌+◌, ◌<◌, ◌≤◌, Bool, true, false, List, [], ◌∷◌, ◌++◌, Option, Some, None, inl, inr, refl, sym, ap, ◌∙◌, subst, append_assoc, append-nil, arith}
-use Rattle.std.specs.Prelude.{if◌then◌else◌, filter, length, nat_lt, reverse}
+use Rattle.std.proofs.Common.{◌≡◌, ◌⊎◌, ℕ, zero, suc, ◌+◌, ◌<◌, ◌≤◌, Bool, true, false, List, [], ◌∷◌, ◌++◌, Option, Some, inl, inr, refl, sym, ap, ◌∙◌, subst, append_assoc, arith}
+use Rattle.std.specs.Prelude.{if◌then◌else◌, filter, length, reverse}
 use Rattle.std.proofs.lemmas.List.{reverse-append, reverse-reverse}
 use Rattle.annex_base.specs.Lists.{Each}
 use Rattle.annex_base.proofs.Lists.{Each-both, Each-reverse, Each-right}
@@ -11,15 +11,14 @@ use Rattle.run_data.specs.declared.entry.FrameView.{FrameView}
 use Rattle.run_data.specs.declared.entry.FrameText.{FrameText}
 use Rattle.run_data.specs.declared.entry.FrameText.TheVariants.{Bytes, Line}
 use Rattle.run_data.specs.declared.run.Run.{Run}
-use Rattle.run_data.specs.declared.run.TreeMark.{TreeMark}
 use Rattle.run_model.specs.Frames.{Way}
 use Rattle.run_model.specs.Past.{Always, begun_count, is_of, now}
-use Rattle.run_model.specs.Run.{FramesPart, IsRun, MayBe, RunPast, RunStep, paths_at, repo_number, set_up}
+use Rattle.run_model.specs.Run.{IsRun, MayBe, RunPast, RunStep, paths_at, repo_number, set_up}
 use Rattle.node_model.specs.Look.{Effect}
 use Rattle.node_model.specs.Sessions.{line_in, message_said}
 use Rattle.node_model.specs.SetUp.{SetUp}
 use Rattle.node_model.specs.State.{State}
-use Rattle.growth_laws.specs.Merged.{IsHistory, IsMerge, Letter, MayMerge, StandInOrder, history, merge_all, merged_run, new_of}
+use Rattle.growth_laws.specs.Merged.{IsMerge, Letter, MayMerge, StandInOrder, history, merge_all, merged_run, new_of}
 use Rattle.growth_laws.proofs.MergedLists.{IsNews, is_merge}
 use Rattle.growth_laws.proofs.MergedOrder.{IsNew, follow_new, follow_rises, reverse_cons}
 use Rattle.driver_model.specs.Driver.{Driver, DriverInput, FailLine, drops_part, set_up_of, state_at, without_old_flights}
@@ -195,20 +194,21 @@ module _ (g : DriverInput) (xs : List Agendum) (d : Driver) (news : List (List E
     so = subst (λ (s : SetUp). DoesSo s (begun_count d.past r) (filter (is_of r) d.past) w.doings) (set_up_same r) w.so;
   }
 
-  pub has_begun : AreAllServed g (with_fails fails d) (merge_all news) → ((r : ℕ) → r < length g.repos → HasWorked g xs d news fails r) → HasBegun g xs d (left_after g (merge_all news) fails d)
-  has_begun all works = record {
+  pub has_begun : Each (λ x. x.repo < length g.repos) fails → AreAllServed g (with_fails fails d) (merge_all news) → ((r : ℕ) → r < length g.repos → HasWorked g xs d news fails r) → HasBegun g xs d (left_after g (merge_all news) fails d)
+  has_begun known all works = record {
     entries = merge_all news;
     fails = fails;
+    known = known;
     follow = merged_follow all;
     after_is = refl;
     does = λ r known. has_done r (works r known);
   }
 
-  pub is_block : AreAllServed g (with_fails fails d) (merge_all news) → (works : (r : ℕ) → r < length g.repos → HasWorked g xs d news fails r)
+  pub is_block : Each (λ x. x.repo < length g.repos) fails → AreAllServed g (with_fails fails d) (merge_all news) → (works : (r : ℕ) → r < length g.repos → HasWorked g xs d news fails r)
       → ((r : ℕ) (known : r < length g.repos) → can_go_on (begun_count d.past r) (state_at g (left_after g (merge_all news) fails d) r) (works r known).left ≡ false)
       → AreAllAtRest g (left_after g (merge_all news) fails d) → IsBlock g xs d (left_after g (merge_all news) fails d)
   unfolding has_begun has_done
-  is_block all works done rest = record { begun = has_begun all works; done = done; rest = rest }
+  is_block known all works done rest = record { begun = has_begun known all works; done = done; rest = rest }
 
 -- its run is the one before it, and then the merged entries
 pub run_is : (g : DriverInput) (d : Driver) (es : List Entry) (fails : List FailLine) → run_with g (left_after g es fails d) ≡ record (run_with g d) { entries = (run_with g d).entries ++ es }

@@ -1,6 +1,6 @@
 -- What the nodes of a block give back is a block.
-use Rattle.std.proofs.Common.{◌≡◌, ℕ, zero, suc, ◌+◌, ◌<◌, ◌≤◌, Bool, true, false, List, [], ◌∷◌, ◌++◌, Option, Some, None, refl, sym, ap, ◌∙◌, subst, append_assoc, arith}
-use Rattle.std.specs.Prelude.{cond, ◌&&◌, ◌==◌, if◌then◌else◌, filter, length, reverse}
+use Rattle.std.proofs.Common.{◌≡◌, ℕ, ◌+◌, ◌<◌, ◌≤◌, Bool, true, false, List, [], ◌∷◌, ◌++◌, refl, sym, ap, ◌∙◌, subst, arith}
+use Rattle.std.specs.Prelude.{◌&&◌, ◌==◌, if◌then◌else◌, filter, length, reverse}
 use Rattle.std.proofs.lemmas.Bool.{eqb-true}
 use Rattle.std.proofs.lemmas.List.{length-append, length-reverse, reverse-append, reverse-reverse}
 use Rattle.annex_base.specs.Lists.{Each}
@@ -9,14 +9,13 @@ use Rattle.annex_key.specs.Tree.{paths_of}
 use Rattle.run_data.specs.declared.entry.Entry.{Entry}
 use Rattle.run_data.specs.declared.entry.EntryKind.{EntryKind}
 use Rattle.run_data.specs.declared.entry.EntryKind.TheVariants.{Begin}
-use Rattle.run_data.specs.declared.job.Job.{Job}
 use Rattle.run_data.specs.declared.run.Run.{Run}
 use Rattle.run_model.specs.Frames.{Way, taken_count}
 use Rattle.run_model.specs.Past.{begun_count, is_of}
 use Rattle.run_model.specs.Run.{IsRun, RunPast, paths_at, paths_begun, set_up, tree_at}
 use Rattle.node_model.specs.Ends.{EndName}
 use Rattle.node_model.specs.Slots.{is_begin}
-use Rattle.growth_laws.specs.Merged.{HasPathsIn, Letter, MayMerge, NodeKeeps, history, merge_all, merged_run, new_of}
+use Rattle.growth_laws.specs.Merged.{HasPathsIn, Letter, MayMerge, history, merge_all, merged_run, new_of}
 use Rattle.step_facts.proofs.JobNumbers.{begins_next}
 use Rattle.growth_laws.proofs.MergedNodes.{nodes_may_merge}
 use Rattle.growth_laws.proofs.MergedRuns.{filter_reverse}
@@ -28,11 +27,10 @@ use Rattle.driver_model.specs.Lines.{Agendum}
 use Rattle.driver_model.specs.Sound.{IsSound}
 use Rattle.driver_model.specs.Ways.{way_out}
 use Rattle.driver_model.proofs.Premises.{EntryLaws}
-use Rattle.block_model.specs.Alone.{AreOwnDeeds, CameWhole, alone, bytes_flying, pieces_sent}
+use Rattle.block_model.specs.Alone.{CameWhole, alone, bytes_flying}
 use Rattle.block_model.specs.Blocks.{with_fails}
-use Rattle.block_model.specs.Doings.{DoesSo, entries_of}
 use Rattle.block_model.specs.Merging.{CameFrom, WorksAlone}
-use Rattle.block_model.specs.Nodes.{NodeWorks, NodesHaveWorked, set_up_by}
+use Rattle.block_model.specs.Nodes.{NodeWorks, NodesHaveWorked}
 use Rattle.block_model.proofs.KeptAlone.{mine_is}
 use Rattle.block_model.proofs.Merges.{merge_is}
 use Rattle.block_model.proofs.OtherPaths.{deeds_to, does_to, history_run, pieces_to, tree_later}

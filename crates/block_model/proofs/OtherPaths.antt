@@ -1,38 +1,34 @@
 -- What a node keeps by its own paths it keeps by those of the merged run.
-use Rattle.std.proofs.Common.{◌≡◌, ◌⊎◌, ℕ, zero, suc, ◌+◌, ◌<◌, ◌≤◌, Bool, true, false, List, [], ◌∷◌, ◌++◌, Option, Some, None, inl, inr, refl, sym, ap, ◌∙◌, subst, append_assoc, arith}
-use Rattle.std.specs.Prelude.{◌&&◌, ◌==◌, if◌then◌else◌, filter, length, map, nat_le, reverse}
+use Rattle.std.proofs.Common.{◌≡◌, ◌⊎◌, ℕ, ◌≤◌, true, List, [], ◌∷◌, ◌++◌, Option, Some, None, inl, inr, refl, sym, ap, ◌∙◌, subst, append_assoc, arith}
+use Rattle.std.specs.Prelude.{if◌then◌else◌, map, nat_le, reverse}
 use Rattle.std.specs.List.{fold}
-use Rattle.std.proofs.lemmas.Bool.{eqb-true}
 use Rattle.std.proofs.lemmas.Bool.Decides.{nat_tests}
-use Rattle.std.proofs.lemmas.List.{length-append, length-reverse, reverse-append, reverse-reverse}
+use Rattle.std.proofs.lemmas.List.{reverse-append}
 use Rattle.annex_base.specs.Lists.{Each, Member}
 use Rattle.annex_base.specs.declared.kinds.Word.{Word}
-use Rattle.annex_key.specs.Tree.{Entries, paths_of, with_key}
+use Rattle.annex_key.specs.Tree.{Entries, with_key}
 use Rattle.run_data.specs.declared.entry.Entry.{Entry}
 use Rattle.run_data.specs.declared.entry.EntryKind.{EntryKind}
 use Rattle.run_data.specs.declared.entry.EntryKind.TheVariants.{Begin, Close, Crash}
 use Rattle.run_data.specs.declared.entry.FrameView.{FrameView}
-use Rattle.run_data.specs.declared.job.Job.{Job}
 use Rattle.run_data.specs.declared.job.JobKind.{JobKind}
 use Rattle.run_data.specs.declared.run.RepoView.{RepoView}
 use Rattle.run_data.specs.declared.run.TreeMark.{TreeMark}
 use Rattle.run_model.specs.Frames.{Way, on_way}
-use Rattle.run_model.specs.Past.{Always, begun_count, is_of}
-use Rattle.run_model.specs.Run.{ComesAnyTime, IsRun, IsStep, OwnPart, OwnRun, paths_at, paths_begun, tree_at}
+use Rattle.run_model.specs.Past.{begun_count}
+use Rattle.run_model.specs.Run.{IsStep, OwnRun, tree_at}
 use Rattle.run_model.specs.States.{state_of}
 use Rattle.node_model.specs.AnyTime.{IsPeer, MayCome}
 use Rattle.node_model.specs.Jobs.{Work}
 use Rattle.node_model.specs.SetUp.{SetUp}
-use Rattle.node_model.specs.Slots.{is_begin}
 use Rattle.node_model.specs.State.{State}
 use Rattle.growth_laws.specs.Merged.{IsHistory, Letter}
 use Rattle.growth_laws.proofs.MergedOrder.{reverse_cons}
 use Rattle.growth_laws.proofs.PathsRead.{step_paths}
 use Rattle.step_facts.proofs.WorkNumbers.{number_begun}
 use Rattle.driver_model.specs.Driver.{Driver, DriverInput, piece_of}
-use Rattle.driver_model.specs.Turning.{store_after}
 use Rattle.driver_model.proofs.Settles.{store_past}
-use Rattle.block_model.specs.Alone.{AreOwnDeeds, IsOwnDeed, IsOwnLine, IsOwnStep, after_own, bytes_came, pieces_sent}
+use Rattle.block_model.specs.Alone.{AreOwnDeeds, IsOwnLine, IsOwnStep, after_own, after_owns, bytes_came, pieces_sent}
 use Rattle.block_model.specs.Doings.{Doing, DoesSo, Steps, Takes, entries_of}
 use Rattle.block_model.specs.Following.{effect_of, is_of_line}
 use Rattle.block_model.proofs.Serving.{begun_more}
@@ -125,6 +121,10 @@ module _ (repos : List RepoView) (r : ℕ) (a b : ℕ → List (List ℕ)) where
   pieces_to pieces w [] d = refl
   pieces_to pieces w (e ∷ es) d = ap (λ zs. map (λ f. piece_of d (state_of (record { number = r; repos = repos; paths = a }) d.past) r f f.body) (on_way w e) ++ zs)
       (pieces_to pieces w es (after_own (record { number = r; repos = repos; paths = a }) pieces e d))
+
+  pub owns_to : (pieces : Way → List (List ℕ)) (es : List Entry) (d : Driver) → after_owns (record { number = r; repos = repos; paths = a }) pieces es d ≡ after_owns (record { number = r; repos = repos; paths = b }) pieces es d
+  owns_to pieces [] d = refl
+  owns_to pieces (e ∷ es) d = owns_to pieces es (after_own (record { number = r; repos = repos; paths = a }) pieces e d)
 
 -- ---- the paths of the merged run
 

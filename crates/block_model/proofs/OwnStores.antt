@@ -1,25 +1,24 @@
 -- What an entry leaves of the stores is told from that of its repository alone.
-use Rattle.std.proofs.Common.{◌≡◌, ◌≢◌, ℕ, ◌+◌, Bool, true, false, List, [], ◌∷◌, ◌++◌, Option, Some, None, refl, sym, ap, ◌∙◌, subst}
-use Rattle.std.specs.Prelude.{cond, if◌then◌else◌, ◌==◌, ◌&&◌, bytes_eq, filter, find, length, not}
+use Rattle.std.proofs.Common.{◌≡◌, ◌≢◌, ℕ, Bool, true, false, List, [], ◌∷◌, ◌++◌, Option, Some, None, refl, sym, ap, ◌∙◌}
+use Rattle.std.specs.Prelude.{if◌then◌else◌, ◌==◌, bytes_eq, filter, find, length, not}
 use Rattle.std.proofs.lemmas.Bool.{and_parts, eqb-true}
 use Rattle.annex_base.specs.Calls.{same_call}
 use Rattle.annex_base.specs.declared.kinds.Call.{Call}
 use Rattle.annex_base.proofs.Conditions.{eqb_refl}
 use Rattle.annex_base.proofs.Lists.{filter_no, filter_yes}
-use Rattle.run_data.specs.declared.entry.Entry.{Entry}
 use Rattle.run_data.specs.declared.entry.EntryKind.{EntryKind}
 use Rattle.run_data.specs.declared.entry.EntryKind.TheVariants.{Gain, Gone, Talk, Fault}
 use Rattle.run_data.specs.declared.entry.FrameView.{FrameView}
 use Rattle.run_data.specs.declared.entry.FrameText.{FrameText}
 use Rattle.run_data.specs.declared.entry.FrameText.TheVariants.{Bytes, Line}
-use Rattle.run_model.specs.Past.{is_of}
 use Rattle.node_model.specs.Look.{Effect}
 use Rattle.node_model.specs.Sessions.{line_in, message_said}
 use Rattle.node_model.specs.State.{State}
-use Rattle.driver_model.specs.Driver.{Driver, DriverInput, FailLine, answers, but_first, commits, drops_part, fails_at, is_failing, part_at, puts_part, removes_content}
+use Rattle.driver_model.specs.Driver.{Driver, DriverInput, FailLine, but_first, drops_part, fails_at, is_failing, part_at, puts_part}
 use Rattle.driver_model.specs.Stores.{StoredBytes, bytes_in, is_stored, stored_bytes, with_bytes, without}
 use Rattle.driver_model.specs.Turning.{asked_key, is_failure, is_valid, part_right, part_size, store_after, takes_frame, takes_into}
 use Rattle.std.specs.List.{list_any}
+use Rattle.block_model.specs.Alone.{IsAlone}
 
 -- ---- lists
 
@@ -94,13 +93,6 @@ module _ {X : Type 0} where
       go more false i false j = ap (filter q) (but_no p x xs i) ∙ filter_no q x (but_first p xs) j ∙ more ∙ sym (filter_no q x xs j)
 
 -- ---- what is of one repository
-
--- what a driver says of r alone
-pub record IsAlone (d : Driver) (r : ℕ) (own : Driver) : Type 0 where
-  pub past : own.past ≡ filter (is_of r) d.past
-  pub fails : own.fails ≡ filter (λ x. x.repo == r) d.fails
-  pub contents : own.contents ≡ filter (λ x. x.repo == r) d.contents
-  pub parts : own.parts ≡ filter (λ x. x.repo == r) d.parts
 
 its : ℕ → StoredBytes → Bool
 its r x = x.repo == r

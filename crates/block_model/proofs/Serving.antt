@@ -1,5 +1,5 @@
 -- What each repository keeps of its own store serves the merged entries.
-use Rattle.std.proofs.Common.{◌≡◌, ◌⊎◌, ℕ, suc, ◌+◌, ◌<◌, ◌≤◌, Bool, true, false, List, [], ◌∷◌, ◌++◌, Option, Some, None, inl, inr, refl, sym, ap, ◌∙◌, subst, append_assoc, append-nil, arith}
+use Rattle.std.proofs.Common.{◌≡◌, ◌⊎◌, ℕ, ◌+◌, ◌<◌, ◌≤◌, Bool, true, false, List, [], ◌∷◌, ◌++◌, Option, Some, None, inl, inr, refl, sym, ap, ◌∙◌, subst, append_assoc, append-nil, arith}
 use Rattle.std.specs.Prelude.{cond, if◌then◌else◌, ◌==◌, ◌&&◌, filter, length, map, reverse, slice_get}
 use Rattle.std.proofs.lemmas.Bool.{and_parts, eqb-true}
 use Rattle.std.proofs.lemmas.List.{map-append}
@@ -16,7 +16,6 @@ use Rattle.run_data.specs.declared.entry.EntryKind.TheVariants.{Begin, Close, Cr
 use Rattle.run_data.specs.declared.entry.FrameView.{FrameView}
 use Rattle.run_data.specs.declared.entry.FrameText.{FrameText}
 use Rattle.run_data.specs.declared.entry.FrameText.TheVariants.{Bytes, Line}
-use Rattle.run_data.specs.declared.job.Job.{Job}
 use Rattle.run_data.specs.declared.job.JobKind.{JobKind}
 use Rattle.run_data.specs.declared.run.Run.{Run}
 use Rattle.run_data.specs.declared.run.TreeMark.{TreeMark}
@@ -50,13 +49,13 @@ use Rattle.driver_model.specs.Turning.{asked_key, is_failure, is_valid, part_rig
 use Rattle.driver_model.specs.Ways.{Flies, InOrder, is_flight, way_out}
 use Rattle.driver_model.proofs.EndLemmas.{out_sender-is, out_taker-is}
 use Rattle.driver_model.proofs.Premises.{EntryLaws}
-use Rattle.block_model.specs.Alone.{AreOwnDeeds, CameWhole, IsOwnDeed, IsOwnLine, IsOwnStep, after_own, bytes_came, bytes_flying, piece_in, pieces_sent}
-use Rattle.block_model.specs.Following.{IsOfLine, after_entry, but_next, bytes_next, effect_of, is_of_line, stands}
+use Rattle.block_model.specs.Alone.{IsAlone, AreOwnDeeds, CameWhole, IsOwnDeed, IsOwnLine, IsOwnStep, after_own, after_owns, bytes_came, bytes_flying, piece_in, pieces_sent}
+use Rattle.block_model.specs.Following.{IsOfLine, after_entries, after_entry, but_next, bytes_next, effect_of, is_of_line, stands}
 use Rattle.block_model.specs.Merging.{AreAllServed, IsServed, IsToldStep}
 use Rattle.block_model.proofs.FirstOnWay.{get_map}
 use Rattle.block_model.proofs.FlightsGo.{bytes_on, came_on, down_on, flies_on, new_bytes, order_on, piece_alone}
 use Rattle.block_model.proofs.Merges.{entry_past, entry_same, run_suffix}
-use Rattle.block_model.proofs.OwnStores.{IsAlone, fails_alone, right_alone, size_alone, store_alone, store_other}
+use Rattle.block_model.proofs.OwnStores.{fails_alone, right_alone, size_alone, store_alone, store_other}
 
 -- ---- the store leaves the frames
 
@@ -477,3 +476,14 @@ module _ (laws : EntryLaws) (g : DriverInput) (tree : List TreeMark) (marks : Li
   pub serve : (es : List Entry) (d : Driver) (locals : ℕ → Driver) → Joint d es locals → AreAllServed g d es
   serve [] d locals j = tt
   serve (e ∷ es) d locals j = (is_served d e es locals j, subst (λ (o : Option ℕ). AreAllServed g (after_entry g (repo_number o) e d) es) (sym (who d e es locals j)) (serve es (after_entry g j.made.0.0 e d) (next d e es locals j) (joint_next d e es locals j)))
+
+  -- what each keeps alone at the end is what the driver says of it
+  pub end_alone : (es : List Entry) (d : Driver) (locals : ℕ → Driver) → Joint d es locals → (r : ℕ) → IsAlone (after_entries g es d) r (after_owns (set_up whole r) (pieces r) (filter (is_of r) es) (locals r))
+  end_alone [] d locals j r = j.alone r
+  end_alone (e ∷ es) d locals j r = subst (λ (o : Option ℕ). IsAlone (after_entries g es (after_entry g (repo_number o) e d)) r (after_owns (set_up whole r) (pieces r) (filter (is_of r) (e ∷ es)) (locals r))) (sym (who d e es locals j))
+      (go (is_of r e) (end_alone es (after_entry g j.made.0.0 e d) (next d e es locals j) (joint_next d e es locals j) r))
+    where
+      go : (b : Bool) → IsAlone (after_entries g es (after_entry g j.made.0.0 e d)) r (after_owns (set_up whole r) (pieces r) (filter (is_of r) es) (if b then after_own (set_up whole r) (pieces r) e (locals r) else locals r))
+          → IsAlone (after_entries g es (after_entry g j.made.0.0 e d)) r (after_owns (set_up whole r) (pieces r) (cond b (e ∷ filter (is_of r) es) (filter (is_of r) es)) (locals r))
+      go true x = x
+      go false x = x

@@ -1,16 +1,15 @@
 -- Each run that stops at a full history is the start of one that is sound.
-use Rattle.std.proofs.Common.{◌≡◌, ◌⊎◌, ℕ, ◌≤◌, Bool, true, false, List, [], ◌∷◌, ◌++◌, inl, inr, refl, sym, ap, ◌∙◌, subst, arith}
+use Rattle.std.proofs.Common.{◌≡◌, ℕ, ◌≤◌, Bool, true, false, List, [], ◌∷◌, ◌++◌, inl, inr, refl, sym, ap, ◌∙◌, subst, arith}
 use Rattle.std.specs.Prelude.{cond, length, reverse, take}
-use Rattle.std.proofs.lemmas.List.{length-reverse, reverse-append}
+use Rattle.std.proofs.lemmas.List.{reverse-append}
 use Rattle.annex_base.specs.Lists.{Each}
 use Rattle.run_data.specs.declared.entry.Entry.{Entry}
 use Rattle.run_data.specs.declared.run.Run.{Run}
 use Rattle.run_model.specs.Run.{IsRun}
 use Rattle.driver_model.specs.Driver.{Driver, DriverInput}
-use Rattle.driver_model.specs.Driving.{does, run_with, with_mark}
+use Rattle.driver_model.specs.Driving.{run_with, with_mark}
 use Rattle.driver_model.specs.Limits.{is_too_long, within_limit}
-use Rattle.driver_model.specs.Lines.{Agendum, Line, Have, SetPart, Add, File, Set, Raw, Merge, Compact, Begin, Turns, Settle, Close, Crash, Wait, Fail, Par, Shows}
-use Rattle.driver_model.specs.Lines
+use Rattle.driver_model.specs.Lines.{Line, Par}
 use Rattle.driver_model.specs.Scripts.{IsOne}
 use Rattle.driver_model.proofs.Driven.{keeps_marked}
 use Rattle.driver_model.proofs.Holding.{Keeps}

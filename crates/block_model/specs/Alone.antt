@@ -17,7 +17,7 @@ use Rattle.run_model.specs.States.{state_of}
 use Rattle.growth_laws.specs.Merged.{Letter, word_got}
 use Rattle.driver_model.specs.Driver.{Driver, DriverInput, Flight, fails_at, piece_of}
 use Rattle.driver_model.specs.Turning.{asked_key, part_right, part_size, store_after}
-use Rattle.driver_model.specs.Ways.{is_flight, way_out}
+use Rattle.driver_model.specs.Ways.{is_flight}
 use Rattle.block_model.specs.Following.{effect_of, is_of_line}
 
 -- ---- its store
@@ -32,6 +32,13 @@ alone d r = record d {
   parts = filter (λ x. x.repo == r) d.parts;
 }
 
+-- a driver of r alone says the same
+pub record IsAlone (d : Driver) (r : ℕ) (own : Driver) : Type 0 where
+  pub past : own.past ≡ filter (is_of r) d.past
+  pub fails : own.fails ≡ filter (λ x. x.repo == r) d.fails
+  pub contents : own.contents ≡ filter (λ x. x.repo == r) d.contents
+  pub parts : own.parts ≡ filter (λ x. x.repo == r) d.parts
+
 abbrev pub piece_in : Option (List ℕ) → List ℕ
 piece_in None = []
 piece_in (Some bytes) = bytes
@@ -45,6 +52,11 @@ bytes_came pieces past r (Some f) = piece_in (slice_get (pieces (way_of r f)) (t
 abbrev pub after_own : SetUp → (Way → List (List ℕ)) → Entry → Driver → Driver
 after_own s pieces e own =
     store_after (state_of s own.past) s.number (effect_of e) (bytes_came pieces own.past s.number e.taken) e.kind (record own { past = e ∷ own.past })
+
+-- and after all of these, the oldest first
+abbrev pub after_owns : SetUp → (Way → List (List ℕ)) → List Entry → Driver → Driver
+after_owns s pieces [] own = own
+after_owns s pieces (e ∷ es) own = after_owns s pieces es (after_own s pieces e own)
 
 -- the pieces that it sends on a way by these entries, the oldest first: those of its contents as they then stand
 abbrev pub pieces_sent : SetUp → (Way → List (List ℕ)) → Way → List Entry → Driver → List (List ℕ)

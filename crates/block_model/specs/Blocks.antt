@@ -1,5 +1,6 @@
 -- Blocks: the entries that repositories make side by side by their agendas (own).
-use Rattle.std.specs.Prelude.{◌≡◌, ℕ, ◌<◌, false, ◌==◌, List, [], ◌++◌, filter, length}
+use Rattle.std.specs.Prelude.{◌≡◌, ℕ, ◌<◌, false, ◌==◌, List, ◌++◌, filter, length}
+use Rattle.annex_base.specs.Lists.{Each}
 use Rattle.run_data.specs.declared.entry.Entry.{Entry}
 use Rattle.run_model.specs.Past.{begun_count, is_of}
 use Rattle.driver_model.specs.Driver.{Driver, DriverInput, FailLine, set_up_of, state_at}
@@ -32,6 +33,7 @@ pub record HasDone (g : DriverInput) (xs : List Agendum) (d after : Driver) (es 
 pub record HasBegun (g : DriverInput) (xs : List Agendum) (d after : Driver) : Type 0 where
   pub entries : List Entry
   pub fails : List FailLine
+  pub known : Each (λ x. x.repo < length g.repos) fails
   pub follow : MayAllFollow g (with_fails fails d) entries
   pub after_is : after ≡ left_after g entries fails d
   pub does : (r : ℕ) → r < length g.repos → HasDone g xs d after entries fails r

@@ -1,5 +1,5 @@
 -- The runs that a script may have where its blocks are made side by side (own).
-use Rattle.std.specs.Prelude.{false, ◌≡◌, true, List, [], ◌∷◌, map}
+use Rattle.std.specs.Prelude.{false, ◌≡◌, List, [], ◌∷◌}
 use Rattle.run_data.specs.declared.run.Run.{Run}
 use Rattle.driver_model.specs.Driver.{Driver, DriverInput, at_first}
 use Rattle.driver_model.specs.Driving.{does, run_with, with_mark}

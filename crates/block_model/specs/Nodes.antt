@@ -1,5 +1,5 @@
 -- What the nodes of a block keep, each by its own paths, its time and its count, and each two of what came (own).
-use Rattle.std.specs.Prelude.{◌≡◌, ℕ, ◌<◌, ◌≤◌, false, ◌==◌, List, [], ◌++◌, filter, length, reverse}
+use Rattle.std.specs.Prelude.{◌≡◌, ℕ, ◌<◌, ◌≤◌, false, ◌==◌, List, ◌++◌, filter, length, reverse}
 use Rattle.annex_base.specs.Lists.{Each}
 use Rattle.run_data.specs.declared.entry.Entry.{Entry}
 use Rattle.node_model.specs.Ends.{EndName}
@@ -45,6 +45,7 @@ pub record NodesHaveWorked (g : DriverInput) (xs : List Agendum) (d : Driver) (n
   pub marked : Each (λ m. m.place ≤ length (reverse d.past)) d.tree
   pub number : length news ≤ length g.repos
   pub count : last_count 0 (reverse (reverse d.past)) ≤ c
+  pub asked : Each (λ x. x.repo < length g.repos) fails
   pub each : (r : ℕ) → r < length g.repos → NodeWorks g xs d news c paths got pieces fails r
   pub meet : NodesMeet g d news paths got pieces fails
 

@@ -1,10 +1,8 @@
 -- Repositories at rest (own): none has a step with all frames at hand.
-use Rattle.std.specs.Prelude.{◌≡◌, ℕ, ◌<◌, Bool, true, List, length, None}
+use Rattle.std.specs.Prelude.{◌≡◌, ℕ, ◌<◌, List, length, None}
 use Rattle.annex_base.specs.Lists.{Each}
 use Rattle.run_data.specs.declared.entry.Entry.{Entry}
-use Rattle.run_data.specs.declared.entry.FrameView.{FrameView}
 use Rattle.run_data.specs.declared.run.Run.{Run}
-use Rattle.node_model.specs.Ends.{EndName}
 use Rattle.node_model.specs.Look.{Look}
 use Rattle.node_model.specs.SetUp.{SetUp}
 use Rattle.node_model.specs.Step.{step}

@@ -1,5 +1,5 @@
 -- The runs that a script may have where a line comes to a full history (own): each repository makes at most 100,000 entries.
-use Rattle.std.specs.Prelude.{◌≡◌, ◌⊎◌, ℕ, ◌+◌, ◌<◌, ◌≤◌, true, false, List, [], ◌∷◌, length, reverse}
+use Rattle.std.specs.Prelude.{◌≡◌, ◌⊎◌, ℕ, ◌+◌, ◌<◌, true, false, List, [], ◌∷◌, length, reverse}
 use Rattle.run_data.specs.Histories.{most_entries}
 use Rattle.run_data.specs.declared.run.Run.{Run}
 use Rattle.node_model.specs.State.{State}

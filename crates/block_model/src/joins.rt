@@ -7,17 +7,18 @@ ghost use Rattle.node_model.specs.Ends.{EndName};
 ghost use Rattle.run_model.specs.Frames.{Way};
 ghost use Rattle.run_model.specs.Past.{begun_count};
 ghost use Rattle.run_model.specs.Run.{IsRun};
-ghost use Rattle.growth_laws.specs.Merged.{Letter, MayMerge, merge_all, merged_run};
+ghost use Rattle.growth_laws.specs.Merged.{Letter, MayMerge, merge_all, merged_run, new_of};
 ghost use Rattle.driver_model.specs.Driver.{Driver, DriverInput, FailLine, at_first, state_at};
 ghost use Rattle.driver_model.specs.Driving.{run_of, run_with, with_mark};
 ghost use Rattle.driver_model.specs.Lines.{Agendum, Line, Par};
 ghost use Rattle.driver_model.specs.Rounds.{settles};
 ghost use Rattle.driver_model.specs.Sound.{IsSound};
+ghost use Rattle.block_model.specs.Alone.{IsAlone, after_owns, alone};
 ghost use Rattle.block_model.specs.Blocks.{HasBegun, IsBlock, left_after, with_fails};
 ghost use Rattle.block_model.specs.Doings.{can_go_on};
 ghost use Rattle.block_model.specs.Leading.{IsRunOf, IsSingle, LineLeads, LinesLead, MakesBlocks};
 ghost use Rattle.block_model.specs.Merging.{AreAllServed, CameFrom, HasWorked, WorksAlone};
-ghost use Rattle.block_model.specs.Nodes.{NodesAreDone, NodesHaveWorked};
+ghost use Rattle.block_model.specs.Nodes.{NodesAreDone, NodesHaveWorked, set_up_by};
 ghost use Rattle.block_model.specs.Rest.{AreAllAtRest};
 
 use growth_laws::merged_histories_are_runs;
@@ -28,11 +29,11 @@ use step_facts::{own_entries_suit_their_ends, steps_find_their_cause};
 /// with its agenda and all are at rest. The run is then the one before it, with the merged entries (own).
 pub fn merged_histories_are_blocks()
     ensures begun { (g : DriverInput) (xs : List Agendum) (d : Driver) (news : List (List Entry)) (got : ℕ → Way → List Letter) (fails : List FailLine)
-        → IsSound g d → MayMerge (run_with g d) news got → AreAllServed g (with_fails fails d) (merge_all news)
+        → IsSound g d → Each (λ x. x.repo < length g.repos) fails → MayMerge (run_with g d) news got → AreAllServed g (with_fails fails d) (merge_all news)
         → ((r : ℕ) → r < length g.repos → HasWorked g xs d news fails r)
         → HasBegun g xs d (left_after g (merge_all news) fails d) }
     ensures block { (g : DriverInput) (xs : List Agendum) (d : Driver) (news : List (List Entry)) (got : ℕ → Way → List Letter) (fails : List FailLine)
-        → IsSound g d → MayMerge (run_with g d) news got → AreAllServed g (with_fails fails d) (merge_all news)
+        → IsSound g d → Each (λ x. x.repo < length g.repos) fails → MayMerge (run_with g d) news got → AreAllServed g (with_fails fails d) (merge_all news)
         → (works : (r : ℕ) → r < length g.repos → HasWorked g xs d news fails r)
         → ((r : ℕ) (known : r < length g.repos)
         → can_go_on (begun_count d.past r) (state_at g (left_after g (merge_all news) fails d) r) (works r known).left ≡ false)
@@ -54,12 +55,14 @@ pub fn histories_kept_alone_are_served()
         → ((q : ℕ) (a : EndName) (n : ℕ) → CameFrom g d news pieces fails q a n)
         → AreAllServed g (with_fails fails d) (merge_all news) }
     ensures begun { (g : DriverInput) (xs : List Agendum) (d : Driver) (news : List (List Entry)) (got : ℕ → Way → List Letter)
-        (pieces : ℕ → Way → List (List ℕ)) (fails : List FailLine) → IsSound g d → MayMerge (run_with g d) news got
+        (pieces : ℕ → Way → List (List ℕ)) (fails : List FailLine) → IsSound g d
+        → Each (λ x. x.repo < length g.repos) fails → MayMerge (run_with g d) news got
         → ((r : ℕ) → r < length g.repos → WorksAlone g xs d news got pieces fails r)
         → ((q : ℕ) (a : EndName) (n : ℕ) → CameFrom g d news pieces fails q a n)
         → HasBegun g xs d (left_after g (merge_all news) fails d) }
     ensures block { (g : DriverInput) (xs : List Agendum) (d : Driver) (news : List (List Entry)) (got : ℕ → Way → List Letter)
-        (pieces : ℕ → Way → List (List ℕ)) (fails : List FailLine) → IsSound g d → MayMerge (run_with g d) news got
+        (pieces : ℕ → Way → List (List ℕ)) (fails : List FailLine) → IsSound g d
+        → Each (λ x. x.repo < length g.repos) fails → MayMerge (run_with g d) news got
         → (works : (r : ℕ) → r < length g.repos → WorksAlone g xs d news got pieces fails r)
         → ((q : ℕ) (a : EndName) (n : ℕ) → CameFrom g d news pieces fails q a n)
         → ((r : ℕ) (known : r < length g.repos)
@@ -76,7 +79,7 @@ pub fn histories_kept_alone_are_served()
 
 /// What the nodes of a block give back, each by its own history, agenda and store, and each two of what came, merged in order of time,
 /// count and number, is a block as far as it has come, and a whole one where it is over. So the run goes on from the one before it by the
-/// merged entries, and a script's lines lead on by the block (own).
+/// merged entries, the driver's stores are those that the nodes keep, and a script's lines lead on by the block (own).
 pub fn nodes_make_blocks()
     ensures begun { (g : DriverInput) (xs : List Agendum) (d : Driver) (news : List (List Entry)) (c : ℕ) (paths : ℕ → ℕ → List (List ℕ))
         (got : ℕ → Way → List Letter) (pieces : ℕ → Way → List (List ℕ)) (fails : List FailLine) → IsSound g d
@@ -88,6 +91,11 @@ pub fn nodes_make_blocks()
     ensures run { (g : DriverInput) (xs : List Agendum) (d : Driver) (news : List (List Entry)) (c : ℕ) (paths : ℕ → ℕ → List (List ℕ))
         (got : ℕ → Way → List Letter) (pieces : ℕ → Way → List (List ℕ)) (fails : List FailLine) → IsSound g d
         → NodesHaveWorked g xs d news c paths got pieces fails → IsRun (merged_run (run_with g d) news) }
+    ensures stores { (g : DriverInput) (xs : List Agendum) (d : Driver) (news : List (List Entry)) (c : ℕ) (paths : ℕ → ℕ → List (List ℕ))
+        (got : ℕ → Way → List Letter) (pieces : ℕ → Way → List (List ℕ)) (fails : List FailLine) → IsSound g d
+        → NodesHaveWorked g xs d news c paths got pieces fails → (r : ℕ)
+        → IsAlone (left_after g (merge_all news) fails d) r
+        (after_owns (set_up_by g paths r) (pieces r) (new_of news r) (alone (with_fails fails d) r)) }
     ensures leads { (g : DriverInput) (lines : List Line) (xs : List Agendum) (d : Driver) (news : List (List Entry)) (c : ℕ)
         (paths : ℕ → ℕ → List (List ℕ)) (got : ℕ → Way → List Letter) (pieces : ℕ → Way → List (List ℕ)) (fails : List FailLine)
         → LinesLead g lines at_first d → IsSound g d
@@ -115,4 +123,9 @@ pub fn lines_lead_on()
 pub fn driven_runs_are_of_their_scripts()
     ensures blocks { (g : DriverInput) (lines : List Line) → MakesBlocks g lines at_first → IsRunOf g lines (run_of g lines) }
     ensures single { (g : DriverInput) (lines : List Line) → Each IsSingle lines → IsRunOf g lines (run_of g lines) }
+{}
+
+/// A block ends at rest: the driver that settles behind it adds nothing, drops nothing and changes nothing (own).
+pub fn blocks_end_at_rest()
+    ensures { (g : DriverInput) (xs : List Agendum) (d after : Driver) → IsBlock g xs d after → settles g after ≡ after }
 {}

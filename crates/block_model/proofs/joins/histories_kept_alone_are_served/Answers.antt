@@ -15,11 +15,11 @@ returns-clause-served c g xs d news got pieces fails sound may works queues =
     all_served laws g d sound news got may (c.merged_histories_are_runs.ensures.merged (run_with g d) news got sound.run may) xs pieces fails works queues
 
 pub returns-clause-begun : goal.returns-clause-begun
-returns-clause-begun c g xs d news got pieces fails sound may works queues =
-    has_begun g xs d news got fails may (c.merged_histories_are_runs.ensures.merged (run_with g d) news got sound.run may)
+returns-clause-begun c g xs d news got pieces fails sound asked may works queues =
+    has_begun g xs d news got fails may (c.merged_histories_are_runs.ensures.merged (run_with g d) news got sound.run may) asked
     (returns-clause-served c g xs d news got pieces fails sound may works queues) (λ r known. (works r known).worked)
 
 pub returns-clause-block : goal.returns-clause-block
-returns-clause-block c g xs d news got pieces fails sound may works queues done rest =
-    is_block g xs d news got fails may (c.merged_histories_are_runs.ensures.merged (run_with g d) news got sound.run may)
+returns-clause-block c g xs d news got pieces fails sound asked may works queues done rest =
+    is_block g xs d news got fails may (c.merged_histories_are_runs.ensures.merged (run_with g d) news got sound.run may) asked
     (returns-clause-served c g xs d news got pieces fails sound may works queues) (λ r known. (works r known).worked) done rest

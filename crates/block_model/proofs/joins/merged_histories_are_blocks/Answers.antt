@@ -6,7 +6,7 @@ use Rattle.block_model.proofs.joins.merged_histories_are_blocks.Goals as goal
 
 pub returns : goal.returns
 returns c = record {
-  begun = λ g xs d news got fails sound may served works. has_begun g xs d news got fails may (c.merged_histories_are_runs.ensures.merged (run_with g d) news got sound.run may) served works;
-  block = λ g xs d news got fails sound may served works done rest. is_block g xs d news got fails may (c.merged_histories_are_runs.ensures.merged (run_with g d) news got sound.run may) served works done rest;
+  begun = λ g xs d news got fails sound known may served works. has_begun g xs d news got fails may (c.merged_histories_are_runs.ensures.merged (run_with g d) news got sound.run may) known served works;
+  block = λ g xs d news got fails sound known may served works done rest. is_block g xs d news got fails may (c.merged_histories_are_runs.ensures.merged (run_with g d) news got sound.run may) known served works done rest;
   run = λ g d news fails. run_is g d (merge_all news) fails;
 }
