@@ -31,4 +31,5 @@ pub mod TreeAndMarks
 pub mod FullHistories
 pub mod Agendas
 pub mod LimitedRuns
+pub mod RunsToLimit
 pub mod WithinLimit

@@ -20,7 +20,7 @@ use Rattle.driver_model.proofs.Adding.{line_adds}
 use Rattle.driver_model.proofs.Agendas.{agendum, stuck_close}
 use Rattle.driver_model.proofs.FullHistories.{count_more, few_entries, keeps_whole, left_full, past_behind}
 
-abbrev cut_at : DriverInput → Line → Driver → LimitedRun
+abbrev pub cut_at : DriverInput → Line → Driver → LimitedRun
 cut_at g line d = record { run = run_to_limit g line d; is_cut = true }
 
 -- ---- no line meets the limit

@@ -67,7 +67,8 @@ lacks_at g line d = false
 abbrev pub meets_limit : DriverInput → Line → Driver → Bool
 meets_limit g line d = is_full d.past (asks_first line) || (is_too_long g (does g line d).past || lacks_at g line d)
 
--- the run then: the line's entries up to there, and the marks of the lines before it
+-- The run then: the line's entries up to there, and the marks of the lines before it. A path that the line gave a key has it, since this
+-- is done before a store is asked.
 abbrev pub run_to_limit : DriverInput → Line → Driver → Run
 run_to_limit g line d = record (run_with g (does g line d)) { entries = reverse (within_limit g (does g line d).past) }
 
@@ -105,6 +106,14 @@ drives_to_limit g (line ∷ lines) d =
 
 abbrev pub limited_run : DriverInput → List Line → LimitedRun
 limited_run g lines = drives_to_limit g lines at_first
+
+-- the driver after the line that ends the run so, or after all lines
+abbrev pub drives_until_cut : DriverInput → List Line → Driver → Driver
+drives_until_cut g [] d = d
+drives_until_cut g (line ∷ lines) d = if meets_limit g line d then does g line d else drives_until_cut g lines (with_mark (does g line d))
+
+abbrev pub driver_at_cut : DriverInput → List Line → Driver
+driver_at_cut g lines = drives_until_cut g lines at_first
 
 -- ---- steps that meet a full history
 

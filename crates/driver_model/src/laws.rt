@@ -19,7 +19,7 @@ ghost use Rattle.run_laws.specs.Jobs.{AnswersAsked, AreJobs};
 ghost use Rattle.driver_model.specs.Apart.{AreApart};
 ghost use Rattle.driver_model.specs.Driver.{Driver, DriverInput, has_room, without_old_flights, set_up_of, state_at};
 ghost use Rattle.driver_model.specs.Driving.{driver_after, run_of};
-ghost use Rattle.driver_model.specs.Limits.{is_too_long};
+ghost use Rattle.driver_model.specs.Limits.{driver_at_cut, is_too_long, limited_run};
 ghost use Rattle.driver_model.specs.Lines.{Line};
 ghost use Rattle.driver_model.specs.Logged.{LogsWell};
 ghost use Rattle.driver_model.specs.Rounds.{AfterRounds, is_settled, most_rounds, rounds};
@@ -55,6 +55,36 @@ pub fn driven_runs_are_runs()
     running_jobs_stay_the_same();
     // A law: a run grows by each such entry.
     runs_grow();
+    // Laws: a file is read off its path, what its log lacks is a set of lines, and a text without a fault is a key's.
+    files_have_their_paths();
+    unions_have_the_lines_of_both();
+    differences_make_the_union();
+    key_texts_have_no_fault();
+}
+
+/// So is the run of a script up to where a line meets a full history, or comes to a close of more ends than there are places left: it
+/// is a run, with the changes of the tree that this line makes. It is safe, and each refused job has its cause there
+/// (git-annex-mincopies; causes are own).
+pub fn limited_runs_are_runs()
+    ensures run { (g : DriverInput) (lines : List Line) → Each IsSetUp g.repos → Each (IsOne g) lines → HasBoundedPast (driver_at_cut g lines)
+        → IsRun (limited_run g lines).run }
+    ensures safe { (g : DriverInput) (lines : List Line) → Each IsSetUp g.repos → Each (IsOne g) lines → HasBoundedPast (driver_at_cut g lines)
+        → IsSafe (limited_run g lines).run }
+    ensures causes { (g : DriverInput) (lines : List Line) → Each IsSetUp g.repos → Each (IsOne g) lines → HasBoundedPast (driver_at_cut g lines)
+        → HasCauses (limited_run g lines).run }
+{
+    // Laws of a step: what it found, takes and names, and that its entry suits its ends and goes to others.
+    steps_find_their_cause();
+    own_entries_suit_their_ends();
+    steps_take_what_is_at_hand();
+    steps_name_their_jobs();
+    frames_go_to_others();
+    // A law: a running job keeps the key that was asked of it.
+    running_jobs_stay_the_same();
+    // Laws: a run grows by each such entry, is safe, and has the cause of each refusal.
+    runs_grow();
+    runs_are_safe();
+    refusals_have_causes();
     // Laws: a file is read off its path, what its log lacks is a set of lines, and a text without a fault is a key's.
     files_have_their_paths();
     unions_have_the_lines_of_both();
