@@ -63,28 +63,23 @@ pub fn driven_runs_are_runs()
 }
 
 /// So is the run of a script up to where a line meets a full history, or comes to a close of more ends than there are places left: it
-/// is a run, with the changes of the tree that this line makes. It is safe, and each refused job has its cause there
-/// (git-annex-mincopies; causes are own).
+/// is a run, with the changes of the tree that this line makes.
 pub fn limited_runs_are_runs()
-    ensures run { (g : DriverInput) (lines : List Line) → Each IsSetUp g.repos → Each (IsOne g) lines → HasBoundedPast (driver_at_cut g lines)
+    ensures { (g : DriverInput) (lines : List Line) → Each IsSetUp g.repos → Each (IsOne g) lines → HasBoundedPast (driver_at_cut g lines)
         → IsRun (limited_run g lines).run }
-    ensures safe { (g : DriverInput) (lines : List Line) → Each IsSetUp g.repos → Each (IsOne g) lines → HasBoundedPast (driver_at_cut g lines)
-        → IsSafe (limited_run g lines).run }
-    ensures causes { (g : DriverInput) (lines : List Line) → Each IsSetUp g.repos → Each (IsOne g) lines → HasBoundedPast (driver_at_cut g lines)
-        → HasCauses (limited_run g lines).run }
 {
     // Laws of a step: what it found, takes and names, and that its entry suits its ends and goes to others.
     steps_find_their_cause();
     own_entries_suit_their_ends();
     steps_take_what_is_at_hand();
     steps_name_their_jobs();
+    // A law: the calls that a step makes.
+    steps_tell_their_calls();
     frames_go_to_others();
     // A law: a running job keeps the key that was asked of it.
     running_jobs_stay_the_same();
-    // Laws: a run grows by each such entry, is safe, and has the cause of each refusal.
+    // Law: a run grows by each such entry.
     runs_grow();
-    runs_are_safe();
-    refusals_have_causes();
     // Laws: a file is read off its path, what its log lacks is a set of lines, and a text without a fault is a key's.
     files_have_their_paths();
     unions_have_the_lines_of_both();

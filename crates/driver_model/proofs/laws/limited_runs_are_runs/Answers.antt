@@ -5,8 +5,8 @@ use Rattle.driver_model.proofs.Premises.{Laws}
 use Rattle.driver_model.proofs.OwedKeys.{owed_keys}
 use Rattle.driver_model.proofs.laws.limited_runs_are_runs.Goals as goal
 
-pub returns-clause-run : goal.returns-clause-run
-returns-clause-run c g lines repos all fits =
+pub returns : goal.returns
+returns c g lines repos all fits =
     let laws : Laws = record {
       entries = record {
         finds = c.steps_find_their_cause.ensures;
@@ -19,6 +19,7 @@ returns-clause-run c g lines repos all fits =
         gives = c.steps_name_their_jobs.ensures.gives;
         goes = c.steps_name_their_jobs.ensures.goes;
         takes = c.steps_name_their_jobs.ensures.takes;
+        calls = record { fails = c.steps_tell_their_calls.ensures.fails; same = c.steps_tell_their_calls.ensures.same };
       };
       first = c.runs_grow.ensures.first;
       others = c.frames_go_to_others.ensures.sent;
@@ -33,9 +34,3 @@ returns-clause-run c g lines repos all fits =
       key_text = c.key_texts_have_no_fault.ensures.sound;
     } in
     limited_run_is_run laws (owed_keys laws) c.runs_grow.ensures.start g lines repos all fits
-
-pub returns-clause-safe : goal.returns-clause-safe
-returns-clause-safe c g lines repos all fits = c.runs_are_safe.ensures (limited_run g lines).run (returns-clause-run c g lines repos all fits)
-
-pub returns-clause-causes : goal.returns-clause-causes
-returns-clause-causes c g lines repos all fits = c.refusals_have_causes.ensures (limited_run g lines).run (returns-clause-run c g lines repos all fits)
