@@ -28,11 +28,14 @@ ghost use Rattle.driver_model.specs.Sound.{IsSound};
 ghost use Rattle.driver_model.specs.Turning.{plain_look, turn};
 
 use annex_key::key_texts_have_no_fault;
-use node_model::steps_tell_their_calls;
 use growth_laws::runs_grow;
-use run_laws::{frames_go_to_others, jobs_hear_nobody_twice, kept_words_were_asked};
-use step_facts::{own_entries_suit_their_ends, running_jobs_stay_the_same, steps_find_their_cause, steps_name_their_jobs, steps_take_what_is_at_hand};
+use node_model::steps_tell_their_calls;
 use run_data::files_have_their_paths;
+use run_laws::{frames_go_to_others, jobs_hear_nobody_twice, kept_words_were_asked};
+use step_facts::{
+    own_entries_suit_their_ends, running_jobs_stay_the_same, steps_find_their_cause,
+    steps_name_their_jobs, steps_take_what_is_at_hand,
+};
 use union_merge::{differences_make_the_union, unions_have_the_lines_of_both};
 
 /// What the driver makes of a script is a run, where the script's lines are right and the run stays within its bounds; and so

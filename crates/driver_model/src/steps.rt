@@ -27,11 +27,14 @@ ghost use Rattle.driver_model.specs.Turning.{turn};
 ghost use Rattle.wanted_rules.specs.declared.action.Action.{Action};
 
 use annex_key::key_texts_have_no_fault;
-use node_model::steps_tell_their_calls;
 use growth_laws::runs_grow;
-use run_laws::frames_go_to_others;
-use step_facts::{own_entries_suit_their_ends, running_jobs_stay_the_same, steps_find_their_cause, steps_name_their_jobs, steps_take_what_is_at_hand};
+use node_model::steps_tell_their_calls;
 use run_data::files_have_their_paths;
+use run_laws::frames_go_to_others;
+use step_facts::{
+    own_entries_suit_their_ends, running_jobs_stay_the_same, steps_find_their_cause,
+    steps_name_their_jobs, steps_take_what_is_at_hand,
+};
 use union_merge::{differences_make_the_union, unions_have_the_lines_of_both};
 
 /// The driver is sound at first, and each of its steps keeps it so, where the step is one of the script's and stays within the

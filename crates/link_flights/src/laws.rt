@@ -40,7 +40,10 @@ ghost use Rattle.link_flights.specs.Words.{AreAllWorded, TellsWords};
 
 use driver_model::{ends_are_apart, ends_have_small_numbers};
 use node_ends::ends_are_there;
-use step_facts::{steps_find_their_cause, steps_name_their_jobs, steps_open_closed_ends, steps_take_what_is_at_hand};
+use step_facts::{
+    steps_find_their_cause, steps_name_their_jobs, steps_open_closed_ends,
+    steps_take_what_is_at_hand,
+};
 
 /// A look at the ends of a repository, before or after they dropped what is old, finds the frames and the room that a plain look of
 /// the driver finds once it dropped the old flights. Where the ends of all repositories are as the flights tell, so are its. An end

@@ -21,7 +21,6 @@ ghost use Rattle.node_model.specs.Turns.{goes, is_awaiting, takes_frame};
 ghost use Rattle.run_model.specs.Run.{OwnPart};
 ghost use Rattle.run_model.specs.States.{end_at};
 
-
 /// What an own entry of a repository takes, the end to which it comes may take; and what it sends to a client is no Opening (own).
 pub fn own_entries_suit_their_ends()
     ensures takes { (s : SetUp) (past : List Entry) (words : ℕ → Option Word) (e : Entry) (f : FrameView) (a : EndName) → OwnPart s past words e
