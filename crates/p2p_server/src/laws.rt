@@ -1,6 +1,5 @@
 //! The laws of sessions. Each is the contract of a function that does nothing.
 ghost use Rattle.std.specs.Prelude.{◌≡◌, List, ℕ, ◌≤◌, true, length};
-ghost use Rattle.run_data.specs.declared.entry.FrameText.{FrameText};
 ghost use Rattle.p2p_wire.specs.declared.message.Message.{Message};
 ghost use Rattle.p2p_wire.specs.Messages.{text_of};
 ghost use Rattle.p2p_wire.specs.Streams.{IsLine};

@@ -5,7 +5,7 @@ use Rattle.annex_base.specs.declared.kinds.Call.{Call}
 use Rattle.run_data.specs.declared.entry.By.{By}
 use Rattle.run_data.specs.declared.entry.By.TheVariants.{Peer}
 use Rattle.run_data.specs.declared.entry.EntryKind.{EntryKind}
-use Rattle.run_data.specs.declared.entry.EntryKind.TheVariants.{Fault, Gain, Gone}
+use Rattle.run_data.specs.declared.entry.EntryKind.TheVariants.{Gain, Gone}
 use Rattle.run_data.specs.declared.entry.FrameText.{FrameText}
 use Rattle.run_data.specs.declared.entry.FrameText.TheVariants.{Closing, Line}
 use Rattle.p2p_wire.specs.declared.message.Message.{Message}

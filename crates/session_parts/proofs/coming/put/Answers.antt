@@ -1,6 +1,6 @@
 -- By whether bytes are asked for.
-use Rattle.std.proofs.Common.{[], ap, sym, ◌∙◌}
-use Rattle.std.proofs.lemmas.Bool.{cond-true, le-leb}
+use Rattle.std.proofs.Common.{ap, sym, ◌∙◌}
+use Rattle.std.proofs.lemmas.Bool.{le-leb}
 use Rattle.session_state.proofs.Waiting.{in_phase, put_so, wanting_of}
 use Rattle.node_model.specs.Calls.{to_offer}
 use Rattle.node_model.specs.SessionStep.{is_here}

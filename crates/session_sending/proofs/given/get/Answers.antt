@@ -1,6 +1,6 @@
 -- By whether the content can be read.
 use Rattle.std.proofs.Common.{[], ◌∷◌, ap, sym, ◌∙◌}
-use Rattle.std.proofs.lemmas.Bool.{cond-true, le-leb}
+use Rattle.std.proofs.lemmas.Bool.{le-leb}
 use Rattle.session_state.proofs.Waiting.{get_so, giving_of, in_phase, spoken_of}
 use Rattle.annex_base.specs.declared.kinds.Call.TheVariants as calls
 use Rattle.session_state.proofs.Making.{get_calls, request_makes}
