@@ -10,6 +10,10 @@ pub record Settings : Type 0 where
   pub numcopies : ℕ
   -- how many copies are never to be gone below (git-annex-mincopies)
   pub mincopies : ℕ
+  -- the patterns of paths that have numbers of their own, each with its number, in order: of copies that are to be
+  -- preserved, and of copies that are never to be gone below (own)
+  pub path_numcopies : List (List ℕ × ℕ)
+  pub path_mincopies : List (List ℕ × ℕ)
   -- the groups that a repository is in (git-annex-group)
   pub groups : List ℕ → List (List ℕ)
   -- a repository's description

@@ -46,12 +46,14 @@ pub topic_same : (t u : Topic) → topic_impl.ghosts.eq t u ≡ true → t ≡ u
 topic_same (topics.Repo l) (topics.Repo m) e = ap topics.Repo ((bytes l m).0 e)
 topic_same (topics.Group l) (topics.Group m) e = ap topics.Group ((bytes l m).0 e)
 topic_same topics.Whole topics.Whole e = refl
+topic_same (topics.Pattern l) (topics.Pattern m) e = ap topics.Pattern ((bytes l m).0 e)
 topic_same t u e = other e
 
 pub topic_equal : (t : Topic) → topic_impl.ghosts.eq t t ≡ true
 topic_equal (topics.Repo l) = (bytes l l).1 refl
 topic_equal (topics.Group l) = (bytes l l).1 refl
 topic_equal topics.Whole = refl
+topic_equal (topics.Pattern l) = (bytes l l).1 refl
 
 value_same : (v w : Value) → value_impl.ghosts.eq v w ≡ true → v ≡ w
 value_same values.Gone values.Gone e = refl

@@ -27,6 +27,8 @@ own_kind kinds.Required other = refl
 own_kind kinds.GroupPreferred other = refl
 own_kind kinds.Numcopies other = refl
 own_kind kinds.Mincopies other = refl
+own_kind kinds.NumcopiesPath other = refl
+own_kind kinds.MincopiesPath other = refl
 
 pub kind_of_name : (name : List ℕ) (kind : LogKind) → (kind_named name ≡ Some kind) ↔ ((kind ≢ kinds.Location) × (file_name kind ≡ name))
 kind_of_name name kind = (λ e. (not_location name kind e, has_name named_kinds name kind e), λ is. ap kind_named (sym is.1) ∙ own_kind kind is.0)

@@ -1,12 +1,12 @@
 -- What is read is in the grammar, and each line of the grammar is read.
-use Rattle.std.proofs.Common.{inl, inr, ◌≡◌, ℕ, suc, true, nat_le, ◌&&◌, ◌==◌, true≢false, List, [], ◌∷◌, ◌++◌, length, slice_index_or, Contains, Option, Some, None, refl, sym, ap, subst, ◌∙◌, arith}
+use Rattle.std.proofs.Common.{inl, inr, ◌≡◌, ℕ, suc, ◌<◌, true, nat_le, ◌&&◌, ◌==◌, true≢false, List, [], ◌∷◌, ◌++◌, length, slice_index_or, Contains, Option, Some, None, refl, sym, ap, subst, ◌∙◌, arith}
 use Rattle.std.specs.List.{list_all}
 use Rattle.std.specs.Option.{is_some}
 use Rattle.std.specs.Str.{is_utf8}
 use Rattle.std.proofs.lemmas.Bool.{leb-true, le-leb, cases_Bool, eqb-true, and_parts}
 use Rattle.std.proofs.lemmas.List.Sums.{AllPass-from_list_all}
 use Rattle.std.proofs.lemmas.Str.{is_utf8-from_IsUtf8, IsUtf8-from_is_utf8}
-use Rattle.std.proofs.lemmas.Option.{same_Some}
+use Rattle.std.proofs.lemmas.Option.{none-some, same_Some}
 use Rattle.annex_base.specs.RepoText.{repo_of, repo_text}
 use Rattle.annex_base.proofs.Options.{bind_some, where_some}
 use Rattle.annex_base.proofs.RepoLemmas.{repo_again, repo_takes}
@@ -17,11 +17,11 @@ use Rattle.log_grammar.specs.declared.entry.Topic.TheVariants as topics
 use Rattle.log_grammar.specs.declared.entry.Value.{Value}
 use Rattle.log_grammar.specs.declared.entry.Value.TheVariants as values
 use Rattle.log_grammar.specs.declared.entry.Entry.{Entry}
-use Rattle.annex_base.specs.Lines.{space, newline, is_not_newline}
-use Rattle.log_grammar.specs.LineText.{IsWord, BeginsStamped, IsLineText, IsLocationLine, IsRepoLine, IsLevelBody, IsTextBody, IsGroupLine, Ends, IsGroupTextLine, IsNumberLine, IsStatus, HasForm, IsLine}
-use Rattle.log_grammar.specs.Reading.{first_word, stamp_front, repo_line, status_of, location_of, number_of, copies_of, level_body, trust_of, text_body, text_of, group_body, groups_of, group_front, group_text_of, form_of, is_line_text, entry_of}
+use Rattle.annex_base.specs.Lines.{space, newline, is_not_newline, is_not_space}
+use Rattle.log_grammar.specs.LineText.{IsNumber, IsPathNumberLine, IsWord, BeginsStamped, IsLineText, IsLocationLine, IsRepoLine, IsLevelBody, IsTextBody, IsGroupLine, Ends, IsGroupTextLine, IsNumberLine, IsStatus, HasForm, IsLine}
+use Rattle.log_grammar.specs.Reading.{first_word, stamp_front, repo_line, status_of, location_of, number_of, copies_of, number_and_rest, path_copies_of, some_text, level_body, trust_of, text_body, text_of, group_body, groups_of, group_front, group_text_of, form_of, is_line_text, entry_of}
 use Rattle.log_grammar.proofs.WordLemmas.{first_again, first_takes}
-use Rattle.log_grammar.proofs.StampLemmas.{front_takes, front_again}
+use Rattle.log_grammar.proofs.StampLemmas.{digit_no_space, digits_pass, front_takes, front_again}
 use Rattle.log_grammar.proofs.RepoLemmas.{line_takes, line_again}
 use Rattle.log_grammar.proofs.BodyLemmas.{status_takes, status_again, level_takes, level_value, text_takes, text_again, text_value, groups_takes, groups_value, group_front_takes, group_front_again, number_takes, number_value}
 
@@ -93,6 +93,51 @@ copies_again line e is =
     let begin = front_again line is.time is.digits is.begins in
     let number = number_value e.value is.digits is.says in
     rw (begin, number.2) (ap Some (made_is e topics.Whole (Some is.time) (values.Number number.0) is.topic is.at number.1))
+
+-- ---- numbers of copies by path
+
+number_word : (v : Value) (digits : List ℕ) → IsNumber v digits → IsWord digits
+number_word (values.Number n) digits is = digits_pass is_not_space digit_no_space digits is.2
+number_word v digits is = absurd is
+
+some_takes : (text t : List ℕ) → some_text text ≡ Some t → (0 < length text) × (text ≡ t)
+some_takes [] t e = absurd (none-some t e)
+some_takes (b ∷ bs) t e = (omega arith, same_Some (b ∷ bs) t e)
+
+some_again : (text : List ℕ) → 0 < length text → some_text text ≡ Some text
+some_again [] some = absurd (omega (arith, some))
+some_again (b ∷ bs) some = refl
+
+path_copies_takes : (line : List ℕ) (e : Entry) → path_copies_of line ≡ Some e → IsPathNumberLine line e
+unfolding path_copies_of number_and_rest
+path_copies_takes line e h =
+    let begin = bind_some (stamp_front line) _ e h in
+    let numbered = bind_some (number_and_rest begin.0.1) _ e begin.2 in
+    let word = bind_some (first_word begin.0.1) _ numbered.0 numbered.1 in
+    let number = bind_some (number_of word.0.0) _ numbered.0 word.2 in
+    let pattern = bind_some (some_text word.0.1) _ numbered.0 number.2 in
+    let pair : (number.0, pattern.0) ≡ numbered.0 = same_Some (number.0, pattern.0) numbered.0 pattern.2 in
+    let some = some_takes word.0.1 pattern.0 pattern.1 in
+    let rest : begin.0.1 ≡ word.0.0 ++ (space ∷ pattern.0) = first_takes begin.0.1 word.0 word.1 ∙ ap (λ (t : List ℕ). word.0.0 ++ (space ∷ t)) some.1 in
+    subst (IsPathNumberLine line) (same_Some (made (topics.Pattern numbered.0.1) (Some begin.0.0) (values.Number numbered.0.0)) e numbered.2)
+    (subst (λ (x : ℕ × List ℕ). IsPathNumberLine line (made (topics.Pattern x.1) (Some begin.0.0) (values.Number x.0))) pair (record {
+      time = begin.0.0;
+      digits = word.0.0;
+      pattern = pattern.0;
+      begins = subst (λ (r : List ℕ). BeginsStamped line begin.0.0 r) rest (front_takes line begin.0 begin.1);
+      says = number_takes word.0.0 number.0 number.1;
+      some = subst (λ (t : List ℕ). 0 < length t) some.1 some.0;
+      topic = refl;
+      at = refl;
+    }))
+
+path_copies_again : (line : List ℕ) (e : Entry) → IsPathNumberLine line e → path_copies_of line ≡ Some e
+unfolding path_copies_of number_and_rest
+path_copies_again line e is =
+    let begin = front_again line is.time (is.digits ++ (space ∷ is.pattern)) is.begins in
+    let word = first_again is.digits is.pattern (number_word e.value is.digits is.says) in
+    let number = number_value e.value is.digits is.says in
+    rw (begin, word, number.2, some_again is.pattern is.some) (ap Some (made_is e (topics.Pattern is.pattern) (Some is.time) (values.Number number.0) is.topic is.at number.1))
 
 -- ---- lines that begin with an identifier
 
@@ -204,6 +249,8 @@ form_takes kinds.Required = text_line_takes
 form_takes kinds.GroupPreferred = group_text_takes
 form_takes kinds.Numcopies = copies_takes
 form_takes kinds.Mincopies = copies_takes
+form_takes kinds.NumcopiesPath = path_copies_takes
+form_takes kinds.MincopiesPath = path_copies_takes
 
 form_again : (kind : LogKind) (line : List ℕ) (e : Entry) → HasForm kind line e → form_of kind line ≡ Some e
 form_again kinds.Location = location_again
@@ -215,6 +262,8 @@ form_again kinds.Required = text_line_again
 form_again kinds.GroupPreferred = group_text_again
 form_again kinds.Numcopies = copies_again
 form_again kinds.Mincopies = copies_again
+form_again kinds.NumcopiesPath = path_copies_again
+form_again kinds.MincopiesPath = path_copies_again
 
 -- ---- the text of a line
 

@@ -41,7 +41,7 @@ stamp_all p digit point unit text n is =
     ∙ list_all_append p is.seconds (fraction_text is.fraction ++ is.ending) (digits_pass p digit is.seconds is.digits)
     (list_all_append p (fraction_text is.fraction) is.ending (fraction_all p point is.fraction (digits_pass p digit is.fraction is.fraction_digits)) (ending_all p unit is.ending is.unit))
 
-digit_no_space : (b : ℕ) → is_ascii_digit b ≡ true → is_not_space b ≡ true
+pub digit_no_space : (b : ℕ) → is_ascii_digit b ≡ true → is_not_space b ≡ true
 digit_no_space b is = grind (arith, nat_tests)
 
 pub stamp_word : (text : List ℕ) (n : ℕ) → IsStamp text n → IsWord text

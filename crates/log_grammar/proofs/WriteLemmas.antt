@@ -19,7 +19,7 @@ use Rattle.log_grammar.specs.declared.entry.Value.{Value}
 use Rattle.log_grammar.specs.declared.entry.Value.TheVariants as values
 use Rattle.log_grammar.specs.declared.entry.Entry.{Entry}
 use Rattle.annex_base.specs.Lines.{space, is_not_space}
-use Rattle.log_grammar.specs.LineText.{stamp_mark, EndsMarked, BeginsStamped, Ends, IsLocationLine, IsRepoLine, IsLevelBody, IsTextBody, IsGroupBody, IsUngroupedLine, IsGroupLine, IsGroupTextLine, IsNumber, IsNumberLine, IsStatus, HasForm, IsLine, HasLine, topic_text, value_text, spaced_value, stamp_first, stamp_last, location_text, repo_line_text, group_line_text, number_line_text, line_text}
+use Rattle.log_grammar.specs.LineText.{stamp_mark, EndsMarked, BeginsStamped, Ends, IsLocationLine, IsRepoLine, IsLevelBody, IsTextBody, IsGroupBody, IsUngroupedLine, IsGroupLine, IsGroupTextLine, IsNumber, IsNumberLine, IsPathNumberLine, IsStatus, HasForm, IsLine, HasLine, topic_text, value_text, spaced_value, stamp_first, stamp_last, spaced_text, repo_line_text, group_line_text, number_line_text, line_text}
 use Rattle.log_grammar.specs.Reading.{last_word}
 use Rattle.log_grammar.proofs.NumberLemmas.{nine_digits_below}
 use Rattle.log_grammar.proofs.WordLemmas.{last_again}
@@ -70,15 +70,15 @@ status_letter v letter is = absurd is
 location_spelled : (first repo : List ℕ) (letter : ℕ) → first ++ (letter ∷ []) ++ (space ∷ []) ++ repo ≡ first ++ (letter ∷ space ∷ repo)
 location_spelled first repo letter = simp append_assoc
 
-location_written : (line : List ℕ) (e : Entry) → Plain line → IsLocationLine line e → Written IsLocationLine (location_text e) e
+location_written : (line : List ℕ) (e : Entry) → Plain line → IsLocationLine line e → Written IsLocationLine (spaced_text e) e
 location_written line e p is =
     let rest = is.letter ∷ space ∷ repo_text is.id in
-    let spelled : location_text e ≡ stamp_first (Some is.time) ++ rest =
+    let spelled : spaced_text e ≡ stamp_first (Some is.time) ++ rest =
     ap (λ (s : Option ℕ). stamp_first s ++ value_text e.value ++ (space ∷ []) ++ topic_text e.topic) is.at
     ∙ ap (λ (v : List ℕ). stamp_first (Some is.time) ++ v ++ (space ∷ []) ++ topic_text e.topic) (status_letter e.value is.letter is.status)
     ∙ ap (λ (t : Topic). stamp_first (Some is.time) ++ (is.letter ∷ []) ++ (space ∷ []) ++ topic_text t) is.topic
     ∙ location_spelled (stamp_first (Some is.time)) (repo_text is.id) is.letter in
-    let b = begun line is.time rest rest (location_text e) is.begins (rest_plain line is.time rest p is.begins) spelled in
+    let b = begun line is.time rest rest (spaced_text e) is.begins (rest_plain line is.time rest p is.begins) spelled in
     record { plain = b.plain; form = record { time = is.time; letter = is.letter; id = is.id; begins = b.begins; status = is.status; repo = is.repo; topic = is.topic; at = is.at } }
 
 -- ---- numbers
@@ -115,6 +115,24 @@ number_written line e p is =
     ap (λ (s : Option ℕ). stamp_first s ++ value_text e.value) is.at ∙ ap (λ (v : List ℕ). stamp_first (Some is.time) ++ v) d.1.text in
     let b = begun line is.time is.digits d.0 (number_line_text e) is.begins d.1.plain spelled in
     record { plain = b.plain; form = record { time = is.time; digits = d.0; begins = b.begins; says = d.1.says; topic = is.topic; at = is.at } }
+
+spaced_parts : (first digits pattern : List ℕ) → first ++ digits ++ (space ∷ []) ++ pattern ≡ first ++ (digits ++ (space ∷ pattern))
+spaced_parts first digits pattern = simp append_assoc
+
+path_number_written : (line : List ℕ) (e : Entry) → Plain line → IsPathNumberLine line e → Written IsPathNumberLine (spaced_text e) e
+path_number_written line e p is =
+    let d = number_is e.value is.digits is.says in
+    let first = stamp_first (Some is.time) in
+    let rest' = d.0 ++ (space ∷ is.pattern) in
+    let spelled : spaced_text e ≡ first ++ rest' =
+    ap (λ (s : Option ℕ). stamp_first s ++ value_text e.value ++ (space ∷ []) ++ topic_text e.topic) is.at
+    ∙ ap (λ (v : List ℕ). first ++ v ++ (space ∷ []) ++ topic_text e.topic) d.1.text
+    ∙ ap (λ (t : Topic). first ++ d.0 ++ (space ∷ []) ++ topic_text t) is.topic
+    ∙ spaced_parts first d.0 is.pattern in
+    let pattern = plain_after is.digits is.pattern (rest_plain line is.time (is.digits ++ (space ∷ is.pattern)) p is.begins) in
+    let plain = plain_append d.0 (space ∷ is.pattern) d.1.plain (plain_append (space ∷ []) is.pattern (plain_low (space ∷ []) refl) pattern) in
+    let b = begun line is.time (is.digits ++ (space ∷ is.pattern)) rest' (spaced_text e) is.begins plain spelled in
+    record { plain = b.plain; form = record { time = is.time; digits = d.0; pattern = is.pattern; begins = b.begins; says = d.1.says; some = is.some; topic = is.topic; at = is.at } }
 
 -- ---- the value after a topic
 
@@ -241,6 +259,8 @@ form_written kinds.Required = repo_written IsTextBody text_spaced
 form_written kinds.GroupPreferred = group_written
 form_written kinds.Numcopies = number_written
 form_written kinds.Mincopies = number_written
+form_written kinds.NumcopiesPath = path_number_written
+form_written kinds.MincopiesPath = path_number_written
 
 -- the line that is written for an entry has that entry
 pub line_again : (kind : LogKind) (e : Entry) → HasLine kind e → length (line_text kind e) ≤ 8192 → IsLine kind (line_text kind e) e

@@ -1,5 +1,5 @@
 -- What the lines of the log files say (git-annex internals: location log, trust.log and the other log files).
-use Rattle.std.specs.Prelude.{◌≡◌, ◌⊎◌, ℕ, ◌<◌, ◌≤◌, ◌==◌, Bool, true, false, not, ◌&&◌, if◌then◌else◌, IsTrue, List, [], ◌∷◌, ◌++◌, length, Option, Some, None, Contains, codes, flat_map}
+use Rattle.std.specs.Prelude.{◌≡◌, ◌⊎◌, ℕ, ◌<◌, ◌≤◌, Bool, true, false, not, ◌&&◌, if◌then◌else◌, IsTrue, List, [], ◌∷◌, ◌++◌, length, Option, Some, None, Contains, codes, flat_map}
 use Rattle.std.specs.Char.{is_ascii_digit, is_ascii_control}
 use Rattle.std.specs.List.{AllPass, list_all}
 use Rattle.std.specs.Fmt.{decimal}
@@ -151,6 +151,17 @@ pub record IsNumberLine (line : List ℕ) (e : Entry) : Type 0 where
   pub topic : e.topic ≡ topics.Whole
   pub at : e.stamp ≡ Some time
 
+-- STAMP NUMBER GLOB: the pattern is the rest of the line, and isn't empty (own)
+pub record IsPathNumberLine (line : List ℕ) (e : Entry) : Type 0 where
+  pub time : ℕ
+  pub digits : List ℕ
+  pub pattern : List ℕ
+  pub begins : BeginsStamped line time (digits ++ (space ∷ pattern))
+  pub says : IsNumber e.value digits
+  pub some : 0 < length pattern
+  pub topic : e.topic ≡ topics.Pattern pattern
+  pub at : e.stamp ≡ Some time
+
 -- the form of the lines of each file (git-annex internals: location log, trust.log, uuid.log, group.log,
 -- preferred-content.log, required-content.log, group-preferred-content.log, numcopies.log, mincopies.log)
 abbrev pub HasForm : LogKind → List ℕ → Entry → Type 0
@@ -163,6 +174,8 @@ HasForm kinds.Required = IsRepoLine IsTextBody
 HasForm kinds.GroupPreferred = IsGroupTextLine
 HasForm kinds.Numcopies = IsNumberLine
 HasForm kinds.Mincopies = IsNumberLine
+HasForm kinds.NumcopiesPath = IsPathNumberLine
+HasForm kinds.MincopiesPath = IsPathNumberLine
 
 -- the line is in the grammar of this file, and says this
 pub record IsLine (kind : LogKind) (line : List ℕ) (e : Entry) : Type 0 where
@@ -184,6 +197,7 @@ abbrev pub topic_text : Topic → List ℕ
 topic_text (topics.Repo id) = repo_text id
 topic_text (topics.Group name) = name
 topic_text topics.Whole = []
+topic_text (topics.Pattern glob) = glob
 
 -- a space before each group; the other values have none
 abbrev pub value_text : Value → List ℕ
@@ -212,8 +226,9 @@ abbrev pub stamp_last : Option ℕ → List ℕ
 stamp_last None = []
 stamp_last (Some time) = (space ∷ stamp_mark) ++ stamp_text time
 
-abbrev pub location_text : Entry → List ℕ
-location_text e = stamp_first e.stamp ++ value_text e.value ++ (space ∷ []) ++ topic_text e.topic
+-- a stamp, a value and a topic
+abbrev pub spaced_text : Entry → List ℕ
+spaced_text e = stamp_first e.stamp ++ value_text e.value ++ (space ∷ []) ++ topic_text e.topic
 
 abbrev pub repo_line_text : Entry → List ℕ
 repo_line_text e = topic_text e.topic ++ spaced_value e.value ++ stamp_last e.stamp
@@ -226,7 +241,7 @@ number_line_text e = stamp_first e.stamp ++ value_text e.value
 
 -- the line that is written for the entry
 abbrev pub line_text : LogKind → Entry → List ℕ
-line_text kinds.Location = location_text
+line_text kinds.Location = spaced_text
 line_text kinds.Trust = repo_line_text
 line_text kinds.Uuid = repo_line_text
 line_text kinds.Group = repo_line_text
@@ -235,3 +250,5 @@ line_text kinds.Required = repo_line_text
 line_text kinds.GroupPreferred = group_line_text
 line_text kinds.Numcopies = number_line_text
 line_text kinds.Mincopies = number_line_text
+line_text kinds.NumcopiesPath = spaced_text
+line_text kinds.MincopiesPath = spaced_text

@@ -1,5 +1,5 @@
 -- Reading a line: each function gives what stands in front and what follows it.
-use Rattle.std.specs.Prelude.{ℕ, ◌+◌, ◌-◌, ◌==◌, Bool, true, false, not, nat_lt, nat_le, ◌&&◌, if◌then◌else◌, List, [], ◌∷◌, length, take, drop, Option, Some, None}
+use Rattle.std.specs.Prelude.{ℕ, ◌+◌, ◌-◌, ◌==◌, Bool, true, false, nat_lt, nat_le, ◌&&◌, if◌then◌else◌, List, [], ◌∷◌, length, take, drop, Option, Some, None}
 use Rattle.std.specs.Char.{is_ascii_digit}
 use Rattle.std.specs.List.{list_all, position_or_len, suffix_len, starts_with, slice_split}
 use Rattle.std.specs.Option.{is_some, option_map}
@@ -95,6 +95,25 @@ copies_of line = do
   number ← number_of begin.1
   Some (record { topic = topics.Whole; stamp = Some begin.0; value = values.Number number })
 
+abbrev pub some_text : List ℕ → Option (List ℕ)
+some_text [] = None
+some_text (b ∷ bs) = Some (b ∷ bs)
+
+-- the number in front, and what follows its space, which isn't empty
+unfoldable pub number_and_rest : List ℕ → Option (ℕ × List ℕ)
+number_and_rest bytes = do
+  word ← first_word bytes
+  number ← number_of word.0
+  pattern ← some_text word.1
+  Some (number, pattern)
+
+-- STAMP NUMBER GLOB
+unfoldable pub path_copies_of : List ℕ → Option Entry
+path_copies_of line = do
+  begin ← stamp_front line
+  numbered ← number_and_rest begin.1
+  Some (record { topic = topics.Pattern numbered.1; stamp = Some begin.0; value = values.Number numbered.0 })
+
 abbrev pub letter_level : ℕ → Option Level
 letter_level letter =
     if letter == 49 then Some levels.Trusted else
@@ -173,6 +192,8 @@ form_of kinds.Required line = text_of line
 form_of kinds.GroupPreferred line = group_text_of line
 form_of kinds.Numcopies line = copies_of line
 form_of kinds.Mincopies line = copies_of line
+form_of kinds.NumcopiesPath line = path_copies_of line
+form_of kinds.MincopiesPath line = path_copies_of line
 
 -- UTF-8 without a newline, of at most 8,192 bytes
 abbrev pub is_line_text : List ℕ → Bool

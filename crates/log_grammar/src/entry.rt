@@ -24,14 +24,19 @@ pub enum LogKind {
     Numcopies,
     /// mincopies.log
     Mincopies,
+    /// numcopies-path.log: numbers of copies by path (own).
+    NumcopiesPath,
+    /// mincopies-path.log: the same of mincopies (own).
+    MincopiesPath,
 }
 
-/// What an entry speaks of: a repository, a group, or the whole file.
+/// What an entry speaks of: a repository, a group, the whole file, or a pattern of paths.
 #[derive(Clone, Debug, Drop, PartialEq, Eq, PartialOrd, Ord)]
 pub enum Topic {
     Repo(RepoId),
     Group(Text),
     Whole,
+    Pattern(Text),
 }
 
 /// What an entry says of its topic.

@@ -6,7 +6,7 @@ ghost use Rattle.log_grammar.specs.Files.{file_name, kind_named};
 use crate::entry::LogKind;
 
 /// The kinds that have one file each.
-const NAMED: [LogKind; 8] = [
+const NAMED: [LogKind; 10] = [
     LogKind::Trust,
     LogKind::Uuid,
     LogKind::Group,
@@ -15,6 +15,8 @@ const NAMED: [LogKind; 8] = [
     LogKind::GroupPreferred,
     LogKind::Numcopies,
     LogKind::Mincopies,
+    LogKind::NumcopiesPath,
+    LogKind::MincopiesPath,
 ];
 
 impl LogKind {
@@ -33,6 +35,8 @@ impl LogKind {
             LogKind::GroupPreferred => b"group-preferred-content.log",
             LogKind::Numcopies => b"numcopies.log",
             LogKind::Mincopies => b"mincopies.log",
+            LogKind::NumcopiesPath => b"numcopies-path.log",
+            LogKind::MincopiesPath => b"mincopies-path.log",
         }
     }
 

@@ -11,7 +11,7 @@ ghost use Rattle.log_grammar.specs.Reading.{is_line_text, form_of, entry_of};
 use crate::entry::{Entry, LogKind};
 use crate::groups::read_groups;
 use crate::location::read_location;
-use crate::number::read_copies;
+use crate::number::{read_copies, read_path_copies};
 use crate::texts::{read_group_text, read_text};
 use crate::trust::read_trust;
 use annex_base::NoMemory;
@@ -51,6 +51,7 @@ fn read_form(alloc: Global, kind: LogKind, line: &[u8]) -> Result<Option<Entry>,
         LogKind::Group => read_groups(alloc, line),
         LogKind::GroupPreferred => read_group_text(alloc, line),
         LogKind::Numcopies | LogKind::Mincopies => Ok(read_copies(line)),
+        LogKind::NumcopiesPath | LogKind::MincopiesPath => read_path_copies(alloc, line),
     }
 }
 

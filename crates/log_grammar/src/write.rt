@@ -3,7 +3,7 @@
 ghost use Rattle.std.specs.Prelude.{◌≡◌, ◌≤◌, [], ◌++◌, ◌∷◌, length, flat_map, IfOk, IfSome, IsTrue, OnOk, Some, ◌↔◌};
 ghost use Rattle.annex_base.specs.StampText.{stamp_text};
 ghost use Rattle.annex_base.specs.Lines.{space};
-ghost use Rattle.log_grammar.specs.LineText.{IsLine, HasLine, level_letter, topic_text, value_text, is_groups, spaced_value, stamp_first, stamp_last, location_text, repo_line_text, group_line_text, number_line_text, line_text};
+ghost use Rattle.log_grammar.specs.LineText.{IsLine, HasLine, level_letter, topic_text, value_text, is_groups, spaced_value, stamp_first, stamp_last, spaced_text, repo_line_text, group_line_text, number_line_text, line_text};
 
 use crate::entry::{Entry, LogKind, Topic, Value};
 use crate::read::read;
@@ -53,6 +53,7 @@ fn put_topic(out: &mut Vec<u8>, topic: &Topic) -> Result<(), NoMemory>
         Topic::Repo(id) => out.extend_from_slice(&id.print())?,
         Topic::Group(name) => out.extend_from_slice(name.bytes())?,
         Topic::Whole => {}
+        Topic::Pattern(glob) => out.extend_from_slice(glob.bytes())?,
     }
     Ok(())
 }
@@ -111,8 +112,9 @@ fn put_spaced_value(out: &mut Vec<u8>, value: &Value) -> Result<(), NoMemory>
     Ok(())
 }
 
-fn location_line(alloc: Global, entry: &Entry) -> Result<Vec<u8>, NoMemory>
-    ensures { IfOk result (λ v. v.items ≡ location_text entry.now) }
+// A stamp, a value and a topic, with a space between each two.
+fn spaced_line(alloc: Global, entry: &Entry) -> Result<Vec<u8>, NoMemory>
+    ensures { IfOk result (λ v. v.items ≡ spaced_text entry.now) }
 {
     let mut out = Vec::new(alloc);
     put_stamp_first(&mut out, entry.stamp)?;
@@ -155,7 +157,9 @@ fn line_bytes(alloc: Global, kind: LogKind, entry: &Entry) -> Result<Vec<u8>, No
     ensures { IfOk result (λ v. v.items ≡ line_text kind entry.now) }
 {
     match kind {
-        LogKind::Location => location_line(alloc, entry),
+        LogKind::Location | LogKind::NumcopiesPath | LogKind::MincopiesPath => {
+            spaced_line(alloc, entry)
+        }
         LogKind::Trust | LogKind::Uuid | LogKind::Group | LogKind::Preferred | LogKind::Required =>
             repo_line(alloc, entry),
         LogKind::GroupPreferred => group_line(alloc, entry),

@@ -57,6 +57,8 @@ form_below kinds.Required line e n f at = repo_below _ line e n f at
 form_below kinds.GroupPreferred line e n f at = begins_below e.stamp f.time n f.begins.stamp f.at f.begins.is at
 form_below kinds.Numcopies line e n f at = begins_below e.stamp f.time n f.begins.stamp f.at f.begins.is at
 form_below kinds.Mincopies line e n f at = begins_below e.stamp f.time n f.begins.stamp f.at f.begins.is at
+form_below kinds.NumcopiesPath line e n f at = begins_below e.stamp f.time n f.begins.stamp f.at f.begins.is at
+form_below kinds.MincopiesPath line e n f at = begins_below e.stamp f.time n f.begins.stamp f.at f.begins.is at
 
 -- a line's stamp is at most the greatest
 pub line_stamp_below : (kind : LogKind) (line : List ℕ) (e : Entry) (n : ℕ) → IsLine kind line e → e.stamp ≡ Some n → n ≤ greatest_stamp

@@ -41,6 +41,7 @@ topic_text : Topic → List ℕ
 topic_text (topics.Repo id) = id
 topic_text (topics.Group name) = name
 topic_text topics.Whole = []
+topic_text (topics.Pattern glob) = glob
 
 topic_in_parts : (t u : Topic) → ordering_then (nat_cmp (topic_rank t) (topic_rank u)) (text_cmp (topic_text t) (topic_text u)) ≡ topic_cmp t u
 unfolding topic_text
@@ -53,6 +54,13 @@ topic_in_parts (topics.Group a) topics.Whole = refl
 topic_in_parts topics.Whole (topics.Repo b) = refl
 topic_in_parts topics.Whole (topics.Group b) = refl
 topic_in_parts topics.Whole topics.Whole = refl
+topic_in_parts (topics.Repo a) (topics.Pattern b) = refl
+topic_in_parts (topics.Group a) (topics.Pattern b) = refl
+topic_in_parts topics.Whole (topics.Pattern b) = refl
+topic_in_parts (topics.Pattern a) (topics.Repo b) = refl
+topic_in_parts (topics.Pattern a) (topics.Group b) = refl
+topic_in_parts (topics.Pattern a) topics.Whole = refl
+topic_in_parts (topics.Pattern a) (topics.Pattern b) = refl
 
 pub topic_total : IsTotalOrder topic_cmp
 topic_total = subst IsTotalOrder (λ i t u. topic_in_parts t u i) (then_total (on_total topic_rank nat_cmp_total) (on_total topic_text nat_list_cmp_total))
@@ -61,6 +69,7 @@ pub topic_exact : CmpEqualImpliesEq topic_cmp
 topic_exact (topics.Repo a) (topics.Repo b) e = ap topics.Repo (exact_bytes a b e)
 topic_exact (topics.Group a) (topics.Group b) e = ap topics.Group (exact_bytes a b e)
 topic_exact topics.Whole topics.Whole e = refl
+topic_exact (topics.Pattern a) (topics.Pattern b) e = ap topics.Pattern (exact_bytes a b e)
 topic_exact t u e = other (ap is_eq e)
 
 equal_is : (o : Ordering) → is_eq o ≡ true → o ≡ Equal

@@ -31,6 +31,13 @@ topic_order (topics.Group a) topics.Whole = refl
 topic_order topics.Whole (topics.Repo b) = refl
 topic_order topics.Whole (topics.Group b) = refl
 topic_order topics.Whole topics.Whole = refl
+topic_order (topics.Repo a) (topics.Pattern b) = refl
+topic_order (topics.Group a) (topics.Pattern b) = refl
+topic_order topics.Whole (topics.Pattern b) = refl
+topic_order (topics.Pattern a) (topics.Repo b) = refl
+topic_order (topics.Pattern a) (topics.Group b) = refl
+topic_order (topics.Pattern a) topics.Whole = refl
+topic_order (topics.Pattern a) (topics.Pattern b) = refl
 
 pub topic_orders : topic_ord.ghosts.cmp ≡ topic_cmp
 topic_orders = λ i t u. topic_order t u i

@@ -25,11 +25,13 @@ abbrev pub topic_rank : Topic → ℕ
 topic_rank (topics.Repo id) = 0
 topic_rank (topics.Group name) = 1
 topic_rank topics.Whole = 2
+topic_rank (topics.Pattern glob) = 3
 
--- repositories in order of identifier, then groups in byte order, then the whole file
+-- repositories in order of identifier, then groups in byte order, then the whole file, then patterns in byte order
 abbrev pub topic_cmp : Topic → Topic → Ordering
 topic_cmp (topics.Repo a) (topics.Repo b) = text_cmp a b
 topic_cmp (topics.Group a) (topics.Group b) = text_cmp a b
+topic_cmp (topics.Pattern a) (topics.Pattern b) = text_cmp a b
 topic_cmp a b = nat_cmp (topic_rank a) (topic_rank b)
 
 abbrev pub same_topic : Topic → Topic → Bool

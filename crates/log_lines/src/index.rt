@@ -181,7 +181,7 @@ fn is_group(topic: &Topic, name: &[u8]) -> bool
 {
     match topic {
         Topic::Group(other) => name.cmp(other.bytes()).is_eq(),
-        Topic::Repo(_) | Topic::Whole => false,
+        Topic::Repo(_) | Topic::Whole | Topic::Pattern(_) => false,
     }
 }
 

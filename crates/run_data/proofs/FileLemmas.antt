@@ -41,6 +41,8 @@ name_one_line kinds.Required = refl
 name_one_line kinds.GroupPreferred = refl
 name_one_line kinds.Numcopies = refl
 name_one_line kinds.Mincopies = refl
+name_one_line kinds.NumcopiesPath = refl
+name_one_line kinds.MincopiesPath = refl
 
 name_without_slash : (kind : LogKind) → list_all not_slash (file_name kind) ≡ true
 name_without_slash kinds.Location = refl
@@ -52,6 +54,8 @@ name_without_slash kinds.Required = refl
 name_without_slash kinds.GroupPreferred = refl
 name_without_slash kinds.Numcopies = refl
 name_without_slash kinds.Mincopies = refl
+name_without_slash kinds.NumcopiesPath = refl
+name_without_slash kinds.MincopiesPath = refl
 
 name_some : (kind : LogKind) → kind ≢ kinds.Location → file_name kind ≢ []
 name_some kinds.Location other = λ is. other refl
@@ -63,6 +67,8 @@ name_some kinds.Required other = λ is. cc
 name_some kinds.GroupPreferred other = λ is. cc
 name_some kinds.Numcopies other = λ is. cc
 name_some kinds.Mincopies other = λ is. cc
+name_some kinds.NumcopiesPath other = λ is. cc
+name_some kinds.MincopiesPath other = λ is. cc
 
 -- ---- the path of a file
 
@@ -131,6 +137,8 @@ named_kind kinds.Required other = refl
 named_kind kinds.GroupPreferred other = refl
 named_kind kinds.Numcopies other = refl
 named_kind kinds.Mincopies other = refl
+named_kind kinds.NumcopiesPath other = refl
+named_kind kinds.MincopiesPath other = refl
 
 -- the kind that a name tells, or none but a location log's
 abbrev or_location : Option LogKind → LogKind
@@ -147,6 +155,8 @@ told_kind kinds.Required = refl
 told_kind kinds.GroupPreferred = refl
 told_kind kinds.Numcopies = refl
 told_kind kinds.Mincopies = refl
+told_kind kinds.NumcopiesPath = refl
+told_kind kinds.MincopiesPath = refl
 
 -- two logs at one path are of one kind
 pub kind_there : (file other : LogFile) (kind : LogKind) → file_path file ≡ file_path other → kind_of other ≡ Some kind → (kind_of file ≡ Some kind) ⊎ (kind_of file ≡ None)

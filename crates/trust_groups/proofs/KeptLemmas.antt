@@ -13,7 +13,7 @@ use Rattle.log_lines.specs.declared.entry.Entry.{Entry}
 use Rattle.log_lines.specs.Newest.{newest}
 use Rattle.log_lines.specs.Files.{file_name}
 use Rattle.hash_dirs.specs.LogPath.{location_path}
-use Rattle.trust_groups.specs.Settings.{Lines, level, is_present, repo_of, repos_of, are_dead, is_claim, claims, settings}
+use Rattle.trust_groups.specs.Settings.{Lines, level, is_present, repo_of, repos_of, are_dead, is_claim, claims, settings, patterns_of}
 use Rattle.log_lines.specs.declared.entry.LogKind.{LogKind}
 use Rattle.log_lines.specs.Index.{Index}
 use Rattle.trust_groups.specs.Kept.{level_among, groups_among, text_among, number_among, any_dead, claims_by, claims_among, grouped_among}
@@ -72,6 +72,8 @@ settings_read es lines reads =
     let trust : entries_of es kinds.Trust ≡ newest kinds.Trust (lines (file_name kinds.Trust)) = file_read es lines reads (file_name kinds.Trust) in
     let numcopies : entries_of es kinds.Numcopies ≡ newest kinds.Numcopies (lines (file_name kinds.Numcopies)) = file_read es lines reads (file_name kinds.Numcopies) in
     let mincopies : entries_of es kinds.Mincopies ≡ newest kinds.Mincopies (lines (file_name kinds.Mincopies)) = file_read es lines reads (file_name kinds.Mincopies) in
+    let path_numcopies : entries_of es kinds.NumcopiesPath ≡ newest kinds.NumcopiesPath (lines (file_name kinds.NumcopiesPath)) = file_read es lines reads (file_name kinds.NumcopiesPath) in
+    let path_mincopies : entries_of es kinds.MincopiesPath ≡ newest kinds.MincopiesPath (lines (file_name kinds.MincopiesPath)) = file_read es lines reads (file_name kinds.MincopiesPath) in
     let groups : entries_of es kinds.Group ≡ newest kinds.Group (lines (file_name kinds.Group)) = file_read es lines reads (file_name kinds.Group) in
     let descriptions : entries_of es kinds.Uuid ≡ newest kinds.Uuid (lines (file_name kinds.Uuid)) = file_read es lines reads (file_name kinds.Uuid) in
     let preferred : entries_of es kinds.Preferred ≡ newest kinds.Preferred (lines (file_name kinds.Preferred)) = file_read es lines reads (file_name kinds.Preferred) in
@@ -82,6 +84,8 @@ settings_read es lines reads =
       level = levels i;
       numcopies = number_among (numcopies i);
       mincopies = number_among (mincopies i);
+      path_numcopies = patterns_of (path_numcopies i);
+      path_mincopies = patterns_of (path_mincopies i);
       groups = groups_among (groups i);
       description = λ repo. text_among (descriptions i) (topics.Repo repo);
       preferred = λ repo. text_among (preferred i) (topics.Repo repo);

@@ -39,6 +39,8 @@ name_has_no_slash kinds.Required = refl
 name_has_no_slash kinds.GroupPreferred = refl
 name_has_no_slash kinds.Numcopies = refl
 name_has_no_slash kinds.Mincopies = refl
+name_has_no_slash kinds.NumcopiesPath = refl
+name_has_no_slash kinds.MincopiesPath = refl
 
 name_apart : (kind : LogKind) (key : List ℕ) → bytes_eq (file_name kind) (location_path key) ≡ false
 name_apart kind key = false_from_ne_true (bytes_eq (file_name kind) (location_path key)) (λ t.

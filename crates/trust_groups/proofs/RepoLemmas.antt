@@ -32,6 +32,7 @@ repo_of_member (topics.Repo id) repo (inl is) = ap topics.Repo (sym is)
 repo_of_member (topics.Repo id) repo (inr none) = absurd none
 repo_of_member (topics.Group name) repo among = absurd among
 repo_of_member topics.Whole repo among = absurd among
+repo_of_member (topics.Pattern glob) repo among = absurd among
 
 member_repo_of : (t : Topic) (repo : List ℕ) → t ≡ topics.Repo repo → Member repo (repo_of t)
 member_repo_of t repo is = subst (λ u. Member repo (repo_of u)) (sym is) (inl refl)
@@ -64,6 +65,7 @@ below_more : (id : List ℕ) (t : Topic) (repos : List (List ℕ)) → topic_cmp
 below_more id (topics.Repo other) repos below rest = (below, rest)
 below_more id (topics.Group name) repos below rest = rest
 below_more id topics.Whole repos below rest = rest
+below_more id (topics.Pattern glob) repos below rest = rest
 
 below_past : (p : Entry → Bool) (id : List ℕ) (es : List Entry) → ArePast (topics.Repo id) es → AreBelow id (repos_of (filter p es))
 below_past p id [] past = tt
@@ -77,6 +79,7 @@ unfolding IsStrictlySortedBy
 sorted_more (topics.Repo id) repos below sorted = (below id refl, sorted)
 sorted_more (topics.Group name) repos below sorted = sorted
 sorted_more topics.Whole repos below sorted = sorted
+sorted_more (topics.Pattern glob) repos below sorted = sorted
 
 pub none_sorted : IsStrictlySortedBy text_cmp []
 unfolding IsStrictlySortedBy

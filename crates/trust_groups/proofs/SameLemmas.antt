@@ -8,7 +8,7 @@ use Rattle.log_lines.specs.Newest.{newest, entry_at, ReadAlike, current_lines}
 use Rattle.log_lines.specs.Keeping.{Keeps, SameLines}
 use Rattle.log_lines.specs.Files.{file_name}
 use Rattle.hash_dirs.specs.LogPath.{location_path}
-use Rattle.trust_groups.specs.Settings.{Lines, location_entries, entry_in, value_in, level_in, text_in, groups_in, number_in, level, is_dead, is_present, repo_of, repos_of, are_dead, is_claim, claims, has_groups, settings}
+use Rattle.trust_groups.specs.Settings.{Lines, location_entries, entry_in, value_in, level_in, text_in, groups_in, number_in, level, is_dead, is_present, repo_of, repos_of, are_dead, is_claim, claims, has_groups, settings, patterns_of}
 use Rattle.trust_groups.specs.Alike.{SameFiles, SameReading, KeepsFiles, MayCompact, CompactsFiles}
 
 -- two files of a kind whose newest entries are the same
@@ -42,6 +42,8 @@ settings-same x y same =
       level = λ repo. trust repo i;
       numcopies = number_in (value kinds.Numcopies (λ e. cc) topics.Whole i);
       mincopies = number_in (value kinds.Mincopies (λ e. cc) topics.Whole i);
+      path_numcopies = patterns_of (same.files kinds.NumcopiesPath (λ e. cc) i);
+      path_mincopies = patterns_of (same.files kinds.MincopiesPath (λ e. cc) i);
       groups = λ repo. groups_in (value kinds.Group (λ e. cc) (topics.Repo repo) i);
       description = λ repo. text_in (value kinds.Uuid (λ e. cc) (topics.Repo repo) i);
       preferred = λ repo. text_in (value kinds.Preferred (λ e. cc) (topics.Repo repo) i);

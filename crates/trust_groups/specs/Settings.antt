@@ -64,6 +64,18 @@ numcopies lines = number_in (value_in (entry_in kinds.Numcopies lines topics.Who
 abbrev pub mincopies : Lines → ℕ
 mincopies lines = number_in (value_in (entry_in kinds.Mincopies lines topics.Whole))
 
+-- the pattern that an entry speaks of, with its number; a 0 is read as 1 (own)
+abbrev pub pattern_in : Topic → ℕ → List (List ℕ × ℕ)
+pattern_in (topics.Pattern glob) number = (glob, number) ∷ []
+pattern_in _ number = []
+
+abbrev pub patterns_of : List Entry → List (List ℕ × ℕ)
+patterns_of es = flat_map (λ e. pattern_in e.topic (number_in (Some e.value))) es
+
+-- the numbers by path of a kind, in order of pattern (own)
+abbrev pub path_numbers : LogKind → Lines → List (List ℕ × ℕ)
+path_numbers kind lines = patterns_of (newest kind (lines (file_name kind)))
+
 -- none without an entry (git-annex-group)
 abbrev pub groups : Lines → List ℕ → List (List ℕ)
 groups lines repo = groups_in (value_in (entry_in kinds.Group lines (topics.Repo repo)))
@@ -128,6 +140,8 @@ settings lines = record {
   level = level lines;
   numcopies = numcopies lines;
   mincopies = mincopies lines;
+  path_numcopies = path_numbers kinds.NumcopiesPath lines;
+  path_mincopies = path_numbers kinds.MincopiesPath lines;
   groups = groups lines;
   description = description lines;
   preferred = preferred lines;

@@ -11,6 +11,7 @@ use Rattle.trust_groups.specs.declared.levels.Levels.{Levels}
 use Rattle.hash_dirs.specs.LogPath.{location_path}
 use Rattle.trust_groups.specs.Kept.{level_among, groups_among, text_among, number_among, claims_among, grouped_among}
 use Rattle.trust_groups.specs.Reads.{Indices, entries_at}
+use Rattle.trust_groups.specs.Settings.{patterns_of}
 
 -- the level of each repository
 abbrev pub level_of : Levels → List ℕ → Level
@@ -26,6 +27,8 @@ settings_of indices = record {
   level = level_among (entries_of indices kinds.Trust);
   numcopies = number_among (entries_of indices kinds.Numcopies);
   mincopies = number_among (entries_of indices kinds.Mincopies);
+  path_numcopies = patterns_of (entries_of indices kinds.NumcopiesPath);
+  path_mincopies = patterns_of (entries_of indices kinds.MincopiesPath);
   groups = groups_among (entries_of indices kinds.Group);
   description = λ repo. text_among (entries_of indices kinds.Uuid) (topics.Repo repo);
   preferred = λ repo. text_among (entries_of indices kinds.Preferred) (topics.Repo repo);
