@@ -2,4 +2,5 @@
 pub mod MatchLemmas
 pub mod ReadingLemmas
 pub mod SetLemmas
+pub mod SpelledLemmas
 pub mod WalkLemmas

@@ -1,3 +1,5 @@
 -- The definitions of this crate.
 pub mod Glob
+pub mod Numbers
+pub mod Spelled
 pub mod Walk

@@ -12,4 +12,4 @@ mod walk;
 pub use fault::GlobFault;
 pub use glob::Glob;
 pub use item::{CharSet, Item};
-pub use laws::{globs_are_unique, tests_are_matches};
+pub use laws::{globs_are_read, globs_are_unique, tests_are_matches};

@@ -5,6 +5,7 @@ pub mod FaultLemmas
 pub mod GrammarLemmas
 pub mod NameLemmas
 pub mod ParseLemmas
+pub mod ParsedLemmas
 pub mod ReadLemmas
 pub mod ReadWordLemmas
 pub mod SameLemmas
@@ -13,4 +14,5 @@ pub mod StackLemmas
 pub mod TextLemmas
 pub mod TokenLemmas
 pub mod UniqueLemmas
+pub mod WantedLemmas
 pub mod WordLemmas

@@ -1,11 +1,11 @@
 -- Whether an expression holds (git-annex-preferred-content; where the project differs, its own rule is marked).
 use Rattle.std.specs.Prelude.{ℕ, ◌+◌, ◌==◌, Bool, true, false, nat_le, nat_lt, ◌&&◌, ◌||◌, not, List, [], ◌∷◌, Option, Some, None, count_by, codes}
 use Rattle.std.specs.List.{list_all, list_any}
-use Rattle.std.specs.Str.{chars, is_utf8, bytes_eq}
+use Rattle.std.specs.Str.{bytes_eq}
 use Rattle.annex_base.specs.declared.kinds.Level.{Level}
 use Rattle.annex_base.specs.declared.kinds.Level.TheVariants.{Dead, Untrusted, Semitrusted, Trusted}
 use Rattle.glob_match.specs.declared.item.Item.{Item}
-use Rattle.glob_match.specs.Glob.{glob_matches}
+use Rattle.glob_match.specs.Numbers.{matches_path}
 use Rattle.wanted_expr.specs.declared.data.Among.{Among}
 use Rattle.wanted_expr.specs.declared.data.Among.TheVariants.{All, OfLevel, OfLevelOrMore, InGroup}
 use Rattle.wanted_expr.specs.declared.data.Word.{Word}
@@ -49,7 +49,7 @@ is_claimed f repo = list_any (λ c. is_alive c && bytes_eq repo c.repo) f.claime
 -- a path that isn't UTF-8 matches no glob (own)
 abbrev pub path_matches : List Item → Option (List ℕ) → Bool
 path_matches glob None = false
-path_matches glob (Some path) = is_utf8 path && glob_matches glob (chars path)
+path_matches glob (Some path) = matches_path glob path
 
 abbrev pub secure_backends : List (List ℕ)
 secure_backends = codes "SHA224" ∷ codes "SHA256" ∷ codes "SHA384" ∷ codes "SHA512" ∷ codes "SHA224E" ∷ codes "SHA256E" ∷ codes "SHA384E" ∷ codes "SHA512E" ∷ []

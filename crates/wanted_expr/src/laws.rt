@@ -1,12 +1,15 @@
 //! Laws on expressions: each is the contract of a function that does nothing.
-ghost use Rattle.std.specs.Prelude.{◌≡◌, ◌++◌, IsTrue, List, Ok, Some, codes, ℕ};
+ghost use Rattle.std.specs.Prelude.{◌≡◌, ◌↔◌, ◌++◌, [], Bool, IsTrue, List, None, Ok, Some, codes, true, ℕ};
 ghost use Rattle.std.specs.Str.{is_utf8};
+ghost use Rattle.annex_base.specs.Settings.{Settings};
 ghost use Rattle.wanted_expr.specs.declared.fault.ExprFault.{ExprFault};
 ghost use Rattle.wanted_expr.specs.Expressions.{IsExpression, IsFirstFault};
 ghost use Rattle.wanted_expr.specs.Formula.{Formula};
+ghost use Rattle.wanted_expr.specs.Parsed.{formula_in};
 ghost use Rattle.wanted_expr.specs.Pieces.{Piece, IsTextPiece, piece_at};
+ghost use Rattle.wanted_expr.specs.Wanted.{required, wants};
 
-use glob_match::globs_are_unique;
+use glob_match::{globs_are_read, globs_are_unique};
 
 /// A text says one thing at most.
 pub fn expressions_have_one_formula()
@@ -42,3 +45,17 @@ pub fn pieces_are_text()
 pub fn values_are_text()
     ensures { (name value : List ℕ) → IsTrue (is_utf8 (name ++ codes "=" ++ value)) → IsTrue (is_utf8 value) }
 {}
+
+/// Without an expression a repository wants every content and requires none (own).
+pub fn empty_texts_want_all_and_require_none()
+    ensures wants { (s : Settings) (repo key : List ℕ) (paths : List (List ℕ)) (gone : Bool) → s.preferred repo ≡ [] → wants s repo key paths gone ≡ true }
+    ensures required { (s : Settings) (repo key : List ℕ) (paths : List (List ℕ)) → s.required repo ≡ [] → required s repo key paths ≡ None }
+{}
+
+/// What is read of a text from left to right is the formula that it says, and nothing where it is outside the grammar.
+pub fn formulas_are_read()
+    ensures { (text : List ℕ) (f : Formula) → (formula_in text ≡ Some f) ↔ IsExpression text f }
+{
+    // for the proof that a glob is read as it is spelled
+    globs_are_read();
+}

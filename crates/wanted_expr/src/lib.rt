@@ -16,7 +16,7 @@ pub use data::{Among, Claimant, Facts, Member, Word};
 pub use expr::Expr;
 pub use fault::ExprFault;
 pub use laws::{
-    expressions_have_no_fault, expressions_have_one_formula, first_faults_are_unique,
-    pieces_are_text, values_are_text,
+    empty_texts_want_all_and_require_none, expressions_have_no_fault, expressions_have_one_formula,
+    first_faults_are_unique, formulas_are_read, pieces_are_text, values_are_text,
 };
 pub use lexeme::{Lexeme, Operator};
