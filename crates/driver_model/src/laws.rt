@@ -12,12 +12,10 @@ ghost use Rattle.node_model.specs.Jobs.{Work, job_end};
 ghost use Rattle.node_model.specs.Look.{Look, Effect};
 ghost use Rattle.node_model.specs.SetUp.{SetUp, others};
 ghost use Rattle.node_model.specs.Step.{step};
-ghost use Rattle.run_model.specs.Causes.{HasCauses};
 ghost use Rattle.run_model.specs.Past.{begun_count, is_of};
 ghost use Rattle.run_model.specs.Run.{IsRun};
-ghost use Rattle.run_model.specs.Safety.{IsSafe};
 ghost use Rattle.run_model.specs.States.{end_at, works};
-ghost use Rattle.race_core.specs.Jobs.{AnswersAsked, AreJobs};
+ghost use Rattle.run_laws.specs.Jobs.{AnswersAsked, AreJobs};
 ghost use Rattle.driver_model.specs.Apart.{AreApart};
 ghost use Rattle.driver_model.specs.Driver.{Driver, DriverInput, has_room, without_old_flights, set_up_of, state_at};
 ghost use Rattle.driver_model.specs.Driving.{driver_after, run_of};
@@ -30,26 +28,22 @@ ghost use Rattle.driver_model.specs.Sound.{IsSound};
 ghost use Rattle.driver_model.specs.Turning.{plain_look, turn};
 
 use annex_key::key_texts_have_no_fault;
-use race_core::{
-    frames_go_to_others, jobs_hear_nobody_twice, kept_words_were_asked,
-    own_entries_suit_their_ends, refusals_have_causes, running_jobs_stay_the_same, runs_are_safe,
-    runs_grow, steps_find_their_cause, steps_name_their_jobs, steps_take_what_is_at_hand,
-};
+use growth_laws::runs_grow;
 use run_data::files_have_their_paths;
+use run_laws::{frames_go_to_others, jobs_hear_nobody_twice, kept_words_were_asked};
+use step_facts::{
+    own_entries_suit_their_ends, running_jobs_stay_the_same, steps_find_their_cause,
+    steps_name_their_jobs, steps_take_what_is_at_hand,
+};
 use union_merge::{differences_make_the_union, unions_have_the_lines_of_both};
 
 /// What the driver makes of a script is a run, where the script's lines are right and the run stays within its bounds; and so
-/// is each start of it, by which a driver ends that meets a full history. It is safe, and each refused job has its cause there
-/// (git-annex-mincopies; causes are own).
+/// is each start of it, by which a driver ends that meets a full history (own).
 pub fn driven_runs_are_runs()
     ensures run { (g : DriverInput) (lines : List Line) → Each IsSetUp g.repos → Each (IsOne g) lines → HasBoundedPast (driver_after g lines)
         → IsRun (run_of g lines) }
     ensures start { (g : DriverInput) (lines : List Line) (place : ℕ) → Each IsSetUp g.repos → Each (IsOne g) lines → HasBoundedPast (driver_after g lines)
         → place ≤ length (run_of g lines).entries → IsRun (record (run_of g lines) { entries = take place (run_of g lines).entries }) }
-    ensures safe { (g : DriverInput) (lines : List Line) → Each IsSetUp g.repos → Each (IsOne g) lines → HasBoundedPast (driver_after g lines)
-        → IsSafe (run_of g lines) }
-    ensures causes { (g : DriverInput) (lines : List Line) → Each IsSetUp g.repos → Each (IsOne g) lines → HasBoundedPast (driver_after g lines)
-        → HasCauses (run_of g lines) }
 {
     // Laws of a step: what it found, takes and names, and that its entry suits its ends and goes to others.
     steps_find_their_cause();
@@ -59,10 +53,8 @@ pub fn driven_runs_are_runs()
     frames_go_to_others();
     // A law: a running job keeps the key that was asked of it.
     running_jobs_stay_the_same();
-    // Laws: a run grows by each such entry, is safe, and has the cause of each refusal.
+    // A law: a run grows by each such entry.
     runs_grow();
-    runs_are_safe();
-    refusals_have_causes();
     // Laws: a file is read off its path, what its log lacks is a set of lines, and a text without a fault is a key's.
     files_have_their_paths();
     unions_have_the_lines_of_both();

@@ -22,11 +22,13 @@ ghost use Rattle.driver_model.specs.Sound.{OnlyAdds, StaysSound};
 ghost use Rattle.driver_model.specs.Turning.{turn};
 
 use annex_key::key_texts_have_no_fault;
-use race_core::{
-    frames_go_to_others, own_entries_suit_their_ends, running_jobs_stay_the_same, runs_grow,
-    steps_find_their_cause, steps_name_their_jobs, steps_take_what_is_at_hand,
-};
+use growth_laws::runs_grow;
 use run_data::files_have_their_paths;
+use run_laws::frames_go_to_others;
+use step_facts::{
+    own_entries_suit_their_ends, running_jobs_stay_the_same, steps_find_their_cause,
+    steps_name_their_jobs, steps_take_what_is_at_hand,
+};
 use union_merge::{differences_make_the_union, unions_have_the_lines_of_both};
 
 /// Each step of the driver that one repository makes adds entries of that repository alone, in front of the past (own).

@@ -24,11 +24,13 @@ ghost use Rattle.driver_model.specs.Sound.{IsSound, OnlyAdds, StaysSound};
 ghost use Rattle.driver_model.specs.Turning.{turn};
 
 use annex_key::key_texts_have_no_fault;
-use race_core::{
-    frames_go_to_others, own_entries_suit_their_ends, running_jobs_stay_the_same, runs_grow,
-    steps_find_their_cause, steps_name_their_jobs, steps_take_what_is_at_hand,
-};
+use growth_laws::runs_grow;
 use run_data::files_have_their_paths;
+use run_laws::frames_go_to_others;
+use step_facts::{
+    own_entries_suit_their_ends, running_jobs_stay_the_same, steps_find_their_cause,
+    steps_name_their_jobs, steps_take_what_is_at_hand,
+};
 use union_merge::{differences_make_the_union, unions_have_the_lines_of_both};
 
 /// The driver is sound at first, and each of its steps keeps it so, where the step is one of the script's and stays within the

@@ -11,7 +11,7 @@ ghost use Rattle.driver_model.specs.Finding.{MakesStep, after_step, driver_at_tu
 ghost use Rattle.driver_model.specs.Turning.{plain_look, turn};
 ghost use Rattle.driver_model.specs.WordsRead.{AgreeWhereRead};
 
-use race_core::steps_name_their_jobs;
+use step_facts::steps_name_their_jobs;
 
 /// A step doesn't change with the words beside what a job was told, but for those that the end of a job reads: where it ends no
 /// job, all other words give the same step; where it ends one, all that are the same of a repository which refused a look, and of

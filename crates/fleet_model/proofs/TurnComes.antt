@@ -39,7 +39,7 @@ use Rattle.node_jobs.specs.Running.{words_at, work_now}
 use Rattle.node_parts.specs.Posting.{Posts, after_step as end_after_step, word_with}
 use Rattle.link_flights.specs.Fleets.{AreAllCarried, AreEndsIn, AreOwnEndsIn, PostsAsDefined}
 use Rattle.link_flights.specs.Flights.{HasAtHand, IsEndIn}
-use Rattle.race_core.specs.Jobs.{AnswersAsked, AreJobs}
+use Rattle.run_laws.specs.Jobs.{AnswersAsked, AreJobs}
 use Rattle.link_flights.specs.Heard.{HeardSo, WordsGoOn}
 use Rattle.link_flights.specs.Words.{AreAllWorded, TellsWords}
 use Rattle.driver_model.specs.Driver.{Driver, DriverInput, adds, end_to, has_room, part_at, piece_of, set_up_of, state_at, without_old_flights}

@@ -36,7 +36,7 @@ use Rattle.node_jobs.specs.Running.{DropJob, job_at, work_now, words_at}
 use Rattle.node_ends.specs.Joined.{end_with}
 use Rattle.node_parts.specs.Parts.{PartsView}
 use Rattle.node_parts.specs.declared.done.Done.{Done}
-use Rattle.race_core.specs.Jobs.{AreJobs, TakesAnswer, keeps_word}
+use Rattle.run_laws.specs.Jobs.{AreJobs, TakesAnswer, keeps_word}
 use Rattle.link_flights.specs.Heard.{HearsOf, WordsGoOn}
 use Rattle.repo_node.specs.Turning.{GoOn}
 use Rattle.fleet_model.specs.Turns.{IsLocal}

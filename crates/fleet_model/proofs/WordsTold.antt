@@ -17,7 +17,7 @@ use Rattle.node_model.specs.Jobs.{taken_message}
 use Rattle.node_model.specs.Sessions.{line_in}
 use Rattle.node_ends.specs.declared.sending.Sending.TheVariants as sendings
 use Rattle.node_sessions.specs.Words as sessions
-use Rattle.race_core.specs.Jobs.{asks_word}
+use Rattle.run_laws.specs.Jobs.{asks_word}
 use Rattle.link_flights.specs.Words.{TellsWords}
 use Rattle.node_parts.specs.Posting.{word_with}
 

@@ -54,8 +54,9 @@ use link_flights::{
     words_stay_with_frames,
 };
 use node_ends::ends_are_there;
-use race_core::{carried_states_agree, steps_find_their_cause};
 use repo_node::steps_tell_the_failed_call;
+use run_laws::carried_states_agree;
+use step_facts::steps_find_their_cause;
 
 /// A fleet of new nodes, each over an empty store of which nothing is to fail, has come to where the driver is at first (own).
 pub fn fleets_begin<K>()

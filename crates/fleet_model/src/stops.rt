@@ -36,8 +36,9 @@ use link_flights::{
     turns_keep_all_ends, words_stay_with_frames,
 };
 use node_ends::ends_are_there;
-use race_core::{carried_states_agree, steps_find_their_cause};
 use repo_node::steps_tell_the_failed_call;
+use run_laws::carried_states_agree;
+use step_facts::steps_find_their_cause;
 
 /// Where the history of a node is full, the driver of scripts comes to an entry of it, and the fleet's run has all entries before that
 /// one (own).

@@ -7,8 +7,8 @@ ghost use Rattle.fleet_run.specs.Telling.{AreFew, EndsShort, Tells};
 
 use crate::running::Running;
 use crate::stop::FleetStop;
+use growth_laws::runs_grow;
 use object_store::FailingKeeper;
-use race_core::runs_grow;
 use repo_node::{BeginRefused, NodeRefused, Turn};
 
 impl<K: FailingKeeper> Running<K> {

@@ -29,7 +29,7 @@ use Rattle.node_model.specs.Step.{step}
 use Rattle.node_model.specs.Turns
 use Rattle.node_model.specs.Turns.{is_awaiting, takes_frame}
 use Rattle.node_ends.specs.Ends.{frame_at, hand_at, link_at}
-use Rattle.race_core.specs.Jobs.{AreJobs}
+use Rattle.run_laws.specs.Jobs.{AreJobs}
 use Rattle.link_flights.proofs.Naming.{end_own, takes_end}
 
 -- as race_core has it: what steps found, what they take, and whose entries they make

@@ -39,7 +39,7 @@ use Rattle.node_model.specs.Slots.{RunningJob, is_begin, job_of}
 use Rattle.node_model.specs.State.{State}
 use Rattle.node_model.specs.Step.{step}
 use Rattle.node_model.specs.Turns.{awaits, by_partner, goes, goes_on, has_room, is_awaiting, job_step, needs, slot_step, takes, takes_answer, takes_frame, takes_text, with_partner}
-use Rattle.race_core.specs.Jobs.{AreJobs, TakesAnswer, keeps_word}
+use Rattle.run_laws.specs.Jobs.{AreJobs, TakesAnswer, keeps_word}
 use Rattle.link_flights.proofs.ActingJobs.{StepLaws, steps_begin_none}
 use Rattle.link_flights.proofs.JobMoves.{claims_like, learns_like}
 use Rattle.link_flights.proofs.Naming.{takes_end}

@@ -28,7 +28,7 @@ use Rattle.driver_model.specs.Driver.{Driver, without_old_flights}
 use Rattle.driver_model.specs.Ways.{IsOver, other_end}
 use Rattle.link_flights.specs.Entries.{PostsAt, link_after, taken_off}
 use Rattle.link_flights.specs.Fleets.{AreAllCarried, AreEndsIn, PostsAsDefined}
-use Rattle.race_core.specs.Jobs.{asks_word, is_asked}
+use Rattle.run_laws.specs.Jobs.{asks_word, is_asked}
 use Rattle.link_flights.specs.Words.{AreAllWorded, AreWorded, HaveWords, TellsWords, is_line, way_down}
 use Rattle.link_flights.proofs.Dropped.{link_drop}
 use Rattle.link_flights.proofs.Fleet.{Becomes, Both, Listed, all_in, is_listed, mapped}

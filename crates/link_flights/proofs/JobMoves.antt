@@ -27,7 +27,7 @@ use Rattle.node_model.specs.Ends.{end_after}
 use Rattle.node_model.specs.Jobs
 use Rattle.node_model.specs.Jobs.{AsksLock, AsksLook, AsksTime, Denied, Drops, Fresh, GetsBytes, GetsData, GetsWord, Gets, Greets, Heard, Next, Orders, Part, Phase, Puts, PutsAnswer, PutsBytes, PutsOffer, PutsWord, Removed, RowsAndEnds, Unseen, Work, after_failed_release, after_gain, after_transfer, claims, closed_part, fails_with, fault_of, fault_phase, first_look, gets_bytes, gets_more, hears, hears_frame, is_move, job_end, learns, listens, partner, put_from, puts_answer, puts_bytes, puts_more, quiet, running_job, says, says_some, sends, side_of, source_cause, taken_message, talks, talks_on, target_of, to_phase, after_frame, after_line, word_taken, work_kind}
 use Rattle.driver_model.specs.WordsRead.{is_answered}
-use Rattle.race_core.specs.Jobs.{keeps_word}
+use Rattle.run_laws.specs.Jobs.{keeps_word}
 
 -- the job has its target's answer, whichever side it removes on
 abbrev pub has_verdict : Phase → Bool

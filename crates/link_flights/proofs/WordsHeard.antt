@@ -41,7 +41,7 @@ use Rattle.node_ends.specs.Joined.{end_with}
 use Rattle.driver_model.specs.Turning.{told_words}
 use Rattle.driver_model.specs.Ways.{IsOver}
 use Rattle.driver_model.specs.WordsRead.{AgreeWhereRead, ReadsWord, is_answered}
-use Rattle.race_core.specs.Jobs.{AnswersAsked, AreJobs, TakesAnswer, is_asked, keeps_word}
+use Rattle.run_laws.specs.Jobs.{AnswersAsked, AreJobs, TakesAnswer, is_asked, keeps_word}
 use Rattle.link_flights.specs.Heard.{HeardSo, HearsOf, SameWords, WordsGoOn, word_at}
 use Rattle.link_flights.specs.Words.{AreAllWorded, AreWorded, HasItsWord, HaveWords, is_line, way_down}
 use Rattle.link_flights.proofs.ActingJobs.{Acts, IsHere, StepLaws, acts, steps_begin_none, taken_here}

@@ -24,7 +24,7 @@ use Rattle.node_ends.specs.declared.sending.Sending.TheVariants as sendings
 use Rattle.node_ends.specs.Ends.{stands}
 use Rattle.node_ends.specs.Sent.{body_of, link_sends, next_sent, opened_for, text_of_sending}
 use Rattle.driver_model.specs.Ways.{IsOver, other_end}
-use Rattle.race_core.specs.Jobs.{is_asked}
+use Rattle.run_laws.specs.Jobs.{is_asked}
 use Rattle.link_flights.specs.Words.{AreWorded, HasItsWord, HaveWords, is_line, of_epoch, way_down}
 use Rattle.link_flights.proofs.Said.{stands_sent}
 

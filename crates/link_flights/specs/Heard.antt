@@ -11,7 +11,7 @@ use Rattle.run_model.specs.States.{works}
 use Rattle.run_model.specs.Words.{word_told}
 use Rattle.node_model.specs.Ends.{EndName}
 use Rattle.node_model.specs.Jobs.{Heard, Work, is_ordered, target_of}
-use Rattle.race_core.specs.Jobs.{TakesAnswer}
+use Rattle.run_laws.specs.Jobs.{TakesAnswer}
 use Rattle.node_ends.specs.Ends.{link_at}
 use Rattle.node_ends.specs.Joined.{end_with}
 use Rattle.driver_model.specs.WordsRead.{ReadsWord}

@@ -11,7 +11,7 @@ use Rattle.run_model.specs.Frames.{FlyingFrame, Way, frames_sent, taken_count}
 use Rattle.run_model.specs.States.{end_at}
 use Rattle.run_model.specs.Words.{word_of_kind}
 use Rattle.node_model.specs.Ends.{EndName}
-use Rattle.race_core.specs.Jobs.{is_asked}
+use Rattle.run_laws.specs.Jobs.{is_asked}
 use Rattle.node_ends.specs.declared.sending.Sending.{Sending}
 use Rattle.node_ends.specs.Ends.{link_at}
 use Rattle.node_ends.specs.Sent.{body_of}

@@ -34,13 +34,13 @@ ghost use Rattle.link_flights.specs.Fleets.{AreAllCarried, AreEndsIn, AreOwnEnds
 ghost use Rattle.driver_model.specs.Ways.{other_end};
 ghost use Rattle.driver_model.specs.WordsRead.{AgreeWhereRead};
 ghost use Rattle.link_flights.specs.Flights.{HasAtHand, IsEndIn};
-ghost use Rattle.race_core.specs.Jobs.{AnswersAsked, AreJobs, TakesAnswer};
+ghost use Rattle.run_laws.specs.Jobs.{AnswersAsked, AreJobs, TakesAnswer};
 ghost use Rattle.link_flights.specs.Heard.{HeardSo, SameWords, WordsGoOn};
 ghost use Rattle.link_flights.specs.Words.{AreAllWorded, TellsWords};
 
 use driver_model::{ends_are_apart, ends_have_small_numbers};
 use node_ends::ends_are_there;
-use race_core::{
+use step_facts::{
     steps_find_their_cause, steps_name_their_jobs, steps_open_closed_ends,
     steps_take_what_is_at_hand,
 };

@@ -1,8 +1,7 @@
 -- The laws at the places of a run.
-use Rattle.std.proofs.Common.{◌≡◌, ℕ, ◌+◌, ◌≤◌, Bool, true, false, not, ◌||◌, List, ◌∷◌, Option, Some, None, refl, sym, ap, ◌∙◌, subst, arith}
+use Rattle.std.proofs.Common.{◌≡◌, ℕ, ◌+◌, ◌≤◌, Bool, true, false, not, ◌||◌, List, ◌∷◌, Option, Some, None, refl, sym, subst, arith}
 use Rattle.std.specs.Prelude.{slice_get}
 use Rattle.std.proofs.lemmas.Bool.Decides.{nat_tests}
-use Rattle.std.proofs.lemmas.Option.{get_or_from_slice_get, slice_get_within}
 use Rattle.drop_proof.specs.Judging.{is_enough}
 use Rattle.drop_proof.specs.declared.evidence.Evidence.{Evidence}
 use Rattle.drop_proof.specs.declared.evidence.Kind.{Kind}
@@ -16,17 +15,13 @@ use Rattle.node_model.specs.Evidence.{is_locked, is_trusted}
 use Rattle.annex_base.specs.Lists.{Member}
 use Rattle.annex_base.proofs.Lists.{list_all_member}
 use Rattle.annex_base.proofs.Conditions.{bytes_eq-refl}
-use Rattle.annex_base.proofs.Pasts.{past_more}
-use Rattle.race_core.proofs.Below.{SentAreRead}
+use Rattle.step_facts.proofs.Below.{SentAreRead}
 use Rattle.run_model.specs.Past.{present}
 use Rattle.run_model.specs.Safety.{Removal, all_stand, is_backed, claim, is_gone, has_enough, least_need, is_rightful, past_at, stands, within}
 use Rattle.run_model.specs.Run.{IsRun}
 use Rattle.race_core.specs.Places.{claim_at, count_at, removal_at, removals_at}
-use Rattle.race_core.proofs.FromStep.{runs_are_safe}
-
--- the past after the entry at a place
-pub past_next : (run : Run) (place : ℕ) (e : Entry) → slice_get run.entries place ≡ Some e → past_at run (place + 1) ≡ e ∷ past_at run place
-past_next run place e at = past_more run.entries place e (slice_get_within run.entries place e at) ∙ ap (λ x. x ∷ past_at run place) (get_or_from_slice_get run.entries place e e at)
+use Rattle.run_laws.proofs.FromStep.{runs_are_safe}
+use Rattle.past_facts.proofs.EntryPlaces.{past_next}
 
 within_le : (o : Option ℕ) (c least : ℕ) → within o c ≡ true → o ≡ Some least → least ≤ c
 within_le None c least h e = cc

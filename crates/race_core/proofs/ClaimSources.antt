@@ -6,7 +6,7 @@ use Rattle.std.proofs.lemmas.Bool.{true≢false, and_parts, eqb-true, cases_Bool
 use Rattle.std.proofs.lemmas.Option.{same_Some}
 use Rattle.annex_base.specs.Lists.{Member}
 use Rattle.annex_base.proofs.Lists.{list_any_found}
-use Rattle.race_core.proofs.Below.{SentAreRead}
+use Rattle.step_facts.proofs.Below.{SentAreRead}
 use Rattle.drop_proof.specs.declared.evidence.Evidence.{Evidence}
 use Rattle.run_data.specs.declared.entry.Entry.{Entry}
 use Rattle.run_data.specs.declared.run.RepoView.{RepoView}
@@ -17,8 +17,8 @@ use Rattle.run_model.specs.Safety.{Removal, add_removal, copies_at, least_need, 
 use Rattle.run_model.specs.Run.{IsRun}
 use Rattle.race_core.specs.Places.{claim_at, count_at, removals_at}
 use Rattle.race_core.specs.Removals.{IsRemovalBefore, IsTrustedBefore}
-use Rattle.race_core.proofs.Latest.{least_least}
-use Rattle.race_core.proofs.EntryPlaces.{at_occurs, occurs_at}
+use Rattle.past_facts.proofs.Latest.{least_least}
+use Rattle.past_facts.proofs.EntryPlaces.{at_occurs, occurs_at}
 use Rattle.race_core.proofs.AtPlaces.{enough_least}
 
 -- ---- each removal is an entry's

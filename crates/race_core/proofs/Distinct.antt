@@ -20,8 +20,8 @@ use Rattle.run_data.specs.declared.entry.Entry.{Entry}
 use Rattle.run_data.specs.declared.run.RepoView.{RepoView}
 use Rattle.node_model.specs.Evidence.{Fails, Gives, Offer, but, candidates, gather, pick, reached_candidates}
 use Rattle.run_model.specs.Drops.{offer_from, evidence, waits}
-use Rattle.race_core.proofs.Lists.{count_by-cons, count_by-yes}
-use Rattle.race_core.proofs.Gather.{MatchSide, count_by-but, reached_each}
+use Rattle.past_facts.proofs.Lists.{count_by-cons, count_by-yes}
+use Rattle.past_facts.proofs.Gather.{MatchSide, count_by-but, reached_each}
 
 -- ---- lists of distinct numbers
 

@@ -4,7 +4,7 @@ use Rattle.std.specs.Prelude.{◌≢◌, slice_get}
 use Rattle.std.proofs.lemmas.Option.{same_Some}
 use Rattle.annex_base.specs.Lists.{Member}
 use Rattle.annex_base.proofs.Pasts.{past_before}
-use Rattle.race_core.proofs.Below.{SentAreRead}
+use Rattle.step_facts.proofs.Below.{SentAreRead}
 use Rattle.drop_proof.specs.declared.rule.Need.{Need}
 use Rattle.drop_proof.specs.declared.rule.Side.TheVariants.{Remote}
 use Rattle.drop_proof.specs.Judging.{is_enough}
@@ -19,23 +19,23 @@ use Rattle.run_model.specs.Logs.{need_read}
 use Rattle.run_model.specs.Drops.{Vouch, is_done, evidence, key_of, reply, vouches}
 use Rattle.run_model.specs.Safety.{Removal, local_removal, past_at, removal, remote_removal}
 use Rattle.run_model.specs.Run.{IsRun}
-use Rattle.race_core.specs.Lawful.{IsLawfulEntry, IsLawfulPast}
-use Rattle.race_core.proofs.Own.{Meets, MessagePast, OneClock}
+use Rattle.past_facts.specs.Lawful.{IsLawfulEntry, IsLawfulPast}
+use Rattle.past_facts.proofs.Own.{Meets, MessagePast, OneClock}
 use Rattle.race_core.specs.Places.{removal_at}
 use Rattle.race_core.specs.Readings.{Judge, judge_at, judge_by}
-use Rattle.race_core.proofs.Changes.{Obeys, Removes, order_is, removal_was, repo_of}
-use Rattle.race_core.proofs.Gather.{MatchSide}
-use Rattle.race_core.proofs.Flights.{always_before, occurs_vouches}
-use Rattle.race_core.proofs.Facts.{Facts, local_drop}
-use Rattle.race_core.proofs.Latest
-use Rattle.race_core.proofs.Latest.{facts_of}
-use Rattle.race_core.proofs.Known.{evidence_known}
-use Rattle.race_core.proofs.Evident.{told_of}
-use Rattle.race_core.proofs.ReadOnce.{need_is_read}
-use Rattle.race_core.proofs.Told.{own_at, sender_at}
-use Rattle.race_core.proofs.Obeying.{Takes, ordered_by, ordered_open}
-use Rattle.race_core.proofs.FromStep.{runs_are_lawful, runs_are_messages}
-use Rattle.race_core.proofs.AtPlaces.{past_next}
+use Rattle.past_facts.proofs.Changes.{Obeys, Removes, order_is, removal_was, repo_of}
+use Rattle.past_facts.proofs.Gather.{MatchSide}
+use Rattle.step_facts.proofs.Flights.{always_before, occurs_vouches}
+use Rattle.past_facts.proofs.Facts.{Facts, local_drop}
+use Rattle.past_facts.proofs.Latest
+use Rattle.past_facts.proofs.Latest.{facts_of}
+use Rattle.past_facts.proofs.Known.{evidence_known}
+use Rattle.past_facts.proofs.Evident.{told_of}
+use Rattle.past_facts.proofs.ReadOnce.{need_is_read}
+use Rattle.past_facts.proofs.Told.{own_at, sender_at}
+use Rattle.past_facts.proofs.Obeying.{Takes, ordered_by, ordered_open}
+use Rattle.run_laws.proofs.FromStep.{runs_are_lawful, runs_are_messages}
+use Rattle.past_facts.proofs.EntryPlaces.{past_next}
 
 -- ---- runs at a place
 

@@ -4,7 +4,7 @@ use Rattle.std.specs.Prelude.{if◌then◌else◌, slice_get}
 use Rattle.std.specs.Option.{option_or, unwrap_or}
 use Rattle.std.proofs.lemmas.Option.{same_Some}
 use Rattle.annex_base.proofs.Conditions.{eqb_refl}
-use Rattle.race_core.proofs.Below.{SentAreRead}
+use Rattle.step_facts.proofs.Below.{SentAreRead}
 use Rattle.run_data.specs.declared.entry.Entry.{Entry}
 use Rattle.run_data.specs.declared.run.Run.{Run}
 use Rattle.run_model.specs.Past.{Occurs, is_of}
@@ -13,10 +13,10 @@ use Rattle.run_model.specs.Safety.{Removal, past_at}
 use Rattle.run_model.specs.Run.{IsRun}
 use Rattle.race_core.specs.Places.{removal_at}
 use Rattle.race_core.specs.Readings.{IsFirstStep, Judge, judge_at}
-use Rattle.race_core.proofs.Changes.{Obeys, Removes, removal_was, repo_of}
-use Rattle.race_core.proofs.ReadOnce.{step_made}
+use Rattle.past_facts.proofs.Changes.{Obeys, Removes, removal_was, repo_of}
+use Rattle.past_facts.proofs.ReadOnce.{step_made}
 use Rattle.race_core.proofs.Dropped.{meets_at, messages_at}
-use Rattle.race_core.proofs.EntryPlaces.{occurs_at}
+use Rattle.past_facts.proofs.EntryPlaces.{occurs_at}
 use Rattle.race_core.proofs.OneDrop.{order_obeyed}
 
 -- the first step of the drop, among the entries

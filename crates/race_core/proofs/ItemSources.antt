@@ -6,7 +6,7 @@ use Rattle.std.specs.Cmp.Lexicographic.{bytes_decides}
 use Rattle.std.proofs.lemmas.Bool.{true≢false, and_parts, eqb-true, leb-true}
 use Rattle.annex_base.specs.Lists.{Each, Member}
 use Rattle.annex_base.proofs.Lists.{Each-member, list_any_found}
-use Rattle.race_core.proofs.Below.{SentAreRead}
+use Rattle.step_facts.proofs.Below.{SentAreRead}
 use Rattle.drop_proof.specs.declared.evidence.Evidence.{Evidence}
 use Rattle.drop_proof.specs.declared.evidence.Kind.TheVariants.{Locked, Recent}
 use Rattle.run_data.specs.declared.entry.By.{By}
@@ -28,15 +28,15 @@ use Rattle.run_model.specs.Drops.{Lock, Look, Vouch, offer_from, reply, standing
 use Rattle.run_model.specs.Safety.{Removal, past_at}
 use Rattle.run_model.specs.Run.{IsRun}
 use Rattle.race_core.specs.Items.{AsksLock, IsFor, IsHeld, IsToldBy, SendsUp, WasSeen}
-use Rattle.race_core.proofs.Own.{Meets, MessagePast, OneClock, seeks}
+use Rattle.past_facts.proofs.Own.{Meets, MessagePast, OneClock, seeks}
 use Rattle.race_core.specs.Places.{removal_at}
 use Rattle.race_core.specs.Readings.{Judge, judge_at}
-use Rattle.race_core.proofs.Changes.{lasts, lasts_one, newer-was, reply_vouched, same_owner_true, same_repo}
-use Rattle.race_core.proofs.Flights.{occurs_always, occurs_earlier, sender_occurs}
-use Rattle.race_core.proofs.Gather.{offer_end, offer_locked, offer_recent}
-use Rattle.race_core.proofs.Told.{message_at, on_parts, sender_way, sends_member, sends_on, taker_way}
-use Rattle.race_core.proofs.OwnFacts.{AskedBy, VouchesBy, asked_by, asker_seeks, share_seeks, vouches_by}
-use Rattle.race_core.proofs.ClockSets.{AskedThen, end_then}
+use Rattle.past_facts.proofs.Changes.{lasts, lasts_one, newer-was, reply_vouched, same_owner_true, same_repo}
+use Rattle.step_facts.proofs.Flights.{occurs_always, occurs_earlier, sender_occurs}
+use Rattle.past_facts.proofs.Gather.{offer_end, offer_locked, offer_recent}
+use Rattle.past_facts.proofs.Told.{message_at, on_parts, sender_way, sends_member, sends_on, taker_way}
+use Rattle.past_facts.proofs.OwnFacts.{AskedBy, VouchesBy, asked_by, asker_seeks, share_seeks, vouches_by}
+use Rattle.past_facts.proofs.ClockSets.{AskedThen, end_then}
 use Rattle.race_core.proofs.Dropped.{Dropped, dropped, facts_at}
 use Rattle.race_core.proofs.ReadLaws.{evidence_asked}
 

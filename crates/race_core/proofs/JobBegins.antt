@@ -1,12 +1,11 @@
 -- Each job of a run begins at one place; and the job by which a removal, or an order, is made is a drop, or a move, of the key.
-use Rattle.std.proofs.Common.{◌≡◌, ℕ, ◌+◌, ◌<◌, ◌≤◌, Bool, true, false, ◌&&◌, ◌||◌, List, [], ◌∷◌, Option, Some, ◌⊎◌, inl, inr, refl, sym, ap, ◌∙◌, subst, arith}
-use Rattle.std.specs.Prelude.{if◌then◌else◌, ◌==◌, slice_get}
+use Rattle.std.proofs.Common.{◌≡◌, ℕ, ◌+◌, ◌<◌, ◌≤◌, true, false, ◌||◌, List, [], ◌∷◌, Option, Some, ◌⊎◌, inl, inr, refl, sym, ap, ◌∙◌, subst, arith}
+use Rattle.std.specs.Prelude.{◌==◌}
 use Rattle.std.proofs.lemmas.Bool.{eqb-true}
 use Rattle.std.proofs.lemmas.Option.{same_Some}
 use Rattle.annex_base.specs.Lists.{Member}
 use Rattle.annex_base.proofs.Conditions.{eqb_refl, if_is}
-use Rattle.annex_base.proofs.Pasts.{past_before}
-use Rattle.race_core.proofs.Below.{SentAreRead}
+use Rattle.step_facts.proofs.Below.{SentAreRead}
 use Rattle.drop_proof.specs.declared.rule.Need.{Need}
 use Rattle.drop_proof.specs.declared.rule.Side.{Side}
 use Rattle.drop_proof.specs.declared.rule.Side.TheVariants.{Local, Remote}
@@ -20,37 +19,20 @@ use Rattle.run_data.specs.declared.job.JobKind.{JobKind}
 use Rattle.run_data.specs.declared.job.JobKind.TheVariants as kinds
 use Rattle.run_data.specs.declared.run.Run.{Run}
 use Rattle.run_model.specs.Past.{Occurs, begun_count, begun_job, begun_job_after, is_of}
-use Rattle.node_model.specs.Slots.{is_begin}
 use Rattle.run_model.specs.Logs.{is_drop, read_at}
 use Rattle.run_model.specs.Drops.{key_in}
 use Rattle.run_model.specs.Safety.{past_at}
 use Rattle.node_model.specs.Jobs.{Drops, Work, is_move, or_own, side_of}
 use Rattle.run_model.specs.States.{works}
-use Rattle.run_model.specs.Run.{IsRun, OwnPast, RunPast, RunStep, set_up}
-use Rattle.race_core.proofs.Aims.{aims, can_drop}
-use Rattle.race_core.proofs.JobNumbers.{begins_next}
-use Rattle.race_core.proofs.JobSteps.{stepped_runs}
-use Rattle.race_core.proofs.Decisions.{kind_of, order_stands_on, runs_begun, stepped_of}
-use Rattle.race_core.proofs.ReadKeys.{key_read}
+use Rattle.run_model.specs.Run.{IsRun, set_up}
+use Rattle.job_facts.proofs.Aims.{aims, can_drop}
+use Rattle.step_facts.proofs.JobNumbers.{begins_next}
+use Rattle.step_facts.proofs.JobSteps.{stepped_runs}
+use Rattle.run_laws.proofs.Decisions.{kind_of, order_stands_on, runs_begun, stepped_of}
+use Rattle.run_laws.proofs.ReadKeys.{key_read}
 use Rattle.race_core.specs.Removals.{HasJob, IsAt}
-use Rattle.race_core.proofs.FromStep.{Part, own_past, part_of}
-use Rattle.race_core.proofs.AtPlaces.{past_next}
-use Rattle.race_core.proofs.EntryPlaces.{at_occurs, occurs_at, same_place}
-
--- ---- the steps of a run at a place
-
-pub steps_at : (run : Run) (place : ℕ) → IsRun run → RunPast (set_up run) (past_at run place)
-steps_at run place h = past_before (RunPast (set_up run)) (λ e past k. k.1) place run.entries h.steps
-
-step_at : (run : Run) (place : ℕ) (e : Entry) → IsRun run → slice_get run.entries place ≡ Some e → RunStep (set_up run) (past_at run place) e
-step_at run place e h at =
-    let k : RunStep (set_up run) (past_at run place) e × RunPast (set_up run) (past_at run place) = subst (λ past. RunPast (set_up run) past) (past_next run place e at) (steps_at run (place + 1) h) in k.0
-
-own_at : (run : Run) (place r : ℕ) → IsRun run → OwnPast (set_up run r) (past_at run place)
-own_at run place r h = own_past run h.repos r (past_at run place) (steps_at run place h)
-
-pub part_at : (run : Run) (place r : ℕ) (e : Entry) → IsRun run → slice_get run.entries place ≡ Some e → is_of r e ≡ true → Part (set_up run) (past_at run place) r e
-part_at run place r e h at is = part_of (set_up run) (past_at run place) e r (step_at run place e h at) is
+use Rattle.past_facts.proofs.EntryPlaces.{at_occurs, occurs_at, same_place}
+use Rattle.past_facts.proofs.PlaceParts.{own_at, part_at, begun_more}
 
 -- ---- beginnings
 
@@ -74,14 +56,6 @@ begun_by (e ∷ past) r j what h = go (λ k. begun_by past r j what k) (if_is (i
         → (x : Entry) × (before : List Entry) × (Occurs (e ∷ past) x before) × (is_of r x ≡ true) × (x.kind ≡ Begin j what)
     go ih (inl t) = elim (begins (begun_job past r j) e.kind t.1) [ inl k ↦ older (ih k) | inr k ↦ (e, past, inl (refl, refl), t.0, k) ]
     go ih (inr t) = older (ih t.1)
-
--- an entry that begins a job counts from then on
-pub begun_more : (e : Entry) (past : List Entry) (r : ℕ) → begun_count past r ≤ begun_count (e ∷ past) r
-begun_more e past r = go (is_of r e && is_begin e.kind)
-  where
-    go : (b : Bool) → begun_count past r ≤ (if b then begun_count past r + 1 else begun_count past r)
-    go true = omega arith
-    go false = omega arith
 
 begun_later : (past : List Entry) (x : Entry) (p : List Entry) (r j : ℕ) (what : Job) → Occurs past x p → is_of r x ≡ true → x.kind ≡ Begin j what → begun_count p r + 1 ≤ begun_count past r
 begun_later [] x p r j what o is kind = absurd o

@@ -3,7 +3,7 @@ use Rattle.std.proofs.Common.{◌≡◌, ℕ, ◌≤◌, List, [], ◌∷◌, So
 use Rattle.std.specs.Prelude.{slice_get}
 use Rattle.std.proofs.lemmas.Option.{same_Some}
 use Rattle.annex_base.specs.Lists.{Member}
-use Rattle.race_core.proofs.Below.{SentAreRead}
+use Rattle.step_facts.proofs.Below.{SentAreRead}
 use Rattle.drop_proof.specs.declared.rule.Need.{Need}
 use Rattle.run_data.specs.declared.entry.By.TheVariants.{Job as by_job}
 use Rattle.run_data.specs.declared.entry.Entry.{Entry}
@@ -15,7 +15,7 @@ use Rattle.run_model.specs.Run.{IsRun}
 use Rattle.race_core.specs.Places.{count_at, removal_at, removals_at}
 use Rattle.race_core.specs.Readings.{Judge, judge_at, key_read}
 use Rattle.race_core.specs.Removals.{IsAt, IsReadBefore, IsRemovalBefore}
-use Rattle.race_core.proofs.Changes.{Obeys, Removes, removal_was, repo_of}
+use Rattle.past_facts.proofs.Changes.{Obeys, Removes, removal_was, repo_of}
 use Rattle.race_core.proofs.Dropped.{dropped, judged_by}
 use Rattle.race_core.proofs.AtPlaces.{enough_least}
 use Rattle.race_core.proofs.ClaimSources.{least_of_all, least_removal, removal_counts}

@@ -7,7 +7,7 @@ use Rattle.std.proofs.lemmas.Bool.{or_left, or_right}
 use Rattle.annex_base.specs.Lists.{Each, Member}
 use Rattle.annex_base.proofs.Lists.{Each-member, Each-weaker, Each-from_members}
 use Rattle.annex_base.proofs.Numbers.{Member-range}
-use Rattle.race_core.proofs.Below.{SentAreRead}
+use Rattle.step_facts.proofs.Below.{SentAreRead}
 use Rattle.drop_proof.specs.declared.evidence.Evidence.{Evidence}
 use Rattle.drop_proof.specs.declared.evidence.Kind.{Kind}
 use Rattle.drop_proof.specs.declared.evidence.Kind.TheVariants.{Locked, Trusted, Recent}
@@ -21,8 +21,8 @@ use Rattle.node_model.specs.Evidence.{is_locked, is_trusted}
 use Rattle.run_model.specs.Safety.{Removal, past_at}
 use Rattle.run_model.specs.Run.{IsRun}
 use Rattle.race_core.specs.Places.{claim_at, count_at, removal_at}
-use Rattle.race_core.proofs.Changes.{same_repo}
-use Rattle.race_core.proofs.Gather.{MatchSide, evidence_each, never_target}
+use Rattle.past_facts.proofs.Changes.{same_repo}
+use Rattle.past_facts.proofs.Gather.{MatchSide, evidence_each, never_target}
 use Rattle.race_core.proofs.Distinct.{Apart, all_full, apart_pairs, candidates_below, enough_items, evidence_apart, full_within, not_same, repos_in}
 use Rattle.race_core.proofs.Dropped.{judged_by}
 use Rattle.race_core.proofs.AtPlaces.{locked_left, trusted_left}

@@ -1,12 +1,11 @@
 -- One drop for each removal: no job removes twice, and each order that is obeyed is one entry's, of one job, and is taken once.
-use Rattle.std.proofs.Common.{◌≡◌, ℕ, zero, suc, ◌+◌, ◌<◌, ◌≤◌, Bool, true, false, cond, ◌&&◌, List, [], ◌∷◌, ◌++◌, length, Some, None, ◌⊎◌, inl, inr, refl, sym, ap, ◌∙◌, subst, arith, add-one, length-append}
+use Rattle.std.proofs.Common.{◌≡◌, ℕ, ◌+◌, ◌<◌, ◌≤◌, Bool, true, false, cond, ◌&&◌, List, [], ◌∷◌, ◌++◌, length, Some, None, ◌⊎◌, inl, inr, refl, sym, ap, ◌∙◌, subst, arith, length-append}
 use Rattle.std.specs.Prelude.{if◌then◌else◌, filter, map, slice_get}
 use Rattle.std.proofs.lemmas.Option.{slice_get_within, same_Some}
 use Rattle.annex_base.specs.Lists.{Member}
 use Rattle.annex_base.proofs.Lists.{slice_get-left}
 use Rattle.annex_base.proofs.Conditions.{bytes_eq-refl}
-use Rattle.annex_base.proofs.Pasts.{past_end}
-use Rattle.race_core.proofs.Below.{SentAreRead}
+use Rattle.step_facts.proofs.Below.{SentAreRead}
 use Rattle.run_data.specs.declared.entry.By.{By}
 use Rattle.run_data.specs.declared.entry.By.TheVariants.{Script, Job as by_job, Peer}
 use Rattle.run_data.specs.declared.entry.Entry.{Entry}
@@ -16,23 +15,22 @@ use Rattle.run_data.specs.declared.run.RepoView.{RepoView}
 use Rattle.run_data.specs.declared.run.Run.{Run}
 use Rattle.run_model.specs.Past.{Decision, Occurs, bar, decision, is_of}
 use Rattle.run_model.specs.Frames.{FlyingFrame, MayTake, Way, flying_frame, is_on, on_way, sender_of, frames_sent, sending_entry, taken_count, taker_of, takes, way_of}
-use Rattle.race_core.proofs.Ways.{way_from}
+use Rattle.step_facts.proofs.Ways.{way_from}
 use Rattle.run_model.specs.Safety.{past_at}
 use Rattle.run_model.specs.Run.{IsRun}
-use Rattle.race_core.proofs.Own.{Meets, MessagePast}
+use Rattle.past_facts.proofs.Own.{Meets, MessagePast}
 use Rattle.race_core.specs.Readings.{Judge}
 use Rattle.race_core.specs.Removals.{HasOrder, IsAt, SendsFrame, TakesFrame}
-use Rattle.race_core.proofs.Changes.{bar_was, decided_keeps, repo_of, same_repo}
-use Rattle.race_core.proofs.Flights.{get_append, get_none, sending}
-use Rattle.race_core.proofs.Evident.{barred}
-use Rattle.race_core.proofs.Told.{on_own, sender_at, sender_way, taker_way, way_sent}
-use Rattle.race_core.proofs.Obeying
-use Rattle.race_core.proofs.Obeying.{ordered_by}
-use Rattle.race_core.proofs.AtPlaces.{past_next}
+use Rattle.past_facts.proofs.Changes.{bar_was, decided_keeps, repo_of, same_repo}
+use Rattle.step_facts.proofs.Flights.{get_append, get_none, sending}
+use Rattle.past_facts.proofs.Evident.{barred}
+use Rattle.past_facts.proofs.Told.{on_own, sender_at, sender_way, taker_way, way_sent}
+use Rattle.past_facts.proofs.Obeying
+use Rattle.past_facts.proofs.Obeying.{ordered_by}
+use Rattle.past_facts.proofs.EntryPlaces.{past_next, Placed, at_occurs, occurs_at, same_place, there_or_end, grows}
 use Rattle.race_core.proofs.Dropped.{meets_at, messages_at, order_judge}
-use Rattle.race_core.proofs.EntryPlaces.{Placed, at_occurs, below_or_last, occurs_at, same_place, there_or_end}
 use Rattle.race_core.proofs.JobBegins.{order_alone, orderer}
-use Rattle.race_core.proofs.Plain.{member_mapped}
+use Rattle.step_facts.proofs.Plain.{member_mapped}
 
 -- ---- who removes
 
@@ -108,21 +106,6 @@ taken_step e past w = go (is_of (taker_of w) e && takes w e.taken)
     go : (b : Bool) → taken_count past w ≤ (if b then taken_count past w + 1 else taken_count past w)
     go true = omega arith
     go false = omega arith
-
--- what grows by each entry grows from place to place
-pub grows : (f : List Entry → ℕ) → ((e : Entry) (past : List Entry) → f past ≤ f (e ∷ past)) → (run : Run) (a b : ℕ) → a ≤ b → f (past_at run a) ≤ f (past_at run b)
-grows f more run a zero le = let same : a ≡ zero = omega (arith, le) in subst (λ n. f (past_at run a) ≤ f (past_at run n)) same (omega arith)
-grows f more run a (suc b) le = go (λ k. grows f more run a b k) (below_or_last a b le)
-  where
-    step : f (past_at run b) ≤ f (past_at run (b + 1))
-    step = elim (there_or_end run.entries b) [
-      | inl t ↦ subst (λ past. f (past_at run b) ≤ f past) (sym (past_next run b t.0 t.1)) (more t.0 (past_at run b))
-      | inr t ↦ subst (λ past. f (past_at run b) ≤ f past) (sym (past_end run.entries b t)) (omega arith)
-    ]
-
-    go : (a ≤ b → f (past_at run a) ≤ f (past_at run b)) → (a ≤ b) ⊎ (a ≡ suc b) → f (past_at run a) ≤ f (past_at run (suc b))
-    go ih (inl k) = subst (λ n. f (past_at run a) ≤ f (past_at run n)) (add-one b) (omega (arith, ih k, step))
-    go ih (inr k) = subst (λ n. f (past_at run a) ≤ f (past_at run n)) k (omega arith)
 
 -- one entry sends a frame
 sends_apart : (run : Run) (a b : ℕ) (w : Way) (n : ℕ) → SendsFrame run a w n → SendsFrame run b w n → a < b → ⊥

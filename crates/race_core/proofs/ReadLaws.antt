@@ -5,7 +5,7 @@ use Rattle.std.proofs.lemmas.Option.{same_Some}
 use Rattle.annex_base.specs.declared.kinds.Level.TheVariants as levels
 use Rattle.annex_base.specs.Lists.{Each, Member}
 use Rattle.annex_base.proofs.Lists.{Each-member}
-use Rattle.race_core.proofs.Below.{SentAreRead}
+use Rattle.step_facts.proofs.Below.{SentAreRead}
 use Rattle.drop_proof.specs.declared.evidence.Evidence.{Evidence}
 use Rattle.drop_proof.specs.declared.evidence.Kind.{Kind}
 use Rattle.drop_proof.specs.declared.evidence.Kind.TheVariants.{Locked, Trusted, Recent}
@@ -24,13 +24,13 @@ use Rattle.run_model.specs.Safety.{Removal, past_at}
 use Rattle.race_core.proofs.Reading.{standing-claimed, standing-dead, standing-untrusted}
 use Rattle.race_core.specs.Places.{removal_at}
 use Rattle.race_core.specs.Readings.{IsLocalRemoval, Judge, claim_read, judge_at, key_read, level_read}
-use Rattle.race_core.proofs.Lists.{Each-any}
+use Rattle.past_facts.proofs.Lists.{Each-any}
 use Rattle.race_core.proofs.Dropped.{meets_at, messages_at}
 use Rattle.run_model.specs.Run.{IsRun}
-use Rattle.race_core.proofs.Changes.{Obeys, Removes, removal_is, removal_was, repo_of}
-use Rattle.race_core.proofs.Evident.{barred}
-use Rattle.race_core.proofs.ReadOnce.{need_is_read}
-use Rattle.race_core.proofs.Gather.{evidence_each}
+use Rattle.past_facts.proofs.Changes.{Obeys, Removes, removal_is, removal_was, repo_of}
+use Rattle.past_facts.proofs.Evident.{barred}
+use Rattle.past_facts.proofs.ReadOnce.{need_is_read}
+use Rattle.past_facts.proofs.Gather.{evidence_each}
 
 -- a local removal has the need that its drop read
 pub need_of_removal : SentAreRead → (run : Run) (key : List ℕ) (place r j : ℕ) (x : Removal) → IsRun run → (w : IsLocalRemoval run key place r j) → removal_at run key place w.entry ≡ Some x → x.need ≡ need_read (past_at run place) r j

@@ -1,48 +1,24 @@
 //! The laws. Each is the contract of a function that does nothing.
 
-ghost use Rattle.std.specs.Prelude.{◌≡◌, ◌≢◌, ℕ, ◌+◌, ◌<◌, ◌≤◌, true, List, Some, slice_get};
+ghost use Rattle.std.specs.Prelude.{◌≡◌, ◌≢◌, ℕ, ◌+◌, ◌≤◌, true, List, Some, slice_get};
 ghost use Rattle.annex_base.specs.declared.kinds.Level.TheVariants as levels;
 ghost use Rattle.drop_proof.specs.declared.evidence.Evidence.{Evidence};
 ghost use Rattle.run_data.specs.declared.entry.Entry.{Entry};
 ghost use Rattle.run_data.specs.declared.run.Run.{Run};
-ghost use Rattle.run_model.specs.Causes.{HasCauses};
-ghost use Rattle.run_model.specs.Logs.{lines_ever, lines_of_file, need_read, read_at, settings_of};
+ghost use Rattle.run_model.specs.Logs.{need_read, read_at};
 ghost use Rattle.node_model.specs.Evidence.{is_locked, is_trusted};
 ghost use Rattle.annex_base.specs.Lists.{Member};
 ghost use Rattle.run_model.specs.Past.{present};
-ghost use Rattle.run_model.specs.Safety.{IsSafe, Removal, least_need, past_at, within};
+ghost use Rattle.run_model.specs.Safety.{Removal, least_need, past_at, within};
 ghost use Rattle.run_model.specs.Run.{IsRun};
 ghost use Rattle.race_core.specs.Copies.{KeepsCopies};
-ghost use Rattle.race_core.specs.Lawful.{IsLawful};
 ghost use Rattle.race_core.specs.Places.{claim_at, count_at, removal_at, removals_at};
 ghost use Rattle.race_core.specs.Readings.{IsFirstStep, IsLocalRemoval, Judge, claim_read, judge_at, key_read, level_read};
-ghost use Rattle.trust_groups.specs.Settings.{settings};
 
 use crate::claims::{least_is_what_drops_read, removals_are_of_entries};
 use crate::drops::each_removal_is_one_drops;
 use crate::evidence::removals_leave_as_many;
-use log_lines::{compaction_keeps_the_reading, readings_depend_on_the_set};
 use p2p_wire::sent_messages_are_read;
-use run_data::paths_tell_their_kind;
-use trust_groups::equal_lines_read_alike;
-use union_merge::{files_are_changed_alone, unions_have_the_lines_of_both};
-
-/// Each run is lawful: every entry finds what it has to.
-pub fn runs_are_lawful()
-    ensures { (run : Run) → IsRun run → IsLawful run }
-{
-    // a law, for the proof that an entry finds what others have said: each message that is sent is read from its line
-    sent_messages_are_read();
-}
-
-/// Each run is safe: copies and claims of a key are as many as its drops read that they have to be, each removal leaves
-/// its drop's evidence, and is one drop's (git-annex-mincopies).
-pub fn runs_are_safe()
-    ensures { (run : Run) → IsRun run → IsSafe run }
-{
-    // a law, for the proof that runs are lawful: each message that is sent is read from its line
-    sent_messages_are_read();
-}
 
 /// Each run keeps the last copies, by what its drops read: once a key was dropped anywhere, its copies, with the claims that
 /// its drops trusted, are no fewer than the least mincopies that they read; a drop leaves at least as many, so counted, as its
@@ -59,20 +35,6 @@ pub fn runs_keep_copies()
     ignored_never_count();
     drops_read_their_need();
 }
-
-/// Each drop and each transfer of a run that was refused has its cause there: by its row, by a candidate or a source, by
-/// its target or its store, or by a connection that was closed (own).
-pub fn refusals_have_causes()
-    ensures { (run : Run) → IsRun run → HasCauses run }
-{
-    // a law, for the proof that a job is told the cause: each message that is sent is read from its line
-    sent_messages_are_read();
-}
-
-/// Each lawful run is safe (git-annex-mincopies).
-pub fn lawful_runs_are_safe()
-    ensures { (run : Run) → IsLawful run → IsSafe run }
-{}
 
 /// For each key and before each place, the repositories with a copy or a claim are no fewer than the least
 /// mincopies that the drops of the key read (git-annex-mincopies). Where no drop has removed the key, nothing is asked.
@@ -100,20 +62,6 @@ pub fn drops_leave_their_evidence()
 {
     // a law, for the proof that runs are safe: each message that is sent is read from its line
     sent_messages_are_read();
-}
-
-/// What the lines that a repository keeps say is what all lines say that were ever added to its logs, whatever the entries
-/// are: a compaction, whenever it comes, changes nothing that a drop reads (git-annex internals: branch files).
-pub fn kept_lines_read_as_all()
-    ensures { (past : List Entry) (r : ℕ) → settings (lines_of_file past r) ≡ settings_of past r }
-{
-    // laws, for the proof, entry by entry: it changes one file, which goes on to read as all lines ever added to it
-    readings_depend_on_the_set();
-    compaction_keeps_the_reading();
-    unions_have_the_lines_of_both();
-    files_are_changed_alone();
-    paths_tell_their_kind();
-    equal_lines_read_alike();
 }
 
 /// In every run, lawful or not, no evidence of a removal is of a repository that its drop read as untrusted or dead, and

@@ -5,10 +5,7 @@ mod claims;
 mod drops;
 mod entries;
 mod evidence;
-mod growth;
-mod jobs;
 mod laws;
-mod steps;
 
 pub use claims::{
     claims_are_trusted_items, copies_are_enough_without_claims, least_is_what_drops_read,
@@ -22,17 +19,8 @@ pub use evidence::{
     evidence_is_of_other_repositories, locked_items_are_held, recent_items_were_seen,
     removals_leave_as_many,
 };
-pub use growth::{histories_of_nodes_are_runs, merged_histories_are_runs, runs_grow};
-pub use jobs::{
-    frames_go_to_others, jobs_hear_nobody_twice, kept_words_were_asked, running_jobs_stay_the_same,
-};
 pub use laws::{
-    drops_leave_their_evidence, drops_read_their_need, ignored_never_count, kept_lines_read_as_all,
-    lawful_runs_are_safe, never_fewer_than_mincopies, refusals_have_causes, runs_are_lawful,
-    runs_are_safe, runs_keep_copies,
+    drops_leave_their_evidence, drops_read_their_need, ignored_never_count,
+    never_fewer_than_mincopies, runs_keep_copies,
 };
 pub use run_data;
-pub use steps::{
-    carried_states_agree, own_entries_suit_their_ends, steps_find_their_cause,
-    steps_name_their_jobs, steps_open_closed_ends, steps_take_what_is_at_hand,
-};

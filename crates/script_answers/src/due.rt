@@ -11,10 +11,12 @@ use crate::laws::cut_script_runs_have_a_full_history;
 use crate::ran::{ENTRY_LIMIT, Ran};
 use crate::status::Status;
 use annex_base::{NoMemory, put_number};
+use cause_laws::refusals_have_causes;
 use driver_model::runs_log_lines;
 use driver_script::{scripts_are_built_or_not, scripts_may_be_driven};
-use race_core::{refusals_have_causes, runs_are_safe, runs_keep_copies};
+use race_core::runs_keep_copies;
 use report_text::report;
+use run_laws::runs_are_safe;
 use script_lang::{Script, commands_have_lines, commands_stand, line_numbers};
 use std::alloc::Global;
 

@@ -36,9 +36,3 @@ returns-clause-run c g lines repos all fits =
 
 pub returns-clause-start : goal.returns-clause-start
 returns-clause-start c g lines place repos all fits within = c.runs_grow.ensures.start (run_of g lines) place within (returns-clause-run c g lines repos all fits)
-
-pub returns-clause-safe : goal.returns-clause-safe
-returns-clause-safe c g lines repos all fits = c.runs_are_safe.ensures (run_of g lines) (returns-clause-run c g lines repos all fits)
-
-pub returns-clause-causes : goal.returns-clause-causes
-returns-clause-causes c g lines repos all fits = c.refusals_have_causes.ensures (run_of g lines) (returns-clause-run c g lines repos all fits)

@@ -6,7 +6,7 @@ use Rattle.annex_base.specs.Lists.{Each}
 use Rattle.run_data.specs.declared.entry.Entry.{Entry}
 use Rattle.run_model.specs.Past.{begun_count}
 use Rattle.run_model.specs.States.{works}
-use Rattle.race_core.specs.Jobs.{AreJobs}
+use Rattle.run_laws.specs.Jobs.{AreJobs}
 use Rattle.driver_model.specs.Driving.{run_with}
 use Rattle.driver_model.proofs.KnownJobs.{own_room, step_of_run}
 use Rattle.driver_model.proofs.laws.sound_drivers_keep_their_jobs.Goals as goal

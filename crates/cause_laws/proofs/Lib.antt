@@ -1,0 +1,27 @@
+-- The lemmas of this crate.
+pub mod Giving
+pub mod InvalidsTurn
+pub mod InvalidsFit
+pub mod TargetAsks
+pub mod Refusals
+pub mod Standing
+pub mod StillKnown
+pub mod DeniedWords
+pub mod RefusalCauses
+pub mod ClosedCauses
+pub mod ClosedFound
+pub mod EvidenceCauses
+pub mod AnswerCauses
+pub mod ToldValues
+pub mod OrdersTold
+pub mod SourcesInOrder
+pub mod Caused
+pub mod Queues
+pub mod Epochs
+pub mod ConversationServer
+pub mod ConversationClient
+pub mod Conversations
+pub mod ShutTold
+pub mod PutsSizes
+pub mod RunCauses
+pub mod FailuresTold

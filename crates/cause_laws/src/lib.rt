@@ -1,0 +1,6 @@
+//! The law of causes: each drop and each transfer of a run that was refused has its cause there.
+#![tactic(auto)]
+
+mod laws;
+
+pub use laws::refusals_have_causes;

@@ -1,0 +1,6 @@
+//! The laws by which runs grow, and histories merge into a run.
+#![tactic(auto)]
+
+mod growth;
+
+pub use growth::{histories_of_nodes_are_runs, merged_histories_are_runs, runs_grow};

@@ -1,0 +1,26 @@
+-- The lemmas of this crate.
+pub mod Heard
+pub mod Own
+pub mod LogLemmas
+pub mod OwnPasts
+pub mod OwnState
+pub mod StateAfter
+pub mod Lists
+pub mod Changes
+pub mod Gather
+pub mod Facts
+pub mod Latest
+pub mod Turns
+pub mod Told
+pub mod Known
+pub mod OwnFacts
+pub mod Evident
+pub mod ReadOnce
+pub mod Occurring
+pub mod ClockSets
+pub mod Releasing
+pub mod Obeying
+pub mod MessageRuns
+pub mod EntryPlaces
+pub mod OwnRuns
+pub mod PlaceParts

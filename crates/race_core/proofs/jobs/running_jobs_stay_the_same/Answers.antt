@@ -1,6 +1,0 @@
--- No entry changes which job a running job is.
-use Rattle.race_core.proofs.JobKept.{after_kept}
-use Rattle.race_core.proofs.jobs.running_jobs_stay_the_same.Goals as goal
-
-pub returns : goal.returns
-returns c = after_kept
