@@ -122,7 +122,7 @@ module _ (law : KeysAreTexts) (context : Context) (keys : HasKeys context) where
   kind_is : (name : List ℕ) (kind : LogKind) → kind_named name ≡ Some kind → kind ≢ log_kinds.Location
   kind_is name kind e =
       let found = find_member (λ (k : LogKind). bytes_eq (file_name k) name) named_kinds kind e in
-      Each-member (λ k. k ≢ log_kinds.Location) named_kinds kind ((λ e. cc), ((λ e. cc), ((λ e. cc), ((λ e. cc), ((λ e. cc), ((λ e. cc), ((λ e. cc), ((λ e. cc), tt)))))))) found.0
+      Each-member (λ k. k ≢ log_kinds.Location) named_kinds kind ((λ e. cc), ((λ e. cc), ((λ e. cc), ((λ e. cc), ((λ e. cc), ((λ e. cc), ((λ e. cc), ((λ e. cc), ((λ e. cc), ((λ e. cc), tt)))))))))) found.0
 
   file_is : (name : List ℕ) (file : LogFile) → Steps.file_named name ≡ Some file → IsNamedFile file
   file_is name file e = from (kind_named name) refl e
