@@ -33,6 +33,7 @@ fn put_topic(out: &mut String, alloc: Global, topic: &Topic) -> Result<(), Table
         Topic::Repo(repo) => put_bytes(out, alloc, &repo.print()),
         Topic::Group(name) => put_bytes(out, alloc, name.bytes()),
         Topic::Whole => Ok(out.push_str("whole")?),
+        Topic::Pattern(glob) => put_bytes(out, alloc, glob.bytes()),
     }
 }
 
