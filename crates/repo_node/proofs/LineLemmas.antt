@@ -11,7 +11,7 @@ use Rattle.annex_base.proofs.Lines.{one_line-append, one_line-by_test, one_line-
 use Rattle.annex_base.proofs.Lists.{append_nil_left, cons_nil, list_any_found, list_any_member}
 use Rattle.log_lines.specs.declared.entry.LogKind.TheVariants as kinds
 use Rattle.log_lines.specs.declared.entry.Topic.TheVariants as topics
-use Rattle.log_lines.specs.LineText.{line_text, location_text, value_text}
+use Rattle.log_lines.specs.LineText.{line_text, spaced_text, value_text}
 use Rattle.node_model.specs.OwedLines.{status}
 use Rattle.union_merge.specs.LineSet.{IsLine}
 
@@ -25,7 +25,7 @@ one_letter : (there : Bool) → IsOneLine (value_text (status there))
 one_letter true = one_line-by_test (value_text (status true)) refl
 one_letter false = one_line-by_test (value_text (status false)) refl
 
-one_status : (id : List ℕ) (there : Bool) (time : ℕ) → IsOneLine (location_text (record { topic = topics.Repo id; stamp = Some time; value = status there }))
+one_status : (id : List ℕ) (there : Bool) (time : ℕ) → IsOneLine (spaced_text (record { topic = topics.Repo id; stamp = Some time; value = status there }))
 one_status id there time =
     let front : List ℕ = stamp_text time ++ (space ∷ []) in
     let one : IsOneLine (space ∷ []) = one_line-cons space [] refl one_line-nil in
