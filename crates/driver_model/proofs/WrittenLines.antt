@@ -14,7 +14,7 @@ use Rattle.log_lines.specs.declared.entry.Topic.TheVariants as topics
 use Rattle.log_lines.specs.declared.entry.Value.{Value}
 use Rattle.log_lines.specs.declared.entry.Value.TheVariants as values
 use Rattle.log_lines.specs.declared.entry.Entry.{Entry}
-use Rattle.log_lines.specs.LineText.{stamp_mark, topic_text, value_text, spaced_value, level_letter, stamp_first, stamp_last, line_text, repo_line_text, number_line_text}
+use Rattle.log_lines.specs.LineText.{stamp_mark, topic_text, value_text, spaced_value, level_letter, stamp_first, stamp_last, line_text, repo_line_text, number_line_text, spaced_text}
 use Rattle.union_merge.specs.LineSet.{IsLine}
 use Rattle.driver_model.specs.Scripts.{IsPlainTopic, IsPlainValue}
 
@@ -57,6 +57,7 @@ topic_one : (topic : Topic) → IsPlainTopic topic → IsOneLine (topic_text top
 topic_one (topics.Repo id) h = one_line-repo_text id
 topic_one (topics.Group name) h = h
 topic_one topics.Whole h = one_line-nil
+topic_one (topics.Pattern glob) h = h
 
 -- ---- whole lines
 
@@ -93,9 +94,13 @@ written_line kind topic time value t v = record { some = some kind; single = one
     number_one : IsOneLine (number_line_text e)
     number_one = one_line-append (stamp_first (Some time)) (value_text value) (first_one time) (value_one value v)
 
+    spaced_one' : IsOneLine (spaced_text e)
+    spaced_one' = one_line-append (stamp_first (Some time) ++ value_text value ++ (space ∷ [])) (topic_text topic) (one_line-append (stamp_first (Some time) ++ value_text value) (space ∷ []) number_one space_one) (topic_one topic t)
+
     one : (kind : LogKind) → IsOneLine (line_text kind e)
-    one kinds.Location =
-        one_line-append (stamp_first (Some time) ++ value_text value ++ (space ∷ [])) (topic_text topic) (one_line-append (stamp_first (Some time) ++ value_text value) (space ∷ []) number_one space_one) (topic_one topic t)
+    one kinds.Location = spaced_one'
+    one kinds.NumcopiesPath = spaced_one'
+    one kinds.MincopiesPath = spaced_one'
     one kinds.GroupPreferred =
         one_line-append (stamp_first (Some time) ++ topic_text topic) (spaced_value value) (one_line-append (stamp_first (Some time)) (topic_text topic) (first_one time) (topic_one topic t)) (spaced_value_one value v)
     one kinds.Numcopies = number_one
@@ -108,9 +113,13 @@ written_line kind topic time value t v = record { some = some kind; single = one
     number_some : number_line_text e ≢ []
     number_some = some_left (stamp_first (Some time)) (value_text value) (first_some time)
 
+    spaced_some : spaced_text e ≢ []
+    spaced_some = some_left (stamp_first (Some time) ++ value_text value ++ (space ∷ [])) (topic_text topic) (some_left (stamp_first (Some time) ++ value_text value) (space ∷ []) number_some)
+
     some : (kind : LogKind) → line_text kind e ≢ []
-    some kinds.Location =
-        some_left (stamp_first (Some time) ++ value_text value ++ (space ∷ [])) (topic_text topic) (some_left (stamp_first (Some time) ++ value_text value) (space ∷ []) number_some)
+    some kinds.Location = spaced_some
+    some kinds.NumcopiesPath = spaced_some
+    some kinds.MincopiesPath = spaced_some
     some kinds.GroupPreferred =
         some_left (stamp_first (Some time) ++ topic_text topic) (spaced_value value) (some_left (stamp_first (Some time)) (topic_text topic) (first_some time))
     some kinds.Numcopies = number_some

@@ -43,6 +43,7 @@ IsContent key bytes = IsKeyText key × (fits_size (size_part key) (length bytes)
 -- a group's name has no newline, nor has a text, nor the names in a list of groups
 abbrev pub IsPlainTopic : Topic → Type 0
 IsPlainTopic (topics.Group name) = IsOneLine name
+IsPlainTopic (topics.Pattern glob) = IsOneLine glob
 IsPlainTopic topic = Unit {0}
 
 abbrev pub IsPlainValue : Value → Type 0

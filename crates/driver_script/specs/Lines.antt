@@ -56,6 +56,8 @@ is_written kinds.Required = false
 is_written kinds.GroupPreferred = false
 is_written kinds.Numcopies = true
 is_written kinds.Mincopies = true
+is_written kinds.NumcopiesPath = false
+is_written kinds.MincopiesPath = false
 
 -- and the location log of a key
 abbrev pub is_added : LogFile → Bool

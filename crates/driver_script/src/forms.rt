@@ -21,8 +21,12 @@ fn is_written(kind: LogKind) -> bool
     match kind {
         LogKind::Trust | LogKind::Uuid | LogKind::Group | LogKind::Numcopies | LogKind::Mincopies =>
             true,
-        LogKind::Location | LogKind::Preferred | LogKind::Required | LogKind::GroupPreferred =>
-            false,
+        LogKind::Location
+        | LogKind::Preferred
+        | LogKind::Required
+        | LogKind::GroupPreferred
+        | LogKind::NumcopiesPath
+        | LogKind::MincopiesPath => false,
     }
 }
 

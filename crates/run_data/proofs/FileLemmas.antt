@@ -8,11 +8,11 @@ use Rattle.annex_base.specs.declared.memory.NoMemory.{NoMemory}
 use Rattle.annex_key.specs.FileKey.{key_of_file}
 use Rattle.annex_key.specs.KeyFile.{file_text}
 use Rattle.annex_key.specs.KeyText.{IsKeyText}
-use Rattle.log_lines.specs.declared.entry.LogKind.{LogKind}
-use Rattle.log_lines.specs.declared.entry.LogKind.TheVariants as kinds
+use Rattle.log_grammar.specs.declared.entry.LogKind.{LogKind}
+use Rattle.log_grammar.specs.declared.entry.LogKind.TheVariants as kinds
 use Rattle.union_merge.specs.LineSet.{IsLine}
 use Rattle.hash_dirs.specs.LogPath.{location_path}
-use Rattle.log_lines.specs.Files.{file_name, kind_named, named_kinds}
+use Rattle.log_grammar.specs.Files.{file_name, kind_named, named_kinds}
 use Rattle.run_data.specs.declared.entry.LogFile.{LogFile}
 use Rattle.run_data.specs.declared.entry.LogFile.TheVariants.{Location, Of, Other}
 use Rattle.run_data.specs.Files.{HasPath, file_by, file_of, file_path, kind_of, location_of, log_name}

@@ -3,11 +3,11 @@ use Rattle.std.specs.Prelude.{◌≢◌, ℕ, ◌-◌, ◌==◌, Bool, if◌then
 use Rattle.std.specs.List.{after_first}
 use Rattle.annex_key.specs.FileKey.{key_of_file}
 use Rattle.annex_key.specs.KeyText.{IsKeyText}
-use Rattle.log_lines.specs.declared.entry.LogKind.{LogKind}
-use Rattle.log_lines.specs.declared.entry.LogKind.TheVariants as kinds
+use Rattle.log_grammar.specs.declared.entry.LogKind.{LogKind}
+use Rattle.log_grammar.specs.declared.entry.LogKind.TheVariants as kinds
 use Rattle.union_merge.specs.LineSet.{IsLine}
 use Rattle.hash_dirs.specs.LogPath.{location_path}
-use Rattle.log_lines.specs.Files.{file_name, kind_named}
+use Rattle.log_grammar.specs.Files.{file_name, kind_named}
 use Rattle.run_data.specs.declared.entry.LogFile.{LogFile}
 use Rattle.run_data.specs.declared.entry.LogFile.TheVariants.{Location, Of, Other}
 

@@ -8,7 +8,7 @@ use crate::entry::LogFile;
 use annex_base::{NoMemory, Text};
 use annex_key::{Key, KeyFault};
 use hash_dirs::location_path;
-use log_lines::LogKind;
+use log_grammar::LogKind;
 use std::alloc::Global;
 
 impl LogFile {

@@ -1,6 +1,6 @@
 //! Laws on the log files of a branch: each is the contract of a function that does nothing.
 ghost use Rattle.std.specs.Prelude.{◌≡◌, ◌≢◌, ◌⊎◌, ℕ, List, Some, None};
-ghost use Rattle.log_lines.specs.declared.entry.LogKind.{LogKind};
+ghost use Rattle.log_grammar.specs.declared.entry.LogKind.{LogKind};
 ghost use Rattle.union_merge.specs.LineSet.{IsLine};
 ghost use Rattle.run_data.specs.declared.entry.LogFile.{LogFile};
 ghost use Rattle.run_data.specs.Files.{HasPath, file_of, file_path, kind_of};

@@ -4,7 +4,7 @@ ghost use Rattle.std.specs.List.{list_all};
 ghost use Rattle.std.specs.Str.{bytes_eq};
 ghost use Rattle.annex_base.specs.Lines.{slash};
 ghost use Rattle.annex_base.specs.RepoText.{repo_of};
-ghost use Rattle.log_lines.specs.LineText.{is_group, is_group_byte};
+ghost use Rattle.log_grammar.specs.LineText.{is_group, is_group_byte};
 ghost use Rattle.script_words.specs.Fields.{is_name, is_name_byte, is_path, begins, ends, level_word, level_of, call_word, call_of, offset_of, clock_of, version_of, is_nolock};
 
 use crate::marks::behind;
