@@ -1,4 +1,4 @@
--- An expression is read from left to right, over what awaits its term, the innermost first.
+-- For private contracts: an expression is read from left to right, over what awaits its term, the innermost first.
 use Rattle.std.specs.Prelude.{◌≡◌, ℕ, ◌+◌, nat_lt, Bool, true, false, not, if◌then◌else◌, List, [], ◌∷◌, length, ◌⊎◌, Option, Some, None, Result, Ok, Err}
 use Rattle.wanted_expr.specs.declared.data.Tree.{Tree}
 use Rattle.wanted_expr.specs.declared.fault.ExprFault.{ExprFault}
