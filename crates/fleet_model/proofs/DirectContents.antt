@@ -15,7 +15,7 @@ use Rattle.repo_node.specs.Nodes.{NodeView}
 use Rattle.repo_node.specs.Placing.{IsPlaced, IsTaken, with_placed}
 use Rattle.repo_node.specs.Stored.{StoreView}
 use Rattle.repo_node.specs.Walks.{over}
-use Rattle.repo_node.specs.declared.refused.NodeRefused.TheVariants as refusals
+use Rattle.node_past.specs.declared.refused.NodeRefused.TheVariants as refusals
 use Rattle.fleet_model.specs.Fleets.{FleetView, HasCome, IsNodeOf}
 use Rattle.fleet_model.specs.Steps.{OneGoesOn, with_newest}
 use Rattle.fleet_model.specs.Stores.{IsTold, content_in}

@@ -16,7 +16,7 @@ use Rattle.repo_node.specs.Nodes.{NodeView}
 use Rattle.repo_node.specs.Refusals.{RefusesSo}
 use Rattle.repo_node.specs.Stored.{StoreView}
 use Rattle.repo_node.specs.Walks.{compact_file, compact_files, merge_file, merge_files, over}
-use Rattle.repo_node.specs.declared.refused.NodeRefused.TheVariants as refusals
+use Rattle.node_past.specs.declared.refused.NodeRefused.TheVariants as refusals
 use Rattle.fleet_model.specs.Fleets.{FleetView, HasCome}
 use Rattle.fleet_model.specs.Steps.{OneGoesOn, StaysStored, with_newest}
 use Rattle.fleet_model.proofs.Directs.{comes_directly, log_parts}

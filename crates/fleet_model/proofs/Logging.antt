@@ -22,7 +22,7 @@ use Rattle.fleet_model.specs.Steps.{HasLogged, StaysStored, with_newest}
 use Rattle.fleet_model.specs.Stores.{IsStoreOf}
 use Rattle.repo_node.specs.Stored.{StoreView}
 use Rattle.repo_node.specs.Refusals.{RefusesSo}
-use Rattle.repo_node.specs.declared.refused.NodeRefused.TheVariants as refusals
+use Rattle.node_past.specs.declared.refused.NodeRefused.TheVariants as refusals
 use Rattle.fleet_model.proofs.Failing.{answered, first_fails, first_of_calls, positive}
 use Rattle.fleet_model.proofs.Noting.{IsRaised, noted}
 

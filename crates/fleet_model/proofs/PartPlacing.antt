@@ -13,7 +13,7 @@ use Rattle.repo_node.specs.Calls.{IsDoneBy, StopsAt, to_place_part}
 use Rattle.repo_node.specs.Nodes.{NodeView}
 use Rattle.repo_node.specs.Placing.{IsTaken}
 use Rattle.repo_node.specs.Walks.{over}
-use Rattle.repo_node.specs.declared.refused.NodeRefused.TheVariants as refusals
+use Rattle.node_past.specs.declared.refused.NodeRefused.TheVariants as refusals
 use Rattle.repo_node.specs.Stored.{StoreView}
 use Rattle.fleet_model.proofs.Failing.{first_of_calls}
 use Rattle.fleet_model.proofs.Placing.{Stopped, calm_left, fault_noted, none_first, none_left, part_replaced, some_first}

@@ -26,7 +26,7 @@ use Rattle.repo_node.specs.Nodes.{NodeView, due_by, id_known, with_entry}
 use Rattle.repo_node.specs.Placing.{IsPlaced, IsTaken, with_content, with_gain, with_placed}
 use Rattle.repo_node.specs.Refusals.{RefusesSo}
 use Rattle.repo_node.specs.Walks.{over}
-use Rattle.repo_node.specs.declared.refused.NodeRefused.TheVariants as refusals
+use Rattle.node_past.specs.declared.refused.NodeRefused.TheVariants as refusals
 use Rattle.fleet_model.specs.Stores.{IsStoreOf, IsTold, content_in}
 use Rattle.repo_node.specs.Stored.{StoreView}
 use Rattle.fleet_model.proofs.Failing.{answered, first_of_calls}

@@ -22,7 +22,7 @@ use Rattle.repo_node.specs.Logs.{with_log}
 use Rattle.repo_node.specs.Nodes.{NodeView}
 use Rattle.repo_node.specs.Refusals.{RefusesSo}
 use Rattle.repo_node.specs.Walks.{compact_file, compact_files, merge_file, merge_files, over}
-use Rattle.repo_node.specs.declared.refused.NodeRefused.TheVariants as refusals
+use Rattle.node_past.specs.declared.refused.NodeRefused.TheVariants as refusals
 use Rattle.fleet_model.specs.Steps.{StaysStored}
 use Rattle.fleet_model.specs.Stores.{IsStoreOf}
 use Rattle.repo_node.specs.Stored.{StoreView}

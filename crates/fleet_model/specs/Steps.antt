@@ -5,7 +5,7 @@ use Rattle.run_data.specs.declared.entry.LogFile.{LogFile}
 use Rattle.repo_node.specs.Logs.{with_lines}
 use Rattle.repo_node.specs.Nodes.{NodeView}
 use Rattle.repo_node.specs.Refusals.{RefusesSo}
-use Rattle.repo_node.specs.declared.refused.NodeRefused.TheVariants as refusals
+use Rattle.node_past.specs.declared.refused.NodeRefused.TheVariants as refusals
 use Rattle.run_model.specs.Past.{now}
 use Rattle.driver_model.specs.Driver.{Driver, newest_count}
 use Rattle.link_ring.specs.Ends.{EndView}

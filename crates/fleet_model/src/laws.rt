@@ -37,7 +37,7 @@ ghost use Rattle.repo_node.specs.Stored.{StoreView};
 ghost use Rattle.repo_node.specs.TurnCalls.{step_calls};
 ghost use Rattle.repo_node.specs.Turning.{Adds, IsIdle, StepsBy};
 ghost use Rattle.repo_node.specs.Walks.{compact_files, merge_files, over};
-ghost use Rattle.repo_node.specs.declared.refused.NodeRefused.TheVariants as refusals;
+ghost use Rattle.node_past.specs.declared.refused.NodeRefused.TheVariants as refusals;
 ghost use Rattle.node_model.specs.Step.{step};
 ghost use Rattle.joined_nodes.specs.Joined.{AreNew, AreNodes};
 ghost use Rattle.fleet_model.specs.Fleets.{FleetView, HasCome};

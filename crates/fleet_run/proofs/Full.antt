@@ -33,7 +33,7 @@ use Rattle.repo_node.specs.Stored.{StoreView}
 use Rattle.repo_node.specs.Walks.{compact_files, merge_files, over}
 use Rattle.repo_node.specs.declared.beginning.BeginRefused.{BeginRefused}
 use Rattle.repo_node.specs.declared.beginning.BeginRefused.TheVariants as begin_refusals
-use Rattle.repo_node.specs.declared.refused.NodeRefused.TheVariants as refusals
+use Rattle.node_past.specs.declared.refused.NodeRefused.TheVariants as refusals
 use Rattle.fleet_model.specs.Fleets.{FleetView, HasCome, IsNodeOf}
 use Rattle.fleet_model.specs.Stopping.{OthersAreFew}
 use Rattle.fleet_model.specs.Steps.{OneGoesOn, with_newest}

@@ -20,8 +20,8 @@ use Rattle.repo_node.specs.Refusals.{RefusesSo}
 use Rattle.repo_node.specs.Stored.{StoreView}
 use Rattle.repo_node.specs.Walks.{StopsAfter, compact_file, compact_files, current, merge_file, merge_files, over}
 use Rattle.repo_node.specs.declared.beginning.BeginRefused.{BeginRefused}
-use Rattle.repo_node.specs.declared.refused.NodeRefused.{NodeRefused}
-use Rattle.repo_node.specs.declared.refused.NodeRefused.TheVariants as refusals
+use Rattle.node_past.specs.declared.refused.NodeRefused.{NodeRefused}
+use Rattle.node_past.specs.declared.refused.NodeRefused.TheVariants as refusals
 use Rattle.joined_nodes.specs.Joined.{AtNode}
 use Rattle.fleet_model.specs.Fleets.{FleetView}
 use Rattle.fleet_run.specs.Telling.{Raises}

@@ -9,7 +9,7 @@ use Rattle.repo_node.specs.Calls.{IsDoneBy, StopsAt, to_place}
 use Rattle.repo_node.specs.Nodes.{IsState, NodeView, state_of, told_of}
 use Rattle.repo_node.specs.Placing.{IsPlaced}
 use Rattle.repo_node.specs.Stored.{StoreView}
-use Rattle.repo_node.specs.declared.refused.NodeRefused.TheVariants as refusals
+use Rattle.node_past.specs.declared.refused.NodeRefused.TheVariants as refusals
 use Rattle.fleet_model.specs.Fleets.{FleetView, HasCome}
 use Rattle.fleet_model.specs.Steps.{OneGoesOn, with_newest}
 use Rattle.fleet_run.specs.AtDriver.{GoesOn}

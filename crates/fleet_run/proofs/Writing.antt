@@ -24,8 +24,8 @@ use Rattle.repo_node.specs.Nodes.{NodeView}
 use Rattle.repo_node.specs.Refusals.{RefusesSo}
 use Rattle.repo_node.specs.Stored.{StoreView}
 use Rattle.repo_node.specs.Walks.{compact_files, merge_files, over}
-use Rattle.repo_node.specs.declared.refused.NodeRefused.{NodeRefused}
-use Rattle.repo_node.specs.declared.refused.NodeRefused.TheVariants as refusals
+use Rattle.node_past.specs.declared.refused.NodeRefused.{NodeRefused}
+use Rattle.node_past.specs.declared.refused.NodeRefused.TheVariants as refusals
 use Rattle.joined_nodes.specs.Joined.{AtNode}
 use Rattle.fleet_model.specs.Fleets.{FleetView, HasCome}
 use Rattle.fleet_model.specs.Steps.{HasLogged, OneGoesOn, StaysStored, with_newest}

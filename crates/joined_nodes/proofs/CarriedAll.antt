@@ -10,7 +10,7 @@ use Rattle.node_ends.specs.Ends.{link_at}
 use Rattle.node_ends.specs.Joined.{AreCarried, end_with, link_carried}
 use Rattle.repo_node.specs.Nodes.{NodeView}
 use Rattle.joined_nodes.specs.Carrying.{AreCarriedTo, AreCarriedTwo, AreCarriedWith, IsCarried, LinksCarriedTo}
-use Rattle.joined_nodes.specs.Joined.{with_links}
+use Rattle.joined_nodes.specs.Joined.{AreAllCarried, with_links}
 
 pub two_turned : {K : Type 0} (i j : ℕ) (was now : List (NodeView K)) → AreCarriedTwo i j was now → AreCarriedTwo j i was now
 two_turned i j was now so = record {
@@ -124,3 +124,9 @@ other_carried repo was now there so i n m other at_n at_m =
 
 pub other_links : {K : Type 0} (repo : ℕ) (was now : List (NodeView K)) → AreCarriedTo (length was) repo was now → (i : ℕ) (node n m : NodeView K) → i ≢ repo → slice_get was repo ≡ Some node → slice_get was i ≡ Some n → slice_get now i ≡ Some m → AreCarried i repo n.parts.links m.parts.links node.parts.links
 other_links repo was now so i node n m other at at_n at_m = (so.done i node n m (slice_get_within was i n at_n) other at at_n at_m).links
+
+-- the links of the one node, by all others
+pub all_carried : {K : Type 0} (repo : ℕ) (was now : List (NodeView K)) → AreCarriedTo (length was) repo was now → (n m : NodeView K) → slice_get was repo ≡ Some n → slice_get now repo ≡ Some m → AreAllCarried repo was n.parts.links m.parts.links
+all_carried repo was now so n m at_n at_m =
+    let links = so.links n m at_n at_m in
+    record { count = links.count; carried = λ i x apart at. links.carried i x (slice_get_within was i x at) apart at; others = links.others }

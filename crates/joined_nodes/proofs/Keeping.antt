@@ -25,8 +25,8 @@ use Rattle.repo_node.specs.Refusals.{RefusesFor, RefusesSo}
 use Rattle.repo_node.specs.Stored.{StoreView}
 use Rattle.repo_node.specs.Turning.{Adds}
 use Rattle.repo_node.specs.Walks.{StopsAfter, compact_file, compact_files, current, merge_file, merge_files, over}
-use Rattle.repo_node.specs.declared.refused.NodeRefused.{NodeRefused}
-use Rattle.repo_node.specs.declared.refused.NodeRefused.TheVariants as refusals
+use Rattle.node_past.specs.declared.refused.NodeRefused.{NodeRefused}
+use Rattle.node_past.specs.declared.refused.NodeRefused.TheVariants as refusals
 use Rattle.repo_node.specs.declared.turn.Turn.{Turn}
 use Rattle.repo_node.specs.declared.turn.Turn.TheVariants as turns
 

@@ -5,7 +5,7 @@ use Rattle.std.proofs.lemmas.List.{length-append}
 use Rattle.std.proofs.lemmas.Option.{same_Some, none-some, slice_get-get_or, slice_get-map, slice_get_within}
 use Rattle.annex_base.proofs.Lists.{Each-get_or, slice_get-within}
 use Rattle.run_data.specs.declared.run.RepoView.{RepoView}
-use Rattle.repo_node.specs.declared.setup.Setup.{Setup}
+use Rattle.node_past.specs.declared.setup.Setup.{Setup}
 use Rattle.link_ring.specs.Ends.{fresh}
 use Rattle.node_ends.specs.Joined.{AreJoined}
 use Rattle.repo_node.specs.Nodes.{NodeView}

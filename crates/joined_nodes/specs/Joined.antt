@@ -7,7 +7,7 @@ use Rattle.node_ends.specs.Ends.{link_at}
 use Rattle.node_ends.specs.Joined.{AreJoined, end_with, link_carried}
 use Rattle.run_data.specs.Repos.{IsSetUp}
 use Rattle.run_data.specs.declared.run.RepoView.{RepoView}
-use Rattle.repo_node.specs.declared.setup.Setup.{Setup}
+use Rattle.node_past.specs.declared.setup.Setup.{Setup}
 use Rattle.repo_node.specs.Nodes.{NodeView}
 
 -- ---- the repositories of a run

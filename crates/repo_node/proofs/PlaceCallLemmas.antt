@@ -1,71 +1,31 @@
 -- The calls of a step that places a content or a part, and what it has done where it stops.
-use Rattle.std.proofs.Common.{◌≡◌, ℕ, Bool, true, false, ◌||◌, if◌then◌else◌, List, [], ◌∷◌, ◌++◌, length, Option, Some, None, Result, Ok, Err, OnOk, OnErr, IfErr, bytes_eq, is_some, refl, sym, ap, ◌∙◌, subst}
+use Rattle.std.proofs.Common.{◌≡◌, ℕ, Bool, true, false, if◌then◌else◌, List, [], ◌∷◌, length, Option, Some, None, Result, Ok, Err, OnOk, IfOk, IfErr, refl, sym, ap, ◌∙◌, subst}
 use Rattle.std.specs.Option.{option_map}
 use Rattle.annex_base.specs.declared.kinds.Call.{Call}
 use Rattle.annex_base.specs.declared.kinds.Call.TheVariants as calls
-use Rattle.annex_base.proofs.Conditions.{bytes_eq-refl}
-use Rattle.annex_base.proofs.Functions.{funext}
 use Rattle.object_store.specs.Stores.{Contents, Parts, with_at}
-use Rattle.content_lock.specs.Rows.{Rows, is_filling}
+use Rattle.content_lock.specs.Rows.{Rows}
 use Rattle.run_data.specs.declared.entry.By.TheVariants.{Script}
-use Rattle.union_merge.specs.Branch.{Files}
-use Rattle.node_model.specs.AnyTime.{is_scripts}
-use Rattle.node_model.specs.OwedLines.{OwedLine}
-use Rattle.node_parts.specs.Parts.{PartsView}
-use Rattle.repo_node.specs.declared.past.Past.{Past}
-use Rattle.repo_node.specs.declared.refused.NodeRefused.{NodeRefused}
-use Rattle.repo_node.specs.declared.refused.NodeRefused.TheVariants as refusals
+use Rattle.node_past.specs.declared.refused.NodeRefused.{NodeRefused}
+use Rattle.node_past.specs.declared.refused.NodeRefused.TheVariants as refusals
 use Rattle.content_lock.specs.CallsMade.{MakesCalls}
-use Rattle.repo_node.specs.Calls.{IsDoneBy, Makes, StopsAt, StopsEarly, StopsIn, contents_at, is_early, node_at, parts_at, to_place, to_place_part}
-use Rattle.repo_node.specs.Nodes.{NodeView}
-use Rattle.repo_node.specs.Pasts.{FailsFor, SamePast}
-use Rattle.repo_node.specs.Placing.{IsTaken, with_content, with_gain}
-use Rattle.repo_node.specs.Refusals.{RefusesSo}
-use Rattle.repo_node.specs.Walks.{over}
-use Rattle.repo_node.proofs.CallLemmas.{Failing, makes_then, stops_before, stops_early, stops_then}
-use Rattle.repo_node.proofs.OwedLemmas.{refused_stay}
-use Rattle.repo_node.proofs.PastLemmas.{fails_after}
-use Rattle.repo_node.proofs.WriteLemmas.{node_failed, node_of}
+use Rattle.repo_node.specs.Calls.{IsDoneBy, StopsAt, contents_at, node_at}
+use Rattle.node_past.specs.Calls.{Makes, StopsIn}
+use Rattle.store_entries.specs.Calls.{is_early, parts_at, to_place, to_place_part}
+use Rattle.node_steps.specs.Nodes.{NodeView, beside}
+use Rattle.store_entries.specs.Placing.{IsTaken, HasPart}
+use Rattle.node_parts.specs.Parts.{PartsView}
+use Rattle.repo_node.specs.Placing.{with_content, PartAfter, without_said}
+use Rattle.node_ledger.specs.Placing.{with_gain, StopsBefore}
+use Rattle.node_ledger.specs.Refusals.{RefusesSo}
+use Rattle.node_ledger.specs.Walks.{over}
+use Rattle.node_past.proofs.CallLemmas.{Failing, makes_then, stops_before, stops_then}
+use Rattle.store_entries.proofs.PlaceCallLemmas.{part_emptied, early_scripts}
+use Rattle.node_ledger.specs.Ledgers.{LedgerView}
+use Rattle.node_ledger.proofs.GainLemmas.{LedgerStops}
+use Rattle.node_steps.proofs.KeptLemmas.{refuses_beside}
 
--- ---- the part by value
-
-put_at : (b : Bool) (x y z bytes : List ℕ) → x ≡ bytes → (if b then x else (if b then y else z)) ≡ (if b then bytes else z)
-put_at true x y z bytes is = is
-put_at false x y z bytes is = refl
-
--- a part that is put in place of another
-put_again : (f : Parts) (key x y bytes : List ℕ) → x ≡ bytes → with_at (with_at f key y) key x ≡ with_at f key bytes
-put_again f key x y bytes is = funext (with_at (with_at f key y) key x) (with_at f key bytes) (λ k. put_at (bytes_eq key k) x y (f k) bytes is)
-
--- bytes that are put at the end of an empty part
-pub part_put : (key bytes : List ℕ) (p p1 p2 : Option Parts) → p1 ≡ option_map (λ (f : Parts). with_at f key []) p → p2 ≡ option_map (λ (f : Parts). with_at f key (f key ++ bytes)) p1 → p2 ≡ option_map (λ (f : Parts). with_at f key bytes) p
-part_put key bytes None p1 p2 first second = second ∙ ap (option_map (λ (f : Parts). with_at f key (f key ++ bytes))) first
-part_put key bytes (Some f) p1 p2 first second =
-    second ∙ (ap (option_map (λ (f : Parts). with_at f key (f key ++ bytes))) first
-    ∙ ap (λ (g : Parts). Some g) (put_again f key ((if bytes_eq key key then [] else f key) ++ bytes) [] bytes (ap (λ (b : Bool). (if b then [] else f key) ++ bytes) (bytes_eq-refl key))))
-
--- a part that is made empty
-pub part_emptied : (key bytes : List ℕ) (p p1 p2 : Option Parts) → p1 ≡ option_map (λ (f : Parts). with_at f key bytes) p → p2 ≡ option_map (λ (f : Parts). with_at f key []) p1 → p2 ≡ option_map (λ (f : Parts). with_at f key []) p
-part_emptied key bytes None p1 p2 first second = second ∙ ap (option_map (λ (f : Parts). with_at f key [])) first
-part_emptied key bytes (Some f) p1 p2 first second =
-    second ∙ (ap (option_map (λ (f : Parts). with_at f key [])) first ∙ ap (λ (g : Parts). Some g) (put_again f key [] bytes [] refl))
-
-pub put_later : {X : Type 0} (r : Result X NodeRefused) (key bytes : List ℕ) (p p1 p2 : Option Parts) → p1 ≡ option_map (λ (f : Parts). with_at f key []) p → OnOk r (p2 ≡ option_map (λ (f : Parts). with_at f key (f key ++ bytes)) p1) → OnOk r (p2 ≡ option_map (λ (f : Parts). with_at f key bytes) p)
-put_later (Ok x) key bytes p p1 p2 first second = part_put key bytes p p1 p2 first second
-put_later (Err e) key bytes p p1 p2 first second = tt
-
--- the parts at the calls
-at_look : (key bytes : List ℕ) (p : Option Parts) → p ≡ option_map (parts_at calls.Has key bytes) p
-at_look key bytes None = refl
-at_look key bytes (Some f) = refl
-
-at_drop : (key bytes : List ℕ) (p : Option Parts) → p ≡ option_map (parts_at calls.DropPart key bytes) p
-at_drop key bytes None = refl
-at_drop key bytes (Some f) = refl
-
-at_append : (key bytes : List ℕ) (p : Option Parts) → option_map (λ (f : Parts). with_at f key []) p ≡ option_map (parts_at calls.Append key bytes) p
-at_append key bytes None = refl
-at_append key bytes (Some f) = refl
+-- ---- the parts at a call
 
 at_commit : (key bytes : List ℕ) (p : Option Parts) → option_map (λ (f : Parts). with_at f key bytes) p ≡ option_map (parts_at calls.Commit key bytes) p
 at_commit key bytes None = refl
@@ -75,14 +35,6 @@ at_put : (key bytes : List ℕ) (p : Option Parts) → option_map (λ (f : Parts
 at_put key bytes None = refl
 at_put key bytes (Some f) = refl
 
--- ---- stops before the content
-
-pub early_scripts : (call : Call) → is_early call ≡ true → is_scripts call ≡ true
-early_scripts calls.Has early = refl
-early_scripts calls.DropPart early = refl
-early_scripts calls.Append early = refl
-early_scripts call early = absurd cc
-
 pub early_node : {K : Type 0} (call : Call) (key bytes : List ℕ) (n : NodeView K) → is_early call ≡ true → node_at call key bytes n ≡ n
 early_node calls.PutFile key bytes n early = absurd cc
 early_node call key bytes n early = refl
@@ -90,96 +42,6 @@ early_node call key bytes n early = refl
 pub early_contents : (call : Call) (key bytes : List ℕ) (cs : Option Contents) (ps : Option Parts) → is_early call ≡ true → contents_at call key bytes cs ps ≡ cs
 early_contents calls.PutFile key bytes cs ps early = absurd cc
 early_contents call key bytes cs ps early = refl
-
--- the part couldn't be dropped, or nothing appended to it
-pub drop_stops : {X : Type 0} (r : Result X NodeRefused) (key bytes : List ℕ) (ps ps' : Option Parts) (failing failing' : Failing) (was now : Past) → IfErr r (λ e. FailsFor Script e calls.DropPart was now) → Makes (calls.DropPart ∷ []) calls.DropPart r failing failing' → ps' ≡ ps
-    → IfErr r (λ e. StopsEarly (calls.DropPart ∷ calls.Append ∷ []) key bytes ps ps' failing failing' e was now)
-drop_stops (Ok x) key bytes ps ps' failing failing' was now fails made same = tt
-drop_stops (Err e) key bytes ps ps' failing failing' was now fails made same = record {
-  call = calls.DropPart;
-  early = refl;
-  calls = stops_before (calls.DropPart ∷ []) (calls.Append ∷ []) calls.DropPart e failing failing' made;
-  fails = fails;
-  parts = same ∙ at_drop key bytes ps;
-}
-
-pub append_stops : {X : Type 0} (r : Result X NodeRefused) (key bytes : List ℕ) (ps mid ps' : Option Parts) (failing between failing' : Failing) (was half now : Past) → SamePast was half → MakesCalls (calls.DropPart ∷ []) None failing between → mid ≡ option_map (λ (f : Parts). with_at f key []) ps
-    → IfErr r (λ e. FailsFor Script e calls.Append half now) → Makes (calls.Append ∷ []) calls.Append r between failing' → OnErr r (ps' ≡ mid)
-    → IfErr r (λ e. StopsEarly (calls.DropPart ∷ calls.Append ∷ []) key bytes ps ps' failing failing' e was now)
-append_stops (Ok x) key bytes ps mid ps' failing between failing' was half now same dropped empty fails made left = tt
-append_stops (Err e) key bytes ps mid ps' failing between failing' was half now same dropped empty fails made left = record {
-  call = calls.Append;
-  early = refl;
-  calls = stops_then (calls.DropPart ∷ []) (calls.Append ∷ []) calls.Append e failing between failing' dropped made;
-  fails = fails_after Script e calls.Append was half now same fails;
-  parts = left ∙ (empty ∙ at_append key bytes ps);
-}
-
--- both were made
-pub both_made : {X : Type 0} (r : Result X NodeRefused) (failing between failing' : Failing) → MakesCalls (calls.DropPart ∷ []) None failing between → Makes (calls.Append ∷ []) calls.Append r between failing' → OnOk r (MakesCalls (calls.DropPart ∷ calls.Append ∷ []) None failing failing')
-both_made (Ok x) failing between failing' dropped made = makes_then (calls.DropPart ∷ []) (calls.Append ∷ []) None failing between failing' dropped made
-both_made (Err e) failing between failing' dropped made = tt
-
--- ---- whether the content is there
-
--- as far as the store tells it is there or being filled, or isn't
-taken_told : (cs : Option Contents) (rows : Rows) (key : List ℕ) → (taken : Bool) × IsTaken taken cs rows key
-taken_told None rows key = (false, λ c told. absurd (none_is c told))
-  where
-    none_is : (c : Contents) → ◌≡◌ {A = Option Contents} None (Some c) → ⊥
-    none_is c told = absurd cc
-taken_told (Some f) rows key = (is_some (f key) || is_filling rows key, λ c told. ap (λ (g : Contents). is_some (g key) || is_filling rows key) (some_is f c told))
-  where
-    some_is : (f c : Contents) → ◌≡◌ {A = Option Contents} (Some f) (Some c) → f ≡ c
-    some_is f c told = cc
-
--- a stop of a step that first looks whether it is
-abbrev pub StopsTold : List ℕ → List ℕ → Rows → Option Contents → Option Parts → Option Parts → Failing → Failing → NodeRefused → Past → Past → Type 0
-StopsTold key bytes rows cs ps ps' failing failing' e was now = (taken : Bool) × IsTaken taken cs rows key × StopsEarly (to_place_part taken) key bytes ps ps' failing failing' e was now
-
-look_first : (taken : Bool) (e : NodeRefused) (before after : Failing) → StopsIn (calls.Has ∷ []) calls.Has e before after → StopsIn (to_place_part taken) calls.Has e before after
-look_first true e before after it = it
-look_first false e before after it = stops_before (calls.Has ∷ []) (calls.DropPart ∷ calls.Append ∷ []) calls.Has e before after it
-
--- the look failed, or there was no room before it
-pub look_stops : {X : Type 0} (r : Result X NodeRefused) (key bytes : List ℕ) (rows : Rows) (cs : Option Contents) (ps ps' : Option Parts) (failing failing' : Failing) (was now : Past) → IfErr r (λ e. FailsFor Script e calls.Has was now) → Makes (calls.Has ∷ []) calls.Has r failing failing' → ps' ≡ ps
-    → IfErr r (λ e. StopsTold key bytes rows cs ps ps' failing failing' e was now)
-look_stops (Ok x) key bytes rows cs ps ps' failing failing' was now fails made same = tt
-look_stops (Err e) key bytes rows cs ps ps' failing failing' was now fails made same =
-    let t = taken_told cs rows key in
-    (t.0, t.1, record { call = calls.Has; early = refl; calls = look_first t.0 e failing failing' made; fails = fails; parts = same ∙ at_look key bytes ps })
-
--- there was no room before it
-pub ready_stops : (e : NodeRefused) (key bytes : List ℕ) (rows : Rows) (cs : Option Contents) (ps : Option Parts) (failing : Failing) (was now : Past) → FailsFor Script e calls.Has was now → (e ≡ refusals.StoreFault → ⊥)
-    → StopsTold key bytes rows cs ps ps failing failing e was now
-ready_stops e key bytes rows cs ps failing was now fails well =
-    let t = taken_told cs rows key in
-    (t.0, t.1, record { call = calls.Has; early = refl; calls = stops_early (to_place_part t.0) calls.Has e failing failing well refl; fails = fails; parts = at_look key bytes ps })
-
--- the look said that it isn't there, and the step stopped later
-pub behind_look : (e : NodeRefused) (taken : Bool) (key bytes : List ℕ) (rows : Rows) (cs : Option Contents) (ps mid ps' : Option Parts) (failing between failing' : Failing) (was half now : Past) → taken ≡ false → IsTaken taken cs rows key → SamePast was half → mid ≡ ps
-    → MakesCalls (calls.Has ∷ []) None failing between → StopsEarly (calls.DropPart ∷ calls.Append ∷ []) key bytes mid ps' between failing' e half now → StopsTold key bytes rows cs ps ps' failing failing' e was now
-behind_look e taken key bytes rows cs ps mid ps' failing between failing' was half now free told same left looked stops = (
-  false,
-  subst (λ (b : Bool). IsTaken b cs rows key) free told,
-  record {
-    call = stops.call;
-    early = stops.early;
-    calls = stops_then (calls.Has ∷ []) (calls.DropPart ∷ calls.Append ∷ []) stops.call e failing between failing' looked stops.calls;
-    fails = fails_after Script e stops.call was half now same stops.fails;
-    parts = stops.parts ∙ ap (option_map (parts_at stops.call key bytes)) left;
-  },
-)
-
--- a step that was made ready first
-pub told_later : {X : Type 0} (r : Result X NodeRefused) (key bytes : List ℕ) (rows : Rows) (cs : Option Contents) (ps ps' : Option Parts) (failing failing' : Failing) (was half now : Past) → SamePast was half
-    → IfErr r (λ e. StopsTold key bytes rows cs ps ps' failing failing' e half now) → IfErr r (λ e. StopsTold key bytes rows cs ps ps' failing failing' e was now)
-told_later (Ok x) key bytes rows cs ps ps' failing failing' was half now same stops = tt
-told_later (Err e) key bytes rows cs ps ps' failing failing' was half now same stops = (
-  stops.0,
-  stops.1,
-  record { call = stops.2.call; early = stops.2.early; calls = stops.2.calls; fails = fails_after Script e stops.2.call was half now same stops.2.fails; parts = stops.2.parts },
-)
 
 -- ---- the whole step
 
@@ -306,23 +168,70 @@ taken_done taken key bytes rows cs ps ps' failing failing' is told made same = r
   parts = same is ∙ ap (λ (b : Bool). if b then ps else option_map (λ (p : Parts). with_at p key bytes) ps) (sym is);
 }
 
--- a node that was brought the bytes, or wasn't
-pub node_brought : {K X : Type 0} (r : Result X NodeRefused) (k k' : K) (t : PartsView) (b : Files) (was now : Past) (owed owed' : List OwedLine) (n : NodeView K) (key bytes : List ℕ) (rows : Rows) (cs cs' : Option Contents) (ps ps' : Option Parts) (failing failing' : Failing)
-    → node_of k t b was owed ≡ n → rows ≡ t.table → IfErr r (λ e. StopsTold key bytes rows cs ps ps' failing failing' e was now) → cs' ≡ cs → owed' ≡ owed
-    → IfErr r (λ e. StopsAt to_place_part key bytes cs cs' ps ps' failing failing' e n (node_of k' t b now owed'))
-node_brought (Ok x) k k' t b was now owed owed' n key bytes rows cs cs' ps ps' failing failing' view at stops same owes = tt
-node_brought {K} (Err e) k k' t b was now owed owed' n key bytes rows cs cs' ps ps' failing failing' view at stops same owes =
+-- a node whose ledger was to be brought the bytes, and was refused
+pub brought_stops : {K X : Type 0} (r : Result X NodeRefused) (p : PartsView) (l b : LedgerView K) (key bytes : List ℕ) (rows : Rows) (cs cs' : Option Contents) (ps ps' : Option Parts) (failing failing' : Failing) → rows ≡ p.table → cs' ≡ cs
+    → IfErr r (λ e. LedgerStops key bytes rows cs ps ps' failing failing' e l b) → IfErr r (λ e. StopsAt to_place_part key bytes cs cs' ps ps' failing failing' e (beside p l) (beside p b))
+brought_stops (Ok x) p l b key bytes rows cs cs' ps ps' failing failing' at same stops = tt
+brought_stops {K} (Err e) p l b key bytes rows cs cs' ps ps' failing failing' at same stops =
     let call = stops.2.call in
-    let last = node_of k' t b now owed' in
     record {
       call = call;
       scripts = early_scripts call stops.2.early;
       taken = stops.0;
-      told = subst (λ (x : Rows). IsTaken stops.0 cs x key) (at ∙ ap (λ (m : NodeView K). m.parts.table) view) stops.1;
+      told = subst (λ (x : Rows). IsTaken stops.0 cs x key) at stops.1;
       calls = stops.2.calls;
-      refused = subst (λ (m : NodeView K). RefusesSo e call m last) (sym (early_node call key bytes n stops.2.early))
-          (subst (λ (m : NodeView K). RefusesSo e call m last) view
-          (node_failed Script e call k k' t b b was now owed owed' refl stops.2.fails (owes ∙ sym (refused_stay e call owed))));
+      refused = subst (λ (n : NodeView K). RefusesSo e call n (beside p b)) (sym (early_node call key bytes (beside p l) stops.2.early)) (refuses_beside p Script e call l b stops.2.fails);
       contents = same ∙ sym (early_contents call key bytes cs ps stops.2.early);
       parts = stops.2.parts;
     }
+
+pub stops_beside : {K X : Type 0} (r : Result X NodeRefused) (p : PartsView) (l b : LedgerView K) → IfErr r (λ e. StopsBefore e l b) → IfErr r (λ e. StopsBefore e (beside p l) (beside p b))
+stops_beside (Ok x) p l b stops = tt
+stops_beside (Err e) p l b stops = record { call = stops.call; scripts = stops.scripts; refused = refuses_beside p Script e stops.call l b stops.refused }
+
+-- where it was brought them, or they were there
+pub part_after : (taken : Bool) (key bytes : List ℕ) (ps ps' : Option Parts) → (taken ≡ true → ps' ≡ ps) → (taken ≡ false → HasPart key bytes ps ps') → PartAfter taken key bytes ps ps'
+part_after true key bytes ps ps' left part = left refl
+part_after false key bytes ps ps' left part = part refl
+
+put_after : (taken : Bool) (key bytes : List ℕ) (ps ps' : Option Parts) → (taken ≡ true → ps' ≡ ps) → (taken ≡ false → ps' ≡ option_map (λ (p : Parts). with_at p key bytes) ps) → ps' ≡ (if taken then ps else option_map (λ (p : Parts). with_at p key bytes) ps)
+put_after true key bytes ps ps' left put = left refl
+put_after false key bytes ps ps' left put = put refl
+
+pub brought_done : (taken : Bool) (key bytes : List ℕ) (rows : Rows) (cs : Option Contents) (ps ps' : Option Parts) (failing failing' : Failing) → IsTaken taken cs rows key → MakesCalls (to_place_part taken) None failing failing' → (taken ≡ true → ps' ≡ ps)
+    → (taken ≡ false → ps' ≡ option_map (λ (p : Parts). with_at p key bytes) ps) → IsDoneBy to_place_part key bytes rows cs ps ps' failing failing'
+brought_done taken key bytes rows cs ps ps' failing failing' told made left put = record { taken = taken; told = told; calls = made; parts = put_after taken key bytes ps ps' left put }
+
+-- an answer without what an Ok says
+pub on_without : (r : Result Bool NodeRefused) (s : Result (Unit {0}) NodeRefused) (P : Type 0) → s ≡ without_said r → OnOk r P → OnOk s P
+on_without (Ok taken) s P is holds = subst (λ (x : Result (Unit {0}) NodeRefused). OnOk x P) (sym is) holds
+on_without (Err e) s P is holds = subst (λ (x : Result (Unit {0}) NodeRefused). OnOk x P) (sym is) tt
+
+pub err_without : (r : Result Bool NodeRefused) (s : Result (Unit {0}) NodeRefused) (P : NodeRefused → Type 0) → s ≡ without_said r → IfErr r P → IfErr s P
+err_without (Ok taken) s P is holds = subst (λ (x : Result (Unit {0}) NodeRefused). IfErr x P) (sym is) tt
+err_without (Err e) s P is holds = subst (λ (x : Result (Unit {0}) NodeRefused). IfErr x P) (sym is) holds
+
+err_so : (e d : NodeRefused) → ◌≡◌ {A = Result (Unit {0}) NodeRefused} (Err e) (Err d) → ◌≡◌ {A = Result Bool NodeRefused} (Err e) (Err d)
+err_so e d is = cc
+
+ok_err : (d : NodeRefused) → ◌≡◌ {A = Result (Unit {0}) NodeRefused} (Ok tt) (Err d) → ⊥
+ok_err d is = cc
+
+pub cause_without : (r : Result Bool NodeRefused) (s : Result (Unit {0}) NodeRefused) (d : NodeRefused) {P : Type 0} → s ≡ without_said r → (r ≡ Err d → P) → s ≡ Err d → P
+cause_without (Ok taken) s d is cause failed = absurd (ok_err d (sym is ∙ failed))
+cause_without (Err e) s d is cause failed = cause (err_so e d (sym is ∙ failed))
+
+-- what a step that was brought the bytes says then
+pub over_beside : {K X : Type 0} (r : Result X NodeRefused) (p : PartsView) (l b : LedgerView K) → OnOk r (b ≡ over b.keeper l) → OnOk r (beside p b ≡ over b.keeper (beside p l))
+over_beside (Ok x) p l b ok = ap (beside p) ok
+over_beside (Err e) p l b ok = tt
+
+pub part_of : (r : Result Bool NodeRefused) (key bytes : List ℕ) (rows rows' : Rows) (cs : Option Contents) (ps ps' : Option Parts) → rows' ≡ rows → IfOk r (λ taken. IsTaken taken cs rows' key) → IfOk r (λ taken. taken ≡ true → ps' ≡ ps) → IfOk r (λ taken. taken ≡ false → HasPart key bytes ps ps')
+    → OnOk r ((taken : Bool) × IsTaken taken cs rows key × PartAfter taken key bytes ps ps')
+part_of (Ok taken) key bytes rows rows' cs ps ps' at told left part = (taken, subst (λ (x : Rows). IsTaken taken cs x key) at told, part_after taken key bytes ps ps' left part)
+part_of (Err e) key bytes rows rows' cs ps ps' at told left part = tt
+
+pub done_of : (r : Result Bool NodeRefused) (key bytes : List ℕ) (rows rows' : Rows) (cs : Option Contents) (ps ps' : Option Parts) (failing failing' : Failing) → rows' ≡ rows → IfOk r (λ taken. IsTaken taken cs rows' key) → IfOk r (λ taken. MakesCalls (to_place_part taken) None failing failing')
+    → IfOk r (λ taken. taken ≡ true → ps' ≡ ps) → IfOk r (λ taken. taken ≡ false → ps' ≡ option_map (λ (p : Parts). with_at p key bytes) ps) → OnOk r (IsDoneBy to_place_part key bytes rows cs ps ps' failing failing')
+done_of (Ok taken) key bytes rows rows' cs ps ps' failing failing' at told made left put = brought_done taken key bytes rows cs ps ps' failing failing' (subst (λ (x : Rows). IsTaken taken cs x key) at told) made left put
+done_of (Err e) key bytes rows rows' cs ps ps' failing failing' at told made left put = tt

@@ -14,15 +14,14 @@ use Rattle.node_model.specs.OwedLines.{OwedLine, due}
 use Rattle.node_model.specs.OwedStep.{owed_step, pays_first}
 use Rattle.node_model.specs.Sessions.{Doing, Gives, Session}
 use Rattle.node_model.specs.SessionStep.{Here, gives_made, gives_next, here, session_at, session_makes, session_step}
-use Rattle.node_model.specs.SetUp.{served_connections}
-use Rattle.node_model.specs.SetUp.{SetUp}
+use Rattle.node_model.specs.SetUp.{served_connections, SetUp}
 use Rattle.node_model.specs.State.{State}
 use Rattle.node_model.specs.Step.{step}
 use Rattle.node_model.specs.Turns.{job_step}
 use Rattle.content_lock.specs.CallsMade.{AreRising}
 use Rattle.node_sessions.specs.Calls.{failed_of, session_calls}
 use Rattle.node_jobs.specs.Calls.{job_calls}
-use Rattle.repo_node.specs.TurnCalls.{moving_calls, owed_calls, step_calls}
+use Rattle.node_steps.specs.TurnCalls.{moving_calls, owed_calls, step_calls}
 
 -- ---- whether a step is ready doesn't depend on which call fails
 

@@ -1,18 +1,12 @@
--- The definitions of this crate.
-pub mod Owing
-pub mod Nodes
-pub mod Stored
-pub mod Kept
-pub mod Logs
-pub mod Walks
-pub mod Changes
-pub mod Debts
+-- What contracts of a node cite.
 pub mod Placing
 pub mod Calls
-pub mod Indexed
-pub mod Refusals
-pub mod Pasts
-pub mod TurnCalls
-pub mod Turning
-pub mod Stepping
 pub mod Turns
+pub use Rattle.node_past.specs.Stored
+pub use Rattle.node_ledger.specs.Refusals
+pub use Rattle.node_ledger.specs.Logs
+pub use Rattle.node_ledger.specs.Walks
+pub use Rattle.node_ledger.specs.Debts
+pub use Rattle.node_steps.specs.Nodes
+pub use Rattle.node_steps.specs.TurnCalls
+pub use Rattle.node_steps.specs.Turning

@@ -7,15 +7,15 @@ ghost use Rattle.node_model.specs.After.{state_after};
 ghost use Rattle.node_model.specs.SetUp.{SetUp};
 ghost use Rattle.node_model.specs.State.{State};
 ghost use Rattle.node_parts.specs.Parts.{AreParts};
-ghost use Rattle.repo_node.specs.Nodes.{with_entry};
-ghost use Rattle.repo_node.specs.Pasts.{IsReady, SamePast};
+ghost use Rattle.node_ledger.specs.Ledgers.{with_entry};
+ghost use Rattle.node_past.specs.Pasts.{IsReady, SamePast};
 ghost use Rattle.run_data.specs.Histories.{most_entries};
 
 use crate::node::Node;
-use crate::past::Past;
 use annex_base::Items;
 use node_jobs::BeginRefused as JobRefused;
 use node_parts::{Parts, tables_fill_as_states};
+use node_past::Past;
 use object_store::Keeper;
 use run_data::{EntryKind, Job, JobKind};
 
@@ -79,15 +79,16 @@ impl<K: Keeper> Node<K> {
     {
         // For the proof: a law, and what the parts have of the table.
         tables_fill_as_states();
-        let number = begin_parts(&mut self.parts, &mut self.past, &job)?;
+        let ledger = &mut self.ledger;
+        let number = begin_parts(&mut self.parts, &mut ledger.past, &job)?;
         // For the proof: what its parts have is sound.
         let _ = self.parts.table();
-        let lines = Items::new(self.past.alloc);
+        let lines = Items::new(ledger.past.alloc);
         let kind = EntryKind::Begin {
             job: number,
             what: job,
         };
-        self.past.add(kind, lines);
+        ledger.past.add(kind, lines);
         Ok(number)
     }
 }

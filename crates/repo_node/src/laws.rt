@@ -7,7 +7,7 @@ ghost use Rattle.node_model.specs.SetUp.{SetUp};
 ghost use Rattle.node_model.specs.State.{State};
 ghost use Rattle.node_model.specs.Step.{step};
 ghost use Rattle.node_sessions.specs.Calls.{failed_of};
-ghost use Rattle.repo_node.specs.TurnCalls.{step_calls};
+ghost use Rattle.node_steps.specs.TurnCalls.{step_calls};
 
 use node_jobs::jobs_tell_the_failed_call;
 use node_sessions::sessions_tell_the_failed_call;

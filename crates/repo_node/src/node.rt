@@ -1,55 +1,47 @@
 //! A node, and what it shows of itself.
-ghost use Rattle.std.specs.Prelude.{◌≡◌, ◌≢◌, ◌≤◌, ◌<◌, ◌^◌, ◌*◌, ℕ, [], Some, max, length, replicate, slice_get, AllPairs, IfOk, OnOk, OnErr};
+ghost use Rattle.std.specs.Prelude.{◌≡◌, ◌≢◌, ◌≤◌, ◌<◌, ◌^◌, ◌*◌, [], Some, max, length, replicate, slice_get, AllPairs, IfOk, OnOk, OnErr};
 ghost use Rattle.std.specs.Option.{option_map};
 ghost use Rattle.content_lock.specs.Stored.{Agrees};
 ghost use Rattle.link_ring.specs.Ends.{fresh};
 ghost use Rattle.object_store.specs.Calls.{one_more};
 ghost use Rattle.node_model.specs.SetUp.{SetUp};
 ghost use Rattle.node_parts.specs.Sound.{AreSound};
-ghost use Rattle.repo_node.specs.Nodes.{MatchesSetup, HasFiles, IsState, state_of, told_of};
+ghost use Rattle.node_steps.specs.Nodes.{MatchesSetup, IsState, state_of, told_of};
+ghost use Rattle.node_ledger.specs.Ledgers.{HasFiles};
 ghost use Rattle.run_data.specs.Histories.{most_entries};
-ghost use Rattle.repo_node.specs.Stored.{HasNothing};
+ghost use Rattle.node_past.specs.Stored.{HasNothing};
 
-use crate::past::Past;
-use crate::setup::{Ended, Setup};
 use annex_base::{Call, Items, NoMemory, RepoId};
 use content_lock::LockTable;
 use link_ring::Links;
-use node_parts::{Parts, direct_entries_leave_rows, parts_stay, tables_fill_as_states};
+use node_ledger::Ledger;
+use node_parts::Parts;
+use node_past::{Ended, Setup};
+use node_steps::direct_entries_keep_parts;
 use object_store::{FailingKeeper, Keeper};
 use run_data::Entry;
 use std::alloc::Global;
 use std::marker::Model;
-use trust_groups::Settings;
 use union_merge::Branch;
 
 /// A repository of a run (own). It knows its own store, rows and branch, and of the others what reaches it over its ends. What
 /// it has is the state that its history leaves. It has tokens to spend, so it is dissolved and never dropped.
 pub struct Node<K: Keeper> {
-    pub(crate) keeper: K,
-    pub(crate) branch: Branch,
-    pub(crate) past: Past,
-    /// The index of the branch's settings; none after a line couldn't be added to it for want of memory.
-    pub(crate) index: Option<Settings>,
-    /// The places in the history of the entries whose lines are owed, the first to be paid first.
-    pub(crate) debts: Vec<usize>,
+    /// Its store, its branch, its history, and the lines that it owes the branch.
+    pub(crate) ledger: Ledger<K>,
     /// Its lock table, its ends, its sessions and its running jobs.
     pub(crate) parts: Parts,
 }
 
 impl<K: Keeper> Model for Node<K> {
-    ghost use Rattle.repo_node.specs.Nodes.{NodeView, HasFiles, told_of};
-    ghost use Rattle.repo_node.specs.Kept.{IsFed, IsKept};
-    ghost use Rattle.repo_node.specs.Indexed.{IsIndexed};
-    ghost use Rattle.repo_node.specs.Owing.{AreDebts, owed_at};
-    ghost use Rattle.content_lock.specs.Stored.{Agrees};
+    ghost use Rattle.node_steps.specs.Nodes.{NodeView, beside};
+    ghost use Rattle.node_steps.specs.Kept.{Stands};
 
     ghost Value = { NodeView K };
 
-    ghost view = { λ n. record { setup = n.past.setup; keeper = n.keeper; parts = n.parts; branch = n.branch; time = n.past.time; count = n.past.count; history = n.past.history.items; outcomes = n.past.outcomes.items; owed = owed_at n.past.setup.number n.past.history.items n.debts.items } };
+    ghost view = { λ n. beside n.parts n.ledger };
 
-    ghost invariant = { λ n. IsKept n.past.setup n.past.history.items n.parts n.branch (owed_at n.past.setup.number n.past.history.items n.debts.items) (told_of (K.contents n.keeper) (K.parts n.keeper))
-        × HasFiles (K.files n.keeper) n.branch × Agrees (K.records n.keeper) n.parts.table.holds × IsIndexed n.index n.branch × AreDebts n.past.setup.number n.past.history.items n.debts.items × IsFed (K.parts n.keeper) n.parts };
+    ghost invariant = { λ n. Stands n.ledger n.parts (K.contents n.ledger.keeper) (K.parts n.ledger.keeper) (K.records n.ledger.keeper) };
 }
 
 /// Copies of identifiers.
@@ -89,16 +81,10 @@ impl<K: Keeper> Node<K> {
             links,
         )?;
         // For the proof: a law, and that what the parts have of the table is sound.
-        parts_stay();
-        tables_fill_as_states();
-        direct_entries_leave_rows();
+        direct_entries_keep_parts();
         let _ = parts.table();
         Ok(Node {
-            keeper,
-            branch: Branch::new(alloc),
-            past: Past::new(alloc, setup),
-            index: Some(Settings::new(alloc)),
-            debts: Vec::new(alloc),
+            ledger: Ledger::new(alloc, setup, keeper),
             parts,
         })
     }
@@ -109,7 +95,7 @@ impl<K: Keeper> Node<K> {
         requires count { count < 2 ^ 61 }
         ensures { self.new ≡ record self.old { time = max self.old.time time; count = max self.old.count count } }
     {
-        self.past.advance(time, count);
+        self.ledger.advance(time, count);
     }
 
     /// Its entries, the oldest first. Its rows, its branch and its store are the state that they leave (own).
@@ -127,26 +113,26 @@ impl<K: Keeper> Node<K> {
     {
         // For the proof: what its parts have is sound.
         let _ = self.parts.table();
-        &self.past.history
+        self.ledger.history()
     }
 
     /// Its jobs that have ended, in the order of their ends.
     pub fn outcomes(&self) -> &[Ended]
         ensures { result.now ≡ self.now.outcomes }
     {
-        &self.past.outcomes
+        self.ledger.outcomes()
     }
 
     pub fn keeper(&self) -> &K
         ensures { result.now ≡ self.now.keeper }
     {
-        &self.keeper
+        self.ledger.keeper()
     }
 
     pub fn branch(&self) -> &Branch
         ensures { result.now ≡ self.now.branch }
     {
-        &self.branch
+        self.ledger.branch()
     }
 
     pub fn table(&self) -> &LockTable
@@ -159,16 +145,9 @@ impl<K: Keeper> Node<K> {
     pub fn dissolve(self) -> K
         ensures { result ≡ self.keeper }
     {
-        let Node {
-            keeper,
-            branch: _,
-            past: _,
-            index: _,
-            debts: _,
-            parts,
-        } = self;
+        let Node { ledger, parts } = self;
         parts.dissolve();
-        keeper
+        ledger.dissolve()
     }
 }
 
@@ -184,6 +163,6 @@ impl<K: FailingKeeper> Node<K> {
         ensures faults { K.faults self.new.keeper ≡ K.faults self.old.keeper }
         ensures rest { self.new ≡ record self.old { keeper = self.new.keeper } }
     {
-        self.keeper.fail_next(call)
+        self.ledger.fail_next(call)
     }
 }

@@ -2,7 +2,7 @@
 use Rattle.std.proofs.Common.{◌≡◌, ℕ, Err, ap, subst, ◌∙◌}
 use Rattle.branch_bundle.specs.Bundle.{IsFirstWrong}
 use Rattle.branch_bundle.specs.declared.fault.BundleFault.{BundleFault}
-use Rattle.repo_node.specs.declared.refused.NodeRefused.TheVariants as refusals
+use Rattle.node_past.specs.declared.refused.NodeRefused.TheVariants as refusals
 use Rattle.repo_node.proofs.merging.read.Goals as goal
 
 same_place : (at other : ℕ) → refusals.BadBundle at ≡ refusals.BadBundle other → at ≡ other

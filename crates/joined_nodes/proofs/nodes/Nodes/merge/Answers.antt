@@ -4,7 +4,7 @@ use Rattle.std.proofs.lemmas.Option.{same_Some}
 use Rattle.std.proofs.lemmas.Result.{err_from_is_err_and}
 use Rattle.branch_bundle.specs.Bundle.{IsBundle}
 use Rattle.repo_node.specs.Walks.{StopsAfter, merge_files}
-use Rattle.repo_node.specs.declared.refused.NodeRefused.TheVariants as refusals
+use Rattle.node_past.specs.declared.refused.NodeRefused.TheVariants as refusals
 use Rattle.joined_nodes.proofs.Keeping.{Keeps, merge_keeps, stay_paired, walk_keeps}
 use Rattle.joined_nodes.proofs.Staying.{at_node, others_stay, read_at, whole_at}
 use Rattle.joined_nodes.proofs.nodes.Nodes.merge.Goals as goal

@@ -1,61 +1,43 @@
 -- What the proof of `node::Node::step` needs beside the tactics.
-use Rattle.std.proofs.Common.{OnErr, sym, ap, subst, ◌∙◌}
-use Rattle.repo_node.specs.Nodes.{told_of}
-use Rattle.repo_node.specs.Stored.{TellsSame, store_view}
-use Rattle.repo_node.proofs.TurnLemmas.{adds_over, first_served, owed_first, still_is, then_acted}
+use Rattle.std.proofs.Common.{◌≡◌, IfOk, OnErr, subst}
+use Rattle.std.specs.Option.{ForSome}
+use Rattle.node_ends.specs.Joined.{StayPaired}
+use Rattle.node_model.specs.Step.{step}
+use Rattle.node_past.specs.Stored.{TellsSame, store_view}
+use Rattle.node_steps.specs.Nodes.{beside, told_of}
+use Rattle.node_steps.specs.Stepping.{AddsIf, MovesSo}
+use Rattle.node_steps.specs.TurnCalls.{step_calls}
 use Rattle.repo_node.proofs.node.Node.step.Goals as goal
-
-pub returns-then-owes-clause-step : goal.returns-then-owes-clause-step
-returns-then-owes-clause-step g c =
-    let n = c.args.self.now in
-    let w = c.pay_first in
-    let m = w.new.self in
-    owed_first w.result (store_view (g.K.Keeper.contents n.keeper) (g.K.Keeper.parts n.keeper) (g.K.Keeper.failing n.keeper) (g.K.Keeper.faults n.keeper))
-    (store_view (g.K.Keeper.contents m.keeper) (g.K.Keeper.parts m.keeper) (g.K.Keeper.failing m.keeper) (g.K.Keeper.faults m.keeper))
-    n m (told_of (g.K.Keeper.contents n.keeper) (g.K.Keeper.parts n.keeper)) w.ensures.made w.ensures.step
-
-pub returns-then-served-clause-step : goal.returns-then-served-clause-step
-returns-then-served-clause-step g c =
-    let n = c.args.self.now in
-    let m = c.serve.new.self in
-    let it = c.in_ok-served in
-    first_served it.served (store_view (g.K.Keeper.contents n.keeper) (g.K.Keeper.parts n.keeper) (g.K.Keeper.failing n.keeper) (g.K.Keeper.faults n.keeper))
-    (store_view (g.K.Keeper.contents m.keeper) (g.K.Keeper.parts m.keeper) (g.K.Keeper.failing m.keeper) (g.K.Keeper.faults m.keeper))
-    n m (told_of (g.K.Keeper.contents n.keeper) (g.K.Keeper.parts n.keeper)) c.history.ensures.state (sym c.owes.ensures ∙ c.if-owes.false) c.if-served.true it.ensures.step
-
-pub returns-clause-step : goal.returns-clause-step
-returns-clause-step g c =
-    let n = c.args.self.now in
-    let m = c.serve.new.self in
-    let it = c.in_ok-served in
-    let same = still_is it.served n.parts.links (store_view (g.K.Keeper.contents n.keeper) (g.K.Keeper.parts n.keeper) (g.K.Keeper.failing n.keeper) (g.K.Keeper.faults n.keeper))
-    (store_view (g.K.Keeper.contents m.keeper) (g.K.Keeper.parts m.keeper) (g.K.Keeper.failing m.keeper) (g.K.Keeper.faults m.keeper))
-    n m c.if-served.false it.ensures.adds in
-    then_acted (λ x. store_view (g.K.Keeper.contents x) (g.K.Keeper.parts x) (g.K.Keeper.failing x) (g.K.Keeper.faults x))
-    c.act.result it.served (store_view (g.K.Keeper.contents m.keeper) (g.K.Keeper.parts m.keeper) (g.K.Keeper.failing m.keeper) (g.K.Keeper.faults m.keeper))
-    n m c.act.new.self (told_of (g.K.Keeper.contents n.keeper) (g.K.Keeper.parts n.keeper)) (told_of (g.K.Keeper.contents m.keeper) (g.K.Keeper.parts m.keeper))
-    c.history.ensures.state (sym c.owes.ensures ∙ c.if-owes.false) c.if-served.false it.ensures.step same (ap (λ v. told_of (g.K.Keeper.contents v.keeper) (g.K.Keeper.parts v.keeper)) same) c.act.ensures.step
 
 pub returns-clause-adds : goal.returns-clause-adds
 returns-clause-adds g c =
-    let n = c.args.self.now in
-    let m = c.serve.new.self in
-    let it = c.in_ok-served in
-    let same = still_is it.served n.parts.links (store_view (g.K.Keeper.contents n.keeper) (g.K.Keeper.parts n.keeper) (g.K.Keeper.failing n.keeper) (g.K.Keeper.faults n.keeper))
-    (store_view (g.K.Keeper.contents m.keeper) (g.K.Keeper.parts m.keeper) (g.K.Keeper.failing m.keeper) (g.K.Keeper.faults m.keeper))
-    n m c.if-served.false it.ensures.adds in
-    adds_over (λ x. store_view (g.K.Keeper.contents x) (g.K.Keeper.parts x) (g.K.Keeper.failing x) (g.K.Keeper.faults x))
-    c.act.result n m c.act.new.self same c.act.ensures.adds
+    let i = c.self.inside in
+    let w = c.step in
+    let last = w.new.ledger in
+    subst (λ v. IfOk w.result (λ b. AddsIf b v.parts.links (store_view (g.K.Keeper.contents v.keeper) (g.K.Keeper.parts v.keeper) (g.K.Keeper.failing v.keeper) (g.K.Keeper.faults v.keeper)) (store_view (g.K.Keeper.contents last.keeper) (g.K.Keeper.parts last.keeper) (g.K.Keeper.failing last.keeper) (g.K.Keeper.faults last.keeper)) v (beside w.new.parts w.new.ledger))) c.self.view_is w.ensures.adds
+
+pub returns-clause-step : goal.returns-clause-step
+returns-clause-step g c =
+    let i = c.self.inside in
+    let w = c.step in
+    let last = w.new.ledger in
+    subst (λ v. IfOk w.result (λ b. ForSome (told_of (g.K.Keeper.contents v.keeper) (g.K.Keeper.parts v.keeper)) (λ x. MovesSo b step step_calls (store_view (g.K.Keeper.contents v.keeper) (g.K.Keeper.parts v.keeper) (g.K.Keeper.failing v.keeper) (g.K.Keeper.faults v.keeper)) (store_view (g.K.Keeper.contents last.keeper) (g.K.Keeper.parts last.keeper) (g.K.Keeper.failing last.keeper) (g.K.Keeper.faults last.keeper)) v (beside w.new.parts w.new.ledger)))) c.self.view_is w.ensures.step
 
 pub returns-clause-err_store : goal.returns-clause-err_store
 returns-clause-err_store g c =
-    let n = c.args.self.now in
-    let m = c.act.new.self in
-    let w = c.serve in
-    let it = c.in_ok-served in
-    let same = still_is it.served n.parts.links (store_view (g.K.Keeper.contents n.keeper) (g.K.Keeper.parts n.keeper) (g.K.Keeper.failing n.keeper) (g.K.Keeper.faults n.keeper))
-    (store_view (g.K.Keeper.contents w.new.self.keeper) (g.K.Keeper.parts w.new.self.keeper) (g.K.Keeper.failing w.new.self.keeper) (g.K.Keeper.faults w.new.self.keeper))
-    n w.new.self c.if-served.false it.ensures.adds in
-    subst (λ v. OnErr c.act.result (TellsSame (g.K.Keeper.contents v.keeper) (g.K.Keeper.contents m.keeper) (g.K.Keeper.parts v.keeper) (g.K.Keeper.parts m.keeper) (g.K.Keeper.records v.keeper) (g.K.Keeper.records m.keeper)
-    (g.K.Keeper.files v.keeper) (g.K.Keeper.files m.keeper) (g.K.Keeper.failing v.keeper) (g.K.Keeper.failing m.keeper)))
-    same c.act.ensures.err_store
+    let i = c.self.inside in
+    let w = c.step in
+    let last = w.new.ledger in
+    subst (λ v. OnErr w.result (TellsSame (g.K.Keeper.contents v.keeper) (g.K.Keeper.contents last.keeper) (g.K.Keeper.parts v.keeper) (g.K.Keeper.parts last.keeper) (g.K.Keeper.records v.keeper) (g.K.Keeper.records last.keeper) (g.K.Keeper.files v.keeper) (g.K.Keeper.files last.keeper) (g.K.Keeper.failing v.keeper) (g.K.Keeper.failing last.keeper))) c.self.view_is w.ensures.err_store
+
+pub returns-clause-paired : goal.returns-clause-paired
+returns-clause-paired g c =
+    let i = c.self.inside in
+    let w = c.step in
+    subst (λ v. StayPaired v.parts.links w.new.parts.links) c.self.view_is w.ensures.paired
+
+pub returns-clause-err : goal.returns-clause-err
+returns-clause-err g c =
+    let i = c.self.inside in
+    let w = c.step in
+    subst (λ v. OnErr w.result ((beside w.new.parts w.new.ledger) ≡ record v { keeper = w.new.ledger.keeper })) c.self.view_is w.ensures.err

@@ -1,8 +1,9 @@
 -- What the proof of `node::Node::turn` needs beside the tactics.
-use Rattle.std.proofs.Common.{sym, ap, subst, ◌∙◌}
-use Rattle.repo_node.specs.Nodes.{told_of}
-use Rattle.repo_node.specs.Stored.{TellsSame, store_view}
-use Rattle.repo_node.proofs.TurnLemmas.{full_idles, full_steps, tells_same, turn_adds, turn_idle, turn_steps, where_short, where_still}
+use Rattle.std.proofs.Common.{◌≡◌, ◌≤◌, ℕ, length, sym, ap, subst, ◌∙◌}
+use Rattle.node_steps.specs.Nodes.{told_of}
+use Rattle.run_data.specs.Histories.{most_entries}
+use Rattle.node_past.specs.Stored.{TellsSame, store_view}
+use Rattle.repo_node.proofs.TurnLemmas.{full_idles, full_so, full_steps, tells_same, turn_adds, turn_idle, turn_steps, where_short, where_still}
 use Rattle.repo_node.proofs.node.Node.turn.Goals as goal
 
 pub returns-then-is_full-clause-idle : goal.returns-then-is_full-clause-idle
@@ -59,3 +60,10 @@ returns-clause-short g c = λ is.
     let m = c.step.new.self in
     subst (λ k. TellsSame (g.K.Keeper.contents k) (g.K.Keeper.contents m.keeper) (g.K.Keeper.parts k) (g.K.Keeper.parts m.keeper) (g.K.Keeper.records k) (g.K.Keeper.records m.keeper) (g.K.Keeper.files k) (g.K.Keeper.files m.keeper) (g.K.Keeper.failing k) (g.K.Keeper.failing m.keeper))
     (ap (λ v. v.keeper) c.drop_old.ensures.links) (where_short c.step.result (sym c.turn_of.ensures ∙ is) c.step.ensures.err_store)
+
+pub returns-then-is_full-clause-full : goal.returns-then-is_full-clause-full
+returns-then-is_full-clause-full g c = λ is.
+    let h = c.self.inside.ledger.history in
+    let same : length h ≡ length c.args.self.now.history = ap (λ v. length v.history) (c.self.view_is ∙ c.drop_old.ensures.links) in
+    let most : length h ≤ most_entries = subst (λ (n : ℕ). n ≤ most_entries) (ap (λ v. length v.history) (sym c.self.view_is)) c.history.ensures.few in
+    full_so (length h) (length c.args.self.now.history) (sym c.is_full.ensures ∙ c.if-is_full.true) most same

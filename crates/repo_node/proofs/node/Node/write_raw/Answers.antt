@@ -1,28 +1,44 @@
 -- What the proof of `node::Node::write_raw` needs beside the tactics.
-use Rattle.std.proofs.Common.{[], ◌∷◌}
-use Rattle.run_data.specs.Files.{file_of}
-use Rattle.repo_node.proofs.LogLemmas.{ok_told}
+use Rattle.std.proofs.Common.{OnOk, IfErr, subst, ◌≡◌, [], ◌∷◌, true}
 use Rattle.annex_base.specs.declared.kinds.Call.TheVariants.{PutFile}
-use Rattle.repo_node.specs.Calls.{to_log}
-use Rattle.repo_node.proofs.CallLemmas.{makes_short}
-use Rattle.repo_node.proofs.WalkCallLemmas.{lacks_as, logged_as}
+use Rattle.node_steps.specs.Nodes.{beside, told_of}
+use Rattle.node_steps.proofs.KeptLemmas.{kept_lines, stands_so}
+use Rattle.repo_node.proofs.BesideLemmas.{err_so, ok_lines}
+use Rattle.run_data.specs.Files.{file_of}
+use Rattle.node_ledger.specs.Logs.{with_lines}
+use Rattle.node_ledger.specs.Refusals.{RefusesSo}
+use Rattle.node_ledger.specs.Calls.{lacks_some, to_log}
+use Rattle.node_past.specs.Calls.{Makes}
 use Rattle.repo_node.proofs.node.Node.write_raw.Goals as goal
 
-pub add_lines-requires : goal.add_lines-requires
-add_lines-requires g c = c.in_ok-file.ensures.path c.requires.path
+pub invariant_of-self : goal.invariant_of-self
+invariant_of-self g c =
+    let i = c.self.inside in
+    let w = c.write_raw in
+    stands_so i.ledger w.new.self i.parts (g.K.Keeper.contents i.ledger.keeper) (g.K.Keeper.contents w.new.self.keeper) (g.K.Keeper.parts i.ledger.keeper) (g.K.Keeper.parts w.new.self.keeper) (g.K.Keeper.records i.ledger.keeper) (g.K.Keeper.records w.new.self.keeper) w.ensures.contents w.ensures.parts w.ensures.records
+    (kept_lines w.result i.ledger w.new.self i.parts (told_of (g.K.Keeper.contents i.ledger.keeper) (g.K.Keeper.parts i.ledger.keeper)) (file_of c.args.path.now) (c.args.line.now ∷ []) c.files_are_changed_alone.ensures.there c.files_are_changed_alone.ensures.other (c.direct_entries_keep_parts.ensures i.parts c.table.ensures.sound) w.ensures.ok w.ensures.err) c.self.invariant
 
 pub returns-clause-ok : goal.returns-clause-ok
 returns-clause-ok g c =
-    ok_told c.add_lines.result c.args.self.now c.add_lines.new.self c.in_ok-file.file (file_of c.args.path.now) c.in_ok-lines.lines (c.args.line.now ∷ []) c.in_ok-file.ensures.value c.in_ok-lines.ensures c.add_lines.ensures.ok
+    let i = c.self.inside in
+    let w = c.write_raw in
+    subst (λ v. OnOk w.result (beside i.parts w.new.self ≡ with_lines v w.new.self.keeper (file_of c.args.path.now) (c.args.line.now ∷ []))) c.self.view_is
+    (ok_lines w.result i.parts i.ledger w.new.self (file_of c.args.path.now) (c.args.line.now ∷ []) w.ensures.ok)
 
-pub returns-in_err-lines-clause-calls : goal.returns-in_err-lines-clause-calls
-returns-in_err-lines-clause-calls g c = makes_short (to_log c.args.self.now (file_of c.args.path.now) (c.args.line.now ∷ [])) PutFile c.from_residual.result (g.K.Keeper.failing c.args.self.now.keeper) c.from_residual.ensures.1
-
-pub returns-in_err-file-clause-calls : goal.returns-in_err-file-clause-calls
-returns-in_err-file-clause-calls g c = makes_short (to_log c.args.self.now (file_of c.args.path.now) (c.args.line.now ∷ [])) PutFile c.from_residual-in_err-file.result (g.K.Keeper.failing c.args.self.now.keeper) c.from_residual-in_err-file.ensures.1
+pub returns-clause-err : goal.returns-clause-err
+returns-clause-err g c =
+    let i = c.self.inside in
+    let w = c.write_raw in
+    subst (λ v. IfErr w.result (λ e. RefusesSo e PutFile v (beside i.parts w.new.self))) c.self.view_is (err_so w.result i.parts PutFile i.ledger w.new.self w.ensures.err)
 
 pub returns-clause-calls : goal.returns-clause-calls
-returns-clause-calls g c = logged_as c.add_lines.result c.args.self.now c.in_ok-file.file (file_of c.args.path.now) c.in_ok-lines.lines (c.args.line.now ∷ []) (g.K.Keeper.failing c.args.self.now.keeper) (g.K.Keeper.failing c.add_lines.new.self.keeper) c.in_ok-file.ensures.value c.in_ok-lines.ensures c.add_lines.ensures.calls
+returns-clause-calls g c =
+    let i = c.self.inside in
+    let w = c.write_raw in
+    subst (λ v. Makes (to_log v (file_of c.args.path.now) (c.args.line.now ∷ [])) PutFile w.result (g.K.Keeper.failing v.keeper) (g.K.Keeper.failing w.new.self.keeper)) c.self.view_is w.ensures.calls
 
 pub returns-clause-full : goal.returns-clause-full
-returns-clause-full g c = λ full. lacks_as c.args.self.now c.in_ok-file.file (file_of c.args.path.now) c.in_ok-lines.lines (c.args.line.now ∷ []) c.in_ok-file.ensures.value c.in_ok-lines.ensures (c.add_lines.ensures.full full)
+returns-clause-full g c =
+    let i = c.self.inside in
+    let w = c.write_raw in
+    λ full. subst (λ v. lacks_some v (file_of c.args.path.now) (c.args.line.now ∷ []) ≡ true) c.self.view_is (w.ensures.full full)

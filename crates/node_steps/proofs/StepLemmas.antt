@@ -1,0 +1,281 @@
+-- What stands beside a history stays so after a step of its sessions or its jobs.
+use Rattle.std.proofs.Common.{◌≡◌, ℕ, ◌<◌, ◌+◌, Bool, true, false, List, [], ◌∷◌, ◌++◌, All, Option, Some, None, length, map, reverse, find, is_some, refl, sym, subst, arith, ◌∙◌, ap}
+use Rattle.std.specs.Prelude.{◌==◌, if◌then◌else◌, flat_map, option_to_list}
+use Rattle.std.specs.Option.{ForSome}
+use Rattle.std.proofs.lemmas.List.{length-append, length-reverse, reverse-append}
+use Rattle.annex_base.specs.Lists.{Each}
+use Rattle.annex_base.specs.declared.kinds.Call.{Call}
+use Rattle.annex_base.specs.declared.kinds.Call.TheVariants.{PutFile}
+use Rattle.annex_base.specs.declared.kinds.Word.{Word}
+use Rattle.annex_base.proofs.Conditions.{by_test}
+use Rattle.p2p_wire.specs.declared.message.Message.{Message}
+use Rattle.run_data.specs.declared.entry.Entry.{Entry}
+use Rattle.run_data.specs.declared.entry.EntryKind.{EntryKind}
+use Rattle.run_data.specs.declared.entry.EntryKind.TheVariants.{Crash, Fault, Gain, Gone, Log, Talk}
+use Rattle.run_data.specs.declared.entry.By.{By}
+use Rattle.run_data.specs.declared.entry.By.TheVariants.{Script, Job as by_job, Peer}
+use Rattle.run_data.specs.declared.entry.FrameView.{FrameView}
+use Rattle.run_data.specs.declared.run.RepoView.{RepoView}
+use Rattle.object_store.specs.Stores.{Contents, Parts as StoredParts}
+use Rattle.content_lock.specs.Rows.{is_filling}
+use Rattle.union_merge.specs.Branch.{Files}
+use Rattle.drop_worker.specs.Feeding.{FitsLocal}
+use Rattle.drop_worker.specs.Working.{failed_in, phase_as}
+use Rattle.drop_phases.specs.declared.phase.Phase.{Phase}
+use Rattle.drop_phases.specs.declared.phase.Phase.TheVariants as phases
+use Rattle.drop_phases.specs.declared.phase.Token.{Token}
+use Rattle.link_ring.specs.Ends.{EndView}
+use Rattle.node_ends.specs.Ends.{SeesEnds, hand_at, room_at}
+use Rattle.node_model.specs.After.{clock_after, state_after, states}
+use Rattle.node_model.specs.AnyTime.{all_ends}
+use Rattle.node_model.specs.Jobs.{Work}
+use Rattle.node_model.specs.Look.{Look, entry_of}
+use Rattle.node_model.specs.OwedLines.{OwedLine, owed_after, owed_without, told_frame, told_line, told_to}
+use Rattle.node_model.specs.Rows.{bar_after, holds_after}
+use Rattle.node_model.specs.Sessions.{line_in}
+use Rattle.node_model.specs.SessionStep.{is_filled}
+use Rattle.node_model.specs.SetUp.{SetUp}
+use Rattle.node_model.specs.State.{State}
+use Rattle.node_jobs.specs.Places.{PlaceView}
+use Rattle.node_jobs.specs.Running.{DropJob, IsDrop, work_now}
+use Rattle.node_parts.specs.declared.done.Done.{Done}
+use Rattle.node_parts.specs.Kinds.{IsQuiet}
+use Rattle.node_parts.specs.Parts.{AreParts, HasContents, PartsView}
+use Rattle.node_parts.specs.Sound.{AreSound}
+use Rattle.node_parts.specs.Steps.{AsksPart, Fails, HasPart, Hears, IsPartAsked, Leaves, SeesParts, Steps, words_heard}
+use Rattle.node_past.specs.declared.setup.Setup.{Setup}
+use Rattle.node_steps.specs.Kept.{IsKept}
+use Rattle.node_steps.specs.Nodes.{MatchesSetup, IsState, IsStateOfParts, state_of, told_of}
+use Rattle.node_past.specs.Owing.{owed_by}
+use Rattle.node_steps.specs.Turning.{Stepper}
+
+-- ---- what laws say
+
+abbrev pub FillLaw : Type 0
+FillLaw = (s : SetUp) (st : State) (p : PartsView) (key : List ℕ) → AreSound p → AreParts s st p → is_filling p.table key ≡ is_filled s st key
+
+abbrev pub CountLaw : Type 0
+CountLaw = (s : SetUp) (h : List Entry) → (states s h).made ≡ length h
+
+-- ---- the lines that are owed after a step
+
+without_none : (call : Call) (by : By) → owed_without call by [] ≡ []
+without_none PutFile Script = refl
+without_none PutFile (by_job job) = refl
+without_none PutFile (Peer peer slot) = refl
+without_none _ by = refl
+
+-- where none was owed, and a job was told of no copy, there is the entry's own
+owes_own : (repos : List RepoView) (lines : List ℕ → List (List ℕ)) (clock : ℕ) (ws : List Work) (r : ℕ) (e : Entry) (kind : EntryKind)
+    → ((job : ℕ) → told_frame (find (λ w. w.number == job) ws) e.taken ≡ []) → owed_after repos lines clock ws r [] e kind ≡ owed_by r kind
+owes_own repos lines clock ws r e (Gain by size key) none = refl
+owes_own repos lines clock ws r e (Gone by key) none = refl
+owes_own repos lines clock ws r e (Log file) none = refl
+owes_own repos lines clock ws r e (Talk (Some job)) none = none job
+owes_own repos lines clock ws r e (Talk None) none = refl
+owes_own repos lines clock ws r e (Fault call by) none = without_none call by
+owes_own repos lines clock ws r e (Crash to) none = refl
+owes_own repos lines clock ws r e _ none = refl
+
+-- a job that drops its own copy is told of no other
+untold_in : (w : Work) (phase : Phase) (token : Token) (m : Message) → FitsLocal phase token → told_to w (phase_as phase) m ≡ []
+untold_in w phases.Fresh token m fits = refl
+untold_in w phases.Next token m fits = refl
+untold_in w (phases.Opens peer) token m fits = refl
+untold_in w (phases.Greets peer) token m fits = refl
+untold_in w (phases.AsksLock peer since) token m fits = refl
+untold_in w (phases.AsksLook peer) token m fits = refl
+untold_in w phases.AsksTime token m fits = absurd fits
+untold_in w phases.Orders token m fits = absurd fits
+untold_in w phases.Removed token m fits = refl
+untold_in w phases.Denied token m fits = absurd fits
+untold_in w (phases.Late time) token m fits = absurd fits
+untold_in w (phases.Ends why) token m fits = refl
+
+untold_line : (p : PlaceView) (j : DropJob) (m : Option Message) → IsDrop p j → told_line (work_now j) m ≡ []
+untold_line p j None drop = refl
+untold_line p j (Some m) drop = untold_in (work_now j) j.worker.phase j.worker.token m drop.fits
+
+untold_frame : (p : PlaceView) (j : DropJob) (f : Option FrameView) → IsDrop p j → told_frame (Some (work_now j)) f ≡ []
+untold_frame p j None drop = refl
+untold_frame p j (Some f) drop = untold_line p j (line_in f.body) drop
+
+untold : (p : PlaceView) (js : List DropJob) (job : ℕ) (f : Option FrameView) → Each (IsDrop p) js → told_frame (find (λ (w : Work). w.number == job) (map work_now js)) f ≡ []
+untold p [] job f drops = refl
+untold p (j ∷ js) job f drops = by_test (j.worker.number == job)
+    (λ same. ap (λ (b : Bool). told_frame (if b then Some (work_now j) else find (λ (w : Work). w.number == job) (map work_now js)) f) same ∙ untold_frame p j f drops.0)
+    (λ other. ap (λ (b : Bool). told_frame (if b then Some (work_now j) else find (λ (w : Work). w.number == job) (map work_now js)) f) other ∙ untold p js job f drops.1)
+
+-- ---- the look of a node
+
+abbrev pub look_of : List EndView → SetUp → ℕ → ℕ → EntryKind → ℕ → Bool → (ℕ → Option Word) → Look
+look_of links s time count kind part right words = record {
+  time = time;
+  count = count;
+  at_hand = flat_map (λ a. option_to_list (hand_at links a)) (all_ends s);
+  room = room_at links;
+  fails = failed_in kind;
+  part = part;
+  right = right;
+  words = words;
+}
+
+pub look_sees : (links : List EndView) (s : SetUp) (time count : ℕ) (kind : EntryKind) (part : ℕ) (right : Bool) (words : ℕ → Option Word) → SeesEnds links s (look_of links s time count kind part right words)
+look_sees links s time count kind part right words = record { at_hand = refl; room = λ a there. refl }
+
+-- ---- what is told
+
+some_known : (o : Option Contents) (b : Bool) → is_some o ≡ true → (c : Contents) × (o ≡ Some c)
+some_known None b told = absurd cc
+some_known (Some c) b told = (c, refl)
+
+pub told_some : (cs : Option Contents) (qs : Option StoredParts) (c : Contents) → told_of cs qs ≡ Some c → (cs ≡ Some c) × (is_some qs ≡ true)
+told_some cs None c told = absurd cc
+told_some cs (Some q) c told = (told, refl)
+
+pub told_known : (cs : Option Contents) (qs : Option StoredParts) (c : Contents) → cs ≡ Some c → is_some qs ≡ true → told_of cs qs ≡ Some c
+told_known cs None c known there = absurd cc
+told_known cs (Some q) c known there = known
+
+-- what is told after a step was told before it
+pub told_before : (cs cs' : Option Contents) (qs qs' : Option StoredParts) (c' : Contents) → is_some qs' ≡ is_some qs → (is_some qs ≡ true → is_some cs' ≡ is_some cs) → told_of cs' qs' ≡ Some c' → (c : Contents) × (told_of cs qs ≡ Some c)
+told_before cs cs' qs qs' c' parts contents told =
+    let now = told_some cs' qs' c' told in
+    let there : is_some qs ≡ true = sym parts ∙ now.1 in
+    let found = some_known cs true (sym (contents there) ∙ ap (λ (o : Option Contents). is_some o) now.0) in
+    (found.0, told_known cs qs found.0 found.1 there)
+
+-- ---- what parts and a store that tells are
+
+pub sees_parts : CountLaw → (setup : Setup) (h : List Entry) (parts : PartsView) (branch : Files) (owed : List OwedLine) (told : Option Contents) (c : Contents) (time number : ℕ) (s : SetUp) (k : Look)
+    → IsKept setup h parts branch owed told → told ≡ Some c → number ≡ length h + 1 → MatchesSetup setup s → SeesEnds parts.links s k → k.time ≡ time
+    → SeesParts parts c (record { at = 0; to = setup.offset }) time number s (state_of s h) k
+sees_parts law setup h parts branch owed told c time number s k kept is count fits ends at = record {
+  parts = ((kept.state s fits).stands c is).parts_are;
+  stored = ((kept.state s fits).stands c is).stored;
+  ticks = kept.clock s fits;
+  number = count ∙ sym (ap (λ (n : ℕ). n + 1) (law s (reverse h) ∙ length-reverse h));
+  ends = ends;
+  time = at;
+}
+
+-- ---- a step of these
+
+-- this is so of each state that the history leaves, at each look that finds what belongs to a step
+abbrev pub WhereDone : PartsView → Contents → Option StoredParts → Setup → List Entry → ℕ → Option Done → (SetUp → State → Look → Type 0) → Type 0
+WhereDone was c known setup h time o P =
+    (s : SetUp) (k : Look) → MatchesSetup setup s → SeesParts was c (record { at = 0; to = setup.offset }) time (length h + 1) s (state_of s h) k → Fails o k → AsksPart known was o k → Hears was o k → P s (state_of s h) k
+
+-- it is the step there, and the store has the part that it asks for
+pub record DoesBy (step : Stepper) (was now : PartsView) (c : Contents) (known : Option StoredParts) (contents : Option Contents) (setup : Setup) (h : List Entry) (time : ℕ) (o : Option Done) : Type 0 where
+  pub part : ForSome o (λ d. HasPart known was d.taken)
+  pub does : WhereDone was c known setup h time o (λ s st k. Steps step now contents s st k o)
+
+abbrev pub entry_done : Setup → ℕ → ℕ → Done → Entry
+entry_done setup time count d = record { time = time; count = count; repo = Some setup.number; kind = d.kind; taken = d.taken; sent = d.sent; lines = [] }
+
+pub state_more : (s : SetUp) (h : List Entry) (e : Entry) → state_of s (h ++ e ∷ []) ≡ state_after s (state_of s h) e
+state_more s h e = ap (states s) (reverse-append h (e ∷ []))
+
+clock_stays : (was : ℕ → ℕ) (time : ℕ) (kind : EntryKind) → ((clock : ℕ) → kind ≡ Crash clock → ⊥) → clock_after was time kind ≡ was
+clock_stays was time (Crash clock) none = absurd (none clock refl)
+clock_stays was time _ none = refl
+
+module _ (step : Stepper) (setup : Setup) (h : List Entry) (was now : PartsView) (branch : Files) (cs cs' : Option Contents) (qs qs' : Option StoredParts) (time count : ℕ) (d : Done)
+    (fills : FillLaw) (law : CountLaw) (sound : AreSound was) (sound' : AreSound now) (kept : IsKept setup h was branch [] (told_of cs qs))
+    (leaves : Leaves (length h + 1) was now d) (quiet : IsQuiet d.kind)
+    (does : ForSome (told_of cs qs) (λ c. DoesBy step was now c qs cs' setup h time (Some d)))
+    (told_parts : is_some qs' ≡ is_some qs) (told_contents : is_some qs ≡ true → is_some cs' ≡ is_some cs) where
+  abbrev made_by : Entry
+  made_by = entry_done setup time count d
+
+  -- the step, at the node's look
+  module _ (s : SetUp) (fits : MatchesSetup setup s) (c : Contents) (told : told_of cs qs ≡ Some c) where
+    abbrev by : DoesBy step was now c qs cs' setup h time (Some d)
+    by = does c told
+
+    abbrev has : HasPart qs was d.taken
+    has = by.part d refl
+
+    abbrev look : Look
+    look = look_of was.links s time count d.kind has.part has.right (words_heard was (Some d))
+
+    steps : Steps step now cs' s (state_of s h) look (Some d)
+    steps = by.does s look fits (sees_parts law setup h was branch [] (told_of cs qs) c time (length h + 1) s look kept told refl fits (look_sees was.links s time count d.kind has.part has.right (words_heard was (Some d))) refl)
+        (λ x is. ap (λ (y : Done). failed_in y.kind) (some_same d x is)) (λ x is. subst (λ (y : Done). IsPartAsked qs was y.taken has.part has.right) (some_same d x is) has.asked)
+        (λ x is. ap (λ (y : Done). words_heard was (Some y)) (some_same d x is))
+      where
+        some_same : (x y : Done) → Some x ≡ Some y → x ≡ y
+        some_same x y is = cc
+
+    same_entry : entry_of s.number look (record { kind = d.kind; taken = d.taken; sent = d.sent; lines = [] }) ≡ made_by
+    same_entry = ap (λ (r : ℕ). record { time = time; count = count; repo = Some r; kind = d.kind; taken = d.taken; sent = d.sent; lines = [] }) fits.number
+
+    owes : (state_after s (state_of s h) made_by).owed ≡ owed_by setup.number d.kind
+    owes =
+        let stands = (kept.state s fits).stands c told in
+        let st : State = state_of s h in
+        ap (λ (os : List OwedLine). owed_after s.repos st.lines (st.wall time) st.works s.number os made_by d.kind) stands.owed_are
+        ∙ owes_own s.repos st.lines (st.wall time) st.works s.number made_by d.kind
+        (λ job. ap (λ (ws : List Work). told_frame (find (λ w. w.number == job) ws) d.taken) stands.parts_are.works.works ∙ untold was.jobs.place was.jobs.running job d.taken sound.acting.drops)
+        ∙ ap (λ (r : ℕ). owed_by r d.kind) fits.number
+
+    stands_then : ForSome (told_of cs' qs') (λ c'. IsStateOfParts s now (owed_by setup.number d.kind) c' (state_after s (state_of s h) made_by))
+    stands_then c' is =
+        let parts : AreParts s (state_after s (state_of s h) made_by) now = subst (λ (e : Entry). AreParts s (state_after s (state_of s h) e) now) same_entry steps.parts in
+        record {
+          parts_are = parts;
+          fills = λ key. fills s (state_after s (state_of s h) made_by) now key sound' parts;
+          stored = subst (λ (e : Entry). HasContents c' (state_after s (state_of s h) e)) same_entry (steps.stored c' (told_some cs' qs' c' is).0);
+          owed_are = owes;
+        }
+
+  pub state_stepped : (s : SetUp) → MatchesSetup setup s → IsState s now branch (owed_by setup.number d.kind) (told_of cs' qs') (state_after s (state_of s h) made_by)
+  state_stepped s fits = record {
+    holds = leaves.holds ∙ ap (λ (x : List _). holds_after x d.kind) (kept.state s fits).holds;
+    bars = λ key. leaves.bars key ∙ ap (λ (x : Option ℕ). bar_after key x d.kind) ((kept.state s fits).bars key);
+    lines = λ path. (kept.state s fits).lines path ∙ sym (quiet.lines path ((state_of s h).lines path) []);
+    stands = λ c' is. let before = told_before cs cs' qs qs' c' told_parts told_contents is in stands_then s fits before.0 before.1 c' is;
+  }
+
+  pub kept_stepped : now.jobs.place ≡ was.jobs.place → now.jobs.begun ≡ was.jobs.begun → IsKept setup (h ++ made_by ∷ []) now branch (owed_by setup.number d.kind) (told_of cs' qs')
+  kept_stepped place begun = record {
+    state = λ s fits. subst (IsState s now branch (owed_by setup.number d.kind) (told_of cs' qs')) (sym (state_more s h made_by)) (state_stepped s fits);
+    clock = λ s fits. ap (λ (st : State). st.clock) (state_more s h made_by) ∙ clock_stays (state_of s h).clock time d.kind quiet.crashes ∙ kept.clock s fits;
+    numbered = subst (λ (n : ℕ). All (λ x. x.number < n + 1) now.table.holds) (sym (length-append h (made_by ∷ []))) leaves.numbers;
+    place = place ∙ kept.place;
+    begun = let few = kept.begun in let longer = length-append h (made_by ∷ []) in omega (arith, few, begun, longer);
+  }
+
+-- ---- no step
+
+-- the store may have been asked, and the rest is as it was
+pub kept_asked : (step : Stepper) (law : CountLaw) (setup : Setup) (h : List Entry) (was : PartsView) (branch : Files) (owed : List OwedLine) (cs cs' : Option Contents) (qs qs' : Option StoredParts) (time : ℕ)
+    → IsKept setup h was branch owed (told_of cs qs) → ForSome (told_of cs qs) (λ c. DoesBy step was was c qs cs' setup h time None) → is_some qs' ≡ is_some qs → (is_some qs ≡ true → is_some cs' ≡ is_some cs)
+    → IsKept setup h was branch owed (told_of cs' qs')
+kept_asked step law setup h was branch owed cs cs' qs qs' time kept does told_parts told_contents = record {
+  state = λ s fits.
+      let is = kept.state s fits in
+      record {
+        holds = is.holds;
+        bars = is.bars;
+        lines = is.lines;
+        stands = λ c' known.
+            let before = told_before cs cs' qs qs' c' told_parts told_contents known in
+            let stands = is.stands before.0 before.1 in
+            let look : Look = look_of was.links s time 0 (Talk None) 0 false (λ c. None) in
+            let steps = (does before.0 before.1).does s look fits
+            (sees_parts law setup h was branch owed (told_of cs qs) before.0 time (length h + 1) s look kept before.1 refl fits (look_sees was.links s time 0 (Talk None) 0 false (λ c. None)) refl)
+            (λ d is. absurd cc) (λ d is. absurd cc) (λ d is. absurd cc) in
+            record {
+              parts_are = stands.parts_are;
+              fills = stands.fills;
+              stored = steps.stored c' (told_some cs' qs' c' known).0;
+              owed_are = stands.owed_are;
+            };
+      };
+  clock = kept.clock;
+  numbered = kept.numbered;
+  place = kept.place;
+  begun = kept.begun;
+}

@@ -1,0 +1,54 @@
+-- One step of a node, of one of the three kinds; for private contracts.
+use Rattle.std.specs.Prelude.{◌≡◌, ℕ, Bool, true, false, List, [], ◌∷◌, ◌++◌, Option, Some, None, is_some, vec_len}
+use Rattle.run_data.specs.declared.entry.EntryKind.{EntryKind}
+use Rattle.run_data.specs.declared.entry.EntryKind.TheVariants.{Gain, Gone}
+use Rattle.link_ring.specs.Ends.{EndView}
+use Rattle.node_model.specs.Look.{Look}
+use Rattle.node_model.specs.SetUp.{SetUp}
+use Rattle.node_parts.specs.declared.done.Done.{Done}
+use Rattle.node_past.specs.declared.past.Past.{Past}
+use Rattle.node_past.specs.Owing.{is_debtor}
+use Rattle.node_steps.specs.Nodes.{MatchesSetup, NodeView, state_of}
+use Rattle.node_past.specs.Pasts.{Enters}
+use Rattle.node_past.specs.Stored.{StoreView}
+use Rattle.node_steps.specs.Turning.{Adds, Caller, Looks, Stepper, StepsBy, ended_by}
+
+-- these have no step, at any look of the node
+abbrev pub NoStep : {K : Type 0} → Stepper → NodeView K → Type 0
+NoStep step n = (s : SetUp) (k : Look) → MatchesSetup n.setup s → Looks n s k → step s (state_of s n.history) k ≡ None
+
+-- whether a step was made: where so, it was this one, and else there was none
+abbrev pub MovesSo : {K : Type 0} → Bool → Stepper → Caller → StoreView → StoreView → NodeView K → NodeView K → Type 0
+MovesSo true step caller before after was now = StepsBy step caller before after was now
+MovesSo false step caller before after was now = NoStep step was
+
+-- these have a step, at each look of the node, or none
+abbrev pub ReadySo : {K : Type 0} → Bool → Stepper → NodeView K → Type 0
+ReadySo b step n = (s : SetUp) (k : Look) → MatchesSetup n.setup s → Looks n s k → is_some (step s (state_of s n.history) k) ≡ b
+
+-- where a step was made, there is its entry; else the node is as it was
+abbrev pub AddsIf : {K : Type 0} → Bool → List EndView → StoreView → StoreView → NodeView K → NodeView K → Type 0
+AddsIf true links before after was now = Adds links before after was now
+AddsIf false links before after was now = now ≡ was
+
+-- ---- what is noted of its entry
+
+-- an entry of this kind owes a line
+abbrev pub owes_line : EntryKind → Bool
+owes_line (Gain by size key) = is_debtor by
+owes_line (Gone by key) = is_debtor by
+owes_line kind = false
+
+-- the place of an entry, where it owes a line
+abbrev pub place_if : Bool → ℕ → List ℕ
+place_if true place = place ∷ []
+place_if false place = []
+
+-- the past has the entry of this step
+abbrev pub EntersStep : Done → Past → Past → Type 0
+EntersStep d was now = Enters d.kind d.taken d.sent (ended_by d.kind (vec_len was.history)) was now
+
+-- the entry of a step, and the place of its debt, if a step was made
+abbrev pub EntersIf : Option Done → Past → Past → List ℕ → List ℕ → Type 0
+EntersIf None was now debts debts' = (now ≡ was) × (debts' ≡ debts)
+EntersIf (Some d) was now debts debts' = EntersStep d was now × (debts' ≡ debts ++ place_if (owes_line d.kind) (vec_len was.history))

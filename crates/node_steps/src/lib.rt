@@ -1,0 +1,9 @@
+//! The step of a node, of its ledger and of the parts beside it: a line that is owed, or the step of a session, or else of a job.
+#![tactic(auto)]
+
+mod entering;
+mod laws;
+mod stepping;
+
+pub use laws::direct_entries_keep_parts;
+pub use stepping::{is_ready, step};

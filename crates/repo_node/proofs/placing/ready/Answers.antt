@@ -1,6 +1,0 @@
--- What the proof of `placing::ready` needs beside the tactics.
-use Rattle.repo_node.proofs.GainLemmas.{ready_stops}
-use Rattle.repo_node.proofs.placing.ready.Goals as goal
-
-pub returns-clause-err : goal.returns-clause-err
-returns-clause-err c = ready_stops c.ready.result c.args.past.now c.ready.new.self c.ready.ensures.err
