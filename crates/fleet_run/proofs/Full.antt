@@ -198,9 +198,9 @@ pub record RefusesJob {K : Type 0} (n m : NodeView K) : Type 0 where
   pub full : length n.history ≡ most_entries
   pub free : length n.parts.jobs.running < 4
 
-pub refuses_job : {K : Type 0} (job : Job) (done : Result ℕ BeginRefused) (n m : NodeView K) → done ≡ Err begin_refusals.Full → BeginsJob job done n m → (IsErrOf done begin_refusals.Full → length n.history ≡ most_entries)
+pub refuses_job : {K : Type 0} (job : Job) (paths : List (List ℕ)) (done : Result ℕ BeginRefused) (n m : NodeView K) → done ≡ Err begin_refusals.Full → BeginsJob job paths done n m → (IsErrOf done begin_refusals.Full → length n.history ≡ most_entries)
     → RefusesJob n m
-refuses_job {K} job done n m is so full = record {
+refuses_job {K} job paths done n m is so full = record {
   node = subst (λ (a : Result ℕ BeginRefused). OnErr a (m ≡ n)) is so.err;
   full = full is;
   free = so.free (λ other. full_or_not (sym is ∙ other));

@@ -42,7 +42,9 @@ impl<K: FailingKeeper> Running<K> {
         fleets_stop_at_full_histories::<K>();
         let job = copied(job)?;
         let had = self.raise(repo);
-        let begun = self.nodes.begin(repo as usize, job);
+        // No line that is built names a path.
+        let paths = Items::new(self.alloc);
+        let begun = self.nodes.begin(repo as usize, job, paths);
         let line = self.after_begin(repo, begun);
         self.end_call(repo, had, line)
     }

@@ -1,5 +1,5 @@
 //! The nodes and the run, and how the run gets the entries of the nodes.
-ghost use Rattle.std.specs.Prelude.{◌≡◌, ◌+◌, ◌<◌, ◌≤◌, ◌^◌, ◌++◌, ℕ, drop, length, reverse, slice_get, take, Some, OnErr, OnOk};
+ghost use Rattle.std.specs.Prelude.{◌≡◌, [], ◌+◌, ◌<◌, ◌≤◌, ◌^◌, ◌++◌, ℕ, drop, length, reverse, slice_get, take, Some, OnErr, OnOk};
 ghost use Rattle.run_model.specs.Past.{now};
 ghost use Rattle.driver_model.specs.Driver.{newest_count};
 ghost use Rattle.driver_model.specs.Driving.{with_mark};
@@ -19,7 +19,8 @@ use run_data::{Entry, Run};
 use std::alloc::Global;
 use std::marker::Model;
 
-/// The nodes, and the run so far: copies of the entries that they made, in order.
+/// The nodes, and the run so far: copies of the entries that they made, in order. Its tree is empty, since no line that is built names a
+/// path.
 pub(crate) struct Running<K: FailingKeeper> {
     pub(crate) alloc: Global,
     pub(crate) nodes: Nodes<K>,
@@ -32,6 +33,8 @@ impl<K: FailingKeeper> Model for Running<K> {
     ghost Value = { FleetView K };
 
     ghost view = { λ f. record { nodes = f.nodes; run = f.run } };
+
+    ghost invariant = { λ f. f.run.tree ≡ [] };
 }
 
 /// Adds copies of the entries, or of some first ones.

@@ -1,5 +1,5 @@
 //! What jobs know of their repository's set-up, and its clock.
-ghost use Rattle.std.specs.Prelude.{◌≡◌, ◌+◌, ◌<◌, ◌^◌, length};
+ghost use Rattle.std.specs.Prelude.{◌≡◌, ◌+◌, ◌<◌, ◌^◌, Some, length, slice_get};
 ghost use Rattle.node_model.specs.Clocks.{runs_on};
 
 use annex_base::{Items, RepoId};
@@ -47,6 +47,13 @@ impl Place {
         ensures own { self.now.number < result }
     {
         self.ids.as_slice().len() as u32
+    }
+
+    /// The repository's identifier.
+    pub(crate) fn own(&self) -> RepoId
+        ensures { slice_get self.now.ids self.now.number ≡ Some result }
+    {
+        self.ids.as_slice()[self.number as usize]
     }
 
     pub fn ids(&self) -> &[RepoId]

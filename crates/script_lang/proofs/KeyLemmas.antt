@@ -33,11 +33,11 @@ use Rattle.script_words.specs.Contents.{content_of}
 use Rattle.script_words.specs.declared.key_word.KeyWord.{KeyWord}
 use Rattle.script_words.specs.declared.key_word.KeyWord.TheVariants.{OfKey, OfPath}
 use Rattle.script_commands.specs.declared.command.NamedKey.{NamedKey}
-use Rattle.script_commands.specs.declared.fault.LineFault.{LineFault}
-use Rattle.script_commands.specs.Context.{Context, is_placed}
+use Rattle.script_forms.specs.declared.fault.LineFault.{LineFault}
+use Rattle.script_forms.specs.Context.{Context, is_placed}
 use Rattle.script_lang.specs.Preconditions.{IsRepo, AreTwo, IsLineText, IsKnownKey, IsNamedKey, IsPath, IsNamedFile, IsLogFile, IsSmall}
-use Rattle.script_commands.specs.Steps
-use Rattle.script_commands.specs.Verify.{is_content_of}
+use Rattle.script_forms.specs.Steps
+use Rattle.script_forms.specs.Verify.{is_content_of}
 use Rattle.script_lang.proofs.StepLemmas.{Gives, Always, saying_gives, option_gives, next_stays, holds_some, other_gives, number_bounded, path_some}
 
 -- ---- keys

@@ -1,5 +1,5 @@
 -- What the proof of `running::Running::begins` needs beside the tactics.
-use Rattle.std.proofs.Common.{[], ap, refl, ◌∙◌}
+use Rattle.std.proofs.Common.{[], ap, refl, sym, ◌∙◌}
 use Rattle.repo_node.specs.Stored.{StoreView, store_view}
 use Rattle.fleet_run.proofs.Beginning.{BeginsJob, begins_go_so, local_peer}
 use Rattle.fleet_run.proofs.Called.{called, seen_as}
@@ -10,6 +10,7 @@ use Rattle.fleet_run.proofs.Starts.{always_err, call_ends, few_told, start_full,
 use Rattle.fleet_run.specs.AtDriver.{EndsAtFull}
 use Rattle.fleet_model.specs.Fleets.{FleetView}
 use Rattle.run_data.specs.declared.job.Job.{Job}
+use Rattle.run_data.specs.declared.run.Run.{Run}
 use Rattle.fleet_run.proofs.running.Running.begins.Goals as goal
 
 pub begin-begun-requires-clause-kind : goal.begin-begun-requires-clause-kind
@@ -23,7 +24,7 @@ end_call-requires-clause-had g c =
     let tells : g.row.K.Denot → StoreView = λ k. store_view (g.K.Keeper.contents k) (g.K.Keeper.parts k) (g.K.Keeper.failing k) (g.K.Keeper.faults k) in
     had_at_most tells c.args.repo c.raise-had.result c.args.self.now (record { nodes = c.self.inside.nodes; run = c.self.inside.run }) c.begin-begun.new.self
     (seen_as tells c.args.repo c.raise-had.result c.args.self.now c.raise-had.new.self c.self.inside.nodes c.self.inside.run c.self.view_is c.raise-had.ensures) c.requires.there
-    (λ n m at_n at_m. begin_grows c.in_ok-job.job c.begin-begun.result n m (record {
+    (λ n m at_n at_m. begin_grows c.in_ok-job.job c.new-paths.result c.begin-begun.result n m (record {
       number = c.begin-begun.ensures.number n m at_n at_m;
       ok = c.begin-begun.ensures.ok n m at_n at_m;
       slot = c.begin-begun.ensures.slot n m at_n at_m;
@@ -35,15 +36,16 @@ pub returns : goal.returns
 returns g c =
     let tells : g.row.K.Denot → StoreView = λ k. store_view (g.K.Keeper.contents k) (g.K.Keeper.parts k) (g.K.Keeper.failing k) (g.K.Keeper.faults k) in
     let called_now : FleetView g.row.K.Denot = record { nodes = c.begin-begun.new.self; run = c.self.inside.run } in
+    let empty = ap (λ (run : Run). run.tree) (sym (ap (λ (f : FleetView g.row.K.Denot). f.run) c.self.view_is ∙ c.raise-had.ensures.run)) ∙ c.self.invariant in
     let ends = call_ends tells (λ given d. begins c.args.repo c.args.job.now d) c.args.repo c.raise-had.result c.args.self.now called_now c.end_call.new.self c.after_begin-line.result c.end_call.result _
     (λ q all. EndsAtFull tells q (λ given d. begins c.args.repo c.args.job.now d) c.args.self.now all)
     (ap (λ (f : FleetView g.row.K.Denot). f.run) c.self.view_is ∙ c.raise-had.ensures.run) (λ given d. c.drivers_only_add.ensures.begins c.args.repo c.args.job.now d)
     (λ q all ends. start_full tells q (λ given d. begins c.args.repo c.args.job.now d) c.args.self.now all ends)
     c.after_begin-line.ensures.ok
     (λ all told ended.
-    begins_go_so tells c.args.repo c.args.self.now (record { nodes = c.self.inside.nodes; run = c.self.inside.run }) all c.args.job.now c.in_ok-job.job c.begin-begun.result c.in_ok-job.ensures (c.fleets_do_lines.ensures.job tells) (c.fleets_do_lines.ensures.no_slot tells) c.requires.there
+    begins_go_so tells c.args.repo c.args.self.now (record { nodes = c.self.inside.nodes; run = c.self.inside.run }) all c.args.job.now c.in_ok-job.job c.new-paths.result c.begin-begun.result c.in_ok-job.ensures c.new-paths.ensures empty (c.fleets_do_lines.ensures.job tells) (c.fleets_do_lines.ensures.no_slot tells) c.requires.there
     (called tells c.args.repo c.raise-had.result c.args.self.now c.raise-had.new.self c.self.inside.nodes c.begin-begun.new.self c.self.inside.run all
-    (BeginsJob c.in_ok-job.job c.begin-begun.result)
+    (BeginsJob c.in_ok-job.job c.new-paths.result c.begin-begun.result)
     c.self.view_is c.raise-had.ensures c.begin-begun.ensures.others c.begin-begun.ensures.count
     (λ n m at_n at_m. record {
       number = c.begin-begun.ensures.number n m at_n at_m;
@@ -60,7 +62,7 @@ returns g c =
     (called tells c.args.repo c.raise-had.result c.args.self.now c.raise-had.new.self c.self.inside.nodes c.begin-begun.new.self c.self.inside.run all
     RefusesJob
     c.self.view_is c.raise-had.ensures c.begin-begun.ensures.others c.begin-begun.ensures.count
-    (λ n m at_n at_m. refuses_job c.in_ok-job.job c.begin-begun.result n m full.1
+    (λ n m at_n at_m. refuses_job c.in_ok-job.job c.new-paths.result c.begin-begun.result n m full.1
     (record {
       number = c.begin-begun.ensures.number n m at_n at_m;
       ok = c.begin-begun.ensures.ok n m at_n at_m;
