@@ -1,12 +1,7 @@
 -- A fleet does the lines of a script, one after the other.
-use Rattle.std.proofs.Common.{◌≡◌, ℕ, ◌+◌, ◌<◌, ◌≤◌, true, false, List, [], ◌∷◌, length, drop, get_or, reverse, Option, Some, Result, Ok, Err, IsErrAnd, refl, sym, ap, ◌∙◌, subst, arith, length-append}
-use Rattle.std.specs.Prelude.{is_some}
-use Rattle.std.specs.Option.{option_map_or}
+use Rattle.std.proofs.Common.{◌≡◌, ℕ, ◌+◌, ◌<◌, ◌≤◌, true, false, List, [], ◌∷◌, length, drop, get_or, reverse, None, Result, Ok, Err, IsErrAnd, refl, sym, ap, ◌∙◌, subst, arith, length-append}
 use Rattle.std.proofs.lemmas.List.{drop_all, drop_more, reverse-reverse}
-use Rattle.std.proofs.lemmas.Option.{same_Some}
-use Rattle.annex_base.specs.OptionSteps.{◌>>=◌}
-use Rattle.annex_base.proofs.Options.{bind_some}
-use Rattle.run_data.specs.declared.run.RepoView.{RepoView}
+use Rattle.annex_base.specs.Lists.{Each}
 use Rattle.run_data.specs.declared.run.Run.{Run}
 use Rattle.run_model.specs.Past.{now}
 use Rattle.run_model.specs.Run.{IsRun}
@@ -18,14 +13,14 @@ use Rattle.script_lang.specs.Preconditions.{AllStand}
 use Rattle.driver_model.specs.Driver.{Driver, DriverInput, at_first}
 use Rattle.driver_model.specs.Driving.{does, with_mark}
 use Rattle.driver_model.specs.Limits.{drives_to_limit, limited_run, meets_limit, run_to_limit}
-use Rattle.driver_model.specs.Lines.{Line, waited_by}
+use Rattle.driver_model.specs.Lines.{waited_by}
 use Rattle.driver_script.specs.Inputs.{driver_input_of}
-use Rattle.driver_script.specs.Lines.{declared_by, line_of, lines_of, repos_of}
+use Rattle.driver_script.specs.Lines.{declared_by, first_unbuilt, is_built, repos_of}
 use Rattle.fleet_model.specs.Fleets.{FleetView}
 use Rattle.fleet_run.specs.declared.stop.FleetStop.{FleetStop}
 use Rattle.fleet_run.specs.Commands.{CutsAt, MayBeDone, MeetsNone, does_and_marks}
 use Rattle.fleet_run.specs.AtDriver.{GoesOn, IsAtDriver, IsDrivenWithin}
-use Rattle.script_answers.specs.Runs.{AreLines, IsRunOf}
+use Rattle.script_answers.specs.Runs.{IsRunOf}
 use Rattle.annex_cli.specs.Doing.{HasDone}
 use Rattle.script_answers.proofs.GoodLemmas.{comes_of, limited}
 use Rattle.script_answers.proofs.ReportLemmas.{declares_alike}
@@ -37,18 +32,21 @@ stop_is (Err d) came stop handed is = let same : d ≡ stop = cc in sym handed �
 
 -- the laws that the lemmas take
 abbrev pub MarksLaw : Type 0
-MarksLaw = (g : DriverInput) (line : Line) (d : Driver) → (does g line d).marks ≡ d.marks
+MarksLaw = (g : DriverInput) (line : Command) (d : Driver) → (does g line d).marks ≡ d.marks
 
 abbrev pub TimeLaw : Type 0
-TimeLaw = (g : DriverInput) (line : Line) (d : Driver) → now (does g line d).past ≡ now d.past + waited_by line
+TimeLaw = (g : DriverInput) (line : Command) (d : Driver) → now (does g line d).past ≡ now d.past + waited_by line
 
 abbrev pub WaitLaw : Type 0
-WaitLaw = (repos : List RepoView) (command : Command) (line : Line) → line_of repos command ≡ Some line → waited_by line ≡ wait_of command
+WaitLaw = (command : Command) → waited_by command ≡ wait_of command
 
-goes_on : (g : DriverInput) (line : Line) (others : List Line) (d : Driver) → meets_limit g line d ≡ false → drives_to_limit g (line ∷ others) d ≡ drives_to_limit g others (with_mark (does g line d))
+abbrev pub BuiltLaw : Type 0
+BuiltLaw = (commands : List Command) → first_unbuilt commands ≡ None → Each (λ command. is_built command ≡ true) commands
+
+goes_on : (g : DriverInput) (line : Command) (others : List Command) (d : Driver) → meets_limit g line d ≡ false → drives_to_limit g (line ∷ others) d ≡ drives_to_limit g others (with_mark (does g line d))
 goes_on g line others d none = ap (comes_of g line others d) none
 
-ends_there : (g : DriverInput) (line : Line) (others : List Line) (d : Driver) → meets_limit g line d ≡ true → drives_to_limit g (line ∷ others) d ≡ limited true (run_to_limit g line d)
+ends_there : (g : DriverInput) (line : Command) (others : List Command) (d : Driver) → meets_limit g line d ≡ true → drives_to_limit g (line ∷ others) d ≡ limited true (run_to_limit g line d)
 ends_there g line others d meets = ap (comes_of g line others d) meets
 
 -- the commands from a place on
@@ -60,10 +58,10 @@ module _ {K : Type 0} (tells : K → StoreView) (all : List Command) where
   Done left f = HasDone tells all left f
 
   -- before the first line
-  pub done_at_first : (f : FleetView K) (lines : List Line) → AreLines all lines → AllStand no_context all → IsAtDriver tells (driver_input_of all) at_first f → IsDrivenWithin tells (length f.run.marks) f → HasDone tells all all f
-  done_at_first f lines are stand stands driven = record {
-    lines = lines;
-    are = are;
+  pub done_at_first : BuiltLaw → (f : FleetView K) → first_unbuilt all ≡ None → AllStand no_context all → IsAtDriver tells (driver_input_of all) at_first f → IsDrivenWithin tells (length f.run.marks) f → HasDone tells all all f
+  done_at_first law f built stand stands driven = record {
+    built = built;
+    each = law all built;
     context = no_context;
     stand = stand;
     repos = omega arith;
@@ -72,28 +70,12 @@ module _ {K : Type 0} (tells : K → StoreView) (all : List Command) where
     marks = omega arith;
     stands = stands;
     driven = driven;
-    others = lines;
-    behind = are;
     ends = refl;
   }
 
   module _ (c : Command) (left : List Command) (f : FleetView K) (h : Done (c ∷ left) f) where
     abbrev g : DriverInput
     g = driver_input_of all
-
-    -- the line of the command, and those behind it
-    record Next : Type 0 where
-      line : Line
-      others : List Line
-      here : line_of (repos_of all) c ≡ Some line
-      behind : lines_of (repos_of all) left ≡ Some others
-      both : line ∷ others ≡ h.others
-
-    next : Next
-    next =
-        let one = bind_some (line_of (repos_of all) c) (λ t. lines_of (repos_of all) left >>= λ ts. Some (t ∷ ts)) h.others h.behind in
-        let more = bind_some (lines_of (repos_of all) left) (λ ts. Some (one.0 ∷ ts)) h.others one.2 in
-        record { line = one.0; others = more.0; here = one.1; behind = more.1; both = same_Some (one.0 ∷ more.0) h.others more.2 }
 
     -- the command may be done
     pub may_be_done : MayBeDone f c
@@ -107,7 +89,7 @@ module _ {K : Type 0} (tells : K → StoreView) (all : List Command) where
           waited = h.waited ∙ ap now (sym (ap (λ (r : Run). reverse r.entries) run ∙ reverse-reverse h.driver.past));
           stands = h.stand.0;
           within = h.stand.1;
-          built = ap (λ (r : Run). is_some (line_of r.repos c)) run ∙ ap is_some next.here;
+          built = h.each.0;
         }
 
     -- and fewer commands were done than there are
@@ -120,54 +102,44 @@ module _ {K : Type 0} (tells : K → StoreView) (all : List Command) where
     -- where its line meets no full history, the rest is left then
     pub done_next : TimeLaw → WaitLaw → MarksLaw → (after : FleetView K) → MeetsNone tells c f → GoesOn tells (does_and_marks c) f after → IsDrivenWithin tells (length after.run.marks) after → HasDone tells all left after
     done_next time wait marks after within goes driven =
-        let after_line : Driver = with_mark (does g next.line h.driver) in
         let both = length-append (declared_by c) (repos_of left) in
         let long = length-append h.context.repos (script.declared_by c) in
         let alike = declares_alike c in
         let repos = h.repos in
         let were = h.marks in
-        let marked = length-append (does g next.line h.driver).marks (length (does g next.line h.driver).past ∷ []) in
-        let stay : length (does g next.line h.driver).marks ≡ length h.driver.marks = ap length (marks g next.line h.driver) in
+        let marked = length-append (does g c h.driver).marks (length (does g c h.driver).past ∷ []) in
+        let stay : length (does g c h.driver).marks ≡ length h.driver.marks = ap length (marks g c h.driver) in
         record {
-          lines = h.lines;
-          are = h.are;
+          built = h.built;
+          each = h.each.1;
           context = context_with h.context c;
           stand = h.stand.2;
           repos = omega (arith, repos, both, long, alike);
-          driver = after_line;
+          driver = with_mark (does g c h.driver);
           marks = omega (arith, were, marked, stay);
-          waited = ap (λ n. n + wait_of c) h.waited ∙ ap (λ n. now h.driver.past + n) (sym (wait (repos_of all) c next.line next.here)) ∙ sym (time g next.line h.driver);
-          stands = subst (λ (o : Option Line). IsAtDriver tells g (with_mark (option_map_or (λ line. does g line h.driver) o h.driver)) after) next.here (goes g h.driver h.stands);
+          waited = ap (λ n. n + wait_of c) h.waited ∙ ap (λ n. now h.driver.past + n) (sym (wait c)) ∙ sym (time g c h.driver);
+          stands = goes g h.driver h.stands;
           driven = driven;
-          others = next.others;
-          behind = next.behind;
-          ends = sym (goes_on g next.line next.others h.driver (within g h.driver next.line h.stands next.here)) ∙ ap (λ ls. drives_to_limit g ls h.driver) next.both ∙ h.ends;
+          ends = sym (goes_on g c left h.driver (within g h.driver h.stands)) ∙ h.ends;
         }
 
     -- and where it meets one, the run ends there
     pub cut_here : (r : ℕ) (after : FleetView K) → CutsAt tells r c f after → IsRunOf all true after.run
     cut_here r after cuts =
-        let cut = cuts g h.driver next.line h.stands next.here in
-        let ends : drives_to_limit g (next.line ∷ next.others) h.driver ≡ limited_run g h.lines = ap (λ ls. drives_to_limit g ls h.driver) next.both ∙ h.ends in
+        let cut = cuts g h.driver h.stands in
         record {
-          lines = h.lines;
-          are = h.are;
-          run_is = sym ends ∙ ends_there g next.line next.others h.driver cut.meets ∙ ap (limited true) (sym cut.run_is);
+          built = h.built;
+          run_is = sym h.ends ∙ ends_there g c left h.driver cut.meets ∙ ap (limited true) (sym cut.run_is);
           lawful = cut.lawful;
         }
 
   -- after the last line
   pub done_at_last : (f : FleetView K) → HasDone tells all [] f → IsRunOf all false f.run
-  done_at_last f h =
-      let g = driver_input_of all in
-      let none : [] ≡ h.others = same_Some [] h.others h.behind in
-      let ends : drives_to_limit g [] h.driver ≡ limited_run g h.lines = ap (λ ls. drives_to_limit g ls h.driver) none ∙ h.ends in
-      record {
-        lines = h.lines;
-        are = h.are;
-        run_is = sym ends ∙ ap (limited false) (sym h.stands.come.run);
-        lawful = subst IsRun (sym h.stands.come.run) h.stands.come.sound.run;
-      }
+  done_at_last f h = record {
+    built = h.built;
+    run_is = sym h.ends ∙ ap (limited false) (sym h.stands.come.run);
+    lawful = subst IsRun (sym h.stands.come.run) h.stands.come.sound.run;
+  }
 
   -- the command at a place is the first of those that are left
   pub done_before : (i : ℕ) (c : Command) (f : FleetView K) → i < length all → c ≡ get_or all i c → HasDone tells all (drop i all) f → HasDone tells all (c ∷ drop (i + 1) all) f

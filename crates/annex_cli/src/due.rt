@@ -1,18 +1,15 @@
 //! What is due for the bytes of a script.
 
-ghost use Rattle.std.specs.Prelude.{IfOk, OnOk, ◌≡◌, ◌≤◌, List, length};
+ghost use Rattle.std.specs.Prelude.{IfOk, OnOk, ◌≡◌, ◌≤◌, None, length};
 ghost use Rattle.script_lang.specs.Script.{reading, Commands};
-ghost use Rattle.driver_model.specs.Lines.{Line};
+ghost use Rattle.driver_script.specs.Lines.{first_unbuilt};
 ghost use Rattle.script_answers.specs.declared.status.Status.{Status};
-ghost use Rattle.script_answers.specs.Runs.{AreLines};
 ghost use Rattle.script_answers.specs.Whole.{script_limit};
 ghost use Rattle.script_answers.specs.Top.{IsCutReport, IsDue, HasGoodRun};
 
 use crate::runs::run_script;
 use annex_base::NoMemory;
-use driver_script::{
-    first_missing, scripts_may_be_driven, scripts_without_a_missing_form_have_lines,
-};
+use driver_script::{first_missing, scripts_may_be_driven};
 use script_answers::{Due, SCRIPT_LIMIT, complaint_due, limit_due, missing_due, report_due};
 use script_lang::{Script, ScriptFault, commands_stand, scripts_have_few_lines};
 use std::alloc::Global;
@@ -44,8 +41,6 @@ fn script_due(alloc: Global, bytes: &[u8], script: &Script) -> Result<Due, NoMem
     ensures due { IfOk result (λ d. IsDue bytes.now d.status d.text.items) }
     ensures good { OnOk result (HasGoodRun bytes.now) }
 {
-    // A law: commands for none of which a part is missing have their lines.
-    scripts_without_a_missing_form_have_lines();
     let commands = script.lines();
     match first_missing(commands) {
         None => run_due(alloc, bytes, script),
@@ -57,7 +52,7 @@ fn script_due(alloc: Global, bytes: &[u8], script: &Script) -> Result<Due, NoMem
 fn run_due(alloc: Global, bytes: &[u8], script: &Script) -> Result<Due, NoMemory>
     requires short { length bytes.now ≤ script_limit }
     requires says { reading bytes.now ≡ Commands script.now }
-    requires lines { (lines : List Line) × AreLines script.now lines }
+    requires built { first_unbuilt script.now ≡ None }
     ensures due { IfOk result (λ d. IsDue bytes.now d.status d.text.items) }
     ensures good { OnOk result (HasGoodRun bytes.now) }
 {

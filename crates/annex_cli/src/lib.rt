@@ -1,18 +1,17 @@
 //! The program's top call: what the words ask for, and what is written.
 #![tactic(auto)]
 
-ghost use Rattle.std.specs.Prelude.{◌≡◌, ℕ, ◌<◌, ◌≤◌, true, false, List, ◌++◌, length, map, Some};
+ghost use Rattle.std.specs.Prelude.{◌≡◌, ℕ, ◌<◌, ◌≤◌, true, false, List, ◌++◌, length, map, None, Some};
 ghost use Rattle.std.specs.String.{string_bytes};
 ghost use Rattle.annex_base.specs.Causes.{Rose};
 ghost use Rattle.script_commands.specs.declared.command.Command.{Command};
 ghost use Rattle.script_lang.specs.Script.{reading, Commands};
 ghost use Rattle.run_data.specs.Histories.{most_entries};
 ghost use Rattle.driver_model.specs.Limits.{limited_run};
-ghost use Rattle.driver_model.specs.Lines.{Line};
 ghost use Rattle.driver_script.specs.Inputs.{driver_input_of};
+ghost use Rattle.driver_script.specs.Lines.{first_unbuilt};
 ghost use Rattle.report_text.specs.Report.{report};
 ghost use Rattle.script_answers.specs.declared.status.Status.{Status};
-ghost use Rattle.script_answers.specs.Runs.{AreLines};
 ghost use Rattle.script_answers.specs.Whole.{script_limit};
 ghost use Rattle.script_answers.specs.Top.{IsRunCommand, IsDue, EndsWith, Answers, AnswersRun, entries_name, limit_text};
 
@@ -60,14 +59,14 @@ pub fn annex<R: Threads + Wait + Sync, S: Source, K: Sink, G: Gate>(
     ensures due { (bytes text : List ℕ) (status : Status) → IsRunCommand (map string_bytes words.now) → S.left source.old ≡ Some bytes → IsDue bytes status text
         → (Rose (S.faults source.old) (S.faults source.new) → ⊥) → (Rose (K.faults sink.old) (K.faults sink.new) → ⊥)
         → EndsWith status text (K.taken sink.old) (K.taken sink.new) result }
-    ensures reported { (bytes : List ℕ) (script : List Command) (lines : List Line) → IsRunCommand (map string_bytes words.now) → S.left source.old ≡ Some bytes
-        → length bytes ≤ script_limit → reading bytes ≡ Commands script → AreLines script lines → (limited_run (driver_input_of script) lines).is_cut ≡ false
+    ensures reported { (bytes : List ℕ) (script : List Command) → IsRunCommand (map string_bytes words.now) → S.left source.old ≡ Some bytes
+        → length bytes ≤ script_limit → reading bytes ≡ Commands script → first_unbuilt script ≡ None → (limited_run (driver_input_of script) script).is_cut ≡ false
         → (Rose (S.faults source.old) (S.faults source.new) → ⊥) → (Rose (K.faults sink.old) (K.faults sink.new) → ⊥)
-        → EndsWith Status.Done (report script (limited_run (driver_input_of script) lines).run) (K.taken sink.old) (K.taken sink.new) result }
-    ensures cut { (bytes : List ℕ) (script : List Command) (lines : List Line) → IsRunCommand (map string_bytes words.now) → S.left source.old ≡ Some bytes
-        → length bytes ≤ script_limit → reading bytes ≡ Commands script → AreLines script lines → (limited_run (driver_input_of script) lines).is_cut ≡ true
+        → EndsWith Status.Done (report script (limited_run (driver_input_of script) script).run) (K.taken sink.old) (K.taken sink.new) result }
+    ensures cut { (bytes : List ℕ) (script : List Command) → IsRunCommand (map string_bytes words.now) → S.left source.old ≡ Some bytes
+        → length bytes ≤ script_limit → reading bytes ≡ Commands script → first_unbuilt script ≡ None → (limited_run (driver_input_of script) script).is_cut ≡ true
         → (Rose (S.faults source.old) (S.faults source.new) → ⊥) → (Rose (K.faults sink.old) (K.faults sink.new) → ⊥)
-        → EndsWith Status.Limit (report script (limited_run (driver_input_of script) lines).run ++ limit_text entries_name most_entries) (K.taken sink.old) (K.taken sink.new) result }
+        → EndsWith Status.Limit (report script (limited_run (driver_input_of script) script).run ++ limit_text entries_name most_entries) (K.taken sink.old) (K.taken sink.new) result }
 {
     if !is_run(words) {
         return match write_whole(sink, USAGE) {

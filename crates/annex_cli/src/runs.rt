@@ -1,20 +1,19 @@
 //! The run of a script, by a fleet of nodes.
-ghost use Rattle.std.specs.Prelude.{◌≡◌, ◌≤◌, ℕ, true, [], List, length, Err, IfOk, OnOk};
+ghost use Rattle.std.specs.Prelude.{◌≡◌, ◌≤◌, ℕ, true, [], List, length, None, Err, IfOk, OnOk};
 ghost use Rattle.repo_node.specs.Stored.{store_view};
 ghost use Rattle.script_lang.specs.Script.{no_context};
 ghost use Rattle.script_lang.specs.Preconditions.{AllStand};
 ghost use Rattle.driver_model.specs.Driver.{at_first};
-ghost use Rattle.driver_model.specs.Lines.{Line};
 ghost use Rattle.driver_script.specs.Inputs.{driver_input_of};
-ghost use Rattle.driver_script.specs.Lines.{repos_of};
+ghost use Rattle.driver_script.specs.Lines.{first_unbuilt, repos_of};
 ghost use Rattle.fleet_run.specs.AtDriver.{IsAtDriver, IsDrivenWithin, most_lines};
 ghost use Rattle.joined_nodes.specs.Joined.{MayRun};
-ghost use Rattle.script_answers.specs.Runs.{AreLines, IsRunOf};
+ghost use Rattle.script_answers.specs.Runs.{IsRunOf};
 ghost use Rattle.annex_cli.specs.Doing.{HasDone};
 
 use annex_base::NoMemory;
 use driver_model::{only_waits_take_time, runs_are_cut_where_histories_are_full};
-use driver_script::{bytes_are_matched, lines_wait_as_long};
+use driver_script::{bytes_are_matched, lines_wait_as_long, scripts_are_built_or_not};
 use fleet_run::{Fleet, FleetStop};
 use object_store::{FailingKeeper, MemoryKeeper};
 use script_answers::Ran;
@@ -23,7 +22,7 @@ use std::alloc::Global;
 
 /// Does the script's lines, one after the other, up to one that meets a full history.
 fn run_lines<K: FailingKeeper>(fleet: &mut Fleet<K>, script: &Script) -> Result<(), FleetStop>
-    requires lines { (lines : List Line) × AreLines script.now lines }
+    requires built { first_unbuilt script.now ≡ None }
     requires stand { AllStand no_context script.now }
     requires few { length script.now ≤ most_lines }
     requires stands { IsAtDriver (λ k. store_view (K.contents k) (K.parts k) (K.failing k) (K.faults k)) (driver_input_of script.now) at_first fleet.old }
@@ -31,10 +30,11 @@ fn run_lines<K: FailingKeeper>(fleet: &mut Fleet<K>, script: &Script) -> Result<
     ensures done { OnOk result (HasDone (λ k. store_view (K.contents k) (K.parts k) (K.failing k) (K.faults k)) script.now [] fleet.new) }
     ensures cut { (r : ℕ) → result ≡ Err (FleetStop.Full r) → IsRunOf script.now true fleet.new.run }
 {
-    // Laws: no line changes the marks before it, and each takes as much time as its command waits.
+    // Laws: no line changes the marks before it, and each takes as much time as its command waits; and each is built.
     runs_are_cut_where_histories_are_full();
     only_waits_take_time();
     lines_wait_as_long();
+    scripts_are_built_or_not();
     let commands = script.lines();
     for command in commands {
         fleet.line(command)?;
@@ -44,7 +44,7 @@ fn run_lines<K: FailingKeeper>(fleet: &mut Fleet<K>, script: &Script) -> Result<
 
 /// The run of the script, each repository over a store in memory, up to where a line meets a full history, if one does.
 pub fn run_script(alloc: Global, script: &Script) -> Result<Ran, NoMemory>
-    requires lines { (lines : List Line) × AreLines script.now lines }
+    requires built { first_unbuilt script.now ≡ None }
     requires stand { AllStand no_context script.now }
     requires run { MayRun (repos_of script.now) }
     requires repos { length (repos_of script.now) ≤ 8 }

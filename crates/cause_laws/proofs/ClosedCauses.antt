@@ -21,7 +21,7 @@ use Rattle.node_model.specs.Slots.{RunningJob}
 use Rattle.p2p_wire.specs.declared.message.Message.{Message}
 use Rattle.p2p_wire.specs.declared.message.Message.TheVariants.{Failure, Get, Invalid, Valid}
 use Rattle.p2p_wire.specs.Messages.{message_of}
-use Rattle.run_model.specs.Said.{Says, CloseIt}
+use Rattle.run_model.specs.Said.{Says}
 use Rattle.run_model.specs.Frames.{says}
 use Rattle.run_model.specs.Causes.{AnswersRequest, ClosedWith, FellShort, HearsMessage, is_failure}
 use Rattle.node_model.specs.SetUp.{SetUp}
@@ -40,7 +40,7 @@ use Rattle.step_facts.proofs.ClientCounts.{LastIs}
 use Rattle.dialogue_facts.proofs.EndReasons.{Reason, ShutOn, kind_reason}
 use Rattle.dialogue_facts.proofs.CopiesInPlace.{copies_in_place}
 use Rattle.dialogue_facts.proofs.Carried.{AddsWord, Causes, kind_carries}
-use Rattle.cause_laws.proofs.Refusals.{answers_grow, answers_now, hears_grows, stepped_own, target_in, target_is, took_peer}
+use Rattle.cause_laws.proofs.Refusals.{answers_grow, answers_now, stepped_own, target_in, target_is, took_peer}
 use Rattle.job_facts.proofs.Speaks.{hears}
 use Rattle.step_facts.proofs.BySteps.{earlier}
 use Rattle.run_laws.proofs.SaidDown.{said_is}
@@ -70,8 +70,8 @@ SourceToldOf past r j key peer sources.Invalid = (start : ℕ) × (file : List �
 
 module _ (r : ℕ) (e : Entry) (past : List Entry) (j : RunningJob) where
   pub closed_grows : (peer : ℕ) → ClosedWith past r j.number peer → ClosedWith (e ∷ past) r j.number peer
-  closed_grows peer (inl x) = inl (hears_grows r e past j peer CloseIt x)
-  closed_grows peer (inr x) = inr (record { entry = x.entry; before = x.before; occurs = inr x.occurs; own = x.own; slot = x.slot; kind_is = x.kind_is; slot_is = x.slot_is })
+  closed_grows peer (inl y) = let x = y.0 in inl (record { entry = x.entry; before = x.before; occurs = inr x.occurs; own = x.own; f = x.f; takes_it = x.takes_it; peer_is = x.peer_is; down = x.down; says = x.says }, y.1)
+  closed_grows peer (inr y) = let x = y.0 in inr (record { entry = x.entry; before = x.before; occurs = inr x.occurs; own = x.own; slot = x.slot; kind_is = x.kind_is; slot_is = x.slot_is }, y.1)
 
   short_grows : (peer : ℕ) (key : List ℕ) → FellShort past r j.number peer key → FellShort (e ∷ past) r j.number peer key
   short_grows peer key x = record { entry = x.entry; before = x.before; occurs = inr x.occurs; own = x.own; closes = x.closes; place = x.place; short = x.short; why' = x.why' }

@@ -53,9 +53,9 @@ abbrev Refused : Doing → FrameText → List FrameText → Type 0
 Refused was b says = ((key : List ℕ) × (at : ℕ) × (left : ℕ) × (was ≡ Gives key at left false)) × (says ≡ b ∷ [])
 
 piece_not : (h : Here) (key : List ℕ) (at n : ℕ) (b : FrameText) → message_in b ≡ Says Invalid → Member b (on_piece h key at n).says → ⊥
-piece_not h key at n b e = unless_found (λ (x : Reply). Member b x.says → ⊥) (failing_call h.fails (calls.Read ∷ [])) (λ call. record { kind = Fault call (by_of h); says = Closing ∷ [] })
-    (if reaches (content_of h key) (at + n) then record { kind = Talk None; says = Bytes n ∷ [] } else shuts (close_kind h)) (λ call m. closes m)
-    (if_either (λ (x : Reply). Member b x.says → ⊥) (reaches (content_of h key) (at + n)) (record { kind = Talk None; says = Bytes n ∷ [] }) (shuts (close_kind h)) (λ y m. bytes m) (λ y m. closes m))
+piece_not h key at n b e = unless_found (λ (x : Reply). Member b x.says → ⊥) (failing_call h.fails (calls.Read ∷ [])) (λ call. record { kind = Fault call (by_of h); says = Closing ∷ []; calls = [] })
+    (if reaches (content_of h key) (at + n) then record { kind = Talk None; says = Bytes n ∷ []; calls = [] } else shuts (close_kind h)) (λ call m. closes m)
+    (if_either (λ (x : Reply). Member b x.says → ⊥) (reaches (content_of h key) (at + n)) (record { kind = Talk None; says = Bytes n ∷ []; calls = [] }) (shuts (close_kind h)) (λ y m. bytes m) (λ y m. closes m))
   where
     closes : Member b (Closing ∷ []) → ⊥
     closes (inl i) = closing_ends b Invalid i e

@@ -9,6 +9,7 @@ pub mod StillKnown
 pub mod DeniedWords
 pub mod RefusalCauses
 pub mod ClosedCauses
+pub mod ClosedHeard
 pub mod ClosedFound
 pub mod EvidenceCauses
 pub mod AnswerCauses
@@ -21,6 +22,7 @@ pub mod Epochs
 pub mod ConversationServer
 pub mod ConversationClient
 pub mod Conversations
+pub mod OpenedBy
 pub mod ShutTold
 pub mod PutsSizes
 pub mod RunCauses

@@ -287,7 +287,7 @@ module _ (reads_back : SentAreRead) (s : SetUp) (past : List Entry) (words : ℕ
   abbrev t : Turn
   t = turn_at s past e by
 
-  found : GivesOrder t j peer deadline need key by.made
+  found : GivesOrder t j peer deadline need key by.made.taken by.made.sent
   found = subst (IsJobEntry t by.made) (sym (ap (λ (y : Entry). y.kind) by.is) ∙ kind) (stepped_found s past e by).found
 
   read : message_of (text_of (order_of deadline by.w.what.key)) ≡ Some (order_of deadline by.w.what.key)
@@ -296,7 +296,7 @@ module _ (reads_back : SentAreRead) (s : SetUp) (past : List Entry) (words : ℕ
       speak : ClientSteps.Speaks t
       speak = works_speak reads_back s past by.look h by.small by.w (stepped_runs s past e by)
 
-      go : (d : Option ℕ) → HasDeadline t by.made d → e.kind ≡ Order j peer d need key → message_of (text_of (order_of d by.w.what.key)) ≡ Some (order_of d by.w.what.key)
+      go : (d : Option ℕ) → HasDeadline t by.made.taken d → e.kind ≡ Order j peer d need key → message_of (text_of (order_of d by.w.what.key)) ≡ Some (order_of d by.w.what.key)
       go None timed k = speak.remove
       go (Some d) (f, took_it, phase, (n, first, told, end, soon, same)) k =
           let taken : e.taken ≡ Some f = ap (λ (y : Entry). y.taken) by.is ∙ took_it in

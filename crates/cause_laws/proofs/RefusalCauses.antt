@@ -1,7 +1,7 @@
 -- The causes of refusals that a repository's own entries show: of its row, of a call of its store that failed, and of what a peer answered.
 use Rattle.std.proofs.Common.{◌≡◌, ◌≢◌, ℕ, true, false, List, Option, Some, None, ◌⊎◌, inl, inr, refl, sym, ap, ◌∙◌, subst}
 use Rattle.std.specs.Prelude.{◌==◌, filter, find}
-use Rattle.std.specs.Option.{option_or}
+use Rattle.std.specs.Option.{option_or, unwrap_or}
 use Rattle.annex_base.specs.Lists.{Member}
 use Rattle.annex_base.specs.declared.kinds.Word.{Word}
 use Rattle.annex_base.proofs.Conditions.{eqb_refl}
@@ -25,8 +25,10 @@ use Rattle.run_data.specs.declared.job.TransferRefusal.TheVariants as failures
 use Rattle.node_model.specs.Slots.{RunningJob}
 use Rattle.run_model.specs.Past.{clock, holds}
 use Rattle.node_model.specs.Rows.{blocks}
-use Rattle.run_model.specs.Causes.{AtFirst, FailedCall, FoundAbsent, FoundBarred, FoundHeld, FoundNotHere, HadFault, JobOf, is_put}
-use Rattle.run_model.specs.Logs.{is_step}
+use Rattle.run_model.specs.Causes.{AtFirst, FailedCall, FoundAbsent, FoundBarred, FoundHeld, FoundNotHere, FoundRequired, HadFault, JobOf, is_put}
+use Rattle.run_data.specs.Repos.{id_of}
+use Rattle.run_model.specs.Logs.{before_step, is_step, settings_of}
+use Rattle.wanted_expr.specs.Wanted.{required}
 use Rattle.node_model.specs.SetUp.{SetUp, slots}
 use Rattle.run_model.specs.States.{state_of, works}
 use Rattle.node_model.specs.AnyTime.{IsPeer}
@@ -45,7 +47,9 @@ use Rattle.step_facts.proofs.SessionFacts.{session_found}
 use Rattle.job_facts.proofs.Aims.{aims}
 use Rattle.run_laws.proofs.Decisions.{kind_of, runs_begun}
 use Rattle.dialogue_facts.proofs.FreshSteps.{MovesLate, drop_unread, of_kind, puts_unstepped}
-use Rattle.cause_laws.proofs.Refusals.{DropStands, Stands, TransferStands, side_is}
+use Rattle.job_facts.proofs.DropLeaves.{fresh_unread}
+use Rattle.job_facts.proofs.PhaseFacts.{is_fresh}
+use Rattle.cause_laws.proofs.Refusals.{DropStands, Stands, TransferStands, side_is, target_is}
 use Rattle.cause_laws.proofs.Standing.{stands}
 use Rattle.run_laws.proofs.AtTargets.{at_targets}
 
@@ -233,6 +237,20 @@ module _ (reads_back : SentAreRead) (s : SetUp) (past : List Entry) (words : ℕ
         there = y.1;
         free = y.2;
         held = ap (λ t. until (filter (blocks w.what.key (clock s.repos past r t)) (holds past r))) time ∙ y.3;
+      })
+
+  -- **Required**
+  pub required_found : (text : List ℕ) → e.kind ≡ ends_job j (Refused (refusals.Required text)) → FoundRequired s.repos (s.paths j) past r j text
+  required_found text is =
+      let x = ending s past words e own j (Refused (refusals.Required text)) is in
+      let w = x.by.w in
+      let y = judged (refusals.Required text) x (row_apart (refusals.Required text) (turn_at s past e x.by) (λ p k z. z) (λ a b q. cc) (λ a q. cc)) in
+      let unread : before_step past r w.number ≡ None = fresh_unread s past h.run w x.runs y.0 (subst (λ q. is_fresh q ≡ true) (sym y.1) refl) in
+      subst (λ n. FoundRequired s.repos (s.paths n) past r n text) (sym x.number_is) (record {
+        d = job_of s past h w x.runs;
+        dropping = (at_targets reads_back s past h w x.runs).0 y.0;
+        first = unread;
+        requires = (λ i. required (settings_of (unwrap_or (sym unread i) past) r) (id_of s.repos (target_is r w i)) w.what.key (s.paths w.number)) ∙ y.2;
       })
 
   -- **StoreFault**, of a drop

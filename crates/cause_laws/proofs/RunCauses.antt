@@ -33,6 +33,8 @@ use Rattle.dialogue_facts.proofs.DialogueTurns.{ClosesFor, FallsShort}
 use Rattle.run_laws.proofs.HeardCauses.{SentClose, client_sent, shut_by}
 use Rattle.cause_laws.proofs.ConversationClient
 use Rattle.cause_laws.proofs.Conversations.{conversing}
+use Rattle.past_facts.proofs.OwnRuns.{own_past}
+use Rattle.cause_laws.proofs.OpenedBy.{opened_told}
 use Rattle.cause_laws.proofs.ShutTold.{closed_told, took_closes}
 use Rattle.dialogue_facts.proofs.Contents.{below}
 use Rattle.cause_laws.proofs.PutsSizes.{sized}
@@ -54,7 +56,7 @@ module _ (reads_back : SentAreRead) (run : Run) (repos : Each IsSetUp run.repos)
     closing : ClosesFor (turn_at s past e b.by) b.by.made
     closing = (ConversationClient.keeps reads_back run repos past e h step r own (conversing reads_back run repos past h r) b.by (moved_on s past e w b)).1
 
-    fell : (p : ℕ) → SentClose (job_end v p) e → FallsShort (turn_at s past e b.by) b.by.made → FellShort (e ∷ past) r v.number p v.what.key
+    fell : (p : ℕ) → SentClose (job_end v p) e → FallsShort (turn_at s past e b.by) b.by.made.taken → FellShort (e ∷ past) r v.number p v.what.key
     fell p t short = go short.why
       where
         at : (t.g.peer ≡ p) × (t.g.slot ≡ v.slot) × (t.g.up ≡ true)
@@ -110,7 +112,7 @@ module _ (reads_back : SentAreRead) (run : Run) (repos : Each IsSetUp run.repos)
         go : (c : Bool) → (end_at past r (job_end v z.peer)).opened ≡ c → ClosedWith (e ∷ past) r v.number z.peer ⊎ ((v.part ≡ Puts) × FellShort (e ∷ past) r v.number z.peer v.what.key)
         go false o = inl (closed_grows r e past (running_job v) z.peer (closed_told reads_back run repos past h r v (stepped_runs s past e b.by) z.peer z.on o))
         go true o = elim (shut_by (job_end v z.peer) (end_at past r (job_end v z.peer)) e o z.closed) [
-          | inl t ↦ inl (took_closes past e r v.number z.peer v.slot (stepped_own s past e b.by own) t)
+          | inl t ↦ inl (took_closes past e r v.number z.peer v.slot (stepped_own s past e b.by own) (opened_told reads_back s past (own_past run repos r past h) v (stepped_runs s past e b.by) z.peer o) t)
           | inr t ↦ sent t closing
         ]
 

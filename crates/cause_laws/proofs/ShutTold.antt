@@ -22,7 +22,7 @@ use Rattle.run_model.specs.Said.{message_in}
 use Rattle.run_model.specs.Frames.{is_job}
 use Rattle.run_model.specs.Drops.{in_slot}
 use Rattle.run_model.specs.Logs.{is_step}
-use Rattle.run_model.specs.Causes.{ClosedWith}
+use Rattle.run_model.specs.Causes.{ClosedWith, OpensWith}
 use Rattle.p2p_wire.specs.declared.message.Message.TheVariants.{Success}
 use Rattle.p2p_wire.specs.Messages.{order_of, text_of}
 use Rattle.node_model.specs.SetUp.{SetUp}
@@ -45,6 +45,7 @@ use Rattle.step_facts.proofs.Makers.{session_takes_up, who}
 use Rattle.job_facts.proofs.Speaks
 use Rattle.cause_laws.proofs.Refusals.{stepped_own}
 use Rattle.cause_laws.proofs.ClosedCauses.{closed_grows}
+use Rattle.cause_laws.proofs.OpenedBy.{opened_told}
 use Rattle.step_facts.proofs.ClientTurns.{closed_alone, made_entry, moved, rows_of, talker, talker_slot}
 use Rattle.run_laws.proofs.HeardCauses.{SentClose, TookClose, client_sent, client_taken, no_close, runs_in, shut_by}
 use Rattle.run_laws.proofs.SessionOwn.{in_says, member_frames, speaks}
@@ -56,30 +57,33 @@ use Rattle.cause_laws.proofs.Conversations.{conversing}
 -- ---- by what it is closed
 
 -- a Close of the peer is taken
-pub took_closes : (past : List Entry) (e : Entry) (r j p slot : ℕ) → is_job r j e ≡ true → TookClose (record { peer = p; slot = slot; client = true }) e → ClosedWith (e ∷ past) r j p
-took_closes past e r j p slot its t =
+pub took_closes : (past : List Entry) (e : Entry) (r j p slot : ℕ) → is_job r j e ≡ true → OpensWith past r j p → TookClose (record { peer = p; slot = slot; client = true }) e → ClosedWith (e ∷ past) r j p
+took_closes past e r j p slot its opens t =
     let at = client_taken p slot t.f t.of_end in
-    inl (record { entry = e; before = past; occurs = inl (refl, refl); own = its; f = t.f; takes_it = t.took; peer_is = at.0; down = at.2; says = ap message_in t.body_is ∙ said_closing })
+    inl (record { entry = e; before = past; occurs = inl (refl, refl); own = its; f = t.f; takes_it = t.took; peer_is = at.0; down = at.2; says = ap message_in t.body_is ∙ said_closing }, opens)
 
 -- an entry that comes at any point closes it as a Close of it
-come_closed : (s : SetUp) (past : List Entry) (e : Entry) → is_of s.number e ≡ true → (w : Work) → Member w (works past s.number) → (p : ℕ) → e.taken ≡ None
+come_closed : (s : SetUp) (past : List Entry) (e : Entry) → is_of s.number e ≡ true → (w : Work) → Member w (works past s.number) → (p : ℕ) → OpensWith past s.number w.number p → e.taken ≡ None
     → TookClose (job_end w p) e ⊎ SentClose (job_end w p) e → (kind : EntryKind) → e.kind ≡ kind → ((clock : ℕ) → kind ≢ Crash clock) → MayCome s (state_of s past) e.lines e.sent kind → ClosedWith (e ∷ past) s.number w.number p
-come_closed s past e is w m p none by (Begin job what) kind alive may = absurd (no_close (job_end w p) e none may.2 by)
-come_closed s past e is w m p none by (Gain Script size key) kind alive may = absurd (no_close (job_end w p) e none may.2 by)
-come_closed s past e is w m p none by (Log file) kind alive may = absurd (no_close (job_end w p) e none may.1 by)
-come_closed s past e is w m p none by (Compact file) kind alive may = absurd (no_close (job_end w p) e none may.2 by)
-come_closed s past e is w m p none by (Fault call Script) kind alive may = absurd (no_close (job_end w p) e none may.2 by)
-come_closed s past e is w m p none by (Crash clock) kind alive may = absurd (alive clock refl)
-come_closed s past e is w m p none (inl t) (Close q slot client) kind alive may = absurd (let bad : None ≡ Some t.f = sym none ∙ t.took in cc)
-come_closed s past e is w m p none (inr t) (Close q slot client) kind alive may = inr (record {
-  entry = e;
-  before = past;
-  occurs = inl (refl, refl);
-  own = is;
-  slot = slot;
-  kind_is = kind ∙ (ap (λ n. Close n slot client) (sym place.1 ∙ at.0) ∙ ap (Close p slot) (sym place.3 ∙ at.2));
-  slot_is = subst (λ n. in_slot (jobs past s.number) w.number n ≡ true) (sym at.1 ∙ place.2) (runs_in past s.number w m);
-})
+come_closed s past e is w m p opens none by (Begin job what) kind alive may = absurd (no_close (job_end w p) e none may.2 by)
+come_closed s past e is w m p opens none by (Gain Script size key) kind alive may = absurd (no_close (job_end w p) e none may.2 by)
+come_closed s past e is w m p opens none by (Log file) kind alive may = absurd (no_close (job_end w p) e none may.1 by)
+come_closed s past e is w m p opens none by (Compact file) kind alive may = absurd (no_close (job_end w p) e none may.2 by)
+come_closed s past e is w m p opens none by (Fault call Script) kind alive may = absurd (no_close (job_end w p) e none may.2 by)
+come_closed s past e is w m p opens none by (Crash clock) kind alive may = absurd (alive clock refl)
+come_closed s past e is w m p opens none (inl t) (Close q slot client) kind alive may = absurd (let bad : None ≡ Some t.f = sym none ∙ t.took in cc)
+come_closed s past e is w m p opens none (inr t) (Close q slot client) kind alive may = inr (
+  record {
+    entry = e;
+    before = past;
+    occurs = inl (refl, refl);
+    own = is;
+    slot = slot;
+    kind_is = kind ∙ (ap (λ n. Close n slot client) (sym place.1 ∙ at.0) ∙ ap (Close p slot) (sym place.3 ∙ at.2));
+    slot_is = subst (λ n. in_slot (jobs past s.number) w.number n ≡ true) (sym at.1 ∙ place.2) (runs_in past s.number w m);
+  },
+  opens,
+)
   where
     at : (t.g.peer ≡ p) × (t.g.slot ≡ w.slot) × (t.g.up ≡ true)
     at = client_sent p w.slot t.g t.of_end
@@ -94,7 +98,7 @@ come_closed s past e is w m p none (inr t) (Close q slot client) kind alive may 
 
     place : Member t.g.body (Closing ∷ []) × (t.g.peer ≡ q) × (t.g.slot ≡ slot) × (t.g.up ≡ client)
     place = member_frames (record { peer = q; slot = slot; client = client }) (end_at past s.number (record { peer = q; slot = slot; client = client })) (Closing ∷ []) t.g from
-come_closed s past e is w m p none by kind k alive may = absurd may
+come_closed s past e is w m p opens none by kind k alive may = absurd may
 
 -- a session speaks at no client's end
 session_no : (s : SetUp) (past : List Entry) (words : _) (e : Entry) → OwnPart s past words e → (p slot : ℕ) → BySessionAt s past e → TookClose (record { peer = p; slot = slot; client = true }) e ⊎ SentClose (record { peer = p; slot = slot; client = true }) e → ⊥
@@ -152,6 +156,9 @@ module _ (reads_back : SentAreRead) (run : Run) (repos : Each IsSetUp run.repos)
   talking : Conversing past r
   talking = conversing reads_back run repos past h r
 
+  opened : (w : Work) → Member w (works past r) → (p : ℕ) → (end_at past r (job_end w p)).opened ≡ true → OpensWith past r w.number p
+  opened = opened_told reads_back s past (own_past run repos r past h)
+
   grows : (w : Work) (p : ℕ) → ClosedWith past r w.number p → ClosedWith (e ∷ past) r w.number p
   grows w p x = closed_grows r e past (running_job w) p x
 
@@ -159,8 +166,8 @@ module _ (reads_back : SentAreRead) (run : Run) (repos : Each IsSetUp run.repos)
   closed_after w p o = sym (ap (λ (c : End). c.opened) (end_own r past (job_end w p) e own)) ∙ o
 
   -- a job's step that uses the end is of this job
-  by_job : (x : Work) (p : ℕ) → (b : Stays s past e x) → (y : Stepped s past e) → TookClose (job_end x p) e ⊎ SentClose (job_end x p) e → ClosedWith (e ∷ past) r x.number p
-  by_job x p b y by = go by
+  by_job : (x : Work) (p : ℕ) → (b : Stays s past e x) → (y : Stepped s past e) → OpensWith past r x.number p → TookClose (job_end x p) e ⊎ SentClose (job_end x p) e → ClosedWith (e ∷ past) r x.number p
+  by_job x p b y opens by = go by
     where
       slot : TookClose (job_end x p) e ⊎ SentClose (job_end x p) e → y.w.slot ≡ x.slot
       slot (inl t) = sym (Speaks.hears s past e y t.f t.took).0 ∙ (client_taken p x.slot t.f t.of_end).1
@@ -178,7 +185,7 @@ module _ (reads_back : SentAreRead) (run : Run) (repos : Each IsSetUp run.repos)
           b.goes_on outcome (kind_is ∙ (k ∙ ap (λ n. ends_job n outcome) (found.number_is ∙ ap (λ (w : Work). w.number) same)))
 
       go : TookClose (job_end x p) e ⊎ SentClose (job_end x p) e → ClosedWith (e ∷ past) r x.number p
-      go (inl t) = took_closes past e r x.number p x.slot (subst (λ (w : Work). is_job r w.number e ≡ true) same (stepped_own s past e y own)) t
+      go (inl t) = took_closes past e r x.number p x.slot (subst (λ (w : Work). is_job r w.number e ≡ true) same (stepped_own s past e y own)) opens t
       go (inr t) =
           let talk = close_talks (turn_at s past e y) y.made y.made.kind (stepped_found s past e y).found not_end t.g (subst (Member t.g) (ap (λ (z : Entry). z.sent) y.is) t.sent) t.body_is in
           let still : is_step x.number (Talk (Some y.w.number)) ≡ false = subst (λ (k : EntryKind). is_step x.number k ≡ false) (kind_is ∙ talk) b.still in
@@ -192,8 +199,8 @@ module _ (reads_back : SentAreRead) (run : Run) (repos : Each IsSetUp run.repos)
       go true o =
           let by = shut_by (job_end x p) (end_at past r (job_end x p)) e o (closed_after x p closed) in
           elim (who s past part.words e part.own) [
-            | inl z ↦ elim (z.2) [ inl none ↦ absurd (no_close (job_end x p) e z.1.takes_none none by) | inr y ↦ come_closed s past e own x b.ran p y.takes_none by e.kind refl b.no_crash y.may ]
-            | inr z ↦ elim z [ inl y ↦ absurd (session_no s past part.words e part.own p x.slot y.1 by) | inr y ↦ by_job x p b y by ]
+            | inl z ↦ elim (z.2) [ inl none ↦ absurd (no_close (job_end x p) e z.1.takes_none none by) | inr y ↦ come_closed s past e own x b.ran p (opened x b.ran p o) y.takes_none by e.kind refl b.no_crash y.may ]
+            | inr z ↦ elim z [ inl y ↦ absurd (session_no s past part.words e part.own p x.slot y.1 by) | inr y ↦ by_job x p b y (opened x b.ran p o) by ]
           ]
 
   steps_told : (x : Work) (p : ℕ) → Steps s past e x → partner x.what.peer x.phase ≡ Some p → (end_at (e ∷ past) r (job_end x p)).opened ≡ false → ClosedWith (e ∷ past) r x.number p
@@ -226,7 +233,7 @@ module _ (reads_back : SentAreRead) (run : Run) (repos : Each IsSetUp run.repos)
       go : (c : Bool) → (end_at past r (job_end b.by.w p)).opened ≡ c → ClosedWith (e ∷ past) r b.by.w.number p
       go false o = grows b.by.w p (was b.by.w (stepped_runs s past e b.by) p on_v o)
       go true o = elim (shut_by (job_end b.by.w p) (end_at past r (job_end b.by.w p)) e o (closed_after b.by.w p closed_v)) [
-        | inl k ↦ took_closes past e r b.by.w.number p b.by.w.slot (stepped_own s past e b.by own) k
+        | inl k ↦ took_closes past e r b.by.w.number p b.by.w.slot (stepped_own s past e b.by own) (opened b.by.w (stepped_runs s past e b.by) p o) k
         | inr k ↦ (let talk = close_talks (turn_at s past e b.by) b.by.made b.by.made.kind (stepped_found s past e b.by).found (moved_on s past e x b) k.g (subst (Member k.g) (ap (λ (z : Entry). z.sent) b.by.is) k.sent) k.body_is in
             let none : partner b.by.w.what.peer (moved (turn_at s past e b.by) b.by.made b.by.made.kind).phase ≡ None =
             subst (λ (q : EntryKind). partner b.by.w.what.peer (moved (turn_at s past e b.by) b.by.made q).phase ≡ None) (sym talk) (talk_away (turn_at s past e b.by) b.by.made p b.by.w.number on_v shut_made) in

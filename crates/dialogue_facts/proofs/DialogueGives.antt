@@ -151,9 +151,9 @@ module _ (key : List ℕ) (at left : ℕ) (good : Bool) (v : ℕ) where
     word_says none false = inr ((refl, tt), (λ g. refl), gives_on (made v Gave) (Line (text_of Invalid)) (word_longer Invalid none (inr refl)) on up down x)
 
     piece_says : (n : ℕ) → (nat_lt 0 n && nat_le n left) ≡ true → Gone (on_piece h key at n)
-    piece_says n fits = unless_found Gone (failing_call h.fails (calls.Read ∷ [])) (λ call. record { kind = Fault call (by_of h); says = Closing ∷ [] })
-        (if reaches (content_of h key) (at + n) then record { kind = Talk None; says = Bytes n ∷ [] } else shuts (close_kind h)) (λ call. inl refl)
-        (if_either Gone (reaches (content_of h key) (at + n)) (record { kind = Talk None; says = Bytes n ∷ [] }) (shuts (close_kind h))
+    piece_says n fits = unless_found Gone (failing_call h.fails (calls.Read ∷ [])) (λ call. record { kind = Fault call (by_of h); says = Closing ∷ []; calls = [] })
+        (if reaches (content_of h key) (at + n) then record { kind = Talk None; says = Bytes n ∷ []; calls = [] } else shuts (close_kind h)) (λ call. inl refl)
+        (if_either Gone (reaches (content_of h key) (at + n)) (record { kind = Talk None; says = Bytes n ∷ []; calls = [] }) (shuts (close_kind h))
         (λ e. inr ((refl, tt), (λ g. refl), gives_on (made v (Gives key (at + n) (left - n) good)) (Bytes n) (piece_longer n fits) on up down x)) (λ e. inl refl))
 
     next_says : Gone (if left == 0 then reply (Talk None) (if good then Valid else Invalid) else on_piece h key at (min 32768 left))

@@ -130,7 +130,7 @@ module _ (t : Turn) (kind : EntryKind) (f : FrameView) (peer : ℕ) (x : Taking 
       goes = ap (λ (b : FrameText). (after_frame (talker t (Some f)) b).phase) e ∙ talker_phase t (Some f)
 
   -- it closes the connection itself
-  pub short_keeps : FallsShort t (sends_to t kind (Some f) peer (Closing ∷ [])) → Goes t (sends_to t kind (Some f) peer (Closing ∷ []))
+  pub short_keeps : FallsShort t (Some f) → Goes t (sends_to t kind (Some f) peer (Closing ∷ []))
   short_keeps short = (
     talk_keeps t (sends_to t kind (Some f) peer (Closing ∷ [])) peer t.w.phase x.on (answers_here t.w peer f (end_with t peer) Closing x.of_end)
         (talker_phase t (Some f)) (inr x.on) (λ l o. absurd (true≢false (sym o))),
@@ -140,7 +140,7 @@ module _ (t : Turn) (kind : EntryKind) (f : FrameView) (peer : ℕ) (x : Taking 
 -- ---- steps that take none, on the partner's open connection
 
 module _ (t : Turn) (kind : EntryKind) (peer : ℕ) (phase : Phase) (is : t.w.phase ≡ phase) (on : partner t.w.what.peer t.w.phase ≡ Some peer) where
-  pub closes_keeps : FallsShort t (sends_to t kind None peer (Closing ∷ [])) → Goes t (sends_to t kind None peer (Closing ∷ []))
+  pub closes_keeps : FallsShort t None → Goes t (sends_to t kind None peer (Closing ∷ []))
   closes_keeps short = (
     talk_keeps t (sends_to t kind None peer (Closing ∷ [])) peer t.w.phase on (sends_here t.w peer (end_with t peer) Closing)
         (talker_phase t None) (inr on) (λ l o. absurd (true≢false (sym o))),

@@ -86,8 +86,8 @@ module _ (reads_back : SentAreRead) (size : List ℕ → Option ℕ) (h : Here) 
     })),
   )
 
-  try : (at : Stance) (m : Message) (cs : List Call) (says : List FrameText) (good : Reply) → ((call : Call) → Served at m (record { kind = Fault call (by_of h); says = says })) → Served at m good → Served at m (tries h cs says good)
-  try at m cs says good f g = unless_found (Served at m) (failing_call h.fails cs) (λ call. record { kind = Fault call (by_of h); says = says }) good f g
+  try : (at : Stance) (m : Message) (cs : List Call) (says : List FrameText) (good : Reply) → ((call : Call) → Served at m (record { kind = Fault call (by_of h); says = says; calls = [] })) → Served at m good → Served at m (tries h cs says good)
+  try at m cs says good f g = unless_found (Served at m) (failing_call h.fails cs) (λ call. record { kind = Fault call (by_of h); says = says; calls = [] }) good f g
 
   idle : (m : Message) (kind : EntryKind) (k : Message) → doing_after size kind z.doing (Some k) m ≡ Waits → 1 ≤ version_told z.version (Some k) → Dialogue.Idle (after_message size z m kind (Some k))
   idle m kind k waits speaks = record { waits = waits; speaks = speaks }

@@ -53,7 +53,7 @@ module _ (reads_back : SentAreRead) (size : List ℕ → Option ℕ) (h : Here) 
 
       go : (c : Bool) → (nat_lt 0 n && nat_le n left) ≡ c → (if c then Some (takes_more key (k + n) (left - n)) else None) ≡ Some next → SilentFrame v (Takes key k left) (Bytes n) next
       go false is e = absurd (cc)
-      go true is e = rw is (unless_found (λ (x : Reply). (x.says ≡ Closing ∷ []) ⊎ ((x.says ≡ []) × (made v (takes_more key (k + n) (left - n)) ≡ made v next))) (failing_call h.fails (calls.Append ∷ [])) (λ call. record { kind = Fault call (by_of h); says = Closing ∷ [] }) quiet
+      go true is e = rw is (unless_found (λ (x : Reply). (x.says ≡ Closing ∷ []) ⊎ ((x.says ≡ []) × (made v (takes_more key (k + n) (left - n)) ≡ made v next))) (failing_call h.fails (calls.Append ∷ [])) (λ call. record { kind = Fault call (by_of h); says = Closing ∷ []; calls = [] }) quiet
           (λ call. inl refl) (inr (refl, ap (made v) (same_Some (takes_more key (k + n) (left - n)) next e))))
 
   silent_frame : (v : ℕ) (d : Doing) (b : FrameText) (next : Doing) → Dialogue.silently d b ≡ Some next → SilentFrame v d b next
@@ -89,7 +89,7 @@ module _ (reads_back : SentAreRead) (size : List ℕ → Option ℕ) (h : Here) 
   -- VALID, as the bytes are there
   valid_says : (v : ℕ) (key : List ℕ) (k : ℕ) → 1 ≤ v
       → Says Dialogue.AtAnswer (made v (Took key k)) (after_message size (made v (Took key k)) Valid (on_message h v (Took key k) Valid).kind (told_first (on_message h v (Took key k) Valid).says)) [] [] (on_message h v (Took key k) Valid).says
-  valid_says v key k speaks = unless_found Answers (failing_call h.fails (to_commit h.right)) (λ call. record { kind = Fault call (by_of h); says = failure_line }) (valid_answer (by_of h) k key h.right) (λ call. refused (Fault call (by_of h))) (go h.right)
+  valid_says v key k speaks = unless_found Answers (failing_call h.fails (to_commit h.right)) (λ call. record { kind = Fault call (by_of h); says = failure_line; calls = [] }) (valid_answer (by_of h) k key h.right) (λ call. refused (Fault call (by_of h))) (go h.right)
     where
       Answers : Reply → Type 0
       Answers x = Says Dialogue.AtAnswer (made v (Took key k)) (after_message size (made v (Took key k)) Valid x.kind (told_first x.says)) [] [] x.says

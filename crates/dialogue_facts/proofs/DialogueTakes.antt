@@ -26,7 +26,7 @@ use Rattle.p2p_wire.specs.Messages.{message_of, text_of}
 use Rattle.node_model.specs.Ends.{may_take, takes_at}
 use Rattle.node_model.specs.Sessions.{Session, line_in, reaches}
 use Rattle.node_model.specs.Jobs
-use Rattle.node_model.specs.Jobs.{Part, Gets, Puts, Drops, Phase, Fresh, Next, Opens, Greets, GetsData, GetsBytes, GetsWord, PutsOffer, PutsBytes, PutsWord, PutsAnswer, AsksLock, AsksLook, AsksTime, Removed, Denied, Late, Ends, Heard, Held, Work, gets_more, puts_more, is_move, job_end, listens, partner, side_of, after_frame, after_transfer, after_failed_release}
+use Rattle.node_model.specs.Jobs.{Part, Gets, Puts, Drops, Phase, Fresh, Next, Opens, Greets, GetsData, GetsBytes, GetsWord, PutsOffer, PutsBytes, PutsWord, PutsAnswer, AsksLock, AsksLook, AsksTime, Removed, Denied, Late, Ends, Heard, Held, Work, gets_more, puts_more, job_end, listens, partner, side_of, after_frame, after_transfer, after_failed_release}
 use Rattle.node_model.specs.Calls.{to_commit, to_release}
 use Rattle.node_model.specs.Look.{Effect, waiting_frame}
 use Rattle.node_model.specs.SessionStep.{bytes_left}
@@ -195,7 +195,7 @@ module _ (t : Turn) (f : FrameView) (peer : ℕ) (x : Taking t f peer) (walks : 
   -- the release of its own share fails, as the timestamp comes too late
   late_good : (n : ℕ) (outcome : Outcome) → t.w.phase ≡ AsksTime → line_in f.body ≡ Some (Timestamp n) → GoodMade t (ends t (Some f) outcome)
   late_good n outcome is told =
-      let rest : Effect = record { kind = ends_job t.w.number outcome; taken = Some f; sent = farewells t (is_lost_ordered outcome); lines = [] } in
+      let rest : Effect = record { kind = ends_job t.w.number outcome; taken = Some f; sent = farewells t (is_lost_ordered outcome); lines = []; calls = [] } in
       attempts_even (GoodMade t) t (to_release (owns_share t && not (is_lost_ordered outcome))) (Some f) rest
       (λ call e. subst (λ (c : Call). GoodMade t (quietly (Fault c (by_me t)) (Some f))) (sym (release_is (owns_share t && not (is_lost_ordered outcome)) call e)) (
         subst (λ (p : Phase). KeepsTo t (quietly (Fault calls.Unhold (by_me t)) (Some f)) (after_failed_release t.w t.look.time p)) (sym is)

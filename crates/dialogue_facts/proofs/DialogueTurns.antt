@@ -73,16 +73,16 @@ abbrev pub KeepsTo : Turn → Effect → Work → Type 0
 KeepsTo t m next = KeepsOpen t m next × ComesFrom t m next
 
 -- the content is gone, or shorter than the place that the peer asks for, or than it was
-pub record FallsShort (t : Turn) (m : Effect) : Type 0 where
+pub record FallsShort (t : Turn) (taken : Option FrameView) : Type 0 where
   pub place : ℕ
   pub short : reaches (content_of t) place ≡ false
   pub puts : t.w.part ≡ Puts
-  pub why : ((f : FrameView) × (m.taken ≡ Some f) × (line_in f.body ≡ Some (PutFrom place)))
-      ⊎ ((peer : ℕ) × (start : ℕ) × (at : ℕ) × (left : ℕ) × (n : ℕ) × (t.w.phase ≡ PutsBytes peer start at left) × (nat_le n left ≡ true) × (m.taken ≡ None) × (place ≡ at + n))
+  pub why : ((f : FrameView) × (taken ≡ Some f) × (line_in f.body ≡ Some (PutFrom place)))
+      ⊎ ((peer : ℕ) × (start : ℕ) × (at : ℕ) × (left : ℕ) × (n : ℕ) × (t.w.phase ≡ PutsBytes peer start at left) × (nat_le n left ≡ true) × (taken ≡ None) × (place ≡ at + n))
 
 -- it closes no connection, but for such a content
 abbrev pub ClosesFor : Turn → Effect → Type 0
-ClosesFor t m = Each (λ g. is_closing g.body ≡ false) m.sent ⊎ FallsShort t m
+ClosesFor t m = Each (λ g. is_closing g.body ≡ false) m.sent ⊎ FallsShort t m.taken
 
 abbrev pub Good : Turn → Effect → EntryKind → Type 0
 Good t m (ends_job j outcome) = Unit {0}

@@ -27,7 +27,7 @@ use Rattle.p2p_wire.specs.declared.message.Message.TheVariants.{LockContent, Rem
 use Rattle.p2p_wire.specs.Messages.{order_of, message_of, text_of}
 use Rattle.node_model.specs.Sessions.{Session}
 use Rattle.node_model.specs.Jobs
-use Rattle.node_model.specs.Jobs.{Part, Gets, Puts, Drops, Phase, RowsAndEnds, Fresh, Next, GetsData, PutsOffer, AsksLock, AsksTime, Removed, Ends, Heard, Held, Work, heard_of, fault_of, fault_phase, first_look, is_move, listens, partner, quiet, says, side_of, taken_message, after_frame, after_failed_release}
+use Rattle.node_model.specs.Jobs.{Part, Gets, Puts, Drops, Phase, Next, GetsData, PutsOffer, AsksLock, AsksTime, Removed, Heard, Held, Work, heard_of, fault_of, is_move, partner, quiet, says, side_of, taken_message, after_failed_release}
 use Rattle.node_model.specs.Calls.{to_hold, to_release, to_resume}
 use Rattle.node_model.specs.Look.{Effect}
 use Rattle.node_model.specs.Knows.{enough_by, is_unasked, next_by, asks_by, candidates_by}
@@ -83,7 +83,7 @@ fault_on t peer on taken call plain = (
 
 pub ends_good : (t : Turn) → partner t.w.what.peer t.w.phase ≡ None → IsLive t.w.phase → (outcome : Outcome) → GoodMade t (ends t None outcome)
 ends_good t alone live outcome =
-    let rest : Effect = record { kind = ends_job t.w.number outcome; taken = None; sent = farewells t (is_lost_ordered outcome); lines = [] } in
+    let rest : Effect = record { kind = ends_job t.w.number outcome; taken = None; sent = farewells t (is_lost_ordered outcome); lines = []; calls = [] } in
     attempts_even (GoodMade t) t (to_release (owns_share t && not (is_lost_ordered outcome))) None rest
     (λ call e. subst (λ (c : Call). GoodMade t (quietly (Fault c (by_me t)) None)) (sym (release_is (owns_share t && not (is_lost_ordered outcome)) call e))
     (still_keeps t alone live (Fault calls.Unhold (by_me t)) (after_failed_release t.w t.look.time t.w.phase) (unreleased_alone t.w.what.peer t.w t.look.time t.w.phase alone), inl tt)) tt
@@ -91,7 +91,7 @@ ends_good t alone live outcome =
 -- the end of a job that is to end
 pub dead_good : (t : Turn) → (IsLive t.w.phase → ⊥) → (outcome : Outcome) → GoodMade t (ends t None outcome)
 dead_good t dead outcome =
-    let rest : Effect = record { kind = ends_job t.w.number outcome; taken = None; sent = farewells t (is_lost_ordered outcome); lines = [] } in
+    let rest : Effect = record { kind = ends_job t.w.number outcome; taken = None; sent = farewells t (is_lost_ordered outcome); lines = []; calls = [] } in
     attempts_even (GoodMade t) t (to_release (owns_share t && not (is_lost_ordered outcome))) None rest
     (λ call e. subst (λ (c : Call). GoodMade t (quietly (Fault c (by_me t)) None)) (sym (release_is (owns_share t && not (is_lost_ordered outcome)) call e))
     (over_keeps t (quietly (Fault calls.Unhold (by_me t)) None) (after_failed_release t.w t.look.time t.w.phase) (still_dead t.w.phase refl), inl tt)) tt

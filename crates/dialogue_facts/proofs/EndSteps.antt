@@ -92,7 +92,7 @@ goes_old t peer chosen = if_either (QuietOld t t.w.version) (end_with t peer).op
     (λ e k silent. let old = asks_old t t.w.version peer None t.w.part refl k silent in (peer, old, chosen old.part_is)) (λ e k silent. absurd (cc))
 
 ends_old : (t : Turn) (taken : Option FrameView) (outcome : Outcome) → QuietOld t t.w.version (ends t taken outcome)
-ends_old t taken outcome = attempts_old t t.w.version _ taken (record { kind = ends_job t.w.number outcome; taken = taken; sent = farewells t (is_lost_ordered outcome); lines = [] }) (λ k silent. absurd k)
+ends_old t taken outcome = attempts_old t t.w.version _ taken (record { kind = ends_job t.w.number outcome; taken = taken; sent = farewells t (is_lost_ordered outcome); lines = []; calls = [] }) (λ k silent. absurd k)
 
 judges_old : (t : Turn) (enough : Bool) (next : Option ℕ) (side : Side) → enough_by t.read t.w ≡ enough → next_by t.read t.w ≡ next → QuietOld t t.w.version (judges t enough next side)
 judges_old t false (Some peer) side a b = goes_old t peer (λ part. inr b)
@@ -147,7 +147,7 @@ times_late t f n None first = tt
 times_late t f n (Some end) first = go (nat_lt (clock_of t) end) refl
   where
     ended : nat_lt (clock_of t) end ≡ false → LateBy t (ends t (Some f) (Refused (refusals.Expired end (clock_of t)))).kind
-    ended late = attempts_even (λ (m : Effect). LateBy t m.kind) t _ (Some f) (record { kind = ends_job t.w.number (Refused (refusals.Expired end (clock_of t))); taken = Some f; sent = farewells t false; lines = [] })
+    ended late = attempts_even (λ (m : Effect). LateBy t m.kind) t _ (Some f) (record { kind = ends_job t.w.number (Refused (refusals.Expired end (clock_of t))); taken = Some f; sent = farewells t false; lines = []; calls = [] })
         (λ call e. at call) tt
       where
         at : (call : Call) → LateBy t (Fault call (by_me t))
@@ -225,12 +225,12 @@ goes_enough : (t : Turn) (peer : ℕ) → EnoughMade t (goes_to t peer)
 goes_enough t peer = if_either (EnoughMade t) (end_with t peer).opened (asks t t.w.version None peer t.w.part) (sends_to t (talk t) None peer (Opening ∷ [])) (λ e. asks_enough t t.w.version None peer t.w.part) (λ e. tt)
 
 expired_enough : (t : Turn) (clk : ℕ) (end : Option ℕ) → enough_by t.read t.w ≡ true → EnoughMade t (ends t None (expiry clk end))
-expired_enough t clk None enough = attempts_enough t _ None (record { kind = ends_job t.w.number (expiry clk None); taken = None; sent = farewells t false; lines = [] }) enough
-expired_enough t clk (Some end) enough = attempts_enough t _ None (record { kind = ends_job t.w.number (expiry clk (Some end)); taken = None; sent = farewells t false; lines = [] }) enough
+expired_enough t clk None enough = attempts_enough t _ None (record { kind = ends_job t.w.number (expiry clk None); taken = None; sent = farewells t false; lines = []; calls = [] }) enough
+expired_enough t clk (Some end) enough = attempts_enough t _ None (record { kind = ends_job t.w.number (expiry clk (Some end)); taken = None; sent = farewells t false; lines = []; calls = [] }) enough
 
 judges_enough : (t : Turn) (enough : Bool) (next : Option ℕ) (side : Side) → enough_by t.read t.w ≡ enough → EnoughMade t (judges t enough next side)
 judges_enough t false (Some peer) side e = goes_enough t peer
-judges_enough t false None side e = attempts_enough t _ None (record { kind = ends_job t.w.number (lacking_outcome t); taken = None; sent = farewells t false; lines = [] }) tt
+judges_enough t false None side e = attempts_enough t _ None (record { kind = ends_job t.w.number (lacking_outcome t); taken = None; sent = farewells t false; lines = []; calls = [] }) tt
 judges_enough t true next Local e = if_either (EnoughMade t) (in_time (clock_of t) (first_end t)) (attempts t (calls.Remove ∷ []) None (quietly _ None)) (ends t None (expiry (clock_of t) (first_end t)))
     (λ h. attempts_enough t (calls.Remove ∷ []) None (quietly _ None) tt) (λ h. expired_enough t (clock_of t) (first_end t) e)
 judges_enough t true next Remote e = goes_enough t (target t)

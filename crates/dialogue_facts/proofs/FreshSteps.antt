@@ -75,7 +75,7 @@ plain_call cs a b P good call e = good call (λ h. cc) (λ h. cc)
 
 ends_off : (t : Turn) → owns_share t ≡ false → (outcome : Outcome) → OffBy t (ends t None outcome)
 ends_off t none outcome = attempts_even (OffBy t) t (to_release (owns_share t && not (is_lost_ordered outcome))) None
-    (record { kind = ends_job t.w.number outcome; taken = None; sent = farewells t (is_lost_ordered outcome); lines = [] })
+    (record { kind = ends_job t.w.number outcome; taken = None; sent = farewells t (is_lost_ordered outcome); lines = []; calls = [] })
     (λ call e. absurd (no_release (owns_share t) (not (is_lost_ordered outcome)) none call e)) tt
 
 -- ---- a copy

@@ -46,7 +46,7 @@ attempts_not : (t : Turn) (cs : List Call) (taken : Option FrameView) (m : Effec
 attempts_not t cs taken m good = attempts_even Not t cs taken m (λ call e. tt) good
 
 ends_not : (t : Turn) (o : Outcome) → NotOf o → Not (ends t None o)
-ends_not t o good = attempts_not t _ None (record { kind = ends_job t.w.number o; taken = None; sent = farewells t (is_lost_ordered o); lines = [] }) good
+ends_not t o good = attempts_not t _ None (record { kind = ends_job t.w.number o; taken = None; sent = farewells t (is_lost_ordered o); lines = []; calls = [] }) good
 
 target_not : (t : Turn) (version : ℕ) (taken : Option FrameView) (end : Option ℕ) → Not (asks_target t version taken end)
 target_not t version taken None = tt

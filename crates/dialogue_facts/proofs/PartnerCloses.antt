@@ -76,7 +76,7 @@ wrong_shuts t f peer on = there_shuts t (talk t) (Some f) peer Closing on
 ends_shuts : (t : Turn) (taken : Option FrameView) (outcome : Outcome) → Shuts t (ends t taken outcome)
 ends_shuts t taken outcome =
     let lost = is_lost_ordered outcome in
-    attempts_shuts t (to_release (owns_share t && not lost)) taken (record { kind = ends_job t.w.number outcome; taken = taken; sent = farewells t lost; lines = [] }) (inl tt)
+    attempts_shuts t (to_release (owns_share t && not lost)) taken (record { kind = ends_job t.w.number outcome; taken = taken; sent = farewells t lost; lines = []; calls = [] }) (inl tt)
 
 -- ---- requests
 

@@ -76,7 +76,7 @@ module _ (before : Turn) (none : owns_share before ≡ false) where
 
   put_ends : (outcome : Outcome) → OffBy p (ends p None outcome)
   put_ends outcome = attempts_even (OffBy p) p (to_release (owns_share p && not (is_lost_ordered outcome))) None
-      (record { kind = ends_job p.w.number outcome; taken = None; sent = farewells p (is_lost_ordered outcome); lines = [] })
+      (record { kind = ends_job p.w.number outcome; taken = None; sent = farewells p (is_lost_ordered outcome); lines = []; calls = [] })
       (λ call e. absurd (no_release (owns_share p) (not (is_lost_ordered outcome)) none call e)) tt
 
   module _ (read : message_of (text_of (Put [] (key_of p))) ≡ Some (Put [] (key_of p))) where
@@ -193,7 +193,7 @@ ended_stays s past e x b o at =
         go true g =
             let same : goes t' (Ends o) ≡ m = cc in
             subst (λ (y : Effect). EndedBy o t' y y.kind) same (attempts_even (λ (y : Effect). EndedBy o t' y y.kind) t' (to_release (owns_share t' && not (is_lost_ordered o))) None
-            (record { kind = ends_job t'.w.number o; taken = None; sent = farewells t' (is_lost_ordered o); lines = [] })
+            (record { kind = ends_job t'.w.number o; taken = None; sent = farewells t' (is_lost_ordered o); lines = []; calls = [] })
             (λ call h. subst (λ (c : Call). EndedBy o t' (quietly (Fault c (by_me t')) None) (Fault c (by_me t'))) (sym (release_is (owns_share t' && not (is_lost_ordered o)) call h)) refl) tt)
 
 -- ---- a job that has begun its part has made a step

@@ -59,7 +59,7 @@ one_tells t kind taken peer body place = inr (place, tt)
 ends_tells : (t : Turn) (taken : Option FrameView) (outcome : Outcome) → Tells t (ends t taken outcome)
 ends_tells t taken outcome =
     let lost = is_lost_ordered outcome in
-    attempts_tells t (to_release (owns_share t && not lost)) taken (record { kind = ends_job t.w.number outcome; taken = taken; sent = farewells t lost; lines = [] }) (inl tt)
+    attempts_tells t (to_release (owns_share t && not lost)) taken (record { kind = ends_job t.w.number outcome; taken = taken; sent = farewells t lost; lines = []; calls = [] }) (inl tt)
 
 asks_tells : (t : Turn) (version : ℕ) (taken : Option FrameView) (peer : ℕ) (part : Part) → Transfers part → Place t peer → Tells t (asks t version taken peer part)
 asks_tells t version taken peer Gets is place =

@@ -3,4 +3,4 @@
 
 mod laws;
 
-pub use laws::driven_runs_are_safe;
+pub use laws::{driven_runs_are_safe, limited_runs_are_safe};

@@ -14,8 +14,10 @@ use Rattle.run_data.specs.declared.job.DropRefusal.TheVariants as drops
 use Rattle.run_data.specs.declared.job.Cause.TheVariants as causes
 use Rattle.run_data.specs.declared.run.RepoView.{RepoView}
 use Rattle.run_data.specs.declared.run.Run.{Run}
-use Rattle.driver_model.specs.Lines as lines
-use Rattle.driver_model.specs.Lines.{Have, SetPart, Add, File, Set, Raw, Merge, Compact, Begin, Turns, Settle, Close, Crash, Wait, Fail, Par, Runs, Crashes, Closes, Fails}
+use Rattle.script_commands.specs.declared.command.Action.TheVariants.{Have}
+use Rattle.script_commands.specs.declared.command.BlockLine.TheVariants.{Runs, Crashes, Fails}
+use Rattle.script_commands.specs.declared.command.Command.{Command}
+use Rattle.script_commands.specs.declared.command.Command.TheVariants.{Does, Par}
 use Rattle.driver_model.specs.Driver.{Driver, DriverInput, at_first}
 use Rattle.driver_model.specs.ScriptSteps.{begins, crashes, will_fail}
 use Rattle.driver_model.specs.Turning.{turn}
@@ -54,10 +56,10 @@ repos = ((record { name = (codes "a"); id = (17 ∷ 17 ∷ 17 ∷ 17 ∷ 17 ∷ 
 abbrev given : DriverInput
 given = record { repos = repos; matches = matches_in ((t0, c0) ∷ []) }
 
-abbrev l0 : lines.Line
-l0 = Have 0 t0 c0
+abbrev l0 : Command
+l0 = Does (Have 0 t0 c0)
 
-abbrev l1 : lines.Line
+abbrev l1 : Command
 l1 = Par ((record { repo = 0; line = Runs (record { kind = jobs.Drop; key = t0; path = None; peer = None }) }) ∷ (record { repo = 1; line = Crashes 0 }) ∷ (record { repo = 0; line = Fails calls.Has }) ∷ (record { repo = 0; line = Runs (record { kind = jobs.Drop; key = t0; path = None; peer = None }) }) ∷ [])
 
 abbrev d0 : Driver
@@ -454,7 +456,7 @@ abbrev b23 : InBlock
 b23 = record { driver = d20; left = ((record { repo = 0; lines = ([]); jobs = (2 ∷ 1 ∷ []) }) ∷ (record { repo = 1; lines = ([]); jobs = ([]) }) ∷ []); idle = 2; took = false }
 
 line1 : does given l1 d2 ≡ d20
-line1 = blocks_by given ((record { repo = 0; line = Runs (record { kind = jobs.Drop; key = t0; path = None; peer = None }) }) ∷ (record { repo = 1; line = Crashes 0 }) ∷ (record { repo = 0; line = Fails calls.Has }) ∷ (record { repo = 0; line = Runs (record { kind = jobs.Drop; key = t0; path = None; peer = None }) }) ∷ []) d2 11 b23 d20 (ap (block_goes given 10) (block_came given b1 b2 d6 refl c_4 (ap (turns_of given (1 ∷ [])) c_5 ∙ ap (turns_of given ([])) c_6)) ∙ (ap (block_goes given 9) (block_came given b3 b4 d7 refl c_7 (ap (turns_of given (1 ∷ [])) c_8 ∙ ap (turns_of given ([])) c_9)) ∙ (ap (block_goes given 8) (block_came given b5 b6 d9 refl c_11 (ap (turns_of given (1 ∷ [])) c_12 ∙ ap (turns_of given ([])) c_13)) ∙ (ap (block_goes given 7) (block_came given b7 b8 d11 refl c_14 (ap (turns_of given (1 ∷ [])) c_15 ∙ ap (turns_of given ([])) c_16)) ∙ (ap (block_goes given 6) (block_came given b9 b10 d13 refl c_17 (ap (turns_of given (1 ∷ [])) c_18 ∙ ap (turns_of given ([])) c_19)) ∙ (ap (block_goes given 5) (block_came given b11 b12 d15 refl c_20 (ap (turns_of given (1 ∷ [])) c_21 ∙ ap (turns_of given ([])) c_22)) ∙ (ap (block_goes given 4) (block_came given b13 b14 d17 refl c_23 (ap (turns_of given (1 ∷ [])) c_24 ∙ ap (turns_of given ([])) c_25)) ∙ (ap (block_goes given 3) (block_came given b15 b16 d18 refl c_26 (ap (turns_of given (1 ∷ [])) c_27 ∙ ap (turns_of given ([])) c_28)) ∙ (ap (block_goes given 2) (block_came given b17 b18 d20 refl c_29 (ap (turns_of given (1 ∷ [])) c_30 ∙ ap (turns_of given ([])) c_31)) ∙ (ap (block_goes given 1) (block_came given b19 b20 d20 refl c_32 (ap (turns_of given (1 ∷ [])) c_33 ∙ ap (turns_of given ([])) c_34)) ∙ (ap (block_goes given 0) (block_came given b21 b22 d20 refl c_35 (ap (turns_of given (1 ∷ [])) c_33 ∙ ap (turns_of given ([])) c_34)) ∙ (refl)))))))))))) refl (omega arith) (settles_by given 2 d20 (record { driver = d20; idle = 2 }) (ap (goes given 1) (came given 0 d20 d20 refl (ap (turns_of given (1 ∷ [])) c_33 ∙ ap (turns_of given ([])) c_34)) ∙ (ap (goes given 0) (came given 1 d20 d20 refl (ap (turns_of given (1 ∷ [])) c_33 ∙ ap (turns_of given ([])) c_34)) ∙ (refl))) refl (omega arith))
+line1 = blocks_by given ((record { repo = 0; line = Runs (record { kind = jobs.Drop; key = t0; path = None; peer = None }) }) ∷ (record { repo = 1; line = Crashes 0 }) ∷ (record { repo = 0; line = Fails calls.Has }) ∷ (record { repo = 0; line = Runs (record { kind = jobs.Drop; key = t0; path = None; peer = None }) }) ∷ []) d2 11 b23 d20 (ap (block_goes given 10) (block_came given b1 b2 d6 refl refl c_4 (ap (turns_of given (1 ∷ [])) c_5 ∙ ap (turns_of given ([])) c_6)) ∙ (ap (block_goes given 9) (block_came given b3 b4 d7 refl refl c_7 (ap (turns_of given (1 ∷ [])) c_8 ∙ ap (turns_of given ([])) c_9)) ∙ (ap (block_goes given 8) (block_came given b5 b6 d9 refl refl c_11 (ap (turns_of given (1 ∷ [])) c_12 ∙ ap (turns_of given ([])) c_13)) ∙ (ap (block_goes given 7) (block_came given b7 b8 d11 refl refl c_14 (ap (turns_of given (1 ∷ [])) c_15 ∙ ap (turns_of given ([])) c_16)) ∙ (ap (block_goes given 6) (block_came given b9 b10 d13 refl refl c_17 (ap (turns_of given (1 ∷ [])) c_18 ∙ ap (turns_of given ([])) c_19)) ∙ (ap (block_goes given 5) (block_came given b11 b12 d15 refl refl c_20 (ap (turns_of given (1 ∷ [])) c_21 ∙ ap (turns_of given ([])) c_22)) ∙ (ap (block_goes given 4) (block_came given b13 b14 d17 refl refl c_23 (ap (turns_of given (1 ∷ [])) c_24 ∙ ap (turns_of given ([])) c_25)) ∙ (ap (block_goes given 3) (block_came given b15 b16 d18 refl refl c_26 (ap (turns_of given (1 ∷ [])) c_27 ∙ ap (turns_of given ([])) c_28)) ∙ (ap (block_goes given 2) (block_came given b17 b18 d20 refl refl c_29 (ap (turns_of given (1 ∷ [])) c_30 ∙ ap (turns_of given ([])) c_31)) ∙ (ap (block_goes given 1) (block_came given b19 b20 d20 refl refl c_32 (ap (turns_of given (1 ∷ [])) c_33 ∙ ap (turns_of given ([])) c_34)) ∙ (ap (block_goes given 0) (block_came given b21 b22 d20 refl refl c_35 (ap (turns_of given (1 ∷ [])) c_33 ∙ ap (turns_of given ([])) c_34)) ∙ (refl)))))))))))) refl refl (omega arith) (settles_by given 2 d20 (record { driver = d20; idle = 2 }) (ap (goes given 1) (came given 0 d20 d20 refl (ap (turns_of given (1 ∷ [])) c_33 ∙ ap (turns_of given ([])) c_34)) ∙ (ap (goes given 0) (came given 1 d20 d20 refl (ap (turns_of given (1 ∷ [])) c_33 ∙ ap (turns_of given ([])) c_34)) ∙ (refl))) refl (omega arith))
 
 abbrev d21 : Driver
 d21 = record { past = p18; flights = ([]); fails = ([]); contents = ((record { repo = 0; key = t0; bytes = c0 }) ∷ []); parts = ([]); largest = 3; tree = ([]); marks = (2 ∷ 19 ∷ []) }

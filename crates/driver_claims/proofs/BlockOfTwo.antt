@@ -8,8 +8,9 @@ use Rattle.run_data.specs.declared.job.Outcome.TheVariants as outcomes
 use Rattle.run_data.specs.declared.job.DropRefusal.TheVariants as drops
 use Rattle.run_data.specs.declared.run.RepoView.{RepoView}
 use Rattle.run_data.specs.declared.run.Run.{Run}
-use Rattle.driver_model.specs.Lines as lines
-use Rattle.driver_model.specs.Lines.{Have, SetPart, Add, File, Set, Raw, Merge, Compact, Begin, Turns, Settle, Close, Crash, Wait, Fail, Par, Runs, Crashes, Closes, Fails}
+use Rattle.script_commands.specs.declared.command.BlockLine.TheVariants.{Runs}
+use Rattle.script_commands.specs.declared.command.Command.{Command}
+use Rattle.script_commands.specs.declared.command.Command.TheVariants.{Par}
 use Rattle.driver_model.specs.Driver.{Driver, DriverInput, at_first}
 use Rattle.driver_model.specs.ScriptSteps.{begins}
 use Rattle.driver_model.specs.Turning.{turn}
@@ -30,10 +31,10 @@ repos = ((record { name = (codes "a"); id = (17 ∷ 17 ∷ 17 ∷ 17 ∷ 17 ∷ 
 abbrev given : DriverInput
 given = record { repos = repos; matches = matches_in [] }
 
-abbrev l0 : lines.Line
+abbrev l0 : Command
 l0 = Par ((record { repo = 0; line = Runs (record { kind = jobs.Drop; key = t0; path = None; peer = None }) }) ∷ (record { repo = 0; line = Runs (record { kind = jobs.Drop; key = t1; path = None; peer = None }) }) ∷ [])
 
-abbrev l1 : lines.Line
+abbrev l1 : Command
 l1 = Par ([])
 
 abbrev d0 : Driver
@@ -139,7 +140,7 @@ abbrev b9 : InBlock
 b9 = record { driver = d4; left = ((record { repo = 0; lines = ([]); jobs = (2 ∷ 1 ∷ []) }) ∷ []); idle = 2; took = false }
 
 line0 : does given l0 d0 ≡ d4
-line0 = blocks_by given ((record { repo = 0; line = Runs (record { kind = jobs.Drop; key = t0; path = None; peer = None }) }) ∷ (record { repo = 0; line = Runs (record { kind = jobs.Drop; key = t1; path = None; peer = None }) }) ∷ []) d0 4 b9 d4 (ap (block_goes given 3) (block_came given b1 b2 d2 refl c_1 (ap (turns_of given ([])) c_2)) ∙ (ap (block_goes given 2) (block_came given b3 b4 d4 refl c_4 (ap (turns_of given ([])) c_5)) ∙ (ap (block_goes given 1) (block_came given b5 b6 d4 refl c_6 (ap (turns_of given ([])) c_7)) ∙ (ap (block_goes given 0) (block_came given b7 b8 d4 refl c_8 (ap (turns_of given ([])) c_7)) ∙ (refl))))) refl (omega arith) (settles_by given 2 d4 (record { driver = d4; idle = 2 }) (ap (goes given 1) (came given 0 d4 d4 refl (ap (turns_of given ([])) c_7)) ∙ (ap (goes given 0) (came given 1 d4 d4 refl (ap (turns_of given ([])) c_7)) ∙ (refl))) refl (omega arith))
+line0 = blocks_by given ((record { repo = 0; line = Runs (record { kind = jobs.Drop; key = t0; path = None; peer = None }) }) ∷ (record { repo = 0; line = Runs (record { kind = jobs.Drop; key = t1; path = None; peer = None }) }) ∷ []) d0 4 b9 d4 (ap (block_goes given 3) (block_came given b1 b2 d2 refl refl c_1 (ap (turns_of given ([])) c_2)) ∙ (ap (block_goes given 2) (block_came given b3 b4 d4 refl refl c_4 (ap (turns_of given ([])) c_5)) ∙ (ap (block_goes given 1) (block_came given b5 b6 d4 refl refl c_6 (ap (turns_of given ([])) c_7)) ∙ (ap (block_goes given 0) (block_came given b7 b8 d4 refl refl c_8 (ap (turns_of given ([])) c_7)) ∙ (refl))))) refl refl (omega arith) (settles_by given 2 d4 (record { driver = d4; idle = 2 }) (ap (goes given 1) (came given 0 d4 d4 refl (ap (turns_of given ([])) c_7)) ∙ (ap (goes given 0) (came given 1 d4 d4 refl (ap (turns_of given ([])) c_7)) ∙ (refl))) refl (omega arith))
 
 abbrev d5 : Driver
 d5 = record { past = p3; flights = ([]); fails = ([]); contents = ([]); parts = ([]); largest = 0; tree = ([]); marks = (4 ∷ []) }
@@ -172,7 +173,7 @@ abbrev b14 : InBlock
 b14 = record { driver = d5; left = ((record { repo = 0; lines = ([]); jobs = ([]) }) ∷ []); idle = 2; took = false }
 
 line1 : does given l1 d5 ≡ d5
-line1 = blocks_by given ([]) d5 2 b14 d5 (ap (block_goes given 1) (block_came given b10 b11 d5 refl c_9 (ap (turns_of given ([])) c_10)) ∙ (ap (block_goes given 0) (block_came given b12 b13 d5 refl c_11 (ap (turns_of given ([])) c_10)) ∙ (refl))) refl (omega arith) (settles_by given 2 d5 (record { driver = d5; idle = 2 }) (ap (goes given 1) (came given 0 d5 d5 refl (ap (turns_of given ([])) c_10)) ∙ (ap (goes given 0) (came given 1 d5 d5 refl (ap (turns_of given ([])) c_10)) ∙ (refl))) refl (omega arith))
+line1 = blocks_by given ([]) d5 2 b14 d5 (ap (block_goes given 1) (block_came given b10 b11 d5 refl refl c_9 (ap (turns_of given ([])) c_10)) ∙ (ap (block_goes given 0) (block_came given b12 b13 d5 refl refl c_11 (ap (turns_of given ([])) c_10)) ∙ (refl))) refl refl (omega arith) (settles_by given 2 d5 (record { driver = d5; idle = 2 }) (ap (goes given 1) (came given 0 d5 d5 refl (ap (turns_of given ([])) c_10)) ∙ (ap (goes given 0) (came given 1 d5 d5 refl (ap (turns_of given ([])) c_10)) ∙ (refl))) refl (omega arith))
 
 abbrev d6 : Driver
 d6 = record { past = p3; flights = ([]); fails = ([]); contents = ([]); parts = ([]); largest = 0; tree = ([]); marks = (4 ∷ 4 ∷ []) }

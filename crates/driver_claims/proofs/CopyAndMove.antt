@@ -11,8 +11,10 @@ use Rattle.run_data.specs.declared.job.Outcome.TheVariants as outcomes
 use Rattle.run_data.specs.declared.job.DropRefusal.TheVariants as drops
 use Rattle.run_data.specs.declared.run.RepoView.{RepoView}
 use Rattle.run_data.specs.declared.run.Run.{Run}
-use Rattle.driver_model.specs.Lines as lines
-use Rattle.driver_model.specs.Lines.{Have, SetPart, Add, File, Set, Raw, Merge, Compact, Begin, Turns, Settle, Close, Crash, Wait, Fail, Par, Runs, Crashes, Closes, Fails}
+use Rattle.script_commands.specs.declared.command.Action.TheVariants as actions
+use Rattle.script_commands.specs.declared.command.Action.TheVariants.{Have}
+use Rattle.script_commands.specs.declared.command.Command.{Command}
+use Rattle.script_commands.specs.declared.command.Command.TheVariants.{Does}
 use Rattle.driver_model.specs.Driver.{Driver, DriverInput, at_first}
 use Rattle.driver_model.specs.ScriptSteps.{begins}
 use Rattle.driver_model.specs.Turning.{turn}
@@ -75,17 +77,17 @@ repos = ((record { name = (codes "a"); id = (17 ∷ 17 ∷ 17 ∷ 17 ∷ 17 ∷ 
 abbrev given : DriverInput
 given = record { repos = repos; matches = matches_in ((t0, c0) ∷ []) }
 
-abbrev l0 : lines.Line
-l0 = Have 0 t0 c0
+abbrev l0 : Command
+l0 = Does (Have 0 t0 c0)
 
-abbrev l1 : lines.Line
-l1 = lines.Run 0 (record { kind = jobs.Copy; key = t0; path = None; peer = (Some 1) })
+abbrev l1 : Command
+l1 = Does (actions.Run 0 (record { kind = jobs.Copy; key = t0; path = None; peer = (Some 1) }))
 
-abbrev l2 : lines.Line
-l2 = lines.Run 0 (record { kind = jobs.MoveTo; key = t0; path = None; peer = (Some 1) })
+abbrev l2 : Command
+l2 = Does (actions.Run 0 (record { kind = jobs.MoveTo; key = t0; path = None; peer = (Some 1) }))
 
-abbrev l3 : lines.Line
-l3 = lines.Run 0 (record { kind = jobs.Drop; key = t0; path = None; peer = None })
+abbrev l3 : Command
+l3 = Does (actions.Run 0 (record { kind = jobs.Drop; key = t0; path = None; peer = None }))
 
 abbrev d0 : Driver
 d0 = record { past = []; flights = ([]); fails = ([]); contents = ([]); parts = ([]); largest = 0; tree = ([]); marks = ([]) }

@@ -15,8 +15,10 @@ use Rattle.run_data.specs.declared.job.JobKind.TheVariants as jobs
 use Rattle.run_data.specs.declared.job.Outcome.TheVariants as outcomes
 use Rattle.run_data.specs.declared.run.RepoView.{RepoView}
 use Rattle.run_data.specs.declared.run.Run.{Run}
-use Rattle.driver_model.specs.Lines as lines
-use Rattle.driver_model.specs.Lines.{Have, SetPart, Add, File, Set, Raw, Merge, Compact, Begin, Turns, Settle, Close, Crash, Wait, Fail, Par, Runs, Crashes, Closes, Fails}
+use Rattle.script_commands.specs.declared.command.Action.TheVariants as actions
+use Rattle.script_commands.specs.declared.command.Action.TheVariants.{Have, SetPart, Add, File, Set, Merge, Compact, Fail}
+use Rattle.script_commands.specs.declared.command.Command.{Command}
+use Rattle.script_commands.specs.declared.command.Command.TheVariants.{Does}
 use Rattle.driver_model.specs.Driver.{Driver, DriverInput, at_first}
 use Rattle.driver_model.specs.ScriptSteps.{begins}
 use Rattle.driver_model.specs.Turning.{turn}
@@ -94,92 +96,92 @@ repos = ((record { name = (codes "a"); id = (17 ∷ 17 ∷ 17 ∷ 17 ∷ 17 ∷ 
 abbrev given : DriverInput
 given = record { repos = repos; matches = matches_in ((t0, c0) ∷ (t2, c0) ∷ []) }
 
-abbrev l0 : lines.Line
-l0 = Fail 0 calls.Has
+abbrev l0 : Command
+l0 = Does (Fail 0 calls.Has)
 
-abbrev l1 : lines.Line
-l1 = Have 0 t0 c0
+abbrev l1 : Command
+l1 = Does (Have 0 t0 c0)
 
-abbrev l2 : lines.Line
-l2 = Fail 0 calls.DropPart
+abbrev l2 : Command
+l2 = Does (Fail 0 calls.DropPart)
 
-abbrev l3 : lines.Line
-l3 = Have 0 t0 c0
+abbrev l3 : Command
+l3 = Does (Have 0 t0 c0)
 
-abbrev l4 : lines.Line
-l4 = Fail 0 calls.Append
+abbrev l4 : Command
+l4 = Does (Fail 0 calls.Append)
 
-abbrev l5 : lines.Line
-l5 = Have 0 t0 c0
+abbrev l5 : Command
+l5 = Does (Have 0 t0 c0)
 
-abbrev l6 : lines.Line
-l6 = Fail 0 calls.Commit
+abbrev l6 : Command
+l6 = Does (Fail 0 calls.Commit)
 
-abbrev l7 : lines.Line
-l7 = Have 0 t0 c0
+abbrev l7 : Command
+l7 = Does (Have 0 t0 c0)
 
-abbrev l8 : lines.Line
-l8 = Fail 0 calls.PutFile
+abbrev l8 : Command
+l8 = Does (Fail 0 calls.PutFile)
 
-abbrev l9 : lines.Line
-l9 = Have 0 t0 c0
+abbrev l9 : Command
+l9 = Does (Have 0 t0 c0)
 
-abbrev l10 : lines.Line
-l10 = Have 0 t0 c0
+abbrev l10 : Command
+l10 = Does (Have 0 t0 c0)
 
-abbrev l11 : lines.Line
-l11 = Fail 0 calls.Append
+abbrev l11 : Command
+l11 = Does (Fail 0 calls.Append)
 
-abbrev l12 : lines.Line
-l12 = SetPart 0 t1 c1
+abbrev l12 : Command
+l12 = Does (SetPart 0 t1 c1)
 
-abbrev l13 : lines.Line
-l13 = SetPart 0 t1 c1
+abbrev l13 : Command
+l13 = Does (SetPart 0 t1 c1)
 
-abbrev l14 : lines.Line
-l14 = Set 0 logs.Numcopies topics.Whole (values.Number 2)
+abbrev l14 : Command
+l14 = Does (Set 0 logs.Numcopies topics.Whole (values.Number 2))
 
-abbrev l15 : lines.Line
-l15 = Set 0 logs.Trust (topics.Repo (34 ∷ 34 ∷ 34 ∷ 34 ∷ 17 ∷ 17 ∷ 65 ∷ 17 ∷ 129 ∷ 17 ∷ 17 ∷ 17 ∷ 17 ∷ 17 ∷ 17 ∷ 1 ∷ [])) (values.Level levels.Trusted)
+abbrev l15 : Command
+l15 = Does (Set 0 logs.Trust (topics.Repo (34 ∷ 34 ∷ 34 ∷ 34 ∷ 17 ∷ 17 ∷ 65 ∷ 17 ∷ 129 ∷ 17 ∷ 17 ∷ 17 ∷ 17 ∷ 17 ∷ 17 ∷ 1 ∷ [])) (values.Level levels.Trusted))
 
-abbrev l16 : lines.Line
-l16 = Fail 1 calls.PutFile
+abbrev l16 : Command
+l16 = Does (Fail 1 calls.PutFile)
 
-abbrev l17 : lines.Line
-l17 = Merge 1 0
+abbrev l17 : Command
+l17 = Does (Merge 1 0)
 
-abbrev l18 : lines.Line
-l18 = Merge 1 0
+abbrev l18 : Command
+l18 = Does (Merge 1 0)
 
-abbrev l19 : lines.Line
-l19 = Merge 1 0
+abbrev l19 : Command
+l19 = Does (Merge 1 0)
 
-abbrev l20 : lines.Line
-l20 = Set 0 logs.Numcopies topics.Whole (values.Number 1)
+abbrev l20 : Command
+l20 = Does (Set 0 logs.Numcopies topics.Whole (values.Number 1))
 
-abbrev l21 : lines.Line
-l21 = Fail 0 calls.PutFile
+abbrev l21 : Command
+l21 = Does (Fail 0 calls.PutFile)
 
-abbrev l22 : lines.Line
-l22 = Compact 0
+abbrev l22 : Command
+l22 = Does (Compact 0)
 
-abbrev l23 : lines.Line
-l23 = Compact 0
+abbrev l23 : Command
+l23 = Does (Compact 0)
 
-abbrev l24 : lines.Line
-l24 = Compact 0
+abbrev l24 : Command
+l24 = Does (Compact 0)
 
-abbrev l25 : lines.Line
-l25 = Add 1 t3 t2 c0
+abbrev l25 : Command
+l25 = Does (Add 1 t3 t2 c0)
 
-abbrev l26 : lines.Line
-l26 = File t4 t0
+abbrev l26 : Command
+l26 = Does (File t4 t0)
 
-abbrev l27 : lines.Line
-l27 = lines.Run 1 (record { kind = jobs.Get; key = t0; path = (Some t4); peer = (Some 0) })
+abbrev l27 : Command
+l27 = Does (actions.Run 1 (record { kind = jobs.Get; key = t0; path = (Some t4); peer = (Some 0) }))
 
-abbrev l28 : lines.Line
-l28 = lines.Run 0 (record { kind = jobs.Drop; key = t0; path = (Some t4); peer = None })
+abbrev l28 : Command
+l28 = Does (actions.Run 0 (record { kind = jobs.Drop; key = t0; path = (Some t4); peer = None }))
 
 abbrev d0 : Driver
 d0 = record { past = []; flights = ([]); fails = ([]); contents = ([]); parts = ([]); largest = 0; tree = ([]); marks = ([]) }

@@ -12,8 +12,9 @@ use Rattle.run_data.specs.declared.job.DropRefusal.TheVariants as drops
 use Rattle.run_data.specs.declared.job.Cause.TheVariants as causes
 use Rattle.run_data.specs.declared.run.RepoView.{RepoView}
 use Rattle.run_data.specs.declared.run.Run.{Run}
-use Rattle.driver_model.specs.Lines as lines
-use Rattle.driver_model.specs.Lines.{Have, SetPart, Add, File, Set, Raw, Merge, Compact, Begin, Turns, Settle, Close, Crash, Wait, Fail, Par, Runs, Crashes, Closes, Fails}
+use Rattle.script_commands.specs.declared.command.Action.TheVariants.{Have, Begin, Turns, Settle, Crash}
+use Rattle.script_commands.specs.declared.command.Command.{Command}
+use Rattle.script_commands.specs.declared.command.Command.TheVariants.{Does}
 use Rattle.driver_model.specs.Driver.{Driver, DriverInput, at_first}
 use Rattle.driver_model.specs.ScriptSteps.{begins}
 use Rattle.driver_model.specs.Turning.{turn}
@@ -58,65 +59,65 @@ repos = ((record { name = (codes "a"); id = (17 ∷ 17 ∷ 17 ∷ 17 ∷ 17 ∷ 
 abbrev given : DriverInput
 given = record { repos = repos; matches = matches_in ((t0, c0) ∷ []) }
 
-abbrev l0 : lines.Line
-l0 = Have 1 t0 c0
+abbrev l0 : Command
+l0 = Does (Have 1 t0 c0)
 
-abbrev l1 : lines.Line
-l1 = Begin 0 (record { kind = jobs.Get; key = t0; path = None; peer = (Some 1) })
+abbrev l1 : Command
+l1 = Does (Begin 0 (record { kind = jobs.Get; key = t0; path = None; peer = (Some 1) }))
 
-abbrev l2 : lines.Line
-l2 = Turns 0 1
+abbrev l2 : Command
+l2 = Does (Turns 0 1)
 
-abbrev l3 : lines.Line
-l3 = Crash 0 0
+abbrev l3 : Command
+l3 = Does (Crash 0 0)
 
-abbrev l4 : lines.Line
-l4 = Begin 0 (record { kind = jobs.Get; key = t0; path = None; peer = (Some 1) })
+abbrev l4 : Command
+l4 = Does (Begin 0 (record { kind = jobs.Get; key = t0; path = None; peer = (Some 1) }))
 
-abbrev l5 : lines.Line
-l5 = Turns 0 1
+abbrev l5 : Command
+l5 = Does (Turns 0 1)
 
-abbrev l6 : lines.Line
-l6 = Crash 0 0
+abbrev l6 : Command
+l6 = Does (Crash 0 0)
 
-abbrev l7 : lines.Line
-l7 = Begin 0 (record { kind = jobs.Drop; key = t0; path = None; peer = (Some 1) })
+abbrev l7 : Command
+l7 = Does (Begin 0 (record { kind = jobs.Drop; key = t0; path = None; peer = (Some 1) }))
 
-abbrev l8 : lines.Line
-l8 = Turns 0 2
+abbrev l8 : Command
+l8 = Does (Turns 0 2)
 
-abbrev l9 : lines.Line
-l9 = Crash 0 0
+abbrev l9 : Command
+l9 = Does (Crash 0 0)
 
-abbrev l10 : lines.Line
-l10 = Begin 0 (record { kind = jobs.Get; key = t0; path = None; peer = (Some 1) })
+abbrev l10 : Command
+l10 = Does (Begin 0 (record { kind = jobs.Get; key = t0; path = None; peer = (Some 1) }))
 
-abbrev l11 : lines.Line
-l11 = Turns 0 1
+abbrev l11 : Command
+l11 = Does (Turns 0 1)
 
-abbrev l12 : lines.Line
-l12 = Crash 0 0
+abbrev l12 : Command
+l12 = Does (Crash 0 0)
 
-abbrev l13 : lines.Line
-l13 = Begin 0 (record { kind = jobs.Get; key = t0; path = None; peer = (Some 1) })
+abbrev l13 : Command
+l13 = Does (Begin 0 (record { kind = jobs.Get; key = t0; path = None; peer = (Some 1) }))
 
-abbrev l14 : lines.Line
-l14 = Turns 0 3
+abbrev l14 : Command
+l14 = Does (Turns 0 3)
 
-abbrev l15 : lines.Line
-l15 = Turns 1 1
+abbrev l15 : Command
+l15 = Does (Turns 1 1)
 
-abbrev l16 : lines.Line
-l16 = Turns 0 1
+abbrev l16 : Command
+l16 = Does (Turns 0 1)
 
-abbrev l17 : lines.Line
-l17 = Turns 1 2
+abbrev l17 : Command
+l17 = Does (Turns 1 2)
 
-abbrev l18 : lines.Line
-l18 = Turns 0 1
+abbrev l18 : Command
+l18 = Does (Turns 0 1)
 
-abbrev l19 : lines.Line
-l19 = Settle
+abbrev l19 : Command
+l19 = Does (Settle)
 
 abbrev d0 : Driver
 d0 = record { past = []; flights = ([]); fails = ([]); contents = ([]); parts = ([]); largest = 0; tree = ([]); marks = ([]) }

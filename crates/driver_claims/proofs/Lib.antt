@@ -11,3 +11,5 @@ pub mod FaultsOfTheScript
 pub mod FullRing
 pub mod BlockOfDrops
 pub mod RestartedClockAhead
+pub mod SyncOfTwo
+pub mod SyncWithAFault

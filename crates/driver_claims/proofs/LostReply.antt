@@ -13,8 +13,10 @@ use Rattle.run_data.specs.declared.job.DropRefusal.TheVariants as drops
 use Rattle.run_data.specs.declared.job.Cause.TheVariants as causes
 use Rattle.run_data.specs.declared.run.RepoView.{RepoView}
 use Rattle.run_data.specs.declared.run.Run.{Run}
-use Rattle.driver_model.specs.Lines as lines
-use Rattle.driver_model.specs.Lines.{Have, SetPart, Add, File, Set, Raw, Merge, Compact, Begin, Turns, Settle, Close, Crash, Wait, Fail, Par, Runs, Crashes, Closes, Fails}
+use Rattle.script_commands.specs.declared.command.Action.TheVariants as actions
+use Rattle.script_commands.specs.declared.command.Action.TheVariants.{Have, Begin, Turns, Settle, Close, Wait}
+use Rattle.script_commands.specs.declared.command.Command.{Command}
+use Rattle.script_commands.specs.declared.command.Command.TheVariants.{Does}
 use Rattle.driver_model.specs.Driver.{Driver, DriverInput, at_first}
 use Rattle.driver_model.specs.ScriptSteps.{begins}
 use Rattle.driver_model.specs.Turning.{turn}
@@ -71,56 +73,56 @@ repos = ((record { name = (codes "a"); id = (17 ∷ 17 ∷ 17 ∷ 17 ∷ 17 ∷ 
 abbrev given : DriverInput
 given = record { repos = repos; matches = matches_in ((t0, c0) ∷ []) }
 
-abbrev l0 : lines.Line
-l0 = Have 0 t0 c0
+abbrev l0 : Command
+l0 = Does (Have 0 t0 c0)
 
-abbrev l1 : lines.Line
-l1 = Have 1 t0 c0
+abbrev l1 : Command
+l1 = Does (Have 1 t0 c0)
 
-abbrev l2 : lines.Line
-l2 = Begin 0 (record { kind = jobs.Drop; key = t0; path = None; peer = (Some 1) })
+abbrev l2 : Command
+l2 = Does (Begin 0 (record { kind = jobs.Drop; key = t0; path = None; peer = (Some 1) }))
 
-abbrev l3 : lines.Line
-l3 = Turns 0 2
+abbrev l3 : Command
+l3 = Does (Turns 0 2)
 
-abbrev l4 : lines.Line
-l4 = Turns 1 1
+abbrev l4 : Command
+l4 = Does (Turns 1 1)
 
-abbrev l5 : lines.Line
-l5 = Turns 0 1
+abbrev l5 : Command
+l5 = Does (Turns 0 1)
 
-abbrev l6 : lines.Line
-l6 = Turns 1 1
+abbrev l6 : Command
+l6 = Does (Turns 1 1)
 
-abbrev l7 : lines.Line
-l7 = Turns 0 1
+abbrev l7 : Command
+l7 = Does (Turns 0 1)
 
-abbrev l8 : lines.Line
-l8 = Turns 1 1
+abbrev l8 : Command
+l8 = Does (Turns 1 1)
 
-abbrev l9 : lines.Line
-l9 = Turns 0 1
+abbrev l9 : Command
+l9 = Does (Turns 0 1)
 
-abbrev l10 : lines.Line
-l10 = Close 0 1
+abbrev l10 : Command
+l10 = Does (Close 0 1)
 
-abbrev l11 : lines.Line
-l11 = Settle
+abbrev l11 : Command
+l11 = Does (Settle)
 
-abbrev l12 : lines.Line
-l12 = lines.Run 0 (record { kind = jobs.Drop; key = t0; path = None; peer = None })
+abbrev l12 : Command
+l12 = Does (actions.Run 0 (record { kind = jobs.Drop; key = t0; path = None; peer = None }))
 
-abbrev l13 : lines.Line
-l13 = Wait 599999
+abbrev l13 : Command
+l13 = Does (Wait 599999)
 
-abbrev l14 : lines.Line
-l14 = lines.Run 0 (record { kind = jobs.Drop; key = t0; path = None; peer = None })
+abbrev l14 : Command
+l14 = Does (actions.Run 0 (record { kind = jobs.Drop; key = t0; path = None; peer = None }))
 
-abbrev l15 : lines.Line
-l15 = Wait 1
+abbrev l15 : Command
+l15 = Does (Wait 1)
 
-abbrev l16 : lines.Line
-l16 = lines.Run 0 (record { kind = jobs.Drop; key = t0; path = None; peer = None })
+abbrev l16 : Command
+l16 = Does (actions.Run 0 (record { kind = jobs.Drop; key = t0; path = None; peer = None }))
 
 abbrev d0 : Driver
 d0 = record { past = []; flights = ([]); fails = ([]); contents = ([]); parts = ([]); largest = 0; tree = ([]); marks = ([]) }

@@ -13,8 +13,9 @@ use Rattle.run_data.specs.declared.job.DropRefusal.TheVariants as drops
 use Rattle.run_data.specs.declared.job.Cause.TheVariants as causes
 use Rattle.run_data.specs.declared.run.RepoView.{RepoView}
 use Rattle.run_data.specs.declared.run.Run.{Run}
-use Rattle.driver_model.specs.Lines as lines
-use Rattle.driver_model.specs.Lines.{Have, SetPart, Add, File, Set, Raw, Merge, Compact, Begin, Turns, Settle, Close, Crash, Wait, Fail, Par, Runs, Crashes, Closes, Fails}
+use Rattle.script_commands.specs.declared.command.Action.TheVariants.{Have, Begin, Turns, Settle}
+use Rattle.script_commands.specs.declared.command.Command.{Command}
+use Rattle.script_commands.specs.declared.command.Command.TheVariants.{Does}
 use Rattle.driver_model.specs.Driver.{Driver, DriverInput, at_first}
 use Rattle.driver_model.specs.ScriptSteps.{begins}
 use Rattle.driver_model.specs.Turning.{turn}
@@ -59,26 +60,26 @@ repos = ((record { name = (codes "a"); id = (17 ∷ 17 ∷ 17 ∷ 17 ∷ 17 ∷ 
 abbrev given : DriverInput
 given = record { repos = repos; matches = matches_in ((t0, c0) ∷ []) }
 
-abbrev l0 : lines.Line
-l0 = Have 0 t0 c0
+abbrev l0 : Command
+l0 = Does (Have 0 t0 c0)
 
-abbrev l1 : lines.Line
-l1 = Have 1 t0 c0
+abbrev l1 : Command
+l1 = Does (Have 1 t0 c0)
 
-abbrev l2 : lines.Line
-l2 = Begin 0 (record { kind = jobs.Drop; key = t0; path = None; peer = None })
+abbrev l2 : Command
+l2 = Does (Begin 0 (record { kind = jobs.Drop; key = t0; path = None; peer = None }))
 
-abbrev l3 : lines.Line
-l3 = Begin 1 (record { kind = jobs.Drop; key = t0; path = None; peer = None })
+abbrev l3 : Command
+l3 = Does (Begin 1 (record { kind = jobs.Drop; key = t0; path = None; peer = None }))
 
-abbrev l4 : lines.Line
-l4 = Turns 0 1
+abbrev l4 : Command
+l4 = Does (Turns 0 1)
 
-abbrev l5 : lines.Line
-l5 = Turns 1 1
+abbrev l5 : Command
+l5 = Does (Turns 1 1)
 
-abbrev l6 : lines.Line
-l6 = Settle
+abbrev l6 : Command
+l6 = Does (Settle)
 
 abbrev d0 : Driver
 d0 = record { past = []; flights = ([]); fails = ([]); contents = ([]); parts = ([]); largest = 0; tree = ([]); marks = ([]) }

@@ -9,8 +9,9 @@ use Rattle.run_data.specs.declared.entry.LogFile.TheVariants.{Location}
 use Rattle.run_data.specs.declared.job.JobKind.TheVariants as jobs
 use Rattle.run_data.specs.declared.run.RepoView.{RepoView}
 use Rattle.run_data.specs.declared.run.Run.{Run}
-use Rattle.driver_model.specs.Lines as lines
-use Rattle.driver_model.specs.Lines.{Have, SetPart, Add, File, Set, Raw, Merge, Compact, Begin, Turns, Settle, Close, Crash, Wait, Fail, Par, Runs, Crashes, Closes, Fails}
+use Rattle.script_commands.specs.declared.command.Action.TheVariants.{Have, Begin, Turns, Crash}
+use Rattle.script_commands.specs.declared.command.Command.{Command}
+use Rattle.script_commands.specs.declared.command.Command.TheVariants.{Does}
 use Rattle.driver_model.specs.Driver.{Driver, DriverInput, at_first}
 use Rattle.driver_model.specs.ScriptSteps.{begins}
 use Rattle.driver_model.specs.Turning.{turn}
@@ -50,38 +51,38 @@ repos = ((record { name = (codes "a"); id = (17 ∷ 17 ∷ 17 ∷ 17 ∷ 17 ∷ 
 abbrev given : DriverInput
 given = record { repos = repos; matches = matches_in ((t0, c0) ∷ []) }
 
-abbrev l0 : lines.Line
-l0 = Have 0 t0 c0
+abbrev l0 : Command
+l0 = Does (Have 0 t0 c0)
 
-abbrev l1 : lines.Line
-l1 = Have 1 t0 c0
+abbrev l1 : Command
+l1 = Does (Have 1 t0 c0)
 
-abbrev l2 : lines.Line
-l2 = Begin 0 (record { kind = jobs.Drop; key = t0; path = None; peer = (Some 1) })
+abbrev l2 : Command
+l2 = Does (Begin 0 (record { kind = jobs.Drop; key = t0; path = None; peer = (Some 1) }))
 
-abbrev l3 : lines.Line
-l3 = Turns 0 2
+abbrev l3 : Command
+l3 = Does (Turns 0 2)
 
-abbrev l4 : lines.Line
-l4 = Turns 1 1
+abbrev l4 : Command
+l4 = Does (Turns 1 1)
 
-abbrev l5 : lines.Line
-l5 = Turns 0 1
+abbrev l5 : Command
+l5 = Does (Turns 0 1)
 
-abbrev l6 : lines.Line
-l6 = Turns 1 1
+abbrev l6 : Command
+l6 = Does (Turns 1 1)
 
-abbrev l7 : lines.Line
-l7 = Turns 0 1
+abbrev l7 : Command
+l7 = Does (Turns 0 1)
 
-abbrev l8 : lines.Line
-l8 = Turns 1 1
+abbrev l8 : Command
+l8 = Does (Turns 1 1)
 
-abbrev l9 : lines.Line
-l9 = Turns 0 1
+abbrev l9 : Command
+l9 = Does (Turns 0 1)
 
-abbrev l10 : lines.Line
-l10 = Crash 0 250
+abbrev l10 : Command
+l10 = Does (Crash 0 250)
 
 abbrev d0 : Driver
 d0 = record { past = []; flights = ([]); fails = ([]); contents = ([]); parts = ([]); largest = 0; tree = ([]); marks = ([]) }

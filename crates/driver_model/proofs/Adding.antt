@@ -1,6 +1,6 @@
 -- Each step of the driver only adds entries to the past, at the time that it is; only a wait takes time.
 use Rattle.std.proofs.Common.{◌≡◌, ℕ, zero, suc, ◌+◌, Bool, true, false, List, [], ◌∷◌, ◌++◌, Option, Some, None, refl, sym, ap, ◌∙◌, append_assoc, arith}
-use Rattle.std.specs.Prelude.{if◌then◌else◌, length, map, nat_lt, not, reverse, take}
+use Rattle.std.specs.Prelude.{if◌then◌else◌, filter, length, map, nat_lt, not, reverse, take}
 use Rattle.std.proofs.lemmas.List.{reverse-append}
 use Rattle.annex_base.specs.declared.kinds.Call.{Call}
 use Rattle.annex_base.specs.declared.kinds.Call.TheVariants as calls
@@ -17,18 +17,25 @@ use Rattle.run_data.specs.Files.{file_of}
 use Rattle.run_model.specs.Logs.{branch}
 use Rattle.run_model.specs.Past.{begun_count, now}
 use Rattle.run_model.specs.States.{end_at, works}
-use Rattle.node_model.specs.AnyTime.{close_at, ends_with}
+use Rattle.node_model.specs.AnyTime.{close_at}
 use Rattle.node_model.specs.Ends.{EndName}
 use Rattle.node_model.specs.Look.{Look, Effect, entry_of}
 use Rattle.node_model.specs.SetUp.{SetUp}
 use Rattle.node_model.specs.State.{State}
 use Rattle.node_model.specs.Step.{step}
-use Rattle.driver_model.specs.Lines.{Agendum, BlockLine, Line, Runs, Crashes, Closes, Fails, Have, SetPart, Add, File, Set, Raw, Merge, Compact, Begin, Turns, Settle, Close, Crash, Wait, Fail, Par, Shows, waited_by}
-use Rattle.driver_model.specs.Lines
+use Rattle.wanted_rules.specs.declared.action.Action.{Action}
+use Rattle.script_commands.specs.declared.command.Action.TheVariants.{Have, SetPart, Add, File, Set, Raw, Merge, Compact, Sync, Begin, Run, Turns, Settle, Close, Crash, Wait, Fail}
+use Rattle.script_commands.specs.declared.command.Agendum.{Agendum}
+use Rattle.script_commands.specs.declared.command.BlockLine.{BlockLine}
+use Rattle.script_commands.specs.declared.command.BlockLine.TheVariants.{Runs, Crashes, Closes, Fails}
+use Rattle.script_commands.specs.declared.command.Command.{Command}
+use Rattle.script_commands.specs.declared.command.Command.TheVariants.{Repo, Does, Damage, Par, Shows}
+use Rattle.driver_model.specs.Lines.{waited_by}
 use Rattle.driver_model.specs.Driver.{Driver, DriverInput, adds, drops_part, fails_at, notes, puts_part, set_up_of, state_at, without_old_flights}
-use Rattle.driver_model.specs.ScriptSteps.{begins, begins_part, unless_fails, closes, closes_each, closes_end, compacts, compacts_files, crashes, enters, faults, fills_up, gains, has, is_busy, is_nil, logs, logs_some, merges, merges_files, news, sends, sets, sets_part, setting_line, shrinks, unknown_lines, unless_busy, waits, will_fail, writes}
+use Rattle.driver_model.specs.ScriptSteps.{begins, begins_part, unless_fails, closes, closes_each, closes_end, compacts, compacts_files, crashes, ends_at, enters, faults, fills_up, gains, has, is_busy, is_nil, lacks_places, logs, logs_some, merges, merges_files, news, sends, sets, sets_part, setting_line, shrinks, unknown_lines, unless_busy, waits, will_fail, writes}
 use Rattle.driver_model.specs.Turning.{bytes_taken, look_for, looks, makes, plain_look, turn}
-use Rattle.driver_model.specs.Rounds.{Agenda, InBlock, AfterRounds, agenda, block_round, block_rounds, blocks, after_round, goes_round, is_over, is_settled, may_begin, most_rounds, numbers, round, rounds, settles, takes, takes_all, takes_each, turns_of, with_round}
+use Rattle.driver_model.specs.Rounds.{Agenda, Block, InBlock, AfterRounds, agenda, and_left, block_at, block_end, block_round, block_rounds, blocks, after_round, goes_round, is_over, is_settled, is_stuck, lacks_next, may_begin, most_rounds, numbers, round, rounds, settles, settles_after, stuck_at, takes, takes_all, takes_each, turns_of, with_round}
+use Rattle.driver_model.specs.Syncs.{carries_out, drops_spared, each_merges, is_transfer, job_for, merges_each, numbers_but, plan_at, shares_logs, syncs, transfers}
 use Rattle.driver_model.specs.Driving.{does, turns, with_mark}
 use Rattle.driver_model.specs.Sound.{OnlyAdds}
 use Rattle.driver_model.proofs.Settles.{store_past}
@@ -159,7 +166,11 @@ each_adds g r [] d = stays d.past d.past refl
 each_adds g r (a ∷ ends) d = then_grew d.past (closes_end g r a d).past (closes_each g r ends (closes_end g r a d)).past (close_adds g r a d) (each_adds g r ends (closes_end g r a d))
 
 pub closes_adds : (g : DriverInput) (r other : ℕ) (d : Driver) → Adds d (closes g r other d)
-closes_adds g r other d = each_adds g r (ends_with other true ++ ends_with other false) d
+closes_adds g r other d = go (lacks_places d.past r other)
+  where
+    go : (b : Bool) → Adds d (if b then d else closes_each g r (ends_at other) d)
+    go true = stays d.past d.past refl
+    go false = each_adds g r (ends_at other) d
 
 pub crashes_adds : (g : DriverInput) (r clock : ℕ) (d : Driver) → Adds d (crashes g r clock d)
 crashes_adds g r clock d = one d.past _ refl
@@ -231,19 +242,36 @@ takes_adds g r (Runs job ∷ ls) jobs d = go (takes_adds g r ls ((begun_count d.
     go more true = then_grew d.past (begins r job d).past (takes_all g r ls ((begun_count d.past r + 1) ∷ jobs) (begins r job d)).driver.past (begins_adds r job d) more
     go more false = stays d.past d.past refl
 takes_adds g r (Crashes clock ∷ ls) jobs d = then_grew d.past (crashes g r clock d).past (takes_all g r ls jobs (crashes g r clock d)).driver.past (crashes_adds g r clock d) (takes_adds g r ls jobs (crashes g r clock d))
-takes_adds g r (Closes other ∷ ls) jobs d = then_grew d.past (closes g r other d).past (takes_all g r ls jobs (closes g r other d)).driver.past (closes_adds g r other d) (takes_adds g r ls jobs (closes g r other d))
+takes_adds g r (Closes other ∷ ls) jobs d = go (takes_adds g r ls jobs (closes g r other d)) (lacks_places d.past r other)
+  where
+    go : Adds (closes g r other d) (takes_all g r ls jobs (closes g r other d)).driver → (b : Bool)
+        → Adds d (if b then record { driver = d; left = record { repo = r; lines = Closes other ∷ ls; jobs = jobs } } else takes_all g r ls jobs (closes g r other d)).driver
+    go more true = stays d.past d.past refl
+    go more false = then_grew d.past (closes g r other d).past (takes_all g r ls jobs (closes g r other d)).driver.past (closes_adds g r other d) more
 takes_adds g r (Fails call ∷ ls) jobs d = then_grew d.past (will_fail r call d).past (takes_all g r ls jobs (will_fail r call d)).driver.past (fail_adds r call d) (takes_adds g r ls jobs (will_fail r call d))
 
 agendas_adds : (g : DriverInput) (ags : List Agenda) (d : Driver) → Adds d (takes_each g ags d).driver
 agendas_adds g [] d = stays d.past d.past refl
-agendas_adds g (a ∷ ags) d = then_grew d.past (takes g a d).driver.past (takes_each g ags (takes g a d).driver).driver.past (takes_adds g a.repo a.lines a.jobs d) (agendas_adds g ags (takes g a d).driver)
+agendas_adds g (a ∷ ags) d = go (agendas_adds g ags (takes g a d).driver) (lacks_next (takes g a d).driver.past a.repo (takes g a d).left.lines)
+  where
+    go : Adds (takes g a d).driver (takes_each g ags (takes g a d).driver).driver → (b : Bool)
+        → Adds d (if b then record { driver = (takes g a d).driver; left = (takes g a d).left ∷ ags } else and_left (takes g a d).left (takes_each g ags (takes g a d).driver)).driver
+    go more true = takes_adds g a.repo a.lines a.jobs d
+    go more false = then_grew d.past (takes g a d).driver.past (takes_each g ags (takes g a d).driver).driver.past (takes_adds g a.repo a.lines a.jobs d) more
+
+with_round_adds : (g : DriverInput) (x : InBlock) (b : Block) → Adds x.driver b.driver → Adds x.driver (with_round g x b).driver
+with_round_adds g x b took = go (is_stuck b.driver b.left)
+  where
+    go : (c : Bool) → Adds x.driver (if c then stuck_at b else block_at x b (round g b.driver)).driver
+    go true = took
+    go false = then_grew x.driver.past b.driver.past (round g b.driver).past took (round_adds g b.driver)
 
 block_adds : (g : DriverInput) (x : InBlock) → Adds x.driver (block_round g x).driver
 block_adds g x = go (is_over x)
   where
     go : (b : Bool) → Adds x.driver (if b then x else with_round g x (takes_each g x.left x.driver)).driver
     go true = stays x.driver.past x.driver.past refl
-    go false = then_grew x.driver.past (takes_each g x.left x.driver).driver.past (round g (takes_each g x.left x.driver).driver).past (agendas_adds g x.left x.driver) (round_adds g (takes_each g x.left x.driver).driver)
+    go false = with_round_adds g x (takes_each g x.left x.driver) (agendas_adds g x.left x.driver)
 
 block_rounds_adds : (g : DriverInput) (n : ℕ) (x : InBlock) → Adds x.driver (block_rounds g n x).driver
 block_rounds_adds g zero x = block_adds g x
@@ -253,13 +281,57 @@ block_rounds_adds g (suc n) x = go (then_grew x.driver.past (block_rounds g n x)
     go more true = stays x.driver.past x.driver.past refl
     go more false = more
 
-pub blocks_adds : (g : DriverInput) (xs : List Agendum) (d : Driver) → Adds d (blocks g xs d)
-blocks_adds g xs d =
-    let b : InBlock = record { driver = d; left = map_agendas; idle = 0; took = true } in
-    then_grew d.past (block_rounds g most_rounds b).driver.past (settles g (block_rounds g most_rounds b).driver).past (block_rounds_adds g most_rounds b) (settles_adds g (block_rounds g most_rounds b).driver)
+after_adds : (g : DriverInput) (d : Driver) (x : InBlock) → Adds d x.driver → Adds d (settles_after g x)
+after_adds g d x ended = go (is_stuck x.driver x.left)
   where
-    map_agendas : List Agenda
-    map_agendas = map (agenda xs) (numbers g)
+    go : (b : Bool) → Adds d (if b then x.driver else settles g x.driver)
+    go true = ended
+    go false = then_grew d.past x.driver.past (settles g x.driver).past ended (settles_adds g x.driver)
+
+pub blocks_adds : (g : DriverInput) (xs : List Agendum) (d : Driver) → Adds d (blocks g xs d)
+blocks_adds g xs d = after_adds g d (block_end g xs d) (block_rounds_adds g most_rounds (record { driver = d; left = map (agenda xs) (numbers g); idle = 0; took = true }))
+
+-- ---- syncs
+
+pub merges_each_adds : (r : ℕ) (others : List ℕ) (d : Driver) → Adds d (merges_each r others d)
+merges_each_adds r [] d = stays d.past d.past refl
+merges_each_adds r (other ∷ others) d = then_grew d.past (merges r other d).past (merges_each r others (merges r other d)).past (merges_adds r other d) (merges_each_adds r others (merges r other d))
+
+pub each_merges_adds : (r : ℕ) (others : List ℕ) (d : Driver) → Adds d (each_merges r others d)
+each_merges_adds r [] d = stays d.past d.past refl
+each_merges_adds r (other ∷ others) d = then_grew d.past (merges other r d).past (each_merges r others (merges other r d)).past (merges_adds other r d) (each_merges_adds r others (merges other r d))
+
+pub shares_adds : (g : DriverInput) (r : ℕ) (d : Driver) → Adds d (shares_logs g r d)
+shares_adds g r d =
+    then_grew d.past (settles g d).past (shares_logs g r d).past (settles_adds g d)
+    (then_grew (settles g d).past (merges_each r (numbers_but g r) (settles g d)).past (shares_logs g r d).past (merges_each_adds r (numbers_but g r) (settles g d))
+    (each_merges_adds r (numbers_but g r) (merges_each r (numbers_but g r) (settles g d))))
+
+pub carries_adds : (g : DriverInput) (r : ℕ) (actions : List Action) (d : Driver) → Adds d (carries_out g r actions d)
+carries_adds g r [] d = stays d.past d.past refl
+carries_adds g r (action ∷ actions) d =
+    then_grew d.past (begins r (job_for action) d).past (carries_out g r actions (settles g (begins r (job_for action) d))).past (begins_adds r (job_for action) d)
+    (then_grew (begins r (job_for action) d).past (settles g (begins r (job_for action) d)).past (carries_out g r actions (settles g (begins r (job_for action) d))).past (settles_adds g (begins r (job_for action) d))
+    (carries_adds g r actions (settles g (begins r (job_for action) d))))
+
+pub transfers_adds : (g : DriverInput) (r : ℕ) (d : Driver) → Adds d (transfers g r d)
+transfers_adds g r d = carries_adds g r (filter is_transfer (plan_at g r d)) d
+
+pub drops_spared_adds : (g : DriverInput) (r : ℕ) (d : Driver) → Adds d (drops_spared g r d)
+drops_spared_adds g r d = carries_adds g r (filter (λ action. not (is_transfer action)) (plan_at g r d)) d
+
+pub syncs_adds : (g : DriverInput) (r : ℕ) (d : Driver) → Adds d (syncs g r d)
+syncs_adds g r d =
+    then_grew d.past shared.past (syncs g r d).past (shares_adds g r d)
+    (then_grew shared.past brought.past (syncs g r d).past (transfers_adds g r shared)
+    (then_grew brought.past (drops_spared g r brought).past (syncs g r d).past (drops_spared_adds g r brought)
+    (shares_adds g r (drops_spared g r brought))))
+  where
+    shared : Driver
+    shared = shares_logs g r d
+
+    brought : Driver
+    brought = transfers g r shared
 
 -- ---- lines
 
@@ -267,22 +339,25 @@ blocks_adds g xs d =
 lasting : (d after : Driver) → Adds d after → OnlyAdds d after × (now after.past ≡ now d.past + 0)
 lasting d after x = let time = x.2 in (only_adds d after x, omega (arith, time))
 
-pub line_adds : (g : DriverInput) (line : Line) (d : Driver) → OnlyAdds d (does g line d) × (now (does g line d).past ≡ now d.past + waited_by line)
-line_adds g (Have r key bytes) d = lasting d (does g (Have r key bytes) d) (has_adds g r key bytes d)
-line_adds g (SetPart r key bytes) d = lasting d (does g (SetPart r key bytes) d) (part_adds g r key bytes d)
-line_adds g (Add r path key bytes) d = lasting d (does g (Add r path key bytes) d) (has_adds g r key bytes (enters path key d))
-line_adds g (File path key) d = lasting d (does g (File path key) d) (enters_adds path key d)
-line_adds g (Set r kind topic value) d = lasting d (does g (Set r kind topic value) d) (sets_adds g r kind topic value d)
-line_adds g (Raw r file line) d = lasting d (does g (Raw r file line) d) (writes_adds r file line d)
-line_adds g (Merge r other) d = lasting d (does g (Merge r other) d) (merges_adds r other d)
-line_adds g (Compact r) d = lasting d (does g (Compact r) d) (compacts_adds r d)
-line_adds g (Begin r job) d = lasting d (does g (Begin r job) d) (begins_adds r job d)
-line_adds g (Lines.Run r job) d = lasting d (does g (Lines.Run r job) d) (then_grew d.past (begins r job d).past (settles g (begins r job d)).past (begins_adds r job d) (settles_adds g (begins r job d)))
-line_adds g (Turns r n) d = lasting d (does g (Turns r n) d) (turns_adds g r n d)
-line_adds g Settle d = lasting d (does g Settle d) (settles_adds g d)
-line_adds g (Close r other) d = lasting d (does g (Close r other) d) (closes_adds g r other d)
-line_adds g (Crash r clock) d = lasting d (does g (Crash r clock) d) (crashes_adds g r clock d)
-line_adds g (Wait milliseconds) d = (waits_adds milliseconds d, refl)
-line_adds g (Fail r call) d = lasting d (does g (Fail r call) d) (fail_adds r call d)
+pub line_adds : (g : DriverInput) (line : Command) (d : Driver) → OnlyAdds d (does g line d) × (now (does g line d).past ≡ now d.past + waited_by line)
+line_adds g (Does (Have r key bytes)) d = lasting d (does g (Does (Have r key bytes)) d) (has_adds g r key bytes d)
+line_adds g (Does (SetPart r key bytes)) d = lasting d (does g (Does (SetPart r key bytes)) d) (part_adds g r key bytes d)
+line_adds g (Does (Add r path key bytes)) d = lasting d (does g (Does (Add r path key bytes)) d) (has_adds g r key bytes (enters path key d))
+line_adds g (Does (File path key)) d = lasting d (does g (Does (File path key)) d) (enters_adds path key d)
+line_adds g (Does (Set r kind topic value)) d = lasting d (does g (Does (Set r kind topic value)) d) (sets_adds g r kind topic value d)
+line_adds g (Does (Raw r file line)) d = lasting d (does g (Does (Raw r file line)) d) (writes_adds r file line d)
+line_adds g (Does (Merge r other)) d = lasting d (does g (Does (Merge r other)) d) (merges_adds r other d)
+line_adds g (Does (Compact r)) d = lasting d (does g (Does (Compact r)) d) (compacts_adds r d)
+line_adds g (Does (Sync r)) d = lasting d (does g (Does (Sync r)) d) (syncs_adds g r d)
+line_adds g (Does (Begin r job)) d = lasting d (does g (Does (Begin r job)) d) (begins_adds r job d)
+line_adds g (Does (Run r job)) d = lasting d (does g (Does (Run r job)) d) (then_grew d.past (begins r job d).past (settles g (begins r job d)).past (begins_adds r job d) (settles_adds g (begins r job d)))
+line_adds g (Does (Turns r n)) d = lasting d (does g (Does (Turns r n)) d) (turns_adds g r n d)
+line_adds g (Does Settle) d = lasting d (does g (Does Settle) d) (settles_adds g d)
+line_adds g (Does (Close r other)) d = lasting d (does g (Does (Close r other)) d) (closes_adds g r other d)
+line_adds g (Does (Crash r clock)) d = lasting d (does g (Does (Crash r clock)) d) (crashes_adds g r clock d)
+line_adds g (Does (Wait milliseconds)) d = (waits_adds milliseconds d, refl)
+line_adds g (Does (Fail r call)) d = lasting d (does g (Does (Fail r call)) d) (fail_adds r call d)
 line_adds g (Par lines) d = lasting d (does g (Par lines) d) (blocks_adds g lines d)
-line_adds g Shows d = lasting d (does g Shows d) (stays d.past d.past refl)
+line_adds g (Repo name id offset version locks) d = lasting d (does g (Repo name id offset version locks) d) (stays d.past d.past refl)
+line_adds g (Damage r key bytes) d = lasting d (does g (Damage r key bytes) d) (stays d.past d.past refl)
+line_adds g (Shows what) d = lasting d (does g (Shows what) d) (stays d.past d.past refl)

@@ -11,10 +11,10 @@ use Rattle.run_data.specs.declared.entry.Entry.{Entry}
 use Rattle.run_data.specs.declared.run.Run.{Run}
 use Rattle.run_model.specs.Past.{is_of}
 use Rattle.driver_model.specs.Driver.{Driver, DriverInput}
-use Rattle.driver_model.specs.Limits.{AddsOwn, StopsAtFull, count_of, is_too_long, within_limit}
+use Rattle.driver_model.specs.Limits.{AddsOwn, HasFull, StopsAtFull, count_of, is_too_long, within_limit}
 use Rattle.driver_model.specs.Rounds.{numbers}
 use Rattle.driver_model.specs.Sound.{OnlyAdds}
-use Rattle.driver_model.proofs.Driven.{below_len}
+use Rattle.driver_model.proofs.Numbers.{below_len}
 
 -- ---- how many entries a repository has made
 
@@ -156,10 +156,6 @@ stop_later g r mid after run x y = record {
 }
 
 -- ---- what is left of a past that is too long
-
--- one of the repositories has made all that it may
-abbrev pub HasFull : DriverInput → List Entry → Type 0
-HasFull g past = (r : ℕ) × (r < length g.repos) × (count_of past r ≡ most_entries)
 
 all_it_may : (n a b : ℕ) → n < b → a ≤ n → b ≤ a + 1 → a ≡ n
 all_it_may n a b i j k = omega (arith, i, j, k)

@@ -151,6 +151,7 @@ module _ (laws : Laws) (g : DriverInput) (d : Driver) (h : IsSound g d) (r : ℕ
     apart = Each-append GoesToOther (but_taken r e.taken d.flights) (map (flight d st r) e.sent) (left_each GoesToOther r e.taken d.flights h.apart)
         (Each-map GoesToOther (flight d st r) e.sent (sends_out fit));
     parts = h.parts;
+    keys = h.keys;
   }
 
 -- one more entry

@@ -7,6 +7,8 @@ pub mod WayNumbers
 pub mod InFlight
 pub mod Settling
 pub mod Holding
+pub mod Numbers
+pub mod Planned
 pub mod Turned
 pub mod Scripted
 pub mod WrittenLines
@@ -27,5 +29,7 @@ pub mod KnownJobs
 pub mod OwnEntries
 pub mod TreeAndMarks
 pub mod FullHistories
+pub mod Agendas
 pub mod LimitedRuns
+pub mod RunsToLimit
 pub mod WithinLimit

@@ -17,7 +17,9 @@ use Rattle.node_model.specs.Ends.{EndName, is_opening, may_take, takes_at}
 use Rattle.node_model.specs.Found.{StepFound}
 use Rattle.node_model.specs.Jobs.{RowsAndEnds, Work, partner, running_job, work_after}
 use Rattle.node_model.specs.JobStep.{Turn}
-use Rattle.node_model.specs.Look.{Look, Effect}
+use Rattle.node_model.specs.Look.{Look, Effect, failed_in, failing_call}
+use Rattle.std.specs.Option.{option_map}
+use Rattle.annex_base.specs.declared.kinds.Call.{Call}
 use Rattle.node_model.specs.Sessions.{Doing, Session}
 use Rattle.node_model.specs.SessionStep.{Here, Reply, gives_next, on_frame}
 use Rattle.node_model.specs.SetUp.{SetUp}
@@ -34,12 +36,18 @@ use Rattle.run_model.specs.States.{end_at}
 abbrev pub StepsFind : Type 0
 StepsFind = (s : SetUp) (st : State) (k : Look) (m : Effect) → step s st k ≡ Some m → StepFound s st k m
 
+-- a step fails of one of its calls, and which these are doesn't hang on that
+pub record StepsTellCalls : Type 0 where
+  pub fails : (s : SetUp) (st : State) (k : Look) (m : Effect) → step s st k ≡ Some m → failed_in m.kind ≡ failing_call k.fails m.calls
+  pub same : (s : SetUp) (st : State) (k : Look) (fails : Option Call) → option_map (λ (m : Effect). m.calls) (step s st (record k { fails = fails })) ≡ option_map (λ (m : Effect). m.calls) (step s st k)
+
 -- the job that an entry names, of what a session answers and gives, and of what a job makes where it goes on, or takes a frame
 pub record NamedJobs : Type 0 where
   pub answers : (h : Here) (was : Session) (body : FrameText) → job_of (on_frame h was body).kind ≡ None
   pub gives : (h : Here) (doing : Doing) (x : Reply) → gives_next h doing ≡ Some x → job_of x.kind ≡ None
   pub goes : (t : Turn) → (partner t.w.what.peer t.w.phase ≡ None) ⊎ (is_awaiting t.w.phase ≡ false) → job_of (Turns.goes t t.w.phase).kind ≡ Some t.w.number
   pub takes : (t : Turn) (peer : ℕ) (f : FrameView) → partner t.w.what.peer t.w.phase ≡ Some peer → job_of (takes_frame t peer f f.body).kind ≡ Some t.w.number
+  pub calls : StepsTellCalls
 
 -- what steps find, and how an own entry suits its ends
 pub record EntryLaws : Type 0 where

@@ -6,8 +6,9 @@ use Rattle.std.proofs.lemmas.Bool.Decides.{nat_tests}
 use Rattle.std.proofs.lemmas.List.{append-nil}
 use Rattle.annex_base.specs.Lists.{Each, Member}
 use Rattle.annex_base.specs.declared.kinds.Call.{Call}
-use Rattle.annex_base.proofs.Lists.{Each-from_members, Member-filter_from, Member-flat_map}
+use Rattle.annex_base.proofs.Lists.{Each-from_members, Each-push, Member-filter_from, Member-flat_map}
 use Rattle.annex_base.proofs.Numbers.{Member-range}
+use Rattle.annex_key.specs.KeyText.{IsKeyText}
 use Rattle.run_data.specs.declared.entry.Entry.{Entry}
 use Rattle.run_data.specs.declared.entry.EntryKind.{EntryKind}
 use Rattle.run_data.specs.declared.entry.EntryKind.TheVariants as kinds
@@ -15,6 +16,7 @@ use Rattle.run_data.specs.declared.entry.By.TheVariants.{Script}
 use Rattle.run_data.specs.declared.entry.FrameView.{FrameView}
 use Rattle.run_data.specs.declared.job.Job.{Job}
 use Rattle.run_data.specs.declared.job.Outcome.{Outcome}
+use Rattle.run_data.specs.declared.run.TreeMark.{TreeMark}
 use Rattle.run_model.specs.Frames.{sender_of, frames_sent, taken_count, taker_of}
 use Rattle.run_model.specs.Past.{begun_count, is_of, now}
 use Rattle.node_model.specs.SetUp.{SetUp, others}
@@ -24,7 +26,7 @@ use Rattle.run_model.specs.States.{end_at, works}
 use Rattle.node_model.specs.AnyTime.{IsPeer, MayCome, all_ends, close_at, closes_all, ends_with, is_scripts}
 use Rattle.run_model.specs.Run.{ComesAfter, IsSmall}
 use Rattle.driver_model.specs.Driver.{Driver, Flight, DriverInput, answers, entry, fails_at, newest_count, notes, set_up_of, state_at}
-use Rattle.driver_model.specs.ScriptSteps.{begins, unless_fails, closes, closes_each, closes_end, crashes, enters, faults, sends, waits, will_fail}
+use Rattle.driver_model.specs.ScriptSteps.{begins, unless_fails, closes, closes_each, closes_end, crashes, ends_at, enters, faults, lacks_places, sends, waits, will_fail}
 use Rattle.driver_model.specs.Scripts.{IsJob}
 use Rattle.driver_model.specs.Sound.{ComesDown, GoesToOther, IsSound}
 use Rattle.driver_model.specs.Ways.{Flies, IsOver, other_end, numbered_body, bodies_sent, way_out}
@@ -66,6 +68,7 @@ keeps_notes laws g d r kind lines known may k fits =
       down = subst (Each ComesDown) (append-nil d.flights) h.down;
       apart = subst (Each GoesToOther) (append-nil d.flights) h.apart;
       parts = h.parts;
+      keys = h.keys;
     }
 
 -- ---- store calls
@@ -120,11 +123,18 @@ each_close laws g r known (a ∷ ends) all d k = each_close laws g r known ends 
     go true i = keeps_sends laws g d r (kinds.Close a.peer a.slot a.client) (close_at (set_up_of g d r) (state_at g d r) a) known (λ h. ((all d).0, i, refl, refl)) k
     go false i = k
 
-pub keeps_closes : Laws → (g : DriverInput) (d : Driver) (r other : ℕ) → r < length g.repos → other < length g.repos → other ≢ r → Keeps g d → Keeps g (closes g r other d)
-keeps_closes laws g d r other known there apart k = each_close laws g r known (ends_with other true ++ ends_with other false) (λ d. Each-from_members (λ a. Member a (all_ends (set_up_of g d r))) (ends_with other true ++ ends_with other false) (λ a m. at d a m)) d k
+keeps_all_closed : Laws → (g : DriverInput) (d : Driver) (r other : ℕ) → r < length g.repos → other < length g.repos → other ≢ r → Keeps g d → Keeps g (closes_each g r (ends_at other) d)
+keeps_all_closed laws g d r other known there apart k = each_close laws g r known (ends_with other true ++ ends_with other false) (λ d. Each-from_members (λ a. Member a (all_ends (set_up_of g d r))) (ends_with other true ++ ends_with other false) (λ a m. at d a m)) d k
   where
     at : (d : Driver) (a : EndName) → Member a (ends_with other true ++ ends_with other false) → Member a (all_ends (set_up_of g d r))
     at d a m = Member-flat_map (λ peer. ends_with peer true ++ ends_with peer false) (others (set_up_of g d r)) other a (other_is (set_up_of g d r) other there apart) m
+
+pub keeps_closes : Laws → (g : DriverInput) (d : Driver) (r other : ℕ) → r < length g.repos → other < length g.repos → other ≢ r → Keeps g d → Keeps g (closes g r other d)
+keeps_closes laws g d r other known there apart k = go (lacks_places d.past r other)
+  where
+    go : (b : Bool) → Keeps g (if b then d else closes_each g r (ends_at other) d)
+    go true = k
+    go false = keeps_all_closed laws g d r other known there apart k
 
 pub keeps_crashes : Laws → (g : DriverInput) (d : Driver) (r clock : ℕ) → r < length g.repos → Keeps g d → Keeps g (crashes g r clock d)
 keeps_crashes laws g d r clock known k = keeps_sends laws g d r (kinds.Crash clock) (closes_all (set_up_of g d r) (state_at g d r)) known (λ h. (refl, refl)) k
@@ -159,6 +169,7 @@ keeps_waits laws g d ms k fits =
       down = h.down;
       apart = h.apart;
       parts = h.parts;
+      keys = h.keys;
     }
   where
     e : Entry
@@ -168,10 +179,10 @@ keeps_waits laws g d ms k fits =
     after_newest' [] = tt
     after_newest' (f ∷ past) = inr (inl (omega arith))
 
-pub keeps_enters : Laws → (g : DriverInput) (d : Driver) (path key : List ℕ) → Keeps g d → Keeps g (enters path key d)
-keeps_enters laws g d path key k fits =
+pub keeps_enters : Laws → (g : DriverInput) (d : Driver) (path key : List ℕ) → IsKeyText key → Keeps g d → Keeps g (enters path key d)
+keeps_enters laws g d path key text k fits =
     let h = k fits in
-    record { run = tree_on laws g d.tree d.marks d.past (record { place = length d.past; path = path; key = key }) refl h.run; flies = h.flies; order = h.order; down = h.down; apart = h.apart; parts = h.parts }
+    record { run = tree_on laws g d.tree d.marks d.past (record { place = length d.past; path = path; key = key }) refl h.run; flies = h.flies; order = h.order; down = h.down; apart = h.apart; parts = h.parts; keys = Each-push (λ (m : TreeMark). IsKeyText m.key) d.tree (record { place = length d.past; path = path; key = key }) h.keys text }
 
 pub keeps_will_fail : (g : DriverInput) (d : Driver) (r : ℕ) (call : Call) → Keeps g d → Keeps g (will_fail r call d)
-keeps_will_fail g d r call k fits = let h = k fits in record { run = h.run; flies = h.flies; order = h.order; down = h.down; apart = h.apart; parts = h.parts }
+keeps_will_fail g d r call k fits = let h = k fits in record { run = h.run; flies = h.flies; order = h.order; down = h.down; apart = h.apart; parts = h.parts; keys = h.keys }

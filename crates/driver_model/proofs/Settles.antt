@@ -1,4 +1,5 @@
 -- The bound on the rounds of a settling isn't met; and a turn makes an entry exactly where a step is ready.
+use Rattle.std.specs.Option.{option_map}
 use Rattle.std.proofs.Common.{◌≡◌, ℕ, zero, suc, ◌+◌, ◌*◌, ◌^◌, ◌<◌, ◌≤◌, Bool, true, false, List, [], ◌∷◌, Option, Some, None, refl, sym, ap, ◌∙◌, subst, arith}
 use Rattle.std.specs.Prelude.{if◌then◌else◌, ◌==◌, find, length}
 use Rattle.std.proofs.lemmas.Bool.Decides.{nat_tests}
@@ -15,9 +16,8 @@ use Rattle.node_model.specs.Sessions.{line_in, message_said}
 use Rattle.node_model.specs.State.{State}
 use Rattle.node_model.specs.Look.{Look, Effect}
 use Rattle.node_model.specs.Step.{step}
-use Rattle.annex_base.proofs.Lists.{find_member}
 use Rattle.driver_model.specs.Driver.{Driver, DriverInput, without_old_flights, drops_part, fails_at, set_up_of, state_at}
-use Rattle.driver_model.specs.Turning.{all_calls, asked_key, bytes_taken, calm_look, fails_in, is_failure, is_valid, look_for, looks, makes, makes_fault, meets, plain_look, store_after, takes_frame, takes_into, turn}
+use Rattle.driver_model.specs.Turning.{asked_key, bytes_taken, calm_look, made_calls, is_failure, is_valid, look_for, looks, makes, plain_look, store_after, takes_frame, takes_into, turn}
 use Rattle.driver_model.specs.Rounds.{AfterRounds, after_round, goes_round, idle_after, is_idle, is_settled, most_rounds, numbers, round, rounds, turns_of}
 use Rattle.driver_model.proofs.EndsAlike.{still_steps}
 use Rattle.driver_model.proofs.Premises.{NamedJobs}
@@ -76,21 +76,16 @@ module _ (names : NamedJobs) (g : DriverInput) (r : ℕ) (d : Driver) where
   abbrev st : State
   st = state_at g d r
 
-  met : (m : Effect) (o : Option Call) → find (fails_in d r s st (calm_look g d r s st m)) all_calls ≡ o → step s st (plain_look s d) ≡ Some m → (m' : Effect) × (step s st (record (calm_look g d r s st m) { fails = o }) ≡ Some m')
-  met m None i e = still_steps names s st (plain_look s d) (calm_look g d r s st m).part (calm_look g d r s st m).right (calm_look g d r s st m).words m refl e
-  met m (Some call) i e = go (fails_at d r call) (find_member (fails_in d r s st (calm_look g d r s st m)) all_calls call i).1
-    where
-      some : (o : Option Effect) → makes_fault o ≡ true → (m' : Effect) × (o ≡ Some m')
-      some None h = absurd (cc)
-      some (Some m') h = (m', refl)
-
-      go : (b : Bool) → (if b then meets s st (calm_look g d r s st m) call else false) ≡ true → (m' : Effect) × (step s st (record (calm_look g d r s st m) { fails = Some call }) ≡ Some m')
-      go true h = some (step s st (record (calm_look g d r s st m) { fails = Some call })) h
-      go false h = absurd (cc)
+  some : (o : Option Effect) (cs : List Call) → option_map (λ (m : Effect). m.calls) o ≡ Some cs → (m' : Effect) × (o ≡ Some m')
+  some None cs h = absurd (cc)
+  some (Some m') cs h = (m', refl)
 
   -- where a step is ready for a plain look, one is for the look of the turn
   pub step_ready : (m : Effect) → step s st (plain_look s d) ≡ Some m → (m' : Effect) × (step s st (look_for g d r s st m) ≡ Some m')
-  step_ready m e = met m (find (fails_in d r s st (calm_look g d r s st m)) all_calls) refl e
+  step_ready m e =
+      let calm = calm_look g d r s st m in
+      let x = still_steps names s st (plain_look s d) calm.part calm.right calm.words m refl e in
+      some (step s st (look_for g d r s st m)) x.0.calls (names.calls.same s st calm (find (fails_at d r) (made_calls (step s st calm))) ∙ ap (option_map (λ (m : Effect). m.calls)) x.1)
 
 -- a turn that adds no entry found no step ready, with all frames at hand
 pub idle_none : NamedJobs → (g : DriverInput) (r : ℕ) (d : Driver) → many (turn g r d) ≡ many d → step (set_up_of g d r) (state_at g d r) (plain_look (set_up_of g d r) (without_old_flights (state_at g d r) r d)) ≡ None

@@ -1,6 +1,6 @@
 -- No line changes the marks that stand, and none the tree but one that names a path.
-use Rattle.std.proofs.Common.{◌≡◌, ℕ, zero, suc, ◌+◌, Bool, true, false, List, [], ◌∷◌, ◌++◌, Option, Some, None, refl, ◌∙◌}
-use Rattle.std.specs.Prelude.{if◌then◌else◌, length, map, nat_lt, not}
+use Rattle.std.proofs.Common.{◌≡◌, ℕ, zero, suc, ◌+◌, Bool, true, false, List, [], ◌∷◌, Option, Some, None, refl, ◌∙◌}
+use Rattle.std.specs.Prelude.{if◌then◌else◌, filter, length, map, nat_lt, not}
 use Rattle.annex_base.specs.declared.kinds.Call.{Call}
 use Rattle.annex_base.specs.declared.kinds.Call.TheVariants as calls
 use Rattle.union_merge.specs.Branch.{Files}
@@ -17,7 +17,7 @@ use Rattle.run_data.specs.Repos.{id_of}
 use Rattle.run_model.specs.Logs.{branch}
 use Rattle.run_model.specs.Past.{begun_count}
 use Rattle.run_model.specs.States.{end_at, works}
-use Rattle.node_model.specs.AnyTime.{close_at, ends_with}
+use Rattle.node_model.specs.AnyTime.{close_at}
 use Rattle.node_model.specs.Ends.{EndName}
 use Rattle.node_model.specs.Look.{Look, Effect, entry_of}
 use Rattle.node_model.specs.OwedLines.{if_new, status_line}
@@ -25,12 +25,18 @@ use Rattle.node_model.specs.Sessions.{line_in, message_said}
 use Rattle.node_model.specs.SetUp.{SetUp}
 use Rattle.node_model.specs.State.{State}
 use Rattle.node_model.specs.Step.{step}
-use Rattle.driver_model.specs.Lines.{Agendum, BlockLine, Line, Runs, Crashes, Closes, Fails, Have, SetPart, Add, File, Set, Raw, Merge, Compact, Begin, Turns, Settle, Close, Crash, Wait, Fail, Par, Shows}
-use Rattle.driver_model.specs.Lines
+use Rattle.script_commands.specs.declared.command.Action.TheVariants.{Have, SetPart, Add, File, Set, Raw, Merge, Compact, Sync, Begin, Run, Turns, Settle, Close, Crash, Wait, Fail}
+use Rattle.script_commands.specs.declared.command.Agendum.{Agendum}
+use Rattle.script_commands.specs.declared.command.BlockLine.{BlockLine}
+use Rattle.script_commands.specs.declared.command.BlockLine.TheVariants.{Runs, Crashes, Closes, Fails}
+use Rattle.script_commands.specs.declared.command.Command.{Command}
+use Rattle.script_commands.specs.declared.command.Command.TheVariants.{Repo, Does, Damage, Par, Shows}
 use Rattle.driver_model.specs.Driver.{Driver, DriverInput, adds, drops_part, fails_at, notes, puts_part, set_up_of, state_at, without_old_flights}
-use Rattle.driver_model.specs.ScriptSteps.{begins, begins_part, unless_fails, closes, closes_each, closes_end, compacts_files, crashes, enters, faults, fills_up, gains, gets_content, has, is_busy, is_nil, lines_of, logs, logs_some, logs_status, merges_files, news, sends, sets_part, setting_line, shrinks, unknown_lines, unless_busy, wall_of, will_fail, writes}
+use Rattle.driver_model.specs.Syncs.{carries_out, drops_spared, each_merges, is_transfer, job_for, merges_each, numbers_but, plan_at, shares_logs, syncs, transfers}
+use Rattle.wanted_rules.specs.declared.action.Action.{Action}
+use Rattle.driver_model.specs.ScriptSteps.{begins, begins_part, unless_fails, closes, closes_each, closes_end, compacts_files, crashes, ends_at, enters, faults, fills_up, gains, gets_content, has, is_busy, is_nil, lacks_places, lines_of, logs, logs_some, logs_status, merges, merges_files, news, sends, sets_part, setting_line, shrinks, unknown_lines, unless_busy, wall_of, will_fail, writes}
 use Rattle.driver_model.specs.Turning.{asked_key, bytes_taken, is_failure, is_valid, look_for, looks, makes, plain_look, store_after, takes_frame, takes_into, turn}
-use Rattle.driver_model.specs.Rounds.{Agenda, InBlock, AfterRounds, agenda, block_round, block_rounds, blocks, after_round, goes_round, is_over, is_settled, may_begin, most_rounds, numbers, round, rounds, settles, takes, takes_all, takes_each, turns_of, with_round}
+use Rattle.driver_model.specs.Rounds.{Agenda, Block, InBlock, AfterRounds, agenda, and_left, block_at, block_end, block_round, block_rounds, blocks, after_round, goes_round, is_over, is_settled, is_stuck, lacks_next, may_begin, most_rounds, numbers, round, rounds, settles, settles_after, stuck_at, takes, takes_all, takes_each, turns_of, with_round}
 use Rattle.driver_model.specs.Driving.{does, turns}
 use Rattle.driver_model.specs.Limits.{names_path}
 
@@ -142,7 +148,11 @@ each_same g r [] d = itself d
 each_same g r (a ∷ ends) d = then_same d (closes_end g r a d) (closes_each g r ends (closes_end g r a d)) (close_same g r a d) (each_same g r ends (closes_end g r a d))
 
 closes_same : (g : DriverInput) (r other : ℕ) (d : Driver) → Same d (closes g r other d)
-closes_same g r other d = each_same g r (ends_with other true ++ ends_with other false) d
+closes_same g r other d = go (lacks_places d.past r other)
+  where
+    go : (b : Bool) → Same d (if b then d else closes_each g r (ends_at other) d)
+    go true = itself d
+    go false = each_same g r (ends_at other) d
 
 -- ---- turns, and rounds of them
 
@@ -220,19 +230,36 @@ takes_same g r (Runs job ∷ ls) jobs d = go (takes_same g r ls ((begun_count d.
     go more true = then_same d (begins r job d) (takes_all g r ls ((begun_count d.past r + 1) ∷ jobs) (begins r job d)).driver (begins_same r job d) more
     go more false = itself d
 takes_same g r (Crashes clock ∷ ls) jobs d = takes_same g r ls jobs (crashes g r clock d)
-takes_same g r (Closes other ∷ ls) jobs d = then_same d (closes g r other d) (takes_all g r ls jobs (closes g r other d)).driver (closes_same g r other d) (takes_same g r ls jobs (closes g r other d))
+takes_same g r (Closes other ∷ ls) jobs d = go (takes_same g r ls jobs (closes g r other d)) (lacks_places d.past r other)
+  where
+    go : Same (closes g r other d) (takes_all g r ls jobs (closes g r other d)).driver → (b : Bool)
+        → Same d (if b then record { driver = d; left = record { repo = r; lines = Closes other ∷ ls; jobs = jobs } } else takes_all g r ls jobs (closes g r other d)).driver
+    go more true = itself d
+    go more false = then_same d (closes g r other d) (takes_all g r ls jobs (closes g r other d)).driver (closes_same g r other d) more
 takes_same g r (Fails call ∷ ls) jobs d = takes_same g r ls jobs (will_fail r call d)
 
 agendas_same : (g : DriverInput) (ags : List Agenda) (d : Driver) → Same d (takes_each g ags d).driver
 agendas_same g [] d = itself d
-agendas_same g (a ∷ ags) d = then_same d (takes g a d).driver (takes_each g ags (takes g a d).driver).driver (takes_same g a.repo a.lines a.jobs d) (agendas_same g ags (takes g a d).driver)
+agendas_same g (a ∷ ags) d = go (agendas_same g ags (takes g a d).driver) (lacks_next (takes g a d).driver.past a.repo (takes g a d).left.lines)
+  where
+    go : Same (takes g a d).driver (takes_each g ags (takes g a d).driver).driver → (b : Bool)
+        → Same d (if b then record { driver = (takes g a d).driver; left = (takes g a d).left ∷ ags } else and_left (takes g a d).left (takes_each g ags (takes g a d).driver)).driver
+    go more true = takes_same g a.repo a.lines a.jobs d
+    go more false = then_same d (takes g a d).driver (takes_each g ags (takes g a d).driver).driver (takes_same g a.repo a.lines a.jobs d) more
+
+with_round_same : (g : DriverInput) (x : InBlock) (b : Block) → Same x.driver b.driver → Same x.driver (with_round g x b).driver
+with_round_same g x b took = go (is_stuck b.driver b.left)
+  where
+    go : (c : Bool) → Same x.driver (if c then stuck_at b else block_at x b (round g b.driver)).driver
+    go true = took
+    go false = then_same x.driver b.driver (round g b.driver) took (round_same g b.driver)
 
 block_same : (g : DriverInput) (x : InBlock) → Same x.driver (block_round g x).driver
 block_same g x = go (is_over x)
   where
     go : (b : Bool) → Same x.driver (if b then x else with_round g x (takes_each g x.left x.driver)).driver
     go true = itself x.driver
-    go false = then_same x.driver (takes_each g x.left x.driver).driver (round g (takes_each g x.left x.driver).driver) (agendas_same g x.left x.driver) (round_same g (takes_each g x.left x.driver).driver)
+    go false = with_round_same g x (takes_each g x.left x.driver) (agendas_same g x.left x.driver)
 
 block_rounds_same : (g : DriverInput) (n : ℕ) (x : InBlock) → Same x.driver (block_rounds g n x).driver
 block_rounds_same g zero x = block_same g x
@@ -242,37 +269,95 @@ block_rounds_same g (suc n) x = go (then_same x.driver (block_rounds g n x).driv
     go more true = itself x.driver
     go more false = more
 
-blocks_same : (g : DriverInput) (xs : List Agendum) (d : Driver) → Same d (blocks g xs d)
-blocks_same g xs d =
-    let b : InBlock = record { driver = d; left = map_agendas; idle = 0; took = true } in
-    then_same d (block_rounds g most_rounds b).driver (settles g (block_rounds g most_rounds b).driver) (block_rounds_same g most_rounds b) (settles_same g (block_rounds g most_rounds b).driver)
+after_same : (g : DriverInput) (d : Driver) (x : InBlock) → Same d x.driver → Same d (settles_after g x)
+after_same g d x ended = go (is_stuck x.driver x.left)
   where
-    map_agendas : List Agenda
-    map_agendas = map (agenda xs) (numbers g)
+    go : (b : Bool) → Same d (if b then x.driver else settles g x.driver)
+    go true = ended
+    go false = then_same d x.driver (settles g x.driver) ended (settles_same g x.driver)
+
+blocks_same : (g : DriverInput) (xs : List Agendum) (d : Driver) → Same d (blocks g xs d)
+blocks_same g xs d = after_same g d (block_end g xs d) (block_rounds_same g most_rounds (record { driver = d; left = map (agenda xs) (numbers g); idle = 0; took = true }))
+
+-- ---- syncs
+
+merges_each_same : (r : ℕ) (others : List ℕ) (d : Driver) → Same d (merges_each r others d)
+merges_each_same r [] d = itself d
+merges_each_same r (other ∷ others) d = then_same d (merges r other d) (merges_each r others (merges r other d)) (merged_same r (branch d.past other) d) (merges_each_same r others (merges r other d))
+
+each_merges_same : (r : ℕ) (others : List ℕ) (d : Driver) → Same d (each_merges r others d)
+each_merges_same r [] d = itself d
+each_merges_same r (other ∷ others) d = then_same d (merges other r d) (each_merges r others (merges other r d)) (merged_same other (branch d.past r) d) (each_merges_same r others (merges other r d))
+
+shares_same : (g : DriverInput) (r : ℕ) (d : Driver) → Same d (shares_logs g r d)
+shares_same g r d =
+    then_same d (settles g d) (shares_logs g r d) (settles_same g d)
+    (then_same (settles g d) (merges_each r (numbers_but g r) (settles g d)) (shares_logs g r d) (merges_each_same r (numbers_but g r) (settles g d))
+    (each_merges_same r (numbers_but g r) (merges_each r (numbers_but g r) (settles g d))))
+
+carries_same : (g : DriverInput) (r : ℕ) (actions : List Action) (d : Driver) → Same d (carries_out g r actions d)
+carries_same g r [] d = itself d
+carries_same g r (action ∷ actions) d =
+    then_same d (begins r (job_for action) d) (carries_out g r actions (settles g (begins r (job_for action) d))) (begins_same r (job_for action) d)
+    (then_same (begins r (job_for action) d) (settles g (begins r (job_for action) d)) (carries_out g r actions (settles g (begins r (job_for action) d))) (settles_same g (begins r (job_for action) d))
+    (carries_same g r actions (settles g (begins r (job_for action) d))))
+
+transfers_same : (g : DriverInput) (r : ℕ) (d : Driver) → Same d (transfers g r d)
+transfers_same g r d = carries_same g r (filter is_transfer (plan_at g r d)) d
+
+drops_spared_same : (g : DriverInput) (r : ℕ) (d : Driver) → Same d (drops_spared g r d)
+drops_spared_same g r d = carries_same g r (filter (λ action. not (is_transfer action)) (plan_at g r d)) d
+
+syncs_same : (g : DriverInput) (r : ℕ) (d : Driver) → Same d (syncs g r d)
+syncs_same g r d =
+    then_same d shared (syncs g r d) (shares_same g r d)
+    (then_same shared brought (syncs g r d) (transfers_same g r shared)
+    (then_same brought (drops_spared g r brought) (syncs g r d) (drops_spared_same g r brought) (shares_same g r (drops_spared g r brought))))
+  where
+    shared : Driver
+    shared = shares_logs g r d
+
+    brought : Driver
+    brought = transfers g r shared
+
+pub shares_tree : (g : DriverInput) (r : ℕ) (d : Driver) → (shares_logs g r d).tree ≡ d.tree
+shares_tree g r d = (shares_same g r d).1
+
+pub transfers_tree : (g : DriverInput) (r : ℕ) (d : Driver) → (transfers g r d).tree ≡ d.tree
+transfers_tree g r d = (transfers_same g r d).1
+
+pub has_tree : (g : DriverInput) (r : ℕ) (key bytes : List ℕ) (d : Driver) → (has g r key bytes d).tree ≡ d.tree
+has_tree g r key bytes d = (has_same g r key bytes d).1
 
 -- ---- lines
 
-pub line_same : (g : DriverInput) (line : Line) (d : Driver) → names_path line ≡ false → Same d (does g line d)
-line_same g (Have r key bytes) d plain = has_same g r key bytes d
-line_same g (SetPart r key bytes) d plain = part_same g r key bytes d
-line_same g (Add r path key bytes) d plain = absurd (cc)
-line_same g (File path key) d plain = absurd (cc)
-line_same g (Set r kind topic value) d plain = writes_same r (Of kind) (setting_line g d r kind topic value) d
-line_same g (Raw r file line) d plain = writes_same r file line d
-line_same g (Merge r other) d plain = merged_same r (branch d.past other) d
-line_same g (Compact r) d plain = compacted_same r (branch d.past r) d
-line_same g (Begin r job) d plain = begins_same r job d
-line_same g (Lines.Run r job) d plain = then_same d (begins r job d) (settles g (begins r job d)) (begins_same r job d) (settles_same g (begins r job d))
-line_same g (Turns r n) d plain = turns_same g r n d
-line_same g Settle d plain = settles_same g d
-line_same g (Close r other) d plain = closes_same g r other d
-line_same g (Crash r clock) d plain = (refl, refl)
-line_same g (Wait milliseconds) d plain = (refl, refl)
-line_same g (Fail r call) d plain = (refl, refl)
+pub line_same : (g : DriverInput) (line : Command) (d : Driver) → names_path line ≡ false → Same d (does g line d)
+line_same g (Does (Have r key bytes)) d plain = has_same g r key bytes d
+line_same g (Does (SetPart r key bytes)) d plain = part_same g r key bytes d
+line_same g (Does (Add r path key bytes)) d plain = absurd (cc)
+line_same g (Does (File path key)) d plain = absurd (cc)
+line_same g (Does (Set r kind topic value)) d plain = writes_same r (Of kind) (setting_line g d r kind topic value) d
+line_same g (Does (Raw r file line)) d plain = writes_same r file line d
+line_same g (Does (Merge r other)) d plain = merged_same r (branch d.past other) d
+line_same g (Does (Compact r)) d plain = compacted_same r (branch d.past r) d
+line_same g (Does (Sync r)) d plain = syncs_same g r d
+line_same g (Does (Begin r job)) d plain = begins_same r job d
+line_same g (Does (Run r job)) d plain = then_same d (begins r job d) (settles g (begins r job d)) (begins_same r job d) (settles_same g (begins r job d))
+line_same g (Does (Turns r n)) d plain = turns_same g r n d
+line_same g (Does Settle) d plain = settles_same g d
+line_same g (Does (Close r other)) d plain = closes_same g r other d
+line_same g (Does (Crash r clock)) d plain = (refl, refl)
+line_same g (Does (Wait milliseconds)) d plain = (refl, refl)
+line_same g (Does (Fail r call)) d plain = (refl, refl)
 line_same g (Par lines) d plain = blocks_same g lines d
-line_same g Shows d plain = itself d
+line_same g (Repo name id offset version locks) d plain = itself d
+line_same g (Damage r key bytes) d plain = itself d
+line_same g (Shows what) d plain = itself d
 
-pub line_marks : (g : DriverInput) (line : Line) (d : Driver) → (does g line d).marks ≡ d.marks
-line_marks g (Add r path key bytes) d = (has_same g r key bytes (enters path key d)).0
-line_marks g (File path key) d = refl
+pub line_tree : (g : DriverInput) (line : Command) (d : Driver) → names_path line ≡ false → (does g line d).tree ≡ d.tree
+line_tree g line d plain = (line_same g line d plain).1
+
+pub line_marks : (g : DriverInput) (line : Command) (d : Driver) → (does g line d).marks ≡ d.marks
+line_marks g (Does (Add r path key bytes)) d = (has_same g r key bytes (enters path key d)).0
+line_marks g (Does (File path key)) d = refl
 line_marks g line d = (line_same g line d refl).0

@@ -1,12 +1,15 @@
 -- A turn of the driver keeps what holds: its entry is a step, and takes a frame that may be taken.
+use Rattle.annex_base.proofs.Conditions.{eqb_refl}
+use Rattle.annex_base.specs.Calls.{same_call, call_number}
+use Rattle.std.specs.List.{list_any}
 use Rattle.std.proofs.Common.{◌≡◌, ℕ, ◌^◌, ◌<◌, ◌≤◌, Bool, true, false, List, [], ◌∷◌, ◌++◌, Option, Some, None, ◌⊎◌, inl, inr, refl, sym, ap, ◌∙◌, subst, arith}
 use Rattle.std.specs.Prelude.{cond, if◌then◌else◌, not, filter, find, flat_map, length, max}
-use Rattle.std.specs.Option.{option_to_list}
+use Rattle.std.specs.Option.{option_map, option_to_list}
 use Rattle.std.proofs.Math.Nat.{le-max_left, le-max_right}
 use Rattle.annex_base.specs.Lists.{Each, Member}
 use Rattle.annex_base.specs.declared.kinds.Call.{Call}
 use Rattle.annex_base.specs.declared.kinds.Word.{Word}
-use Rattle.annex_base.proofs.Lists.{Each-filter, Member-append_cases, find_member}
+use Rattle.annex_base.proofs.Lists.{list_any_member, Each-filter, Member-append_cases, find_member}
 use Rattle.run_data.specs.declared.entry.EntryKind.{EntryKind}
 use Rattle.run_data.specs.declared.entry.EntryKind.TheVariants.{Gain, Gone, Talk, Fault, End as ends_job}
 use Rattle.run_data.specs.declared.entry.FrameView.{FrameView}
@@ -17,7 +20,7 @@ use Rattle.node_model.specs.SetUp.{SetUp}
 use Rattle.node_model.specs.Ends.{EndName, takes_at}
 use Rattle.node_model.specs.Sessions.{line_in, message_said}
 use Rattle.node_model.specs.State.{State}
-use Rattle.node_model.specs.Look.{Look, Effect, entry_of}
+use Rattle.node_model.specs.Look.{failing_call, failed_in, Look, Effect, entry_of}
 use Rattle.node_model.specs.Step.{step}
 use Rattle.node_model.specs.AnyTime.{all_ends}
 use Rattle.run_model.specs.Words.{word_told}
@@ -27,7 +30,7 @@ use Rattle.driver_model.specs.Scripts.{HasBoundedPast}
 use Rattle.driver_model.specs.Sound.{ComesDown, GoesToOther, IsSound}
 use Rattle.driver_model.specs.Stores.{StoredBytes, bytes_in, is_stored, stored_bytes}
 use Rattle.driver_model.specs.Driver.{Driver, DriverInput, adds, answers, without_old_flights, commits, drops_part, end_to, fails_at, frames_to, old_at, part_at, puts_part, removes_content, set_up_of, state_at}
-use Rattle.driver_model.specs.Turning.{all_calls, asked_key, bytes_taken, calm_look, fails_in, is_failure, is_valid, is_fault, look_for, looks, makes, makes_fault, meets, part_right, part_size, plain_look, steps, store_after, takes_frame, takes_into, told_words, turn}
+use Rattle.driver_model.specs.Turning.{asked_key, bytes_taken, calm_look, made_calls, is_failure, is_valid, look_for, looks, makes, part_right, part_size, plain_look, steps, store_after, takes_frame, takes_into, told_words, turn}
 use Rattle.driver_model.proofs.InFlight.{first_found, flies_cleared}
 use Rattle.driver_model.proofs.Holding.{Keeps, NewEntry, keeps_adds}
 
@@ -42,16 +45,16 @@ each_larger m n (x ∷ xs) i a = let j = a.0 in (omega (arith, i, j), each_large
 
 module _ (g : DriverInput) (d : Driver) where
   pub keeps_commits : (r : ℕ) (key : List ℕ) → Keeps g d → Keeps g (commits r key d)
-  keeps_commits r key k fits = let h = k fits in record { run = h.run; flies = h.flies; order = h.order; down = h.down; apart = h.apart; parts = Each-filter (Small d.largest) (λ x. not (is_stored r key x)) d.parts h.parts }
+  keeps_commits r key k fits = let h = k fits in record { run = h.run; flies = h.flies; order = h.order; down = h.down; apart = h.apart; parts = Each-filter (Small d.largest) (λ x. not (is_stored r key x)) d.parts h.parts; keys = h.keys }
 
   pub keeps_removes : (r : ℕ) (key : List ℕ) → Keeps g d → Keeps g (removes_content r key d)
-  keeps_removes r key k fits = let h = k fits in record { run = h.run; flies = h.flies; order = h.order; down = h.down; apart = h.apart; parts = h.parts }
+  keeps_removes r key k fits = let h = k fits in record { run = h.run; flies = h.flies; order = h.order; down = h.down; apart = h.apart; parts = h.parts; keys = h.keys }
 
   pub keeps_drops : (r : ℕ) (key : List ℕ) → Keeps g d → Keeps g (drops_part r key d)
-  keeps_drops r key k fits = let h = k fits in record { run = h.run; flies = h.flies; order = h.order; down = h.down; apart = h.apart; parts = Each-filter (Small d.largest) (λ x. not (is_stored r key x)) d.parts h.parts }
+  keeps_drops r key k fits = let h = k fits in record { run = h.run; flies = h.flies; order = h.order; down = h.down; apart = h.apart; parts = Each-filter (Small d.largest) (λ x. not (is_stored r key x)) d.parts h.parts; keys = h.keys }
 
   pub keeps_answers : (r : ℕ) (call : Call) → Keeps g d → Keeps g (answers r call d)
-  keeps_answers r call k fits = let h = k fits in record { run = h.run; flies = h.flies; order = h.order; down = h.down; apart = h.apart; parts = h.parts }
+  keeps_answers r call k fits = let h = k fits in record { run = h.run; flies = h.flies; order = h.order; down = h.down; apart = h.apart; parts = h.parts; keys = h.keys }
 
   pub keeps_puts : (r : ℕ) (key bytes : List ℕ) → Keeps g d → Keeps g (puts_part r key bytes d)
   keeps_puts r key bytes k fits =
@@ -65,6 +68,7 @@ module _ (g : DriverInput) (d : Driver) where
         down = h.down;
         apart = h.apart;
         parts = (le-max_right d.largest (length bytes), each_larger d.largest (max d.largest (length bytes)) (filter (λ x. not (is_stored r key x)) d.parts) more (Each-filter (Small d.largest) (λ x. not (is_stored r key x)) d.parts h.parts));
+        keys = h.keys;
       }
 
   pub keeps_cleared : (r : ℕ) → Keeps g d → Keeps g (without_old_flights (state_at g d r) r d)
@@ -77,6 +81,7 @@ module _ (g : DriverInput) (d : Driver) where
         down = Each-filter ComesDown (λ x. not (old_at (state_at g d r) r x)) d.flights h.down;
         apart = Each-filter GoesToOther (λ x. not (old_at (state_at g d r) r x)) d.flights h.apart;
         parts = h.parts;
+        keys = h.keys;
       }
 
   keeps_into : (r : ℕ) (key bytes : List ℕ) (body : FrameText) (sent : List FrameView) → Keeps g d → Keeps g (takes_into r key bytes body sent d)
@@ -147,21 +152,26 @@ module _ (laws : Laws) (alike : EndsAlike) (g : DriverInput) (r : ℕ) (known : 
   st = state_at g d r
 
   -- a step that ends a job met no failing call
-  calm : (m m' : Effect) (o : Option Call) → find (fails_in d r s st (calm_look g d r s st m)) all_calls ≡ o → step s st (record (calm_look g d r s st m) { fails = o }) ≡ Some m'
+  calm : (m m' : Effect) (o : Option Call) → find (fails_at d r) (made_calls (step s st (calm_look g d r s st m))) ≡ o → step s st (record (calm_look g d r s st m) { fails = o }) ≡ Some m'
       → (j : ℕ) (outcome : Outcome) → m'.kind ≡ ends_job j outcome → step s st (calm_look g d r s st m) ≡ Some m'
   calm m m' None i e j outcome is = e
   calm m m' (Some call) i e j outcome is =
-      let hit = (find_member (fails_in d r s st (calm_look g d r s st m)) all_calls call i).1 in
-      absurd (let no' : true ≡ false = sym (met (fails_at d r call) hit) ∙ ap makes_fault e ∙ ap is_fault is in cc)
+      let k = calm_look g d r s st m in
+      let same : made_calls (step s st k) ≡ m'.calls = calls_in (step s st k) m'.calls (sym (laws.names.calls.same s st k (Some call)) ∙ ap (option_map (λ (z : Effect). z.calls)) e) in
+      let hit = find_member (fails_at d r) (made_calls (step s st k)) call i in
+      let among : list_any (same_call call) m'.calls ≡ true = list_any_member (same_call call) m'.calls call (subst (Member call) same hit.0) (eqb_refl (call_number call)) in
+      let told : failed_in m'.kind ≡ failing_call (Some call) m'.calls = laws.names.calls.fails s st (record k { fails = Some call }) m' e in
+      let failed : failed_in m'.kind ≡ Some call = told ∙ ap (λ (b : Bool). if b then Some call else None) among in
+      absurd (let no' : None ≡ Some call = sym (ap failed_in is) ∙ failed in cc)
     where
-      met : (b : Bool) → (if b then meets s st (calm_look g d r s st m) call else false) ≡ true → meets s st (calm_look g d r s st m) call ≡ true
-      met true h = h
-      met false h = absurd (cc)
+      calls_in : (o : Option Effect) (cs : List Call) → option_map (λ (z : Effect). z.calls) o ≡ Some cs → made_calls o ≡ cs
+      calls_in None cs h = absurd (cc)
+      calls_in (Some z) cs h = cc
 
   words_told : (m m' : Effect) → step s st (plain_look s d) ≡ Some m → step s st (look_for g d r s st m) ≡ Some m'
       → (j : ℕ) (outcome : Outcome) → m'.kind ≡ ends_job j outcome → (c : ℕ) → told_words d.past r m.kind c ≡ word_told d.past r j c
   words_told m m' plain e j outcome is c =
-      let quiet = calm m m' (find (fails_in d r s st (calm_look g d r s st m)) all_calls) refl e j outcome is in
+      let quiet = calm m m' (find (fails_at d r) (made_calls (step s st (calm_look g d r s st m)))) refl e j outcome is in
       let same = alike s st (plain_look s d) (part_size d r (asked_key st m)) (part_right g d r (asked_key st m)) (told_words d.past r m.kind) m m' j outcome refl plain quiet is in
       ap (λ kind. told_words d.past r kind c) same.1
 

@@ -1,24 +1,19 @@
 -- A turn is found from the step that is made at the driver's look for it: the plain look finds a step of the same session or job, which
 -- asks for the same part, and the first call of the step that is to fail is the one that failed.
 use Rattle.std.proofs.Common.{◌≡◌, ℕ, Bool, true, false, List, [], ◌∷◌, Option, Some, None, ◌⊎◌, inl, inr, refl, sym, ap, ◌∙◌, subst}
-use Rattle.std.specs.Prelude.{if◌then◌else◌, ◌==◌, cond, find}
+use Rattle.std.specs.Prelude.{if◌then◌else◌, ◌==◌, find}
 use Rattle.std.specs.List.{list_all}
-use Rattle.std.specs.Option.{option_or}
-use Rattle.annex_base.specs.Calls.{call_number, same_call}
-use Rattle.annex_base.specs.Lists.{Each, Member}
+use Rattle.std.specs.Option.{option_map, option_or}
 use Rattle.annex_base.specs.declared.kinds.Call.{Call}
-use Rattle.annex_base.specs.declared.kinds.Call.TheVariants as calls
 use Rattle.annex_base.specs.declared.kinds.Word.{Word}
-use Rattle.annex_base.proofs.Calls.{same_call-is}
-use Rattle.annex_base.proofs.Lists.{Each-weaker, find_none}
 use Rattle.run_data.specs.declared.entry.EntryKind.{EntryKind}
-use Rattle.run_data.specs.declared.entry.EntryKind.TheVariants.{Fault, End as ends_job}
+use Rattle.run_data.specs.declared.entry.EntryKind.TheVariants.{End as ends_job}
 use Rattle.run_data.specs.declared.entry.FrameView.{FrameView}
 use Rattle.run_data.specs.declared.job.Outcome.{Outcome}
 use Rattle.node_model.specs.Ends.{EndName, server_end}
 use Rattle.node_model.specs.Jobs.{Work, job_end, partner}
 use Rattle.node_model.specs.JobStep.{Turn, end_with, turn_of}
-use Rattle.node_model.specs.Look.{Look, Effect, waiting_frame}
+use Rattle.node_model.specs.Look.{Look, Effect, failed_in, waiting_frame}
 use Rattle.node_model.specs.OwedLines.{OwedLine}
 use Rattle.node_model.specs.OwedStep.{pays_first}
 use Rattle.node_model.specs.SessionStep.{Here, gives_made, gives_next, here, session_at, session_makes, session_step}
@@ -30,15 +25,14 @@ use Rattle.node_model.specs.State.{State}
 use Rattle.node_model.specs.Step.{step}
 use Rattle.node_model.specs.Turns.{awaits, by_partner, goes, goes_on, has_room, is_awaiting, job_step, needs, slot_step, takes_frame, with_partner}
 use Rattle.driver_model.specs.Driver.{Driver, DriverInput, fails_at, set_up_of, state_at}
-use Rattle.driver_model.specs.Finding.{FailsFirst, MakesStep, after_step, calls_before, failed_call, driver_at_turn}
-use Rattle.driver_model.specs.Turning.{all_calls, asked_key, calm_look, fails_in, is_fault, looks, makes, makes_fault, meets, part_right, part_size, plain_look, step_key, told_words, turn}
+use Rattle.driver_model.specs.Finding.{MakesStep, after_step, driver_at_turn}
+use Rattle.driver_model.specs.Turning.{asked_key, calm_look, looks, made_calls, makes, part_right, part_size, plain_look, step_key, told_words, turn}
 use Rattle.driver_model.specs.WordsRead.{AgreeWhereRead}
 use Rattle.driver_model.proofs.Alike.{Alike, first_alike, list_alike, other_ready, some_alike}
 use Rattle.driver_model.proofs.EndsAlike.{ends_alike, given_next}
 use Rattle.driver_model.proofs.Needed.{needed}
 use Rattle.driver_model.proofs.Premises.{NamedJobs}
-use Rattle.driver_model.proofs.WordsAside.{Told, step_told, words_aside}
-use Rattle.annex_base.proofs.Conditions.{eqb_refl}
+use Rattle.driver_model.proofs.WordsAside.{words_aside}
 
 -- ---- any two looks that have the same time, count, frames and rooms find a step of the same session or job
 
@@ -138,47 +132,6 @@ module _ (names : NamedJobs) (s : SetUp) (st : State) (k : Look) (fails : Option
       (list_alike A (λ (c : ℕ × ℕ). session_at s st k (server_end c.0 c.1)) (λ (c : ℕ × ℕ). session_at s st k1 (server_end c.0 c.1)) (λ c. session_alike (server_end c.0 c.1)) (served_connections s))
       (list_alike A (λ slot. slot_step s st k (find (λ w. w.slot == slot) st.works)) (λ slot. slot_step s st k1 (find (λ w. w.slot == slot) st.works)) (λ slot. slot_alike (find (λ w. w.slot == slot) st.works)) slots)
 
--- ---- the call that fails
-
-every_call : (call : Call) → Member call all_calls
-every_call calls.Has = inl refl
-every_call calls.Size = inr (inl refl)
-every_call calls.Read = inr (inr (inl refl))
-every_call calls.PartSize = inr (inr (inr (inl refl)))
-every_call calls.ReadPart = inr (inr (inr (inr (inl refl))))
-every_call calls.Append = inr (inr (inr (inr (inr (inl refl)))))
-every_call calls.Commit = inr (inr (inr (inr (inr (inr (inl refl))))))
-every_call calls.DropPart = inr (inr (inr (inr (inr (inr (inr (inl refl)))))))
-every_call calls.Remove = inr (inr (inr (inr (inr (inr (inr (inr (inl refl))))))))
-every_call calls.Hold = inr (inr (inr (inr (inr (inr (inr (inr (inr (inl refl)))))))))
-every_call calls.Unhold = inr (inr (inr (inr (inr (inr (inr (inr (inr (inr (inl refl))))))))))
-every_call calls.Holds = inr (inr (inr (inr (inr (inr (inr (inr (inr (inr (inr (inl refl)))))))))))
-every_call calls.PutFile = inr (inr (inr (inr (inr (inr (inr (inr (inr (inr (inr (inr (inl refl))))))))))))
-every_call calls.File = inr (inr (inr (inr (inr (inr (inr (inr (inr (inr (inr (inr (inr (inl refl)))))))))))))
-
-same_call-self : (c : Call) → same_call c c ≡ true
-same_call-self c = eqb_refl (call_number c)
-
--- the first call of a list to which a test applies
-find_failed : (q : Call → Bool) (failed : Option Call) (cs : List Call) → ((call : Call) → failed ≡ Some call → Member call cs) → ((call : Call) → failed ≡ Some call → q call ≡ true)
-    → Each (λ call. q call ≡ false) (calls_before failed cs) → find q cs ≡ failed
-find_failed q None cs among fails before = find_none q cs before
-find_failed q (Some call) [] among fails before = absurd (among call refl)
-find_failed q (Some call) (c ∷ cs) among fails before = go (same_call c call) refl before (find_failed q (Some call) cs)
-  where
-    hit : q c ≡ true → cond (q c) (Some c) (find q cs) ≡ Some c
-    hit e = rw e refl
-
-    go : (b : Bool) → same_call c call ≡ b → Each (λ call. q call ≡ false) (if b then [] else c ∷ calls_before (Some call) cs)
-        → (((d : Call) → Some call ≡ Some d → Member d cs) → ((d : Call) → Some call ≡ Some d → q d ≡ true) → Each (λ call. q call ≡ false) (calls_before (Some call) cs) → find q cs ≡ Some call)
-        → cond (q c) (Some c) (find q cs) ≡ Some call
-    go true e none more = let same = same_call-is c call e in hit (ap q same ∙ fails call refl) ∙ ap Some same
-    go false e none more = rw none.0 (more (λ d i. later d i (among d i)) fails none.1)
-      where
-        later : (d : Call) → Some call ≡ Some d → Member d (c ∷ cs) → Member d cs
-        later d i (inl j) = let same : c ≡ call = cc in absurd (let no : true ≡ false = sym (same_call-self c) ∙ ap (same_call c) same ∙ e in cc)
-        later d i (inr m) = m
-
 -- ---- an owed line
 
 -- a step with these owed lines
@@ -187,30 +140,21 @@ step_of s st os k = option_or (pays_first s st k os) (option_or (session_step s 
 
 -- the driver's own look for this step, with all words that the job was told
 abbrev pub look_told : DriverInput → Driver → ℕ → SetUp → State → Effect → Look
-look_told g d r s st m = record (calm_look g d r s st m) { fails = failed_call m.kind }
+look_told g d r s st m = record (calm_look g d r s st m) { fails = failed_in m.kind }
 
 -- the step is made at that look
 pub record IsTold (g : DriverInput) (r : ℕ) (d : Driver) (m : Effect) : Type 0 where
   pub steps : step (set_up_of g d r) (state_at g d r) (look_told g (driver_at_turn g r d) r (set_up_of g d r) (state_at g d r) m) ≡ Some m
-  pub fails : FailsFirst (driver_at_turn g r d) r (set_up_of g d r) (state_at g d r) (look_told g (driver_at_turn g r d) r (set_up_of g d r) (state_at g d r) m) (failed_call m.kind)
+  pub fails : failed_in m.kind ≡ find (fails_at (driver_at_turn g r d) r) m.calls
 
 -- what the turn wants of the step that a plain look finds, where this is made
 pub record IsPlain (g : DriverInput) (r : ℕ) (d : Driver) (m m0 : Effect) : Type 0 where
   pub plain : step (set_up_of g d r) (state_at g d r) (plain_look (set_up_of g d r) (driver_at_turn g r d)) ≡ Some m0
-  pub faults : (call : Call) → makes_fault (step (set_up_of g d r) (state_at g d r) (record (calm_look g (driver_at_turn g r d) r (set_up_of g d r) (state_at g d r) m0) { fails = Some call }))
-      ≡ meets (set_up_of g d r) (state_at g d r) (look_told g (driver_at_turn g r d) r (set_up_of g d r) (state_at g d r) m) call
-  pub makes_it : step (set_up_of g d r) (state_at g d r) (record (calm_look g (driver_at_turn g r d) r (set_up_of g d r) (state_at g d r) m0) { fails = failed_call m.kind }) ≡ Some m
+  pub makes_it : step (set_up_of g d r) (state_at g d r) (record (calm_look g (driver_at_turn g r d) r (set_up_of g d r) (state_at g d r) m0) { fails = failed_in m.kind }) ≡ Some m
 
-is_failed : (kind : EntryKind) (call : Call) → failed_call kind ≡ Some call → is_fault kind ≡ true
-is_failed (Fault c by) call e = refl
-is_failed kind call e = absurd (cc)
-
-fault_same : (st : State) (agree : Work → Type 0) (o p : Option Effect) → Alike (Told st agree) o p → makes_fault o ≡ makes_fault p
-fault_same st agree None None a = refl
-fault_same st agree (Some m) (Some m') (inl e) = ap (λ (z : Effect). is_fault z.kind) e
-fault_same st agree (Some m) (Some m') (inr x) = ap is_fault x.2.1 ∙ sym (ap is_fault x.3.1)
-fault_same st agree None (Some m') a = absurd a
-fault_same st agree (Some m) None a = absurd a
+calls_in : (o : Option Effect) (cs : List Call) → option_map (λ (z : Effect). z.calls) o ≡ Some cs → made_calls o ≡ cs
+calls_in None cs h = absurd (cc)
+calls_in (Some z) cs h = cc
 
 module _ (names : NamedJobs) (g : DriverInput) (r : ℕ) (d : Driver) (m : Effect) (x : IsTold g r d m) where
   abbrev s : SetUp
@@ -231,25 +175,14 @@ module _ (names : NamedJobs) (g : DriverInput) (r : ℕ) (d : Driver) (m : Effec
     abbrev calm : Look
     calm = calm_look g c r s st m0
 
-    hits : (call : Call) → failed_call m.kind ≡ Some call → fails_in c r s st calm call ≡ true
-    hits call i = rw (x.fails.waits call i) (p.faults call ∙ ap makes_fault (ap (λ (o : Option Call). step s st (record told { fails = o })) (sym i) ∙ x.steps) ∙ is_failed m.kind call i)
-
-    misses : (call : Call) → (fails_at c r call ≡ true → meets s st told call ≡ false) → fails_in c r s st calm call ≡ false
-    misses call h = go (fails_at c r call) h
-      where
-        go : (b : Bool) → (b ≡ true → meets s st told call ≡ false) → (if b then meets s st calm call else false) ≡ false
-        go true h = p.faults call ∙ h refl
-        go false h = refl
-
-    failed_is : find (fails_in c r s st calm) all_calls ≡ failed_call m.kind
-    failed_is = find_failed (fails_in c r s st calm) (failed_call m.kind) all_calls (λ call i. every_call call) hits
-        (Each-weaker (λ call. fails_at c r call ≡ true → meets s st told call ≡ false) (λ call. fails_in c r s st calm call ≡ false) misses (calls_before (failed_call m.kind) all_calls) x.fails.before)
+    failed_is : find (fails_at c r) (made_calls (step s st calm)) ≡ failed_in m.kind
+    failed_is = ap (find (fails_at c r)) (calls_in (step s st calm) m.calls (sym (names.calls.same s st calm (failed_in m.kind)) ∙ ap (option_map (λ (z : Effect). z.calls)) p.makes_it)) ∙ sym x.fails
 
     turn_by : turn g r d ≡ after_step g r d m
     turn_by =
         ap (λ (o : Option Effect). looks g r s st o c) p.plain
         ∙ ap (λ (o : Option Call). makes st r (record calm { fails = o }) (step s st (record calm { fails = o })) c) failed_is
-        ∙ ap (λ (o : Option Effect). makes st r (record calm { fails = failed_call m.kind }) o c) p.makes_it
+        ∙ ap (λ (o : Option Effect). makes st r (record calm { fails = failed_in m.kind }) o c) p.makes_it
 
   -- ---- where a line is owed, it is paid first
 
@@ -260,8 +193,7 @@ module _ (names : NamedJobs) (g : DriverInput) (r : ℕ) (d : Driver) (m : Effec
     owed_plain : (m0 : Effect) → step_of s st (o ∷ os) (plain_look s c) ≡ Some m0 → IsPlain g r d m m0
     owed_plain m0 i = record {
       plain = pays (plain_look s c) ∙ i;
-      faults = λ call. ap makes_fault (pays (record (calm_look g c r s st m0) { fails = Some call }) ∙ sym (pays (record told { fails = Some call })));
-      makes_it = pays (record (calm_look g c r s st m0) { fails = failed_call m.kind }) ∙ sym (pays told) ∙ x.steps;
+      makes_it = pays (record (calm_look g c r s st m0) { fails = failed_in m.kind }) ∙ sym (pays told) ∙ x.steps;
     }
 
     owed_turn : turn g r d ≡ after_step g r d m
@@ -283,16 +215,14 @@ module _ (names : NamedJobs) (g : DriverInput) (r : ℕ) (d : Driver) (m : Effec
     module _ (m0 : Effect) (i : step s st (plain_look s c) ≡ Some m0) (same : asked_key st m ≡ asked_key st m0) where
       words_agree : (w : Work) (outcome : Outcome) → m.kind ≡ ends_job w.number outcome → (peer : ℕ) → words_of m peer ≡ words_of m0 peer
       words_agree w outcome is peer =
-          let calm : step s st (look None (asked_key st m) (words_of m)) ≡ Some m = ap (λ (o : Option Call). step s st (look o (asked_key st m) (words_of m))) (sym (ap failed_call is)) ∙ x.steps in
+          let calm : step s st (look None (asked_key st m) (words_of m)) ≡ Some m = ap (λ (o : Option Call). step s st (look o (asked_key st m) (words_of m))) (sym (ap failed_in is)) ∙ x.steps in
           let ends = ends_alike names s st (plain_look s c) (part_size c r (asked_key st m)) (part_right g c r (asked_key st m)) (words_of m) m0 m w.number outcome refl i calm is in
           ap (λ (kind : EntryKind). told_words c.past r kind peer) is ∙ sym (ap (λ (kind : EntryKind). told_words c.past r kind peer) ends.1)
 
       rest_plain : IsPlain g r d m m0
       rest_plain = record {
         plain = i;
-        faults = λ call. ap (λ (key : Option (List ℕ)). makes_fault (step s st (look (Some call) key (words_of m0)))) (sym same)
-            ∙ fault_same st _ (step s st (look (Some call) (asked_key st m) (words_of m0))) (step s st (look (Some call) (asked_key st m) (words_of m))) (step_told s st (look (Some call) (asked_key st m) (words_of m0)) (words_of m));
-        makes_it = ap (λ (key : Option (List ℕ)). step s st (look (failed_call m.kind) key (words_of m0))) (sym same)
+        makes_it = ap (λ (key : Option (List ℕ)). step s st (look (failed_in m.kind) key (words_of m0))) (sym same)
             ∙ sym (words_aside s st told (words_of m0) (λ m' j w outcome there is peer reads. words_agree w outcome (ap (λ (z : Effect). z.kind) (made_same m' j) ∙ is) peer)) ∙ x.steps;
       }
         where
@@ -333,21 +263,10 @@ module _ (g : DriverInput) (r : ℕ) (d : Driver) (m : Effect) (x : MakesStep g 
   near_steps : step (set_up_of g d r) (state_at g d r) near ≡ Some m
   near_steps = ap (λ (k : Look). step (set_up_of g d r) (state_at g d r) k) (sym near_is) ∙ x.steps
 
-  met_same : (call : Call) → meets (set_up_of g d r) (state_at g d r) x.look call ≡ meets (set_up_of g d r) (state_at g d r) own call
-  met_same call =
-      ap (λ (k : Look). meets (set_up_of g d r) (state_at g d r) k call) near_is
-      ∙ fault_same (state_at g d r) _ (step (set_up_of g d r) (state_at g d r) (record near { fails = Some call })) (step (set_up_of g d r) (state_at g d r) (record own { fails = Some call }))
-      (step_told (set_up_of g d r) (state_at g d r) (record near { fails = Some call }) own.words)
-
   is_told : IsTold g r d m
   is_told = record {
     steps = sym (words_aside (set_up_of g d r) (state_at g d r) near own.words (λ m' i. subst (λ (z : Effect). AgreeWhereRead (set_up_of g d r) (state_at g d r) z x.look.words own.words) (made_same m' i) x.is_look.words_are)) ∙ near_steps;
-    fails = record {
-      waits = x.fails.waits;
-      before = Each-weaker (λ call. fails_at (driver_at_turn g r d) r call ≡ true → meets (set_up_of g d r) (state_at g d r) x.look call ≡ false)
-          (λ call. fails_at (driver_at_turn g r d) r call ≡ true → meets (set_up_of g d r) (state_at g d r) own call ≡ false)
-          (λ call h waits. sym (met_same call) ∙ h waits) (calls_before (failed_call m.kind) all_calls) x.fails.before;
-    };
+    fails = x.fails;
   }
     where
       made_same : (m' : Effect) → step (set_up_of g d r) (state_at g d r) near ≡ Some m' → m ≡ m'

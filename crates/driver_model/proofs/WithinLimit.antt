@@ -12,7 +12,7 @@ use Rattle.driver_model.specs.Driver.{Driver, DriverInput}
 use Rattle.driver_model.specs.Limits.{count_of, is_too_long}
 use Rattle.driver_model.specs.Turning.{turn}
 use Rattle.driver_model.specs.Rounds.{AfterRounds, after_round, goes_round, is_settled, most_rounds, numbers, round, rounds, turns_of}
-use Rattle.driver_model.proofs.Driven.{below_len}
+use Rattle.driver_model.proofs.Numbers.{below_len}
 use Rattle.driver_model.proofs.FullHistories.{count_one, count_own, few_entries}
 use Rattle.driver_model.proofs.OwnEntries.{adds_own, turn_owns}
 use Rattle.driver_model.proofs.Settles.{bound_not_met}

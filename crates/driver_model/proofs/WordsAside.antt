@@ -1,6 +1,6 @@
 -- A step doesn't change with the words that no job reads as it ends.
 use Rattle.std.proofs.Common.{◌≡◌, ℕ, Bool, true, false, List, [], ◌∷◌, Option, Some, None, ◌⊎◌, inl, inr, refl, sym, ap, ◌∙◌, subst}
-use Rattle.std.specs.Prelude.{if◌then◌else◌, ◌&&◌, ◌==◌, cond, find, not}
+use Rattle.std.specs.Prelude.{◌++◌, if◌then◌else◌, ◌&&◌, ◌==◌, cond, find, not}
 use Rattle.std.specs.List.{list_all}
 use Rattle.std.specs.Option.{option_or}
 use Rattle.annex_base.specs.Lists.{Member}
@@ -20,7 +20,7 @@ use Rattle.node_model.specs.Calls.{to_release}
 use Rattle.node_model.specs.DropStep.{denial_outcome, lacking_outcome, removal_outcome, target}
 use Rattle.node_model.specs.Evidence.{Asked, Claimed, Ignored, Standing, failures, pick}
 use Rattle.node_model.specs.Jobs.{Denied, Drops, Fresh, Gets, Heard, Held, Lacks, Next, Part, Phase, Puts, PutsBytes, PutsWord, Removed, Seen, Unseen, Work, heard_of, job_end, partner, side_of, target_of}
-use Rattle.node_model.specs.JobStep.{Turn, attempts, by_me, end_with, ends, farewells, owns_share, turn_of}
+use Rattle.node_model.specs.JobStep.{Turn, attempts, by_me, end_with, ends, farewells, owns_share, quietly, turn_of}
 use Rattle.node_model.specs.Knows.{Reading, asks_by, candidates_by, cause_by, causes_by, denial_of, enough_by, is_unasked, knows_by, next_by, obeyed_outcome, offer_by, proof_by}
 use Rattle.node_model.specs.Look.{Look, Effect, failing_call, unless, waiting_frame}
 use Rattle.node_model.specs.OwedStep.{owed_step}
@@ -96,18 +96,23 @@ module _ (s : SetUp) (st : State) (k : Look) (others : ℕ → Option Word) wher
 
     -- an end whose outcome says of no lost order
     abbrev quiet_end : Turn → Bool → Outcome → Effect
-    quiet_end t lost outcome = attempts t (to_release (owns_share t && not lost)) None (record { kind = ends_job t.w.number outcome; taken = None; sent = farewells t lost; lines = [] })
+    quiet_end t lost outcome = attempts t (to_release (owns_share t && not lost)) None (record { kind = ends_job t.w.number outcome; taken = None; sent = farewells t lost; lines = []; calls = [] })
 
     quiet_told : (o0 o1 : Outcome) → (Agree w → o0 ≡ o1) → T (quiet_end t0 false o0) (quiet_end t1 false o1)
     quiet_told o0 o1 same = go (failing_call k.fails (to_release (owns_share t0 && true)))
       where
-        done : Outcome → Effect
-        done o = record { kind = ends_job w.number o; taken = None; sent = farewells t0 false; lines = [] }
+        fault : Call → Effect
+        fault call = quietly (Fault call (by_me t0)) None
 
-        go : (c : Option Call) → T (unless c (λ call. record { kind = Fault call (by_me t0); taken = None; sent = []; lines = [] }) (record { kind = ends_job w.number o0; taken = None; sent = farewells t0 false; lines = [] }))
-            (unless c (λ call. record { kind = Fault call (by_me t0); taken = None; sent = []; lines = [] }) (record { kind = ends_job w.number o1; taken = None; sent = farewells t0 false; lines = [] }))
+        done : Outcome → Effect
+        done o = record { kind = ends_job w.number o; taken = None; sent = farewells t0 false; lines = []; calls = [] }
+
+        all : Effect → Effect
+        all m = record m { calls = to_release (owns_share t0 && true) ++ [] }
+
+        go : (c : Option Call) → T (all (unless c fault (done o0))) (all (unless c fault (done o1)))
         go (Some call) = inl refl
-        go None = inr (w, there, (o0, refl), (o1, refl), λ a. ap done (same a))
+        go None = inr (w, there, (o0, refl), (o1, refl), λ a. ap (λ o. all (done o)) (same a))
 
     ends_told : (o0 o1 : Outcome) → is_lost_ordered o0 ≡ false → is_lost_ordered o1 ≡ false → (Agree w → o0 ≡ o1) → T (ends t0 None o0) (ends t1 None o1)
     ends_told o0 o1 e0 e1 same =

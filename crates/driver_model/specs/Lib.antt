@@ -5,6 +5,7 @@ pub mod Driver
 pub mod ScriptSteps
 pub mod Turning
 pub mod Rounds
+pub mod Syncs
 pub mod Driving
 pub mod Scripts
 pub mod Logged

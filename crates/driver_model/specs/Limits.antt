@@ -1,7 +1,7 @@
 -- The run of a script, with at most 100,000 entries a repository (own): it ends where a line meets a full history.
 use Rattle.std.specs.Prelude.{◌≡◌, ℕ, ◌<◌, ◌≤◌, Bool, true, false, ◌||◌, if◌then◌else◌, nat_le, nat_lt, List, [], ◌∷◌, ◌++◌, filter, length, reverse, Option, Some, None}
 use Rattle.std.specs.List.{list_any}
-use Rattle.annex_base.specs.Lists.{Each}
+use Rattle.annex_base.specs.Lists.{Each, Member}
 use Rattle.run_data.specs.Histories.{most_entries}
 use Rattle.run_data.specs.declared.entry.Entry.{Entry}
 use Rattle.run_data.specs.declared.run.Run.{Run}
@@ -9,9 +9,12 @@ use Rattle.run_model.specs.Past.{is_of}
 use Rattle.run_model.specs.Run.{IsRun}
 use Rattle.driver_model.specs.Driver.{Driver, DriverInput, at_first}
 use Rattle.driver_model.specs.Driving.{does, run_with, with_mark}
-use Rattle.driver_model.specs.Lines.{Line, Have, SetPart, Add, File, Set, Raw, Merge, Compact, Begin, Turns, Settle, Close, Crash, Wait, Fail, Par, Shows}
-use Rattle.driver_model.specs.Lines
-use Rattle.driver_model.specs.Rounds.{numbers}
+use Rattle.script_commands.specs.declared.command.Action.TheVariants.{Have, SetPart, Add, File, Close}
+use Rattle.script_commands.specs.declared.command.BlockLine.TheVariants.{Closes}
+use Rattle.script_commands.specs.declared.command.Command.{Command}
+use Rattle.script_commands.specs.declared.command.Command.TheVariants.{Does, Par}
+use Rattle.driver_model.specs.Rounds.{block_end, is_stuck, numbers}
+use Rattle.driver_model.specs.ScriptSteps.{lacks_places}
 
 -- ---- full histories
 
@@ -31,37 +34,50 @@ within_limit g (e ∷ past) = if is_too_long g (e ∷ past) then within_limit g 
 -- ---- lines that meet one
 
 -- The repository whose store a line asks first: this waits for room in the history, in which it would be told that the store failed.
-abbrev pub asks_first : Line → Option ℕ
-asks_first (Have r key bytes) = Some r
-asks_first (SetPart r key bytes) = Some r
-asks_first (Add r path key bytes) = Some r
-asks_first (File path key) = None
-asks_first (Set r kind topic value) = None
-asks_first (Raw r file line) = None
-asks_first (Merge r other) = None
-asks_first (Compact r) = None
-asks_first (Begin r job) = None
-asks_first (Lines.Run r job) = None
-asks_first (Turns r n) = None
-asks_first Settle = None
-asks_first (Close r other) = None
-asks_first (Crash r clock) = None
-asks_first (Wait milliseconds) = None
-asks_first (Fail r call) = None
-asks_first (Par lines) = None
-asks_first Shows = None
+abbrev pub asks_first : Command → Option ℕ
+asks_first (Does (Have r key bytes)) = Some r
+asks_first (Does (SetPart r key bytes)) = Some r
+asks_first (Does (Add r path key bytes)) = Some r
+asks_first line = None
 
 abbrev pub is_full : List Entry → Option ℕ → Bool
 is_full past None = false
 is_full past (Some r) = nat_le most_entries (count_of past r)
 
--- the line asks the store of a repository whose history is full, or would make an entry too many
-abbrev pub meets_limit : DriverInput → Line → Driver → Bool
-meets_limit g line d = is_full d.past (asks_first line) || is_too_long g (does g line d).past
+-- the line is a close that lacks places, which then closes no end, or a block that comes to one, and ends there
+abbrev pub lacks_at : DriverInput → Command → Driver → Bool
+lacks_at g (Does (Close r other)) d = lacks_places d.past r other
+lacks_at g (Par lines) d = is_stuck (block_end g lines d).driver (block_end g lines d).left
+lacks_at g line d = false
 
--- the run then: the line's entries up to there, and the marks of the lines before it
-abbrev pub run_to_limit : DriverInput → Line → Driver → Run
+-- the line asks the store of a repository whose history is full, or would make an entry too many, or comes to a close that lacks places
+abbrev pub meets_limit : DriverInput → Command → Driver → Bool
+meets_limit g line d = is_full d.past (asks_first line) || (is_too_long g (does g line d).past || lacks_at g line d)
+
+-- The run then: the line's entries up to there, and the marks of the lines before it. A path that the line gave a key has it, since this
+-- is done before a store is asked.
+abbrev pub run_to_limit : DriverInput → Command → Driver → Run
 run_to_limit g line d = record (run_with g (does g line d)) { entries = reverse (within_limit g (does g line d).past) }
+
+-- the line is this close, or has it in its block
+abbrev pub HasClose : Command → ℕ → ℕ → Type 0
+HasClose (Does (Close r other)) q peer = (q ≡ r) × (peer ≡ other)
+HasClose (Par lines) q peer = Member (record { repo = q; line = Closes peer }) lines
+HasClose line q peer = ⊥
+
+-- After these entries one of the lines comes to a close of more ends than there are places left in the history of its repository.
+pub record LacksPlaces (g : DriverInput) (lines : List Command) (past : List Entry) : Type 0 where
+  pub line : Command
+  pub among : Member line lines
+  pub repo : ℕ
+  pub other : ℕ
+  pub closes : HasClose line repo other
+  pub known : repo < length g.repos
+  pub lacks : lacks_places past repo other ≡ true
+
+-- in which some repository has made all entries that it may
+abbrev pub HasFull : DriverInput → List Entry → Type 0
+HasFull g past = (r : ℕ) × (r < length g.repos) × (count_of past r ≡ most_entries)
 
 -- ---- scripts
 
@@ -70,13 +86,21 @@ pub record LimitedRun : Type 0 where
   pub run : Run
   pub is_cut : Bool
 
-abbrev pub drives_to_limit : DriverInput → List Line → Driver → LimitedRun
+abbrev pub drives_to_limit : DriverInput → List Command → Driver → LimitedRun
 drives_to_limit g [] d = record { run = run_with g d; is_cut = false }
 drives_to_limit g (line ∷ lines) d =
     if meets_limit g line d then record { run = run_to_limit g line d; is_cut = true } else drives_to_limit g lines (with_mark (does g line d))
 
-abbrev pub limited_run : DriverInput → List Line → LimitedRun
+abbrev pub limited_run : DriverInput → List Command → LimitedRun
 limited_run g lines = drives_to_limit g lines at_first
+
+-- the driver after the line that ends the run so, or after all lines
+abbrev pub drives_until_cut : DriverInput → List Command → Driver → Driver
+drives_until_cut g [] d = d
+drives_until_cut g (line ∷ lines) d = if meets_limit g line d then does g line d else drives_until_cut g lines (with_mark (does g line d))
+
+abbrev pub driver_at_cut : DriverInput → List Command → Driver
+driver_at_cut g lines = drives_until_cut g lines at_first
 
 -- ---- steps that meet a full history
 
@@ -103,7 +127,7 @@ pub record StopsAtFull (g : DriverInput) (r : ℕ) (after : Driver) (run : Run) 
 -- ---- lines that change the tree
 
 -- the line names a path: no other changes the tree
-abbrev pub names_path : Line → Bool
-names_path (Add r path key bytes) = true
-names_path (File path key) = true
+abbrev pub names_path : Command → Bool
+names_path (Does (Add r path key bytes)) = true
+names_path (Does (File path key)) = true
 names_path line = false

@@ -1,11 +1,14 @@
 -- Rounds of turns, until all are idle, and blocks (own).
-use Rattle.std.specs.Prelude.{ℕ, zero, suc, ◌+◌, Bool, true, not, ◌&&◌, if◌then◌else◌, ◌==◌, nat_le, nat_lt, List, [], ◌∷◌, filter, flat_map, length, map}
+use Rattle.std.specs.Prelude.{ℕ, zero, suc, ◌+◌, Bool, true, false, not, ◌&&◌, if◌then◌else◌, ◌==◌, nat_le, nat_lt, List, [], ◌∷◌, filter, flat_map, length, map}
 use Rattle.std.specs.List.{list_any, range_with_len}
+use Rattle.run_data.specs.declared.entry.Entry.{Entry}
 use Rattle.run_model.specs.Past.{begun_count}
 use Rattle.run_model.specs.States.{works}
-use Rattle.driver_model.specs.Lines.{Agendum, BlockLine, Runs, Crashes, Closes, Fails}
+use Rattle.script_commands.specs.declared.command.Agendum.{Agendum}
+use Rattle.script_commands.specs.declared.command.BlockLine.{BlockLine}
+use Rattle.script_commands.specs.declared.command.BlockLine.TheVariants.{Runs, Crashes, Closes, Fails}
 use Rattle.driver_model.specs.Driver.{Driver, DriverInput}
-use Rattle.driver_model.specs.ScriptSteps.{begins, closes, crashes, will_fail}
+use Rattle.driver_model.specs.ScriptSteps.{begins, closes, crashes, lacks_places, will_fail}
 use Rattle.driver_model.specs.Turning.{turn}
 
 abbrev pub numbers : DriverInput → List ℕ
@@ -80,14 +83,16 @@ pub record WithAgenda : Type 0 where
   pub driver : Driver
   pub left : Agenda
 
--- a repository takes from its agenda all that it can
+-- a repository takes from its agenda all that it can; a close that lacks places stays on it
 abbrev pub takes_all : DriverInput → ℕ → List BlockLine → List ℕ → Driver → WithAgenda
 takes_all g r [] jobs d = record { driver = d; left = record { repo = r; lines = []; jobs = jobs } }
 takes_all g r (Runs job ∷ lines) jobs d =
     if may_begin d r jobs then takes_all g r lines ((begun_count d.past r + 1) ∷ jobs) (begins r job d)
     else record { driver = d; left = record { repo = r; lines = Runs job ∷ lines; jobs = jobs } }
 takes_all g r (Crashes clock ∷ lines) jobs d = takes_all g r lines jobs (crashes g r clock d)
-takes_all g r (Closes other ∷ lines) jobs d = takes_all g r lines jobs (closes g r other d)
+takes_all g r (Closes other ∷ lines) jobs d =
+    if lacks_places d.past r other then record { driver = d; left = record { repo = r; lines = Closes other ∷ lines; jobs = jobs } }
+    else takes_all g r lines jobs (closes g r other d)
 takes_all g r (Fails call ∷ lines) jobs d = takes_all g r lines jobs (will_fail r call d)
 
 abbrev pub takes : DriverInput → Agenda → Driver → WithAgenda
@@ -101,10 +106,21 @@ pub record Block : Type 0 where
 abbrev pub and_left : Agenda → Block → Block
 and_left a b = record b { left = a ∷ b.left }
 
--- so does each repository, in order of number
+-- the next line of an agenda is a close that lacks places
+abbrev pub lacks_next : List Entry → ℕ → List BlockLine → Bool
+lacks_next past r (Closes other ∷ lines) = lacks_places past r other
+lacks_next past r lines = false
+
+-- that of one of them is
+abbrev pub is_stuck : Driver → List Agenda → Bool
+is_stuck d ags = list_any (λ a. lacks_next d.past a.repo a.lines) ags
+
+-- so does each repository, in order of number, up to one with a close that lacks places
 abbrev pub takes_each : DriverInput → List Agenda → Driver → Block
 takes_each g [] d = record { driver = d; left = [] }
-takes_each g (a ∷ ags) d = and_left (takes g a d).left (takes_each g ags (takes g a d).driver)
+takes_each g (a ∷ ags) d =
+    if lacks_next (takes g a d).driver.past a.repo (takes g a d).left.lines then record { driver = (takes g a d).driver; left = (takes g a d).left ∷ ags }
+    else and_left (takes g a d).left (takes_each g ags (takes g a d).driver)
 
 abbrev pub lines_in : List Agenda → ℕ
 lines_in ags = length (flat_map (λ a. a.lines) ags)
@@ -123,8 +139,12 @@ is_over x = nat_le 2 x.idle && not x.took
 abbrev pub block_at : InBlock → Block → Driver → InBlock
 block_at x b d = record { driver = d; left = b.left; idle = idle_after b.driver d x.idle; took = not (lines_in x.left == lines_in b.left) }
 
+-- a close that lacks places ends the block: no round follows
+abbrev pub stuck_at : Block → InBlock
+stuck_at b = record { driver = b.driver; left = b.left; idle = 2; took = false }
+
 abbrev pub with_round : DriverInput → InBlock → Block → InBlock
-with_round g x b = block_at x b (round g b.driver)
+with_round g x b = if is_stuck b.driver b.left then stuck_at b else block_at x b (round g b.driver)
 
 abbrev pub block_round : DriverInput → InBlock → InBlock
 block_round g x = if is_over x then x else with_round g x (takes_each g x.left x.driver)
@@ -135,6 +155,12 @@ block_rounds g zero x = block_round g x
 block_rounds g (suc n) x = if is_over x then x else block_rounds g n (block_rounds g n x)
 
 -- the bound is that of a settling: of each two such rounds but the last one adds an entry or takes a line (no law says so yet)
+abbrev pub block_end : DriverInput → List Agendum → Driver → InBlock
+block_end g xs d = block_rounds g most_rounds (record { driver = d; left = map (agenda xs) (numbers g); idle = 0; took = true })
+
+-- then the driver settles, unless a close ended the block
+abbrev pub settles_after : DriverInput → InBlock → Driver
+settles_after g x = if is_stuck x.driver x.left then x.driver else settles g x.driver
+
 abbrev pub blocks : DriverInput → List Agendum → Driver → Driver
-blocks g xs d =
-    settles g (block_rounds g most_rounds (record { driver = d; left = map (agenda xs) (numbers g); idle = 0; took = true })).driver
+blocks g xs d = settles_after g (block_end g xs d)

@@ -1,5 +1,5 @@
 -- What the lines of a script do that aren't turns (own). A step stops at the first store call that fails.
-use Rattle.std.specs.Prelude.{ℕ, ◌+◌, Bool, true, false, not, ◌||◌, if◌then◌else◌, nat_lt, List, [], ◌∷◌, ◌++◌, length, Some, None}
+use Rattle.std.specs.Prelude.{ℕ, ◌+◌, Bool, true, false, not, ◌||◌, if◌then◌else◌, nat_lt, List, [], ◌∷◌, ◌++◌, filter, length, Some, None}
 use Rattle.annex_base.specs.declared.kinds.Call.{Call}
 use Rattle.annex_base.specs.declared.kinds.Call.TheVariants as calls
 use Rattle.log_lines.specs.declared.entry.LogKind.{LogKind}
@@ -17,8 +17,9 @@ use Rattle.run_data.specs.declared.entry.FrameView.{FrameView}
 use Rattle.run_data.specs.declared.entry.LogFile.{LogFile}
 use Rattle.run_data.specs.declared.entry.LogFile.TheVariants.{Location, Of}
 use Rattle.run_data.specs.declared.job.Job.{Job}
+use Rattle.run_data.specs.Histories.{most_entries}
 use Rattle.run_data.specs.Repos.{id_of}
-use Rattle.run_model.specs.Past.{begun_count, now, present}
+use Rattle.run_model.specs.Past.{begun_count, is_of, now, present}
 use Rattle.node_model.specs.Clocks.{wall}
 use Rattle.run_model.specs.Logs.{branch, lines_of_file}
 use Rattle.node_model.specs.Files.{compact_lines}
@@ -163,9 +164,17 @@ abbrev pub closes_each : DriverInput → ℕ → List EndName → Driver → Dri
 closes_each g r [] d = d
 closes_each g r (a ∷ ends) d = closes_each g r ends (closes_end g r a d)
 
--- the end of r of each connection with another
+-- the ends of connections with another
+abbrev pub ends_at : ℕ → List EndName
+ends_at other = ends_with other true ++ ends_with other false
+
+-- r has more of them open than there are places left in its history
+abbrev pub lacks_places : List Entry → ℕ → ℕ → Bool
+lacks_places past r other = nat_lt most_entries (length (filter (is_of r) past) + length (filter (λ a. (end_at past r a).opened) (ends_at other)))
+
+-- the end of r of each connection with another; none where it lacks places
 abbrev pub closes : DriverInput → ℕ → ℕ → Driver → Driver
-closes g r other d = closes_each g r (ends_with other true ++ ends_with other false) d
+closes g r other d = if lacks_places d.past r other then d else closes_each g r (ends_at other) d
 
 -- its clock starts anew with this
 abbrev pub crashes : DriverInput → ℕ → ℕ → Driver → Driver

@@ -17,8 +17,13 @@ use Rattle.run_data.specs.Repos.{fits_size}
 use Rattle.node_model.specs.AnyTime.{IsPeer}
 use Rattle.run_model.specs.Past.{Always}
 use Rattle.run_model.specs.Run.{IsSmall}
-use Rattle.driver_model.specs.Lines.{Agendum, BlockLine, Line, Runs, Crashes, Closes, Fails, Have, SetPart, Add, File, Set, Raw, Merge, Compact, Begin, Turns, Settle, Close, Crash, Wait, Fail, Par, Shows}
-use Rattle.driver_model.specs.Lines
+use Rattle.script_commands.specs.declared.command.Action.{Action}
+use Rattle.script_commands.specs.declared.command.Action.TheVariants.{Have, SetPart, Add, File, Set, Raw, Merge, Compact, Sync, Begin, Run, Turns, Settle, Close, Crash, Wait, Fail}
+use Rattle.script_commands.specs.declared.command.Agendum.{Agendum}
+use Rattle.script_commands.specs.declared.command.BlockLine.{BlockLine}
+use Rattle.script_commands.specs.declared.command.BlockLine.TheVariants.{Runs, Crashes, Closes, Fails}
+use Rattle.script_commands.specs.declared.command.Command.{Command}
+use Rattle.script_commands.specs.declared.command.Command.TheVariants.{Repo, Does, Damage, Par, Shows}
 use Rattle.driver_model.specs.Driver.{Driver, DriverInput}
 
 -- ---- lines
@@ -61,27 +66,34 @@ IsBlockLine g r (Fails call) = Unit {0}
 abbrev pub IsAgendum : DriverInput → Agendum → Type 0
 IsAgendum g x = IsKnown g x.repo × IsBlockLine g x.repo x.line
 
--- The line is one of the script's: the repository that acts is one of the run, and a job one that it may begin; a content is
--- of a key, and has its size; what is written is a line of a file whose kind is known.
-abbrev pub IsOne : DriverInput → Line → Type 0
-IsOne g (Have r key bytes) = IsKnown g r × IsContent key bytes
-IsOne g (SetPart r key bytes) = IsKnown g r
-IsOne g (Add r path key bytes) = IsKnown g r × IsContent key bytes
-IsOne g (File path key) = Unit {0}
-IsOne g (Set r kind topic value) = IsKnown g r × (kind ≢ Location) × IsPlainTopic topic × IsPlainValue value
-IsOne g (Raw r file line) = IsKnown g r × HasPath file × (kind_of file ≢ None) × IsLine line
-IsOne g (Merge r other) = IsKnown g r
-IsOne g (Compact r) = IsKnown g r
-IsOne g (Begin r job) = IsKnown g r × IsJob g r job
-IsOne g (Lines.Run r job) = IsKnown g r × IsJob g r job
-IsOne g (Turns r n) = IsKnown g r
-IsOne g Settle = Unit {0}
-IsOne g (Close r other) = IsKnown g r × IsOther g r other
-IsOne g (Crash r clock) = IsKnown g r
-IsOne g (Wait milliseconds) = Unit {0}
-IsOne g (Fail r call) = Unit {0}
+-- The action is one of the script's: the repository that acts is one of the run, and a job one that it may begin; a content is
+-- of a key, and has its size; a path of the tree names a key; what is written is a line of a file whose kind is known.
+abbrev pub IsOneAction : DriverInput → Action → Type 0
+IsOneAction g (Have r key bytes) = IsKnown g r × IsContent key bytes
+IsOneAction g (SetPart r key bytes) = IsKnown g r
+IsOneAction g (Add r path key bytes) = IsKnown g r × IsContent key bytes
+IsOneAction g (File path key) = IsKeyText key
+IsOneAction g (Set r kind topic value) = IsKnown g r × (kind ≢ Location) × IsPlainTopic topic × IsPlainValue value
+IsOneAction g (Raw r file line) = IsKnown g r × HasPath file × (kind_of file ≢ None) × IsLine line
+IsOneAction g (Merge r other) = IsKnown g r
+IsOneAction g (Compact r) = IsKnown g r
+IsOneAction g (Sync r) = IsKnown g r
+IsOneAction g (Begin r job) = IsKnown g r × IsJob g r job
+IsOneAction g (Run r job) = IsKnown g r × IsJob g r job
+IsOneAction g (Turns r n) = IsKnown g r
+IsOneAction g Settle = Unit {0}
+IsOneAction g (Close r other) = IsKnown g r × IsOther g r other
+IsOneAction g (Crash r clock) = IsKnown g r
+IsOneAction g (Wait milliseconds) = Unit {0}
+IsOneAction g (Fail r call) = Unit {0}
+
+-- The line is one of the script's; none is a `damage` line yet.
+abbrev pub IsOne : DriverInput → Command → Type 0
+IsOne g (Repo name id offset version locks) = Unit {0}
+IsOne g (Does action) = IsOneAction g action
+IsOne g (Damage r key bytes) = ⊥
 IsOne g (Par lines) = Each (IsAgendum g) lines
-IsOne g Shows = Unit {0}
+IsOne g (Shows what) = Unit {0}
 
 -- ---- bounds
 

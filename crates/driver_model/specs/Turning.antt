@@ -1,8 +1,7 @@
 -- A turn of a repository: what it finds, and the entry that it makes (own).
-use Rattle.std.specs.Prelude.{ℕ, ◌+◌, Bool, true, false, if◌then◌else◌, ◌==◌, List, [], ◌∷◌, ◌++◌, find, flat_map, length, Option, Some, None}
+use Rattle.std.specs.Prelude.{ℕ, ◌+◌, Bool, true, false, if◌then◌else◌, ◌==◌, List, [], ◌++◌, find, flat_map, length, Option, Some, None}
 use Rattle.std.specs.Option.{option_or, option_to_list}
 use Rattle.annex_base.specs.declared.kinds.Call.{Call}
-use Rattle.annex_base.specs.declared.kinds.Call.TheVariants as calls
 use Rattle.annex_base.specs.declared.kinds.Word.{Word}
 use Rattle.run_data.specs.declared.entry.Entry.{Entry}
 use Rattle.run_data.specs.declared.entry.EntryKind.{EntryKind}
@@ -90,28 +89,14 @@ told_words past r kind = λ c. None
 
 -- ---- the call that fails
 
--- the calls of Keeper, in order; a step makes its calls in this order
-abbrev pub all_calls : List Call
-all_calls = calls.Has ∷ calls.Size ∷ calls.Read ∷ calls.PartSize ∷ calls.ReadPart ∷ calls.Append ∷ calls.Commit ∷ calls.DropPart ∷ calls.Remove ∷ calls.Hold ∷ calls.Unhold ∷ calls.Holds ∷ calls.PutFile ∷ calls.File ∷ []
-
-abbrev pub is_fault : EntryKind → Bool
-is_fault (Fault call by) = true
-is_fault kind = false
-
-abbrev pub makes_fault : Option Effect → Bool
-makes_fault None = false
-makes_fault (Some m) = is_fault m.kind
-
--- the step makes the call
-abbrev pub meets : SetUp → State → Look → Call → Bool
-meets s st k call = makes_fault (step s st (record k { fails = Some call }))
-
-abbrev pub fails_in : Driver → ℕ → SetUp → State → Look → Call → Bool
-fails_in d r s st k call = if fails_at d r call then meets s st k call else false
+-- the store calls of a step, if one is ready
+abbrev pub made_calls : Option Effect → List Call
+made_calls None = []
+made_calls (Some m) = m.calls
 
 -- ---- the look of a turn
 
--- where this would be made with a plain look: the look without a failing call, and with it
+-- where this would be made with a plain look: the look without a failing call, and with the step's first that is to fail
 abbrev pub calm_look : DriverInput → Driver → ℕ → SetUp → State → Effect → Look
 calm_look g d r s st m = record (plain_look s d) {
   part = part_size d r (asked_key st m);
@@ -120,7 +105,7 @@ calm_look g d r s st m = record (plain_look s d) {
 }
 
 abbrev pub look_for : DriverInput → Driver → ℕ → SetUp → State → Effect → Look
-look_for g d r s st m = record (calm_look g d r s st m) { fails = find (fails_in d r s st (calm_look g d r s st m)) all_calls }
+look_for g d r s st m = record (calm_look g d r s st m) { fails = find (fails_at d r) (made_calls (step s st (calm_look g d r s st m))) }
 
 -- ---- contents and parts afterwards
 

@@ -19,8 +19,8 @@ ghost use Rattle.run_laws.specs.Jobs.{AnswersAsked, AreJobs};
 ghost use Rattle.driver_model.specs.Apart.{AreApart};
 ghost use Rattle.driver_model.specs.Driver.{Driver, DriverInput, has_room, without_old_flights, set_up_of, state_at};
 ghost use Rattle.driver_model.specs.Driving.{driver_after, run_of};
-ghost use Rattle.driver_model.specs.Limits.{is_too_long};
-ghost use Rattle.driver_model.specs.Lines.{Line};
+ghost use Rattle.driver_model.specs.Limits.{driver_at_cut, is_too_long, limited_run};
+ghost use Rattle.script_commands.specs.declared.command.Command.{Command};
 ghost use Rattle.driver_model.specs.Logged.{LogsWell};
 ghost use Rattle.driver_model.specs.Rounds.{AfterRounds, is_settled, most_rounds, rounds};
 ghost use Rattle.driver_model.specs.Scripts.{HasBoundedPast, IsKnown, IsOne};
@@ -29,6 +29,7 @@ ghost use Rattle.driver_model.specs.Turning.{plain_look, turn};
 
 use annex_key::key_texts_have_no_fault;
 use growth_laws::runs_grow;
+use node_model::steps_tell_their_calls;
 use run_data::files_have_their_paths;
 use run_laws::{frames_go_to_others, jobs_hear_nobody_twice, kept_words_were_asked};
 use step_facts::{
@@ -40,9 +41,9 @@ use union_merge::{differences_make_the_union, unions_have_the_lines_of_both};
 /// What the driver makes of a script is a run, where the script's lines are right and the run stays within its bounds; and so
 /// is each start of it, by which a driver ends that meets a full history (own).
 pub fn driven_runs_are_runs()
-    ensures run { (g : DriverInput) (lines : List Line) → Each IsSetUp g.repos → Each (IsOne g) lines → HasBoundedPast (driver_after g lines)
+    ensures run { (g : DriverInput) (lines : List Command) → Each IsSetUp g.repos → Each (IsOne g) lines → HasBoundedPast (driver_after g lines)
         → IsRun (run_of g lines) }
-    ensures start { (g : DriverInput) (lines : List Line) (place : ℕ) → Each IsSetUp g.repos → Each (IsOne g) lines → HasBoundedPast (driver_after g lines)
+    ensures start { (g : DriverInput) (lines : List Command) (place : ℕ) → Each IsSetUp g.repos → Each (IsOne g) lines → HasBoundedPast (driver_after g lines)
         → place ≤ length (run_of g lines).entries → IsRun (record (run_of g lines) { entries = take place (run_of g lines).entries }) }
 {
     // Laws of a step: what it found, takes and names, and that its entry suits its ends and goes to others.
@@ -50,10 +51,37 @@ pub fn driven_runs_are_runs()
     own_entries_suit_their_ends();
     steps_take_what_is_at_hand();
     steps_name_their_jobs();
+    // A law: the calls that a step makes.
+    steps_tell_their_calls();
     frames_go_to_others();
     // A law: a running job keeps the key that was asked of it.
     running_jobs_stay_the_same();
     // A law: a run grows by each such entry.
+    runs_grow();
+    // Laws: a file is read off its path, what its log lacks is a set of lines, and a text without a fault is a key's.
+    files_have_their_paths();
+    unions_have_the_lines_of_both();
+    differences_make_the_union();
+    key_texts_have_no_fault();
+}
+
+/// So is the run of a script up to where a line meets a full history, or comes to a close of more ends than there are places left: it
+/// is a run, with the changes of the tree that this line makes.
+pub fn limited_runs_are_runs()
+    ensures { (g : DriverInput) (lines : List Command) → Each IsSetUp g.repos → Each (IsOne g) lines → HasBoundedPast (driver_at_cut g lines)
+        → IsRun (limited_run g lines).run }
+{
+    // Laws of a step: what it found, takes and names, and that its entry suits its ends and goes to others.
+    steps_find_their_cause();
+    own_entries_suit_their_ends();
+    steps_take_what_is_at_hand();
+    steps_name_their_jobs();
+    // A law: the calls that a step makes.
+    steps_tell_their_calls();
+    frames_go_to_others();
+    // A law: a running job keeps the key that was asked of it.
+    running_jobs_stay_the_same();
+    // Law: a run grows by each such entry.
     runs_grow();
     // Laws: a file is read off its path, what its log lacks is a set of lines, and a text without a fault is a key's.
     files_have_their_paths();
@@ -72,6 +100,8 @@ pub fn runs_log_lines()
     own_entries_suit_their_ends();
     steps_take_what_is_at_hand();
     steps_name_their_jobs();
+    // A law: the calls that a step makes.
+    steps_tell_their_calls();
     frames_go_to_others();
     // A law: a running job keeps the key that was asked of it.
     running_jobs_stay_the_same();
@@ -97,6 +127,8 @@ pub fn settlings_come_to_rest()
 {
     // A law: an entry names the job of its step, so looks that differ in part and words find a step alike.
     steps_name_their_jobs();
+    // A law: the calls that a step makes.
+    steps_tell_their_calls();
 }
 
 /// Where the driver is sound, each end has sent at most twice as many frames since it was opened as there are entries, and its opening

@@ -8,8 +8,8 @@ mod steps;
 mod turns;
 
 pub use laws::{
-    driven_runs_are_runs, ends_are_apart, ends_have_small_numbers, runs_log_lines,
-    settlings_come_to_rest, sound_drivers_keep_their_jobs,
+    driven_runs_are_runs, ends_are_apart, ends_have_small_numbers, limited_runs_are_runs,
+    runs_log_lines, settlings_come_to_rest, sound_drivers_keep_their_jobs,
 };
 pub use limits::{
     cut_runs_have_a_full_history, runs_are_cut_where_histories_are_full,

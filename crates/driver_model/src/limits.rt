@@ -1,6 +1,6 @@
 //! The laws of a driver whose repositories make at most 100,000 entries each. Each is the contract of a function that does nothing.
 
-ghost use Rattle.std.specs.Prelude.{◌≡◌, ℕ, ◌<◌, ◌≤◌, true, false, List, ◌++◌, length, reverse};
+ghost use Rattle.std.specs.Prelude.{◌≡◌, ◌⊎◌, ℕ, ◌<◌, ◌≤◌, true, false, List, ◌++◌, length, reverse};
 ghost use Rattle.annex_base.specs.Lists.{Each};
 ghost use Rattle.log_lines.specs.declared.entry.LogKind.{LogKind};
 ghost use Rattle.log_lines.specs.declared.entry.Topic.{Topic};
@@ -14,8 +14,8 @@ ghost use Rattle.run_data.specs.declared.run.Run.{Run};
 ghost use Rattle.run_model.specs.Logs.{branch};
 ghost use Rattle.driver_model.specs.Driver.{Driver, DriverInput, drops_part, puts_part};
 ghost use Rattle.driver_model.specs.Driving.{does, run_of};
-ghost use Rattle.driver_model.specs.Limits.{AddsOwn, StopsAtFull, count_of, is_too_long, limited_run, names_path, within_limit};
-ghost use Rattle.driver_model.specs.Lines.{Line};
+ghost use Rattle.driver_model.specs.Limits.{AddsOwn, HasFull, LacksPlaces, StopsAtFull, count_of, is_too_long, limited_run, names_path, within_limit};
+ghost use Rattle.script_commands.specs.declared.command.Command.{Command};
 ghost use Rattle.driver_model.specs.Scripts.{IsContent, IsKnown, IsOne};
 ghost use Rattle.driver_model.specs.ScriptSteps.{begins, compacts_files, gets_content, has, is_busy, merges_files, sets, sets_part, writes};
 ghost use Rattle.driver_model.specs.Sound.{OnlyAdds, StaysSound};
@@ -23,6 +23,7 @@ ghost use Rattle.driver_model.specs.Turning.{turn};
 
 use annex_key::key_texts_have_no_fault;
 use growth_laws::runs_grow;
+use node_model::steps_tell_their_calls;
 use run_data::files_have_their_paths;
 use run_laws::frames_go_to_others;
 use step_facts::{
@@ -60,6 +61,8 @@ pub fn starts_of_steps_stay_sound()
     // The shared lemmas take these along, for turns.
     steps_take_what_is_at_hand();
     steps_name_their_jobs();
+    // A law: the calls that a step makes.
+    steps_tell_their_calls();
     // Laws: frames go to others, a running job keeps its key, and a run grows by each such entry.
     frames_go_to_others();
     running_jobs_stay_the_same();
@@ -85,15 +88,16 @@ pub fn runs_are_cut_where_histories_are_full()
         → ((q : ℕ) → count_of d.past q ≤ most_entries) → within_limit g after.past ≡ d.past }
     ensures few { (g : DriverInput) (past : List Entry) → ((q : ℕ) → q < length g.repos → count_of past q ≤ most_entries)
         → is_too_long g past ≡ false }
-    ensures marks { (g : DriverInput) (line : Line) (d : Driver) → (does g line d).marks ≡ d.marks }
-    ensures tree { (g : DriverInput) (line : Line) (d : Driver) → names_path line ≡ false → (does g line d).tree ≡ d.tree }
+    ensures marks { (g : DriverInput) (line : Command) (d : Driver) → (does g line d).marks ≡ d.marks }
+    ensures tree { (g : DriverInput) (line : Command) (d : Driver) → names_path line ≡ false → (does g line d).tree ≡ d.tree }
     ensures step { (g : DriverInput) (r : ℕ) (d : Driver) → (turn g r d).tree ≡ d.tree }
-    ensures whole { (g : DriverInput) (lines : List Line) → (limited_run g lines).is_cut ≡ false
+    ensures whole { (g : DriverInput) (lines : List Command) → (limited_run g lines).is_cut ≡ false
         → (limited_run g lines).run ≡ run_of g lines }
 {}
 
-/// Where a script's run is cut, some repository has a full history in it (own).
+/// Where a script's run is cut, some repository has a full history in it, or a line comes to a close of more ends than there are places
+/// left in the history of its repository, and closes none (own).
 pub fn cut_runs_have_a_full_history()
-    ensures { (g : DriverInput) (lines : List Line) → Each (IsOne g) lines → (limited_run g lines).is_cut ≡ true
-        → (r : ℕ) × (r < length g.repos) × (count_of (reverse (limited_run g lines).run.entries) r ≡ most_entries) }
+    ensures { (g : DriverInput) (lines : List Command) → Each (IsOne g) lines → (limited_run g lines).is_cut ≡ true
+        → HasFull g (reverse (limited_run g lines).run.entries) ⊎ LacksPlaces g lines (reverse (limited_run g lines).run.entries) }
 {}

@@ -11,6 +11,7 @@ ghost use Rattle.driver_model.specs.Finding.{MakesStep, after_step, driver_at_tu
 ghost use Rattle.driver_model.specs.Turning.{plain_look, turn};
 ghost use Rattle.driver_model.specs.WordsRead.{AgreeWhereRead};
 
+use node_model::steps_tell_their_calls;
 use step_facts::steps_name_their_jobs;
 
 /// A step doesn't change with the words beside what a job was told, but for those that the end of a job reads: where it ends no
@@ -31,4 +32,6 @@ pub fn turns_are_found()
 {
     // A law: an entry names the job of its step, so looks that differ in part and words find steps of one job.
     steps_name_their_jobs();
+    // A law: the calls that a step makes.
+    steps_tell_their_calls();
 }

@@ -1,5 +1,6 @@
 -- The lemmas of this crate.
 mod BuiltLemmas
+mod PlainLemmas
 mod StandingLemmas
 mod DeclaringLemmas
 mod WaitingLemmas

@@ -1,25 +1,19 @@
--- The lines of the driver that the commands of a script are, where no part is missing to do them (own).
-use Rattle.std.specs.Prelude.{ℕ, ◌+◌, Bool, true, false, ◌==◌, ◌&&◌, List, [], ◌∷◌, ◌++◌, map, Option, Some, None, is_none, if◌then◌else◌}
-use Rattle.std.specs.Option.{option_map}
-use Rattle.annex_base.specs.OptionSteps.{◌>>=◌}
-use Rattle.log_lines.specs.declared.entry.LogKind.{LogKind}
-use Rattle.log_lines.specs.declared.entry.LogKind.TheVariants as kinds
-use Rattle.log_lines.specs.declared.entry.Topic.TheVariants as topics
-use Rattle.log_lines.specs.declared.entry.Value.TheVariants as values
-use Rattle.run_data.specs.Repos.{id_of}
+-- The repositories that a script declares, and which forms of line are built (own).
+use Rattle.std.specs.Prelude.{ℕ, Bool, true, false, not, ◌==◌, ◌&&◌, List, [], ◌∷◌, ◌++◌, map, position, Option, is_none}
 use Rattle.run_data.specs.declared.entry.LogFile.{LogFile}
 use Rattle.run_data.specs.declared.entry.LogFile.TheVariants as files
 use Rattle.run_data.specs.declared.job.Job.{Job}
 use Rattle.run_data.specs.declared.job.JobKind.{JobKind}
 use Rattle.run_data.specs.declared.job.JobKind.TheVariants as job_kinds
 use Rattle.run_data.specs.declared.run.RepoView.{RepoView}
-use Rattle.script_commands.specs.declared.command.NamedKey.{NamedKey}
+use Rattle.script_commands.specs.declared.command.Action.{Action}
+use Rattle.script_commands.specs.declared.command.Action.TheVariants as actions
 use Rattle.script_commands.specs.declared.command.Command.{Command}
 use Rattle.script_commands.specs.declared.command.Command.TheVariants as commands
-use Rattle.script_commands.specs.declared.context.Repository.{Repository}
+use Rattle.script_commands.specs.declared.command.Showing.{Showing}
+use Rattle.script_commands.specs.declared.command.Showing.TheVariants as showings
+use Rattle.script_forms.specs.declared.context.Repository.{Repository}
 use Rattle.script_lang.specs.Script as script
-use Rattle.driver_model.specs.Lines as driver
-use Rattle.driver_model.specs.Lines.{Line}
 
 -- ---- the repositories of a script
 
@@ -38,31 +32,14 @@ repos_of (c ∷ cs) = declared_by c ++ repos_of cs
 
 -- ---- the forms that are built
 
-abbrev pub if_built : Bool → Line → Option Line
-if_built b line = if b then Some line else None
-
 -- a repository that speaks version 3, and gives holds to its peers
 abbrev pub is_plain_repo : ℕ → Bool → Bool
 is_plain_repo version locks = (version == 3) && locks
 
--- the logs with a file of their own to which a line may add, all but those of expressions
-abbrev pub is_written : LogKind → Bool
-is_written kinds.Location = false
-is_written kinds.Trust = true
-is_written kinds.Uuid = true
-is_written kinds.Group = true
-is_written kinds.Preferred = false
-is_written kinds.Required = false
-is_written kinds.GroupPreferred = false
-is_written kinds.Numcopies = true
-is_written kinds.Mincopies = true
-is_written kinds.NumcopiesPath = false
-is_written kinds.MincopiesPath = false
-
--- and the location log of a key
+-- the file to which a line may add: any that is known
 abbrev pub is_added : LogFile → Bool
 is_added (files.Location key) = true
-is_added (files.Of kind) = is_written kind
+is_added (files.Of kind) = true
 is_added (files.Other name) = false
 
 -- the log of one of the kinds
@@ -75,71 +52,57 @@ abbrev pub is_drop : JobKind → Bool
 is_drop job_kinds.Drop = true
 is_drop kind = false
 
--- a drop of a key's text at its own repository
+-- a drop at the job's own repository
 abbrev pub is_local_drop : Job → Bool
-is_local_drop job = is_drop job.kind && (is_none job.path && is_none job.peer)
+is_local_drop job = is_drop job.kind && is_none job.peer
 
--- the key is named by its text
-abbrev pub is_plain : NamedKey → Bool
-is_plain named = is_none named.path
+abbrev pub is_built_action : Action → Bool
+is_built_action (actions.Have r key content) = true
+is_built_action (actions.SetPart r key content) = false
+is_built_action (actions.Add r path key content) = true
+is_built_action (actions.File path key) = true
+is_built_action (actions.Set r kind topic value) = true
+is_built_action (actions.Raw r file line) = is_added file
+is_built_action (actions.Merge r other) = true
+is_built_action (actions.Compact r) = true
+is_built_action (actions.Sync r) = false
+is_built_action (actions.Begin r job) = is_local_drop job
+is_built_action (actions.Run r job) = is_local_drop job
+is_built_action (actions.Turns r turns) = true
+is_built_action actions.Settle = true
+is_built_action (actions.Close r other) = false
+is_built_action (actions.Crash r clock) = false
+is_built_action (actions.Wait milliseconds) = true
+is_built_action (actions.Fail r call) = true
 
--- ---- lines
+abbrev pub is_built_showing : Showing → Bool
+is_built_showing (showings.Presence k) = true
+is_built_showing (showings.Claims r k) = true
+is_built_showing (showings.Location r k) = true
+is_built_showing (showings.Log r file) = is_shown file
+is_built_showing (showings.Logs r) = true
+is_built_showing (showings.Numbers r path) = true
+is_built_showing (showings.Level r target) = true
+is_built_showing (showings.Wants r target path) = false
+is_built_showing (showings.Row r k) = true
+is_built_showing (showings.Plan r) = false
+is_built_showing showings.Totals = false
+is_built_showing showings.Journal = true
 
--- The command as a line of the driver, in a run of these repositories; a line that declares a repository or shows something does
--- nothing. None where a part is missing to do what the command says.
-abbrev pub line_of : List RepoView → Command → Option Line
-line_of repos (commands.Repo name id offset version locks) = if_built (is_plain_repo version locks) driver.Shows
-line_of repos (commands.Numcopies r n) = Some (driver.Set r kinds.Numcopies topics.Whole (values.Number n))
-line_of repos (commands.Mincopies r n) = Some (driver.Set r kinds.Mincopies topics.Whole (values.Number n))
-line_of repos (commands.NumcopiesFor r n glob) = None
-line_of repos (commands.MincopiesFor r n glob) = None
-line_of repos (commands.Trust r target level) = Some (driver.Set r kinds.Trust (topics.Repo (id_of repos target)) (values.Level level))
-line_of repos (commands.Describe r target text) = Some (driver.Set r kinds.Uuid (topics.Repo (id_of repos target)) (values.Text text))
-line_of repos (commands.Wanted r target text) = None
-line_of repos (commands.Required r target text) = None
-line_of repos (commands.Group r target groups) = Some (driver.Set r kinds.Group (topics.Repo (id_of repos target)) (values.Groups groups))
-line_of repos (commands.GroupWanted r group text) = None
-line_of repos (commands.Log r file line) = if_built (is_added file) (driver.Raw r file line)
-line_of repos (commands.Have r key content) = Some (driver.Have r key content)
-line_of repos (commands.Part r key content) = None
-line_of repos (commands.Damage r key content) = None
-line_of repos (commands.Add r path key content) = None
-line_of repos (commands.File path key) = None
-line_of repos (commands.Run r job) = if_built (is_local_drop job) (driver.Run r job)
-line_of repos (commands.Begin r job) = if_built (is_local_drop job) (driver.Begin r job)
-line_of repos (commands.Turn r turns) = Some (driver.Turns r turns)
-line_of repos commands.Settle = Some driver.Settle
-line_of repos (commands.Merge r other) = Some (driver.Merge r other)
-line_of repos (commands.Compact r) = Some (driver.Compact r)
-line_of repos (commands.Sync r) = None
-line_of repos (commands.Close r other) = None
-line_of repos (commands.Crash r clock) = None
-line_of repos (commands.Wait milliseconds) = Some (driver.Wait milliseconds)
-line_of repos (commands.Fail r call) = Some (driver.Fail r call)
-line_of repos (commands.Par lines) = None
-line_of repos (commands.ShowPresence k) = if_built (is_plain k) driver.Shows
-line_of repos (commands.ShowClaims r k) = if_built (is_plain k) driver.Shows
-line_of repos (commands.ShowLocation r k) = if_built (is_plain k) driver.Shows
-line_of repos (commands.ShowLog r file) = if_built (is_shown file) driver.Shows
-line_of repos (commands.ShowLogs r) = Some driver.Shows
-line_of repos (commands.ShowNumbers r path) = if_built (is_none path) driver.Shows
-line_of repos (commands.ShowLevel r target) = Some driver.Shows
-line_of repos (commands.ShowWants r target path) = None
-line_of repos (commands.ShowRow r k) = if_built (is_plain k) driver.Shows
-line_of repos (commands.ShowPlan r) = None
-line_of repos commands.ShowTotals = None
-line_of repos commands.ShowJournal = Some driver.Shows
-
--- the commands as lines of the driver, if no part is missing to do one of them
-abbrev pub lines_of : List RepoView → List Command → Option (List Line)
-lines_of repos [] = Some []
-lines_of repos (c ∷ cs) = line_of repos c >>= λ line. lines_of repos cs >>= λ lines. Some (line ∷ lines)
-
-abbrev pub unless_built : Option Line → Option ℕ → Option ℕ
-unless_built None later = Some 0
-unless_built (Some line) later = option_map (λ n. n + 1) later
+-- no part is missing to do what the command says
+abbrev pub is_built : Command → Bool
+is_built (commands.Repo name id offset version locks) = is_plain_repo version locks
+is_built (commands.Does action) = is_built_action action
+is_built (commands.Damage r key content) = false
+is_built (commands.Par lines) = false
+is_built (commands.Shows what) = is_built_showing what
 
 -- the place of the first command for which a part is missing
-abbrev pub first_unbuilt : List RepoView → List Command → Option ℕ
-first_unbuilt repos [] = None
-first_unbuilt repos (c ∷ cs) = unless_built (line_of repos c) (first_unbuilt repos cs)
+abbrev pub first_unbuilt : List Command → Option ℕ
+first_unbuilt all = position (λ c. not (is_built c)) all
+
+-- the line closes no ends, and is no block: no other is built
+abbrev pub is_plain_line : Command → Bool
+is_plain_line (commands.Does (actions.Close r other)) = false
+is_plain_line (commands.Par lines) = false
+is_plain_line line = true

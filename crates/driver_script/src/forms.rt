@@ -1,11 +1,9 @@
 //! The forms of line for which no part is missing.
-ghost use Rattle.std.specs.Prelude.{◌≡◌, ℕ, List, is_some};
-ghost use Rattle.run_data.specs.declared.run.RepoView.{RepoView};
+ghost use Rattle.std.specs.Prelude.{◌≡◌};
 ghost use Rattle.driver_script.specs.Lines as spec;
 
-use log_lines::LogKind;
 use run_data::{Job, JobKind, LogFile};
-use script_lang::{Command, NamedKey};
+use script_lang::{Action, Command, Showing};
 
 /// Whether the repository speaks the newest version, and gives holds to its peers.
 fn is_plain_repo(version: u8, locks: bool) -> bool
@@ -14,29 +12,12 @@ fn is_plain_repo(version: u8, locks: bool) -> bool
     version == 3 && locks
 }
 
-/// Whether a line may add to the log of this kind.
-fn is_written(kind: LogKind) -> bool
-    ensures { result ≡ spec.is_written kind }
-{
-    match kind {
-        LogKind::Trust | LogKind::Uuid | LogKind::Group | LogKind::Numcopies | LogKind::Mincopies =>
-            true,
-        LogKind::Location
-        | LogKind::Preferred
-        | LogKind::Required
-        | LogKind::GroupPreferred
-        | LogKind::NumcopiesPath
-        | LogKind::MincopiesPath => false,
-    }
-}
-
 /// Whether a line may add to the file.
 fn is_added(file: &LogFile) -> bool
     ensures { result ≡ spec.is_added file.now }
 {
     match file {
-        LogFile::Location(_) => true,
-        LogFile::Of(kind) => is_written(*kind),
+        LogFile::Location(_) | LogFile::Of(_) => true,
         LogFile::Other(_) => false,
     }
 }
@@ -51,76 +32,70 @@ fn is_shown(file: &LogFile) -> bool
     }
 }
 
-/// Whether the job drops a key's text at its own repository.
+/// Whether the job is a drop at its own repository.
 fn is_local_drop(job: &Job) -> bool
     ensures { result ≡ spec.is_local_drop job.now }
 {
-    job.kind == JobKind::Drop && job.path.is_none() && job.peer.is_none()
+    job.kind == JobKind::Drop && job.peer.is_none()
 }
 
-/// Whether the key is named by its text.
-fn is_plain(key: &NamedKey) -> bool
-    ensures { result ≡ spec.is_plain key.now }
+/// Whether no part is missing for the action.
+fn does(action: &Action) -> bool
+    ensures { result ≡ spec.is_built_action action.now }
 {
-    key.path.is_none()
+    match action {
+        Action::Raw { file, .. } => is_added(file),
+        Action::Begin { job, .. } | Action::Run { job, .. } => is_local_drop(job),
+        Action::Have { .. }
+        | Action::Add { .. }
+        | Action::File { .. }
+        | Action::Set { .. }
+        | Action::Merge { .. }
+        | Action::Compact { .. }
+        | Action::Turns { .. }
+        | Action::Settle
+        | Action::Wait { .. }
+        | Action::Fail { .. } => true,
+        Action::SetPart { .. }
+        | Action::Sync { .. }
+        | Action::Close { .. }
+        | Action::Crash { .. } => false,
+    }
+}
+
+/// Whether no part is missing to show it.
+fn shows(what: &Showing) -> bool
+    ensures { result ≡ spec.is_built_showing what.now }
+{
+    match what {
+        Showing::Log { file, .. } => is_shown(file),
+        Showing::Presence { .. }
+        | Showing::Claims { .. }
+        | Showing::Location { .. }
+        | Showing::Logs { .. }
+        | Showing::Numbers { .. }
+        | Showing::Level { .. }
+        | Showing::Row { .. }
+        | Showing::Journal => true,
+        Showing::Wants { .. } | Showing::Plan { .. } | Showing::Totals => false,
+    }
 }
 
 /// Whether no part is missing to do what the line says (own).
 pub fn runs(command: &Command) -> bool
-    ensures { (repos : List RepoView) → result ≡ is_some (spec.line_of repos command.now) }
+    ensures { result ≡ spec.is_built command.now }
 {
     match command {
         Command::Repo { version, locks, .. } => is_plain_repo(*version, *locks),
-        Command::Log { file, .. } => is_added(file),
-        Command::Run { job, .. } | Command::Begin { job, .. } => is_local_drop(job),
-        Command::ShowPresence { key }
-        | Command::ShowClaims { key, .. }
-        | Command::ShowLocation { key, .. }
-        | Command::ShowRow { key, .. } => is_plain(key),
-        Command::ShowLog { file, .. } => is_shown(file),
-        Command::ShowNumbers { path, .. } => path.is_none(),
-        Command::Numcopies { .. }
-        | Command::Mincopies { .. }
-        | Command::Trust { .. }
-        | Command::Describe { .. }
-        | Command::Group { .. }
-        | Command::Have { .. }
-        | Command::Turn { .. }
-        | Command::Settle
-        | Command::Merge { .. }
-        | Command::Compact { .. }
-        | Command::Wait { .. }
-        | Command::Fail { .. }
-        | Command::ShowLogs { .. }
-        | Command::ShowLevel { .. }
-        | Command::ShowJournal => true,
-        Command::NumcopiesFor { .. }
-        | Command::MincopiesFor { .. }
-        | Command::Wanted { .. }
-        | Command::Required { .. }
-        | Command::GroupWanted { .. }
-        | Command::Part { .. }
-        | Command::Damage { .. }
-        | Command::Add { .. }
-        | Command::File { .. }
-        | Command::Sync { .. }
-        | Command::Close { .. }
-        | Command::Crash { .. }
-        | Command::Par { .. }
-        | Command::ShowWants { .. }
-        | Command::ShowPlan { .. }
-        | Command::ShowTotals => false,
+        Command::Does { action } => does(action),
+        Command::Damage { .. } | Command::Par { .. } => false,
+        Command::Shows { what } => shows(what),
     }
 }
 
 /// The place of the first line for which a part is missing, if there is one.
 pub fn first_missing(commands: &[Command]) -> Option<usize>
-    ensures { (repos : List RepoView) → result ≡ spec.first_unbuilt repos commands.now }
+    ensures { result ≡ spec.first_unbuilt commands.now }
 {
-    for (i, command) in commands.iter().enumerate() {
-        if !runs(command) {
-            return Some(i);
-        }
-    }
-    None
+    commands.iter().position(|command| !runs(command))
 }

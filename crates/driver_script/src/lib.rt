@@ -1,4 +1,4 @@
-//! The lines of the driver that a script is, and which forms of line are built.
+//! Which scripts can be driven: the forms of line that are built.
 #![tactic(auto)]
 
 mod forms;
@@ -6,6 +6,7 @@ mod laws;
 
 pub use forms::{first_missing, runs};
 pub use laws::{
-    bytes_are_matched, lines_wait_as_long, scripts_are_built_or_not, scripts_may_be_driven,
-    scripts_run_or_miss_a_form, scripts_without_a_missing_form_have_lines,
+    added_contents_match, built_lines_are_plain, bytes_are_matched, lines_wait_as_long,
+    scripts_are_built_or_not, scripts_may_be_driven, scripts_run_or_miss_a_form,
+    settings_are_plain,
 };

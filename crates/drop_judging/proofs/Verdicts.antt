@@ -1,5 +1,5 @@
 -- The judgement of a local drop.
-use Rattle.std.proofs.Common.{◌≡◌, ℕ, Bool, true, false, List, [], ◌∷◌, Option, Some, None, sym, ap, ◌∙◌}
+use Rattle.std.proofs.Common.{◌≡◌, ℕ, Bool, true, false, List, [], Option, Some, None, sym, ap, ◌∙◌}
 use Rattle.std.specs.Prelude.{find, nat_lt, if◌then◌else◌}
 use Rattle.drop_proof.specs.declared.evidence.Evidence.{Evidence}
 use Rattle.drop_proof.specs.declared.rule.Side.TheVariants.{Local}
@@ -8,7 +8,6 @@ use Rattle.drop_proof.specs.declared.rule.Judged.{Judged}
 use Rattle.drop_proof.specs.declared.rule.Judged.TheVariants as judgements
 use Rattle.drop_proof.specs.declared.rule.Need.{Need}
 use Rattle.annex_base.specs.declared.kinds.Call.{Call}
-use Rattle.annex_base.specs.declared.kinds.Call.TheVariants as calls
 use Rattle.node_model.specs.Evidence.{candidates, gather, reached_candidates}
 use Rattle.content_lock.specs.Rows.{Rows}
 use Rattle.node_model.specs.Jobs.{Drops, drop_side, side_of, target_of}
@@ -20,8 +19,6 @@ use Rattle.node_model.specs.JobStep.{Turn, clock_of, ends, locked_peers}
 use Rattle.node_model.specs.DropStep.{expiry, first_end, in_time}
 use Rattle.node_model.specs.Turns.{judge_needs, judges, next_needs, next_step}
 use Rattle.drop_judging.specs.declared.judging.Verdict.TheVariants as verdicts
-use Rattle.drop_judging.specs.Judging.{calls_by}
-use Rattle.drop_phases.specs.SlotCalls.{end_calls, judge_calls, next_calls}
 use Rattle.drop_judging.specs.Judging.{asks_of, evidence_of, offer_of, needs_by, others_in, step_by}
 
 removes_so : (t : Turn) → side_of t.w ≡ Local → enough_by t.read t.w ≡ true → in_time (clock_of t) (first_end t) ≡ true → step_by verdicts.Removes t ≡ next_step t Drops
@@ -57,24 +54,6 @@ asks_needs t peer enough next = sym (λ i. judge_needs t (enough i) (next i) (si
 lacks_needs : (t : Turn) → enough_by t.read t.w ≡ false → next_by t.read t.w ≡ None → needs_by verdicts.Lacks t ≡ next_needs t Drops
 lacks_needs t enough next = sym (λ i. judge_needs t (enough i) (next i) (side_of t.w))
 
--- ---- and of the store calls
-
-removes_calls : (t : Turn) → side_of t.w ≡ Local → enough_by t.read t.w ≡ true → in_time (clock_of t) (first_end t) ≡ true → calls_by verdicts.Removes t ≡ next_calls t Drops
-removes_calls t side enough soon =
-    sym ((λ i. judge_calls t (enough i) (next_by t.read t.w) (side i)) ∙ ap (λ (b : Bool). if b then calls.Remove ∷ [] else end_calls t (expiry (clock_of t) (first_end t))) soon)
-
-late_calls : (t : Turn) (end clock : ℕ) → side_of t.w ≡ Local → enough_by t.read t.w ≡ true → first_end t ≡ Some end → clock_of t ≡ clock → nat_lt clock end ≡ false
-    → calls_by (verdicts.Late end clock) t ≡ next_calls t Drops
-late_calls t end clock side enough first now late =
-    sym ((λ i. judge_calls t (enough i) (next_by t.read t.w) (side i))
-    ∙ (ap (λ (b : Bool). if b then calls.Remove ∷ [] else end_calls t (expiry (clock_of t) (first_end t))) ((λ i. in_time (now i) (first i)) ∙ late) ∙ (λ i. end_calls t (expiry (now i) (first i)))))
-
-asks_calls : (t : Turn) (peer : ℕ) → enough_by t.read t.w ≡ false → next_by t.read t.w ≡ Some peer → calls_by (verdicts.Asks peer) t ≡ next_calls t Drops
-asks_calls t peer enough next = sym (λ i. judge_calls t (enough i) (next i) (side_of t.w))
-
-lacks_calls : (t : Turn) → enough_by t.read t.w ≡ false → next_by t.read t.w ≡ None → calls_by verdicts.Lacks t ≡ next_calls t Drops
-lacks_calls t enough next = sym (λ i. judge_calls t (enough i) (next i) (side_of t.w))
-
 -- what it knows, as it was gathered
 module _ (x : Sight) (rows : Rows) (p : List ℕ → Bool) (fails : Option Call) (rest : Rest) (w : Worker) (need : Need) (items : List Evidence) (local : drop_side w.job.kind w.job.peer ≡ Local)
     (needs : need ≡ x.read.need) (is : items ≡ evidence_of Local x.read w (others_in x.read) []) where
@@ -91,22 +70,22 @@ module _ (x : Sight) (rows : Rows) (p : List ℕ → Bool) (fails : Option Call)
   enough_is : is_enough Local need items ≡ enough_by x.read (work_of rest w)
   enough_is = λ i. is_enough (sym local i) (needs i) (known_is i)
 
-  pub removes_by : (end : Option ℕ) → is_enough Local need items ≡ true → least_end items ≡ end → in_time (x.read.clock x.time) end ≡ true → (step_by verdicts.Removes turn ≡ next_step turn Drops) × (needs_by verdicts.Removes turn ≡ next_needs turn Drops) × (calls_by verdicts.Removes turn ≡ next_calls turn Drops)
+  pub removes_by : (end : Option ℕ) → is_enough Local need items ≡ true → least_end items ≡ end → in_time (x.read.clock x.time) end ≡ true → (step_by verdicts.Removes turn ≡ next_step turn Drops) × (needs_by verdicts.Removes turn ≡ next_needs turn Drops)
   removes_by end enough first soon =
       let in_it : in_time (clock_of turn) (first_end turn) ≡ true = ap (λ (l : List Evidence). in_time (x.read.clock x.time) (least_end l)) (sym known_is) ∙ (ap (in_time (x.read.clock x.time)) first ∙ soon) in
-      (removes_so turn local (sym enough_is ∙ enough) in_it, removes_needs turn local (sym enough_is ∙ enough) in_it, removes_calls turn local (sym enough_is ∙ enough) in_it)
+      (removes_so turn local (sym enough_is ∙ enough) in_it, removes_needs turn local (sym enough_is ∙ enough) in_it)
 
   pub late_by : (end clock : ℕ) → is_enough Local need items ≡ true → least_end items ≡ Some end → x.read.clock x.time ≡ clock → nat_lt clock end ≡ false
-      → (step_by (verdicts.Late end clock) turn ≡ next_step turn Drops) × (needs_by (verdicts.Late end clock) turn ≡ next_needs turn Drops) × (calls_by (verdicts.Late end clock) turn ≡ next_calls turn Drops)
+      → (step_by (verdicts.Late end clock) turn ≡ next_step turn Drops) × (needs_by (verdicts.Late end clock) turn ≡ next_needs turn Drops)
   late_by end clock enough first now late =
       let at : first_end turn ≡ Some end = ap least_end (sym known_is) ∙ first in
-      (late_so turn end clock local (sym enough_is ∙ enough) at now late, late_needs turn end clock local (sym enough_is ∙ enough) ((λ i. in_time (now i) (at i)) ∙ late), late_calls turn end clock local (sym enough_is ∙ enough) at now late)
+      (late_so turn end clock local (sym enough_is ∙ enough) at now late, late_needs turn end clock local (sym enough_is ∙ enough) ((λ i. in_time (now i) (at i)) ∙ late))
 
-  pub asks_by' : (peer : ℕ) → is_enough Local need items ≡ false → find (asks_of x.read w) (others_in x.read) ≡ Some peer → (step_by (verdicts.Asks peer) turn ≡ next_step turn Drops) × (needs_by (verdicts.Asks peer) turn ≡ next_needs turn Drops) × (calls_by (verdicts.Asks peer) turn ≡ next_calls turn Drops)
-  asks_by' peer lacks found = (asks_so turn peer (sym enough_is ∙ lacks) (sym next_is ∙ found), asks_needs turn peer (sym enough_is ∙ lacks) (sym next_is ∙ found), asks_calls turn peer (sym enough_is ∙ lacks) (sym next_is ∙ found))
+  pub asks_by' : (peer : ℕ) → is_enough Local need items ≡ false → find (asks_of x.read w) (others_in x.read) ≡ Some peer → (step_by (verdicts.Asks peer) turn ≡ next_step turn Drops) × (needs_by (verdicts.Asks peer) turn ≡ next_needs turn Drops)
+  asks_by' peer lacks found = (asks_so turn peer (sym enough_is ∙ lacks) (sym next_is ∙ found), asks_needs turn peer (sym enough_is ∙ lacks) (sym next_is ∙ found))
 
-  pub lacks_by : is_enough Local need items ≡ false → find (asks_of x.read w) (others_in x.read) ≡ None → (step_by verdicts.Lacks turn ≡ next_step turn Drops) × (needs_by verdicts.Lacks turn ≡ next_needs turn Drops) × (calls_by verdicts.Lacks turn ≡ next_calls turn Drops)
-  lacks_by lacks none = (lacks_so turn (sym enough_is ∙ lacks) (sym next_is ∙ none), lacks_needs turn (sym enough_is ∙ lacks) (sym next_is ∙ none), lacks_calls turn (sym enough_is ∙ lacks) (sym next_is ∙ none))
+  pub lacks_by : is_enough Local need items ≡ false → find (asks_of x.read w) (others_in x.read) ≡ None → (step_by verdicts.Lacks turn ≡ next_step turn Drops) × (needs_by verdicts.Lacks turn ≡ next_needs turn Drops)
+  lacks_by lacks none = (lacks_so turn (sym enough_is ∙ lacks) (sym next_is ∙ none), lacks_needs turn (sym enough_is ∙ lacks) (sym next_is ∙ none))
 
 pub end_was : (need : Need) (items : List Evidence) (end : Option ℕ) (r : Judged) → r ≡ judgements.Enough end → (is_enough Local need items ≡ true → r ≡ judgements.Enough (least_end items))
     → is_enough Local need items ≡ true → least_end items ≡ end

@@ -26,9 +26,6 @@ use Rattle.drop_phases.specs.declared.phase.Heard.{Heard}
 use Rattle.drop_phases.specs.declared.phase.Heard.TheVariants as heards
 use Rattle.drop_phases.specs.Worker.{Worker}
 use Rattle.drop_phases.specs.Working.{end_in, heard_in, newest_of, word_in}
-use Rattle.annex_base.specs.declared.kinds.Call.{Call}
-use Rattle.annex_base.specs.declared.kinds.Call.TheVariants as calls
-use Rattle.drop_phases.specs.SlotCalls.{end_calls, opening_calls}
 
 abbrev pub offer_as : Option Kind → Offer
 offer_as (Some kind) = Gives kind
@@ -88,10 +85,3 @@ cause_told _ = causes.Fault
 
 abbrev pub cause_at : Reading → Worker → ℕ → Cause
 cause_at r w c = cause_by (word_in (newest_of w.heard c)) (r.standing c) (heard_in w.heard c)
-
--- those of the step of a local drop by its judgement
-abbrev pub calls_by : Verdict → Turn → List Call
-calls_by (verdicts.Asks peer) t = opening_calls t peer
-calls_by verdicts.Removes t = calls.Remove ∷ []
-calls_by (verdicts.Late end clock) t = end_calls t (Refused (refusals.Expired end clock))
-calls_by verdicts.Lacks t = end_calls t (lacking_outcome t)

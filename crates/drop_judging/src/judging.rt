@@ -9,8 +9,6 @@ ghost use Rattle.node_model.specs.Turns.{next_needs, next_step};
 ghost use Rattle.content_lock.specs.Rows.{Rows};
 ghost use Rattle.drop_phases.specs.Working.{Rest, sight, turn_in};
 ghost use Rattle.drop_phases.specs.Begun.{IsOther};
-ghost use Rattle.drop_judging.specs.Judging.{calls_by};
-ghost use Rattle.drop_phases.specs.SlotCalls.{next_calls};
 ghost use Rattle.drop_judging.specs.Judging.{step_by, needs_by, asks_of, evidence_of, offer_as, offer_heard, offer_of, others_in};
 
 use annex_base::NoMemory;
@@ -170,7 +168,6 @@ pub fn judge<H: Here>(
     requires few { length items.now < 2 ^ 32 }
     ensures step { (number : ℕ) (rows : Rows) (p : List ℕ → Bool) (fails : Option Call) (rest : Rest) → step_by result (turn_in (sight (H.reading here.now) (H.ends here.now) time number) rows p fails rest worker.now) ≡ next_step (turn_in (sight (H.reading here.now) (H.ends here.now) time number) rows p fails rest worker.now) Drops }
     ensures needs { (number : ℕ) (rows : Rows) (p : List ℕ → Bool) (fails : Option Call) (rest : Rest) → needs_by result (turn_in (sight (H.reading here.now) (H.ends here.now) time number) rows p fails rest worker.now) ≡ next_needs (turn_in (sight (H.reading here.now) (H.ends here.now) time number) rows p fails rest worker.now) Drops }
-    ensures calls { (number : ℕ) (rows : Rows) (p : List ℕ → Bool) (fails : Option Call) (rest : Rest) → calls_by result (turn_in (sight (H.reading here.now) (H.ends here.now) time number) rows p fails rest worker.now) ≡ next_calls (turn_in (sight (H.reading here.now) (H.ends here.now) time number) rows p fails rest worker.now) Drops }
     ensures other { (peer : ℕ) → result ≡ Verdict.Asks peer → IsOther (H.reading here.now) peer }
 {
     match drop_proof::judge(items, here.need(), Side::Local) {

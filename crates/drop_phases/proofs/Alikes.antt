@@ -9,12 +9,12 @@ use Rattle.node_model.specs.Jobs as Jobs
 use Rattle.node_model.specs.Jobs.{Work, hears, heard_of, to_phase}
 use Rattle.node_model.specs.JobStep.{Turn, quietly}
 use Rattle.node_model.specs.Knows.{Reading}
-use Rattle.node_model.specs.Look.{Effect}
+use Rattle.node_model.specs.Look.{Effect, as_told, failed_in}
 use Rattle.node_model.specs.Slots.{job_of}
 use Rattle.content_lock.specs.Rows.{AreAfter, Rows}
 use Rattle.drop_phases.specs.declared.turn.Output.{Output}
 use Rattle.drop_phases.specs.Worker.{Worker}
-use Rattle.drop_phases.specs.Working.{Rest, Sight, failed_in, frames_of, turn_in, work_of}
+use Rattle.drop_phases.specs.Working.{Rest, Sight, frames_of, turn_in, work_of}
 use Rattle.drop_phases.specs.Doing.{DoesAsAsked, next_work}
 use Rattle.drop_phases.specs.Alike.{Alike, is_asked}
 use Rattle.drop_phases.specs.Alike.{DoesAlike}
@@ -43,13 +43,13 @@ does_alike x rows rows' p w w' taken asked out d = record {
 
 -- a step that sends nothing
 pub quiet_alike : (x : Sight) (rows rows' : Rows) (p : List ℕ → Bool) (w w' : Worker) (asked : Turn → Effect) (kind : EntryKind) (out : Output) → out.kind ≡ kind → out.sends.items ≡ []
-    → ((rest : Rest) → asked (turn_in x rows p (failed_in kind) rest w) ≡ quietly kind None)
+    → ((rest : Rest) → as_told (asked (turn_in x rows p (failed_in kind) rest w)) ≡ quietly kind None)
     → ((rest : Rest) → Alike x.read (work_of rest w') (next_work (turn_in x rows p (failed_in kind) rest w) (quietly kind None)))
     → AreAfter kind rows rows' → job_of kind ≡ Some w.number → DoesAlike x rows rows' p w w' None asked out
 quiet_alike x rows rows' p w w' asked kind out is sends asks moves after whose =
     record {
-      makes = λ rest. (λ i. record { kind = is i; taken = None; sent = frames_of x.ends w.slot (sends i); lines = [] })
-          ∙ (sym (asks rest) ∙ ap (λ (e : EntryKind). asked (turn_in x rows p (failed_in e) rest w)) (sym is));
+      makes = λ rest. (λ i. record { kind = is i; taken = None; sent = frames_of x.ends w.slot (sends i); lines = []; calls = [] })
+          ∙ (sym (asks rest) ∙ ap (λ (e : EntryKind). as_told (asked (turn_in x rows p (failed_in e) rest w))) (sym is));
       next = λ going rest. subst (λ (v : Work). Alike x.read (work_of rest w') v)
           (ap (next_work (turn_in x rows p (failed_in kind) rest w)) (sym (asks rest))
           ∙ ap (λ (e : EntryKind). next_work (turn_in x rows p (failed_in e) rest w) (asked (turn_in x rows p (failed_in e) rest w))) (sym is)) (moves rest);

@@ -1,8 +1,9 @@
 -- From what a store tells of each call to the calls of a step.
-use Rattle.std.proofs.Common.{◌≡◌, ℕ, ◌-◌, Bool, true, false, not, List, [], ◌∷◌, map, Option, Some, None, Result, Ok, Err, refl, sym, ap, ◌∙◌, subst, arith}
+use Rattle.std.proofs.Common.{◌≡◌, ℕ, ◌-◌, Bool, true, false, not, List, [], ◌∷◌, ◌++◌, map, Option, Some, None, Result, Ok, Err, refl, sym, ap, ◌∙◌, subst, arith}
 use Rattle.std.specs.Prelude.{◌&&◌, find, nat_lt, if◌then◌else◌, IfOk}
 use Rattle.std.specs.List.{list_any}
 use Rattle.std.specs.Option.{option_map}
+use Rattle.std.proofs.lemmas.List.{append-nil}
 use Rattle.annex_base.specs.Calls.{same_call}
 use Rattle.annex_base.specs.declared.kinds.Call.{Call}
 use Rattle.annex_base.specs.declared.memory.NoMemory.{NoMemory}
@@ -12,12 +13,15 @@ use Rattle.run_data.specs.declared.entry.By.{By}
 use Rattle.run_data.specs.declared.entry.By.TheVariants.{Job as by_job}
 use Rattle.run_data.specs.declared.entry.EntryKind.{EntryKind}
 use Rattle.run_data.specs.declared.entry.EntryKind.TheVariants.{End}
+use Rattle.run_data.specs.declared.entry.FrameView.{FrameView}
+use Rattle.run_data.specs.declared.job.Outcome.{Outcome}
 use Rattle.run_data.specs.declared.row.Hold.{Hold}
 use Rattle.object_store.specs.Calls.{FailsAsTold, one_fewer}
 use Rattle.object_store.specs.Stores.{Contents}
 use Rattle.node_model.specs.Calls.{to_release}
-use Rattle.node_model.specs.JobStep as steps
-use Rattle.node_model.specs.Rows.{keep_of, same_owner}
+use Rattle.node_model.specs.JobStep.{Turn, ends, owns_share}
+use Rattle.node_model.specs.Look.{Effect, failed_in}
+use Rattle.node_model.specs.Rows.{is_lost_ordered, keep_of, same_owner}
 use Rattle.content_lock.specs.Rows.{Rows}
 use Rattle.content_lock.specs.Tokens.{Owns, ShareView}
 use Rattle.content_lock.specs.Turns.{FailInTurn, CallOutcome}
@@ -29,7 +33,7 @@ use Rattle.drop_phases.specs.Calling.{AreLeft, Failing, MakesOver, has_open}
 use Rattle.drop_phases.specs.Doing.{HasToken, Talks, share_in}
 use Rattle.drop_phases.specs.Feeding.{IsOfLocal}
 use Rattle.drop_phases.specs.Worker.{Worker}
-use Rattle.drop_phases.specs.Working.{Rest, Sight, failed_in, present_in, turn_in}
+use Rattle.drop_phases.specs.Working.{Rest, Sight, present_in, turn_in}
 use Rattle.drop_phases.proofs.Doings.{local_shares}
 
 -- ---- a call that didn't fail
@@ -128,6 +132,15 @@ local_closed w rows local own = shareless w rows w.token (local_shares w.token l
 pub no_release : (b c : Bool) → b ≡ false → to_release (b && c) ≡ []
 no_release b c e = rw e refl
 
+-- ---- an end
+
+pub ends_calls : (t : Turn) (taken : Option FrameView) (outcome : Outcome) → (ends t taken outcome).calls ≡ to_release (owns_share t && not (is_lost_ordered outcome))
+ends_calls t taken outcome = append-nil (to_release (owns_share t && not (is_lost_ordered outcome)))
+
+-- the job has no share
+pub ends_none : (t : Turn) (taken : Option FrameView) (outcome : Outcome) → owns_share t ≡ false → (ends t taken outcome).calls ≡ []
+ends_none t taken outcome closed = ap (λ (l : List Call). l ++ []) (no_release (owns_share t) (not (is_lost_ordered outcome)) closed)
+
 -- ---- what no call failed of
 
 pub last_well : (number : ℕ) (kind : EntryKind) → IsLast number kind → failed_in kind ≡ None
@@ -145,25 +158,25 @@ talked_well w w' (Err e) t = tt
 -- ---- over a turn
 
 -- no call is made
-pub over_none : (x : Sight) (known : Option Contents) (rows : Rows) (w : Worker) (cs : steps.Turn → List Call) (before : Failing) (r : Result Output NoMemory) → IfOk r (λ out. failed_in out.kind ≡ None)
-    → ((p : List ℕ → Bool) (fails : Option Call) (rest : Rest) → cs (turn_in x rows p fails rest w) ≡ []) → MakesOver x known rows w cs before before r
-over_none x known rows w cs before (Ok out) well none =
-    (all_left (failed_in out.kind) before well, λ c told rest. makes_none (cs (turn_in x rows (present_in c) (failed_in out.kind) rest w)) (failed_in out.kind) before (none (present_in c) (failed_in out.kind) rest) well)
-over_none x known rows w cs before (Err e) well none = refl
+pub over_none : (x : Sight) (known : Option Contents) (rows : Rows) (w : Worker) (asked : Turn → Effect) (before : Failing) (r : Result Output NoMemory) → IfOk r (λ out. failed_in out.kind ≡ None)
+    → ((p : List ℕ → Bool) (fails : Option Call) (rest : Rest) → (asked (turn_in x rows p fails rest w)).calls ≡ []) → MakesOver x known rows w asked before before r
+over_none x known rows w asked before (Ok out) well none =
+    (all_left (failed_in out.kind) before well, λ c told rest. makes_none (asked (turn_in x rows (present_in c) (failed_in out.kind) rest w)).calls (failed_in out.kind) before (none (present_in c) (failed_in out.kind) rest) well)
+over_none x known rows w asked before (Err e) well none = refl
 
 -- the same calls
-pub over_as : (x : Sight) (known : Option Contents) (rows : Rows) (w : Worker) (cs ds : steps.Turn → List Call) (before after : Failing) (r : Result Output NoMemory)
-    → ((p : List ℕ → Bool) (fails : Option Call) (rest : Rest) → cs (turn_in x rows p fails rest w) ≡ ds (turn_in x rows p fails rest w)) → MakesOver x known rows w ds before after r → MakesOver x known rows w cs before after r
-over_as x known rows w cs ds before after (Ok out) same m = (
+pub over_as : (x : Sight) (known : Option Contents) (rows : Rows) (w : Worker) (a b : Turn → Effect) (before after : Failing) (r : Result Output NoMemory)
+    → ((p : List ℕ → Bool) (fails : Option Call) (rest : Rest) → (a (turn_in x rows p fails rest w)).calls ≡ (b (turn_in x rows p fails rest w)).calls) → MakesOver x known rows w b before after r → MakesOver x known rows w a before after r
+over_as x known rows w a b before after (Ok out) same m = (
   m.0,
   λ c told rest.
-      makes_as (cs (turn_in x rows (present_in c) (failed_in out.kind) rest w)) (ds (turn_in x rows (present_in c) (failed_in out.kind) rest w)) (failed_in out.kind) (failed_in out.kind) before after (same (present_in c) (failed_in out.kind) rest) refl (m.1 c told rest),
+      makes_as (a (turn_in x rows (present_in c) (failed_in out.kind) rest w)).calls (b (turn_in x rows (present_in c) (failed_in out.kind) rest w)).calls (failed_in out.kind) (failed_in out.kind) before after (same (present_in c) (failed_in out.kind) rest) refl (m.1 c told rest),
 )
-over_as x known rows w cs ds before after (Err e) same m = m
+over_as x known rows w a b before after (Err e) same m = m
 
 -- these are made, and this one failed
-pub over_is : (x : Sight) (known : Option Contents) (rows : Rows) (w : Worker) (cs : steps.Turn → List Call) (ds : List Call) (failed : Option Call) (before after : Failing) (out : Output)
-    → ((c : Contents) → known ≡ Some c → (rest : Rest) → cs (turn_in x rows (present_in c) (failed_in out.kind) rest w) ≡ ds) → failed_in out.kind ≡ failed → MakesCalls ds failed before after
-    → MakesOver x known rows w cs before after (Ok out)
-over_is x known rows w cs ds failed before after out same is m =
-    (left_as ds failed (failed_in out.kind) before after is m, λ c told rest. makes_as (cs (turn_in x rows (present_in c) (failed_in out.kind) rest w)) ds (failed_in out.kind) failed before after (same c told rest) is m)
+pub over_is : (x : Sight) (known : Option Contents) (rows : Rows) (w : Worker) (asked : Turn → Effect) (cs : List Call) (failed : Option Call) (before after : Failing) (out : Output)
+    → ((c : Contents) → known ≡ Some c → (rest : Rest) → (asked (turn_in x rows (present_in c) (failed_in out.kind) rest w)).calls ≡ cs) → failed_in out.kind ≡ failed → MakesCalls cs failed before after
+    → MakesOver x known rows w asked before after (Ok out)
+over_is x known rows w asked cs failed before after out same is m =
+    (left_as cs failed (failed_in out.kind) before after is m, λ c told rest. makes_as (asked (turn_in x rows (present_in c) (failed_in out.kind) rest w)).calls cs (failed_in out.kind) failed before after (same c told rest) is m)

@@ -8,7 +8,7 @@ use Rattle.run_data.specs.declared.entry.FrameView.{FrameView}
 use Rattle.p2p_wire.specs.declared.message.Message.{Message}
 use Rattle.node_model.specs.Jobs as Jobs
 use Rattle.node_model.specs.JobStep.{Turn}
-use Rattle.node_model.specs.Look.{Effect}
+use Rattle.node_model.specs.Look.{Effect, as_told, failed_in}
 use Rattle.content_lock.specs.Rows.{AreAfter, Rows}
 use Rattle.drop_phases.specs.declared.phase.Phase.{Phase}
 use Rattle.drop_phases.specs.declared.phase.Phase.TheVariants as phases
@@ -18,7 +18,7 @@ use Rattle.drop_phases.specs.declared.turn.Output.{Output}
 use Rattle.drop_phases.specs.declared.turn.Taken.{Taken}
 use Rattle.drop_phases.specs.declared.turn.Taken.TheVariants as takens
 use Rattle.drop_phases.specs.Worker.{Worker}
-use Rattle.drop_phases.specs.Working.{Rest, Sight, failed_in, phase_as, taken_line, taken_of, turn_in}
+use Rattle.drop_phases.specs.Working.{Rest, Sight, phase_as, taken_line, taken_of, turn_in}
 use Rattle.drop_phases.specs.Doing.{Comes, DoesAsAsked, GoesOn, HasToken, IsBar, Takes, Talks, next_work, share_in}
 use Rattle.drop_phases.specs.Feeding.{FindsClosed, FitsLocal, TakesClose, TakesFed, TakesOther, IsBare, IsOfLocal}
 
@@ -26,7 +26,7 @@ pub does_as : (x : Sight) (rows rows' : Rows) (p : List ℕ → Bool) (w w' : Wo
     → DoesAsAsked x rows rows' p w w' taken a out → ((rest : Rest) → a (turn_in x rows p (failed_in out.kind) rest w) ≡ b (turn_in x rows p (failed_in out.kind) rest w)) → DoesAsAsked x rows rows' p w w' taken b out
 does_as x rows rows' p w w' taken a b out d e =
     record {
-      makes = λ rest. d.makes rest ∙ e rest;
+      makes = λ rest. d.makes rest ∙ ap as_told (e rest);
       next = λ going rest. d.next going rest ∙ ap (next_work (turn_in x rows p (failed_in out.kind) rest w)) (e rest);
       after = d.after;
       whose = d.whose;

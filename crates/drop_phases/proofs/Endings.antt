@@ -14,7 +14,7 @@ use Rattle.run_data.specs.declared.row.Hold.{Hold}
 use Rattle.node_model.specs.Rows.{is_lost_ordered, keep_of, lost_ordered, same_owner}
 use Rattle.node_model.specs.Ends.{frames}
 use Rattle.node_model.specs.JobStep.{Turn, ends, farewell, farewells, others_of}
-use Rattle.node_model.specs.Look.{Effect}
+use Rattle.node_model.specs.Look.{Effect, as_told}
 use Rattle.content_lock.specs.Rows.{AreAfter, Rows, bar_at}
 use Rattle.content_lock.specs.Tokens.{Owns, ShareView}
 use Rattle.drop_phases.specs.declared.phase.Token.{Token}
@@ -68,7 +68,7 @@ ends_rows job key token rows rows' outcome plain bare own off same filling =
 pub ends_does : (x : Sight) (rows rows' : Rows) (p : List ℕ → Bool) (w w' : Worker) (taken : Option FrameView) (asked : Turn → Effect) (outcome : Outcome)
     (sends : SendsView) (out : Output) → out ≡ record { kind = ends_job w.number outcome; sends = sends; ended = true }
     → frames_of x.ends w.slot sends.items ≡ partings x.read x.ends w (is_lost_ordered outcome) → AreAfter (ends_job w.number outcome) rows rows'
-    → ((rest : Rest) → ends (turn_in x rows p None rest w) taken outcome ≡ asked (turn_in x rows p None rest w)) → DoesAsAsked x rows rows' p w w' taken asked out
+    → ((rest : Rest) → as_told (ends (turn_in x rows p None rest w) taken outcome) ≡ as_told (asked (turn_in x rows p None rest w))) → DoesAsAsked x rows rows' p w w' taken asked out
 ends_does x rows rows' p w w' taken asked outcome sends out is sent after f =
     subst (λ (o : Output). DoesAsAsked x rows rows' p w w' taken asked o) (sym is) (record {
       makes = λ rest. made rest ∙ f rest;
@@ -77,14 +77,14 @@ ends_does x rows rows' p w w' taken asked outcome sends out is sent after f =
       whose = refl;
     })
   where
-    made : (rest : Rest) → made_of x w taken (record { kind = ends_job w.number outcome; sends = sends; ended = true }) ≡ ends (turn_in x rows p None rest w) taken outcome
-    made rest = λ i. record { kind = ends_job w.number outcome; taken = taken; sent = (sent ∙ partings_same x rows p None rest w (is_lost_ordered outcome)) i; lines = [] }
+    made : (rest : Rest) → made_of x w taken (record { kind = ends_job w.number outcome; sends = sends; ended = true }) ≡ as_told (ends (turn_in x rows p None rest w) taken outcome)
+    made rest = λ i. record { kind = ends_job w.number outcome; taken = taken; sent = (sent ∙ partings_same x rows p None rest w (is_lost_ordered outcome)) i; lines = []; calls = [] }
 
 -- a refusal of a job that has nothing of its row
 pub refused_does : (x : Sight) (rows rows' : Rows) (p : List ℕ → Bool) (w w' : Worker) (asked : Turn → Effect) (why : DropRefusal) (sends : SendsView) (out : Output)
     → out ≡ record { kind = ends_job w.number (Refused why); sends = sends; ended = true } → frames_of x.ends w.slot sends.items ≡ partings x.read x.ends w (lost_ordered why) → lost_ordered why ≡ false
     → w.token ≡ tokens.Nothing → HasToken w.number w.job.key w.token rows → rows' ≡ rows
-    → ((rest : Rest) → ends (turn_in x rows p None rest w) None (Refused why) ≡ asked (turn_in x rows p None rest w)) → DoesAsAsked x rows rows' p w w' None asked out
+    → ((rest : Rest) → as_told (ends (turn_in x rows p None rest w) None (Refused why)) ≡ as_told (asked (turn_in x rows p None rest w))) → DoesAsAsked x rows rows' p w w' None asked out
 refused_does x rows rows' p w w' asked why sends out is sent plain bare own same f =
     ends_does x rows rows' p w w' None asked (Refused why) sends out is sent
     (ends_rows w.number w.job.key w.token rows rows' (Refused why) plain (ap share_in bare) own

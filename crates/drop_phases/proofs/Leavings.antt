@@ -6,7 +6,7 @@ use Rattle.annex_base.specs.declared.kinds.Call.{Call}
 use Rattle.annex_base.specs.declared.memory.NoMemory.{NoMemory}
 use Rattle.run_data.specs.declared.entry.EntryKind.{EntryKind}
 use Rattle.node_model.specs.JobStep.{Turn, quietly}
-use Rattle.node_model.specs.Look.{Effect}
+use Rattle.node_model.specs.Look.{Effect, as_told, failed_in}
 use Rattle.node_model.specs.Slots.{job_of}
 use Rattle.node_model.specs.Turns.{goes}
 use Rattle.object_store.specs.Stores.{Contents}
@@ -14,7 +14,7 @@ use Rattle.content_lock.specs.Rows.{AreAfter, Rows}
 use Rattle.drop_phases.specs.declared.phase.Phase.{Phase}
 use Rattle.drop_phases.specs.declared.turn.Output.{Output}
 use Rattle.drop_phases.specs.Worker.{Worker}
-use Rattle.drop_phases.specs.Working.{Rest, Sight, failed_in, frames_of, phase_as, present_in, turn_in, work_of}
+use Rattle.drop_phases.specs.Working.{Rest, Sight, frames_of, phase_as, present_in, turn_in, work_of}
 use Rattle.drop_phases.specs.Doing.{DoesAsAsked, HasToken, IsBar, OthersStay, Talks, contents_after, next_work}
 use Rattle.drop_phases.specs.Feeding.{FitsLocal}
 use Rattle.drop_phases.specs.Leaving.{ActsOver, Did, GoesSo, Leaves, Stays, Store}
@@ -89,12 +89,12 @@ stays_same rows k w = record { worker = refl; table = refl; contents = refl; rec
 -- ---- a step that sends nothing
 
 pub quiet_does : (x : Sight) (rows rows' : Rows) (p : List ℕ → Bool) (w w' : Worker) (asked : Turn → Effect) (kind : EntryKind) (out : Output) → out.kind ≡ kind → out.sends.items ≡ []
-    → ((rest : Rest) → asked (turn_in x rows p (failed_in kind) rest w) ≡ quietly kind None) → ((rest : Rest) → work_of rest w' ≡ next_work (turn_in x rows p (failed_in kind) rest w) (quietly kind None))
+    → ((rest : Rest) → as_told (asked (turn_in x rows p (failed_in kind) rest w)) ≡ quietly kind None) → ((rest : Rest) → work_of rest w' ≡ next_work (turn_in x rows p (failed_in kind) rest w) (quietly kind None))
     → AreAfter kind rows rows' → job_of kind ≡ Some w.number → DoesAsAsked x rows rows' p w w' None asked out
 quiet_does x rows rows' p w w' asked kind out is sends asks moves after whose =
     record {
-      makes = λ rest. (λ i. record { kind = is i; taken = None; sent = frames_of x.ends w.slot (sends i); lines = [] })
-          ∙ (sym (asks rest) ∙ ap (λ (e : EntryKind). asked (turn_in x rows p (failed_in e) rest w)) (sym is));
+      makes = λ rest. (λ i. record { kind = is i; taken = None; sent = frames_of x.ends w.slot (sends i); lines = []; calls = [] })
+          ∙ (sym (asks rest) ∙ ap (λ (e : EntryKind). as_told (asked (turn_in x rows p (failed_in e) rest w))) (sym is));
       next = λ going rest. moves rest ∙ (ap (next_work (turn_in x rows p (failed_in kind) rest w)) (sym (asks rest))
           ∙ ap (λ (e : EntryKind). next_work (turn_in x rows p (failed_in e) rest w) (asked (turn_in x rows p (failed_in e) rest w))) (sym is));
       after = subst (λ (e : EntryKind). AreAfter e rows rows') (sym is) after;

@@ -14,7 +14,7 @@ use Rattle.node_model.specs.Ends.{frames}
 use Rattle.node_model.specs.Jobs
 use Rattle.node_model.specs.Jobs.{Drops, Part, Work, claims, closed_part, drop_side, job_end, learns, partner, says, side_of, taken_message, talks_on, after_frame, after_line}
 use Rattle.node_model.specs.JobStep.{Turn, end_with, hears, me, says_to, talk, wrong_message}
-use Rattle.node_model.specs.Look.{Effect, entry_of}
+use Rattle.node_model.specs.Look.{Effect, as_told, entry_of}
 use Rattle.node_model.specs.Turns.{takes, takes_frame}
 use Rattle.content_lock.specs.Rows.{Rows}
 use Rattle.drop_phases.specs.declared.phase.Heard.{Heard}
@@ -96,7 +96,7 @@ closed_local r w peer local apart = rw (local, apart) refl
 
 pub talk_does : (x : Sight) (rows : Rows) (p : List ℕ → Bool) (w w' : Worker) (taken : Option FrameView) (asked : Turn → Effect) (items : List Parcel) (out : Output) → out.kind ≡ Talk (Some w.number)
     → out.sends.items ≡ items
-    → ((rest : Rest) → record { kind = Talk (Some w.number); taken = taken; sent = frames_of x.ends w.slot items; lines = [] } ≡ asked (turn_in x rows p None rest w))
+    → ((rest : Rest) → record { kind = Talk (Some w.number); taken = taken; sent = frames_of x.ends w.slot items; lines = []; calls = [] } ≡ as_told (asked (turn_in x rows p None rest w)))
     → ((rest : Rest) → work_of rest w' ≡ next_work (turn_in x rows p None rest w) (asked (turn_in x rows p None rest w))) → DoesAsAsked x rows rows p w w' taken asked out
 talk_does x rows p w w' taken asked items out kind sends f n =
     record {
@@ -134,7 +134,7 @@ module _ (x : Sight) (rows : Rows) (p : List ℕ → Bool) (w w' : Worker) (f : 
   say_does m sends reads makes next =
       let is : (rest : Rest) → says_to (turn rest) (talk (turn rest)) (Some f) peer m ≡ asked (turn rest) = λ rest. makes rest ∙ line_takes (turn rest) f peer took line in
       talk_does x rows p w w' (Some f) asked _ out kind sends
-      (λ rest. (λ i. record { kind = Talk (Some w.number); taken = Some f; sent = one_parcel x w.slot peer m i; lines = [] }) ∙ is rest)
+      (λ rest. (λ i. record { kind = Talk (Some w.number); taken = Some f; sent = one_parcel x w.slot peer m i; lines = []; calls = [] }) ∙ ap as_told (is rest))
       (λ rest. next rest ∙ (sym (moved_said (turn rest) f peer took n refl (learn rest) with_peer line comes.live m reads) ∙ ap (next_work (turn rest)) (is rest)))
 
   pub shut_does : drop_side w.job.kind w.job.peer ≡ Local → out.sends.items ≡ record { peer = peer; body = bodies.Close } ∷ []
@@ -143,6 +143,6 @@ module _ (x : Sight) (rows : Rows) (p : List ℕ → Bool) (w w' : Worker) (f : 
   shut_does local sends next makes =
       let is : (rest : Rest) → wrong_message (turn rest) f peer ≡ asked (turn rest) = λ rest. makes rest ∙ line_takes (turn rest) f peer took line in
       talk_does x rows p w w' (Some f) asked _ out kind sends
-      (λ rest. (λ i. record { kind = Talk (Some w.number); taken = Some f; sent = close_parcel x w.slot peer i; lines = [] }) ∙ is rest)
+      (λ rest. (λ i. record { kind = Talk (Some w.number); taken = Some f; sent = close_parcel x w.slot peer i; lines = []; calls = [] }) ∙ ap as_told (is rest))
       (λ rest. ap (work_of rest) next ∙ (sym (closed_local x.read.repo (record (work_of rest w) { version = n }) peer local comes.apart)
       ∙ (sym (moved_shut (turn rest) f peer took n refl (learn rest) with_peer line comes.live) ∙ ap (next_work (turn rest)) (is rest))))

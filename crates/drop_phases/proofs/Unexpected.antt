@@ -6,7 +6,11 @@ use Rattle.p2p_wire.specs.declared.message.Message.TheVariants as messages
 use Rattle.node_model.specs.Jobs.{AsksLock, AsksLook, Drops, Greets, Opens}
 use Rattle.node_model.specs.JobStep.{Turn, wrong_message}
 use Rattle.node_model.specs.DropStep.{takes_drop}
+use Rattle.node_model.specs.TransferStep.{takes_bytes}
 use Rattle.node_model.specs.Turns.{takes}
+use Rattle.drop_phases.specs.declared.phase.Phase.{Phase}
+use Rattle.drop_phases.specs.declared.phase.Phase.TheVariants as phases
+use Rattle.drop_phases.specs.Working.{phase_as}
 
 pub lock_else : (t : Turn) (f : FrameView) (peer p since : ℕ) (m : Message) → (m ≡ messages.Success → ⊥) → (m ≡ messages.Failure → ⊥) → takes_drop t f peer (AsksLock p since) m ≡ wrong_message t f peer
 lock_else t f peer p since (messages.AuthSuccess id) a b = refl
@@ -91,3 +95,17 @@ greets_else t f peer p messages.Invalid e b = rw e refl
 greets_else t f peer p messages.Success e b = rw e refl
 greets_else t f peer p messages.Failure e b = rw e refl
 greets_else t f peer p (messages.Error text) e b = rw e refl
+
+pub bytes_else : (t : Turn) (f : FrameView) (peer n : ℕ) (ph : Phase) → takes_bytes t f peer n (phase_as ph) ≡ wrong_message t f peer
+bytes_else t f peer n phases.Fresh = refl
+bytes_else t f peer n phases.Next = refl
+bytes_else t f peer n (phases.Opens p) = refl
+bytes_else t f peer n (phases.Greets p) = refl
+bytes_else t f peer n (phases.AsksLock p since) = refl
+bytes_else t f peer n (phases.AsksLook p) = refl
+bytes_else t f peer n phases.AsksTime = refl
+bytes_else t f peer n phases.Orders = refl
+bytes_else t f peer n phases.Removed = refl
+bytes_else t f peer n phases.Denied = refl
+bytes_else t f peer n (phases.Late time) = refl
+bytes_else t f peer n (phases.Ends why) = refl

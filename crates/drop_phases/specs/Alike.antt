@@ -5,12 +5,12 @@ use Rattle.node_model.specs.Jobs.{Work, heard_of}
 use Rattle.node_model.specs.Knows.{Reading}
 use Rattle.run_data.specs.declared.entry.FrameView.{FrameView}
 use Rattle.node_model.specs.JobStep.{Turn}
-use Rattle.node_model.specs.Look.{Effect}
+use Rattle.node_model.specs.Look.{Effect, as_told, failed_in}
 use Rattle.node_model.specs.Slots.{job_of}
 use Rattle.content_lock.specs.Rows.{AreAfter, Rows}
 use Rattle.drop_phases.specs.declared.turn.Output.{Output}
 use Rattle.drop_phases.specs.Worker.{Worker}
-use Rattle.drop_phases.specs.Working.{Rest, Sight, failed_in, made_of, turn_in, work_of}
+use Rattle.drop_phases.specs.Working.{Rest, Sight, made_of, turn_in, work_of}
 use Rattle.drop_phases.specs.Doing.{next_work}
 
 -- what was heard of the job's own repository isn't read where it is claimed, or untrusted or dead
@@ -32,7 +32,7 @@ pub record Alike (r : Reading) (v v' : Work) : Type 0 where
 
 -- a step does what is asked, and the job's work after it is alike the worker
 pub record DoesAlike (x : Sight) (rows rows' : Rows) (present : List ℕ → Bool) (w w' : Worker) (taken : Option FrameView) (asked : Turn → Effect) (out : Output) : Type 0 where
-  pub makes : (rest : Rest) → made_of x w taken out ≡ asked (turn_in x rows present (failed_in out.kind) rest w)
+  pub makes : (rest : Rest) → made_of x w taken out ≡ as_told (asked (turn_in x rows present (failed_in out.kind) rest w))
   pub next : out.ended ≡ false → (rest : Rest) → Alike x.read (work_of rest w') (next_work (turn_in x rows present (failed_in out.kind) rest w) (asked (turn_in x rows present (failed_in out.kind) rest w)))
   pub after : AreAfter out.kind rows rows'
   pub whose : job_of out.kind ≡ Some w.number

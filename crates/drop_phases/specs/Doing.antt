@@ -5,7 +5,7 @@ use Rattle.run_data.specs.declared.entry.FrameView.{FrameView}
 use Rattle.node_model.specs.Rows.{option_is}
 use Rattle.node_model.specs.Slots.{job_of}
 use Rattle.node_model.specs.Jobs.{Work, work_kind}
-use Rattle.node_model.specs.Look.{Effect, entry_of}
+use Rattle.node_model.specs.Look.{Effect, as_told, entry_of, failed_in}
 use Rattle.node_model.specs.JobStep.{Turn, attempts, by_me, key_of, me, quietly}
 use Rattle.p2p_wire.specs.declared.message.Message.TheVariants.{CheckPresent, LockContent, UnlockContent, Version}
 use Rattle.p2p_wire.specs.Streams.{IsLine}
@@ -32,7 +32,7 @@ use Rattle.drop_phases.specs.declared.phase.Token.{Token}
 use Rattle.drop_phases.specs.declared.phase.Token.TheVariants as tokens
 use Rattle.drop_phases.specs.declared.turn.Output.{Output}
 use Rattle.drop_phases.specs.Worker.{Worker}
-use Rattle.drop_phases.specs.Working.{Rest, Sight, end_in, failed_in, taken_of, made_of, sight, turn_in, work_of}
+use Rattle.drop_phases.specs.Working.{Rest, Sight, end_in, taken_of, made_of, sight, turn_in, work_of}
 
 -- the work after the entry that a turn makes
 abbrev pub next_work : Turn → Effect → Work
@@ -41,7 +41,7 @@ next_work t m = work_kind (record { present = t.present; bar = t.bar; ends = t.e
 -- a step over rows, where these contents are there: it makes what is asked, its entry changes the rows, and the work that follows
 -- is the next one
 pub record DoesAsAsked (x : Sight) (rows rows' : Rows) (present : List ℕ → Bool) (w w' : Worker) (taken : Option FrameView) (asked : Turn → Effect) (out : Output) : Type 0 where
-  pub makes : (rest : Rest) → made_of x w taken out ≡ asked (turn_in x rows present (failed_in out.kind) rest w)
+  pub makes : (rest : Rest) → made_of x w taken out ≡ as_told (asked (turn_in x rows present (failed_in out.kind) rest w))
   pub next : out.ended ≡ false → (rest : Rest) → work_of rest w' ≡ next_work (turn_in x rows present (failed_in out.kind) rest w) (asked (turn_in x rows present (failed_in out.kind) rest w))
   pub after : AreAfter out.kind rows rows'
   pub whose : job_of out.kind ≡ Some w.number

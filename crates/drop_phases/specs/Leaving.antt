@@ -15,7 +15,7 @@ use Rattle.object_store.specs.Stores.{Contents}
 use Rattle.object_store.specs.declared.keeper.HoldRecord.{HoldRecord}
 use Rattle.node_model.specs.Jobs.{partner}
 use Rattle.node_model.specs.JobStep.{Turn}
-use Rattle.node_model.specs.Look.{Effect}
+use Rattle.node_model.specs.Look.{Effect, failed_in}
 use Rattle.node_model.specs.Turns.{goes}
 use Rattle.content_lock.specs.Rows.{AreAfter, Rows}
 use Rattle.content_lock.specs.declared.refusals.BarRefused.{BarRefused}
@@ -26,7 +26,7 @@ use Rattle.drop_phases.specs.declared.turn.Output.{Output}
 use Rattle.drop_phases.specs.Sends.{SendsView}
 use Rattle.drop_phases.specs.declared.turn.Taken.{Taken}
 use Rattle.drop_phases.specs.Worker.{Worker}
-use Rattle.drop_phases.specs.Working.{Sight, failed_in, phase_as, present_in}
+use Rattle.drop_phases.specs.Working.{Sight, phase_as, present_in}
 use Rattle.drop_phases.specs.Doing.{DoesAsAsked, Grows, HasToken, OthersStay, contents_after}
 use Rattle.drop_phases.specs.Feeding.{FeedsFrameAt, FitsLocal, KeepsWord, step_of}
 

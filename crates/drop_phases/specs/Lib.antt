@@ -9,5 +9,4 @@ pub mod Feeding
 pub mod Leaving
 pub mod Begun
 pub mod Sides
-pub mod SlotCalls
 pub mod Calling

@@ -4,8 +4,6 @@ use Rattle.object_store.specs.Stores.{Contents}
 use Rattle.std.specs.List.{range_with_len}
 use Rattle.annex_base.specs.declared.kinds.Call.{Call}
 use Rattle.annex_base.specs.declared.kinds.Word.{Word}
-use Rattle.run_data.specs.declared.entry.EntryKind.{EntryKind}
-use Rattle.run_data.specs.declared.entry.EntryKind.TheVariants.{Fault}
 use Rattle.run_data.specs.declared.entry.FrameText.{FrameText}
 use Rattle.run_data.specs.declared.entry.FrameText.TheVariants.{Opening, Closing, Bytes, Line}
 use Rattle.run_data.specs.declared.entry.FrameView.{FrameView}
@@ -140,7 +138,6 @@ abbrev pub turn_in : Sight → Rows → (List ℕ → Bool) → Option Call → 
 turn_in x rows present fails rest w =
     record {
       read = x.read;
-      keeps = λ c. None;
       clock = x.read.clock;
       number = x.number;
       present = present;
@@ -169,7 +166,7 @@ abbrev pub frames_of : (EndName → End) → ℕ → List Parcel → List FrameV
 frames_of ends slot ps = flat_map (λ p. frames (end_in slot p.peer) (ends (end_in slot p.peer)) (texts_of p.body)) ps
 
 abbrev pub made_of : Sight → Worker → Option FrameView → Output → Effect
-made_of x w taken out = record { kind = out.kind; taken = taken; sent = frames_of x.ends w.slot out.sends.items; lines = [] }
+made_of x w taken out = record { kind = out.kind; taken = taken; sent = frames_of x.ends w.slot out.sends.items; lines = []; calls = [] }
 
 abbrev pub taken_line : Option Message → Taken
 taken_line None = takens.Other
@@ -181,11 +178,6 @@ taken_of Opening = takens.Other
 taken_of Closing = takens.Closed
 taken_of (Bytes n) = takens.Other
 taken_of (Line text) = taken_line (message_of text)
-
--- the store call that failed, as the entry tells it
-abbrev pub failed_in : EntryKind → Option Call
-failed_in (Fault call by) = Some call
-failed_in _ = None
 
 -- ---- the end
 

@@ -1,7 +1,9 @@
 //! What a drop reads of its repository, other than rows and contents.
 ghost use Rattle.std.specs.Prelude.{◌≡◌, ◌+◌, ◌<◌, ◌^◌, true};
+ghost use Rattle.std.specs.Option.{option_copied};
 
 use crate::time::Time;
+use annex_base::Text;
 use drop_proof::Need;
 use run_data::Cause;
 
@@ -44,6 +46,10 @@ pub trait Here {
     /// The numbers of copies that must stay in other repositories.
     fn need(&self) -> Need
         ensures { result ≡ (reading self.now).need };
+
+    /// The expression by which the target requires the content, if it does (git-annex-preferred-content).
+    fn required(&self) -> Option<&Text>
+        ensures { option_copied result ≡ (reading self.now).requires };
 
     fn standing(&self, repo: u32) -> Standing
         ensures { standing_of result ≡ (reading self.now).standing repo };

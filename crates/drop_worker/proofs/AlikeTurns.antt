@@ -146,7 +146,7 @@ module _ (t : Turn) (hs : List (ℕ × Heard)) (alike : HeardAlike t.read t.w.he
 
   ends_same : (taken : Option FrameView) (outcome : Outcome) → ends t taken outcome ≡ ends turn taken outcome
   ends_same taken outcome = ap (λ (fs : List FrameView). attempts t (to_release (owns_share t && not (is_lost_ordered outcome))) taken
-      (record { kind = ends_job t.w.number outcome; taken = taken; sent = fs; lines = [] })) (farewells_same (is_lost_ordered outcome))
+      (record { kind = ends_job t.w.number outcome; taken = taken; sent = fs; lines = []; calls = [] })) (farewells_same (is_lost_ordered outcome))
 
   end_needs_same : (outcome : Outcome) → end_needs t outcome ≡ end_needs turn outcome
   end_needs_same outcome = ap (λ (l : List ℕ). if is_lost_ordered outcome then [] else l) locked_same

@@ -12,7 +12,7 @@ use Rattle.run_data.specs.declared.row.Hold.{Hold}
 use Rattle.node_model.specs.Ends.{End, EndName}
 use Rattle.node_model.specs.Knows.{Reading}
 use Rattle.node_model.specs.Jobs.{Work, partner}
-use Rattle.node_model.specs.Look.{Look}
+use Rattle.node_model.specs.Look.{Look, failed_in}
 use Rattle.node_model.specs.SetUp.{SetUp}
 use Rattle.node_model.specs.State.{State}
 use Rattle.node_model.specs.Turns.{goes}
@@ -24,7 +24,7 @@ use Rattle.drop_phases.specs.declared.phase.Phase.{Phase}
 use Rattle.drop_phases.specs.declared.turn.Output.{Output}
 use Rattle.drop_phases.specs.declared.turn.Taken.{Taken}
 use Rattle.drop_phases.specs.Worker.{Worker}
-use Rattle.drop_phases.specs.Working.{Sight, failed_in, phase_as, present_in, sight}
+use Rattle.drop_phases.specs.Working.{Sight, phase_as, present_in, sight}
 use Rattle.drop_phases.specs.Doing.{DoesAsAsked, Grows, HasToken, IsBar, OthersStay, Talks, contents_after}
 use Rattle.drop_phases.specs.Feeding.{FeedsFrameAt, FitsLocal, KeepsAnswer, KeepsWord, TakesFed, step_of}
 use Rattle.drop_phases.specs.Leaving.{Advances, Did, GoesSo, Stays, Store, stands_on}

@@ -1,6 +1,6 @@
 -- What a job reads of a state that it is, and the step of its slot.
 use Rattle.std.specs.Prelude.{if◌then◌else◌, IfOk, OnErr}
-use Rattle.std.specs.Option.{ForSome}
+use Rattle.std.specs.Option.{ForSome, option_map}
 use Rattle.std.proofs.Common.{◌≡◌, ℕ, Bool, true, Option, Some, None, Result, Ok, Err, refl, sym, ap, ◌∙◌, subst}
 use Rattle.annex_base.specs.declared.kinds.Call.{Call}
 use Rattle.annex_base.specs.declared.memory.NoMemory.{NoMemory}
@@ -9,13 +9,13 @@ use Rattle.run_data.specs.declared.entry.FrameView.{FrameView}
 use Rattle.node_model.specs.SetUp.{SetUp}
 use Rattle.node_model.specs.Jobs as Jobs
 use Rattle.node_model.specs.Jobs.{Work, work_after}
-use Rattle.node_model.specs.Look.{Look, Effect, entry_of}
+use Rattle.node_model.specs.Look.{Look, Effect, as_told, entry_of, failed_in}
 use Rattle.node_model.specs.State.{State}
 use Rattle.node_model.specs.JobStep.{Turn, end_with, turn_of}
 use Rattle.node_model.specs.Knows.{Reading, reading}
 use Rattle.node_model.specs.Rows.{option_is}
 use Rattle.node_model.specs.Slots.{job_of}
-use Rattle.node_model.specs.Turns.{by_partner, is_awaiting}
+use Rattle.node_model.specs.Turns.{by_partner, is_awaiting, slot_step}
 use Rattle.object_store.specs.Stores.{Contents}
 use Rattle.content_lock.specs.Rows.{Rows}
 use Rattle.drop_phases.specs.declared.phase.Phase.{Phase}
@@ -23,11 +23,10 @@ use Rattle.drop_phases.specs.declared.phase.Phase.TheVariants as phases
 use Rattle.drop_phases.specs.declared.turn.Taken.{Taken}
 use Rattle.drop_phases.specs.declared.turn.Output.{Output}
 use Rattle.drop_phases.specs.Worker.{Worker}
-use Rattle.drop_phases.specs.Working.{Rest, Sight, end_in, failed_in, made_of, phase_as, present_in, turn_in, work_of}
-use Rattle.drop_phases.specs.Calling.{AreLeft, Failing, MakesSo, calls_of}
+use Rattle.drop_phases.specs.Working.{Rest, Sight, end_in, made_of, phase_as, present_in, turn_in, work_of}
+use Rattle.drop_phases.specs.Calling.{AreLeft, Failing, MakesSo}
 use Rattle.content_lock.specs.CallsMade.{MakesCalls}
 use Rattle.drop_phases.specs.Leaving.{stands_on}
-use Rattle.drop_phases.specs.SlotCalls.{slot_calls, turn_calls}
 use Rattle.drop_phases.specs.Doing.{next_work}
 use Rattle.drop_phases.specs.Feeding.{FeedsFrameAt, FindsAt, step_of}
 use Rattle.drop_phases.specs.Sides.{IsNext, side_in}
@@ -41,7 +40,6 @@ pub turn_is : (x : Sight) (rows : Rows) (contents : Contents) (s : SetUp) (st : 
 turn_is x rows contents s st k w v fails e r f = λ i.
     record {
       read = e.read i;
-      keeps = λ c. e.keeps c i;
       clock = (e.read i).clock;
       number = e.number i;
       present = λ key. r.present key i;
@@ -88,15 +86,27 @@ fed_open x t slot (Some peer) (Some f) taken e same fed = sym (λ i. (e i (end_i
 next_at : (side : Side) (r q : Reading) (u v v' : Work) → r ≡ q → v ≡ v' → IsNext side r u v → IsNext side q u v'
 next_at side r q u v v' same is next = subst (λ (m : Work). IsNext side q u m) is (subst (λ (m : Reading). IsNext side m u v) same next)
 
+-- the slot's step, at a look that the worker sees
+slot_so : (x : Sight) (rows : Rows) (contents : Contents) (w : Worker) (taken : Taken) (failed : Option Call) (s : SetUp) (st : State) (k : Look) (v : Work) (f : Option FrameView)
+    → Sees x rows contents w taken failed s st k v f → slot_step s st k (Some v) ≡ Some (step_of (stands_on w) f (turn_of s st k v))
+slot_so x rows contents w taken failed s st k v f sees =
+    (λ i. by_partner now (Jobs.partner (sym work i).what.peer (sym work i).phase))
+    ∙ found_step now (stands_on w) f (ap (λ (u : Work). is_awaiting u.phase) (sym work) ∙ awaiting w.phase) sees.finds (fed_open x now w.slot (stands_on w) f taken sees.sight.ends (ap (λ (u : Work). u.slot) work) sees.fed)
+  where
+    now : Turn
+    now = turn_of s st k v
+
+    work : work_of (rest_of s st k v) w ≡ v
+    work = sees.sight.work
+
 -- a step that does this, at a look that sees it, is the slot's
 pub steps_so : (x : Sight) (rows rows' : Rows) (contents : Contents) (w w' : Worker) (taken : Taken) (out : Output) (s : SetUp) (st : State) (k : Look) (v : Work) (f : Option FrameView)
     → Sees x rows contents w taken (failed_in out.kind) s st k v f → DoesSo x rows rows' (present_in contents) w w' f (step_of (Jobs.partner w.job.peer (phase_as w.phase)) f) out
     → StepsSo x w w' out s st k v f
 steps_so x rows rows' contents w w' taken out s st k v f sees d =
     record {
-      made = (λ i. by_partner now (Jobs.partner (sym work i).what.peer (sym work i).phase))
-          ∙ (found_step now o f (ap (λ (u : Work). is_awaiting u.phase) (sym work) ∙ awaiting w.phase) sees.finds (fed_open x now w.slot o f taken sees.sight.ends (ap (λ (u : Work). u.slot) work) sees.fed)
-          ∙ ap (λ (m : Effect). Some m) (sym (d.makes rest ∙ ap (step_of o f) is)));
+      made = ap (option_map as_told) (slot_so x rows contents w taken (failed_in out.kind) s st k v f sees)
+          ∙ ap (λ (m : Effect). Some m) (sym (d.makes rest ∙ ap (λ (t : Turn). as_told (step_of o f t)) is));
       next = λ going. next_at (side_in w) x.read (reading s st v) (work_of rest w') (next_work turned (step_of o f turned))
           (work_after (record { present = st.present; bar = st.bar; ends = st.ends }) s.number (entry_of s.number k made) v) sees.sight.read
           (ap (next_work turned) (sym (d.makes rest)) ∙ (ap (λ (t : Turn). next_work t made) is ∙ sym (own_entry (option_is (job_of out.kind) v.number) whose))) (d.next going rest);
@@ -131,35 +141,24 @@ steps_so x rows rows' contents w w' taken out s st k v f sees d =
 
 -- ---- its calls
 
-found_calls : (t : Turn) (o : Option ℕ) (f : Option FrameView) → is_awaiting t.w.phase ≡ true → FindsAt t o f → IsOpenAt t o f → turn_calls t o ≡ calls_of o f t
-found_calls t None f waits room live = rw room refl
-found_calls t (Some peer) None waits shut live = rw shut refl
-found_calls t (Some peer) (Some f) waits (at, room) live = rw (live, waits, at, room) refl
-
-slot_so : (x : Sight) (rows : Rows) (contents : Contents) (w : Worker) (taken : Taken) (failed : Option Call) (s : SetUp) (st : State) (k : Look) (v : Work) (f : Option FrameView) (before after : Failing)
-    → Sees x rows contents w taken failed s st k v f → MakesCalls (calls_of (stands_on w) f (turn_in x rows (present_in contents) failed (rest_of s st k v) w)) failed before after → MakesCalls (slot_calls s st k (Some v)) failed before after
-slot_so x rows contents w taken failed s st k v f before after sees m = makes_as (slot_calls s st k (Some v)) (calls_of (stands_on w) f turned) failed failed before after same refl m
+calls_so : (x : Sight) (rows : Rows) (contents : Contents) (w : Worker) (taken : Taken) (failed : Option Call) (s : SetUp) (st : State) (k : Look) (v : Work) (f : Option FrameView) (before after : Failing)
+    → Sees x rows contents w taken failed s st k v f → MakesCalls (step_of (stands_on w) f (turn_in x rows (present_in contents) failed (rest_of s st k v) w)).calls failed before after
+    → ForSome (slot_step s st k (Some v)) (λ (m : Effect). MakesCalls m.calls failed before after)
+calls_so x rows contents w taken failed s st k v f before after sees made m is =
+    makes_as m.calls (step_of (stands_on w) f turned).calls failed failed before after (sym (ap (λ (t : Turn). (step_of (stands_on w) f t).calls) turn ∙ ap (λ (e : Effect). e.calls) same)) refl made
   where
     turned : Turn
     turned = turn_in x rows (present_in contents) failed (rest_of s st k v) w
 
-    now : Turn
-    now = turn_of s st k v
+    turn : turned ≡ turn_of s st k v
+    turn = turn_is x rows contents s st k w v failed sees.sight sees.keeps sees.failing
 
-    is : turned ≡ now
-    is = turn_is x rows contents s st k w v failed sees.sight sees.keeps sees.failing
-
-    work : work_of (rest_of s st k v) w ≡ v
-    work = sees.sight.work
-
-    same : turn_calls now (Jobs.partner v.what.peer v.phase) ≡ calls_of (stands_on w) f turned
-    same = (λ i. turn_calls now (Jobs.partner (sym work i).what.peer (sym work i).phase))
-        ∙ (found_calls now (stands_on w) f (ap (λ (u : Work). is_awaiting u.phase) (sym work) ∙ awaiting w.phase) sees.finds (fed_open x now w.slot (stands_on w) f taken sees.sight.ends (ap (λ (u : Work). u.slot) work) sees.fed)
-        ∙ ap (calls_of (stands_on w) f) (sym is))
+    same : step_of (stands_on w) f (turn_of s st k v) ≡ m
+    same = let both : Some (step_of (stands_on w) f (turn_of s st k v)) ≡ Some m = sym (slot_so x rows contents w taken failed s st k v f sees) ∙ is in cc
 
 pub all_makes : (x : Sight) (known : Option Contents) (rows : Rows) (w : Worker) (taken : Taken) (before after : Failing) (r : Result Output NoMemory) → MakesSo x known rows w taken before after r
     → IfOk r (λ out. ForSome known (λ c. (s : SetUp) (st : State) (k : Look) (v : Work) (f : Option FrameView) → Sees x rows c w taken (failed_in out.kind) s st k v f
-    → MakesCalls (slot_calls s st k (Some v)) (failed_in out.kind) before after)) × IfOk r (λ out. AreLeft (failed_in out.kind) before after) × OnErr r (after ≡ before)
+    → ForSome (slot_step s st k (Some v)) (λ (m : Effect). MakesCalls m.calls (failed_in out.kind) before after))) × IfOk r (λ out. AreLeft (failed_in out.kind) before after) × OnErr r (after ≡ before)
 all_makes x known rows w taken before after (Ok out) m =
-    (λ c told s st k v f sees. slot_so x rows c w taken (failed_in out.kind) s st k v f before after sees (m.1 c told f sees.fed (rest_of s st k v)), m.0, tt)
+    (λ c told s st k v f sees. calls_so x rows c w taken (failed_in out.kind) s st k v f before after sees (m.1 c told f sees.fed (rest_of s st k v)), m.0, tt)
 all_makes x known rows w taken before after (Err e) m = (tt, tt, m)

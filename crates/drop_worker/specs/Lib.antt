@@ -11,7 +11,6 @@ pub use Rattle.drop_phases.specs.Feeding
 pub use Rattle.drop_phases.specs.Leaving
 pub use Rattle.drop_phases.specs.Begun
 pub use Rattle.drop_phases.specs.Sides
-pub use Rattle.drop_phases.specs.SlotCalls
 pub use Rattle.drop_phases.specs.Calling
 pub use Rattle.drop_judging.specs.Judging
 pub use Rattle.remote_requests.specs.Remote

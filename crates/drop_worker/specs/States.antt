@@ -1,7 +1,7 @@
 -- A state of a repository, and a job's work, that are what a worker, a table and a store are (own).
-use Rattle.std.specs.Prelude.{◌≡◌, ℕ, ◌+◌, false, List, Option, Some, None, is_some}
+use Rattle.std.specs.Prelude.{◌≡◌, ℕ, ◌+◌, false, List, Option, Some, is_some}
+use Rattle.std.specs.Option.{option_map}
 use Rattle.object_store.specs.Stores.{Contents}
-use Rattle.run_data.specs.Repos.{id_of}
 use Rattle.node_model.specs.SetUp.{SetUp}
 use Rattle.node_model.specs.Jobs.{Work}
 use Rattle.run_data.specs.declared.entry.FrameView.{FrameView}
@@ -10,10 +10,9 @@ use Rattle.node_model.specs.Jobs.{partner, work_after}
 use Rattle.node_model.specs.JobStep.{turn_of}
 use Rattle.node_model.specs.Turns.{slot_step}
 use Rattle.node_model.specs.Knows.{reading}
-use Rattle.node_model.specs.Look.{Look, entry_of}
+use Rattle.node_model.specs.Look.{Look, as_told, entry_of}
 use Rattle.node_model.specs.SessionStep.{is_filled}
 use Rattle.node_model.specs.State.{State}
-use Rattle.node_model.specs.Wanted.{required}
 use Rattle.content_lock.specs.Rows.{Rows, bar_at}
 use Rattle.drop_phases.specs.Worker.{Worker}
 use Rattle.drop_phases.specs.declared.turn.Output.{Output}
@@ -35,7 +34,6 @@ rest_of s st k v = record { content = st.content; filled = is_filled s st; fills
 pub record IsSight (x : Sight) (s : SetUp) (st : State) (k : Look) (w : Worker) (v : Work) : Type 0 where
   pub work : work_of (rest_of s st k v) w ≡ v
   pub read : x.read ≡ reading s st v
-  pub keeps : (c : ℕ) → None ≡ required st.logs (id_of s.repos c) v.what.key (s.paths v.number)
   pub number : x.number ≡ st.made + 1
   pub ends : x.ends ≡ st.ends
   pub time : x.time ≡ k.time
@@ -49,8 +47,9 @@ pub record Sees (x : Sight) (rows : Rows) (contents : Contents) (w : Worker) (ta
   pub finds : FindsAt (turn_of s st k v) (partner w.job.peer (phase_as w.phase)) f
   pub fed : FeedsFrameAt x w.slot (partner w.job.peer (phase_as w.phase)) f taken
 
--- the step is that of the job's slot, and the worker after it is the job's work after the entry, or of a remote drop alike
+-- the step is that of the job's slot, as its entry tells it, and the worker after it is the job's work after the entry, or of a remote
+-- drop alike
 pub record StepsSo (x : Sight) (w w' : Worker) (out : Output) (s : SetUp) (st : State) (k : Look) (v : Work) (f : Option FrameView) : Type 0 where
-  pub made : slot_step s st k (Some v) ≡ Some (made_of x w f out)
+  pub made : option_map as_told (slot_step s st k (Some v)) ≡ Some (made_of x w f out)
   pub next : out.ended ≡ false → IsNext (side_in w) (reading s st v) (work_of (rest_of s st k v) w')
       (work_after (record { present = st.present; bar = st.bar; ends = st.ends }) s.number (entry_of s.number k (made_of x w f out)) v)

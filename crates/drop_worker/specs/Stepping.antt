@@ -8,14 +8,14 @@ use Rattle.drop_proof.specs.declared.rule.Side.TheVariants.{Local}
 use Rattle.run_data.specs.declared.entry.FrameView.{FrameView}
 use Rattle.object_store.specs.Stores.{Contents}
 use Rattle.node_model.specs.JobStep.{Turn}
-use Rattle.node_model.specs.Look.{Effect}
+use Rattle.node_model.specs.Look.{Effect, as_told, failed_in}
 use Rattle.node_model.specs.Slots.{job_of}
 use Rattle.content_lock.specs.Rows.{AreAfter, Rows}
 use Rattle.content_lock.specs.Stored.{Agrees}
 use Rattle.drop_phases.specs.declared.turn.Output.{Output}
 use Rattle.drop_phases.specs.declared.turn.Taken.{Taken}
 use Rattle.drop_phases.specs.Worker.{Worker}
-use Rattle.drop_phases.specs.Working.{Rest, Sight, failed_in, made_of, present_in, turn_in, work_of}
+use Rattle.drop_phases.specs.Working.{Rest, Sight, made_of, present_in, turn_in, work_of}
 use Rattle.drop_phases.specs.Doing.{Grows, HasToken, OthersStay, contents_after, next_work}
 use Rattle.drop_phases.specs.Feeding.{FeedsFrameAt, KeepsAnswer, KeepsWord, step_of}
 use Rattle.drop_phases.specs.Leaving.{Stays, Store, stands_on}
@@ -24,7 +24,7 @@ use Rattle.drop_phases.specs.Sides.{FitsSide, IsNext, side_in}
 
 -- a step makes what is asked, its entry changes the rows, and the work that follows is the next one
 pub record DoesSo (x : Sight) (rows rows' : Rows) (present : List ℕ → Bool) (w w' : Worker) (taken : Option FrameView) (asked : Turn → Effect) (out : Output) : Type 0 where
-  pub makes : (rest : Rest) → made_of x w taken out ≡ asked (turn_in x rows present (failed_in out.kind) rest w)
+  pub makes : (rest : Rest) → made_of x w taken out ≡ as_told (asked (turn_in x rows present (failed_in out.kind) rest w))
   pub next : out.ended ≡ false → (rest : Rest)
       → IsNext (side_in w) x.read (work_of rest w') (next_work (turn_in x rows present (failed_in out.kind) rest w) (asked (turn_in x rows present (failed_in out.kind) rest w)))
   pub after : AreAfter out.kind rows rows'

@@ -1,5 +1,5 @@
 //! Laws of the works of remote drops, and of the numbers of holds: each is the contract of a function that does nothing.
-ghost use Rattle.std.specs.Prelude.{◌≡◌, ◌<◌, ℕ, All, Some, is_some};
+ghost use Rattle.std.specs.Prelude.{◌≡◌, ◌<◌, ℕ, All, Some};
 ghost use Rattle.drop_proof.specs.declared.rule.Side.TheVariants as sides;
 ghost use Rattle.run_data.specs.declared.entry.Entry.{Entry};
 ghost use Rattle.run_data.specs.declared.entry.EntryKind.{EntryKind};
@@ -7,17 +7,13 @@ ghost use Rattle.node_model.specs.Jobs as jobs;
 ghost use Rattle.node_model.specs.Jobs.{Drops, Work, side_of, work_after};
 ghost use Rattle.node_model.specs.JobStep.{turn_of};
 ghost use Rattle.node_model.specs.Knows.{Reading, reading};
-ghost use Rattle.node_model.specs.Look.{Look, failing_call};
+ghost use Rattle.node_model.specs.Look.{Look};
 ghost use Rattle.node_model.specs.SetUp.{SetUp};
 ghost use Rattle.node_model.specs.State.{State};
 ghost use Rattle.node_model.specs.Turns.{needs, slot_step};
 ghost use Rattle.content_lock.specs.Rows as locks;
 ghost use Rattle.drop_phases.specs.Alike.{Alike};
 ghost use Rattle.drop_phases.specs.Sides.{IsNumbered};
-ghost use Rattle.content_lock.specs.CallsMade.{AreRising};
-ghost use Rattle.drop_phases.specs.SlotCalls.{failed_of, slot_calls};
-ghost use Rattle.std.specs.declared.option.Option.{Option};
-ghost use Rattle.annex_base.specs.declared.kinds.Call.{Call};
 
 /// Works of a remote drop that are alike take the same step, need room at the same ends, read the same, and are moved alike by each entry:
 /// no step reads what was heard of the job's own repository where the settings don't have it asked (own).
@@ -31,13 +27,4 @@ pub fn alike_works_step_alike()
 /// A hold has the number of the entry that added it: so the numbers of a table's holds stay below that of the next entry (own).
 pub fn holds_are_numbered()
     ensures { (kind : EntryKind) (n : ℕ) (was now : locks.Rows) → locks.AreAfter kind was now → IsNumbered n kind → All (λ h. h.number < n) was.holds → (m : ℕ) → n < m → All (λ h. h.number < m) now.holds }
-{}
-
-/// The step of a slot fails of the call that the look has fail, exactly where that is one of the step's calls; and which calls these
-/// are doesn't depend on which fails, nor whether the slot has a step. They are made in the order of a store's calls (own).
-pub fn steps_fail_of_their_calls()
-    ensures free { (s : SetUp) (st : State) (k : Look) (fails : Option Call) (v : Option Work) → slot_calls s st (record k { fails = fails }) v ≡ slot_calls s st k v }
-    ensures ready { (s : SetUp) (st : State) (k : Look) (fails : Option Call) (v : Option Work) → is_some (slot_step s st (record k { fails = fails }) v) ≡ is_some (slot_step s st k v) }
-    ensures ordered { (s : SetUp) (st : State) (k : Look) (v : Option Work) → AreRising (slot_calls s st k v) }
-    ensures fault { (s : SetUp) (st : State) (k : Look) (v : Option Work) → failed_of (slot_step s st k v) ≡ failing_call k.fails (slot_calls s st k v) }
 {}

@@ -7,11 +7,12 @@ ghost use Rattle.drop_proof.specs.declared.rule.Side.TheVariants as sides;
 ghost use Rattle.run_data.specs.declared.entry.FrameView.{FrameView};
 ghost use Rattle.node_model.specs.SetUp.{SetUp};
 ghost use Rattle.node_model.specs.State.{State};
-ghost use Rattle.node_model.specs.Look.{Look};
+ghost use Rattle.node_model.specs.Look.{Effect, Look, failed_in};
 ghost use Rattle.node_model.specs.Jobs.{Work, partner};
+ghost use Rattle.node_model.specs.Turns.{slot_step};
 ghost use Rattle.content_lock.specs.Rows.{AreAfter, bar_at};
 ghost use Rattle.content_lock.specs.Stored.{Agrees, label_of};
-ghost use Rattle.drop_phases.specs.Working.{failed_in, phase_as, sight};
+ghost use Rattle.drop_phases.specs.Working.{phase_as, sight};
 ghost use Rattle.drop_phases.specs.Doing.{Grows, HasToken, OthersStay, contents_after, is_barring};
 ghost use Rattle.drop_phases.specs.Begun.{CanStand, HasGone};
 ghost use Rattle.drop_phases.specs.Feeding.{FitsLocal, IsOfLocal, KeepsAnswer, KeepsWord, ToldAt};
@@ -21,7 +22,6 @@ ghost use Rattle.drop_phases.specs.Sides.{CanShare, FitsSide, HasTarget, IsNumbe
 ghost use Rattle.drop_worker.specs.States.{Sees, StepsSo};
 ghost use Rattle.drop_phases.specs.Calling.{MakesSo};
 ghost use Rattle.content_lock.specs.CallsMade.{MakesCalls, fewer};
-ghost use Rattle.drop_phases.specs.SlotCalls.{slot_calls};
 ghost use Rattle.drop_worker.specs.Stepping.{AdvancesAlike, AdvancesSo, DidSo};
 
 use annex_base::NoMemory;
@@ -54,7 +54,7 @@ pub fn step<K: Keeper, H: Here>(
     // Of each such state: of the calls that the slot's step makes, the first that was to fail has failed.
     ensures calls { IfOk result (λ out. ForSome (K.contents keeper.old) (λ c. (s : SetUp) (st : State) (k : Look) (v : Work) (f : Option FrameView)
         → Sees (sight (H.reading here.now) (H.ends here.now) input.now.time input.now.number) table.old c worker.old input.now.taken (failed_in out.kind) s st k v f
-        → MakesCalls (slot_calls s st k (Some v)) (failed_in out.kind) (K.failing keeper.old) (K.failing keeper.new))) }
+        → ForSome (slot_step s st k (Some v)) (λ (m : Effect). MakesCalls m.calls (failed_in out.kind) (K.failing keeper.old) (K.failing keeper.new)))) }
     ensures left { IfOk result (λ out. K.failing keeper.new ≡ option_map (fewer (failed_in out.kind)) (K.failing keeper.old)) }
     ensures err_failing { OnErr result (K.failing keeper.new ≡ K.failing keeper.old) }
 

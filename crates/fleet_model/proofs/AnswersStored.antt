@@ -44,7 +44,7 @@ ReplyFits doing body x = Fits doing body x.says x.kind
 tries_fits : (h : Here) (doing : Doing) (body : FrameText) (cs : List Call) (says : List FrameText) (good : Reply) → ReplyFits doing body good → ReplyFits doing body (tries h cs says good)
 tries_fits h doing body cs says good fits = go (failing_call h.fails cs)
   where
-    go : (c : Option Call) → ReplyFits doing body (unless c (λ call. record { kind = Fault call (by_of h); says = says }) good)
+    go : (c : Option Call) → ReplyFits doing body (unless c (λ call. record { kind = Fault call (by_of h); says = says; calls = [] }) good)
     go None = fits
     go (Some call) = tt
 

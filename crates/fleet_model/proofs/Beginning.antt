@@ -20,8 +20,8 @@ use Rattle.repo_node.specs.Stored.{StoreView}
 use Rattle.fleet_model.proofs.Noting.{IsRaised, noted}
 
 -- the node after it began a job of this number
-abbrev pub begun : {K : Type 0} → NodeView K → ℕ → Job → NodeView K
-begun n number job = record (with_entry n n.keeper n.branch (kinds.Begin number job) []) { parts = record n.parts { jobs = with_job n.parts.jobs job } }
+abbrev pub begun : {K : Type 0} → NodeView K → ℕ → Job → List (List ℕ) → NodeView K
+begun n number job paths = record (with_entry n n.keeper n.branch (kinds.Begin number job) []) { parts = record n.parts { jobs = with_job n.parts.jobs job paths } }
 
 same_works : (st st' : State) (jobs : Jobs) → AgreesAtDrops st st' → st'.works ≡ Rattle.std.specs.Prelude.map work_now jobs.running → length st.works ≡ length jobs.running
 same_works st st' jobs agrees are = ap (λ (x : State). length x.works) agrees.same ∙ (ap length are ∙ length-map jobs.running work_now)
@@ -40,14 +40,14 @@ has_slot g d r history jobs agrees are free = below (length (works d.past r)) (l
     below : (a b : ℕ) → a ≡ b → b < 4 → nat_lt a 4 ≡ true
     below a b e less = grind (arith, nat_tests)
 
-pub begins_there : {K : Type 0} (tells : K → StoreView) (g : DriverInput) (d : Driver) (r : ℕ) (n : NodeView K) (number : ℕ) (job : Job)
+pub begins_there : {K : Type 0} (tells : K → StoreView) (g : DriverInput) (d : Driver) (r : ℕ) (n : NodeView K) (number : ℕ) (job : Job) (paths : List (List ℕ))
     → IsRaised tells g d r n
     → AgreesAtDrops (state_at g d r) (nodes.state_of (set_up_of g d r) n.history) → AreWorks (set_up_of g d r) (nodes.state_of (set_up_of g d r) n.history) n.parts.jobs
-    → number ≡ n.parts.jobs.begun + 1 → length n.parts.jobs.running < 4 → IsRaised tells g (begins r job d) r (begun n number job)
-begins_there tells g d r n number job raised agrees are numbered free =
-    subst (λ (b : Bool). IsRaised tells g (if b then notes r (kinds.Begin (begun_count d.past r + 1) job) [] d else d) r (begun n number job)) (sym few)
+    → number ≡ n.parts.jobs.begun + 1 → length n.parts.jobs.running < 4 → IsRaised tells g (begins r job d) r (begun n number job paths)
+begins_there tells g d r n number job paths raised agrees are numbered free =
+    subst (λ (b : Bool). IsRaised tells g (if b then notes r (kinds.Begin (begun_count d.past r + 1) job) [] d else d) r (begun n number job paths)) (sym few)
     (let on = noted tells g d d r n n.keeper n.branch (kinds.Begin number job) [] raised refl refl (record { contents = raised.store.contents; parts = raised.store.parts; failing = raised.store.failing }) in
-    subst (λ (m : ℕ). IsRaised tells g (notes r (kinds.Begin m job) [] d) r (begun n number job)) which
+    subst (λ (m : ℕ). IsRaised tells g (notes r (kinds.Begin m job) [] d) r (begun n number job paths)) which
     (record {
       entries = record { setup = on.entries.setup; history = on.entries.history; branch = on.entries.branch; time = on.entries.time; count = on.entries.count };
       store = on.store;

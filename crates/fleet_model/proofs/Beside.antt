@@ -8,6 +8,7 @@ use Rattle.std.proofs.lemmas.List.Elements.{filter-append}
 use Rattle.annex_base.specs.Calls.{same_call}
 use Rattle.annex_base.specs.declared.kinds.Call.{Call}
 use Rattle.annex_base.proofs.Conditions.{eqb_other, eqb_refl}
+use Rattle.annex_base.proofs.Lists.{Each-weaker}
 use Rattle.object_store.specs.Calls.{one_more}
 use Rattle.run_data.specs.declared.entry.Entry.{Entry}
 use Rattle.run_data.specs.declared.entry.EntryKind.TheVariants as kinds
@@ -20,19 +21,20 @@ use Rattle.driver_model.specs.ScriptSteps.{enters, waits, will_fail}
 use Rattle.driver_model.specs.Sound.{StaysSound}
 use Rattle.link_flights.specs.Flights.{IsEndIn}
 use Rattle.link_flights.specs.Words.{AreWorded}
-use Rattle.node_jobs.specs.Running.{words_at}
+use Rattle.node_jobs.specs.Running.{given_of, words_at}
 use Rattle.node_ends.specs.Ends.{link_at}
 use Rattle.repo_node.specs.Nodes.{NodeView}
-use Rattle.fleet_model.specs.Fleets.{FleetView, HasCome, IsNodeOf, links_at}
+use Rattle.fleet_model.specs.Fleets.{FleetView, HasCome, HasGiven, IsNodeOf, links_at}
 use Rattle.fleet_model.specs.Stores.{IsTold, waiting_fails}
 use Rattle.repo_node.specs.Stored.{StoreView}
 use Rattle.fleet_model.proofs.Hearing.{WordLaws}
+use Rattle.fleet_model.proofs.Pathing.{given_entered}
 
 -- ---- a driver that differs in what no node has
 
 -- the nodes stay the driver's
-beside : {K : Type 0} (tells : K → StoreView) (g : DriverInput) (d d' : Driver) (r : ℕ) (n : NodeView K) → d' ≡ record d { tree = d'.tree; marks = d'.marks } → IsNodeOf tells g d r n → IsNodeOf tells g d' r n
-beside {K} tells g d d' r n but is =
+beside : {K : Type 0} (tells : K → StoreView) (g : DriverInput) (d d' : Driver) (r : ℕ) (n : NodeView K) → d' ≡ record d { tree = d'.tree; marks = d'.marks } → ((x : ℕ × List (List ℕ)) → HasGiven d r x → HasGiven d' r x) → IsNodeOf tells g d r n → IsNodeOf tells g d' r n
+beside {K} tells g d d' r n but given is =
     subst (λ (x : Driver). IsNodeOf tells g x r n) (sym but)
     (record {
       setup = record { number = is.setup.number; ids = is.setup.ids; offset = is.setup.offset; version = is.setup.version; locks = is.setup.locks };
@@ -42,16 +44,18 @@ beside {K} tells g d d' r n but is =
       time = is.time;
       count = is.count;
       heard = is.heard;
+      paths = Each-weaker (λ j. HasGiven d r (given_of j)) (λ j. HasGiven (record d { tree = d'.tree; marks = d'.marks }) r (given_of j))
+          (λ j h. subst (λ (x : Driver). HasGiven x r (given_of j)) but (given (given_of j) h)) n.parts.jobs.running is.paths;
     })
 
-come_beside : {K : Type 0} (tells : K → StoreView) (g : DriverInput) (d d' : Driver) (f f' : FleetView K) → d' ≡ record d { tree = d'.tree; marks = d'.marks } → f'.nodes ≡ f.nodes
+come_beside : {K : Type 0} (tells : K → StoreView) (g : DriverInput) (d d' : Driver) (f f' : FleetView K) → d' ≡ record d { tree = d'.tree; marks = d'.marks } → ((r : ℕ) (x : ℕ × List (List ℕ)) → HasGiven d r x → HasGiven d' r x) → f'.nodes ≡ f.nodes
     → f'.run ≡ record f.run { tree = d'.tree; marks = d'.marks } → StaysSound g d d' → HasCome tells g d f → HasCome tells g d' f'
-come_beside {K} tells g d d' f f' but same run sound h = record {
+come_beside {K} tells g d d' f f' but given same run sound h = record {
   run = run ∙ ((λ i. record (h.run i) { tree = d'.tree; marks = d'.marks }) ∙ (λ i. record { repos = g.repos; entries = reverse (sym (ap (λ (x : Driver). x.past) but) i); tree = d'.tree; marks = d'.marks }));
   sound = sound h.sound fits;
   fits = fits;
   count = ap length same ∙ h.count;
-  each = λ q n at. beside tells g d d' q n but (h.each q n (sym (ap (λ (ns : List (NodeView K)). slice_get ns q) same) ∙ at));
+  each = λ q n at. beside tells g d d' q n but (given q) (h.each q n (sym (ap (λ (ns : List (NodeView K)). slice_get ns q) same) ∙ at));
   ends = λ q a v q_in a_in apart at.
       subst (λ (x : Driver). IsEndIn x.flights q a v) (sym but)
       (h.ends q a v q_in a_in apart (subst (λ (ns : List (NodeView K)). link_at (links_at ns q) a ≡ Some v) same at));
@@ -64,9 +68,9 @@ come_beside {K} tells g d d' f f' but same run sound h = record {
   fits = subst HasBoundedPast (sym but) h.fits
 
 -- a path names a key
-pub entered : {K : Type 0} (tells : K → StoreView) (g : DriverInput) (d : Driver) (path key : List ℕ) (f f' : FleetView K) → f'.nodes ≡ f.nodes
+pub entered : {K : Type 0} → WordLaws → (tells : K → StoreView) (g : DriverInput) (d : Driver) (path key : List ℕ) (f f' : FleetView K) → f'.nodes ≡ f.nodes
     → f'.run ≡ record f.run { tree = f.run.tree ++ record { place = length f.run.entries; path = path; key = key } ∷ [] } → StaysSound g d (enters path key d) → HasCome tells g d f → HasCome tells g (enters path key d) f'
-entered {K} tells g d path key f f' same run sound h = come_beside tells g d (enters path key d) f f' refl same (run ∙ there) sound h
+entered {K} laws tells g d path key f f' same run sound h = come_beside tells g d (enters path key d) f f' refl (λ r. given_entered laws d r path key) same (run ∙ there) sound h
   where
     place : length f.run.entries ≡ length d.past
     place = ap (λ (x : Run). length x.entries) h.run ∙ length-reverse d.past
@@ -77,7 +81,7 @@ entered {K} tells g d path key f f' same run sound h = come_beside tells g d (en
 -- a line is done
 pub marked : {K : Type 0} (tells : K → StoreView) (g : DriverInput) (d : Driver) (f f' : FleetView K) → f'.nodes ≡ f.nodes → f'.run ≡ record f.run { marks = f.run.marks ++ length f.run.entries ∷ [] }
     → StaysSound g d (with_mark d) → HasCome tells g d f → HasCome tells g (with_mark d) f'
-marked {K} tells g d f f' same run sound h = come_beside tells g d (with_mark d) f f' refl same (run ∙ there) sound h
+marked {K} tells g d f f' same run sound h = come_beside tells g d (with_mark d) f f' refl (λ r x has. has) same (run ∙ there) sound h
   where
     place : length f.run.entries ≡ length d.past
     place = ap (λ (x : Run). length x.entries) h.run ∙ length-reverse d.past
@@ -103,6 +107,7 @@ waited_node laws tells g d milliseconds r n is = record {
   time = later n.time (now d.past) milliseconds is.time;
   count = later n.count (newest_count d.past) 1 is.count;
   heard = laws.other d.past (waited_entry d milliseconds) r (words_at n.parts.jobs.running) refl is.heard;
+  paths = is.paths;
 }
 
 pub waited : {K : Type 0} → WordLaws → (tells : K → StoreView) (g : DriverInput) (d : Driver) (milliseconds : ℕ) (f f' : FleetView K) → f'.nodes ≡ f.nodes
@@ -175,6 +180,7 @@ failing_node {K} tells g d r call n m is but contents parts failing =
       time = is.time;
       count = is.count;
       heard = is.heard;
+      paths = is.paths;
     })
 
 pub other_failing : {K : Type 0} (tells : K → StoreView) (g : DriverInput) (d : Driver) (r q : ℕ) (call : Call) (n : NodeView K) → q ≢ r → IsNodeOf tells g d q n → IsNodeOf tells g (will_fail r call d) q n
@@ -186,4 +192,5 @@ other_failing tells g d r q call n apart is = record {
   time = is.time;
   count = is.count;
   heard = is.heard;
+  paths = is.paths;
 }

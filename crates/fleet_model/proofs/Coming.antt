@@ -4,24 +4,26 @@ use Rattle.std.specs.Prelude.{◌==◌, ◌++◌, drop, reverse, slice_get}
 use Rattle.std.specs.Option.{option_map_or}
 use Rattle.std.proofs.lemmas.Option.{same_Some}
 use Rattle.std.proofs.lemmas.Bool.{eqb-false, eqb-true}
+use Rattle.annex_base.specs.Lists.{Each}
 use Rattle.link_ring.specs.Ends.{EndView}
 use Rattle.run_data.specs.declared.entry.Entry.{Entry}
 use Rattle.node_model.specs.Ends.{EndName}
 use Rattle.node_ends.specs.Ends.{link_at}
 use Rattle.driver_model.specs.Driver.{Driver, DriverInput}
 use Rattle.driver_model.specs.Scripts.{HasBoundedPast}
-use Rattle.driver_model.specs.Sound.{StaysSound}
+use Rattle.driver_model.specs.Sound.{IsSound, StaysSound}
 use Rattle.link_flights.specs.Flights.{IsEndIn}
 use Rattle.link_flights.specs.Heard.{HeardSo}
 use Rattle.link_flights.specs.Words.{AreWorded}
-use Rattle.node_jobs.specs.Running.{words_at}
+use Rattle.node_jobs.specs.Running.{given_of, words_at}
 use Rattle.repo_node.specs.Nodes.{NodeView}
-use Rattle.fleet_model.specs.Fleets.{FleetView, HasCome, IsNodeOf, links_at}
+use Rattle.fleet_model.specs.Fleets.{FleetView, HasCome, HasGiven, IsNodeOf, links_at}
 use Rattle.fleet_model.specs.Steps.{OneGoesOn}
 use Rattle.repo_node.specs.Stored.{StoreView}
 use Rattle.fleet_model.proofs.Going.{GoesOnQuietly, entries_go_on, goes_within, others_are}
 use Rattle.fleet_model.proofs.Hearing.{WordLaws, others_hear, words_stay}
 use Rattle.fleet_model.proofs.Noting.{IsRaised, is_node}
+use Rattle.fleet_model.proofs.Pathing.{given_on}
 
 -- what holds of the node of r and of each other one holds of each
 pub by_number : {X : Type 0} (P : ℕ → X → Type 0) (xs : List X) (r : ℕ) (m : X) → slice_get xs r ≡ Some m → P r m → ((q : ℕ) (x : X) → q ≢ r → slice_get xs q ≡ Some x → P q x)
@@ -53,17 +55,18 @@ pub stood_before : {K : Type 0} (r q : ℕ) (n m : NodeView K) (was after : Flee
 stood_before r q n m was after step links a v at = ap (λ (xs : List EndView). link_at xs a) (sym (links_stay r q n m was after step links)) ∙ at
 
 pub came : {K : Type 0} → WordLaws → (tells : K → StoreView) (g : DriverInput) (d d' : Driver) (r : ℕ) (n m : NodeView K) (was after : FleetView K)
-    → HasCome tells g d was → OneGoesOn r n m was after → GoesOnQuietly r d d' → IsRaised tells g d' r m → m.parts.links ≡ n.parts.links → HeardSo d'.past r (words_at m.parts.jobs.running) → m.time ≤ 1000000000000 → m.count < 2 ^ 62 → StaysSound g d d'
+    → HasCome tells g d was → OneGoesOn r n m was after → GoesOnQuietly r d d' → IsRaised tells g d' r m → m.parts.links ≡ n.parts.links → HeardSo d'.past r (words_at m.parts.jobs.running)
+    → (IsSound g d' → Each (λ j. HasGiven d' r (given_of j)) m.parts.jobs.running) → m.time ≤ 1000000000000 → m.count < 2 ^ 62 → StaysSound g d d'
     → HasCome tells g d' after
-came {K} laws tells g d d' r n m was after h step on own links heard early few sound = record {
+came {K} laws tells g d d' r n m was after h step on own links heard paths early few sound = record {
   run = step.run ∙ ((λ i. record (h.run i) { entries = (h.run i).entries ++ drop (length n.history) m.history })
       ∙ (λ i. record { repos = g.repos; entries = sym entries i; tree = sym on.on.tree i; marks = sym on.on.marks i }));
   sound = sound h.sound fits;
   fits = fits;
   count = step.count ∙ h.count;
-  each = by_number (λ q x. IsNodeOf tells g d' q x) after.nodes r m step.there (is_node tells g d' r m own heard)
+  each = by_number (λ q x. IsNodeOf tells g d' q x) after.nodes r m step.there (is_node tells g d' r m own heard (paths (sound h.sound fits)))
       (λ q x apart at. others_are tells g d d' r q x apart on.on (h.each q x (sym (step.others q apart) ∙ at))
-      (subst (λ (past : List Entry). HeardSo past q (words_at x.parts.jobs.running)) (sym on.on.past) (others_hear laws r q (words_at x.parts.jobs.running) on.on.more d.past apart on.on.own (h.each q x (sym (step.others q apart) ∙ at)).heard)));
+      (subst (λ (past : List Entry). HeardSo past q (words_at x.parts.jobs.running)) (sym on.on.past) (others_hear laws r q (words_at x.parts.jobs.running) on.on.more d.past apart on.on.own (h.each q x (sym (step.others q apart) ∙ at)).heard)) (given_on laws g d d' q on.on.more (sound h.sound fits) on.on.past on.on.tree));
   ends = λ q a v q_in a_in apart at.
       subst (λ (xs : List _). IsEndIn xs q a v) (sym on.flights)
       (h.ends q a v q_in a_in apart (stood_before r q n m was after step links a v at));

@@ -1,6 +1,8 @@
 -- A fleet whose node did what a line of the script says has come to where the driver is.
 use Rattle.std.proofs.Common.{◌≡◌, ℕ, ◌+◌, ◌<◌, ◌≤◌, ◌^◌, List, [], ◌∷◌, ◌++◌, Option, Some, None, refl, sym, ap, ◌∙◌, subst}
+use Rattle.annex_base.specs.Lists.{Each}
 use Rattle.annex_base.specs.declared.kinds.Call.{Call}
+use Rattle.annex_base.proofs.Lists.{Each-weaker}
 use Rattle.log_lines.specs.declared.entry.LogKind.{LogKind}
 use Rattle.log_lines.specs.declared.entry.Topic.{Topic}
 use Rattle.log_lines.specs.declared.entry.Value.{Value}
@@ -14,7 +16,7 @@ use Rattle.union_merge.specs.Branch.{lines_at}
 use Rattle.union_merge.specs.LineSet.{difference}
 use Rattle.node_model.specs.OwedLines.{stamp_at}
 use Rattle.node_parts.specs.Parts.{PartsView}
-use Rattle.node_jobs.specs.Running.{words_at}
+use Rattle.node_jobs.specs.Running.{given_of, words_at}
 use Rattle.link_flights.specs.Heard.{HeardSo}
 use Rattle.driver_model.specs.Driver.{Driver, DriverInput}
 use Rattle.driver_model.specs.ScriptSteps.{setting_line, sets, wall_of, writes}
@@ -24,13 +26,14 @@ use Rattle.repo_node.specs.Calls.{to_log}
 use Rattle.repo_node.specs.Logs.{stamped_by, with_log}
 use Rattle.repo_node.specs.Nodes.{NodeView}
 use Rattle.repo_node.specs.Stored.{StoreView}
-use Rattle.fleet_model.specs.Fleets.{FleetView, HasCome}
+use Rattle.fleet_model.specs.Fleets.{FleetView, HasCome, HasGiven}
 use Rattle.fleet_model.specs.Steps.{HasLogged, OneGoesOn, StaysStored, with_newest}
 use Rattle.fleet_model.proofs.Coming.{came}
 use Rattle.fleet_model.proofs.Going.{GoesOnQuietly}
 use Rattle.fleet_model.proofs.Hearing.{WordLaws, own_hears}
 use Rattle.fleet_model.proofs.Logging.{logged}
 use Rattle.fleet_model.proofs.Noting.{IsRaised}
+use Rattle.fleet_model.proofs.Pathing.{given_on}
 use Rattle.fleet_model.proofs.Raising.{raised_is}
 use Rattle.fleet_model.proofs.ScriptGoing.{goes_writes}
 
@@ -43,6 +46,8 @@ comes_directly {K} laws tells g d d' r n m was after h step on own same early fe
     (subst (λ (past : List Entry). HeardSo past r (words_at m.parts.jobs.running)) (sym on.on.past)
     (subst (λ (p : PartsView). HeardSo (on.on.more ++ d.past) r (words_at p.jobs.running)) (sym same)
     (own_hears laws r (words_at n.parts.jobs.running) on.on.more d.past on.on.own on.quiet (h.each r n step.before).heard)))
+    (λ sound'. subst (λ (p : PartsView). Each (λ j. HasGiven d' r (given_of j)) p.jobs.running) (sym same)
+    (Each-weaker (λ j. HasGiven d r (given_of j)) (λ j. HasGiven d' r (given_of j)) (λ j. given_on laws g d d' r on.on.more sound' on.on.past on.on.tree (given_of j)) n.parts.jobs.running (h.each r n step.before).paths))
     early few sound
 
 -- ---- lines

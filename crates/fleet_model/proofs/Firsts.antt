@@ -3,6 +3,7 @@ use Rattle.std.proofs.Common.{◌≡◌, ℕ, zero, suc, ◌*◌, ◌<◌, ◌�
 use Rattle.std.specs.Prelude.{if◌then◌else◌, nat_lt, replicate, slice_get}
 use Rattle.std.proofs.lemmas.List.{length-map}
 use Rattle.std.proofs.lemmas.Option.{same_Some, slice_get_within}
+use Rattle.annex_base.specs.Lists.{Each}
 use Rattle.annex_base.specs.declared.kinds.Word.{Word}
 use Rattle.annex_base.proofs.Lists.{slice_get-within}
 use Rattle.link_ring.specs.Ends.{EndView, fresh}
@@ -10,7 +11,7 @@ use Rattle.node_model.specs.Ends.{EndName}
 use Rattle.node_model.specs.SetUp.{locks_in, version_in}
 use Rattle.node_ends.specs.Ends.{link_at}
 use Rattle.link_ring.specs.Places.{end_place}
-use Rattle.node_jobs.specs.Running.{words_at}
+use Rattle.node_jobs.specs.Running.{Jobs, given_of, words_at}
 use Rattle.run_data.specs.Repos.{offset_of}
 use Rattle.run_data.specs.declared.run.RepoView.{RepoView}
 use Rattle.link_flights.specs.Fleets.{AreEndsIn}
@@ -23,7 +24,7 @@ use Rattle.repo_node.specs.Nodes as nodes
 use Rattle.repo_node.specs.Nodes.{NodeView}
 use Rattle.repo_node.specs.Stored.{StoreView}
 use Rattle.joined_nodes.specs.Joined.{AreNew, IsNew, ids_of, setup_of}
-use Rattle.fleet_model.specs.Fleets.{FleetView, HasCome, IsNodeOf, links_at}
+use Rattle.fleet_model.specs.Fleets.{FleetView, HasCome, HasGiven, IsNodeOf, links_at}
 use Rattle.fleet_model.specs.Stores.{IsStoreOf}
 use Rattle.fleet_model.proofs.Coming.{ends_in}
 
@@ -61,6 +62,7 @@ new_node {K} laws tells g r repo keeper n at store new =
       time = none_less;
       count = none_less;
       heard = laws.heard r (words_at n.parts.jobs.running);
+      paths = subst (λ (js : Jobs). Each (λ j. HasGiven at_first r (given_of j)) js.running) (sym new.jobs) tt;
     })
   where
     none_less : 0 ≤ 0

@@ -15,7 +15,7 @@ use Rattle.run_data.specs.declared.entry.EntryKind.TheVariants as kinds
 use Rattle.run_data.specs.declared.job.Job.{Job}
 use Rattle.node_model.specs.Rows.{option_is}
 use Rattle.node_model.specs.Slots.{job_of}
-use Rattle.node_jobs.specs.Running.{words_at}
+use Rattle.node_jobs.specs.Running.{given_of, words_at}
 use Rattle.link_flights.specs.Heard.{HeardSo}
 use Rattle.run_model.specs.Logs.{branch, branch_after}
 use Rattle.run_model.specs.Past.{Always, is_of, now}
@@ -23,7 +23,7 @@ use Rattle.run_model.specs.Run.{IsSmall}
 use Rattle.driver_model.specs.Driver.{Driver, DriverInput, answers, entry, fails_at, newest_count, notes}
 use Rattle.driver_model.specs.Scripts.{IsWithinBounds, HasBoundedPast}
 use Rattle.driver_model.specs.ScriptSteps.{unless_fails, faults}
-use Rattle.fleet_model.specs.Fleets.{IsNodeOf}
+use Rattle.fleet_model.specs.Fleets.{HasGiven, IsNodeOf}
 use Rattle.fleet_model.specs.Stores.{IsStoreOf}
 use Rattle.repo_node.specs.Stored.{StoreView}
 use Rattle.fleet_model.proofs.Failing.{unanswered}
@@ -168,8 +168,9 @@ others_branch r q (e ∷ more) past apart own =
     ∙ others_branch r q more past apart own.1
 
 -- another repository's node stays its node
-pub others_are : {K : Type 0} (tells : K → StoreView) (g : DriverInput) (d d' : Driver) (r q : ℕ) (m : _) → q ≢ r → GoesOn r d d' → IsNodeOf {K = K} tells g d q m → HeardSo d'.past q (words_at m.parts.jobs.running) → IsNodeOf tells g d' q m
-others_are tells g d d' r q m apart on is heard = record {
+pub others_are : {K : Type 0} (tells : K → StoreView) (g : DriverInput) (d d' : Driver) (r q : ℕ) (m : _) → q ≢ r → GoesOn r d d' → IsNodeOf {K = K} tells g d q m → HeardSo d'.past q (words_at m.parts.jobs.running)
+    → ((x : ℕ × List (List ℕ)) → HasGiven d q x → HasGiven d' q x) → IsNodeOf tells g d' q m
+others_are tells g d d' r q m apart on is heard given = record {
   setup = record { number = is.setup.number; ids = is.setup.ids; offset = is.setup.offset; version = is.setup.version; locks = is.setup.locks };
   history = is.history ∙ ap reverse (sym (ap (filter (is_of q)) on.past ∙ others_past r q on.more d.past apart on.own));
   branch = is.branch ∙ sym (ap (λ (p : List Entry). branch p q) on.past ∙ others_branch r q on.more d.past apart on.own);
@@ -177,6 +178,7 @@ others_are tells g d d' r q m apart on is heard = record {
   time = subst (λ (t : ℕ). m.time ≤ t) (sym on.at) is.time;
   count = le_trans is.count on.counted;
   heard = heard;
+  paths = Each-weaker (λ j. HasGiven d q (given_of j)) (λ j. HasGiven d' q (given_of j)) (λ j. given (given_of j)) m.parts.jobs.running is.paths;
 }
 
 -- ---- the run

@@ -1,24 +1,30 @@
 -- The words that jobs heard, and those beside frames, while entries come that take and send nothing.
-use Rattle.std.proofs.Common.{◌≡◌, ◌≢◌, inl, inr, ℕ, true, false, List, [], ◌∷◌, ◌++◌, Option, None, refl}
+use Rattle.std.proofs.Common.{◌≡◌, ◌≢◌, inl, inr, ℕ, ◌≤◌, true, false, List, [], ◌∷◌, ◌++◌, length, Option, None, refl}
 use Rattle.annex_base.specs.Lists.{Each}
 use Rattle.annex_base.specs.declared.kinds.Word.{Word}
 use Rattle.link_ring.specs.Ends.{EndView}
 use Rattle.run_data.specs.declared.entry.Entry.{Entry}
 use Rattle.run_data.specs.declared.entry.EntryKind.TheVariants as kinds
 use Rattle.run_data.specs.declared.job.Job.{Job}
-use Rattle.run_model.specs.Past.{is_of}
+use Rattle.run_data.specs.declared.run.Run.{Run}
+use Rattle.run_data.specs.declared.run.TreeMark.{TreeMark}
+use Rattle.run_model.specs.Past.{begun_count, is_of}
+use Rattle.run_model.specs.Run.{IsRun, job_paths, paths_at}
+use Rattle.run_model.specs.Safety.{past_at}
 use Rattle.node_model.specs.Slots.{job_of}
 use Rattle.link_flights.specs.Heard.{HeardSo, SameWords}
 use Rattle.link_flights.specs.Words.{AreAllWorded}
 use Rattle.fleet_model.proofs.Going.{IsQuiet, all_others}
 
--- the laws of words
+-- the laws of words, and of the paths of jobs
 pub record WordLaws : Type 0 where
   pub quiet : (past : List Entry) (count : ℕ) (ends : ℕ → List EndView) (e : Entry) → e.taken ≡ None → e.sent ≡ [] → AreAllWorded past count ends → AreAllWorded (e ∷ past) count ends
   pub other : (past : List Entry) (e : Entry) (r : ℕ) (words : ℕ → ℕ → Option Word) → is_of r e ≡ false → HeardSo past r words → HeardSo (e ∷ past) r words
   pub beside : (past : List Entry) (e : Entry) (r : ℕ) (was now : ℕ → ℕ → Option Word) → is_of r e ≡ true → job_of e.kind ≡ None → SameWords past r was now → HeardSo past r was → HeardSo (e ∷ past) r now
   pub begun : (past : List Entry) (e : Entry) (r job : ℕ) (what : Job) (was now : ℕ → ℕ → Option Word) → is_of r e ≡ true → e.kind ≡ kinds.Begin job what → e.taken ≡ None → SameWords past r was now
       → HeardSo past r was → HeardSo (e ∷ past) r now
+  pub paths : (run : Run) (place r job : ℕ) → IsRun run → place ≤ length run.entries → job ≤ begun_count (past_at run place) r → job_paths run r job ≡ paths_at run.tree (past_at run place) r job
+  pub marks : (marks : List TreeMark) (m : TreeMark) (past : List Entry) (r job : ℕ) → length past ≤ m.place → paths_at (marks ++ m ∷ []) past r job ≡ paths_at marks past r job
 
 pub words_stay : WordLaws → (count : ℕ) (ends : ℕ → List EndView) (more past : List Entry) → Each IsQuiet more → AreAllWorded past count ends → AreAllWorded (more ++ past) count ends
 words_stay laws count ends [] past quiet are = are

@@ -2,6 +2,7 @@
 use Rattle.std.proofs.Common.{◌≡◌, ℕ, ◌+◌, true, [], ◌++◌, None, length, refl, sym, ap, ◌∙◌, subst, le_refl}
 use Rattle.std.specs.Prelude.{drop, flat_map, is_some, reverse}
 use Rattle.std.specs.Option.{option_to_list}
+use Rattle.annex_base.specs.Lists.{Each}
 use Rattle.node_model.specs.After.{AgreesAtDrops}
 use Rattle.node_model.specs.AnyTime.{all_ends}
 use Rattle.node_model.specs.Ends.{EndName}
@@ -22,8 +23,8 @@ use Rattle.repo_node.specs.Stored.{StoreView}
 use Rattle.repo_node.specs.Turning.{IsIdle}
 use Rattle.link_flights.specs.Heard.{HeardSo}
 use Rattle.link_flights.specs.Words.{AreAllWorded}
-use Rattle.node_jobs.specs.Running.{words_at}
-use Rattle.fleet_model.specs.Fleets.{AreUnused, FleetView, HasCome, IsNodeOf, links_at}
+use Rattle.node_jobs.specs.Running.{HadPaths, given_of, words_at}
+use Rattle.fleet_model.specs.Fleets.{AreUnused, FleetView, HasCome, HasGiven, IsNodeOf, links_at}
 use Rattle.fleet_model.specs.Steps.{OneTurns}
 use Rattle.fleet_model.proofs.Going.{GoesOn, entries_go_on, others_are}
 use Rattle.fleet_model.proofs.Looking.{LookLaws}
@@ -34,11 +35,11 @@ use Rattle.fleet_model.proofs.Turned.{each_turned, linked}
 -- a node that finds no step ready stands where the driver finds none
 pub none_ready : {K : Type 0} → LookLaws → (tells : K → StoreView) (g : DriverInput) (d : Driver) (r : ℕ) (n : NodeView K) → IsSound g d → IsRaised tells g d r n
     → AreParts (set_up_of g d r) (nodes.state_of (set_up_of g d r) n.history) n.parts → AreOwnEndsIn d.flights (set_up_of g d r) n.parts.links
-    → ((a : EndName) → is_some (link_at n.parts.links a) ≡ true → has_room r (driver_at_turn g r d).flights a ≡ room_at n.parts.links a)
+    → ((a : EndName) → is_some (link_at n.parts.links a) ≡ true → has_room r (driver_at_turn g r d).flights a ≡ room_at n.parts.links a) → Each (λ j. HadPaths (set_up_of g d r) j.worker.number j.paths) n.parts.jobs.running
     → IsIdle n (set_up_of g d r) → step (set_up_of g d r) (state_at g d r) (plain_look (set_up_of g d r) (driver_at_turn g r d)) ≡ None
-none_ready {K} laws tells g d r n sound raised parts own rooms idle =
+none_ready {K} laws tells g d r n sound raised parts own rooms had idle =
     step_is laws.carried g d r n k sound raised.entries.history
-    ∙ idle k (record { ends = record { at_hand = sym node_hand; room = λ a there. rooms a there }; time = sym raised.entries.time; count = ap (λ (x : ℕ). x + 1) (sym raised.entries.count) })
+    ∙ idle k (record { ends = record { at_hand = sym node_hand; room = λ a there. rooms a there }; time = sym raised.entries.time; count = ap (λ (x : ℕ). x + 1) (sym raised.entries.count); paths = had })
   where
     s : SetUp
     s = set_up_of g d r
@@ -73,9 +74,9 @@ dropping_goes g d r = record {
 
 pub turned_idly : {K : Type 0} (tells : K → StoreView) (g : DriverInput) (d : Driver) (r : ℕ) (n m : NodeView K) (was after : FleetView K)
     → HasCome tells g d was → OneTurns r n m was after → turn g r d ≡ driver_at_turn g r d → IsRaised tells g d r m
-    → AreEndsIn (driver_at_turn g r d).flights (length g.repos) (links_at after.nodes) → AreAllWorded d.past (length g.repos) (links_at after.nodes) → HeardSo d.past r (words_at m.parts.jobs.running) → AreUnused (links_at after.nodes)
+    → AreEndsIn (driver_at_turn g r d).flights (length g.repos) (links_at after.nodes) → AreAllWorded d.past (length g.repos) (links_at after.nodes) → HeardSo d.past r (words_at m.parts.jobs.running) → Each (λ j. HasGiven d r (given_of j)) m.parts.jobs.running → AreUnused (links_at after.nodes)
     → StaysSound g d (turn g r d) → HasCome tells g (turn g r d) after
-turned_idly {K} tells g d r n m was after h step is own ends words heard selves sound =
+turned_idly {K} tells g d r n m was after h step is own ends words heard paths selves sound =
     subst (λ (x : Driver). HasCome tells g x after) (sym is)
     (record {
       run = step.run ∙ ((λ i. record (h.run i) { entries = (h.run i).entries ++ drop (length n.history) m.history })
@@ -83,8 +84,8 @@ turned_idly {K} tells g d r n m was after h step is own ends words heard selves 
       sound = subst (StaysSound g d) is sound h.sound h.fits;
       fits = h.fits;
       count = step.count ∙ h.count;
-      each = each_turned (λ q x. IsNodeOf tells g d' q x) r n m was after step (λ links. linked tells g d' r m links (as_before (is_node tells g d r m own heard)))
-          (λ q x links apart at. linked tells g d' q x links (others_are tells g d d' r q x apart on (h.each q x at) (h.each q x at).heard));
+      each = each_turned (λ q x. IsNodeOf tells g d' q x) r n m was after step (λ links. linked tells g d' r m links (as_before (is_node tells g d r m own heard paths)))
+          (λ q x links apart at. linked tells g d' q x links (others_are tells g d d' r q x apart on (h.each q x at) (h.each q x at).heard (λ y has. has)));
       ends = ends;
       words = words;
       selves = selves;
@@ -108,4 +109,5 @@ turned_idly {K} tells g d r n m was after h step is own ends words heard selves 
       time = is.time;
       count = is.count;
       heard = is.heard;
+      paths = is.paths;
     }

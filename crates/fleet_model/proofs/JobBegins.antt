@@ -1,73 +1,100 @@
 -- A fleet whose node began a job, or had no slot for it, has come to where the driver is.
-use Rattle.std.proofs.Common.{◌≡◌, ℕ, ◌+◌, ◌<◌, ◌≤◌, ◌^◌, Bool, false, List, [], length, Some, None, refl, sym, ap, subst, arith}
-use Rattle.std.specs.Prelude.{◌==◌, cond, find, if◌then◌else◌}
+use Rattle.std.proofs.Common.{◌≡◌, ℕ, ◌+◌, ◌<◌, ◌≤◌, ◌^◌, Bool, true, false, List, [], ◌∷◌, length, Some, None, refl, sym, ap, ◌∙◌, subst, arith}
+use Rattle.std.specs.Prelude.{◌==◌, ◌&&◌, cond, find, if◌then◌else◌}
 use Rattle.std.specs.Option.{option_map_or}
 use Rattle.std.proofs.lemmas.Bool.Decides.{nat_tests}
 use Rattle.annex_base.specs.Lists.{Each}
-use Rattle.annex_base.proofs.Lists.{Each-member}
+use Rattle.annex_base.proofs.Lists.{Each-member, Each-weaker}
+use Rattle.annex_key.specs.Tree.{paths_of}
 use Rattle.annex_base.proofs.Conditions.{eqb_refl}
 use Rattle.drop_worker.specs.Working.{words_of}
 use Rattle.run_data.specs.declared.entry.Entry.{Entry}
 use Rattle.run_data.specs.declared.entry.EntryKind.TheVariants as kinds
 use Rattle.run_data.specs.declared.job.Job.{Job}
 use Rattle.run_model.specs.Past.{begun_count}
+use Rattle.run_model.specs.Run.{paths_at, tree_at}
 use Rattle.run_model.specs.States.{works}
 use Rattle.node_model.specs.After.{AgreesAtDrops}
 use Rattle.node_model.specs.Jobs.{Work}
 use Rattle.node_jobs.specs.Acting.{new_worker, with_job}
-use Rattle.node_jobs.specs.Running.{AreWorks, DropJob, Jobs, words_at}
+use Rattle.node_jobs.specs.Running.{AreWorks, DropJob, Jobs, given_of, words_at}
 use Rattle.link_flights.specs.Heard.{HeardSo, SameWords}
 use Rattle.driver_model.specs.Driver.{Driver, DriverInput, entry, notes, set_up_of, state_at}
 use Rattle.driver_model.specs.ScriptSteps.{begins}
-use Rattle.driver_model.specs.Sound.{StaysSound}
+use Rattle.driver_model.specs.Sound.{IsSound, StaysSound}
 use Rattle.repo_node.specs.Nodes as nodes
 use Rattle.repo_node.specs.Nodes.{NodeView}
 use Rattle.repo_node.specs.Stored.{StoreView}
-use Rattle.fleet_model.specs.Fleets.{FleetView, HasCome}
+use Rattle.fleet_model.specs.Fleets.{FleetView, HasCome, HasGiven}
 use Rattle.fleet_model.specs.Steps.{OneGoesOn, with_newest}
 use Rattle.fleet_model.proofs.Beginning.{begins_nowhere, begins_there, begun, has_slot, same_begun}
 use Rattle.fleet_model.proofs.Coming.{came}
 use Rattle.fleet_model.proofs.Directs.{comes_directly}
 use Rattle.fleet_model.proofs.Hearing.{WordLaws}
 use Rattle.fleet_model.proofs.Noting.{IsRaised}
+use Rattle.fleet_model.proofs.Pathing.{given_on}
 use Rattle.fleet_model.proofs.Raising.{raised_is}
 use Rattle.fleet_model.proofs.ScriptGoing.{goes_begins}
 
 -- ---- the words of jobs that ran before
 
 -- the job of another number is the one that it was
-other_job : (jobs : Jobs) (what : Job) (number c : ℕ) → number ≤ jobs.begun → words_at (with_job jobs what).running number c ≡ words_at jobs.running number c
-other_job jobs what number c before =
-    ap (λ (b : Bool). option_map_or (λ (j : DropJob). words_of j.worker) (cond b (Some (record { worker = new_worker jobs what; known = None })) (find (λ j. j.worker.number == number) jobs.running)) (λ c. None) c)
+other_job : (jobs : Jobs) (what : Job) (paths : List (List ℕ)) (number c : ℕ) → number ≤ jobs.begun → words_at (with_job jobs what paths).running number c ≡ words_at jobs.running number c
+other_job jobs what paths number c before =
+    ap (λ (b : Bool). option_map_or (λ (j : DropJob). words_of j.worker) (cond b (Some (record { worker = new_worker jobs what; paths = paths; known = None })) (find (λ j. j.worker.number == number) jobs.running)) (λ c. None) c)
     (newer jobs.begun number before)
   where
     newer : (begun number : ℕ) → number ≤ begun → ((begun + 1) == number) ≡ false
     newer begun number before = grind (arith, nat_tests)
 
-same_words : (past : List Entry) (r : ℕ) (jobs : Jobs) (what : Job) → jobs.begun ≡ begun_count past r → Each (λ w. w.number ≤ begun_count past r) (works past r)
-    → SameWords past r (words_at jobs.running) (words_at (with_job jobs what).running)
-same_words past r jobs what counted numbers w c among =
-    other_job jobs what w.number c (subst (λ (n : ℕ). w.number ≤ n) (sym counted) (Each-member (λ (w : Work). w.number ≤ begun_count past r) (works past r) w numbers among))
+same_words : (past : List Entry) (r : ℕ) (jobs : Jobs) (what : Job) (paths : List (List ℕ)) → jobs.begun ≡ begun_count past r → Each (λ w. w.number ≤ begun_count past r) (works past r)
+    → SameWords past r (words_at jobs.running) (words_at (with_job jobs what paths).running)
+same_words past r jobs what paths counted numbers w c among =
+    other_job jobs what paths w.number c (subst (λ (n : ℕ). w.number ≤ n) (sym counted) (Each-member (λ (w : Work). w.number ≤ begun_count past r) (works past r) w numbers among))
 
 -- ---- it begins
 
-pub begin_comes : {K : Type 0} → WordLaws → (tells : K → StoreView) (g : DriverInput) (d : Driver) (r : ℕ) (n m : NodeView K) (was after : FleetView K) (number : ℕ) (job : Job)
-    → HasCome tells g d was → OneGoesOn r n m was after
+pub begin_comes : {K : Type 0} → WordLaws → (tells : K → StoreView) (g : DriverInput) (d : Driver) (r : ℕ) (n m : NodeView K) (was after : FleetView K) (number : ℕ) (job : Job) (paths : List (List ℕ))
+    → HasCome tells g d was → OneGoesOn r n m was after → paths ≡ paths_of (tree_at d.tree (length d.past)) job.key
     → AgreesAtDrops (state_at g d r) (nodes.state_of (set_up_of g d r) n.history) → AreWorks (set_up_of g d r) (nodes.state_of (set_up_of g d r) n.history) n.parts.jobs
     → Each (λ w. w.number ≤ begun_count d.past r) (works d.past r)
-    → number ≡ n.parts.jobs.begun + 1 → length n.parts.jobs.running < 4 → m ≡ begun (with_newest d n) number job
+    → number ≡ n.parts.jobs.begun + 1 → length n.parts.jobs.running < 4 → m ≡ begun (with_newest d n) number job paths
     → m.time ≤ 1000000000000 → m.count < 2 ^ 62 → StaysSound g d (begins r job d) → HasCome tells g (begins r job d) after
-begin_comes {K} laws tells g d r n m was after number job h step agrees are numbers numbered free is early few sound =
+begin_comes {K} laws tells g d r n m was after number job paths h step named agrees are numbers numbered free is early few sound =
     came laws tells g d (begins r job d) r n m was after h step (goes_begins r job d)
     (subst (λ (x : NodeView K). IsRaised tells g (begins r job d) r x) (sym is)
-    (begins_there tells g d r (with_newest d n) number job (raised_is tells g d r n (h.each r n step.before)) agrees are numbered free))
+    (begins_there tells g d r (with_newest d n) number job paths (raised_is tells g d r n (h.each r n step.before)) agrees are numbered free))
     (ap (λ (x : NodeView K). x.parts.links) is)
     (subst (λ (x : NodeView K). HeardSo (begins r job d).past r (words_at x.parts.jobs.running)) (sym is)
-    (subst (λ (b : Bool). HeardSo (if b then notes r (kinds.Begin (begun_count d.past r + 1) job) [] d else d).past r (words_at (with_job n.parts.jobs job).running))
+    (subst (λ (b : Bool). HeardSo (if b then notes r (kinds.Begin (begun_count d.past r + 1) job) [] d else d).past r (words_at (with_job n.parts.jobs job paths).running))
     (sym (has_slot g d r n.history n.parts.jobs agrees are free))
-    (laws.begun d.past (entry d r (kinds.Begin (begun_count d.past r + 1) job) []) r (begun_count d.past r + 1) job (words_at n.parts.jobs.running) (words_at (with_job n.parts.jobs job).running)
-    (eqb_refl r) refl refl (same_words d.past r n.parts.jobs job (same_begun g d r n.history n.parts.jobs agrees are) numbers) (h.each r n step.before).heard)))
+    (laws.begun d.past (entry d r (kinds.Begin (begun_count d.past r + 1) job) []) r (begun_count d.past r + 1) job (words_at n.parts.jobs.running) (words_at (with_job n.parts.jobs job paths).running)
+    (eqb_refl r) refl refl (same_words d.past r n.parts.jobs job paths (same_begun g d r n.history n.parts.jobs agrees are) numbers) (h.each r n step.before).heard)))
+    (λ sound'. subst (λ (x : NodeView K). Each (λ j. HasGiven (begins r job d) r (given_of j)) x.parts.jobs.running) (sym is)
+    (subst (λ (b : Bool). IsSound g (if b then noted else d) → Each (λ j. HasGiven (if b then noted else d) r (given_of j)) (with_job n.parts.jobs job paths).running) (sym (has_slot g d r n.history n.parts.jobs agrees are free)) given sound'))
     early few sound
+  where
+    noted : Driver
+    noted = notes r (kinds.Begin (begun_count d.past r + 1) job) [] d
+
+    which : n.parts.jobs.begun + 1 ≡ begun_count d.past r + 1
+    which = ap (λ (m : ℕ). m + 1) (same_begun g d r n.history n.parts.jobs agrees are)
+
+    -- the new job, with the paths that the tree has now; and those before
+    given : IsSound g noted → Each (λ j. HasGiven noted r (given_of j)) (with_job n.parts.jobs job paths).running
+    given sound' = (
+      (begun_now which, named ∙ sym (paths_now which)),
+      Each-weaker (λ j. HasGiven d r (given_of j)) (λ j. HasGiven noted r (given_of j)) (λ j. given_on laws g d noted r (entry d r (kinds.Begin (begun_count d.past r + 1) job) [] ∷ []) sound' refl refl (given_of j)) n.parts.jobs.running (h.each r n step.before).paths,
+    )
+      where
+        begun_now : n.parts.jobs.begun + 1 ≡ begun_count d.past r + 1 → n.parts.jobs.begun + 1 ≤ begun_count noted.past r
+        begun_now e = subst (λ (b : Bool). n.parts.jobs.begun + 1 ≤ (if b && true then begun_count d.past r + 1 else begun_count d.past r)) (sym (eqb_refl r)) (omega (arith, e))
+
+        paths_now : n.parts.jobs.begun + 1 ≡ begun_count d.past r + 1 → paths_at noted.tree noted.past r (n.parts.jobs.begun + 1) ≡ paths_of (tree_at d.tree (length d.past)) job.key
+        paths_now e =
+            ap (λ (b : Bool). if b then (if (begun_count d.past r + 1) == (n.parts.jobs.begun + 1) then paths_of (tree_at d.tree (length d.past)) job.key else paths_at d.tree d.past r (n.parts.jobs.begun + 1)) else paths_at d.tree d.past r (n.parts.jobs.begun + 1)) (eqb_refl r)
+            ∙ (ap (λ (x : ℕ). if (begun_count d.past r + 1) == x then paths_of (tree_at d.tree (length d.past)) job.key else paths_at d.tree d.past r x) e
+            ∙ (ap (λ (b : Bool). if b then paths_of (tree_at d.tree (length d.past)) job.key else paths_at d.tree d.past r (begun_count d.past r + 1)) (eqb_refl (begun_count d.past r + 1))))
 
 -- ---- it doesn't
 

@@ -6,7 +6,6 @@ pub mod Logging
 pub mod Walking
 pub mod Going
 pub mod Coming
-pub mod FirstFailing
 pub mod States
 pub mod Beginning
 pub mod Storing
@@ -31,6 +30,7 @@ pub mod TurnEnds
 pub mod Turned
 pub mod Idle
 pub mod Hearing
+pub mod Pathing
 pub mod Directs
 pub mod DirectWalks
 pub mod DirectContents

@@ -1,84 +1,47 @@
 -- The step that a node makes in a turn is the one that the driver's turn makes.
 use Rattle.std.proofs.Common.{◌≡◌, ℕ, ◌+◌, Bool, true, false, List, [], ◌∷◌, ◌++◌, Option, Some, None, refl, sym, ap, ◌∙◌, subst}
-use Rattle.std.specs.Prelude.{flat_map, if◌then◌else◌, is_some}
-use Rattle.std.specs.List.{list_any}
+use Rattle.std.specs.Prelude.{find, flat_map, is_some}
 use Rattle.std.specs.Option.{option_to_list}
-use Rattle.annex_base.specs.Calls.{same_call}
-use Rattle.annex_base.specs.declared.kinds.Call.{Call}
+use Rattle.annex_base.specs.Lists.{Each}
 use Rattle.link_ring.specs.Ends.{EndView}
 use Rattle.run_data.specs.declared.entry.EntryKind.{EntryKind}
-use Rattle.run_data.specs.declared.entry.EntryKind.TheVariants.{Fault}
 use Rattle.run_data.specs.declared.entry.FrameView.{FrameView}
 use Rattle.run_model.specs.Past.{now}
 use Rattle.node_model.specs.After.{AgreesAtDrops}
 use Rattle.node_model.specs.AnyTime.{all_ends}
 use Rattle.node_model.specs.Ends.{EndName}
-use Rattle.node_model.specs.Look.{Look, Effect, entry_of, failing_call}
+use Rattle.node_model.specs.Look.{Look, Effect, entry_of, failed_in}
 use Rattle.node_model.specs.SetUp.{SetUp}
 use Rattle.node_model.specs.Slots.{job_of}
 use Rattle.node_model.specs.State.{State}
 use Rattle.node_model.specs.Step.{step}
 use Rattle.node_ends.specs.Ends.{AreEnds, SeesEnds, hand_at, link_at, room_at}
-use Rattle.drop_worker.specs.Working.{failed_in}
 use Rattle.node_parts.specs.Parts.{AreParts}
-use Rattle.driver_model.specs.Driver.{Driver, DriverInput, frames_to, has_room, newest_count, set_up_of, state_at, without_old_flights}
-use Rattle.driver_model.specs.Finding.{FailsFirst, IsLookFor, MakesStep, driver_at_turn, failed_call}
+use Rattle.driver_model.specs.Driver.{Driver, DriverInput, fails_at, frames_to, has_room, newest_count, set_up_of, state_at, without_old_flights}
+use Rattle.driver_model.specs.Finding.{IsLookFor, MakesStep, driver_at_turn}
 use Rattle.driver_model.specs.Sound.{IsSound}
-use Rattle.driver_model.specs.Turning.{asked_key, at_hand, makes_fault, meets, part_right, part_size, plain_look, told_words}
+use Rattle.driver_model.specs.Turning.{asked_key, at_hand, part_right, part_size, plain_look, told_words}
 use Rattle.driver_model.specs.WordsRead.{AgreeWhereRead}
 use Rattle.link_flights.specs.Fleets.{AreOwnEndsIn}
-use Rattle.content_lock.specs.CallsMade.{AreRising}
+use Rattle.node_jobs.specs.Running.{HadPaths}
 use Rattle.repo_node.specs.Nodes as nodes
 use Rattle.repo_node.specs.Nodes.{NodeView}
 use Rattle.repo_node.specs.Stored.{StoreView}
-use Rattle.repo_node.specs.TurnCalls.{step_calls}
 use Rattle.repo_node.specs.Turning.{Finds, Looks, MakesAt, StepsBy, words_by}
 use Rattle.fleet_model.specs.Matches.{DecidesMatches}
 use Rattle.fleet_model.specs.Stores.{IsStoreOf}
-use Rattle.node_sessions.specs.Calls.{failed_of}
 use Rattle.fleet_model.proofs.Asking.{asks_the_drivers}
-use Rattle.fleet_model.proofs.FirstFailing.{fails_first}
+use Rattle.fleet_model.proofs.Failing.{first_of_calls}
 use Rattle.fleet_model.proofs.Noting.{IsRaised}
 use Rattle.fleet_model.proofs.PartAsked.{asks_no_job}
 use Rattle.fleet_model.proofs.StepFinds as finds
 use Rattle.fleet_model.proofs.States.{Carried, state_is, step_is}
 
--- the laws of looks and of calls
+-- the laws of looks
 pub record LookLaws : Type 0 where
   pub carried : Carried
   pub found : finds.Finds
   pub hand : (links : List EndView) (s : SetUp) (st : State) (d : Driver) (k : Look) → AreEnds links s st → AreOwnEndsIn d.flights s links → SeesEnds links s k → k.at_hand ≡ (plain_look s (without_old_flights st s.number d)).at_hand
-  pub fails : (s : SetUp) (st : State) (k : Look) → failed_of (step s st k) ≡ failing_call k.fails (step_calls s st k)
-  pub same : (s : SetUp) (st : State) (k : Look) (call : Option Call) → step_calls s st (record k { fails = call }) ≡ step_calls s st k
-  pub rising : (s : SetUp) (st : State) (k : Look) → AreRising (step_calls s st k)
-
--- ---- calls
-
--- the same by both names
-pub failed_alike : (kind : EntryKind) → failed_in kind ≡ failed_call kind
-failed_alike (Fault call by) = refl
-failed_alike kind = refl
-
-none_faulty : (o : Option Effect) → failed_of o ≡ None → makes_fault o ≡ true → ⊥
-none_faulty None e fault = cc
-none_faulty (Some m) e fault = go m.kind e fault
-  where
-    go : (kind : EntryKind) → failed_in kind ≡ None → Rattle.driver_model.specs.Turning.is_fault kind ≡ true → ⊥
-    go (Fault call by) e fault = cc
-    go kind e fault = cc
-
-met_is_made : LookLaws → (s : SetUp) (st st' : State) (k : Look) (c : Call) → ((k : Look) → step s st k ≡ step s st' k) → meets s st k c ≡ true → list_any (same_call c) (step_calls s st' k) ≡ true
-met_is_made laws s st st' k c alike met = go (list_any (same_call c) (step_calls s st' k)) refl
-  where
-    k' : Look
-    k' = record k { fails = Some c }
-
-    failed : failed_of (step s st' k') ≡ (if list_any (same_call c) (step_calls s st' k) then Some c else None)
-    failed = laws.fails s st' k' ∙ ap (λ (cs : List Call). if list_any (same_call c) cs then Some c else None) (laws.same s st' k (Some c))
-
-    go : (b : Bool) → list_any (same_call c) (step_calls s st' k) ≡ b → b ≡ true
-    go true e = refl
-    go false e = absurd (none_faulty (step s st' k') (failed ∙ ap (λ (b : Bool). if b then Some c else None) e) (ap makes_fault (sym (alike k')) ∙ met))
 
 -- ---- the step
 
@@ -99,9 +62,10 @@ store_at_turn g d r v is = record { contents = is.contents; parts = is.parts; fa
 pub node_makes_step : {K : Type 0} → LookLaws → (tells : K → StoreView) (g : DriverInput) (d : Driver) (r : ℕ) (n m : NodeView K) → IsSound g d → IsRaised tells g d r n → DecidesMatches g
     → AreParts (set_up_of g d r) (nodes.state_of (set_up_of g d r) n.history) n.parts → AreOwnEndsIn d.flights (set_up_of g d r) n.parts.links
     → ((a : EndName) → is_some (link_at n.parts.links a) ≡ true → has_room r (driver_at_turn g r d).flights a ≡ room_at n.parts.links a)
+    → Each (λ j. HadPaths (set_up_of g d r) j.worker.number j.paths) n.parts.jobs.running
     → ((made : Effect) → AgreeWhereRead (set_up_of g d r) (state_at g d r) made (words_by n made.kind) (told_words d.past r made.kind))
-    → (by : StepsBy step step_calls (tells n.keeper) (tells m.keeper) n m) → TurnMade g d r n m by.kind by.taken
-node_makes_step {K} laws tells g d r n m sound raised decides parts own rooms words by = record {
+    → (by : StepsBy step (tells n.keeper) (tells m.keeper) n m) → TurnMade g d r n m by.kind by.taken
+node_makes_step {K} laws tells g d r n m sound raised decides parts own rooms had words by = record {
   made = at.made;
   kind_is = at.same;
   taken_is = at.takes;
@@ -153,19 +117,20 @@ node_makes_step {K} laws tells g d r n m sound raised decides parts own rooms wo
     ends = record { at_hand = sym node_hand; room = λ a there. rooms a there };
     time = sym raised.entries.time;
     count = ap (λ (x : ℕ). x + 1) (sym raised.entries.count);
+    paths = had;
   }
 
   k0 : Look
   k0 = look_with by.part.part by.part.right
 
-  at0 : MakesAt step by.kind by.taken n m s k0
+  at0 : MakesAt step by.kind by.taken v (tells m.keeper) n m s k0
   at0 = by.makes s k0 raised.entries.setup (looks by.part.part by.part.right) (record { fails = refl; part = by.part.asked; words = refl })
 
   no_job : (f : FrameView) → by.taken ≡ Some f → f.up ≡ true → job_of by.kind ≡ None
   no_job f taken up = ap job_of (sym at0.same) ∙ asks_no_job laws.found s st' k0 at0.made f at0.makes (at0.takes ∙ taken) up
 
   key_of : Effect
-  key_of = record { kind = by.kind; taken = by.taken; sent = []; lines = [] }
+  key_of = record { kind = by.kind; taken = by.taken; sent = []; lines = []; calls = [] }
 
   k : Look
   k = look_with (part_size c r (asked_key st key_of)) (part_right g c r (asked_key st key_of))
@@ -179,14 +144,14 @@ node_makes_step {K} laws tells g d r n m sound raised decides parts own rooms wo
     words = refl;
   }
 
-  at : MakesAt step by.kind by.taken n m s k
+  at : MakesAt step by.kind by.taken v (tells m.keeper) n m s k
   at = by.makes s k raised.entries.setup (looks (part_size c r (asked_key st key_of)) (part_right g c r (asked_key st key_of))) finds_it
 
   steps : step s st k ≡ Some at.made
   steps = alike k ∙ at.makes
 
   key_is : asked_key st key_of ≡ asked_key st at.made
-  key_is = λ i. asked_key st (record { kind = sym at.same i; taken = sym at.takes i; sent = []; lines = [] })
+  key_is = λ i. asked_key st (record { kind = sym at.same i; taken = sym at.takes i; sent = []; lines = []; calls = [] })
 
   is_look : IsLookFor g c r s st at.made k
   is_look = record {
@@ -197,14 +162,11 @@ node_makes_step {K} laws tells g d r n m sound raised decides parts own rooms wo
     part_is = ap (part_size c r) key_is;
     right_is = ap (part_right g c r) key_is;
     words_are = subst (λ (kind : EntryKind). AgreeWhereRead s st at.made (words_by n kind) (told_words d.past r at.made.kind)) at.same (words at.made);
-    fails_is = failed_alike by.kind ∙ ap failed_call (sym at.same);
+    fails_is = ap failed_in (sym at.same);
   }
 
-  first : FailsFirst c r s st k (failed_call at.made.kind)
-  first = subst (FailsFirst c r s st k) (failed_alike by.kind ∙ ap failed_call (sym at.same))
-      (fails_first c r s st k (step_calls s st' k) (failed_in by.kind) v (tells m.keeper).failing (store_at_turn g d r v raised.store)
-      (by.calls s k raised.entries.setup (looks (part_size c r (asked_key st key_of)) (part_right g c r (asked_key st key_of))) finds_it)
-      (laws.rising s st' k) (λ call met. met_is_made laws s st st' k call alike met))
+  first : failed_in at.made.kind ≡ find (fails_at c r) at.made.calls
+  first = ap failed_in at.same ∙ first_of_calls c r at.made.calls v (failed_in by.kind) (tells m.keeper).failing (store_at_turn g d r v raised.store) at.calls
 
   entry : entry_of r k at.made ≡ entry_of r (plain_look s c) at.made
   entry = refl

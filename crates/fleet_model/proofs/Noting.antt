@@ -2,6 +2,7 @@
 use Rattle.std.proofs.Common.{◌≡◌, ℕ, ◌+◌, Bool, true, false, List, [], ◌∷◌, ◌++◌, Some, None, sym, ap, ◌∙◌, subst, le_of_eq}
 use Rattle.std.specs.Prelude.{cond, filter, if◌then◌else◌, reverse}
 use Rattle.std.proofs.lemmas.Grind.{reverse_onto}
+use Rattle.annex_base.specs.Lists.{Each}
 use Rattle.annex_base.proofs.Conditions.{eqb_refl}
 use Rattle.run_data.specs.declared.entry.Entry.{Entry}
 use Rattle.run_data.specs.declared.entry.EntryKind.{EntryKind}
@@ -9,12 +10,12 @@ use Rattle.union_merge.specs.Branch.{Files}
 use Rattle.run_model.specs.Logs.{branch, branch_after}
 use Rattle.run_model.specs.Past.{is_of, now}
 use Rattle.driver_model.specs.Driver.{Driver, DriverInput, entry, newest_count, notes, set_up_of}
-use Rattle.node_jobs.specs.Running.{words_at}
+use Rattle.node_jobs.specs.Running.{given_of, words_at}
 use Rattle.link_flights.specs.Heard.{HeardSo}
 use Rattle.repo_node.specs.Nodes as nodes
 use Rattle.repo_node.specs.Nodes.{NodeView, next_entry, with_entry}
 use Rattle.repo_node.specs.Walks.{over}
-use Rattle.fleet_model.specs.Fleets.{IsNodeOf}
+use Rattle.fleet_model.specs.Fleets.{HasGiven, IsNodeOf}
 use Rattle.fleet_model.specs.Stores.{IsStoreOf}
 use Rattle.repo_node.specs.Stored.{StoreView}
 
@@ -47,8 +48,9 @@ pub record IsRaised {K : Type 0} (tells : K → StoreView) (g : DriverInput) (d 
   pub entries : HasEntriesOf g d r n
   pub store : IsStoreOf d r (tells n.keeper)
 
-pub is_node : {K : Type 0} (tells : K → StoreView) (g : DriverInput) (d : Driver) (r : ℕ) (n : NodeView K) → IsRaised tells g d r n → HeardSo d.past r (words_at n.parts.jobs.running) → IsNodeOf tells g d r n
-is_node tells g d r n raised heard = record {
+pub is_node : {K : Type 0} (tells : K → StoreView) (g : DriverInput) (d : Driver) (r : ℕ) (n : NodeView K) → IsRaised tells g d r n → HeardSo d.past r (words_at n.parts.jobs.running)
+    → Each (λ j. HasGiven d r (given_of j)) n.parts.jobs.running → IsNodeOf tells g d r n
+is_node tells g d r n raised heard paths = record {
   setup = raised.entries.setup;
   history = raised.entries.history;
   branch = raised.entries.branch;
@@ -56,6 +58,7 @@ is_node tells g d r n raised heard = record {
   time = le_of_eq raised.entries.time;
   count = le_of_eq raised.entries.count;
   heard = heard;
+  paths = paths;
 }
 
 -- the driver may have changed beside its entries before

@@ -116,11 +116,11 @@ owed_takes_none s st k m [] e = absurd (cc)
 owed_takes_none s st k m (o ∷ os) e = go (failing_call k.fails (PutFile ∷ [])) e
   where
     written : Effect
-    written = record { kind = Log (Location o.key); taken = None; sent = []; lines = due s.repos st.lines (st.wall k.time) o }
+    written = record { kind = Log (Location o.key); taken = None; sent = []; lines = due s.repos st.lines (st.wall k.time) o; calls = PutFile ∷ [] }
 
-    go : (c : Option Call) → Some (unless c (λ call. record { kind = Fault call o.by; taken = None; sent = []; lines = [] }) written) ≡ Some m → m.taken ≡ None
+    go : (c : Option Call) → Some (unless c (λ call. record { kind = Fault call o.by; taken = None; sent = []; lines = []; calls = PutFile ∷ [] }) written) ≡ Some m → m.taken ≡ None
     go None g = let same : written ≡ m = cc in subst (λ (y : Effect). y.taken ≡ None) same refl
-    go (Some call) g = let same : record { kind = Fault call o.by; taken = None; sent = []; lines = [] } ≡ m = cc in subst (λ (y : Effect). y.taken ≡ None) same refl
+    go (Some call) g = let same : record { kind = Fault call o.by; taken = None; sent = []; lines = []; calls = PutFile ∷ [] } ≡ m = cc in subst (λ (y : Effect). y.taken ≡ None) same refl
 
 -- what a step of a repository whose jobs are drops took
 pub data Origin (s : SetUp) (st : State) (k : Look) (m : Effect) : Type 0 where

@@ -40,6 +40,7 @@ use Rattle.fleet_model.specs.Stopping.{OthersAreFew}
 use Rattle.fleet_model.specs.Turns.{StandsWell}
 use Rattle.fleet_model.proofs.Beginning.{has_slot}
 use Rattle.fleet_model.proofs.Noting.{IsRaised}
+use Rattle.fleet_model.proofs.Pathing.{had_there}
 use Rattle.fleet_model.proofs.Raising.{raised_is}
 use Rattle.fleet_model.proofs.States.{Carried, state_is, step_is}
 use Rattle.fleet_model.proofs.StopLaws.{StopLaws}
@@ -56,6 +57,7 @@ looks_plainly {K} laws tells g d r n was h at well = record {
   ends = record { at_hand = sym hand; room = rooms_agree laws tells g d r n was h at well };
   time = sym own.entries.time;
   count = ap (λ (x : ℕ). x + 1) (sym own.entries.count);
+  paths = had_there g d r n.parts.jobs.running (h.each r n at).paths;
 } where
   s : SetUp
   s = set_up_of g d r

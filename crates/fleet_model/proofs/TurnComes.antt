@@ -1,12 +1,12 @@
 -- A fleet whose node made a turn has come to where the driver is after its own.
-use Rattle.std.proofs.Common.{◌≡◌, ◌≢◌, ℕ, ◌<◌, ◌≤◌, ◌^◌, Bool, true, false, List, [], ◌∷◌, Option, Some, None, length, map, refl, sym, ap, ◌∙◌, subst}
+use Rattle.std.proofs.Common.{◌≡◌, ◌≢◌, ℕ, ◌<◌, ◌≤◌, ◌^◌, Bool, true, false, List, [], ◌∷◌, Option, Some, None, length, map, inl, inr, refl, sym, ap, ◌∙◌, subst}
 use Rattle.std.specs.Prelude.{◌==◌, flat_map, is_some, reverse, slice_get}
 use Rattle.std.proofs.lemmas.List.{reverse-append}
 use Rattle.std.proofs.lemmas.Option.{same_Some}
 use Rattle.std.specs.Option.{ForSome, option_map, option_to_list}
 use Rattle.std.proofs.lemmas.Bool.{eqb-false, eqb-true}
 use Rattle.annex_base.specs.Lists.{Each, Member}
-use Rattle.annex_base.proofs.Lists.{Member-filter_parts}
+use Rattle.annex_base.proofs.Lists.{Each-weaker, Member-filter_parts}
 use Rattle.annex_base.specs.declared.kinds.EntryStamp.{EntryStamp}
 use Rattle.annex_base.specs.declared.kinds.Word.{Word}
 use Rattle.annex_base.proofs.Conditions.{eqb_refl}
@@ -35,7 +35,7 @@ use Rattle.node_ends.specs.declared.sending.Sending.TheVariants as sendings
 use Rattle.node_ends.specs.Ends.{AreEnds, IsEndOf, hand_at, link_at, room_at, stands, wait_at}
 use Rattle.node_sessions.specs.Pieces.{IsPieceOf}
 use Rattle.node_sessions.specs.Sessions.{AreSessions}
-use Rattle.node_jobs.specs.Running.{words_at, work_now}
+use Rattle.node_jobs.specs.Running.{Jobs, given_of, words_at, work_now}
 use Rattle.node_parts.specs.Posting.{Posts, after_step as end_after_step, word_with}
 use Rattle.link_flights.specs.Fleets.{AreAllCarried, AreEndsIn, AreOwnEndsIn, PostsAsDefined}
 use Rattle.link_flights.specs.Flights.{HasAtHand, IsEndIn}
@@ -51,9 +51,8 @@ use Rattle.driver_model.specs.WordsRead.{AgreeWhereRead}
 use Rattle.repo_node.specs.Nodes as nodes
 use Rattle.repo_node.specs.Nodes.{NodeView}
 use Rattle.repo_node.specs.Stored.{StoreView}
-use Rattle.repo_node.specs.TurnCalls.{step_calls}
 use Rattle.repo_node.specs.Turning.{Adds, IsIdle, StepsBy, done_in, stamp_then, words_by}
-use Rattle.fleet_model.specs.Fleets.{AreUnused, FleetView, HasCome, links_at}
+use Rattle.fleet_model.specs.Fleets.{AreUnused, FleetView, HasCome, HasGiven, links_at}
 use Rattle.fleet_model.specs.Matches.{DecidesMatches}
 use Rattle.fleet_model.specs.Steps.{OneTurns, with_newest, with_links}
 use Rattle.fleet_model.specs.Stores.{IsTold, content_in}
@@ -67,6 +66,7 @@ use Rattle.fleet_model.proofs.Hearing.{WordLaws}
 use Rattle.fleet_model.proofs.Idle.{none_ready, turned_idly}
 use Rattle.fleet_model.proofs.Looking.{LookLaws, TurnMade, node_makes_step}
 use Rattle.fleet_model.proofs.Noting.{IsRaised}
+use Rattle.fleet_model.proofs.Pathing.{given_among, given_on, had_there}
 use Rattle.fleet_model.proofs.PiecesGiven.{piece_is_given}
 use Rattle.fleet_model.proofs.Raising.{raised_is}
 use Rattle.fleet_model.proofs.States.{state_is}
@@ -157,10 +157,10 @@ rooms_agree laws tells g d r n was h at well a there = go (link_at n.parts.links
 
 pub turn_comes : {K : Type 0} → TurnLaws → (tells : K → StoreView) (g : DriverInput) (d : Driver) (r : ℕ) (n m : NodeView K) (was after : FleetView K)
     → DecidesMatches g → HasCome tells g d was → OneTurns r n m was after → StandsWell g d r n
-    → Adds (map after_drop n.parts.links) (tells n.keeper) (tells m.keeper) (with_newest d n) m → StepsBy step step_calls (tells n.keeper) (tells m.keeper) (with_newest d n) m
+    → Adds (map after_drop n.parts.links) (tells n.keeper) (tells m.keeper) (with_newest d n) m → StepsBy step (tells n.keeper) (tells m.keeper) (with_newest d n) m
     → (AreSmallParts (tells n.keeper).parts → AreSmallParts (tells m.keeper).parts) → IsWhole tells m → m.time ≤ 1000000000000 → m.count < 2 ^ 62 → HasCome tells g (turn g r d) after
 turn_comes {K} laws tells g d r n m was after decides h one well ad by small whole early few =
-    turned laws.words tells g d r n m made was after h one is raised_m ends_after words_after heard_after unused_after small_made (λ before. large) early few (laws.stays g r d well.known)
+    turned laws.words tells g d r n m made was after h one is raised_m ends_after words_after heard_after paths_after unused_after small_made (λ before. large) early few (laws.stays g r d well.known)
   where
     s : SetUp
     s = set_up_of g d r
@@ -181,7 +181,7 @@ turn_comes {K} laws tells g d r n m was after decides h one well ad by small who
     ends_are = ends_stand laws tells g d r n was h one.before well
 
     tm : TurnMade g d r (with_newest d n) m by.kind by.taken
-    tm = node_makes_step laws.looks tells g d r (with_newest d n) m h.sound own decides well.parts (own_ends laws tells g d r n was h one.before well) (rooms_agree laws tells g d r n was h one.before well)
+    tm = node_makes_step laws.looks tells g d r (with_newest d n) m h.sound own decides well.parts (own_ends laws tells g d r n was h one.before well) (rooms_agree laws tells g d r n was h one.before well) (had_there g d r n.parts.jobs.running (h.each r n one.before).paths)
         (λ made. laws.read s d.past made (words_at n.parts.jobs.running) (words_by (with_newest d n) made.kind) (h.each r n one.before).heard (λ j outcome e c. ap (λ (kind : EntryKind). words_by (with_newest d n) kind c) e)) by
 
     made : Effect
@@ -344,6 +344,13 @@ turn_comes {K} laws tells g d r n m was after decides h one well ad by small who
         (tm.is_step.is_look.hand_is ∙ sym (dropped_hand laws.ends s st d (links_at was.nodes) well.known ends_were h.ends)) tm.is_step.steps refl refl refl (laws.jobs g d r h.sound)
         (laws.asked g (after_step g r d made) d.past e r sound_after past (eqb_refl r)) words_on (h.each r n one.before).heard)
 
+    paths_after : Each (λ j. HasGiven (after_step g r d made) r (given_of j)) m.parts.jobs.running
+    paths_after = Each-weaker (λ j. HasGiven d r (given_of j)) (λ j. HasGiven (after_step g r d made) r (given_of j)) (λ j. given_on laws.words g d (after_step g r d made) r (e ∷ []) sound_after past (turn_goes g d r made small_made (λ before. large)).tree (given_of j)) m.parts.jobs.running
+        (elim (ad.jobs) [
+          | inl same ↦ subst (λ (js : Jobs). Each (λ j. HasGiven d r (given_of j)) js.running) (sym same) (h.each r n one.before).paths
+          | inr goes ↦ given_among d r n.parts.jobs.running m.parts.jobs.running goes.1.given (h.each r n one.before).paths
+        ])
+
     unused_after : AreUnused (links_at after.nodes)
     unused_after = turn_unused r n m was after one h.selves
         (posted_unused r (map after_drop n.parts.links) m.parts.links sender ad.entry.kind ad.entry.taken ad.entry.sent ad.posts.posts away from
@@ -355,7 +362,7 @@ pub idle_comes : {K : Type 0} → TurnLaws → (tells : K → StoreView) (g : Dr
     → HasCome tells g d was → OneTurns r n m was after → StandsWell g d r n
     → m ≡ with_links (with_newest d n) (map after_drop n.parts.links) → IsIdle (with_newest d n) (set_up_of g d r) → HasCome tells g (turn g r d) after
 idle_comes {K} laws tells g d r n m was after h one well but idle =
-    turned_idly tells g d r n m was after h one is raised_m ends_after words_after heard_after unused_after (laws.stays g r d well.known)
+    turned_idly tells g d r n m was after h one is raised_m ends_after words_after heard_after paths_after unused_after (laws.stays g r d well.known)
   where
     s : SetUp
     s = set_up_of g d r
@@ -376,7 +383,7 @@ idle_comes {K} laws tells g d r n m was after h one well but idle =
     ends_were = subst (λ (links : List EndView). AreEnds links s st) (sym links_are) (ends_stand laws tells g d r n was h one.before well)
 
     is : turn g r d ≡ driver_at_turn g r d
-    is = laws.idle g r d (none_ready laws.looks tells g d r (with_newest d n) h.sound own well.parts (own_ends laws tells g d r n was h one.before well) (rooms_agree laws tells g d r n was h one.before well) idle)
+    is = laws.idle g r d (none_ready laws.looks tells g d r (with_newest d n) h.sound own well.parts (own_ends laws tells g d r n was h one.before well) (rooms_agree laws tells g d r n was h one.before well) (had_there g d r n.parts.jobs.running (h.each r n one.before).paths) idle)
 
     raised_m : IsRaised tells g d r m
     raised_m = subst (λ (x : NodeView K). IsRaised tells g d r x) (sym but)
@@ -394,6 +401,9 @@ idle_comes {K} laws tells g d r n m was after h one well but idle =
 
     heard_after : HeardSo d.past r (words_at m.parts.jobs.running)
     heard_after = subst (λ (x : NodeView K). HeardSo d.past r (words_at x.parts.jobs.running)) (sym but) (h.each r n one.before).heard
+
+    paths_after : Each (λ j. HasGiven d r (given_of j)) m.parts.jobs.running
+    paths_after = subst (λ (x : NodeView K). Each (λ j. HasGiven d r (given_of j)) x.parts.jobs.running) (sym but) (h.each r n one.before).paths
 
     unused_after : AreUnused (links_at after.nodes)
     unused_after = turn_unused r n m was after one h.selves

@@ -5,7 +5,6 @@ use Rattle.std.specs.Option.{option_map, option_map_or}
 use Rattle.std.proofs.lemmas.Bool.Decides.{nat_tests}
 use Rattle.std.proofs.lemmas.Option.{same_Some}
 use Rattle.annex_base.specs.Lists.{Member}
-use Rattle.annex_base.specs.declared.kinds.Call.{Call}
 use Rattle.annex_base.proofs.Conditions.{eqb_refl}
 use Rattle.object_store.specs.Stores.{Parts}
 use Rattle.link_ring.specs.Ends.{EndView, after_drop}
@@ -22,7 +21,7 @@ use Rattle.node_model.specs.Ends.{server_end, takes_at}
 use Rattle.node_model.specs.Found.{ByJob, ByOwed, BySession, IsJobEntry, JobTakes, IsSessionEntry, StepFound}
 use Rattle.node_model.specs.Jobs.{job_end}
 use Rattle.node_model.specs.JobStep.{turn_of}
-use Rattle.node_model.specs.Look.{Look, Effect, entry_of}
+use Rattle.node_model.specs.Look.{Look, Effect, entry_of, failed_in}
 use Rattle.node_model.specs.Rows.{same_owner}
 use Rattle.node_model.specs.Sessions as sessions
 use Rattle.node_model.specs.SessionStep.{here}
@@ -30,7 +29,7 @@ use Rattle.node_model.specs.SetUp.{SetUp, served_connections}
 use Rattle.node_model.specs.State.{State}
 use Rattle.drop_phases.specs.declared.phase.Phase.{Phase}
 use Rattle.drop_phases.specs.declared.phase.Phase.TheVariants as phases
-use Rattle.drop_worker.specs.Working.{failed_in, phase_as}
+use Rattle.drop_worker.specs.Working.{phase_as}
 use Rattle.node_jobs.specs.Running.{AreWorks, DropJob, Jobs, work_now}
 use Rattle.repo_node.specs.Turning.{branch_by}
 use Rattle.p2p_server.specs.declared.session.Session.{Session}
@@ -45,7 +44,7 @@ use Rattle.node_parts.specs.Stored.{parts_after_step}
 use Rattle.driver_model.specs.Driver.{Driver, DriverInput, adds, end_to, newest_count, set_up_of, state_at}
 use Rattle.driver_model.specs.Finding.{after_step, driver_at_turn}
 use Rattle.driver_model.specs.Turning as turning
-use Rattle.driver_model.specs.Turning.{plain_look, store_after}
+use Rattle.driver_model.specs.Turning.{plain_look}
 use Rattle.link_flights.specs.Flights.{HasAtHand}
 use Rattle.content_lock.specs.CallsMade.{fewer}
 use Rattle.repo_node.specs.Nodes as nodes
@@ -57,7 +56,7 @@ use Rattle.fleet_model.specs.StepStored.{parts_of_step}
 use Rattle.fleet_model.proofs.Asking.{asked_is}
 use Rattle.fleet_model.proofs.BytesTaken.{taken_bytes}
 use Rattle.fleet_model.proofs.DropTakes.{to_client}
-use Rattle.fleet_model.proofs.Looking.{TurnMade, failed_alike}
+use Rattle.fleet_model.proofs.Looking.{TurnMade}
 use Rattle.fleet_model.proofs.Noting.{IsRaised, own_more}
 use Rattle.fleet_model.proofs.StepFinds as finds
 use Rattle.fleet_model.proofs.StepOrigins.{to_server}
@@ -231,7 +230,7 @@ turned_node {K} laws tells g d r n m kind taken raised agrees parts hand ad tm =
       (ad.contents ∙ ap (λ (x : Entry). contents_after v.contents v.parts x.kind) entry)
       (ad.parts ∙ (ap (λ (x : Entry). parts_after_step (record n.parts { links = map after_drop n.parts.links }) (record { kind = x.kind; taken = x.taken; sent = x.sent }) v.parts) entry
       ∙ parts_are s st tm.look tm.made n r c v.parts tm.made.kind tm.made.sent sessions_are found (λ f e. hand f (sym tm.taken_is ∙ e))))
-      (ad.left ∙ ap (λ (x : Entry). option_map (fewer (failed_in x.kind)) v.failing) entry ∙ ap (λ (f : Option Call). option_map (fewer f) v.failing) (failed_alike tm.made.kind));
+      (ad.left ∙ ap (λ (x : Entry). option_map (fewer (failed_in x.kind)) v.failing) entry);
 } where
   s : SetUp
   s = set_up_of g d r

@@ -14,7 +14,7 @@ use Rattle.p2p_wire.specs.declared.message.Message.TheVariants.{Valid}
 use Rattle.p2p_wire.specs.Messages.{message_of}
 use Rattle.object_store.specs.Stores.{Parts, with_at}
 use Rattle.node_model.specs.Ends.{end_takes, frames}
-use Rattle.node_model.specs.Look.{Look, Effect}
+use Rattle.node_model.specs.Look.{Look, Effect, failed_in}
 use Rattle.node_model.specs.Sessions.{Doing, Takes, Took, line_in, message_said}
 use Rattle.node_model.specs.SessionStep.{Reply, here, on_frame}
 use Rattle.node_model.specs.SetUp.{SetUp}
@@ -22,7 +22,6 @@ use Rattle.node_model.specs.Slots.{job_of}
 use Rattle.node_model.specs.State.{State}
 use Rattle.node_model.specs.Step.{step}
 use Rattle.driver_model.specs.Driver.{Driver, drops_part, end_to, part_at, puts_part}
-use Rattle.driver_model.specs.Finding.{failed_call}
 use Rattle.driver_model.specs.Turning.{asked_key, filled_key, is_failure, is_valid, put_key, session_key, step_key, store_after, takes_frame, takes_into}
 use Rattle.content_lock.specs.CallsMade.{fewer}
 use Rattle.fleet_model.specs.Drops.{AreDrops}
@@ -212,7 +211,7 @@ module _ (s : SetUp) (st : State) (k : Look) (m : Effect) (d : Driver) (r : ℕ)
 
 pub step_stored : Finds → (s : SetUp) (st : State) (k : Look) (m : Effect) (d : Driver) (r : ℕ) (bytes : List ℕ) (v w : StoreView)
     → step s st k ≡ Some m → AreDrops st.works → IsStoreOf d r v
-    → w.contents ≡ contents_after v.contents v.parts m.kind → w.parts ≡ parts_of_step st m.taken bytes m.kind v.parts → w.failing ≡ option_map (fewer (failed_call m.kind)) v.failing
+    → w.contents ≡ contents_after v.contents v.parts m.kind → w.parts ≡ parts_of_step st m.taken bytes m.kind v.parts → w.failing ≡ option_map (fewer (failed_in m.kind)) v.failing
     → IsStoreOf (store_after st r m bytes m.kind d) r w
 step_stored laws s st k m d r bytes v w e drops is = go m.kind refl
   where
@@ -220,7 +219,7 @@ step_stored laws s st k m d r bytes v w e drops is = go m.kind refl
     from = origin_of s st k m drops e
 
     go : (kind : EntryKind) → m.kind ≡ kind
-        → w.contents ≡ contents_after v.contents v.parts kind → w.parts ≡ parts_of_step st m.taken bytes kind v.parts → w.failing ≡ option_map (fewer (failed_call kind)) v.failing
+        → w.contents ≡ contents_after v.contents v.parts kind → w.parts ≡ parts_of_step st m.taken bytes kind v.parts → w.failing ≡ option_map (fewer (failed_in kind)) v.failing
         → IsStoreOf (store_after st r m bytes kind d) r w
     go (Gain by size key) same contents parts failing =
         part_committed d r key v w is contents (parts ∙ gain_parts s st k m d r bytes v w is by size key (gain_found s st k m by size key drops (laws.found s st k m e) same)) (failing ∙ none_fewer v.failing)

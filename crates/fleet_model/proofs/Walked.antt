@@ -15,7 +15,7 @@ use Rattle.node_model.specs.Files.{compact_lines}
 use Rattle.run_model.specs.Logs.{branch}
 use Rattle.driver_model.specs.Driver.{Driver, DriverInput, fails_at}
 use Rattle.driver_model.specs.ScriptSteps as script
-use Rattle.driver_model.specs.ScriptSteps.{compacts, compacts_files, faults, is_nil, merges_files, news}
+use Rattle.driver_model.specs.ScriptSteps.{compacts, faults, is_nil, merges_files, news}
 use Rattle.content_lock.specs.CallsMade.{MakesCalls, fewer}
 use Rattle.repo_node.specs.Calls.{lacks_some, shrinks, to_compact, to_merge, to_write}
 use Rattle.repo_node.specs.Logs.{with_log}

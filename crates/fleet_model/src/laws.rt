@@ -18,6 +18,8 @@ ghost use Rattle.run_data.specs.declared.entry.LogFile.{LogFile};
 ghost use Rattle.run_data.specs.declared.entry.LogFile.TheVariants.{Of};
 ghost use Rattle.run_data.specs.declared.job.Job.{Job};
 ghost use Rattle.run_model.specs.Past.{begun_count, now};
+ghost use Rattle.run_model.specs.Run.{tree_at};
+ghost use Rattle.annex_key.specs.Tree.{paths_of};
 ghost use Rattle.run_model.specs.States.{works};
 ghost use Rattle.node_jobs.specs.Acting.{with_job};
 ghost use Rattle.node_parts.specs.Parts.{AreParts};
@@ -34,7 +36,6 @@ ghost use Rattle.repo_node.specs.Nodes.{IsState, NodeView, state_of, told_of, wi
 ghost use Rattle.repo_node.specs.Placing.{IsPlaced};
 ghost use Rattle.repo_node.specs.Refusals.{RefusesSo};
 ghost use Rattle.repo_node.specs.Stored.{StoreView};
-ghost use Rattle.repo_node.specs.TurnCalls.{step_calls};
 ghost use Rattle.repo_node.specs.Turning.{Adds, IsIdle, StepsBy};
 ghost use Rattle.repo_node.specs.Walks.{compact_files, merge_files, over};
 ghost use Rattle.node_past.specs.declared.refused.NodeRefused.TheVariants as refusals;
@@ -48,13 +49,13 @@ ghost use Rattle.fleet_model.specs.Stores.{IsStoreOf};
 ghost use Rattle.fleet_model.specs.Turns.{IsWhole, StandsWell};
 
 use driver_model::{drivers_stay_sound, sound_drivers_keep_their_jobs, turns_are_found};
+use growth_laws::jobs_keep_their_paths;
 use link_flights::{
     dropped_ends_keep_their_flights, ends_begin_without_flights, ends_in_flight_are_carried,
     heard_words_are_told, looks_see_the_flights, steps_are_posted, turns_keep_all_ends,
     words_stay_with_frames,
 };
 use node_ends::ends_are_there;
-use repo_node::steps_tell_the_failed_call;
 use run_laws::carried_states_agree;
 use step_facts::steps_find_their_cause;
 
@@ -110,9 +111,9 @@ pub fn fleets_do_lines<K>()
         → IsState (set_up_of g d r) n.parts n.branch n.owed (told_of (tells n.keeper).contents (tells n.keeper).parts) (state_of (set_up_of g d r) n.history)
         → StopsAt to_place_part key bytes (tells n.keeper).contents (tells m.keeper).contents (tells n.keeper).parts (tells m.keeper).parts (tells n.keeper).failing (tells m.keeper).failing refusals.StoreFault (with_newest d n) m
         → length bytes < 2 ^ 62 → m.time ≤ 1000000000000 → m.count < 2 ^ 62 → StaysSound g d (sets_part g r key bytes d) → HasCome tells g (sets_part g r key bytes d) after }
-    ensures job { (tells : K → StoreView) (g : DriverInput) (d : Driver) (r : ℕ) (n m : NodeView K) (was after : FleetView K) (number : ℕ) (job : Job) → HasCome tells g d was → OneGoesOn r n m was after
-        → AreParts (set_up_of g d r) (state_of (set_up_of g d r) n.history) n.parts → number ≡ n.parts.jobs.begun + 1 → length n.parts.jobs.running < 4
-        → m ≡ record (with_entry (with_newest d n) n.keeper n.branch (kinds.Begin number job) []) { parts = record n.parts { jobs = with_job n.parts.jobs job } }
+    ensures job { (tells : K → StoreView) (g : DriverInput) (d : Driver) (r : ℕ) (n m : NodeView K) (was after : FleetView K) (number : ℕ) (job : Job) (paths : List (List ℕ)) → HasCome tells g d was → OneGoesOn r n m was after
+        → paths ≡ paths_of (tree_at d.tree (length d.past)) job.key → AreParts (set_up_of g d r) (state_of (set_up_of g d r) n.history) n.parts → number ≡ n.parts.jobs.begun + 1 → length n.parts.jobs.running < 4
+        → m ≡ record (with_entry (with_newest d n) n.keeper n.branch (kinds.Begin number job) []) { parts = record n.parts { jobs = with_job n.parts.jobs job paths } }
         → m.time ≤ 1000000000000 → m.count < 2 ^ 62 → StaysSound g d (begins r job d) → HasCome tells g (begins r job d) after }
     ensures no_slot { (tells : K → StoreView) (g : DriverInput) (d : Driver) (r : ℕ) (n m : NodeView K) (was after : FleetView K) (job : Job) → HasCome tells g d was → OneGoesOn r n m was after
         → AreParts (set_up_of g d r) (state_of (set_up_of g d r) n.history) n.parts → 4 ≤ length n.parts.jobs.running → m ≡ with_newest d n
@@ -123,7 +124,7 @@ pub fn fleets_do_lines<K>()
     ensures wait { (tells : K → StoreView) (g : DriverInput) (d : Driver) (milliseconds : ℕ) (f f' : FleetView K) → f'.nodes ≡ f.nodes
         → f'.run ≡ record f.run { entries = f.run.entries ++ record { time = now d.past + milliseconds; count = newest_count d.past + 1; repo = None; kind = kinds.Wait milliseconds; taken = None; sent = []; lines = [] } ∷ [] }
         → now d.past + milliseconds ≤ 1000000000000 → newest_count d.past + 1 < 2 ^ 62 → StaysSound g d (waits milliseconds d) → HasCome tells g d f → HasCome tells g (waits milliseconds d) f' }
-    ensures path { (tells : K → StoreView) (g : DriverInput) (d : Driver) (path key : List ℕ) (f f' : FleetView K) → f'.nodes ≡ f.nodes
+    ensures entered { (tells : K → StoreView) (g : DriverInput) (d : Driver) (path key : List ℕ) (f f' : FleetView K) → f'.nodes ≡ f.nodes
         → f'.run ≡ record f.run { tree = f.run.tree ++ record { place = length f.run.entries; path = path; key = key } ∷ [] } → StaysSound g d (enters path key d)
         → HasCome tells g d f → HasCome tells g (enters path key d) f' }
     ensures mark { (tells : K → StoreView) (g : DriverInput) (d : Driver) (f f' : FleetView K) → f'.nodes ≡ f.nodes → f'.run ≡ record f.run { marks = f.run.marks ++ length f.run.entries ∷ [] }
@@ -132,6 +133,8 @@ pub fn fleets_do_lines<K>()
     // Laws: an entry of a script keeps the words beside frames, and those that jobs were told, as the past has them.
     words_stay_with_frames();
     heard_words_are_told();
+    // A law: the paths of a job's key are those of its beginning.
+    jobs_keep_their_paths();
     // Laws: a node's state agrees with the driver's, whose jobs have the numbers of their beginnings.
     carried_states_agree();
     sound_drivers_keep_their_jobs();
@@ -142,7 +145,7 @@ pub fn fleets_do_lines<K>()
 pub fn fleets_take_turns<K>()
     ensures moved { (tells : K → StoreView) (g : DriverInput) (d : Driver) (r : ℕ) (n m : NodeView K) (was after : FleetView K)
         → DecidesMatches g → HasCome tells g d was → OneTurns r n m was after → StandsWell g d r n
-        → Adds (map after_drop n.parts.links) (tells n.keeper) (tells m.keeper) (with_newest d n) m → StepsBy step step_calls (tells n.keeper) (tells m.keeper) (with_newest d n) m
+        → Adds (map after_drop n.parts.links) (tells n.keeper) (tells m.keeper) (with_newest d n) m → StepsBy step (tells n.keeper) (tells m.keeper) (with_newest d n) m
         → (AreSmallParts (tells n.keeper).parts → AreSmallParts (tells m.keeper).parts) → IsWhole tells m → m.time ≤ 1000000000000 → m.count < 2 ^ 62 → HasCome tells g (turn g r d) after }
     ensures idle { (tells : K → StoreView) (g : DriverInput) (d : Driver) (r : ℕ) (n m : NodeView K) (was after : FleetView K)
         → HasCome tells g d was → OneTurns r n m was after → StandsWell g d r n
@@ -156,16 +159,15 @@ pub fn fleets_take_turns<K>()
     dropped_ends_keep_their_flights();
     turns_keep_all_ends();
     steps_are_posted();
-    // Laws: the words beside frames, and those that jobs were told, stay those of the past.
+    // Laws: the words beside frames, and those that jobs were told, stay those of the past, and so do the paths of jobs.
     words_stay_with_frames();
     heard_words_are_told();
+    jobs_keep_their_paths();
     // Laws: all ends are listed; the driver's turn is the step that the node makes, and leaves it sound, with its jobs.
     ends_are_there();
     turns_are_found();
     drivers_stay_sound();
     sound_drivers_keep_their_jobs();
-    // A law: a step fails of the call that its look has fail, where that is one of its calls.
-    steps_tell_the_failed_call();
 }
 
 /// A fleet that has come to where the driver is comes to where the driver is after a turn, once a node, told of the newest entry, had no

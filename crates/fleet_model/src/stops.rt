@@ -31,12 +31,12 @@ use driver_model::{
     sound_drivers_keep_their_jobs, starts_of_steps_stay_sound, steps_add_own_entries,
     turns_are_found,
 };
+use growth_laws::jobs_keep_their_paths;
 use link_flights::{
     dropped_ends_keep_their_flights, heard_words_are_told, looks_see_the_flights, steps_are_posted,
     turns_keep_all_ends, words_stay_with_frames,
 };
 use node_ends::ends_are_there;
-use repo_node::steps_tell_the_failed_call;
 use run_laws::carried_states_agree;
 use step_facts::steps_find_their_cause;
 
@@ -82,9 +82,9 @@ pub fn fleets_stop_at_full_histories<K>()
     steps_are_posted();
     words_stay_with_frames();
     heard_words_are_told();
+    jobs_keep_their_paths();
     ends_are_there();
     turns_are_found();
     drivers_stay_sound();
     sound_drivers_keep_their_jobs();
-    steps_tell_the_failed_call();
 }

@@ -5,18 +5,13 @@ use Rattle.std.specs.List.{range_with_len}
 use Rattle.std.specs.Option.{ForSome}
 use Rattle.std.proofs.lemmas.Option.{same_Some, slice_get_within}
 use Rattle.annex_base.proofs.Lists.{slice_get-within}
-use Rattle.log_lines.specs.declared.entry.LogKind.{LogKind}
-use Rattle.log_lines.specs.declared.entry.Topic.TheVariants as topics
-use Rattle.log_lines.specs.declared.entry.Value.{Value}
 use Rattle.run_data.specs.Histories.{most_entries}
-use Rattle.run_data.specs.Repos.{id_of}
 use Rattle.run_data.specs.declared.run.Run.{Run}
 use Rattle.node_model.specs.SetUp.{SetUp}
 use Rattle.driver_model.specs.Driver.{Driver, DriverInput, set_up_of}
 use Rattle.driver_model.specs.Driving.{turns}
 use Rattle.driver_model.specs.Limits.{StopsAtFull}
 use Rattle.driver_model.specs.Rounds.{AfterRounds, after_round, is_settled, most_rounds, round, settles, turns_of}
-use Rattle.driver_model.specs.ScriptSteps.{sets}
 use Rattle.driver_model.specs.Sound.{OnlyAdds}
 use Rattle.driver_model.specs.Turning.{turn}
 use Rattle.repo_node.specs.Nodes as nodes
@@ -137,13 +132,6 @@ ends_late tells P step next was mid after goes ends g d stands = ends g (step g 
 pub ends_as : {K : Type 0} (tells : K → StoreView) (P : DriverInput → Driver → Run → Type 0) (step step' : DriverInput → Driver → Driver) (was after : FleetView K) → ((g : DriverInput) (d : Driver) → IsAtDriver tells g d was → step g d ≡ step' g d) → Ends tells P step was after
     → Ends tells P step' was after
 ends_as tells P step step' was after same ends g d stands = subst (λ (x : Driver). P g x after.run) (same g d stands) (ends g d stands)
-
--- a setting of a repository by its identifier, with a copy of the value
-pub sets_end_at : {K : Type 0} (tells : K → StoreView) (P : DriverInput → Driver → Run → Type 0) (r target : ℕ) (was after : FleetView K) (kind : LogKind) (id : List ℕ) (value value' : Value) → id ≡ id_of was.run.repos target → value' ≡ value
-    → Ends tells P (λ g d. sets g r kind (topics.Repo id) value' d) was after → Ends tells P (λ g d. sets g r kind (topics.Repo (id_of g.repos target)) value d) was after
-sets_end_at tells P r target was after kind id value value' is same ends =
-    ends_as tells P (λ g d. sets g r kind (topics.Repo id) value' d) (λ g d. sets g r kind (topics.Repo (id_of g.repos target)) value d) was after
-    (λ g d stands i. sets g r kind (topics.Repo ((is ∙ ap (λ (run : Run). id_of run.repos target) stands.come.run) i)) (same i) d) ends
 
 -- what holds after so many steps, and is kept by each, holds after more
 still : (Holds : ℕ → Type 0) (a : ℕ) → ((n : ℕ) → Holds n → Holds (suc n)) → Holds a → (b n : ℕ) → n ≡ a + b → Holds n

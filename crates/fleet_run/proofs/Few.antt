@@ -7,9 +7,6 @@ use Rattle.annex_base.specs.declared.kinds.Call.TheVariants as calls
 use Rattle.log_lines.specs.declared.entry.LogKind.{LogKind}
 use Rattle.log_lines.specs.declared.entry.Topic.{Topic}
 use Rattle.log_lines.specs.declared.entry.Value.{Value}
-use Rattle.log_lines.specs.declared.entry.LogKind.TheVariants as log_kinds
-use Rattle.log_lines.specs.declared.entry.Topic.TheVariants as topics
-use Rattle.log_lines.specs.declared.entry.Value.TheVariants as values
 use Rattle.union_merge.specs.Branch.{Files}
 use Rattle.run_data.specs.declared.entry.Entry.{Entry}
 use Rattle.run_data.specs.declared.entry.EntryKind.{EntryKind}
@@ -22,7 +19,6 @@ use Rattle.run_data.specs.declared.entry.LogFile.{LogFile}
 use Rattle.run_data.specs.declared.entry.LogFile.TheVariants.{Of}
 use Rattle.run_data.specs.declared.job.Job.{Job}
 use Rattle.run_data.specs.Files.{file_of}
-use Rattle.run_data.specs.Repos.{id_of}
 use Rattle.run_model.specs.Logs.{branch}
 use Rattle.run_model.specs.Past.{begun_count}
 use Rattle.run_model.specs.States.{works}
@@ -31,16 +27,16 @@ use Rattle.node_model.specs.Sessions.{line_in, message_said}
 use Rattle.node_model.specs.SetUp.{SetUp}
 use Rattle.node_model.specs.State.{State}
 use Rattle.node_model.specs.Step.{step}
+use Rattle.script_commands.specs.declared.command.Action.{Action}
+use Rattle.script_commands.specs.declared.command.Action.TheVariants as actions
 use Rattle.script_commands.specs.declared.command.Command.{Command}
 use Rattle.script_commands.specs.declared.command.Command.TheVariants as commands
 use Rattle.driver_model.specs.Driver.{Driver, DriverInput, adds, drops_part, fails_at, newest_count, notes, puts_part, set_up_of, state_at, without_old_flights}
-use Rattle.driver_model.specs.Driving.{does, turns}
+use Rattle.driver_model.specs.Driving.{acts, does, turns}
 use Rattle.driver_model.specs.Rounds.{AfterRounds, after_round, goes_round, is_settled, most_rounds, numbers, round, rounds, settles, turns_of}
-use Rattle.driver_model.specs.ScriptSteps.{begins, compacts, compacts_files, faults, fills_up, gains, has, is_busy, is_nil, logs, logs_some, merges, merges_files, news, sets, setting_line, shrinks, unknown_lines, unless_fails, waits, writes}
+use Rattle.driver_model.specs.ScriptSteps.{begins, compacts, compacts_files, enters, faults, fills_up, gains, has, is_busy, is_nil, logs, logs_some, merges, merges_files, news, sets, setting_line, shrinks, unknown_lines, unless_fails, waits, writes}
 use Rattle.driver_model.specs.Turning.{asked_key, bytes_taken, is_failure, is_valid, look_for, looks, makes, plain_look, store_after, takes_frame, takes_into, turn}
-use Rattle.driver_model.specs.Lines as driver
-use Rattle.driver_model.specs.Lines.{Line}
-use Rattle.driver_script.specs.Lines.{if_built, is_added, is_local_drop, is_plain, is_plain_repo, is_shown, line_of}
+use Rattle.driver_script.specs.Lines.{is_built, is_built_action}
 use Rattle.fleet_model.specs.Settling.{goes_rounds}
 use Rattle.fleet_run.specs.AtDriver.{IsFew, is_wait}
 
@@ -225,10 +221,6 @@ module _ (most : ℕ) where
 
 -- ---- lines
 
--- what the driver does at a line, if it is one
-abbrev pub does_some : DriverInput → Option Line → Driver → Driver
-does_some g o d = option_map_or (λ line. does g line d) o d
-
 module _ (most : ℕ) (g : DriverInput) (d : Driver) (few : IsFew most d.past) where
   -- with a wait more
   abbrev FewMore : Driver → Type 0
@@ -240,35 +232,26 @@ module _ (most : ℕ) (g : DriverInput) (d : Driver) (few : IsFew most d.past) w
   quiet : FewMore d
   quiet = no_wait d.past few
 
-  setting : (r : ℕ) (kind : LogKind) (topic : Topic) (value : Value) → FewMore (sets g r kind topic value d)
-  setting r kind topic value = no_wait _ (sets_few most g r kind topic value d few)
+  action_few : (a : Action) → is_built_action a ≡ true → FewMore (acts g a d)
+  action_few (actions.Have r key content) built = no_wait _ (has_few most g r key content d few)
+  action_few (actions.Add r path key content) built = no_wait _ (has_few most g r key content (enters path key d) few)
+  action_few (actions.File path key) built = quiet
+  action_few (actions.Set r kind topic value) built = no_wait _ (sets_few most g r kind topic value d few)
+  action_few (actions.Raw r file line) built = no_wait _ (writes_few most r file line d few)
+  action_few (actions.Merge r other) built = no_wait _ (merges_few most r other d few)
+  action_few (actions.Compact r) built = no_wait _ (compacts_few most r d few)
+  action_few (actions.Begin r job) built = no_wait _ (begins_few most r job d few)
+  action_few (actions.Run r job) built = no_wait _ (settles_few most g (begins r job d) (begins_few most r job d few))
+  action_few (actions.Turns r n) built = no_wait _ (turns_few most g r n d few)
+  action_few actions.Settle built = no_wait _ (settles_few most g d few)
+  action_few (actions.Wait milliseconds) built = waits_few most milliseconds d few
+  action_few (actions.Fail r call) built = quiet
+  action_few action built = absurd (cc)
 
-  if_done : (b : Bool) (line : Line) → FewMore (does g line d) → FewMore (does_some g (if_built b line) d)
-  if_done true line done = done
-  if_done false line done = quiet
-
-  -- a command adds one wait at most
-  pub does_few : (command : Command) → FewMore (does_some g (line_of g.repos command) d)
-  does_few (commands.Repo name id offset version locks) = if_done (is_plain_repo version locks) driver.Shows quiet
-  does_few (commands.Numcopies r n) = setting r log_kinds.Numcopies topics.Whole (values.Number n)
-  does_few (commands.Mincopies r n) = setting r log_kinds.Mincopies topics.Whole (values.Number n)
-  does_few (commands.Trust r target level) = setting r log_kinds.Trust (topics.Repo (id_of g.repos target)) (values.Level level)
-  does_few (commands.Describe r target text) = setting r log_kinds.Uuid (topics.Repo (id_of g.repos target)) (values.Text text)
-  does_few (commands.Group r target groups) = setting r log_kinds.Group (topics.Repo (id_of g.repos target)) (values.Groups groups)
-  does_few (commands.Log r file line) = if_done (is_added file) (driver.Raw r file line) (no_wait _ (writes_few most r file line d few))
-  does_few (commands.Have r key content) = no_wait _ (has_few most g r key content d few)
-  does_few (commands.Run r job) = if_done (is_local_drop job) (driver.Run r job) (no_wait _ (settles_few most g (begins r job d) (begins_few most r job d few)))
-  does_few (commands.Begin r job) = if_done (is_local_drop job) (driver.Begin r job) (no_wait _ (begins_few most r job d few))
-  does_few (commands.Turn r n) = no_wait _ (turns_few most g r n d few)
-  does_few commands.Settle = no_wait _ (settles_few most g d few)
-  does_few (commands.Merge r other) = no_wait _ (merges_few most r other d few)
-  does_few (commands.Compact r) = no_wait _ (compacts_few most r d few)
-  does_few (commands.Wait milliseconds) = waits_few most milliseconds d few
-  does_few (commands.Fail r call) = quiet
-  does_few (commands.ShowPresence k) = if_done (is_plain k) driver.Shows quiet
-  does_few (commands.ShowClaims r k) = if_done (is_plain k) driver.Shows quiet
-  does_few (commands.ShowLocation r k) = if_done (is_plain k) driver.Shows quiet
-  does_few (commands.ShowLog r file) = if_done (is_shown file) driver.Shows quiet
-  does_few (commands.ShowNumbers r path) = if_done (is_none path) driver.Shows quiet
-  does_few (commands.ShowRow r k) = if_done (is_plain k) driver.Shows quiet
-  does_few command = quiet
+  -- a command that is built adds one wait at most
+  pub does_few : (command : Command) → is_built command ≡ true → FewMore (does g command d)
+  does_few (commands.Does action) built = action_few action built
+  does_few (commands.Par lines) built = absurd (cc)
+  does_few (commands.Repo name id offset version locks) built = quiet
+  does_few (commands.Damage r key content) built = quiet
+  does_few (commands.Shows what) built = quiet

@@ -37,7 +37,7 @@ use Rattle.node_past.specs.declared.refused.NodeRefused.TheVariants as refusals
 use Rattle.fleet_model.specs.Fleets.{FleetView, HasCome, IsNodeOf}
 use Rattle.fleet_model.specs.Stopping.{OthersAreFew}
 use Rattle.fleet_model.specs.Steps.{OneGoesOn, with_newest}
-use Rattle.fleet_run.specs.AtDriver.{EndsAtFull, HasRoom, IsAtDriver, OnlyAddsEntries, WaitsForRoom}
+use Rattle.fleet_run.specs.AtDriver.{EndsAtFull, HasRoom, IsAtDriver, OnlyAddsBehind, OnlyAddsEntries, WaitsForRoom}
 use Rattle.fleet_run.specs.Telling.{AreFew}
 use Rattle.fleet_run.proofs.Beginning.{BeginsJob, has_parts, none_left}
 use Rattle.fleet_run.proofs.Called.{IsCalled, IsStep, branch_stays, is_step, with_more}
@@ -78,6 +78,17 @@ rest_where_same was after same = ([], same ∙ (λ i. record was.run { entries =
 pub rest_then : {K : Type 0} (was mid after : FleetView K) → OnlyAddsEntries was mid → OnlyAddsEntries mid after → OnlyAddsEntries was after
 rest_then was mid after first second =
     (first.0 ++ second.0, second.1 ∙ (ap (λ (r : Run). with_more r second.0) first.1 ∙ (λ i. record was.run { entries = append_assoc was.run.entries first.0 second.0 i })))
+
+-- the same of its tree
+pub behind : {K : Type 0} (was after : FleetView K) → OnlyAddsEntries was after → OnlyAddsBehind was after
+behind was after rest = (rest.0, [], rest.1 ∙ (λ i. record was.run { entries = was.run.entries ++ rest.0; tree = sym (append-nil was.run.tree) i }))
+
+pub behind_same : {K : Type 0} (was mid after : FleetView K) → OnlyAddsBehind was mid → after.run ≡ mid.run → OnlyAddsBehind was after
+behind_same was mid after rest same = (rest.0, rest.1, same ∙ rest.2)
+
+pub behind_on : {K : Type 0} (was mid after : FleetView K) → OnlyAddsBehind was mid → OnlyAddsEntries mid after → OnlyAddsBehind was after
+behind_on was mid after first second =
+    (first.0 ++ second.0, first.1, second.1 ∙ (ap (λ (r : Run). with_more r second.0) first.2 ∙ (λ i. record was.run { entries = append_assoc was.run.entries first.0 second.0 i; tree = was.run.tree ++ first.1 })))
 
 -- its other parts are as they were
 pub only_entries : {K : Type 0} (was after : FleetView K) → OnlyAddsEntries was after → after.run ≡ record was.run { entries = after.run.entries }
@@ -198,9 +209,9 @@ pub record RefusesJob {K : Type 0} (n m : NodeView K) : Type 0 where
   pub full : length n.history ≡ most_entries
   pub free : length n.parts.jobs.running < 4
 
-pub refuses_job : {K : Type 0} (job : Job) (done : Result ℕ BeginRefused) (n m : NodeView K) → done ≡ Err begin_refusals.Full → BeginsJob job done n m → (IsErrOf done begin_refusals.Full → length n.history ≡ most_entries)
+pub refuses_job : {K : Type 0} (job : Job) (paths : List (List ℕ)) (done : Result ℕ BeginRefused) (n m : NodeView K) → done ≡ Err begin_refusals.Full → BeginsJob job paths done n m → (IsErrOf done begin_refusals.Full → length n.history ≡ most_entries)
     → RefusesJob n m
-refuses_job {K} job done n m is so full = record {
+refuses_job {K} job paths done n m is so full = record {
   node = subst (λ (a : Result ℕ BeginRefused). OnErr a (m ≡ n)) is so.err;
   full = full is;
   free = so.free (λ other. full_or_not (sym is ∙ other));

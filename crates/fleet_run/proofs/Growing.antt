@@ -118,9 +118,9 @@ place_grows tells key bytes (Ok x) n m is = go is.placed.taken is.placed.node
 place_grows tells key bytes (Err e) n m is =
     onward n (node_at is.stops.call key bytes n) m (come_grows is.stops.call key bytes n) (refusal_grows e is.stops.call (node_at is.stops.call key bytes n) m is.stops.refused)
 
-pub begin_grows : {K : Type 0} (job : Job) (done : Result ℕ BeginRefused) (n m : NodeView K) → BeginsJob job done n m → Grows n m
-begin_grows job (Ok number) n m is = subst (λ x. Grows n x) (sym is.ok) (entry_grows n n.keeper n.branch _ [])
-begin_grows job (Err e) n m is = same n m is.err
+pub begin_grows : {K : Type 0} (job : Job) (paths : List (List ℕ)) (done : Result ℕ BeginRefused) (n m : NodeView K) → BeginsJob job paths done n m → Grows n m
+begin_grows job paths (Ok number) n m is = subst (λ x. Grows n x) (sym is.ok) (entry_grows n n.keeper n.branch _ [])
+begin_grows job paths (Err e) n m is = same n m is.err
 
 -- ---- so the node has as many entries as before it was raised, or more
 

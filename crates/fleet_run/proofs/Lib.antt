@@ -19,3 +19,4 @@ mod Few
 mod Entries
 mod Marked
 mod Starts
+mod NamedPaths

@@ -17,7 +17,6 @@ use Rattle.node_parts.specs.Parts.{AreParts}
 use Rattle.repo_node.specs.Nodes as nodes
 use Rattle.repo_node.specs.Nodes.{NodeView, told_of}
 use Rattle.repo_node.specs.Stored.{StoreView}
-use Rattle.repo_node.specs.TurnCalls.{step_calls}
 use Rattle.repo_node.specs.Turning.{Adds, IsIdle, StepsBy}
 use Rattle.repo_node.specs.declared.turn.Turn.{Turn}
 use Rattle.repo_node.specs.declared.turn.Turn.TheVariants as turns
@@ -39,7 +38,7 @@ use Rattle.fleet_run.proofs.Called.{past_of, raised_is, with_more}
 pub record TakesTurn {K : Type 0} (tells : K → StoreView) (r had : ℕ) (t : Turn) (was up : FleetView K) (turned : List (NodeView K)) : Type 0 where
   pub raises : Raises tells r had was up
   pub moved : AtNode r up.nodes turned (λ n m. t ≡ turns.Moved → Adds (map after_drop n.parts.links) (tells n.keeper) (tells m.keeper) n m)
-  pub steps : AtNode r up.nodes turned (λ n m. t ≡ turns.Moved → ForSome (told_of (tells n.keeper).contents (tells n.keeper).parts) (λ c. StepsBy step step_calls (tells n.keeper) (tells m.keeper) n m))
+  pub steps : AtNode r up.nodes turned (λ n m. t ≡ turns.Moved → ForSome (told_of (tells n.keeper).contents (tells n.keeper).parts) (λ c. StepsBy step (tells n.keeper) (tells m.keeper) n m))
   pub idle : AtNode r up.nodes turned (λ n m. t ≡ turns.Idle → ForSome (told_of (tells n.keeper).contents (tells n.keeper).parts) (λ c. (s : SetUp) → nodes.MatchesSetup n.setup s → IsIdle n s))
   pub stays : AtNode r up.nodes turned (λ n m. t ≢ turns.Moved → m ≡ record n { keeper = m.keeper; parts = record n.parts { links = map after_drop n.parts.links } })
   pub unasked : AtNode r up.nodes turned (λ n m. t ≢ turns.Moved → t ≢ turns.NoMemory → m.keeper ≡ n.keeper)
@@ -62,7 +61,7 @@ pub record IsTurned {K : Type 0} (tells : K → StoreView) (r had : ℕ) (t : Tu
 pub record TurnLaws (K : Type 0) : Type 0 where
   pub moved : (tells : K → StoreView) (g : DriverInput) (d : Driver) (r : ℕ) (n m : NodeView K) (was after : FleetView K)
       → DecidesMatches g → HasCome tells g d was → OneTurns r n m was after → StandsWell g d r n
-      → Adds (map after_drop n.parts.links) (tells n.keeper) (tells m.keeper) (with_newest d n) m → StepsBy step step_calls (tells n.keeper) (tells m.keeper) (with_newest d n) m
+      → Adds (map after_drop n.parts.links) (tells n.keeper) (tells m.keeper) (with_newest d n) m → StepsBy step (tells n.keeper) (tells m.keeper) (with_newest d n) m
       → (AreSmallParts (tells n.keeper).parts → AreSmallParts (tells m.keeper).parts) → IsWhole tells m → m.time ≤ 1000000000000 → m.count < 2 ^ 62 → HasCome tells g (turn g r d) after
   pub idle : (tells : K → StoreView) (g : DriverInput) (d : Driver) (r : ℕ) (n m : NodeView K) (was after : FleetView K)
       → HasCome tells g d was → OneTurns r n m was after → StandsWell g d r n
@@ -223,8 +222,8 @@ turns_on {K} laws tells r had t was up turned carried after there call came g d 
     by_turn (inl moved) =
         laws.moved tells g d r n m was after stands.decides come one well
         (subst (λ (y : NodeView K). Adds (map after_drop y.parts.links) (tells y.keeper) (tells m.keeper) y m) up_is (call.turn.moved second.0 m second.1 third.1 moved))
-        (where_told d r (tells n.keeper) (StepsBy step step_calls (tells n.keeper) (tells m.keeper) (with_newest d n) m) store
-        (subst (λ (y : NodeView K). ForSome (told_of (tells y.keeper).contents (tells y.keeper).parts) (λ c. StepsBy step step_calls (tells y.keeper) (tells m.keeper) y m)) up_is (call.turn.steps second.0 m second.1 third.1 moved)))
+        (where_told d r (tells n.keeper) (StepsBy step (tells n.keeper) (tells m.keeper) (with_newest d n) m) store
+        (subst (λ (y : NodeView K). ForSome (told_of (tells y.keeper).contents (tells y.keeper).parts) (λ c. StepsBy step (tells y.keeper) (tells m.keeper) y m)) up_is (call.turn.steps second.0 m second.1 third.1 moved)))
         (subst (λ (y : NodeView K). AreSmallParts (tells y.keeper).parts → AreSmallParts (tells m.keeper).parts) up_is (call.turn.small second.0 m second.1 third.1))
         (call.whole m third.1) early few
     by_turn (inr idle) =

@@ -3,6 +3,7 @@ use Rattle.std.specs.Prelude.{◌≡◌, ℕ, ◌<◌, ◌≤◌, Bool, List, �
 use Rattle.run_data.specs.Histories.{most_entries}
 use Rattle.run_data.specs.declared.entry.Entry.{Entry}
 use Rattle.run_data.specs.declared.run.Run.{Run}
+use Rattle.run_data.specs.declared.run.TreeMark.{TreeMark}
 use Rattle.run_model.specs.Run.{IsRun}
 use Rattle.repo_node.specs.Stored.{StoreView}
 use Rattle.driver_model.specs.Driver.{Driver, DriverInput, newest_count}
@@ -28,6 +29,11 @@ GoesOn tells step was after = (g : DriverInput) (d : Driver) → IsAtDriver tell
 -- of the run only the entries change: some stand behind those that it had
 abbrev pub OnlyAddsEntries : {K : Type 0} → FleetView K → FleetView K → Type 0
 OnlyAddsEntries was after = (more : List Entry) × (after.run ≡ record was.run { entries = was.run.entries ++ more })
+
+-- Of the run only the entries and the tree change: some stand behind those that it had. A line that names a path does so before it asks a
+-- store, and the path keeps its key where the store then meets a full history.
+abbrev pub OnlyAddsBehind : {K : Type 0} → FleetView K → FleetView K → Type 0
+OnlyAddsBehind was after = (more : List Entry) × (named : List TreeMark) × (after.run ≡ record was.run { entries = was.run.entries ++ more; tree = was.run.tree ++ named })
 
 -- The run is one of the definitions, and its entries are a start of those that the driver has made.
 pub record IsStartOf (d : Driver) (run : Run) : Type 0 where

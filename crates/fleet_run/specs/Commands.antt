@@ -1,6 +1,5 @@
 -- Which commands a fleet may be given (own).
-use Rattle.std.specs.Prelude.{◌≡◌, ℕ, ◌≤◌, true, false, length, reverse, is_some, Some, None}
-use Rattle.std.specs.Option.{option_map_or}
+use Rattle.std.specs.Prelude.{◌≡◌, ℕ, ◌≤◌, true, false, length, reverse, None}
 use Rattle.run_data.specs.Histories.{most_entries}
 use Rattle.run_data.specs.declared.run.Run.{Run}
 use Rattle.run_model.specs.Past.{now}
@@ -13,8 +12,7 @@ use Rattle.script_lang.specs.Preconditions as script
 use Rattle.driver_model.specs.Driver.{Driver, DriverInput}
 use Rattle.driver_model.specs.Driving.{does, with_mark}
 use Rattle.driver_model.specs.Limits.{asks_first, count_of, is_full, meets_limit, run_to_limit}
-use Rattle.driver_model.specs.Lines.{Line}
-use Rattle.driver_script.specs.Lines.{line_of}
+use Rattle.driver_script.specs.Lines.{is_built}
 use Rattle.fleet_model.specs.Fleets.{FleetView}
 use Rattle.fleet_run.specs.AtDriver.{IsAtDriver}
 
@@ -26,33 +24,33 @@ pub record MayBeDone {K : Type 0} (f : FleetView K) (command : Command) : Type 0
   pub waited : context.waited ≡ now (reverse f.run.entries)
   pub stands : script.IsValidIn context command
   pub within : first_limit context command ≡ None
-  pub built : is_some (line_of f.run.repos command) ≡ true
+  pub built : is_built command ≡ true
 
 -- what the driver does at the command
 abbrev pub does_command : Command → DriverInput → Driver → Driver
-does_command command g d = option_map_or (λ line. does g line d) (line_of g.repos command) d
+does_command command g d = does g command d
 
 -- and that its line is done
 abbrev pub does_and_marks : Command → DriverInput → Driver → Driver
-does_and_marks command g d = with_mark (does_command command g d)
+does_and_marks command g d = with_mark (does g command d)
 
 -- ---- where a history is full
 
 -- The line meets a full history, that of r; the run is the driver's up to there, and is one of repositories.
-pub record IsCut (g : DriverInput) (line : Line) (d : Driver) (r : ℕ) (run : Run) : Type 0 where
-  pub meets : meets_limit g line d ≡ true
-  pub run_is : run ≡ run_to_limit g line d
+pub record IsCut (g : DriverInput) (command : Command) (d : Driver) (r : ℕ) (run : Run) : Type 0 where
+  pub meets : meets_limit g command d ≡ true
+  pub run_is : run ≡ run_to_limit g command d
   pub lawful : IsRun run
   pub full : count_of (reverse run.entries) r ≡ most_entries
 
 -- wherever the driver was, the command's line does so
 abbrev pub CutsAt : {K : Type 0} → (K → StoreView) → ℕ → Command → FleetView K → FleetView K → Type 0
-CutsAt tells r command was after = (g : DriverInput) (d : Driver) (line : Line) → IsAtDriver tells g d was → line_of g.repos command ≡ Some line → IsCut g line d r after.run
+CutsAt tells r command was after = (g : DriverInput) (d : Driver) → IsAtDriver tells g d was → IsCut g command d r after.run
 
 -- wherever the driver was, the command's line meets no full history
 abbrev pub MeetsNone : {K : Type 0} → (K → StoreView) → Command → FleetView K → Type 0
-MeetsNone tells command was = (g : DriverInput) (d : Driver) (line : Line) → IsAtDriver tells g d was → line_of g.repos command ≡ Some line → meets_limit g line d ≡ false
+MeetsNone tells command was = (g : DriverInput) (d : Driver) → IsAtDriver tells g d was → meets_limit g command d ≡ false
 
 -- wherever the driver was, the repository whose store the command's line asks first may make another entry; for private contracts
 abbrev pub HasRoomFor : {K : Type 0} → (K → StoreView) → Command → FleetView K → Type 0
-HasRoomFor tells command was = (g : DriverInput) (d : Driver) (line : Line) → IsAtDriver tells g d was → line_of g.repos command ≡ Some line → is_full d.past (asks_first line) ≡ false
+HasRoomFor tells command was = (g : DriverInput) (d : Driver) → IsAtDriver tells g d was → is_full d.past (asks_first command) ≡ false

@@ -2,3 +2,4 @@
 pub mod AtDriver
 pub mod Commands
 pub mod Telling
+pub mod Paths

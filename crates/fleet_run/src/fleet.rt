@@ -9,7 +9,7 @@ ghost use Rattle.driver_script.specs.Lines.{repos_of};
 ghost use Rattle.fleet_model.specs.Matches.{DecidesMatches};
 ghost use Rattle.fleet_model.specs.Stores.{IsStoreOf};
 ghost use Rattle.fleet_run.specs.Commands.{CutsAt, MayBeDone, MeetsNone, does_and_marks, does_command};
-ghost use Rattle.fleet_run.specs.AtDriver.{GoesOn, IsAtDriver, IsDrivenWithin, OnlyAddsEntries, StopsWithin, most_lines};
+ghost use Rattle.fleet_run.specs.AtDriver.{GoesOn, IsAtDriver, IsDrivenWithin, OnlyAddsBehind, StopsWithin, most_lines};
 
 use crate::declaring::{memory_keepers, repositories};
 use crate::running::Running;
@@ -21,6 +21,7 @@ use fleet_model::fleets_begin;
 use joined_nodes::Nodes;
 use object_store::{FailingKeeper, Keeper, MemoryKeeper};
 use run_data::{RepoView, Run};
+use run_paths::PathIndex;
 use script_lang::{Command, Script};
 use std::alloc::Global;
 use std::marker::Model;
@@ -107,21 +108,23 @@ impl<K: FailingKeeper> Fleet<K> {
         fleets_begin::<K>();
         drivers_stay_sound();
         bytes_are_matched();
+        let index = PathIndex::new(alloc)?;
         let nodes = Nodes::new(alloc, repos.as_slice(), keepers)?;
         let running = Running {
             alloc,
             nodes,
             run: empty_run(alloc, repos),
+            index,
         };
         Ok(Fleet { running })
     }
 
     /// Does what the line says, and marks how many entries stand after it. It is refused as Full where the line meets a full history.
     /// After a refusal the run has the entries that it had, and then a start of those that the line makes; so it is a run still. Its
-    /// repositories, tree and marks are as they were. After a refusal the fleet does no further line: its run may lack entries that a
-    /// node made. So a line is done only where the fleet has come to where some driver is, as it has before the first line and after each
-    /// line that was done. A fleet does at most 2^28 lines, so that its run has fewer than 2^30 entries: of each repository at most
-    /// 100,000, and of each line at most one wait.
+    /// repositories and marks are as they were, and its tree but for a path that the line named. After a refusal the fleet does no further
+    /// line: its run may lack entries that a node made. So a line is done only where the fleet has come to where some driver is, as it has
+    /// before the first line and after each line that was done. A fleet does at most 2^28 lines, so that its run has fewer than 2^30
+    /// entries: of each repository at most 100,000, and of each line at most one wait.
     pub fn line(&mut self, command: &Command) -> Result<(), FleetStop>
         requires may { MayBeDone self.old command.now }
         requires few { length self.old.run.marks < most_lines }
@@ -132,7 +135,7 @@ impl<K: FailingKeeper> Fleet<K> {
         ensures within { OnOk result (MeetsNone (λ k. store_view (K.contents k) (K.parts k) (K.failing k) (K.faults k)) command.now self.old) }
         ensures full { (r : ℕ) → result ≡ Err (FleetStop.Full r) → CutsAt (λ k. store_view (K.contents k) (K.parts k) (K.failing k) (K.faults k)) r command.now self.old self.new }
         ensures stopped { OnErr result (StopsWithin (λ k. store_view (K.contents k) (K.parts k) (K.failing k) (K.faults k)) (does_command command.now) self.old self.new) }
-        ensures kept { OnErr result (OnlyAddsEntries self.old self.new) }
+        ensures kept { OnErr result (OnlyAddsBehind self.old self.new) }
     {
         self.running.does_and_marks(command)
     }
@@ -153,6 +156,7 @@ impl<K: FailingKeeper> Fleet<K> {
             alloc: _,
             nodes,
             run,
+            index: _,
         } = running;
         nodes.dissolve();
         run

@@ -8,6 +8,7 @@ mod fleet;
 mod jobs;
 mod lines;
 mod logs;
+mod naming;
 mod running;
 mod settings;
 mod settling;

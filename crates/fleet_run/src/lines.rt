@@ -1,16 +1,17 @@
 //! What a fleet does at each form of line.
 ghost use Rattle.std.specs.Prelude.{◌≡◌, ◌+◌, ◌<◌, ℕ, length, Err, OnErr, OnOk};
 ghost use Rattle.repo_node.specs.Stored.{store_view};
+ghost use Rattle.script_commands.specs.declared.command.Command.TheVariants as commands;
 ghost use Rattle.fleet_run.specs.Commands.{CutsAt, HasRoomFor, MayBeDone, MeetsNone, does_and_marks, does_command};
-ghost use Rattle.fleet_run.specs.AtDriver.{GoesOn, IsDriven, IsDrivenWithin, OnlyAddsEntries, StopsWithin, most_lines};
+ghost use Rattle.fleet_run.specs.AtDriver.{GoesOn, IsDriven, IsDrivenWithin, OnlyAddsBehind, StopsWithin, most_lines};
 
 use crate::running::Running;
 use crate::stop::FleetStop;
 use annex_key::key_texts_have_no_fault;
 use driver_model::runs_are_cut_where_histories_are_full;
-use log_lines::LogKind;
+use driver_script::{added_contents_match, built_lines_are_plain, settings_are_plain};
 use object_store::FailingKeeper;
-use script_lang::Command;
+use script_lang::{Action, Command};
 
 impl<K: FailingKeeper> Running<K> {
     /// Does what the line says, and marks how many entries stand after it.
@@ -24,10 +25,12 @@ impl<K: FailingKeeper> Running<K> {
         ensures within { OnOk result (MeetsNone (λ k. store_view (K.contents k) (K.parts k) (K.failing k) (K.faults k)) command.now self.old) }
         ensures full { (r : ℕ) → result ≡ Err (FleetStop.Full r) → CutsAt (λ k. store_view (K.contents k) (K.parts k) (K.failing k) (K.faults k)) r command.now self.old self.new }
         ensures stopped { OnErr result (StopsWithin (λ k. store_view (K.contents k) (K.parts k) (K.failing k) (K.faults k)) (does_command command.now) self.old self.new) }
-        ensures kept { OnErr result (OnlyAddsEntries self.old self.new) }
+        ensures kept { OnErr result (OnlyAddsBehind self.old self.new) }
     {
-        // A law: no line changes the marks before it, and no past with few entries of each repository is too long.
+        // Laws: no line changes the marks before it, and no past with few entries of each repository is too long; no line that is
+        // built closes ends.
         runs_are_cut_where_histories_are_full();
+        built_lines_are_plain();
         self.does(command)?;
         // For the proof: no history is longer than it may be.
         self.nodes.histories_are_few();
@@ -43,65 +46,59 @@ impl<K: FailingKeeper> Running<K> {
         ensures room { OnOk result (HasRoomFor (λ k. store_view (K.contents k) (K.parts k) (K.failing k) (K.faults k)) command.now self.old) }
         ensures full { (r : ℕ) → result ≡ Err (FleetStop.Full r) → CutsAt (λ k. store_view (K.contents k) (K.parts k) (K.failing k) (K.faults k)) r command.now self.old self.new }
         ensures stopped { OnErr result (StopsWithin (λ k. store_view (K.contents k) (K.parts k) (K.failing k) (K.faults k)) (does_command command.now) self.old self.new) }
-        ensures rest { OnlyAddsEntries self.old self.new }
+        ensures rest { OnlyAddsBehind self.old self.new }
     {
-        // Laws: the text of a key has no fault, and the run is cut where a line meets a full history.
-        key_texts_have_no_fault();
-        runs_are_cut_where_histories_are_full();
         match command {
-            Command::Numcopies { repo, number } => {
-                self.sets_number(*repo, LogKind::Numcopies, *number)
-            }
-            Command::Mincopies { repo, number } => {
-                self.sets_number(*repo, LogKind::Mincopies, *number)
-            }
-            Command::Trust {
+            Command::Does { action } => self.acts(action),
+            Command::Repo { .. } | Command::Shows { .. } => Ok(()),
+            Command::Damage { .. } | Command::Par { .. } => unreachable!(),
+        }
+    }
+
+    /// Does the action.
+    fn acts(&mut self, action: &Action) -> Result<(), FleetStop>
+        requires driven { IsDriven (λ k. store_view (K.contents k) (K.parts k) (K.failing k) (K.faults k)) self.old }
+        requires may { MayBeDone self.old (commands.Does action.now) }
+        ensures ok { OnOk result (GoesOn (λ k. store_view (K.contents k) (K.parts k) (K.failing k) (K.faults k)) (does_command (commands.Does action.now)) self.old self.new) }
+        ensures room { OnOk result (HasRoomFor (λ k. store_view (K.contents k) (K.parts k) (K.failing k) (K.faults k)) (commands.Does action.now) self.old) }
+        ensures full { (r : ℕ) → result ≡ Err (FleetStop.Full r) → CutsAt (λ k. store_view (K.contents k) (K.parts k) (K.failing k) (K.faults k)) r (commands.Does action.now) self.old self.new }
+        ensures stopped { OnErr result (StopsWithin (λ k. store_view (K.contents k) (K.parts k) (K.failing k) (K.faults k)) (does_command (commands.Does action.now)) self.old self.new) }
+        ensures rest { OnlyAddsBehind self.old self.new }
+    {
+        // Laws: the text of a key has no fault, a line sets what is of one line, a file that is added has its key's content, and the run
+        // is cut where a line meets a full history.
+        key_texts_have_no_fault();
+        settings_are_plain();
+        added_contents_match();
+        runs_are_cut_where_histories_are_full();
+        match action {
+            Action::Have { repo, key, content } => self.has(*repo, key, content),
+            Action::Add {
                 repo,
-                target,
-                level,
-            } => self.sets_level(*repo, *target, *level),
-            Command::Describe { repo, target, text } => self.sets_text(*repo, *target, text),
-            Command::Group {
+                path,
+                key,
+                content,
+            } => self.adds(*repo, path, key, content),
+            Action::File { path, key } => self.enters(path, key),
+            Action::Set {
                 repo,
-                target,
-                groups,
-            } => self.sets_groups(*repo, *target, groups),
-            Command::Log { repo, file, line } => self.writes(*repo, file, line),
-            Command::Have { repo, key, content } => self.has(*repo, key, content),
-            Command::Run { repo, job } => self.begins_and_settles(*repo, job),
-            Command::Begin { repo, job } => self.begins(*repo, job),
-            Command::Turn { repo, turns } => self.turns(*repo, *turns),
-            Command::Settle => self.settles(),
-            Command::Merge { repo, other } => self.merges(*repo, *other),
-            Command::Compact { repo } => self.compacts(*repo),
-            Command::Wait { milliseconds } => self.waits(*milliseconds),
-            Command::Fail { repo, call } => self.fails(*repo, *call),
-            Command::Repo { .. }
-            | Command::ShowPresence { .. }
-            | Command::ShowClaims { .. }
-            | Command::ShowLocation { .. }
-            | Command::ShowLog { .. }
-            | Command::ShowLogs { .. }
-            | Command::ShowNumbers { .. }
-            | Command::ShowLevel { .. }
-            | Command::ShowRow { .. }
-            | Command::ShowJournal => Ok(()),
-            Command::NumcopiesFor { .. }
-            | Command::MincopiesFor { .. }
-            | Command::Wanted { .. }
-            | Command::Required { .. }
-            | Command::GroupWanted { .. }
-            | Command::Part { .. }
-            | Command::Damage { .. }
-            | Command::Add { .. }
-            | Command::File { .. }
-            | Command::Sync { .. }
-            | Command::Close { .. }
-            | Command::Crash { .. }
-            | Command::Par { .. }
-            | Command::ShowWants { .. }
-            | Command::ShowPlan { .. }
-            | Command::ShowTotals => unreachable!(),
+                kind,
+                topic,
+                value,
+            } => self.sets_copy(*repo, *kind, topic, value),
+            Action::Raw { repo, file, line } => self.writes(*repo, file, line),
+            Action::Merge { repo, other } => self.merges(*repo, *other),
+            Action::Compact { repo } => self.compacts(*repo),
+            Action::Begin { repo, job } => self.begins(*repo, job),
+            Action::Run { repo, job } => self.begins_and_settles(*repo, job),
+            Action::Turns { repo, turns } => self.turns(*repo, *turns),
+            Action::Settle => self.settles(),
+            Action::Wait { milliseconds } => self.waits(*milliseconds),
+            Action::Fail { repo, call } => self.fails(*repo, *call),
+            Action::SetPart { .. }
+            | Action::Sync { .. }
+            | Action::Close { .. }
+            | Action::Crash { .. } => unreachable!(),
         }
     }
 }

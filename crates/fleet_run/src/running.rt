@@ -16,22 +16,28 @@ use fleet_model::fleets_do_lines;
 use joined_nodes::Nodes;
 use object_store::FailingKeeper;
 use run_data::{Entry, Run};
+use run_paths::PathIndex;
 use std::alloc::Global;
 use std::marker::Model;
 
-/// The nodes, and the run so far: copies of the entries that they made, in order.
+/// The nodes, and the run so far: copies of the entries that they made, in order, and the paths that lines named. The paths of a key are
+/// looked up in an index.
 pub(crate) struct Running<K: FailingKeeper> {
     pub(crate) alloc: Global,
     pub(crate) nodes: Nodes<K>,
     pub(crate) run: Run,
+    pub(crate) index: PathIndex,
 }
 
 impl<K: FailingKeeper> Model for Running<K> {
     ghost use Rattle.fleet_model.specs.Fleets.{FleetView};
+    ghost use Rattle.fleet_run.specs.Paths.{HasPaths};
 
     ghost Value = { FleetView K };
 
     ghost view = { λ f. record { nodes = f.nodes; run = f.run } };
+
+    ghost invariant = { λ f. HasPaths f.run f.index };
 }
 
 /// Adds copies of the entries, or of some first ones.

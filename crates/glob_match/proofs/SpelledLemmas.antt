@@ -2,15 +2,18 @@
 use Rattle.std.proofs.Common.{◌≡◌, ◌↔◌, ℕ, Bool, true, false, List, [], ◌∷◌, ◌++◌, Option, Some, None, refl, sym, ap, subst, ◌∙◌, append_assoc}
 use Rattle.std.specs.Prelude.{◌==◌, ◌&&◌, flat_map, not, option_map}
 use Rattle.std.specs.List.{list_all}
+use Rattle.std.specs.Str.{chars, is_utf8}
 use Rattle.std.proofs.lemmas.Bool.{and_from, and_parts, eqb-true}
 use Rattle.std.proofs.lemmas.List.{append-nil}
 use Rattle.std.proofs.lemmas.Option.{none-some, same_Some}
 use Rattle.annex_base.proofs.Conditions.{by_test}
 use Rattle.annex_base.proofs.Lists.{list_all_append}
+use Rattle.annex_base.proofs.Options.{none_by}
 use Rattle.glob_match.specs.declared.item.Item.{Item}
 use Rattle.glob_match.specs.declared.item.Item.TheVariants.{AnyRun, AnyOne, OneOf, Only}
+use Rattle.glob_match.specs.declared.fault.GlobFault.TheVariants.{OpenSet, NoMemory}
 use Rattle.glob_match.specs.Glob.{IsGlob, close_bracket, is_close, is_item, item_text, open_bracket, question, star}
-use Rattle.glob_match.specs.Spelled.{item_ended, items_from}
+use Rattle.glob_match.specs.Spelled.{glob_in, item_ended, items_from}
 
 -- ---- each glob is read
 
@@ -127,3 +130,21 @@ read_is (Some members) (c ∷ cs) items o e = let ih : Read cs = λ set items. r
 -- **what is read is what is spelled**
 pub items_exact : (items : List Item) (text : List ℕ) → (items_from None text ≡ Some items) ↔ IsGlob items text
 items_exact items text = (λ e. read_is None text items tt e, λ g. ap (items_from None) g.spelled ∙ items_read items g.items_are)
+
+-- ---- the glob of bytes
+
+pub spells_glob : (items : List Item) (text bytes : List ℕ) → text ≡ bytes → is_utf8 bytes ≡ true → IsGlob items (chars text) → Some items ≡ glob_in bytes
+unfolding glob_in
+spells_glob items text bytes same utf8 is = rw utf8 (sym (ap (λ (t : List ℕ). items_from None (chars t)) (sym same) ∙ (items_exact items (chars text)).1 is))
+
+pub spells_none : (text bytes : List ℕ) → text ≡ bytes → is_utf8 bytes ≡ true → ((items : List Item) → IsGlob items (chars text) → ⊥) → None ≡ glob_in bytes
+unfolding glob_in
+spells_none text bytes same utf8 nowhere =
+    rw utf8 (sym (ap (λ (t : List ℕ). items_from None (chars t)) (sym same) ∙ none_by (items_from None (chars text)) (λ items e. nowhere items ((items_exact items (chars text)).0 e))))
+
+pub no_text_spells : (bytes : List ℕ) → is_utf8 bytes ≡ false → None ≡ glob_in bytes
+unfolding glob_in
+no_text_spells bytes broken = rw broken refl
+
+pub open_memory : (at : ℕ) → OpenSet at ≡ NoMemory → ⊥
+open_memory at same = cc

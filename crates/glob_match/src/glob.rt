@@ -3,11 +3,14 @@ ghost use Rattle.std.specs.Prelude.{◌≡◌, ◌↔◌, ◌⊎◌, List, ℕ, 
 ghost use Rattle.std.specs.Str.{chars};
 ghost use Rattle.glob_match.specs.declared.item.Item.{Item};
 ghost use Rattle.glob_match.specs.Glob.{IsGlob, HasOpenSet, IsMatch, glob_matches};
+ghost use Rattle.glob_match.specs.Numbers.{matches_path};
+ghost use Rattle.glob_match.specs.Spelled.{glob_in};
 
 use crate::fault::GlobFault;
 use crate::item::Item;
 use crate::reading::read;
 use crate::walk::items_match;
+use annex_base::NoMemory;
 use std::alloc::Global;
 use std::marker::Model;
 
@@ -39,6 +42,20 @@ impl Glob {
         Ok(Glob { items })
     }
 
+    /// The glob that the bytes of a pattern spell; none where they aren't UTF-8, or where a set is never closed (own).
+    pub fn spelled(alloc: Global, pattern: &[u8]) -> Result<Option<Glob>, NoMemory>
+        ensures { IfOk result (λ g. g ≡ glob_in pattern.now) }
+    {
+        let Ok(text) = str::from_utf8(pattern) else {
+            return Ok(None);
+        };
+        match Glob::parse(alloc, text) {
+            Ok(glob) => Ok(Some(glob)),
+            Err(GlobFault::OpenSet { .. }) => Ok(None),
+            Err(GlobFault::NoMemory) => Err(NoMemory),
+        }
+    }
+
     /// Whether the text can be cut into parts that fit the items, one part for each. It takes no memory, and time of at
     /// most the product of both lengths.
     pub fn matches(&self, path: &str) -> bool
@@ -46,5 +63,15 @@ impl Glob {
         ensures exact { result ≡ glob_matches self.now (chars path.now) }
     {
         items_match(&self.items, path)
+    }
+
+    /// Whether the bytes of a path match; a path that isn't UTF-8 matches no glob (own). It takes no memory.
+    pub fn matches_path(&self, path: &[u8]) -> bool
+        ensures { result ≡ matches_path self.now path.now }
+    {
+        match str::from_utf8(path) {
+            Ok(text) => self.matches(text),
+            Err(_) => false,
+        }
     }
 }

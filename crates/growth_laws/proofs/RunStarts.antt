@@ -11,7 +11,7 @@ use Rattle.run_data.specs.declared.run.Run.{Run}
 use Rattle.run_model.specs.Past.{begun_count, is_of}
 use Rattle.run_model.specs.Safety.{past_at}
 use Rattle.run_data.specs.Repos.{IsSetUp}
-use Rattle.run_model.specs.Run.{IsRun, RunPast, paths_at, paths_begun, set_up}
+use Rattle.run_model.specs.Run.{IsRun, RunPast, job_paths, paths_at, paths_begun, set_up}
 use Rattle.step_facts.proofs.JobNumbers.{begins_next}
 use Rattle.growth_laws.proofs.HistoriesGrow.{SamePaths}
 use Rattle.growth_laws.proofs.RunsGrow.{run_paths}
@@ -53,6 +53,11 @@ paths_later run a (suc b) r j h le l = go (λ k. paths_later run a b r j h k l) 
     go ih (inl k) = ap (λ n. paths_at run.tree (past_at run n) r j) (sym (add-one b)) ∙ step k ∙ ih k
     go ih (inr k) = ap (λ n. paths_at run.tree (past_at run n) r j) (sym k)
 
+-- the paths of a job that has begun are the run's
+pub paths_kept : (run : Run) (place r j : ℕ) → IsRun run → place ≤ length run.entries → j ≤ begun_count (past_at run place) r → job_paths run r j ≡ paths_at run.tree (past_at run place) r j
+paths_kept run place r j h within l =
+    sym (ap (λ es. paths_at run.tree (reverse es) r j) (take_all (length run.entries) run.entries (omega arith))) ∙ paths_later run place (length run.entries) r j h within l
+
 -- **the first entries of a run are a run**
 pub start_is_run : (run : Run) (place : ℕ) → place ≤ length run.entries → IsRun run → IsRun (record run { entries = take place run.entries })
 start_is_run run place within h = record { repos = h.repos; steps = run_paths run h p (past_at run place) (steps_at run place h) same }
@@ -61,4 +66,4 @@ start_is_run run place within h = record { repos = h.repos; steps = run_paths ru
     p r = paths_at run.tree (past_at run place) r
 
     same : (r : ℕ) → SamePaths (set_up run r) (p r) (past_at run place)
-    same r j l = sym (paths_later run place (length run.entries) r j h within l) ∙ ap (λ es. paths_at run.tree (reverse es) r j) (take_all (length run.entries) run.entries (omega arith))
+    same r j l = sym (paths_kept run place r j h within l)

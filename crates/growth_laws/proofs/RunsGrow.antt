@@ -110,7 +110,7 @@ module _ (marks : List TreeMark) (m : TreeMark) where
   tree_before place l = fold-append (λ t x. if nat_le x.place place then with_key t x.path x.key else t) [] marks (m ∷ [])
       ∙ (let no : nat_le m.place place ≡ false = grind arith in rw no refl)
 
-  paths_before : (past : List Entry) (r j : ℕ) → length past ≤ m.place → paths_at (marks ++ m ∷ []) past r j ≡ paths_at marks past r j
+  pub paths_before : (past : List Entry) (r j : ℕ) → length past ≤ m.place → paths_at (marks ++ m ∷ []) past r j ≡ paths_at marks past r j
   paths_before [] r j l = refl
   paths_before (e ∷ past) r j l = ap (λ was. if is_of r e then paths_begun (marks ++ m ∷ []) (length past) j was e.kind else was) (paths_before past r j (omega (arith, l)))
       ∙ ap (λ x. if is_of r e then x else paths_at marks past r j) (begins (paths_at marks past r j) e.kind)

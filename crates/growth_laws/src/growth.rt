@@ -7,10 +7,11 @@ ghost use Rattle.run_data.specs.declared.entry.Entry.{Entry};
 ghost use Rattle.run_data.specs.declared.run.Run.{Run};
 ghost use Rattle.run_data.specs.declared.run.TreeMark.{TreeMark};
 ghost use Rattle.run_model.specs.Frames.{Way, sender_of, taker_of};
-ghost use Rattle.run_model.specs.Past.{is_of};
+ghost use Rattle.run_model.specs.Past.{begun_count, is_of};
 ghost use Rattle.run_data.specs.Repos.{IsSetUp};
 ghost use Rattle.growth_laws.specs.Merged.{AreFirstLetters, IsMerge, IsHistory, Letter, MayMerge, NodeKeeps, history, last_count, letters, merged_run};
-ghost use Rattle.run_model.specs.Run.{FramesPart, IsRun, OnlyWaits, ComesInOrder, OwnPart, RunStep, set_up};
+ghost use Rattle.run_model.specs.Run.{FramesPart, IsRun, OnlyWaits, ComesInOrder, OwnPart, RunStep, job_paths, paths_at, set_up};
+ghost use Rattle.run_model.specs.Safety.{past_at};
 
 /// A run begins without entries, its repositories set up within their bounds. It stays a run by each entry that may come next:
 /// a turn of a repository, as its own history and the frames on their way allow, or a wait; by each change of the tree at
@@ -29,6 +30,14 @@ pub fn runs_grow()
     ensures command { (run : Run) (marks : List ℕ) → IsRun run → IsRun (record run { marks = marks }) }
     ensures start { (run : Run) (place : ℕ) → place ≤ length run.entries → IsRun run
         → IsRun (record run { entries = take place run.entries }) }
+{}
+
+/// The paths of a job's key are those that the tree has as the job begins: no later entry gives it others, and no change of the
+/// tree at the end of a run.
+pub fn jobs_keep_their_paths()
+    ensures entries { (run : Run) (place r job : ℕ) → IsRun run → place ≤ length run.entries → job ≤ begun_count (past_at run place) r
+        → job_paths run r job ≡ paths_at run.tree (past_at run place) r job }
+    ensures tree { (marks : List TreeMark) (m : TreeMark) (past : List Entry) (r job : ℕ) → length past ≤ m.place → paths_at (marks ++ m ∷ []) past r job ≡ paths_at marks past r job }
 {}
 
 /// What repositories added each alone, behind a run, and merged in order of time, count and number, is a run: where each

@@ -3,4 +3,6 @@
 
 mod growth;
 
-pub use growth::{histories_of_nodes_are_runs, merged_histories_are_runs, runs_grow};
+pub use growth::{
+    histories_of_nodes_are_runs, jobs_keep_their_paths, merged_histories_are_runs, runs_grow,
+};

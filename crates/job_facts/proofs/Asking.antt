@@ -174,7 +174,7 @@ module _ (t : Turn) (e : Entry) where
         go x h = absurd h
 
     -- what it sends, nothing or one frame
-    sent_comes : (rows : RowsAndEnds) (r : ℕ) (m : Effect) (sent : List FrameView) → t.w.part ≡ Drops → w.part ≡ Drops → Fits Drops w.phase → (sent ≡ []) ⊎ SaysOne t m → sent ≡ m.sent → e.sent ≡ sent
+    sent_comes : (rows : RowsAndEnds) (r : ℕ) (m : Effect) (sent : List FrameView) → t.w.part ≡ Drops → w.part ≡ Drops → Fits Drops w.phase → (sent ≡ []) ⊎ SaysOne t m.sent → sent ≡ m.sent → e.sent ≡ sent
         → Comes w (talks rows r w e sent)
     sent_comes rows r m sent part mine f (inl none) is all = subst (λ fs. Comes w (talks rows r w e fs)) (sym none) (hears_comes rows r e.taken mine f)
     sent_comes rows r m sent part mine f (inr one) is all =
@@ -226,7 +226,7 @@ module _ (t : Turn) (e : Entry) where
       let said : Comes w (talks rows r w e e.sent) = sent_comes w place.1 rows r m e.sent part (place.0 ∙ part) f (says y.says) sent refl in
       readied_comes t.w w (work_kind rows r t.w e (Talk (Some j))) (readies_heard t.w e.taken) (on_comes w place.1 rows r (Jobs.partner t.w.what.peer t.w.phase) (place.0 ∙ part) said)
     where
-      says : (m.sent ≡ []) ⊎ SaysOne t m → (e.sent ≡ []) ⊎ SaysOne t m
+      says : (m.sent ≡ []) ⊎ SaysOne t m.sent → (e.sent ≡ []) ⊎ SaysOne t m.sent
       says (inl none) = inl (sent ∙ none)
       says (inr one) = inr one
   kind_came m rows r (Fault call by) x y fits part sent goes_on = call_comes r t.w e.time call refl

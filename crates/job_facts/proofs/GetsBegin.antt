@@ -156,7 +156,7 @@ module _ (before : Turn) where
   module _ (none : owns_share t ≡ false) (read : message_of (text_of (Get t.look.part [] (key_of t))) ≡ Some (Get t.look.part [] (key_of t))) where
     ends_leaves : (outcome : Outcome) → LeavesBy (ends t None outcome)
     ends_leaves outcome = attempts_even LeavesBy t (to_release (owns_share t && not (is_lost_ordered outcome))) None
-        (record { kind = ends_job t.w.number outcome; taken = None; sent = farewells t (is_lost_ordered outcome); lines = [] })
+        (record { kind = ends_job t.w.number outcome; taken = None; sent = farewells t (is_lost_ordered outcome); lines = []; calls = [] })
         (λ call e. absurd (no_release (owns_share t) (not (is_lost_ordered outcome)) none call e)) tt
 
     -- neither of the calls is this one

@@ -71,7 +71,7 @@ wrong_calls t f peer = one_calls t (talk t) (Some f) peer Closing refl
 ends_calls : (t : Turn) (taken : Option FrameView) (outcome : Outcome) → Calls t (ends t taken outcome)
 ends_calls t taken outcome =
     let lost = is_lost_ordered outcome in
-    attempts_calls t (to_release (owns_share t && not lost)) taken (record { kind = ends_job t.w.number outcome; taken = taken; sent = farewells t lost; lines = [] })
+    attempts_calls t (to_release (owns_share t && not lost)) taken (record { kind = ends_job t.w.number outcome; taken = taken; sent = farewells t lost; lines = []; calls = [] })
     (none_calls t (farewells t lost) (each_flat (λ g. is_opening g.body ≡ false) (λ peer. frames (job_end t.w peer) (end_with t peer) (farewell t lost peer (end_with t peer).opened))
     (λ peer. frames_none (job_end t.w peer) (end_with t peer) (farewell t lost peer (end_with t peer).opened) (farewell_none t lost peer (end_with t peer).opened)) (others_of t)))
 

@@ -17,7 +17,7 @@ use Rattle.run_model.specs.Past.{begun_count, is_of}
 use Rattle.run_model.specs.Logs.{before_step, in_drop, is_drop, is_step, starts_drop}
 use Rattle.node_model.specs.SetUp.{SetUp}
 use Rattle.node_model.specs.Jobs
-use Rattle.node_model.specs.Jobs.{Drops, Gets, Part, Phase, Puts, Work, is_move, running_job, after_failed_release, work_kind}
+use Rattle.node_model.specs.Jobs.{Drops, Gets, Part, Phase, Puts, Work, is_move, after_failed_release, work_kind}
 use Rattle.run_model.specs.States.{rows_at, works}
 use Rattle.node_model.specs.AnyTime.{IsPeer}
 use Rattle.run_model.specs.Run.{OwnRun}

@@ -123,7 +123,7 @@ deadline_small : (n first clock d : ℕ) → n < 2 ^ 63 → first ≤ 1100000600
 deadline_small n first clock d small early is = omega (arith, small, early, is)
 
 -- the order of a job's entry
-pub order_read : (s : SetUp) (past : List Entry) (h : OwnPast s past) (k : Look) (w : Work) → Member w (works past s.number) → (m : Effect) (deadline : Option ℕ) → HasDeadline (turn_of s (state_of s past) k w) m deadline
+pub order_read : (s : SetUp) (past : List Entry) (h : OwnPast s past) (k : Look) (w : Work) → Member w (works past s.number) → (m : Effect) (deadline : Option ℕ) → HasDeadline (turn_of s (state_of s past) k w) m.taken deadline
     → (x : Message) → message_of (text_of (order_of deadline w.what.key)) ≡ Some x → x ≡ order_of deadline w.what.key
 order_read s past h k w runs m None timed x e = remove_as w.what.key x (head_of (Remove w.what.key) x tt e)
 order_read s past h k w runs m (Some d) timed x e =

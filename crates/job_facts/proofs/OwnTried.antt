@@ -170,7 +170,7 @@ own_first t (Ignored cause) is = inl (λ e. let no' : Ignored cause ≡ Asked = 
 remote_first : (t : Turn) (text : Option (List ℕ)) → FirstSays t (first_remote t text).kind
 remote_first t (Some text) =
     let outcome = Refused (refusals.Required text) in
-    attempts_first t (to_release (owns_share t && not (is_lost_ordered outcome))) None (record { kind = ends_job t.w.number outcome; taken = None; sent = farewells t (is_lost_ordered outcome); lines = [] }) tt
+    attempts_first t (to_release (owns_share t && not (is_lost_ordered outcome))) None (record { kind = ends_job t.w.number outcome; taken = None; sent = farewells t (is_lost_ordered outcome); lines = []; calls = [] }) tt
 remote_first t None = own_first t (t.read.standing (me t)) refl
 
 step_first : (t : Turn) (m : Effect) → t.w.part ≡ Drops → t.w.phase ≡ Fresh → side_of t.w ≡ Remote → by_partner t (partner t.w.what.peer t.w.phase) ≡ Some m → FirstSays t m.kind

@@ -56,7 +56,7 @@ start_kind t m rows r e place (ends_job j outcome) x y fits reads old new goes_o
 start_kind t m rows r e place (Talk (Some j)) x y fits reads old new goes_on =
     (refl, talk_none t m t.w.part refl (λ part. (y.first part (fresh_is t.w.phase (old part))).sends_none) (one y.says) reads)
   where
-    one : (m.sent ≡ []) ⊎ SaysOne t m → OneAtMost m.sent
+    one : (m.sent ≡ []) ⊎ SaysOne t m.sent → OneAtMost m.sent
     one (inl none) = subst OneAtMost (sym none) tt
     one (inr says) = subst OneAtMost (sym says.sent_is) tt
 start_kind t m rows r e place (Fault call by) x y fits reads old new goes_on = (refl, no_copies m.sent x.1)

@@ -97,29 +97,29 @@ PartSays t peer part (Line text) = (m : Message) × (text ≡ text_of m) × Part
 PartSays t peer part body = Unit {0}
 
 -- a drop's first step, where it talks
-pub record QuietStart (t : Turn) (m : Effect) : Type 0 where
+pub record QuietStart (t : Turn) (taken : Option FrameView) (sent : List FrameView) : Type 0 where
   pub side : side_of t.w ≡ Remote
-  pub takes_none : m.taken ≡ None
-  pub sends_none : m.sent ≡ []
+  pub takes_none : taken ≡ None
+  pub sends_none : sent ≡ []
 
 -- one frame to one peer
-pub record SaysOne (t : Turn) (m : Effect) : Type 0 where
+pub record SaysOne (t : Turn) (sent : List FrameView) : Type 0 where
   pub peer : ℕ
   pub body : FrameText
-  pub sent_is : m.sent ≡ frames (job_end t.w peer) (end_with t peer) (body ∷ [])
+  pub sent_is : sent ≡ frames (job_end t.w peer) (end_with t peer) (body ∷ [])
   pub says : PartSays t peer t.w.part body
 
-pub record TalkSays (t : Turn) (m : Effect) : Type 0 where
-  pub first : t.w.part ≡ Drops → t.w.phase ≡ Fresh → QuietStart t m
+pub record TalkSays (t : Turn) (taken : Option FrameView) (sent : List FrameView) : Type 0 where
+  pub first : t.w.part ≡ Drops → t.w.phase ≡ Fresh → QuietStart t taken sent
   pub under : t.w.part ≡ Drops → (t.w.phase ≡ Fresh) ⊎ (under_way t.w.phase ≡ true)
-  pub says : (m.sent ≡ []) ⊎ SaysOne t m
+  pub says : (sent ≡ []) ⊎ SaysOne t sent
 
 -- where a job stands that orders
 abbrev pub OrderStands : Turn → Type 0
 OrderStands t = ((t.w.phase ≡ Next) × Chosen t (target t)) ⊎ ((t.w.phase ≡ Greets (target t)) ⊎ (t.w.phase ≡ AsksTime))
 
 abbrev pub TalkKind : Turn → Effect → EntryKind → Type 0
-TalkKind t m (Talk j) = TalkSays t m
+TalkKind t m (Talk j) = TalkSays t m.taken m.sent
 TalkKind t m (Order j peer deadline need key) = OrderStands t
 TalkKind t m kind = Unit {0}
 
@@ -155,7 +155,7 @@ wrong_talks t f peer begun = sends_talks t (Some f) peer Closing begun tt
 
 ends_talks : (t : Turn) (taken : Option FrameView) (outcome : Outcome) → Talks t (ends t taken outcome)
 ends_talks t taken outcome =
-    let good : Effect = record { kind = ends_job t.w.number outcome; taken = taken; sent = farewells t (is_lost_ordered outcome); lines = [] } in
+    let good : Effect = record { kind = ends_job t.w.number outcome; taken = taken; sent = farewells t (is_lost_ordered outcome); lines = []; calls = [] } in
     attempts_talks t (to_release (owns_share t && not (is_lost_ordered outcome))) taken good tt
 
 -- ---- the first steps of a drop

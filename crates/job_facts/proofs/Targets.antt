@@ -212,7 +212,7 @@ module _ (t : Turn) (side : side_of t.w ≡ Remote) (apart : target t ≢ me t) 
       go x h = absurd h
 
   -- what it sends, nothing or one frame
-  sent_comes : (rows : RowsAndEnds) (r : ℕ) (e : Entry) (m : Effect) (sent : List FrameView) → t.w.part ≡ Drops → w.part ≡ Drops → Fits Drops w.phase → (sent ≡ []) ⊎ SaysOne t m → sent ≡ m.sent
+  sent_comes : (rows : RowsAndEnds) (r : ℕ) (e : Entry) (m : Effect) (sent : List FrameView) → t.w.part ≡ Drops → w.part ≡ Drops → Fits Drops w.phase → (sent ≡ []) ⊎ SaysOne t m.sent → sent ≡ m.sent
       → Comes (target t) (Knew t) w (talks rows r w e sent)
   sent_comes rows r e m sent part mine f (inl none) is =
       subst (λ fs. Comes (target t) (Knew t) w (talks rows r w e fs)) (sym none) (hears_comes (target t) (Knew t) rows r w e.taken mine f)
@@ -258,7 +258,7 @@ kind_comes t m rows r e (Talk (Some j)) x y fits part side apart sent goes_on =
     readied_comes (target t) (Knew t) t.w w (work_kind rows r t.w e (Talk (Some j))) place.1 (readies_heard t.w e.taken)
     (on_comes t side apart w place.1 rows r e (Jobs.partner t.w.what.peer t.w.phase) (place.0 ∙ part) said)
   where
-    says : (m.sent ≡ []) ⊎ SaysOne t m → (e.sent ≡ []) ⊎ SaysOne t m
+    says : (m.sent ≡ []) ⊎ SaysOne t m.sent → (e.sent ≡ []) ⊎ SaysOne t m.sent
     says (inl none) = inl (sent ∙ none)
     says (inr one) = inr one
 kind_comes t m rows r e (Fault call by) x y fits part side apart sent goes_on = call_comes (target t) (Knew t) r t.w e.time call

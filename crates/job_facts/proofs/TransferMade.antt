@@ -72,7 +72,7 @@ module _ (t : Turn) where
 
   ends_quiet : (taken : Option FrameView) (outcome : Outcome) → Quiet (ends t taken outcome)
   ends_quiet taken outcome = attempts_quiet (to_release (owns_share t && not (is_lost_ordered outcome))) taken
-      (record { kind = ends_job t.w.number outcome; taken = taken; sent = farewells t (is_lost_ordered outcome); lines = [] })
+      (record { kind = ends_job t.w.number outcome; taken = taken; sent = farewells t (is_lost_ordered outcome); lines = []; calls = [] })
       (λ j kind none sent. absurd (let no_talk : ends_job t.w.number outcome ≡ Talk (Some j) = kind in cc))
 
   asks_quiet : (version : ℕ) (taken : Option FrameView) (peer : ℕ) (part : Part) → part ≢ Drops → Quiet (asks t version taken peer part)
@@ -228,7 +228,7 @@ module _ (t : Turn) where
 
     ends_ending : (outcome : Outcome) → Ending (ends t None outcome)
     ends_ending outcome = attempts_even Ending t (to_release (owns_share t && not (is_lost_ordered outcome))) None
-        (record { kind = ends_job t.w.number outcome; taken = None; sent = farewells t (is_lost_ordered outcome); lines = [] })
+        (record { kind = ends_job t.w.number outcome; taken = None; sent = farewells t (is_lost_ordered outcome); lines = []; calls = [] })
         (λ call e. inr (by_me t, ap (λ c. Fault c (by_me t)) (release_is (owns_share t && not (is_lost_ordered outcome)) call e))) (inl (t.w.number, outcome, refl))
 
     end_ending : (phase : Phase) → is_end phase ≡ true → Ending (goes t phase)

@@ -126,10 +126,10 @@ part_keeps (Err e) was now ok err = refused_keeps Script e err.call was now err.
 
 -- ---- a job
 
-pub begin_keeps : {K E : Type 0} (r : Result ℕ E) (kind : ℕ → EntryKind) (job : Job) (was now : NodeView K)
-    → IfOk r (λ number. now ≡ record (with_entry was was.keeper was.branch (kind number) []) { parts = record was.parts { jobs = with_job was.parts.jobs job } }) → OnErr r (now ≡ was) → Keeps was now
-begin_keeps (Ok number) kind job was now ok err = record { setup = ap (λ n. n.setup) ok; links = ap (λ n. n.parts.links) ok }
-begin_keeps (Err e) kind job was now ok err = record { setup = ap (λ n. n.setup) err; links = ap (λ n. n.parts.links) err }
+pub begin_keeps : {K E : Type 0} (r : Result ℕ E) (kind : ℕ → EntryKind) (job : Job) (paths : List (List ℕ)) (was now : NodeView K)
+    → IfOk r (λ number. now ≡ record (with_entry was was.keeper was.branch (kind number) []) { parts = record was.parts { jobs = with_job was.parts.jobs job paths } }) → OnErr r (now ≡ was) → Keeps was now
+begin_keeps (Ok number) kind job paths was now ok err = record { setup = ap (λ n. n.setup) ok; links = ap (λ n. n.parts.links) ok }
+begin_keeps (Err e) kind job paths was now ok err = record { setup = ap (λ n. n.setup) err; links = ap (λ n. n.parts.links) err }
 
 -- ---- a turn
 

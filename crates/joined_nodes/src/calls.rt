@@ -27,14 +27,13 @@ ghost use Rattle.repo_node.specs.Placing.{IsPlaced, IsTaken, PartAfter, StopsBef
 ghost use Rattle.repo_node.specs.Refusals.{RefusesSo};
 ghost use Rattle.run_data.specs.Histories.{most_entries};
 ghost use Rattle.repo_node.specs.Stored.{TellsSame, store_view};
-ghost use Rattle.repo_node.specs.TurnCalls.{step_calls};
 ghost use Rattle.repo_node.specs.Turning.{Adds, HasStep, IsIdle, StepsBy};
 ghost use Rattle.repo_node.specs.Walks.{IsOfBundle, StopsAfter, compact_files, merge_files, over};
 ghost use Rattle.joined_nodes.specs.Joined.{AtNode};
 
 use crate::laws::nodes_stay_joined;
 use crate::nodes::Nodes;
-use annex_base::{Call, NoMemory};
+use annex_base::{Call, Items, NoMemory, Text};
 use annex_key::Key;
 use branch_bundle::bundles_are_exact;
 use log_lines::{Entry, LogKind};
@@ -57,13 +56,13 @@ impl<K: Keeper> Nodes<K> {
         self.nodes[repo].advance(time, count);
     }
 
-    /// Begins a drop of a node's own copy, as `Node::begin` does.
-    pub fn begin(&mut self, repo: usize, job: Job) -> Result<u32, BeginRefused>
+    /// Begins a drop of a node's own copy, of a key with these paths, as `Node::begin` does.
+    pub fn begin(&mut self, repo: usize, job: Job, paths: Items<Text>) -> Result<u32, BeginRefused>
         requires there { repo < length self.old }
         requires kind { job.kind ≡ JobKind.Drop }
         requires peer { job.peer ≡ None }
         ensures number { AtNode repo self.old self.new (λ was now. IfOk result (λ number. number ≡ was.parts.jobs.begun + 1)) }
-        ensures ok { AtNode repo self.old self.new (λ was now. IfOk result (λ number. now ≡ record (with_entry was was.keeper was.branch (Begin number job) []) { parts = record was.parts { jobs = with_job was.parts.jobs job } })) }
+        ensures ok { AtNode repo self.old self.new (λ was now. IfOk result (λ number. now ≡ record (with_entry was was.keeper was.branch (Begin number job) []) { parts = record was.parts { jobs = with_job was.parts.jobs job paths } })) }
         ensures slot { AtNode repo self.old self.new (λ was now. IsErrOf result BeginRefused.NoSlot → 4 ≤ length was.parts.jobs.running) }
         ensures free { AtNode repo self.old self.new (λ was now. (result ≡ Err BeginRefused.NoSlot → ⊥) → length was.parts.jobs.running < 4) }
         ensures full { AtNode repo self.old self.new (λ was now. IsErrOf result BeginRefused.Full → length was.history ≡ most_entries) }
@@ -73,14 +72,14 @@ impl<K: Keeper> Nodes<K> {
     {
         // A law, for the proof that the nodes stay joined.
         nodes_stay_joined::<K>();
-        self.nodes[repo].begin(job)
+        self.nodes[repo].begin(job, paths)
     }
 
     /// One turn of a node, as `Node::turn` makes it. What it sent stays on its way until frames are carried.
     pub fn turn(&mut self, repo: usize) -> Turn
         requires there { repo < length self.old }
         ensures moved { AtNode repo self.old self.new (λ was now. result ≡ Turn.Moved → Adds (map after_drop was.parts.links) (store_view (K.contents was.keeper) (K.parts was.keeper) (K.failing was.keeper) (K.faults was.keeper)) (store_view (K.contents now.keeper) (K.parts now.keeper) (K.failing now.keeper) (K.faults now.keeper)) was now) }
-        ensures step { AtNode repo self.old self.new (λ was now. result ≡ Turn.Moved → ForSome (told_of (K.contents was.keeper) (K.parts was.keeper)) (λ c. StepsBy step step_calls (store_view (K.contents was.keeper) (K.parts was.keeper) (K.failing was.keeper) (K.faults was.keeper)) (store_view (K.contents now.keeper) (K.parts now.keeper) (K.failing now.keeper) (K.faults now.keeper)) was now)) }
+        ensures step { AtNode repo self.old self.new (λ was now. result ≡ Turn.Moved → ForSome (told_of (K.contents was.keeper) (K.parts was.keeper)) (λ c. StepsBy step (store_view (K.contents was.keeper) (K.parts was.keeper) (K.failing was.keeper) (K.faults was.keeper)) (store_view (K.contents now.keeper) (K.parts now.keeper) (K.failing now.keeper) (K.faults now.keeper)) was now)) }
         ensures idle { AtNode repo self.old self.new (λ was now. result ≡ Turn.Idle → ForSome (told_of (K.contents was.keeper) (K.parts was.keeper)) (λ c. (s : SetUp) → MatchesSetup was.setup s → IsIdle was s)) }
         ensures full { AtNode repo self.old self.new (λ was now. result ≡ Turn.Full → length was.history ≡ most_entries) }
         ensures ready { AtNode repo self.old self.new (λ was now. result ≡ Turn.Full → ForSome (told_of (K.contents was.keeper) (K.parts was.keeper)) (λ c. (s : SetUp) → MatchesSetup was.setup s → HasStep was s)) }

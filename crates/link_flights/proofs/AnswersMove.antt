@@ -73,10 +73,10 @@ owed_none : (s : SetUp) (st : State) (k : Look) (m : Effect) (os : List OwedLine
 owed_none s st k m [] e = absurd (cc)
 owed_none s st k m (o ∷ os) e = go (failing_call k.fails (PutFile ∷ [])) e
   where
-    go : (c : Option Call) → Some (unless c (λ call. record { kind = Fault call o.by; taken = None; sent = []; lines = [] })
-        (record { kind = Log (Location o.key); taken = None; sent = []; lines = due s.repos st.lines (st.wall k.time) o })) ≡ Some m → m.taken ≡ None
-    go None g = let same : record { kind = Log (Location o.key); taken = None; sent = []; lines = due s.repos st.lines (st.wall k.time) o } ≡ m = cc in sym (ap (λ (z : Effect). z.taken) same)
-    go (Some call) g = let same : record { kind = Fault call o.by; taken = None; sent = []; lines = [] } ≡ m = cc in sym (ap (λ (z : Effect). z.taken) same)
+    go : (c : Option Call) → Some (unless c (λ call. record { kind = Fault call o.by; taken = None; sent = []; lines = []; calls = PutFile ∷ [] })
+        (record { kind = Log (Location o.key); taken = None; sent = []; lines = due s.repos st.lines (st.wall k.time) o; calls = PutFile ∷ [] })) ≡ Some m → m.taken ≡ None
+    go None g = let same : record { kind = Log (Location o.key); taken = None; sent = []; lines = due s.repos st.lines (st.wall k.time) o; calls = PutFile ∷ [] } ≡ m = cc in sym (ap (λ (z : Effect). z.taken) same)
+    go (Some call) g = let same : record { kind = Fault call o.by; taken = None; sent = []; lines = []; calls = PutFile ∷ [] } ≡ m = cc in sym (ap (λ (z : Effect). z.taken) same)
 
 module _ (laws : StepLaws) (s : SetUp) (st : State) (k : Look) (m : Effect) (f : FrameView) (took : m.taken ≡ Some f) where
   module _ (slot : ℕ) (w : Work) (runs : find (λ w. w.slot == slot) st.works ≡ Some w) where

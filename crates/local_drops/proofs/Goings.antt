@@ -27,9 +27,9 @@ pub removed_gone : (r : Reading) (w w' : Worker) (result : Result Output NoMemor
 removed_gone r w w' (Ok out) gone = gone r
 removed_gone r w w' (Err e) gone = tt
 
--- ---- a bar that was refused
+-- ---- a refusal
 
-refusal_gone : (r : Reading) (w w' : Worker) (made : Output) (result : Result Output NoMemory) → w.token ≡ tokens.Nothing → made.ended ≡ true → IsLast w.number made.kind → w' ≡ w → result ≡ Ok made → IfOk result (HasGone r w w')
+pub refusal_gone : (r : Reading) (w w' : Worker) (made : Output) (result : Result Output NoMemory) → w.token ≡ tokens.Nothing → made.ended ≡ true → IsLast w.number made.kind → w' ≡ w → result ≡ Ok made → IfOk result (HasGone r w w')
 refusal_gone r w w' made result bare ended last same is =
     subst (λ (o : Result Output NoMemory). IfOk o (HasGone r w w')) (sym is) (
     record {

@@ -13,7 +13,7 @@ use Rattle.node_model.specs.Rows.{option_is}
 use Rattle.node_model.specs.Sessions.{line_in}
 use Rattle.node_model.specs.Jobs.{Drops, Work, closed_part, drop_side, learns, partner, talks_on, version_said}
 use Rattle.node_model.specs.JobStep.{Turn, wrong_message}
-use Rattle.node_model.specs.Look.{entry_of}
+use Rattle.node_model.specs.Look.{as_told, entry_of}
 use Rattle.node_model.specs.TransferStep.{takes_bytes}
 use Rattle.node_model.specs.Turns.{takes_frame, takes_text}
 use Rattle.content_lock.specs.Rows.{Rows, bar_at}
@@ -28,20 +28,7 @@ use Rattle.drop_phases.specs.Doing.{Comes, DoesAsAsked, Shuts, next_work}
 use Rattle.drop_phases.proofs.Talks.{on_shut}
 use Rattle.drop_phases.proofs.Takings.{close_parcel, closed_local, heard_next, talk_does}
 use Rattle.drop_phases.proofs.Greetings.{kept}
-
-bytes_else : (t : Turn) (f : FrameView) (peer n : ℕ) (ph : Phase) → takes_bytes t f peer n (phase_as ph) ≡ wrong_message t f peer
-bytes_else t f peer n phases.Fresh = refl
-bytes_else t f peer n phases.Next = refl
-bytes_else t f peer n (phases.Opens p) = refl
-bytes_else t f peer n (phases.Greets p) = refl
-bytes_else t f peer n (phases.AsksLock p since) = refl
-bytes_else t f peer n (phases.AsksLook p) = refl
-bytes_else t f peer n phases.AsksTime = refl
-bytes_else t f peer n phases.Orders = refl
-bytes_else t f peer n phases.Removed = refl
-bytes_else t f peer n phases.Denied = refl
-bytes_else t f peer n (phases.Late time) = refl
-bytes_else t f peer n (phases.Ends why) = refl
+use Rattle.drop_phases.proofs.Unexpected.{bytes_else}
 
 -- a line that is no message
 no_message : (text : List ℕ) → taken_line (message_of text) ≡ takens.Other → message_of text ≡ None
@@ -82,7 +69,7 @@ pub other_does : (x : Sight) (rows : Rows) (p : List ℕ → Bool) (w w' : Worke
     → partner w.job.peer (phase_as w.phase) ≡ Some peer → Shuts peer w w' out → Comes x w.slot peer f takens.Other → DoesAsAsked x rows rows p w w' (Some f) (λ t. takes_frame t peer f f.body) out
 other_does x rows p w w' f peer out local with_peer shuts comes =
     talk_does x rows p w w' (Some f) (λ t. takes_frame t peer f f.body) _ out shuts.kind shuts.sends
-    (λ rest. (λ i. record { kind = Talk (Some w.number); taken = Some f; sent = close_parcel x w.slot peer i; lines = [] }) ∙ is rest)
+    (λ rest. (λ i. record { kind = Talk (Some w.number); taken = Some f; sent = close_parcel x w.slot peer i; lines = []; calls = [] }) ∙ ap as_told (is rest))
     (λ rest. heard_next rest w w' peer (heards.Lacks causes.Closed) shuts.next
     ∙ (sym (closed_local x.read.repo (work_of rest w) peer local comes.apart) ∙ (sym (moves rest) ∙ ap (next_work (turn rest)) (is rest))))
   where

@@ -12,11 +12,12 @@ use Rattle.node_model.specs.Evidence.{failures, proof_of}
 use Rattle.node_model.specs.Jobs.{drop_side}
 use Rattle.node_model.specs.JobStep.{ends}
 use Rattle.node_model.specs.DropStep.{lacking_outcome}
+use Rattle.node_model.specs.Look.{failed_in}
 use Rattle.content_lock.specs.Rows.{Rows}
 use Rattle.drop_phases.specs.declared.phase.Phase.TheVariants as phases
 use Rattle.drop_phases.specs.declared.turn.Output.{Output}
 use Rattle.drop_phases.specs.Worker.{Worker}
-use Rattle.drop_phases.specs.Working.{Sight, failed_in, present_in, turn_in}
+use Rattle.drop_phases.specs.Working.{Sight, present_in, turn_in}
 use Rattle.drop_judging.specs.Judging.{cause_at, evidence_of, offer_of, others_in}
 use Rattle.drop_phases.specs.Leaving.{ActsOver, Did, GoesSo, Store}
 use Rattle.drop_phases.proofs.Doings.{does_as}

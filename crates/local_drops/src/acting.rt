@@ -6,9 +6,10 @@ ghost use Rattle.node_model.specs.Jobs.{drop_side, partner};
 ghost use Rattle.node_model.specs.JobStep.{ends};
 ghost use Rattle.node_model.specs.Knows.{Reading};
 ghost use Rattle.node_model.specs.DropStep.{lacking_outcome};
+ghost use Rattle.node_model.specs.Look.{failed_in};
 ghost use Rattle.node_model.specs.Requests.{goes_to};
 ghost use Rattle.content_lock.specs.Rows.{Rows, bar_at};
-ghost use Rattle.drop_phases.specs.Working.{Sight, failed_in, phase_as, sight};
+ghost use Rattle.drop_phases.specs.Working.{Sight, phase_as, sight};
 ghost use Rattle.drop_phases.specs.Doing.{HasToken, IsBar, OthersStay, is_barring, removes_now};
 ghost use Rattle.drop_phases.specs.Feeding.{FitsLocal, IsOfLocal};
 ghost use Rattle.drop_phases.specs.Begun.{HasEnded, HasGone, IsOther};
@@ -16,7 +17,7 @@ ghost use Rattle.drop_judging.specs.Judging.{evidence_of, others_in};
 ghost use Rattle.drop_phases.specs.Calling.{MakesOver, MakesPhase};
 ghost use Rattle.drop_phases.specs.Leaving.{ActsOver, Did, GoesSo, Store, FollowsBarRefused, store};
 
-use annex_base::{Call, Items, NoMemory};
+use annex_base::{Call, Failed, Items, NoMemory, Text};
 use content_lock::{BarRefused, LockTable};
 use drop_judging::{Verdict, failures, gather, judge, others, proof};
 use drop_phases::{
@@ -60,7 +61,7 @@ pub fn act<K: Keeper, H: Here>(
 
 // ---- the beginning
 
-/// The first step of a local drop: the tests of its row, and its bar.
+/// The first step of a local drop: a refusal where its repository requires the content, or else its bar.
 fn begin<K: Keeper, H: Here>(
     worker: &mut Worker,
     alloc: Global,
@@ -72,6 +73,63 @@ fn begin<K: Keeper, H: Here>(
     requires fresh { worker.old.phase ≡ Phase.Fresh }
     requires local { drop_side worker.old.job.kind worker.old.job.peer ≡ sides.Local }
     requires bare { worker.old.token ≡ Token.Nothing }
+    requires owns { HasToken worker.old.number worker.old.job.key worker.old.token table.old }
+    ensures does { Did table.old table.new (store (K.contents keeper.old) (K.records keeper.old) (K.faults keeper.old)) (store (K.contents keeper.new) (K.records keeper.new) (K.faults keeper.new)) worker.old worker.new
+        (GoesSo (sight (H.reading here.now) (H.ends here.now) input.now.time input.now.number) (K.contents keeper.old) table.old table.new worker.old worker.new) result }
+    ensures begun { IfOk result (HasGone (H.reading here.now) worker.old worker.new) }
+    ensures calls { MakesPhase (sight (H.reading here.now) (H.ends here.now) input.now.time input.now.number) (K.contents keeper.old) table.old worker.old (K.failing keeper.old) (K.failing keeper.new) result }
+    ensures parts { K.parts keeper.new ≡ K.parts keeper.old }
+    ensures files { K.files keeper.new ≡ K.files keeper.old }
+{
+    match here.required() {
+        Some(text) => end_required(worker, alloc, here, keeper, text),
+        None => put_bar(worker, alloc, here, table, keeper, input),
+    }
+}
+
+/// The step of a local drop whose repository requires the content by this expression: the refusal, unless the content isn't there.
+fn end_required<K: Keeper, H: Here>(
+    worker: &mut Worker,
+    alloc: Global,
+    here: &H,
+    keeper: &mut K,
+    text: &Text,
+) -> Result<Output, NoMemory>
+    requires fresh { worker.old.phase ≡ Phase.Fresh }
+    requires local { drop_side worker.old.job.kind worker.old.job.peer ≡ sides.Local }
+    requires bare { worker.old.token ≡ Token.Nothing }
+    requires required { (H.reading here.now).requires ≡ Some text.now }
+    ensures does { (time : ℕ) (number : ℕ) (rows : Rows) → HasToken worker.old.number worker.old.job.key worker.old.token rows
+        → Did rows rows (store (K.contents keeper.old) (K.records keeper.old) (K.faults keeper.old)) (store (K.contents keeper.new) (K.records keeper.new) (K.faults keeper.new)) worker.old worker.new
+        (GoesSo (sight (H.reading here.now) (H.ends here.now) time number) (K.contents keeper.old) rows rows worker.old worker.new) result }
+    ensures begun { IfOk result (HasGone (H.reading here.now) worker.old worker.new) }
+    ensures calls { (time : ℕ) (number : ℕ) (rows : Rows) → HasToken worker.old.number worker.old.job.key worker.old.token rows
+        → MakesPhase (sight (H.reading here.now) (H.ends here.now) time number) (K.contents keeper.old) rows worker.old (K.failing keeper.old) (K.failing keeper.new) result }
+    ensures parts { K.parts keeper.new ≡ K.parts keeper.old }
+    ensures files { K.files keeper.new ≡ K.files keeper.old }
+{
+    let sends = worker.partings(alloc, here, false)?;
+    let expression = text.clone()?;
+    match keeper.has(worker.key()) {
+        Ok(false) => Ok(refused(worker, DropRefusal::NotPresent, sends)),
+        Ok(true) => Ok(refused(worker, DropRefusal::Required { expression }, sends)),
+        Err(Failed) => Ok(worker.fail(alloc, Call::Has)),
+    }
+}
+
+/// The tests of its row, and its bar.
+fn put_bar<K: Keeper, H: Here>(
+    worker: &mut Worker,
+    alloc: Global,
+    here: &H,
+    table: &mut LockTable,
+    keeper: &mut K,
+    input: &Input,
+) -> Result<Output, NoMemory>
+    requires fresh { worker.old.phase ≡ Phase.Fresh }
+    requires local { drop_side worker.old.job.kind worker.old.job.peer ≡ sides.Local }
+    requires bare { worker.old.token ≡ Token.Nothing }
+    requires spared { (H.reading here.now).requires ≡ None }
     requires owns { HasToken worker.old.number worker.old.job.key worker.old.token table.old }
     ensures does { Did table.old table.new (store (K.contents keeper.old) (K.records keeper.old) (K.faults keeper.old)) (store (K.contents keeper.new) (K.records keeper.new) (K.faults keeper.new)) worker.old worker.new
         (GoesSo (sight (H.reading here.now) (H.ends here.now) input.now.time input.now.number) (K.contents keeper.old) table.old table.new worker.old worker.new) result }
@@ -171,7 +229,7 @@ fn remove<K: Keeper>(
     ensures does { (x : Sight) → Did table.old table.new (store (K.contents keeper.old) (K.records keeper.old) (K.faults keeper.old)) (store (K.contents keeper.new) (K.records keeper.new) (K.faults keeper.new)) worker.old worker.new
         (ActsOver x (K.contents keeper.old) table.old table.new worker.old worker.new removes_now) result }
     ensures begun { IfOk result (λ out. (r : Reading) → HasGone r worker.old worker.new out) }
-    ensures calls { (x : Sight) → MakesOver x (K.contents keeper.old) table.old worker.old (λ t. Call.Remove ∷ []) (K.failing keeper.old) (K.failing keeper.new) result }
+    ensures calls { (x : Sight) → MakesOver x (K.contents keeper.old) table.old worker.old removes_now (K.failing keeper.old) (K.failing keeper.new) result }
     ensures parts { K.parts keeper.new ≡ K.parts keeper.old }
     ensures files { K.files keeper.new ≡ K.files keeper.old }
 {

@@ -4,10 +4,8 @@ use Rattle.std.specs.Prelude.{find, ◌==◌}
 use Rattle.std.specs.Option.{option_map}
 use Rattle.std.proofs.lemmas.Bool.Decides.{nat_tests}
 use Rattle.annex_base.specs.Lists.{Each, Member}
-use Rattle.annex_base.specs.Settings.{Settings}
 use Rattle.annex_base.proofs.Lists.{Each-from_members, Each-member}
 use Rattle.annex_base.specs.declared.kinds.Call.TheVariants.{PutFile}
-use Rattle.run_data.specs.Repos.{id_of}
 use Rattle.run_data.specs.declared.entry.By.{By}
 use Rattle.run_data.specs.declared.entry.Entry.{Entry}
 use Rattle.run_data.specs.declared.entry.EntryKind.{EntryKind}
@@ -15,10 +13,8 @@ use Rattle.run_data.specs.declared.entry.EntryKind.TheVariants as kinds
 use Rattle.run_data.specs.declared.job.Job.{Job}
 use Rattle.run_data.specs.declared.job.JobKind.TheVariants as jobs_of
 use Rattle.node_model.specs.After.{has_read, read_after, state_after}
-use Rattle.node_model.specs.Evidence.{standing_by}
 use Rattle.node_model.specs.Jobs as Jobs
 use Rattle.node_model.specs.Jobs.{Drops, Work, first_part, new_work, running_job, work_after, work_kind, works_after}
-use Rattle.node_model.specs.Knows.{standing_of}
 use Rattle.node_model.specs.Rows.{option_is}
 use Rattle.node_model.specs.SetUp.{SetUp}
 use Rattle.node_model.specs.Slots.{RunningJob, begun_after, free_slot, job_of}
@@ -27,9 +23,10 @@ use Rattle.content_lock.specs.Rows.{Rows}
 use Rattle.drop_phases.specs.declared.phase.Phase.{Phase}
 use Rattle.drop_worker.specs.Working.{phase_as}
 use Rattle.node_jobs.specs.Acting.{running_now, with_job}
-use Rattle.node_jobs.specs.Reads.{KnownLogs, need_in}
-use Rattle.node_jobs.specs.Running.{AreWorks, DropJob, Follows, HasRead, IsOwn, Jobs as JobsView, OwnAll, work_now}
+use Rattle.node_jobs.specs.Reads.{KnownLogs}
+use Rattle.node_jobs.specs.Running.{AreWorks, DropJob, Follows, HasRead, IsOwn, Jobs as JobsView, OwnAll, given, work_now}
 use Rattle.node_jobs.proofs.Among.{find_mapped, found_by_number}
+use Rattle.node_jobs.proofs.Knowing.{read_same}
 use Rattle.node_jobs.proofs.Stepping.{has_read_stays, read_stays}
 
 same_running : (js : List DropJob) → map running_job (map work_now js) ≡ map running_now js
@@ -45,17 +42,17 @@ none_numbered begun rows (j ∷ js) h =
     other : (m n : ℕ) → m ≤ n → (m == n + 1) ≡ false
     other m n below = grind (arith, nat_tests)
 
-pub works_begun : (jobs : JobsView) (rows : Rows) (what : Job) (s : SetUp) (st : State) (e : Entry) (st' : State) → what.kind ≡ jobs_of.Drop → OwnAll jobs rows → AreWorks s st jobs → e.kind ≡ kinds.Begin (jobs.begun + 1) what
-    → Follows s st e st' → AreWorks s st' (with_job jobs what)
-works_begun jobs rows what s st e st' drop own are kind follows =
+pub works_begun : (jobs : JobsView) (rows : Rows) (what : Job) (paths : List (List ℕ)) (s : SetUp) (st : State) (e : Entry) (st' : State) → what.kind ≡ jobs_of.Drop → OwnAll jobs rows → AreWorks s st jobs
+    → e.kind ≡ kinds.Begin (jobs.begun + 1) what → Follows s st e st' → AreWorks s st' (with_job jobs what paths)
+works_begun jobs rows what paths s st e st' drop own are kind follows =
     record {
       works = follows.works ∙ (ap (works_after (record { present = st.present; bar = st.bar; ends = st.ends }) s.number st.works e) kind ∙ ((λ i. new_work (are.works i) (jobs.begun + 1) what ∷ are.works i)
           ∙ (λ i. record { number = jobs.begun + 1; slot = free_slot (same_running jobs.running i); what = what; part = first_part (drop i); phase = Jobs.Fresh; fills = false; version = 3; heard = []; causes = [] } ∷ map work_now jobs.running)));
       begun = follows.begun ∙ (ap (begun_after st.begun) kind ∙ ap (λ (n : ℕ). n + 1) are.begun);
       read = (
         (refl, new_reads),
-        Each-from_members (λ j. HasRead s st' j.worker j.known) jobs.running
-            (λ j here. has_read_stays s st st' j (Each-member (λ x. HasRead s st x.worker x.known) jobs.running j are.read here) follows.logs (read_stays s st st' jobs e j are own.apart here follows)),
+        Each-from_members (λ j. HasRead (given s j.paths) st' j.worker j.known) jobs.running
+            (λ j here. has_read_stays (given s j.paths) st st' j (Each-member (λ x. HasRead (given s x.paths) st x.worker x.known) jobs.running j are.read here) follows.logs (read_stays s st st' jobs e j are own.apart here follows)),
       );
     }
   where
@@ -85,12 +82,12 @@ stay_all rows r e (w ∷ ws) none = (λ i. here i ∷ stay_all rows r e ws none 
 
 -- where no work changes, what a drop has read stays, and one at its first step would read what the logs say now
 still_works : (s : SetUp) (st : State) (e : Entry) (jobs : JobsView) (rows : Rows) → AreWorks s st jobs → OwnAll jobs rows → (state_after s st e).works ≡ st.works → (state_after s st e).begun ≡ st.begun → AreWorks s (state_after s st e) jobs
-unfolding standing_of
 still_works s st e jobs rows are own stay begun =
     record {
       works = stay ∙ are.works;
       begun = begun ∙ are.begun;
-      read = Each-from_members (λ j. HasRead s (state_after s st e) j.worker j.known) jobs.running (λ j here. by_known j here j.known (Each-member (λ x. HasRead s st x.worker x.known) jobs.running j are.read here));
+      read = Each-from_members (λ j. HasRead (given s j.paths) (state_after s st e) j.worker j.known) jobs.running
+          (λ j here. by_known j here j.known (Each-member (λ x. HasRead (given s x.paths) st x.worker x.known) jobs.running j are.read here));
     }
   where
     reads : (j : DropJob) → Member j jobs.running → (state_after s st e).read j.worker.number ≡ read_after (state_after s st e).logs (st.read j.worker.number) (Some (work_now j))
@@ -98,16 +95,11 @@ still_works s st e jobs rows are own stay begun =
         ap (read_after (state_after s st e).logs (st.read j.worker.number)) (ap (find (λ w. w.number == j.worker.number)) are.works
         ∙ (find_mapped work_now (λ w. w.number == j.worker.number) jobs.running ∙ ap (option_map work_now) (found_by_number jobs.running j own.apart here)))
 
-    by_known : (j : DropJob) → Member j jobs.running → (known : Option KnownLogs) → HasRead s st j.worker known → HasRead s (state_after s st e) j.worker known
+    by_known : (j : DropJob) → Member j jobs.running → (known : Option KnownLogs) → HasRead (given s j.paths) st j.worker known → HasRead (given s j.paths) (state_after s st e) j.worker known
     by_known j here None fresh =
         (fresh.0, reads j here ∙ ap (λ (b : Bool). if b then st.read j.worker.number else (state_after s st e).logs) (ap (λ (ph : Phase). has_read Drops (phase_as ph)) fresh.0))
     by_known j here (Some known) h =
-        let same : (state_after s st e).read j.worker.number ≡ st.read j.worker.number = reads j here ∙ ap (λ (b : Bool). if b then st.read j.worker.number else (state_after s st e).logs) h.begun in
-        record {
-          begun = h.begun;
-          need = ap need_in same ∙ h.need;
-          standing = λ c. ap (λ (r : Settings). standing_by r j.worker.job.key (id_of s.repos c)) same ∙ h.standing c;
-        }
+        read_same (given s j.paths) st (state_after s st e) j.worker known (reads j here ∙ ap (λ (b : Bool). if b then st.read j.worker.number else (state_after s st e).logs) h.begun) h
 
 pub works_stay_so : (s : SetUp) (st : State) (e : Entry) (jobs : JobsView) (rows : Rows) → AreWorks s st jobs → OwnAll jobs rows → job_of e.kind ≡ None → ((clock : ℕ) → e.kind ≡ kinds.Crash clock → ⊥) → AreWorks s (state_after s st e) jobs
 works_stay_so s st e jobs rows are own none crash =

@@ -1,5 +1,5 @@
 -- What the step of a job that drops its own copy makes, by where it stands.
-use Rattle.std.proofs.Common.{◌≡◌, inl, inr, ℕ, Bool, true, false, ◌&&◌, if◌then◌else◌, List, [], ◌∷◌, Option, Some, None, refl, sym, ap, subst, ◌∙◌}
+use Rattle.std.proofs.Common.{◌≡◌, inl, inr, ℕ, Bool, true, false, ◌&&◌, if◌then◌else◌, List, [], ◌∷◌, ◌++◌, Option, Some, None, refl, sym, ap, subst, ◌∙◌}
 use Rattle.std.specs.Prelude.{◌==◌, nat_le, nat_lt, not}
 use Rattle.std.specs.List.{list_all, list_any}
 use Rattle.std.proofs.lemmas.Bool.{and_parts, true≢false}
@@ -148,9 +148,13 @@ module _ (before : Turn) (local : side_of before.w ≡ Local) (Begins : Type 0) 
   opens_well : (peer : ℕ) → has_room t peer ≡ true → IsWell (sends_to t (talk t) None peer (Opening ∷ []))
   opens_well peer room = send_well None peer Opening tt (inr (refl, room, refl))
 
+  -- which calls it makes is nothing to that
+  calls_well : (calls : List Call) (m : Effect) → IsWell m → IsWell (record m { calls = calls })
+  calls_well calls m well = record { kind = well.kind; lines = well.lines; taken = well.taken; clients = well.clients; room = well.room }
+
   -- a store call fails, or not
   attempts_well : (cs : List Call) (m : Effect) → ((c : Call) → list_any (same_call c) cs ≡ true → IsCallOfJob c) → IsWell m → IsWell (attempts t cs None m)
-  attempts_well cs m own well = go t.look.fails
+  attempts_well cs m own well = calls_well (cs ++ m.calls) (unless (failing_call t.look.fails cs) fault m) (go t.look.fails)
     where
       fault : Call → Effect
       fault call = quietly (Fault call (by_me t)) None
@@ -164,7 +168,7 @@ module _ (before : Turn) (local : side_of before.w ≡ Local) (Begins : Type 0) 
   ends_well : (outcome : Outcome) → (Begins → Each (MayUnlock t (is_lost_ordered outcome)) (others_of t)) → IsWell (ends t None outcome)
   ends_well outcome may =
       attempts_well (to_release (owns_share t && not (is_lost_ordered outcome)))
-      (record { kind = ends_job t.w.number outcome; taken = None; sent = farewells t (is_lost_ordered outcome); lines = [] })
+      (record { kind = ends_job t.w.number outcome; taken = None; sent = farewells t (is_lost_ordered outcome); lines = []; calls = [] })
       (call_releases (owns_share t && not (is_lost_ordered outcome)))
       (record {
         kind = tt;

@@ -1,6 +1,6 @@
 -- What a job knows of the logs, and its step by that.
 use Rattle.std.proofs.Common.{◌≡◌, ℕ, zero, suc, ◌+◌, ◌<◌, true, List, [], ◌∷◌, ◌++◌, length, get_or, take, map, Option, Some, None, Result, Ok, Err, refl, sym, ap, subst, ◌∙◌}
-use Rattle.std.specs.Prelude.{IfOk}
+use Rattle.std.specs.Prelude.{IfOk, slice_get, unwrap_or}
 use Rattle.std.proofs.lemmas.List.{map-append, map_more}
 use Rattle.annex_base.specs.Settings.{Settings}
 use Rattle.annex_base.specs.declared.memory.NoMemory.{NoMemory}
@@ -15,12 +15,12 @@ use Rattle.node_model.specs.Clocks.{ClockSet, runs_on}
 use Rattle.node_model.specs.Ends.{EndName}
 use Rattle.node_model.specs.Evidence as drops
 use Rattle.node_model.specs.Evidence.{standing_by}
-use Rattle.node_model.specs.Jobs.{Drops, Work, drop_side}
-use Rattle.node_model.specs.Knows.{Reading, reading, standing_of}
-use Rattle.node_model.specs.Look.{Look}
+use Rattle.node_model.specs.Jobs.{Drops, Work, drop_side, or_own, target_of}
+use Rattle.node_model.specs.Knows.{Reading, need_by, need_of, reading, required_of, standing_of}
+use Rattle.node_model.specs.Look.{Look, failed_in}
 use Rattle.node_model.specs.SetUp.{SetUp}
 use Rattle.node_model.specs.State.{State}
-use Rattle.node_model.specs.Wanted.{required}
+use Rattle.wanted_expr.specs.Wanted.{required}
 use Rattle.node_ends.specs.Ends.{end_at}
 use Rattle.object_store.specs.Stores.{Contents}
 use Rattle.content_lock.specs.Rows.{Rows}
@@ -37,52 +37,74 @@ use Rattle.drop_worker.specs.Leaving.{stands_on}
 use Rattle.drop_worker.specs.Sides.{IsNext}
 use Rattle.drop_worker.specs.States.{IsSight, Sees, StepsSo}
 use Rattle.drop_worker.specs.Worker.{Worker}
-use Rattle.drop_worker.specs.Working.{failed_in, phase_as, sight, words_of, work_of}
+use Rattle.drop_worker.specs.Working.{phase_as, sight, words_of, work_of}
 use Rattle.node_jobs.specs.Calling.{Failing, JobMakes, WorkerMakes}
 use Rattle.node_jobs.specs.Doings.{Acts, Does, ReadsOn, SeesAct, Steps}
 use Rattle.node_jobs.specs.Places.{IsPlace, PlaceView}
-use Rattle.node_jobs.specs.Reads.{KnownLogs, need_in, reading_of, standing_at, standing_in, standings_by}
-use Rattle.node_jobs.specs.Running.{DropJob, HasRead, ReadSo, HasReadByPhase, place_reading, plain, work_now}
+use Rattle.node_jobs.specs.Reads.{KnownLogs, reading_of, standing_at, standing_in, standings_by}
+use Rattle.node_jobs.specs.Running.{DropJob, HadPaths, HasRead, ReadSo, HasReadByPhase, place_reading, plain, work_now}
 use Rattle.node_jobs.proofs.Hearing.{count_is}
 
 -- ---- what the job reads
 
 -- what it knows is what the state says that it has read
 pub record Knows (s : SetUp) (st : State) (j : DropJob) (known : KnownLogs) : Type 0 where
-  pub need : need_in (st.read j.worker.number) ≡ known.need
+  pub need : need_of s st (work_now j) ≡ known.need
   pub standing : (c : ℕ) → standing_of s st (work_now j) c ≡ standing_in known c
+  pub requires : required_of s st (work_now j) ≡ known.requires
 
 pub knows_read : (s : SetUp) (st : State) (j : DropJob) (known : KnownLogs) → HasRead s st j.worker (Some known) → Knows s st j known
-knows_read s st j known read = record { need = read.need; standing = read.standing }
+knows_read s st j known read = record { need = read.need; standing = read.standing; requires = read.requires }
 
 standing_listed : (f : List ℕ → drops.Standing) (repos : List RepoView) (c : ℕ) → f [] ≡ drops.Asked → standing_at (map f (map (λ (repo : RepoView). repo.id) repos)) c ≡ f (id_of repos c)
 standing_listed f [] c nameless = sym nameless
 standing_listed f (x ∷ xs) zero nameless = refl
 standing_listed f (x ∷ xs) (suc c) nameless = standing_listed f xs c nameless
 
+-- the identifier of a repository among them
+id_listed : (repos : List RepoView) (c : ℕ) → id_of repos c ≡ unwrap_or (slice_get (map (λ (repo : RepoView). repo.id) repos) c) []
+id_listed [] c = refl
+id_listed (x ∷ xs) zero = refl
+id_listed (x ∷ xs) (suc c) = id_listed xs c
+
+-- that of the target of a local drop
+target_own : (p : PlaceView) (s : SetUp) (j : DropJob) (own : List ℕ) → IsPlace p s → drop_side j.worker.job.kind j.worker.job.peer ≡ Local → own ≡ unwrap_or (slice_get p.ids p.number) [] → id_of s.repos (target_of s.number (work_now j)) ≡ own
+target_own p s j own place side is =
+    ap (λ (x : Side). id_of s.repos (or_own s.number x j.worker.job.peer)) side ∙ (id_listed s.repos s.number ∙ ((λ i. unwrap_or (slice_get (place.ids i) (place.number i)) []) ∙ sym is))
+
 -- at its first step it reads the logs
-pub knows_logs : (p : PlaceView) (s : SetUp) (st : State) (j : DropJob) (settings : Settings) (known : KnownLogs) → IsPlace p s → HasRead s st j.worker None → st.logs ≡ settings
-    → ((key : List ℕ) → standing_by settings key [] ≡ drops.Asked) → known.need ≡ need_in settings → map worker.standing_of known.standings ≡ standings_by settings j.worker.job.key p.ids → Knows s st j known
+knows_logs : (p : PlaceView) (s : SetUp) (st : State) (j : DropJob) (settings : Settings) (known : KnownLogs) (own : List ℕ) → drop_side j.worker.job.kind j.worker.job.peer ≡ Local → own ≡ unwrap_or (slice_get p.ids p.number) []
+    → known.need ≡ need_by settings j.paths → map worker.standing_of known.standings ≡ standings_by settings j.worker.job.key p.ids → known.requires ≡ required settings own j.worker.job.key j.paths
+    → IsPlace p s → HadPaths s j.worker.number j.paths → HasRead s st j.worker None → st.logs ≡ settings → ((key : List ℕ) → standing_by settings key [] ≡ drops.Asked) → Knows s st j known
 unfolding standing_of
-knows_logs p s st j settings known place fresh logs nameless need standings =
+knows_logs p s st j settings known own side own_is need standings demand place had fresh logs nameless =
     let same : st.read j.worker.number ≡ settings = fresh.1 ∙ logs in
+    let target = target_own p s j own place side own_is in
     record {
-      need = ap need_in same ∙ sym need;
+      need = (λ i. need_by (same i) (sym had i)) ∙ sym need;
       standing = λ c. ap (λ (r : Settings). standing_by r j.worker.job.key (id_of s.repos c)) same
           ∙ sym (ap (λ (l : List drops.Standing). standing_at l c) (standings ∙ ap (map (standing_by settings j.worker.job.key)) (sym place.ids))
           ∙ standing_listed (standing_by settings j.worker.job.key) s.repos c (nameless j.worker.job.key));
+      requires = (λ i. required (same i) (target i) j.worker.job.key (sym had i)) ∙ sym demand;
     }
+
+-- so it knows the logs of each such state
+abbrev pub Learns : PlaceView → Settings → DropJob → KnownLogs → Type 0
+Learns p settings j known = (s : SetUp) (st : State) → IsPlace p s → HadPaths s j.worker.number j.paths → HasRead s st j.worker j.known → st.logs ≡ settings → ((key : List ℕ) → standing_by settings key [] ≡ drops.Asked) → Knows s st j known
+
+pub learns_read : (p : PlaceView) (settings : Settings) (j : DropJob) (known : KnownLogs) → j.known ≡ Some known → Learns p settings j known
+learns_read p settings j known is = λ s st place had read logs nameless. knows_read s st j known (subst (HasRead s st j.worker) is read)
+
+pub learns_logs : (p : PlaceView) (settings : Settings) (j : DropJob) (known : KnownLogs) (own : List ℕ) → j.known ≡ None → drop_side j.worker.job.kind j.worker.job.peer ≡ Local → own ≡ unwrap_or (slice_get p.ids p.number) [] → known.need ≡ need_by settings j.paths
+    → map worker.standing_of known.standings ≡ standings_by settings j.worker.job.key p.ids → known.requires ≡ required settings own j.worker.job.key j.paths → Learns p settings j known
+learns_logs p settings j known own none side own_is need standings demand = λ s st place had read logs nameless.
+    knows_logs p s st j settings known own side own_is need standings demand place had (subst (HasRead s st j.worker) none read) logs nameless
 
 -- one more repository
 pub standings_more : (f : List ℕ → drops.Standing) (ids : List (List ℕ)) (i : ℕ) (id : List ℕ) (vs vs' : List Standing) (x : Standing) → i < length ids → id ≡ get_or ids i id → map worker.standing_of vs ≡ map f (take i ids)
     → vs' ≡ vs ++ x ∷ [] → worker.standing_of x ≡ f id → map worker.standing_of vs' ≡ map f (take (i + 1) ids)
 standings_more f ids i id vs vs' x within at was pushed is =
     ap (map worker.standing_of) pushed ∙ (map-append worker.standing_of vs (x ∷ []) ∙ ((λ k. was k ++ is k ∷ []) ∙ sym (map_more f ids i id within ∙ ap (λ (y : List ℕ). map f (take i ids) ++ f y ∷ []) (sym at))))
-
--- nothing is required yet
-nothing_required : (st : State) (s : SetUp) (v : Work) (c : ℕ) → None ≡ required st.logs (id_of s.repos c) v.what.key (s.paths v.number)
-unfolding required
-nothing_required st s v c = refl
 
 -- the job as its repository is, at a look that has its words
 pub sight_so : (p : PlaceView) (clock : ClockSet) (links : List EndView) (s : SetUp) (st : State) (k : Look) (j : DropJob) (known : KnownLogs) (time number : ℕ) → IsPlace p s → st.clock ≡ runs_on clock
@@ -91,8 +113,7 @@ pub sight_so : (p : PlaceView) (clock : ClockSet) (links : List EndView) (s : Se
 sight_so p clock links s st k j known time number place ticks read ends count at words =
     record {
       work = refl;
-      read = λ i. record { repo = sym place.number i; count = sym (count_is p s place) i; clock = sym ticks i; need = sym read.need i; standing = λ c. sym (read.standing c) i };
-      keeps = nothing_required st s (work_now j);
+      read = λ i. record { repo = sym place.number i; count = sym (count_is p s place) i; clock = sym ticks i; need = sym read.need i; standing = λ c. sym (read.standing c) i; requires = sym read.requires i };
       number = count;
       ends = λ i a. sym (ends a) i;
       time = at;
@@ -141,9 +162,31 @@ reads_on s st st' j w' known knows on number job begun =
     let same : st'.read w'.number ≡ st.read j.worker.number = ap st'.read number ∙ on.read in
     record {
       begun = begun;
-      need = ap need_in same ∙ knows.need;
+      need = (λ i. need_by (same i) (s.paths (number i))) ∙ knows.need;
       standing = λ c. (λ i. standing_by (same i) (job i).key (id_of s.repos c)) ∙ knows.standing c;
+      requires = (λ i. required (same i) (id_of s.repos (or_own s.number (drop_side (job i).kind (job i).peer) (job i).peer)) (job i).key (s.paths (number i))) ∙ knows.requires;
     }
+
+-- what is read of the same logs is the same
+pub read_same : (s : SetUp) (st st' : State) (w : Worker) (known : KnownLogs) → st'.read w.number ≡ st.read w.number → ReadSo s st w known → ReadSo s st' w known
+unfolding standing_of
+read_same s st st' w known same h = record {
+  begun = h.begun;
+  need = ap (λ (r : Settings). need_by r (s.paths w.number)) same ∙ h.need;
+  standing = λ c. ap (λ (r : Settings). standing_by r w.job.key (id_of s.repos c)) same ∙ h.standing c;
+  requires = ap (λ (r : Settings). required r (id_of s.repos (target_of s.number (work_of plain w))) w.job.key (s.paths w.number)) same ∙ h.requires;
+}
+
+-- so it is, whatever paths the keys of other jobs had
+pub read_apart : (s : SetUp) (st : State) (w : Worker) (known : Option KnownLogs) (paths : ℕ → List (List ℕ)) → paths w.number ≡ s.paths w.number → HasRead s st w known → HasRead (record s { paths = paths }) st w known
+unfolding standing_of
+read_apart s st w None paths same fresh = fresh
+read_apart s st w (Some known) paths same h = record {
+  begun = h.begun;
+  need = ap (need_by (st.read w.number)) same ∙ h.need;
+  standing = h.standing;
+  requires = ap (required (st.read w.number) (id_of s.repos (target_of s.number (work_of plain w))) w.job.key) same ∙ h.requires;
+}
 
 -- what is told is told to a job that knows this
 fed_as : (p : PlaceView) (clock : ClockSet) (links : List EndView) (known : KnownLogs) (time number slot : ℕ) (o : Option ℕ) (f : Option FrameView) (taken : Taken) → FeedsFrameAt (sight (place_reading p) (end_at links) time 0) slot o f taken
@@ -169,11 +212,10 @@ next_local : (side : Side) (r : Reading) (v v' : Work) → side ≡ Local → Is
 next_local side r v v' local next = let P : Side → Type 0 = λ x. IsNext x r v v' in subst P local next
 
 pub acts_so : (p : PlaceView) (clock : ClockSet) (links : List EndView) (settings : Settings) (input : Input) (contents contents' : Option Contents) (rows rows' : Rows) (j : DropJob) (w' : Worker) (known : KnownLogs) (out : Output) → drop_side j.worker.job.kind j.worker.job.peer ≡ Local
-    → ((s : SetUp) (st : State) → IsPlace p s → HasRead s st j.worker j.known → st.logs ≡ settings → ((key : List ℕ) → standing_by settings key [] ≡ drops.Asked) → Knows s st j known)
-    → HasReadByPhase p j.worker.phase j.known → Does p clock links known input contents rows j.worker w' out → Steps p contents contents' input rows rows' j.worker w' out
-    → Acts p clock links settings input contents rows j (record { worker = w'; known = Some known }) out
+    → Learns p settings j known → HasReadByPhase p j.worker.phase j.known → Does p clock links known input contents rows j.worker w' out → Steps p contents contents' input rows rows' j.worker w' out
+    → Acts p clock links settings input contents rows j (record { worker = w'; paths = j.paths; known = Some known }) out
 acts_so p clock links settings input contents contents' rows rows' j w' known out side knows stands does steps = λ c is s st k f sees.
-    let known_so : Knows s st j known = knows s st sees.job.place sees.job.read sees.logs sees.nameless in
+    let known_so : Knows s st j known = knows s st sees.job.place sees.job.paths sees.job.read sees.logs sees.nameless in
     let so : StepsSo (sight (reading_of p clock known) (end_at links) input.time input.number) j.worker w' out s st k (work_now j) f =
     does c is s st k (work_now j) f (worker_sees p clock links settings input rows c j known out s st k f known_so sees) in (
       record { made = so.made; next = λ going. next_local (drop_side j.worker.job.kind j.worker.job.peer) (reading s st (work_now j)) (work_of plain w') _ side (so.next going) },
@@ -181,22 +223,19 @@ acts_so p clock links settings input contents contents' rows rows' j w' known ou
     )
 
 pub acts_ok : (p : PlaceView) (clock : ClockSet) (links : List EndView) (settings : Settings) (input : Input) (contents contents' : Option Contents) (rows rows' : Rows) (j : DropJob) (w' : Worker) (known : KnownLogs) (r : Result Output NoMemory) → drop_side j.worker.job.kind j.worker.job.peer ≡ Local
-    → ((s : SetUp) (st : State) → IsPlace p s → HasRead s st j.worker j.known → st.logs ≡ settings → ((key : List ℕ) → standing_by settings key [] ≡ drops.Asked) → Knows s st j known)
-    → HasReadByPhase p j.worker.phase j.known → IfOk r (Does p clock links known input contents rows j.worker w') → IfOk r (Steps p contents contents' input rows rows' j.worker w')
-    → IfOk r (Acts p clock links settings input contents rows j (record { worker = w'; known = Some known }))
+    → Learns p settings j known → HasReadByPhase p j.worker.phase j.known → IfOk r (Does p clock links known input contents rows j.worker w') → IfOk r (Steps p contents contents' input rows rows' j.worker w')
+    → IfOk r (Acts p clock links settings input contents rows j (record { worker = w'; paths = j.paths; known = Some known }))
 acts_ok p clock links settings input contents contents' rows rows' j w' known (Ok out) side knows stands does steps = acts_so p clock links settings input contents contents' rows rows' j w' known out side knows stands does steps
 acts_ok p clock links settings input contents contents' rows rows' j w' known (Err e) side knows stands does steps = tt
 
 -- ---- its calls
 
 pub makes_so : (p : PlaceView) (clock : ClockSet) (links : List EndView) (settings : Settings) (input : Input) (contents : Option Contents) (rows : Rows) (j : DropJob) (known : KnownLogs) (before after : Failing) (out : Output)
-    → ((s : SetUp) (st : State) → IsPlace p s → HasRead s st j.worker j.known → st.logs ≡ settings → ((key : List ℕ) → standing_by settings key [] ≡ drops.Asked) → Knows s st j known)
-    → WorkerMakes p clock links known input contents rows j.worker before after out → JobMakes p clock links settings input contents rows before after j out
+    → Learns p settings j known → WorkerMakes p clock links known input contents rows j.worker before after out → JobMakes p clock links settings input contents rows before after j out
 makes_so p clock links settings input contents rows j known before after out knows makes = λ c is s st k f sees.
-    makes c is s st k (work_now j) f (worker_sees p clock links settings input rows c j known out s st k f (knows s st sees.job.place sees.job.read sees.logs sees.nameless) sees)
+    makes c is s st k (work_now j) f (worker_sees p clock links settings input rows c j known out s st k f (knows s st sees.job.place sees.job.paths sees.job.read sees.logs sees.nameless) sees)
 
 pub makes_ok : (p : PlaceView) (clock : ClockSet) (links : List EndView) (settings : Settings) (input : Input) (contents : Option Contents) (rows : Rows) (j : DropJob) (known : KnownLogs) (before after : Failing) (r : Result Output NoMemory)
-    → ((s : SetUp) (st : State) → IsPlace p s → HasRead s st j.worker j.known → st.logs ≡ settings → ((key : List ℕ) → standing_by settings key [] ≡ drops.Asked) → Knows s st j known)
-    → IfOk r (WorkerMakes p clock links known input contents rows j.worker before after) → IfOk r (JobMakes p clock links settings input contents rows before after j)
+    → Learns p settings j known → IfOk r (WorkerMakes p clock links known input contents rows j.worker before after) → IfOk r (JobMakes p clock links settings input contents rows before after j)
 makes_ok p clock links settings input contents rows j known before after (Ok out) knows makes = makes_so p clock links settings input contents rows j known before after out knows makes
 makes_ok p clock links settings input contents rows j known before after (Err e) knows makes = tt

@@ -6,7 +6,6 @@ pub mod Knowing
 pub mod Freeing
 pub mod Placing
 pub mod Stepping
-pub mod JobCalls
 pub mod Owning
 pub mod Beginning
 pub mod Nameless

@@ -1,12 +1,12 @@
 -- What the jobs have of the table after a step, or after one has begun.
-use Rattle.std.proofs.Common.{◌≡◌, ◌≢◌, inl, ℕ, zero, suc, ◌+◌, ◌<◌, ◌≤◌, Bool, true, false, if◌then◌else◌, List, [], ◌∷◌, ◌++◌, length, map, Option, Some, None, refl, sym, ap, subst, ◌∙◌, arith}
+use Rattle.std.proofs.Common.{◌≡◌, ◌≢◌, inl, inr, ℕ, zero, suc, ◌+◌, ◌<◌, ◌≤◌, Bool, true, false, if◌then◌else◌, List, [], ◌∷◌, ◌++◌, length, map, Option, Some, None, refl, sym, ap, subst, ◌∙◌, arith}
 use Rattle.std.specs.Prelude.{find, not, ◌==◌, ◌||◌}
 use Rattle.std.specs.Option.{option_map, option_map_or}
 use Rattle.std.proofs.lemmas.Bool.Decides.{nat_tests}
 use Rattle.annex_base.specs.Lists.{Each, Member}
 use Rattle.annex_base.specs.Settings.{Settings}
 use Rattle.annex_base.proofs.Options.{some_none}
-use Rattle.annex_base.proofs.Lists.{Member-append_right, Each-append, Each-both, Each-left, Each-right, Each-weaker}
+use Rattle.annex_base.proofs.Lists.{Member-append_left, Member-append_right, Member-map, Each-append, Each-both, Each-from_members, Each-left, Each-right, Each-weaker}
 use Rattle.drop_proof.specs.declared.rule.Side.TheVariants.{Local}
 use Rattle.run_data.specs.declared.job.Job.{Job}
 use Rattle.link_ring.specs.Ends.{EndView}
@@ -31,7 +31,7 @@ use Rattle.node_jobs.specs.declared.finding.Found.{Found}
 use Rattle.node_jobs.specs.Acting.{new_worker, running_now, with_job, word_at}
 use Rattle.node_jobs.specs.Changes.{Changes, job_after, output_of}
 use Rattle.node_jobs.specs.Leaving.{KeepsWord, Leaves, heard_at}
-use Rattle.node_jobs.specs.Running.{AllApart, AreApart, DropJob, IsDrop, IsOwn, Jobs, OwnAll, job_at, place_reading}
+use Rattle.node_jobs.specs.Running.{AllApart, AreApart, DropJob, IsDrop, IsOwn, Jobs, OwnAll, given_of, job_at, place_reading}
 use Rattle.node_jobs.specs.declared.feed.Feed.{Feed}
 use Rattle.node_jobs.specs.Feeds.{IsFedAt, feed_at, feed_by, feed_of, bare_feed}
 use Rattle.node_jobs.proofs.Among.{found_by_number, apart_before, apart_behind, apart_with, apart_without, none_by_number, others_found}
@@ -160,6 +160,23 @@ module _ (links : List EndView) (clock : ClockSet) (settings : Settings) (jobs :
       ∙ (others_found job ch.front ch.j ch.j' ch.back a.ended (λ e. other (sym (ch.job ∙ e))) ch.steps.number
       ∙ ap (λ (js : List DropJob). job_at js job) (sym ch.was_is))
 
+  abbrev Was : DropJob → Type 0
+  Was x = Member (given_of x) (map given_of (ch.front ++ ch.j ∷ ch.back))
+
+  given_stay : (j' : DropJob) → given_of j' ≡ given_of ch.j → (ended : Bool) → Each Was (ch.front ++ (job_after ended j' ++ ch.back))
+  given_stay j' same ended =
+      Each-append Was ch.front (job_after ended j' ++ ch.back) (Each-from_members Was ch.front (λ x m. Member-map given_of all x (Member-append_left ch.front (ch.j ∷ ch.back) x m))) (behind ended)
+    where
+      all : List DropJob
+      all = ch.front ++ ch.j ∷ ch.back
+
+      back : Each Was ch.back
+      back = Each-from_members Was ch.back (λ x m. Member-map given_of all x (Member-append_right ch.front (ch.j ∷ ch.back) x (inr m)))
+
+      behind : (ended : Bool) → Each Was (job_after ended j' ++ ch.back)
+      behind true = back
+      behind false = (subst (λ y. Member y (map given_of all)) (sym same) (Member-map given_of all ch.j (Member-append_right ch.front (ch.j ∷ ch.back) ch.j (inl refl))), back)
+
   pub leaves_after : IsFedAt links ch.j found.feed → Leaves links jobs (record jobs { running = now }) rows rows' known known' a
   leaves_after fed = record {
     after = ch.steps.after;
@@ -169,6 +186,8 @@ module _ (links : List EndView) (clock : ClockSet) (settings : Settings) (jobs :
     grows = heard_grows;
     off = off_the_list;
     apart = others_as_they_were;
+    given = subst (λ (js : List DropJob). Each (λ x. Member (given_of x) (map given_of js)) now) (sym ch.was_is)
+        (subst (Each Was) (sym ch.now_is) (given_stay ch.j' (λ i. (ch.steps.number i, ch.paths i)) a.ended));
   }
 
 -- ---- a slot for one more
@@ -239,8 +258,8 @@ length_runs : (js : List DropJob) → length (map running_now js) ≡ length js
 length_runs [] = refl
 length_runs (j ∷ js) = ap (λ (n : ℕ). suc n) (length_runs js)
 
-pub owns_begun : (jobs : Jobs) (rows : Rows) (what : Job) → drop_side what.kind what.peer ≡ Local → length jobs.running < 4 → OwnAll jobs rows → OwnAll (with_job jobs what) rows
-owns_begun jobs rows what side few own =
+pub owns_begun : (jobs : Jobs) (rows : Rows) (what : Job) (paths : List (List ℕ)) → drop_side what.kind what.peer ≡ Local → length jobs.running < 4 → OwnAll jobs rows → OwnAll (with_job jobs what paths) rows
+owns_begun jobs rows what paths side few own =
     record {
       drops = (record { side = side; slot = slot_small (map running_now jobs.running); fits = tt; stands = refl; unheard = λ fresh. refl }, own.drops);
       owns = (
@@ -248,7 +267,7 @@ owns_begun jobs rows what side few own =
         Each-weaker (IsOwn jobs.begun rows) (IsOwn (jobs.begun + 1) rows) (λ x o. let at : x.worker.number ≤ jobs.begun = o.number in record { number = omega (arith, at); owns = o.owns }) jobs.running own.owns,
       );
       apart = (
-        Each-both (IsOwn jobs.begun rows) (λ x. free_slot (map running_now jobs.running) ≢ x.worker.slot) (AreApart (record { worker = new_worker jobs what; known = None }))
+        Each-both (IsOwn jobs.begun rows) (λ x. free_slot (map running_now jobs.running) ≢ x.worker.slot) (AreApart (record { worker = new_worker jobs what; paths = paths; known = None }))
             (λ x o other. record { number = λ e. let at : x.worker.number ≤ jobs.begun = o.number in absurd (omega (arith, at, e)); slot = other }) jobs.running own.owns
             (unused jobs.running (free_slot (map running_now jobs.running)) (slot_free (map running_now jobs.running) (subst (λ (n : ℕ). n < 4) (sym (length_runs jobs.running)) few))),
         own.apart,

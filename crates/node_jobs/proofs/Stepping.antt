@@ -1,14 +1,14 @@
 -- The step of the first job that has one, and the works that follow.
 use Rattle.std.proofs.Common.{◌≡◌, inl, inr, ℕ, zero, suc, ◌+◌, ◌<◌, Bool, true, false, if◌then◌else◌, List, [], ◌∷◌, ◌++◌, length, filter, map, Option, Some, None, refl, sym, ap, subst, ◌∙◌, arith}
-use Rattle.std.specs.Prelude.{find, is_some, nat_lt, slice_get, ◌==◌}
+use Rattle.std.specs.Prelude.{find, is_some, slice_get, ◌==◌}
 use Rattle.std.proofs.lemmas.Option.{slice_get_cases}
 use Rattle.std.specs.Option.{ForSome, option_map, option_map_or}
 use Rattle.std.proofs.lemmas.Bool.{ne_eqb}
 use Rattle.annex_base.specs.Lists.{Each, Member}
 use Rattle.annex_base.specs.Settings.{Settings}
-use Rattle.annex_base.specs.declared.kinds.Call.{Call}
 use Rattle.annex_base.proofs.Conditions.{eqb_refl}
-use Rattle.annex_base.proofs.Lists.{Each-append, Each-member, Each-weaker, Each-from_members, Member-append_left, Member-append_right, find_member}
+use Rattle.annex_base.proofs.Lists.{Each-append, Each-both, Each-member, Each-right, Each-weaker, Each-from_members, Member-append_left, Member-append_right, find_member}
+use Rattle.annex_base.proofs.Options.{map_some}
 use Rattle.annex_base.specs.OptionSteps.{first_some}
 use Rattle.run_data.specs.declared.entry.Entry.{Entry}
 use Rattle.run_data.specs.declared.entry.FrameView.{FrameView}
@@ -17,9 +17,7 @@ use Rattle.node_model.specs.After.{has_read, read_after}
 use Rattle.node_model.specs.Clocks.{ClockSet}
 use Rattle.node_model.specs.Jobs as Jobs
 use Rattle.node_model.specs.Jobs.{Work, work_after, work_kind}
-use Rattle.node_model.specs.Knows.{standing_of}
-use Rattle.node_model.specs.Evidence.{standing_by}
-use Rattle.node_model.specs.Look.{Look, Effect, entry_of}
+use Rattle.node_model.specs.Look.{Look, Effect, as_told, entry_of, failed_in}
 use Rattle.node_model.specs.Rows.{option_is}
 use Rattle.node_model.specs.SetUp.{SetUp, slots}
 use Rattle.node_model.specs.Slots.{job_of}
@@ -31,31 +29,28 @@ use Rattle.node_ends.specs.Ends.{end_at, room_at, wait_at}
 use Rattle.object_store.specs.Stores.{Contents}
 use Rattle.content_lock.specs.CallsMade.{MakesCalls, fewer}
 use Rattle.content_lock.specs.Rows.{Rows}
-use Rattle.run_data.specs.Repos.{id_of}
 use Rattle.drop_worker.specs.Begun.{HasGone, IsLast, IsOnward}
 use Rattle.drop_phases.specs.declared.phase.Phase.{Phase}
 use Rattle.drop_phases.specs.declared.turn.Taken.{Taken}
 use Rattle.drop_worker.specs.Feeding.{FeedsFrameAt, FindsAt}
 use Rattle.drop_worker.specs.Leaving.{stands_on}
-use Rattle.drop_worker.specs.SlotCalls.{slot_calls}
 use Rattle.drop_worker.specs.States.{HaveState}
-use Rattle.drop_worker.specs.Working.{end_in, failed_in, frames_of, phase_as, sight, words_of}
+use Rattle.drop_worker.specs.Working.{end_in, frames_of, phase_as, sight, words_of}
 use Rattle.node_jobs.specs.declared.acted.Acted.{Acted}
 use Rattle.node_jobs.specs.declared.finding.Found.{Found}
 use Rattle.node_jobs.specs.Acting.{IsKindOf, SeesActed, SeesJobs, StepsJobs, WaitsFor, made_by, taken_by}
 use Rattle.node_jobs.specs.Calling.{Failing, JobMakes}
-use Rattle.node_jobs.specs.Calls.{first_slot, job_calls, work_in}
 use Rattle.node_jobs.specs.Changes.{Changes, input_of, job_after, output_of}
 use Rattle.node_jobs.specs.Doings.{ActsSo, SeesAct}
 use Rattle.node_jobs.specs.Feeds.{SeesJob}
 use Rattle.node_jobs.specs.Finding.{Finds, FindsFirst, IsFirst, IsSlotIdle, has_slot}
 use Rattle.node_jobs.specs.Places.{PlaceView}
-use Rattle.node_jobs.specs.Reads.{KnownLogs, need_in}
-use Rattle.node_jobs.specs.Running.{AllApart, AreApart, AreWorks, DropJob, Follows, HasRead, IsDrop, Jobs as JobsView, OwnAll, place_reading, work_now}
+use Rattle.node_jobs.specs.Reads.{KnownLogs}
+use Rattle.node_jobs.specs.Running.{AllApart, AreApart, AreWorks, DropJob, Follows, HadPaths, HasRead, IsDrop, Jobs as JobsView, OwnAll, given, place_reading, work_now}
 use Rattle.node_jobs.proofs.Among.{apart_before, apart_behind, find_mapped, found_by_number, get_middle, is_left, works_off, works_on}
 use Rattle.node_jobs.proofs.EntryKinds.{last_begun, last_works, onward_begun, onward_job, onward_works}
 use Rattle.node_jobs.proofs.Hearing.{awaiting}
-use Rattle.node_jobs.proofs.Knowing.{can_stand}
+use Rattle.node_jobs.proofs.Knowing.{can_stand, read_apart, read_same}
 
 -- ---- the first slot that has a step
 
@@ -69,16 +64,6 @@ first_step f (suc (suc (suc (suc n)))) m below before at = absurd (omega (arith,
 pub no_step : (f : ℕ → Option Effect) → ((i : ℕ) → i < 4 → f i ≡ None) → first_some f slots ≡ None
 no_step f none = rw (none 0 (omega arith), none 1 (omega arith), none 2 (omega arith), none 3 (omega arith)) refl
 
-pub first_found : (p : ℕ → Bool) (n : ℕ) → n < 4 → ((i : ℕ) → i < n → p i ≡ false) → p n ≡ true → find p slots ≡ Some n
-first_found p zero below before at = rw at refl
-first_found p (suc zero) below before at = rw (before 0 (omega arith), at) refl
-first_found p (suc (suc zero)) below before at = rw (before 0 (omega arith), before 1 (omega arith), at) refl
-first_found p (suc (suc (suc zero))) below before at = rw (before 0 (omega arith), before 1 (omega arith), before 2 (omega arith), at) refl
-first_found p (suc (suc (suc (suc n)))) below before at = absurd (omega (arith, below))
-
-pub none_found : (p : ℕ → Bool) → ((i : ℕ) → i < 4 → p i ≡ false) → find p slots ≡ None
-none_found p none = rw (none 0 (omega arith), none 1 (omega arith), none 2 (omega arith), none 3 (omega arith)) refl
-
 pub middle_member : {X : Type 0} (front : List X) (x : X) (back : List X) → Member x (front ++ x ∷ back)
 middle_member front x back = Member-append_right front (x ∷ back) x (inl refl)
 
@@ -87,8 +72,9 @@ middle_member front x back = Member-append_right front (x ∷ back) x (inl refl)
 pub sees_each : (links : List EndView) (clock : ClockSet) (settings : Settings) (jobs : JobsView) (number time : ℕ) (s : SetUp) (st : State) (k : Look) → SeesJobs links clock settings jobs number time s st k
     → Each (λ j. SeesJob jobs.place clock links j time s st k) jobs.running
 sees_each links clock settings jobs number time s st k sees =
-    Each-weaker (λ j. HasRead s st j.worker j.known) (λ j. SeesJob jobs.place clock links j time s st k)
-    (λ j read. record { place = sees.place; read = read; count = sees.count; ends = sees.ends; sees = sees.sees; ticks = sees.ticks; at = sees.at }) jobs.running sees.works.read
+    Each-both (λ j. HadPaths s j.worker.number j.paths) (λ j. HasRead (given s j.paths) st j.worker j.known) (λ j. SeesJob jobs.place clock links j time s st k)
+    (λ j had read. record { place = sees.place; paths = had; read = read_apart (given s j.paths) st j.worker j.known s.paths (sym had) read; count = sees.count; ends = sees.ends; sees = sees.sees; ticks = sees.ticks; at = sees.at })
+    jobs.running sees.paths sees.works.read
 
 slot_none : (p : PlaceView) (clock : ClockSet) (links : List EndView) (js : List DropJob) (time slot : ℕ) (rows : Rows) (c : Contents) (s : SetUp) (st : State) (k : Look) → IsSlotIdle p clock links js time slot
     → Each (λ j. SeesJob p clock links j time s st k) js → HaveState rows c st → st.works ≡ map work_now js → slot_step s st k (find (λ w. w.slot == slot) st.works) ≡ None
@@ -101,21 +87,12 @@ pub none_steps : (p : PlaceView) (clock : ClockSet) (links : List EndView) (js :
 none_steps p clock links js time rows c s st k idle sees keeps works =
     no_step (λ slot. slot_step s st k (find (λ w. w.slot == slot) st.works)) (λ slot below. slot_none p clock links js time slot rows c s st k (idle slot below) sees keeps works)
 
--- so it makes no call
-pub none_calls : (p : PlaceView) (clock : ClockSet) (links : List EndView) (js : List DropJob) (time : ℕ) (rows : Rows) (c : Contents) (s : SetUp) (st : State) (k : Look) → Finds p clock links js time None
-    → Each (λ j. SeesJob p clock links j time s st k) js → HaveState rows c st → st.works ≡ map work_now js → job_calls s st k ≡ []
-none_calls p clock links js time rows c s st k idle sees keeps works =
-    ap (λ (o : Option ℕ). option_map_or (λ slot. slot_calls s st k (work_in st slot)) o [])
-    (none_found (λ slot. is_some (slot_step s st k (work_in st slot))) (λ slot below. ap (λ (m : Option Effect). is_some m) (slot_none p clock links js time slot rows c s st k (idle slot below) sees keeps works)))
-
 pub all_left : (before : Failing) → before ≡ option_map (fewer None) before
 all_left None = refl
 all_left (Some failing) = refl
 
-pub none_made : (cs : List Call) (before : Failing) → cs ≡ [] → MakesCalls cs None before before
-none_made cs before none = record { first = λ failing told. ap (find (λ call. nat_lt 0 (failing call))) (sym none); left = all_left before }
+-- ---- a job that is ready has a step
 
--- a job that is ready has a step
 -- the end is open where a frame is taken
 abbrev IsOpenAt : Turn → Option ℕ → Option FrameView → Type 0
 IsOpenAt t (Some peer) (Some f) = (end_with t peer).opened ≡ true
@@ -173,23 +150,18 @@ pub read_stays : (s : SetUp) (st st' : State) (jobs : JobsView) (e : Entry) (j :
 read_stays s st st' jobs e j are apart among follows =
     follows.read j.worker.number
     ∙ (ap (read_after st.logs (st.read j.worker.number)) (ap (find (λ w. w.number == j.worker.number)) are.works ∙ (find_mapped work_now (λ w. w.number == j.worker.number) jobs.running ∙ ap (option_map work_now) (found_by_number jobs.running j apart among)))
-    ∙ by_known j.known (Each-member (λ x. HasRead s st x.worker x.known) jobs.running j are.read among))
+    ∙ by_known j.known (Each-member (λ x. HasRead (given s x.paths) st x.worker x.known) jobs.running j are.read among))
   where
-    by_known : (known : Option KnownLogs) → HasRead s st j.worker known → read_after st.logs (st.read j.worker.number) (Some (work_now j)) ≡ st.read j.worker.number
+    by_known : (known : Option KnownLogs) → HasRead (given s j.paths) st j.worker known → read_after st.logs (st.read j.worker.number) (Some (work_now j)) ≡ st.read j.worker.number
     by_known None fresh = ap (λ (ph : Phase). if has_read Jobs.Drops (phase_as ph) then st.read j.worker.number else st.logs) fresh.0 ∙ sym fresh.1
     by_known (Some known) read = ap (λ (b : Bool). if b then st.read j.worker.number else st.logs) read.begun
 
 pub has_read_stays : (s : SetUp) (st st' : State) (j : DropJob) → HasRead s st j.worker j.known → st'.logs ≡ st.logs → st'.read j.worker.number ≡ st.read j.worker.number → HasRead s st' j.worker j.known
-unfolding standing_of
 has_read_stays s st st' j was logs read = by_known j.known was
   where
     by_known : (known : Option KnownLogs) → HasRead s st j.worker known → HasRead s st' j.worker known
     by_known None fresh = (fresh.0, read ∙ (fresh.1 ∙ sym logs))
-    by_known (Some known) h = record {
-      begun = h.begun;
-      need = ap need_in read ∙ h.need;
-      standing = λ c. ap (λ (r : Settings). standing_by r j.worker.job.key (id_of s.repos c)) read ∙ h.standing c;
-    }
+    by_known (Some known) h = read_same s st st' j.worker known read h
 
 -- ---- a step
 
@@ -227,10 +199,10 @@ module _ (links : List EndView) (clock : ClockSet) (settings : Settings) (jobs :
 
   -- the same, as the list has it
   abbrev made : Effect
-  made = record { kind = a.kind; taken = taken_by links ch.j.worker.slot found.feed.takes; sent = frames_of (end_at links) ch.j.worker.slot a.sends.items; lines = [] }
+  made = record { kind = a.kind; taken = taken_by links ch.j.worker.slot found.feed.takes; sent = frames_of (end_at links) ch.j.worker.slot a.sends.items; lines = []; calls = [] }
 
   made_is : made ≡ made_by links a
-  made_is = λ i. record { kind = a.kind; taken = taken_by links (sym ch.slot i) (sym ch.takes i); sent = frames_of (end_at links) (sym ch.slot i) a.sends.items; lines = [] }
+  made_is = λ i. record { kind = a.kind; taken = taken_by links (sym ch.slot i) (sym ch.takes i); sent = frames_of (end_at links) (sym ch.slot i) a.sends.items; lines = []; calls = [] }
 
   module _ (c : Contents) (tells : known ≡ Some c) (s : SetUp) (st : State) (k : Look) (sees : SeesJobs links clock settings jobs number time s st k) (keeps : HaveState rows c st) (acted : SeesActed jobs k (Some a)) where
     each : Each (λ j. SeesJob jobs.place clock links j time s st k) jobs.running
@@ -263,34 +235,38 @@ module _ (links : List EndView) (clock : ClockSet) (settings : Settings) (jobs :
     acts : ActsSo links ch.j ch.j' (output_of a) s st k f
     acts = (ch.acts c tells s st k f seen).0
 
-    steps_so : job_step s st k ≡ Some (made_by links a)
-    steps_so =
-        first_step (λ slot. slot_step s st k (find (λ w. w.slot == slot) st.works)) ch.j.worker.slot (made_by links a) drop.slot
+    -- it is the step of the job's slot
+    slot_is : slot_step s st k (find (λ w. w.slot == ch.j.worker.slot) st.works) ≡ slot_step s st k (Some (work_now ch.j))
+    slot_is =
+        ap (λ (ws : List Work). slot_step s st k (find (λ w. w.slot == ch.j.worker.slot) ws)) sees.works.works
+        ∙ ap (slot_step s st k) (find_mapped work_now (λ w. w.slot == ch.j.worker.slot) jobs.running ∙ ap (option_map work_now) first_of_found.found)
+
+    step_is : job_step s st k ≡ slot_step s st k (Some (work_now ch.j))
+    step_is =
+        let made_there = map_some (slot_step s st k (Some (work_now ch.j))) as_told made acts.made in
+        first_step (λ slot. slot_step s st k (find (λ w. w.slot == slot) st.works)) ch.j.worker.slot made_there.0 drop.slot
         (λ slot below. slot_none jobs.place clock links jobs.running time slot rows c s st k (first_of_found.before slot below) each keeps sees.works.works)
-        (ap (λ (ws : List Work). slot_step s st k (find (λ w. w.slot == ch.j.worker.slot) ws)) sees.works.works
-        ∙ (ap (slot_step s st k) (find_mapped work_now (λ w. w.slot == ch.j.worker.slot) jobs.running ∙ ap (option_map work_now) first_of_found.found) ∙ (acts.made ∙ ap (λ (m : Effect). Some m) made_is)))
+        (slot_is ∙ made_there.1) ∙ sym made_there.1
 
-    -- ---- its calls
+    steps_so : option_map as_told (job_step s st k) ≡ Some (made_by links a)
+    steps_so = ap (option_map as_told) step_is ∙ (acts.made ∙ ap (λ (m : Effect). Some m) made_is)
 
-    work_there : work_in st ch.j.worker.slot ≡ Some (work_now ch.j)
-    work_there =
-        ap (λ (ws : List Work). find (λ w. w.slot == ch.j.worker.slot) ws) sees.works.works
-        ∙ (find_mapped work_now (λ w. w.slot == ch.j.worker.slot) jobs.running ∙ ap (option_map work_now) first_of_found.found)
-
-    slot_there : first_slot s st k ≡ Some ch.j.worker.slot
-    slot_there =
-        first_found (λ slot. is_some (slot_step s st k (work_in st slot))) ch.j.worker.slot drop.slot
-        (λ slot below. ap (λ (m : Option Effect). is_some m) (slot_none jobs.place clock links jobs.running time slot rows c s st k (first_of_found.before slot below) each keeps sees.works.works))
-        (ap (λ (o : Option Work). is_some (slot_step s st k o)) work_there ∙ ap (λ (m : Option Effect). is_some m) acts.made)
-
-    calls_are : job_calls s st k ≡ slot_calls s st k (Some (work_now ch.j))
-    calls_are = ap (λ (o : Option ℕ). option_map_or (λ slot. slot_calls s st k (work_in st slot)) o []) slot_there ∙ ap (slot_calls s st k) work_there
-
+    -- so its calls are those of the slot's step
     pub calls_so : (before after : Failing) → ForSome (slice_get jobs.running found.index) (λ j. JobMakes jobs.place clock links settings (input_of found.feed time number) known rows before after j (output_of a))
-        → MakesCalls (job_calls s st k) (failed_in a.kind) before after
-    calls_so before after makes = subst (λ (cs : List Call). MakesCalls cs (failed_in a.kind) before after) (sym calls_are) (makes ch.j job_there c tells s st k f seen)
+        → ForSome (job_step s st k) (λ (m : Effect). MakesCalls m.calls (failed_in a.kind) before after)
+    calls_so before after makes =
+        subst (λ (o : Option Effect). ForSome o (λ (m : Effect). MakesCalls m.calls (failed_in a.kind) before after)) (sym step_is) (makes ch.j job_there c tells s st k f seen)
 
     -- ---- the works that follow
+
+    abbrev Had : DropJob → Type 0
+    Had j = HadPaths s j.worker.number j.paths
+
+    had : Each Had (ch.front ++ ch.j ∷ ch.back)
+    had = subst (Each Had) ch.was_is sees.paths
+
+    had_then : Had ch.j'
+    had_then = ch.paths ∙ ((Each-right Had ch.front (ch.j ∷ ch.back) had).0 ∙ ap s.paths (sym ch.steps.number))
 
     module _ (st' : State) (follows : Follows s st (entry_of s.number k (made_by links a)) st') where
       abbrev e : Entry
@@ -299,15 +275,15 @@ module _ (links : List EndView) (clock : ClockSet) (settings : Settings) (jobs :
       abbrev rr : Jobs.RowsAndEnds
       rr = record { present = st.present; bar = st.bar; ends = st.ends }
 
-      others_read : (j : DropJob) → Member j jobs.running → HasRead s st' j.worker j.known
+      others_read : (j : DropJob) → Member j jobs.running → HasRead (given s j.paths) st' j.worker j.known
       others_read j here =
-          has_read_stays s st st' j (Each-member (λ x. HasRead s st x.worker x.known) jobs.running j sees.works.read here) follows.logs (read_stays s st st' jobs e j sees.works own.apart here follows)
+          has_read_stays (given s j.paths) st st' j (Each-member (λ x. HasRead (given s x.paths) st x.worker x.known) jobs.running j sees.works.read here) follows.logs (read_stays s st st' jobs e j sees.works own.apart here follows)
 
-      front_read : Each (λ j. HasRead s st' j.worker j.known) ch.front
-      front_read = Each-from_members (λ j. HasRead s st' j.worker j.known) ch.front (λ j here. others_read j (subst (Member j) (sym ch.was_is) (Member-append_left ch.front (ch.j ∷ ch.back) j here)))
+      front_read : Each (λ j. HasRead (given s j.paths) st' j.worker j.known) ch.front
+      front_read = Each-from_members (λ j. HasRead (given s j.paths) st' j.worker j.known) ch.front (λ j here. others_read j (subst (Member j) (sym ch.was_is) (Member-append_left ch.front (ch.j ∷ ch.back) j here)))
 
-      back_read : Each (λ j. HasRead s st' j.worker j.known) ch.back
-      back_read = Each-from_members (λ j. HasRead s st' j.worker j.known) ch.back (λ j here. others_read j (subst (Member j) (sym ch.was_is) (Member-append_right ch.front (ch.j ∷ ch.back) j (inr here))))
+      back_read : Each (λ j. HasRead (given s j.paths) st' j.worker j.known) ch.back
+      back_read = Each-from_members (λ j. HasRead (given s j.paths) st' j.worker j.known) ch.back (λ j here. others_read j (subst (Member j) (sym ch.was_is) (Member-append_right ch.front (ch.j ∷ ch.back) j (inr here))))
 
       works_on_so : IsOnward ch.j.worker.number a.kind → a.ended ≡ false → AreWorks s st' (record jobs { running = ch.front ++ ch.j' ∷ ch.back })
       works_on_so onward going =
@@ -315,8 +291,11 @@ module _ (links : List EndView) (clock : ClockSet) (settings : Settings) (jobs :
             works = follows.works ∙ (onward_works rr s.number ch.j.worker.number st.works e a.kind onward ∙ (ap (map (work_after rr s.number e)) (sees.works.works ∙ ap (map work_now) ch.was_is)
                 ∙ works_on (work_after rr s.number e) ch.front ch.j ch.j' ch.back before goes behind));
             begun = follows.begun ∙ (onward_begun ch.j.worker.number st.begun a.kind onward ∙ sees.works.begun);
-            read = Each-append (λ j. HasRead s st' j.worker j.known) ch.front (ch.j' ∷ ch.back) front_read
-                ((ch.acts c tells s st k f seen).1 going st' (record { logs = follows.logs; read = read_stays s st st' jobs e ch.j sees.works own.apart among follows }), back_read);
+            read = Each-append (λ j. HasRead (given s j.paths) st' j.worker j.known) ch.front (ch.j' ∷ ch.back) front_read (
+              read_apart s st' ch.j'.worker ch.j'.known (λ job. ch.j'.paths) had_then
+                  ((ch.acts c tells s st k f seen).1 going st' (record { logs = follows.logs; read = read_stays s st st' jobs e ch.j sees.works own.apart among follows })),
+              back_read,
+            );
           }
         where
           mine : job_of a.kind ≡ Some ch.j.worker.number
@@ -339,7 +318,7 @@ module _ (links : List EndView) (clock : ClockSet) (settings : Settings) (jobs :
             works = follows.works ∙ (last_works rr s.number ch.j.worker.number st.works e a.kind last ∙ (ap (filter (is_left ch.j.worker.number)) (sees.works.works ∙ ap (map work_now) ch.was_is)
                 ∙ works_off ch.j.worker.number ch.front ch.j ch.back before (rw (eqb_refl ch.j.worker.number) refl) behind));
             begun = follows.begun ∙ (last_begun ch.j.worker.number st.begun a.kind last ∙ sees.works.begun);
-            read = Each-append (λ j. HasRead s st' j.worker j.known) ch.front ch.back front_read back_read;
+            read = Each-append (λ j. HasRead (given s j.paths) st' j.worker j.known) ch.front ch.back front_read back_read;
           }
         where
           before : Each (λ x. is_left ch.j.worker.number (work_now x) ≡ true) ch.front

@@ -1,7 +1,9 @@
 -- The step of the first job that has one (own).
 use Rattle.std.specs.Prelude.{◌≡◌, ℕ, ◌+◌, ◌*◌, ◌∷◌, true, is_some, List, [], length, map, Option, Some, None, option_and_then, false}
 use Rattle.std.specs.Option.{option_map}
+use Rattle.annex_base.specs.Lists.{Each}
 use Rattle.annex_base.specs.Settings.{Settings}
+use Rattle.annex_base.specs.declared.kinds.Call.{Call}
 use Rattle.annex_base.specs.declared.kinds.Word.{Word}
 use Rattle.run_data.specs.declared.entry.FrameView.{FrameView}
 use Rattle.run_data.specs.declared.job.Job.{Job}
@@ -12,7 +14,7 @@ use Rattle.node_model.specs.Clocks.{ClockSet, runs_on}
 use Rattle.node_model.specs.Ends.{EndName}
 use Rattle.node_model.specs.Evidence as drops
 use Rattle.node_model.specs.Evidence.{standing_by}
-use Rattle.node_model.specs.Look.{Look, Effect, entry_of}
+use Rattle.node_model.specs.Look.{Look, Effect, as_told, entry_of, failed_in}
 use Rattle.node_model.specs.SetUp.{SetUp}
 use Rattle.node_model.specs.Slots.{RunningJob, free_slot}
 use Rattle.node_model.specs.State.{State}
@@ -21,10 +23,10 @@ use Rattle.drop_phases.specs.declared.phase.Phase.TheVariants as phases
 use Rattle.drop_phases.specs.declared.phase.Token.TheVariants as tokens
 use Rattle.drop_worker.specs.Begun.{IsLast, IsOnward}
 use Rattle.drop_worker.specs.Worker.{Worker}
-use Rattle.drop_worker.specs.Working.{end_in, failed_in, frames_of}
+use Rattle.drop_worker.specs.Working.{end_in, frames_of}
 use Rattle.node_jobs.specs.declared.acted.Acted.{Acted}
 use Rattle.node_jobs.specs.Places.{IsPlace}
-use Rattle.node_jobs.specs.Running.{AreWorks, DropJob, Follows, Jobs, words_at}
+use Rattle.node_jobs.specs.Running.{AreWorks, DropJob, Follows, HadPaths, Jobs, words_at}
 
 -- ---- a job that begins
 
@@ -36,8 +38,9 @@ abbrev pub new_worker : Jobs → Job → Worker
 new_worker jobs what =
     record { number = jobs.begun + 1; slot = free_slot (map running_now jobs.running); job = what; version = 3; heard = []; word = None; phase = phases.Fresh; token = tokens.Nothing }
 
-abbrev pub with_job : Jobs → Job → Jobs
-with_job jobs what = record jobs { running = record { worker = new_worker jobs what; known = None } ∷ jobs.running; begun = jobs.begun + 1 }
+-- one more job, on a key with these paths
+abbrev pub with_job : Jobs → Job → List (List ℕ) → Jobs
+with_job jobs what paths = record jobs { running = record { worker = new_worker jobs what; paths = paths; known = None } ∷ jobs.running; begun = jobs.begun + 1 }
 
 -- ---- what a step makes
 
@@ -58,13 +61,19 @@ abbrev pub word_at : List EndView → EndName → Option Word
 word_at links a = option_and_then (λ (f : Frame). f.word) (option_and_then next_frame (link_at links a))
 
 abbrev pub made_by : List EndView → Acted → Effect
-made_by links a = record { kind = a.kind; taken = taken_by links a.slot a.takes; sent = frames_of (end_at links) a.slot a.sends.items; lines = [] }
+made_by links a = record { kind = a.kind; taken = taken_by links a.slot a.takes; sent = frames_of (end_at links) a.slot a.sends.items; lines = []; calls = [] }
+
+-- the call that failed, as the entry tells it
+abbrev pub failed_by : Option Acted → Option Call
+failed_by None = None
+failed_by (Some a) = failed_in a.kind
 
 -- ---- what its jobs see of a repository
 
 pub record SeesJobs (links : List EndView) (clock : ClockSet) (settings : Settings) (jobs : Jobs) (number time : ℕ) (s : SetUp) (st : State) (k : Look) : Type 0 where
   pub place : IsPlace jobs.place s
   pub works : AreWorks s st jobs
+  pub paths : Each (λ j. HadPaths s j.worker.number j.paths) jobs.running
   pub count : length links ≡ length s.repos * 8
   pub ends : (a : EndName) → st.ends a ≡ end_at links a
   pub sees : SeesEnds links s k
@@ -87,5 +96,5 @@ WorksAfter s st k links was now None = now ≡ was
 WorksAfter s st k links was now (Some a) = (st' : State) → Follows s st (entry_of s.number k (made_by links a)) st' → AreWorks s st' now
 
 pub record StepsJobs (s : SetUp) (st : State) (k : Look) (links : List EndView) (was now : Jobs) (a : Option Acted) : Type 0 where
-  pub made : job_step s st k ≡ option_map (made_by links) a
+  pub made : option_map as_told (job_step s st k) ≡ option_map (made_by links) a
   pub works : WorksAfter s st k links was now a

@@ -9,17 +9,17 @@ use Rattle.node_ends.specs.Ends.{end_at}
 use Rattle.object_store.specs.Stores.{Contents}
 use Rattle.node_model.specs.Clocks.{ClockSet}
 use Rattle.node_model.specs.Jobs.{Work}
-use Rattle.node_model.specs.Look.{Look}
+use Rattle.node_model.specs.Look.{Look, Effect, failed_in}
 use Rattle.node_model.specs.SetUp.{SetUp}
 use Rattle.node_model.specs.State.{State}
+use Rattle.node_model.specs.Turns.{slot_step}
 use Rattle.content_lock.specs.CallsMade.{MakesCalls}
 use Rattle.content_lock.specs.Rows.{Rows}
 use Rattle.drop_phases.specs.declared.turn.Input.{Input}
 use Rattle.drop_phases.specs.declared.turn.Output.{Output}
-use Rattle.drop_worker.specs.SlotCalls.{slot_calls}
 use Rattle.drop_worker.specs.States.{Sees}
 use Rattle.drop_worker.specs.Worker.{Worker}
-use Rattle.drop_worker.specs.Working.{failed_in, sight}
+use Rattle.drop_worker.specs.Working.{sight}
 use Rattle.node_jobs.specs.Doings.{SeesAct}
 use Rattle.node_jobs.specs.Places.{PlaceView}
 use Rattle.node_jobs.specs.Reads.{KnownLogs, reading_of}
@@ -34,10 +34,10 @@ abbrev pub WorkerMakes : PlaceView → ClockSet → List EndView → KnownLogs �
 WorkerMakes p clock links known input contents rows w before after out =
     ForSome contents (λ c. (s : SetUp) (st : State) (k : Look) (v : Work) (f : Option FrameView)
     → Sees (sight (reading_of p clock known) (end_at links) input.time input.number) rows c w input.taken (failed_in out.kind) s st k v f
-    → MakesCalls (slot_calls s st k (Some v)) (failed_in out.kind) before after)
+    → ForSome (slot_step s st k (Some v)) (λ (m : Effect). MakesCalls m.calls (failed_in out.kind) before after))
 
 -- those of a job
 abbrev pub JobMakes : PlaceView → ClockSet → List EndView → Settings → Input → Option Contents → Rows → Failing → Failing → DropJob → Output → Type 0
 JobMakes p clock links settings input contents rows before after j out =
     ForSome contents (λ c. (s : SetUp) (st : State) (k : Look) (f : Option FrameView) → SeesAct p clock links settings input rows c j out s st k f
-    → MakesCalls (slot_calls s st k (Some (work_now j))) (failed_in out.kind) before after)
+    → ForSome (slot_step s st k (Some (work_now j))) (λ (m : Effect). MakesCalls m.calls (failed_in out.kind) before after))

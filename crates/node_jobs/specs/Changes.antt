@@ -39,6 +39,7 @@ pub record Changes (p : PlaceView) (clock : ClockSet) (links : List EndView) (se
   pub slot : a.slot ≡ j.worker.slot
   pub takes : a.takes ≡ found.feed.takes
   pub acts : Acts p clock links settings (input_of found.feed time number) contents rows j j' (output_of a)
+  pub paths : j'.paths ≡ j.paths
   pub steps : Steps p contents contents' (input_of found.feed time number) rows rows' j.worker j'.worker (output_of a)
   pub stands : a.ended ≡ false → HasReadByPhase p j'.worker.phase j'.known
   pub owns : HasToken j'.worker.number j'.worker.job.key j'.worker.token rows'

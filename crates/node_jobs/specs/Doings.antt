@@ -1,6 +1,6 @@
 -- What the step of a job does and leaves; for private contracts (own).
 use Rattle.std.specs.Prelude.{◌≡◌, ℕ, ◌+◌, false, List, [], Option, Some}
-use Rattle.std.specs.Option.{ForSome}
+use Rattle.std.specs.Option.{ForSome, option_map}
 use Rattle.annex_base.specs.Settings.{Settings}
 use Rattle.run_data.specs.declared.entry.FrameView.{FrameView}
 use Rattle.link_ring.specs.Ends.{EndView}
@@ -11,7 +11,7 @@ use Rattle.node_model.specs.Evidence as drops
 use Rattle.node_model.specs.Evidence.{standing_by}
 use Rattle.node_model.specs.Jobs.{Work, work_after}
 use Rattle.node_model.specs.JobStep.{turn_of}
-use Rattle.node_model.specs.Look.{Look, entry_of}
+use Rattle.node_model.specs.Look.{Look, as_told, entry_of, failed_in}
 use Rattle.node_model.specs.SetUp.{SetUp}
 use Rattle.node_model.specs.State.{State}
 use Rattle.node_model.specs.Turns.{slot_step}
@@ -24,7 +24,7 @@ use Rattle.drop_worker.specs.Feeding.{FeedsFrameAt, FindsAt, FitsLocal, KeepsWor
 use Rattle.drop_worker.specs.Leaving.{stands_on}
 use Rattle.drop_worker.specs.States.{HaveState, Sees, StepsSo}
 use Rattle.drop_worker.specs.Worker.{Worker}
-use Rattle.drop_worker.specs.Working.{failed_in, frames_of, sight, words_of}
+use Rattle.drop_worker.specs.Working.{frames_of, sight, words_of}
 use Rattle.node_jobs.specs.Feeds.{SeesJob}
 use Rattle.node_jobs.specs.Places.{PlaceView}
 use Rattle.node_jobs.specs.Reads.{KnownLogs, reading_of}
@@ -62,9 +62,9 @@ pub record SeesAct (p : PlaceView) (clock : ClockSet) (links : List EndView) (se
 
 -- its step is that of its slot, and it goes on as its work does
 pub record ActsSo (links : List EndView) (j j' : DropJob) (out : Output) (s : SetUp) (st : State) (k : Look) (f : Option FrameView) : Type 0 where
-  pub made : slot_step s st k (Some (work_now j)) ≡ Some (record { kind = out.kind; taken = f; sent = frames_of (end_at links) j.worker.slot out.sends.items; lines = [] })
+  pub made : option_map as_told (slot_step s st k (Some (work_now j))) ≡ Some (record { kind = out.kind; taken = f; sent = frames_of (end_at links) j.worker.slot out.sends.items; lines = []; calls = [] })
   pub next : out.ended ≡ false → work_now j' ≡ work_after (record { present = st.present; bar = st.bar; ends = st.ends }) s.number
-      (entry_of s.number k (record { kind = out.kind; taken = f; sent = frames_of (end_at links) j.worker.slot out.sends.items; lines = [] })) (work_now j)
+      (entry_of s.number k (record { kind = out.kind; taken = f; sent = frames_of (end_at links) j.worker.slot out.sends.items; lines = []; calls = [] })) (work_now j)
 
 -- of a state that follows, what the job has read is what it had read, or the logs at its first step
 pub record ReadsOn (s : SetUp) (st st' : State) (j : DropJob) : Type 0 where

@@ -25,7 +25,7 @@ use Rattle.node_jobs.specs.declared.feed.Feed.{Feed}
 use Rattle.node_jobs.specs.Acting.{taken_by, word_at}
 use Rattle.node_jobs.specs.Reads.{KnownLogs, reading_of}
 use Rattle.node_jobs.specs.Places.{IsPlace, PlaceView}
-use Rattle.node_jobs.specs.Running.{DropJob, HasRead, place_reading, work_now}
+use Rattle.node_jobs.specs.Running.{DropJob, HadPaths, HasRead, place_reading, work_now}
 
 -- what is told, without a frame and a word
 abbrev pub bare_feed : Taken → Feed
@@ -47,6 +47,7 @@ feed_at links a = feed_by (end_at links a).opened (room_at links a) (feed_of a.p
 -- what the repository is as one of its jobs looks
 pub record SeesJob (p : PlaceView) (clock : ClockSet) (links : List EndView) (j : DropJob) (time : ℕ) (s : SetUp) (st : State) (k : Look) : Type 0 where
   pub place : IsPlace p s
+  pub paths : HadPaths s j.worker.number j.paths
   pub read : HasRead s st j.worker j.known
   pub count : length links ≡ length s.repos * 8
   pub ends : (a : EndName) → st.ends a ≡ end_at links a

@@ -10,5 +10,4 @@ pub mod Leaving
 pub mod Changes
 pub mod Ending
 pub mod Sending
-pub mod Calls
 pub mod Calling

@@ -8,7 +8,7 @@ use Rattle.run_data.specs.declared.entry.Entry.{Entry}
 use Rattle.node_model.specs.After.{has_read, read_after}
 use Rattle.node_model.specs.Evidence as drops
 use Rattle.node_model.specs.Jobs.{Drops, Work, drop_side, works_after}
-use Rattle.node_model.specs.Knows.{Reading, standing_of}
+use Rattle.node_model.specs.Knows.{Reading, need_of, required_of, standing_of}
 use Rattle.node_model.specs.SetUp.{SetUp}
 use Rattle.node_model.specs.Slots.{begun_after}
 use Rattle.node_model.specs.State.{State}
@@ -22,11 +22,12 @@ use Rattle.drop_worker.specs.Feeding.{FitsLocal}
 use Rattle.drop_worker.specs.Worker.{Worker}
 use Rattle.drop_worker.specs.Working.{Rest, phase_as, words_of, work_of}
 use Rattle.node_jobs.specs.Places.{PlaceView}
-use Rattle.node_jobs.specs.Reads.{KnownLogs, need_in, standing_in}
+use Rattle.node_jobs.specs.Reads.{KnownLogs, standing_in}
 
--- a drop: its worker, and what it read of the logs at its first step
+-- a drop: its worker, the paths that its key had as it began, and what it read of the logs at its first step
 pub record DropJob : Type 0 where
   pub worker : Worker
+  pub paths : List (List ℕ)
   pub known : Option KnownLogs
 
 -- the running jobs, the newest first, and how many were begun
@@ -34,6 +35,10 @@ pub record Jobs : Type 0 where
   pub place : PlaceView
   pub running : List DropJob
   pub begun : ℕ
+
+-- its number, and the paths that it was given
+abbrev pub given_of : DropJob → ℕ × List (List ℕ)
+given_of j = (j.worker.number, j.paths)
 
 -- ---- the works that they are
 
@@ -47,25 +52,34 @@ work_now j = work_of plain j.worker
 -- it is past its first step, and has read of the logs what the state says that it has
 pub record ReadSo (s : SetUp) (st : State) (w : Worker) (known : KnownLogs) : Type 0 where
   pub begun : has_read Drops (phase_as w.phase) ≡ true
-  pub need : need_in (st.read w.number) ≡ known.need
+  pub need : need_of s st (work_of plain w) ≡ known.need
   pub standing : (c : ℕ) → standing_of s st (work_of plain w) c ≡ standing_in known c
+  pub requires : required_of s st (work_of plain w) ≡ known.requires
 
 -- before its first step it has read nothing, and would read the logs
 abbrev pub HasRead : SetUp → State → Worker → Option KnownLogs → Type 0
 HasRead s st w None = (w.phase ≡ phases.Fresh) × (st.read w.number ≡ st.logs)
 HasRead s st w (Some known) = ReadSo s st w known
 
--- the state's works are these jobs
+-- the key of the job of this number had these paths in the tree as the job began
+abbrev pub HadPaths : SetUp → ℕ → List (List ℕ) → Type 0
+HadPaths s job paths = paths ≡ s.paths job
+
+-- the set-up where the keys of all jobs had these paths
+abbrev pub given : SetUp → List (List ℕ) → SetUp
+given s paths = record s { paths = λ job. paths }
+
+-- the state's works are these jobs, each with what it has read for the paths that it was given
 pub record AreWorks (s : SetUp) (st : State) (jobs : Jobs) : Type 0 where
   pub works : st.works ≡ map work_now jobs.running
   pub begun : st.begun ≡ jobs.begun
-  pub read : Each (λ j. HasRead s st j.worker j.known) jobs.running
+  pub read : Each (λ j. HasRead (given s j.paths) st j.worker j.known) jobs.running
 
 -- ---- what they have of the table
 
 -- the reading of a job at this place, whatever it has read
 abbrev pub place_reading : PlaceView → Reading
-place_reading p = record { repo = p.number; count = length p.ids; clock = λ time. time; need = record { n = 0; m = 0 }; standing = λ c. drops.Asked }
+place_reading p = record { repo = p.number; count = length p.ids; clock = λ time. time; need = record { n = 0; m = 0 }; standing = λ c. drops.Asked; requires = None }
 
 -- a job that has read nothing is to begin; another is past its first step
 abbrev pub HasReadByPhase : PlaceView → Phase → Option KnownLogs → Type 0

@@ -5,11 +5,11 @@ ghost use Rattle.annex_base.specs.Causes.{Rose};
 ghost use Rattle.drop_proof.specs.declared.rule.Side.TheVariants as sides;
 ghost use Rattle.trust_groups.specs.View.{settings_of};
 ghost use Rattle.node_model.specs.Jobs.{drop_side};
+ghost use Rattle.node_model.specs.Look.{failed_in};
 ghost use Rattle.content_lock.specs.CallsMade.{fewer};
 ghost use Rattle.drop_worker.specs.Doing.{HasToken, OthersStay};
 ghost use Rattle.drop_worker.specs.Feeding.{FitsLocal, ToldAt};
 ghost use Rattle.drop_worker.specs.Leaving.{stands_on};
-ghost use Rattle.drop_worker.specs.Working.{failed_in};
 ghost use Rattle.node_jobs.specs.Calling.{JobMakes, WorkerMakes};
 ghost use Rattle.node_jobs.specs.Doings.{Acts, Does, Steps};
 ghost use Rattle.node_jobs.specs.Running.{HasReadByPhase};
@@ -51,6 +51,7 @@ pub(crate) fn act<K: Keeper>(
     ensures err_failing { OnErr result (K.failing keeper.new ≡ K.failing keeper.old) }
     ensures steps { IfOk result (Steps place.now (K.contents keeper.old) (K.contents keeper.new) input.now table.old table.new job.old.worker job.new.worker) }
     ensures stands { IfOk result (λ out. out.ended ≡ false → HasReadByPhase place.now job.new.worker.phase job.new.known) }
+    ensures paths { job.new.paths ≡ job.old.paths }
     ensures owns { HasToken job.new.worker.number job.new.worker.job.key job.new.worker.token table.new }
     ensures others { OthersStay job.old.worker.number table.old table.new }
     ensures holds { table.new.holds ≡ table.old.holds }
@@ -74,7 +75,14 @@ pub(crate) fn act<K: Keeper>(
             input,
         ),
         None => {
-            let known = KnownLogs::read(alloc, settings, job.worker.key(), place.ids())?;
+            let known = KnownLogs::read(
+                alloc,
+                settings,
+                job.worker.key(),
+                place.own(),
+                job.paths.as_slice(),
+                place.ids(),
+            )?;
             let out = advance(
                 &mut job.worker,
                 alloc,

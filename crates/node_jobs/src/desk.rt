@@ -4,6 +4,7 @@ ghost use Rattle.node_ends.specs.Ends.{end_at, name_of};
 
 use crate::known::KnownLogs;
 use crate::place::{Clock, Place};
+use annex_base::Text;
 use drop_proof::Need;
 use drop_worker::{Here, Standing, Time};
 use node_ends::{EndId, Ends};
@@ -40,6 +41,10 @@ impl Here for Desk<'_> {
 
     fn need(&self) -> Need {
         self.known.need()
+    }
+
+    fn required(&self) -> Option<&Text> {
+        self.known.required()
     }
 
     fn standing(&self, repo: u32) -> Standing {

@@ -3,12 +3,14 @@ ghost use Rattle.std.specs.Prelude.{◌≡◌};
 ghost use Rattle.std.specs.Option.{option_copied};
 
 use crate::known::KnownLogs;
+use annex_base::{Items, Text};
 use drop_worker::Worker;
 use std::marker::Model;
 
-/// A drop: its worker, and what it read of the logs at its first step.
+/// A drop: its worker, the paths that its key had in the tree as it began, and what it read of the logs at its first step.
 pub(crate) struct DropJob {
     pub worker: Worker,
+    pub paths: Items<Text>,
     pub known: Option<KnownLogs>,
 }
 
@@ -17,7 +19,7 @@ impl Model for DropJob {
 
     ghost Value = { DropJob };
 
-    ghost view = { λ j. record { worker = j.worker; known = j.known } };
+    ghost view = { λ j. record { worker = j.worker; paths = j.paths; known = j.known } };
 }
 
 impl DropJob {

@@ -7,7 +7,7 @@ ghost use Rattle.annex_base.specs.Settings.{Settings as SettingsView};
 ghost use Rattle.run_data.specs.declared.entry.Entry.{Entry};
 ghost use Rattle.run_data.specs.declared.entry.EntryKind.TheVariants as kinds;
 ghost use Rattle.trust_groups.specs.View.{settings_of};
-ghost use Rattle.node_model.specs.Look.{Look};
+ghost use Rattle.node_model.specs.Look.{Look, Effect, failed_in};
 ghost use Rattle.node_model.specs.SetUp.{SetUp};
 ghost use Rattle.node_model.specs.Slots.{free_slot, uses};
 ghost use Rattle.node_model.specs.State.{State};
@@ -17,9 +17,7 @@ ghost use Rattle.content_lock.specs.CallsMade.{MakesCalls, fewer};
 ghost use Rattle.content_lock.specs.Rows.{AreAfter, Rows};
 ghost use Rattle.drop_worker.specs.Doing.{OthersStay, contents_after};
 ghost use Rattle.drop_worker.specs.States.{HaveState};
-ghost use Rattle.drop_worker.specs.Working.{failed_in};
-ghost use Rattle.node_jobs.specs.Acting.{IsKindOf, SeesActed, SeesJobs, StepsJobs, WaitsFor, running_now, with_job};
-ghost use Rattle.node_jobs.specs.Calls.{failed_by, job_calls};
+ghost use Rattle.node_jobs.specs.Acting.{IsKindOf, SeesActed, SeesJobs, StepsJobs, WaitsFor, failed_by, running_now, with_job};
 ghost use Rattle.node_jobs.specs.Leaving.{LeavesSo};
 ghost use Rattle.node_jobs.specs.Running.{AreWorks, Follows, IsDrop, OwnAll};
 
@@ -30,7 +28,7 @@ use crate::listing::{add, end_all, find_slot};
 use crate::place::{Clock, Place};
 use crate::refused::BeginRefused;
 use crate::turning::turn;
-use annex_base::NoMemory;
+use annex_base::{Items, NoMemory, Text};
 use content_lock::LockTable;
 use drop_worker::{Time, Worker};
 use node_ends::Ends;
@@ -96,13 +94,19 @@ impl Jobs {
         self.running.len()
     }
 
-    /// Begins a drop of the repository's own copy, and gives its number. It makes no step yet.
-    pub fn begin(&mut self, alloc: Global, what: Job) -> Result<u32, BeginRefused>
+    /// Begins a drop of the repository's own copy, of a key that has these paths in the tree, and gives its number. It makes no
+    /// step yet.
+    pub fn begin(
+        &mut self,
+        alloc: Global,
+        what: Job,
+        paths: Items<Text>,
+    ) -> Result<u32, BeginRefused>
         requires kind { what.kind ≡ JobKind.Drop }
         requires peer { what.peer ≡ None }
         requires few { self.old.begun < 2 ^ 32 - 1 }
         ensures number { IfOk result (λ n. n ≡ self.old.begun + 1) }
-        ensures jobs { OnOk result (self.new ≡ with_job self.old what) }
+        ensures jobs { OnOk result (self.new ≡ with_job self.old what paths) }
         ensures free { OnOk result (length self.old.running < 4) }
         ensures full { IsErrOf result BeginRefused.NoSlot → 4 ≤ length self.old.running }
         ensures short { IsErrOf result BeginRefused.NoMemory → length self.old.running < 4 }
@@ -119,6 +123,7 @@ impl Jobs {
             &mut self.running,
             DropJob {
                 worker,
+                paths,
                 known: None,
             },
         );
@@ -164,9 +169,9 @@ impl Jobs {
         ensures step { IfOk result (λ a. ForSome (K.contents keeper.old) (λ c. (s : SetUp) (st : State) (k : Look) → SeesJobs ends.old clock (settings_of settings.now) self.old number time s st k → HaveState table.old c st → SeesActed self.old k a
             → StepsJobs s st k ends.old self.old self.new a)) }
 
-        // It makes the calls of its store that the state's own step makes, and where one was to fail, it tells that call.
+        // It makes the calls of its store that that step makes, and where one was to fail, it tells that call.
         ensures calls { IfOk result (λ a. ForSome (K.contents keeper.old) (λ c. (s : SetUp) (st : State) (k : Look) → SeesJobs ends.old clock (settings_of settings.now) self.old number time s st k → HaveState table.old c st → SeesActed self.old k a
-            → MakesCalls (job_calls s st k) (failed_by a) (K.failing keeper.old) (K.failing keeper.new))) }
+            → ForSome (job_step s st k) (λ (m : Effect). MakesCalls m.calls (failed_by a) (K.failing keeper.old) (K.failing keeper.new)))) }
         ensures left { IfOk result (λ a. K.failing keeper.new ≡ option_map (fewer (failed_by a)) (K.failing keeper.old)) }
         ensures err_failing { OnErr result (K.failing keeper.new ≡ K.failing keeper.old) }
         ensures waits { IfOk result (λ a. IfSome a (λ it. WaitsFor ends.old it.slot it.takes)) }

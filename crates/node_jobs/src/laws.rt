@@ -1,8 +1,6 @@
 //! The laws of running jobs. Each is the contract of a function that does nothing.
 ghost use Rattle.std.specs.Prelude.{◌≡◌, ℕ, List, [], None, Some};
-ghost use Rattle.std.specs.declared.option.Option.{Option};
 ghost use Rattle.annex_base.specs.Lists.{Each};
-ghost use Rattle.annex_base.specs.declared.kinds.Call.{Call};
 ghost use Rattle.annex_base.specs.declared.kinds.Call.TheVariants.{PutFile};
 ghost use Rattle.run_data.specs.declared.entry.By.{By};
 ghost use Rattle.run_data.specs.declared.entry.Entry.{Entry};
@@ -11,20 +9,16 @@ ghost use Rattle.node_model.specs.After.{state_after};
 ghost use Rattle.node_model.specs.Ends.{end_took, taken_at};
 ghost use Rattle.node_model.specs.Evidence as drops;
 ghost use Rattle.node_model.specs.Evidence.{standing_by};
-ghost use Rattle.node_model.specs.Look.{Look, Effect, failing_call};
+ghost use Rattle.node_model.specs.Look.{Look, Effect};
 ghost use Rattle.node_model.specs.SetUp.{SetUp};
 ghost use Rattle.node_model.specs.Slots.{job_of};
 ghost use Rattle.node_model.specs.State.{State};
 ghost use Rattle.node_model.specs.Turns.{job_step};
 ghost use Rattle.content_lock.specs.Rows.{Rows};
 ghost use Rattle.trust_groups.specs.Settings.{Lines, settings};
-ghost use Rattle.content_lock.specs.CallsMade.{AreRising};
-ghost use Rattle.drop_worker.specs.SlotCalls.{failed_of};
-ghost use Rattle.node_jobs.specs.Calls.{job_calls};
 ghost use Rattle.node_jobs.specs.Running.{AreWorks, IsDrop, Jobs, OwnAll};
 ghost use Rattle.node_jobs.specs.Sending.{IsOwnEntry, SendsWell};
 
-use drop_worker::steps_fail_of_their_calls;
 use log_lines::readings_are_exact;
 
 /// The running jobs are those of the state after an entry that is no job's and no crash, whatever it changes of the logs: what
@@ -60,14 +54,3 @@ pub fn local_drops_send_where_there_is_room()
 pub fn jobs_make_their_own_entries()
     ensures { (s : SetUp) (st : State) (k : Look) (jobs : Jobs) (m : Effect) → AreWorks s st jobs → Each (IsDrop jobs.place) jobs.running → job_step s st k ≡ Some m → IsOwnEntry m }
 {}
-
-/// The step of the jobs fails of the call that the look has fail, exactly where that is one of the step's calls. Which calls these are doesn't depend on
-/// which fails, and they are made in the order of a store's calls (own).
-pub fn jobs_tell_the_failed_call()
-    ensures failed { (s : SetUp) (st : State) (k : Look) → failed_of (job_step s st k) ≡ failing_call k.fails (job_calls s st k) }
-    ensures same { (s : SetUp) (st : State) (k : Look) (fails : Option Call) → job_calls s st (record k { fails = fails }) ≡ job_calls s st k }
-    ensures ordered { (s : SetUp) (st : State) (k : Look) → AreRising (job_calls s st k) }
-{
-    // A law, for the proof that the step of each slot fails of its own calls.
-    steps_fail_of_their_calls();
-}

@@ -19,7 +19,7 @@ mod turning;
 pub use acted::Acted;
 pub use jobs::Jobs;
 pub use laws::{
-    jobs_make_their_own_entries, jobs_stay, jobs_stay_where_lines_fail, jobs_tell_the_failed_call,
+    jobs_make_their_own_entries, jobs_stay, jobs_stay_where_lines_fail,
     local_drops_send_where_there_is_room, nameless_are_asked,
 };
 pub use place::{Clock, Place};

@@ -100,7 +100,11 @@ pub(crate) fn end_all(running: &mut Vec<DropJob>, table: &mut LockTable)
     ensures others { OthersKeep running.old.items table.old table.new }
 {
     'ending: while let Some(job) = running.pop() {
-        let DropJob { worker, known: _ } = job;
+        let DropJob {
+            worker,
+            paths: _,
+            known: _,
+        } = job;
         end(worker, table);
     }
 }

@@ -1,5 +1,5 @@
 //! What jobs know of their repository's set-up, and its clock.
-ghost use Rattle.std.specs.Prelude.{◌≡◌, ◌+◌, ◌<◌, ◌^◌, length};
+ghost use Rattle.std.specs.Prelude.{◌≡◌, ◌+◌, ◌<◌, ◌^◌, [], length, slice_get, unwrap_or};
 ghost use Rattle.node_model.specs.Clocks.{runs_on};
 
 use annex_base::{Items, RepoId};
@@ -47,6 +47,14 @@ impl Place {
         ensures own { self.now.number < result }
     {
         self.ids.as_slice().len() as u32
+    }
+
+    /// The repository's identifier.
+    pub(crate) fn own(&self) -> RepoId
+        ensures { result ≡ unwrap_or (slice_get self.now.ids self.now.number) [] }
+    {
+        let ids = self.ids.as_slice();
+        ids[self.number as usize]
     }
 
     pub fn ids(&self) -> &[RepoId]

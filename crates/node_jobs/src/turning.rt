@@ -4,12 +4,12 @@ ghost use Rattle.std.specs.Option.{ForSome, option_map};
 ghost use Rattle.annex_base.specs.Causes.{Rose};
 ghost use Rattle.annex_base.specs.Lists.{Each};
 ghost use Rattle.trust_groups.specs.View.{settings_of};
+ghost use Rattle.node_model.specs.Look.{failed_in};
 ghost use Rattle.content_lock.specs.CallsMade.{fewer};
 ghost use Rattle.drop_phases.specs.declared.phase.Token.TheVariants as tokens;
 ghost use Rattle.drop_worker.specs.Doing.{HasToken};
 ghost use Rattle.drop_worker.specs.Feeding.{ToldAt};
 ghost use Rattle.drop_worker.specs.Leaving.{stands_on};
-ghost use Rattle.drop_worker.specs.Working.{failed_in};
 ghost use Rattle.node_jobs.specs.Calling.{JobMakes};
 ghost use Rattle.node_jobs.specs.Changes.{Changes, input_of, job_after, output_of};
 ghost use Rattle.node_jobs.specs.Running.{IsDrop};
@@ -111,6 +111,10 @@ fn settle(
     if !ended {
         return put_back(running, index, job);
     }
-    let DropJob { worker, known: _ } = job;
+    let DropJob {
+        worker,
+        paths: _,
+        known: _,
+    } = job;
     end(worker, table);
 }

@@ -23,7 +23,6 @@ use Rattle.node_model.specs.Jobs
 use Rattle.node_model.specs.Jobs.{side_of, Phase, AsksLock, AsksLook, AsksTime, target_of}
 use Rattle.node_model.specs.Look.{Effect}
 use Rattle.node_model.specs.Calls.{to_hold}
-use Rattle.node_model.specs.Wanted.{required}
 use Rattle.node_model.specs.Knows.{denial_of, obeyed_outcome, causes_by, proof_by, known_by}
 use Rattle.node_model.specs.JobStep.{Turn, hears, wrong_message, attempts, bar_there, by_me, clock_of, ends, is_there, key_of, me, quietly, says_to, talk}
 use Rattle.node_model.specs.Clocks.{hold_time}
@@ -47,9 +46,9 @@ until (h ∷ hs) = Some (if list_any (λ x. not x.kept) (h ∷ hs) then None els
 abbrev pub held_until : Turn → Option (Option ℕ)
 held_until t = until (filter (blocks (key_of t) (clock_of t)) t.holds)
 
--- the required expression of the target that keeps the content
+-- the expression by which the target requires the content
 abbrev pub required_there : Turn → Option (List ℕ)
-required_there t = t.keeps (target t)
+required_there t = t.read.requires
 
 -- why a local drop is refused by its row, if it is
 abbrev pub row_refusal : Bool → Option (List ℕ) → Option ℕ → Option (Option ℕ) → Option DropRefusal

@@ -183,7 +183,7 @@ pub record BySession (s : SetUp) (st : State) (k : Look) (m : Effect) : Type 0 w
 -- ---- jobs
 
 -- its first step found the row free, at its own repository
-pub record OwnShare (t : Turn) (hold end : ℕ) (by : By) (key : List ℕ) (m : Effect) : Type 0 where
+pub record OwnShare (t : Turn) (hold end : ℕ) (by : By) (key : List ℕ) (taken : Option FrameView) (sent : List FrameView) : Type 0 where
   pub part_is : t.w.part ≡ Drops
   pub first : t.w.phase ≡ Fresh
   pub side : side_of t.w ≡ Remote
@@ -194,24 +194,25 @@ pub record OwnShare (t : Turn) (hold end : ℕ) (by : By) (key : List ℕ) (m : 
   pub end_is : end ≡ clock_of t + hold_time
   pub by_is : by ≡ by_me t
   pub key_is : key ≡ key_of t
-  pub takes_none : m.taken ≡ None
-  pub sends_none : m.sent ≡ []
+  pub takes_none : taken ≡ None
+  pub sends_none : sent ≡ []
 
-pub record PutsBar (t : Turn) (j : ℕ) (need : Need) (key : List ℕ) (m : Effect) : Type 0 where
+pub record PutsBar (t : Turn) (j : ℕ) (need : Need) (key : List ℕ) (taken : Option FrameView) (sent : List FrameView) : Type 0 where
   pub part_is : t.w.part ≡ Drops
   pub first : t.w.phase ≡ Fresh
   pub side : side_of t.w ≡ Local
   pub there : is_there t ≡ true
   pub free : bar_there t ≡ None
   pub unheld : held_until t ≡ None
+  pub spared : required_there t ≡ None
   pub number_is : j ≡ t.w.number
   pub need_is : need ≡ need_now t
   pub key_is : key ≡ key_of t
-  pub takes_none : m.taken ≡ None
-  pub sends_none : m.sent ≡ []
+  pub takes_none : taken ≡ None
+  pub sends_none : sent ≡ []
 
 -- a local drop knows enough, in time
-pub record RemovesContent (t : Turn) (by : By) (key : List ℕ) (m : Effect) : Type 0 where
+pub record RemovesContent (t : Turn) (by : By) (key : List ℕ) (taken : Option FrameView) (sent : List FrameView) : Type 0 where
   pub part_is : t.w.part ≡ Drops
   pub next : t.w.phase ≡ Next
   pub side : side_of t.w ≡ Local
@@ -219,38 +220,38 @@ pub record RemovesContent (t : Turn) (by : By) (key : List ℕ) (m : Effect) : T
   pub in_time : in_time (clock_of t) (first_end t) ≡ true
   pub by_is : by ≡ by_me t
   pub key_is : key ≡ key_of t
-  pub takes_none : m.taken ≡ None
-  pub sends_none : m.sent ≡ []
+  pub takes_none : taken ≡ None
+  pub sends_none : sent ≡ []
 
 -- without a lock there is no deadline; with one it comes of the target's timestamp, while there is time
-abbrev pub HasDeadline : Turn → Effect → Option ℕ → Type 0
-HasDeadline t m None = first_end t ≡ None
-HasDeadline t m (Some deadline) =
-    (f : FrameView) × (m.taken ≡ Some f) × (t.w.phase ≡ AsksTime) × ((n first : ℕ) × (line_in f.body ≡ Some (Timestamp n))
+abbrev pub HasDeadline : Turn → Option FrameView → Option ℕ → Type 0
+HasDeadline t taken None = first_end t ≡ None
+HasDeadline t taken (Some deadline) =
+    (f : FrameView) × (taken ≡ Some f) × (t.w.phase ≡ AsksTime) × ((n first : ℕ) × (line_in f.body ≡ Some (Timestamp n))
     × (first_end t ≡ Some first) × (nat_lt (clock_of t) first ≡ true) × (deadline ≡ n + (first - clock_of t) / 1000))
 
-pub record GivesOrder (t : Turn) (j peer : ℕ) (deadline : Option ℕ) (need : Need) (key : List ℕ) (m : Effect) : Type 0 where
+pub record GivesOrder (t : Turn) (j peer : ℕ) (deadline : Option ℕ) (need : Need) (key : List ℕ) (taken : Option FrameView) (sent : List FrameView) : Type 0 where
   pub part_is : t.w.part ≡ Drops
   pub side : side_of t.w ≡ Remote
   pub number_is : j ≡ t.w.number
   pub target_is : peer ≡ target t
   pub need_is : need ≡ need_now t
   pub key_is : key ≡ key_of t
-  pub timed : HasDeadline t m deadline
-  pub sent_is : m.sent ≡ frames (job_end t.w peer) (end_with t peer) (Line (text_of (order_of deadline key)) ∷ [])
+  pub timed : HasDeadline t taken deadline
+  pub sent_is : sent ≡ frames (job_end t.w peer) (end_with t peer) (Line (text_of (order_of deadline key)) ∷ [])
 
 -- VALID, and the part matches its key
-pub record GainsPart (t : Turn) (by : By) (size : ℕ) (key : List ℕ) (m : Effect) : Type 0 where
+pub record GainsPart (t : Turn) (by : By) (size : ℕ) (key : List ℕ) (taken : Option FrameView) (sent : List FrameView) : Type 0 where
   pub peer : ℕ
   pub start : ℕ
   pub phase_is : t.w.phase ≡ GetsWord peer start size
   pub f : FrameView
-  pub taken_is : m.taken ≡ Some f
+  pub taken_is : taken ≡ Some f
   pub word : line_in f.body ≡ Some Valid
   pub right : t.look.right ≡ true
   pub by_is : by ≡ by_me t
   pub key_is : key ≡ key_of t
-  pub sent_is : m.sent ≡ frames (job_end t.w peer) (end_with t peer) success_line
+  pub sent_is : sent ≡ frames (job_end t.w peer) (end_with t peer) success_line
 
 -- ---- why a job ends so
 
@@ -279,7 +280,7 @@ pub record LocksExpire (t : Turn) (taken : Option FrameView) (end clock : ℕ) :
 -- what this step itself found: by the row, or by what the job knows
 abbrev pub FindsOutcome : Turn → Option FrameView → Outcome → Type 0
 FindsOutcome t taken (Refused refusals.NotPresent) = FirstLocal t × (is_there t ≡ false)
-FindsOutcome t taken (Refused (refusals.Required text)) = (t.w.phase ≡ Fresh) × (required_there t ≡ Some text)
+FindsOutcome t taken (Refused (refusals.Required text)) = (t.w.part ≡ Drops) × (t.w.phase ≡ Fresh) × (required_there t ≡ Some text)
 FindsOutcome t taken (Refused (refusals.Barred j)) = FirstLocal t × (is_there t ≡ true) × (bar_there t ≡ Some j)
 FindsOutcome t taken (Refused (refusals.Held end)) = FirstLocal t × (is_there t ≡ true) × (bar_there t ≡ None) × (held_until t ≡ Some end)
 FindsOutcome t taken (Refused (refusals.Lacking proof reasons)) = LacksCopies t proof reasons
@@ -296,10 +297,10 @@ pub record HasOutcome (t : Turn) (taken : Option FrameView) (outcome : Outcome) 
   pub takes_none : taken ≡ None
   pub outcome_is : outcome ≡ outcome_of t t.w.phase
 
-pub record EndsJob (t : Turn) (j : ℕ) (outcome : Outcome) (m : Effect) : Type 0 where
+pub record EndsJob (t : Turn) (j : ℕ) (outcome : Outcome) (taken : Option FrameView) (sent : List FrameView) : Type 0 where
   pub number_is : j ≡ t.w.number
-  pub why : FindsOutcome t m.taken outcome ⊎ HasOutcome t m.taken outcome
-  pub sent_is : m.sent ≡ farewells t (is_lost_ordered outcome)
+  pub why : FindsOutcome t taken outcome ⊎ HasOutcome t taken outcome
+  pub sent_is : sent ≡ farewells t (is_lost_ordered outcome)
 
 -- ---- what a job's entry may say beside
 
@@ -325,12 +326,12 @@ abbrev pub AsksOne : Turn → List FrameView → Type 0
 AsksOne t sent = (sent ≡ []) ⊎ ((peer : ℕ) × (body : FrameText) × (sent ≡ frames (job_end t.w peer) (end_with t peer) (body ∷ [])) × IsAsked body)
 
 abbrev pub IsJobEntry : Turn → Effect → EntryKind → Type 0
-IsJobEntry t m (Share hold end by key) = OwnShare t hold end by key m
-IsJobEntry t m (Bar j need key) = PutsBar t j need key m
-IsJobEntry t m (Gone by key) = RemovesContent t by key m
-IsJobEntry t m (Order j peer deadline need key) = GivesOrder t j peer deadline need key m
-IsJobEntry t m (Gain by size key) = GainsPart t by size key m
-IsJobEntry t m (ends_job j outcome) = EndsJob t j outcome m
+IsJobEntry t m (Share hold end by key) = OwnShare t hold end by key m.taken m.sent
+IsJobEntry t m (Bar j need key) = PutsBar t j need key m.taken m.sent
+IsJobEntry t m (Gone by key) = RemovesContent t by key m.taken m.sent
+IsJobEntry t m (Order j peer deadline need key) = GivesOrder t j peer deadline need key m.taken m.sent
+IsJobEntry t m (Gain by size key) = GainsPart t by size key m.taken m.sent
+IsJobEntry t m (ends_job j outcome) = EndsJob t j outcome m.taken m.sent
 IsJobEntry t m (Talk (Some j)) = (j ≡ t.w.number) × AsksOne t m.sent
 IsJobEntry t m (Fault call by) = (by ≡ by_me t) × (m.sent ≡ [])
 IsJobEntry t m kind = ⊥
@@ -363,8 +364,8 @@ pub record ByOwed (s : SetUp) (st : State) (k : Look) (m : Effect) : Type 0 wher
   pub first : OwedLine
   pub rest : List OwedLine
   pub owes_it : st.owed ≡ first ∷ rest
-  pub writes : (m ≡ record { kind = Log (Location first.key); taken = None; sent = []; lines = due s.repos st.lines (st.wall k.time) first })
-      ⊎ (m ≡ record { kind = Fault PutFile first.by; taken = None; sent = []; lines = [] })
+  pub writes : (m ≡ record { kind = Log (Location first.key); taken = None; sent = []; lines = due s.repos st.lines (st.wall k.time) first; calls = PutFile ∷ [] })
+      ⊎ (m ≡ record { kind = Fault PutFile first.by; taken = None; sent = []; lines = []; calls = PutFile ∷ [] })
 
 -- what the step found
 abbrev pub StepFound : SetUp → State → Look → Effect → Type 0

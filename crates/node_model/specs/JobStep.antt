@@ -1,12 +1,10 @@
 -- The parts of a job's step that all jobs share: its frames, its store calls, its end.
 use Rattle.std.specs.Prelude.{ℕ, ◌+◌, Bool, true, false, not, ◌&&◌, if◌then◌else◌, List, [], ◌∷◌, ◌++◌, filter, flat_map, Option, Some}
 use Rattle.std.specs.List.{list_any, range_with_len}
-use Rattle.run_data.specs.Repos.{id_of}
 use Rattle.node_model.specs.Evidence.{but}
 use Rattle.run_data.specs.declared.row.Hold.{Hold}
 use Rattle.node_model.specs.Knows.{Reading, reading}
 use Rattle.node_model.specs.SessionStep.{is_filled}
-use Rattle.node_model.specs.Wanted.{required}
 use Rattle.annex_base.specs.declared.kinds.Call.{Call}
 use Rattle.run_data.specs.declared.entry.EntryKind.{EntryKind}
 use Rattle.run_data.specs.declared.entry.EntryKind.TheVariants.{Talk, Fault, End as ends_job}
@@ -30,7 +28,6 @@ use Rattle.node_model.specs.Calls.{to_release}
 -- what the step of a job reads
 pub record Turn : Type 0 where
   pub read : Reading
-  pub keeps : ℕ → Option (List ℕ)  -- the required expression of a repository that keeps the content
   pub clock : ℕ → ℕ
   pub number : ℕ  -- of the entry that is to be made
   pub present : List ℕ → Bool
@@ -50,7 +47,6 @@ abbrev pub turn_of : SetUp → State → Look → Work → Turn
 turn_of s st k w =
     record {
       read = reading s st w;
-      keeps = λ c. required st.logs (id_of s.repos c) w.what.key (s.paths w.number);
       clock = st.clock;
       number = st.made + 1;
       present = st.present;
@@ -91,17 +87,17 @@ end_with t peer = t.ends (job_end t.w peer)
 -- ---- what a step makes
 
 abbrev pub sends_to : Turn → EntryKind → Option FrameView → ℕ → List FrameText → Effect
-sends_to t kind taken peer bodies = record { kind = kind; taken = taken; sent = frames (job_end t.w peer) (end_with t peer) bodies; lines = [] }
+sends_to t kind taken peer bodies = record { kind = kind; taken = taken; sent = frames (job_end t.w peer) (end_with t peer) bodies; lines = []; calls = [] }
 
 abbrev pub says_to : Turn → EntryKind → Option FrameView → ℕ → Message → Effect
 says_to t kind taken peer m = sends_to t kind taken peer (Line (text_of m) ∷ [])
 
 abbrev pub quietly : EntryKind → Option FrameView → Effect
-quietly kind taken = record { kind = kind; taken = taken; sent = []; lines = [] }
+quietly kind taken = record { kind = kind; taken = taken; sent = []; lines = []; calls = [] }
 
--- a store call of the job fails, or else this is made
+-- one of these store calls of the job fails, or else this is made
 abbrev pub attempts : Turn → List Call → Option FrameView → Effect → Effect
-attempts t cs taken made = unless (failing_call t.look.fails cs) (λ call. quietly (Fault call (by_me t)) taken) made
+attempts t cs taken made = record (unless (failing_call t.look.fails cs) (λ call. quietly (Fault call (by_me t)) taken) made) { calls = cs ++ made.calls }
 
 -- a frame that is heard, and answered nothing
 abbrev pub hears : Turn → FrameView → Effect
@@ -143,7 +139,7 @@ farewells t lost =
 abbrev pub ends : Turn → Option FrameView → Outcome → Effect
 ends t taken outcome =
     attempts t (to_release (owns_share t && not (is_lost_ordered outcome))) taken
-    (record { kind = ends_job t.w.number outcome; taken = taken; sent = farewells t (is_lost_ordered outcome); lines = [] })
+    (record { kind = ends_job t.w.number outcome; taken = taken; sent = farewells t (is_lost_ordered outcome); lines = []; calls = [] })
 
 -- the ends on which such an end sends more than a Close
 abbrev pub end_needs : Turn → Outcome → List ℕ

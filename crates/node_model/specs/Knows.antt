@@ -2,6 +2,8 @@
 use Rattle.std.specs.Prelude.{ℕ, ◌+◌, Bool, true, false, List, [], find, length, Option, Some, None}
 use Rattle.annex_base.specs.declared.kinds.Word.{Word}
 use Rattle.annex_base.specs.declared.kinds.Word.TheVariants as words
+use Rattle.annex_base.specs.Settings.{Settings}
+use Rattle.glob_match.specs.Numbers.{mincopies_of, numcopies_of}
 use Rattle.drop_proof.specs.declared.evidence.Evidence.{Evidence}
 use Rattle.drop_proof.specs.declared.evidence.Kind.TheVariants.{Locked, Trusted, Recent}
 use Rattle.drop_proof.specs.declared.rule.Need.{Need}
@@ -20,17 +22,19 @@ use Rattle.node_model.specs.SetUp.{SetUp}
 use Rattle.node_model.specs.Jobs.{Heard, Held, Seen, Lacks, Work, heard_of, side_of, target_of}
 use Rattle.node_model.specs.State.{State}
 use Rattle.node_model.specs.Clocks.{hold_time}
+use Rattle.wanted_expr.specs.Wanted.{required}
 
 -- ---- what a drop reads
 
--- of the set-up: its repository, and how many there are; its clock; of the settings: the numbers of copies, and how
--- they see each repository
+-- of the set-up: its repository, and how many there are; its clock; of the settings: the numbers of copies, how they see
+-- each repository, and the expression by which the target requires the content
 pub record Reading : Type 0 where
   pub repo : ℕ
   pub count : ℕ
   pub clock : ℕ → ℕ
   pub need : Need
   pub standing : ℕ → Standing
+  pub requires : Option (List ℕ)
 
 -- ---- what a candidate offers, by what the job heard of it
 
@@ -53,12 +57,21 @@ is_unasked _ _ = false
 unfoldable pub standing_of : SetUp → State → Work → ℕ → Standing
 standing_of s st w c = standing_by (st.read w.number) w.what.key (id_of s.repos c)
 
--- the numbers of copies that the job read
-abbrev pub need_of : State → Work → Need
-need_of st w = let read = st.read w.number in record { n = read.numcopies; m = read.mincopies }
+-- the numbers of copies that settings give for a content with these paths. Only a proof that names it opens this definition
+unfoldable pub need_by : Settings → List (List ℕ) → Need
+need_by settings paths = record { n = numcopies_of settings paths; m = mincopies_of settings paths }
+
+-- the numbers of copies that the job read, for the paths that its key had as it began
+abbrev pub need_of : SetUp → State → Work → Need
+need_of s st w = need_by (st.read w.number) (s.paths w.number)
+
+-- the expression by which the job's target requires the content, its own copy assumed gone: by the logs that the job read, for
+-- these paths
+abbrev pub required_of : SetUp → State → Work → Option (List ℕ)
+required_of s st w = required (st.read w.number) (id_of s.repos (target_of s.number w)) w.what.key (s.paths w.number)
 
 abbrev pub reading : SetUp → State → Work → Reading
-reading s st w = record { repo = s.number; count = length s.repos; clock = st.clock; need = need_of st w; standing = standing_of s st w }
+reading s st w = record { repo = s.number; count = length s.repos; clock = st.clock; need = need_of s st w; standing = standing_of s st w; requires = required_of s st w }
 
 -- ---- what it knows, by what it reads
 

@@ -15,7 +15,6 @@ pub mod Look
 pub mod Calls
 pub mod OwedStep
 pub mod SessionStep
-pub mod Wanted
 pub mod Knows
 pub mod JobStep
 pub mod DropStep

@@ -11,8 +11,8 @@ use Rattle.node_model.specs.Look.{Look, Effect, failing_call, unless}
 abbrev pub pays_first : SetUp → State → Look → List OwedLine → Option Effect
 pays_first s st k [] = None
 pays_first s st k (o ∷ os) = Some (unless (failing_call k.fails (PutFile ∷ []))
-    (λ call. record { kind = Fault call o.by; taken = None; sent = []; lines = [] })
-    (record { kind = Log (Location o.key); taken = None; sent = []; lines = due s.repos st.lines (st.wall k.time) o }))
+    (λ call. record { kind = Fault call o.by; taken = None; sent = []; lines = []; calls = PutFile ∷ [] })
+    (record { kind = Log (Location o.key); taken = None; sent = []; lines = due s.repos st.lines (st.wall k.time) o; calls = PutFile ∷ [] }))
 
 abbrev pub owed_step : SetUp → State → Look → Option Effect
 owed_step s st k = pays_first s st k st.owed

@@ -28,20 +28,21 @@ use Rattle.node_model.specs.Clocks.{hold_time}
 
 -- What the P2P protocol leaves open is own.
 
--- an entry, and what is sent with it
+-- an entry, what is sent with it, and the store calls of the answer, in order, where none fails
 pub record Reply : Type 0 where
   pub kind : EntryKind
   pub says : List FrameText
+  pub calls : List Call
 
 abbrev pub reply : EntryKind → Message → Reply
-reply kind m = record { kind = kind; says = Line (text_of m) ∷ [] }
+reply kind m = record { kind = kind; says = Line (text_of m) ∷ []; calls = [] }
 
 abbrev pub silent_reply : EntryKind → Reply
-silent_reply kind = record { kind = kind; says = [] }
+silent_reply kind = record { kind = kind; says = []; calls = [] }
 
 -- the connection is closed
 abbrev pub shuts : EntryKind → Reply
-shuts kind = record { kind = kind; says = Closing ∷ [] }
+shuts kind = record { kind = kind; says = Closing ∷ []; calls = [] }
 
 -- ---- answers by the row
 
@@ -147,11 +148,11 @@ close_kind h = Close h.at.peer h.at.slot false
 
 -- anything that isn't expected
 abbrev pub unexpected_reply : Here → Reply
-unexpected_reply h = record { kind = close_kind h; says = Line (text_of (Error (codes "unexpected"))) ∷ Closing ∷ [] }
+unexpected_reply h = record { kind = close_kind h; says = Line (text_of (Error (codes "unexpected"))) ∷ Closing ∷ []; calls = [] }
 
 -- one of these calls fails, and this is said; else the reply stands
 abbrev pub tries : Here → List Call → List FrameText → Reply → Reply
-tries h cs says good = unless (failing_call h.fails cs) (λ call. record { kind = Fault call (by_of h); says = says }) good
+tries h cs says good = record (unless (failing_call h.fails cs) (λ call. record { kind = Fault call (by_of h); says = says; calls = [] }) good) { calls = cs }
 
 abbrev pub failure_line : List FrameText
 failure_line = Line (text_of Failure) ∷ []
@@ -227,7 +228,7 @@ on_frame h was (Line text) = on_text h was (message_of text)
 abbrev pub on_piece : Here → List ℕ → ℕ → ℕ → Reply
 on_piece h key at n =
     tries h (calls.Read ∷ []) (Closing ∷ [])
-    (if reaches (content_of h key) (at + n) then record { kind = Talk None; says = Bytes n ∷ [] } else shuts (close_kind h))
+    (if reaches (content_of h key) (at + n) then record { kind = Talk None; says = Bytes n ∷ []; calls = [] } else shuts (close_kind h))
 
 abbrev pub gives_next : Here → Doing → Option Reply
 gives_next h (Gives key at left good) =
@@ -237,7 +238,7 @@ gives_next h doing = None
 -- ---- the step
 
 abbrev pub reply_made : EndName → End → Option FrameView → Reply → Effect
-reply_made a c taken x = record { kind = x.kind; taken = taken; sent = frames a c x.says; lines = [] }
+reply_made a c taken x = record { kind = x.kind; taken = taken; sent = frames a c x.says; lines = []; calls = x.calls }
 
 abbrev pub gives_made : EndName → End → Option Reply → Option Effect
 gives_made a c None = None

@@ -3,5 +3,5 @@
 
 mod laws;
 
-pub use laws::crashes_keep_contents_and_holds;
+pub use laws::{crashes_keep_contents_and_holds, steps_tell_their_calls};
 pub use run_data;

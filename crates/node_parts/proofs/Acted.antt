@@ -10,6 +10,7 @@ use Rattle.std.proofs.Math.Bool.{and-false, and-true}
 use Rattle.annex_base.specs.Lists.{Each}
 use Rattle.annex_base.specs.Settings.{Settings}
 use Rattle.annex_base.specs.declared.kinds.Call.{Call}
+use Rattle.annex_base.proofs.Options.{map_some}
 use Rattle.run_data.specs.declared.entry.Entry.{Entry}
 use Rattle.run_data.specs.declared.entry.EntryKind.{EntryKind}
 use Rattle.run_data.specs.declared.entry.EntryKind.TheVariants as kinds
@@ -26,7 +27,7 @@ use Rattle.node_model.specs.Clocks.{ClockSet}
 use Rattle.node_model.specs.Ends.{End, EndName, end_sends, end_took, sent_at, taken_at}
 use Rattle.node_model.specs.Evidence as drops
 use Rattle.node_model.specs.Evidence.{standing_by}
-use Rattle.node_model.specs.Look.{Look, Effect, entry_of}
+use Rattle.node_model.specs.Look.{Look, Effect, as_told, entry_of, failed_in}
 use Rattle.node_model.specs.Rows.{bar_after, holds_after}
 use Rattle.node_model.specs.Sessions.{new_session, session_after}
 use Rattle.node_model.specs.SessionStep.{session_step}
@@ -49,10 +50,9 @@ use Rattle.drop_phases.specs.declared.turn.Taken.TheVariants as takens
 use Rattle.drop_worker.specs.Begun.{IsLast, IsOnward}
 use Rattle.drop_worker.specs.Doing.{contents_after}
 use Rattle.drop_worker.specs.States.{HaveState}
-use Rattle.drop_worker.specs.Working.{end_in, failed_in, frames_of, taken_of}
+use Rattle.drop_worker.specs.Working.{end_in, frames_of, taken_of}
 use Rattle.node_jobs.specs.declared.acted.Acted.{Acted}
-use Rattle.node_jobs.specs.Acting.{IsKindOf, SeesActed, SeesJobs, StepsJobs, made_by, taken_by, word_at}
-use Rattle.node_jobs.specs.Calls.{failed_by as failed_by_acted, job_calls}
+use Rattle.node_jobs.specs.Acting.{IsKindOf, SeesActed, SeesJobs, StepsJobs, failed_by as failed_by_acted, made_by, taken_by, word_at}
 use Rattle.node_jobs.specs.Leaving.{Leaves as LeavesJobs, heard_at, phase_at}
 use Rattle.node_jobs.specs.Places.{IsPlace, PlaceView}
 use Rattle.node_jobs.specs.Running.{AreWorks, Follows, IsDrop, Jobs, OwnAll as JobsOwn, job_at, words_at}
@@ -181,6 +181,10 @@ pub heard_of : (was : PartsView) (a : Acted) (d : Done) (k : Look) → d.kind �
 heard_of was a d k same kind fails words =
     (fails ∙ ap failed_in same, sym (words ∙ ap (λ (o : Option ℕ). option_map_or (words_at was.jobs.running) o (λ x. None)) (ap job_of same ∙ kind_job a.job a.kind kind)))
 
+-- what an entry tells of an effect that is a job's own is its own
+own_told : (m n : Effect) → as_told m ≡ n → IsOwnEntry m → IsOwnEntry n
+own_told m n told own = subst IsOwnEntry told (record { kind = own.kind; lines = own.lines; opening = own.opening; clients = own.clients })
+
 module _ (asked : NamelessAsked) (room_there : RoomThere) (own_entries : OwnEntries) (go : EndsGo) (stay : SessionsStay)
     (was now : PartsView) (clock : ClockSet) (view : Settings) (time number : ℕ) (c : Contents) (contents : Option Contents) (sound : AreSound was)
     (s : SetUp) (st : State) (k : Look) (logs : st.logs ≡ view) (sees : SeesParts was c clock time number s st k) where
@@ -188,6 +192,7 @@ module _ (asked : NamelessAsked) (room_there : RoomThere) (own_entries : OwnEntr
   sees_jobs room is = record {
     place = sees.parts.place;
     works = sees.parts.works;
+    paths = sees.paths;
     count = sees.parts.ends.count;
     ends = sees.parts.each;
     sees = record { at_hand = sees.ends.at_hand; room = is };
@@ -222,13 +227,17 @@ module _ (asked : NamelessAsked) (room_there : RoomThere) (own_entries : OwnEntr
     steps = step s st k (sees_jobs k.room sees.ends.room) keeps heard
 
     own : IsOwnEntry (made_by was.links a)
-    own = own_entries s st k was.jobs (made_by was.links a) sees.parts.works sound.acting.drops steps.made
+    own =
+        let real = map_some (job_step s st k) as_told (made_by was.links a) steps.made in
+        own_told real.0 (made_by was.links a) real.2 (own_entries s st k was.jobs real.0 sees.parts.works sound.acting.drops real.1)
 
     -- at a look that finds just the room that there is
     there : SendsWell (λ b. end_took (st.ends b) (taken_at b (taken_by was.links a.slot a.takes))) (room_at was.links) (frames_of (end_at was.links) a.slot a.sends.items)
     there =
         let roomy : Look = record k { room = room_at was.links } in
-        room_there s st roomy was.jobs (made_by was.links a) sees.parts.works sound.acting.drops (step s st roomy (sees_jobs (room_at was.links) (λ b is. refl)) keeps heard).made
+        let real = map_some (job_step s st roomy) as_told (made_by was.links a) (step s st roomy (sees_jobs (room_at was.links) (λ b is. refl)) keeps heard).made in
+        subst (λ (m : Effect). SendsWell (λ b. end_took (st.ends b) (taken_at b m.taken)) (room_at was.links) m.sent) real.2
+        (room_there s st roomy was.jobs real.0 sees.parts.works sound.acting.drops real.1)
 
     well : SendsWell (λ b. end_took (end_at was.links b) (taken_at b d.taken)) (room_at was.links) (frames_of (end_at was.links) a.slot a.sends.items)
     well =
@@ -239,9 +248,9 @@ module _ (asked : NamelessAsked) (room_there : RoomThere) (own_entries : OwnEntr
     sent = acted.sent (subst TakesNoOpening (sym acted.taken) own.opening) well
 
     same : made_of d ≡ made_by was.links a
-    same = λ i. record { kind = acted.kind i; taken = acted.taken i; sent = sent i; lines = [] }
+    same = λ i. record { kind = acted.kind i; taken = acted.taken i; sent = sent i; lines = []; calls = [] }
 
-    made : job_step s st k ≡ Some (made_of d)
+    made : option_map as_told (job_step s st k) ≡ Some (made_of d)
     made = steps.made ∙ ap (λ (m : Effect). Some m) (sym same)
 
     abbrev e : Entry
@@ -315,20 +324,20 @@ acts_some asked room owns go stay was now clock view time number known contents 
 -- what a step of the jobs tells of its calls, over a store with these contents
 abbrev pub CallsThere : PartsView → ClockSet → Settings → ℕ → ℕ → Contents → Option Acted → Option (Call → ℕ) → Option (Call → ℕ) → Type 0
 CallsThere was clock view time number c o before after = (s : SetUp) (st : State) (k : Look) → SeesJobs was.links clock view was.jobs number time s st k → HaveState was.table c st → SeesActed was.jobs k o
-    → MakesCalls (job_calls s st k) (failed_by_acted o) before after
+    → ForSome (job_step s st k) (λ (m : Effect). MakesCalls m.calls (failed_by_acted o) before after)
 
 pub calls_none : NamelessAsked → RoomThere → OwnEntries → EndsGo → SessionsStay → (was now : PartsView) (clock : ClockSet) (view : Settings) (time number : ℕ) (known contents : Option Contents) (before after : Option (Call → ℕ)) → AreSound was
-    → ForSome known (λ c. CallsThere was clock view time number c None before after) → ForSome known (λ c. WhereActed was c clock view time number None (λ s st k. MakesCalls (job_calls s st k) None before after))
+    → ForSome known (λ c. CallsThere was clock view time number c None before after) → ForSome known (λ c. WhereActed was c clock view time number None (λ s st k. ForSome (job_step s st k) (λ (m : Effect). MakesCalls m.calls None before after)))
 calls_none asked room owns go stay was now clock view time number known contents before after sound calls = λ c is s st k logs sees fails words.
-    where_jobs asked room owns go stay was now clock view time number c contents sound s st k logs sees (MakesCalls (job_calls s st k) None before after) None tt
+    where_jobs asked room owns go stay was now clock view time number c contents sound s st k logs sees (ForSome (job_step s st k) (λ (m : Effect). MakesCalls m.calls None before after)) None tt
     (λ there keeps heard. calls c is s st k there keeps heard)
 
 pub calls_some : NamelessAsked → RoomThere → OwnEntries → EndsGo → SessionsStay → (was now : PartsView) (clock : ClockSet) (view : Settings) (time number : ℕ) (known contents : Option Contents) (before after : Option (Call → ℕ)) → AreSound was
     → (a : Acted) (d : Done) → d.kind ≡ a.kind → IsOfJob a.job a.kind → ForSome known (λ c. CallsThere was clock view time number c (Some a) before after)
-    → ForSome known (λ c. WhereActed was c clock view time number (Some d) (λ s st k. MakesCalls (job_calls s st k) (failed_in d.kind) before after))
+    → ForSome known (λ c. WhereActed was c clock view time number (Some d) (λ s st k. ForSome (job_step s st k) (λ (m : Effect). MakesCalls m.calls (failed_in d.kind) before after)))
 calls_some asked room owns go stay was now clock view time number known contents before after sound a d same kind calls = λ c is s st k logs sees fails words.
-    where_jobs asked room owns go stay was now clock view time number c contents sound s st k logs sees (MakesCalls (job_calls s st k) (failed_in d.kind) before after) (Some a) (heard_of was a d k same kind (fails d refl) (words d refl))
-    (λ there keeps heard. subst (λ (x : EntryKind). MakesCalls (job_calls s st k) (failed_in x) before after) (sym same) (calls c is s st k there keeps heard))
+    where_jobs asked room owns go stay was now clock view time number c contents sound s st k logs sees (ForSome (job_step s st k) (λ (m : Effect). MakesCalls m.calls (failed_in d.kind) before after)) (Some a) (heard_of was a d k same kind (fails d refl) (words d refl))
+    (λ there keeps heard. subst (λ (x : EntryKind). ForSome (job_step s st k) (λ (m : Effect). MakesCalls m.calls (failed_in x) before after)) (sym same) (calls c is s st k there keeps heard))
 
 -- ---- what is left of the store
 
@@ -404,6 +413,7 @@ module _ (was now : PartsView) (known contents : Option Contents) (a : Acted) (d
     grows = λ runs. leaves.grows (goes_on runs);
     word = word_heard;
     apart = leaves.apart;
+    given = leaves.given;
   }
 
 -- ---- what they have of the table
@@ -453,6 +463,7 @@ module _ (p : PartsView) (c : Contents) (clock : ClockSet) (time number : ℕ) (
       ∙ job st.logs (record {
         place = sees.parts.place;
         works = sees.parts.works;
+        paths = sees.paths;
         count = sees.parts.ends.count;
         ends = sees.parts.each;
         sees = sees.ends;

@@ -123,9 +123,9 @@ WorksBegun jobs jobs' what = (rows : Rows) (s : SetUp) (st : State) (e : Entry) 
 abbrev pub PartsBegun : PartsView → PartsView → Job → Type 0
 PartsBegun was now what = (s : SetUp) (st : State) (e : Entry) → AreParts s st was → e.kind ≡ Begin (was.jobs.begun + 1) what → e.taken ≡ None → e.sent ≡ [] → AreParts s (state_after s st e) now
 
-pub begun_parts : {T E : Type 0} (r : Result T E) → EndsGo → ((links : List EndView) → AreAfter links links None []) → SessionsStay → (was : PartsView) (jobs : Jobs) (what : Job) → OnOk r (jobs ≡ with_job was.jobs what)
+pub begun_parts : {T E : Type 0} (r : Result T E) → EndsGo → ((links : List EndView) → AreAfter links links None []) → SessionsStay → (was : PartsView) (jobs : Jobs) (what : Job) (paths : List (List ℕ)) → OnOk r (jobs ≡ with_job was.jobs what paths)
     → OnOk r (WorksBegun was.jobs jobs what) → AreSound was → OnOk r (PartsBegun was (record { table = was.table; links = was.links; sessions = was.sessions; jobs = jobs }) what)
-begun_parts (Ok x) go still stay was jobs what ok works sound = λ s st e are kind taken sent.
+begun_parts (Ok x) go still stay was jobs what paths ok works sound = λ s st e are kind taken sent.
     begin_parts s st e (was.jobs.begun + 1) what kind go still stay taken sent was jobs are (ap (λ (j : Jobs). j.place) ok)
     (works was.table s st e (state_after s st e) sound.acting are.works kind (begin_follows s st e (was.jobs.begun + 1) what kind are.logs))
-begun_parts (Err e) go still stay was jobs what ok works sound = tt
+begun_parts (Err e) go still stay was jobs what paths ok works sound = tt

@@ -4,7 +4,7 @@ use Rattle.std.specs.Prelude.{◌&&◌, ◌||◌, All, bytes_eq, fold}
 use Rattle.std.specs.List.{list_any}
 use Rattle.std.specs.Option.{ForSome, option_map}
 use Rattle.std.proofs.lemmas.Option.{same_Some}
-use Rattle.annex_base.proofs.Options.{some_none}
+use Rattle.annex_base.proofs.Options.{map_some, some_none}
 use Rattle.annex_base.specs.declared.kinds.Call.{Call}
 use Rattle.run_data.specs.declared.entry.By.TheVariants.{Peer}
 use Rattle.run_data.specs.declared.entry.Entry.{Entry}
@@ -18,7 +18,7 @@ use Rattle.node_model.specs.After.{state_after}
 use Rattle.node_model.specs.Clocks.{ClockSet, runs_on}
 use Rattle.node_model.specs.Ends.{End, EndName, end_sends, end_took, sent_at, taken_at}
 use Rattle.node_model.specs.Jobs.{Work}
-use Rattle.node_model.specs.Look.{Look, Effect, entry_of}
+use Rattle.node_model.specs.Look.{Effect, Look, as_told, entry_of, failed_in}
 use Rattle.node_model.specs.Rows.{bar_after, content_after, holds_after, present_after}
 use Rattle.node_model.specs.Sessions.{new_session}
 use Rattle.node_model.specs.SessionStep.{is_filled, session_step}
@@ -30,13 +30,10 @@ use Rattle.content_lock.specs.CallsMade.{MakesCalls}
 use Rattle.node_ends.specs.Ends.{end_at}
 use Rattle.node_ends.specs.Going.{AreAfter}
 use Rattle.p2p_server.specs.declared.session.Session.{Session}
-use Rattle.p2p_server.specs.Answers.{failed_in as failed_here}
 use Rattle.p2p_server.specs.Bounds.{IsKind}
 use Rattle.p2p_server.specs.Talking.{AreAfterStep}
-use Rattle.drop_worker.specs.Working.{failed_in}
 use Rattle.node_sessions.specs.declared.served.Served.{Served}
 use Rattle.node_sessions.specs.Kinds.{IsOfSession}
-use Rattle.node_sessions.specs.Calls.{session_calls}
 use Rattle.node_sessions.specs.Sessions.{AreSessions, fills_in}
 use Rattle.node_sessions.specs.Serving.{AreAfterIf, FailsBy, Sees, SeesPartBy, ServesAt, ServesIf, StepsSo, end_by, ends_after, failed_by as failed_by_served, made_by, sessions_after}
 use Rattle.node_jobs.specs.Places.{IsPlace}
@@ -108,10 +105,6 @@ no_job kind h = absurd h
 no_crash : (kind : EntryKind) → IsOfSession kind → (clock : ℕ) → kind ≡ kinds.Crash clock → ⊥
 no_crash kind h clock e = subst IsOfSession e h
 
-same_failure : (kind : EntryKind) → failed_in kind ≡ failed_here kind
-same_failure (kinds.Fault call by) = refl
-same_failure kind = refl
-
 -- ---- the state after it
 
 module _ (was now : PartsView) (v : Served) (d : Done) (contents : Option Contents) (s : SetUp) (st : State) (k : Look)
@@ -120,12 +113,15 @@ module _ (was now : PartsView) (v : Served) (d : Done) (contents : Option Conten
   kind_is : d.kind ≡ v.kind
   kind_is = ap (λ (m : Effect). m.kind) same
 
-  step_is : session_step s st k ≡ Some (made_of d)
-  step_is = steps.made ∙ ap (λ (m : Effect). Some m) (sym same)
+  -- its own entry, as the step makes it
+  kind_own : OwnEntries → IsOfSession d.kind
+  kind_own own =
+      let real = map_some (session_step s st k) as_told (made_by was.links v) steps.made in
+      subst IsOfSession (ap (λ (m : Effect). m.kind) (real.2 ∙ sym same)) (own s st k real.0 real.1).0
 
   pub parts_served : EndsGo → ClosedLaw → JobsStay → OwnEntries → AreParts s (state_after s st (entry_of s.number k (made_of d))) now
   parts_served go shuts stay own =
-      let is_own : IsOfSession d.kind = (own s st k (made_of d) step_is).0 in
+      let is_own = kind_own own in
       record {
         place = subst (λ (j : Jobs). IsPlace j.place s) (sym jobs) are.place;
         holds = after.holds ∙ (λ i. holds_after (are.holds i) (sym kind_is i));
@@ -190,13 +186,13 @@ fails_of : (links : List EndView) (o : Option Served) (d : Option Done) → opti
 fails_of links None d same k f = λ v is. absurd (some_none v (sym is))
 fails_of links (Some v) None same k f = absurd (some_none (made_by links v) (sym same))
 fails_of links (Some v) (Some d) same k f = λ w is.
-    f d refl ∙ (same_failure d.kind ∙ (ap failed_here (kind_same links v d same) ∙ ap (λ (x : Served). failed_here x.kind) (same_Some v w is)))
+    f d refl ∙ (ap failed_in (kind_same links v d same) ∙ ap (λ (x : Served). failed_in x.kind) (same_Some v w is))
 
 pub failed_same : (links : List EndView) (o : Option Served) (d : Option Done) → option_map made_of d ≡ option_map (made_by links) o → failed_by d ≡ failed_by_served o
 failed_same links None None same = refl
 failed_same links None (Some d) same = absurd (some_none (made_of d) same)
 failed_same links (Some v) None same = absurd (some_none (made_by links v) (sym same))
-failed_same links (Some v) (Some d) same = same_failure d.kind ∙ ap failed_here (kind_same links v d same)
+failed_same links (Some v) (Some d) same = ap failed_in (kind_same links v d same)
 
 -- what is so wherever the sessions see such a state and look is so where the parts do
 where_served : FillsLaw → (was : PartsView) (known : Option Contents) (parts : Option StoredParts) (clock : ClockSet) (time number : ℕ) (o : Option Served) (d : Option Done) → AreSound was → option_map made_of d ≡ option_map (made_by was.links) o
@@ -225,12 +221,12 @@ step_of fills go shuts stay own was now mid known contents parts clock time numb
 -- and its calls
 pub calls_of : FillsLaw → (was : PartsView) (mid : List EndView) (known : Option Contents) (parts : Option StoredParts) (clock : ClockSet) (time number shows : ℕ) (o : Option Served) (d : Option Done) (before after : Option (Call → ℕ))
     → AreSound was → mid ≡ was.links → shows ≡ runs_on clock time → option_map made_of d ≡ option_map (made_by mid) o
-    → ((s : SetUp) (st : State) (k : Look) → Sees was.links was.table known parts shows number was.sessions o s st k → MakesCalls (session_calls s st k) (failed_by_served o) before after)
-    → ForSome known (λ c. WhereServed was c parts clock time number d (λ s st k. MakesCalls (session_calls s st k) (failed_by d) before after))
+    → ((s : SetUp) (st : State) (k : Look) → Sees was.links was.table known parts shows number was.sessions o s st k → ForSome (session_step s st k) (λ (m : Effect). MakesCalls m.calls (failed_by_served o) before after))
+    → ForSome known (λ c. WhereServed was c parts clock time number d (λ s st k. ForSome (session_step s st k) (λ (m : Effect). MakesCalls m.calls (failed_by d) before after)))
 calls_of fills was mid known parts clock time number shows o d before after sound mid_is shows_is made calls =
     let same : option_map made_of d ≡ option_map (made_by was.links) o = made_at was.links mid o d mid_is made in
-    where_served fills was known parts clock time number o d sound same (λ s st k. MakesCalls (session_calls s st k) (failed_by d) before after)
-    (λ s st k are sees. subst (λ (f : Option Call). MakesCalls (session_calls s st k) f before after) (sym (failed_same was.links o d same))
+    where_served fills was known parts clock time number o d sound same (λ s st k. ForSome (session_step s st k) (λ (m : Effect). MakesCalls m.calls (failed_by d) before after))
+    (λ s st k are sees. subst (λ (f : Option Call). ForSome (session_step s st k) (λ (m : Effect). MakesCalls m.calls f before after)) (sym (failed_same was.links o d same))
     (calls s st k (subst (λ (n : ℕ). Sees was.links was.table known parts n number was.sessions o s st k) (sym shows_is) sees)))
 
 -- ---- what is left

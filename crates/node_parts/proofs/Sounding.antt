@@ -164,14 +164,14 @@ begun_own : {T E : Type 0} (r : Result T E) (jobs jobs' : Jobs) (rows : Rows) �
 begun_own (Ok x) jobs jobs' rows ok err own = ok rows own
 begun_own (Err e) jobs jobs' rows ok err own = subst (λ (j : Jobs). JobsOwn j rows) (sym err) own
 
-begun_place : {T E : Type 0} (r : Result T E) (jobs jobs' : Jobs) (what : Job) → OnOk r (jobs' ≡ with_job jobs what) → OnErr r (jobs' ≡ jobs) → jobs'.place ≡ jobs.place
-begun_place (Ok x) jobs jobs' what ok err = ap (λ (j : Jobs). j.place) ok
-begun_place (Err e) jobs jobs' what ok err = ap (λ (j : Jobs). j.place) err
+begun_place : {T E : Type 0} (r : Result T E) (jobs jobs' : Jobs) (what : Job) (paths : List (List ℕ)) → OnOk r (jobs' ≡ with_job jobs what paths) → OnErr r (jobs' ≡ jobs) → jobs'.place ≡ jobs.place
+begun_place (Ok x) jobs jobs' what paths ok err = ap (λ (j : Jobs). j.place) ok
+begun_place (Err e) jobs jobs' what paths ok err = ap (λ (j : Jobs). j.place) err
 
-pub begun_sound : {T E : Type 0} (r : Result T E) (was : PartsView) (jobs : Jobs) (what : Job) → OnOk r (jobs ≡ with_job was.jobs what) → OnOk r ((x : Rows) → JobsOwn was.jobs x → JobsOwn jobs x) → OnErr r (jobs ≡ was.jobs)
+pub begun_sound : {T E : Type 0} (r : Result T E) (was : PartsView) (jobs : Jobs) (what : Job) (paths : List (List ℕ)) → OnOk r (jobs ≡ with_job was.jobs what paths) → OnOk r ((x : Rows) → JobsOwn was.jobs x → JobsOwn jobs x) → OnErr r (jobs ≡ was.jobs)
     → AreSound was → AreSound (record { table = was.table; links = was.links; sessions = was.sessions; jobs = jobs })
-begun_sound r was jobs what ok owns err sound = record {
-  count = sound.count ∙ sym (ap (λ (p : PlaceView). length p.ids * 8) (begun_place r was.jobs jobs what ok err));
+begun_sound r was jobs what paths ok owns err sound = record {
+  count = sound.count ∙ sym (ap (λ (p : PlaceView). length p.ids * 8) (begun_place r was.jobs jobs what paths ok err));
   there = sound.there;
   serving = sound.serving;
   acting = begun_own r was.jobs jobs was.table owns err sound.acting;

@@ -1,6 +1,7 @@
 -- What a step of a repository's parts makes, and what it leaves (own).
 use Rattle.std.specs.Prelude.{◌≡◌, ℕ, ◌+◌, ◌<◌, Bool, if◌then◌else◌, List, [], All, find, Option, Some, None, option_and_then}
 use Rattle.std.specs.Option.{ForSome, option_map, option_map_or}
+use Rattle.annex_base.specs.Lists.{Each}
 use Rattle.annex_base.specs.Settings.{Settings}
 use Rattle.annex_base.specs.declared.kinds.Call.{Call}
 use Rattle.annex_base.specs.declared.kinds.Word.{Word}
@@ -13,7 +14,7 @@ use Rattle.node_ends.specs.Ends.{SeesEnds}
 use Rattle.node_ends.specs.Going.{AreAfter}
 use Rattle.node_model.specs.After.{state_after}
 use Rattle.node_model.specs.Clocks.{ClockSet, runs_on}
-use Rattle.node_model.specs.Look.{Look, Effect, entry_of}
+use Rattle.node_model.specs.Look.{Look, Effect, as_told, entry_of, failed_in}
 use Rattle.node_model.specs.Rows.{bar_after, holds_after, same_owner}
 use Rattle.node_model.specs.SetUp.{SetUp}
 use Rattle.node_model.specs.SessionStep.{session_step}
@@ -23,15 +24,14 @@ use Rattle.node_model.specs.Turns.{job_step}
 use Rattle.p2p_server.specs.declared.session.Session.{Session}
 use Rattle.node_sessions.specs.Serving.{SeesPartAt}
 use Rattle.node_sessions.specs.Sessions.{owner_of}
-use Rattle.node_jobs.specs.Running.{words_at}
-use Rattle.drop_worker.specs.Working.{failed_in}
+use Rattle.node_jobs.specs.Running.{HadPaths, words_at}
 use Rattle.node_parts.specs.declared.done.Done.{Done}
 use Rattle.node_parts.specs.Parts.{AreParts, HasContents, PartsView}
 
 -- ---- what is made
 
 abbrev pub made_of : Done → Effect
-made_of d = record { kind = d.kind; taken = d.taken; sent = d.sent; lines = [] }
+made_of d = record { kind = d.kind; taken = d.taken; sent = d.sent; lines = []; calls = [] }
 
 -- the store call that failed
 abbrev pub failed_by : Option Done → Option Call
@@ -40,11 +40,12 @@ failed_by (Some d) = failed_in d.kind
 
 -- ---- what a look finds
 
--- The state is what these parts and a store with these contents are, before the entry of this number; and at this time the look
--- finds what waits at the ends, and where they have room.
+-- The state is what these parts and a store with these contents are, before the entry of this number; the keys of the running jobs had
+-- the paths that these were given; and at this time the look finds what waits at the ends, and where they have room.
 pub record SeesParts (p : PartsView) (c : Contents) (clock : ClockSet) (at n : ℕ) (s : SetUp) (st : State) (k : Look) : Type 0 where
   pub parts : AreParts s st p
   pub stored : HasContents c st
+  pub paths : Each (λ j. HadPaths s j.worker.number j.paths) p.jobs.running
   pub ticks : st.clock ≡ runs_on clock
   pub number : n ≡ st.made + 1
   pub ends : SeesEnds p.links s k
@@ -82,9 +83,9 @@ abbrev pub state_then : SetUp → State → Look → Option Done → State
 state_then s st k None = st
 state_then s st k (Some d) = state_after s st (entry_of s.number k (made_of d))
 
--- this is the step that the definitions have, and the parts and the contents are those of the state after it
+-- this is the step that the definitions have, as an entry tells it, and the parts and the contents are those of the state after it
 pub record Steps (step : SetUp → State → Look → Option Effect) (now : PartsView) (contents : Option Contents) (s : SetUp) (st : State) (k : Look) (o : Option Done) : Type 0 where
-  pub made : step s st k ≡ option_map made_of o
+  pub made : option_map as_told (step s st k) ≡ option_map made_of o
   pub parts : AreParts s (state_then s st k o) now
   pub stored : ForSome contents (λ c. HasContents c (state_then s st k o))
 

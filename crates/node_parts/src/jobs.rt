@@ -5,14 +5,13 @@ ghost use Rattle.annex_base.specs.Causes.{Rose};
 ghost use Rattle.object_store.specs.Stores.{Contents};
 ghost use Rattle.trust_groups.specs.View.{settings_of};
 ghost use Rattle.content_lock.specs.Stored.{Agrees};
-ghost use Rattle.node_model.specs.Look.{Look};
+ghost use Rattle.node_model.specs.Look.{Look, Effect};
 ghost use Rattle.node_model.specs.SessionStep.{session_step};
 ghost use Rattle.node_model.specs.SetUp.{SetUp};
 ghost use Rattle.node_model.specs.State.{State};
 ghost use Rattle.node_model.specs.Turns.{job_step};
 ghost use Rattle.content_lock.specs.CallsMade.{MakesCalls, fewer};
 ghost use Rattle.node_ends.specs.Joined.{StayPaired};
-ghost use Rattle.node_jobs.specs.Calls.{job_calls};
 ghost use Rattle.node_parts.specs.Jobs.{JobsGoOn};
 ghost use Rattle.node_parts.specs.Kinds.{IsQuiet};
 ghost use Rattle.node_parts.specs.Posting.{PostsPieces, stamp_of};
@@ -49,10 +48,10 @@ impl Parts {
         // Over a store that tells: of each state that these and the store are, with these settings, this is the step of its jobs.
         ensures step { IfOk result (λ o. ForSome (K.contents keeper.old) (λ c. Acts self.old self.new c (K.contents keeper.new) moment.clock (settings_of settings.now) moment.time moment.number o)) }
 
-        // It asks no session for a part. At the same looks it makes the calls of its store that the state's own step makes; where one
-        // was to fail, it tells that call.
+        // It asks no session for a part. At the same looks it makes the calls of its store that that step makes; where one was to fail, it
+        // tells that call.
         ensures asked { IfOk result (λ o. ForSome o (λ d. session_asked self.old.sessions d.taken ≡ None)) }
-        ensures calls { IfOk result (λ o. ForSome (K.contents keeper.old) (λ c. WhereActed self.old c moment.clock (settings_of settings.now) moment.time moment.number o (λ s st k. MakesCalls (job_calls s st k) (failed_by o) (K.failing keeper.old) (K.failing keeper.new)))) }
+        ensures calls { IfOk result (λ o. ForSome (K.contents keeper.old) (λ c. WhereActed self.old c moment.clock (settings_of settings.now) moment.time moment.number o (λ s st k. ForSome (job_step s st k) (λ (m : Effect). MakesCalls m.calls (failed_by o) (K.failing keeper.old) (K.failing keeper.new))))) }
         ensures left { IfOk result (λ o. K.failing keeper.new ≡ option_map (fewer (failed_by o)) (K.failing keeper.old)) }
         ensures contents { IfOk result (λ o. K.contents keeper.new ≡ contents_then (K.contents keeper.old) (K.parts keeper.old) o) }
         ensures left_parts { IfOk result (λ o. K.parts keeper.new ≡ parts_then self.old (K.parts keeper.old) o) }

@@ -10,11 +10,12 @@ ghost use Rattle.object_store.specs.Stores.{AreSmallParts, Parts as StoredParts}
 ghost use Rattle.content_lock.specs.Stored.{Agrees};
 ghost use Rattle.link_ring.specs.Ends.{after_drop, fresh, has_frames};
 ghost use Rattle.node_model.specs.After.{first_state, state_after};
+ghost use Rattle.node_model.specs.Look.{Effect};
+ghost use Rattle.node_model.specs.SessionStep.{session_step};
 ghost use Rattle.node_model.specs.SetUp.{SetUp};
 ghost use Rattle.node_model.specs.State.{State};
 ghost use Rattle.content_lock.specs.CallsMade.{MakesCalls, fewer};
 ghost use Rattle.node_ends.specs.Joined.{AreCarried, AreJoined, StayPaired};
-ghost use Rattle.node_sessions.specs.Calls.{session_calls};
 ghost use Rattle.node_sessions.specs.Sessions.{AreAllFed, IsSetUp};
 ghost use Rattle.node_jobs.specs.Acting.{with_job};
 ghost use Rattle.node_parts.specs.Kinds.{IsQuiet};
@@ -27,7 +28,7 @@ ghost use Rattle.node_parts.specs.Stored.{contents_then, parts_then};
 use crate::done::Done;
 use crate::moment::{Moment, stamp_at};
 use crate::serving::{listing, serve_if};
-use annex_base::{Items, NoMemory, RepoId};
+use annex_base::{Items, NoMemory, RepoId, Text};
 use content_lock::LockTable;
 use link_ring::Links;
 use node_ends::{Ends, carry_ends, ends_begin_closed, ends_go_on};
@@ -120,13 +121,19 @@ impl Parts {
         self.jobs.running() < 4
     }
 
-    /// Begins a drop of the repository's own copy, and gives its number. After a refusal all is as before.
-    pub fn begin(&mut self, alloc: Global, what: Job) -> Result<u32, BeginRefused>
+    /// Begins a drop of the repository's own copy, of a key that has these paths in the tree, and gives its number. After a
+    /// refusal all is as before.
+    pub fn begin(
+        &mut self,
+        alloc: Global,
+        what: Job,
+        paths: Items<Text>,
+    ) -> Result<u32, BeginRefused>
         requires kind { what.kind ≡ JobKind.Drop }
         requires peer { what.peer ≡ None }
         requires few { self.old.jobs.begun < 2 ^ 32 - 1 }
         ensures number { IfOk result (λ n. n ≡ self.old.jobs.begun + 1) }
-        ensures jobs { OnOk result (self.new ≡ record self.old { jobs = with_job self.old.jobs what }) }
+        ensures jobs { OnOk result (self.new ≡ record self.old { jobs = with_job self.old.jobs what paths }) }
         ensures free { OnOk result (length self.old.jobs.running < 4) }
         ensures full { IsErrOf result BeginRefused.NoSlot → 4 ≤ length self.old.jobs.running }
         ensures short { IsErrOf result BeginRefused.NoMemory → length self.old.jobs.running < 4 }
@@ -136,7 +143,7 @@ impl Parts {
         // Laws, for the proof that the ends and the sessions are those of the state after the entry.
         ends_go_on();
         sessions_stay();
-        self.jobs.begin(alloc, what)
+        self.jobs.begin(alloc, what, paths)
     }
 
     /// Whether a frame is at hand at one of the ends. Where none is, `drop_old` changes nothing.
@@ -171,8 +178,8 @@ impl Parts {
         ensures step { IfOk result (λ o. ForSome (K.contents keeper.old) (λ c. Serves self.old self.new c (K.parts keeper.old) (K.contents keeper.new) moment.clock moment.time moment.number o)) }
         ensures asked { IfOk result (λ o. ForSome (K.parts keeper.old) (λ q. AreAllFed q self.old.sessions → ForSome o (λ d. HasPart (Some q) self.old d.taken))) }
 
-        // At the same looks it makes the calls of its store that the state's own step makes; where one was to fail, it tells that call.
-        ensures calls { IfOk result (λ o. ForSome (K.contents keeper.old) (λ c. WhereServed self.old c (K.parts keeper.old) moment.clock moment.time moment.number o (λ s st k. MakesCalls (session_calls s st k) (failed_by o) (K.failing keeper.old) (K.failing keeper.new)))) }
+        // At the same looks it makes the calls of its store that that step makes; where one was to fail, it tells that call.
+        ensures calls { IfOk result (λ o. ForSome (K.contents keeper.old) (λ c. WhereServed self.old c (K.parts keeper.old) moment.clock moment.time moment.number o (λ s st k. ForSome (session_step s st k) (λ (m : Effect). MakesCalls m.calls (failed_by o) (K.failing keeper.old) (K.failing keeper.new))))) }
         ensures left { IfOk result (λ o. K.failing keeper.new ≡ option_map (fewer (failed_by o)) (K.failing keeper.old)) }
         ensures contents { IfOk result (λ o. K.contents keeper.new ≡ contents_then (K.contents keeper.old) (K.parts keeper.old) o) }
         ensures parts { IfOk result (λ o. K.parts keeper.new ≡ parts_then self.old (K.parts keeper.old) o) }

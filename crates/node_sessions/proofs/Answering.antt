@@ -18,7 +18,7 @@ use Rattle.content_lock.specs.Rows.{Rows}
 use Rattle.content_lock.specs.Tokens.{Owns}
 use Rattle.link_ring.specs.Ends.{EndView}
 use Rattle.node_model.specs.Ends.{End, EndName, end_takes, end_took, frames, may_take}
-use Rattle.node_model.specs.Look.{Effect}
+use Rattle.node_model.specs.Look.{Effect, as_told}
 use Rattle.node_model.specs.Rows.{bar_after, content_after, holds_after, keep_of, present_after}
 use Rattle.node_model.specs.Sessions as sessions
 use Rattle.node_model.specs.Sessions.{gave_bytes, message_said, sends_close, session_after}
@@ -37,7 +37,7 @@ use Rattle.p2p_server.specs.declared.More.TheVariants as more
 use Rattle.p2p_server.specs.declared.Place.{Place}
 use Rattle.p2p_server.specs.declared.session.Session.{Session}
 use Rattle.p2p_server.specs.declared.Step.{Step}
-use Rattle.p2p_server.specs.Answers.{closes, owner_at, says}
+use Rattle.p2p_server.specs.Answers.{as_said, closes, owner_at, says}
 use Rattle.p2p_server.specs.Bounds.{IsReply, IsReplyIf}
 use Rattle.p2p_server.specs.Giving.{is_giving, reply_more, session_sent}
 use Rattle.p2p_server.specs.States.{HaveRows, Stand, stand_after}
@@ -56,18 +56,24 @@ made_is links v a taken r end took said =
     ap (λ (t : Option FrameView). made_at links (end_by v) t (reply_by v)) took ∙ ap (λ (b : EndName). made_at links b taken (reply_by v)) end ∙ ap (made_at links a taken) said
 
 pub takes_made : (links : List EndView) (v : Served) (a : EndName) (f : FrameView) (r : Reply) (h : Here) (was : sessions.Session) → h.at ≡ a → end_by v ≡ a → wait_at links a ≡ Some f → taken_by links v ≡ Some f → reply_by v ≡ r
-    → r ≡ on_frame h was f.body → session_makes h (end_at links a) was (wait_at links a) ≡ Some (made_by links v)
+    → r ≡ as_said (on_frame h was f.body) → option_map as_told (session_makes h (end_at links a) was (wait_at links a)) ≡ Some (made_by links v)
 takes_made links v a f r h was at end waits took said is =
-    ap (session_makes h (end_at links a) was) waits
-    ∙ ap (λ (b : EndName). Some (reply_made b (end_takes (end_at links a) f.epoch f.body) (Some f) (on_frame h was f.body))) at
+    ap (λ (o : Option FrameView). option_map as_told (session_makes h (end_at links a) was o)) waits
+    ∙ ap (λ (b : EndName). Some (reply_made b (end_takes (end_at links a) f.epoch f.body) (Some f) (as_said (on_frame h was f.body)))) at
     ∙ ap (λ (x : Reply). Some (reply_made a (end_takes (end_at links a) f.epoch f.body) (Some f) x)) (sym is)
     ∙ ap Some (sym (made_is links v a (Some f) r end took said))
 
+-- what is told of a piece is told of its reply
+given_told : (a : EndName) (c : End) (o : Option Reply) → option_map as_told (gives_made a c o) ≡ gives_made a c (option_map as_said o)
+given_told a c None = refl
+given_told a c (Some x) = refl
+
 pub gives_made_so : (links : List EndView) (v : Served) (a : EndName) (r : Reply) (h : Here) (was : sessions.Session) → h.at ≡ a → end_by v ≡ a → wait_at links a ≡ None → (end_at links a).opened ≡ true → taken_by links v ≡ None → reply_by v ≡ r
-    → gives_next h was.doing ≡ Some r → session_makes h (end_at links a) was (wait_at links a) ≡ Some (made_by links v)
+    → option_map as_said (gives_next h was.doing) ≡ Some r → option_map as_told (session_makes h (end_at links a) was (wait_at links a)) ≡ Some (made_by links v)
 gives_made_so links v a r h was at end waits opened took said is =
-    ap (session_makes h (end_at links a) was) waits
-    ∙ ap (λ (b : Bool). if b then gives_made h.at (end_at links a) (gives_next h was.doing) else None) opened
+    ap (λ (o : Option FrameView). option_map as_told (session_makes h (end_at links a) was o)) waits
+    ∙ ap (λ (b : Bool). option_map as_told (if b then gives_made h.at (end_at links a) (gives_next h was.doing) else None)) opened
+    ∙ given_told h.at (end_at links a) (gives_next h was.doing)
     ∙ ap (gives_made h.at (end_at links a)) is
     ∙ ap (λ (b : EndName). Some (reply_made b (end_at links a) None r)) at
     ∙ ap Some (sym (made_is links v a None r end took said))
@@ -181,7 +187,7 @@ kind_given : (v : Served) (r : Reply) → Some r ≡ Some (reply_by v) → v.kin
 kind_given v r e =
     let same : reply_by v ≡ r = cc in ap (λ (x : Reply). x.kind) same
 
-pub given_kind : (place : Place) (m : More) (v : Served) (rows : Rows) → reply_more place m ≡ Some (reply_by v) → Owns (owner_at place) None rows.holds → KindSo place rows v.kind
+pub given_kind : (place : Place) (m : More) (v : Served) (rows : Rows) → option_map as_said (reply_more place m) ≡ Some (reply_by v) → Owns (owner_at place) None rows.holds → KindSo place rows v.kind
 given_kind place (more.Piece bytes) v rows e own =
     let k : v.kind ≡ kinds.Talk None = kind_given v _ e in
     subst (KindSo place rows) (sym k) (record { present = λ key b. refl; content = λ key o. refl }, record { holds = refl; bars = λ key. refl }, λ x. tt)
@@ -203,7 +209,7 @@ says_given v r e =
 abbrev sends_so : (List ℕ → Option ℕ) → EntryKind → sessions.Session → EndName → End → List FrameText → sessions.Session
 sends_so size kind was a c bodies = session_after size kind was (frames a c bodies) None
 
-pub given_next : (place : Place) (m : More) (v : Served) (size : List ℕ → Option ℕ) (was : sessions.Session) (a : EndName) (c : End) → reply_more place m ≡ Some (reply_by v) → session_sent m was ≡ sends_so size v.kind was a c (says_by v)
+pub given_next : (place : Place) (m : More) (v : Served) (size : List ℕ → Option ℕ) (was : sessions.Session) (a : EndName) (c : End) → option_map as_said (reply_more place m) ≡ Some (reply_by v) → session_sent m was ≡ sends_so size v.kind was a c (says_by v)
 given_next place (more.Piece bytes) v size was a c e = ap (sends_so size v.kind was a c) (sym (says_given v _ e))
 given_next place (more.Last m) v size was a c e = ap (sends_so size v.kind was a c) (sym (says_given v _ e))
 given_next place more.Nothing v size was a c e = absurd cc

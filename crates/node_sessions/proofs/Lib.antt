@@ -17,5 +17,3 @@ pub mod Shutting
 pub mod Making
 pub mod Called
 pub mod Storing
-pub mod Telling
-pub mod Rising

@@ -96,3 +96,12 @@ first_at {X} {Y} {Z} f g (y ∷ ys) zero x z at before here =
     let e : y ≡ x = cc in rw (ap (λ (w : X). f (g w)) e ∙ here) refl
 first_at {X} {Y} {Z} f g (y ∷ ys) (suc i) x z at before here =
     rw (before zero y (omega arith) refl) (first_at f g ys i x z at (λ k w less atk. before (suc k) w (omega arith) atk) here)
+
+-- where one gives something and none before it does, it is the first
+pub first_here : {X Y Z : Type 0} (f : Y → Option Z) (g : X → Y) (xs : List X) (i : ℕ) (x : X) → slice_get xs i ≡ Some x → ((k : ℕ) (y : X) → k < i → slice_get xs k ≡ Some y → f (g y) ≡ None)
+    → is_some (f (g x)) ≡ true → first_some f (map g xs) ≡ f (g x)
+first_here {X} {Y} {Z} f g xs i x at before some = go (f (g x)) refl some
+  where
+    go : (o : Option Z) → f (g x) ≡ o → is_some o ≡ true → first_some f (map g xs) ≡ o
+    go None is none = absurd (true≢false (sym none))
+    go (Some z) is there = first_at f g xs i x z at before is

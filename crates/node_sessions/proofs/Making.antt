@@ -46,7 +46,7 @@ other_call (Some c) cs call none e = go (list_any (same_call c) cs) refl e
 tries_own : (h : Here) (cs : List Call) (says : List FrameText) (good : Reply) → puts cs ≡ false → Own good → Own (tries h cs says good)
 tries_own h cs says good none own = go (failing_call h.fails cs) refl
   where
-    go : (o : Option Call) → failing_call h.fails cs ≡ o → Own (unless o (λ call. record { kind = Fault call (by_of h); says = says }) good)
+    go : (o : Option Call) → failing_call h.fails cs ≡ o → Own (unless o (λ call. record { kind = Fault call (by_of h); says = says; calls = [] }) good)
     go None is = own
     go (Some call) is = other_call h.fails cs call none is
 
@@ -173,9 +173,9 @@ frame_own h was (Line text) = text_own h was (message_of text)
 
 piece_own : (h : Here) (key : List ℕ) (at n : ℕ) → Own (on_piece h key at n)
 piece_own h key at n =
-    let good = if reaches (content_of h key) (at + n) then record { kind = Talk None; says = Bytes n ∷ [] } else shuts (close_kind h) in
+    let good = if reaches (content_of h key) (at + n) then record { kind = Talk None; says = Bytes n ∷ []; calls = [] } else shuts (close_kind h) in
     tries_own h (calls.Read ∷ []) (Closing ∷ []) good refl
-    (if_either Own (reaches (content_of h key) (at + n)) (record { kind = Talk None; says = Bytes n ∷ [] }) (shuts (close_kind h)) (λ e. tt) (λ e. tt))
+    (if_either Own (reaches (content_of h key) (at + n)) (record { kind = Talk None; says = Bytes n ∷ []; calls = [] }) (shuts (close_kind h)) (λ e. tt) (λ e. tt))
 
 gives_own : (h : Here) (doing : sessions.Doing) (x : Reply) → gives_next h doing ≡ Some x → Own x
 gives_own h (sessions.Gives key at left good) x e =

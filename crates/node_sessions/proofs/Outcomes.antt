@@ -1,6 +1,6 @@
 -- What is served by an answer to a Close, by that to another frame, and by a piece that is given.
 use Rattle.std.proofs.Common.{◌≡◌, ℕ, ◌<◌, ◌≤◌, Bool, true, false, List, [], Option, Some, None, All, IfSome, refl, sym, ap, subst, ◌∙◌, arith, true≢false}
-use Rattle.std.specs.Prelude.{if◌then◌else◌, is_some}
+use Rattle.std.specs.Prelude.{is_some}
 use Rattle.std.specs.Option.{ForSome, option_map, option_map_or}
 use Rattle.annex_base.specs.Causes.{Rose}
 use Rattle.annex_base.specs.declared.kinds.Call.{Call}
@@ -20,10 +20,10 @@ use Rattle.link_ring.specs.declared.frame.Body.TheVariants as bodies
 use Rattle.link_ring.specs.declared.frame.Frame.{Frame}
 use Rattle.link_ring.specs.Ends.{EndView}
 use Rattle.node_model.specs.Ends.{End, EndName, end_took, frames, server_end}
-use Rattle.node_model.specs.Look.{Look}
+use Rattle.node_model.specs.Look.{Effect, Look, failed_in}
 use Rattle.node_model.specs.Sessions as sessions
 use Rattle.node_model.specs.Sessions.{session_after, session_took}
-use Rattle.node_model.specs.SessionStep.{Reply, gives_next, here, is_filled, on_frame}
+use Rattle.node_model.specs.SessionStep.{Reply, gives_next, here, is_filled, on_frame, session_makes}
 use Rattle.node_model.specs.SetUp.{SetUp}
 use Rattle.node_model.specs.State.{State}
 use Rattle.node_ends.specs.Ends.{end_at, frame_at, room_at, text_in, wait_at}
@@ -32,16 +32,15 @@ use Rattle.p2p_server.specs.declared.More.{More}
 use Rattle.p2p_server.specs.declared.Place.{Place}
 use Rattle.p2p_server.specs.declared.session.Session.{Session}
 use Rattle.p2p_server.specs.declared.Step.{Step}
-use Rattle.p2p_server.specs.Answers.{LeavesContents, contents_after, failed_in, owner_at, reply_of, size_in}
+use Rattle.p2p_server.specs.Answers.{LeavesContents, as_said, contents_after, owner_at, reply_of, size_in}
 use Rattle.p2p_server.specs.Bounds.{IsKind, IsReplyIf}
 use Rattle.p2p_server.specs.Giving.{IsPieceOf, failed_more, reply_more, session_sent}
-use Rattle.p2p_server.specs.SessionCalls.{calls_frame, calls_next}
+use Rattle.p2p_server.specs.SessionCalls.{calls_next}
 use Rattle.p2p_server.specs.States.{IsScene, HaveRows, Stand, stand_after, stand_of}
 use Rattle.p2p_server.specs.Stepping.{LeavesOthers, moment_of}
 use Rattle.p2p_server.specs.Talking.{AreAfterStep, Brings, FillsSo, HasFillOf, IsFedOf, IsJudgedOf, SaysSo, SeesPartOf, SeesSize, parts_after_of, place_of, session_of, share_of}
 use Rattle.node_sessions.specs.declared.served.Served.{Served}
 use Rattle.node_sessions.specs.Built.{IsClosed}
-use Rattle.node_sessions.specs.Calls.{end_calls}
 use Rattle.node_sessions.specs.Moments.{GivesAt, IsReady, LeavesParts, Makes, MakesSo, SeesOne, Serves, WaitsAt, bytes_heard}
 use Rattle.node_sessions.specs.Pieces.{IsNoPiece, SaysGiven}
 use Rattle.node_sessions.specs.Serving.{IsTalk, SeesPartAt, ServesAt, end_by, made_by, reply_by, says_by, taken_by}
@@ -49,7 +48,7 @@ use Rattle.node_sessions.specs.Sessions.{end_of, owner_of}
 use Rattle.node_sessions.specs.Stored.{bytes_at, bytes_of, parts_after_frame, parts_after_taken}
 use Rattle.node_sessions.specs.Words.{word_beside, word_to}
 use Rattle.node_sessions.proofs.Answering.{KindSo, RepliesAreLines, given_kind, given_next, gives_made_so, giving_bare, giving_fills_so, keeps_on, parts_kept, parts_stay, says_so, sees_size, still_below, still_open, taken_is, taken_none, takes_made}
-use Rattle.node_sessions.proofs.Called.{makes_none}
+use Rattle.node_sessions.proofs.Called.{answer_makes, makes_none, piece_makes}
 use Rattle.node_sessions.proofs.Framing.{IsFrameAt, waits_form}
 use Rattle.node_sessions.proofs.Pieces.{given_piece, no_piece}
 use Rattle.node_sessions.proofs.Storing.{close_leaves, parts_answered}
@@ -123,7 +122,7 @@ hung_up links clock number was now rows rows' frame contents parts records fault
         → Makes links (moment_of was rows contents parts records faults) (moment_of now rows' contents parts records faults) (closing_at (place_of was)) s st k
     makes s st k sees = record {
       made = takes_made links (closing_at (place_of was)) (end_of was) (frame_at (end_of was) frame) (reply_by (closing_at (place_of was))) (here s st k (end_of was)) (st.sessions (end_of was)) refl refl w.waits w.waits refl
-          (sym (ap (λ (b : Body). on_frame (here s st k (end_of was)) (st.sessions (end_of was)) (text_in b)) is));
+          (sym (ap (λ (b : Body). as_said (on_frame (here s st k (end_of was)) (st.sessions (end_of was)) (text_in b))) is));
       next = h.session
           ∙ sym (ap (λ (o : Option FrameView). session_after st.content (kinds.Close (place_of was).peer (place_of was).slot false) (session_of was) [] o) w.waits
           ∙ ap (λ (b : Body). session_took st.content (kinds.Close (place_of was).peer (place_of was).slot false) (session_of was) [] (text_in b)) is);
@@ -138,8 +137,8 @@ hung_up_makes links clock number was rows frame contents parts records faults fa
   calls = λ s st k sees.
       let h = here s st k (end_of was) in
       let session = st.sessions (end_of was) in
-      subst (λ (cs : List Call). MakesCalls cs None failing failing)
-      (sym (ap (end_calls h (end_at links (end_of was)) session) w.waits ∙ ap (λ (b : Body). calls_frame h session (text_in b)) is)) (makes_none failing);
+      answer_makes h (end_at links (end_of was)) session (wait_at links (end_of was)) (frame_at (end_of was) frame) None failing failing w.waits
+      (subst (λ (b : Body). MakesCalls (on_frame h session (text_in b)).calls None failing failing) (sym is) (makes_none failing));
   left = (makes_none failing).left;
 }
 
@@ -148,7 +147,7 @@ hung_up_makes links clock number was rows frame contents parts records faults fa
 pub record TookSo (clock number : ℕ) (i : Incoming) (was now : Session) (rows rows' : Rows) (contents contents' : Option Contents) (parts parts' : Option Parts) (records' : Option (List HoldRecord)) (faults faults' : ℕ) (x : Step) : Type 0 where
   pub step : (s : SetUp) (st : State) (k : Look) (a : EndName) (body : FrameText) → IsScene (record { place = place_of was; clock = clock; number = number }) s st k a → HaveRows rows contents (stand_of st)
       → ((key : List ℕ) → is_filled s st key ≡ is_filling rows key) → st.sessions a ≡ session_of was → Brings body i → SeesPartOf parts was i k.part k.right → k.fails ≡ failed_in x.kind
-      → reply_of x ≡ on_frame (here s st k a) (st.sessions a) body
+      → reply_of x ≡ as_said (on_frame (here s st k a) (st.sessions a) body)
   pub keeps : (stand : Stand) (part : ℕ) (right : Bool) → HaveRows rows contents stand → SeesPartOf parts was i part right → HaveRows rows' contents' (stand_after x.kind stand)
   pub after : AreAfterStep x.kind rows rows'
   pub bars : (key : List ℕ) → bar_at rows' key ≡ bar_at rows key
@@ -259,7 +258,7 @@ pub replies_make : (links : List EndView) (clock number : ℕ) (i : Incoming) (f
     → Brings (text_in frame.body) i → WaitsAt links was frame → p ≡ place_of was → AnsweredSo p i x v
     → ((s : SetUp) (st : State) (k : Look) (a : EndName) (body : FrameText) → IsScene (record { place = place_of was; clock = clock; number = number }) s st k a → HaveRows rows contents (stand_of st)
     → ((key : List ℕ) → is_filled s st key ≡ is_filling rows key) → st.sessions a ≡ session_of was → Brings body i → SeesPartOf parts was i k.part k.right → k.fails ≡ failed_in x.kind
-    → MakesCalls (calls_frame (here s st k a) (st.sessions a) body) k.fails before after)
+    → MakesCalls (on_frame (here s st k a) (st.sessions a) body).calls k.fails before after)
     → after ≡ option_map (fewer (failed_in x.kind)) before → MakesSo links clock number (moment_of was rows contents parts records faults) v before after
 replies_make links clock number i frame was rows contents parts records faults before after x p v brings w place y made left = record {
   at = end;
@@ -274,11 +273,11 @@ replies_make links clock number i frame was rows contents parts records faults b
     took = taken_is links v (end_of was) (end_is v.peer v.slot p (place_of was) y.peer y.slot place) y.takes ∙ w.waits
 
     calls : (s : SetUp) (st : State) (k : Look) → SeesOne links clock number (moment_of was rows contents parts records faults) v s st k
-        → MakesCalls (end_calls (here s st k (end_of was)) (end_at links (end_of was)) (st.sessions (end_of was)) (wait_at links (end_of was))) (failed_in v.kind) before after
+        → ForSome (session_makes (here s st k (end_of was)) (end_at links (end_of was)) (st.sessions (end_of was)) (wait_at links (end_of was))) (λ (m : Effect). MakesCalls m.calls (failed_in v.kind) before after)
     calls s st k sees =
         let part : SeesPartOf parts was i k.part k.right = subst (λ (o : Option FrameView). SeesPartAt parts (Some was) o k.part k.right) took sees.part i brings in
-        subst (λ (o : Option FrameView). MakesCalls (end_calls (here s st k (end_of was)) (end_at links (end_of was)) (st.sessions (end_of was)) o) (failed_in v.kind) before after) (sym w.waits)
-        (subst (λ (fails : Option Call). MakesCalls (calls_frame (here s st k (end_of was)) (st.sessions (end_of was)) (text_in frame.body)) fails before after) sees.fails
+        answer_makes (here s st k (end_of was)) (end_at links (end_of was)) (st.sessions (end_of was)) (wait_at links (end_of was)) (frame_at (end_of was) frame) (failed_in v.kind) before after w.waits
+        (subst (λ (fails : Option Call). MakesCalls (on_frame (here s st k (end_of was)) (st.sessions (end_of was)) (text_in frame.body)).calls fails before after) sees.fails
         (made s st k (end_of was) (text_in frame.body) sees.scene sees.keeps sees.filled sees.session brings part (sees.fails ∙ ap failed_in y.kind)))
 
 -- ---- a piece
@@ -302,7 +301,7 @@ pub record GivenSo (p : Place) (m : More) (v : Served) : Type 0 where
   pub peer : v.peer ≡ p.peer
   pub slot : v.slot ≡ p.slot
   pub takes : v.takes ≡ false
-  pub reply : reply_more p m ≡ Some (reply_by v)
+  pub reply : option_map as_said (reply_more p m) ≡ Some (reply_by v)
   pub fails : failed_in v.kind ≡ failed_more m
   pub kind : (n : ℕ) → IsKind n v.kind
   pub leaves : LeavesContents v.kind
@@ -347,11 +346,11 @@ gives_so links clock number was now rows contents contents' parts parts' records
     took : taken_by links v ≡ None
     took = taken_none links v y.takes
 
-    said : reply_more (place_of was) m ≡ Some (reply_by v)
-    said = subst (λ (q : Place). reply_more q m ≡ Some (reply_by v)) place y.reply
+    said : option_map as_said (reply_more (place_of was) m) ≡ Some (reply_by v)
+    said = subst (λ (q : Place). option_map as_said (reply_more q m) ≡ Some (reply_by v)) place y.reply
 
     so : KindSo (place_of was) rows v.kind
-    so = given_kind (place_of was) m v rows (subst (λ (q : Place). reply_more q m ≡ Some (reply_by v)) place y.reply)
+    so = given_kind (place_of was) m v rows (subst (λ (q : Place). option_map as_said (reply_more q m) ≡ Some (reply_by v)) place y.reply)
         (subst (λ (o : Option ShareView). Owns (owner_of was) o rows.holds) (giving_bare was.state.doing w.gives) ready.owns)
 
     stands : ServesAt links v
@@ -368,7 +367,7 @@ gives_so links clock number was now rows contents contents' parts parts' records
         → Makes links (moment_of was rows contents parts records faults) (moment_of now rows contents' parts' records' faults') v s st k
     makes s st k sees = record {
       made = gives_made_so links v (end_of was) (reply_by v) (here s st k (end_of was)) (st.sessions (end_of was)) refl end w.none w.opened took refl
-          (t.step s st k (end_of was) sees.keeps.contents refl sees.keeps.told sees.keeps.content sees.session (sees.fails ∙ y.fails) ∙ said);
+          (ap (option_map as_said) (t.step s st k (end_of was) sees.keeps.contents refl sees.keeps.told sees.keeps.content sees.session (sees.fails ∙ y.fails)) ∙ said);
       next = t.next ∙ given_next (place_of was) m v st.content (session_of was) (end_by v) _ said ∙ ap (λ (o : Option FrameView). session_after st.content v.kind (session_of was) (made_by links v).sent o) (sym took);
       keeps = subst (λ (o : Option Contents). HaveRows rows o (stand_after v.kind (stand_of st))) (sym t.same_contents) (keeps_on v.kind rows rows contents (stand_of st) so.0 so.1 sees.keeps);
     }
@@ -380,12 +379,8 @@ pub gives_make : (links : List EndView) (clock number : ℕ) (was : Session) (ro
 gives_make links clock number was rows contents parts records faults before after m p v w place y made = record {
   at = end_is v.peer v.slot p (place_of was) y.peer y.slot place;
   calls = λ s st k sees.
-      let h = here s st k (end_of was) in
-      let c = end_at links (end_of was) in
-      let session = st.sessions (end_of was) in
-      let list : end_calls h c session (wait_at links (end_of was)) ≡ calls_next (session_of was).doing =
-      ap (end_calls h c session) w.none ∙ ap (λ (b : Bool). if b then calls_next session.doing else []) w.opened ∙ ap (λ (x : sessions.Session). calls_next x.doing) sees.session in
-      subst (λ (cs : List Call). MakesCalls cs (failed_in v.kind) before after) (sym list)
-      (subst (λ (fails : Option Call). MakesCalls (calls_next (session_of was).doing) fails before after) (sym y.fails) made);
+      piece_makes (here s st k (end_of was)) (end_at links (end_of was)) (st.sessions (end_of was)) (wait_at links (end_of was)) (failed_in v.kind) before after w.none w.opened
+      (subst (λ (x : sessions.Session). MakesCalls (calls_next x.doing) (failed_in v.kind) before after) (sym sees.session)
+      (subst (λ (fails : Option Call). MakesCalls (calls_next (session_of was).doing) fails before after) (sym y.fails) made));
   left = made.left ∙ ap (λ (fails : Option Call). option_map (fewer fails) before) (sym y.fails);
 }

@@ -1,6 +1,7 @@
 -- The step of a state's sessions, by what one of them served.
 use Rattle.std.proofs.Common.{◌≡◌, ◌≢◌, ℕ, ◌<◌, Bool, true, false, List, [], Option, Some, None, refl, sym, ap, subst, ◌∙◌}
 use Rattle.std.specs.Prelude.{is_some, slice_get, ◌&&◌, ◌==◌, if◌then◌else◌}
+use Rattle.std.specs.Option.{option_map}
 use Rattle.std.proofs.Math.ListN.{set}
 use Rattle.annex_base.proofs.Lists.{slice_get-within}
 use Rattle.annex_base.specs.OptionSteps.{first_some}
@@ -12,7 +13,7 @@ use Rattle.object_store.specs.declared.keeper.HoldRecord.{HoldRecord}
 use Rattle.content_lock.specs.Rows.{Rows}
 use Rattle.link_ring.specs.Ends.{EndView}
 use Rattle.node_model.specs.Ends.{End, EndName, end_took, frames, sent_at, server_end, taken_at}
-use Rattle.node_model.specs.Look.{Look, Effect}
+use Rattle.node_model.specs.Look.{Effect, Look, as_told}
 use Rattle.node_model.specs.Sessions as sessions
 use Rattle.node_model.specs.Sessions.{session_after}
 use Rattle.node_model.specs.SessionStep.{here, session_at, session_step}
@@ -30,7 +31,7 @@ use Rattle.node_sessions.specs.declared.turn.First.{First}
 use Rattle.node_sessions.specs.declared.turn.Turn.{Turn}
 use Rattle.node_sessions.specs.Turns.{IsFirst, IsFirstAt, turn_at}
 use Rattle.node_sessions.proofs.Framing.{sent_else, sent_mine, taken_else, taken_mine, waits_form}
-use Rattle.node_sessions.proofs.Listing.{Every-set, first_at, first_is, first_none, map_set}
+use Rattle.node_sessions.proofs.Listing.{Every-set, first_here, first_is, first_none, map_set}
 use Rattle.node_sessions.proofs.Standing.{server_is}
 use Rattle.node_sessions.proofs.Turning.{FramesWait, busy_at, end_among, idle_at, step_at}
 
@@ -72,6 +73,14 @@ some_made law links xs s st k first there is sees =
     ap (λ (cs : List (ℕ × ℕ)). is_some (first_some (λ c. session_at s st k (server_end c.0 c.1)) cs)) (sym sees.sessions.connections)
     ∙ first_is (λ c. session_at s st k (server_end c.0 c.1)) connection_of xs first.at (w.0) (w.1) (busy_step law links xs s st k there sees first.at (w.0) first.turn (w.1) (is.here (w.0) (w.1)))
 
+-- and the step is that of the first that has one
+pub first_made : FramesWait → (links : List EndView) (xs : List Session) (s : SetUp) (st : State) (k : Look) (i : ℕ) (x : Session)
+    → HaveEnds links xs → SeesSessions links xs s st k → slice_get xs i ≡ Some x → ((j : ℕ) (y : Session) → j < i → slice_get xs j ≡ Some y → turn_at links y ≡ None)
+    → is_some (session_at s st k (end_of x)) ≡ true → session_step s st k ≡ session_at s st k (end_of x)
+first_made law links xs s st k i x there sees at before some =
+    ap (λ (cs : List (ℕ × ℕ)). first_some (λ c. session_at s st k (server_end c.0 c.1)) cs) (sym sees.sessions.connections)
+    ∙ first_here (λ c. session_at s st k (server_end c.0 c.1)) connection_of xs i x at (λ j y less aty. idle_step law links xs s st k there sees j y aty (before j y less aty)) some
+
 -- there is a step where one has a turn
 pub is_made : FramesWait → (links : List EndView) (xs : List Session) (o : Option First) → HaveEnds links xs → IsFirst links xs o
     → (s : SetUp) (st : State) (k : Look) → AreEnds links s st → SeesEnds links s k → AreSessions s st.sessions xs → is_some (session_step s st k) ≡ is_some o
@@ -81,7 +90,7 @@ is_made law links xs (Some f) there first s st k ends look are = some_made law l
 pub none_steps : FramesWait → (links : List EndView) (rows : Rows) (contents : Option Contents) (parts : Option Parts) (clock number : ℕ) (xs : List Session) (s : SetUp) (st : State) (k : Look)
     → HaveEnds links xs → Every (λ x. turn_at links x ≡ None) xs → Sees links rows contents parts clock number xs None s st k → StepsSo links None xs rows contents s st k
 none_steps law links rows contents parts clock number xs s st k there none sees = record {
-  made = none_made law links xs s st k there none (sessions_seen links rows contents parts clock number xs None s st k sees);
+  made = ap (option_map as_told) (none_made law links xs s st k there none (sessions_seen links rows contents parts clock number xs None s st k sees));
   next = record { connections = sees.sessions.connections; each = λ i x at. sees.sessions.each i x at };
   keeps = sees.keeps;
 }
@@ -184,15 +193,18 @@ next_sessions links v xs i was now s st at apart end place are next =
 
 -- ---- the step
 
+-- what is told is of a step
+told_some : (o : Option Effect) (m : Effect) → option_map as_told o ≡ Some m → is_some o ≡ true
+told_some None m e = absurd cc
+told_some (Some x) m e = refl
+
 pub some_steps : FramesWait → (links : List EndView) (clock number : ℕ) (rows rows' : Rows) (contents contents' : Option Contents) (parts parts' : Option Parts) (records records' : Option (List HoldRecord)) (faults faults' : ℕ)
     (xs : List Session) (i : ℕ) (was now : Session) (v : Served) (s : SetUp) (st : State) (k : Look)
     → HaveEnds links xs → slice_get xs i ≡ Some was → ((j : ℕ) (y : Session) → j < i → slice_get xs j ≡ Some y → turn_at links y ≡ None) → EveryTwo Differ xs
     → Serves links clock number (moment_of was rows contents parts records faults) (moment_of now rows' contents' parts' records' faults') v
     → Sees links rows contents parts clock number xs (Some v) s st k → StepsSo links (Some v) (set xs i now) rows' contents' s st k
 some_steps law links clock number rows rows' contents contents' parts parts' records records' faults faults' xs i was now v s st k there at before apart serves sees = record {
-  made = ap (λ (cs : List (ℕ × ℕ)). first_some (λ c. session_at s st k (server_end c.0 c.1)) cs) (sym sees.sessions.connections)
-      ∙ first_at (λ c. session_at s st k (server_end c.0 c.1)) connection_of xs i was (made_by links v) at
-      (λ j y less aty. idle_step law links xs s st k there (sessions_seen links rows contents parts clock number xs (Some v) s st k sees) j y aty (before j y less aty)) here;
+  made = ap (option_map as_told) (first_made law links xs s st k i was there (sessions_seen links rows contents parts clock number xs (Some v) s st k sees) at before (told_some (session_at s st k a) (made_by links v) here)) ∙ here;
   next = next_sessions links v xs i was now s st at apart serves.at serves.place sees.sessions makes.next;
   keeps = makes.keeps;
 }
@@ -206,5 +218,5 @@ some_steps law links clock number rows rows' contents contents' parts parts' rec
     room : room_at links a ≡ true
     room = ap (room_at links) (sym serves.at) ∙ serves.stands.room
 
-    here : session_at s st k a ≡ Some (made_by links v)
-    here = step_at law links s st k a sees.ends sees.look (end_among s xs i was sees.sessions.connections at) (there i was at) ∙ rw room makes.made
+    here : option_map as_told (session_at s st k a) ≡ Some (made_by links v)
+    here = ap (option_map as_told) (step_at law links s st k a sees.ends sees.look (end_among s xs i was sees.sessions.connections at) (there i was at)) ∙ rw room makes.made

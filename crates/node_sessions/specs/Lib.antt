@@ -5,7 +5,6 @@ pub mod Kinds
 pub mod Serving
 pub mod Pieces
 pub mod Turns
-pub mod Calls
 pub mod Stored
 pub mod Moments
 pub mod Built

@@ -11,7 +11,7 @@ use Rattle.content_lock.specs.Stored.{Agrees}
 use Rattle.content_lock.specs.Tokens.{Owns}
 use Rattle.link_ring.specs.declared.frame.Frame.{Frame}
 use Rattle.link_ring.specs.Ends.{EndView, next_frame}
-use Rattle.node_model.specs.Look.{Look}
+use Rattle.node_model.specs.Look.{Effect, Look, as_told, failed_in}
 use Rattle.node_model.specs.Sessions as sessions
 use Rattle.node_model.specs.Sessions.{session_after}
 use Rattle.node_model.specs.SessionStep.{here, is_filled, session_makes}
@@ -21,14 +21,13 @@ use Rattle.node_ends.specs.Ends.{end_at, frame_at, link_at, room_at, wait_at}
 use Rattle.p2p_server.specs.declared.Incoming.{Incoming}
 use Rattle.p2p_server.specs.declared.Incoming.TheVariants as incoming
 use Rattle.p2p_server.specs.declared.session.Session.{Session}
-use Rattle.p2p_server.specs.Answers.{contents_after, failed_in}
+use Rattle.p2p_server.specs.Answers.{contents_after}
 use Rattle.p2p_server.specs.Bounds.{IsKind}
 use Rattle.p2p_server.specs.Giving.{is_giving}
 use Rattle.p2p_server.specs.States.{IsScene, HaveRows, stand_after, stand_of}
 use Rattle.p2p_server.specs.Stepping.{LeavesOthers, Moment, moment_of}
 use Rattle.p2p_server.specs.Talking.{AreAfterStep, FillsSo, HasFillOf, IsFedOf, IsJudgedOf, place_of, session_of, share_of}
 use Rattle.node_sessions.specs.declared.served.Served.{Served}
-use Rattle.node_sessions.specs.Calls.{end_calls}
 use Rattle.node_sessions.specs.Pieces.{SaysPiece}
 use Rattle.node_sessions.specs.Sessions.{end_of, owner_of}
 use Rattle.node_sessions.specs.Serving.{SeesPartAt, ServesAt, end_by, made_by, taken_by}
@@ -70,7 +69,7 @@ pub record LeavesParts (doing : sessions.Doing) (known known' : Option Parts) : 
 
 -- what this says of a state is the entry of its end's session, and its session and rows after it
 pub record Makes (links : List EndView) (was now : Moment Session) (v : Served) (s : SetUp) (st : State) (k : Look) : Type 0 where
-  pub made : session_makes (here s st k (end_of was.session)) (end_at links (end_of was.session)) (st.sessions (end_of was.session)) (wait_at links (end_of was.session)) ≡ Some (made_by links v)
+  pub made : option_map as_told (session_makes (here s st k (end_of was.session)) (end_at links (end_of was.session)) (st.sessions (end_of was.session)) (wait_at links (end_of was.session))) ≡ Some (made_by links v)
   pub next : session_of now.session ≡ session_after st.content v.kind (session_of was.session) (made_by links v).sent (taken_by links v)
   pub keeps : HaveRows now.rows now.contents (stand_after v.kind (stand_of st))
 
@@ -98,11 +97,11 @@ pub record Serves (links : List EndView) (clock number : ℕ) (was now : Moment 
   pub later : was.faults ≤ now.faults
   pub cause : IfSome (failed_in v.kind) (λ call. Rose was.faults now.faults)
 
--- the calls of its store that were made are those of the state's session at its end, and the numbers are fewer by the one that failed
+-- the calls of its store that were made are those of the step of the state's session at its end, and the numbers are fewer by the one that failed
 pub record MakesSo (links : List EndView) (clock number : ℕ) (was : Moment Session) (v : Served) (before after : Option (Call → ℕ)) : Type 0 where
   pub at : end_by v ≡ end_of was.session
   pub calls : (s : SetUp) (st : State) (k : Look) → SeesOne links clock number was v s st k
-      → MakesCalls (end_calls (here s st k (end_of was.session)) (end_at links (end_of was.session)) (st.sessions (end_of was.session)) (wait_at links (end_of was.session))) (failed_in v.kind) before after
+      → ForSome (session_makes (here s st k (end_of was.session)) (end_at links (end_of was.session)) (st.sessions (end_of was.session)) (wait_at links (end_of was.session))) (λ (m : Effect). MakesCalls m.calls (failed_in v.kind) before after)
   pub left : after ≡ option_map (fewer (failed_in v.kind)) before
 
 -- the bytes of a piece that is heard

@@ -11,7 +11,7 @@ use Rattle.object_store.specs.Stores.{Contents, Parts}
 use Rattle.content_lock.specs.Rows.{Rows, is_filling}
 use Rattle.link_ring.specs.Ends.{EndView}
 use Rattle.node_model.specs.Ends.{End, EndName, end_sends, end_took, frames, sent_at, server_end, taken_at}
-use Rattle.node_model.specs.Look.{Look, Effect}
+use Rattle.node_model.specs.Look.{Effect, Look, as_told, failed_in}
 use Rattle.node_model.specs.Rows.{same_owner}
 use Rattle.node_model.specs.Sessions as sessions
 use Rattle.node_model.specs.Sessions.{session_after}
@@ -23,7 +23,7 @@ use Rattle.node_ends.specs.declared.sending.Sending.TheVariants as sendings
 use Rattle.node_ends.specs.Ends.{AreEnds, SeesEnds, end_at, room_at, wait_at}
 use Rattle.node_ends.specs.Sent.{text_of_sending}
 use Rattle.p2p_server.specs.declared.session.Session.{Session}
-use Rattle.p2p_server.specs.Answers.{closes, failed_in}
+use Rattle.p2p_server.specs.Answers.{closes}
 use Rattle.p2p_server.specs.States.{HaveRows, Stand, stand_after, stand_of}
 use Rattle.p2p_server.specs.Talking.{AreAfterStep, Brings, IsJudgedOf, SeesPartOf}
 use Rattle.node_sessions.specs.declared.served.Served.{Served}
@@ -48,9 +48,9 @@ abbrev pub says_by : Served → List FrameText
 says_by v = says_in v.reply v.close
 
 abbrev pub reply_by : Served → Reply
-reply_by v = record { kind = v.kind; says = says_by v }
+reply_by v = record { kind = v.kind; says = says_by v; calls = [] }
 
--- the entry, at these ends
+-- the entry, at these ends, apart from the store calls of its step
 abbrev pub made_by : List EndView → Served → Effect
 made_by links v = reply_made (end_by v) (end_took (end_at links (end_by v)) (taken_by links v)) (taken_by links v) (reply_by v)
 
@@ -139,10 +139,10 @@ ends_after st (Some m) a = fold (λ c f. end_sends c f.body) (end_took (st.ends 
 
 -- the entry of a close at a server's end that stands so
 abbrev pub closing_made : ℕ → ℕ → End → Effect
-closing_made peer slot c = record { kind = Close peer slot false; taken = None; sent = frames (server_end peer slot) c (Closing ∷ []); lines = [] }
+closing_made peer slot c = record { kind = Close peer slot false; taken = None; sent = frames (server_end peer slot) c (Closing ∷ []); lines = []; calls = [] }
 
 -- this is the step of the state's sessions, and these are the sessions, the rows and the contents after it
 pub record StepsSo (links : List EndView) (o : Option Served) (xs : List Session) (rows : Rows) (contents : Option Contents) (s : SetUp) (st : State) (k : Look) : Type 0 where
-  pub made : session_step s st k ≡ option_map (made_by links) o
+  pub made : option_map as_told (session_step s st k) ≡ option_map (made_by links) o
   pub next : AreSessions s (sessions_after st (option_map (made_by links) o)) xs
   pub keeps : HaveRows rows contents (stand_by o (stand_of st))

@@ -1,9 +1,10 @@
 //! The next piece of a content.
 ghost use Rattle.std.specs.Prelude.{◌≡◌, ◌≤◌, ◌+◌, ◌<◌, ◌^◌, ℕ, Bool, List, true, false, Some, None, IfOk, OnErr};
-ghost use Rattle.std.specs.Option.{ForSome};
+ghost use Rattle.std.specs.Option.{ForSome, option_map};
 ghost use Rattle.link_ring.specs.Ends.{EndView};
 ghost use Rattle.content_lock.specs.Rows.{Rows};
-ghost use Rattle.p2p_server.specs.Answers.{LeavesContents, failed_in};
+ghost use Rattle.p2p_server.specs.Answers.{LeavesContents, as_said};
+ghost use Rattle.node_model.specs.Look.{failed_in};
 ghost use Rattle.p2p_server.specs.Bounds.{FitsMore, IsKind};
 ghost use Rattle.p2p_server.specs.Giving.{failed_more, is_giving, reply_more};
 ghost use Rattle.p2p_server.specs.Stepping.{moment_of};
@@ -42,7 +43,7 @@ fn given(place: &Place, room: Room, more: More) -> Served
     requires short { FitsMore more }
     ensures at { (result.peer ≡ place.now.peer) × (result.slot ≡ place.now.slot) }
     ensures takes { result.takes ≡ false }
-    ensures reply { reply_more place.now more ≡ Some (reply_by result) }
+    ensures reply { option_map as_said (reply_more place.now more) ≡ Some (reply_by result) }
     ensures fails { failed_in result.kind ≡ failed_more more }
     ensures kind { (number : ℕ) → IsKind number result.kind }
     ensures leaves { LeavesContents result.kind }

@@ -2,7 +2,6 @@
 ghost use Rattle.std.specs.Prelude.{◌≡◌, ◌&&◌, ◌||◌, ℕ, [], List, Some, None, false, bytes_eq};
 ghost use Rattle.std.specs.List.{list_any};
 ghost use Rattle.std.specs.declared.option.Option.{Option};
-ghost use Rattle.annex_base.specs.declared.kinds.Call.{Call};
 ghost use Rattle.link_ring.specs.Ends.{EndView};
 ghost use Rattle.run_data.specs.declared.entry.Entry.{Entry};
 ghost use Rattle.run_data.specs.declared.entry.EntryKind.{EntryKind};
@@ -10,7 +9,7 @@ ghost use Rattle.run_data.specs.declared.entry.EntryKind.TheVariants.{Crash};
 ghost use Rattle.node_model.specs.After.{state_after};
 ghost use Rattle.node_model.specs.Ends.{EndName, sent_at, taken_at};
 ghost use Rattle.node_model.specs.Files.{lines_after};
-ghost use Rattle.node_model.specs.Look.{Look, Effect, failing_call};
+ghost use Rattle.node_model.specs.Look.{Look, Effect};
 ghost use Rattle.node_model.specs.Sessions.{new_session};
 ghost use Rattle.node_model.specs.SessionStep.{is_filled, session_step};
 ghost use Rattle.node_model.specs.SetUp.{SetUp};
@@ -21,14 +20,11 @@ ghost use Rattle.object_store.specs.Stores.{Parts};
 ghost use Rattle.p2p_server.specs.declared.session.Session.{Session};
 ghost use Rattle.p2p_server.specs.Bounds.{IsKind};
 ghost use Rattle.node_sessions.specs.declared.served.Served.{Served};
-ghost use Rattle.node_sessions.specs.Calls.{failed_of, session_calls};
 ghost use Rattle.node_sessions.specs.Kinds.{IsOfSession};
-ghost use Rattle.content_lock.specs.CallsMade.{AreRising};
 ghost use Rattle.node_sessions.specs.Serving.{HasPart, ServesAt, end_by, ends_after, made_by, sessions_after};
 ghost use Rattle.node_sessions.specs.Sessions.{AreSessions, AreAllFed, fills_in};
 
 use key_verify::verdicts_are_matches;
-use p2p_server::answers_tell_the_failed_call;
 
 /// Whatever a session is asked of a part, a store that tells its parts has an answer, so that a look may find it (own).
 pub fn looks_see_parts()
@@ -55,17 +51,6 @@ pub fn sessions_stay()
     ensures { (s : SetUp) (st : State) (e : Entry) (xs : List Session) → AreSessions s st.sessions xs → ((a : EndName) → a.client ≡ false → (taken_at a e.taken ≡ None) × (sent_at a e.sent ≡ []))
         → AreSessions s (state_after s st e).sessions xs }
 {}
-
-/// The entry of the sessions' step tells a failed call exactly where a call of that step is the one that fails; and which calls
-/// it makes doesn't depend on that one. They are made in the order of Keeper's (own).
-pub fn sessions_tell_the_failed_call()
-    ensures failed { (s : SetUp) (st : State) (k : Look) → failed_of (session_step s st k) ≡ failing_call k.fails (session_calls s st k) }
-    ensures same { (s : SetUp) (st : State) (k : Look) (fails : Option Call) → session_calls s st (record k { fails = fails }) ≡ session_calls s st k }
-    ensures ordered { (s : SetUp) (st : State) (k : Look) → AreRising (session_calls s st k) }
-{
-    // A law, for the proof that the answer to a frame tells the failed call.
-    answers_tell_the_failed_call();
-}
 
 /// What a session makes is an entry of its own, which adds no lines (own).
 pub fn sessions_make_their_own_entries()

@@ -18,7 +18,6 @@ mod words;
 pub use laws::{
     looks_see_parts, sessions_and_jobs_fill, sessions_entries_are_no_jobs,
     sessions_make_their_own_entries, sessions_of_closed_ends_are_new, sessions_stay,
-    sessions_tell_the_failed_call,
 };
 pub use served::Served;
 pub use sessions::Sessions;

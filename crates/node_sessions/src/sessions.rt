@@ -14,7 +14,7 @@ ghost use Rattle.content_lock.specs.Stored.{Agrees};
 ghost use Rattle.content_lock.specs.Tokens.{Owns, ShareView};
 ghost use Rattle.link_ring.specs.Ends.{EndView};
 ghost use Rattle.node_model.specs.Ends.{End};
-ghost use Rattle.node_model.specs.Look.{Look};
+ghost use Rattle.node_model.specs.Look.{Look, Effect};
 ghost use Rattle.node_model.specs.Sessions.{new_session};
 ghost use Rattle.node_model.specs.Rows.{holds_after};
 ghost use Rattle.node_model.specs.SessionStep.{session_step};
@@ -23,7 +23,6 @@ ghost use Rattle.node_model.specs.State.{State};
 ghost use Rattle.node_ends.specs.Ends.{AreEnds, SeesEnds};
 ghost use Rattle.p2p_server.specs.Bounds.{IsKind};
 ghost use Rattle.p2p_server.specs.Talking.{AreAfterStep, place_of};
-ghost use Rattle.node_sessions.specs.Calls.{session_calls};
 ghost use Rattle.node_sessions.specs.Pieces.{PieceBy};
 ghost use Rattle.node_sessions.specs.Serving.{AreAfterIf, JudgedBy, Sees, ServesIf, StepsSo, closing_made, failed_by, sessions_after};
 ghost use Rattle.node_sessions.specs.Sessions.{AreFilled, AreSessions, AreAllFed, HaveEnds, IsOther, IsSetUp, LeavesPartsOf, OwnAll, connection_of, fills_in};
@@ -157,10 +156,10 @@ impl Sessions {
             → Sees ends.old table.old (K.contents keeper.old) (K.parts keeper.old) clock number self.old o s st k
             → StepsSo ends.old o self.new table.new (K.contents keeper.new) s st k) }
 
-        // It makes the calls of its store that the state's own step makes, and where one was to fail, it tells that call.
+        // It makes the calls of its store that that step makes, and where one was to fail, it tells that call.
         ensures calls { IfOk result (λ o. (s : SetUp) (st : State) (k : Look)
             → Sees ends.old table.old (K.contents keeper.old) (K.parts keeper.old) clock number self.old o s st k
-            → MakesCalls (session_calls s st k) (failed_by o) (K.failing keeper.old) (K.failing keeper.new)) }
+            → ForSome (session_step s st k) (λ (m : Effect). MakesCalls m.calls (failed_by o) (K.failing keeper.old) (K.failing keeper.new))) }
         ensures left { IfOk result (λ o. K.failing keeper.new ≡ option_map (fewer (failed_by o)) (K.failing keeper.old)) }
         ensures contents { IfOk result (λ o. K.contents keeper.new ≡ contents_left (K.contents keeper.old) (K.parts keeper.old) o) }
         ensures left_parts { IfOk result (λ o. K.parts keeper.new ≡ parts_left self.old ends.old o (K.parts keeper.old)) }

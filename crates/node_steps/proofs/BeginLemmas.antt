@@ -69,8 +69,8 @@ GoOn was now job what = (s : SetUp) (st : State) (e : Entry) → AreParts s st w
 later_numbers : (n m : ℕ) (hs : List Hold) → n ≤ m → All (λ (x : Hold). x.number < n) hs → All (λ (x : Hold). x.number < m) hs
 later_numbers n m hs more all = All-weaker (λ (x : Hold). x.number < n) (λ (x : Hold). x.number < m) (λ x few. omega (arith, few, more)) hs all
 
-module _ (setup : Setup) (h : List Entry) (was now : PartsView) (branch : Files) (owed : List OwedLine) (told : Option Contents) (time count job : ℕ) (what : Job)
-    (fills : FillLaw) (sound' : AreSound now) (same : now ≡ record was { jobs = with_job was.jobs what }) (go : GoOn was now job what) (kept : IsKept setup h was branch owed told) where
+module _ (setup : Setup) (h : List Entry) (was now : PartsView) (branch : Files) (owed : List OwedLine) (told : Option Contents) (time count job : ℕ) (what : Job) (paths : List (List ℕ))
+    (fills : FillLaw) (sound' : AreSound now) (same : now ≡ record was { jobs = with_job was.jobs what paths }) (go : GoOn was now job what) (kept : IsKept setup h was branch owed told) where
   abbrev begun_entry : Entry
   begun_entry = begin_entry setup time count job what
 
@@ -114,26 +114,26 @@ pub kept_entered : (setup setup' : Setup) (h h' : List Entry) (p : PartsView) (b
 kept_entered setup setup' h h' p branch owed owed' told es eh eo kept =
     subst (λ (x : Setup). IsKept x h' p branch owed' told) (sym es) (subst (λ (x : List Entry). IsKept setup x p branch owed' told) (sym eh) (subst (λ (x : List OwedLine). IsKept setup h p branch x told) (sym eo) kept))
 
-pub begun_kept : FillLaw → (was ready now : Past) (parts parts' : PartsView) (branch : Files) (owed owed' : List OwedLine) (told : Option Contents) (job : ℕ) (what : Job) (lines : List (List ℕ))
-    → AreSound parts' → parts' ≡ record parts { jobs = with_job parts.jobs what } → GoOn parts parts' (parts.jobs.begun + 1) what → job ≡ parts.jobs.begun + 1 → lines ≡ [] → SamePast was ready → AddsTo (Begin job what) lines ready now → owed' ≡ owed
+pub begun_kept : FillLaw → (was ready now : Past) (parts parts' : PartsView) (branch : Files) (owed owed' : List OwedLine) (told : Option Contents) (job : ℕ) (what : Job) (paths : List (List ℕ)) (lines : List (List ℕ))
+    → AreSound parts' → parts' ≡ record parts { jobs = with_job parts.jobs what paths } → GoOn parts parts' (parts.jobs.begun + 1) what → job ≡ parts.jobs.begun + 1 → lines ≡ [] → SamePast was ready → AddsTo (Begin job what) lines ready now → owed' ≡ owed
     → IsKept was.setup was.history.items parts branch owed told → IsKept now.setup now.history.items parts' branch owed' told
-begun_kept fills was ready now parts parts' branch owed owed' told job what lines sound same go number none ready_is adds owes kept =
+begun_kept fills was ready now parts parts' branch owed owed' told job what paths lines sound same go number none ready_is adds owes kept =
     let added = adds_after (Begin job what) lines was ready now ready_is adds in
     kept_entered was.setup now.setup (was.history.items ++ begin_entry was.setup was.time (was.count + 1) (parts.jobs.begun + 1) what ∷ []) now.history.items parts' branch owed owed' told added.setup
     (added.history ∙ ap (λ (ls : List (List ℕ)). was.history.items ++ record { time = was.time; count = was.count + 1; repo = Some was.setup.number; kind = Begin job what; taken = None; sent = []; lines = ls } ∷ []) none
     ∙ ap (λ (j : ℕ). was.history.items ++ begin_entry was.setup was.time (was.count + 1) j what ∷ []) number)
     owes
-    (kept_begun was.setup was.history.items parts parts' branch owed told was.time (was.count + 1) (parts.jobs.begun + 1) what fills sound same go kept)
+    (kept_begun was.setup was.history.items parts parts' branch owed told was.time (was.count + 1) (parts.jobs.begun + 1) what paths fills sound same go kept)
 
 -- what is seen of the node then
-node_begun : {K : Type 0} (k : K) (parts parts' : PartsView) (branch : Files) (was now : Past) (owed owed' : List OwedLine) (job : ℕ) (what : Job)
-    → parts' ≡ record parts { jobs = with_job parts.jobs what } → AddsTo (Begin job what) [] was now → owed' ≡ owed
-    → seen k parts' branch now owed' ≡ record (with_entry (seen k parts branch was owed) k branch (Begin job what) []) { parts = record parts { jobs = with_job parts.jobs what } }
-node_begun {K} k parts parts' branch was now owed owed' job what ep adds eo =
+node_begun : {K : Type 0} (k : K) (parts parts' : PartsView) (branch : Files) (was now : Past) (owed owed' : List OwedLine) (job : ℕ) (what : Job) (paths : List (List ℕ))
+    → parts' ≡ record parts { jobs = with_job parts.jobs what paths } → AddsTo (Begin job what) [] was now → owed' ≡ owed
+    → seen k parts' branch now owed' ≡ record (with_entry (seen k parts branch was owed) k branch (Begin job what) []) { parts = record parts { jobs = with_job parts.jobs what paths } }
+node_begun {K} k parts parts' branch was now owed owed' job what paths ep adds eo =
     let node : PartsView → Setup → ℕ → ℕ → List Entry → List Ended → List OwedLine → NodeView K =
     (λ p s t c h x o. record { setup = s; keeper = k; parts = p; branch = branch; time = t; count = c; history = h; outcomes = x; owed = o }) in
     let h' : List Entry = was.history.items ++ begin_entry was.setup was.time (was.count + 1) job what ∷ [] in
-    let p' : PartsView = record parts { jobs = with_job parts.jobs what } in
+    let p' : PartsView = record parts { jobs = with_job parts.jobs what paths } in
     ap (λ (p : PartsView). node p now.setup now.time now.count now.history.items now.outcomes.items owed') ep
     ∙ ap (λ (s : Setup). node p' s now.time now.count now.history.items now.outcomes.items owed') adds.setup
     ∙ ap (λ (t : ℕ). node p' was.setup t now.count now.history.items now.outcomes.items owed') adds.time
@@ -142,12 +142,12 @@ node_begun {K} k parts parts' branch was now owed owed' job what ep adds eo =
     ∙ ap (λ (x : List Ended). node p' was.setup was.time (was.count + 1) h' x owed') adds.outcomes
     ∙ ap (λ (o : List OwedLine). node p' was.setup was.time (was.count + 1) h' was.outcomes.items o) eo
 
-pub seen_begun : {K : Type 0} (k : K) (parts parts' : PartsView) (branch : Files) (was ready now : Past) (owed owed' : List OwedLine) (job : ℕ) (what : Job) (lines : List (List ℕ)) (n : NodeView K)
-    → seen k parts branch was owed ≡ n → parts' ≡ record parts { jobs = with_job parts.jobs what } → lines ≡ [] → SamePast was ready → AddsTo (Begin job what) lines ready now → owed' ≡ owed
-    → seen k parts' branch now owed' ≡ record (with_entry n n.keeper n.branch (Begin job what) []) { parts = record n.parts { jobs = with_job n.parts.jobs what } }
-seen_begun {K} k parts parts' branch was ready now owed owed' job what lines n view ep none same adds eo =
-    subst (λ (m : NodeView K). seen k parts' branch now owed' ≡ record (with_entry m m.keeper m.branch (Begin job what) []) { parts = record m.parts { jobs = with_job m.parts.jobs what } }) view
-    (node_begun k parts parts' branch was now owed owed' job what ep (subst (λ (ls : List (List ℕ)). AddsTo (Begin job what) ls was now) none (adds_after (Begin job what) lines was ready now same adds)) eo)
+pub seen_begun : {K : Type 0} (k : K) (parts parts' : PartsView) (branch : Files) (was ready now : Past) (owed owed' : List OwedLine) (job : ℕ) (what : Job) (paths : List (List ℕ)) (lines : List (List ℕ)) (n : NodeView K)
+    → seen k parts branch was owed ≡ n → parts' ≡ record parts { jobs = with_job parts.jobs what paths } → lines ≡ [] → SamePast was ready → AddsTo (Begin job what) lines ready now → owed' ≡ owed
+    → seen k parts' branch now owed' ≡ record (with_entry n n.keeper n.branch (Begin job what) []) { parts = record n.parts { jobs = with_job n.parts.jobs what paths } }
+seen_begun {K} k parts parts' branch was ready now owed owed' job what paths lines n view ep none same adds eo =
+    subst (λ (m : NodeView K). seen k parts' branch now owed' ≡ record (with_entry m m.keeper m.branch (Begin job what) []) { parts = record m.parts { jobs = with_job m.parts.jobs what paths } }) view
+    (node_begun k parts parts' branch was now owed owed' job what paths ep (subst (λ (ls : List (List ℕ)). AddsTo (Begin job what) ls was now) none (adds_after (Begin job what) lines was ready now same adds)) eo)
 
 -- ---- the store's parts
 

@@ -5,6 +5,7 @@ use Rattle.std.specs.Option.{ForSome, option_map, option_or}
 use Rattle.annex_base.specs.Causes.{Rose}
 use Rattle.annex_base.specs.declared.kinds.Call.{Call}
 use Rattle.annex_base.proofs.Conditions.{bytes_eq-refl}
+use Rattle.annex_base.proofs.Options.{map_some}
 use Rattle.trust_groups.specs.Reads.{Indices, HaveReadLines}
 use Rattle.trust_groups.specs.Settings.{Lines, settings}
 use Rattle.trust_groups.specs.View.{settings_of}
@@ -16,9 +17,8 @@ use Rattle.run_data.specs.Files.{file_path}
 use Rattle.object_store.specs.Stores.{Contents, Parts as StoredParts}
 use Rattle.union_merge.specs.Branch.{Files, lines_at}
 use Rattle.union_merge.specs.LineSet.{union}
-use Rattle.drop_worker.specs.Working.{failed_in}
 use Rattle.annex_base.specs.declared.memory.NoMemory.{NoMemory}
-use Rattle.node_model.specs.Look.{Look, Effect}
+use Rattle.node_model.specs.Look.{Look, Effect, as_told, entry_of, failed_in}
 use Rattle.node_model.specs.SessionStep.{session_step}
 use Rattle.node_model.specs.SetUp.{SetUp}
 use Rattle.node_model.specs.State.{State}
@@ -26,10 +26,8 @@ use Rattle.node_model.specs.OwedLines.{OwedLine}
 use Rattle.node_model.specs.Turns.{job_step}
 use Rattle.content_lock.specs.CallsMade.{MakesCalls, fewer}
 use Rattle.p2p_server.specs.declared.session.Session.{Session}
-use Rattle.node_sessions.specs.Calls.{session_calls}
 use Rattle.node_sessions.specs.Serving.{SeesPartAt}
 use Rattle.node_sessions.specs.Sessions.{AreAllFed}
-use Rattle.node_jobs.specs.Calls.{job_calls}
 use Rattle.node_jobs.specs.Places.{PlaceView}
 use Rattle.node_parts.specs.declared.done.Done.{Done}
 use Rattle.node_parts.specs.declared.moment.Moment.{Moment}
@@ -46,7 +44,7 @@ use Rattle.node_steps.specs.Nodes.{MatchesSetup, NodeView, state_of, told_of}
 use Rattle.node_past.specs.Pasts.{SamePast, frames_entry}
 use Rattle.node_steps.specs.Stepping.{AddsIf, EntersIf, EntersStep, MovesSo, NoStep}
 use Rattle.node_past.specs.Stored.{StoreView}
-use Rattle.node_steps.specs.Turning.{Adds, Caller, GoOn, Looks, Stepper, StepsBy, branch_by, ended_by}
+use Rattle.node_steps.specs.Turning.{Adds, GoOn, Looks, Stepper, StepsBy, branch_by, ended_by}
 use Rattle.node_steps.proofs.StepLemmas.{CountLaw, DoesBy, WhereDone, sees_parts, told_some}
 
 -- the node that these are
@@ -161,12 +159,17 @@ adds_if {K} view (Some d) b k k' parts parts' branch number was ready now debts 
 
 -- ---- the step
 
+-- where an entry tells of no step, there is none
+none_told : (o : Option Effect) → option_map as_told o ≡ None → o ≡ None
+none_told None is = refl
+none_told (Some m) is = absurd cc
+
 -- no look of these finds a step
 none_steps : {K : Type 0} (step : Stepper) (law : CountLaw) (k : K) (parts parts' : PartsView) (branch : Files) (was : Past) (owed : List OwedLine) (cs cs' : Option Contents) (qs : Option StoredParts)
     → IsKept was.setup was.history.items parts branch owed (told_of cs qs) → (c : Contents) → told_of cs qs ≡ Some c → DoesBy step parts parts' c qs cs' was.setup was.history.items was.time None
     → NoStep step (seen k parts branch was owed)
 none_steps step law k parts parts' branch was owed cs cs' qs kept c told by s look fits looks =
-    (by.does s look fits (sees_parts law was.setup was.history.items parts branch owed (told_of cs qs) c was.time (length was.history.items + 1) s look kept told refl fits looks.ends looks.time)
+    none_told (step s (state_of s was.history.items) look) (by.does s look fits (sees_parts law was.setup was.history.items parts branch owed (told_of cs qs) c was.time (length was.history.items + 1) s look kept told refl fits looks.paths looks.ends looks.time)
     (λ d is. no_done d is) (λ d is. no_done d is) (λ d is. no_done d is)).made
 
 entry_same : (r r' time time' count count' : ℕ) (m : Effect) → r ≡ r' → time ≡ time' → count ≡ count'
@@ -186,40 +189,45 @@ module _ (known : Option StoredParts) (d : Done) (parts : PartsView) (k : Look) 
   finds_words : k.words ≡ words_heard parts (Some d) → Hears parts (Some d) k
   finds_words words x is = words ∙ ap (λ (y : Done). words_heard parts (Some y)) (some_done d x is)
 
-some_steps : {K : Type 0} (step : Stepper) (caller : Caller) (law : CountLaw) (d : Done) (k k' : K) (parts parts' : PartsView) (branch : Files) (was now : Past) (owed owed' : List OwedLine) (before after : StoreView)
+some_steps : {K : Type 0} (step : Stepper) (law : CountLaw) (d : Done) (k k' : K) (parts parts' : PartsView) (branch : Files) (was now : Past) (owed owed' : List OwedLine) (before after : StoreView)
     → IsKept was.setup was.history.items parts branch owed (told_of before.contents before.parts) → EntersStep d was now → (c : Contents) → told_of before.contents before.parts ≡ Some c
     → DoesBy step parts parts' c before.parts after.contents was.setup was.history.items was.time (Some d)
-    → WhereDone parts c before.parts was.setup was.history.items was.time (Some d) (λ s st x. MakesCalls (caller s st x) (failed_in d.kind) before.failing after.failing)
-    → StepsBy step caller before after (seen k parts branch was owed) (seen k' parts' branch now owed')
-some_steps step caller law d k k' parts parts' branch was now owed owed' before after kept enters c told by calls = record {
+    → WhereDone parts c before.parts was.setup was.history.items was.time (Some d) (λ s st x. ForSome (step s st x) (λ (m : Effect). MakesCalls m.calls (failed_in d.kind) before.failing after.failing))
+    → StepsBy step before after (seen k parts branch was owed) (seen k' parts' branch now owed')
+some_steps step law d k k' parts parts' branch was now owed owed' before after kept enters c told by calls = record {
   kind = d.kind;
   taken = d.taken;
   part = by.part d refl;
-  makes = λ s look fits looks finds. record {
-    made = made_of d;
-    same = refl;
-    takes = refl;
-    makes = (by.does s look fits (sees_parts law was.setup was.history.items parts branch owed (told_of before.contents before.parts) c was.time (length was.history.items + 1) s look kept told refl fits looks.ends looks.time)
-        (finds_fails before.parts d parts look finds.fails) (finds_part before.parts d parts look finds.part) (finds_words before.parts d parts look finds.words)).made;
-    adds = enters.history ∙ ap (λ (e : Entry). was.history.items ++ e ∷ []) (entry_same s.number was.setup.number look.time was.time look.count (was.count + 1) (made_of d) fits.number looks.time looks.count);
-  };
-  calls = λ s look fits looks finds.
-      calls s look fits (sees_parts law was.setup was.history.items parts branch owed (told_of before.contents before.parts) c was.time (length was.history.items + 1) s look kept told refl fits looks.ends looks.time)
-      (finds_fails before.parts d parts look finds.fails) (finds_part before.parts d parts look finds.part) (finds_words before.parts d parts look finds.words);
+  makes = λ s look fits looks finds.
+      let sees = sees_parts law was.setup was.history.items parts branch owed (told_of before.contents before.parts) c was.time (length was.history.items + 1) s look kept told refl fits looks.paths looks.ends looks.time in
+      let fails = finds_fails before.parts d parts look finds.fails in
+      let asks = finds_part before.parts d parts look finds.part in
+      let hears = finds_words before.parts d parts look finds.words in
+      let it = map_some (step s (state_of s was.history.items) look) as_told (made_of d) (by.does s look fits sees fails asks hears).made in
+      record {
+        made = it.0;
+        same = ap (λ (m : Effect). m.kind) it.2;
+        takes = ap (λ (m : Effect). m.taken) it.2;
+        makes = it.1;
+        adds = enters.history
+            ∙ ap (λ (e : Entry). was.history.items ++ e ∷ []) (entry_same s.number was.setup.number look.time was.time look.count (was.count + 1) (made_of d) fits.number looks.time looks.count)
+            ∙ ap (λ (m : Effect). was.history.items ++ entry_of s.number look m ∷ []) (sym it.2);
+        calls = calls s look fits sees fails asks hears it.0 it.1;
+      };
 }
 
-pub steps_if : {K : Type 0} (view : K → StoreView) (step : Stepper) (caller : Caller) (law : CountLaw) (o : Option Done) (b : Bool) (k k' : K) (parts parts' : PartsView) (branch : Files) (was ready now : Past) (debts debts' : List ℕ) (owed owed' : List OwedLine) (n : NodeView K)
+pub steps_if : {K : Type 0} (view : K → StoreView) (step : Stepper) (law : CountLaw) (o : Option Done) (b : Bool) (k k' : K) (parts parts' : PartsView) (branch : Files) (was ready now : Past) (debts debts' : List ℕ) (owed owed' : List OwedLine) (n : NodeView K)
     → seen k parts branch was owed ≡ n → b ≡ is_some o → SamePast was ready → EntersIf o ready now debts debts' → IsKept was.setup was.history.items parts branch owed (told_of (view k).contents (view k).parts)
     → ForSome (told_of (view k).contents (view k).parts) (λ c. DoesBy step parts parts' c (view k).parts (view k').contents was.setup was.history.items was.time o)
-    → ForSome (told_of (view k).contents (view k).parts) (λ c. WhereDone parts c (view k).parts was.setup was.history.items was.time o (λ s st x. MakesCalls (caller s st x) (failed_by o) (view k).failing (view k').failing))
-    → (c : Contents) → told_of (view k).contents (view k).parts ≡ Some c → MovesSo b step caller (view n.keeper) (view k') n (seen k' parts' branch now owed')
-steps_if {K} view step caller law None b k k' parts parts' branch was ready now debts debts' owed owed' n node made same enters kept does calls c told =
-    subst (λ (x : Bool). MovesSo x step caller (view n.keeper) (view k') n (seen k' parts' branch now owed')) (sym made)
+    → ForSome (told_of (view k).contents (view k).parts) (λ c. WhereDone parts c (view k).parts was.setup was.history.items was.time o (λ s st x. ForSome (step s st x) (λ (m : Effect). MakesCalls m.calls (failed_by o) (view k).failing (view k').failing)))
+    → (c : Contents) → told_of (view k).contents (view k).parts ≡ Some c → MovesSo b step (view n.keeper) (view k') n (seen k' parts' branch now owed')
+steps_if {K} view step law None b k k' parts parts' branch was ready now debts debts' owed owed' n node made same enters kept does calls c told =
+    subst (λ (x : Bool). MovesSo x step (view n.keeper) (view k') n (seen k' parts' branch now owed')) (sym made)
     (subst (λ (m : NodeView K). NoStep step m) node (none_steps step law k parts parts' branch was owed (view k).contents (view k').contents (view k).parts kept c told (does c told)))
-steps_if {K} view step caller law (Some d) b k k' parts parts' branch was ready now debts debts' owed owed' n node made same enters kept does calls c told =
-    subst (λ (x : Bool). MovesSo x step caller (view n.keeper) (view k') n (seen k' parts' branch now owed')) (sym made)
-    (subst (λ (m : NodeView K). StepsBy step caller (view m.keeper) (view k') m (seen k' parts' branch now owed')) node
-    (some_steps step caller law d k k' parts parts' branch was now owed owed' (view k) (view k') kept (enters_after d was ready now same enters.0) c told (does c told) (calls c told)))
+steps_if {K} view step law (Some d) b k k' parts parts' branch was ready now debts debts' owed owed' n node made same enters kept does calls c told =
+    subst (λ (x : Bool). MovesSo x step (view n.keeper) (view k') n (seen k' parts' branch now owed')) (sym made)
+    (subst (λ (m : NodeView K). StepsBy step (view m.keeper) (view k') m (seen k' parts' branch now owed')) node
+    (some_steps step law d k k' parts parts' branch was now owed owed' (view k) (view k') kept (enters_after d was ready now same enters.0) c told (does c told) (calls c told)))
 
 -- ---- what the parts do, of a node
 
@@ -261,10 +269,10 @@ served_does m was ready parts parts' cs cs' qs o at same fed serves asked c told
     }
 
 pub served_calls : (m : Moment) (was ready : Past) (parts : PartsView) (cs : Option Contents) (qs : Option StoredParts) (o : Option Done) (before after : Option (Call → ℕ)) → m ≡ moment_in ready → SamePast was ready
-    → ForSome cs (λ c. WhereServed parts c qs m.clock m.time m.number o (λ s st k. MakesCalls (session_calls s st k) (failed_by o) before after))
-    → ForSome (told_of cs qs) (λ c. WhereDone parts c qs was.setup was.history.items was.time o (λ s st k. MakesCalls (session_calls s st k) (failed_by o) before after))
+    → ForSome cs (λ c. WhereServed parts c qs m.clock m.time m.number o (λ s st k. ForSome (session_step s st k) (λ (m : Effect). MakesCalls m.calls (failed_by o) before after)))
+    → ForSome (told_of cs qs) (λ c. WhereDone parts c qs was.setup was.history.items was.time o (λ s st k. ForSome (session_step s st k) (λ (m : Effect). MakesCalls m.calls (failed_by o) before after)))
 served_calls m was ready parts cs qs o before after at same calls c told =
-    served_where m was ready parts c qs o (λ s st k. MakesCalls (session_calls s st k) (failed_by o) before after) at same (calls c (told_some cs qs c told).0)
+    served_where m was ready parts c qs o (λ s st k. ForSome (session_step s st k) (λ (m : Effect). MakesCalls m.calls (failed_by o) before after)) at same (calls c (told_some cs qs c told).0)
 
 -- what the jobs read is what the state has read
 pub settings_are : (setup : Setup) (h : List Entry) (parts : PartsView) (branch : Files) (owed : List OwedLine) (told : Option Contents) (i : Indices) (s : SetUp)
@@ -298,9 +306,9 @@ module _ (m : Moment) (was ready : Past) (parts : PartsView) (branch : Files) (o
     does = acted_where c (λ s st k. Steps job_step parts' cs' s st k o) (acts c (told_some cs qs c told).0);
   }
 
-  pub acted_calls : (before after : Option (Call → ℕ)) → ForSome cs (λ c. WhereActed parts c m.clock (settings_of i) m.time m.number o (λ s st k. MakesCalls (job_calls s st k) (failed_by o) before after))
-      → ForSome (told_of cs qs) (λ c. WhereDone parts c qs was.setup was.history.items was.time o (λ s st k. MakesCalls (job_calls s st k) (failed_by o) before after))
-  acted_calls before after calls c told = acted_where c (λ s st k. MakesCalls (job_calls s st k) (failed_by o) before after) (calls c (told_some cs qs c told).0)
+  pub acted_calls : (before after : Option (Call → ℕ)) → ForSome cs (λ c. WhereActed parts c m.clock (settings_of i) m.time m.number o (λ s st k. ForSome (job_step s st k) (λ (m : Effect). MakesCalls m.calls (failed_by o) before after)))
+      → ForSome (told_of cs qs) (λ c. WhereDone parts c qs was.setup was.history.items was.time o (λ s st k. ForSome (job_step s st k) (λ (m : Effect). MakesCalls m.calls (failed_by o) before after)))
+  acted_calls before after calls c told = acted_where c (λ s st k. ForSome (job_step s st k) (λ (m : Effect). MakesCalls m.calls (failed_by o) before after)) (calls c (told_some cs qs c told).0)
 
 -- ---- whether a step is ready
 
@@ -313,7 +321,7 @@ ready_parts {K} (Ok b) law m k parts branch was owed cs qs n view at kept ready 
     subst (λ (x : NodeView K). (s : SetUp) (look : Look) → MatchesSetup x.setup s → Looks x s look → is_some (option_or (session_step s (state_of s x.history) look) (job_step s (state_of s x.history) look)) ≡ b) view
     (λ s look fits looks.
     let sees : SeesParts parts c (moment_in was).clock (moment_in was).time (moment_in was).number s (state_of s was.history.items) look =
-    sees_parts law was.setup was.history.items parts branch owed (told_of cs qs) c was.time (vec_len was.history + 1) s look kept (same ∙ known) (ap (λ (x : ℕ). x + 1) was.history.ok.0) fits looks.ends looks.time in
+    sees_parts law was.setup was.history.items parts branch owed (told_of cs qs) c was.time (vec_len was.history + 1) s look kept (same ∙ known) (ap (λ (x : ℕ). x + 1) was.history.ok.0) fits looks.paths looks.ends looks.time in
     ready c s (state_of s was.history.items) look (subst (λ (x : Moment). SeesParts parts c x.clock x.time x.number s (state_of s was.history.items) look) (sym at) sees))
 ready_parts (Err e) law m k parts branch was owed cs qs n view at kept ready same = tt
 

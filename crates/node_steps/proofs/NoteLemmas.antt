@@ -130,7 +130,7 @@ kept_if step fills law None was ready now parts parts' branch debts ready_debts 
     let same_now : SamePast was now = subst (SamePast was) (sym enters.0) same in
     kept_entered was.setup now.setup was.history.items now.history.items parts' branch (owed_in was debts) (owed_in now debts') (told_of cs' qs') same_now.setup same_now.history (owed_same was now debts debts' same_now (enters.1 ∙ same_debts) are)
     (subst (λ (p : PartsView). IsKept was.setup was.history.items p branch (owed_in was debts) (told_of cs' qs')) (sym leaves)
-    (kept_asked step law was.setup was.history.items parts branch (owed_in was debts) cs cs' qs qs' was.time kept
+    (kept_asked step law was.setup was.history.items parts branch (owed_in was debts) cs cs' qs qs' was.time sound kept
     (subst (λ (p : PartsView). ForSome (told_of cs qs) (λ c. DoesBy step parts p c qs cs' was.setup was.history.items was.time None)) leaves does) told_parts told_contents))
 kept_if step fills law (Some d) was ready now parts parts' branch debts ready_debts debts' cs cs' qs qs' sound sound' same same_debts enters are none leaves quiet does told_parts told_contents place begun kept =
     let added = enters_after d was ready now same enters.0 in

@@ -7,7 +7,7 @@ use Rattle.run_data.specs.declared.entry.Entry.{Entry}
 use Rattle.run_data.specs.declared.entry.EntryKind.{EntryKind}
 use Rattle.run_data.specs.declared.entry.EntryKind.TheVariants.{Log, Fault}
 use Rattle.run_data.specs.declared.entry.LogFile.TheVariants.{Location}
-use Rattle.node_model.specs.Look.{Look, Effect, entry_of, failing_call, unless}
+use Rattle.node_model.specs.Look.{Look, Effect, entry_of, failed_in, failing_call, unless}
 use Rattle.node_model.specs.OwedLines.{OwedLine, due}
 use Rattle.node_model.specs.OwedStep.{owed_step, pays_first}
 use Rattle.node_model.specs.SetUp.{SetUp}
@@ -27,7 +27,6 @@ use Rattle.annex_base.specs.Causes.{Rose}
 use Rattle.annex_base.specs.declared.kinds.EntryStamp.{EntryStamp}
 use Rattle.run_data.specs.declared.entry.FrameView.{FrameView}
 use Rattle.run_data.specs.Histories.{most_entries}
-use Rattle.drop_worker.specs.Working.{failed_in}
 use Rattle.link_ring.specs.Ends.{EndView}
 use Rattle.content_lock.specs.CallsMade.{MakesCalls, fewer}
 use Rattle.node_ends.specs.Ends.{link_at}
@@ -39,7 +38,6 @@ use Rattle.node_parts.specs.Posting.{PostsPieces, after_step}
 use Rattle.node_past.specs.declared.setup.Ended.{Ended}
 use Rattle.node_past.specs.Calls.{Makes, StopsIn}
 use Rattle.node_past.specs.Stored.{StoreView}
-use Rattle.node_steps.specs.TurnCalls.{owed_calls}
 use Rattle.node_steps.specs.Turning.{Adds, StepsBy, branch_by, ended_by, stamp_then}
 
 -- ---- a call that has made an entry
@@ -50,15 +48,16 @@ WhereMade (Ok x) P = P
 WhereMade (Err refusals.StoreFault) P = P
 WhereMade (Err e) P = Unit {0}
 
--- the entry of this step, of the repository of this number at this look, was added to the history
+-- the entry of this step, of the repository of this number at this look, was added to the history; the step writes a file
 pub record AddsStep (step : Option Effect) (number : ℕ) (k : Look) (was now : List Entry) : Type 0 where
   pub made : Effect
   pub is : step ≡ Some made
   pub adds : now ≡ was ++ entry_of number k made ∷ []
+  pub calls : made.calls ≡ PutFile ∷ []
 
 -- the entry of the node is the entry of the step
 entry_is : {K : Type 0} (n : NodeView K) (k : Look) (kind : EntryKind) (lines others : List (List ℕ)) → k.time ≡ n.time → k.count ≡ n.count + 1 → others ≡ lines
-    → next_entry n kind lines ≡ entry_of n.setup.number k (record { kind = kind; taken = None; sent = []; lines = others })
+    → next_entry n kind lines ≡ entry_of n.setup.number k (record { kind = kind; taken = None; sent = []; lines = others; calls = PutFile ∷ [] })
 entry_is n k kind lines others time count same =
     ap (λ (t : ℕ). made t (n.count + 1) lines) (sym time) ∙ ap (λ (c : ℕ). made k.time c lines) (sym count) ∙ ap (λ (w : List (List ℕ)). made k.time k.count w) (sym same)
   where
@@ -67,7 +66,7 @@ entry_is n k kind lines others time count same =
 
 history_is : {K : Type 0} (n m : NodeView K) (k : Look) (kind : EntryKind) (lines others : List (List ℕ)) → k.time ≡ n.time → k.count ≡ n.count + 1 → others ≡ lines
     → m.history ≡ n.history ++ next_entry n kind lines ∷ []
-    → m.history ≡ n.history ++ entry_of n.setup.number k (record { kind = kind; taken = None; sent = []; lines = others }) ∷ []
+    → m.history ≡ n.history ++ entry_of n.setup.number k (record { kind = kind; taken = None; sent = []; lines = others; calls = PutFile ∷ [] }) ∷ []
 history_is n m k kind lines others time count same adds = adds ∙ ap (λ (e : Entry). n.history ++ e ∷ []) (entry_is n k kind lines others time count same)
 
 pub step_made : {K : Type 0} (r : Result (Unit {0}) NodeRefused) (n m : NodeView K) (s : SetUp) (k : Look) (known : Option Contents) (o : OwedLine) (os : List OwedLine)
@@ -78,16 +77,17 @@ step_made {K} (Ok x) n m s k known o os fits is time count fails ok err = record
   made = paid;
   is = ap (λ (f : Option Call). Some (unless f fault paid)) fails;
   adds = history_is n m k (Log (Location o.key)) (due_by n o.key o.repo o.there) paid.lines time count due_same (ap (λ (v : NodeView K). v.history) ok);
+  calls = refl;
 }
   where
     st : State
     st = state_of s n.history
 
     fault : Call → Effect
-    fault call = record { kind = Fault call o.by; taken = None; sent = []; lines = [] }
+    fault call = record { kind = Fault call o.by; taken = None; sent = []; lines = []; calls = PutFile ∷ [] }
 
     paid : Effect
-    paid = record { kind = Log (Location o.key); taken = None; sent = []; lines = due s.repos st.lines (st.wall k.time) o }
+    paid = record { kind = Log (Location o.key); taken = None; sent = []; lines = due s.repos st.lines (st.wall k.time) o; calls = PutFile ∷ [] }
 
     due_same : paid.lines ≡ due_by n o.key o.repo o.there
     due_same = ap (λ (t : ℕ). due s.repos st.lines (st.wall t) o) time ∙ due_is n s known o fits is
@@ -95,16 +95,17 @@ step_made {K} (Err refusals.StoreFault) n m s k known o os fits is time count fa
   made = fault PutFile;
   is = ap (λ (f : Option Call). Some (unless f fault paid)) fails;
   adds = history_is n m k (Fault PutFile o.by) [] [] time count refl (ap (λ (v : NodeView K). v.history) err);
+  calls = refl;
 }
   where
     st : State
     st = state_of s n.history
 
     fault : Call → Effect
-    fault call = record { kind = Fault call o.by; taken = None; sent = []; lines = [] }
+    fault call = record { kind = Fault call o.by; taken = None; sent = []; lines = []; calls = PutFile ∷ [] }
 
     paid : Effect
-    paid = record { kind = Log (Location o.key); taken = None; sent = []; lines = due s.repos st.lines (st.wall k.time) o }
+    paid = record { kind = Log (Location o.key); taken = None; sent = []; lines = due s.repos st.lines (st.wall k.time) o; calls = PutFile ∷ [] }
 step_made (Err refusals.Full) n m s k known o os fits is time count fails ok err = tt
 step_made (Err (refusals.BadBundle at)) n m s k known o os fits is time count fails ok err = tt
 step_made (Err refusals.NoMemory) n m s k known o os fits is time count fails ok err = tt
@@ -193,7 +194,7 @@ adds_failed {K} law n m o before after is stored rose = adds_quiet law n m (Faul
 
 steps_by : {K : Type 0} (r : Result (Unit {0}) NodeRefused) (n m : NodeView K) (kind : EntryKind) (lines : List (List ℕ)) (before after : StoreView) → m.history ≡ n.history ++ next_entry n kind lines ∷ [] → failing_call (failed_in kind) (PutFile ∷ []) ≡ failed_put r
     → ((s : SetUp) (k : Look) → MatchesSetup n.setup s → k.time ≡ n.time → k.count ≡ n.count + 1 → failing_call k.fails (PutFile ∷ []) ≡ failed_put r → AddsStep (owed_step s (state_of s n.history) k) n.setup.number k n.history m.history)
-    → MakesCalls (PutFile ∷ []) (failed_in kind) before.failing after.failing → StepsBy owed_step owed_calls before after n m
+    → MakesCalls (PutFile ∷ []) (failed_in kind) before.failing after.failing → StepsBy owed_step before after n m
 steps_by r n m kind lines before after history fault pays calls = record {
   kind = kind;
   taken = None;
@@ -207,18 +208,18 @@ steps_by r n m kind lines before after history fault pays calls = record {
         takes = sym (ap (λ (e : Entry). e.taken) last);
         makes = it.is;
         adds = it.adds ∙ ap (λ (r : ℕ). n.history ++ entry_of r k it.made ∷ []) (sym fits.number);
+        calls = subst (λ (cs : List Call). MakesCalls cs (failed_in kind) before.failing after.failing) (sym it.calls) calls;
       };
-  calls = λ s k fits looks finds. calls;
 }
 
 pub steps_paid : {K : Type 0} (x : Unit {0}) (n m : NodeView K) (o : OwedLine) (before after : StoreView) → m ≡ with_status n m.keeper o.key o.repo o.there
     → ((s : SetUp) (k : Look) → MatchesSetup n.setup s → k.time ≡ n.time → k.count ≡ n.count + 1 → failing_call k.fails (PutFile ∷ []) ≡ failed_put (Ok x) → AddsStep (owed_step s (state_of s n.history) k) n.setup.number k n.history m.history)
-    → Makes (PutFile ∷ []) PutFile (Ok x) before.failing after.failing → StepsBy owed_step owed_calls before after n m
+    → Makes (PutFile ∷ []) PutFile (Ok x) before.failing after.failing → StepsBy owed_step before after n m
 steps_paid {K} x n m o before after is pays puts = steps_by (Ok x) n m (Log (Location o.key)) (due_by n o.key o.repo o.there) before after (ap (λ (v : NodeView K). v.history) is) refl pays puts
 
 pub steps_failed : {K : Type 0} (n m : NodeView K) (o : OwedLine) (before after : StoreView) → m ≡ with_entry n m.keeper n.branch (Fault PutFile o.by) []
     → ((s : SetUp) (k : Look) → MatchesSetup n.setup s → k.time ≡ n.time → k.count ≡ n.count + 1 → failing_call k.fails (PutFile ∷ []) ≡ failed_put (Err refusals.StoreFault) → AddsStep (owed_step s (state_of s n.history) k) n.setup.number k n.history m.history)
-    → StopsIn (PutFile ∷ []) PutFile refusals.StoreFault before.failing after.failing → StepsBy owed_step owed_calls before after n m
+    → StopsIn (PutFile ∷ []) PutFile refusals.StoreFault before.failing after.failing → StepsBy owed_step before after n m
 steps_failed {K} n m o before after is pays puts = steps_by (Err refusals.StoreFault) n m (Fault PutFile o.by) [] before after (ap (λ (v : NodeView K). v.history) is) refl pays puts
 
 -- of a call that wrote the file, or failed to
@@ -275,7 +276,7 @@ fault_adds law e n m o before after is refuses contents parts puts rose = adds_f
 
 pub fault_steps : {K : Type 0} (e : NodeRefused) (n m : NodeView K) (o : OwedLine) (before after : StoreView) → e ≡ refusals.StoreFault → RefusesFor o.by e PutFile n m
     → ((s : SetUp) (k : Look) → MatchesSetup n.setup s → k.time ≡ n.time → k.count ≡ n.count + 1 → failing_call k.fails (PutFile ∷ []) ≡ failed_put (Err e) → WhereMade (Err e) (AddsStep (owed_step s (state_of s n.history) k) n.setup.number k n.history m.history))
-    → StopsIn (PutFile ∷ []) PutFile e before.failing after.failing → StepsBy owed_step owed_calls before after n m
+    → StopsIn (PutFile ∷ []) PutFile e before.failing after.failing → StepsBy owed_step before after n m
 fault_steps refusals.Full n m o before after is refuses pays puts = absurd cc
 fault_steps refusals.StoreFault n m o before after is refuses pays puts = steps_failed n m o before after refuses pays puts
 fault_steps (refusals.BadBundle at) n m o before after is refuses pays puts = absurd cc

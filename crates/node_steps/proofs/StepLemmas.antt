@@ -1,13 +1,15 @@
 -- What stands beside a history stays so after a step of its sessions or its jobs.
 use Rattle.std.proofs.Common.{◌≡◌, ℕ, ◌<◌, ◌+◌, Bool, true, false, List, [], ◌∷◌, ◌++◌, All, Option, Some, None, length, map, reverse, find, is_some, refl, sym, subst, arith, ◌∙◌, ap}
 use Rattle.std.specs.Prelude.{◌==◌, if◌then◌else◌, flat_map, option_to_list}
-use Rattle.std.specs.Option.{ForSome}
+use Rattle.std.specs.Option.{ForSome, option_map_or}
+use Rattle.std.proofs.lemmas.Bool.{ne_eqb}
 use Rattle.std.proofs.lemmas.List.{length-append, length-reverse, reverse-append}
 use Rattle.annex_base.specs.Lists.{Each}
 use Rattle.annex_base.specs.declared.kinds.Call.{Call}
 use Rattle.annex_base.specs.declared.kinds.Call.TheVariants.{PutFile}
 use Rattle.annex_base.specs.declared.kinds.Word.{Word}
-use Rattle.annex_base.proofs.Conditions.{by_test}
+use Rattle.annex_base.proofs.Conditions.{by_test, eqb_refl}
+use Rattle.annex_base.proofs.Lists.{Each-both}
 use Rattle.p2p_wire.specs.declared.message.Message.{Message}
 use Rattle.run_data.specs.declared.entry.Entry.{Entry}
 use Rattle.run_data.specs.declared.entry.EntryKind.{EntryKind}
@@ -20,7 +22,7 @@ use Rattle.object_store.specs.Stores.{Contents, Parts as StoredParts}
 use Rattle.content_lock.specs.Rows.{is_filling}
 use Rattle.union_merge.specs.Branch.{Files}
 use Rattle.drop_worker.specs.Feeding.{FitsLocal}
-use Rattle.drop_worker.specs.Working.{failed_in, phase_as}
+use Rattle.drop_worker.specs.Working.{phase_as}
 use Rattle.drop_phases.specs.declared.phase.Phase.{Phase}
 use Rattle.drop_phases.specs.declared.phase.Phase.TheVariants as phases
 use Rattle.drop_phases.specs.declared.phase.Token.{Token}
@@ -29,7 +31,7 @@ use Rattle.node_ends.specs.Ends.{SeesEnds, hand_at, room_at}
 use Rattle.node_model.specs.After.{clock_after, state_after, states}
 use Rattle.node_model.specs.AnyTime.{all_ends}
 use Rattle.node_model.specs.Jobs.{Work}
-use Rattle.node_model.specs.Look.{Look, entry_of}
+use Rattle.node_model.specs.Look.{Look, entry_of, failed_in}
 use Rattle.node_model.specs.OwedLines.{OwedLine, owed_after, owed_without, told_frame, told_line, told_to}
 use Rattle.node_model.specs.Rows.{bar_after, holds_after}
 use Rattle.node_model.specs.Sessions.{line_in}
@@ -37,7 +39,7 @@ use Rattle.node_model.specs.SessionStep.{is_filled}
 use Rattle.node_model.specs.SetUp.{SetUp}
 use Rattle.node_model.specs.State.{State}
 use Rattle.node_jobs.specs.Places.{PlaceView}
-use Rattle.node_jobs.specs.Running.{DropJob, IsDrop, work_now}
+use Rattle.node_jobs.specs.Running.{AllApart, AreApart, DropJob, HadPaths, IsDrop, job_at, work_now}
 use Rattle.node_parts.specs.declared.done.Done.{Done}
 use Rattle.node_parts.specs.Kinds.{IsQuiet}
 use Rattle.node_parts.specs.Parts.{AreParts, HasContents, PartsView}
@@ -145,14 +147,55 @@ told_before cs cs' qs qs' c' parts contents told =
     let found = some_known cs true (sym (contents there) ∙ ap (λ (o : Option Contents). is_some o) now.0) in
     (found.0, told_known cs qs found.0 found.1 there)
 
--- ---- what parts and a store that tells are
+-- ---- the paths of the running jobs
+
+-- the paths that the running job of this number was given
+abbrev paths_in : List DropJob → ℕ → List (List ℕ)
+paths_in js job = option_map_or (λ (j : DropJob). j.paths) (job_at js job) []
+
+-- each running job was given those of its number
+own_given : (js : List DropJob) → AllApart js → Each (λ j. j.paths ≡ paths_in js j.worker.number) js
+own_given [] apart = tt
+own_given (j ∷ js) apart = (
+  ap (λ (b : Bool). option_map_or (λ (x : DropJob). x.paths) (if b then Some j else job_at js j.worker.number) []) (sym (eqb_refl j.worker.number)),
+  Each-both (AreApart j) (λ x. x.paths ≡ paths_in js x.worker.number) (λ x. x.paths ≡ paths_in (j ∷ js) x.worker.number)
+      (λ x other is. is ∙ ap (λ (b : Bool). option_map_or (λ (y : DropJob). y.paths) (if b then Some j else job_at js x.worker.number) []) (sym (ne_eqb j.worker.number x.worker.number other.number))) js apart.0 (own_given js apart.1),
+)
+
+-- the set-up with these paths
+abbrev own_paths : SetUp → List DropJob → SetUp
+own_paths s js = record s { paths = paths_in js }
+
+fits_own : (setup : Setup) (s : SetUp) (js : List DropJob) → MatchesSetup setup s → MatchesSetup setup (own_paths s js)
+fits_own setup s js fits = record { number = fits.number; ids = fits.ids; offset = fits.offset; version = fits.version; locks = fits.locks }
+
+-- states don't speak of paths, and no more do the parts that they are
+states_own : (s : SetUp) (js : List DropJob) (past : List Entry) → states (own_paths s js) past ≡ states s past
+states_own s js [] = refl
+states_own s js (e ∷ past) = ap (λ (st : State). state_after s st e) (states_own s js past)
+
+parts_own : (s : SetUp) (js : List DropJob) (st : State) (p : PartsView) → AreParts (own_paths s js) st p → AreParts s st p
+parts_own s js st p are = record {
+  place = record { number = are.place.number; ids = are.place.ids };
+  holds = are.holds;
+  bars = are.bars;
+  ends = record { count = are.ends.count; ends = are.ends.ends };
+  each = are.each;
+  sessions = record { connections = are.sessions.connections; each = λ i x at. let it = are.sessions.each i x at in record { id = it.id; version = it.version; locks = it.locks; session = it.session } };
+  closed = are.closed;
+  works = record { works = are.works.works; begun = are.works.begun; read = are.works.read };
+  logs = are.logs;
+}
+
+-- ---- what a step finds
 
 pub sees_parts : CountLaw → (setup : Setup) (h : List Entry) (parts : PartsView) (branch : Files) (owed : List OwedLine) (told : Option Contents) (c : Contents) (time number : ℕ) (s : SetUp) (k : Look)
-    → IsKept setup h parts branch owed told → told ≡ Some c → number ≡ length h + 1 → MatchesSetup setup s → SeesEnds parts.links s k → k.time ≡ time
+    → IsKept setup h parts branch owed told → told ≡ Some c → number ≡ length h + 1 → MatchesSetup setup s → Each (λ j. HadPaths s j.worker.number j.paths) parts.jobs.running → SeesEnds parts.links s k → k.time ≡ time
     → SeesParts parts c (record { at = 0; to = setup.offset }) time number s (state_of s h) k
-sees_parts law setup h parts branch owed told c time number s k kept is count fits ends at = record {
+sees_parts law setup h parts branch owed told c time number s k kept is count fits had ends at = record {
   parts = ((kept.state s fits).stands c is).parts_are;
   stored = ((kept.state s fits).stands c is).stored;
+  paths = had;
   ticks = kept.clock s fits;
   number = count ∙ sym (ap (λ (n : ℕ). n + 1) (law s (reverse h) ∙ length-reverse h));
   ends = ends;
@@ -197,18 +240,26 @@ module _ (step : Stepper) (setup : Setup) (h : List Entry) (was now : PartsView)
     abbrev has : HasPart qs was d.taken
     has = by.part d refl
 
-    abbrev look : Look
-    look = look_of was.links s time count d.kind has.part has.right (words_heard was (Some d))
+    -- with the paths of its own jobs
+    abbrev mine : SetUp
+    mine = own_paths s was.jobs.running
 
-    steps : Steps step now cs' s (state_of s h) look (Some d)
-    steps = by.does s look fits (sees_parts law setup h was branch [] (told_of cs qs) c time (length h + 1) s look kept told refl fits (look_sees was.links s time count d.kind has.part has.right (words_heard was (Some d))) refl)
+    fits_mine : MatchesSetup setup mine
+    fits_mine = fits_own setup s was.jobs.running fits
+
+    abbrev look : Look
+    look = look_of was.links mine time count d.kind has.part has.right (words_heard was (Some d))
+
+    steps : Steps step now cs' mine (state_of mine h) look (Some d)
+    steps = by.does mine look fits_mine
+        (sees_parts law setup h was branch [] (told_of cs qs) c time (length h + 1) mine look kept told refl fits_mine (own_given was.jobs.running sound.acting.apart) (look_sees was.links mine time count d.kind has.part has.right (words_heard was (Some d))) refl)
         (λ x is. ap (λ (y : Done). failed_in y.kind) (some_same d x is)) (λ x is. subst (λ (y : Done). IsPartAsked qs was y.taken has.part has.right) (some_same d x is) has.asked)
         (λ x is. ap (λ (y : Done). words_heard was (Some y)) (some_same d x is))
       where
         some_same : (x y : Done) → Some x ≡ Some y → x ≡ y
         some_same x y is = cc
 
-    same_entry : entry_of s.number look (record { kind = d.kind; taken = d.taken; sent = d.sent; lines = [] }) ≡ made_by
+    same_entry : entry_of mine.number look (record { kind = d.kind; taken = d.taken; sent = d.sent; lines = []; calls = [] }) ≡ made_by
     same_entry = ap (λ (r : ℕ). record { time = time; count = count; repo = Some r; kind = d.kind; taken = d.taken; sent = d.sent; lines = [] }) fits.number
 
     owes : (state_after s (state_of s h) made_by).owed ≡ owed_by setup.number d.kind
@@ -222,11 +273,13 @@ module _ (step : Stepper) (setup : Setup) (h : List Entry) (was now : PartsView)
 
     stands_then : ForSome (told_of cs' qs') (λ c'. IsStateOfParts s now (owed_by setup.number d.kind) c' (state_after s (state_of s h) made_by))
     stands_then c' is =
-        let parts : AreParts s (state_after s (state_of s h) made_by) now = subst (λ (e : Entry). AreParts s (state_after s (state_of s h) e) now) same_entry steps.parts in
+        let parts : AreParts s (state_after s (state_of s h) made_by) now = parts_own s was.jobs.running (state_after s (state_of s h) made_by) now
+        (subst (λ (st : State). AreParts mine (state_after s st made_by) now) (states_own s was.jobs.running (reverse h)) (subst (λ (e : Entry). AreParts mine (state_after mine (state_of mine h) e) now) same_entry steps.parts)) in
         record {
           parts_are = parts;
           fills = λ key. fills s (state_after s (state_of s h) made_by) now key sound' parts;
-          stored = subst (λ (e : Entry). HasContents c' (state_after s (state_of s h) e)) same_entry (steps.stored c' (told_some cs' qs' c' is).0);
+          stored = subst (λ (st : State). HasContents c' (state_after s st made_by)) (states_own s was.jobs.running (reverse h))
+              (subst (λ (e : Entry). HasContents c' (state_after mine (state_of mine h) e)) same_entry (steps.stored c' (told_some cs' qs' c' is).0));
           owed_are = owes;
         }
 
@@ -250,10 +303,10 @@ module _ (step : Stepper) (setup : Setup) (h : List Entry) (was now : PartsView)
 -- ---- no step
 
 -- the store may have been asked, and the rest is as it was
-pub kept_asked : (step : Stepper) (law : CountLaw) (setup : Setup) (h : List Entry) (was : PartsView) (branch : Files) (owed : List OwedLine) (cs cs' : Option Contents) (qs qs' : Option StoredParts) (time : ℕ)
+pub kept_asked : (step : Stepper) (law : CountLaw) (setup : Setup) (h : List Entry) (was : PartsView) (branch : Files) (owed : List OwedLine) (cs cs' : Option Contents) (qs qs' : Option StoredParts) (time : ℕ) → AreSound was
     → IsKept setup h was branch owed (told_of cs qs) → ForSome (told_of cs qs) (λ c. DoesBy step was was c qs cs' setup h time None) → is_some qs' ≡ is_some qs → (is_some qs ≡ true → is_some cs' ≡ is_some cs)
     → IsKept setup h was branch owed (told_of cs' qs')
-kept_asked step law setup h was branch owed cs cs' qs qs' time kept does told_parts told_contents = record {
+kept_asked step law setup h was branch owed cs cs' qs qs' time sound kept does told_parts told_contents = record {
   state = λ s fits.
       let is = kept.state s fits in
       record {
@@ -263,14 +316,17 @@ kept_asked step law setup h was branch owed cs cs' qs qs' time kept does told_pa
         stands = λ c' known.
             let before = told_before cs cs' qs qs' c' told_parts told_contents known in
             let stands = is.stands before.0 before.1 in
-            let look : Look = look_of was.links s time 0 (Talk None) 0 false (λ c. None) in
-            let steps = (does before.0 before.1).does s look fits
-            (sees_parts law setup h was branch owed (told_of cs qs) before.0 time (length h + 1) s look kept before.1 refl fits (look_sees was.links s time 0 (Talk None) 0 false (λ c. None)) refl)
+            let js = was.jobs.running in
+            let mine : SetUp = own_paths s js in
+            let look : Look = look_of was.links mine time 0 (Talk None) 0 false (λ c. None) in
+            let steps = (does before.0 before.1).does mine look (fits_own setup s js fits)
+            (sees_parts law setup h was branch owed (told_of cs qs) before.0 time (length h + 1) mine look kept before.1 refl (fits_own setup s js fits) (own_given js sound.acting.apart)
+            (look_sees was.links mine time 0 (Talk None) 0 false (λ c. None)) refl)
             (λ d is. absurd cc) (λ d is. absurd cc) (λ d is. absurd cc) in
             record {
               parts_are = stands.parts_are;
               fills = stands.fills;
-              stored = steps.stored c' (told_some cs' qs' c' known).0;
+              stored = subst (HasContents c') (states_own s js (reverse h)) (steps.stored c' (told_some cs' qs' c' known).0);
               owed_are = stands.owed_are;
             };
       };

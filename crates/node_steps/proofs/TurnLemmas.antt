@@ -1,15 +1,9 @@
 -- A turn of a node, from its steps.
-use Rattle.std.proofs.Common.{◌≡◌, Bool, true, false, List, [], ◌∷◌, Option, Some, None, Result, Ok, Err, IfOk, is_some, refl, sym, subst, ◌∙◌, ap}
-use Rattle.std.specs.Prelude.{if◌then◌else◌}
+use Rattle.std.proofs.Common.{◌≡◌, Bool, true, false, List, [], ◌∷◌, Option, Some, None, Result, Ok, Err, IfOk, is_some, refl, subst, ◌∙◌, ap}
 use Rattle.std.specs.Option.{ForSome, option_or}
-use Rattle.annex_base.specs.declared.kinds.Call.{Call}
 use Rattle.annex_base.specs.declared.memory.NoMemory.{NoMemory}
 use Rattle.object_store.specs.Stores.{Contents}
 use Rattle.link_ring.specs.Ends.{EndView}
-use Rattle.drop_worker.specs.Working.{failed_in}
-use Rattle.content_lock.specs.CallsMade.{MakesCalls}
-use Rattle.node_jobs.specs.Calls.{job_calls}
-use Rattle.node_sessions.specs.Calls.{session_calls}
 use Rattle.node_model.specs.Look.{Look, Effect}
 use Rattle.node_model.specs.OwedLines.{OwedLine}
 use Rattle.node_model.specs.OwedStep.{owed_step, pays_first}
@@ -22,8 +16,7 @@ use Rattle.node_steps.specs.Nodes.{MatchesSetup, IsState, NodeView, state_of}
 use Rattle.node_past.specs.Owing.{is_owing}
 use Rattle.node_steps.specs.Stepping.{AddsIf, MovesSo, NoStep, ReadySo}
 use Rattle.node_past.specs.Stored.{StoreView}
-use Rattle.node_steps.specs.TurnCalls.{moving_calls, owed_calls, step_calls}
-use Rattle.node_steps.specs.Turning.{Caller, Looks, Stepper, StepsBy}
+use Rattle.node_steps.specs.Turning.{Looks, Stepper, StepsBy}
 
 -- ---- a line that is owed comes first
 
@@ -51,40 +44,35 @@ Owes n = (s : SetUp) → MatchesSetup n.setup s → (state_of s n.history).owed 
 pub owes_told : {K : Type 0} (n : NodeView K) (told : Option Contents) (c : Contents) → ((s : SetUp) → MatchesSetup n.setup s → IsState s n.parts n.branch n.owed told (state_of s n.history)) → told ≡ Some c → Owes n
 owes_told n told c is known s fits = ((is s fits).stands c known).owed_are
 
-steps_first : {K : Type 0} (first : Stepper) (caller : Caller) (before after : StoreView) (n m : NodeView K)
-    → ((s : SetUp) (k : Look) (made : Effect) → MatchesSetup n.setup s → Looks n s k → first s (state_of s n.history) k ≡ Some made → (step s (state_of s n.history) k ≡ Some made) × (step_calls s (state_of s n.history) k ≡ caller s (state_of s n.history) k))
-    → StepsBy first caller before after n m → StepsBy step step_calls before after n m
-steps_first first caller before after n m is by = record {
+steps_first : {K : Type 0} (first : Stepper) (before after : StoreView) (n m : NodeView K)
+    → ((s : SetUp) (k : Look) (made : Effect) → MatchesSetup n.setup s → Looks n s k → first s (state_of s n.history) k ≡ Some made → step s (state_of s n.history) k ≡ Some made)
+    → StepsBy first before after n m → StepsBy step before after n m
+steps_first first before after n m is by = record {
   kind = by.kind;
   taken = by.taken;
   part = by.part;
   makes = λ s k fits looks finds.
       let it = by.makes s k fits looks finds in
-      record { made = it.made; same = it.same; takes = it.takes; makes = (is s k it.made fits looks it.makes).0; adds = it.adds };
-  calls = λ s k fits looks finds.
-      let it = by.makes s k fits looks finds in
-      subst (λ (calls : List Call). MakesCalls calls (failed_in by.kind) before.failing after.failing) (sym (is s k it.made fits looks it.makes).1) (by.calls s k fits looks finds);
+      record { made = it.made; same = it.same; takes = it.takes; makes = is s k it.made fits looks it.makes; adds = it.adds; calls = it.calls };
 }
 
-pub owed_first : {K : Type 0} (r : Result Bool NoMemory) (before after : StoreView) (n m : NodeView K) (told : Option Contents) → IfOk r (λ b. b ≡ true) → IfOk r (λ b. ForSome told (λ c. MovesSo b owed_step owed_calls before after n m))
-    → IfOk r (λ b. ForSome told (λ c. MovesSo b step step_calls before after n m))
+pub owed_first : {K : Type 0} (r : Result Bool NoMemory) (before after : StoreView) (n m : NodeView K) (told : Option Contents) → IfOk r (λ b. b ≡ true) → IfOk r (λ b. ForSome told (λ c. MovesSo b owed_step before after n m))
+    → IfOk r (λ b. ForSome told (λ c. MovesSo b step before after n m))
 owed_first (Ok true) before after n m told made moves = λ c known.
-    steps_first owed_step owed_calls before after n m
+    steps_first owed_step before after n m
     (λ s k it fits looks is.
     let st : State = state_of s n.history in
-    (ap (λ (o : Option Effect). option_or o (option_or (session_step s st k) (job_step s st k))) is, ap (λ (o : Option Effect). if is_some o then owed_calls s st k else moving_calls s st k) is)) (moves c known)
+    ap (λ (o : Option Effect). option_or o (option_or (session_step s st k) (job_step s st k))) is) (moves c known)
 owed_first (Ok false) before after n m told made moves = absurd cc
 owed_first (Err e) before after n m told made moves = tt
 
 -- no line is owed, and a session has a step
-pub served_first : {K : Type 0} (before after : StoreView) (n m : NodeView K) → Owes n → is_owing n.owed ≡ false → StepsBy session_step session_calls before after n m → StepsBy step step_calls before after n m
-served_first before after n m owes none by = steps_first session_step session_calls before after n m
+pub served_first : {K : Type 0} (before after : StoreView) (n m : NodeView K) → Owes n → is_owing n.owed ≡ false → StepsBy session_step before after n m → StepsBy step before after n m
+served_first before after n m owes none by = steps_first session_step before after n m
     (λ s k it fits looks is.
     let st : State = state_of s n.history in
-    let unowed = none_owed s st k n.owed (owes s fits) none in (
-      ap (λ (o : Option Effect). option_or o (option_or (session_step s st k) (job_step s st k))) unowed ∙ ap (λ (o : Option Effect). option_or o (job_step s st k)) is,
-      ap (λ (o : Option Effect). if is_some o then owed_calls s st k else moving_calls s st k) unowed ∙ ap (λ (o : Option Effect). if is_some o then session_calls s st k else job_calls s st k) is,
-    )) by
+    ap (λ (o : Option Effect). option_or o (option_or (session_step s st k) (job_step s st k))) (none_owed s st k n.owed (owes s fits) none)
+    ∙ ap (λ (o : Option Effect). option_or o (job_step s st k)) is) by
 
 -- neither, and a job has one or hasn't
 module _ {K : Type 0} (n : NodeView K) (owes : Owes n) (none : is_owing n.owed ≡ false) (idle : NoStep session_step n) (s : SetUp) (k : Look) (fits : MatchesSetup n.setup s) (looks : Looks n s k) where
@@ -96,14 +84,9 @@ module _ {K : Type 0} (n : NodeView K) (owes : Owes n) (none : is_owing n.owed �
       ap (λ (o : Option Effect). option_or o (option_or (session_step s here k) (job_step s here k))) (none_owed s here k n.owed (owes s fits) none)
       ∙ ap (λ (o : Option Effect). option_or o (job_step s here k)) (idle s k fits looks)
 
-  job_calls_are : step_calls s here k ≡ job_calls s here k
-  job_calls_are =
-      ap (λ (o : Option Effect). if is_some o then owed_calls s here k else moving_calls s here k) (none_owed s here k n.owed (owes s fits) none)
-      ∙ ap (λ (o : Option Effect). if is_some o then session_calls s here k else job_calls s here k) (idle s k fits looks)
-
-acted_same : {K : Type 0} (b : Bool) (before after : StoreView) (n m : NodeView K) → Owes n → is_owing n.owed ≡ false → NoStep session_step n → MovesSo b job_step job_calls before after n m → MovesSo b step step_calls before after n m
-acted_same true before after n m owes none idle moves = steps_first job_step job_calls before after n m
-    (λ s k it fits looks is. (job_is n owes none idle s k fits looks ∙ is, job_calls_are n owes none idle s k fits looks)) moves
+acted_same : {K : Type 0} (b : Bool) (before after : StoreView) (n m : NodeView K) → Owes n → is_owing n.owed ≡ false → NoStep session_step n → MovesSo b job_step before after n m → MovesSo b step before after n m
+acted_same true before after n m owes none idle moves = steps_first job_step before after n m
+    (λ s k it fits looks is. job_is n owes none idle s k fits looks ∙ is) moves
 acted_same false before after n m owes none idle moves = λ s k fits looks. job_is n owes none idle s k fits looks ∙ moves s k fits looks
 
 -- ---- a step is ready
@@ -132,20 +115,20 @@ ready_if (Err e) n told is none ready = tt
 -- ---- one step of the three
 
 pub first_served : {K : Type 0} (b : Bool) (before after : StoreView) (n m : NodeView K) (told : Option Contents) → ((s : SetUp) → MatchesSetup n.setup s → IsState s n.parts n.branch n.owed told (state_of s n.history)) → is_owing n.owed ≡ false → b ≡ true
-    → ForSome told (λ c. MovesSo b session_step session_calls before after n m) → ForSome told (λ c. StepsBy step step_calls before after n m)
+    → ForSome told (λ c. MovesSo b session_step before after n m) → ForSome told (λ c. StepsBy step before after n m)
 first_served b before after n m told is none made moves = λ c known.
-    served_first before after n m (owes_told n told c is known) none (subst (λ (x : Bool). MovesSo x session_step session_calls before after n m) made (moves c known))
+    served_first before after n m (owes_told n told c is known) none (subst (λ (x : Bool). MovesSo x session_step before after n m) made (moves c known))
 
 pub still_is : {K : Type 0} (b : Bool) (links : List EndView) (before after : StoreView) (n m : NodeView K) → b ≡ false → AddsIf b links before after n m → m ≡ n
 still_is {K} b links before after n m made adds = subst (λ (x : Bool). AddsIf x links before after n m) made adds
 
 pub then_acted : {K : Type 0} (view : K → StoreView) (r : Result Bool NoMemory) (b : Bool) (middle : StoreView) (n n' m : NodeView K) (told told' : Option Contents)
     → ((s : SetUp) → MatchesSetup n.setup s → IsState s n.parts n.branch n.owed told (state_of s n.history)) → is_owing n.owed ≡ false → b ≡ false
-    → ForSome told (λ c. MovesSo b session_step session_calls (view n.keeper) middle n n') → n' ≡ n → told' ≡ told
-    → IfOk r (λ x. ForSome told' (λ c. MovesSo x job_step job_calls (view n'.keeper) (view m.keeper) n' m)) → IfOk r (λ x. ForSome told (λ c. MovesSo x step step_calls (view n.keeper) (view m.keeper) n m))
+    → ForSome told (λ c. MovesSo b session_step (view n.keeper) middle n n') → n' ≡ n → told' ≡ told
+    → IfOk r (λ x. ForSome told' (λ c. MovesSo x job_step (view n'.keeper) (view m.keeper) n' m)) → IfOk r (λ x. ForSome told (λ c. MovesSo x step (view n.keeper) (view m.keeper) n m))
 then_acted {K} view (Ok x) b middle n n' m told told' is none made idle same tells moves = λ c known.
-    acted_same x (view n.keeper) (view m.keeper) n m (owes_told n told c is known) none (subst (λ (y : Bool). MovesSo y session_step session_calls (view n.keeper) middle n n') made (idle c known))
-    (subst (λ (v : NodeView K). MovesSo x job_step job_calls (view v.keeper) (view m.keeper) v m) same (moves c (tells ∙ known)))
+    acted_same x (view n.keeper) (view m.keeper) n m (owes_told n told c is known) none (subst (λ (y : Bool). MovesSo y session_step (view n.keeper) middle n n') made (idle c known))
+    (subst (λ (v : NodeView K). MovesSo x job_step (view v.keeper) (view m.keeper) v m) same (moves c (tells ∙ known)))
 then_acted {K} view (Err e) b middle n n' m told told' is none made idle same tells moves = tt
 
 -- what is added over a store that was as it is

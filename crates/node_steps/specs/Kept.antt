@@ -1,4 +1,4 @@
--- What a node keeps: it stands as its history leaves it; for private contracts.
+-- What a node keeps: it stands as its history leaves it (own).
 use Rattle.std.specs.Prelude.{◌≡◌, ℕ, ◌≤◌, ◌<◌, ◌+◌, true, List, All, length, Option}
 use Rattle.std.specs.Option.{ForSome}
 use Rattle.run_data.specs.declared.entry.Entry.{Entry}

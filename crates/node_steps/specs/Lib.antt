@@ -1,6 +1,5 @@
 -- What contracts of a node's step cite.
 pub mod Nodes
 pub mod Kept
-pub mod TurnCalls
 pub mod Turning
 pub mod Stepping

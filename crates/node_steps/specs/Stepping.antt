@@ -1,4 +1,4 @@
--- One step of a node, of one of the three kinds; for private contracts.
+-- One step of a node, of one of the three kinds (own).
 use Rattle.std.specs.Prelude.{◌≡◌, ℕ, Bool, true, false, List, [], ◌∷◌, ◌++◌, Option, Some, None, is_some, vec_len}
 use Rattle.run_data.specs.declared.entry.EntryKind.{EntryKind}
 use Rattle.run_data.specs.declared.entry.EntryKind.TheVariants.{Gain, Gone}
@@ -11,16 +11,16 @@ use Rattle.node_past.specs.Owing.{is_debtor}
 use Rattle.node_steps.specs.Nodes.{MatchesSetup, NodeView, state_of}
 use Rattle.node_past.specs.Pasts.{Enters}
 use Rattle.node_past.specs.Stored.{StoreView}
-use Rattle.node_steps.specs.Turning.{Adds, Caller, Looks, Stepper, StepsBy, ended_by}
+use Rattle.node_steps.specs.Turning.{Adds, Looks, Stepper, StepsBy, ended_by}
 
 -- these have no step, at any look of the node
 abbrev pub NoStep : {K : Type 0} → Stepper → NodeView K → Type 0
 NoStep step n = (s : SetUp) (k : Look) → MatchesSetup n.setup s → Looks n s k → step s (state_of s n.history) k ≡ None
 
 -- whether a step was made: where so, it was this one, and else there was none
-abbrev pub MovesSo : {K : Type 0} → Bool → Stepper → Caller → StoreView → StoreView → NodeView K → NodeView K → Type 0
-MovesSo true step caller before after was now = StepsBy step caller before after was now
-MovesSo false step caller before after was now = NoStep step was
+abbrev pub MovesSo : {K : Type 0} → Bool → Stepper → StoreView → StoreView → NodeView K → NodeView K → Type 0
+MovesSo true step before after was now = StepsBy step before after was now
+MovesSo false step before after was now = NoStep step was
 
 -- these have a step, at each look of the node, or none
 abbrev pub ReadySo : {K : Type 0} → Bool → Stepper → NodeView K → Type 0

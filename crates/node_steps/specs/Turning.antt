@@ -2,7 +2,7 @@
 use Rattle.std.specs.Prelude.{◌≡◌, ◌⊎◌, ℕ, ◌+◌, true, List, [], ◌∷◌, ◌++◌, length, Option, Some, None, is_some, IfSome}
 use Rattle.std.specs.Option.{option_map, option_map_or}
 use Rattle.annex_base.specs.Causes.{Rose}
-use Rattle.annex_base.specs.declared.kinds.Call.{Call}
+use Rattle.annex_base.specs.Lists.{Each}
 use Rattle.annex_base.specs.declared.kinds.EntryStamp.{EntryStamp}
 use Rattle.annex_base.specs.declared.kinds.Word.{Word}
 use Rattle.run_data.specs.declared.entry.Entry.{Entry}
@@ -12,14 +12,13 @@ use Rattle.run_data.specs.declared.entry.FrameView.{FrameView}
 use Rattle.run_data.specs.Files.{file_path}
 use Rattle.object_store.specs.Stores.{Parts as StoredParts}
 use Rattle.union_merge.specs.Branch.{Files, merged_file}
-use Rattle.drop_worker.specs.Working.{failed_in}
 use Rattle.link_ring.specs.Ends.{EndView}
 use Rattle.content_lock.specs.CallsMade.{MakesCalls, fewer}
 use Rattle.node_ends.specs.Ends.{SeesEnds}
 use Rattle.node_ends.specs.Going.{AreAfter}
 use Rattle.p2p_server.specs.Answers.{contents_after}
-use Rattle.node_jobs.specs.Running.{words_at}
-use Rattle.node_model.specs.Look.{Look, Effect, entry_of}
+use Rattle.node_jobs.specs.Running.{HadPaths, words_at}
+use Rattle.node_model.specs.Look.{Look, Effect, entry_of, failed_in}
 use Rattle.node_model.specs.SetUp.{SetUp}
 use Rattle.node_model.specs.Slots.{job_of}
 use Rattle.node_model.specs.State.{State}
@@ -36,11 +35,13 @@ use Rattle.node_past.specs.Stored.{StoreView}
 
 -- ---- what a turn finds
 
--- the look is the node's: it finds what waits at the node's ends and where they have room, at its time, for its next entry
+-- the look is the node's: it finds what waits at the node's ends and where they have room, at its time, for its next entry; and the
+-- keys of the running jobs had the paths that these were given
 pub record Looks {K : Type 0} (n : NodeView K) (s : SetUp) (k : Look) : Type 0 where
   pub ends : SeesEnds n.parts.links s k
   pub time : k.time ≡ n.time
   pub count : k.count ≡ n.count + 1
+  pub paths : Each (λ j. HadPaths s j.worker.number j.paths) n.parts.jobs.running
 
 -- the words that the job that makes an entry of this kind heard beside its peers' answers; none where no job makes it
 abbrev pub words_by : {K : Type 0} → NodeView K → EntryKind → ℕ → Option Word
@@ -100,10 +101,6 @@ pub record Adds {K : Type 0} (links : List EndView) (before after : StoreView) (
 abbrev pub Stepper : Type 0
 Stepper = SetUp → State → Look → Option Effect
 
--- the calls of its store that a step makes, of a state and at a look, in order, up to the first that fails
-abbrev pub Caller : Type 0
-Caller = SetUp → State → Look → List Call
-
 -- The look finds the call to fail of which an entry of this kind tells; the part, as the store has it, that the taken frame asks
 -- for; and the words that the job that makes such an entry heard.
 pub record Finds {K : Type 0} (known : Option StoredParts) (n : NodeView K) (kind : EntryKind) (taken : Option FrameView) (k : Look) : Type 0 where
@@ -111,24 +108,23 @@ pub record Finds {K : Type 0} (known : Option StoredParts) (n : NodeView K) (kin
   pub part : IsPartAsked known n.parts taken k.part k.right
   pub words : k.words ≡ words_by n kind
 
--- Of the state that the history leaves, at this look, there is a step of this kind, which takes this frame; and its entry is the
--- history's last, behind those that were there.
-pub record MakesAt {K : Type 0} (step : Stepper) (kind : EntryKind) (taken : Option FrameView) (was now : NodeView K) (s : SetUp) (k : Look) : Type 0 where
+-- Of the state that the history leaves, at this look, there is a step of this kind, which takes this frame; its entry is the
+-- history's last, behind those that were there; and its calls are those that the store was asked, up to the one that failed.
+pub record MakesAt {K : Type 0} (step : Stepper) (kind : EntryKind) (taken : Option FrameView) (before after : StoreView) (was now : NodeView K) (s : SetUp) (k : Look) : Type 0 where
   pub made : Effect
   pub same : made.kind ≡ kind
   pub takes : made.taken ≡ taken
   pub makes : step s (state_of s was.history) k ≡ Some made
   pub adds : now.history ≡ was.history ++ entry_of s.number k made ∷ []
+  pub calls : MakesCalls made.calls (failed_in kind) before.failing after.failing
 
--- The entry is the step of this kind, which takes this frame, at every look of the node that finds what belongs to it; and at each
--- the calls that the step makes are those that the store was asked, up to the one that failed. The store has such a part.
-pub record StepsBy {K : Type 0} (step : Stepper) (caller : Caller) (before after : StoreView) (was now : NodeView K) : Type 0 where
+-- The entry is the step of this kind, which takes this frame, at every look of the node that finds what belongs to it. The store has
+-- such a part.
+pub record StepsBy {K : Type 0} (step : Stepper) (before after : StoreView) (was now : NodeView K) : Type 0 where
   pub kind : EntryKind
   pub taken : Option FrameView
   pub part : HasPart before.parts was.parts taken
-  pub makes : (s : SetUp) (k : Look) → MatchesSetup was.setup s → Looks was s k → Finds before.parts was kind taken k → MakesAt step kind taken was now s k
-  pub calls : (s : SetUp) (k : Look) → MatchesSetup was.setup s → Looks was s k → Finds before.parts was kind taken k
-      → MakesCalls (caller s (state_of s was.history) k) (failed_in kind) before.failing after.failing
+  pub makes : (s : SetUp) (k : Look) → MatchesSetup was.setup s → Looks was s k → Finds before.parts was kind taken k → MakesAt step kind taken before after was now s k
 
 -- ---- whether there is one
 

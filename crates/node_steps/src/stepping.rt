@@ -2,8 +2,6 @@
 ghost use Rattle.std.specs.Prelude.{◌≡◌, ◌≤◌, ◌<◌, true, false, length, is_some, IfOk, OnErr};
 ghost use Rattle.std.specs.Option.{ForSome};
 ghost use Rattle.node_ends.specs.Joined.{StayPaired};
-ghost use Rattle.node_jobs.specs.Calls.{job_calls};
-ghost use Rattle.node_sessions.specs.Calls.{session_calls};
 ghost use Rattle.node_model.specs.OwedStep.{owed_step};
 ghost use Rattle.node_model.specs.SessionStep.{session_step};
 ghost use Rattle.node_model.specs.Step.{step};
@@ -13,7 +11,6 @@ ghost use Rattle.node_steps.specs.Nodes.{told_of, beside};
 ghost use Rattle.node_past.specs.Owing.{is_owing};
 ghost use Rattle.node_steps.specs.Stepping.{AddsIf, MovesSo, ReadySo};
 ghost use Rattle.node_past.specs.Stored.{TellsSame, store_view};
-ghost use Rattle.node_steps.specs.TurnCalls.{owed_calls, step_calls};
 ghost use Rattle.run_data.specs.Histories.{most_entries};
 ghost use Rattle.node_steps.specs.Kept.{Stands};
 
@@ -50,7 +47,7 @@ pub fn step<K: Keeper>(ledger: &mut Ledger<K>, parts: &mut Parts) -> Result<bool
     requires room { length ledger.old.history < most_entries }
     ensures stands { Stands ledger.new parts.new (K.contents ledger.new.keeper) (K.parts ledger.new.keeper) (K.records ledger.new.keeper) }
     ensures adds { IfOk result (λ b. AddsIf b parts.old.links (store_view (K.contents ledger.old.keeper) (K.parts ledger.old.keeper) (K.failing ledger.old.keeper) (K.faults ledger.old.keeper)) (store_view (K.contents ledger.new.keeper) (K.parts ledger.new.keeper) (K.failing ledger.new.keeper) (K.faults ledger.new.keeper)) (beside parts.old ledger.old) (beside parts.new ledger.new)) }
-    ensures step { IfOk result (λ b. ForSome (told_of (K.contents ledger.old.keeper) (K.parts ledger.old.keeper)) (λ c. MovesSo b step step_calls (store_view (K.contents ledger.old.keeper) (K.parts ledger.old.keeper) (K.failing ledger.old.keeper) (K.faults ledger.old.keeper)) (store_view (K.contents ledger.new.keeper) (K.parts ledger.new.keeper) (K.failing ledger.new.keeper) (K.faults ledger.new.keeper)) (beside parts.old ledger.old) (beside parts.new ledger.new))) }
+    ensures step { IfOk result (λ b. ForSome (told_of (K.contents ledger.old.keeper) (K.parts ledger.old.keeper)) (λ c. MovesSo b step (store_view (K.contents ledger.old.keeper) (K.parts ledger.old.keeper) (K.failing ledger.old.keeper) (K.faults ledger.old.keeper)) (store_view (K.contents ledger.new.keeper) (K.parts ledger.new.keeper) (K.failing ledger.new.keeper) (K.faults ledger.new.keeper)) (beside parts.old ledger.old) (beside parts.new ledger.new))) }
     ensures told_parts { is_some (K.parts ledger.new.keeper) ≡ is_some (K.parts ledger.old.keeper) }
     ensures small { AreSmallParts (K.parts ledger.old.keeper) → AreSmallParts (K.parts ledger.new.keeper) }
     ensures told_contents { is_some (K.parts ledger.old.keeper) ≡ true → is_some (K.contents ledger.new.keeper) ≡ is_some (K.contents ledger.old.keeper) }
@@ -77,7 +74,7 @@ fn pay_first<K: Keeper>(ledger: &mut Ledger<K>, parts: &Parts) -> Result<bool, N
     ensures stands { Stands ledger.new parts.now (K.contents ledger.new.keeper) (K.parts ledger.new.keeper) (K.records ledger.new.keeper) }
     ensures made { IfOk result (λ b. b ≡ true) }
     ensures adds { IfOk result (λ b. AddsIf b parts.now.links (store_view (K.contents ledger.old.keeper) (K.parts ledger.old.keeper) (K.failing ledger.old.keeper) (K.faults ledger.old.keeper)) (store_view (K.contents ledger.new.keeper) (K.parts ledger.new.keeper) (K.failing ledger.new.keeper) (K.faults ledger.new.keeper)) (beside parts.now ledger.old) (beside parts.now ledger.new)) }
-    ensures step { IfOk result (λ b. ForSome (told_of (K.contents ledger.old.keeper) (K.parts ledger.old.keeper)) (λ c. MovesSo b owed_step owed_calls (store_view (K.contents ledger.old.keeper) (K.parts ledger.old.keeper) (K.failing ledger.old.keeper) (K.faults ledger.old.keeper)) (store_view (K.contents ledger.new.keeper) (K.parts ledger.new.keeper) (K.failing ledger.new.keeper) (K.faults ledger.new.keeper)) (beside parts.now ledger.old) (beside parts.now ledger.new))) }
+    ensures step { IfOk result (λ b. ForSome (told_of (K.contents ledger.old.keeper) (K.parts ledger.old.keeper)) (λ c. MovesSo b owed_step (store_view (K.contents ledger.old.keeper) (K.parts ledger.old.keeper) (K.failing ledger.old.keeper) (K.faults ledger.old.keeper)) (store_view (K.contents ledger.new.keeper) (K.parts ledger.new.keeper) (K.failing ledger.new.keeper) (K.faults ledger.new.keeper)) (beside parts.now ledger.old) (beside parts.now ledger.new))) }
     ensures contents { K.contents ledger.new.keeper ≡ K.contents ledger.old.keeper }
     ensures parts { K.parts ledger.new.keeper ≡ K.parts ledger.old.keeper }
     ensures err_store { OnErr result (TellsSame (K.contents ledger.old.keeper) (K.contents ledger.new.keeper) (K.parts ledger.old.keeper) (K.parts ledger.new.keeper) (K.records ledger.old.keeper) (K.records ledger.new.keeper) (K.files ledger.old.keeper) (K.files ledger.new.keeper) (K.failing ledger.old.keeper) (K.failing ledger.new.keeper)) }
@@ -106,7 +103,7 @@ fn serve<K: Keeper>(ledger: &mut Ledger<K>, parts: &mut Parts) -> Result<bool, N
     requires room { length ledger.old.history < most_entries }
     ensures stands { Stands ledger.new parts.new (K.contents ledger.new.keeper) (K.parts ledger.new.keeper) (K.records ledger.new.keeper) }
     ensures adds { IfOk result (λ b. AddsIf b parts.old.links (store_view (K.contents ledger.old.keeper) (K.parts ledger.old.keeper) (K.failing ledger.old.keeper) (K.faults ledger.old.keeper)) (store_view (K.contents ledger.new.keeper) (K.parts ledger.new.keeper) (K.failing ledger.new.keeper) (K.faults ledger.new.keeper)) (beside parts.old ledger.old) (beside parts.new ledger.new)) }
-    ensures step { IfOk result (λ b. ForSome (told_of (K.contents ledger.old.keeper) (K.parts ledger.old.keeper)) (λ c. MovesSo b session_step session_calls (store_view (K.contents ledger.old.keeper) (K.parts ledger.old.keeper) (K.failing ledger.old.keeper) (K.faults ledger.old.keeper)) (store_view (K.contents ledger.new.keeper) (K.parts ledger.new.keeper) (K.failing ledger.new.keeper) (K.faults ledger.new.keeper)) (beside parts.old ledger.old) (beside parts.new ledger.new))) }
+    ensures step { IfOk result (λ b. ForSome (told_of (K.contents ledger.old.keeper) (K.parts ledger.old.keeper)) (λ c. MovesSo b session_step (store_view (K.contents ledger.old.keeper) (K.parts ledger.old.keeper) (K.failing ledger.old.keeper) (K.faults ledger.old.keeper)) (store_view (K.contents ledger.new.keeper) (K.parts ledger.new.keeper) (K.failing ledger.new.keeper) (K.faults ledger.new.keeper)) (beside parts.old ledger.old) (beside parts.new ledger.new))) }
     ensures told_parts { is_some (K.parts ledger.new.keeper) ≡ is_some (K.parts ledger.old.keeper) }
     ensures small { AreSmallParts (K.parts ledger.old.keeper) → AreSmallParts (K.parts ledger.new.keeper) }
     ensures told_contents { is_some (K.parts ledger.old.keeper) ≡ true → is_some (K.contents ledger.new.keeper) ≡ is_some (K.contents ledger.old.keeper) }
@@ -134,7 +131,7 @@ fn act<K: Keeper>(ledger: &mut Ledger<K>, parts: &mut Parts) -> Result<bool, NoM
     requires room { length ledger.old.history < most_entries }
     ensures stands { Stands ledger.new parts.new (K.contents ledger.new.keeper) (K.parts ledger.new.keeper) (K.records ledger.new.keeper) }
     ensures adds { IfOk result (λ b. AddsIf b parts.old.links (store_view (K.contents ledger.old.keeper) (K.parts ledger.old.keeper) (K.failing ledger.old.keeper) (K.faults ledger.old.keeper)) (store_view (K.contents ledger.new.keeper) (K.parts ledger.new.keeper) (K.failing ledger.new.keeper) (K.faults ledger.new.keeper)) (beside parts.old ledger.old) (beside parts.new ledger.new)) }
-    ensures step { IfOk result (λ b. ForSome (told_of (K.contents ledger.old.keeper) (K.parts ledger.old.keeper)) (λ c. MovesSo b job_step job_calls (store_view (K.contents ledger.old.keeper) (K.parts ledger.old.keeper) (K.failing ledger.old.keeper) (K.faults ledger.old.keeper)) (store_view (K.contents ledger.new.keeper) (K.parts ledger.new.keeper) (K.failing ledger.new.keeper) (K.faults ledger.new.keeper)) (beside parts.old ledger.old) (beside parts.new ledger.new))) }
+    ensures step { IfOk result (λ b. ForSome (told_of (K.contents ledger.old.keeper) (K.parts ledger.old.keeper)) (λ c. MovesSo b job_step (store_view (K.contents ledger.old.keeper) (K.parts ledger.old.keeper) (K.failing ledger.old.keeper) (K.faults ledger.old.keeper)) (store_view (K.contents ledger.new.keeper) (K.parts ledger.new.keeper) (K.failing ledger.new.keeper) (K.faults ledger.new.keeper)) (beside parts.old ledger.old) (beside parts.new ledger.new))) }
     ensures told_parts { is_some (K.parts ledger.new.keeper) ≡ is_some (K.parts ledger.old.keeper) }
     ensures small { AreSmallParts (K.parts ledger.old.keeper) → AreSmallParts (K.parts ledger.new.keeper) }
     ensures told_contents { is_some (K.contents ledger.new.keeper) ≡ is_some (K.contents ledger.old.keeper) }

@@ -7,7 +7,7 @@ use Rattle.run_data.specs.declared.entry.FrameText.{FrameText}
 use Rattle.run_data.specs.declared.entry.FrameView.{FrameView}
 use Rattle.object_store.specs.declared.keeper.HoldRecord.{HoldRecord}
 use Rattle.node_model.specs.Ends.{EndName}
-use Rattle.node_model.specs.Look.{Look}
+use Rattle.node_model.specs.Look.{failed_in, Look}
 use Rattle.node_model.specs.Sessions.{session_after}
 use Rattle.node_model.specs.SessionStep.{here, is_filled, on_frame}
 use Rattle.node_model.specs.SetUp.{SetUp}
@@ -20,7 +20,7 @@ use Rattle.session_state.specs.declared.incoming.Incoming.{Incoming}
 use Rattle.session_state.specs.declared.place.Scene.{Scene}
 use Rattle.session_state.specs.declared.state.SessionState.{SessionState}
 use Rattle.session_state.specs.declared.step.Step.{Step}
-use Rattle.session_state.specs.Answers.{failed_in, owner_at, reply_of}
+use Rattle.session_state.specs.Answers.{as_said, owner_at, reply_of}
 use Rattle.session_state.specs.Bounds.{IsKind, IsReplyIf}
 use Rattle.session_state.specs.States.{IsScene, HaveRows, Stand, stand_after, stand_of}
 use Rattle.session_state.specs.Stepping.{Goes, IsAt, LeavesOthers, Moment}
@@ -33,7 +33,7 @@ use Rattle.session_state.proofs.StateFacts.{next_is, stands, step_is}
 pub step_told : {E : Type 0} (x : Scene) (i : Incoming) (was now : Moment SessionState) (r : Result Step E) → Goes x i was now r
     → IfOk r (λ step. (s : SetUp) (st : State) (k : Look) (a : EndName) (body : FrameText) → IsScene x s st k a → HaveRows was.rows was.contents (stand_of st) → ((key : List ℕ) → is_filled s st key ≡ is_filling was.rows key)
     → st.sessions a ≡ session_of was.session → Brings body i → SeesPart was.parts was.session.doing i k.part k.right → k.fails ≡ failed_in step.kind
-    → reply_of step ≡ on_frame (here s st k a) (st.sessions a) body)
+    → reply_of step ≡ as_said (on_frame (here s st k a) (st.sessions a) body))
 step_told x i was now (Ok step) goes = λ s st k a body e r filled same brings sees f.
     step_is x was.rows was.contents now.contents (session_of was.session) i step s st k a body e r filled same brings f (goes.does r.contents r.told k.part k.right sees)
 step_told x i was now (Err e) goes = tt

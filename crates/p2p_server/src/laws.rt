@@ -1,18 +1,13 @@
 //! The laws of sessions. Each is the contract of a function that does nothing.
 ghost use Rattle.std.specs.Prelude.{◌≡◌, List, ℕ, ◌≤◌, true, length};
-ghost use Rattle.run_data.specs.declared.entry.FrameText.{FrameText};
 ghost use Rattle.p2p_wire.specs.declared.message.Message.{Message};
 ghost use Rattle.p2p_wire.specs.Messages.{text_of};
 ghost use Rattle.p2p_wire.specs.Streams.{IsLine};
 ghost use Rattle.object_store.specs.Stores.{Parts};
-ghost use Rattle.node_model.specs.Look.{failing_call};
 ghost use Rattle.node_model.specs.Sessions as sessions;
-ghost use Rattle.node_model.specs.SessionStep.{Here, on_frame};
 ghost use Rattle.content_lock.specs.Rows.{Rows, is_filling};
 ghost use Rattle.p2p_server.specs.declared.session.Session.{Session};
-ghost use Rattle.session_state.specs.Answers.{failed_in};
 ghost use Rattle.session_state.specs.Bounds.{IsReply};
-ghost use Rattle.session_state.specs.SessionCalls.{calls_frame};
 ghost use Rattle.p2p_server.specs.Talking.{HasFillOf, IsFedOf, session_of};
 
 use p2p_wire::sent_messages_have_lines;
@@ -32,8 +27,3 @@ pub fn replies_are_short_lines()
     // A law, for the proof that a reply has a line of the protocol, as each message that is sent.
     sent_messages_have_lines();
 }
-
-/// An answer tells a failed call exactly where a call of its own is the one that fails (own).
-pub fn answers_tell_the_failed_call()
-    ensures { (h : Here) (was : sessions.Session) (body : FrameText) → failed_in (on_frame h was body).kind ≡ failing_call h.fails (calls_frame h was body) }
-{}

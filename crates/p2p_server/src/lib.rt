@@ -5,6 +5,6 @@ mod hearing;
 mod laws;
 mod session;
 
-pub use laws::{answers_tell_the_failed_call, others_leave_it, replies_are_short_lines};
+pub use laws::{others_leave_it, replies_are_short_lines};
 pub use session::Session;
 pub use session_state::{Doing, Incoming, More, Place, Step, Taken, Taking};

@@ -9,7 +9,7 @@ ghost use Rattle.run_data.specs.declared.entry.FrameView.{FrameView};
 ghost use Rattle.object_store.specs.Stores.{AreSmallParts, Contents, Parts};
 ghost use Rattle.object_store.specs.declared.keeper.HoldRecord.{HoldRecord};
 ghost use Rattle.node_model.specs.Ends.{EndName, server_end};
-ghost use Rattle.node_model.specs.Look.{Look};
+ghost use Rattle.node_model.specs.Look.{Look, failed_in};
 ghost use Rattle.node_model.specs.Rows.{same_owner};
 ghost use Rattle.node_model.specs.Sessions.{new_session, session_after};
 ghost use Rattle.node_model.specs.SessionStep.{gives_next, here, is_filled, on_frame};
@@ -18,11 +18,11 @@ ghost use Rattle.node_model.specs.State.{State};
 ghost use Rattle.content_lock.specs.Rows.{Rows, bar_at, is_filling};
 ghost use Rattle.content_lock.specs.Stored.{Agrees};
 ghost use Rattle.content_lock.specs.Tokens.{Owns, ShareView};
-ghost use Rattle.session_state.specs.Answers.{contents_after, failed_in, owner_at, reply_of, size_in};
+ghost use Rattle.session_state.specs.Answers.{as_said, contents_after, owner_at, reply_of, size_in};
 ghost use Rattle.session_state.specs.Bounds.{FitsMore, IsKind, IsReplyIf};
 ghost use Rattle.content_lock.specs.CallsMade.{MakesCalls, fewer};
 ghost use Rattle.session_state.specs.Giving.{IsPieceOf, failed_more, is_giving, reply_more, session_sent};
-ghost use Rattle.session_state.specs.SessionCalls.{calls_frame, calls_next};
+ghost use Rattle.session_state.specs.SessionCalls.{calls_next};
 ghost use Rattle.session_state.specs.States.{IsScene, HaveRows, Stand, stand_after, stand_of};
 ghost use Rattle.p2p_server.specs.Talking.{AreAfterStep, Brings, FillsSo, HasFillOf, IsFedOf, IsJudgedOf, SaysSo, SeesPartOf, SeesSize, guarded_in, label_in, parts_after_of, place_of, session_of, share_of};
 ghost use Rattle.node_model.specs.Sessions as sessions;
@@ -100,13 +100,13 @@ impl Session {
             → HaveRows table.old (K.contents keeper.old) (stand_of st) → ((key : List ℕ) → is_filled s st key ≡ is_filling table.old key)
             → st.sessions a ≡ session_of self.old → Brings body incoming.now
             → SeesPartOf (K.parts keeper.old) self.old incoming.now k.part k.right → k.fails ≡ failed_in step.kind
-            → reply_of step ≡ on_frame (here s st k a) (st.sessions a) body) }
+            → reply_of step ≡ as_said (on_frame (here s st k a) (st.sessions a) body)) }
         ensures calls { IfOk result (λ step. (s : SetUp) (st : State) (k : Look) (a : EndName) (body : FrameText)
             → IsScene (record { place = place_of self.old; clock = now; number = number }) s st k a
             → HaveRows table.old (K.contents keeper.old) (stand_of st) → ((key : List ℕ) → is_filled s st key ≡ is_filling table.old key)
             → st.sessions a ≡ session_of self.old → Brings body incoming.now
             → SeesPartOf (K.parts keeper.old) self.old incoming.now k.part k.right → k.fails ≡ failed_in step.kind
-            → MakesCalls (calls_frame (here s st k a) (st.sessions a) body) k.fails (K.failing keeper.old) (K.failing keeper.new)) }
+            → MakesCalls (on_frame (here s st k a) (st.sessions a) body).calls k.fails (K.failing keeper.old) (K.failing keeper.new)) }
         ensures left { IfOk result (λ step. K.failing keeper.new ≡ option_map (fewer (failed_in step.kind)) (K.failing keeper.old)) }
         ensures rows { IfOk result (λ step. (stand : Stand) (part : ℕ) (right : Bool) → HaveRows table.old (K.contents keeper.old) stand
             → SeesPartOf (K.parts keeper.old) self.old incoming.now part right → HaveRows table.new (K.contents keeper.new) (stand_after step.kind stand)) }

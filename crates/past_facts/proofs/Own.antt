@@ -27,7 +27,7 @@ use Rattle.run_model.specs.Said.{Said, Says, is_request, message_in}
 use Rattle.step_facts.proofs.Ways.{is_answer, answers, down_of, way_from}
 use Rattle.run_model.specs.Frames.{MayTake, Way, is_job, is_on, on_way, requests, says, taken_if, takes, up_of, way_of}
 use Rattle.node_model.specs.Slots.{job_of}
-use Rattle.run_model.specs.Logs.{in_drop, need_read}
+use Rattle.run_model.specs.Logs.{in_drop}
 use Rattle.run_model.specs.Drops.{is_done, key_in}
 use Rattle.past_facts.specs.Lawful.{HasFreeContent}
 use Rattle.past_facts.proofs.Heard.{Heard, heard, heard_key, known_evidence}
@@ -145,8 +145,7 @@ has_asked past r j = list_any (seeks r j) past
 abbrev pub OneClock : List RepoView → ℕ → List Entry → ℕ → Type 0
 OneClock repos r past j = (x : Entry) (before : List Entry) → Occurs past x before → seeks r j x ≡ true → clock_set repos before r ≡ clock_set repos past r
 
--- a bar found the content free and no hold that blocks; it is the job's only one, and comes before the job asks for a copy; its
--- need is what the job reads
+-- a bar found the content free and no hold that blocks; it is the job's only one, and comes before the job asks for a copy
 pub record MayBar (repos : List RepoView) (r : ℕ) (past : List Entry) (e : Entry) (j : ℕ) (need : Need) (key : List ℕ) : Type 0 where
   pub row : HasFreeContent past r key
   pub unheld : is_blocked (holds past r) key (clock repos past r e.time) ≡ false
@@ -155,7 +154,6 @@ pub record MayBar (repos : List RepoView) (r : ℕ) (past : List Entry) (e : Ent
   pub nothing_asked : has_asked past r j ≡ false
   pub dropping : in_drop past r j ≡ true
   pub key_is : key ≡ key_in (begun_job past r j)
-  pub need_is : need ≡ need_read past r j
 
 -- all that the job heard is of this key
 abbrev pub HeardOf : List Entry → ℕ → ℕ → List ℕ → Type 0
@@ -194,7 +192,6 @@ pub record MayOrder (repos : List RepoView) (r : ℕ) (past : List Entry) (e : E
   pub enough : is_enough Remote need (known_evidence Remote repos past r j target need) ≡ true
   pub dropping : in_drop past r j ≡ true
   pub key_is : key ≡ key_in (begun_job past r j)
-  pub need_is : need ≡ need_read past r j
   pub timed : (first : ℕ) → least_end (known_evidence Remote repos past r j target need) ≡ Some first → HasDeadline repos r past e target deadline first
 
 -- a job that has ordered ends, other than by a lost order, when every request on that connection has its answer

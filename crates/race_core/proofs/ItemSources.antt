@@ -26,7 +26,7 @@ use Rattle.node_model.specs.Slots.{job_of}
 use Rattle.node_model.specs.Evidence.{Gives, Standing}
 use Rattle.run_model.specs.Drops.{Lock, Look, Vouch, offer_from, reply, standing, tells, vouches_sent, vouch}
 use Rattle.run_model.specs.Safety.{Removal, past_at}
-use Rattle.run_model.specs.Run.{IsRun}
+use Rattle.run_model.specs.Run.{IsRun, job_paths}
 use Rattle.race_core.specs.Items.{AsksLock, IsFor, IsHeld, IsToldBy, SendsUp, WasSeen}
 use Rattle.past_facts.proofs.Own.{Meets, MessagePast, OneClock, seeks}
 use Rattle.race_core.specs.Places.{removal_at}
@@ -219,7 +219,7 @@ pub item_held : SentAreRead → (run : Run) (key : List ℕ) (place : ℕ) (e : 
     → judge_at run place e ≡ Some judge → Member item x.items → item.kind ≡ Locked end → IsHeld run key place judge item.repo end
 item_held reads_back run key place e x judge item end h at is judge_is m kind = go (offer_locked ask stand said end gives)
   where
-    d : Dropped run.repos (past_at run place) key e x judge
+    d : Dropped run.repos (job_paths run) (past_at run place) key e x judge
     d = dropped reads_back run key place e x judge h at is judge_is
 
     ask : ℕ → ℕ

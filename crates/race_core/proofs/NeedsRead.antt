@@ -1,5 +1,5 @@
 -- What the drop of each removal read of the logs, local and remote: its need, and the key of its job.
-use Rattle.std.proofs.Common.{◌≡◌, ℕ, ◌≤◌, List, [], ◌∷◌, Some, inl, inr, refl, sym, ap, ◌∙◌, subst, arith}
+use Rattle.std.proofs.Common.{◌≡◌, ℕ, ◌≤◌, true, List, [], ◌∷◌, Some, None, inl, inr, refl, sym, ap, ◌∙◌, subst, arith}
 use Rattle.std.specs.Prelude.{slice_get}
 use Rattle.std.proofs.lemmas.Option.{same_Some}
 use Rattle.annex_base.specs.Lists.{Member}
@@ -9,11 +9,13 @@ use Rattle.run_data.specs.declared.entry.By.TheVariants.{Job as by_job}
 use Rattle.run_data.specs.declared.entry.Entry.{Entry}
 use Rattle.run_data.specs.declared.entry.EntryKind.TheVariants.{Gone}
 use Rattle.run_data.specs.declared.run.Run.{Run}
-use Rattle.run_model.specs.Logs.{need_read}
 use Rattle.run_model.specs.Safety.{Removal, least_need, past_at}
-use Rattle.run_model.specs.Run.{IsRun}
+use Rattle.run_data.specs.Repos.{id_of}
+use Rattle.run_model.specs.Past.{is_of}
+use Rattle.run_model.specs.Run.{IsRun, job_paths}
+use Rattle.wanted_expr.specs.Wanted.{required}
 use Rattle.race_core.specs.Places.{count_at, removal_at, removals_at}
-use Rattle.race_core.specs.Readings.{Judge, judge_at, key_read}
+use Rattle.race_core.specs.Readings.{Judge, judge_at, key_read, need_of_judge, settings_read}
 use Rattle.race_core.specs.Removals.{IsAt, IsReadBefore, IsRemovalBefore}
 use Rattle.past_facts.proofs.Changes.{Obeys, Removes, removal_was, repo_of}
 use Rattle.race_core.proofs.Dropped.{dropped, judged_by}
@@ -24,7 +26,7 @@ use Rattle.race_core.proofs.OneDrop.{order_obeyed}
 
 -- a removal has the need that its judge read
 pub need_judged : SentAreRead → (run : Run) (key : List ℕ) (place : ℕ) (e : Entry) (x : Removal) (judge : Judge) → IsRun run → slice_get run.entries place ≡ Some e → removal_at run key place e ≡ Some x → judge_at run place e ≡ Some judge
-    → x.need ≡ need_read judge.past judge.repo judge.job
+    → x.need ≡ need_of_judge run judge
 need_judged reads_back run key place e x judge h at is judge_is = (dropped reads_back run key place e x judge h at is judge_is).need_is
 
 -- and is of the key of the judge's job
@@ -46,6 +48,14 @@ key_judged reads_back run key place e x judge h at is judge_is = elim (removal_w
         let same : o.taken.entry ≡ e = same_Some o.taken.entry e (sym o.taken.entry_is ∙ at) in
         is_read (record { repo = t.a; job = o.j; past = past_at run o.at }) (subst (λ y. judge_at run place y ≡ Some (record { repo = t.a; job = o.j; past = past_at run o.at })) same o.judge_is)
         (orderer_read run o.at t.a o.j t.r o.deadline o.need key h o.order)
+
+-- its target doesn't require the content, by what the judge read
+pub not_required : SentAreRead → (run : Run) (key : List ℕ) (place : ℕ) (e : Entry) (x : Removal) (judge : Judge) (r : ℕ) → IsRun run → slice_get run.entries place ≡ Some e → removal_at run key place e ≡ Some x → judge_at run place e ≡ Some judge
+    → is_of r e ≡ true → required (settings_read judge) (id_of run.repos r) key (job_paths run judge.repo judge.job) ≡ None
+not_required reads_back run key place e x judge r h at is judge_is own =
+    let d = dropped reads_back run key place e x judge h at is judge_is in
+    let same : d.r ≡ r = same_Some d.r r (sym (repo_of e d.r d.repo_is) ∙ repo_of e r own) in
+    subst (λ n. required (settings_read judge) (id_of run.repos n) key (job_paths run judge.repo judge.job) ≡ None) same d.spared
 
 -- ---- the least need
 

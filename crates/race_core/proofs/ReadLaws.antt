@@ -25,21 +25,21 @@ use Rattle.race_core.proofs.Reading.{standing-claimed, standing-dead, standing-u
 use Rattle.race_core.specs.Places.{removal_at}
 use Rattle.race_core.specs.Readings.{IsLocalRemoval, Judge, claim_read, judge_at, key_read, level_read}
 use Rattle.past_facts.proofs.Lists.{Each-any}
-use Rattle.race_core.proofs.Dropped.{meets_at, messages_at}
-use Rattle.run_model.specs.Run.{IsRun}
+use Rattle.race_core.proofs.Dropped.{meets_at, messages_at, stated_at}
+use Rattle.run_model.specs.Run.{IsRun, job_paths}
 use Rattle.past_facts.proofs.Changes.{Obeys, Removes, removal_is, removal_was, repo_of}
 use Rattle.past_facts.proofs.Evident.{barred}
 use Rattle.past_facts.proofs.ReadOnce.{need_is_read}
 use Rattle.past_facts.proofs.Gather.{evidence_each}
 
 -- a local removal has the need that its drop read
-pub need_of_removal : SentAreRead → (run : Run) (key : List ℕ) (place r j : ℕ) (x : Removal) → IsRun run → (w : IsLocalRemoval run key place r j) → removal_at run key place w.entry ≡ Some x → x.need ≡ need_read (past_at run place) r j
+pub need_of_removal : SentAreRead → (run : Run) (key : List ℕ) (place r j : ℕ) (x : Removal) → IsRun run → (w : IsLocalRemoval run key place r j) → removal_at run key place w.entry ≡ Some x → x.need ≡ need_read (job_paths run r j) (past_at run place) r j
 need_of_removal reads_back run key place r j x h w is =
     let past = messages_at reads_back run place h in
     let m = ((meets_at reads_back run place w.entry h w.entry_is).own r w.repo_is).removes j key w.kind_is in
     let b = barred run.repos (past_at run place) r j key past m.barred in
     let there = removal_is run.repos w.entry (past_at run place) r j key b.d w.repo_is w.kind_is b.decided_is b.key_is in
-    ap (λ (y : Removal). y.need) (same_Some _ _ (sym is ∙ there)) ∙ need_is_read run.repos (past_at run place) r j b.d past b.decided_is
+    ap (λ (y : Removal). y.need) (same_Some _ _ (sym is ∙ there)) ∙ need_is_read run.repos (job_paths run) (past_at run place) r j b.d past (stated_at reads_back run place h) b.decided_is
 
 -- ---- evidence, in any run
 

@@ -5,10 +5,9 @@ use Rattle.run_data.specs.declared.entry.By.{By}
 use Rattle.run_data.specs.declared.entry.Entry.{Entry}
 use Rattle.run_data.specs.declared.entry.EntryKind.TheVariants.{Gone}
 use Rattle.run_data.specs.declared.run.Run.{Run}
-use Rattle.run_model.specs.Logs.{need_read}
 use Rattle.run_model.specs.Safety.{Removal}
 use Rattle.race_core.specs.Places.{count_at, removal_at}
-use Rattle.race_core.specs.Readings.{Judge, judge_at}
+use Rattle.race_core.specs.Readings.{Judge, judge_at, need_of_judge}
 use Rattle.race_core.specs.Removals.{IsReadBefore, IsRemovalBefore}
 
 -- A place is the number of the entries before it. The copies of a key are counted with the claims that its drops trusted.
@@ -33,4 +32,4 @@ pub record KeepsCopies (run : Run) : Type 0 where
       → (x : Removal) × (removal_at run key place e ≡ Some x) × (is_enough x.side x.need x.items ≡ true)
   -- and this need is what the logs of the repository that judged the evidence gave at the drop's first step
   pub needs : (key : List ℕ) (place : ℕ) (e : Entry) (x : Removal) → slice_get run.entries place ≡ Some e → removal_at run key place e ≡ Some x
-      → (judge : Judge) × (judge_at run place e ≡ Some judge) × (x.need ≡ need_read judge.past judge.repo judge.job)
+      → (judge : Judge) × (judge_at run place e ≡ Some judge) × (x.need ≡ need_of_judge run judge)

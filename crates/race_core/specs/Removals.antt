@@ -15,12 +15,12 @@ use Rattle.p2p_wire.specs.Messages.{order_of}
 use Rattle.run_model.specs.Past.{is_of}
 use Rattle.run_model.specs.Said.{Says, message_in}
 use Rattle.run_model.specs.Frames.{Way, sender_of, frames_sent, way_of}
-use Rattle.run_model.specs.Logs.{is_drop, need_read}
+use Rattle.run_model.specs.Logs.{is_drop}
 use Rattle.node_model.specs.Evidence.{is_trusted}
 use Rattle.run_model.specs.Safety.{Removal, past_at}
 use Rattle.node_model.specs.Jobs.{drop_side, is_move, or_own}
 use Rattle.race_core.specs.Places.{removal_at}
-use Rattle.race_core.specs.Readings.{Judge, judge_at}
+use Rattle.race_core.specs.Readings.{Judge, judge_at, need_of_judge}
 
 -- A place is the number of the entries before it.
 
@@ -105,4 +105,4 @@ pub record IsReadBefore (run : Run) (key : List ℕ) (place m : ℕ) : Type 0 wh
   pub before : IsRemovalBefore run key place removal
   pub judge : Judge
   pub judge_is : judge_at run before.at before.entry ≡ Some judge
-  pub read : (need_read judge.past judge.repo judge.job).m ≡ m
+  pub read : (need_of_judge run judge).m ≡ m

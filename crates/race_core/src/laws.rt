@@ -1,6 +1,6 @@
 //! The laws. Each is the contract of a function that does nothing.
 
-ghost use Rattle.std.specs.Prelude.{◌≡◌, ◌≢◌, ℕ, ◌+◌, ◌≤◌, true, List, Some, slice_get};
+ghost use Rattle.std.specs.Prelude.{◌≡◌, ◌≢◌, ℕ, ◌+◌, ◌≤◌, true, List, None, Some, slice_get};
 ghost use Rattle.annex_base.specs.declared.kinds.Level.TheVariants as levels;
 ghost use Rattle.drop_proof.specs.declared.evidence.Evidence.{Evidence};
 ghost use Rattle.run_data.specs.declared.entry.Entry.{Entry};
@@ -8,12 +8,14 @@ ghost use Rattle.run_data.specs.declared.run.Run.{Run};
 ghost use Rattle.run_model.specs.Logs.{need_read, read_at};
 ghost use Rattle.node_model.specs.Evidence.{is_locked, is_trusted};
 ghost use Rattle.annex_base.specs.Lists.{Member};
-ghost use Rattle.run_model.specs.Past.{present};
+ghost use Rattle.run_model.specs.Past.{is_of, present};
 ghost use Rattle.run_model.specs.Safety.{Removal, least_need, past_at, within};
-ghost use Rattle.run_model.specs.Run.{IsRun};
+ghost use Rattle.run_model.specs.Run.{IsRun, job_paths};
 ghost use Rattle.race_core.specs.Copies.{KeepsCopies};
 ghost use Rattle.race_core.specs.Places.{claim_at, count_at, removal_at, removals_at};
-ghost use Rattle.race_core.specs.Readings.{IsFirstStep, IsLocalRemoval, Judge, claim_read, judge_at, key_read, level_read};
+ghost use Rattle.race_core.specs.Readings.{IsFirstStep, IsLocalRemoval, Judge, claim_read, judge_at, key_read, level_read, need_of_judge, settings_read};
+ghost use Rattle.run_data.specs.Repos.{id_of};
+ghost use Rattle.wanted_expr.specs.Wanted.{required};
 
 use crate::claims::{least_is_what_drops_read, removals_are_of_entries};
 use crate::drops::each_removal_is_one_drops;
@@ -85,9 +87,10 @@ pub fn ignored_never_count()
         → is_trusted item.kind ≡ true → claim_read run judge (key_read judge) item.repo ≡ true }
 {}
 
-/// The need of a removal is what the logs of the repository that judged gave at its drop's first step, whichever side it
-/// removes on: of a removal by an order, the logs of the repository that sent it. The removal is of the key of the drop's
-/// job, as it stood then (git-annex-numcopies, git-annex-mincopies).
+/// The need of a removal is what the logs of the repository that judged gave at its drop's first step, for the paths that the
+/// key had as the drop's job began, whichever side it removes on: of a removal by an order, the logs of the repository that
+/// sent it. The removal is of the key of the drop's job, as it stood then (git-annex-numcopies, git-annex-mincopies; numbers
+/// by path are own).
 pub fn drops_read_their_need()
     ensures first { (run : Run) (key : List ℕ) (place : ℕ) (e : Entry) (x : Removal) (judge : Judge)
         → IsRun run → slice_get run.entries place ≡ Some e → removal_at run key place e ≡ Some x
@@ -95,13 +98,25 @@ pub fn drops_read_their_need()
         → (first : ℕ) × IsFirstStep run judge.repo judge.job first × (read_at judge.past judge.repo judge.job ≡ past_at run first) }
     ensures judged { (run : Run) (key : List ℕ) (place : ℕ) (e : Entry) (x : Removal) (judge : Judge)
         → IsRun run → slice_get run.entries place ≡ Some e → removal_at run key place e ≡ Some x
-        → judge_at run place e ≡ Some judge → x.need ≡ need_read judge.past judge.repo judge.job }
+        → judge_at run place e ≡ Some judge → x.need ≡ need_of_judge run judge }
     ensures key { (run : Run) (key : List ℕ) (place : ℕ) (e : Entry) (x : Removal) (judge : Judge)
         → IsRun run → slice_get run.entries place ≡ Some e → removal_at run key place e ≡ Some x
         → judge_at run place e ≡ Some judge → key_read judge ≡ key }
     ensures local { (run : Run) (key : List ℕ) (place r j : ℕ) (x : Removal) → IsRun run
         → (w : IsLocalRemoval run key place r j) → removal_at run key place w.entry ≡ Some x
-        → x.need ≡ need_read (past_at run place) r j }
+        → x.need ≡ need_read (job_paths run r j) (past_at run place) r j }
+{
+    // a law, for the proof of which job judged a removal: each message that is sent is read from its line
+    sent_messages_are_read();
+}
+
+/// No drop removes a content that its target requires, by the logs of the repository that judged the evidence, as they were
+/// at the drop's first step, and by the paths that the key had as its job began (git-annex-required).
+pub fn required_content_stays()
+    ensures { (run : Run) (key : List ℕ) (place : ℕ) (e : Entry) (x : Removal) (judge : Judge) (r : ℕ)
+        → IsRun run → slice_get run.entries place ≡ Some e → removal_at run key place e ≡ Some x
+        → judge_at run place e ≡ Some judge → is_of r e ≡ true
+        → required (settings_read judge) (id_of run.repos r) key (job_paths run judge.repo judge.job) ≡ None }
 {
     // a law, for the proof of which job judged a removal: each message that is sent is read from its line
     sent_messages_are_read();

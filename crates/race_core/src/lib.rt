@@ -21,6 +21,6 @@ pub use evidence::{
 };
 pub use laws::{
     drops_leave_their_evidence, drops_read_their_need, ignored_never_count,
-    never_fewer_than_mincopies, runs_keep_copies,
+    never_fewer_than_mincopies, required_content_stays, runs_keep_copies,
 };
 pub use run_data;

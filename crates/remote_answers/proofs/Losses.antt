@@ -11,6 +11,7 @@ use Rattle.node_model.specs.Jobs as Jobs
 use Rattle.node_model.specs.Jobs.{learns, partner}
 use Rattle.node_model.specs.JobStep.{Turn, wrong_message}
 use Rattle.node_model.specs.Turns.{takes, takes_frame}
+use Rattle.node_model.specs.Look.{as_told, failed_in}
 use Rattle.annex_base.specs.declared.memory.NoMemory.{NoMemory}
 use Rattle.content_lock.specs.Rows.{AreAfter, Rows}
 use Rattle.drop_phases.specs.declared.phase.Phase.{Phase}
@@ -23,7 +24,7 @@ use Rattle.drop_phases.specs.declared.phase.Token.{Token}
 use Rattle.drop_phases.specs.declared.turn.Output.{Output}
 use Rattle.drop_phases.specs.declared.turn.Taken.TheVariants as takens
 use Rattle.drop_phases.specs.Worker.{Worker}
-use Rattle.drop_phases.specs.Working.{Rest, Sight, failed_in, phase_as, turn_in, work_of}
+use Rattle.drop_phases.specs.Working.{Rest, Sight, phase_as, turn_in, work_of}
 use Rattle.drop_phases.specs.Doing.{Comes, DoesAsAsked, Grows, contents_after, next_work}
 use Rattle.drop_phases.specs.Feeding.{FitsRemote, HasNoBar}
 use Rattle.remote_requests.specs.Remote.{IsRemote, ShutsRemote, Speaks, is_ordering, without_peer}
@@ -38,7 +39,7 @@ lost_does x rows p w w' f target peer took out remote shuts comes learn with_pee
     let line = lined f.body took comes.is in
     let is : (rest : Rest) → wrong_message (turn_in x rows p None rest w) f peer ≡ takes_frame (turn_in x rows p None rest w) peer f f.body = (λ rest. makes rest ∙ line_takes (turn_in x rows p None rest w) f peer took line) in
     talk_does x rows p w w' (Some f) (λ t. takes_frame t peer f f.body) _ out shuts.kind shuts.sends
-    (λ rest. (λ i. record { kind = Talk (Some w.number); taken = Some f; sent = close_parcel x w.slot peer i; lines = [] }) ∙ is rest)
+    (λ rest. (λ i. record { kind = Talk (Some w.number); taken = Some f; sent = close_parcel x w.slot peer i; lines = []; calls = [] }) ∙ ap as_told (is rest))
     (λ rest. ap (work_of rest) shuts.next ∙ (sym (closed_remote rest w target x.read.repo peer remote)
     ∙ (sym (moved_shut (turn_in x rows p None rest w) f peer took w.version refl (learn rest) with_peer line comes.live) ∙ ap (next_work (turn_in x rows p None rest w)) (is rest))))
 

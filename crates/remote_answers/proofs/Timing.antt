@@ -20,13 +20,14 @@ use Rattle.node_model.specs.JobStep.{Turn, ends, says_to, wrong_message}
 use Rattle.node_model.specs.DropStep.{first_end, orders, takes_time, target as target_at, times}
 use Rattle.node_model.specs.Knows.{Reading}
 use Rattle.node_model.specs.Turns.{takes, takes_frame}
+use Rattle.node_model.specs.Look.{failed_in}
 use Rattle.content_lock.specs.Rows.{AreAfter, Rows}
 use Rattle.drop_phases.specs.declared.phase.Phase.{Phase}
 use Rattle.drop_phases.specs.declared.phase.Phase.TheVariants as phases
 use Rattle.drop_phases.specs.declared.turn.Output.{Output}
 use Rattle.drop_phases.specs.declared.turn.Taken.TheVariants as takens
 use Rattle.drop_phases.specs.Worker.{Worker}
-use Rattle.drop_phases.specs.Working.{Rest, Sight, failed_in, phase_as, sight, turn_in, work_of}
+use Rattle.drop_phases.specs.Working.{Rest, Sight, phase_as, sight, turn_in, work_of}
 use Rattle.drop_phases.specs.Doing.{contents_after}
 use Rattle.remote_requests.specs.Remote.{EndsSo, IsRemote, Says, Speaks, TakesRemote, known_remotely, order_message, order_of}
 use Rattle.drop_phases.proofs.Doings.{does_as}
@@ -58,25 +59,25 @@ told_time : (t : Turn) (f : FrameView) (peer now : ℕ) → nat_lt now (2 ^ 61) 
 told_time t f peer now e = rw e refl
 
 -- a time that no node tells
-pub no_time : (x : Sight) (rows : Rows) (p : List ℕ → Bool) (rest : Rest) (w : Worker) (f : FrameView) (target now : ℕ) → IsRemote target w → w.phase ≡ phases.AsksTime → 2 ^ 61 ≤ now
-    → wrong_message (turn_in x rows p None rest w) f target ≡ takes (turn_in x rows p None rest w) f target (phase_as w.phase) (Timestamp now)
-no_time x rows p rest w f target now remote at big =
+pub no_time : (x : Sight) (rows : Rows) (p : List ℕ → Bool) (fails : Option Call) (rest : Rest) (w : Worker) (f : FrameView) (target now : ℕ) → IsRemote target w → w.phase ≡ phases.AsksTime → 2 ^ 61 ≤ now
+    → wrong_message (turn_in x rows p fails rest w) f target ≡ takes (turn_in x rows p fails rest w) f target (phase_as w.phase) (Timestamp now)
+no_time x rows p fails rest w f target now remote at big =
     let e : nat_lt now (2 ^ 61) ≡ false = grind (arith, nat_tests) in
-    sym (ap (λ (ph : Phase). takes (turn_in x rows p None rest w) f target (phase_as ph) (Timestamp now)) at ∙ rw (remote.side, e) refl)
+    sym (ap (λ (ph : Phase). takes (turn_in x rows p fails rest w) f target (phase_as ph) (Timestamp now)) at ∙ rw (remote.side, e) refl)
 
 module _ (read : Reading) (ends_at : EndName → End) (time : ℕ) (w : Worker) (target now : ℕ) (remote : IsRemote target w) (at : w.phase ≡ phases.AsksTime) where
   abbrev turn : ℕ → Rows → (List ℕ → Bool) → Option Call → Rest → Turn
   turn number rows p fails rest = turn_in (sight read ends_at time number) rows p fails rest w
 
   -- the step that takes it
-  by_time : now < 2 ^ 61 → (number : ℕ) (rows : Rows) (p : List ℕ → Bool) (fails : Option Call) (rest : Rest) (f : FrameView)
+  pub by_time : now < 2 ^ 61 → (number : ℕ) (rows : Rows) (p : List ℕ → Bool) (fails : Option Call) (rest : Rest) (f : FrameView)
       → takes (turn number rows p fails rest) f target (phase_as w.phase) (Timestamp now) ≡ times (turn number rows p fails rest) f now (first_end (turn number rows p fails rest))
   by_time early number rows p fails rest f =
       let e : nat_lt now (2 ^ 61) ≡ true = grind (arith, nat_tests) in
       ap (λ (ph : Phase). takes (turn number rows p fails rest) f target (phase_as ph) (Timestamp now)) at
       ∙ ((λ i. takes_time (turn number rows p fails rest) f target now (remote.side i)) ∙ told_time (turn number rows p fails rest) f target now e)
 
-  end_there : (end : Option ℕ) → end ≡ least_end (known_remotely read target w) → (number : ℕ) (rows : Rows) (p : List ℕ → Bool) (fails : Option Call) (rest : Rest) → end ≡ first_end (turn number rows p fails rest)
+  pub end_there : (end : Option ℕ) → end ≡ least_end (known_remotely read target w) → (number : ℕ) (rows : Rows) (p : List ℕ → Bool) (fails : Option Call) (rest : Rest) → end ≡ first_end (turn number rows p fails rest)
   end_there end known number rows p fails rest = known ∙ end_is (sight read ends_at time number) rows p fails rest w read.need (known_remotely read target w) target remote refl refl
 
   -- ---- an order
@@ -103,7 +104,7 @@ module _ (read : Reading) (ends_at : EndName → End) (time : ℕ) (w : Worker) 
       → orders (turn number rows p None rest) (Some f) None (Remove w.job.key) ≡ times (turn number rows p None rest) f now (first_end (turn number rows p None rest))
   order_plain known number rows p rest f = ap (times (turn number rows p None rest) f now) (end_there None known number rows p None rest)
 
-  timed : (t : Turn) (f : FrameView) (clock end before : ℕ) → clock ≡ t.clock t.look.time → clock < end → before ≡ now + (end - clock) / 1000
+  pub timed : (t : Turn) (f : FrameView) (clock end before : ℕ) → clock ≡ t.clock t.look.time → clock < end → before ≡ now + (end - clock) / 1000
       → orders t (Some f) (Some before) (RemoveBefore before t.w.what.key) ≡ times t f now (Some end)
   timed t f clock end before same lt is =
       let e : nat_lt clock end ≡ true = grind (arith, nat_tests) in
@@ -119,7 +120,7 @@ module _ (read : Reading) (ends_at : EndName → End) (time : ℕ) (w : Worker) 
 
   -- ---- the end
 
-  late : (t : Turn) (f : FrameView) (clock end : ℕ) → clock ≡ t.clock t.look.time → end ≤ clock → ends t (Some f) (Refused (refusals.Expired end clock)) ≡ times t f now (Some end)
+  pub late : (t : Turn) (f : FrameView) (clock end : ℕ) → clock ≡ t.clock t.look.time → end ≤ clock → ends t (Some f) (Refused (refusals.Expired end clock)) ≡ times t f now (Some end)
   late t f clock end same le =
       let e : nat_lt clock end ≡ false = grind (arith, nat_tests) in
       (λ i. if sym e i then orders t (Some f) (Some (now + (end - clock) / 1000)) (RemoveBefore (now + (end - clock) / 1000) t.w.what.key) else ends t (Some f) (Refused (refusals.Expired end clock)))

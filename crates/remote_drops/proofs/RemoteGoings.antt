@@ -7,20 +7,23 @@ use Rattle.drop_proof.specs.declared.evidence.Evidence.{Evidence}
 use Rattle.drop_proof.specs.declared.rule.Need.{Need}
 use Rattle.drop_proof.specs.declared.rule.Side.TheVariants.{Remote}
 use Rattle.drop_proof.specs.Judging.{is_enough}
+use Rattle.run_data.specs.declared.job.DropRefusal.TheVariants as refusals
 use Rattle.run_data.specs.declared.job.Outcome.{Outcome}
-use Rattle.node_model.specs.DropStep.{lacking_outcome}
+use Rattle.run_data.specs.declared.job.Outcome.TheVariants.{Refused}
+use Rattle.node_model.specs.DropStep.{first_drop, first_remote, lacking_outcome}
 use Rattle.node_model.specs.Ends.{End, EndName}
 use Rattle.node_model.specs.JobStep.{Turn, ends}
 use Rattle.node_model.specs.Knows.{Reading}
 use Rattle.node_model.specs.Requests.{goes_to}
 use Rattle.node_model.specs.Turns.{goes, outcome_of}
+use Rattle.node_model.specs.Look.{failed_in}
 use Rattle.content_lock.specs.Rows.{Rows}
 use Rattle.content_lock.specs.Stored.{Agrees}
 use Rattle.drop_phases.specs.declared.phase.Phase.{Phase}
 use Rattle.drop_phases.specs.declared.phase.Phase.TheVariants as phases
 use Rattle.drop_phases.specs.declared.turn.Output.{Output}
 use Rattle.drop_phases.specs.Worker.{Worker}
-use Rattle.drop_phases.specs.Working.{Rest, failed_in, phase_as, present_in, sight, turn_in}
+use Rattle.drop_phases.specs.Working.{Rest, Sight, phase_as, present_in, sight, turn_in}
 use Rattle.drop_phases.specs.Doing.{Acts, HasToken}
 use Rattle.drop_judging.specs.Judging.{asks_of}
 use Rattle.drop_phases.specs.Leaving.{Store}
@@ -33,7 +36,7 @@ use Rattle.remote_requests.proofs.RemoteLeavings.{remote_did_as, spoken_did}
 use Rattle.remote_requests.proofs.RemoteVerdicts.{asks_next, lacks_next, orders_by}
 
 -- a job that is to end goes on to its end
-ending_goes : (t : Turn) (ph : Phase) → IsToEnd ph → ends t None (outcome_of t (phase_as ph)) ≡ goes t (phase_as ph)
+pub ending_goes : (t : Turn) (ph : Phase) → IsToEnd ph → ends t None (outcome_of t (phase_as ph)) ≡ goes t (phase_as ph)
 ending_goes t phases.Removed to = refl
 ending_goes t phases.Denied to = refl
 ending_goes t (phases.Late time) to = refl
@@ -46,6 +49,13 @@ ending_goes t (phases.AsksLock peer since) to = absurd to
 ending_goes t (phases.AsksLook peer) to = absurd to
 ending_goes t phases.AsksTime to = absurd to
 ending_goes t phases.Orders to = absurd to
+
+-- a job whose target requires the content ends at its first step
+pub required_goes : (x : Sight) (rows : Rows) (p : List ℕ → Bool) (fails : Option Call) (rest : Rest) (w : Worker) (target : ℕ) (text : List ℕ) → IsRemote target w → w.phase ≡ phases.Fresh → x.read.requires ≡ Some text
+    → ends (turn_in x rows p fails rest w) None (Refused (refusals.Required text)) ≡ goes (turn_in x rows p fails rest w) (phase_as w.phase)
+required_goes x rows p fails rest w target text remote fresh needs =
+    let t = turn_in x rows p fails rest w in
+    sym (ap (λ (ph : Phase). goes t (phase_as ph)) fresh ∙ (ap (first_drop t) remote.side ∙ ap (first_remote t) needs))
 
 module _ (read : Reading) (ends_at : EndName → End) (time number : ℕ) (w w' : Worker) where
   abbrev turn : Rows → (List ℕ → Bool) → Option Call → Rest → Turn
@@ -77,6 +87,12 @@ module _ (read : Reading) (ends_at : EndName → End) (time number : ℕ) (w w' 
       → DidRemote rows rows' k k' w w' (EndsSo read ends_at time rows rows' w w' outcome) r → DidRemote rows rows' k k' w w' (GoesAlike (sight read ends_at time number) k.contents rows rows' w w') r
   outcome_goes rows rows' k k' outcome r to is d =
       ended_goes rows rows' k k' outcome r (λ p fails rest. ap (ends (turn rows p fails rest) None) (is time number rows p fails rest) ∙ ending_goes (turn rows p fails rest) w.phase to) d
+
+  -- its target requires the content
+  pub required_did : (rows rows' : Rows) (k k' : Store) (target : ℕ) (text : List ℕ) (r : Result Output NoMemory) → IsRemote target w → w.phase ≡ phases.Fresh → read.requires ≡ Some text
+      → DidRemote rows rows' k k' w w' (EndsSo read ends_at time rows rows' w w' (Refused (refusals.Required text))) r → DidRemote rows rows' k k' w w' (GoesAlike (sight read ends_at time number) k.contents rows rows' w w') r
+  required_did rows rows' k k' target text r remote fresh needs d =
+      ended_goes rows rows' k k' (Refused (refusals.Required text)) r (λ p fails rest. required_goes (sight read ends_at time number) rows p fails rest w target text remote fresh needs) d
 
   -- ---- by the judgement
 

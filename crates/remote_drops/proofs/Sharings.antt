@@ -22,9 +22,9 @@ use Rattle.node_model.specs.Evidence.{Asked, Standing}
 use Rattle.node_model.specs.Jobs as Jobs
 use Rattle.node_model.specs.Jobs.{Drops, Part, Work, first_look, hears, side_of, to_phase}
 use Rattle.node_model.specs.JobStep.{Turn, bar_there, by_me, clock_of, is_there, key_of, me, quietly, talk}
-use Rattle.node_model.specs.DropStep.{first_drop, own_share, shares, tries_own}
+use Rattle.node_model.specs.DropStep.{first_drop, first_remote, own_share, shares, tries_own}
 use Rattle.node_model.specs.Knows.{Reading}
-use Rattle.node_model.specs.Look.{Effect, failing_call, unless}
+use Rattle.node_model.specs.Look.{Effect, as_told, failed_in, failing_call, unless}
 use Rattle.node_model.specs.Slots.{job_of}
 use Rattle.node_model.specs.Turns.{goes}
 use Rattle.content_lock.specs.Looks.{IsShareFault, NotShared}
@@ -39,7 +39,7 @@ use Rattle.drop_phases.specs.declared.phase.Token.{Token}
 use Rattle.drop_phases.specs.declared.phase.Token.TheVariants as tokens
 use Rattle.drop_phases.specs.declared.turn.Output.{Output}
 use Rattle.drop_phases.specs.Worker.{Worker}
-use Rattle.drop_phases.specs.Working.{Rest, Sight, failed_in, phase_as, present_in, turn_in, work_of}
+use Rattle.drop_phases.specs.Working.{Rest, Sight, phase_as, present_in, turn_in, work_of}
 use Rattle.drop_phases.specs.Doing.{HasToken, contents_after, next_work}
 use Rattle.drop_phases.specs.Feeding.{HasNoBar, IsBare}
 use Rattle.drop_phases.specs.Leaving.{Store}
@@ -51,16 +51,16 @@ use Rattle.drop_phases.proofs.Tokens.{others_same}
 
 -- ---- what a share makes
 
-shares_gone : (t : Turn) → t.look.fails ≡ None → is_there t ≡ false → shares t ≡ quietly (talk t) None
+shares_gone : (t : Turn) → t.look.fails ≡ None → is_there t ≡ false → as_told (shares t) ≡ quietly (talk t) None
 shares_gone t fails gone = rw (fails, gone) refl
 
-shares_barred : (t : Turn) (job : ℕ) → t.look.fails ≡ None → is_there t ≡ true → bar_there t ≡ Some job → shares t ≡ quietly (talk t) None
+shares_barred : (t : Turn) (job : ℕ) → t.look.fails ≡ None → is_there t ≡ true → bar_there t ≡ Some job → as_told (shares t) ≡ quietly (talk t) None
 shares_barred t job fails there bar = rw (fails, there, bar) refl
 
-unfound : (t : Turn) → t.look.fails ≡ Some calls.Has → shares t ≡ quietly (Fault calls.Has (by_me t)) None
+unfound : (t : Turn) → t.look.fails ≡ Some calls.Has → as_told (shares t) ≡ quietly (Fault calls.Has (by_me t)) None
 unfound t fails =
-    ap (λ (f : Option Call). unless (failing_call f (to_hold (is_there t) (bar_there t))) (λ call. quietly (Fault call (by_me t)) None) made) fails
-    ∙ ap (λ (f : Option Call). unless f (λ call. quietly (Fault call (by_me t)) None) made) (go (is_there t) (bar_there t))
+    ap (λ (f : Option Call). as_told (unless (failing_call f (to_hold (is_there t) (bar_there t))) (λ call. quietly (Fault call (by_me t)) None) made)) fails
+    ∙ ap (λ (f : Option Call). as_told (unless f (λ call. quietly (Fault call (by_me t)) None) made)) (go (is_there t) (bar_there t))
   where
     made : Effect
     made = quietly (own_share t.number (clock_of t + hold_time) t.w.number (key_of t) (talk t) (by_me t) (is_there t) (bar_there t)) None
@@ -70,7 +70,7 @@ unfound t fails =
     go true (Some job) = refl
     go false bar = refl
 
-unheld : (t : Turn) → t.look.fails ≡ Some calls.Hold → is_there t ≡ true → bar_there t ≡ None → shares t ≡ quietly (Fault calls.Hold (by_me t)) None
+unheld : (t : Turn) → t.look.fails ≡ Some calls.Hold → is_there t ≡ true → bar_there t ≡ None → as_told (shares t) ≡ quietly (Fault calls.Hold (by_me t)) None
 unheld t fails there free = rw (fails, there, free) refl
 
 -- ---- the work that follows
@@ -104,19 +104,19 @@ next_unasked r t read drops fresh unasked = subst (λ (v : Work). Alike r (to_ph
 
 -- ---- the first step
 
+pub unbarred : (token : Token) → IsBare token → HasNoBar token
+unbarred tokens.Nothing b = tt
+unbarred (tokens.Bar bar) b = absurd b
+unbarred (tokens.Share share) b = absurd b
+
 module _ (x : Sight) (rows rows' : Rows) (k k' : Store) (w w' : Worker) (target : ℕ) (remote : IsRemote target w) (fresh : w.phase ≡ phases.Fresh) (bare : IsBare w.token)
-    (own : HasToken w.number w.job.key w.token rows) where
+    (own : HasToken w.number w.job.key w.token rows) (spared : x.read.requires ≡ None) where
   tries : (p : List ℕ → Bool) (fails : Option Call) (rest : Rest) → goes (turn_in x rows p fails rest w) (phase_as w.phase) ≡ tries_own (turn_in x rows p fails rest w) (x.read.standing x.read.repo)
   tries p fails rest =
-      ap (λ (ph : Phase). goes (turn_in x rows p fails rest w) (phase_as ph)) fresh ∙ ap (λ (side : Side). first_drop (turn_in x rows p fails rest w) side) remote.side
+      ap (λ (ph : Phase). goes (turn_in x rows p fails rest w) (phase_as ph)) fresh ∙ (ap (λ (side : Side). first_drop (turn_in x rows p fails rest w) side) remote.side ∙ ap (first_remote (turn_in x rows p fails rest w)) spared)
 
   at : phase_as w.phase ≡ Jobs.Fresh
   at = ap phase_as fresh
-
-  unbarred : (token : Token) → IsBare token → HasNoBar token
-  unbarred tokens.Nothing b = tt
-  unbarred (tokens.Bar bar) b = absurd b
-  unbarred (tokens.Share share) b = absurd b
 
   quiet_after : (kind : EntryKind) → AreAfter kind rows rows → rows' ≡ rows → AreAfter kind rows rows'
   quiet_after kind after same = subst (λ (q : Rows). AreAfter kind rows q) (sym same) after
@@ -131,7 +131,7 @@ module _ (x : Sight) (rows rows' : Rows) (k k' : Store) (w w' : Worker) (target 
       → DidRemote rows rows' k k' w w' (GoesAlike x k.contents rows rows' w w') (Ok out)
   skipped_did standing out unasked quiet is kind sends next same kept agrees = (
     λ c told. quiet_alike x rows rows' (present_in c) w w' (λ t. goes t t.w.phase) (Talk (Some w.number)) out kind sends
-        (λ rest. tries (present_in c) None rest ∙ (ap (tries_own (turn_in x rows (present_in c) None rest w)) is ∙ quiet (turn_in x rows (present_in c) None rest w)))
+        (λ rest. ap as_told (tries (present_in c) None rest ∙ (ap (tries_own (turn_in x rows (present_in c) None rest w)) is ∙ quiet (turn_in x rows (present_in c) None rest w))))
         (λ rest. subst (λ (u : Worker). Alike x.read (work_of rest u) (next_work (turn_in x rows (present_in c) None rest w) (quietly (Talk (Some w.number)) None))) (sym next)
         (next_unasked x.read (turn_in x rows (present_in c) None rest w) refl refl at (ap is_asked is ∙ unasked)))
         (quiet_after (Talk (Some w.number)) (record { holds = refl; bars = λ key. refl; fills = refl }) same) refl,
@@ -152,13 +152,13 @@ module _ (x : Sight) (rows rows' : Rows) (k k' : Store) (w w' : Worker) (target 
 
     none_did : (kind : EntryKind) (cause : Cause) (r : Result Output NoMemory) → IfOk r (GivesNone kind cause heard_first w') × OnErr r ⊥ → AreAfter kind rows rows → job_of kind ≡ Some w.number → contents_after k.contents kind ≡ k.contents
         → IfSome (failed_in kind) (λ call. Rose k.faults k'.faults)
-        → ((c : Contents) → k.contents ≡ Some c → (rest : Rest) → shares (turn_in x rows (present_in c) (failed_in kind) rest w) ≡ quietly kind None)
+        → ((c : Contents) → k.contents ≡ Some c → (rest : Rest) → as_told (shares (turn_in x rows (present_in c) (failed_in kind) rest w)) ≡ quietly kind None)
         → ((c : Contents) → k.contents ≡ Some c → (rest : Rest) → next_work (turn_in x rows (present_in c) (failed_in kind) rest w) (quietly kind None) ≡ hears (work_of rest w) x.read.repo (Jobs.Lacks cause))
         → DidRemote rows rows' k k' w w' (GoesAlike x k.contents rows rows' w w') r
     none_did kind cause (Err e) gives after whose still rose makes moves = absurd gives.1
     none_did kind cause (Ok out) gives after whose still rose makes moves = (
       λ c told. quiet_alike x rows rows' (present_in c) w w' (λ t. goes t t.w.phase) kind out gives.0.made gives.0.sends
-          (λ rest. tries (present_in c) (failed_in kind) rest ∙ (ap (tries_own (turn_in x rows (present_in c) (failed_in kind) rest w)) asked ∙ makes c told rest))
+          (λ rest. ap as_told (tries (present_in c) (failed_in kind) rest ∙ ap (tries_own (turn_in x rows (present_in c) (failed_in kind) rest w)) asked) ∙ makes c told rest)
           (λ rest. alike_same x.read (work_of rest w') (next_work (turn_in x rows (present_in c) (failed_in kind) rest w) (quietly kind None)) (ap (work_of rest) next ∙ sym (moves c told rest)))
           (quiet_after kind after same) whose,
       leaves_remote rows rows' k k' w (record w { heard = (x.read.repo, heards.Lacks cause) ∷ w.heard; phase = phases.Next }) w' kind out gives.0.made next (quiet_after kind after same) (contents ∙ sym still) agrees' later rose

@@ -18,7 +18,7 @@ ghost use Rattle.drop_phases.specs.Begun.{IsToEnd};
 ghost use Rattle.drop_phases.specs.Sides.{IsNumbered};
 ghost use Rattle.drop_phases.specs.Calling.{MakesPhase};
 
-use annex_base::{Items, NoMemory, Word};
+use annex_base::{Items, NoMemory, Text, Word};
 use content_lock::{LockTable, ShareRefused};
 use drop_judging::{LOCK_TIME, failures, gather, next, proof};
 use drop_phases::{
@@ -65,7 +65,7 @@ pub fn act<K: Keeper, H: Here>(
 
 // ---- its own share
 
-/// The first step: it tries a share of its own repository, unless that isn't asked.
+/// The first step: a drop is refused whose target requires the content.
 fn begin<K: Keeper, H: Here>(
     worker: &mut Worker,
     alloc: Global,
@@ -77,6 +77,67 @@ fn begin<K: Keeper, H: Here>(
 ) -> Result<Output, NoMemory>
     requires stands { StandsRemote target (K.records keeper.old) table.old worker.old }
     requires at { worker.old.phase ≡ Phase.Fresh }
+    requires fresh { All (λ h. h.number < input.now.number) table.old.holds }
+    ensures did { DidRemote table.old table.new (store (K.contents keeper.old) (K.records keeper.old) (K.faults keeper.old)) (store (K.contents keeper.new) (K.records keeper.new) (K.faults keeper.new)) worker.old worker.new
+        (GoesAlike (sight (H.reading here.now) (H.ends here.now) input.now.time input.now.number) (K.contents keeper.old) table.old table.new worker.old worker.new) result }
+    ensures numbered { IfOk result (λ out. IsNumbered input.now.number out.kind) }
+    ensures calls { MakesPhase (sight (H.reading here.now) (H.ends here.now) input.now.time input.now.number) (K.contents keeper.old) table.old worker.old (K.failing keeper.old) (K.failing keeper.new) result }
+    ensures parts { K.parts keeper.new ≡ K.parts keeper.old }
+    ensures files { K.files keeper.new ≡ K.files keeper.old }
+{
+    match here.required() {
+        Some(text) => end_required(worker, alloc, here, table, keeper, input.time, target, text),
+        None => try_own(worker, alloc, here, table, keeper, input, target),
+    }
+}
+
+/// Its target requires the content by this expression.
+fn end_required<K: Keeper, H: Here>(
+    worker: &mut Worker,
+    alloc: Global,
+    here: &H,
+    table: &mut LockTable,
+    keeper: &mut K,
+    time: Time,
+    target: u32,
+    text: &Text,
+) -> Result<Output, NoMemory>
+    requires stands { StandsRemote target (K.records keeper.old) table.old worker.old }
+    requires at { worker.old.phase ≡ Phase.Fresh }
+    requires required { (H.reading here.now).requires ≡ Some text.now }
+    ensures did { (number : ℕ) → DidRemote table.old table.new (store (K.contents keeper.old) (K.records keeper.old) (K.faults keeper.old)) (store (K.contents keeper.new) (K.records keeper.new) (K.faults keeper.new)) worker.old worker.new
+        (GoesAlike (sight (H.reading here.now) (H.ends here.now) time number) (K.contents keeper.old) table.old table.new worker.old worker.new) result }
+    ensures numbered { IfOk result (λ out. (n : ℕ) → IsNumbered n out.kind) }
+    ensures calls { (number : ℕ) → MakesPhase (sight (H.reading here.now) (H.ends here.now) time number) (K.contents keeper.old) table.old worker.old (K.failing keeper.old) (K.failing keeper.new) result }
+    ensures parts { K.parts keeper.new ≡ K.parts keeper.old }
+    ensures files { K.files keeper.new ≡ K.files keeper.old }
+{
+    let expression = text.clone()?;
+    let why = DropRefusal::Required { expression };
+    finish(
+        worker,
+        alloc,
+        here,
+        table,
+        keeper,
+        time,
+        Outcome::Refused(why),
+    )
+}
+
+/// It tries a share of its own repository, unless that isn't asked.
+fn try_own<K: Keeper, H: Here>(
+    worker: &mut Worker,
+    alloc: Global,
+    here: &H,
+    table: &mut LockTable,
+    keeper: &mut K,
+    input: &Input,
+    target: u32,
+) -> Result<Output, NoMemory>
+    requires stands { StandsRemote target (K.records keeper.old) table.old worker.old }
+    requires at { worker.old.phase ≡ Phase.Fresh }
+    requires spared { (H.reading here.now).requires ≡ None }
     requires fresh { All (λ h. h.number < input.now.number) table.old.holds }
     ensures did { DidRemote table.old table.new (store (K.contents keeper.old) (K.records keeper.old) (K.faults keeper.old)) (store (K.contents keeper.new) (K.records keeper.new) (K.faults keeper.new)) worker.old worker.new
         (GoesAlike (sight (H.reading here.now) (H.ends here.now) input.now.time input.now.number) (K.contents keeper.old) table.old table.new worker.old worker.new) result }
@@ -113,6 +174,7 @@ fn share_own<K: Keeper, H: Here>(
 ) -> Result<Output, NoMemory>
     requires stands { StandsRemote target (K.records keeper.old) table.old worker.old }
     requires at { worker.old.phase ≡ Phase.Fresh }
+    requires spared { (H.reading here.now).requires ≡ None }
     requires asked { (H.reading here.now).standing (H.reading here.now).repo ≡ Asked }
     requires fresh { All (λ h. h.number < input.now.number) table.old.holds }
     ensures did { DidRemote table.old table.new (store (K.contents keeper.old) (K.records keeper.old) (K.faults keeper.old)) (store (K.contents keeper.new) (K.records keeper.new) (K.faults keeper.new)) worker.old worker.new

@@ -8,6 +8,7 @@ use Rattle.run_data.specs.declared.job.Outcome.{Outcome}
 use Rattle.object_store.specs.Calls.{FailsAsTold}
 use Rattle.node_model.specs.Calls.{to_release}
 use Rattle.node_model.specs.Rows.{is_lost_ordered}
+use Rattle.node_model.specs.Look.{failed_in}
 use Rattle.content_lock.specs.Rows.{Rows}
 use Rattle.content_lock.specs.Tokens.{ShareView}
 use Rattle.drop_phases.specs.declared.phase.Token.TheVariants as tokens
@@ -15,7 +16,6 @@ use Rattle.drop_phases.specs.declared.turn.Output.{Output}
 use Rattle.drop_phases.specs.Calling.{Failing, MakesEnd, has_open}
 use Rattle.drop_phases.specs.Doing.{HasToken}
 use Rattle.drop_phases.specs.Worker.{Worker}
-use Rattle.drop_phases.specs.Working.{failed_in}
 use Rattle.drop_phases.proofs.Callings.{makes_as, makes_failed, makes_last, makes_none, no_release, shareless}
 use Rattle.remote_requests.proofs.RemoteEndings.{open_there}
 

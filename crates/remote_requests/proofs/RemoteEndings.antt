@@ -20,6 +20,7 @@ use Rattle.node_model.specs.JobStep.{Turn, by_me, ends, owns_share, quietly}
 use Rattle.node_model.specs.Knows.{Reading}
 use Rattle.node_model.specs.Rows.{is_lost_ordered, keep_of, same_owner}
 use Rattle.node_model.specs.Slots.{job_of}
+use Rattle.node_model.specs.Look.{as_told, failed_in}
 use Rattle.content_lock.specs.Rows.{AreAfter, Rows, bar_at}
 use Rattle.content_lock.specs.Stored.{Agrees, label_of}
 use Rattle.content_lock.specs.Tokens.{HasShare, Owns, ShareView, share_of, without_open}
@@ -29,7 +30,7 @@ use Rattle.drop_phases.specs.declared.phase.Token.TheVariants as tokens
 use Rattle.drop_phases.specs.declared.turn.Output.{Output}
 use Rattle.drop_phases.specs.Sends.{SendsView}
 use Rattle.drop_phases.specs.Worker.{Worker}
-use Rattle.drop_phases.specs.Working.{Rest, failed_in, frames_of, partings, phase_as, sight, turn_in, work_of}
+use Rattle.drop_phases.specs.Working.{Rest, frames_of, partings, phase_as, sight, turn_in, work_of}
 use Rattle.drop_phases.specs.Doing.{HasToken, OthersStay, next_work}
 use Rattle.drop_phases.specs.Leaving.{Store}
 use Rattle.drop_phases.specs.Feeding.{FitsRemote}
@@ -147,7 +148,7 @@ open_there (h ∷ hs) share by has mine itself = go ((h.number == share.number) 
     go false e is ih =
         ap (λ (b : Bool). (same_owner h.owner by && not h.kept) || b) (ih is) ∙ or_true (same_owner h.owner by && not h.kept)
 
-release_fails : (t : Turn) (taken : Option FrameView) (outcome : Outcome) → t.look.fails ≡ Some calls.Unhold → owns_share t ≡ true → is_lost_ordered outcome ≡ false → ends t taken outcome ≡ quietly (Fault calls.Unhold (by_me t)) taken
+release_fails : (t : Turn) (taken : Option FrameView) (outcome : Outcome) → t.look.fails ≡ Some calls.Unhold → owns_share t ≡ true → is_lost_ordered outcome ≡ false → as_told (ends t taken outcome) ≡ quietly (Fault calls.Unhold (by_me t)) taken
 release_fails t taken outcome fails owns plain = rw (fails, owns, plain) refl
 
 phase_after : (rest : Rest) (w : Worker) (time : ℕ) (ph : Phase) → w.phase ≡ ph → work_of rest (record w { phase = unreleased_phase time ph }) ≡ after_failed_release (work_of rest w) time (phase_as ph)
@@ -185,8 +186,8 @@ unreleased_did : (read : Reading) (ends_at : EndName → End) (time : ℕ) (rows
     → k'.contents ≡ k.contents → Agrees k'.records rows'.holds → k.faults ≤ k'.faults → Rose k.faults k'.faults → DidRemote rows rows' k k' w w' (EndsSo read ends_at time rows rows' w w' outcome) (Ok out)
 unreleased_did read ends_at time rows rows' k k' w v w' share outcome out is u plain own after bare others contents agrees later rose = (
   λ number p taken. record {
-    makes = λ rest. (λ i. record { kind = kind i; taken = taken; sent = frames_of ends_at w.slot (u.sends i); lines = [] })
-        ∙ (sym (made number p taken rest) ∙ ap (λ (e : EntryKind). ends (turn_in (sight read ends_at time number) rows p (failed_in e) rest w) taken outcome) (sym kind));
+    makes = λ rest. (λ i. record { kind = kind i; taken = taken; sent = frames_of ends_at w.slot (u.sends i); lines = []; calls = [] })
+        ∙ (sym (made number p taken rest) ∙ ap (λ (e : EntryKind). as_told (ends (turn_in (sight read ends_at time number) rows p (failed_in e) rest w) taken outcome)) (sym kind));
     next = λ going rest. ap (work_of rest) next ∙ (phase_after rest w time w.phase refl
         ∙ (ap (next_work (turn_in (sight read ends_at time number) rows p (Some calls.Unhold) rest w)) (sym (made number p taken rest))
         ∙ ap (λ (e : EntryKind). next_work (turn_in (sight read ends_at time number) rows p (failed_in e) rest w) (ends (turn_in (sight read ends_at time number) rows p (failed_in e) rest w) taken outcome)) (sym kind)));
@@ -207,7 +208,7 @@ unreleased_did read ends_at time rows rows' k k' w v w' share outcome out is u p
     row_after = subst (λ (by : By). AreAfter (Fault calls.Unhold by) rows rows') own.holds.owner (after (subst (λ (by : By). Owns by (Some share) rows.holds) (sym own.holds.owner) own.holds))
 
     made : (number : ℕ) (p : List ℕ → Bool) (taken : Option FrameView) (rest : Rest)
-        → ends (turn_in (sight read ends_at time number) rows p (Some calls.Unhold) rest w) taken outcome ≡ quietly (Fault calls.Unhold (by_job w.number)) taken
+        → as_told (ends (turn_in (sight read ends_at time number) rows p (Some calls.Unhold) rest w) taken outcome) ≡ quietly (Fault calls.Unhold (by_job w.number)) taken
     made number p taken rest =
         release_fails (turn_in (sight read ends_at time number) rows p (Some calls.Unhold) rest w) taken outcome refl (open_there rows.holds share (by_job w.number) own.holds.given own.holds.owner (eqb_refl w.number)) plain
 

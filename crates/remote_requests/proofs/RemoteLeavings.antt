@@ -5,11 +5,11 @@ use Rattle.annex_base.specs.Causes.{Rose}
 use Rattle.annex_base.specs.declared.kinds.Call.{Call}
 use Rattle.annex_base.specs.declared.memory.NoMemory.{NoMemory}
 use Rattle.run_data.specs.declared.entry.EntryKind.{EntryKind}
+use Rattle.node_model.specs.Look.{failed_in}
 use Rattle.content_lock.specs.Rows.{AreAfter, Rows}
 use Rattle.content_lock.specs.Stored.{Agrees}
 use Rattle.drop_phases.specs.declared.turn.Output.{Output}
 use Rattle.drop_phases.specs.Worker.{Worker}
-use Rattle.drop_phases.specs.Working.{failed_in}
 use Rattle.drop_phases.specs.Doing.{Grows, HasToken, OthersStay, contents_after}
 use Rattle.drop_phases.specs.Leaving.{Store}
 use Rattle.drop_phases.specs.Feeding.{FitsRemote, HasNoBar}

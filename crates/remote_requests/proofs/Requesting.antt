@@ -23,7 +23,7 @@ use Rattle.node_model.specs.Jobs.{Drops, job_end, to_phase}
 use Rattle.node_model.specs.JobStep.{Turn, end_with, quietly, says_to, talk}
 use Rattle.node_model.specs.DropStep.{asks_copy, asks_lock, asks_target, first_end, target as target_at}
 use Rattle.node_model.specs.Knows.{Reading}
-use Rattle.node_model.specs.Look.{Effect}
+use Rattle.node_model.specs.Look.{Effect, as_told, failed_in}
 use Rattle.node_model.specs.Requests.{asks, goes_to}
 use Rattle.node_model.specs.Slots.{job_of}
 use Rattle.object_store.specs.Stores.{Contents}
@@ -34,7 +34,7 @@ use Rattle.drop_phases.specs.declared.phase.Phase.TheVariants as phases
 use Rattle.drop_phases.specs.declared.phase.Token.{Token}
 use Rattle.drop_phases.specs.declared.turn.Output.{Output}
 use Rattle.drop_phases.specs.Worker.{Worker}
-use Rattle.drop_phases.specs.Working.{Rest, Sight, end_in, failed_in, frames_of, phase_as, sight, turn_in, work_of}
+use Rattle.drop_phases.specs.Working.{Rest, Sight, end_in, frames_of, phase_as, sight, turn_in, work_of}
 use Rattle.drop_phases.specs.Doing.{Acts, DoesAsAsked, contents_after, next_work}
 use Rattle.drop_phases.specs.Feeding.{FitsRemote, HasNoBar}
 use Rattle.remote_requests.specs.Remote.{IsRemote, AreRemoteProtocolLines, Request, Says, Speaks, first_request, known_remotely, said_parcels, target_request, time_request}
@@ -47,7 +47,7 @@ said_texts (Some m) = Line (text_of m) ∷ []
 
 -- what a step makes that says this
 abbrev pub request_made : Turn → Option FrameView → ℕ → Request → Effect
-request_made t taken peer q = record { kind = q.kind; taken = taken; sent = frames (job_end t.w peer) (end_with t peer) (said_texts q.says); lines = [] }
+request_made t taken peer q = record { kind = q.kind; taken = taken; sent = frames (job_end t.w peer) (end_with t peer) (said_texts q.says); lines = []; calls = [] }
 
 module _ (x : Sight) (rows : Rows) (p : List ℕ → Bool) (fails : Option Call) (rest : Rest) (w : Worker) (need : Need) (target : ℕ) (remote : IsRemote target w) (needs : need ≡ x.read.need) where
   abbrev turn : Turn
@@ -131,8 +131,8 @@ pub said_does_as : (x : Sight) (rows : Rows) (p : List ℕ → Bool) (w w' u : W
     → DoesAsAsked x rows rows p w w' taken asked out
 said_does_as x rows p w w' u taken asked q peer out kind sends is plain after whose asks moves =
     record {
-      makes = λ rest. (λ i. record { kind = kind i; taken = taken; sent = (ap (frames_of x.ends w.slot) sends ∙ parcels_said x.ends w.slot peer q.says) i; lines = [] })
-          ∙ (sym (asks rest) ∙ ap (λ (f : Option Call). asked (turn_in x rows p f rest w)) (sym faultless));
+      makes = λ rest. (λ i. record { kind = kind i; taken = taken; sent = (ap (frames_of x.ends w.slot) sends ∙ parcels_said x.ends w.slot peer q.says) i; lines = []; calls = [] })
+          ∙ ap as_told (sym (asks rest) ∙ ap (λ (f : Option Call). asked (turn_in x rows p f rest w)) (sym faultless));
       next = λ going rest. ap (work_of rest) is ∙ (moves rest ∙ (ap (next_work (turn_in x rows p None rest w)) (sym (asks rest))
           ∙ ap (λ (f : Option Call). next_work (turn_in x rows p f rest w) (asked (turn_in x rows p f rest w))) (sym faultless)));
       after = subst (λ (e : EntryKind). AreAfter e rows rows) (sym kind) after;

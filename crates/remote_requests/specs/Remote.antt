@@ -23,6 +23,7 @@ use Rattle.node_model.specs.Jobs.{drop_side}
 use Rattle.node_model.specs.JobStep.{ends}
 use Rattle.node_model.specs.Knows.{Reading}
 use Rattle.node_model.specs.Turns.{goes}
+use Rattle.node_model.specs.Look.{failed_in}
 use Rattle.content_lock.specs.Rows.{AreAfter, Rows}
 use Rattle.content_lock.specs.Stored.{Agrees}
 use Rattle.content_lock.specs.declared.refusals.ShareRefused.{ShareRefused}
@@ -37,7 +38,7 @@ use Rattle.drop_phases.specs.declared.turn.Parcel.{Parcel}
 use Rattle.drop_phases.specs.declared.turn.Taken.{Taken}
 use Rattle.drop_phases.specs.declared.turn.ParcelBody.TheVariants as bodies
 use Rattle.drop_phases.specs.Worker.{Worker}
-use Rattle.drop_phases.specs.Working.{Sight, end_in, failed_in, present_in, sight}
+use Rattle.drop_phases.specs.Working.{Sight, end_in, present_in, sight}
 use Rattle.drop_phases.specs.Alike.{DoesAlike}
 use Rattle.drop_phases.specs.Doing.{DoesAsAsked, Grows, HasToken, OthersStay, contents_after}
 use Rattle.drop_phases.specs.Feeding.{FeedsFrame, FitsRemote, HasNoBar, step_of}

@@ -3,6 +3,5 @@ pub mod BesideLemmas
 pub mod FullLemmas
 pub mod GainLemmas
 pub mod PlaceCallLemmas
-pub mod StepCalls
 pub mod TurnLemmas
 pub mod WalkLemmas

@@ -19,8 +19,7 @@ use Rattle.repo_node.specs.declared.turn.Turn.TheVariants as turns
 use Rattle.node_steps.specs.Nodes.{MatchesSetup, NodeView, state_of}
 use Rattle.node_steps.specs.Stepping.{AddsIf, MovesSo, NoStep, ReadySo}
 use Rattle.node_past.specs.Stored.{StoreView, TellsSame}
-use Rattle.node_steps.specs.TurnCalls.{step_calls}
-use Rattle.node_steps.specs.Turning.{Adds, Caller, Finds, HasStep, IsIdle, Looks, StepsBy}
+use Rattle.node_steps.specs.Turning.{Adds, Finds, HasStep, IsIdle, Looks, StepsBy}
 use Rattle.repo_node.specs.Turns.{turn_full, turn_made}
 
 -- ---- a turn
@@ -32,20 +31,19 @@ abbrev pub DropLaw : Type 0
 DropLaw = (links : List EndView) (s : SetUp) (k : Look) → SeesEnds links s k → SeesEnds (map after_drop links) s k
 
 looks_dropped : {K : Type 0} (n : NodeView K) (s : SetUp) (k : Look) → DropLaw → Looks n s k → Looks (dropped n) s k
-looks_dropped n s k law looks = record { ends = law n.parts.links s k looks.ends; time = looks.time; count = looks.count }
+looks_dropped n s k law looks = record { ends = law n.parts.links s k looks.ends; time = looks.time; count = looks.count; paths = looks.paths }
 
 finds_dropped : {K : Type 0} (known : Option StoredParts) (n : NodeView K) (kind : EntryKind) (taken : Option FrameView) (k : Look) → Finds known n kind taken k → Finds known (dropped n) kind taken k
 finds_dropped known n kind taken k finds = record { fails = finds.fails; part = finds.part; words = finds.words }
 
-turns_dropped : {K : Type 0} (caller : Caller) (before after : StoreView) (n m : NodeView K) → DropLaw → StepsBy step caller before after (dropped n) m → StepsBy step caller before after n m
-turns_dropped caller before after n m law by = record {
+turns_dropped : {K : Type 0} (before after : StoreView) (n m : NodeView K) → DropLaw → StepsBy step before after (dropped n) m → StepsBy step before after n m
+turns_dropped before after n m law by = record {
   kind = by.kind;
   taken = by.taken;
   part = record { part = by.part.part; right = by.part.right; asked = by.part.asked };
   makes = λ s k fits looks finds.
       let it = by.makes s k fits (looks_dropped n s k law looks) (finds_dropped before.parts n by.kind by.taken k finds) in
-      record { made = it.made; same = it.same; takes = it.takes; makes = it.makes; adds = it.adds };
-  calls = λ s k fits looks finds. by.calls s k fits (looks_dropped n s k law looks) (finds_dropped before.parts n by.kind by.taken k finds);
+      record { made = it.made; same = it.same; takes = it.takes; makes = it.makes; adds = it.adds; calls = it.calls };
 }
 
 -- by what the turn answers
@@ -84,11 +82,11 @@ pub tells_same : {K : Type 0} (cs : K → Option Contents) (ps : K → Option St
 tells_same cs ps rs fs ns k k' same = record { contents = ap cs same; parts = ap ps same; records = ap rs same; files = ap fs same; failing = ap ns same }
 
 pub turn_steps : {K : Type 0} (view : K → StoreView) (r : Result Bool NoMemory) (n n' m : NodeView K) (c : Contents) (told : Option Contents) → DropLaw → n' ≡ dropped n → turn_made r ≡ turns.Moved → told ≡ Some c
-    → IfOk r (λ b. ForSome told (λ c. MovesSo b step step_calls (view n'.keeper) (view m.keeper) n' m)) → StepsBy step step_calls (view n.keeper) (view m.keeper) n m
+    → IfOk r (λ b. ForSome told (λ c. MovesSo b step (view n'.keeper) (view m.keeper) n' m)) → StepsBy step (view n.keeper) (view m.keeper) n m
 turn_steps {K} view r n n' m c told law same is known moves =
-    turns_dropped step_calls (view n.keeper) (view m.keeper) n m law
-    (subst (λ (x : NodeView K). StepsBy step step_calls (view x.keeper) (view m.keeper) x m) same
-    (where_moved (λ b. ForSome told (λ c. MovesSo b step step_calls (view n'.keeper) (view m.keeper) n' m)) r is moves c known))
+    turns_dropped (view n.keeper) (view m.keeper) n m law
+    (subst (λ (x : NodeView K). StepsBy step (view x.keeper) (view m.keeper) x m) same
+    (where_moved (λ b. ForSome told (λ c. MovesSo b step (view n'.keeper) (view m.keeper) n' m)) r is moves c known))
 
 -- what is added to the node without those frames is added to the node
 adds_dropped : {K : Type 0} (before after : StoreView) (n m : NodeView K) → Adds (map after_drop n.parts.links) before after (dropped n) m → Adds (map after_drop n.parts.links) before after n m
@@ -120,9 +118,9 @@ turn_adds {K} view r n n' m same is adds =
     (where_moved (λ b. AddsIf b n'.parts.links (view n'.keeper) (view m.keeper) n' m) r is adds))
 
 pub turn_idle : {K : Type 0} (r : Result Bool NoMemory) (before after : StoreView) (n n' m : NodeView K) (c : Contents) (told : Option Contents) → DropLaw → n' ≡ dropped n → turn_made r ≡ turns.Idle → told ≡ Some c
-    → IfOk r (λ b. ForSome told (λ c. MovesSo b step step_calls before after n' m)) → (s : SetUp) → MatchesSetup n.setup s → IsIdle n s
+    → IfOk r (λ b. ForSome told (λ c. MovesSo b step before after n' m)) → (s : SetUp) → MatchesSetup n.setup s → IsIdle n s
 turn_idle {K} r before after n n' m c told law same is known moves s fits k looks =
-    (subst (λ (x : NodeView K). NoStep step x) same (where_idle (λ b. ForSome told (λ c. MovesSo b step step_calls before after n' m)) r is moves c known)) s k fits (looks_dropped n s k law looks)
+    (subst (λ (x : NodeView K). NoStep step x) same (where_idle (λ b. ForSome told (λ c. MovesSo b step before after n' m)) r is moves c known)) s k fits (looks_dropped n s k law looks)
 
 none_is : (o : Option Effect) → is_some o ≡ false → o ≡ None
 none_is None is = refl

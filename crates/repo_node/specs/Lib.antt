@@ -8,5 +8,4 @@ pub use Rattle.node_ledger.specs.Logs
 pub use Rattle.node_ledger.specs.Walks
 pub use Rattle.node_ledger.specs.Debts
 pub use Rattle.node_steps.specs.Nodes
-pub use Rattle.node_steps.specs.TurnCalls
 pub use Rattle.node_steps.specs.Turning

@@ -12,7 +12,7 @@ ghost use Rattle.node_past.specs.Pasts.{IsReady, SamePast};
 ghost use Rattle.run_data.specs.Histories.{most_entries};
 
 use crate::node::Node;
-use annex_base::Items;
+use annex_base::{Items, Text};
 use node_jobs::BeginRefused as JobRefused;
 use node_parts::{Parts, tables_fill_as_states};
 use node_past::Past;
@@ -30,13 +30,18 @@ pub enum BeginRefused {
     NoMemory,
 }
 
-/// Begins the job, and gives its number.
-fn begin_parts(parts: &mut Parts, past: &mut Past, job: &Job) -> Result<u32, BeginRefused>
+/// Begins the job, of a key with these paths, and gives its number.
+fn begin_parts(
+    parts: &mut Parts,
+    past: &mut Past,
+    job: &Job,
+    paths: Items<Text>,
+) -> Result<u32, BeginRefused>
     requires kind { job.now.kind ≡ JobKind.Drop }
     requires peer { job.now.peer ≡ None }
     requires few { parts.old.jobs.begun < 2 ^ 32 - 1 }
     ensures number { IfOk result (λ n. n ≡ parts.old.jobs.begun + 1) }
-    ensures jobs { OnOk result (parts.new ≡ record parts.old { jobs = with_job parts.old.jobs job.now }) }
+    ensures jobs { OnOk result (parts.new ≡ record parts.old { jobs = with_job parts.old.jobs job.now paths }) }
     ensures parts { OnOk result ((s : SetUp) (st : State) (e : Entry) → AreParts s st parts.old → e.kind ≡ Begin (parts.old.jobs.begun + 1) job.now → e.taken ≡ None → e.sent ≡ [] → AreParts s (state_after s st e) parts.new) }
     ensures slot { IsErrOf result BeginRefused.NoSlot → 4 ≤ length parts.old.jobs.running }
     ensures full { IsErrOf result BeginRefused.Full → vec_len past.old.history ≡ most_entries }
@@ -57,7 +62,7 @@ fn begin_parts(parts: &mut Parts, past: &mut Past, job: &Job) -> Result<u32, Beg
     let Ok(copy) = job.clone() else {
         return Err(BeginRefused::NoMemory);
     };
-    match parts.begin(past.alloc, copy) {
+    match parts.begin(past.alloc, copy, paths) {
         Ok(number) => Ok(number),
         Err(JobRefused::NoSlot) => unreachable!(),
         Err(JobRefused::NoMemory) => Err(BeginRefused::NoMemory),
@@ -65,13 +70,13 @@ fn begin_parts(parts: &mut Parts, past: &mut Past, job: &Job) -> Result<u32, Beg
 }
 
 impl<K: Keeper> Node<K> {
-    /// Begins a drop of the repository's own copy, by one entry, and gives the job's number: one more than were begun. After a
-    /// refusal all is as before.
-    pub fn begin(&mut self, job: Job) -> Result<u32, BeginRefused>
+    /// Begins a drop of the repository's own copy, of a key that has these paths in the tree, by one entry, and gives the job's
+    /// number: one more than were begun. After a refusal all is as before.
+    pub fn begin(&mut self, job: Job, paths: Items<Text>) -> Result<u32, BeginRefused>
         requires kind { job.kind ≡ JobKind.Drop }
         requires peer { job.peer ≡ None }
         ensures number { IfOk result (λ n. n ≡ self.old.parts.jobs.begun + 1) }
-        ensures ok { IfOk result (λ n. self.new ≡ record (with_entry self.old self.old.keeper self.old.branch (Begin n job) []) { parts = record self.old.parts { jobs = with_job self.old.parts.jobs job } }) }
+        ensures ok { IfOk result (λ n. self.new ≡ record (with_entry self.old self.old.keeper self.old.branch (Begin n job) []) { parts = record self.old.parts { jobs = with_job self.old.parts.jobs job paths } }) }
         ensures slot { IsErrOf result BeginRefused.NoSlot → 4 ≤ length self.old.parts.jobs.running }
         ensures free { (result ≡ Err BeginRefused.NoSlot → ⊥) → length self.old.parts.jobs.running < 4 }
         ensures full { IsErrOf result BeginRefused.Full → length self.old.history ≡ most_entries }
@@ -80,7 +85,7 @@ impl<K: Keeper> Node<K> {
         // For the proof: a law, and what the parts have of the table.
         tables_fill_as_states();
         let ledger = &mut self.ledger;
-        let number = begin_parts(&mut self.parts, &mut ledger.past, &job)?;
+        let number = begin_parts(&mut self.parts, &mut ledger.past, &job, paths)?;
         // For the proof: what its parts have is sound.
         let _ = self.parts.table();
         let lines = Items::new(ledger.past.alloc);

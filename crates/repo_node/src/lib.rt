@@ -4,7 +4,6 @@
 mod beginning;
 mod carrying;
 mod compacting;
-mod laws;
 mod logs;
 mod merging;
 mod node;
@@ -13,7 +12,6 @@ mod turn;
 
 pub use beginning::BeginRefused;
 pub use carrying::carry_nodes;
-pub use laws::steps_tell_the_failed_call;
 pub use node::Node;
 pub use node_past::{Ended, NodeRefused, Setup};
 pub use turn::Turn;

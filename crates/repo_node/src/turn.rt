@@ -10,7 +10,6 @@ ghost use Rattle.object_store.specs.Stores.{AreSmallParts};
 ghost use Rattle.node_steps.specs.Nodes.{MatchesSetup, told_of};
 ghost use Rattle.run_data.specs.Histories.{most_entries};
 ghost use Rattle.node_past.specs.Stored.{TellsSame, store_view};
-ghost use Rattle.node_steps.specs.TurnCalls.{step_calls};
 ghost use Rattle.repo_node.specs.Turns.{turn_full, turn_made};
 ghost use Rattle.node_steps.specs.Turning.{Adds, HasStep, IsIdle, StepsBy};
 ghost use Rattle.node_steps.specs.Stepping.{AddsIf, MovesSo, ReadySo};
@@ -83,7 +82,7 @@ impl<K: Keeper> Node<K> {
     fn step(&mut self) -> Result<bool, NoMemory>
         requires { length self.old.history < most_entries }
         ensures adds { IfOk result (λ b. AddsIf b self.old.parts.links (store_view (K.contents self.old.keeper) (K.parts self.old.keeper) (K.failing self.old.keeper) (K.faults self.old.keeper)) (store_view (K.contents self.new.keeper) (K.parts self.new.keeper) (K.failing self.new.keeper) (K.faults self.new.keeper)) self.old self.new) }
-        ensures step { IfOk result (λ b. ForSome (told_of (K.contents self.old.keeper) (K.parts self.old.keeper)) (λ c. MovesSo b step step_calls (store_view (K.contents self.old.keeper) (K.parts self.old.keeper) (K.failing self.old.keeper) (K.faults self.old.keeper)) (store_view (K.contents self.new.keeper) (K.parts self.new.keeper) (K.failing self.new.keeper) (K.faults self.new.keeper)) self.old self.new)) }
+        ensures step { IfOk result (λ b. ForSome (told_of (K.contents self.old.keeper) (K.parts self.old.keeper)) (λ c. MovesSo b step (store_view (K.contents self.old.keeper) (K.parts self.old.keeper) (K.failing self.old.keeper) (K.faults self.old.keeper)) (store_view (K.contents self.new.keeper) (K.parts self.new.keeper) (K.failing self.new.keeper) (K.faults self.new.keeper)) self.old self.new)) }
         ensures told_parts { is_some (K.parts self.new.keeper) ≡ is_some (K.parts self.old.keeper) }
         ensures small { AreSmallParts (K.parts self.old.keeper) → AreSmallParts (K.parts self.new.keeper) }
         ensures told_contents { is_some (K.parts self.old.keeper) ≡ true → is_some (K.contents self.new.keeper) ≡ is_some (K.contents self.old.keeper) }
@@ -102,7 +101,7 @@ impl<K: Keeper> Node<K> {
         // Its entry is the step that the definitions have, and that step's calls are those that it made of its store, at every look
         // that finds what belongs to it, where the store tells its contents and its parts.
         ensures moved { result ≡ Turn.Moved → Adds (map after_drop self.old.parts.links) (store_view (K.contents self.old.keeper) (K.parts self.old.keeper) (K.failing self.old.keeper) (K.faults self.old.keeper)) (store_view (K.contents self.new.keeper) (K.parts self.new.keeper) (K.failing self.new.keeper) (K.faults self.new.keeper)) self.old self.new }
-        ensures step { result ≡ Turn.Moved → ForSome (told_of (K.contents self.old.keeper) (K.parts self.old.keeper)) (λ c. StepsBy step step_calls (store_view (K.contents self.old.keeper) (K.parts self.old.keeper) (K.failing self.old.keeper) (K.faults self.old.keeper)) (store_view (K.contents self.new.keeper) (K.parts self.new.keeper) (K.failing self.new.keeper) (K.faults self.new.keeper)) self.old self.new) }
+        ensures step { result ≡ Turn.Moved → ForSome (told_of (K.contents self.old.keeper) (K.parts self.old.keeper)) (λ c. StepsBy step (store_view (K.contents self.old.keeper) (K.parts self.old.keeper) (K.failing self.old.keeper) (K.faults self.old.keeper)) (store_view (K.contents self.new.keeper) (K.parts self.new.keeper) (K.failing self.new.keeper) (K.faults self.new.keeper)) self.old self.new) }
         ensures idle { result ≡ Turn.Idle → ForSome (told_of (K.contents self.old.keeper) (K.parts self.old.keeper)) (λ c. (s : SetUp) → MatchesSetup self.old.setup s → IsIdle self.old s) }
         ensures full { result ≡ Turn.Full → length self.old.history ≡ most_entries }
         ensures ready { result ≡ Turn.Full → ForSome (told_of (K.contents self.old.keeper) (K.parts self.old.keeper)) (λ c. (s : SetUp) → MatchesSetup self.old.setup s → HasStep self.old s) }

@@ -12,6 +12,8 @@ use Rattle.report_tables.specs.Rows.{HasRows}
 use Rattle.report_tables.specs.declared.walk.Walk.{Walk}
 use Rattle.script_commands.specs.declared.command.Command.{Command}
 use Rattle.script_commands.specs.declared.command.Command.TheVariants as commands
+use Rattle.script_commands.specs.declared.command.Showing.{Showing}
+use Rattle.script_commands.specs.declared.command.Showing.TheVariants as showings
 
 -- the walk knows the contents, the branches and the rows after these entries, the newest first
 pub record Knows (walk : Walk) (repos : List RepoView) (past : List Entry) : Type 0 where
@@ -51,46 +53,21 @@ pub record IsWellFormed (e : Entry) : Type 0 where
 abbrev pub IsAhead : RepoView → Type 0
 IsAhead repo = repo.offset ≤ 100000000000
 
--- a line that shows something of a repository names one of so many
+-- what is shown of a repository is of one of so many
+abbrev pub IsOfKnown : ℕ → Showing → Type 0
+IsOfKnown n (showings.Presence k) = Unit {0}
+IsOfKnown n (showings.Claims r k) = r < n
+IsOfKnown n (showings.Location r k) = r < n
+IsOfKnown n (showings.Log r file) = r < n
+IsOfKnown n (showings.Logs r) = r < n
+IsOfKnown n (showings.Numbers r path) = r < n
+IsOfKnown n (showings.Level r target) = (r < n) × (target < n)
+IsOfKnown n (showings.Wants r target path) = Unit {0}
+IsOfKnown n (showings.Row r k) = r < n
+IsOfKnown n (showings.Plan r) = Unit {0}
+IsOfKnown n showings.Totals = Unit {0}
+IsOfKnown n showings.Journal = Unit {0}
+
 abbrev pub ShowsKnown : ℕ → Command → Type 0
-ShowsKnown n (commands.ShowClaims r k) = r < n
-ShowsKnown n (commands.ShowLocation r k) = r < n
-ShowsKnown n (commands.ShowLog r file) = r < n
-ShowsKnown n (commands.ShowLogs r) = r < n
-ShowsKnown n (commands.ShowNumbers r path) = r < n
-ShowsKnown n (commands.ShowLevel r target) = (r < n) × (target < n)
-ShowsKnown n (commands.ShowRow r k) = r < n
-ShowsKnown n (commands.Run r job) = Unit {0}
-ShowsKnown n (commands.Begin r job) = Unit {0}
-ShowsKnown n (commands.Repo name id offset version locks) = Unit {0}
-ShowsKnown n (commands.Numcopies r number) = Unit {0}
-ShowsKnown n (commands.Mincopies r number) = Unit {0}
-ShowsKnown n (commands.NumcopiesFor r number glob) = Unit {0}
-ShowsKnown n (commands.MincopiesFor r number glob) = Unit {0}
-ShowsKnown n (commands.Trust r target level) = Unit {0}
-ShowsKnown n (commands.Describe r target text) = Unit {0}
-ShowsKnown n (commands.Wanted r target text) = Unit {0}
-ShowsKnown n (commands.Required r target text) = Unit {0}
-ShowsKnown n (commands.Group r target groups) = Unit {0}
-ShowsKnown n (commands.GroupWanted r group text) = Unit {0}
-ShowsKnown n (commands.Log r file line) = Unit {0}
-ShowsKnown n (commands.Have r key content) = Unit {0}
-ShowsKnown n (commands.Part r key content) = Unit {0}
-ShowsKnown n (commands.Damage r key content) = Unit {0}
-ShowsKnown n (commands.Add r path key content) = Unit {0}
-ShowsKnown n (commands.File path key) = Unit {0}
-ShowsKnown n (commands.Turn r turns) = Unit {0}
-ShowsKnown n commands.Settle = Unit {0}
-ShowsKnown n (commands.Merge r other) = Unit {0}
-ShowsKnown n (commands.Compact r) = Unit {0}
-ShowsKnown n (commands.Sync r) = Unit {0}
-ShowsKnown n (commands.Close r other) = Unit {0}
-ShowsKnown n (commands.Crash r clock) = Unit {0}
-ShowsKnown n (commands.Wait milliseconds) = Unit {0}
-ShowsKnown n (commands.Fail r call) = Unit {0}
-ShowsKnown n (commands.Par lines) = Unit {0}
-ShowsKnown n (commands.ShowPresence k) = Unit {0}
-ShowsKnown n (commands.ShowWants r target path) = Unit {0}
-ShowsKnown n (commands.ShowPlan r) = Unit {0}
-ShowsKnown n commands.ShowTotals = Unit {0}
-ShowsKnown n commands.ShowJournal = Unit {0}
+ShowsKnown n (commands.Shows what) = IsOfKnown n what
+ShowsKnown n command = Unit {0}

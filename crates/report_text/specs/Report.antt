@@ -14,14 +14,16 @@ use Rattle.report_tables.specs.Before.{branch_at, possessors, row_at}
 use Rattle.shown_text.specs.Lines.{outcome_lines, slot_text}
 use Rattle.shown_text.specs.Row.{row_text}
 use Rattle.shown_text.specs.Shown.{claims_text, location_text, log_text, named_text, numbers_for, trust_text}
-use Rattle.script_commands.specs.Changes.{Change, Declares, Puts, Brings, Adds, Names, Waits, Nothing, change_of}
+use Rattle.script_forms.specs.Changes.{Change, Declares, Puts, Brings, Adds, Names, Waits, Nothing, change_of}
 use Rattle.script_commands.specs.declared.command.NamedKey.{NamedKey}
 use Rattle.script_commands.specs.declared.command.Command.{Command}
 use Rattle.script_commands.specs.declared.command.Command.TheVariants as commands
+use Rattle.script_commands.specs.declared.command.Showing.{Showing}
+use Rattle.script_commands.specs.declared.command.Showing.TheVariants as showings
 
 -- A line ends with a newline. Lists are joined by commas, names after `presence` and `claims` by spaces; an empty list
 -- is a dash. These have no text yet: the line of a sync, which is also to hold back the lines of its jobs that are
--- done; those of jobs that a crash ends; and what is shown of numbers of a path, of wants, plans and totals.
+-- done; those of jobs that a crash ends; and what is shown of wants, plans and totals.
 
 -- what its lines set
 abbrev pub settings_at : Run → ℕ → ℕ → Settings
@@ -30,54 +32,30 @@ settings_at run place r = settings (lines_at (branch_at run place r))
 abbrev pub presence_text : Run → ℕ → NamedKey → List ℕ
 presence_text run place k = codes "presence " ++ named_text k ++ codes " " ++ joined_text 32 (name_of run.repos) (possessors run place k.key) ++ codes "\n"
 
--- what a line shows at a place, after lines that made so many changes of the tree
-abbrev pub show_text : Run → ℕ → ℕ → Command → List ℕ
-show_text run place changes (commands.ShowPresence k) = presence_text run place k
-show_text run place changes (commands.ShowClaims r k) = claims_text run r k ((settings_at run place r).claims k.key)
-show_text run place changes (commands.ShowLocation r k) = location_text run r k (lines_at (branch_at run place r) (location_path k.key))
-show_text run place changes (commands.ShowLog r file) = log_text run r (file_path file) (lines_at (branch_at run place r) (file_path file))
-show_text run place changes (commands.ShowLogs r) = flat_map (λ f. log_text run r f.0 f.1) (branch_at run place r)
-show_text run place changes (commands.ShowNumbers r path) = numbers_for run r path (settings_at run place r)
-show_text run place changes (commands.ShowLevel r target) = trust_text run r target (settings_at run place r)
-show_text run place changes (commands.ShowRow r k) = row_text run r k (row_at run place r k.key)
-show_text run place changes commands.ShowJournal = journal_of run.repos (take changes run.tree) (take place run.entries)
-show_text run place changes (commands.Repo name id offset version locks) = []
-show_text run place changes (commands.Numcopies r number) = []
-show_text run place changes (commands.Mincopies r number) = []
-show_text run place changes (commands.NumcopiesFor r number glob) = []
-show_text run place changes (commands.MincopiesFor r number glob) = []
-show_text run place changes (commands.Trust r target level) = []
-show_text run place changes (commands.Describe r target text) = []
-show_text run place changes (commands.Wanted r target text) = []
-show_text run place changes (commands.Required r target text) = []
-show_text run place changes (commands.Group r target groups) = []
-show_text run place changes (commands.GroupWanted r group text) = []
-show_text run place changes (commands.Log r file line) = []
-show_text run place changes (commands.Have r key content) = []
-show_text run place changes (commands.Part r key content) = []
-show_text run place changes (commands.Damage r key content) = []
-show_text run place changes (commands.Add r path key content) = []
-show_text run place changes (commands.File path key) = []
-show_text run place changes (commands.Run r job) = []
-show_text run place changes (commands.Begin r job) = []
-show_text run place changes (commands.Turn r turns) = []
-show_text run place changes commands.Settle = []
-show_text run place changes (commands.Merge r other) = []
-show_text run place changes (commands.Compact r) = []
-show_text run place changes (commands.Sync r) = []
-show_text run place changes (commands.Close r other) = []
-show_text run place changes (commands.Crash r clock) = []
-show_text run place changes (commands.Wait milliseconds) = []
-show_text run place changes (commands.Fail r call) = []
-show_text run place changes (commands.Par lines) = []
-show_text run place changes (commands.ShowWants r target path) = []
-show_text run place changes (commands.ShowPlan r) = []
-show_text run place changes commands.ShowTotals = []
+-- what is shown at a place, after lines that made so many changes of the tree
+abbrev pub show_text : Run → ℕ → ℕ → Showing → List ℕ
+show_text run place changes (showings.Presence k) = presence_text run place k
+show_text run place changes (showings.Claims r k) = claims_text run r k ((settings_at run place r).claims k.key)
+show_text run place changes (showings.Location r k) = location_text run r k (lines_at (branch_at run place r) (location_path k.key))
+show_text run place changes (showings.Log r file) = log_text run r (file_path file) (lines_at (branch_at run place r) (file_path file))
+show_text run place changes (showings.Logs r) = flat_map (λ f. log_text run r f.0 f.1) (branch_at run place r)
+show_text run place changes (showings.Numbers r path) = numbers_for run r path (settings_at run place r)
+show_text run place changes (showings.Level r target) = trust_text run r target (settings_at run place r)
+show_text run place changes (showings.Wants r target path) = []
+show_text run place changes (showings.Row r k) = row_text run r k (row_at run place r k.key)
+show_text run place changes (showings.Plan r) = []
+show_text run place changes showings.Totals = []
+show_text run place changes showings.Journal = journal_of run.repos (take changes run.tree) (take place run.entries)
+
+-- what a line shows
+abbrev pub shown_by : Run → ℕ → ℕ → Command → List ℕ
+shown_by run place changes (commands.Shows what) = show_text run place changes what
+shown_by run place changes command = []
 
 -- what a line of the script prints: that no slot was free, what ended and what failed while it was done, and what it
 -- shows then
 abbrev pub line_text : Run → ℕ → ℕ → ℕ → Command → List ℕ
-line_text run from upto changes c = slot_text run from upto c ++ outcome_lines run from upto ++ show_text run upto changes c
+line_text run from upto changes c = slot_text run from upto c ++ outcome_lines run from upto ++ shown_by run upto changes c
 
 -- how many changes of the tree it makes: one where a path gets a key
 abbrev pub tree_changes : Change → ℕ

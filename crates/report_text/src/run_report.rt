@@ -4,7 +4,7 @@ ghost use Rattle.std.specs.Prelude.{◌≡◌, ◌++◌, ◌<◌, ◌^◌, IfOk,
 ghost use Rattle.annex_base.specs.Lists.{Each};
 ghost use Rattle.report_text.specs.Report.{changes_of, line_text, report, tree_changes};
 ghost use Rattle.report_tables.specs.Walk.{IsAhead, IsWellFormed, ShowsKnown, StandsIn};
-ghost use Rattle.script_commands.specs.Changes.{as_change};
+ghost use Rattle.script_forms.specs.Changes.{as_change};
 
 use crate::shown::put_shown;
 use annex_base::NoMemory;

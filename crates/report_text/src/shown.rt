@@ -3,8 +3,8 @@ ghost use Rattle.std.specs.Prelude.{◌≡◌, ◌++◌, ◌<◌, ◌^◌, ℕ, 
 ghost use Rattle.annex_base.specs.Lists.{Each};
 ghost use Rattle.journal_text.specs.Journal.{journal_of};
 ghost use Rattle.report_tables.specs.Before.{row_at};
-ghost use Rattle.report_tables.specs.Walk.{IsAhead, IsWellFormed, KnowsRow, ShowsKnown, StandsAt, StandsIn};
-ghost use Rattle.report_text.specs.Report.{presence_text, show_text};
+ghost use Rattle.report_tables.specs.Walk.{IsAhead, IsOfKnown, IsWellFormed, KnowsRow, ShowsKnown, StandsAt, StandsIn};
+ghost use Rattle.report_text.specs.Report.{presence_text, show_text, shown_by};
 ghost use Rattle.shown_text.specs.Row.{row_text};
 
 use annex_base::NoMemory;
@@ -12,7 +12,7 @@ use journal_text::put_journal;
 use report_tables::Walk;
 use run_data::Run;
 use run_text::{put_key, put_names};
-use script_lang::{Command, NamedKey};
+use script_lang::{Command, NamedKey, Showing};
 use shown_text::{
     put_claims, put_file, put_files, put_level, put_location, put_numbers_for, put_row,
 };
@@ -32,76 +32,72 @@ pub(crate) fn put_shown(
     requires ahead { Each IsAhead run.now.repos }
     requires few { length run.now.repos < 2 ^ 32 }
     requires known { ShowsKnown (length run.now.repos) command.now }
-    ensures text { OnOk result (out.new.items ≡ out.old.items ++ show_text run.now place changes command.now) }
+    ensures text { OnOk result (out.new.items ≡ out.old.items ++ shown_by run.now place changes command.now) }
+    ensures walk { OnOk result (StandsIn walk.new run.now) }
+{
+    match command {
+        Command::Shows { what } => put_showing(out, walk, run, place, changes, what)?,
+        Command::Repo { .. }
+        | Command::Does { .. }
+        | Command::Damage { .. }
+        | Command::Par { .. } => {}
+    }
+    Ok(())
+}
+
+/// Adds what is shown at a place of the run, after lines that made so many changes of the tree.
+fn put_showing(
+    out: &mut Vec<u8>,
+    walk: &mut Walk,
+    run: &Run,
+    place: usize,
+    changes: usize,
+    what: &Showing,
+) -> Result<(), NoMemory>
+    requires stands { StandsIn walk.old run.now }
+    requires formed { Each IsWellFormed run.now.entries }
+    requires ahead { Each IsAhead run.now.repos }
+    requires few { length run.now.repos < 2 ^ 32 }
+    requires known { IsOfKnown (length run.now.repos) what.now }
+    ensures text { OnOk result (out.new.items ≡ out.old.items ++ show_text run.now place changes what.now) }
     ensures walk { OnOk result (StandsIn walk.new run.now) }
 {
     let alloc = *out.allocator();
-    match command {
-        Command::ShowPresence { key } => {
+    match what {
+        Showing::Presence { key } => {
             walk.move_to(alloc, run, place)?;
             put_presence(out, run, walk, key)?;
         }
-        Command::ShowClaims { repo, key } => {
+        Showing::Claims { repo, key } => {
             walk.move_to(alloc, run, place)?;
             put_claims(out, run, *repo, walk.branch(*repo), key)?;
         }
-        Command::ShowLocation { repo, key } => {
+        Showing::Location { repo, key } => {
             walk.move_to(alloc, run, place)?;
             put_location(out, run, *repo, walk.branch(*repo), key)?;
         }
-        Command::ShowLog { repo, file } => {
+        Showing::Log { repo, file } => {
             walk.move_to(alloc, run, place)?;
             put_file(out, run, *repo, walk.branch(*repo), file)?;
         }
-        Command::ShowLogs { repo } => {
+        Showing::Logs { repo } => {
             walk.move_to(alloc, run, place)?;
             put_files(out, run, *repo, walk.branch(*repo))?;
         }
-        Command::ShowNumbers { repo, path } => {
+        Showing::Numbers { repo, path } => {
             walk.move_to(alloc, run, place)?;
             put_numbers_for(out, run, *repo, path, walk.branch(*repo))?;
         }
-        Command::ShowLevel { repo, target } => {
+        Showing::Level { repo, target } => {
             walk.move_to(alloc, run, place)?;
             put_level(out, run, *repo, *target, walk.branch(*repo))?;
         }
-        Command::ShowRow { repo, key } => {
+        Showing::Row { repo, key } => {
             walk.move_to(alloc, run, place)?;
             put_row_at(out, run, walk, *repo, key)?;
         }
-        Command::ShowJournal => put_journal_at(out, run, place, changes)?,
-        Command::Repo { .. }
-        | Command::Numcopies { .. }
-        | Command::Mincopies { .. }
-        | Command::NumcopiesFor { .. }
-        | Command::MincopiesFor { .. }
-        | Command::Trust { .. }
-        | Command::Describe { .. }
-        | Command::Wanted { .. }
-        | Command::Required { .. }
-        | Command::Group { .. }
-        | Command::GroupWanted { .. }
-        | Command::Log { .. }
-        | Command::Have { .. }
-        | Command::Part { .. }
-        | Command::Damage { .. }
-        | Command::Add { .. }
-        | Command::File { .. }
-        | Command::Run { .. }
-        | Command::Begin { .. }
-        | Command::Turn { .. }
-        | Command::Settle
-        | Command::Merge { .. }
-        | Command::Compact { .. }
-        | Command::Sync { .. }
-        | Command::Close { .. }
-        | Command::Crash { .. }
-        | Command::Wait { .. }
-        | Command::Fail { .. }
-        | Command::Par { .. }
-        | Command::ShowWants { .. }
-        | Command::ShowPlan { .. }
-        | Command::ShowTotals => {}
+        Showing::Journal => put_journal_at(out, run, place, changes)?,
+        Showing::Wants { .. } | Showing::Plan { .. } | Showing::Totals => {}
     }
     Ok(())
 }

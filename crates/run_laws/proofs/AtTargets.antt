@@ -5,7 +5,6 @@ use Rattle.std.proofs.lemmas.Bool.{and_from, or_left, or_right}
 use Rattle.annex_base.specs.Lists.{Member}
 use Rattle.annex_base.specs.Settings.{Settings}
 use Rattle.step_facts.proofs.Below.{SentAreRead}
-use Rattle.drop_proof.specs.declared.rule.Need.{Need}
 use Rattle.drop_proof.specs.declared.rule.Side.TheVariants.{Remote}
 use Rattle.drop_proof.specs.Judging.{is_enough}
 use Rattle.run_data.specs.declared.entry.Entry.{Entry}
@@ -21,7 +20,7 @@ use Rattle.node_model.specs.State.{State}
 use Rattle.run_model.specs.States.{state_of, rows_at, works}
 use Rattle.node_model.specs.Jobs
 use Rattle.node_model.specs.Jobs.{Drops, Fresh, Gets, Heard, Part, Phase, Puts, Work, running_job, side_of, target_of, work_kind}
-use Rattle.node_model.specs.Knows.{is_unasked, offer_by, standing_of}
+use Rattle.node_model.specs.Knows.{is_unasked, offer_by, standing_of, need_by}
 use Rattle.step_facts.proofs.Knowing.{knows_enough}
 use Rattle.run_model.specs.Run.{OwnPast}
 use Rattle.step_facts.proofs.JobKept.{kind_kept}
@@ -37,22 +36,22 @@ use Rattle.run_laws.proofs.MovesBegun.{moves_begun}
 -- ---- what a judgement reads
 
 -- the offers and the evidence, of what was read and heard
-abbrev pub enough_of : SetUp → (ℕ → ℕ) → Settings → Job → List (ℕ × Heard) → Bool
-enough_of s clock read what heard =
+abbrev pub enough_of : SetUp → (ℕ → ℕ) → Settings → List (List ℕ) → Job → List (ℕ × Heard) → Bool
+enough_of s clock read paths what heard =
     let side = Jobs.drop_side what.kind what.peer in
-    let need : Need = record { n = read.numcopies; m = read.mincopies } in
+    let need = need_by read paths in
     is_enough side need
     (gather side need (λ c. offer_by clock (standing_by read what.key (id_of s.repos c)) (told_of heard c))
     (reached_candidates (λ c. is_unasked (standing_by read what.key (id_of s.repos c)) (told_of heard c)) (candidates side (length s.repos) s.number (Jobs.or_own s.number side what.peer))) [])
 
-enough_is : (s : SetUp) (st : State) (w : Work) → knows_enough s st w ≡ enough_of s st.clock (st.read w.number) w.what w.heard
+enough_is : (s : SetUp) (st : State) (w : Work) → knows_enough s st w ≡ enough_of s st.clock (st.read w.number) (s.paths w.number) w.what w.heard
 unfolding standing_of
 enough_is s st w = refl
 
 -- the clock, what was read and what was heard decide what a job knows
-pub enough_same : (s : SetUp) (st other : State) (w v : Work) → st.clock ≡ other.clock → st.read w.number ≡ other.read v.number → w.what ≡ v.what → w.heard ≡ v.heard → knows_enough s st w ≡ knows_enough s other v
-enough_same s st other w v clock read what heard =
-    enough_is s st w ∙ (λ i. enough_of s (clock i) (read i) (what i) (heard i)) ∙ sym (enough_is s other v)
+pub enough_same : (s : SetUp) (st other : State) (w v : Work) → st.clock ≡ other.clock → st.read w.number ≡ other.read v.number → w.number ≡ v.number → w.what ≡ v.what → w.heard ≡ v.heard → knows_enough s st w ≡ knows_enough s other v
+enough_same s st other w v clock read number what heard =
+    enough_is s st w ∙ (λ i. enough_of s (clock i) (read i) (s.paths (number i)) (what i) (heard i)) ∙ sym (enough_is s other v)
 
 -- ---- a drop at its target
 
@@ -73,7 +72,7 @@ target_fresh : (n : ℕ) (phase : Phase) → at_target n phase ≡ true → is_f
 target_fresh n Fresh at = absurd (cc)
 target_fresh n phase at = refl
 
-was_drop : (part : Part) (old : Phase) (to : Part) (phase : Phase) → GoodTo part old to phase → to ≡ Drops → is_fresh phase ≡ false → part ≡ Drops
+pub was_drop : (part : Part) (old : Phase) (to : Part) (phase : Phase) → GoodTo part old to phase → to ≡ Drops → is_fresh phase ≡ false → part ≡ Drops
 was_drop Drops old to phase g is later = refl
 was_drop Gets old Drops phase g is later = absurd (let fresh : is_fresh Fresh ≡ false = subst (λ p. is_fresh p ≡ false) g later in cc)
 was_drop Puts old Drops phase g is later = absurd (let fresh : is_fresh Fresh ≡ false = subst (λ p. is_fresh p ≡ false) g later in cc)
@@ -88,7 +87,7 @@ kept_at s past e w same x = (
   λ part later. read_kept past e s.number w.number (x.1 part later),
   λ part side apart at.
       let read = x.1 part (target_fresh (target_of s.number w) w.phase at) in
-      enough_same s (state_of s (e ∷ past)) (state_of s past) w w (ap (λ c. runs_on c) same) (stays_read past e s.number w.number read) refl refl ∙ x.2 part side apart at,
+      enough_same s (state_of s (e ∷ past)) (state_of s past) w w (ap (λ c. runs_on c) same) (stays_read past e s.number w.number read) refl refl refl ∙ x.2 part side apart at,
 )
 
 module _ (reads_back : SentAreRead) (s : SetUp) where
@@ -134,7 +133,7 @@ module _ (reads_back : SentAreRead) (s : SetUp) where
             let same_read = (step_read p e s.number v.number is b.step ((was v runs).0 v_part)).1 in
             let read : settings_of (read_at (e ∷ p) s.number x.number) s.number ≡ settings_of (read_at p s.number v.number) s.number =
             ap (λ n. settings_of (read_at (e ∷ p) s.number n) s.number) number ∙ ap (λ q. settings_of q s.number) same_read in
-            enough_same s (state_of s (e ∷ p)) (state_of s p) x v (ap (λ c. runs_on c) (clock_kept s.repos p s.number e (stepped_stands s p e b.by))) read what heard ∙ knew,
+            enough_same s (state_of s (e ∷ p)) (state_of s p) x v (ap (λ c. runs_on c) (clock_kept s.repos p s.number e (stepped_stands s p e b.by))) read number what heard ∙ knew,
       )
     where
       knew_by : AtTarget s p b.by.w → b.by.w.part ≡ Drops → side_of b.by.w ≡ Remote → target_of s.number b.by.w ≢ s.number

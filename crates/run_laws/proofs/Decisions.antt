@@ -1,12 +1,15 @@
 -- What a bar and an order of a repository's own part of a run stand on.
-use Rattle.std.proofs.Common.{◌≡◌, ◌≢◌, ℕ, ◌+◌, ◌≤◌, true, false, List, [], ◌∷◌, Option, Some, None, ◌⊎◌, inl, inr, refl, sym, ap, ◌∙◌, subst, arith}
+use Rattle.std.proofs.Common.{◌≡◌, ◌≢◌, ℕ, ◌+◌, ◌≤◌, Bool, true, false, List, [], ◌∷◌, Option, Some, None, ◌⊎◌, inl, inr, refl, sym, ap, ◌∙◌, subst, arith}
 use Rattle.std.specs.Prelude.{◌==◌}
 use Rattle.annex_base.specs.Lists.{Member}
 use Rattle.annex_base.specs.declared.kinds.Word.{Word}
 use Rattle.annex_base.proofs.Conditions.{eqb_refl, eqb_more}
 use Rattle.step_facts.proofs.Below.{SentAreRead}
 use Rattle.drop_proof.specs.declared.rule.Need.{Need}
-use Rattle.drop_proof.specs.declared.rule.Side.TheVariants.{Remote}
+use Rattle.drop_proof.specs.declared.rule.Side.{Side}
+use Rattle.drop_proof.specs.declared.rule.Side.TheVariants.{Local, Remote}
+use Rattle.run_data.specs.Repos.{id_of}
+use Rattle.wanted_expr.specs.Wanted.{required}
 use Rattle.run_data.specs.declared.entry.Entry.{Entry}
 use Rattle.run_data.specs.declared.entry.EntryKind.{EntryKind}
 use Rattle.run_data.specs.declared.entry.EntryKind.TheVariants.{Begin, Bar, Order}
@@ -15,11 +18,11 @@ use Rattle.run_data.specs.declared.job.Job.{Job}
 use Rattle.run_model.specs.Past.{begun_count, begun_job, begun_job_after, decision, is_of}
 use Rattle.p2p_wire.specs.Messages.{order_of, text_of}
 use Rattle.run_model.specs.Drops.{is_done, key_in}
-use Rattle.run_model.specs.Logs.{in_drop, is_step, need_read}
+use Rattle.run_model.specs.Logs.{in_drop, is_step, need_read, read_at, settings_of}
 use Rattle.node_model.specs.SetUp.{SetUp}
 use Rattle.run_model.specs.States.{state_of, end_at, rows_at, works}
 use Rattle.node_model.specs.Ends.{frames}
-use Rattle.node_model.specs.Jobs.{Drops, Work, job_end, running_job, side_of, target_of}
+use Rattle.node_model.specs.Jobs.{Drops, Work, job_end, or_own, running_job, side_of, target_of}
 use Rattle.step_facts.proofs.Knowing.{knows_enough}
 use Rattle.run_model.specs.Run.{OwnPart, OwnPast, OwnRun}
 use Rattle.node_model.specs.Found.{HasDeadline, IsJobEntry}
@@ -27,12 +30,14 @@ use Rattle.node_model.specs.Slots.{RunningJob}
 use Rattle.step_facts.proofs.JobKept.{kind_kept}
 use Rattle.step_facts.proofs.JobNumbers.{begins_next}
 use Rattle.step_facts.proofs.WorkNumbers.{number_begun}
-use Rattle.job_facts.proofs.TalkFacts.{TalkKind, slot_talks}
+use Rattle.node_model.specs.JobStep.{Turn}
+use Rattle.run_laws.proofs.NotRequired.{target_spared}
+use Rattle.job_facts.proofs.TalkFacts.{OrderStands, TalkKind, slot_talks}
 use Rattle.job_facts.proofs.PhaseFacts.{is_fresh}
 use Rattle.step_facts.proofs.JobSteps.{Origin, Stepped, invariant, made_by, stepped_found, stepped_runs, turn_at}
 use Rattle.job_facts.proofs.WorkFits.{works_fit}
 use Rattle.job_facts.proofs.Untouched.{has_asked, runs_open}
-use Rattle.job_facts.proofs.Starts.{starts_unasked}
+use Rattle.job_facts.proofs.Starts.{fresh_no_order, starts_unasked}
 use Rattle.job_facts.proofs.Targets.{order_stands}
 use Rattle.job_facts.proofs.Aims.{aims, other_target}
 use Rattle.run_laws.proofs.AtTargets.{at_targets}
@@ -97,7 +102,12 @@ pub record BarStands (s : SetUp) (past : List Entry) (j : ℕ) (need : Need) (ke
   pub nothing_asked : has_asked past s.number j ≡ false
   pub dropping : in_drop past s.number j ≡ true
   pub key_is : key ≡ key_in (begun_job past s.number j)
-  pub need_is : need ≡ need_read past s.number j
+  pub need_is : need ≡ need_read (s.paths j) past s.number j
+  pub spared : required (settings_of (read_at past s.number j) s.number) (id_of s.repos s.number) key (s.paths j) ≡ None
+
+own_target : (r : ℕ) (side : Side) (peer : Option ℕ) → side ≡ Local → r ≡ or_own r side peer
+own_target r Local peer is = refl
+own_target r Remote peer is = absurd (cc)
 
 pub bar_stands : SentAreRead → (s : SetUp) (past : List Entry) (words : ℕ → Option Word) (e : Entry) → OwnPast s past → OwnPart s past words e → (j : ℕ) (need : Need) (key : List ℕ) → e.kind ≡ Bar j need key
     → BarStands s past j need key
@@ -115,6 +125,7 @@ bar_stands reads_back s past words e h own j need key is =
       dropping = (at_targets reads_back s past h w runs).0 f.part_is;
       key_is = f.key_is ∙ ap key_in (sym (runs_begun s past run w runs));
       need_is = f.need_is;
+      spared = (λ i. required (settings_of (read_at past s.number w.number) s.number) (id_of s.repos (own_target s.number (side_of w) w.what.peer f.side i)) (f.key_is i) (s.paths w.number)) ∙ f.spared;
     })
 
 -- ---- orders
@@ -131,8 +142,9 @@ pub record OrderStandsOn (s : SetUp) (past : List Entry) (e : Entry) (j peer : �
   pub enough : knows_enough s (state_of s past) by.w ≡ true
   pub dropping : in_drop past s.number j ≡ true
   pub key_is : key ≡ key_in (begun_job past s.number j)
-  pub need_is : need ≡ need_read past s.number j
-  pub timed : HasDeadline (turn_at s past e by) by.made deadline
+  pub need_is : need ≡ need_read (s.paths j) past s.number j
+  pub spared : required (settings_of (read_at past s.number j) s.number) (id_of s.repos peer) key (s.paths j) ≡ None
+  pub timed : HasDeadline (turn_at s past e by) by.made.taken deadline
   pub sent_is : by.made.sent ≡ frames (job_end by.w peer) (end_at past s.number (job_end by.w peer)) (Line (text_of (order_of deadline key)) ∷ [])
 
 pub order_stands_on : SentAreRead → (s : SetUp) (past : List Entry) (words : ℕ → Option Word) (e : Entry) → OwnPast s past → OwnPart s past words e
@@ -156,11 +168,17 @@ order_stands_on reads_back s past words e h own j peer deadline need key is =
       enough = enough_by x (order_stands (turn_at s past e x) f.side apart (talk_of s past e x run (Order j peer deadline need key) is)) (λ here. at.2 f.part_is f.side apart here);
       dropping = subst (λ n. in_drop past s.number n ≡ true) (sym f.number_is) (at.0 f.part_is);
       key_is = f.key_is ∙ ap key_in (sym (subst (λ n. begun_job past s.number n ≡ Some w.what) (sym f.number_is) (runs_begun s past run w runs)));
-      need_is = f.need_is ∙ ap (need_read past s.number) (sym f.number_is);
+      need_is = f.need_is ∙ ap (λ n. need_read (s.paths n) past s.number n) (sym f.number_is);
+      spared = (λ i. required (settings_of (read_at past s.number (f.number_is i)) s.number) (id_of s.repos (f.target_is i)) (f.key_is i) (s.paths (f.number_is i)))
+          ∙ target_spared reads_back s past h w runs f.part_is f.side (stands_later (turn_at s past e x) (talk_of s past e x run (Order j peer deadline need key) is) (is_fresh w.phase) refl);
       timed = f.timed;
       sent_is = f.sent_is;
     }
   where
+    stands_later : (t : Turn) → OrderStands t → (f : Bool) → is_fresh t.w.phase ≡ f → is_fresh t.w.phase ≡ false
+    stands_later t stands true fresh = absurd (fresh_no_order t fresh stands)
+    stands_later t stands false fresh = fresh
+
     enough_by : {A : Type 0} (x : Stepped s past e) → A ⊎ (knows_enough s (state_of s past) x.w ≡ true) → (A → knows_enough s (state_of s past) x.w ≡ true) → knows_enough s (state_of s past) x.w ≡ true
     enough_by x (inl a) f = f a
     enough_by x (inr k) f = k

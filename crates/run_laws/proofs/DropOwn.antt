@@ -127,14 +127,14 @@ target_local r Remote peer e = absurd (cc)
 
 -- the evidence by its entries, of the side and the target that it has
 evidence_is : (s : SetUp) (past : List Entry) (w : Work) → Agrees s past w → knows_enough s (state_of s past) w ≡ true → (side : Side) (target : ℕ) (need : Need)
-    → side_of w ≡ side → target_of s.number w ≡ target → need_of (state_of s past) w ≡ need → known_evidence side s.repos past s.number w.number target need ≡ known s (state_of s past) w
+    → side_of w ≡ side → target_of s.number w ≡ target → need_of s (state_of s past) w ≡ need → known_evidence side s.repos past s.number w.number target need ≡ known s (state_of s past) w
 evidence_is s past w x enough side target need a b c =
     subst (λ d. known_evidence d s.repos past s.number w.number target need ≡ known s (state_of s past) w) a
     (subst (λ n. known_evidence (side_of w) s.repos past s.number w.number n need ≡ known s (state_of s past) w) b
     (subst (λ n. known_evidence (side_of w) s.repos past s.number w.number (target_of s.number w) n ≡ known s (state_of s past) w) c (known_agrees s past w x enough)))
 
 evidence_enough : (s : SetUp) (past : List Entry) (w : Work) → Agrees s past w → knows_enough s (state_of s past) w ≡ true → (side : Side) (target : ℕ) (need : Need)
-    → side_of w ≡ side → target_of s.number w ≡ target → need_of (state_of s past) w ≡ need → is_enough side need (known_evidence side s.repos past s.number w.number target need) ≡ true
+    → side_of w ≡ side → target_of s.number w ≡ target → need_of s (state_of s past) w ≡ need → is_enough side need (known_evidence side s.repos past s.number w.number target need) ≡ true
 evidence_enough s past w x enough side target need a b c =
     ap (is_enough side need) (evidence_is s past w x enough side target need a b c)
     ∙ subst (λ d. is_enough d need (known s (state_of s past) w) ≡ true) a (subst (λ n. is_enough (side_of w) n (known s (state_of s past) w) ≡ true) c enough)
@@ -146,7 +146,7 @@ removes_step reads_back s past words e h b is part j key kind =
     let w = x.w in
     let agrees = list_agrees reads_back s past h w x.runs in
     let target : target_of s.number w ≡ s.number = target_local s.number (side_of w) w.what.peer x.local in
-    let need : (d : Decision) → decision past s.number w.number ≡ Some d → need_of (state_of s past) w ≡ d.need = λ d k. sym (decided_read reads_back s past h w x.runs d k) in
+    let need : (d : Decision) → decision past s.number w.number ≡ Some d → need_of s (state_of s past) w ≡ d.need = λ d k. sym (decided_read reads_back s past h w x.runs d k) in
     subst (λ n. MayRemove s.repos s.number past e n key) (sym x.number_is) (record {
       one_clock = one_clock s past h.run w x.runs;
       barred = subst (λ n. Rattle.run_model.specs.Past.bar past s.number key ≡ Some n) x.number_is (removal_barred s past words e h.run part j key kind);
@@ -179,7 +179,7 @@ orders_step reads_back s past words e h b is part j target deadline need key kin
     let x = order_stands_on reads_back s past words e h part j target deadline need key kind in
     let w = x.by.w in
     let agrees = list_agrees reads_back s past h w x.runs in
-    let need' : need_of (state_of s past) w ≡ need = sym (x.need_is ∙ ap (λ n. Rattle.run_model.specs.Logs.need_read past s.number n) x.number_is) in
+    let need' : need_of s (state_of s past) w ≡ need = sym (x.need_is ∙ ap (λ n. Rattle.run_model.specs.Logs.need_read (s.paths n) past s.number n) x.number_is) in
     let key' : w.what.key ≡ key = sym (x.key_is ∙ ap (λ n. Rattle.run_model.specs.Drops.key_in (Rattle.run_model.specs.Past.begun_job past s.number n)) x.number_is ∙ ap Rattle.run_model.specs.Drops.key_in (runs_begun s past h.run w x.runs)) in
     let same = evidence_is s past w agrees x.enough Remote target need x.side (sym x.target_is) need' in
     record {
@@ -190,7 +190,6 @@ orders_step reads_back s past words e h b is part j target deadline need key kin
           (evidence_enough s past w agrees x.enough Remote target need x.side (sym x.target_is) need');
       dropping = x.dropping;
       key_is = x.key_is;
-      need_is = x.need_is;
       timed = λ first ends. has_deadline s past e x.by x.side target x.target_is key deadline x.timed x.sent_is first
           (sym (ap least_end (ap (λ n. known_evidence Remote s.repos past s.number n target need) x.number_is ∙ same)) ∙ ends);
     }
@@ -205,7 +204,7 @@ orders_step reads_back s past words e h b is part j target deadline need key kin
     only (inr m) = absurd m
 
     has_deadline : (s : SetUp) (past : List Entry) (e : Entry) (by : Stepped s past e) → side_of by.w ≡ Remote → (target : ℕ) → target ≡ target_of s.number by.w → (key : List ℕ) (deadline : Option ℕ)
-        → Found.HasDeadline (turn_at s past e by) by.made deadline → by.made.sent ≡ frames (job_end by.w target) (end_at past s.number (job_end by.w target)) (Line (text_of (order_of deadline key)) ∷ []) → (first : ℕ) → first_end (turn_at s past e by) ≡ Some first → HasDeadline s.repos s.number past e target deadline first
+        → Found.HasDeadline (turn_at s past e by) by.made.taken deadline → by.made.sent ≡ frames (job_end by.w target) (end_at past s.number (job_end by.w target)) (Line (text_of (order_of deadline key)) ∷ []) → (first : ℕ) → first_end (turn_at s past e by) ≡ Some first → HasDeadline s.repos s.number past e target deadline first
     has_deadline s past e by side target aims key None timed says first ends = absurd (let bad : None ≡ Some first = sym timed ∙ ends in cc)
     has_deadline s past e by side target aims key (Some deadline) timed says first ends =
         let f = timed.0 in

@@ -11,11 +11,13 @@ use Rattle.run_data.specs.declared.entry.EntryKind.{EntryKind}
 use Rattle.run_data.specs.declared.entry.EntryKind.TheVariants.{Gone}
 use Rattle.run_data.specs.declared.run.Run.{Run}
 use Rattle.run_data.specs.Repos.{IsSetUp}
-use Rattle.run_model.specs.Past.{now}
+use Rattle.run_model.specs.Past.{Always, now}
 use Rattle.node_model.specs.Rows.{option_is}
 use Rattle.run_model.specs.Safety.{IsSafe}
 use Rattle.step_facts.proofs.BySteps.{ByStep}
-use Rattle.run_model.specs.Run.{IsRun, RunPast, RunStep, TimeIs, set_up}
+use Rattle.run_laws.proofs.Decisions.{bar_stands, order_stands_on}
+use Rattle.past_facts.proofs.ReadOnce.{StatesRead}
+use Rattle.run_model.specs.Run.{job_paths, IsRun, RunPast, RunStep, TimeIs, set_up}
 use Rattle.past_facts.specs.Lawful.{IsLawful}
 use Rattle.past_facts.proofs.Own.{IsMessageRun, Meets, MessagePast, Own}
 use Rattle.past_facts.proofs.MessageRuns.{message_lawful, message_safe}
@@ -73,6 +75,19 @@ module _ (reads_back : SentAreRead) (run : Run) (repos : Each IsSetUp run.repos)
   pub message_past : (past : List Entry) → RunPast (set_up run) past → MessagePast run.repos past
   message_past [] h = tt
   message_past (e ∷ past) h = (meets past e h.1 h.0, message_past past h.1)
+
+  -- what the bars and the orders of a run state
+  states : (past : List Entry) (e : Entry) → RunPast (set_up run) past → RunStep (set_up run) past e → StatesRead run.repos (job_paths run) past e
+  states past e h x = record {
+    bars = λ r j need key is kind. let p = part_of (set_up run) past e r x is in
+        let b = bar_stands reads_back (set_up run r) past p.words e (own_past run repos r past h) p.own j need key kind in (b.need_is, b.spared);
+    orders = λ r j target deadline need key is kind. let p = part_of (set_up run) past e r x is in
+        let o = order_stands_on reads_back (set_up run r) past p.words e (own_past run repos r past h) p.own j target deadline need key kind in (o.need_is, o.spared);
+  }
+
+  pub stated_past : (past : List Entry) → RunPast (set_up run) past → Always (StatesRead run.repos (job_paths run)) past
+  stated_past [] h = tt
+  stated_past (e ∷ past) h = (states past e h.1 h.0, stated_past past h.1)
 
 -- a run by steps is a run with messages
 pub runs_are_messages : SentAreRead → (run : Run) → IsRun run → IsMessageRun run

@@ -95,11 +95,11 @@ reached_more f g weaker (c ∷ cs) = go (reached_more f g weaker cs) (f c) refl 
 
 -- **the evidence known**: a drop whose list agrees with its entries, and that knows enough, knows just the evidence of its entries
 pub known_agrees : (s : SetUp) (past : List Entry) (w : Work) → Agrees s past w → knows_enough s (state_of s past) w ≡ true
-    → known_evidence (side_of w) s.repos past s.number w.number (target_of s.number w) (need_of (state_of s past) w) ≡ known s (state_of s past) w
+    → known_evidence (side_of w) s.repos past s.number w.number (target_of s.number w) (need_of s (state_of s past) w) ≡ known s (state_of s past) w
 known_agrees s past w x enough =
     let st = state_of s past in
     let side = side_of w in
-    let need = need_of st w in
+    let need = need_of s st w in
     let cs = candidates_of s w in
     let more = reached_more (is_to_ask s st w) (still_waits s.repos past s.number w.number) x.waits_too cs in
     gather_same side need (Heard.knows s.repos past s.number w.number) (Knowing.knows s st w) (knows_same s past w x) (reached_candidates (still_waits s.repos past s.number w.number) cs) []

@@ -15,6 +15,7 @@ pub mod ClientAwaits
 pub mod MovesBegun
 pub mod States
 pub mod AtTargets
+pub mod NotRequired
 pub mod Decisions
 pub mod ReadKeys
 pub mod OrdersSent
@@ -38,3 +39,5 @@ pub mod AnswersFit
 pub mod Unheard
 pub mod WordsAsked
 pub mod Others
+pub mod GuardsOpen
+pub mod SoundStates

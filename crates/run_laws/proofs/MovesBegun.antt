@@ -23,7 +23,7 @@ use Rattle.p2p_wire.specs.declared.message.Message.TheVariants.{AlreadyHave, Suc
 use Rattle.node_model.specs.Sessions.{line_in}
 use Rattle.node_model.specs.SetUp.{SetUp}
 use Rattle.node_model.specs.Jobs
-use Rattle.node_model.specs.Jobs.{Drops, Phase, PutsAnswer, PutsOffer, Work, claims, learns, talks_on, after_frame, work_kind, partner}
+use Rattle.node_model.specs.Jobs.{Drops, Phase, PutsAnswer, PutsOffer, Work, claims, learns, talks_on, work_kind, partner}
 use Rattle.run_model.specs.States.{rows_at, works}
 use Rattle.node_model.specs.Found.{IsJobEntry}
 use Rattle.run_model.specs.Run.{OwnPast}

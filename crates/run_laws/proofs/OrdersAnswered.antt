@@ -314,7 +314,7 @@ module _ (reads_back : SentAreRead) (s : SetUp) (past : List Entry) (e : Entry) 
   -- ---- it orders
 
   module _ (g : FrameView) (now : NowOrders e r x.number g) (o : OrderEntry e) where
-    gives : GivesOrder t o.j o.peer o.deadline o.need o.key m
+    gives : GivesOrder t o.j o.peer o.deadline o.need o.key m.taken m.sent
     gives = subst (IsJobEntry t m) o.kind_is (step_kind s past e x b)
 
     abbrev body : FrameText

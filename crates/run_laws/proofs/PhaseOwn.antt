@@ -62,7 +62,6 @@ bar_put_step reads_back s past words e h b is part j need key kind =
       nothing_asked = stands.nothing_asked;
       dropping = stands.dropping;
       key_is = stands.key_is;
-      need_is = stands.need_is;
     }
 
 -- the field `ends`

@@ -19,7 +19,7 @@ use Rattle.run_model.specs.Drops.{key_in}
 use Rattle.node_model.specs.SetUp.{SetUp}
 use Rattle.run_model.specs.States.{state_of, rows_at, works}
 use Rattle.node_model.specs.Jobs.{Work, running_job}
-use Rattle.node_model.specs.Knows.{need_of}
+use Rattle.node_model.specs.Knows.{need_by, need_of}
 use Rattle.run_model.specs.Run.{OwnPast, OwnRun}
 use Rattle.node_model.specs.Found.{IsJobEntry}
 use Rattle.step_facts.proofs.JobKept.{kind_kept}
@@ -89,14 +89,14 @@ key_read s past run w m = ap key_in (go (before_step past s.number w.number) ref
 -- ---- what it decided
 
 -- the decision's need is what was read, once and for all
-abbrev Decides : ℕ → List Entry → ℕ → Type 0
-Decides r past j = (d : Decision) → decision past r j ≡ Some d → ((b : List Entry) × (before_step past r j ≡ Some b)) × (d.need ≡ need_read past r j)
+abbrev Decides : SetUp → List Entry → ℕ → Type 0
+Decides s past j = (d : Decision) → decision past s.number j ≡ Some d → ((b : List Entry) × (before_step past s.number j ≡ Some b)) × (d.need ≡ need_read (s.paths j) past s.number j)
 
-need_stays : (past : List Entry) (e : Entry) (r j : ℕ) → (b : List Entry) × (before_step past r j ≡ Some b) → need_read (e ∷ past) r j ≡ need_read past r j
-need_stays past e r j x = ap (λ (z : Settings). let need : Need = record { n = z.numcopies; m = z.mincopies } in need) (stays_read past e r j x)
+need_stays : (paths : List (List ℕ)) (past : List Entry) (e : Entry) (r j : ℕ) → (b : List Entry) × (before_step past r j ≡ Some b) → need_read paths (e ∷ past) r j ≡ need_read paths past r j
+need_stays paths past e r j x = ap (λ (z : Settings). need_by z paths) (stays_read past e r j x)
 
-decides_kept : (past : List Entry) (e : Entry) (r j : ℕ) → decision (e ∷ past) r j ≡ decision past r j → Decides r past j → Decides r (e ∷ past) j
-decides_kept past e r j same was d h = let x = was d (sym same ∙ h) in (read_kept past e r j x.0, x.1 ∙ sym (need_stays past e r j x.0))
+decides_kept : (s : SetUp) (past : List Entry) (e : Entry) (j : ℕ) → decision (e ∷ past) s.number j ≡ decision past s.number j → Decides s past j → Decides s (e ∷ past) j
+decides_kept s past e j same was d h = let x = was d (sym same ∙ h) in (read_kept past e s.number j x.0, x.1 ∙ sym (need_stays (s.paths j) past e s.number j x.0))
 
 still_bar : (place j : ℕ) (was : Option Decision) (kind : EntryKind) → is_step j kind ≡ false → decided_after place j was kind ≡ was
 still_bar place j was (Bar job need key) still = rw still refl
@@ -111,11 +111,11 @@ own_decided past e r j is same = rw is (same (length past) (decision past r j))
 
 -- **a running job's decision states the need that it read**
 pub decided_read : SentAreRead → (s : SetUp) (past : List Entry) → OwnPast s past → (w : Work) → Member w (works past s.number) → (d : Decision) → decision past s.number w.number ≡ Some d
-    → d.need ≡ need_of (state_of s past) w
+    → d.need ≡ need_of s (state_of s past) w
 decided_read reads_back s past h w m d k = let x = all d k in x.1
   where
     -- a bar is put by the first step of the drop, and states what is read then
-    bars : (p : List Entry) (e : Entry) → OwnPast s p → is_of s.number e ≡ true → (x : Work) (b : Steps s p e x) → (job : ℕ) (need : Need) (key : List ℕ) → e.kind ≡ Bar job need key → Decides s.number (e ∷ p) b.by.w.number
+    bars : (p : List Entry) (e : Entry) → OwnPast s p → is_of s.number e ≡ true → (x : Work) (b : Steps s p e x) → (job : ℕ) (need : Need) (key : List ℕ) → e.kind ≡ Bar job need key → Decides s (e ∷ p) b.by.w.number
     bars p e h is x b job need key kind c k =
         let v = b.by.w in
         let f = subst (IsJobEntry (turn_at s p e b.by) b.by.made) kind (step_kind s p e x b) in
@@ -124,19 +124,19 @@ decided_read reads_back s past h w m d k = let x = all d k in x.1
         let puts : decision (e ∷ p) s.number v.number ≡ Some made = rw is (ap (decided_after (length p) v.number (decision p s.number v.number)) kind
         ∙ subst (λ n. decided_after (length p) v.number (decision p s.number v.number) (Bar n need key) ≡ Some made) (sym f.number_is) (rw (eqb_refl v.number) refl)) in
         let same : c ≡ made = same_Some c made (sym k ∙ puts) in
-        (read.0, ap (λ (z : Decision). z.need) same ∙ (f.need_is ∙ ap (λ q. let z : Settings = settings_of q s.number in let n : Need = record { n = z.numcopies; m = z.mincopies } in n) (sym read.1)))
+        (read.0, ap (λ (z : Decision). z.need) same ∙ (f.need_is ∙ ap (λ q. need_by (settings_of q s.number) (s.paths v.number)) (sym read.1)))
 
-    own : (p : List Entry) (e : Entry) → OwnPast s (e ∷ p) → is_of s.number e ≡ true → ((x : Work) → Member x (works p s.number) → Decides s.number p x.number) → (x : Work) → Origin s p e x → Decides s.number (e ∷ p) x.number
-    own p e h is was x (inl b) = decides_kept p e s.number x.number (own_decided p e s.number x.number is (λ place o. still_bar place x.number o e.kind (begin_still s p e x b)))
+    own : (p : List Entry) (e : Entry) → OwnPast s (e ∷ p) → is_of s.number e ≡ true → ((x : Work) → Member x (works p s.number) → Decides s p x.number) → (x : Work) → Origin s p e x → Decides s (e ∷ p) x.number
+    own p e h is was x (inl b) = decides_kept s p e x.number (own_decided p e s.number x.number is (λ place o. still_bar place x.number o e.kind (begin_still s p e x b)))
         (λ c k. let none = (future s p h.run.1 x.number (begins_later s p e h.run is x b)).nothing.undecided in absurd (let bad : None ≡ Some c = sym none ∙ k in cc))
-    own p e h is was x (inr (inl b)) = decides_kept p e s.number x.number (own_decided p e s.number x.number is (λ place o. still_bar place x.number o e.kind b.still)) (was x b.ran)
+    own p e h is was x (inr (inl b)) = decides_kept s p e x.number (own_decided p e s.number x.number is (λ place o. still_bar place x.number o e.kind b.still)) (was x b.ran)
     own p e h is was x (inr (inr b)) =
         let v = b.by.w in
-        subst (Decides s.number (e ∷ p)) (sym (step_number s p e x b)) (elim (bar_or e.kind) [
-          | inr other ↦ decides_kept p e s.number v.number (own_decided p e s.number v.number is (λ place o. other place v.number o)) (was v (step_runs s p e x b))
+        subst (Decides s (e ∷ p)) (sym (step_number s p e x b)) (elim (bar_or e.kind) [
+          | inr other ↦ decides_kept s p e v.number (own_decided p e s.number v.number is (λ place o. other place v.number o)) (was v (step_runs s p e x b))
           | inl k ↦ bars p e (earlier s p e h) is x b k.0 k.1 k.2 k.3
         ])
 
-    all : Decides s.number past w.number
-    all = invariant s (λ p x. OwnPast s p → Decides s.number p x.number) (λ p e is x n was k. decides_kept p e s.number x.number (rw is refl) (was (earlier s p e k)))
+    all : Decides s past w.number
+    all = invariant s (λ p x. OwnPast s p → Decides s p x.number) (λ p e is x n was k. decides_kept s p e x.number (rw is refl) (was (earlier s p e k)))
         (λ p e run is was x o k. own p e k is (λ y n. was y n (earlier s p e k)) x o) past h.run w m h

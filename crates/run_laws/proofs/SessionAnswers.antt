@@ -72,8 +72,8 @@ odd h asked = inl (inr refl)
 fits : (asked : Message) (kind : EntryKind) (m : Message) → tells m ≡ true → AnswerFits asked kind m → Replied asked (reply kind m)
 fits asked kind m t a = inr (inr (m, refl, t, a))
 
-tries_replied : (h : Here) (asked : Message) (cs : List Call) (says : List FrameText) (good : Reply) → ((call : Call) → Replied asked (record { kind = Fault call (by_of h); says = says })) → Replied asked good → Replied asked (tries h cs says good)
-tries_replied h asked cs says good f g = unless_found (Replied asked) (failing_call h.fails cs) (λ call. record { kind = Fault call (by_of h); says = says }) good f g
+tries_replied : (h : Here) (asked : Message) (cs : List Call) (says : List FrameText) (good : Reply) → ((call : Call) → Replied asked (record { kind = Fault call (by_of h); says = says; calls = [] })) → Replied asked good → Replied asked (tries h cs says good)
+tries_replied h asked cs says good f g = unless_found (Replied asked) (failing_call h.fails cs) (λ call. record { kind = Fault call (by_of h); says = says; calls = [] }) good f g
 
 -- ---- a session that waits
 

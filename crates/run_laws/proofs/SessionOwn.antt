@@ -233,14 +233,14 @@ yes_in_turn s past words e g run read own m u y = go (server_does s past words e
 
 -- ---- whom a session speaks to
 
-of_flat : {X Y : Type 0} (f : X → List Y) (xs : List X) (y : Y) → Member y (flat_map f xs) → (x : X) × Member x xs × Member y (f x)
+pub of_flat : {X Y : Type 0} (f : X → List Y) (xs : List X) (y : Y) → Member y (flat_map f xs) → (x : X) × Member x xs × Member y (f x)
 of_flat f [] y m = absurd m
 of_flat f (x ∷ xs) y m = elim (Member-append_cases (f x) (flat_map f xs) y m) [
   | inl i ↦ (x, inl refl, i)
   | inr i ↦ (let z = of_flat f xs y i in (z.0, inr z.1, z.2))
 ]
 
-of_slots : (peer : ℕ) (xs : List ℕ) (p q : ℕ) → Member {X = ℕ × ℕ} (p, q) (map (λ slot. (peer, slot)) xs) → p ≡ peer
+pub of_slots : (peer : ℕ) (xs : List ℕ) (p q : ℕ) → Member {X = ℕ × ℕ} (p, q) (map (λ slot. (peer, slot)) xs) → p ≡ peer
 of_slots peer [] p q m = absurd m
 of_slots peer (x ∷ xs) p q (inl i) = ap (λ (c : ℕ × ℕ). c.0) i
 of_slots peer (x ∷ xs) p q (inr i) = of_slots peer xs p q i

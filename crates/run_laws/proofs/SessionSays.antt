@@ -204,7 +204,7 @@ lock_agrees hold end by key true true None e = (hold, end, refl)
 message_locks : (h : Here) (v : ℕ) (doing : Doing) (key : List ℕ) → Locks (by_of h) key (on_message h v doing (LockContent key))
 message_locks h v Waits key e =
     let good : Reply = lock_answer h.number (now_of h + hold_time) (by_of h) key h.locks (is_here h key) (bar_on h key) in
-    unless_found (Locks (by_of h) key) (failing_call h.fails (to_lock h.locks (is_here h key) (bar_on h key))) (λ call. record { kind = Fault call (by_of h); says = failure_line }) good (λ call f. absurd (refused_no f))
+    unless_found (Locks (by_of h) key) (failing_call h.fails (to_lock h.locks (is_here h key) (bar_on h key))) (λ call. record { kind = Fault call (by_of h); says = failure_line; calls = [] }) good (λ call f. absurd (refused_no f))
     (lock_agrees h.number (now_of h + hold_time) (by_of h) key h.locks (is_here h key) (bar_on h key)) e
 message_locks h v (Guards hold k) key e = absurd (odd_alone (on_message h v (Guards hold k) (LockContent key)).says refl e)
 message_locks h v (Gives k at left good) key e = absurd (odd_alone (on_message h v (Gives k at left good) (LockContent key)).says refl e)
@@ -223,7 +223,7 @@ look_agrees key true None e = refl
 
 message_looks : (h : Here) (v : ℕ) (doing : Doing) (key : List ℕ) → Looks key (on_message h v doing (CheckPresent key))
 message_looks h v Waits key e =
-    unless_found (Looks key) (failing_call h.fails (calls.Has ∷ [])) (λ call. record { kind = Fault call (by_of h); says = failure_line }) (check_answer key (is_here h key) (bar_on h key)) (λ call f. absurd (refused_no f))
+    unless_found (Looks key) (failing_call h.fails (calls.Has ∷ [])) (λ call. record { kind = Fault call (by_of h); says = failure_line; calls = [] }) (check_answer key (is_here h key) (bar_on h key)) (λ call f. absurd (refused_no f))
     (look_agrees key (is_here h key) (bar_on h key)) e
 message_looks h v (Guards hold k) key e = absurd (odd_alone (on_message h v (Guards hold k) (CheckPresent key)).says refl e)
 message_looks h v (Gives k at left good) key e = absurd (odd_alone (on_message h v (Gives k at left good) (CheckPresent key)).says refl e)

@@ -7,4 +7,4 @@ mod steps;
 
 pub use jobs::{frames_go_to_others, jobs_hear_nobody_twice, kept_words_were_asked};
 pub use laws::{runs_are_lawful, runs_are_safe};
-pub use steps::carried_states_agree;
+pub use steps::{carried_states_agree, states_are_sound};

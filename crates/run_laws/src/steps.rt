@@ -8,7 +8,8 @@ ghost use Rattle.node_model.specs.Look.{Look};
 ghost use Rattle.node_model.specs.SetUp.{SetUp};
 ghost use Rattle.node_model.specs.Step.{step};
 ghost use Rattle.run_model.specs.Past.{is_of};
-ghost use Rattle.run_model.specs.Run.{IsRun, OwnPast, set_up};
+ghost use Rattle.run_model.specs.Run.{IsRun, OwnPast, OwnRun, set_up};
+ghost use Rattle.run_laws.specs.Sound.{IsSeated, IsSound};
 ghost use Rattle.run_model.specs.States.{state_of};
 
 use log_lines::{compaction_keeps_the_reading, readings_depend_on_the_set};
@@ -40,3 +41,10 @@ pub fn carried_states_agree()
     paths_tell_their_kind();
     equal_lines_read_alike();
 }
+
+/// In the state of a repository after its own entries, jobs of one number are one, each the one in its slot; the hold that a session
+/// guards is open; and a local drop that is under way has its bar (own).
+pub fn states_are_sound()
+    ensures sound { (s : SetUp) (past : List Entry) → OwnRun s past → IsSound (state_of s past) }
+    ensures seated { (s : SetUp) (past : List Entry) → OwnRun s past → IsSeated (state_of s past) }
+{}

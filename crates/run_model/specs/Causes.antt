@@ -1,5 +1,5 @@
 -- Why a drop or a transfer was refused: the entries and the values that its outcome rests on stand in the run (own).
-use Rattle.std.specs.Prelude.{◌≡◌, ◌≢◌, ◌⊎◌, ℕ, ◌<◌, ◌≤◌, Bool, true, false, ◌&&◌, List, [], ◌∷◌, filter, length, map, reverse, Option, Some, None, codes}
+use Rattle.std.specs.Prelude.{◌≡◌, ◌≢◌, ◌⊎◌, ℕ, ◌<◌, ◌≤◌, ◌==◌, Bool, true, false, ◌&&◌, List, [], ◌∷◌, filter, find, length, map, reverse, Option, Some, None, codes}
 use Rattle.std.specs.List.{list_any, range_with_len}
 use Rattle.annex_base.specs.Lists.{Each}
 use Rattle.annex_base.specs.declared.kinds.Call.{Call}
@@ -17,10 +17,11 @@ use Rattle.run_data.specs.declared.entry.EntryKind.{EntryKind}
 use Rattle.run_data.specs.declared.entry.EntryKind.TheVariants.{Check, Close, End, Fault, Order, Talk}
 use Rattle.run_data.specs.declared.entry.FrameView.{FrameView}
 use Rattle.run_data.specs.declared.job.CandidateCause.{CandidateCause}
+use Rattle.run_data.specs.declared.job.Cause.TheVariants.{Closed}
 use Rattle.run_data.specs.declared.job.Denial.{Denial}
 use Rattle.run_data.specs.declared.job.Denial.TheVariants as denials
 use Rattle.run_data.specs.declared.job.DropRefusal.{DropRefusal}
-use Rattle.run_data.specs.declared.job.DropRefusal.TheVariants.{NotPresent, Held, Barred, Lacking, Expired, Denied, Lost, OldProtocol, StoreFault}
+use Rattle.run_data.specs.declared.job.DropRefusal.TheVariants.{NotPresent, Required, Held, Barred, Lacking, Expired, Denied, Lost, OldProtocol, StoreFault}
 use Rattle.run_data.specs.declared.job.Job.{Job}
 use Rattle.run_data.specs.declared.job.JobKind.{JobKind}
 use Rattle.run_data.specs.declared.job.JobKind.TheVariants as kinds
@@ -37,7 +38,10 @@ use Rattle.p2p_wire.specs.declared.message.Message.TheVariants.{Error, Failure, 
 use Rattle.p2p_wire.specs.Messages.{order_of}
 use Rattle.run_model.specs.Said.{Said, Says, CloseIt, message_in}
 use Rattle.run_model.specs.Frames.{FlyingFrame, MayTake, SendingEntry, is_job, last_request, said_of, says, sender, up_of, way_of}
-use Rattle.run_model.specs.Logs.{before_step, has_stepped, in_drop, need_read}
+use Rattle.run_data.specs.Repos.{id_of}
+use Rattle.run_model.specs.Logs.{before_step, has_stepped, in_drop, is_step, need_read, settings_of}
+use Rattle.run_model.specs.Run.{job_paths}
+use Rattle.wanted_expr.specs.Wanted.{required}
 use Rattle.run_model.specs.States.{content, state_of}
 use Rattle.run_model.specs.Drops.{evidence, offer_from, in_slot, is_first_step, is_waiting, reply, shuts, standing, candidate_cause, told_cause}
 use Rattle.node_model.specs.Evidence
@@ -46,6 +50,7 @@ use Rattle.node_model.specs.DropStep
 use Rattle.node_model.specs.Jobs.{drop_side, or_own}
 use Rattle.node_model.specs.SessionStep.{is_filled}
 use Rattle.node_model.specs.SetUp.{SetUp}
+use Rattle.node_model.specs.Ends.{is_opening}
 
 -- ---- a job, and its drop
 
@@ -85,28 +90,14 @@ pub record FoundBarred (past : List Entry) (r j other : ℕ) : Type 0 where
   pub at : AtFirst past r j d
   pub barred : bar past r d.what.key ≡ Some other
 
--- ---- by the evidence
+-- ---- by what the target requires
 
-abbrev pub items : (repos : List RepoView) (past : List Entry) (r j : ℕ) → JobOf past r j → List Evidence
-items repos past r j d = evidence (side_of d) repos past r j (target_of d) (need_read past r j)
-
--- none of the candidates is still waited for, the evidence is not enough, and the outcome states it, with one cause for each candidate that
--- gave nothing, in the order in which they are asked
-pub record FoundLacking (repos : List RepoView) (past : List Entry) (r j : ℕ) (proof : Proof) (reasons : List CandidateCause) : Type 0 where
+-- its first step found that the target requires the content with its own copy assumed gone, as the logs say then
+pub record FoundRequired (repos : List RepoView) (paths : List (List ℕ)) (past : List Entry) (r j : ℕ) (text : List ℕ) : Type 0 where
   pub d : JobOf past r j
-  pub answered : Each (λ c. is_waiting (standing repos past r j c) (reply past r j c) (told_cause past r j c) ≡ false) (candidates (side_of d) (length repos) r (target_of d))
-  pub wants : is_enough (side_of d) (need_read past r j) (items repos past r j d) ≡ false
-  pub proof_is : proof ≡ proof_of (length repos) (need_read past r j) (items repos past r j d)
-  pub causes_are : reasons ≡ Evidence.failures (offer_from repos past r j) (candidate_cause repos past r j) (candidates (side_of d) (length repos) r (target_of d))
-
--- the evidence is enough, but the clock wasn't below the first end of its locked items: now, or as the release of the own share failed
-pub record FoundExpired (repos : List RepoView) (past : List Entry) (r j time end clk : ℕ) : Type 0 where
-  pub d : JobOf past r j
-  pub enough : is_enough (side_of d) (need_read past r j) (items repos past r j d) ≡ true
-  pub first : least_end (items repos past r j d) ≡ Some end
-  pub late : end ≤ clk
-  pub when : (clk ≡ clock repos past r time)
-      ⊎ ((x : Entry) × (before : List Entry) × (Occurs past x before) × (is_of r x ≡ true) × (x.kind ≡ Fault Unhold (by_job j)) × (clk ≡ clock repos before r x.time))
+  pub dropping : in_drop past r j ≡ true
+  pub first : before_step past r j ≡ None
+  pub requires : required (settings_of past r) (id_of repos (target_of d)) d.what.key paths ≡ Some text
 
 -- ---- by a peer
 
@@ -144,9 +135,51 @@ pub record Closes (past : List Entry) (r j peer : ℕ) : Type 0 where
   pub kind_is : entry.kind ≡ Close peer slot true
   pub slot_is : in_slot (jobs before r) j slot ≡ true
 
--- the connection with the peer was closed, by the peer or here
+-- a frame that opens a connection with the peer
+abbrev pub opens_to : ℕ → FrameView → Bool
+opens_to peer g = (g.peer == peer) && (g.up && is_opening g.body)
+
+-- an entry of the job opened its connection with the peer
+pub record OpensWith (past : List Entry) (r j peer : ℕ) : Type 0 where
+  pub entry : Entry
+  pub before : List Entry
+  pub occurs : Occurs past entry before
+  pub own : is_job r j entry ≡ true
+  pub opens : list_any (opens_to peer) entry.sent ≡ true
+
+-- the connection with the peer, which the job had opened, was closed, by the peer or here
 abbrev pub ClosedWith : List Entry → ℕ → ℕ → ℕ → Type 0
-ClosedWith past r j peer = HearsMessage past r j peer CloseIt ⊎ Closes past r j peer
+ClosedWith past r j peer = ((h : HearsMessage past r j peer CloseIt) × OpensWith h.before r j peer) ⊎ ((c : Closes past r j peer) × OpensWith c.before r j peer)
+
+-- ---- by the evidence
+
+-- the paths are those that the job's key had as the job began
+abbrev pub items : (repos : List RepoView) (paths : List (List ℕ)) (past : List Entry) (r j : ℕ) → JobOf past r j → List Evidence
+items repos paths past r j d = evidence (side_of d) repos past r j (target_of d) (need_read paths past r j)
+
+-- none of the candidates is still waited for, the evidence is not enough, and the outcome states it, with one cause for each candidate that
+-- gave nothing, in the order in which they are asked; where that is `closed`, the candidate or an entry here closed the connection
+pub record FoundLacking (repos : List RepoView) (paths : List (List ℕ)) (past : List Entry) (r j : ℕ) (proof : Proof) (reasons : List CandidateCause) : Type 0 where
+  pub d : JobOf past r j
+  pub answered : Each (λ c. is_waiting (standing repos past r j c) (reply past r j c) (told_cause past r j c) ≡ false) (candidates (side_of d) (length repos) r (target_of d))
+  pub wants : is_enough (side_of d) (need_read paths past r j) (items repos paths past r j d) ≡ false
+  pub proof_is : proof ≡ proof_of (length repos) (need_read paths past r j) (items repos paths past r j d)
+  pub causes_are : reasons ≡ Evidence.failures (offer_from repos past r j) (candidate_cause repos past r j) (candidates (side_of d) (length repos) r (target_of d))
+  pub closed : Each (λ x. x.cause ≡ Closed → ClosedWith past r j x.repo) reasons
+
+-- the newest entry that job j of r made, but for one that began it, or told of a line that it owed
+abbrev pub newest_step : List Entry → ℕ → ℕ → Option Entry
+newest_step past r j = find (λ e. is_of r e && is_step j e.kind) past
+
+-- the evidence is enough, but the clock wasn't below the first end of its locked items: now, or in the job's entry just before, which failed to
+-- release the own share
+pub record FoundExpired (repos : List RepoView) (paths : List (List ℕ)) (past : List Entry) (r j time end clk : ℕ) : Type 0 where
+  pub d : JobOf past r j
+  pub enough : is_enough (side_of d) (need_read paths past r j) (items repos paths past r j d) ≡ true
+  pub first : least_end (items repos paths past r j d) ≡ Some end
+  pub late : end ≤ clk
+  pub when : (clk ≡ clock repos past r time)
+      ⊎ ((x : Entry) × (before : List Entry) × (Occurs past x before) × (is_of r x ≡ true) × (newest_step past r j ≡ Some x) × (x.kind ≡ Fault Unhold (by_job j)) × (clk ≡ clock repos before r x.time))
 
 -- ---- by the target
 
@@ -176,12 +209,12 @@ pub record WasLost (past : List Entry) (r j : ℕ) (ordered : Bool) : Type 0 whe
   pub ordered_is : list_any (λ e. is_job r j e && is_order e.kind) past ≡ ordered
 
 -- the evidence is enough, but the target speaks a version without deadlines, and there is a lock
-pub record FoundOld (repos : List RepoView) (past : List Entry) (r j version : ℕ) : Type 0 where
+pub record FoundOld (repos : List RepoView) (paths : List (List ℕ)) (past : List Entry) (r j version : ℕ) : Type 0 where
   pub d : JobOf past r j
-  pub enough : is_enough (side_of d) (need_read past r j) (items repos past r j d) ≡ true
+  pub enough : is_enough (side_of d) (need_read paths past r j) (items repos paths past r j d) ≡ true
   pub hears : HearsMessage past r j (target_of d) (Says (Version version))
   pub old : version < 3
-  pub locked : list_any (λ i. is_locked i.kind) (items repos past r j d) ≡ true
+  pub locked : list_any (λ i. is_locked i.kind) (items repos paths past r j d) ≡ true
 
 -- ---- by its store
 
@@ -202,18 +235,19 @@ pub record HadFault (past : List Entry) (r j : ℕ) : Type 0 where
   pub not_release : fault.call ≢ Unhold
   pub not_own : side_of d ≡ Remote → is_first_step fault.before r j fault.entry ≡ false
 
--- The cause of a drop's refusal. Required content is not refused yet; a crash ends its jobs without an entry of theirs.
-abbrev pub CauseOf : List RepoView → List Entry → ℕ → ℕ → ℕ → DropRefusal → Type 0
-CauseOf repos past r j time NotPresent = FoundAbsent past r j
-CauseOf repos past r j time (Held until) = FoundHeld repos past r j time until
-CauseOf repos past r j time (Barred other) = FoundBarred past r j other
-CauseOf repos past r j time (Lacking proof reasons) = FoundLacking repos past r j proof reasons
-CauseOf repos past r j time (Expired end clk) = FoundExpired repos past r j time end clk
-CauseOf repos past r j time (Denied answer) = WasDenied past r j answer
-CauseOf repos past r j time (Lost ordered) = WasLost past r j ordered
-CauseOf repos past r j time (OldProtocol version) = FoundOld repos past r j version
-CauseOf repos past r j time StoreFault = HadFault past r j
-CauseOf repos past r j time _ = ⊥
+-- The cause of a drop's refusal, where its key had these paths; a crash ends its jobs without an entry of theirs.
+abbrev pub CauseOf : List RepoView → List (List ℕ) → List Entry → ℕ → ℕ → ℕ → DropRefusal → Type 0
+CauseOf repos paths past r j time NotPresent = FoundAbsent past r j
+CauseOf repos paths past r j time (Required text) = FoundRequired repos paths past r j text
+CauseOf repos paths past r j time (Held until) = FoundHeld repos past r j time until
+CauseOf repos paths past r j time (Barred other) = FoundBarred past r j other
+CauseOf repos paths past r j time (Lacking proof reasons) = FoundLacking repos paths past r j proof reasons
+CauseOf repos paths past r j time (Expired end clk) = FoundExpired repos paths past r j time end clk
+CauseOf repos paths past r j time (Denied answer) = WasDenied past r j answer
+CauseOf repos paths past r j time (Lost ordered) = WasLost past r j ordered
+CauseOf repos paths past r j time (OldProtocol version) = FoundOld repos paths past r j version
+CauseOf repos paths past r j time StoreFault = HadFault past r j
+CauseOf repos paths past r j time _ = ⊥
 
 -- ---- transfers
 
@@ -344,15 +378,15 @@ TransferCauseOf repos past r j _ = ⊥
 
 -- ---- runs
 
--- an entry that ends a job by a refusal has its cause
-pub record IsCaused (repos : List RepoView) (past : List Entry) (e : Entry) : Type 0 where
-  pub drops : (r j : ℕ) (refusal : DropRefusal) → is_of r e ≡ true → e.kind ≡ End j (Refused refusal) → CauseOf repos past r j e.time refusal
+-- an entry that ends a job by a refusal has its cause; each job's key had these paths as it began
+pub record IsCaused (repos : List RepoView) (paths : ℕ → ℕ → List (List ℕ)) (past : List Entry) (e : Entry) : Type 0 where
+  pub drops : (r j : ℕ) (refusal : DropRefusal) → is_of r e ≡ true → e.kind ≡ End j (Refused refusal) → CauseOf repos (paths r j) past r j e.time refusal
   pub transfers : (r j : ℕ) (refusal : TransferRefusal) → is_of r e ≡ true → e.kind ≡ End j (TransferRefused refusal) → TransferCauseOf repos past r j refusal
 
-abbrev pub CausedPast : List RepoView → List Entry → Type 0
-CausedPast repos [] = Unit {0}
-CausedPast repos (e ∷ past) = IsCaused repos past e × CausedPast repos past
+abbrev pub CausedPast : List RepoView → (ℕ → ℕ → List (List ℕ)) → List Entry → Type 0
+CausedPast repos paths [] = Unit {0}
+CausedPast repos paths (e ∷ past) = IsCaused repos paths past e × CausedPast repos paths past
 
 -- each refused job of the run has its cause
 pub record HasCauses (run : Run) : Type 0 where
-  pub causes : CausedPast run.repos (reverse run.entries)
+  pub causes : CausedPast run.repos (job_paths run) (reverse run.entries)

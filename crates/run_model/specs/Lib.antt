@@ -9,3 +9,4 @@ pub mod States
 pub mod Words
 pub mod Run
 pub mod Causes
+pub mod Syncs

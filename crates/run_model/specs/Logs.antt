@@ -22,6 +22,7 @@ use Rattle.node_model.specs.Slots.{job_by, job_of}
 use Rattle.run_model.specs.Frames.{last_request, said_of, up_of, way_of}
 use Rattle.run_data.specs.Files.{file_path, kind_of}
 use Rattle.node_model.specs.Files.{compact_lines}
+use Rattle.node_model.specs.Knows.{need_by}
 
 -- ---- every line ever added
 
@@ -114,6 +115,6 @@ read_at past a j = unwrap_or (before_step past a j) past
 abbrev pub settings_of : List Entry → ℕ → Settings
 settings_of past r = settings (lines_ever past r)
 
--- the numbers of copies that job j of a reads
-abbrev pub need_read : List Entry → ℕ → ℕ → Need
-need_read past a j = let s = settings_of (read_at past a j) a in record { n = s.numcopies; m = s.mincopies }
+-- the numbers of copies that job j of a reads, whose key has these paths
+abbrev pub need_read : List (List ℕ) → List Entry → ℕ → ℕ → Need
+need_read paths past a j = need_by (settings_of (read_at past a j) a) paths

@@ -36,8 +36,12 @@ abbrev pub paths_at : List TreeMark → List Entry → ℕ → ℕ → List (Lis
 paths_at marks [] r j = []
 paths_at marks (e ∷ past) r j = if is_of r e then paths_begun marks (length past) j (paths_at marks past r j) e.kind else paths_at marks past r j
 
+-- the paths that the key of job j of r had in the tree as the job began
+abbrev pub job_paths : Run → ℕ → ℕ → List (List ℕ)
+job_paths run r j = paths_at run.tree (reverse run.entries) r j
+
 abbrev pub set_up : Run → ℕ → SetUp
-set_up run r = record { number = r; repos = run.repos; paths = paths_at run.tree (reverse run.entries) r }
+set_up run r = record { number = r; repos = run.repos; paths = job_paths run r }
 
 -- ---- order and bounds
 

@@ -3,5 +3,5 @@
 
 mod laws;
 
-pub use laws::others_change_nothing;
+pub use laws::{others_change_nothing, syncs_count_each_end_once};
 pub use run_data;

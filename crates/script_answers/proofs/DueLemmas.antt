@@ -5,12 +5,11 @@ use Rattle.std.proofs.lemmas.List.{append-nil}
 use Rattle.std.specs.Prelude.{codes}
 use Rattle.std.specs.Io.KnownBytes.{append_known}
 use Rattle.script_commands.specs.declared.command.Command.{Command}
-use Rattle.script_commands.specs.declared.fault.Quantity.{Quantity}
+use Rattle.script_forms.specs.declared.fault.Quantity.{Quantity}
 use Rattle.script_lang.specs.Limits.{limit_of, quantity_name}
 use Rattle.script_lang.specs.Script.{Reading, Commands, BadLine, PastLimit, reading}
 use Rattle.run_data.specs.Histories.{most_entries}
 use Rattle.driver_model.specs.Limits.{limited_run}
-use Rattle.driver_model.specs.Lines.{Line}
 use Rattle.driver_script.specs.Inputs.{driver_input_of}
 use Rattle.driver_script.specs.Script.{IsScript, IsUnbuilt}
 use Rattle.report_text.specs.Report.{report}
@@ -22,14 +21,14 @@ use Rattle.script_answers.specs.Top.{IsReport, IsComplaint, IsCutReport, IsMissi
 
 -- one thing is said of a text
 pub record HaveOneReading : Type 0 where
-  pub script : (bytes : List ℕ) (script other : List Command) (lines more : List Line) → IsScript bytes script lines → IsScript bytes other more → (script ≡ other) × (lines ≡ more)
+  pub script : (bytes : List ℕ) (script other : List Command) → IsScript bytes script → IsScript bytes other → script ≡ other
   pub line : (bytes : List ℕ) (line other : ℕ) → IsUnbuilt bytes line → IsUnbuilt bytes other → line ≡ other
-  pub one : (bytes : List ℕ) (script : List Command) (lines : List Line) (line : ℕ) → IsScript bytes script lines → IsUnbuilt bytes line → ⊥
+  pub one : (bytes : List ℕ) (script : List Command) (line : ℕ) → IsScript bytes script → IsUnbuilt bytes line → ⊥
 
 -- where the run of a script is cut, it has a full history
 abbrev pub FullLaw : Type 0
-FullLaw = (bytes : List ℕ) (script : List Command) (lines : List Line) → IsScript bytes script lines → (limited_run (driver_input_of script) lines).is_cut ≡ true
-    → HasFullHistory (limited_run (driver_input_of script) lines).run
+FullLaw = (bytes : List ℕ) (script : List Command) → IsScript bytes script → (limited_run (driver_input_of script) script).is_cut ≡ true
+    → HasFullHistory (limited_run (driver_input_of script) script).run
 
 -- what is due for a text is one status, with one text
 abbrev pub IsOne : Status → Status → List ℕ → List ℕ → Type 0
@@ -61,18 +60,16 @@ true_or_false is isnt = let both : true ≡ false = sym is ∙ isnt in cc
 
 -- ---- one text is due
 
-abbrev cut_text : List Command → List Line → List ℕ
-cut_text script lines = report script (limited_run (driver_input_of script) lines).run ++ limit_text entries_name most_entries
+abbrev cut_text : List Command → List ℕ
+cut_text script = report script (limited_run (driver_input_of script) script).run ++ limit_text entries_name most_entries
 
 module _ (x : HaveOneReading) (bytes t t' : List ℕ) where
-  -- what comes of the commands and the lines is one thing
-  one_script : (script other : List Command) (lines more : List Line) → IsScript bytes script lines → IsScript bytes other more → (P : List Command → List Line → List ℕ) → P script lines ≡ P other more
-  one_script script other lines more is is' P =
-      let same = x.script bytes script other lines more is is' in
-      ap (λ s. P s lines) same.0 ∙ ap (P other) same.1
+  -- what comes of the commands is one thing
+  one_script : (script other : List Command) → IsScript bytes script → IsScript bytes other → (P : List Command → List ℕ) → P script ≡ P other
+  one_script script other is is' P = ap P (x.script bytes script other is is')
 
   one_report : IsReport bytes t → IsReport bytes t' → t ≡ t'
-  one_report d d' = d.text_is ∙ one_script d.script d'.script d.lines d'.lines d.is_script d'.is_script (λ script lines. report script (limited_run (driver_input_of script) lines).run) ∙ sym d'.text_is
+  one_report d d' = d.text_is ∙ one_script d.script d'.script d.is_script d'.is_script (λ script. report script (limited_run (driver_input_of script) script).run) ∙ sym d'.text_is
 
   one_complaint : (IsComplaint bytes t ⊎ IsMissing bytes t) → (IsComplaint bytes t' ⊎ IsMissing bytes t') → t ≡ t'
   one_complaint (inl d) (inl d') = d.text_is ∙ one_place (reading bytes) d.line d.byte d'.line d'.byte d.bad d'.bad ∙ sym d'.text_is
@@ -81,7 +78,7 @@ module _ (x : HaveOneReading) (bytes t t' : List ℕ) where
   one_complaint (inr d) (inr d') = d.text_is ∙ ap (λ line. place_text line 0) (x.line bytes d.line d'.line d.unbuilt d'.unbuilt) ∙ sym d'.text_is
 
   one_cut : IsCutReport bytes t → IsCutReport bytes t' → t ≡ t'
-  one_cut d d' = d.text_is ∙ one_script d.script d'.script d.lines d'.lines d.is_script d'.is_script cut_text ∙ sym d'.text_is
+  one_cut d d' = d.text_is ∙ one_script d.script d'.script d.is_script d'.is_script cut_text ∙ sym d'.text_is
 
   one_limit : (IsLong bytes t ⊎ (IsPast bytes t ⊎ IsCutReport bytes t)) → (IsLong bytes t' ⊎ (IsPast bytes t' ⊎ IsCutReport bytes t')) → t ≡ t'
   one_limit (inl d) (inl d') = d.text_is ∙ sym d'.text_is
@@ -96,14 +93,13 @@ module _ (x : HaveOneReading) (bytes t t' : List ℕ) where
 
   report_or_complaint : IsReport bytes t → (IsComplaint bytes t' ⊎ IsMissing bytes t') → ⊥
   report_or_complaint d (inl d') = commands_or_bad (reading bytes) d.script d'.line d'.byte d.is_script.says d'.bad
-  report_or_complaint d (inr d') = x.one bytes d.script d.lines d'.line d.is_script d'.unbuilt
+  report_or_complaint d (inr d') = x.one bytes d.script d'.line d.is_script d'.unbuilt
 
   -- a run isn't both whole and cut
   report_or_cut : IsReport bytes t → IsCutReport bytes t' → ⊥
   report_or_cut d d' =
-      let same = x.script bytes d.script d'.script d.lines d'.lines d.is_script d'.is_script in
-      let whole = sym (ap (λ script. (limited_run (driver_input_of script) d.lines).is_cut) same.0 ∙ ap (λ lines. (limited_run (driver_input_of d'.script) lines).is_cut) same.1) ∙ d.whole in
-      true_or_false d'.cut whole
+      let same = x.script bytes d.script d'.script d.is_script d'.is_script in
+      true_or_false d'.cut (sym (ap (λ script. (limited_run (driver_input_of script) script).is_cut) same) ∙ d.whole)
 
   report_or_limit : IsReport bytes t → (IsLong bytes t' ⊎ (IsPast bytes t' ⊎ IsCutReport bytes t')) → ⊥
   report_or_limit d (inl d') = absurd (omega (arith, d.short, d'.long))
@@ -116,7 +112,7 @@ module _ (x : HaveOneReading) (bytes t t' : List ℕ) where
   complaint_or_limit (inl d) (inr (inr d')) = commands_or_bad (reading bytes) d'.script d.line d.byte d'.is_script.says d.bad
   complaint_or_limit (inr d) (inl d') = absurd (omega (arith, d.short, d'.long))
   complaint_or_limit (inr d) (inr (inl d')) = commands_or_past (reading bytes) d.unbuilt.all d'.quantity d.unbuilt.says d'.past
-  complaint_or_limit (inr d) (inr (inr d')) = x.one bytes d'.script d'.lines d.line d'.is_script d.unbuilt
+  complaint_or_limit (inr d) (inr (inr d')) = x.one bytes d'.script d.line d'.is_script d.unbuilt
 
 pub due_once : HaveOneReading → (bytes : List ℕ) (s s' : Status) (t t' : List ℕ) → IsDue bytes s t → IsDue bytes s' t' → IsOne s s' t t'
 due_once x bytes Done Done t t' d d' = (refl, one_report x bytes t t' d d')
@@ -197,14 +193,14 @@ module _ (x : HaveOneReading) (bytes text : List ℕ) (s : Status) (left left' t
   due_answered Usage a r w = absurd a
 
 -- for a script whose run is whole its report is due
-pub due_report : (bytes : List ℕ) (script : List Command) (lines : List Line) → length bytes ≤ script_limit → IsScript bytes script lines → (limited_run (driver_input_of script) lines).is_cut ≡ false → IsDue bytes Done (report script (limited_run (driver_input_of script) lines).run)
-due_report bytes script lines short is whole = record { short = short; script = script; lines = lines; is_script = is; whole = whole; text_is = refl }
+pub due_report : (bytes : List ℕ) (script : List Command) → length bytes ≤ script_limit → IsScript bytes script → (limited_run (driver_input_of script) script).is_cut ≡ false → IsDue bytes Done (report script (limited_run (driver_input_of script) script).run)
+due_report bytes script short is whole = record { short = short; script = script; is_script = is; whole = whole; text_is = refl }
 
 -- and for one whose run is cut the report up to there, and the limit
-pub due_cut : FullLaw → (bytes : List ℕ) (script : List Command) (lines : List Line) → length bytes ≤ script_limit → IsScript bytes script lines → (limited_run (driver_input_of script) lines).is_cut ≡ true
-    → IsDue bytes Limit (report script (limited_run (driver_input_of script) lines).run ++ limit_text entries_name most_entries)
-due_cut law bytes script lines short is cut =
-    inr (inr (record { short = short; script = script; lines = lines; is_script = is; cut = cut; full = law bytes script lines is cut; text_is = refl }))
+pub due_cut : FullLaw → (bytes : List ℕ) (script : List Command) → length bytes ≤ script_limit → IsScript bytes script → (limited_run (driver_input_of script) script).is_cut ≡ true
+    → IsDue bytes Limit (report script (limited_run (driver_input_of script) script).run ++ limit_text entries_name most_entries)
+due_cut law bytes script short is cut =
+    inr (inr (record { short = short; script = script; is_script = is; cut = cut; full = law bytes script is cut; text_is = refl }))
 
 -- ---- an answer with a status and a text is due
 

@@ -5,7 +5,6 @@ use Rattle.std.specs.Prelude.{codes}
 use Rattle.script_commands.specs.declared.command.Command.{Command}
 use Rattle.script_lang.specs.Script.{Reading, Commands, BadLine, PastLimit, reading}
 use Rattle.driver_model.specs.Limits.{limited_run}
-use Rattle.driver_model.specs.Lines.{Line}
 use Rattle.driver_script.specs.Inputs.{driver_input_of}
 use Rattle.driver_script.specs.Script.{IsScript, IsUnbuilt}
 use Rattle.script_answers.specs.declared.status.Status.{Status}
@@ -16,19 +15,19 @@ use Rattle.script_answers.proofs.DueLemmas.{FullLaw, complaint_is_due, due_cut, 
 
 -- all commands of a text can be driven, or a part is missing for one
 abbrev pub RunLaw : Type 0
-RunLaw = (bytes : List ℕ) (script : List Command) → reading bytes ≡ Commands script → ((lines : List Line) × IsScript bytes script lines) ⊎ ((line : ℕ) × IsUnbuilt bytes line)
+RunLaw = (bytes : List ℕ) (script : List Command) → reading bytes ≡ Commands script → IsScript bytes script ⊎ ((line : ℕ) × IsUnbuilt bytes line)
 
 abbrev pub SomeDue : List ℕ → Type 0
 SomeDue bytes = (status : Status) × (text : List ℕ) × IsDue bytes status text
 
 module _ (full : FullLaw) (runs : RunLaw) (bytes : List ℕ) where
-  run_due : length bytes ≤ script_limit → (script : List Command) (lines : List Line) → IsScript bytes script lines
-      → ((limited_run (driver_input_of script) lines).is_cut ≡ true) ⊎ ((limited_run (driver_input_of script) lines).is_cut ≡ false) → SomeDue bytes
-  run_due short script lines is (inl cut) = (Limit, _, due_cut full bytes script lines short is cut)
-  run_due short script lines is (inr whole) = (Done, _, due_report bytes script lines short is whole)
+  run_due : length bytes ≤ script_limit → (script : List Command) → IsScript bytes script
+      → ((limited_run (driver_input_of script) script).is_cut ≡ true) ⊎ ((limited_run (driver_input_of script) script).is_cut ≡ false) → SomeDue bytes
+  run_due short script is (inl cut) = (Limit, _, due_cut full bytes script short is cut)
+  run_due short script is (inr whole) = (Done, _, due_report bytes script short is whole)
 
-  commands_due : length bytes ≤ script_limit → (script : List Command) → ((lines : List Line) × IsScript bytes script lines) ⊎ ((line : ℕ) × IsUnbuilt bytes line) → SomeDue bytes
-  commands_due short script (inl x) = run_due short script x.0 x.1 (cases_Bool (limited_run (driver_input_of script) x.0).is_cut)
+  commands_due : length bytes ≤ script_limit → (script : List Command) → IsScript bytes script ⊎ ((line : ℕ) × IsUnbuilt bytes line) → SomeDue bytes
+  commands_due short script (inl x) = run_due short script x (cases_Bool (limited_run (driver_input_of script) script).is_cut)
   commands_due short script (inr x) = (Script, place_text x.0 0, missing_is_due bytes x.0 short x.1)
 
   reading_due : length bytes ≤ script_limit → (says : Reading) → reading bytes ≡ says → SomeDue bytes

@@ -8,13 +8,12 @@ use Rattle.run_model.specs.Run as runs
 use Rattle.run_model.specs.Safety.{IsSafe}
 use Rattle.race_core.specs.Copies.{KeepsCopies}
 use Rattle.script_commands.specs.declared.command.Command.{Command}
-use Rattle.script_commands.specs.declared.fault.Quantity.{Quantity}
+use Rattle.script_forms.specs.declared.fault.Quantity.{Quantity}
 use Rattle.script_lang.specs.Script.{reading, BadLine, Commands, PastLimit, no_context}
 use Rattle.script_lang.specs.Preconditions.{AllStand}
 use Rattle.driver_model.specs.Driver.{Driver, DriverInput}
 use Rattle.driver_model.specs.Driving.{does, with_mark}
 use Rattle.driver_model.specs.Limits.{LimitedRun, drives_to_limit, limited_run, meets_limit, run_to_limit}
-use Rattle.driver_model.specs.Lines.{Line}
 use Rattle.driver_script.specs.Inputs.{driver_input_of}
 use Rattle.driver_script.specs.Lines.{repos_of}
 use Rattle.driver_script.specs.Script.{IsScript, IsUnbuilt}
@@ -33,15 +32,15 @@ abbrev pub limited : Bool → Run → LimitedRun
 limited is_cut run = record { run = run; is_cut = is_cut }
 
 -- what comes of the lines from the first one on, where that meets a full history, and where it doesn't
-abbrev pub comes_of : DriverInput → Line → List Line → Driver → Bool → LimitedRun
+abbrev pub comes_of : DriverInput → Command → List Command → Driver → Bool → LimitedRun
 comes_of g line others d meets = if meets then limited true (run_to_limit g line d) else drives_to_limit g others (with_mark (does g line d))
 
-one_has_repos : (g : DriverInput) (line : Line) (others : List Line) (d : Driver) (meets : Bool) → ((after : Driver) → (drives_to_limit g others after).run.repos ≡ g.repos)
+one_has_repos : (g : DriverInput) (line : Command) (others : List Command) (d : Driver) (meets : Bool) → ((after : Driver) → (drives_to_limit g others after).run.repos ≡ g.repos)
     → (comes_of g line others d meets).run.repos ≡ g.repos
 one_has_repos g line others d true later = refl
 one_has_repos g line others d false later = later _
 
-pub all_have_repos : (g : DriverInput) (lines : List Line) (d : Driver) → (drives_to_limit g lines d).run.repos ≡ g.repos
+pub all_have_repos : (g : DriverInput) (lines : List Command) (d : Driver) → (drives_to_limit g lines d).run.repos ≡ g.repos
 all_have_repos g [] d = refl
 all_have_repos g (line ∷ others) d = one_has_repos g line others d (meets_limit g line d) (all_have_repos g others)
 
@@ -54,25 +53,23 @@ pub record Laws : Type 0 where
   pub causes : (run : Run) → runs.IsRun run → HasCauses run
 
 module _ (bytes : List ℕ) (script : List Command) (is_cut : Bool) (run : Run) (says : reading bytes ≡ Commands script) (r : IsRunOf script is_cut run) where
-  script_is : IsScript bytes script r.lines
-  script_is = record { says = says; built = r.are }
+  script_is : IsScript bytes script
+  script_is = record { says = says; built = r.built }
 
-  run_is : (limited_run (driver_input_of script) r.lines).run ≡ run
+  run_is : (limited_run (driver_input_of script) script).run ≡ run
   run_is = ap (λ (x : LimitedRun). x.run) r.run_is
 
-  cut_is : (limited_run (driver_input_of script) r.lines).is_cut ≡ is_cut
+  cut_is : (limited_run (driver_input_of script) script).is_cut ≡ is_cut
   cut_is = ap (λ (x : LimitedRun). x.is_cut) r.run_is
 
   -- it is good, up to where it is cut
   pub good_run : HaveOneReading → Laws → HasGoodRun bytes
-  good_run x laws = λ other more is.
+  good_run x laws = λ other is.
       let good : IsGood run = record { is_run = r.lawful; copies = laws.copies run r.lawful; safe = laws.safe run r.lawful; causes = laws.causes run r.lawful } in
-      let same = x.script bytes script other r.lines more script_is is in
-      subst (λ (lines : List Line). IsGood (limited_run (driver_input_of other) lines).run) same.1
-      (subst (λ (all : List Command). IsGood (limited_run (driver_input_of all) r.lines).run) same.0 (subst IsGood (sym run_is) good))
+      subst (λ (all : List Command). IsGood (limited_run (driver_input_of all) all).run) (x.script bytes script other script_is is) (subst IsGood (sym run_is) good)
 
   pub run_has_repos : repos_of script ≡ run.repos
-  run_has_repos = sym (all_have_repos (driver_input_of script) r.lines _) ∙ ap (λ (x : Run). x.repos) run_is
+  run_has_repos = sym (all_have_repos (driver_input_of script) script _) ∙ ap (λ (x : Run). x.repos) run_is
 
   -- the script shows what is of the run's repositories
   pub run_shows_known : AllStand no_context script → Each (ShowsKnown (length run.repos)) script
@@ -83,7 +80,6 @@ module _ (bytes : List ℕ) (script : List Command) (is_cut : Bool) (run : Run) 
   whole_is_due text short whole text_is = record {
     short = short;
     script = script;
-    lines = r.lines;
     is_script = script_is;
     whole = cut_is ∙ whole;
     text_is = text_is ∙ ap (report script) (sym run_is);
@@ -94,23 +90,22 @@ module _ (bytes : List ℕ) (script : List Command) (is_cut : Bool) (run : Run) 
   cut_is_due text short law cuts text_is = record {
     short = short;
     script = script;
-    lines = r.lines;
     is_script = script_is;
     cut = cut_is ∙ cuts;
-    full = law bytes script r.lines script_is (cut_is ∙ cuts);
+    full = law bytes script script_is (cut_is ∙ cuts);
     text_is = text_is ∙ ap (λ (x : Run). report script x ++ limit_text entries_name most_entries) (sym run_is);
   }
 
 -- ---- where there is no run
 
 pub bad_has_none : (bytes : List ℕ) (line byte : ℕ) → reading bytes ≡ BadLine line byte → HasGoodRun bytes
-bad_has_none bytes line byte bad = λ script lines is. absurd (commands_or_bad (reading bytes) script line byte is.says bad)
+bad_has_none bytes line byte bad = λ script is. absurd (commands_or_bad (reading bytes) script line byte is.says bad)
 
 pub past_has_none : (bytes : List ℕ) (quantity : Quantity) → reading bytes ≡ PastLimit quantity → HasGoodRun bytes
-past_has_none bytes quantity past = λ script lines is. absurd (commands_or_past (reading bytes) script quantity is.says past)
+past_has_none bytes quantity past = λ script is. absurd (commands_or_past (reading bytes) script quantity is.says past)
 
 pub missing_has_none : HaveOneReading → (bytes : List ℕ) (line : ℕ) → IsUnbuilt bytes line → HasGoodRun bytes
-missing_has_none x bytes line unbuilt = λ script lines is. absurd (x.one bytes script lines line is unbuilt)
+missing_has_none x bytes line unbuilt = λ script is. absurd (x.one bytes script line is unbuilt)
 
 -- ---- what is said of an answer
 

@@ -5,4 +5,3 @@ pub mod ReportLemmas
 pub mod GoodLemmas
 pub mod FullLemmas
 pub mod EveryText
-pub mod PlaceLemmas

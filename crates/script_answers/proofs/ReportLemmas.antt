@@ -13,14 +13,16 @@ use Rattle.node_model.specs.SetUp.{SetUp}
 use Rattle.run_model.specs.Run.{IsBounded, IsRun, IsSmall, RunPast, set_up}
 use Rattle.script_commands.specs.declared.command.Command.{Command}
 use Rattle.script_commands.specs.declared.command.Command.TheVariants as commands
+use Rattle.script_commands.specs.declared.command.Showing.{Showing}
+use Rattle.script_commands.specs.declared.command.Showing.TheVariants as showings
 use Rattle.script_lang.specs.Context.{Context}
 use Rattle.script_lang.specs.Script as script
 use Rattle.script_lang.specs.Script.{context_with, no_context}
-use Rattle.script_lang.specs.Preconditions.{AllStand, IsValidIn}
+use Rattle.script_lang.specs.Preconditions.{AllStand, IsValidIn, IsValidShowing}
 use Rattle.driver_model.specs.Logged.{LogsWell}
 use Rattle.driver_script.specs.Lines.{declared_by, repos_of, view_of}
 use Rattle.report_text.specs.Branches.{LogsLines}
-use Rattle.report_text.specs.Walk.{IsAhead, IsWellFormed, SetsClock, ShowsKnown}
+use Rattle.report_text.specs.Walk.{IsAhead, IsOfKnown, IsWellFormed, SetsClock, ShowsKnown}
 
 -- ---- the run
 
@@ -54,14 +56,18 @@ run_ahead run is = Each-weaker IsSetUp IsAhead (λ r set. set.offset) run.repos 
 
 -- ---- the script
 
+showing_known : (m : ℕ) (x : Context) (what : Showing) → length x.repos ≤ m → IsValidShowing x what → IsOfKnown m what
+showing_known m x (showings.Claims r k) l s = let here = s.0 in omega (arith, l, here)
+showing_known m x (showings.Location r k) l s = let here = s.0 in omega (arith, l, here)
+showing_known m x (showings.Log r file) l s = let here = s.0 in omega (arith, l, here)
+showing_known m x (showings.Logs r) l s = omega (arith, l, s)
+showing_known m x (showings.Numbers r path) l s = let here = s.0 in omega (arith, l, here)
+showing_known m x (showings.Level r target) l s = let here = s.0 in let there = s.1 in (omega (arith, l, here), omega (arith, l, there))
+showing_known m x (showings.Row r k) l s = let here = s.0 in omega (arith, l, here)
+showing_known m x what l s = tt
+
 one_known : (m : ℕ) (x : Context) (c : Command) → length x.repos ≤ m → IsValidIn x c → ShowsKnown m c
-one_known m x (commands.ShowClaims r k) l s = let here = s.0 in omega (arith, l, here)
-one_known m x (commands.ShowLocation r k) l s = let here = s.0 in omega (arith, l, here)
-one_known m x (commands.ShowLog r file) l s = let here = s.0 in omega (arith, l, here)
-one_known m x (commands.ShowLogs r) l s = omega (arith, l, s)
-one_known m x (commands.ShowNumbers r path) l s = let here = s.0 in omega (arith, l, here)
-one_known m x (commands.ShowLevel r target) l s = let here = s.0 in let there = s.1 in (omega (arith, l, here), omega (arith, l, there))
-one_known m x (commands.ShowRow r k) l s = let here = s.0 in omega (arith, l, here)
+one_known m x (commands.Shows what) l s = showing_known m x what l s
 one_known m x c l s = tt
 
 -- a command declares as many repositories for those behind it as for the run

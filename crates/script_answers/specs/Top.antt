@@ -9,12 +9,11 @@ use Rattle.run_model.specs.Causes.{HasCauses}
 use Rattle.run_model.specs.Run as runs
 use Rattle.run_model.specs.Safety.{IsSafe}
 use Rattle.script_commands.specs.declared.command.Command.{Command}
-use Rattle.script_commands.specs.declared.fault.Quantity.{Quantity}
+use Rattle.script_forms.specs.declared.fault.Quantity.{Quantity}
 use Rattle.script_lang.specs.Limits.{quantity_name, limit_of}
 use Rattle.script_lang.specs.Script.{reading, BadLine, PastLimit}
 use Rattle.race_core.specs.Copies.{KeepsCopies}
 use Rattle.driver_model.specs.Limits.{count_of, limited_run}
-use Rattle.driver_model.specs.Lines.{Line}
 use Rattle.driver_script.specs.Inputs.{driver_input_of}
 use Rattle.driver_script.specs.Script.{IsScript, IsUnbuilt}
 use Rattle.report_text.specs.Report.{report}
@@ -39,17 +38,16 @@ pub record IsGood (run : Run) : Type 0 where
 
 -- the run of the script that the bytes are is good, up to where a line meets a full history, if one does
 abbrev pub HasGoodRun : List ℕ → Type 0
-HasGoodRun bytes = (script : List Command) (lines : List Line) → IsScript bytes script lines → IsGood (limited_run (driver_input_of script) lines).run
+HasGoodRun bytes = (script : List Command) → IsScript bytes script → IsGood (limited_run (driver_input_of script) script).run
 
 -- The bytes are a script whose forms are all built; no line meets a full history, and the text is the report of its run. A run that
 -- isn't cut is the whole one, `run_of` (law `whole` of `driver_model::runs_are_cut_where_histories_are_full`).
 pub record IsReport (bytes text : List ℕ) : Type 0 where
   pub short : length bytes ≤ script_limit
   pub script : List Command
-  pub lines : List Line
-  pub is_script : IsScript bytes script lines
-  pub whole : (limited_run (driver_input_of script) lines).is_cut ≡ false
-  pub text_is : text ≡ report script (limited_run (driver_input_of script) lines).run
+  pub is_script : IsScript bytes script
+  pub whole : (limited_run (driver_input_of script) script).is_cut ≡ false
+  pub text_is : text ≡ report script (limited_run (driver_input_of script) script).run
 
 -- the line that names a place of a script
 abbrev pub place_text : ℕ → ℕ → List ℕ
@@ -99,11 +97,10 @@ HasFullHistory run = (r : ℕ) × (r < length run.repos) × (count_of run.entrie
 pub record IsCutReport (bytes text : List ℕ) : Type 0 where
   pub short : length bytes ≤ script_limit
   pub script : List Command
-  pub lines : List Line
-  pub is_script : IsScript bytes script lines
-  pub cut : (limited_run (driver_input_of script) lines).is_cut ≡ true
-  pub full : HasFullHistory (limited_run (driver_input_of script) lines).run
-  pub text_is : text ≡ report script (limited_run (driver_input_of script) lines).run ++ limit_text entries_name most_entries
+  pub is_script : IsScript bytes script
+  pub cut : (limited_run (driver_input_of script) script).is_cut ≡ true
+  pub full : HasFullHistory (limited_run (driver_input_of script) script).run
+  pub text_is : text ≡ report script (limited_run (driver_input_of script) script).run ++ limit_text entries_name most_entries
 
 -- what is due for a source of these bytes
 abbrev pub IsDue : List ℕ → Status → List ℕ → Type 0

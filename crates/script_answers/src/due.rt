@@ -2,7 +2,7 @@
 
 ghost use Rattle.std.specs.Prelude.{IfOk, OnOk, ◌≡◌, ◌≤◌, ◌<◌, ◌++◌, length, slice_get, Some};
 ghost use Rattle.script_lang.specs.Script.{reading, Commands};
-ghost use Rattle.driver_script.specs.Lines.{first_unbuilt, repos_of};
+ghost use Rattle.driver_script.specs.Lines.{first_unbuilt};
 ghost use Rattle.script_answers.specs.Runs.{IsRunOf};
 ghost use Rattle.script_answers.specs.Whole.{script_limit};
 ghost use Rattle.script_answers.specs.Top.{IsDue, HasGoodRun, limit_text, place_text};
@@ -68,7 +68,7 @@ pub fn missing_due(
 ) -> Result<Due, NoMemory>
     requires short { length bytes.now ≤ script_limit }
     requires says { reading bytes.now ≡ Commands _script.now }
-    requires first { first_unbuilt (repos_of _script.now) _script.now ≡ Some place }
+    requires first { first_unbuilt _script.now ≡ Some place }
     ensures due { IfOk result (λ d. IsDue bytes.now d.status d.text.items) }
     ensures good { OnOk result (HasGoodRun bytes.now) }
 {

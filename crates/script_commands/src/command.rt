@@ -1,8 +1,8 @@
-//! The commands of a script, one for each form of line.
+//! The commands of a script, one for each line, as plain data.
 
-use annex_base::{Call, Items, Level, Line, RepoId, Text};
+use annex_base::{Call, Items, Line, RepoId, Text};
 use annex_key::Key;
-use log_lines::GroupList;
+use log_lines::{LogKind, Topic, Value};
 use run_data::{Job, LogFile};
 use script_words::Content;
 
@@ -14,96 +14,29 @@ pub struct NamedKey {
     pub path: Option<Text>,
 }
 
-/// A line of a block.
+/// What a repository does in a block.
 #[derive(Clone, Drop)]
 pub enum BlockLine {
     /// `drop`, `get`, `copy` or `move`
-    Run { repo: u32, job: Job },
+    Runs { job: Job },
     /// `crash REPO [clock=MS]`, its clock in milliseconds, without the option 0
-    Crash { repo: u32, clock: u64 },
+    Crashes { clock: u64 },
     /// `close REPO OTHER`
-    Close { repo: u32, other: u32 },
+    Closes { other: u32 },
     /// `fail REPO CALL`
-    Fail { repo: u32, call: Call },
+    Fails { call: Call },
 }
 
-/// A line of a script, or the lines of a block (own). A repository is named by its number, in order of the `repo`
-/// lines from 0.
+/// A line of a block, with the repository that it names first.
+#[derive(Clone, Drop)]
+pub struct Agendum {
+    pub repo: u32,
+    pub line: BlockLine,
+}
+
+/// What a line does (own).
 #[derive(Drop)]
-pub enum Command {
-    /// `repo NAME UUID [offset=MS] [version=V] [nolock]`: its clock is ahead of the script's time by MS milliseconds, at
-    /// most 100,000,000,000, without the option 0; it speaks the protocol up to version 1, 2 or 3, without the option 3
-    Repo {
-        name: Text,
-        id: RepoId,
-        offset: u64,
-        version: u8,
-        locks: bool,
-    },
-    /// `numcopies REPO N`, N at most 999,999,999
-    Numcopies {
-        repo: u32,
-        number: u32,
-    },
-    /// `mincopies REPO N`, N at most 999,999,999
-    Mincopies {
-        repo: u32,
-        number: u32,
-    },
-    /// `numcopiesfor REPO N REST`, the glob REST of 1 to 4,096 bytes
-    NumcopiesFor {
-        repo: u32,
-        number: u32,
-        glob: Text,
-    },
-    /// `mincopiesfor REPO N REST`, the glob REST of 1 to 4,096 bytes
-    MincopiesFor {
-        repo: u32,
-        number: u32,
-        glob: Text,
-    },
-    /// `trust REPO TARGET LEVEL`
-    Trust {
-        repo: u32,
-        target: u32,
-        level: Level,
-    },
-    /// `describe REPO TARGET REST`, REST of at most 4,096 bytes
-    Describe {
-        repo: u32,
-        target: u32,
-        text: Text,
-    },
-    /// `wanted REPO TARGET REST`, REST of at most 4,096 bytes
-    Wanted {
-        repo: u32,
-        target: u32,
-        text: Text,
-    },
-    /// `required REPO TARGET REST`, REST of at most 4,096 bytes
-    Required {
-        repo: u32,
-        target: u32,
-        text: Text,
-    },
-    /// `group REPO TARGET [GROUP ..]`
-    Group {
-        repo: u32,
-        target: u32,
-        groups: GroupList,
-    },
-    /// `groupwanted REPO GROUP REST`
-    GroupWanted {
-        repo: u32,
-        group: Text,
-        text: Text,
-    },
-    /// `log REPO location KEY REST` or `log REPO FILE REST`, REST not empty
-    Log {
-        repo: u32,
-        file: LogFile,
-        line: Line,
-    },
+pub enum Action {
     /// `have REPO KEY BYTES`, which match the key
     Have {
         repo: u32,
@@ -111,13 +44,7 @@ pub enum Command {
         content: Content,
     },
     /// `part REPO KEY BYTES`
-    Part {
-        repo: u32,
-        key: Key,
-        content: Content,
-    },
-    /// `damage REPO KEY BYTES`, for a key whose content an earlier line puts at REPO
-    Damage {
+    SetPart {
         repo: u32,
         key: Key,
         content: Content,
@@ -134,23 +61,22 @@ pub enum Command {
         path: Text,
         key: Key,
     },
-    /// `drop`, `get`, `copy` or `move`: the job is begun, and then the repositories settle
-    Run {
+    /// An entry of a topic in a log of the repository: `numcopies REPO N`, `mincopies REPO N`, N at most 999,999,999;
+    /// `numcopiesfor REPO N REST`, `mincopiesfor REPO N REST`, the glob REST of 1 to 4,096 bytes; `trust REPO TARGET LEVEL`;
+    /// `describe REPO TARGET REST`, `wanted REPO TARGET REST`, `required REPO TARGET REST`, REST of at most 4,096 bytes;
+    /// `group REPO TARGET [GROUP ..]`; or `groupwanted REPO GROUP REST`. A TARGET is told by its identifier
+    Set {
         repo: u32,
-        job: Job,
+        kind: LogKind,
+        topic: Topic,
+        value: Value,
     },
-    /// `begin JOB`
-    Begin {
+    /// `log REPO location KEY REST` or `log REPO FILE REST`, REST not empty
+    Raw {
         repo: u32,
-        job: Job,
+        file: LogFile,
+        line: Line,
     },
-    /// `turn REPO [N]`, N of 1 to 10,000, without it 1
-    Turn {
-        repo: u32,
-        turns: u32,
-    },
-    /// `settle`
-    Settle,
     /// `merge REPO OTHER`
     Merge {
         repo: u32,
@@ -164,6 +90,23 @@ pub enum Command {
     Sync {
         repo: u32,
     },
+    /// `begin JOB`
+    Begin {
+        repo: u32,
+        job: Job,
+    },
+    /// `drop`, `get`, `copy` or `move`: the job is begun, and then the repositories settle
+    Run {
+        repo: u32,
+        job: Job,
+    },
+    /// `turn REPO [N]`, N of 1 to 10,000, without it 1
+    Turns {
+        repo: u32,
+        turns: u32,
+    },
+    /// `settle`
+    Settle,
     /// `close REPO OTHER`
     Close {
         repo: u32,
@@ -183,60 +126,65 @@ pub enum Command {
         repo: u32,
         call: Call,
     },
+}
+
+/// What a line shows (own).
+#[derive(Drop)]
+pub enum Showing {
+    /// `show presence KEY`
+    Presence { key: NamedKey },
+    /// `show claims REPO KEY`
+    Claims { repo: u32, key: NamedKey },
+    /// `show location REPO KEY`
+    Location { repo: u32, key: NamedKey },
+    /// `show log REPO FILE`
+    Log { repo: u32, file: LogFile },
+    /// `show logs REPO`
+    Logs { repo: u32 },
+    /// `show numbers REPO [PATH]`
+    Numbers { repo: u32, path: Option<Text> },
+    /// `show level REPO TARGET`
+    Level { repo: u32, target: u32 },
+    /// `show wants REPO TARGET PATH`, PATH a path of the tree
+    Wants { repo: u32, target: u32, path: Text },
+    /// `show row REPO KEY`
+    Row { repo: u32, key: NamedKey },
+    /// `show plan REPO`
+    Plan { repo: u32 },
+    /// `show totals`
+    Totals,
+    /// `show journal`
+    Journal,
+}
+
+/// A line of a script, or the lines of a block (own). A repository is named by its number, in order of the `repo`
+/// lines from 0.
+#[derive(Drop)]
+pub enum Command {
+    /// `repo NAME UUID [offset=MS] [version=V] [nolock]`: its clock is ahead of the script's time by MS milliseconds, at
+    /// most 100,000,000,000, without the option 0; it speaks the protocol up to version 1, 2 or 3, without the option 3
+    Repo {
+        name: Text,
+        id: RepoId,
+        offset: u64,
+        version: u8,
+        locks: bool,
+    },
+    Does {
+        action: Action,
+    },
+    /// `damage REPO KEY BYTES`, for a key whose content an earlier line puts at REPO; no run has such a line yet
+    Damage {
+        repo: u32,
+        key: Key,
+        content: Content,
+    },
     /// `par`, the lines of the block, `end`
     Par {
-        lines: Items<BlockLine>,
+        lines: Items<Agendum>,
     },
-    /// `show presence KEY`
-    ShowPresence {
-        key: NamedKey,
+    /// `show WHAT ..`
+    Shows {
+        what: Showing,
     },
-    /// `show claims REPO KEY`
-    ShowClaims {
-        repo: u32,
-        key: NamedKey,
-    },
-    /// `show location REPO KEY`
-    ShowLocation {
-        repo: u32,
-        key: NamedKey,
-    },
-    /// `show log REPO FILE`
-    ShowLog {
-        repo: u32,
-        file: LogFile,
-    },
-    /// `show logs REPO`
-    ShowLogs {
-        repo: u32,
-    },
-    /// `show numbers REPO [PATH]`
-    ShowNumbers {
-        repo: u32,
-        path: Option<Text>,
-    },
-    /// `show level REPO TARGET`
-    ShowLevel {
-        repo: u32,
-        target: u32,
-    },
-    /// `show wants REPO TARGET PATH`, PATH a path of the tree
-    ShowWants {
-        repo: u32,
-        target: u32,
-        path: Text,
-    },
-    /// `show row REPO KEY`
-    ShowRow {
-        repo: u32,
-        key: NamedKey,
-    },
-    /// `show plan REPO`
-    ShowPlan {
-        repo: u32,
-    },
-    /// `show totals`
-    ShowTotals,
-    /// `show journal`
-    ShowJournal,
 }

@@ -1,7 +1,7 @@
 //! Copies of commands.
 ghost use Rattle.std.specs.Prelude.{◌≡◌, IfOk};
 
-use crate::command::Command;
+use crate::command::{Action, Command, Showing};
 use annex_base::NoMemory;
 use std::alloc::AllocError;
 
@@ -14,45 +14,64 @@ impl Command {
     }
 }
 
-/// A copy of the command by a list of all forms: of each its plain fields, and then those that take memory. Forms without
-/// fields stand apart.
+/// A copy by a list of all forms: of each its plain fields, and then those that take memory. Forms without fields stand
+/// apart.
 macro_rules! copied {
-    ($command:expr; $($form:ident { $($plain:ident),*; $($owned:ident),* })* [$($bare:ident)*]) => {
-        match $command {
-            $(Command::$form { $($plain,)* $($owned,)* } => {
+    ($type:ident, $value:expr; $($form:ident { $($plain:ident),*; $($owned:ident),* })* [$($bare:ident)*]) => {
+        match $value {
+            $($type::$form { $($plain,)* $($owned,)* } => {
                 $(let $owned = $owned.clone()?;)*
-                Ok(Command::$form { $($plain: *$plain,)* $($owned,)* })
+                Ok($type::$form { $($plain: *$plain,)* $($owned,)* })
             })*
-            $(Command::$bare => Ok(Command::$bare),)*
+            $($type::$bare => Ok($type::$bare),)*
         }
     };
 }
 
-// By a list of the forms, since a derived copy of so many isn't known to be equal.
+// By lists of the forms, since a derived copy of so many isn't known to be equal.
+impl Clone for Action {
+    ghost use Rattle.std.specs.Prelude.{◌≡◌};
+
+    ghost is_clone = { λ x y. y ≡ x };
+
+    fn clone(&self) -> Result<Action, AllocError> {
+        copied!(Action, self;
+            Have { repo; key, content } SetPart { repo; key, content }
+            Add { repo; path, key, content } File { ; path, key }
+            Set { repo, kind; topic, value } Raw { repo; file, line }
+            Merge { repo, other; } Compact { repo; } Sync { repo; }
+            Begin { repo; job } Run { repo; job } Turns { repo, turns; }
+            Close { repo, other; } Crash { repo, clock; } Wait { milliseconds; } Fail { repo, call; }
+            [Settle]
+        )
+    }
+}
+
+impl Clone for Showing {
+    ghost use Rattle.std.specs.Prelude.{◌≡◌};
+
+    ghost is_clone = { λ x y. y ≡ x };
+
+    fn clone(&self) -> Result<Showing, AllocError> {
+        copied!(Showing, self;
+            Presence { ; key } Claims { repo; key } Location { repo; key } Row { repo; key }
+            Log { repo; file } Logs { repo; } Numbers { repo; path }
+            Level { repo, target; } Wants { repo, target; path } Plan { repo; }
+            [Totals Journal]
+        )
+    }
+}
+
 impl Clone for Command {
     ghost use Rattle.std.specs.Prelude.{◌≡◌};
 
     ghost is_clone = { λ x y. y ≡ x };
 
     fn clone(&self) -> Result<Command, AllocError> {
-        copied!(self;
-            Repo { id, offset, version, locks; name }
-            Numcopies { repo, number; } Mincopies { repo, number; }
-            NumcopiesFor { repo, number; glob } MincopiesFor { repo, number; glob }
-            Trust { repo, target, level; }
-            Describe { repo, target; text } Wanted { repo, target; text } Required { repo, target; text }
-            Group { repo, target; groups } GroupWanted { repo; group, text }
-            Log { repo; file, line }
-            Have { repo; key, content } Part { repo; key, content } Damage { repo; key, content }
-            Add { repo; path, key, content } File { ; path, key }
-            Run { repo; job } Begin { repo; job }
-            Turn { repo, turns; } Merge { repo, other; } Compact { repo; } Sync { repo; }
-            Close { repo, other; } Crash { repo, clock; } Wait { milliseconds; } Fail { repo, call; }
-            Par { ; lines }
-            ShowPresence { ; key } ShowClaims { repo; key } ShowLocation { repo; key } ShowRow { repo; key }
-            ShowLog { repo; file } ShowLogs { repo; }
-            ShowNumbers { repo; path } ShowLevel { repo, target; } ShowWants { repo, target; path } ShowPlan { repo; }
-            [Settle ShowTotals ShowJournal]
+        copied!(Command, self;
+            Repo { id, offset, version, locks; name } Does { ; action }
+            Damage { repo; key, content } Par { ; lines } Shows { ; what }
+            []
         )
     }
 }

@@ -1,11 +1,12 @@
 //! The lines that turn, settle, merge, compact, sync and wait.
 ghost use Rattle.std.specs.Prelude.{◌≡◌};
-ghost use Rattle.script_commands.specs.Answers.{Gives};
-ghost use Rattle.script_commands.specs.Context.{Context};
-ghost use Rattle.script_commands.specs.Forms.{row};
-ghost use Rattle.script_commands.specs.declared.verb.Verb.TheVariants as verbs;
+ghost use Rattle.script_forms.specs.Answers.{Gives};
+ghost use Rattle.script_forms.specs.Context.{Context};
+ghost use Rattle.script_forms.specs.Forms.{row};
+ghost use Rattle.script_forms.specs.declared.verb.Verb.TheVariants as verbs;
 
-use script_commands::{Command, Context, LineFault};
+use script_commands::{Action, Command};
+use script_forms::{Context, LineFault};
 use script_steps::{end, number, other, repo, turns};
 use script_words::Words;
 
@@ -16,7 +17,8 @@ pub fn turn(context: &Context, words: &mut Words<'_>) -> Result<Command, LineFau
     let repo = repo(context, words)?;
     let turns = turns(words);
     end(words)?;
-    Ok(Command::Turn { repo, turns })
+    let action = Action::Turns { repo, turns };
+    Ok(Command::Does { action })
 }
 
 /// `settle`
@@ -24,7 +26,8 @@ pub fn settle(words: &mut Words<'_>) -> Result<Command, LineFault>
     ensures { (context : Context) → Gives (λ c. c) result ((row verbs.Settle).1 context words.old) }
 {
     end(words)?;
-    Ok(Command::Settle)
+    let action = Action::Settle;
+    Ok(Command::Does { action })
 }
 
 /// `merge REPO OTHER`
@@ -34,7 +37,8 @@ pub fn merge(context: &Context, words: &mut Words<'_>) -> Result<Command, LineFa
     let repo = repo(context, words)?;
     let other = other(context, repo, words)?;
     end(words)?;
-    Ok(Command::Merge { repo, other })
+    let action = Action::Merge { repo, other };
+    Ok(Command::Does { action })
 }
 
 /// `compact REPO`
@@ -43,7 +47,8 @@ pub fn compact(context: &Context, words: &mut Words<'_>) -> Result<Command, Line
 {
     let repo = repo(context, words)?;
     end(words)?;
-    Ok(Command::Compact { repo })
+    let action = Action::Compact { repo };
+    Ok(Command::Does { action })
 }
 
 /// `sync REPO`
@@ -52,7 +57,8 @@ pub fn sync(context: &Context, words: &mut Words<'_>) -> Result<Command, LineFau
 {
     let repo = repo(context, words)?;
     end(words)?;
-    Ok(Command::Sync { repo })
+    let action = Action::Sync { repo };
+    Ok(Command::Does { action })
 }
 
 /// `wait MS`
@@ -61,5 +67,6 @@ pub fn wait(words: &mut Words<'_>) -> Result<Command, LineFault>
 {
     let milliseconds = number(u64::MAX, words)?;
     end(words)?;
-    Ok(Command::Wait { milliseconds })
+    let action = Action::Wait { milliseconds };
+    Ok(Command::Does { action })
 }

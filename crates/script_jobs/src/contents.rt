@@ -1,10 +1,11 @@
 //! The lines that put contents, and paths into the tree.
 ghost use Rattle.std.specs.Prelude.{◌≡◌, ◌≤◌, length, OnOk};
-ghost use Rattle.script_commands.specs.Answers.{Gives};
-ghost use Rattle.script_commands.specs.Forms.{row, end_within_at};
-ghost use Rattle.script_commands.specs.declared.verb.Verb.TheVariants as verbs;
+ghost use Rattle.script_forms.specs.Answers.{Gives};
+ghost use Rattle.script_forms.specs.Forms.{row, end_within_at};
+ghost use Rattle.script_forms.specs.declared.verb.Verb.TheVariants as verbs;
 
-use script_commands::{Command, Context, LineFault, Quantity};
+use script_commands::{Action, Command};
+use script_forms::{Context, LineFault, Quantity};
 use script_steps::{content, end, is_large, key, key_for, matching, path, placed_key, repo};
 use script_words::{Content, Words};
 use std::alloc::Global;
@@ -32,11 +33,12 @@ pub fn have(alloc: Global, context: &Context, words: &mut Words<'_>) -> Result<C
     let named = key(alloc, context, words)?;
     let content = matching(alloc, &named.key, words)?;
     end_within(&content, words)?;
-    Ok(Command::Have {
+    let action = Action::Have {
         repo,
         key: named.key,
         content,
-    })
+    };
+    Ok(Command::Does { action })
 }
 
 /// `part REPO KEY BYTES`
@@ -47,11 +49,12 @@ pub fn part(alloc: Global, context: &Context, words: &mut Words<'_>) -> Result<C
     let named = key(alloc, context, words)?;
     let content = content(alloc, words)?;
     end_within(&content, words)?;
-    Ok(Command::Part {
+    let action = Action::SetPart {
         repo,
         key: named.key,
         content,
-    })
+    };
+    Ok(Command::Does { action })
 }
 
 /// `damage REPO KEY BYTES`
@@ -78,12 +81,13 @@ pub fn add(alloc: Global, context: &Context, words: &mut Words<'_>) -> Result<Co
     let content = content(alloc, words)?;
     end_within(&content, words)?;
     let key = key_for(alloc, &path, &content)?;
-    Ok(Command::Add {
+    let action = Action::Add {
         repo,
         path,
         key,
         content,
-    })
+    };
+    Ok(Command::Does { action })
 }
 
 /// `file PATH KEY`
@@ -93,8 +97,9 @@ pub fn file(alloc: Global, context: &Context, words: &mut Words<'_>) -> Result<C
     let path = path(alloc, words)?;
     let named = key(alloc, context, words)?;
     end(words)?;
-    Ok(Command::File {
+    let action = Action::File {
         path,
         key: named.key,
-    })
+    };
+    Ok(Command::Does { action })
 }

@@ -1,13 +1,14 @@
 //! Jobs, and the lines that may stand in a block.
 ghost use Rattle.std.specs.Prelude.{◌≡◌};
-ghost use Rattle.script_commands.specs.Answers.{Gives, Reads};
-ghost use Rattle.script_commands.specs.Forms.{row, job_row, block_row, outside_block, a_job, job_verb_at};
-ghost use Rattle.script_commands.specs.declared.verb.Verb.TheVariants as verbs;
-ghost use Rattle.script_commands.specs.declared.verb.BlockVerb.TheVariants as block_verbs;
-ghost use Rattle.script_commands.specs.declared.verb.JobVerb.TheVariants as job_verbs;
+ghost use Rattle.script_forms.specs.Answers.{Gives, Reads};
+ghost use Rattle.script_forms.specs.Forms.{row, job_row, block_row, outside_block, a_job, job_verb_at};
+ghost use Rattle.script_forms.specs.declared.verb.Verb.TheVariants as verbs;
+ghost use Rattle.script_forms.specs.declared.verb.BlockVerb.TheVariants as block_verbs;
+ghost use Rattle.script_forms.specs.declared.verb.JobVerb.TheVariants as job_verbs;
 
 use run_data::{Job, JobKind};
-use script_commands::{BlockLine, BlockVerb, Command, Context, JobVerb, LineFault, NamedKey};
+use script_commands::{Action, Agendum, BlockLine, Command, NamedKey};
+use script_forms::{BlockVerb, Context, JobVerb, LineFault};
 use script_steps::{
     call, clock, end, key, maybe_from, next_word, other, repo, to, way, wrong_word,
 };
@@ -106,37 +107,41 @@ pub fn begin(alloc: Global, context: &Context, words: &mut Words<'_>) -> Result<
 {
     let verb = job_verb(words)?;
     let (repo, job) = read_job(verb, alloc, context, words)?;
-    Ok(Command::Begin { repo, job })
+    let action = Action::Begin { repo, job };
+    Ok(Command::Does { action })
 }
 
 /// `crash REPO [clock=MS]`
-fn crash(context: &Context, words: &mut Words<'_>) -> Result<BlockLine, LineFault>
+fn crash(context: &Context, words: &mut Words<'_>) -> Result<Agendum, LineFault>
     ensures { Gives (λ l. l) result ((block_row block_verbs.Crash).1 context.now words.old) }
 {
     let repo = repo(context, words)?;
     let clock = clock(words);
     end(words)?;
-    Ok(BlockLine::Crash { repo, clock })
+    let line = BlockLine::Crashes { clock };
+    Ok(Agendum { repo, line })
 }
 
 /// `close REPO OTHER`
-fn close(context: &Context, words: &mut Words<'_>) -> Result<BlockLine, LineFault>
+fn close(context: &Context, words: &mut Words<'_>) -> Result<Agendum, LineFault>
     ensures { Gives (λ l. l) result ((block_row block_verbs.Close).1 context.now words.old) }
 {
     let repo = repo(context, words)?;
     let other = other(context, repo, words)?;
     end(words)?;
-    Ok(BlockLine::Close { repo, other })
+    let line = BlockLine::Closes { other };
+    Ok(Agendum { repo, line })
 }
 
 /// `fail REPO CALL`
-fn fail(context: &Context, words: &mut Words<'_>) -> Result<BlockLine, LineFault>
+fn fail(context: &Context, words: &mut Words<'_>) -> Result<Agendum, LineFault>
     ensures { Gives (λ l. l) result ((block_row block_verbs.Fail).1 context.now words.old) }
 {
     let repo = repo(context, words)?;
     let call = call(words)?;
     end(words)?;
-    Ok(BlockLine::Fail { repo, call })
+    let line = BlockLine::Fails { call };
+    Ok(Agendum { repo, line })
 }
 
 fn run(
@@ -144,11 +149,12 @@ fn run(
     alloc: Global,
     context: &Context,
     words: &mut Words<'_>,
-) -> Result<BlockLine, LineFault>
+) -> Result<Agendum, LineFault>
     ensures { Gives (λ l. l) result ((block_row (block_verbs.Job verb)).1 context.now words.old) }
 {
     let (repo, job) = read_job(verb, alloc, context, words)?;
-    Ok(BlockLine::Run { repo, job })
+    let line = BlockLine::Runs { job };
+    Ok(Agendum { repo, line })
 }
 
 /// A line that may stand in a block.
@@ -157,7 +163,7 @@ pub fn read_block_line(
     alloc: Global,
     context: &Context,
     words: &mut Words<'_>,
-) -> Result<BlockLine, LineFault>
+) -> Result<Agendum, LineFault>
     ensures { Gives (λ l. l) result ((block_row verb).1 context.now words.old) }
 {
     match verb {
@@ -169,15 +175,16 @@ pub fn read_block_line(
 }
 
 /// The same line outside a block.
-fn outside_block(line: BlockLine) -> Command
-    ensures { result ≡ outside_block line }
+fn outside_block(repo: u32, line: BlockLine) -> Command
+    ensures { result ≡ outside_block repo line }
 {
-    match line {
-        BlockLine::Run { repo, job } => Command::Run { repo, job },
-        BlockLine::Crash { repo, clock } => Command::Crash { repo, clock },
-        BlockLine::Close { repo, other } => Command::Close { repo, other },
-        BlockLine::Fail { repo, call } => Command::Fail { repo, call },
-    }
+    let action = match line {
+        BlockLine::Runs { job } => Action::Run { repo, job },
+        BlockLine::Crashes { clock } => Action::Crash { repo, clock },
+        BlockLine::Closes { other } => Action::Close { repo, other },
+        BlockLine::Fails { call } => Action::Fail { repo, call },
+    };
+    Command::Does { action }
 }
 
 /// A line that may stand in a block, and stands in none.
@@ -189,6 +196,6 @@ pub fn read_alone(
 ) -> Result<Command, LineFault>
     ensures { Gives (λ c. c) result ((row (verbs.InBlock verb)).1 context.now words.old) }
 {
-    let line = read_block_line(verb, alloc, context, words)?;
-    Ok(outside_block(line))
+    let Agendum { repo, line } = read_block_line(verb, alloc, context, words)?;
+    Ok(outside_block(repo, line))
 }

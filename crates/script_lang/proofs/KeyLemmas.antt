@@ -33,11 +33,11 @@ use Rattle.script_words.specs.Contents.{content_of}
 use Rattle.script_words.specs.declared.key_word.KeyWord.{KeyWord}
 use Rattle.script_words.specs.declared.key_word.KeyWord.TheVariants.{OfKey, OfPath}
 use Rattle.script_commands.specs.declared.command.NamedKey.{NamedKey}
-use Rattle.script_commands.specs.declared.fault.LineFault.{LineFault}
-use Rattle.script_commands.specs.Context.{Context, is_placed}
+use Rattle.script_forms.specs.declared.fault.LineFault.{LineFault}
+use Rattle.script_forms.specs.Context.{Context, is_placed}
 use Rattle.script_lang.specs.Preconditions.{IsRepo, AreTwo, IsLineText, IsKnownKey, IsNamedKey, IsPath, IsNamedFile, IsLogFile, IsSmall}
-use Rattle.script_commands.specs.Steps
-use Rattle.script_commands.specs.Verify.{is_content_of}
+use Rattle.script_forms.specs.Steps
+use Rattle.script_forms.specs.Verify.{is_content_of}
 use Rattle.script_lang.proofs.StepLemmas.{Gives, Always, saying_gives, option_gives, next_stays, holds_some, other_gives, number_bounded, path_some}
 
 -- ---- keys
@@ -125,14 +125,7 @@ module _ (law : KeysAreTexts) (context : Context) (keys : HasKeys context) where
       Each-member (λ k. k ≢ log_kinds.Location) named_kinds kind ((λ e. cc), ((λ e. cc), ((λ e. cc), ((λ e. cc), ((λ e. cc), ((λ e. cc), ((λ e. cc), ((λ e. cc), ((λ e. cc), ((λ e. cc), tt)))))))))) found.0
 
   file_is : (name : List ℕ) (file : LogFile) → Steps.file_named name ≡ Some file → IsNamedFile file
-  file_is name file e = from (kind_named name) refl e
-    where
-      some_is : (x y : LogFile) → Some x ≡ Some y → x ≡ y
-      some_is x y e = cc
-
-      from : (o : Option LogKind) → kind_named name ≡ o → Steps.file_by name o ≡ Some file → IsNamedFile file
-      from None is e = let h = holds_some (Steps.is_path_file name) (Other name) file e in subst IsNamedFile h.1 h.0
-      from (Some kind) is e = subst IsNamedFile (some_is (Of kind) file e) (kind_is name kind is)
+  file_is name file e = let m = map_some (kind_named name) Of file e in subst IsNamedFile m.2 (kind_is name m.0 m.1)
 
   pub file_gives : Gives IsNamedFile Steps.file_at
   unfolding Steps.file_at

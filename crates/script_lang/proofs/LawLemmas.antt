@@ -6,7 +6,7 @@ use Rattle.std.proofs.lemmas.Bool.{cases_Bool}
 use Rattle.std.proofs.lemmas.List.Splits.{slice_split-cons_no, slice_split-cons_yes, length-slice_split}
 use Rattle.annex_base.specs.Lines.{newline, is_newline}
 use Rattle.annex_base.proofs.Results.{bind_ok, bind_err, ok_is}
-use Rattle.script_commands.specs.declared.fault.LineFault.{LineFault}
+use Rattle.script_forms.specs.declared.fault.LineFault.{LineFault}
 use Rattle.script_lang.specs.Laws.{behind_lines}
 use Rattle.script_lang.specs.Script.{State, Reading, line_step, lines_of, lines_reading, fault_of, goes_on, ended_by}
 use Rattle.script_lang.specs.Script.Reading.{Commands}

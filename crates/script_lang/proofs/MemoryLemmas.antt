@@ -1,6 +1,7 @@
 -- What a line says is never that memory is wanted.
 use Rattle.std.proofs.Common.{◌≡◌, ℕ, zero, suc, ◌+◌, ◌-◌, Bool, true, false, nat_lt, List, [], ◌∷◌, ◌++◌, length, take, Option, Some, None, Result, Ok, Err, ap}
 use Rattle.std.specs.Prelude.{◌≢◌, codes, if◌then◌else◌}
+use Rattle.std.specs.Option.{option_map}
 use Rattle.std.specs.Str.{is_utf8}
 use Rattle.std.specs.Str.Lossy.{utf8_valid_len}
 use Rattle.annex_base.specs.RepoText.{repo_of}
@@ -9,45 +10,52 @@ use Rattle.annex_base.specs.declared.kinds.Level.{Level}
 use Rattle.annex_base.specs.declared.kinds.Call.{Call}
 use Rattle.annex_base.proofs.Conditions.{if_either}
 use Rattle.annex_base.proofs.Results.{err_is, ok_err}
+use Rattle.log_lines.specs.declared.entry.LogKind.{LogKind}
+use Rattle.log_lines.specs.declared.entry.LogKind.TheVariants as log_kinds
+use Rattle.log_lines.specs.declared.entry.Topic.{Topic}
+use Rattle.log_lines.specs.declared.entry.Topic.TheVariants as topics
+use Rattle.log_lines.specs.declared.entry.Value.TheVariants as values
 use Rattle.run_data.specs.declared.entry.LogFile.{LogFile}
 use Rattle.run_data.specs.declared.entry.LogFile.TheVariants.{Location}
 use Rattle.run_data.specs.declared.job.Job.{Job}
 use Rattle.run_data.specs.declared.job.JobKind.{JobKind}
 use Rattle.run_data.specs.declared.job.JobKind.TheVariants as kinds
 use Rattle.script_words.specs.Places.{Cursor}
-use Rattle.script_words.specs.Words.{next_word, rest_word, behind}
+use Rattle.script_words.specs.Words.{next_word, rest_word, behind, first_place}
 use Rattle.script_words.specs.Numbers.{number_up_to}
 use Rattle.script_words.specs.Fields.{level_of, call_of}
 use Rattle.script_words.specs.Contents.{content_of}
 use Rattle.script_words.specs.declared.words.NextWord.{NextWord}
 use Rattle.script_words.specs.declared.words.NextWord.TheVariants.{NoWord, BadWord, Word}
 use Rattle.script_commands.specs.declared.command.NamedKey.{NamedKey}
-use Rattle.script_commands.specs.declared.command.BlockLine.{BlockLine}
-use Rattle.script_commands.specs.declared.command.BlockLine.TheVariants as blocks
+use Rattle.script_commands.specs.declared.command.Action.TheVariants as actions
+use Rattle.script_commands.specs.declared.command.Agendum.{Agendum}
+use Rattle.script_commands.specs.declared.command.BlockLine.TheVariants.{Runs, Crashes, Closes, Fails}
+use Rattle.script_commands.specs.declared.command.Showing.TheVariants as showings
 use Rattle.script_commands.specs.declared.command.Command.{Command}
 use Rattle.script_commands.specs.declared.command.Command.TheVariants as commands
-use Rattle.script_commands.specs.declared.fault.LineFault.{LineFault}
-use Rattle.script_commands.specs.declared.fault.LineFault.TheVariants.{Wrong, Past, NoMemory}
-use Rattle.script_commands.specs.declared.fault.Quantity.{Quantity}
-use Rattle.script_commands.specs.declared.fault.Quantity.TheVariants.{Content}
+use Rattle.script_forms.specs.declared.fault.LineFault.{LineFault}
+use Rattle.script_forms.specs.declared.fault.LineFault.TheVariants.{Wrong, Past, NoMemory}
+use Rattle.script_forms.specs.declared.fault.Quantity.{Quantity}
+use Rattle.script_forms.specs.declared.fault.Quantity.TheVariants.{Content}
 use Rattle.script_lang.specs.declared.state.Block.{Block}
-use Rattle.script_commands.specs.declared.verb.Verb.{Verb}
-use Rattle.script_commands.specs.declared.verb.Verb.TheVariants as verbs
-use Rattle.script_commands.specs.declared.verb.BlockVerb.{BlockVerb}
-use Rattle.script_commands.specs.declared.verb.BlockVerb.TheVariants as block_verbs
-use Rattle.script_commands.specs.declared.verb.JobVerb.{JobVerb}
-use Rattle.script_commands.specs.declared.verb.JobVerb.TheVariants as job_verbs
-use Rattle.script_commands.specs.declared.verb.LineVerb.{LineVerb}
-use Rattle.script_commands.specs.declared.verb.LineVerb.TheVariants.{Par, End, Says}
-use Rattle.script_commands.specs.declared.verb.Show.{Show}
-use Rattle.script_commands.specs.declared.verb.Show.TheVariants as shows
-use Rattle.script_commands.specs.Context.{Context, number_of_repo, number_of_other, has_path}
-use Rattle.script_commands.specs.Forms
-use Rattle.script_commands.specs.Forms.{Form}
-use Rattle.script_commands.specs.Limits.{first_limit}
+use Rattle.script_forms.specs.declared.verb.Verb.{Verb}
+use Rattle.script_forms.specs.declared.verb.Verb.TheVariants as verbs
+use Rattle.script_forms.specs.declared.verb.BlockVerb.{BlockVerb}
+use Rattle.script_forms.specs.declared.verb.BlockVerb.TheVariants as block_verbs
+use Rattle.script_forms.specs.declared.verb.JobVerb.{JobVerb}
+use Rattle.script_forms.specs.declared.verb.JobVerb.TheVariants as job_verbs
+use Rattle.script_forms.specs.declared.verb.LineVerb.{LineVerb}
+use Rattle.script_forms.specs.declared.verb.LineVerb.TheVariants.{Par, End, Says}
+use Rattle.script_forms.specs.declared.verb.Show.{Show}
+use Rattle.script_forms.specs.declared.verb.Show.TheVariants as shows
+use Rattle.script_forms.specs.Context.{Context, number_of_repo, number_of_other, id_of_repo, has_path}
+use Rattle.script_forms.specs.Forms
+use Rattle.script_forms.specs.Forms.{Form}
+use Rattle.script_forms.specs.Limits.{first_limit}
 use Rattle.script_lang.specs.Script
 use Rattle.script_lang.specs.Script.{State}
-use Rattle.script_commands.specs.Steps
+use Rattle.script_forms.specs.Steps
 
 -- the answer isn't that memory is wanted
 pub record WantsNone {A : Type 0} (r : Result A LineFault) : Type 0 where
@@ -193,6 +201,12 @@ repo_never next others = record { given = behind_step Steps.repo_at next (λ con
 other_never : {A : Type 0} (r : ℕ) (next : ℕ → Form A) → ((x : ℕ) → NeverWants (next x)) → NeverWants (Forms.other r next)
 other_never r next others = record { given = behind_step (λ context. Steps.other_at context r) next (λ context at. other_at_never context r at) others }
 
+target_never : {A : Type 0} (next : Topic → Form A) → ((x : Topic) → NeverWants (next x)) → NeverWants (Forms.target next)
+unfolding Steps.target_at
+target_never next others = record {
+  given = behind_step Steps.target_at next (λ context at. saying_never (λ name. option_map topics.Repo (id_of_repo context.repos name)) at) others;
+}
+
 new_name_never : {A : Type 0} (next : List ℕ → Form A) → ((x : List ℕ) → NeverWants (next x)) → NeverWants (Forms.new_name next)
 unfolding Steps.new_name_at
 new_name_never next others = record { given = behind_step Steps.new_name_at next (λ context at. saying_never (Steps.new_name context) at) others }
@@ -318,7 +332,7 @@ short_never : {A : Type 0} (next : Form A) → NeverWants next → NeverWants (F
 short_never next others = record { given = λ context at. both (Steps.short_at at) (λ u. next context at) (short_at_never at) (λ u. others.given context at) }
 
 first_never : {A : Type 0} (next : Form A) → NeverWants next → NeverWants (Forms.first next)
-first_never next others = record { given = λ context at. if_either WantsNone context.closed (Err (Wrong 0)) (next context at) (λ closed. wrong 0) (λ going. others.given context at) }
+first_never next others = record { given = λ context at. if_either WantsNone context.closed (Err (Wrong (first_place at.line))) (next context at) (λ closed. wrong (first_place at.line)) (λ going. others.given context at) }
 
 -- ---- jobs
 
@@ -338,64 +352,81 @@ job_never says = record {
 -- ---- lines that may stand in a block
 
 runs_never : (form : Form (ℕ × Job)) → NeverWants form → NeverWants (Forms.runs form)
-runs_never form others = record { given = λ context at. both (form context at) (λ j. Ok (blocks.Run j.0 j.1)) (others.given context at) (λ j. said (blocks.Run j.0 j.1)) }
+runs_never form others = record { given = λ context at. both (form context at) (λ j. Ok (Forms.agendum j.0 (Runs j.1))) (others.given context at) (λ j. said (Forms.agendum j.0 (Runs j.1))) }
 
 pub block_row_never : (v : BlockVerb) → NeverWants (Forms.block_row v).1
 block_row_never (block_verbs.Job v) = runs_never (Forms.job_row v).1 (job_row_never v)
-block_row_never block_verbs.Crash = repo_never _ λ r. clock_never (λ c. Forms.ends (blocks.Crash r c)) λ c. ends_never (blocks.Crash r c)
-block_row_never block_verbs.Close = repo_never _ λ r. other_never r _ λ o. ends_never (blocks.Close r o)
-block_row_never block_verbs.Fail = repo_never _ λ r. call_never _ λ c. ends_never (blocks.Fail r c)
+block_row_never block_verbs.Crash = repo_never _ λ r. clock_never (λ c. Forms.ends (Forms.agendum r (Crashes c))) λ c. ends_never (Forms.agendum r (Crashes c))
+block_row_never block_verbs.Close = repo_never _ λ r. other_never r _ λ o. ends_never (Forms.agendum r (Closes o))
+block_row_never block_verbs.Fail = repo_never _ λ r. call_never _ λ c. ends_never (Forms.agendum r (Fails c))
 
-stands_alone_never : (form : Form BlockLine) → NeverWants form → NeverWants (Forms.stands_alone form)
-stands_alone_never form others = record { given = λ context at. both (form context at) (λ l. Ok (Forms.outside_block l)) (others.given context at) (λ l. said (Forms.outside_block l)) }
+stands_alone_never : (form : Form Agendum) → NeverWants form → NeverWants (Forms.stands_alone form)
+stands_alone_never form others = record {
+  given = λ context at. both (form context at) (λ l. Ok (Forms.outside_block l.repo l.line)) (others.given context at) (λ l. said (Forms.outside_block l.repo l.line));
+}
 
 -- ---- lines that show something
 
 show_row_never : (v : Show) → NeverWants (Forms.show_row v).1
-show_row_never shows.Presence = key_never _ λ k. ends_never (commands.ShowPresence k)
-show_row_never shows.Claims = repo_never _ λ r. key_never _ λ k. ends_never (commands.ShowClaims r k)
-show_row_never shows.Location = repo_never _ λ r. key_never _ λ k. ends_never (commands.ShowLocation r k)
-show_row_never shows.Log = repo_never _ λ r. file_never _ λ f. ends_never (commands.ShowLog r f)
-show_row_never shows.Logs = repo_never _ λ r. ends_never (commands.ShowLogs r)
-show_row_never shows.Numbers = repo_never _ λ r. maybe_path_never (λ p. Forms.ends (commands.ShowNumbers r p)) λ p. ends_never (commands.ShowNumbers r p)
-show_row_never shows.Level = repo_never _ λ r. repo_never _ λ t. ends_never (commands.ShowLevel r t)
-show_row_never shows.Wants = repo_never _ λ r. repo_never _ λ t. tree_path_never _ λ p. ends_never (commands.ShowWants r t p)
-show_row_never shows.Row = repo_never _ λ r. key_never _ λ k. ends_never (commands.ShowRow r k)
-show_row_never shows.Plan = repo_never _ λ r. ends_never (commands.ShowPlan r)
-show_row_never shows.Totals = ends_never commands.ShowTotals
-show_row_never shows.Journal = ends_never commands.ShowJournal
+show_row_never shows.Presence = key_never _ λ k. ends_never (showings.Presence k)
+show_row_never shows.Claims = repo_never _ λ r. key_never _ λ k. ends_never (showings.Claims r k)
+show_row_never shows.Location = repo_never _ λ r. key_never _ λ k. ends_never (showings.Location r k)
+show_row_never shows.Log = repo_never _ λ r. file_never _ λ f. ends_never (showings.Log r f)
+show_row_never shows.Logs = repo_never _ λ r. ends_never (showings.Logs r)
+show_row_never shows.Numbers = repo_never _ λ r. maybe_path_never (λ p. Forms.ends (showings.Numbers r p)) λ p. ends_never (showings.Numbers r p)
+show_row_never shows.Level = repo_never _ λ r. repo_never _ λ t. ends_never (showings.Level r t)
+show_row_never shows.Wants = repo_never _ λ r. repo_never _ λ t. tree_path_never _ λ p. ends_never (showings.Wants r t p)
+show_row_never shows.Row = repo_never _ λ r. key_never _ λ k. ends_never (showings.Row r k)
+show_row_never shows.Plan = repo_never _ λ r. ends_never (showings.Plan r)
+show_row_never shows.Totals = ends_never showings.Totals
+show_row_never shows.Journal = ends_never showings.Journal
+
+shown_never : (v : Show) → NeverWants (λ context at. (Forms.show_row v).1 context at >>= λ what. Ok (commands.Shows what))
+shown_never v = record { given = λ context at. both ((Forms.show_row v).1 context at) (λ what. Ok (commands.Shows what)) ((show_row_never v).given context at) (λ what. said (commands.Shows what)) }
 
 show_never : NeverWants Forms.show
-show_never = record { given = behind_step (λ context. Steps.saying_at Forms.show_named) (λ v. (Forms.show_row v).1) (λ context at. saying_never Forms.show_named at) show_row_never }
+show_never = record {
+  given = behind_step (λ context. Steps.saying_at Forms.show_named) (λ v context at. (Forms.show_row v).1 context at >>= λ what. Ok (commands.Shows what))
+      (λ context at. saying_never Forms.show_named at) shown_never;
+}
 
 -- ---- all lines
 
+number_setting_never : (kind : LogKind) → NeverWants (Forms.number_setting kind)
+number_setting_never kind = repo_never _ λ r. number_never 999999999 _ λ n. ends_never (Forms.sets r kind topics.Whole (values.Number n))
+
+number_by_path_never : (kind : LogKind) → NeverWants (Forms.number_by_path kind)
+number_by_path_never kind = repo_never _ λ r. number_never 999999999 _ λ n. glob_never (λ g. Forms.sets r kind (topics.Pattern g) (values.Number n))
+
+text_setting_never : (kind : LogKind) → NeverWants (Forms.text_setting kind)
+text_setting_never kind = repo_never _ λ r. target_never _ λ t. text_never (λ x. Forms.sets r kind t (values.Text x))
+
 pub row_never : (v : Verb) → NeverWants (Forms.row v).1
 row_never verbs.Repo = first_never _ (new_name_never _ λ name. new_id_never _ λ id. offset_never _ λ o. version_never _ λ v. locks_never _ λ l. ends_never (commands.Repo name id o v l))
-row_never verbs.Numcopies = repo_never _ λ r. number_never 999999999 _ λ n. ends_never (commands.Numcopies r n)
-row_never verbs.Mincopies = repo_never _ λ r. number_never 999999999 _ λ n. ends_never (commands.Mincopies r n)
-row_never verbs.NumcopiesFor = repo_never _ λ r. number_never 999999999 _ λ n. glob_never (commands.NumcopiesFor r n)
-row_never verbs.MincopiesFor = repo_never _ λ r. number_never 999999999 _ λ n. glob_never (commands.MincopiesFor r n)
-row_never verbs.Trust = repo_never _ λ r. repo_never _ λ t. level_never _ λ l. ends_never (commands.Trust r t l)
-row_never verbs.Describe = repo_never _ λ r. repo_never _ λ t. text_never (commands.Describe r t)
-row_never verbs.Wanted = repo_never _ λ r. repo_never _ λ t. text_never (commands.Wanted r t)
-row_never verbs.Required = repo_never _ λ r. repo_never _ λ t. text_never (commands.Required r t)
-row_never verbs.Group = repo_never _ λ r. repo_never _ λ t. groups_never (commands.Group r t)
-row_never verbs.GroupWanted = repo_never _ λ r. short_never _ (group_never _ λ g. rest_never (commands.GroupWanted r g))
-row_never verbs.Log = repo_never _ λ r. log_file_never _ λ f. raw_line_never (commands.Log r f)
-row_never verbs.Have = repo_never _ λ r. key_never _ λ k. matching_content_never k.key _ λ c. ends_within_never c (commands.Have r k.key c)
-row_never verbs.Part = repo_never _ λ r. key_never _ λ k. content_never _ λ c. ends_within_never c (commands.Part r k.key c)
+row_never verbs.Numcopies = number_setting_never log_kinds.Numcopies
+row_never verbs.Mincopies = number_setting_never log_kinds.Mincopies
+row_never verbs.NumcopiesFor = number_by_path_never log_kinds.NumcopiesPath
+row_never verbs.MincopiesFor = number_by_path_never log_kinds.MincopiesPath
+row_never verbs.Trust = repo_never _ λ r. target_never _ λ t. level_never _ λ l. ends_never (Forms.sets r log_kinds.Trust t (values.Level l))
+row_never verbs.Describe = text_setting_never log_kinds.Uuid
+row_never verbs.Wanted = text_setting_never log_kinds.Preferred
+row_never verbs.Required = text_setting_never log_kinds.Required
+row_never verbs.Group = repo_never _ λ r. target_never _ λ t. groups_never (λ gs. Forms.sets r log_kinds.Group t (values.Groups gs))
+row_never verbs.GroupWanted = repo_never _ λ r. short_never _ (group_never _ λ g. rest_never (λ x. Forms.sets r log_kinds.GroupPreferred (topics.Group g) (values.Text x)))
+row_never verbs.Log = repo_never _ λ r. log_file_never _ λ f. raw_line_never (λ l. commands.Does (actions.Raw r f l))
+row_never verbs.Have = repo_never _ λ r. key_never _ λ k. matching_content_never k.key _ λ c. ends_within_never c (commands.Does (actions.Have r k.key c))
+row_never verbs.Part = repo_never _ λ r. key_never _ λ k. content_never _ λ c. ends_within_never c (commands.Does (actions.SetPart r k.key c))
 row_never verbs.Damage = repo_never _ λ r. placed_key_never r _ λ k. content_never _ λ c. ends_within_never c (commands.Damage r k.key c)
 row_never verbs.Add = repo_never _ λ r. path_never _ λ p. content_never _ λ c. ends_within_never c _
-row_never verbs.File = path_never _ λ p. key_never _ λ k. ends_never (commands.File p k.key)
+row_never verbs.File = path_never _ λ p. key_never _ λ k. ends_never (commands.Does (actions.File p k.key))
 row_never (verbs.InBlock v) = stands_alone_never (Forms.block_row v).1 (block_row_never v)
-row_never verbs.Begin = job_never commands.Begin
-row_never verbs.Turn = repo_never _ λ r. turns_never (λ n. Forms.ends (commands.Turn r n)) λ n. ends_never (commands.Turn r n)
-row_never verbs.Settle = ends_never commands.Settle
-row_never verbs.Merge = repo_never _ λ r. other_never r _ λ o. ends_never (commands.Merge r o)
-row_never verbs.Compact = repo_never _ λ r. ends_never (commands.Compact r)
-row_never verbs.Sync = repo_never _ λ r. ends_never (commands.Sync r)
-row_never verbs.Wait = number_never 18446744073709551615 _ λ ms. ends_never (commands.Wait ms)
+row_never verbs.Begin = job_never (λ r j. commands.Does (actions.Begin r j))
+row_never verbs.Turn = repo_never _ λ r. turns_never (λ n. Forms.ends (commands.Does (actions.Turns r n))) λ n. ends_never (commands.Does (actions.Turns r n))
+row_never verbs.Settle = ends_never (commands.Does actions.Settle)
+row_never verbs.Merge = repo_never _ λ r. other_never r _ λ o. ends_never (commands.Does (actions.Merge r o))
+row_never verbs.Compact = repo_never _ λ r. ends_never (commands.Does (actions.Compact r))
+row_never verbs.Sync = repo_never _ λ r. ends_never (commands.Does (actions.Sync r))
+row_never verbs.Wait = number_never 18446744073709551615 _ λ ms. ends_never (commands.Does (actions.Wait ms))
 row_never verbs.Show = show_never
 
 -- ---- a line after others
@@ -411,7 +442,7 @@ with_command_never context before command = from (first_limit context command)
 outside_never : (context : Context) (before : List Command) (number : ℕ) (v : LineVerb) (at : Cursor) → WantsNone (Script.line_outside context before number v at)
 unfolding Script.line_outside
 outside_never context before number Par at = both (Steps.end_at at) (λ u. Ok (Script.within_block context before number [])) (end_never at) (λ u. said (Script.within_block context before number []))
-outside_never context before number End at = wrong 0
+outside_never context before number End at = wrong (first_place at.line)
 outside_never context before number (Says v) at = both ((Forms.row v).1 context at) (Script.with_command context before) ((row_never v).given context at) (with_command_never context before)
 
 inside_never : (context : Context) (before : List Command) (block : Block) (v : LineVerb) (at : Cursor) → WantsNone (Script.line_inside context before block v at)
@@ -420,7 +451,7 @@ inside_never context before block End at = both (Steps.end_at at) (λ u. Script.
 inside_never context before block (Says (verbs.InBlock v)) at =
     both ((Forms.block_row v).1 context at) (λ l. Ok (Script.within_block context before block.number (block.lines ++ l ∷ []))) ((block_row_never v).given context at)
     (λ l. said (Script.within_block context before block.number (block.lines ++ l ∷ [])))
-inside_never context before block v at = wrong 0
+inside_never context before block v at = wrong (first_place at.line)
 
 line_by_never : (context : Context) (before : List Command) (block : Option Block) (number : ℕ) (v : LineVerb) (at : Cursor) → WantsNone (Script.line_by context before block number v at)
 line_by_never context before None number v at = outside_never context before number v at

@@ -8,6 +8,11 @@ use Rattle.annex_base.proofs.Conditions.{if_is}
 use Rattle.annex_base.proofs.Results.{bind_ok, ok_is}
 use Rattle.key_verify.specs.Matching.{MatchesKey}
 use Rattle.log_lines.specs.LineText.{is_group}
+use Rattle.log_lines.specs.declared.entry.LogKind.{LogKind}
+use Rattle.log_lines.specs.declared.entry.LogKind.TheVariants as log_kinds
+use Rattle.log_lines.specs.declared.entry.Topic.{Topic}
+use Rattle.log_lines.specs.declared.entry.Topic.TheVariants as topics
+use Rattle.log_lines.specs.declared.entry.Value.TheVariants as values
 use Rattle.annex_base.specs.declared.kinds.Level.{Level}
 use Rattle.annex_base.specs.declared.kinds.Call.{Call}
 use Rattle.run_data.specs.declared.entry.LogFile.{LogFile}
@@ -15,30 +20,35 @@ use Rattle.run_data.specs.declared.job.Job.{Job}
 use Rattle.run_data.specs.declared.job.JobKind.{JobKind}
 use Rattle.run_data.specs.declared.job.JobKind.TheVariants as kinds
 use Rattle.script_words.specs.Places.{Cursor}
+use Rattle.script_words.specs.Words.{first_place}
 use Rattle.script_words.specs.Fields.{greatest_offset}
 use Rattle.script_commands.specs.declared.command.NamedKey.{NamedKey}
+use Rattle.script_commands.specs.declared.command.Action.TheVariants.{Begin, Turns}
+use Rattle.script_commands.specs.declared.command.Agendum.{Agendum}
 use Rattle.script_commands.specs.declared.command.BlockLine.{BlockLine}
-use Rattle.script_commands.specs.declared.command.BlockLine.TheVariants as blocks
+use Rattle.script_commands.specs.declared.command.BlockLine.TheVariants.{Runs, Crashes, Closes, Fails}
 use Rattle.script_commands.specs.declared.command.Command.{Command}
-use Rattle.script_commands.specs.declared.command.Command.TheVariants.{Begin, Repo, ShowNumbers, Turn}
-use Rattle.script_commands.specs.declared.fault.LineFault.{LineFault}
-use Rattle.script_commands.specs.declared.fault.LineFault.TheVariants.{Wrong, Past}
-use Rattle.script_commands.specs.declared.fault.Quantity.TheVariants.{Content}
-use Rattle.script_commands.specs.declared.verb.Verb.{Verb}
-use Rattle.script_commands.specs.declared.verb.Verb.TheVariants as verbs
-use Rattle.script_commands.specs.declared.verb.BlockVerb.{BlockVerb}
-use Rattle.script_commands.specs.declared.verb.BlockVerb.TheVariants as block_verbs
-use Rattle.script_commands.specs.declared.verb.JobVerb.{JobVerb}
-use Rattle.script_commands.specs.declared.verb.JobVerb.TheVariants as job_verbs
-use Rattle.script_commands.specs.declared.verb.Show.{Show}
-use Rattle.script_commands.specs.declared.verb.Show.TheVariants as shows
-use Rattle.script_commands.specs.Context.{Context, has_path}
-use Rattle.script_commands.specs.Forms
-use Rattle.script_commands.specs.Forms.{Form}
-use Rattle.script_lang.specs.Preconditions.{IsRepo, AreTwo, IsLineText, IsKnownKey, IsNamedKey, IsGroup, IsPath, IsNamedFile, IsLogFile, IsSmall, IsJob, MayDeclare, IsValidIn, StandsInBlock}
-use Rattle.script_commands.specs.Steps
-use Rattle.script_commands.specs.Verify.{is_content_of}
-use Rattle.script_lang.proofs.StepLemmas.{Gives, Always, Ends, IsNewName, IsNewId, IsFullText, saying_gives, repo_gives, other_gives, new_name_gives, new_id_gives, number_gives, level_gives, call_gives, path_gives, tree_path_gives, group_gives, rest_ends, full_rest_ends, text_ends, glob_ends, groups_ends}
+use Rattle.script_commands.specs.declared.command.Command.TheVariants.{Repo, Does, Shows}
+use Rattle.script_commands.specs.declared.command.Showing.{Showing}
+use Rattle.script_commands.specs.declared.command.Showing.TheVariants as showings
+use Rattle.script_forms.specs.declared.fault.LineFault.{LineFault}
+use Rattle.script_forms.specs.declared.fault.LineFault.TheVariants.{Wrong, Past}
+use Rattle.script_forms.specs.declared.fault.Quantity.TheVariants.{Content}
+use Rattle.script_forms.specs.declared.verb.Verb.{Verb}
+use Rattle.script_forms.specs.declared.verb.Verb.TheVariants as verbs
+use Rattle.script_forms.specs.declared.verb.BlockVerb.{BlockVerb}
+use Rattle.script_forms.specs.declared.verb.BlockVerb.TheVariants as block_verbs
+use Rattle.script_forms.specs.declared.verb.JobVerb.{JobVerb}
+use Rattle.script_forms.specs.declared.verb.JobVerb.TheVariants as job_verbs
+use Rattle.script_forms.specs.declared.verb.Show.{Show}
+use Rattle.script_forms.specs.declared.verb.Show.TheVariants as shows
+use Rattle.script_forms.specs.Context.{Context, has_path}
+use Rattle.script_forms.specs.Forms
+use Rattle.script_forms.specs.Forms.{Form}
+use Rattle.script_lang.specs.Preconditions.{IsRepo, IsTarget, AreTwo, IsLineText, IsKnownKey, IsNamedKey, IsGroup, IsPath, IsNamedFile, IsLogFile, IsSmall, IsJob, MayDeclare, IsSetting, IsValidIn, IsValidShowing, StandsAs, StandsInBlock}
+use Rattle.script_forms.specs.Steps
+use Rattle.script_forms.specs.Verify.{is_content_of}
+use Rattle.script_lang.proofs.StepLemmas.{Gives, Always, Ends, IsNewName, IsNewId, IsFullText, saying_gives, repo_gives, target_gives, other_gives, new_name_gives, new_id_gives, number_gives, level_gives, call_gives, path_gives, tree_path_gives, group_gives, rest_ends, full_rest_ends, text_ends, glob_ends, groups_ends}
 use Rattle.script_lang.proofs.KeyLemmas.{KeysAreTexts, HasKeys, IsPlacedKey, MayBeContent, IsPeer, key_gives, placed_key_gives, file_gives, log_file_gives, content_gives, matching_gives, content_is, small_is, offset_gives, clock_gives, version_gives, locks_gives, turns_gives, maybe_path_gives, from_gives, to_gives, way_gives}
 
 -- what a form gives has this, on a line of one line
@@ -102,7 +112,7 @@ module _ (law : KeysAreTexts) (matches : (key content : List ℕ) → is_content
   short_says P next says = record { given = λ at y one e. let b = bind_ok (Steps.short_at at) (λ u. next context at) y e in says.given at y one b.2 }
 
   first_from : {A : Type 0} (P : A → Type 0) (next : Form A) → (context.closed ≡ false → Says P context next) → (b : Bool) → context.closed ≡ b
-      → (at : Cursor) (y : A) → IsOneLine at.line → (if b then Err (Wrong 0) else next context at) ≡ Ok y → P y
+      → (at : Cursor) (y : A) → IsOneLine at.line → (if b then Err (Wrong (first_place at.line)) else next context at) ≡ Ok y → P y
   first_from P next says true is at y one e = absurd cc
   first_from P next says false is at y one e = (says is).given at y one e
 
@@ -111,6 +121,9 @@ module _ (law : KeysAreTexts) (matches : (key content : List ℕ) → is_content
 
   repo_then : {A : Type 0} (P : A → Type 0) (next : ℕ → Form A) → ((x : ℕ) → (IsRepo context) x → Says P context (next x)) → Says P context (Forms.repo next)
   repo_then P next others = record { given = behind (IsRepo context) P context (Steps.repo_at context) next (repo_gives context) others }
+
+  target_then : {A : Type 0} (P : A → Type 0) (next : Topic → Form A) → ((x : Topic) → (IsTarget context) x → Says P context (next x)) → Says P context (Forms.target next)
+  target_then P next others = record { given = behind (IsTarget context) P context (Steps.target_at context) next (target_gives context) others }
 
   name_then : {A : Type 0} (P : A → Type 0) (next : List ℕ → Form A) → ((x : List ℕ) → (IsNewName context) x → Says P context (next x)) → Says P context (Forms.new_name next)
   name_then P next others = record { given = behind (IsNewName context) P context (Steps.new_name_at context) next (new_name_gives context) others }
@@ -215,81 +228,104 @@ module _ (law : KeysAreTexts) (matches : (key content : List ℕ) → is_content
 
   -- ---- lines that may stand in a block
 
-  abbrev B : BlockLine → Type 0
+  abbrev B : Agendum → Type 0
   B = StandsInBlock context
 
   runs_says : (form : Form (ℕ × Job)) → Says JobStands context form → Says B context (Forms.runs form)
   runs_says form says = record {
     given = λ at y one e.
-        let b = bind_ok (form context at) (λ j. Ok (blocks.Run j.0 j.1)) y e in
-        subst B (ok_is LineFault (blocks.Run b.0.0 b.0.1) y b.2) (says.given at b.0 one b.1);
+        let b = bind_ok (form context at) (λ j. Ok (Forms.agendum j.0 (Runs j.1))) y e in
+        subst B (ok_is LineFault (Forms.agendum b.0.0 (Runs b.0.1)) y b.2) (says.given at b.0 one b.1);
   }
 
   pub block_says : (v : BlockVerb) → Says B context (Forms.block_row v).1
   block_says (block_verbs.Job v) = runs_says (Forms.job_row v).1 (job_says v)
-  block_says block_verbs.Crash = repo_then B _ (λ r known. clock_then B (λ c. Forms.ends (blocks.Crash r c)) (λ c le. ends_says B (blocks.Crash r c) (known, le)))
+  block_says block_verbs.Crash =
+      repo_then B _ (λ r known. clock_then B (λ c. Forms.ends (Forms.agendum r (Crashes c))) (λ c le. ends_says B (Forms.agendum r (Crashes c)) (known, le)))
   block_says block_verbs.Close = repo_then B _ (λ r known. other_then B r known _ (λ o two. ends_says B _ two))
   block_says block_verbs.Fail = repo_then B _ (λ r known. call_then B _ (λ c u. ends_says B _ known))
 
   abbrev P : Command → Type 0
   P = IsValidIn context
 
-  alone_is : (l : BlockLine) → B l → P (Forms.outside_block l)
-  alone_is (blocks.Run r job) is = is
-  alone_is (blocks.Crash r clock) is = is
-  alone_is (blocks.Close r other) is = is
-  alone_is (blocks.Fail r call) is = is
+  alone_is : (r : ℕ) (l : BlockLine) → StandsAs context r l → P (Forms.outside_block r l)
+  alone_is r (Runs job) is = is
+  alone_is r (Crashes clock) is = is
+  alone_is r (Closes other) is = is
+  alone_is r (Fails call) is = is
 
-  alone_says : (form : Form BlockLine) → Says B context form → Says P context (Forms.stands_alone form)
+  alone_says : (form : Form Agendum) → Says B context form → Says P context (Forms.stands_alone form)
   alone_says form says = record {
     given = λ at y one e.
-        let b = bind_ok (form context at) (λ l. Ok (Forms.outside_block l)) y e in
-        subst P (ok_is LineFault (Forms.outside_block b.0) y b.2) (alone_is b.0 (says.given at b.0 one b.1));
+        let b = bind_ok (form context at) (λ l. Ok (Forms.outside_block l.repo l.line)) y e in
+        subst P (ok_is LineFault (Forms.outside_block b.0.repo b.0.line) y b.2) (alone_is b.0.repo b.0.line (says.given at b.0 one b.1));
   }
 
   -- ---- lines that show something
 
-  show_says : (v : Show) → Says P context (Forms.show_row v).1
-  show_says shows.Presence = key_then P _ (λ k key. ends_says P _ key)
-  show_says shows.Claims = repo_then P _ (λ r known. key_then P _ (λ k key. ends_says P _ (known, key)))
-  show_says shows.Location = repo_then P _ (λ r known. key_then P _ (λ k key. ends_says P _ (known, key)))
-  show_says shows.Log = repo_then P _ (λ r known. file_then P _ (λ f is. ends_says P _ (known, is)))
-  show_says shows.Logs = repo_then P _ (λ r known. ends_says P _ known)
-  show_says shows.Numbers = repo_then P _ (λ r known. maybe_path_then P (λ o. Forms.ends (ShowNumbers r o)) (λ o is. ends_says P (ShowNumbers r o) (known, is)))
-  show_says shows.Level = repo_then P _ (λ r known. repo_then P _ (λ t also. ends_says P _ (known, also)))
-  show_says shows.Wants = repo_then P _ (λ r known. repo_then P _ (λ t also. tree_path_then P _ (λ p is. ends_says P _ (known, also, is))))
-  show_says shows.Row = repo_then P _ (λ r known. key_then P _ (λ k key. ends_says P _ (known, key)))
-  show_says shows.Plan = repo_then P _ (λ r known. ends_says P _ known)
-  show_says shows.Totals = ends_says P _ tt
-  show_says shows.Journal = ends_says P _ tt
+  abbrev S : Showing → Type 0
+  S = IsValidShowing context
+
+  show_says : (v : Show) → Says S context (Forms.show_row v).1
+  show_says shows.Presence = key_then S _ (λ k key. ends_says S _ key)
+  show_says shows.Claims = repo_then S _ (λ r known. key_then S _ (λ k key. ends_says S _ (known, key)))
+  show_says shows.Location = repo_then S _ (λ r known. key_then S _ (λ k key. ends_says S _ (known, key)))
+  show_says shows.Log = repo_then S _ (λ r known. file_then S _ (λ f is. ends_says S _ (known, is)))
+  show_says shows.Logs = repo_then S _ (λ r known. ends_says S _ known)
+  show_says shows.Numbers = repo_then S _ (λ r known. maybe_path_then S (λ o. Forms.ends (showings.Numbers r o)) (λ o is. ends_says S (showings.Numbers r o) (known, is)))
+  show_says shows.Level = repo_then S _ (λ r known. repo_then S _ (λ t also. ends_says S _ (known, also)))
+  show_says shows.Wants = repo_then S _ (λ r known. repo_then S _ (λ t also. tree_path_then S _ (λ p is. ends_says S _ (known, also, is))))
+  show_says shows.Row = repo_then S _ (λ r known. key_then S _ (λ k key. ends_says S _ (known, key)))
+  show_says shows.Plan = repo_then S _ (λ r known. ends_says S _ known)
+  show_says shows.Totals = ends_says S _ tt
+  show_says shows.Journal = ends_says S _ tt
+
+  any_shown : (v : Show) → Says P context (λ context at. (Forms.show_row v).1 context at >>= λ what. Ok (Shows what))
+  any_shown v = record {
+    given = λ at y one e.
+        let b = bind_ok ((Forms.show_row v).1 context at) (λ what. Ok (Shows what)) y e in
+        subst P (ok_is LineFault (Shows b.0) y b.2) ((show_says v).given at b.0 one b.1);
+  }
 
   any_show : Says P context Forms.show
-  any_show = record { given = behind (λ v. Unit {0}) P context (Steps.saying_at Forms.show_named) (λ v. (Forms.show_row v).1) (saying_gives (λ v. Unit {0}) Forms.show_named (λ text v one e. tt)) (λ v u. show_says v) }
+  any_show = record {
+    given = behind (λ v. Unit {0}) P context (Steps.saying_at Forms.show_named) (λ v context at. (Forms.show_row v).1 context at >>= λ what. Ok (Shows what))
+        (saying_gives (λ v. Unit {0}) Forms.show_named (λ text v one e. tt)) (λ v u. any_shown v);
+  }
 
-  any_job : Says P context (Forms.job Begin)
+  any_job : Says P context (Forms.job (λ r job. Does (Begin r job)))
   any_job = record {
     given = λ at y one e.
-        let v = bind_ok (Steps.saying_at Forms.job_named at) (λ v. (Forms.job_row v.0).1 context v.1 >>= λ j. Ok (Begin j.0 j.1)) y e in
+        let v = bind_ok (Steps.saying_at Forms.job_named at) (λ v. (Forms.job_row v.0).1 context v.1 >>= λ j. Ok (Does (Begin j.0 j.1))) y e in
         let given = saying_gives (λ v. Unit {0}) Forms.job_named (λ text v one e. tt) at v.0 one v.1 in
-        let j = bind_ok ((Forms.job_row v.0.0).1 context v.0.1) (λ j. Ok (Begin j.0 j.1)) y v.2 in
-        subst P (ok_is LineFault (Begin j.0.0 j.0.1) y j.2) ((job_says v.0.0).given v.0.1 j.0 (subst IsOneLine (sym given.1) one) j.1);
+        let j = bind_ok ((Forms.job_row v.0.0).1 context v.0.1) (λ j. Ok (Does (Begin j.0 j.1))) y v.2 in
+        subst P (ok_is LineFault (Does (Begin j.0.0 j.0.1)) y j.2) ((job_says v.0.0).given v.0.1 j.0 (subst IsOneLine (sym given.1) one) j.1);
   }
 
   -- ---- all lines
 
+  number_says : (kind : LogKind) → ((n : ℕ) → n ≤ 999999999 → IsSetting context kind topics.Whole (values.Number n)) → Says P context (Forms.number_setting kind)
+  number_says kind is = repo_then P _ (λ r known. number_then P 999999999 _ (λ n le. ends_says P _ (known, is n le)))
+
+  by_path_says : (kind : LogKind) → ((n : ℕ) (glob : List ℕ) → n ≤ 999999999 → IsLineText glob → IsSetting context kind (topics.Pattern glob) (values.Number n)) → Says P context (Forms.number_by_path kind)
+  by_path_says kind is = repo_then P _ (λ r known. number_then P 999999999 _ (λ n le. glob_says P _ (λ x text. (known, is n x le text))))
+
+  text_setting_says : (kind : LogKind) → ((t : Topic) (text : List ℕ) → IsTarget context t → IsLineText text → IsSetting context kind t (values.Text text)) → Says P context (Forms.text_setting kind)
+  text_setting_says kind is = repo_then P _ (λ r known. target_then P _ (λ t also. text_says P _ (λ x text. (known, is t x also text))))
+
   pub row_says : (v : Verb) → Says P context (Forms.row v).1
   row_says verbs.Repo = first_says P _ (λ front. name_then P _ (λ name n. id_then P _ (λ id i. offset_then P _ (λ o le. version_then P _ (λ v three. locks_then P _ (λ l u.
       ends_says P (Repo name id o v l) (record { first = front; good_name = n.good; new_name = n.new; good_id = i.good; new_id = i.new }, le, three)))))))
-  row_says verbs.Numcopies = repo_then P _ (λ r known. number_then P 999999999 _ (λ n le. ends_says P _ (known, le)))
-  row_says verbs.Mincopies = repo_then P _ (λ r known. number_then P 999999999 _ (λ n le. ends_says P _ (known, le)))
-  row_says verbs.NumcopiesFor = repo_then P _ (λ r known. number_then P 999999999 _ (λ n le. glob_says P _ (λ x is. (known, le, is))))
-  row_says verbs.MincopiesFor = repo_then P _ (λ r known. number_then P 999999999 _ (λ n le. glob_says P _ (λ x is. (known, le, is))))
-  row_says verbs.Trust = repo_then P _ (λ r known. repo_then P _ (λ t also. level_then P _ (λ l u. ends_says P _ (known, also))))
-  row_says verbs.Describe = repo_then P _ (λ r known. repo_then P _ (λ t also. text_says P _ (λ x is. (known, also, is))))
-  row_says verbs.Wanted = repo_then P _ (λ r known. repo_then P _ (λ t also. text_says P _ (λ x is. (known, also, is))))
-  row_says verbs.Required = repo_then P _ (λ r known. repo_then P _ (λ t also. text_says P _ (λ x is. (known, also, is))))
-  row_says verbs.Group = repo_then P _ (λ r known. repo_then P _ (λ t also. groups_says P _ (λ x is. (known, also, is))))
-  row_says verbs.GroupWanted = repo_then P _ (λ r known. short_says P _ (group_then P _ (λ g is. rest_says P _ (λ x text. (known, is, text)))))
+  row_says verbs.Numcopies = number_says log_kinds.Numcopies (λ n le. (tt, le))
+  row_says verbs.Mincopies = number_says log_kinds.Mincopies (λ n le. (tt, le))
+  row_says verbs.NumcopiesFor = by_path_says log_kinds.NumcopiesPath (λ n glob le is. (is, le))
+  row_says verbs.MincopiesFor = by_path_says log_kinds.MincopiesPath (λ n glob le is. (is, le))
+  row_says verbs.Trust = repo_then P _ (λ r known. target_then P _ (λ t also. level_then P _ (λ l u. ends_says P _ (known, (also, tt)))))
+  row_says verbs.Describe = text_setting_says log_kinds.Uuid (λ t text also is. (also, is))
+  row_says verbs.Wanted = text_setting_says log_kinds.Preferred (λ t text also is. (also, is))
+  row_says verbs.Required = text_setting_says log_kinds.Required (λ t text also is. (also, is))
+  row_says verbs.Group = repo_then P _ (λ r known. target_then P _ (λ t also. groups_says P _ (λ x is. (known, (also, is)))))
+  row_says verbs.GroupWanted = repo_then P _ (λ r known. short_says P _ (group_then P _ (λ g is. rest_says P _ (λ x text. (known, (is, text))))))
   row_says verbs.Log = repo_then P _ (λ r known. log_file_then P _ (λ f is. raw_says P _ (λ x full. (known, is, full.text, full.full))))
   row_says verbs.Have = repo_then P _ (λ r known. key_then P _ (λ k key. matching_then P k.key _ (λ c may.
       within_says P c _ (λ small. (known, key.text, matches k.key c (content_is k.key c small may), small_is c small)))))
@@ -299,7 +335,7 @@ module _ (law : KeysAreTexts) (matches : (key content : List ℕ) → is_content
   row_says verbs.File = path_then P _ (λ p is. key_then P _ (λ k key. ends_says P _ (is, key.text)))
   row_says (verbs.InBlock v) = alone_says (Forms.block_row v).1 (block_says v)
   row_says verbs.Begin = any_job
-  row_says verbs.Turn = repo_then P _ (λ r known. turns_then P (λ n. Forms.ends (Turn r n)) (λ n u. ends_says P (Turn r n) known))
+  row_says verbs.Turn = repo_then P _ (λ r known. turns_then P (λ n. Forms.ends (Does (Turns r n))) (λ n u. ends_says P (Does (Turns r n)) known))
   row_says verbs.Settle = ends_says P _ tt
   row_says verbs.Merge = repo_then P _ (λ r known. other_then P r known _ (λ o two. ends_says P _ two))
   row_says verbs.Compact = repo_then P _ (λ r known. ends_says P _ known)

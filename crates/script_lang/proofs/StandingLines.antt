@@ -20,27 +20,28 @@ use Rattle.annex_key.specs.KeyText.{IsKeyText}
 use Rattle.annex_key.specs.Tree.{Entries, with_key}
 use Rattle.key_verify.specs.Matching.{MatchesKey}
 use Rattle.script_words.specs.Places.{Cursor}
-use Rattle.script_commands.specs.declared.command.BlockLine.{BlockLine}
+use Rattle.script_commands.specs.declared.command.Action.TheVariants as actions
+use Rattle.script_commands.specs.declared.command.Agendum.{Agendum}
 use Rattle.script_commands.specs.declared.command.Command.{Command}
 use Rattle.script_commands.specs.declared.command.Command.TheVariants as commands
-use Rattle.script_commands.specs.declared.fault.LineFault.{LineFault}
-use Rattle.script_commands.specs.declared.fault.LineFault.TheVariants.{Wrong, Past, NoMemory}
-use Rattle.script_commands.specs.declared.fault.Quantity.{Quantity}
+use Rattle.script_forms.specs.declared.fault.LineFault.{LineFault}
+use Rattle.script_forms.specs.declared.fault.LineFault.TheVariants.{Wrong, Past, NoMemory}
+use Rattle.script_forms.specs.declared.fault.Quantity.{Quantity}
 use Rattle.script_lang.specs.declared.state.Block.{Block}
-use Rattle.script_commands.specs.declared.verb.Verb.{Verb}
-use Rattle.script_commands.specs.declared.verb.Verb.TheVariants as verbs
-use Rattle.script_commands.specs.declared.verb.LineVerb.{LineVerb}
-use Rattle.script_commands.specs.declared.verb.LineVerb.TheVariants.{Par, End, Says}
-use Rattle.script_commands.specs.Changes.{change_of, tree_by}
-use Rattle.script_commands.specs.Context.{Context}
-use Rattle.script_commands.specs.Forms.{row, block_row, line_named}
-use Rattle.script_commands.specs.Limits.{first_limit}
+use Rattle.script_forms.specs.declared.verb.Verb.{Verb}
+use Rattle.script_forms.specs.declared.verb.Verb.TheVariants as verbs
+use Rattle.script_forms.specs.declared.verb.LineVerb.{LineVerb}
+use Rattle.script_forms.specs.declared.verb.LineVerb.TheVariants.{Par, End, Says}
+use Rattle.script_forms.specs.Changes.{change_of, tree_by}
+use Rattle.script_forms.specs.Context.{Context}
+use Rattle.script_forms.specs.Forms.{row, block_row, line_named}
+use Rattle.script_forms.specs.Limits.{first_limit}
 use Rattle.script_lang.specs.Numbering.{begun_by, numbers_by, numbers_from, numbers_then, line_numbers}
 use Rattle.script_lang.specs.Script
 use Rattle.script_lang.specs.Script.{State, Reading, Commands, context_with, no_context, no_lines}
 use Rattle.script_lang.specs.Preconditions.{AllStand, IsValidIn, StandsInBlock}
-use Rattle.script_commands.specs.Steps
-use Rattle.script_commands.specs.Verify.{is_content_of, made_key}
+use Rattle.script_forms.specs.Steps
+use Rattle.script_forms.specs.Verify.{is_content_of, made_key}
 use Rattle.script_lang.proofs.KeyLemmas.{KeysAreTexts, HasKeys}
 use Rattle.script_lang.proofs.StepLemmas.{saying_gives}
 use Rattle.script_lang.proofs.StandingForms.{block_says, row_says}
@@ -143,9 +144,9 @@ RestStands state all = (rest : List Command) × (all ≡ state.commands ++ rest)
 
 module _ (law : KeysAreTexts) (matches : (key content : List ℕ) → is_content_of key content ≡ true → MatchesKey key content) (made : (path content : List ℕ) → length content < 2 ^ 64 → IsKeyText (made_key path content)) where
   tree_keys : (context : Context) (c : Command) → HasKeys context → IsValidIn context c → All IsKeyText (values_of (tree_by context.tree (change_of c)))
-  tree_keys context (commands.Add r path key content) keys stands =
+  tree_keys context (commands.Does (actions.Add r path key content)) keys stands =
       keys_with context.tree path key keys (subst IsKeyText (sym stands.2) (made path content (omega (arith, stands.3))))
-  tree_keys context (commands.File path key) keys stands = keys_with context.tree path key keys stands.1
+  tree_keys context (commands.Does (actions.File path key)) keys stands = keys_with context.tree path key keys stands.1
   tree_keys context c keys stands = keys
 
   keys_stay : (context : Context) (c : Command) → HasKeys context → IsValidIn context c → HasKeys (context_with context c)

@@ -1,7 +1,7 @@
 -- What the steps by which a line is read give, and that each of them stays on its line.
 use Rattle.std.proofs.Common.{◌≡◌, ◌⊎◌, inl, inr, ℕ, zero, suc, ◌+◌, ◌<◌, ◌≤◌, Bool, true, false, ◌&&◌, ◌||◌, not, ◌==◌, nat_lt, nat_le, List, [], ◌∷◌, ◌++◌, length, take, drop, Option, Some, None, Result, Ok, Err, refl, sym, ap, ◌∙◌, subst, true≢false, arith, IfSome}
 use Rattle.std.specs.Prelude.{bytes_eq, codes, is_none, is_some, if◌then◌else◌, ◌≢◌}
-use Rattle.std.specs.List.{prefix_len}
+use Rattle.std.specs.List.{find, prefix_len}
 use Rattle.std.specs.Option.{option_map}
 use Rattle.std.specs.Str.{is_utf8}
 use Rattle.std.specs.Map.{values_of}
@@ -18,9 +18,9 @@ use Rattle.annex_base.specs.RepoText.{IsId, repo_of}
 use Rattle.annex_base.specs.ByteOrder.{text_cmp}
 use Rattle.annex_base.specs.declared.kinds.Level.{Level}
 use Rattle.annex_base.specs.declared.kinds.Call.{Call}
-use Rattle.annex_base.proofs.Conditions.{if_either, if_is}
+use Rattle.annex_base.proofs.Conditions.{bytes_eq-refl, if_either, if_is}
 use Rattle.annex_base.proofs.Lines.{one_line-drop, one_line-take, one_line-right}
-use Rattle.annex_base.proofs.Lists.{Each-push, find_member}
+use Rattle.annex_base.proofs.Lists.{Each-push, find_member, list_any_member}
 use Rattle.annex_base.proofs.Options.{bind_some, map_some, where_some, unless_some}
 use Rattle.annex_base.proofs.RepoLemmas.{repo_takes}
 use Rattle.annex_base.proofs.Results.{bind_ok, ok_is}
@@ -31,6 +31,7 @@ use Rattle.log_lines.specs.Files.{kind_named, named_kinds, file_name}
 use Rattle.log_lines.specs.LineText.{is_group}
 use Rattle.log_lines.specs.declared.entry.LogKind.{LogKind}
 use Rattle.log_lines.specs.declared.entry.LogKind.TheVariants as log_kinds
+use Rattle.log_lines.specs.declared.entry.Topic.TheVariants as topics
 use Rattle.run_data.specs.declared.entry.LogFile.{LogFile}
 use Rattle.run_data.specs.declared.entry.LogFile.TheVariants.{Location, Of, Other}
 use Rattle.run_data.specs.declared.job.JobKind.{JobKind}
@@ -45,13 +46,13 @@ use Rattle.script_words.specs.declared.words.NextWord.TheVariants.{NoWord, BadWo
 use Rattle.script_words.specs.declared.key_word.KeyWord.{KeyWord}
 use Rattle.script_words.specs.declared.key_word.KeyWord.TheVariants.{OfKey, OfPath}
 use Rattle.script_commands.specs.declared.command.NamedKey.{NamedKey}
-use Rattle.script_commands.specs.declared.context.Repository.{Repository}
-use Rattle.script_commands.specs.declared.fault.LineFault.{LineFault}
-use Rattle.script_commands.specs.declared.fault.LineFault.TheVariants.{Wrong}
-use Rattle.script_commands.specs.Context.{Context, number_of_repo, number_of_other, unless, has_name, has_id, has_path, is_placed}
-use Rattle.script_lang.specs.Preconditions.{IsRepo, AreTwo, IsLineText, IsKnownKey, IsNamedKey, IsGroup, IsPath, IsNamedFile, IsLogFile}
-use Rattle.script_commands.specs.Steps
-use Rattle.script_commands.specs.Verify.{is_content_of}
+use Rattle.script_forms.specs.declared.context.Repository.{Repository}
+use Rattle.script_forms.specs.declared.fault.LineFault.{LineFault}
+use Rattle.script_forms.specs.declared.fault.LineFault.TheVariants.{Wrong}
+use Rattle.script_forms.specs.Context.{Context, number_of_repo, number_of_other, id_of_repo, unless, has_name, has_id, has_path, is_placed}
+use Rattle.script_lang.specs.Preconditions.{IsRepo, IsTarget, AreTwo, IsLineText, IsKnownKey, IsNamedKey, IsGroup, IsPath, IsNamedFile, IsLogFile}
+use Rattle.script_forms.specs.Steps
+use Rattle.script_forms.specs.Verify.{is_content_of}
 
 -- ---- words
 
@@ -173,6 +174,20 @@ number_known context name r e = (position-Some (λ d. bytes_eq d.name name) cont
 pub repo_gives : (context : Context) → Gives (IsRepo context) (Steps.repo_at context)
 unfolding Steps.repo_at
 repo_gives context = saying_gives (IsRepo context) (number_of_repo context.repos) (λ text r one e. number_known context text r e)
+
+-- the identifier of a repository of this name is that of one that is declared
+id_known : (context : Context) (name id : List ℕ) → id_of_repo context.repos name ≡ Some id → has_id context.repos id ≡ true
+id_known context name id e =
+    let m = map_some (find (λ (d : Repository). bytes_eq d.name name) context.repos) (λ (d : Repository). d.id) id e in
+    let f = find_member (λ (d : Repository). bytes_eq d.name name) context.repos m.0 m.1 in
+    list_any_member (λ (d : Repository). bytes_eq d.id id) context.repos m.0 f.0 (ap (λ x. bytes_eq x id) m.2 ∙ bytes_eq-refl id)
+
+pub target_gives : (context : Context) → Gives (IsTarget context) (Steps.target_at context)
+unfolding Steps.target_at
+target_gives context = saying_gives (IsTarget context) (λ name. option_map topics.Repo (id_of_repo context.repos name))
+    (λ text t one e.
+    let m = map_some (id_of_repo context.repos text) topics.Repo t e in
+    subst (IsTarget context) m.2 (id_known context text m.0 m.1))
 
 other_some : (r : ℕ) (o : Option ℕ) (p : ℕ) → unless r o ≡ Some p → (o ≡ Some p) × (r ≢ p)
 other_some r None p e = absurd cc

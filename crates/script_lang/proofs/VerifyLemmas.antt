@@ -6,7 +6,7 @@ use Rattle.key_verify.specs.Matching.{verdict_of}
 use Rattle.key_verify.specs.Sums.{sum_of}
 use Rattle.key_verify.specs.declared.verdict.Verdict.{Verdict}
 use Rattle.key_verify.specs.declared.verdict.Verdict.TheVariants.{Right, WrongSize, WrongDigest}
-use Rattle.script_commands.specs.Verify.{is_content_of, is_right, made_key}
+use Rattle.script_forms.specs.Verify.{is_content_of, is_right, made_key}
 
 right_of : (v : Verdict) → is_right v ≡ true → v ≡ Right
 right_of Right e = refl

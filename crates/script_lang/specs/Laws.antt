@@ -2,8 +2,8 @@
 use Rattle.std.specs.Prelude.{◌≡◌, ℕ, ◌+◌, List, [], ◌∷◌, Result, Ok, Err}
 use Rattle.annex_base.specs.ResultSteps.{◌>>=◌}
 use Rattle.script_commands.specs.declared.command.Command.{Command}
-use Rattle.script_commands.specs.declared.fault.LineFault.{LineFault}
-use Rattle.script_commands.specs.declared.fault.Quantity.{Quantity}
+use Rattle.script_forms.specs.declared.fault.LineFault.{LineFault}
+use Rattle.script_forms.specs.declared.fault.Quantity.{Quantity}
 use Rattle.script_lang.specs.Script.{State, line_step, reading, Commands, BadLine, PastLimit}
 
 -- the state behind lines, the first of them being the line of this number, if none of them is wrong or passes a limit

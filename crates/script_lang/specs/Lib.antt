@@ -3,9 +3,9 @@ pub mod Script
 pub mod Laws
 pub mod Preconditions
 pub mod Numbering
-pub use Rattle.script_commands.specs.Context
-pub use Rattle.script_commands.specs.Changes
-pub use Rattle.script_commands.specs.Verify
-pub use Rattle.script_commands.specs.Steps
-pub use Rattle.script_commands.specs.Forms
-pub use Rattle.script_commands.specs.Limits
+pub use Rattle.script_forms.specs.Context
+pub use Rattle.script_forms.specs.Changes
+pub use Rattle.script_forms.specs.Verify
+pub use Rattle.script_forms.specs.Steps
+pub use Rattle.script_forms.specs.Forms
+pub use Rattle.script_forms.specs.Limits

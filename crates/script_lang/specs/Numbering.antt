@@ -1,7 +1,7 @@
 -- On which lines of a text its commands stand (own).
 use Rattle.std.specs.Prelude.{ℕ, ◌+◌, nat_lt, List, [], ◌∷◌, ◌++◌, length, Option, Some, None, Result, Ok, Err, if◌then◌else◌}
 use Rattle.script_lang.specs.declared.state.Block.{Block}
-use Rattle.script_commands.specs.declared.fault.LineFault.{LineFault}
+use Rattle.script_forms.specs.declared.fault.LineFault.{LineFault}
 use Rattle.script_lang.specs.Script.{State, line_step, no_lines, lines_of}
 
 -- the number of the line that began what the line of this number ends: that of the block's `par`, or its own

@@ -8,21 +8,31 @@ use Rattle.annex_key.specs.KeyText.{IsKeyText}
 use Rattle.annex_key.specs.Tree.{key_of}
 use Rattle.key_verify.specs.Matching.{MatchesKey}
 use Rattle.log_lines.specs.LineText.{is_group}
+use Rattle.log_lines.specs.declared.entry.LogKind.{LogKind}
 use Rattle.log_lines.specs.declared.entry.LogKind.TheVariants as log_kinds
+use Rattle.log_lines.specs.declared.entry.Topic.{Topic}
+use Rattle.log_lines.specs.declared.entry.Topic.TheVariants as topics
+use Rattle.log_lines.specs.declared.entry.Value.{Value}
+use Rattle.log_lines.specs.declared.entry.Value.TheVariants as values
 use Rattle.run_data.specs.declared.entry.LogFile.{LogFile}
 use Rattle.run_data.specs.declared.entry.LogFile.TheVariants.{Location, Of, Other}
 use Rattle.run_data.specs.declared.job.Job.{Job}
 use Rattle.script_words.specs.Fields.{is_name, is_path}
 use Rattle.script_commands.specs.declared.command.NamedKey.{NamedKey}
+use Rattle.script_commands.specs.declared.command.Action.{Action}
+use Rattle.script_commands.specs.declared.command.Action.TheVariants.{Have, SetPart, Add, File, Set, Raw, Merge, Compact, Sync, Begin, Run, Turns, Settle, Close, Crash, Wait, Fail}
+use Rattle.script_commands.specs.declared.command.Agendum.{Agendum}
 use Rattle.script_commands.specs.declared.command.BlockLine.{BlockLine}
-use Rattle.script_commands.specs.declared.command.BlockLine.TheVariants as blocks
+use Rattle.script_commands.specs.declared.command.BlockLine.TheVariants.{Runs, Crashes, Closes, Fails}
 use Rattle.script_commands.specs.declared.command.Command.{Command}
-use Rattle.script_commands.specs.declared.command.Command.TheVariants.{Repo, Numcopies, Mincopies, NumcopiesFor, MincopiesFor, Trust, Describe, Wanted, Required, Group, GroupWanted, Log, Have, Part, Damage, Add, File, Run, Begin, Turn, Settle, Merge, Compact, Sync, Close, Crash, Wait, Fail, Par, ShowPresence, ShowClaims, ShowLocation, ShowLog, ShowLogs, ShowNumbers, ShowLevel, ShowWants, ShowRow, ShowPlan, ShowTotals, ShowJournal}
-use Rattle.script_commands.specs.Context.{Context, has_id, has_name, has_path, is_placed}
-use Rattle.script_commands.specs.Limits.{first_limit}
+use Rattle.script_commands.specs.declared.command.Command.TheVariants.{Repo, Does, Damage, Par, Shows}
+use Rattle.script_commands.specs.declared.command.Showing.{Showing}
+use Rattle.script_commands.specs.declared.command.Showing.TheVariants as showings
+use Rattle.script_forms.specs.Context.{Context, has_id, has_name, has_path, is_placed}
+use Rattle.script_forms.specs.Limits.{first_limit}
 use Rattle.script_lang.specs.Script.{context_with}
-use Rattle.script_commands.specs.Steps.{is_path_file, most_content}
-use Rattle.script_commands.specs.Verify.{made_key}
+use Rattle.script_forms.specs.Steps.{most_content}
+use Rattle.script_forms.specs.Verify.{made_key}
 
 -- the number of a repository that is declared
 abbrev pub IsRepo : Context → ℕ → Type 0
@@ -68,13 +78,13 @@ IsSmall content = length content ≤ most_content
 abbrev pub IsNamedFile : LogFile → Type 0
 IsNamedFile (Location key) = ⊥
 IsNamedFile (Of kind) = kind ≢ log_kinds.Location
-IsNamedFile (Other name) = is_path_file name ≡ true
+IsNamedFile (Other name) = ⊥
 
 -- the location log of a key, or a log file by its name
 abbrev pub IsLogFile : LogFile → Type 0
 IsLogFile (Location key) = IsKeyText key
 IsLogFile (Of kind) = kind ≢ log_kinds.Location
-IsLogFile (Other name) = is_path_file name ≡ true
+IsLogFile (Other name) = ⊥
 
 -- a job of the repository r; its peer is another
 pub record IsJob (context : Context) (r : ℕ) (job : Job) : Type 0 where
@@ -83,55 +93,105 @@ pub record IsJob (context : Context) (r : ℕ) (job : Job) : Type 0 where
   pub peer : IfSome job.peer (λ p. AreTwo context r p)
 
 -- the line of a block has this where it stands
-abbrev pub StandsInBlock : Context → BlockLine → Type 0
-StandsInBlock context (blocks.Run r job) = IsJob context r job
-StandsInBlock context (blocks.Crash r clock) = IsRepo context r × (clock ≤ 100000000000)
-StandsInBlock context (blocks.Close r other) = AreTwo context r other
-StandsInBlock context (blocks.Fail r call) = IsRepo context r
+abbrev pub StandsAs : Context → ℕ → BlockLine → Type 0
+StandsAs context r (Runs job) = IsJob context r job
+StandsAs context r (Crashes clock) = IsRepo context r × (clock ≤ 100000000000)
+StandsAs context r (Closes other) = AreTwo context r other
+StandsAs context r (Fails call) = IsRepo context r
+
+abbrev pub StandsInBlock : Context → Agendum → Type 0
+StandsInBlock context l = StandsAs context l.repo l.line
+
+-- the topic is a repository that is declared
+abbrev pub IsTarget : Context → Topic → Type 0
+IsTarget context (topics.Repo id) = has_id context.repos id ≡ true
+IsTarget context topic = ⊥
+
+abbrev pub IsWhole : Topic → Type 0
+IsWhole topics.Whole = Unit {0}
+IsWhole topic = ⊥
+
+abbrev pub IsPattern : Topic → Type 0
+IsPattern (topics.Pattern glob) = IsLineText glob
+IsPattern topic = ⊥
+
+abbrev pub IsGroupTopic : Topic → Type 0
+IsGroupTopic (topics.Group group) = IsGroup group
+IsGroupTopic topic = ⊥
+
+abbrev pub IsNumber : Value → Type 0
+IsNumber (values.Number n) = n ≤ 999999999
+IsNumber value = ⊥
+
+abbrev pub IsLevel : Value → Type 0
+IsLevel (values.Level level) = Unit {0}
+IsLevel value = ⊥
+
+abbrev pub IsText : Value → Type 0
+IsText (values.Text text) = IsLineText text
+IsText value = ⊥
+
+abbrev pub AreGroups : Value → Type 0
+AreGroups (values.Groups groups) = Each IsGroup groups
+AreGroups value = ⊥
+
+-- what a line may set of a topic in the log of a kind: a number of copies, for all paths or for those that a glob matches; the
+-- level, the description, the groups or an expression of a repository; the expression of a group
+abbrev pub IsSetting : Context → LogKind → Topic → Value → Type 0
+IsSetting context log_kinds.Location topic value = ⊥
+IsSetting context log_kinds.Trust topic value = IsTarget context topic × IsLevel value
+IsSetting context log_kinds.Uuid topic value = IsTarget context topic × IsText value
+IsSetting context log_kinds.Group topic value = IsTarget context topic × AreGroups value
+IsSetting context log_kinds.Preferred topic value = IsTarget context topic × IsText value
+IsSetting context log_kinds.Required topic value = IsTarget context topic × IsText value
+IsSetting context log_kinds.GroupPreferred topic value = IsGroupTopic topic × IsText value
+IsSetting context log_kinds.Numcopies topic value = IsWhole topic × IsNumber value
+IsSetting context log_kinds.Mincopies topic value = IsWhole topic × IsNumber value
+IsSetting context log_kinds.NumcopiesPath topic value = IsPattern topic × IsNumber value
+IsSetting context log_kinds.MincopiesPath topic value = IsPattern topic × IsNumber value
+
+-- the action has this where its line stands
+abbrev pub IsValidAction : Context → Action → Type 0
+IsValidAction context (Have r key content) = IsRepo context r × IsKeyText key × MatchesKey key content × IsSmall content
+IsValidAction context (SetPart r key content) = IsRepo context r × IsKeyText key × IsSmall content
+IsValidAction context (Add r path key content) = IsRepo context r × IsPath path × (key ≡ made_key path content) × IsSmall content
+IsValidAction context (File path key) = IsPath path × IsKeyText key
+IsValidAction context (Set r kind topic value) = IsRepo context r × IsSetting context kind topic value
+IsValidAction context (Raw r file line) = IsRepo context r × IsLogFile file × IsLineText line × (line ≢ [])
+IsValidAction context (Merge r other) = AreTwo context r other
+IsValidAction context (Compact r) = IsRepo context r
+IsValidAction context (Sync r) = IsRepo context r
+IsValidAction context (Begin r job) = IsJob context r job
+IsValidAction context (Run r job) = IsJob context r job
+IsValidAction context (Turns r turns) = IsRepo context r
+IsValidAction context Settle = Unit {0}
+IsValidAction context (Close r other) = AreTwo context r other
+IsValidAction context (Crash r clock) = IsRepo context r × (clock ≤ 100000000000)
+IsValidAction context (Wait milliseconds) = Unit {0}
+IsValidAction context (Fail r call) = IsRepo context r
+
+-- what is shown has this where its line stands
+abbrev pub IsValidShowing : Context → Showing → Type 0
+IsValidShowing context (showings.Presence k) = IsNamedKey context k
+IsValidShowing context (showings.Claims r k) = IsRepo context r × IsNamedKey context k
+IsValidShowing context (showings.Location r k) = IsRepo context r × IsNamedKey context k
+IsValidShowing context (showings.Log r file) = IsRepo context r × IsNamedFile file
+IsValidShowing context (showings.Logs r) = IsRepo context r
+IsValidShowing context (showings.Numbers r path) = IsRepo context r × IfSome path IsPath
+IsValidShowing context (showings.Level r target) = IsRepo context r × IsRepo context target
+IsValidShowing context (showings.Wants r target path) = IsRepo context r × IsRepo context target × (has_path context.tree path ≡ true)
+IsValidShowing context (showings.Row r k) = IsRepo context r × IsNamedKey context k
+IsValidShowing context (showings.Plan r) = IsRepo context r
+IsValidShowing context showings.Totals = Unit {0}
+IsValidShowing context showings.Journal = Unit {0}
 
 -- the command has this where it stands
 abbrev pub IsValidIn : Context → Command → Type 0
 IsValidIn context (Repo name id offset version locks) = MayDeclare context name id × (offset ≤ 100000000000) × (version ≤ 3)
-IsValidIn context (Numcopies r n) = IsRepo context r × (n ≤ 999999999)
-IsValidIn context (Mincopies r n) = IsRepo context r × (n ≤ 999999999)
-IsValidIn context (NumcopiesFor r n glob) = IsRepo context r × (n ≤ 999999999) × IsLineText glob
-IsValidIn context (MincopiesFor r n glob) = IsRepo context r × (n ≤ 999999999) × IsLineText glob
-IsValidIn context (Trust r target level) = IsRepo context r × IsRepo context target
-IsValidIn context (Describe r target text) = IsRepo context r × IsRepo context target × IsLineText text
-IsValidIn context (Wanted r target text) = IsRepo context r × IsRepo context target × IsLineText text
-IsValidIn context (Required r target text) = IsRepo context r × IsRepo context target × IsLineText text
-IsValidIn context (Group r target groups) = IsRepo context r × IsRepo context target × Each IsGroup groups
-IsValidIn context (GroupWanted r group text) = IsRepo context r × IsGroup group × IsLineText text
-IsValidIn context (Log r file line) = IsRepo context r × IsLogFile file × IsLineText line × (line ≢ [])
-IsValidIn context (Have r key content) = IsRepo context r × IsKeyText key × MatchesKey key content × IsSmall content
-IsValidIn context (Part r key content) = IsRepo context r × IsKeyText key × IsSmall content
+IsValidIn context (Does action) = IsValidAction context action
 IsValidIn context (Damage r key content) = IsRepo context r × IsKeyText key × (is_placed context r key ≡ true) × IsSmall content
-IsValidIn context (Add r path key content) = IsRepo context r × IsPath path × (key ≡ made_key path content) × IsSmall content
-IsValidIn context (File path key) = IsPath path × IsKeyText key
-IsValidIn context (Run r job) = IsJob context r job
-IsValidIn context (Begin r job) = IsJob context r job
-IsValidIn context (Turn r turns) = IsRepo context r
-IsValidIn context Settle = Unit {0}
-IsValidIn context (Merge r other) = AreTwo context r other
-IsValidIn context (Compact r) = IsRepo context r
-IsValidIn context (Sync r) = IsRepo context r
-IsValidIn context (Close r other) = AreTwo context r other
-IsValidIn context (Crash r clock) = IsRepo context r × (clock ≤ 100000000000)
-IsValidIn context (Wait milliseconds) = Unit {0}
-IsValidIn context (Fail r call) = IsRepo context r
 IsValidIn context (Par lines) = Each (StandsInBlock context) lines
-IsValidIn context (ShowPresence k) = IsNamedKey context k
-IsValidIn context (ShowClaims r k) = IsRepo context r × IsNamedKey context k
-IsValidIn context (ShowLocation r k) = IsRepo context r × IsNamedKey context k
-IsValidIn context (ShowLog r file) = IsRepo context r × IsNamedFile file
-IsValidIn context (ShowLogs r) = IsRepo context r
-IsValidIn context (ShowNumbers r path) = IsRepo context r × IfSome path IsPath
-IsValidIn context (ShowLevel r target) = IsRepo context r × IsRepo context target
-IsValidIn context (ShowWants r target path) = IsRepo context r × IsRepo context target × (has_path context.tree path ≡ true)
-IsValidIn context (ShowRow r k) = IsRepo context r × IsNamedKey context k
-IsValidIn context (ShowPlan r) = IsRepo context r
-IsValidIn context ShowTotals = Unit {0}
-IsValidIn context ShowJournal = Unit {0}
+IsValidIn context (Shows what) = IsValidShowing context what
 
 -- each command has this where it stands, and passes no limit
 abbrev pub AllStand : Context → List Command → Type 0

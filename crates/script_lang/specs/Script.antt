@@ -6,25 +6,26 @@ use Rattle.std.specs.Str.Lossy.{utf8_valid_len}
 use Rattle.annex_base.specs.Lines.{is_newline, is_not_space}
 use Rattle.annex_base.specs.ResultSteps.{◌>>=◌}
 use Rattle.script_words.specs.Places.{Cursor}
-use Rattle.script_commands.specs.declared.command.BlockLine.{BlockLine}
+use Rattle.script_words.specs.Words.{first_place}
+use Rattle.script_commands.specs.declared.command.Agendum.{Agendum}
 use Rattle.script_commands.specs.declared.command.Command.{Command}
 use Rattle.script_commands.specs.declared.command.Command.TheVariants as commands
 use Rattle.script_lang.specs.declared.state.Block.{Block}
-use Rattle.script_commands.specs.declared.verb.Verb.{Verb}
-use Rattle.script_commands.specs.declared.verb.Verb.TheVariants as verbs
-use Rattle.script_commands.specs.declared.verb.LineVerb.{LineVerb}
-use Rattle.script_commands.specs.declared.verb.LineVerb.TheVariants.{Par, End, Says}
-use Rattle.script_commands.specs.declared.fault.LineFault.{LineFault}
-use Rattle.script_commands.specs.declared.fault.LineFault.TheVariants.{Wrong, Past, NoMemory}
-use Rattle.script_commands.specs.declared.fault.ScriptFault.{ScriptFault}
-use Rattle.script_commands.specs.declared.fault.ScriptFault.TheVariants as faults
-use Rattle.script_commands.specs.declared.fault.Quantity.{Quantity}
-use Rattle.script_commands.specs.Changes.{change_of, context_by, repos_by, wait_by}
-use Rattle.script_commands.specs.Context.{Context}
-use Rattle.script_commands.specs.declared.context.Repository.{Repository}
-use Rattle.script_commands.specs.Steps.{Step, saying_at, end_at}
-use Rattle.script_commands.specs.Forms.{row, block_row, line_named}
-use Rattle.script_commands.specs.Limits.{first_limit}
+use Rattle.script_forms.specs.declared.verb.Verb.{Verb}
+use Rattle.script_forms.specs.declared.verb.Verb.TheVariants as verbs
+use Rattle.script_forms.specs.declared.verb.LineVerb.{LineVerb}
+use Rattle.script_forms.specs.declared.verb.LineVerb.TheVariants.{Par, End, Says}
+use Rattle.script_forms.specs.declared.fault.LineFault.{LineFault}
+use Rattle.script_forms.specs.declared.fault.LineFault.TheVariants.{Wrong, Past, NoMemory}
+use Rattle.script_forms.specs.declared.fault.ScriptFault.{ScriptFault}
+use Rattle.script_forms.specs.declared.fault.ScriptFault.TheVariants as faults
+use Rattle.script_forms.specs.declared.fault.Quantity.{Quantity}
+use Rattle.script_forms.specs.Changes.{change_of, context_by, repos_by, wait_by}
+use Rattle.script_forms.specs.Context.{Context}
+use Rattle.script_forms.specs.declared.context.Repository.{Repository}
+use Rattle.script_forms.specs.Steps.{Step, saying_at, end_at}
+use Rattle.script_forms.specs.Forms.{row, block_row, line_named}
+use Rattle.script_forms.specs.Limits.{first_limit}
 
 -- ---- what a command changes for the lines behind it
 
@@ -56,20 +57,20 @@ command_unless context before command None = Ok (record { context = context_with
 unfoldable pub with_command : Context → List Command → Command → Result State LineFault
 with_command context before command = command_unless context before command (first_limit context command)
 
-abbrev pub within_block : Context → List Command → ℕ → List BlockLine → State
+abbrev pub within_block : Context → List Command → ℕ → List Agendum → State
 within_block context before number lines = record { context = context; commands = before; block = Some (record { number = number; lines = lines }) }
 
 -- a line that stands in no block, after these commands, from behind its first word on
 unfoldable pub line_outside : Context → List Command → ℕ → LineVerb → Cursor → Result State LineFault
 line_outside context before number Par at = end_at at >>= λ _. Ok (within_block context before number [])
-line_outside context before number End at = Err (Wrong 0)
+line_outside context before number End at = Err (Wrong (first_place at.line))
 line_outside context before number (Says v) at = (row v).1 context at >>= with_command context before
 
 -- a line of a block; no other form may stand there
 unfoldable pub line_inside : Context → List Command → Block → LineVerb → Cursor → Result State LineFault
 line_inside context before block End at = end_at at >>= λ _. with_command context before (commands.Par block.lines)
 line_inside context before block (Says (verbs.InBlock v)) at = (block_row v).1 context at >>= λ l. Ok (within_block context before block.number (block.lines ++ l ∷ []))
-line_inside context before block v at = Err (Wrong 0)
+line_inside context before block v at = Err (Wrong (first_place at.line))
 
 abbrev pub line_by : Context → List Command → Option Block → ℕ → LineVerb → Cursor → Result State LineFault
 line_by context before None number v at = line_outside context before number v at

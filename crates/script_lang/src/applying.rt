@@ -1,15 +1,16 @@
 //! A line's change made, for the lines behind it.
 ghost use Rattle.std.specs.Prelude.{◌≡◌, ◌≤◌, ◌++◌, ◌||◌, not, None, OnOk, OnErr};
 ghost use Rattle.std.specs.BTreeSet.{insert_key};
-ghost use Rattle.script_commands.specs.Changes as spec;
-ghost use Rattle.script_commands.specs.Changes.{as_change, declares, repos_by, tree_by, files_by, placed_by};
-ghost use Rattle.script_commands.specs.Context.{new_paths, placed_cmp};
-ghost use Rattle.script_commands.specs.Limits as limits;
+ghost use Rattle.script_forms.specs.Changes as spec;
+ghost use Rattle.script_forms.specs.Changes.{as_change, declares, repos_by, tree_by, files_by, placed_by};
+ghost use Rattle.script_forms.specs.Context.{new_paths, placed_cmp};
+ghost use Rattle.script_forms.specs.Limits as limits;
 ghost use Rattle.script_lang.specs.Script.{context_with};
 
 use annex_base::{NoMemory, Text};
 use annex_key::{Key, Tree};
-use script_commands::{Change, Command, Context, Repository, change_of};
+use script_commands::Command;
+use script_forms::{Change, Context, Repository, change_of};
 use std::alloc::Global;
 use std::collections::BTreeSet;
 

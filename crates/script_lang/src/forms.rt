@@ -1,15 +1,17 @@
 //! The command that a line says, by its form.
 ghost use Rattle.std.specs.Prelude.{◌≡◌};
-ghost use Rattle.script_commands.specs.Answers.{Gives};
-ghost use Rattle.script_commands.specs.Forms.{row};
+ghost use Rattle.script_forms.specs.Answers.{Gives};
+ghost use Rattle.script_forms.specs.Forms.{row};
 
-use script_commands::{Command, Context, LineFault, Verb};
+use log_lines::LogKind;
+use script_commands::Command;
+use script_forms::{Context, LineFault, Verb};
 use script_jobs::{
     add, begin, compact, damage, file, have, merge, part, read_alone, settle, sync, turn, wait,
 };
 use script_settings::{
-    declare, describe, group_wanted, mincopies, mincopies_for, numcopies, numcopies_for, raw_log,
-    required, set_groups, show, trust, wanted,
+    declare, group_wanted, number_by_path, number_setting, raw_log, set_groups, show, text_setting,
+    trust,
 };
 use script_words::Words;
 use std::alloc::Global;
@@ -25,14 +27,14 @@ pub fn read_command(
 {
     match verb {
         Verb::Repo => declare(alloc, context, words),
-        Verb::Numcopies => numcopies(context, words),
-        Verb::Mincopies => mincopies(context, words),
-        Verb::NumcopiesFor => numcopies_for(alloc, context, words),
-        Verb::MincopiesFor => mincopies_for(alloc, context, words),
+        Verb::Numcopies => number_setting(LogKind::Numcopies, context, words),
+        Verb::Mincopies => number_setting(LogKind::Mincopies, context, words),
+        Verb::NumcopiesFor => number_by_path(LogKind::NumcopiesPath, alloc, context, words),
+        Verb::MincopiesFor => number_by_path(LogKind::MincopiesPath, alloc, context, words),
         Verb::Trust => trust(context, words),
-        Verb::Describe => describe(alloc, context, words),
-        Verb::Wanted => wanted(alloc, context, words),
-        Verb::Required => required(alloc, context, words),
+        Verb::Describe => text_setting(LogKind::Uuid, alloc, context, words),
+        Verb::Wanted => text_setting(LogKind::Preferred, alloc, context, words),
+        Verb::Required => text_setting(LogKind::Required, alloc, context, words),
         Verb::Group => set_groups(alloc, context, words),
         Verb::GroupWanted => group_wanted(alloc, context, words),
         Verb::Log => raw_log(alloc, context, words),

@@ -1,8 +1,8 @@
 //! Laws on readings: each is the contract of a function that does nothing.
 ghost use Rattle.std.specs.Prelude.{◌≡◌, ◌≢◌, ◌⊎◌, ◌+◌, ◌++◌, ◌∷◌, List, ℕ, length, Ok, Err, None};
 ghost use Rattle.annex_base.specs.Lines.{newline};
-ghost use Rattle.script_commands.specs.declared.fault.LineFault.{LineFault};
-ghost use Rattle.script_commands.specs.declared.fault.LineFault.TheVariants.{NoMemory};
+ghost use Rattle.script_forms.specs.declared.fault.LineFault.{LineFault};
+ghost use Rattle.script_forms.specs.declared.fault.LineFault.TheVariants.{NoMemory};
 ghost use Rattle.script_lang.specs.Laws.{behind_lines, HasCommands, HasBadLine, PassesLimit, AtMostOne};
 ghost use Rattle.script_lang.specs.Script.{State, line_step, lines_of, lines_reading, no_lines, fault_of, reading, Commands};
 

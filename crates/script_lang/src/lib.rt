@@ -17,7 +17,8 @@ pub use laws::{
 };
 pub use numbering::line_numbers;
 pub use script::Script;
-pub use script_commands::{BlockLine, Change, Command, NamedKey, Quantity, ScriptFault, change_of};
+pub use script_commands::{Action, Agendum, BlockLine, Command, NamedKey, Showing};
+pub use script_forms::{Change, Quantity, ScriptFault, change_of};
 pub use standing::{commands_have_lines, commands_stand, scripts_have_few_lines};
 
 /// It goes from thread to thread.

@@ -1,12 +1,13 @@
 //! The limits of what is counted.
 ghost use Rattle.std.specs.Prelude.{◌≡◌, ◌+◌, nat_lt, length, Some, None, if◌then◌else◌};
-ghost use Rattle.script_commands.specs.Changes.{as_change};
-ghost use Rattle.script_commands.specs.Context.{new_paths};
-ghost use Rattle.script_commands.specs.Limits as limits;
+ghost use Rattle.script_forms.specs.Changes.{as_change};
+ghost use Rattle.script_forms.specs.Context.{new_paths};
+ghost use Rattle.script_forms.specs.Limits as limits;
 
 use crate::applying::new_path;
 use annex_base::Text;
-use script_commands::{Change, Command, Context, Quantity, change_of};
+use script_commands::Command;
+use script_forms::{Change, Context, Quantity, change_of};
 use script_words::Content;
 
 /// Whether the content passes the limit of all contents.

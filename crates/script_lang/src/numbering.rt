@@ -7,7 +7,7 @@ ghost use Rattle.script_lang.specs.Script.{State as SpecState};
 use crate::script::cut_lines;
 use crate::state::State;
 use annex_base::NoMemory;
-use script_commands::LineFault;
+use script_forms::LineFault;
 use std::alloc::Global;
 
 /// The numbers of the lines, from 1, on which the commands of a text stand, up to its first fault; for a block that of

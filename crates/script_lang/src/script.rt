@@ -4,7 +4,8 @@ ghost use Rattle.script_lang.specs.Script.{IsReading, IsFault, Reading, reading,
 ghost use Rattle.script_lang.specs.Script.{State as SpecState};
 
 use crate::state::State;
-use script_commands::{Command, LineFault, ScriptFault};
+use script_commands::Command;
+use script_forms::{LineFault, ScriptFault};
 use std::alloc::{AllocError, Global};
 use std::marker::Model;
 

@@ -2,7 +2,7 @@
 ghost use Rattle.std.specs.Prelude.{◌≡◌, IfOk, IfErr, None, length};
 ghost use Rattle.std.specs.List.{suffix_len};
 ghost use Rattle.annex_base.specs.Lines.{is_not_space};
-ghost use Rattle.script_commands.specs.Answers.{Gives, Reads};
+ghost use Rattle.script_forms.specs.Answers.{Gives, Reads};
 ghost use Rattle.script_lang.specs.Numbering.{begun_by};
 ghost use Rattle.script_lang.specs.Script as spec;
 ghost use Rattle.script_lang.specs.Script.{line_verb_at, with_command, no_lines};
@@ -12,9 +12,10 @@ use crate::forms::read_command;
 use crate::limits::first_limit;
 use annex_base::{Items, NoMemory};
 use annex_key::Tree;
-use script_commands::{BlockLine, Command, Context, LineFault, LineVerb, Verb};
+use script_commands::{Agendum, Command};
+use script_forms::{Context, LineFault, LineVerb, Verb};
 use script_jobs::read_block_line;
-use script_steps::{end, next_word, wrong, wrong_word};
+use script_steps::{end, next_word, wrong, wrong_form, wrong_word};
 use script_words::Words;
 use std::alloc::Global;
 use std::collections::BTreeSet;
@@ -24,7 +25,7 @@ use std::marker::Model;
 #[derive(Drop)]
 pub struct Block {
     pub number: u64,
-    pub lines: Items<BlockLine>,
+    pub lines: Items<Agendum>,
 }
 
 /// What the lines so far say.
@@ -127,7 +128,7 @@ impl State {
                 });
                 Ok(())
             }
-            LineVerb::End => Err(wrong(0)),
+            LineVerb::End => Err(wrong_form(words)),
             LineVerb::Says(verb) => {
                 let command = read_command(verb, alloc, &self.context, words)?;
                 self.accept(alloc, command)
@@ -159,7 +160,7 @@ impl State {
                 self.block = Some(Block { number, lines });
                 Ok(())
             }
-            _ => Err(wrong(0)),
+            _ => Err(wrong_form(words)),
         }
     }
 

@@ -5,7 +5,6 @@ mod settings;
 mod shows;
 
 pub use settings::{
-    declare, describe, group_wanted, mincopies, mincopies_for, numcopies, numcopies_for, raw_log,
-    required, set_groups, trust, wanted,
+    declare, group_wanted, number_by_path, number_setting, raw_log, set_groups, text_setting, trust,
 };
 pub use shows::show;

@@ -1,13 +1,16 @@
 //! The lines that declare repositories and set what their branches say.
 ghost use Rattle.std.specs.Prelude.{◌≡◌};
-ghost use Rattle.script_commands.specs.Answers.{Gives};
-ghost use Rattle.script_commands.specs.Forms.{row};
-ghost use Rattle.script_commands.specs.declared.verb.Verb.TheVariants as verbs;
+ghost use Rattle.script_forms.specs.Answers.{Gives};
+ghost use Rattle.script_forms.specs.Forms as spec;
+ghost use Rattle.script_forms.specs.Forms.{row};
+ghost use Rattle.script_forms.specs.declared.verb.Verb.TheVariants as verbs;
 
-use script_commands::{Command, Context, LineFault};
+use log_lines::{LogKind, Topic, Value};
+use script_commands::{Action, Command};
+use script_forms::{Context, LineFault};
 use script_steps::{
     end, full_rest, glob, group, groups, level, locks, log_file, new_id, new_name, number, offset,
-    repo, rest, short, text, version,
+    repo, rest, short, target, text, version, wrong_form,
 };
 use script_words::Words;
 use std::alloc::Global;
@@ -24,7 +27,7 @@ pub fn declare(
     ensures { Gives (λ c. c) result ((row verbs.Repo).1 context.now words.old) }
 {
     if context.closed {
-        return Err(LineFault::Wrong { byte: 0 });
+        return Err(wrong_form(words));
     }
     let name = new_name(alloc, context, words)?;
     let id = new_id(context, words)?;
@@ -41,131 +44,77 @@ pub fn declare(
     })
 }
 
-/// `numcopies REPO N`
-pub fn numcopies(context: &Context, words: &mut Words<'_>) -> Result<Command, LineFault>
-    ensures { Gives (λ c. c) result ((row verbs.Numcopies).1 context.now words.old) }
+/// The line that sets the topic in a log of the repository.
+fn sets(repo: u32, kind: LogKind, topic: Topic, value: Value) -> Command
+    ensures { result ≡ spec.sets repo kind topic value }
+{
+    let action = Action::Set {
+        repo,
+        kind,
+        topic,
+        value,
+    };
+    Command::Does { action }
+}
+
+/// `numcopies REPO N` or `mincopies REPO N`, by the kind of log
+pub fn number_setting(
+    kind: LogKind,
+    context: &Context,
+    words: &mut Words<'_>,
+) -> Result<Command, LineFault>
+    ensures { Gives (λ c. c) result (spec.number_setting kind context.now words.old) }
 {
     let repo = repo(context, words)?;
     let number = number(GREATEST_NUMBER, words)?;
     end(words)?;
-    Ok(Command::Numcopies {
-        repo,
-        number: number as u32,
-    })
+    Ok(sets(repo, kind, Topic::Whole, Value::Number(number as u32)))
 }
 
-/// `mincopies REPO N`
-pub fn mincopies(context: &Context, words: &mut Words<'_>) -> Result<Command, LineFault>
-    ensures { Gives (λ c. c) result ((row verbs.Mincopies).1 context.now words.old) }
-{
-    let repo = repo(context, words)?;
-    let number = number(GREATEST_NUMBER, words)?;
-    end(words)?;
-    Ok(Command::Mincopies {
-        repo,
-        number: number as u32,
-    })
-}
-
-/// `numcopiesfor REPO N REST`
-pub fn numcopies_for(
+/// `numcopiesfor REPO N REST` or `mincopiesfor REPO N REST`, by the kind of log
+pub fn number_by_path(
+    kind: LogKind,
     alloc: Global,
     context: &Context,
     words: &mut Words<'_>,
 ) -> Result<Command, LineFault>
-    ensures { Gives (λ c. c) result ((row verbs.NumcopiesFor).1 context.now words.old) }
+    ensures { Gives (λ c. c) result (spec.number_by_path kind context.now words.old) }
 {
     let repo = repo(context, words)?;
     let number = number(GREATEST_NUMBER, words)?;
     let glob = glob(alloc, words)?;
-    Ok(Command::NumcopiesFor {
+    Ok(sets(
         repo,
-        number: number as u32,
-        glob,
-    })
+        kind,
+        Topic::Pattern(glob),
+        Value::Number(number as u32),
+    ))
 }
 
-/// `mincopiesfor REPO N REST`
-pub fn mincopies_for(
+/// `describe REPO TARGET REST`, `wanted REPO TARGET REST` or `required REPO TARGET REST`, by the kind of log
+pub fn text_setting(
+    kind: LogKind,
     alloc: Global,
     context: &Context,
     words: &mut Words<'_>,
 ) -> Result<Command, LineFault>
-    ensures { Gives (λ c. c) result ((row verbs.MincopiesFor).1 context.now words.old) }
+    ensures { Gives (λ c. c) result (spec.text_setting kind context.now words.old) }
 {
     let repo = repo(context, words)?;
-    let number = number(GREATEST_NUMBER, words)?;
-    let glob = glob(alloc, words)?;
-    Ok(Command::MincopiesFor {
-        repo,
-        number: number as u32,
-        glob,
-    })
+    let target = target(context, words)?;
+    let text = text(alloc, words)?;
+    Ok(sets(repo, kind, target, Value::Text(text)))
 }
 
 /// `trust REPO TARGET LEVEL`
 pub fn trust(context: &Context, words: &mut Words<'_>) -> Result<Command, LineFault>
     ensures { Gives (λ c. c) result ((row verbs.Trust).1 context.now words.old) }
 {
-    let first = repo(context, words)?;
-    let target = repo(context, words)?;
+    let repo = repo(context, words)?;
+    let target = target(context, words)?;
     let level = level(words)?;
     end(words)?;
-    Ok(Command::Trust {
-        repo: first,
-        target,
-        level,
-    })
-}
-
-/// `describe REPO TARGET REST`
-pub fn describe(
-    alloc: Global,
-    context: &Context,
-    words: &mut Words<'_>,
-) -> Result<Command, LineFault>
-    ensures { Gives (λ c. c) result ((row verbs.Describe).1 context.now words.old) }
-{
-    let first = repo(context, words)?;
-    let target = repo(context, words)?;
-    let text = text(alloc, words)?;
-    Ok(Command::Describe {
-        repo: first,
-        target,
-        text,
-    })
-}
-
-/// `wanted REPO TARGET REST`
-pub fn wanted(alloc: Global, context: &Context, words: &mut Words<'_>) -> Result<Command, LineFault>
-    ensures { Gives (λ c. c) result ((row verbs.Wanted).1 context.now words.old) }
-{
-    let first = repo(context, words)?;
-    let target = repo(context, words)?;
-    let text = text(alloc, words)?;
-    Ok(Command::Wanted {
-        repo: first,
-        target,
-        text,
-    })
-}
-
-/// `required REPO TARGET REST`
-pub fn required(
-    alloc: Global,
-    context: &Context,
-    words: &mut Words<'_>,
-) -> Result<Command, LineFault>
-    ensures { Gives (λ c. c) result ((row verbs.Required).1 context.now words.old) }
-{
-    let first = repo(context, words)?;
-    let target = repo(context, words)?;
-    let text = text(alloc, words)?;
-    Ok(Command::Required {
-        repo: first,
-        target,
-        text,
-    })
+    Ok(sets(repo, LogKind::Trust, target, Value::Level(level)))
 }
 
 /// `group REPO TARGET [GROUP ..]`
@@ -176,14 +125,10 @@ pub fn set_groups(
 ) -> Result<Command, LineFault>
     ensures { Gives (λ c. c) result ((row verbs.Group).1 context.now words.old) }
 {
-    let first = repo(context, words)?;
-    let target = repo(context, words)?;
+    let repo = repo(context, words)?;
+    let target = target(context, words)?;
     let groups = groups(alloc, words)?;
-    Ok(Command::Group {
-        repo: first,
-        target,
-        groups,
-    })
+    Ok(sets(repo, LogKind::Group, target, Value::Groups(groups)))
 }
 
 /// `groupwanted REPO GROUP REST`
@@ -198,7 +143,12 @@ pub fn group_wanted(
     short(words)?;
     let group = group(alloc, words)?;
     let text = rest(alloc, words)?;
-    Ok(Command::GroupWanted { repo, group, text })
+    Ok(sets(
+        repo,
+        LogKind::GroupPreferred,
+        Topic::Group(group),
+        Value::Text(text),
+    ))
 }
 
 /// `log REPO location KEY REST` or `log REPO FILE REST`
@@ -212,5 +162,6 @@ pub fn raw_log(
     let repo = repo(context, words)?;
     let file = log_file(alloc, context, words)?;
     let line = full_rest(alloc, words)?;
-    Ok(Command::Log { repo, file, line })
+    let action = Action::Raw { repo, file, line };
+    Ok(Command::Does { action })
 }

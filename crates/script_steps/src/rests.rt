@@ -1,12 +1,12 @@
 //! The rest of a line, behind the last word that is read on its own.
 ghost use Rattle.std.specs.Prelude.{◌≡◌, ◌≤◌, ◌+◌, length, IfOk, []};
-ghost use Rattle.script_commands.specs.Answers.{Gives};
-ghost use Rattle.script_commands.specs.Steps as spec;
+ghost use Rattle.script_forms.specs.Answers.{Gives};
+ghost use Rattle.script_forms.specs.Steps as spec;
 
 use crate::steps::{missing, wrong, wrong_word};
 use annex_base::Text;
 use log_lines::GroupList;
-use script_commands::LineFault;
+use script_forms::LineFault;
 use script_words::{NextWord, Words, is_group};
 use std::alloc::Global;
 
@@ -14,7 +14,7 @@ use std::alloc::Global;
 const LONGEST_TEXT: usize = 4096;
 
 /// What is left of the line isn't longer.
-#[tactic(auto, unfolding(script_commands::specs::Steps::short_at))]
+#[tactic(auto, unfolding(script_forms::specs::Steps::short_at))]
 pub fn short(words: &Words<'_>) -> Result<(), LineFault>
     ensures { Gives (λ _. tt) result (spec.short_at words.now) }
 {
@@ -27,7 +27,7 @@ pub fn short(words: &Words<'_>) -> Result<(), LineFault>
 }
 
 /// What follows the one space behind the last word.
-#[tactic(auto, unfolding(script_commands::specs::Steps::rest_at))]
+#[tactic(auto, unfolding(script_forms::specs::Steps::rest_at))]
 fn rest_word<'a>(words: &mut Words<'a>) -> Result<&'a [u8], LineFault>
     ensures rest { Gives (λ t. t.now) result (spec.rest_at words.old) }
     ensures line { words.new.line ≡ words.old.line }
@@ -48,7 +48,7 @@ pub fn rest(alloc: Global, words: &mut Words<'_>) -> Result<Text, LineFault>
 }
 
 /// The rest of the line, where an empty one counts as missing.
-#[tactic(auto, unfolding(script_commands::specs::Steps::full_rest_at))]
+#[tactic(auto, unfolding(script_forms::specs::Steps::full_rest_at))]
 pub fn full_rest(alloc: Global, words: &mut Words<'_>) -> Result<Text, LineFault>
     ensures { Gives (λ t. t) result (spec.full_rest_at words.old) }
 {
@@ -61,7 +61,7 @@ pub fn full_rest(alloc: Global, words: &mut Words<'_>) -> Result<Text, LineFault
 }
 
 /// A text of at most 4,096 bytes up to the line's end.
-#[tactic(auto, unfolding(script_commands::specs::Steps::text_at))]
+#[tactic(auto, unfolding(script_forms::specs::Steps::text_at))]
 pub fn text(alloc: Global, words: &mut Words<'_>) -> Result<Text, LineFault>
     ensures { Gives (λ t. t) result (spec.text_at words.old) }
 {
@@ -70,7 +70,7 @@ pub fn text(alloc: Global, words: &mut Words<'_>) -> Result<Text, LineFault>
 }
 
 /// A glob of 1 to 4,096 bytes up to the line's end.
-#[tactic(auto, unfolding(script_commands::specs::Steps::glob_at))]
+#[tactic(auto, unfolding(script_forms::specs::Steps::glob_at))]
 pub fn glob(alloc: Global, words: &mut Words<'_>) -> Result<Text, LineFault>
     ensures { Gives (λ t. t) result (spec.glob_at words.old) }
 {
@@ -98,7 +98,7 @@ fn group_words(alloc: Global, words: &mut Words<'_>) -> Result<GroupList, LineFa
 }
 
 /// All words that are left, which are groups, in at most 4,096 bytes.
-#[tactic(auto, unfolding(script_commands::specs::Steps::groups_at))]
+#[tactic(auto, unfolding(script_forms::specs::Steps::groups_at))]
 pub fn groups(alloc: Global, words: &mut Words<'_>) -> Result<GroupList, LineFault>
     ensures { Gives (λ g. g) result (spec.groups_at words.old) }
 {

@@ -1,20 +1,20 @@
 //! The steps by which a line is read.
 ghost use Rattle.std.specs.Prelude.{◌≡◌, ◌≤◌, length, IfOk};
-ghost use Rattle.script_commands.specs.Answers.{Gives, Reads};
+ghost use Rattle.script_forms.specs.Answers.{Gives, Reads};
 ghost use Rattle.std.specs.Option.{option_map};
 ghost use Rattle.annex_key.specs.Tree.{key_of};
-ghost use Rattle.script_commands.specs.Context.{is_placed};
-ghost use Rattle.script_commands.specs.Steps as spec;
-ghost use Rattle.script_commands.specs.declared.fault.LineFault.TheVariants as faults;
+ghost use Rattle.script_forms.specs.Context.{is_placed};
+ghost use Rattle.script_forms.specs.Steps as spec;
+ghost use Rattle.script_forms.specs.declared.fault.LineFault.TheVariants as faults;
+ghost use Rattle.script_words.specs.Words.{first_place};
 
 use crate::verify::may_have;
 use annex_base::{Call, Level, NoMemory, RepoId, Text};
 use annex_key::Key;
-use log_lines::{GroupList, LogKind};
+use log_lines::{GroupList, LogKind, Topic};
 use run_data::{JobKind, LogFile};
-use script_commands::{
-    Context, LineFault, NamedKey, find_other, find_repository, has_id, has_name,
-};
+use script_commands::NamedKey;
+use script_forms::{Context, LineFault, find_id, find_other, find_repository, has_id, has_name};
 use script_words::{
     Content, KeyWord, LineWord, NextWord, Words, is_group, is_name, is_nolock, is_path, is_word,
     read_call, read_clock, read_id, read_key_word, read_level, read_number, read_offset,
@@ -36,6 +36,13 @@ pub fn wrong_word(word: &LineWord<'_>) -> LineFault
     wrong(word.place())
 }
 
+/// The fault of a line of a form that may not stand there, at its first word.
+pub fn wrong_form(words: &Words<'_>) -> LineFault
+    ensures { result ≡ faults.Wrong (first_place words.now.line) }
+{
+    wrong(words.first_place())
+}
+
 /// The fault of a missing word.
 pub fn missing(words: &Words<'_>) -> LineFault
     ensures { result ≡ faults.Wrong (length words.now.line) }
@@ -44,7 +51,7 @@ pub fn missing(words: &Words<'_>) -> LineFault
 }
 
 /// The next word.
-#[tactic(auto, unfolding(script_commands::specs::Steps::word_at))]
+#[tactic(auto, unfolding(script_forms::specs::Steps::word_at))]
 pub fn next_word<'a>(words: &mut Words<'a>) -> Result<LineWord<'a>, LineFault>
     ensures { Reads (λ w. w) result words.new (spec.word_at words.old) }
 {
@@ -56,7 +63,7 @@ pub fn next_word<'a>(words: &mut Words<'a>) -> Result<LineWord<'a>, LineFault>
 }
 
 /// No word is left.
-#[tactic(auto, unfolding(script_commands::specs::Steps::end_at))]
+#[tactic(auto, unfolding(script_forms::specs::Steps::end_at))]
 pub fn end(words: &mut Words<'_>) -> Result<(), LineFault>
     ensures { Gives (λ _. tt) result (spec.end_at words.old) }
 {
@@ -68,7 +75,7 @@ pub fn end(words: &mut Words<'_>) -> Result<(), LineFault>
 }
 
 /// A repository.
-#[tactic(auto, unfolding(script_commands::specs::Steps::repo_at))]
+#[tactic(auto, unfolding(script_forms::specs::Steps::repo_at))]
 pub fn repo(context: &Context, words: &mut Words<'_>) -> Result<u32, LineFault>
     ensures { Reads (λ r. r) result words.new (spec.repo_at context.now words.old) }
 {
@@ -79,8 +86,20 @@ pub fn repo(context: &Context, words: &mut Words<'_>) -> Result<u32, LineFault>
     }
 }
 
+/// A repository that an entry speaks of.
+#[tactic(auto, unfolding(script_forms::specs::Steps::target_at))]
+pub fn target(context: &Context, words: &mut Words<'_>) -> Result<Topic, LineFault>
+    ensures { Reads (λ t. t) result words.new (spec.target_at context.now words.old) }
+{
+    let word = next_word(words)?;
+    match find_id(&context.repos, word.text()) {
+        Some(id) => Ok(Topic::Repo(id)),
+        None => Err(wrong_word(&word)),
+    }
+}
+
 /// Another repository than this one.
-#[tactic(auto, unfolding(script_commands::specs::Steps::other_at))]
+#[tactic(auto, unfolding(script_forms::specs::Steps::other_at))]
 pub fn other(context: &Context, repo: u32, words: &mut Words<'_>) -> Result<u32, LineFault>
     ensures { Reads (λ r. r) result words.new (spec.other_at context.now repo words.old) }
 {
@@ -92,7 +111,7 @@ pub fn other(context: &Context, repo: u32, words: &mut Words<'_>) -> Result<u32,
 }
 
 /// A name that no repository has.
-#[tactic(auto, unfolding(script_commands::specs::Steps::new_name_at))]
+#[tactic(auto, unfolding(script_forms::specs::Steps::new_name_at))]
 pub fn new_name(alloc: Global, context: &Context, words: &mut Words<'_>) -> Result<Text, LineFault>
     ensures { Reads (λ t. t) result words.new (spec.new_name_at context.now words.old) }
 {
@@ -106,7 +125,7 @@ pub fn new_name(alloc: Global, context: &Context, words: &mut Words<'_>) -> Resu
 }
 
 /// An identifier that no repository has.
-#[tactic(auto, unfolding(script_commands::specs::Steps::new_id_at))]
+#[tactic(auto, unfolding(script_forms::specs::Steps::new_id_at))]
 pub fn new_id(context: &Context, words: &mut Words<'_>) -> Result<RepoId, LineFault>
     ensures { Reads (λ id. id) result words.new (spec.new_id_at context.now words.old) }
 {
@@ -118,7 +137,7 @@ pub fn new_id(context: &Context, words: &mut Words<'_>) -> Result<RepoId, LineFa
 }
 
 /// A number up to this one.
-#[tactic(auto, unfolding(script_commands::specs::Steps::number_at))]
+#[tactic(auto, unfolding(script_forms::specs::Steps::number_at))]
 pub fn number(greatest: u64, words: &mut Words<'_>) -> Result<u64, LineFault>
     ensures value { Reads (λ n. n) result words.new (spec.number_at greatest words.old) }
     ensures bound { IfOk result (λ n. n ≤ greatest) }
@@ -131,7 +150,7 @@ pub fn number(greatest: u64, words: &mut Words<'_>) -> Result<u64, LineFault>
 }
 
 /// A level of trust.
-#[tactic(auto, unfolding(script_commands::specs::Steps::level_at))]
+#[tactic(auto, unfolding(script_forms::specs::Steps::level_at))]
 pub fn level(words: &mut Words<'_>) -> Result<Level, LineFault>
     ensures { Reads (λ l. l) result words.new (spec.level_at words.old) }
 {
@@ -143,7 +162,7 @@ pub fn level(words: &mut Words<'_>) -> Result<Level, LineFault>
 }
 
 /// A call of a store.
-#[tactic(auto, unfolding(script_commands::specs::Steps::call_at))]
+#[tactic(auto, unfolding(script_forms::specs::Steps::call_at))]
 pub fn call(words: &mut Words<'_>) -> Result<Call, LineFault>
     ensures { Reads (λ c. c) result words.new (spec.call_at words.old) }
 {
@@ -155,7 +174,7 @@ pub fn call(words: &mut Words<'_>) -> Result<Call, LineFault>
 }
 
 /// A path.
-#[tactic(auto, unfolding(script_commands::specs::Steps::path_at))]
+#[tactic(auto, unfolding(script_forms::specs::Steps::path_at))]
 pub fn path(alloc: Global, words: &mut Words<'_>) -> Result<Text, LineFault>
     ensures { Reads (λ t. t) result words.new (spec.path_at words.old) }
 {
@@ -168,7 +187,7 @@ pub fn path(alloc: Global, words: &mut Words<'_>) -> Result<Text, LineFault>
 }
 
 /// A path of the tree.
-#[tactic(auto, unfolding(script_commands::specs::Steps::tree_path_at))]
+#[tactic(auto, unfolding(script_forms::specs::Steps::tree_path_at))]
 pub fn tree_path(alloc: Global, context: &Context, words: &mut Words<'_>) -> Result<Text, LineFault>
     ensures { Reads (λ t. t) result words.new (spec.tree_path_at context.now words.old) }
 {
@@ -181,7 +200,7 @@ pub fn tree_path(alloc: Global, context: &Context, words: &mut Words<'_>) -> Res
 }
 
 /// A group.
-#[tactic(auto, unfolding(script_commands::specs::Steps::group_at))]
+#[tactic(auto, unfolding(script_forms::specs::Steps::group_at))]
 pub fn group(alloc: Global, words: &mut Words<'_>) -> Result<Text, LineFault>
     ensures { Reads (λ t. t) result words.new (spec.group_at words.old) }
 {
@@ -218,7 +237,7 @@ fn named_key(alloc: Global, context: &Context, word: &[u8]) -> Result<Option<Nam
 }
 
 /// A key.
-#[tactic(auto, unfolding(script_commands::specs::Steps::key_at))]
+#[tactic(auto, unfolding(script_forms::specs::Steps::key_at))]
 pub fn key(alloc: Global, context: &Context, words: &mut Words<'_>) -> Result<NamedKey, LineFault>
     ensures { Reads (λ k. k) result words.new (spec.key_at context.now words.old) }
 {
@@ -230,7 +249,7 @@ pub fn key(alloc: Global, context: &Context, words: &mut Words<'_>) -> Result<Na
 }
 
 /// A content.
-#[tactic(auto, unfolding(script_commands::specs::Steps::content_at))]
+#[tactic(auto, unfolding(script_forms::specs::Steps::content_at))]
 pub fn content(alloc: Global, words: &mut Words<'_>) -> Result<Content, LineFault>
     ensures { Reads (λ c. c) result words.new (spec.content_at words.old) }
 {
@@ -242,7 +261,7 @@ pub fn content(alloc: Global, words: &mut Words<'_>) -> Result<Content, LineFaul
 }
 
 /// A content that matches the key; one past the limit isn't looked at.
-#[tactic(auto, unfolding(script_commands::specs::Steps::matching_at))]
+#[tactic(auto, unfolding(script_forms::specs::Steps::matching_at))]
 pub fn matching(alloc: Global, key: &Key, words: &mut Words<'_>) -> Result<Content, LineFault>
     ensures { Reads (λ c. c) result words.new (spec.matching_at key.now words.old) }
 {
@@ -253,27 +272,20 @@ pub fn matching(alloc: Global, key: &Key, words: &mut Words<'_>) -> Result<Conte
     }
 }
 
-fn is_path_file(name: &[u8]) -> bool
-    ensures { result ≡ spec.is_path_file name.now }
-{
-    is_word(name, b"numcopies-path.log") || is_word(name, b"mincopies-path.log")
-}
-
 /// A log file by its name.
-#[tactic(auto, unfolding(script_commands::specs::Steps::file_at))]
-pub fn file(alloc: Global, words: &mut Words<'_>) -> Result<LogFile, LineFault>
+#[tactic(auto, unfolding(script_forms::specs::Steps::file_at))]
+pub fn file(words: &mut Words<'_>) -> Result<LogFile, LineFault>
     ensures { Reads (λ f. f) result words.new (spec.file_at words.old) }
 {
     let word = next_word(words)?;
     match LogKind::named(word.text()) {
         Some(kind) => Ok(LogFile::Of(kind)),
-        None if is_path_file(word.text()) => { Ok(LogFile::Other(Text::new(alloc, word.text())?)) }
         None => Err(wrong_word(&word)),
     }
 }
 
 /// A key whose content a line put at the repository.
-#[tactic(auto, unfolding(script_commands::specs::Steps::placed_key_at))]
+#[tactic(auto, unfolding(script_forms::specs::Steps::placed_key_at))]
 pub fn placed_key(
     alloc: Global,
     context: &Context,
@@ -298,7 +310,7 @@ fn is_placed(context: &Context, repo: u32, key: &Key) -> Result<bool, NoMemory>
 }
 
 /// The offset of an option `offset=MS`, without it 0.
-#[tactic(auto, unfolding(script_commands::specs::Steps::offset_at))]
+#[tactic(auto, unfolding(script_forms::specs::Steps::offset_at))]
 pub fn offset(words: &mut Words<'_>) -> u64
     ensures { (result, words.new) ≡ spec.offset_at words.old }
 {
@@ -312,7 +324,7 @@ pub fn offset(words: &mut Words<'_>) -> u64
 }
 
 /// The version of an option `version=V`, without it 3.
-#[tactic(auto, unfolding(script_commands::specs::Steps::version_at))]
+#[tactic(auto, unfolding(script_forms::specs::Steps::version_at))]
 pub fn version(words: &mut Words<'_>) -> u8
     ensures { (result, words.new) ≡ spec.version_at words.old }
 {
@@ -326,7 +338,7 @@ pub fn version(words: &mut Words<'_>) -> u8
 }
 
 /// Whether a repository gives holds to peers: the option `nolock` says that it doesn't.
-#[tactic(auto, unfolding(script_commands::specs::Steps::locks_at))]
+#[tactic(auto, unfolding(script_forms::specs::Steps::locks_at))]
 pub fn locks(words: &mut Words<'_>) -> bool
     ensures { (result, words.new) ≡ spec.locks_at words.old }
 {
@@ -340,7 +352,7 @@ pub fn locks(words: &mut Words<'_>) -> bool
 }
 
 /// The clock of an option `clock=MS`, without it 0.
-#[tactic(auto, unfolding(script_commands::specs::Steps::clock_at))]
+#[tactic(auto, unfolding(script_forms::specs::Steps::clock_at))]
 pub fn clock(words: &mut Words<'_>) -> u64
     ensures { (result, words.new) ≡ spec.clock_at words.old }
 {
@@ -363,7 +375,7 @@ fn read_turns(word: &[u8]) -> Option<u32>
 }
 
 /// A number of turns from 1 to 10,000, without it 1.
-#[tactic(auto, unfolding(script_commands::specs::Steps::turns_at))]
+#[tactic(auto, unfolding(script_forms::specs::Steps::turns_at))]
 pub fn turns(words: &mut Words<'_>) -> u32
     ensures { (result, words.new) ≡ spec.turns_at words.old }
 {
@@ -377,7 +389,7 @@ pub fn turns(words: &mut Words<'_>) -> u32
 }
 
 /// A path, or none.
-#[tactic(auto, unfolding(script_commands::specs::Steps::maybe_path_at))]
+#[tactic(auto, unfolding(script_forms::specs::Steps::maybe_path_at))]
 pub fn maybe_path(alloc: Global, words: &mut Words<'_>) -> Result<Option<Text>, NoMemory>
     ensures { IfOk result (λ p. (p, words.new) ≡ spec.maybe_path_at words.old) }
 {
@@ -404,7 +416,7 @@ fn pass(words: &mut Words<'_>, wanted: &[u8]) -> bool
 }
 
 /// `from` and another repository than this one, or nothing.
-#[tactic(auto, unfolding(script_commands::specs::Steps::from_at))]
+#[tactic(auto, unfolding(script_forms::specs::Steps::from_at))]
 pub fn maybe_from(
     context: &Context,
     repo: u32,
@@ -421,7 +433,7 @@ pub fn maybe_from(
 }
 
 /// `to` and another repository than this one.
-#[tactic(auto, unfolding(script_commands::specs::Steps::to_at))]
+#[tactic(auto, unfolding(script_forms::specs::Steps::to_at))]
 pub fn to(context: &Context, repo: u32, words: &mut Words<'_>) -> Result<u32, LineFault>
     ensures { Reads (λ p. p) result words.new (spec.to_at context.now repo words.old) }
 {
@@ -434,7 +446,7 @@ pub fn to(context: &Context, repo: u32, words: &mut Words<'_>) -> Result<u32, Li
 }
 
 /// Which way content moves.
-#[tactic(auto, unfolding(script_commands::specs::Steps::way_at))]
+#[tactic(auto, unfolding(script_forms::specs::Steps::way_at))]
 pub fn way(words: &mut Words<'_>) -> Result<JobKind, LineFault>
     ensures { Reads (λ k. k) result words.new (spec.way_at words.old) }
 {
@@ -457,7 +469,7 @@ fn location(alloc: Global, context: &Context, words: &mut Words<'_>) -> Result<L
 }
 
 /// `location` and a key, or a log file by its name.
-#[tactic(auto, unfolding(script_commands::specs::Steps::log_file_at))]
+#[tactic(auto, unfolding(script_forms::specs::Steps::log_file_at))]
 pub fn log_file(
     alloc: Global,
     context: &Context,
@@ -468,6 +480,6 @@ pub fn log_file(
     if pass(words, b"location") {
         location(alloc, context, words)
     } else {
-        file(alloc, words)
+        file(words)
     }
 }

@@ -1,8 +1,8 @@
 //! Whether contents match their keys, and the keys that are made of contents.
 ghost use Rattle.std.specs.Prelude.{◌≡◌, ◌≤◌, ◌||◌, List, [], ℕ, length, IfOk};
 ghost use Rattle.key_verify.specs.Sums.{HasTaken, bytes_taken, sum_of};
-ghost use Rattle.script_commands.specs.Steps.{is_large};
-ghost use Rattle.script_commands.specs.Verify as spec;
+ghost use Rattle.script_forms.specs.Steps.{is_large};
+ghost use Rattle.script_forms.specs.Verify as spec;
 
 use annex_base::{NoMemory, Text};
 use annex_key::Key;
@@ -41,7 +41,7 @@ fn content_sum(mut digester: Digester, content: &Content) -> Sum
 }
 
 /// Whether the content matches the key.
-#[tactic(auto, unfolding(script_commands::specs::Verify::is_content_of))]
+#[tactic(auto, unfolding(script_forms::specs::Verify::is_content_of))]
 fn is_content_of(alloc: Global, key: &Key, content: &Content) -> Result<bool, NoMemory>
     requires { length content.now ≤ 16777216 }
     ensures { IfOk result (λ b. b ≡ spec.is_content_of key.now content.now) }
@@ -64,7 +64,7 @@ pub fn may_have(alloc: Global, key: &Key, content: &Content) -> Result<bool, NoM
 }
 
 /// The key that is made of the content that a path gets.
-#[tactic(auto, unfolding(script_commands::specs::Verify::made_key))]
+#[tactic(auto, unfolding(script_forms::specs::Verify::made_key))]
 pub fn key_for(alloc: Global, path: &Text, content: &Content) -> Result<Key, NoMemory>
     requires { length content.now ≤ 16777216 }
     ensures { IfOk result (λ k. k ≡ spec.made_key path.now content.now) }

@@ -47,6 +47,10 @@ word_from place (b ∷ bytes) = if b == quote then quoted_word place bytes else 
 abbrev pub after_spaces : List ℕ → ℕ → ℕ
 after_spaces line place = place + prefix_len is_space (drop place line)
 
+-- the place of a line's first word, behind the spaces that it begins with
+abbrev pub first_place : List ℕ → ℕ
+first_place line = prefix_len is_space line
+
 -- the next word of a line from a place on: none, a wrong one at its first byte, or a word
 unfoldable pub next_word : List ℕ → ℕ → NextWord
 next_word line place = let start = after_spaces line place in word_from start (drop start line)

@@ -2,7 +2,7 @@
 ghost use Rattle.std.specs.Prelude.{◌≡◌, ◌<◌, ◌≤◌, ◌+◌, ◌^◌, length};
 ghost use Rattle.std.specs.List.{prefix_len};
 ghost use Rattle.annex_base.specs.Lines.{is_space, is_not_space};
-ghost use Rattle.script_words.specs.Words.{is_not_quote, closes, text_word, quoted_word, plain_word, word_from, next_word, rest_from, rest_word, behind, IsAhead};
+ghost use Rattle.script_words.specs.Words.{is_not_quote, closes, text_word, quoted_word, plain_word, word_from, next_word, rest_from, rest_word, behind, first_place, IsAhead};
 
 use crate::utf8::is_text;
 use std::marker::Model;
@@ -81,6 +81,13 @@ impl<'a> Words<'a> {
         ensures { result.now ≡ self.now.line }
     {
         self.line
+    }
+
+    /// The place of the line's first word, behind the spaces that it begins with; from 0.
+    pub fn first_place(&self) -> usize
+        ensures { result ≡ first_place self.now.line }
+    {
+        spaces_len(self.line)
     }
 
     /// How far the line is read: the place behind the last word, or the line's length.

@@ -6,7 +6,8 @@ ghost use Rattle.node_model.specs.SessionStep.{tries, failure_line, check_answer
 ghost use Rattle.node_model.specs.Calls.{to_remove};
 ghost use Rattle.node_model.specs.Rows.{is_blocked};
 ghost use Rattle.content_lock.specs.Rows.{AreAfter, bar_at};
-ghost use Rattle.session_state.specs.Answers.{AnswersAsAsked, contents_after, failed_in, is_in};
+ghost use Rattle.session_state.specs.Answers.{AnswersAsAsked, contents_after, is_in};
+ghost use Rattle.node_model.specs.Look.{failed_in};
 ghost use Rattle.session_state.specs.Bounds.{IsNumberedStep};
 ghost use Rattle.content_lock.specs.CallsMade.{MakesCalls, fewer};
 ghost use Rattle.session_state.specs.Phases.{IsNoGain};

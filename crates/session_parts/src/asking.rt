@@ -9,7 +9,8 @@ ghost use Rattle.node_model.specs.Ends.{server_end};
 ghost use Rattle.node_model.specs.Sessions.{Waits, wants};
 ghost use Rattle.node_model.specs.SessionStep.{Here, on_put, reply};
 ghost use Rattle.content_lock.specs.Rows.{bar_at, is_filling};
-ghost use Rattle.session_state.specs.Answers.{Changes, AnswersAsAsked, LeavesContents, failed_in, is_in, reply_of};
+ghost use Rattle.session_state.specs.Answers.{as_said, Changes, AnswersAsAsked, LeavesContents, is_in, reply_of};
+ghost use Rattle.node_model.specs.Look.{failed_in};
 ghost use Rattle.session_state.specs.Bounds.{IsNumberedStep};
 ghost use Rattle.content_lock.specs.CallsMade.{MakesCalls, fewer};
 ghost use Rattle.session_state.specs.Phases.{IsNoGain, wanted_in};
@@ -84,7 +85,7 @@ fn ask<K: Keeper>(
     key: &Key,
 ) -> Result<(Step, Option<Wanting>), NoMemory>
     requires free { is_filling table.old key.now ≡ false }
-    ensures does { IfOk result (λ r. (h : Here) → Tells (K.parts keeper.old) (λ p. h.part ≡ length (p key.now)) → h.present key.now ≡ false → h.filled key.now ≡ false → h.at ≡ server_end scene.place.peer scene.place.slot → h.fails ≡ failed_in r.0.kind → reply_of r.0 ≡ on_put h key.now) }
+    ensures does { IfOk result (λ r. (h : Here) → Tells (K.parts keeper.old) (λ p. h.part ≡ length (p key.now)) → h.present key.now ≡ false → h.filled key.now ≡ false → h.at ≡ server_end scene.place.peer scene.place.slot → h.fails ≡ failed_in r.0.kind → reply_of r.0 ≡ as_said (on_put h key.now)) }
     ensures after { IfOk result (λ r. AreAfterStep r.0.kind table.old table.new) }
     ensures calm { IfOk result (λ r. IsNoGain r.0.kind) }
     ensures fits { IfOk result (λ r. IsNumberedStep scene.number r.0) }

@@ -1,4 +1,5 @@
 -- What is sent next of a content.
+use Rattle.annex_base.specs.declared.kinds.Call.TheVariants.{Read}
 use Rattle.std.proofs.Common.{◌≡◌, ◌≢◌, ℕ, ◌+◌, ◌-◌, ◌<◌, Bool, true, false, min, List, [], ◌∷◌, length, Option, Some, None, refl, sym, ◌∙◌, arith}
 use Rattle.std.specs.Prelude.{nat_le, ◌==◌}
 use Rattle.std.specs.Option.{option_map, unwrap_or}
@@ -16,7 +17,7 @@ pub some_left : (left : ℕ) → 0 < left → (left == 0) ≡ false
 some_left left some = grind arith
 
 pub piece_is : (h : Here) (key : List ℕ) (at left n m : ℕ) (good : Bool) → 0 < left → min 32768 left ≡ n → m ≡ n → h.fails ≡ None → reaches (h.content key) (at + n) ≡ true
-    → gives_next h (Gives key at left good) ≡ Some (record { kind = Talk None; says = Bytes m ∷ [] })
+    → gives_next h (Gives key at left good) ≡ Some (record { kind = Talk None; says = Bytes m ∷ []; calls = Read ∷ [] })
 piece_is h key at left n m good some is whole f r = rw (some_left left some, is, f, r, whole) refl
 
 pub gone_is : (h : Here) (place : Place) (key : List ℕ) (at left n : ℕ) (good : Bool) → h.at ≡ server_end place.peer place.slot → 0 < left → min 32768 left ≡ n → h.fails ≡ None → reaches (h.content key) (at + n) ≡ false

@@ -15,12 +15,12 @@ use Rattle.content_lock.specs.Rows.{AreAfter, Rows, bar_at}
 use Rattle.content_lock.specs.Stored.{without_content}
 use Rattle.session_state.specs.declared.step.Step.{Step}
 use Rattle.session_state.specs.declared.place.Scene.{Scene}
-use Rattle.session_state.specs.Answers.{AnswersAsAsked, here_of, is_in, owner_of, size_in}
+use Rattle.session_state.specs.Answers.{as_said, AnswersAsAsked, here_of, is_in, owner_of, size_in}
 
 -- a look
 pub checks : (x : Scene) (rows : Rows) (c : Contents) (known : Option Contents) (part : ℕ) (right : Bool) (asked : Here → Reply) (what : Found) (key : List ℕ) (m : Message) (step : Step)
     → step ≡ record { kind = Check what key; reply = Some m; close = false } → known ≡ Some c
-    → reply (Check what key) m ≡ asked (here_of x rows c None part right) → AnswersAsAsked x rows c known part right asked step
+    → reply (Check what key) m ≡ as_said (asked (here_of x rows c None part right)) → AnswersAsAsked x rows c known part right asked step
 checks x rows c known part right asked what key m step is same f =
     subst (λ (s : Step). AnswersAsAsked x rows c known part right asked s) (sym is)
     (record { answers = f; changes = record { contents = c; told = same; present = λ k. refl; sizes = λ k. refl } })
@@ -28,7 +28,7 @@ checks x rows c known part right asked what key m step is same f =
 -- a fault
 pub faults : (x : Scene) (rows : Rows) (c : Contents) (known : Option Contents) (part : ℕ) (right : Bool) (asked : Here → Reply) (call : Call) (step : Step)
     → step ≡ record { kind = Fault call (owner_of x); reply = Some Failure; close = false } → known ≡ Some c
-    → reply (Fault call (owner_of x)) Failure ≡ asked (here_of x rows c (Some call) part right) → AnswersAsAsked x rows c known part right asked step
+    → reply (Fault call (owner_of x)) Failure ≡ as_said (asked (here_of x rows c (Some call) part right)) → AnswersAsAsked x rows c known part right asked step
 faults x rows c known part right asked call step is same f =
     subst (λ (s : Step). AnswersAsAsked x rows c known part right asked s) (sym is)
     (record { answers = f; changes = record { contents = c; told = same; present = λ k. refl; sizes = λ k. refl } })
@@ -36,14 +36,14 @@ faults x rows c known part right asked call step is same f =
 -- an answer that is no entry of its own
 pub talks : (x : Scene) (rows : Rows) (c : Contents) (known : Option Contents) (part : ℕ) (right : Bool) (asked : Here → Reply) (m : Message) (step : Step)
     → step ≡ record { kind = Talk None; reply = Some m; close = false } → known ≡ Some c
-    → reply (Talk None) m ≡ asked (here_of x rows c None part right) → AnswersAsAsked x rows c known part right asked step
+    → reply (Talk None) m ≡ as_said (asked (here_of x rows c None part right)) → AnswersAsAsked x rows c known part right asked step
 talks x rows c known part right asked m step is same f =
     subst (λ (s : Step). AnswersAsAsked x rows c known part right asked s) (sym is)
     (record { answers = f; changes = record { contents = c; told = same; present = λ k. refl; sizes = λ k. refl } })
 
 pub quiets : (x : Scene) (rows : Rows) (c : Contents) (known : Option Contents) (part : ℕ) (right : Bool) (asked : Here → Reply) (step : Step)
     → step ≡ record { kind = Talk None; reply = None; close = false } → known ≡ Some c
-    → silent_reply (Talk None) ≡ asked (here_of x rows c None part right) → AnswersAsAsked x rows c known part right asked step
+    → silent_reply (Talk None) ≡ as_said (asked (here_of x rows c None part right)) → AnswersAsAsked x rows c known part right asked step
 quiets x rows c known part right asked step is same f =
     subst (λ (s : Step). AnswersAsAsked x rows c known part right asked s) (sym is)
     (record { answers = f; changes = record { contents = c; told = same; present = λ k. refl; sizes = λ k. refl } })
@@ -60,7 +60,7 @@ gone_size c key k = elim (bytes_eq key k) as (λ b. option_map length (if b then
 -- a removal
 pub removes : (x : Scene) (rows : Rows) (c : Contents) (was known : Option Contents) (part : ℕ) (right : Bool) (asked : Here → Reply) (key : List ℕ) (by : By) (step : Step)
     → step ≡ record { kind = Gone by key; reply = Some Success; close = false } → by ≡ owner_of x → known ≡ without_content was key → was ≡ Some c
-    → reply (Gone (owner_of x) key) Success ≡ asked (here_of x rows c None part right) → AnswersAsAsked x rows c known part right asked step
+    → reply (Gone (owner_of x) key) Success ≡ as_said (asked (here_of x rows c None part right)) → AnswersAsAsked x rows c known part right asked step
 removes x rows c was known part right asked key by step is owner gone told f =
     subst (λ (s : Step). AnswersAsAsked x rows c known part right asked s) (sym (is ∙ ap (λ (b : By). record { kind = Gone b key; reply = Some Success; close = false }) owner))
     (record {

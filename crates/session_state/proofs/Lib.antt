@@ -1,6 +1,5 @@
 -- The lemmas of sessions, which the crates of their answers cite, too.
 pub mod Agreeing
-pub mod AnswerCalls
 pub mod Calling
 pub mod Doings
 pub mod Holding

@@ -1,6 +1,6 @@
 -- The calls of a session's answers, by what is heard.
-use Rattle.std.proofs.Common.{◌≡◌, ℕ, ◌*◌, Bool, true, List, [], ◌∷◌, length, Option, Some, None, Result, Ok, Err, refl, sym, ap, subst, ◌∙◌}
-use Rattle.std.specs.Prelude.{IfOk, OnErr, bytes_eq, if◌then◌else◌, nat_le, nat_lt, ◌&&◌}
+use Rattle.std.proofs.Common.{◌≡◌, ℕ, ◌*◌, Bool, true, false, List, [], ◌∷◌, length, Option, None, Result, Ok, Err, refl, sym, ap, subst, ◌∙◌}
+use Rattle.std.specs.Prelude.{◌/◌, IfOk, OnErr, bytes_eq, if◌then◌else◌, nat_le, nat_lt, ◌&&◌}
 use Rattle.std.specs.Option.{ForSome, option_map}
 use Rattle.std.specs.declared.vec.Vec.{Vec}
 use Rattle.std.specs.declared.alloc.Global.{Global}
@@ -8,16 +8,17 @@ use Rattle.std.proofs.lemmas.Bool.{cond-true}
 use Rattle.annex_base.specs.declared.kinds.Call.{Call}
 use Rattle.annex_base.specs.declared.kinds.Call.TheVariants as calls
 use Rattle.run_data.specs.declared.entry.FrameText.{FrameText}
-use Rattle.run_data.specs.declared.entry.FrameText.TheVariants as frames
+use Rattle.run_data.specs.declared.entry.FrameText.TheVariants.{Closing}
+use Rattle.run_data.specs.declared.entry.EntryKind.TheVariants.{Check, Release, Talk}
+use Rattle.annex_base.specs.declared.kinds.Found.TheVariants as found
 use Rattle.p2p_wire.specs.declared.message.Message.{Message}
 use Rattle.p2p_wire.specs.declared.message.Message.TheVariants as messages
-use Rattle.p2p_wire.specs.Messages.{message_of}
 use Rattle.object_store.specs.Stores.{Contents, Parts}
-use Rattle.node_model.specs.Calls.{to_commit}
+use Rattle.node_model.specs.Calls.{to_commit, to_offer}
 use Rattle.node_model.specs.Ends.{EndName}
-use Rattle.node_model.specs.Look.{Look}
+use Rattle.node_model.specs.Look.{failed_in, Look}
 use Rattle.node_model.specs.Sessions as sessions
-use Rattle.node_model.specs.SessionStep.{Here, here, is_filled, now_of}
+use Rattle.node_model.specs.SessionStep.{Here, Reply, here, is_filled, is_here, now_of, on_bytes, on_frame, on_message, on_remove, on_remove_before, reply, silent_reply, tries, unexpected_reply}
 use Rattle.node_model.specs.SetUp.{SetUp}
 use Rattle.node_model.specs.State.{State}
 use Rattle.content_lock.specs.Rows.{Rows, is_filling}
@@ -31,19 +32,18 @@ use Rattle.session_state.specs.declared.incoming.Incoming.TheVariants as incomin
 use Rattle.session_state.specs.declared.place.Scene.{Scene}
 use Rattle.session_state.specs.declared.state.SessionState.{SessionState}
 use Rattle.session_state.specs.declared.step.Step.{Step}
-use Rattle.session_state.specs.Answers.{failed_in, here_of}
+use Rattle.session_state.specs.Answers.{here_of}
 use Rattle.content_lock.specs.CallsMade.{MakesCalls, fewer}
-use Rattle.session_state.specs.SessionCalls.{Makes, MakesStep, calls_bytes, calls_frame, calls_heard, calls_message, calls_text, to_remove_here}
+use Rattle.session_state.specs.SessionCalls.{Makes, MakesStep, to_remove_here}
 use Rattle.session_state.specs.States.{IsScene, HaveRows, stand_of}
 use Rattle.session_state.specs.Stepping.{IsUnexpected, guards_key}
-use Rattle.session_state.specs.Talking.{Brings, SeesPart, SeesTaken, doing_of, heard_line, session_of}
-use Rattle.session_state.proofs.AnswerCalls.{unexpected_calls}
+use Rattle.session_state.specs.Talking.{Brings, SeesPart, SeesTaken, doing_of, on_heard, session_of}
 use Rattle.session_state.proofs.Calling.{as_it_was, makes_none}
-use Rattle.session_state.proofs.StateFacts.{here_is}
+use Rattle.session_state.proofs.StateFacts.{heard_is, here_is}
 
 -- what is counted stays, as no call was made
 pub quiet : (x : Scene) (i : Incoming) (s : SessionState) (rows : Rows) (contents : Option Contents) (parts : Option Parts) (failing : Option (Call → ℕ)) (step : Step)
-    → failed_in step.kind ≡ None → ((h : Here) → calls_heard h (session_of s) i ≡ []) → MakesStep x i s rows contents parts failing failing step
+    → failed_in step.kind ≡ None → ((h : Here) → (on_heard h (session_of s) i).calls ≡ []) → MakesStep x i s rows contents parts failing failing step
 quiet x i s rows contents parts failing step well none = record {
   calls = λ c is part right sees.
       subst (λ (cs : List Call). MakesCalls cs (failed_in step.kind) failing failing) (sym (none (here_of x rows c (failed_in step.kind) part right)))
@@ -54,18 +54,18 @@ quiet x i s rows contents parts failing step well none = record {
 -- what isn't expected
 pub unexpected_makes : (x : Scene) (i : Incoming) (s : SessionState) (rows : Rows) (contents : Option Contents) (parts : Option Parts) (failing : Option (Call → ℕ)) (step : Step)
     → failed_in step.kind ≡ None → IsUnexpected i s → MakesStep x i s rows contents parts failing failing step
-unexpected_makes x i s rows contents parts failing step well un = quiet x i s rows contents parts failing step well (unexpected_calls (session_of s) i un.answer)
+unexpected_makes x i s rows contents parts failing step well un = quiet x i s rows contents parts failing step well (λ h. ap (λ (x : Reply). x.calls) (un.answer h))
 
 -- ---- a session that waits
 
 pub request_makes : (x : Scene) (m : Message) (s : SessionState) (rows : Rows) (contents : Option Contents) (parts : Option Parts) (before after : Option (Call → ℕ)) (step : Step) (asked : Here → List Call)
-    → s.doing ≡ doings.Waits → ((h : Here) → calls_message h s.spoken sessions.Waits m ≡ asked h)
+    → s.doing ≡ doings.Waits → ((h : Here) → (on_message h s.spoken sessions.Waits m).calls ≡ asked h)
     → ForSome contents (λ c. (part : ℕ) (right : Bool) → SeesPart parts doings.Waits (incoming.Message m) part right → MakesCalls (asked (here_of x rows c (failed_in step.kind) part right)) (failed_in step.kind) before after)
     → after ≡ option_map (fewer (failed_in step.kind)) before → MakesStep x (incoming.Message m) s rows contents parts before after step
 request_makes x m s rows contents parts before after step asked waits answer made left = record {
   calls = λ c is part right sees.
       let h : Here = here_of x rows c (failed_in step.kind) part right in
-      let list : calls_message h s.spoken (doing_of s.doing) m ≡ asked h = ap (λ (d : Doing). calls_message h s.spoken (doing_of d) m) waits ∙ answer h in
+      let list : (on_message h s.spoken (doing_of s.doing) m).calls ≡ asked h = ap (λ (d : Doing). (on_message h s.spoken (doing_of d) m).calls) waits ∙ answer h in
       subst (λ (cs : List Call). MakesCalls cs (failed_in step.kind) before after) (sym list)
       (made c is part right (subst (λ (d : Doing). SeesPart parts d (incoming.Message m) part right) waits sees));
   left = left;
@@ -73,12 +73,29 @@ request_makes x m s rows contents parts before after step asked waits answer mad
 
 -- one that makes no call
 pub request_quiet : (x : Scene) (m : Message) (s : SessionState) (rows : Rows) (contents : Option Contents) (parts : Option Parts) (failing : Option (Call → ℕ)) (step : Step)
-    → s.doing ≡ doings.Waits → ((h : Here) → calls_message h s.spoken sessions.Waits m ≡ []) → failed_in step.kind ≡ None → MakesStep x (incoming.Message m) s rows contents parts failing failing step
+    → s.doing ≡ doings.Waits → ((h : Here) → (on_message h s.spoken sessions.Waits m).calls ≡ []) → failed_in step.kind ≡ None → MakesStep x (incoming.Message m) s rows contents parts failing failing step
 request_quiet x m s rows contents parts failing step waits answer well =
-    quiet x (incoming.Message m) s rows contents parts failing step well (λ h. ap (λ (d : Doing). calls_message h s.spoken (doing_of d) m) waits ∙ answer h)
+    quiet x (incoming.Message m) s rows contents parts failing step well (λ h. ap (λ (d : Doing). (on_message h s.spoken (doing_of d) m).calls) waits ∙ answer h)
 
-pub before_calls : (v n : ℕ) (key : List ℕ) → nat_le 3 v ≡ true → (h : Here) → calls_message h v sessions.Waits (messages.RemoveBefore n key) ≡ (if nat_lt (now_of h) (1000 * n) then to_remove_here h key else [])
-before_calls v n key speaks h = ap (λ (b : Bool). if b && nat_lt (now_of h) (1000 * n) then to_remove_here h key else []) speaks
+pub before_calls : (v n : ℕ) (key : List ℕ) → nat_le 3 v ≡ true → (h : Here) → (on_message h v sessions.Waits (messages.RemoveBefore n key)).calls ≡ (if nat_lt (now_of h) (1000 * n) then to_remove_here h key else [])
+before_calls v n key speaks h = ap (λ (b : Bool). (if b then on_remove_before h n key else unexpected_reply h).calls) speaks ∙ go (nat_lt (now_of h) (1000 * n))
+  where
+    go : (b : Bool) → (if b then on_remove h key else reply (Check found.Late key) messages.Failure).calls ≡ (if b then to_remove_here h key else [])
+    go true = refl
+    go false = refl
+
+pub get_calls : (h : Here) (v n : ℕ) (file key : List ℕ) → nat_le 1 v ≡ true → (on_message h v sessions.Waits (messages.Get n file key)).calls ≡ calls.Size ∷ []
+get_calls h v n file key speaks = rw speaks refl
+
+pub put_calls : (h : Here) (v : ℕ) (file key : List ℕ) → nat_le 1 v ≡ true → (on_message h v sessions.Waits (messages.Put file key)).calls ≡ to_offer h.part (is_here h key) (h.filled key)
+put_calls h v file key speaks = rw speaks refl
+
+pub time_calls : (h : Here) (v : ℕ) → (on_message h v sessions.Waits messages.GetTimestamp).calls ≡ []
+time_calls h v = go (nat_le 3 v)
+  where
+    go : (b : Bool) → (if b then reply (Talk None) (messages.Timestamp (now_of h / 1000)) else unexpected_reply h).calls ≡ []
+    go true = refl
+    go false = refl
 
 -- ---- one that guards, and one that takes bytes
 
@@ -89,8 +106,8 @@ unlock_makes x key s share rows contents parts before after step guarded has mad
   calls = λ c is part right sees.
       let h : Here = here_of x rows c (failed_in step.kind) part right in
       let same : bytes_eq key share.key ≡ true = ap (λ (d : Doing). guards_key d key) (sym has) ∙ guarded in
-      let list : calls_message h s.spoken (doing_of s.doing) (messages.UnlockContent key) ≡ calls.Unhold ∷ [] =
-      ap (λ (d : Doing). calls_message h s.spoken (doing_of d) (messages.UnlockContent key)) has ∙ cond-true (bytes_eq key share.key) (calls.Unhold ∷ []) [] same in
+      let list : (on_message h s.spoken (doing_of s.doing) (messages.UnlockContent key)).calls ≡ calls.Unhold ∷ [] =
+      ap (λ (d : Doing). (on_message h s.spoken (doing_of d) (messages.UnlockContent key)).calls) has ∙ ap (λ (x : Reply). x.calls) (cond-true (bytes_eq key share.key) (tries h (calls.Unhold ∷ []) [] (silent_reply (Release share.number share.key))) (unexpected_reply h) same) in
       subst (λ (cs : List Call). MakesCalls cs (failed_in step.kind) before after) (sym list) made;
   left = made.left;
 }
@@ -100,8 +117,9 @@ pub piece_makes : (x : Scene) (bytes : Vec ℕ Global) (s : SessionState) (t : T
     → MakesStep x (incoming.Bytes bytes) s rows contents parts before after step
 piece_makes x bytes s t rows contents parts before after step has fits made = record {
   calls = λ c is part right sees.
-      let list : calls_bytes (length bytes.items) (doing_of s.doing) ≡ calls.Append ∷ [] =
-      ap (λ (d : Doing). calls_bytes (length bytes.items) (doing_of d)) has ∙ cond-true (nat_lt 0 (length bytes.items) && nat_le (length bytes.items) t.left) (calls.Append ∷ []) [] fits in
+      let h : Here = here_of x rows c (failed_in step.kind) part right in
+      let list : (on_bytes h (length bytes.items) (doing_of s.doing)).calls ≡ calls.Append ∷ [] =
+      ap (λ (d : Doing). (on_bytes h (length bytes.items) (doing_of d)).calls) has ∙ ap (λ (x : Reply). x.calls) (cond-true (nat_lt 0 (length bytes.items) && nat_le (length bytes.items) t.left) (tries h (calls.Append ∷ []) (Closing ∷ []) (silent_reply (Talk None))) (unexpected_reply h) fits) in
       subst (λ (cs : List Call). MakesCalls cs (failed_in step.kind) before after) (sym list) made;
   left = made.left;
 }
@@ -112,7 +130,7 @@ pub valid_makes : (x : Scene) (s : SessionState) (t : Taken) (rows : Rows) (cont
 valid_makes x s t rows contents parts before after step has made left = record {
   calls = λ c is part right sees.
       let h : Here = here_of x rows c (failed_in step.kind) part right in
-      let list : calls_message h s.spoken (doing_of s.doing) messages.Valid ≡ to_commit right = ap (λ (d : Doing). calls_message h s.spoken (doing_of d) messages.Valid) has in
+      let list : (on_message h s.spoken (doing_of s.doing) messages.Valid).calls ≡ to_commit right = ap (λ (d : Doing). (on_message h s.spoken (doing_of d) messages.Valid).calls) has in
       subst (λ (cs : List Call). MakesCalls cs (failed_in step.kind) before after) (sym list)
       (made right (subst (λ (d : Doing). SeesPart parts d (incoming.Message messages.Valid) part right) has sees));
   left = left;
@@ -120,29 +138,15 @@ valid_makes x s t rows contents parts before after step has made left = record {
 
 -- ---- of a state that the session, the table and the store are
 
-calls_are : (h : Here) (was : sessions.Session) (i : Incoming) (body : FrameText) → Brings body i → calls_heard h was i ≡ calls_frame h was body
-calls_are h was i frames.Opening e = rw e refl
-calls_are h was i frames.Closing e = rw e refl
-calls_are h was (incoming.Bytes bytes) (frames.Bytes n) e = ap (λ (m : ℕ). calls_bytes m was.doing) (sym e)
-calls_are h was incoming.Opening (frames.Bytes n) e = absurd e
-calls_are h was incoming.Closing (frames.Bytes n) e = absurd e
-calls_are h was incoming.Bad (frames.Bytes n) e = absurd e
-calls_are h was (incoming.Message m) (frames.Bytes n) e = absurd e
-calls_are h was i (frames.Line text) e = go (message_of text) e
-  where
-    go : (m : Option Message) → heard_line m i → calls_heard h was i ≡ calls_text h was m
-    go None e = rw e refl
-    go (Some m) e = rw e refl
-
 pub calls_told : {E : Type 0} (x : Scene) (i : Incoming) (was : SessionState) (rows : Rows) (contents : Option Contents) (parts : Option Parts) (before after : Option (Call → ℕ)) (r : Result Step E)
     → Makes x i was rows contents parts before after r
     → IfOk r (λ step. (s : SetUp) (st : State) (k : Look) (a : EndName) (body : FrameText) → IsScene x s st k a → HaveRows rows contents (stand_of st) → ((key : List ℕ) → is_filled s st key ≡ is_filling rows key)
     → st.sessions a ≡ session_of was → Brings body i → SeesPart parts was.doing i k.part k.right → k.fails ≡ failed_in step.kind
-    → MakesCalls (calls_frame (here s st k a) (st.sessions a) body) k.fails before after)
+    → MakesCalls (on_frame (here s st k a) (st.sessions a) body).calls k.fails before after)
 calls_told x i was rows contents parts before after (Ok step) made = λ s st k a body e r filled same brings sees f.
-    let list : calls_heard (here_of x rows r.contents (failed_in step.kind) k.part k.right) (session_of was) i ≡ calls_frame (here s st k a) (st.sessions a) body =
-    (λ j. calls_heard (here_is x rows contents s st k a (failed_in step.kind) e r filled f j) (sym same j) i) ∙ calls_are (here s st k a) (st.sessions a) i body brings in
-    subst (λ (fails : Option Call). MakesCalls (calls_frame (here s st k a) (st.sessions a) body) fails before after) (sym f)
+    let list : (on_heard (here_of x rows r.contents (failed_in step.kind) k.part k.right) (session_of was) i).calls ≡ (on_frame (here s st k a) (st.sessions a) body).calls =
+    (λ j. (on_heard (here_is x rows contents s st k a (failed_in step.kind) e r filled f j) (sym same j) i).calls) ∙ ap (λ (x : Reply). x.calls) (heard_is (here s st k a) (st.sessions a) i body brings) in
+    subst (λ (fails : Option Call). MakesCalls (on_frame (here s st k a) (st.sessions a) body).calls fails before after) (sym f)
     (subst (λ (cs : List Call). MakesCalls cs (failed_in step.kind) before after) list (made.calls r.contents r.told k.part k.right sees))
 calls_told x i was rows contents parts before after (Err e) made = tt
 

@@ -1,4 +1,5 @@
 -- Phases in which bytes come: what a piece and a verdict let follow.
+use Rattle.session_state.specs.Answers.{as_said}
 use Rattle.std.proofs.Common.{◌≡◌, ℕ, ◌≤◌, ◌<◌, ◌++◌, true, List, map, Option, Some, None, refl, sym, ap, subst, ◌∙◌}
 use Rattle.std.specs.Prelude.{nat_lt, nat_le}
 use Rattle.std.specs.Option.{option_map}
@@ -37,7 +38,7 @@ longer_so d t known known' piece has grown small p is p' is' =
     let told : p' ≡ with_at p t.fill (p t.fill ++ piece) = same_Some _ _ (sym is' ∙ grown ∙ ap (option_map (λ (q : Parts). with_at q t.fill (q t.fill ++ piece))) is) in
     subst (λ (x : Doing). IsLonger x p p' piece) (sym has) (longer t p p' piece told (small p' is'))
 
-pub piece_taken : (h : Here) (key : List ℕ) (size left n : ℕ) → h.fails ≡ None → 0 < n → n ≤ left → silent_reply (Talk None) ≡ on_bytes h n (sessions.Takes key size left)
+pub piece_taken : (h : Here) (key : List ℕ) (size left n : ℕ) → h.fails ≡ None → 0 < n → n ≤ left → silent_reply (Talk None) ≡ as_said (on_bytes h n (sessions.Takes key size left))
 piece_taken h key size left n f some fits =
     let a : nat_lt 0 n ≡ true = lt-ltb 0 n some in
     let b : nat_le n left ≡ true = le-leb n left fits in

@@ -29,7 +29,8 @@ use Rattle.session_state.specs.declared.place.Place.{Place}
 use Rattle.session_state.specs.declared.place.Scene.{Scene}
 use Rattle.session_state.specs.declared.state.SessionState.{SessionState}
 use Rattle.session_state.specs.declared.step.Step.{Step}
-use Rattle.session_state.specs.Answers.{AnswersAsAsked, failed_in, here_of, owner_at}
+use Rattle.session_state.specs.Answers.{as_said, AnswersAsAsked, here_of, owner_at}
+use Rattle.node_model.specs.Look.{failed_in}
 use Rattle.session_state.specs.Bounds.{IsNumberedStep}
 use Rattle.session_state.specs.Phases.{IsJudged, IsLonger, IsNoGain, IsTook, IsWanting}
 use Rattle.session_state.specs.Stepping.{IsAt, IsLetGo, IsStep, LeavesOthers, guards_key, moment_of}
@@ -96,7 +97,7 @@ unlocks x key place spoken share was now contents contents' parts parts' records
       let d = does c told part right in
       let h : Here = here_of x was c (failed_in kind) part right in
       record {
-        answers = d.answers ∙ (λ j. if (sym same_key j) then tries h (calls.Unhold ∷ []) [] (silent_reply (Release share.number share.key)) else unexpected_reply h);
+        answers = d.answers ∙ (λ j. as_said (if (sym same_key j) then tries h (calls.Unhold ∷ []) [] (silent_reply (Release share.number share.key)) else unexpected_reply h));
         changes = d.changes;
       };
   after = record { holds = after.holds; bars = after.bars };
@@ -145,7 +146,7 @@ quiet : (x : Scene) (m : Message) (place : Place) (spoken : ℕ) (d d' : Doing) 
     → Owns (owner_at place) (share_in d) rows.holds → Agrees records rows.holds
     → IsStep x (incoming.Message m) (moment_of (in_phase place spoken d) rows contents parts records faults) (moment_of (in_phase place spoken d') rows contents parts records faults) silent
 quiet x m place spoken d d' rows contents parts records faults answer other goes filled shares fills fed owns agrees = record {
-  does = λ c told part right sees. quiets x rows c contents part right (λ h. on_message h spoken (doing_of d) m) silent refl told (sym (answer (here_of x rows c None part right)));
+  does = λ c told part right sees. quiets x rows c contents part right (λ h. on_message h spoken (doing_of d) m) silent refl told (ap as_said (sym (answer (here_of x rows c None part right))));
   after = record { holds = refl; bars = λ k. refl };
   bars = λ k. refl;
   fits = record { kind = tt; reply = tt };
@@ -289,7 +290,7 @@ invalid_so x s s' was now contents parts records faults step at phase new gone a
     subst (λ (w : SessionState). IsStep x (incoming.Message messages.Invalid) (moment_of s was contents parts records faults) (moment_of w now contents parts records faults) step) (sym new)
     (subst (λ (w : Step). IsStep x (incoming.Message messages.Invalid) (moment_of s was contents parts records faults) (moment_of (going s doings.Waits) now contents parts records faults) w) (sym is) (record {
       does = λ c known part right sees. talks x was c contents part right (λ h. on_heard h (session_of s) (incoming.Message messages.Invalid)) messages.Failure (saying messages.Failure) refl known
-          (sym (answer (here_of x was c None part right) s.doing phase));
+          (ap as_said (sym (answer (here_of x was c None part right) s.doing phase)));
       after = stays (Talk None) s.place.peer s.place.slot was now (nothing_kept (owner_at s.place) s.doing was.holds phase at.owns) gone.after (λ r. record { holds = refl; bars = λ k. refl });
       bars = gone.after.bars;
       fits = record { kind = tt; reply = tt };

@@ -16,24 +16,25 @@ use Rattle.content_lock.specs.declared.refusals.ShareRefused.TheVariants as shar
 use Rattle.content_lock.specs.declared.refusals.RemoveRefused.TheVariants as removes
 use Rattle.node_model.specs.Look.{failing_call}
 use Rattle.node_model.specs.Calls.{to_hold, to_remove}
+use Rattle.session_state.specs.Answers.{as_said}
 use Rattle.node_model.specs.SessionStep.{Here, Reply, bar_on, by_of, check_answer, is_held, is_here, on_lock, on_remove, failure_line, reply, tries}
 
 abbrev pub on_check : List ℕ → Here → Reply
 on_check key h = tries h (calls.Has ∷ []) failure_line (check_answer key (is_here h key) (bar_on h key))
 
-pub check_there : (h : Here) (key : List ℕ) → h.fails ≡ None → h.present key ≡ true → h.bar key ≡ None → reply (Check found.Present key) Success ≡ on_check key h
+pub check_there : (h : Here) (key : List ℕ) → h.fails ≡ None → h.present key ≡ true → h.bar key ≡ None → reply (Check found.Present key) Success ≡ as_said (on_check key h)
 check_there h key f p b = rw (f, p, b) refl
 
-pub check_gone : (h : Here) (key : List ℕ) → h.fails ≡ None → h.present key ≡ false → reply (Check found.Absent key) Failure ≡ on_check key h
+pub check_gone : (h : Here) (key : List ℕ) → h.fails ≡ None → h.present key ≡ false → reply (Check found.Absent key) Failure ≡ as_said (on_check key h)
 check_gone h key f p = rw (f, p) refl
 
-pub check_barred : (h : Here) (key : List ℕ) (job : ℕ) → h.fails ≡ None → h.present key ≡ true → h.bar key ≡ Some job → reply (Check found.Barred key) Failure ≡ on_check key h
+pub check_barred : (h : Here) (key : List ℕ) (job : ℕ) → h.fails ≡ None → h.present key ≡ true → h.bar key ≡ Some job → reply (Check found.Barred key) Failure ≡ as_said (on_check key h)
 check_barred h key job f p b = rw (f, p, b) refl
 
-pub lock_gone : (h : Here) (key : List ℕ) → h.fails ≡ None → h.locks ≡ true → h.present key ≡ false → reply (Check found.Absent key) Failure ≡ on_lock h key
+pub lock_gone : (h : Here) (key : List ℕ) → h.fails ≡ None → h.locks ≡ true → h.present key ≡ false → reply (Check found.Absent key) Failure ≡ as_said (on_lock h key)
 lock_gone h key f l p = rw (f, l, p) refl
 
-pub lock_barred : (h : Here) (key : List ℕ) (job : ℕ) → h.fails ≡ None → h.locks ≡ true → h.present key ≡ true → h.bar key ≡ Some job → reply (Check found.Barred key) Failure ≡ on_lock h key
+pub lock_barred : (h : Here) (key : List ℕ) (job : ℕ) → h.fails ≡ None → h.locks ≡ true → h.present key ≡ true → h.bar key ≡ Some job → reply (Check found.Barred key) Failure ≡ as_said (on_lock h key)
 lock_barred h key job f l p b = rw (f, l, p, b) refl
 
 failing_hold : (b : Bool) (bar : Option ℕ) → failing_call (Some calls.Has) (to_hold b bar) ≡ Some calls.Has
@@ -48,11 +49,11 @@ failing_remove true (Some j) held = refl
 failing_remove false bar held = refl
 
 lock_fails : (h : Here) (key : List ℕ) (call : Call) → h.fails ≡ Some call → h.locks ≡ true → failing_call (Some call) (to_hold (h.present key) (h.bar key)) ≡ Some call
-    → reply (Fault call (by_of h)) Failure ≡ on_lock h key
+    → reply (Fault call (by_of h)) Failure ≡ as_said (on_lock h key)
 lock_fails h key call f l is = rw (f, l, is) refl
 
 pub lock_failed : (h : Here) (key : List ℕ) (known : Option Contents) (c : Contents) (call : Call) → known ≡ Some c → h.present key ≡ is_some (c key) → h.fails ≡ Some call → h.locks ≡ true
-    → NotShared (shares.StoreFault call) (HasContent known key) (h.bar key) → reply (Fault call (by_of h)) Failure ≡ on_lock h key
+    → NotShared (shares.StoreFault call) (HasContent known key) (h.bar key) → reply (Fault call (by_of h)) Failure ≡ as_said (on_lock h key)
 lock_failed h key known c calls.Has is p f l why = lock_fails h key calls.Has f l (failing_hold (h.present key) (h.bar key))
 lock_failed h key known c calls.Hold is p f l why = lock_fails h key calls.Hold f l (rw (p, why.0 c is, why.1) refl)
 lock_failed h key known c call is p f l why = absurd why
@@ -62,24 +63,24 @@ share_leaves calls.Has by rows known key why = record { holds = refl; bars = λ 
 share_leaves calls.Hold by rows known key why = record { holds = refl; bars = λ k. refl; fills = refl }
 share_leaves call by rows known key why = absurd why
 
-pub remove_there : (h : Here) (key : List ℕ) → h.fails ≡ None → h.present key ≡ true → h.bar key ≡ None → is_held h key ≡ false → reply (Gone (by_of h) key) Success ≡ on_remove h key
+pub remove_there : (h : Here) (key : List ℕ) → h.fails ≡ None → h.present key ≡ true → h.bar key ≡ None → is_held h key ≡ false → reply (Gone (by_of h) key) Success ≡ as_said (on_remove h key)
 remove_there h key f p b k = rw (f, p, b, k) refl
 
-pub remove_gone : (h : Here) (key : List ℕ) → h.fails ≡ None → h.present key ≡ false → reply (Check found.Absent key) Success ≡ on_remove h key
+pub remove_gone : (h : Here) (key : List ℕ) → h.fails ≡ None → h.present key ≡ false → reply (Check found.Absent key) Success ≡ as_said (on_remove h key)
 remove_gone h key f p = rw (f, p) refl
 
-pub remove_barred : (h : Here) (key : List ℕ) (job : ℕ) → h.fails ≡ None → h.present key ≡ true → h.bar key ≡ Some job → reply (Check found.Barred key) Failure ≡ on_remove h key
+pub remove_barred : (h : Here) (key : List ℕ) (job : ℕ) → h.fails ≡ None → h.present key ≡ true → h.bar key ≡ Some job → reply (Check found.Barred key) Failure ≡ as_said (on_remove h key)
 remove_barred h key job f p b = rw (f, p, b) refl
 
-pub remove_held : (h : Here) (key : List ℕ) → h.fails ≡ None → h.present key ≡ true → h.bar key ≡ None → is_held h key ≡ true → reply (Check found.Held key) Failure ≡ on_remove h key
+pub remove_held : (h : Here) (key : List ℕ) → h.fails ≡ None → h.present key ≡ true → h.bar key ≡ None → is_held h key ≡ true → reply (Check found.Held key) Failure ≡ as_said (on_remove h key)
 remove_held h key f p b k = rw (f, p, b, k) refl
 
 remove_fails : (h : Here) (key : List ℕ) (call : Call) → h.fails ≡ Some call → failing_call (Some call) (to_remove (h.present key) (h.bar key) (is_held h key)) ≡ Some call
-    → reply (Fault call (by_of h)) Failure ≡ on_remove h key
+    → reply (Fault call (by_of h)) Failure ≡ as_said (on_remove h key)
 remove_fails h key call f is = rw (f, is) refl
 
 pub remove_failed : (h : Here) (key : List ℕ) (known : Option Contents) (c : Contents) (call : Call) (blocking : List Hold) → known ≡ Some c → h.present key ≡ is_some (c key) → h.fails ≡ Some call
-    → NotRemoved (removes.StoreFault call) (HasContent known key) (h.bar key) (is_held h key) blocking → reply (Fault call (by_of h)) Failure ≡ on_remove h key
+    → NotRemoved (removes.StoreFault call) (HasContent known key) (h.bar key) (is_held h key) blocking → reply (Fault call (by_of h)) Failure ≡ as_said (on_remove h key)
 remove_failed h key known c calls.Has blocking is p f why = remove_fails h key calls.Has f (failing_remove (h.present key) (h.bar key) (is_held h key))
 remove_failed h key known c calls.Remove blocking is p f why = remove_fails h key calls.Remove f (rw (p, why.0 c is, why.1, why.2) refl)
 remove_failed h key known c call blocking is p f why = absurd why

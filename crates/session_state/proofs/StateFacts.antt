@@ -12,7 +12,7 @@ use Rattle.object_store.specs.Stores.{Contents}
 use Rattle.node_model.specs.Rows.{bar_after, content_after, holds_after, present_after}
 use Rattle.node_model.specs.SetUp.{SetUp}
 use Rattle.node_model.specs.Ends.{EndName}
-use Rattle.node_model.specs.Look.{Look}
+use Rattle.node_model.specs.Look.{failed_in, Look}
 use Rattle.node_model.specs.State.{State}
 use Rattle.node_model.specs.Sessions as sessions
 use Rattle.node_model.specs.SessionStep.{Here, Reply, here, is_filled, on_bytes, on_frame, on_text}
@@ -21,7 +21,7 @@ use Rattle.session_state.specs.declared.place.Scene.{Scene}
 use Rattle.session_state.specs.declared.incoming.Incoming.{Incoming}
 use Rattle.session_state.specs.declared.incoming.Incoming.TheVariants as incoming
 use Rattle.session_state.specs.declared.step.Step.{Step}
-use Rattle.session_state.specs.Answers.{AnswersAsAsked, failed_in, here_of, reply_of}
+use Rattle.session_state.specs.Answers.{as_said, AnswersAsAsked, here_of, reply_of}
 use Rattle.session_state.specs.Talking.{AreAfterStep, Brings, SaysSo, heard_line, next_session, on_heard, took_heard}
 use Rattle.session_state.specs.States.{IsScene, HaveRows, Stand, stand_after, stand_of}
 
@@ -46,7 +46,7 @@ here_is x rows known s st k a fails e r filled f = λ i.
       right = k.right;
     }
 
-heard_is : (h : Here) (was : sessions.Session) (i : Incoming) (body : FrameText) → Brings body i → on_heard h was i ≡ on_frame h was body
+pub heard_is : (h : Here) (was : sessions.Session) (i : Incoming) (body : FrameText) → Brings body i → on_heard h was i ≡ on_frame h was body
 heard_is h was i Opening e = rw e refl
 heard_is h was i Closing e = rw e refl
 heard_is h was (incoming.Bytes bytes) (Bytes n) e = ap (λ (m : ℕ). on_bytes h m was.doing) (sym e)
@@ -86,11 +86,11 @@ pub step_is : (x : Scene) (rows : Rows) (known known' : Option Contents) (was : 
     (s : SetUp) (st : State) (k : Look) (a : EndName) (body : FrameText)
     → IsScene x s st k a → (r : HaveRows rows known (stand_of st)) → ((key : List ℕ) → is_filled s st key ≡ is_filling rows key)
     → st.sessions a ≡ was → Brings body i → k.fails ≡ failed_in step.kind
-    → AnswersAsAsked x rows r.contents known' k.part k.right (λ h. on_heard h was i) step → reply_of step ≡ on_frame (here s st k a) (st.sessions a) body
+    → AnswersAsAsked x rows r.contents known' k.part k.right (λ h. on_heard h was i) step → reply_of step ≡ as_said (on_frame (here s st k a) (st.sessions a) body)
 step_is x rows known known' was i step s st k a body e r filled same brings f d =
     d.answers
-    ∙ (λ j. on_heard (here_is x rows known s st k a (failed_in step.kind) e r filled f j) (sym same j) i)
-    ∙ heard_is (here s st k a) (st.sessions a) i body brings
+    ∙ ap as_said ((λ j. on_heard (here_is x rows known s st k a (failed_in step.kind) e r filled f j) (sym same j) i)
+    ∙ heard_is (here s st k a) (st.sessions a) i body brings)
 
 pub stands : (x : Scene) (rows now : Rows) (known known' : Option Contents) (part : ℕ) (right : Bool) (asked : Here → Reply) (step : Step) (stand : Stand)
     → (r : HaveRows rows known stand) → AreAfterStep step.kind rows now → AnswersAsAsked x rows r.contents known' part right asked step

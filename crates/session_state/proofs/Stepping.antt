@@ -23,7 +23,8 @@ use Rattle.session_state.specs.declared.place.Place.{Place}
 use Rattle.session_state.specs.declared.place.Scene.{Scene}
 use Rattle.session_state.specs.declared.state.SessionState.{SessionState}
 use Rattle.session_state.specs.declared.step.Step.{Step}
-use Rattle.session_state.specs.Answers.{AnswersAsAsked, failed_in, here_of, says}
+use Rattle.session_state.specs.Answers.{as_said, AnswersAsAsked, here_of, says}
+use Rattle.node_model.specs.Look.{failed_in}
 use Rattle.session_state.specs.Bounds.{IsNumberedStep, IsReplyIf}
 use Rattle.session_state.specs.Phases.{IsNoGain}
 use Rattle.session_state.specs.Stepping.{IsAt, IsLetGo, IsStep, IsUnexpected, moment_of}
@@ -43,13 +44,13 @@ closing place m = record { kind = Close place.peer place.slot false; reply = m; 
 
 closes_now : (x : Scene) (i : Incoming) (s : SessionState) (was now : Rows) (contents : Option Contents) (parts : Option Parts) (records : Option (List HoldRecord)) (faults : ℕ) (m : Option Message)
     → x.place ≡ s.place
-    → ((h : Here) → on_heard h (session_of s) i ≡ record { kind = close_kind h; says = says m (Closing ∷ []) })
+    → ((h : Here) → on_heard h (session_of s) i ≡ record { kind = close_kind h; says = says m (Closing ∷ []); calls = [] })
     → ((peer slot : ℕ) (known : Option Parts) → parts_after s.doing i (Close peer slot false) known ≡ known)
     → IsReplyIf m → IsLetGo s.place s.doing was now → Agrees records was.holds
     → IsStep x i (moment_of s was contents parts records faults) (moment_of (waiting s.place 0) now contents parts records faults) (closing s.place m)
 closes_now x i s was now contents parts records faults m here answer stay short gone agrees = record {
   does = λ c is part right sees. record {
-    answers = ap (λ (p : Place). record { kind = Close p.peer p.slot false; says = says m (Closing ∷ []) }) (sym here) ∙ sym (answer (here_of x was c None part right));
+    answers = ap (λ (p : Place). record { kind = Close p.peer p.slot false; says = says m (Closing ∷ []); calls = [] }) (sym here) ∙ ap as_said (sym (answer (here_of x was c None part right)));
     changes = record { contents = c; told = is; present = λ k. refl; sizes = λ k. refl };
   };
   after = gone.after;
@@ -71,7 +72,7 @@ closes_now x i s was now contents parts records faults m here answer stay short 
 
 closes_so : (x : Scene) (i : Incoming) (s s' : SessionState) (was now : Rows) (contents : Option Contents) (parts : Option Parts) (records : Option (List HoldRecord)) (faults : ℕ) (m : Option Message) (step : Step)
     → x.place ≡ s.place
-    → ((h : Here) → on_heard h (session_of s) i ≡ record { kind = close_kind h; says = says m (Closing ∷ []) })
+    → ((h : Here) → on_heard h (session_of s) i ≡ record { kind = close_kind h; says = says m (Closing ∷ []); calls = [] })
     → ((peer slot : ℕ) (known : Option Parts) → parts_after s.doing i (Close peer slot false) known ≡ known)
     → IsReplyIf m → IsLetGo s.place s.doing was now → Agrees records was.holds → s' ≡ waiting s.place 0 → step ≡ closing s.place m
     → IsStep x i (moment_of s was contents parts records faults) (moment_of s' now contents parts records faults) step
@@ -119,7 +120,7 @@ answered x m s rows contents contents' parts parts' records records' faults faul
       let d : AnswersAsAsked x rows c contents' part right asked step = does c is part right in
       let h : Here = here_of x rows c (failed_in step.kind) part right in
       record {
-        answers = d.answers ∙ sym (answer h) ∙ ap (λ (w : Doing). on_message h s.spoken (doing_of w) m) (sym waits);
+        answers = d.answers ∙ ap as_said (sym (answer h) ∙ ap (λ (w : Doing). on_message h s.spoken (doing_of w) m) (sym waits));
         changes = d.changes;
       };
   after = record { holds = after.holds; bars = after.bars };

@@ -25,7 +25,8 @@ use Rattle.session_state.specs.declared.place.Place.{Place}
 use Rattle.session_state.specs.declared.place.Scene.{Scene}
 use Rattle.session_state.specs.declared.state.SessionState.{SessionState}
 use Rattle.session_state.specs.declared.step.Step.{Step}
-use Rattle.session_state.specs.Answers.{AnswersAsAsked, failed_in, here_of, owner_at, owner_of, size_in}
+use Rattle.session_state.specs.Answers.{as_said, AnswersAsAsked, here_of, owner_at, owner_of, size_in}
+use Rattle.node_model.specs.Look.{failed_in}
 use Rattle.session_state.specs.Bounds.{IsNumberedStep}
 use Rattle.session_state.specs.Phases.{IsNoGain, wanted_in}
 use Rattle.session_state.specs.Stepping.{IsAt, IsStep, LeavesOthers, moment_of}
@@ -164,7 +165,7 @@ got x start file key place spoken rows contents contents' parts parts' records r
       let d = does c is part right in
       let h : Here = here_of x rows c (failed_in step.kind) part right in
       record {
-        answers = d.answers ∙ (λ j. if (sym speaks j) then tries h (calls.Size ∷ []) (Closing ∷ []) (reply (Talk None) (messages.Data (bytes_left (content_of h key) start))) else unexpected_reply h);
+        answers = d.answers ∙ (λ j. as_said (if (sym speaks j) then tries h (calls.Size ∷ []) (Closing ∷ []) (reply (Talk None) (messages.Data (bytes_left (content_of h key) start))) else unexpected_reply h));
         changes = d.changes;
       };
   after = after;
@@ -230,7 +231,7 @@ putting x file key place spoken was now contents contents' parts parts' records 
   does = λ c is part right sees.
       let d = does c is part right sees in
       let h : Here = here_of x was c (failed_in step.kind) part right in
-      record { answers = d.answers ∙ (λ j. if (sym speaks j) then on_put h key else unexpected_reply h); changes = d.changes };
+      record { answers = d.answers ∙ (λ j. as_said (if (sym speaks j) then on_put h key else unexpected_reply h)); changes = d.changes };
   after = after;
   bars = bars;
   fits = fits;

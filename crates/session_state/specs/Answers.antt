@@ -5,7 +5,7 @@ use Rattle.annex_base.specs.declared.kinds.Call.{Call}
 use Rattle.run_data.specs.declared.entry.By.{By}
 use Rattle.run_data.specs.declared.entry.By.TheVariants.{Peer}
 use Rattle.run_data.specs.declared.entry.EntryKind.{EntryKind}
-use Rattle.run_data.specs.declared.entry.EntryKind.TheVariants.{Fault, Gain, Gone}
+use Rattle.run_data.specs.declared.entry.EntryKind.TheVariants.{Gain, Gone}
 use Rattle.run_data.specs.declared.entry.FrameText.{FrameText}
 use Rattle.run_data.specs.declared.entry.FrameText.TheVariants.{Closing, Line}
 use Rattle.p2p_wire.specs.declared.message.Message.{Message}
@@ -13,6 +13,7 @@ use Rattle.p2p_wire.specs.Messages.{text_of}
 use Rattle.object_store.specs.Stores.{Contents, Parts, contents_after_commit}
 use Rattle.node_model.specs.Rows.{content_after, present_after}
 use Rattle.node_model.specs.Ends.{server_end}
+use Rattle.node_model.specs.Look.{failed_in}
 use Rattle.node_model.specs.SessionStep.{Here, Reply}
 use Rattle.content_lock.specs.Rows.{Rows, bar_at, is_filling}
 use Rattle.content_lock.specs.Stored.{without_content}
@@ -28,14 +29,13 @@ abbrev pub says : Option Message → List FrameText → List FrameText
 says None rest = rest
 says (Some m) rest = Line (text_of m) ∷ rest
 
--- the reply that a step is
-abbrev pub reply_of : Step → Reply
-reply_of step = record { kind = step.kind; says = says step.reply (closes step.close) }
+-- what a reply says, apart from the store calls that it makes
+abbrev pub as_said : Reply → Reply
+as_said x = record x { calls = [] }
 
--- the store call that failed, as the entry tells it
-abbrev pub failed_in : EntryKind → Option Call
-failed_in (Fault call by) = Some call
-failed_in _ = None
+-- the reply that a step is, apart from those
+abbrev pub reply_of : Step → Reply
+reply_of step = record { kind = step.kind; says = says step.reply (closes step.close); calls = [] }
 
 abbrev pub owner_at : Place → By
 owner_at place = Peer place.peer place.slot
@@ -89,5 +89,5 @@ LeavesContents kind = (known : Option Contents) (parts : Option Parts) → conte
 
 -- a step over rows and contents: it answers so, and its entry changes the contents
 pub record AnswersAsAsked (x : Scene) (rows : Rows) (contents : Contents) (known : Option Contents) (part : ℕ) (right : Bool) (asked : Here → Reply) (step : Step) : Type 0 where
-  pub answers : reply_of step ≡ asked (here_of x rows contents (failed_in step.kind) part right)
+  pub answers : reply_of step ≡ as_said (asked (here_of x rows contents (failed_in step.kind) part right))
   pub changes : Changes known contents step.kind

@@ -1,6 +1,7 @@
 -- What a session sends of a content (git-annex P2P protocol; pieces are own).
 use Rattle.std.specs.Prelude.{◌≡◌, ℕ, ◌<◌, ◌≤◌, Bool, true, false, List, [], ◌∷◌, length, take, drop, Option, Some, None}
 use Rattle.annex_base.specs.declared.kinds.Call.{Call}
+use Rattle.annex_base.specs.declared.kinds.Call.TheVariants.{Read}
 use Rattle.run_data.specs.declared.entry.EntryKind.TheVariants as kinds
 use Rattle.run_data.specs.declared.entry.FrameText.TheVariants.{Closing, Bytes, Line}
 use Rattle.p2p_wire.specs.Messages.{text_of}
@@ -19,11 +20,11 @@ is_giving doing = false
 
 -- the reply that this is, if any
 abbrev pub reply_more : Place → More → Option Reply
-reply_more place (more.Piece bytes) = Some (record { kind = kinds.Talk None; says = Bytes (length bytes.items) ∷ [] })
+reply_more place (more.Piece bytes) = Some (record { kind = kinds.Talk None; says = Bytes (length bytes.items) ∷ []; calls = Read ∷ [] })
 reply_more place (more.Last m) = Some (reply (kinds.Talk None) m)
 reply_more place more.Nothing = None
-reply_more place more.Gone = Some (record { kind = kinds.Close place.peer place.slot false; says = Closing ∷ [] })
-reply_more place (more.Fault call) = Some (record { kind = kinds.Fault call (owner_at place); says = Closing ∷ [] })
+reply_more place more.Gone = Some (record { kind = kinds.Close place.peer place.slot false; says = Closing ∷ []; calls = Read ∷ [] })
+reply_more place (more.Fault call) = Some (record { kind = kinds.Fault call (owner_at place); says = Closing ∷ []; calls = Read ∷ [] })
 
 -- the store call that failed
 abbrev pub failed_more : More → Option Call

@@ -19,7 +19,8 @@ use Rattle.session_state.specs.declared.place.Place.{Place}
 use Rattle.session_state.specs.declared.place.Scene.{Scene}
 use Rattle.session_state.specs.declared.incoming.Incoming.{Incoming}
 use Rattle.session_state.specs.declared.step.Step.{Step}
-use Rattle.session_state.specs.Answers.{AnswersAsAsked, failed_in, owner_at}
+use Rattle.session_state.specs.Answers.{AnswersAsAsked, owner_at}
+use Rattle.node_model.specs.Look.{failed_in}
 use Rattle.session_state.specs.Bounds.{IsNumberedStep}
 use Rattle.session_state.specs.Talking.{AreAfterStep, FillsSo, HasFill, IsFed, IsJudgedIn, SeesPart, SeesSize, doing_of, next_session, on_heard, parts_after, session_of, share_in}
 

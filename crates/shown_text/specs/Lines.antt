@@ -16,6 +16,8 @@ use Rattle.script_words.specs.Fields.{call_word}
 use Rattle.run_text.specs.Names.{name_of}
 use Rattle.run_text.specs.Jobs.{begun_text}
 use Rattle.run_text.specs.Outcomes.{outcome_text}
+use Rattle.script_commands.specs.declared.command.Action.{Action}
+use Rattle.script_commands.specs.declared.command.Action.TheVariants as actions
 use Rattle.script_commands.specs.declared.command.Command.{Command}
 use Rattle.script_commands.specs.declared.command.Command.TheVariants as commands
 
@@ -54,46 +56,12 @@ abbrev pub noslot_line : Run → ℕ → ℕ → ℕ → List ℕ
 noslot_line run from upto r =
     if nat_lt from upto && begins_job r (slice_get run.entries from) then [] else codes "noslot " ++ name_of run.repos r ++ codes "\n"
 
--- the line that no slot was free, for a line that begins a job
+-- the line that no slot was free, for an action that begins a job
+abbrev pub action_slot : Run → ℕ → ℕ → Action → List ℕ
+action_slot run from upto (actions.Run r job) = noslot_line run from upto r
+action_slot run from upto (actions.Begin r job) = noslot_line run from upto r
+action_slot run from upto action = []
+
 abbrev pub slot_text : Run → ℕ → ℕ → Command → List ℕ
-slot_text run from upto (commands.Run r job) = noslot_line run from upto r
-slot_text run from upto (commands.Begin r job) = noslot_line run from upto r
-slot_text run from upto (commands.Repo name id offset version locks) = []
-slot_text run from upto (commands.Numcopies r number) = []
-slot_text run from upto (commands.Mincopies r number) = []
-slot_text run from upto (commands.NumcopiesFor r number glob) = []
-slot_text run from upto (commands.MincopiesFor r number glob) = []
-slot_text run from upto (commands.Trust r target level) = []
-slot_text run from upto (commands.Describe r target text) = []
-slot_text run from upto (commands.Wanted r target text) = []
-slot_text run from upto (commands.Required r target text) = []
-slot_text run from upto (commands.Group r target groups) = []
-slot_text run from upto (commands.GroupWanted r group text) = []
-slot_text run from upto (commands.Log r file line) = []
-slot_text run from upto (commands.Have r key content) = []
-slot_text run from upto (commands.Part r key content) = []
-slot_text run from upto (commands.Damage r key content) = []
-slot_text run from upto (commands.Add r path key content) = []
-slot_text run from upto (commands.File path key) = []
-slot_text run from upto (commands.Turn r turns) = []
-slot_text run from upto commands.Settle = []
-slot_text run from upto (commands.Merge r other) = []
-slot_text run from upto (commands.Compact r) = []
-slot_text run from upto (commands.Sync r) = []
-slot_text run from upto (commands.Close r other) = []
-slot_text run from upto (commands.Crash r clock) = []
-slot_text run from upto (commands.Wait milliseconds) = []
-slot_text run from upto (commands.Fail r call) = []
-slot_text run from upto (commands.Par lines) = []
-slot_text run from upto (commands.ShowPresence k) = []
-slot_text run from upto (commands.ShowClaims r k) = []
-slot_text run from upto (commands.ShowLocation r k) = []
-slot_text run from upto (commands.ShowLog r file) = []
-slot_text run from upto (commands.ShowLogs r) = []
-slot_text run from upto (commands.ShowNumbers r path) = []
-slot_text run from upto (commands.ShowLevel r target) = []
-slot_text run from upto (commands.ShowWants r target path) = []
-slot_text run from upto (commands.ShowRow r k) = []
-slot_text run from upto (commands.ShowPlan r) = []
-slot_text run from upto commands.ShowTotals = []
-slot_text run from upto commands.ShowJournal = []
+slot_text run from upto (commands.Does action) = action_slot run from upto action
+slot_text run from upto command = []

@@ -1,11 +1,12 @@
 -- What lines show of a branch (own): its files, who is claimed to have a key, numbers of copies, levels and groups.
-use Rattle.std.specs.Prelude.{ℕ, List, [], ◌++◌, length, filter, map, codes, not, bytes_eq, Option, Some, None}
+use Rattle.std.specs.Prelude.{ℕ, List, [], ◌∷◌, ◌++◌, length, filter, map, codes, not, bytes_eq, Option, Some, None}
 use Rattle.std.specs.List.{list_any}
 use Rattle.std.specs.Fmt.{decimal}
 use Rattle.run_data.specs.declared.run.Run.{Run}
 use Rattle.run_data.specs.declared.run.RepoView.{RepoView}
 use Rattle.annex_base.specs.RepoText.{repo_text}
 use Rattle.annex_base.specs.Settings.{Settings}
+use Rattle.glob_match.specs.Numbers.{mincopies_of, numcopies_of}
 use Rattle.union_merge.specs.LineSet.{text_of}
 use Rattle.run_data.specs.Repos.{id_of}
 use Rattle.script_words.specs.Fields.{level_word}
@@ -40,10 +41,17 @@ location_text run r k lines = codes "location " ++ name_of run.repos r ++ codes 
 abbrev pub numbers_text : Run → ℕ → Settings → List ℕ
 numbers_text run r s = codes "numbers " ++ name_of run.repos r ++ codes " " ++ decimal s.numcopies ++ codes " " ++ decimal s.mincopies ++ codes "\n"
 
--- those of a path have no text yet
+-- those of the contents with this one path
+abbrev pub numbers_at_text : Run → ℕ → List ℕ → ℕ → ℕ → List ℕ
+numbers_at_text run r path n m = codes "numbers " ++ name_of run.repos r ++ codes " " ++ printed_word path ++ codes " " ++ decimal n ++ codes " " ++ decimal m ++ codes "\n"
+
+abbrev pub path_numbers_text : Run → ℕ → List ℕ → Settings → List ℕ
+path_numbers_text run r path s = numbers_at_text run r path (numcopies_of s (path ∷ [])) (mincopies_of s (path ∷ []))
+
+-- those of a path, or of all contents
 abbrev pub numbers_for : Run → ℕ → Option (List ℕ) → Settings → List ℕ
 numbers_for run r None s = numbers_text run r s
-numbers_for run r (Some path) s = []
+numbers_for run r (Some path) s = path_numbers_text run r path s
 
 abbrev pub trust_text : Run → ℕ → ℕ → Settings → List ℕ
 trust_text run r target s =

@@ -2,13 +2,13 @@
 
 ghost use Rattle.std.specs.Prelude.{◌≡◌, ◌++◌, ◌&&◌, nat_lt, OnOk, Some, reverse, slice_get, option_copied};
 ghost use Rattle.node_model.specs.Slots.{is_begin};
-ghost use Rattle.shown_text.specs.Lines.{begins_job, end_line, entry_line, fault_line, noslot_line, outcome_lines, slot_text};
+ghost use Rattle.shown_text.specs.Lines.{action_slot, begins_job, end_line, entry_line, fault_line, noslot_line, outcome_lines, slot_text};
 
 use annex_base::Call;
 use journal_text::begun_job;
 use run_data::{Entry, EntryKind, Job, Outcome, RepoView, Run};
 use run_text::{put_begun, put_name, put_outcome};
-use script_commands::Command;
+use script_commands::{Action, Command};
 use script_words::call_text;
 use std::alloc::AllocError;
 
@@ -24,48 +24,44 @@ pub fn put_slot(
     ensures { OnOk result (out.new.items ≡ out.old.items ++ slot_text run.now from upto command.now) }
 {
     match command {
-        Command::Run { repo, .. } | Command::Begin { repo, .. } => {
+        Command::Does { action } => put_slot_of(out, run, from, upto, action)?,
+        Command::Repo { .. }
+        | Command::Damage { .. }
+        | Command::Par { .. }
+        | Command::Shows { .. } => {}
+    }
+    Ok(())
+}
+
+/// Adds that no slot was free, where the action begins a job and has none.
+fn put_slot_of(
+    out: &mut Vec<u8>,
+    run: &Run,
+    from: usize,
+    upto: usize,
+    action: &Action,
+) -> Result<(), AllocError>
+    ensures { OnOk result (out.new.items ≡ out.old.items ++ action_slot run.now from upto action.now) }
+{
+    match action {
+        Action::Run { repo, .. } | Action::Begin { repo, .. } => {
             put_noslot(out, run, from, upto, *repo)?
         }
-        Command::Repo { .. }
-        | Command::Numcopies { .. }
-        | Command::Mincopies { .. }
-        | Command::NumcopiesFor { .. }
-        | Command::MincopiesFor { .. }
-        | Command::Trust { .. }
-        | Command::Describe { .. }
-        | Command::Wanted { .. }
-        | Command::Required { .. }
-        | Command::Group { .. }
-        | Command::GroupWanted { .. }
-        | Command::Log { .. }
-        | Command::Have { .. }
-        | Command::Part { .. }
-        | Command::Damage { .. }
-        | Command::Add { .. }
-        | Command::File { .. }
-        | Command::Turn { .. }
-        | Command::Settle
-        | Command::Merge { .. }
-        | Command::Compact { .. }
-        | Command::Sync { .. }
-        | Command::Close { .. }
-        | Command::Crash { .. }
-        | Command::Wait { .. }
-        | Command::Fail { .. }
-        | Command::Par { .. }
-        | Command::ShowPresence { .. }
-        | Command::ShowClaims { .. }
-        | Command::ShowLocation { .. }
-        | Command::ShowLog { .. }
-        | Command::ShowLogs { .. }
-        | Command::ShowNumbers { .. }
-        | Command::ShowLevel { .. }
-        | Command::ShowWants { .. }
-        | Command::ShowRow { .. }
-        | Command::ShowPlan { .. }
-        | Command::ShowTotals
-        | Command::ShowJournal => {}
+        Action::Have { .. }
+        | Action::SetPart { .. }
+        | Action::Add { .. }
+        | Action::File { .. }
+        | Action::Set { .. }
+        | Action::Raw { .. }
+        | Action::Merge { .. }
+        | Action::Compact { .. }
+        | Action::Sync { .. }
+        | Action::Turns { .. }
+        | Action::Settle
+        | Action::Close { .. }
+        | Action::Crash { .. }
+        | Action::Wait { .. }
+        | Action::Fail { .. } => {}
     }
     Ok(())
 }

@@ -33,10 +33,12 @@ mod Mixed22
 mod Mixed23
 mod NeedOfThree
 mod NeedOfThreeWithoutLocks
+mod NumbersByPath
 mod OldProtocol
 mod RaceOfTwoDrops
 mod RestartedClock
 mod RestartedClockAhead
+mod RequiredContent
 mod ResumedTransfer
 mod Rows
 mod StaleTrustedClaim

@@ -1,6 +1,6 @@
 -- Entries that few journals have, made by hand: what each leaves of a row, an end, a slot or a word, as the tables say it, and
 -- beside it a neighbour that is refused.
-use Rattle.std.specs.Prelude.{◌≡◌, refl, ℕ, Bool, true, false, ◌==◌, ◌&&◌, not, List, [], ◌∷◌, map, Option, Some, None, codes, bytes_eq}
+use Rattle.std.specs.Prelude.{◌≡◌, refl, ℕ, Bool, true, false, List, [], ◌∷◌, map, Some, None, codes}
 use Rattle.annex_base.specs.declared.kinds.Call.TheVariants as calls
 use Rattle.annex_base.specs.declared.kinds.Found.TheVariants as found
 use Rattle.annex_base.specs.declared.kinds.Word.TheVariants as words
@@ -9,16 +9,14 @@ use Rattle.run_data.specs.declared.entry.EntryKind.{EntryKind}
 use Rattle.run_data.specs.declared.entry.EntryKind.TheVariants as kinds
 use Rattle.run_data.specs.declared.entry.By.TheVariants as by
 use Rattle.run_data.specs.declared.entry.FrameText.TheVariants.{Opening, Closing, Line}
-use Rattle.run_data.specs.declared.entry.FrameView.{FrameView}
 use Rattle.run_data.specs.declared.job.JobKind.TheVariants as jobs
 use Rattle.run_data.specs.declared.job.Outcome.TheVariants as outcomes
 use Rattle.run_data.specs.declared.job.DropRefusal.TheVariants as drops
-use Rattle.run_data.specs.declared.job.TransferRefusal.TheVariants as transfers
 use Rattle.run_data.specs.declared.job.Cause.TheVariants as causes
 use Rattle.run_data.specs.declared.row.Hold.{Hold}
 use Rattle.node_model.specs.Rows.{blocks, option_is}
 use Rattle.node_model.specs.Slots.{free_slot}
-use Rattle.node_model.specs.Ends.{End, EndName, frames, may_take, never, sends_at, server_end, takes_at, end_takes}
+use Rattle.node_model.specs.Ends.{End, frames, may_take, never, sends_at, server_end, takes_at, end_takes}
 use Rattle.run_model.specs.Past.{bar, holds, jobs as running, present}
 use Rattle.run_model.specs.Drops.{cause_of_found}
 use Rattle.run_model.specs.Words.{word_found}

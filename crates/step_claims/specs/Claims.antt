@@ -1,6 +1,7 @@
 -- For proofs, which are the claims: entries and frames in one line each, and what is claimed of them (own).
 use Rattle.std.specs.Prelude.{◌≡◌, ℕ, Bool, true, false, ◌==◌, ◌&&◌, if◌then◌else◌, not, List, [], ◌∷◌, Option, Some, None}
 use Rattle.std.specs.List.{list_any}
+use Rattle.std.specs.Option.{option_map}
 use Rattle.annex_base.specs.declared.kinds.Call.{Call}
 use Rattle.annex_base.specs.declared.kinds.Word.{Word}
 use Rattle.drop_proof.specs.declared.rule.Need.{Need}
@@ -14,7 +15,7 @@ use Rattle.run_data.specs.declared.job.Proof.{Proof}
 use Rattle.run_data.specs.declared.run.RepoView.{RepoView}
 use Rattle.node_model.specs.SetUp.{SetUp}
 use Rattle.node_model.specs.Ends.{EndName}
-use Rattle.node_model.specs.Look.{Look, Effect}
+use Rattle.node_model.specs.Look.{Look, Effect, as_told}
 use Rattle.node_model.specs.AnyTime.{close_at, closes_all}
 use Rattle.node_model.specs.Step.{step}
 use Rattle.run_model.specs.States.{state_of}
@@ -70,14 +71,14 @@ words_of [] c = None
 words_of (w ∷ ws) c = if w.0 == c then Some w.1 else words_of ws c
 
 abbrev pub made_of : Entry → Effect
-made_of e = record { kind = e.kind; taken = e.taken; sent = e.sent; lines = e.lines }
+made_of e = record { kind = e.kind; taken = e.taken; sent = e.sent; lines = e.lines; calls = [] }
 
 -- the entry is the step, with these frames at hand, room but at these ends, the store call that fails, the size of the part that
 -- is asked for and whether it matches its key, and the words beside the job's answers
 abbrev pub Makes : SetUp → List Entry → List FrameView → List EndName → Option Call → ℕ → Bool → List (ℕ × Word) → Entry → Type 0
 Makes s past hand full fails part right words e =
     let look : Look = record { time = e.time; count = e.count; at_hand = hand; room = room_but full; fails = fails; part = part; right = right; words = words_of words } in
-    step s (state_of s past) look ≡ Some (made_of e)
+    option_map as_told (step s (state_of s past) look) ≡ Some (made_of e)
 
 -- there is no step, with these frames at hand and room everywhere
 abbrev pub IsIdle : SetUp → List Entry → List FrameView → Type 0

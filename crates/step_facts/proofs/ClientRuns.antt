@@ -368,18 +368,18 @@ module _ (s : SetUp) (past : List Entry) (e : Entry) (own : is_of s.number e ≡
     owed_fits : ByOwed s (state_of s past) k m → (x : Work) → Member x (works_after (rows_at past r) r (works past r) e e.kind) → After x
     owed_fits o x mem = elim (o.writes) [ inl w ↦ log w | inr w ↦ fault w ]
       where
-        log : m ≡ record { kind = Log (Location o.first.key); taken = None; sent = []; lines = due s.repos (state_of s past).lines ((state_of s past).wall k.time) o.first } → After x
+        log : m ≡ record { kind = Log (Location o.first.key); taken = None; sent = []; lines = due s.repos (state_of s past).lines ((state_of s past).wall k.time) o.first; calls = PutFile ∷ [] } → After x
         log w =
             let kind : e.kind ≡ Log (Location o.first.key) = kind_is ∙ ap (λ (y : Effect). y.kind) w in
             moved_fits e.kind refl (λ job what h. let bad : Log (Location o.first.key) ≡ Begin job what = sym kind ∙ h in cc)
-            (λ v ran goes_on. left v ran (owed_made (record { kind = Log (Location o.first.key); taken = None; sent = []; lines = due s.repos (state_of s past).lines ((state_of s past).wall k.time) o.first }) w refl refl v.slot)
+            (λ v ran goes_on. left v ran (owed_made (record { kind = Log (Location o.first.key); taken = None; sent = []; lines = due s.repos (state_of s past).lines ((state_of s past).wall k.time) o.first; calls = PutFile ∷ [] }) w refl refl v.slot)
             (not_its v (ap (λ q. option_is (job_of q) v.number) kind))) x mem
 
-        fault : m ≡ record { kind = Fault PutFile o.first.by; taken = None; sent = []; lines = [] } → After x
+        fault : m ≡ record { kind = Fault PutFile o.first.by; taken = None; sent = []; lines = []; calls = PutFile ∷ [] } → After x
         fault w =
             let kind : e.kind ≡ Fault PutFile o.first.by = kind_is ∙ ap (λ (y : Effect). y.kind) w in
             moved_fits e.kind refl (λ job what h. let bad : Fault PutFile o.first.by ≡ Begin job what = sym kind ∙ h in cc)
-            (λ v ran goes_on. left v ran (owed_made (record { kind = Fault PutFile o.first.by; taken = None; sent = []; lines = [] }) w refl refl v.slot) (line_fault o.first.by v kind)) x mem
+            (λ v ran goes_on. left v ran (owed_made (record { kind = Fault PutFile o.first.by; taken = None; sent = []; lines = []; calls = PutFile ∷ [] }) w refl refl v.slot) (line_fault o.first.by v kind)) x mem
 
     session_fits : BySession s (state_of s past) k m → (x : Work) → Member x (works_after (rows_at past r) r (works past r) e e.kind) → After x
     session_fits b x mem =

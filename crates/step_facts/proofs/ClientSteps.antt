@@ -1,7 +1,7 @@
 -- Each step of a job keeps what its phase says of requests and answers: the walk over all steps.
 use Rattle.node_model.specs.Clocks.{hold_time}
 use Rattle.std.proofs.Common.{◌≡◌, ℕ, ◌+◌, ◌-◌, ◌/◌, ◌^◌, Bool, true, false, List, [], ◌∷◌, Option, Some, None, inl, inr, refl, sym, ap, ◌∙◌, subst}
-use Rattle.std.specs.Prelude.{if◌then◌else◌, ◌==◌, ◌&&◌, not, min, nat_lt, nat_le, bytes_eq, codes}
+use Rattle.std.specs.Prelude.{◌++◌, if◌then◌else◌, ◌==◌, ◌&&◌, not, min, nat_lt, nat_le, bytes_eq, codes}
 use Rattle.std.specs.List.{list_all, list_any}
 use Rattle.std.proofs.lemmas.Bool.{true≢false, and_parts, eqb-true}
 use Rattle.std.proofs.lemmas.Option.{same_Some}
@@ -77,15 +77,18 @@ abbrev pub EvenMade : Turn → Effect → Type 0
 EvenMade t m = Even t m m.kind
 
 pub attempts_even : (P : Effect → Type 0) (t : Turn) (cs : List Call) (taken : Option FrameView) (m : Effect)
-    → ((call : Call) → list_any (same_call call) cs ≡ true → P (quietly (Fault call (by_me t)) taken)) → P m → P (attempts t cs taken m)
+    → ((call : Call) → list_any (same_call call) cs ≡ true → P (record (quietly (Fault call (by_me t)) taken) { calls = cs ++ m.calls })) → P (record m { calls = cs ++ m.calls }) → P (attempts t cs taken m)
 attempts_even P t cs taken m bad good = go t.look.fails
   where
     fault : Call → Effect
     fault call = quietly (Fault call (by_me t)) taken
 
-    go : (o : Option Call) → P (unless (failing_call o cs) fault m)
+    P' : Effect → Type 0
+    P' z = P (record z { calls = cs ++ m.calls })
+
+    go : (o : Option Call) → P' (unless (failing_call o cs) fault m)
     go None = good
-    go (Some c) = if_either (λ (x : Option Call). P (unless x fault m)) (list_any (same_call c) cs) (Some c) None (λ e. bad c e) (λ e. good)
+    go (Some c) = if_either (λ (x : Option Call). P' (unless x fault m)) (list_any (same_call c) cs) (Some c) None (λ e. bad c e) (λ e. good)
 
 -- neither the writing of a line, nor a release
 abbrev pub is_plain : Call → Bool
@@ -149,7 +152,7 @@ unreleased_alone target w time phase alone = alone
 
 ends_even : (t : Turn) → partner t.w.what.peer t.w.phase ≡ None → IsLive t.w.phase → (outcome : Outcome) → EvenMade t (ends t None outcome)
 ends_even t alone live outcome =
-    let rest : Effect = record { kind = ends_job t.w.number outcome; taken = None; sent = farewells t (is_lost_ordered outcome); lines = [] } in
+    let rest : Effect = record { kind = ends_job t.w.number outcome; taken = None; sent = farewells t (is_lost_ordered outcome); lines = []; calls = [] } in
     attempts_even (EvenMade t) t (to_release (owns_share t && not (is_lost_ordered outcome))) None rest
     (λ call e. subst (λ (c : Call). EvenMade t (quietly (Fault c (by_me t)) None)) (sym (release_is (owns_share t && not (is_lost_ordered outcome)) call e))
     (still_even t alone live (Fault calls.Unhold (by_me t)) (after_failed_release t.w t.look.time t.w.phase).phase (unreleased_alone t.w.what.peer t.w t.look.time t.w.phase alone))) tt
@@ -157,7 +160,7 @@ ends_even t alone live outcome =
 -- the end of a job that is to end
 dead_even : (t : Turn) → (IsLive t.w.phase → ⊥) → (outcome : Outcome) → EvenMade t (ends t None outcome)
 dead_even t dead outcome =
-    let rest : Effect = record { kind = ends_job t.w.number outcome; taken = None; sent = farewells t (is_lost_ordered outcome); lines = [] } in
+    let rest : Effect = record { kind = ends_job t.w.number outcome; taken = None; sent = farewells t (is_lost_ordered outcome); lines = []; calls = [] } in
     attempts_even (EvenMade t) t (to_release (owns_share t && not (is_lost_ordered outcome))) None rest
     (λ call e. subst (λ (c : Call). EvenMade t (quietly (Fault c (by_me t)) None)) (sym (release_is (owns_share t && not (is_lost_ordered outcome)) call e))
     (over_even t (quietly (Fault calls.Unhold (by_me t)) None) (after_failed_release t.w t.look.time t.w.phase).phase (still_dead t.w.phase refl))) tt
@@ -371,7 +374,7 @@ module _ (t : Turn) (f : FrameView) (peer : ℕ) (x : Taking t f peer) (speaks :
   -- the release of its own share fails, as the timestamp comes too late
   late_even : (n : ℕ) (outcome : Outcome) → t.w.phase ≡ AsksTime → line_in f.body ≡ Some (Timestamp n) → EvenMade t (ends t (Some f) outcome)
   late_even n outcome is told =
-      let rest : Effect = record { kind = ends_job t.w.number outcome; taken = Some f; sent = farewells t (is_lost_ordered outcome); lines = [] } in
+      let rest : Effect = record { kind = ends_job t.w.number outcome; taken = Some f; sent = farewells t (is_lost_ordered outcome); lines = []; calls = [] } in
       attempts_even (EvenMade t) t (to_release (owns_share t && not (is_lost_ordered outcome))) (Some f) rest
       (λ call e. subst (λ (c : Call). EvenMade t (quietly (Fault c (by_me t)) (Some f))) (sym (release_is (owns_share t && not (is_lost_ordered outcome)) call e))
       (subst (λ (p : Phase). EvenTo t (quietly (Fault calls.Unhold (by_me t)) (Some f)) (after_failed_release t.w t.look.time p).phase) (sym is)

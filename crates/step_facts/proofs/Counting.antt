@@ -61,7 +61,7 @@ quiet : (was : Doing) → calm was ≡ true → Counts false was []
 quiet was w = inr (inr (refl, refl, w))
 
 tries_counts : (h : Here) (q : Bool) (was : Doing) (cs : List Call) (says : List FrameText) (good : Reply) → Counts q was says → Counts q was good.says → Counts q was (tries h cs says good).says
-tries_counts h q was cs says good f g = unless_found (λ (x : Reply). Counts q was x.says) (failing_call h.fails cs) (λ call. record { kind = Fault call (by_of h); says = says }) good (λ call. f) g
+tries_counts h q was cs says good f g = unless_found (λ (x : Reply). Counts q was x.says) (failing_call h.fails cs) (λ call. record { kind = Fault call (by_of h); says = says; calls = [] }) good (λ call. f) g
 
 -- ---- a request of a session that waits
 
@@ -142,7 +142,7 @@ get_waits : (h : Here) (v n : ℕ) (file key : List ℕ) → GetCounts Waits (on
 get_waits h v n file key =
     let good : Reply = reply (Talk None) (Data (bytes_left (content_of h key) n)) in
     if_either (λ (x : Reply). GetCounts Waits x.says) (nat_le 1 v) (tries h (calls.Size ∷ []) (Closing ∷ []) good) (unexpected_reply h)
-    (λ e. unless_found (λ (x : Reply). GetCounts Waits x.says) (failing_call h.fails (calls.Size ∷ [])) (λ call. record { kind = Fault call (by_of h); says = Closing ∷ [] }) good
+    (λ e. unless_found (λ (x : Reply). GetCounts Waits x.says) (failing_call h.fails (calls.Size ∷ [])) (λ call. record { kind = Fault call (by_of h); says = Closing ∷ []; calls = [] }) good
     (λ call. inl (inl refl)) (inr (bytes_left (content_of h key) n, refl, refl)))
     (λ e. inl (inr refl))
 
@@ -168,9 +168,9 @@ Pieces was says = (says ≡ Closing ∷ []) ⊎ (((n : ℕ) × (says ≡ Bytes n
 
 piece_counts : (h : Here) (was : Doing) (key : List ℕ) (at n : ℕ) → Pieces was (on_piece h key at n).says
 piece_counts h was key at n =
-    let good : Reply = if reaches (content_of h key) (at + n) then record { kind = Talk None; says = Bytes n ∷ [] } else shuts (close_kind h) in
-    unless_found (λ (x : Reply). Pieces was x.says) (failing_call h.fails (calls.Read ∷ [])) (λ call. record { kind = Fault call (by_of h); says = Closing ∷ [] }) good (λ call. inl refl)
-    (if_either (λ (x : Reply). Pieces was x.says) (reaches (content_of h key) (at + n)) (record { kind = Talk None; says = Bytes n ∷ [] }) (shuts (close_kind h)) (λ e. inr (inl (n, refl))) (λ e. inl refl))
+    let good : Reply = if reaches (content_of h key) (at + n) then record { kind = Talk None; says = Bytes n ∷ []; calls = [] } else shuts (close_kind h) in
+    unless_found (λ (x : Reply). Pieces was x.says) (failing_call h.fails (calls.Read ∷ [])) (λ call. record { kind = Fault call (by_of h); says = Closing ∷ []; calls = [] }) good (λ call. inl refl)
+    (if_either (λ (x : Reply). Pieces was x.says) (reaches (content_of h key) (at + n)) (record { kind = Talk None; says = Bytes n ∷ []; calls = [] }) (shuts (close_kind h)) (λ e. inr (inl (n, refl))) (λ e. inl refl))
 
 abbrev pub GivesOne : Doing → List FrameText → Type 0
 GivesOne was says = (calm was ≡ false) × Pieces was says

@@ -307,7 +307,7 @@ first_end_below s past w end h runs is =
     let early : Early 1000000000000 w = Each-member (Early 1000000000000) (works past s.number) w (works_early past s.number h.bounds) runs in
     first_below 1100000600000 (ends (known s (state_of s past) w)) end
     (ends_below 1100000600000 (known s (state_of s past) w)
-    (gathered 1100000600000 (Jobs.side_of w) (need_of (state_of s past) w) (knows s (state_of s past) w)
+    (gathered 1100000600000 (Jobs.side_of w) (need_of s (state_of s past) w) (knows s (state_of s past) w)
     (λ c. offered 1000000000000 1100000000000 (state_of s past).clock (λ time le. clock_small s.repos past s.number time h.repos h.bounds le) (standing_of s (state_of s past) w c) (heard_of w c)
     (λ x e. found_early 1000000000000 c w.heard early.heard x e)) (reached_candidates (is_to_ask s (state_of s past) w) (candidates_of s w)) [] tt)) is
 

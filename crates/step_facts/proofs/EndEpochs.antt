@@ -71,8 +71,8 @@ Speaks s past e = SpeaksAlone s past e ⊎ (BySessionAt s past e ⊎ JobSpeaksAt
 pub owed_speaks : (s : SetUp) (past : List Entry) (k : Look) (m : Effect) (os : List OwedLine) → pays_first s (state_of s past) k os ≡ Some m → SpeaksAlone s past (entry_of s.number k m)
 owed_speaks s past k m [] e = absurd (cc)
 owed_speaks s past k m (o ∷ os) e =
-    let fault : Call → Effect = λ call. record { kind = Fault call o.by; taken = None; sent = []; lines = [] } in
-    let line : Effect = record { kind = Log (Location o.key); taken = None; sent = []; lines = due s.repos (state_of s past).lines ((state_of s past).wall k.time) o } in
+    let fault : Call → Effect = λ call. record { kind = Fault call o.by; taken = None; sent = []; lines = []; calls = PutFile ∷ [] } in
+    let line : Effect = record { kind = Log (Location o.key); taken = None; sent = []; lines = due s.repos (state_of s past).lines ((state_of s past).wall k.time) o; calls = PutFile ∷ [] } in
     let same : unless (failing_call k.fails (PutFile ∷ [])) fault line ≡ m = cc in
     subst (λ (z : Effect). SpeaksAlone s past (entry_of s.number k z)) same
     (unless_found (λ (z : Effect). SpeaksAlone s past (entry_of s.number k z)) (failing_call k.fails (PutFile ∷ [])) fault line

@@ -73,7 +73,7 @@ wants_no : (k : List ℕ) (told : Option Message) (hold : ℕ) (key : List ℕ) 
 wants_no k (Some (PutFrom size)) hold key e = cc
 wants_no k told hold key e = cc
 
-abbrev Shared : EntryKind → By → ℕ → List ℕ → Type 0
+abbrev pub Shared : EntryKind → By → ℕ → List ℕ → Type 0
 Shared kind by hold key = (end : ℕ) × (kind ≡ Share hold end by key)
 
 -- only LOCKCONTENT, where it was granted
@@ -107,7 +107,7 @@ on_lock-grants : (h : Here) (key : List ℕ) → Grants (by_of h) (on_lock h key
 on_lock-grants h key =
     let good : Reply = lock_answer h.number (now_of h + hold_time) (by_of h) key h.locks (is_here h key) (bar_on h key) in
     unless_found (Grants (by_of h)) (failing_call h.fails (to_lock h.locks (is_here h key) (bar_on h key)))
-    (λ call. record { kind = Fault call (by_of h); says = failure_line }) good (λ call n k e. absurd (cc))
+    (λ call. record { kind = Fault call (by_of h); says = failure_line; calls = [] }) good (λ call n k e. absurd (cc))
     (lock_grants h.number (now_of h + hold_time) (by_of h) key h.locks (is_here h key) (bar_on h key))
 
 message_grants : (h : Here) (v : ℕ) (doing : Doing) (k : List ℕ) → Grants (by_of h) (on_message h v doing (LockContent k))
@@ -120,7 +120,7 @@ message_grants h v (Takes q size left) k hold key e = absurd (cc)
 message_grants h v (Took q size) k hold key e = absurd (cc)
 
 -- a session that guards after a frame did so before, or shares now
-abbrev GuardsBy : Here → Session → FrameText → EntryKind → ℕ → List ℕ → Type 0
+abbrev pub GuardsBy : Here → Session → FrameText → EntryKind → ℕ → List ℕ → Type 0
 GuardsBy h was body kind hold key = (is_opening body ≡ false) × ((was.doing ≡ Guards hold key) ⊎ Shared kind (by_of h) hold key)
 
 text_guards : (h : Here) (size : List ℕ → Option ℕ) (was : Session) (sent : List FrameView) (m : Option Message) (hold : ℕ) (key : List ℕ)
@@ -135,7 +135,7 @@ text_guards h size was sent (Some m) hold key e = elim (doing_guards size (on_me
     lock k is g = subst (λ (n : Message). Shared (on_message h was.version was.doing n).kind (by_of h) hold key) (sym is)
         (message_grants h was.version was.doing k hold key (subst (λ (n : Message). guards (on_message h was.version was.doing n).kind ≡ Guards hold key) is g))
 
-frame_guards : (h : Here) (size : List ℕ → Option ℕ) (was : Session) (sent : List FrameView) (body : FrameText) (hold : ℕ) (key : List ℕ) → (is_opening body ≡ true → was ≡ new_session)
+pub frame_guards : (h : Here) (size : List ℕ → Option ℕ) (was : Session) (sent : List FrameView) (body : FrameText) (hold : ℕ) (key : List ℕ) → (is_opening body ≡ true → was ≡ new_session)
     → (session_took size (on_frame h was body).kind was sent body).doing ≡ Guards hold key → GuardsBy h was body (on_frame h was body).kind hold key
 frame_guards h size was sent Opening hold key new e = absurd (let waits : new_session.doing ≡ Guards hold key = sym (ap (λ (z : Session). z.doing) (new refl)) ∙ e in cc)
 frame_guards h size was sent Closing hold key new e = absurd (cc)
@@ -149,11 +149,11 @@ one_guards was Closing hold key e = e
 one_guards was (Bytes n) hold key e = gave_bytes-guards n was.doing hold key e
 one_guards was (Line text) hold key e = absurd (cc)
 
-more_guards : (was : Session) (fs : List FrameView) (hold : ℕ) (key : List ℕ) → (sent_more was fs).doing ≡ Guards hold key → was.doing ≡ Guards hold key
+pub more_guards : (was : Session) (fs : List FrameView) (hold : ℕ) (key : List ℕ) → (sent_more was fs).doing ≡ Guards hold key → was.doing ≡ Guards hold key
 more_guards was [] hold key e = e
 more_guards was (f ∷ fs) hold key e = one_guards was f.body hold key e
 
-left_guards : (shut : Bool) (x : Session) (hold : ℕ) (key : List ℕ) → (session_left shut x).doing ≡ Guards hold key → x.doing ≡ Guards hold key
+pub left_guards : (shut : Bool) (x : Session) (hold : ℕ) (key : List ℕ) → (session_left shut x).doing ≡ Guards hold key → x.doing ≡ Guards hold key
 left_guards true x hold key e = absurd (cc)
 left_guards false x hold key e = e
 

@@ -77,7 +77,7 @@ farewell_says t lost peer true o = go (has_lock t peer && not lost)
 
 ends_says : (t : Turn) (taken : Option FrameView) (outcome : Outcome) → Says t (ends t taken outcome)
 ends_says t taken outcome =
-    attempts_says t (to_release (owns_share t && not (is_lost_ordered outcome))) taken (record { kind = ends_job t.w.number outcome; taken = taken; sent = farewells t (is_lost_ordered outcome); lines = [] })
+    attempts_says t (to_release (owns_share t && not (is_lost_ordered outcome))) taken (record { kind = ends_job t.w.number outcome; taken = taken; sent = farewells t (is_lost_ordered outcome); lines = []; calls = [] })
     (each_flat (JobSays t) (λ peer. frames (job_end t.w peer) (end_with t peer) (farewell t (is_lost_ordered outcome) peer (end_with t peer).opened))
     (λ peer. farewell_says t (is_lost_ordered outcome) peer (end_with t peer).opened refl) (others_of t))
 

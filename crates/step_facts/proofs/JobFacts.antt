@@ -58,7 +58,7 @@ wrong_found t f peer = sends_found t (Some f) peer Closing tt
 
 ends_found : (t : Turn) (taken : Option FrameView) (outcome : Outcome) → FindsOutcome t taken outcome ⊎ HasOutcome t taken outcome → JobFound t taken (ends t taken outcome)
 ends_found t taken outcome why =
-    let good : Effect = record { kind = ends_job t.w.number outcome; taken = taken; sent = farewells t (is_lost_ordered outcome); lines = [] } in
+    let good : Effect = record { kind = ends_job t.w.number outcome; taken = taken; sent = farewells t (is_lost_ordered outcome); lines = []; calls = [] } in
     attempts_found t (to_release (owns_share t && not (is_lost_ordered outcome))) taken good (refl, record { number_is = refl; why = why; sent_is = refl })
 
 -- ---- drops
@@ -66,7 +66,7 @@ ends_found t taken outcome why =
 bars_found : (t : Turn) → FirstLocal t → (here : Bool) (required : Option (List ℕ)) (bar : Option ℕ) (held : Option (Option ℕ))
     → is_there t ≡ here → required_there t ≡ required → bar_there t ≡ bar → held_until t ≡ held → JobFound t None (bars t (row_refusal here required bar held))
 bars_found t first false required bar held there wanted free unheld = ends_found t None (Refused refusals.NotPresent) (inl (first, there))
-bars_found t first true (Some text) bar held there wanted free unheld = ends_found t None (Refused (refusals.Required text)) (inl (first.first, wanted))
+bars_found t first true (Some text) bar held there wanted free unheld = ends_found t None (Refused (refusals.Required text)) (inl (first.part_is, first.first, wanted))
 bars_found t first true None (Some j) held there wanted free unheld = ends_found t None (Refused (refusals.Barred j)) (inl (first, there, free))
 bars_found t first true None None (Some end) there wanted free unheld = ends_found t None (Refused (refusals.Held end)) (inl (first, there, free, unheld))
 bars_found t first true None None None there wanted free unheld = (
@@ -78,6 +78,7 @@ bars_found t first true None None None there wanted free unheld = (
     there = there;
     free = free;
     unheld = unheld;
+    spared = wanted;
     number_is = refl;
     need_is = refl;
     key_is = refl;
@@ -121,7 +122,7 @@ own_found t part first side standing is = quiet_found t None
 
 remote_found : (t : Turn) → t.w.part ≡ Drops → t.w.phase ≡ Fresh → side_of t.w ≡ Remote → (required : Option (List ℕ)) → required_there t ≡ required
     → JobFound t None (first_remote t required)
-remote_found t part first side (Some text) is = ends_found t None (Refused (refusals.Required text)) (inl (first, is))
+remote_found t part first side (Some text) is = ends_found t None (Refused (refusals.Required text)) (inl (part, first, is))
 remote_found t part first side None is = own_found t part first side (t.read.standing (me t)) refl
 
 first_drop_found : (t : Turn) → t.w.part ≡ Drops → t.w.phase ≡ Fresh → (side : Side) → side_of t.w ≡ side → JobFound t None (first_drop t side)
@@ -131,7 +132,7 @@ first_drop_found t part first Local side =
 first_drop_found t part first Remote side = remote_found t part first side (required_there t) refl
 
 orders_found : (t : Turn) (taken : Option FrameView) (deadline : Option ℕ) → t.w.part ≡ Drops → side_of t.w ≡ Remote
-    → HasDeadline t (orders t taken deadline (order_of deadline (key_of t))) deadline → JobFound t taken (orders t taken deadline (order_of deadline (key_of t)))
+    → HasDeadline t taken deadline → JobFound t taken (orders t taken deadline (order_of deadline (key_of t)))
 orders_found t taken deadline part side timed = (
   refl,
   record {

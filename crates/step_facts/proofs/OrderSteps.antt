@@ -1,6 +1,6 @@
 -- What a job does that has ordered: it takes the answer, or loses its connection; and then it ends.
 use Rattle.std.proofs.Common.{◌≡◌, ℕ, Bool, true, false, List, [], ◌∷◌, Option, Some, None, ◌⊎◌, inl, inr, refl, sym, ap, ◌∙◌, subst}
-use Rattle.std.specs.Prelude.{◌==◌, if◌then◌else◌, ◌&&◌, fold, not}
+use Rattle.std.specs.Prelude.{◌++◌, ◌==◌, if◌then◌else◌, ◌&&◌, fold, not}
 use Rattle.std.specs.List.{list_all}
 use Rattle.std.proofs.lemmas.Bool.{and_parts}
 use Rattle.annex_base.specs.declared.kinds.Call.{Call}
@@ -45,15 +45,15 @@ Rested phase = ⊥
 
 -- its share couldn't be released, or it ends
 abbrev pub RestedMakes : Turn → Phase → Effect → Type 0
-RestedMakes t phase m = (m ≡ quietly (Fault Unhold (by_me t)) None) ⊎ (m.kind ≡ ends_job t.w.number (outcome_of t phase))
+RestedMakes t phase m = (m ≡ record (quietly (Fault Unhold (by_me t)) None) { calls = m.calls }) ⊎ (m.kind ≡ ends_job t.w.number (outcome_of t phase))
 
 ends_makes : (t : Turn) (phase : Phase) → RestedMakes t phase (ends t None (outcome_of t phase))
 ends_makes t phase =
     let outcome = outcome_of t phase in
     let released = to_release (owns_share t && not (is_lost_ordered outcome)) in
-    let rest : Effect = record { kind = ends_job t.w.number outcome; taken = None; sent = farewells t (is_lost_ordered outcome); lines = [] } in
+    let rest : Effect = record { kind = ends_job t.w.number outcome; taken = None; sent = farewells t (is_lost_ordered outcome); lines = []; calls = [] } in
     attempts_even (RestedMakes t phase) t released None rest
-    (λ call e. inl (ap (λ (c : Call). quietly (Fault c (by_me t)) None) (release_is (owns_share t && not (is_lost_ordered outcome)) call e))) (inr refl)
+    (λ call e. inl (ap (λ (c : Call). record (quietly (Fault c (by_me t)) None) { calls = released ++ [] }) (release_is (owns_share t && not (is_lost_ordered outcome)) call e))) (inr refl)
 
 rested_goes : (t : Turn) (phase : Phase) → Rested phase → (partner t.w.what.peer phase ≡ None) × (goes t phase ≡ ends t None (outcome_of t phase))
 rested_goes t Removed r = (refl, refl)

@@ -69,7 +69,7 @@ pub record MayBar (s : SetUp) (past : List Entry) (e : Entry) (j : ℕ) (need : 
   pub dropping : w.part ≡ Drops
   pub local : side_of w ≡ Local
   pub key_is : key ≡ w.what.key
-  pub need_is : need ≡ need_of (state_of s past) w
+  pub need_is : need ≡ need_of s (state_of s past) w
 
 -- a removal by a job, which knows enough and is in time
 pub record MayRemove (s : SetUp) (past : List Entry) (e : Entry) (j : ℕ) (key : List ℕ) : Type 0 where

@@ -228,8 +228,8 @@ by_job_shuts s past k m p q x = record { takes_none = takes x.frame; closes = rw
 owed_shuts : (s : SetUp) (past : List Entry) (k : Look) (m : Effect) (a : EndName) (os : List OwedLine) → pays_first s (state_of s past) k os ≡ Some m → Shuts a (entry_of s.number k m)
 owed_shuts s past k m a [] e = absurd (cc)
 owed_shuts s past k m a (o ∷ os) e =
-    let fault : Call → Effect = λ call. record { kind = Fault call o.by; taken = None; sent = []; lines = [] } in
-    let line : Effect = record { kind = Log (Location o.key); taken = None; sent = []; lines = due s.repos (state_of s past).lines ((state_of s past).wall k.time) o } in
+    let fault : Call → Effect = λ call. record { kind = Fault call o.by; taken = None; sent = []; lines = []; calls = PutFile ∷ [] } in
+    let line : Effect = record { kind = Log (Location o.key); taken = None; sent = []; lines = due s.repos (state_of s past).lines ((state_of s past).wall k.time) o; calls = PutFile ∷ [] } in
     let same : unless (failing_call k.fails (PutFile ∷ [])) fault line ≡ m = cc in
     subst (λ (z : Effect). Shuts a (entry_of s.number k z)) same
     (unless_found (λ (z : Effect). Shuts a (entry_of s.number k z)) (failing_call k.fails (PutFile ∷ [])) fault line

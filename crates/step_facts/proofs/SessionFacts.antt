@@ -29,7 +29,7 @@ use Rattle.step_facts.proofs.Cases.{TakesAtHand, takes_none, takes_one, unless_f
 tries_found : (h : Here) (doing : Doing) (asked : Option Message) (cs : List Call) (says : List FrameText) (good : Reply)
     → SaysFault says → SessionFound h doing asked good → SessionFound h doing asked (tries h cs says good)
 tries_found h doing asked cs says good fs g =
-    unless_found (SessionFound h doing asked) (failing_call h.fails cs) (λ call. record { kind = Fault call (by_of h); says = says }) good (λ call. (refl, fs)) g
+    unless_found (SessionFound h doing asked) (failing_call h.fails cs) (λ call. record { kind = Fault call (by_of h); says = says; calls = [] }) good (λ call. (refl, fs)) g
 
 refused : SaysFault failure_line
 refused = inr (inr refl)
@@ -151,9 +151,9 @@ frame_found h was (Line text) = text_found h was (message_of text)
 
 piece_found : (h : Here) (doing : Doing) (key : List ℕ) (at n : ℕ) → SessionFound h doing None (on_piece h key at n)
 piece_found h doing key at n =
-    let good = if reaches (content_of h key) (at + n) then record { kind = Talk None; says = Bytes n ∷ [] } else shuts (close_kind h) in
+    let good = if reaches (content_of h key) (at + n) then record { kind = Talk None; says = Bytes n ∷ []; calls = [] } else shuts (close_kind h) in
     tries_found h doing None (calls.Read ∷ []) (Closing ∷ []) good (inr (inl refl))
-    (if_either (SessionFound h doing None) (reaches (content_of h key) (at + n)) (record { kind = Talk None; says = Bytes n ∷ [] }) (shuts (close_kind h))
+    (if_either (SessionFound h doing None) (reaches (content_of h key) (at + n)) (record { kind = Talk None; says = Bytes n ∷ []; calls = [] }) (shuts (close_kind h))
     (λ e. tt) (λ e. shut_found h doing None))
 
 word_found : (h : Here) (doing : Doing) (good : Bool) → SessionFound h doing None (reply (Talk None) (if good then Valid else Invalid))

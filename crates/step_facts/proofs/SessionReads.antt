@@ -107,7 +107,7 @@ module _ (reads_back : SentAreRead) (s : SetUp) (past : List Entry) (h : OwnPast
   spot = here s (state_of s past) k a
 
   tries_read : (cs : List Call) (says : List FrameText) (good : Reply) → SaysRead says → Read good → Read (tries spot cs says good)
-  tries_read cs says good f g = unless_found Read (failing_call k.fails cs) (λ call. record { kind = Fault call (by_of spot); says = says }) good (λ call. f) g
+  tries_read cs says good f g = unless_found Read (failing_call k.fails cs) (λ call. record { kind = Fault call (by_of spot); says = says; calls = [] }) good (λ call. f) g
 
   lock_ok : (key : List ℕ) → Read (on_lock spot key)
   lock_ok key = tries_read (to_lock (gives_locks s) (is_here spot key) (bar_on spot key)) failure_line
@@ -179,7 +179,7 @@ module _ (reads_back : SentAreRead) (s : SetUp) (past : List Entry) (h : OwnPast
 
   piece_ok : (key : List ℕ) (at n : ℕ) → Read (on_piece spot key at n)
   piece_ok key at n = tries_read (calls.Read ∷ []) (Closing ∷ []) _ close_read
-      (if_either Read (reaches (content_of spot key) (at + n)) (record { kind = Talk None; says = Bytes n ∷ [] }) (shuts (close_kind spot)) (λ e. bytes_read n) (λ e. close_read))
+      (if_either Read (reaches (content_of spot key) (at + n)) (record { kind = Talk None; says = Bytes n ∷ []; calls = [] }) (shuts (close_kind spot)) (λ e. bytes_read n) (λ e. close_read))
 
   -- and what it gives unasked
   pub gives_read : (doing : Doing) (x : Reply) → gives_next spot doing ≡ Some x → SaysRead x.says

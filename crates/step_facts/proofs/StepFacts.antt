@@ -32,10 +32,10 @@ pays_found s st k m [] is e = absurd (cc)
 pays_found s st k m (o ∷ os) is e = go (failing_call k.fails (PutFile ∷ [])) (fails k.fails) e
   where
     lost : Call → Effect
-    lost call = record { kind = Fault call o.by; taken = None; sent = []; lines = [] }
+    lost call = record { kind = Fault call o.by; taken = None; sent = []; lines = []; calls = PutFile ∷ [] }
 
     written : Effect
-    written = record { kind = Log (Location o.key); taken = None; sent = []; lines = due s.repos st.lines (st.wall k.time) o }
+    written = record { kind = Log (Location o.key); taken = None; sent = []; lines = due s.repos st.lines (st.wall k.time) o; calls = PutFile ∷ [] }
 
     fails : (c : Option Call) → (failing_call c (PutFile ∷ []) ≡ None) ⊎ (failing_call c (PutFile ∷ []) ≡ Some PutFile)
     fails None = inl refl

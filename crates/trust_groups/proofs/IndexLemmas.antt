@@ -23,10 +23,10 @@ Row = Vec ℕ Global × Index
 
 -- ---- what is found at a path
 
-same_path : (x y : List ℕ) → is_eq (text_cmp x y) ≡ true → x ≡ y
+pub same_path : (x y : List ℕ) → is_eq (text_cmp x y) ≡ true → x ≡ y
 same_path x y h = (bytes_eq-Decides x y).0 (sym (is_eq-slice_cmp x y) ∙ h)
 
-own_path : (x : List ℕ) → is_eq (text_cmp x x) ≡ true
+pub own_path : (x : List ℕ) → is_eq (text_cmp x x) ≡ true
 own_path x = ap is_eq (tied_itself nat_list_cmp_total x)
 
 apart : (x y z : List ℕ) → (x ≡ y → ⊥) → is_eq (text_cmp x z) ≡ true → is_eq (text_cmp y z) ≡ false

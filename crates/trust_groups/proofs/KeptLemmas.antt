@@ -58,7 +58,7 @@ entries_read : (o : Option Index) (kind : LogKind) (lines : List (List ℕ)) →
 entries_read None kind lines is = sym is
 entries_read (Some index) kind lines is = ap (λ (i : Index). i.entries) is
 
-file_read : (es : Indices) (lines : Lines) → HaveReadLines es lines → (path : List ℕ) → entries_at es path ≡ newest (kind_at path) (lines path)
+pub file_read : (es : Indices) (lines : Lines) → HaveReadLines es lines → (path : List ℕ) → entries_at es path ≡ newest (kind_at path) (lines path)
 file_read es lines reads path = entries_read (index_at es path) (kind_at path) (lines path) (reads path)
 
 log_read : (es : Indices) (lines : Lines) → HaveReadLines es lines → (key : List ℕ) → entries_at es (location_path key) ≡ newest kinds.Location (lines (location_path key))

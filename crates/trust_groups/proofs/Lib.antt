@@ -1,8 +1,10 @@
 -- The lemmas of this crate.
 pub mod ClaimLemmas
+pub mod GlobLemmas
 pub mod IndexLemmas
 pub mod KeptLemmas
 pub mod MergeLemmas
+pub mod NumberLemmas
 pub mod PathLemmas
 pub mod ReadsLemmas
 pub mod RepoLemmas

@@ -12,7 +12,7 @@ use std::alloc::Global;
 use std::collections::BTreeMap;
 
 /// What kind of log a file is, if it is one: where no other log has its name, only a location log can stand at its path.
-fn kind_at(path: &[u8]) -> LogKind
+pub(crate) fn kind_at(path: &[u8]) -> LogKind
     ensures { result ≡ kind_at path.now }
 {
     LogKind::named(path).unwrap_or(LogKind::Location)

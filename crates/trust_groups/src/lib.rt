@@ -9,6 +9,8 @@ mod groups;
 mod indices;
 mod laws;
 mod levels;
+mod numbers;
+mod patterns;
 mod settings;
 mod values;
 

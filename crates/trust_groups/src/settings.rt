@@ -1,11 +1,12 @@
 //! Settings: what a repository knows from the lines that it has, kept while lines are added.
 
-ghost use Rattle.std.specs.Prelude.{◌≡◌, ◌≢◌, ◌↔◌, ◌≤◌, [], ℕ, List, IfOk, OnOk, OnErr};
+ghost use Rattle.std.specs.Prelude.{◌≡◌, ◌≢◌, ◌↔◌, ◌≤◌, [], ◌∷◌, ℕ, List, IfOk, OnOk, OnErr};
 ghost use Rattle.std.specs.List.Sorted.{IsStrictlySortedBy};
 ghost use Rattle.std.specs.Option.{option_copied};
 ghost use Rattle.annex_base.specs.ByteOrder.{text_cmp};
 ghost use Rattle.annex_base.specs.Lists.{Member};
 ghost use Rattle.annex_base.specs.declared.kinds.Level.TheVariants as trust;
+ghost use Rattle.glob_match.specs.Numbers.{mincopies_of, numcopies_of};
 ghost use Rattle.log_lines.specs.Files.{file_name};
 ghost use Rattle.union_merge.specs.Branch.{lines_at};
 ghost use Rattle.trust_groups.specs.Settings.{Lines, settings};
@@ -15,8 +16,10 @@ ghost use Rattle.trust_groups.specs.View.{settings_of};
 
 use crate::claims::claims_in;
 use crate::groups::grouped_in;
-use crate::indices::{add_file, add_line};
+use crate::indices::add_file;
 use crate::levels::level_among;
+use crate::numbers::{number_of_path, number_of_paths};
+use crate::patterns::{Globs, add_kept, keep_globs};
 use crate::values::{groups_in, number_in, text_in, value_of, value_of_group};
 use annex_base::{Level, Line, NoMemory, RepoId, Text};
 use annex_key::Key;
@@ -31,11 +34,13 @@ use union_merge::Branch;
 /// descriptions, expressions of wanted content, and which repositories are claimed to have a key (git-annex trust,
 /// git-annex-group, git-annex-describe, git-annex-numcopies, git-annex-mincopies, git-annex-preferred-content, git-annex
 /// internals: location log). Nothing set is the level semitrusted, one copy, no groups, or an empty text. They are kept as
-/// an index of the newest entries of each file: contracts see the indices by path.
+/// an index of the newest entries of each file: contracts see the indices by path. The globs of patterns of paths are read
+/// once, as their lines are added.
 #[derive(Debug, Drop)]
 pub struct Settings {
     alloc: Global,
     files: BTreeMap<Vec<u8>, Newest>,
+    globs: Globs,
 }
 
 impl Model for Settings {
@@ -43,10 +48,13 @@ impl Model for Settings {
     ghost use Rattle.log_lines.specs.Index.{Index};
     ghost use Rattle.trust_groups.specs.Alike.{IsNoLog};
     ghost use Rattle.trust_groups.specs.Reads.{view_of};
+    ghost use Rattle.trust_groups.specs.Globs.{AreKept};
 
     ghost Value = { List (List ℕ × Index) };
 
     ghost view = { λ s. view_of s.files.entries };
+
+    ghost invariant = { λ s. AreKept s.globs.entries (view_of s.files.entries) };
 }
 
 impl Settings {
@@ -54,9 +62,12 @@ impl Settings {
     pub fn new(alloc: Global) -> Settings
         ensures { HaveReadLines result (λ path. []) }
     {
+        let files = BTreeMap::new(alloc);
+        let globs = BTreeMap::new(alloc);
         Settings {
             alloc,
-            files: BTreeMap::new(alloc),
+            files,
+            globs,
         }
     }
 
@@ -66,10 +77,18 @@ impl Settings {
         ensures exact { IfOk result (λ s. settings_of s ≡ settings (lines_at branch.now)) }
     {
         let mut files = BTreeMap::new(alloc);
+        let mut globs = BTreeMap::new(alloc);
         for (path, lines) in branch.files() {
-            add_file(&mut files, alloc, path, lines.lines())?;
+            let path = path.as_slice();
+            let lines = lines.lines();
+            keep_globs(&mut globs, alloc, path, lines)?;
+            add_file(&mut files, alloc, path, lines)?;
         }
-        Ok(Settings { alloc, files })
+        Ok(Settings {
+            alloc,
+            files,
+            globs,
+        })
     }
 
     /// Adds a line of the file of this path. A line of a file that is no log, or that is outside the file's grammar, changes
@@ -80,7 +99,7 @@ impl Settings {
         ensures other { OnOk result ((lines : Lines) → HaveReadLines self.old lines → IsNoLog path.now → settings_of self.new ≡ settings_of self.old) }
         ensures err { OnErr result (self.new ≡ self.old) }
     {
-        add_line(&mut self.files, self.alloc, path, line)
+        add_kept(&mut self.files, &mut self.globs, self.alloc, path, line)
     }
 
     /// The index of a file's newest entries.
@@ -117,6 +136,43 @@ impl Settings {
         ensures some { 1 ≤ result }
     {
         number_in(value_of(self.log(LogKind::Mincopies), &Topic::Whole))
+    }
+
+    /// How many copies of a content with these paths are to be preserved: the greatest number of its paths (own). The
+    /// number of a path is the greatest whose pattern matches it, or else the whole number. It takes no memory.
+    pub fn numcopies_of(&self, paths: &[Text]) -> u32
+        ensures { result ≡ numcopies_of (settings_of self.now) paths.now }
+    {
+        let whole = self.numcopies();
+        let log = self.log(LogKind::NumcopiesPath);
+        number_of_paths(&self.globs, log, whole, paths)
+    }
+
+    /// How many copies of a content with these paths are never to be gone below (own).
+    pub fn mincopies_of(&self, paths: &[Text]) -> u32
+        ensures { result ≡ mincopies_of (settings_of self.now) paths.now }
+    {
+        let whole = self.mincopies();
+        let log = self.log(LogKind::MincopiesPath);
+        number_of_paths(&self.globs, log, whole, paths)
+    }
+
+    /// How many copies of a content at this path are to be preserved (own).
+    pub fn numcopies_at(&self, path: &[u8]) -> u32
+        ensures { result ≡ numcopies_of (settings_of self.now) (path.now ∷ []) }
+    {
+        let whole = self.numcopies();
+        let log = self.log(LogKind::NumcopiesPath);
+        number_of_path(&self.globs, log, whole, path)
+    }
+
+    /// How many copies of a content at this path are never to be gone below (own).
+    pub fn mincopies_at(&self, path: &[u8]) -> u32
+        ensures { result ≡ mincopies_of (settings_of self.now) (path.now ∷ []) }
+    {
+        let whole = self.mincopies();
+        let log = self.log(LogKind::MincopiesPath);
+        number_of_path(&self.globs, log, whole, path)
     }
 
     /// The groups that a repository is in, in the order of their line (git-annex-group).

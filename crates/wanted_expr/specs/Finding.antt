@@ -1,5 +1,7 @@
--- For private contracts: what a search for a word, or for its value, tells.
-use Rattle.std.specs.Prelude.{◌≡◌, ℕ, ◌<◌, ◌++◌, slice_index, List, Bool, not, IsTrue, Option, Some, None, Result, Ok, Err}
+-- For private contracts: what a search for a word, or for its value, tells, and whether a fault is want of memory.
+use Rattle.std.specs.Prelude.{◌≡◌, ℕ, ◌<◌, ◌++◌, slice_index, List, Bool, true, false, not, IsTrue, Option, Some, None, Result, Ok, Err}
+use Rattle.wanted_expr.specs.declared.fault.ExprFault.{ExprFault}
+use Rattle.wanted_expr.specs.declared.fault.ExprFault.TheVariants as faults
 use Rattle.wanted_expr.specs.declared.word.WordFault.{WordFault}
 use Rattle.wanted_expr.specs.declared.word.WordFault.TheVariants.{Unknown, Value, NoMemory}
 use Rattle.wanted_expr.specs.Words.{SizeUnit, IsDigits, unit_text, unit_size}
@@ -29,3 +31,7 @@ pub record Ends (value number : List ℕ) (size : ℕ) : Type 0 where
 abbrev pub IsLastColon : List ℕ → ℕ → Option ℕ → Type 0
 IsLastColon value n None = (k : ℕ) → k < n → slice_index value k ≡ 58 → ⊥
 IsLastColon value n (Some i) = (i < n) × (slice_index value i ≡ 58) × ((k : ℕ) → i < k → k < n → slice_index value k ≡ 58 → ⊥)
+
+abbrev pub is_memory : ExprFault → Bool
+is_memory faults.NoMemory = true
+is_memory _ = false

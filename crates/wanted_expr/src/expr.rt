@@ -1,15 +1,19 @@
 //! Expressions.
-ghost use Rattle.std.specs.Prelude.{◌≡◌, ◌<◌, ◌⊎◌, length, IfErr, IfOk, IsErrOf, MatchResult};
+ghost use Rattle.std.specs.Prelude.{◌≡◌, ◌<◌, ◌⊎◌, false, length, IfErr, IfOk, IsErrOf, MatchResult};
 ghost use Rattle.wanted_expr.specs.declared.fault.ExprFault.{ExprFault};
 ghost use Rattle.wanted_expr.specs.Expressions.{IsCause, IsExpression, IsFirstFault};
-ghost use Rattle.wanted_expr.specs.Formula.{Formula};
+ghost use Rattle.wanted_expr.specs.Finding.{is_memory};
+ghost use Rattle.wanted_expr.specs.Formula.{Atom, Formula};
 ghost use Rattle.wanted_expr.specs.Truth.{has_groupwanted, holds};
+ghost use Rattle.wanted_expr.specs.Wanted.{formula_read, group_formula};
+ghost use Rattle.wanted_expr.specs.declared.data.Word.TheVariants as words;
 
-use crate::data::{Facts, Tree};
+use crate::data::{Facts, Tree, Word};
 use crate::fault::ExprFault;
 use crate::reading::read;
 use crate::truth::{has_groupwanted, tree_holds};
-use glob_match::globs_are_unique;
+use annex_base::NoMemory;
+use glob_match::{globs_are_read, globs_are_unique};
 use std::alloc::Global;
 use std::marker::Model;
 
@@ -54,6 +58,41 @@ impl Expr {
         }
     }
 
+    fn present() -> Expr
+        ensures { result ≡ Atom words.Present }
+    {
+        Expr {
+            tree: Tree::Single(Word::Present),
+        }
+    }
+
+    /// What the text of an expression says; one outside the grammar reads as `present` (own).
+    pub fn of_text(alloc: Global, text: &[u8]) -> Result<Expr, NoMemory>
+        ensures { IfOk result (λ e. e ≡ formula_read text.now) }
+    {
+        // for the proof that a text says one thing at most, and that this is what is read of it
+        globs_are_unique();
+        globs_are_read();
+        if text.len() > TEXT_LIMIT {
+            return Ok(Expr::present());
+        }
+        match read(alloc, text) {
+            Ok(tree) => Ok(Expr { tree }),
+            Err(fault) => instead_of(fault),
+        }
+    }
+
+    /// What the text of a group's expression says: one with `groupwanted` reads as `present` too (own).
+    pub fn of_group_text(alloc: Global, text: &[u8]) -> Result<Expr, NoMemory>
+        ensures { IfOk result (λ e. e ≡ group_formula text.now) }
+    {
+        let expr = Expr::of_text(alloc, text)?;
+        if expr.has_groupwanted() {
+            return Ok(Expr::present());
+        }
+        Ok(expr)
+    }
+
     /// Whether the expression holds. It takes no memory.
     pub fn eval(&self, facts: &Facts) -> bool
         ensures { result ≡ holds self.now facts.now }
@@ -66,5 +105,22 @@ impl Expr {
         ensures { result ≡ has_groupwanted self.now }
     {
         has_groupwanted(&self.tree)
+    }
+}
+
+fn is_memory(fault: ExprFault) -> bool
+    ensures { result ≡ is_memory fault }
+{
+    matches!(fault, ExprFault::NoMemory)
+}
+
+// What a text with this fault reads as.
+fn instead_of(fault: ExprFault) -> Result<Expr, NoMemory>
+    ensures { IfOk result (λ e. (is_memory fault ≡ false) × (e ≡ Atom words.Present)) }
+{
+    if is_memory(fault) {
+        Err(NoMemory)
+    } else {
+        Ok(Expr::present())
     }
 }

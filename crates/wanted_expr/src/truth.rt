@@ -1,8 +1,7 @@
 //! Whether an expression holds.
 ghost use Rattle.std.specs.Prelude.{◌≡◌, ◌&&◌, ◌||◌, not, count_by};
 ghost use Rattle.std.specs.List.{list_all, list_any};
-ghost use Rattle.std.specs.Str.{bytes_eq, chars, is_utf8};
-ghost use Rattle.glob_match.specs.Glob.{glob_matches};
+ghost use Rattle.std.specs.Str.{bytes_eq};
 ghost use Rattle.wanted_expr.specs.Formula.{formula_of};
 ghost use Rattle.wanted_expr.specs.Truth.{rank, is_alive, is_in_group, is_among, copies_among, is_no_lack, is_claimed, path_matches, secure_backends, word_holds, holds, is_groupwanted, has_groupwanted};
 
@@ -99,21 +98,11 @@ fn all_in_group(group: &Text, claimed: &[Claimant]) -> bool
         .all(|c| !is_alive(c) || is_in_group(group, c))
 }
 
-// A path that isn't UTF-8 matches no glob.
-fn bytes_match(glob: &Glob, path: &[u8]) -> bool
-    ensures { result ≡ (is_utf8 path.now && glob_matches glob.now (chars path.now)) }
-{
-    match str::from_utf8(path) {
-        Ok(text) => glob.matches(text),
-        Err(_) => false,
-    }
-}
-
 fn path_matches(glob: &Glob, path: &Option<Text>) -> bool
     ensures { result ≡ path_matches glob.now path.now }
 {
     match path {
-        Some(path) => bytes_match(glob, path.bytes()),
+        Some(path) => glob.matches_path(path.bytes()),
         None => false,
     }
 }

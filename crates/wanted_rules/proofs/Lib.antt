@@ -1,2 +1,4 @@
 -- The lemmas of this crate.
 pub mod AlikeLemmas
+pub mod GroupLemmas
+pub mod WishLemmas

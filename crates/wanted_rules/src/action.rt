@@ -1,5 +1,4 @@
 //! Actions of a plan.
-use annex_base::crosses;
 use annex_key::Key;
 
 /// What a repository is to do for a key: a peer is the place of a repository among those of the plan (own).
@@ -13,9 +12,4 @@ pub enum Action {
     DropHere(Key),
     /// Drop the content of a peer.
     DropFrom(Key, u32),
-}
-
-/// Actions may be moved to another thread, and shared with one.
-fn cross_threads() {
-    crosses::<Action>();
 }

@@ -2,7 +2,13 @@
 #![tactic(auto)]
 
 mod action;
+mod crossing;
+mod facts;
+mod group_exprs;
+mod groups;
 mod laws;
+mod wishes;
 
 pub use action::Action;
 pub use laws::equal_lines_plan_alike;
+pub use wishes::Wishes;

@@ -16,11 +16,11 @@ returns-clause-due g c = λ bytes text status words left due read write.
     (λ fault. read (c.run.ensures.read fault)) (λ fault. write (c.run.ensures.write fault))
 
 pub returns-clause-reported : goal.returns-clause-reported
-returns-clause-reported g c = λ bytes script lines words left short says built whole read write.
-    returns-clause-due g c bytes (report script (limited_run (driver_input_of script) lines).run) _ words left
-    (due_report bytes script lines short (record { says = says; built = built }) whole) read write
+returns-clause-reported g c = λ bytes script words left short says built whole read write.
+    returns-clause-due g c bytes (report script (limited_run (driver_input_of script) script).run) _ words left
+    (due_report bytes script short (record { says = says; built = built }) whole) read write
 
 pub returns-clause-cut : goal.returns-clause-cut
-returns-clause-cut g c = λ bytes script lines words left short says built cut read write.
-    returns-clause-due g c bytes (report script (limited_run (driver_input_of script) lines).run ++ limit_text entries_name most_entries) _ words left
-    (due_cut c.cut_script_runs_have_a_full_history.ensures bytes script lines short (record { says = says; built = built }) cut) read write
+returns-clause-cut g c = λ bytes script words left short says built cut read write.
+    returns-clause-due g c bytes (report script (limited_run (driver_input_of script) script).run ++ limit_text entries_name most_entries) _ words left
+    (due_cut c.cut_script_runs_have_a_full_history.ensures bytes script short (record { says = says; built = built }) cut) read write

@@ -1,6 +1,6 @@
 -- What is due where the text is no script: its reading says so.
 use Rattle.std.proofs.Common.{◌≡◌, ap, sym, subst, ◌∙◌, arith}
-use Rattle.script_commands.specs.declared.fault.ScriptFault.{ScriptFault}
+use Rattle.script_forms.specs.declared.fault.ScriptFault.{ScriptFault}
 use Rattle.script_lang.specs.Limits.{limit_of, quantity_name}
 use Rattle.script_lang.specs.Script.{reading, BadLine, PastLimit, IsFault}
 use Rattle.script_answers.specs.declared.status.Status.TheVariants.{Limit}

@@ -8,16 +8,14 @@ run_script-requires-clause-stand c = c.commands_stand.ensures c.args.bytes.now c
 
 pub run_script-requires-clause-run : goal.run_script-requires-clause-run
 run_script-requires-clause-run c =
-    let lines = c.requires.lines in
-    let is : IsScript c.args.bytes.now c.args.script.now lines.0 = record { says = c.requires.says; built = lines.1 } in
+    let is : IsScript c.args.bytes.now c.args.script.now = record { says = c.requires.says; built = c.requires.built } in
     let law = c.scripts_may_be_driven.ensures in
-    let few = law.few c.args.bytes.now c.args.script.now lines.0 is in
-    record { few = omega (arith, few); each = law.repos c.args.bytes.now c.args.script.now lines.0 is; apart = law.apart c.args.bytes.now c.args.script.now lines.0 is }
+    let few = law.few c.args.bytes.now c.args.script.now is in
+    record { few = omega (arith, few); each = law.repos c.args.bytes.now c.args.script.now is; apart = law.apart c.args.bytes.now c.args.script.now is }
 
 pub run_script-requires-clause-repos : goal.run_script-requires-clause-repos
 run_script-requires-clause-repos c =
-    let lines = c.requires.lines in
-    c.scripts_may_be_driven.ensures.few c.args.bytes.now c.args.script.now lines.0 (record { says = c.requires.says; built = lines.1 })
+    c.scripts_may_be_driven.ensures.few c.args.bytes.now c.args.script.now (record { says = c.requires.says; built = c.requires.built })
 
 pub run_script-requires-clause-few : goal.run_script-requires-clause-few
 run_script-requires-clause-few c =

@@ -1,15 +1,10 @@
--- Without a missing part the script has its lines; else the first command for which one is missing is named.
+-- Either no part is missing, or the first command for which one is missing is named.
 use Rattle.std.proofs.Common.{ap, sym, ◌∙◌}
-use Rattle.driver_script.specs.Lines.{first_unbuilt, repos_of}
+use Rattle.driver_script.specs.Lines.{first_unbuilt}
 use Rattle.annex_cli.proofs.due.script_due.Goals as goal
 
-pub run_due-requires-clause-lines : goal.run_due-requires-clause-lines
-run_due-requires-clause-lines c =
-    let repos = repos_of c.args.script.now in
-    c.scripts_without_a_missing_form_have_lines.ensures c.args.script.now
-    (ap (first_unbuilt repos) (sym c.lines-commands.ensures) ∙ sym (c.first_missing.ensures repos) ∙ c.in-None.is)
+pub run_due-requires-clause-built : goal.run_due-requires-clause-built
+run_due-requires-clause-built c = ap first_unbuilt (sym c.lines-commands.ensures) ∙ sym c.first_missing.ensures ∙ c.in-None.is
 
 pub missing_due-requires-clause-first : goal.missing_due-requires-clause-first
-missing_due-requires-clause-first c =
-    let repos = repos_of c.args.script.now in
-    ap (first_unbuilt repos) (sym c.lines-commands.ensures) ∙ sym (c.first_missing.ensures repos) ∙ c.in-Some.is
+missing_due-requires-clause-first c = ap first_unbuilt (sym c.lines-commands.ensures) ∙ sym c.first_missing.ensures ∙ c.in-Some.is

@@ -11,7 +11,7 @@ use Rattle.annex_cli.proofs.runs.run_lines.Goals as goal
 pub loop-command-init : goal.loop-command-init
 loop-command-init g c =
     subst (λ (cs : List Command). HasDone (λ k. store_view (g.K.Keeper.contents k) (g.K.Keeper.parts k) (g.K.Keeper.failing k) (g.K.Keeper.faults k)) cs cs c.args.fleet.now) (sym c.lines-commands.ensures)
-    (done_at_first _ c.args.script.now c.args.fleet.now c.requires.lines.0 c.requires.lines.1 c.requires.stand c.requires.stands c.requires.driven)
+    (done_at_first _ c.args.script.now c.scripts_are_built_or_not.ensures.each c.args.fleet.now c.requires.built c.requires.stand c.requires.stands c.requires.driven)
 
 pub line-requires : goal.line-requires
 line-requires g c =

@@ -16,4 +16,5 @@ returns-clause-idle c =
       gives = c.steps_name_their_jobs.ensures.gives;
       goes = c.steps_name_their_jobs.ensures.goes;
       takes = c.steps_name_their_jobs.ensures.takes;
+      calls = record { fails = c.steps_tell_their_calls.ensures.fails; same = c.steps_tell_their_calls.ensures.same };
     })

@@ -19,6 +19,7 @@ returns c =
         gives = c.steps_name_their_jobs.ensures.gives;
         goes = c.steps_name_their_jobs.ensures.goes;
         takes = c.steps_name_their_jobs.ensures.takes;
+        calls = record { fails = c.steps_tell_their_calls.ensures.fails; same = c.steps_tell_their_calls.ensures.same };
       };
       first = c.runs_grow.ensures.first;
       others = c.frames_go_to_others.ensures.sent;

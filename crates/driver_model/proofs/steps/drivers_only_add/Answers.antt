@@ -2,8 +2,9 @@
 use Rattle.driver_model.specs.Driving.{turns, with_mark}
 use Rattle.driver_model.specs.Rounds.{blocks, round, settles}
 use Rattle.driver_model.specs.ScriptSteps.{begins, closes, compacts, crashes, enters, has, merges, sets, sets_part, will_fail, writes}
+use Rattle.driver_model.specs.Syncs.{carries_out, drops_spared, each_merges, merges_each, shares_logs, transfers}
 use Rattle.driver_model.specs.Turning.{turn}
-use Rattle.driver_model.proofs.Adding.{begins_adds, blocks_adds, closes_adds, compacts_adds, crashes_adds, enters_adds, fail_adds, has_adds, line_adds, mark_adds, merges_adds, only_adds, part_adds, round_adds, sets_adds, settles_adds, turn_adds, turns_adds, waits_adds, writes_adds}
+use Rattle.driver_model.proofs.Adding.{begins_adds, blocks_adds, carries_adds, closes_adds, compacts_adds, crashes_adds, drops_spared_adds, each_merges_adds, enters_adds, fail_adds, has_adds, line_adds, mark_adds, merges_adds, merges_each_adds, only_adds, part_adds, round_adds, sets_adds, settles_adds, shares_adds, transfers_adds, turn_adds, turns_adds, waits_adds, writes_adds}
 use Rattle.driver_model.proofs.steps.drivers_only_add.Goals as goal
 
 pub returns : goal.returns
@@ -26,5 +27,11 @@ returns c = record {
   round = λ g d. only_adds d (round g d) (round_adds g d);
   settles = λ g d. only_adds d (settles g d) (settles_adds g d);
   blocks = λ g lines d. only_adds d (blocks g lines d) (blocks_adds g lines d);
+  merges_each = λ r others d. only_adds d (merges_each r others d) (merges_each_adds r others d);
+  each_merges = λ r others d. only_adds d (each_merges r others d) (each_merges_adds r others d);
+  carries = λ g r actions d. only_adds d (carries_out g r actions d) (carries_adds g r actions d);
+  shares = λ g r d. only_adds d (shares_logs g r d) (shares_adds g r d);
+  transfers = λ g r d. only_adds d (transfers g r d) (transfers_adds g r d);
+  drops = λ g r d. only_adds d (drops_spared g r d) (drops_spared_adds g r d);
   line = λ g line d. (line_adds g line d).0;
 }

@@ -1,5 +1,6 @@
 -- What each step keeps within bounds, from a driver that is sound.
-use Rattle.driver_model.specs.Lines.{Set}
+use Rattle.script_commands.specs.declared.command.Action.TheVariants.{Set}
+use Rattle.script_commands.specs.declared.command.Command.TheVariants.{Does}
 use Rattle.driver_model.proofs.Driven.{first_holds, keeps_has, keeps_line, keeps_marked, keeps_part}
 use Rattle.driver_model.proofs.EndsAlike.{ends_alike}
 use Rattle.driver_model.proofs.Logged.{keeps_compacts, keeps_merges, keeps_writes}
@@ -23,6 +24,7 @@ returns c =
         gives = c.steps_name_their_jobs.ensures.gives;
         goes = c.steps_name_their_jobs.ensures.goes;
         takes = c.steps_name_their_jobs.ensures.takes;
+        calls = record { fails = c.steps_tell_their_calls.ensures.fails; same = c.steps_tell_their_calls.ensures.same };
       };
       first = c.runs_grow.ensures.first;
       others = c.frames_go_to_others.ensures.sent;
@@ -41,7 +43,7 @@ returns c =
       turn = λ g r d known sound. keeps_turn laws (ends_alike laws.names) g r known d (λ f. sound);
       has = λ g r key bytes d known content sound. keeps_has laws g r known d key bytes content.0 content.1 (λ f. sound);
       part = λ g r key bytes d known sound. keeps_part laws g r known d key bytes (λ f. sound);
-      sets = λ g r kind topic value d known other plain_topic plain_value sound. keeps_line laws g (owed_keys laws) (Set r kind topic value) d (known, other, plain_topic, plain_value) (λ f. sound);
+      sets = λ g r kind topic value d known other plain_topic plain_value sound. keeps_line laws g (owed_keys laws) (Does (Set r kind topic value)) d (known, other, plain_topic, plain_value) sound.keys (λ f. sound);
       writes = λ g r file line d known path kind is sound. keeps_writes laws g d r file line known path kind is (λ f. sound);
       merges = λ g r other d known sound. keeps_merges laws g r known (owed_keys laws) d other (λ f. sound);
       compacts = λ g r d known sound. keeps_compacts laws g r known d (λ f. sound);
@@ -49,8 +51,8 @@ returns c =
       closes = λ g r other d known there sound. keeps_closes laws g d r other known there.0 there.1 (λ f. sound);
       crashes = λ g r clock d known sound. keeps_crashes laws g d r clock known (λ f. sound);
       waits = λ g milliseconds d sound. keeps_waits laws g d milliseconds (λ f. sound);
-      enters = λ g path key d sound. keeps_enters laws g d path key (λ f. sound);
+      enters = λ g path key d text sound. keeps_enters laws g d path key text (λ f. sound);
       will_fail = λ g r call d sound. keeps_will_fail g d r call (λ f. sound);
       mark = λ g d sound. keeps_marked laws g d (λ f. sound);
-      line = λ g line d is sound. keeps_line laws g (owed_keys laws) line d is (λ f. sound);
+      line = λ g line d is sound. keeps_line laws g (owed_keys laws) line d is sound.keys (λ f. sound);
     }

@@ -20,7 +20,6 @@ returns-in-Enough-None g c =
     record {
       step = λ number rows p fails rest. (removes_by (sight r (g.H.Here.ends c.args.here.now) c.args.time number) rows p fails rest w c.need.result _ c.requires.local c.need.ensures is None enough (end_was c.need.result c.args.items.now None _ told c.judge.ensures.when_enough enough) refl).0;
       needs = λ number rows p fails rest. (removes_by (sight r (g.H.Here.ends c.args.here.now) c.args.time number) rows p fails rest w c.need.result _ c.requires.local c.need.ensures is None enough (end_was c.need.result c.args.items.now None _ told c.judge.ensures.when_enough enough) refl).1;
-      calls = λ number rows p fails rest. (removes_by (sight r (g.H.Here.ends c.args.here.now) c.args.time number) rows p fails rest w c.need.result _ c.requires.local c.need.ensures is None enough (end_was c.need.result c.args.items.now None _ told c.judge.ensures.when_enough enough) refl).2;
       other = λ peer same. absurd (let none : ⊥ = cc in none);
     }
 
@@ -32,7 +31,6 @@ returns-in-Some g c =
     record {
       step = λ number rows p fails rest. (asks_by' (sight r (g.H.Here.ends c.args.here.now) c.args.time number) rows p fails rest w c.need.result _ c.requires.local c.need.ensures is c.in-Some.peer (c.judge.ensures.lacking _ _ _ _ c.in-Lacking.is).0 (ap (λ l. find (asks_of r w) l) (sym c.requires.all) ∙ (sym c.next.ensures ∙ c.in-Some.is))).0;
       needs = λ number rows p fails rest. (asks_by' (sight r (g.H.Here.ends c.args.here.now) c.args.time number) rows p fails rest w c.need.result _ c.requires.local c.need.ensures is c.in-Some.peer (c.judge.ensures.lacking _ _ _ _ c.in-Lacking.is).0 (ap (λ l. find (asks_of r w) l) (sym c.requires.all) ∙ (sym c.next.ensures ∙ c.in-Some.is))).1;
-      calls = λ number rows p fails rest. (asks_by' (sight r (g.H.Here.ends c.args.here.now) c.args.time number) rows p fails rest w c.need.result _ c.requires.local c.need.ensures is c.in-Some.peer (c.judge.ensures.lacking _ _ _ _ c.in-Lacking.is).0 (ap (λ l. find (asks_of r w) l) (sym c.requires.all) ∙ (sym c.next.ensures ∙ c.in-Some.is))).2;
       other = λ peer same. subst (IsOther r) (let it : c.in-Some.peer ≡ peer = cc in it) (found_other r w c.in-Some.peer (ap (λ l. find (asks_of r w) l) (sym c.requires.all) ∙ (sym c.next.ensures ∙ c.in-Some.is)));
     }
 
@@ -44,7 +42,6 @@ returns-in-None g c =
     record {
       step = λ number rows p fails rest. (lacks_by (sight r (g.H.Here.ends c.args.here.now) c.args.time number) rows p fails rest w c.need.result _ c.requires.local c.need.ensures is (c.judge.ensures.lacking _ _ _ _ c.in-Lacking.is).0 (ap (λ l. find (asks_of r w) l) (sym c.requires.all) ∙ (sym c.next.ensures ∙ c.in-None.is))).0;
       needs = λ number rows p fails rest. (lacks_by (sight r (g.H.Here.ends c.args.here.now) c.args.time number) rows p fails rest w c.need.result _ c.requires.local c.need.ensures is (c.judge.ensures.lacking _ _ _ _ c.in-Lacking.is).0 (ap (λ l. find (asks_of r w) l) (sym c.requires.all) ∙ (sym c.next.ensures ∙ c.in-None.is))).1;
-      calls = λ number rows p fails rest. (lacks_by (sight r (g.H.Here.ends c.args.here.now) c.args.time number) rows p fails rest w c.need.result _ c.requires.local c.need.ensures is (c.judge.ensures.lacking _ _ _ _ c.in-Lacking.is).0 (ap (λ l. find (asks_of r w) l) (sym c.requires.all) ∙ (sym c.next.ensures ∙ c.in-None.is))).2;
       other = λ peer same. absurd (let none : ⊥ = cc in none);
     }
 
@@ -59,7 +56,6 @@ returns-then-clock-end g c =
     record {
       step = λ number rows p fails rest. (removes_by (sight r (g.H.Here.ends c.args.here.now) c.args.time number) rows p fails rest w c.need.result _ c.requires.local c.need.ensures is (Some end) enough (end_was c.need.result c.args.items.now (Some end) _ told c.judge.ensures.when_enough enough) (lt-ltb (r.clock c.args.time) end (rw c.clock-clock.ensures.same at c.if-clock-end.true))).0;
       needs = λ number rows p fails rest. (removes_by (sight r (g.H.Here.ends c.args.here.now) c.args.time number) rows p fails rest w c.need.result _ c.requires.local c.need.ensures is (Some end) enough (end_was c.need.result c.args.items.now (Some end) _ told c.judge.ensures.when_enough enough) (lt-ltb (r.clock c.args.time) end (rw c.clock-clock.ensures.same at c.if-clock-end.true))).1;
-      calls = λ number rows p fails rest. (removes_by (sight r (g.H.Here.ends c.args.here.now) c.args.time number) rows p fails rest w c.need.result _ c.requires.local c.need.ensures is (Some end) enough (end_was c.need.result c.args.items.now (Some end) _ told c.judge.ensures.when_enough enough) (lt-ltb (r.clock c.args.time) end (rw c.clock-clock.ensures.same at c.if-clock-end.true))).2;
       other = λ peer same. absurd (let none : ⊥ = cc in none);
     }
 
@@ -74,6 +70,5 @@ returns-else-clock-end g c =
     record {
       step = λ number rows p fails rest. (late_by (sight r (g.H.Here.ends c.args.here.now) c.args.time number) rows p fails rest w c.need.result _ c.requires.local c.need.ensures is end c.clock-clock.result enough (end_was c.need.result c.args.items.now (Some end) _ told c.judge.ensures.when_enough enough) (sym c.clock-clock.ensures.same) (le-ltb c.clock-clock.result end c.if-clock-end.false)).0;
       needs = λ number rows p fails rest. (late_by (sight r (g.H.Here.ends c.args.here.now) c.args.time number) rows p fails rest w c.need.result _ c.requires.local c.need.ensures is end c.clock-clock.result enough (end_was c.need.result c.args.items.now (Some end) _ told c.judge.ensures.when_enough enough) (sym c.clock-clock.ensures.same) (le-ltb c.clock-clock.result end c.if-clock-end.false)).1;
-      calls = λ number rows p fails rest. (late_by (sight r (g.H.Here.ends c.args.here.now) c.args.time number) rows p fails rest w c.need.result _ c.requires.local c.need.ensures is end c.clock-clock.result enough (end_was c.need.result c.args.items.now (Some end) _ told c.judge.ensures.when_enough enough) (sym c.clock-clock.ensures.same) (le-ltb c.clock-clock.result end c.if-clock-end.false)).2;
       other = λ peer same. absurd (let none : ⊥ = cc in none);
     }

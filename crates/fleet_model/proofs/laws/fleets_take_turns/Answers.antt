@@ -8,9 +8,6 @@ returns-clause-moved g c = turn_comes (record {
     carried = record { states_agree = c.carried_states_agree.ensures.states; steps_agree = c.carried_states_agree.ensures.steps };
     found = record { found = c.steps_find_their_cause.ensures };
     hand = c.looks_see_the_flights.ensures.at_hand;
-    fails = c.steps_tell_the_failed_call.ensures.failed;
-    same = c.steps_tell_the_failed_call.ensures.same;
-    rising = c.steps_tell_the_failed_call.ensures.ordered;
   };
   ends = record {
     dropped = c.looks_see_the_flights.ensures.dropped;
@@ -19,7 +16,7 @@ returns-clause-moved g c = turn_comes (record {
     moved = c.turns_keep_all_ends.ensures.moved;
     idle = c.turns_keep_all_ends.ensures.idle;
   };
-  words = record { quiet = c.words_stay_with_frames.ensures.quiet; other = c.heard_words_are_told.ensures.other; beside = c.heard_words_are_told.ensures.beside; begun = c.heard_words_are_told.ensures.begun };
+  words = record { quiet = c.words_stay_with_frames.ensures.quiet; other = c.heard_words_are_told.ensures.other; beside = c.heard_words_are_told.ensures.beside; begun = c.heard_words_are_told.ensures.begun; paths = c.jobs_keep_their_paths.ensures.entries; marks = c.jobs_keep_their_paths.ensures.tree };
   found = c.turns_are_found.ensures.moved;
   idle = c.turns_are_found.ensures.idle;
   stays = c.drivers_stay_sound.ensures.turn;
@@ -44,9 +41,6 @@ returns-clause-idle g c = idle_comes (record {
     carried = record { states_agree = c.carried_states_agree.ensures.states; steps_agree = c.carried_states_agree.ensures.steps };
     found = record { found = c.steps_find_their_cause.ensures };
     hand = c.looks_see_the_flights.ensures.at_hand;
-    fails = c.steps_tell_the_failed_call.ensures.failed;
-    same = c.steps_tell_the_failed_call.ensures.same;
-    rising = c.steps_tell_the_failed_call.ensures.ordered;
   };
   ends = record {
     dropped = c.looks_see_the_flights.ensures.dropped;
@@ -55,7 +49,7 @@ returns-clause-idle g c = idle_comes (record {
     moved = c.turns_keep_all_ends.ensures.moved;
     idle = c.turns_keep_all_ends.ensures.idle;
   };
-  words = record { quiet = c.words_stay_with_frames.ensures.quiet; other = c.heard_words_are_told.ensures.other; beside = c.heard_words_are_told.ensures.beside; begun = c.heard_words_are_told.ensures.begun };
+  words = record { quiet = c.words_stay_with_frames.ensures.quiet; other = c.heard_words_are_told.ensures.other; beside = c.heard_words_are_told.ensures.beside; begun = c.heard_words_are_told.ensures.begun; paths = c.jobs_keep_their_paths.ensures.entries; marks = c.jobs_keep_their_paths.ensures.tree };
   found = c.turns_are_found.ensures.moved;
   idle = c.turns_are_found.ensures.idle;
   stays = c.drivers_stay_sound.ensures.turn;

@@ -1,11 +1,13 @@
 -- By the judgement.
-use Rattle.std.proofs.Common.{refl}
+use Rattle.std.proofs.Common.{None, refl}
+use Rattle.run_data.specs.declared.job.DropRefusal.TheVariants as refusals
+use Rattle.run_data.specs.declared.job.Outcome.TheVariants.{Refused}
+use Rattle.node_model.specs.DropStep.{lacking_outcome}
 use Rattle.drop_judging.specs.declared.judging.Verdict.TheVariants as verdicts
 use Rattle.drop_phases.specs.Leaving.{store}
 use Rattle.drop_phases.specs.Working.{sight, turn_in}
-use Rattle.drop_phases.specs.Calling.{has_open}
-use Rattle.drop_judging.specs.Judging.{calls_by}
-use Rattle.drop_phases.proofs.Callings.{ended_well, local_closed, no_release, over_none}
+use Rattle.drop_judging.specs.Judging.{step_by}
+use Rattle.drop_phases.proofs.Callings.{ended_well, ends_none, local_closed, over_none}
 use Rattle.drop_phases.proofs.Doings.{bar_local}
 use Rattle.local_drops.proofs.LocalCalls.{judged_makes}
 use Rattle.drop_phases.proofs.FrameCalls.{opening_none}
@@ -51,20 +53,20 @@ returns-clause-begun g c = ended_gone (g.H.Here.reading c.args.here.now) c.args.
 
 pub returns-in-Asks-clause-calls : goal.returns-in-Asks-clause-calls
 returns-in-Asks-clause-calls g c = λ number.
-    judged_makes (g.H.Here.reading c.args.here.now) (g.H.Here.ends c.args.here.now) c.args.time number (g.K.Keeper.contents c.args.keeper.now) c.args.table.now c.args.worker.now (g.K.Keeper.failing c.args.keeper.now) (g.K.Keeper.failing c.args.keeper.now) c.judge.result (verdicts.Asks c.in-Asks.peer) c.ask.result c.requires.next c.in-Asks.is c.judge.ensures.calls
-    (over_none (sight (g.H.Here.reading c.args.here.now) (g.H.Here.ends c.args.here.now) c.args.time number) (g.K.Keeper.contents c.args.keeper.now) c.args.table.now c.args.worker.now (calls_by (verdicts.Asks c.in-Asks.peer)) (g.K.Keeper.failing c.args.keeper.now) c.ask.result c.ask.ensures.faultless (λ p fails rest. opening_none (turn_in (sight (g.H.Here.reading c.args.here.now) (g.H.Here.ends c.args.here.now) c.args.time number) c.args.table.now p fails rest c.args.worker.now) c.in-Asks.peer refl))
+    judged_makes (g.H.Here.reading c.args.here.now) (g.H.Here.ends c.args.here.now) c.args.time number (g.K.Keeper.contents c.args.keeper.now) c.args.table.now c.args.worker.now (g.K.Keeper.failing c.args.keeper.now) (g.K.Keeper.failing c.args.keeper.now) c.judge.result (verdicts.Asks c.in-Asks.peer) c.ask.result c.requires.next c.in-Asks.is c.judge.ensures.step
+    (over_none (sight (g.H.Here.reading c.args.here.now) (g.H.Here.ends c.args.here.now) c.args.time number) (g.K.Keeper.contents c.args.keeper.now) c.args.table.now c.args.worker.now (step_by (verdicts.Asks c.in-Asks.peer)) (g.K.Keeper.failing c.args.keeper.now) c.ask.result c.ask.ensures.faultless (λ p fails rest. opening_none (turn_in (sight (g.H.Here.reading c.args.here.now) (g.H.Here.ends c.args.here.now) c.args.time number) c.args.table.now p fails rest c.args.worker.now) c.in-Asks.peer refl))
 
 pub returns-in-Removes-clause-calls : goal.returns-in-Removes-clause-calls
 returns-in-Removes-clause-calls g c = λ number.
-    judged_makes (g.H.Here.reading c.args.here.now) (g.H.Here.ends c.args.here.now) c.args.time number (g.K.Keeper.contents c.args.keeper.now) c.args.table.now c.args.worker.now (g.K.Keeper.failing c.args.keeper.now) (g.K.Keeper.failing c.remove.new.keeper) c.judge.result verdicts.Removes c.remove.result c.requires.next c.in-Removes.is c.judge.ensures.calls
+    judged_makes (g.H.Here.reading c.args.here.now) (g.H.Here.ends c.args.here.now) c.args.time number (g.K.Keeper.contents c.args.keeper.now) c.args.table.now c.args.worker.now (g.K.Keeper.failing c.args.keeper.now) (g.K.Keeper.failing c.remove.new.keeper) c.judge.result verdicts.Removes c.remove.result c.requires.next c.in-Removes.is c.judge.ensures.step
     (c.remove.ensures.calls (sight (g.H.Here.reading c.args.here.now) (g.H.Here.ends c.args.here.now) c.args.time number))
 
 pub returns-in-Late-clause-calls : goal.returns-in-Late-clause-calls
 returns-in-Late-clause-calls g c = λ number.
-    judged_makes (g.H.Here.reading c.args.here.now) (g.H.Here.ends c.args.here.now) c.args.time number (g.K.Keeper.contents c.args.keeper.now) c.args.table.now c.args.worker.now (g.K.Keeper.failing c.args.keeper.now) (g.K.Keeper.failing c.args.keeper.now) c.judge.result (verdicts.Late c.in-Late.end c.in-Late.clock) c.expire.result c.requires.next c.in-Late.is c.judge.ensures.calls
-    (over_none (sight (g.H.Here.reading c.args.here.now) (g.H.Here.ends c.args.here.now) c.args.time number) (g.K.Keeper.contents c.args.keeper.now) c.args.table.now c.args.worker.now (calls_by (verdicts.Late c.in-Late.end c.in-Late.clock)) (g.K.Keeper.failing c.args.keeper.now) c.expire.result (ended_well c.args.worker.now c.expire.new.worker c.expire.result c.expire.ensures.ended) (λ p fails rest. no_release (has_open c.args.table.now c.args.worker.now) _ (local_closed c.args.worker.now c.args.table.now (bar_local c.args.worker.now.token c.requires.bars) c.requires.owns)))
+    judged_makes (g.H.Here.reading c.args.here.now) (g.H.Here.ends c.args.here.now) c.args.time number (g.K.Keeper.contents c.args.keeper.now) c.args.table.now c.args.worker.now (g.K.Keeper.failing c.args.keeper.now) (g.K.Keeper.failing c.args.keeper.now) c.judge.result (verdicts.Late c.in-Late.end c.in-Late.clock) c.expire.result c.requires.next c.in-Late.is c.judge.ensures.step
+    (over_none (sight (g.H.Here.reading c.args.here.now) (g.H.Here.ends c.args.here.now) c.args.time number) (g.K.Keeper.contents c.args.keeper.now) c.args.table.now c.args.worker.now (step_by (verdicts.Late c.in-Late.end c.in-Late.clock)) (g.K.Keeper.failing c.args.keeper.now) c.expire.result (ended_well c.args.worker.now c.expire.new.worker c.expire.result c.expire.ensures.ended) (λ p fails rest. ends_none (turn_in (sight (g.H.Here.reading c.args.here.now) (g.H.Here.ends c.args.here.now) c.args.time number) c.args.table.now p fails rest c.args.worker.now) None (Refused (refusals.Expired c.in-Late.end c.in-Late.clock)) (local_closed c.args.worker.now c.args.table.now (bar_local c.args.worker.now.token c.requires.bars) c.requires.owns)))
 
 pub returns-clause-calls : goal.returns-clause-calls
 returns-clause-calls g c = λ number.
-    judged_makes (g.H.Here.reading c.args.here.now) (g.H.Here.ends c.args.here.now) c.args.time number (g.K.Keeper.contents c.args.keeper.now) c.args.table.now c.args.worker.now (g.K.Keeper.failing c.args.keeper.now) (g.K.Keeper.failing c.args.keeper.now) c.judge.result verdicts.Lacks c.lack.result c.requires.next c.in-Lacks.is c.judge.ensures.calls
-    (over_none (sight (g.H.Here.reading c.args.here.now) (g.H.Here.ends c.args.here.now) c.args.time number) (g.K.Keeper.contents c.args.keeper.now) c.args.table.now c.args.worker.now (calls_by verdicts.Lacks) (g.K.Keeper.failing c.args.keeper.now) c.lack.result (ended_well c.args.worker.now c.lack.new.worker c.lack.result c.lack.ensures.ended) (λ p fails rest. no_release (has_open c.args.table.now c.args.worker.now) _ (local_closed c.args.worker.now c.args.table.now (bar_local c.args.worker.now.token c.requires.bars) c.requires.owns)))
+    judged_makes (g.H.Here.reading c.args.here.now) (g.H.Here.ends c.args.here.now) c.args.time number (g.K.Keeper.contents c.args.keeper.now) c.args.table.now c.args.worker.now (g.K.Keeper.failing c.args.keeper.now) (g.K.Keeper.failing c.args.keeper.now) c.judge.result verdicts.Lacks c.lack.result c.requires.next c.in-Lacks.is c.judge.ensures.step
+    (over_none (sight (g.H.Here.reading c.args.here.now) (g.H.Here.ends c.args.here.now) c.args.time number) (g.K.Keeper.contents c.args.keeper.now) c.args.table.now c.args.worker.now (step_by verdicts.Lacks) (g.K.Keeper.failing c.args.keeper.now) c.lack.result (ended_well c.args.worker.now c.lack.new.worker c.lack.result c.lack.ensures.ended) (λ p fails rest. let t = turn_in (sight (g.H.Here.reading c.args.here.now) (g.H.Here.ends c.args.here.now) c.args.time number) c.args.table.now p fails rest c.args.worker.now in ends_none t None (lacking_outcome t) (local_closed c.args.worker.now c.args.table.now (bar_local c.args.worker.now.token c.requires.bars) c.requires.owns)))

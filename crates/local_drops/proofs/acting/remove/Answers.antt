@@ -3,10 +3,11 @@ use Rattle.std.proofs.Common.{[], ◌∷◌, None, Some, refl, sym, ap, ◌∙�
 use Rattle.annex_base.specs.declared.kinds.Call.TheVariants as calls
 use Rattle.run_data.specs.declared.entry.By.TheVariants.{Job as by_job}
 use Rattle.run_data.specs.declared.entry.EntryKind.TheVariants.{Gone}
+use Rattle.node_model.specs.Look.{failed_in}
 use Rattle.drop_phases.specs.declared.phase.Phase.TheVariants as phases
 use Rattle.drop_phases.specs.Worker.{Worker}
+use Rattle.drop_phases.specs.Doing.{removes_now}
 use Rattle.drop_phases.specs.Leaving.{store}
-use Rattle.drop_phases.specs.Working.{failed_in}
 use Rattle.drop_phases.proofs.Callings.{makes_failed, makes_last, over_is}
 use Rattle.local_drops.proofs.Removals.{removed_did}
 use Rattle.local_drops.proofs.acting.remove.Goals as goal
@@ -21,10 +22,10 @@ returns-in-Ok-clause-does g c = λ x.
 
 pub returns-in-Ok-clause-calls : goal.returns-in-Ok-clause-calls
 returns-in-Ok-clause-calls g c = λ x.
-    over_is x (g.K.Keeper.contents c.args.keeper.now) c.args.table.now c.args.worker.now (λ t. calls.Remove ∷ []) (calls.Remove ∷ []) None (g.K.Keeper.failing c.args.keeper.now) (g.K.Keeper.failing c.remove.new.keeper) c.quietly.result
+    over_is x (g.K.Keeper.contents c.args.keeper.now) c.args.table.now c.args.worker.now removes_now (calls.Remove ∷ []) None (g.K.Keeper.failing c.args.keeper.now) (g.K.Keeper.failing c.remove.new.keeper) c.quietly.result
     (λ k told rest. refl) (ap failed_in c.quietly.ensures.0) (makes_last calls.Remove (g.K.Keeper.failing c.args.keeper.now) (g.K.Keeper.failing c.remove.new.keeper) c.in-Ok.ensures.failing)
 
 pub returns-in-Err-clause-calls : goal.returns-in-Err-clause-calls
 returns-in-Err-clause-calls g c = λ x.
-    over_is x (g.K.Keeper.contents c.args.keeper.now) c.args.table.now c.args.worker.now (λ t. calls.Remove ∷ []) (calls.Remove ∷ []) (Some calls.Remove) (g.K.Keeper.failing c.args.keeper.now) (g.K.Keeper.failing c.remove.new.keeper) c.fail.result
+    over_is x (g.K.Keeper.contents c.args.keeper.now) c.args.table.now c.args.worker.now removes_now (calls.Remove ∷ []) (Some calls.Remove) (g.K.Keeper.failing c.args.keeper.now) (g.K.Keeper.failing c.remove.new.keeper) c.fail.result
     (λ k told rest. refl) (ap failed_in c.fail.ensures.says.0) (makes_failed calls.Remove [] (g.K.Keeper.failing c.args.keeper.now) (g.K.Keeper.failing c.remove.new.keeper) c.in-Err.ensures.failing)

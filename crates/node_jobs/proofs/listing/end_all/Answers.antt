@@ -20,14 +20,14 @@ ending-init c =
 pub end-requires : goal.end-requires
 end-requires c =
     let front = c.pop.new.self.items in
-    let x : DropJob = record { worker = c.job.inside.worker; known = c.job.inside.known } in
+    let x : DropJob = record { worker = c.job.inside.worker; paths = c.job.inside.paths; known = c.job.inside.known } in
     let was = c.in-Some.ensures.items ∙ ap (λ (j : DropJob). front ++ j ∷ []) (sym c.job.view_is) in
     record { owns = last_owns c.ending.table front x (subst (CanEnd c.ending.table) was c.ending.invariant.left) }
 
 pub ending-preserved : goal.ending-preserved
 ending-preserved c =
     let front = c.pop.new.self.items in
-    let x : DropJob = record { worker = c.job.inside.worker; known = c.job.inside.known } in
+    let x : DropJob = record { worker = c.job.inside.worker; paths = c.job.inside.paths; known = c.job.inside.known } in
     let was = c.in-Some.ensures.items ∙ ap (λ (j : DropJob). front ++ j ∷ []) (sym c.job.view_is) in
     let can : CanEnd c.ending.table (front ++ x ∷ []) = subst (CanEnd c.ending.table) was c.ending.invariant.left in
     let among : Each (λ (j : DropJob). Member j c.args.running.now.items) (front ++ x ∷ []) = subst (Each (λ (j : DropJob). Member j c.args.running.now.items)) was c.ending.invariant.among in

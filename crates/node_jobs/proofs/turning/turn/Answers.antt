@@ -32,6 +32,7 @@ returns-in-Ok-clause-changes g c =
       job = c.number-number.ensures ∙ ap (λ (w : Worker). w.number) c.worker.ensures;
       slot = c.slot-slot.ensures ∙ ap (λ (w : Worker). w.slot) c.worker-2.ensures;
       takes = refl;
+      paths = c.in-Ok.ensures.paths;
       acts = c.in-Ok.ensures.acts;
       steps = c.in-Ok.ensures.steps;
       stands = c.in-Ok.ensures.stands;

@@ -1,7 +1,6 @@
 -- What the proof of `stepping::act` needs beside the tactics.
 use Rattle.std.proofs.Common.{ℕ, ◌<◌, All, subst, inr, is_some, sym, ap, ◌∙◌}
 use Rattle.node_model.specs.Turns.{job_step}
-use Rattle.node_jobs.specs.Calls.{job_calls}
 use Rattle.node_steps.specs.Nodes.{told_of, beside}
 use Rattle.node_past.specs.Owing.{is_owing}
 use Rattle.node_past.specs.Stored.{store_view}
@@ -82,7 +81,7 @@ returns-clause-step g c =
     let reads = c.make_index.ensures.reads c.ledger.invariant.1 settings c.in-Some.is in
     λ x told.
     steps_if (λ x. store_view (g.K.Keeper.contents x) (g.K.Keeper.parts x) (g.K.Keeper.failing x) (g.K.Keeper.faults x))
-    job_step job_calls c.states_have_their_settings.ensures.made it.done e.result i.keeper w.new.keeper p w.new.self i.branch i.past room.new.past e.new.past room.new.debts.items e.new.debts.items
+    job_step c.states_have_their_settings.ensures.made it.done e.result i.keeper w.new.keeper p w.new.self i.branch i.past room.new.past e.new.past room.new.debts.items e.new.debts.items
     (owed_in i.past i.debts.items) (owed_in e.new.past e.new.debts.items) (beside p c.args.ledger.now) (ap (beside p) c.ledger.view_is) e.ensures.made room.ensures.same e.ensures.enters stands.kept
     (acted_does at.result i.past room.new.past p i.branch (owed_in i.past i.debts.items) (g.K.Keeper.contents i.keeper) (g.K.Keeper.parts i.keeper) settings it.done at.ensures room.ensures.same law.read reads stands.kept
     w.new.self (g.K.Keeper.contents w.new.keeper) it.ensures.step it.ensures.asked)

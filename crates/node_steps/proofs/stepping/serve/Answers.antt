@@ -2,7 +2,6 @@
 use Rattle.std.proofs.Common.{ℕ, ◌<◌, All, subst, inl, sym, ap, ◌∙◌}
 use Rattle.node_model.specs.SessionStep.{session_step}
 use Rattle.node_jobs.specs.Running.{Jobs}
-use Rattle.node_sessions.specs.Calls.{session_calls}
 use Rattle.node_steps.specs.Nodes.{told_of, beside}
 use Rattle.node_past.specs.Owing.{is_owing}
 use Rattle.node_past.specs.Stored.{store_view}
@@ -76,7 +75,7 @@ returns-clause-step g c =
     let at = c.moment_of-moment in
     λ x told.
     steps_if (λ x. store_view (g.K.Keeper.contents x) (g.K.Keeper.parts x) (g.K.Keeper.failing x) (g.K.Keeper.faults x))
-    session_step session_calls c.states_have_their_settings.ensures.made it.done e.result i.keeper w.new.keeper p w.new.self i.branch i.past room.new.past e.new.past room.new.debts.items e.new.debts.items
+    session_step c.states_have_their_settings.ensures.made it.done e.result i.keeper w.new.keeper p w.new.self i.branch i.past room.new.past e.new.past room.new.debts.items e.new.debts.items
     (owed_in i.past i.debts.items) (owed_in e.new.past e.new.debts.items) (beside p c.args.ledger.now) (ap (beside p) c.ledger.view_is) e.ensures.made room.ensures.same e.ensures.enters stands.kept
     (served_does at.result i.past room.new.past p w.new.self (g.K.Keeper.contents i.keeper) (g.K.Keeper.contents w.new.keeper) (g.K.Keeper.parts i.keeper) it.done at.ensures room.ensures.same stands.fed it.ensures.step it.ensures.asked)
     (served_calls at.result i.past room.new.past p (g.K.Keeper.contents i.keeper) (g.K.Keeper.parts i.keeper) it.done (g.K.Keeper.failing i.keeper) (g.K.Keeper.failing w.new.keeper) at.ensures room.ensures.same it.ensures.calls)

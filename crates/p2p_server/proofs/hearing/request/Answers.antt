@@ -9,7 +9,7 @@ use Rattle.std.proofs.Common.{[], ◌∷◌}
 use Rattle.node_model.specs.SessionStep.{now_of}
 use Rattle.session_state.specs.SessionCalls.{to_remove_here}
 use Rattle.std.specs.Prelude.{if◌then◌else◌, nat_lt, ◌*◌}
-use Rattle.session_state.proofs.Making.{before_calls, request_makes, request_quiet}
+use Rattle.session_state.proofs.Making.{before_calls, request_makes, request_quiet, time_calls}
 use Rattle.session_state.proofs.Leaving.{contents_left}
 use Rattle.std.proofs.Common.{sym}
 use Rattle.p2p_server.proofs.hearing.request.Goals as goal
@@ -111,7 +111,7 @@ pub returns-then-session-lt3-2-clause-calls : goal.returns-then-session-lt3-2-cl
 returns-then-session-lt3-2-clause-calls g c = rw c.in-GetTimestamp.is (c.refuse-then-session-lt3-2.ensures.calls c.args.scene _ _ _ _ (low_time c.args.session.now c.requires.waits c.if-session-lt3-2.true))
 
 pub returns-else-session-lt3-2-clause-calls : goal.returns-else-session-lt3-2-clause-calls
-returns-else-session-lt3-2-clause-calls g c = rw c.in-GetTimestamp.is (request_quiet c.args.scene _ c.args.session.now c.args.table.now _ _ _ _ c.requires.waits (λ h. refl) (rw c.time.ensures.says refl))
+returns-else-session-lt3-2-clause-calls g c = rw c.in-GetTimestamp.is (request_quiet c.args.scene _ c.args.session.now c.args.table.now _ _ _ _ c.requires.waits (λ h. time_calls h c.args.session.now.spoken) (rw c.time.ensures.says refl))
 
 pub returns-then-session-lt1-clause-calls : goal.returns-then-session-lt1-clause-calls
 returns-then-session-lt1-clause-calls g c = rw c.in-Get.is (c.refuse-then-session-lt1.ensures.calls c.args.scene _ _ _ _ (low_get c.args.session.now _ _ _ c.requires.waits c.if-session-lt1.true))

@@ -30,6 +30,6 @@ returns-in-None-clause-did g c =
 pub returns-in-None-clause-calls : goal.returns-in-None-clause-calls
 returns-in-None-clause-calls g c = λ number.
     order_makes (g.H.Here.reading c.args.here.now) (g.H.Here.ends c.args.here.now) c.args.time number c.args.table.now c.args.worker.now c.args.target c.args.now c.requires.stands.remote c.requires.at None (g.K.Keeper.failing c.args.keeper.now) c.order.result
-    c.requires.early (sym c.in-None.is ∙ c.in_ok-locks_end.ensures) (λ t read clocks time. refl)
+    c.requires.early (sym c.in-None.is ∙ c.in_ok-locks_end.ensures) (λ t f clocks time. refl)
     (spoken_well c.args.worker.now c.order.new.worker c.order.result (IfOk-weaker c.order.result (Says (order_of (g.H.Here.reading c.args.here.now).need c.args.worker.now c.args.target None) c.args.target c.args.worker.now c.order.new.worker) (Speaks c.args.worker.now c.order.new.worker) (λ out s. order_speaks (g.H.Here.reading c.args.here.now) c.args.worker.now c.order.new.worker c.args.target None out s)
     c.order.ensures.says))

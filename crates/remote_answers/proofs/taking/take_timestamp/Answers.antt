@@ -1,5 +1,5 @@
 -- What the proof of `remote_taking::take_timestamp` needs beside the tactics.
-use Rattle.std.proofs.Common.{refl}
+use Rattle.std.proofs.Common.{None, refl}
 use Rattle.p2p_wire.specs.declared.message.Message.TheVariants.{Timestamp}
 use Rattle.drop_phases.specs.declared.turn.Taken.TheVariants as takens
 use Rattle.drop_phases.specs.Leaving.{store}
@@ -23,7 +23,7 @@ returns-then-now-ge-NO_TIME-clause-did g c =
     (TakesRemote read ends c.args.time c.args.table.now c.args.table.now target (takens.Message m) w w') c.shut.result c.requires.stands
     (at_rows read ends c.args.time c.args.table.now target (takens.Message m) w w' c.shut.result
     (lost_takes read ends c.args.time w w' target target m c.shut.result c.requires.stands.remote c.shut.ensures.shuts (λ rest f line. rw c.requires.at refl) (rw c.requires.at c.requires.stands.remote.peer)
-    (λ x rows p rest f. no_time x rows p rest w f target c.args.now c.requires.stands.remote c.requires.at c.if-now-ge-NO_TIME.true)))
+    (λ x rows p rest f. no_time x rows p None rest w f target c.args.now c.requires.stands.remote c.requires.at c.if-now-ge-NO_TIME.true)))
     (shuts_speaks w w' target target c.shut.result c.shut.ensures.shuts) c.shut.ensures.err
 
 pub returns-then-now-ge-NO_TIME-clause-calls : goal.returns-then-now-ge-NO_TIME-clause-calls

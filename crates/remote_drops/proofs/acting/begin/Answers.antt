@@ -1,39 +1,20 @@
--- Its own repository isn't asked.
-use Rattle.std.proofs.Common.{refl, subst, sym, ap, ◌∙◌}
-use Rattle.node_model.specs.Evidence as seen
-use Rattle.drop_phases.specs.declared.phase.Phase.{Phase}
-use Rattle.drop_phases.specs.Leaving.{store}
-use Rattle.drop_phases.specs.Feeding.{FitsRemote}
-use Rattle.drop_phases.specs.Standings.{standing_of}
-use Rattle.drop_phases.specs.Working.{failed_in, sight}
-use Rattle.remote_drops.proofs.RemoteCalls.{skipped_makes}
-use Rattle.remote_drops.proofs.Sharings.{skipped_did}
+-- What its target requires.
+use Rattle.std.proofs.Common.{sym, ap, ◌∙◌}
+use Rattle.std.specs.Option.{option_copied}
+use Rattle.drop_phases.proofs.Numbers.{each_number}
 use Rattle.remote_drops.proofs.acting.begin.Goals as goal
 
-pub returns-in-Claimed-clause-did : goal.returns-in-Claimed-clause-did
-returns-in-Claimed-clause-did g c =
-    let read = g.H.Here.reading c.args.here.now in
-    let w = c.args.worker.now in
-    skipped_did (sight read (g.H.Here.ends c.args.here.now) c.args.input.now.time c.args.input.now.number) c.args.table.now c.args.table.now
-    (store (g.K.Keeper.contents c.args.keeper.now) (g.K.Keeper.records c.args.keeper.now) (g.K.Keeper.faults c.args.keeper.now)) (store (g.K.Keeper.contents c.args.keeper.now) (g.K.Keeper.records c.args.keeper.now) (g.K.Keeper.faults c.args.keeper.now)) w c.pass_by.new.worker
-    c.args.target c.requires.stands.remote c.requires.at (subst (λ (ph : Phase). FitsRemote ph w.token) c.requires.at c.requires.stands.fits) c.requires.stands.owns seen.Claimed c.pass_by.result refl (λ t. refl)
-    (ap read.standing (sym c.repo.ensures) ∙ (sym c.standing.ensures ∙ ap standing_of c.in-Claimed.is)) c.pass_by.ensures.says.0 c.pass_by.ensures.says.1 c.pass_by.ensures.next refl refl c.requires.stands.agrees
+pub end_required-requires-clause-required : goal.end_required-requires-clause-required
+end_required-requires-clause-required g c = sym c.required.ensures ∙ ap option_copied c.in-Some.is
 
-pub returns-in-Ignored-clause-did : goal.returns-in-Ignored-clause-did
-returns-in-Ignored-clause-did g c =
-    let read = g.H.Here.reading c.args.here.now in
-    let w = c.args.worker.now in
-    skipped_did (sight read (g.H.Here.ends c.args.here.now) c.args.input.now.time c.args.input.now.number) c.args.table.now c.args.table.now
-    (store (g.K.Keeper.contents c.args.keeper.now) (g.K.Keeper.records c.args.keeper.now) (g.K.Keeper.faults c.args.keeper.now)) (store (g.K.Keeper.contents c.args.keeper.now) (g.K.Keeper.records c.args.keeper.now) (g.K.Keeper.faults c.args.keeper.now)) w c.pass_by-in-Ignored.new.worker
-    c.args.target c.requires.stands.remote c.requires.at (subst (λ (ph : Phase). FitsRemote ph w.token) c.requires.at c.requires.stands.fits) c.requires.stands.owns (seen.Ignored c.in-Ignored.field-0) c.pass_by-in-Ignored.result refl (λ t. refl)
-    (ap read.standing (sym c.repo.ensures) ∙ (sym c.standing.ensures ∙ ap standing_of c.in-Ignored.is)) c.pass_by-in-Ignored.ensures.says.0 c.pass_by-in-Ignored.ensures.says.1 c.pass_by-in-Ignored.ensures.next refl refl c.requires.stands.agrees
+pub try_own-requires-clause-spared : goal.try_own-requires-clause-spared
+try_own-requires-clause-spared g c = sym c.required.ensures ∙ ap option_copied c.in-None.is
 
-pub returns-in-Claimed-clause-calls : goal.returns-in-Claimed-clause-calls
-returns-in-Claimed-clause-calls g c =
-    skipped_makes (sight (g.H.Here.reading c.args.here.now) (g.H.Here.ends c.args.here.now) c.args.input.now.time c.args.input.now.number) (g.K.Keeper.contents c.args.keeper.now) c.args.table.now c.args.worker.now (g.K.Keeper.failing c.args.keeper.now) (g.K.Keeper.failing c.args.keeper.now) c.requires.stands.remote.side c.requires.at seen.Claimed c.pass_by.result (λ t. refl)
-    (ap (g.H.Here.reading c.args.here.now).standing (sym c.repo.ensures) ∙ (sym c.standing.ensures ∙ ap standing_of c.in-Claimed.is)) (ap failed_in c.pass_by.ensures.says.0)
+pub returns-in-Some-clause-did : goal.returns-in-Some-clause-did
+returns-in-Some-clause-did g c = c.end_required.ensures.did c.args.input.now.number
 
-pub returns-in-Ignored-clause-calls : goal.returns-in-Ignored-clause-calls
-returns-in-Ignored-clause-calls g c =
-    skipped_makes (sight (g.H.Here.reading c.args.here.now) (g.H.Here.ends c.args.here.now) c.args.input.now.time c.args.input.now.number) (g.K.Keeper.contents c.args.keeper.now) c.args.table.now c.args.worker.now (g.K.Keeper.failing c.args.keeper.now) (g.K.Keeper.failing c.args.keeper.now) c.requires.stands.remote.side c.requires.at (seen.Ignored c.in-Ignored.field-0) c.pass_by-in-Ignored.result (λ t. refl)
-    (ap (g.H.Here.reading c.args.here.now).standing (sym c.repo.ensures) ∙ (sym c.standing.ensures ∙ ap standing_of c.in-Ignored.is)) (ap failed_in c.pass_by-in-Ignored.ensures.says.0)
+pub returns-in-Some-clause-numbered : goal.returns-in-Some-clause-numbered
+returns-in-Some-clause-numbered g c = each_number c.args.input.now.number c.end_required.result c.end_required.ensures.numbered
+
+pub returns-in-Some-clause-calls : goal.returns-in-Some-clause-calls
+returns-in-Some-clause-calls g c = c.end_required.ensures.calls c.args.input.now.number

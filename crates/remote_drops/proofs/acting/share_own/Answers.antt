@@ -1,5 +1,6 @@
 -- Why there is no share.
 use Rattle.std.proofs.Common.{ℕ, List, ◌∷◌, subst, ap, ◌∙◌}
+use Rattle.node_model.specs.Look.{failed_in}
 use Rattle.content_lock.specs.Looks.{LooksSo, NotShared}
 use Rattle.content_lock.specs.declared.refusals.Look.TheVariants as looks
 use Rattle.content_lock.specs.Rows.{bar_at}
@@ -11,7 +12,7 @@ use Rattle.drop_phases.specs.Leaving.{store}
 use Rattle.drop_phases.specs.Feeding.{FitsRemote}
 use Rattle.remote_requests.specs.Remote.{FollowsShareRefused}
 use Rattle.drop_phases.specs.Worker.{Worker}
-use Rattle.drop_phases.specs.Working.{failed_in, sight}
+use Rattle.drop_phases.specs.Working.{sight}
 use Rattle.remote_drops.proofs.RemoteCalls.{shared_makes, unshared_makes}
 use Rattle.remote_drops.proofs.Sharings.{unshared_did}
 use Rattle.remote_drops.proofs.acting.share_own.Goals as goal
@@ -22,7 +23,7 @@ returns-in-Err-clause-did g c =
     let w = c.args.worker.now in
     unshared_did (sight read (g.H.Here.ends c.args.here.now) c.args.input.now.time c.args.input.now.number) c.args.table.now c.share.new.self
     (store (g.K.Keeper.contents c.args.keeper.now) (g.K.Keeper.records c.args.keeper.now) (g.K.Keeper.faults c.args.keeper.now)) (store (g.K.Keeper.contents c.share.new.keeper) (g.K.Keeper.records c.share.new.keeper) (g.K.Keeper.faults c.share.new.keeper)) w c.unshared.new.worker
-    c.args.target c.requires.stands.remote c.requires.at (subst (λ (ph : Phase). FitsRemote ph w.token) c.requires.at c.requires.stands.fits) c.requires.stands.owns c.requires.asked
+    c.args.target c.requires.stands.remote c.requires.at (subst (λ (ph : Phase). FitsRemote ph w.token) c.requires.at c.requires.stands.fits) c.requires.stands.owns c.requires.spared c.requires.asked
     c.in-Err.ensures.err c.in-Err.ensures.contents c.in-Err.ensures.err_records c.requires.stands.agrees c.in-Err.ensures.later c.in-Err.why c.unshared.result
     (subst (λ (key : List ℕ). NotShared c.in-Err.why (HasContent (g.K.Keeper.contents c.args.keeper.now) key) (bar_at c.args.table.now key)) (c.key-3.ensures ∙ ap (λ (u : Worker). u.job.key) c.in_ok-hear.ensures.ok) c.in-Err.ensures.why)
     c.in-Err.ensures.cause
@@ -31,12 +32,12 @@ returns-in-Err-clause-did g c =
 
 pub returns-in-Ok-clause-calls : goal.returns-in-Ok-clause-calls
 returns-in-Ok-clause-calls g c =
-    shared_makes (sight (g.H.Here.reading c.args.here.now) (g.H.Here.ends c.args.here.now) c.args.input.now.time c.args.input.now.number) (g.K.Keeper.contents c.args.keeper.now) c.args.table.now c.args.worker.now (g.K.Keeper.failing c.args.keeper.now) (g.K.Keeper.failing c.share.new.keeper) c.requires.stands.remote.side c.requires.at c.requires.asked c.quietly.result
+    shared_makes (sight (g.H.Here.reading c.args.here.now) (g.H.Here.ends c.args.here.now) c.args.input.now.time c.args.input.now.number) (g.K.Keeper.contents c.args.keeper.now) c.args.table.now c.args.worker.now (g.K.Keeper.failing c.args.keeper.now) (g.K.Keeper.failing c.share.new.keeper) c.requires.stands.remote.side c.requires.at c.requires.spared c.requires.asked c.quietly.result
     (subst (λ (key : List ℕ). LooksSo looks.Present (HasContent (g.K.Keeper.contents c.args.keeper.now) key) (bar_at c.args.table.now key)) (c.key-3.ensures ∙ ap (λ (u : Worker). u.job.key) c.in_ok-hear.ensures.ok) c.in-Ok.ensures.free)
     (ap failed_in c.quietly.ensures.0) c.in-Ok.ensures.failing
 
 pub returns-in-Err-clause-calls : goal.returns-in-Err-clause-calls
 returns-in-Err-clause-calls g c =
-    unshared_makes (sight (g.H.Here.reading c.args.here.now) (g.H.Here.ends c.args.here.now) c.args.input.now.time c.args.input.now.number) (g.K.Keeper.contents c.args.keeper.now) c.args.table.now c.args.worker.now (g.K.Keeper.failing c.args.keeper.now) (g.K.Keeper.failing c.share.new.keeper) c.requires.stands.remote.side c.requires.at c.requires.asked c.hear.new.self c.unshared.new.worker c.in-Err.why c.unshared.result
+    unshared_makes (sight (g.H.Here.reading c.args.here.now) (g.H.Here.ends c.args.here.now) c.args.input.now.time c.args.input.now.number) (g.K.Keeper.contents c.args.keeper.now) c.args.table.now c.args.worker.now (g.K.Keeper.failing c.args.keeper.now) (g.K.Keeper.failing c.share.new.keeper) c.requires.stands.remote.side c.requires.at c.requires.spared c.requires.asked c.hear.new.self c.unshared.new.worker c.in-Err.why c.unshared.result
     (subst (λ (key : List ℕ). NotShared c.in-Err.why (HasContent (g.K.Keeper.contents c.args.keeper.now) key) (bar_at c.args.table.now key)) (c.key-3.ensures ∙ ap (λ (u : Worker). u.job.key) c.in_ok-hear.ensures.ok) c.in-Err.ensures.why)
     c.unshared.ensures c.in-Err.ensures.failing

@@ -1,11 +1,12 @@
 -- What the end does and leaves, by what the job has.
 use Rattle.std.proofs.Common.{sym, ap, subst, ◌∙◌, arith, true, refl}
 use Rattle.run_data.specs.declared.entry.EntryKind.TheVariants.{End}
+use Rattle.node_model.specs.Look.{failed_in}
 use Rattle.drop_phases.specs.declared.phase.Token.{Token}
 use Rattle.drop_phases.specs.Doing.{HasToken}
 use Rattle.drop_phases.specs.Leaving.{store}
 use Rattle.drop_phases.specs.Worker.{Worker}
-use Rattle.drop_phases.specs.Working.{failed_in, partings}
+use Rattle.drop_phases.specs.Working.{partings}
 use Rattle.drop_phases.specs.declared.turn.Output.{Output}
 use Rattle.remote_requests.proofs.EndCalls.{bare_makes, lost_makes, released_makes, unreleased_makes}
 use Rattle.remote_requests.proofs.RemoteEndings.{agrees_still, bare_did, failed_did, lost_did, released_did}

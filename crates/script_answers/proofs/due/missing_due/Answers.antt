@@ -1,17 +1,19 @@
 -- The first command for which a part is missing stands on a line, which is named.
-use Rattle.std.proofs.Common.{length, ap, sym, ◌∙◌, arith}
-use Rattle.std.specs.Prelude.{slice_get}
-use Rattle.driver_script.specs.Lines.{repos_of}
+use Rattle.std.proofs.Common.{[], length, ap, sym, ◌∙◌, arith}
+use Rattle.std.specs.Prelude.{not, slice_get}
+use Rattle.std.proofs.lemmas.List.Quantifiers.{position-Some}
+use Rattle.script_commands.specs.declared.command.Command.TheVariants.{Par}
+use Rattle.driver_script.specs.Lines.{is_built}
 use Rattle.driver_script.specs.Script.{IsUnbuilt}
 use Rattle.script_answers.proofs.DueLemmas.{HaveOneReading, due_by, missing_is_due}
 use Rattle.script_answers.proofs.GoodLemmas.{good_where_ok, missing_has_none}
-use Rattle.script_answers.proofs.PlaceLemmas.{first_within}
 use Rattle.script_answers.proofs.due.missing_due.Goals as goal
 
 pub line_at-requires : goal.line_at-requires
 line_at-requires c =
     let long = ap length (c.deref.ensures.value ∙ c.in_ok-numbers.ensures) ∙ c.commands_have_lines.ensures c.args.bytes.now c.args._script.now c.requires.says in
-    omega (arith, long, first_within (repos_of c.args._script.now) c.args._script.now c.args.place c.requires.first)
+    let within = (position-Some (λ command. not (is_built command)) c.args._script.now c.args.place (Par []) c.requires.first).0 in
+    omega (arith, long, within)
 
 pub returns-clause-due : goal.returns-clause-due
 returns-clause-due c =

@@ -21,8 +21,8 @@ report-requires-clause-ahead c = run_ahead c.args.ran.now.run c.requires.run.law
 
 pub report-requires-clause-few : goal.report-requires-clause-few
 report-requires-clause-few c =
-    let is : IsScript c.args._bytes.now c.args.script.now c.requires.run.lines = record { says = c.requires.says; built = c.requires.run.are } in
-    let few = c.scripts_may_be_driven.ensures.few c.args._bytes.now c.args.script.now c.requires.run.lines is in
+    let is : IsScript c.args._bytes.now c.args.script.now = record { says = c.requires.says; built = c.requires.run.built } in
+    let few = c.scripts_may_be_driven.ensures.few c.args._bytes.now c.args.script.now is in
     let same = ap length (run_has_repos c.args._bytes.now c.args.script.now _ c.args.ran.now.run c.requires.says c.requires.run) in
     omega (arith, few, same)
 

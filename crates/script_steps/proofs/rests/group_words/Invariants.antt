@@ -1,6 +1,6 @@
 -- What the groups so far and the words that are left say is what all words said.
 use Rattle.std.proofs.Common.{◌≡◌, ◌+◌, ◌-◌, length, []}
-use Rattle.script_commands.specs.Steps as spec
+use Rattle.script_forms.specs.Steps as spec
 use Rattle.script_steps.proofs.rests.group_words.Given as goal
 
 abbrev pub invariant-loop : goal.invariant-loop

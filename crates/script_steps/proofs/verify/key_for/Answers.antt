@@ -5,7 +5,7 @@ use Rattle.annex_key.specs.KeyText.{key_text}
 use Rattle.key_verify.specs.Digests.{key_method}
 use Rattle.key_verify.specs.MakingKeys as making
 use Rattle.key_verify.specs.declared.method.Method.TheVariants as methods
-use Rattle.script_commands.specs.Verify.{made_key}
+use Rattle.script_forms.specs.Verify.{made_key}
 use Rattle.script_steps.proofs.verify.key_for.Goals as goal
 
 abbrev some_key : List ℕ

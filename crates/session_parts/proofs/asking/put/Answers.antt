@@ -5,7 +5,8 @@ use Rattle.std.proofs.lemmas.Result.{IfOk-weaker}
 use Rattle.annex_base.specs.declared.kinds.Call.TheVariants as calls
 use Rattle.annex_base.proofs.Results.{IfOk-both, OnErr-always}
 use Rattle.node_model.specs.Calls.{to_resume}
-use Rattle.session_state.specs.Answers.{failed_in, here_of}
+use Rattle.session_state.specs.Answers.{here_of}
+use Rattle.node_model.specs.Look.{failed_in}
 use Rattle.content_lock.specs.CallsMade.{fewer}
 use Rattle.session_state.proofs.Calling.{makes_first, makes_one, unfailed}
 use Rattle.session_parts.proofs.asking.put.Goals as goal

@@ -1,10 +1,10 @@
 -- By whether bytes are asked for.
-use Rattle.std.proofs.Common.{[], ap, sym, ◌∙◌}
-use Rattle.std.proofs.lemmas.Bool.{cond-true, le-leb}
+use Rattle.std.proofs.Common.{ap, sym, ◌∙◌}
+use Rattle.std.proofs.lemmas.Bool.{le-leb}
 use Rattle.session_state.proofs.Waiting.{in_phase, put_so, wanting_of}
 use Rattle.node_model.specs.Calls.{to_offer}
 use Rattle.node_model.specs.SessionStep.{is_here}
-use Rattle.session_state.proofs.Making.{request_makes}
+use Rattle.session_state.proofs.Making.{put_calls, request_makes}
 use Rattle.session_parts.proofs.coming.put.Goals as goal
 
 pub returns-in-Some-clause-goes : goal.returns-in-Some-clause-goes
@@ -30,14 +30,14 @@ returns-in-Some-clause-calls g c = λ file.
     let r = c.in_ok-step.ensures in
     let key = c.args.key.now in
     request_makes c.args.scene _ c.args.session.now c.args.table.now _ _ _ _ c.in_ok-step.step (λ h. to_offer h.part (is_here h key) (h.filled key)) c.requires.waits
-    (λ h. cond-true _ (to_offer h.part (is_here h key) (h.filled key)) [] (le-leb 1 c.args.session.now.spoken c.requires.spoken)) (λ k is part right sees. r.calls k is part sees) r.left
+    (λ h. put_calls h c.args.session.now.spoken file key (le-leb 1 c.args.session.now.spoken c.requires.spoken)) (λ k is part right sees. r.calls k is part sees) r.left
 
 pub returns-in-None-clause-calls : goal.returns-in-None-clause-calls
 returns-in-None-clause-calls g c = λ file.
     let r = c.in_ok-step.ensures in
     let key = c.args.key.now in
     request_makes c.args.scene _ c.args.session.now c.args.table.now _ _ _ _ c.in_ok-step.step (λ h. to_offer h.part (is_here h key) (h.filled key)) c.requires.waits
-    (λ h. cond-true _ (to_offer h.part (is_here h key) (h.filled key)) [] (le-leb 1 c.args.session.now.spoken c.requires.spoken)) (λ k is part right sees. r.calls k is part sees) r.left
+    (λ h. put_calls h c.args.session.now.spoken file key (le-leb 1 c.args.session.now.spoken c.requires.spoken)) (λ k is part right sees. r.calls k is part sees) r.left
 
 pub returns-in-Some-clause-contents : goal.returns-in-Some-clause-contents
 returns-in-Some-clause-contents g c = c.put.ensures.contents ∙ sym (c.in_ok-step.ensures.leaves _ _)

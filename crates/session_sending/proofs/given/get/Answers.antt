@@ -1,9 +1,9 @@
 -- By whether the content can be read.
 use Rattle.std.proofs.Common.{[], ◌∷◌, ap, sym, ◌∙◌}
-use Rattle.std.proofs.lemmas.Bool.{cond-true, le-leb}
+use Rattle.std.proofs.lemmas.Bool.{le-leb}
 use Rattle.session_state.proofs.Waiting.{get_so, giving_of, in_phase, spoken_of}
 use Rattle.annex_base.specs.declared.kinds.Call.TheVariants as calls
-use Rattle.session_state.proofs.Making.{request_makes}
+use Rattle.session_state.proofs.Making.{get_calls, request_makes}
 use Rattle.session_sending.proofs.given.get.Goals as goal
 
 pub returns-in-Some-clause-goes : goal.returns-in-Some-clause-goes
@@ -28,13 +28,13 @@ pub returns-in-Some-clause-calls : goal.returns-in-Some-clause-calls
 returns-in-Some-clause-calls g c = λ file.
     let r = c.in_ok-step.ensures in
     request_makes c.args.scene _ c.args.session.now c.args.table.now _ _ _ _ c.in_ok-step.step (λ h. calls.Size ∷ []) c.requires.waits
-    (λ h. cond-true _ (calls.Size ∷ []) [] (le-leb 1 c.args.session.now.spoken c.requires.spoken)) (λ k is part right sees. r.calls) r.calls.left
+    (λ h. get_calls h c.args.session.now.spoken _ file _ (le-leb 1 c.args.session.now.spoken c.requires.spoken)) (λ k is part right sees. r.calls) r.calls.left
 
 pub returns-in-None-clause-calls : goal.returns-in-None-clause-calls
 returns-in-None-clause-calls g c = λ file.
     let r = c.in_ok-step.ensures in
     request_makes c.args.scene _ c.args.session.now c.args.table.now _ _ _ _ c.in_ok-step.step (λ h. calls.Size ∷ []) c.requires.waits
-    (λ h. cond-true _ (calls.Size ∷ []) [] (le-leb 1 c.args.session.now.spoken c.requires.spoken)) (λ k is part right sees. r.calls) r.calls.left
+    (λ h. get_calls h c.args.session.now.spoken _ file _ (le-leb 1 c.args.session.now.spoken c.requires.spoken)) (λ k is part right sees. r.calls) r.calls.left
 
 pub returns-in-Some-clause-contents : goal.returns-in-Some-clause-contents
 returns-in-Some-clause-contents g c = c.get.ensures.contents ∙ sym (c.in_ok-step.ensures.leaves _ _)

@@ -4,7 +4,7 @@ use Rattle.repo_node.specs.Stored.{StoreView, store_view}
 use Rattle.driver_model.specs.Driving.{with_mark}
 use Rattle.fleet_run.specs.Commands.{does_command}
 use Rattle.fleet_run.proofs.Cutting.{meets_none}
-use Rattle.fleet_run.proofs.Full.{few_in, ok_or_err, rest_then, rest_where_same, same_err}
+use Rattle.fleet_run.proofs.Full.{behind_same, few_in, ok_or_err, same_err}
 use Rattle.fleet_run.specs.AtDriver.{most_lines}
 use Rattle.fleet_run.proofs.Driving.{driven_within}
 use Rattle.fleet_run.proofs.Marked.{driven_behind, driven_marked, marked_once}
@@ -21,7 +21,7 @@ does-requires-clause-driven g c =
 pub mark-requires : goal.mark-requires
 mark-requires g c =
     let tells : g.row.K.Denot → StoreView = λ k. store_view (g.K.Keeper.contents k) (g.K.Keeper.parts k) (g.K.Keeper.failing k) (g.K.Keeper.faults k) in
-    record { driven = driven_behind tells c.args.command.now c.args.self.now c.does.new.self c.requires.few c.requires.driven c.in_ok-does.ensures.ok }
+    record { driven = driven_behind tells c.args.command.now c.requires.may.built c.args.self.now c.does.new.self c.requires.few c.requires.driven c.in_ok-does.ensures.ok }
 
 pub returns : goal.returns
 returns g c =
@@ -29,9 +29,9 @@ returns g c =
     let goes = goes_twice tells (does_command c.args.command.now) (λ g d. with_mark d) c.args.self.now c.does.new.self c.mark.new.self c.in_ok-does.ensures.ok c.in_ok-mark.ensures.ok in
     record {
       ok = goes;
-      marked = driven_marked tells c.args.command.now c.args.self.now c.mark.new.self c.runs_are_cut_where_histories_are_full.ensures.marks c.requires.driven goes;
+      marked = driven_marked tells c.args.command.now c.requires.may.built c.args.self.now c.mark.new.self c.runs_are_cut_where_histories_are_full.ensures.marks c.requires.driven goes;
       marks = marked_once tells c.args.command.now c.args.self.now c.mark.new.self c.runs_are_cut_where_histories_are_full.ensures.marks c.requires.driven goes;
-      within = meets_none tells c.args.command.now c.args.self.now c.does.new.self c.runs_are_cut_where_histories_are_full.ensures.few c.in_ok-does.ensures.room c.in_ok-does.ensures.ok
+      within = meets_none tells c.args.command.now c.args.self.now c.does.new.self c.built_lines_are_plain.ensures.line c.requires.may.built c.runs_are_cut_where_histories_are_full.ensures.few c.in_ok-does.ensures.room c.in_ok-does.ensures.ok
           (few_in c.self.inside.nodes c.self.inside.run c.does.new.self c.self.view_is c.histories_are_few.ensures);
       full = λ r e. absurd (ok_or_err _ _ e);
       stopped = tt;
@@ -56,4 +56,4 @@ returns-in_err-mark-clause-stopped g c =
 
 pub returns-in_err-mark-clause-kept : goal.returns-in_err-mark-clause-kept
 returns-in_err-mark-clause-kept g c =
-    always_err _ _ (rest_then c.args.self.now c.does.new.self c.mark.new.self c.does.ensures.rest (rest_where_same c.does.new.self c.mark.new.self c.in_err-mark.ensures.err))
+    always_err _ _ (behind_same c.args.self.now c.does.new.self c.mark.new.self c.does.ensures.rest c.in_err-mark.ensures.err)

@@ -6,7 +6,7 @@ use Rattle.joined_nodes.proofs.nodes.Nodes.begin.Goals as goal
 
 pub invariant_of-self : goal.invariant_of-self
 invariant_of-self g c =
-    let keeps : Keeps c.index_mut.result.now c.begin.new.self = begin_keeps c.begin.result (λ number. Begin number c.args.job) c.args.job c.index_mut.result.now c.begin.new.self c.begin.ensures.ok c.begin.ensures.err in
+    let keeps : Keeps c.index_mut.result.now c.begin.new.self = begin_keeps c.begin.result (λ number. Begin number c.args.job) c.args.job c.args.paths c.index_mut.result.now c.begin.new.self c.begin.ensures.ok c.begin.ensures.err in
     c.nodes_stay_joined.ensures c.self.inside.nodes.items c.args.repo c.index_mut.result.now c.begin.new.self c.self.invariant
     (read_at c.args.self.now c.self.inside.nodes.items c.args.repo c.index_mut.result.now c.self.view_is c.requires.there c.index_mut.ensures.value)
     keeps.setup (stay_paired c.index_mut.result.now c.begin.new.self keeps)

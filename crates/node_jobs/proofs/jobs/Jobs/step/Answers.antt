@@ -1,17 +1,20 @@
 -- The first job that has a step.
 use Rattle.std.proofs.Common.{Option, Some, None, sym, ap, subst, refl}
+use Rattle.std.specs.Option.{option_map}
 use Rattle.annex_base.specs.Lists.{Each}
 use Rattle.annex_base.proofs.Lists.{Each-weaker}
+use Rattle.annex_base.proofs.Options.{none_and_some}
 use Rattle.trust_groups.specs.View.{settings_of}
+use Rattle.node_model.specs.Look.{as_told}
+use Rattle.node_model.specs.Turns.{job_step}
 use Rattle.drop_worker.specs.Doing.{HasToken}
 use Rattle.node_jobs.specs.declared.finding.Found.{Found}
 use Rattle.node_jobs.specs.Acting.{SeesActed, SeesJobs, StepsJobs}
-use Rattle.node_jobs.specs.Calls.{job_calls}
 use Rattle.node_jobs.specs.Finding.{Finds}
 use Rattle.node_jobs.specs.Leaving.{Leaves}
 use Rattle.node_jobs.specs.Running.{DropJob, IsOwn, Jobs, OwnAll}
 use Rattle.node_jobs.proofs.Owning.{leaves_after, owns_after}
-use Rattle.node_jobs.proofs.Stepping.{all_left, calls_so, kind_is, first_of_found, in_a_slot, none_calls, none_made, none_steps, sees_each, steps_jobs, takes_waiting}
+use Rattle.node_jobs.proofs.Stepping.{all_left, calls_so, kind_is, first_of_found, in_a_slot, none_steps, sees_each, steps_jobs, takes_waiting}
 use Rattle.node_jobs.proofs.jobs.Jobs.step.Goals as goal
 
 pub returns-in_default-clause-step : goal.returns-in_default-clause-step
@@ -19,19 +22,20 @@ returns-in_default-clause-step g c = λ x tells s st k sees keeps acted.
     let jobs : Jobs = c.args.self.now in
     let same = ap (λ (js : Jobs). js.running) c.self.view_is in
     record {
-      made = none_steps jobs.place c.args.clock c.args.ends.now jobs.running c.args.time c.args.table.now x s st k
+      made = ap (option_map as_told) (none_steps jobs.place c.args.clock c.args.ends.now jobs.running c.args.time c.args.table.now x s st k
           (subst (λ (js : Jobs). Finds js.place c.args.clock c.args.ends.now js.running c.args.time None) c.self.view_is (subst (λ (o : Option Found). Finds c.self.inside.place c.args.clock c.args.ends.now c.self.inside.running.items c.args.time o) c.in_default.is (rw c.deref.ensures.value at c.in_ok-found.ensures.finds)))
-          (sees_each c.args.ends.now c.args.clock (settings_of c.args.settings.now) jobs c.args.number c.args.time s st k sees) keeps sees.works.works;
+          (sees_each c.args.ends.now c.args.clock (settings_of c.args.settings.now) jobs c.args.number c.args.time s st k sees) keeps sees.works.works);
       works = refl;
     }
 
 pub returns-in_default-clause-calls : goal.returns-in_default-clause-calls
-returns-in_default-clause-calls g c = λ x tells s st k sees keeps acted.
+returns-in_default-clause-calls g c = λ x tells s st k sees keeps acted m made.
     let jobs : Jobs = c.args.self.now in
-    none_made (job_calls s st k) (g.K.Keeper.failing c.args.keeper.now)
-    (none_calls jobs.place c.args.clock c.args.ends.now jobs.running c.args.time c.args.table.now x s st k
+    absurd (none_and_some (job_step s st k) m
+    (none_steps jobs.place c.args.clock c.args.ends.now jobs.running c.args.time c.args.table.now x s st k
     (subst (λ (js : Jobs). Finds js.place c.args.clock c.args.ends.now js.running c.args.time None) c.self.view_is (subst (λ (o : Option Found). Finds c.self.inside.place c.args.clock c.args.ends.now c.self.inside.running.items c.args.time o) c.in_default.is (rw c.deref.ensures.value at c.in_ok-found.ensures.finds)))
     (sees_each c.args.ends.now c.args.clock (settings_of c.args.settings.now) jobs c.args.number c.args.time s st k sees) keeps sees.works.works)
+    made)
 
 pub returns-in_default-clause-left : goal.returns-in_default-clause-left
 returns-in_default-clause-left g c = all_left (g.K.Keeper.failing c.args.keeper.now)

@@ -6,12 +6,12 @@ use Rattle.std.specs.Option.{ForSome, option_map}
 use Rattle.run_data.specs.declared.entry.EntryKind.{EntryKind}
 use Rattle.trust_groups.specs.View.{settings_of}
 use Rattle.link_ring.specs.Ends.{EndView}
-use Rattle.drop_worker.specs.Working.{failed_in}
+use Rattle.node_model.specs.Look.{Effect, failed_in}
+use Rattle.node_model.specs.Turns.{job_step}
 use Rattle.content_lock.specs.CallsMade.{MakesCalls, fewer}
 use Rattle.node_ends.specs.Joined.{StayPaired}
 use Rattle.node_jobs.specs.declared.acted.Acted.{Acted}
-use Rattle.node_jobs.specs.Acting.{IsKindOf}
-use Rattle.node_jobs.specs.Calls.{failed_by as failed_by_acted, job_calls}
+use Rattle.node_jobs.specs.Acting.{IsKindOf, failed_by as failed_by_acted}
 use Rattle.node_jobs.specs.Leaving.{LeavesSo as LeavesJobsSo}
 use Rattle.node_parts.specs.declared.done.Done.{Done}
 use Rattle.node_parts.specs.Jobs.{JobsGoOn}
@@ -73,7 +73,7 @@ returns-in-None-clause-calls g c =
     let after = g.K.Keeper.failing c.step.new.keeper in
     let view = settings_of c.args.settings.now in
     let m = c.args.moment in
-    subst (λ (p : PartsView). ForSome known (λ x. WhereActed p x m.clock view m.time m.number None (λ s st k. MakesCalls (job_calls s st k) None before after))) c.self.view_is
+    subst (λ (p : PartsView). ForSome known (λ x. WhereActed p x m.clock view m.time m.number None (λ s st k. ForSome (job_step s st k) (λ (m : Effect). MakesCalls m.calls None before after)))) c.self.view_is
     (calls_none c.nameless_are_asked.ensures c.local_drops_send_where_there_is_room.ensures c.jobs_make_their_own_entries.ensures c.ends_go_on.ensures.ends c.sessions_stay.ensures
     was was m.clock view m.time m.number known known before after c.self.invariant
     (subst (λ (o : Option Acted). ForSome known (λ x. CallsThere was m.clock view m.time m.number x o before after)) c.in-None.is e.calls))
@@ -88,7 +88,7 @@ returns-in-Some-clause-calls g c =
     let after = g.K.Keeper.failing c.step.new.keeper in
     let view = settings_of c.args.settings.now in
     let m = c.args.moment in
-    subst (λ (p : PartsView). ForSome known (λ x. WhereActed p x m.clock view m.time m.number (Some c.act.result) (λ s st k. MakesCalls (job_calls s st k) (failed_in c.act.result.kind) before after))) c.self.view_is
+    subst (λ (p : PartsView). ForSome known (λ x. WhereActed p x m.clock view m.time m.number (Some c.act.result) (λ s st k. ForSome (job_step s st k) (λ (m : Effect). MakesCalls m.calls (failed_in c.act.result.kind) before after)))) c.self.view_is
     (calls_some c.nameless_are_asked.ensures c.local_drops_send_where_there_is_room.ensures c.jobs_make_their_own_entries.ensures c.ends_go_on.ensures.ends c.sessions_stay.ensures
     was was m.clock view m.time m.number known known before after c.self.invariant c.in-Some.acted c.act.result c.act.ensures.kind
     (kind_of c.in-Some.acted (subst (λ (o : Option Acted). IfSome o (λ (it : Acted). IsKindOf it.job it)) c.in-Some.is e.kind))

@@ -8,11 +8,11 @@ use Rattle.node_parts.proofs.parts.Parts.begin.Goals as goal
 
 pub invariant_of-self : goal.invariant_of-self
 invariant_of-self c =
-    begun_sound c.begin.result (record { table = c.self.inside.table; links = c.self.inside.ends; sessions = c.self.inside.sessions; jobs = c.self.inside.jobs }) c.begin.new.self c.args.what
+    begun_sound c.begin.result (record { table = c.self.inside.table; links = c.self.inside.ends; sessions = c.self.inside.sessions; jobs = c.self.inside.jobs }) c.begin.new.self c.args.what c.args.paths
     c.begin.ensures.jobs c.begin.ensures.owns c.begin.ensures.err c.self.invariant
 
 pub returns-clause-parts : goal.returns-clause-parts
 returns-clause-parts c =
     subst (λ (p : PartsView). OnOk c.begin.result (PartsBegun p (record { table = c.self.inside.table; links = c.self.inside.ends; sessions = c.self.inside.sessions; jobs = c.begin.new.self }) c.args.what)) c.self.view_is
     (begun_parts c.begin.result c.ends_go_on.ensures.ends c.ends_go_on.ensures.begin c.sessions_stay.ensures (record { table = c.self.inside.table; links = c.self.inside.ends; sessions = c.self.inside.sessions; jobs = c.self.inside.jobs })
-    c.begin.new.self c.args.what c.begin.ensures.jobs c.begin.ensures.works c.self.invariant)
+    c.begin.new.self c.args.what c.args.paths c.begin.ensures.jobs c.begin.ensures.works c.self.invariant)

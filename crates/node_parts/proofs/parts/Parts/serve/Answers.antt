@@ -4,9 +4,10 @@ use Rattle.std.specs.Option.{ForSome, option_map}
 use Rattle.annex_base.specs.declared.kinds.Call.{Call}
 use Rattle.run_data.specs.declared.entry.By.TheVariants.{Job as by_job}
 use Rattle.link_ring.specs.Ends.{EndView}
+use Rattle.node_model.specs.Look.{Effect}
+use Rattle.node_model.specs.SessionStep.{session_step}
 use Rattle.content_lock.specs.CallsMade.{MakesCalls, fewer}
 use Rattle.node_ends.specs.Joined.{StayPaired}
-use Rattle.node_sessions.specs.Calls.{session_calls}
 use Rattle.node_sessions.specs.Serving.{ServesIf}
 use Rattle.node_sessions.specs.Sessions.{AreAllFed}
 use Rattle.node_parts.specs.Parts.{PartsView}
@@ -76,7 +77,7 @@ returns-clause-calls g c =
     let m = c.args.moment in
     let e = c.in_ok-served.ensures in
     let done = c.serve_if.result in
-    subst (λ (p : PartsView). ForSome (g.K.Keeper.contents c.args.keeper.now) (λ x. WhereServed p x known m.clock m.time m.number done (λ s st k. MakesCalls (session_calls s st k) (failed_by done) before after))) c.self.view_is
+    subst (λ (p : PartsView). ForSome (g.K.Keeper.contents c.args.keeper.now) (λ x. WhereServed p x known m.clock m.time m.number done (λ s st k. ForSome (session_step s st k) (λ (m : Effect). MakesCalls m.calls (failed_by done) before after)))) c.self.view_is
     (calls_of c.sessions_and_jobs_fill.ensures was c.step.new.ends (g.K.Keeper.contents c.args.keeper.now) known m.clock m.time m.number c.read-shows.result
     c.in_ok-served.served done before after c.self.invariant e.same c.read-shows.ensures.same c.serve_if.ensures.made e.calls)
 

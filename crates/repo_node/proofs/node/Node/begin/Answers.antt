@@ -21,7 +21,7 @@ invariant_of-self-2 g c =
     let same = it.ensures.jobs in
     let grows = begun_grows j.past w.new.past last it.number c.args.job c.new-lines.result w.ensures.same c.add.ensures in
     let table = ap (λ (p : PartsView). p.table) same in record {
-      kept = begun_kept c.tables_fill_as_states.ensures j.past w.new.past last i.parts w.new.parts j.branch (owed_in j.past j.debts.items) (owed_in last j.debts.items) (told_of (g.K.Keeper.contents j.keeper) (g.K.Keeper.parts j.keeper)) it.number c.args.job c.new-lines.result
+      kept = begun_kept c.tables_fill_as_states.ensures j.past w.new.past last i.parts w.new.parts j.branch (owed_in j.past j.debts.items) (owed_in last j.debts.items) (told_of (g.K.Keeper.contents j.keeper) (g.K.Keeper.parts j.keeper)) it.number c.args.job c.args.paths c.new-lines.result
           c.table.ensures.sound same it.ensures.parts it.ensures.number c.new-lines.ensures w.ensures.same c.add.ensures (owed_grows j.past last j.debts.items grows c.ledger.invariant.2) stands.kept;
       agrees = subst (λ (t : Rows). Agrees (g.K.Keeper.records j.keeper) t.holds) (sym table) stands.agrees;
       fed = fed_links (g.K.Keeper.parts j.keeper) i.parts w.new.parts (ap (λ (p : PartsView). p.sessions) same) stands.fed;
@@ -48,5 +48,5 @@ returns-clause-ok g c =
     let stands = stands_in g.K.Keeper.contents g.K.Keeper.parts g.K.Keeper.records (ledger_of j.keeper j.branch j.past (owed_in j.past j.debts.items)) i.ledger i.parts c.ledger.view_is c.self.invariant in
     let same = it.ensures.jobs in
     let grows = begun_grows j.past w.new.past last it.number c.args.job c.new-lines.result w.ensures.same c.add.ensures in
-    seen_begun j.keeper i.parts w.new.parts j.branch j.past w.new.past last (owed_in j.past j.debts.items) (owed_in last j.debts.items) it.number c.args.job c.new-lines.result c.args.self.now (ap (beside i.parts) c.ledger.view_is ∙ c.self.view_is) same c.new-lines.ensures w.ensures.same c.add.ensures
+    seen_begun j.keeper i.parts w.new.parts j.branch j.past w.new.past last (owed_in j.past j.debts.items) (owed_in last j.debts.items) it.number c.args.job c.args.paths c.new-lines.result c.args.self.now (ap (beside i.parts) c.ledger.view_is ∙ c.self.view_is) same c.new-lines.ensures w.ensures.same c.add.ensures
     (owed_grows j.past last j.debts.items grows c.ledger.invariant.2)

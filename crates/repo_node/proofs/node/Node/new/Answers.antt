@@ -1,7 +1,5 @@
 -- What the proof of `node::Node::new` needs beside the tactics.
-use Rattle.std.proofs.Common.{ap, ◌∙◌, sym}
-use Rattle.content_lock.specs.Rows.{Rows}
-use Rattle.node_steps.specs.Nodes.{told_of}
+use Rattle.std.proofs.Common.{ap, ◌∙◌}
 use Rattle.node_steps.proofs.StateLemmas.{stands_new}
 use Rattle.repo_node.proofs.node.Node.new.Goals as goal
 

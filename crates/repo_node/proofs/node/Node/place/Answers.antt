@@ -1,10 +1,8 @@
 -- What the proof of `node::Node::place` needs beside the tactics.
-use Rattle.std.proofs.Common.{◌≡◌, Bool, Err, OnOk, IfErr, false, subst, sym, ap, ◌∙◌, [], length}
+use Rattle.std.proofs.Common.{◌≡◌, ◌<◌, Bool, true, false, Err, OnOk, IfErr, IsErrOf, inl, subst, ap, [], length}
 use Rattle.content_lock.specs.Rows.{Rows, is_filling}
 use Rattle.store_entries.specs.Placing.{LeavesFilled}
 use Rattle.node_steps.specs.Nodes.{beside, told_of}
-use Rattle.repo_node.proofs.GainLemmas.{stands_brought}
-use Rattle.std.proofs.Common.{true, inl, ◌<◌, IsErrOf}
 use Rattle.annex_base.specs.declared.kinds.Call.TheVariants.{Commit, PutFile}
 use Rattle.run_data.specs.declared.entry.By.TheVariants.{Script}
 use Rattle.node_past.specs.declared.refused.NodeRefused.TheVariants.{Full}

@@ -1,5 +1,5 @@
 -- What the proof of `node::Node::place_part` needs beside the tactics.
-use Rattle.std.proofs.Common.{◌≡◌, ◌<◌, Bool, IfOk, OnOk, IfErr, length, subst, ap, ◌∙◌}
+use Rattle.std.proofs.Common.{◌≡◌, ◌<◌, Bool, OnOk, IfErr, length, subst}
 use Rattle.run_data.specs.Histories.{most_entries}
 use Rattle.content_lock.specs.Rows.{Rows}
 use Rattle.annex_base.specs.Causes.{Rose}

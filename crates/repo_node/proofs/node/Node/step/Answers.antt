@@ -6,7 +6,6 @@ use Rattle.node_model.specs.Step.{step}
 use Rattle.node_past.specs.Stored.{TellsSame, store_view}
 use Rattle.node_steps.specs.Nodes.{beside, told_of}
 use Rattle.node_steps.specs.Stepping.{AddsIf, MovesSo}
-use Rattle.node_steps.specs.TurnCalls.{step_calls}
 use Rattle.repo_node.proofs.node.Node.step.Goals as goal
 
 pub returns-clause-adds : goal.returns-clause-adds
@@ -21,7 +20,7 @@ returns-clause-step g c =
     let i = c.self.inside in
     let w = c.step in
     let last = w.new.ledger in
-    subst (λ v. IfOk w.result (λ b. ForSome (told_of (g.K.Keeper.contents v.keeper) (g.K.Keeper.parts v.keeper)) (λ x. MovesSo b step step_calls (store_view (g.K.Keeper.contents v.keeper) (g.K.Keeper.parts v.keeper) (g.K.Keeper.failing v.keeper) (g.K.Keeper.faults v.keeper)) (store_view (g.K.Keeper.contents last.keeper) (g.K.Keeper.parts last.keeper) (g.K.Keeper.failing last.keeper) (g.K.Keeper.faults last.keeper)) v (beside w.new.parts w.new.ledger)))) c.self.view_is w.ensures.step
+    subst (λ v. IfOk w.result (λ b. ForSome (told_of (g.K.Keeper.contents v.keeper) (g.K.Keeper.parts v.keeper)) (λ x. MovesSo b step (store_view (g.K.Keeper.contents v.keeper) (g.K.Keeper.parts v.keeper) (g.K.Keeper.failing v.keeper) (g.K.Keeper.faults v.keeper)) (store_view (g.K.Keeper.contents last.keeper) (g.K.Keeper.parts last.keeper) (g.K.Keeper.failing last.keeper) (g.K.Keeper.faults last.keeper)) v (beside w.new.parts w.new.ledger)))) c.self.view_is w.ensures.step
 
 pub returns-clause-err_store : goal.returns-clause-err_store
 returns-clause-err_store g c =

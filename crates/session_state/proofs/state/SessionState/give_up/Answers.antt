@@ -4,7 +4,7 @@ use Rattle.std.specs.Prelude.{None, true, false}
 use Rattle.run_data.specs.declared.entry.EntryKind.TheVariants.{Close}
 use Rattle.session_state.specs.declared.state.SessionState.{SessionState}
 use Rattle.p2p_wire.specs.declared.message.Message.TheVariants as messages
-use Rattle.session_state.specs.Answers.{failed_in}
+use Rattle.node_model.specs.Look.{failed_in}
 use Rattle.session_state.specs.declared.incoming.Incoming.TheVariants as incoming
 use Rattle.session_state.specs.declared.step.Step.{Step}
 use Rattle.session_state.proofs.Making.{quiet}

@@ -5,7 +5,7 @@ use Rattle.run_data.specs.declared.entry.EntryKind.TheVariants.{Close}
 use Rattle.p2p_wire.specs.declared.message.Message.TheVariants.{Error}
 use Rattle.session_state.specs.declared.state.SessionState.{SessionState}
 use Rattle.std.specs.Prelude.{true, false}
-use Rattle.session_state.specs.Answers.{failed_in}
+use Rattle.node_model.specs.Look.{failed_in}
 use Rattle.session_state.specs.declared.step.Step.{Step}
 use Rattle.session_state.proofs.Making.{unexpected_makes}
 use Rattle.session_state.proofs.Stepping.{refuses_so}

@@ -1,0 +1,24 @@
+-- The lemmas of this crate.
+pub mod Since
+pub mod Ends
+pub mod Frames
+pub mod Rows
+pub mod Shuts
+pub mod Heard
+pub mod Judging
+pub mod Usual
+pub mod Weighs
+pub mod Stages
+pub mod Walk
+pub mod Ending
+pub mod Versions
+pub mod RowsFrom
+pub mod Obeys
+pub mod Gains
+pub mod HeardFrom
+pub mod JudgingFrom
+pub mod WeighsFrom
+pub mod UsualFrom
+pub mod StartFrom
+pub mod WalkFrom
+pub mod EndingFrom

@@ -1,0 +1,686 @@
+-- A remote drop that runs alone, step by step.
+use Rattle.std.proofs.Common.{◌≡◌, ◌≢◌, ℕ, ◌+◌, ◌<◌, Bool, true, false, List, [], ◌∷◌, ◌++◌, Option, Some, None, ◌⊎◌, inl, inr, refl, sym, ap, ◌∙◌, subst, arith}
+use Rattle.std.specs.Prelude.{if◌then◌else◌, ◌&&◌, ◌*◌, ◌/◌, length, nat_lt, slice_get}
+use Rattle.std.specs.Option.{option_or}
+use Rattle.std.proofs.lemmas.Bool.{true≢false, and_parts}
+use Rattle.std.proofs.lemmas.Bool.Decides.{nat_tests}
+use Rattle.std.proofs.lemmas.Option.{same_Some}
+use Rattle.annex_base.specs.Lists.{Each, Member}
+use Rattle.annex_base.proofs.Conditions.{eqb_refl}
+use Rattle.annex_base.specs.declared.kinds.Call.{Call}
+use Rattle.drop_proof.specs.declared.rule.Need.{Need}
+use Rattle.drop_proof.specs.declared.rule.Side.TheVariants.{Local, Remote}
+use Rattle.run_data.specs.declared.entry.By.{By}
+use Rattle.run_data.specs.declared.entry.Entry.{Entry}
+use Rattle.run_data.specs.declared.entry.EntryKind.{EntryKind}
+use Rattle.run_data.specs.declared.entry.EntryKind.TheVariants.{Begin, Gain, Share, Bar, Order, Gone, Log, Talk, Fault, End as ends_job}
+use Rattle.run_data.specs.declared.entry.FrameView.{FrameView}
+use Rattle.run_data.specs.declared.job.Job.{Job}
+use Rattle.run_data.specs.declared.job.JobKind.TheVariants as kinds
+use Rattle.run_data.specs.declared.job.Outcome.{Outcome}
+use Rattle.run_data.specs.declared.job.Outcome.TheVariants.{Refused, TransferRefused}
+use Rattle.run_data.specs.declared.job.DropRefusal.{DropRefusal}
+use Rattle.run_data.specs.declared.job.DropRefusal.TheVariants as refusals
+use Rattle.run_data.specs.declared.job.TransferRefusal.{TransferRefusal}
+use Rattle.run_data.specs.declared.job.TransferRefusal.TheVariants as failures
+use Rattle.run_data.specs.declared.run.Run.{Run}
+use Rattle.run_data.specs.Repos.{IsSetUp}
+use Rattle.p2p_wire.specs.declared.message.Message.TheVariants.{CheckPresent, Failure, Success, Timestamp, Version}
+use Rattle.p2p_wire.specs.Messages.{order_of, message_of, text_of}
+use Rattle.node_model.specs.Clocks.{hold_time}
+use Rattle.node_model.specs.Found.{IsJobEntry, HasDeadline, GivesOrder}
+use Rattle.node_model.specs.Jobs
+use Rattle.node_model.specs.Jobs.{Drops, Puts, Phase, Fresh, Next, Opens, Greets, PutsOffer, PutsAnswer, AsksLock, AsksLook, AsksTime, Removed, Denied, Ends, Late, Orders, Work, RowsAndEnds, claims, drop_side, first_look, learns, new_work, partner, running_job, side_of, talks_on, work_kind, works_after, job_end, or_own}
+use Rattle.node_model.specs.JobStep.{Turn, clock_of, end_with}
+use Rattle.node_model.specs.Rows.{is_blocked, option_is}
+use Rattle.node_model.specs.SetUp.{SetUp, version_in}
+use Rattle.node_model.specs.Slots.{job_of}
+use Rattle.node_model.specs.State.{State}
+use Rattle.run_model.specs.Causes.{ClosedWith, HearsMessage}
+use Rattle.run_model.specs.Drops.{option_is_none}
+use Rattle.run_model.specs.Logs.{before_step, in_drop, is_step, settings_of}
+use Rattle.run_model.specs.Past.{Occurs, bar, clock, holds, is_of, present}
+use Rattle.run_model.specs.Run.{OwnPast, RunPast, set_up, job_paths}
+use Rattle.run_model.specs.Said.{Says}
+use Rattle.run_model.specs.States.{rows_at, state_of, works}
+use Rattle.node_model.specs.Sessions.{line_in}
+use Rattle.job_facts.proofs.OrdersRead.{order_read}
+use Rattle.step_facts.proofs.Knowing.{knows_enough}
+use Rattle.run_data.specs.declared.entry.FrameText.{FrameText}
+use Rattle.run_data.specs.declared.entry.FrameText.TheVariants.{Line}
+use Rattle.annex_base.specs.declared.kinds.Call.TheVariants as calls
+use Rattle.node_model.specs.Ends.{End, EndName, end_sends, frames}
+use Rattle.past_facts.proofs.OwnRuns.{step_at, own_past, part_of}
+use Rattle.run_laws.proofs.AtTargets.{at_targets}
+use Rattle.step_facts.proofs.Below.{SentAreRead}
+use Rattle.run_laws.proofs.Decisions.{order_stands_on, stepped_of}
+use Rattle.job_facts.proofs.DropLeaves.{fresh_unread}
+use Rattle.dialogue_facts.proofs.EndReasons.{DropReason, OutcomeReason, Reason, SaysFirst, ShutOn, TransferReason, kind_reason}
+use Rattle.run_laws.proofs.FromStep.{meets}
+use Rattle.job_facts.proofs.HeardLists.{Changed, kind_changed, share_or, talker_is}
+use Rattle.run_laws.proofs.HeardTells.{taken_peer}
+use Rattle.step_facts.proofs.JobSteps.{Origin, Stays, Steps, origin, stepped_job, stepped_runs, turn_at}
+use Rattle.step_facts.proofs.Makers.{taken_of, taker}
+use Rattle.job_facts.proofs.PhaseFacts.{GoodTo, is_fresh, readies_place}
+use Rattle.cause_laws.proofs.Refusals.{Stands, target_in}
+use Rattle.cause_laws.proofs.RunCauses.{shut_told}
+use Rattle.run_laws.proofs.SaidDown.{is_said, said_is}
+use Rattle.cause_laws.proofs.Standing.{stands}
+use Rattle.job_facts.proofs.TalkFacts.{Fits, SaysOne, TalkKind, under_way, OrderStands}
+use Rattle.job_facts.proofs.WorkFits.{step_kind, step_runs, step_talk, steps_good, works_fit}
+use Rattle.step_facts.proofs.WorkNumbers.{same_number_same_work}
+use Rattle.alone_drops.specs.Offers.{OffersSuffice, gives_hold, is_free}
+use Rattle.alone_drops.proofs.Since.{AddsLine, Beginning, IsIt, Later, Since, calm_who, split, stepped_since, works_since, is_calm}
+use Rattle.alone_drops.proofs.Ends.{quietly}
+use Rattle.alone_drops.proofs.Rows.{no_session, now_since, own_time}
+use Rattle.alone_drops.proofs.Shuts.{is_number, never_shut, no_work, frame_body}
+use Rattle.alone_drops.proofs.Versions.{body_look, lock_looks}
+use Rattle.alone_drops.proofs.Obeys.{deadline_later}
+use Rattle.alone_drops.proofs.HeardFrom.{Fit, heard_lock, heard_look, heard_none, heard_refused, order_heard, time_told, version_told}
+use Rattle.alone_drops.proofs.UsualFrom.{Asking, Usual, on_usual}
+use Rattle.alone_drops.proofs.WeighsFrom.{enough_suffices, locks_end}
+use Rattle.alone_drops.proofs.Stages.{OthersChangeNothing, calm_step, drop_part, drops_good}
+use Rattle.alone_drops.proofs.StartFrom.{base_bar, base_owes, base_present, base_settings, no_works}
+
+fresh_or : (phase : Phase) → (phase ≡ Fresh) ⊎ (is_fresh phase ≡ false)
+fresh_or Fresh = inl refl
+fresh_or phase = inr refl
+
+-- a drop's first step, where it talks
+first_talk : (rows : RowsAndEnds) (r : ℕ) (v : Work) (e : Entry) (i : ℕ) → v.phase ≡ Fresh → v.part ≡ Drops → e.taken ≡ None → e.sent ≡ [] → work_kind rows r v e (Talk (Some i)) ≡ first_look r v Drops (rows.present v.what.key) (rows.bar v.what.key)
+first_talk rows r v e i fresh part none silent = rw (fresh, part, none, silent) refl
+
+frame_peer : (n : EndName) (c : End) (bodies : List FrameText) (g : FrameView) → Member g (frames n c bodies) → g.peer ≡ n.peer
+frame_peer n c [] g m = absurd m
+frame_peer n c (body ∷ bodies) g (inl m) = ap (λ (f : FrameView). f.peer) m
+frame_peer n c (body ∷ bodies) g (inr m) = frame_peer n (end_sends c body) bodies g m
+
+first_next : (r : ℕ) (v : Work) (here : Bool) (barred : Option ℕ) → (first_look r v Drops here barred).phase ≡ Next
+first_next r v false barred = refl
+first_next r v true None = refl
+first_next r v true (Some i) = refl
+
+module _ (reads_back : SentAreRead) (run : Run) (repos : Each IsSetUp run.repos) (past : List Entry) (b : Entry) (a j : ℕ) (what : Job) (z : Beginning run past b a j what) (h0 : RunPast (set_up run) (b ∷ past)) (to : ℕ) (to_is : what.peer ≡ Some to) (drops : what.kind ≡ kinds.Drop) (other_to : to ≢ a) (others : OthersChangeNothing)
+    (three : version_in (slice_get run.repos to) ≡ 3) (target_free : bar past to what.key ≡ None) (target_unheld : is_blocked (holds past to) what.key (clock run.repos past to b.time) ≡ false) where
+  abbrev base : List Entry
+  base = b ∷ past
+
+  abbrev s : SetUp
+  s = set_up run a
+
+  abbrev F : ℕ → Jobs.Heard → Type 0
+  F = Fit reads_back run repos past b a j what z h0 to to_is drops other_to
+
+  remote : drop_side what.kind what.peer ≡ Remote
+  remote = rw (drops, to_is) refl
+
+  -- ---- where it stands
+
+  pub record Under (p : List Entry) : Type 0 where
+    pub first : List Entry
+    pub read : before_step p a j ≡ Some first
+    pub settings_is : settings_of first a ≡ settings_of past a
+
+  abbrev pub Suffices : Type 0
+  Suffices = OffersSuffice Remote run.repos (job_paths run a j) past a to what.key
+
+  abbrev pub Refuses : ℕ → Type 0
+  Refuses peer = peer ≢ to → (is_free past peer what.key && gives_hold run.repos a peer) ≡ false
+
+  abbrev pub Stage : List Entry → Phase → Type 0
+  Stage p Fresh = state_of s p ≡ state_of s base
+  Stage p Next = Under p
+  Stage p (Opens peer) = Under p
+  Stage p (Greets peer) = Under p
+  Stage p (AsksLock peer since) = Under p
+  Stage p (AsksLook peer) = Under p × Refuses peer
+  Stage p AsksTime = Under p
+  Stage p Orders = Under p × Suffices
+  Stage p Removed = Under p × Suffices
+  Stage p phase = ⊥
+
+  -- its orders come before their deadlines
+  abbrev pub IsTimely : Option ℕ → Type 0
+  IsTimely d = (n : ℕ) → d ≡ Some n → nat_lt (clock run.repos past to b.time) (1000 * n) ≡ true
+
+  abbrev pub AreTimely : List Entry → Type 0
+  AreTimely p = (x : Entry) (before : List Entry) → Occurs p x before → is_of a x ≡ true → (goal : ℕ) (d : Option ℕ) (need : Need) (key : List ℕ) → x.kind ≡ Order j goal d need key → IsTimely d
+
+  pub record Inv (p : List Entry) (w : Work) : Type 0 where
+    pub part_is : w.part ≡ Drops
+    pub heard : Each (λ x. F x.0 x.1) w.heard
+    pub stage : Stage p w.phase
+    pub timely : AreTimely p
+
+  under_kept : (p : List Entry) (e : Entry) → Under p → Under (e ∷ p)
+  under_kept p e u = record {
+    first = u.first;
+    read = ap (λ o. option_or o (if is_of a e && (is_step j e.kind && in_drop p a j) then Some p else None)) u.read;
+    settings_is = u.settings_is;
+  }
+
+  stage_kept : (p : List Entry) (e : Entry) (phase : Phase) → is_fresh phase ≡ false → Stage p phase → Stage (e ∷ p) phase
+  stage_kept p e Fresh f x = absurd (cc)
+  stage_kept p e Next f x = under_kept p e x
+  stage_kept p e (Opens peer) f x = under_kept p e x
+  stage_kept p e (Greets peer) f x = under_kept p e x
+  stage_kept p e (AsksLock peer since) f x = under_kept p e x
+  stage_kept p e (AsksLook peer) f x = (under_kept p e x.0, x.1)
+  stage_kept p e AsksTime f x = under_kept p e x
+  stage_kept p e Orders f x = (under_kept p e x.0, x.1)
+  stage_kept p e Removed f x = (under_kept p e x.0, x.1)
+  stage_kept p e phase f x = absurd x
+
+  stage_under : (p : List Entry) (phase : Phase) → is_fresh phase ≡ false → Stage p phase → Under p
+  stage_under p Fresh f x = absurd (cc)
+  stage_under p Next f x = x
+  stage_under p (Opens peer) f x = x
+  stage_under p (Greets peer) f x = x
+  stage_under p (AsksLock peer since) f x = x
+  stage_under p (AsksLook peer) f x = x.0
+  stage_under p AsksTime f x = x
+  stage_under p Orders f x = x.0
+  stage_under p Removed f x = x.0
+  stage_under p phase f x = absurd x
+
+  -- where it is under way; from an order it may come to its removal
+  abbrev A : Phase → Phase → Type 0
+  A old = Asking (old ≡ Orders) Refuses
+
+  stage_asks : (p : List Entry) (phase : Phase) → is_fresh phase ≡ false → under_way phase ≡ true → Stage p phase → A phase phase
+  stage_asks p Fresh f u x = absurd (cc)
+  stage_asks p Next f u x = tt
+  stage_asks p (Opens peer) f u x = tt
+  stage_asks p (Greets peer) f u x = tt
+  stage_asks p (AsksLock peer since) f u x = tt
+  stage_asks p (AsksLook peer) f u x = x.1
+  stage_asks p AsksTime f u x = tt
+  stage_asks p Orders f u x = refl
+  stage_asks p Removed f u x = absurd (cc)
+  stage_asks p phase f u x = absurd x
+
+  -- ---- orders
+
+  timely_kept : (p : List Entry) (e : Entry) → (is_of a e ≡ true → (goal : ℕ) (d : Option ℕ) (need : Need) (key : List ℕ) → e.kind ≡ Order j goal d need key → IsTimely d) → AreTimely p → AreTimely (e ∷ p)
+  timely_kept p e new old x before (inl o) own goal d need key is = new (subst (λ (y : Entry). is_of a y ≡ true) o.0 own) goal d need key (ap (λ (y : Entry). y.kind) (sym o.0) ∙ is)
+  timely_kept p e new old x before (inr o) own goal d need key is = old x before o own goal d need key is
+
+  base_timely : AreTimely base
+  base_timely x before (inl o) own goal d need key is = absurd (let bad : Order j goal d need key ≡ Begin j what = sym is ∙ ap (λ (y : Entry). y.kind) o.0 ∙ z.kind_is in cc)
+  base_timely x before (inr o) own goal d need key is =
+      let at = step_at run past x before h0.1 o in
+      let part = part_of (set_up run) before x a at.0 own in
+      let y = stepped_of s before part.words x part.own j (Order j goal d need key) is (eqb_refl j) in
+      absurd (no_work reads_back run repos past b a j what z h0 x before o y.w (stepped_runs s before x y) (is_number x.kind y.w.number j (stepped_job s before x y) (subst (λ k. option_is (job_of k) j ≡ true) (sym is) (eqb_refl j))))
+
+  -- ---- entries that are no steps of it
+
+  other_inv : (p : List Entry) (e : Entry) (w : Work) → is_of a e ≡ false → Inv p w → Inv (e ∷ p) w
+  other_inv p e w off i = record {
+    part_is = i.part_is;
+    heard = i.heard;
+    stage = go w.phase (is_fresh w.phase) refl i.stage;
+    timely = timely_kept p e (λ own. absurd (true≢false (sym own ∙ off))) i.timely;
+  }
+    where
+      fresh : (phase : Phase) → is_fresh phase ≡ true → Stage p phase → Stage (e ∷ p) phase
+      fresh Fresh f x = others s p e off ∙ x
+      fresh phase f x = absurd (cc)
+
+      go : (phase : Phase) (d : Bool) → is_fresh phase ≡ d → Stage p phase → Stage (e ∷ p) phase
+      go phase true f x = fresh phase f x
+      go phase false f x = stage_kept p e phase f x
+
+  line_inv : (xs : List Entry) (e : Entry) (w : Work) → Since run base (e ∷ xs) → is_of a e ≡ true → (a < length run.repos) → AddsLine e → Inv (xs ++ base) w → Inv (e ∷ xs ++ base) w
+  line_inv xs e w t own known l i = record {
+    part_is = i.part_is;
+    heard = i.heard;
+    stage = go w.phase (is_fresh w.phase) refl i.stage;
+    timely = timely_kept p e (λ own goal d need key is. absurd (let bad : Log l.file ≡ Order j goal d need key = sym l.kind_is ∙ is in cc)) i.timely;
+  }
+    where
+      p : List Entry
+      p = xs ++ base
+
+      fresh : (phase : Phase) → is_fresh phase ≡ true → Stage p phase → Stage (e ∷ p) phase
+      fresh Fresh f x = absurd (t.0.owed a l.file own l.kind_is (ap (λ (st : State). st.owed) x ∙ base_owes reads_back run repos past b a j what z h0 known))
+      fresh phase f x = absurd (cc)
+
+      go : (phase : Phase) (d : Bool) → is_fresh phase ≡ d → Stage p phase → Stage (e ∷ p) phase
+      go phase true f x = fresh phase f x
+      go phase false f x = stage_kept p e phase f x
+
+  begin_inv : (w : Work) → Member w (works base a) → Inv base w
+  begin_inv w m = by (subst (λ (ws : List Work). Member w (works_after (rows_at past a) a ws b (Begin j what))) (no_works reads_back run repos past b a j what z h0)
+      (subst (λ k. Member w (works_after (rows_at past a) a (works past a) b k)) z.kind_is (rw z.by_a at m)))
+    where
+      by : Member w (new_work [] j what ∷ []) → Inv base w
+      by (inl is) = subst (Inv base) (sym is) (record { part_is = drop_part what.kind drops; heard = tt; stage = refl; timely = base_timely })
+      by (inr n) = absurd n
+
+  -- ---- a step of the job
+  module _ (xs : List Entry) (e : Entry) (h : RunPast (set_up run) (e ∷ xs ++ base)) (t : Since run base (e ∷ xs)) (own : is_of a e ≡ true) (w : Work) (among : Member w (works (e ∷ xs ++ base) a)) (st : Steps s (xs ++ base) e w) (old : Inv (xs ++ base) st.by.w) where
+    abbrev p : List Entry
+    p = xs ++ base
+
+    abbrev v : Work
+    v = st.by.w
+
+    abbrev turn : Turn
+    turn = turn_at s p e st.by
+
+    abbrev rows : RowsAndEnds
+    rows = rows_at p a
+
+    abbrev after : EntryKind → Work
+    after kind = work_kind rows a v e kind
+
+    it : IsIt run past b a j what z a (running_job v)
+    it = stepped_since run past b a j what z xs t.1 a e st.by
+
+    number : v.number ≡ j
+    number = it.number_is
+
+    what_is : v.what ≡ what
+    what_is = it.what_is
+
+    key_is : v.what.key ≡ what.key
+    key_is = ap (λ (q : Job). q.key) what_is
+
+    pp : OwnPast s p
+    pp = own_past run repos a p h.1
+
+    runs : Member v (works p a)
+    runs = step_runs s p e w st
+
+    fits : Fits v.part v.phase
+    fits = works_fit s p pp.run v runs
+
+    side : side_of v ≡ Remote
+    side = ap (λ (q : Job). drop_side q.kind q.peer) what_is ∙ remote
+
+    not_local : side_of v ≡ Local → ⊥
+    not_local r = let both : Remote ≡ Local = sym side ∙ r in cc
+
+    in_it : in_drop p a j ≡ true
+    in_it = subst (λ n. in_drop p a n ≡ true) number ((at_targets reads_back s p pp v runs).0 old.part_is)
+
+    time : e.time ≡ b.time
+    time = own_time (set_up run) p e a h.0 own ∙ now_since reads_back run repos past b a j what z h0 xs h.1 t.1
+
+    no_shut : ShutOn rows v e → ⊥
+    no_shut y = elim (shut_told reads_back run repos p e h.1 h.0 a w st y) [
+      | inl c ↦ never_shut reads_back run repos past b a j what z h0 (e ∷ xs) h t y.peer (subst (λ n. ClosedWith (e ∷ p) a n y.peer) number c)
+      | inr c ↦ absurd (let both : Drops ≡ Puts = sym old.part_is ∙ c.0 in cc)
+    ]
+
+    -- ---- its first step
+
+    module _ (fresh : v.phase ≡ Fresh) where
+      same : state_of s p ≡ state_of s base
+      same = subst (Stage p) fresh old.stage
+
+      first_under : Under (e ∷ p)
+      first_under = record {
+        first = p;
+        read = ap (λ o. option_or o (if is_of a e && (is_step j e.kind && in_drop p a j) then Some p else None)) unread ∙ rw (own, step, in_it) refl;
+        settings_is = ap (λ (q : State). q.logs) same ∙ base_settings reads_back run repos past b a j what z h0;
+      }
+        where
+          unread : before_step p a j ≡ None
+          unread = subst (λ n. before_step p a n ≡ None) number (fresh_unread s p pp.run v runs old.part_is (ap is_fresh fresh))
+
+          step : is_step j e.kind ≡ true
+          step = subst (λ n. is_step n e.kind ≡ true) number st.step
+
+      present_same : present p a v.what.key ≡ present past a what.key
+      present_same = ap (present p a) key_is ∙ (ap (λ (q : State). q.present what.key) same ∙ base_present reads_back run repos past b a j what z h0 what.key)
+
+      bar_same : bar p a v.what.key ≡ bar past a what.key
+      bar_same = ap (bar p a) key_is ∙ (ap (λ (q : State). q.bar what.key) same ∙ base_bar reads_back run repos past b a j what z h0 what.key)
+
+      own_holds : gives_hold run.repos a a ≡ true
+      own_holds = rw (eqb_refl a) refl
+
+      all_heard : (q : ℕ × Jobs.Heard) → F q.0 q.1 → Each (λ x. F x.0 x.1) (q ∷ v.heard)
+      all_heard q f = (f, old.heard)
+
+      look_heard : (d : Bool) (o : Option ℕ) → present p a v.what.key ≡ d → bar p a v.what.key ≡ o → Each (λ x. F x.0 x.1) (first_look a v Drops d o).heard
+      look_heard false o d' o' = (λ off. (refl, (λ i. (sym present_same ∙ d') i && option_is_none (bar past a what.key))), old.heard)
+      look_heard true (Some i) d' o' = (λ off. (refl, (λ n. (sym present_same ∙ d') n && option_is_none ((sym bar_same ∙ o') n))), old.heard)
+      look_heard true None d' o' = old.heard
+
+      first_heard : (kind : EntryKind) → e.kind ≡ kind → IsJobEntry turn st.by.made kind → TalkKind turn st.by.made kind → Each (λ x. F x.0 x.1) (after kind).heard
+      first_heard (Share hold end by key) is k tk =
+          (λ off. ((λ i. (sym present_same ∙ k.there) i && option_is_none ((sym bar_same ∙ k.free) i)), own_holds, time), old.heard)
+      first_heard (Bar i need key) is k tk = absurd (not_local k.side)
+      first_heard (Gone by key) is k tk = absurd (not_local k.side)
+      first_heard (Order i peer deadline need key) is k tk = absurd (elim (tk) [
+        | inl y ↦ (let bad : Fresh ≡ Next = sym fresh ∙ y.0 in cc)
+        | inr y ↦ elim y [ inl g ↦ (let bad : Fresh ≡ Greets _ = sym fresh ∙ g in cc) | inr g ↦ (let bad : Fresh ≡ AsksTime = sym fresh ∙ g in cc) ]
+      ])
+      first_heard (Gain by size key) is k tk = absurd (true≢false (sym t.0.kind ∙ ap is_calm is))
+      first_heard (ends_job i outcome) is k tk = absurd (st.goes_on i outcome is)
+      first_heard (Talk (Some i)) is k tk =
+          let y = tk.first old.part_is fresh in
+          subst (λ (g : Work). Each (λ x. F x.0 x.1) g.heard) (sym (first_talk rows a v e i fresh old.part_is (ap (λ (q : Entry). q.taken) st.by.is ∙ y.takes_none) (ap (λ (q : Entry). q.sent) st.by.is ∙ y.sends_none)))
+          (look_heard (present p a v.what.key) (bar p a v.what.key) refl refl)
+      first_heard (Fault call by) is k tk = absurd (true≢false (sym t.0.kind ∙ ap is_calm is))
+      first_heard kind is k tk = absurd k
+
+      first_stage : (kind : EntryKind) → e.kind ≡ kind → IsJobEntry turn st.by.made kind → TalkKind turn st.by.made kind → Stage (e ∷ p) (after kind).phase
+      first_stage (Share hold end by key) is k tk = first_under
+      first_stage (Bar i need key) is k tk = absurd (not_local k.side)
+      first_stage (Gone by key) is k tk = absurd (not_local k.side)
+      first_stage (Order i peer deadline need key) is k tk = absurd (elim (tk) [
+        | inl y ↦ (let bad : Fresh ≡ Next = sym fresh ∙ y.0 in cc)
+        | inr y ↦ elim y [ inl g ↦ (let bad : Fresh ≡ Greets _ = sym fresh ∙ g in cc) | inr g ↦ (let bad : Fresh ≡ AsksTime = sym fresh ∙ g in cc) ]
+      ])
+      first_stage (Gain by size key) is k tk = absurd (true≢false (sym t.0.kind ∙ ap is_calm is))
+      first_stage (ends_job i outcome) is k tk = absurd (st.goes_on i outcome is)
+      first_stage (Talk (Some i)) is k tk =
+          let y = tk.first old.part_is fresh in
+          subst (Stage (e ∷ p)) (sym (ap (λ (g : Work). g.phase) (first_talk rows a v e i fresh old.part_is (ap (λ (q : Entry). q.taken) st.by.is ∙ y.takes_none) (ap (λ (q : Entry). q.sent) st.by.is ∙ y.sends_none)) ∙ first_next a v (present p a v.what.key) (bar p a v.what.key))) first_under
+      first_stage (Fault call by) is k tk = absurd (true≢false (sym t.0.kind ∙ ap is_calm is))
+      first_stage kind is k tk = absurd k
+
+    -- ---- later steps
+
+    module _ (later : is_fresh v.phase ≡ false) where
+      under : Under (e ∷ p)
+      under = under_kept p e (stage_under p v.phase later old.stage)
+
+      later_heard : Each (λ x. F x.0 x.1) (after e.kind).heard
+      later_heard = elim (share_or e.kind) [
+        | inl k ↦ absurd (true≢false (sym (ap is_fresh (subst (IsJobEntry turn st.by.made) k.4 (step_kind s p e w st)).first) ∙ later))
+        | inr off ↦ changed (kind_changed rows a v e (talker_is turn e.taken) e.kind off)
+      ]
+        where
+          of_list : (list : List (ℕ × Jobs.Heard)) → (after e.kind).heard ≡ list → Each (λ x. F x.0 x.1) list → Each (λ x. F x.0 x.1) (after e.kind).heard
+          of_list list same all = subst (Each (λ x. F x.0 x.1)) (sym same) all
+
+          seen : (free holds : Bool) → free ≡ true → (free && holds) ≡ false → holds ≡ false
+          seen true holds f g = g
+          seen false holds f g = absurd (cc)
+
+          changed : Changed rows a v e (after e.kind) → Each (λ x. F x.0 x.1) (after e.kind).heard
+          changed (inl same) = of_list v.heard same old.heard
+          changed (inr (inl o)) = absurd (true≢false (sym (ap is_fresh o.first) ∙ later))
+          changed (inr (inr (inl k))) = absurd (no_shut (record { peer = k.peer; on = k.on; closed = k.shut }))
+          changed (inr (inr (inr y))) = elim (y.told) [
+            | inl q ↦ of_list ((q.peer, Jobs.Held q.since) ∷ v.heard) q.list
+                (heard_lock reads_back run repos past b a j what z h0 to to_is drops other_to xs h.1 t.1 e h.0 own st.by y.f y.takes_it Success (y.says_it ∙ ap Some q.told) refl refl what_is q.peer q.since q.phase_is refl, old.heard)
+            | inr q ↦ elim (q.told) [
+              | inl g ↦ (let refuses : Refuses q.peer = (subst (Stage p) q.phase_is old.stage).1 in of_list ((q.peer, Jobs.Seen) ∷ v.heard) g.1 (
+                (λ off. let free = heard_look reads_back run repos past b a j what z h0 to to_is drops other_to xs h.1 t.1 e h.0 own st.by y.f y.takes_it Success (y.says_it ∙ ap Some g.0) refl refl what_is q.peer q.phase_is refl off in
+                    (free, seen (is_free past q.peer what.key) (gives_hold run.repos a q.peer) free (refuses off))),
+                old.heard,
+              ))
+              | inr g ↦ of_list ((q.peer, Jobs.Unseen) ∷ v.heard) g.1
+                  (heard_none reads_back run repos past b a j what z h0 to to_is drops other_to xs h.1 t.1 e h.0 own st.by y.f y.takes_it Failure (y.says_it ∙ ap Some g.0) refl refl what_is q.peer q.phase_is refl, old.heard)
+            ]
+          ]
+
+      -- ---- what it says and hears
+
+      sent_is : st.by.made.sent ≡ e.sent
+      sent_is = sym (ap (λ (q : Entry). q.sent) st.by.is)
+
+      -- a look comes of a refused lock
+      look_refused : (st.by.made.sent ≡ []) ⊎ SaysOne turn st.by.made.sent → (g : FrameView) (gs : List FrameView) (key : List ℕ) → e.sent ≡ g ∷ gs → line_in g.body ≡ Some (CheckPresent key) → Refuses g.peer
+      look_refused (inl none) g gs key is told = absurd (let bad : [] ≡ g ∷ gs = sym none ∙ (sent_is ∙ is) in cc)
+      look_refused (inr y) g gs key is told = elim (frame_body (job_end v y.peer) (end_with turn y.peer) (y.body ∷ []) g (subst (Member g) y.sent_is among')) [
+        | inl same ↦ by same
+        | inr none ↦ absurd none
+      ]
+        where
+          among' : Member g st.by.made.sent
+          among' = subst (Member g) (sym (sent_is ∙ is)) (inl refl)
+
+          by : g.body ≡ y.body → Refuses g.peer
+          by body =
+              let at = body_look turn y.peer y.body key old.part_is y.says (ap line_in (sym body) ∙ told) in
+              let took = lock_looks turn y.peer at.0 at.1 old.part_is st.by.made st.by.does g key among' told in
+              subst Refuses (sym (frame_peer (job_end v y.peer) (end_with turn y.peer) (y.body ∷ []) g (subst (Member g) y.sent_is among'))) (heard_refused reads_back run repos past b a j what z h0 to to_is drops other_to xs h.1 t.1 e h.0 own st.by took.f (ap (λ (q : Entry). q.taken) st.by.is ∙ took.taken_is) Failure took.told refl refl what_is y.peer at.0 at.1 refl)
+
+      -- the target's version isn't old
+      no_old : (n : ℕ) → w.phase ≡ Ends (Refused (refusals.OldProtocol n)) → ⊥
+      no_old n at = told was.0 was.1
+        where
+          is_it : IsIt run past b a j what z a (running_job w)
+          is_it = works_since run past b a j what z (e ∷ xs) t a w among
+
+          was : HearsMessage (e ∷ p) a w.number (target_in a (running_job w)) (Says (Version n)) × (nat_lt n 3 ≡ true)
+          was = subst (Stands a (e ∷ p) (running_job w)) at (stands reads_back s (e ∷ p) (own_past run repos a (e ∷ p) h) w among)
+
+          target : target_in a (running_job w) ≡ to
+          target = ap (λ (q : Job). or_own a (drop_side q.kind q.peer) q.peer) is_it.what_is ∙ (ap (λ q. or_own a q what.peer) remote ∙ ap (or_own a Remote) to_is)
+
+          told : HearsMessage (e ∷ p) a w.number (target_in a (running_job w)) (Says (Version n)) → nat_lt n 3 ≡ true → ⊥
+          told x small = elim (split run base (e ∷ xs) h t x.entry x.before x.occurs) [
+            | inl o ↦ before o
+            | inr l ↦ since l
+          ]
+            where
+              own' : is_of a x.entry ≡ true
+              own' = (and_parts (is_of a x.entry) (option_is (job_of x.entry.kind) w.number) x.own).0
+
+              before : Occurs base x.entry x.before → ⊥
+              before (inl o) = let none : x.entry.taken ≡ None = ap (λ (y : Entry). y.taken) o.0 ∙ (quietly reads_back run repos past b a j what z h0).takes_none in let bad : None ≡ Some x.f = sym none ∙ x.takes_it in cc
+              before (inr o) =
+                  let at' = step_at run past x.entry x.before h0.1 o in
+                  let part = part_of (set_up run) x.before x.entry a at'.0 own' in
+                  let y = taker (set_up run a) x.before part.words x.entry part.own x.f x.takes_it x.down in
+                  no_work reads_back run repos past b a j what z h0 x.entry x.before o y.w (stepped_runs (set_up run a) x.before x.entry y)
+                  (is_number x.entry.kind y.w.number j (stepped_job (set_up run a) x.before x.entry y) (subst (λ i. option_is (job_of x.entry.kind) i ≡ true) is_it.number_is (and_parts (is_of a x.entry) (option_is (job_of x.entry.kind) w.number) x.own).1))
+
+              since : Later run base x.entry x.before → ⊥
+              since l =
+                  let part = part_of (set_up run) (l.ys ++ base) x.entry a l.step own' in
+                  let y = taker (set_up run a) (l.ys ++ base) part.words x.entry part.own x.f x.takes_it x.down in
+                  let k = taken_of (set_up run a) (l.ys ++ base) x.entry y x.f x.takes_it in
+                  let at' : k.peer ≡ to = sym (taken_peer (set_up run a) (l.ys ++ base) x.entry x.f k) ∙ (x.peer_is ∙ target) in
+                  let n_is = version_told reads_back run repos past b a j what z h0 to to_is drops other_to l.ys l.steps l.since x.entry l.step own' y x.f x.takes_it (Version n) (is_said x.f.body (Version n) x.says) refl refl n refl
+                  (ap (λ c. version_in (slice_get run.repos c)) at' ∙ three) in
+                  true≢false (sym small ∙ ap (λ i. nat_lt i 3) n_is)
+
+      -- ---- by where it comes to
+
+      abbrev y : Work
+      y = talks_on rows a (learns (claims v v.part v.phase) v.phase e.taken) e (partner v.what.peer v.phase)
+
+      asks_no : (phase : Phase) → A v.phase v.phase → v.phase ≡ phase → (A v.phase phase → ⊥) → ⊥
+      asks_no phase asks at off = off (subst (A v.phase) at asks)
+
+      module _ (kind : EntryKind) (is : e.kind ≡ kind) (is_y : after kind ≡ y) (no_fault : (call : Call) (owner : By) → kind ≢ Fault call owner) (asks : A v.phase v.phase)
+          (looks : (g : FrameView) (gs : List FrameView) (key : List ℕ) → e.sent ≡ g ∷ gs → line_in g.body ≡ Some (CheckPresent key) → Refuses g.peer)
+          (orders : (deadline : Option ℕ) (key : List ℕ) → SaysFirst e (order_of deadline key) → Suffices) where
+        good : (y.part ≡ Drops) × Fits Drops y.phase × (is_fresh v.phase ≡ false → is_fresh y.phase ≡ false)
+        good = drops_good v.phase y.part y.phase (subst (λ q. GoodTo q v.phase y.part y.phase) old.part_is
+            (subst (λ (g : Work). GoodTo v.part v.phase g.part g.phase) (st.work_is ∙ ap after is ∙ is_y) (steps_good s p e w st fits)))
+
+        usual : Usual (v.phase ≡ Orders) Refuses y.phase
+        usual =
+            let x = learns (claims v v.part v.phase) v.phase e.taken in
+            let same = readies_place v e.taken in
+            on_usual (v.phase ≡ Orders) Refuses rows a x e (partner v.what.peer v.phase) looks (same.0 ∙ old.part_is) (subst (A v.phase) (sym same.1) asks)
+
+        by_drop : (refusal : DropRefusal) → y.phase ≡ Ends (Refused refusal) → DropReason rows a v e kind refusal → ⊥
+        by_drop (refusals.Lost ordered) at r = no_shut r.0
+        by_drop (refusals.OldProtocol n) at r = no_old n (ap (λ (g : Work). g.phase) (st.work_is ∙ ap after is ∙ is_y) ∙ at)
+        by_drop refusals.StoreFault at r = no_fault r.1.call r.1.owner r.1.kind_is
+        by_drop refusal at r = absurd r
+
+        by_transfer : (refusal : TransferRefusal) → TransferReason rows v e kind refusal → ⊥
+        by_transfer failures.Busy r = asks_no (PutsOffer r.0) asks r.2 (λ q. q)
+        by_transfer failures.Closed r = absurd (let both : Drops ≡ Puts = sym old.part_is ∙ r.1 in cc)
+        by_transfer failures.Rejected (peer, inl at, r) = asks_no (PutsOffer peer) asks at (λ q. q)
+        by_transfer failures.Rejected (peer, inr at, r) = asks_no (PutsAnswer peer at.0) asks at.1 (λ q. q)
+        by_transfer failures.StoreFault r = no_fault r.1.call r.1.owner r.1.kind_is
+        by_transfer refusal r = absurd r
+
+        by_outcome : (o : Outcome) → y.phase ≡ Ends o → OutcomeReason rows a v e kind o → Usual (v.phase ≡ Orders) Refuses (Ends o) → ⊥
+        by_outcome (Refused refusal) at r u = by_drop refusal at r
+        by_outcome (TransferRefused refusal) at r u = by_transfer refusal r
+        by_outcome o at r u = u
+
+        by_phase : (phase : Phase) → y.phase ≡ phase → Reason rows a v e kind phase → Usual (v.phase ≡ Orders) Refuses phase → Fits Drops phase → is_fresh phase ≡ false → Stage (e ∷ p) phase
+        by_phase Fresh at r u f l = absurd (cc)
+        by_phase Next at r u f l = under
+        by_phase (Opens peer) at r u f l = under
+        by_phase (Greets peer) at r u f l = under
+        by_phase (AsksLock peer since) at r u f l = under
+        by_phase (AsksLook peer) at r u f l = (under, u)
+        by_phase AsksTime at r u f l = under
+        by_phase Orders at r u f l = (under, orders r.0 r.1 r.2)
+        by_phase Removed at r u f l = (under, (subst (Stage p) u old.stage).1)
+        by_phase Denied at r u f l = absurd (order_heard reads_back run repos past b a j what z h0 to to_is drops other_to xs h.1 t.1 e h.0 own st.by r.1.f r.1.takes_it Failure r.1.told refl refl what_is r.0 refl target_free target_unheld old.timely)
+        by_phase (Late when) at r u f l = absurd (no_fault calls.Unhold r.1.0 r.1.1)
+        by_phase (Ends o) at r u f l = absurd (by_outcome o at r u)
+        by_phase phase at r u f l = absurd f
+
+        talk_stage : Stage (e ∷ p) (after kind).phase
+        talk_stage = elim (kind_reason rows a v e kind) [
+          | inl same ↦ subst (Stage (e ∷ p)) (sym same) (stage_kept p e v.phase later old.stage)
+          | inr r ↦ subst (λ (g : Work). Stage (e ∷ p) g.phase) (sym is_y) (by_phase y.phase refl (subst (λ (g : Work). Reason rows a v e kind g.phase) is_y r) usual good.1 (good.2 later))
+        ]
+
+      -- a talk that says an order would be an order
+      said_order : (deadline : Option ℕ) (key : List ℕ) → SaysFirst e (order_of deadline key) → (i peer : ℕ) × (need : Need) × (e.kind ≡ Order i peer deadline need key)
+      said_order deadline key x =
+          let y' = (((meets reads_back run repos p e h.1 h.0).own a own).sends x.f (subst (Member x.f) (sym x.sent_is) (inl refl))).order deadline key (said_is x.f.body (order_of deadline key) x.told) in
+          (y'.0, x.f.peer, y'.1, y'.2)
+
+      -- where it orders, what it knows is enough
+      order_suffices : (i peer : ℕ) (deadline : Option ℕ) (need : Need) (key : List ℕ) → e.kind ≡ Order i peer deadline need key → Suffices
+      order_suffices i peer deadline need key is =
+          let part = part_of (set_up run) p e a h.0 own in
+          let o = order_stands_on reads_back s p part.words e pp part.own i peer deadline need key is in
+          let same : o.by.w ≡ v = same_work o.by.w o.runs (stepped_since run past b a j what z xs t.1 a e o.by).number_is in
+          let u = stage_under p v.phase later old.stage in
+          enough_suffices reads_back run repos past b a j what z h0 to to_is drops other_to p v number what_is old.heard u.first u.read u.settings_is (subst (λ (g : Work). knows_enough s (state_of s p) g ≡ true) same o.enough)
+        where
+          same_work : (x : Work) → Member x (works p a) → x.number ≡ j → x ≡ v
+          same_work x m n = same_number_same_work s p pp.run x v m runs (n ∙ sym number)
+
+      -- an order looks for nothing
+      order_looks : (i peer : ℕ) (deadline : Option ℕ) (need : Need) (key : List ℕ) → GivesOrder turn i peer deadline need key st.by.made.taken st.by.made.sent → (g : FrameView) (gs : List FrameView) (k : List ℕ) → e.sent ≡ g ∷ gs → line_in g.body ≡ Some (CheckPresent k) → Refuses g.peer
+      order_looks i peer deadline need key o g gs k is told = absurd (elim (frame_body (job_end v peer) (end_with turn peer) (Line (text_of (order_of deadline key)) ∷ []) g (subst (Member g) o.sent_is (subst (Member g) (sym (sent_is ∙ is)) (inl refl)))) [
+        | inl body ↦ no_look deadline (order_read s p pp st.by.look v runs st.by.made deadline o.timed (CheckPresent k)
+            (ap (λ n. message_of (text_of (order_of deadline n))) (sym o.key_is) ∙ (ap line_in (sym body) ∙ told)))
+        | inr none ↦ none
+      ])
+        where
+          no_look : (d : Option ℕ) → CheckPresent k ≡ order_of d v.what.key → ⊥
+          no_look None same = cc
+          no_look (Some n) same = cc
+
+      order_asks : OrderStands turn → A v.phase v.phase
+      order_asks (inl at) = subst (A v.phase) (sym at.0) tt
+      order_asks (inr (inl at)) = subst (A v.phase) (sym at) tt
+      order_asks (inr (inr at)) = subst (A v.phase) (sym at) tt
+
+      -- ---- by its kind
+
+      later_stage : (kind : EntryKind) → e.kind ≡ kind → IsJobEntry turn st.by.made kind → TalkKind turn st.by.made kind → Stage (e ∷ p) (after kind).phase
+      later_stage (Share hold end by key) is k tk = absurd (true≢false (sym (ap is_fresh k.first) ∙ later))
+      later_stage (Bar i need key) is k tk = absurd (not_local k.side)
+      later_stage (Gone by key) is k tk = absurd (not_local k.side)
+      later_stage (Order i peer deadline need key) is k tk =
+          talk_stage (Order i peer deadline need key) is refl (λ call owner f. cc) (order_asks tk) (order_looks i peer deadline need key k) (λ d k' x. order_suffices i peer deadline need key is)
+      later_stage (Gain by size key) is k tk = absurd (true≢false (sym t.0.kind ∙ ap is_calm is))
+      later_stage (ends_job i outcome) is k tk = absurd (st.goes_on i outcome is)
+      later_stage (Talk (Some i)) is k tk =
+          talk_stage (Talk (Some i)) is refl (λ call owner f. cc) (asks tk) (look_refused tk.says)
+          (λ d k' x. let o = said_order d k' x in let bad : Talk (Some i) ≡ Order o.0 o.1 d o.2 k' = sym is ∙ o.3 in absurd (cc))
+        where
+          asks : TalkKind turn st.by.made (Talk (Some i)) → A v.phase v.phase
+          asks tk = elim (tk.under old.part_is) [
+            | inl f ↦ absurd (true≢false (sym (ap is_fresh f) ∙ later))
+            | inr u ↦ stage_asks p v.phase later u old.stage
+          ]
+      later_stage (Fault call by) is k tk = absurd (true≢false (sym t.0.kind ∙ ap is_calm is))
+      later_stage kind is k tk = absurd k
+
+    -- ---- its order comes before its deadline
+
+    timely_step : (goal : ℕ) (d : Option ℕ) (need : Need) (key : List ℕ) → e.kind ≡ Order j goal d need key → IsTimely d
+    timely_step goal d need key is = by d (subst (IsJobEntry turn st.by.made) is (step_kind s p e w st)).timed
+      where
+        later : is_fresh v.phase ≡ false
+        later = elim (fresh_or v.phase) [
+          | inl f ↦ absurd (elim (subst (TalkKind turn st.by.made) is (step_talk s p e w st fits)) [
+            | inl q ↦ (let bad : Fresh ≡ Next = sym f ∙ q.0 in cc)
+            | inr q ↦ elim q [ inl g ↦ (let bad : Fresh ≡ Greets _ = sym f ∙ g in cc) | inr g ↦ (let bad : Fresh ≡ AsksTime = sym f ∙ g in cc) ]
+          ])
+          | inr f ↦ f
+        ]
+
+        u : Under p
+        u = stage_under p v.phase later old.stage
+
+        now_is : st.by.look.time ≡ b.time
+        now_is = sym (ap (λ (q : Entry). q.time) st.by.is) ∙ time
+
+        before : (x y : ℕ) → x < y → nat_lt x y ≡ true
+        before x y l = grind (arith, nat_tests)
+
+        by : (d : Option ℕ) → HasDeadline turn st.by.made.taken d → IsTimely d
+        by None x n same = absurd (cc)
+        by (Some deadline) x n same =
+            let took : e.taken ≡ Some x.0 = ap (λ (q : Entry). q.taken) st.by.is ∙ x.1 in
+            let k = taken_of s p e st.by x.0 took in
+            let on : v.what.peer ≡ Some k.peer = ap (partner v.what.peer) (sym x.2) ∙ k.on in
+            let at : k.peer ≡ to = same_Some k.peer to (sym on ∙ (ap (λ (q : Job). q.peer) what_is ∙ to_is)) in
+            let seconds = time_told reads_back run repos past b a j what z h0 to to_is drops other_to xs h.1 t.1 e h.0 own st.by x.0 took (Timestamp x.3.0) x.3.2 refl refl x.3.0 refl in
+            let first_is = locks_end reads_back run repos past b a j what z h0 to to_is drops other_to p v number what_is old.heard u.first u.read u.settings_is x.3.1 x.3.3 in
+            before (clock run.repos past to b.time) (1000 * n) (deadline_later (clock_of turn) (clock run.repos past to b.time) x.3.1 n x.3.0
+            (seconds ∙ ap (λ c. clock run.repos past c b.time / 1000) at) (first_is ∙ ap (λ c. (state_of s p).clock c + hold_time) (sym now_is)) (sym (same_Some deadline n same) ∙ x.3.5))
+
+    part_step : (after e.kind).part ≡ Drops
+    part_step = (drops_good v.phase (after e.kind).part (after e.kind).phase (subst (λ q. GoodTo q v.phase (after e.kind).part (after e.kind).phase) old.part_is
+        (subst (λ (g : Work). GoodTo v.part v.phase g.part g.phase) st.work_is (steps_good s p e w st fits)))).0
+
+    step_inv : Inv (e ∷ p) w
+    step_inv = subst (Inv (e ∷ p)) (sym st.work_is) (elim (fresh_or v.phase) [
+      | inl f ↦ record { part_is = part_step; heard = first_heard f e.kind refl kind talk; stage = first_stage f e.kind refl kind talk; timely = timely }
+      | inr f ↦ record { part_is = part_step; heard = later_heard f; stage = later_stage f e.kind refl kind talk; timely = timely }
+    ])
+      where
+        kind : IsJobEntry turn st.by.made e.kind
+        kind = step_kind s p e w st
+
+        talk : TalkKind turn st.by.made e.kind
+        talk = step_talk s p e w st fits
+
+        timely : AreTimely (e ∷ p)
+        timely = timely_kept p e (λ own' goal d need key is. timely_step goal d need key is) old.timely
+
+  -- **where the job stands, at each past**
+  pub walk : (xs : List Entry) → RunPast (set_up run) (xs ++ base) → Since run base xs → (w : Work) → Member w (works (xs ++ base) a) → Inv (xs ++ base) w
+  walk [] h t w m = begin_inv w m
+  walk (e ∷ xs) h t w m = go (λ x n. walk xs h.1 t.1 x n) (is_of a e) refl
+    where
+      p : List Entry
+      p = xs ++ base
+
+      still : ((x : Work) → Member x (works p a) → Inv p x) → is_of a e ≡ true → Stays s p e w → Inv (e ∷ p) w
+      still old own y =
+          let part = part_of (set_up run) p e a h.0 own in
+          elim (calm_who s p part.words e part.own t.0.kind) [
+            | inl l ↦ line_inv xs e w t own part.own.known l (old w y.ran)
+            | inr g ↦ elim g [
+              | inl k ↦ absurd (no_session reads_back run repos past b a j what z h0 xs h.1 t.1 e h.0 own k)
+              | inr k ↦ absurd (true≢false (sym (calm_step w.number k.w.number e.kind t.0.kind (stepped_job s p e k)
+                  ((stepped_since run past b a j what z xs t.1 a e k).number_is ∙ sym (works_since run past b a j what z xs t.1 a w y.ran).number_is)) ∙ y.still))
+            ]
+          ]
+
+      by : ((x : Work) → Member x (works p a) → Inv p x) → is_of a e ≡ true → Origin s p e w → Inv (e ∷ p) w
+      by old own (inl y) = absurd (true≢false (sym t.0.kind ∙ ap is_calm y.kind_is))
+      by old own (inr (inl y)) = still old own y
+      by old own (inr (inr y)) = step_inv xs e h t own w m y (old y.by.w (step_runs s p e w y))
+
+      go : ((x : Work) → Member x (works p a) → Inv p x) → (d : Bool) → is_of a e ≡ d → Inv (e ∷ p) w
+      go old true own = by old own (origin s p e (own_past run repos a (e ∷ p) h).run own w m)
+      go old false off = other_inv p e w off (old w (rw off at m))
