@@ -2,7 +2,8 @@
 use Rattle.std.specs.Prelude.{ℕ, zero, suc, List, [], ◌∷◌, ◌++◌, length, reverse}
 use Rattle.run_data.specs.declared.run.Run.{Run}
 use Rattle.script_commands.specs.declared.command.Action.{Action}
-use Rattle.script_commands.specs.declared.command.Action.TheVariants.{Have, SetPart, Add, File, Set, Raw, Merge, Compact, Sync, Begin, Run, Turns, Settle, Close, Crash, Wait, Fail}
+use Rattle.script_commands.specs.declared.command.Action.TheVariants as actions
+use Rattle.script_commands.specs.declared.command.Action.TheVariants.{Have, SetPart, Add, File, Set, Raw, Merge, Compact, Sync, Begin, Turns, Settle, Close, Crash, Wait, Fail}
 use Rattle.script_commands.specs.declared.command.Command.{Command}
 use Rattle.script_commands.specs.declared.command.Command.TheVariants.{Does, Par}
 use Rattle.driver_model.specs.Driver.{Driver, DriverInput, at_first}
@@ -27,7 +28,7 @@ acts g (Merge r other) d = merges r other d
 acts g (Compact r) d = compacts r d
 acts g (Sync r) d = syncs g r d
 acts g (Begin r job) d = begins r job d
-acts g (Run r job) d = settles g (begins r job d)
+acts g (actions.Run r job) d = settles g (begins r job d)
 acts g (Turns r n) d = turns g r n d
 acts g Settle d = settles g d
 acts g (Close r other) d = closes g r other d
