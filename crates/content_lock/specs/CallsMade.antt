@@ -1,8 +1,6 @@
 -- Which calls of its store a step made, and which of these failed (own).
-use Rattle.std.specs.Prelude.{◌≡◌, ◌<◌, ℕ, nat_lt, List, [], ◌∷◌, find, Option, Some, None}
+use Rattle.std.specs.Prelude.{◌≡◌, ℕ, nat_lt, List, find, Option, Some, None}
 use Rattle.std.specs.Option.{ForSome, option_map}
-use Rattle.annex_base.specs.Calls.{call_number}
-use Rattle.annex_base.specs.Lists.{Each}
 use Rattle.annex_base.specs.declared.kinds.Call.{Call}
 use Rattle.object_store.specs.Calls.{one_fewer}
 
@@ -15,8 +13,3 @@ fewer (Some call) failing = one_fewer call failing
 pub record MakesCalls (calls : List Call) (failed : Option Call) (before after : Option (Call → ℕ)) : Type 0 where
   pub first : ForSome before (λ failing. failed ≡ find (λ call. nat_lt 0 (failing call)) calls)
   pub left : after ≡ option_map (fewer failed) before
-
--- each call comes before those with greater numbers: a step makes its calls in the order of Keeper's
-abbrev pub AreRising : List Call → Type 0
-AreRising [] = Unit {0}
-AreRising (c ∷ cs) = Each (λ d. call_number c < call_number d) cs × AreRising cs

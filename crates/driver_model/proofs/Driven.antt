@@ -161,7 +161,7 @@ module _ (laws : Laws) (g : DriverInput) where
   -- ---- blocks
 
   -- the lines of an agenda are of its repository
-  abbrev IsAgenda : Agenda → Type 0
+  abbrev pub IsAgenda : Agenda → Type 0
   IsAgenda a = (a.repo < length g.repos) × Each (IsBlockLine g a.repo) a.lines
 
   abbrev KeepsTaken : WithAgenda → Type 0
@@ -187,7 +187,7 @@ module _ (laws : Laws) (g : DriverInput) where
   abbrev KeepsEach : Block → Type 0
   KeepsEach b = Keeps g b.driver × Each IsAgenda b.left
 
-  keeps_each : (ags : List Agenda) (d : Driver) → Each IsAgenda ags → Keeps g d → Keeps g (takes_each g ags d).driver × Each IsAgenda (takes_each g ags d).left
+  pub keeps_each : (ags : List Agenda) (d : Driver) → Each IsAgenda ags → Keeps g d → Keeps g (takes_each g ags d).driver × Each IsAgenda (takes_each g ags d).left
   keeps_each [] d all k = (k, tt)
   keeps_each (a ∷ ags) d all k = go (lacks_next (takes g a d).driver.past a.repo (takes g a d).left.lines) (keeps_each ags (takes g a d).driver all.1 one.0)
     where
@@ -199,7 +199,7 @@ module _ (laws : Laws) (g : DriverInput) where
       go true rest = (one.0, (one.1, all.1))
       go false rest = (rest.0, (one.1, rest.1))
 
-  abbrev KeepsBlocked : InBlock → Type 0
+  abbrev pub KeepsBlocked : InBlock → Type 0
   KeepsBlocked x = Keeps g x.driver × Each IsAgenda x.left
 
   keeps_with_round : (x : InBlock) (b : Block) → Keeps g b.driver × Each IsAgenda b.left → KeepsBlocked (with_round g x b)
@@ -209,7 +209,7 @@ module _ (laws : Laws) (g : DriverInput) where
       go true = y
       go false = (keeps_round b.driver y.0, y.1)
 
-  keeps_block_round : (x : InBlock) → KeepsBlocked x → KeepsBlocked (block_round g x)
+  pub keeps_block_round : (x : InBlock) → KeepsBlocked x → KeepsBlocked (block_round g x)
   keeps_block_round x k = go (is_over x)
     where
       go : (b : Bool) → KeepsBlocked (if b then x else with_round g x (takes_each g x.left x.driver))
@@ -232,7 +232,7 @@ module _ (laws : Laws) (g : DriverInput) where
       go more true i = (subst (λ k. IsBlockLine g k x.line) (eqb-true x.repo r i) all.0.1, more)
       go more false i = more
 
-  agendas : (xs : List Agendum) → Each (IsAgendum g) xs → (rs : List ℕ) → Each (λ r. r < length g.repos) rs → Each IsAgenda (map (agenda xs) rs)
+  pub agendas : (xs : List Agendum) → Each (IsAgendum g) xs → (rs : List ℕ) → Each (λ r. r < length g.repos) rs → Each IsAgenda (map (agenda xs) rs)
   agendas xs all [] known = tt
   agendas xs all (r ∷ rs) known = ((known.0, agenda_lines r xs all), agendas xs all rs known.1)
 

@@ -63,13 +63,13 @@ abbrev CodesApart : List Code → Type 0
 CodesApart [] = Unit {0}
 CodesApart (c ∷ cs) = Each (λ d. same_code d c ≡ false) cs × CodesApart cs
 
-abbrev codes : List Code
+abbrev pub codes : List Code
 codes = (0, true) ∷ (1, true) ∷ (2, true) ∷ (3, true) ∷ (0, false) ∷ (1, false) ∷ (2, false) ∷ (3, false) ∷ []
 
-codes_apart : CodesApart codes
+pub codes_apart : CodesApart codes
 codes_apart = ((refl, (refl, (refl, (refl, (refl, (refl, (refl, tt))))))), ((refl, (refl, (refl, (refl, (refl, (refl, tt)))))), ((refl, (refl, (refl, (refl, (refl, tt))))), ((refl, (refl, (refl, (refl, tt)))), ((refl, (refl, (refl, tt))), ((refl, (refl, tt)), ((refl, tt), (tt, tt))))))))
 
-codes_ends : (p : ℕ) (cs : List Code) → CodesApart cs → AreApart (map (at p) cs)
+pub codes_ends : (p : ℕ) (cs : List Code) → CodesApart cs → AreApart (map (at p) cs)
 codes_ends p [] n = tt
 codes_ends p (c ∷ cs) n = (each cs n.0, codes_ends p cs n.1)
   where

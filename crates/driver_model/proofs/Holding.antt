@@ -99,7 +99,7 @@ module _ (laws : Laws) (g : DriverInput) (d : Driver) (h : IsSound g d) (r : ℕ
       let y = x.first f i in
       ap (λ (g : FrameView). is_opening g.body) (sym y.frame_is) ∙ Each-middle ComesDown y.front y.x y.back (subst (Each ComesDown) y.split h.down) (ap (λ (g : FrameView). g.up) y.frame_is ∙ u)
 
-  entry_step : IsWithinBounds d.past e → RunStep (set_up_on g d.tree d.past) d.past e
+  pub entry_step : IsWithinBounds d.past e → RunStep (set_up_on g d.tree d.past) d.past e
   entry_step fit = record {
     order = record {
       after = after_newest d.past e x.count_is;

@@ -31,11 +31,11 @@ use Rattle.driver_model.proofs.WayNumbers.{follow_at, sent_more, sent_same_as}
 
 -- ---- ends that are past an epoch
 
-abbrev old_by : End → ℕ → Bool
+abbrev pub old_by : End → ℕ → Bool
 old_by c n = nat_lt n c.epoch || ((n == c.epoch) && not c.opened)
 
 -- or else no frame of the epoch is old there
-over_or : (c : End) (n : ℕ) → IsOver c n ⊎ (old_by c n ≡ false)
+pub over_or : (c : End) (n : ℕ) → IsOver c n ⊎ (old_by c n ≡ false)
 over_or c n = go (nat_lt n c.epoch) refl (n == c.epoch) refl c.opened refl
   where
     go : (a : Bool) → nat_lt n c.epoch ≡ a → (b : Bool) → (n == c.epoch) ≡ b → (o : Bool) → c.opened ≡ o → IsOver c n ⊎ (old_by c n ≡ false)
@@ -95,7 +95,7 @@ over_takes c f n may o = go f.body refl
     go (Line text) i = o
 
 -- an own entry leaves it so
-over_own : EntryLaws → (s : SetUp) (past : List Entry) (words : ℕ → Option Word) (e : Entry) (a : EndName) (n : ℕ) → is_of s.number e ≡ true → OwnPart s past words e
+pub over_own : EntryLaws → (s : SetUp) (past : List Entry) (words : ℕ → Option Word) (e : Entry) (a : EndName) (n : ℕ) → is_of s.number e ≡ true → OwnPart s past words e
     → IsOver (end_at past s.number a) n → IsOver (end_at (e ∷ past) s.number a) n
 over_own laws s past words e a n is own o = subst (λ (c : End). IsOver c n) (sym (end_own s.number past a e is)) (over_all (end_took (end_at past s.number a) (taken_at a e.taken)) (sent_at a e.sent) n (go e.taken refl))
   where

@@ -41,7 +41,7 @@ ends_none : (s : SetUp) (st : State) (lines : List (List ℕ)) (frames_sent : Li
 ends_none s st lines frames_sent kind j outcome may is = subst (MayCome s st lines frames_sent) is may
 
 -- an entry that may come at any time, and takes none
-come_entry : (g : DriverInput) (d : Driver) (r : ℕ) (kind : EntryKind) (lines : List (List ℕ)) (frames_sent : List FrameView) → r < length g.repos → MayCome (set_up_of g d r) (state_at g d r) lines frames_sent kind
+pub come_entry : (g : DriverInput) (d : Driver) (r : ℕ) (kind : EntryKind) (lines : List (List ℕ)) (frames_sent : List FrameView) → r < length g.repos → MayCome (set_up_of g d r) (state_at g d r) lines frames_sent kind
     → NewEntry g d r (record (entry d r kind lines) { sent = frames_sent })
 come_entry g d r kind lines frames_sent known may = record {
   words = λ c. None;

@@ -46,7 +46,7 @@ store_past st r m bytes (Talk job) d = frame_past r bytes (asked_key st m) m.tak
 store_past st r m bytes (Fault call by) d = refl
 store_past st r m bytes kind d = refl
 
-abbrev many : Driver → ℕ
+abbrev pub many : Driver → ℕ
 many d = length d.past
 
 makes_more : (st : State) (r : ℕ) (k : Look) (o : Option Effect) (d : Driver) → many d ≤ many (makes st r k o d)
@@ -57,14 +57,14 @@ looks_more : (g : DriverInput) (r : ℕ) (s : SetUp) (st : State) (o : Option Ef
 looks_more g r s st None d = omega arith
 looks_more g r s st (Some m) d = makes_more st r (look_for g d r s st m) (step s st (look_for g d r s st m)) d
 
-turn_more : (g : DriverInput) (r : ℕ) (d : Driver) → many d ≤ many (turn g r d)
+pub turn_more : (g : DriverInput) (r : ℕ) (d : Driver) → many d ≤ many (turn g r d)
 turn_more g r d = looks_more g r (set_up_of g d r) (state_at g d r) (step (set_up_of g d r) (state_at g d r) (plain_look (set_up_of g d r) (without_old_flights (state_at g d r) r d))) (without_old_flights (state_at g d r) r d)
 
-turns_more : (g : DriverInput) (rs : List ℕ) (d : Driver) → many d ≤ many (turns_of g rs d)
+pub turns_more : (g : DriverInput) (rs : List ℕ) (d : Driver) → many d ≤ many (turns_of g rs d)
 turns_more g [] d = omega arith
 turns_more g (r ∷ rs) d = let i = turn_more g r d in let j = turns_more g rs (turn g r d) in omega (arith, i, j)
 
-round_more : (g : DriverInput) (d : Driver) → many d ≤ many (round g d)
+pub round_more : (g : DriverInput) (d : Driver) → many d ≤ many (round g d)
 round_more g d = turns_more g (numbers g) d
 
 -- ---- a turn makes an entry where a step is ready

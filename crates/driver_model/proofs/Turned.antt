@@ -168,14 +168,14 @@ module _ (laws : Laws) (alike : EndsAlike) (g : DriverInput) (r : ℕ) (known : 
       calls_in None cs h = absurd (cc)
       calls_in (Some z) cs h = cc
 
-  words_told : (m m' : Effect) → step s st (plain_look s d) ≡ Some m → step s st (look_for g d r s st m) ≡ Some m'
+  pub words_told : (m m' : Effect) → step s st (plain_look s d) ≡ Some m → step s st (look_for g d r s st m) ≡ Some m'
       → (j : ℕ) (outcome : Outcome) → m'.kind ≡ ends_job j outcome → (c : ℕ) → told_words d.past r m.kind c ≡ word_told d.past r j c
   words_told m m' plain e j outcome is c =
       let quiet = calm m m' (find (fails_at d r) (made_calls (step s st (calm_look g d r s st m)))) refl e j outcome is in
       let same = alike s st (plain_look s d) (part_size d r (asked_key st m)) (part_right g d r (asked_key st m)) (told_words d.past r m.kind) m m' j outcome refl plain quiet is in
       ap (λ kind. told_words d.past r kind c) same.1
 
-  new_entry : (m m' : Effect) → step s st (plain_look s d) ≡ Some m → step s st (look_for g d r s st m) ≡ Some m' → IsSound g d → HasBoundedPast d → NewEntry g d r (entry_of r (look_for g d r s st m) m')
+  pub new_entry : (m m' : Effect) → step s st (plain_look s d) ≡ Some m → step s st (look_for g d r s st m) ≡ Some m' → IsSound g d → HasBoundedPast d → NewEntry g d r (entry_of r (look_for g d r s st m) m')
   new_entry m m' plain e h fits = record {
     words = told_words d.past r m.kind;
     repo_is = refl;

@@ -135,7 +135,7 @@ module _ (names : NamedJobs) (s : SetUp) (st : State) (k : Look) (fails : Option
 -- ---- an owed line
 
 -- a step with these owed lines
-abbrev step_of : SetUp → State → List OwedLine → Look → Option Effect
+abbrev pub step_of : SetUp → State → List OwedLine → Look → Option Effect
 step_of s st os k = option_or (pays_first s st k os) (option_or (session_step s st k) (job_step s st k))
 
 -- the driver's own look for this step, with all words that the job was told

@@ -20,7 +20,7 @@ use Rattle.driver_model.proofs.Settles.{bound_not_met}
 -- ---- of pasts, which have the newest entry first
 
 -- the entry is one of the first so many repositories
-abbrev IsOfFirst : ℕ → Entry → Type 0
+abbrev pub IsOfFirst : ℕ → Entry → Type 0
 IsOfFirst n e = (r : ℕ) × (r < n) × (is_of r e ≡ true)
 
 -- the one past is the other with such entries in front
@@ -71,7 +71,7 @@ module _ (g : DriverInput) where
 -- ---- how many entries these are
 
 -- how many the first so many repositories have made
-abbrev total : ℕ → List Entry → ℕ
+abbrev pub total : ℕ → List Entry → ℕ
 total zero past = 0
 total (suc n) past = count_of past n + total n past
 
@@ -89,21 +89,21 @@ total_one (suc n) e past x = elim (last_or_before x.0 n x.1) [
   | inr before ↦ let i = (count_one n e past).0 in let j = total_one n e past (x.0, before, x.2) in omega (arith, i, j)
 ]
 
-total_added : (n : ℕ) (more past : List Entry) → Each (IsOfFirst n) more → total n past + length more ≤ total n (more ++ past)
+pub total_added : (n : ℕ) (more past : List Entry) → Each (IsOfFirst n) more → total n past + length more ≤ total n (more ++ past)
 total_added n [] past first = omega arith
 total_added n (e ∷ more) past first =
     let i = total_added n more past first.1 in
     let j = total_one n e (more ++ past) first.0 in
     omega (arith, i, j)
 
-total_few : (n : ℕ) (past : List Entry) → ((q : ℕ) → q < n → count_of past q ≤ most_entries) → total n past ≤ n * 100000
+pub total_few : (n : ℕ) (past : List Entry) → ((q : ℕ) → q < n → count_of past q ≤ most_entries) → total n past ≤ n * 100000
 total_few zero past few = omega arith
 total_few (suc n) past few =
     let i = few n (omega arith) in
     let j = total_few n past (λ q below. few q (omega (arith, below))) in
     omega (arith, i, j)
 
-fewer : (n before more sum after total : ℕ) → n ≤ 8 → before + more ≤ sum → sum ≤ n * 100000 → after ≡ more + total → after < total + 2000000
+pub fewer : (n before more sum after total : ℕ) → n ≤ 8 → before + more ≤ sum → sum ≤ n * 100000 → after ≡ more + total → after < total + 2000000
 fewer n before more sum after total eight added few is = omega (arith, eight, added, few, is)
 
 pub rests_within_limit : (g : DriverInput) (x : AfterRounds) (bound : ℕ) → bound ≡ most_rounds → length g.repos ≤ 8

@@ -154,7 +154,7 @@ abbrev pub block_rounds : DriverInput → ℕ → InBlock → InBlock
 block_rounds g zero x = block_round g x
 block_rounds g (suc n) x = if is_over x then x else block_rounds g n (block_rounds g n x)
 
--- the bound is that of a settling: of each two such rounds but the last one adds an entry or takes a line (no law says so yet)
+-- the bound is that of a settling: of each two such rounds but the last one adds an entry or takes a line
 abbrev pub block_end : DriverInput → List Agendum → Driver → InBlock
 block_end g xs d = block_rounds g most_rounds (record { driver = d; left = map (agenda xs) (numbers g); idle = 0; took = true })
 

@@ -1,3 +1,4 @@
+-- The lemmas of this crate.
 mod Keeping
 mod PartsTold
 mod SessionKeeps

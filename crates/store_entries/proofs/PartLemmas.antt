@@ -53,13 +53,6 @@ pub others_changed : {X E : Type 0} (r : Result X E) (key : List ℕ) (new : Par
 others_changed (Ok x) key new p q ok err = others_at key new p q ok
 others_changed (Err e) key new p q ok err = others_same key p q err
 
-some_there : (p : Option Parts) → is_some p ≡ true → (f : Parts) × (p ≡ Some f)
-some_there None there = absurd cc
-some_there (Some f) there = (f, refl)
-
-told_there : (g : Parts) (p q : Option Parts) → is_some q ≡ is_some p → q ≡ Some g → (f : Parts) × (p ≡ Some f)
-told_there g p q same told = some_there p (sym same ∙ ap is_some told)
-
 -- a key that isn't filled is none of those that are
 pub filled_left : (rows : Rows) (key : List ℕ) (p q : Option Parts) → is_filling rows key ≡ false → LeavesOthers key p q → LeavesFilled rows p q
 filled_left rows key p q free leaves = record {

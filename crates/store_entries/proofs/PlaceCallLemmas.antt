@@ -69,14 +69,6 @@ at_append : (key bytes : List ℕ) (p : Option Parts) → option_map (λ (f : Pa
 at_append key bytes None = refl
 at_append key bytes (Some f) = refl
 
-at_commit : (key bytes : List ℕ) (p : Option Parts) → option_map (λ (f : Parts). with_at f key bytes) p ≡ option_map (parts_at calls.Commit key bytes) p
-at_commit key bytes None = refl
-at_commit key bytes (Some f) = refl
-
-at_put : (key bytes : List ℕ) (p : Option Parts) → option_map (λ (f : Parts). with_at f key []) p ≡ option_map (parts_at calls.PutFile key bytes) p
-at_put key bytes None = refl
-at_put key bytes (Some f) = refl
-
 -- ---- stops before the content
 
 pub early_scripts : (call : Call) → is_early call ≡ true → is_scripts call ≡ true
