@@ -8,7 +8,7 @@ from annex_repository import Failure
 
 TOP = pathlib.Path(__file__).resolve().parent.parent
 MOST_BYTES = 1_048_576
-MOST_REPOSITORIES = 8
+MOST_REPOSITORIES = 16
 FAULT = re.compile(r"script line (\d+) byte (\d+)\n")
 
 

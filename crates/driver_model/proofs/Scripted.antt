@@ -85,7 +85,7 @@ keeps_calling laws g d r call done known is k more = go (fails_at d r call) refl
 
 -- ---- jobs
 
-peer_same : (g : DriverInput) (d : Driver) (r : ℕ) (job : Job) → IsJob g r job → IsPeer (set_up_of g d r) job.kind job.peer
+pub peer_same : (g : DriverInput) (d : Driver) (r : ℕ) (job : Job) → IsJob g r job → IsPeer (set_up_of g d r) job.kind job.peer
 peer_same g d r job x = go job.peer x.peer
   where
     go : (p : Option ℕ) → IsPeer (record { number = r; repos = g.repos; paths = λ j. [] }) job.kind p → IsPeer (set_up_of g d r) job.kind p

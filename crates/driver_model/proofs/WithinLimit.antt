@@ -103,16 +103,16 @@ total_few (suc n) past few =
     let j = total_few n past (λ q below. few q (omega (arith, below))) in
     omega (arith, i, j)
 
-pub fewer : (n before more sum after total : ℕ) → n ≤ 8 → before + more ≤ sum → sum ≤ n * 100000 → after ≡ more + total → after < total + 2000000
-fewer n before more sum after total eight added few is = omega (arith, eight, added, few, is)
+pub fewer : (n before more sum after total : ℕ) → n ≤ 16 → before + more ≤ sum → sum ≤ n * 100000 → after ≡ more + total → after < total + 2000000
+fewer n before more sum after total sixteen added few is = omega (arith, sixteen, added, few, is)
 
-pub rests_within_limit : (g : DriverInput) (x : AfterRounds) (bound : ℕ) → bound ≡ most_rounds → length g.repos ≤ 8
+pub rests_within_limit : (g : DriverInput) (x : AfterRounds) (bound : ℕ) → bound ≡ most_rounds → length g.repos ≤ 16
     → is_too_long g (rounds g bound x).driver.past ≡ false → is_settled (rounds g bound x) ≡ true
-rests_within_limit g x bound e eight short =
+rests_within_limit g x bound e sixteen short =
     let grew = rounds_grow g bound x in
     let n : ℕ = length g.repos in
     let after : List Entry = (rounds g bound x).driver.past in
     let added = subst (λ (past : List Entry). total n x.driver.past + length grew.0 ≤ total n past) (sym grew.1) (total_added n grew.0 x.driver.past grew.2) in
     let few = total_few n after (few_entries g after short) in
     let is = ap length grew.1 ∙ length-append grew.0 x.driver.past in
-    bound_not_met g x bound e (fewer n (total n x.driver.past) (length grew.0) (total n after) (length after) (length x.driver.past) eight added few is)
+    bound_not_met g x bound e (fewer n (total n x.driver.past) (length grew.0) (total n after) (length after) (length x.driver.past) sixteen added few is)

@@ -48,7 +48,7 @@ abbrev pub rounds : DriverInput → ℕ → AfterRounds → AfterRounds
 rounds g zero x = goes_round g x
 rounds g (suc n) x = if is_settled x then x else rounds g n (rounds g n x)
 
--- Of each two rounds after each other, but for the last two, one adds an entry, and no repository of at most eight makes more than
+-- Of each two rounds after each other, but for the last two, one adds an entry, and no repository of at most sixteen makes more than
 -- 100,000 entries. So two to this power, which is more than 4,000,000, is never met (law `settlings_come_to_rest`).
 abbrev pub most_rounds : ℕ
 most_rounds = 22

@@ -115,12 +115,12 @@ pub fn runs_log_lines()
 }
 
 /// A settling that adds fewer than 2,000,000 entries ends with two rounds that add none, so the bound on its rounds isn't met. So
-/// does each settling of at most eight repositories that leaves none with more than 100,000 entries: it adds entries of these
+/// does each settling of at most sixteen repositories that leaves none with more than 100,000 entries: it adds entries of these
 /// repositories alone. And a turn that adds none found no step ready, with the first frame at each end at hand (own).
 pub fn settlings_come_to_rest()
     ensures settled { (g : DriverInput) (x : AfterRounds) (bound : ℕ) → bound ≡ most_rounds
         → length (rounds g bound x).driver.past < length x.driver.past + 2000000 → is_settled (rounds g bound x) ≡ true }
-    ensures limited { (g : DriverInput) (x : AfterRounds) (bound : ℕ) → bound ≡ most_rounds → length g.repos ≤ 8
+    ensures limited { (g : DriverInput) (x : AfterRounds) (bound : ℕ) → bound ≡ most_rounds → length g.repos ≤ 16
         → is_too_long g (rounds g bound x).driver.past ≡ false → is_settled (rounds g bound x) ≡ true }
     ensures idle { (g : DriverInput) (r : ℕ) (d : Driver) → length (turn g r d).past ≡ length d.past
         → step (set_up_of g d r) (state_at g d r) (plain_look (set_up_of g d r) (without_old_flights (state_at g d r) r d)) ≡ None }

@@ -33,7 +33,7 @@ Differ a b = a ≢ b
 -- the repositories of a run
 pub record Declares (repos : List RepoView) : Type 0 where
   pub each : Each IsSetUp repos
-  pub few : length repos ≤ 8
+  pub few : length repos ≤ 16
   pub apart : AllPairs Differ (map id_in repos)
 
 -- ---- one more
@@ -87,7 +87,7 @@ one_more x (commands.Repo name id offset version locks) s p e d =
     let three = version_is version locks e in
     let long = length-append (map view_of x.repos) (new ∷ []) in
     let count = length-map x.repos view_of in
-    let few = within _ 8 (length x.repos + 1) p in
+    let few = within _ 16 (length x.repos + 1) p in
     let ids = map-append id_in (map view_of x.repos) (new ∷ []) in
     let fresh = new_id x.repos id s.0.new_id in
     record {

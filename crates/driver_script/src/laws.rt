@@ -23,11 +23,11 @@ use annex_key::key_texts_have_no_fault;
 use key_verify::{made_keys_match, verdicts_are_matches};
 use script_lang::{commands_have_lines, commands_stand};
 
-/// A script that can be driven declares at most eight repositories, each set up within its bounds, no two with one identifier;
+/// A script that can be driven declares at most sixteen repositories, each set up within its bounds, no two with one identifier;
 /// and each of its lines is one of a run of these.
 pub fn scripts_may_be_driven()
     ensures repos { (text : List ℕ) (all : List Command) → IsScript text all → Each IsSetUp (repos_of all) }
-    ensures few { (text : List ℕ) (all : List Command) → IsScript text all → length (repos_of all) ≤ 8 }
+    ensures few { (text : List ℕ) (all : List Command) → IsScript text all → length (repos_of all) ≤ 16 }
     ensures apart { (text : List ℕ) (all : List Command) → IsScript text all → AllPairs (λ a b. a ≢ b) (map (λ repo. repo.id) (repos_of all)) }
     ensures lines { (text : List ℕ) (all : List Command) → IsScript text all → Each (IsOne (driver_input_of all)) all }
 {

@@ -16,7 +16,7 @@ quantity_name Files = codes "files"
 quantity_name Time = codes "time"
 
 abbrev pub limit_of : Quantity → ℕ
-limit_of Repositories = 8
+limit_of Repositories = 16
 limit_of Content = most_content
 limit_of Contents = 268435456
 limit_of Files = 4096

@@ -55,7 +55,7 @@ fn position_of(repos: &[Repository], name: &[u8]) -> Option<usize>
 
 /// The number of the repository of this name.
 pub fn find_repository(repos: &[Repository], name: &[u8]) -> Option<u32>
-    requires { length repos.now ≤ 8 }
+    requires { length repos.now ≤ 16 }
     ensures { result ≡ number_of_repo repos.now name.now }
 {
     match position_of(repos, name) {
@@ -66,7 +66,7 @@ pub fn find_repository(repos: &[Repository], name: &[u8]) -> Option<u32>
 
 /// The number of another repository of this name.
 pub fn find_other(repos: &[Repository], repo: u32, name: &[u8]) -> Option<u32>
-    requires { length repos.now ≤ 8 }
+    requires { length repos.now ≤ 16 }
     ensures { result ≡ number_of_other repos.now repo name.now }
 {
     match find_repository(repos, name) {
@@ -111,5 +111,5 @@ impl Model for Context {
 
     ghost view = { λ c. record { repos = c.repos.items; closed = c.closed; tree = c.tree; files = c.files; placed = c.placed.keys; contents = c.contents; waited = c.waited } };
 
-    ghost invariant = { λ c. (length c.repos.items ≤ 8) × (c.files ≤ 4096) × (c.contents ≤ 268435456) × (c.waited ≤ 1000000000000) };
+    ghost invariant = { λ c. (length c.repos.items ≤ 16) × (c.files ≤ 4096) × (c.contents ≤ 268435456) × (c.waited ≤ 1000000000000) };
 }

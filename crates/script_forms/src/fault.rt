@@ -33,7 +33,7 @@ pub enum LineFault {
 /// What is counted, and limited (own).
 #[derive(Clone, Copy, Debug, PartialEq, Eq)]
 pub enum Quantity {
-    /// `repo` lines, at most 8
+    /// `repo` lines, at most 16
     Repositories,
     /// The bytes of one content, at most 16,777,216
     Content,
@@ -64,7 +64,7 @@ impl Quantity {
         ensures { result ≡ limit_of self }
     {
         match self {
-            Quantity::Repositories => 8,
+            Quantity::Repositories => 16,
             Quantity::Content => 16_777_216,
             Quantity::Contents => 268_435_456,
             Quantity::Files => 4_096,

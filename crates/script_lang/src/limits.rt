@@ -26,7 +26,7 @@ fn files_pass(context: &Context, path: &Text) -> bool
 
 /// Whether one repository more passes their limit.
 fn repositories_pass(context: &Context) -> bool
-    ensures { result ≡ nat_lt 8 (length context.now.repos + 1) }
+    ensures { result ≡ nat_lt 16 (length context.now.repos + 1) }
 {
     context.repos.len() as u64 + 1 > Quantity::Repositories.limit()
 }
