@@ -5,7 +5,7 @@ use Rattle.annex_base.specs.Lists.{Each}
 use Rattle.run_data.specs.declared.run.Run.{Run}
 use Rattle.run_model.specs.Past.{now}
 use Rattle.run_model.specs.Run.{IsRun}
-use Rattle.repo_node.specs.Stored.{StoreView}
+use Rattle.fleet_run.specs.Stored.{StoreView}
 use Rattle.script_commands.specs.declared.command.Command.{Command}
 use Rattle.script_lang.specs.Script as script
 use Rattle.script_lang.specs.Script.{context_with, no_context, wait_of}
@@ -16,7 +16,7 @@ use Rattle.driver_model.specs.Limits.{drives_to_limit, limited_run, meets_limit,
 use Rattle.driver_model.specs.Lines.{waited_by}
 use Rattle.driver_script.specs.Inputs.{driver_input_of}
 use Rattle.driver_script.specs.Lines.{declared_by, first_unbuilt, is_built, repos_of}
-use Rattle.fleet_model.specs.Fleets.{FleetView}
+use Rattle.fleet_run.specs.Fleets.{FleetView}
 use Rattle.fleet_run.specs.declared.stop.FleetStop.{FleetStop}
 use Rattle.fleet_run.specs.Commands.{CutsAt, MayBeDone, MeetsNone, does_and_marks}
 use Rattle.fleet_run.specs.AtDriver.{GoesOn, IsAtDriver, IsDrivenWithin}

@@ -2,7 +2,7 @@
 use Rattle.std.specs.Prelude.{◌≡◌, ◌+◌, true, List, None, length}
 use Rattle.annex_base.specs.Lists.{Each}
 use Rattle.run_model.specs.Past.{now}
-use Rattle.repo_node.specs.Stored.{StoreView}
+use Rattle.fleet_run.specs.Stored.{StoreView}
 use Rattle.script_commands.specs.declared.command.Command.{Command}
 use Rattle.script_lang.specs.Context.{Context}
 use Rattle.script_lang.specs.Preconditions.{AllStand}
@@ -10,7 +10,7 @@ use Rattle.driver_model.specs.Driver.{Driver}
 use Rattle.driver_model.specs.Limits.{drives_to_limit, limited_run}
 use Rattle.driver_script.specs.Inputs.{driver_input_of}
 use Rattle.driver_script.specs.Lines.{first_unbuilt, is_built, repos_of}
-use Rattle.fleet_model.specs.Fleets.{FleetView}
+use Rattle.fleet_run.specs.Fleets.{FleetView}
 use Rattle.fleet_run.specs.AtDriver.{IsAtDriver, IsDrivenWithin}
 
 -- The fleet has done the lines of the script's commands up to these, which are left: it stands where the driver does, which has then

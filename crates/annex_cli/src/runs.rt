@@ -1,13 +1,13 @@
 //! The run of a script, by a fleet of nodes.
 ghost use Rattle.std.specs.Prelude.{◌≡◌, ◌≤◌, ℕ, true, [], List, length, None, Err, IfOk, OnOk};
-ghost use Rattle.repo_node.specs.Stored.{store_view};
+ghost use Rattle.fleet_run.specs.Stored.{store_view};
 ghost use Rattle.script_lang.specs.Script.{no_context};
 ghost use Rattle.script_lang.specs.Preconditions.{AllStand};
 ghost use Rattle.driver_model.specs.Driver.{at_first};
 ghost use Rattle.driver_script.specs.Inputs.{driver_input_of};
 ghost use Rattle.driver_script.specs.Lines.{first_unbuilt, repos_of};
 ghost use Rattle.fleet_run.specs.AtDriver.{IsAtDriver, IsDrivenWithin, most_lines};
-ghost use Rattle.joined_nodes.specs.Joined.{MayRun};
+ghost use Rattle.fleet_run.specs.Joined.{MayRun};
 ghost use Rattle.script_answers.specs.Runs.{IsRunOf};
 ghost use Rattle.annex_cli.specs.Doing.{HasDone};
 
@@ -47,7 +47,7 @@ pub fn run_script(alloc: Global, script: &Script) -> Result<Ran, NoMemory>
     requires built { first_unbuilt script.now ≡ None }
     requires stand { AllStand no_context script.now }
     requires run { MayRun (repos_of script.now) }
-    requires repos { length (repos_of script.now) ≤ 8 }
+    requires repos { length (repos_of script.now) ≤ 16 }
     requires few { length script.now ≤ most_lines }
     ensures { IfOk result (λ ran. IsRunOf script.now ran.is_cut ran.run) }
 {

@@ -14,9 +14,9 @@ use Rattle.run_model.specs.Past.{begun_count}
 use Rattle.run_model.specs.States.{works}
 use Rattle.driver_model.specs.Driver.{Driver, DriverInput, notes, set_up_of, state_at}
 use Rattle.driver_model.specs.ScriptSteps.{begins}
-use Rattle.repo_node.specs.Nodes as nodes
-use Rattle.repo_node.specs.Nodes.{NodeView, with_entry}
-use Rattle.repo_node.specs.Stored.{StoreView}
+use Rattle.joined_nodes.specs.Nodes as nodes
+use Rattle.joined_nodes.specs.Nodes.{NodeView, with_entry}
+use Rattle.joined_nodes.specs.Stored.{StoreView}
 use Rattle.fleet_model.proofs.Noting.{IsRaised, noted}
 
 -- the node after it began a job of this number

@@ -23,10 +23,10 @@ use Rattle.link_flights.specs.Flights.{IsEndIn}
 use Rattle.link_flights.specs.Words.{AreWorded}
 use Rattle.node_jobs.specs.Running.{given_of, words_at}
 use Rattle.node_ends.specs.Ends.{link_at}
-use Rattle.repo_node.specs.Nodes.{NodeView}
+use Rattle.joined_nodes.specs.Nodes.{NodeView}
 use Rattle.fleet_model.specs.Fleets.{FleetView, HasCome, HasGiven, IsNodeOf, links_at}
 use Rattle.fleet_model.specs.Stores.{IsTold, waiting_fails}
-use Rattle.repo_node.specs.Stored.{StoreView}
+use Rattle.joined_nodes.specs.Stored.{StoreView}
 use Rattle.fleet_model.proofs.Hearing.{WordLaws}
 use Rattle.fleet_model.proofs.Pathing.{given_entered}
 

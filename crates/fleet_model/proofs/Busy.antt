@@ -9,9 +9,9 @@ use Rattle.node_model.specs.SetUp.{SetUp}
 use Rattle.node_model.specs.State.{State}
 use Rattle.driver_model.specs.Driver.{Driver, DriverInput, set_up_of, state_at}
 use Rattle.driver_model.specs.ScriptSteps.{is_busy}
-use Rattle.repo_node.specs.Nodes as nodes
-use Rattle.repo_node.specs.Nodes.{NodeView}
-use Rattle.repo_node.specs.Placing.{IsTaken}
+use Rattle.joined_nodes.specs.Nodes as nodes
+use Rattle.joined_nodes.specs.Nodes.{NodeView}
+use Rattle.joined_nodes.specs.Placing.{IsTaken}
 
 filled_alike : (s : SetUp) (st st' : State) (key : List ℕ) → AgreesAtDrops st st' → is_filled s st key ≡ is_filled s st' key
 filled_alike s st st' key agrees = ap (λ (x : State). is_filled s x key) agrees.same

@@ -16,10 +16,10 @@ use Rattle.link_flights.specs.Flights.{IsEndIn}
 use Rattle.link_flights.specs.Heard.{HeardSo}
 use Rattle.link_flights.specs.Words.{AreWorded}
 use Rattle.node_jobs.specs.Running.{given_of, words_at}
-use Rattle.repo_node.specs.Nodes.{NodeView}
+use Rattle.joined_nodes.specs.Nodes.{NodeView}
 use Rattle.fleet_model.specs.Fleets.{FleetView, HasCome, HasGiven, IsNodeOf, links_at}
 use Rattle.fleet_model.specs.Steps.{OneGoesOn}
-use Rattle.repo_node.specs.Stored.{StoreView}
+use Rattle.joined_nodes.specs.Stored.{StoreView}
 use Rattle.fleet_model.proofs.Going.{GoesOnQuietly, entries_go_on, goes_within, others_are}
 use Rattle.fleet_model.proofs.Hearing.{WordLaws, others_hear, words_stay}
 use Rattle.fleet_model.proofs.Noting.{IsRaised, is_node}

@@ -9,12 +9,12 @@ use Rattle.node_model.specs.State.{State}
 use Rattle.driver_model.specs.Driver.{Driver, DriverInput, part_at, set_up_of}
 use Rattle.driver_model.specs.ScriptSteps.{has, is_busy, sets_part}
 use Rattle.driver_model.specs.Sound.{StaysSound}
-use Rattle.repo_node.specs.Calls.{IsDoneBy, StopsAt, node_at, to_place, to_place_part}
-use Rattle.repo_node.specs.Nodes as nodes
-use Rattle.repo_node.specs.Nodes.{NodeView}
-use Rattle.repo_node.specs.Placing.{IsPlaced, IsTaken, with_placed}
-use Rattle.repo_node.specs.Stored.{StoreView}
-use Rattle.repo_node.specs.Walks.{over}
+use Rattle.joined_nodes.specs.Calls.{IsDoneBy, StopsAt, node_at, to_place, to_place_part}
+use Rattle.joined_nodes.specs.Nodes as nodes
+use Rattle.joined_nodes.specs.Nodes.{NodeView}
+use Rattle.joined_nodes.specs.Placing.{IsPlaced, IsTaken, with_placed}
+use Rattle.joined_nodes.specs.Stored.{StoreView}
+use Rattle.joined_nodes.specs.Walks.{over}
 use Rattle.node_past.specs.declared.refused.NodeRefused.TheVariants as refusals
 use Rattle.fleet_model.specs.Fleets.{FleetView, HasCome, IsNodeOf}
 use Rattle.fleet_model.specs.Steps.{OneGoesOn, with_newest}

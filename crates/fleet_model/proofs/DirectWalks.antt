@@ -11,11 +11,11 @@ use Rattle.driver_model.specs.Driver.{Driver, DriverInput}
 use Rattle.driver_model.specs.ScriptSteps.{compacts, merges, merges_files}
 use Rattle.driver_model.specs.Sound.{StaysSound}
 use Rattle.content_lock.specs.CallsMade.{MakesCalls}
-use Rattle.repo_node.specs.Calls.{shrinks, to_compact, to_merge}
-use Rattle.repo_node.specs.Nodes.{NodeView}
-use Rattle.repo_node.specs.Refusals.{RefusesSo}
-use Rattle.repo_node.specs.Stored.{StoreView}
-use Rattle.repo_node.specs.Walks.{compact_file, compact_files, merge_file, merge_files, over}
+use Rattle.joined_nodes.specs.Calls.{shrinks, to_compact, to_merge}
+use Rattle.joined_nodes.specs.Nodes.{NodeView}
+use Rattle.joined_nodes.specs.Refusals.{RefusesSo}
+use Rattle.joined_nodes.specs.Stored.{StoreView}
+use Rattle.joined_nodes.specs.Walks.{compact_file, compact_files, merge_file, merge_files, over}
 use Rattle.node_past.specs.declared.refused.NodeRefused.TheVariants as refusals
 use Rattle.fleet_model.specs.Fleets.{FleetView, HasCome}
 use Rattle.fleet_model.specs.Steps.{OneGoesOn, StaysStored, with_newest}

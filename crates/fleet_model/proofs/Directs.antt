@@ -22,10 +22,10 @@ use Rattle.driver_model.specs.Driver.{Driver, DriverInput}
 use Rattle.driver_model.specs.ScriptSteps.{setting_line, sets, wall_of, writes}
 use Rattle.driver_model.specs.Sound.{StaysSound}
 use Rattle.content_lock.specs.CallsMade.{MakesCalls}
-use Rattle.repo_node.specs.Calls.{to_log}
-use Rattle.repo_node.specs.Logs.{stamped_by, with_log}
-use Rattle.repo_node.specs.Nodes.{NodeView}
-use Rattle.repo_node.specs.Stored.{StoreView}
+use Rattle.joined_nodes.specs.Calls.{to_log}
+use Rattle.joined_nodes.specs.Logs.{stamped_by, with_log}
+use Rattle.joined_nodes.specs.Nodes.{NodeView}
+use Rattle.joined_nodes.specs.Stored.{StoreView}
 use Rattle.fleet_model.specs.Fleets.{FleetView, HasCome, HasGiven}
 use Rattle.fleet_model.specs.Steps.{HasLogged, OneGoesOn, StaysStored, with_newest}
 use Rattle.fleet_model.proofs.Coming.{came}

@@ -10,7 +10,7 @@ use Rattle.object_store.specs.Calls.{one_fewer}
 use Rattle.driver_model.specs.Driver.{Driver, FailLine, answers, but_first, fails_at, is_failing}
 use Rattle.content_lock.specs.CallsMade.{MakesCalls}
 use Rattle.fleet_model.specs.Stores.{IsStoreOf, IsTold, waiting_fails}
-use Rattle.repo_node.specs.Stored.{StoreView}
+use Rattle.joined_nodes.specs.Stored.{StoreView}
 
 -- ---- lists
 

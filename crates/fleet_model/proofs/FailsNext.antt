@@ -10,8 +10,8 @@ use Rattle.run_data.specs.declared.entry.Entry.{Entry}
 use Rattle.driver_model.specs.Driver.{Driver, DriverInput}
 use Rattle.driver_model.specs.ScriptSteps.{will_fail}
 use Rattle.driver_model.specs.Sound.{StaysSound}
-use Rattle.repo_node.specs.Nodes.{NodeView}
-use Rattle.repo_node.specs.Stored.{StoreView}
+use Rattle.joined_nodes.specs.Nodes.{NodeView}
+use Rattle.joined_nodes.specs.Stored.{StoreView}
 use Rattle.fleet_model.specs.Fleets.{FleetView, HasCome, IsNodeOf}
 use Rattle.fleet_model.specs.Steps.{OneGoesOn}
 use Rattle.fleet_model.proofs.Beside.{failing_node, other_failing}

@@ -20,9 +20,9 @@ use Rattle.link_flights.specs.Words.{AreAllWorded}
 use Rattle.driver_model.specs.Driver.{DriverInput, at_first, set_up_of}
 use Rattle.driver_model.specs.Driving.{run_with}
 use Rattle.driver_model.specs.Sound.{IsSound}
-use Rattle.repo_node.specs.Nodes as nodes
-use Rattle.repo_node.specs.Nodes.{NodeView}
-use Rattle.repo_node.specs.Stored.{StoreView}
+use Rattle.joined_nodes.specs.Nodes as nodes
+use Rattle.joined_nodes.specs.Nodes.{NodeView}
+use Rattle.joined_nodes.specs.Stored.{StoreView}
 use Rattle.joined_nodes.specs.Joined.{AreNew, IsNew, ids_of, setup_of}
 use Rattle.fleet_model.specs.Fleets.{FleetView, HasCome, HasGiven, IsNodeOf, links_at}
 use Rattle.fleet_model.specs.Stores.{IsStoreOf}

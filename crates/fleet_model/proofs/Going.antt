@@ -25,7 +25,7 @@ use Rattle.driver_model.specs.Scripts.{IsWithinBounds, HasBoundedPast}
 use Rattle.driver_model.specs.ScriptSteps.{unless_fails, faults}
 use Rattle.fleet_model.specs.Fleets.{HasGiven, IsNodeOf}
 use Rattle.fleet_model.specs.Stores.{IsStoreOf}
-use Rattle.repo_node.specs.Stored.{StoreView}
+use Rattle.joined_nodes.specs.Stored.{StoreView}
 use Rattle.fleet_model.proofs.Failing.{unanswered}
 use Rattle.fleet_model.proofs.Noting.{others_stay}
 

@@ -17,10 +17,10 @@ use Rattle.driver_model.specs.Finding.{driver_at_turn}
 use Rattle.driver_model.specs.Sound.{IsSound, StaysSound}
 use Rattle.driver_model.specs.Turning.{at_hand, plain_look, turn}
 use Rattle.link_flights.specs.Fleets.{AreEndsIn, AreOwnEndsIn}
-use Rattle.repo_node.specs.Nodes as nodes
-use Rattle.repo_node.specs.Nodes.{NodeView}
-use Rattle.repo_node.specs.Stored.{StoreView}
-use Rattle.repo_node.specs.Turning.{IsIdle}
+use Rattle.joined_nodes.specs.Nodes as nodes
+use Rattle.joined_nodes.specs.Nodes.{NodeView}
+use Rattle.joined_nodes.specs.Stored.{StoreView}
+use Rattle.joined_nodes.specs.Turning.{IsIdle}
 use Rattle.link_flights.specs.Heard.{HeardSo}
 use Rattle.link_flights.specs.Words.{AreAllWorded}
 use Rattle.node_jobs.specs.Running.{HadPaths, given_of, words_at}

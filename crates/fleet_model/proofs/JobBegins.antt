@@ -22,9 +22,9 @@ use Rattle.link_flights.specs.Heard.{HeardSo, SameWords}
 use Rattle.driver_model.specs.Driver.{Driver, DriverInput, entry, notes, set_up_of, state_at}
 use Rattle.driver_model.specs.ScriptSteps.{begins}
 use Rattle.driver_model.specs.Sound.{IsSound, StaysSound}
-use Rattle.repo_node.specs.Nodes as nodes
-use Rattle.repo_node.specs.Nodes.{NodeView}
-use Rattle.repo_node.specs.Stored.{StoreView}
+use Rattle.joined_nodes.specs.Nodes as nodes
+use Rattle.joined_nodes.specs.Nodes.{NodeView}
+use Rattle.joined_nodes.specs.Stored.{StoreView}
 use Rattle.fleet_model.specs.Fleets.{FleetView, HasCome, HasGiven}
 use Rattle.fleet_model.specs.Steps.{OneGoesOn, with_newest}
 use Rattle.fleet_model.proofs.Beginning.{begins_nowhere, begins_there, begun, has_slot, same_begun}

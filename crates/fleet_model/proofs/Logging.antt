@@ -14,14 +14,14 @@ use Rattle.union_merge.specs.Branch.{Files, lines_at, merged_file}
 use Rattle.union_merge.specs.LineSet.{difference}
 use Rattle.driver_model.specs.Driver.{Driver, DriverInput, answers, fails_at, notes}
 use Rattle.driver_model.specs.ScriptSteps.{faults, logs, logs_some, unknown_lines}
-use Rattle.repo_node.specs.Calls.{to_log, to_write}
-use Rattle.repo_node.specs.Logs.{with_log}
-use Rattle.repo_node.specs.Nodes.{NodeView, with_entry}
+use Rattle.joined_nodes.specs.Calls.{to_log, to_write}
+use Rattle.joined_nodes.specs.Logs.{with_log}
+use Rattle.joined_nodes.specs.Nodes.{NodeView, with_entry}
 use Rattle.content_lock.specs.CallsMade.{MakesCalls, fewer}
 use Rattle.fleet_model.specs.Steps.{HasLogged, StaysStored, with_newest}
 use Rattle.fleet_model.specs.Stores.{IsStoreOf}
-use Rattle.repo_node.specs.Stored.{StoreView}
-use Rattle.repo_node.specs.Refusals.{RefusesSo}
+use Rattle.joined_nodes.specs.Stored.{StoreView}
+use Rattle.joined_nodes.specs.Refusals.{RefusesSo}
 use Rattle.node_past.specs.declared.refused.NodeRefused.TheVariants as refusals
 use Rattle.fleet_model.proofs.Failing.{answered, first_fails, first_of_calls, positive}
 use Rattle.fleet_model.proofs.Noting.{IsRaised, noted}

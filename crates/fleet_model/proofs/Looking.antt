@@ -24,10 +24,10 @@ use Rattle.driver_model.specs.Turning.{asked_key, at_hand, part_right, part_size
 use Rattle.driver_model.specs.WordsRead.{AgreeWhereRead}
 use Rattle.link_flights.specs.Fleets.{AreOwnEndsIn}
 use Rattle.node_jobs.specs.Running.{HadPaths}
-use Rattle.repo_node.specs.Nodes as nodes
-use Rattle.repo_node.specs.Nodes.{NodeView}
-use Rattle.repo_node.specs.Stored.{StoreView}
-use Rattle.repo_node.specs.Turning.{Finds, Looks, MakesAt, StepsBy, words_by}
+use Rattle.joined_nodes.specs.Nodes as nodes
+use Rattle.joined_nodes.specs.Nodes.{NodeView}
+use Rattle.joined_nodes.specs.Stored.{StoreView}
+use Rattle.joined_nodes.specs.Turning.{Finds, Looks, MakesAt, StepsBy, words_by}
 use Rattle.fleet_model.specs.Matches.{DecidesMatches}
 use Rattle.fleet_model.specs.Stores.{IsStoreOf}
 use Rattle.fleet_model.proofs.Asking.{asks_the_drivers}

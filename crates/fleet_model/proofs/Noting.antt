@@ -12,12 +12,12 @@ use Rattle.run_model.specs.Past.{is_of, now}
 use Rattle.driver_model.specs.Driver.{Driver, DriverInput, entry, newest_count, notes, set_up_of}
 use Rattle.node_jobs.specs.Running.{given_of, words_at}
 use Rattle.link_flights.specs.Heard.{HeardSo}
-use Rattle.repo_node.specs.Nodes as nodes
-use Rattle.repo_node.specs.Nodes.{NodeView, next_entry, with_entry}
-use Rattle.repo_node.specs.Walks.{over}
+use Rattle.joined_nodes.specs.Nodes as nodes
+use Rattle.joined_nodes.specs.Nodes.{NodeView, next_entry, with_entry}
+use Rattle.joined_nodes.specs.Walks.{over}
 use Rattle.fleet_model.specs.Fleets.{HasGiven, IsNodeOf}
 use Rattle.fleet_model.specs.Stores.{IsStoreOf}
-use Rattle.repo_node.specs.Stored.{StoreView}
+use Rattle.joined_nodes.specs.Stored.{StoreView}
 
 -- ---- the entries of a repository
 

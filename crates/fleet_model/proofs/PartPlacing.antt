@@ -9,12 +9,12 @@ use Rattle.object_store.specs.Stores.{with_at}
 use Rattle.driver_model.specs.Driver.{Driver, DriverInput, drops_part, fails_at, puts_part}
 use Rattle.driver_model.specs.ScriptSteps.{faults, is_busy, sets_part}
 use Rattle.content_lock.specs.CallsMade.{MakesCalls}
-use Rattle.repo_node.specs.Calls.{IsDoneBy, StopsAt, to_place_part}
-use Rattle.repo_node.specs.Nodes.{NodeView}
-use Rattle.repo_node.specs.Placing.{IsTaken}
-use Rattle.repo_node.specs.Walks.{over}
+use Rattle.joined_nodes.specs.Calls.{IsDoneBy, StopsAt, to_place_part}
+use Rattle.joined_nodes.specs.Nodes.{NodeView}
+use Rattle.joined_nodes.specs.Placing.{IsTaken}
+use Rattle.joined_nodes.specs.Walks.{over}
 use Rattle.node_past.specs.declared.refused.NodeRefused.TheVariants as refusals
-use Rattle.repo_node.specs.Stored.{StoreView}
+use Rattle.joined_nodes.specs.Stored.{StoreView}
 use Rattle.fleet_model.proofs.Failing.{first_of_calls}
 use Rattle.fleet_model.proofs.Placing.{Stopped, calm_left, fault_noted, none_first, none_left, part_replaced, some_first}
 use Rattle.fleet_model.proofs.StoreSteps.{part_dropped}

@@ -20,15 +20,15 @@ use Rattle.union_merge.specs.Branch.{lines_at, merged_file}
 use Rattle.node_model.specs.OwedLines.{if_new, status_line}
 use Rattle.driver_model.specs.ScriptSteps.{faults, has, is_busy, lines_of, logs_status, wall_of}
 use Rattle.content_lock.specs.CallsMade.{MakesCalls}
-use Rattle.repo_node.specs.Calls.{IsDoneBy, StopsAt, contents_at, node_at, parts_at, to_place}
-use Rattle.repo_node.specs.Debts.{with_status}
-use Rattle.repo_node.specs.Nodes.{NodeView, due_by, id_known, with_entry}
-use Rattle.repo_node.specs.Placing.{IsPlaced, IsTaken, with_content, with_gain, with_placed}
-use Rattle.repo_node.specs.Refusals.{RefusesSo}
-use Rattle.repo_node.specs.Walks.{over}
+use Rattle.joined_nodes.specs.Calls.{IsDoneBy, StopsAt, contents_at, node_at, parts_at, to_place}
+use Rattle.joined_nodes.specs.Debts.{with_status}
+use Rattle.joined_nodes.specs.Nodes.{NodeView, due_by, id_known, with_entry}
+use Rattle.joined_nodes.specs.Placing.{IsPlaced, IsTaken, with_content, with_gain, with_placed}
+use Rattle.joined_nodes.specs.Refusals.{RefusesSo}
+use Rattle.joined_nodes.specs.Walks.{over}
 use Rattle.node_past.specs.declared.refused.NodeRefused.TheVariants as refusals
 use Rattle.fleet_model.specs.Stores.{IsStoreOf, IsTold, content_in}
-use Rattle.repo_node.specs.Stored.{StoreView}
+use Rattle.joined_nodes.specs.Stored.{StoreView}
 use Rattle.fleet_model.proofs.Failing.{answered, first_of_calls}
 use Rattle.fleet_model.proofs.Noting.{HasEntriesOf, IsRaised, noted, noted_entry, over_store}
 use Rattle.fleet_model.proofs.Storing.{kept_with, stored_with, stored_without}

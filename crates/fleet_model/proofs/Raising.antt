@@ -3,10 +3,10 @@ use Rattle.std.proofs.Common.{◌≡◌, ℕ, ◌≤◌, arith}
 use Rattle.std.specs.Prelude.{max}
 use Rattle.run_model.specs.Past.{now}
 use Rattle.driver_model.specs.Driver.{Driver, DriverInput, newest_count}
-use Rattle.repo_node.specs.Nodes.{NodeView}
+use Rattle.joined_nodes.specs.Nodes.{NodeView}
 use Rattle.fleet_model.specs.Fleets.{IsNodeOf}
 use Rattle.fleet_model.specs.Steps.{with_newest}
-use Rattle.repo_node.specs.Stored.{StoreView}
+use Rattle.joined_nodes.specs.Stored.{StoreView}
 use Rattle.fleet_model.proofs.Noting.{IsRaised}
 
 greater : (n m : ℕ) → n ≤ m → max n m ≡ m

@@ -12,9 +12,9 @@ use Rattle.driver_model.specs.Turning.{turn}
 use Rattle.driver_model.specs.Ways.{other_end}
 use Rattle.link_flights.specs.Fleets.{AreAllCarried}
 use Rattle.link_flights.specs.Flights.{IsEndIn}
-use Rattle.repo_node.specs.Nodes.{NodeView}
-use Rattle.repo_node.specs.Stored.{StoreView}
-use Rattle.repo_node.specs.Turning.{IsIdle}
+use Rattle.joined_nodes.specs.Nodes.{NodeView}
+use Rattle.joined_nodes.specs.Stored.{StoreView}
+use Rattle.joined_nodes.specs.Turning.{IsIdle}
 use Rattle.joined_nodes.specs.Joined.{AreNodes}
 use Rattle.fleet_model.specs.Fleets.{FleetView, HasCome, links_at}
 use Rattle.fleet_model.specs.Steps.{OneGoesOn, OneTurns, with_newest, with_links}

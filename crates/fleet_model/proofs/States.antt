@@ -14,8 +14,8 @@ use Rattle.run_model.specs.States as runs
 use Rattle.driver_model.specs.Driver.{Driver, DriverInput, set_up_of, state_at}
 use Rattle.driver_model.specs.Driving.{run_with}
 use Rattle.driver_model.specs.Sound.{IsSound}
-use Rattle.repo_node.specs.Nodes as nodes
-use Rattle.repo_node.specs.Nodes.{NodeView}
+use Rattle.joined_nodes.specs.Nodes as nodes
+use Rattle.joined_nodes.specs.Nodes.{NodeView}
 
 -- the laws of carried states
 pub record Carried : Type 0 where

@@ -11,10 +11,10 @@ use Rattle.driver_model.specs.Driver.{Driver, DriverInput, commits, drops_part, 
 use Rattle.driver_model.specs.Limits.{StopsAtFull}
 use Rattle.driver_model.specs.Scripts.{IsContent}
 use Rattle.driver_model.specs.ScriptSteps.{gets_content, has, is_busy, lines_of, logs_status, wall_of}
-use Rattle.repo_node.specs.Calls.{MeetsFullBehind}
-use Rattle.repo_node.specs.Nodes as nodes
-use Rattle.repo_node.specs.Nodes.{NodeView}
-use Rattle.repo_node.specs.Stored.{StoreView}
+use Rattle.joined_nodes.specs.Calls.{MeetsFullBehind}
+use Rattle.joined_nodes.specs.Nodes as nodes
+use Rattle.joined_nodes.specs.Nodes.{NodeView}
+use Rattle.joined_nodes.specs.Stored.{StoreView}
 use Rattle.fleet_model.specs.Fleets.{FleetView, HasCome}
 use Rattle.fleet_model.specs.Steps.{OneGoesOn, with_newest}
 use Rattle.fleet_model.specs.Stopping.{OthersAreFew}

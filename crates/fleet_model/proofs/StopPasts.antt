@@ -25,8 +25,8 @@ use Rattle.driver_model.specs.Limits.{AddsOwn, StopsAtFull, count_of}
 use Rattle.driver_model.specs.Scripts.{HasBoundedPast}
 use Rattle.driver_model.specs.ScriptSteps.{faults, unless_fails}
 use Rattle.driver_model.specs.Sound.{IsSound, StaysSound}
-use Rattle.repo_node.specs.Nodes.{NodeView}
-use Rattle.repo_node.specs.Stored.{StoreView}
+use Rattle.joined_nodes.specs.Nodes.{NodeView}
+use Rattle.joined_nodes.specs.Stored.{StoreView}
 use Rattle.fleet_model.specs.Fleets.{FleetView, HasCome}
 use Rattle.fleet_model.specs.Steps.{OneGoesOn}
 use Rattle.fleet_model.specs.Stopping.{OthersAreFew}

@@ -28,12 +28,12 @@ use Rattle.driver_model.specs.Finding.{driver_at_turn}
 use Rattle.driver_model.specs.Limits.{StopsAtFull, count_of, within_limit}
 use Rattle.driver_model.specs.ScriptSteps.{begins, has, logs_some, setting_line, sets, unknown_lines, writes}
 use Rattle.driver_model.specs.Turning.{at_hand, plain_look, turn}
-use Rattle.repo_node.specs.Calls.{lacks_some}
-use Rattle.repo_node.specs.Logs.{stamped_by}
-use Rattle.repo_node.specs.Nodes as nodes
-use Rattle.repo_node.specs.Nodes.{NodeView}
-use Rattle.repo_node.specs.Stored.{StoreView}
-use Rattle.repo_node.specs.Turning.{HasStep, Looks}
+use Rattle.joined_nodes.specs.Calls.{lacks_some}
+use Rattle.joined_nodes.specs.Logs.{stamped_by}
+use Rattle.joined_nodes.specs.Nodes as nodes
+use Rattle.joined_nodes.specs.Nodes.{NodeView}
+use Rattle.joined_nodes.specs.Stored.{StoreView}
+use Rattle.joined_nodes.specs.Turning.{HasStep, Looks}
 use Rattle.fleet_model.specs.Fleets.{FleetView, HasCome}
 use Rattle.fleet_model.specs.Steps.{with_newest}
 use Rattle.fleet_model.specs.Stopping.{OthersAreFew}

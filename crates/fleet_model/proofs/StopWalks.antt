@@ -19,10 +19,10 @@ use Rattle.driver_model.specs.Driver.{Driver, DriverInput, fails_at, notes}
 use Rattle.driver_model.specs.Limits.{StopsAtFull}
 use Rattle.driver_model.specs.ScriptSteps as script
 use Rattle.driver_model.specs.ScriptSteps.{compacts, compacts_files, faults, is_nil, merges, merges_files, news}
-use Rattle.repo_node.specs.Calls.{MeetsFull, lacks_of, shrinks_at, to_write}
-use Rattle.repo_node.specs.Nodes.{NodeView}
-use Rattle.repo_node.specs.Stored.{StoreView}
-use Rattle.repo_node.specs.Walks.{compact_files, merge_files, over}
+use Rattle.joined_nodes.specs.Calls.{MeetsFull, lacks_of, shrinks_at, to_write}
+use Rattle.joined_nodes.specs.Nodes.{NodeView}
+use Rattle.joined_nodes.specs.Stored.{StoreView}
+use Rattle.joined_nodes.specs.Walks.{compact_files, merge_files, over}
 use Rattle.fleet_model.specs.Fleets.{FleetView, HasCome}
 use Rattle.fleet_model.specs.Steps.{OneGoesOn, with_newest}
 use Rattle.fleet_model.specs.Stopping.{OthersAreFew}

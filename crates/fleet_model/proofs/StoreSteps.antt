@@ -6,7 +6,7 @@ use Rattle.object_store.specs.Stores.{Contents, Parts, contents_after_commit, wi
 use Rattle.content_lock.specs.Stored.{without_content}
 use Rattle.driver_model.specs.Driver.{Driver, commits, drops_part, part_at, puts_part, removes_content}
 use Rattle.fleet_model.specs.Stores.{IsStoreOf, IsTold, content_in}
-use Rattle.repo_node.specs.Stored.{StoreView}
+use Rattle.joined_nodes.specs.Stored.{StoreView}
 use Rattle.fleet_model.proofs.Storing.{kept_by_others, kept_by_others_without, kept_with, kept_without, stored_by_others, stored_by_others_without, stored_with, stored_without}
 
 -- ---- told functions

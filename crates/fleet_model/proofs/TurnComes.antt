@@ -48,10 +48,10 @@ use Rattle.driver_model.specs.Scripts.{HasBoundedPast, IsKnown}
 use Rattle.driver_model.specs.Sound.{IsSound, StaysSound}
 use Rattle.driver_model.specs.Turning.{asked_key, bytes_taken, plain_look, told_words, turn}
 use Rattle.driver_model.specs.WordsRead.{AgreeWhereRead}
-use Rattle.repo_node.specs.Nodes as nodes
-use Rattle.repo_node.specs.Nodes.{NodeView}
-use Rattle.repo_node.specs.Stored.{StoreView}
-use Rattle.repo_node.specs.Turning.{Adds, IsIdle, StepsBy, done_in, stamp_then, words_by}
+use Rattle.joined_nodes.specs.Nodes as nodes
+use Rattle.joined_nodes.specs.Nodes.{NodeView}
+use Rattle.joined_nodes.specs.Stored.{StoreView}
+use Rattle.joined_nodes.specs.Turning.{Adds, IsIdle, StepsBy, done_in, stamp_then, words_by}
 use Rattle.fleet_model.specs.Fleets.{AreUnused, FleetView, HasCome, HasGiven, links_at}
 use Rattle.fleet_model.specs.Matches.{DecidesMatches}
 use Rattle.fleet_model.specs.Steps.{OneTurns, with_newest, with_links}

@@ -31,7 +31,7 @@ use Rattle.drop_phases.specs.declared.phase.Phase.{Phase}
 use Rattle.drop_phases.specs.declared.phase.Phase.TheVariants as phases
 use Rattle.drop_worker.specs.Working.{phase_as}
 use Rattle.node_jobs.specs.Running.{AreWorks, DropJob, Jobs, work_now}
-use Rattle.repo_node.specs.Turning.{branch_by}
+use Rattle.joined_nodes.specs.Turning.{branch_by}
 use Rattle.p2p_server.specs.declared.session.Session.{Session}
 use Rattle.p2p_server.specs.Talking.{place_of, session_of}
 use Rattle.node_ends.specs.Ends.{link_at}
@@ -47,10 +47,10 @@ use Rattle.driver_model.specs.Turning as turning
 use Rattle.driver_model.specs.Turning.{plain_look}
 use Rattle.link_flights.specs.Flights.{HasAtHand}
 use Rattle.content_lock.specs.CallsMade.{fewer}
-use Rattle.repo_node.specs.Nodes as nodes
-use Rattle.repo_node.specs.Nodes.{NodeView}
-use Rattle.repo_node.specs.Stored.{StoreView}
-use Rattle.repo_node.specs.Turning.{Adds}
+use Rattle.joined_nodes.specs.Nodes as nodes
+use Rattle.joined_nodes.specs.Nodes.{NodeView}
+use Rattle.joined_nodes.specs.Stored.{StoreView}
+use Rattle.joined_nodes.specs.Turning.{Adds}
 use Rattle.fleet_model.specs.Drops.{AreDrops, is_transfer}
 use Rattle.fleet_model.specs.StepStored.{parts_of_step}
 use Rattle.fleet_model.proofs.Asking.{asked_is}

@@ -30,7 +30,7 @@ use Rattle.node_sessions.specs.Stored.{is_verdict, parts_after_frame}
 use Rattle.p2p_server.specs.Talking.{parts_after_valid}
 use Rattle.fleet_model.specs.StepStored.{parts_of_step}
 use Rattle.fleet_model.specs.Stores.{IsStoreOf, IsTold}
-use Rattle.repo_node.specs.Stored.{StoreView}
+use Rattle.joined_nodes.specs.Stored.{StoreView}
 use Rattle.fleet_model.proofs.AnswersStored.{Appends, Fits, Leaves, Refuses, ReplyFits, Stays, Talks, frame_fits}
 use Rattle.fleet_model.proofs.DropTakes.{LeavesParts}
 use Rattle.fleet_model.proofs.Failing.{answered, unanswered}

@@ -15,8 +15,8 @@ use Rattle.driver_model.specs.Finding.{after_step, driver_at_turn}
 use Rattle.driver_model.specs.Scripts.{HasBoundedPast}
 use Rattle.driver_model.specs.Sound.{IsSound, StaysSound}
 use Rattle.driver_model.specs.Turning.{bytes_taken, plain_look, turn}
-use Rattle.repo_node.specs.Nodes.{NodeView}
-use Rattle.repo_node.specs.Stored.{StoreView}
+use Rattle.joined_nodes.specs.Nodes.{NodeView}
+use Rattle.joined_nodes.specs.Stored.{StoreView}
 use Rattle.link_flights.specs.Heard.{HeardSo}
 use Rattle.link_flights.specs.Words.{AreAllWorded}
 use Rattle.node_jobs.specs.Running.{given_of, words_at}

@@ -17,15 +17,15 @@ use Rattle.driver_model.specs.Driver.{Driver, DriverInput, fails_at}
 use Rattle.driver_model.specs.ScriptSteps as script
 use Rattle.driver_model.specs.ScriptSteps.{compacts, faults, is_nil, merges_files, news}
 use Rattle.content_lock.specs.CallsMade.{MakesCalls, fewer}
-use Rattle.repo_node.specs.Calls.{lacks_some, shrinks, to_compact, to_merge, to_write}
-use Rattle.repo_node.specs.Logs.{with_log}
-use Rattle.repo_node.specs.Nodes.{NodeView}
-use Rattle.repo_node.specs.Refusals.{RefusesSo}
-use Rattle.repo_node.specs.Walks.{compact_file, compact_files, merge_file, merge_files, over}
+use Rattle.joined_nodes.specs.Calls.{lacks_some, shrinks, to_compact, to_merge, to_write}
+use Rattle.joined_nodes.specs.Logs.{with_log}
+use Rattle.joined_nodes.specs.Nodes.{NodeView}
+use Rattle.joined_nodes.specs.Refusals.{RefusesSo}
+use Rattle.joined_nodes.specs.Walks.{compact_file, compact_files, merge_file, merge_files, over}
 use Rattle.node_past.specs.declared.refused.NodeRefused.TheVariants as refusals
 use Rattle.fleet_model.specs.Steps.{StaysStored}
 use Rattle.fleet_model.specs.Stores.{IsStoreOf}
-use Rattle.repo_node.specs.Stored.{StoreView}
+use Rattle.joined_nodes.specs.Stored.{StoreView}
 use Rattle.fleet_model.proofs.Failing.{first_of_calls, positive}
 use Rattle.fleet_model.proofs.Logging.{none_fewer, same_store}
 use Rattle.fleet_model.proofs.Noting.{IsRaised, over_store}

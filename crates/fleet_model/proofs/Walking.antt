@@ -14,10 +14,10 @@ use Rattle.run_model.specs.Logs as logs
 use Rattle.run_model.specs.Logs.{branch_after}
 use Rattle.driver_model.specs.Driver.{Driver, DriverInput, fails_at, notes}
 use Rattle.driver_model.specs.ScriptSteps.{compacts_files, faults, is_nil, merges_files, news, shrinks}
-use Rattle.repo_node.specs.Logs.{with_log}
-use Rattle.repo_node.specs.Nodes.{NodeView, with_entry}
-use Rattle.repo_node.specs.Walks.{compact_files, current, merge_file, merge_files}
-use Rattle.repo_node.specs.Stored.{StoreView}
+use Rattle.joined_nodes.specs.Logs.{with_log}
+use Rattle.joined_nodes.specs.Nodes.{NodeView, with_entry}
+use Rattle.joined_nodes.specs.Walks.{compact_files, current, merge_file, merge_files}
+use Rattle.joined_nodes.specs.Stored.{StoreView}
 use Rattle.fleet_model.proofs.Noting.{IsRaised, noted}
 
 -- one more entry of a node over the same store

@@ -38,7 +38,7 @@ use Rattle.node_parts.specs.Parts.{PartsView}
 use Rattle.node_parts.specs.declared.done.Done.{Done}
 use Rattle.run_laws.specs.Jobs.{AreJobs, TakesAnswer, keeps_word}
 use Rattle.link_flights.specs.Heard.{HearsOf, WordsGoOn}
-use Rattle.repo_node.specs.Turning.{GoOn}
+use Rattle.joined_nodes.specs.Turning.{GoOn}
 use Rattle.fleet_model.specs.Turns.{IsLocal}
 
 -- ---- the job that a work is

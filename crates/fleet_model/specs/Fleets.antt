@@ -17,10 +17,10 @@ use Rattle.driver_model.specs.Sound.{IsSound}
 use Rattle.link_flights.specs.Fleets.{AreEndsIn}
 use Rattle.link_flights.specs.Heard.{HeardSo}
 use Rattle.link_flights.specs.Words.{AreAllWorded}
-use Rattle.repo_node.specs.Nodes as nodes
-use Rattle.repo_node.specs.Nodes.{NodeView}
+use Rattle.joined_nodes.specs.Nodes as nodes
+use Rattle.joined_nodes.specs.Nodes.{NodeView}
 use Rattle.fleet_model.specs.Stores.{IsStoreOf}
-use Rattle.repo_node.specs.Stored.{StoreView}
+use Rattle.joined_nodes.specs.Stored.{StoreView}
 
 -- the nodes in order of number, and the run of what they did
 pub record FleetView (K : Type 0) : Type 0 where

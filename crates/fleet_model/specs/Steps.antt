@@ -2,9 +2,9 @@
 use Rattle.std.specs.Prelude.{◌≡◌, ◌≢◌, ℕ, List, ◌++◌, drop, length, max, slice_get, Option, Some, None}
 use Rattle.annex_base.specs.declared.kinds.Call.{Call}
 use Rattle.run_data.specs.declared.entry.LogFile.{LogFile}
-use Rattle.repo_node.specs.Logs.{with_lines}
-use Rattle.repo_node.specs.Nodes.{NodeView}
-use Rattle.repo_node.specs.Refusals.{RefusesSo}
+use Rattle.joined_nodes.specs.Logs.{with_lines}
+use Rattle.joined_nodes.specs.Nodes.{NodeView}
+use Rattle.joined_nodes.specs.Refusals.{RefusesSo}
 use Rattle.node_past.specs.declared.refused.NodeRefused.TheVariants as refusals
 use Rattle.run_model.specs.Past.{now}
 use Rattle.driver_model.specs.Driver.{Driver, newest_count}
@@ -13,7 +13,7 @@ use Rattle.node_model.specs.Ends.{EndName}
 use Rattle.node_ends.specs.Ends.{link_at}
 use Rattle.link_flights.specs.Fleets.{AreAllCarried}
 use Rattle.fleet_model.specs.Fleets.{FleetView, links_at}
-use Rattle.repo_node.specs.Stored.{StoreView}
+use Rattle.joined_nodes.specs.Stored.{StoreView}
 
 -- the node with the time and the count of the driver's newest entry, which are no less than its own
 abbrev pub with_newest : {K : Type 0} → Driver → NodeView K → NodeView K

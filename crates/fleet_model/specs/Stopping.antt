@@ -1,7 +1,7 @@
 -- How long the histories of a fleet's nodes are (own).
 use Rattle.std.specs.Prelude.{◌≡◌, ◌≢◌, ◌≤◌, ℕ, List, length, slice_get, Some}
 use Rattle.run_data.specs.Histories.{most_entries}
-use Rattle.repo_node.specs.Nodes.{NodeView}
+use Rattle.joined_nodes.specs.Nodes.{NodeView}
 
 -- no node but that of r has made more entries than it may
 abbrev pub OthersAreFew : {K : Type 0} → ℕ → List (NodeView K) → Type 0

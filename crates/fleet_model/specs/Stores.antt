@@ -2,7 +2,7 @@
 use Rattle.std.specs.Prelude.{◌≡◌, ℕ, List, filter, find, length, Option, Some, None}
 use Rattle.std.specs.Option.{option_map}
 use Rattle.annex_base.specs.declared.kinds.Call.{Call}
-use Rattle.repo_node.specs.Stored.{StoreView}
+use Rattle.joined_nodes.specs.Stored.{StoreView}
 use Rattle.driver_model.specs.Driver.{Driver, is_failing, part_at}
 use Rattle.driver_model.specs.Stores.{StoredBytes, is_stored}
 

@@ -6,9 +6,9 @@ use Rattle.node_model.specs.Jobs.{drop_side}
 use Rattle.node_model.specs.SetUp.{SetUp}
 use Rattle.node_jobs.specs.Running.{DropJob}
 use Rattle.node_parts.specs.Parts.{AreParts}
-use Rattle.repo_node.specs.Nodes as nodes
-use Rattle.repo_node.specs.Nodes.{NodeView}
-use Rattle.repo_node.specs.Stored.{StoreView}
+use Rattle.joined_nodes.specs.Nodes as nodes
+use Rattle.joined_nodes.specs.Nodes.{NodeView}
+use Rattle.joined_nodes.specs.Stored.{StoreView}
 use Rattle.driver_model.specs.Driver.{Driver, DriverInput, set_up_of}
 
 -- the job removes its own repository's copy

@@ -15,12 +15,12 @@ ghost use Rattle.driver_model.specs.Limits.{StopsAtFull, count_of, within_limit}
 ghost use Rattle.driver_model.specs.Scripts.{IsContent};
 ghost use Rattle.driver_model.specs.ScriptSteps.{begins, compacts, has, merges, sets, writes};
 ghost use Rattle.driver_model.specs.Turning.{turn};
-ghost use Rattle.repo_node.specs.Calls.{MeetsFull, MeetsFullBehind, lacks_of, lacks_some, shrinks_at};
-ghost use Rattle.repo_node.specs.Logs.{stamped_by};
-ghost use Rattle.repo_node.specs.Nodes.{IsState, NodeView, state_of, told_of};
-ghost use Rattle.repo_node.specs.Stored.{StoreView};
-ghost use Rattle.repo_node.specs.Turning.{HasStep};
-ghost use Rattle.repo_node.specs.Walks.{compact_files, merge_files};
+ghost use Rattle.joined_nodes.specs.Calls.{MeetsFull, MeetsFullBehind, lacks_of, lacks_some, shrinks_at};
+ghost use Rattle.joined_nodes.specs.Logs.{stamped_by};
+ghost use Rattle.joined_nodes.specs.Nodes.{IsState, NodeView, state_of, told_of};
+ghost use Rattle.joined_nodes.specs.Stored.{StoreView};
+ghost use Rattle.joined_nodes.specs.Turning.{HasStep};
+ghost use Rattle.joined_nodes.specs.Walks.{compact_files, merge_files};
 ghost use Rattle.fleet_model.specs.Fleets.{FleetView, HasCome};
 ghost use Rattle.fleet_model.specs.Steps.{OneGoesOn, with_newest};
 ghost use Rattle.fleet_model.specs.Stopping.{OthersAreFew};

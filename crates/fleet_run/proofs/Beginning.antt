@@ -21,17 +21,17 @@ use Rattle.driver_model.specs.Driver.{Driver, DriverInput, newest_count, set_up_
 use Rattle.driver_model.specs.Scripts.{IsKnown}
 use Rattle.driver_model.specs.ScriptSteps.{begins, waits, will_fail}
 use Rattle.driver_model.specs.Sound.{StaysSound}
-use Rattle.node_jobs.specs.Acting.{with_job}
-use Rattle.node_parts.specs.Parts.{AreParts, PartsView}
+use Rattle.fleet_model.specs.Acting.{with_job}
+use Rattle.fleet_model.specs.Parts.{AreParts, PartsView}
 use Rattle.node_model.specs.OwedLines.{OwedLine}
 use Rattle.node_model.specs.SetUp.{SetUp}
 use Rattle.node_model.specs.State.{State}
 use Rattle.object_store.specs.Stores.{Contents, Parts}
 use Rattle.union_merge.specs.Branch.{Files}
-use Rattle.repo_node.specs.Nodes.{IsState, NodeView, state_of, told_of, with_entry}
-use Rattle.repo_node.specs.Stored.{StoreView}
-use Rattle.repo_node.specs.declared.beginning.BeginRefused.{BeginRefused}
-use Rattle.repo_node.specs.declared.beginning.BeginRefused.TheVariants as refusals
+use Rattle.joined_nodes.specs.Nodes.{IsState, NodeView, state_of, told_of, with_entry}
+use Rattle.joined_nodes.specs.Stored.{StoreView}
+use Rattle.joined_nodes.specs.declared.BeginRefused.{BeginRefused}
+use Rattle.joined_nodes.specs.declared.BeginRefused.TheVariants as refusals
 use Rattle.joined_nodes.specs.Joined.{AtNode}
 use Rattle.fleet_model.specs.Fleets.{FleetView, HasCome, IsNodeOf}
 use Rattle.fleet_model.specs.Stores.{IsTold}

@@ -7,8 +7,8 @@ use Rattle.key_verify.specs.Matching.{MatchesKey}
 use Rattle.run_data.specs.Repos.{IsSetUp}
 use Rattle.run_data.specs.declared.run.RepoView.{RepoView}
 use Rattle.run_data.specs.declared.run.Run.{Run}
-use Rattle.repo_node.specs.Nodes.{NodeView}
-use Rattle.repo_node.specs.Stored.{StoreView}
+use Rattle.joined_nodes.specs.Nodes.{NodeView}
+use Rattle.joined_nodes.specs.Stored.{StoreView}
 use Rattle.joined_nodes.specs.Joined.{AreNew}
 use Rattle.driver_model.specs.Driver.{DriverInput, at_first}
 use Rattle.driver_model.specs.Driving.{run_with}
@@ -41,7 +41,7 @@ begins_so {K} tells repos keepers ns run law sound new count stores set_up is g 
 
 -- so some driver is there, which has made no entry
 pub driven_first : {K : Type 0} (tells : K → StoreView) (most : ℕ) (repos : List RepoView) (f : FleetView K) → ((key bytes : List ℕ) → (matches key bytes ≡ true) ↔ MatchesKey key bytes)
-    → ((g : DriverInput) → g.repos ≡ repos → DecidesMatches g → IsAtDriver tells g at_first f) → length repos ≤ 8 → IsDrivenWithin tells most f
+    → ((g : DriverInput) → g.repos ≡ repos → DecidesMatches g → IsAtDriver tells g at_first f) → length repos ≤ 16 → IsDrivenWithin tells most f
 driven_first tells most repos f decides stands few = record {
   given = record { repos = repos; matches = matches };
   driver = at_first;

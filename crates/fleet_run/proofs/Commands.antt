@@ -29,7 +29,7 @@ use Rattle.script_lang.specs.Preconditions.{IsLogFile, IsSmall}
 use Rattle.script_forms.specs.declared.fault.Quantity.TheVariants.{Time}
 use Rattle.driver_model.specs.Driver.{Driver, DriverInput}
 use Rattle.driver_script.specs.Lines.{is_added, is_built, is_built_action, is_drop, is_local_drop}
-use Rattle.repo_node.specs.Stored.{StoreView}
+use Rattle.joined_nodes.specs.Stored.{StoreView}
 use Rattle.fleet_model.specs.Fleets.{FleetView}
 use Rattle.fleet_run.specs.Commands.{MayBeDone, does_command}
 use Rattle.fleet_run.specs.AtDriver.{GoesOn, IsAtDriver}

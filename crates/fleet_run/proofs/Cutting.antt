@@ -18,8 +18,8 @@ use Rattle.driver_model.specs.Driving.{does}
 use Rattle.driver_model.specs.ScriptSteps.{enters}
 use Rattle.driver_model.specs.Limits.{StopsAtFull, asks_first, count_of, is_full, is_too_long, lacks_at, names_path, run_to_limit, within_limit}
 use Rattle.driver_script.specs.Lines.{is_built, is_plain_line}
-use Rattle.repo_node.specs.Nodes.{NodeView}
-use Rattle.repo_node.specs.Stored.{StoreView}
+use Rattle.joined_nodes.specs.Nodes.{NodeView}
+use Rattle.joined_nodes.specs.Stored.{StoreView}
 use Rattle.fleet_model.specs.Fleets.{FleetView}
 use Rattle.fleet_run.specs.Commands.{CutsAt, HasRoomFor, MeetsNone, does_command}
 use Rattle.fleet_run.specs.AtDriver.{EndsAtFull, GoesOn, HasRoom, IsAtDriver, OnlyAddsEntries, WaitsForRoom}

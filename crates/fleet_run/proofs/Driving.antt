@@ -11,7 +11,7 @@ use Rattle.driver_model.specs.Driving.{turns, with_mark}
 use Rattle.driver_model.specs.Rounds.{AfterRounds, after_round, idle_after, is_settled, most_rounds, round, settles, turns_of}
 use Rattle.driver_model.specs.Sound.{StaysSound}
 use Rattle.driver_model.specs.Turning.{turn}
-use Rattle.repo_node.specs.Stored.{StoreView}
+use Rattle.joined_nodes.specs.Stored.{StoreView}
 use Rattle.fleet_model.specs.Fleets.{FleetView, HasCome}
 use Rattle.fleet_model.specs.Settling.{goes_rounds, power, before_rounds}
 use Rattle.fleet_run.specs.AtDriver.{GoesOn, IsDriven, IsDrivenWithin, IsFew, IsAtDriver, most_lines}

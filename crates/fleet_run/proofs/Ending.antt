@@ -14,12 +14,12 @@ use Rattle.driver_model.specs.Limits.{StopsAtFull}
 use Rattle.driver_model.specs.Rounds.{AfterRounds, after_round, is_settled, most_rounds, round, settles, turns_of}
 use Rattle.driver_model.specs.Sound.{OnlyAdds}
 use Rattle.driver_model.specs.Turning.{turn}
-use Rattle.repo_node.specs.Nodes as nodes
-use Rattle.repo_node.specs.Nodes.{NodeView, told_of}
-use Rattle.repo_node.specs.Stored.{StoreView}
-use Rattle.repo_node.specs.Turning.{HasStep}
-use Rattle.repo_node.specs.declared.turn.Turn.{Turn}
-use Rattle.repo_node.specs.declared.turn.Turn.TheVariants as turnings
+use Rattle.joined_nodes.specs.Nodes as nodes
+use Rattle.joined_nodes.specs.Nodes.{NodeView, told_of}
+use Rattle.joined_nodes.specs.Stored.{StoreView}
+use Rattle.joined_nodes.specs.Turning.{HasStep}
+use Rattle.joined_nodes.specs.declared.Turn.{Turn}
+use Rattle.joined_nodes.specs.declared.Turn.TheVariants as turnings
 use Rattle.joined_nodes.specs.Joined.{AtNode}
 use Rattle.fleet_model.specs.Fleets.{FleetView, HasCome}
 use Rattle.fleet_model.specs.Settling.{goes_rounds, power, before_rounds}

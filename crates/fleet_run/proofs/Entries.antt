@@ -10,8 +10,8 @@ use Rattle.run_data.specs.declared.run.Run.{Run}
 use Rattle.node_model.specs.Rows.{option_is}
 use Rattle.run_model.specs.Past.{Always, is_of}
 use Rattle.run_model.specs.Run.{MayBe, RunPast, set_up}
-use Rattle.repo_node.specs.Nodes.{NodeView}
-use Rattle.repo_node.specs.Stored.{StoreView}
+use Rattle.joined_nodes.specs.Nodes.{NodeView}
+use Rattle.joined_nodes.specs.Stored.{StoreView}
 use Rattle.driver_model.specs.Driving.{run_with}
 use Rattle.driver_model.specs.Limits.{count_of}
 use Rattle.fleet_model.specs.Fleets.{FleetView, HasCome}
@@ -91,7 +91,7 @@ known_in run (e ∷ past) steps = (go e.repo steps.0.may, known_in run past step
     go None may = tt
     go (Some r) may = may.1.known
 
-few_entries : (run : Run) (past : List Entry) → RunPast (set_up run) past → length run.repos ≤ 8 → ((r : ℕ) → r < length run.repos → count_of past r ≤ most_entries) → waits_in past ≤ 268435456
+few_entries : (run : Run) (past : List Entry) → RunPast (set_up run) past → length run.repos ≤ 16 → ((r : ℕ) → r < length run.repos → count_of past r ≤ most_entries) → waits_in past ≤ 268435456
     → length past < 2 ^ 30
 few_entries run past steps small few waits =
     let counted = all_counted (length run.repos) past (known_in run past steps) in

@@ -19,20 +19,20 @@ use Rattle.run_data.specs.declared.entry.LogFile.TheVariants.{Of}
 use Rattle.run_data.specs.declared.job.Job.{Job}
 use Rattle.run_data.specs.declared.run.Run.{Run}
 use Rattle.union_merge.specs.Branch.{Files}
-use Rattle.node_parts.specs.Parts.{AreParts}
+use Rattle.fleet_model.specs.Parts.{AreParts}
 use Rattle.run_model.specs.Past.{is_of}
 use Rattle.driver_model.specs.Driver.{Driver, DriverInput, set_up_of}
 use Rattle.driver_model.specs.Limits.{StopsAtFull, count_of, within_limit}
 use Rattle.driver_model.specs.Scripts.{IsContent}
 use Rattle.driver_model.specs.ScriptSteps.{begins, compacts, has, merges, sets, writes}
-use Rattle.repo_node.specs.Calls.{MeetsFull, MeetsFullBehind, StopsAt, lacks_of, lacks_some, node_at, shrinks_at, to_place}
-use Rattle.repo_node.specs.Logs.{stamped_by}
-use Rattle.repo_node.specs.Nodes.{IsState, NodeView, state_of, told_of}
-use Rattle.repo_node.specs.Refusals.{RefusesSo}
-use Rattle.repo_node.specs.Stored.{StoreView}
-use Rattle.repo_node.specs.Walks.{compact_files, merge_files, over}
-use Rattle.repo_node.specs.declared.beginning.BeginRefused.{BeginRefused}
-use Rattle.repo_node.specs.declared.beginning.BeginRefused.TheVariants as begin_refusals
+use Rattle.joined_nodes.specs.Calls.{MeetsFull, MeetsFullBehind, StopsAt, lacks_of, lacks_some, node_at, shrinks_at, to_place}
+use Rattle.joined_nodes.specs.Logs.{stamped_by}
+use Rattle.joined_nodes.specs.Nodes.{IsState, NodeView, state_of, told_of}
+use Rattle.joined_nodes.specs.Refusals.{RefusesSo}
+use Rattle.joined_nodes.specs.Stored.{StoreView}
+use Rattle.joined_nodes.specs.Walks.{compact_files, merge_files, over}
+use Rattle.joined_nodes.specs.declared.BeginRefused.{BeginRefused}
+use Rattle.joined_nodes.specs.declared.BeginRefused.TheVariants as begin_refusals
 use Rattle.node_past.specs.declared.refused.NodeRefused.TheVariants as refusals
 use Rattle.fleet_model.specs.Fleets.{FleetView, HasCome, IsNodeOf}
 use Rattle.fleet_model.specs.Stopping.{OthersAreFew}

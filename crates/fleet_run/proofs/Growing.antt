@@ -12,14 +12,14 @@ use Rattle.run_data.specs.Files.{file_of, file_path}
 use Rattle.run_data.specs.declared.job.Job.{Job}
 use Rattle.union_merge.specs.Branch.{Files, lines_at, merged_file, with_file}
 use Rattle.union_merge.specs.LineSet.{difference}
-use Rattle.repo_node.specs.Calls.{node_at}
-use Rattle.repo_node.specs.Logs.{with_lines, with_log}
-use Rattle.repo_node.specs.Nodes.{NodeView, with_entry}
-use Rattle.repo_node.specs.Placing.{with_gain, with_placed}
-use Rattle.repo_node.specs.Refusals.{RefusesSo}
-use Rattle.repo_node.specs.Stored.{StoreView}
-use Rattle.repo_node.specs.Walks.{StopsAfter, compact_file, compact_files, current, merge_file, merge_files, over}
-use Rattle.repo_node.specs.declared.beginning.BeginRefused.{BeginRefused}
+use Rattle.joined_nodes.specs.Calls.{node_at}
+use Rattle.joined_nodes.specs.Logs.{with_lines, with_log}
+use Rattle.joined_nodes.specs.Nodes.{NodeView, with_entry}
+use Rattle.joined_nodes.specs.Placing.{with_gain, with_placed}
+use Rattle.joined_nodes.specs.Refusals.{RefusesSo}
+use Rattle.joined_nodes.specs.Stored.{StoreView}
+use Rattle.joined_nodes.specs.Walks.{StopsAfter, compact_file, compact_files, current, merge_file, merge_files, over}
+use Rattle.joined_nodes.specs.declared.BeginRefused.{BeginRefused}
 use Rattle.node_past.specs.declared.refused.NodeRefused.{NodeRefused}
 use Rattle.node_past.specs.declared.refused.NodeRefused.TheVariants as refusals
 use Rattle.joined_nodes.specs.Joined.{AtNode}

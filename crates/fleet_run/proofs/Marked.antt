@@ -1,7 +1,7 @@
 -- Between two lines each wait has its mark.
 use Rattle.std.proofs.Common.{◌≡◌, ℕ, ◌+◌, ◌<◌, List, ◌∷◌, [], true, length, refl, sym, ap, ◌∙◌, subst, arith, length-append}
 use Rattle.run_data.specs.declared.run.Run.{Run}
-use Rattle.repo_node.specs.Stored.{StoreView}
+use Rattle.joined_nodes.specs.Stored.{StoreView}
 use Rattle.script_commands.specs.declared.command.Command.{Command}
 use Rattle.driver_model.specs.Driver.{Driver, DriverInput}
 use Rattle.driver_model.specs.Driving.{does}

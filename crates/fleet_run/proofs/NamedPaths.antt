@@ -13,7 +13,7 @@ use Rattle.run_paths.specs.Paths.{IndexView, IsIndexOf, with_marks}
 use Rattle.driver_model.specs.Driver.{Driver, DriverInput}
 use Rattle.driver_model.specs.ScriptSteps.{enters}
 use Rattle.driver_model.specs.Sound.{StaysSound}
-use Rattle.repo_node.specs.Stored.{StoreView}
+use Rattle.joined_nodes.specs.Stored.{StoreView}
 use Rattle.fleet_model.specs.Fleets.{FleetView, HasCome}
 use Rattle.fleet_run.specs.AtDriver.{GoesOn, OnlyAddsBehind}
 use Rattle.fleet_run.specs.Paths.{HasPaths}

@@ -5,10 +5,10 @@ use Rattle.driver_model.specs.Driver.{Driver, DriverInput, set_up_of}
 use Rattle.driver_model.specs.Scripts.{IsKnown}
 use Rattle.driver_model.specs.ScriptSteps.{has}
 use Rattle.driver_model.specs.Sound.{StaysSound}
-use Rattle.repo_node.specs.Calls.{IsDoneBy, StopsAt, to_place}
-use Rattle.repo_node.specs.Nodes.{IsState, NodeView, state_of, told_of}
-use Rattle.repo_node.specs.Placing.{IsPlaced}
-use Rattle.repo_node.specs.Stored.{StoreView}
+use Rattle.joined_nodes.specs.Calls.{IsDoneBy, StopsAt, to_place}
+use Rattle.joined_nodes.specs.Nodes.{IsState, NodeView, state_of, told_of}
+use Rattle.joined_nodes.specs.Placing.{IsPlaced}
+use Rattle.joined_nodes.specs.Stored.{StoreView}
 use Rattle.node_past.specs.declared.refused.NodeRefused.TheVariants as refusals
 use Rattle.fleet_model.specs.Fleets.{FleetView, HasCome}
 use Rattle.fleet_model.specs.Steps.{OneGoesOn, with_newest}

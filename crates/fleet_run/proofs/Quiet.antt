@@ -8,12 +8,12 @@ use Rattle.annex_base.proofs.Lists.{slice_get-within}
 use Rattle.link_ring.specs.Ends.{after_drop}
 use Rattle.run_data.specs.declared.entry.Entry.{Entry}
 use Rattle.node_model.specs.SetUp.{SetUp}
-use Rattle.repo_node.specs.Nodes as nodes
-use Rattle.repo_node.specs.Nodes.{NodeView, told_of}
-use Rattle.repo_node.specs.Stored.{StoreView}
-use Rattle.repo_node.specs.Turning.{IsIdle}
-use Rattle.repo_node.specs.declared.turn.Turn.{Turn}
-use Rattle.repo_node.specs.declared.turn.Turn.TheVariants as turns
+use Rattle.joined_nodes.specs.Nodes as nodes
+use Rattle.joined_nodes.specs.Nodes.{NodeView, told_of}
+use Rattle.joined_nodes.specs.Stored.{StoreView}
+use Rattle.joined_nodes.specs.Turning.{IsIdle}
+use Rattle.joined_nodes.specs.declared.Turn.{Turn}
+use Rattle.joined_nodes.specs.declared.Turn.TheVariants as turns
 use Rattle.driver_model.specs.Driver.{Driver, DriverInput, set_up_of}
 use Rattle.driver_model.specs.Turning.{turn}
 use Rattle.joined_nodes.specs.Joined.{AreNodes}

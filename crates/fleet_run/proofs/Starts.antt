@@ -11,8 +11,8 @@ use Rattle.script_commands.specs.declared.command.Command.{Command}
 use Rattle.driver_model.specs.Driver.{Driver, DriverInput}
 use Rattle.driver_model.specs.Limits.{StopsAtFull}
 use Rattle.driver_model.specs.Sound.{OnlyAdds}
-use Rattle.repo_node.specs.Nodes.{NodeView}
-use Rattle.repo_node.specs.Stored.{StoreView}
+use Rattle.joined_nodes.specs.Nodes.{NodeView}
+use Rattle.joined_nodes.specs.Stored.{StoreView}
 use Rattle.fleet_model.specs.Fleets.{FleetView}
 use Rattle.fleet_run.specs.Commands.{does_command}
 use Rattle.fleet_run.specs.AtDriver.{EndsAtFull, GoesOn, IsAtDriver, IsStartOf, StopsWithin, WaitsForRoom}

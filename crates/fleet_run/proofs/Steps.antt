@@ -1,6 +1,6 @@
 -- Steps one after the other: a fleet goes on as the driver does.
 use Rattle.driver_model.specs.Driver.{Driver, DriverInput}
-use Rattle.repo_node.specs.Stored.{StoreView}
+use Rattle.joined_nodes.specs.Stored.{StoreView}
 use Rattle.fleet_model.specs.Fleets.{FleetView}
 use Rattle.fleet_run.specs.AtDriver.{GoesOn}
 

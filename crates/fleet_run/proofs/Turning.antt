@@ -13,13 +13,13 @@ use Rattle.node_model.specs.SetUp.{SetUp}
 use Rattle.node_model.specs.Step.{step}
 use Rattle.node_ends.specs.Ends.{link_at}
 use Rattle.node_ends.specs.Joined.{AreCarried, end_with, link_carried}
-use Rattle.node_parts.specs.Parts.{AreParts}
-use Rattle.repo_node.specs.Nodes as nodes
-use Rattle.repo_node.specs.Nodes.{NodeView, told_of}
-use Rattle.repo_node.specs.Stored.{StoreView}
-use Rattle.repo_node.specs.Turning.{Adds, IsIdle, StepsBy}
-use Rattle.repo_node.specs.declared.turn.Turn.{Turn}
-use Rattle.repo_node.specs.declared.turn.Turn.TheVariants as turns
+use Rattle.fleet_model.specs.Parts.{AreParts}
+use Rattle.joined_nodes.specs.Nodes as nodes
+use Rattle.joined_nodes.specs.Nodes.{NodeView, told_of}
+use Rattle.joined_nodes.specs.Stored.{StoreView}
+use Rattle.joined_nodes.specs.Turning.{Adds, IsIdle, StepsBy}
+use Rattle.joined_nodes.specs.declared.Turn.{Turn}
+use Rattle.joined_nodes.specs.declared.Turn.TheVariants as turns
 use Rattle.run_model.specs.Past.{now}
 use Rattle.driver_model.specs.Driver.{Driver, DriverInput, newest_count, part_at, set_up_of}
 use Rattle.driver_model.specs.Turning.{turn}

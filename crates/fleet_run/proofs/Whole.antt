@@ -4,12 +4,12 @@ use Rattle.std.specs.Prelude.{slice_get}
 use Rattle.std.proofs.lemmas.Option.{same_Some}
 use Rattle.annex_base.specs.Lists.{Each}
 use Rattle.node_model.specs.SetUp.{SetUp}
-use Rattle.node_jobs.specs.Places.{PlaceView}
-use Rattle.node_jobs.specs.Running.{DropJob, IsDrop}
-use Rattle.node_parts.specs.Sound.{AreSound}
-use Rattle.repo_node.specs.Nodes as nodes
-use Rattle.repo_node.specs.Nodes.{NodeView}
-use Rattle.repo_node.specs.Stored.{StoreView}
+use Rattle.fleet_model.specs.Places.{PlaceView}
+use Rattle.fleet_model.specs.Running.{DropJob, IsDrop}
+use Rattle.fleet_model.specs.Sound.{AreSound}
+use Rattle.joined_nodes.specs.Nodes as nodes
+use Rattle.joined_nodes.specs.Nodes.{NodeView}
+use Rattle.joined_nodes.specs.Stored.{StoreView}
 use Rattle.fleet_model.specs.Fleets.{FleetView}
 use Rattle.fleet_model.specs.Turns.{IsLocal, IsWhole}
 

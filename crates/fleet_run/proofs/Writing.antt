@@ -18,12 +18,12 @@ use Rattle.driver_model.specs.Scripts.{IsKnown}
 use Rattle.driver_model.specs.ScriptSteps.{compacts, merges, sets, writes}
 use Rattle.driver_model.specs.Sound.{StaysSound}
 use Rattle.content_lock.specs.CallsMade.{MakesCalls}
-use Rattle.repo_node.specs.Calls.{Makes, to_compact, to_log, to_merge}
-use Rattle.repo_node.specs.Logs.{stamped_by, with_lines}
-use Rattle.repo_node.specs.Nodes.{NodeView}
-use Rattle.repo_node.specs.Refusals.{RefusesSo}
-use Rattle.repo_node.specs.Stored.{StoreView}
-use Rattle.repo_node.specs.Walks.{compact_files, merge_files, over}
+use Rattle.joined_nodes.specs.Calls.{Makes, to_compact, to_log, to_merge}
+use Rattle.joined_nodes.specs.Logs.{stamped_by, with_lines}
+use Rattle.joined_nodes.specs.Nodes.{NodeView}
+use Rattle.joined_nodes.specs.Refusals.{RefusesSo}
+use Rattle.joined_nodes.specs.Stored.{StoreView}
+use Rattle.joined_nodes.specs.Walks.{compact_files, merge_files, over}
 use Rattle.node_past.specs.declared.refused.NodeRefused.{NodeRefused}
 use Rattle.node_past.specs.declared.refused.NodeRefused.TheVariants as refusals
 use Rattle.joined_nodes.specs.Joined.{AtNode}

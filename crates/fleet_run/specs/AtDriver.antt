@@ -5,7 +5,7 @@ use Rattle.run_data.specs.declared.entry.Entry.{Entry}
 use Rattle.run_data.specs.declared.run.Run.{Run}
 use Rattle.run_data.specs.declared.run.TreeMark.{TreeMark}
 use Rattle.run_model.specs.Run.{IsRun}
-use Rattle.repo_node.specs.Stored.{StoreView}
+use Rattle.joined_nodes.specs.Stored.{StoreView}
 use Rattle.driver_model.specs.Driver.{Driver, DriverInput, newest_count}
 use Rattle.driver_model.specs.Limits.{StopsAtFull, count_of, within_limit}
 use Rattle.fleet_model.specs.Fleets.{FleetView, HasCome}
@@ -60,14 +60,14 @@ pub record IsFew (most : ℕ) (past : List Entry) : Type 0 where
   pub waits : waits_in past ≤ most
   pub count : newest_count past ≤ length past
 
--- The fleet has come to where some driver is, which has at most eight repositories and has made at most so many waits. A line can be
+-- The fleet has come to where some driver is, which has at most sixteen repositories and has made at most so many waits. A line can be
 -- done only where this holds with as many waits as the run has marks, one for each line that was done: so it does before the first
 -- line, and after each line that was done. After a refusal nothing says so, since the run may lack entries that a node made.
 pub record IsDrivenWithin {K : Type 0} (tells : K → StoreView) (most : ℕ) (f : FleetView K) : Type 0 where
   pub given : DriverInput
   pub driver : Driver
   pub stands : IsAtDriver tells given driver f
-  pub repos : length given.repos ≤ 8
+  pub repos : length given.repos ≤ 16
   pub few : IsFew most driver.past
 
 -- ---- within a line; for private contracts

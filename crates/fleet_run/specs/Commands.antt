@@ -4,7 +4,7 @@ use Rattle.run_data.specs.Histories.{most_entries}
 use Rattle.run_data.specs.declared.run.Run.{Run}
 use Rattle.run_model.specs.Past.{now}
 use Rattle.run_model.specs.Run.{IsRun}
-use Rattle.repo_node.specs.Stored.{StoreView}
+use Rattle.joined_nodes.specs.Stored.{StoreView}
 use Rattle.script_commands.specs.declared.command.Command.{Command}
 use Rattle.script_lang.specs.Context.{Context}
 use Rattle.script_lang.specs.Limits.{first_limit}

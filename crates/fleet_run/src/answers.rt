@@ -1,15 +1,15 @@
 //! What the answers of the nodes are to a line.
 ghost use Rattle.std.specs.Prelude.{◌≡◌, ◌⊎◌, ◌<◌, ◌≤◌, ℕ, length, slice_get, Some, Err, Ok, OnErr, OnOk};
-ghost use Rattle.repo_node.specs.Nodes.{NodeView};
-ghost use Rattle.repo_node.specs.Stored.{store_view};
+ghost use Rattle.joined_nodes.specs.Nodes.{NodeView};
+ghost use Rattle.joined_nodes.specs.Stored.{store_view};
 ghost use Rattle.fleet_run.specs.AtDriver.{OnlyAddsEntries};
 ghost use Rattle.fleet_run.specs.Telling.{AreFew, EndsShort, Tells};
 
 use crate::running::Running;
 use crate::stop::FleetStop;
 use growth_laws::runs_grow;
+use joined_nodes::{BeginRefused, NodeRefused, Turn};
 use object_store::FailingKeeper;
-use repo_node::{BeginRefused, NodeRefused, Turn};
 
 impl<K: FailingKeeper> Running<K> {
     /// The history of this repository is full.

@@ -2,7 +2,7 @@
 ghost use Rattle.std.specs.Prelude.{◌≡◌, ◌⊎◌, ℕ, ◌<◌, ◌^◌, length, Err, IfOk, OnErr, OnOk};
 ghost use Rattle.annex_key.specs.KeyText.{IsKeyText};
 ghost use Rattle.key_verify.specs.Matching.{MatchesKey};
-ghost use Rattle.repo_node.specs.Stored.{store_view};
+ghost use Rattle.joined_nodes.specs.Stored.{store_view};
 ghost use Rattle.driver_model.specs.ScriptSteps.{has};
 ghost use Rattle.fleet_run.specs.AtDriver.{EndsAtFull, GoesOn, HasRoom, IsDriven, OnlyAddsEntries, StopsWithin, WaitsForRoom};
 

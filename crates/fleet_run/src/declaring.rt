@@ -1,7 +1,7 @@
 //! The repositories that a script declares, and stores for them.
 ghost use Rattle.std.specs.Prelude.{◌≡◌, ◌++◌, All, Some, None, [], length, IfOk, OnOk};
 ghost use Rattle.object_store.specs.declared.memory.MemoryKeeper.{MemoryKeeper};
-ghost use Rattle.repo_node.specs.Stored.{HasNothing, store_view};
+ghost use Rattle.joined_nodes.specs.Stored.{HasNothing, store_view};
 ghost use Rattle.driver_model.specs.Driver.{at_first};
 ghost use Rattle.driver_script.specs.Lines.{declared_by, repos_of};
 ghost use Rattle.fleet_model.specs.Stores.{IsStoreOf};

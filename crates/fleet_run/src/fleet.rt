@@ -2,7 +2,7 @@
 ghost use Rattle.std.specs.Prelude.{◌≡◌, ◌+◌, ◌<◌, ◌≤◌, ℕ, All, [], length, map, Err, IfOk, OnErr, OnOk};
 ghost use Rattle.run_data.specs.declared.run.RepoView.{RepoView};
 ghost use Rattle.object_store.specs.declared.memory.MemoryKeeper.{MemoryKeeper};
-ghost use Rattle.repo_node.specs.Stored.{HasNothing, store_view};
+ghost use Rattle.joined_nodes.specs.Stored.{HasNothing, store_view};
 ghost use Rattle.joined_nodes.specs.Joined.{MayRun};
 ghost use Rattle.driver_model.specs.Driver.{DriverInput, at_first};
 ghost use Rattle.driver_script.specs.Lines.{repos_of};
@@ -28,7 +28,7 @@ use std::marker::Model;
 
 /// The repositories of a script as nodes, and the run so far: copies of the entries that they made, in order (own). Before the first
 /// line, and after each line that was done, it has come to where the driver of scripts is. After a refusal the fleet does no further
-/// line: its run may lack entries that a node made. It has at most eight repositories. It has tokens to spend, so it is finished and
+/// line: its run may lack entries that a node made. It has at most sixteen repositories. It has tokens to spend, so it is finished and
 /// never dropped.
 pub struct Fleet<K: FailingKeeper> {
     running: Running<K>,
@@ -55,10 +55,10 @@ fn empty_run(alloc: Global, repos: Items<RepoView>) -> Run
 }
 
 impl Fleet<MemoryKeeper> {
-    /// The repositories that the script declares, at most eight, before its first line, each over a store in memory.
+    /// The repositories that the script declares, at most sixteen, before its first line, each over a store in memory.
     pub fn new(alloc: Global, script: &Script) -> Result<Fleet<MemoryKeeper>, NoMemory>
         requires run { MayRun (repos_of script.now) }
-        requires repos { length (repos_of script.now) ≤ 8 }
+        requires repos { length (repos_of script.now) ≤ 16 }
         ensures stands { IfOk result (λ f. (g : DriverInput) → g.repos ≡ repos_of script.now → DecidesMatches g → IsAtDriver (λ k. store_view (⟦<MemoryKeeper as Keeper>⟧.contents k) (⟦<MemoryKeeper as Keeper>⟧.parts k) (⟦<MemoryKeeper as Keeper>⟧.failing k) (⟦<MemoryKeeper as Keeper>⟧.faults k)) g at_first f) }
         ensures driven { IfOk result (λ f. IsDrivenWithin (λ k. store_view (⟦<MemoryKeeper as Keeper>⟧.contents k) (⟦<MemoryKeeper as Keeper>⟧.parts k) (⟦<MemoryKeeper as Keeper>⟧.failing k) (⟦<MemoryKeeper as Keeper>⟧.faults k)) (length f.run.marks) f) }
         ensures nodes { IfOk result (λ f. length f.nodes ≡ length (repos_of script.now)) }
@@ -71,7 +71,7 @@ impl Fleet<MemoryKeeper> {
 }
 
 impl<K: FailingKeeper> Fleet<K> {
-    /// The repositories that the script declares, at most eight, before its first line, each over the keeper at its place, which has
+    /// The repositories that the script declares, at most sixteen, before its first line, each over the keeper at its place, which has
     /// nothing, tells this, and of which no call is to fail.
     pub fn with_keepers(
         alloc: Global,
@@ -79,7 +79,7 @@ impl<K: FailingKeeper> Fleet<K> {
         keepers: Vec<K>,
     ) -> Result<Fleet<K>, NoMemory>
         requires run { MayRun (repos_of script.now) }
-        requires repos { length (repos_of script.now) ≤ 8 }
+        requires repos { length (repos_of script.now) ≤ 16 }
         requires count { length keepers.items ≡ length (repos_of script.now) }
         requires empty { All (λ k. HasNothing (K.contents k) (K.parts k) (K.records k) (K.files k)) keepers.items }
         requires tells { All (λ k. IsStoreOf at_first 0 (store_view (K.contents k) (K.parts k) (K.failing k) (K.faults k))) keepers.items }
@@ -95,7 +95,7 @@ impl<K: FailingKeeper> Fleet<K> {
     /// These repositories before the first line, each over the keeper at its place.
     fn over(alloc: Global, repos: Items<RepoView>, keepers: Vec<K>) -> Result<Fleet<K>, NoMemory>
         requires run { MayRun repos }
-        requires repos { length repos ≤ 8 }
+        requires repos { length repos ≤ 16 }
         requires count { length keepers.items ≡ length repos }
         requires empty { All (λ k. HasNothing (K.contents k) (K.parts k) (K.records k) (K.files k)) keepers.items }
         requires tells { All (λ k. IsStoreOf at_first 0 (store_view (K.contents k) (K.parts k) (K.failing k) (K.faults k))) keepers.items }

@@ -2,7 +2,7 @@
 ghost use Rattle.std.specs.Prelude.{◌≡◌, ℕ, ◌+◌, ◌<◌, ◌≤◌, length, reverse, None, Err, IfOk, OnErr, OnOk};
 ghost use Rattle.annex_key.specs.Tree.{paths_of};
 ghost use Rattle.annex_key.specs.View.{first_fault};
-ghost use Rattle.repo_node.specs.Stored.{store_view};
+ghost use Rattle.joined_nodes.specs.Stored.{store_view};
 ghost use Rattle.run_model.specs.Past.{now};
 ghost use Rattle.run_model.specs.Run.{tree_at};
 ghost use Rattle.driver_model.specs.Rounds.{settles};

@@ -1,6 +1,6 @@
 //! What a fleet does at each form of line.
 ghost use Rattle.std.specs.Prelude.{◌≡◌, ◌+◌, ◌<◌, ℕ, length, Err, OnErr, OnOk};
-ghost use Rattle.repo_node.specs.Stored.{store_view};
+ghost use Rattle.joined_nodes.specs.Stored.{store_view};
 ghost use Rattle.script_commands.specs.declared.command.Command.TheVariants as commands;
 ghost use Rattle.fleet_run.specs.Commands.{CutsAt, HasRoomFor, MayBeDone, MeetsNone, does_and_marks, does_command};
 ghost use Rattle.fleet_run.specs.AtDriver.{GoesOn, IsDriven, IsDrivenWithin, OnlyAddsBehind, StopsWithin, most_lines};

@@ -3,7 +3,7 @@ ghost use Rattle.std.specs.Prelude.{◌≡◌, ◌≢◌, ℕ, ◌<◌, length, 
 ghost use Rattle.log_lines.specs.declared.entry.LogKind.TheVariants as kinds;
 ghost use Rattle.run_data.specs.Files.{HasPath, kind_of};
 ghost use Rattle.union_merge.specs.LineSet.{IsLine};
-ghost use Rattle.repo_node.specs.Stored.{store_view};
+ghost use Rattle.joined_nodes.specs.Stored.{store_view};
 ghost use Rattle.driver_model.specs.Scripts.{IsPlainTopic, IsPlainValue};
 ghost use Rattle.driver_model.specs.ScriptSteps.{compacts, merges, sets, writes};
 ghost use Rattle.fleet_run.specs.AtDriver.{EndsAtFull, GoesOn, IsDriven, OnlyAddsEntries, StopsWithin};

@@ -3,7 +3,7 @@ ghost use Rattle.std.specs.Prelude.{◌≡◌, ℕ, ◌<◌, ◌^◌, length, re
 ghost use Rattle.annex_key.specs.KeyText.{IsKeyText};
 ghost use Rattle.annex_key.specs.Tree.{paths_of};
 ghost use Rattle.key_verify.specs.Matching.{MatchesKey};
-ghost use Rattle.repo_node.specs.Stored.{store_view};
+ghost use Rattle.joined_nodes.specs.Stored.{store_view};
 ghost use Rattle.run_model.specs.Run.{tree_at};
 ghost use Rattle.script_commands.specs.declared.command.Action.TheVariants as actions;
 ghost use Rattle.script_commands.specs.declared.command.Command.TheVariants as commands;

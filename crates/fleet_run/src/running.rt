@@ -3,8 +3,8 @@ ghost use Rattle.std.specs.Prelude.{◌≡◌, ◌+◌, ◌<◌, ◌≤◌, ◌^
 ghost use Rattle.run_model.specs.Past.{now};
 ghost use Rattle.driver_model.specs.Driver.{newest_count};
 ghost use Rattle.driver_model.specs.Driving.{with_mark};
-ghost use Rattle.repo_node.specs.Nodes.{NodeView};
-ghost use Rattle.repo_node.specs.Stored.{store_view};
+ghost use Rattle.joined_nodes.specs.Nodes.{NodeView};
+ghost use Rattle.joined_nodes.specs.Stored.{store_view};
 ghost use Rattle.fleet_model.specs.Turns.{IsWhole};
 ghost use Rattle.fleet_run.specs.AtDriver.{GoesOn, IsDriven, OnlyAddsEntries};
 ghost use Rattle.fleet_run.specs.Telling.{Raises, StandsWithin, Tells};
@@ -52,7 +52,7 @@ fn add_copies(alloc: Global, entries: &mut Items<Entry>, made: &[Entry]) -> Resu
 }
 
 impl<K: FailingKeeper> Running<K> {
-    /// How many nodes there are, at most eight.
+    /// How many nodes there are, at most sixteen.
     pub(crate) fn count(&self) -> u32
         requires driven { IsDriven (λ k. store_view (K.contents k) (K.parts k) (K.failing k) (K.faults k)) self.now }
         ensures { result ≡ length self.now.nodes }

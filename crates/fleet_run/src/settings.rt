@@ -1,7 +1,7 @@
 //! The settings that nodes write into their logs.
 ghost use Rattle.std.specs.Prelude.{◌≡◌, ◌≢◌, ℕ, ◌<◌, length, Err, IfOk, OnErr, OnOk};
 ghost use Rattle.log_lines.specs.declared.entry.LogKind.TheVariants as kinds;
-ghost use Rattle.repo_node.specs.Stored.{store_view};
+ghost use Rattle.joined_nodes.specs.Stored.{store_view};
 ghost use Rattle.driver_model.specs.Scripts.{IsPlainTopic, IsPlainValue};
 ghost use Rattle.driver_model.specs.ScriptSteps.{sets};
 ghost use Rattle.fleet_run.specs.AtDriver.{EndsAtFull, GoesOn, IsDriven, OnlyAddsEntries, StopsWithin};

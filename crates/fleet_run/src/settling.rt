@@ -2,8 +2,8 @@
 ghost use Rattle.std.specs.Prelude.{◌≡◌, ℕ, ◌+◌, ◌<◌, ◌==◌, if◌then◌else◌, true, false, length, map, slice_get, Err, OnErr, OnOk, Some};
 ghost use Rattle.std.specs.List.{list_any};
 ghost use Rattle.link_ring.specs.Ends.{after_drop, has_frames};
-ghost use Rattle.repo_node.specs.Nodes.{NodeView};
-ghost use Rattle.repo_node.specs.Stored.{store_view};
+ghost use Rattle.joined_nodes.specs.Nodes.{NodeView};
+ghost use Rattle.joined_nodes.specs.Stored.{store_view};
 ghost use Rattle.joined_nodes.specs.Joined.{AreNodes};
 ghost use Rattle.driver_model.specs.Driving.{turns};
 ghost use Rattle.driver_model.specs.Rounds.{round, settles};
@@ -14,11 +14,11 @@ use crate::running::Running;
 use crate::stop::FleetStop;
 use driver_model::{drivers_only_add, runs_are_cut_where_histories_are_full};
 use fleet_model::{fleets_rest, fleets_settle, fleets_stop_at_full_histories, fleets_take_turns};
+use joined_nodes::Turn;
 use object_store::FailingKeeper;
-use repo_node::Turn;
 
 /// Two to the power 22. Of each two rounds one behind the other, but for the last two, one adds an entry, and no repository of at most
-/// eight makes more than 100,000 entries; so this many are never made.
+/// sixteen makes more than 100,000 entries; so this many are never made.
 const MOST_ROUNDS: u32 = 4_194_304;
 
 /// Whether a turn found no step ready, and began where no frame was at hand.

@@ -9,4 +9,5 @@ mod nodes;
 mod repos;
 
 pub use nodes::Nodes;
+pub use repo_node::{BeginRefused, NodeRefused, Turn};
 pub use repos::may_run;

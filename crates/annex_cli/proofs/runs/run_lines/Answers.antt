@@ -1,6 +1,6 @@
 -- One line more, and after the last none is left.
 use Rattle.std.proofs.Common.{◌+◌, ◌<◌, ◌≤◌, true, [], List, ◌≡◌, length, drop, Err, sym, ap, ◌∙◌, subst, arith}
-use Rattle.repo_node.specs.Stored.{store_view}
+use Rattle.fleet_run.specs.Stored.{store_view}
 use Rattle.script_commands.specs.declared.command.Command.{Command}
 use Rattle.fleet_run.specs.declared.stop.FleetStop.TheVariants.{Full}
 use Rattle.script_answers.specs.Runs.{IsRunOf}

@@ -1,6 +1,6 @@
 -- The fleet has done the commands before those that are left.
 use Rattle.std.proofs.Common.{drop}
-use Rattle.repo_node.specs.Stored.{store_view}
+use Rattle.fleet_run.specs.Stored.{store_view}
 use Rattle.annex_cli.specs.Doing.{HasDone}
 use Rattle.annex_cli.proofs.runs.run_lines.Given as goal
 

@@ -10,7 +10,7 @@ use Rattle.object_store.specs.HoldList.{records_of}
 use Rattle.object_store.specs.Stores.{Contents, Files, Parts}
 use Rattle.object_store.specs.declared.keeper.HoldRecord.{HoldRecord}
 use Rattle.object_store.specs.declared.memory.MemoryKeeper.{MemoryKeeper}
-use Rattle.repo_node.specs.Stored.{HasNothing, store_view}
+use Rattle.joined_nodes.specs.Stored.{HasNothing, store_view}
 use Rattle.driver_model.specs.Driver.{at_first, part_at as driver_part}
 use Rattle.fleet_model.specs.Stores.{IsStoreOf, IsTold, content_in, waiting_fails}
 use Rattle.fleet_run.proofs.declaring.memory_keepers.Goals as goal

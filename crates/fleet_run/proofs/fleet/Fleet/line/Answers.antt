@@ -1,6 +1,6 @@
 -- What the proof of `fleet::Fleet::line` needs beside the tactics: a fleet is seen as what runs in it.
 use Rattle.std.proofs.Common.{length, subst, sym}
-use Rattle.repo_node.specs.Stored.{StoreView, store_view}
+use Rattle.joined_nodes.specs.Stored.{StoreView, store_view}
 use Rattle.fleet_model.specs.Fleets.{FleetView}
 use Rattle.fleet_run.specs.AtDriver.{IsDrivenWithin}
 use Rattle.fleet_run.proofs.fleet.Fleet.line.Goals as goal

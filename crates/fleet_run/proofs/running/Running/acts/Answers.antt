@@ -1,7 +1,7 @@
 -- What the proof of `running::Running::acts` needs beside the tactics.
 use Rattle.std.proofs.Common.{ap, length, refl, subst, ◌+◌, ◌≤◌}
 use Rattle.annex_base.proofs.Numbers.{below_more}
-use Rattle.repo_node.specs.Stored.{StoreView, store_view}
+use Rattle.joined_nodes.specs.Stored.{StoreView, store_view}
 use Rattle.script_commands.specs.declared.command.Action.TheVariants as actions
 use Rattle.script_commands.specs.declared.command.Command.TheVariants as commands
 use Rattle.fleet_run.proofs.Commands.{added_kind, added_path, as_form, built_as, file_line, in_time, local_alone, local_drops, never_acts, short_content, stands_as, within_as}

@@ -1,6 +1,6 @@
 -- What the proof of `running::Running::adds` needs beside the tactics.
 use Rattle.std.proofs.Common.{ℕ, ◌<◌, subst, sym}
-use Rattle.repo_node.specs.Stored.{StoreView, store_view}
+use Rattle.joined_nodes.specs.Stored.{StoreView, store_view}
 use Rattle.script_commands.specs.declared.command.Action.TheVariants as actions
 use Rattle.script_commands.specs.declared.command.Command.TheVariants as commands
 use Rattle.driver_model.specs.ScriptSteps.{enters, has}

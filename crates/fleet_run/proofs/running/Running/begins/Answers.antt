@@ -1,6 +1,6 @@
 -- What the proof of `running::Running::begins` needs beside the tactics.
 use Rattle.std.proofs.Common.{◌<◌, ◌≡◌, ap, length, subst, sym, ◌∙◌}
-use Rattle.repo_node.specs.Stored.{StoreView, store_view}
+use Rattle.joined_nodes.specs.Stored.{StoreView, store_view}
 use Rattle.driver_model.specs.ScriptSteps.{begins}
 use Rattle.fleet_model.specs.Fleets.{FleetView}
 use Rattle.fleet_run.specs.AtDriver.{IsDriven}

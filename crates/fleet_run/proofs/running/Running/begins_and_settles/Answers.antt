@@ -1,5 +1,5 @@
 -- What the proof of `running::Running::begins_and_settles` needs beside the tactics.
-use Rattle.repo_node.specs.Stored.{StoreView, store_view}
+use Rattle.joined_nodes.specs.Stored.{StoreView, store_view}
 use Rattle.driver_model.specs.Rounds.{settles}
 use Rattle.driver_model.specs.ScriptSteps.{begins}
 use Rattle.fleet_run.specs.AtDriver.{most_lines}

@@ -1,6 +1,6 @@
 -- What the proof of `running::Running::begins_with` needs beside the tactics.
 use Rattle.std.proofs.Common.{[], ap, refl, ◌∙◌}
-use Rattle.repo_node.specs.Stored.{StoreView, store_view}
+use Rattle.joined_nodes.specs.Stored.{StoreView, store_view}
 use Rattle.fleet_run.proofs.Beginning.{BeginsJob, begins_go_so, local_peer}
 use Rattle.fleet_run.proofs.Called.{called, seen_as}
 use Rattle.fleet_run.proofs.Growing.{begin_grows, had_at_most}

@@ -1,9 +1,9 @@
 -- What the proof of `running::Running::compacts` needs beside the tactics.
 use Rattle.std.proofs.Common.{◌≡◌, ap, ◌∙◌}
 use Rattle.std.specs.Map.{keys_of}
-use Rattle.repo_node.specs.Calls.{to_compact}
-use Rattle.repo_node.specs.Stored.{StoreView, store_view}
-use Rattle.repo_node.specs.Walks.{StopsAfter, compact_files, over}
+use Rattle.joined_nodes.specs.Calls.{to_compact}
+use Rattle.joined_nodes.specs.Stored.{StoreView, store_view}
+use Rattle.joined_nodes.specs.Walks.{StopsAfter, compact_files, over}
 use Rattle.fleet_run.proofs.Called.{called, raised_there, seen_as}
 use Rattle.fleet_run.proofs.Growing.{compact_grows, had_at_most}
 use Rattle.fleet_run.proofs.Writing.{WritesFiles, compacts_go, never_bundle}

@@ -1,6 +1,6 @@
 -- What the proof of `running::Running::does` needs beside the tactics.
 use Rattle.std.proofs.Common.{ap, refl, sym, ◌∙◌}
-use Rattle.repo_node.specs.Stored.{StoreView, store_view}
+use Rattle.joined_nodes.specs.Stored.{StoreView, store_view}
 use Rattle.script_commands.specs.declared.command.Command.TheVariants as commands
 use Rattle.fleet_run.proofs.Commands.{as_form, may_as, never_unbuilt, quiet_stays}
 use Rattle.fleet_run.proofs.Writing.{on_ok}

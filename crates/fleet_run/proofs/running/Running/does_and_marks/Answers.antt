@@ -1,6 +1,6 @@
 -- What the proof of `running::Running::does_and_marks` needs beside the tactics.
 use Rattle.std.proofs.Common.{length, arith}
-use Rattle.repo_node.specs.Stored.{StoreView, store_view}
+use Rattle.joined_nodes.specs.Stored.{StoreView, store_view}
 use Rattle.driver_model.specs.Driving.{with_mark}
 use Rattle.fleet_run.specs.Commands.{does_command}
 use Rattle.fleet_run.proofs.Cutting.{meets_none}

@@ -1,6 +1,6 @@
 -- What the proof of `running::Running::enters` needs beside the tactics.
 use Rattle.std.proofs.Common.{ℕ, List, [], ◌∷◌, ◌++◌, ap, length, refl, subst, sym, ◌∙◌}
-use Rattle.repo_node.specs.Stored.{StoreView, store_view}
+use Rattle.joined_nodes.specs.Stored.{StoreView, store_view}
 use Rattle.run_data.specs.declared.run.TreeMark.{TreeMark}
 use Rattle.run_paths.specs.Paths.{IsIndexOf}
 use Rattle.driver_model.specs.ScriptSteps.{enters}

@@ -1,5 +1,5 @@
 -- What the proof of `running::Running::entries_are_few` needs beside the tactics.
-use Rattle.repo_node.specs.Stored.{StoreView, store_view}
+use Rattle.joined_nodes.specs.Stored.{StoreView, store_view}
 use Rattle.fleet_run.proofs.Entries.{entries_few}
 use Rattle.fleet_run.proofs.Full.{few_in}
 use Rattle.fleet_run.proofs.running.Running.entries_are_few.Goals as goal

@@ -1,5 +1,5 @@
 -- What the proof of `running::Running::fails` needs beside the tactics.
-use Rattle.repo_node.specs.Stored.{StoreView, store_view}
+use Rattle.joined_nodes.specs.Stored.{StoreView, store_view}
 use Rattle.fleet_run.proofs.Beginning.{fails_go_so}
 use Rattle.fleet_model.specs.Fleets.{FleetView}
 use Rattle.std.proofs.Common.{ap}

@@ -1,7 +1,7 @@
 -- What the proof of `running::Running::has` needs beside the tactics.
 use Rattle.std.proofs.Common.{◌∙◌, ◌⊎◌, ap, refl, ◌≡◌}
-use Rattle.repo_node.specs.Calls.{StopsAt, to_place}
-use Rattle.repo_node.specs.Stored.{StoreView, store_view}
+use Rattle.joined_nodes.specs.Calls.{StopsAt, to_place}
+use Rattle.joined_nodes.specs.Stored.{StoreView, store_view}
 use Rattle.fleet_run.proofs.Called.{called, raised_there, seen_as}
 use Rattle.fleet_run.proofs.Commands.{content_fits}
 use Rattle.fleet_run.proofs.Growing.{had_at_most, place_grows}

@@ -1,12 +1,12 @@
 -- What the proof of `running::Running::merges` needs beside the tactics.
-use Rattle.repo_node.specs.Stored.{StoreView, store_view}
-use Rattle.repo_node.specs.Walks.{StopsAfter, merge_files}
+use Rattle.joined_nodes.specs.Stored.{StoreView, store_view}
+use Rattle.joined_nodes.specs.Walks.{StopsAfter, merge_files}
 use Rattle.fleet_run.proofs.Called.{called, raised_other, raised_there, seen_as}
 use Rattle.fleet_run.proofs.Growing.{had_at_most, merge_grows}
 use Rattle.fleet_run.proofs.Writing.{MergesFrom, merges_go, never_bundle}
 use Rattle.fleet_run.proofs.Full.{MergeMeets, ends_for, merges_end, rest_on}
 use Rattle.driver_model.specs.ScriptSteps.{merges}
-use Rattle.repo_node.specs.Nodes.{NodeView}
+use Rattle.joined_nodes.specs.Nodes.{NodeView}
 use Rattle.std.proofs.Common.{◌≡◌, Some, ap, ◌∙◌}
 use Rattle.std.specs.Prelude.{slice_get}
 use Rattle.annex_base.proofs.Lists.{slice_get-within}

@@ -1,6 +1,6 @@
 -- What the proof of `running::Running::raise` needs beside the tactics.
 use Rattle.std.proofs.Common.{ap, length}
-use Rattle.repo_node.specs.Stored.{StoreView, store_view}
+use Rattle.joined_nodes.specs.Stored.{StoreView, store_view}
 use Rattle.fleet_run.proofs.Turning.{raises_so}
 use Rattle.fleet_run.proofs.running.Running.raise.Goals as goal
 

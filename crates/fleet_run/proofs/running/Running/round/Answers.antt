@@ -1,7 +1,7 @@
 -- What the proof of `running::Running::round` needs beside the tactics.
 use Rattle.std.proofs.Common.{rules, ℕ, ◌≡◌, ◌<◌, length, refl, subst, sym}
 use Rattle.std.specs.List.{range_with_len}
-use Rattle.repo_node.specs.Stored.{StoreView, store_view}
+use Rattle.joined_nodes.specs.Stored.{StoreView, store_view}
 use Rattle.driver_model.specs.Rounds.{turns_of}
 use Rattle.fleet_run.specs.AtDriver.{most_lines}
 use Rattle.fleet_run.proofs.Driving.{driven_on, one_more_of_round, same_count, whole_round}

@@ -1,6 +1,6 @@
 -- What holds at each turn of the loop of `running::Running::round`.
 use Rattle.std.specs.List.{range_with_len}
-use Rattle.repo_node.specs.Stored.{store_view}
+use Rattle.joined_nodes.specs.Stored.{store_view}
 use Rattle.driver_model.specs.Rounds.{turns_of}
 use Rattle.fleet_run.specs.AtDriver.{GoesOn, OnlyAddsEntries}
 use Rattle.fleet_run.proofs.running.Running.round.Given as goal

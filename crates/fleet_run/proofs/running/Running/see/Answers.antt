@@ -1,5 +1,5 @@
 -- What the proof of `running::Running::see` needs beside the tactics.
-use Rattle.repo_node.specs.Stored.{StoreView, store_view}
+use Rattle.joined_nodes.specs.Stored.{StoreView, store_view}
 use Rattle.fleet_run.proofs.Whole.{seen_whole}
 use Rattle.fleet_run.proofs.running.Running.see.Goals as goal
 

@@ -2,12 +2,12 @@
 use Rattle.std.proofs.Common.{◌≡◌, ◌∷◌, [], ap, ◌∙◌}
 use Rattle.std.specs.Prelude.{None}
 use Rattle.annex_base.specs.declared.kinds.Call.TheVariants as calls
-use Rattle.repo_node.specs.Calls.{to_log}
+use Rattle.joined_nodes.specs.Calls.{to_log}
 use Rattle.log_lines.specs.LineText.{line_text}
 use Rattle.run_data.specs.declared.entry.LogFile.TheVariants.{Of}
-use Rattle.repo_node.specs.Logs.{stamped_by, with_lines}
-use Rattle.repo_node.specs.Refusals.{RefusesSo}
-use Rattle.repo_node.specs.Stored.{StoreView, store_view}
+use Rattle.joined_nodes.specs.Logs.{stamped_by, with_lines}
+use Rattle.joined_nodes.specs.Refusals.{RefusesSo}
+use Rattle.joined_nodes.specs.Stored.{StoreView, store_view}
 use Rattle.fleet_run.proofs.Called.{called, raised_there, seen_as}
 use Rattle.fleet_run.proofs.Growing.{had_at_most, write_grows}
 use Rattle.fleet_run.proofs.Writing.{WritesFiles, never_bundle, one_fault, sets_go}

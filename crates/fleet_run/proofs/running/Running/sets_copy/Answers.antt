@@ -2,7 +2,7 @@
 use Rattle.std.proofs.Common.{ap, refl, subst, sym, ◌∙◌}
 use Rattle.log_lines.specs.declared.entry.Topic.{Topic}
 use Rattle.log_lines.specs.declared.entry.Value.{Value}
-use Rattle.repo_node.specs.Stored.{StoreView, store_view}
+use Rattle.joined_nodes.specs.Stored.{StoreView, store_view}
 use Rattle.driver_model.specs.Scripts.{IsPlainTopic, IsPlainValue}
 use Rattle.driver_model.specs.ScriptSteps.{sets}
 use Rattle.fleet_run.specs.AtDriver.{EndsAtFull, GoesOn, StopsWithin}

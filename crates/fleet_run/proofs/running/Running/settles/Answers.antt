@@ -1,6 +1,6 @@
 -- What the proof of `running::Running::settles` needs beside the tactics.
 use Rattle.std.proofs.Common.{rules, ℕ, ◌≡◌, ◌+◌, sym, subst, ◌∙◌}
-use Rattle.repo_node.specs.Stored.{StoreView, store_view}
+use Rattle.joined_nodes.specs.Stored.{StoreView, store_view}
 use Rattle.fleet_run.proofs.Driving.{HasGone, driven_rounds, few_rounds, idle_then, last_round, one_more_round, settled_at_most, settled_early}
 use Rattle.fleet_run.proofs.Ending.{AtFull, later_full, one_more_may_be, settles_end}
 use Rattle.fleet_run.proofs.Full.{rest_then, ok_or_err, same_err}

@@ -1,5 +1,5 @@
 -- What holds at each turn of the loop of `running::Running::settles`.
-use Rattle.repo_node.specs.Stored.{store_view}
+use Rattle.joined_nodes.specs.Stored.{store_view}
 use Rattle.fleet_run.specs.AtDriver.{OnlyAddsEntries}
 use Rattle.fleet_run.proofs.Driving.{HasGone}
 use Rattle.fleet_run.proofs.running.Running.settles.Given as goal

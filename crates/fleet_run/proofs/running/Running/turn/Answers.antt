@@ -1,6 +1,6 @@
 -- What the proof of `running::Running::turn` needs beside the tactics.
 use Rattle.std.proofs.Common.{ap, length, ◌∙◌}
-use Rattle.repo_node.specs.Stored.{StoreView, store_view}
+use Rattle.joined_nodes.specs.Stored.{StoreView, store_view}
 use Rattle.fleet_run.proofs.Called.{seen_as}
 use Rattle.fleet_run.proofs.Quiet.{rests_on}
 use Rattle.fleet_run.proofs.Turning.{had_within, IsTurned, turns_on}

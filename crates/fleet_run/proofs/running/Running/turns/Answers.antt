@@ -1,6 +1,6 @@
 -- What the proof of `running::Running::turns` needs beside the tactics.
 use Rattle.std.proofs.Common.{rules, subst, sym, ℕ, ◌<◌, ◌≡◌}
-use Rattle.repo_node.specs.Stored.{StoreView, store_view}
+use Rattle.joined_nodes.specs.Stored.{StoreView, store_view}
 use Rattle.driver_model.specs.Driving.{turns}
 use Rattle.fleet_run.specs.AtDriver.{GoesOn, most_lines}
 use Rattle.fleet_run.proofs.Driving.{driven_on, one_more_turn, same_count}

@@ -1,5 +1,5 @@
 -- What holds at each turn of the loop of `running::Running::turns`.
-use Rattle.repo_node.specs.Stored.{store_view}
+use Rattle.joined_nodes.specs.Stored.{store_view}
 use Rattle.driver_model.specs.Driving.{turns}
 use Rattle.fleet_run.specs.AtDriver.{GoesOn, OnlyAddsEntries}
 use Rattle.fleet_run.proofs.running.Running.turns.Given as goal

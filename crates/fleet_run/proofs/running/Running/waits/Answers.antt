@@ -1,6 +1,6 @@
 -- What the proof of `running::Running::waits` needs beside the tactics.
 use Rattle.std.proofs.Common.{ℕ, ◌+◌, ◌<◌, ◌^◌, subst, sym, ap, ◌∙◌}
-use Rattle.repo_node.specs.Stored.{StoreView, store_view}
+use Rattle.joined_nodes.specs.Stored.{StoreView, store_view}
 use Rattle.fleet_run.proofs.Beginning.{waits_go_so}
 use Rattle.fleet_run.proofs.Driving.{one_is_counted}
 use Rattle.fleet_run.proofs.Full.{ok_or_err, rest_of, rest_where_same}
