@@ -82,6 +82,14 @@ def waits_and_shows(what, count):
     return lines
 
 
+def wanted(repos, paths):
+    """So many paths, each of a key that the first repository is claimed to have, and what one repository after another wants of each."""
+    lines = declare(repos) + ["wanted %s %s include=*.%d or not copies=2" % (name(0), name(r), r) for r in range(repos)]
+    lines += ["file p%d.%d %s" % (p, p % repos, short_key(p)) for p in range(paths)]
+    lines += ["log %s location %s 1s 1 %s" % (name(0), short_key(p), identifier(0)) for p in range(paths)]
+    return lines + ["show wants %s %s p%d.%d" % (name(0), name(p // repos % repos), p, p % repos) for p in range(paths)]
+
+
 def reads(lines_of_log, count):
     """A log to which so many lines are added, and so many drops that read it, and are refused for want of copies."""
     lines = declare(2) + ["have %s %s text:abc" % (name(0), key(0)), "numcopies %s 9" % name(0)]
@@ -156,7 +164,7 @@ def run_time(lines):
 
 
 def read_time(script):
-    """The time of the program on a script that is read and not run, since it has a line that isn't built yet."""
+    """The time of the program on a script that is read and not run, since its last line is bad."""
     return median_time([str(PROGRAM), "run"], script, 2)
 
 
@@ -193,15 +201,15 @@ LINES = (
 
 
 def script_of(line, size):
-    """A script of at most so many bytes: two repositories, a content and a path, and then lines of this kind."""
+    """A script of at most so many bytes: two repositories, a content and a path, then lines of this kind, and one that is bad."""
     lines = ["repo %s 00000000-0000-4000-8000-00000000000%s" % (repo, repo) for repo in "ab"]
-    text = "\n".join(lines + ["have a WORM-s3--k text:abc", "file x WORM-s3--k", ""])
-    pieces, length = [text], len(text)
+    text, last = "\n".join(lines + ["have a WORM-s3--k text:abc", "file x WORM-s3--k", ""]), "!\n"
+    pieces, length = [text], len(text) + len(last)
     for number in itertools.count():
         piece = line.replace("#", str(number)).replace("%", str(number % 4095)) + "\n"
         length += len(piece)
         if length > size:
-            return "".join(pieces).encode()
+            return "".join(pieces + [last]).encode()
         pieces.append(piece)
 
 
@@ -241,7 +249,7 @@ def doubled(first, last):
 
 def runs():
     """Whole runs of drops by messages, and of settles: as many keys as the bytes of a script have room for, and 4,000 jobs."""
-    for repos in (2, 4, 8):
+    for repos in (2, 4, 8, 16):
         at = "at %d repositories" % repos
         keys, jobs = doubled(10, 36_000 // repos), doubled(10, 4_000)
         doublings("keys, each placed %s and merged" % at, keys, lambda n: copies(repos, n))
@@ -256,13 +264,14 @@ def main():
     table("keys, at 2 repositories", [(k, k, with_keys(2, k)) for k in (10, 100, 1000, 10000)])
     table("drops, of 1,000 keys at 4 repositories", [(d, d, drops(4, 1000, d)) for d in (10, 100, 1000, 10000)])
     table("keys, with 1,000 drops at 2 repositories", [(k, k, drops(2, k, 1000)) for k in (10, 100, 1000, 10000)])
-    table("repositories, with 1,000 keys and 1,000 drops", [(r, r, drops(r, 1000, 1000)) for r in range(2, 9)])
+    table("repositories, with 1,000 keys and 1,000 drops", [(r, r, drops(r, 1000, 1000)) for r in range(2, 17)])
     table("shows, of 1,000 keys", [(s, s, shows(1000, s)) for s in (10, 100, 1000, 10000)])
     for what, title in (("presence", "of where a key is"), ("row %s" % name(0), "of its row")):
         table(
             "waits, each followed by a show %s: a report that goes once over the entries takes as much more time as there is work" % title,
             [(n, n, waits_and_shows(what, n)) for n in (10, 100, 1000, 10000)],
         )
+    doublings("paths, and what one of 16 repositories wants of each", doubled(64, 4_096), lambda n: wanted(16, n))
     for lines_of, title in ((location_lines, "a location log"), (trust_lines, "the trust log")):
         for count, drops_title in ((0, ""), (100, ", and 100 drops that read them")):
             table(

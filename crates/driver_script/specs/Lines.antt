@@ -83,10 +83,10 @@ is_built_showing (showings.Log r file) = is_shown file
 is_built_showing (showings.Logs r) = true
 is_built_showing (showings.Numbers r path) = true
 is_built_showing (showings.Level r target) = true
-is_built_showing (showings.Wants r target path) = false
+is_built_showing (showings.Wants r target path) = true
 is_built_showing (showings.Row r k) = true
 is_built_showing (showings.Plan r) = false
-is_built_showing showings.Totals = false
+is_built_showing showings.Totals = true
 is_built_showing showings.Journal = true
 
 -- no part is missing to do what the command says

@@ -75,9 +75,11 @@ fn shows(what: &Showing) -> bool
         | Showing::Logs { .. }
         | Showing::Numbers { .. }
         | Showing::Level { .. }
+        | Showing::Wants { .. }
         | Showing::Row { .. }
+        | Showing::Totals
         | Showing::Journal => true,
-        Showing::Wants { .. } | Showing::Plan { .. } | Showing::Totals => false,
+        Showing::Plan { .. } => false,
     }
 }
 

@@ -4,4 +4,5 @@ mod Numbers
 mod Pasts
 mod RowLemmas
 mod RowTables
+mod SetTables
 mod Tables

@@ -53,4 +53,4 @@ pub stands_walked : (run : Run) (entries : List Entry) (walk : Walk) (place upto
 stands_walked run entries walk place upto entries_are far near knows =
     let far' : min upto (length run.entries) ≤ place = rw entries_are at far in
     let there : Knows walk run.repos (past_at run upto) = subst (λ (past : List Entry). Knows walk run.repos past) (past_walked run place upto far' near) knows in
-    record { place_is = refl; knows = record { contents = there.contents; branches = there.branches; rows = there.rows } }
+    record { place_is = refl; knows = record { contents = there.contents; branches = there.branches; sets = there.sets; rows = there.rows } }

@@ -4,4 +4,5 @@ pub mod Branches
 pub mod Contents
 pub mod Rows
 pub mod Scan
+pub mod Sets
 pub mod Walk

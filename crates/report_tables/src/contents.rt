@@ -1,12 +1,13 @@
 //! Which repositories have the content of which keys.
 
 ghost use Rattle.std.specs.Prelude.{◌≡◌, ◌<◌, ◌≤◌, ◌^◌, ℕ, List, [], ◌∷◌, false, filter, IfOk, OnOk, OnErr};
-ghost use Rattle.std.specs.BTreeSet.{contains};
+ghost use Rattle.std.specs.BTreeSet.{btree_set_len, contains};
 ghost use Rattle.std.specs.List.{range_with_len};
 ghost use Rattle.run_data.specs.declared.entry.Entry.{Entry};
 ghost use Rattle.run_model.specs.Past.{present};
 ghost use Rattle.node_model.specs.Rows.{present_after};
-ghost use Rattle.report_tables.specs.Contents.{Tracks, key_cmp};
+ghost use Rattle.report_tables.specs.Before.{total_after};
+ghost use Rattle.report_tables.specs.Contents.{Tracks, count_of, key_cmp};
 
 use annex_base::NoMemory;
 use annex_key::Key;
@@ -39,6 +40,16 @@ impl Contents {
     {
         let index = repo as usize;
         index < self.sets.len() && self.sets[index].contains(key)
+    }
+
+    /// How many contents the repository of this number has; one that isn't there has none.
+    pub(crate) fn count(&self, repo: u32) -> usize
+        ensures { result ≡ count_of self.now.sets.items repo }
+    {
+        match self.sets.get(repo as usize) {
+            Some(keys) => keys.len(),
+            None => 0,
+        }
     }
 
     /// Takes note of what one more entry changes: a gain or a removal of one of the repositories.
@@ -79,7 +90,9 @@ pub(crate) fn possessors(
 
 fn change(keys: &mut BTreeSet<Key>, kind: &EntryKind) -> Result<(), NoMemory>
     ensures ok { OnOk result ((key : List ℕ) → contains key_cmp keys.new key ≡ present_after key (contains key_cmp keys.old key) kind.now) }
+    ensures count { OnOk result (btree_set_len keys.new ≡ total_after (contains key_cmp keys.old) (btree_set_len keys.old) kind.now) }
     ensures err { OnErr result ((key : List ℕ) → contains key_cmp keys.new key ≡ contains key_cmp keys.old key) }
+    ensures err_count { OnErr result (btree_set_len keys.new ≡ btree_set_len keys.old) }
 {
     match kind {
         EntryKind::Gain { key, .. } => {

@@ -7,6 +7,7 @@ mod clock;
 mod contents;
 mod holds;
 mod rows;
+mod sets;
 mod walk;
 
 pub use walk::Walk;

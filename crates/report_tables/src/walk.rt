@@ -1,4 +1,4 @@
-//! The way through a run: which repositories have which keys at a place, and their branches and rows there.
+//! The way through a run: which repositories have which keys at a place, and their branches, settings and rows there.
 
 ghost use Rattle.std.specs.Prelude.{◌≡◌, ◌≤◌, ◌<◌, ◌^◌, ◌∷◌, ℕ, List, OnOk, IfOk, length};
 ghost use Rattle.annex_base.specs.Lists.{Each};
@@ -6,22 +6,30 @@ ghost use Rattle.run_data.specs.declared.entry.Entry.{Entry};
 ghost use Rattle.run_data.specs.declared.run.RepoView.{RepoView};
 ghost use Rattle.run_data.specs.declared.run.Run.{Run};
 ghost use Rattle.report_tables.specs.Before.{branch_at, possessors, row_at};
-ghost use Rattle.report_tables.specs.Walk.{IsAhead, IsWellFormed, Knows, KnowsBranch, KnowsRow, StandsIn, StandsAt};
+ghost use Rattle.report_tables.specs.Contents.{count_of};
+ghost use Rattle.report_tables.specs.Walk.{HasRead, IsAhead, IsWellFormed, Knows, KnowsBranch, KnowsRow, KnowsSets, StandsIn, StandsAt};
+ghost use Rattle.trust_groups.specs.Settings.{settings};
+ghost use Rattle.trust_groups.specs.View.{settings_of};
+ghost use Rattle.union_merge.specs.Branch.{lines_at};
 
 use crate::branches::Branches;
 use crate::contents::{Contents, possessors};
 use crate::rows::Rows;
+use crate::sets::Sets;
 use annex_base::{Items, NoMemory};
 use annex_key::Key;
 use run_data::{Entry, RowView, Run};
 use std::alloc::Global;
+use trust_groups::Settings;
 use union_merge::Branch;
 
-/// A place of a run, which repositories have which keys there, and their branches and rows.
+/// A place of a run, which repositories have which keys there, and their branches and rows; of what the branches set, as much as was
+/// asked for.
 #[derive(Drop)]
 pub struct Walk {
     contents: Contents,
     branches: Branches,
+    sets: Sets,
     rows: Rows,
     place: usize,
 }
@@ -36,6 +44,7 @@ impl Walk {
         Ok(Walk {
             contents: Contents::new(alloc, repos.len())?,
             branches: Branches::new(alloc, repos.len())?,
+            sets: Sets::new(alloc, repos.len())?,
             rows: Rows::new(alloc, repos)?,
             place: 0,
         })
@@ -50,12 +59,38 @@ impl Walk {
         Ok(numbers)
     }
 
+    /// How many contents a repository has.
+    pub fn total(&self, repo: u32) -> u64
+        ensures { result ≡ count_of self.now.contents.sets.items repo }
+    {
+        self.contents.count(repo) as u64
+    }
+
     /// The branch of a repository of the run.
     pub fn branch(&self, repo: u32) -> &Branch
         requires { KnowsBranch self.now repo }
         ensures { (run : Run) (place : ℕ) → StandsAt self.now run place → result.now ≡ branch_at run place repo }
     {
         self.branches.branch(repo)
+    }
+
+    /// Reads what the branch of a repository of the run sets, unless it was read since the branch changed.
+    pub fn read_settings(&mut self, alloc: Global, repo: u32) -> Result<(), NoMemory>
+        requires known { KnowsBranch self.old repo }
+        requires sets { KnowsSets self.old repo }
+        ensures stands { OnOk result ((run : Run) (place : ℕ) → StandsAt self.old run place → StandsAt self.new run place) }
+        ensures read { OnOk result (HasRead self.new repo) }
+    {
+        let branch = self.branches.branch(repo);
+        self.sets.read(alloc, repo, branch)
+    }
+
+    /// What the branch of a repository of the run sets, once it was read.
+    pub fn settings(&self, repo: u32) -> &Settings
+        requires { HasRead self.now repo }
+        ensures { (run : Run) (place : ℕ) → StandsAt self.now run place → settings_of result.now ≡ settings (lines_at (branch_at run place repo)) }
+    {
+        self.sets.settings(repo)
     }
 
     /// The row of a key at a repository.
@@ -118,6 +153,7 @@ impl Walk {
     {
         self.contents.add(entry)?;
         self.branches.add(entry)?;
+        self.sets.add(entry);
         self.rows.add(entry)?;
         Ok(())
     }

@@ -1,3 +1,4 @@
 -- The lemmas of this crate.
 mod Firsts
+mod JoinedWords
 mod Reported

@@ -1,19 +1,24 @@
 -- The report of a run (own).
-use Rattle.std.specs.Prelude.{ℕ, ◌+◌, List, [], ◌∷◌, ◌++◌, length, take, codes}
-use Rattle.std.specs.List.{flat_map}
+use Rattle.std.specs.Prelude.{ℕ, ◌+◌, List, [], ◌∷◌, ◌++◌, length, take, codes, Option, Some, None}
+use Rattle.std.specs.Fmt.{decimal}
+use Rattle.std.specs.List.{flat_map, range_with_len}
+use Rattle.run_data.specs.declared.run.RepoView.{RepoView}
 use Rattle.run_data.specs.declared.run.Run.{Run}
 use Rattle.annex_base.specs.Settings.{Settings}
 use Rattle.union_merge.specs.Branch.{lines_at}
 use Rattle.hash_dirs.specs.LogPath.{location_path}
+use Rattle.annex_key.specs.Tree.{Entries, key_of, paths_of}
 use Rattle.trust_groups.specs.Settings.{settings}
 use Rattle.run_data.specs.Files.{file_path}
+use Rattle.run_paths.specs.Paths.{with_marks}
 use Rattle.run_text.specs.Words.{joined_text}
 use Rattle.run_text.specs.Names.{name_of}
 use Rattle.journal_text.specs.Journal.{journal_of}
-use Rattle.report_tables.specs.Before.{branch_at, possessors, row_at}
+use Rattle.report_tables.specs.Before.{branch_at, possessors, row_at, total_at}
 use Rattle.shown_text.specs.Lines.{outcome_lines, slot_text}
 use Rattle.shown_text.specs.Row.{row_text}
 use Rattle.shown_text.specs.Shown.{claims_text, location_text, log_text, named_text, numbers_for, trust_text}
+use Rattle.shown_text.specs.Wanted.{wants_text}
 use Rattle.script_forms.specs.Changes.{Change, Declares, Puts, Brings, Adds, Names, Waits, Nothing, change_of}
 use Rattle.script_commands.specs.declared.command.NamedKey.{NamedKey}
 use Rattle.script_commands.specs.declared.command.Command.{Command}
@@ -23,7 +28,7 @@ use Rattle.script_commands.specs.declared.command.Showing.TheVariants as showing
 
 -- A line ends with a newline. Lists are joined by commas, names after `presence` and `claims` by spaces; an empty list
 -- is a dash. These have no text yet: the line of a sync, which is also to hold back the lines of its jobs that are
--- done; those of jobs that a crash ends; and what is shown of wants, plans and totals.
+-- done; those of jobs that a crash ends; and what is shown of plans.
 
 -- what its lines set
 abbrev pub settings_at : Run → ℕ → ℕ → Settings
@@ -31,6 +36,25 @@ settings_at run place r = settings (lines_at (branch_at run place r))
 
 abbrev pub presence_text : Run → ℕ → NamedKey → List ℕ
 presence_text run place k = codes "presence " ++ named_text k ++ codes " " ++ joined_text 32 (name_of run.repos) (possessors run place k.key) ++ codes "\n"
+
+-- how many contents each repository has
+abbrev pub total_word : List RepoView → ℕ → ℕ → List ℕ
+total_word repos r count = name_of repos r ++ codes "=" ++ decimal count
+
+abbrev pub totals_text : Run → ℕ → List ℕ
+totals_text run place = codes "totals " ++ joined_text 32 (λ r. total_word run.repos r (total_at run place r)) (range_with_len 0 (length run.repos)) ++ codes "\n"
+
+-- the tree after so many changes
+abbrev pub tree_after : Run → ℕ → Entries
+tree_after run changes = with_marks [] (take changes run.tree)
+
+-- whether a repository wants and requires the content of a path, by these settings; a path of no key has no text
+abbrev pub wants_in : Run → ℕ → ℕ → List ℕ → Settings → Entries → Option (List ℕ) → List ℕ
+wants_in run r target path s tree None = []
+wants_in run r target path s tree (Some key) = wants_text run r target path s key (paths_of tree key)
+
+abbrev pub wants_at : Run → ℕ → ℕ → List ℕ → Settings → Entries → List ℕ
+wants_at run r target path s tree = wants_in run r target path s tree (key_of tree path)
 
 -- what is shown at a place, after lines that made so many changes of the tree
 abbrev pub show_text : Run → ℕ → ℕ → Showing → List ℕ
@@ -41,10 +65,10 @@ show_text run place changes (showings.Log r file) = log_text run r (file_path fi
 show_text run place changes (showings.Logs r) = flat_map (λ f. log_text run r f.0 f.1) (branch_at run place r)
 show_text run place changes (showings.Numbers r path) = numbers_for run r path (settings_at run place r)
 show_text run place changes (showings.Level r target) = trust_text run r target (settings_at run place r)
-show_text run place changes (showings.Wants r target path) = []
+show_text run place changes (showings.Wants r target path) = wants_at run r target path (settings_at run place r) (tree_after run changes)
 show_text run place changes (showings.Row r k) = row_text run r k (row_at run place r k.key)
 show_text run place changes (showings.Plan r) = []
-show_text run place changes showings.Totals = []
+show_text run place changes showings.Totals = totals_text run place
 show_text run place changes showings.Journal = journal_of run.repos (take changes run.tree) (take place run.entries)
 
 -- what a line shows

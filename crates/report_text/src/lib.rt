@@ -3,5 +3,6 @@
 
 mod run_report;
 mod shown;
+mod totals;
 
 pub use run_report::report;

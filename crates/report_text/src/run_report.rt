@@ -1,15 +1,17 @@
 //! The report of a script's run, line by line.
 
-ghost use Rattle.std.specs.Prelude.{◌≡◌, ◌++◌, ◌<◌, ◌^◌, IfOk, OnOk, length};
+ghost use Rattle.std.specs.Prelude.{◌≡◌, ◌++◌, ◌<◌, ◌^◌, IfOk, OnOk, length, take};
 ghost use Rattle.annex_base.specs.Lists.{Each};
 ghost use Rattle.report_text.specs.Report.{changes_of, line_text, report, tree_changes};
 ghost use Rattle.report_tables.specs.Walk.{IsAhead, IsWellFormed, ShowsKnown, StandsIn};
+ghost use Rattle.run_paths.specs.Paths.{IsIndexOf};
 ghost use Rattle.script_forms.specs.Changes.{as_change};
 
 use crate::shown::put_shown;
 use annex_base::NoMemory;
 use report_tables::Walk;
 use run_data::Run;
+use run_paths::{PathIndex, trees_have_all_marks_before};
 use script_lang::{Change, Command, change_of};
 use shown_text::{put_ended, put_slot};
 use std::alloc::Global;
@@ -23,13 +25,18 @@ pub fn report(alloc: Global, script: &[Command], run: &Run) -> Result<Vec<u8>, N
     requires known { Each (ShowsKnown (length run.now.repos)) script.now }
     ensures { IfOk result (λ text. text.items ≡ report script.now run.now) }
 {
+    // A law, for the proof: an index of some first marks is one of more.
+    trees_have_all_marks_before();
     let mut out = Vec::new(alloc);
     let mut walk = Walk::new(alloc, run)?;
+    let mut index = PathIndex::new(alloc)?;
     let mut from = 0;
     let mut changes = 0;
     for (command, mark) in script.iter().zip(run.marks.as_slice()) {
         let place = *mark as usize;
-        put_line(&mut out, &mut walk, run, from, place, changes, command)?;
+        put_line(
+            &mut out, &mut walk, &mut index, run, from, place, changes, command,
+        )?;
         changes += changes_of(command);
         from = place;
     }
@@ -42,6 +49,7 @@ pub fn report(alloc: Global, script: &[Command], run: &Run) -> Result<Vec<u8>, N
 fn put_line(
     out: &mut Vec<u8>,
     walk: &mut Walk,
+    index: &mut PathIndex,
     run: &Run,
     from: usize,
     upto: usize,
@@ -49,16 +57,18 @@ fn put_line(
     command: &Command,
 ) -> Result<(), NoMemory>
     requires stands { StandsIn walk.old run.now }
+    requires index { IsIndexOf (take changes run.now.tree) index.old }
     requires formed { Each IsWellFormed run.now.entries }
     requires ahead { Each IsAhead run.now.repos }
     requires few { length run.now.repos < 2 ^ 32 }
     requires known { ShowsKnown (length run.now.repos) command.now }
     ensures text { OnOk result (out.new.items ≡ out.old.items ++ line_text run.now from upto changes command.now) }
     ensures walk { OnOk result (StandsIn walk.new run.now) }
+    ensures index { OnOk result (IsIndexOf (take changes run.now.tree) index.new) }
 {
     put_slot(out, run, from, upto, command)?;
     put_ended(out, run, from, upto)?;
-    put_shown(out, walk, run, upto, changes, command)?;
+    put_shown(out, walk, index, run, upto, changes, command)?;
     Ok(())
 }
 

@@ -50,14 +50,22 @@ with_both tree xs ys = fold-append (λ (entries : Entries) (mark : TreeMark). wi
 
 -- ---- an index
 
-more_room : (n k l : ℕ) → n ≤ k → l ≡ k + 1 → n ≤ l
-more_room n k l few longer = omega (arith, few, longer)
+more_room : (n k m l : ℕ) → n ≤ k → l ≡ k + m → n ≤ l
+more_room n k m l few longer = omega (arith, few, longer)
+
+index_longer : (marks later : List TreeMark) (index : IndexView) → IsIndexOf marks index → IsIndexOf (marks ++ later) index
+index_longer marks later index is = record {
+  few = more_room index.taken (length marks) (length later) (length (marks ++ later)) is.few (length-append marks later);
+  tree_is = is.tree_is ∙ ap (with_marks []) (sym (take_front index.taken marks later is.few));
+}
 
 pub index_more : (marks : List TreeMark) (mark : TreeMark) (index : IndexView) → IsIndexOf marks index → IsIndexOf (marks ++ mark ∷ []) index
-index_more marks mark index is = record {
-  few = more_room index.taken (length marks) (length (marks ++ mark ∷ [])) is.few (length-append marks (mark ∷ []));
-  tree_is = is.tree_is ∙ ap (with_marks []) (sym (take_front index.taken marks (mark ∷ []) is.few));
-}
+index_more marks mark = index_longer marks (mark ∷ [])
+
+-- of some first marks, and of more of them
+pub index_further : (marks : List TreeMark) (count more : ℕ) (index : IndexView) → IsIndexOf (take count marks) index → IsIndexOf (take (count + more) marks) index
+index_further marks count more index is =
+    subst (λ (xs : List TreeMark). IsIndexOf xs index) (sym (take_sum count more marks)) (index_longer (take count marks) (take more (drop count marks)) index is)
 
 -- it has taken in some marks more
 pub index_on : (marks later : List TreeMark) (was index : IndexView) → IsIndexOf marks was → later ≡ drop was.taken marks

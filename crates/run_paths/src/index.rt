@@ -1,6 +1,6 @@
 //! An index of the paths that the marks of a run give keys.
 ghost use Rattle.std.specs.Prelude.{◌≡◌, ◌+◌, ◌<◌, ◌≤◌, ◌^◌, ℕ, List, [], length, take, IfOk, OnOk};
-ghost use Rattle.annex_key.specs.Tree.{paths_of};
+ghost use Rattle.annex_key.specs.Tree.{key_of, paths_of};
 ghost use Rattle.run_data.specs.declared.run.TreeMark.{TreeMark};
 ghost use Rattle.run_paths.specs.Paths.{IsIndexOf, with_marks};
 
@@ -55,6 +55,34 @@ impl PathIndex {
         })
     }
 
+    /// Takes in the marks that came since it was asked last.
+    fn follow(&mut self, alloc: Global, marks: &[TreeMark]) -> Result<(), NoMemory>
+        requires first { IsIndexOf marks.now self.old }
+        ensures all { OnOk result (self.new.tree ≡ with_marks [] marks.now) }
+        ensures first { IsIndexOf marks.now self.new }
+    {
+        let (_, later) = marks.split_at(self.taken);
+        take_in(&mut self.tree, &mut self.taken, alloc, later)
+    }
+
+    /// The key that the marks of the run give the path, if they give it one.
+    pub fn key(
+        &mut self,
+        alloc: Global,
+        marks: &[TreeMark],
+        path: &Text,
+    ) -> Result<Option<Key>, NoMemory>
+        requires first { IsIndexOf marks.now self.old }
+        ensures value { IfOk result (λ key. key ≡ key_of (with_marks [] marks.now) path.now) }
+        ensures first { IsIndexOf marks.now self.new }
+    {
+        self.follow(alloc, marks)?;
+        match self.tree.key(path.bytes()) {
+            Some(key) => Ok(Some(key.copy()?)),
+            None => Ok(None),
+        }
+    }
+
     /// The paths that the marks of the run give the key, in byte order.
     pub fn paths(
         &mut self,
@@ -66,8 +94,7 @@ impl PathIndex {
         ensures value { IfOk result (λ paths. paths ≡ paths_of (with_marks [] marks.now) key.now) }
         ensures first { IsIndexOf marks.now self.new }
     {
-        let (_, later) = marks.split_at(self.taken);
-        take_in(&mut self.tree, &mut self.taken, alloc, later)?;
+        self.follow(alloc, marks)?;
         let paths = self.tree.paths(alloc, key)?;
         Ok(Items::from_vec(paths))
     }

@@ -2,3 +2,4 @@
 pub mod Lines
 pub mod Row
 pub mod Shown
+pub mod Wanted

@@ -6,8 +6,10 @@ mod logs;
 mod named;
 mod row;
 mod settings;
+mod wanted;
 
 pub use lines::{put_ended, put_slot};
 pub use logs::{put_claims, put_file, put_files, put_location};
 pub use row::put_row;
 pub use settings::{put_level, put_numbers_for};
+pub use wanted::put_wants;

@@ -87,7 +87,7 @@ fn put_path_numbers(
     Ok(())
 }
 
-fn id_of(repos: &[RepoView], repo: u32) -> RepoId
+pub(crate) fn id_of(repos: &[RepoView], repo: u32) -> RepoId
     requires { repo < length repos.now }
     ensures { result ≡ id_of repos.now repo }
 {

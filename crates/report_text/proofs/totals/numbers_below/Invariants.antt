@@ -1,0 +1,7 @@
+-- What holds at each turn of the loops of `totals::numbers_below`.
+use Rattle.std.proofs.Common.{◌≡◌}
+use Rattle.std.specs.List.{range_with_len}
+use Rattle.report_text.proofs.totals.numbers_below.Given as goal
+
+abbrev pub invariant-loop-number : goal.invariant-loop-number
+invariant-loop-number l = l.numbers.items ≡ range_with_len 0 l.number
