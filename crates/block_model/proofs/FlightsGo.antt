@@ -38,7 +38,7 @@ use Rattle.block_model.proofs.OwnStores.{content_alone}
 
 -- ---- lists
 
-find_split : (q : Flight → Bool) (front back : List Flight) (x : Flight) → Each (λ y. q y ≡ false) front → q x ≡ true → find q (front ++ x ∷ back) ≡ Some x
+pub find_split : (q : Flight → Bool) (front back : List Flight) (x : Flight) → Each (λ y. q y ≡ false) front → q x ≡ true → find q (front ++ x ∷ back) ≡ Some x
 find_split q [] back x n i = rw i refl
 find_split q (y ∷ front) back x n i = rw n.0 (find_split q front back x n.1 i)
 

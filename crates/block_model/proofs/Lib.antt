@@ -1,13 +1,23 @@
 -- The lemmas of this crate.
 pub mod FirstOnWay
 pub mod EntryStands
-pub mod Leads
-pub mod Stops
+pub mod Within
 pub mod Merges
 pub mod OwnStores
 pub mod FlightsGo
 pub mod Serving
+pub mod Resting
+pub mod Twins
+pub mod Lives
+pub mod Coming
+pub mod Doers
+pub mod Taking
+pub mod TurnSteps
+pub mod Rounding
+pub mod Phases
+pub mod DriverBlocks
+pub mod Leads
+pub mod Stops
 pub mod KeptAlone
 pub mod OtherPaths
 pub mod NodesJoin
-pub mod Resting

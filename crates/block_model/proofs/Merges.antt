@@ -36,7 +36,7 @@ use Rattle.block_model.specs.Merging.{AreAllServed, HasWorked, IsServed, IsToldS
 -- ---- what the driver keeps as entries follow
 
 -- the tree and the marks of the one are those of the other
-abbrev Same : Driver → Driver → Type 0
+abbrev pub Same : Driver → Driver → Type 0
 Same d after = (after.tree ≡ d.tree) × (after.marks ≡ d.marks)
 
 into_same : (r : ℕ) (key bytes : List ℕ) (body : FrameText) (sent : List FrameView) (d : Driver) → Same d (takes_into r key bytes body sent d)
@@ -53,7 +53,7 @@ frame_same : (r : ℕ) (bytes : List ℕ) (key : Option (List ℕ)) (taken : Opt
 frame_same r bytes (Some key) (Some f) sent d = into_same r key bytes f.body sent d
 frame_same r bytes key taken sent d = (refl, refl)
 
-store_same : (st : State) (r : ℕ) (m : Effect) (bytes : List ℕ) (kind : EntryKind) (d : Driver) → Same d (store_after st r m bytes kind d)
+pub store_same : (st : State) (r : ℕ) (m : Effect) (bytes : List ℕ) (kind : EntryKind) (d : Driver) → Same d (store_after st r m bytes kind d)
 store_same st r m bytes (Gain by size key) d = (refl, refl)
 store_same st r m bytes (Gone by key) d = (refl, refl)
 store_same st r m bytes (Talk job) d = frame_same r bytes (asked_key st m) m.taken m.sent d
@@ -78,7 +78,7 @@ entries_same g (e ∷ es) d =
     let y = entry_same g (repo_number e.repo) e d in
     (x.0 ∙ y.0, x.1 ∙ y.1)
 
-old_past : (g : DriverInput) (rs : List ℕ) (d : Driver) → (without_old_of g rs d).past ≡ d.past
+pub old_past : (g : DriverInput) (rs : List ℕ) (d : Driver) → (without_old_of g rs d).past ≡ d.past
 old_past g [] d = refl
 old_past g (r ∷ rs) d = old_past g rs (without_old_flights (state_at g d r) r d)
 

@@ -35,7 +35,7 @@ module _ {X : Type 0} where
       go more false i false j = ap (filter p) (filter_no q x xs j) ∙ more ∙ sym (ap (filter q) (filter_no p x xs i))
 
   -- a filter that keeps all that another keeps changes nothing before it
-  filter_kept : (p q : X → Bool) → ((x : X) → p x ≡ true → q x ≡ true) → (xs : List X) → filter p (filter q xs) ≡ filter p xs
+  pub filter_kept : (p q : X → Bool) → ((x : X) → p x ≡ true → q x ≡ true) → (xs : List X) → filter p (filter q xs) ≡ filter p xs
   filter_kept p q f [] = refl
   filter_kept p q f (x ∷ xs) = go (filter_kept p q f xs) (p x) refl (q x) refl
     where
@@ -45,7 +45,7 @@ module _ {X : Type 0} where
       go more false i true j = ap (filter p) (filter_yes q x xs j) ∙ filter_no p x (filter q xs) i ∙ more ∙ sym (filter_no p x xs i)
       go more false i false j = ap (filter p) (filter_no q x xs j) ∙ more ∙ sym (filter_no p x xs i)
 
-  find_kept : (p q : X → Bool) → ((x : X) → p x ≡ true → q x ≡ true) → (xs : List X) → find p (filter q xs) ≡ find p xs
+  pub find_kept : (p q : X → Bool) → ((x : X) → p x ≡ true → q x ≡ true) → (xs : List X) → find p (filter q xs) ≡ find p xs
   find_kept p q f [] = refl
   find_kept p q f (x ∷ xs) = go (find_kept p q f xs) (p x) refl (q x) refl
     where
@@ -72,7 +72,7 @@ module _ {X : Type 0} where
   but_no p x xs i = rw i refl
 
   -- the first to which a test applies goes from what a weaker test keeps
-  but_first_kept : (p q : X → Bool) → ((x : X) → p x ≡ true → q x ≡ true) → (xs : List X) → filter q (but_first p xs) ≡ but_first p (filter q xs)
+  pub but_first_kept : (p q : X → Bool) → ((x : X) → p x ≡ true → q x ≡ true) → (xs : List X) → filter q (but_first p xs) ≡ but_first p (filter q xs)
   but_first_kept p q f [] = refl
   but_first_kept p q f (x ∷ xs) = go (but_first_kept p q f xs) (p x) refl (q x) refl
     where

@@ -16,7 +16,7 @@ use Rattle.block_model.specs.Following.{without_old_of}
 use Rattle.block_model.specs.Rest.{AreAllAtRest}
 
 -- no frame is old at r
-abbrev NoneOld : DriverInput → Driver → ℕ → Type 0
+abbrev pub NoneOld : DriverInput → Driver → ℕ → Type 0
 NoneOld g d r = Each (λ x. not (old_at (state_at g d r) r x) ≡ true) d.flights
 
 still_none : (g : DriverInput) (rs : List ℕ) (r : ℕ) (d : Driver) → NoneOld g d r → NoneOld g (without_old_of g rs d) r
@@ -24,13 +24,13 @@ still_none g [] r d all = all
 still_none g (q ∷ rs) r d all = still_none g rs r (without_old_flights (state_at g d q) q d)
     (Each-filter (λ x. not (old_at (state_at g d r) r x) ≡ true) (λ x. not (old_at (state_at g d q) q x)) d.flights all)
 
-none_old : (g : DriverInput) (rs : List ℕ) (r : ℕ) (d : Driver) → Member r rs → NoneOld g (without_old_of g rs d) r
+pub none_old : (g : DriverInput) (rs : List ℕ) (r : ℕ) (d : Driver) → Member r rs → NoneOld g (without_old_of g rs d) r
 none_old g [] r d m = absurd m
 none_old g (q ∷ rs) r d (inl same) = still_none g rs r (without_old_flights (state_at g d q) q d)
     (subst (λ k. NoneOld g (without_old_flights (state_at g d q) q d) k) (sym same) (Each-passes (λ x. not (old_at (state_at g d q) q x)) d.flights))
 none_old g (q ∷ rs) r d (inr m) = none_old g rs r (without_old_flights (state_at g d q) q d) m
 
-nothing_drops : (g : DriverInput) (d : Driver) (r : ℕ) → NoneOld g d r → driver_at_turn g r d ≡ d
+pub nothing_drops : (g : DriverInput) (d : Driver) (r : ℕ) → NoneOld g d r → driver_at_turn g r d ≡ d
 nothing_drops g d r all = ap (λ (xs : List Flight). record d { flights = xs }) (filter_all (λ x. not (old_at (state_at g d r) r x)) d.flights all)
 
 module _ (g : DriverInput) (d : Driver) (none : (r : ℕ) → r < length g.repos → NoneOld g d r) (rest : AreAllAtRest g d) where

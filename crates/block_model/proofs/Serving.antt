@@ -73,7 +73,7 @@ frame_flights : (r : ℕ) (bytes : List ℕ) (key : Option (List ℕ)) (taken : 
 frame_flights r bytes (Some key) (Some f) sent d = into_flights r key bytes f.body sent d
 frame_flights r bytes key taken sent d = refl
 
-store_flights : (st : State) (r : ℕ) (m : Effect) (bytes : List ℕ) (kind : EntryKind) (d : Driver) → (store_after st r m bytes kind d).flights ≡ d.flights
+pub store_flights : (st : State) (r : ℕ) (m : Effect) (bytes : List ℕ) (kind : EntryKind) (d : Driver) → (store_after st r m bytes kind d).flights ≡ d.flights
 store_flights st r m bytes (Gain by size key) d = refl
 store_flights st r m bytes (Gone by key) d = refl
 store_flights st r m bytes (Talk job) d = frame_flights r bytes (asked_key st m) m.taken m.sent d

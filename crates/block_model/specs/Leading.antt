@@ -31,15 +31,15 @@ pub record IsRunOf (g : DriverInput) (lines : List Command) (run : Run) : Type 0
 abbrev pub block_of : DriverInput → List Agendum → Driver → Driver
 block_of g xs d = (block_end g xs d).driver
 
--- the driver's block is one, and no close in it lacks places
-abbrev pub MakesBlock : DriverInput → Command → Driver → Type 0
-MakesBlock g (Par xs) d = (is_stuck (block_of g xs d) (block_end g xs d).left ≡ false) × IsBlock g xs d (block_of g xs d)
-MakesBlock g line d = Unit {0}
+-- no close in the driver's block lacks places
+abbrev pub HasPlaces : DriverInput → Command → Driver → Type 0
+HasPlaces g (Par xs) d = is_stuck (block_of g xs d) (block_end g xs d).left ≡ false
+HasPlaces g line d = Unit {0}
 
--- each block that the driver makes of these lines is one
-abbrev pub MakesBlocks : DriverInput → List Command → Driver → Type 0
-MakesBlocks g [] d = Unit {0}
-MakesBlocks g (line ∷ lines) d = MakesBlock g line d × MakesBlocks g lines (with_mark (does g line d))
+-- nor in any block of these lines
+abbrev pub HavePlaces : DriverInput → List Command → Driver → Type 0
+HavePlaces g [] d = Unit {0}
+HavePlaces g (line ∷ lines) d = HasPlaces g line d × HavePlaces g lines (with_mark (does g line d))
 
 -- the line is no block
 abbrev pub IsSingle : Command → Type 0

@@ -1,7 +1,8 @@
 //! The laws of blocks by the histories that repositories kept alone. Each is the contract of a function that does nothing.
 
-ghost use Rattle.std.specs.Prelude.{◌≡◌, ℕ, ◌<◌, false, List, [], ◌∷◌, ◌++◌, length};
+ghost use Rattle.std.specs.Prelude.{◌≡◌, ℕ, ◌<◌, ◌≤◌, false, List, [], ◌∷◌, ◌++◌, length};
 ghost use Rattle.annex_base.specs.Lists.{Each};
+ghost use Rattle.run_data.specs.Repos.{IsSetUp};
 ghost use Rattle.run_data.specs.declared.entry.Entry.{Entry};
 ghost use Rattle.node_model.specs.Ends.{EndName};
 ghost use Rattle.run_model.specs.Frames.{Way};
@@ -9,22 +10,32 @@ ghost use Rattle.run_model.specs.Past.{begun_count};
 ghost use Rattle.run_model.specs.Run.{IsRun};
 ghost use Rattle.growth_laws.specs.Merged.{Letter, MayMerge, merge_all, merged_run, new_of};
 ghost use Rattle.driver_model.specs.Driver.{Driver, DriverInput, FailLine, at_first, state_at};
-ghost use Rattle.driver_model.specs.Driving.{run_of, run_with, with_mark};
+ghost use Rattle.driver_model.specs.Driving.{driver_after, run_of, run_with, with_mark};
+ghost use Rattle.driver_model.specs.Limits.{is_too_long, limited_run};
 ghost use Rattle.script_commands.specs.declared.command.Agendum.{Agendum};
 ghost use Rattle.script_commands.specs.declared.command.Command.{Command};
 ghost use Rattle.script_commands.specs.declared.command.Command.TheVariants.{Par};
 ghost use Rattle.driver_model.specs.Rounds.{settles};
+ghost use Rattle.driver_model.specs.Scripts.{HasBoundedPast, IsOne};
 ghost use Rattle.driver_model.specs.Sound.{IsSound};
 ghost use Rattle.block_model.specs.Alone.{IsAlone, after_owns, alone};
 ghost use Rattle.block_model.specs.Blocks.{HasBegun, IsBlock, left_after, with_fails};
 ghost use Rattle.block_model.specs.Doings.{can_go_on};
-ghost use Rattle.block_model.specs.Leading.{IsRunOf, IsSingle, LineLeads, LinesLead, MakesBlocks};
+ghost use Rattle.block_model.specs.Leading.{HavePlaces, IsRunOf, IsSingle, LineLeads, LinesLead};
 ghost use Rattle.block_model.specs.Merging.{AreAllServed, CameFrom, HasWorked, WorksAlone};
 ghost use Rattle.block_model.specs.Nodes.{NodesAreDone, NodesHaveWorked, set_up_by};
 ghost use Rattle.block_model.specs.Rest.{AreAllAtRest};
 
-use growth_laws::merged_histories_are_runs;
-use step_facts::{own_entries_suit_their_ends, steps_find_their_cause};
+use annex_key::key_texts_have_no_fault;
+use growth_laws::{merged_histories_are_runs, runs_grow};
+use node_model::steps_tell_their_calls;
+use run_data::files_have_their_paths;
+use run_laws::frames_go_to_others;
+use step_facts::{
+    own_entries_suit_their_ends, running_jobs_stay_the_same, steps_find_their_cause,
+    steps_name_their_jobs, steps_take_what_is_at_hand,
+};
+use union_merge::{differences_make_the_union, unions_have_the_lines_of_both};
 
 /// What the repositories added each alone, by their agendas and their steps, and merged in order of time, count and number, is a block
 /// as far as it has come, where it may be merged and the stores serve its entries; and it is a whole block where no repository can go on
@@ -119,13 +130,34 @@ pub fn lines_lead_on()
         → IsBlock g xs d mid → LinesLead g (lines ++ Par xs ∷ []) first (with_mark (settles g mid)) }
 {}
 
-/// The run that the sequential driver makes of a script is one of the script's, where each block that it makes is a block, and no close
-/// in it lacks places; so it is
-/// of each script without blocks (own).
+/// The run that the sequential driver makes of a script is one of the script's, where its lines are right, it stays within its bounds
+/// and each history within its limit, and no close in a block lacks places: each block that the driver makes is one that repositories
+/// may make side by side. So it is where no line meets a full history; and so it is of each script without blocks, in any case (own).
 pub fn driven_runs_are_of_their_scripts()
-    ensures blocks { (g : DriverInput) (lines : List Command) → MakesBlocks g lines at_first → IsRunOf g lines (run_of g lines) }
+    ensures blocks { (g : DriverInput) (lines : List Command) → Each IsSetUp g.repos → length g.repos ≤ 16 → Each (IsOne g) lines
+        → HasBoundedPast (driver_after g lines) → is_too_long g (driver_after g lines).past ≡ false → HavePlaces g lines at_first
+        → IsRunOf g lines (run_of g lines) }
+    ensures whole { (g : DriverInput) (lines : List Command) → Each IsSetUp g.repos → length g.repos ≤ 16 → Each (IsOne g) lines
+        → HasBoundedPast (driver_after g lines) → (limited_run g lines).is_cut ≡ false → IsRunOf g lines (limited_run g lines).run }
     ensures single { (g : DriverInput) (lines : List Command) → Each IsSingle lines → IsRunOf g lines (run_of g lines) }
-{}
+{
+    // Laws of a step: what it found, takes and names, and that its entry suits its ends and goes to others.
+    steps_find_their_cause();
+    own_entries_suit_their_ends();
+    steps_take_what_is_at_hand();
+    steps_name_their_jobs();
+    steps_tell_their_calls();
+    frames_go_to_others();
+    // A law: a running job keeps the key that was asked of it.
+    running_jobs_stay_the_same();
+    // A law: a run grows by each such entry.
+    runs_grow();
+    // Laws: a file is read off its path, what its log lacks is a set of lines, and a text without a fault is a key's.
+    files_have_their_paths();
+    unions_have_the_lines_of_both();
+    differences_make_the_union();
+    key_texts_have_no_fault();
+}
 
 /// A block ends at rest: the driver that settles behind it adds nothing, drops nothing and changes nothing (own).
 pub fn blocks_end_at_rest()
