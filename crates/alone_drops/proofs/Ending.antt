@@ -1,14 +1,15 @@
--- How a local drop ends that ran alone: done exactly where its row lets the content go and enough is offered.
-use Rattle.std.proofs.Common.{◌≡◌, ℕ, suc, zero, ◌+◌, ◌<◌, ◌≤◌, Bool, true, false, List, [], ◌∷◌, ◌++◌, Option, Some, None, inl, inr, refl, sym, ap, ◌∙◌, subst, arith, add-one}
+-- How a drop ends that ran alone: done exactly where enough is offered, and the row of a local one lets the content go.
 use Rattle.std.specs.Prelude.{if◌then◌else◌, ◌==◌, filter, length, nat_lt, slice_get}
 use Rattle.std.specs.List.{list_all}
-use Rattle.std.specs.Option.{unwrap_or}
+use Rattle.std.proofs.Common.{◌≡◌, ℕ, suc, zero, ◌+◌, ◌<◌, ◌≤◌, Bool, true, false, List, [], ◌∷◌, ◌++◌, Option, Some, None, inl, inr, refl, sym, ap, ◌∙◌, subst, arith, add-one}
 use Rattle.std.proofs.lemmas.Bool.{true≢false, eqb-true}
 use Rattle.std.proofs.lemmas.Bool.Decides.{nat_tests}
 use Rattle.std.proofs.lemmas.Option.{slice_get_within}
 use Rattle.annex_base.specs.Lists.{Each, Member}
 use Rattle.annex_base.specs.declared.kinds.Call.{Call}
 use Rattle.annex_base.specs.declared.kinds.Call.TheVariants as calls
+use Rattle.annex_base.specs.declared.kinds.Word.{Word}
+use Rattle.annex_base.specs.declared.kinds.Word.TheVariants as words
 use Rattle.annex_base.proofs.Conditions.{if_either}
 use Rattle.annex_base.proofs.Lists.{filter_none, list_any_nowhere}
 use Rattle.drop_proof.specs.declared.rule.Side.{Side}
@@ -19,7 +20,6 @@ use Rattle.run_data.specs.declared.entry.EntryKind.TheVariants.{End as ends_job}
 use Rattle.run_data.specs.declared.entry.FrameView.{FrameView}
 use Rattle.run_data.specs.declared.entry.FrameText.TheVariants.{Opening}
 use Rattle.run_data.specs.declared.job.Job.{Job}
-use Rattle.run_data.specs.declared.job.JobKind.TheVariants as kinds
 use Rattle.run_data.specs.declared.job.Outcome.{Outcome}
 use Rattle.run_data.specs.declared.job.Outcome.TheVariants.{Got, Copied, Refused, TransferRefused}
 use Rattle.run_data.specs.declared.job.DropRefusal.{DropRefusal}
@@ -27,51 +27,50 @@ use Rattle.run_data.specs.declared.job.DropRefusal.TheVariants as refusals
 use Rattle.run_data.specs.declared.job.TransferRefusal.TheVariants as failures
 use Rattle.run_data.specs.declared.row.Hold.{Hold}
 use Rattle.run_data.specs.declared.run.Run.{Run}
-use Rattle.run_data.specs.Repos.{IsSetUp, id_of}
+use Rattle.run_data.specs.Repos.{IsSetUp}
+use Rattle.run_data.specs.declared.job.Proof.{Proof}
 use Rattle.p2p_wire.specs.declared.message.Message.TheVariants.{GetTimestamp}
 use Rattle.node_model.specs.Clocks.{hold_time}
-use Rattle.node_model.specs.DropStep
-use Rattle.node_model.specs.DropStep.{asks_copy, asks_lock, asks_target, expiry, first_end, in_time, target, until}
+use Rattle.node_model.specs.DropStep.{asks_copy, asks_lock, asks_target, expiry, first_end, in_time, target, until, removal_outcome}
 use Rattle.node_model.specs.Found.{FindsOutcome}
-use Rattle.node_model.specs.Jobs.{Drops, Gets, Puts, Phase, Fresh, Next, Opens, Greets, AsksLock, AsksLook, Removed, Work, drop_side, partner, running_job, side_of, or_own}
+use Rattle.node_model.specs.Jobs.{Drops, Gets, Puts, Phase, Fresh, Next, Opens, Greets, AsksLock, AsksLook, Removed, Work, drop_side, partner, running_job, side_of, or_own, AsksTime, Orders}
 use Rattle.node_model.specs.JobStep.{Turn, attempts, clock_of, end_with, ends, farewells, quietly, says_to, sends_to, talk}
-use Rattle.node_model.specs.Knows.{causes_by, enough_by, next_by, proof_by}
+use Rattle.node_model.specs.Knows.{causes_by, enough_by, next_by, proof_by, obeyed_outcome}
 use Rattle.node_model.specs.Look.{Effect}
 use Rattle.node_model.specs.Requests.{asks, goes_to}
 use Rattle.node_model.specs.Rows.{blocks, is_blocked, is_lost_ordered}
 use Rattle.node_model.specs.SetUp.{SetUp}
-use Rattle.node_model.specs.State.{State}
 use Rattle.node_model.specs.Turns.{by_partner, goes, has_room, judges, needs, next_step, outcome_of}
-use Rattle.wanted_expr.specs.Wanted.{required}
-use Rattle.run_model.specs.Past.{bar, clock, holds, is_of, present}
+use Rattle.node_model.specs.AnyTime.{IsPeer}
+use Rattle.run_model.specs.Past.{clock, holds, is_of, present}
 use Rattle.run_model.specs.Run.{IsRun, RunPast, RunStep, set_up, job_paths}
 use Rattle.run_model.specs.Safety.{past_at}
-use Rattle.run_model.specs.States.{state_of, works}
-use Rattle.past_facts.proofs.EntryPlaces.{past_next, there_or_end}
+use Rattle.run_model.specs.States.{works}
 use Rattle.step_facts.proofs.Below.{SentAreRead}
 use Rattle.step_facts.proofs.ClientSteps.{attempts_even}
+use Rattle.step_facts.proofs.JobSteps.{turn_at}
+use Rattle.step_facts.proofs.JobKept.{jobs_are}
+use Rattle.step_facts.proofs.WorkNumbers.{running_member}
+use Rattle.past_facts.proofs.EntryPlaces.{past_next, there_or_end}
 use Rattle.past_facts.proofs.OwnRuns.{Part, own_past, part_of}
 use Rattle.past_facts.proofs.PlaceParts.{steps_at}
-use Rattle.step_facts.proofs.JobSteps.{turn_at}
-use Rattle.job_facts.proofs.DropLeaves.{fresh_unread}
 use Rattle.job_facts.proofs.PhaseFacts.{is_fresh}
 use Rattle.dialogue_facts.proofs.NotClosed.{AtRest, NotKind, rest_not}
 use Rattle.cause_laws.proofs.RefusalCauses.{Ending, ending}
 use Rattle.alone_drops.specs.Alone.{IsUndisturbing, MayGo, RanAlone, is_done}
-use Rattle.run_model.specs.Logs.{before_step, read_at, settings_of}
-use Rattle.step_facts.proofs.JobKept.{jobs_are}
-use Rattle.step_facts.proofs.WorkNumbers.{running_member}
 use Rattle.alone_drops.specs.Offers.{OffersSuffice}
 use Rattle.alone_drops.proofs.Since.{Beginning, IsIt, Since, works_since}
+use Rattle.alone_drops.proofs.Ends.{quietly as begun_quietly}
+use Rattle.alone_drops.proofs.Sides.{Aims, has_peer, own_target}
 use Rattle.alone_drops.proofs.Rows.{now_since, own_time}
 use Rattle.alone_drops.proofs.Weighs.{locks_end, never_lacks}
-use Rattle.alone_drops.proofs.Stages.{Inv, OthersChangeNothing, Stage, Under, base_bar, base_clock, base_holds, base_present, base_settings}
+use Rattle.alone_drops.proofs.Stages.{Allowed, AsBegun, Inv, Obeys, OthersChangeNothing, Stage, Under, as_begun, stage_is}
 use Rattle.alone_drops.proofs.Gains.{Alone, all_calm}
 use Rattle.alone_drops.proofs.Walk.{walk}
 
 -- ---- a drop that goes on doesn't end as a transfer
 
-abbrev pub NoTransfer : EntryKind → Type 0
+abbrev NoTransfer : EntryKind → Type 0
 NoTransfer (ends_job j (TransferRefused refusal)) = ⊥
 NoTransfer kind = Unit {0}
 
@@ -107,7 +106,7 @@ judges_drop t part true next Local = if_either Drop' (in_time (clock_of t) (firs
     (λ e. attempts_drop t (calls.Remove ∷ []) None (quietly _ None) tt) (λ e. expired_drop t (clock_of t) (first_end t))
 judges_drop t part true next Remote = goes_drop t (target t) part
 
-pub next_drop : (t : Turn) (m : Effect) → t.w.phase ≡ Next → t.w.part ≡ Drops → by_partner t (partner t.w.what.peer t.w.phase) ≡ Some m → NoTransfer m.kind
+next_drop : (t : Turn) (m : Effect) → t.w.phase ≡ Next → t.w.part ≡ Drops → by_partner t (partner t.w.what.peer t.w.phase) ≡ Some m → NoTransfer m.kind
 next_drop t m is part e = go (list_all (has_room t) (needs t t.w.phase)) (subst (λ (p : Option ℕ). by_partner t p ≡ Some m) (ap (partner t.w.what.peer) is) e)
   where
     go : (d : Bool) → (if d then Some (goes t t.w.phase) else None) ≡ Some m → NoTransfer m.kind
@@ -116,12 +115,21 @@ next_drop t m is part e = go (list_all (has_room t) (needs t t.w.phase)) (subst 
         subst Drop' (sym (ap (goes t) is) ∙ made) (subst (λ q. Drop' (next_step t q)) (sym part) (judges_drop t part (enough_by t.read t.w) (next_by t.read t.w) (side_of t.w)))
     go false g = absurd (cc)
 
--- ---- the row
+-- ---- a removal, and the row
+
+obeyed_done : (word : Option Word) (proof : Proof) → is_done (obeyed_outcome word proof) ≡ true
+obeyed_done (Some words.Absent) proof = refl
+obeyed_done word proof = refl
+
+removed_done : (side : Side) (t : Turn) → is_done (removal_outcome side t) ≡ true
+removed_done Local t = refl
+removed_done Remote t = obeyed_done (t.look.words (target t)) (proof_by t.read t.w)
 
 unheld_until : (key : List ℕ) (c : ℕ) (hs : List Hold) (end : Option ℕ) → is_blocked hs key c ≡ false → until (filter (blocks key c) hs) ≡ Some end → ⊥
 unheld_until key c hs end none e = let both : None ≡ Some end = sym (ap until (filter_none (blocks key c) hs (list_any_nowhere (blocks key c) hs none))) ∙ e in cc
 
-module _ (reads_back : SentAreRead) (run : Run) (repos : Each IsSetUp run.repos) (past : List Entry) (b : Entry) (a j : ℕ) (what : Job) (z : Beginning run past b a j what) (h0 : RunPast (set_up run) (b ∷ past)) (local : drop_side what.kind what.peer ≡ Local) (drops : what.kind ≡ kinds.Drop) (others : OthersChangeNothing)
+module _ (reads_back : SentAreRead) (run : Run) (repos : Each IsSetUp run.repos) (past : List Entry) (b : Entry) (a j : ℕ) (what : Job) (z : Beginning run past b a j what) (h0 : RunPast (set_up run) (b ∷ past)) (side : Side) (to : ℕ) (aims : Aims a what side to) (others : OthersChangeNothing)
+    (obeys : side ≡ Remote → Obeys run past b.time a j to what.key)
     (xs : List Entry) (h : RunPast (set_up run) (xs ++ b ∷ past)) (t : Since run (b ∷ past) xs) (e : Entry) (step : RunStep (set_up run) (xs ++ b ∷ past) e) (own : is_of a e ≡ true) (outcome : Outcome) (is : e.kind ≡ ends_job j outcome) where
   abbrev base : List Entry
   base = b ∷ past
@@ -133,13 +141,19 @@ module _ (reads_back : SentAreRead) (run : Run) (repos : Each IsSetUp run.repos)
   s = set_up run a
 
   abbrev S : List Entry → Phase → Type 0
-  S = Stage reads_back run repos past b a j what z h0 local drops others
+  S = Stage reads_back run repos past b a j what z h0 side to aims others
 
-  part : Part (set_up run) p a e
+  abbrev U : Type 0
+  U = Under reads_back run repos past b a j what z h0 side to aims others p
+
+  abbrev Suffices : Type 0
+  Suffices = OffersSuffice side run.repos (job_paths run a j) past a to what.key
+
+  abbrev part : Part (set_up run) p a e
   part = part_of (set_up run) p e a step own
 
   abbrev x : Ending s p e j outcome
-  x = ending s p (part_of (set_up run) p e a step own).words e (part_of (set_up run) p e a step own).own j outcome is
+  x = ending s p part.words e part.own j outcome is
 
   abbrev w : Work
   w = x.by.w
@@ -147,8 +161,8 @@ module _ (reads_back : SentAreRead) (run : Run) (repos : Each IsSetUp run.repos)
   abbrev turn : Turn
   turn = turn_at s p e x.by
 
-  inv : Inv reads_back run repos past b a j what z h0 local drops others p w
-  inv = walk reads_back run repos past b a j what z h0 local drops others xs h t w x.runs
+  inv : Inv reads_back run repos past b a j what z h0 side to aims others p w
+  inv = walk reads_back run repos past b a j what z h0 side to aims others obeys xs h t w x.runs
 
   it : IsIt run past b a j what z a (running_job w)
   it = works_since run past b a j what z xs t a w x.runs
@@ -159,8 +173,8 @@ module _ (reads_back : SentAreRead) (run : Run) (repos : Each IsSetUp run.repos)
   number : w.number ≡ j
   number = it.number_is
 
-  side : side_of w ≡ Local
-  side = ap (λ (q : Job). drop_side q.kind q.peer) what_is ∙ local
+  side_is : side_of w ≡ side
+  side_is = ap (λ (q : Job). drop_side q.kind q.peer) what_is ∙ aims.side_is
 
   made : x.by.made.kind ≡ ends_job j outcome
   made = sym (ap (λ (q : Entry). q.kind) x.by.is) ∙ is
@@ -171,28 +185,22 @@ module _ (reads_back : SentAreRead) (run : Run) (repos : Each IsSetUp run.repos)
   key_is : w.what.key ≡ what.key
   key_is = ap (λ (q : Job). q.key) what_is
 
-  fresh_state : w.phase ≡ Fresh → state_of s p ≡ state_of s base
-  fresh_state f = subst (S p) f inv.stage
+  begun : w.phase ≡ Fresh → AsBegun reads_back run repos past b a j what z h0 side to aims others p w
+  begun fresh = as_begun reads_back run repos past b a j what z h0 side to aims others p w (own_past run repos a p h) x.runs inv fresh number what_is
 
-  -- it has read nothing yet, and what is required is as it was
-  requires : w.phase ≡ Fresh → turn.read.requires ≡ required (settings_of past a) (id_of run.repos a) what.key (s.paths j)
-  requires fresh = λ i. required (logs i) (id_of run.repos (target_is i)) (key_is i) (s.paths (number i))
-    where
-      unread : before_step p a w.number ≡ None
-      unread = fresh_unread s p (own_past run repos a p h).run w x.runs inv.part_is (ap is_fresh fresh)
+  under : (phase : Phase) → is_fresh phase ≡ false → w.phase ≡ phase → U
+  under phase later at = (stage_is reads_back run repos past b a j what z h0 side to aims others p phase later (subst (S p) at inv.stage)).0
 
-      logs : settings_of (read_at p a w.number) a ≡ settings_of past a
-      logs = ap (λ o. settings_of (unwrap_or o p) a) unread ∙ (ap (λ (q : State). q.logs) (fresh_state fresh) ∙ base_settings reads_back run repos past b a j what z h0 local drops others)
-
-      target_is : target turn ≡ a
-      target_is = ap (λ q. or_own a q w.what.peer) side
-
-  next_under : w.phase ≡ Next → Under reads_back run repos past b a j what z h0 local drops others p
-  next_under n = subst (S p) n inv.stage
+  -- a remote drop has a partner at its target
+  aimed : side ≡ Remote → w.what.peer ≡ None → ⊥
+  aimed remote none = has_peer a what side to aims remote (ap (λ (q : Job). q.peer) (sym what_is) ∙ none)
 
   -- ---- where it is to be done
 
-  module _ (there : present past a what.key ≡ true) (may : MayGo run past b.time a j a what.key) (offers : OffersSuffice Local run.repos (job_paths run a j) past a a what.key) where
+  module _ (there : side ≡ Local → present past a what.key ≡ true) (may : MayGo run past b.time a j to what.key) (offers : Suffices) where
+    may_own : side_of w ≡ Local → MayGo run past b.time a j a what.key
+    may_own l = subst (λ n. MayGo run past b.time a j n what.key) (own_target a what side to aims (sym side_is ∙ l)) may
+
     no_part : w.part ≡ Gets → ⊥
     no_part q = let both : Drops ≡ Gets = sym inv.part_is ∙ q in cc
 
@@ -200,29 +208,19 @@ module _ (reads_back : SentAreRead) (run : Run) (repos : Each IsSetUp run.repos)
     no_puts q = let both : Drops ≡ Puts = sym inv.part_is ∙ q in cc
 
     finds : (o : Outcome) → outcome ≡ o → FindsOutcome turn x.by.made.taken o → is_done o ≡ true
-    finds (Refused refusals.NotPresent) at f =
-        let same = fresh_state f.0.first in
-        let absent : present p a what.key ≡ false = subst (λ n. present p a n ≡ false) key_is f.1 in
-        absurd (true≢false (sym there ∙ (sym (ap (λ (q : State). q.present what.key) same ∙ base_present reads_back run repos past b a j what z h0 local drops others what.key) ∙ absent)))
-    finds (Refused (refusals.Required text)) at f = absurd (let both : None ≡ Some text = sym may.unrequired ∙ (sym (requires f.1) ∙ f.2) in cc)
-    finds (Refused (refusals.Barred i)) at f =
-        let same = fresh_state f.0.first in
-        let barred : bar p a what.key ≡ Some i = subst (λ n. bar p a n ≡ Some i) key_is f.2 in
-        absurd (let both : None ≡ Some i = sym may.free ∙ (sym (ap (λ (q : State). q.bar what.key) same ∙ base_bar reads_back run repos past b a j what z h0 local drops others what.key) ∙ barred) in cc)
+    finds (Refused refusals.NotPresent) at f = absurd (true≢false (sym (there (sym side_is ∙ f.0.side)) ∙ (sym (begun f.0.first).present_is ∙ f.1)))
+    finds (Refused (refusals.Required text)) at f = absurd (let both : None ≡ Some text = sym may.unrequired ∙ (sym (begun f.1).requires_is ∙ f.2) in cc)
+    finds (Refused (refusals.Barred i)) at f = absurd (let both : None ≡ Some i = sym (may_own f.0.side).free ∙ (sym (begun f.0.first).bar_is ∙ f.2) in cc)
     finds (Refused (refusals.Held end)) at f =
-        let same = fresh_state f.0.first in
-        let all_holds = ap (λ (q : State). q.holds) same ∙ base_holds reads_back run repos past b a j what z h0 local drops others in
-        let all_clocks = ap (λ (q : State). q.clock) same ∙ base_clock reads_back run repos past b a j what z h0 local drops others in
-        absurd (unheld_until what.key (clock run.repos past a b.time) (holds past a) end may.unheld (sym (λ n. until (filter (blocks (key_is n) (all_clocks n (time n))) (all_holds n))) ∙ f.3))
+        let same = begun f.0.first in
+        absurd (unheld_until what.key (clock run.repos past a b.time) (holds past a) end (may_own f.0.side).unheld (sym (λ n. until (filter (blocks (key_is n) (same.clock_is n (time n))) (same.holds_are n))) ∙ f.3))
     finds (Refused (refusals.Lacking proof reasons)) at f =
-        let u = next_under f.next in
-        absurd (never_lacks reads_back run repos past b a j what z h0 local p w number what_is inv.heard u.first u.read u.settings_is f.last f.wants offers)
-    finds (Refused (refusals.Expired end clk)) at f = elim (f.judges) [
-      | inl y ↦ (let u = next_under y.0 in
-          let at_end = locks_end reads_back run repos past b a j what z h0 local p w number what_is inv.heard u.first u.read u.settings_is end f.first_is in
-          absurd (true≢false (sym (soon (clock run.repos p a b.time) end at_end) ∙ subst (λ n. nat_lt (clock run.repos p a n) end ≡ false) time (subst (λ n. nat_lt n end ≡ false) f.clock_is f.late))))
-      | inr y ↦ absurd (let both : Local ≡ Remote = sym side ∙ y.0 in cc)
-    ]
+        let u = under Next refl f.next in
+        absurd (never_lacks reads_back run repos past b a j what z h0 side to aims p w number what_is inv.heard u.first u.read u.settings_is f.last f.wants offers)
+    finds (Refused (refusals.Expired end clk)) at f =
+        let u : U = elim (f.judges) [ inl y ↦ under Next refl y.0 | inr y ↦ under AsksTime refl y.1 ] in
+        let at_end = locks_end reads_back run repos past b a j what z h0 side to aims p w number what_is inv.heard u.first u.read u.settings_is end f.first_is in
+        absurd (true≢false (sym (soon (clock run.repos p a b.time) end at_end) ∙ subst (λ n. nat_lt (clock run.repos p a n) end ≡ false) time (subst (λ n. nat_lt n end ≡ false) f.clock_is f.late)))
       where
         soon : (c end : ℕ) → end ≡ c + hold_time → nat_lt c end ≡ true
         soon c end is = let less : c < end = omega (arith, is) in grind (arith, nat_tests)
@@ -239,10 +237,12 @@ module _ (reads_back : SentAreRead) (run : Run) (repos : Each IsSetUp run.repos)
     has (Greets peer) at st o alone = absurd (cc)
     has (AsksLock peer since) at st o alone = absurd (cc)
     has (AsksLook peer) at st o alone = absurd (cc)
-    has Removed at st o alone = ap is_done (o ∙ ap (λ q. DropStep.removal_outcome q turn) side)
-    has phase at st o alone = absurd st
+    has AsksTime at st o alone = absurd (aimed st.1 alone)
+    has Orders at st o alone = absurd (aimed st.1.0 alone)
+    has Removed at st o alone = ap is_done o ∙ removed_done (side_of w) turn
+    has phase at st o alone = absurd st.1
 
-    pub is_to_be_done : is_done outcome ≡ true
+    is_to_be_done : is_done outcome ≡ true
     is_to_be_done = elim (x.why) [
       | inl f ↦ finds outcome refl f
       | inr y ↦ has w.phase refl inv.stage y.outcome_is y.alone
@@ -250,7 +250,7 @@ module _ (reads_back : SentAreRead) (run : Run) (repos : Each IsSetUp run.repos)
 
   -- ---- where it was done
 
-  pub was_allowed : is_done outcome ≡ true → (present past a what.key ≡ true) × MayGo run past b.time a j a what.key × OffersSuffice Local run.repos (job_paths run a j) past a a what.key
+  was_allowed : is_done outcome ≡ true → Allowed reads_back run repos past b a j what z h0 side to aims others × Suffices
   was_allowed done = elim (x.why) [
     | inl f ↦ absurd (finds outcome done f)
     | inr y ↦ has w.phase inv.stage y.outcome_is
@@ -266,15 +266,17 @@ module _ (reads_back : SentAreRead) (run : Run) (repos : Each IsSetUp run.repos)
       off : outcome ≡ TransferRefused failures.Closed → ⊥
       off o = true≢false (sym done ∙ ap is_done o)
 
-      has : (phase : Phase) → S p phase → outcome ≡ outcome_of turn phase → (present past a what.key ≡ true) × MayGo run past b.time a j a what.key × OffersSuffice Local run.repos (job_paths run a j) past a a what.key
+      has : (phase : Phase) → S p phase → outcome ≡ outcome_of turn phase → Allowed reads_back run repos past b a j what z h0 side to aims others × Suffices
       has Fresh st o = absurd (off o)
       has Next st o = absurd (off o)
       has (Opens peer) st o = absurd (off o)
       has (Greets peer) st o = absurd (off o)
       has (AsksLock peer since) st o = absurd (off o)
       has (AsksLook peer) st o = absurd (off o)
-      has Removed st o = (st.0.there, record { free = st.0.free; unheld = st.0.unheld; unrequired = st.0.unrequired }, st.1)
-      has phase st o = absurd st
+      has AsksTime st o = absurd (off o)
+      has Orders st o = absurd (off o)
+      has Removed st o = (st.0.allowed, st.1)
+      has phase st o = absurd st.1
 
 -- ---- at the places of a run
 
@@ -282,7 +284,7 @@ module _ (reads_back : SentAreRead) (others : OthersChangeNothing) (run : Run) (
   abbrev start : List Entry
   start = past_at run first
 
-  pub record Tail (place : ℕ) : Type 0 where
+  record Tail (place : ℕ) : Type 0 where
     pub xs : List Entry
     pub past_is : past_at run place ≡ xs ++ x.begin ∷ start
     pub alone : Alone run (x.begin ∷ start) xs
@@ -319,35 +321,48 @@ module _ (reads_back : SentAreRead) (others : OthersChangeNothing) (run : Run) (
             | inr y ↦ absurd (omega (arith, y, k, i))
           ]
 
-  pub all : Tail last
+  all : Tail last
   all = tail last x.later (omega arith)
 
-  pub beginning : Beginning run start x.begin a j what
+  beginning : Beginning run start x.begin a j what
   beginning = record { by_a = x.begin_by; kind_is = x.begin_is; idle = x.idle; rest = x.rest }
 
-  pub steps_first : RunPast (set_up run) (x.begin ∷ start)
+  steps_first : RunPast (set_up run) (x.begin ∷ start)
   steps_first = subst (RunPast (set_up run)) (past_next run first x.begin x.begin_at) (steps_at run (first + 1) h)
 
-  pub steps_last : RunPast (set_up run) (all.xs ++ x.begin ∷ start)
+  steps_last : RunPast (set_up run) (all.xs ++ x.begin ∷ start)
   steps_last = subst (RunPast (set_up run)) all.past_is (steps_at run last h)
 
-  pub step_last : RunStep (set_up run) (all.xs ++ x.begin ∷ start) x.end
+  step_last : RunStep (set_up run) (all.xs ++ x.begin ∷ start) x.end
   step_last = (subst (RunPast (set_up run)) (past_next run last x.end x.end_at ∙ ap (λ (p : List Entry). x.end ∷ p) all.past_is) (steps_at run (last + 1) h)).0
 
-  pub since_begin : Since run (x.begin ∷ start) all.xs
-  since_begin = all_calm reads_back run h.repos start x.begin a j what beginning steps_first x.drops all.xs steps_last all.alone (running_job still.by.w)
-      (subst (Member (running_job still.by.w)) (jobs_are (all.xs ++ x.begin ∷ start) a) (running_member (works (all.xs ++ x.begin ∷ start) a) still.by.w still.runs))
-    where
-      part : Part (set_up run) (all.xs ++ x.begin ∷ start) a x.end
-      part = part_of (set_up run) (all.xs ++ x.begin ∷ start) x.end a step_last x.end_by
+  -- its side and its target
+  pub local_aims : drop_side what.kind what.peer ≡ Local → Aims a what Local a
+  local_aims local = record { drops = x.drops; side_is = local; target_is = refl; apart = λ remote. absurd (cc) }
 
-      -- the job that ends
-      still : Ending (set_up run a) (all.xs ++ x.begin ∷ start) x.end j outcome
-      still = ending (set_up run a) (all.xs ++ x.begin ∷ start) part.words x.end part.own j outcome x.end_is
+  pub remote_aims : (to : ℕ) → what.peer ≡ Some to → Aims a what Remote to
+  remote_aims to is = record {
+    drops = x.drops;
+    side_is = rw (x.drops, is) refl;
+    target_is = ap (or_own a Remote) is;
+    apart = λ remote. (subst (λ (o : Option ℕ). IsPeer (set_up run a) what.kind o) is (begun_quietly reads_back run h.repos start x.begin a j what beginning steps_first).may.peer).1;
+  }
 
-  module _ (local : drop_side what.kind what.peer ≡ Local) where
-    pub done_alone : present start a what.key ≡ true → MayGo run start x.begin.time a j a what.key → OffersSuffice Local run.repos (job_paths run a j) start a a what.key → is_done outcome ≡ true
-    done_alone = is_to_be_done reads_back run h.repos start x.begin a j what beginning steps_first local x.drops others all.xs steps_last since_begin x.end step_last x.end_by outcome x.end_is
+  module _ (side : Side) (to : ℕ) (aims : Aims a what side to) where
+    since_begin : Since run (x.begin ∷ start) all.xs
+    since_begin = all_calm reads_back run h.repos start x.begin a j what beginning steps_first side to aims all.xs steps_last all.alone (running_job still.by.w)
+        (subst (Member (running_job still.by.w)) (jobs_are (all.xs ++ x.begin ∷ start) a) (running_member (works (all.xs ++ x.begin ∷ start) a) still.by.w still.runs))
+      where
+        part : Part (set_up run) (all.xs ++ x.begin ∷ start) a x.end
+        part = part_of (set_up run) (all.xs ++ x.begin ∷ start) x.end a step_last x.end_by
 
-    pub allowed_alone : is_done outcome ≡ true → (present start a what.key ≡ true) × MayGo run start x.begin.time a j a what.key × OffersSuffice Local run.repos (job_paths run a j) start a a what.key
-    allowed_alone = was_allowed reads_back run h.repos start x.begin a j what beginning steps_first local x.drops others all.xs steps_last since_begin x.end step_last x.end_by outcome x.end_is
+        -- the job that ends
+        still : Ending (set_up run a) (all.xs ++ x.begin ∷ start) x.end j outcome
+        still = ending (set_up run a) (all.xs ++ x.begin ∷ start) part.words x.end part.own j outcome x.end_is
+
+    module _ (obeys : side ≡ Remote → Obeys run start x.begin.time a j to what.key) where
+      pub done_alone : (side ≡ Local → present start a what.key ≡ true) → MayGo run start x.begin.time a j to what.key → OffersSuffice side run.repos (job_paths run a j) start a to what.key → is_done outcome ≡ true
+      done_alone = is_to_be_done reads_back run h.repos start x.begin a j what beginning steps_first side to aims others obeys all.xs steps_last since_begin x.end step_last x.end_by outcome x.end_is
+
+      pub allowed_alone : is_done outcome ≡ true → (side ≡ Local → (present start a what.key ≡ true) × MayGo run start x.begin.time a j a what.key) × OffersSuffice side run.repos (job_paths run a j) start a to what.key
+      allowed_alone = was_allowed reads_back run h.repos start x.begin a j what beginning steps_first side to aims others obeys all.xs steps_last since_begin x.end step_last x.end_by outcome x.end_is

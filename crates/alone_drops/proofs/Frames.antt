@@ -146,7 +146,7 @@ pub record OffEnd (n : EndName) (e : Entry) : Type 0 where
   pub takes_none : taken_at n e.taken ≡ None
   pub silent : sent_at n e.sent ≡ []
 
-and_false : (d : Bool) → (d && false) ≡ false
+pub and_false : (d : Bool) → (d && false) ≡ false
 and_false true = refl
 and_false false = refl
 
@@ -161,6 +161,18 @@ pub down_sent : (n : EndName) (c : End) (bodies : List FrameText) (g : FrameView
 down_sent n c [] g down m = absurd m
 down_sent n c (body ∷ bodies) g down (inl m) = ap (λ (f : FrameView). f.up) m ∙ down
 down_sent n c (body ∷ bodies) g down (inr m) = down_sent n (end_sends c body) bodies g down m
+
+-- a frame that an end sends has one of these bodies
+pub frame_body : (n : EndName) (c : End) (bodies : List FrameText) (g : FrameView) → Member g (frames n c bodies) → Member g.body bodies
+frame_body n c [] g m = absurd m
+frame_body n c (body ∷ bodies) g (inl m) = inl (ap (λ (f : FrameView). f.body) m)
+frame_body n c (body ∷ bodies) g (inr m) = inr (frame_body n (end_sends c body) bodies g m)
+
+-- and goes to its peer
+pub frame_peer : (n : EndName) (c : End) (bodies : List FrameText) (g : FrameView) → Member g (frames n c bodies) → g.peer ≡ n.peer
+frame_peer n c [] g m = absurd m
+frame_peer n c (body ∷ bodies) g (inl m) = ap (λ (f : FrameView). f.peer) m
+frame_peer n c (body ∷ bodies) g (inr m) = frame_peer n (end_sends c body) bodies g m
 
 -- what a job does is nothing there
 job_off : (s : SetUp) (past : List Entry) (e : Entry) (y : Stepped s past e) (x q : ℕ) → OffEnd (server_end x q) e

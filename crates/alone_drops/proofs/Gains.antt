@@ -1,164 +1,59 @@
 -- Nothing is gained while a drop runs alone, and it ends once: so each entry since is one of its own steps, of a session's, or of an owed line.
+use Rattle.std.specs.Prelude.{if◌then◌else◌, ◌==◌, filter, not}
 use Rattle.std.proofs.Common.{◌≡◌, ℕ, true, List, [], ◌∷◌, ◌++◌, Option, Some, None, ◌⊎◌, inl, inr, refl, sym, ap, ◌∙◌, subst, Bool, false}
 use Rattle.std.proofs.lemmas.Bool.{true≢false}
 use Rattle.annex_base.specs.Lists.{Each, Member}
 use Rattle.annex_base.proofs.Conditions.{eqb_refl}
+use Rattle.annex_base.proofs.Options.{first_some-was}
+use Rattle.annex_base.proofs.Lists.{Member-filter_parts}
+use Rattle.drop_proof.specs.declared.rule.Side.{Side}
 use Rattle.run_data.specs.declared.entry.By.{By}
 use Rattle.run_data.specs.declared.entry.By.TheVariants.{Script}
 use Rattle.run_data.specs.declared.entry.Entry.{Entry}
 use Rattle.run_data.specs.declared.entry.EntryKind.{EntryKind}
-use Rattle.run_data.specs.declared.entry.EntryKind.TheVariants.{Gain, Share, Bar, Order, Gone, Log, Talk, Fault, End as ends_job, Begin, Crash}
-use Rattle.run_data.specs.declared.entry.FrameView.{FrameView}
-use Rattle.run_data.specs.declared.entry.FrameText.{FrameText}
-use Rattle.run_data.specs.declared.entry.FrameText.TheVariants.{Opening, Closing, Bytes, Line}
+use Rattle.run_data.specs.declared.entry.EntryKind.TheVariants.{Gain, Log, Fault, End as ends_job, Begin, Crash}
 use Rattle.run_data.specs.declared.job.Job.{Job}
-use Rattle.run_data.specs.declared.job.JobKind.TheVariants as kinds
 use Rattle.run_data.specs.declared.run.Run.{Run}
 use Rattle.run_data.specs.Repos.{IsSetUp}
-use Rattle.p2p_wire.specs.declared.message.Message.{Message}
-use Rattle.p2p_wire.specs.declared.message.Message.TheVariants.{CheckPresent, GetTimestamp, LockContent, Valid, Version}
-use Rattle.p2p_wire.specs.Messages.{message_of, order_of}
+use Rattle.run_data.specs.declared.job.Outcome.{Outcome}
+use Rattle.p2p_wire.specs.declared.message.Message.TheVariants.{Valid}
 use Rattle.node_model.specs.AnyTime.{MayCome}
 use Rattle.node_model.specs.Ends.{server_end}
-use Rattle.node_model.specs.Found.{IsJobEntry, IsSessionEntry}
-use Rattle.node_model.specs.Jobs.{Phase, Drops, Opens, Greets, Next, AsksLock, GetsWord, running_job}
-use Rattle.node_model.specs.JobStep.{Turn}
+use Rattle.node_model.specs.Found.{IsSessionEntry}
+use Rattle.node_model.specs.Jobs.{Drops, GetsWord, running_job}
 use Rattle.node_model.specs.Look.{Effect}
 use Rattle.node_model.specs.Sessions.{line_in}
 use Rattle.node_model.specs.SessionStep.{here, on_frame, session_at}
 use Rattle.node_model.specs.SetUp.{served_connections}
-use Rattle.run_model.specs.Frames.{FlyingFrame, MayTake, taker_of}
+use Rattle.node_model.specs.Slots.{RunningJob}
+use Rattle.run_model.specs.Frames.{MayTake}
 use Rattle.run_model.specs.Past.{is_of, now, jobs, jobs_after}
 use Rattle.run_model.specs.Run.{IsStep, RunPast, RunStep, TimeIs, set_up}
 use Rattle.run_model.specs.States.{session as session_at_end, state_of}
-use Rattle.annex_base.proofs.Options.{first_some-was}
 use Rattle.step_facts.proofs.Below.{SentAreRead}
-use Rattle.run_laws.proofs.Decisions.{kind_of, stepped_of}
-use Rattle.dialogue_facts.proofs.FreshSteps.{of_kind}
-use Rattle.past_facts.proofs.OwnRuns.{Part as PartOf, own_past, part_of}
-use Rattle.run_laws.proofs.JobLines.{job_said, said_head}
-use Rattle.step_facts.proofs.JobSteps.{Stepped, step_made, stepped_found, stepped_runs, turn_at}
-use Rattle.job_facts.proofs.ReadAs.{SameHead}
-use Rattle.run_laws.proofs.SaidDown.{said_is}
+use Rattle.step_facts.proofs.JobSteps.{Stepped, step_made, stepped_runs}
 use Rattle.step_facts.proofs.ServerEnds.{BySessionAt, GivesHere, TakesHere, session_here}
 use Rattle.step_facts.proofs.SessionFacts.{frame_found, gives_found}
-use Rattle.run_laws.proofs.SessionOwn.{way_at}
 use Rattle.step_facts.proofs.StepFacts.{pays_found}
-use Rattle.job_facts.proofs.TalkFacts.{DropAsks, Fits, PartSays, TalkKind, slot_talks}
-use Rattle.past_facts.proofs.Told.{on_parts, sends_member, sends_on}
-use Rattle.run_laws.proofs.WayCounts.{in_sender-is, way_in}
-use Rattle.job_facts.proofs.WorkFits.{drop_is, drop_jobs, head_of, works_fit}
-use Rattle.std.specs.Prelude.{if◌then◌else◌, ◌==◌, filter, not}
-use Rattle.annex_base.proofs.Lists.{Member-filter_parts}
-use Rattle.run_data.specs.declared.job.Outcome.{Outcome}
-use Rattle.node_model.specs.Slots.{RunningJob}
+use Rattle.past_facts.proofs.OwnRuns.{Part as PartOf, own_past, part_of}
+use Rattle.job_facts.proofs.TalkFacts.{Fits}
+use Rattle.job_facts.proofs.WorkFits.{works_fit}
+use Rattle.run_laws.proofs.Decisions.{kind_of, stepped_of}
+use Rattle.run_laws.proofs.SessionOwn.{way_at}
 use Rattle.alone_drops.specs.Alone.{IsUndisturbing, is_undisturbing}
-use Rattle.alone_drops.proofs.Since.{Beginning, Later, Since, calm_who, is_calm, stepped_since, jobs_since, IsIt}
-use Rattle.alone_drops.proofs.Frames.{NewFrame, taken_new, down_sent}
-use Rattle.alone_drops.proofs.RowsFrom.{drop_job}
+use Rattle.alone_drops.proofs.Since.{Beginning, Since, is_calm, stepped_since, jobs_since, IsIt}
+use Rattle.alone_drops.proofs.Frames.{taken_new}
+use Rattle.alone_drops.proofs.Sides.{Aims}
+use Rattle.alone_drops.proofs.Sends.{in_drops, no_valid}
 
 -- each of these entries, the newest first, disturbs nothing
 abbrev pub Alone : Run → List Entry → List Entry → Type 0
 Alone run base [] = Unit {0}
 Alone run base (e ∷ xs) = IsUndisturbing run (xs ++ base) e × Alone run base xs
 
--- a drop doesn't say VALID
-drop_valid : (t : Turn) (peer : ℕ) (phase : Phase) (m : Message) → DropAsks t peer phase m → SameHead m Valid → ⊥
-drop_valid t peer (Opens p) (Version n) a h = h
-drop_valid t peer (Greets p) (LockContent k) a h = h
-drop_valid t peer (Greets p) GetTimestamp a h = h
-drop_valid t peer Next (LockContent k) a h = h
-drop_valid t peer Next GetTimestamp a h = h
-drop_valid t peer (AsksLock p since) (CheckPresent k) a h = h
-drop_valid t peer phase m a h = absurd a
-
-body_valid : (t : Turn) (peer : ℕ) (body : FrameText) → t.w.part ≡ Drops → PartSays t peer t.w.part body → line_in body ≡ Some Valid → ⊥
-body_valid t peer body part says told = go body (subst (λ q. PartSays t peer q body) part says) told
-  where
-    go : (body : FrameText) → PartSays t peer Drops body → line_in body ≡ Some Valid → ⊥
-    go (Line text) x told = drop_valid t peer t.w.phase x.0 x.2 (head_of x.0 Valid (drop_jobs x.0 (drop_is t peer t.w.phase x.0 x.2)) (ap message_of (sym x.1) ∙ told))
-    go Opening x told = absurd (cc)
-    go Closing x told = absurd (cc)
-    go (Bytes n) x told = absurd (cc)
-
-module _ (reads_back : SentAreRead) (run : Run) (repos : Each IsSetUp run.repos) (past : List Entry) (b : Entry) (a j : ℕ) (what : Job) (z : Beginning run past b a j what) (h0 : RunPast (set_up run) (b ∷ past)) (drops : what.kind ≡ kinds.Drop) where
+module _ (reads_back : SentAreRead) (run : Run) (repos : Each IsSetUp run.repos) (past : List Entry) (b : Entry) (a j : ℕ) (what : Job) (z : Beginning run past b a j what) (h0 : RunPast (set_up run) (b ∷ past)) (side : Side) (to : ℕ) (aims : Aims a what side to) where
   abbrev base : List Entry
   base = b ∷ past
-
-  in_drops : (ys : List Entry) → RunPast (set_up run) (ys ++ base) → Since run base ys → (x : ℕ) (e : Entry) (g : Stepped (set_up run x) (ys ++ base) e) → g.w.part ≡ Drops
-  in_drops ys h t x e g = drop_job g.w (ap (λ (y : Job). y.kind) (stepped_since run past b a j what z ys t x e g).what_is ∙ drops) (of_kind (set_up run x) (ys ++ base) (own_past run repos x (ys ++ base) h).run g.w (stepped_runs (set_up run x) (ys ++ base) e g))
-
-  -- ---- a new frame that goes up doesn't say VALID
-
-  module _ (c x q k : ℕ) (it : FlyingFrame) (n : NewFrame run base (way_in c (server_end x q) k) it) (told : line_in it.frame.body ≡ Some Valid) where
-    abbrev l : Later run base it.entry it.before
-    l = n.later
-
-    abbrev p : List Entry
-    p = l.ys ++ base
-
-    own : is_of x it.entry ≡ true
-    own = subst (λ m. is_of m it.entry ≡ true) (in_sender-is c (server_end x q) k) n.by
-
-    abbrev part : PartOf (set_up run) p x it.entry
-    part = part_of (set_up run) p it.entry x l.step own
-
-    among : Member it.frame it.entry.sent
-    among = sends_member (way_in c (server_end x q) k) it.entry it.frame n.on
-
-    up : it.frame.up ≡ true
-    up = (on_parts (way_in c (server_end x q) k) (taker_of (way_in c (server_end x q) k)) it.frame (sends_on (way_in c (server_end x q) k) it.entry it.frame n.on)).up_is
-
-    up_down : (p' r : ℕ) → TakesHere (set_up run x) p (server_end p' r) it.entry ⊎ GivesHere (set_up run x) p (server_end p' r) it.entry → ⊥
-    up_down p' r (inl y) = true≢false (sym up ∙ down_sent (server_end p' r) _ _ it.frame refl (subst (Member it.frame) y.sent_is among))
-    up_down p' r (inr y) = true≢false (sym up ∙ down_sent (server_end p' r) _ _ it.frame refl (subst (Member it.frame) y.sent_is among))
-
-    by_job : Stepped (set_up run x) p it.entry → ⊥
-    by_job g = by it.entry.kind refl
-      where
-        turn : Turn
-        turn = turn_at (set_up run x) p it.entry g
-
-        made_kind : (kind : EntryKind) → it.entry.kind ≡ kind → g.made.kind ≡ kind
-        made_kind kind is = sym (ap (λ (y : Entry). y.kind) g.is) ∙ is
-
-        sent : Member it.frame g.made.sent
-        sent = subst (Member it.frame) (ap (λ (y : Entry). y.sent) g.is) among
-
-        found : (kind : EntryKind) → it.entry.kind ≡ kind → IsJobEntry turn g.made kind
-        found kind is = subst (IsJobEntry turn g.made) (made_kind kind is) (stepped_found (set_up run x) p it.entry g).found
-
-        talks : (kind : EntryKind) → it.entry.kind ≡ kind → TalkKind turn g.made kind
-        talks kind is = subst (TalkKind turn g.made) (made_kind kind is) (slot_talks (set_up run x) (state_of (set_up run x) p) g.look g.made g.w (works_fit (set_up run x) p (own_past run repos x p l.steps).run g.w (stepped_runs (set_up run x) p it.entry g)) g.does)
-
-        order_apart : (deadline : Option ℕ) (key : List ℕ) → SameHead (order_of deadline key) Valid → ⊥
-        order_apart None key h = h
-        order_apart (Some n') key h = h
-
-        by : (kind : EntryKind) → it.entry.kind ≡ kind → ⊥
-        by (Share hold end who key') is = subst (Member it.frame) (found (Share hold end who key') is).sends_none sent
-        by (Bar i need key') is = subst (Member it.frame) (found (Bar i need key') is).sends_none sent
-        by (Gone who key') is = subst (Member it.frame) (found (Gone who key') is).sends_none sent
-        by (Order i peer deadline need key') is =
-            let y = said_head turn (Order i peer deadline need key') it.frame Valid (job_said turn g.made (Order i peer deadline need key') (found (Order i peer deadline need key') is) it.frame sent) (said_is it.frame.body Valid told) in
-            order_apart deadline key' (subst (λ m. SameHead m Valid) y.1 y.2)
-        by (Gain who size key') is = true≢false (sym l.calm.kind ∙ ap is_calm is)
-        by (ends_job i outcome) is = true≢false (sym l.calm.kind ∙ ap is_calm is)
-        by (Fault call who) is = true≢false (sym l.calm.kind ∙ ap is_calm is)
-        by (Talk (Some i)) is = elim ((talks (Talk (Some i)) is).says) [
-          | inl none ↦ subst (Member it.frame) none sent
-          | inr y ↦ elim (subst (Member it.frame) y.sent_is sent) [
-            | inl same ↦ body_valid turn y.peer y.body (in_drops l.ys l.steps l.since x it.entry g) y.says (ap line_in (sym (ap (λ (f : FrameView). f.body) same)) ∙ told)
-            | inr none ↦ none
-          ]
-        ]
-        by kind is = found kind is
-
-    no_valid : ⊥
-    no_valid = elim (calm_who (set_up run x) p part.words it.entry part.own l.calm.kind) [
-      | inl y ↦ subst (Member it.frame) y.sends_none among
-      | inr y ↦ elim y [ inl g ↦ up_down g.0 g.1 g.3 | inr g ↦ by_job g ]
-    ]
 
   -- ---- nothing is gained
 
@@ -193,7 +88,7 @@ module _ (reads_back : SentAreRead) (run : Run) (repos : Each IsSetUp run.repos)
                 let hh = here (set_up run c) (state_of (set_up run c) pn) y.k n in
                 let was = session_at_end pn c n in
                 let found = subst (IsSessionEntry hh was.doing (line_in y.f.body) (on_frame hh was y.f.body).says) (sym y.kind_is ∙ is) (frame_found hh was y.f.body) in
-                no_valid c g.0 g.1 y.f.epoch m.it new (ap line_in m.body_is ∙ found.asks)
+                no_valid reads_back run repos past b a j what z h0 side to aims c g.0 g.1 y.f.epoch m.it new (ap line_in m.body_is ∙ found.asks)
             by (inr y) =
                 let n = server_end g.0 g.1 in
                 let hh = here (set_up run c) (state_of (set_up run c) pn) y.k n in
@@ -205,7 +100,7 @@ module _ (reads_back : SentAreRead) (run : Run) (repos : Each IsSetUp run.repos)
         job g =
             let found = kind_of (set_up run c) pn e g (Gain source size key) is in
             let fits = works_fit (set_up run c) pn (own_past run repos c pn h).run g.w (stepped_runs (set_up run c) pn e g) in
-            let bad : Fits Drops (GetsWord found.peer found.start size) = subst (Fits Drops) found.phase_is (subst (λ q. Fits q g.w.phase) (in_drops xs h t c e g) fits) in
+            let bad : Fits Drops (GetsWord found.peer found.start size) = subst (Fits Drops) found.phase_is (subst (λ q. Fits q g.w.phase) (in_drops reads_back run repos past b a j what z h0 side to aims xs h t c e g) fits) in
             bad
 
         steps : IsStep (set_up run c) pn part.words e → ⊥

@@ -1,118 +1,107 @@
--- What a local drop hears that runs alone: a lock or a look of a copy that was there as it began, and refused looks of others.
+-- What a drop hears that runs alone, of a candidate and of its target.
+use Rattle.std.specs.Prelude.{◌&&◌, ◌||◌, ◌*◌, ◌/◌, min, nat_lt, if◌then◌else◌, map, option_map, slice_get}
 use Rattle.std.proofs.Common.{◌≡◌, ◌≢◌, ℕ, ◌+◌, ◌<◌, Bool, true, false, List, [], ◌∷◌, ◌++◌, Option, Some, None, ◌⊎◌, inl, inr, refl, sym, ap, ◌∙◌, subst, arith}
-use Rattle.std.specs.Prelude.{◌&&◌, option_map, slice_get}
 use Rattle.std.proofs.lemmas.Bool.{true≢false}
 use Rattle.std.proofs.lemmas.Option.{same_Some}
 use Rattle.annex_base.specs.Lists.{Each, Member}
 use Rattle.annex_base.proofs.Lists.{Member-append_cases, Member-filter_parts}
-use Rattle.annex_base.specs.declared.kinds.Found.TheVariants as found
-use Rattle.drop_proof.specs.declared.rule.Side.TheVariants.{Local}
+use Rattle.annex_base.proofs.Conditions.{eqb_other}
+use Rattle.drop_proof.specs.declared.rule.Need.{Need}
+use Rattle.drop_proof.specs.declared.rule.Side.{Side}
+use Rattle.drop_proof.specs.declared.rule.Side.TheVariants.{Remote}
 use Rattle.run_data.specs.declared.entry.Entry.{Entry}
-use Rattle.run_data.specs.declared.entry.EntryKind.{EntryKind}
-use Rattle.run_data.specs.declared.entry.EntryKind.TheVariants.{Check, Fault}
+use Rattle.run_data.specs.declared.entry.EntryKind.TheVariants.{Order}
 use Rattle.run_data.specs.declared.entry.FrameView.{FrameView}
 use Rattle.run_data.specs.declared.entry.FrameText.{FrameText}
+use Rattle.run_data.specs.declared.entry.FrameText.TheVariants.{Opening, Closing, Bytes, Line}
 use Rattle.run_data.specs.declared.job.Job.{Job}
 use Rattle.run_data.specs.declared.run.Run.{Run}
 use Rattle.run_data.specs.Repos.{IsSetUp}
 use Rattle.p2p_wire.specs.declared.message.Message.{Message}
-use Rattle.p2p_wire.specs.declared.message.Message.TheVariants.{CheckPresent, Failure, LockContent, Success}
-use Rattle.p2p_wire.specs.Messages.{order_of}
+use Rattle.p2p_wire.specs.declared.message.Message.TheVariants.{CheckPresent, Failure, LockContent, Success, Timestamp, Version}
+use Rattle.p2p_wire.specs.Messages.{message_of, order_of, text_of}
 use Rattle.node_model.specs.Ends.{EndName, is_opening, server_end}
 use Rattle.node_model.specs.Found.{IsSessionEntry}
 use Rattle.node_model.specs.Jobs
-use Rattle.node_model.specs.Jobs.{AsksLock, AsksLook, Phase, drop_side}
-use Rattle.node_model.specs.Sessions.{Doing, line_in}
-use Rattle.node_model.specs.SessionStep.{Here, here, on_frame}
-use Rattle.node_model.specs.SetUp.{SetUp}
+use Rattle.node_model.specs.Jobs.{AsksLock, AsksLook, Phase}
+use Rattle.node_model.specs.Sessions.{Session, line_in}
+use Rattle.node_model.specs.SessionStep.{Here, Reply, here, on_frame, on_message, on_text}
+use Rattle.node_model.specs.Clocks.{runs_on}
+use Rattle.node_model.specs.Rows.{is_blocked}
+use Rattle.node_model.specs.SetUp.{SetUp, locks_in, version_in}
 use Rattle.run_model.specs.Drops.{option_is_none}
-use Rattle.run_model.specs.Frames.{FlyingFrame, MayTake, Way, frames_sent, last_of, last_request, requests, says, taken_count, up_of, way_of}
-use Rattle.run_model.specs.Past.{bar, is_of, present}
+use Rattle.run_model.specs.Frames.{FlyingFrame, MayTake, Way, flying_frame, frames_sent, on_way, sender_of, last_of, last_request, requests, says, taken_count, up_of, way_of}
+use Rattle.run_model.specs.Past.{Occurs, bar, clock, holds, is_of, present}
 use Rattle.run_model.specs.Run.{RunPast, RunStep, set_up}
 use Rattle.run_model.specs.Said.{Says, is_request, message_in}
 use Rattle.run_model.specs.States.{end_at, session as session_at_end, state_of}
-use Rattle.past_facts.specs.Lawful.{HasFreeContent}
-use Rattle.run_laws.proofs.AnswersFit.{AnswerOf, answer_of, failure_fits}
-use Rattle.run_laws.proofs.AnswersTurn.{is_plain}
 use Rattle.step_facts.proofs.Below.{SentAreRead}
-use Rattle.run_laws.proofs.ClientAwaits.{taken_last}
 use Rattle.step_facts.proofs.ClientCounts.{LastIs, request}
 use Rattle.step_facts.proofs.ClientWays.{asked_by}
 use Rattle.step_facts.proofs.EndMoves.{may_epoch, opening_closed}
-use Rattle.cause_laws.proofs.Epochs.{client_end, none_sent}
-use Rattle.run_laws.proofs.FromStep.{meets}
-use Rattle.past_facts.proofs.OwnRuns.{Part, own_past, part_of}
-use Rattle.run_laws.proofs.HeardTells.{taken_peer}
+use Rattle.step_facts.proofs.Plain.{member_mapped}
 use Rattle.step_facts.proofs.JobSteps.{Stepped}
 use Rattle.step_facts.proofs.Makers.{TakenBy, taken_of}
+use Rattle.step_facts.proofs.ServerEnds.{GivesHere, TakesHere}
+use Rattle.step_facts.proofs.SessionFacts.{frame_found}
+use Rattle.step_facts.proofs.Ways.{is_answer}
+use Rattle.past_facts.specs.Lawful.{HasFreeContent}
+use Rattle.past_facts.proofs.OwnRuns.{Part, own_past, part_of}
 use Rattle.past_facts.proofs.Own.{InTurn, Own}
-use Rattle.run_laws.proofs.SaidDown.{said_is}
-use Rattle.step_facts.proofs.ServerEnds.{BySessionAt, GivesHere, TakesHere}
+use Rattle.past_facts.proofs.Told.{on_parts, sends_member, sends_on}
+use Rattle.job_facts.proofs.Speaks.{hears}
+use Rattle.run_laws.proofs.AnswersFit.{AnswerOf, answer_of, failure_fits}
+use Rattle.run_laws.proofs.AnswersTurn.{is_plain}
+use Rattle.run_laws.proofs.ClientAwaits.{taken_last}
+use Rattle.run_laws.proofs.Decisions.{kind_of}
+use Rattle.run_laws.proofs.FromStep.{meets}
+use Rattle.run_laws.proofs.HeardTells.{taken_peer}
+use Rattle.run_laws.proofs.SaidDown.{is_said, said_is}
 use Rattle.run_laws.proofs.SessionAnswers
 use Rattle.run_laws.proofs.SessionAnswers.{AnswerFits}
-use Rattle.step_facts.proofs.SessionFacts.{frame_found}
 use Rattle.run_laws.proofs.SessionOwn.{way_at}
-use Rattle.job_facts.proofs.Speaks.{hears}
-use Rattle.past_facts.proofs.Told.{on_parts, sends_member, sends_on}
 use Rattle.run_laws.proofs.WayCounts.{in_sender-is, way_in, way_out}
-use Rattle.step_facts.proofs.Ways.{is_answer}
-use Rattle.alone_drops.specs.Offers.{is_free}
-use Rattle.alone_drops.proofs.Since.{AddsLine, Beginning, Later, Since, calm_who, stepped_since, is_calm}
+use Rattle.cause_laws.proofs.Epochs.{client_end, none_sent}
+use Rattle.alone_drops.specs.Offers.{gives_hold, is_free}
+use Rattle.alone_drops.proofs.Since.{Beginning, Later, Since, calm_who, stepped_since, is_calm}
 use Rattle.alone_drops.proofs.Ends.{opened_since}
-use Rattle.alone_drops.proofs.Frames.{NewFrame, answer_new, frames_split, new_frame, newly}
-use Rattle.alone_drops.proofs.Rows.{now_since, own_time, row_since}
+use Rattle.alone_drops.proofs.Frames.{NewFrame, and_false, answer_new, frame_body, frames_split, new_frame, newly}
+use Rattle.alone_drops.proofs.Rows.{SameRow, clear_since, now_since, own_time, row_since, set_since}
+use Rattle.alone_drops.proofs.Sides.{Aims, peer_target}
+use Rattle.alone_drops.proofs.Sends.{by_job, version_said}
+use Rattle.alone_drops.proofs.Replies.{lock_gave, look_none, order_gave, version_asked, version_gave}
 
--- ---- a look that is refused
-
-order_apart : (deadline : Option ℕ) (k key : List ℕ) → Some (order_of deadline k) ≡ Some (CheckPresent key) → ⊥
-order_apart None k key e = cc
-order_apart (Some n) k key e = cc
-
-and_false : (d : Bool) → (d && false) ≡ false
-and_false true = refl
-and_false false = refl
-
--- the content isn't there, or a bar stands on it
-look_none : (h : Here) (doing : Doing) (asked : Option Message) (said : List FrameText) (key : List ℕ) (kind : EntryKind) → SessionAnswers.refuses_look kind ≡ true → is_calm kind ≡ true → asked ≡ Some (CheckPresent key)
-    → IsSessionEntry h doing asked said kind → (h.present key && option_is_none (h.bar key)) ≡ false
-look_none h doing asked said key (Check found.Absent k) r u is x = elim (x.1) [
-  | inl y ↦ elim y [
-    | inl q ↦ absurd (let bad : Some (LockContent k) ≡ Some (CheckPresent key) = sym q ∙ is in cc)
-    | inr q ↦ (let same : Some (CheckPresent k) ≡ Some (CheckPresent key) = sym q ∙ is in let at : k ≡ key = cc in let none : h.present key ≡ false = subst (λ n. h.present n ≡ false) at x.2 in rw none refl)
-  ]
-  | inr y ↦ absurd (order_apart y.0 k key (sym y.1 ∙ is))
-]
-look_none h doing asked said key (Check found.Barred k) r u is x = elim (x.1) [
-  | inl y ↦ elim y [
-    | inl q ↦ absurd (let bad : Some (LockContent k) ≡ Some (CheckPresent key) = sym q ∙ is in cc)
-    | inr q ↦ (let same : Some (CheckPresent k) ≡ Some (CheckPresent key) = sym q ∙ is in let at : k ≡ key = cc in
-        let barred : h.bar key ≡ Some x.2.0 = subst (λ n. h.bar n ≡ Some x.2.0) at x.2.1 in
-        ap (λ o. h.present key && option_is_none o) barred ∙ and_false (h.present key))
-  ]
-  | inr y ↦ absurd (order_apart y.0 k key (sym y.1 ∙ is))
-]
-look_none h doing asked said key (Fault call by) r u is x = absurd (cc)
-look_none h doing asked said key (Check found.Present k) r u is x = absurd (cc)
-look_none h doing asked said key (Check found.Held k) r u is x = absurd (cc)
-look_none h doing asked said key (Check found.Late k) r u is x = absurd (cc)
-look_none h doing asked said key (Check found.Nolock k) r u is x = absurd (cc)
-look_none h doing asked said key kind r u is x = absurd (cc)
+-- a frame that was sent has its entry
+frames_occur : (past : List Entry) (w : Way) (it : FlyingFrame) → Member it (frames_sent past w) → Occurs past it.entry it.before
+frames_occur [] w it m = absurd m
+frames_occur (e ∷ past) w it m = go (λ n. frames_occur past w it n) (is_of (sender_of w) e) m
+  where
+    go : (Member it (frames_sent past w) → Occurs past it.entry it.before) → (d : Bool) → Member it (if d then frames_sent past w ++ map (flying_frame e past) (on_way w e) else frames_sent past w) → Occurs (e ∷ past) it.entry it.before
+    go old true m = elim (Member-append_cases (frames_sent past w) (map (flying_frame e past) (on_way w e)) it m) [
+      | inl n ↦ inr (old n)
+      | inr n ↦ (let y = member_mapped (flying_frame e past) (on_way w e) it n in inl (ap (λ (v : FlyingFrame). v.entry) y.2, ap (λ (v : FlyingFrame). v.before) y.2))
+    ]
+    go old false m = inr (old m)
 
 last_member : {X : Type 0} (xs : List X) (x : X) → last_of xs ≡ Some x → Member x xs
 last_member [] x e = absurd (cc)
 last_member (y ∷ []) x e = inl (sym (same_Some y x e))
 last_member (y ∷ w ∷ ws) x e = inr (last_member (w ∷ ws) x e)
 
-module _ (reads_back : SentAreRead) (run : Run) (repos : Each IsSetUp run.repos) (past : List Entry) (b : Entry) (a j : ℕ) (what : Job) (z : Beginning run past b a j what) (h0 : RunPast (set_up run) (b ∷ past)) (local : drop_side what.kind what.peer ≡ Local) where
+module _ (reads_back : SentAreRead) (run : Run) (repos : Each IsSetUp run.repos) (past : List Entry) (b : Entry) (a j : ℕ) (what : Job) (z : Beginning run past b a j what) (h0 : RunPast (set_up run) (b ∷ past)) (side : Side) (to : ℕ) (aims : Aims a what side to) where
   abbrev base : List Entry
   base = b ∷ past
 
-  -- what is heard of a candidate fits its row as the drop began; of its own repository nothing is asked
+  -- what is heard of a candidate fits its row as the drop began
+  abbrev pub FitRow : ℕ → Jobs.Heard → Type 0
+  FitRow c (Jobs.Held since) = (is_free past c what.key ≡ true) × (gives_hold run.repos a c ≡ true) × (since ≡ b.time)
+  FitRow c Jobs.Seen = (is_free past c what.key ≡ true) × (gives_hold run.repos a c ≡ false)
+  FitRow c Jobs.Unseen = is_free past c what.key ≡ false
+  FitRow c (Jobs.Lacks cause) = (c ≡ a) × (is_free past a what.key ≡ false)
+
+  -- of the target nothing is asked, of a local drop of its own repository
   abbrev pub Fit : ℕ → Jobs.Heard → Type 0
-  Fit c (Jobs.Held since) = (is_free past c what.key ≡ true) × (since ≡ b.time)
-  Fit c Jobs.Seen = is_free past c what.key ≡ true
-  Fit c Jobs.Unseen = is_free past c what.key ≡ false
-  Fit c (Jobs.Lacks cause) = c ≡ a
+  Fit c h = c ≢ to → FitRow c h
 
   -- an answer that the job takes
   module _ (xs : List Entry) (h : RunPast (set_up run) (xs ++ base)) (t : Since run base xs) (e : Entry) (step : RunStep (set_up run) (xs ++ base) e) (own : is_of a e ≡ true) (x : Stepped (set_up run a) (xs ++ base) e)
@@ -199,19 +188,9 @@ module _ (reads_back : SentAreRead) (run : Run) (repos : Each IsSetUp run.repos)
         record { time_is = ap (λ r. r.time) both; line = ap (λ r. r.what) both }
 
     -- the request was sent since
-    new_request : answer.request.entry.time ≡ b.time
-    new_request = elim (Member-append_cases (frames_sent past w) (newly base xs w) answer.request (subst (Member answer.request) (frames_split reads_back run repos past b a j what z h0 xs w) sent)) [
-      | inl old ↦ absurd (subst (Member answer.request) (none_sent reads_back run repos past h0.1 a n f.epoch later) old)
-      | inr y ↦ (let g = new_frame run base xs h t w answer.request y in own_time (set_up run) (g.later.ys ++ base) answer.request.entry a g.later.step g.by ∙ now_since reads_back run repos past b a j what z h0 g.later.ys g.later.steps g.later.since)
-    ]
+    later : (end_at past a n).epoch < f.epoch
+    later = same (end_at past a n).epoch (end_at p a n).epoch f.epoch (opened_since reads_back run repos past b a j what z xs h a n refl k.opened) (may_epoch (end_at p a n) f unopened k.may).1
       where
-        w : Way
-        w = way_out a n f.epoch
-
-        sent : Member answer.request (frames_sent p w)
-        sent = (Member-filter_parts (λ (y : FlyingFrame). says is_request y.frame) (frames_sent p w) answer.request
-            (last_member (requests p w) answer.request (subst (λ v. last_request p (up_of v) ≡ Some answer.request) way answer.last))).0
-
         unopened : is_opening f.body ≡ false
         unopened = go (is_opening f.body) refl
           where
@@ -222,66 +201,179 @@ module _ (reads_back : SentAreRead) (run : Run) (repos : Each IsSetUp run.repos)
         same : (i v u : ℕ) → i < v → u ≡ v → i < u
         same i v u less is = omega (arith, less, is)
 
-        later : (end_at past a n).epoch < f.epoch
-        later = same (end_at past a n).epoch (end_at p a n).epoch f.epoch (opened_since reads_back run repos past b a j what z xs h a n refl k.opened) (may_epoch (end_at p a n) f unopened k.may).1
+    request_sent : Member answer.request (frames_sent p (way_out a n f.epoch))
+    request_sent = (Member-filter_parts (λ (y : FlyingFrame). says is_request y.frame) (frames_sent p (way_out a n f.epoch)) answer.request
+        (last_member (requests p (way_out a n f.epoch)) answer.request (subst (λ v. last_request p (up_of v) ≡ Some answer.request) way answer.last))).0
+
+    request_new : NewFrame run base (way_out a n f.epoch) answer.request
+    request_new = elim (Member-append_cases (frames_sent past w) (newly base xs w) answer.request (subst (Member answer.request) (frames_split reads_back run repos past b a j what z h0 xs w) request_sent)) [
+      | inl old ↦ absurd (subst (Member answer.request) (none_sent reads_back run repos past h0.1 a n f.epoch later) old)
+      | inr y ↦ new_frame run base xs h t w answer.request y
+    ]
+      where
+        w : Way
+        w = way_out a n f.epoch
+
+    new_request : answer.request.entry.time ≡ b.time
+    new_request = let g = request_new in own_time (set_up run) (g.later.ys ++ base) answer.request.entry a g.later.step g.by ∙ now_since reads_back run repos past b a j what z h0 g.later.ys g.later.steps g.later.since
 
     -- the sender took the request
     took_request : (time : ℕ) (asked : Message) → AskedSo time asked → line_in answer.g.body ≡ Some asked
     took_request time asked y = ap line_in (sym answer.body_is) ∙ y.line
 
-    free_by : HasFreeContent q c what.key → is_free past c what.key ≡ true
-    free_by row =
-        let r = row_since reads_back run repos past b a j what z h0 local l.ys l.steps l.since c (λ same. apart (sym same)) what.key in
-        sym (λ i. r.present_is i && option_is_none (r.bar_is i)) ∙ (λ i. row.there i && option_is_none (row.free i))
+    -- the session that answered
+    record Served : Type 0 where
+      pub r : ℕ
+      pub u : ℕ
+      pub y : TakesHere (set_up run c) q (server_end r u) it.entry
+      pub same : y.f ≡ answer.g
 
-    not_free_by : (present q c what.key && option_is_none (bar q c what.key)) ≡ false → is_free past c what.key ≡ false
-    not_free_by row =
-        let r = row_since reads_back run repos past b a j what z h0 local l.ys l.steps l.since c (λ same. apart (sym same)) what.key in
-        sym (λ i. r.present_is i && option_is_none (r.bar_is i)) ∙ row
+    served : Served
+    served = elim (calm_who (set_up run c) q part'.words it.entry part'.own l.calm.kind) [
+      | inl v ↦ absurd (subst (Member it.frame) v.sends_none among)
+      | inr v ↦ elim v [
+        | inl g ↦ by g.0 g.1 g.3
+        | inr g ↦ absurd (apart (sym (stepped_since run past b a j what z l.ys l.since c it.entry g).at))
+      ]
+    ]
+      where
+        by : (r u : ℕ) → TakesHere (set_up run c) q (server_end r u) it.entry ⊎ GivesHere (set_up run c) q (server_end r u) it.entry → Served
+        by r u (inl y) = record { r = r; u = u; y = y; same = same_Some y.f answer.g (sym y.taken_is ∙ answer.taken_is) }
+        by r u (inr y) = absurd (let bad : None ≡ Some answer.g = sym y.taken_is ∙ answer.taken_is in cc)
 
-    module _ (success : m ≡ Success) where
-      abbrev turn : InTurn c q it.entry it.frame
-      turn = (o.sends it.frame among).yes (on_parts (way_in a n f.epoch) _ it.frame (sends_on (way_in a n f.epoch) it.entry it.frame new.on)).up_is
-          (ap message_in may'.body_is ∙ said_is f.body Success (told ∙ ap Some success))
+    abbrev hh : Here
+    hh = here (set_up run c) (state_of (set_up run c) q) served.y.k (server_end served.r served.u)
 
-      turn_says : (time : ℕ) (asked : Message) → AskedSo time asked → message_in turn.f.body ≡ Says asked
-      turn_says time asked y =
-          let same : turn.f ≡ answer.g = same_Some turn.f answer.g (sym turn.takes_it ∙ answer.taken_is) in
-          ap (λ (g : FrameView). message_in g.body) same ∙ said_is answer.g.body asked (took_request time asked y)
+    abbrev was : Session
+    was = session_at_end q c (server_end served.r served.u)
 
-      lock_free : (time : ℕ) → AskedSo time (LockContent what.key) → is_free past c what.key ≡ true
-      lock_free time y = let g = turn.locked what.key (turn_says time (LockContent what.key) y) in free_by (o.share g.0 g.1 _ what.key g.2).row
+    -- what it does with this message
+    reply_is : (m0 : Message) → line_in answer.g.body ≡ Some m0 → on_frame hh was served.y.f.body ≡ on_message hh was.version was.doing m0
+    reply_is m0 line = go served.y.f.body (ap (λ (g : FrameView). line_in g.body) served.same ∙ line)
+      where
+        go : (body : FrameText) → line_in body ≡ Some m0 → on_frame hh was body ≡ on_message hh was.version was.doing m0
+        go (Line text) is = ap (on_text hh was) is
+        go Opening is = absurd (cc)
+        go Closing is = absurd (cc)
+        go (Bytes n') is = absurd (cc)
 
-      look_free : (time : ℕ) → AskedSo time (CheckPresent what.key) → is_free past c what.key ≡ true
-      look_free time y = free_by (o.look what.key (turn.looked what.key (turn_says time (CheckPresent what.key) y))).0
+    calm_reply : (m0 : Message) → line_in answer.g.body ≡ Some m0 → is_calm (on_message hh was.version was.doing m0).kind ≡ true
+    calm_reply m0 line = subst (λ (x' : Reply). is_calm x'.kind ≡ true) (reply_is m0 line) (subst (λ g. is_calm g ≡ true) served.y.kind_is l.calm.kind)
 
-    module _ (failure : m ≡ Failure) where
-      look_refused : (time : ℕ) → AskedSo time (CheckPresent what.key) → is_free past c what.key ≡ false
-      look_refused time y = not_free_by (by (calm_who (set_up run c) q part'.words it.entry part'.own l.calm.kind))
-        where
-          says_inj : {m n : Message} → Says m ≡ Says n → m ≡ n
-          says_inj e = cc
+    -- what it sent is what that says
+    sent_body : (m0 : Message) → line_in answer.g.body ≡ Some m0 → (body : FrameText) → (on_message hh was.version was.doing m0).says ≡ body ∷ [] → it.frame.body ≡ body
+    sent_body m0 line body one = elim (subst (Member it.frame.body) (ap (λ (x' : Reply). x'.says) (reply_is m0 line) ∙ one) (frame_body _ _ _ it.frame (subst (Member it.frame) served.y.sent_is among))) [
+      | inl same ↦ same
+      | inr none ↦ absurd none
+    ]
 
-          asked_is : answer.asked ≡ CheckPresent what.key
-          asked_is = says_inj (sym answer.asked_is ∙ said_is answer.request.frame.body (CheckPresent what.key) y.line)
+    hears_as : (body : FrameText) → it.frame.body ≡ body → line_in body ≡ Some m
+    hears_as body is = ap line_in (sym is ∙ may'.body_is) ∙ told
 
-          kind_fits : SessionAnswers.refuses_look it.entry.kind ≡ true
-          kind_fits = subst (λ q'. AnswerFits q' it.entry.kind Failure) asked_is (failure_fits answer.asked it.entry.kind (subst (λ v. SessionAnswers.Answering answer.asked it.entry.kind v) failure answer.answering))
+    -- ---- of a candidate
 
-          by : AddsLine it.entry ⊎ (BySessionAt (set_up run c) q it.entry ⊎ Stepped (set_up run c) q it.entry) → (present q c what.key && option_is_none (bar q c what.key)) ≡ false
-          by (inl v) = absurd (subst (Member it.frame) v.sends_none among)
-          by (inr (inr v)) = absurd (apart (sym (stepped_since run past b a j what z l.ys l.since c it.entry v).at))
-          by (inr (inl v)) = session v.0 v.1 v.3
-            where
-              session : (r u : ℕ) → TakesHere (set_up run c) q (server_end r u) it.entry ⊎ GivesHere (set_up run c) q (server_end r u) it.entry → (present q c what.key && option_is_none (bar q c what.key)) ≡ false
-              session r u (inr g) = absurd (let bad : None ≡ Some answer.g = sym g.taken_is ∙ answer.taken_is in cc)
-              session r u (inl g) =
-                  let hh = here (set_up run c) (state_of (set_up run c) q) g.k (server_end r u) in
-                  let was = session_at_end q c (server_end r u) in
-                  let same : g.f ≡ answer.g = same_Some g.f answer.g (sym g.taken_is ∙ answer.taken_is) in
-                  look_none hh was.doing (line_in g.f.body) (on_frame hh was g.f.body).says what.key (on_frame hh was g.f.body).kind
-                  (subst (λ v. SessionAnswers.refuses_look v ≡ true) g.kind_is kind_fits) (subst (λ v. is_calm v ≡ true) g.kind_is l.calm.kind)
-                  (ap (λ (v : FrameView). line_in v.body) same ∙ took_request time (CheckPresent what.key) y) (frame_found hh was g.f.body)
+    module _ (other : c ≢ to) where
+      row : SameRow reads_back run repos past b a j what z h0 side to aims q c what.key
+      row = row_since reads_back run repos past b a j what z h0 side to aims l.ys l.steps l.since c (λ same. apart (sym same)) other what.key
+
+      free_by : HasFreeContent q c what.key → is_free past c what.key ≡ true
+      free_by r = let y = row in sym (λ i. y.present_is i && option_is_none (y.bar_is i)) ∙ (λ i. r.there i && option_is_none (r.free i))
+
+      free_same : (present q c what.key && option_is_none (bar q c what.key)) ≡ is_free past c what.key
+      free_same = let y = row in λ i. y.present_is i && option_is_none (y.bar_is i)
+
+      gives_by : (d : Bool) → locks_in (slice_get run.repos c) ≡ d → gives_hold run.repos a c ≡ d
+      gives_by d is = ap (λ g. g || locks_in (slice_get run.repos c)) (eqb_other c a apart) ∙ is
+
+      module _ (success : m ≡ Success) where
+        turn : InTurn c q it.entry it.frame
+        turn = (o.sends it.frame among).yes (on_parts (way_in a n f.epoch) _ it.frame (sends_on (way_in a n f.epoch) it.entry it.frame new.on)).up_is
+            (ap message_in may'.body_is ∙ said_is f.body Success (told ∙ ap Some success))
+
+        turn_says : (time : ℕ) (asked : Message) → AskedSo time asked → message_in turn.f.body ≡ Says asked
+        turn_says time asked y =
+            let same : turn.f ≡ answer.g = same_Some turn.f answer.g (sym turn.takes_it ∙ answer.taken_is) in
+            ap (λ (g : FrameView). message_in g.body) same ∙ said_is answer.g.body asked (took_request time asked y)
+
+        lock_free : (time : ℕ) → AskedSo time (LockContent what.key) → (is_free past c what.key ≡ true) × (gives_hold run.repos a c ≡ true)
+        lock_free time y =
+            let g = turn.locked what.key (turn_says time (LockContent what.key) y) in
+            let found = subst (IsSessionEntry hh was.doing (line_in served.y.f.body) (on_frame hh was served.y.f.body).says) (sym served.y.kind_is ∙ g.2) (frame_found hh was served.y.f.body) in
+            (free_by (o.share g.0 g.1 _ what.key g.2).row, gives_by true found.locks)
+
+        look_free : (time : ℕ) → AskedSo time (CheckPresent what.key) → is_free past c what.key ≡ true
+        look_free time y = free_by (o.look what.key (turn.looked what.key (turn_says time (CheckPresent what.key) y))).0
+
+      module _ (failure : m ≡ Failure) where
+        says_inj : {m n : Message} → Says m ≡ Says n → m ≡ n
+        says_inj e = cc
+
+        look_refused : (time : ℕ) → AskedSo time (CheckPresent what.key) → is_free past c what.key ≡ false
+        look_refused time y =
+            let asked_is : answer.asked ≡ CheckPresent what.key = says_inj (sym answer.asked_is ∙ said_is answer.request.frame.body (CheckPresent what.key) y.line) in
+            let fits : SessionAnswers.refuses_look it.entry.kind ≡ true
+            = subst (λ q'. AnswerFits q' it.entry.kind Failure) asked_is (failure_fits answer.asked it.entry.kind (subst (λ v'. SessionAnswers.Answering answer.asked it.entry.kind v') failure answer.answering)) in
+            sym free_same ∙ look_none hh was.doing (line_in served.y.f.body) (on_frame hh was served.y.f.body).says what.key (on_frame hh was served.y.f.body).kind
+            (subst (λ v'. SessionAnswers.refuses_look v' ≡ true) served.y.kind_is fits) (subst (λ v'. is_calm v' ≡ true) served.y.kind_is l.calm.kind)
+            (ap (λ (v' : FrameView). line_in v'.body) served.same ∙ took_request time (CheckPresent what.key) y) (frame_found hh was served.y.f.body)
+
+        -- a lock is refused where the content isn't free, or no holds are given
+        lock_refused : (time : ℕ) → AskedSo time (LockContent what.key) → (is_free past c what.key && gives_hold run.repos a c) ≡ false
+        lock_refused time y = go (locks_in (slice_get run.repos c)) refl (present q c what.key) refl (bar q c what.key) refl
+          where
+            line : line_in answer.g.body ≡ Some (LockContent what.key)
+            line = took_request time (LockContent what.key) y
+
+            both : (free : Bool) → is_free past c what.key ≡ free → (d : Bool) → locks_in (slice_get run.repos c) ≡ d → (free && d) ≡ false → (is_free past c what.key && gives_hold run.repos a c) ≡ false
+            both free f d g e = (λ i. f i && gives_by d g i) ∙ e
+
+            go : (d : Bool) → locks_in (slice_get run.repos c) ≡ d → (p' : Bool) → present q c what.key ≡ p' → (o' : Option ℕ) → bar q c what.key ≡ o' → (is_free past c what.key && gives_hold run.repos a c) ≡ false
+            go false g p' is o' bo = both (is_free past c what.key) refl false g (and_false (is_free past c what.key))
+            go true g false is o' bo = both false (sym free_same ∙ (λ i. is i && option_is_none (bo i))) true g refl
+            go true g true is (Some i) bo = both false (sym free_same ∙ (λ n'. is n' && option_is_none (bo n'))) true g refl
+            go true g true is None bo =
+                let said = lock_gave hh was.version was.doing what.key (calm_reply (LockContent what.key) line) g is bo in
+                let bad : Some Success ≡ Some Failure = sym (reads_back Success tt tt) ∙ (hears_as (Line (text_of Success)) (sent_body (LockContent what.key) line (Line (text_of Success)) said) ∙ ap Some failure) in
+                absurd (cc)
+
+    -- ---- of the target
+
+    now_is : it.entry.time ≡ b.time
+    now_is = own_time (set_up run) q it.entry c l.step by_c ∙ now_since reads_back run repos past b a j what z h0 l.ys l.steps l.since
+
+    clock_is : clock run.repos q c ≡ clock run.repos past c
+    clock_is = ap runs_on (set_since reads_back run repos past b a j what z h0 side to aims l.ys l.since c (λ same. apart (sym same)))
+
+    -- its timestamp is its clock's
+    pub time_told : (seconds : ℕ) → m ≡ Timestamp seconds → seconds ≡ clock run.repos past c b.time / 1000
+    time_told seconds is = (o.sends it.frame among).time seconds (ap message_in may'.body_is ∙ said_is f.body (Timestamp seconds) (told ∙ ap Some is)) ∙ (λ i. clock_is i (now_is i) / 1000)
+
+    -- it answers the version that it is asked for
+    pub version_told : (k' : ℕ) → m ≡ Version k' → version_in (slice_get run.repos c) ≡ 3 → k' ≡ 3
+    version_told k' is three =
+        let y = subst (λ m'. SessionAnswers.Answering answer.asked it.entry.kind m') is answer.answering in
+        let asked = version_asked answer.asked it.entry.kind y.m k' y.fits y.alike in
+        let line : line_in answer.request.frame.body ≡ Some (Version asked.0) = is_said answer.request.frame.body (Version asked.0) (answer.asked_is ∙ ap Says asked.1) in
+        let said = version_said reads_back run repos past b a j what z h0 side to aims c a x.w.slot f.epoch answer.request request_new asked.0 line in
+        let line3 : line_in answer.g.body ≡ Some (Version 3) = ap line_in (sym answer.body_is) ∙ (line ∙ ap (λ k'. Some (Version k')) said) in
+        let body = sent_body (Version 3) line3 (Line (text_of (Version (min 3 hh.version)))) (version_gave hh was.version was.doing 3 (calm_reply (Version 3) line3)) in
+        number (sym (reads_back (Version 3) (omega arith) tt) ∙ (ap (λ k'. message_of (text_of (Version (min 3 k')))) (sym three) ∙ (hears_as (Line (text_of (Version (min 3 hh.version)))) body ∙ ap Some is)))
+      where
+        number : Some (Version 3) ≡ Some (Version k') → k' ≡ 3
+        number e = cc
+
+    -- it obeys an order, where nothing comes in the way
+    module _ (failure : m ≡ Failure) (remote : side ≡ Remote) (at : c ≡ to) (free : bar past to what.key ≡ None) (unheld : is_blocked (holds past to) what.key (clock run.repos past to b.time) ≡ false) where
+      order_obeyed : (time : ℕ) (deadline : Option ℕ) → AskedSo time (order_of deadline what.key) → ((d : ℕ) → deadline ≡ Some d → nat_lt (clock run.repos past to b.time) (1000 * d) ≡ true) → ⊥
+      order_obeyed time deadline y soon =
+          let line = took_request time (order_of deadline what.key) y in
+          let clear = clear_since reads_back run repos past b a j what z h0 side to aims remote what.key free unheld l.ys l.steps l.since in
+          let now : clock run.repos q c served.y.k.time ≡ clock run.repos past to b.time = (λ i. clock_is i ((sym served.y.time_is ∙ now_is) i)) ∙ ap (λ n'. clock run.repos past n' b.time) at in
+          let no_bar : bar q c what.key ≡ None = ap (λ n'. bar q n' what.key) at ∙ clear.free in
+          let no_hold : is_blocked (holds q c) what.key (clock run.repos q c served.y.k.time) ≡ false = (λ i. is_blocked (holds q (at i)) what.key (now i)) ∙ clear.unheld in
+          let says = order_gave hh was.version was.doing deadline what.key (calm_reply (order_of deadline what.key) line) no_bar no_hold (λ d is. ap (λ n'. nat_lt n' (1000 * d)) now ∙ soon d is) in
+          let bad : Some Success ≡ Some Failure = sym (reads_back Success tt tt) ∙ (hears_as (Line (text_of Success)) (sent_body (order_of deadline what.key) line (Line (text_of Success)) says) ∙ ap Some failure) in
+          absurd (cc)
 
     -- ---- by the phase
 
@@ -296,19 +388,59 @@ module _ (reads_back : SentAreRead) (run : Run) (repos : Each IsSetUp run.repos)
       partner_at peer phase is on = same_Some peer c (sym on ∙ ap (Jobs.partner x.w.what.peer) (sym is) ∙ k.on)
 
       pub heard_lock : (peer since : ℕ) → x.w.phase ≡ AsksLock peer since → m ≡ Success → Fit peer (Jobs.Held since)
-      heard_lock peer since is success =
+      heard_lock peer since is success off =
           let at = partner_at peer (AsksLock peer since) is refl in
           let y = asked_so since (LockContent what.key) (last_at (AsksLock peer since) is at) in
-          (subst (λ v. is_free past v what.key ≡ true) (sym at) (lock_free success since y), sym y.time_is ∙ new_request)
+          let g = lock_free (subst (λ v'. v' ≢ to) at off) success since y in
+          (subst (λ v'. is_free past v' what.key ≡ true) (sym at) g.0, subst (λ v'. gives_hold run.repos a v' ≡ true) (sym at) g.1, sym y.time_is ∙ new_request)
 
-      pub heard_look : (peer : ℕ) → x.w.phase ≡ AsksLook peer → m ≡ Success → Fit peer Jobs.Seen
-      heard_look peer is success =
+      pub heard_look : (peer : ℕ) → x.w.phase ≡ AsksLook peer → m ≡ Success → peer ≢ to → is_free past peer what.key ≡ true
+      heard_look peer is success off =
           let at = partner_at peer (AsksLook peer) is refl in
           let g = last_at (AsksLook peer) is at in
-          subst (λ v. is_free past v what.key ≡ true) (sym at) (look_free success g.0 (asked_so g.0 (CheckPresent what.key) g.1))
+          subst (λ v'. is_free past v' what.key ≡ true) (sym at) (look_free (subst (λ v'. v' ≢ to) at off) success g.0 (asked_so g.0 (CheckPresent what.key) g.1))
 
       pub heard_none : (peer : ℕ) → x.w.phase ≡ AsksLook peer → m ≡ Failure → Fit peer Jobs.Unseen
-      heard_none peer is failure =
+      heard_none peer is failure off =
           let at = partner_at peer (AsksLook peer) is refl in
           let g = last_at (AsksLook peer) is at in
-          subst (λ v. is_free past v what.key ≡ false) (sym at) (look_refused failure g.0 (asked_so g.0 (CheckPresent what.key) g.1))
+          subst (λ v'. is_free past v' what.key ≡ false) (sym at) (look_refused (subst (λ v'. v' ≢ to) at off) failure g.0 (asked_so g.0 (CheckPresent what.key) g.1))
+
+      pub heard_refused : (peer since : ℕ) → x.w.phase ≡ AsksLock peer since → m ≡ Failure → peer ≢ to → (is_free past peer what.key && gives_hold run.repos a peer) ≡ false
+      heard_refused peer since is failure off =
+          let at = partner_at peer (AsksLock peer since) is refl in
+          let y = asked_so since (LockContent what.key) (last_at (AsksLock peer since) is at) in
+          subst (λ v'. (is_free past v' what.key && gives_hold run.repos a v') ≡ false) (sym at) (lock_refused (subst (λ v'. v' ≢ to) at off) failure since y)
+
+      -- the target obeys the order
+      pub order_heard : side ≡ Remote → x.w.phase ≡ Jobs.Orders → m ≡ Failure → bar past to what.key ≡ None → is_blocked (holds past to) what.key (clock run.repos past to b.time) ≡ false
+          → ((x' : Entry) (before : List Entry) → Occurs p x' before → is_of a x' ≡ true → (goal : ℕ) (d : Option ℕ) (need : Need) (key : List ℕ) → x'.kind ≡ Order j goal d need key → (n' : ℕ) → d ≡ Some n' → nat_lt (clock run.repos past to b.time) (1000 * n') ≡ true) → ⊥
+      order_heard remote is failure free unheld timely = order_obeyed failure remote at free unheld g.0 g.1 y (timely answer.request.entry answer.request.before (frames_occur p (way_out a n f.epoch) answer.request request_sent) request_new.by answer.request.frame.peer g.1 order.1 what.key kind)
+        where
+          on : x.w.what.peer ≡ Some c
+          on = ap (Jobs.partner x.w.what.peer) (sym is) ∙ k.on
+
+          at : c ≡ to
+          at = peer_target a what side to aims remote c (ap (λ (g : Job). g.peer) (sym same_key) ∙ on)
+
+          g : (time : ℕ) × (deadline : Option ℕ) × (option_map asked_by (last_request p (up_of (way_of a f))) ≡ Some (request time (Some (order_of deadline what.key))))
+          g = last_at Jobs.Orders is on
+
+          y : AskedSo g.0 (order_of g.1 what.key)
+          y = asked_so g.0 (order_of g.1 what.key) g.2
+
+          l' : Later run base answer.request.entry answer.request.before
+          l' = request_new.later
+
+          order : (i : ℕ) × (need : Need) × (answer.request.entry.kind ≡ Order i answer.request.frame.peer g.1 need what.key)
+          order = (((meets reads_back run repos (l'.ys ++ base) answer.request.entry l'.steps l'.step).own a request_new.by).sends answer.request.frame (sends_member (way_out a n f.epoch) answer.request.entry answer.request.frame request_new.on)).order g.1 what.key
+              (said_is answer.request.frame.body (order_of g.1 what.key) y.line)
+
+          by : Stepped (set_up run a) (l'.ys ++ base) answer.request.entry
+          by = by_job reads_back run repos past b a j what z h0 side to aims c a x.w.slot f.epoch answer.request request_new
+
+          number : order.0 ≡ j
+          number = (kind_of (set_up run a) (l'.ys ++ base) answer.request.entry by (Order order.0 answer.request.frame.peer g.1 order.1 what.key) order.2).number_is ∙ (stepped_since run past b a j what z l'.ys l'.since a answer.request.entry by).number_is
+
+          kind : answer.request.entry.kind ≡ Order j answer.request.frame.peer g.1 order.1 what.key
+          kind = order.2 ∙ ap (λ i. Order i answer.request.frame.peer g.1 order.1 what.key) number

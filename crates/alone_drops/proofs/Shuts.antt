@@ -1,11 +1,11 @@
 -- While a drop runs alone no end of its connections is closed.
-use Rattle.std.proofs.Common.{◌≡◌, ◌≢◌, ℕ, ◌+◌, ◌≤◌, true, false, List, [], ◌∷◌, ◌++◌, Option, Some, None, ◌⊎◌, inl, inr, refl, sym, ap, ◌∙◌, subst, arith}
 use Rattle.std.specs.Prelude.{◌&&◌, ◌==◌}
+use Rattle.std.proofs.Common.{◌≡◌, ◌≢◌, ℕ, ◌+◌, ◌≤◌, true, false, List, [], ◌∷◌, ◌++◌, Option, Some, None, inl, inr, refl, sym, ap, ◌∙◌, subst, arith}
 use Rattle.std.proofs.lemmas.Bool.{true≢false, and_parts, eqb-true}
 use Rattle.annex_base.specs.Lists.{Each, Member}
-use Rattle.annex_base.proofs.Lists.{Each-member, list_any_found}
 use Rattle.annex_base.specs.declared.kinds.Found.{Found}
 use Rattle.annex_base.specs.declared.kinds.Found.TheVariants as found
+use Rattle.annex_base.proofs.Lists.{Each-member, list_any_found}
 use Rattle.run_data.specs.declared.entry.Entry.{Entry}
 use Rattle.run_data.specs.declared.entry.EntryKind.{EntryKind}
 use Rattle.run_data.specs.declared.entry.EntryKind.TheVariants.{Begin, Gain, Share, Release, Check, Gone, Talk, Close, Fault}
@@ -17,38 +17,36 @@ use Rattle.run_data.specs.declared.run.Run.{Run}
 use Rattle.run_data.specs.Repos.{IsSetUp}
 use Rattle.p2p_wire.specs.declared.message.Message.{Message}
 use Rattle.p2p_wire.specs.Messages.{message_of}
-use Rattle.node_model.specs.Ends.{End, EndName, frames, end_sends, server_end}
 use Rattle.node_model.specs.Found.{IsSessionEntry, SaysTalk}
 use Rattle.node_model.specs.Jobs.{Work, running_job}
 use Rattle.node_model.specs.Rows.{option_is}
-use Rattle.node_model.specs.Sessions.{Doing, line_in}
-use Rattle.node_model.specs.SessionStep.{Here, here, on_frame}
+use Rattle.node_model.specs.Sessions.{Doing}
+use Rattle.node_model.specs.SessionStep.{Here}
 use Rattle.node_model.specs.Slots.{RunningJob, job_of}
 use Rattle.run_model.specs.Causes.{ClosedWith, Closes, HearsMessage}
 use Rattle.run_model.specs.Frames.{FlyingFrame, MayTake, is_job}
 use Rattle.run_model.specs.Past.{Occurs, begun_count, is_of, jobs}
 use Rattle.run_model.specs.Run.{RunPast, RunStep, set_up}
-use Rattle.run_model.specs.Said.{CloseIt, message_in, said_line}
-use Rattle.run_model.specs.States.{session as session_at_end, state_of, works}
-use Rattle.past_facts.proofs.OwnRuns.{step_at, Part, own_past, part_of}
+use Rattle.run_model.specs.Said.{CloseIt, Said, message_in, said_line}
+use Rattle.run_model.specs.States.{works}
 use Rattle.step_facts.proofs.Below.{SentAreRead}
-use Rattle.cause_laws.proofs.Epochs.{client_end}
-use Rattle.run_laws.proofs.FromStep.{meets}
-use Rattle.past_facts.proofs.PlaceParts.{begun_more}
 use Rattle.step_facts.proofs.JobKept.{jobs_are}
-use Rattle.step_facts.proofs.JobSteps.{Stepped, stepped_job, stepped_runs}
+use Rattle.step_facts.proofs.JobSteps.{stepped_job, stepped_runs}
 use Rattle.step_facts.proofs.Makers.{TakenBy, taken_of, taker}
-use Rattle.run_laws.proofs.HeardTells.{taken_peer}
 use Rattle.step_facts.proofs.Plain.{member_mapped}
-use Rattle.step_facts.proofs.ServerEnds.{BySessionAt, GivesHere, TakesHere}
-use Rattle.step_facts.proofs.SessionFacts.{frame_found, gives_found}
-use Rattle.run_laws.proofs.SessionOwn.{way_at}
-use Rattle.past_facts.proofs.Told.{sends_member}
-use Rattle.run_laws.proofs.WayCounts.{in_sender-is, way_in}
 use Rattle.step_facts.proofs.WorkNumbers.{number_begun}
-use Rattle.alone_drops.proofs.Since.{AddsLine, Beginning, Later, Since, calm_who, split, stepped_since, is_calm}
+use Rattle.past_facts.proofs.OwnRuns.{step_at, Part, own_past, part_of}
+use Rattle.past_facts.proofs.PlaceParts.{begun_more}
+use Rattle.past_facts.proofs.Told.{sends_member}
+use Rattle.run_laws.proofs.FromStep.{meets}
+use Rattle.run_laws.proofs.HeardTells.{taken_peer}
+use Rattle.run_laws.proofs.SessionOwn.{way_at}
+use Rattle.run_laws.proofs.WayCounts.{in_sender-is, way_in}
+use Rattle.cause_laws.proofs.Epochs.{client_end}
+use Rattle.alone_drops.proofs.Since.{Beginning, Later, Since, split, is_calm}
 use Rattle.alone_drops.proofs.Ends.{quietly}
 use Rattle.alone_drops.proofs.Frames.{NewFrame, answer_new}
+use Rattle.alone_drops.proofs.Rows.{who}
 
 -- ---- what a session says that makes no Close and no fault
 
@@ -88,12 +86,6 @@ session_open h doing asked says (Talk None) u x = talk_open _ says x
 session_open h doing asked says (Close peer slot client) u x = absurd (cc)
 session_open h doing asked says (Fault call by) u x = absurd (cc)
 session_open h doing asked says kind u x = absurd x
-
--- a frame that an end sends has one of these bodies
-pub frame_body : (n : EndName) (c : End) (bodies : List FrameText) (g : FrameView) → Member g (frames n c bodies) → Member g.body bodies
-frame_body n c [] g m = absurd m
-frame_body n c (body ∷ bodies) g (inl m) = inl (ap (λ (f : FrameView). f.body) m)
-frame_body n c (body ∷ bodies) g (inr m) = inr (frame_body n (end_sends c body) bodies g m)
 
 line_closes : (o : Option Message) → said_line o ≡ CloseIt → ⊥
 line_closes None e = cc
@@ -140,7 +132,10 @@ module _ (reads_back : SentAreRead) (run : Run) (repos : Each IsSetUp run.repos)
 
   -- nobody hears a Close
   no_close : (xs : List Entry) → RunPast (set_up run) (xs ++ base) → Since run base xs → (e : Entry) → RunStep (set_up run) (xs ++ base) e → is_job a j e ≡ true → (f : FrameView) → e.taken ≡ Some f → f.up ≡ false → message_in f.body ≡ CloseIt → ⊥
-  no_close xs h t e step mine f took down says = by (calm_who (set_up run c) q part'.words it.entry part'.own l.calm.kind)
+  no_close xs h t e step mine f took down says = elim (who reads_back run repos past b a j what z h0 l.ys l.steps l.since c (λ same. apart (sym same)) it.entry l.step l.calm.kind by_c) [
+    | inl y ↦ subst (Member it.frame) y.sends_none among
+    | inr y ↦ Each-member (λ (s : FrameText). s ≢ Closing) y.says it.frame.body (session_open y.hh y.doing y.asked y.says it.entry.kind l.calm.kind y.found) (y.sent it.frame among) body
+  ]
     where
       p : List Entry
       p = xs ++ base
@@ -172,14 +167,8 @@ module _ (reads_back : SentAreRead) (run : Run) (repos : Each IsSetUp run.repos)
       l : Later run base it.entry it.before
       l = new.later
 
-      q : List Entry
-      q = l.ys ++ base
-
       by_c : is_of c it.entry ≡ true
       by_c = subst (λ m. is_of m it.entry ≡ true) (in_sender-is a (client_end c k.w.slot) f.epoch) new.by
-
-      part' : Part (set_up run) q c it.entry
-      part' = part_of (set_up run) q it.entry c l.step by_c
 
       among : Member it.frame it.entry.sent
       among = sends_member (way_in a (client_end c k.w.slot) f.epoch) it.entry it.frame new.on
@@ -187,42 +176,23 @@ module _ (reads_back : SentAreRead) (run : Run) (repos : Each IsSetUp run.repos)
       body : it.frame.body ≡ Closing
       body = may.body_is ∙ close_is f.body says
 
-      off : (n : EndName) (d : End) (said : List FrameText) → it.entry.sent ≡ frames n d said → NoClosing said → ⊥
-      off n d said is open' = Each-member (λ (t : FrameText). t ≢ Closing) said it.frame.body open' (frame_body n d said it.frame (subst (Member it.frame) is among)) body
-
-      by : AddsLine it.entry ⊎ (BySessionAt (set_up run c) q it.entry ⊎ Stepped (set_up run c) q it.entry) → ⊥
-      by (inl y) = subst (Member it.frame) y.sends_none among
-      by (inr (inl y)) = session y.0 y.1 y.3
-        where
-          session : (x r : ℕ) → TakesHere (set_up run c) q (server_end x r) it.entry ⊎ GivesHere (set_up run c) q (server_end x r) it.entry → ⊥
-          session x r (inl v) =
-              let hh = here (set_up run c) (state_of (set_up run c) q) v.k (server_end x r) in
-              let was = session_at_end q c (server_end x r) in
-              off (server_end x r) _ _ v.sent_is (session_open hh was.doing (line_in v.f.body) (on_frame hh was v.f.body).says (on_frame hh was v.f.body).kind (subst (λ m. is_calm m ≡ true) v.kind_is l.calm.kind) (frame_found hh was v.f.body))
-          session x r (inr v) =
-              let hh = here (set_up run c) (state_of (set_up run c) q) v.k (server_end x r) in
-              off (server_end x r) _ _ v.sent_is (session_open hh (session_at_end q c (server_end x r)).doing None v.x.says v.x.kind (subst (λ m. is_calm m ≡ true) v.kind_is l.calm.kind) (gives_found hh (session_at_end q c (server_end x r)).doing v.x v.next))
-      by (inr (inr y)) = apart (sym (stepped_since run past b a j what z l.ys l.since c it.entry y).at)
-
-  never_hears : (xs : List Entry) → RunPast (set_up run) (xs ++ base) → Since run base xs → (peer : ℕ) → HearsMessage (xs ++ base) a j peer CloseIt → ⊥
-  never_hears xs h t peer x = elim (split run base xs h t x.entry x.before x.occurs) [
-    | inr l ↦ no_close l.ys l.steps l.since x.entry l.step x.own x.f x.takes_it x.down x.says
-    | inl o ↦ before o
-  ]
+  -- what it heard came since
+  pub heard_since : (xs : List Entry) → RunPast (set_up run) (xs ++ base) → Since run base xs → (peer : ℕ) (m : Said) (x : HearsMessage (xs ++ base) a j peer m) → Later run base x.entry x.before
+  heard_since xs h t peer m x = elim (split run base xs h t x.entry x.before x.occurs) [ inr l ↦ l | inl o ↦ absurd (before o) ]
     where
-      own : is_of a x.entry ≡ true
-      own = (and_parts (is_of a x.entry) (option_is (job_of x.entry.kind) j) x.own).0
-
-      number : option_is (job_of x.entry.kind) j ≡ true
-      number = (and_parts (is_of a x.entry) (option_is (job_of x.entry.kind) j) x.own).1
+      own : (is_of a x.entry ≡ true) × (option_is (job_of x.entry.kind) j ≡ true)
+      own = and_parts (is_of a x.entry) (option_is (job_of x.entry.kind) j) x.own
 
       before : Occurs base x.entry x.before → ⊥
       before (inl o) = let none : x.entry.taken ≡ None = ap (λ (y : Entry). y.taken) o.0 ∙ (quietly reads_back run repos past b a j what z h0).takes_none in let bad : None ≡ Some x.f = sym none ∙ x.takes_it in cc
       before (inr o) =
           let at = step_at run past x.entry x.before h0.1 o in
-          let part = part_of (set_up run) x.before x.entry a at.0 own in
+          let part = part_of (set_up run) x.before x.entry a at.0 own.0 in
           let y = taker (set_up run a) x.before part.words x.entry part.own x.f x.takes_it x.down in
-          no_work x.entry x.before o y.w (stepped_runs (set_up run a) x.before x.entry y) (is_number x.entry.kind y.w.number j (stepped_job (set_up run a) x.before x.entry y) number)
+          no_work x.entry x.before o y.w (stepped_runs (set_up run a) x.before x.entry y) (is_number x.entry.kind y.w.number j (stepped_job (set_up run a) x.before x.entry y) own.1)
+
+  never_hears : (xs : List Entry) → RunPast (set_up run) (xs ++ base) → Since run base xs → (peer : ℕ) → HearsMessage (xs ++ base) a j peer CloseIt → ⊥
+  never_hears xs h t peer x = let l = heard_since xs h t peer CloseIt x in no_close l.ys l.steps l.since x.entry l.step x.own x.f x.takes_it x.down x.says
 
   never_closes : (xs : List Entry) → RunPast (set_up run) (xs ++ base) → Since run base xs → (peer : ℕ) → Closes (xs ++ base) a j peer → ⊥
   never_closes xs h t peer x = elim (split run base xs h t x.entry x.before x.occurs) [

@@ -1,27 +1,28 @@
--- What a local drop that runs alone knows, against what its candidates offered as it began.
-use Rattle.std.proofs.Common.{◌≡◌, ◌≢◌, ℕ, ◌+◌, Bool, true, false, not, List, [], ◌∷◌, Option, Some, None, refl, sym, ap, ◌∙◌, subst, arith}
-use Rattle.std.specs.Prelude.{◌==◌, find, fold, length, min, option_map, unwrap_or}
+-- What a drop that runs alone knows, against what its candidates offered as it began.
+use Rattle.std.specs.Prelude.{◌==◌, find, fold, length, max, min, option_map, unwrap_or}
 use Rattle.std.specs.List.{reduce, range_with_len}
+use Rattle.std.proofs.Common.{◌≡◌, ◌≢◌, ℕ, ◌+◌, ◌≤◌, Bool, true, false, not, List, [], ◌∷◌, Option, Some, None, inl, inr, refl, sym, ap, ◌∙◌, subst, arith}
 use Rattle.std.proofs.lemmas.Bool.{true≢false, eqb-true}
 use Rattle.std.proofs.lemmas.Bool.Decides.{nat_tests}
 use Rattle.std.proofs.lemmas.Option.{same_Some}
 use Rattle.annex_base.specs.Lists.{Each, Member}
-use Rattle.annex_base.proofs.Conditions.{eqb_refl}
-use Rattle.annex_base.proofs.Lists.{Each-always, Each-member, Member-filter_parts, find_member, find_nowhere}
+use Rattle.annex_base.proofs.Conditions.{eqb_refl, if_either}
+use Rattle.annex_base.proofs.Lists.{Each-from_members, Each-member, Member-filter_parts, find_member, find_nowhere}
 use Rattle.drop_proof.specs.declared.evidence.Evidence.{Evidence}
 use Rattle.drop_proof.specs.declared.evidence.Kind.{Kind}
 use Rattle.drop_proof.specs.declared.evidence.Kind.TheVariants.{Locked, Trusted, Recent}
 use Rattle.drop_proof.specs.declared.rule.Side.{Side}
-use Rattle.drop_proof.specs.declared.rule.Side.TheVariants.{Local}
-use Rattle.drop_proof.specs.Judging.{end_of_kind, ends, is_enough, least_end}
+use Rattle.drop_proof.specs.declared.rule.Side.TheVariants.{Local, Remote}
+use Rattle.drop_proof.specs.Judging.{end_of_kind, ends, is_enough, is_full_kind, least_end}
 use Rattle.run_data.specs.declared.entry.Entry.{Entry}
 use Rattle.run_data.specs.declared.job.Job.{Job}
 use Rattle.run_data.specs.declared.run.Run.{Run}
+use Rattle.run_data.specs.declared.run.RepoView.{RepoView}
 use Rattle.run_data.specs.Repos.{IsSetUp, id_of}
 use Rattle.node_model.specs.Clocks.{hold_time}
-use Rattle.node_model.specs.Evidence.{Standing, Claimed, Ignored, Asked, Offer, Gives, Fails, candidates, gather, reached_candidates, standing_by}
+use Rattle.node_model.specs.Evidence.{Standing, Claimed, Ignored, Asked, Offer, Gives, Fails, but, pick, candidates, gather, reached_candidates, standing_by}
 use Rattle.node_model.specs.Jobs
-use Rattle.node_model.specs.Jobs.{Heard, Work, drop_side, heard_of, side_of, target_of}
+use Rattle.node_model.specs.Jobs.{Heard, Work, drop_side, heard_of, or_own, side_of, target_of}
 use Rattle.node_model.specs.Knows.{Reading, asks_by, candidates_by, enough_by, is_unasked, known_by, knows_by, need_of, next_by, offer_by, reading, standing_of, need_by}
 use Rattle.node_model.specs.SetUp.{SetUp}
 use Rattle.node_model.specs.State.{State}
@@ -30,31 +31,38 @@ use Rattle.run_model.specs.Run.{RunPast, set_up, job_paths}
 use Rattle.run_model.specs.States.{state_of}
 use Rattle.step_facts.proofs.Below.{SentAreRead}
 use Rattle.past_facts.proofs.Gather.{gather_each}
-use Rattle.alone_drops.specs.Offers.{OffersSuffice, gives_hold, is_free, is_offer, need_at, offer_at, offered}
+use Rattle.alone_drops.specs.Offers.{AClaim, ALock, ALook, Nothing, Offered, OffersSuffice, count_offers, gives_hold, is_free, is_full_offer, is_offer, need_at, offer_at, offered}
 use Rattle.alone_drops.proofs.Since.{Beginning}
+use Rattle.alone_drops.proofs.Sides.{Aims, own_target}
 use Rattle.alone_drops.proofs.Heard.{Fit}
-use Rattle.alone_drops.proofs.Judging.{lacks, suffices}
+use Rattle.alone_drops.proofs.Judging.{lacks, passes, suffices}
 
 -- ---- one candidate
 
--- what was heard fits whether the content is free there
-abbrev FitsRow : Bool → Heard → Type 0
-FitsRow free (Jobs.Held since) = free ≡ true
-FitsRow free Jobs.Seen = free ≡ true
-FitsRow free Jobs.Unseen = free ≡ false
-FitsRow free (Jobs.Lacks cause) = ⊥
+-- what was heard fits whether the content is free there, and whether holds are given
+abbrev FitsRow : Bool → Bool → Heard → Type 0
+FitsRow free holds (Jobs.Held since) = (free ≡ true) × (holds ≡ true)
+FitsRow free holds Jobs.Seen = (free ≡ true) × (holds ≡ false)
+FitsRow free holds Jobs.Unseen = free ≡ false
+FitsRow free holds (Jobs.Lacks cause) = free ≡ false
 
-asked_offer : (free holds : Bool) → free ≡ true → is_offer (offered Asked free holds) ≡ true
-asked_offer true true e = refl
-asked_offer true false e = refl
-asked_offer false holds e = absurd (cc)
+-- it is an offer, and full where the kind is
+abbrev IsAsGiven : Offered → Kind → Type 0
+IsAsGiven offer kind = (is_offer offer ≡ true) × (is_full_kind kind ≡ is_full_offer offer)
 
-given_offer : (clock : ℕ → ℕ) (standing : Standing) (o : Option Heard) (free holds : Bool) (kind : Kind) → ((h : Heard) → o ≡ Some h → FitsRow free h) → offer_by clock standing o ≡ Gives kind → is_offer (offered standing free holds) ≡ true
-given_offer clock Claimed o free holds kind fits e = refl
+full_kind : Offer → Bool
+full_kind (Gives kind) = is_full_kind kind
+full_kind Fails = false
+
+given_offer : (clock : ℕ → ℕ) (standing : Standing) (o : Option Heard) (free holds : Bool) (kind : Kind) → ((h : Heard) → o ≡ Some h → FitsRow free holds h) → offer_by clock standing o ≡ Gives kind → IsAsGiven (offered standing free holds) kind
+unfolding full_kind
+given_offer clock Claimed o free holds kind fits e = (refl, sym (ap full_kind e))
 given_offer clock (Ignored cause) o free holds kind fits e = absurd (cc)
 given_offer clock Asked None free holds kind fits e = absurd (cc)
-given_offer clock Asked (Some (Jobs.Held since)) free holds kind fits e = asked_offer free holds (fits (Jobs.Held since) refl)
-given_offer clock Asked (Some Jobs.Seen) free holds kind fits e = asked_offer free holds (fits Jobs.Seen refl)
+given_offer clock Asked (Some (Jobs.Held since)) free holds kind fits e = let f = fits (Jobs.Held since) refl in
+    (ap (λ d. is_offer (offered Asked d holds)) f.0 ∙ ap (λ d. is_offer (offered Asked true d)) f.1, sym (ap full_kind e) ∙ sym (ap (λ d. is_full_offer (offered Asked d holds)) f.0 ∙ ap (λ d. is_full_offer (offered Asked true d)) f.1))
+given_offer clock Asked (Some Jobs.Seen) free holds kind fits e = let f = fits Jobs.Seen refl in
+    (ap (λ d. is_offer (offered Asked d holds)) f.0 ∙ ap (λ d. is_offer (offered Asked true d)) f.1, sym (ap full_kind e) ∙ sym (ap (λ d. is_full_offer (offered Asked d holds)) f.0 ∙ ap (λ d. is_full_offer (offered Asked true d)) f.1))
 given_offer clock Asked (Some Jobs.Unseen) free holds kind fits e = absurd (cc)
 given_offer clock Asked (Some (Jobs.Lacks cause)) free holds kind fits e = absurd (cc)
 
@@ -62,7 +70,7 @@ no_offer : (free holds : Bool) → free ≡ false → is_offer (offered Asked fr
 no_offer true holds e f = true≢false e
 no_offer false holds e f = cc
 
-offer_given : (clock : ℕ → ℕ) (standing : Standing) (o : Option Heard) (free holds : Bool) → ((h : Heard) → o ≡ Some h → FitsRow free h) → is_unasked standing o ≡ false → is_offer (offered standing free holds) ≡ true
+offer_given : (clock : ℕ → ℕ) (standing : Standing) (o : Option Heard) (free holds : Bool) → ((h : Heard) → o ≡ Some h → FitsRow free holds h) → is_unasked standing o ≡ false → is_offer (offered standing free holds) ≡ true
     → (kind : Kind) × (offer_by clock standing o ≡ Gives kind)
 offer_given clock Claimed o free holds fits asked e = (Trusted, refl)
 offer_given clock (Ignored cause) o free holds fits asked e = absurd (cc)
@@ -70,7 +78,27 @@ offer_given clock Asked None free holds fits asked e = absurd (cc)
 offer_given clock Asked (Some (Jobs.Held since)) free holds fits asked e = (_, refl)
 offer_given clock Asked (Some Jobs.Seen) free holds fits asked e = (_, refl)
 offer_given clock Asked (Some Jobs.Unseen) free holds fits asked e = absurd (no_offer free holds (fits Jobs.Unseen refl) e)
-offer_given clock Asked (Some (Jobs.Lacks cause)) free holds fits asked e = absurd (fits (Jobs.Lacks cause) refl)
+offer_given clock Asked (Some (Jobs.Lacks cause)) free holds fits asked e = absurd (no_offer free holds (fits (Jobs.Lacks cause) refl) e)
+
+full_is_offer : (offer : Offered) → is_full_offer offer ≡ true → is_offer offer ≡ true
+full_is_offer ALock e = refl
+full_is_offer AClaim e = refl
+full_is_offer Nothing e = absurd (cc)
+full_is_offer ALook e = refl
+
+-- enough offers, by how many pass each test
+abbrev Counts : Side → List RepoView → List (List ℕ) → List Entry → ℕ → ℕ → List ℕ → Type 0
+Counts side repos paths past a target key =
+    let need = need_at paths past a in
+    (max need.n need.m ≤ count_offers is_offer side repos past a target key) × (side ≡ Remote → need.m ≤ count_offers is_full_offer side repos past a target key)
+
+of_counts : (side : Side) (repos : List RepoView) (paths : List (List ℕ)) (past : List Entry) (a target : ℕ) (key : List ℕ) → Counts side repos paths past a target key → OffersSuffice side repos paths past a target key
+of_counts Local repos paths past a target key x = x.0
+of_counts Remote repos paths past a target key x = (x.0, x.1 refl)
+
+to_counts : (side : Side) (repos : List RepoView) (paths : List (List ℕ)) (past : List Entry) (a target : ℕ) (key : List ℕ) → OffersSuffice side repos paths past a target key → Counts side repos paths past a target key
+to_counts Local repos paths past a target key x = (x, λ remote. absurd (cc))
+to_counts Remote repos paths past a target key x = (x.0, λ remote. x.1)
 
 -- what a job heard of a candidate stands in its list
 record HeardIn (w : Work) (c : ℕ) (h : Heard) : Type 0 where
@@ -130,8 +158,8 @@ end_given clock end Asked (Some Jobs.Seen) Recent f g e is = absurd (cc)
 end_given clock end Asked (Some Jobs.Unseen) kind f g e is = absurd (cc)
 end_given clock end Asked (Some (Jobs.Lacks cause)) kind f g e is = absurd (cc)
 
-module _ (reads_back : SentAreRead) (run : Run) (repos : Each IsSetUp run.repos) (past : List Entry) (b : Entry) (a j : ℕ) (what : Job) (z : Beginning run past b a j what) (h0 : RunPast (set_up run) (b ∷ past)) (local : drop_side what.kind what.peer ≡ Local)
-    (p : List Entry) (w : Work) (number : w.number ≡ j) (what_is : w.what ≡ what) (heard : Each (λ x. Fit reads_back run repos past b a j what z h0 local x.0 x.1) w.heard)
+module _ (reads_back : SentAreRead) (run : Run) (repos : Each IsSetUp run.repos) (past : List Entry) (b : Entry) (a j : ℕ) (what : Job) (z : Beginning run past b a j what) (h0 : RunPast (set_up run) (b ∷ past)) (side : Side) (to : ℕ) (aims : Aims a what side to)
+    (p : List Entry) (w : Work) (number : w.number ≡ j) (what_is : w.what ≡ what) (heard : Each (λ x. Fit reads_back run repos past b a j what z h0 side to aims x.0 x.1) w.heard)
     (first : List Entry) (read : before_step p a j ≡ Some first) (settings_is : settings_of first a ≡ settings_of past a) where
   abbrev s : SetUp
   s = set_up run a
@@ -152,62 +180,101 @@ module _ (reads_back : SentAreRead) (run : Run) (repos : Each IsSetUp run.repos)
   unfolding standing_of
   standing_same c = λ i. standing_by (read_same i) ((what_is i).key) (id_of run.repos c)
 
-  side : side_of w ≡ Local
-  side = ap (λ (q : Job). drop_side q.kind q.peer) what_is ∙ local
+  side_is : side_of w ≡ side
+  side_is = ap (λ (q : Job). drop_side q.kind q.peer) what_is ∙ aims.side_is
 
   abbrev cs : List ℕ
-  cs = candidates Local (length run.repos) a a
+  cs = candidates side (length run.repos) a to
 
-  candidate_other : (c : ℕ) → Member c cs → c ≢ a
-  candidate_other c m same = true≢false (sym (Member-filter_parts (λ x. not (x == a)) (range_with_len 0 (length run.repos)) c m).1 ∙ ap not (ap (λ n. n == a) same ∙ eqb_refl a))
+  target_is : target_of a w ≡ to
+  target_is = (λ i. or_own a (side_is i) (what_is i).peer) ∙ aims.target_is
 
-  heard_fits : (c : ℕ) → c ≢ a → (h : Heard) → heard_of w c ≡ Some h → FitsRow (is_free past c what.key) h
+  candidate_other : (c : ℕ) → Member c cs → c ≢ to
+  candidate_other c m = go side refl m
+    where
+      off : (r : ℕ) (ns : List ℕ) → Member c (but r ns) → c ≢ r
+      off r ns n same = true≢false (sym (Member-filter_parts (λ x. not (x == r)) ns c n).1 ∙ ap not (ap (λ k. k == r) same ∙ eqb_refl r))
+
+      go : (q : Side) → side ≡ q → Member c (candidates q (length run.repos) a to) → c ≢ to
+      go Local is n at = off a (range_with_len 0 (length run.repos)) n (at ∙ own_target a what side to aims is)
+      go Remote is (inl same) at = aims.apart is (sym at ∙ same)
+      go Remote is (inr n) at = off to (but a (range_with_len 0 (length run.repos))) n at
+
+  heard_fits : (c : ℕ) → c ≢ to → (h : Heard) → heard_of w c ≡ Some h → FitsRow (is_free past c what.key) (gives_hold run.repos a c) h
   heard_fits c apart h e = go h (heard_in w c h e)
     where
-      go : (h : Heard) → HeardIn w c h → FitsRow (is_free past c what.key) h
-      go h i = by h (subst (λ n. Fit reads_back run repos past b a j what z h0 local n h) i.of_it (subst (λ v. Fit reads_back run repos past b a j what z h0 local i.x.0 v) i.is (Each-member (λ x. Fit reads_back run repos past b a j what z h0 local x.0 x.1) w.heard i.x heard i.among)))
+      go : (h : Heard) → HeardIn w c h → FitsRow (is_free past c what.key) (gives_hold run.repos a c) h
+      go h i = by h (subst (λ n. Fit reads_back run repos past b a j what z h0 side to aims n h) i.of_it (subst (λ v. Fit reads_back run repos past b a j what z h0 side to aims i.x.0 v) i.is (Each-member (λ x. Fit reads_back run repos past b a j what z h0 side to aims x.0 x.1) w.heard i.x heard i.among)))
         where
-          by : (h : Heard) → Fit reads_back run repos past b a j what z h0 local c h → FitsRow (is_free past c what.key) h
-          by (Jobs.Held since) f = f.0
-          by Jobs.Seen f = f
-          by Jobs.Unseen f = f
-          by (Jobs.Lacks cause) f = apart f
+          by : (h : Heard) → Fit reads_back run repos past b a j what z h0 side to aims c h → FitsRow (is_free past c what.key) (gives_hold run.repos a c) h
+          by (Jobs.Held since) f = let y = f apart in (y.0, y.1)
+          by Jobs.Seen f = f apart
+          by Jobs.Unseen f = f apart
+          by (Jobs.Lacks cause) f = let y = f apart in subst (λ n. is_free past n what.key ≡ false) (sym y.0) y.1
 
-  held_since : (c since : ℕ) → heard_of w c ≡ Some (Jobs.Held since) → since ≡ b.time
-  held_since c since e =
+  held_since : (c since : ℕ) → c ≢ to → heard_of w c ≡ Some (Jobs.Held since) → since ≡ b.time
+  held_since c since apart e =
       let i = heard_in w c (Jobs.Held since) e in
-      (subst (λ v. Fit reads_back run repos past b a j what z h0 local i.x.0 v) i.is (Each-member (λ x. Fit reads_back run repos past b a j what z h0 local x.0 x.1) w.heard i.x heard i.among)).1
+      (subst (λ v. Fit reads_back run repos past b a j what z h0 side to aims i.x.0 v) i.is (Each-member (λ x. Fit reads_back run repos past b a j what z h0 side to aims x.0 x.1) w.heard i.x heard i.among) (subst (λ n. n ≢ to) (sym i.of_it) apart)).2
 
   abbrev enough : Bool
-  enough = is_enough Local (need_at (job_paths run a j) past a) (gather Local (need_at (job_paths run a j) past a) (knows_by rd w) (reached_candidates (asks_by rd w) cs) [])
+  enough = is_enough side (need_at (job_paths run a j) past a) (gather side (need_at (job_paths run a j) past a) (knows_by rd w) (reached_candidates (asks_by rd w) cs) [])
 
   enough_is : enough_by rd w ≡ enough
-  enough_is = λ i. is_enough (side i) (need_same i) (gather (side i) (need_same i) (knows_by rd w) (reached_candidates (asks_by rd w) (candidates (side i) (length run.repos) a (target_of a w))) [])
+  enough_is = λ i. is_enough (side_is i) (need_same i) (gather (side_is i) (need_same i) (knows_by rd w) (reached_candidates (asks_by rd w) (candidates (side_is i) (length run.repos) a (target_is i))) [])
 
-  offered_same : (c : ℕ) → is_offer (offered (standing_of s st w c) (is_free past c what.key) (gives_hold run.repos a c)) ≡ is_offer (offer_at run.repos past a what.key c)
-  offered_same c = ap (λ q. is_offer (offered q (is_free past c what.key) (gives_hold run.repos a c))) (standing_same c)
+  abbrev offer : ℕ → Offered
+  offer c = offered (standing_of s st w c) (is_free past c what.key) (gives_hold run.repos a c)
+
+  offered_same : (c : ℕ) → offer c ≡ offer_at run.repos past a what.key c
+  offered_same c = ap (λ q. offered q (is_free past c what.key) (gives_hold run.repos a c)) (standing_same c)
+
+  abbrev offers : ℕ → Bool
+  offers c = is_offer (offer_at run.repos past a what.key c)
+
+  abbrev full : ℕ → Bool
+  full c = is_full_offer (offer_at run.repos past a what.key c)
+
+  as_given : (c : ℕ) → Member c cs → (kind : Kind) → knows_by rd w c ≡ Gives kind → (offers c ≡ true) × (is_full_kind kind ≡ full c)
+  as_given c m kind g =
+      let y = given_offer rd.clock (standing_of s st w c) (heard_of w c) (is_free past c what.key) (gives_hold run.repos a c) kind (heard_fits c (candidate_other c m)) g in
+      (sym (ap is_offer (offered_same c)) ∙ y.0, y.1 ∙ ap is_full_offer (offered_same c))
 
   -- **what it knows to be enough is of enough offers**
-  pub enough_suffices : enough_by rd w ≡ true → OffersSuffice Local run.repos (job_paths run a j) past a a what.key
-  enough_suffices e = suffices (need_at (job_paths run a j) past a) (knows_by rd w) (asks_by rd w) (λ c. is_offer (offer_at run.repos past a what.key c)) cs
-      (λ c m kind g. sym (offered_same c) ∙ given_offer rd.clock (standing_of s st w c) (heard_of w c) (is_free past c what.key) (gives_hold run.repos a c) kind (heard_fits c (candidate_other c m)) g) (sym enough_is ∙ e)
+  pub enough_suffices : enough_by rd w ≡ true → OffersSuffice side run.repos (job_paths run a j) past a to what.key
+  enough_suffices e = of_counts side run.repos (job_paths run a j) past a to what.key (suffices side (need_at (job_paths run a j) past a) (knows_by rd w) (asks_by rd w) offers full cs as_given (sym enough_is ∙ e))
 
   -- **and where enough is offered, it doesn't lack**
-  pub never_lacks : next_by rd w ≡ None → enough_by rd w ≡ false → OffersSuffice Local run.repos (job_paths run a j) past a a what.key → ⊥
-  never_lacks none e offers = lacks (need_at (job_paths run a j) past a) (knows_by rd w) (asks_by rd w) (λ c. is_offer (offer_at run.repos past a what.key c)) cs asked
-      (λ c m o. offer_given rd.clock (standing_of s st w c) (heard_of w c) (is_free past c what.key) (gives_hold run.repos a c) (heard_fits c (candidate_other c m)) (asked c m) (offered_same c ∙ o)) (sym enough_is ∙ e) offers
+  pub never_lacks : next_by rd w ≡ None → enough_by rd w ≡ false → OffersSuffice side run.repos (job_paths run a j) past a to what.key → ⊥
+  never_lacks none e enough_offers = let y = to_counts side run.repos (job_paths run a j) past a to what.key enough_offers in
+      lacks side (need_at (job_paths run a j) past a) (knows_by rd w) (asks_by rd w) offers full cs asked gives gives_full (sym enough_is ∙ e) y.0 y.1
     where
       nobody : find (asks_by rd w) cs ≡ None
-      nobody = subst (λ (q : Side). find (asks_by rd w) (candidates q (length run.repos) a (target_of a w)) ≡ None) side none
+      nobody = sym (λ i. find (asks_by rd w) (candidates (side_is i) (length run.repos) a (target_is i))) ∙ none
 
       asked : (c : ℕ) → Member c cs → asks_by rd w c ≡ false
       asked c m = Each-member (λ n. asks_by rd w n ≡ false) cs c (find_nowhere (asks_by rd w) cs nobody) m
+
+      gives : (c : ℕ) → Member c cs → offers c ≡ true → (kind : Kind) × (knows_by rd w c ≡ Gives kind)
+      gives c m o = offer_given rd.clock (standing_of s st w c) (heard_of w c) (is_free past c what.key) (gives_hold run.repos a c) (heard_fits c (candidate_other c m)) (asked c m) (ap is_offer (offered_same c) ∙ o)
+
+      gives_full : (c : ℕ) → Member c cs → full c ≡ true → passes is_full_kind (knows_by rd w) c ≡ true
+      gives_full c m o =
+          let g = gives c m (full_is_offer (offer_at run.repos past a what.key c) o) in
+          ap (λ q. pick q is_full_kind false) g.1 ∙ ((as_given c m g.0 g.1).1 ∙ o)
 
   -- its locks end ten minutes later
   pub locks_end : (end : ℕ) → least_end (known_by rd w) ≡ Some end → end ≡ st.clock b.time + hold_time
   locks_end end e = one_end (st.clock b.time + hold_time) end (ends (known_by rd w)) (ends_same (st.clock b.time + hold_time) (known_by rd w) each) e
     where
       each : Each (EndIs (st.clock b.time + hold_time)) (known_by rd w)
-      each = gather_each (EndIs (st.clock b.time + hold_time)) (λ c. Unit {0}) (side_of w) rd.need (knows_by rd w)
-          (λ c kind any g. end_given rd.clock (st.clock b.time + hold_time) (standing_of s st w c) (heard_of w c) kind (λ since o. ap (λ n. st.clock n + hold_time) (held_since c since o)) g)
-          (reached_candidates (asks_by rd w) (candidates_by rd w)) [] (Each-always (λ c. Unit {0}) (λ c. tt) (reached_candidates (asks_by rd w) (candidates_by rd w))) tt
+      each = gather_each (EndIs (st.clock b.time + hold_time)) (λ c. c ≢ to) (side_of w) rd.need (knows_by rd w)
+          (λ c kind other g. end_given rd.clock (st.clock b.time + hold_time) (standing_of s st w c) (heard_of w c) kind (λ since o. ap (λ n. st.clock n + hold_time) (held_since c since other o)) g)
+          (reached_candidates (asks_by rd w) (candidates_by rd w)) [] (few' (candidates_by rd w) all_other) tt
+        where
+          few' : (ns : List ℕ) → Each (λ c. c ≢ to) ns → Each (λ c. c ≢ to) (reached_candidates (asks_by rd w) ns)
+          few' [] all = tt
+          few' (n ∷ ns) all = if_either (Each (λ c. c ≢ to)) (asks_by rd w n) [] (n ∷ reached_candidates (asks_by rd w) ns) (λ e. tt) (λ e. (all.0, few' ns all.1))
+
+          all_other : Each (λ c. c ≢ to) (candidates_by rd w)
+          all_other = subst (Each (λ c. c ≢ to)) (sym (λ i. candidates (side_is i) (length run.repos) a (target_is i))) (Each-from_members (λ c. c ≢ to) cs candidate_other)
