@@ -22,7 +22,7 @@ use Rattle.node_model.specs.SetUp.{SetUp}
 use Rattle.node_model.specs.State.{State}
 use Rattle.driver_model.specs.Driver.{Driver, DriverInput, FailLine, Flight, but_first, but_taken, end_to, flight, is_at, set_up_of, state_at, without_old_flights}
 use Rattle.driver_model.specs.Scripts.{HasBoundedPast}
-use Rattle.driver_model.specs.Sound.{ComesDown, GoesToOther, IsSound}
+use Rattle.driver_model.specs.Sound.{ComeInTurn, ComesDown, GoesToOther, IsOfOpening, IsSound}
 use Rattle.driver_model.specs.Stores.{StoredBytes, bytes_in, is_stored, stored_bytes}
 use Rattle.driver_model.specs.Turning.{asked_key, part_size}
 use Rattle.driver_model.specs.Ways.{Flies, InOrder, bodies_flying, is_flight, numbered_body}
@@ -30,6 +30,7 @@ use Rattle.driver_model.proofs.EndLemmas.{takes_self}
 use Rattle.driver_model.proofs.FrameNumbers.{TakesWell}
 use Rattle.driver_model.proofs.Holding.{Keeps, entry_on, run_on, set_up_on}
 use Rattle.driver_model.proofs.InFlight.{IsFirst, flies_adds, not_over}
+use Rattle.driver_model.proofs.InTurn.{but_each, openings_add, turn_adds, turn_but}
 use Rattle.driver_model.proofs.Premises.{Laws}
 use Rattle.driver_model.proofs.Turned.{keeps_cleared, keeps_store}
 use Rattle.driver_model.proofs.WayNumbers.{order_other, order_own}
@@ -37,17 +38,13 @@ use Rattle.block_model.specs.Blocks.{with_fails}
 use Rattle.block_model.specs.Following.{IsChosenStep, IsOfLine, MayAllFollow, MayFollow, after_entries, after_entry, bytes_next, but_next, effect_of, is_next, stands, without_old_of}
 use Rattle.block_model.proofs.FirstOnWay.{OnWay, Split, but_split, filter_front, first_body, one_way, split_of, way_parts}
 
-but_each : (P : Flight → Type 0) (q : Flight → Bool) (xs : List Flight) → Each P xs → Each P (but_first q xs)
-but_each P q [] a = tt
-but_each P q (x ∷ xs) a = go (but_each P q xs a.1) (q x)
-  where
-    go : Each P (but_first q xs) → (b : Bool) → Each P (cond b xs (x ∷ but_first q xs))
-    go more true = a.1
-    go more false = (a.0, more)
-
 pub next_each : (P : Flight → Type 0) (r : ℕ) (o : Option FrameView) (xs : List Flight) → Each P xs → Each P (but_next r o xs)
 next_each P r None xs a = a
 next_each P r (Some f) xs a = but_each P (is_next r f) xs a
+
+next_turn : (r : ℕ) (o : Option FrameView) (xs : List Flight) → ComeInTurn xs → ComeInTurn (but_next r o xs)
+next_turn r None xs t = t
+next_turn r (Some f) xs t = turn_but (is_next r f) xs t
 
 -- ---- the flights, with the frame that is taken in front
 
@@ -153,6 +150,8 @@ module _ (laws : Laws) (g : DriverInput) (d : Driver) (h : IsSound g d) (r : ℕ
     down = Each-append ComesDown (but_next r e.taken d.flights) (map (flight d st r) e.sent) (next_each ComesDown r e.taken d.flights h.down)
         (Each-map ComesDown (flight d st r) e.sent (laws.entries.sends (set_up_of g d r) d.past words e own));
     apart = Each-append GoesToOther (but_next r e.taken d.flights) (map (flight d st r) e.sent) (next_each GoesToOther r e.taken d.flights h.apart) (Each-map GoesToOther (flight d st r) e.sent sends_out);
+    openings = openings_add (set_up_of g d r) d.past words e own d st who (but_next r e.taken d.flights) (next_each (IsOfOpening d.past) r e.taken d.flights h.openings);
+    turn = turn_adds (set_up_of g d r) d.past words e own d st (but_next r e.taken d.flights) (next_each (IsOfOpening d.past) r e.taken d.flights h.openings) (next_turn r e.taken d.flights h.turn);
     parts = h.parts;
     keys = h.keys;
   }
@@ -218,4 +217,4 @@ keeps_old g [] d k = k
 keeps_old g (r ∷ rs) d k = keeps_old g rs (without_old_flights (state_at g d r) r d) (keeps_cleared g d r k)
 
 pub keeps_fails : (g : DriverInput) (xs : List FailLine) (d : Driver) → Keeps g d → Keeps g (with_fails xs d)
-keeps_fails g xs d k fits = let h = k fits in record { run = h.run; flies = h.flies; order = h.order; down = h.down; apart = h.apart; parts = h.parts; keys = h.keys }
+keeps_fails g xs d k fits = let h = k fits in record { run = h.run; flies = h.flies; order = h.order; down = h.down; apart = h.apart; openings = h.openings; turn = h.turn; parts = h.parts; keys = h.keys }

@@ -274,7 +274,7 @@ module _ (laws : Laws) (g : DriverInput) where
   keeps_line keys (Shows what) d x tree k = k
 
   pub keeps_marked : (d : Driver) → Keeps g d → Keeps g (with_mark d)
-  keeps_marked d k fits = let h = k fits in record { run = laws.command (run_with g d) (with_mark d).marks h.run; flies = h.flies; order = h.order; down = h.down; apart = h.apart; parts = h.parts; keys = h.keys }
+  keeps_marked d k fits = let h = k fits in record { run = laws.command (run_with g d) (with_mark d).marks h.run; flies = h.flies; order = h.order; down = h.down; apart = h.apart; openings = h.openings; turn = h.turn; parts = h.parts; keys = h.keys }
 
   -- the change of the tree by a line that names a path, which is one of a key
   abbrev Names : Command → Driver → Type 0
@@ -298,7 +298,7 @@ module _ (laws : Laws) (g : DriverInput) where
       keeps_drives keys lines (with_mark (does g line d)) all.1 (line_keys line d all.0 tree) (keeps_marked (does g line d) (keeps_line keys line d all.0 tree k))
 
   pub first_holds : Each IsSetUp g.repos → IsSound g at_first
-  first_holds repos = record { run = laws.first (run_with g at_first) repos refl; flies = λ r a n. inr (record { inside = omega arith; same = refl }); order = λ r a n. order_begins r a n; down = tt; apart = tt; parts = tt; keys = tt }
+  first_holds repos = record { run = laws.first (run_with g at_first) repos refl; flies = λ r a n. inr (record { inside = omega arith; same = refl }); order = λ r a n. order_begins r a n; down = tt; apart = tt; openings = tt; turn = tt; parts = tt; keys = tt }
 
 -- what the driver makes of a script within bounds is a run
 pub driver_is_run : Laws → OwedKeys → (g : DriverInput) (lines : List Command) → Each IsSetUp g.repos → Each (IsOne g) lines → HasBoundedPast (driver_after g lines) → IsRun (run_of g lines)

@@ -1,6 +1,6 @@
 -- What holds of the driver as it goes on: its entries are a run, and the frames on their way are those that were sent and not taken.
 use Rattle.std.proofs.Common.{◌≡◌, ◌≢◌, ℕ, ◌+◌, Bool, true, false, List, [], ◌∷◌, ◌++◌, Option, Some, None, inl, inr, refl, sym, ap, ◌∙◌, subst, arith}
-use Rattle.std.specs.Prelude.{cond, length, map, reverse}
+use Rattle.std.specs.Prelude.{length, map, reverse}
 use Rattle.std.proofs.lemmas.List.{length-reverse, reverse-append, reverse-reverse}
 use Rattle.annex_base.specs.Lists.{Each}
 use Rattle.annex_base.specs.declared.kinds.Word.{Word}
@@ -20,12 +20,13 @@ use Rattle.node_model.specs.Ends.{EndName, is_opening}
 use Rattle.node_model.specs.State.{State}
 use Rattle.run_model.specs.Run.{ComesAfter, IsRun, MayBe, OwnPart, RunPast, RunStep, TimeIs, paths_at, set_up}
 use Rattle.run_model.specs.Words.{word_told}
-use Rattle.driver_model.specs.Driver.{Driver, Flight, DriverInput, adds, but_first, but_taken, flight, is_at, newest_count, set_up_of}
+use Rattle.driver_model.specs.Driver.{Driver, Flight, DriverInput, adds, but_taken, flight, is_at, newest_count, set_up_of}
 use Rattle.driver_model.specs.Scripts.{IsWithinBounds, HasBoundedPast}
-use Rattle.driver_model.specs.Sound.{ComesDown, GoesToOther, IsSound}
+use Rattle.driver_model.specs.Sound.{ComesDown, GoesToOther, IsOfOpening, IsSound}
 use Rattle.driver_model.specs.Ways.{InOrder}
 use Rattle.driver_model.proofs.FrameNumbers.{TakesWell}
 use Rattle.driver_model.proofs.InFlight.{IsFirst, flies_adds, may_be_taken}
+use Rattle.driver_model.proofs.InTurn.{but_each, openings_add, turn_adds, turn_taken}
 use Rattle.driver_model.proofs.Premises.{Laws}
 use Rattle.driver_model.proofs.WayNumbers.{order_other, order_own}
 use Rattle.std.proofs.lemmas.Bool.{eqb-true}
@@ -65,14 +66,6 @@ Keeps g d = HasBoundedPast d → IsSound g d
 after_newest : (past : List Entry) (e : Entry) → e.count ≡ newest_count past + 1 → ComesAfter past e
 after_newest [] e i = tt
 after_newest (f ∷ past) e i = inr (inl (omega (arith, i)))
-
-but_each : (P : Flight → Type 0) (q : Flight → Bool) (xs : List Flight) → Each P xs → Each P (but_first q xs)
-but_each P q [] a = tt
-but_each P q (x ∷ xs) a = go (but_each P q xs a.1) (q x)
-  where
-    go : Each P (but_first q xs) → (b : Bool) → Each P (cond b xs (x ∷ but_first q xs))
-    go more true = a.1
-    go more false = (a.0, more)
 
 left_each : (P : Flight → Type 0) (r : ℕ) (o : Option FrameView) (xs : List Flight) → Each P xs → Each P (but_taken r o xs)
 left_each P r None xs a = a
@@ -150,6 +143,8 @@ module _ (laws : Laws) (g : DriverInput) (d : Driver) (h : IsSound g d) (r : ℕ
         (Each-map ComesDown (flight d st r) e.sent (laws.entries.sends (set_up_of g d r) d.past x.words e x.own));
     apart = Each-append GoesToOther (but_taken r e.taken d.flights) (map (flight d st r) e.sent) (left_each GoesToOther r e.taken d.flights h.apart)
         (Each-map GoesToOther (flight d st r) e.sent (sends_out fit));
+    openings = openings_add (set_up_of g d r) d.past x.words e x.own d st x.repo_is (but_taken r e.taken d.flights) (left_each (IsOfOpening d.past) r e.taken d.flights h.openings);
+    turn = turn_adds (set_up_of g d r) d.past x.words e x.own d st (but_taken r e.taken d.flights) (left_each (IsOfOpening d.past) r e.taken d.flights h.openings) (turn_taken r e.taken d.flights h.turn);
     parts = h.parts;
     keys = h.keys;
   }

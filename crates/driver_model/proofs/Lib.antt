@@ -5,6 +5,7 @@ pub mod EndsApart
 pub mod FrameNumbers
 pub mod WayNumbers
 pub mod InFlight
+pub mod InTurn
 pub mod Settling
 pub mod Holding
 pub mod Numbers

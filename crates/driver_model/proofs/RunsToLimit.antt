@@ -1,5 +1,5 @@
 -- The run of a script up to the limit on histories is a run: its entries are a start of those that the driver makes.
-use Rattle.std.proofs.Common.{◌≡◌, ℕ, ◌+◌, ◌≤◌, Bool, true, false, List, [], ◌∷◌, ◌++◌, refl, sym, ap, ◌∙◌, subst, arith}
+use Rattle.std.proofs.Common.{◌≡◌, ℕ, ◌≤◌, Bool, true, false, List, [], ◌∷◌, ◌++◌, refl, sym, ap, ◌∙◌, subst, arith}
 use Rattle.std.specs.Prelude.{if◌then◌else◌, length, reverse, take}
 use Rattle.std.proofs.lemmas.List.{length-append, reverse-append}
 use Rattle.std.proofs.Math.Seq.{take-append_seam}

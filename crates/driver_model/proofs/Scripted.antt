@@ -28,7 +28,7 @@ use Rattle.run_model.specs.Run.{ComesAfter, IsSmall}
 use Rattle.driver_model.specs.Driver.{Driver, Flight, DriverInput, answers, entry, fails_at, newest_count, notes, set_up_of, state_at}
 use Rattle.driver_model.specs.ScriptSteps.{begins, unless_fails, closes, closes_each, closes_end, crashes, ends_at, enters, faults, lacks_places, sends, waits, will_fail}
 use Rattle.driver_model.specs.Scripts.{IsJob}
-use Rattle.driver_model.specs.Sound.{ComesDown, GoesToOther, IsSound}
+use Rattle.driver_model.specs.Sound.{ComeInTurn, ComesDown, GoesToOther, IsOfOpening, IsSound}
 use Rattle.driver_model.specs.Ways.{Flies, IsOver, other_end, numbered_body, bodies_sent, way_out}
 use Rattle.driver_model.proofs.Premises.{Laws}
 use Rattle.driver_model.proofs.WayNumbers.{order_other, sent_same_as}
@@ -67,6 +67,8 @@ keeps_notes laws g d r kind lines known may k fits =
       order = h.order;
       down = subst (Each ComesDown) (append-nil d.flights) h.down;
       apart = subst (Each GoesToOther) (append-nil d.flights) h.apart;
+      openings = subst (Each (IsOfOpening (entry d r kind lines ∷ d.past))) (append-nil d.flights) h.openings;
+      turn = subst ComeInTurn (append-nil d.flights) h.turn;
       parts = h.parts;
       keys = h.keys;
     }
@@ -168,6 +170,8 @@ keeps_waits laws g d ms k fits =
       order = λ r a n. order_other r a n d.past e refl (h.order r a n);
       down = h.down;
       apart = h.apart;
+      openings = h.openings;
+      turn = h.turn;
       parts = h.parts;
       keys = h.keys;
     }
@@ -182,7 +186,7 @@ keeps_waits laws g d ms k fits =
 pub keeps_enters : Laws → (g : DriverInput) (d : Driver) (path key : List ℕ) → IsKeyText key → Keeps g d → Keeps g (enters path key d)
 keeps_enters laws g d path key text k fits =
     let h = k fits in
-    record { run = tree_on laws g d.tree d.marks d.past (record { place = length d.past; path = path; key = key }) refl h.run; flies = h.flies; order = h.order; down = h.down; apart = h.apart; parts = h.parts; keys = Each-push (λ (m : TreeMark). IsKeyText m.key) d.tree (record { place = length d.past; path = path; key = key }) h.keys text }
+    record { run = tree_on laws g d.tree d.marks d.past (record { place = length d.past; path = path; key = key }) refl h.run; flies = h.flies; order = h.order; down = h.down; apart = h.apart; openings = h.openings; turn = h.turn; parts = h.parts; keys = Each-push (λ (m : TreeMark). IsKeyText m.key) d.tree (record { place = length d.past; path = path; key = key }) h.keys text }
 
 pub keeps_will_fail : (g : DriverInput) (d : Driver) (r : ℕ) (call : Call) → Keeps g d → Keeps g (will_fail r call d)
-keeps_will_fail g d r call k fits = let h = k fits in record { run = h.run; flies = h.flies; order = h.order; down = h.down; apart = h.apart; parts = h.parts; keys = h.keys }
+keeps_will_fail g d r call k fits = let h = k fits in record { run = h.run; flies = h.flies; order = h.order; down = h.down; apart = h.apart; openings = h.openings; turn = h.turn; parts = h.parts; keys = h.keys }

@@ -27,10 +27,11 @@ use Rattle.run_model.specs.Words.{word_told}
 use Rattle.driver_model.proofs.EndLemmas.{takes_end}
 use Rattle.driver_model.proofs.Premises.{Laws}
 use Rattle.driver_model.specs.Scripts.{HasBoundedPast}
-use Rattle.driver_model.specs.Sound.{ComesDown, GoesToOther, IsSound}
+use Rattle.driver_model.specs.Sound.{ComesDown, GoesToOther, IsOfOpening, IsSound}
 use Rattle.driver_model.specs.Stores.{StoredBytes, bytes_in, is_stored, stored_bytes}
 use Rattle.driver_model.specs.Driver.{Driver, DriverInput, adds, answers, without_old_flights, commits, drops_part, end_to, fails_at, frames_to, old_at, part_at, puts_part, removes_content, set_up_of, state_at}
 use Rattle.driver_model.specs.Turning.{asked_key, bytes_taken, calm_look, made_calls, is_failure, is_valid, look_for, looks, makes, part_right, part_size, plain_look, steps, store_after, takes_frame, takes_into, told_words, turn}
+use Rattle.driver_model.proofs.InTurn.{turn_filter}
 use Rattle.driver_model.proofs.InFlight.{first_found, flies_cleared}
 use Rattle.driver_model.proofs.Holding.{Keeps, NewEntry, keeps_adds}
 
@@ -45,16 +46,16 @@ each_larger m n (x ∷ xs) i a = let j = a.0 in (omega (arith, i, j), each_large
 
 module _ (g : DriverInput) (d : Driver) where
   pub keeps_commits : (r : ℕ) (key : List ℕ) → Keeps g d → Keeps g (commits r key d)
-  keeps_commits r key k fits = let h = k fits in record { run = h.run; flies = h.flies; order = h.order; down = h.down; apart = h.apart; parts = Each-filter (Small d.largest) (λ x. not (is_stored r key x)) d.parts h.parts; keys = h.keys }
+  keeps_commits r key k fits = let h = k fits in record { run = h.run; flies = h.flies; order = h.order; down = h.down; apart = h.apart; openings = h.openings; turn = h.turn; parts = Each-filter (Small d.largest) (λ x. not (is_stored r key x)) d.parts h.parts; keys = h.keys }
 
   pub keeps_removes : (r : ℕ) (key : List ℕ) → Keeps g d → Keeps g (removes_content r key d)
-  keeps_removes r key k fits = let h = k fits in record { run = h.run; flies = h.flies; order = h.order; down = h.down; apart = h.apart; parts = h.parts; keys = h.keys }
+  keeps_removes r key k fits = let h = k fits in record { run = h.run; flies = h.flies; order = h.order; down = h.down; apart = h.apart; openings = h.openings; turn = h.turn; parts = h.parts; keys = h.keys }
 
   pub keeps_drops : (r : ℕ) (key : List ℕ) → Keeps g d → Keeps g (drops_part r key d)
-  keeps_drops r key k fits = let h = k fits in record { run = h.run; flies = h.flies; order = h.order; down = h.down; apart = h.apart; parts = Each-filter (Small d.largest) (λ x. not (is_stored r key x)) d.parts h.parts; keys = h.keys }
+  keeps_drops r key k fits = let h = k fits in record { run = h.run; flies = h.flies; order = h.order; down = h.down; apart = h.apart; openings = h.openings; turn = h.turn; parts = Each-filter (Small d.largest) (λ x. not (is_stored r key x)) d.parts h.parts; keys = h.keys }
 
   pub keeps_answers : (r : ℕ) (call : Call) → Keeps g d → Keeps g (answers r call d)
-  keeps_answers r call k fits = let h = k fits in record { run = h.run; flies = h.flies; order = h.order; down = h.down; apart = h.apart; parts = h.parts; keys = h.keys }
+  keeps_answers r call k fits = let h = k fits in record { run = h.run; flies = h.flies; order = h.order; down = h.down; apart = h.apart; openings = h.openings; turn = h.turn; parts = h.parts; keys = h.keys }
 
   pub keeps_puts : (r : ℕ) (key bytes : List ℕ) → Keeps g d → Keeps g (puts_part r key bytes d)
   keeps_puts r key bytes k fits =
@@ -67,6 +68,8 @@ module _ (g : DriverInput) (d : Driver) where
         order = h.order;
         down = h.down;
         apart = h.apart;
+        openings = h.openings;
+        turn = h.turn;
         parts = (le-max_right d.largest (length bytes), each_larger d.largest (max d.largest (length bytes)) (filter (λ x. not (is_stored r key x)) d.parts) more (Each-filter (Small d.largest) (λ x. not (is_stored r key x)) d.parts h.parts));
         keys = h.keys;
       }
@@ -80,6 +83,8 @@ module _ (g : DriverInput) (d : Driver) where
         order = h.order;
         down = Each-filter ComesDown (λ x. not (old_at (state_at g d r) r x)) d.flights h.down;
         apart = Each-filter GoesToOther (λ x. not (old_at (state_at g d r) r x)) d.flights h.apart;
+        openings = Each-filter (IsOfOpening d.past) (λ x. not (old_at (state_at g d r) r x)) d.flights h.openings;
+        turn = turn_filter (λ x. not (old_at (state_at g d r) r x)) d.flights h.turn;
         parts = h.parts;
         keys = h.keys;
       }

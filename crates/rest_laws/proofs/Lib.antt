@@ -1,0 +1,20 @@
+-- The lemmas of this crate.
+pub mod Unturned
+pub mod Leaving
+pub mod Flown
+pub mod Openings
+pub mod Closings
+pub mod Found
+pub mod Comes
+pub mod Upward
+pub mod Queued
+pub mod Moves
+pub mod Places
+pub mod Resting
+pub mod Stuck
+pub mod Short
+pub mod Quieted
+pub mod Ending
+pub mod Needs
+pub mod NoJobs
+pub mod Settling
