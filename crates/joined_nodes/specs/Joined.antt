@@ -30,7 +30,7 @@ setup_of ids number repo = record { number = number; id = repo.id; offset = repo
 
 -- a node of this set-up over this store, which has made no entry; its ends were never open
 pub record IsNew {K : Type 0} (setup : Setup) (keeper : K) (n : NodeView K) : Type 0 where
-  pub node : n ≡ record { setup = setup; keeper = keeper; parts = n.parts; branch = []; time = 0; count = 0; history = []; outcomes = []; owed = [] }
+  pub node : n ≡ record { setup = setup; keeper = keeper; parts = n.parts; branch = []; time = 0; count = 0; clock = record { at = 0; to = setup.offset }; history = []; outcomes = []; owed = [] }
   pub table : n.parts.table ≡ record { holds = []; bars = []; fills = [] }
   pub links : n.parts.links ≡ replicate (length setup.repos * 8) fresh
   pub jobs : n.parts.jobs ≡ record { place = record { number = setup.number; ids = setup.repos }; running = []; begun = 0 }

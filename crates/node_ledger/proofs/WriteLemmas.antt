@@ -6,6 +6,7 @@ use Rattle.run_data.specs.declared.entry.Entry.{Entry}
 use Rattle.run_data.specs.declared.entry.EntryKind.{EntryKind}
 use Rattle.run_data.specs.declared.entry.EntryKind.TheVariants.{Fault}
 use Rattle.run_data.specs.declared.entry.By.{By}
+use Rattle.node_model.specs.Clocks.{ClockSet}
 use Rattle.node_model.specs.OwedLines.{OwedLine}
 use Rattle.node_past.specs.declared.setup.Setup.{Setup}
 use Rattle.node_ledger.specs.Ledgers.{owed_now, HasFiles, with_entry, LedgerView}
@@ -27,7 +28,7 @@ use Rattle.node_ledger.specs.Refusals.{RefusesFor}
 -- ---- a ledger by its fields
 
 abbrev pub ledger_of : {K : Type 0} → K → Files → Past → List OwedLine → LedgerView K
-ledger_of keeper branch p owed = record { setup = p.setup; keeper = keeper; parts = tt; branch = branch; time = p.time; count = p.count; history = p.history.items; outcomes = p.outcomes.items; owed = owed }
+ledger_of keeper branch p owed = record { setup = p.setup; keeper = keeper; parts = tt; branch = branch; time = p.time; count = p.count; clock = p.clock; history = p.history.items; outcomes = p.outcomes.items; owed = owed }
 
 -- the same without a store
 abbrev pub storeless : Files → Past → List OwedLine → LedgerView (Unit {0})
@@ -60,29 +61,30 @@ files_written (Err e) branch branch' stored stored' path all there other is stay
 
 -- ---- what clauses see
 
-ledger_fields : {K : Type 0} (k : K) (b b' : Files) (s s' : Setup) (time time' count count' : ℕ) (h h' : List Entry) (o o' : List Ended) (w w' : List OwedLine)
-    → b' ≡ b → s' ≡ s → time' ≡ time → count' ≡ count → h' ≡ h → o' ≡ o → w' ≡ w
-    → ◌≡◌ {A = LedgerView K} (record { setup = s'; keeper = k; parts = tt; branch = b'; time = time'; count = count'; history = h'; outcomes = o'; owed = w' })
-    (record { setup = s; keeper = k; parts = tt; branch = b; time = time; count = count; history = h; outcomes = o; owed = w })
-ledger_fields {K} k b b' s s' time time' count count' h h' o o' w w' eb es et ec eh eo ew =
-    let f1 : Files → LedgerView K = λ x. record { setup = s'; keeper = k; parts = tt; branch = x; time = time'; count = count'; history = h'; outcomes = o'; owed = w' } in
-    let f2 : Setup → LedgerView K = λ x. record { setup = x; keeper = k; parts = tt; branch = b; time = time'; count = count'; history = h'; outcomes = o'; owed = w' } in
-    let f3 : ℕ → LedgerView K = λ x. record { setup = s; keeper = k; parts = tt; branch = b; time = x; count = count'; history = h'; outcomes = o'; owed = w' } in
-    let f4 : ℕ → LedgerView K = λ x. record { setup = s; keeper = k; parts = tt; branch = b; time = time; count = x; history = h'; outcomes = o'; owed = w' } in
-    let f5 : List Entry → LedgerView K = λ x. record { setup = s; keeper = k; parts = tt; branch = b; time = time; count = count; history = x; outcomes = o'; owed = w' } in
-    let f6 : List Ended → LedgerView K = λ x. record { setup = s; keeper = k; parts = tt; branch = b; time = time; count = count; history = h; outcomes = x; owed = w' } in
-    let f7 : List OwedLine → LedgerView K = λ x. record { setup = s; keeper = k; parts = tt; branch = b; time = time; count = count; history = h; outcomes = o; owed = x } in
-    ap f1 eb ∙ ap f2 es ∙ ap f3 et ∙ ap f4 ec ∙ ap f5 eh ∙ ap f6 eo ∙ ap f7 ew
+ledger_fields : {K : Type 0} (k : K) (b b' : Files) (s s' : Setup) (time time' count count' : ℕ) (t t' : ClockSet) (h h' : List Entry) (o o' : List Ended) (w w' : List OwedLine)
+    → b' ≡ b → s' ≡ s → time' ≡ time → count' ≡ count → t' ≡ t → h' ≡ h → o' ≡ o → w' ≡ w
+    → ◌≡◌ {A = LedgerView K} (record { setup = s'; keeper = k; parts = tt; branch = b'; time = time'; count = count'; clock = t'; history = h'; outcomes = o'; owed = w' })
+    (record { setup = s; keeper = k; parts = tt; branch = b; time = time; count = count; clock = t; history = h; outcomes = o; owed = w })
+ledger_fields {K} k b b' s s' time time' count count' t t' h h' o o' w w' eb es em ec et eh eo ew =
+    let f1 : Files → LedgerView K = λ x. record { setup = s'; keeper = k; parts = tt; branch = x; time = time'; count = count'; clock = t'; history = h'; outcomes = o'; owed = w' } in
+    let f2 : Setup → LedgerView K = λ x. record { setup = x; keeper = k; parts = tt; branch = b; time = time'; count = count'; clock = t'; history = h'; outcomes = o'; owed = w' } in
+    let f3 : ℕ → LedgerView K = λ x. record { setup = s; keeper = k; parts = tt; branch = b; time = x; count = count'; clock = t'; history = h'; outcomes = o'; owed = w' } in
+    let f4 : ℕ → LedgerView K = λ x. record { setup = s; keeper = k; parts = tt; branch = b; time = time; count = x; clock = t'; history = h'; outcomes = o'; owed = w' } in
+    let f5 : ClockSet → LedgerView K = λ x. record { setup = s; keeper = k; parts = tt; branch = b; time = time; count = count; clock = x; history = h'; outcomes = o'; owed = w' } in
+    let f6 : List Entry → LedgerView K = λ x. record { setup = s; keeper = k; parts = tt; branch = b; time = time; count = count; clock = t; history = x; outcomes = o'; owed = w' } in
+    let f7 : List Ended → LedgerView K = λ x. record { setup = s; keeper = k; parts = tt; branch = b; time = time; count = count; clock = t; history = h; outcomes = x; owed = w' } in
+    let f8 : List OwedLine → LedgerView K = λ x. record { setup = s; keeper = k; parts = tt; branch = b; time = time; count = count; clock = t; history = h; outcomes = o; owed = x } in
+    ap f1 eb ∙ ap f2 es ∙ ap f3 em ∙ ap f4 ec ∙ ap f5 et ∙ ap f6 eh ∙ ap f7 eo ∙ ap f8 ew
 
 pub ledger_adds : {K : Type 0} (k k' : K) (b b' all : Files) (was now : Past) (owed owed' : List OwedLine) (kind : EntryKind) (lines : List (List ℕ)) → b' ≡ all → AddsTo kind lines was now → owed' ≡ owed_now (storeless b was owed) kind lines
     → ledger_of k' b' now owed' ≡ with_entry (ledger_of k b was owed) k' all kind lines
 ledger_adds k k' b b' all was now owed owed' kind lines is adds owes =
-    ledger_fields k' all b' was.setup now.setup was.time now.time (was.count + 1) now.count _ now.history.items was.outcomes.items now.outcomes.items _ owed' is adds.setup adds.time adds.count adds.history adds.outcomes owes
+    ledger_fields k' all b' was.setup now.setup was.time now.time (was.count + 1) now.count was.clock now.clock _ now.history.items was.outcomes.items now.outcomes.items _ owed' is adds.setup adds.time adds.count adds.clock adds.history adds.outcomes owes
 
 pub ledger_same : {K : Type 0} (k k' : K) (b b' : Files) (was now : Past) (owed owed' : List OwedLine) → b' ≡ b → SamePast was now → owed' ≡ owed
     → ledger_of k' b' now owed' ≡ record (ledger_of k b was owed) { keeper = k' }
 ledger_same k k' b b' was now owed owed' is same owes =
-    ledger_fields k' b b' was.setup now.setup was.time now.time was.count now.count was.history.items now.history.items was.outcomes.items now.outcomes.items owed owed' is same.setup same.time same.count same.history same.outcomes owes
+    ledger_fields k' b b' was.setup now.setup was.time now.time was.count now.count was.clock now.clock was.history.items now.history.items was.outcomes.items now.outcomes.items owed owed' is same.setup same.time same.count same.clock same.history same.outcomes owes
 
 pub ledger_failed : {K : Type 0} (by : By) (e : NodeRefused) (call : Call) (k k' : K) (b b' : Files) (was now : Past) (owed owed' : List OwedLine) → b' ≡ b → FailsFor by e call was now → owed' ≡ owed_refused by e call owed
     → RefusesFor by e call (ledger_of k b was owed) (ledger_of k' b' now owed')

@@ -10,6 +10,7 @@ use Rattle.run_data.specs.declared.entry.Entry.{Entry}
 use Rattle.run_data.specs.declared.entry.EntryKind.{EntryKind}
 use Rattle.run_data.specs.declared.entry.EntryKind.TheVariants.{Fault, Log}
 use Rattle.run_data.specs.declared.entry.LogFile.{LogFile}
+use Rattle.node_model.specs.Clocks.{ClockSet}
 use Rattle.node_model.specs.OwedLines.{OwedLine, if_new, owed_without, same_lines, status_line}
 use Rattle.node_past.specs.declared.setup.Setup.{Setup}
 use Rattle.node_past.specs.declared.setup.Ended.{Ended}
@@ -25,6 +26,7 @@ pub record Repository (K P : Type 0) : Type 0 where
   pub branch : Files
   pub time : ℕ  -- of the script, in milliseconds, and the count of its last entry, or a greater one
   pub count : ℕ
+  pub clock : ClockSet  -- which times locks: when it was set last, and to what
   pub history : List Entry  -- its entries, the oldest first
   pub outcomes : List Ended  -- of its jobs that have ended, in the order of their ends
   pub owed : List OwedLine  -- the lines that it owes its branch, in the order in which it pays them

@@ -33,19 +33,19 @@ impl<K: Keeper> Model for Ledger<K> {
 
     ghost Value = { LedgerView K };
 
-    ghost view = { λ n. record { setup = n.past.setup; keeper = n.keeper; parts = tt; branch = n.branch; time = n.past.time; count = n.past.count; history = n.past.history.items; outcomes = n.past.outcomes.items; owed = owed_at n.past.setup.number n.past.history.items n.debts.items } };
+    ghost view = { λ n. record { setup = n.past.setup; keeper = n.keeper; parts = tt; branch = n.branch; time = n.past.time; count = n.past.count; clock = n.past.clock; history = n.past.history.items; outcomes = n.past.outcomes.items; owed = owed_at n.past.setup.number n.past.history.items n.debts.items } };
 
     // The store has the branch's files, the index is that of the branch, and each place is that of one owed line.
     ghost invariant = { λ n. HasFiles (K.files n.keeper) n.branch × IsIndexed n.index n.branch × AreDebts n.past.setup.number n.past.history.items n.debts.items };
 }
 
 impl<K: Keeper> Ledger<K> {
-    /// A ledger before its first entry. Its store has no file.
+    /// A ledger before its first entry. Its store has no file, and its clock was set at the script's time 0, to its wall clock.
     pub fn new(alloc: Global, setup: Setup, keeper: K) -> Ledger<K>
         requires files { ForSome (K.files keeper) (λ f. (path : List ℕ) → f path ≡ None) }
         requires own { slice_get setup.repos setup.number ≡ Some setup.id }
         requires offset { setup.offset ≤ 100000000000 }
-        ensures { result ≡ record { setup = setup; keeper = keeper; parts = tt; branch = []; time = 0; count = 0; history = []; outcomes = []; owed = [] } }
+        ensures { result ≡ record { setup = setup; keeper = keeper; parts = tt; branch = []; time = 0; count = 0; clock = record { at = 0; to = setup.offset }; history = []; outcomes = []; owed = [] } }
     {
         Ledger {
             keeper,

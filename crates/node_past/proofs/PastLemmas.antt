@@ -18,6 +18,7 @@ pub adds_after : (kind : EntryKind) (lines : List (List ℕ)) (was ready now : P
 adds_after kind lines was ready now same adds = record {
   setup = adds.setup ∙ same.setup;
   time = adds.time ∙ same.time;
+  clock = adds.clock ∙ same.clock;
   count = adds.count ∙ ap (λ (n : ℕ). n + 1) same.count;
   history = adds.history
       ∙ ap (λ (h : List Entry). h ++ entry_at ready.time ready.count ready.setup kind lines ∷ []) same.history
@@ -31,6 +32,7 @@ pub same_after : (was ready now : Past) → SamePast was ready → SamePast read
 same_after was ready now first second = record {
   setup = second.setup ∙ first.setup;
   time = second.time ∙ first.time;
+  clock = second.clock ∙ first.clock;
   count = second.count ∙ first.count;
   history = second.history ∙ first.history;
   outcomes = second.outcomes ∙ first.outcomes;

@@ -18,6 +18,7 @@ use Rattle.run_data.specs.Histories.{most_entries}
 pub record SamePast (was now : Past) : Type 0 where
   pub setup : now.setup ≡ was.setup
   pub time : now.time ≡ was.time
+  pub clock : now.clock ≡ was.clock
   pub count : now.count ≡ was.count
   pub history : now.history.items ≡ was.history.items
   pub outcomes : now.outcomes.items ≡ was.outcomes.items
@@ -34,6 +35,7 @@ entry_of p kind lines = record { time = p.time; count = p.count + 1; repo = Some
 pub record AddsTo (kind : EntryKind) (lines : List (List ℕ)) (was now : Past) : Type 0 where
   pub setup : now.setup ≡ was.setup
   pub time : now.time ≡ was.time
+  pub clock : now.clock ≡ was.clock
   pub count : now.count ≡ was.count + 1
   pub history : now.history.items ≡ was.history.items ++ entry_of was kind lines ∷ []
   pub outcomes : now.outcomes.items ≡ was.outcomes.items
@@ -60,6 +62,7 @@ frames_entry p kind taken sent = record { time = p.time; count = p.count + 1; re
 pub record Enters (kind : EntryKind) (taken : Option FrameView) (sent : List FrameView) (ended : List Ended) (was now : Past) : Type 0 where
   pub setup : now.setup ≡ was.setup
   pub time : now.time ≡ was.time
+  pub clock : now.clock ≡ was.clock
   pub count : now.count ≡ was.count + 1
   pub history : now.history.items ≡ was.history.items ++ frames_entry was kind taken sent ∷ []
   pub outcomes : now.outcomes.items ≡ was.outcomes.items ++ ended

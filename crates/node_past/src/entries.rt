@@ -10,7 +10,7 @@ ghost use Rattle.node_model.specs.OwedLines.{stamp_at};
 
 use crate::past::Past;
 use crate::refused::NodeRefused;
-use crate::setup::Setup;
+use crate::setup::{SetClock, Setup};
 use annex_base::{Call, Items, Line, NoMemory, Stamp};
 use object_store::KeeperFault;
 use run_data::{By, Entry, EntryKind, FrameView};
@@ -23,20 +23,26 @@ const SCRIPT_START: u64 = 1_700_000_000_000;
 const MOST_ENTRIES: usize = 100_000;
 
 impl Past {
-    /// The past before the first entry.
+    /// The past before the first entry. Its clock was set at the script's time 0, to its wall clock.
     pub fn new(alloc: Global, setup: Setup) -> Past
         requires own { slice_get setup.repos setup.number ≡ Some setup.id }
         requires offset { setup.offset ≤ 100000000000 }
         ensures setup { result.setup ≡ setup }
         ensures time { result.time ≡ 0 }
+        ensures clock { result.clock ≡ record { at = 0; to = setup.offset } }
         ensures count { result.count ≡ 0 }
         ensures history { result.history.items ≡ [] }
         ensures outcomes { result.outcomes.items ≡ [] }
     {
+        let clock = SetClock {
+            at: 0,
+            to: setup.offset,
+        };
         Past {
             alloc,
             setup,
             time: 0,
+            clock,
             count: 0,
             history: Vec::new(alloc),
             outcomes: Vec::new(alloc),
@@ -68,6 +74,7 @@ impl Past {
         ensures time { self.new.time ≡ max self.old.time time }
         ensures count { self.new.count ≡ max self.old.count count }
         ensures setup { self.new.setup ≡ self.old.setup }
+        ensures clock { self.new.clock ≡ self.old.clock }
         ensures history { self.new.history ≡ self.old.history }
         ensures outcomes { self.new.outcomes ≡ self.old.outcomes }
     {

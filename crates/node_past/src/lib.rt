@@ -8,4 +8,4 @@ mod setup;
 
 pub use past::Past;
 pub use refused::NodeRefused;
-pub use setup::{Ended, Setup};
+pub use setup::{Ended, SetClock, Setup};

@@ -1,5 +1,6 @@
-//! What a node is given before its first entry, and which of its entries end its jobs.
+//! What a node is given before its first entry, when its clock was set, and which of its entries end its jobs.
 use annex_base::{Items, RepoId};
+use std::marker::Model;
 
 /// A repository as it is set up, and the identifiers of all repositories of its run in order of number (own).
 #[derive(Debug, Drop)]
@@ -14,6 +15,24 @@ pub struct Setup {
     /// Whether it gives holds to its peers.
     pub locks: bool,
     pub repos: Items<RepoId>,
+}
+
+/// When the clock that times locks was set last, and to what, both in milliseconds: it has run on since. The wall clock, which
+/// makes stamps, is another (own).
+#[derive(Clone, Copy, Debug, PartialEq, Eq)]
+pub struct SetClock {
+    pub at: u64,
+    pub to: u64,
+}
+
+impl Model for SetClock {
+    ghost use Rattle.node_model.specs.Clocks.{ClockSet};
+
+    ghost Value = { ClockSet };
+
+    ghost view = { λ c. record { at = c.at; to = c.to } };
+
+    ghost inverse = { λ c. record { at = c.at; to = c.to } };
 }
 
 /// A job that has ended; the entry that ended it says how (own).

@@ -12,6 +12,7 @@ use Rattle.union_merge.specs.Branch.{Files}
 use Rattle.node_jobs.specs.Acting.{with_job}
 use Rattle.node_jobs.specs.Running.{Jobs}
 use Rattle.node_model.specs.After.{state_after}
+use Rattle.node_model.specs.Clocks.{ClockSet}
 use Rattle.node_model.specs.OwedLines.{OwedLine}
 use Rattle.node_model.specs.SetUp.{SetUp}
 use Rattle.node_model.specs.State.{State}
@@ -33,9 +34,9 @@ use Rattle.node_steps.proofs.StepLemmas.{FillLaw, state_more}
 
 -- ---- frames alone have moved
 
-pub kept_links : (setup : Setup) (h : List Entry) (was now : PartsView) (branch : Files) (owed : List OwedLine) (told : Option Contents) → now.table ≡ was.table → now.jobs ≡ was.jobs → ((s : SetUp) (st : State) → AreParts s st was → AreParts s st now)
-    → IsKept setup h was branch owed told → IsKept setup h now branch owed told
-kept_links setup h was now branch owed told table jobs keep kept = record {
+pub kept_links : (setup : Setup) (clock : ClockSet) (h : List Entry) (was now : PartsView) (branch : Files) (owed : List OwedLine) (told : Option Contents) → now.table ≡ was.table → now.jobs ≡ was.jobs → ((s : SetUp) (st : State) → AreParts s st was → AreParts s st now)
+    → IsKept setup clock h was branch owed told → IsKept setup clock h now branch owed told
+kept_links setup clock h was now branch owed told table jobs keep kept = record {
   state = λ s fits.
       let is = kept.state s fits in
       record {
@@ -69,8 +70,8 @@ GoOn was now job what = (s : SetUp) (st : State) (e : Entry) → AreParts s st w
 later_numbers : (n m : ℕ) (hs : List Hold) → n ≤ m → All (λ (x : Hold). x.number < n) hs → All (λ (x : Hold). x.number < m) hs
 later_numbers n m hs more all = All-weaker (λ (x : Hold). x.number < n) (λ (x : Hold). x.number < m) (λ x few. omega (arith, few, more)) hs all
 
-module _ (setup : Setup) (h : List Entry) (was now : PartsView) (branch : Files) (owed : List OwedLine) (told : Option Contents) (time count job : ℕ) (what : Job) (paths : List (List ℕ))
-    (fills : FillLaw) (sound' : AreSound now) (same : now ≡ record was { jobs = with_job was.jobs what paths }) (go : GoOn was now job what) (kept : IsKept setup h was branch owed told) where
+module _ (setup : Setup) (clock : ClockSet) (h : List Entry) (was now : PartsView) (branch : Files) (owed : List OwedLine) (told : Option Contents) (time count job : ℕ) (what : Job) (paths : List (List ℕ))
+    (fills : FillLaw) (sound' : AreSound now) (same : now ≡ record was { jobs = with_job was.jobs what paths }) (go : GoOn was now job what) (kept : IsKept setup clock h was branch owed told) where
   abbrev begun_entry : Entry
   begun_entry = begin_entry setup time count job what
 
@@ -95,7 +96,7 @@ module _ (setup : Setup) (h : List Entry) (was now : PartsView) (branch : Files)
             };
       }
 
-  pub kept_begun : IsKept setup (h ++ begun_entry ∷ []) now branch owed told
+  pub kept_begun : IsKept setup clock (h ++ begun_entry ∷ []) now branch owed told
   kept_begun = record {
     state = λ s fits. subst (IsState s now branch owed told) (sym (state_more s h begun_entry)) (state_begun s fits);
     clock = λ s fits. ap (λ (st : State). st.clock) (state_more s h begun_entry) ∙ kept.clock s fits;
@@ -110,37 +111,39 @@ module _ (setup : Setup) (h : List Entry) (was now : PartsView) (branch : Files)
   }
 
 -- the same, of a past that was made ready
-pub kept_entered : (setup setup' : Setup) (h h' : List Entry) (p : PartsView) (branch : Files) (owed owed' : List OwedLine) (told : Option Contents) → setup' ≡ setup → h' ≡ h → owed' ≡ owed → IsKept setup h p branch owed told → IsKept setup' h' p branch owed' told
-kept_entered setup setup' h h' p branch owed owed' told es eh eo kept =
-    subst (λ (x : Setup). IsKept x h' p branch owed' told) (sym es) (subst (λ (x : List Entry). IsKept setup x p branch owed' told) (sym eh) (subst (λ (x : List OwedLine). IsKept setup h p branch x told) (sym eo) kept))
+pub kept_entered : (setup setup' : Setup) (clock clock' : ClockSet) (h h' : List Entry) (p : PartsView) (branch : Files) (owed owed' : List OwedLine) (told : Option Contents) → setup' ≡ setup → clock' ≡ clock → h' ≡ h → owed' ≡ owed → IsKept setup clock h p branch owed told → IsKept setup' clock' h' p branch owed' told
+kept_entered setup setup' clock clock' h h' p branch owed owed' told es et eh eo kept =
+    subst (λ (x : Setup). IsKept x clock' h' p branch owed' told) (sym es) (subst (λ (x : ClockSet). IsKept setup x h' p branch owed' told) (sym et)
+    (subst (λ (x : List Entry). IsKept setup clock x p branch owed' told) (sym eh) (subst (λ (x : List OwedLine). IsKept setup clock h p branch x told) (sym eo) kept)))
 
 pub begun_kept : FillLaw → (was ready now : Past) (parts parts' : PartsView) (branch : Files) (owed owed' : List OwedLine) (told : Option Contents) (job : ℕ) (what : Job) (paths : List (List ℕ)) (lines : List (List ℕ))
     → AreSound parts' → parts' ≡ record parts { jobs = with_job parts.jobs what paths } → GoOn parts parts' (parts.jobs.begun + 1) what → job ≡ parts.jobs.begun + 1 → lines ≡ [] → SamePast was ready → AddsTo (Begin job what) lines ready now → owed' ≡ owed
-    → IsKept was.setup was.history.items parts branch owed told → IsKept now.setup now.history.items parts' branch owed' told
+    → IsKept was.setup was.clock was.history.items parts branch owed told → IsKept now.setup now.clock now.history.items parts' branch owed' told
 begun_kept fills was ready now parts parts' branch owed owed' told job what paths lines sound same go number none ready_is adds owes kept =
     let added = adds_after (Begin job what) lines was ready now ready_is adds in
-    kept_entered was.setup now.setup (was.history.items ++ begin_entry was.setup was.time (was.count + 1) (parts.jobs.begun + 1) what ∷ []) now.history.items parts' branch owed owed' told added.setup
+    kept_entered was.setup now.setup was.clock now.clock (was.history.items ++ begin_entry was.setup was.time (was.count + 1) (parts.jobs.begun + 1) what ∷ []) now.history.items parts' branch owed owed' told added.setup added.clock
     (added.history ∙ ap (λ (ls : List (List ℕ)). was.history.items ++ record { time = was.time; count = was.count + 1; repo = Some was.setup.number; kind = Begin job what; taken = None; sent = []; lines = ls } ∷ []) none
     ∙ ap (λ (j : ℕ). was.history.items ++ begin_entry was.setup was.time (was.count + 1) j what ∷ []) number)
     owes
-    (kept_begun was.setup was.history.items parts parts' branch owed told was.time (was.count + 1) (parts.jobs.begun + 1) what paths fills sound same go kept)
+    (kept_begun was.setup was.clock was.history.items parts parts' branch owed told was.time (was.count + 1) (parts.jobs.begun + 1) what paths fills sound same go kept)
 
 -- what is seen of the node then
 node_begun : {K : Type 0} (k : K) (parts parts' : PartsView) (branch : Files) (was now : Past) (owed owed' : List OwedLine) (job : ℕ) (what : Job) (paths : List (List ℕ))
     → parts' ≡ record parts { jobs = with_job parts.jobs what paths } → AddsTo (Begin job what) [] was now → owed' ≡ owed
     → seen k parts' branch now owed' ≡ record (with_entry (seen k parts branch was owed) k branch (Begin job what) []) { parts = record parts { jobs = with_job parts.jobs what paths } }
 node_begun {K} k parts parts' branch was now owed owed' job what paths ep adds eo =
-    let node : PartsView → Setup → ℕ → ℕ → List Entry → List Ended → List OwedLine → NodeView K =
-    (λ p s t c h x o. record { setup = s; keeper = k; parts = p; branch = branch; time = t; count = c; history = h; outcomes = x; owed = o }) in
+    let node : PartsView → Setup → ℕ → ℕ → ClockSet → List Entry → List Ended → List OwedLine → NodeView K =
+    (λ p s t c m h x o. record { setup = s; keeper = k; parts = p; branch = branch; time = t; count = c; clock = m; history = h; outcomes = x; owed = o }) in
     let h' : List Entry = was.history.items ++ begin_entry was.setup was.time (was.count + 1) job what ∷ [] in
     let p' : PartsView = record parts { jobs = with_job parts.jobs what paths } in
-    ap (λ (p : PartsView). node p now.setup now.time now.count now.history.items now.outcomes.items owed') ep
-    ∙ ap (λ (s : Setup). node p' s now.time now.count now.history.items now.outcomes.items owed') adds.setup
-    ∙ ap (λ (t : ℕ). node p' was.setup t now.count now.history.items now.outcomes.items owed') adds.time
-    ∙ ap (λ (c : ℕ). node p' was.setup was.time c now.history.items now.outcomes.items owed') adds.count
-    ∙ ap (λ (h : List Entry). node p' was.setup was.time (was.count + 1) h now.outcomes.items owed') adds.history
-    ∙ ap (λ (x : List Ended). node p' was.setup was.time (was.count + 1) h' x owed') adds.outcomes
-    ∙ ap (λ (o : List OwedLine). node p' was.setup was.time (was.count + 1) h' was.outcomes.items o) eo
+    ap (λ (p : PartsView). node p now.setup now.time now.count now.clock now.history.items now.outcomes.items owed') ep
+    ∙ ap (λ (s : Setup). node p' s now.time now.count now.clock now.history.items now.outcomes.items owed') adds.setup
+    ∙ ap (λ (t : ℕ). node p' was.setup t now.count now.clock now.history.items now.outcomes.items owed') adds.time
+    ∙ ap (λ (c : ℕ). node p' was.setup was.time c now.clock now.history.items now.outcomes.items owed') adds.count
+    ∙ ap (λ (m : ClockSet). node p' was.setup was.time (was.count + 1) m now.history.items now.outcomes.items owed') adds.clock
+    ∙ ap (λ (h : List Entry). node p' was.setup was.time (was.count + 1) was.clock h now.outcomes.items owed') adds.history
+    ∙ ap (λ (x : List Ended). node p' was.setup was.time (was.count + 1) was.clock h' x owed') adds.outcomes
+    ∙ ap (λ (o : List OwedLine). node p' was.setup was.time (was.count + 1) was.clock h' was.outcomes.items o) eo
 
 pub seen_begun : {K : Type 0} (k : K) (parts parts' : PartsView) (branch : Files) (was ready now : Past) (owed owed' : List OwedLine) (job : ℕ) (what : Job) (paths : List (List ℕ)) (lines : List (List ℕ)) (n : NodeView K)
     → seen k parts branch was owed ≡ n → parts' ≡ record parts { jobs = with_job parts.jobs what paths } → lines ≡ [] → SamePast was ready → AddsTo (Begin job what) lines ready now → owed' ≡ owed

@@ -34,7 +34,7 @@ use Rattle.node_steps.proofs.StateLemmas.{direct, files_move, kept_more, put_may
 
 -- a ledger is kept beside these parts, over a store that tells these contents
 abbrev pub KeptAt : {K : Type 0} → LedgerView K → PartsView → Option Contents → Type 0
-KeptAt l p told = IsKept l.setup l.history p l.branch l.owed told
+KeptAt l p told = IsKept l.setup l.clock l.history p l.branch l.owed told
 
 -- the same as it was before its fields were seen
 pub stands_in : {K : Type 0} (cs : K → Option Contents) (ps : K → Option Parts) (rs : K → Option (List HoldRecord)) (l n : LedgerView K) (p : PartsView) → l ≡ n → Stands n p (cs n.keeper) (ps n.keeper) (rs n.keeper) → Stands l p (cs l.keeper) (ps l.keeper) (rs l.keeper)

@@ -18,6 +18,7 @@ use Rattle.object_store.specs.Stores.{Contents, Parts as StoredParts}
 use Rattle.union_merge.specs.Branch.{Files, lines_at}
 use Rattle.union_merge.specs.LineSet.{union}
 use Rattle.annex_base.specs.declared.memory.NoMemory.{NoMemory}
+use Rattle.node_model.specs.Clocks.{ClockSet}
 use Rattle.node_model.specs.Look.{Look, Effect, as_told, entry_of, failed_in}
 use Rattle.node_model.specs.SessionStep.{session_step}
 use Rattle.node_model.specs.SetUp.{SetUp}
@@ -49,7 +50,7 @@ use Rattle.node_steps.proofs.StepLemmas.{CountLaw, DoesBy, WhereDone, sees_parts
 
 -- the node that these are
 abbrev pub seen : {K : Type 0} → K → PartsView → Files → Past → List OwedLine → NodeView K
-seen keeper parts branch p owed = record { setup = p.setup; keeper = keeper; parts = parts; branch = branch; time = p.time; count = p.count; history = p.history.items; outcomes = p.outcomes.items; owed = owed }
+seen keeper parts branch p owed = record { setup = p.setup; keeper = keeper; parts = parts; branch = branch; time = p.time; count = p.count; clock = p.clock; history = p.history.items; outcomes = p.outcomes.items; owed = owed }
 
 some_done : (x y : Done) → Some x ≡ Some y → x ≡ y
 some_done x y is = cc
@@ -70,6 +71,7 @@ pub enters_after : (d : Done) (was ready now : Past) → SamePast was ready → 
 enters_after d was ready now same enters = record {
   setup = enters.setup ∙ same.setup;
   time = enters.time ∙ same.time;
+  clock = enters.clock ∙ same.clock;
   count = enters.count ∙ ap (λ (n : ℕ). n + 1) same.count;
   history = enters.history
       ∙ ap (λ (h : List Entry). h ++ entry_at ready.time ready.count ready.setup d.kind d.taken d.sent ∷ []) same.history
@@ -84,15 +86,16 @@ enters_after d was ready now same enters = record {
 same_node : {K : Type 0} (k k' : K) (parts parts' : PartsView) (branch : Files) (was now : Past) (owed owed' : List OwedLine) → parts' ≡ parts → SamePast was now → owed' ≡ owed
     → seen k' parts' branch now owed' ≡ record (seen k parts branch was owed) { keeper = k' }
 same_node {K} k k' parts parts' branch was now owed owed' ep same eo =
-    let node : PartsView → Setup → ℕ → ℕ → List Entry → List Ended → List OwedLine → NodeView K =
-    (λ p s t c h x o. record { setup = s; keeper = k'; parts = p; branch = branch; time = t; count = c; history = h; outcomes = x; owed = o }) in
-    ap (λ (p : PartsView). node p now.setup now.time now.count now.history.items now.outcomes.items owed') ep
-    ∙ ap (λ (s : Setup). node parts s now.time now.count now.history.items now.outcomes.items owed') same.setup
-    ∙ ap (λ (t : ℕ). node parts was.setup t now.count now.history.items now.outcomes.items owed') same.time
-    ∙ ap (λ (c : ℕ). node parts was.setup was.time c now.history.items now.outcomes.items owed') same.count
-    ∙ ap (λ (h : List Entry). node parts was.setup was.time was.count h now.outcomes.items owed') same.history
-    ∙ ap (λ (x : List Ended). node parts was.setup was.time was.count was.history.items x owed') same.outcomes
-    ∙ ap (λ (o : List OwedLine). node parts was.setup was.time was.count was.history.items was.outcomes.items o) eo
+    let node : PartsView → Setup → ℕ → ℕ → ClockSet → List Entry → List Ended → List OwedLine → NodeView K =
+    (λ p s t c m h x o. record { setup = s; keeper = k'; parts = p; branch = branch; time = t; count = c; clock = m; history = h; outcomes = x; owed = o }) in
+    ap (λ (p : PartsView). node p now.setup now.time now.count now.clock now.history.items now.outcomes.items owed') ep
+    ∙ ap (λ (s : Setup). node parts s now.time now.count now.clock now.history.items now.outcomes.items owed') same.setup
+    ∙ ap (λ (t : ℕ). node parts was.setup t now.count now.clock now.history.items now.outcomes.items owed') same.time
+    ∙ ap (λ (c : ℕ). node parts was.setup was.time c now.clock now.history.items now.outcomes.items owed') same.count
+    ∙ ap (λ (m : ClockSet). node parts was.setup was.time was.count m now.history.items now.outcomes.items owed') same.clock
+    ∙ ap (λ (h : List Entry). node parts was.setup was.time was.count was.clock h now.outcomes.items owed') same.history
+    ∙ ap (λ (x : List Ended). node parts was.setup was.time was.count was.clock was.history.items x owed') same.outcomes
+    ∙ ap (λ (o : List OwedLine). node parts was.setup was.time was.count was.clock was.history.items was.outcomes.items o) eo
 
 pub seen_same : {K : Type 0} (k k' : K) (parts parts' : PartsView) (branch : Files) (was now : Past) (owed owed' : List OwedLine) (n : NodeView K) → seen k parts branch was owed ≡ n → parts' ≡ parts → SamePast was now → owed' ≡ owed
     → seen k' parts' branch now owed' ≡ record n { keeper = k' }
@@ -134,6 +137,7 @@ adds_entry d k k' parts parts' branch number was now owed owed' before after ent
   repo = refl;
   counted = enters.count;
   at = enters.time;
+  clock = enters.clock;
   setup = enters.setup;
   branch = branch_stays branch d.kind quiet;
   ends = leaves.ends;
@@ -166,10 +170,10 @@ none_told (Some m) is = absurd cc
 
 -- no look of these finds a step
 none_steps : {K : Type 0} (step : Stepper) (law : CountLaw) (k : K) (parts parts' : PartsView) (branch : Files) (was : Past) (owed : List OwedLine) (cs cs' : Option Contents) (qs : Option StoredParts)
-    → IsKept was.setup was.history.items parts branch owed (told_of cs qs) → (c : Contents) → told_of cs qs ≡ Some c → DoesBy step parts parts' c qs cs' was.setup was.history.items was.time None
+    → IsKept was.setup was.clock was.history.items parts branch owed (told_of cs qs) → (c : Contents) → told_of cs qs ≡ Some c → DoesBy step parts parts' c qs cs' was.setup was.clock was.history.items was.time None
     → NoStep step (seen k parts branch was owed)
 none_steps step law k parts parts' branch was owed cs cs' qs kept c told by s look fits looks =
-    none_told (step s (state_of s was.history.items) look) (by.does s look fits (sees_parts law was.setup was.history.items parts branch owed (told_of cs qs) c was.time (length was.history.items + 1) s look kept told refl fits looks.paths looks.ends looks.time)
+    none_told (step s (state_of s was.history.items) look) (by.does s look fits (sees_parts law was.setup was.clock was.history.items parts branch owed (told_of cs qs) c was.time (length was.history.items + 1) s look kept told refl fits looks.paths looks.ends looks.time)
     (λ d is. no_done d is) (λ d is. no_done d is) (λ d is. no_done d is)).made
 
 entry_same : (r r' time time' count count' : ℕ) (m : Effect) → r ≡ r' → time ≡ time' → count ≡ count'
@@ -190,16 +194,16 @@ module _ (known : Option StoredParts) (d : Done) (parts : PartsView) (k : Look) 
   finds_words words x is = words ∙ ap (λ (y : Done). words_heard parts (Some y)) (some_done d x is)
 
 some_steps : {K : Type 0} (step : Stepper) (law : CountLaw) (d : Done) (k k' : K) (parts parts' : PartsView) (branch : Files) (was now : Past) (owed owed' : List OwedLine) (before after : StoreView)
-    → IsKept was.setup was.history.items parts branch owed (told_of before.contents before.parts) → EntersStep d was now → (c : Contents) → told_of before.contents before.parts ≡ Some c
-    → DoesBy step parts parts' c before.parts after.contents was.setup was.history.items was.time (Some d)
-    → WhereDone parts c before.parts was.setup was.history.items was.time (Some d) (λ s st x. ForSome (step s st x) (λ (m : Effect). MakesCalls m.calls (failed_in d.kind) before.failing after.failing))
+    → IsKept was.setup was.clock was.history.items parts branch owed (told_of before.contents before.parts) → EntersStep d was now → (c : Contents) → told_of before.contents before.parts ≡ Some c
+    → DoesBy step parts parts' c before.parts after.contents was.setup was.clock was.history.items was.time (Some d)
+    → WhereDone parts c before.parts was.setup was.clock was.history.items was.time (Some d) (λ s st x. ForSome (step s st x) (λ (m : Effect). MakesCalls m.calls (failed_in d.kind) before.failing after.failing))
     → StepsBy step before after (seen k parts branch was owed) (seen k' parts' branch now owed')
 some_steps step law d k k' parts parts' branch was now owed owed' before after kept enters c told by calls = record {
   kind = d.kind;
   taken = d.taken;
   part = by.part d refl;
   makes = λ s look fits looks finds.
-      let sees = sees_parts law was.setup was.history.items parts branch owed (told_of before.contents before.parts) c was.time (length was.history.items + 1) s look kept told refl fits looks.paths looks.ends looks.time in
+      let sees = sees_parts law was.setup was.clock was.history.items parts branch owed (told_of before.contents before.parts) c was.time (length was.history.items + 1) s look kept told refl fits looks.paths looks.ends looks.time in
       let fails = finds_fails before.parts d parts look finds.fails in
       let asks = finds_part before.parts d parts look finds.part in
       let hears = finds_words before.parts d parts look finds.words in
@@ -217,9 +221,9 @@ some_steps step law d k k' parts parts' branch was now owed owed' before after k
 }
 
 pub steps_if : {K : Type 0} (view : K → StoreView) (step : Stepper) (law : CountLaw) (o : Option Done) (b : Bool) (k k' : K) (parts parts' : PartsView) (branch : Files) (was ready now : Past) (debts debts' : List ℕ) (owed owed' : List OwedLine) (n : NodeView K)
-    → seen k parts branch was owed ≡ n → b ≡ is_some o → SamePast was ready → EntersIf o ready now debts debts' → IsKept was.setup was.history.items parts branch owed (told_of (view k).contents (view k).parts)
-    → ForSome (told_of (view k).contents (view k).parts) (λ c. DoesBy step parts parts' c (view k).parts (view k').contents was.setup was.history.items was.time o)
-    → ForSome (told_of (view k).contents (view k).parts) (λ c. WhereDone parts c (view k).parts was.setup was.history.items was.time o (λ s st x. ForSome (step s st x) (λ (m : Effect). MakesCalls m.calls (failed_by o) (view k).failing (view k').failing)))
+    → seen k parts branch was owed ≡ n → b ≡ is_some o → SamePast was ready → EntersIf o ready now debts debts' → IsKept was.setup was.clock was.history.items parts branch owed (told_of (view k).contents (view k).parts)
+    → ForSome (told_of (view k).contents (view k).parts) (λ c. DoesBy step parts parts' c (view k).parts (view k').contents was.setup was.clock was.history.items was.time o)
+    → ForSome (told_of (view k).contents (view k).parts) (λ c. WhereDone parts c (view k).parts was.setup was.clock was.history.items was.time o (λ s st x. ForSome (step s st x) (λ (m : Effect). MakesCalls m.calls (failed_by o) (view k).failing (view k').failing)))
     → (c : Contents) → told_of (view k).contents (view k).parts ≡ Some c → MovesSo b step (view n.keeper) (view k') n (seen k' parts' branch now owed')
 steps_if {K} view step law None b k k' parts parts' branch was ready now debts debts' owed owed' n node made same enters kept does calls c told =
     subst (λ (x : Bool). MovesSo x step (view n.keeper) (view k') n (seen k' parts' branch now owed')) (sym made)
@@ -240,27 +244,27 @@ told_both cs None c told = absurd cc
 told_both cs (Some q) c told = (q, refl)
 
 abbrev pub moment_in : Past → Moment
-moment_in p = record { time = p.time; clock = record { at = 0; to = p.setup.offset }; count = p.count + 1; number = vec_len p.history + 1 }
+moment_in p = record { time = p.time; clock = p.clock; count = p.count + 1; number = vec_len p.history + 1 }
 
 -- the moment of a past that was made ready
-moment_same : (was ready : Past) → SamePast was ready → moment_in ready ≡ record { time = was.time; clock = record { at = 0; to = was.setup.offset }; count = was.count + 1; number = length was.history.items + 1 }
+moment_same : (was ready : Past) → SamePast was ready → moment_in ready ≡ record { time = was.time; clock = was.clock; count = was.count + 1; number = length was.history.items + 1 }
 moment_same was ready same =
-    let moment : ℕ → Setup → ℕ → ℕ → Moment = (λ t s c n. record { time = t; clock = record { at = 0; to = s.offset }; count = c + 1; number = n }) in
-    ap (λ (t : ℕ). moment t ready.setup ready.count (vec_len ready.history + 1)) same.time
-    ∙ ap (λ (s : Setup). moment was.time s ready.count (vec_len ready.history + 1)) same.setup
-    ∙ ap (λ (c : ℕ). moment was.time was.setup c (vec_len ready.history + 1)) same.count
-    ∙ ap (λ (n : ℕ). moment was.time was.setup was.count n) (next_number was ready same)
+    let moment : ℕ → ClockSet → ℕ → ℕ → Moment = (λ t m c n. record { time = t; clock = m; count = c + 1; number = n }) in
+    ap (λ (t : ℕ). moment t ready.clock ready.count (vec_len ready.history + 1)) same.time
+    ∙ ap (λ (m : ClockSet). moment was.time m ready.count (vec_len ready.history + 1)) same.clock
+    ∙ ap (λ (c : ℕ). moment was.time was.clock c (vec_len ready.history + 1)) same.count
+    ∙ ap (λ (n : ℕ). moment was.time was.clock was.count n) (next_number was ready same)
 
 -- what is so wherever the sessions' step is made, is so of the node's states
 served_where : (m : Moment) (was ready : Past) (parts : PartsView) (c : Contents) (known : Option StoredParts) (o : Option Done) (P : SetUp → State → Look → Type 0) → m ≡ moment_in ready → SamePast was ready
-    → WhereServed parts c known m.clock m.time m.number o P → WhereDone parts c known was.setup was.history.items was.time o P
+    → WhereServed parts c known m.clock m.time m.number o P → WhereDone parts c known was.setup was.clock was.history.items was.time o P
 served_where m was ready parts c known o P at same there s k fits sees fails asks hears =
     (subst (λ (x : Moment). WhereServed parts c known x.clock x.time x.number o P) (at ∙ moment_same was ready same) there) s (state_of s was.history.items) k sees fails asks
 
 pub served_does : (m : Moment) (was ready : Past) (parts parts' : PartsView) (cs cs' : Option Contents) (qs : Option StoredParts) (o : Option Done)
     → m ≡ moment_in ready → SamePast was ready → IsFed qs parts
     → ForSome cs (λ c. Serves parts parts' c qs cs' m.clock m.time m.number o) → ForSome qs (λ q. AreAllFed q parts.sessions → ForSome o (λ d. HasPart (Some q) parts d.taken))
-    → ForSome (told_of cs qs) (λ c. DoesBy session_step parts parts' c qs cs' was.setup was.history.items was.time o)
+    → ForSome (told_of cs qs) (λ c. DoesBy session_step parts parts' c qs cs' was.setup was.clock was.history.items was.time o)
 served_does m was ready parts parts' cs cs' qs o at same fed serves asked c told =
     let q = told_both cs qs c told in
     record {
@@ -270,14 +274,14 @@ served_does m was ready parts parts' cs cs' qs o at same fed serves asked c told
 
 pub served_calls : (m : Moment) (was ready : Past) (parts : PartsView) (cs : Option Contents) (qs : Option StoredParts) (o : Option Done) (before after : Option (Call → ℕ)) → m ≡ moment_in ready → SamePast was ready
     → ForSome cs (λ c. WhereServed parts c qs m.clock m.time m.number o (λ s st k. ForSome (session_step s st k) (λ (m : Effect). MakesCalls m.calls (failed_by o) before after)))
-    → ForSome (told_of cs qs) (λ c. WhereDone parts c qs was.setup was.history.items was.time o (λ s st k. ForSome (session_step s st k) (λ (m : Effect). MakesCalls m.calls (failed_by o) before after)))
+    → ForSome (told_of cs qs) (λ c. WhereDone parts c qs was.setup was.clock was.history.items was.time o (λ s st k. ForSome (session_step s st k) (λ (m : Effect). MakesCalls m.calls (failed_by o) before after)))
 served_calls m was ready parts cs qs o before after at same calls c told =
     served_where m was ready parts c qs o (λ s st k. ForSome (session_step s st k) (λ (m : Effect). MakesCalls m.calls (failed_by o) before after)) at same (calls c (told_some cs qs c told).0)
 
 -- what the jobs read is what the state has read
-pub settings_are : (setup : Setup) (h : List Entry) (parts : PartsView) (branch : Files) (owed : List OwedLine) (told : Option Contents) (i : Indices) (s : SetUp)
-    → ((x : Indices) (lines : Lines) → HaveReadLines x lines → settings_of x ≡ settings lines) → HaveReadLines i (lines_at branch) → IsKept setup h parts branch owed told → MatchesSetup setup s → settings (state_of s h).lines ≡ settings_of i
-settings_are setup h parts branch owed told i s law reads kept fits =
+pub settings_are : (setup : Setup) (clock : ClockSet) (h : List Entry) (parts : PartsView) (branch : Files) (owed : List OwedLine) (told : Option Contents) (i : Indices) (s : SetUp)
+    → ((x : Indices) (lines : Lines) → HaveReadLines x lines → settings_of x ≡ settings lines) → HaveReadLines i (lines_at branch) → IsKept setup clock h parts branch owed told → MatchesSetup setup s → settings (state_of s h).lines ≡ settings_of i
+settings_are setup clock h parts branch owed told i s law reads kept fits =
     let is = kept.state s fits in
     let same : (state_of s h).lines ≡ lines_at branch = (λ j path. sym (is.lines path) j) in
     ap settings same ∙ sym (law i (lines_at branch) reads)
@@ -293,27 +297,27 @@ none_asked known p taken is = record { part = 0; right = false; asked = subst (�
 -- the premises on the moment, and on what the index has read
 module _ (m : Moment) (was ready : Past) (parts : PartsView) (branch : Files) (owed : List OwedLine) (cs : Option Contents) (qs : Option StoredParts) (i : Indices) (o : Option Done)
     (at : m ≡ moment_in ready) (same : SamePast was ready) (law : (x : Indices) (lines : Lines) → HaveReadLines x lines → settings_of x ≡ settings lines) (reads : HaveReadLines i (lines_at branch))
-    (kept : IsKept was.setup was.history.items parts branch owed (told_of cs qs)) where
-  acted_where : (c : Contents) (P : SetUp → State → Look → Type 0) → WhereActed parts c m.clock (settings_of i) m.time m.number o P → WhereDone parts c qs was.setup was.history.items was.time o P
+    (kept : IsKept was.setup was.clock was.history.items parts branch owed (told_of cs qs)) where
+  acted_where : (c : Contents) (P : SetUp → State → Look → Type 0) → WhereActed parts c m.clock (settings_of i) m.time m.number o P → WhereDone parts c qs was.setup was.clock was.history.items was.time o P
   acted_where c P there s k fits sees fails asks hears =
       (subst (λ (x : Moment). WhereActed parts c x.clock (settings_of i) x.time x.number o P) (at ∙ moment_same was ready same) there) s (state_of s was.history.items) k
-      (sees.parts.logs ∙ settings_are was.setup was.history.items parts branch owed (told_of cs qs) i s law reads kept fits) sees fails hears
+      (sees.parts.logs ∙ settings_are was.setup was.clock was.history.items parts branch owed (told_of cs qs) i s law reads kept fits) sees fails hears
 
   pub acted_does : (parts' : PartsView) (cs' : Option Contents) → ForSome cs (λ c. Acts parts parts' c cs' m.clock (settings_of i) m.time m.number o) → ForSome o (λ d. session_asked parts.sessions d.taken ≡ None)
-      → ForSome (told_of cs qs) (λ c. DoesBy job_step parts parts' c qs cs' was.setup was.history.items was.time o)
+      → ForSome (told_of cs qs) (λ c. DoesBy job_step parts parts' c qs cs' was.setup was.clock was.history.items was.time o)
   acted_does parts' cs' acts asked c told = record {
     part = λ d is. none_asked qs parts d.taken (asked d is);
     does = acted_where c (λ s st k. Steps job_step parts' cs' s st k o) (acts c (told_some cs qs c told).0);
   }
 
   pub acted_calls : (before after : Option (Call → ℕ)) → ForSome cs (λ c. WhereActed parts c m.clock (settings_of i) m.time m.number o (λ s st k. ForSome (job_step s st k) (λ (m : Effect). MakesCalls m.calls (failed_by o) before after)))
-      → ForSome (told_of cs qs) (λ c. WhereDone parts c qs was.setup was.history.items was.time o (λ s st k. ForSome (job_step s st k) (λ (m : Effect). MakesCalls m.calls (failed_by o) before after)))
+      → ForSome (told_of cs qs) (λ c. WhereDone parts c qs was.setup was.clock was.history.items was.time o (λ s st k. ForSome (job_step s st k) (λ (m : Effect). MakesCalls m.calls (failed_by o) before after)))
   acted_calls before after calls c told = acted_where c (λ s st k. ForSome (job_step s st k) (λ (m : Effect). MakesCalls m.calls (failed_by o) before after)) (calls c (told_some cs qs c told).0)
 
 -- ---- whether a step is ready
 
 pub ready_parts : {K : Type 0} (r : Result Bool NoMemory) (law : CountLaw) (m : Moment) (k : K) (parts : PartsView) (branch : Files) (was : Past) (owed : List OwedLine) (cs : Option Contents) (qs : Option StoredParts) (n : NodeView K)
-    → seen k parts branch was owed ≡ n → m ≡ moment_in was → IsKept was.setup was.history.items parts branch owed (told_of cs qs)
+    → seen k parts branch was owed ≡ n → m ≡ moment_in was → IsKept was.setup was.clock was.history.items parts branch owed (told_of cs qs)
     → IfOk r (λ b. (c : Contents) (s : SetUp) (st : State) (look : Look) → SeesParts parts c m.clock m.time m.number s st look → is_some (option_or (session_step s st look) (job_step s st look)) ≡ b)
     → {told : Option Contents} → told_of cs qs ≡ told
     → IfOk r (λ b. ForSome told (λ c. (s : SetUp) (look : Look) → MatchesSetup n.setup s → Looks n s look → is_some (option_or (session_step s (state_of s n.history) look) (job_step s (state_of s n.history) look)) ≡ b))
@@ -321,7 +325,7 @@ ready_parts {K} (Ok b) law m k parts branch was owed cs qs n view at kept ready 
     subst (λ (x : NodeView K). (s : SetUp) (look : Look) → MatchesSetup x.setup s → Looks x s look → is_some (option_or (session_step s (state_of s x.history) look) (job_step s (state_of s x.history) look)) ≡ b) view
     (λ s look fits looks.
     let sees : SeesParts parts c (moment_in was).clock (moment_in was).time (moment_in was).number s (state_of s was.history.items) look =
-    sees_parts law was.setup was.history.items parts branch owed (told_of cs qs) c was.time (vec_len was.history + 1) s look kept (same ∙ known) (ap (λ (x : ℕ). x + 1) was.history.ok.0) fits looks.paths looks.ends looks.time in
+    sees_parts law was.setup was.clock was.history.items parts branch owed (told_of cs qs) c was.time (vec_len was.history + 1) s look kept (same ∙ known) (ap (λ (x : ℕ). x + 1) was.history.ok.0) fits looks.paths looks.ends looks.time in
     ready c s (state_of s was.history.items) look (subst (λ (x : Moment). SeesParts parts c x.clock x.time x.number s (state_of s was.history.items) look) (sym at) sees))
 ready_parts (Err e) law m k parts branch was owed cs qs n view at kept ready same = tt
 

@@ -123,18 +123,18 @@ owed_if_none (Some d) was ready now debts ready_debts debts' same same_debts ent
 
 pub kept_if : (step : Stepper) (fills : FillLaw) (law : CountLaw) (o : Option Done) (was ready now : Past) (parts parts' : PartsView) (branch : Files) (debts ready_debts debts' : List ℕ) (cs cs' : Option Contents) (qs qs' : Option StoredParts)
     → AreSound parts → AreSound parts' → SamePast was ready → ready_debts ≡ debts → EntersIf o ready now ready_debts debts' → DebtsIn was debts → owed_in was debts ≡ []
-    → LeavesSo (length was.history.items + 1) parts parts' o → ForSome o (λ d. IsQuiet d.kind) → ForSome (told_of cs qs) (λ c. DoesBy step parts parts' c qs cs' was.setup was.history.items was.time o)
+    → LeavesSo (length was.history.items + 1) parts parts' o → ForSome o (λ d. IsQuiet d.kind) → ForSome (told_of cs qs) (λ c. DoesBy step parts parts' c qs cs' was.setup was.clock was.history.items was.time o)
     → is_some qs' ≡ is_some qs → (is_some qs ≡ true → is_some cs' ≡ is_some cs) → parts'.jobs.place ≡ parts.jobs.place → parts'.jobs.begun ≡ parts.jobs.begun
-    → IsKept was.setup was.history.items parts branch (owed_in was debts) (told_of cs qs) → IsKept now.setup now.history.items parts' branch (owed_in now debts') (told_of cs' qs')
+    → IsKept was.setup was.clock was.history.items parts branch (owed_in was debts) (told_of cs qs) → IsKept now.setup now.clock now.history.items parts' branch (owed_in now debts') (told_of cs' qs')
 kept_if step fills law None was ready now parts parts' branch debts ready_debts debts' cs cs' qs qs' sound sound' same same_debts enters are none leaves quiet does told_parts told_contents place begun kept =
     let same_now : SamePast was now = subst (SamePast was) (sym enters.0) same in
-    kept_entered was.setup now.setup was.history.items now.history.items parts' branch (owed_in was debts) (owed_in now debts') (told_of cs' qs') same_now.setup same_now.history (owed_same was now debts debts' same_now (enters.1 ∙ same_debts) are)
-    (subst (λ (p : PartsView). IsKept was.setup was.history.items p branch (owed_in was debts) (told_of cs' qs')) (sym leaves)
-    (kept_asked step law was.setup was.history.items parts branch (owed_in was debts) cs cs' qs qs' was.time sound kept
-    (subst (λ (p : PartsView). ForSome (told_of cs qs) (λ c. DoesBy step parts p c qs cs' was.setup was.history.items was.time None)) leaves does) told_parts told_contents))
+    kept_entered was.setup now.setup was.clock now.clock was.history.items now.history.items parts' branch (owed_in was debts) (owed_in now debts') (told_of cs' qs') same_now.setup same_now.clock same_now.history (owed_same was now debts debts' same_now (enters.1 ∙ same_debts) are)
+    (subst (λ (p : PartsView). IsKept was.setup was.clock was.history.items p branch (owed_in was debts) (told_of cs' qs')) (sym leaves)
+    (kept_asked step law was.setup was.clock was.history.items parts branch (owed_in was debts) cs cs' qs qs' was.time sound kept
+    (subst (λ (p : PartsView). ForSome (told_of cs qs) (λ c. DoesBy step parts p c qs cs' was.setup was.clock was.history.items was.time None)) leaves does) told_parts told_contents))
 kept_if step fills law (Some d) was ready now parts parts' branch debts ready_debts debts' cs cs' qs qs' sound sound' same same_debts enters are none leaves quiet does told_parts told_contents place begun kept =
     let added = enters_after d was ready now same enters.0 in
-    kept_entered was.setup now.setup (was.history.items ++ made_in was d ∷ []) now.history.items parts' branch (owed_by was.setup.number d.kind) (owed_in now debts') (told_of cs' qs') added.setup added.history
+    kept_entered was.setup now.setup was.clock now.clock (was.history.items ++ made_in was d ∷ []) now.history.items parts' branch (owed_by was.setup.number d.kind) (owed_in now debts') (told_of cs' qs') added.setup added.clock added.history
     (owed_noted d was ready now debts ready_debts debts' same same_debts enters are none)
-    (kept_stepped step was.setup was.history.items parts parts' branch cs cs' qs qs' was.time (was.count + 1) d fills law sound sound'
-    (subst (λ (os : List OwedLine). IsKept was.setup was.history.items parts branch os (told_of cs qs)) none kept) leaves (quiet d refl) does told_parts told_contents place begun)
+    (kept_stepped step was.setup was.clock was.history.items parts parts' branch cs cs' qs qs' was.time (was.count + 1) d fills law sound sound'
+    (subst (λ (os : List OwedLine). IsKept was.setup was.clock was.history.items parts branch os (told_of cs qs)) none kept) leaves (quiet d refl) does told_parts told_contents place begun)

@@ -160,9 +160,9 @@ pub record StaysStored (before after : StoreView) (failed : Option Call) : Type 
   pub left : after.failing ≡ option_map (fewer failed) before.failing
 
 adds_quiet : {K : Type 0} (law : StayLaw) (n m : NodeView K) (kind : EntryKind) (lines : List (List ℕ)) (before after : StoreView)
-    → m.setup ≡ n.setup → m.time ≡ n.time → m.count ≡ n.count + 1 → m.history ≡ n.history ++ next_entry n kind lines ∷ [] → m.outcomes ≡ n.outcomes → m.branch ≡ branch_by n.branch kind lines → m.parts ≡ n.parts → ended_by kind (length n.history) ≡ []
+    → m.setup ≡ n.setup → m.time ≡ n.time → m.clock ≡ n.clock → m.count ≡ n.count + 1 → m.history ≡ n.history ++ next_entry n kind lines ∷ [] → m.outcomes ≡ n.outcomes → m.branch ≡ branch_by n.branch kind lines → m.parts ≡ n.parts → ended_by kind (length n.history) ≡ []
     → contents_after before.contents before.parts kind ≡ before.contents → StaysStored before after (failed_in kind) → IfSome (failed_in kind) (λ call. Rose before.faults after.faults) → Adds n.parts.links before after n m
-adds_quiet law n m kind lines before after setup time count history outcomes branch parts none still stored cause = record {
+adds_quiet law n m kind lines before after setup time clock count history outcomes branch parts none still stored cause = record {
   entry = next_entry n kind lines;
   history = history;
   outcomes = outcomes ∙ sym (append-nil n.outcomes) ∙ ap (λ (x : List Ended). n.outcomes ++ x) (sym none);
@@ -171,6 +171,7 @@ adds_quiet law n m kind lines before after setup time count history outcomes bra
   repo = refl;
   counted = count;
   at = time;
+  clock = clock;
   setup = setup;
   branch = branch;
   ends = subst (λ (p : PartsView). AreAfter n.parts.links p.links None []) (sym parts) (law n.parts.links);
@@ -183,11 +184,11 @@ adds_quiet law n m kind lines before after setup time count history outcomes bra
 }
 
 pub adds_paid : {K : Type 0} (law : StayLaw) (n m : NodeView K) (o : OwedLine) (before after : StoreView) → m ≡ with_status n m.keeper o.key o.repo o.there → StaysStored before after None → Adds n.parts.links before after n m
-adds_paid {K} law n m o before after is stored = adds_quiet law n m (Log (Location o.key)) (due_by n o.key o.repo o.there) before after (ap (λ (x : NodeView K). x.setup) is) (ap (λ (x : NodeView K). x.time) is) (ap (λ (x : NodeView K). x.count) is) (ap (λ (x : NodeView K). x.history) is)
+adds_paid {K} law n m o before after is stored = adds_quiet law n m (Log (Location o.key)) (due_by n o.key o.repo o.there) before after (ap (λ (x : NodeView K). x.setup) is) (ap (λ (x : NodeView K). x.time) is) (ap (λ (x : NodeView K). x.clock) is) (ap (λ (x : NodeView K). x.count) is) (ap (λ (x : NodeView K). x.history) is)
     (ap (λ (x : NodeView K). x.outcomes) is) (ap (λ (x : NodeView K). x.branch) is) (ap (λ (x : NodeView K). x.parts) is) refl refl stored tt
 
 pub adds_failed : {K : Type 0} (law : StayLaw) (n m : NodeView K) (o : OwedLine) (before after : StoreView) → m ≡ with_entry n m.keeper n.branch (Fault PutFile o.by) [] → StaysStored before after (Some PutFile) → Rose before.faults after.faults → Adds n.parts.links before after n m
-adds_failed {K} law n m o before after is stored rose = adds_quiet law n m (Fault PutFile o.by) [] before after (ap (λ (x : NodeView K). x.setup) is) (ap (λ (x : NodeView K). x.time) is) (ap (λ (x : NodeView K). x.count) is) (ap (λ (x : NodeView K). x.history) is)
+adds_failed {K} law n m o before after is stored rose = adds_quiet law n m (Fault PutFile o.by) [] before after (ap (λ (x : NodeView K). x.setup) is) (ap (λ (x : NodeView K). x.time) is) (ap (λ (x : NodeView K). x.clock) is) (ap (λ (x : NodeView K). x.count) is) (ap (λ (x : NodeView K). x.history) is)
     (ap (λ (x : NodeView K). x.outcomes) is) (ap (λ (x : NodeView K). x.branch) is) (ap (λ (x : NodeView K). x.parts) is) refl refl stored rose
 
 -- ---- the step

@@ -138,10 +138,10 @@ state_kept n s branch' told told' owed' kind lines laws d fits was here moves ow
 
 -- a node with one more entry is kept
 pub kept_more : {K : Type 0} (n : NodeView K) (branch' : Files) (told told' : Option Contents) (owed' : List OwedLine) (kind : EntryKind) (lines : List (List ℕ))
-    → KeepsDirect n.parts → IsDirect kind → IsKept n.setup n.history n.parts n.branch n.owed told
+    → KeepsDirect n.parts → IsDirect kind → IsKept n.setup n.clock n.history n.parts n.branch n.owed told
     → ((p : List ℕ) → lines_at branch' p ≡ lines_after p (lines_at n.branch p) kind lines)
     → Moves kind told told' → owed' ≡ owed_now n kind lines
-    → IsKept n.setup (n.history ++ made n.time (n.count + 1) n.setup.number kind lines ∷ []) n.parts branch' owed' told'
+    → IsKept n.setup n.clock (n.history ++ made n.time (n.count + 1) n.setup.number kind lines ∷ []) n.parts branch' owed' told'
 kept_more n branch' told told' owed' kind lines laws d kept here moves owes =
     let e : Entry = made n.time (n.count + 1) n.setup.number kind lines in record {
       state = λ s fits. subst (IsState s n.parts branch' owed' told') (sym (state_more s n.history e)) (state_kept n s branch' told told' owed' kind lines laws d fits (kept.state s fits) here moves owes);
@@ -184,7 +184,7 @@ first_numbered : (rows : Rows) → rows ≡ no_rows → All (λ h. h.number < 1)
 first_numbered rows none = subst (λ (r : Rows). All (λ h. h.number < 1) r.holds) (sym none) (λ k d less. absurd (omega (arith, less)))
 
 pub kept_first : (setup : Setup) (p : PartsView) (told : Option Contents) → KeepsDirect p → p.table ≡ no_rows → p.jobs.place ≡ record { number = setup.number; ids = setup.repos } → p.jobs.begun ≡ 0
-    → slice_get setup.repos setup.number ≡ Some setup.id → FitSo setup setup.repos p → ForSome told (λ c. (key : List ℕ) → c key ≡ None) → IsKept setup [] p [] [] told
+    → slice_get setup.repos setup.number ≡ Some setup.id → FitSo setup setup.repos p → ForSome told (λ c. (key : List ℕ) → c key ≡ None) → IsKept setup (record { at = 0; to = setup.offset }) [] p [] [] told
 kept_first setup p told laws none place begun own fit empty = record {
   state = λ s fits. record {
     holds = ap (λ (r : Rows). r.holds) none;
@@ -209,7 +209,7 @@ no_records holds records none empty =
 
 -- a ledger and its parts before the first entry stand
 pub stands_new : {K : Type 0} (cs : K → Option Contents) (ps : K → Option Parts) (rs : K → Option (List HoldRecord)) (fs : Option StoredFiles) (l : LedgerView K) (setup : Setup) (keeper : K) (ids : List (List ℕ)) (p : PartsView)
-    → l ≡ record { setup = setup; keeper = keeper; parts = tt; branch = []; time = 0; count = 0; history = []; outcomes = []; owed = [] } → KeepsDirect p → p.table ≡ no_rows → p.jobs.place ≡ record { number = setup.number; ids = ids } → p.jobs.begun ≡ 0
+    → l ≡ record { setup = setup; keeper = keeper; parts = tt; branch = []; time = 0; count = 0; clock = record { at = 0; to = setup.offset }; history = []; outcomes = []; owed = [] } → KeepsDirect p → p.table ≡ no_rows → p.jobs.place ≡ record { number = setup.number; ids = ids } → p.jobs.begun ≡ 0
     → slice_get setup.repos setup.number ≡ Some setup.id → FitSo setup ids p → ids ≡ setup.repos → ((q : Parts) → AreAllFed q p.sessions) → HasNothing (cs keeper) (ps keeper) (rs keeper) fs
     → Stands l p (cs l.keeper) (ps l.keeper) (rs l.keeper)
 stands_new {K} cs ps rs fs l setup keeper ids p is keeps none place begun own fit same fed empty =

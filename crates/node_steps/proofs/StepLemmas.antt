@@ -29,6 +29,7 @@ use Rattle.drop_phases.specs.declared.phase.Token.{Token}
 use Rattle.link_ring.specs.Ends.{EndView}
 use Rattle.node_ends.specs.Ends.{SeesEnds, hand_at, room_at}
 use Rattle.node_model.specs.After.{clock_after, state_after, states}
+use Rattle.node_model.specs.Clocks.{ClockSet}
 use Rattle.node_model.specs.AnyTime.{all_ends}
 use Rattle.node_model.specs.Jobs.{Work}
 use Rattle.node_model.specs.Look.{Look, entry_of, failed_in}
@@ -189,10 +190,10 @@ parts_own s js st p are = record {
 
 -- ---- what a step finds
 
-pub sees_parts : CountLaw → (setup : Setup) (h : List Entry) (parts : PartsView) (branch : Files) (owed : List OwedLine) (told : Option Contents) (c : Contents) (time number : ℕ) (s : SetUp) (k : Look)
-    → IsKept setup h parts branch owed told → told ≡ Some c → number ≡ length h + 1 → MatchesSetup setup s → Each (λ j. HadPaths s j.worker.number j.paths) parts.jobs.running → SeesEnds parts.links s k → k.time ≡ time
-    → SeesParts parts c (record { at = 0; to = setup.offset }) time number s (state_of s h) k
-sees_parts law setup h parts branch owed told c time number s k kept is count fits had ends at = record {
+pub sees_parts : CountLaw → (setup : Setup) (clock : ClockSet) (h : List Entry) (parts : PartsView) (branch : Files) (owed : List OwedLine) (told : Option Contents) (c : Contents) (time number : ℕ) (s : SetUp) (k : Look)
+    → IsKept setup clock h parts branch owed told → told ≡ Some c → number ≡ length h + 1 → MatchesSetup setup s → Each (λ j. HadPaths s j.worker.number j.paths) parts.jobs.running → SeesEnds parts.links s k → k.time ≡ time
+    → SeesParts parts c clock time number s (state_of s h) k
+sees_parts law setup clock h parts branch owed told c time number s k kept is count fits had ends at = record {
   parts = ((kept.state s fits).stands c is).parts_are;
   stored = ((kept.state s fits).stands c is).stored;
   paths = had;
@@ -205,14 +206,14 @@ sees_parts law setup h parts branch owed told c time number s k kept is count fi
 -- ---- a step of these
 
 -- this is so of each state that the history leaves, at each look that finds what belongs to a step
-abbrev pub WhereDone : PartsView → Contents → Option StoredParts → Setup → List Entry → ℕ → Option Done → (SetUp → State → Look → Type 0) → Type 0
-WhereDone was c known setup h time o P =
-    (s : SetUp) (k : Look) → MatchesSetup setup s → SeesParts was c (record { at = 0; to = setup.offset }) time (length h + 1) s (state_of s h) k → Fails o k → AsksPart known was o k → Hears was o k → P s (state_of s h) k
+abbrev pub WhereDone : PartsView → Contents → Option StoredParts → Setup → ClockSet → List Entry → ℕ → Option Done → (SetUp → State → Look → Type 0) → Type 0
+WhereDone was c known setup clock h time o P =
+    (s : SetUp) (k : Look) → MatchesSetup setup s → SeesParts was c clock time (length h + 1) s (state_of s h) k → Fails o k → AsksPart known was o k → Hears was o k → P s (state_of s h) k
 
 -- it is the step there, and the store has the part that it asks for
-pub record DoesBy (step : Stepper) (was now : PartsView) (c : Contents) (known : Option StoredParts) (contents : Option Contents) (setup : Setup) (h : List Entry) (time : ℕ) (o : Option Done) : Type 0 where
+pub record DoesBy (step : Stepper) (was now : PartsView) (c : Contents) (known : Option StoredParts) (contents : Option Contents) (setup : Setup) (clock : ClockSet) (h : List Entry) (time : ℕ) (o : Option Done) : Type 0 where
   pub part : ForSome o (λ d. HasPart known was d.taken)
-  pub does : WhereDone was c known setup h time o (λ s st k. Steps step now contents s st k o)
+  pub does : WhereDone was c known setup clock h time o (λ s st k. Steps step now contents s st k o)
 
 abbrev pub entry_done : Setup → ℕ → ℕ → Done → Entry
 entry_done setup time count d = record { time = time; count = count; repo = Some setup.number; kind = d.kind; taken = d.taken; sent = d.sent; lines = [] }
@@ -224,17 +225,17 @@ clock_stays : (was : ℕ → ℕ) (time : ℕ) (kind : EntryKind) → ((clock : 
 clock_stays was time (Crash clock) none = absurd (none clock refl)
 clock_stays was time _ none = refl
 
-module _ (step : Stepper) (setup : Setup) (h : List Entry) (was now : PartsView) (branch : Files) (cs cs' : Option Contents) (qs qs' : Option StoredParts) (time count : ℕ) (d : Done)
-    (fills : FillLaw) (law : CountLaw) (sound : AreSound was) (sound' : AreSound now) (kept : IsKept setup h was branch [] (told_of cs qs))
+module _ (step : Stepper) (setup : Setup) (clock : ClockSet) (h : List Entry) (was now : PartsView) (branch : Files) (cs cs' : Option Contents) (qs qs' : Option StoredParts) (time count : ℕ) (d : Done)
+    (fills : FillLaw) (law : CountLaw) (sound : AreSound was) (sound' : AreSound now) (kept : IsKept setup clock h was branch [] (told_of cs qs))
     (leaves : Leaves (length h + 1) was now d) (quiet : IsQuiet d.kind)
-    (does : ForSome (told_of cs qs) (λ c. DoesBy step was now c qs cs' setup h time (Some d)))
+    (does : ForSome (told_of cs qs) (λ c. DoesBy step was now c qs cs' setup clock h time (Some d)))
     (told_parts : is_some qs' ≡ is_some qs) (told_contents : is_some qs ≡ true → is_some cs' ≡ is_some cs) where
   abbrev made_by : Entry
   made_by = entry_done setup time count d
 
   -- the step, at the node's look
   module _ (s : SetUp) (fits : MatchesSetup setup s) (c : Contents) (told : told_of cs qs ≡ Some c) where
-    abbrev by : DoesBy step was now c qs cs' setup h time (Some d)
+    abbrev by : DoesBy step was now c qs cs' setup clock h time (Some d)
     by = does c told
 
     abbrev has : HasPart qs was d.taken
@@ -252,7 +253,7 @@ module _ (step : Stepper) (setup : Setup) (h : List Entry) (was now : PartsView)
 
     steps : Steps step now cs' mine (state_of mine h) look (Some d)
     steps = by.does mine look fits_mine
-        (sees_parts law setup h was branch [] (told_of cs qs) c time (length h + 1) mine look kept told refl fits_mine (own_given was.jobs.running sound.acting.apart) (look_sees was.links mine time count d.kind has.part has.right (words_heard was (Some d))) refl)
+        (sees_parts law setup clock h was branch [] (told_of cs qs) c time (length h + 1) mine look kept told refl fits_mine (own_given was.jobs.running sound.acting.apart) (look_sees was.links mine time count d.kind has.part has.right (words_heard was (Some d))) refl)
         (λ x is. ap (λ (y : Done). failed_in y.kind) (some_same d x is)) (λ x is. subst (λ (y : Done). IsPartAsked qs was y.taken has.part has.right) (some_same d x is) has.asked)
         (λ x is. ap (λ (y : Done). words_heard was (Some y)) (some_same d x is))
       where
@@ -291,7 +292,7 @@ module _ (step : Stepper) (setup : Setup) (h : List Entry) (was now : PartsView)
     stands = λ c' is. let before = told_before cs cs' qs qs' c' told_parts told_contents is in stands_then s fits before.0 before.1 c' is;
   }
 
-  pub kept_stepped : now.jobs.place ≡ was.jobs.place → now.jobs.begun ≡ was.jobs.begun → IsKept setup (h ++ made_by ∷ []) now branch (owed_by setup.number d.kind) (told_of cs' qs')
+  pub kept_stepped : now.jobs.place ≡ was.jobs.place → now.jobs.begun ≡ was.jobs.begun → IsKept setup clock (h ++ made_by ∷ []) now branch (owed_by setup.number d.kind) (told_of cs' qs')
   kept_stepped place begun = record {
     state = λ s fits. subst (IsState s now branch (owed_by setup.number d.kind) (told_of cs' qs')) (sym (state_more s h made_by)) (state_stepped s fits);
     clock = λ s fits. ap (λ (st : State). st.clock) (state_more s h made_by) ∙ clock_stays (state_of s h).clock time d.kind quiet.crashes ∙ kept.clock s fits;
@@ -303,10 +304,10 @@ module _ (step : Stepper) (setup : Setup) (h : List Entry) (was now : PartsView)
 -- ---- no step
 
 -- the store may have been asked, and the rest is as it was
-pub kept_asked : (step : Stepper) (law : CountLaw) (setup : Setup) (h : List Entry) (was : PartsView) (branch : Files) (owed : List OwedLine) (cs cs' : Option Contents) (qs qs' : Option StoredParts) (time : ℕ) → AreSound was
-    → IsKept setup h was branch owed (told_of cs qs) → ForSome (told_of cs qs) (λ c. DoesBy step was was c qs cs' setup h time None) → is_some qs' ≡ is_some qs → (is_some qs ≡ true → is_some cs' ≡ is_some cs)
-    → IsKept setup h was branch owed (told_of cs' qs')
-kept_asked step law setup h was branch owed cs cs' qs qs' time sound kept does told_parts told_contents = record {
+pub kept_asked : (step : Stepper) (law : CountLaw) (setup : Setup) (clock : ClockSet) (h : List Entry) (was : PartsView) (branch : Files) (owed : List OwedLine) (cs cs' : Option Contents) (qs qs' : Option StoredParts) (time : ℕ) → AreSound was
+    → IsKept setup clock h was branch owed (told_of cs qs) → ForSome (told_of cs qs) (λ c. DoesBy step was was c qs cs' setup clock h time None) → is_some qs' ≡ is_some qs → (is_some qs ≡ true → is_some cs' ≡ is_some cs)
+    → IsKept setup clock h was branch owed (told_of cs' qs')
+kept_asked step law setup clock h was branch owed cs cs' qs qs' time sound kept does told_parts told_contents = record {
   state = λ s fits.
       let is = kept.state s fits in
       record {
@@ -320,7 +321,7 @@ kept_asked step law setup h was branch owed cs cs' qs qs' time sound kept does t
             let mine : SetUp = own_paths s js in
             let look : Look = look_of was.links mine time 0 (Talk None) 0 false (λ c. None) in
             let steps = (does before.0 before.1).does mine look (fits_own setup s js fits)
-            (sees_parts law setup h was branch owed (told_of cs qs) before.0 time (length h + 1) mine look kept before.1 refl (fits_own setup s js fits) (own_given js sound.acting.apart)
+            (sees_parts law setup clock h was branch owed (told_of cs qs) before.0 time (length h + 1) mine look kept before.1 refl (fits_own setup s js fits) (own_given js sound.acting.apart)
             (look_sees was.links mine time 0 (Talk None) 0 false (λ c. None)) refl)
             (λ d is. absurd cc) (λ d is. absurd cc) (λ d is. absurd cc) in
             record {

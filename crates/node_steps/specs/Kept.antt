@@ -11,7 +11,7 @@ use Rattle.content_lock.specs.Rows.{is_filling}
 use Rattle.content_lock.specs.Stored.{Agrees}
 use Rattle.union_merge.specs.Branch.{Files}
 use Rattle.node_model.specs.After.{state_after}
-use Rattle.node_model.specs.Clocks.{runs_on}
+use Rattle.node_model.specs.Clocks.{ClockSet, runs_on}
 use Rattle.node_model.specs.OwedLines.{OwedLine}
 use Rattle.node_model.specs.Rows.{bar_after, holds_after}
 use Rattle.node_model.specs.SessionStep.{is_filled}
@@ -28,12 +28,12 @@ use Rattle.node_ledger.specs.Ledgers.{LedgerView}
 abbrev pub IsFed : Option Parts → PartsView → Type 0
 IsFed stored parts = ForSome stored (λ q. AreAllFed q parts.sessions)
 
--- Its rows, its branch and, where its store tells, all that it has are those of the state that its history leaves. Its clock was
--- never set, each hold has the number of one of its entries, its jobs know where it stands among the repositories, and each that
--- was begun has its entry.
-pub record IsKept (setup : Setup) (history : List Entry) (parts : PartsView) (branch : Files) (owed : List OwedLine) (told : Option Contents) : Type 0 where
+-- Its rows, its branch and, where its store tells, all that it has are those of the state that its history leaves. Its clock is
+-- that which its past says, each hold has the number of one of its entries, its jobs know where it stands among the repositories,
+-- and each that was begun has its entry.
+pub record IsKept (setup : Setup) (set_clock : ClockSet) (history : List Entry) (parts : PartsView) (branch : Files) (owed : List OwedLine) (told : Option Contents) : Type 0 where
   pub state : (s : SetUp) → MatchesSetup setup s → IsState s parts branch owed told (state_of s history)
-  pub clock : (s : SetUp) → MatchesSetup setup s → (state_of s history).clock ≡ runs_on (record { at = 0; to = setup.offset })
+  pub clock : (s : SetUp) → MatchesSetup setup s → (state_of s history).clock ≡ runs_on set_clock
   pub numbered : All (λ h. h.number < length history + 1) parts.table.holds
   pub place : parts.jobs.place ≡ record { number = setup.number; ids = setup.repos }
   pub begun : parts.jobs.begun ≤ length history
@@ -48,7 +48,7 @@ IsOfFiles _ = ⊥
 -- A ledger and the parts beside it stand, over a store that tells these contents, parts and records: they are what the history
 -- leaves, the records are those of the holds, and the sessions have taken what the store has of their keys' parts.
 pub record Stands {K : Type 0} (l : LedgerView K) (parts : PartsView) (cs : Option Contents) (ps : Option Parts) (rs : Option (List HoldRecord)) : Type 0 where
-  pub kept : IsKept l.setup l.history parts l.branch l.owed (told_of cs ps)
+  pub kept : IsKept l.setup l.clock l.history parts l.branch l.owed (told_of cs ps)
   pub agrees : Agrees rs parts.table.holds
   pub fed : IsFed ps parts
 

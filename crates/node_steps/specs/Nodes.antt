@@ -31,6 +31,7 @@ beside parts l = record {
   branch = l.branch;
   time = l.time;
   count = l.count;
+  clock = l.clock;
   history = l.history;
   outcomes = l.outcomes;
   owed = l.owed;

@@ -71,11 +71,11 @@ done_in e = record { kind = e.kind; taken = e.taken; sent = e.sent }
 abbrev pub GoOn : PartsView → PartsView → Done → Type 0
 GoOn was now d = (now.jobs ≡ was.jobs) ⊎ ((now.sessions ≡ was.sessions) × JobsGoOn was now d)
 
--- The node has one entry more, of its own number, at its time, with the next count. Its branch has the entry's lines. Its ends,
--- which were these, took and sent the entry's frames, with its stamp, and each piece among them is of the content that its session
--- is sending; and its jobs have gone on from these ends. Its store has the contents that the entry leaves, and the parts that the
--- taken frame leaves; where the entry says that a call failed, one fewer of its kind is still to fail, and the count of the store's
--- faults rose.
+-- The node has one entry more, of its own number, at its time, with the next count; its clock runs on. Its branch has the entry's
+-- lines. Its ends, which were these, took and sent the entry's frames, with its stamp, and each piece among them is of the content
+-- that its session is sending; and its jobs have gone on from these ends. Its store has the contents that the entry leaves, and the
+-- parts that the taken frame leaves; where the entry says that a call failed, one fewer of its kind is still to fail, and the count
+-- of the store's faults rose.
 pub record Adds {K : Type 0} (links : List EndView) (before after : StoreView) (was now : NodeView K) : Type 0 where
   pub entry : Entry
   pub history : now.history ≡ was.history ++ entry ∷ []
@@ -85,6 +85,7 @@ pub record Adds {K : Type 0} (links : List EndView) (before after : StoreView) (
   pub repo : entry.repo ≡ Some was.setup.number
   pub counted : now.count ≡ was.count + 1
   pub at : now.time ≡ was.time
+  pub clock : now.clock ≡ was.clock
   pub setup : now.setup ≡ was.setup
   pub branch : now.branch ≡ branch_by was.branch entry.kind entry.lines
   pub ends : AreAfter links now.parts.links entry.taken entry.sent

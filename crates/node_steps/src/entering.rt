@@ -15,11 +15,11 @@ use run_data::{By, EntryKind};
 
 /// When the next entry of this past is made.
 pub(crate) fn moment_of(past: &Past) -> Moment
-    ensures { result ≡ record { time = past.now.time; clock = record { at = 0; to = past.now.setup.offset }; count = past.now.count + 1; number = vec_len past.now.history + 1 } }
+    ensures { result ≡ record { time = past.now.time; clock = past.now.clock; count = past.now.count + 1; number = vec_len past.now.history + 1 } }
 {
     Moment {
         time: Time::new(past.time),
-        clock: Clock::set(Time::new(0), past.setup.offset),
+        clock: Clock::set(Time::new(past.clock.at), past.clock.to),
         count: past.count + 1,
         number: past.history.len() as u64 + 1,
     }

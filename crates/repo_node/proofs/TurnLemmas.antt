@@ -99,6 +99,7 @@ adds_dropped before after n m adds = record {
   repo = adds.repo;
   counted = adds.counted;
   at = adds.at;
+  clock = adds.clock;
   setup = adds.setup;
   branch = adds.branch;
   ends = adds.ends;

@@ -54,8 +54,8 @@ fn copies_of(alloc: Global, ids: &[RepoId]) -> Result<Items<RepoId>, NoMemory>
 }
 
 impl<K: Keeper> Node<K> {
-    /// A node before its first entry. Its store is empty, and its links are those that `make_links` gave for as many
-    /// repositories at its place.
+    /// A node before its first entry. Its store is empty, its clock was set at the script's time 0, to its wall clock, and its
+    /// links are those that `make_links` gave for as many repositories at its place.
     pub fn new(alloc: Global, setup: Setup, keeper: K, links: Links) -> Result<Node<K>, NoMemory>
         requires empty { HasNothing (K.contents keeper) (K.parts keeper) (K.records keeper) (K.files keeper) }
         requires own { slice_get setup.repos setup.number ≡ Some setup.id }
@@ -65,7 +65,7 @@ impl<K: Keeper> Node<K> {
         requires newest { setup.version ≤ 3 }
         requires few { length setup.repos < 2 ^ 32 }
         requires links { links.ends.items ≡ replicate (length setup.repos * 8) fresh }
-        ensures node { IfOk result (λ n. n ≡ record { setup = setup; keeper = keeper; parts = n.parts; branch = []; time = 0; count = 0; history = []; outcomes = []; owed = [] }) }
+        ensures node { IfOk result (λ n. n ≡ record { setup = setup; keeper = keeper; parts = n.parts; branch = []; time = 0; count = 0; clock = record { at = 0; to = setup.offset }; history = []; outcomes = []; owed = [] }) }
         ensures table { IfOk result (λ n. n.parts.table ≡ record { holds = []; bars = []; fills = [] }) }
         ensures links { IfOk result (λ n. n.parts.links ≡ replicate (length setup.repos * 8) fresh) }
         ensures jobs { IfOk result (λ n. n.parts.jobs ≡ record { place = record { number = setup.number; ids = setup.repos }; running = []; begun = 0 }) }

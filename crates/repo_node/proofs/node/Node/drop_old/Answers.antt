@@ -13,7 +13,7 @@ invariant_of-self g c =
     let w = c.drop_old in
     let same = w.ensures.links in
     let table = ap (λ (p : PartsView). p.table) same in record {
-      kept = kept_links i.ledger.setup i.ledger.history i.parts w.new.self i.ledger.branch i.ledger.owed (told_of (g.K.Keeper.contents i.ledger.keeper) (g.K.Keeper.parts i.ledger.keeper)) table (ap (λ (p : PartsView). p.jobs) same) w.ensures.parts c.self.invariant.kept;
+      kept = kept_links i.ledger.setup i.ledger.clock i.ledger.history i.parts w.new.self i.ledger.branch i.ledger.owed (told_of (g.K.Keeper.contents i.ledger.keeper) (g.K.Keeper.parts i.ledger.keeper)) table (ap (λ (p : PartsView). p.jobs) same) w.ensures.parts c.self.invariant.kept;
       agrees = subst (λ (t : Rows). Agrees (g.K.Keeper.records i.ledger.keeper) t.holds) (sym table) c.self.invariant.agrees;
       fed = fed_links (g.K.Keeper.parts i.ledger.keeper) i.parts w.new.self (ap (λ (p : PartsView). p.sessions) same) c.self.invariant.fed;
     }
