@@ -17,7 +17,7 @@ use Rattle.driver_model.specs.Lines.{waited_by}
 use Rattle.driver_script.specs.Inputs.{driver_input_of}
 use Rattle.driver_script.specs.Lines.{declared_by, first_unbuilt, is_built, repos_of}
 use Rattle.fleet_run.specs.Fleets.{FleetView}
-use Rattle.fleet_run.specs.declared.stop.FleetStop.{FleetStop}
+use Rattle.fleet_run.specs.declared.FleetStop.{FleetStop}
 use Rattle.fleet_run.specs.Commands.{CutsAt, MayBeDone, MeetsNone, does_and_marks}
 use Rattle.fleet_run.specs.AtDriver.{GoesOn, IsAtDriver, IsDrivenWithin}
 use Rattle.script_answers.specs.Runs.{IsRunOf}

@@ -7,17 +7,17 @@ use Rattle.key_verify.specs.Matching.{MatchesKey}
 use Rattle.run_data.specs.Repos.{IsSetUp}
 use Rattle.run_data.specs.declared.run.RepoView.{RepoView}
 use Rattle.run_data.specs.declared.run.Run.{Run}
-use Rattle.joined_nodes.specs.Nodes.{NodeView}
-use Rattle.joined_nodes.specs.Stored.{StoreView}
-use Rattle.joined_nodes.specs.Joined.{AreNew}
+use Rattle.fleet_entries.specs.Nodes.{NodeView}
+use Rattle.fleet_entries.specs.Stored.{StoreView}
+use Rattle.fleet_entries.specs.Joined.{AreNew}
 use Rattle.driver_model.specs.Driver.{DriverInput, at_first}
 use Rattle.driver_model.specs.Driving.{run_with}
 use Rattle.driver_model.specs.Sound.{IsSound}
 use Rattle.driver_script.specs.Inputs.{matches}
-use Rattle.fleet_model.specs.Fleets.{FleetView, HasCome}
-use Rattle.fleet_model.specs.Matches.{DecidesMatches}
-use Rattle.fleet_model.specs.Stores.{IsStoreOf}
-use Rattle.fleet_run.specs.AtDriver.{IsDrivenWithin, IsAtDriver}
+use Rattle.fleet_entries.specs.Fleets.{FleetView, HasCome}
+use Rattle.fleet_entries.specs.Matches.{DecidesMatches}
+use Rattle.fleet_entries.specs.Stores.{IsStoreOf}
+use Rattle.fleet_entries.specs.AtDriver.{IsDrivenWithin, IsAtDriver}
 
 -- what no repository has, none has
 first_of_each : (r : ℕ) (v : StoreView) → IsStoreOf at_first 0 v → IsStoreOf at_first r v

@@ -1,38 +1,34 @@
 -- What each form of line has where it stands, and that the driver's step of it is that of its form.
-use Rattle.std.proofs.Common.{◌≡◌, ◌≢◌, ℕ, ◌+◌, ◌<◌, ◌≤◌, ◌^◌, ◌⊎◌, inl, inr, Bool, true, false, List, [], Option, Some, None, length, refl, sym, ap, ◌∙◌, subst, arith}
-use Rattle.std.specs.Prelude.{◌&&◌, IfSome, if◌then◌else◌, is_none, nat_lt}
+use Rattle.std.proofs.Common.{◌≡◌, ◌≢◌, ℕ, ◌+◌, ◌<◌, ◌≤◌, ◌^◌, ◌⊎◌, inl, inr, Bool, true, false, List, [], Some, None, length, refl, sym, ap, ◌∙◌, subst, arith}
+use Rattle.std.specs.Prelude.{if◌then◌else◌, is_none, nat_lt}
 use Rattle.std.proofs.lemmas.Bool.Decides.{nat_tests}
 use Rattle.std.proofs.lemmas.Bool.{and_parts}
 use Rattle.annex_base.specs.Lines.{IsOneLine}
 use Rattle.annex_base.proofs.Lines.{one_line-members}
 use Rattle.annex_base.proofs.Options.{is_none_true}
-use Rattle.annex_key.specs.View.{size_part}
-use Rattle.key_verify.specs.Matching.{MatchesKey}
 use Rattle.run_data.specs.Files.{HasPath, kind_of}
-use Rattle.run_data.specs.Repos.{fits_size}
 use Rattle.run_data.specs.declared.entry.LogFile.{LogFile}
-use Rattle.run_data.specs.declared.entry.LogFile.TheVariants as files
 use Rattle.run_data.specs.declared.job.Job.{Job}
 use Rattle.run_data.specs.declared.job.JobKind.{JobKind}
-use Rattle.run_data.specs.declared.job.JobKind.TheVariants as job_kinds
 use Rattle.union_merge.specs.LineSet.{IsLine}
 use Rattle.script_commands.specs.declared.command.Action.{Action}
-use Rattle.script_commands.specs.declared.command.Action.TheVariants as actions
 use Rattle.script_commands.specs.declared.command.Agendum.{Agendum}
 use Rattle.script_commands.specs.declared.command.Command.{Command}
-use Rattle.script_commands.specs.declared.command.Command.TheVariants as commands
 use Rattle.script_commands.specs.declared.command.Showing.{Showing}
 use Rattle.script_lang.specs.Limits.{first_limit, passed_by}
 use Rattle.script_lang.specs.Context.{Context}
-use Rattle.script_lang.specs.Preconditions as script
 use Rattle.script_lang.specs.Preconditions.{IsLogFile, IsSmall}
 use Rattle.script_forms.specs.declared.fault.Quantity.TheVariants.{Time}
-use Rattle.driver_model.specs.Driver.{Driver, DriverInput}
 use Rattle.driver_script.specs.Lines.{is_added, is_built, is_built_action, is_drop, is_local_drop}
-use Rattle.joined_nodes.specs.Stored.{StoreView}
-use Rattle.fleet_model.specs.Fleets.{FleetView}
+use Rattle.fleet_entries.specs.Stored.{StoreView}
+use Rattle.fleet_entries.specs.Fleets.{FleetView}
 use Rattle.fleet_run.specs.Commands.{MayBeDone, does_command}
-use Rattle.fleet_run.specs.AtDriver.{GoesOn, IsAtDriver}
+use Rattle.fleet_entries.specs.AtDriver.{GoesOn, StopsWithin}
+use Rattle.run_data.specs.declared.entry.LogFile.TheVariants as files
+use Rattle.run_data.specs.declared.job.JobKind.TheVariants as job_kinds
+use Rattle.script_commands.specs.declared.command.Action.TheVariants as actions
+use Rattle.script_commands.specs.declared.command.Command.TheVariants as commands
+use Rattle.script_lang.specs.Preconditions as script
 
 -- ---- commands
 
@@ -104,14 +100,6 @@ added_kind (files.Other name) added none = absurd (cc)
 pub short_content : (content : List ℕ) → IsSmall content → length content < 2 ^ 62
 short_content content small = grind arith
 
--- the content of a key has its size
-fits : (o : Option ℕ) (n : ℕ) → IfSome o (λ size. size ≡ n) → fits_size o n ≡ true
-fits None n is = refl
-fits (Some size) n is = grind (arith, nat_tests)
-
-pub content_fits : (key bytes : List ℕ) → MatchesKey key bytes → fits_size (size_part key) (length bytes) ≡ true
-content_fits key bytes right = fits (size_part key) (length bytes) right.size
-
 -- a job that is built drops at its own repository
 drops : (kind : JobKind) → is_drop kind ≡ true → kind ≡ job_kinds.Drop
 drops job_kinds.Drop is = refl
@@ -133,3 +121,7 @@ in_time waited milliseconds within = go (nat_lt 1000000000000 (waited + millisec
     go : (b : Bool) → nat_lt 1000000000000 (waited + milliseconds) ≡ b → (if b then Some Time else None) ≡ None → waited + milliseconds ≤ 1000000000000
     go true e within = absurd (cc)
     go false e within = grind (arith, nat_tests)
+
+-- a command stops as its form does
+pub stops_as : {K : Type 0} (tells : K → StoreView) (command form : Command) (was after : FleetView K) → command ≡ form → StopsWithin tells (does_command form) was after → StopsWithin tells (does_command command) was after
+stops_as tells command form was after is stops = subst (λ (x : Command). StopsWithin tells (does_command x) was after) (sym is) stops

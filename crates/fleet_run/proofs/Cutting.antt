@@ -1,5 +1,5 @@
 -- A line that meets a full history, and one that doesn't.
-use Rattle.std.proofs.Common.{◌≡◌, ℕ, ◌<◌, ◌≤◌, ◌⊎◌, inl, inr, Bool, true, false, List, Option, Some, None, Result, Ok, Err, length, refl, sym, ap, ◌∙◌, subst, arith}
+use Rattle.std.proofs.Common.{◌≡◌, ℕ, ◌<◌, ◌≤◌, ◌⊎◌, inl, inr, Bool, true, false, List, Some, None, Result, Ok, Err, length, refl, sym, ap, ◌∙◌, subst, arith}
 use Rattle.std.specs.Prelude.{◌||◌, OnOk, nat_le, reverse, slice_get}
 use Rattle.std.proofs.lemmas.Bool.Decides.{nat_tests}
 use Rattle.std.proofs.lemmas.List.{reverse-reverse}
@@ -10,23 +10,23 @@ use Rattle.run_data.specs.declared.entry.Entry.{Entry}
 use Rattle.run_data.specs.declared.run.Run.{Run}
 use Rattle.run_model.specs.Run.{IsRun}
 use Rattle.script_commands.specs.declared.command.Action.{Action}
-use Rattle.script_commands.specs.declared.command.Action.TheVariants as actions
 use Rattle.script_commands.specs.declared.command.Command.{Command}
-use Rattle.script_commands.specs.declared.command.Command.TheVariants as commands
 use Rattle.driver_model.specs.Driver.{Driver, DriverInput}
 use Rattle.driver_model.specs.Driving.{does}
 use Rattle.driver_model.specs.ScriptSteps.{enters}
 use Rattle.driver_model.specs.Limits.{StopsAtFull, asks_first, count_of, is_full, is_too_long, lacks_at, names_path, run_to_limit, within_limit}
 use Rattle.driver_script.specs.Lines.{is_built, is_plain_line}
-use Rattle.joined_nodes.specs.Nodes.{NodeView}
-use Rattle.joined_nodes.specs.Stored.{StoreView}
-use Rattle.fleet_model.specs.Fleets.{FleetView}
+use Rattle.fleet_entries.specs.Nodes.{NodeView}
+use Rattle.fleet_entries.specs.Stored.{StoreView}
+use Rattle.fleet_entries.specs.Fleets.{FleetView}
 use Rattle.fleet_run.specs.Commands.{CutsAt, HasRoomFor, MeetsNone, does_command}
-use Rattle.fleet_run.specs.AtDriver.{EndsAtFull, GoesOn, HasRoom, IsAtDriver, OnlyAddsEntries, WaitsForRoom}
-use Rattle.fleet_run.specs.Telling.{AreFew}
-use Rattle.fleet_run.proofs.Called.{past_of}
+use Rattle.fleet_entries.specs.AtDriver.{EndsAtFull, GoesOn, HasRoom, IsAtDriver, OnlyAddsEntries, WaitsForRoom}
+use Rattle.fleet_entries.specs.Telling.{AreFew}
+use Rattle.script_commands.specs.declared.command.Action.TheVariants as actions
+use Rattle.script_commands.specs.declared.command.Command.TheVariants as commands
 use Rattle.fleet_run.proofs.Commands.{IsQuiet}
-use Rattle.fleet_run.proofs.Full.{counted, each_at, only_entries}
+use Rattle.fleet_entries.proofs.Full.{counted, each_at, only_entries}
+use Rattle.fleet_entries.proofs.Called.{past_of}
 
 -- ---- the lines that are built
 

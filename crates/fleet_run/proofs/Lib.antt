@@ -1,22 +1,8 @@
 -- The lemmas of this crate.
-mod Called
-mod Writing
-mod Placing
-mod Beginning
-mod Growing
 mod Commands
-mod Steps
-mod Turning
-mod Quiet
-mod Driving
-mod Declared
-mod Whole
-mod Begun
-mod Full
-mod Ending
+mod FewWaits
 mod Cutting
-mod Few
-mod Entries
 mod Marked
-mod Starts
-mod NamedPaths
+mod Begun
+mod Declared
+mod Steps

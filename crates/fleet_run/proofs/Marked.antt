@@ -1,16 +1,17 @@
 -- Between two lines each wait has its mark.
-use Rattle.std.proofs.Common.{◌≡◌, ℕ, ◌+◌, ◌<◌, List, ◌∷◌, [], true, length, refl, sym, ap, ◌∙◌, subst, arith, length-append}
+use Rattle.std.proofs.Common.{◌≡◌, ℕ, ◌+◌, ◌<◌, List, ◌∷◌, [], true, length, sym, ap, ◌∙◌, subst, arith, length-append}
 use Rattle.run_data.specs.declared.run.Run.{Run}
-use Rattle.joined_nodes.specs.Stored.{StoreView}
+use Rattle.fleet_entries.specs.Stored.{StoreView}
 use Rattle.script_commands.specs.declared.command.Command.{Command}
 use Rattle.driver_model.specs.Driver.{Driver, DriverInput}
 use Rattle.driver_model.specs.Driving.{does}
 use Rattle.driver_script.specs.Lines.{is_built}
-use Rattle.fleet_model.specs.Fleets.{FleetView}
+use Rattle.fleet_entries.specs.Fleets.{FleetView}
 use Rattle.fleet_run.specs.Commands.{does_and_marks, does_command}
-use Rattle.fleet_run.specs.AtDriver.{GoesOn, IsDriven, IsDrivenWithin, IsAtDriver, most_lines}
-use Rattle.fleet_run.proofs.Driving.{driven_on}
-use Rattle.fleet_run.proofs.Few.{does_few, fewer}
+use Rattle.fleet_entries.specs.AtDriver.{GoesOn, IsDriven, IsDrivenWithin, IsAtDriver, most_lines}
+use Rattle.fleet_run.proofs.FewWaits.{does_few}
+use Rattle.fleet_entries.proofs.Driving.{driven_on}
+use Rattle.fleet_entries.proofs.Few.{fewer}
 
 -- the law of marks
 abbrev pub MarksLaw : Type 0

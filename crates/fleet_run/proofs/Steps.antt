@@ -1,8 +1,8 @@
 -- Steps one after the other: a fleet goes on as the driver does.
 use Rattle.driver_model.specs.Driver.{Driver, DriverInput}
-use Rattle.joined_nodes.specs.Stored.{StoreView}
-use Rattle.fleet_model.specs.Fleets.{FleetView}
-use Rattle.fleet_run.specs.AtDriver.{GoesOn}
+use Rattle.fleet_entries.specs.Stored.{StoreView}
+use Rattle.fleet_entries.specs.Fleets.{FleetView}
+use Rattle.fleet_entries.specs.AtDriver.{GoesOn}
 
 -- ---- one step after the other
 

@@ -4,7 +4,7 @@ use Rattle.run_data.specs.Histories.{most_entries}
 use Rattle.run_data.specs.declared.run.Run.{Run}
 use Rattle.run_model.specs.Past.{now}
 use Rattle.run_model.specs.Run.{IsRun}
-use Rattle.joined_nodes.specs.Stored.{StoreView}
+use Rattle.fleet_entries.specs.Stored.{StoreView}
 use Rattle.script_commands.specs.declared.command.Command.{Command}
 use Rattle.script_lang.specs.Context.{Context}
 use Rattle.script_lang.specs.Limits.{first_limit}
@@ -13,8 +13,8 @@ use Rattle.driver_model.specs.Driver.{Driver, DriverInput}
 use Rattle.driver_model.specs.Driving.{does, with_mark}
 use Rattle.driver_model.specs.Limits.{asks_first, count_of, is_full, meets_limit, run_to_limit}
 use Rattle.driver_script.specs.Lines.{is_built}
-use Rattle.fleet_model.specs.Fleets.{FleetView}
-use Rattle.fleet_run.specs.AtDriver.{IsAtDriver}
+use Rattle.fleet_entries.specs.Fleets.{FleetView}
+use Rattle.fleet_entries.specs.AtDriver.{IsAtDriver}
 
 -- Its line stands behind lines of a script that declare no more repositories than there are nodes, and that waited until now; it
 -- passes no limit, and no part is missing for it.

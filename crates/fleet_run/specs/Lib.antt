@@ -1,8 +1,6 @@
--- What contracts of a fleet cite.
-pub mod AtDriver
+-- What contracts of a fleet cite: the definitions of this crate, and those of a run.
 pub mod Commands
-pub mod Telling
-pub mod Paths
-pub use Rattle.fleet_model.specs.Fleets
-pub use Rattle.joined_nodes.specs.Joined
-pub use Rattle.joined_nodes.specs.Stored
+pub use Rattle.fleet_entries.specs.AtDriver
+pub use Rattle.fleet_entries.specs.Fleets
+pub use Rattle.fleet_entries.specs.Joined
+pub use Rattle.fleet_entries.specs.Stored

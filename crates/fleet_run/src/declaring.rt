@@ -1,10 +1,10 @@
 //! The repositories that a script declares, and stores for them.
 ghost use Rattle.std.specs.Prelude.{◌≡◌, ◌++◌, All, Some, None, [], length, IfOk, OnOk};
 ghost use Rattle.object_store.specs.declared.memory.MemoryKeeper.{MemoryKeeper};
-ghost use Rattle.joined_nodes.specs.Stored.{HasNothing, store_view};
+ghost use Rattle.fleet_entries.specs.Stored.{HasNothing, store_view};
 ghost use Rattle.driver_model.specs.Driver.{at_first};
 ghost use Rattle.driver_script.specs.Lines.{declared_by, repos_of};
-ghost use Rattle.fleet_model.specs.Stores.{IsStoreOf};
+ghost use Rattle.fleet_entries.specs.Stores.{IsStoreOf};
 
 use annex_base::{Items, NoMemory};
 use object_store::{Keeper, MemoryKeeper};

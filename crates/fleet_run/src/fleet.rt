@@ -2,23 +2,21 @@
 ghost use Rattle.std.specs.Prelude.{◌≡◌, ◌+◌, ◌<◌, ◌≤◌, ℕ, All, [], length, map, Err, IfOk, OnErr, OnOk};
 ghost use Rattle.run_data.specs.declared.run.RepoView.{RepoView};
 ghost use Rattle.object_store.specs.declared.memory.MemoryKeeper.{MemoryKeeper};
-ghost use Rattle.joined_nodes.specs.Stored.{HasNothing, store_view};
-ghost use Rattle.joined_nodes.specs.Joined.{MayRun};
+ghost use Rattle.fleet_entries.specs.Stored.{HasNothing, store_view};
+ghost use Rattle.fleet_entries.specs.Joined.{MayRun};
 ghost use Rattle.driver_model.specs.Driver.{DriverInput, at_first};
 ghost use Rattle.driver_script.specs.Lines.{repos_of};
-ghost use Rattle.fleet_model.specs.Matches.{DecidesMatches};
-ghost use Rattle.fleet_model.specs.Stores.{IsStoreOf};
+ghost use Rattle.fleet_entries.specs.Matches.{DecidesMatches};
+ghost use Rattle.fleet_entries.specs.Stores.{IsStoreOf};
 ghost use Rattle.fleet_run.specs.Commands.{CutsAt, MayBeDone, MeetsNone, does_and_marks, does_command};
-ghost use Rattle.fleet_run.specs.AtDriver.{GoesOn, IsAtDriver, IsDrivenWithin, OnlyAddsBehind, StopsWithin, most_lines};
+ghost use Rattle.fleet_entries.specs.AtDriver.{GoesOn, IsAtDriver, IsDrivenWithin, OnlyAddsBehind, StopsWithin, most_lines};
 
 use crate::declaring::{memory_keepers, repositories};
-use crate::running::Running;
-use crate::stop::FleetStop;
+use crate::lines::do_and_mark;
 use annex_base::{Items, NoMemory};
 use driver_model::drivers_stay_sound;
 use driver_script::bytes_are_matched;
-use fleet_model::fleets_begin;
-use joined_nodes::Nodes;
+use fleet_entries::{FleetStop, Nodes, Running, fleets_begin};
 use object_store::{FailingKeeper, Keeper, MemoryKeeper};
 use run_data::{RepoView, Run};
 use run_paths::PathIndex;
@@ -35,7 +33,7 @@ pub struct Fleet<K: FailingKeeper> {
 }
 
 impl<K: FailingKeeper> Model for Fleet<K> {
-    ghost use Rattle.fleet_model.specs.Fleets.{FleetView};
+    ghost use Rattle.fleet_entries.specs.Fleets.{FleetView};
 
     ghost Value = { FleetView K };
 
@@ -137,7 +135,7 @@ impl<K: FailingKeeper> Fleet<K> {
         ensures stopped { OnErr result (StopsWithin (λ k. store_view (K.contents k) (K.parts k) (K.failing k) (K.faults k)) (does_command command.now) self.old self.new) }
         ensures kept { OnErr result (OnlyAddsBehind self.old self.new) }
     {
-        self.running.does_and_marks(command)
+        do_and_mark(&mut self.running, command)
     }
 
     /// The run of the lines so far.

@@ -2,7 +2,7 @@
 use Rattle.std.proofs.Common.{◌+◌, ◌<◌, ◌≤◌, true, [], List, ◌≡◌, length, drop, Err, sym, ap, ◌∙◌, subst, arith}
 use Rattle.fleet_run.specs.Stored.{store_view}
 use Rattle.script_commands.specs.declared.command.Command.{Command}
-use Rattle.fleet_run.specs.declared.stop.FleetStop.TheVariants.{Full}
+use Rattle.fleet_run.specs.declared.FleetStop.TheVariants.{Full}
 use Rattle.script_answers.specs.Runs.{IsRunOf}
 use Rattle.annex_cli.specs.Doing.{HasDone}
 use Rattle.annex_cli.proofs.RunLemmas.{cut_here, done_at_first, done_before, done_next, few_done, may_be_done, none_left, stop_is}

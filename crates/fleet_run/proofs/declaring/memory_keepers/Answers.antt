@@ -10,9 +10,9 @@ use Rattle.object_store.specs.HoldList.{records_of}
 use Rattle.object_store.specs.Stores.{Contents, Files, Parts}
 use Rattle.object_store.specs.declared.keeper.HoldRecord.{HoldRecord}
 use Rattle.object_store.specs.declared.memory.MemoryKeeper.{MemoryKeeper}
-use Rattle.joined_nodes.specs.Stored.{HasNothing, store_view}
+use Rattle.fleet_entries.specs.Stored.{HasNothing, store_view}
 use Rattle.driver_model.specs.Driver.{at_first, part_at as driver_part}
-use Rattle.fleet_model.specs.Stores.{IsStoreOf, IsTold, content_in, waiting_fails}
+use Rattle.fleet_entries.specs.Stores.{IsStoreOf, IsTold, content_in, waiting_fails}
 use Rattle.fleet_run.proofs.declaring.memory_keepers.Goals as goal
 
 is_empty : (cs : Option Contents) (ps : Option Parts) (rs : Option (List HoldRecord)) (fs : Option Files) → cs ≡ Some (λ key. None) → ps ≡ Some (λ key. []) → rs ≡ Some [] → fs ≡ Some (λ path. None) → HasNothing cs ps rs fs

@@ -4,9 +4,9 @@ use Rattle.object_store.specs.ByKey.{bytes_at, part_at}
 use Rattle.object_store.specs.CallCounts.{calls_left}
 use Rattle.object_store.specs.HoldList.{records_of}
 use Rattle.object_store.specs.declared.memory.MemoryKeeper.{MemoryKeeper}
-use Rattle.joined_nodes.specs.Stored.{HasNothing, store_view}
+use Rattle.fleet_entries.specs.Stored.{HasNothing, store_view}
 use Rattle.driver_model.specs.Driver.{at_first}
-use Rattle.fleet_model.specs.Stores.{IsStoreOf}
+use Rattle.fleet_entries.specs.Stores.{IsStoreOf}
 use Rattle.fleet_run.proofs.declaring.memory_keepers.Given as goal
 
 abbrev pub invariant-loop-made : goal.invariant-loop-made

@@ -1,8 +1,8 @@
 -- What the proof of `fleet::Fleet::over` needs beside the tactics.
 use Rattle.std.proofs.Common.{List, subst}
 use Rattle.run_data.specs.declared.run.RepoView.{RepoView}
-use Rattle.joined_nodes.specs.Joined.{AreNew}
-use Rattle.joined_nodes.specs.Stored.{StoreView, store_view}
+use Rattle.fleet_entries.specs.Joined.{AreNew}
+use Rattle.fleet_entries.specs.Stored.{StoreView, store_view}
 use Rattle.fleet_run.proofs.Begun.{begins_so, driven_first}
 use Rattle.fleet_run.proofs.fleet.Fleet.over.Goals as goal
 

@@ -1,0 +1,22 @@
+-- What contracts of the calls of a fleet cite: the definitions of this crate, of a fleet's laws, and of its nodes.
+pub mod AtDriver
+pub mod Telling
+pub mod Paths
+pub use Rattle.fleet_model.specs.Acting
+pub use Rattle.fleet_model.specs.Fleets
+pub use Rattle.fleet_model.specs.Matches
+pub use Rattle.fleet_model.specs.Parts
+pub use Rattle.fleet_model.specs.Settling
+pub use Rattle.fleet_model.specs.Steps
+pub use Rattle.fleet_model.specs.Stopping
+pub use Rattle.fleet_model.specs.Stores
+pub use Rattle.fleet_model.specs.Turns
+pub use Rattle.joined_nodes.specs.Calls
+pub use Rattle.joined_nodes.specs.Joined
+pub use Rattle.joined_nodes.specs.Logs
+pub use Rattle.joined_nodes.specs.Nodes
+pub use Rattle.joined_nodes.specs.Placing
+pub use Rattle.joined_nodes.specs.Refusals
+pub use Rattle.joined_nodes.specs.Stored
+pub use Rattle.joined_nodes.specs.Turning
+pub use Rattle.joined_nodes.specs.Walks

@@ -1,0 +1,14 @@
+//! The nodes of a fleet and its run, which gets the entries that calls of a node make.
+#![tactic(auto)]
+
+mod answers;
+mod running;
+mod stop;
+
+pub use fleet_model::{
+    fleets_begin, fleets_do_lines, fleets_rest, fleets_settle, fleets_stop_at_full_histories,
+    fleets_take_turns,
+};
+pub use joined_nodes::{BeginRefused, NodeRefused, Nodes, Turn};
+pub use running::Running;
+pub use stop::FleetStop;

@@ -1,0 +1,8 @@
+-- The lemmas of this crate.
+mod Beginning
+mod Failing
+mod Placing
+mod Growing
+mod FullJobs
+mod FullContents
+mod NamedPaths

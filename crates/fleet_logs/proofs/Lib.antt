@@ -1,0 +1,4 @@
+-- The lemmas of this crate.
+mod Writing
+mod Growing
+mod Full
