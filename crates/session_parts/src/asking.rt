@@ -16,12 +16,12 @@ ghost use Rattle.content_lock.specs.CallsMade.{MakesCalls, fewer};
 ghost use Rattle.session_state.specs.Phases.{IsNoGain, wanted_in};
 ghost use Rattle.session_state.specs.Talking.{AreAfterStep, FillsSo, IsFedBy, IsPlain, Tells};
 
-use crate::resuming::resume;
 use annex_base::{Call, Failed, NoMemory, Text};
 use annex_key::Key;
 use content_lock::{FillRefused, LockTable};
 use object_store::{Keeper, KeeperFault};
 use p2p_wire::Message;
+use part_filling::resume;
 use run_data::EntryKind;
 use session_state::{Scene, Step, Wanting};
 use std::alloc::Global;

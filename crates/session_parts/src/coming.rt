@@ -13,7 +13,7 @@ ghost use Rattle.session_state.specs.SessionCalls.{Makes};
 ghost use Rattle.session_state.specs.Stepping.{Goes, IsAt, moment_of};
 ghost use Rattle.session_state.specs.Talking.{HasFill, IsFed, doing_of, share_in};
 
-use crate::{asking, feeding};
+use crate::asking;
 use annex_base::{Call, NoMemory};
 use annex_key::Key;
 use content_lock::LockTable;
@@ -130,7 +130,7 @@ fn expect(doing: &mut Doing, count: u64)
     ensures fed { (p : Parts) → IsFed p doing.old → IsFed p doing.new }
 {
     match mem::replace(doing, Doing::Waits) {
-        Doing::Wants(wanting) => begin(doing, feeding::announced(wanting, count)),
+        Doing::Wants(wanting) => begin(doing, part_filling::announced(wanting, count)),
         _ => unreachable!(),
     }
 }
@@ -144,7 +144,7 @@ fn append(doing: &mut Doing, piece: &[u8])
     ensures fed { (p p' : Parts) → IsFed p doing.old → IsLonger doing.old p p' piece.now → IsFed p' doing.new }
 {
     match mem::replace(doing, Doing::Waits) {
-        Doing::Takes(taking) => begin(doing, feeding::appended(taking, piece)),
+        Doing::Takes(taking) => begin(doing, part_filling::appended(taking, piece)),
         _ => unreachable!(),
     }
 }

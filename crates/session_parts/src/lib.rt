@@ -3,7 +3,5 @@
 
 mod asking;
 mod coming;
-mod feeding;
-mod resuming;
 
 pub use coming::{announced, piece, put};

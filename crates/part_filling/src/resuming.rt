@@ -17,7 +17,7 @@ use session_state::PIECE;
 use std::alloc::Global;
 
 /// The digester that has taken the part of this size.
-pub(crate) fn resume<K: Keeper>(
+pub fn resume<K: Keeper>(
     alloc: Global,
     keeper: &mut K,
     key: &Key,

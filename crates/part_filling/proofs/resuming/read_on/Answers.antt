@@ -2,8 +2,8 @@
 use Rattle.std.proofs.Common.{ℕ, ◌∙◌, arith, rules}
 use Rattle.annex_base.specs.declared.kinds.Call.TheVariants as calls
 use Rattle.session_state.proofs.Calling.{memory_handed, unchanged_all, unfailed}
-use Rattle.session_parts.proofs.Reading.{grown}
-use Rattle.session_parts.proofs.resuming.read_on.Goals as goal
+use Rattle.part_filling.proofs.Reading.{grown}
+use Rattle.part_filling.proofs.resuming.read_on.Goals as goal
 
 pub loop-at-preserved : goal.loop-at-preserved
 loop-at-preserved g c =

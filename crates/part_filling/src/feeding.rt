@@ -65,7 +65,7 @@ fn awaiting(fill: Fill, size: u128, left: u64, digester: Option<Digester>) -> Do
 }
 
 /// DATA: so many bytes are to come.
-pub(crate) fn announced(wanting: Wanting, count: u64) -> Doing
+pub fn announced(wanting: Wanting, count: u64) -> Doing
     ensures doing { doing_of result ≡ takes_more wanting.fill wanting.size count }
     ensures given { (rows : Rows) → is_filling rows wanting.fill ≡ true → HasFill rows result }
     ensures fed { (p : Parts) → IsFedBy wanting.digester wanting.fill (p wanting.fill) → IsFed p result }
@@ -79,7 +79,7 @@ pub(crate) fn announced(wanting: Wanting, count: u64) -> Doing
 }
 
 /// The piece was put to the part.
-pub(crate) fn appended(taking: Taking, piece: &[u8]) -> Doing
+pub fn appended(taking: Taking, piece: &[u8]) -> Doing
     requires { length piece.now ≤ taking.left }
     ensures doing { doing_of result ≡ takes_more taking.fill (taking.size + length piece.now) (taking.left - length piece.now) }
     ensures given { (rows : Rows) → is_filling rows taking.fill ≡ true → HasFill rows result }

@@ -2,7 +2,7 @@
 use Rattle.std.proofs.Common.{◌≡◌, ◌≢◌, ℕ, true, nat_lt, refl, arith}
 use Rattle.annex_base.specs.declared.kinds.Call.TheVariants as calls
 use Rattle.session_state.proofs.Calling.{makes_first, makes_none}
-use Rattle.session_parts.proofs.resuming.resume.Goals as goal
+use Rattle.part_filling.proofs.resuming.resume.Goals as goal
 
 some : (n : ℕ) → n ≢ 0 → nat_lt 0 n ≡ true
 some n apart = grind arith

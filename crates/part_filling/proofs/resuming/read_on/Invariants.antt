@@ -3,7 +3,7 @@ use Rattle.std.proofs.Common.{◌≡◌, ◌≤◌, ◌<◌, ◌+◌, ◌-◌, f
 use Rattle.std.specs.Option.{ForSome}
 use Rattle.annex_base.specs.declared.kinds.Call.TheVariants as calls
 use Rattle.key_verify.specs.Sums.{HasTaken, bytes_taken}
-use Rattle.session_parts.proofs.resuming.read_on.Given as goal
+use Rattle.part_filling.proofs.resuming.read_on.Given as goal
 
 -- the digester has taken the part as far as it was read
 abbrev pub invariant-loop-at : goal.invariant-loop-at
