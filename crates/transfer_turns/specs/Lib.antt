@@ -1,0 +1,5 @@
+-- The definitions of the steps of transfers, which the crates above cite.
+pub mod Lines
+pub mod Parcels
+pub mod Turns
+pub mod Steps
