@@ -1,0 +1,7 @@
+-- The lemmas of this crate.
+pub mod Keeping
+pub mod Unexpected
+pub mod Losses
+pub mod Greeting
+pub mod Filling
+pub mod Verdicts
