@@ -1,0 +1,3 @@
+-- What contracts of a transfer's worker cite.
+pub mod States
+pub mod Workers
