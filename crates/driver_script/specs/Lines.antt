@@ -85,7 +85,7 @@ is_built_showing (showings.Numbers r path) = true
 is_built_showing (showings.Level r target) = true
 is_built_showing (showings.Wants r target path) = true
 is_built_showing (showings.Row r k) = true
-is_built_showing (showings.Plan r) = false
+is_built_showing (showings.Plan r) = true
 is_built_showing showings.Totals = true
 is_built_showing showings.Journal = true
 

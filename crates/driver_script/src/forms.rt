@@ -77,9 +77,9 @@ fn shows(what: &Showing) -> bool
         | Showing::Level { .. }
         | Showing::Wants { .. }
         | Showing::Row { .. }
+        | Showing::Plan { .. }
         | Showing::Totals
         | Showing::Journal => true,
-        Showing::Plan { .. } => false,
     }
 }
 

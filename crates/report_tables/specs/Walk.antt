@@ -74,7 +74,7 @@ IsOfKnown n (showings.Numbers r path) = r < n
 IsOfKnown n (showings.Level r target) = (r < n) × (target < n)
 IsOfKnown n (showings.Wants r target path) = (r < n) × (target < n)
 IsOfKnown n (showings.Row r k) = r < n
-IsOfKnown n (showings.Plan r) = Unit {0}
+IsOfKnown n (showings.Plan r) = r < n
 IsOfKnown n showings.Totals = Unit {0}
 IsOfKnown n showings.Journal = Unit {0}
 

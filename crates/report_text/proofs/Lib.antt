@@ -1,4 +1,5 @@
 -- The lemmas of this crate.
 mod Firsts
+mod Identified
 mod JoinedWords
 mod Reported

@@ -1,5 +1,5 @@
 -- The report of a run (own).
-use Rattle.std.specs.Prelude.{ℕ, ◌+◌, List, [], ◌∷◌, ◌++◌, length, take, codes, Option, Some, None}
+use Rattle.std.specs.Prelude.{ℕ, ◌+◌, List, [], ◌∷◌, ◌++◌, length, map, take, codes, Option, Some, None}
 use Rattle.std.specs.Fmt.{decimal}
 use Rattle.std.specs.List.{flat_map, range_with_len}
 use Rattle.run_data.specs.declared.run.RepoView.{RepoView}
@@ -13,9 +13,11 @@ use Rattle.run_data.specs.Files.{file_path}
 use Rattle.run_paths.specs.Paths.{with_marks}
 use Rattle.run_text.specs.Words.{joined_text}
 use Rattle.run_text.specs.Names.{name_of}
+use Rattle.sync_core.specs.Plan.{plan}
 use Rattle.journal_text.specs.Journal.{journal_of}
 use Rattle.report_tables.specs.Before.{branch_at, possessors, row_at, total_at}
 use Rattle.shown_text.specs.Lines.{outcome_lines, slot_text}
+use Rattle.shown_text.specs.Plans.{plan_text}
 use Rattle.shown_text.specs.Row.{row_text}
 use Rattle.shown_text.specs.Shown.{claims_text, location_text, log_text, named_text, numbers_for, trust_text}
 use Rattle.shown_text.specs.Wanted.{wants_text}
@@ -28,7 +30,7 @@ use Rattle.script_commands.specs.declared.command.Showing.TheVariants as showing
 
 -- A line ends with a newline. Lists are joined by commas, names after `presence` and `claims` by spaces; an empty list
 -- is a dash. These have no text yet: the line of a sync, which is also to hold back the lines of its jobs that are
--- done; those of jobs that a crash ends; and what is shown of plans.
+-- done; and those of jobs that a crash ends.
 
 -- what its lines set
 abbrev pub settings_at : Run → ℕ → ℕ → Settings
@@ -56,6 +58,10 @@ wants_in run r target path s tree (Some key) = wants_text run r target path s ke
 abbrev pub wants_at : Run → ℕ → ℕ → List ℕ → Settings → Entries → List ℕ
 wants_at run r target path s tree = wants_in run r target path s tree (key_of tree path)
 
+-- what a repository is to do by these settings, for the keys of this tree
+abbrev pub planned_text : Run → ℕ → Settings → Entries → List ℕ
+planned_text run r s tree = plan_text run r (plan s tree r (map (λ repo. repo.id) run.repos))
+
 -- what is shown at a place, after lines that made so many changes of the tree
 abbrev pub show_text : Run → ℕ → ℕ → Showing → List ℕ
 show_text run place changes (showings.Presence k) = presence_text run place k
@@ -67,7 +73,7 @@ show_text run place changes (showings.Numbers r path) = numbers_for run r path (
 show_text run place changes (showings.Level r target) = trust_text run r target (settings_at run place r)
 show_text run place changes (showings.Wants r target path) = wants_at run r target path (settings_at run place r) (tree_after run changes)
 show_text run place changes (showings.Row r k) = row_text run r k (row_at run place r k.key)
-show_text run place changes (showings.Plan r) = []
+show_text run place changes (showings.Plan r) = planned_text run r (settings_at run place r) (tree_after run changes)
 show_text run place changes showings.Totals = totals_text run place
 show_text run place changes showings.Journal = journal_of run.repos (take changes run.tree) (take place run.entries)
 

@@ -1,6 +1,7 @@
 //! The texts of runs: the report that a script's run prints.
 #![tactic(auto)]
 
+mod plans;
 mod run_report;
 mod shown;
 mod totals;

@@ -9,6 +9,7 @@ ghost use Rattle.report_tables.specs.Walk.{IsAhead, IsOfKnown, IsWellFormed, Kno
 ghost use Rattle.report_text.specs.Report.{presence_text, show_text, shown_by, wants_at};
 ghost use Rattle.shown_text.specs.Row.{row_text};
 
+use crate::plans::put_plan_of;
 use crate::totals::put_totals;
 use annex_base::{NoMemory, Text};
 use journal_text::put_journal;
@@ -119,7 +120,13 @@ fn put_showing(
             walk.move_to(alloc, run, place)?;
             put_totals(out, run, walk)?;
         }
-        Showing::Plan { .. } => {}
+        Showing::Plan { repo } => {
+            walk.move_to(alloc, run, place)?;
+            walk.read_settings(alloc, *repo)?;
+            let tree = first(run.tree.as_slice(), changes);
+            let settings = walk.settings(*repo);
+            put_plan_of(out, index, run, tree, *repo, settings)?;
+        }
     }
     Ok(())
 }

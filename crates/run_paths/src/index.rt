@@ -56,13 +56,20 @@ impl PathIndex {
     }
 
     /// Takes in the marks that came since it was asked last.
-    fn follow(&mut self, alloc: Global, marks: &[TreeMark]) -> Result<(), NoMemory>
+    pub fn follow(&mut self, alloc: Global, marks: &[TreeMark]) -> Result<(), NoMemory>
         requires first { IsIndexOf marks.now self.old }
         ensures all { OnOk result (self.new.tree ≡ with_marks [] marks.now) }
         ensures first { IsIndexOf marks.now self.new }
     {
         let (_, later) = marks.split_at(self.taken);
         take_in(&mut self.tree, &mut self.taken, alloc, later)
+    }
+
+    /// The tree that the marks make that were taken in.
+    pub fn tree(&self) -> &Tree
+        ensures { result.now ≡ self.now.tree }
+    {
+        &self.tree
     }
 
     /// The key that the marks of the run give the path, if they give it one.

@@ -65,6 +65,7 @@ showing_known m x (showings.Numbers r path) l s = let here = s.0 in omega (arith
 showing_known m x (showings.Level r target) l s = let here = s.0 in let there = s.1 in (omega (arith, l, here), omega (arith, l, there))
 showing_known m x (showings.Wants r target path) l s = let here = s.0 in let there = s.1 in (omega (arith, l, here), omega (arith, l, there))
 showing_known m x (showings.Row r k) l s = let here = s.0 in omega (arith, l, here)
+showing_known m x (showings.Plan r) l s = omega (arith, l, s)
 showing_known m x what l s = tt
 
 one_known : (m : ℕ) (x : Context) (c : Command) → length x.repos ≤ m → IsValidIn x c → ShowsKnown m c
