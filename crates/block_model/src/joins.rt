@@ -1,4 +1,5 @@
-//! The laws of blocks by the histories that repositories kept alone. Each is the contract of a function that does nothing.
+//! The laws of blocks by the histories that repositories kept alone, and that the driver's runs are of their scripts, and where its
+//! blocks end. Each is the contract of a function that does nothing.
 
 ghost use Rattle.std.specs.Prelude.{◌≡◌, ℕ, ◌<◌, ◌≤◌, false, List, [], ◌∷◌, ◌++◌, length};
 ghost use Rattle.annex_base.specs.Lists.{Each};

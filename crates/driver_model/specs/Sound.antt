@@ -34,7 +34,8 @@ ComeInTurn (x ∷ xs) = Each (ComesBehind x) xs × ComeInTurn xs
 
 -- Its entries are a run. On each way the frames that were sent and not yet taken are in flight, in order, unless they are past;
 -- and those that were sent are numbered from 1 on. Each flight that opens a connection goes to a server, and each goes to another
--- repository. What clients sent is of no later opening than their ends are at, and comes in order of openings. No part is greater than the greatest, and each path of the tree names a key.
+-- repository. What clients sent is of no later opening than their ends are at, and comes in order of openings. No part is greater
+-- than the greatest, and each path of the tree names a key.
 pub record IsSound (g : DriverInput) (d : Driver) : Type 0 where
   pub run : IsRun (run_with g d)
   pub flies : (r : ℕ) (a : EndName) (n : ℕ) → Flies d.past d.flights r a n
