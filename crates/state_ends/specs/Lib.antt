@@ -1,0 +1,4 @@
+-- The definitions of this crate.
+pub mod Bounds
+pub mod Sides
+pub mod Ends

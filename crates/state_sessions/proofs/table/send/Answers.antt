@@ -1,0 +1,20 @@
+-- What the proof of `table::send` needs beside the tactics.
+use Rattle.std.proofs.Common.{ap, arith, sym, subst, ◌∙◌, ◌+◌, ◌^◌, ◌<◌}
+use Rattle.node_model.specs.Sessions as sessions
+use Rattle.node_model.specs.Sessions.{sent_one}
+use Rattle.state_sessions.specs.Doings.{as_session, number_in}
+use Rattle.state_sessions.specs.Tables.{session_in}
+use Rattle.state_sessions.proofs.SessionLemmas.{replaced, replaced_small}
+use Rattle.state_sessions.proofs.table.send.Goals as goal
+
+pub returns-clause-session : goal.returns-clause-session
+returns-clause-session c =
+    let g : sessions.Session → sessions.Session = λ was. sent_one was c.args.body.now in
+    replaced (session_in c.args.table.now.entries) (session_in c.take_out-was.new.table.entries) (session_in c.put.new.table.entries) c.args.at.peer c.args.at.slot (as_session c.sends.result) g
+    c.take_out-was.ensures.out c.put.ensures.session (c.sends.ensures.value ∙ ap g c.take_out-was.ensures.value)
+
+pub returns-clause-small : goal.returns-clause-small
+returns-clause-small c = λ limit peer slot below.
+    replaced_small (session_in c.args.table.now.entries) (session_in c.take_out-was.new.table.entries) (session_in c.put.new.table.entries) c.args.at.peer c.args.at.slot (as_session c.sends.result) limit (limit + 2 ^ 64)
+    c.take_out-was.ensures.out c.put.ensures.session (omega arith)
+    (λ low. c.sends.ensures.small limit (subst (λ (s : sessions.Session). number_in s.doing < limit) (sym c.take_out-was.ensures.value) low)) peer slot below
