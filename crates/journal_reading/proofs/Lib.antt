@@ -1,0 +1,24 @@
+-- The lemmas of this crate.
+pub mod FormLemmas
+pub mod TableLemmas
+pub mod SoundLemmas
+pub mod DecimalLemmas
+pub mod FieldLemmas
+pub mod ListLemmas
+pub mod LineLemmas
+pub mod KeyLemmas
+pub mod FrameLemmas
+pub mod SoundFields
+pub mod NameLemmas
+pub mod NamesLemmas
+pub mod JobLemmas
+pub mod OutcomeLemmas
+pub mod KindLemmas
+pub mod HeadLemmas
+pub mod AddedLemmas
+pub mod SentLemmas
+pub mod EntryLemmas
+pub mod RunLemmas
+pub mod LocalLemmas
+pub mod BadLemmas
+pub mod Samples
