@@ -2,7 +2,9 @@
 #![tactic(auto)]
 
 mod adding;
+mod par_plans;
 mod placement;
 mod plans;
 
+pub use par_plans::par_plan;
 pub use plans::plan;

@@ -3,12 +3,13 @@
 ghost use Rattle.std.specs.Prelude.{◌≡◌, ◌<◌, ◌^◌, length, IfOk};
 ghost use Rattle.trust_groups.specs.View.{settings_of};
 ghost use Rattle.wanted_rules.specs.Plan.{plan};
+ghost use Rattle.sync_core.specs.KeyPlans.{plan_of_keys};
 ghost use Rattle.sync_core.specs.Placement.{wishes_of};
 
 use crate::adding::add_plan;
 use crate::placement::Placement;
 use annex_base::{NoMemory, RepoId};
-use annex_key::Tree;
+use annex_key::{Key, Tree};
 use std::alloc::Global;
 use trust_groups::Settings;
 use wanted_rules::{Action, Wishes};
@@ -29,16 +30,34 @@ pub fn plan(
 {
     let wishes = read_wishes(alloc, settings, repos)?;
     let keys = tree.keys(alloc)?;
+    plan_keys(alloc, settings, tree, here, repos, &wishes, &keys)
+}
+
+/// What is to be done for these keys of the tree, in their order. The wishes are those of the repositories.
+pub(crate) fn plan_keys<'a>(
+    alloc: Global,
+    settings: &'a Settings,
+    tree: &Tree,
+    here: u32,
+    repos: &'a [RepoId],
+    wishes: &'a [Wishes<'a>],
+    keys: &'a [Key],
+) -> Result<Vec<Action>, NoMemory>
+    requires here { here < length repos.now }
+    requires few { length repos.now < 2 ^ 32 }
+    requires wished { wishes.now ≡ wishes_of settings.now repos.now }
+    ensures { IfOk result (λ actions. actions.items ≡ plan_of_keys settings.now tree.now here repos.now keys.now) }
+{
     let mut actions = Vec::new(alloc);
-    for key in &keys {
-        let placement = Placement::of_key(alloc, settings, tree, repos, &wishes, key)?;
+    for key in keys {
+        let placement = Placement::of_key(alloc, settings, tree, repos, wishes, key)?;
         add_plan(&mut actions, &placement, here)?;
     }
     Ok(actions)
 }
 
 /// Reads the expressions of each of the repositories.
-fn read_wishes<'a>(
+pub(crate) fn read_wishes<'a>(
     alloc: Global,
     settings: &'a Settings,
     repos: &[RepoId],

@@ -1,22 +1,12 @@
 -- What the proof of `plans::plan` needs beside the tactics.
-use Rattle.std.proofs.Common.{◌++◌, ℕ, List, flat_map, ap, arith, ◌∙◌}
-use Rattle.std.proofs.lemmas.List.{take_all}
-use Rattle.annex_key.specs.Tree.{paths_of}
-use Rattle.trust_groups.specs.View.{settings_of}
-use Rattle.wanted_rules.specs.Plan.{plan, plan_of}
-use Rattle.sync_core.specs.Placement.{Placed}
-use Rattle.sync_core.proofs.PlanLemmas.{more_keys}
+use Rattle.std.proofs.Common.{ap, ◌∙◌}
+use Rattle.std.proofs.lemmas.Result.{IfOk-weaker}
+use Rattle.wanted_rules.specs.Plan.{plan}
+use Rattle.sync_core.specs.KeyPlans.{plan_of_keys}
 use Rattle.sync_core.proofs.plans.plan.Goals as goal
-
-pub loop-key-preserved : goal.loop-key-preserved
-loop-key-preserved c =
-    let plan_for = λ (key : List ℕ). plan_of (settings_of c.args.settings.now) c.args.repos.now c.args.here key (paths_of c.args.tree.now key) in
-    more_keys plan_for c.deref-key-items.result.now c.loop-key.key-index c.key-item.result c.loop-key.actions.items c.add_plan.new.actions.items c.loop-key-test.true c.key-item.is c.loop-key.invariant
-    (c.in_ok-add_plan.ensures ∙ ap (λ (p : Placed). c.loop-key.actions.items ++ plan_of (settings_of p.indices) p.repos c.args.here p.key p.paths) c.in_ok-placement.ensures)
 
 pub returns : goal.returns
 unfolding plan
 returns c =
-    let plan_for = λ (key : List ℕ). plan_of (settings_of c.args.settings.now) c.args.repos.now c.args.here key (paths_of c.args.tree.now key) in
-    c.loop-key.invariant
-    ∙ ap (flat_map plan_for) (take_all c.loop-key.key-index c.deref-key-items.result.now (omega (arith, c.loop-key-test.false)) ∙ c.deref-key-items.ensures.value ∙ c.in_ok-keys.ensures.value)
+    IfOk-weaker c.plan_keys.result _ _ (λ actions is.
+    is ∙ ap (plan_of_keys c.args.settings.now c.args.tree.now c.args.here c.args.repos.now) (c.deref-2.ensures.value ∙ c.in_ok-keys.ensures.value)) c.plan_keys.ensures
