@@ -1,5 +1,5 @@
 -- A get that takes the bytes of its part.
-use Rattle.std.proofs.Common.{◌≡◌, ℕ, ◌++◌, ◌≤◌, Bool, true, false, List, [], ◌∷◌, length, Option, Some, None, Ok, refl, sym, ap, subst, ◌∙◌, arith}
+use Rattle.std.proofs.Common.{◌≡◌, ℕ, ◌+◌, ◌-◌, ◌++◌, ◌≤◌, Bool, true, false, List, [], ◌∷◌, length, Option, Some, None, Ok, refl, sym, ap, subst, ◌∙◌, arith}
 use Rattle.std.specs.Prelude.{◌==◌, ◌&&◌, if◌then◌else◌, is_some, nat_le, nat_lt}
 use Rattle.std.specs.Option.{option_map}
 use Rattle.std.specs.declared.alloc.Global.{Global}
@@ -14,7 +14,7 @@ use Rattle.run_data.specs.declared.entry.FrameView.{FrameView}
 use Rattle.p2p_wire.specs.declared.message.Message.TheVariants.{Data}
 use Rattle.object_store.specs.Stores.{AreSmallParts, Parts, with_at}
 use Rattle.node_model.specs.Jobs as Jobs
-use Rattle.node_model.specs.Jobs.{gets_bytes, gets_more, listens, to_phase}
+use Rattle.node_model.specs.Jobs.{gets_bytes, gets_more, listens, partner, to_phase}
 use Rattle.node_model.specs.Sessions as sessions
 use Rattle.node_model.specs.Sessions.{takes_more}
 use Rattle.node_model.specs.JobStep.{Turn, attempts, by_me, hears, quietly, talk}
@@ -31,19 +31,20 @@ use Rattle.session_state.specs.declared.incoming.Incoming.TheVariants as incomin
 use Rattle.session_state.specs.Talking as session_talking
 use Rattle.session_state.specs.Talking.{doing_of}
 use Rattle.transfer_turns.specs.declared.parcels.Output.{Output}
+use Rattle.transfer_turns.specs.Partners.{StaysApart}
 use Rattle.transfer_turns.specs.Steps.{LeavesBut, Seen}
 use Rattle.transfer_turns.specs.Turns.{Sight, output_of, turn_in}
 use Rattle.transfer_turns.proofs.Hearings.{bytes_failed_steps, heard_steps, taken_steps}
+use Rattle.transfer_turns.proofs.Partners.{apart_same, gets_with}
 use Rattle.get_phases.specs.declared.getting.Ending.TheVariants as endings
 use Rattle.get_phases.specs.declared.getting.Getting.{Getting}
 use Rattle.get_phases.specs.declared.getting.Phase.{Phase}
 use Rattle.get_phases.specs.declared.getting.Phase.TheVariants as phases
 use Rattle.get_phases.specs.Getting.{Does}
 use Rattle.get_phases.specs.Gets.{HasFill, IsFed, SeesPart, fill_in, phase_of, work_of}
+use Rattle.get_phases.proofs.Keeping.{LeavesRest, gets_on, keeps_fault, keeps_filling, keeps_still, nothing_left}
+use Rattle.get_phases.proofs.Losses.{asks_so, at, from_phase, made_so}
 use Rattle.get_answers.specs.Taking.{GoesOn, IsLonger, IsTaking, phase_with}
-use Rattle.get_answers.proofs.Greeting.{at, from_phase, made_so}
-use Rattle.get_answers.proofs.Keeping.{LeavesRest, gets_on, keeps_fault, keeps_filling, keeps_still, nothing_left}
-use Rattle.get_answers.proofs.Losses.{asks_so}
 
 -- ---- where it stands
 
@@ -123,6 +124,11 @@ goes_work then_at w w' some g =
     ap work_of g.rest
     ∙ (λ i. record (work_of w) { part = (gets_on w'.phase (ap is_some g.fill ∙ some) ∙ sym (gets_on w.phase some)) i; phase = g.phase i; fills = is_some (g.fill i) })
 
+-- it talks with the same peer
+goes_apart : (x : Sight) (peer start size left : ℕ) (w w' : Getting) → partner w.job.peer (phase_of w.phase) ≡ Some peer → GoesOn (gets_more peer start size left) w w' → StaysApart x (work_of w) (work_of w')
+goes_apart x peer start size left w w' with_peer g =
+    apart_same x (work_of w) (work_of w') (ap (λ (ph : Jobs.Phase). partner w'.job.peer ph) g.phase ∙ (gets_with w'.job.peer peer start size left ∙ sym with_peer))
+
 -- ---- DATA
 
 announced_at : (x : Sight) (rows : Rows) (k : Seen) (w w' : Getting) (peer : ℕ) (wanting : Wanting) (n : ℕ) → GoesOn (gets_more peer wanting.size wanting.size n) (at w (phases.Data peer wanting)) w'
@@ -135,8 +141,8 @@ announced_at x rows k w w' peer wanting n goes fed has =
           let t = turn_in x rows c part right None rest (work_of u) in
           asks_so (takes t f peer (Jobs.GetsData peer wanting.size) (Data n)) (hears t f) [] None k k refl (makes_none k.failing k.failing refl))
           (goes_work (gets_more peer wanting.size wanting.size n) u w' refl goes),
-      keeps_still (Some (incoming.Message (Data n))) rows k k u w' (Talk (Some w.number)) [] has refl refl (ap (λ (g : Getting). g.number) goes.rest) (ap (λ (g : Getting). g.slot) goes.rest) (ap (λ (g : Getting). g.job) goes.rest) goes.fill (nothing_left k) refl
-          (λ p is was. fed p was),
+      keeps_still x (Some (incoming.Message (Data n))) rows k k u w' (Talk (Some w.number)) [] has refl refl refl (ap (λ (g : Getting). g.number) goes.rest) (ap (λ (g : Getting). g.slot) goes.rest) (ap (λ (g : Getting). g.job) goes.rest) goes.fill (nothing_left k) refl
+          (λ p is was. fed p was) (goes_apart x peer wanting.size wanting.size n u w' refl goes),
     )
 
 pub announced_does : (x : Sight) (rows : Rows) (k : Seen) (w w' : Getting) (peer : ℕ) (wanting : Wanting) (n : ℕ) (out : Output) → w.phase ≡ phases.Data peer wanting → GoesOn (listens (work_of w) (phase_of w.phase) (Data n)).phase w w'
@@ -184,9 +190,10 @@ module _ (x : Sight) (rows : Rows) (k k' : Seen) (w : Getting) (peer start : ℕ
         asks_so (takes_bytes t f peer (length bytes.items) (Jobs.GetsBytes peer start taking.size taking.left)) (hears t f) (calls.Append ∷ []) None k k'
         (tries_append t f peer (length bytes.items) peer start taking.size taking.left fits) made)
         (goes_work (gets_bytes (length bytes.items) (Jobs.GetsBytes peer start taking.size taking.left)) taker w' refl goes),
-    keeps_filling (Some (incoming.Bytes bytes)) rows k k' taker w' (Talk (Some w.number)) [] has refl refl (ap (λ (g : Getting). g.number) goes.rest) (ap (λ (g : Getting). g.slot) goes.rest) (ap (λ (g : Getting). g.job) goes.rest) goes.fill contents rest
+    keeps_filling x (Some (incoming.Bytes bytes)) rows k k' taker w' (Talk (Some w.number)) [] has refl refl refl (ap (λ (g : Getting). g.number) goes.rest) (ap (λ (g : Getting). g.slot) goes.rest) (ap (λ (g : Getting). g.job) goes.rest) goes.fill contents rest
         (grown ∙ (λ i. if sym fits i then option_map (λ p. with_at p taking.fill (p taking.fill ++ bytes.items)) k.parts else k.parts))
-        (λ p is was p' is'. fed p p' was (longer_at peer start taking k.parts k'.parts bytes.items grown small p is p' is')),
+        (λ p is was p' is'. fed p p' was (longer_at peer start taking k.parts k'.parts bytes.items grown small p is p' is'))
+        (goes_apart x peer start (taking.size + length bytes.items) (taking.left - length bytes.items) taker w' refl goes),
   )
 
   ungrown_at : LeavesBut (Some calls.Append) k k' → MakesCalls (calls.Append ∷ []) (Some calls.Append) k.failing k'.failing
@@ -198,7 +205,7 @@ module _ (x : Sight) (rows : Rows) (k k' : Seen) (w : Getting) (peer start : ℕ
         asks_so (takes_bytes t f peer (length bytes.items) (Jobs.GetsBytes peer start taking.size taking.left)) (quietly (Fault calls.Append (by_me t)) (Some f)) (calls.Append ∷ []) (Some calls.Append) k k'
         (tries_append t f peer (length bytes.items) peer start taking.size taking.left fits) made)
         tt (λ r time. refl) refl,
-    keeps_fault (Some (incoming.Bytes bytes)) rows k k' taker (at w (phases.Ends (endings.StoreFault (Some taking.fill)))) calls.Append has refl refl leaves refl,
+    keeps_fault x (Some (incoming.Bytes bytes)) rows k k' taker (at w (phases.Ends (endings.StoreFault (Some taking.fill)))) calls.Append has refl refl leaves refl,
   )
 
 pub grown_does : (x : Sight) (rows : Rows) (k k' : Seen) (w w' : Getting) (peer start : ℕ) (taking : Taking) (bytes : Vec ℕ Global) (out : Output) → w.phase ≡ phases.Bytes peer start taking

@@ -1,5 +1,5 @@
 -- A get whose connection opens: it says VERSION, and then GET.
-use Rattle.std.proofs.Common.{◌≡◌, ℕ, ◌++◌, ◌≤◌, Bool, true, false, List, [], ◌∷◌, length, Option, Some, None, Result, Ok, refl, sym, ap, subst, ◌∙◌, arith}
+use Rattle.std.proofs.Common.{◌≡◌, ℕ, ◌++◌, ◌≤◌, Bool, true, false, List, [], ◌∷◌, length, Option, Some, None, Ok, refl, sym, ap, subst, ◌∙◌, arith}
 use Rattle.std.specs.Prelude.{if◌then◌else◌, nat_le}
 use Rattle.std.specs.Option.{ForSome}
 use Rattle.std.proofs.lemmas.Bool.Decides.{nat_tests}
@@ -11,7 +11,6 @@ use Rattle.annex_base.specs.declared.memory.NoMemory.{NoMemory}
 use Rattle.run_data.specs.declared.entry.By.TheVariants.{Job as by_job}
 use Rattle.run_data.specs.declared.entry.EntryKind.TheVariants.{Fault, Talk}
 use Rattle.run_data.specs.declared.entry.FrameView.{FrameView}
-use Rattle.p2p_wire.specs.declared.message.Message.{Message}
 use Rattle.p2p_wire.specs.declared.message.Message.TheVariants.{AuthSuccess, Get, Version}
 use Rattle.p2p_wire.specs.Streams.{IsLine}
 use Rattle.key_verify.specs.declared.digester.Digester.{Digester}
@@ -32,8 +31,6 @@ use Rattle.session_state.specs.declared.incoming.Incoming.TheVariants as incomin
 use Rattle.session_state.specs.Talking.{IsFedBy, Tells}
 use Rattle.part_filling.proofs.PartCalls.{is_some_left, told_part}
 use Rattle.transfer_turns.specs.declared.parcels.Output.{Output}
-use Rattle.transfer_turns.specs.declared.parcels.Parcel.{Parcel}
-use Rattle.transfer_turns.specs.declared.parcels.ParcelBody.TheVariants as bodies
 use Rattle.transfer_turns.specs.Steps.{LeavesBut, Seen, StepsIn}
 use Rattle.transfer_turns.specs.Turns.{Sight, output_of, turn_in}
 use Rattle.transfer_turns.proofs.Frames.{line_is}
@@ -49,25 +46,9 @@ use Rattle.get_phases.specs.declared.sent.Sent.{Sent}
 use Rattle.get_phases.specs.Asking.{IsAsked, IsOfAsking, IsSent, WaitsForData, failed_asking}
 use Rattle.get_phases.specs.Getting.{Does}
 use Rattle.get_phases.specs.Gets.{HasFill, SeesPart, fill_in, work_of}
-use Rattle.get_answers.proofs.Keeping.{keeps_fault, keeps_still, nothing_left}
-use Rattle.get_answers.proofs.Losses.{asks_so}
-
--- a get that stands so
-abbrev pub at : Getting → Phase → Getting
-at w ph = record w { phase = ph }
-
-pub from_phase : (x : Sight) (i : Option Incoming) (rows rows' : Rows) (k k' : Seen) (w w' : Getting) (ph : Phase) (r : Result Output NoMemory) → w.phase ≡ ph
-    → (HasFill rows (at w ph) → Does x i rows rows' k k' (at w ph) w' r) → HasFill rows w → Does x i rows rows' k k' w w' r
-from_phase x i rows rows' k k' w w' ph r stands does = subst (λ (q : Phase). HasFill rows (at w q) → Does x i rows rows' k k' (at w q) w' r) (sym stands) does
-
--- where it made this, and stands so
-pub made_so : (x : Sight) (i : Option Incoming) (rows rows' : Rows) (k k' : Seen) (w w' u : Getting) (out made : Output) → w' ≡ u → out ≡ made → Does {E = NoMemory} x i rows rows' k k' w u (Ok made) → Does {E = NoMemory} x i rows rows' k k' w w' (Ok out)
-made_so x i rows rows' k k' w w' u out made next is does =
-    subst (λ (v : Getting). Does {E = NoMemory} x i rows rows' k k' w v (Ok out)) (sym next) (subst (λ (o : Output). Does {E = NoMemory} x i rows rows' k k' w u (Ok o)) (sym is) does)
-
--- what is sent where a peer is told this
-abbrev pub message_to : ℕ → Message → List Parcel
-message_to peer m = record { peer = peer; body = bodies.Message m } ∷ []
+use Rattle.get_phases.proofs.Keeping.{keeps_fault, keeps_still, nothing_left}
+use Rattle.get_phases.proofs.Losses.{asks_so, at, from_phase, made_so, message_to}
+use Rattle.transfer_turns.proofs.Partners.{apart_same}
 
 -- ---- the answer to an opening
 
@@ -80,8 +61,8 @@ opened_at x rows k w peer fill id line has = (
       let t = turn_in x rows c part right None rest (work_of (at w (phases.Opens peer fill))) in
       asks_so (takes t f peer (Jobs.Opens peer) (AuthSuccess id)) (says_to t (talk t) (Some f) peer (Version 3)) [] None k k refl (makes_none k.failing k.failing refl))
       line.0 (λ time. refl),
-  keeps_still (Some (incoming.Message (AuthSuccess id))) rows k k (at w (phases.Opens peer fill)) (at w (phases.Greets peer fill)) (Talk (Some w.number)) (message_to peer (Version 3)) has refl refl refl refl refl refl (nothing_left k) refl
-      (λ p is was. tt),
+  keeps_still x (Some (incoming.Message (AuthSuccess id))) rows k k (at w (phases.Opens peer fill)) (at w (phases.Greets peer fill)) (Talk (Some w.number)) (message_to peer (Version 3)) has refl refl refl refl refl refl refl (nothing_left k) refl
+      (λ p is was. tt) (λ named was. was),
 )
 
 -- the fill that it handed over is that of its key still
@@ -140,8 +121,8 @@ module _ (x : Sight) (rows : Rows) (k k' : Seen) (w : Getting) (peer version : �
         (sent_asks s c part right rest f (told_part k.parts part s.size w.job.key tells is.size))
         (subst (λ (l : List Call). MakesCalls l None k.failing k'.failing) (sym (append-nil (to_resume part))) (made part tells)))
         is.get.line.0 (λ time. λ i. record (work_of greeting) { version = knows w peer version; phase = Jobs.GetsData (waits.0 i) (waits.2 i) }),
-    keeps_still told rows k k' greeting (waiting (phases.Data p wanting)) (Talk (Some w.number)) (message_to peer (Get s.size [] w.job.key)) has refl refl refl refl refl (ap (λ (key : List ℕ). Some key) waits.1) leaves refl
-        (λ parts there was. fed_of s wanting waits.1 waits.3 is.fed parts there),
+    keeps_still x told rows k k' greeting (waiting (phases.Data p wanting)) (Talk (Some w.number)) (message_to peer (Get s.size [] w.job.key)) has refl refl refl refl refl refl (ap (λ (key : List ℕ). Some key) waits.1) leaves refl
+        (λ parts there was. fed_of s wanting waits.1 waits.3 is.fed parts there) (apart_same x (work_of greeting) (work_of (waiting (phases.Data p wanting))) (ap (λ (q : ℕ). Some q) waits.0)),
   )
   sent_at s ph waits is made leaves = absurd waits
 
@@ -184,7 +165,7 @@ module _ (x : Sight) (rows : Rows) (k k' : Seen) (w : Getting) (peer version : �
   pub failed_at : (call : Call) → ForSome k.parts (λ p. IsOfAsking (length (p w.job.key)) call)
       → ((part : ℕ) → Tells k.parts (λ p. part ≡ length (p w.job.key)) → MakesCalls (to_resume part) (Some call) k.failing k'.failing) → LeavesBut (Some call) k k'
       → Does {E = NoMemory} x told rows rows k k' greeting (at w (phases.Ends (endings.StoreFault (Some fill)))) (Ok (output_of (Fault call (by_job w.number)) [] false))
-  failed_at call is made leaves = (failed_so call k.parts refl is made, keeps_fault told rows k k' greeting (at w (phases.Ends (endings.StoreFault (Some fill)))) call has refl refl leaves refl)
+  failed_at call is made leaves = (failed_so call k.parts refl is made, keeps_fault x told rows k k' greeting (at w (phases.Ends (endings.StoreFault (Some fill)))) call has refl refl leaves refl)
 
 -- so by what was asked
 module _ (x : Sight) (rows : Rows) (k k' : Seen) (w w' : Getting) (peer version : ℕ) (fill : List ℕ) (out : Output) (what : Asked) (low : version ≤ 3) (stands : w.phase ≡ phases.Greets peer fill)

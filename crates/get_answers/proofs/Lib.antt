@@ -1,7 +1,6 @@
 -- The lemmas of this crate.
-pub mod Keeping
 pub mod Unexpected
 pub mod Losses
 pub mod Greeting
 pub mod Filling
-pub mod Verdicts
+pub mod Refusals

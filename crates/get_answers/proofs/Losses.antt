@@ -1,11 +1,10 @@
 -- A get that takes what gives it nothing of a peer, and goes on to the next.
-use Rattle.std.proofs.Common.{◌≡◌, ℕ, ◌++◌, Bool, true, false, List, [], ◌∷◌, length, Option, Some, None, Result, Ok, Err, refl, sym, ap, subst, ◌∙◌}
+use Rattle.std.proofs.Common.{◌≡◌, ℕ, ◌++◌, true, false, List, [], ◌∷◌, length, Option, Some, None, Result, Ok, Err, refl, sym, ap, subst, ◌∙◌}
 use Rattle.std.specs.Prelude.{IfOk, OnErr, if◌then◌else◌, is_some, nat_le, nat_lt, ◌&&◌}
 use Rattle.std.specs.Option.{option_map}
 use Rattle.std.proofs.lemmas.Option.{same_Some}
 use Rattle.std.specs.declared.alloc.Global.{Global}
 use Rattle.std.specs.declared.vec.Vec.{Vec}
-use Rattle.annex_base.specs.declared.kinds.Call.{Call}
 use Rattle.annex_base.specs.declared.memory.NoMemory.{NoMemory}
 use Rattle.run_data.specs.declared.entry.EntryKind.{EntryKind}
 use Rattle.run_data.specs.declared.entry.EntryKind.TheVariants.{Talk}
@@ -14,13 +13,10 @@ use Rattle.run_data.specs.declared.job.SourceCause.{SourceCause}
 use Rattle.run_data.specs.declared.job.SourceCause.TheVariants as sources
 use Rattle.p2p_wire.specs.declared.message.Message.{Message}
 use Rattle.object_store.specs.Stores.{Parts, with_at}
-use Rattle.node_model.specs.Jobs as Jobs
-use Rattle.node_model.specs.Jobs.{Gets, closed_part, fails_with, learns, partner}
+use Rattle.node_model.specs.Jobs.{Gets, closed_part, learns, partner}
 use Rattle.node_model.specs.JobStep.{Turn, wrong_message}
-use Rattle.node_model.specs.Look.{Effect, as_told}
 use Rattle.node_model.specs.TransferStep.{takes_bytes}
-use Rattle.node_model.specs.Turns.{is_awaiting, takes}
-use Rattle.content_lock.specs.CallsMade.{MakesCalls}
+use Rattle.node_model.specs.Turns.{takes}
 use Rattle.content_lock.specs.Rows.{Rows}
 use Rattle.session_state.proofs.Calling.{makes_none}
 use Rattle.session_state.specs.declared.doing.Taken.{Taken}
@@ -34,33 +30,23 @@ use Rattle.transfer_turns.specs.declared.parcels.Parcel.{Parcel}
 use Rattle.transfer_turns.specs.declared.parcels.ParcelBody.TheVariants as bodies
 use Rattle.transfer_turns.specs.Steps.{Seen, StepsIn}
 use Rattle.transfer_turns.specs.Turns.{Sight, awaited, output_of, turn_in}
-use Rattle.transfer_turns.proofs.Hearings.{Asks, bad_steps, bytes_shut_steps, closed_steps, closing_steps, opening_steps, shut_steps}
+use Rattle.transfer_turns.proofs.Hearings.{bad_steps, bytes_shut_steps, closed_steps, closing_steps, opening_steps, shut_steps}
 use Rattle.get_phases.specs.declared.getting.Getting.{Getting}
 use Rattle.get_phases.specs.declared.getting.Phase.{Phase}
 use Rattle.get_phases.specs.declared.getting.Phase.TheVariants as phases
 use Rattle.get_phases.specs.Getting.{Does}
-use Rattle.get_phases.specs.Gets.{HasFill, IsFed, SeesPart, fill_in, part_of, parts_after, phase_of, work_of}
-use Rattle.get_answers.specs.Taking.{FailsWith, IsAsking, IsGreeting, IsOpening, IsServed, Loses, next_with}
-use Rattle.get_answers.proofs.Keeping.{gets_on, keeps_still, nothing_left, stays_same}
+use Rattle.get_phases.specs.Gets.{HasFill, SeesPart, fill_in, part_of, parts_after, phase_of, work_of}
+use Rattle.get_phases.specs.Losing.{FailsWith, Loses}
+use Rattle.get_phases.proofs.Keeping.{gets_on, keeps_still, nothing_left, stays_same}
+use Rattle.get_phases.proofs.Losses.{asks_so, awaits_partner, closed_work, failed_apart, fed_anew, next_fill}
+use Rattle.get_commits.specs.Judging.{IsServed}
+use Rattle.get_answers.specs.Taking.{IsAsking, IsGreeting, IsOpening}
 use Rattle.get_answers.proofs.Unexpected.{bytes_else, bytes_past, no_bytes}
-
--- ---- what is asked
-
--- these calls, and then this
-pub asks_so : (asked made : Effect) (cs : List Call) (failed : Option Call) (k k' : Seen) → asked ≡ record made { calls = cs } → MakesCalls cs failed k.failing k'.failing → Asks asked (as_told made) failed k k'
-asks_so asked made cs failed k k' is calls = record {
-  told = ap as_told is;
-  calls = subst (λ (l : List Call). MakesCalls l failed k.failing k'.failing) (sym (ap (λ (e : Effect). e.calls) is)) calls;
-}
 
 -- ---- the connection on which it awaits a frame
 
-chosen : (b : Bool) (o : Option ℕ) (peer : ℕ) → (if b then o else None) ≡ Some peer → o ≡ Some peer
-chosen true o peer e = e
-chosen false o peer e = absurd cc
-
 pub stands_on : (w : Getting) (peer : ℕ) → awaited (work_of w) ≡ Some peer → partner w.job.peer (phase_of w.phase) ≡ Some peer
-stands_on w peer e = chosen (is_awaiting (phase_of w.phase)) (partner w.job.peer (phase_of w.phase)) peer e
+stands_on w peer e = sym (awaits_partner w w.phase) ∙ e
 
 -- a get that awaits a frame fills its key
 pub fills_there : (w : Getting) (peer : ℕ) → awaited (work_of w) ≡ Some peer → is_some (fill_in w.phase) ≡ true
@@ -96,53 +82,6 @@ served_there w peer p start taken at awaits = record { start = start; taken = ta
 pub taking_there : (w : Getting) (peer p start : ℕ) (taking : Taking) → w.phase ≡ phases.Bytes p start taking → awaited (work_of w) ≡ Some peer → w.phase ≡ phases.Bytes peer start taking
 taking_there w peer p start taking at awaits = at ∙ ap (λ (q : ℕ). phases.Bytes q start taking) (at_peer w peer p (phases.Bytes p start taking) at refl awaits)
 
--- where the word behind the bytes is awaited
-pub word_there : (peer p a b : ℕ) (ph : Phase) (t u : Taken) → ph ≡ phases.Word peer a t → ph ≡ phases.Word p b u → (p ≡ peer) × (b ≡ a)
-word_there peer p a b ph t u served is = let both : phases.Word p b u ≡ phases.Word peer a t = sym is ∙ served in (cc, cc)
-
-pub word_at : (peer p a b : ℕ) (ph : Phase) (t u : Taken) → ph ≡ phases.Word peer a t → ph ≡ phases.Word p b u → ph ≡ phases.Word peer b u
-word_at peer p a b ph t u served is = is ∙ ap (λ (q : ℕ). phases.Word q b u) (word_there peer p a b ph t u served is).0
-
--- ---- a get that failed with a peer
-
--- it goes on with its fill
-pub next_fill : (peer : ℕ) (cause : SourceCause) (n : ℕ) (w w' : Getting) → FailsWith peer cause n w w' → fill_in w'.phase ≡ fill_in w.phase
-next_fill peer cause n w w' f = ap fill_in f.phase ∙ go (fill_in w.phase)
-  where
-    go : (o : Option (List ℕ)) → fill_in (next_with o) ≡ o
-    go None = refl
-    go (Some fill) = refl
-
-next_phase : (o : Option (List ℕ)) → is_some o ≡ true → phase_of (next_with o) ≡ Jobs.Next
-next_phase None e = absurd cc
-next_phase (Some fill) e = refl
-
-fed_next : (p : Parts) (o : Option (List ℕ)) → IsFed p (next_with o)
-fed_next p None = tt
-fed_next p (Some fill) = tt
-
--- bytes that it took are none of another peer's
-pub fed_anew : (p : Parts) (peer : ℕ) (cause : SourceCause) (n : ℕ) (w w' : Getting) → FailsWith peer cause n w w' → IsFed p w'.phase
-fed_anew p peer cause n w w' f = subst (λ (ph : Phase). IsFed p ph) (sym f.phase) (fed_next p (fill_in w.phase))
-
-pub failed_work : (peer : ℕ) (cause : SourceCause) (n : ℕ) (w w' : Getting) → is_some (fill_in w.phase) ≡ true → FailsWith peer cause n w w' → work_of w' ≡ fails_with (record (work_of w) { version = n }) peer cause
-failed_work peer cause n w w' some f =
-    let same : fill_in w'.phase ≡ fill_in w.phase = next_fill peer cause n w w' f in
-    λ i. record {
-      number = f.number i;
-      slot = f.slot i;
-      what = f.job i;
-      part = (gets_on w'.phase (ap is_some same ∙ some) ∙ sym (gets_on w.phase some)) i;
-      phase = (ap phase_of f.phase ∙ next_phase (fill_in w.phase) some) i;
-      fills = is_some (same i);
-      version = f.knows i;
-      heard = [];
-      causes = f.causes i;
-    }
-
-pub closed_work : (r peer n : ℕ) (w w' : Getting) → is_some (fill_in w.phase) ≡ true → FailsWith peer sources.Closed n w w' → work_of w' ≡ closed_part r (record (work_of w) { version = n }) peer (part_of w.phase)
-closed_work r peer n w w' some f = failed_work peer sources.Closed n w w' some f ∙ sym (ap (closed_part r (record (work_of w) { version = n }) peer) (gets_on w.phase some))
-
 -- ---- its step
 
 -- what is sent where the connection is closed
@@ -156,7 +95,8 @@ loses_so x i rows k w w' sent peer cause n (Err e) has some still l same steps =
 loses_so x i rows k w w' sent peer cause n (Ok out) has some still l same steps =
     subst (λ (o : Output). Does {E = NoMemory} x i rows rows k k w w' (Ok o)) (sym l.made) (
       steps l.fails,
-      keeps_still i rows k k w w' (Talk (Some w.number)) sent has some refl l.fails.number l.fails.slot l.fails.job (next_fill peer cause n w w' l.fails) (nothing_left k) still (λ p is was. fed_anew p peer cause n w w' l.fails),
+      keeps_still x i rows k k w w' (Talk (Some w.number)) sent has some refl refl l.fails.number l.fails.slot l.fails.job (next_fill peer cause n w w' l.fails) (nothing_left k) still (λ p is was. fed_anew p peer cause n w w' l.fails)
+          (failed_apart x peer cause n w w' l.fails),
     )
 
 -- ---- what brings no part on

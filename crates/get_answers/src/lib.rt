@@ -2,9 +2,7 @@
 #![tactic(auto)]
 
 mod hearing;
-mod judging;
-mod losing;
-mod saying;
+mod rejecting;
 mod taking;
 
 pub use hearing::hear;

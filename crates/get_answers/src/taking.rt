@@ -9,9 +9,8 @@ ghost use Rattle.get_phases.specs.Getting.{Does};
 ghost use Rattle.get_phases.specs.Gets.{HasFill, IsFed, phase_of, work_of};
 ghost use Rattle.get_answers.specs.Taking.{GoesOn, HasLeft, IsData, IsLonger, IsTaking, phase_with};
 
-use crate::losing::{give_up, shut};
 use annex_base::{Call, NoMemory};
-use get_phases::{Getting, Phase};
+use get_phases::{Getting, Phase, give_up, shut};
 use object_store::{Keeper, KeeperFault};
 use p2p_wire::Message;
 use part_filling::{announced, appended};

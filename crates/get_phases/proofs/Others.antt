@@ -1,14 +1,17 @@
 -- The other repositories by their places.
-use Rattle.std.proofs.Common.{◌≡◌, ◌≢◌, ℕ, zero, suc, ◌+◌, ◌-◌, ◌<◌, ◌≤◌, Bool, true, false, not, List, [], ◌∷◌, ◌++◌, length, get_or, Option, Some, None, sym, ap, ◌∙◌, append_assoc, length-append, refl, arith}
+use Rattle.std.proofs.Common.{◌≡◌, ◌≢◌, ℕ, zero, suc, ◌+◌, ◌-◌, ◌<◌, ◌≤◌, Bool, true, false, not, List, [], ◌∷◌, ◌++◌, filter, length, get_or, Option, Some, None, sym, ap, subst, ◌∙◌, append_assoc, length-append, refl, arith}
 use Rattle.std.specs.Prelude.{◌==◌, if◌then◌else◌, slice_get}
 use Rattle.std.specs.List.{range_with_len}
 use Rattle.std.proofs.lemmas.Bool.Decides.{nat_tests}
 use Rattle.std.proofs.lemmas.List.{append-nil, get_or-append-add, get_or_append_left}
 use Rattle.std.proofs.lemmas.List.Elements.{filter-append}
 use Rattle.std.proofs.lemmas.List.FromFn.{get_or-range_with_len, length-range_with_len}
-use Rattle.std.proofs.lemmas.Option.{slice_get_past, slice_get_read}
+use Rattle.std.proofs.lemmas.Option.{get_or_from_slice_get, same_Some, slice_get_past, slice_get_read, slice_get_within}
+use Rattle.annex_base.proofs.Conditions.{eqb_apart}
+use Rattle.annex_base.proofs.Lists.{Each-get_or, Each-passes}
 use Rattle.annex_base.proofs.Numbers.{range_more, range_suc}
 use Rattle.node_model.specs.Evidence.{but}
+use Rattle.transfer_turns.specs.Partners.{IsOther}
 use Rattle.transfer_turns.specs.Turns.{Sight}
 use Rattle.get_phases.specs.Gets.{sources_in}
 
@@ -85,3 +88,15 @@ own_past x peer p n asked is same some = sym (slice_get_past (p ∷ []) asked (o
 
 pub others_at : (x : Sight) (peer : Option ℕ) (n repo count asked : ℕ) → peer ≡ None → asked ≡ n → repo ≡ x.repo → count ≡ x.count → slice_get (but repo (range_with_len 0 count)) asked ≡ slice_get (sources_in x peer) n
 others_at x peer n repo count asked is same mine all = (λ i. slice_get (but (mine i) (range_with_len 0 (all i))) (same i)) ∙ (λ i. slice_get (sources_in x (sym is i)) n)
+
+-- ---- each of them is another repository
+
+-- what a filter leaves passes
+passes : (p : ℕ → Bool) (xs : List ℕ) (n q : ℕ) → slice_get (filter p xs) n ≡ Some q → p q ≡ true
+passes p xs n q is =
+    subst (λ (v : ℕ). p v ≡ true) (get_or_from_slice_get (filter p xs) n q q is) (Each-get_or (λ (v : ℕ). p v ≡ true) (filter p xs) n q (slice_get_within (filter p xs) n q is) (Each-passes p xs))
+
+pub source_other : (x : Sight) (peer : Option ℕ) (n q : ℕ) → slice_get (sources_in x peer) n ≡ Some q → IsOther x peer → (x.repo == q) ≡ false
+source_other x None n q is other = eqb_apart q x.repo (passes (λ (v : ℕ). not (v == x.repo)) (range_with_len 0 x.count) n q is)
+source_other x (Some p) zero q is other = subst (λ (v : ℕ). (x.repo == v) ≡ false) (same_Some p q is) other
+source_other x (Some p) (suc n) q is other = absurd (cc)

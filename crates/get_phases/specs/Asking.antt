@@ -1,4 +1,4 @@
--- A request for the bytes of a key; for private contracts (own).
+-- A request for the bytes of a key (own).
 use Rattle.std.specs.Prelude.{◌≡◌, ◌<◌, ℕ, false, List, [], ◌∷◌, length, Option, Some, None, Result, Ok, Err}
 use Rattle.std.specs.Option.{ForSome}
 use Rattle.annex_base.specs.declared.kinds.Call.{Call}

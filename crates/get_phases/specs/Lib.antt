@@ -2,3 +2,4 @@
 pub mod Asking
 pub mod Gets
 pub mod Getting
+pub mod Losing

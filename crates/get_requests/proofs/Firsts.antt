@@ -12,7 +12,7 @@ use Rattle.run_data.specs.declared.job.TransferRefusal.TheVariants as failures
 use Rattle.object_store.specs.Calls.{FailsAsTold}
 use Rattle.object_store.specs.Stores.{Contents, Parts}
 use Rattle.node_model.specs.Jobs
-use Rattle.node_model.specs.Jobs.{Drops, Gets, Part, Work, first_look, is_move, to_phase}
+use Rattle.node_model.specs.Jobs.{Drops, Gets, Part, Work, first_look, is_move, partner, to_phase}
 use Rattle.node_model.specs.JobStep.{Turn, attempts, by_me, ends, quietly, talk}
 use Rattle.node_model.specs.Look.{Effect, failed_in, failing_call}
 use Rattle.node_model.specs.TransferStep.{first_get, sources}
@@ -27,20 +27,23 @@ use Rattle.transfer_turns.specs.Parcels.{SendsView, frames_of}
 use Rattle.transfer_turns.specs.Steps.{LeavesAll, LeavesBut, Makes, Seen, StepsIn, is_end}
 use Rattle.transfer_turns.specs.Turns.{Sight, output_of, partings_at, turn_in}
 use Rattle.transfer_turns.proofs.Leavings.{but_none}
+use Rattle.transfer_turns.proofs.Partners.{apart_none}
 use Rattle.get_phases.specs.declared.getting.Ending.TheVariants as endings
 use Rattle.get_phases.specs.declared.getting.Getting.{Getting}
 use Rattle.get_phases.specs.declared.getting.Phase.TheVariants as phases
 use Rattle.get_phases.specs.Asking.{IsFailing, IsOfAsking}
 use Rattle.get_phases.specs.Getting.{Keeps}
-use Rattle.get_phases.specs.Gets.{SeesPart, fill_in, source_in, sources_in, work_of}
+use Rattle.get_phases.specs.Gets.{SeesPart, fill_in, phase_of, source_in, sources_in, work_of}
+use Rattle.get_phases.proofs.Keeping.{IsPlain, fills_same}
+use Rattle.get_phases.proofs.Others.{source_other}
 use Rattle.get_requests.specs.Requesting.{Begins, FillsToo, FindsHere, IsEnding, is_open}
-use Rattle.get_requests.proofs.Keeping.{IsPlain, ended_kept, fills_same, fills_too, has_too, keeps}
+use Rattle.get_requests.proofs.Keeping.{ended_kept, fills_too, has_too, keeps}
 use Rattle.get_requests.proofs.Stepping.{IsBare, at_phase, ends_made, looks_made, steps_in}
 use Rattle.get_requests.proofs.Requests.{IsApproach, apart, approach_kept, approach_made, approach_next, approach_own, goes_kept}
 
 -- a step did this, and left that
 abbrev pub Did : Sight → Rows → Rows → Seen → Seen → Getting → Getting → Output → Type 0
-Did x rows rows' k k' w w' out = StepsIn x rows k k' (work_of w) (work_of w') None (SeesPart k.parts w.job.key w.phase None) out × Keeps None rows rows' k k' w w' out
+Did x rows rows' k k' w w' out = StepsIn x rows k k' (work_of w) (work_of w') None (SeesPart k.parts w.job.key w.phase None) out × Keeps x None rows rows' k k' w w' out
 
 abbrev fresh : Getting → Getting
 fresh w = record w { phase = phases.Fresh }
@@ -127,9 +130,10 @@ module _ (x : Sight) (rows : Rows) (k k' : Seen) (w : Getting) (own : IsBare row
             (ap (λ (b : Bool). attempts (turn_in x rows c part right (failed_in out.kind) rest (work_of (fresh w))) (calls.Has ∷ []) None (if b then quietly (talk (turn_in x rows c part right (failed_in out.kind) rest (work_of (fresh w)))) None else ends (turn_in x rows c part right (failed_in out.kind) rest (work_of (fresh w))) None (Got None None))) (sym move)
             ∙ found_so x rows c part right rest w (failed_in out.kind) true (is_filling rows w.job.key) (source_in x w) (sym (here c told)) refl refl)
             (quiet_made x rows c part right rest w k k' k' (work_of (record w { phase = phases.Done })) out true is.0 had refl (moves x rows c part right rest w (sym (here c told)) move))),
-        keeps rows rows k k' (fresh w) (record w { phase = phases.Done }) out (subst (λ (o : Output). IsPlain w.number o.kind) (sym is.0) refl) refl refl refl refl refl
+        keeps x rows rows k k' (fresh w) (record w { phase = phases.Done }) out (subst (λ (o : Output). IsPlain w.number o.kind) (sym is.0) refl) refl refl refl refl refl
             (fills_same (fresh w) (record w { phase = phases.Done }) rows tt refl refl)
-            (subst (λ (o : Output). LeavesBut (failed_in o.kind) k k') (sym is.0) (but_none k k' l)) tt (λ p told _. tt) (subst (λ (o : Output). o.ended ≡ (is_end o.kind || true)) (sym is.0) refl),
+            (subst (λ (o : Output). LeavesBut (failed_in o.kind) k k') (sym is.0) (but_none k k' l)) tt (λ p told _. tt) (subst (λ (o : Output). o.ended ≡ (is_end o.kind || true)) (sym is.0) refl)
+            (λ named was. tt) (λ stays was. sym move ∙ stays),
       )
   finds_by false parting w' out move parts is here =
       subst (λ (u : Getting). Did x rows rows k k' (fresh w) u out) (sym is.1) (
@@ -173,8 +177,9 @@ begin_failed x rows k k' w w' out at had l is next =
           subst (λ (o : Output). Makes x k k' (work_of (fresh w)) (work_of (lookless w)) None (turn_in x rows c part right (failed_in o.kind) rest (work_of (fresh w))) (goes (turn_in x rows c part right (failed_in o.kind) rest (work_of (fresh w))) Jobs.Fresh) o)
           (sym is)
           (record { effect = refl; next = λ e. refl; calls = makes_failed calls.Has _ k.failing k'.failing had })),
-      keeps rows rows k k' (fresh w) (lookless w) out (subst (λ (o : Output). IsPlain w.number o.kind) (sym is) refl) refl refl refl refl refl (fills_same (fresh w) (lookless w) rows tt refl refl)
-          (subst (λ (o : Output). LeavesBut (failed_in o.kind) k k') (sym is) l) tt (λ p told _. tt) (ap (λ (o : Output). o.ended) is ∙ sym (ap (λ (o : Output). is_end o.kind || false) is)),
+      keeps x rows rows k k' (fresh w) (lookless w) out (subst (λ (o : Output). IsPlain w.number o.kind) (sym is) refl) refl refl refl refl refl (fills_same (fresh w) (lookless w) rows tt refl refl)
+          (subst (λ (o : Output). LeavesBut (failed_in o.kind) k k') (sym is) l) tt (λ p told _. tt) (ap (λ (o : Output). o.ended) is ∙ sym (ap (λ (o : Output). is_end o.kind || false) is))
+          (λ named was. tt) (λ stays was. refl),
     ))
 
 -- it fills the key from now on
@@ -186,14 +191,15 @@ begin_claimed x rows rows' k m k' w w' out at free had l absent begins too =
           subst (λ (e : Effect). Makes x k k' (work_of (fresh w)) (work_of w') None (turn_in x rows c part right (failed_in out.kind) rest (work_of (fresh w))) e out)
           (found_so x rows c part right rest w (failed_in out.kind) false false (source_in x w) (sym (absent c told)) free refl)
           (begins_made x rows c part right rest w k m k' w' out (source_in x w) (sym (absent c told)) g had (subst (λ (o : Option Parts). Tells o (λ p. part ≡ length (p w.job.key))) (sym l.parts) tells))),
-      kept (source_in x w) g,
+      kept (source_in x w) refl g,
     )) begins
   where
-    kept : (s : Option ℕ) → Begins x s m k' (fresh w) w' out → Keeps None rows rows' k k' (fresh w) w' out
-    kept None g =
-        goes_kept [] (phases.Next w.job.key) rows rows' k m k' (fresh w) w' out refl (λ p. tt) g l too.holds too.bars (fills_too (fresh w) w' rows rows' refl (λ i. (g.next i).job) free too)
+    kept : (s : Option ℕ) → source_in x w ≡ s → Begins x s m k' (fresh w) w' out → Keeps x None rows rows' k k' (fresh w) w' out
+    kept None source g =
+        goes_kept x [] (phases.Next w.job.key) rows rows' k m k' (fresh w) w' out refl (λ p. tt) g l too.holds too.bars (fills_too (fresh w) w' rows rows' refl (λ i. (g.next i).job) free too)
         (has_too w' rows rows' (subst (λ (u : Getting). IfSome (fill_in u.phase) (λ (key : List ℕ). key ≡ u.job.key)) (sym g.next) refl) too)
-    kept (Some peer) a =
+        (apart_none x (work_of (fresh w)) (work_of w') (λ i. partner (g.next i).job.peer (phase_of (g.next i).phase)))
+    kept (Some peer) source a =
         let e = approach_next (is_open x (fresh w) peer) peer m k' (fresh w) w' out a in
-        approach_kept (is_open x (fresh w) peer) peer rows rows' k m k' (fresh w) w' out a l too.holds too.bars (fills_too (fresh w) w' rows rows' refl (λ i. (e i).job) free too)
-        (has_too w' rows rows' (approach_own (is_open x (fresh w) peer) peer m k' (fresh w) w' out tt a) too)
+        approach_kept x (is_open x (fresh w) peer) peer rows rows' k m k' (fresh w) w' out a l too.holds too.bars (fills_too (fresh w) w' rows rows' refl (λ i. (e i).job) free too)
+        (has_too w' rows rows' (approach_own (is_open x (fresh w) peer) peer m k' (fresh w) w' out tt a) too) (source_other x w.job.peer (length w.causes.items) peer source)

@@ -27,7 +27,9 @@ use Rattle.get_phases.specs.Asking.{IsOfAsking}
 use Rattle.get_phases.specs.Getting.{Keeps}
 use Rattle.get_phases.specs.Gets.{HasFill, fill_in, outcome_of, source_in, work_of}
 use Rattle.get_requests.specs.Requesting.{Approaches, IsEnding, is_open}
-use Rattle.get_requests.proofs.Keeping.{ended_kept, fills_same, has_still}
+use Rattle.get_phases.proofs.Keeping.{fills_same, has_still}
+use Rattle.get_phases.proofs.Others.{source_other}
+use Rattle.get_requests.proofs.Keeping.{ended_kept}
 use Rattle.get_requests.proofs.Stepping.{IsBare, at_phase, ends_made, steps_in}
 use Rattle.get_requests.proofs.Requests.{IsApproach, approach_kept, approach_made, approach_next, approach_still}
 use Rattle.get_requests.proofs.Firsts.{Did, sources_same}
@@ -74,12 +76,12 @@ go_on_asked x rows k k' w w' peer out at has source asks =
       kept has a,
     )) has asks
   where
-    kept : HasFill rows (next w) → Approaches (is_open x (next w) peer) peer k k' (next w) w' out → Keeps None rows rows k k' (next w) w' out
+    kept : HasFill rows (next w) → Approaches (is_open x (next w) peer) peer k k' (next w) w' out → Keeps x None rows rows k k' (next w) w' out
     kept has a =
         let e = approach_next (is_open x (next w) peer) peer k k' (next w) w' out a in
         let still = approach_still (is_open x (next w) peer) peer k k' (next w) w' out refl a in
-        approach_kept (is_open x (next w) peer) peer rows rows k k k' (next w) w' out a (all_stays k) refl refl (fills_same (next w) w' rows has still (λ i. (e i).job))
-        (has_still (next w) w' rows still (λ i. (e i).job) has)
+        approach_kept x (is_open x (next w) peer) peer rows rows k k k' (next w) w' out a (all_stays k) refl refl (fills_same (next w) w' rows has still (λ i. (e i).job))
+        (has_still rows (next w) w' has still (λ i. (e i).job)) (source_other x w.job.peer (length w.causes.items) peer source)
 
 -- ---- an end
 

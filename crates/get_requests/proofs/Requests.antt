@@ -1,6 +1,6 @@
 -- A get that begins or goes on approaches a peer.
 use Rattle.std.proofs.Common.{◌≡◌, ℕ, Bool, true, false, List, [], ◌∷◌, ◌++◌, Option, Some, None, refl, sym, ap, subst, ◌∙◌}
-use Rattle.std.specs.Prelude.{◌||◌, IfSome, if◌then◌else◌, length}
+use Rattle.std.specs.Prelude.{◌==◌, ◌||◌, IfSome, if◌then◌else◌, length}
 use Rattle.std.specs.Option.{ForSome}
 use Rattle.std.proofs.lemmas.List.{append-nil}
 use Rattle.annex_base.specs.declared.kinds.Call.{Call}
@@ -16,7 +16,7 @@ use Rattle.p2p_wire.specs.declared.message.Message.TheVariants.{Get}
 use Rattle.p2p_wire.specs.Messages.{message_of, text_of}
 use Rattle.object_store.specs.Stores.{Contents, Parts}
 use Rattle.node_model.specs.Calls.{to_read, to_resume}
-use Rattle.node_model.specs.Jobs.{Ends, Gets, GetsData, Opens, Part, Work, says_some, talks, to_phase}
+use Rattle.node_model.specs.Jobs.{Ends, Gets, GetsData, Opens, Part, Work, partner, says_some, talks, to_phase}
 use Rattle.node_model.specs.JobStep.{Turn, by_me, me, quietly, says_to, sends_to, talk}
 use Rattle.node_model.specs.Look.{Effect, entry_of, failed_in, failing_call, unless}
 use Rattle.node_model.specs.Requests.{asks, goes_to}
@@ -29,6 +29,7 @@ use Rattle.drop_phases.specs.Doing.{next_work}
 use Rattle.transfer_turns.specs.declared.parcels.Output.{Output}
 use Rattle.transfer_turns.specs.declared.parcels.Parcel.{Parcel}
 use Rattle.transfer_turns.specs.declared.parcels.ParcelBody.TheVariants as bodies
+use Rattle.transfer_turns.specs.Partners.{NamesOther, StaysApart}
 use Rattle.transfer_turns.specs.Steps.{FillsSo, LeavesAll, LeavesBut, Makes, Seen, is_end}
 use Rattle.transfer_turns.specs.Turns.{Sight, output_of, turn_in}
 use Rattle.get_phases.specs.declared.getting.Ending.TheVariants as endings
@@ -40,12 +41,14 @@ use Rattle.get_phases.specs.declared.sent.Asked.TheVariants as asked
 use Rattle.get_phases.specs.declared.sent.Sent.{Sent}
 use Rattle.get_phases.specs.Asking.{AsksPeer, FollowsAsked, IsAsked, IsFailing, IsGet, IsOfAsking, WaitsForData, failed_asking}
 use Rattle.get_phases.specs.Getting.{Keeps}
-use Rattle.get_phases.specs.Gets.{HasFill, IsFed, fill_in, is_done, work_of}
+use Rattle.get_phases.specs.Gets.{HasFill, IsFed, fill_in, is_done, phase_of, work_of}
 use Rattle.get_phases.proofs.Following.{moved}
 use Rattle.get_requests.specs.Requesting.{Approaches, GoesOn, IsTalk, is_open}
 use Rattle.transfer_turns.proofs.Leavings.{but_none}
+use Rattle.transfer_turns.proofs.Partners.{apart_none, apart_with}
+use Rattle.get_phases.proofs.Keeping.{IsPlain}
 use Rattle.get_phases.proofs.Leaving.{leaves_all, leaves_then}
-use Rattle.get_requests.proofs.Keeping.{IsPlain, keeps}
+use Rattle.get_requests.proofs.Keeping.{keeps}
 
 -- a phase of a get in which it approaches peers: what it says moves it so, of which it fills its key from now on; and a failed call ends it
 pub record IsApproach (x : Sight) (rows : Rows) (w : Getting) : Type 0 where
@@ -190,6 +193,10 @@ fill_waiting : (key : List ℕ) (peer : ℕ) (s : Sent) (ph : Phase) → WaitsFo
 fill_waiting key peer s (phases.Data q wanting) waits = ap (λ (k : List ℕ). Some k) waits.1
 fill_waiting key peer s ph waits = absurd waits
 
+with_waiting : (target : Option ℕ) (key : List ℕ) (peer : ℕ) (s : Sent) (ph : Phase) → WaitsForData key peer s ph → partner target (phase_of ph) ≡ Some peer
+with_waiting target key peer s (phases.Data q wanting) waits = ap (λ (n : ℕ). Some n) waits.0
+with_waiting target key peer s ph waits = absurd waits
+
 -- what follows what was asked is of this job
 asked_plain : (what : Asked) (known : Option Parts) (peer : ℕ) (w w' : Getting) (out : Output) → IsAsked w.number w.job.key peer known what → FollowsAsked peer w w' out what → IsPlain w.number out.kind
 asked_plain (asked.Sent s) known peer w w' out is next = subst (λ (o : Output). IsPlain w.number o.kind) (sym (next.0 ∙ is.get.is)) refl
@@ -212,6 +219,15 @@ asked_ended (asked.Sent s) known peer w w' out is next =
     let e : out ≡ output_of (Talk (Some w.number)) (record { peer = peer; body = bodies.Message (Get s.size [] w.job.key) } ∷ []) false = next.0 ∙ is.get.is in
     ap (λ (o : Output). o.ended) e ∙ sym ((λ i. is_end (e i).kind || is_done w'.phase) ∙ undone_waiting w.job.key peer s w'.phase next.2)
 asked_ended (asked.Failed call) known peer w w' out is next = ap (λ (o : Output). o.ended) next.0 ∙ sym (λ i. is_end (next.0 i).kind || is_done (next.1 i).phase)
+
+-- it isn't done, and talks with this peer, if it talks with one
+asked_undone : (what : Asked) (peer : ℕ) (w w' : Getting) (out : Output) → FollowsAsked peer w w' out what → is_done w'.phase ≡ false
+asked_undone (asked.Sent s) peer w w' out next = undone_waiting w.job.key peer s w'.phase next.2
+asked_undone (asked.Failed call) peer w w' out next = λ i. is_done (next.1 i).phase
+
+asked_apart : (x : Sight) (what : Asked) (peer : ℕ) (w w' : Getting) (out : Output) → FollowsAsked peer w w' out what → (NamesOther x (work_of w) → (x.repo == peer) ≡ false) → StaysApart x (work_of w) (work_of w')
+asked_apart x (asked.Sent s) peer w w' out next other = apart_with x (work_of w) (work_of w') peer (with_waiting w'.job.peer w.job.key peer s w'.phase next.2) other
+asked_apart x (asked.Failed call) peer w w' out next other = apart_none x (work_of w) (work_of w') (λ i. partner (next.1 i).job.peer (phase_of (next.1 i).phase))
 
 -- the key that it goes on to fill is its own
 asked_own : (what : Asked) (peer : ℕ) (w w' : Getting) (out : Output) → IfSome (fill_in w.phase) (λ (key : List ℕ). key ≡ w.job.key) → FollowsAsked peer w w' out what → IfSome (fill_in w'.phase) (λ (key : List ℕ). key ≡ w'.job.key)
@@ -237,19 +253,21 @@ approach_next true peer k k' w w' out a = asked_next a.what peer w w' out a.next
 approach_next false peer k k' w w' out g = moved w w' (phases.Opens peer w.job.key) g.next
 
 -- it says something, and goes on so
-pub goes_kept : (sent : List Parcel) (ph : Phase) (rows rows' : Rows) (k m k' : Seen) (w w' : Getting) (out : Output) → is_done ph ≡ false → ((p : Parts) → IsFed p ph) → GoesOn sent ph m k' w w' out → LeavesAll k m → rows'.holds ≡ rows.holds → rows'.bars ≡ rows.bars
-    → FillsSo (work_of w) (work_of w') (is_filling rows) (is_filling rows') → HasFill rows' w' → Keeps None rows rows' k k' w w' out
-goes_kept sent ph rows rows' k m k' w w' out undone fed g l holds bars filled has =
-    keeps rows rows' k k' w w' out (subst (λ (o : Output). IsPlain w.number o.kind) (sym g.talk) refl) (λ i. (g.next i).number) (λ i. (g.next i).slot) (λ i. (g.next i).job) holds bars filled
+pub goes_kept : (x : Sight) (sent : List Parcel) (ph : Phase) (rows rows' : Rows) (k m k' : Seen) (w w' : Getting) (out : Output) → is_done ph ≡ false → ((p : Parts) → IsFed p ph) → GoesOn sent ph m k' w w' out → LeavesAll k m → rows'.holds ≡ rows.holds → rows'.bars ≡ rows.bars
+    → FillsSo (work_of w) (work_of w') (is_filling rows) (is_filling rows') → HasFill rows' w' → StaysApart x (work_of w) (work_of w') → Keeps x None rows rows' k k' w w' out
+goes_kept x sent ph rows rows' k m k' w w' out undone fed g l holds bars filled has apart =
+    keeps x rows rows' k k' w w' out (subst (λ (o : Output). IsPlain w.number o.kind) (sym g.talk) refl) (λ i. (g.next i).number) (λ i. (g.next i).slot) (λ i. (g.next i).job) holds bars filled
     (subst (λ (o : Output). LeavesBut (failed_in o.kind) k k') (sym g.talk) (but_none k k' (leaves_all k m k' l g.leaves))) has (λ p told _. subst (λ (u : Getting). IsFed p u.phase) (sym g.next) (fed p))
-    (ap (λ (o : Output). o.ended) g.talk ∙ sym ((λ i. is_end (g.talk i).kind || is_done (g.next i).phase) ∙ undone))
+    (ap (λ (o : Output). o.ended) g.talk ∙ sym ((λ i. is_end (g.talk i).kind || is_done (g.next i).phase) ∙ undone)) apart (λ stays was. (λ i. is_done (g.next i).phase) ∙ undone)
 
-pub approach_kept : (b : Bool) (peer : ℕ) (rows rows' : Rows) (k m k' : Seen) (w w' : Getting) (out : Output) → Approaches b peer m k' w w' out → LeavesAll k m → rows'.holds ≡ rows.holds → rows'.bars ≡ rows.bars
-    → FillsSo (work_of w) (work_of w') (is_filling rows) (is_filling rows') → HasFill rows' w' → Keeps None rows rows' k k' w w' out
-approach_kept true peer rows rows' k m k' w w' out a l holds bars filled has =
+pub approach_kept : (x : Sight) (b : Bool) (peer : ℕ) (rows rows' : Rows) (k m k' : Seen) (w w' : Getting) (out : Output) → Approaches b peer m k' w w' out → LeavesAll k m → rows'.holds ≡ rows.holds → rows'.bars ≡ rows.bars
+    → FillsSo (work_of w) (work_of w') (is_filling rows) (is_filling rows') → HasFill rows' w' → (NamesOther x (work_of w) → (x.repo == peer) ≡ false) → Keeps x None rows rows' k k' w w' out
+approach_kept x true peer rows rows' k m k' w w' out a l holds bars filled has other =
     let e = asked_next a.what peer w w' out a.next in
-    keeps rows rows' k k' w w' out (asked_plain a.what m.parts peer w w' out a.is a.next) (λ i. (e i).number) (λ i. (e i).slot) (λ i. (e i).job) holds bars filled
+    keeps x rows rows' k k' w w' out (asked_plain a.what m.parts peer w w' out a.is a.next) (λ i. (e i).number) (λ i. (e i).slot) (λ i. (e i).job) holds bars filled
     (subst (λ (o : Option Call). LeavesBut o k k') (asked_failed a.what m.parts peer w w' out a.is a.next) (leaves_then (failed_asking a.what) k m k' l a.leaves)) has
     (λ p told _. asked_fed a.what m.parts peer w w' out a.is a.next p (l.parts ∙ told)) (asked_ended a.what m.parts peer w w' out a.is a.next)
-approach_kept false peer rows rows' k m k' w w' out g l holds bars filled has =
-    goes_kept (record { peer = peer; body = bodies.Open } ∷ []) (phases.Opens peer w.job.key) rows rows' k m k' w w' out refl (λ p. tt) g l holds bars filled has
+    (asked_apart x a.what peer w w' out a.next other) (λ stays was. asked_undone a.what peer w w' out a.next)
+approach_kept x false peer rows rows' k m k' w w' out g l holds bars filled has other =
+    goes_kept x (record { peer = peer; body = bodies.Open } ∷ []) (phases.Opens peer w.job.key) rows rows' k m k' w w' out refl (λ p. tt) g l holds bars filled has
+    (apart_with x (work_of w) (work_of w') peer (λ i. partner (g.next i).job.peer (phase_of (g.next i).phase)) other)

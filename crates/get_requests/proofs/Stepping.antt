@@ -25,20 +25,10 @@ use Rattle.get_phases.specs.declared.getting.Getting.{Getting}
 use Rattle.get_phases.specs.declared.getting.Phase.{Phase}
 use Rattle.get_phases.specs.declared.getting.Phase.TheVariants as phases
 use Rattle.get_phases.specs.Gets.{SeesPart, phase_of, work_of}
+use Rattle.get_phases.proofs.Losses.{awaits_partner}
 use Rattle.get_requests.specs.Requesting.{IsEnding}
 
 -- ---- from where it stands
-
-awaits_partner : (w : Getting) (ph : Phase) → awaited (work_of (record w { phase = ph })) ≡ partner w.job.peer (phase_of ph)
-awaits_partner w phases.Fresh = refl
-awaits_partner w (phases.Next fill) = refl
-awaits_partner w (phases.Opens peer fill) = refl
-awaits_partner w (phases.Greets peer fill) = refl
-awaits_partner w (phases.Data peer wanting) = refl
-awaits_partner w (phases.Bytes peer start taking) = refl
-awaits_partner w (phases.Word peer start taken) = refl
-awaits_partner w (phases.Ends why) = refl
-awaits_partner w phases.Done = refl
 
 sees_size : (known : Option Parts) (key : List ℕ) (ph : Phase) (part : ℕ) (right : Bool) → SeesPart known key ph None part right → Tells known (λ p. part ≡ length (p key))
 sees_size known key (phases.Word peer start taken) part right sees = sees

@@ -3,10 +3,13 @@ use Rattle.std.proofs.Common.{◌≡◌, ℕ, Bool, true, false, List, [], Optio
 use Rattle.std.specs.Prelude.{OnErr}
 use Rattle.std.specs.Option.{ForSome}
 use Rattle.annex_base.specs.declared.kinds.Call.{Call}
-use Rattle.run_data.specs.declared.entry.EntryKind.TheVariants.{End, Talk}
+use Rattle.run_data.specs.declared.entry.By.TheVariants.{Job as by_job}
+use Rattle.run_data.specs.declared.entry.EntryKind.{EntryKind}
+use Rattle.run_data.specs.declared.entry.EntryKind.TheVariants.{End, Fault, Talk}
 use Rattle.run_data.specs.declared.job.Outcome.{Outcome}
+use Rattle.object_store.specs.Stores.{Contents}
 use Rattle.node_model.specs.Jobs
-use Rattle.node_model.specs.Jobs.{Part, Puts}
+use Rattle.node_model.specs.Jobs.{Part, Puts, is_move}
 use Rattle.node_model.specs.Look.{Effect, as_told}
 use Rattle.content_lock.specs.CallsMade.{MakesCalls}
 use Rattle.content_lock.specs.Rows.{Rows}
@@ -15,10 +18,12 @@ use Rattle.session_state.proofs.Calling.{as_it_was, makes_none}
 use Rattle.transfer_turns.specs.declared.parcels.Output.{Output}
 use Rattle.transfer_turns.specs.declared.parcels.Parcel.{Parcel}
 use Rattle.transfer_turns.specs.Parcels.{SendsView}
+use Rattle.transfer_turns.specs.Partners.{StaysApart}
 use Rattle.transfer_turns.specs.Steps.{LeavesAll, LeavesBut, Seen, StepsIn}
 use Rattle.transfer_turns.specs.Turns.{Sight, output_of}
 use Rattle.transfer_turns.proofs.Hearings.{Asks}
 use Rattle.transfer_turns.proofs.Leavings.{all_stays, but_none, leaves_but, none_filled}
+use Rattle.put_steps.specs.declared.phase.Ending.TheVariants as endings
 use Rattle.put_steps.specs.declared.phase.Phase.{Phase}
 use Rattle.put_steps.specs.declared.phase.Phase.TheVariants as phases
 use Rattle.put_steps.specs.declared.putting.Putting.{Putting}
@@ -28,26 +33,49 @@ use Rattle.put_steps.specs.Stepping.{Told}
 
 -- the step is that of the job that is told this, and keeps what it is to
 abbrev pub Did : Sight → Option Incoming → Rows → Seen → Seen → Putting → Putting → Output → Type 0
-Did x i rows k k' w w' out = StepsIn x rows k k' (work_of w) (work_of w') i SeesNoPart out × Keeps rows k k' w w' out
+Did x i rows k k' w w' out = StepsIn x rows k k' (work_of w) (work_of w') i SeesNoPart out × Keeps x rows k k' w w' out
 
 -- ---- what is kept
 
-pub talk_keeps : (rows : Rows) (k k' : Seen) (w : Putting) (next : Phase) (version : ℕ) (items : List Parcel) (ended : Bool) → LeavesBut None k k' → ended ≡ is_done next → ForSome k.contents (λ c. SendsPiece c w.job.key w.phase items)
-    → Keeps rows k k' w (record w { phase = next; version = version }) (output_of (Talk (Some w.number)) items ended)
-talk_keeps rows k k' w next version items ended but done sends = record {
+pub talk_keeps : (x : Sight) (rows : Rows) (k k' : Seen) (w : Putting) (next : Phase) (version : ℕ) (items : List Parcel) (ended : Bool) → LeavesBut None k k' → ended ≡ is_done next → ForSome k.contents (λ c. SendsPiece c w.job.key w.phase items)
+    → StaysApart x (work_of w) (work_of (record w { phase = next; version = version })) → (is_move w.job.kind ≡ false → is_done next ≡ false)
+    → Keeps x rows k k' w (record w { phase = next; version = version }) (output_of (Talk (Some w.number)) items ended)
+talk_keeps x rows k k' w next version items ended but done sends apart undone = record {
   leaves = leaves_but rows rows k k' (work_of w) (work_of (record w { phase = next; version = version })) (output_of (Talk (Some w.number)) items ended) tt refl refl refl refl refl refl (none_filled (work_of w) (work_of (record w { phase = next; version = version })) _ refl refl) refl but;
   parts = but.parts;
+  still = tt;
   sends = sends;
   ended = done;
+  apart = apart;
+  undone = λ stays was. undone stays;
 }
 
-pub end_keeps : (rows : Rows) (k k' : Seen) (w : Putting) (outcome : Outcome) (sends : SendsView) → LeavesBut None k k' → ForSome k.contents (λ c. SendsPiece c w.job.key w.phase sends.items)
-    → Keeps rows k k' w w (record { kind = End w.number outcome; sends = sends; ended = true })
-end_keeps rows k k' w outcome sends but sent = record {
+pub end_keeps : (x : Sight) (rows : Rows) (k k' : Seen) (w : Putting) (outcome : Outcome) (sends : SendsView) → LeavesBut None k k' → ForSome k.contents (λ c. SendsPiece c w.job.key w.phase sends.items)
+    → Keeps x rows k k' w w (record { kind = End w.number outcome; sends = sends; ended = true })
+end_keeps x rows k k' w outcome sends but sent = record {
   leaves = leaves_but rows rows k k' (work_of w) (work_of w) (record { kind = End w.number outcome; sends = sends; ended = true }) tt refl refl refl refl refl refl (none_filled (work_of w) (work_of w) _ refl refl) refl but;
   parts = but.parts;
+  still = tt;
   sends = sent;
   ended = refl;
+  apart = λ named was. was;
+  undone = λ stays was. was;
+}
+
+no_piece : (c : Contents) (key : List ℕ) (ph : Phase) → SendsPiece c key ph []
+no_piece c key (phases.Bytes s) = tt
+no_piece c key ph = tt
+
+pub fault_keeps : (x : Sight) (rows : Rows) (k k' : Seen) (w : Putting) (call : Call) → LeavesBut (Some call) k k' → Keeps x rows k k' w (record w { phase = phases.Ends endings.StoreFault }) (output_of (Fault call (by_job w.number)) [] false)
+fault_keeps x rows k k' w call but = record {
+  leaves = leaves_but rows rows k k' (work_of w) (work_of (record w { phase = phases.Ends endings.StoreFault })) (output_of (Fault call (by_job w.number)) [] false) tt refl refl refl refl refl refl
+      (none_filled (work_of w) (work_of (record w { phase = phases.Ends endings.StoreFault })) _ refl refl) refl but;
+  parts = but.parts;
+  still = tt;
+  sends = λ c told. no_piece c w.job.key w.phase;
+  ended = refl;
+  apart = λ named was. tt;
+  undone = λ stays was. refl;
 }
 
 pub but_all : (k k' : Seen) → LeavesBut None k k' → LeavesAll k k'
@@ -61,13 +89,23 @@ at_phase w ph = record w { phase = ph }
 from_phase : (P : Putting → Type 0) (w : Putting) (ph : Phase) → w.phase ≡ ph → P (record w { phase = ph }) → P w
 from_phase P w ph is p = subst (λ (q : Phase). P (record w { phase = q })) (sym is) p
 
+-- from where it stands to where it goes
+pub did_from : (x : Sight) (i : Option Incoming) (rows : Rows) (k k' : Seen) (w w' : Putting) (kind : EntryKind) (items : List Parcel) (ended : Bool) (next : Phase) (version : ℕ) (out : Output) (ph : Phase) → w.phase ≡ ph → out ≡ output_of kind items ended
+    → w' ≡ record w { phase = next; version = version } → Did x i rows k k' (record w { phase = ph }) (record w { phase = next; version = version }) (output_of kind items ended) → Did x i rows k k' w w' out
+did_from x i rows k k' w w' kind items ended next version out ph is says worker d =
+    subst (λ (o : Output). Did x i rows k k' w w' o) (sym says)
+    (subst (λ (u : Putting). Did x i rows k k' w u (output_of kind items ended)) (sym worker)
+    (subst (λ (q : Phase). Did x i rows k k' (record w { phase = q }) (record w { phase = next; version = version }) (output_of kind items ended)) (sym is) d))
+
 -- a step that was told so does what is done from the phase where it stands
 pub told_did : (x : Sight) (i : Option Incoming) (rows : Rows) (k k' : Seen) (w w' : Putting) (items : List Parcel) (next : Phase) (version : ℕ) (out : Output) (ph : Phase) → w.phase ≡ ph → Told w w' items next version out
     → Did x i rows k k' (record w { phase = ph }) (record w { phase = next; version = version }) (output_of (Talk (Some w.number)) items false) → Did x i rows k k' w w' out
-told_did x i rows k k' w w' items next version out ph is told d =
-    subst (λ (o : Output). Did x i rows k k' w w' o) (sym told.says)
-    (subst (λ (u : Putting). Did x i rows k k' w u (output_of (Talk (Some w.number)) items false)) (sym told.worker)
-    (from_phase (λ (u : Putting). Did x i rows k k' u (record u { phase = next; version = version }) (output_of (Talk (Some u.number)) items false)) w ph is d))
+told_did x i rows k k' w w' items next version out ph is told d = did_from x i rows k k' w w' (Talk (Some w.number)) items false next version out ph is told.says told.worker d
+
+-- a call of the store failed
+pub failed_did : (x : Sight) (i : Option Incoming) (rows : Rows) (k k' : Seen) (w w' : Putting) (call : Call) (out : Output) (ph : Phase) → w.phase ≡ ph → out ≡ output_of (Fault call (by_job w.number)) [] false
+    → w' ≡ record w { phase = phases.Ends endings.StoreFault } → Did x i rows k k' (record w { phase = ph }) (record w { phase = phases.Ends endings.StoreFault }) (output_of (Fault call (by_job w.number)) [] false) → Did x i rows k k' w w' out
+failed_did x i rows k k' w w' call out ph is says next d = did_from x i rows k k' w w' (Fault call (by_job w.number)) [] false (phases.Ends endings.StoreFault) w.version out ph is says next d
 
 pub ended_did : (x : Sight) (i : Option Incoming) (rows : Rows) (k k' : Seen) (w : Putting) (outcome : Outcome) (sends : SendsView) (ph : Phase) → w.phase ≡ ph
     → Did x i rows k k' (record w { phase = ph }) (record w { phase = ph }) (record { kind = End w.number outcome; sends = sends; ended = true }) → Did x i rows k k' w w (record { kind = End w.number outcome; sends = sends; ended = true })

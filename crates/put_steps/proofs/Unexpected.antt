@@ -3,10 +3,31 @@ use Rattle.std.proofs.Common.{◌≡◌, ℕ, List, refl}
 use Rattle.run_data.specs.declared.entry.FrameView.{FrameView}
 use Rattle.p2p_wire.specs.declared.message.Message.{Message}
 use Rattle.p2p_wire.specs.declared.message.Message.TheVariants as messages
-use Rattle.node_model.specs.Jobs.{Greets, Puts, PutsAnswer, PutsOffer}
+use Rattle.node_model.specs.Jobs.{Greets, Opens, Puts, PutsAnswer, PutsOffer}
 use Rattle.node_model.specs.JobStep.{Turn, wrong_message}
 use Rattle.node_model.specs.TransferStep.{takes_put}
 use Rattle.node_model.specs.Turns.{takes}
+
+pub opens_else : (t : Turn) (f : FrameView) (peer p : ℕ) (m : Message) → t.w.part ≡ Puts → ((x : List ℕ) → m ≡ messages.AuthSuccess x → ⊥) → takes t f peer (Opens p) m ≡ wrong_message t f peer
+opens_else t f peer p (messages.AuthSuccess id) e a = absurd (a id refl)
+opens_else t f peer p (messages.Version n) e a = rw e refl
+opens_else t f peer p (messages.CheckPresent k) e a = rw e refl
+opens_else t f peer p (messages.LockContent k) e a = rw e refl
+opens_else t f peer p (messages.UnlockContent k) e a = rw e refl
+opens_else t f peer p (messages.Remove k) e a = rw e refl
+opens_else t f peer p (messages.RemoveBefore n k) e a = rw e refl
+opens_else t f peer p messages.GetTimestamp e a = rw e refl
+opens_else t f peer p (messages.Timestamp n) e a = rw e refl
+opens_else t f peer p (messages.Get n file k) e a = rw e refl
+opens_else t f peer p (messages.Put file k) e a = rw e refl
+opens_else t f peer p (messages.PutFrom n) e a = rw e refl
+opens_else t f peer p messages.AlreadyHave e a = rw e refl
+opens_else t f peer p (messages.Data n) e a = rw e refl
+opens_else t f peer p messages.Valid e a = rw e refl
+opens_else t f peer p messages.Invalid e a = rw e refl
+opens_else t f peer p messages.Success e a = rw e refl
+opens_else t f peer p messages.Failure e a = rw e refl
+opens_else t f peer p (messages.Error text) e a = rw e refl
 
 pub greets_else : (t : Turn) (f : FrameView) (peer p : ℕ) (m : Message) → t.w.part ≡ Puts → ((x : ℕ) → m ≡ messages.Version x → ⊥) → takes t f peer (Greets p) m ≡ wrong_message t f peer
 greets_else t f peer p (messages.AuthSuccess id) e a = rw e refl

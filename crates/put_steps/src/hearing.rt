@@ -1,14 +1,16 @@
 //! The steps of a copy that takes a frame, or finds its connection closed.
-ghost use Rattle.std.specs.Prelude.{◌≡◌, Some, None, bytes_eq, codes};
+ghost use Rattle.std.specs.Prelude.{◌≡◌, [], Some, None, IfOk, OnErr, bytes_eq, codes, if◌then◌else◌};
 ghost use Rattle.std.specs.Option.{option_copied};
 ghost use Rattle.node_model.specs.Jobs.{Puts, first_part};
+ghost use Rattle.node_model.specs.Rows.{option_is};
 ghost use Rattle.content_lock.specs.Rows.{Rows};
+ghost use Rattle.p2p_wire.specs.Streams.{IsLine};
 ghost use Rattle.session_state.specs.declared.incoming.Incoming.TheVariants as incoming;
 ghost use Rattle.transfer_turns.specs.Steps.{seen};
 ghost use Rattle.transfer_turns.specs.Turns.{Sight, awaited};
 ghost use Rattle.put_steps.specs.Puts.{work_of};
 ghost use Rattle.put_steps.specs.Putting.{Does};
-ghost use Rattle.put_steps.specs.Stepping.{Hears, IsAwaiting};
+ghost use Rattle.put_steps.specs.Stepping.{Hears, IsAwaiting, Told, close_to, message_to};
 
 use crate::phase::{Ending, Phase};
 use crate::putting::Putting;
@@ -54,7 +56,9 @@ fn take<K: Keeper>(
     match incoming {
         Incoming::Closing => Ok(putting.close(alloc)),
         Incoming::Message(message) => take_message(putting, alloc, keeper, message),
-        Incoming::Opening | Incoming::Bytes(_) | Incoming::Bad => shut(putting, alloc, peer),
+        Incoming::Opening => shut(putting, alloc, peer),
+        Incoming::Bytes(_) => shut(putting, alloc, peer),
+        Incoming::Bad => shut(putting, alloc, peer),
     }
 }
 
@@ -119,10 +123,37 @@ fn agree(putting: &mut Putting, alloc: Global, peer: u32, version: u64) -> Resul
     ensures hears { Hears (Some (incoming.Message (Message.Version version))) putting.old putting.new result }
 {
     if version > 3 {
-        let output = shut(putting, alloc, peer)?;
-        putting.learn(peer, version);
-        return Ok(output);
+        return shut_unknown(putting, alloc, peer, version);
     }
+    offer_known(putting, alloc, peer, version)
+}
+
+/// A version that wasn't asked for closes the connection.
+fn shut_unknown(
+    putting: &mut Putting,
+    alloc: Global,
+    peer: u32,
+    version: u64,
+) -> Result<Output, NoMemory>
+    ensures ok { IfOk result (Told putting.old putting.new (close_to peer) (Phase.Ends Ending.Closed) (if option_is putting.old.job.peer peer then version else putting.old.version)) }
+    ensures err { OnErr result (putting.new ≡ putting.old) }
+{
+    let output = shut(putting, alloc, peer)?;
+    putting.learn(peer, version);
+    Ok(output)
+}
+
+/// The content is offered to a peer of this version.
+fn offer_known(
+    putting: &mut Putting,
+    alloc: Global,
+    peer: u32,
+    version: u64,
+) -> Result<Output, NoMemory>
+    ensures ok { IfOk result (Told putting.old putting.new (message_to peer (Message.Put [] putting.old.job.key)) (Phase.Offer peer) (if option_is putting.old.job.peer peer then version else putting.old.version)) }
+    ensures line { IfOk result (λ out. IsLine (Message.Put [] putting.old.job.key)) }
+    ensures err { OnErr result (putting.new ≡ putting.old) }
+{
     let output = offer(putting, alloc, peer)?;
     putting.learn(peer, version);
     Ok(output)

@@ -1,10 +1,10 @@
 //! A copy of a job.
 ghost use Rattle.std.specs.Prelude.{◌≡◌, [], false, Some, None, if◌then◌else◌};
 ghost use Rattle.run_data.specs.declared.entry.By.TheVariants.{Job as by_job};
-ghost use Rattle.node_model.specs.Jobs.{is_move};
+ghost use Rattle.node_model.specs.Jobs.{is_move, partner};
 ghost use Rattle.node_model.specs.Rows.{option_is};
 ghost use Rattle.transfer_turns.specs.Turns.{awaited, output_of};
-ghost use Rattle.put_steps.specs.Puts.{work_of};
+ghost use Rattle.put_steps.specs.Puts.{phase_of, work_of};
 ghost use Rattle.put_steps.specs.Stepping.{Told};
 
 use crate::phase::{Ending, Phase};
@@ -54,6 +54,18 @@ impl Putting {
             Phase::Answer { peer, start: _ } => Some(peer),
             Phase::Fresh | Phase::Bytes(_) | Phase::Word { peer: _, start: _ } => None,
             Phase::Ends(_) | Phase::Done => None,
+        }
+    }
+
+    /// The peer on whose connection it talks, if it talks on one.
+    pub fn partner(&self) -> Option<u32>
+        ensures { result ≡ partner self.now.job.peer (phase_of self.now.phase) }
+    {
+        match self.phase {
+            Phase::Opens { peer } | Phase::Greets { peer } | Phase::Offer { peer } => Some(peer),
+            Phase::Bytes(sending) => Some(sending.peer),
+            Phase::Word { peer, start: _ } | Phase::Answer { peer, start: _ } => Some(peer),
+            Phase::Fresh | Phase::Ends(_) | Phase::Done => None,
         }
     }
 

@@ -72,7 +72,8 @@ pub(crate) fn send<K: Keeper, H: Here>(
     if !here.is_open(sending.peer, putting.slot) {
         return Ok(putting.close(alloc));
     }
-    match next_of(alloc, keeper, putting.key(), sending)? {
+    let next = next_of(alloc, keeper, putting.key(), sending)?;
+    match next {
         Next::Piece(piece) => pass(putting, alloc, sending, piece),
         Next::Gone => shut(putting, alloc, sending.peer),
         Next::Failed => Ok(putting.fail(alloc, Call::Read)),

@@ -5,4 +5,5 @@ pub mod Frames
 pub mod Hearings
 pub mod Leavings
 pub mod Makings
+pub mod Partners
 pub mod Works

@@ -1,28 +1,25 @@
 -- A step of a transfer, in the words of a turn, is that of the job's slot, at each look that finds what it found.
-use Rattle.std.proofs.Common.{◌≡◌, ℕ, Bool, true, false, List, Option, Some, None, refl, sym, ap, subst, ◌∙◌, arith}
+use Rattle.std.proofs.Common.{◌≡◌, ℕ, Bool, true, Option, Some, None, sym, ap, subst, ◌∙◌, arith}
 use Rattle.std.specs.Prelude.{◌==◌, if◌then◌else◌}
 use Rattle.std.specs.Option.{ForSome, option_map}
 use Rattle.std.proofs.lemmas.Bool.Decides.{nat_tests}
-use Rattle.annex_base.specs.declared.kinds.Call.{Call}
-use Rattle.run_data.specs.declared.entry.EntryKind.{EntryKind}
 use Rattle.run_data.specs.declared.entry.FrameView.{FrameView}
 use Rattle.object_store.specs.Stores.{Contents}
 use Rattle.node_model.specs.Ends.{EndName, End}
-use Rattle.node_model.specs.Jobs.{RowsAndEnds, Work, job_end, partner, work_after, work_kind}
+use Rattle.node_model.specs.Jobs.{RowsAndEnds, Work, work_after, work_kind}
 use Rattle.node_model.specs.JobStep.{Turn, end_with, turn_of}
 use Rattle.node_model.specs.Look.{Effect, Look, as_told, entry_of, failed_in}
 use Rattle.node_model.specs.Rows.{option_is}
 use Rattle.node_model.specs.SetUp.{SetUp}
 use Rattle.node_model.specs.Slots.{job_of}
 use Rattle.node_model.specs.State.{State}
-use Rattle.node_model.specs.Turns.{by_partner, slot_step}
+use Rattle.node_model.specs.Turns.{slot_step}
 use Rattle.content_lock.specs.CallsMade.{MakesCalls}
 use Rattle.content_lock.specs.Rows.{Rows}
 use Rattle.session_state.specs.declared.incoming.Incoming.{Incoming}
-use Rattle.drop_phases.specs.Doing.{next_work}
 use Rattle.transfer_turns.specs.declared.parcels.Output.{Output}
 use Rattle.transfer_turns.specs.Parcels.{end_in}
-use Rattle.transfer_turns.specs.Steps.{Makes, Seen, StepsIn, is_end}
+use Rattle.transfer_turns.specs.Steps.{Makes, Seen, StepsIn}
 use Rattle.transfer_turns.specs.Turns.{Comes, ComesFrom, Sight, awaited, made_of, step_at, turn_in}
 use Rattle.transfer_worker.specs.States.{Sees, StepsSo}
 use Rattle.transfer_worker.proofs.Slots.{slot_is, turn_same}

@@ -1,6 +1,6 @@
 -- The step of a job's slot is that of a turn which has what the job's step reads.
-use Rattle.std.proofs.Common.{◌≡◌, ℕ, Bool, true, false, List, length, Option, Some, None, refl, sym, ap, subst, ◌∙◌}
-use Rattle.std.specs.Prelude.{◌==◌, if◌then◌else◌}
+use Rattle.std.proofs.Common.{◌≡◌, ℕ, Bool, true, false, Option, Some, None, refl, sym, ap, subst, ◌∙◌}
+use Rattle.std.specs.Prelude.{if◌then◌else◌}
 use Rattle.std.specs.List.{list_all}
 use Rattle.annex_base.specs.declared.kinds.Call.{Call}
 use Rattle.run_data.specs.declared.entry.FrameView.{FrameView}
@@ -8,13 +8,13 @@ use Rattle.object_store.specs.Stores.{Contents}
 use Rattle.node_model.specs.Jobs.{Work, job_end, partner}
 use Rattle.node_model.specs.JobStep.{Turn, end_with, quietly, talk, turn_of}
 use Rattle.node_model.specs.Knows.{reading}
-use Rattle.node_model.specs.Look.{Effect, Look, waiting_frame}
+use Rattle.node_model.specs.Look.{Look, waiting_frame}
 use Rattle.node_model.specs.SetUp.{SetUp}
 use Rattle.node_model.specs.State.{State}
-use Rattle.node_model.specs.Turns.{awaits, by_partner, goes, goes_on, has_room, is_awaiting, needs, slot_step, takes_frame, with_partner}
+use Rattle.node_model.specs.Turns.{awaits, by_partner, goes, goes_on, has_room, is_awaiting, needs, takes_frame, with_partner}
 use Rattle.content_lock.specs.Rows.{Rows}
 use Rattle.session_state.specs.declared.incoming.Incoming.{Incoming}
-use Rattle.transfer_turns.specs.Turns.{Comes, Sight, awaited, goes_on_with, step_at, turn_in}
+use Rattle.transfer_turns.specs.Turns.{Sight, awaited, goes_on_with, step_at, turn_in}
 use Rattle.transfer_worker.specs.States.{FindsAt, HasWay, Sees}
 
 -- the turn of the state is one that has what the step reads

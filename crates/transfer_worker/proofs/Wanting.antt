@@ -1,5 +1,5 @@
 -- To whom the next step of a transfer may send more than a Close.
-use Rattle.std.proofs.Common.{◌≡◌, ℕ, Bool, true, false, List, [], ◌∷◌, filter, length, Option, Some, None, refl, sym, ap, ◌∙◌}
+use Rattle.std.proofs.Common.{◌≡◌, ℕ, Bool, false, List, [], ◌∷◌, filter, length, Option, Some, None, refl, sym, ap, ◌∙◌}
 use Rattle.std.specs.Prelude.{◌&&◌, if◌then◌else◌, slice_get}
 use Rattle.std.specs.List.{range_with_len}
 use Rattle.std.specs.Option.{option_to_list}
@@ -13,7 +13,6 @@ use Rattle.node_model.specs.State.{State}
 use Rattle.node_model.specs.TransferStep.{next_source, sources}
 use Rattle.node_model.specs.Turns.{needs}
 use Rattle.transfer_turns.specs.Turns.{Sight, awaited}
-use Rattle.get_phases.specs.declared.getting.Ending.{Ending}
 use Rattle.get_phases.specs.declared.getting.Ending.TheVariants as endings
 use Rattle.get_phases.specs.declared.getting.Getting.{Getting}
 use Rattle.get_phases.specs.declared.getting.Phase.{Phase as GetPhase}

@@ -4,7 +4,7 @@ use Rattle.std.specs.List.{list_all}
 use Rattle.std.specs.Option.{option_map}
 use Rattle.annex_base.specs.declared.kinds.Call.{Call}
 use Rattle.run_data.specs.declared.entry.FrameView.{FrameView}
-use Rattle.object_store.specs.Stores.{Contents, Parts}
+use Rattle.object_store.specs.Stores.{Contents}
 use Rattle.node_model.specs.Jobs.{Work, partner, work_after}
 use Rattle.node_model.specs.JobStep.{Turn, end_with, turn_of}
 use Rattle.node_model.specs.Jobs.{job_end}

@@ -4,11 +4,13 @@ use Rattle.std.specs.Option.{ForSome}
 use Rattle.run_data.specs.declared.entry.EntryKind.{EntryKind}
 use Rattle.run_data.specs.declared.job.Job.{Job}
 use Rattle.object_store.specs.Stores.{Contents, Parts}
-use Rattle.node_model.specs.Jobs.{Work, Fresh, Puts, first_part}
+use Rattle.node_model.specs.Jobs.{Work, Fresh, Puts, first_part, is_move}
 use Rattle.content_lock.specs.Rows.{Rows}
 use Rattle.session_state.specs.declared.incoming.Incoming.{Incoming}
+use Rattle.session_state.specs.Phases.{IsNoGain}
 use Rattle.transfer_turns.specs.declared.parcels.Parcel.{Parcel}
 use Rattle.transfer_turns.specs.declared.parcels.Output.{Output}
+use Rattle.transfer_turns.specs.Partners.{NamesOther, TalksApart}
 use Rattle.transfer_turns.specs.Steps.{Leaves, LeavesAll, Seen, StepsIn, is_end}
 use Rattle.transfer_turns.specs.Turns.{Sight}
 use Rattle.get_phases.specs.Gets as gets
@@ -64,10 +66,10 @@ abbrev pub parts_after : Worker → Option Incoming → EntryKind → Option Par
 parts_after (workers.Gets w) i kind known = gets.parts_after w.phase i kind known
 parts_after (workers.Puts w) i kind known = known
 
--- a content comes to a get only of a part whose sum is its key's
+-- a content comes only of a part whose sum is its key's, to a get
 abbrev pub IsJudgedIn : EntryKind → Worker → Type 0
 IsJudgedIn kind (workers.Gets w) = gets.IsJudgedIn kind w.phase
-IsJudgedIn kind (workers.Puts w) = Unit {0}
+IsJudgedIn kind (workers.Puts w) = IsNoGain kind
 
 -- each piece that it sends has the content's bytes
 abbrev pub SendsPiece : Contents → Worker → List Parcel → Type 0
@@ -104,8 +106,9 @@ Steps x i rows k k' w w' (Err e) = Unit {0}
 
 -- ---- what a step leaves
 
--- of the table and the store, of the part, and of the job
-pub record KeepsSo (i : Option Incoming) (rows rows' : Rows) (k k' : Seen) (w w' : Worker) (out : Output) : Type 0 where
+-- of the table and the store, of the part, and of the job: it talks with another repository still, and only the transfer of a move
+-- is done
+pub record KeepsSo (x : Sight) (i : Option Incoming) (rows rows' : Rows) (k k' : Seen) (w w' : Worker) (out : Output) : Type 0 where
   pub leaves : Leaves rows rows' k k' (work_of w) (work_of w') out
   pub parts : k'.parts ≡ parts_after w i out.kind k.parts
   pub has : HasFill rows' w'
@@ -113,8 +116,11 @@ pub record KeepsSo (i : Option Incoming) (rows rows' : Rows) (k k' : Seen) (w w'
   pub judged : IsJudgedIn out.kind w
   pub pieces : ForSome k.contents (λ c. SendsPiece c w out.sends.items)
   pub ended : out.ended ≡ (is_end out.kind || is_done w')
+  pub apart : NamesOther x (work_of w) → TalksApart x (work_of w) → TalksApart x (work_of w')
+  pub undone : is_move (work_of w).what.kind ≡ false → is_done w ≡ false → is_done w' ≡ false
+  pub can : is_done w' ≡ false → CanStep x w → CanStep x w'
 
 -- it leaves that; or there was no memory, and all is as it was
-abbrev pub Keeps : {E : Type 0} → Option Incoming → Rows → Rows → Seen → Seen → Worker → Worker → Result Output E → Type 0
-Keeps i rows rows' k k' w w' (Ok out) = KeepsSo i rows rows' k k' w w' out
-Keeps i rows rows' k k' w w' (Err e) = (w' ≡ w) × (rows' ≡ rows) × LeavesAll k k'
+abbrev pub Keeps : {E : Type 0} → Sight → Option Incoming → Rows → Rows → Seen → Seen → Worker → Worker → Result Output E → Type 0
+Keeps x i rows rows' k k' w w' (Ok out) = KeepsSo x i rows rows' k k' w w' out
+Keeps x i rows rows' k k' w w' (Err e) = (w' ≡ w) × (rows' ≡ rows) × LeavesAll k k'

@@ -58,7 +58,7 @@ pub fn step<K: Keeper, H: Here>(
         → Sees (H.sight here.now) table.old c (work_of worker.old) (option_copied incoming.entry) (failed_in out.kind) (SeesPart (K.parts keeper.old) worker.old (option_copied incoming.entry)) s st k f
         → ForSome (slot_step s st k (Some (work_of worker.old))) (λ (m : Effect). MakesCalls m.calls (failed_in out.kind) (K.failing keeper.old) (K.failing keeper.new)))) }
 
-    ensures keeps { Keeps (option_copied incoming.entry) table.old table.new
+    ensures keeps { Keeps (H.sight here.now) (option_copied incoming.entry) table.old table.new
         (seen (K.contents keeper.old) (K.parts keeper.old) (K.records keeper.old) (K.files keeper.old) (K.faults keeper.old) (K.failing keeper.old))
         (seen (K.contents keeper.new) (K.parts keeper.new) (K.records keeper.new) (K.files keeper.new) (K.faults keeper.new) (K.failing keeper.new)) worker.old worker.new result }
 {
@@ -81,7 +81,7 @@ fn advance<K: Keeper, H: Here>(
     ensures does { Steps (H.sight here.now) (option_copied incoming.entry) table.old
         (seen (K.contents keeper.old) (K.parts keeper.old) (K.records keeper.old) (K.files keeper.old) (K.faults keeper.old) (K.failing keeper.old))
         (seen (K.contents keeper.new) (K.parts keeper.new) (K.records keeper.new) (K.files keeper.new) (K.faults keeper.new) (K.failing keeper.new)) worker.old worker.new result }
-    ensures keeps { Keeps (option_copied incoming.entry) table.old table.new
+    ensures keeps { Keeps (H.sight here.now) (option_copied incoming.entry) table.old table.new
         (seen (K.contents keeper.old) (K.parts keeper.old) (K.records keeper.old) (K.files keeper.old) (K.faults keeper.old) (K.failing keeper.old))
         (seen (K.contents keeper.new) (K.parts keeper.new) (K.records keeper.new) (K.files keeper.new) (K.faults keeper.new) (K.failing keeper.new)) worker.old worker.new result }
 {

@@ -2,6 +2,7 @@
 ghost use Rattle.std.specs.Prelude.{◌≡◌, ◌&&◌, not, ℕ, List, None, Some, bytes_eq, is_some};
 ghost use Rattle.std.specs.Option.{option_to_list};
 ghost use Rattle.run_data.specs.declared.job.JobKind.TheVariants as kinds;
+ghost use Rattle.node_model.specs.Jobs.{partner};
 ghost use Rattle.node_model.specs.JobStep.{turn_of};
 ghost use Rattle.node_model.specs.Look.{Look};
 ghost use Rattle.node_model.specs.SetUp.{SetUp};
@@ -50,6 +51,46 @@ impl Worker {
         match self {
             Worker::Gets(getting) => getting.awaits(),
             Worker::Puts(putting) => putting.awaits(),
+        }
+    }
+
+    /// The peer on whose connection it talks, if it talks on one: it awaits a frame there, or sends a content's bytes.
+    pub fn partner(&self) -> Option<u32>
+        ensures { result ≡ partner (work_of self.now).what.peer (work_of self.now).phase }
+    {
+        match self {
+            Worker::Gets(getting) => getting.awaits(),
+            Worker::Puts(putting) => putting.partner(),
+        }
+    }
+
+    /// The number of its job.
+    pub fn number(&self) -> u32
+        ensures { result ≡ (work_of self.now).number }
+    {
+        match self {
+            Worker::Gets(getting) => getting.number,
+            Worker::Puts(putting) => putting.number,
+        }
+    }
+
+    /// The slot in which its job runs.
+    pub fn slot(&self) -> u32
+        ensures { result ≡ (work_of self.now).slot }
+    {
+        match self {
+            Worker::Gets(getting) => getting.slot,
+            Worker::Puts(putting) => putting.slot,
+        }
+    }
+
+    /// Its job, which has its key.
+    pub fn job(&self) -> &Job
+        ensures { result.now ≡ (work_of self.now).what }
+    {
+        match self {
+            Worker::Gets(getting) => &getting.job,
+            Worker::Puts(putting) => &putting.job,
         }
     }
 }

@@ -6,7 +6,8 @@ use Rattle.get_phases.specs.declared.getting.Phase.{Phase}
 use Rattle.get_phases.specs.declared.getting.Phase.TheVariants as phases
 use Rattle.get_phases.specs.Gets.{fill_in}
 use Rattle.p2p_wire.specs.declared.message.Message.TheVariants.{Version}
-use Rattle.get_answers.proofs.Greeting.{message_to, opened_does}
+use Rattle.get_answers.proofs.Greeting.{opened_does}
+use Rattle.get_phases.proofs.Losses.{message_to}
 use Rattle.get_answers.proofs.Losses.{else_does}
 use Rattle.get_answers.proofs.Unexpected.{opens_else}
 use Rattle.get_answers.proofs.hearing.take_opened.Goals as goal

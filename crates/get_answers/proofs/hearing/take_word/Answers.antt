@@ -8,7 +8,7 @@ use Rattle.get_phases.specs.declared.getting.Phase.TheVariants as phases
 use Rattle.get_phases.specs.Gets.{fill_in}
 use Rattle.get_answers.proofs.Losses.{else_does}
 use Rattle.get_answers.proofs.Unexpected.{word_else}
-use Rattle.get_answers.proofs.Verdicts.{still_word}
+use Rattle.get_answers.proofs.Refusals.{still_word}
 use Rattle.get_answers.proofs.hearing.take_word.Goals as goal
 
 pub shut-requires : goal.shut-requires

@@ -1,10 +1,10 @@
--- What isn't permitted closes the connection.
+-- By the message.
 use Rattle.std.proofs.Common.{Some, sym, subst}
 use Rattle.p2p_wire.specs.declared.message.Message.{Message}
 use Rattle.session_state.specs.declared.incoming.Incoming.TheVariants as incoming
 use Rattle.transfer_turns.specs.Steps.{seen}
 use Rattle.put_steps.specs.Putting.{Does}
-use Rattle.put_steps.proofs.Replies.{offer_shut}
+use Rattle.put_steps.proofs.Replies.{already_hears, offer_refused, offer_shut}
 use Rattle.put_steps.proofs.hearing.take_offer.Goals as goal
 
 pub returns-in-Error : goal.returns-in-Error
@@ -27,4 +27,14 @@ returns-in_default g c = record {
   does = λ x rows.
       offer_shut x rows _ c.args.putting.now c.shut.new.putting c.args.peer c.args.message.now c.shut.result c.requires.offers c.in_default.not-AlreadyHave c.in_default.not-Failure c.in_default.not-Error c.in_default.not-PutFrom
       c.shut.ensures.ok c.shut.ensures.err;
+}
+
+pub returns-in-AlreadyHave : goal.returns-in-AlreadyHave
+returns-in-AlreadyHave g c = record {
+  does = λ x rows. rw c.in-AlreadyHave.is (already_hears x rows _ c.args.putting.now c.finish.new.self c.args.peer c.finish.result c.requires.offers c.finish.ensures.says c.finish.ensures.next);
+}
+
+pub returns-in-Failure : goal.returns-in-Failure
+returns-in-Failure g c = record {
+  does = λ x rows. rw c.in-Failure.is (offer_refused x rows _ c.args.putting.now c.refuse.new.self c.args.peer c.refuse.result c.requires.offers c.refuse.ensures);
 }

@@ -1,8 +1,8 @@
 -- By the verdict.
 use Rattle.std.proofs.Common.{Option, ℕ, subst}
-use Rattle.get_answers.specs.Taking.{IsVerdict}
-use Rattle.get_answers.proofs.Losses.{word_at}
-use Rattle.get_answers.proofs.judging.verify.Goals as goal
+use Rattle.get_verdicts.specs.Verdicts.{IsVerdict}
+use Rattle.get_phases.proofs.Losses.{word_at}
+use Rattle.get_commits.proofs.judging.verify.Goals as goal
 
 pub commit-requires : goal.commit-requires
 commit-requires g c = record {

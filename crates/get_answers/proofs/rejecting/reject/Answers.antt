@@ -7,11 +7,11 @@ use Rattle.node_model.specs.Jobs.{source_cause}
 use Rattle.transfer_turns.specs.Turns.{output_of}
 use Rattle.get_phases.specs.declared.getting.Phase.{Phase}
 use Rattle.get_phases.specs.Gets.{fill_in}
-use Rattle.get_answers.specs.Taking.{FailsWith}
-use Rattle.get_answers.proofs.Greeting.{message_to}
-use Rattle.get_answers.proofs.Losses.{word_there}
-use Rattle.get_answers.proofs.Verdicts.{rejected_does}
-use Rattle.get_answers.proofs.judging.reject.Goals as goal
+use Rattle.get_phases.specs.Losing.{FailsWith}
+use Rattle.get_phases.proofs.Losses.{message_to}
+use Rattle.get_phases.proofs.Losses.{word_there}
+use Rattle.get_answers.proofs.Refusals.{rejected_does}
+use Rattle.get_answers.proofs.rejecting.reject.Goals as goal
 
 pub fail_with-requires : goal.fail_with-requires
 fail_with-requires c = record { fills = ap (λ (ph : Phase). is_some (fill_in ph)) c.requires.served.at }

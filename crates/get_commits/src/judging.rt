@@ -1,28 +1,26 @@
-//! The verdict on a part whose bytes have come.
-ghost use Rattle.std.specs.Prelude.{◌≡◌, ◌&&◌, not, List, ℕ, false, true, Some, None, IfOk, bytes_eq, is_some};
-ghost use Rattle.node_model.specs.Jobs.{is_move, source_cause};
-ghost use Rattle.content_lock.specs.Rows.{Rows, is_filling};
-ghost use Rattle.transfer_turns.specs.Steps.{Seen, seen};
+//! The part of a get becomes the content, or is dropped.
+ghost use Rattle.std.specs.Prelude.{◌≡◌, ◌&&◌, not, List, ℕ, false, true, Some, None, bytes_eq, is_some};
+ghost use Rattle.node_model.specs.Jobs.{is_move};
+ghost use Rattle.content_lock.specs.Rows.{is_filling};
+ghost use Rattle.transfer_turns.specs.Steps.{seen};
 ghost use Rattle.transfer_turns.specs.Turns.{Sight};
 ghost use Rattle.get_phases.specs.Getting.{Does};
 ghost use Rattle.get_phases.specs.Gets.{HasFill, fill_in};
-ghost use Rattle.get_answers.specs.Taking.{IsJudged, IsServed, IsVerdict, phase_gained};
+ghost use Rattle.get_commits.specs.Judging.{IsJudged, IsServed, phase_gained};
 
-use crate::losing::{fail_with, give_up, go_on, with_cause};
-use crate::saying::say;
 use annex_base::{Call, Failed, NoMemory};
 use content_lock::LockTable;
-use get_phases::{Ending, Getting, Phase};
-use key_verify::{Verdict, judge_sum};
+use get_phases::{Ending, Getting, Phase, give_up, go_on, say, with_cause};
+use get_verdicts::right_size;
 use object_store::{Keeper, KeeperFault};
 use p2p_wire::Message;
 use run_data::{By, EntryKind, SourceCause, SourceFailure};
-use session_state::{Incoming, Taken};
+use session_state::Incoming;
 use std::alloc::Global;
 use transfer_turns::{Output, done, failing, talk};
 
 /// VALID: the part becomes the content where it matches its key, and is dropped else.
-pub(crate) fn verify<K: Keeper>(
+pub fn verify<K: Keeper>(
     getting: &mut Getting,
     alloc: Global,
     table: &mut LockTable,
@@ -45,20 +43,6 @@ pub(crate) fn verify<K: Keeper>(
     match right_size(alloc, taken)? {
         Some(size) => commit(getting, alloc, table, keeper, peer, start, size),
         None => discard(getting, alloc, table, keeper, peer, start),
-    }
-}
-
-/// The size of the part in bytes, if its sum is its key's.
-fn right_size(alloc: Global, taken: &Taken) -> Result<Option<u64>, NoMemory>
-    ensures { IfOk result (IsVerdict taken.now) }
-{
-    match &taken.sum {
-        None => Ok(None),
-        Some(sum) => match judge_sum(alloc, taken.fill.key(), sum)? {
-            Verdict::Right => Ok(Some(sum.size)),
-            Verdict::WrongSize { .. } => Ok(None),
-            Verdict::WrongDigest { .. } => Ok(None),
-        },
     }
 }
 
@@ -150,41 +134,5 @@ fn discard<K: Keeper>(
             give_up(getting);
             Ok(failing(alloc, getting.number, Call::DropPart))
         }
-    }
-}
-
-/// INVALID: the peer's content isn't there any more, or is too short for the part. The part stays.
-pub(crate) fn reject(getting: &mut Getting, alloc: Global, peer: u32) -> Result<Output, NoMemory>
-    requires served { IsServed peer getting.old.phase }
-    ensures does { (x : Sight) (rows : Rows) (k : Seen) → HasFill rows getting.old → Does x (Some (Incoming.Message Message.Invalid)) rows rows k k getting.old getting.new result }
-{
-    let Phase::Word {
-        peer: _,
-        start,
-        taken: _,
-    } = &getting.phase
-    else {
-        unreachable!()
-    };
-    let start = *start;
-    let output = say(
-        alloc,
-        getting.key(),
-        talk(getting.number),
-        peer,
-        Message::Failure,
-    )?;
-    fail_with(getting, alloc, peer, refused(start))?;
-    Ok(output)
-}
-
-/// Why a peer gives nothing from this offset on.
-fn refused(start: u64) -> SourceCause
-    ensures { result ≡ source_cause start (Some Message.Invalid) }
-{
-    if start == 0 {
-        SourceCause::Absent
-    } else {
-        SourceCause::Invalid
     }
 }

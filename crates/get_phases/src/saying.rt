@@ -2,7 +2,7 @@
 ghost use Rattle.std.specs.Prelude.{◌≡◌, ◌∷◌, [], false, IfOk};
 ghost use Rattle.p2p_wire.specs.Streams.{IsLine};
 ghost use Rattle.transfer_turns.specs.Turns.{output_of};
-ghost use Rattle.get_answers.specs.Taking.{IsToldBy};
+ghost use Rattle.get_phases.specs.Losing.{IsToldBy};
 
 use annex_base::NoMemory;
 use annex_key::Key;
@@ -13,7 +13,7 @@ use std::alloc::Global;
 use transfer_turns::{Output, ParcelBody, reads, telling};
 
 /// A peer is told the version, or whether the bytes were good.
-pub(crate) fn say(
+pub fn say(
     alloc: Global,
     key: &Key,
     kind: EntryKind,

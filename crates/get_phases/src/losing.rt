@@ -1,16 +1,16 @@
 //! A peer that gives a get nothing, and a store that fails.
 ghost use Rattle.std.specs.Prelude.{◌≡◌, ◌++◌, ◌∷◌, [], true, IfOk, OnErr, OnOk, is_some};
 ghost use Rattle.get_phases.specs.Gets.{fill_in};
-ghost use Rattle.get_answers.specs.Taking.{FailsWith, Loses, next_with};
+ghost use Rattle.get_phases.specs.Losing.{FailsWith, Loses, next_with};
 
+use crate::getting::{Ending, Getting, Phase};
 use annex_base::NoMemory;
-use get_phases::{Ending, Getting, Phase};
 use run_data::{SourceCause, SourceFailure};
 use std::alloc::Global;
 use transfer_turns::{Output, ParcelBody, closing, quietly, talk};
 
 /// The connection is closed, by the peer or here: the next peer is asked.
-pub(crate) fn close(getting: &mut Getting, alloc: Global, peer: u32) -> Result<Output, NoMemory>
+pub fn close(getting: &mut Getting, alloc: Global, peer: u32) -> Result<Output, NoMemory>
     requires fills { is_some (fill_in getting.old.phase) ≡ true }
     ensures ok { IfOk result (Loses [] peer SourceCause.Closed getting.old.version getting.old getting.new) }
     ensures err { OnErr result (getting.new ≡ getting.old) }
@@ -20,7 +20,7 @@ pub(crate) fn close(getting: &mut Getting, alloc: Global, peer: u32) -> Result<O
 }
 
 /// What isn't expected closes the connection.
-pub(crate) fn shut(getting: &mut Getting, alloc: Global, peer: u32) -> Result<Output, NoMemory>
+pub fn shut(getting: &mut Getting, alloc: Global, peer: u32) -> Result<Output, NoMemory>
     requires fills { is_some (fill_in getting.old.phase) ≡ true }
     ensures ok { IfOk result (Loses (record { peer = peer; body = ParcelBody.Close } ∷ []) peer SourceCause.Closed getting.old.version getting.old getting.new) }
     ensures err { OnErr result (getting.new ≡ getting.old) }
@@ -31,7 +31,7 @@ pub(crate) fn shut(getting: &mut Getting, alloc: Global, peer: u32) -> Result<Ou
 }
 
 /// This peer gave it nothing: it goes on to the next.
-pub(crate) fn fail_with(
+pub fn fail_with(
     getting: &mut Getting,
     alloc: Global,
     peer: u32,
@@ -47,7 +47,7 @@ pub(crate) fn fail_with(
 }
 
 /// The causes and one more, in a list of their own: so want of memory leaves a get as it was.
-pub(crate) fn with_cause(
+pub fn with_cause(
     alloc: Global,
     causes: &[SourceFailure],
     more: SourceFailure,
@@ -60,7 +60,7 @@ pub(crate) fn with_cause(
 }
 
 /// It goes on to the next peer, and these are the causes so far.
-pub(crate) fn go_on(getting: &mut Getting, causes: Vec<SourceFailure>)
+pub fn go_on(getting: &mut Getting, causes: Vec<SourceFailure>)
     requires fills { is_some (fill_in getting.old.phase) ≡ true }
     ensures number { getting.new.number ≡ getting.old.number }
     ensures slot { getting.new.slot ≡ getting.old.slot }
@@ -75,7 +75,7 @@ pub(crate) fn go_on(getting: &mut Getting, causes: Vec<SourceFailure>)
 }
 
 /// A call of the store failed: the job ends next.
-pub(crate) fn give_up(getting: &mut Getting)
+pub fn give_up(getting: &mut Getting)
     requires fills { is_some (fill_in getting.old.phase) ≡ true }
     ensures { getting.new ≡ record getting.old { phase = Phase.Ends (Ending.StoreFault (fill_in getting.old.phase)) } }
 {

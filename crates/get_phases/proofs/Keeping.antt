@@ -1,4 +1,4 @@
--- What a step of a get leaves that takes a frame.
+-- What a step of a get leaves.
 use Rattle.std.proofs.Common.{◌≡◌, ℕ, ◌≤◌, Bool, true, false, not, List, [], Option, Some, None, refl, sym, ap, subst, ◌∙◌}
 use Rattle.std.specs.Prelude.{◌&&◌, ◌||◌, IfSome, bytes_eq, if◌then◌else◌, is_some}
 use Rattle.std.specs.Option.{ForSome, option_map}
@@ -7,7 +7,7 @@ use Rattle.annex_base.specs.Causes.{Rose}
 use Rattle.annex_base.specs.declared.kinds.Call.{Call}
 use Rattle.run_data.specs.declared.entry.By.TheVariants.{Job as by_job}
 use Rattle.run_data.specs.declared.entry.EntryKind.{EntryKind}
-use Rattle.run_data.specs.declared.entry.EntryKind.TheVariants.{Fault, Talk}
+use Rattle.run_data.specs.declared.entry.EntryKind.TheVariants.{End, Fault, Talk}
 use Rattle.run_data.specs.declared.job.Job.{Job}
 use Rattle.object_store.specs.Stores.{Contents, Parts}
 use Rattle.node_model.specs.Jobs.{Gets}
@@ -19,8 +19,9 @@ use Rattle.session_state.specs.Answers.{contents_after}
 use Rattle.session_state.specs.declared.incoming.Incoming.{Incoming}
 use Rattle.transfer_turns.proofs.Leavings.{all_stays, but_none, still_filled}
 use Rattle.transfer_turns.specs.declared.parcels.Parcel.{Parcel}
+use Rattle.transfer_turns.specs.Partners.{StaysApart}
 use Rattle.transfer_turns.specs.Steps.{FillsSo, IsOfTransfer, LeavesBut, Seen, is_end}
-use Rattle.transfer_turns.specs.Turns.{output_of}
+use Rattle.transfer_turns.specs.Turns.{Sight, output_of}
 use Rattle.get_phases.specs.declared.getting.Ending.TheVariants as endings
 use Rattle.get_phases.specs.declared.getting.Getting.{Getting}
 use Rattle.get_phases.specs.declared.getting.Phase.{Phase}
@@ -104,43 +105,43 @@ fills_less w w' rows rows' some none given = record {
 
 -- ---- the entry
 
--- an entry of this job by which no content comes or goes, and which doesn't end it
+-- an entry of this job by which no content comes or goes
 abbrev pub IsPlain : ℕ → EntryKind → Type 0
 IsPlain number (Talk (Some job)) = job ≡ number
 IsPlain number (Fault call (by_job job)) = job ≡ number
+IsPlain number (End job outcome) = job ≡ number
 IsPlain number kind = ⊥
 
-plain_transfer : (number : ℕ) (kind : EntryKind) → IsPlain number kind → IsOfTransfer kind
+pub plain_transfer : (number : ℕ) (kind : EntryKind) → IsPlain number kind → IsOfTransfer kind
 plain_transfer number (Talk (Some job)) plain = tt
 plain_transfer number (Fault call (by_job job)) plain = tt
+plain_transfer number (End job outcome) plain = tt
 plain_transfer number kind plain = absurd plain
 
-plain_whose : (number : ℕ) (kind : EntryKind) → IsPlain number kind → job_of kind ≡ Some number
+pub plain_whose : (number : ℕ) (kind : EntryKind) → IsPlain number kind → job_of kind ≡ Some number
 plain_whose number (Talk (Some job)) plain = ap (λ (n : ℕ). Some n) plain
 plain_whose number (Fault call (by_job job)) plain = ap (λ (n : ℕ). Some n) plain
+plain_whose number (End job outcome) plain = ap (λ (n : ℕ). Some n) plain
 plain_whose number kind plain = absurd plain
 
-plain_contents : (number : ℕ) (kind : EntryKind) (known : Option Contents) (parts : Option Parts) → IsPlain number kind → known ≡ contents_after known parts kind
+pub plain_contents : (number : ℕ) (kind : EntryKind) (known : Option Contents) (parts : Option Parts) → IsPlain number kind → contents_after known parts kind ≡ known
 plain_contents number (Talk (Some job)) known parts plain = refl
 plain_contents number (Fault call (by_job job)) known parts plain = refl
+plain_contents number (End job outcome) known parts plain = refl
 plain_contents number kind known parts plain = absurd plain
 
-plain_judged : (number : ℕ) (kind : EntryKind) (ph : Phase) → IsPlain number kind → IsJudgedIn kind ph
+pub plain_judged : (number : ℕ) (kind : EntryKind) (ph : Phase) → IsPlain number kind → IsJudgedIn kind ph
 plain_judged number (Talk (Some job)) ph plain = tt
 plain_judged number (Fault call (by_job job)) ph plain = tt
+plain_judged number (End job outcome) ph plain = tt
 plain_judged number kind ph plain = absurd plain
-
-plain_end : (number : ℕ) (kind : EntryKind) → IsPlain number kind → is_end kind ≡ false
-plain_end number (Talk (Some job)) plain = refl
-plain_end number (Fault call (by_job job)) plain = refl
-plain_end number kind plain = absurd plain
 
 -- ---- all of it, where the get goes on with its fill
 
-pub keeps_filling : (i : Option Incoming) (rows : Rows) (k k' : Seen) (w w' : Getting) (kind : EntryKind) (sent : List Parcel) → HasFill rows w → is_some (fill_in w.phase) ≡ true → IsPlain w.number kind
+pub keeps_filling : (x : Sight) (i : Option Incoming) (rows : Rows) (k k' : Seen) (w w' : Getting) (kind : EntryKind) (sent : List Parcel) → HasFill rows w → is_some (fill_in w.phase) ≡ true → IsPlain w.number kind → is_end kind ≡ false
     → w'.number ≡ w.number → w'.slot ≡ w.slot → w'.job ≡ w.job → fill_in w'.phase ≡ fill_in w.phase → k'.contents ≡ k.contents → LeavesRest (failed_in kind) k k' → k'.parts ≡ parts_after w.phase i kind k.parts
-    → ForSome k.parts (λ p. IsFed p w.phase → ForSome k'.parts (λ p'. IsFed p' w'.phase)) → Keeps i rows rows k k' w w' (output_of kind sent false)
-keeps_filling i rows k k' w w' kind sent has some plain number slot job same contents l parts fed =
+    → ForSome k.parts (λ p. IsFed p w.phase → ForSome k'.parts (λ p'. IsFed p' w'.phase)) → StaysApart x (work_of w) (work_of w') → Keeps x i rows rows k k' w w' (output_of kind sent false)
+keeps_filling x i rows k k' w w' kind sent has some plain goes number slot job same contents l parts fed apart =
     let going : is_done w'.phase ≡ false = undone w'.phase (ap is_some same ∙ some) in
     record {
       leaves = record {
@@ -152,7 +153,7 @@ keeps_filling i rows k k' w w' kind sent has some plain number slot job same con
         holds = refl;
         bars = refl;
         filled = fills_same w w' rows has same job;
-        contents = contents ∙ plain_contents w.number kind k.contents k.parts plain;
+        contents = contents ∙ sym (plain_contents w.number kind k.contents k.parts plain);
         records = l.records;
         files = l.files;
         later = l.later;
@@ -163,20 +164,22 @@ keeps_filling i rows k k' w w' kind sent has some plain number slot job same con
       has = has_still rows w w' has same job;
       fed = fed;
       judged = plain_judged w.number kind w.phase plain;
-      ended = λ j. sym (plain_end w.number kind plain) j || sym going j;
+      ended = λ j. sym goes j || sym going j;
+      apart = apart;
+      undone = λ stays was. going;
     }
 
 -- and the store changed nothing
-pub keeps_still : (i : Option Incoming) (rows : Rows) (k k' : Seen) (w w' : Getting) (kind : EntryKind) (sent : List Parcel) → HasFill rows w → is_some (fill_in w.phase) ≡ true → IsPlain w.number kind
+pub keeps_still : (x : Sight) (i : Option Incoming) (rows : Rows) (k k' : Seen) (w w' : Getting) (kind : EntryKind) (sent : List Parcel) → HasFill rows w → is_some (fill_in w.phase) ≡ true → IsPlain w.number kind → is_end kind ≡ false
     → w'.number ≡ w.number → w'.slot ≡ w.slot → w'.job ≡ w.job → fill_in w'.phase ≡ fill_in w.phase → LeavesBut (failed_in kind) k k' → k.parts ≡ parts_after w.phase i kind k.parts
-    → ((p : Parts) → k.parts ≡ Some p → IsFed p w.phase → IsFed p w'.phase) → Keeps i rows rows k k' w w' (output_of kind sent false)
-keeps_still i rows k k' w w' kind sent has some plain number slot job same l still fed =
-    keeps_filling i rows k k' w w' kind sent has some plain number slot job same l.contents (rest_of (failed_in kind) k k' l) (l.parts ∙ still)
-    (λ p is was p' is'. subst (λ (q : Parts). IsFed q w'.phase) (same_Some p p' (sym is ∙ sym l.parts ∙ is')) (fed p is was))
+    → ((p : Parts) → k.parts ≡ Some p → IsFed p w.phase → IsFed p w'.phase) → StaysApart x (work_of w) (work_of w') → Keeps x i rows rows k k' w w' (output_of kind sent false)
+keeps_still x i rows k k' w w' kind sent has some plain goes number slot job same l still fed apart =
+    keeps_filling x i rows k k' w w' kind sent has some plain goes number slot job same l.contents (rest_of (failed_in kind) k k' l) (l.parts ∙ still)
+    (λ p is was p' is'. subst (λ (q : Parts). IsFed q w'.phase) (same_Some p p' (sym is ∙ sym l.parts ∙ is')) (fed p is was)) apart
 
 -- a call of the store failed, and the job ends next
-pub keeps_fault : (i : Option Incoming) (rows : Rows) (k k' : Seen) (w w' : Getting) (call : Call) → HasFill rows w → is_some (fill_in w.phase) ≡ true → w' ≡ record w { phase = phases.Ends (endings.StoreFault (fill_in w.phase)) }
-    → LeavesBut (Some call) k k' → k.parts ≡ parts_after w.phase i (Fault call (by_job w.number)) k.parts → Keeps i rows rows k k' w w' (output_of (Fault call (by_job w.number)) [] false)
-keeps_fault i rows k k' w w' call has some is l still =
-    subst (λ (u : Getting). Keeps i rows rows k k' w u (output_of (Fault call (by_job w.number)) [] false)) (sym is)
-    (keeps_still i rows k k' w (record w { phase = phases.Ends (endings.StoreFault (fill_in w.phase)) }) (Fault call (by_job w.number)) [] has some refl refl refl refl refl l still (λ p is was. tt))
+pub keeps_fault : (x : Sight) (i : Option Incoming) (rows : Rows) (k k' : Seen) (w w' : Getting) (call : Call) → HasFill rows w → is_some (fill_in w.phase) ≡ true → w' ≡ record w { phase = phases.Ends (endings.StoreFault (fill_in w.phase)) }
+    → LeavesBut (Some call) k k' → k.parts ≡ parts_after w.phase i (Fault call (by_job w.number)) k.parts → Keeps x i rows rows k k' w w' (output_of (Fault call (by_job w.number)) [] false)
+keeps_fault x i rows k k' w w' call has some is l still =
+    subst (λ (u : Getting). Keeps x i rows rows k k' w u (output_of (Fault call (by_job w.number)) [] false)) (sym is)
+    (keeps_still x i rows k k' w (record w { phase = phases.Ends (endings.StoreFault (fill_in w.phase)) }) (Fault call (by_job w.number)) [] has some refl refl refl refl refl refl l still (λ p is was. tt) (λ named was. tt))

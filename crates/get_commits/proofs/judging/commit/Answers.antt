@@ -14,9 +14,9 @@ use Rattle.transfer_turns.specs.declared.parcels.Output.{Output}
 use Rattle.transfer_turns.specs.Turns.{output_of}
 use Rattle.get_phases.specs.declared.getting.Phase.{Phase}
 use Rattle.get_phases.specs.Gets.{fill_in}
-use Rattle.get_answers.proofs.Greeting.{message_to}
-use Rattle.get_answers.proofs.Verdicts.{fault_does, gained_does}
-use Rattle.get_answers.proofs.judging.commit.Goals as goal
+use Rattle.get_phases.proofs.Losses.{message_to}
+use Rattle.get_commits.proofs.Verdicts.{fault_does, gained_does}
+use Rattle.get_commits.proofs.judging.commit.Goals as goal
 
 pub gain_content-requires : goal.gain_content-requires
 gain_content-requires g c = record { fills = ap (λ (ph : Phase). is_some (fill_in ph)) c.requires.judged.at; has = c.requires.has; going = ap (λ (o : Output). o.ended) c.in_ok-output.ensures.made }

@@ -12,9 +12,9 @@ use Rattle.transfer_turns.specs.Steps.{seen}
 use Rattle.transfer_turns.specs.Turns.{output_of}
 use Rattle.get_phases.specs.declared.getting.Phase.{Phase}
 use Rattle.get_phases.specs.Gets.{fill_in}
-use Rattle.get_answers.proofs.Greeting.{message_to}
-use Rattle.get_answers.proofs.Verdicts.{dropped_does, fault_does}
-use Rattle.get_answers.proofs.judging.discard.Goals as goal
+use Rattle.get_phases.proofs.Losses.{message_to}
+use Rattle.get_commits.proofs.Verdicts.{dropped_does, fault_does}
+use Rattle.get_commits.proofs.judging.discard.Goals as goal
 
 pub go_on-requires : goal.go_on-requires
 go_on-requires g c = record { fills = ap (λ (ph : Phase). is_some (fill_in ph)) c.requires.judged.at }

@@ -1,41 +1,29 @@
--- The word behind the bytes of a part: the part becomes the content, or is dropped, or stays.
+-- What a verdict does with a part whose bytes have come: it becomes the content, or is dropped.
 use Rattle.std.proofs.Common.{◌≡◌, ℕ, Bool, true, false, not, List, [], ◌∷◌, Option, Some, None, Ok, refl, sym, subst, ◌∙◌}
-use Rattle.std.specs.Prelude.{◌↔◌, ◌&&◌, bytes_eq}
+use Rattle.std.specs.Prelude.{◌&&◌, bytes_eq}
 use Rattle.std.specs.Option.{option_map}
 use Rattle.annex_base.specs.declared.kinds.Call.{Call}
 use Rattle.annex_base.specs.declared.kinds.Call.TheVariants as calls
 use Rattle.annex_base.specs.declared.memory.NoMemory.{NoMemory}
-use Rattle.key_verify.specs.declared.digester.Sum.{Sum}
-use Rattle.key_verify.specs.declared.verdict.Verdict.{Verdict}
-use Rattle.key_verify.specs.declared.verdict.Verdict.TheVariants.{Right}
-use Rattle.key_verify.specs.Matching.{MatchesKey, verdict_of}
-use Rattle.key_verify.specs.Sums.{sum_of}
 use Rattle.run_data.specs.declared.entry.By.TheVariants.{Job as by_job}
-use Rattle.run_data.specs.declared.entry.EntryKind.{EntryKind}
 use Rattle.run_data.specs.declared.entry.EntryKind.TheVariants.{Fault, Gain, Talk}
 use Rattle.run_data.specs.declared.entry.FrameView.{FrameView}
-use Rattle.run_data.specs.declared.job.SourceCause.{SourceCause}
 use Rattle.run_data.specs.declared.job.SourceCause.TheVariants as sources
-use Rattle.p2p_wire.specs.declared.message.Message.{Message}
-use Rattle.p2p_wire.specs.declared.message.Message.TheVariants as messages
-use Rattle.p2p_wire.specs.declared.message.Message.TheVariants.{Failure, Invalid, Success, Valid}
+use Rattle.p2p_wire.specs.declared.message.Message.TheVariants.{Failure, Success, Valid}
 use Rattle.p2p_wire.specs.Streams.{IsLine}
 use Rattle.object_store.specs.Stores.{Parts, contents_after_commit, with_at}
 use Rattle.node_model.specs.Calls.{to_commit}
 use Rattle.node_model.specs.Jobs as Jobs
-use Rattle.node_model.specs.Jobs.{is_move, source_cause}
+use Rattle.node_model.specs.Jobs.{is_move}
 use Rattle.node_model.specs.JobStep.{Turn, attempts, by_me, key_of, quietly, says_to, talk}
 use Rattle.node_model.specs.TransferStep.{gains}
 use Rattle.node_model.specs.Turns.{takes}
 use Rattle.content_lock.specs.CallsMade.{MakesCalls}
 use Rattle.content_lock.specs.Rows.{Rows, is_filling}
-use Rattle.session_state.proofs.Calling.{makes_none}
-use Rattle.session_state.proofs.Transfers.{sees_right, sees_wrong}
 use Rattle.session_state.specs.declared.doing.Taken.{Taken}
 use Rattle.session_state.specs.declared.incoming.Incoming.{Incoming}
 use Rattle.session_state.specs.declared.incoming.Incoming.TheVariants as incoming
 use Rattle.session_state.specs.Phases.{IsRightSum}
-use Rattle.session_state.specs.Talking.{IsSumOf, SeesTaken}
 use Rattle.transfer_turns.specs.declared.parcels.Output.{Output}
 use Rattle.transfer_turns.specs.Steps.{LeavesBut, Seen}
 use Rattle.transfer_turns.specs.Turns.{Sight, output_of, turn_in}
@@ -45,32 +33,12 @@ use Rattle.get_phases.specs.declared.getting.Getting.{Getting}
 use Rattle.get_phases.specs.declared.getting.Phase.{Phase}
 use Rattle.get_phases.specs.declared.getting.Phase.TheVariants as phases
 use Rattle.get_phases.specs.Getting.{Does, Keeps}
-use Rattle.get_phases.specs.Gets.{HasFill, SeesPart, fill_in, parts_after, work_of}
-use Rattle.get_answers.specs.Taking.{FailsWith, IsVerdict, phase_gained}
-use Rattle.get_answers.proofs.Greeting.{at, from_phase, made_so, message_to}
-use Rattle.get_answers.proofs.Keeping.{LeavesRest, fills_less, keeps_fault, keeps_filling, keeps_still, nothing_left}
-use Rattle.get_answers.proofs.Losses.{asks_so, failed_work, fed_anew, next_fill}
-
--- ---- the verdict
-
--- a part that wasn't summed sees no verdict
-pub unsummed : (t : Taken) → t.sum ≡ None → IsVerdict t None
-unsummed t none = record { judged = tt; right = λ known right sees. absurd (no_sum known right sees); same = λ known right sees. tt }
-  where
-    no_sum : (known : Option Parts) (right : Bool) → SeesTaken known t right → ⊥
-    no_sum None right sees = sees
-    no_sum (Some p) right sees = subst (λ (o : Option Sum). IsSumOf o t.fill (p t.fill)) none sees.0.1
-
-pub judged_right : (t : Taken) (sum : Sum) (key : List ℕ) (v : Verdict) → t.sum ≡ Some sum → key ≡ t.fill → v ≡ verdict_of key sum → ((bytes : List ℕ) → sum ≡ sum_of key bytes → ((v ≡ Right) ↔ MatchesKey key bytes)) → v ≡ Right
-    → IsVerdict t (Some sum.size)
-judged_right t sum key v has same exact judged is = record {
-  judged = subst (λ (o : Option Sum). IsRightSum o t.fill) (sym has) (subst (λ (k : List ℕ). verdict_of k sum ≡ Right) same (sym exact ∙ is));
-  right = λ known right sees. (sees_right known t sum key right v has same judged is sees).0;
-  same = λ known right sees. (sees_right known t sum key right v has same judged is sees).1;
-}
-
-pub judged_wrong : (t : Taken) (sum : Sum) (key : List ℕ) (v : Verdict) → t.sum ≡ Some sum → key ≡ t.fill → ((bytes : List ℕ) → sum ≡ sum_of key bytes → ((v ≡ Right) ↔ MatchesKey key bytes)) → (v ≡ Right → ⊥) → IsVerdict t None
-judged_wrong t sum key v has same judged other = record { judged = tt; right = λ known right sees. sees_wrong known t sum key right v has same judged other sees; same = λ known right sees. tt }
+use Rattle.get_phases.specs.Gets.{HasFill, SeesPart, fill_in, work_of}
+use Rattle.get_phases.specs.Losing.{FailsWith}
+use Rattle.get_phases.proofs.Keeping.{LeavesRest, fills_less, keeps_fault, keeps_filling}
+use Rattle.get_phases.proofs.Losses.{asks_so, at, failed_apart, failed_work, fed_anew, from_phase, made_so, message_to, next_fill}
+use Rattle.get_verdicts.specs.Verdicts.{IsVerdict}
+use Rattle.get_commits.specs.Judging.{phase_gained}
 
 -- ---- what is told then
 
@@ -95,11 +63,11 @@ module _ (x : Sight) (rows : Rows) (k k' : Seen) (w : Getting) (peer start : ℕ
       → attempts t (to_commit right) (Some f) (gains t f peer taken.size right) ≡ attempts t (calls.DropPart ∷ []) (Some f) (says_to t (talk t) (Some f) peer Failure)
   gains_wrong t f right differs = λ i. attempts t (to_commit (differs i)) (Some f) (gains t f peer taken.size (differs i))
 
-  keeps_gain : (rows' : Rows) (size : ℕ) (b : Bool) → IsRightSum taken.sum taken.fill → rows'.holds ≡ rows.holds → rows'.bars ≡ rows.bars
+  keeps_gain : (rows' : Rows) (size : ℕ) (b : Bool) → is_move w.job.kind ≡ b → IsRightSum taken.sum taken.fill → rows'.holds ≡ rows.holds → rows'.bars ≡ rows.bars
       → ((key : List ℕ) → is_filling rows' key ≡ (not (bytes_eq w.job.key key) && is_filling rows key)) → k'.contents ≡ contents_after_commit k.contents k.parts w.job.key
       → k'.parts ≡ option_map (λ p. with_at p w.job.key []) k.parts → LeavesRest None k k'
-      → Keeps valid rows rows' k k' served (at w (phase_gained b peer start)) (output_of (Gain (by_job w.number) size w.job.key) (message_to peer Success) b)
-  keeps_gain rows' size true judged holds bars filled contents parts rest = record {
+      → Keeps x valid rows rows' k k' served (at w (phase_gained b peer start)) (output_of (Gain (by_job w.number) size w.job.key) (message_to peer Success) b)
+  keeps_gain rows' size true moves judged holds bars filled contents parts rest = record {
     leaves = record {
       kind = tt;
       whose = refl;
@@ -121,8 +89,10 @@ module _ (x : Sight) (rows : Rows) (k k' : Seen) (w : Getting) (peer start : ℕ
     fed = λ p is was p' is'. tt;
     judged = judged;
     ended = refl;
+    apart = λ named was. tt;
+    undone = λ stays was. sym moves ∙ stays;
   }
-  keeps_gain rows' size false judged holds bars filled contents parts rest = record {
+  keeps_gain rows' size false moves judged holds bars filled contents parts rest = record {
     leaves = record {
       kind = tt;
       whose = refl;
@@ -144,6 +114,8 @@ module _ (x : Sight) (rows : Rows) (k k' : Seen) (w : Getting) (peer start : ℕ
     fed = λ p is was p' is'. tt;
     judged = judged;
     ended = refl;
+    apart = λ named was. tt;
+    undone = λ stays was. refl;
   }
 
   gained_work : (b : Bool) → is_move w.job.kind ≡ b → work_of (at w (phase_gained b peer start)) ≡ Jobs.after_gain (work_of served) (Jobs.GetsWord peer start taken.size)
@@ -161,7 +133,7 @@ module _ (x : Sight) (rows : Rows) (k k' : Seen) (w : Getting) (peer start : ℕ
         asks_so (takes t f peer (Jobs.GetsWord peer start taken.size) Valid) (says_to t (Gain (by_me t) size w.job.key) (Some f) peer Success) (calls.Commit ∷ []) None k k'
         (gains_right t f size right (verdict.right k.parts right sees) (verdict.same k.parts right sees)) made)
         (gained_work b moves),
-    keeps_gain rows' size b verdict.judged holds bars filled contents parts rest,
+    keeps_gain rows' size b moves verdict.judged holds bars filled contents parts rest,
   )
 
   -- it doesn't: it is dropped
@@ -175,8 +147,9 @@ module _ (x : Sight) (rows : Rows) (k k' : Seen) (w : Getting) (peer start : ℕ
         asks_so (takes t f peer (Jobs.GetsWord peer start taken.size) Valid) (says_to t (talk t) (Some f) peer Failure) (calls.DropPart ∷ []) None k k'
         (gains_wrong t f right (verdict.right k.parts right sees)) made)
         line.0 (λ time. failed_work peer sources.Wrong w.version served w' refl fails),
-    keeps_filling valid rows k k' served w' (Talk (Some w.number)) (message_to peer Failure) has refl refl fails.number fails.slot fails.job (next_fill peer sources.Wrong w.version served w' fails) contents rest
-        (parts ∙ (λ i. option_map (λ p. with_at p (sym has.0 i) []) k.parts)) (λ p is was p' is'. fed_anew p' peer sources.Wrong w.version served w' fails),
+    keeps_filling x valid rows k k' served w' (Talk (Some w.number)) (message_to peer Failure) has refl refl refl fails.number fails.slot fails.job (next_fill peer sources.Wrong w.version served w' fails) contents rest
+        (parts ∙ (λ i. option_map (λ p. with_at p (sym has.0 i) []) k.parts)) (λ p is was p' is'. fed_anew p' peer sources.Wrong w.version served w' fails)
+        (failed_apart x peer sources.Wrong w.version served w' fails),
   )
 
   -- the call failed
@@ -191,7 +164,7 @@ module _ (x : Sight) (rows : Rows) (k k' : Seen) (w : Getting) (peer start : ℕ
             asks_so (takes t f peer (Jobs.GetsWord peer start taken.size) Valid) (quietly (Fault calls.Commit (by_me t)) (Some f)) (calls.Commit ∷ []) (Some calls.Commit) k k'
             (gains_right t f size right (verdict.right k.parts right sees) (verdict.same k.parts right sees)) made)
             tt (λ r time. refl) refl,
-        keeps_fault valid rows k k' served (at w (phases.Ends (endings.StoreFault (Some taken.fill)))) calls.Commit has refl refl leaves refl,
+        keeps_fault x valid rows k k' served (at w (phases.Ends (endings.StoreFault (Some taken.fill)))) calls.Commit has refl refl leaves refl,
       )) leaves made
   fault_at None call verdict is leaves made =
       subst (λ (g : Call). LeavesBut (Some g) k k' → MakesCalls (g ∷ []) (Some g) k.failing k'.failing → Does {E = NoMemory} x valid rows rows k k' served (at w (phases.Ends (endings.StoreFault (Some taken.fill)))) (Ok (output_of (Fault g (by_job w.number)) [] false))) (sym is)
@@ -202,7 +175,7 @@ module _ (x : Sight) (rows : Rows) (k k' : Seen) (w : Getting) (peer start : ℕ
             asks_so (takes t f peer (Jobs.GetsWord peer start taken.size) Valid) (quietly (Fault calls.DropPart (by_me t)) (Some f)) (calls.DropPart ∷ []) (Some calls.DropPart) k k'
             (gains_wrong t f right (verdict.right k.parts right sees)) made)
             tt (λ r time. refl) refl,
-        keeps_fault valid rows k k' served (at w (phases.Ends (endings.StoreFault (Some taken.fill)))) calls.DropPart has refl refl leaves refl,
+        keeps_fault x valid rows k k' served (at w (phases.Ends (endings.StoreFault (Some taken.fill)))) calls.DropPart has refl refl leaves refl,
       )) leaves made
 
 -- ---- the same of a get that stands so
@@ -233,50 +206,3 @@ fault_does x rows k k' w w' peer start taken size call out stands verdict calls_
     (λ given. made_so x valid rows rows k k' (at w (phases.Word peer start taken)) w' (at w (phases.Ends (endings.StoreFault (Some taken.fill)))) out (output_of (Fault call (by_job w.number)) [] false)
     (next ∙ (λ i. at w (phases.Ends (endings.StoreFault (fill_in (stands i)))))) (is ∙ (λ i. output_of (Fault call (by_job (next i).number)) [] false))
     (fault_at x rows k k' w peer start taken given size call verdict calls_so leaves made)) has
-
--- ---- INVALID
-
-rejected_at : (x : Sight) (rows : Rows) (k : Seen) (w w' : Getting) (peer start : ℕ) (taken : Taken) → FailsWith peer (source_cause start (Some Invalid)) w.version (at w (phases.Word peer start taken)) w' → IsLine Failure
-    → HasFill rows (at w (phases.Word peer start taken))
-    → Does {E = NoMemory} x (Some (incoming.Message Invalid)) rows rows k k (at w (phases.Word peer start taken)) w' (Ok (output_of (Talk (Some w.number)) (message_to peer Failure) false))
-rejected_at x rows k w w' peer start taken fails line has =
-    let u : Getting = at w (phases.Word peer start taken) in
-    let cause : SourceCause = source_cause start (Some Invalid) in (
-      said_steps x rows k k (work_of u) (work_of w') (SeesPart k.parts w.job.key (phases.Word peer start taken) (Some (incoming.Message Invalid))) peer refl refl Invalid w.version (λ f l. refl) Failure false
-          (λ c told part right sees rest f.
-          let t = turn_in x rows c part right None rest (work_of u) in
-          asks_so (takes t f peer (Jobs.GetsWord peer start taken.size) Invalid) (says_to t (talk t) (Some f) peer Failure) [] None k k refl (makes_none k.failing k.failing refl))
-          line.0 (λ time. failed_work peer cause w.version u w' refl fails),
-      keeps_still (Some (incoming.Message Invalid)) rows k k u w' (Talk (Some w.number)) (message_to peer Failure) has refl refl fails.number fails.slot fails.job (next_fill peer cause w.version u w' fails) (nothing_left k) refl
-          (λ p is was. fed_anew p peer cause w.version u w' fails),
-    )
-
-pub rejected_does : (x : Sight) (rows : Rows) (k : Seen) (w w' : Getting) (peer start : ℕ) (taken : Taken) (out : Output) → w.phase ≡ phases.Word peer start taken → FailsWith peer (source_cause start (Some Invalid)) w.version w w'
-    → out ≡ output_of (Talk (Some w.number)) (message_to peer Failure) false → IsLine Failure → HasFill rows w → Does {E = NoMemory} x (Some (incoming.Message Invalid)) rows rows k k w w' (Ok out)
-rejected_does x rows k w w' peer start taken out stands fails is line has =
-    from_phase x (Some (incoming.Message Invalid)) rows rows k k w w' (phases.Word peer start taken) (Ok out) stands
-    (λ given. made_so x (Some (incoming.Message Invalid)) rows rows k k (at w (phases.Word peer start taken)) w' w' out (output_of (Talk (Some w.number)) (message_to peer Failure) false) refl is
-    (rejected_at x rows k w w' peer start taken (subst (λ (ph : Phase). FailsWith peer (source_cause start (Some Invalid)) w.version (at w ph) w') stands fails) line given)) has
-
--- ---- any other word
-
-pub still_word : (peer start : ℕ) (taken : Taken) (m : Message) (kind : EntryKind) (known : Option Parts) → (m ≡ Valid → ⊥) → known ≡ parts_after (phases.Word peer start taken) (Some (incoming.Message m)) kind known
-still_word peer start taken (messages.AuthSuccess id) kind known other = refl
-still_word peer start taken (messages.Version n) kind known other = refl
-still_word peer start taken (messages.CheckPresent k) kind known other = refl
-still_word peer start taken (messages.LockContent k) kind known other = refl
-still_word peer start taken (messages.UnlockContent k) kind known other = refl
-still_word peer start taken (messages.Remove k) kind known other = refl
-still_word peer start taken (messages.RemoveBefore n k) kind known other = refl
-still_word peer start taken messages.GetTimestamp kind known other = refl
-still_word peer start taken (messages.Timestamp n) kind known other = refl
-still_word peer start taken (messages.Get n file k) kind known other = refl
-still_word peer start taken (messages.Put file k) kind known other = refl
-still_word peer start taken (messages.PutFrom n) kind known other = refl
-still_word peer start taken messages.AlreadyHave kind known other = refl
-still_word peer start taken (messages.Data n) kind known other = refl
-still_word peer start taken messages.Valid kind known other = absurd (other refl)
-still_word peer start taken messages.Invalid kind known other = refl
-still_word peer start taken messages.Success kind known other = refl
-still_word peer start taken messages.Failure kind known other = refl
-still_word peer start taken (messages.Error text) kind known other = refl

@@ -4,8 +4,8 @@ use Rattle.p2p_wire.specs.declared.message.Message.{Message}
 use Rattle.p2p_wire.specs.declared.message.Message.TheVariants as messages
 use Rattle.p2p_wire.specs.Streams.{IsLine}
 use Rattle.transfer_turns.specs.Lines.{AreTransferLines}
-use Rattle.get_answers.specs.Taking.{IsToldBy}
-use Rattle.get_answers.proofs.saying.say.Goals as goal
+use Rattle.get_phases.specs.Losing.{IsToldBy}
+use Rattle.get_phases.proofs.saying.say.Goals as goal
 
 told_line : (key : List ℕ) (m : Message) → AreTransferLines key → IsToldBy m → IsLine m
 told_line key (messages.AuthSuccess id) lines is = absurd is

@@ -1,0 +1,2 @@
+-- The definitions of the verdict on a part.
+pub mod Verdicts
