@@ -18,8 +18,6 @@ use Rattle.node_model.specs.SessionStep.{here, is_filled, session_makes}
 use Rattle.node_model.specs.SetUp.{SetUp}
 use Rattle.node_model.specs.State.{State}
 use Rattle.node_ends.specs.Ends.{end_at, frame_at, link_at, room_at, wait_at}
-use Rattle.p2p_server.specs.declared.Incoming.{Incoming}
-use Rattle.p2p_server.specs.declared.Incoming.TheVariants as incoming
 use Rattle.p2p_server.specs.declared.session.Session.{Session}
 use Rattle.p2p_server.specs.Answers.{contents_after}
 use Rattle.p2p_server.specs.Bounds.{IsKind}
@@ -32,6 +30,7 @@ use Rattle.node_sessions.specs.Pieces.{SaysPiece}
 use Rattle.node_sessions.specs.Sessions.{end_of, owner_of}
 use Rattle.node_sessions.specs.Serving.{SeesPartAt, ServesAt, end_by, made_by, taken_by}
 use Rattle.node_sessions.specs.Stored.{bytes_at, parts_after_taken}
+pub use Rattle.end_hearing.specs.Pieces.{bytes_heard}
 
 -- what the session reads is so in the state, at the look
 pub record SeesOne (links : List EndView) (clock number : ℕ) (was : Moment Session) (v : Served) (s : SetUp) (st : State) (k : Look) : Type 0 where
@@ -103,11 +102,6 @@ pub record MakesSo (links : List EndView) (clock number : ℕ) (was : Moment Ses
   pub calls : (s : SetUp) (st : State) (k : Look) → SeesOne links clock number was v s st k
       → ForSome (session_makes (here s st k (end_of was.session)) (end_at links (end_of was.session)) (st.sessions (end_of was.session)) (wait_at links (end_of was.session))) (λ (m : Effect). MakesCalls m.calls (failed_in v.kind) before after)
   pub left : after ≡ option_map (fewer (failed_in v.kind)) before
-
--- the bytes of a piece that is heard
-abbrev pub bytes_heard : Incoming → List ℕ
-bytes_heard (incoming.Bytes bytes) = bytes.items
-bytes_heard i = []
 
 -- the session at this place serves this, and the others stay as they are
 pub record ServesAmong (links : List EndView) (clock number at : ℕ) (xs xs' : List Session) (rows rows' : Rows) (contents contents' : Option Contents) (parts parts' : Option Parts) (records records' : Option (List HoldRecord)) (faults faults' : ℕ) (v : Served) : Type 0 where

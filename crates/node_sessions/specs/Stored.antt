@@ -10,30 +10,25 @@ use Rattle.p2p_wire.specs.declared.message.Message.{Message}
 use Rattle.p2p_wire.specs.declared.message.Message.TheVariants.{Valid}
 use Rattle.p2p_wire.specs.Messages.{message_of}
 use Rattle.object_store.specs.Stores.{Contents, Parts, with_at}
-use Rattle.link_ring.specs.declared.frame.Body.{Body}
-use Rattle.link_ring.specs.declared.frame.Body.TheVariants as bodies
 use Rattle.link_ring.specs.declared.frame.Frame.{Frame}
 use Rattle.link_ring.specs.Ends.{EndView, next_frame}
 use Rattle.node_model.specs.Ends.{EndName}
 use Rattle.node_model.specs.Sessions.{Doing, Takes, Took}
 use Rattle.node_ends.specs.Ends.{link_at}
+use Rattle.end_hearing.specs.Pieces.{bytes_of}
 use Rattle.p2p_server.specs.declared.session.Session.{Session}
 use Rattle.p2p_server.specs.Answers.{contents_after}
 use Rattle.p2p_server.specs.Talking.{parts_after_valid, session_of}
 use Rattle.node_sessions.specs.declared.served.Served.{Served}
 use Rattle.node_sessions.specs.Serving.{end_by, server_in, taken_by}
+pub use Rattle.end_hearing.specs.Pieces.{bytes_of}
 
 -- the contents after what was served
 abbrev pub contents_left : Option Contents → Option Parts → Option Served → Option Contents
 contents_left known parts None = known
 contents_left known parts (Some v) = contents_after known parts v.kind
 
--- the bytes of a piece
-abbrev pub bytes_of : Body → List ℕ
-bytes_of (bodies.Bytes bytes) = bytes
-bytes_of body = []
-
--- those of the first frame at hand at an end
+-- the bytes of the first frame at hand at an end
 abbrev pub bytes_at : List EndView → EndName → List ℕ
 bytes_at links a = option_map_or (λ (f : Frame). bytes_of f.body) (option_and_then next_frame (link_at links a)) []
 

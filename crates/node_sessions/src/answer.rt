@@ -21,12 +21,12 @@ ghost use Rattle.node_sessions.specs.Serving.{IsTalk, reply_by};
 ghost use Rattle.node_sessions.specs.Sessions.{owner_of};
 ghost use Rattle.node_sessions.specs.Words.{word_beside};
 
-use crate::heard::heard;
 use crate::room::Room;
 use crate::served::Served;
 use crate::words::word_beside;
 use annex_base::NoMemory;
 use content_lock::LockTable;
+use end_hearing::heard;
 use link_ring::{Body, Frame};
 use object_store::Keeper;
 use p2p_server::{Incoming, Place, Session, Step, replies_are_short_lines};

@@ -6,7 +6,6 @@ mod beginning;
 mod crossing;
 mod ending;
 mod giving;
-mod heard;
 mod laws;
 mod room;
 mod served;

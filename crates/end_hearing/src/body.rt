@@ -1,15 +1,14 @@
-//! What a frame brings to a session.
+//! What a frame brings.
 ghost use Rattle.std.specs.Prelude.{◌≡◌, IfOk, []};
 ghost use Rattle.run_data.specs.declared.entry.FrameText.TheVariants as texts;
 ghost use Rattle.node_ends.specs.Ends.{text_in};
-ghost use Rattle.p2p_server.specs.Talking.{Brings};
-ghost use Rattle.node_sessions.specs.Moments.{bytes_heard};
-ghost use Rattle.node_sessions.specs.Stored.{bytes_of};
+ghost use Rattle.session_state.specs.Talking.{Brings};
+ghost use Rattle.end_hearing.specs.Pieces.{bytes_heard, bytes_of};
 
 use annex_base::NoMemory;
 use link_ring::Body;
-use p2p_server::Incoming;
 use p2p_wire::Message;
+use session_state::Incoming;
 use std::alloc::Global;
 
 /// What a line brings: a message, or what is none.
@@ -24,7 +23,7 @@ fn line_heard(alloc: Global, line: &[u8]) -> Result<Incoming, NoMemory>
 }
 
 /// What a frame with this body brings.
-pub(crate) fn heard(alloc: Global, body: &Body) -> Result<Incoming, NoMemory>
+pub fn heard(alloc: Global, body: &Body) -> Result<Incoming, NoMemory>
     ensures brings { IfOk result (λ i. Brings (text_in body.now) i) }
     ensures bytes { IfOk result (λ i. bytes_heard i ≡ bytes_of body.now) }
 {

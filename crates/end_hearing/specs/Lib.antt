@@ -1,0 +1,3 @@
+-- What contracts cite of what came at an end.
+pub mod Pieces
+pub mod Hearing
