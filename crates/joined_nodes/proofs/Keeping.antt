@@ -9,7 +9,7 @@ use Rattle.node_ends.specs.Ends.{link_at}
 use Rattle.node_ends.specs.Joined.{StayPaired, StaysSo}
 use Rattle.object_store.specs.Stores.{Contents, Parts}
 use Rattle.run_data.specs.Files.{file_of, file_path}
-use Rattle.node_jobs.specs.Acting.{with_job}
+use Rattle.repo_node.specs.Acting.{with_job}
 use Rattle.run_data.specs.declared.entry.By.{By}
 use Rattle.run_data.specs.declared.entry.By.TheVariants.{Script}
 use Rattle.run_data.specs.declared.entry.EntryKind.{EntryKind}

@@ -9,7 +9,7 @@ ghost use Rattle.key_verify.specs.Matching.{MatchesKey};
 ghost use Rattle.link_ring.specs.Ends.{after_drop};
 ghost use Rattle.log_lines.specs.LineText.{line_text};
 ghost use Rattle.node_ends.specs.Joined.{StayPaired};
-ghost use Rattle.node_jobs.specs.Acting.{with_job};
+ghost use Rattle.repo_node.specs.Acting.{with_job};
 ghost use Rattle.node_model.specs.SetUp.{SetUp};
 ghost use Rattle.node_model.specs.Step.{step};
 ghost use Rattle.object_store.specs.Calls.{one_more};

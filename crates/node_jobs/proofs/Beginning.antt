@@ -20,13 +20,13 @@ use Rattle.node_model.specs.SetUp.{SetUp}
 use Rattle.node_model.specs.Slots.{RunningJob, begun_after, free_slot, job_of}
 use Rattle.node_model.specs.State.{State}
 use Rattle.content_lock.specs.Rows.{Rows}
-use Rattle.drop_phases.specs.declared.phase.Phase.{Phase}
-use Rattle.drop_worker.specs.Working.{phase_as}
+use Rattle.node_drops.specs.declared.Phase.{Phase}
+use Rattle.node_drops.specs.Working.{phase_as}
 use Rattle.node_jobs.specs.Acting.{running_now, with_job}
-use Rattle.node_jobs.specs.Reads.{KnownLogs}
+use Rattle.node_drops.specs.Reads.{KnownLogs}
 use Rattle.node_jobs.specs.Running.{AreWorks, DropJob, Follows, HasRead, IsOwn, Jobs as JobsView, OwnAll, given, work_now}
 use Rattle.node_jobs.proofs.Among.{find_mapped, found_by_number}
-use Rattle.node_jobs.proofs.Knowing.{read_same}
+use Rattle.node_drops.proofs.Knowing.{read_same}
 use Rattle.node_jobs.proofs.Stepping.{has_read_stays, read_stays}
 
 same_running : (js : List DropJob) → map running_job (map work_now js) ≡ map running_now js

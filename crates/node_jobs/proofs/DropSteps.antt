@@ -38,11 +38,11 @@ use Rattle.node_model.specs.Rows.{is_lost_ordered}
 use Rattle.node_model.specs.Sessions.{is_closing}
 use Rattle.node_model.specs.TransferStep.{takes_bytes}
 use Rattle.node_model.specs.Turns.{awaits, by_partner, goes, goes_on, has_room, is_awaiting, judge_needs, judges, needs, outcome_of, takes, takes_frame, takes_text, with_partner}
-use Rattle.drop_phases.specs.declared.phase.Phase.{Phase}
-use Rattle.drop_phases.specs.declared.phase.Phase.TheVariants as phases
-use Rattle.drop_phases.specs.declared.phase.Token.{Token}
-use Rattle.drop_worker.specs.Feeding.{FitsLocal}
-use Rattle.drop_worker.specs.Working.{phase_as}
+use Rattle.node_drops.specs.declared.Phase.{Phase}
+use Rattle.node_drops.specs.declared.Phase.TheVariants as phases
+use Rattle.node_drops.specs.declared.Token.{Token}
+use Rattle.node_drops.specs.Feeding.{FitsLocal}
+use Rattle.node_drops.specs.Working.{phase_as}
 use Rattle.node_jobs.specs.Sending.{IsCallOfJob, IsOfJob, IsOwnEntry, MaySend, SendsWell, TakesNoOpening}
 use Rattle.node_jobs.proofs.Rooms.{MayUnlock, farewells_client, farewells_placed, placed_well}
 

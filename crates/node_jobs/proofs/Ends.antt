@@ -4,14 +4,14 @@ use Rattle.std.proofs.lemmas.List.{append-nil}
 use Rattle.annex_base.specs.Lists.{Member}
 use Rattle.annex_base.proofs.Lists.{Each-both, Each-left, Each-member, Each-right, Each-weaker}
 use Rattle.content_lock.specs.Rows.{Rows}
-use Rattle.drop_phases.specs.declared.phase.Ending.{Ending}
-use Rattle.drop_phases.specs.declared.phase.Ending.TheVariants as endings
-use Rattle.drop_phases.specs.declared.phase.Phase.{Phase}
-use Rattle.drop_phases.specs.declared.phase.Phase.TheVariants as phases
-use Rattle.drop_phases.specs.declared.phase.Token.{Token}
-use Rattle.drop_phases.specs.declared.phase.Token.TheVariants as tokens
-use Rattle.drop_worker.specs.Doing.{HasToken, IsBar, OthersStay}
-use Rattle.drop_worker.specs.Feeding.{FitsEnding, FitsLocal, IsBare, IsOfLocal}
+use Rattle.node_drops.specs.declared.Ending.{Ending}
+use Rattle.node_drops.specs.declared.Ending.TheVariants as endings
+use Rattle.node_drops.specs.declared.Phase.{Phase}
+use Rattle.node_drops.specs.declared.Phase.TheVariants as phases
+use Rattle.node_drops.specs.declared.Token.{Token}
+use Rattle.node_drops.specs.declared.Token.TheVariants as tokens
+use Rattle.node_drops.specs.Doing.{HasToken, IsBar, OthersStay}
+use Rattle.node_drops.specs.Feeding.{FitsEnding, FitsLocal, IsBare, IsOfLocal}
 use Rattle.node_jobs.specs.Ending.{CanEnd, OthersKeep}
 use Rattle.node_jobs.specs.Running.{AllApart, AreApart, DropJob, IsDrop, IsOwn, Jobs, OwnAll}
 use Rattle.node_jobs.proofs.Among.{apart_before, apart_without}

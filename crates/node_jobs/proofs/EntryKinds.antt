@@ -6,7 +6,7 @@ use Rattle.run_data.specs.declared.entry.EntryKind.{EntryKind}
 use Rattle.run_data.specs.declared.entry.EntryKind.TheVariants.{Bar, End, Fault, Gone, Order, Share, Talk}
 use Rattle.node_model.specs.Jobs.{RowsAndEnds, Work, work_after, works_after}
 use Rattle.node_model.specs.Slots.{begun_after, job_by, job_of}
-use Rattle.drop_worker.specs.Begun.{IsLast, IsOnward}
+use Rattle.node_drops.specs.Begun.{IsLast, IsOnward}
 
 pub onward_job : (n : ℕ) (kind : EntryKind) → IsOnward n kind → job_of kind ≡ Some n
 onward_job n (Share hold end owner key) h = ap job_by h

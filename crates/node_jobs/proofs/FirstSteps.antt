@@ -13,8 +13,8 @@ use Rattle.node_model.specs.Look.{Look, Effect}
 use Rattle.node_model.specs.SetUp.{SetUp, slots}
 use Rattle.node_model.specs.State.{State}
 use Rattle.node_model.specs.Turns.{job_step, slot_step}
-use Rattle.drop_phases.specs.declared.phase.Phase.TheVariants as phases
-use Rattle.drop_worker.specs.Working.{heard_as}
+use Rattle.node_drops.specs.declared.Phase.TheVariants as phases
+use Rattle.node_drops.specs.Working.{heard_as}
 use Rattle.node_jobs.specs.Running.{AreWorks, BeginsUnheard, DropJob, IsDrop, Jobs as JobsView, work_now}
 use Rattle.node_jobs.specs.Sending.{IsOwnEntry, SendsWell}
 use Rattle.node_jobs.proofs.Among.{find_mapped}

@@ -18,25 +18,25 @@ use Rattle.node_model.specs.Clocks.{ClockSet}
 use Rattle.node_model.specs.Jobs.{drop_side, partner}
 use Rattle.node_model.specs.Slots.{RunningJob, free_slot, uses}
 use Rattle.content_lock.specs.Rows.{Rows}
-use Rattle.drop_phases.specs.declared.phase.Heard.{Heard}
-use Rattle.drop_phases.specs.declared.phase.Heard.TheVariants as heards
-use Rattle.drop_phases.specs.declared.phase.Phase.{Phase}
-use Rattle.drop_phases.specs.declared.phase.Phase.TheVariants as phases
-use Rattle.drop_phases.specs.declared.turn.Taken.TheVariants as takens
-use Rattle.drop_phases.specs.declared.phase.Token.TheVariants as tokens
-use Rattle.drop_worker.specs.Working.{end_in, phase_as, taken_of}
-use Rattle.drop_worker.specs.Doing.{Grows, HasToken, OthersStay}
+use Rattle.node_drops.specs.declared.Heard.{Heard}
+use Rattle.node_drops.specs.declared.Heard.TheVariants as heards
+use Rattle.node_drops.specs.declared.Phase.{Phase}
+use Rattle.node_drops.specs.declared.Phase.TheVariants as phases
+use Rattle.node_drops.specs.declared.Taken.TheVariants as takens
+use Rattle.node_drops.specs.declared.Token.TheVariants as tokens
+use Rattle.node_drops.specs.Working.{end_in, phase_as, taken_of}
+use Rattle.node_drops.specs.Doing.{Grows, HasToken, OthersStay}
 use Rattle.node_jobs.specs.declared.acted.Acted.{Acted}
 use Rattle.node_jobs.specs.declared.finding.Found.{Found}
 use Rattle.node_jobs.specs.Acting.{new_worker, running_now, with_job, word_at}
 use Rattle.node_jobs.specs.Changes.{Changes, job_after, output_of}
 use Rattle.node_jobs.specs.Leaving.{KeepsWord, Leaves, heard_at}
 use Rattle.node_jobs.specs.Running.{AllApart, AreApart, DropJob, IsDrop, IsOwn, Jobs, OwnAll, given_of, job_at, place_reading}
-use Rattle.node_jobs.specs.declared.feed.Feed.{Feed}
-use Rattle.node_jobs.specs.Feeds.{IsFedAt, feed_at, feed_by, feed_of, bare_feed}
+use Rattle.node_drops.specs.declared.feed.Feed.{Feed}
+use Rattle.node_drops.specs.Feeds.{IsFedAt, feed_at, feed_by, feed_of, bare_feed}
 use Rattle.node_jobs.proofs.Among.{found_by_number, apart_before, apart_behind, apart_with, apart_without, none_by_number, others_found}
-use Rattle.node_jobs.proofs.Knowing.{can_stand}
-use Rattle.drop_worker.specs.Begun.{HasBegun, HasGone}
+use Rattle.node_drops.proofs.Knowing.{can_stand}
+use Rattle.node_drops.specs.Begun.{HasBegun, HasGone}
 
 module _ (links : List EndView) (clock : ClockSet) (settings : Settings) (jobs : Jobs) (number time : ℕ) (found : Found) (known known' : Option Contents) (rows rows' : Rows) (now : List DropJob) (a : Acted)
     (own : OwnAll jobs rows) (ch : Changes jobs.place clock links settings time number found known known' rows rows' jobs.running now a) where

@@ -5,7 +5,7 @@ use Rattle.std.specs.List.{position_or_len}
 use Rattle.std.specs.Option.{option_map}
 use Rattle.std.proofs.lemmas.Bool.Decides.{nat_tests}
 use Rattle.std.proofs.lemmas.List.Folds.{find_at}
-use Rattle.std.proofs.lemmas.Option.{same_Some, slice_get_past, slice_get_read}
+use Rattle.std.proofs.lemmas.Option.{slice_get_past, slice_get_read}
 use Rattle.std.proofs.Math.Seq.{drop-append_seam}
 use Rattle.std.proofs.lemmas.List.{length-take-le, take_at}
 use Rattle.annex_base.proofs.Lists.{Each-member, find_member}
@@ -13,14 +13,14 @@ use Rattle.annex_base.proofs.Options.{some_none}
 use Rattle.link_ring.specs.Ends.{EndView}
 use Rattle.node_model.specs.Clocks.{ClockSet}
 use Rattle.node_model.specs.Turns.{slot_step}
-use Rattle.drop_worker.specs.Feeding.{ToldAt}
-use Rattle.drop_worker.specs.Leaving.{stands_on}
-use Rattle.node_jobs.specs.declared.feed.Feed.{Feed}
+use Rattle.node_drops.specs.Feeding.{ToldAt}
+use Rattle.node_drops.specs.Leaving.{stands_on}
+use Rattle.node_drops.specs.declared.feed.Feed.{Feed}
 use Rattle.node_jobs.specs.declared.finding.Found.{Found}
 use Rattle.node_jobs.specs.Acting.{WaitsFor}
-use Rattle.node_jobs.specs.Feeds.{Answers, IsFedAt, SeesJob}
+use Rattle.node_drops.specs.Feeds.{Answers, IsFedAt, SeesJob}
 use Rattle.node_jobs.specs.Finding.{FindsAtSlot, FindsFirst, IsAtSlot, IsOfSlot, IsSlotIdle, has_slot}
-use Rattle.node_jobs.specs.Places.{PlaceView}
+use Rattle.node_drops.specs.Places.{PlaceView}
 use Rattle.node_jobs.specs.Running.{DropJob, work_now}
 use Rattle.node_jobs.proofs.Among.{find_mapped, get_middle}
 

@@ -1,5 +1,5 @@
 -- The step of the first job that has one, and the works that follow.
-use Rattle.std.proofs.Common.{◌≡◌, inl, inr, ℕ, zero, suc, ◌+◌, ◌<◌, Bool, true, false, if◌then◌else◌, List, [], ◌∷◌, ◌++◌, length, filter, map, Option, Some, None, refl, sym, ap, subst, ◌∙◌, arith}
+use Rattle.std.proofs.Common.{◌≡◌, inl, inr, ℕ, zero, suc, ◌<◌, Bool, true, false, if◌then◌else◌, List, [], ◌∷◌, ◌++◌, length, filter, map, Option, Some, None, refl, sym, ap, subst, ◌∙◌, arith}
 use Rattle.std.specs.Prelude.{find, is_some, slice_get, ◌==◌}
 use Rattle.std.proofs.lemmas.Option.{slice_get_cases}
 use Rattle.std.specs.Option.{ForSome, option_map, option_map_or}
@@ -29,28 +29,28 @@ use Rattle.node_ends.specs.Ends.{end_at, room_at, wait_at}
 use Rattle.object_store.specs.Stores.{Contents}
 use Rattle.content_lock.specs.CallsMade.{MakesCalls, fewer}
 use Rattle.content_lock.specs.Rows.{Rows}
-use Rattle.drop_worker.specs.Begun.{HasGone, IsLast, IsOnward}
-use Rattle.drop_phases.specs.declared.phase.Phase.{Phase}
-use Rattle.drop_phases.specs.declared.turn.Taken.{Taken}
-use Rattle.drop_worker.specs.Feeding.{FeedsFrameAt, FindsAt}
-use Rattle.drop_worker.specs.Leaving.{stands_on}
-use Rattle.drop_worker.specs.States.{HaveState}
-use Rattle.drop_worker.specs.Working.{end_in, frames_of, phase_as, sight, words_of}
+use Rattle.node_drops.specs.Begun.{HasGone, IsLast, IsOnward}
+use Rattle.node_drops.specs.declared.Phase.{Phase}
+use Rattle.node_drops.specs.declared.Taken.{Taken}
+use Rattle.node_drops.specs.Feeding.{FeedsFrameAt, FindsAt}
+use Rattle.node_drops.specs.Leaving.{stands_on}
+use Rattle.node_drops.specs.States.{HaveState}
+use Rattle.node_drops.specs.Working.{end_in, frames_of, phase_as, sight, words_of}
 use Rattle.node_jobs.specs.declared.acted.Acted.{Acted}
 use Rattle.node_jobs.specs.declared.finding.Found.{Found}
 use Rattle.node_jobs.specs.Acting.{IsKindOf, SeesActed, SeesJobs, StepsJobs, WaitsFor, made_by, taken_by}
-use Rattle.node_jobs.specs.Calling.{Failing, JobMakes}
+use Rattle.node_drops.specs.Calling.{Failing, JobMakes}
 use Rattle.node_jobs.specs.Changes.{Changes, input_of, job_after, output_of}
-use Rattle.node_jobs.specs.Doings.{ActsSo, SeesAct}
-use Rattle.node_jobs.specs.Feeds.{SeesJob}
+use Rattle.node_drops.specs.Doings.{ActsSo, SeesAct}
+use Rattle.node_drops.specs.Feeds.{SeesJob}
 use Rattle.node_jobs.specs.Finding.{Finds, FindsFirst, IsFirst, IsSlotIdle, has_slot}
-use Rattle.node_jobs.specs.Places.{PlaceView}
-use Rattle.node_jobs.specs.Reads.{KnownLogs}
+use Rattle.node_drops.specs.Places.{PlaceView}
+use Rattle.node_drops.specs.Reads.{KnownLogs}
 use Rattle.node_jobs.specs.Running.{AllApart, AreApart, AreWorks, DropJob, Follows, HadPaths, HasRead, IsDrop, Jobs as JobsView, OwnAll, given, place_reading, work_now}
 use Rattle.node_jobs.proofs.Among.{apart_before, apart_behind, find_mapped, found_by_number, get_middle, is_left, works_off, works_on}
 use Rattle.node_jobs.proofs.EntryKinds.{last_begun, last_works, onward_begun, onward_job, onward_works}
-use Rattle.node_jobs.proofs.Hearing.{awaiting}
-use Rattle.node_jobs.proofs.Knowing.{can_stand, read_apart, read_same}
+use Rattle.node_drops.proofs.Hearing.{awaiting}
+use Rattle.node_drops.proofs.Knowing.{can_stand, read_apart, read_same}
 
 -- ---- the first slot that has a step
 

@@ -1,15 +1,12 @@
 -- The step of the first job that has one (own).
-use Rattle.std.specs.Prelude.{◌≡◌, ℕ, ◌+◌, ◌*◌, ◌∷◌, true, is_some, List, [], length, map, Option, Some, None, option_and_then, false}
+use Rattle.std.specs.Prelude.{◌≡◌, ℕ, ◌+◌, ◌*◌, ◌∷◌, true, List, [], length, map, Option, Some, None, false}
 use Rattle.std.specs.Option.{option_map}
 use Rattle.annex_base.specs.Lists.{Each}
 use Rattle.annex_base.specs.Settings.{Settings}
 use Rattle.annex_base.specs.declared.kinds.Call.{Call}
-use Rattle.annex_base.specs.declared.kinds.Word.{Word}
-use Rattle.run_data.specs.declared.entry.FrameView.{FrameView}
 use Rattle.run_data.specs.declared.job.Job.{Job}
-use Rattle.link_ring.specs.declared.frame.Frame.{Frame}
-use Rattle.link_ring.specs.Ends.{EndView, next_frame}
-use Rattle.node_ends.specs.Ends.{SeesEnds, end_at, link_at, room_at, wait_at}
+use Rattle.link_ring.specs.Ends.{EndView}
+use Rattle.node_ends.specs.Ends.{SeesEnds, end_at}
 use Rattle.node_model.specs.Clocks.{ClockSet, runs_on}
 use Rattle.node_model.specs.Ends.{EndName}
 use Rattle.node_model.specs.Evidence as drops
@@ -19,14 +16,16 @@ use Rattle.node_model.specs.SetUp.{SetUp}
 use Rattle.node_model.specs.Slots.{RunningJob, free_slot}
 use Rattle.node_model.specs.State.{State}
 use Rattle.node_model.specs.Turns.{job_step}
-use Rattle.drop_phases.specs.declared.phase.Phase.TheVariants as phases
-use Rattle.drop_phases.specs.declared.phase.Token.TheVariants as tokens
-use Rattle.drop_worker.specs.Begun.{IsLast, IsOnward}
-use Rattle.drop_worker.specs.Worker.{Worker}
-use Rattle.drop_worker.specs.Working.{end_in, frames_of}
+use Rattle.node_drops.specs.declared.Phase.TheVariants as phases
+use Rattle.node_drops.specs.declared.Token.TheVariants as tokens
+use Rattle.node_drops.specs.Begun.{IsLast, IsOnward}
+use Rattle.node_drops.specs.Worker.{Worker}
+use Rattle.node_drops.specs.Working.{frames_of}
 use Rattle.node_jobs.specs.declared.acted.Acted.{Acted}
-use Rattle.node_jobs.specs.Places.{IsPlace}
+use Rattle.node_drops.specs.Places.{IsPlace}
 use Rattle.node_jobs.specs.Running.{AreWorks, DropJob, Follows, HadPaths, Jobs, words_at}
+use Rattle.node_drops.specs.Waiting.{WaitsFor, taken_by, word_at}
+pub use Rattle.node_drops.specs.Waiting.{WaitsFor, taken_by, word_at}
 
 -- ---- a job that begins
 
@@ -44,21 +43,9 @@ with_job jobs what paths = record jobs { running = record { worker = new_worker 
 
 -- ---- what a step makes
 
--- the frame that is taken from the peer, at a client's end
-abbrev pub taken_by : List EndView → ℕ → Option ℕ → Option FrameView
-taken_by links slot takes = option_and_then (λ peer. wait_at links (end_in slot peer)) takes
-
 -- the entry is one that this job makes: its last, or one of its others
 abbrev pub IsKindOf : ℕ → Acted → Type 0
 IsKindOf job a = (a.ended ≡ false → IsOnward job a.kind) × (a.ended ≡ true → IsLast job a.kind)
-
--- where a frame is taken from a peer, the end has room and a frame waits there
-abbrev pub WaitsFor : List EndView → ℕ → Option ℕ → Type 0
-WaitsFor links slot takes = (peer : ℕ) → takes ≡ Some peer → (room_at links (end_in slot peer) ≡ true) × (is_some (wait_at links (end_in slot peer)) ≡ true)
-
--- the word beside the first frame at hand
-abbrev pub word_at : List EndView → EndName → Option Word
-word_at links a = option_and_then (λ (f : Frame). f.word) (option_and_then next_frame (link_at links a))
 
 abbrev pub made_by : List EndView → Acted → Effect
 made_by links a = record { kind = a.kind; taken = taken_by links a.slot a.takes; sent = frames_of (end_at links) a.slot a.sends.items; lines = []; calls = [] }

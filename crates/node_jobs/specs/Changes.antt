@@ -5,14 +5,14 @@ use Rattle.link_ring.specs.Ends.{EndView}
 use Rattle.object_store.specs.Stores.{Contents}
 use Rattle.node_model.specs.Clocks.{ClockSet}
 use Rattle.content_lock.specs.Rows.{Rows}
-use Rattle.drop_phases.specs.declared.turn.Input.{Input}
-use Rattle.drop_phases.specs.declared.turn.Output.{Output}
-use Rattle.drop_worker.specs.Doing.{HasToken, OthersStay}
+use Rattle.node_drops.specs.declared.Input.{Input}
+use Rattle.node_drops.specs.declared.Output.{Output}
+use Rattle.node_drops.specs.Doing.{HasToken, OthersStay}
 use Rattle.node_jobs.specs.declared.acted.Acted.{Acted}
-use Rattle.node_jobs.specs.declared.feed.Feed.{Feed}
+use Rattle.node_drops.specs.declared.feed.Feed.{Feed}
 use Rattle.node_jobs.specs.declared.finding.Found.{Found}
-use Rattle.node_jobs.specs.Doings.{Acts, Steps}
-use Rattle.node_jobs.specs.Places.{PlaceView}
+use Rattle.node_drops.specs.Doings.{Acts, Steps}
+use Rattle.node_drops.specs.Places.{PlaceView}
 use Rattle.node_jobs.specs.Running.{DropJob, HasReadByPhase}
 
 -- the job on the list after its step: one that has ended is off

@@ -2,9 +2,9 @@
 use Rattle.std.specs.Prelude.{◌≢◌, ℕ, List}
 use Rattle.annex_base.specs.Lists.{Each}
 use Rattle.content_lock.specs.Rows.{Rows}
-use Rattle.drop_phases.specs.declared.phase.Token.{Token}
-use Rattle.drop_worker.specs.Doing.{HasToken}
-use Rattle.drop_worker.specs.Feeding.{IsOfLocal}
+use Rattle.node_drops.specs.declared.Token.{Token}
+use Rattle.node_drops.specs.Doing.{HasToken}
+use Rattle.node_drops.specs.Feeding.{IsOfLocal}
 use Rattle.node_jobs.specs.Running.{AllApart, DropJob}
 
 -- each job has its token of the table, which is a bar if any

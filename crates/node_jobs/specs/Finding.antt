@@ -10,14 +10,14 @@ use Rattle.node_model.specs.SetUp.{SetUp}
 use Rattle.node_model.specs.State.{State}
 use Rattle.node_model.specs.Turns.{slot_step}
 use Rattle.content_lock.specs.Rows.{Rows}
-use Rattle.drop_worker.specs.Feeding.{ToldAt}
-use Rattle.drop_worker.specs.Leaving.{stands_on}
-use Rattle.drop_worker.specs.States.{HaveState}
-use Rattle.node_jobs.specs.declared.feed.Feed.{Feed}
+use Rattle.node_drops.specs.Feeding.{ToldAt}
+use Rattle.node_drops.specs.Leaving.{stands_on}
+use Rattle.node_drops.specs.States.{HaveState}
+use Rattle.node_drops.specs.declared.feed.Feed.{Feed}
 use Rattle.node_jobs.specs.declared.finding.Found.{Found}
 use Rattle.node_jobs.specs.Acting.{WaitsFor}
-use Rattle.node_jobs.specs.Feeds.{IsFedAt, IsReady, SeesJob}
-use Rattle.node_jobs.specs.Places.{PlaceView}
+use Rattle.node_drops.specs.Feeds.{IsFedAt, IsReady, SeesJob}
+use Rattle.node_drops.specs.Places.{PlaceView}
 use Rattle.node_jobs.specs.Running.{DropJob, work_now}
 
 abbrev pub has_slot : ℕ → DropJob → Bool

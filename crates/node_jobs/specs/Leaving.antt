@@ -8,13 +8,13 @@ use Rattle.object_store.specs.Stores.{Contents}
 use Rattle.p2p_wire.specs.declared.message.Message.TheVariants.{Failure}
 use Rattle.run_data.specs.declared.entry.FrameView.{FrameView}
 use Rattle.content_lock.specs.Rows.{AreAfter, Rows}
-use Rattle.drop_phases.specs.declared.phase.Heard.{Heard}
-use Rattle.drop_phases.specs.declared.phase.Heard.TheVariants as heards
-use Rattle.drop_phases.specs.declared.phase.Phase.{Phase}
-use Rattle.drop_phases.specs.declared.phase.Phase.TheVariants as phases
-use Rattle.drop_phases.specs.declared.turn.Taken.TheVariants as takens
-use Rattle.drop_worker.specs.Doing.{Grows, OthersStay, contents_after}
-use Rattle.drop_worker.specs.Working.{end_in, taken_of}
+use Rattle.node_drops.specs.declared.Heard.{Heard}
+use Rattle.node_drops.specs.declared.Heard.TheVariants as heards
+use Rattle.node_drops.specs.declared.Phase.{Phase}
+use Rattle.node_drops.specs.declared.Phase.TheVariants as phases
+use Rattle.node_drops.specs.declared.Taken.TheVariants as takens
+use Rattle.node_drops.specs.Doing.{Grows, OthersStay, contents_after}
+use Rattle.node_drops.specs.Working.{end_in, taken_of}
 use Rattle.node_jobs.specs.declared.acted.Acted.{Acted}
 use Rattle.node_jobs.specs.Acting.{word_at}
 use Rattle.node_jobs.specs.Running.{DropJob, Jobs, given_of, job_at}

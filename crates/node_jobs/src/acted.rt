@@ -1,5 +1,5 @@
 //! What a job's step does.
-use drop_worker::Sends;
+use node_drops::Sends;
 use run_data::EntryKind;
 
 /// What a job's step does: an entry, and what is taken and sent with it. The last step ends the job (own).

@@ -4,12 +4,8 @@ ghost use Rattle.annex_base.specs.Lists.{Each};
 ghost use Rattle.node_jobs.specs.Finding.{Finds, FindsAtSlot, has_slot};
 ghost use Rattle.node_jobs.specs.Running.{IsDrop};
 
-use crate::feed::Feed;
-use crate::job::DropJob;
-use crate::place::{Clock, Place};
-use crate::ready::ready;
 use annex_base::NoMemory;
-use drop_worker::Time;
+use node_drops::{Clock, DropJob, Feed, Place, Time, ready};
 use node_ends::Ends;
 use std::alloc::Global;
 

@@ -2,17 +2,10 @@
 #![tactic(auto)]
 
 mod acted;
-mod acting;
-mod desk;
-mod feed;
 mod finding;
-mod job;
 mod jobs;
-mod known;
 mod laws;
 mod listing;
-mod place;
-mod ready;
 mod refused;
 mod turning;
 
@@ -22,5 +15,5 @@ pub use laws::{
     jobs_make_their_own_entries, jobs_stay, jobs_stay_where_lines_fail,
     local_drops_send_where_there_is_room, nameless_are_asked,
 };
-pub use place::{Clock, Place};
+pub use node_drops::{Clock, Heard, Parcel, ParcelBody, Phase, Place, Said, Taken, Time, Token};
 pub use refused::BeginRefused;

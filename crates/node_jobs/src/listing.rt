@@ -4,10 +4,9 @@ ghost use Rattle.node_model.specs.Slots.{free_slot, uses};
 ghost use Rattle.node_jobs.specs.Acting.{running_now};
 ghost use Rattle.node_jobs.specs.Ending.{CanEnd, OthersKeep};
 
-use crate::job::DropJob;
 use crate::refused::BeginRefused;
 use content_lock::LockTable;
-use drop_worker::end;
+use node_drops::{DropJob, end};
 
 /// How many jobs run at once.
 const SLOTS: usize = 4;

@@ -44,13 +44,13 @@ use Rattle.p2p_server.specs.Answers.{contents_after as contents_by_kind}
 use Rattle.p2p_server.specs.Talking.{session_of, share_of}
 use Rattle.node_sessions.specs.Sessions.{AreFilled, AreSessions, HaveEnds, OwnAll, owner_of}
 use Rattle.node_sessions.specs.Stored.{parts_after_taken}
-use Rattle.drop_phases.specs.declared.phase.Heard.TheVariants as heards
-use Rattle.drop_phases.specs.declared.phase.Phase.TheVariants as phases
-use Rattle.drop_phases.specs.declared.turn.Taken.TheVariants as takens
-use Rattle.drop_worker.specs.Begun.{IsLast, IsOnward}
-use Rattle.drop_worker.specs.Doing.{contents_after}
-use Rattle.drop_worker.specs.States.{HaveState}
-use Rattle.drop_worker.specs.Working.{end_in, frames_of, taken_of}
+use Rattle.node_jobs.specs.declared.Heard.TheVariants as heards
+use Rattle.node_jobs.specs.declared.Phase.TheVariants as phases
+use Rattle.node_jobs.specs.declared.Taken.TheVariants as takens
+use Rattle.node_jobs.specs.Begun.{IsLast, IsOnward}
+use Rattle.node_jobs.specs.Doing.{contents_after}
+use Rattle.node_jobs.specs.States.{HaveState}
+use Rattle.node_jobs.specs.Working.{end_in, frames_of, taken_of}
 use Rattle.node_jobs.specs.declared.acted.Acted.{Acted}
 use Rattle.node_jobs.specs.Acting.{IsKindOf, SeesActed, SeesJobs, StepsJobs, failed_by as failed_by_acted, made_by, taken_by, word_at}
 use Rattle.node_jobs.specs.Leaving.{Leaves as LeavesJobs, heard_at, phase_at}

@@ -21,10 +21,10 @@ use Rattle.node_ends.specs.Ends.{end_at, end_in as end_of_link, has_room, link_a
 use Rattle.node_ends.specs.Going.{AreAfter, IsSent}
 use Rattle.node_ends.specs.Sent.{link_may, may_send, text_of_sending}
 use Rattle.p2p_wire.specs.Messages.{text_of}
-use Rattle.drop_phases.specs.declared.turn.Parcel.{Parcel}
-use Rattle.drop_phases.specs.declared.turn.ParcelBody.{ParcelBody}
-use Rattle.drop_phases.specs.declared.turn.ParcelBody.TheVariants as bodies
-use Rattle.drop_worker.specs.Working.{end_in, frames_of, texts_of}
+use Rattle.node_jobs.specs.declared.Parcel.{Parcel}
+use Rattle.node_jobs.specs.declared.ParcelBody.{ParcelBody}
+use Rattle.node_jobs.specs.declared.ParcelBody.TheVariants as bodies
+use Rattle.node_jobs.specs.Working.{end_in, frames_of, texts_of}
 use Rattle.node_jobs.specs.Sending.{MaySend, TakesNoOpening, end_of, stood_at}
 use Rattle.node_parts.specs.Posting.{ArePlaced, IsFrame, IsPlaced, IsPosted, frames_in}
 

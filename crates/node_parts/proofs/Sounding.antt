@@ -16,9 +16,9 @@ use Rattle.node_model.specs.Rows.{option_is}
 use Rattle.node_ends.specs.Ends.{link_at}
 use Rattle.node_ends.specs.Joined.{AreCarried, AreJoined, BothPaired, StayPaired, StaysSo, end_with, link_carried}
 use Rattle.node_sessions.specs.Sessions.{AreFilled, HaveEnds, IsOther, OwnAll, end_of}
-use Rattle.drop_phases.specs.declared.phase.Token.{Token}
-use Rattle.drop_phases.specs.declared.phase.Token.TheVariants as tokens
-use Rattle.drop_worker.specs.Doing.{HasToken, share_in}
+use Rattle.node_jobs.specs.declared.Token.{Token}
+use Rattle.node_jobs.specs.declared.Token.TheVariants as tokens
+use Rattle.node_jobs.specs.Doing.{HasToken, share_in}
 use Rattle.node_jobs.specs.Acting.{with_job}
 use Rattle.node_jobs.specs.Places.{PlaceView}
 use Rattle.node_jobs.specs.Running.{IsOwn, Jobs, OwnAll as JobsOwn}

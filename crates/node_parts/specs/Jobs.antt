@@ -4,11 +4,11 @@ use Rattle.annex_base.specs.Lists.{Each, Member}
 use Rattle.run_data.specs.declared.entry.FrameView.{FrameView}
 use Rattle.p2p_wire.specs.declared.message.Message.TheVariants.{Failure}
 use Rattle.node_model.specs.Slots.{job_of}
-use Rattle.drop_phases.specs.declared.phase.Heard.TheVariants as heards
-use Rattle.drop_phases.specs.declared.phase.Phase.TheVariants as phases
-use Rattle.drop_phases.specs.declared.turn.Taken.TheVariants as takens
-use Rattle.drop_worker.specs.Doing.{Grows}
-use Rattle.drop_worker.specs.Working.{end_in, taken_of}
+use Rattle.node_jobs.specs.declared.Heard.TheVariants as heards
+use Rattle.node_jobs.specs.declared.Phase.TheVariants as phases
+use Rattle.node_jobs.specs.declared.Taken.TheVariants as takens
+use Rattle.node_jobs.specs.Doing.{Grows}
+use Rattle.node_jobs.specs.Working.{end_in, taken_of}
 use Rattle.node_jobs.specs.Acting.{word_at}
 use Rattle.node_jobs.specs.Leaving.{heard_at, phase_at}
 use Rattle.node_jobs.specs.Running.{given_of, job_at}

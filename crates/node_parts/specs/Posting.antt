@@ -20,8 +20,8 @@ use Rattle.node_ends.specs.Sent.{link_sends, text_of_sending}
 use Rattle.node_sessions.specs.Pieces.{IsPieceOf}
 use Rattle.node_sessions.specs.Sessions.{AreSessions}
 use Rattle.node_sessions.specs.Words.{word_to}
-use Rattle.drop_phases.specs.declared.turn.Parcel.{Parcel}
-use Rattle.drop_worker.specs.Working.{end_in, texts_of}
+use Rattle.node_jobs.specs.declared.Parcel.{Parcel}
+use Rattle.node_jobs.specs.Working.{end_in, texts_of}
 use Rattle.node_jobs.specs.Sending.{HasPlace, TakesNoOpening, end_of}
 use Rattle.node_parts.specs.declared.moment.Moment.{Moment}
 use Rattle.node_parts.specs.Parts.{PartsView}

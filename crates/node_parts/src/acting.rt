@@ -11,7 +11,7 @@ ghost use Rattle.node_ends.specs.Ends.{end_at, link_at, name_of, room_at};
 ghost use Rattle.node_ends.specs.Going.{AreAfter};
 ghost use Rattle.node_ends.specs.Joined.{StayPaired};
 ghost use Rattle.node_ends.specs.Sent.{IsListed, text_of_sending};
-ghost use Rattle.drop_worker.specs.Working.{end_in, frames_of};
+ghost use Rattle.node_jobs.specs.Working.{end_in, frames_of};
 ghost use Rattle.node_jobs.specs.Acting.{WaitsFor, taken_by};
 ghost use Rattle.node_jobs.specs.Sending.{SendsWell, TakesNoOpening};
 ghost use Rattle.node_sessions.specs.Pieces.{IsNoPiece};
@@ -20,9 +20,8 @@ ghost use Rattle.node_parts.specs.Posting.{ArePlaced, IsFrame, IsPlaced, IsPoste
 use crate::done::Done;
 use crate::taking::take;
 use annex_base::{EntryStamp, Items};
-use drop_worker::{Parcel, ParcelBody, Said};
 use node_ends::{EndId, Ends, Sending, ends_are_there, ends_go_on, room_permits_frames};
-use node_jobs::Acted;
+use node_jobs::{Acted, Parcel, ParcelBody, Said};
 use run_data::FrameView;
 
 /// Takes the frame that waits at the end of this slot with a peer, if there is to be one.

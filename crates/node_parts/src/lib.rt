@@ -15,4 +15,5 @@ pub use laws::{
     direct_entries_leave_rows, parts_stay, states_have_their_settings, tables_fill_as_states,
 };
 pub use moment::Moment;
+pub use node_jobs::{BeginRefused, Clock, Phase, Time, Token};
 pub use parts::Parts;

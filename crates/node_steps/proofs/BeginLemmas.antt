@@ -9,8 +9,8 @@ use Rattle.run_data.specs.declared.row.Hold.{Hold}
 use Rattle.object_store.specs.Stores.{Contents, Parts as StoredParts}
 use Rattle.content_lock.specs.Rows.{Rows, bar_at, is_filling}
 use Rattle.union_merge.specs.Branch.{Files}
-use Rattle.node_jobs.specs.Acting.{with_job}
-use Rattle.node_jobs.specs.Running.{Jobs}
+use Rattle.node_parts.specs.Acting.{with_job}
+use Rattle.node_parts.specs.Running.{Jobs}
 use Rattle.node_model.specs.After.{state_after}
 use Rattle.node_model.specs.Clocks.{ClockSet}
 use Rattle.node_model.specs.OwedLines.{OwedLine}

@@ -29,7 +29,7 @@ use Rattle.content_lock.specs.CallsMade.{MakesCalls, fewer}
 use Rattle.p2p_server.specs.declared.session.Session.{Session}
 use Rattle.node_sessions.specs.Serving.{SeesPartAt}
 use Rattle.node_sessions.specs.Sessions.{AreAllFed}
-use Rattle.node_jobs.specs.Places.{PlaceView}
+use Rattle.node_parts.specs.Places.{PlaceView}
 use Rattle.node_parts.specs.declared.done.Done.{Done}
 use Rattle.node_parts.specs.declared.moment.Moment.{Moment}
 use Rattle.node_parts.specs.Kinds.{IsQuiet}

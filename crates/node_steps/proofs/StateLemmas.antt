@@ -25,7 +25,7 @@ use Rattle.node_model.specs.Rows.{bar_after, content_after, holds_after, present
 use Rattle.node_model.specs.SessionStep.{is_filled}
 use Rattle.node_model.specs.SetUp.{SetUp}
 use Rattle.node_model.specs.State.{State}
-use Rattle.node_jobs.specs.Places.{PlaceView}
+use Rattle.node_parts.specs.Places.{PlaceView}
 use Rattle.node_sessions.specs.Sessions.{AreAllFed, IsSetUp}
 use Rattle.node_parts.specs.Direct.{IsDirect, MovesNothing, may_fail}
 use Rattle.node_parts.specs.Parts.{AreParts, PartsView}

@@ -21,11 +21,11 @@ use Rattle.run_data.specs.declared.run.RepoView.{RepoView}
 use Rattle.object_store.specs.Stores.{Contents, Parts as StoredParts}
 use Rattle.content_lock.specs.Rows.{is_filling}
 use Rattle.union_merge.specs.Branch.{Files}
-use Rattle.drop_worker.specs.Feeding.{FitsLocal}
-use Rattle.drop_worker.specs.Working.{phase_as}
-use Rattle.drop_phases.specs.declared.phase.Phase.{Phase}
-use Rattle.drop_phases.specs.declared.phase.Phase.TheVariants as phases
-use Rattle.drop_phases.specs.declared.phase.Token.{Token}
+use Rattle.node_parts.specs.Feeding.{FitsLocal}
+use Rattle.node_parts.specs.Working.{phase_as}
+use Rattle.node_parts.specs.declared.Phase.{Phase}
+use Rattle.node_parts.specs.declared.Phase.TheVariants as phases
+use Rattle.node_parts.specs.declared.Token.{Token}
 use Rattle.link_ring.specs.Ends.{EndView}
 use Rattle.node_ends.specs.Ends.{SeesEnds, hand_at, room_at}
 use Rattle.node_model.specs.After.{clock_after, state_after, states}
@@ -39,8 +39,8 @@ use Rattle.node_model.specs.Sessions.{line_in}
 use Rattle.node_model.specs.SessionStep.{is_filled}
 use Rattle.node_model.specs.SetUp.{SetUp}
 use Rattle.node_model.specs.State.{State}
-use Rattle.node_jobs.specs.Places.{PlaceView}
-use Rattle.node_jobs.specs.Running.{AllApart, AreApart, DropJob, HadPaths, IsDrop, job_at, work_now}
+use Rattle.node_parts.specs.Places.{PlaceView}
+use Rattle.node_parts.specs.Running.{AllApart, AreApart, DropJob, HadPaths, IsDrop, job_at, work_now}
 use Rattle.node_parts.specs.declared.done.Done.{Done}
 use Rattle.node_parts.specs.Kinds.{IsQuiet}
 use Rattle.node_parts.specs.Parts.{AreParts, HasContents, PartsView}

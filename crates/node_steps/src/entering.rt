@@ -7,9 +7,7 @@ ghost use Rattle.node_steps.specs.Stepping.{EntersIf, EntersStep, owes_line, pla
 ghost use Rattle.node_steps.specs.Turning.{ended_by};
 
 use annex_base::NoMemory;
-use drop_worker::Time;
-use node_jobs::Clock;
-use node_parts::{Done, Moment};
+use node_parts::{Clock, Done, Moment, Time};
 use node_past::{Ended, Past};
 use run_data::{By, EntryKind};
 

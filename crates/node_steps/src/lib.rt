@@ -6,4 +6,5 @@ mod laws;
 mod stepping;
 
 pub use laws::direct_entries_keep_parts;
+pub use node_parts::{BeginRefused, Parts, tables_fill_as_states};
 pub use stepping::{is_ready, step};

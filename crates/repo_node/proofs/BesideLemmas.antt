@@ -12,7 +12,7 @@ use Rattle.run_data.specs.declared.entry.EntryKind.TheVariants.{Compact}
 use Rattle.run_data.specs.declared.entry.LogFile.{LogFile}
 use Rattle.union_merge.specs.Branch.{Files, lines_at, with_file}
 use Rattle.union_merge.specs.LineSet.{difference}
-use Rattle.node_parts.specs.Parts.{PartsView}
+use Rattle.node_steps.specs.Parts.{PartsView}
 use Rattle.node_past.specs.declared.refused.NodeRefused.{NodeRefused}
 use Rattle.node_ledger.specs.Calls.{MeetsFull, lacks_of, shrinks_at}
 use Rattle.node_ledger.specs.Ledgers.{LedgerView, with_entry}

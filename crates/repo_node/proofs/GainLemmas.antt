@@ -18,8 +18,8 @@ use Rattle.node_ledger.specs.Debts.{with_status}
 use Rattle.node_model.specs.Sessions as sessions
 use Rattle.p2p_server.specs.declared.session.Session.{Session}
 use Rattle.p2p_server.specs.Talking.{IsFedOf, session_of}
-use Rattle.node_parts.specs.Parts.{PartsView}
-use Rattle.node_parts.specs.Sound.{AreSound}
+use Rattle.node_steps.specs.Parts.{PartsView}
+use Rattle.node_steps.specs.Sound.{AreSound}
 use Rattle.node_steps.specs.Kept.{IsFed, Stands, KeepsDirect}
 use Rattle.node_steps.specs.Nodes.{NodeView, told_of, beside}
 use Rattle.store_entries.specs.Placing.{HasPart, IsTaken, LeavesFilled}

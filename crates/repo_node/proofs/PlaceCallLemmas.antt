@@ -14,7 +14,7 @@ use Rattle.node_past.specs.Calls.{Makes, StopsIn}
 use Rattle.store_entries.specs.Calls.{is_early, parts_at, to_place, to_place_part}
 use Rattle.node_steps.specs.Nodes.{NodeView, beside}
 use Rattle.store_entries.specs.Placing.{IsTaken, HasPart}
-use Rattle.node_parts.specs.Parts.{PartsView}
+use Rattle.node_steps.specs.Parts.{PartsView}
 use Rattle.repo_node.specs.Placing.{with_content, PartAfter, without_said}
 use Rattle.node_ledger.specs.Placing.{with_gain, StopsBefore}
 use Rattle.node_ledger.specs.Refusals.{RefusesSo}

@@ -9,3 +9,4 @@ pub use Rattle.node_ledger.specs.Walks
 pub use Rattle.node_ledger.specs.Debts
 pub use Rattle.node_steps.specs.Nodes
 pub use Rattle.node_steps.specs.Turning
+pub use Rattle.node_steps.specs.Acting

@@ -2,20 +2,19 @@
 ghost use Rattle.std.specs.Prelude.{◌≡◌, ◌≤◌, ◌<◌, ◌+◌, ◌-◌, ◌^◌, Err, [], None, length, vec_len, IfOk, IsErrOf, OnErr, OnOk};
 ghost use Rattle.run_data.specs.declared.entry.Entry.{Entry};
 ghost use Rattle.run_data.specs.declared.entry.EntryKind.TheVariants.{Begin};
-ghost use Rattle.node_jobs.specs.Acting.{with_job};
+ghost use Rattle.node_steps.specs.Acting.{with_job};
 ghost use Rattle.node_model.specs.After.{state_after};
 ghost use Rattle.node_model.specs.SetUp.{SetUp};
 ghost use Rattle.node_model.specs.State.{State};
-ghost use Rattle.node_parts.specs.Parts.{AreParts};
+ghost use Rattle.node_steps.specs.Parts.{AreParts};
 ghost use Rattle.node_ledger.specs.Ledgers.{with_entry};
 ghost use Rattle.node_past.specs.Pasts.{IsReady, SamePast};
 ghost use Rattle.run_data.specs.Histories.{most_entries};
 
 use crate::node::Node;
 use annex_base::{Items, Text};
-use node_jobs::BeginRefused as JobRefused;
-use node_parts::{Parts, tables_fill_as_states};
 use node_past::Past;
+use node_steps::{BeginRefused as JobRefused, Parts, tables_fill_as_states};
 use object_store::Keeper;
 use run_data::{EntryKind, Job, JobKind};
 

@@ -4,8 +4,8 @@ use Rattle.std.proofs.lemmas.Option.{same_Some}
 use Rattle.std.proofs.lemmas.List.{length-take-le}
 use Rattle.content_lock.specs.Rows.{Rows}
 use Rattle.trust_groups.specs.View.{settings_of}
-use Rattle.drop_worker.specs.Worker.{Worker}
-use Rattle.node_jobs.specs.Calling.{JobMakes}
+use Rattle.node_drops.specs.Worker.{Worker}
+use Rattle.node_drops.specs.Calling.{JobMakes}
 use Rattle.node_jobs.specs.Changes.{Changes, input_of, job_after}
 use Rattle.node_jobs.specs.Running.{DropJob}
 use Rattle.node_jobs.proofs.Placing.{put_there, taken_there}

@@ -5,7 +5,7 @@ use Rattle.run_data.specs.declared.entry.FrameView.{FrameView}
 use Rattle.link_ring.specs.Ends.{EndView}
 use Rattle.node_ends.specs.Ends.{end_at}
 use Rattle.node_ends.specs.Joined.{StayPaired}
-use Rattle.drop_worker.specs.Working.{frames_of}
+use Rattle.node_jobs.specs.Working.{frames_of}
 use Rattle.node_jobs.specs.Sending.{TakesNoOpening}
 use Rattle.node_parts.specs.Posting.{ArePlaced, IsPosted, PostsOn}
 use Rattle.node_parts.proofs.Posting.{GoesWell}

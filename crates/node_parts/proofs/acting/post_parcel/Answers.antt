@@ -2,7 +2,7 @@
 use Rattle.std.proofs.Common.{ap}
 use Rattle.p2p_wire.specs.Messages.{text_of}
 use Rattle.run_data.specs.declared.entry.FrameText.TheVariants as texts
-use Rattle.drop_worker.specs.Working.{texts_of}
+use Rattle.node_jobs.specs.Working.{texts_of}
 use Rattle.node_parts.proofs.Posting.{last_well, parcel_well}
 use Rattle.node_parts.proofs.acting.post_parcel.Goals as goal
 

@@ -1,6 +1,6 @@
 -- A parcel whose frames have their places is for a repository that is there.
 use Rattle.std.proofs.Common.{◌<◌, arith}
-use Rattle.drop_worker.specs.Working.{end_in}
+use Rattle.node_jobs.specs.Working.{end_in}
 use Rattle.node_parts.proofs.Posting.{low_peer, parcel_there}
 use Rattle.node_parts.proofs.acting.post_to.Goals as goal
 

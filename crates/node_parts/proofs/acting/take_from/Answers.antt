@@ -1,7 +1,7 @@
 -- A frame that isn't an opening leaves the room that there was.
 use Rattle.std.proofs.Common.{[], Option, refl, sym, subst}
 use Rattle.run_data.specs.declared.entry.FrameView.{FrameView}
-use Rattle.drop_worker.specs.Working.{end_in}
+use Rattle.node_jobs.specs.Working.{end_in}
 use Rattle.node_parts.specs.Posting.{PostsNothing}
 use Rattle.node_parts.proofs.Posting.{taken_posted}
 use Rattle.node_parts.proofs.Posts.{posts_nothing}

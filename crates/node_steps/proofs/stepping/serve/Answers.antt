@@ -1,7 +1,7 @@
 -- What the proof of `stepping::serve` needs beside the tactics.
 use Rattle.std.proofs.Common.{ℕ, ◌<◌, All, subst, inl, sym, ap, ◌∙◌}
 use Rattle.node_model.specs.SessionStep.{session_step}
-use Rattle.node_jobs.specs.Running.{Jobs}
+use Rattle.node_parts.specs.Running.{Jobs}
 use Rattle.node_steps.specs.Nodes.{told_of, beside}
 use Rattle.node_past.specs.Owing.{is_owing}
 use Rattle.node_past.specs.Stored.{store_view}

@@ -7,7 +7,7 @@ use Rattle.annex_base.proofs.Options.{none_and_some}
 use Rattle.trust_groups.specs.View.{settings_of}
 use Rattle.node_model.specs.Look.{as_told}
 use Rattle.node_model.specs.Turns.{job_step}
-use Rattle.drop_worker.specs.Doing.{HasToken}
+use Rattle.node_drops.specs.Doing.{HasToken}
 use Rattle.node_jobs.specs.declared.finding.Found.{Found}
 use Rattle.node_jobs.specs.Acting.{SeesActed, SeesJobs, StepsJobs}
 use Rattle.node_jobs.specs.Finding.{Finds}

@@ -2,7 +2,7 @@
 use Rattle.std.proofs.Common.{sym, ap, subst, ◌∙◌}
 use Rattle.content_lock.specs.Rows.{Rows}
 use Rattle.content_lock.specs.Stored.{Agrees}
-use Rattle.node_parts.specs.Parts.{PartsView}
+use Rattle.node_steps.specs.Parts.{PartsView}
 use Rattle.node_past.proofs.OwedLemmas.{debts_grow, owed_grows, owed_in}
 use Rattle.node_ledger.proofs.WriteLemmas.{ledger_of}
 use Rattle.node_steps.specs.Nodes.{beside, told_of}

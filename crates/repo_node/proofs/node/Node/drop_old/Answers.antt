@@ -1,6 +1,6 @@
 -- What the proof of `node::Node::drop_old` needs beside the tactics.
 use Rattle.std.proofs.Common.{ap, subst, sym}
-use Rattle.node_parts.specs.Parts.{PartsView}
+use Rattle.node_steps.specs.Parts.{PartsView}
 use Rattle.content_lock.specs.Rows.{Rows}
 use Rattle.content_lock.specs.Stored.{Agrees}
 use Rattle.node_steps.specs.Nodes.{told_of}

@@ -2,7 +2,7 @@
 use Rattle.std.proofs.Common.{IfOk, ap, subst, sym, ◌∙◌}
 use Rattle.std.specs.Option.{ForSome}
 use Rattle.node_model.specs.Step.{step}
-use Rattle.node_parts.specs.Parts.{PartsView}
+use Rattle.node_steps.specs.Parts.{PartsView}
 use Rattle.node_steps.specs.Kept.{Stands}
 use Rattle.node_steps.specs.Nodes.{beside, told_of}
 use Rattle.node_steps.specs.Stepping.{ReadySo}

@@ -1,0 +1,38 @@
+//! A drop that runs.
+ghost use Rattle.std.specs.Prelude.{◌≡◌};
+ghost use Rattle.std.specs.Option.{option_copied};
+
+use crate::known::KnownLogs;
+use annex_base::{Items, Text};
+use drop_worker::Worker;
+use std::marker::Model;
+
+/// A drop: its worker, the paths that its key had in the tree as it began, and what it read of the logs at its first step.
+pub struct DropJob {
+    pub worker: Worker,
+    pub paths: Items<Text>,
+    pub known: Option<KnownLogs>,
+}
+
+impl Model for DropJob {
+    ghost use Rattle.node_drops.specs.Drops.{DropJob};
+
+    ghost Value = { DropJob };
+
+    ghost view = { λ j. record { worker = j.worker; paths = j.paths; known = j.known } };
+}
+
+impl DropJob {
+    pub fn worker(&self) -> &Worker
+        ensures { result.now ≡ self.now.worker }
+    {
+        &self.worker
+    }
+
+    /// What it has read, if it is past its first step.
+    pub(crate) fn known(&self) -> Option<&KnownLogs>
+        ensures { option_copied result ≡ self.now.known }
+    {
+        self.known.as_ref()
+    }
+}

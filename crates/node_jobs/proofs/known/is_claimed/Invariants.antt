@@ -1,8 +1,0 @@
--- None of those that were passed is the repository.
-use Rattle.std.proofs.Common.{◌≡◌, drop}
-use Rattle.std.specs.Prelude.{bytes_eq}
-use Rattle.std.specs.List.{list_any}
-use Rattle.node_jobs.proofs.known.is_claimed.Given as goal
-
-abbrev pub invariant-loop-claimed : goal.invariant-loop-claimed
-invariant-loop-claimed l = list_any (λ claimed. bytes_eq claimed l.id) l.claims ≡ list_any (λ claimed. bytes_eq claimed l.id) (drop l.claimed-index l.claims)

@@ -1,8 +1,0 @@
--- By both numbers.
-use Rattle.std.proofs.Common.{◌≡◌}
-use Rattle.node_model.specs.Knows.{need_by}
-use Rattle.node_jobs.proofs.known.need.Goals as goal
-
-pub returns : goal.returns
-unfolding need_by
-returns c = λ i. record { n = c.numcopies_of-n.ensures i; m = c.mincopies_of-m.ensures i }
