@@ -1,0 +1,4 @@
+-- The lemmas of this crate.
+pub mod Peers
+pub mod Hearing
+pub mod Going

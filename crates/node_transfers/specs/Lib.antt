@@ -1,0 +1,2 @@
+-- What contracts cite of a repository's transfers.
+pub mod Ready

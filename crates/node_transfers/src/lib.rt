@@ -1,0 +1,8 @@
+//! The transfers of a repository's jobs: which has a step, and what it is told in it.
+#![tactic(auto)]
+
+mod reach;
+mod readiness;
+
+pub use reach::Reach;
+pub use readiness::ready;
