@@ -1,0 +1,143 @@
+-- The step of a drop is one of its job.
+use Rattle.std.proofs.Common.{◌≡◌, ℕ, ◌≤◌, ◌<◌, Bool, true, false, List, Option, refl, sym, ap, subst, ◌∙◌}
+use Rattle.std.specs.Prelude.{IfSome}
+use Rattle.std.specs.Option.{option_map}
+use Rattle.annex_base.specs.Causes.{Rose}
+use Rattle.annex_base.specs.Settings.{Settings}
+use Rattle.run_data.specs.declared.entry.EntryKind.{EntryKind}
+use Rattle.run_data.specs.declared.entry.EntryKind.TheVariants as kinds
+use Rattle.run_data.specs.declared.job.Job.{Job}
+use Rattle.object_store.specs.Stores.{Contents, Parts}
+use Rattle.link_ring.specs.Ends.{EndView}
+use Rattle.node_model.specs.Clocks.{ClockSet}
+use Rattle.node_model.specs.Jobs.{drop_side}
+use Rattle.node_model.specs.Look.{Look, failed_in}
+use Rattle.node_model.specs.SetUp.{SetUp}
+use Rattle.node_model.specs.State.{State}
+use Rattle.content_lock.specs.CallsMade.{fewer}
+use Rattle.content_lock.specs.Rows.{Rows, is_filling}
+use Rattle.session_state.specs.Answers.{contents_after}
+use Rattle.drop_phases.specs.declared.turn.Input.{Input}
+use Rattle.drop_phases.specs.declared.turn.Output.{Output}
+use Rattle.drop_phases.specs.Begun as drops
+use Rattle.drop_phases.specs.Begun.{HasBegun, HasGone, IsLast}
+use Rattle.drop_phases.specs.Doing as doing
+use Rattle.drop_phases.specs.Doing.{HasToken, OthersStay}
+use Rattle.node_drops.specs.declared.feed.Feed.{Feed}
+use Rattle.node_drops.specs.Calling.{Failing, JobMakes}
+use Rattle.node_drops.specs.Doings as drop_steps
+use Rattle.node_drops.specs.Doings.{SeesAct, Steps}
+use Rattle.node_drops.specs.Drops.{DropJob, HasReadByPhase, IsDrop, place_reading}
+use Rattle.node_drops.specs.Places.{PlaceView}
+use Rattle.node_drops.proofs.Knowing.{can_stand}
+use Rattle.transfer_turns.specs.Steps.{Seen}
+use Rattle.node_tasks.specs.declared.acted.Output.{Output as Made}
+use Rattle.node_tasks.specs.declared.acted.Sent.TheVariants.{ByDrop}
+use Rattle.node_tasks.specs.declared.readiness.Told.TheVariants as tolds
+use Rattle.node_tasks.specs.declared.task.Task.TheVariants as tasks
+use Rattle.node_tasks.specs.Acting.{Acts, IsJudged, IsOnward, LeavesSo, Makes, SeesActs}
+use Rattle.node_tasks.specs.Telling.{frame_in}
+use Rattle.node_tasks.proofs.Seeing.{drop_state}
+
+-- what is told in a step, and what is made of it
+abbrev pub input_of : Feed → ℕ → ℕ → Input
+input_of feed time number = record { taken = feed.taken; time = time; number = number; word = feed.word }
+
+abbrev pub made_of : Output → Made
+made_of out = record { kind = out.kind; sent = ByDrop out.sends; ended = out.ended }
+
+module _ (p : PlaceView) (clock : ClockSet) (links : List EndView) (settings : Settings) (time number : ℕ) (contents : Option Contents) (known : Option Parts) (rows : Rows) (j : DropJob) (feed : Feed) where
+  seen_by : (c : Contents) (out : Output) (s : SetUp) (st : State) (k : Look) → SeesActs p clock links settings time number known rows c (tasks.Drops j) (tolds.Feed feed) (failed_in out.kind) s st k
+      → SeesAct p clock links settings (input_of feed time number) rows c j out s st k (frame_in links (tasks.Drops j) (tolds.Feed feed))
+  seen_by c out s st k sees = record {
+    job = sees.sees;
+    keeps = drop_state rows c s st sees.keeps;
+    logs = sees.logs;
+    nameless = sees.nameless;
+    number = sees.counts;
+    fails = sees.failing;
+    words = sees.words;
+    finds = sees.comes.0;
+    fed = sees.comes.1;
+  }
+
+  pub drop_acts : (j' : DropJob) (out : Output) → drop_steps.Acts p clock links settings (input_of feed time number) contents rows j j' out
+      → Acts p clock links settings time number contents known rows (tasks.Drops j) (tasks.Drops j') (tolds.Feed feed) (made_of out)
+  drop_acts j' out acts = λ c is s st k sees.
+      let so = acts c is s st k (frame_in links (tasks.Drops j) (tolds.Feed feed)) (seen_by c out s st k sees) in
+      record { made = so.0.made; next = so.0.next; read = λ going st' logs read. so.1 going st' (record { logs = logs; read = read }) }
+
+  pub drop_makes : (before after : Failing) (out : Output) → JobMakes p clock links settings (input_of feed time number) contents rows before after j out
+      → Makes p clock links settings time number contents known rows before after (tasks.Drops j) (tolds.Feed feed) (made_of out)
+  drop_makes before after out makes = λ c is s st k sees. makes c is s st k (frame_in links (tasks.Drops j) (tolds.Feed feed)) (seen_by c out s st k sees)
+
+-- ---- what it leaves
+
+-- its entries bring no content
+widened : (n : ℕ) (kind : EntryKind) → drops.IsOnward n kind → IsOnward n kind
+widened n (kinds.Gain source size key) h = absurd h
+widened n kind h = h
+
+contents_onward : (n : ℕ) (kind : EntryKind) (known : Option Contents) (parts : Option Parts) → drops.IsOnward n kind → doing.contents_after known kind ≡ contents_after known parts kind
+contents_onward n (kinds.Gain source size key) known parts h = absurd h
+contents_onward n kind known parts h = refl
+
+contents_last : (n : ℕ) (kind : EntryKind) (known : Option Contents) (parts : Option Parts) → IsLast n kind → doing.contents_after known kind ≡ contents_after known parts kind
+contents_last n (kinds.End job outcome) known parts h = refl
+contents_last n kind known parts h = absurd h
+
+judged_onward : (n : ℕ) (kind : EntryKind) (j : DropJob) → drops.IsOnward n kind → IsJudged kind (tasks.Drops j)
+judged_onward n (kinds.Gain source size key) j h = absurd h
+judged_onward n kind j h = tt
+
+judged_last : (n : ℕ) (kind : EntryKind) (j : DropJob) → IsLast n kind → IsJudged kind (tasks.Drops j)
+judged_last n (kinds.End job outcome) j h = tt
+judged_last n kind j h = absurd h
+
+module _ (p : PlaceView) (rows rows' : Rows) (k k' : Seen) (time number : ℕ) (j j' : DropJob) (feed : Feed) (out : Output) (drop : IsDrop p j)
+    (steps : Steps p k.contents k'.contents (input_of feed time number) rows rows' j.worker j'.worker out) where
+  gone : HasGone (place_reading p) j.worker j'.worker out
+  gone = steps.gone (can_stand p j.worker.phase j.known drop.stands)
+
+  stored : (b : Bool) → out.ended ≡ b → k'.contents ≡ contents_after k.contents k.parts out.kind
+  stored false going = steps.stored ∙ contents_onward j.worker.number out.kind k.contents k.parts (gone.onward going)
+  stored true ended = steps.stored ∙ contents_last j.worker.number out.kind k.contents k.parts (gone.last ended)
+
+  judged : (b : Bool) → out.ended ≡ b → IsJudged out.kind (tasks.Drops j)
+  judged false going = judged_onward j.worker.number out.kind j (gone.onward going)
+  judged true ended = judged_last j.worker.number out.kind j (gone.last ended)
+
+  pub drop_leaves : (out.ended ≡ false → HasReadByPhase p j'.worker.phase j'.known) → j'.paths ≡ j.paths → HasToken j'.worker.number j'.worker.job.key j'.worker.token rows' → OthersStay j.worker.number rows rows' → rows'.holds ≡ rows.holds
+      → k'.records ≡ k.records → k.faults ≤ k'.faults → IfSome (failed_in out.kind) (λ call. Rose k.faults k'.faults) → k'.parts ≡ k.parts → k'.files ≡ k.files → k'.failing ≡ option_map (fewer (failed_in out.kind)) k.failing
+      → LeavesSo p rows rows' k k' (tasks.Drops j) (tasks.Drops j') (tolds.Feed feed) (made_of out)
+  drop_leaves stands paths owns others holds records later cause parts files left = record {
+    number = steps.number;
+    slot = gone.slot;
+    what = steps.job;
+    heard = (steps.word, steps.heard, paths);
+    onward = λ going. widened j.worker.number out.kind (gone.onward going);
+    last = gone.last;
+    task = λ going. record {
+      side = ap (λ (what : Job). drop_side what.kind what.peer) steps.job ∙ drop.side;
+      slot = subst (λ (n : ℕ). n < 4) (sym gone.slot) drop.slot;
+      fits = steps.fits going;
+      stands = stands going;
+      unheard = λ fresh. absurd (subst (HasBegun (place_reading p)) fresh (gone.goes_on going));
+    };
+    owns = owns;
+    others = others;
+    holds = holds;
+    after = steps.after.holds;
+    bars = steps.after.bars;
+    filled = record { after = λ key. ap (λ (fs : List (List ℕ)). is_filling (record rows { fills = fs }) key) steps.after.fills; free = λ key. refl };
+    contents = stored out.ended refl;
+    parts = parts;
+    fed = λ q told was q' told'. tt;
+    judged = judged out.ended refl;
+    pieces = λ c told. tt;
+    records = records;
+    files = files;
+    later = later;
+    cause = cause;
+    left = left;
+  }

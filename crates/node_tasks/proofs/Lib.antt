@@ -1,0 +1,4 @@
+-- The lemmas of this crate.
+pub mod Seeing
+pub mod Drops
+pub mod Transfers

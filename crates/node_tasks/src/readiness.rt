@@ -1,0 +1,52 @@
+//! Whether a job has a step.
+ghost use Rattle.std.specs.Prelude.{◌≡◌, ◌*◌, length, IfOk, IfSome};
+ghost use Rattle.node_tasks.specs.Tasks.{IsTask, slot_of};
+ghost use Rattle.node_tasks.specs.Telling.{Answers, IsToldTo, takes_in};
+ghost use Rattle.node_drops.specs.Waiting.{WaitsFor};
+
+use crate::task::Task;
+use annex_base::NoMemory;
+use drop_worker::Time;
+use end_hearing::Arrival;
+use node_drops::{Clock, Feed, Place};
+use node_ends::Ends;
+use std::alloc::Global;
+
+/// What a job is told in its step.
+#[derive(Drop)]
+pub enum Told {
+    Feed(Feed),
+    Arrival(Arrival),
+}
+
+/// What the job is told, where it has a step.
+pub fn ready(
+    task: &Task,
+    alloc: Global,
+    place: &Place,
+    clock: Clock,
+    ends: &mut Ends,
+    time: Time,
+) -> Result<Option<Told>, NoMemory>
+    requires task { IsTask place.now task.now }
+    requires count { length ends.old ≡ length place.now.ids * 8 }
+    ensures answers { IfOk result (Answers place.now clock ends.old time task.now) }
+    ensures told { IfOk result (λ o. IfSome o (IsToldTo ends.old task.now)) }
+    ensures waits { IfOk result (λ o. IfSome o (λ x. WaitsFor ends.old (slot_of task.now) (takes_in x))) }
+    ensures same { ends.new ≡ ends.old }
+{
+    match task {
+        Task::Drops(job) => {
+            match node_drops::ready(job, alloc, place, clock, ends, time)? {
+                Some(feed) => Ok(Some(Told::Feed(feed))),
+                None => Ok(None),
+            }
+        }
+        Task::Transfers(worker) => {
+            match node_transfers::ready(worker, alloc, place.number(), place.count(), ends)? {
+                Some(arrival) => Ok(Some(Told::Arrival(arrival))),
+                None => Ok(None),
+            }
+        }
+    }
+}

@@ -1,0 +1,59 @@
+//! What a job does.
+ghost use Rattle.std.specs.Prelude.{◌≡◌, ◌&&◌, ℕ, List, not};
+ghost use Rattle.content_lock.specs.Rows.{is_filling};
+ghost use Rattle.drop_phases.specs.Doing.{OthersStay};
+ghost use Rattle.transfer_turns.specs.Steps.{fills_key};
+ghost use Rattle.node_tasks.specs.Tasks.{IsLocal, OwnsOf, number_of, slot_of, work_now};
+
+use content_lock::LockTable;
+use node_drops::DropJob;
+use transfer_worker::Worker;
+
+/// What a job does: it drops a content, or brings one here or to a peer.
+pub enum Task {
+    Drops(DropJob),
+    Transfers(Worker),
+}
+
+impl Task {
+    /// The job's number.
+    pub fn number(&self) -> u32
+        ensures { result ≡ number_of self.now }
+    {
+        match self {
+            Task::Drops(job) => job.worker().number(),
+            Task::Transfers(worker) => worker.number(),
+        }
+    }
+
+    /// The job's slot.
+    pub fn slot(&self) -> u32
+        ensures { result ≡ slot_of self.now }
+    {
+        match self {
+            Task::Drops(job) => job.worker().slot(),
+            Task::Transfers(worker) => worker.slot(),
+        }
+    }
+}
+
+/// Ends a job, after its last step or at a crash: what it has of the table is given up.
+pub fn end(task: Task, table: &mut LockTable)
+    requires owns { OwnsOf table.old task }
+    requires local { IsLocal task }
+    ensures fills { (key : List ℕ) → is_filling table.new key ≡ (not (fills_key (work_now task) key) && is_filling table.old key) }
+    ensures holds { table.new.holds ≡ table.old.holds }
+    ensures others { OthersStay (number_of task) table.old table.new }
+{
+    match task {
+        Task::Drops(job) => {
+            let DropJob {
+                worker,
+                paths: _,
+                known: _,
+            } = job;
+            drop_worker::end(worker, table);
+        }
+        Task::Transfers(worker) => transfer_worker::end(worker, table),
+    }
+}
