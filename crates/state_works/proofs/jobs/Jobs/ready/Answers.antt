@@ -1,0 +1,6 @@
+-- What the proof of `jobs::Jobs::ready` needs beside the tactics: the jobs stay at each exit, and have room at the last.
+-- left: at each of returns-in_err-reserve_all, -reserve, -begun, -talk and returns, the clause same is
+--   record { works = ap (map work_of) c.reserve.ensures.items ∙ c.reserve_all.ensures.same;
+--     below = λ limit all. subst (Each (λ w. IsBelow limit w.phase)) (sym c.reserve.ensures.items) (c.reserve_all.ensures.below limit all) }
+-- (without c.reserve at the first), and returns-clause-room is
+--   record { jobs = omega arith; each = subst (Each HasRoom) (sym c.reserve.ensures.items) c.in_ok-reserve_all.ensures.room }
