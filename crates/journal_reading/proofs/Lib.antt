@@ -22,3 +22,4 @@ pub mod RunLemmas
 pub mod LocalLemmas
 pub mod BadLemmas
 pub mod Samples
+pub mod TextSamples
