@@ -22,4 +22,3 @@ pub mod RunLemmas
 pub mod LocalLemmas
 pub mod BadLemmas
 pub mod Samples
-pub mod TextSamples

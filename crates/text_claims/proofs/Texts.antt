@@ -24,7 +24,6 @@ use Rattle.run_data.specs.declared.run.RepoView.{RepoView}
 use Rattle.run_text.specs.Jobs.{job_text}
 use Rattle.run_text.specs.Outcomes.{outcome_text}
 use Rattle.journal_text.specs.Journal.{entry_text, journal_of}
-use Rattle.journal_reading.specs.WellFormed.{text_of_lines}
 
 unfoldable opened : Unit {0}
 unfolding by_index digits
@@ -202,6 +201,6 @@ crashes = refl
 
 -- ---- a change of the tree
 
-grown : journal_of repos (record { place = 10; path = codes "deep/er/f.jpeg"; key = key } ∷ []) [] ≡ text_of_lines (codes "journal 0" ∷ codes "repo a 00000000-0000-4000-8000-00000000000a offset=0 version=3 locks" ∷ codes "repo b 00000000-0000-4000-8000-00000000000b offset=0 version=3 locks" ∷ codes "repo c 00000000-0000-4000-8000-00000000000c offset=0 version=3 locks" ∷ codes "path 10 14 deep/er/f.jpeg WORM-s3--abc" ∷ [])
+grown : journal_of repos (record { place = 10; path = codes "deep/er/f.jpeg"; key = key } ∷ []) [] ≡ codes "journal 0\nrepo a 00000000-0000-4000-8000-00000000000a offset=0 version=3 locks\nrepo b 00000000-0000-4000-8000-00000000000b offset=0 version=3 locks\nrepo c 00000000-0000-4000-8000-00000000000c offset=0 version=3 locks\npath 10 14 deep/er/f.jpeg WORM-s3--abc\n"
 unfolding opened
 grown = refl

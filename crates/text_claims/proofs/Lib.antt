@@ -1,0 +1,2 @@
+-- The claims of this crate.
+pub mod Texts
