@@ -1,2 +1,6 @@
 -- The claims of this crate.
+pub mod Cases
+pub mod Digests
+pub mod Keys
 pub mod Texts
+pub mod Wire
