@@ -1,46 +1,9 @@
-//! Identifiers, numbers, stamps, sources and sinks.
+//! Sources and sinks, in memory and of std.
 ghost use Rattle.std.specs.Prelude.{◌<◌, IfOk};
 
-use annex_base::{
-    Failed, NotUuid, RepoId, Sink, SliceSource, Source, Stamp, StdSink, StdSource, VecSink,
-    parse_decimal, put_number,
-};
+use annex_base::{Failed, Sink, SliceSource, Source, StdSink, StdSource, VecSink, parse_decimal};
 use std::alloc::Global;
 use table_cases::{Case, TableFault, put_bytes};
-
-/// `uuid TEXT`: the identifier as it is written.
-fn uuid(alloc: Global, case: &Case, out: &mut String) -> Result<(), TableFault> {
-    match RepoId::parse(case.text(0)) {
-        Ok(id) => put_bytes(out, alloc, &id.print()),
-        Err(NotUuid) => Ok(out.push_str("none")?),
-    }
-}
-
-/// `number TEXT`: the number as it is written.
-fn number(alloc: Global, case: &Case, out: &mut String) -> Result<(), TableFault> {
-    let Some(number) = parse_decimal(case.text(0)) else {
-        return Ok(out.push_str("none")?);
-    };
-    let mut text = Vec::new(alloc);
-    put_number(&mut text, number)?;
-    put_bytes(out, alloc, &text)
-}
-
-/// `stamp TEXT`: the nanoseconds of the stamp.
-fn stamp(case: &Case, out: &mut String) -> Result<(), TableFault> {
-    match Stamp::parse(case.text(0)) {
-        Ok(stamp) => Ok(write!(out, "{}", stamp.nanos)?),
-        Err(_) => Ok(out.push_str("none")?),
-    }
-}
-
-/// `stamp-text TEXT`: the stamp as it is written.
-fn stamp_text(alloc: Global, case: &Case, out: &mut String) -> Result<(), TableFault> {
-    let Ok(stamp) = Stamp::parse(case.text(0)) else {
-        return Err(TableFault::Wrong);
-    };
-    put_bytes(out, alloc, &stamp.print(alloc)?)
-}
 
 /// Calls a source so often, each time with room for eight bytes.
 fn put_reads<S: Source>(
@@ -103,7 +66,7 @@ fn piece_of(case: &Case) -> Result<usize, TableFault>
 }
 
 /// `source CALLS | PIECE | FAILING .. | TEXT`: what each call gives.
-fn source(alloc: Global, case: &Case, out: &mut String) -> Result<(), TableFault> {
+pub fn source(alloc: Global, case: &Case, out: &mut String) -> Result<(), TableFault> {
     let piece = piece_of(case)?;
     let failing = numbers(alloc, case.text(2))?;
     let bytes = Vec::from_slice(alloc, case.text(3))?;
@@ -112,7 +75,7 @@ fn source(alloc: Global, case: &Case, out: &mut String) -> Result<(), TableFault
 }
 
 /// `sink CALLS | PIECE | FAILING .. | TEXT`: how much each call takes, and what was taken.
-fn sink(alloc: Global, case: &Case, out: &mut String) -> Result<(), TableFault> {
+pub fn sink(alloc: Global, case: &Case, out: &mut String) -> Result<(), TableFault> {
     let piece = piece_of(case)?;
     let failing = numbers(alloc, case.text(2))?;
     let mut sink = VecSink::new(alloc, piece, failing);
@@ -121,24 +84,9 @@ fn sink(alloc: Global, case: &Case, out: &mut String) -> Result<(), TableFault> 
 }
 
 /// `standard CALLS | TEXT`: the same of a reader and of a writer of std.
-fn standard(alloc: Global, case: &Case, out: &mut String) -> Result<(), TableFault> {
+pub fn standard(alloc: Global, case: &Case, out: &mut String) -> Result<(), TableFault> {
     let calls = case.number(0)?;
     put_reads(out, alloc, &mut StdSource::new(case.text(1)), calls)?;
     let mut sink = StdSink::new(Vec::new(alloc));
     put_writes(out, &mut sink, case.text(1), calls)
-}
-
-/// Answers the case, if its question is of this module.
-pub fn answer(alloc: Global, case: &Case, out: &mut String) -> Result<bool, TableFault> {
-    match case.question() {
-        b"uuid" => uuid(alloc, case, out)?,
-        b"number" => number(alloc, case, out)?,
-        b"stamp" => stamp(case, out)?,
-        b"stamp-text" => stamp_text(alloc, case, out)?,
-        b"source" => source(alloc, case, out)?,
-        b"sink" => sink(alloc, case, out)?,
-        b"standard" => standard(alloc, case, out)?,
-        _ => return Ok(false),
-    }
-    Ok(true)
 }

@@ -1,10 +1,9 @@
 //! Streams in pieces, and where they are refused.
 
-use crate::answers::put_truth;
 use annex_base::NoMemory;
 use p2p_wire::{Decoder, Message, Next, Why};
 use std::alloc::Global;
-use table_cases::{Case, TableFault};
+use table_cases::{Case, TableFault, put_truth};
 
 fn put_bad(out: &mut String, at: u64, why: Why) -> Result<(), TableFault> {
     match why {
@@ -14,29 +13,32 @@ fn put_bad(out: &mut String, at: u64, why: Why) -> Result<(), TableFault> {
     Ok(())
 }
 
+fn put_raw(out: &mut String, raw: &[u8]) -> Result<(), TableFault> {
+    let Ok(raw) = str::from_utf8(raw) else {
+        return Err(TableFault::Wrong);
+    };
+    write!(out, "raw {raw}")?;
+    Ok(())
+}
+
+fn put_told(out: &mut String, next: &Next) -> Result<(), TableFault> {
+    match next {
+        Next::Message(_) => out.push_str("message")?,
+        Next::Data(raw) => put_raw(out, raw)?,
+        Next::NeedMore => out.push_str("more")?,
+        Next::Bad { at, why } => put_bad(out, *at, *why)?,
+    }
+    Ok(())
+}
+
 /// Tells what comes next, and whether it is the last that the piece has.
 fn put_next(decoder: &mut Decoder, out: &mut String) -> Result<bool, TableFault> {
     if !out.is_empty() {
         out.push_str(", ")?;
     }
-    match decoder.next()? {
-        Next::Message(_) => out.push_str("message")?,
-        Next::Data(raw) => {
-            let Ok(raw) = str::from_utf8(&raw) else {
-                return Err(TableFault::Wrong);
-            };
-            write!(out, "raw {raw}")?;
-        }
-        Next::NeedMore => {
-            out.push_str("more")?;
-            return Ok(true);
-        }
-        Next::Bad { at, why } => {
-            put_bad(out, at, why)?;
-            return Ok(true);
-        }
-    }
-    Ok(false)
+    let next = decoder.next()?;
+    put_told(out, &next)?;
+    Ok(matches!(&next, Next::NeedMore | Next::Bad { .. }))
 }
 
 /// Tells what a piece gives.
