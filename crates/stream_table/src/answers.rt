@@ -1,13 +1,12 @@
 //! Who answers which question.
 
 use crate::contents::{content, halves};
-use crate::dialogues::{answer, request};
 use crate::sources::{sink, source, standard};
 use crate::streams::{cut, steps, whole};
 use std::alloc::Global;
 use table_cases::{Case, Subject, TableFault};
 
-/// The cases of what comes in pieces or in turn.
+/// The cases of what comes in pieces.
 pub struct Streams;
 
 /// Answers the questions of the wire.
@@ -16,8 +15,6 @@ fn answer_wire(alloc: Global, case: &Case, out: &mut String) -> Result<(), Table
         b"steps" => steps(alloc, case, out),
         b"whole" => whole(alloc, case, out),
         b"cut" => cut(alloc, case, out),
-        b"request" => request(alloc, case, out),
-        b"answer" => answer(alloc, case, out),
         _ => Err(TableFault::Wrong),
     }
 }

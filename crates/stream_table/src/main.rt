@@ -1,10 +1,9 @@
-//! Asks the cases of a table from standard input of sources and sinks, of contents, of streams of the P2P protocol and of a
-//! client's dialogues, and prints each that is answered otherwise, and how many there are.
+//! Asks the cases of a table from standard input of sources and sinks, of contents, and of streams of the P2P protocol, and
+//! prints each that is answered otherwise, and how many there are.
 #![tactic(auto)]
 
 mod answers;
 mod contents;
-mod dialogues;
 mod sources;
 mod streams;
 
