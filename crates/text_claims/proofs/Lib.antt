@@ -1,2 +1,8 @@
 -- The claims of this crate.
+pub mod Cases
+pub mod Opened
+pub mod Logs
+pub mod Branches
+pub mod Settings
+pub mod Expressions
 pub mod Texts
