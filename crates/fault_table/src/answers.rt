@@ -9,27 +9,23 @@ use wanted_expr::Expr;
 /// The cases of globs, of expressions and of bundles.
 pub struct Faults;
 
-/// The text at this place of the case, which is UTF-8.
-fn text_of(case: &Case, at: usize) -> Result<&str, TableFault> {
-    str::from_utf8(case.text(at)).map_err(|_| TableFault::Wrong)
+/// `glob PATTERN | TEXT`: whether the text matches the pattern, which must spell a glob.
+fn glob(alloc: Global, case: &Case, out: &mut String) -> Result<(), TableFault> {
+    match Glob::spelled(alloc, case.text(0))? {
+        Some(glob) => put_truth(out, glob.matches_path(case.text(1))),
+        None => Err(TableFault::Wrong),
+    }
 }
 
-/// `glob PATTERN | TEXT`: whether the text matches, or what is wrong of the pattern.
-fn glob(alloc: Global, case: &Case, out: &mut String) -> Result<(), TableFault> {
-    let text = text_of(case, 1)?;
-    match Glob::parse(alloc, text_of(case, 0)?) {
-        Ok(glob) => put_truth(out, glob.matches(text)),
+/// `read TEXT`: what is wrong of the text, which must be no expression.
+fn read(alloc: Global, case: &Case, out: &mut String) -> Result<(), TableFault> {
+    let Ok(text) = str::from_utf8(case.text(0)) else {
+        return Err(TableFault::Wrong);
+    };
+    match Expr::parse(alloc, text) {
+        Ok(_) => Err(TableFault::Wrong),
         Err(fault) => Ok(write!(out, "{fault}")?),
     }
-}
-
-/// `read TEXT`: an expression, or what is wrong.
-fn read(alloc: Global, case: &Case, out: &mut String) -> Result<(), TableFault> {
-    match Expr::parse(alloc, text_of(case, 0)?) {
-        Ok(_) => out.push_str("an expression")?,
-        Err(fault) => write!(out, "{fault}")?,
-    }
-    Ok(())
 }
 
 /// `bundled TEXT`: the bundle of the branch whose bundle the text is, or where it goes wrong.
