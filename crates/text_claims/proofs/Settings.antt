@@ -1,6 +1,6 @@
 -- What a branch of one or two files sets, as git-annex has it or as worked out by hand (by computation). Each definition is what
 -- all calls answer that read it: those over settings that are kept, and those that read one thing of a branch.
-use Rattle.std.specs.Prelude.{◌≡◌, refl, ℕ, List, [], ◌∷◌, ◌++◌, map, codes}
+use Rattle.std.specs.Prelude.{refl, ℕ, List, [], ◌∷◌, ◌++◌, map, codes}
 use Rattle.annex_base.specs.declared.kinds.Level.{Level}
 use Rattle.annex_base.specs.declared.kinds.Level.TheVariants as levels
 use Rattle.union_merge.specs.LineSet.{set_of}
