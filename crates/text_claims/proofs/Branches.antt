@@ -134,8 +134,8 @@ replaced : bundle_text (with_file ((codes "p", []) ∷ (codes "q", codes "1" ∷
 unfolding opened
 replaced = refl
 
--- ---- the bundle of a branch in which a file got these lines, and they were taken off again. A file without lines stays a
--- file.
+-- ---- the bundle of a branch in which a file got these lines, and they were taken off again. A file without lines stays
+-- a file.
 
 abbrev taken_off : Files → List ℕ → List (List ℕ) → Files
 taken_off files path lines = let all = merged_file files path lines in with_file all path (difference (lines_at all path) lines)

@@ -1,4 +1,5 @@
--- Globs and preferred content expressions: what matches, what is read alike and what holds, worked out by hand (by computation).
+-- Globs and preferred content expressions: what matches, what is read alike and what holds, worked out by hand (by
+-- computation). Where a text goes wrong that is no expression is a case of `fault_table`.
 use Rattle.std.specs.Prelude.{◌≡◌, refl, ℕ, Bool, true, false, List, [], ◌∷◌, ◌++◌, map, replicate, Option, Some, None, option_map, is_some, codes}
 use Rattle.std.specs.List.{concat, list_all}
 use Rattle.std.specs.Str.{chars}
@@ -298,9 +299,9 @@ different : Answers formula_in different_cases
 unfolding opened
 different = refl
 
--- ---- whether an expression holds. A claimant is the number of a repository, its level and a group of it. Of the repositories
--- that are not dead 1 is in the group archive, 2 and 3 in client; the key is a SHA256E of 3,000 bytes, which is not present;
--- `standard` holds, and `groupwanted` doesn't. Without a path the size is unknown too.
+-- ---- whether an expression holds. A claimant is the number of a repository, its level and a group of it. Of the
+-- repositories that are not dead 1 is in the group archive, 2 and 3 in client; the key is a SHA256E of 3,000 bytes, which
+-- is not present; `standard` holds, and `groupwanted` doesn't. Without a path the size is unknown too.
 
 abbrev number : ℕ → List ℕ
 number n = replicate 6 0 ++ 64 ∷ 0 ∷ 128 ∷ replicate 6 0 ++ n ∷ []

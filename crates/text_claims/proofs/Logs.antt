@@ -162,7 +162,8 @@ required : Answers (entry_of kinds.Required) text_cases
 unfolding opened
 required = refl
 
--- groups of repositories; the first two as git-annex reads them, the third as it writes the line when the last group is left
+-- groups of repositories; the first two as git-annex reads them, the third as it writes the line when the last group is
+-- left
 abbrev group_cases : List (List ℕ × Option Entry)
 group_cases =
     (codes "22222222-2222-4222-8222-222222222222 timestamp=5 timestamp=1700000000s", two (Some 1700000000000000000) (values.Groups (codes "timestamp=5" ∷ [])))
@@ -287,8 +288,8 @@ written_again : map (λ c. option_map (entry_of c.0.0) c.1) written_cases ≡ ma
 unfolding opened
 written_again = refl
 
--- ---- the lines of the newest entries. At one stamp X is preferred to 0, and 0 to 1; the lesser trust; the greater number, text
--- and list of groups. Without a stamp a line is older than all others. Each topic has its own entry, in order.
+-- ---- the lines of the newest entries. At one stamp X is preferred to 0, and 0 to 1; the lesser trust; the greater number,
+-- text and list of groups. Without a stamp a line is older than all others. Each topic has its own entry, in order.
 
 abbrev newest_text : LogKind × List ℕ → List ℕ
 newest_text c = text_of (map (line_text c.0) (newest c.0 (slice_split is_newline c.1)))

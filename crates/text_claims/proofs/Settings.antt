@@ -1,5 +1,5 @@
--- What a branch of one or two files sets, as git-annex has it or as worked out by hand (by computation). Each definition is what
--- all calls answer that read it: those over settings that are kept, and those that read one thing of a branch.
+-- What a branch of one or two files sets, as git-annex has it or as worked out by hand (by computation). Each definition
+-- is what all calls answer that read it: those over settings that are kept, and those that read one thing of a branch.
 use Rattle.std.specs.Prelude.{refl, ℕ, List, [], ◌∷◌, ◌++◌, map, codes}
 use Rattle.annex_base.specs.declared.kinds.Level.{Level}
 use Rattle.annex_base.specs.declared.kinds.Level.TheVariants as levels
@@ -16,8 +16,8 @@ one_file path text = merged_file [] path (set_of text)
 abbrev lines_in : List ℕ → List ℕ → Lines
 lines_in path text = lines_at (one_file path text)
 
--- ---- the repositories that are said to have the key of a location log, beside a log of trust. The first ten logs as git-annex
--- reads them; then ties, dead repositories and lines outside the grammar
+-- ---- the repositories that are said to have the key of a location log, beside a log of trust. The first ten logs as
+-- git-annex reads them; then ties, dead repositories and lines outside the grammar
 
 abbrev claims_by : List ℕ × List ℕ → List (List ℕ)
 claims_by c = claims (lines_at (merged_file (one_file (codes "975/c65/WORM-s3--abc.log") c.0) (codes "trust.log") (set_of c.1))) (codes "WORM-s3--abc")
@@ -66,8 +66,8 @@ claimed : Answers claimed_by claimed_cases
 unfolding opened
 claimed = refl
 
--- ---- how far a repository is trusted. The first six logs as git-annex reads them; then ties, lines without a stamp, other
--- repositories
+-- ---- how far a repository is trusted. The first six logs as git-annex reads them; then ties, lines without a stamp,
+-- other repositories
 
 abbrev level_by : List ℕ → Level
 level_by text = level (lines_in (codes "trust.log") text) (repo 2)
@@ -95,7 +95,8 @@ levels_are : Answers level_by level_cases
 unfolding opened
 levels_are = refl
 
--- ---- the numbers of copies of one file: its own, and 1 for the other. The first five logs of each file as git-annex reads them
+-- ---- the numbers of copies of one file: its own, and 1 for the other. The first five logs of each file as git-annex
+-- reads them
 
 abbrev copies_by : List ℕ → List ℕ → ℕ × ℕ
 copies_by path text = (numcopies (lines_in path text), mincopies (lines_in path text))
@@ -122,8 +123,8 @@ mincopies_are : Answers (copies_by (codes "mincopies.log")) (map (λ (c : List �
 unfolding opened
 mincopies_are = refl
 
--- ---- a repository's description and its preferred and required expressions, of one file: its own text, and none for the others.
--- The first six logs of each file as git-annex reads them
+-- ---- a repository's description and its preferred and required expressions, of one file: its own text, and none for the
+-- others. The first six logs of each file as git-annex reads them
 
 abbrev texts_by : List ℕ → List ℕ → List (List ℕ)
 texts_by path text = description (lines_in path text) (repo 2) ∷ preferred (lines_in path text) (repo 2) ∷ required (lines_in path text) (repo 2) ∷ []
@@ -155,8 +156,8 @@ required_are : Answers (texts_by (codes "required-content.log")) (map (λ (c : L
 unfolding opened
 required_are = refl
 
--- ---- a repository's groups, and the repositories that are in one. The first two logs as git-annex reads them, the third as it
--- writes it when the last group is left
+-- ---- a repository's groups, and the repositories that are in one. The first two logs as git-annex reads them, the third
+-- as it writes it when the last group is left
 
 abbrev groups_by : List ℕ → List (List ℕ) × List (List ℕ)
 groups_by text = (groups (lines_in (codes "group.log") text) (repo 2), repos_in_groups (lines_in (codes "group.log") text))
