@@ -40,7 +40,7 @@ new_worker number slot what = record { number = number; slot = slot; job = what;
 
 -- the job is this one as it begins, on a key with these paths
 abbrev pub IsNewTask : ℕ → ℕ → Job → List (List ℕ) → Task → Type 0
-IsNewTask number slot what paths (tasks.Drops j) = j ≡ record { worker = new_worker number slot what; paths = paths; known = None }
+IsNewTask number slot what paths (tasks.Drops j) = (j ≡ record { worker = new_worker number slot what; paths = paths; known = None }) × (what.kind ≡ kinds.Drop)
 IsNewTask number slot what paths (tasks.Transfers w) = (work_of w ≡ new_work_of number slot what) × (what.kind ≢ kinds.Drop)
 
 abbrev pub with_task : Jobs → Task → Jobs
