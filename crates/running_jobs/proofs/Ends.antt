@@ -1,10 +1,10 @@
 -- The end of all jobs.
-use Rattle.std.proofs.Common.{◌≡◌, ◌≢◌, ℕ, ◌≤◌, Bool, true, false, List, [], ◌∷◌, ◌++◌, refl, sym, ap, subst, ◌∙◌, arith, true≢false}
+use Rattle.std.proofs.Common.{◌≡◌, ◌≢◌, ℕ, ◌≤◌, Bool, true, false, if◌then◌else◌, List, [], ◌∷◌, ◌++◌, refl, sym, ap, subst, ◌∙◌, arith, true≢false}
 use Rattle.std.specs.Prelude.{◌&&◌, ◌||◌, not}
 use Rattle.std.proofs.lemmas.List.{append-nil}
 use Rattle.annex_base.specs.Lists.{Each, Member}
 use Rattle.annex_base.proofs.Lists.{Each-both, Each-left, Each-member, Each-right, Each-weaker}
-use Rattle.content_lock.specs.Rows.{Rows, is_filling}
+use Rattle.content_lock.specs.Rows.{Rows, bar_at, is_filling}
 use Rattle.drop_phases.specs.declared.phase.Ending.{Ending}
 use Rattle.drop_phases.specs.declared.phase.Ending.TheVariants as endings
 use Rattle.drop_phases.specs.declared.phase.Phase.{Phase}
@@ -18,6 +18,7 @@ use Rattle.transfer_turns.specs.Steps.{fills_key}
 use Rattle.node_tasks.specs.declared.task.Task.{Task}
 use Rattle.node_tasks.specs.declared.task.Task.TheVariants as tasks
 use Rattle.node_tasks.specs.Tasks.{IsLocal, IsSpent, IsTask, OwnsOf, number_of, work_now}
+use Rattle.running_jobs.specs.Changes.{Settles}
 use Rattle.running_jobs.specs.Ending.{CanEnd, OthersKeep}
 use Rattle.running_jobs.specs.Running.{AllApart, AreApart, AreFilled, IsOwn, Jobs, OwnAll, fills_at}
 use Rattle.running_jobs.proofs.Among.{apart_before, apart_without}
@@ -61,6 +62,27 @@ task_local p (tasks.Transfers w) is = tt
 pub spent_local : (t : Task) → IsSpent t → IsLocal t
 spent_local (tasks.Drops j) spent = subst IsOfLocal (sym spent) tt
 spent_local (tasks.Transfers w) spent = tt
+
+-- ---- a job is settled after its step
+
+pub settles_on : (ended : Bool) (t : Task) (rows : Rows) → ended ≡ false → Settles ended t rows rows
+settles_on ended t rows is = record {
+  stays = λ e. refl;
+  holds = refl;
+  bars = λ key. refl;
+  others = λ job key token other has. has;
+  filled = λ key. sym (ap (λ (b : Bool). if b then (not (fills_key (work_now t) key) && is_filling rows key) else is_filling rows key) is);
+}
+
+pub settles_off : (ended : Bool) (t : Task) (rows rows' : Rows) → ended ≡ true → rows'.holds ≡ rows.holds → ((key : List ℕ) → bar_at rows' key ≡ bar_at rows key) → OthersStay (number_of t) rows rows'
+    → ((key : List ℕ) → is_filling rows' key ≡ (not (fills_key (work_now t) key) && is_filling rows key)) → Settles ended t rows rows'
+settles_off ended t rows rows' is holds bars others fills = record {
+  stays = λ e. absurd (true≢false (sym is ∙ e));
+  holds = holds;
+  bars = bars;
+  others = others;
+  filled = λ key. fills key ∙ sym (ap (λ (b : Bool). if b then (not (fills_key (work_now t) key) && is_filling rows key) else is_filling rows key) is);
+}
 
 -- ---- one after the other
 

@@ -7,6 +7,7 @@ pub mod Stepping
 pub mod Parting
 pub mod Owning
 pub mod Slots
+pub mod Staying
 pub mod Beginning
 pub mod Nameless
 pub mod Ends

@@ -219,20 +219,20 @@ module _ (links : List EndView) (clock : ClockSet) (settings : Settings) (jobs :
     then_behind : (mine' && behind) ≡ false
     then_behind = apart_all mine' key ch.back (Each-weaker (AreApart ch.t') (λ x. (mine' && fills_key (work_now x) key) ≡ false) (λ x h. h.fills key) ch.back back_apart')
 
-    on : (is_filling ch.mid key ≡ ((before || (mine' || behind)) || others key)) × (((before || (mine' || behind)) && others key) ≡ false)
-    on = filled_on before behind (others key) mine mine' (is_filling rows key) (is_filling ch.mid key) (are.filled key ∙ ap (λ (b : Bool). b || others key) all_is) (ap (λ (b : Bool). b && others key) (sym all_is) ∙ are.apart key)
+    keys_on : (is_filling ch.mid key ≡ ((before || (mine' || behind)) || others key)) × (((before || (mine' || behind)) && others key) ≡ false)
+    keys_on = filled_on before behind (others key) mine mine' (is_filling rows key) (is_filling ch.mid key) (are.filled key ∙ ap (λ (b : Bool). b || others key) all_is) (ap (λ (b : Bool). b && others key) (sym all_is) ∙ are.apart key)
         mine_before mine_behind (ch.leaves.filled.after key) (ch.leaves.filled.free key)
 
     keys_by : (b : Bool) → a.ended ≡ b → AreKeys rows' (ch.front ++ (task_after b ch.t' ++ ch.back))
     keys_by true ended =
-        let off = filled_off before behind (others key) mine' (is_filling ch.mid key) (is_filling rows' key) on.0 on.1 then_before then_behind
+        let off = filled_off before behind (others key) mine' (is_filling ch.mid key) (is_filling rows' key) keys_on.0 keys_on.1 then_before then_behind
         (ch.settled.filled key ∙ ap (λ (b : Bool). if b then (not mine' && is_filling ch.mid key) else is_filling ch.mid key) ended) in
         let same = fills_append ch.front ch.back key in
         (off.0 ∙ ap (λ (b : Bool). b || others key) (sym same), ap (λ (b : Bool). b && others key) same ∙ off.1)
     keys_by false going =
         let same = fills_append ch.front (ch.t' ∷ ch.back) key in (
-          (ch.settled.filled key ∙ ap (λ (b : Bool). if b then (not mine' && is_filling ch.mid key) else is_filling ch.mid key) going) ∙ (on.0 ∙ ap (λ (b : Bool). b || others key) (sym same)),
-          ap (λ (b : Bool). b && others key) same ∙ on.1,
+          (ch.settled.filled key ∙ ap (λ (b : Bool). if b then (not mine' && is_filling ch.mid key) else is_filling ch.mid key) going) ∙ (keys_on.0 ∙ ap (λ (b : Bool). b || others key) (sym same)),
+          ap (λ (b : Bool). b && others key) same ∙ keys_on.1,
         )
 
     keys_after : AreKeys rows' now

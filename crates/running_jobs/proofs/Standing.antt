@@ -8,6 +8,7 @@ use Rattle.node_model.specs.Look.{Look}
 use Rattle.node_model.specs.SetUp.{SetUp}
 use Rattle.node_model.specs.State.{State}
 use Rattle.job_frames.specs.Standing.{StandsWell}
+use Rattle.drop_phases.specs.declared.phase.Heard.{Heard}
 use Rattle.drop_phases.specs.declared.phase.Phase.{Phase}
 use Rattle.drop_phases.specs.declared.phase.Phase.TheVariants as phases
 use Rattle.drop_phases.specs.declared.phase.Token.{Token}
@@ -95,17 +96,17 @@ never_drops is = cc
 
 pub stands : (p : PlaceView) (s : SetUp) (st : State) (k : Look) (t : Task) → IsTask p t → StandsWell (turn_of s st k (work_now t))
 stands p s st k (tasks.Drops j) is = record {
-  unheard = λ unread. ap (map (λ x. (x.0, heard_as x.1))) (is.unheard (unread_drop j.worker.phase unread));
-  peer = λ puts. absurd (never_drops puts);
+  unheard = λ unread. ap (map (λ (x : ℕ × Heard). (x.0, heard_as x.1))) (is.unheard (unread_drop j.worker.phase unread));
+  peer = λ sends. absurd (never_drops sends);
   locks = λ asks. absurd (untimed_drop j.worker.phase j.worker.token is.fits asks);
 }
 stands p s st k (tasks.Transfers (Gets w)) is = record {
   unheard = λ unread. refl;
-  peer = λ puts. absurd (never_puts w.phase puts);
+  peer = λ sends. absurd (never_puts w.phase sends);
   locks = λ asks. absurd (untimed_get w.phase asks);
 }
 stands p s st k (tasks.Transfers (Puts w)) is = record {
   unheard = λ unread. refl;
-  peer = λ puts. peer_there (sight_of p.number (length p.ids) []) w.job.peer is.can.2;
+  peer = λ sends. peer_there (sight_of p.number (length p.ids) []) w.job.peer is.can.2;
   locks = λ asks. absurd (untimed_put w.phase asks);
 }

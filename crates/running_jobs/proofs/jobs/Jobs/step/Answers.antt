@@ -13,9 +13,10 @@ use Rattle.node_tasks.specs.Tasks.{OwnsOf}
 use Rattle.running_jobs.specs.declared.finding.Found.{Found}
 use Rattle.running_jobs.specs.Acting.{SeesActed, SeesJobs, StepsJobs}
 use Rattle.running_jobs.specs.Finding.{Finds}
-use Rattle.running_jobs.specs.Leaving.{Leaves, Stays}
+use Rattle.running_jobs.specs.Leaving.{Leaves}
 use Rattle.running_jobs.specs.Running.{IsOwn, Jobs, OwnAll}
 use Rattle.running_jobs.proofs.Owning.{leaves_after, owns_after}
+use Rattle.running_jobs.proofs.Staying.{owns_still, stays_as, stays_here}
 use Rattle.running_jobs.proofs.Stepping.{calls_so, none_steps, sees_each, steps_jobs}
 use Rattle.running_jobs.proofs.jobs.Jobs.step.Goals as goal
 
@@ -93,3 +94,26 @@ returns-clause-leaves g c =
     (leaves_after c.args.ends.now c.args.clock (settings_of c.args.settings.now) jobs c.args.number c.args.time c.in-Some.found c.args.table.now c.turn.new.table kept kept' c.turn.new.running.items c.in_ok-acted.acted
     (subst (λ (js : Jobs). OwnAll js c.args.table.now) (sym c.self.view_is) c.requires.owns) (rw c.find_ready.ensures.same at c.in_ok-acted.ensures.changes)
     (subst (λ (o : Option Found). Finds c.self.inside.place c.args.clock c.args.ends.now c.self.inside.running.items c.args.time o) c.in-Some.is (rw c.deref.ensures.value at c.in_ok-found.ensures.finds)))
+
+pub returns-in_err-found-clause-err : goal.returns-in_err-found-clause-err
+returns-in_err-found-clause-err g c =
+    let was = c.args.keeper.now in
+    stays_here (record { place = c.self.inside.place; running = c.self.inside.running.items; begun = c.self.inside.begun }) c.args.self.now c.args.table.now
+    (seen (g.K.Keeper.contents was) (g.K.Keeper.parts was) (g.K.Keeper.records was) (g.K.Keeper.files was) (g.K.Keeper.faults was) (g.K.Keeper.failing was)) c.self.view_is
+
+pub returns-in_err-acted-clause-err : goal.returns-in_err-acted-clause-err
+returns-in_err-acted-clause-err g c =
+    let was = c.args.keeper.now in
+    let now = c.turn.new.keeper in
+    let kept = seen (g.K.Keeper.contents was) (g.K.Keeper.parts was) (g.K.Keeper.records was) (g.K.Keeper.files was) (g.K.Keeper.faults was) (g.K.Keeper.failing was) in
+    let kept' = seen (g.K.Keeper.contents now) (g.K.Keeper.parts now) (g.K.Keeper.records now) (g.K.Keeper.files now) (g.K.Keeper.faults now) (g.K.Keeper.failing now) in
+    stays_as (record { place = c.self.inside.place; running = c.self.inside.running.items; begun = c.self.inside.begun }) c.args.self.now c.turn.new.running.items c.args.table.now c.turn.new.table kept kept' c.self.view_is c.in_err-acted.ensures.err
+
+pub returns-in_err-acted-clause-owns : goal.returns-in_err-acted-clause-owns
+returns-in_err-acted-clause-owns g c =
+    let was = c.args.keeper.now in
+    let now = c.turn.new.keeper in
+    let kept = seen (g.K.Keeper.contents was) (g.K.Keeper.parts was) (g.K.Keeper.records was) (g.K.Keeper.files was) (g.K.Keeper.faults was) (g.K.Keeper.failing was) in
+    let kept' = seen (g.K.Keeper.contents now) (g.K.Keeper.parts now) (g.K.Keeper.records now) (g.K.Keeper.files now) (g.K.Keeper.faults now) (g.K.Keeper.failing now) in
+    owns_still (record { place = c.self.inside.place; running = c.self.inside.running.items; begun = c.self.inside.begun }) c.args.self.now c.turn.new.running.items c.args.table.now c.turn.new.table kept kept' c.self.view_is c.in_err-acted.ensures.err
+    c.requires.owns
