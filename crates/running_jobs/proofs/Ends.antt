@@ -65,15 +65,6 @@ spent_local (tasks.Transfers w) spent = tt
 
 -- ---- a job is settled after its step
 
-pub settles_on : (ended : Bool) (t : Task) (rows : Rows) → ended ≡ false → Settles ended t rows rows
-settles_on ended t rows is = record {
-  stays = λ e. refl;
-  holds = refl;
-  bars = λ key. refl;
-  others = λ job key token other has. has;
-  filled = λ key. sym (ap (λ (b : Bool). if b then (not (fills_key (work_now t) key) && is_filling rows key) else is_filling rows key) is);
-}
-
 pub settles_off : (ended : Bool) (t : Task) (rows rows' : Rows) → ended ≡ true → rows'.holds ≡ rows.holds → ((key : List ℕ) → bar_at rows' key ≡ bar_at rows key) → OthersStay (number_of t) rows rows'
     → ((key : List ℕ) → is_filling rows' key ≡ (not (fills_key (work_now t) key) && is_filling rows key)) → Settles ended t rows rows'
 settles_off ended t rows rows' is holds bars others fills = record {

@@ -311,6 +311,7 @@ module _ (links : List EndView) (clock : ClockSet) (settings : Settings) (jobs :
     }
 
     pub leaves_after : Leaves links jobs (record jobs { running = now }) rows rows' kept kept' a
+    unfolding acts_of
     leaves_after = record {
       slot = in_a_slot links clock settings jobs number time found rows rows' kept kept' now a own finds ch;
       kind = kind_is links clock settings jobs number time found rows rows' kept kept' now a own finds ch;

@@ -21,8 +21,8 @@ stays_as jobs was list rows rows' k k' same s =
       failing = s.failing;
     })
 
-pub stays_here : (jobs was : Jobs) (rows : Rows) (k : Seen) → jobs ≡ was → Stays was jobs rows rows k k
-stays_here jobs was rows k same = record { jobs = same; table = refl; contents = refl; parts = refl; records = refl; files = refl; later = omega arith; failing = refl }
+pub stays_here : (jobs : Jobs) (rows : Rows) (k : Seen) → Stays jobs jobs rows rows k k
+stays_here jobs rows k = record { jobs = refl; table = refl; contents = refl; parts = refl; records = refl; files = refl; later = omega arith; failing = refl }
 
 pub owns_still : (jobs was : Jobs) (list : List Task) (rows rows' : Rows) (k k' : Seen) → jobs ≡ was → StaysSo jobs.running list rows rows' k k' → OwnAll was rows → OwnAll (record jobs { running = list }) rows'
 owns_still jobs was list rows rows' k k' same s own =

@@ -1,5 +1,5 @@
 -- The job out of the list, and back.
-use Rattle.std.proofs.Common.{◌+◌, ◌∷◌, ◌++◌, [], take, drop, sym, ap, subst, ◌∙◌, arith}
+use Rattle.std.proofs.Common.{◌+◌, ◌∷◌, ◌++◌, [], take, drop, sym, ap, subst, ◌∙◌, append_assoc, arith}
 use Rattle.std.proofs.lemmas.List.{length-take-le}
 use Rattle.annex_base.specs.Lists.{Each}
 use Rattle.annex_base.proofs.Lists.{Each-middle}
@@ -51,7 +51,7 @@ returns-in-Err-clause-err g c =
     let index = c.args.found.index in
     let left = c.in-Err.ensures.leaves in
     record {
-      list = put_there was c.take_out-task.new.running.items c.put_back.new.running.items (c.act.new.task ∷ []) index c.requires.there c.take_out-task.ensures.now c.put_back.ensures
+      list = put_there was c.take_out-task.new.running.items c.put_back.new.running.items (c.act.new.task ∷ []) index c.requires.there c.take_out-task.ensures.now (c.put_back.ensures ∙ sym (append_assoc (take index c.take_out-task.new.running.items) (c.act.new.task ∷ []) (drop index c.take_out-task.new.running.items)))
           ∙ (ap (λ (t : Task). take index was ++ t ∷ drop (index + 1) was) left.task ∙ sym c.take_out-task.ensures.was);
       table = left.table;
       contents = left.contents;

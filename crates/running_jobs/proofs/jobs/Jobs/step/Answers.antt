@@ -4,6 +4,7 @@ use Rattle.std.specs.Option.{option_map}
 use Rattle.annex_base.specs.Lists.{Each}
 use Rattle.annex_base.proofs.Lists.{Each-weaker}
 use Rattle.annex_base.proofs.Options.{none_and_some}
+use Rattle.annex_base.proofs.Results.{OnErr-always}
 use Rattle.trust_groups.specs.View.{settings_of}
 use Rattle.node_model.specs.Look.{as_told}
 use Rattle.node_model.specs.Turns.{job_step}
@@ -98,8 +99,8 @@ returns-clause-leaves g c =
 pub returns-in_err-found-clause-err : goal.returns-in_err-found-clause-err
 returns-in_err-found-clause-err g c =
     let was = c.args.keeper.now in
-    stays_here (record { place = c.self.inside.place; running = c.self.inside.running.items; begun = c.self.inside.begun }) c.args.self.now c.args.table.now
-    (seen (g.K.Keeper.contents was) (g.K.Keeper.parts was) (g.K.Keeper.records was) (g.K.Keeper.files was) (g.K.Keeper.faults was) (g.K.Keeper.failing was)) c.self.view_is
+    OnErr-always _ c.from_residual.result
+    (stays_here c.args.self.now c.args.table.now (seen (g.K.Keeper.contents was) (g.K.Keeper.parts was) (g.K.Keeper.records was) (g.K.Keeper.files was) (g.K.Keeper.faults was) (g.K.Keeper.failing was)))
 
 pub returns-in_err-acted-clause-err : goal.returns-in_err-acted-clause-err
 returns-in_err-acted-clause-err g c =
@@ -107,7 +108,8 @@ returns-in_err-acted-clause-err g c =
     let now = c.turn.new.keeper in
     let kept = seen (g.K.Keeper.contents was) (g.K.Keeper.parts was) (g.K.Keeper.records was) (g.K.Keeper.files was) (g.K.Keeper.faults was) (g.K.Keeper.failing was) in
     let kept' = seen (g.K.Keeper.contents now) (g.K.Keeper.parts now) (g.K.Keeper.records now) (g.K.Keeper.files now) (g.K.Keeper.faults now) (g.K.Keeper.failing now) in
-    stays_as (record { place = c.self.inside.place; running = c.self.inside.running.items; begun = c.self.inside.begun }) c.args.self.now c.turn.new.running.items c.args.table.now c.turn.new.table kept kept' c.self.view_is c.in_err-acted.ensures.err
+    OnErr-always _ c.from_residual-in_err-acted.result
+    (stays_as (record { place = c.self.inside.place; running = c.self.inside.running.items; begun = c.self.inside.begun }) c.args.self.now c.turn.new.running.items c.args.table.now c.turn.new.table kept kept' c.self.view_is c.in_err-acted.ensures.err)
 
 pub returns-in_err-acted-clause-owns : goal.returns-in_err-acted-clause-owns
 returns-in_err-acted-clause-owns g c =
