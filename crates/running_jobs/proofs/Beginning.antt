@@ -37,15 +37,14 @@ use Rattle.put_steps.specs.declared.phase.Phase.{Phase as PutPhase}
 use Rattle.put_steps.specs.declared.phase.Phase.TheVariants as putting
 use Rattle.put_steps.specs.Puts as puts
 use Rattle.transfer_turns.specs.Steps.{fills_key}
-use Rattle.transfer_turns.specs.Turns.{Sight}
 use Rattle.transfer_worker.specs.declared.worker.Worker.{Worker}
 use Rattle.transfer_worker.specs.declared.worker.Worker.TheVariants.{Gets, Puts}
 use Rattle.transfer_worker.specs.Workers.{CanStep, HasFill, IsFed, new_work_of, work_of}
 use Rattle.node_transfers.specs.Ready.{sight_of}
 use Rattle.node_tasks.specs.declared.task.Task.{Task}
 use Rattle.node_tasks.specs.declared.task.Task.TheVariants as tasks
-use Rattle.node_tasks.specs.Tasks.{HasReadOf, IsFedTask, IsTask, IsTransfer, OwnsOf, number_of, slot_of, work_now}
-use Rattle.running_jobs.specs.Beginning.{Begins, IsNewTask, IsOtherPeer, MayBegin, next_slot, running_now, with_task}
+use Rattle.node_tasks.specs.Tasks.{HasReadOf, IsFedTask, IsTask, OwnsOf, number_of, slot_of, work_now}
+use Rattle.running_jobs.specs.Beginning.{Begins, IsNewTask, MayBegin, next_slot, running_now}
 use Rattle.running_jobs.specs.Running.{AreAllFed, AreApart, AreFilled, AreWorks, Follows, IsOwn, Jobs as JobsView, OwnAll, fills_at, given_to}
 use Rattle.running_jobs.proofs.Among.{find_mapped, found_by_number}
 use Rattle.running_jobs.proofs.Slots.{next_small, next_unused}

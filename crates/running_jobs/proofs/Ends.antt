@@ -1,8 +1,8 @@
 -- The end of all jobs.
 use Rattle.std.proofs.Common.{◌≡◌, ◌≢◌, ℕ, ◌≤◌, Bool, true, false, if◌then◌else◌, List, [], ◌∷◌, ◌++◌, refl, sym, ap, subst, ◌∙◌, arith, true≢false}
-use Rattle.std.specs.Prelude.{◌&&◌, ◌||◌, not}
+use Rattle.std.specs.Prelude.{◌&&◌, not}
 use Rattle.std.proofs.lemmas.List.{append-nil}
-use Rattle.annex_base.specs.Lists.{Each, Member}
+use Rattle.annex_base.specs.Lists.{Member}
 use Rattle.annex_base.proofs.Lists.{Each-both, Each-left, Each-member, Each-right, Each-weaker}
 use Rattle.content_lock.specs.Rows.{Rows, bar_at, is_filling}
 use Rattle.drop_phases.specs.declared.phase.Ending.{Ending}
@@ -11,7 +11,7 @@ use Rattle.drop_phases.specs.declared.phase.Phase.{Phase}
 use Rattle.drop_phases.specs.declared.phase.Phase.TheVariants as phases
 use Rattle.drop_phases.specs.declared.phase.Token.{Token}
 use Rattle.drop_phases.specs.declared.phase.Token.TheVariants as tokens
-use Rattle.drop_phases.specs.Doing.{HasToken, IsBar, OthersStay}
+use Rattle.drop_phases.specs.Doing.{IsBar, OthersStay}
 use Rattle.drop_phases.specs.Feeding.{FitsEnding, FitsLocal, IsBare, IsOfLocal}
 use Rattle.node_drops.specs.Places.{PlaceView}
 use Rattle.transfer_turns.specs.Steps.{fills_key}

@@ -1,7 +1,6 @@
 -- What the jobs have of the table and of the store's parts after a step, and what becomes of them.
 use Rattle.std.proofs.Common.{◌≡◌, ◌≢◌, inl, inr, ℕ, ◌<◌, ◌≤◌, Bool, true, false, if◌then◌else◌, List, ◌∷◌, ◌++◌, map, Option, Some, None, refl, sym, ap, subst, ◌∙◌, arith}
 use Rattle.std.specs.Prelude.{◌&&◌, ◌||◌, not, is_some}
-use Rattle.std.specs.Option.{ForSome}
 use Rattle.annex_base.specs.Lists.{Each, Member}
 use Rattle.annex_base.specs.Settings.{Settings}
 use Rattle.annex_base.proofs.Lists.{Member-append_left, Member-append_right, Member-map, Each-append, Each-both, Each-from_members, Each-left, Each-middle, Each-right, Each-weaker, list_any_nowhere}
@@ -9,7 +8,6 @@ use Rattle.link_ring.specs.Ends.{EndView}
 use Rattle.object_store.specs.Stores.{Parts}
 use Rattle.node_model.specs.Clocks.{ClockSet}
 use Rattle.content_lock.specs.Rows.{Rows, is_filling}
-use Rattle.drop_phases.specs.declared.phase.Token.{Token}
 use Rattle.drop_phases.specs.declared.phase.Token.TheVariants as tokens
 use Rattle.drop_phases.specs.Doing.{HasToken, OthersStay}
 use Rattle.transfer_turns.specs.Steps.{Seen, fills_key}
@@ -18,7 +16,7 @@ use Rattle.node_tasks.specs.declared.readiness.Told.TheVariants as tolds
 use Rattle.node_tasks.specs.declared.task.Task.{Task}
 use Rattle.node_tasks.specs.declared.task.Task.TheVariants as tasks
 use Rattle.node_tasks.specs.Acting.{HearsOn, parts_after}
-use Rattle.node_tasks.specs.Tasks.{IsFedTask, IsTask, OwnsOf, number_of, slot_of, work_now}
+use Rattle.node_tasks.specs.Tasks.{IsFedTask, IsTask, OwnsOf, number_of, work_now}
 use Rattle.running_jobs.specs.declared.acted.Acted.{Acted}
 use Rattle.running_jobs.specs.declared.finding.Found.{Found}
 use Rattle.running_jobs.specs.Changes.{Changes, task_after}

@@ -1,5 +1,5 @@
 -- Each running job stands well as it steps.
-use Rattle.std.proofs.Common.{◌≡◌, ◌≢◌, ℕ, Bool, true, false, List, [], length, map, Option, Some, None, refl, ap, true≢false}
+use Rattle.std.proofs.Common.{◌≡◌, ℕ, false, [], length, map, Option, Some, None, refl, ap, true≢false}
 use Rattle.node_model.specs.After.{has_read}
 use Rattle.node_model.specs.Jobs as Jobs
 use Rattle.node_model.specs.Jobs.{Drops}

@@ -28,7 +28,7 @@ use Rattle.node_model.specs.State.{State}
 use Rattle.node_model.specs.Turns.{by_partner, has_room, is_awaiting, job_step, needs, slot_step, with_partner}
 use Rattle.node_ends.specs.Ends.{end_at, room_at, wait_at}
 use Rattle.object_store.specs.Stores.{Contents, Parts}
-use Rattle.content_lock.specs.CallsMade.{MakesCalls, fewer}
+use Rattle.content_lock.specs.CallsMade.{MakesCalls}
 use Rattle.content_lock.specs.Rows.{Rows}
 use Rattle.session_state.specs.declared.incoming.Incoming.{Incoming}
 use Rattle.drop_phases.specs.Begun.{IsLast}
@@ -38,7 +38,7 @@ use Rattle.drop_phases.specs.Feeding as drops
 use Rattle.drop_phases.specs.Feeding.{FeedsFrameAt}
 use Rattle.drop_phases.specs.Leaving.{stands_on}
 use Rattle.drop_phases.specs.Working.{end_in, phase_as, sight}
-use Rattle.node_drops.specs.Drops.{DropJob, HadPaths, HasRead, given, place_reading, work_now as drop_work}
+use Rattle.node_drops.specs.Drops.{DropJob, HasRead, given, place_reading, work_now as drop_work}
 use Rattle.node_drops.specs.Places.{PlaceView}
 use Rattle.node_drops.specs.Reads.{KnownLogs}
 use Rattle.node_drops.specs.Waiting.{WaitsFor, taken_by}
@@ -46,7 +46,7 @@ use Rattle.node_drops.proofs.Hearing.{awaiting}
 use Rattle.node_drops.proofs.Knowing.{read_apart, read_same}
 use Rattle.transfer_turns.specs.Parcels as transfers
 use Rattle.transfer_turns.specs.Steps.{Seen}
-use Rattle.transfer_turns.specs.Turns.{Comes, ComesFrom, Sight, awaited}
+use Rattle.transfer_turns.specs.Turns.{Comes, Sight, awaited}
 use Rattle.transfer_worker.specs.declared.worker.Worker.{Worker}
 use Rattle.transfer_worker.specs.States.{FindsAt, HasWay, HaveState}
 use Rattle.transfer_worker.specs.Workers.{SeesPart, work_of}
@@ -55,15 +55,15 @@ use Rattle.node_tasks.specs.declared.readiness.Told.{Told}
 use Rattle.node_tasks.specs.declared.readiness.Told.TheVariants as tolds
 use Rattle.node_tasks.specs.declared.task.Task.{Task}
 use Rattle.node_tasks.specs.declared.task.Task.TheVariants as tasks
-use Rattle.node_tasks.specs.Acting.{ActsSo, Failing, HearsOn, IsOnward, SeesActs, frames_in, made_by as made_of_task}
+use Rattle.node_tasks.specs.Acting.{ActsSo, HearsOn, IsOnward, SeesActs, frames_in, made_by as made_of_task}
 use Rattle.node_tasks.specs.Tasks.{HasReadOf, HearsWords, IsTask, SeesTask, number_of, slot_of, work_now}
-use Rattle.node_tasks.specs.Telling.{ComesTo, SeesPartOf, frame_in, takes_in}
+use Rattle.node_tasks.specs.Telling.{ComesTo, SeesPartOf, frame_in}
 use Rattle.running_jobs.specs.declared.acted.Acted.{Acted}
 use Rattle.running_jobs.specs.declared.finding.Found.{Found}
 use Rattle.running_jobs.specs.Acting.{IsKindOf, SeesActed, SeesActedOf, SeesJobs, SeesPartAt, StepsJobs, made_by, output_of}
 use Rattle.running_jobs.specs.Changes.{Changes, task_after}
 use Rattle.running_jobs.specs.Finding.{Finds, FindsFirst, IsFirst, IsSlotIdle, has_slot}
-use Rattle.running_jobs.specs.Running.{AllApart, AreApart, AreWorks, Follows, HadPathsOf, Jobs as JobsView, OwnAll, given_to, job_at, words_at, words_of_task}
+use Rattle.running_jobs.specs.Running.{AllApart, AreApart, AreWorks, Follows, HadPathsOf, Jobs as JobsView, OwnAll, given_to, job_at, words_of_task}
 use Rattle.running_jobs.proofs.Among.{apart_before, apart_behind, find_mapped, found_by_number, get_middle, is_left, works_off, works_on}
 use Rattle.running_jobs.proofs.EntryKinds.{last_begun, last_works, onward_begun, onward_job, onward_works}
 

@@ -11,7 +11,7 @@ use Rattle.transfer_turns.specs.Steps.{Seen}
 use Rattle.node_tasks.specs.declared.readiness.Told.{Told}
 use Rattle.node_tasks.specs.declared.task.Task.{Task}
 use Rattle.node_tasks.specs.Acting.{LeavesSo as TaskLeaves}
-use Rattle.node_tasks.specs.Tasks.{number_of, slot_of}
+use Rattle.node_tasks.specs.Tasks.{slot_of}
 use Rattle.node_tasks.specs.Telling.{IsToldTo, takes_in}
 use Rattle.running_jobs.specs.declared.acted.Acted.{Acted}
 use Rattle.running_jobs.specs.Acting.{IsKindOf, output_of}

@@ -9,13 +9,7 @@ use std::alloc::Global;
 use transfer_worker::Worker;
 
 /// The job of this number, as it begins in this slot, on a key that has these paths in the tree.
-pub(crate) fn new_task(
-    alloc: Global,
-    number: u32,
-    slot: u32,
-    what: Job,
-    paths: Items<Text>,
-) -> Task
+pub(crate) fn new_task(alloc: Global, number: u32, slot: u32, what: Job, paths: Items<Text>) -> Task
     ensures { IsNewTask number slot what paths result }
 {
     match what.kind {

@@ -73,13 +73,7 @@ pub(crate) fn turn<K: Keeper>(
 }
 
 /// Puts a job back after its step, or ends it where it has ended.
-fn settle(
-    running: &mut Vec<Task>,
-    index: usize,
-    task: Task,
-    table: &mut LockTable,
-    ended: bool,
-)
+fn settle(running: &mut Vec<Task>, index: usize, task: Task, table: &mut LockTable, ended: bool)
     requires there { index ≤ vec_len running.old }
     requires room { vec_len running.old < vec_capacity running.old }
     requires owns { OwnsOf table.old task }

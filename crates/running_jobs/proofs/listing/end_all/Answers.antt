@@ -1,5 +1,5 @@
 -- One job after the other.
-use Rattle.std.proofs.Common.{[], ◌∷◌, ◌++◌, ◌≡◌, ℕ, List, refl, sym, ap, subst, ◌∙◌}
+use Rattle.std.proofs.Common.{[], ◌∷◌, ◌++◌, List, refl, sym, ap, subst, ◌∙◌}
 use Rattle.std.specs.Prelude.{◌&&◌, not}
 use Rattle.annex_base.specs.Lists.{Each, Member}
 use Rattle.annex_base.proofs.Lists.{Each-from_members, Each-left, Each-right}

@@ -1,7 +1,5 @@
 -- One more job.
-use Rattle.std.proofs.Common.{◌<◌, length, sym, subst}
-use Rattle.run_data.specs.declared.job.JobKind.{JobKind}
-use Rattle.running_jobs.specs.Beginning.{Begins}
+use Rattle.std.proofs.Common.{◌<◌, length, subst}
 use Rattle.running_jobs.specs.Running.{Jobs}
 use Rattle.running_jobs.proofs.Beginning.{begins_so, fed_begun, filled_begun, owns_begun, works_begun}
 use Rattle.running_jobs.proofs.jobs.Jobs.begin.Goals as goal

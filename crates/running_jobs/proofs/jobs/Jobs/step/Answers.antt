@@ -1,5 +1,5 @@
 -- The first job that has a step.
-use Rattle.std.proofs.Common.{List, Option, Some, None, refl, sym, ap, subst}
+use Rattle.std.proofs.Common.{Option, Some, None, refl, sym, ap, subst}
 use Rattle.std.specs.Option.{option_map}
 use Rattle.annex_base.specs.Lists.{Each}
 use Rattle.annex_base.proofs.Lists.{Each-weaker}
@@ -9,7 +9,6 @@ use Rattle.trust_groups.specs.View.{settings_of}
 use Rattle.node_model.specs.Look.{as_told}
 use Rattle.node_model.specs.Turns.{job_step}
 use Rattle.transfer_turns.specs.Steps.{seen}
-use Rattle.node_tasks.specs.declared.task.Task.{Task}
 use Rattle.node_tasks.specs.Tasks.{OwnsOf}
 use Rattle.running_jobs.specs.declared.finding.Found.{Found}
 use Rattle.running_jobs.specs.Acting.{SeesActed, SeesJobs, StepsJobs}
