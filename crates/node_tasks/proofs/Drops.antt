@@ -124,6 +124,7 @@ module _ (p : PlaceView) (rows rows' : Rows) (k k' : Seen) (time number : ℕ) (
       stands = stands going;
       unheard = λ fresh. absurd (subst (HasBegun (place_reading p)) fresh (gone.goes_on going));
     };
+    spent = gone.ended;
     owns = owns;
     others = others;
     holds = holds;

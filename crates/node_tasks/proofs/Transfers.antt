@@ -192,6 +192,7 @@ module _ (p : PlaceView) (links : List EndView) (rows rows' : Rows) (k k' : Seen
       names = subst (λ (what : Job). IfSome what.peer (λ peer. (peer < length p.ids) × ((p.number == peer) ≡ false))) (sym keeps.leaves.what) transfer.names;
       apart = keeps.apart (names_other here (length p.ids) (work_of w).what.peer transfer.names) transfer.apart;
     };
+    spent = λ ended. tt;
     owns = (
       moved keeps.leaves.number keeps.leaves.what (keeps_token rows rows' keeps.leaves.holds bars (work_of w).number (work_of w).what.key tokens.Nothing bare),
       keeps.has,

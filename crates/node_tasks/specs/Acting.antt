@@ -40,7 +40,7 @@ use Rattle.node_tasks.specs.declared.readiness.Told.{Told}
 use Rattle.node_tasks.specs.declared.readiness.Told.TheVariants as tolds
 use Rattle.node_tasks.specs.declared.task.Task.{Task}
 use Rattle.node_tasks.specs.declared.task.Task.TheVariants as tasks
-use Rattle.node_tasks.specs.Tasks.{HasReadOf, HearsWords, IsFedTask, IsTask, OwnsOf, SeesTask, number_of, slot_of, work_now}
+use Rattle.node_tasks.specs.Tasks.{HasReadOf, HearsWords, IsFedTask, IsSpent, IsTask, OwnsOf, SeesTask, number_of, slot_of, work_now}
 use Rattle.node_tasks.specs.Telling.{ComesTo, SeesPartOf, frame_in}
 
 -- ---- what it makes
@@ -126,6 +126,7 @@ pub record LeavesSo (p : PlaceView) (rows rows' : Rows) (k k' : Seen) (t t' : Ta
   pub onward : out.ended ≡ false → IsOnward (number_of t) out.kind
   pub last : out.ended ≡ true → IsLast (number_of t) out.kind
   pub task : out.ended ≡ false → IsTask p t'
+  pub spent : out.ended ≡ true → IsSpent t'
   pub owns : OwnsOf rows' t'
   pub others : OthersStay (number_of t) rows rows'
   pub holds : rows'.holds ≡ rows.holds

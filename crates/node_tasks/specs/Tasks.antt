@@ -61,6 +61,11 @@ abbrev pub IsLocal : Task → Type 0
 IsLocal (tasks.Drops j) = IsOfLocal j.worker.token
 IsLocal (tasks.Transfers w) = Unit {0}
 
+-- it has nothing of the table that bars or holds
+abbrev pub IsSpent : Task → Type 0
+IsSpent (tasks.Drops j) = j.worker.token ≡ tokens.Nothing
+IsSpent (tasks.Transfers w) = Unit {0}
+
 -- what a transfer has taken of its part is the store's part
 abbrev pub IsFedTask : Parts → Task → Type 0
 IsFedTask q (tasks.Drops j) = Unit {0}

@@ -19,6 +19,18 @@ pub enum Told {
     Arrival(Arrival),
 }
 
+impl Told {
+    /// The peer from whose end a frame is taken, if one is.
+    pub fn takes(&self) -> Option<u32>
+        ensures { result ≡ takes_in self.now }
+    {
+        match self {
+            Told::Feed(feed) => feed.takes,
+            Told::Arrival(arrival) => arrival.takes,
+        }
+    }
+}
+
 /// What the job is told, where it has a step.
 pub fn ready(
     task: &Task,

@@ -1,9 +1,9 @@
 //! What a job does.
 ghost use Rattle.std.specs.Prelude.{◌≡◌, ◌&&◌, ℕ, List, not};
-ghost use Rattle.content_lock.specs.Rows.{is_filling};
+ghost use Rattle.content_lock.specs.Rows.{bar_at, is_filling};
 ghost use Rattle.drop_phases.specs.Doing.{OthersStay};
 ghost use Rattle.transfer_turns.specs.Steps.{fills_key};
-ghost use Rattle.node_tasks.specs.Tasks.{IsLocal, OwnsOf, number_of, slot_of, work_now};
+ghost use Rattle.node_tasks.specs.Tasks.{IsLocal, IsSpent, OwnsOf, number_of, slot_of, work_now};
 
 use content_lock::LockTable;
 use node_drops::DropJob;
@@ -43,6 +43,7 @@ pub fn end(task: Task, table: &mut LockTable)
     requires local { IsLocal task }
     ensures fills { (key : List ℕ) → is_filling table.new key ≡ (not (fills_key (work_now task) key) && is_filling table.old key) }
     ensures holds { table.new.holds ≡ table.old.holds }
+    ensures bars { IsSpent task → (key : List ℕ) → bar_at table.new key ≡ bar_at table.old key }
     ensures others { OthersStay (number_of task) table.old table.new }
 {
     match task {

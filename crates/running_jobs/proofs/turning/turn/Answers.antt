@@ -1,0 +1,63 @@
+-- The job out of the list, and back.
+use Rattle.std.proofs.Common.{◌+◌, ◌∷◌, ◌++◌, [], take, drop, sym, ap, subst, ◌∙◌, append_assoc, arith}
+use Rattle.std.proofs.lemmas.List.{length-take-le}
+use Rattle.annex_base.specs.Lists.{Each}
+use Rattle.annex_base.proofs.Lists.{Each-middle}
+use Rattle.node_tasks.specs.declared.task.Task.{Task}
+use Rattle.node_tasks.specs.Tasks.{IsTask, OwnsOf}
+use Rattle.running_jobs.specs.Changes.{task_after}
+use Rattle.running_jobs.proofs.Placing.{put_there, taken_there}
+use Rattle.running_jobs.proofs.turning.turn.Goals as goal
+
+pub act-requires-clause-task : goal.act-requires-clause-task
+act-requires-clause-task g c =
+    let was = c.args.running.now.items in
+    Each-middle (IsTask c.args.place.now) (take c.args.found.index was) c.take_out-task.result (drop (c.args.found.index + 1) was) (subst (Each (IsTask c.args.place.now)) c.take_out-task.ensures.was c.requires.tasks)
+
+pub act-requires-clause-owns : goal.act-requires-clause-owns
+act-requires-clause-owns g c =
+    let was = c.args.running.now.items in
+    Each-middle (OwnsOf c.args.table.now) (take c.args.found.index was) c.take_out-task.result (drop (c.args.found.index + 1) was) (subst (Each (OwnsOf c.args.table.now)) c.take_out-task.ensures.was c.requires.owns)
+
+pub act-requires-clause-told : goal.act-requires-clause-told
+act-requires-clause-told g c =
+    c.requires.told c.take_out-task.result (taken_there c.args.running.now.items c.args.found.index c.take_out-task.result c.requires.there c.take_out-task.ensures.was)
+
+pub returns-in-Ok-clause-changes : goal.returns-in-Ok-clause-changes
+returns-in-Ok-clause-changes g c =
+    let was = c.args.running.now.items in
+    let index = c.args.found.index in
+    record {
+      front = take index was;
+      back = drop (index + 1) was;
+      t = c.take_out-task.result;
+      t' = c.act.new.task;
+      mid = c.act.new.table;
+      place = length-take-le index was (omega (arith, c.requires.there));
+      was_is = c.take_out-task.ensures.was;
+      now_is = put_there was c.take_out-task.new.running.items c.settle.new.running.items (task_after c.in-Ok.out.ended c.act.new.task) index c.requires.there c.take_out-task.ensures.now c.settle.ensures.list;
+      job = c.number-job.ensures;
+      slot = c.slot-slot.ensures;
+      takes = c.takes-takes.ensures;
+      acts = c.in-Ok.ensures.acts;
+      makes = c.in-Ok.ensures.calls;
+      leaves = c.in-Ok.ensures.leaves;
+      settled = c.settle.ensures.settles;
+    }
+
+pub returns-in-Err-clause-err : goal.returns-in-Err-clause-err
+returns-in-Err-clause-err g c =
+    let was = c.args.running.now.items in
+    let index = c.args.found.index in
+    let left = c.in-Err.ensures.leaves in
+    record {
+      list = put_there was c.take_out-task.new.running.items c.put_back.new.running.items (c.act.new.task ∷ []) index c.requires.there c.take_out-task.ensures.now (c.put_back.ensures ∙ sym (append_assoc (take index c.take_out-task.new.running.items) (c.act.new.task ∷ []) (drop index c.take_out-task.new.running.items)))
+          ∙ (ap (λ (t : Task). take index was ++ t ∷ drop (index + 1) was) left.task ∙ sym c.take_out-task.ensures.was);
+      table = left.table;
+      contents = left.contents;
+      parts = left.parts;
+      records = left.records;
+      files = left.files;
+      later = left.later;
+      failing = left.failing;
+    }

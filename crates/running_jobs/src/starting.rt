@@ -1,0 +1,25 @@
+//! A job that begins.
+ghost use Rattle.running_jobs.specs.Beginning.{IsNewTask};
+
+use annex_base::{Items, Text};
+use node_drops::{DropJob, Worker as Drops};
+use node_tasks::Task;
+use run_data::{Job, JobKind};
+use std::alloc::Global;
+use transfer_worker::Worker;
+
+/// The job of this number, as it begins in this slot, on a key that has these paths in the tree.
+pub(crate) fn new_task(alloc: Global, number: u32, slot: u32, what: Job, paths: Items<Text>) -> Task
+    ensures { IsNewTask number slot what paths result }
+{
+    match what.kind {
+        JobKind::Drop => Task::Drops(DropJob {
+            worker: Drops::start(alloc, number, slot, what, 3),
+            paths,
+            known: None,
+        }),
+        JobKind::Get | JobKind::Copy | JobKind::MoveTo | JobKind::MoveFrom => {
+            Task::Transfers(Worker::start(alloc, number, slot, what))
+        }
+    }
+}
