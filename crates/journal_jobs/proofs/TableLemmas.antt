@@ -8,7 +8,7 @@ use Rattle.run_data.specs.declared.job.Outcome.{Outcome}
 use Rattle.script_words.specs.Marks.{behind_mark}
 use Rattle.journal_reading.specs.Forms.{Row, row_in, by_rows}
 use Rattle.journal_reading.specs.Kinds.{done_rows, drop_rows, transfer_rows, outcome_form}
-use Rattle.journal_jobs.specs.Tables.{marked, refusal_rows, refused_transfers, refused_at, ended_at}
+use Rattle.journal_jobs.specs.Tables.{marked, refusal_rows, refused_transfers, ended_at}
 use Rattle.journal_jobs.proofs.MarkLemmas.{none_after, behind_more}
 
 one_row : {A : Type 0} (o : Option (List ℕ)) (r : Row A) (rows : List (Row A))

@@ -15,11 +15,7 @@ fn is_added(line: &[u8]) -> bool
 }
 
 /// A line that was added, behind the last one: it isn't empty, and they stand in byte order.
-pub fn read_added(
-    alloc: Global,
-    last: Option<&Line>,
-    line: &[u8],
-) -> Result<Option<Line>, NoMemory>
+pub fn read_added(alloc: Global, last: Option<&Line>, line: &[u8]) -> Result<Option<Line>, NoMemory>
     ensures { IfOk result (λ o. o ≡ next_added (option_copied last.entry) line.now) }
 {
     let Some(text) = behind(line, b"| ") else {

@@ -57,7 +57,11 @@ fn read_in_epoch(alloc: Global, bytes: &[u8]) -> Result<Option<(u32, (u64, Frame
 }
 
 /// The parts of a frame behind its mark.
-fn read_parts(alloc: Global, repos: &[RepoView], bytes: &[u8]) -> Result<Option<FrameView>, NoMemory>
+fn read_parts(
+    alloc: Global,
+    repos: &[RepoView],
+    bytes: &[u8],
+) -> Result<Option<FrameView>, NoMemory>
     requires few { length repos.now < 2 ^ 32 }
     ensures { IfOk result (λ o. o ≡ option_map a_frame ((frame_parts repos.now).read bytes.now)) }
 {

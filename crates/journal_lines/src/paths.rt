@@ -32,11 +32,7 @@ fn read_path_and_key(
 }
 
 /// A path of so many bytes, and its key.
-fn read_sized_at(
-    alloc: Global,
-    size: usize,
-    bytes: &[u8],
-) -> Result<Option<(Text, Key)>, NoMemory>
+fn read_sized_at(alloc: Global, size: usize, bytes: &[u8]) -> Result<Option<(Text, Key)>, NoMemory>
     ensures { IfOk result (λ o. o ≡ sized_at is_line_path key size bytes.now) }
 {
     if size < bytes.len() {

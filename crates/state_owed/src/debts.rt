@@ -39,12 +39,7 @@ pub(crate) fn owed_line(by: By, repo: u32, there: bool, key: &Key) -> Result<Deb
 }
 
 /// The line that is owed where the repository's own copy came or went by this, if one is.
-pub(crate) fn owed_for(
-    repo: u32,
-    by: By,
-    there: bool,
-    key: &Key,
-) -> Result<Option<Debt>, NoMemory>
+pub(crate) fn owed_for(repo: u32, by: By, there: bool, key: &Key) -> Result<Option<Debt>, NoMemory>
     ensures { IfOk result (λ line. option_to_list line ≡ owed_for repo by there key.now) }
 {
     match by {

@@ -54,10 +54,7 @@ fn told_line(work: &Work, heard: &Option<Message>) -> Result<Option<Debt>, NoMem
 }
 
 /// The line that the job that talks owes by the message that it took.
-pub(crate) fn told_by(
-    job: Option<&Work>,
-    heard: &Option<Message>,
-) -> Result<Option<Debt>, NoMemory>
+pub(crate) fn told_by(job: Option<&Work>, heard: &Option<Message>) -> Result<Option<Debt>, NoMemory>
     ensures { IfOk result (λ line. option_to_list line ≡ told_by (option_map work_of (option_copied job.entry)) heard.now) }
 {
     match job {

@@ -40,7 +40,7 @@ loop-work-preserved c =
           let long = length-map first work_of in
           map-set work_of items i now ∙ ap (set (map work_of items) i) (c.move_one.ensures.work x rows ends)
           ∙ map_over_more g (map work_of first) (map work_of items) i (work_of (get_or items i d)) (omega arith) (c.loop-work.invariant.works x rows ends)
-            (sym (get_or-map work_of items i d (work_of (get_or items i d)) within));
+          (sym (get_or-map work_of items i d (work_of (get_or items i d)) within));
       rest = λ k e le. let other : k ≢ i = omega arith in get_or-set_other items i k now e other ∙ c.loop-work.invariant.rest k e (omega arith);
       small = λ limit le all.
           let P : Work → Type 0 = λ w. IsBelow (limit + 2 ^ 64) w.phase in

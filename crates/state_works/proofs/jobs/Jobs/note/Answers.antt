@@ -1,5 +1,5 @@
 -- What the proof of `jobs::Jobs::note` needs beside the tactics.
-use Rattle.std.proofs.Common.{ℕ, ◌+◌, ◌<◌, ◌^◌, ◌==◌, Bool, not, if◌then◌else◌, ◌∷◌, filter, map, sym, ap, subst, ◌∙◌, arith}
+use Rattle.std.proofs.Common.{◌≡◌, ℕ, ◌+◌, ◌<◌, ◌^◌, ◌==◌, Bool, not, if◌then◌else◌, ◌∷◌, filter, map, sym, ap, subst, ◌∙◌, arith}
 use Rattle.annex_base.specs.Lists.{Each}
 use Rattle.annex_base.proofs.Lists.{Each-filter, Each-weaker}
 use Rattle.node_model.specs.Jobs as jobs
