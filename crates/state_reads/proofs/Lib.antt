@@ -1,0 +1,6 @@
+-- The lemmas of this crate.
+mod Nameless
+mod Knowing
+mod Moves
+mod Coming
+mod Noting
