@@ -1,0 +1,5 @@
+-- The lemmas of this crate.
+mod PeerLemmas
+mod PlaceLemmas
+mod StayLemmas
+mod StateLemmas
