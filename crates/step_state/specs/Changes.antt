@@ -1,4 +1,4 @@
--- What an entry changes of a repository's jobs and of what belongs to them (own).
+-- What an entry changes of a repository's jobs and of what belongs to them; for private contracts (own).
 use Rattle.std.specs.Prelude.{◌≡◌, ℕ, List}
 use Rattle.run_data.specs.declared.entry.Entry.{Entry}
 use Rattle.node_model.specs.Clocks.{wall}
