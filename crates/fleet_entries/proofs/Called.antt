@@ -11,9 +11,9 @@ use Rattle.run_data.specs.declared.run.Run.{Run}
 use Rattle.run_model.specs.Past.{now}
 use Rattle.driver_model.specs.Driver.{Driver, DriverInput, newest_count}
 use Rattle.driver_model.specs.Scripts.{IsKnown}
-use Rattle.joined_nodes.specs.Nodes.{NodeView}
-use Rattle.joined_nodes.specs.Stored.{StoreView}
-use Rattle.joined_nodes.specs.Joined.{AtNode}
+use Rattle.fleet_model.specs.Nodes.{NodeView}
+use Rattle.fleet_model.specs.Stored.{StoreView}
+use Rattle.fleet_model.specs.Joined.{AtNode}
 use Rattle.fleet_model.specs.Fleets.{FleetView, HasCome}
 use Rattle.fleet_model.specs.Steps.{OneGoesOn, with_newest}
 use Rattle.fleet_model.specs.Turns.{IsWhole}

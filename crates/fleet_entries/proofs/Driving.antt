@@ -7,7 +7,7 @@ use Rattle.run_data.specs.declared.run.Run.{Run}
 use Rattle.driver_model.specs.Driver.{Driver, DriverInput, newest_count}
 use Rattle.driver_model.specs.Driving.{with_mark}
 use Rattle.driver_model.specs.Sound.{StaysSound}
-use Rattle.joined_nodes.specs.Stored.{StoreView}
+use Rattle.fleet_model.specs.Stored.{StoreView}
 use Rattle.fleet_model.specs.Fleets.{FleetView, HasCome}
 use Rattle.fleet_entries.specs.AtDriver.{GoesOn, IsDriven, IsDrivenWithin, IsFew}
 use Rattle.fleet_entries.proofs.Few.{fewer}

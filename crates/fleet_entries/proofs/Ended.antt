@@ -2,10 +2,10 @@
 use Rattle.std.proofs.Common.{◌≡◌, ℕ, ◌<◌, ◌⊎◌, List, Some, Result, Ok, Err, sym, subst}
 use Rattle.std.specs.Prelude.{IfErr, OnOk, slice_get, length}
 use Rattle.annex_base.proofs.Lists.{slice_get-within}
-use Rattle.joined_nodes.specs.Nodes.{NodeView}
-use Rattle.joined_nodes.specs.declared.NodeRefused.{NodeRefused}
-use Rattle.joined_nodes.specs.Joined.{AtNode}
-use Rattle.joined_nodes.specs.declared.NodeRefused.TheVariants as refusals
+use Rattle.fleet_model.specs.Nodes.{NodeView}
+use Rattle.fleet_model.specs.NodeRefused.{NodeRefused}
+use Rattle.fleet_model.specs.Joined.{AtNode}
+use Rattle.fleet_model.specs.NodeRefused.TheVariants as refusals
 
 -- what a call of a node that writes files answers
 abbrev pub Answer : Type 0

@@ -4,7 +4,7 @@ use Rattle.run_data.specs.declared.run.Run.{Run}
 use Rattle.driver_model.specs.Driver.{Driver, DriverInput}
 use Rattle.driver_model.specs.Limits.{StopsAtFull}
 use Rattle.driver_model.specs.Sound.{OnlyAdds}
-use Rattle.joined_nodes.specs.Stored.{StoreView}
+use Rattle.fleet_model.specs.Stored.{StoreView}
 use Rattle.fleet_model.specs.Fleets.{FleetView}
 use Rattle.fleet_entries.specs.AtDriver.{GoesOn, IsAtDriver}
 

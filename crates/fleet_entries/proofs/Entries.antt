@@ -10,8 +10,8 @@ use Rattle.run_data.specs.declared.run.Run.{Run}
 use Rattle.node_model.specs.Rows.{option_is}
 use Rattle.run_model.specs.Past.{Always, is_of}
 use Rattle.run_model.specs.Run.{MayBe, RunPast, set_up}
-use Rattle.joined_nodes.specs.Nodes.{NodeView}
-use Rattle.joined_nodes.specs.Stored.{StoreView}
+use Rattle.fleet_model.specs.Nodes.{NodeView}
+use Rattle.fleet_model.specs.Stored.{StoreView}
 use Rattle.driver_model.specs.Driving.{run_with}
 use Rattle.driver_model.specs.Limits.{count_of}
 use Rattle.fleet_model.specs.Fleets.{FleetView, HasCome}

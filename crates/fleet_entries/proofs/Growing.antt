@@ -5,14 +5,14 @@ use Rattle.annex_base.specs.declared.kinds.Call.{Call}
 use Rattle.annex_base.proofs.Lists.{slice_get-within}
 use Rattle.run_data.specs.declared.entry.EntryKind.{EntryKind}
 use Rattle.union_merge.specs.Branch.{Files}
-use Rattle.joined_nodes.specs.Nodes.{NodeView, with_entry}
-use Rattle.joined_nodes.specs.Refusals.{RefusesSo}
-use Rattle.joined_nodes.specs.Stored.{StoreView}
-use Rattle.joined_nodes.specs.declared.NodeRefused.{NodeRefused}
-use Rattle.joined_nodes.specs.Joined.{AtNode}
+use Rattle.fleet_model.specs.Nodes.{NodeView, with_entry}
+use Rattle.fleet_model.specs.Refusals.{RefusesSo}
+use Rattle.fleet_model.specs.Stored.{StoreView}
+use Rattle.fleet_model.specs.NodeRefused.{NodeRefused}
+use Rattle.fleet_model.specs.Joined.{AtNode}
 use Rattle.fleet_model.specs.Fleets.{FleetView}
 use Rattle.fleet_entries.specs.Telling.{Raises}
-use Rattle.joined_nodes.specs.declared.NodeRefused.TheVariants as refusals
+use Rattle.fleet_model.specs.NodeRefused.TheVariants as refusals
 
 -- it has as many entries, or more
 abbrev pub Grows : {K : Type 0} → NodeView K → NodeView K → Type 0

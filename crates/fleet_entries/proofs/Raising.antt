@@ -3,11 +3,11 @@ use Rattle.std.proofs.Common.{◌≡◌, ◌≢◌, ℕ, ◌<◌, ◌^◌, List,
 use Rattle.std.specs.Prelude.{max, reverse, slice_get}
 use Rattle.std.proofs.lemmas.Option.{same_Some}
 use Rattle.run_data.specs.declared.run.Run.{Run}
-use Rattle.joined_nodes.specs.Nodes.{NodeView}
-use Rattle.joined_nodes.specs.Stored.{StoreView}
+use Rattle.fleet_model.specs.Nodes.{NodeView}
+use Rattle.fleet_model.specs.Stored.{StoreView}
 use Rattle.run_model.specs.Past.{now}
 use Rattle.driver_model.specs.Driver.{newest_count}
-use Rattle.joined_nodes.specs.Joined.{AtNode}
+use Rattle.fleet_model.specs.Joined.{AtNode}
 use Rattle.fleet_model.specs.Fleets.{FleetView}
 use Rattle.fleet_model.specs.Turns.{IsWhole}
 use Rattle.fleet_entries.specs.Telling.{Raises}

@@ -10,8 +10,8 @@ use Rattle.run_model.specs.Run.{IsRun}
 use Rattle.driver_model.specs.Driver.{Driver, DriverInput}
 use Rattle.driver_model.specs.Limits.{StopsAtFull}
 use Rattle.driver_model.specs.Sound.{OnlyAdds}
-use Rattle.joined_nodes.specs.Nodes.{NodeView}
-use Rattle.joined_nodes.specs.Stored.{StoreView}
+use Rattle.fleet_model.specs.Nodes.{NodeView}
+use Rattle.fleet_model.specs.Stored.{StoreView}
 use Rattle.fleet_model.specs.Fleets.{FleetView}
 use Rattle.fleet_entries.specs.AtDriver.{EndsAtFull, GoesOn, IsAtDriver, IsStartOf, StopsWithin, WaitsForRoom}
 use Rattle.fleet_entries.specs.Telling.{AreFew, EndsShort, StandsWithin, Tells, TellsSome}

@@ -5,7 +5,7 @@ use Rattle.run_data.specs.declared.entry.Entry.{Entry}
 use Rattle.run_data.specs.declared.run.Run.{Run}
 use Rattle.run_data.specs.declared.run.TreeMark.{TreeMark}
 use Rattle.run_model.specs.Run.{IsRun}
-use Rattle.joined_nodes.specs.Stored.{StoreView}
+use Rattle.fleet_model.specs.Stored.{StoreView}
 use Rattle.driver_model.specs.Driver.{Driver, DriverInput, newest_count}
 use Rattle.driver_model.specs.Limits.{StopsAtFull, count_of, within_limit}
 use Rattle.fleet_model.specs.Fleets.{FleetView, HasCome}

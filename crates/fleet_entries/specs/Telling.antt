@@ -6,9 +6,9 @@ use Rattle.run_data.specs.declared.entry.Entry.{Entry}
 use Rattle.run_model.specs.Past.{now}
 use Rattle.run_model.specs.Run.{IsRun}
 use Rattle.driver_model.specs.Driver.{newest_count}
-use Rattle.joined_nodes.specs.Nodes.{NodeView}
-use Rattle.joined_nodes.specs.Stored.{StoreView}
-use Rattle.joined_nodes.specs.Joined.{AtNode}
+use Rattle.fleet_model.specs.Nodes.{NodeView}
+use Rattle.fleet_model.specs.Stored.{StoreView}
+use Rattle.fleet_model.specs.Joined.{AtNode}
 use Rattle.fleet_model.specs.Fleets.{FleetView}
 use Rattle.fleet_model.specs.Turns.{IsWhole}
 

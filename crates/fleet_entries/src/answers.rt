@@ -1,14 +1,14 @@
 //! What the answers of the nodes are to a line.
 ghost use Rattle.std.specs.Prelude.{◌≡◌, ◌⊎◌, ◌<◌, ◌≤◌, ℕ, length, slice_get, Some, Err, Ok, OnErr, OnOk};
-ghost use Rattle.joined_nodes.specs.Nodes.{NodeView};
-ghost use Rattle.joined_nodes.specs.Stored.{store_view};
+ghost use Rattle.fleet_model.specs.Nodes.{NodeView};
+ghost use Rattle.fleet_model.specs.Stored.{store_view};
 ghost use Rattle.fleet_entries.specs.AtDriver.{OnlyAddsEntries};
 ghost use Rattle.fleet_entries.specs.Telling.{AreFew, EndsShort, Tells};
 
 use crate::running::Running;
 use crate::stop::FleetStop;
+use fleet_model::{BeginRefused, NodeRefused, Turn};
 use growth_laws::runs_grow;
-use joined_nodes::{BeginRefused, NodeRefused, Turn};
 use object_store::FailingKeeper;
 
 impl<K: FailingKeeper> Running<K> {

@@ -6,9 +6,8 @@ mod running;
 mod stop;
 
 pub use fleet_model::{
-    fleets_begin, fleets_do_lines, fleets_rest, fleets_settle, fleets_stop_at_full_histories,
-    fleets_take_turns,
+    BeginRefused, NodeRefused, Nodes, Turn, fleets_begin, fleets_do_lines, fleets_rest,
+    fleets_settle, fleets_stop_at_full_histories, fleets_take_turns,
 };
-pub use joined_nodes::{BeginRefused, NodeRefused, Nodes, Turn};
 pub use running::Running;
 pub use stop::FleetStop;

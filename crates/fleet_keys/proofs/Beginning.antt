@@ -1,6 +1,6 @@
 -- A job that begins at a node: a fleet goes on as the driver does.
 use Rattle.std.proofs.Common.{◌≡◌, ℕ, ◌+◌, ◌<◌, ◌≤◌, ◌^◌, ◌⊎◌, false, List, [], Option, Some, None, Result, Ok, Err, inl, inr, length, refl, sym, ap, ◌∙◌, subst}
-use Rattle.std.specs.Prelude.{IfOk, IsErrOf, OnErr}
+use Rattle.std.specs.Prelude.{IfOk, IsErrOf, OnErr, OnOk}
 use Rattle.std.proofs.lemmas.List.{length-reverse}
 use Rattle.annex_key.specs.Tree.{paths_of}
 use Rattle.run_data.specs.declared.job.JobKind.{JobKind}
@@ -12,7 +12,7 @@ use Rattle.driver_model.specs.Driver.{Driver, DriverInput, set_up_of}
 use Rattle.driver_model.specs.Scripts.{IsKnown}
 use Rattle.driver_model.specs.ScriptSteps.{begins}
 use Rattle.driver_model.specs.Sound.{StaysSound}
-use Rattle.fleet_entries.specs.Acting.{with_job}
+use Rattle.fleet_entries.specs.Beginning.{Begins, MayBegin}
 use Rattle.fleet_entries.specs.Parts.{AreParts, PartsView}
 use Rattle.node_model.specs.OwedLines.{OwedLine}
 use Rattle.node_model.specs.SetUp.{SetUp}
@@ -38,7 +38,7 @@ use Rattle.fleet_entries.proofs.Called.{IsCalled, goes_on}
 abbrev pub JobLaw : {K : Type 0} → (K → StoreView) → Type 0
 JobLaw {K} tells = (g : DriverInput) (d : Driver) (r : ℕ) (n m : NodeView K) (was after : FleetView K) (number : ℕ) (job : Job) (paths : List (List ℕ)) → HasCome tells g d was → OneGoesOn r n m was after → paths ≡ paths_of (tree_at d.tree (length d.past)) job.key
     → AreParts (set_up_of g d r) (state_of (set_up_of g d r) n.history) n.parts → number ≡ n.parts.jobs.begun + 1 → length n.parts.jobs.running < 4
-    → m ≡ record (with_entry (with_newest d n) n.keeper n.branch (kinds.Begin number job) []) { parts = record n.parts { jobs = with_job n.parts.jobs job paths } }
+    → Begins n.parts.jobs job paths m.parts.jobs → m ≡ record (with_entry (with_newest d n) n.keeper n.branch (kinds.Begin number job) []) { parts = record n.parts { jobs = m.parts.jobs } }
     → m.time ≤ 1000000000000 → m.count < 2 ^ 62 → StaysSound g d (begins r job d) → HasCome tells g (begins r job d) after
 
 -- the law of one that didn't
@@ -50,7 +50,8 @@ NoSlotLaw {K} tells = (g : DriverInput) (d : Driver) (r : ℕ) (n m : NodeView K
 -- what a call of a node that begins a job makes of it, where it answers so
 pub record BeginsJob {K : Type 0} (job : Job) (paths : List (List ℕ)) (done : Result ℕ BeginRefused) (n m : NodeView K) : Type 0 where
   pub number : IfOk done (λ number. number ≡ n.parts.jobs.begun + 1)
-  pub ok : IfOk done (λ number. m ≡ record (with_entry n n.keeper n.branch (kinds.Begin number job) []) { parts = record n.parts { jobs = with_job n.parts.jobs job paths } })
+  pub jobs : OnOk done (Begins n.parts.jobs job paths m.parts.jobs)
+  pub ok : IfOk done (λ number. m ≡ record (with_entry n n.keeper n.branch (kinds.Begin number job) []) { parts = record n.parts { jobs = m.parts.jobs } })
   pub slot : IsErrOf done refusals.NoSlot → 4 ≤ length n.parts.jobs.running
   pub free : (done ≡ Err refusals.NoSlot → ⊥) → length n.parts.jobs.running < 4
   pub err : OnErr done (m ≡ n)
@@ -87,7 +88,8 @@ begins_go {K} tells r was up after job paths done are law no_slot there call (in
     let n : NodeView K = with_newest d s.before in
     law g d r s.before s.left was after e.0 job paths come s.goes (are ∙ paths_now tells g d was job.key come) (has_parts tells g d r s.before (come.each r s.before s.goes.before) s.whole)
     (subst (λ (a : Result ℕ BeginRefused). IfOk a (λ number. number ≡ n.parts.jobs.begun + 1)) e.1 s.holds.number) (s.holds.free (begun_or_not done e.0 e.1))
-    (subst (λ (a : Result ℕ BeginRefused). IfOk a (λ number. s.left ≡ record (with_entry n n.keeper n.branch (kinds.Begin number job) []) { parts = record n.parts { jobs = with_job n.parts.jobs job paths } })) e.1 s.holds.ok)
+    (subst (λ (a : Result ℕ BeginRefused). OnOk a (Begins n.parts.jobs job paths s.left.parts.jobs)) e.1 s.holds.jobs)
+    (subst (λ (a : Result ℕ BeginRefused). IfOk a (λ number. s.left ≡ record (with_entry n n.keeper n.branch (kinds.Begin number job) []) { parts = record n.parts { jobs = s.left.parts.jobs } })) e.1 s.holds.ok)
     s.early s.counted (sound g d known))
 begins_go {K} tells r was up after job paths done are law no_slot there call (inr e) sound =
     goes_on tells (λ g d. begins r job d) r was up after (BeginsJob job paths done) there call
@@ -106,3 +108,9 @@ begins_go_so {K} tells r was up after job job' paths done same are law no_slot t
 -- a drop of its own copy has no peer
 pub local_peer : (s : SetUp) (kind : JobKind) (peer : Option ℕ) → kind ≡ job_kinds.Drop → peer ≡ None → IsPeer s kind peer
 local_peer s kind peer is_drop is_none = subst (λ (o : Option ℕ). IsPeer s kind o) (sym is_none) (subst (λ (k : JobKind). needs_peer k ≡ false) (sym is_drop) refl)
+
+-- and may begin at any repository
+pub local_begins : (number : ℕ) (ids : List (List ℕ)) (what job : Job) → job ≡ what → what.kind ≡ job_kinds.Drop → what.peer ≡ None → MayBegin (record { number = number; ids = ids }) job.kind job.peer
+local_begins number ids what job same is_drop is_none =
+    subst (λ (o : Option ℕ). MayBegin (record { number = number; ids = ids }) job.kind o) (sym (ap (λ (j : Job). j.peer) same ∙ is_none))
+    (subst (λ (k : JobKind). MayBegin (record { number = number; ids = ids }) k None) (sym (ap (λ (j : Job). j.kind) same ∙ is_drop)) tt)

@@ -19,7 +19,7 @@ use Rattle.node_model.specs.Sessions.{Doing, Session, Takes, Took}
 use Rattle.node_model.specs.SessionStep.{Here, Reply, by_of, on_bytes, on_frame, on_message, on_text, failure_line, silent_reply, tries, unexpected_reply, valid_answer}
 use Rattle.driver_model.specs.Turning.{is_valid}
 use Rattle.node_sessions.specs.Stored.{is_verdict, parts_after_frame}
-use Rattle.fleet_model.proofs.DropTakes.{LeavesParts}
+use Rattle.fleet_model.proofs.JobsStored.{LeavesParts}
 
 -- the store's parts stay, by an entry of this kind
 abbrev pub Stays : Doing → FrameText → EntryKind → Type 0

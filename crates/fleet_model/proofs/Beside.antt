@@ -21,7 +21,7 @@ use Rattle.driver_model.specs.ScriptSteps.{enters, waits, will_fail}
 use Rattle.driver_model.specs.Sound.{StaysSound}
 use Rattle.link_flights.specs.Flights.{IsEndIn}
 use Rattle.link_flights.specs.Words.{AreWorded}
-use Rattle.node_jobs.specs.Running.{given_of, words_at}
+use Rattle.joined_nodes.specs.Running.{given_of, words_at}
 use Rattle.node_ends.specs.Ends.{link_at}
 use Rattle.joined_nodes.specs.Nodes.{NodeView}
 use Rattle.fleet_model.specs.Fleets.{FleetView, HasCome, HasGiven, IsNodeOf, links_at}
@@ -33,7 +33,7 @@ use Rattle.fleet_model.proofs.Pathing.{given_entered}
 -- ---- a driver that differs in what no node has
 
 -- the nodes stay the driver's
-beside : {K : Type 0} (tells : K → StoreView) (g : DriverInput) (d d' : Driver) (r : ℕ) (n : NodeView K) → d' ≡ record d { tree = d'.tree; marks = d'.marks } → ((x : ℕ × List (List ℕ)) → HasGiven d r x → HasGiven d' r x) → IsNodeOf tells g d r n → IsNodeOf tells g d' r n
+beside : {K : Type 0} (tells : K → StoreView) (g : DriverInput) (d d' : Driver) (r : ℕ) (n : NodeView K) → d' ≡ record d { tree = d'.tree; marks = d'.marks } → ((x : ℕ × Option (List (List ℕ))) → HasGiven d r x → HasGiven d' r x) → IsNodeOf tells g d r n → IsNodeOf tells g d' r n
 beside {K} tells g d d' r n but given is =
     subst (λ (x : Driver). IsNodeOf tells g x r n) (sym but)
     (record {
@@ -48,7 +48,7 @@ beside {K} tells g d d' r n but given is =
           (λ j h. subst (λ (x : Driver). HasGiven x r (given_of j)) but (given (given_of j) h)) n.parts.jobs.running is.paths;
     })
 
-come_beside : {K : Type 0} (tells : K → StoreView) (g : DriverInput) (d d' : Driver) (f f' : FleetView K) → d' ≡ record d { tree = d'.tree; marks = d'.marks } → ((r : ℕ) (x : ℕ × List (List ℕ)) → HasGiven d r x → HasGiven d' r x) → f'.nodes ≡ f.nodes
+come_beside : {K : Type 0} (tells : K → StoreView) (g : DriverInput) (d d' : Driver) (f f' : FleetView K) → d' ≡ record d { tree = d'.tree; marks = d'.marks } → ((r : ℕ) (x : ℕ × Option (List (List ℕ))) → HasGiven d r x → HasGiven d' r x) → f'.nodes ≡ f.nodes
     → f'.run ≡ record f.run { tree = d'.tree; marks = d'.marks } → StaysSound g d d' → HasCome tells g d f → HasCome tells g d' f'
 come_beside {K} tells g d d' f f' but given same run sound h = record {
   run = run ∙ ((λ i. record (h.run i) { tree = d'.tree; marks = d'.marks }) ∙ (λ i. record { repos = g.repos; entries = reverse (sym (ap (λ (x : Driver). x.past) but) i); tree = d'.tree; marks = d'.marks }));

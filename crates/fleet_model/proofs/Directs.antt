@@ -15,8 +15,8 @@ use Rattle.run_data.specs.Files.{file_path}
 use Rattle.union_merge.specs.Branch.{lines_at}
 use Rattle.union_merge.specs.LineSet.{difference}
 use Rattle.node_model.specs.OwedLines.{stamp_at}
-use Rattle.node_parts.specs.Parts.{PartsView}
-use Rattle.node_jobs.specs.Running.{given_of, words_at}
+use Rattle.joined_nodes.specs.Parts.{PartsView}
+use Rattle.joined_nodes.specs.Running.{given_of, words_at}
 use Rattle.link_flights.specs.Heard.{HeardSo}
 use Rattle.driver_model.specs.Driver.{Driver, DriverInput}
 use Rattle.driver_model.specs.ScriptSteps.{setting_line, sets, wall_of, writes}

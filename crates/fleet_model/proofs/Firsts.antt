@@ -11,7 +11,7 @@ use Rattle.node_model.specs.Ends.{EndName}
 use Rattle.node_model.specs.SetUp.{locks_in, version_in}
 use Rattle.node_ends.specs.Ends.{link_at}
 use Rattle.link_ring.specs.Places.{end_place}
-use Rattle.node_jobs.specs.Running.{Jobs, given_of, words_at}
+use Rattle.joined_nodes.specs.Running.{Jobs, given_of, words_at}
 use Rattle.run_data.specs.Repos.{offset_of}
 use Rattle.run_data.specs.declared.run.RepoView.{RepoView}
 use Rattle.link_flights.specs.Fleets.{AreEndsIn}

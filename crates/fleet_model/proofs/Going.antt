@@ -15,7 +15,7 @@ use Rattle.run_data.specs.declared.entry.EntryKind.TheVariants as kinds
 use Rattle.run_data.specs.declared.job.Job.{Job}
 use Rattle.node_model.specs.Rows.{option_is}
 use Rattle.node_model.specs.Slots.{job_of}
-use Rattle.node_jobs.specs.Running.{given_of, words_at}
+use Rattle.joined_nodes.specs.Running.{given_of, words_at}
 use Rattle.link_flights.specs.Heard.{HeardSo}
 use Rattle.run_model.specs.Logs.{branch, branch_after}
 use Rattle.run_model.specs.Past.{Always, is_of, now}
@@ -169,7 +169,7 @@ others_branch r q (e ∷ more) past apart own =
 
 -- another repository's node stays its node
 pub others_are : {K : Type 0} (tells : K → StoreView) (g : DriverInput) (d d' : Driver) (r q : ℕ) (m : _) → q ≢ r → GoesOn r d d' → IsNodeOf {K = K} tells g d q m → HeardSo d'.past q (words_at m.parts.jobs.running)
-    → ((x : ℕ × List (List ℕ)) → HasGiven d q x → HasGiven d' q x) → IsNodeOf tells g d' q m
+    → ((x : ℕ × Option (List (List ℕ))) → HasGiven d q x → HasGiven d' q x) → IsNodeOf tells g d' q m
 others_are tells g d d' r q m apart on is heard given = record {
   setup = record { number = is.setup.number; ids = is.setup.ids; offset = is.setup.offset; version = is.setup.version; locks = is.setup.locks };
   history = is.history ∙ ap reverse (sym (ap (filter (is_of q)) on.past ∙ others_past r q on.more d.past apart on.own));

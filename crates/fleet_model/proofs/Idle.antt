@@ -11,7 +11,7 @@ use Rattle.node_model.specs.SetUp.{SetUp}
 use Rattle.node_model.specs.State.{State}
 use Rattle.node_model.specs.Step.{step}
 use Rattle.node_ends.specs.Ends.{hand_at, link_at, room_at}
-use Rattle.node_parts.specs.Parts.{AreParts}
+use Rattle.joined_nodes.specs.Parts.{AreParts}
 use Rattle.driver_model.specs.Driver.{Driver, DriverInput, frames_to, has_room, newest_count, set_up_of, state_at}
 use Rattle.driver_model.specs.Finding.{driver_at_turn}
 use Rattle.driver_model.specs.Sound.{IsSound, StaysSound}
@@ -23,7 +23,7 @@ use Rattle.joined_nodes.specs.Stored.{StoreView}
 use Rattle.joined_nodes.specs.Turning.{IsIdle}
 use Rattle.link_flights.specs.Heard.{HeardSo}
 use Rattle.link_flights.specs.Words.{AreAllWorded}
-use Rattle.node_jobs.specs.Running.{HadPaths, given_of, words_at}
+use Rattle.joined_nodes.specs.Running.{HadPathsOf, given_of, words_at}
 use Rattle.fleet_model.specs.Fleets.{AreUnused, FleetView, HasCome, HasGiven, IsNodeOf, links_at}
 use Rattle.fleet_model.specs.Steps.{OneTurns}
 use Rattle.fleet_model.proofs.Going.{GoesOn, entries_go_on, others_are}
@@ -35,7 +35,7 @@ use Rattle.fleet_model.proofs.Turned.{each_turned, linked}
 -- a node that finds no step ready stands where the driver finds none
 pub none_ready : {K : Type 0} → LookLaws → (tells : K → StoreView) (g : DriverInput) (d : Driver) (r : ℕ) (n : NodeView K) → IsSound g d → IsRaised tells g d r n
     → AreParts (set_up_of g d r) (nodes.state_of (set_up_of g d r) n.history) n.parts → AreOwnEndsIn d.flights (set_up_of g d r) n.parts.links
-    → ((a : EndName) → is_some (link_at n.parts.links a) ≡ true → has_room r (driver_at_turn g r d).flights a ≡ room_at n.parts.links a) → Each (λ j. HadPaths (set_up_of g d r) j.worker.number j.paths) n.parts.jobs.running
+    → ((a : EndName) → is_some (link_at n.parts.links a) ≡ true → has_room r (driver_at_turn g r d).flights a ≡ room_at n.parts.links a) → Each (HadPathsOf (set_up_of g d r)) n.parts.jobs.running
     → IsIdle n (set_up_of g d r) → step (set_up_of g d r) (state_at g d r) (plain_look (set_up_of g d r) (driver_at_turn g r d)) ≡ None
 none_ready {K} laws tells g d r n sound raised parts own rooms had idle =
     step_is laws.carried g d r n k sound raised.entries.history

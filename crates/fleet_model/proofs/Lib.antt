@@ -17,7 +17,9 @@ pub mod ScriptGoing
 pub mod Walked
 pub mod Beside
 pub mod AnswersStored
-pub mod DropTakes
+pub mod Working
+pub mod JobsStored
+pub mod JobTakes
 pub mod PartAsked
 pub mod StepFinds
 pub mod StepOrigins

@@ -16,14 +16,15 @@ use Rattle.node_model.specs.Slots.{job_of}
 use Rattle.node_model.specs.State.{State}
 use Rattle.node_model.specs.Step.{step}
 use Rattle.node_ends.specs.Ends.{AreEnds, SeesEnds, hand_at, link_at, room_at}
-use Rattle.node_parts.specs.Parts.{AreParts}
+use Rattle.joined_nodes.specs.Parts.{AreParts}
+use Rattle.joined_nodes.specs.Sound.{AreSound}
 use Rattle.driver_model.specs.Driver.{Driver, DriverInput, fails_at, frames_to, has_room, newest_count, set_up_of, state_at, without_old_flights}
 use Rattle.driver_model.specs.Finding.{IsLookFor, MakesStep, driver_at_turn}
 use Rattle.driver_model.specs.Sound.{IsSound}
 use Rattle.driver_model.specs.Turning.{asked_key, at_hand, part_right, part_size, plain_look, told_words}
 use Rattle.driver_model.specs.WordsRead.{AgreeWhereRead}
 use Rattle.link_flights.specs.Fleets.{AreOwnEndsIn}
-use Rattle.node_jobs.specs.Running.{HadPaths}
+use Rattle.joined_nodes.specs.Running.{HadPathsOf}
 use Rattle.joined_nodes.specs.Nodes as nodes
 use Rattle.joined_nodes.specs.Nodes.{NodeView}
 use Rattle.joined_nodes.specs.Stored.{StoreView}
@@ -60,12 +61,12 @@ store_at_turn : (g : DriverInput) (d : Driver) (r : ℕ) (v : StoreView) → IsS
 store_at_turn g d r v is = record { contents = is.contents; parts = is.parts; failing = is.failing }
 
 pub node_makes_step : {K : Type 0} → LookLaws → (tells : K → StoreView) (g : DriverInput) (d : Driver) (r : ℕ) (n m : NodeView K) → IsSound g d → IsRaised tells g d r n → DecidesMatches g
-    → AreParts (set_up_of g d r) (nodes.state_of (set_up_of g d r) n.history) n.parts → AreOwnEndsIn d.flights (set_up_of g d r) n.parts.links
+    → AreParts (set_up_of g d r) (nodes.state_of (set_up_of g d r) n.history) n.parts → AreSound n.parts → AreOwnEndsIn d.flights (set_up_of g d r) n.parts.links
     → ((a : EndName) → is_some (link_at n.parts.links a) ≡ true → has_room r (driver_at_turn g r d).flights a ≡ room_at n.parts.links a)
-    → Each (λ j. HadPaths (set_up_of g d r) j.worker.number j.paths) n.parts.jobs.running
+    → Each (HadPathsOf (set_up_of g d r)) n.parts.jobs.running
     → ((made : Effect) → AgreeWhereRead (set_up_of g d r) (state_at g d r) made (words_by n made.kind) (told_words d.past r made.kind))
     → (by : StepsBy step (tells n.keeper) (tells m.keeper) n m) → TurnMade g d r n m by.kind by.taken
-node_makes_step {K} laws tells g d r n m sound raised decides parts own rooms had words by = record {
+node_makes_step {K} laws tells g d r n m sound raised decides parts stands own rooms had words by = record {
   made = at.made;
   kind_is = at.same;
   taken_is = at.takes;
@@ -138,9 +139,9 @@ node_makes_step {K} laws tells g d r n m sound raised decides parts own rooms ha
   finds_it : Finds v.parts n by.kind by.taken k
   finds_it = record {
     fails = refl;
-    part = asks_the_drivers g c r s st key_of v.parts n.parts by.taken decides
+    part = asks_the_drivers g c r s st key_of v.parts n.parts by.kind by.taken decides
         (record { connections = parts.sessions.connections; each = λ i x there. let is = parts.sessions.each i x there in record { id = is.id; version = is.version; locks = is.locks; session = ap (λ (y : State). y.sessions (Rattle.node_sessions.specs.Sessions.end_of x)) agrees.same ∙ is.session } })
-        raised.store.parts refl no_job by.part;
+        (ap (λ (x : State). x.works) agrees.same ∙ parts.works.works) stands raised.store.parts refl refl no_job by.part;
     words = refl;
   }
 

@@ -10,7 +10,7 @@ use Rattle.union_merge.specs.Branch.{Files}
 use Rattle.run_model.specs.Logs.{branch, branch_after}
 use Rattle.run_model.specs.Past.{is_of, now}
 use Rattle.driver_model.specs.Driver.{Driver, DriverInput, entry, newest_count, notes, set_up_of}
-use Rattle.node_jobs.specs.Running.{given_of, words_at}
+use Rattle.joined_nodes.specs.Running.{given_of, words_at}
 use Rattle.link_flights.specs.Heard.{HeardSo}
 use Rattle.joined_nodes.specs.Nodes as nodes
 use Rattle.joined_nodes.specs.Nodes.{NodeView, next_entry, with_entry}

@@ -1,6 +1,7 @@
--- The part that a session's step asks for is the driver's.
+-- The part that a step of a session or of a job asks for is the driver's.
 use Rattle.std.proofs.Common.{◌≡◌, ◌↔◌, ℕ, Bool, true, List, Option, Some, None, length, refl, sym, ap, ◌∙◌, subst}
-use Rattle.std.specs.Option.{option_or}
+use Rattle.std.specs.Prelude.{◌==◌, IfSome, find, map}
+use Rattle.std.specs.Option.{option_map, option_or}
 use Rattle.run_data.specs.declared.entry.FrameText.{FrameText}
 use Rattle.run_data.specs.declared.entry.FrameText.TheVariants.{Bytes, Closing, Line, Opening}
 use Rattle.run_data.specs.declared.entry.FrameView.{FrameView}
@@ -9,6 +10,8 @@ use Rattle.p2p_wire.specs.declared.message.Message.TheVariants.{Put, Valid}
 use Rattle.p2p_wire.specs.Messages.{message_of}
 use Rattle.object_store.specs.Stores.{Parts}
 use Rattle.key_verify.specs.Matching.{MatchesKey}
+use Rattle.content_lock.specs.Rows.{Rows, is_filling}
+use Rattle.node_model.specs.Jobs.{Work}
 use Rattle.node_model.specs.Look.{Look, Effect}
 use Rattle.node_model.specs.Sessions as sessions
 use Rattle.node_model.specs.Sessions.{line_in}
@@ -24,11 +27,23 @@ use Rattle.p2p_server.specs.declared.Incoming.TheVariants as incoming
 use Rattle.p2p_server.specs.declared.session.Session.{Session}
 use Rattle.p2p_server.specs.Talking.{Brings, heard_line, SeesPart, SeesPartOf, SeesTaken, Tells, doing_of, session_of}
 use Rattle.node_sessions.specs.Serving.{SeesPartAt}
+use Rattle.get_phases.specs.Gets as gets
+use Rattle.get_phases.specs.declared.getting.Phase.{Phase}
+use Rattle.get_phases.specs.declared.getting.Phase.TheVariants as phases
+use Rattle.joined_nodes.specs.Worker.TheVariants as workers
+use Rattle.joined_nodes.specs.Task.{Task}
+use Rattle.joined_nodes.specs.Task.TheVariants as tasks
+use Rattle.joined_nodes.specs.Tasks.{OwnsOf, work_now}
+use Rattle.joined_nodes.specs.Acting.{SeesPartAt as JobSeesPartAt}
+use Rattle.joined_nodes.specs.Running.{job_at}
 use Rattle.driver_model.specs.Driver.{Driver, DriverInput, end_to, part_at}
-use Rattle.driver_model.specs.Turning.{asked_key, filled_key, part_right, part_size, put_key, session_key, step_key}
+use Rattle.driver_model.specs.Turning.{asked_key, filled_key, part_right, part_size, put_key, session_key, step_key, work_key}
 use Rattle.fleet_model.specs.Matches.{DecidesMatches}
 use Rattle.fleet_model.specs.Stores.{IsTold}
 use Rattle.fleet_model.proofs.StepFinds.{Finds, serves_no_job}
+use Rattle.fleet_model.proofs.Working.{task_of_work}
+
+-- ---- a session
 
 -- the key that a session's step asks for, by what it does and what it is told
 abbrev key_asked : sessions.Doing → Option Message → Option (List ℕ)
@@ -98,6 +113,34 @@ pub part_asked : (g : DriverInput) (d : Driver) (r : ℕ) (st : State) (m : Effe
 part_asked g d r st m known x f part right decides same no_job taken told sees =
     λ i brings. subst (λ (key : Option (List ℕ)). SeesPartOf known x i (part_size d r key) (part_right g d r key)) (sym (session_key_is st m x f same no_job taken))
     (frame_sees g d r known x.state.doing f.body i part right decides told brings (sees i brings))
+
+-- ---- a job
+
+-- a get asks for its own key's part: at VALID whether it matches, else its size
+get_asked : (g : DriverInput) (d : Driver) (r : ℕ) (known : Option Parts) (rows : Rows) (key : List ℕ) (phase : Phase) (i : Option Incoming) (part : ℕ) (right : Bool) → DecidesMatches g
+    → IsTold known (λ p. (key : List ℕ) → p key ≡ part_at d r key) → IfSome (gets.fill_in phase) (λ (fill : List ℕ). (fill ≡ key) × (is_filling rows fill ≡ true))
+    → gets.SeesPart known key phase i part right → gets.SeesPart known key phase i (length (part_at d r key)) (g.matches key (part_at d r key))
+get_asked g d r known rows key (phases.Word peer start taken) (Some (incoming.Message Valid)) part right decides told fills sees =
+    subst (λ (fill : List ℕ). SeesTaken known taken (g.matches fill (part_at d r fill))) fills.0 (taken_right g d r known taken right decides told sees)
+get_asked g d r known rows key phase i part right decides told fills sees = told_size d r known key told
+
+pub job_asked : (g : DriverInput) (d : Driver) (r : ℕ) (known : Option Parts) (rows : Rows) (t : Task) (taken : Option FrameView) (part : ℕ) (right : Bool) → DecidesMatches g
+    → IsTold known (λ p. (key : List ℕ) → p key ≡ part_at d r key) → OwnsOf rows t → JobSeesPartAt known t taken part right
+    → JobSeesPartAt known t taken (part_size d r (Some (work_now t).what.key)) (part_right g d r (Some (work_now t).what.key))
+job_asked g d r known rows (tasks.Drops j) taken part right decides told owns sees = tt
+job_asked g d r known rows (tasks.Transfers (workers.Gets w)) None part right decides told owns sees = get_asked g d r known rows w.job.key w.phase None part right decides told owns.1 sees
+job_asked g d r known rows (tasks.Transfers (workers.Gets w)) (Some f) part right decides told owns sees =
+    λ i brings. get_asked g d r known rows w.job.key w.phase (Some i) part right decides told owns.1 (sees i brings)
+job_asked g d r known rows (tasks.Transfers (workers.Puts w)) None part right decides told owns sees = tt
+job_asked g d r known rows (tasks.Transfers (workers.Puts w)) (Some f) part right decides told owns sees = λ i brings. tt
+
+-- the key of a job's step is its own
+pub job_key_is : (st : State) (m : Effect) (ts : List Task) (job : ℕ) (t : Task) → st.works ≡ map work_now ts → job_of m.kind ≡ Some job → job_at ts job ≡ Some t → asked_key st m ≡ Some (work_now t).what.key
+job_key_is st m ts job t are made there =
+    ap (λ (o : Option ℕ). step_key st o m.taken) made
+    ∙ ap work_key (ap (λ (ws : List Work). find (λ w. w.number == job) ws) are ∙ (task_of_work ts job ∙ ap (option_map work_now) there))
+
+-- ---- by a frame
 
 -- a step that took a frame which came to a server is no job's
 pub asks_no_job : Finds → (s : SetUp) (st : State) (k : Look) (m : Effect) (f : FrameView) → step s st k ≡ Some m → m.taken ≡ Some f → f.up ≡ true → job_of m.kind ≡ None

@@ -1,6 +1,8 @@
 -- What the table of steps says of gains, and of the frames that a session takes.
 use Rattle.std.proofs.Common.{◌≡◌, ℕ, true, false, List, Option, Some, None, ◌⊎◌, inl, inr, refl, sym, ap, ◌∙◌, subst}
-use Rattle.annex_base.proofs.Lists.{Each-member, find_member}
+use Rattle.std.proofs.lemmas.Option.{same_Some}
+use Rattle.annex_base.specs.Lists.{Member}
+use Rattle.annex_base.proofs.Lists.{find_member}
 use Rattle.run_data.specs.declared.entry.By.{By}
 use Rattle.run_data.specs.declared.entry.EntryKind.{EntryKind}
 use Rattle.run_data.specs.declared.entry.EntryKind.TheVariants.{Check, Close, Fault, Gain, Gone, Release, Share, Talk}
@@ -9,7 +11,8 @@ use Rattle.run_data.specs.declared.entry.FrameView.{FrameView}
 use Rattle.p2p_wire.specs.declared.message.Message.{Message}
 use Rattle.p2p_wire.specs.declared.message.Message.TheVariants.{Valid}
 use Rattle.node_model.specs.Ends.{EndName, server_end}
-use Rattle.node_model.specs.Found.{ByJob, ByOwed, BySession, IsJobEntry, JobTakes, IsSessionEntry, StepFound}
+use Rattle.node_model.specs.Found.{ByJob, ByOwed, BySession, GainsPart, IsJobEntry, JobTakes, IsSessionEntry, StepFound}
+use Rattle.node_model.specs.Jobs.{GetsWord, Work}
 use Rattle.node_model.specs.JobStep.{turn_of}
 use Rattle.node_model.specs.Look.{Look, Effect}
 use Rattle.node_model.specs.Sessions.{Doing, Took, line_in}
@@ -19,8 +22,7 @@ use Rattle.node_model.specs.Slots.{job_by, job_of}
 use Rattle.node_model.specs.State.{State}
 use Rattle.node_model.specs.Step.{step}
 use Rattle.driver_model.specs.Driver.{end_to}
-use Rattle.fleet_model.specs.Drops.{AreDrops, IsDrop, is_transfer}
-use Rattle.fleet_model.proofs.DropTakes.{to_client}
+use Rattle.fleet_model.proofs.JobTakes.{to_client}
 use Rattle.fleet_model.proofs.StepOrigins.{to_server}
 
 -- the law of steps
@@ -37,6 +39,21 @@ pub record IsGain (st : State) (m : Effect) (size : ℕ) (key : List ℕ) : Type
   pub doing : (st.sessions (end_to f)).doing ≡ Took key size
   pub word : line_in f.body ≡ Some Valid
 
+-- the job of this work is a get of the key that has taken the part, and the frame that it takes says VALID
+pub record IsGot (st : State) (m : Effect) (key : List ℕ) : Type 0 where
+  pub w : Work
+  pub among : Member w st.works
+  pub made : job_of m.kind ≡ Some w.number
+  pub peer : ℕ
+  pub start : ℕ
+  pub size : ℕ
+  pub phase : w.phase ≡ GetsWord peer start size
+  pub f : FrameView
+  pub taken : m.taken ≡ Some f
+  pub down : f.up ≡ false
+  pub word : line_in f.body ≡ Some Valid
+  pub key_is : w.what.key ≡ key
+
 -- the kind of an entry that writes an owed line is no gain
 abbrev IsNoGain : EntryKind → Type 0
 IsNoGain (Gain by size key) = ⊥
@@ -48,17 +65,29 @@ owed_no_gain s st k m x = elim (x.writes) [
   | inr w ↦ subst (λ (y : Effect). IsNoGain y.kind) (sym w) tt
 ]
 
--- a drop gains nothing
-drop_no_gain : (s : SetUp) (st : State) (k : Look) (m : Effect) → AreDrops st.works → ByJob s st k m → IsNoGain m.kind
-drop_no_gain s st k m drops x = go m.kind x.found
-  where
-    drop : IsDrop x.w
-    drop = Each-member IsDrop st.works x.w drops (find_member _ st.works x.w x.runs).0
+gain_by_job : (s : SetUp) (st : State) (k : Look) (m : Effect) (by : By) (size : ℕ) (key : List ℕ) → m.kind ≡ Gain by size key → ByJob s st k m → IsGot st m key
+gain_by_job s st k m by size key is x = record {
+  w = x.w;
+  among = (find_member _ st.works x.w x.runs).0;
+  made = ap job_of is ∙ ap job_by got.by_is;
+  peer = got.peer;
+  start = got.start;
+  size = size;
+  phase = got.phase_is;
+  f = got.f;
+  taken = got.taken_is;
+  down = down x.frame;
+  word = got.word;
+  key_is = sym got.key_is;
+} where
+  got : GainsPart (turn_of s st k x.w) by size key m.taken m.sent
+  got = subst (IsJobEntry (turn_of s st k x.w) m) is x.found
 
-    go : (kind : EntryKind) → IsJobEntry (turn_of s st k x.w) m kind → IsNoGain kind
-    go (Gain by size key) found =
-        let now : true ≡ false = ap is_transfer (sym found.phase_is) ∙ drop.phase in cc
-    go kind found = tt
+  down : (m.taken ≡ None) ⊎ JobTakes (turn_of s st k x.w) m → got.f.up ≡ false
+  down (inl none) = absurd (let clash : None ≡ Some got.f = sym none ∙ got.taken_is in cc)
+  down (inr t) =
+      let same : t.f ≡ got.f = same_Some t.f got.f (sym t.taken_is ∙ got.taken_is) in
+      subst (λ (g : FrameView). g.up ≡ false) same (to_client x.w t.peer t.f t.of_end)
 
 gain_by_session : (s : SetUp) (st : State) (k : Look) (m : Effect) (by : By) (size : ℕ) (key : List ℕ) → m.kind ≡ Gain by size key → BySession s st k m → IsGain st m size key
 gain_by_session s st k m by size key is x =
@@ -75,10 +104,10 @@ gain_by_session s st k m by size key is x =
       | inr g ↦ absurd (let none : None ≡ Some Valid = sym g.asked_is ∙ found.asks in cc)
     ]
 
-pub gain_found : (s : SetUp) (st : State) (k : Look) (m : Effect) (by : By) (size : ℕ) (key : List ℕ) → AreDrops st.works → StepFound s st k m → m.kind ≡ Gain by size key → IsGain st m size key
-gain_found s st k m by size key drops (inl o) is = absurd (subst IsNoGain is (owed_no_gain s st k m o))
-gain_found s st k m by size key drops (inr (inl x)) is = gain_by_session s st k m by size key is x
-gain_found s st k m by size key drops (inr (inr x)) is = absurd (subst IsNoGain is (drop_no_gain s st k m drops x))
+pub gain_found : (s : SetUp) (st : State) (k : Look) (m : Effect) (by : By) (size : ℕ) (key : List ℕ) → StepFound s st k m → m.kind ≡ Gain by size key → IsGain st m size key ⊎ IsGot st m key
+gain_found s st k m by size key (inl o) is = absurd (subst IsNoGain is (owed_no_gain s st k m o))
+gain_found s st k m by size key (inr (inl x)) is = inl (gain_by_session s st k m by size key is x)
+gain_found s st k m by size key (inr (inr x)) is = inr (gain_by_job s st k m by size key is x)
 
 -- ---- the frames that a session takes
 

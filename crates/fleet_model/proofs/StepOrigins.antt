@@ -1,4 +1,4 @@
--- What a step took: none, a frame that a session answered, or one that a drop heard.
+-- What a step took: none, a frame that a session answered, or one that a job heard.
 use Rattle.std.proofs.Common.{◌≡◌, ℕ, Bool, true, false, List, [], ◌∷◌, Option, Some, None, ◌⊎◌, inl, inr, refl, sym, subst, arith}
 use Rattle.std.specs.Prelude.{◌&&◌, ◌==◌, find, if◌then◌else◌}
 use Rattle.std.proofs.lemmas.Bool.{and_parts}
@@ -6,6 +6,7 @@ use Rattle.std.proofs.lemmas.Bool.Decides.{nat_tests}
 use Rattle.std.specs.Option.{option_or}
 use Rattle.annex_base.specs.declared.kinds.Call.{Call}
 use Rattle.annex_base.specs.declared.kinds.Call.TheVariants.{PutFile}
+use Rattle.annex_base.specs.Lists.{Each, Member}
 use Rattle.annex_base.proofs.Lists.{Each-member, find_member}
 use Rattle.annex_base.specs.Bools.{same_bool}
 use Rattle.annex_base.proofs.Options.{first_some-was, option_or-was}
@@ -24,8 +25,8 @@ use Rattle.node_model.specs.State.{State}
 use Rattle.node_model.specs.Step.{step}
 use Rattle.node_model.specs.Turns.{job_step, slot_step}
 use Rattle.driver_model.specs.Driver.{end_to}
-use Rattle.fleet_model.specs.Drops.{AreDrops, IsDrop}
-use Rattle.fleet_model.proofs.DropTakes.{HearsAtMost, IsHeard, partner_hears}
+use Rattle.fleet_model.proofs.JobTakes.{HearsAtMost, IsHeard, partner_hears}
+use Rattle.fleet_model.proofs.Working.{IsFit}
 
 -- ---- cases of what a step may be
 
@@ -97,16 +98,25 @@ session_answers s st k m e =
 
 -- ---- a job
 
-slot_hears : (s : SetUp) (st : State) (k : Look) (slot : ℕ) (m : Effect) (w : Option Work) → AreDrops st.works → find (λ w. w.slot == slot) st.works ≡ w → slot_step s st k w ≡ Some m → HearsAtMost m
-slot_hears s st k slot m None drops is e = absurd (cc)
-slot_hears s st k slot m (Some w) drops is e =
-    let among = find_member (λ (w : Work). w.slot == slot) st.works w is in
-    partner_hears (turn_of s st k w) m (partner w.what.peer w.phase) (Each-member IsDrop st.works w drops among.0) e
+-- one of the works took nothing, or heard a frame
+abbrev pub JobHears : State → Effect → Type 0
+JobHears st m = (m.taken ≡ None) ⊎ ((w : Work) × Member w st.works × ((f : FrameView) × IsHeard w m f))
 
-job_hears : (s : SetUp) (st : State) (k : Look) (m : Effect) → AreDrops st.works → job_step s st k ≡ Some m → HearsAtMost m
-job_hears s st k m drops e =
+slot_hears : (s : SetUp) (st : State) (k : Look) (slot : ℕ) (m : Effect) (w : Option Work) → Each IsFit st.works → find (λ w. w.slot == slot) st.works ≡ w → slot_step s st k w ≡ Some m → JobHears st m
+slot_hears s st k slot m None fit is e = absurd (cc)
+slot_hears s st k slot m (Some w) fit is e = by_work (partner_hears (turn_of s st k w) m (partner w.what.peer w.phase) (Each-member IsFit st.works w fit among) e)
+  where
+    among : Member w st.works
+    among = (find_member (λ (w : Work). w.slot == slot) st.works w is).0
+
+    by_work : HearsAtMost w m → JobHears st m
+    by_work (inl none) = inl none
+    by_work (inr x) = inr (w, among, x)
+
+job_hears : (s : SetUp) (st : State) (k : Look) (m : Effect) → Each IsFit st.works → job_step s st k ≡ Some m → JobHears st m
+job_hears s st k m fit e =
     let x = first_some-was (λ slot. slot_step s st k (find (λ w. w.slot == slot) st.works)) slots m e in
-    slot_hears s st k x.0 m (find (λ w. w.slot == x.0) st.works) drops refl x.2
+    slot_hears s st k x.0 m (find (λ w. w.slot == x.0) st.works) fit refl x.2
 
 -- ---- the step
 
@@ -122,14 +132,14 @@ owed_takes_none s st k m (o ∷ os) e = go (failing_call k.fails (PutFile ∷ []
     go None g = let same : written ≡ m = cc in subst (λ (y : Effect). y.taken ≡ None) same refl
     go (Some call) g = let same : record { kind = Fault call o.by; taken = None; sent = []; lines = []; calls = PutFile ∷ [] } ≡ m = cc in subst (λ (y : Effect). y.taken ≡ None) same refl
 
--- what a step of a repository whose jobs are drops took
+-- what a step of a repository took
 pub data Origin (s : SetUp) (st : State) (k : Look) (m : Effect) : Type 0 where
   TakesNone : m.taken ≡ None → Origin s st k m
   Answers : (f : FrameView) → IsAnswer s st k m f → Origin s st k m
-  Hears : (f : FrameView) → IsHeard m f → Origin s st k m
+  Hears : (w : Work) (f : FrameView) → Member w st.works → IsHeard w m f → Origin s st k m
 
-pub origin_of : (s : SetUp) (st : State) (k : Look) (m : Effect) → AreDrops st.works → step s st k ≡ Some m → Origin s st k m
-origin_of s st k m drops e = elim (option_or-was (owed_step s st k) (option_or (session_step s st k) (job_step s st k)) m e) [
+pub origin_of : (s : SetUp) (st : State) (k : Look) (m : Effect) → Each IsFit st.works → step s st k ≡ Some m → Origin s st k m
+origin_of s st k m fit e = elim (option_or-was (owed_step s st k) (option_or (session_step s st k) (job_step s st k)) m e) [
   | inl o ↦ TakesNone (owed_takes_none s st k m st.owed o)
   | inr r ↦ others r
 ]
@@ -138,12 +148,12 @@ origin_of s st k m drops e = elim (option_or-was (owed_step s st k) (option_or (
     by_session (inl none) = TakesNone none
     by_session (inr x) = Answers x.0 x.1
 
-    by_job : HearsAtMost m → Origin s st k m
+    by_job : JobHears st m → Origin s st k m
     by_job (inl none) = TakesNone none
-    by_job (inr x) = Hears x.0 x.1
+    by_job (inr x) = Hears x.0 x.2.0 x.1 x.2.1
 
     others : option_or (session_step s st k) (job_step s st k) ≡ Some m → Origin s st k m
     others r = elim (option_or-was (session_step s st k) (job_step s st k) m r) [
       | inl x ↦ by_session (session_answers s st k m x)
-      | inr x ↦ by_job (job_hears s st k m drops x)
+      | inr x ↦ by_job (job_hears s st k m fit x)
     ]

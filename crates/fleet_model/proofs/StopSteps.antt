@@ -22,7 +22,7 @@ use Rattle.node_model.specs.AnyTime.{all_ends}
 use Rattle.node_model.specs.Look.{Look, Effect}
 use Rattle.node_model.specs.SetUp.{SetUp}
 use Rattle.node_model.specs.Step.{step}
-use Rattle.node_parts.specs.Parts.{AreParts}
+use Rattle.joined_nodes.specs.Parts.{AreParts}
 use Rattle.driver_model.specs.Driver.{Driver, DriverInput, frames_to, notes, set_up_of, state_at}
 use Rattle.driver_model.specs.Finding.{driver_at_turn}
 use Rattle.driver_model.specs.Limits.{StopsAtFull, count_of, within_limit}

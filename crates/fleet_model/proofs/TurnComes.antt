@@ -1,6 +1,6 @@
 -- A fleet whose node made a turn has come to where the driver is after its own.
 use Rattle.std.proofs.Common.{◌≡◌, ◌≢◌, ℕ, ◌<◌, ◌≤◌, ◌^◌, Bool, true, false, List, [], ◌∷◌, Option, Some, None, length, map, inl, inr, refl, sym, ap, ◌∙◌, subst}
-use Rattle.std.specs.Prelude.{◌==◌, flat_map, is_some, reverse, slice_get}
+use Rattle.std.specs.Prelude.{◌==◌, find, flat_map, is_some, reverse, slice_get}
 use Rattle.std.proofs.lemmas.List.{reverse-append}
 use Rattle.std.proofs.lemmas.Option.{same_Some}
 use Rattle.std.specs.Option.{ForSome, option_map, option_to_list}
@@ -25,6 +25,7 @@ use Rattle.run_model.specs.States.{works}
 use Rattle.node_model.specs.After.{AgreesAtDrops, states}
 use Rattle.node_model.specs.AnyTime.{all_ends}
 use Rattle.node_model.specs.Ends.{EndName, sends_at, sent_at, taken_at}
+use Rattle.node_model.specs.Jobs.{Work}
 use Rattle.node_model.specs.Look.{Look, Effect, entry_of}
 use Rattle.node_model.specs.Sessions.{Session}
 use Rattle.node_model.specs.SetUp.{SetUp}
@@ -34,9 +35,9 @@ use Rattle.node_ends.specs.declared.sending.Sending.{Sending}
 use Rattle.node_ends.specs.declared.sending.Sending.TheVariants as sendings
 use Rattle.node_ends.specs.Ends.{AreEnds, IsEndOf, hand_at, link_at, room_at, stands, wait_at}
 use Rattle.node_sessions.specs.Pieces.{IsPieceOf}
-use Rattle.node_sessions.specs.Sessions.{AreSessions}
-use Rattle.node_jobs.specs.Running.{Jobs, given_of, words_at, work_now}
-use Rattle.node_parts.specs.Posting.{Posts, after_step as end_after_step, word_with}
+use Rattle.joined_nodes.specs.Tasks.{work_now}
+use Rattle.joined_nodes.specs.Running.{Jobs, given_of, words_at}
+use Rattle.joined_nodes.specs.Posting.{IsPieceOfWork, IsPieceSent, Posts, after_step as end_after_step, word_with}
 use Rattle.link_flights.specs.Fleets.{AreAllCarried, AreEndsIn, AreOwnEndsIn, PostsAsDefined}
 use Rattle.link_flights.specs.Flights.{HasAtHand, IsEndIn}
 use Rattle.run_laws.specs.Jobs.{AnswersAsked, AreJobs}
@@ -67,7 +68,7 @@ use Rattle.fleet_model.proofs.Idle.{none_ready, turned_idly}
 use Rattle.fleet_model.proofs.Looking.{LookLaws, TurnMade, node_makes_step}
 use Rattle.fleet_model.proofs.Noting.{IsRaised}
 use Rattle.fleet_model.proofs.Pathing.{given_among, given_on, had_there}
-use Rattle.fleet_model.proofs.PiecesGiven.{piece_is_given}
+use Rattle.fleet_model.proofs.PiecesGiven.{piece_is_given, piece_is_put}
 use Rattle.fleet_model.proofs.Raising.{raised_is}
 use Rattle.fleet_model.proofs.States.{state_is}
 use Rattle.fleet_model.proofs.TurnEnds.{EndLaws, dropped_hand, is_posted}
@@ -181,7 +182,7 @@ turn_comes {K} laws tells g d r n m was after decides h one well ad by small who
     ends_are = ends_stand laws tells g d r n was h one.before well
 
     tm : TurnMade g d r (with_newest d n) m by.kind by.taken
-    tm = node_makes_step laws.looks tells g d r (with_newest d n) m h.sound own decides well.parts (own_ends laws tells g d r n was h one.before well) (rooms_agree laws tells g d r n was h one.before well) (had_there g d r n.parts.jobs.running (h.each r n one.before).paths)
+    tm = node_makes_step laws.looks tells g d r (with_newest d n) m h.sound own decides well.parts well.sound (own_ends laws tells g d r n was h one.before well) (rooms_agree laws tells g d r n was h one.before well) (had_there g d r n.parts.jobs.running (h.each r n one.before).paths)
         (λ made. laws.read s d.past made (words_at n.parts.jobs.running) (words_by (with_newest d n) made.kind) (h.each r n one.before).heard (λ j outcome e c. ap (λ (kind : EntryKind). words_by (with_newest d n) kind c) e)) by
 
     made : Effect
@@ -219,7 +220,7 @@ turn_comes {K} laws tells g d r n m was after decides h one well ad by small who
         )
 
     raised_m : IsRaised tells g (after_step g r d made) r m
-    raised_m = turned_node laws.looks.found tells g d r (with_newest d n) m by.kind by.taken own (agreed laws tells g d r n was h one.before) well.parts hand ad tm
+    raised_m = turned_node laws.looks.found tells g d r (with_newest d n) m by.kind by.taken own (agreed laws tells g d r n was h one.before) well.parts (laws.jobs g d r h.sound) hand ad tm
 
     -- the store stays small
 
@@ -280,18 +281,22 @@ turn_comes {K} laws tells g d r n m was after decides h one well ad by small who
     ends_were : AreEnds (links_at was.nodes r) s st
     ends_were = subst (λ (links : List EndView). AreEnds links s st) (sym links_are) ends_are
 
-    -- a piece is of what the sessions were giving
+    -- a piece is of what the sessions were giving, or the copies
     pieces : (a : EndName) (f : FrameView) (bytes : List ℕ) → Member f (sent_at a ad.entry.sent) → Member (sendings.Bytes bytes) (ad.posts.posts.said a) → f.body ≡ texts.Bytes (length bytes) → bytes ≡ piece_of c st r f f.body
-    pieces a f bytes among told body = go (tells n.keeper).contents (h.each r n one.before).store.contents of_sessions.1
+    pieces a f bytes among told body = go (tells n.keeper).contents (h.each r n one.before).store.contents (ad.posts.pieces a bytes told)
       where
-        of_sessions : (a.client ≡ false) × ForSome (tells n.keeper).contents (λ x. (s' : SetUp) (st' : State) → AreSessions s' st'.sessions n.parts.sessions → IsPieceOf x (st'.sessions a).doing bytes)
-        of_sessions = ad.posts.pieces a bytes told
+        sends : sends_at a f ≡ true
+        sends = (Member-filter_parts (sends_at a) ad.entry.sent f among).1
 
-        go : (o : Option Contents) → IsTold o (λ x. (key : List ℕ) → x key ≡ content_in d r key) → ForSome o (λ x. (s' : SetUp) (st' : State) → AreSessions s' st'.sessions n.parts.sessions → IsPieceOf x (st'.sessions a).doing bytes)
-            → bytes ≡ piece_of c st r f f.body
+        by_way : (x : Contents) → ((key : List ℕ) → x key ≡ content_in d r key) → (b : Bool) → a.client ≡ b → IsPieceSent b (record n.parts { links = map after_drop n.parts.links }) x a bytes → bytes ≡ piece_of c st r f f.body
+        by_way x has true client piece = piece_is_put d st r x a f bytes has sends client body
+            (subst (λ (ws : List Work). IsPieceOfWork x (find (λ w. w.slot == a.slot) ws) bytes) (sym (ap (λ (y : State). y.works) (agreed laws tells g d r n was h one.before).same)) (piece s (nodes.state_of s n.history) well.parts.works))
+        by_way x has false server piece = piece_is_given d st r x a f bytes has sends server body
+            (subst (λ (session : Session). IsPieceOf x session.doing bytes) (sym (ap (λ (y : State). y.sessions a) (agreed laws tells g d r n was h one.before).same)) (piece s (nodes.state_of s n.history) well.parts.sessions))
+
+        go : (o : Option Contents) → IsTold o (λ x. (key : List ℕ) → x key ≡ content_in d r key) → ForSome o (λ x. IsPieceSent a.client (record n.parts { links = map after_drop n.parts.links }) x a bytes) → bytes ≡ piece_of c st r f f.body
         go None has piece = absurd has
-        go (Some x) has piece = piece_is_given c st r x a f bytes has (Member-filter_parts (sends_at a) ad.entry.sent f among).1 of_sessions.0 body
-            (subst (λ (session : Session). IsPieceOf x session.doing bytes) (sym (ap (λ (y : State). y.sessions a) (agreed laws tells g d r n was h one.before).same)) (piece x refl s (nodes.state_of s n.history) well.parts.sessions))
+        go (Some x) has piece = by_way x has a.client refl (piece x refl)
 
     posted : PostsAsDefined s st c sender (λ a. word_with a e.taken e.kind) ad.posts.posts.said (map after_drop (links_at was.nodes r)) m.parts.links e
     posted = is_posted laws.ends s st d tm.is_step.look made e (links_at was.nodes) m.parts.links sender well.known ends_were h.ends tm.is_step.steps tm.is_step.is_look.hand_is refl refl p
@@ -335,7 +340,7 @@ turn_comes {K} laws tells g d r n m was after decides h one well ad by small who
     words_on : WordsGoOn (map after_drop (links_at was.nodes r)) d.past r e (words_at n.parts.jobs.running) (words_at m.parts.jobs.running)
     words_on = words_go d.past r e (map after_drop (links_at was.nodes r)) (record n.parts { links = map after_drop n.parts.links }) m.parts (done_in ad.entry) (ap (map after_drop) (sym links_are))
         (ap (λ (x : Entry). x.kind) entry) (ap (λ (x : Entry). x.taken) entry) works_was works_after (laws.jobs g d r h.sound)
-        (subst (λ (xs : List Entry). AreJobs (works xs r)) past (laws.jobs g (after_step g r d made) r sound_after)) well.locals whole.locals
+        (subst (λ (xs : List Entry). AreJobs (works xs r)) past (laws.jobs g (after_step g r d made) r sound_after)) well.sound.acting.tasks whole.sound.acting.tasks
         (laws.changed s d.past tm.is_step.look made e tm.is_step.steps refl refl refl refl (laws.jobs g d r h.sound)) ad.jobs
 
     heard_after : HeardSo (after_step g r d made).past r (words_at m.parts.jobs.running)

@@ -20,7 +20,7 @@ use Rattle.node_ends.specs.declared.sending.Sending.{Sending}
 use Rattle.node_ends.specs.declared.sending.Sending.TheVariants as sendings
 use Rattle.node_ends.specs.Ends.{AreEnds, SeesEnds, end_at, end_in, hand_at, link_at, room_at}
 use Rattle.node_ends.specs.Sent.{text_of_sending}
-use Rattle.node_parts.specs.Posting.{Posts, word_with}
+use Rattle.joined_nodes.specs.Posting.{Posts, word_with}
 use Rattle.driver_model.specs.Driver.{Driver, adds, piece_of, without_old_flights}
 use Rattle.driver_model.specs.Turning.{plain_look}
 use Rattle.link_flights.specs.Entries.{link_after}

@@ -1,10 +1,10 @@
 -- What a turn leaves of a node is what the driver says after its own turn.
-use Rattle.std.proofs.Common.{◌≡◌, ◌⊎◌, inl, inr, ℕ, ◌+◌, Bool, true, false, List, [], ◌∷◌, ◌++◌, map, Option, Some, None, refl, sym, ap, ◌∙◌, subst, arith}
+use Rattle.std.proofs.Common.{◌≡◌, ◌⊎◌, inl, inr, ℕ, ◌+◌, Bool, true, false, List, [], ◌∷◌, ◌++◌, length, map, Option, Some, None, refl, sym, ap, ◌∙◌, subst, arith}
 use Rattle.std.specs.Prelude.{drop, filter, find, if◌then◌else◌, reverse}
 use Rattle.std.specs.Option.{option_map, option_map_or}
 use Rattle.std.proofs.lemmas.Bool.Decides.{nat_tests}
 use Rattle.std.proofs.lemmas.Option.{same_Some}
-use Rattle.annex_base.specs.Lists.{Member}
+use Rattle.annex_base.specs.Lists.{Each, Member}
 use Rattle.annex_base.proofs.Conditions.{eqb_refl}
 use Rattle.object_store.specs.Stores.{Parts}
 use Rattle.link_ring.specs.Ends.{EndView, after_drop}
@@ -12,14 +12,16 @@ use Rattle.run_data.specs.declared.entry.By.TheVariants.{Peer}
 use Rattle.run_data.specs.declared.entry.Entry.{Entry}
 use Rattle.run_data.specs.declared.entry.EntryKind.{EntryKind}
 use Rattle.run_data.specs.declared.entry.EntryKind.TheVariants as kinds
+use Rattle.run_data.specs.declared.entry.FrameText.TheVariants.{Bytes}
 use Rattle.run_data.specs.declared.entry.FrameView.{FrameView}
 use Rattle.union_merge.specs.Branch.{Files}
 use Rattle.run_model.specs.Logs.{branch, branch_after}
 use Rattle.run_model.specs.Past.{is_of, now}
 use Rattle.node_model.specs.After.{AgreesAtDrops}
-use Rattle.node_model.specs.Ends.{server_end, takes_at}
+use Rattle.node_model.specs.Ends.{server_end, taken_at, takes_at}
 use Rattle.node_model.specs.Found.{ByJob, ByOwed, BySession, IsJobEntry, JobTakes, IsSessionEntry, StepFound}
-use Rattle.node_model.specs.Jobs.{job_end}
+use Rattle.node_model.specs.Jobs as models
+use Rattle.node_model.specs.Jobs.{Drops, Gets, Part, Work, job_end}
 use Rattle.node_model.specs.JobStep.{turn_of}
 use Rattle.node_model.specs.Look.{Look, Effect, entry_of, failed_in}
 use Rattle.node_model.specs.Rows.{same_owner}
@@ -29,61 +31,91 @@ use Rattle.node_model.specs.SetUp.{SetUp, served_connections}
 use Rattle.node_model.specs.State.{State}
 use Rattle.drop_phases.specs.declared.phase.Phase.{Phase}
 use Rattle.drop_phases.specs.declared.phase.Phase.TheVariants as phases
-use Rattle.drop_worker.specs.Working.{phase_as}
-use Rattle.node_jobs.specs.Running.{AreWorks, DropJob, Jobs, work_now}
-use Rattle.joined_nodes.specs.Turning.{branch_by}
+use Rattle.drop_phases.specs.Working.{phase_as}
+use Rattle.get_phases.specs.Gets as gets
+use Rattle.get_phases.specs.declared.getting.Phase.{Phase as GetPhase}
+use Rattle.get_phases.specs.declared.getting.Phase.TheVariants as getting
+use Rattle.put_steps.specs.Puts as puts
+use Rattle.put_steps.specs.declared.phase.Phase.{Phase as PutPhase}
+use Rattle.put_steps.specs.declared.phase.Phase.TheVariants as offers
+use Rattle.joined_nodes.specs.Worker.TheVariants as workers
+use Rattle.joined_nodes.specs.Task.{Task}
+use Rattle.joined_nodes.specs.Task.TheVariants as tasks
+use Rattle.joined_nodes.specs.Tasks.{work_now}
 use Rattle.p2p_server.specs.declared.session.Session.{Session}
 use Rattle.p2p_server.specs.Talking.{place_of, session_of}
 use Rattle.node_ends.specs.Ends.{link_at}
 use Rattle.node_sessions.specs.Sessions.{AreSessions, connection_of, end_of, owner_of}
-use Rattle.node_parts.specs.Parts.{AreParts}
+use Rattle.joined_nodes.specs.Parts.{AreParts, PartsView}
 use Rattle.p2p_server.specs.Answers.{contents_after}
 use Rattle.node_sessions.specs.Stored.{parts_after_frame, parts_after_taken}
-use Rattle.node_parts.specs.Steps.{session_asked}
-use Rattle.node_parts.specs.Stored.{parts_after_step}
+use Rattle.joined_nodes.specs.Steps.{job_acting, session_asked}
+use Rattle.joined_nodes.specs.PartStored.{parts_after_step, parts_after_work}
 use Rattle.driver_model.specs.Driver.{Driver, DriverInput, adds, end_to, newest_count, set_up_of, state_at}
 use Rattle.driver_model.specs.Finding.{after_step, driver_at_turn}
 use Rattle.driver_model.specs.Turning as turning
 use Rattle.driver_model.specs.Turning.{plain_look}
 use Rattle.link_flights.specs.Flights.{HasAtHand}
+use Rattle.run_laws.specs.Jobs.{AreJobs}
 use Rattle.content_lock.specs.CallsMade.{fewer}
 use Rattle.joined_nodes.specs.Nodes as nodes
 use Rattle.joined_nodes.specs.Nodes.{NodeView}
 use Rattle.joined_nodes.specs.Stored.{StoreView}
-use Rattle.joined_nodes.specs.Turning.{Adds}
-use Rattle.fleet_model.specs.Drops.{AreDrops, is_transfer}
-use Rattle.fleet_model.specs.StepStored.{parts_of_step}
+use Rattle.joined_nodes.specs.Turning.{Adds, branch_by, done_in}
+use Rattle.fleet_model.specs.StepStored.{parts_of_job, parts_of_session, parts_of_step}
 use Rattle.fleet_model.proofs.Asking.{asked_is}
-use Rattle.fleet_model.proofs.BytesTaken.{taken_bytes}
-use Rattle.fleet_model.proofs.DropTakes.{to_client}
+use Rattle.fleet_model.proofs.BytesTaken.{taken_bytes, taken_long}
+use Rattle.fleet_model.proofs.EndsThere.{takes_own}
+use Rattle.fleet_model.proofs.JobTakes.{to_client}
 use Rattle.fleet_model.proofs.Looking.{TurnMade}
 use Rattle.fleet_model.proofs.Noting.{IsRaised, own_more}
 use Rattle.fleet_model.proofs.StepFinds as finds
 use Rattle.fleet_model.proofs.StepOrigins.{to_server}
 use Rattle.fleet_model.proofs.TurnStore.{store_changes, step_stored}
+use Rattle.fleet_model.proofs.Working.{IsFit, is_judging, work_of_acting}
 
--- ---- the works of a node are drops
+-- ---- the works of a node
 
-never_transfers : (p : Phase) → is_transfer (phase_as p) ≡ false
-never_transfers phases.Fresh = refl
-never_transfers phases.Next = refl
-never_transfers (phases.Opens peer) = refl
-never_transfers (phases.Greets peer) = refl
-never_transfers (phases.AsksLock peer since) = refl
-never_transfers (phases.AsksLook peer) = refl
-never_transfers phases.AsksTime = refl
-never_transfers phases.Orders = refl
-never_transfers phases.Removed = refl
-never_transfers phases.Denied = refl
-never_transfers (phases.Late time) = refl
-never_transfers (phases.Ends why) = refl
+never_judges : (p : Phase) → is_judging (phase_as p) ≡ false
+never_judges phases.Fresh = refl
+never_judges phases.Next = refl
+never_judges (phases.Opens peer) = refl
+never_judges (phases.Greets peer) = refl
+never_judges (phases.AsksLock peer since) = refl
+never_judges (phases.AsksLook peer) = refl
+never_judges phases.AsksTime = refl
+never_judges phases.Orders = refl
+never_judges phases.Removed = refl
+never_judges phases.Denied = refl
+never_judges (phases.Late time) = refl
+never_judges (phases.Ends why) = refl
 
-all_drops : (js : List DropJob) → AreDrops (map work_now js)
-all_drops [] = tt
-all_drops (j ∷ js) = (record { part = refl; phase = never_transfers j.worker.phase }, all_drops js)
+never_judges_put : (p : PutPhase) → is_judging (puts.phase_of p) ≡ false
+never_judges_put offers.Fresh = refl
+never_judges_put (offers.Opens peer) = refl
+never_judges_put (offers.Greets peer) = refl
+never_judges_put (offers.Offer peer) = refl
+never_judges_put (offers.Bytes s) = refl
+never_judges_put (offers.Word peer start) = refl
+never_judges_put (offers.Answer peer start) = refl
+never_judges_put (offers.Ends why) = refl
+never_judges_put offers.Done = refl
 
-pub works_are_drops : (s : SetUp) (st st' : State) (js : Jobs) → AgreesAtDrops st st' → AreWorks s st' js → AreDrops st.works
-works_are_drops s st st' js agrees are = subst AreDrops (sym (ap (λ (x : State). x.works) agrees.same ∙ are.works)) (all_drops js.running)
+judges_get : (p : GetPhase) → is_judging (gets.phase_of p) ≡ true → gets.part_of p ≡ Gets
+judges_get getting.Done e = absurd (cc)
+judges_get p e = refl
+
+fit_unless : (phase : models.Phase) (part : Part) → is_judging phase ≡ false → is_judging phase ≡ true → part ≡ Gets
+fit_unless phase part never e = absurd (let both : false ≡ true = sym never ∙ e in cc)
+
+fits : (t : Task) → IsFit (work_now t)
+fits (tasks.Drops j) = fit_unless (phase_as j.worker.phase) Drops (never_judges j.worker.phase)
+fits (tasks.Transfers (workers.Gets w)) = judges_get w.phase
+fits (tasks.Transfers (workers.Puts w)) = fit_unless (puts.phase_of w.phase) (puts.part_of w.phase) (never_judges_put w.phase)
+
+all_fit : (ts : List Task) → Each IsFit (map work_now ts)
+all_fit [] = tt
+all_fit (t ∷ ts) = (fits t, all_fit ts)
 
 -- ---- the branch
 
@@ -172,7 +204,7 @@ found_there (x ∷ xs) f among none = go (same_owner (owner_of x) (Peer f.peer f
 
 parts_alike : (s : SetUp) (st : State) (xs : List Session) (known : Option Parts) (kind : EntryKind) (f : FrameView) (bytes : List ℕ) → AreSessions s st.sessions xs
     → (f.up ≡ true → Member (f.peer, f.slot) (served_connections s))
-    → option_map_or (λ (x : Session). parts_after_taken (session_of x).doing (Some f) bytes kind known) (session_asked xs (Some f)) known ≡ parts_of_step st (Some f) bytes kind known
+    → option_map_or (λ (x : Session). parts_after_taken (session_of x).doing (Some f) bytes kind known) (session_asked xs (Some f)) known ≡ parts_of_session st (Some f) bytes kind known
 parts_alike s st xs known kind f bytes are served = go f.up refl
   where
     left : Option Session → Option Parts
@@ -183,27 +215,44 @@ parts_alike s st xs known kind f bytes are served = go f.up refl
     by_session None e up = absurd (found_there xs f (subst (Member (f.peer, f.slot)) (sym are.connections) (served up)) e)
     by_session (Some x) e up = ap (λ (y : sessions.Session). parts_after_frame y.doing f.body bytes kind known) (asked_is s st.sessions xs f x are up e)
 
-    go : (b : Bool) → f.up ≡ b → option_map_or (λ (x : Session). parts_after_taken (session_of x).doing (Some f) bytes kind known) (session_asked xs (Some f)) known ≡ parts_of_step st (Some f) bytes kind known
+    go : (b : Bool) → f.up ≡ b → option_map_or (λ (x : Session). parts_after_taken (session_of x).doing (Some f) bytes kind known) (session_asked xs (Some f)) known ≡ parts_of_session st (Some f) bytes kind known
     go false e = rw e refl
     go true e =
         ap (λ (b : Bool). left (if b then find (λ x. same_owner (owner_of x) (Peer f.peer f.slot)) xs else None)) e
         ∙ (by_session (find (λ x. same_owner (owner_of x) (Peer f.peer f.slot)) xs) refl e
         ∙ sym (ap (λ (b : Bool). if b then parts_after_frame (st.sessions (end_to f)).doing f.body bytes kind known else known) e))
 
+-- what a job's step leaves, by the job or by its work
+job_alike : (st : State) (p : PartsView) (taken : Option FrameView) (bytes : List ℕ) (kind : EntryKind) (known : Option Parts) → st.works ≡ map work_now p.jobs.running
+    → option_map_or (λ (t : Task). parts_after_work (work_now t) taken bytes kind known) (job_acting p kind) known ≡ parts_of_job st taken bytes kind known
+job_alike st p taken bytes kind known are = by_work (job_acting p kind) ∙ ap (λ (o : Option Work). option_map_or (λ (w : Work). parts_after_work w taken bytes kind known) o known) (work_of_acting st p kind are)
+  where
+    by_work : (o : Option Task) → option_map_or (λ (t : Task). parts_after_work (work_now t) taken bytes kind known) o known
+        ≡ option_map_or (λ (w : Work). parts_after_work w taken bytes kind known) (option_map work_now o) known
+    by_work None = refl
+    by_work (Some t) = refl
+
 -- a node's parts after a step are those that the definitions leave, with the bytes that the driver says were taken
 pub parts_are : {K : Type 0} (s : SetUp) (st : State) (k : Look) (m : Effect) (n : NodeView K) (r : ℕ) (c : Driver) (known : Option Parts) (kind : EntryKind) (sent : List FrameView) → AreSessions s st.sessions n.parts.sessions
-    → StepFound s st k m → ((f : FrameView) → m.taken ≡ Some f → (v : EndView) × (link_at n.parts.links (end_to f) ≡ Some v) × HasAtHand c.flights r (end_to f) (after_drop v))
-    → parts_after_step (record n.parts { links = map after_drop n.parts.links }) (record { kind = kind; taken = m.taken; sent = sent }) known ≡ parts_of_step st m.taken (turning.bytes_taken r m.taken c) kind known
-parts_are {K} s st k m n r c known kind sent are found hand = go m.taken refl
+    → st.works ≡ map work_now n.parts.jobs.running → StepFound s st k m → ((f : FrameView) → m.taken ≡ Some f → (v : EndView) × (link_at n.parts.links (end_to f) ≡ Some v) × HasAtHand c.flights r (end_to f) (after_drop v))
+    → parts_after_step (record n.parts { links = map after_drop n.parts.links }) (record { kind = kind; taken = m.taken; sent = sent; owes = None }) known ≡ parts_of_step st m.taken (turning.bytes_taken r m.taken c) kind known
+parts_are {K} s st k m n r c known kind sent are works found hand = go m.taken refl
   where
+    by_session : FrameView → List ℕ → Option Parts
+    by_session f bytes = option_map_or (λ (x : Session). parts_after_taken (session_of x).doing (Some f) bytes kind known) (session_asked n.parts.sessions (Some f)) known
+
+    by_either : FrameView → List ℕ → Option Parts → Option Parts
+    by_either f bytes left = option_map_or (λ (t : Task). parts_after_work (work_now t) (Some f) bytes kind left) (job_acting n.parts kind) left
+
     go : (o : Option FrameView) → m.taken ≡ o
-        → parts_after_step (record n.parts { links = map after_drop n.parts.links }) (record { kind = kind; taken = o; sent = sent }) known ≡ parts_of_step st o (turning.bytes_taken r o c) kind known
-    go None e = refl
+        → parts_after_step (record n.parts { links = map after_drop n.parts.links }) (record { kind = kind; taken = o; sent = sent; owes = None }) known ≡ parts_of_step st o (turning.bytes_taken r o c) kind known
+    go None e = job_alike st n.parts None [] kind known works
     go (Some f) e =
         let at = hand f e in
-        ap (λ (bytes : List ℕ). option_map_or (λ (x : Session). parts_after_taken (session_of x).doing (Some f) bytes kind known) (session_asked n.parts.sessions (Some f)) known)
-        (taken_bytes r c.flights n.parts.links f at.0 at.1 at.2)
-        ∙ parts_alike s st n.parts.sessions known kind f (turning.bytes_taken r (Some f) c) are (λ up. served_to s st k m f found e up)
+        let bytes : List ℕ = turning.bytes_taken r (Some f) c in
+        ap (λ (xs : List ℕ). by_either f xs (by_session f xs)) (taken_bytes r c.flights n.parts.links f at.0 at.1 at.2)
+        ∙ (ap (by_either f bytes) (parts_alike s st n.parts.sessions known kind f bytes are (λ up. served_to s st k m f found e up))
+        ∙ job_alike st n.parts (Some f) bytes kind (parts_of_session st (Some f) bytes kind known) works)
 
 -- ---- the node
 
@@ -212,10 +261,10 @@ last_same [] x y e = cc
 last_same (z ∷ xs) x y e = last_same xs x y (ap (drop 1) e)
 
 pub turned_node : {K : Type 0} → finds.Finds → (tells : K → StoreView) (g : DriverInput) (d : Driver) (r : ℕ) (n m : NodeView K) (kind : EntryKind) (taken : Option FrameView) → IsRaised tells g d r n
-    → AgreesAtDrops (state_at g d r) (nodes.state_of (set_up_of g d r) n.history) → AreParts (set_up_of g d r) (nodes.state_of (set_up_of g d r) n.history) n.parts
+    → AgreesAtDrops (state_at g d r) (nodes.state_of (set_up_of g d r) n.history) → AreParts (set_up_of g d r) (nodes.state_of (set_up_of g d r) n.history) n.parts → AreJobs (state_at g d r).works
     → ((f : FrameView) → taken ≡ Some f → (v : EndView) × (link_at n.parts.links (end_to f) ≡ Some v) × HasAtHand (driver_at_turn g r d).flights r (end_to f) (after_drop v))
     → Adds (map after_drop n.parts.links) (tells n.keeper) (tells m.keeper) n m → (tm : TurnMade g d r n m kind taken) → IsRaised tells g (after_step g r d tm.made) r m
-turned_node {K} laws tells g d r n m kind taken raised agrees parts hand ad tm = record {
+turned_node {K} laws tells g d r n m kind taken raised agrees parts jobs hand ad tm = record {
   entries = record {
     setup = subst (λ (x : _). nodes.MatchesSetup x (set_up_of g after r)) (sym ad.setup) (record { number = raised.entries.setup.number; ids = raised.entries.setup.ids; offset = raised.entries.setup.offset; version = raised.entries.setup.version; locks = raised.entries.setup.locks });
     history = tm.adds ∙ (ap (λ (xs : List Entry). xs ++ e ∷ []) raised.entries.history ∙ (sym (own_more r e d.past own) ∙ ap (λ (p : List Entry). reverse (filter (is_of r) p)) (sym past)));
@@ -225,11 +274,11 @@ turned_node {K} laws tells g d r n m kind taken raised agrees parts hand ad tm =
     time = ad.at ∙ (raised.entries.time ∙ ap now (sym past));
     count = ad.counted ∙ (ap (λ (x : ℕ). x + 1) raised.entries.count ∙ ap newest_count (sym past));
   };
-  store = step_stored laws s st tm.look tm.made d1 r bytes v w tm.steps (works_are_drops s st st' n.parts.jobs agrees parts.works)
+  store = step_stored laws s st tm.look tm.made d1 r bytes v w tm.steps jobs (subst (Each IsFit) (sym works) (all_fit n.parts.jobs.running)) long
       (record { contents = raised.store.contents; parts = raised.store.parts; failing = raised.store.failing })
       (ad.contents ∙ ap (λ (x : Entry). contents_after v.contents v.parts x.kind) entry)
-      (ad.parts ∙ (ap (λ (x : Entry). parts_after_step (record n.parts { links = map after_drop n.parts.links }) (record { kind = x.kind; taken = x.taken; sent = x.sent }) v.parts) entry
-      ∙ parts_are s st tm.look tm.made n r c v.parts tm.made.kind tm.made.sent sessions_are found (λ f e. hand f (sym tm.taken_is ∙ e))))
+      (ad.parts ∙ (ap (λ (x : Entry). parts_after_step (record n.parts { links = map after_drop n.parts.links }) (done_in x) v.parts) entry
+      ∙ parts_are s st tm.look tm.made n r c v.parts tm.made.kind tm.made.sent sessions_are works found (λ f e. hand f (sym tm.taken_is ∙ e))))
       (ad.left ∙ ap (λ (x : Entry). option_map (fewer (failed_in x.kind)) v.failing) entry);
 } where
   s : SetUp
@@ -237,9 +286,6 @@ turned_node {K} laws tells g d r n m kind taken raised agrees parts hand ad tm =
 
   st : State
   st = state_at g d r
-
-  st' : State
-  st' = nodes.state_of s n.history
 
   c : Driver
   c = driver_at_turn g r d
@@ -281,3 +327,14 @@ turned_node {K} laws tells g d r n m kind taken raised agrees parts hand ad tm =
         let is = parts.sessions.each i x there in
         record { id = is.id; version = is.version; locks = is.locks; session = ap (λ (y : State). y.sessions (end_of x)) agrees.same ∙ is.session };
   }
+
+  works : st.works ≡ map work_now n.parts.jobs.running
+  works = ap (λ (x : State). x.works) agrees.same ∙ parts.works.works
+
+  -- of a piece that was taken there are as many bytes as it says
+  long : (f : FrameView) (count : ℕ) → tm.made.taken ≡ Some f → f.body ≡ Bytes count → length bytes ≡ count
+  long f count takes body =
+      let at = hand f (sym tm.taken_is ∙ takes) in
+      ap (λ (o : Option FrameView). length (turning.bytes_taken r o c)) takes
+      ∙ taken_long r c.flights n.parts.links f at.0 count at.1 at.2
+      (ad.posts.posts.took (end_to f) f (ap (λ (x : Entry). taken_at (end_to f) x.taken) entry ∙ (ap (taken_at (end_to f)) takes ∙ takes_own f))) body

@@ -19,7 +19,7 @@ use Rattle.joined_nodes.specs.Nodes.{NodeView}
 use Rattle.joined_nodes.specs.Stored.{StoreView}
 use Rattle.link_flights.specs.Heard.{HeardSo}
 use Rattle.link_flights.specs.Words.{AreAllWorded}
-use Rattle.node_jobs.specs.Running.{given_of, words_at}
+use Rattle.joined_nodes.specs.Running.{given_of, words_at}
 use Rattle.fleet_model.specs.Fleets.{AreUnused, FleetView, HasCome, HasGiven, IsNodeOf, links_at}
 use Rattle.fleet_model.specs.Steps.{OneTurns, with_links}
 use Rattle.fleet_model.proofs.Going.{GoesOn, entries_go_on, goes_within, others_are}

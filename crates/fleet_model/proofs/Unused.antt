@@ -15,7 +15,7 @@ use Rattle.node_model.specs.Ends.{EndName, sends_at, sent_at, taken_at, takes_at
 use Rattle.node_ends.specs.declared.sending.Sending.{Sending}
 use Rattle.node_ends.specs.Ends.{link_at}
 use Rattle.node_ends.specs.Sent.{link_sends, text_of_sending}
-use Rattle.node_parts.specs.Posting.{Posts, word_with}
+use Rattle.joined_nodes.specs.Posting.{Posts, word_with}
 use Rattle.joined_nodes.specs.Nodes.{NodeView}
 use Rattle.fleet_model.specs.Fleets.{AreUnused, FleetView, links_at}
 use Rattle.fleet_model.specs.Steps.{OneTurns}

@@ -19,7 +19,7 @@ use Rattle.node_ends.specs.declared.sending.Sending.TheVariants as sendings
 use Rattle.node_sessions.specs.Words as sessions
 use Rattle.run_laws.specs.Jobs.{asks_word}
 use Rattle.link_flights.specs.Words.{TellsWords}
-use Rattle.node_parts.specs.Posting.{word_with}
+use Rattle.joined_nodes.specs.Posting.{word_with}
 
 same_found : (what : Found) → sessions.word_found what ≡ word_of_kind (Check what Rattle.std.specs.Prelude.[])
 same_found found.Absent = refl

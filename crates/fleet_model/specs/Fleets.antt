@@ -1,11 +1,11 @@
 -- A fleet of nodes that has done what the driver of scripts has done (own).
-use Rattle.std.specs.Prelude.{◌≡◌, ℕ, ◌≤◌, List, [], filter, length, reverse, slice_get, Some}
+use Rattle.std.specs.Prelude.{◌≡◌, ℕ, ◌≤◌, IfSome, List, [], filter, length, reverse, slice_get, Option, Some}
 use Rattle.std.specs.Option.{option_map_or}
 use Rattle.annex_base.specs.Lists.{Each}
 use Rattle.link_ring.specs.Ends.{EndView, fresh}
 use Rattle.node_model.specs.Ends.{EndName}
 use Rattle.node_ends.specs.Ends.{link_at}
-use Rattle.node_jobs.specs.Running.{given_of, words_at}
+use Rattle.joined_nodes.specs.Running.{given_of, words_at}
 use Rattle.run_data.specs.declared.run.Run.{Run}
 use Rattle.run_model.specs.Logs.{branch}
 use Rattle.run_model.specs.Past.{begun_count, is_of, now}
@@ -31,13 +31,13 @@ pub record FleetView (K : Type 0) : Type 0 where
 abbrev pub links_at : {K : Type 0} → List (NodeView K) → ℕ → List EndView
 links_at ns r = option_map_or (λ (n : NodeView _). n.parts.links) (slice_get ns r) []
 
--- the job of this number has begun, and its key had these paths in the tree then
-abbrev pub HasGiven : Driver → ℕ → ℕ × List (List ℕ) → Type 0
-HasGiven d r x = (x.0 ≤ begun_count d.past r) × (x.1 ≡ paths_at d.tree d.past r x.0)
+-- the job of this number has begun; and if it was given paths, its key had these in the tree then
+abbrev pub HasGiven : Driver → ℕ → ℕ × Option (List (List ℕ)) → Type 0
+HasGiven d r x = (x.0 ≤ begun_count d.past r) × IfSome x.1 (λ paths. paths ≡ paths_at d.tree d.past r x.0)
 
 -- The node is what the driver says of r: its history has the entries of r, in order; its branch is that of r, and its store has the
 -- contents, the parts and the failing calls of r. It knows no later time and no greater count than that of the newest entry, and
--- its jobs heard the words that the past tells, and were given the paths that their keys had as they began.
+-- its jobs heard the words that the past tells; its drops were given the paths that their keys had as they began.
 pub record IsNodeOf {K : Type 0} (tells : K → StoreView) (g : DriverInput) (d : Driver) (r : ℕ) (n : NodeView K) : Type 0 where
   pub setup : nodes.MatchesSetup n.setup (set_up_of g d r)
   pub history : n.history ≡ reverse (filter (is_of r) d.past)

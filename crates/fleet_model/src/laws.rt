@@ -21,8 +21,8 @@ ghost use Rattle.run_model.specs.Past.{begun_count, now};
 ghost use Rattle.run_model.specs.Run.{tree_at};
 ghost use Rattle.annex_key.specs.Tree.{paths_of};
 ghost use Rattle.run_model.specs.States.{works};
-ghost use Rattle.node_jobs.specs.Acting.{with_job};
-ghost use Rattle.node_parts.specs.Parts.{AreParts};
+ghost use Rattle.joined_nodes.specs.Parts.{AreParts};
+ghost use Rattle.joined_nodes.specs.Beginning.{Begins};
 ghost use Rattle.driver_model.specs.Driver.{Driver, DriverInput, at_first, newest_count, set_up_of};
 ghost use Rattle.driver_model.specs.Driving.{run_with, turns, with_mark};
 ghost use Rattle.driver_model.specs.Rounds.{AfterRounds, after_round, is_settled, most_rounds, round, settles, turns_of};
@@ -113,7 +113,7 @@ pub fn fleets_do_lines<K>()
         → length bytes < 2 ^ 62 → m.time ≤ 1000000000000 → m.count < 2 ^ 62 → StaysSound g d (sets_part g r key bytes d) → HasCome tells g (sets_part g r key bytes d) after }
     ensures job { (tells : K → StoreView) (g : DriverInput) (d : Driver) (r : ℕ) (n m : NodeView K) (was after : FleetView K) (number : ℕ) (job : Job) (paths : List (List ℕ)) → HasCome tells g d was → OneGoesOn r n m was after
         → paths ≡ paths_of (tree_at d.tree (length d.past)) job.key → AreParts (set_up_of g d r) (state_of (set_up_of g d r) n.history) n.parts → number ≡ n.parts.jobs.begun + 1 → length n.parts.jobs.running < 4
-        → m ≡ record (with_entry (with_newest d n) n.keeper n.branch (kinds.Begin number job) []) { parts = record n.parts { jobs = with_job n.parts.jobs job paths } }
+        → Begins n.parts.jobs job paths m.parts.jobs → m ≡ record (with_entry (with_newest d n) n.keeper n.branch (kinds.Begin number job) []) { parts = record n.parts { jobs = m.parts.jobs } }
         → m.time ≤ 1000000000000 → m.count < 2 ^ 62 → StaysSound g d (begins r job d) → HasCome tells g (begins r job d) after }
     ensures no_slot { (tells : K → StoreView) (g : DriverInput) (d : Driver) (r : ℕ) (n m : NodeView K) (was after : FleetView K) (job : Job) → HasCome tells g d was → OneGoesOn r n m was after
         → AreParts (set_up_of g d r) (state_of (set_up_of g d r) n.history) n.parts → 4 ≤ length n.parts.jobs.running → m ≡ with_newest d n

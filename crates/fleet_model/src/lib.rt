@@ -4,5 +4,6 @@
 mod laws;
 mod stops;
 
+pub use joined_nodes::{BeginRefused, NodeRefused, Nodes, Turn};
 pub use laws::{fleets_begin, fleets_do_lines, fleets_rest, fleets_settle, fleets_take_turns};
 pub use stops::fleets_stop_at_full_histories;

@@ -9,7 +9,7 @@ ghost use Rattle.run_data.specs.Histories.{most_entries};
 ghost use Rattle.run_data.specs.declared.entry.LogFile.{LogFile};
 ghost use Rattle.run_data.specs.declared.entry.LogFile.TheVariants.{Of};
 ghost use Rattle.run_data.specs.declared.job.Job.{Job};
-ghost use Rattle.node_parts.specs.Parts.{AreParts};
+ghost use Rattle.joined_nodes.specs.Parts.{AreParts};
 ghost use Rattle.driver_model.specs.Driver.{Driver, DriverInput, set_up_of};
 ghost use Rattle.driver_model.specs.Limits.{StopsAtFull, count_of, within_limit};
 ghost use Rattle.driver_model.specs.Scripts.{IsContent};

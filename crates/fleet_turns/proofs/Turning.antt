@@ -96,7 +96,7 @@ stands_well {K} tells g d r had was up n p come raises at_n at_p =
       known = subst (λ (c : ℕ). r < c) come.count (slice_get_within was.nodes r n at_n);
       few = few_past tells g d was come raises.few;
       parts = parts_told tells d r (set_up_of g d r) n own.store (whole.state (set_up_of g d r) own.setup);
-      locals = whole.locals;
+      sound = whole.sound;
     }
 
 -- ---- the turn, and the frames that were carried

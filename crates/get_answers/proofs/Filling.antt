@@ -142,7 +142,7 @@ announced_at x rows k w w' peer wanting n goes fed has =
           asks_so (takes t f peer (Jobs.GetsData peer wanting.size) (Data n)) (hears t f) [] None k k refl (makes_none k.failing k.failing refl))
           (goes_work (gets_more peer wanting.size wanting.size n) u w' refl goes),
       keeps_still x (Some (incoming.Message (Data n))) rows k k u w' (Talk (Some w.number)) [] has refl refl refl (ap (λ (g : Getting). g.number) goes.rest) (ap (λ (g : Getting). g.slot) goes.rest) (ap (λ (g : Getting). g.job) goes.rest) goes.fill (nothing_left k) refl
-          (λ p is was. fed p was) (goes_apart x peer wanting.size wanting.size n u w' refl goes),
+          (λ p is was. fed p was) tt (goes_apart x peer wanting.size wanting.size n u w' refl goes),
     )
 
 pub announced_does : (x : Sight) (rows : Rows) (k : Seen) (w w' : Getting) (peer : ℕ) (wanting : Wanting) (n : ℕ) (out : Output) → w.phase ≡ phases.Data peer wanting → GoesOn (listens (work_of w) (phase_of w.phase) (Data n)).phase w w'
@@ -192,7 +192,7 @@ module _ (x : Sight) (rows : Rows) (k k' : Seen) (w : Getting) (peer start : ℕ
         (goes_work (gets_bytes (length bytes.items) (Jobs.GetsBytes peer start taking.size taking.left)) taker w' refl goes),
     keeps_filling x (Some (incoming.Bytes bytes)) rows k k' taker w' (Talk (Some w.number)) [] has refl refl refl (ap (λ (g : Getting). g.number) goes.rest) (ap (λ (g : Getting). g.slot) goes.rest) (ap (λ (g : Getting). g.job) goes.rest) goes.fill contents rest
         (grown ∙ (λ i. if sym fits i then option_map (λ p. with_at p taking.fill (p taking.fill ++ bytes.items)) k.parts else k.parts))
-        (λ p is was p' is'. fed p p' was (longer_at peer start taking k.parts k'.parts bytes.items grown small p is p' is'))
+        (λ p is was p' is'. fed p p' was (longer_at peer start taking k.parts k'.parts bytes.items grown small p is p' is')) (λ was. small) tt
         (goes_apart x peer start (taking.size + length bytes.items) (taking.left - length bytes.items) taker w' refl goes),
   )
 

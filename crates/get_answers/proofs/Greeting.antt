@@ -17,7 +17,7 @@ use Rattle.key_verify.specs.declared.digester.Digester.{Digester}
 use Rattle.object_store.specs.Stores.{Contents, Parts}
 use Rattle.node_model.specs.Calls.{to_read, to_resume}
 use Rattle.node_model.specs.Jobs as Jobs
-use Rattle.node_model.specs.Jobs.{Gets, Work, fault_of, fault_phase, side_of}
+use Rattle.node_model.specs.Jobs.{Gets, fault_of, fault_phase, side_of}
 use Rattle.node_model.specs.JobStep.{Turn, attempts, by_me, key_of, quietly, says_to, talk}
 use Rattle.node_model.specs.Look.{failing_call, unless}
 use Rattle.node_model.specs.Rows.{option_is}
@@ -62,7 +62,7 @@ opened_at x rows k w peer fill id line has = (
       asks_so (takes t f peer (Jobs.Opens peer) (AuthSuccess id)) (says_to t (talk t) (Some f) peer (Version 3)) [] None k k refl (makes_none k.failing k.failing refl))
       line.0 (λ time. refl),
   keeps_still x (Some (incoming.Message (AuthSuccess id))) rows k k (at w (phases.Opens peer fill)) (at w (phases.Greets peer fill)) (Talk (Some w.number)) (message_to peer (Version 3)) has refl refl refl refl refl refl refl (nothing_left k) refl
-      (λ p is was. tt) (λ named was. was),
+      (λ p is was. tt) (tt, tt) (λ named was. was),
 )
 
 -- the fill that it handed over is that of its key still
@@ -122,7 +122,7 @@ module _ (x : Sight) (rows : Rows) (k k' : Seen) (w : Getting) (peer version : �
         (subst (λ (l : List Call). MakesCalls l None k.failing k'.failing) (sym (append-nil (to_resume part))) (made part tells)))
         is.get.line.0 (λ time. λ i. record (work_of greeting) { version = knows w peer version; phase = Jobs.GetsData (waits.0 i) (waits.2 i) }),
     keeps_still x told rows k k' greeting (waiting (phases.Data p wanting)) (Talk (Some w.number)) (message_to peer (Get s.size [] w.job.key)) has refl refl refl refl refl refl (ap (λ (key : List ℕ). Some key) waits.1) leaves refl
-        (λ parts there was. fed_of s wanting waits.1 waits.3 is.fed parts there) (apart_same x (work_of greeting) (work_of (waiting (phases.Data p wanting))) (ap (λ (q : ℕ). Some q) waits.0)),
+        (λ parts there was. fed_of s wanting waits.1 waits.3 is.fed parts there) (tt, tt) (apart_same x (work_of greeting) (work_of (waiting (phases.Data p wanting))) (ap (λ (q : ℕ). Some q) waits.0)),
   )
   sent_at s ph waits is made leaves = absurd waits
 

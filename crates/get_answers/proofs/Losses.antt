@@ -28,6 +28,7 @@ use Rattle.drop_phases.proofs.Takings.{Lined}
 use Rattle.transfer_turns.specs.declared.parcels.Output.{Output}
 use Rattle.transfer_turns.specs.declared.parcels.Parcel.{Parcel}
 use Rattle.transfer_turns.specs.declared.parcels.ParcelBody.TheVariants as bodies
+use Rattle.transfer_turns.specs.Parcels.{AreNoPieces}
 use Rattle.transfer_turns.specs.Steps.{Seen, StepsIn}
 use Rattle.transfer_turns.specs.Turns.{Sight, awaited, output_of, turn_in}
 use Rattle.transfer_turns.proofs.Hearings.{bad_steps, bytes_shut_steps, closed_steps, closing_steps, opening_steps, shut_steps}
@@ -88,14 +89,14 @@ taking_there w peer p start taking at awaits = at ∙ ap (λ (q : ℕ). phases.B
 abbrev pub close_to : ℕ → List Parcel
 close_to peer = record { peer = peer; body = bodies.Close } ∷ []
 
-pub loses_so : (x : Sight) (i : Option Incoming) (rows : Rows) (k : Seen) (w w' : Getting) (sent : List Parcel) (peer : ℕ) (cause : SourceCause) (n : ℕ) (r : Result Output NoMemory) → HasFill rows w → is_some (fill_in w.phase) ≡ true
+pub loses_so : (x : Sight) (i : Option Incoming) (rows : Rows) (k : Seen) (w w' : Getting) (sent : List Parcel) (peer : ℕ) (cause : SourceCause) (n : ℕ) (r : Result Output NoMemory) → AreNoPieces sent → HasFill rows w → is_some (fill_in w.phase) ≡ true
     → k.parts ≡ parts_after w.phase i (Talk (Some w.number)) k.parts → IfOk r (Loses sent peer cause n w w') → OnErr r (w' ≡ w)
     → (FailsWith peer cause n w w' → StepsIn x rows k k (work_of w) (work_of w') i (SeesPart k.parts w.job.key w.phase i) (output_of (Talk (Some w.number)) sent false)) → Does x i rows rows k k w w' r
-loses_so x i rows k w w' sent peer cause n (Err e) has some still l same steps = stays_same rows k w w' same
-loses_so x i rows k w w' sent peer cause n (Ok out) has some still l same steps =
+loses_so x i rows k w w' sent peer cause n (Err e) pieces has some still l same steps = stays_same rows k w w' same
+loses_so x i rows k w w' sent peer cause n (Ok out) pieces has some still l same steps =
     subst (λ (o : Output). Does {E = NoMemory} x i rows rows k k w w' (Ok o)) (sym l.made) (
       steps l.fails,
-      keeps_still x i rows k k w w' (Talk (Some w.number)) sent has some refl refl l.fails.number l.fails.slot l.fails.job (next_fill peer cause n w w' l.fails) (nothing_left k) still (λ p is was. fed_anew p peer cause n w w' l.fails)
+      keeps_still x i rows k k w w' (Talk (Some w.number)) sent has some refl refl l.fails.number l.fails.slot l.fails.job (next_fill peer cause n w w' l.fails) (nothing_left k) still (λ p is was. fed_anew p peer cause n w w' l.fails) pieces
           (failed_apart x peer cause n w w' l.fails),
     )
 
@@ -141,23 +142,23 @@ module _ (x : Sight) (rows : Rows) (k : Seen) (w w' : Getting) (peer : ℕ) (r :
   -- a Close, or nothing, where the connection was closed here
   pub closing_does : IfOk r (Loses [] peer sources.Closed w.version w w') → Does x (Some incoming.Closing) rows rows k k w w' r
   closing_does l =
-      loses_so x (Some incoming.Closing) rows k w w' [] peer sources.Closed w.version r has some (still_closing w.phase (Talk (Some w.number)) k.parts) l same
+      loses_so x (Some incoming.Closing) rows k w w' [] peer sources.Closed w.version r tt has some (still_closing w.phase (Talk (Some w.number)) k.parts) l same
       (λ f. closing_steps x rows k (work_of w) (work_of w') (SeesPart k.parts w.job.key w.phase (Some incoming.Closing)) peer awaits with_peer (closed f) false)
 
   pub closed_does : IfOk r (Loses [] peer sources.Closed w.version w w') → Does x None rows rows k k w w' r
   closed_does l =
-      loses_so x None rows k w w' [] peer sources.Closed w.version r has some (still_none w.phase (Talk (Some w.number)) k.parts) l same
+      loses_so x None rows k w w' [] peer sources.Closed w.version r tt has some (still_none w.phase (Talk (Some w.number)) k.parts) l same
       (λ f. closed_steps x rows k (work_of w) (work_of w') (SeesPart k.parts w.job.key w.phase None) peer awaits with_peer (closed f) false)
 
   -- an opening, or a line that is no message
   pub opening_does : IfOk r (Loses (close_to peer) peer sources.Closed w.version w w') → Does x (Some incoming.Opening) rows rows k k w w' r
   opening_does l =
-      loses_so x (Some incoming.Opening) rows k w w' (close_to peer) peer sources.Closed w.version r has some (still_opening w.phase (Talk (Some w.number)) k.parts) l same
+      loses_so x (Some incoming.Opening) rows k w w' (close_to peer) peer sources.Closed w.version r (tt, tt) has some (still_opening w.phase (Talk (Some w.number)) k.parts) l same
       (λ f. opening_steps x rows k (work_of w) (work_of w') (SeesPart k.parts w.job.key w.phase (Some incoming.Opening)) peer awaits with_peer (closed f) false)
 
   pub bad_does : IfOk r (Loses (close_to peer) peer sources.Closed w.version w w') → Does x (Some incoming.Bad) rows rows k k w w' r
   bad_does l =
-      loses_so x (Some incoming.Bad) rows k w w' (close_to peer) peer sources.Closed w.version r has some (still_bad w.phase (Talk (Some w.number)) k.parts) l same
+      loses_so x (Some incoming.Bad) rows k w w' (close_to peer) peer sources.Closed w.version r (tt, tt) has some (still_bad w.phase (Talk (Some w.number)) k.parts) l same
       (λ f. bad_steps x rows k (work_of w) (work_of w') (SeesPart k.parts w.job.key w.phase (Some incoming.Bad)) peer awaits with_peer (closed f) false)
 
   -- bytes that aren't to come
@@ -165,7 +166,7 @@ module _ (x : Sight) (rows : Rows) (k : Seen) (w w' : Getting) (peer : ℕ) (r :
       → ((t : Turn) (f : FrameView) → takes_bytes t f peer (length bytes.items) (phase_of w.phase) ≡ wrong_message t f peer)
       → IfOk r (Loses (close_to peer) peer sources.Closed w.version w w') → Does x (Some (incoming.Bytes bytes)) rows rows k k w w' r
   bytes_does bytes still wrong l =
-      loses_so x (Some (incoming.Bytes bytes)) rows k w w' (close_to peer) peer sources.Closed w.version r has some still l same
+      loses_so x (Some (incoming.Bytes bytes)) rows k w w' (close_to peer) peer sources.Closed w.version r (tt, tt) has some still l same
       (λ f. bytes_shut_steps x rows k k (work_of w) (work_of w') (SeesPart k.parts w.job.key w.phase (Some (incoming.Bytes bytes))) peer awaits with_peer bytes false
       (λ c told part right s rest g. asks_so (takes_bytes (turn_in x rows c part right None rest (work_of w)) g peer (length bytes.items) (phase_of w.phase)) (wrong_message (turn_in x rows c part right None rest (work_of w)) g peer) [] None k k
       (wrong (turn_in x rows c part right None rest (work_of w)) g) (makes_none k.failing k.failing refl)) (closed f))
@@ -189,7 +190,7 @@ module _ (x : Sight) (rows : Rows) (k : Seen) (w w' : Getting) (peer : ℕ) (r :
       → ((t : Turn) (f : FrameView) → t.w.part ≡ Gets → takes t f peer (phase_of w.phase) m ≡ wrong_message t f peer)
       → IfOk r (Loses (close_to peer) peer sources.Closed n w w') → Does x (Some (incoming.Message m)) rows rows k k w w' r
   message_does m n still learn wrong l =
-      loses_so x (Some (incoming.Message m)) rows k w w' (close_to peer) peer sources.Closed n r has some still l same
+      loses_so x (Some (incoming.Message m)) rows k w w' (close_to peer) peer sources.Closed n r (tt, tt) has some still l same
       (λ f. shut_steps x rows k k (work_of w) (work_of w') (SeesPart k.parts w.job.key w.phase (Some (incoming.Message m))) peer awaits with_peer m n learn false
       (λ c told part right s rest g. asks_so (takes (turn_in x rows c part right None rest (work_of w)) g peer (phase_of w.phase) m) (wrong_message (turn_in x rows c part right None rest (work_of w)) g peer) [] None k k
       (wrong (turn_in x rows c part right None rest (work_of w)) g (gets_on w.phase some)) (makes_none k.failing k.failing refl))

@@ -44,7 +44,7 @@ rejected_at x rows k w w' peer start taken fails line has =
           asks_so (takes t f peer (Jobs.GetsWord peer start taken.size) Invalid) (says_to t (talk t) (Some f) peer Failure) [] None k k refl (makes_none k.failing k.failing refl))
           line.0 (λ time. failed_work peer cause w.version u w' refl fails),
       keeps_still x (Some (incoming.Message Invalid)) rows k k u w' (Talk (Some w.number)) (message_to peer Failure) has refl refl refl fails.number fails.slot fails.job (next_fill peer cause w.version u w' fails) (nothing_left k) refl
-          (λ p is was. fed_anew p peer cause w.version u w' fails) (failed_apart x peer cause w.version u w' fails),
+          (λ p is was. fed_anew p peer cause w.version u w' fails) (tt, tt) (failed_apart x peer cause w.version u w' fails),
     )
 
 pub rejected_does : (x : Sight) (rows : Rows) (k : Seen) (w w' : Getting) (peer start : ℕ) (taken : Taken) (out : Output) → w.phase ≡ phases.Word peer start taken → FailsWith peer (source_cause start (Some Invalid)) w.version w w'

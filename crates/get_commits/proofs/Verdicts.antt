@@ -1,6 +1,6 @@
 -- What a verdict does with a part whose bytes have come: it becomes the content, or is dropped.
-use Rattle.std.proofs.Common.{◌≡◌, ℕ, Bool, true, false, not, List, [], ◌∷◌, Option, Some, None, Ok, refl, sym, subst, ◌∙◌}
-use Rattle.std.specs.Prelude.{◌&&◌, bytes_eq}
+use Rattle.std.proofs.Common.{◌≡◌, ◌<◌, ◌^◌, ℕ, Bool, true, false, not, List, [], ◌∷◌, length, Option, Some, None, Ok, refl, sym, subst, ◌∙◌, arith}
+use Rattle.std.specs.Prelude.{◌&&◌, bytes_eq, if◌then◌else◌}
 use Rattle.std.specs.Option.{option_map}
 use Rattle.annex_base.specs.declared.kinds.Call.{Call}
 use Rattle.annex_base.specs.declared.kinds.Call.TheVariants as calls
@@ -11,7 +11,7 @@ use Rattle.run_data.specs.declared.entry.FrameView.{FrameView}
 use Rattle.run_data.specs.declared.job.SourceCause.TheVariants as sources
 use Rattle.p2p_wire.specs.declared.message.Message.TheVariants.{Failure, Success, Valid}
 use Rattle.p2p_wire.specs.Streams.{IsLine}
-use Rattle.object_store.specs.Stores.{Parts, contents_after_commit, with_at}
+use Rattle.object_store.specs.Stores.{AreSmallParts, Parts, contents_after_commit, with_at}
 use Rattle.node_model.specs.Calls.{to_commit}
 use Rattle.node_model.specs.Jobs as Jobs
 use Rattle.node_model.specs.Jobs.{is_move}
@@ -39,6 +39,21 @@ use Rattle.get_phases.proofs.Keeping.{LeavesRest, fills_less, keeps_fault, keeps
 use Rattle.get_phases.proofs.Losses.{asks_so, at, failed_apart, failed_work, fed_anew, from_phase, made_so, message_to, next_fill}
 use Rattle.get_verdicts.specs.Verdicts.{IsVerdict}
 use Rattle.get_commits.specs.Judging.{phase_gained}
+
+-- ---- the parts
+
+short_at : (p : Parts) (key place : List ℕ) (b : Bool) → length (p place) < 2 ^ 62 → length (if b then [] else p place) < 2 ^ 62
+short_at p key place true short = omega arith
+short_at p key place false short = short
+
+-- without one of them they are short as before
+spent_short : (known : Option Parts) (key : List ℕ) → AreSmallParts known → AreSmallParts (option_map (λ p. with_at p key []) known)
+spent_short None key small = λ p is place. absurd cc
+spent_short (Some q) key small = λ p is place.
+    let same : with_at q key [] ≡ p = cc in subst (λ (r : Parts). length (r place) < 2 ^ 62) same (short_at q key place (bytes_eq key place) (small q refl place))
+
+spent_small : (known known' : Option Parts) (key : List ℕ) → known' ≡ option_map (λ p. with_at p key []) known → AreSmallParts known → AreSmallParts known'
+spent_small known known' key spent small = subst AreSmallParts (sym spent) (spent_short known key small)
 
 -- ---- what is told then
 
@@ -87,7 +102,9 @@ module _ (x : Sight) (rows : Rows) (k k' : Seen) (w : Getting) (peer start : ℕ
     parts = parts ∙ (λ i. option_map (λ p. with_at p (sym has.0 i) []) k.parts);
     has = tt;
     fed = λ p is was p' is'. tt;
+    small = spent_small k.parts k'.parts w.job.key parts;
     judged = judged;
+    pieces = (tt, tt);
     ended = refl;
     apart = λ named was. tt;
     undone = λ stays was. sym moves ∙ stays;
@@ -112,7 +129,9 @@ module _ (x : Sight) (rows : Rows) (k k' : Seen) (w : Getting) (peer start : ℕ
     parts = parts ∙ (λ i. option_map (λ p. with_at p (sym has.0 i) []) k.parts);
     has = tt;
     fed = λ p is was p' is'. tt;
+    small = spent_small k.parts k'.parts w.job.key parts;
     judged = judged;
+    pieces = (tt, tt);
     ended = refl;
     apart = λ named was. tt;
     undone = λ stays was. refl;
@@ -149,7 +168,7 @@ module _ (x : Sight) (rows : Rows) (k k' : Seen) (w : Getting) (peer start : ℕ
         line.0 (λ time. failed_work peer sources.Wrong w.version served w' refl fails),
     keeps_filling x valid rows k k' served w' (Talk (Some w.number)) (message_to peer Failure) has refl refl refl fails.number fails.slot fails.job (next_fill peer sources.Wrong w.version served w' fails) contents rest
         (parts ∙ (λ i. option_map (λ p. with_at p (sym has.0 i) []) k.parts)) (λ p is was p' is'. fed_anew p' peer sources.Wrong w.version served w' fails)
-        (failed_apart x peer sources.Wrong w.version served w' fails),
+        (spent_small k.parts k'.parts w.job.key parts) (tt, tt) (failed_apart x peer sources.Wrong w.version served w' fails),
   )
 
   -- the call failed

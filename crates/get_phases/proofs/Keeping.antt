@@ -9,7 +9,7 @@ use Rattle.run_data.specs.declared.entry.By.TheVariants.{Job as by_job}
 use Rattle.run_data.specs.declared.entry.EntryKind.{EntryKind}
 use Rattle.run_data.specs.declared.entry.EntryKind.TheVariants.{End, Fault, Talk}
 use Rattle.run_data.specs.declared.job.Job.{Job}
-use Rattle.object_store.specs.Stores.{Contents, Parts}
+use Rattle.object_store.specs.Stores.{AreSmallParts, Contents, Parts}
 use Rattle.node_model.specs.Jobs.{Gets}
 use Rattle.node_model.specs.Look.{failed_in}
 use Rattle.node_model.specs.Slots.{job_of}
@@ -19,6 +19,7 @@ use Rattle.session_state.specs.Answers.{contents_after}
 use Rattle.session_state.specs.declared.incoming.Incoming.{Incoming}
 use Rattle.transfer_turns.proofs.Leavings.{all_stays, but_none, still_filled}
 use Rattle.transfer_turns.specs.declared.parcels.Parcel.{Parcel}
+use Rattle.transfer_turns.specs.Parcels.{AreNoPieces}
 use Rattle.transfer_turns.specs.Partners.{StaysApart}
 use Rattle.transfer_turns.specs.Steps.{FillsSo, IsOfTransfer, LeavesBut, Seen, is_end}
 use Rattle.transfer_turns.specs.Turns.{Sight, output_of}
@@ -140,8 +141,8 @@ plain_judged number kind ph plain = absurd plain
 
 pub keeps_filling : (x : Sight) (i : Option Incoming) (rows : Rows) (k k' : Seen) (w w' : Getting) (kind : EntryKind) (sent : List Parcel) → HasFill rows w → is_some (fill_in w.phase) ≡ true → IsPlain w.number kind → is_end kind ≡ false
     → w'.number ≡ w.number → w'.slot ≡ w.slot → w'.job ≡ w.job → fill_in w'.phase ≡ fill_in w.phase → k'.contents ≡ k.contents → LeavesRest (failed_in kind) k k' → k'.parts ≡ parts_after w.phase i kind k.parts
-    → ForSome k.parts (λ p. IsFed p w.phase → ForSome k'.parts (λ p'. IsFed p' w'.phase)) → StaysApart x (work_of w) (work_of w') → Keeps x i rows rows k k' w w' (output_of kind sent false)
-keeps_filling x i rows k k' w w' kind sent has some plain goes number slot job same contents l parts fed apart =
+    → ForSome k.parts (λ p. IsFed p w.phase → ForSome k'.parts (λ p'. IsFed p' w'.phase)) → (AreSmallParts k.parts → AreSmallParts k'.parts) → AreNoPieces sent → StaysApart x (work_of w) (work_of w') → Keeps x i rows rows k k' w w' (output_of kind sent false)
+keeps_filling x i rows k k' w w' kind sent has some plain goes number slot job same contents l parts fed small pieces apart =
     let going : is_done w'.phase ≡ false = undone w'.phase (ap is_some same ∙ some) in
     record {
       leaves = record {
@@ -163,7 +164,9 @@ keeps_filling x i rows k k' w w' kind sent has some plain goes number slot job s
       parts = parts;
       has = has_still rows w w' has same job;
       fed = fed;
+      small = small;
       judged = plain_judged w.number kind w.phase plain;
+      pieces = pieces;
       ended = λ j. sym goes j || sym going j;
       apart = apart;
       undone = λ stays was. going;
@@ -172,14 +175,14 @@ keeps_filling x i rows k k' w w' kind sent has some plain goes number slot job s
 -- and the store changed nothing
 pub keeps_still : (x : Sight) (i : Option Incoming) (rows : Rows) (k k' : Seen) (w w' : Getting) (kind : EntryKind) (sent : List Parcel) → HasFill rows w → is_some (fill_in w.phase) ≡ true → IsPlain w.number kind → is_end kind ≡ false
     → w'.number ≡ w.number → w'.slot ≡ w.slot → w'.job ≡ w.job → fill_in w'.phase ≡ fill_in w.phase → LeavesBut (failed_in kind) k k' → k.parts ≡ parts_after w.phase i kind k.parts
-    → ((p : Parts) → k.parts ≡ Some p → IsFed p w.phase → IsFed p w'.phase) → StaysApart x (work_of w) (work_of w') → Keeps x i rows rows k k' w w' (output_of kind sent false)
-keeps_still x i rows k k' w w' kind sent has some plain goes number slot job same l still fed apart =
+    → ((p : Parts) → k.parts ≡ Some p → IsFed p w.phase → IsFed p w'.phase) → AreNoPieces sent → StaysApart x (work_of w) (work_of w') → Keeps x i rows rows k k' w w' (output_of kind sent false)
+keeps_still x i rows k k' w w' kind sent has some plain goes number slot job same l still fed pieces apart =
     keeps_filling x i rows k k' w w' kind sent has some plain goes number slot job same l.contents (rest_of (failed_in kind) k k' l) (l.parts ∙ still)
-    (λ p is was p' is'. subst (λ (q : Parts). IsFed q w'.phase) (same_Some p p' (sym is ∙ sym l.parts ∙ is')) (fed p is was)) apart
+    (λ p is was p' is'. subst (λ (q : Parts). IsFed q w'.phase) (same_Some p p' (sym is ∙ sym l.parts ∙ is')) (fed p is was)) (subst AreSmallParts (sym l.parts)) pieces apart
 
 -- a call of the store failed, and the job ends next
 pub keeps_fault : (x : Sight) (i : Option Incoming) (rows : Rows) (k k' : Seen) (w w' : Getting) (call : Call) → HasFill rows w → is_some (fill_in w.phase) ≡ true → w' ≡ record w { phase = phases.Ends (endings.StoreFault (fill_in w.phase)) }
     → LeavesBut (Some call) k k' → k.parts ≡ parts_after w.phase i (Fault call (by_job w.number)) k.parts → Keeps x i rows rows k k' w w' (output_of (Fault call (by_job w.number)) [] false)
 keeps_fault x i rows k k' w w' call has some is l still =
     subst (λ (u : Getting). Keeps x i rows rows k k' w u (output_of (Fault call (by_job w.number)) [] false)) (sym is)
-    (keeps_still x i rows k k' w (record w { phase = phases.Ends (endings.StoreFault (fill_in w.phase)) }) (Fault call (by_job w.number)) [] has some refl refl refl refl refl refl l still (λ p is was. tt) (λ named was. tt))
+    (keeps_still x i rows k k' w (record w { phase = phases.Ends (endings.StoreFault (fill_in w.phase)) }) (Fault call (by_job w.number)) [] has some refl refl refl refl refl refl l still (λ p is was. tt) tt (λ named was. tt))

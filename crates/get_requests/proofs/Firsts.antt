@@ -12,7 +12,7 @@ use Rattle.run_data.specs.declared.job.TransferRefusal.TheVariants as failures
 use Rattle.object_store.specs.Calls.{FailsAsTold}
 use Rattle.object_store.specs.Stores.{Contents, Parts}
 use Rattle.node_model.specs.Jobs
-use Rattle.node_model.specs.Jobs.{Drops, Gets, Part, Work, first_look, is_move, partner, to_phase}
+use Rattle.node_model.specs.Jobs.{Drops, Gets, Work, first_look, is_move, partner, to_phase}
 use Rattle.node_model.specs.JobStep.{Turn, attempts, by_me, ends, quietly, talk}
 use Rattle.node_model.specs.Look.{Effect, failed_in, failing_call}
 use Rattle.node_model.specs.TransferStep.{first_get, sources}
@@ -23,9 +23,9 @@ use Rattle.session_state.specs.Talking.{Tells}
 use Rattle.session_state.proofs.Calling.{makes_failed, makes_none}
 use Rattle.drop_phases.specs.Doing.{next_work}
 use Rattle.transfer_turns.specs.declared.parcels.Output.{Output}
-use Rattle.transfer_turns.specs.Parcels.{SendsView, frames_of}
+use Rattle.transfer_turns.specs.Parcels.{AreNoPieces, SendsView}
 use Rattle.transfer_turns.specs.Steps.{LeavesAll, LeavesBut, Makes, Seen, StepsIn, is_end}
-use Rattle.transfer_turns.specs.Turns.{Sight, output_of, partings_at, turn_in}
+use Rattle.transfer_turns.specs.Turns.{ArePartings, Sight, output_of, turn_in}
 use Rattle.transfer_turns.proofs.Leavings.{but_none}
 use Rattle.transfer_turns.proofs.Partners.{apart_none}
 use Rattle.get_phases.specs.declared.getting.Ending.TheVariants as endings
@@ -121,7 +121,7 @@ module _ (x : Sight) (rows : Rows) (c : Contents) (part : ℕ) (right : Bool) (r
 -- ---- the content is there
 
 module _ (x : Sight) (rows : Rows) (k k' : Seen) (w : Getting) (own : IsBare rows w) (had : FailsAsTold calls.Has k.failing k'.failing false) (l : LeavesAll k k') where
-  finds_by : (m : Bool) (parting : SendsView) (w' : Getting) (out : Output) → is_move w.job.kind ≡ m → frames_of x.ends w.slot parting.items ≡ partings_at x w.slot → FindsHere m parting (fresh w) w' out
+  finds_by : (m : Bool) (parting : SendsView) (w' : Getting) (out : Output) → is_move w.job.kind ≡ m → ArePartings x w.slot parting.items → FindsHere m parting (fresh w) w' out
       → ForSome k.contents (λ c. true ≡ is_in c w.job.key) → Did x rows rows k k' (fresh w) w' out
   finds_by true parting w' out move parts is here =
       subst (λ (u : Getting). Did x rows rows k k' (fresh w) u out) (sym is.1) (
@@ -133,7 +133,7 @@ module _ (x : Sight) (rows : Rows) (k k' : Seen) (w : Getting) (own : IsBare row
         keeps x rows rows k k' (fresh w) (record w { phase = phases.Done }) out (subst (λ (o : Output). IsPlain w.number o.kind) (sym is.0) refl) refl refl refl refl refl
             (fills_same (fresh w) (record w { phase = phases.Done }) rows tt refl refl)
             (subst (λ (o : Output). LeavesBut (failed_in o.kind) k k') (sym is.0) (but_none k k' l)) tt (λ p told _. tt) (subst (λ (o : Output). o.ended ≡ (is_end o.kind || true)) (sym is.0) refl)
-            (λ named was. tt) (λ stays was. sym move ∙ stays),
+            (subst (λ (o : Output). AreNoPieces o.sends.items) (sym is.0) tt) (λ named was. tt) (λ stays was. sym move ∙ stays),
       )
   finds_by false parting w' out move parts is here =
       subst (λ (u : Getting). Did x rows rows k k' (fresh w) u out) (sym is.1) (
@@ -151,7 +151,7 @@ module _ (x : Sight) (rows : Rows) (k k' : Seen) (w : Getting) (own : IsBare row
 -- ---- as the first step of a get
 
 pub begin_found : (x : Sight) (rows : Rows) (k k' : Seen) (w w' : Getting) (parting : SendsView) (out : Output) → w.phase ≡ phases.Fresh → IsBare rows w → FailsAsTold calls.Has k.failing k'.failing false → LeavesAll k k'
-    → frames_of x.ends w.slot parting.items ≡ partings_at x w.slot → FindsHere (is_move w.job.kind) parting w w' out → ForSome k.contents (λ c. true ≡ is_in c w.job.key) → Did x rows rows k k' w w' out
+    → ArePartings x w.slot parting.items → FindsHere (is_move w.job.kind) parting w w' out → ForSome k.contents (λ c. true ≡ is_in c w.job.key) → Did x rows rows k k' w w' out
 begin_found x rows k k' w w' parting out at own had l parts is here =
     at_phase w phases.Fresh (λ u. FindsHere (is_move u.job.kind) parting u w' out → Did x rows rows k k' u w' out) at (λ found. finds_by x rows k k' w own had l (is_move w.job.kind) parting w' out refl parts found here) is
 
@@ -179,7 +179,7 @@ begin_failed x rows k k' w w' out at had l is next =
           (record { effect = refl; next = λ e. refl; calls = makes_failed calls.Has _ k.failing k'.failing had })),
       keeps x rows rows k k' (fresh w) (lookless w) out (subst (λ (o : Output). IsPlain w.number o.kind) (sym is) refl) refl refl refl refl refl (fills_same (fresh w) (lookless w) rows tt refl refl)
           (subst (λ (o : Output). LeavesBut (failed_in o.kind) k k') (sym is) l) tt (λ p told _. tt) (ap (λ (o : Output). o.ended) is ∙ sym (ap (λ (o : Output). is_end o.kind || false) is))
-          (λ named was. tt) (λ stays was. refl),
+          (subst (λ (o : Output). AreNoPieces o.sends.items) (sym is) tt) (λ named was. tt) (λ stays was. refl),
     ))
 
 -- it fills the key from now on
@@ -196,7 +196,7 @@ begin_claimed x rows rows' k m k' w w' out at free had l absent begins too =
   where
     kept : (s : Option ℕ) → source_in x w ≡ s → Begins x s m k' (fresh w) w' out → Keeps x None rows rows' k k' (fresh w) w' out
     kept None source g =
-        goes_kept x [] (phases.Next w.job.key) rows rows' k m k' (fresh w) w' out refl (λ p. tt) g l too.holds too.bars (fills_too (fresh w) w' rows rows' refl (λ i. (g.next i).job) free too)
+        goes_kept x [] (phases.Next w.job.key) rows rows' k m k' (fresh w) w' out refl (λ p. tt) tt g l too.holds too.bars (fills_too (fresh w) w' rows rows' refl (λ i. (g.next i).job) free too)
         (has_too w' rows rows' (subst (λ (u : Getting). IfSome (fill_in u.phase) (λ (key : List ℕ). key ≡ u.job.key)) (sym g.next) refl) too)
         (apart_none x (work_of (fresh w)) (work_of w') (λ i. partner (g.next i).job.peer (phase_of (g.next i).phase)))
     kept (Some peer) source a =

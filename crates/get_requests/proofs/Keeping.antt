@@ -7,11 +7,12 @@ use Rattle.annex_base.specs.declared.kinds.Call.{Call}
 use Rattle.annex_base.proofs.Conditions.{bytes_eq-refl, bytes_eq-true}
 use Rattle.run_data.specs.declared.entry.EntryKind.{EntryKind}
 use Rattle.run_data.specs.declared.job.Outcome.{Outcome}
-use Rattle.object_store.specs.Stores.{Parts}
+use Rattle.object_store.specs.Stores.{AreSmallParts, Parts}
 use Rattle.node_model.specs.Jobs.{is_move, partner}
 use Rattle.node_model.specs.Look.{failed_in}
 use Rattle.content_lock.specs.Rows.{Rows, is_filling}
 use Rattle.transfer_turns.specs.declared.parcels.Output.{Output}
+use Rattle.transfer_turns.specs.Parcels.{AreNoPieces}
 use Rattle.transfer_turns.specs.Partners.{StaysApart}
 use Rattle.transfer_turns.specs.Steps.{FillsSo, LeavesAll, LeavesBut, Seen, fills_key, is_end}
 use Rattle.transfer_turns.proofs.Leavings.{but_none, leaves_but}
@@ -55,14 +56,16 @@ untold_parts ph kind known = refl
 
 pub keeps : (x : Sight) (rows rows' : Rows) (k k' : Seen) (w w' : Getting) (out : Output) → IsPlain w.number out.kind → w'.number ≡ w.number → w'.slot ≡ w.slot → w'.job ≡ w.job → rows'.holds ≡ rows.holds → rows'.bars ≡ rows.bars
     → FillsSo (work_of w) (work_of w') (is_filling rows) (is_filling rows') → LeavesBut (failed_in out.kind) k k' → HasFill rows' w' → ForSome k.parts (λ p. IsFed p w.phase → IsFed p w'.phase) → out.ended ≡ (is_end out.kind || is_done w'.phase)
-    → StaysApart x (work_of w) (work_of w') → (is_move w.job.kind ≡ false → is_done w.phase ≡ false → is_done w'.phase ≡ false) → Keeps x None rows rows' k k' w w' out
-keeps x rows rows' k k' w w' out plain number slot job holds bars filled l has fed ended apart undone =
+    → AreNoPieces out.sends.items → StaysApart x (work_of w) (work_of w') → (is_move w.job.kind ≡ false → is_done w.phase ≡ false → is_done w'.phase ≡ false) → Keeps x None rows rows' k k' w w' out
+keeps x rows rows' k k' w w' out plain number slot job holds bars filled l has fed ended pieces apart undone =
     record {
       leaves = leaves_but rows rows' k k' (work_of w) (work_of w') out (plain_transfer w.number out.kind plain) (plain_whose w.number out.kind plain) number slot job holds bars filled (plain_contents w.number out.kind k.contents k.parts plain) l;
       parts = l.parts ∙ untold_parts w.phase out.kind k.parts;
       has = has;
       fed = λ p is was p' is'. fed p' (sym l.parts ∙ is') (subst (λ (q : Parts). IsFed q w.phase) (same_Some p p' (sym is ∙ (sym l.parts ∙ is'))) was);
+      small = subst AreSmallParts (sym l.parts);
       judged = plain_judged w.number out.kind w.phase plain;
+      pieces = pieces;
       ended = ended;
       apart = apart;
       undone = undone;
@@ -75,7 +78,7 @@ ended_kept x rows k k' w w' outcome out is number slot job phase l has =
     keeps x rows rows k k' w w' out (subst (λ (kind : EntryKind). IsPlain w.number kind) (sym is.kind) refl) number slot job refl refl (fills_same w w' rows has (ap fill_in phase) job)
     (subst (λ (o : Option Call). LeavesBut o k k') (sym (ap failed_in is.kind)) (but_none k k' l))
     (has_still rows w w' has (ap fill_in phase) job)
-    (λ p told fed. subst (λ (ph : Phase). IsFed p ph) (sym phase) fed) (is.ended ∙ sym (ap (λ (kind : EntryKind). is_end kind || is_done w'.phase) is.kind))
+    (λ p told fed. subst (λ (ph : Phase). IsFed p ph) (sym phase) fed) (is.ended ∙ sym (ap (λ (kind : EntryKind). is_end kind || is_done w'.phase) is.kind)) is.sends.pieces
     (apart_same x (work_of w) (work_of w') (λ i. partner (job i).peer (phase_of (phase i)))) (λ stays was. ap is_done phase ∙ was)
 
 -- what it fills is its own key

@@ -29,6 +29,7 @@ use Rattle.drop_phases.specs.Doing.{next_work}
 use Rattle.transfer_turns.specs.declared.parcels.Output.{Output}
 use Rattle.transfer_turns.specs.declared.parcels.Parcel.{Parcel}
 use Rattle.transfer_turns.specs.declared.parcels.ParcelBody.TheVariants as bodies
+use Rattle.transfer_turns.specs.Parcels.{AreNoPieces}
 use Rattle.transfer_turns.specs.Partners.{NamesOther, StaysApart}
 use Rattle.transfer_turns.specs.Steps.{FillsSo, LeavesAll, LeavesBut, Makes, Seen, is_end}
 use Rattle.transfer_turns.specs.Turns.{Sight, output_of, turn_in}
@@ -220,6 +221,11 @@ asked_ended (asked.Sent s) known peer w w' out is next =
     ap (λ (o : Output). o.ended) e ∙ sym ((λ i. is_end (e i).kind || is_done w'.phase) ∙ undone_waiting w.job.key peer s w'.phase next.2)
 asked_ended (asked.Failed call) known peer w w' out is next = ap (λ (o : Output). o.ended) next.0 ∙ sym (λ i. is_end (next.0 i).kind || is_done (next.1 i).phase)
 
+-- a message at most
+asked_pieces : (what : Asked) (known : Option Parts) (peer : ℕ) (w w' : Getting) (out : Output) → IsAsked w.number w.job.key peer known what → FollowsAsked peer w w' out what → AreNoPieces out.sends.items
+asked_pieces (asked.Sent s) known peer w w' out is next = subst (λ (o : Output). AreNoPieces o.sends.items) (sym (next.0 ∙ is.get.is)) (tt, tt)
+asked_pieces (asked.Failed call) known peer w w' out is next = subst (λ (o : Output). AreNoPieces o.sends.items) (sym next.0) tt
+
 -- it isn't done, and talks with this peer, if it talks with one
 asked_undone : (what : Asked) (peer : ℕ) (w w' : Getting) (out : Output) → FollowsAsked peer w w' out what → is_done w'.phase ≡ false
 asked_undone (asked.Sent s) peer w w' out next = undone_waiting w.job.key peer s w'.phase next.2
@@ -253,12 +259,12 @@ approach_next true peer k k' w w' out a = asked_next a.what peer w w' out a.next
 approach_next false peer k k' w w' out g = moved w w' (phases.Opens peer w.job.key) g.next
 
 -- it says something, and goes on so
-pub goes_kept : (x : Sight) (sent : List Parcel) (ph : Phase) (rows rows' : Rows) (k m k' : Seen) (w w' : Getting) (out : Output) → is_done ph ≡ false → ((p : Parts) → IsFed p ph) → GoesOn sent ph m k' w w' out → LeavesAll k m → rows'.holds ≡ rows.holds → rows'.bars ≡ rows.bars
+pub goes_kept : (x : Sight) (sent : List Parcel) (ph : Phase) (rows rows' : Rows) (k m k' : Seen) (w w' : Getting) (out : Output) → is_done ph ≡ false → ((p : Parts) → IsFed p ph) → AreNoPieces sent → GoesOn sent ph m k' w w' out → LeavesAll k m → rows'.holds ≡ rows.holds → rows'.bars ≡ rows.bars
     → FillsSo (work_of w) (work_of w') (is_filling rows) (is_filling rows') → HasFill rows' w' → StaysApart x (work_of w) (work_of w') → Keeps x None rows rows' k k' w w' out
-goes_kept x sent ph rows rows' k m k' w w' out undone fed g l holds bars filled has apart =
+goes_kept x sent ph rows rows' k m k' w w' out undone fed pieces g l holds bars filled has apart =
     keeps x rows rows' k k' w w' out (subst (λ (o : Output). IsPlain w.number o.kind) (sym g.talk) refl) (λ i. (g.next i).number) (λ i. (g.next i).slot) (λ i. (g.next i).job) holds bars filled
     (subst (λ (o : Output). LeavesBut (failed_in o.kind) k k') (sym g.talk) (but_none k k' (leaves_all k m k' l g.leaves))) has (λ p told _. subst (λ (u : Getting). IsFed p u.phase) (sym g.next) (fed p))
-    (ap (λ (o : Output). o.ended) g.talk ∙ sym ((λ i. is_end (g.talk i).kind || is_done (g.next i).phase) ∙ undone)) apart (λ stays was. (λ i. is_done (g.next i).phase) ∙ undone)
+    (ap (λ (o : Output). o.ended) g.talk ∙ sym ((λ i. is_end (g.talk i).kind || is_done (g.next i).phase) ∙ undone)) (subst (λ (o : Output). AreNoPieces o.sends.items) (sym g.talk) pieces) apart (λ stays was. (λ i. is_done (g.next i).phase) ∙ undone)
 
 pub approach_kept : (x : Sight) (b : Bool) (peer : ℕ) (rows rows' : Rows) (k m k' : Seen) (w w' : Getting) (out : Output) → Approaches b peer m k' w w' out → LeavesAll k m → rows'.holds ≡ rows.holds → rows'.bars ≡ rows.bars
     → FillsSo (work_of w) (work_of w') (is_filling rows) (is_filling rows') → HasFill rows' w' → (NamesOther x (work_of w) → (x.repo == peer) ≡ false) → Keeps x None rows rows' k k' w w' out
@@ -266,8 +272,8 @@ approach_kept x true peer rows rows' k m k' w w' out a l holds bars filled has o
     let e = asked_next a.what peer w w' out a.next in
     keeps x rows rows' k k' w w' out (asked_plain a.what m.parts peer w w' out a.is a.next) (λ i. (e i).number) (λ i. (e i).slot) (λ i. (e i).job) holds bars filled
     (subst (λ (o : Option Call). LeavesBut o k k') (asked_failed a.what m.parts peer w w' out a.is a.next) (leaves_then (failed_asking a.what) k m k' l a.leaves)) has
-    (λ p told _. asked_fed a.what m.parts peer w w' out a.is a.next p (l.parts ∙ told)) (asked_ended a.what m.parts peer w w' out a.is a.next)
+    (λ p told _. asked_fed a.what m.parts peer w w' out a.is a.next p (l.parts ∙ told)) (asked_ended a.what m.parts peer w w' out a.is a.next) (asked_pieces a.what m.parts peer w w' out a.is a.next)
     (asked_apart x a.what peer w w' out a.next other) (λ stays was. asked_undone a.what peer w w' out a.next)
 approach_kept x false peer rows rows' k m k' w w' out g l holds bars filled has other =
-    goes_kept x (record { peer = peer; body = bodies.Open } ∷ []) (phases.Opens peer w.job.key) rows rows' k m k' w w' out refl (λ p. tt) g l holds bars filled has
+    goes_kept x (record { peer = peer; body = bodies.Open } ∷ []) (phases.Opens peer w.job.key) rows rows' k m k' w w' out refl (λ p. tt) (tt, tt) g l holds bars filled has
     (apart_with x (work_of w) (work_of w') peer (λ i. partner (g.next i).job.peer (phase_of (g.next i).phase)) other)

@@ -69,7 +69,7 @@ module _ (x : Sight) (rows : Rows) (c : Contents) (part : ℕ) (right : Bool) (r
       let t = turn None in
       let bare : owns_share t ≡ false = no_share t rows refl own in
       subst (λ (o : Output). Makes x k k' (work_of w) v' None (turn (failed_in o.kind)) (ends (turn (failed_in o.kind)) None outcome) o) (λ i. record { kind = sym is.kind i; sends = out.sends; ended = sym is.ended i })
-      (end_makes t k k' v' (ends t None outcome) outcome out.sends bare refl is.sends refl (subst (λ (l : List Call). MakesCalls l None k.failing k'.failing) (sym (end_calls t outcome bare)) (makes_none k.failing k'.failing same)))
+      (end_makes t k k' v' (ends t None outcome) outcome out.sends bare refl is.sends.frames refl (subst (λ (l : List Call). MakesCalls l None k.failing k'.failing) (sym (end_calls t outcome bare)) (makes_none k.failing k'.failing same)))
 
   -- ---- the call by which it looks whether the content is there
 

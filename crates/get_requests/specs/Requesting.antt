@@ -7,9 +7,9 @@ use Rattle.content_lock.specs.Rows.{Rows, is_filling}
 use Rattle.transfer_turns.specs.declared.parcels.Output.{Output}
 use Rattle.transfer_turns.specs.declared.parcels.Parcel.{Parcel}
 use Rattle.transfer_turns.specs.declared.parcels.ParcelBody.TheVariants as bodies
-use Rattle.transfer_turns.specs.Parcels.{SendsView, end_in, frames_of}
+use Rattle.transfer_turns.specs.Parcels.{SendsView, end_in}
 use Rattle.transfer_turns.specs.Steps.{LeavesAll, Seen, fills_key}
-use Rattle.transfer_turns.specs.Turns.{Sight, output_of, partings_at}
+use Rattle.transfer_turns.specs.Turns.{ArePartings, Sight, output_of}
 use Rattle.get_phases.specs.declared.getting.Getting.{Getting}
 use Rattle.get_phases.specs.declared.getting.Phase.{Phase}
 use Rattle.get_phases.specs.declared.getting.Phase.TheVariants as phases
@@ -24,7 +24,7 @@ IsTalk number sent out = out ≡ output_of (Talk (Some number)) sent false
 -- the job ends so, and each open connection is closed
 pub record IsEnding (x : Sight) (number slot : ℕ) (outcome : Outcome) (out : Output) : Type 0 where
   pub kind : out.kind ≡ End number outcome
-  pub sends : frames_of x.ends slot out.sends.items ≡ partings_at x slot
+  pub sends : ArePartings x slot out.sends.items
   pub ended : out.ended ≡ true
 
 -- the content is there: the drop of a move is to begin, and a get ends

@@ -9,12 +9,10 @@ use Rattle.node_ends.specs.Ends.{link_at}
 use Rattle.node_ends.specs.Joined.{StayPaired, StaysSo}
 use Rattle.object_store.specs.Stores.{Contents, Parts}
 use Rattle.run_data.specs.Files.{file_of, file_path}
-use Rattle.repo_node.specs.Acting.{with_job}
 use Rattle.run_data.specs.declared.entry.By.{By}
 use Rattle.run_data.specs.declared.entry.By.TheVariants.{Script}
 use Rattle.run_data.specs.declared.entry.EntryKind.{EntryKind}
 use Rattle.run_data.specs.declared.entry.EntryKind.TheVariants.{Compact}
-use Rattle.run_data.specs.declared.job.Job.{Job}
 use Rattle.run_data.specs.declared.entry.LogFile.{LogFile}
 use Rattle.union_merge.specs.Branch.{lines_at, with_file}
 use Rattle.union_merge.specs.LineSet.{difference}
@@ -126,10 +124,10 @@ part_keeps (Err e) was now ok err = refused_keeps Script e err.call was now err.
 
 -- ---- a job
 
-pub begin_keeps : {K E : Type 0} (r : Result ℕ E) (kind : ℕ → EntryKind) (job : Job) (paths : List (List ℕ)) (was now : NodeView K)
-    → IfOk r (λ number. now ≡ record (with_entry was was.keeper was.branch (kind number) []) { parts = record was.parts { jobs = with_job was.parts.jobs job paths } }) → OnErr r (now ≡ was) → Keeps was now
-begin_keeps (Ok number) kind job paths was now ok err = record { setup = ap (λ n. n.setup) ok; links = ap (λ n. n.parts.links) ok }
-begin_keeps (Err e) kind job paths was now ok err = record { setup = ap (λ n. n.setup) err; links = ap (λ n. n.parts.links) err }
+pub begin_keeps : {K E : Type 0} (r : Result ℕ E) (kind : ℕ → EntryKind) (was now : NodeView K)
+    → IfOk r (λ number. now ≡ record (with_entry was was.keeper was.branch (kind number) []) { parts = record was.parts { jobs = now.parts.jobs } }) → OnErr r (now ≡ was) → Keeps was now
+begin_keeps (Ok number) kind was now ok err = record { setup = ap (λ n. n.setup) ok; links = ap (λ n. n.parts.links) ok }
+begin_keeps (Err e) kind was now ok err = record { setup = ap (λ n. n.setup) err; links = ap (λ n. n.parts.links) err }
 
 -- ---- a turn
 

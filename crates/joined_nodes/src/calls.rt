@@ -1,5 +1,5 @@
 //! Calls of one of the nodes: each does what the node's own does, and leaves the others as they are.
-ghost use Rattle.std.specs.Prelude.{◌≡◌, ◌≢◌, ◌⊎◌, ℕ, ◌+◌, ◌≤◌, ◌<◌, ◌^◌, Bool, true, [], ◌∷◌, Err, None, Some, max, length, map, is_some, slice_get, IfOk, IfErr, IsErrOf, OnErr, OnOk};
+ghost use Rattle.std.specs.Prelude.{◌≡◌, ◌≢◌, ◌⊎◌, ℕ, ◌+◌, ◌≤◌, ◌<◌, ◌^◌, Bool, true, [], ◌∷◌, Err, Some, max, length, map, is_some, slice_get, IfOk, IfErr, IsErrOf, OnErr, OnOk};
 ghost use Rattle.std.specs.Map.{keys_of};
 ghost use Rattle.std.specs.Option.{ForSome, option_copied, option_map};
 ghost use Rattle.annex_base.specs.Causes.{Rose};
@@ -9,7 +9,7 @@ ghost use Rattle.key_verify.specs.Matching.{MatchesKey};
 ghost use Rattle.link_ring.specs.Ends.{after_drop};
 ghost use Rattle.log_lines.specs.LineText.{line_text};
 ghost use Rattle.node_ends.specs.Joined.{StayPaired};
-ghost use Rattle.repo_node.specs.Acting.{with_job};
+ghost use Rattle.repo_node.specs.Beginning.{Begins, MayBegin};
 ghost use Rattle.node_model.specs.SetUp.{SetUp};
 ghost use Rattle.node_model.specs.Step.{step};
 ghost use Rattle.object_store.specs.Calls.{one_more};
@@ -39,7 +39,7 @@ use branch_bundle::bundles_are_exact;
 use log_lines::{Entry, LogKind};
 use object_store::{FailingKeeper, Keeper};
 use repo_node::{BeginRefused, NodeRefused, Turn};
-use run_data::{Job, JobKind};
+use run_data::Job;
 
 impl<K: Keeper> Nodes<K> {
     /// Raises the time of a node, in milliseconds of the script, and its count of the last entry, as `Node::advance` does.
@@ -56,13 +56,13 @@ impl<K: Keeper> Nodes<K> {
         self.nodes[repo].advance(time, count);
     }
 
-    /// Begins a drop of a node's own copy, of a key with these paths, as `Node::begin` does.
+    /// Begins a job of a node, on a key with these paths, as `Node::begin` does.
     pub fn begin(&mut self, repo: usize, job: Job, paths: Items<Text>) -> Result<u32, BeginRefused>
         requires there { repo < length self.old }
-        requires kind { job.kind ≡ JobKind.Drop }
-        requires peer { job.peer ≡ None }
+        requires may { (n : NodeView K) → slice_get self.old repo ≡ Some n → MayBegin (record { number = n.setup.number; ids = n.setup.repos }) job.kind job.peer }
         ensures number { AtNode repo self.old self.new (λ was now. IfOk result (λ number. number ≡ was.parts.jobs.begun + 1)) }
-        ensures ok { AtNode repo self.old self.new (λ was now. IfOk result (λ number. now ≡ record (with_entry was was.keeper was.branch (Begin number job) []) { parts = record was.parts { jobs = with_job was.parts.jobs job paths } })) }
+        ensures jobs { AtNode repo self.old self.new (λ was now. OnOk result (Begins was.parts.jobs job paths now.parts.jobs)) }
+        ensures ok { AtNode repo self.old self.new (λ was now. IfOk result (λ number. now ≡ record (with_entry was was.keeper was.branch (Begin number job) []) { parts = record was.parts { jobs = now.parts.jobs } })) }
         ensures slot { AtNode repo self.old self.new (λ was now. IsErrOf result BeginRefused.NoSlot → 4 ≤ length was.parts.jobs.running) }
         ensures free { AtNode repo self.old self.new (λ was now. (result ≡ Err BeginRefused.NoSlot → ⊥) → length was.parts.jobs.running < 4) }
         ensures full { AtNode repo self.old self.new (λ was now. IsErrOf result BeginRefused.Full → length was.history ≡ most_entries) }

@@ -1,4 +1,4 @@
--- The lemmas of this crate, which `node_jobs` uses too.
+-- The lemmas of this crate, which the crates above use too.
 pub mod Hearing
 pub mod Knowing
 pub mod Freeing

@@ -10,6 +10,7 @@ mod place;
 mod readiness;
 
 pub use acting::act;
+pub use drop_worker;
 pub use drop_worker::{
     Ending, Heard, Input, Output, Parcel, ParcelBody, Phase, Said, Sends, Taken, Time, Token,
     Worker, end,

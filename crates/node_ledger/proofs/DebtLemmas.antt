@@ -1,5 +1,5 @@
 -- The lines that a ledger owes, the entries that pay them, and what these are due.
-use Rattle.std.proofs.Common.{◌≡◌, ℕ, ◌+◌, Bool, true, false, ◌&&◌, List, [], ◌∷◌, ◌++◌, length, drop, Option, Some, None, Result, Ok, Err, OnOk, IfOk, IfErr, bytes_eq, refl, ◌∙◌, sym, ap, subst}
+use Rattle.std.proofs.Common.{◌≡◌, ℕ, ◌<◌, ◌+◌, Bool, true, false, ◌&&◌, List, [], ◌∷◌, ◌++◌, length, drop, Option, Some, None, Result, Ok, Err, OnOk, IfOk, IfErr, IfSome, bytes_eq, refl, ◌∙◌, sym, ap, subst}
 use Rattle.std.specs.Prelude.{slice_get, option_to_list}
 use Rattle.std.proofs.lemmas.Option.{none-some}
 use Rattle.annex_base.specs.declared.kinds.Call.TheVariants.{PutFile}
@@ -16,17 +16,21 @@ use Rattle.node_model.specs.OwedLines.{OwedLine, due, if_new, same_lines, status
 use Rattle.store_entries.specs.Changes.{AreNew}
 use Rattle.node_ledger.specs.Debts.{IsDraftOf, IsFirstDraft, with_status}
 use Rattle.node_ledger.specs.declared.owed.Draft.{Draft}
+use Rattle.node_ledger.specs.declared.owed.Due.{Due}
 use Rattle.node_ledger.specs.Ledgers.{are_due, due_by, id_known, with_entry, LedgerView}
-use Rattle.node_past.specs.Owing.{AreDebts, IsFirstOf, is_owing, owed_at, owed_of, rest_if}
+use Rattle.node_past.specs.Owing.{AreDebts, IsDebt, IsFirstOf, is_owing, owed_at, owed_by_debt, rest_if}
+use Rattle.node_past.specs.declared.setup.Setup.{Setup}
+use Rattle.node_past.proofs.OwedLemmas.{debt_owes}
 use Rattle.node_ledger.specs.Refusals.{RefusesFor}
 use Rattle.node_past.specs.declared.refused.NodeRefused.{NodeRefused}
+use Rattle.owed_lines.specs.declared.debt.Debt.{Debt}
 use Rattle.store_entries.proofs.ChangeLemmas.{if_new_new}
 
 none_one : ◌≡◌ {A = ℕ} 0 1 → ⊥
 none_one one = absurd cc
 
-some_place : (p q : ℕ) → Some p ≡ Some q → p ≡ q
-some_place p q is = cc
+some_debt : (d x : Debt) → Some d ≡ Some x → d ≡ x
+some_debt d x is = cc
 
 cons_same : (d o : OwedLine) (ds os : List OwedLine) → d ∷ ds ≡ o ∷ os → d ≡ o
 cons_same d o ds os is = cc
@@ -37,25 +41,34 @@ one_first : (o : Option OwedLine) (xs ys : List OwedLine) → option_to_list o �
 one_first None xs ys is one = absurd (none_one (ap (λ (w : List OwedLine). length w) is ∙ one))
 one_first (Some o) xs ys is one = subst (λ (w : List OwedLine). w ++ ys ≡ o ∷ drop 1 (w ++ ys)) is refl
 
-pub first_some : (r : ℕ) (h : List Entry) (places : List ℕ) (place : ℕ) (o : Option OwedLine) → slice_get places 0 ≡ Some place → option_to_list o ≡ owed_of r (slice_get h place) → AreDebts r h places → IsFirstOf o (owed_at r h places)
-first_some r h [] place o at is debts = absurd (none-some place at)
-first_some r h (p ∷ places) place o at is debts =
-    one_first o (owed_of r (slice_get h p)) (owed_at r h places) (is ∙ ap (λ (x : ℕ). owed_of r (slice_get h x)) (sym (some_place p place at))) debts.0
+pub first_some : (s : Setup) (h : List Entry) (ds : List Debt) (d : Debt) (o : Option OwedLine) → slice_get ds 0 ≡ Some d → option_to_list o ≡ owed_by_debt s.number h d → AreDebts s h ds → IsFirstOf o (owed_at s.number h ds)
+first_some s h [] d o at is are = absurd (none-some d at)
+first_some s h (x ∷ ds) d o at is are =
+    one_first o (owed_by_debt s.number h x) (owed_at s.number h ds) (is ∙ ap (owed_by_debt s.number h) (sym (some_debt x d at))) (debt_owes s h x are.0)
 
-pub first_none : (r : ℕ) (h : List Entry) (places : List ℕ) → slice_get places 0 ≡ None → owed_at r h places ≡ []
+pub first_none : (r : ℕ) (h : List Entry) (ds : List Debt) → slice_get ds 0 ≡ None → owed_at r h ds ≡ []
 first_none r h [] at = refl
-first_none r h (p ∷ places) at = absurd (none-some p (sym at))
+first_none r h (d ∷ ds) at = absurd (none-some d (sym at))
+
+pub first_is : (s : Setup) (h : List Entry) (ds : List Debt) (d : Debt) → slice_get ds 0 ≡ Some d → AreDebts s h ds → IsDebt s h d
+first_is s h [] d at are = absurd (none-some d at)
+first_is s h (x ∷ ds) d at are = subst (IsDebt s h) (some_debt x d at) are.0
+
+-- of the repository itself
+pub own_among : (o : Option Due) (number count : ℕ) → IfSome o (λ d. d.repo ≡ number) → number < count → IfSome o (λ d. d.repo < count)
+own_among None number count own there = tt
+own_among (Some d) number count own there = subst (λ (r : ℕ). r < count) (sym own) there
 
 one_owing : (xs ys : List OwedLine) → length xs ≡ 1 → true ≡ is_owing (xs ++ ys)
 one_owing [] ys one = absurd (none_one one)
 one_owing (x ∷ xs) ys one = refl
 
-pub some_owing : (r : ℕ) (h : List Entry) (places : List ℕ) (place : ℕ) → slice_get places 0 ≡ Some place → AreDebts r h places → true ≡ is_owing (owed_at r h places)
-some_owing r h [] place at debts = absurd (none-some place at)
-some_owing r h (p ∷ places) place at debts = one_owing (owed_of r (slice_get h p)) (owed_at r h places) debts.0
+pub some_owing : (s : Setup) (h : List Entry) (ds : List Debt) (d : Debt) → slice_get ds 0 ≡ Some d → AreDebts s h ds → true ≡ is_owing (owed_at s.number h ds)
+some_owing s h [] d at are = absurd (none-some d at)
+some_owing s h (x ∷ ds) d at are = one_owing (owed_by_debt s.number h x) (owed_at s.number h ds) (debt_owes s h x are.0)
 
-pub none_owing : (r : ℕ) (h : List Entry) (places : List ℕ) → slice_get places 0 ≡ None → false ≡ is_owing (owed_at r h places)
-none_owing r h places at = ap is_owing (sym (first_none r h places at))
+pub none_owing : (r : ℕ) (h : List Entry) (ds : List Debt) → slice_get ds 0 ≡ None → false ≡ is_owing (owed_at r h ds)
+none_owing r h ds at = ap is_owing (sym (first_none r h ds at))
 
 same_self : (xs : List (List ℕ)) → same_lines xs xs ≡ true
 same_self [] = refl

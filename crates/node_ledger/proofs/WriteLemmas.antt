@@ -20,6 +20,7 @@ use Rattle.node_past.specs.declared.past.Past.{Past}
 use Rattle.node_past.specs.declared.refused.NodeRefused.{NodeRefused}
 use Rattle.node_past.specs.declared.refused.NodeRefused.TheVariants as refusals
 use Rattle.node_past.specs.declared.setup.Ended.{Ended}
+use Rattle.owed_lines.specs.declared.debt.Debt.{Debt}
 use Rattle.store_entries.specs.Changes.{changed_file}
 use Rattle.store_entries.specs.declared.changing.Change.{Change}
 use Rattle.node_past.specs.Pasts.{AddsTo, FailsFor, SamePast}
@@ -128,5 +129,5 @@ seen_owed (Err e) k b was owed owed' n kind lines paid view pays left = tt
 
 -- ---- before the first entry
 
-pub no_debts : (r : ℕ) (history : List Entry) (debts : List ℕ) → debts ≡ [] → AreDebts r history debts
-no_debts r history debts free = subst (AreDebts r history) (sym free) tt
+pub no_debts : (s : Setup) (history : List Entry) (ds : List Debt) → ds ≡ [] → AreDebts s history ds
+no_debts s history ds free = subst (AreDebts s history) (sym free) tt

@@ -7,10 +7,10 @@ use Rattle.run_data.specs.declared.entry.EntryKind.TheVariants.{Log}
 use Rattle.run_data.specs.declared.entry.LogFile.TheVariants.{Location}
 use Rattle.union_merge.specs.Branch.{merged_file}
 use Rattle.union_merge.specs.LineSet.{IsLine}
-use Rattle.node_model.specs.OwedLines.{OwedLine}
+use Rattle.node_model.specs.OwedLines.{OwedLine, owed_line}
 use Rattle.node_ledger.specs.Ledgers.{due_by, with_entry, Repository}
-use Rattle.node_ledger.specs.declared.owed.Debt.{Debt}
 use Rattle.node_ledger.specs.declared.owed.Draft.{Draft}
+use Rattle.node_ledger.specs.declared.owed.Due.{Due}
 use Rattle.node_past.specs.declared.refused.NodeRefused.{NodeRefused}
 use Rattle.node_past.specs.declared.refused.NodeRefused.TheVariants as refusals
 
@@ -19,9 +19,9 @@ abbrev pub with_status : {K P : Type 0} → Repository K P → K → List ℕ �
 with_status n keeper key repo there =
     let new = due_by n key repo there in with_entry n keeper (merged_file n.branch (location_path key) new) (Log (Location key)) new
 
--- the line that is owed, of the repository of this number, as the definitions have it
-abbrev pub owed_line_of : ℕ → Debt → OwedLine
-owed_line_of r d = record { by = d.by; repo = r; there = d.there; key = d.key.now }
+-- the line that is owed, as the definitions have it
+abbrev pub owed_line_of : Due → OwedLine
+owed_line_of d = owed_line d.by d.repo d.there d.key.now
 
 -- the draft of the entry that writes this line
 pub record IsDraftOf {K P : Type 0} (n : Repository K P) (o : OwedLine) (d : Draft) : Type 0 where

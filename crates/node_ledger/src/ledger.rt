@@ -8,6 +8,7 @@ ghost use Rattle.run_data.specs.Histories.{most_entries};
 use annex_base::{Call, NoMemory};
 use node_past::{Ended, Past, Setup};
 use object_store::{FailingKeeper, Keeper};
+use owed_lines::Debt;
 use run_data::Entry;
 use std::alloc::Global;
 use std::marker::Model;
@@ -22,8 +23,8 @@ pub struct Ledger<K: Keeper> {
     pub past: Past,
     /// The index of the branch's settings; none after a line couldn't be added to it for want of memory.
     pub index: Option<Settings>,
-    /// The places in the history of the entries whose lines are owed, the first to be paid first.
-    pub debts: Vec<usize>,
+    /// What owes the lines that are owed, the first to be paid first.
+    pub debts: Vec<Debt>,
 }
 
 impl<K: Keeper> Model for Ledger<K> {
@@ -35,8 +36,8 @@ impl<K: Keeper> Model for Ledger<K> {
 
     ghost view = { λ n. record { setup = n.past.setup; keeper = n.keeper; parts = tt; branch = n.branch; time = n.past.time; count = n.past.count; clock = n.past.clock; history = n.past.history.items; outcomes = n.past.outcomes.items; owed = owed_at n.past.setup.number n.past.history.items n.debts.items } };
 
-    // The store has the branch's files, the index is that of the branch, and each place is that of one owed line.
-    ghost invariant = { λ n. HasFiles (K.files n.keeper) n.branch × IsIndexed n.index n.branch × AreDebts n.past.setup.number n.past.history.items n.debts.items };
+    // The store has the branch's files, the index is that of the branch, and each debt is one line, of one of the repositories.
+    ghost invariant = { λ n. HasFiles (K.files n.keeper) n.branch × IsIndexed n.index n.branch × AreDebts n.past.setup n.past.history.items n.debts.items };
 }
 
 impl<K: Keeper> Ledger<K> {

@@ -1,5 +1,5 @@
 //! The lines that a ledger owes its branch: whether it has a content.
-ghost use Rattle.std.specs.Prelude.{◌≡◌, ◌≤◌, ◌<◌, ℕ, true, List, [], ◌∷◌, length, bytes_eq, IfOk, IfErr, IsErrOf, OnErr, OnOk, option_map, option_to_list, slice_get};
+ghost use Rattle.std.specs.Prelude.{◌≡◌, ◌≤◌, ◌<◌, true, List, ℕ, [], ◌∷◌, length, bytes_eq, IfOk, IfErr, IfSome, IsErrOf, OnErr, OnOk, option_map, option_to_list, slice_get};
 ghost use Rattle.annex_base.specs.Causes.{Rose};
 ghost use Rattle.annex_base.specs.declared.kinds.Call.TheVariants as calls;
 ghost use Rattle.node_model.specs.OwedLines.{OwedLine, if_new, owed_for, same_lines, status_line};
@@ -10,7 +10,9 @@ ghost use Rattle.run_data.specs.declared.entry.LogFile.{LogFile};
 ghost use Rattle.node_past.specs.Calls.{Makes};
 ghost use Rattle.node_ledger.specs.Debts.{IsDraftOf, IsFirstDraft, owed_line_of, with_status};
 ghost use Rattle.node_ledger.specs.Ledgers.{are_due, due_by, id_known, is_due};
-ghost use Rattle.node_past.specs.Owing.{AreDebts, IsFirstOf, is_owing, owed_at, owed_by, owed_of};
+ghost use Rattle.node_past.specs.Owing.{AreDebts, IsDebt, IsFirstOf, is_owing, owed_at, owed_by, owed_by_debt, owed_of};
+ghost use Rattle.node_past.specs.declared.setup.Setup.{Setup};
+ghost use Rattle.owed_lines.specs.Lines.{line_of};
 ghost use Rattle.node_ledger.specs.Refusals.{RefusesFor};
 
 use crate::ledger::Ledger;
@@ -18,15 +20,17 @@ use annex_base::{Line, NoMemory, RepoId, Text};
 use annex_key::Key;
 use branch_lines::{if_new, same_lines, status_line};
 use hash_dirs::location_path;
-use node_past::NodeRefused;
+use node_past::{NodeRefused, Past};
 use object_store::Keeper;
+use owed_lines::{Debt, ToldLine};
 use run_data::{By, Entry, EntryKind, LogFile};
 use union_merge::LineSet;
 
-/// A line that an entry owes the branch: by what, and of the repository's copy of the key, which is there or isn't.
+/// A line that is owed: by what, and of which repository's copy of the key, which is there or isn't.
 #[derive(Clone, Copy)]
-pub(crate) struct Debt<'a> {
+pub(crate) struct Due<'a> {
     pub by: By,
+    pub repo: u32,
     pub there: bool,
     pub key: &'a Key,
 }
@@ -40,49 +44,82 @@ pub(crate) struct Draft {
     pub new: LineSet,
 }
 
-/// The line that is owed where a copy came or went.
-fn debt_for(by: By, there: bool, key: &Key) -> Option<Debt<'_>>
-    ensures { (r : ℕ) → option_to_list (option_map (owed_line_of r) result) ≡ owed_for r by there key.now }
+/// The line that is owed where the copy of the repository of this number came or went.
+fn copy_due(number: u32, by: By, there: bool, key: &Key) -> Option<Due<'_>>
+    ensures owes { option_to_list (option_map owed_line_of result) ≡ owed_for number by there key.now }
+    ensures own { IfSome result (λ d. d.repo ≡ number) }
 {
     match by {
         By::Script => None,
-        By::Job(_) | By::Peer { .. } => Some(Debt { by, there, key }),
+        By::Job(_) | By::Peer { .. } => Some(Due {
+            by,
+            repo: number,
+            there,
+            key,
+        }),
     }
 }
 
-/// The line that an entry owes.
-fn debt_of(entry: &Entry) -> Option<Debt<'_>>
-    ensures { (r : ℕ) → option_to_list (option_map (owed_line_of r) result) ≡ owed_by r entry.now.kind }
+/// The line that an entry of the repository of this number owes.
+fn entry_due(number: u32, entry: &Entry) -> Option<Due<'_>>
+    ensures owes { option_to_list (option_map owed_line_of result) ≡ owed_by number entry.now.kind }
+    ensures own { IfSome result (λ d. d.repo ≡ number) }
 {
     match &entry.kind {
-        EntryKind::Gain { by, size: _, key } => debt_for(*by, true, key),
-        EntryKind::Gone { by, key } => debt_for(*by, false, key),
+        EntryKind::Gain { by, size: _, key } => copy_due(number, *by, true, key),
+        EntryKind::Gone { by, key } => copy_due(number, *by, false, key),
         _ => None,
     }
 }
 
 /// The line that the entry at this place owes.
-fn debt_at(history: &[Entry], place: usize) -> Option<Debt<'_>>
-    ensures { (r : ℕ) → option_to_list (option_map (owed_line_of r) result) ≡ owed_of r (slice_get history.now place) }
+fn place_due(number: u32, history: &[Entry], place: usize) -> Option<Due<'_>>
+    ensures owes { option_to_list (option_map owed_line_of result) ≡ owed_of number (slice_get history.now place) }
+    ensures own { IfSome result (λ d. d.repo ≡ number) }
 {
     match history.get(place) {
-        Some(entry) => debt_of(entry),
+        Some(entry) => entry_due(number, entry),
         None => None,
     }
 }
 
-/// The line that the entry at the first of these places owes.
-fn first_debt<'a>(debts: &[usize], history: &'a [Entry]) -> Option<Debt<'a>>
-    ensures { (r : ℕ) → AreDebts r history.now debts.now → IsFirstOf (option_map (owed_line_of r) result) (owed_at r history.now debts.now) }
+/// The line that a job owes since it was told so.
+fn told_due(told: &ToldLine) -> Due<'_>
+    ensures owes { owed_line_of result ≡ line_of told.now }
+    ensures repo { result.repo ≡ told.now.repo }
+{
+    Due {
+        by: By::Job(told.job),
+        repo: told.repo,
+        there: told.there,
+        key: &told.key,
+    }
+}
+
+/// The line that is owed by this.
+fn debt_due<'a>(debt: &'a Debt, past: &'a Past) -> Option<Due<'a>>
+    ensures owes { option_to_list (option_map owed_line_of result) ≡ owed_by_debt past.now.setup.number past.now.history.items debt.now }
+    ensures among { IsDebt past.now.setup past.now.history.items debt.now → IfSome result (λ d. d.repo < length past.now.setup.repos) }
+{
+    match debt {
+        Debt::Entry(place) => place_due(past.number(), &past.history, *place),
+        Debt::Told(told) => Some(told_due(told)),
+    }
+}
+
+/// The line that is owed by the first of these.
+fn first_due<'a>(debts: &'a [Debt], past: &'a Past) -> Option<Due<'a>>
+    ensures first { AreDebts past.now.setup past.now.history.items debts.now → IsFirstOf (option_map owed_line_of result) (owed_at past.now.setup.number past.now.history.items debts.now) }
+    ensures among { AreDebts past.now.setup past.now.history.items debts.now → IfSome result (λ d. d.repo < length past.now.setup.repos) }
 {
     match debts.first() {
-        Some(place) => debt_at(history, *place),
+        Some(debt) => debt_due(debt, past),
         None => None,
     }
 }
 
-fn has_some(debts: &[usize]) -> bool
-    ensures { (r : ℕ) (history : List Entry) → AreDebts r history debts.now → result ≡ is_owing (owed_at r history debts.now) }
+fn has_some(debts: &[Debt]) -> bool
+    ensures { (s : Setup) (history : List Entry) → AreDebts s history debts.now → result ≡ is_owing (owed_at s.number history debts.now) }
 {
     match debts.first() {
         Some(_) => true,
@@ -114,10 +151,11 @@ impl<K: Keeper> Ledger<K> {
     }
 
     /// The first line that it owes.
-    fn first_debt(&self) -> Option<Debt<'_>>
-        ensures { IsFirstOf (option_map (owed_line_of self.now.setup.number) result) self.now.owed }
+    fn first_due(&self) -> Option<Due<'_>>
+        ensures first { IsFirstOf (option_map owed_line_of result) self.now.owed }
+        ensures among { IfSome result (λ d. d.repo < length self.now.setup.repos) }
     {
-        first_debt(&self.debts, &self.past.history)
+        first_due(&self.debts, &self.past)
     }
 
     /// What the location log at this path lacks of the line that says whether a repository has the content.
@@ -134,25 +172,26 @@ impl<K: Keeper> Ledger<K> {
     }
 
     /// Whether new lines of the file of this path are just what this line is due.
-    fn pays(&self, debt: Debt<'_>, path: &[u8], lines: &[Line]) -> Result<bool, NoMemory>
-        ensures { IfOk result (λ b. b ≡ is_due self.now path.now lines.now (owed_line_of self.now.setup.number debt.entry)) }
+    fn pays(&self, due: Due<'_>, path: &[u8], lines: &[Line]) -> Result<bool, NoMemory>
+        requires { due.repo < length self.now.setup.repos }
+        ensures { IfOk result (λ b. b ≡ is_due self.now path.now lines.now (owed_line_of due.entry)) }
     {
-        let here = location_path(self.allocator(), debt.key)?;
+        let here = location_path(self.allocator(), due.key)?;
         let same = same_path(path, here.bytes());
         if !same {
             return Ok(false);
         }
-        let due = self.due(here.bytes(), self.past.number(), debt.there)?;
-        Ok(same_lines(lines, due.lines()))
+        let new = self.due(here.bytes(), due.repo, due.there)?;
+        Ok(same_lines(lines, new.lines()))
     }
 
     /// Whether new lines of the file of this path are just what the first line that it owes is due.
     pub(crate) fn are_due(&self, path: &[u8], lines: &[Line]) -> Result<bool, NoMemory>
         ensures { (file : LogFile) → path.now ≡ file_path file → IfOk result (λ b. b ≡ are_due self.now file lines.now self.now.owed) }
     {
-        match self.first_debt() {
+        match self.first_due() {
             None => Ok(false),
-            Some(debt) => self.pays(debt, path, lines),
+            Some(due) => self.pays(due, path, lines),
         }
     }
 
@@ -175,21 +214,13 @@ impl<K: Keeper> Ledger<K> {
         })
     }
 
-    /// The entry that pays this line.
-    fn draft_of(&self, debt: Debt<'_>) -> Result<Draft, NoMemory>
-        ensures { IfOk result (IsDraftOf self.now (owed_line_of self.now.setup.number debt.entry)) }
-    {
-        let number = self.past.number();
-        self.drafted(debt.key, number, debt.there, debt.by)
-    }
-
     /// The entry that pays the first line that it owes.
     fn first_draft(&self) -> Result<Draft, NoMemory>
         requires { is_owing self.now.owed ≡ true }
         ensures { IfOk result (IsFirstDraft self.now) }
     {
-        match self.first_debt() {
-            Some(debt) => self.draft_of(debt),
+        match self.first_due() {
+            Some(due) => self.drafted(due.key, due.repo, due.there, due.by),
             None => unreachable!(),
         }
     }

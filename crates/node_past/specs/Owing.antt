@@ -1,5 +1,5 @@
--- The lines that the entries of a repository owe its branch, and what a refused call leaves of them (own).
-use Rattle.std.specs.Prelude.{◌≡◌, ◌+◌, Bool, true, false, List, length, Option, Result, Ok, Err, ℕ, if◌then◌else◌, [], ◌∷◌, ◌++◌, drop, slice_get, Some, None}
+-- The lines that a repository owes its branch, what owes them, and what a refused call leaves of them (own).
+use Rattle.std.specs.Prelude.{◌≡◌, ◌<◌, Bool, true, false, List, length, Option, Result, Ok, Err, ℕ, if◌then◌else◌, [], ◌∷◌, ◌++◌, drop, slice_get, Some, None}
 use Rattle.annex_base.specs.declared.kinds.Call.{Call}
 use Rattle.run_data.specs.declared.entry.By.{By}
 use Rattle.run_data.specs.declared.entry.By.TheVariants.{Script}
@@ -8,6 +8,10 @@ use Rattle.run_data.specs.declared.entry.EntryKind.{EntryKind}
 use Rattle.node_model.specs.OwedLines.{OwedLine, owed_without, owed_for}
 use Rattle.node_past.specs.declared.refused.NodeRefused.{NodeRefused}
 use Rattle.node_past.specs.declared.refused.NodeRefused.TheVariants as refusals
+use Rattle.node_past.specs.declared.setup.Setup.{Setup}
+use Rattle.owed_lines.specs.declared.debt.Debt.{Debt}
+use Rattle.owed_lines.specs.declared.debt.Debt.TheVariants as debts
+use Rattle.owed_lines.specs.Lines.{line_of}
 use Rattle.annex_base.specs.Lists.{Each}
 use Rattle.run_data.specs.declared.entry.EntryKind.TheVariants.{Gain, Gone}
 
@@ -22,14 +26,23 @@ abbrev pub owed_of : ℕ → Option Entry → List OwedLine
 owed_of r None = []
 owed_of r (Some e) = owed_by r e.kind
 
--- those of the entries at these places of a history
-abbrev pub owed_at : ℕ → List Entry → List ℕ → List OwedLine
-owed_at r history [] = []
-owed_at r history (place ∷ places) = owed_of r (slice_get history place) ++ owed_at r history places
+-- the line that is owed by this: by the entry at a place of a history, or since a job was told so
+abbrev pub owed_by_debt : ℕ → List Entry → Debt → List OwedLine
+owed_by_debt r history (debts.Entry place) = owed_of r (slice_get history place)
+owed_by_debt r history (debts.Told t) = line_of t ∷ []
 
--- each place is that of an entry that owes one line
-abbrev pub AreDebts : ℕ → List Entry → List ℕ → Type 0
-AreDebts r history places = Each (λ place. length (owed_of r (slice_get history place)) ≡ 1) places
+-- those that are owed by these, in their order
+abbrev pub owed_at : ℕ → List Entry → List Debt → List OwedLine
+owed_at r history [] = []
+owed_at r history (d ∷ ds) = owed_by_debt r history d ++ owed_at r history ds
+
+-- it owes one line, of one of the repositories of the set-up
+abbrev pub IsDebt : Setup → List Entry → Debt → Type 0
+IsDebt s history (debts.Entry place) = length (owed_of s.number (slice_get history place)) ≡ 1
+IsDebt s history (debts.Told t) = t.repo < length s.repos
+
+abbrev pub AreDebts : Setup → List Entry → List Debt → Type 0
+AreDebts s history ds = Each (IsDebt s history) ds
 
 -- a list, or where the first is to go, the rest of it
 abbrev pub rest_if : {X : Type 0} → Bool → List X → List X

@@ -1,5 +1,5 @@
 -- What a step of the sessions or of the jobs adds to a node.
-use Rattle.std.proofs.Common.{◌≡◌, ℕ, ◌+◌, Bool, false, List, [], ◌∷◌, ◌++◌, Option, Some, None, Result, Ok, Err, IfOk, length, is_some, refl, sym, ap, subst, ◌∙◌}
+use Rattle.std.proofs.Common.{◌≡◌, ℕ, ◌+◌, Bool, List, [], ◌∷◌, ◌++◌, Option, Some, None, Result, Ok, Err, IfOk, inl, inr, length, is_some, refl, sym, ap, subst, ◌∙◌}
 use Rattle.std.specs.Prelude.{IfSome, if◌then◌else◌, vec_len}
 use Rattle.std.specs.Option.{ForSome, option_map, option_or}
 use Rattle.annex_base.specs.Causes.{Rose}
@@ -22,20 +22,20 @@ use Rattle.node_model.specs.Clocks.{ClockSet}
 use Rattle.node_model.specs.Look.{Look, Effect, as_told, entry_of, failed_in}
 use Rattle.node_model.specs.SessionStep.{session_step}
 use Rattle.node_model.specs.SetUp.{SetUp}
+use Rattle.node_model.specs.Slots.{job_of}
 use Rattle.node_model.specs.State.{State}
 use Rattle.node_model.specs.OwedLines.{OwedLine}
 use Rattle.node_model.specs.Turns.{job_step}
 use Rattle.content_lock.specs.CallsMade.{MakesCalls, fewer}
-use Rattle.p2p_server.specs.declared.session.Session.{Session}
-use Rattle.node_sessions.specs.Serving.{SeesPartAt}
-use Rattle.node_sessions.specs.Sessions.{AreAllFed}
+use Rattle.owed_lines.specs.declared.debt.Debt.{Debt}
+use Rattle.node_sessions.specs.Kinds.{IsOfSession}
 use Rattle.node_parts.specs.Places.{PlaceView}
 use Rattle.node_parts.specs.declared.done.Done.{Done}
 use Rattle.node_parts.specs.declared.moment.Moment.{Moment}
 use Rattle.node_parts.specs.Kinds.{IsQuiet}
-use Rattle.node_parts.specs.Parts.{PartsView}
+use Rattle.node_parts.specs.Parts.{AreAllFed, PartsView}
 use Rattle.node_parts.specs.Posting.{PostsPieces, stamp_of}
-use Rattle.node_parts.specs.Steps.{Acts, AsksPart, Fails, HasPart, Hears, IsPartAsked, Leaves, LeavesSo, SeesParts, Serves, Steps, WhereActed, WhereServed, failed_by, made_of, session_asked, words_heard}
+use Rattle.node_parts.specs.Steps.{Acts, AsksPart, Fails, HasPart, Hears, IsPartAsked, Leaves, LeavesSo, OwesTold, SeesParts, Serves, Steps, WhereActed, WhereServed, failed_by, made_of, words_heard}
 use Rattle.node_parts.specs.Stored.{contents_then, parts_then}
 use Rattle.node_past.specs.declared.past.Past.{Past}
 use Rattle.node_past.specs.declared.setup.Ended.{Ended}
@@ -45,8 +45,8 @@ use Rattle.node_steps.specs.Nodes.{MatchesSetup, NodeView, state_of, told_of}
 use Rattle.node_past.specs.Pasts.{SamePast, frames_entry}
 use Rattle.node_steps.specs.Stepping.{AddsIf, EntersIf, EntersStep, MovesSo, NoStep}
 use Rattle.node_past.specs.Stored.{StoreView}
-use Rattle.node_steps.specs.Turning.{Adds, GoOn, Looks, Stepper, StepsBy, branch_by, ended_by}
-use Rattle.node_steps.proofs.StepLemmas.{CountLaw, DoesBy, WhereDone, sees_parts, told_some}
+use Rattle.node_steps.specs.Turning.{Adds, GoOn, Looks, Stepper, StepsBy, branch_by, done_in, ended_by}
+use Rattle.node_steps.proofs.StepLemmas.{CountLaw, DoesBy, TellsJob, WhereDone, sees_parts, told_some}
 
 -- the node that these are
 abbrev pub seen : {K : Type 0} → K → PartsView → Files → Past → List OwedLine → NodeView K
@@ -121,6 +121,23 @@ pub record LeavesStore (p : PartsView) (before after : StoreView) (o : Option Do
   pub parts : after.parts ≡ parts_then p before.parts o
   pub left : after.failing ≡ option_map (fewer (failed_by o)) before.failing
 
+-- how the jobs go on doesn't depend on what the step owes
+still_go : (was now : PartsView) (d : Done) (e : Entry) → d.kind ≡ e.kind → d.taken ≡ e.taken → GoOn was now d → GoOn was now (done_in e)
+still_go was now d e kind taken (inl same) = inl same
+still_go was now d e kind taken (inr goes) =
+    let on = goes.1 in
+    inr (
+      goes.0,
+      record {
+        job = on.job;
+        made = ap job_of (sym kind) ∙ on.made;
+        grows = on.grows;
+        word = λ there f took. on.word there f (taken ∙ took);
+        apart = on.apart;
+        given = on.given;
+      },
+    )
+
 -- over the same store, the node is the same
 keeper_same : {K : Type 0} (k k' : K) (n : NodeView K) → k ≡ n.keeper → k' ≡ k → record n { keeper = k' } ≡ n
 keeper_same {K} k k' n here same = ap (λ (x : K). record n { keeper = x }) (same ∙ here)
@@ -142,14 +159,14 @@ adds_entry d k k' parts parts' branch number was now owed owed' before after ent
   branch = branch_stays branch d.kind quiet;
   ends = leaves.ends;
   posts = posts;
-  jobs = goes;
+  jobs = still_go parts parts' d (frames_entry was d.kind d.taken d.sent) refl refl goes;
   contents = store.contents;
   parts = store.parts;
   left = store.left;
   cause = cause;
 }
 
-pub adds_if : {K : Type 0} (view : K → StoreView) (o : Option Done) (b : Bool) (k k' : K) (parts parts' : PartsView) (branch : Files) (number : ℕ) (was ready now : Past) (debts debts' : List ℕ) (owed owed' : List OwedLine) (n : NodeView K)
+pub adds_if : {K : Type 0} (view : K → StoreView) (o : Option Done) (b : Bool) (k k' : K) (parts parts' : PartsView) (branch : Files) (number : ℕ) (was ready now : Past) (debts debts' : List Debt) (owed owed' : List OwedLine) (n : NodeView K)
     → seen k parts branch was owed ≡ n → b ≡ is_some o → SamePast was ready → EntersIf o ready now debts debts' → LeavesSo number parts parts' o → ForSome o (PostsIn was parts (view k).contents parts') → ForSome o (GoOn parts parts') → ForSome o (λ d. IsQuiet d.kind)
     → IfSome (failed_by o) (λ call. Rose (view k).faults (view k').faults) → LeavesStore parts (view k) (view k') o → (o ≡ None → owed' ≡ owed) → (o ≡ None → k' ≡ k)
     → AddsIf b n.parts.links (view n.keeper) (view k') n (seen k' parts' branch now owed')
@@ -187,8 +204,8 @@ module _ (known : Option StoredParts) (d : Done) (parts : PartsView) (k : Look) 
   finds_fails : k.fails ≡ failed_in d.kind → Fails (Some d) k
   finds_fails fails x is = fails ∙ ap (λ (y : Done). failed_in y.kind) (some_done d x is)
 
-  finds_part : IsPartAsked known parts d.taken k.part k.right → AsksPart known parts (Some d) k
-  finds_part part x is = subst (λ (y : Done). IsPartAsked known parts y.taken k.part k.right) (some_done d x is) part
+  finds_part : IsPartAsked known parts d.kind d.taken k.part k.right → AsksPart known parts (Some d) k
+  finds_part part x is = subst (λ (y : Done). IsPartAsked known parts y.kind y.taken k.part k.right) (some_done d x is) part
 
   finds_words : k.words ≡ words_heard parts (Some d) → Hears parts (Some d) k
   finds_words words x is = words ∙ ap (λ (y : Done). words_heard parts (Some y)) (some_done d x is)
@@ -220,7 +237,7 @@ some_steps step law d k k' parts parts' branch was now owed owed' before after k
       };
 }
 
-pub steps_if : {K : Type 0} (view : K → StoreView) (step : Stepper) (law : CountLaw) (o : Option Done) (b : Bool) (k k' : K) (parts parts' : PartsView) (branch : Files) (was ready now : Past) (debts debts' : List ℕ) (owed owed' : List OwedLine) (n : NodeView K)
+pub steps_if : {K : Type 0} (view : K → StoreView) (step : Stepper) (law : CountLaw) (o : Option Done) (b : Bool) (k k' : K) (parts parts' : PartsView) (branch : Files) (was ready now : Past) (debts debts' : List Debt) (owed owed' : List OwedLine) (n : NodeView K)
     → seen k parts branch was owed ≡ n → b ≡ is_some o → SamePast was ready → EntersIf o ready now debts debts' → IsKept was.setup was.clock was.history.items parts branch owed (told_of (view k).contents (view k).parts)
     → ForSome (told_of (view k).contents (view k).parts) (λ c. DoesBy step parts parts' c (view k).parts (view k').contents was.setup was.clock was.history.items was.time o)
     → ForSome (told_of (view k).contents (view k).parts) (λ c. WhereDone parts c (view k).parts was.setup was.clock was.history.items was.time o (λ s st x. ForSome (step s st x) (λ (m : Effect). MakesCalls m.calls (failed_by o) (view k).failing (view k').failing)))
@@ -239,7 +256,7 @@ steps_if {K} view step law (Some d) b k k' parts parts' branch was ready now deb
 pub next_number : (was ready : Past) → SamePast was ready → vec_len ready.history + 1 ≡ length was.history.items + 1
 next_number was ready same = ap (λ (n : ℕ). n + 1) (ready.history.ok.0 ∙ ap (λ (h : List Entry). length h) same.history)
 
-told_both : (cs : Option Contents) (qs : Option StoredParts) (c : Contents) → told_of cs qs ≡ Some c → (q : StoredParts) × (qs ≡ Some q)
+pub told_both : (cs : Option Contents) (qs : Option StoredParts) (c : Contents) → told_of cs qs ≡ Some c → (q : StoredParts) × (qs ≡ Some q)
 told_both cs None c told = absurd cc
 told_both cs (Some q) c told = (q, refl)
 
@@ -255,6 +272,13 @@ moment_same was ready same =
     ∙ ap (λ (c : ℕ). moment was.time was.clock c (vec_len ready.history + 1)) same.count
     ∙ ap (λ (n : ℕ). moment was.time was.clock was.count n) (next_number was ready same)
 
+-- what a part is asked for is there, where the store tells its parts
+has_asked : (parts : PartsView) (cs : Option Contents) (qs : Option StoredParts) (o : Option Done) (c : Contents) → told_of cs qs ≡ Some c → IsFed qs parts → ForSome qs (λ q. AreAllFed q parts → ForSome o (λ d. HasPart (Some q) parts d.kind d.taken))
+    → ForSome o (λ d. HasPart qs parts d.kind d.taken)
+has_asked parts cs qs o c told fed asked =
+    let q = told_both cs qs c told in
+    subst (λ (x : Option StoredParts). ForSome o (λ d. HasPart x parts d.kind d.taken)) (sym q.1) (asked q.0 q.1 (fed q.0 q.1))
+
 -- what is so wherever the sessions' step is made, is so of the node's states
 served_where : (m : Moment) (was ready : Past) (parts : PartsView) (c : Contents) (known : Option StoredParts) (o : Option Done) (P : SetUp → State → Look → Type 0) → m ≡ moment_in ready → SamePast was ready
     → WhereServed parts c known m.clock m.time m.number o P → WhereDone parts c known was.setup was.clock was.history.items was.time o P
@@ -263,20 +287,29 @@ served_where m was ready parts c known o P at same there s k fits sees fails ask
 
 pub served_does : (m : Moment) (was ready : Past) (parts parts' : PartsView) (cs cs' : Option Contents) (qs : Option StoredParts) (o : Option Done)
     → m ≡ moment_in ready → SamePast was ready → IsFed qs parts
-    → ForSome cs (λ c. Serves parts parts' c qs cs' m.clock m.time m.number o) → ForSome qs (λ q. AreAllFed q parts.sessions → ForSome o (λ d. HasPart (Some q) parts d.taken))
+    → ForSome cs (λ c. Serves parts parts' c qs cs' m.clock m.time m.number o) → ForSome qs (λ q. AreAllFed q parts → ForSome o (λ d. HasPart (Some q) parts d.kind d.taken))
     → ForSome (told_of cs qs) (λ c. DoesBy session_step parts parts' c qs cs' was.setup was.clock was.history.items was.time o)
-served_does m was ready parts parts' cs cs' qs o at same fed serves asked c told =
-    let q = told_both cs qs c told in
-    record {
-      part = subst (λ (x : Option StoredParts). ForSome o (λ d. HasPart x parts d.taken)) (sym q.1) (asked q.0 q.1 (fed q.0 q.1));
-      does = served_where m was ready parts c qs o (λ s st k. Steps session_step parts' cs' s st k o) at same (serves c (told_some cs qs c told).0);
-    }
+served_does m was ready parts parts' cs cs' qs o at same fed serves asked c told = record {
+  part = has_asked parts cs qs o c told fed asked;
+  does = served_where m was ready parts c qs o (λ s st k. Steps session_step parts' cs' s st k o) at same (serves c (told_some cs qs c told).0);
+}
 
 pub served_calls : (m : Moment) (was ready : Past) (parts : PartsView) (cs : Option Contents) (qs : Option StoredParts) (o : Option Done) (before after : Option (Call → ℕ)) → m ≡ moment_in ready → SamePast was ready
     → ForSome cs (λ c. WhereServed parts c qs m.clock m.time m.number o (λ s st k. ForSome (session_step s st k) (λ (m : Effect). MakesCalls m.calls (failed_by o) before after)))
     → ForSome (told_of cs qs) (λ c. WhereDone parts c qs was.setup was.clock was.history.items was.time o (λ s st k. ForSome (session_step s st k) (λ (m : Effect). MakesCalls m.calls (failed_by o) before after)))
 served_calls m was ready parts cs qs o before after at same calls c told =
     served_where m was ready parts c qs o (λ s st k. ForSome (session_step s st k) (λ (m : Effect). MakesCalls m.calls (failed_by o) before after)) at same (calls c (told_some cs qs c told).0)
+
+-- a session's entry is no talk of a job
+abbrev pub SessionsLaw : Type 0
+SessionsLaw = (s : SetUp) (st : State) (k : Look) (m : Effect) → session_step s st k ≡ Some m → IsOfSession m.kind × (m.lines ≡ [])
+
+pub sessions_tell : SessionsLaw → (p : PartsView) (o : Option Done) → ForSome o (TellsJob session_step p)
+sessions_tell law p o d is s st k m job made talks = absurd (subst IsOfSession talks (law s st k m made).0)
+
+-- a job owes what it was told
+pub jobs_tell : (p : PartsView) (o : Option Done) → ForSome o (OwesTold p) → ForSome o (TellsJob job_step p)
+jobs_tell p o owes d is s st k m job made talks = owes d is
 
 -- what the jobs read is what the state has read
 pub settings_are : (setup : Setup) (clock : ClockSet) (h : List Entry) (parts : PartsView) (branch : Files) (owed : List OwedLine) (told : Option Contents) (i : Indices) (s : SetUp)
@@ -286,31 +319,24 @@ settings_are setup clock h parts branch owed told i s law reads kept fits =
     let same : (state_of s h).lines ≡ lines_at branch = (λ j path. sym (is.lines path) j) in
     ap settings same ∙ sym (law i (lines_at branch) reads)
 
--- where no session is asked, any part will do
-none_sees : (known : Option StoredParts) (taken : Option FrameView) → SeesPartAt known None taken 0 false
-none_sees known None = tt
-none_sees known (Some f) = tt
-
-none_asked : (known : Option StoredParts) (p : PartsView) (taken : Option FrameView) → session_asked p.sessions taken ≡ None → HasPart known p taken
-none_asked known p taken is = record { part = 0; right = false; asked = subst (λ (x : Option Session). SeesPartAt known x taken 0 false) (sym is) (none_sees known taken) }
-
 -- the premises on the moment, and on what the index has read
 module _ (m : Moment) (was ready : Past) (parts : PartsView) (branch : Files) (owed : List OwedLine) (cs : Option Contents) (qs : Option StoredParts) (i : Indices) (o : Option Done)
     (at : m ≡ moment_in ready) (same : SamePast was ready) (law : (x : Indices) (lines : Lines) → HaveReadLines x lines → settings_of x ≡ settings lines) (reads : HaveReadLines i (lines_at branch))
     (kept : IsKept was.setup was.clock was.history.items parts branch owed (told_of cs qs)) where
-  acted_where : (c : Contents) (P : SetUp → State → Look → Type 0) → WhereActed parts c m.clock (settings_of i) m.time m.number o P → WhereDone parts c qs was.setup was.clock was.history.items was.time o P
+  acted_where : (c : Contents) (P : SetUp → State → Look → Type 0) → WhereActed parts c qs m.clock (settings_of i) m.time m.number o P → WhereDone parts c qs was.setup was.clock was.history.items was.time o P
   acted_where c P there s k fits sees fails asks hears =
-      (subst (λ (x : Moment). WhereActed parts c x.clock (settings_of i) x.time x.number o P) (at ∙ moment_same was ready same) there) s (state_of s was.history.items) k
-      (sees.parts.logs ∙ settings_are was.setup was.clock was.history.items parts branch owed (told_of cs qs) i s law reads kept fits) sees fails hears
+      (subst (λ (x : Moment). WhereActed parts c qs x.clock (settings_of i) x.time x.number o P) (at ∙ moment_same was ready same) there) s (state_of s was.history.items) k
+      (sees.parts.logs ∙ settings_are was.setup was.clock was.history.items parts branch owed (told_of cs qs) i s law reads kept fits) sees fails asks hears
 
-  pub acted_does : (parts' : PartsView) (cs' : Option Contents) → ForSome cs (λ c. Acts parts parts' c cs' m.clock (settings_of i) m.time m.number o) → ForSome o (λ d. session_asked parts.sessions d.taken ≡ None)
+  pub acted_does : (parts' : PartsView) (cs' : Option Contents) → IsFed qs parts → ForSome cs (λ c. Acts parts parts' c qs cs' m.clock (settings_of i) m.time m.number o)
+      → ForSome qs (λ q. AreAllFed q parts → ForSome o (λ d. HasPart (Some q) parts d.kind d.taken))
       → ForSome (told_of cs qs) (λ c. DoesBy job_step parts parts' c qs cs' was.setup was.clock was.history.items was.time o)
-  acted_does parts' cs' acts asked c told = record {
-    part = λ d is. none_asked qs parts d.taken (asked d is);
+  acted_does parts' cs' fed acts asked c told = record {
+    part = has_asked parts cs qs o c told fed asked;
     does = acted_where c (λ s st k. Steps job_step parts' cs' s st k o) (acts c (told_some cs qs c told).0);
   }
 
-  pub acted_calls : (before after : Option (Call → ℕ)) → ForSome cs (λ c. WhereActed parts c m.clock (settings_of i) m.time m.number o (λ s st k. ForSome (job_step s st k) (λ (m : Effect). MakesCalls m.calls (failed_by o) before after)))
+  pub acted_calls : (before after : Option (Call → ℕ)) → ForSome cs (λ c. WhereActed parts c qs m.clock (settings_of i) m.time m.number o (λ s st k. ForSome (job_step s st k) (λ (m : Effect). MakesCalls m.calls (failed_by o) before after)))
       → ForSome (told_of cs qs) (λ c. WhereDone parts c qs was.setup was.clock was.history.items was.time o (λ s st k. ForSome (job_step s st k) (λ (m : Effect). MakesCalls m.calls (failed_by o) before after)))
   acted_calls before after calls c told = acted_where c (λ s st k. ForSome (job_step s st k) (λ (m : Effect). MakesCalls m.calls (failed_by o) before after)) (calls c (told_some cs qs c told).0)
 

@@ -1,8 +1,8 @@
 -- What a node writes of a line that is owed is what the step writes.
-use Rattle.std.proofs.Common.{◌≡◌, ℕ, ◌+◌, true, false, List, [], ◌∷◌, ◌++◌, length, drop, Option, Some, None, Result, Ok, Err, OnOk, IfErr, refl, sym, ap, subst, ◌∙◌, inl, ◌<◌, arith}
+use Rattle.std.proofs.Common.{◌≡◌, ℕ, ◌+◌, true, false, List, [], ◌∷◌, ◌++◌, length, drop, Option, Some, None, Result, Ok, Err, OnOk, IfErr, is_some, refl, sym, ap, subst, ◌∙◌, inl, ◌<◌, arith}
 use Rattle.annex_base.specs.declared.kinds.Call.{Call}
 use Rattle.annex_base.specs.declared.kinds.Call.TheVariants.{PutFile}
-use Rattle.object_store.specs.Stores.{Contents}
+use Rattle.object_store.specs.Stores.{Contents, Parts as StoredParts}
 use Rattle.run_data.specs.declared.entry.Entry.{Entry}
 use Rattle.run_data.specs.declared.entry.EntryKind.{EntryKind}
 use Rattle.run_data.specs.declared.entry.EntryKind.TheVariants.{Log, Fault}
@@ -21,8 +21,10 @@ use Rattle.node_past.specs.declared.refused.NodeRefused.{NodeRefused}
 use Rattle.node_past.specs.declared.refused.NodeRefused.TheVariants as refusals
 use Rattle.node_steps.proofs.DueLemmas.{due_is}
 use Rattle.std.specs.Prelude.{IfSome}
-use Rattle.std.specs.Option.{option_map}
+use Rattle.std.specs.Option.{option_map, option_map_or}
 use Rattle.std.proofs.lemmas.List.{append-nil}
+use Rattle.std.proofs.lemmas.Option.{same_Some}
+use Rattle.annex_base.proofs.Options.{none_and_some}
 use Rattle.annex_base.specs.Causes.{Rose}
 use Rattle.annex_base.specs.declared.kinds.EntryStamp.{EntryStamp}
 use Rattle.run_data.specs.declared.entry.FrameView.{FrameView}
@@ -35,6 +37,16 @@ use Rattle.node_model.specs.Ends.{EndName}
 use Rattle.p2p_server.specs.Answers.{contents_after}
 use Rattle.node_parts.specs.Parts.{PartsView}
 use Rattle.node_parts.specs.Posting.{PostsPieces, after_step}
+use Rattle.node_parts.specs.Acting.{SeesPartAt as JobSeesPartAt}
+use Rattle.node_parts.specs.Steps.{HasPart, job_acting}
+use Rattle.node_parts.specs.Stored.{parts_after_work}
+use Rattle.get_phases.specs.Gets.{SeesPart}
+use Rattle.get_phases.specs.declared.getting.Phase.{Phase}
+use Rattle.get_phases.specs.declared.getting.Phase.TheVariants as phases
+use Rattle.node_parts.specs.Task.{Task}
+use Rattle.node_parts.specs.Task.TheVariants as tasks
+use Rattle.node_parts.specs.Tasks.{work_now}
+use Rattle.node_parts.specs.Worker.TheVariants as workers
 use Rattle.node_past.specs.declared.setup.Ended.{Ended}
 use Rattle.node_past.specs.Calls.{Makes, StopsIn}
 use Rattle.node_past.specs.Stored.{StoreView}
@@ -151,7 +163,13 @@ posts_none sender kind parts contents = record {
     links = λ a. same_link sender kind a (link_at parts.links a);
   };
   pieces = λ a bytes there. absurd there;
+  senders = λ a bytes there client. absurd there;
 }
+
+-- where no frame came, no part changes
+none_grows : (o : Option Task) (kind : EntryKind) (known : Option StoredParts) → option_map_or (λ (t : Task). parts_after_work (work_now t) None [] kind known) o known ≡ known
+none_grows None kind known = refl
+none_grows (Some t) kind known = refl
 
 -- the contents and the parts stay, and as many calls are still to fail, but for one that failed
 pub record StaysStored (before after : StoreView) (failed : Option Call) : Type 0 where
@@ -178,7 +196,7 @@ adds_quiet law n m kind lines before after setup time clock count history outcom
   posts = subst (λ (p : PartsView). PostsPieces (stamp_then n) kind n.parts before.contents p.links None []) (sym parts) (posts_none (stamp_then n) kind n.parts before.contents);
   jobs = inl (ap (λ (p : PartsView). p.jobs) parts);
   contents = stored.contents ∙ sym still;
-  parts = stored.parts;
+  parts = stored.parts ∙ sym (none_grows (job_acting n.parts kind) kind before.parts);
   left = stored.left;
   cause = cause;
 }
@@ -191,15 +209,47 @@ pub adds_failed : {K : Type 0} (law : StayLaw) (n m : NodeView K) (o : OwedLine)
 adds_failed {K} law n m o before after is stored rose = adds_quiet law n m (Fault PutFile o.by) [] before after (ap (λ (x : NodeView K). x.setup) is) (ap (λ (x : NodeView K). x.time) is) (ap (λ (x : NodeView K). x.clock) is) (ap (λ (x : NodeView K). x.count) is) (ap (λ (x : NodeView K). x.history) is)
     (ap (λ (x : NodeView K). x.outcomes) is) (ap (λ (x : NodeView K). x.branch) is) (ap (λ (x : NodeView K). x.parts) is) refl refl stored rose
 
+-- ---- the part that a look finds
+
+-- where no frame came, a get asks for the size of its part alone
+get_sees : (q : StoredParts) (key : List ℕ) (phase : Phase) → SeesPart (Some q) key phase None (length (q key)) false
+get_sees q key (phases.Word peer start taken) = refl
+get_sees q key _ = refl
+
+abbrev size_of : StoredParts → Task → ℕ
+size_of q (tasks.Transfers (workers.Gets w)) = length (q w.job.key)
+size_of q t = 0
+
+task_sees : (q : StoredParts) (t : Task) → JobSeesPartAt (Some q) t None (size_of q t) false
+task_sees q (tasks.Drops j) = tt
+task_sees q (tasks.Transfers (workers.Gets w)) = get_sees q w.job.key w.phase
+task_sees q (tasks.Transfers (workers.Puts w)) = tt
+
+has_size : (q : StoredParts) (p : PartsView) (kind : EntryKind) → HasPart (Some q) p kind None
+has_size q p kind = go (job_acting p kind) refl
+  where
+    go : (o : Option Task) → job_acting p kind ≡ o → HasPart (Some q) p kind None
+    go None none = record { part = 0; right = false; asked = record { serving = tt; acting = λ t acts. absurd (none_and_some (job_acting p kind) t none acts) } }
+    go (Some t) some = record {
+      part = size_of q t;
+      right = false;
+      asked = record { serving = tt; acting = λ u acts. subst (λ (v : Task). JobSeesPartAt (Some q) v None (size_of q t) false) (same_Some t u (sym some ∙ acts)) (task_sees q t) };
+    }
+
+-- a store that tells its parts has such a part
+has_told : (known : Option StoredParts) (p : PartsView) (kind : EntryKind) → is_some known ≡ true → HasPart known p kind None
+has_told None p kind told = absurd cc
+has_told (Some q) p kind told = has_size q p kind
+
 -- ---- the step
 
-steps_by : {K : Type 0} (r : Result (Unit {0}) NodeRefused) (n m : NodeView K) (kind : EntryKind) (lines : List (List ℕ)) (before after : StoreView) → m.history ≡ n.history ++ next_entry n kind lines ∷ [] → failing_call (failed_in kind) (PutFile ∷ []) ≡ failed_put r
+steps_by : {K : Type 0} (r : Result (Unit {0}) NodeRefused) (n m : NodeView K) (kind : EntryKind) (lines : List (List ℕ)) (before after : StoreView) → is_some before.parts ≡ true → m.history ≡ n.history ++ next_entry n kind lines ∷ [] → failing_call (failed_in kind) (PutFile ∷ []) ≡ failed_put r
     → ((s : SetUp) (k : Look) → MatchesSetup n.setup s → k.time ≡ n.time → k.count ≡ n.count + 1 → failing_call k.fails (PutFile ∷ []) ≡ failed_put r → AddsStep (owed_step s (state_of s n.history) k) n.setup.number k n.history m.history)
     → MakesCalls (PutFile ∷ []) (failed_in kind) before.failing after.failing → StepsBy owed_step before after n m
-steps_by r n m kind lines before after history fault pays calls = record {
+steps_by r n m kind lines before after told history fault pays calls = record {
   kind = kind;
   taken = None;
-  part = record { part = 0; right = false; asked = tt };
+  part = has_told before.parts n.parts kind told;
   makes = λ s k fits looks finds.
       let it = pays s k fits looks.time looks.count (ap (λ (o : Option Call). failing_call o (PutFile ∷ [])) finds.fails ∙ fault) in
       let last = last_same n.history (next_entry n kind lines) (entry_of n.setup.number k it.made) (sym history ∙ it.adds) in
@@ -213,15 +263,15 @@ steps_by r n m kind lines before after history fault pays calls = record {
       };
 }
 
-pub steps_paid : {K : Type 0} (x : Unit {0}) (n m : NodeView K) (o : OwedLine) (before after : StoreView) → m ≡ with_status n m.keeper o.key o.repo o.there
+pub steps_paid : {K : Type 0} (x : Unit {0}) (n m : NodeView K) (o : OwedLine) (before after : StoreView) → is_some before.parts ≡ true → m ≡ with_status n m.keeper o.key o.repo o.there
     → ((s : SetUp) (k : Look) → MatchesSetup n.setup s → k.time ≡ n.time → k.count ≡ n.count + 1 → failing_call k.fails (PutFile ∷ []) ≡ failed_put (Ok x) → AddsStep (owed_step s (state_of s n.history) k) n.setup.number k n.history m.history)
     → Makes (PutFile ∷ []) PutFile (Ok x) before.failing after.failing → StepsBy owed_step before after n m
-steps_paid {K} x n m o before after is pays puts = steps_by (Ok x) n m (Log (Location o.key)) (due_by n o.key o.repo o.there) before after (ap (λ (v : NodeView K). v.history) is) refl pays puts
+steps_paid {K} x n m o before after told is pays puts = steps_by (Ok x) n m (Log (Location o.key)) (due_by n o.key o.repo o.there) before after told (ap (λ (v : NodeView K). v.history) is) refl pays puts
 
-pub steps_failed : {K : Type 0} (n m : NodeView K) (o : OwedLine) (before after : StoreView) → m ≡ with_entry n m.keeper n.branch (Fault PutFile o.by) []
+pub steps_failed : {K : Type 0} (n m : NodeView K) (o : OwedLine) (before after : StoreView) → is_some before.parts ≡ true → m ≡ with_entry n m.keeper n.branch (Fault PutFile o.by) []
     → ((s : SetUp) (k : Look) → MatchesSetup n.setup s → k.time ≡ n.time → k.count ≡ n.count + 1 → failing_call k.fails (PutFile ∷ []) ≡ failed_put (Err refusals.StoreFault) → AddsStep (owed_step s (state_of s n.history) k) n.setup.number k n.history m.history)
     → StopsIn (PutFile ∷ []) PutFile refusals.StoreFault before.failing after.failing → StepsBy owed_step before after n m
-steps_failed {K} n m o before after is pays puts = steps_by (Err refusals.StoreFault) n m (Fault PutFile o.by) [] before after (ap (λ (v : NodeView K). v.history) is) refl pays puts
+steps_failed {K} n m o before after told is pays puts = steps_by (Err refusals.StoreFault) n m (Fault PutFile o.by) [] before after told (ap (λ (v : NodeView K). v.history) is) refl pays puts
 
 -- of a call that wrote the file, or failed to
 pub put_left : (before after : StoreView) → after.contents ≡ before.contents → after.parts ≡ before.parts → Makes {X = Unit {0}} (PutFile ∷ []) PutFile (Ok tt) before.failing after.failing → StaysStored before after None
@@ -275,13 +325,13 @@ pub fault_adds : {K : Type 0} (law : StayLaw) (e : NodeRefused) (n m : NodeView 
     → after.contents ≡ before.contents → after.parts ≡ before.parts → StopsIn (PutFile ∷ []) PutFile e before.failing after.failing → Rose before.faults after.faults → Adds n.parts.links before after n m
 fault_adds law e n m o before after is refuses contents parts puts rose = adds_failed law n m o before after (fault_is e n m o is refuses) (fault_left e before after is contents parts puts) rose
 
-pub fault_steps : {K : Type 0} (e : NodeRefused) (n m : NodeView K) (o : OwedLine) (before after : StoreView) → e ≡ refusals.StoreFault → RefusesFor o.by e PutFile n m
+pub fault_steps : {K : Type 0} (e : NodeRefused) (n m : NodeView K) (o : OwedLine) (before after : StoreView) → is_some before.parts ≡ true → e ≡ refusals.StoreFault → RefusesFor o.by e PutFile n m
     → ((s : SetUp) (k : Look) → MatchesSetup n.setup s → k.time ≡ n.time → k.count ≡ n.count + 1 → failing_call k.fails (PutFile ∷ []) ≡ failed_put (Err e) → WhereMade (Err e) (AddsStep (owed_step s (state_of s n.history) k) n.setup.number k n.history m.history))
     → StopsIn (PutFile ∷ []) PutFile e before.failing after.failing → StepsBy owed_step before after n m
-fault_steps refusals.Full n m o before after is refuses pays puts = absurd cc
-fault_steps refusals.StoreFault n m o before after is refuses pays puts = steps_failed n m o before after refuses pays puts
-fault_steps (refusals.BadBundle at) n m o before after is refuses pays puts = absurd cc
-fault_steps refusals.NoMemory n m o before after is refuses pays puts = absurd cc
+fault_steps refusals.Full n m o before after told is refuses pays puts = absurd cc
+fault_steps refusals.StoreFault n m o before after told is refuses pays puts = steps_failed n m o before after told refuses pays puts
+fault_steps (refusals.BadBundle at) n m o before after told is refuses pays puts = absurd cc
+fault_steps refusals.NoMemory n m o before after told is refuses pays puts = absurd cc
 
 pub memory_fault : (e : NodeRefused) → e ≡ refusals.NoMemory → e ≡ refusals.StoreFault → ⊥
 memory_fault e is other = absurd cc

@@ -26,9 +26,9 @@ use Rattle.node_model.specs.SessionStep.{is_filled}
 use Rattle.node_model.specs.SetUp.{SetUp}
 use Rattle.node_model.specs.State.{State}
 use Rattle.node_parts.specs.Places.{PlaceView}
-use Rattle.node_sessions.specs.Sessions.{AreAllFed, IsSetUp}
+use Rattle.node_sessions.specs.Sessions.{IsSetUp}
 use Rattle.node_parts.specs.Direct.{IsDirect, MovesNothing, may_fail}
-use Rattle.node_parts.specs.Parts.{AreParts, PartsView}
+use Rattle.node_parts.specs.Parts.{AreAllFed, AreParts, PartsView}
 use Rattle.node_parts.specs.Sound.{AreSound}
 use Rattle.node_past.specs.declared.setup.Setup.{Setup}
 use Rattle.node_steps.specs.Nodes.{MatchesSetup, IsState, NodeView, IsStateOfParts, state_of, told_of}
@@ -210,7 +210,7 @@ no_records holds records none empty =
 -- a ledger and its parts before the first entry stand
 pub stands_new : {K : Type 0} (cs : K → Option Contents) (ps : K → Option Parts) (rs : K → Option (List HoldRecord)) (fs : Option StoredFiles) (l : LedgerView K) (setup : Setup) (keeper : K) (ids : List (List ℕ)) (p : PartsView)
     → l ≡ record { setup = setup; keeper = keeper; parts = tt; branch = []; time = 0; count = 0; clock = record { at = 0; to = setup.offset }; history = []; outcomes = []; owed = [] } → KeepsDirect p → p.table ≡ no_rows → p.jobs.place ≡ record { number = setup.number; ids = ids } → p.jobs.begun ≡ 0
-    → slice_get setup.repos setup.number ≡ Some setup.id → FitSo setup ids p → ids ≡ setup.repos → ((q : Parts) → AreAllFed q p.sessions) → HasNothing (cs keeper) (ps keeper) (rs keeper) fs
+    → slice_get setup.repos setup.number ≡ Some setup.id → FitSo setup ids p → ids ≡ setup.repos → ((q : Parts) → AreAllFed q p) → HasNothing (cs keeper) (ps keeper) (rs keeper) fs
     → Stands l p (cs l.keeper) (ps l.keeper) (rs l.keeper)
 stands_new {K} cs ps rs fs l setup keeper ids p is keeps none place begun own fit same fed empty =
     subst (λ (x : LedgerView K). Stands x p (cs x.keeper) (ps x.keeper) (rs x.keeper)) (sym is)

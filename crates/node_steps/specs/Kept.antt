@@ -17,16 +17,15 @@ use Rattle.node_model.specs.Rows.{bar_after, holds_after}
 use Rattle.node_model.specs.SessionStep.{is_filled}
 use Rattle.node_model.specs.SetUp.{SetUp}
 use Rattle.node_model.specs.State.{State}
-use Rattle.node_sessions.specs.Sessions.{AreAllFed}
 use Rattle.node_parts.specs.Direct.{IsDirect, MovesNothing, may_fail}
-use Rattle.node_parts.specs.Parts.{AreParts, PartsView}
+use Rattle.node_parts.specs.Parts.{AreAllFed, AreParts, PartsView}
 use Rattle.node_past.specs.declared.setup.Setup.{Setup}
 use Rattle.node_steps.specs.Nodes.{MatchesSetup, IsState, state_of, told_of}
 use Rattle.node_ledger.specs.Ledgers.{LedgerView}
 
--- the part of the store that the sessions take is what they have taken
+-- the parts of the store that the sessions and the gets take are what they have taken
 abbrev pub IsFed : Option Parts → PartsView → Type 0
-IsFed stored parts = ForSome stored (λ q. AreAllFed q parts.sessions)
+IsFed stored parts = ForSome stored (λ q. AreAllFed q parts)
 
 -- Its rows, its branch and, where its store tells, all that it has are those of the state that its history leaves. Its clock is
 -- that which its past says, each hold has the number of one of its entries, its jobs know where it stands among the repositories,
@@ -46,7 +45,7 @@ IsOfFiles (Fault call by) = may_fail by call ≡ true
 IsOfFiles _ = ⊥
 
 -- A ledger and the parts beside it stand, over a store that tells these contents, parts and records: they are what the history
--- leaves, the records are those of the holds, and the sessions have taken what the store has of their keys' parts.
+-- leaves, the records are those of the holds, and the sessions and the gets have taken what the store has of their keys' parts.
 pub record Stands {K : Type 0} (l : LedgerView K) (parts : PartsView) (cs : Option Contents) (ps : Option Parts) (rs : Option (List HoldRecord)) : Type 0 where
   pub kept : IsKept l.setup l.clock l.history parts l.branch l.owed (told_of cs ps)
   pub agrees : Agrees rs parts.table.holds

@@ -1,10 +1,14 @@
 -- One step of a node, of one of the three kinds (own).
-use Rattle.std.specs.Prelude.{◌≡◌, ℕ, Bool, true, false, List, [], ◌∷◌, ◌++◌, Option, Some, None, is_some, vec_len}
+use Rattle.std.specs.Prelude.{◌≡◌, ℕ, Bool, true, false, List, ◌++◌, Option, Some, None, is_some, vec_len}
+use Rattle.std.specs.Option.{option_map, option_to_list}
 use Rattle.run_data.specs.declared.entry.EntryKind.{EntryKind}
-use Rattle.run_data.specs.declared.entry.EntryKind.TheVariants.{Gain, Gone}
+use Rattle.run_data.specs.declared.entry.EntryKind.TheVariants.{Gain, Gone, Talk}
 use Rattle.link_ring.specs.Ends.{EndView}
 use Rattle.node_model.specs.Look.{Look}
 use Rattle.node_model.specs.SetUp.{SetUp}
+use Rattle.owed_lines.specs.declared.debt.Debt.{Debt}
+use Rattle.owed_lines.specs.declared.debt.Debt.TheVariants as debts
+use Rattle.owed_lines.specs.declared.line.ToldLine.{ToldLine}
 use Rattle.node_parts.specs.declared.done.Done.{Done}
 use Rattle.node_past.specs.declared.past.Past.{Past}
 use Rattle.node_past.specs.Owing.{is_debtor}
@@ -33,22 +37,28 @@ AddsIf false links before after was now = now ≡ was
 
 -- ---- what is noted of its entry
 
--- an entry of this kind owes a line
-abbrev pub owes_line : EntryKind → Bool
-owes_line (Gain by size key) = is_debtor by
-owes_line (Gone by key) = is_debtor by
-owes_line kind = false
+-- the entry at this place, where it owes a line
+abbrev pub entry_if : Bool → ℕ → Option Debt
+entry_if true place = Some (debts.Entry place)
+entry_if false place = None
 
--- the place of an entry, where it owes a line
-abbrev pub place_if : Bool → ℕ → List ℕ
-place_if true place = place ∷ []
-place_if false place = []
+-- what a talk owes: a job's what it was told; a session's nothing
+abbrev pub told_by : Option ℕ → Option ToldLine → Option Debt
+told_by None told = None
+told_by (Some job) told = option_map debts.Told told
+
+-- what owes a line since an entry of this kind at this place, if anything does: the entry itself, or what its job was told by it
+abbrev pub debt_by : EntryKind → ℕ → Option ToldLine → Option Debt
+debt_by (Gain by size key) place told = entry_if (is_debtor by) place
+debt_by (Gone by key) place told = entry_if (is_debtor by) place
+debt_by (Talk job) place told = told_by job told
+debt_by kind place told = None
 
 -- the past has the entry of this step
 abbrev pub EntersStep : Done → Past → Past → Type 0
 EntersStep d was now = Enters d.kind d.taken d.sent (ended_by d.kind (vec_len was.history)) was now
 
--- the entry of a step, and the place of its debt, if a step was made
-abbrev pub EntersIf : Option Done → Past → Past → List ℕ → List ℕ → Type 0
-EntersIf None was now debts debts' = (now ≡ was) × (debts' ≡ debts)
-EntersIf (Some d) was now debts debts' = EntersStep d was now × (debts' ≡ debts ++ place_if (owes_line d.kind) (vec_len was.history))
+-- the entry of a step, and what owes a line since, behind what owed one before; if a step was made
+abbrev pub EntersIf : Option Done → Past → Past → List Debt → List Debt → Type 0
+EntersIf None was now owing owing' = (now ≡ was) × (owing' ≡ owing)
+EntersIf (Some d) was now owing owing' = EntersStep d was now × (owing' ≡ owing ++ option_to_list (debt_by d.kind (vec_len was.history) d.owes))

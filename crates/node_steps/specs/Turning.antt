@@ -17,7 +17,7 @@ use Rattle.content_lock.specs.CallsMade.{MakesCalls, fewer}
 use Rattle.node_ends.specs.Ends.{SeesEnds}
 use Rattle.node_ends.specs.Going.{AreAfter}
 use Rattle.p2p_server.specs.Answers.{contents_after}
-use Rattle.node_parts.specs.Running.{HadPaths, words_at}
+use Rattle.node_parts.specs.Running.{HadPathsOf, words_at}
 use Rattle.node_model.specs.Look.{Look, Effect, entry_of, failed_in}
 use Rattle.node_model.specs.SetUp.{SetUp}
 use Rattle.node_model.specs.Slots.{job_of}
@@ -36,12 +36,12 @@ use Rattle.node_past.specs.Stored.{StoreView}
 -- ---- what a turn finds
 
 -- the look is the node's: it finds what waits at the node's ends and where they have room, at its time, for its next entry; and the
--- keys of the running jobs had the paths that these were given
+-- keys of the running drops had the paths that these were given
 pub record Looks {K : Type 0} (n : NodeView K) (s : SetUp) (k : Look) : Type 0 where
   pub ends : SeesEnds n.parts.links s k
   pub time : k.time ≡ n.time
   pub count : k.count ≡ n.count + 1
-  pub paths : Each (λ j. HadPaths s j.worker.number j.paths) n.parts.jobs.running
+  pub paths : Each (HadPathsOf s) n.parts.jobs.running
 
 -- the words that the job that makes an entry of this kind heard beside its peers' answers; none where no job makes it
 abbrev pub words_by : {K : Type 0} → NodeView K → EntryKind → ℕ → Option Word
@@ -63,9 +63,9 @@ branch_by branch kind lines = branch
 abbrev pub stamp_then : {K : Type 0} → NodeView K → EntryStamp
 stamp_then n = record { time = n.time; count = n.count + 1; repo = n.setup.number }
 
--- an entry as what a step made
+-- an entry as what a step made; it doesn't tell what a job owes since
 abbrev pub done_in : Entry → Done
-done_in e = record { kind = e.kind; taken = e.taken; sent = e.sent }
+done_in e = record { kind = e.kind; taken = e.taken; sent = e.sent; owes = None }
 
 -- the jobs are as they were; or else the sessions are, and of the jobs the one that made this has gone on
 abbrev pub GoOn : PartsView → PartsView → Done → Type 0
@@ -73,9 +73,9 @@ GoOn was now d = (now.jobs ≡ was.jobs) ⊎ ((now.sessions ≡ was.sessions) ×
 
 -- The node has one entry more, of its own number, at its time, with the next count; its clock runs on. Its branch has the entry's
 -- lines. Its ends, which were these, took and sent the entry's frames, with its stamp, and each piece among them is of the content
--- that its session is sending; and its jobs have gone on from these ends. Its store has the contents that the entry leaves, and the
--- parts that the taken frame leaves; where the entry says that a call failed, one fewer of its kind is still to fail, and the count
--- of the store's faults rose.
+-- that its session, or its job, is sending; and its jobs have gone on from these ends. Its store has the contents that the entry
+-- leaves, and the parts that the taken frame leaves; where the entry says that a call failed, one fewer of its kind is still to fail,
+-- and the count of the store's faults rose.
 pub record Adds {K : Type 0} (links : List EndView) (before after : StoreView) (was now : NodeView K) : Type 0 where
   pub entry : Entry
   pub history : now.history ≡ was.history ++ entry ∷ []
@@ -102,11 +102,11 @@ pub record Adds {K : Type 0} (links : List EndView) (before after : StoreView) (
 abbrev pub Stepper : Type 0
 Stepper = SetUp → State → Look → Option Effect
 
--- The look finds the call to fail of which an entry of this kind tells; the part, as the store has it, that the taken frame asks
--- for; and the words that the job that makes such an entry heard.
+-- The look finds the call to fail of which an entry of this kind tells; the part, as the store has it, that the session to which the
+-- taken frame came asks for, or the job that makes such an entry; and the words that this job heard.
 pub record Finds {K : Type 0} (known : Option StoredParts) (n : NodeView K) (kind : EntryKind) (taken : Option FrameView) (k : Look) : Type 0 where
   pub fails : k.fails ≡ failed_in kind
-  pub part : IsPartAsked known n.parts taken k.part k.right
+  pub part : IsPartAsked known n.parts kind taken k.part k.right
   pub words : k.words ≡ words_by n kind
 
 -- Of the state that the history leaves, at this look, there is a step of this kind, which takes this frame; its entry is the
@@ -124,7 +124,7 @@ pub record MakesAt {K : Type 0} (step : Stepper) (kind : EntryKind) (taken : Opt
 pub record StepsBy {K : Type 0} (step : Stepper) (before after : StoreView) (was now : NodeView K) : Type 0 where
   pub kind : EntryKind
   pub taken : Option FrameView
-  pub part : HasPart before.parts was.parts taken
+  pub part : HasPart before.parts was.parts kind taken
   pub makes : (s : SetUp) (k : Look) → MatchesSetup was.setup s → Looks was s k → Finds before.parts was kind taken k → MakesAt step kind taken before after was now s k
 
 -- ---- whether there is one

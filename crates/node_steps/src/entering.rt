@@ -1,14 +1,15 @@
-//! The entry of a step, and what is noted of it: the line that it owes, and the job that it ends.
+//! The entry of a step, and what is noted of it: what owes a line since, and the job that it ends.
 ghost use Rattle.std.specs.Prelude.{◌≡◌, ◌<◌, ◌+◌, ◌++◌, is_some, option_to_list, vec_capacity, vec_len, OnOk};
 ghost use Rattle.node_past.specs.Owing.{is_debtor};
 ghost use Rattle.node_past.specs.Pasts.{IsReady, SamePast};
 ghost use Rattle.run_data.specs.Histories.{most_entries};
-ghost use Rattle.node_steps.specs.Stepping.{EntersIf, EntersStep, owes_line, place_if};
+ghost use Rattle.node_steps.specs.Stepping.{EntersIf, EntersStep, debt_by, entry_if, told_by};
 ghost use Rattle.node_steps.specs.Turning.{ended_by};
 
 use annex_base::NoMemory;
 use node_parts::{Clock, Done, Moment, Time};
 use node_past::{Ended, Past};
+use owed_lines::{Debt, ToldLine};
 use run_data::{By, EntryKind};
 
 /// When the next entry of this past is made.
@@ -24,7 +25,7 @@ pub(crate) fn moment_of(past: &Past) -> Moment
 }
 
 /// Makes room for an entry, for the line that it owes, and for the job that it ends.
-pub(crate) fn make_room(past: &mut Past, debts: &mut Vec<usize>) -> Result<(), NoMemory>
+pub(crate) fn make_room(past: &mut Past, debts: &mut Vec<Debt>) -> Result<(), NoMemory>
     requires { vec_len past.old.history < most_entries }
     ensures ready { OnOk result (IsReady past.new) }
     ensures outcomes { OnOk result (vec_len past.new.outcomes < vec_capacity past.new.outcomes) }
@@ -47,18 +48,36 @@ fn is_debtor(by: By) -> bool
     }
 }
 
-/// Whether an entry of this kind owes a line.
-fn owes_line(kind: &EntryKind) -> bool
-    ensures { result ≡ owes_line kind.now }
+/// The entry at this place, where it owes a line.
+fn entry_if(owes: bool, place: usize) -> Option<Debt>
+    ensures { result ≡ entry_if owes place }
+{
+    if owes { Some(Debt::Entry(place)) } else { None }
+}
+
+/// What the talk of this job owes, or of a session, after what the job was told.
+fn told_by(job: Option<u32>, told: Option<ToldLine>) -> Option<Debt>
+    ensures { result ≡ told_by job told }
+{
+    match job {
+        None => None,
+        Some(_) => told.map(Debt::Told),
+    }
+}
+
+/// What owes a line since an entry of this kind at this place, by which a job may have been told something.
+fn debt_by(kind: &EntryKind, place: usize, told: Option<ToldLine>) -> Option<Debt>
+    ensures { result ≡ debt_by kind.now place told }
 {
     match kind {
         EntryKind::Gain {
             by,
             size: _,
             key: _,
-        } => is_debtor(*by),
-        EntryKind::Gone { by, key: _ } => is_debtor(*by),
-        _ => false,
+        } => entry_if(is_debtor(*by), place),
+        EntryKind::Gone { by, key: _ } => entry_if(is_debtor(*by), place),
+        EntryKind::Talk { job } => told_by(*job, told),
+        _ => None,
     }
 }
 
@@ -85,35 +104,40 @@ fn note_ended(outcomes: &mut Vec<Ended>, ended: Option<Ended>)
     }
 }
 
-/// Notes the place of an entry that owes a line.
-fn note_debt(debts: &mut Vec<usize>, owes: bool, place: usize)
+/// Notes what owes a line, if anything does.
+fn note_debt(debts: &mut Vec<Debt>, debt: Option<Debt>)
     requires room { vec_len debts.old < vec_capacity debts.old }
-    ensures { debts.new.items ≡ debts.old.items ++ place_if owes place }
+    ensures { debts.new.items ≡ debts.old.items ++ option_to_list debt }
 {
-    if owes {
-        debts.push_reserved(place);
+    if let Some(it) = debt {
+        debts.push_reserved(it);
     }
 }
 
 /// Adds the entry of a step. It takes no memory.
-fn enter(past: &mut Past, debts: &mut Vec<usize>, done: Done)
+fn enter(past: &mut Past, debts: &mut Vec<Debt>, done: Done)
     requires ready { IsReady past.old }
     requires outcomes { vec_len past.old.outcomes < vec_capacity past.old.outcomes }
     requires debts { vec_len debts.old < vec_capacity debts.old }
     ensures past { EntersStep done past.old past.new }
-    ensures debts { debts.new.items ≡ debts.old.items ++ place_if (owes_line done.kind) (vec_len past.old.history) }
+    ensures debts { debts.new.items ≡ debts.old.items ++ option_to_list (debt_by done.kind (vec_len past.old.history) done.owes) }
 {
-    let Done { kind, taken, sent } = done;
+    let Done {
+        kind,
+        taken,
+        sent,
+        owes,
+    } = done;
     let place = past.history.len();
-    let owes = owes_line(&kind);
+    let debt = debt_by(&kind, place, owes);
     let ended = ended(&kind, place);
     past.enter(kind, taken, sent);
     note_ended(&mut past.outcomes, ended);
-    note_debt(debts, owes, place);
+    note_debt(debts, debt);
 }
 
 /// Adds the entry of a step, if one was made, and tells whether it was.
-pub(crate) fn enter_if(past: &mut Past, debts: &mut Vec<usize>, done: Option<Done>) -> bool
+pub(crate) fn enter_if(past: &mut Past, debts: &mut Vec<Debt>, done: Option<Done>) -> bool
     requires ready { IsReady past.old }
     requires outcomes { vec_len past.old.outcomes < vec_capacity past.old.outcomes }
     requires debts { vec_len debts.old < vec_capacity debts.old }

@@ -6,5 +6,5 @@ mod laws;
 mod stepping;
 
 pub use laws::direct_entries_keep_parts;
-pub use node_parts::{BeginRefused, Parts, tables_fill_as_states};
+pub use node_parts::{BeginRefused, Parts, parts_stay_fed, tables_fill_as_states};
 pub use stepping::{is_ready, step};

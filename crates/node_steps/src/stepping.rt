@@ -21,6 +21,7 @@ use node_ends::ends_go_on;
 use node_ledger::Ledger;
 use node_parts::{Parts, states_have_their_settings, tables_fill_as_states};
 use node_past::NodeRefused;
+use node_sessions::sessions_make_their_own_entries;
 use object_store::Keeper;
 use store_entries::make_index;
 use trust_groups::settings_are_those_of_the_lines_read;
@@ -113,6 +114,7 @@ fn serve<K: Keeper>(ledger: &mut Ledger<K>, parts: &mut Parts) -> Result<bool, N
     ensures err { OnErr result (beside parts.new ledger.new ≡ record (beside parts.old ledger.old) { keeper = ledger.new.keeper }) }
 {
     // For the proof: laws, and what the parts have of the table.
+    sessions_make_their_own_entries();
     tables_fill_as_states();
     states_have_their_settings();
     let _ = parts.table();
@@ -134,7 +136,7 @@ fn act<K: Keeper>(ledger: &mut Ledger<K>, parts: &mut Parts) -> Result<bool, NoM
     ensures step { IfOk result (λ b. ForSome (told_of (K.contents ledger.old.keeper) (K.parts ledger.old.keeper)) (λ c. MovesSo b job_step (store_view (K.contents ledger.old.keeper) (K.parts ledger.old.keeper) (K.failing ledger.old.keeper) (K.faults ledger.old.keeper)) (store_view (K.contents ledger.new.keeper) (K.parts ledger.new.keeper) (K.failing ledger.new.keeper) (K.faults ledger.new.keeper)) (beside parts.old ledger.old) (beside parts.new ledger.new))) }
     ensures told_parts { is_some (K.parts ledger.new.keeper) ≡ is_some (K.parts ledger.old.keeper) }
     ensures small { AreSmallParts (K.parts ledger.old.keeper) → AreSmallParts (K.parts ledger.new.keeper) }
-    ensures told_contents { is_some (K.contents ledger.new.keeper) ≡ is_some (K.contents ledger.old.keeper) }
+    ensures told_contents { is_some (K.parts ledger.old.keeper) ≡ true → is_some (K.contents ledger.new.keeper) ≡ is_some (K.contents ledger.old.keeper) }
     ensures err_store { OnErr result (TellsSame (K.contents ledger.old.keeper) (K.contents ledger.new.keeper) (K.parts ledger.old.keeper) (K.parts ledger.new.keeper) (K.records ledger.old.keeper) (K.records ledger.new.keeper) (K.files ledger.old.keeper) (K.files ledger.new.keeper) (K.failing ledger.old.keeper) (K.failing ledger.new.keeper)) }
     ensures paired { StayPaired parts.old.links parts.new.links }
     ensures later { K.faults ledger.old.keeper ≤ K.faults ledger.new.keeper }

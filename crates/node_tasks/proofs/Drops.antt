@@ -7,7 +7,7 @@ use Rattle.annex_base.specs.Settings.{Settings}
 use Rattle.run_data.specs.declared.entry.EntryKind.{EntryKind}
 use Rattle.run_data.specs.declared.entry.EntryKind.TheVariants as kinds
 use Rattle.run_data.specs.declared.job.Job.{Job}
-use Rattle.object_store.specs.Stores.{Contents, Parts}
+use Rattle.object_store.specs.Stores.{AreSmallParts, Contents, Parts}
 use Rattle.link_ring.specs.Ends.{EndView}
 use Rattle.node_model.specs.Clocks.{ClockSet}
 use Rattle.node_model.specs.Jobs.{drop_side}
@@ -134,8 +134,9 @@ module _ (p : PlaceView) (rows rows' : Rows) (k k' : Seen) (time number : ℕ) (
     contents = stored out.ended refl;
     parts = parts;
     fed = λ q told was q' told'. tt;
+    small = λ small. subst AreSmallParts (sym parts) small;
     judged = judged out.ended refl;
-    pieces = λ c told. tt;
+    pieces = tt;
     records = records;
     files = files;
     later = later;

@@ -11,7 +11,7 @@ use Rattle.node_model.specs.Look.{Look}
 use Rattle.node_model.specs.SetUp.{SetUp}
 use Rattle.node_model.specs.State.{State}
 use Rattle.content_lock.specs.Rows.{Rows}
-use Rattle.drop_worker.specs.States as drops
+use Rattle.node_drops.specs.States as drops
 use Rattle.node_ends.specs.Ends.{room_at, wait_at}
 use Rattle.end_hearing.specs.declared.hearing.Arrival.{Arrival}
 use Rattle.end_hearing.specs.Hearing.{Tells}
@@ -22,8 +22,8 @@ use Rattle.node_drops.specs.Places.{PlaceView}
 use Rattle.node_drops.specs.Waiting.{WaitsFor}
 use Rattle.node_drops.proofs.Hearing.{count_is}
 use Rattle.transfer_turns.specs.Parcels.{end_in}
-use Rattle.transfer_worker.specs.declared.worker.Worker.{Worker}
-use Rattle.transfer_worker.specs.States.{HaveState}
+use Rattle.node_transfers.specs.Worker.{Worker}
+use Rattle.node_transfers.specs.States.{HaveState}
 use Rattle.node_transfers.specs.Ready as transfers
 use Rattle.node_tasks.specs.declared.readiness.Told.TheVariants as tolds
 use Rattle.node_tasks.specs.declared.task.Task.TheVariants as tasks

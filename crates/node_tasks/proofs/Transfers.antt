@@ -36,10 +36,10 @@ use Rattle.put_steps.specs.Puts.{HasPeer}
 use Rattle.transfer_turns.specs.declared.parcels.Output.{Output}
 use Rattle.transfer_turns.specs.Steps.{IsOfTransfer, Seen, is_end}
 use Rattle.transfer_turns.specs.Turns.{Sight}
-use Rattle.transfer_worker.specs.declared.worker.Worker.{Worker}
-use Rattle.transfer_worker.specs.declared.worker.Worker.TheVariants.{Gets, Puts as Offers}
-use Rattle.transfer_worker.specs.States.{Sees, StepsSo}
-use Rattle.transfer_worker.specs.Workers.{CanStep, KeepsSo, SeesPart, is_done, work_of}
+use Rattle.node_transfers.specs.Worker.{Worker}
+use Rattle.node_transfers.specs.Worker.TheVariants.{Gets, Puts as Offers}
+use Rattle.node_transfers.specs.States.{Sees, StepsSo}
+use Rattle.node_transfers.specs.Workers.{CanStep, KeepsSo, SeesPart, is_done, work_of}
 use Rattle.node_transfers.specs.Ready.{sight_of}
 use Rattle.node_tasks.specs.declared.acted.Output.{Output as Made}
 use Rattle.node_tasks.specs.declared.acted.Sent.TheVariants.{ByTransfer}
@@ -205,6 +205,7 @@ module _ (p : PlaceView) (links : List EndView) (rows rows' : Rows) (k k' : Seen
     contents = keeps.leaves.contents;
     parts = keeps.parts;
     fed = keeps.fed;
+    small = keeps.small;
     judged = keeps.judged;
     pieces = keeps.pieces;
     records = keeps.leaves.records;

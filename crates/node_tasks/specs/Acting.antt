@@ -8,12 +8,12 @@ use Rattle.run_data.specs.declared.entry.By.TheVariants.{Job as by_job}
 use Rattle.run_data.specs.declared.entry.EntryKind.{EntryKind}
 use Rattle.run_data.specs.declared.entry.EntryKind.TheVariants as kinds
 use Rattle.run_data.specs.declared.entry.FrameView.{FrameView}
-use Rattle.object_store.specs.Stores.{Contents, Parts}
+use Rattle.object_store.specs.Stores.{AreSmallParts, Contents, Parts}
 use Rattle.link_ring.specs.Ends.{EndView}
 use Rattle.node_model.specs.Clocks.{ClockSet}
 use Rattle.node_model.specs.Evidence as evidence
 use Rattle.node_model.specs.Evidence.{standing_by}
-use Rattle.node_model.specs.Jobs.{work_after}
+use Rattle.node_model.specs.Jobs.{Work, work_after}
 use Rattle.node_model.specs.Look.{Effect, Look, as_told, entry_of, failed_in}
 use Rattle.node_model.specs.Rows.{bar_after, holds_after}
 use Rattle.node_model.specs.SetUp.{SetUp}
@@ -30,9 +30,10 @@ use Rattle.drop_phases.specs.Working as working
 use Rattle.node_ends.specs.Ends.{end_at}
 use Rattle.node_drops.specs.Places.{PlaceView}
 use Rattle.transfer_turns.specs.Parcels as transfers
+use Rattle.transfer_turns.specs.Parcels.{ArePiecesOf}
 use Rattle.transfer_turns.specs.Steps.{FillsSo, Seen}
-use Rattle.transfer_worker.specs.States.{HaveState}
-use Rattle.transfer_worker.specs.Workers as workers
+use Rattle.node_transfers.specs.States.{HaveState}
+use Rattle.node_transfers.specs.Workers as workers
 use Rattle.node_tasks.specs.declared.acted.Output.{Output}
 use Rattle.node_tasks.specs.declared.acted.Sent.{Sent}
 use Rattle.node_tasks.specs.declared.acted.Sent.TheVariants as sents
@@ -105,11 +106,10 @@ IsJudged kind (tasks.Transfers w) = workers.IsJudgedIn kind w
 IsJudged (kinds.Gain source size key) (tasks.Drops j) = ⊥
 IsJudged kind (tasks.Drops j) = Unit {0}
 
--- each piece that is sent has the content's bytes
-abbrev pub SendsPiece : Contents → Task → Sent → Type 0
-SendsPiece c (tasks.Transfers w) (sents.ByTransfer ps) = workers.SendsPiece c w ps.items
-SendsPiece c (tasks.Drops j) (sents.ByDrop ps) = Unit {0}
-SendsPiece c t ps = ⊥
+-- each piece that is sent is of the content that this work is sending; what a drop says has no piece
+abbrev pub SendsPieces : Option Contents → Work → Sent → Type 0
+SendsPieces known v (sents.ByTransfer ps) = ArePiecesOf known v ps.items
+SendsPieces known v (sents.ByDrop ps) = Unit {0}
 
 -- a drop keeps the word beside a refused look, and what it heard before
 abbrev pub HearsOn : Task → Task → Told → Type 0
@@ -136,8 +136,9 @@ pub record LeavesSo (p : PlaceView) (rows rows' : Rows) (k k' : Seen) (t t' : Ta
   pub contents : k'.contents ≡ contents_after k.contents k.parts out.kind
   pub parts : k'.parts ≡ parts_after t x out.kind k.parts
   pub fed : ForSome k.parts (λ q. IsFedTask q t → ForSome k'.parts (λ q'. IsFedTask q' t'))
+  pub small : AreSmallParts k.parts → AreSmallParts k'.parts
   pub judged : IsJudged out.kind t
-  pub pieces : ForSome k.contents (λ c. SendsPiece c t out.sent)
+  pub pieces : SendsPieces k.contents (work_now t) out.sent
   pub records : k'.records ≡ k.records
   pub files : k'.files ≡ k.files
   pub later : k.faults ≤ k'.faults

@@ -17,8 +17,8 @@ use Rattle.drop_phases.specs.Working.{words_of}
 use Rattle.node_drops.specs.Drops.{HasRead, IsDrop, work_now as drop_work}
 use Rattle.node_drops.specs.Feeds.{SeesJob}
 use Rattle.node_drops.specs.Places.{IsPlace, PlaceView}
-use Rattle.transfer_worker.specs.declared.worker.Worker.{Worker}
-use Rattle.transfer_worker.specs.Workers.{CanStep, HasFill, IsFed, work_of}
+use Rattle.node_transfers.specs.Worker.{Worker}
+use Rattle.node_transfers.specs.Workers.{CanStep, HasFill, IsFed, work_of}
 use Rattle.transfer_turns.specs.Partners.{TalksApart}
 use Rattle.node_transfers.specs.Ready.{NamesPeer, sight_of}
 use Rattle.node_tasks.specs.declared.task.Task.{Task}

@@ -20,8 +20,8 @@ use Rattle.node_drops.specs.Feeds.{IsFedAt}
 use Rattle.node_drops.specs.Places.{PlaceView}
 use Rattle.node_drops.specs.Waiting.{taken_by}
 use Rattle.transfer_turns.specs.Turns.{Comes, awaited}
-use Rattle.transfer_worker.specs.States.{FindsAt, HaveState}
-use Rattle.transfer_worker.specs.Workers.{SeesPart, work_of}
+use Rattle.node_transfers.specs.States.{FindsAt, HaveState}
+use Rattle.node_transfers.specs.Workers.{SeesPart, work_of}
 use Rattle.node_transfers.specs.Ready.{IsTold, sight_of}
 use Rattle.node_tasks.specs.declared.readiness.Told.{Told}
 use Rattle.node_tasks.specs.declared.readiness.Told.TheVariants as tolds

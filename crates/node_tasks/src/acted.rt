@@ -1,4 +1,6 @@
 //! What a job's step makes.
+use node_drops::drop_worker;
+use node_transfers::transfer_worker;
 use run_data::EntryKind;
 
 /// What is sent with an entry: what a drop says, or what a transfer says.

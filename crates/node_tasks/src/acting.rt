@@ -15,14 +15,12 @@ use crate::readiness::Told;
 use crate::task::Task;
 use annex_base::NoMemory;
 use content_lock::LockTable;
-use drop_worker::{Input, Time};
 use end_hearing::Arrival;
-use node_drops::{Clock, DropJob, Feed, Place};
+use node_drops::{Clock, DropJob, Feed, Input, Place, Time, drop_worker};
 use node_ends::Ends;
-use node_transfers::Reach;
+use node_transfers::{Reach, Worker, transfer_worker};
 use object_store::Keeper;
 use std::alloc::Global;
-use transfer_worker::Worker;
 use trust_groups::Settings;
 
 /// The step of a job that is told this: its entry, what is sent with it, and whether the job has ended. A drop reads the settings

@@ -5,9 +5,12 @@ mod acted;
 mod acting;
 mod readiness;
 mod task;
+mod telling;
 
 pub use acted::{Output, Sent};
 pub use acting::act;
-pub use node_drops::{Clock, DropJob, Place, Time};
+pub use node_drops::{Clock, DropJob, Place, Time, Worker as DropWorker};
+pub use node_transfers::Worker;
 pub use readiness::{Told, ready};
 pub use task::{Task, end};
+pub use telling::tells;

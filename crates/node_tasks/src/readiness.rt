@@ -1,15 +1,17 @@
 //! Whether a job has a step.
-ghost use Rattle.std.specs.Prelude.{◌≡◌, ◌*◌, length, IfOk, IfSome};
+ghost use Rattle.std.specs.Prelude.{◌≡◌, ◌*◌, length, option_copied, IfOk, IfSome};
+ghost use Rattle.node_tasks.specs.Owing.{message_heard, message_in, message_taken};
 ghost use Rattle.node_tasks.specs.Tasks.{IsTask, slot_of};
 ghost use Rattle.node_tasks.specs.Telling.{Answers, IsToldTo, takes_in};
 ghost use Rattle.node_drops.specs.Waiting.{WaitsFor};
 
 use crate::task::Task;
 use annex_base::NoMemory;
-use drop_worker::Time;
 use end_hearing::Arrival;
-use node_drops::{Clock, Feed, Place};
+use node_drops::{Clock, Feed, Place, Taken, Time};
 use node_ends::Ends;
+use p2p_wire::Message;
+use session_state::Incoming;
 use std::alloc::Global;
 
 /// What a job is told in its step.
@@ -28,6 +30,34 @@ impl Told {
             Told::Feed(feed) => feed.takes,
             Told::Arrival(arrival) => arrival.takes,
         }
+    }
+
+    /// The message that it is told, if it is told one.
+    pub(crate) fn message(&self) -> Option<&Message>
+        ensures { option_copied result ≡ message_in self.now }
+    {
+        match self {
+            Told::Feed(feed) => message_taken(&feed.taken),
+            Told::Arrival(arrival) => message_heard(arrival.incoming.as_ref()),
+        }
+    }
+}
+
+fn message_taken(taken: &Taken) -> Option<&Message>
+    ensures { option_copied result ≡ message_taken taken.now }
+{
+    match taken {
+        Taken::Message(message) => Some(message),
+        Taken::Nothing | Taken::Other | Taken::Closed => None,
+    }
+}
+
+fn message_heard(incoming: Option<&Incoming>) -> Option<&Message>
+    ensures { option_copied result ≡ message_heard (option_copied incoming.entry) }
+{
+    match incoming {
+        Some(Incoming::Message(message)) => Some(message),
+        _ => None,
     }
 }
 

@@ -6,8 +6,8 @@ ghost use Rattle.transfer_turns.specs.Steps.{fills_key};
 ghost use Rattle.node_tasks.specs.Tasks.{IsLocal, IsSpent, OwnsOf, number_of, slot_of, work_now};
 
 use content_lock::LockTable;
-use node_drops::DropJob;
-use transfer_worker::Worker;
+use node_drops::{DropJob, drop_worker};
+use node_transfers::{Worker, transfer_worker};
 
 /// What a job does: it drops a content, or brings one here or to a peer.
 pub enum Task {

@@ -1,2 +1,5 @@
 -- What contracts cite of a repository's transfers.
 pub mod Ready
+pub use Rattle.transfer_worker.specs.Workers
+pub use Rattle.transfer_worker.specs.declared.worker.Worker
+pub use Rattle.transfer_worker.specs.States

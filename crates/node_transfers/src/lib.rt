@@ -6,3 +6,5 @@ mod readiness;
 
 pub use reach::Reach;
 pub use readiness::ready;
+pub use transfer_worker;
+pub use transfer_worker::Worker;

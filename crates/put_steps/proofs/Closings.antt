@@ -7,7 +7,6 @@ use Rattle.run_data.specs.declared.entry.EntryKind.TheVariants.{Talk}
 use Rattle.run_data.specs.declared.entry.FrameView.{FrameView}
 use Rattle.run_data.specs.declared.job.Outcome.TheVariants.{TransferRefused}
 use Rattle.run_data.specs.declared.job.TransferRefusal.TheVariants as failures
-use Rattle.object_store.specs.Stores.{Contents}
 use Rattle.node_model.specs.Jobs
 use Rattle.node_model.specs.Jobs.{Part, Puts, partner}
 use Rattle.node_model.specs.JobStep.{Turn, wrong_message}
@@ -18,14 +17,16 @@ use Rattle.session_state.specs.declared.incoming.Incoming.{Incoming}
 use Rattle.session_state.specs.declared.incoming.Incoming.TheVariants as incoming
 use Rattle.transfer_turns.specs.declared.parcels.Output.{Output}
 use Rattle.transfer_turns.specs.declared.parcels.Parcel.{Parcel}
+use Rattle.transfer_turns.specs.Parcels.{AreNoPieces}
 use Rattle.transfer_turns.specs.Steps.{Seen}
 use Rattle.transfer_turns.specs.Turns.{Sight, awaited, output_of, turn_in}
 use Rattle.transfer_turns.proofs.Hearings.{bad_steps, bytes_shut_steps, closed_steps, closing_steps, opening_steps}
+use Rattle.transfer_turns.proofs.Pieces.{pieces_none}
 use Rattle.put_steps.specs.declared.phase.Ending.TheVariants as endings
 use Rattle.put_steps.specs.declared.phase.Phase.{Phase}
 use Rattle.put_steps.specs.declared.phase.Phase.TheVariants as phases
 use Rattle.put_steps.specs.declared.putting.Putting.{Putting}
-use Rattle.put_steps.specs.Puts.{SendsPiece, part_of, phase_of, work_of}
+use Rattle.put_steps.specs.Puts.{part_of, phase_of, work_of}
 use Rattle.put_steps.specs.Putting.{Does, Keeps, SeesNoPart}
 use Rattle.put_steps.specs.Stepping.{Told, close_to}
 use Rattle.put_steps.proofs.Keeping.{Did, hears_so, nothing, only, talk_keeps, told_did}
@@ -42,10 +43,6 @@ stands_on w peer e = chosen (is_awaiting (phase_of w.phase)) (partner w.job.peer
 puts_on : (w : Putting) (ph : Phase) (peer : ℕ) → awaited (work_of (record w { phase = ph })) ≡ Some peer → part_of ph ≡ Puts
 puts_on w phases.Done peer e = absurd cc
 puts_on w ph peer e = refl
-
-no_pieces : (c : Contents) (items : List Parcel) (w : Putting) (ph : Phase) (peer : ℕ) → awaited (work_of (record w { phase = ph })) ≡ Some peer → SendsPiece c w.job.key ph items
-no_pieces c items w (phases.Bytes s) peer e = absurd cc
-no_pieces c items w ph peer e = tt
 
 -- it takes no bytes
 no_bytes : (t : Turn) (f : FrameView) (peer n : ℕ) (ph : Phase) → takes_bytes t f peer n (phase_of ph) ≡ wrong_message t f peer
@@ -66,22 +63,22 @@ module _ (x : Sight) (rows : Rows) (k : Seen) (w : Putting) (peer : ℕ) (awaits
       let puts : part_of w.phase ≡ Puts = puts_on w w.phase peer awaits in
       ap (λ (p : Part). record (work_of w) { part = p; phase = Jobs.Ends (TransferRefused failures.Closed) }) (sym puts) ∙ ap (Jobs.closed_part x.repo (work_of w) peer) (sym puts)
 
-  keeps_closed : (items : List Parcel) → Keeps x rows k k w closed (output_of (Talk (Some w.number)) items false)
-  keeps_closed items = talk_keeps x rows k k w (phases.Ends endings.Closed) w.version items false (nothing k) refl (λ c told. no_pieces c items w w.phase peer awaits) (λ named was. tt) (λ stays. refl)
+  keeps_closed : (items : List Parcel) → AreNoPieces items → Keeps x rows k k w closed (output_of (Talk (Some w.number)) items false)
+  keeps_closed items none = talk_keeps x rows k k w (phases.Ends endings.Closed) w.version items false (nothing k) refl (pieces_none k.contents (work_of w) items none) (λ named was. tt) (λ stays. refl)
 
   -- the peer closes the connection, or it was closed here
   pub closing_did : Did x (Some incoming.Closing) rows k k w closed (output_of (Talk (Some w.number)) [] false)
-  closing_did = (closing_steps x rows k (work_of w) (work_of closed) SeesNoPart peer awaits with_peer moves false, keeps_closed [])
+  closing_did = (closing_steps x rows k (work_of w) (work_of closed) SeesNoPart peer awaits with_peer moves false, keeps_closed [] tt)
 
   pub closed_did : Did x None rows k k w closed (output_of (Talk (Some w.number)) [] false)
-  closed_did = (closed_steps x rows k (work_of w) (work_of closed) SeesNoPart peer awaits with_peer moves false, keeps_closed [])
+  closed_did = (closed_steps x rows k (work_of w) (work_of closed) SeesNoPart peer awaits with_peer moves false, keeps_closed [] tt)
 
   -- what isn't permitted
   pub opening_did : Did x (Some incoming.Opening) rows k k w closed (output_of (Talk (Some w.number)) (close_to peer) false)
-  opening_did = (opening_steps x rows k (work_of w) (work_of closed) SeesNoPart peer awaits with_peer moves false, keeps_closed (close_to peer))
+  opening_did = (opening_steps x rows k (work_of w) (work_of closed) SeesNoPart peer awaits with_peer moves false, keeps_closed (close_to peer) (tt, tt))
 
   pub bad_did : Did x (Some incoming.Bad) rows k k w closed (output_of (Talk (Some w.number)) (close_to peer) false)
-  bad_did = (bad_steps x rows k (work_of w) (work_of closed) SeesNoPart peer awaits with_peer moves false, keeps_closed (close_to peer))
+  bad_did = (bad_steps x rows k (work_of w) (work_of closed) SeesNoPart peer awaits with_peer moves false, keeps_closed (close_to peer) (tt, tt))
 
   pub bytes_did : (bytes : Vec ℕ Global) → Did x (Some (incoming.Bytes bytes)) rows k k w closed (output_of (Talk (Some w.number)) (close_to peer) false)
   bytes_did bytes = (
@@ -90,7 +87,7 @@ module _ (x : Sight) (rows : Rows) (k : Seen) (w : Putting) (peer : ℕ) (awaits
         let t = turn_in x rows c part right None rest (work_of w) in
         only k (takes_bytes t f peer (length bytes.items) (phase_of w.phase)) (wrong_message t f peer) (no_bytes t f peer (length bytes.items) w.phase) refl)
         moves,
-    keeps_closed (close_to peer),
+    keeps_closed (close_to peer) (tt, tt),
   )
 
 -- ---- the same of what was told so

@@ -1,13 +1,11 @@
 -- What a copy's step keeps, and steps from a phase that is known.
 use Rattle.std.proofs.Common.{◌≡◌, ℕ, Bool, true, false, List, [], Option, Some, None, Result, Ok, Err, IfOk, refl, sym, ap, subst, ◌∙◌}
 use Rattle.std.specs.Prelude.{OnErr}
-use Rattle.std.specs.Option.{ForSome}
 use Rattle.annex_base.specs.declared.kinds.Call.{Call}
 use Rattle.run_data.specs.declared.entry.By.TheVariants.{Job as by_job}
 use Rattle.run_data.specs.declared.entry.EntryKind.{EntryKind}
 use Rattle.run_data.specs.declared.entry.EntryKind.TheVariants.{End, Fault, Talk}
 use Rattle.run_data.specs.declared.job.Outcome.{Outcome}
-use Rattle.object_store.specs.Stores.{Contents}
 use Rattle.node_model.specs.Jobs
 use Rattle.node_model.specs.Jobs.{Part, Puts, is_move}
 use Rattle.node_model.specs.Look.{Effect, as_told}
@@ -17,7 +15,7 @@ use Rattle.session_state.specs.declared.incoming.Incoming.{Incoming}
 use Rattle.session_state.proofs.Calling.{as_it_was, makes_none}
 use Rattle.transfer_turns.specs.declared.parcels.Output.{Output}
 use Rattle.transfer_turns.specs.declared.parcels.Parcel.{Parcel}
-use Rattle.transfer_turns.specs.Parcels.{SendsView}
+use Rattle.transfer_turns.specs.Parcels.{ArePiecesOf, SendsView}
 use Rattle.transfer_turns.specs.Partners.{StaysApart}
 use Rattle.transfer_turns.specs.Steps.{LeavesAll, LeavesBut, Seen, StepsIn}
 use Rattle.transfer_turns.specs.Turns.{Sight, output_of}
@@ -27,7 +25,7 @@ use Rattle.put_steps.specs.declared.phase.Ending.TheVariants as endings
 use Rattle.put_steps.specs.declared.phase.Phase.{Phase}
 use Rattle.put_steps.specs.declared.phase.Phase.TheVariants as phases
 use Rattle.put_steps.specs.declared.putting.Putting.{Putting}
-use Rattle.put_steps.specs.Puts.{SendsPiece, is_done, part_of, phase_of, work_of}
+use Rattle.put_steps.specs.Puts.{is_done, part_of, phase_of, work_of}
 use Rattle.put_steps.specs.Putting.{Does, Keeps, SeesNoPart, Stays}
 use Rattle.put_steps.specs.Stepping.{Told}
 
@@ -37,34 +35,30 @@ Did x i rows k k' w w' out = StepsIn x rows k k' (work_of w) (work_of w') i Sees
 
 -- ---- what is kept
 
-pub talk_keeps : (x : Sight) (rows : Rows) (k k' : Seen) (w : Putting) (next : Phase) (version : ℕ) (items : List Parcel) (ended : Bool) → LeavesBut None k k' → ended ≡ is_done next → ForSome k.contents (λ c. SendsPiece c w.job.key w.phase items)
+pub talk_keeps : (x : Sight) (rows : Rows) (k k' : Seen) (w : Putting) (next : Phase) (version : ℕ) (items : List Parcel) (ended : Bool) → LeavesBut None k k' → ended ≡ is_done next → ArePiecesOf k.contents (work_of w) items
     → StaysApart x (work_of w) (work_of (record w { phase = next; version = version })) → (is_move w.job.kind ≡ false → is_done next ≡ false)
     → Keeps x rows k k' w (record w { phase = next; version = version }) (output_of (Talk (Some w.number)) items ended)
-talk_keeps x rows k k' w next version items ended but done sends apart undone = record {
+talk_keeps x rows k k' w next version items ended but done pieces apart undone = record {
   leaves = leaves_but rows rows k k' (work_of w) (work_of (record w { phase = next; version = version })) (output_of (Talk (Some w.number)) items ended) tt refl refl refl refl refl refl (none_filled (work_of w) (work_of (record w { phase = next; version = version })) _ refl refl) refl but;
   parts = but.parts;
   still = tt;
-  sends = sends;
+  pieces = pieces;
   ended = done;
   apart = apart;
   undone = λ stays was. undone stays;
 }
 
-pub end_keeps : (x : Sight) (rows : Rows) (k k' : Seen) (w : Putting) (outcome : Outcome) (sends : SendsView) → LeavesBut None k k' → ForSome k.contents (λ c. SendsPiece c w.job.key w.phase sends.items)
+pub end_keeps : (x : Sight) (rows : Rows) (k k' : Seen) (w : Putting) (outcome : Outcome) (sends : SendsView) → LeavesBut None k k' → ArePiecesOf k.contents (work_of w) sends.items
     → Keeps x rows k k' w w (record { kind = End w.number outcome; sends = sends; ended = true })
-end_keeps x rows k k' w outcome sends but sent = record {
+end_keeps x rows k k' w outcome sends but pieces = record {
   leaves = leaves_but rows rows k k' (work_of w) (work_of w) (record { kind = End w.number outcome; sends = sends; ended = true }) tt refl refl refl refl refl refl (none_filled (work_of w) (work_of w) _ refl refl) refl but;
   parts = but.parts;
   still = tt;
-  sends = sent;
+  pieces = pieces;
   ended = refl;
   apart = λ named was. was;
   undone = λ stays was. was;
 }
-
-no_piece : (c : Contents) (key : List ℕ) (ph : Phase) → SendsPiece c key ph []
-no_piece c key (phases.Bytes s) = tt
-no_piece c key ph = tt
 
 pub fault_keeps : (x : Sight) (rows : Rows) (k k' : Seen) (w : Putting) (call : Call) → LeavesBut (Some call) k k' → Keeps x rows k k' w (record w { phase = phases.Ends endings.StoreFault }) (output_of (Fault call (by_job w.number)) [] false)
 fault_keeps x rows k k' w call but = record {
@@ -72,7 +66,7 @@ fault_keeps x rows k k' w call but = record {
       (none_filled (work_of w) (work_of (record w { phase = phases.Ends endings.StoreFault })) _ refl refl) refl but;
   parts = but.parts;
   still = tt;
-  sends = λ c told. no_piece c w.job.key w.phase;
+  pieces = tt;
   ended = refl;
   apart = λ named was. tt;
   undone = λ stays was. refl;

@@ -30,7 +30,6 @@ use Rattle.session_state.specs.declared.incoming.Incoming.TheVariants as incomin
 use Rattle.drop_phases.proofs.Greetings.{greets_high, learns_else, learns_version}
 use Rattle.drop_phases.proofs.Takings.{Lined}
 use Rattle.transfer_turns.specs.declared.parcels.Output.{Output}
-use Rattle.transfer_turns.specs.declared.parcels.Parcel.{Parcel}
 use Rattle.transfer_turns.specs.Partners.{StaysApart}
 use Rattle.transfer_turns.specs.Steps.{LeavesAll, LeavesBut, Seen}
 use Rattle.transfer_turns.specs.Turns.{Sight, awaited, output_of, turn_in}
@@ -41,7 +40,7 @@ use Rattle.put_steps.specs.declared.phase.Ending.TheVariants as endings
 use Rattle.put_steps.specs.declared.phase.Phase.{Phase}
 use Rattle.put_steps.specs.declared.phase.Phase.TheVariants as phases
 use Rattle.put_steps.specs.declared.putting.Putting.{Putting}
-use Rattle.put_steps.specs.Puts.{SendsPiece, is_done, part_of, phase_of, work_of}
+use Rattle.put_steps.specs.Puts.{is_done, part_of, phase_of, work_of}
 use Rattle.put_steps.specs.Putting.{Does, SeesNoPart}
 use Rattle.put_steps.specs.Stepping.{Told, close_to, message_to}
 use Rattle.put_steps.proofs.Keeping.{Did, asks_so, at_phase, did_from, failed_did, fault_keeps, hears_so, nothing, only, stays_as, talk_keeps, told_did, work_goes}
@@ -50,7 +49,7 @@ use Rattle.put_steps.proofs.Unexpected.{answer_else, greets_else, offer_else, op
 -- ---- a message
 
 module _ (x : Sight) (rows : Rows) (k : Seen) (w : Putting) (peer n : ℕ) (m : Message) (awaits : awaited (work_of w) ≡ Some peer) (with_peer : partner w.job.peer (phase_of w.phase) ≡ Some peer)
-    (learn : (f : FrameView) → Lined f.body m → learns (work_of w) (phase_of w.phase) (Some f) ≡ record (work_of w) { version = n }) (silent : (c : Contents) (items : List Parcel) → SendsPiece c w.job.key w.phase items) where
+    (learn : (f : FrameView) → Lined f.body m → learns (work_of w) (phase_of w.phase) (Some f) ≡ record (work_of w) { version = n }) where
   abbrev turn : Contents → ℕ → Bool → Turn → Turn
   turn c part right rest = turn_in x rows c part right None rest (work_of w)
 
@@ -62,7 +61,7 @@ module _ (x : Sight) (rows : Rows) (k : Seen) (w : Putting) (peer n : ℕ) (m : 
   shut_did puts is = (
     shut_steps x rows k k (work_of w) (work_of (record w { phase = phases.Ends endings.Closed; version = n })) SeesNoPart peer awaits with_peer m n learn false
         (λ c told part right s rest f. only k (takes (turn c part right rest) f peer (phase_of w.phase) m) (wrong_message (turn c part right rest) f peer) (is c part right rest f) refl) moves,
-    talk_keeps x rows k k w (phases.Ends endings.Closed) n (close_to peer) false (nothing k) refl (λ c told. silent c (close_to peer)) (λ named was. tt) (λ stays. refl),
+    talk_keeps x rows k k w (phases.Ends endings.Closed) n (close_to peer) false (nothing k) refl (tt, tt) (λ named was. tt) (λ stays. refl),
   )
     where
       moves : work_of (record w { phase = phases.Ends endings.Closed; version = n }) ≡ Jobs.closed_part x.repo (record (work_of w) { version = n }) peer (part_of w.phase)
@@ -75,7 +74,7 @@ module _ (x : Sight) (rows : Rows) (k : Seen) (w : Putting) (peer n : ℕ) (m : 
   heard_did next ended is moves done apart undone = (
     heard_steps x rows k k (work_of w) (work_of (record w { phase = next; version = n })) SeesNoPart peer awaits with_peer m n learn ended
         (λ c told part right s rest f. only k (takes (turn c part right rest) f peer (phase_of w.phase) m) (hears (turn c part right rest) f) (is c part right rest f) refl) moves,
-    talk_keeps x rows k k w next n [] ended (nothing k) done (λ c told. silent c []) apart undone,
+    talk_keeps x rows k k w next n [] ended (nothing k) done tt apart undone,
   )
 
   -- it is answered
@@ -89,7 +88,7 @@ module _ (x : Sight) (rows : Rows) (k : Seen) (w : Putting) (peer n : ℕ) (m : 
         let t = turn c part right rest in
         only k (takes t f peer (phase_of w.phase) m) (says_to t (talk t) (Some f) peer said) (is c part right rest f) refl)
         line.0 moves,
-    talk_keeps x rows k k w next n (message_to peer said) false (nothing k) (sym goes) (λ c told. silent c (message_to peer said)) apart (λ stays. goes),
+    talk_keeps x rows k k w next n (message_to peer said) false (nothing k) (sym goes) (tt, tt) apart (λ stays. goes),
   )
 
   -- the peer has the content: a copy is to end, and the drop of a move is to begin
@@ -115,7 +114,7 @@ pub opened_hears : (x : Sight) (rows : Rows) (k : Seen) (w : Putting) (peer : �
 opened_hears x rows k w peer id out is line says =
     let v = at_phase w (phases.Opens peer) in
     did_from x _ rows k k w (record w { phase = phases.Greets peer }) (Talk (Some w.number)) (message_to peer (messages.Version 3)) false (phases.Greets peer) w.version out (phases.Opens peer) is says refl
-    (said_did x rows k v peer w.version (messages.AuthSuccess id) refl refl (λ f l. refl) (λ c items. tt) (messages.Version 3) (phases.Greets peer) (λ c part right rest f. refl) line (λ time. refl) refl (λ named was. was))
+    (said_did x rows k v peer w.version (messages.AuthSuccess id) refl refl (λ f l. refl) (messages.Version 3) (phases.Greets peer) (λ c part right rest f. refl) line (λ time. refl) refl (λ named was. was))
 
 pub opened_shut : {E : Type 0} (x : Sight) (rows : Rows) (k : Seen) (w w' : Putting) (peer : ℕ) (m : Message) (r : Result Output E) → w.phase ≡ phases.Opens peer → ((id : List ℕ) → m ≡ messages.AuthSuccess id → ⊥)
     → IfOk r (Told w w' (close_to peer) (phases.Ends endings.Closed) w.version) → OnErr r (w' ≡ w) → Does x (Some (incoming.Message m)) rows k k w w' r
@@ -123,7 +122,7 @@ opened_shut x rows k w w' peer m r is other ok err =
     let v = at_phase w (phases.Opens peer) in
     hears_so x _ rows k w w' r _ ok err
     (λ out told. told_did x _ rows k k w w' _ _ w.version out (phases.Opens peer) is told
-    (shut_did x rows k v peer w.version m refl refl (λ f l. refl) (λ c items. tt) refl
+    (shut_did x rows k v peer w.version m refl refl (λ f l. refl) refl
     (λ c part right rest f. opens_else (turn_in x rows c part right None rest (work_of v)) f peer peer m refl other)))
 
 -- ---- the answer to VERSION
@@ -134,7 +133,7 @@ greeted_shut x rows k w w' peer m r is other ok err =
     let v = at_phase w (phases.Greets peer) in
     hears_so x _ rows k w w' r _ ok err
     (λ out told. told_did x _ rows k k w w' _ _ w.version out (phases.Greets peer) is told
-    (shut_did x rows k v peer w.version m refl refl (λ f l. learns_else (work_of v) f peer m l other) (λ c items. tt) refl
+    (shut_did x rows k v peer w.version m refl refl (λ f l. learns_else (work_of v) f peer m l other) refl
     (λ c part right rest f. greets_else (turn_in x rows c part right None rest (work_of v)) f peer peer m refl other)))
 
 -- it is none that was asked for
@@ -145,7 +144,7 @@ unknown_shut x rows k w w' peer version r is high ok err =
     let n : ℕ = (if option_is w.job.peer peer then version else w.version) in
     hears_so x _ rows k w w' r _ ok err
     (λ out told. told_did x _ rows k k w w' _ _ n out (phases.Greets peer) is told
-    (shut_did x rows k v peer n (messages.Version version) refl refl (λ f l. learns_version (work_of v) f peer version l) (λ c items. tt) refl
+    (shut_did x rows k v peer n (messages.Version version) refl refl (λ f l. learns_version (work_of v) f peer version l) refl
     (λ c part right rest f. sym (greets_high (turn_in x rows c part right None rest (work_of v)) f peer version high))))
 
 -- it is, and the content is offered
@@ -159,7 +158,7 @@ known_offered x rows k w w' peer version (Ok out) is low told line err =
     let v = at_phase w (phases.Greets peer) in
     let n : ℕ = (if option_is w.job.peer peer then version else w.version) in
     told_did x _ rows k k w w' _ _ n out (phases.Greets peer) is told
-    (said_did x rows k v peer n (messages.Version version) refl refl (λ f l. learns_version (work_of v) f peer version l) (λ c items. tt) (messages.Put [] w.job.key) (phases.Offer peer)
+    (said_did x rows k v peer n (messages.Version version) refl refl (λ f l. learns_version (work_of v) f peer version l) (messages.Put [] w.job.key) (phases.Offer peer)
     (λ c part right rest f. greets_puts (turn_in x rows c part right None rest (work_of v)) f peer version low refl) line (λ time. refl) refl (λ named was. was))
 known_offered x rows k w w' peer version (Err e) is low told line err = stays_as k k w w' err (all_stays k)
 
@@ -170,26 +169,26 @@ pub already_hears : (x : Sight) (rows : Rows) (k : Seen) (w w' : Putting) (peer 
     → w' ≡ record w { phase = (if is_move w.job.kind then phases.Done else phases.Ends (endings.Copied None)) } → Did x (Some (incoming.Message messages.AlreadyHave)) rows k k w w' out
 already_hears x rows k w w' peer out is says next =
     did_from x _ rows k k w w' (Talk (Some w.number)) [] (is_move w.job.kind) (if is_move w.job.kind then phases.Done else phases.Ends (endings.Copied None)) w.version out (phases.Offer peer) is says next
-    (finish_did x rows k (at_phase w (phases.Offer peer)) peer w.version messages.AlreadyHave refl refl (λ f l. refl) (λ c items. tt) None (is_move w.job.kind) refl refl (λ c part right rest f. refl) refl)
+    (finish_did x rows k (at_phase w (phases.Offer peer)) peer w.version messages.AlreadyHave refl refl (λ f l. refl) None (is_move w.job.kind) refl refl (λ c part right rest f. refl) refl)
 
 -- it has it now
 pub success_hears : (x : Sight) (rows : Rows) (k : Seen) (w w' : Putting) (peer start : ℕ) (out : Output) → w.phase ≡ phases.Answer peer start → out ≡ output_of (Talk (Some w.number)) [] (is_move w.job.kind)
     → w' ≡ record w { phase = (if is_move w.job.kind then phases.Done else phases.Ends (endings.Copied (Some start))) } → Did x (Some (incoming.Message messages.Success)) rows k k w w' out
 success_hears x rows k w w' peer start out is says next =
     did_from x _ rows k k w w' (Talk (Some w.number)) [] (is_move w.job.kind) (if is_move w.job.kind then phases.Done else phases.Ends (endings.Copied (Some start))) w.version out (phases.Answer peer start) is says next
-    (finish_did x rows k (at_phase w (phases.Answer peer start)) peer w.version messages.Success refl refl (λ f l. refl) (λ c items. tt) (Some start) (is_move w.job.kind) refl refl (λ c part right rest f. refl) refl)
+    (finish_did x rows k (at_phase w (phases.Answer peer start)) peer w.version messages.Success refl refl (λ f l. refl) (Some start) (is_move w.job.kind) refl refl (λ c part right rest f. refl) refl)
 
 -- it refuses
 pub offer_refused : (x : Sight) (rows : Rows) (k : Seen) (w w' : Putting) (peer : ℕ) (out : Output) → w.phase ≡ phases.Offer peer → Told w w' [] (phases.Ends endings.Rejected) w.version out → Did x (Some (incoming.Message messages.Failure)) rows k k w w' out
 offer_refused x rows k w w' peer out is told =
     told_did x _ rows k k w w' [] (phases.Ends endings.Rejected) w.version out (phases.Offer peer) is told
-    (heard_did x rows k (at_phase w (phases.Offer peer)) peer w.version messages.Failure refl refl (λ f l. refl) (λ c items. tt) (phases.Ends endings.Rejected) false (λ c part right rest f. refl) refl refl (λ named was. tt) (λ stays. refl))
+    (heard_did x rows k (at_phase w (phases.Offer peer)) peer w.version messages.Failure refl refl (λ f l. refl) (phases.Ends endings.Rejected) false (λ c part right rest f. refl) refl refl (λ named was. tt) (λ stays. refl))
 
 pub answer_refused : (x : Sight) (rows : Rows) (k : Seen) (w w' : Putting) (peer start : ℕ) (out : Output) → w.phase ≡ phases.Answer peer start → Told w w' [] (phases.Ends endings.Rejected) w.version out
     → Did x (Some (incoming.Message messages.Failure)) rows k k w w' out
 answer_refused x rows k w w' peer start out is told =
     told_did x _ rows k k w w' [] (phases.Ends endings.Rejected) w.version out (phases.Answer peer start) is told
-    (heard_did x rows k (at_phase w (phases.Answer peer start)) peer w.version messages.Failure refl refl (λ f l. refl) (λ c items. tt) (phases.Ends endings.Rejected) false (λ c part right rest f. refl) refl refl (λ named was. tt) (λ stays. refl))
+    (heard_did x rows k (at_phase w (phases.Answer peer start)) peer w.version messages.Failure refl refl (λ f l. refl) (phases.Ends endings.Rejected) false (λ c part right rest f. refl) refl refl (λ named was. tt) (λ stays. refl))
 
 -- it answers by an error: another transfer of the key is on its way there, or what isn't permitted
 pub busy_hears : (x : Sight) (rows : Rows) (k : Seen) (w w' : Putting) (peer : ℕ) (text : List ℕ) (out : Output) → w.phase ≡ phases.Offer peer → bytes_eq text (codes "busy") ≡ true → Told w w' [] (phases.Ends endings.Busy) w.version out
@@ -197,7 +196,7 @@ pub busy_hears : (x : Sight) (rows : Rows) (k : Seen) (w w' : Putting) (peer : �
 busy_hears x rows k w w' peer text out is busy told =
     let v = at_phase w (phases.Offer peer) in
     told_did x _ rows k k w w' [] (phases.Ends endings.Busy) w.version out (phases.Offer peer) is told
-    (heard_did x rows k v peer w.version (messages.Error text) refl refl (λ f l. refl) (λ c items. tt) (phases.Ends endings.Busy) false
+    (heard_did x rows k v peer w.version (messages.Error text) refl refl (λ f l. refl) (phases.Ends endings.Busy) false
     (λ c part right rest f. let t = turn_in x rows c part right None rest (work_of v) in ap (λ (b : Bool). if b then hears t f else wrong_message t f peer) busy) refl refl (λ named was. tt) (λ stays. refl))
 
 pub error_shut : {E : Type 0} (x : Sight) (rows : Rows) (k : Seen) (w w' : Putting) (peer : ℕ) (text : List ℕ) (r : Result Output E) → w.phase ≡ phases.Offer peer → bytes_eq text (codes "busy") ≡ false
@@ -206,7 +205,7 @@ error_shut x rows k w w' peer text r is other ok err =
     let v = at_phase w (phases.Offer peer) in
     hears_so x _ rows k w w' r _ ok err
     (λ out told. told_did x _ rows k k w w' _ _ w.version out (phases.Offer peer) is told
-    (shut_did x rows k v peer w.version (messages.Error text) refl refl (λ f l. refl) (λ c items. tt) refl
+    (shut_did x rows k v peer w.version (messages.Error text) refl refl (λ f l. refl) refl
     (λ c part right rest f. let t = turn_in x rows c part right None rest (work_of v) in ap (λ (b : Bool). if b then hears t f else wrong_message t f peer) other)))
 
 pub offer_shut : {E : Type 0} (x : Sight) (rows : Rows) (k : Seen) (w w' : Putting) (peer : ℕ) (m : Message) (r : Result Output E) → w.phase ≡ phases.Offer peer
@@ -216,7 +215,7 @@ offer_shut x rows k w w' peer m r is a b d e ok err =
     let v = at_phase w (phases.Offer peer) in
     hears_so x _ rows k w w' r _ ok err
     (λ out told. told_did x _ rows k k w w' _ _ w.version out (phases.Offer peer) is told
-    (shut_did x rows k v peer w.version m refl refl (λ f l. refl) (λ c items. tt) refl
+    (shut_did x rows k v peer w.version m refl refl (λ f l. refl) refl
     (λ c part right rest f. let t = turn_in x rows c part right None rest (work_of v) in offer_takes t f peer m refl ∙ offer_else t f peer peer m a b d e)))
   where
     offer_takes : (t : Turn) (f : FrameView) (peer : ℕ) (m : Message) → t.w.part ≡ Puts → takes t f peer (Jobs.PutsOffer peer) m ≡ takes_put t f peer (Jobs.PutsOffer peer) m
@@ -228,7 +227,7 @@ answer_shut x rows k w w' peer start m r is a b ok err =
     let v = at_phase w (phases.Answer peer start) in
     hears_so x _ rows k w w' r _ ok err
     (λ out told. told_did x _ rows k k w w' _ _ w.version out (phases.Answer peer start) is told
-    (shut_did x rows k v peer w.version m refl refl (λ f l. refl) (λ c items. tt) refl (λ c part right rest f. answer_else (turn_in x rows c part right None rest (work_of v)) f peer peer start m a b)))
+    (shut_did x rows k v peer w.version m refl refl (λ f l. refl) refl (λ c part right rest f. answer_else (turn_in x rows c part right None rest (work_of v)) f peer peer start m a b)))
 
 -- ---- the answer to PUT-FROM
 
@@ -252,7 +251,7 @@ size_told x rows k k' w w' peer start size out is known reach but made line move
           let t = turn_in x rows c part right None rest (work_of v) in
           asks_so k k' (puts_from t f peer start) (attempts t (calls.Size ∷ []) (Some f) (says_to t (talk t) (Some f) peer m)) None (asks_from t f peer start size true (known c held) reach) made)
           line.0 (λ time. work_goes v w'.phase _ goes moves),
-      talk_keeps x rows k k' v w'.phase w.version (message_to peer m) false but (sym goes) (λ c held. tt)
+      talk_keeps x rows k k' v w'.phase w.version (message_to peer m) false but (sym goes) (tt, tt)
           (apart_same x (work_of v) (work_of (record v { phase = w'.phase })) (ap (λ (ph : Jobs.Phase). partner w.job.peer ph) moves ∙ puts_with w.job.peer peer start start (bytes_left size start))) (λ stays. goes),
     )
 
@@ -267,7 +266,7 @@ size_past x rows k k' w w' peer start size out is known reach but made told =
           let t = turn_in x rows c part right None rest (work_of v) in
           asks_so k k' (puts_from t f peer start) (attempts t (calls.Size ∷ []) (Some f) (wrong_message t f peer)) None (asks_from t f peer start size false (known c held) reach) made)
           refl,
-      talk_keeps x rows k k' v (phases.Ends endings.Closed) w.version (close_to peer) false but refl (λ c held. tt) (λ named was. tt) (λ stays. refl),
+      talk_keeps x rows k k' v (phases.Ends endings.Closed) w.version (close_to peer) false but refl (tt, tt) (λ named was. tt) (λ stays. refl),
     )
 
 pub answered : {E : Type 0} (x : Sight) (rows : Rows) (k k' : Seen) (w w' : Putting) (peer start : ℕ) (size : Option ℕ) (r : Result Output E) → w.phase ≡ phases.Offer peer → ForSome k.contents (λ c. size ≡ option_map length (c w.job.key))

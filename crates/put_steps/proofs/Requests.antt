@@ -24,13 +24,14 @@ use Rattle.drop_phases.specs.Doing.{HasToken}
 use Rattle.drop_phases.specs.declared.phase.Token.TheVariants as tokens
 use Rattle.transfer_turns.specs.declared.parcels.Output.{Output}
 use Rattle.transfer_turns.specs.declared.parcels.ParcelBody.TheVariants as bodies
-use Rattle.transfer_turns.specs.Parcels.{SendsView, end_in, frames_of}
+use Rattle.transfer_turns.specs.Parcels.{SendsView, end_in}
 use Rattle.transfer_turns.specs.Partners.{IsOther, StaysApart}
 use Rattle.transfer_turns.specs.Steps.{LeavesBut, Seen}
-use Rattle.transfer_turns.specs.Turns.{Sight, output_of, partings_at, step_at, turn_in}
+use Rattle.transfer_turns.specs.Turns.{ArePartings, Sight, output_of, step_at, turn_in}
 use Rattle.transfer_turns.proofs.Actings.{acts_ending, acts_failing, acts_sending}
 use Rattle.transfer_turns.proofs.Makings.{end_calls, no_share}
 use Rattle.transfer_turns.proofs.Partners.{apart_with}
+use Rattle.transfer_turns.proofs.Pieces.{pieces_none}
 use Rattle.transfer_turns.proofs.Works.{after_opening, after_request}
 use Rattle.put_steps.specs.declared.phase.Ending.{Ending}
 use Rattle.put_steps.specs.declared.phase.Ending.TheVariants as endings
@@ -59,7 +60,7 @@ offers_first x rows k k' w w' peer out is to here but made live offers =
           let u = t c part right rest in
           asks_so k k' (step_at None None u) (attempts u (calls.Has ∷ []) None (says_to u (talk u) None peer (messages.Put [] w.job.key))) None (rw (← here c told, to, live) refl) made)
           (λ c part right rest. sym (after_request (t c part right rest) refl peer (messages.Put [] w.job.key) offers.line.0)),
-      talk_keeps x rows k k' v (phases.Offer peer) w.version (message_to peer (messages.Put [] w.job.key)) false but refl (λ c told. tt) (to_peer x v peer to (phases.Offer peer) refl) (λ stays. refl),
+      talk_keeps x rows k k' v (phases.Offer peer) w.version (message_to peer (messages.Put [] w.job.key)) false but refl (tt, tt) (to_peer x v peer to (phases.Offer peer) refl) (λ stays. refl),
     )
 
 pub opens_first : (x : Sight) (rows : Rows) (k k' : Seen) (w w' : Putting) (peer : ℕ) (out : Output) → w.phase ≡ phases.Fresh → w.job.peer ≡ Some peer → ForSome k.contents (λ c. true ≡ is_some (c w.job.key))
@@ -74,7 +75,7 @@ opens_first x rows k k' w w' peer out is to here but made shut told =
           let u = t c part right rest in
           asks_so k k' (step_at None None u) (attempts u (calls.Has ∷ []) None (sends_to u (talk u) None peer (Opening ∷ []))) None (rw (← here c known, to, shut) refl) made)
           (λ c part right rest. sym (after_opening (t c part right rest) refl peer)),
-      talk_keeps x rows k k' v (phases.Opens peer) w.version (record { peer = peer; body = bodies.Open } ∷ []) false but refl (λ c known. tt) (to_peer x v peer to (phases.Opens peer) refl) (λ stays. refl),
+      talk_keeps x rows k k' v (phases.Opens peer) w.version (record { peer = peer; body = bodies.Open } ∷ []) false but refl (tt, tt) (to_peer x v peer to (phases.Opens peer) refl) (λ stays. refl),
     )
 
 pub begins_to : (x : Sight) (rows : Rows) (k k' : Seen) (w w' : Putting) (peer : ℕ) (out : Output) → w.phase ≡ phases.Fresh → w.job.peer ≡ Some peer → ForSome k.contents (λ c. true ≡ is_some (c w.job.key))
@@ -99,31 +100,31 @@ look_failed x rows k k' w w' out is had but says next =
 ends_behind : (t : Turn) (outcome : Outcome) (call : Call) (k k' : Seen) → owns_share t ≡ false → MakesCalls (call ∷ []) None k.failing k'.failing → MakesCalls (call ∷ (ends t None outcome).calls) None k.failing k'.failing
 ends_behind t outcome call k k' bare made = subst (λ (cs : List Call). MakesCalls (call ∷ cs) None k.failing k'.failing) (sym (end_calls t outcome bare)) made
 
-pub not_here : (x : Sight) (rows : Rows) (k k' : Seen) (w : Putting) (sends : SendsView) → w.phase ≡ phases.Fresh → HasToken w.number w.job.key tokens.Nothing rows → frames_of x.ends w.slot sends.items ≡ partings_at x w.slot
+pub not_here : (x : Sight) (rows : Rows) (k k' : Seen) (w : Putting) (sends : SendsView) → w.phase ≡ phases.Fresh → HasToken w.number w.job.key tokens.Nothing rows → ArePartings x w.slot sends.items
     → ForSome k.contents (λ c. false ≡ is_some (c w.job.key)) → LeavesBut None k k' → MakesCalls (calls.Has ∷ []) None k.failing k'.failing
     → Did x None rows k k' w w (record { kind = End w.number (TransferRefused failures.NotHere); sends = sends; ended = true })
 not_here x rows k k' w sends is own sent absent but made =
     let v = at_phase w phases.Fresh in
     let t = λ (c : Contents) (part : ℕ) (right : Bool) (rest : Turn). turn_in x rows c part right None rest (work_of v) in
     ended_did x None rows k k' w (TransferRefused failures.NotHere) sends phases.Fresh is (
-      acts_ending x rows k k' (work_of v) (work_of v) SeesNoPart (refl {a = None}) (TransferRefused failures.NotHere) sends own refl sent
+      acts_ending x rows k k' (work_of v) (work_of v) SeesNoPart (refl {a = None}) (TransferRefused failures.NotHere) sends own refl sent.frames
           (λ c told part right z rest.
           let u = t c part right rest in
           asks_so k k' (step_at None None u) (attempts u (calls.Has ∷ []) None (ends u None (TransferRefused failures.NotHere))) None (rw (← absent c told) refl)
           (ends_behind u (TransferRefused failures.NotHere) calls.Has k k' (no_share u rows refl own) made)),
-      end_keeps x rows k k' v (TransferRefused failures.NotHere) sends but (λ c told. tt),
+      end_keeps x rows k k' v (TransferRefused failures.NotHere) sends but (pieces_none k.contents (work_of v) sends.items sent.pieces),
     )
 
-pub ends_so : (x : Sight) (rows : Rows) (k : Seen) (w : Putting) (why : Ending) (sends : SendsView) → w.phase ≡ phases.Ends why → HasToken w.number w.job.key tokens.Nothing rows → frames_of x.ends w.slot sends.items ≡ partings_at x w.slot
+pub ends_so : (x : Sight) (rows : Rows) (k : Seen) (w : Putting) (why : Ending) (sends : SendsView) → w.phase ≡ phases.Ends why → HasToken w.number w.job.key tokens.Nothing rows → ArePartings x w.slot sends.items
     → Did x None rows k k w w (record { kind = End w.number (outcome_of why); sends = sends; ended = true })
 ends_so x rows k w why sends is own sent =
     let v = at_phase w (phases.Ends why) in
     let t = λ (c : Contents) (part : ℕ) (right : Bool) (rest : Turn). turn_in x rows c part right None rest (work_of v) in
     ended_did x None rows k k w (outcome_of why) sends (phases.Ends why) is (
-      acts_ending x rows k k (work_of v) (work_of v) SeesNoPart (refl {a = None}) (outcome_of why) sends own refl sent
+      acts_ending x rows k k (work_of v) (work_of v) SeesNoPart (refl {a = None}) (outcome_of why) sends own refl sent.frames
           (λ c told part right z rest.
           let u = t c part right rest in
           asks_so k k (step_at None None u) (ends u None (outcome_of why)) None refl
           (subst (λ (cs : List Call). MakesCalls cs None k.failing k.failing) (sym (end_calls u (outcome_of why) (no_share u rows refl own))) (makes_none k.failing k.failing refl))),
-      end_keeps x rows k k v (outcome_of why) sends (nothing k) (λ c told. tt),
+      end_keeps x rows k k v (outcome_of why) sends (nothing k) (pieces_none k.contents (work_of v) sends.items sent.pieces),
     )

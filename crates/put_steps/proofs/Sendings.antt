@@ -71,7 +71,7 @@ module _ (x : Sight) (rows : Rows) (k k' : Seen) (w : Putting) (s : Sending) whe
         asks_so k k' (step_at None None t) (asks_piece t true (length piece.items)) None (ap (on_way t) live ∙ (λ i. asks_piece t (reached c told i) (sym long i))) made)
         (λ c part right rest. work_goes sending w'.phase _ goes_on moves ∙ sym (after_piece (turn_in x rows c part right None rest (work_of sending)) s.peer (length piece.items) refl live)),
     talk_keeps x rows k k' sending w'.phase w.version (record { peer = s.peer; body = bodies.Piece piece } ∷ []) false but (sym goes_on)
-        (λ c told. (has c told, omega (arith, long, s.some), omega (arith, long)))
+        ((has, omega (arith, long, s.some), omega (arith, long)), tt)
         (apart_same x (work_of sending) (work_of (record sending { phase = w'.phase })) (ap (λ (ph : Jobs.Phase). partner w.job.peer ph) moves ∙ puts_with w.job.peer s.peer s.start (s.at + length piece.items) (s.left - length piece.items)))
         (λ stays. goes_on),
   )
@@ -85,7 +85,7 @@ module _ (x : Sight) (rows : Rows) (k k' : Seen) (w : Putting) (s : Sending) whe
         let t = turn_in x rows c part right None rest (work_of sending) in
         asks_so k k' (step_at None None t) (asks_piece t false size) None (ap (on_way t) live ∙ (λ i. asks_piece t (past c told i) size)) made)
         (λ c part right rest. sym (after_gone (turn_in x rows c part right None rest (work_of sending)) s.peer refl)),
-    talk_keeps x rows k k' sending (phases.Ends endings.Closed) w.version (close_to s.peer) false but refl (λ c told. tt) (λ named was. tt) (λ stays. refl),
+    talk_keeps x rows k k' sending (phases.Ends endings.Closed) w.version (close_to s.peer) false but refl (tt, tt) (λ named was. tt) (λ stays. refl),
   )
 
   -- it couldn't be read
@@ -153,7 +153,7 @@ sending_closed x rows k w w' s out is shut told =
       acts_quiet x rows k k (work_of v) (work_of (record v { phase = phases.Ends endings.Closed })) SeesNoPart (refl {a = None}) false
           (λ c held part right z rest. let t = turn_in x rows c part right None rest (work_of v) in only k (step_at None None t) (quietly (talk t) None) (ap (on_way t) shut) refl)
           (λ c part right rest. sym (after_closed_here (turn_in x rows c part right None rest (work_of v)) s.peer refl shut)),
-      talk_keeps x rows k k v (phases.Ends endings.Closed) w.version [] false (nothing k) refl (λ c held. tt) (λ named was. tt) (λ stays. refl),
+      talk_keeps x rows k k v (phases.Ends endings.Closed) w.version [] false (nothing k) refl tt (λ named was. tt) (λ stays. refl),
     )
 
 -- ---- VALID
@@ -165,7 +165,7 @@ word_closed x rows k w w' peer start out is shut told =
       acts_quiet x rows k k (work_of v) (work_of (record v { phase = phases.Ends endings.Closed })) SeesNoPart (refl {a = None}) false
           (λ c held part right z rest. let t = turn_in x rows c part right None rest (work_of v) in only k (step_at None None t) (quietly (talk t) None) (ap (on_way t) shut) refl)
           (λ c part right rest. sym (after_closed_here (turn_in x rows c part right None rest (work_of v)) peer refl shut)),
-      talk_keeps x rows k k v (phases.Ends endings.Closed) w.version [] false (nothing k) refl (λ c held. tt) (λ named was. tt) (λ stays. refl),
+      talk_keeps x rows k k v (phases.Ends endings.Closed) w.version [] false (nothing k) refl tt (λ named was. tt) (λ stays. refl),
     )
 
 pub valid_told : (x : Sight) (rows : Rows) (k : Seen) (w : Putting) (peer start : ℕ) (out : Output) → w.phase ≡ phases.Word peer start → is_open x w peer ≡ true → IsLine messages.Valid
@@ -176,5 +176,5 @@ valid_told x rows k w peer start out is live line says =
       acts_sending x rows k k (work_of v) (work_of (record v { phase = phases.Answer peer start })) SeesNoPart (refl {a = None}) peer (bodies.Message messages.Valid) false
           (λ c held part right z rest. let t = turn_in x rows c part right None rest (work_of v) in only k (step_at None None t) (says_to t (talk t) None peer messages.Valid) (ap (on_way t) live) refl)
           (λ c part right rest. sym (after_word (turn_in x rows c part right None rest (work_of v)) peer messages.Valid refl live line.0)),
-      talk_keeps x rows k k v (phases.Answer peer start) w.version (message_to peer messages.Valid) false (nothing k) refl (λ c held. tt) (λ named was. was) (λ stays. refl),
+      talk_keeps x rows k k v (phases.Answer peer start) w.version (message_to peer messages.Valid) false (nothing k) refl (tt, tt) (λ named was. was) (λ stays. refl),
     )

@@ -1,22 +1,16 @@
--- What a copy is: the job's work, and the bytes that it sends (own).
-use Rattle.std.specs.Prelude.{◌≡◌, ◌<◌, ◌≤◌, ◌==◌, ℕ, Bool, true, false, List, [], ◌∷◌, drop, length, take, Option, Some, None}
+-- What a copy is: the job's work (own).
+use Rattle.std.specs.Prelude.{◌≡◌, ◌==◌, ℕ, Bool, true, false, [], Option, Some, None}
 use Rattle.run_data.specs.declared.job.Outcome.{Outcome}
 use Rattle.run_data.specs.declared.job.Outcome.TheVariants.{Copied, TransferRefused}
 use Rattle.run_data.specs.declared.job.TransferRefusal.TheVariants as failures
-use Rattle.object_store.specs.Stores.{Contents, bytes_of}
 use Rattle.node_model.specs.Jobs
 use Rattle.node_model.specs.Jobs.{Part, Work, Drops, Puts}
-use Rattle.transfer_turns.specs.declared.parcels.Parcel.{Parcel}
-use Rattle.transfer_turns.specs.declared.parcels.ParcelBody.{ParcelBody}
-use Rattle.transfer_turns.specs.declared.parcels.ParcelBody.TheVariants as bodies
 use Rattle.transfer_turns.specs.Turns.{Sight}
 use Rattle.put_steps.specs.declared.phase.Ending.{Ending}
 use Rattle.put_steps.specs.declared.phase.Ending.TheVariants as endings
 use Rattle.put_steps.specs.declared.phase.Phase.{Phase}
 use Rattle.put_steps.specs.declared.phase.Phase.TheVariants as phases
 use Rattle.put_steps.specs.declared.putting.Putting.{Putting}
-
--- ---- the work
 
 abbrev pub outcome_of : Ending → Outcome
 outcome_of (endings.Copied start) = Copied start
@@ -63,18 +57,3 @@ work_of w =
 abbrev pub HasPeer : Sight → Option ℕ → Type 0
 HasPeer x None = ⊥
 HasPeer x (Some peer) = (x.repo == peer) ≡ false
-
--- ---- the bytes
-
--- what is sent of a content: its bytes from a place on, at most 32,768
-abbrev pub IsPieceIn : Contents → List ℕ → ℕ → ParcelBody → Type 0
-IsPieceIn contents key at (bodies.Piece bytes) = (bytes.items ≡ take (length bytes.items) (drop at (bytes_of contents key))) × (0 < length bytes.items) × (length bytes.items ≤ 32768)
-IsPieceIn contents key at body = Unit {0}
-
-abbrev pub ArePieces : Contents → List ℕ → ℕ → List Parcel → Type 0
-ArePieces contents key at (p ∷ []) = IsPieceIn contents key at p.body
-ArePieces contents key at ps = Unit {0}
-
-abbrev pub SendsPiece : Contents → List ℕ → Phase → List Parcel → Type 0
-SendsPiece contents key (phases.Bytes s) ps = ArePieces contents key s.at ps
-SendsPiece contents key phase ps = Unit {0}

@@ -15,10 +15,7 @@ use Rattle.content_lock.specs.Rows.{is_filling}
 use Rattle.node_past.specs.declared.refused.NodeRefused.{NodeRefused}
 use Rattle.node_past.specs.declared.refused.NodeRefused.TheVariants as refusals
 use Rattle.node_ledger.specs.Debts.{with_status}
-use Rattle.node_model.specs.Sessions as sessions
-use Rattle.p2p_server.specs.declared.session.Session.{Session}
-use Rattle.p2p_server.specs.Talking.{IsFedOf, session_of}
-use Rattle.node_steps.specs.Parts.{PartsView}
+use Rattle.node_steps.specs.Parts.{AreAllFed, PartsView}
 use Rattle.node_steps.specs.Sound.{AreSound}
 use Rattle.node_steps.specs.Kept.{IsFed, Stands, KeepsDirect}
 use Rattle.node_steps.specs.Nodes.{NodeView, told_of, beside}
@@ -72,14 +69,14 @@ some_there (Some f) there = (f, refl)
 told_there : (g : Parts) (p q : Option Parts) → is_some q ≡ is_some p → q ≡ Some g → (f : Parts) × (p ≡ Some f)
 told_there g p q same told = some_there p (sym same ∙ ap is_some told)
 
--- a session whose key's part stays goes on to be fed
+-- where the parts of the keys that the table fills stay, they are what sessions and gets have taken
 abbrev FedStays : Type 0
-FedStays = (s : Session) (was now : Parts) → ((key : List ℕ) → sessions.is_filling key (session_of s).doing ≡ true → now key ≡ was key) → IsFedOf was s → IsFedOf now s
+FedStays = (p : PartsView) (was now : Parts) → AreSound p → ((key : List ℕ) → is_filling p.table key ≡ true → now key ≡ was key) → AreAllFed was p → AreAllFed now p
 
 pub fed_left : FedStays → (p : PartsView) (known known' : Option Parts) → AreSound p → LeavesFilled p.table known known' → IsFed known p → IsFed known' p
-fed_left stays p known known' sound leaves fed = λ g told i x at.
+fed_left stays p known known' sound leaves fed = λ g told.
     let was = told_there g known known' leaves.tells told in
-    stays x was.0 g (λ key fills. leaves.filled was.0 was.1 g told key (sound.serving.fills i x at key fills)) (fed was.0 was.1 i x at)
+    stays p was.0 g sound (leaves.filled was.0 was.1 g told) (fed was.0 was.1)
 
 -- ---- a ledger is kept beside its parts
 

@@ -1,4 +1,5 @@
 -- The lemmas of this crate.
+pub mod BeginLemmas
 pub mod BesideLemmas
 pub mod FullLemmas
 pub mod GainLemmas

@@ -34,13 +34,13 @@ looks_dropped : {K : Type 0} (n : NodeView K) (s : SetUp) (k : Look) → DropLaw
 looks_dropped n s k law looks = record { ends = law n.parts.links s k looks.ends; time = looks.time; count = looks.count; paths = looks.paths }
 
 finds_dropped : {K : Type 0} (known : Option StoredParts) (n : NodeView K) (kind : EntryKind) (taken : Option FrameView) (k : Look) → Finds known n kind taken k → Finds known (dropped n) kind taken k
-finds_dropped known n kind taken k finds = record { fails = finds.fails; part = finds.part; words = finds.words }
+finds_dropped known n kind taken k finds = record { fails = finds.fails; part = record { serving = finds.part.serving; acting = finds.part.acting }; words = finds.words }
 
 turns_dropped : {K : Type 0} (before after : StoreView) (n m : NodeView K) → DropLaw → StepsBy step before after (dropped n) m → StepsBy step before after n m
 turns_dropped before after n m law by = record {
   kind = by.kind;
   taken = by.taken;
-  part = record { part = by.part.part; right = by.part.right; asked = by.part.asked };
+  part = record { part = by.part.part; right = by.part.right; asked = record { serving = by.part.asked.serving; acting = by.part.asked.acting } };
   makes = λ s k fits looks finds.
       let it = by.makes s k fits (looks_dropped n s k law looks) (finds_dropped before.parts n by.kind by.taken k finds) in
       record { made = it.made; same = it.same; takes = it.takes; makes = it.makes; adds = it.adds; calls = it.calls };

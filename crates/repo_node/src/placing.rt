@@ -13,9 +13,8 @@ ghost use Rattle.node_ledger.specs.Walks.{over};
 use crate::node::Node;
 use annex_key::Key;
 use node_past::NodeRefused;
-use node_steps::direct_entries_keep_parts;
+use node_steps::{direct_entries_keep_parts, parts_stay_fed};
 use object_store::Keeper;
-use p2p_server::others_leave_it;
 use run_data::By;
 use union_merge::files_are_changed_alone;
 
@@ -43,9 +42,9 @@ impl<K: Keeper> Node<K> {
         ensures stops { IfErr result (λ e. StopsAt to_place_part key.now bytes.now (K.contents self.old.keeper) (K.contents self.new.keeper) (K.parts self.old.keeper) (K.parts self.new.keeper) (K.failing self.old.keeper) (K.failing self.new.keeper) e self.old self.new) }
         ensures room { OnOk result (length self.old.history < most_entries) }
     {
-        // Laws, for the proof that the parts stay those of the state, and that the store's parts are what sessions took.
+        // Laws, for the proof that the parts stay those of the state, and that the store's parts are what sessions and gets took.
         direct_entries_keep_parts();
-        others_leave_it();
+        parts_stay_fed();
         without(self.ledger.bring(self.parts.table(), key, bytes))
     }
 
@@ -63,9 +62,9 @@ impl<K: Keeper> Node<K> {
         ensures full { IsErrOf result NodeRefused.Full → ((length self.old.history ≡ most_entries) × (self.new ≡ over self.new.keeper self.old)) ⊎ MeetsFullBehind key.now bytes.now (K.contents self.old.keeper) (K.failing self.old.keeper) (K.failing self.new.keeper) self.old self.new }
         ensures room { OnOk result (length self.old.history < most_entries) }
     {
-        // Laws, for the proof that the parts stay those of the state, and that the store's parts are what sessions took.
+        // Laws, for the proof that the parts stay those of the state, and that the store's parts are what sessions and gets took.
         direct_entries_keep_parts();
-        others_leave_it();
+        parts_stay_fed();
         // A law, for the proof: files change alone.
         files_are_changed_alone();
         let number = self.ledger.number();

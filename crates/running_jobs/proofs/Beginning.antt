@@ -26,10 +26,10 @@ use Rattle.drop_phases.specs.declared.phase.Phase.{Phase}
 use Rattle.drop_phases.specs.declared.phase.Token.TheVariants as tokens
 use Rattle.drop_phases.specs.Doing.{HasToken}
 use Rattle.drop_phases.specs.Working.{phase_as}
-use Rattle.node_drops.specs.Drops.{DropJob, HasRead, given}
-use Rattle.node_drops.specs.Places.{PlaceView}
-use Rattle.node_drops.specs.Reads.{KnownLogs}
-use Rattle.node_drops.proofs.Knowing.{read_same}
+use Rattle.node_tasks.specs.Drops.{DropJob, HasRead, given}
+use Rattle.node_tasks.specs.Places.{PlaceView}
+use Rattle.node_tasks.specs.Reads.{KnownLogs}
+use Rattle.node_tasks.proofs.Knowing.{read_same}
 use Rattle.get_phases.specs.declared.getting.Phase.{Phase as GetPhase}
 use Rattle.get_phases.specs.declared.getting.Phase.TheVariants as getting
 use Rattle.get_phases.specs.Gets as gets
@@ -37,10 +37,10 @@ use Rattle.put_steps.specs.declared.phase.Phase.{Phase as PutPhase}
 use Rattle.put_steps.specs.declared.phase.Phase.TheVariants as putting
 use Rattle.put_steps.specs.Puts as puts
 use Rattle.transfer_turns.specs.Steps.{fills_key}
-use Rattle.transfer_worker.specs.declared.worker.Worker.{Worker}
-use Rattle.transfer_worker.specs.declared.worker.Worker.TheVariants.{Gets, Puts}
-use Rattle.transfer_worker.specs.Workers.{CanStep, HasFill, IsFed, new_work_of, work_of}
-use Rattle.node_transfers.specs.Ready.{sight_of}
+use Rattle.node_tasks.specs.Worker.{Worker}
+use Rattle.node_tasks.specs.Worker.TheVariants.{Gets, Puts}
+use Rattle.node_tasks.specs.Workers.{CanStep, HasFill, IsFed, new_work_of, work_of}
+use Rattle.node_tasks.specs.Ready.{sight_of}
 use Rattle.node_tasks.specs.declared.task.Task.{Task}
 use Rattle.node_tasks.specs.declared.task.Task.TheVariants as tasks
 use Rattle.node_tasks.specs.Tasks.{HasReadOf, IsFedTask, IsTask, OwnsOf, number_of, slot_of, work_now}

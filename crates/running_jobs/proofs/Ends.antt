@@ -13,7 +13,7 @@ use Rattle.drop_phases.specs.declared.phase.Token.{Token}
 use Rattle.drop_phases.specs.declared.phase.Token.TheVariants as tokens
 use Rattle.drop_phases.specs.Doing.{IsBar, OthersStay}
 use Rattle.drop_phases.specs.Feeding.{FitsEnding, FitsLocal, IsBare, IsOfLocal}
-use Rattle.node_drops.specs.Places.{PlaceView}
+use Rattle.node_tasks.specs.Places.{PlaceView}
 use Rattle.transfer_turns.specs.Steps.{fills_key}
 use Rattle.node_tasks.specs.declared.task.Task.{Task}
 use Rattle.node_tasks.specs.declared.task.Task.TheVariants as tasks

@@ -12,7 +12,7 @@ use Rattle.drop_phases.specs.Doing.{HasToken}
 use Rattle.get_phases.specs.Gets.{fill_in}
 use Rattle.node_model.specs.Jobs.{Work}
 use Rattle.transfer_turns.specs.Steps.{fills_key}
-use Rattle.transfer_worker.specs.declared.worker.Worker.TheVariants.{Gets, Puts}
+use Rattle.node_tasks.specs.Worker.TheVariants.{Gets, Puts}
 use Rattle.node_tasks.specs.declared.task.Task.{Task}
 use Rattle.node_tasks.specs.declared.task.Task.TheVariants as tasks
 use Rattle.node_tasks.specs.Tasks.{OwnsOf, number_of, work_now}

@@ -5,6 +5,7 @@ pub mod Placing
 pub mod Filling
 pub mod Stepping
 pub mod Parting
+pub mod Peers
 pub mod Owning
 pub mod Slots
 pub mod Staying

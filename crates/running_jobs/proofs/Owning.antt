@@ -1,5 +1,5 @@
 -- What the jobs have of the table and of the store's parts after a step, and what becomes of them.
-use Rattle.std.proofs.Common.{◌≡◌, ◌≢◌, inl, inr, ℕ, ◌<◌, ◌≤◌, Bool, true, false, if◌then◌else◌, List, ◌∷◌, ◌++◌, map, Option, Some, None, refl, sym, ap, subst, ◌∙◌, arith}
+use Rattle.std.proofs.Common.{◌≡◌, ◌≢◌, inl, inr, ℕ, ◌*◌, ◌<◌, ◌≤◌, Bool, true, false, if◌then◌else◌, List, ◌∷◌, ◌++◌, length, map, Option, Some, None, refl, sym, ap, subst, ◌∙◌, arith}
 use Rattle.std.specs.Prelude.{◌&&◌, ◌||◌, not, is_some}
 use Rattle.annex_base.specs.Lists.{Each, Member}
 use Rattle.annex_base.specs.Settings.{Settings}
@@ -7,9 +7,12 @@ use Rattle.annex_base.proofs.Lists.{Member-append_left, Member-append_right, Mem
 use Rattle.link_ring.specs.Ends.{EndView}
 use Rattle.object_store.specs.Stores.{Parts}
 use Rattle.node_model.specs.Clocks.{ClockSet}
+use Rattle.node_model.specs.OwedLines.{told_frame}
 use Rattle.content_lock.specs.Rows.{Rows, is_filling}
 use Rattle.drop_phases.specs.declared.phase.Token.TheVariants as tokens
 use Rattle.drop_phases.specs.Doing.{HasToken, OthersStay}
+use Rattle.drop_phases.specs.Working.{end_in}
+use Rattle.node_tasks.specs.Waiting.{WaitsFor, taken_by}
 use Rattle.transfer_turns.specs.Steps.{Seen, fills_key}
 use Rattle.node_tasks.specs.declared.readiness.Told.{Told}
 use Rattle.node_tasks.specs.declared.readiness.Told.TheVariants as tolds
@@ -25,6 +28,7 @@ use Rattle.running_jobs.specs.Leaving.{ActsOf, JobsGoOn, Leaves, PartsGoOn, Rows
 use Rattle.running_jobs.specs.Running.{AllApart, AreAllFed, AreApart, AreFilled, IsOwn, Jobs, OwnAll, fills_at, given_of, job_at, paths_of}
 use Rattle.running_jobs.proofs.Among.{found_by_number, apart_before, apart_behind, apart_with, apart_without, none_by_number, others_found}
 use Rattle.running_jobs.proofs.Filling.{apart_all, filled_off, filled_on, fills_append, one_apart, owns_on, right_there, settled_there, stays_apart, turned}
+use Rattle.running_jobs.proofs.Peers.{peer_among}
 use Rattle.running_jobs.proofs.Parting.{fed_on, parts_same, parts_told}
 use Rattle.running_jobs.proofs.Stepping.{first_of_found, in_a_slot, job_found, kind_is, takes_waiting}
 
@@ -289,11 +293,15 @@ module _ (links : List EndView) (clock : ClockSet) (settings : Settings) (jobs :
     told = ap (λ (o : Option Parts). is_some o) ch.leaves.parts ∙ parts_told ch.t found.told a.kind kept.parts;
     fed = λ q is all q' is'. fed_after q q' is is' all;
     same = λ q is q' is' key free. same_after q q' is is' key free;
+    small = ch.leaves.small;
   }
 
   -- ---- all of it
 
-  module _ (finds : FindsFirst jobs.place clock links jobs.running time found) where
+  module _ (finds : FindsFirst jobs.place clock links jobs.running time found) (count : length links ≡ length jobs.place.ids * 8) where
+    waits : WaitsFor links a.slot a.takes
+    waits = takes_waiting links clock settings jobs number time found rows rows' kept kept' now a own finds ch
+
     acts_of : ActsOf links jobs rows rows' kept kept' a
     acts_of = record {
       job = ch.t;
@@ -303,6 +311,8 @@ module _ (links : List EndView) (clock : ClockSet) (settings : Settings) (jobs :
       slot = ch.slot;
       takes = ch.takes;
       hears = (first_of_found links clock settings jobs number time found rows rows' kept kept' now a own finds ch).told;
+      owes = ch.owes.line ∙ (λ i. told_frame (Some (work_now ch.t)) (taken_by links (sym ch.slot i) (sym ch.takes i)));
+      among = λ l some. peer_among links (length jobs.place.ids) (end_in a.slot l.repo) count (waits l.repo (ch.takes ∙ ch.owes.of_peer l some)).1;
       mid = ch.mid;
       leaves = ch.leaves;
       stays = ch.settled.stays;
@@ -313,7 +323,7 @@ module _ (links : List EndView) (clock : ClockSet) (settings : Settings) (jobs :
     leaves_after = record {
       slot = in_a_slot links clock settings jobs number time found rows rows' kept kept' now a own finds ch;
       kind = kind_is links clock settings jobs number time found rows rows' kept kept' now a own finds ch;
-      waits = takes_waiting links clock settings jobs number time found rows rows' kept kept' now a own finds ch;
+      waits = waits;
       place = refl;
       begun = refl;
       acts = acts_of;

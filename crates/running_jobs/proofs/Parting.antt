@@ -17,7 +17,7 @@ use Rattle.get_phases.specs.declared.getting.Phase.{Phase}
 use Rattle.get_phases.specs.declared.getting.Phase.TheVariants as phases
 use Rattle.get_phases.specs.Gets as gets
 use Rattle.get_phases.specs.Gets.{fill_in, if_awaited}
-use Rattle.transfer_worker.specs.declared.worker.Worker.TheVariants.{Gets, Puts}
+use Rattle.node_tasks.specs.Worker.TheVariants.{Gets, Puts}
 use Rattle.node_tasks.specs.declared.readiness.Told.{Told}
 use Rattle.node_tasks.specs.declared.readiness.Told.TheVariants as tolds
 use Rattle.node_tasks.specs.declared.task.Task.{Task}

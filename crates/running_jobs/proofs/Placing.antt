@@ -13,8 +13,8 @@ use Rattle.annex_base.proofs.Options.{some_none}
 use Rattle.link_ring.specs.Ends.{EndView}
 use Rattle.node_model.specs.Clocks.{ClockSet}
 use Rattle.node_model.specs.Turns.{slot_step}
-use Rattle.node_drops.specs.Places.{PlaceView}
-use Rattle.node_drops.specs.Waiting.{WaitsFor}
+use Rattle.node_tasks.specs.Places.{PlaceView}
+use Rattle.node_tasks.specs.Waiting.{WaitsFor}
 use Rattle.node_tasks.specs.declared.readiness.Told.{Told}
 use Rattle.node_tasks.specs.declared.task.Task.{Task}
 use Rattle.node_tasks.specs.Tasks.{SeesTask, slot_of, work_now}
@@ -108,3 +108,7 @@ pub taken_there : {X : Type 0} (xs : List X) (i : ℕ) (x : X) → i < length xs
 taken_there xs i x within was =
     let len : length (take i xs) ≡ i = length-take-le i xs (omega (arith, within)) in
     ap (λ l. slice_get l i) was ∙ (ap (slice_get (take i xs ++ x ∷ drop (i + 1) xs)) (sym len) ∙ get_middle (take i xs) x (drop (i + 1) xs))
+
+-- it is the one that stood there
+pub read_there : {X : Type 0} (xs : List X) (i : ℕ) (x y : X) → i < length xs → x ≡ get_or xs i x → xs ≡ take i xs ++ y ∷ drop (i + 1) xs → x ≡ y
+read_there xs i x y within read was = let both : Some x ≡ Some y = sym (slice_get_read xs (length xs) i x refl within read) ∙ taken_there xs i y within was in let same : x ≡ y = cc in same

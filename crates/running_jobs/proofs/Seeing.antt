@@ -16,11 +16,11 @@ use Rattle.p2p_wire.specs.declared.message.Message.TheVariants.{Valid}
 use Rattle.session_state.specs.declared.incoming.Incoming.{Incoming}
 use Rattle.session_state.specs.declared.incoming.Incoming.TheVariants as incoming
 use Rattle.session_state.specs.Talking.{IsSumOf}
-use Rattle.node_drops.specs.Waiting.{taken_by}
+use Rattle.node_tasks.specs.Waiting.{taken_by}
 use Rattle.get_phases.specs.declared.getting.Phase.{Phase}
 use Rattle.get_phases.specs.declared.getting.Phase.TheVariants as phases
 use Rattle.get_phases.specs.Gets as gets
-use Rattle.transfer_worker.specs.declared.worker.Worker.TheVariants.{Gets, Puts}
+use Rattle.node_tasks.specs.Worker.TheVariants.{Gets, Puts}
 use Rattle.node_tasks.specs.declared.task.Task.{Task}
 use Rattle.node_tasks.specs.declared.task.Task.TheVariants as tasks
 use Rattle.node_tasks.specs.Tasks.{IsFedTask, number_of}

@@ -14,7 +14,7 @@ use Rattle.drop_phases.specs.declared.phase.Phase.TheVariants as phases
 use Rattle.drop_phases.specs.declared.phase.Token.{Token}
 use Rattle.drop_phases.specs.Feeding.{FitsLocal}
 use Rattle.drop_phases.specs.Working.{heard_as, phase_as}
-use Rattle.node_drops.specs.Places.{PlaceView}
+use Rattle.node_tasks.specs.Places.{PlaceView}
 use Rattle.get_phases.specs.declared.getting.Phase.{Phase as GetPhase}
 use Rattle.get_phases.specs.declared.getting.Phase.TheVariants as getting
 use Rattle.get_phases.specs.Gets as gets
@@ -22,8 +22,8 @@ use Rattle.put_steps.specs.declared.phase.Phase.{Phase as PutPhase}
 use Rattle.put_steps.specs.declared.phase.Phase.TheVariants as putting
 use Rattle.put_steps.specs.Puts as puts
 use Rattle.transfer_turns.specs.Turns.{Sight}
-use Rattle.transfer_worker.specs.declared.worker.Worker.TheVariants.{Gets, Puts}
-use Rattle.node_transfers.specs.Ready.{sight_of}
+use Rattle.node_tasks.specs.Worker.TheVariants.{Gets, Puts}
+use Rattle.node_tasks.specs.Ready.{sight_of}
 use Rattle.node_tasks.specs.declared.task.Task.{Task}
 use Rattle.node_tasks.specs.declared.task.Task.TheVariants as tasks
 use Rattle.node_tasks.specs.Tasks.{IsTask, work_now}

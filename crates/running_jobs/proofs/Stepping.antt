@@ -38,19 +38,19 @@ use Rattle.drop_phases.specs.Feeding as drops
 use Rattle.drop_phases.specs.Feeding.{FeedsFrameAt}
 use Rattle.drop_phases.specs.Leaving.{stands_on}
 use Rattle.drop_phases.specs.Working.{end_in, phase_as, sight}
-use Rattle.node_drops.specs.Drops.{DropJob, HasRead, given, place_reading, work_now as drop_work}
-use Rattle.node_drops.specs.Places.{PlaceView}
-use Rattle.node_drops.specs.Reads.{KnownLogs}
-use Rattle.node_drops.specs.Waiting.{WaitsFor, taken_by}
-use Rattle.node_drops.proofs.Hearing.{awaiting}
-use Rattle.node_drops.proofs.Knowing.{read_apart, read_same}
+use Rattle.node_tasks.specs.Drops.{DropJob, HasRead, given, place_reading, work_now as drop_work}
+use Rattle.node_tasks.specs.Places.{PlaceView}
+use Rattle.node_tasks.specs.Reads.{KnownLogs}
+use Rattle.node_tasks.specs.Waiting.{WaitsFor, taken_by}
+use Rattle.node_tasks.proofs.Hearing.{awaiting}
+use Rattle.node_tasks.proofs.Knowing.{read_apart, read_same}
 use Rattle.transfer_turns.specs.Parcels as transfers
 use Rattle.transfer_turns.specs.Steps.{Seen}
 use Rattle.transfer_turns.specs.Turns.{Comes, Sight, awaited}
-use Rattle.transfer_worker.specs.declared.worker.Worker.{Worker}
-use Rattle.transfer_worker.specs.States.{FindsAt, HasWay, HaveState}
-use Rattle.transfer_worker.specs.Workers.{SeesPart, work_of}
-use Rattle.node_transfers.specs.Ready.{sight_of}
+use Rattle.node_tasks.specs.Worker.{Worker}
+use Rattle.node_tasks.specs.States.{FindsAt, HasWay, HaveState}
+use Rattle.node_tasks.specs.Workers.{SeesPart, work_of}
+use Rattle.node_tasks.specs.Ready.{sight_of}
 use Rattle.node_tasks.specs.declared.readiness.Told.{Told}
 use Rattle.node_tasks.specs.declared.readiness.Told.TheVariants as tolds
 use Rattle.node_tasks.specs.declared.task.Task.{Task}

@@ -18,9 +18,9 @@ use Rattle.node_model.specs.State.{State}
 use Rattle.node_model.specs.Turns.{job_step}
 use Rattle.session_state.specs.Talking.{Brings}
 use Rattle.drop_phases.specs.Begun.{IsLast}
-use Rattle.node_drops.specs.Places.{IsPlace}
-use Rattle.node_drops.specs.Waiting.{taken_by}
-use Rattle.transfer_worker.specs.Workers.{SeesPart}
+use Rattle.node_tasks.specs.Places.{IsPlace}
+use Rattle.node_tasks.specs.Waiting.{taken_by}
+use Rattle.node_tasks.specs.Workers.{SeesPart}
 use Rattle.node_tasks.specs.declared.acted.Output.{Output}
 use Rattle.node_tasks.specs.declared.task.Task.{Task}
 use Rattle.node_tasks.specs.declared.task.Task.TheVariants as tasks

@@ -8,8 +8,8 @@ use Rattle.node_model.specs.Slots.{RunningJob, free_slot}
 use Rattle.drop_phases.specs.declared.phase.Phase.TheVariants as phases
 use Rattle.drop_phases.specs.declared.phase.Token.TheVariants as tokens
 use Rattle.drop_phases.specs.Worker.{Worker}
-use Rattle.node_drops.specs.Places.{PlaceView}
-use Rattle.transfer_worker.specs.Workers.{new_work_of, work_of}
+use Rattle.node_tasks.specs.Places.{PlaceView}
+use Rattle.node_tasks.specs.Workers.{new_work_of, work_of}
 use Rattle.node_tasks.specs.declared.task.Task.{Task}
 use Rattle.node_tasks.specs.declared.task.Task.TheVariants as tasks
 use Rattle.node_tasks.specs.Tasks.{work_now}

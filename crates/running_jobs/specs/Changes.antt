@@ -1,14 +1,15 @@
 -- What the step of one job makes of the list and the table; for private contracts (own).
-use Rattle.std.specs.Prelude.{◌≡◌, ◌≤◌, ◌&&◌, ℕ, Bool, true, false, if◌then◌else◌, not, List, [], ◌∷◌, ◌++◌, length}
+use Rattle.std.specs.Prelude.{◌≡◌, ◌&&◌, ℕ, Bool, true, false, if◌then◌else◌, not, List, [], ◌∷◌, ◌++◌, length}
 use Rattle.annex_base.specs.Settings.{Settings}
 use Rattle.link_ring.specs.Ends.{EndView}
 use Rattle.node_model.specs.Clocks.{ClockSet}
 use Rattle.content_lock.specs.Rows.{Rows, bar_at, is_filling}
 use Rattle.drop_phases.specs.Doing.{OthersStay}
-use Rattle.node_drops.specs.Places.{PlaceView}
+use Rattle.node_tasks.specs.Places.{PlaceView}
 use Rattle.transfer_turns.specs.Steps.{Seen, fills_key}
 use Rattle.node_tasks.specs.declared.task.Task.{Task}
 use Rattle.node_tasks.specs.Acting.{Acts, LeavesSo, Makes}
+use Rattle.node_tasks.specs.Owing.{Owes}
 use Rattle.node_tasks.specs.Tasks.{number_of, slot_of, work_now}
 use Rattle.node_tasks.specs.Telling.{takes_in}
 use Rattle.running_jobs.specs.declared.acted.Acted.{Acted}
@@ -41,18 +42,8 @@ pub record Changes (p : PlaceView) (clock : ClockSet) (links : List EndView) (se
   pub job : a.job ≡ number_of t
   pub slot : a.slot ≡ slot_of t
   pub takes : a.takes ≡ takes_in found.told
+  pub owes : Owes links t found.told a.owes
   pub acts : Acts p clock links settings time number k.contents k.parts rows t t' found.told (output_of a)
   pub makes : Makes p clock links settings time number k.contents k.parts rows k.failing k'.failing t found.told (output_of a)
   pub leaves : LeavesSo p rows mid k k' t t' found.told (output_of a)
   pub settled : Settles a.ended t' mid rows'
-
--- nothing was done: all is as it was, but for the count of the store's faults
-pub record StaysSo (was now : List Task) (rows rows' : Rows) (k k' : Seen) : Type 0 where
-  pub list : now ≡ was
-  pub table : rows' ≡ rows
-  pub contents : k'.contents ≡ k.contents
-  pub parts : k'.parts ≡ k.parts
-  pub records : k'.records ≡ k.records
-  pub files : k'.files ≡ k.files
-  pub later : k.faults ≤ k'.faults
-  pub failing : k'.failing ≡ k.failing

@@ -10,9 +10,9 @@ use Rattle.node_model.specs.SetUp.{SetUp}
 use Rattle.node_model.specs.State.{State}
 use Rattle.node_model.specs.Turns.{slot_step}
 use Rattle.content_lock.specs.Rows.{Rows}
-use Rattle.node_drops.specs.Places.{PlaceView}
-use Rattle.node_drops.specs.Waiting.{WaitsFor}
-use Rattle.transfer_worker.specs.States.{HaveState}
+use Rattle.node_tasks.specs.Places.{PlaceView}
+use Rattle.node_tasks.specs.Waiting.{WaitsFor}
+use Rattle.node_tasks.specs.States.{HaveState}
 use Rattle.node_tasks.specs.declared.readiness.Told.{Told}
 use Rattle.node_tasks.specs.declared.task.Task.{Task}
 use Rattle.node_tasks.specs.Tasks.{SeesTask, slot_of, work_now}

@@ -1,23 +1,27 @@
 -- What a step of the jobs leaves of the table, the store and the jobs (own).
-use Rattle.std.specs.Prelude.{◌≡◌, ◌≢◌, ℕ, ◌≤◌, ◌<◌, true, false, Bool, List, map, Option, Some, None, is_some}
-use Rattle.std.specs.Option.{ForSome}
+use Rattle.std.specs.Prelude.{◌≡◌, ◌≢◌, ℕ, ◌≤◌, ◌<◌, true, false, Bool, List, length, map, Option, Some, None, is_some}
+use Rattle.std.specs.Option.{ForSome, option_map, option_to_list}
 use Rattle.annex_base.specs.Lists.{Each, Member}
 use Rattle.link_ring.specs.Ends.{EndView}
+use Rattle.object_store.specs.Stores.{AreSmallParts}
 use Rattle.content_lock.specs.Rows.{Rows, bar_at}
+use Rattle.node_model.specs.OwedLines.{told_frame}
 use Rattle.node_model.specs.Rows.{bar_after, holds_after}
+use Rattle.owed_lines.specs.Lines.{line_of}
 use Rattle.drop_phases.specs.Doing.{OthersStay}
-use Rattle.node_drops.specs.Waiting.{WaitsFor}
+use Rattle.node_tasks.specs.Waiting.{WaitsFor, taken_by}
 use Rattle.transfer_turns.specs.Steps.{Seen}
 use Rattle.node_tasks.specs.declared.readiness.Told.{Told}
 use Rattle.node_tasks.specs.declared.task.Task.{Task}
 use Rattle.node_tasks.specs.Acting.{LeavesSo as TaskLeaves}
-use Rattle.node_tasks.specs.Tasks.{slot_of}
+use Rattle.node_tasks.specs.Tasks.{slot_of, work_now}
 use Rattle.node_tasks.specs.Telling.{IsToldTo, takes_in}
 use Rattle.running_jobs.specs.declared.acted.Acted.{Acted}
 use Rattle.running_jobs.specs.Acting.{IsKindOf, output_of}
 use Rattle.running_jobs.specs.Running.{AreAllFed, AreFilled, Jobs, fills_at, given_of, job_at}
 
--- the job that acted, what it was told, and what its step left; where it ended, what it had of the table was then given up
+-- the job that acted, what it was told, the line that it owes by the frame, of one of the repositories, and what its step left; where it
+-- ended, what it had of the table was then given up
 pub record ActsOf (links : List EndView) (was : Jobs) (rows rows' : Rows) (k k' : Seen) (a : Acted) : Type 0 where
   pub job : Task
   pub next : Task
@@ -26,6 +30,8 @@ pub record ActsOf (links : List EndView) (was : Jobs) (rows rows' : Rows) (k k' 
   pub slot : a.slot ≡ slot_of job
   pub takes : a.takes ≡ takes_in told
   pub hears : IsToldTo links job told
+  pub owes : option_to_list (option_map line_of a.owes) ≡ told_frame (Some (work_now job)) (taken_by links a.slot a.takes)
+  pub among : ForSome a.owes (λ l. l.repo < length was.place.ids)
   pub mid : Rows
   pub leaves : TaskLeaves was.place rows mid k k' job next told (output_of a)
   pub stays : a.ended ≡ false → rows' ≡ mid
@@ -45,11 +51,12 @@ pub record RowsGoOn (was now : List Task) (rows rows' : Rows) (a : Acted) : Type
   pub others : OthersStay a.job rows rows'
   pub filled : (others : List ℕ → Bool) → AreFilled rows was others → AreFilled rows' now others
 
--- of the store's parts: those that no job filled are as they were; what each job has taken of its own is the store's
+-- of the store's parts: those that no job filled stay, small ones stay small, and what each job has taken of its own is the store's
 pub record PartsGoOn (was now : List Task) (k k' : Seen) : Type 0 where
   pub told : is_some k'.parts ≡ is_some k.parts
   pub fed : ForSome k.parts (λ q. AreAllFed q was → ForSome k'.parts (λ q'. AreAllFed q' now))
   pub same : ForSome k.parts (λ q. ForSome k'.parts (λ q'. (key : List ℕ) → fills_at was key ≡ false → q' key ≡ q key))
+  pub small : AreSmallParts k.parts → AreSmallParts k'.parts
 
 pub record Leaves (links : List EndView) (was now : Jobs) (rows rows' : Rows) (k k' : Seen) (a : Acted) : Type 0 where
   pub slot : a.slot < 4
@@ -63,7 +70,7 @@ pub record Leaves (links : List EndView) (was now : Jobs) (rows rows' : Rows) (k
   pub parts : PartsGoOn was.running now.running k k'
 
 -- nothing was done: all is as it was, but for the count of the store's faults
-pub record Stays (was now : Jobs) (rows rows' : Rows) (k k' : Seen) : Type 0 where
+pub record Stays {X : Type 0} (was now : X) (rows rows' : Rows) (k k' : Seen) : Type 0 where
   pub jobs : now ≡ was
   pub table : rows' ≡ rows
   pub contents : k'.contents ≡ k.contents

@@ -15,8 +15,8 @@ use Rattle.content_lock.specs.Rows.{Rows, is_filling}
 use Rattle.drop_phases.specs.declared.phase.Token.TheVariants as tokens
 use Rattle.drop_phases.specs.Doing.{HasToken}
 use Rattle.drop_phases.specs.Working.{words_of}
-use Rattle.node_drops.specs.Drops.{HadPaths, given}
-use Rattle.node_drops.specs.Places.{PlaceView}
+use Rattle.node_tasks.specs.Drops.{HadPaths, given}
+use Rattle.node_tasks.specs.Places.{PlaceView}
 use Rattle.transfer_turns.specs.Steps.{fills_key}
 use Rattle.node_tasks.specs.declared.task.Task.{Task}
 use Rattle.node_tasks.specs.declared.task.Task.TheVariants as tasks

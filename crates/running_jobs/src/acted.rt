@@ -1,5 +1,6 @@
 //! What a job's step does.
 use node_tasks::Sent;
+use owed_lines::ToldLine;
 use run_data::EntryKind;
 
 /// What a job's step does: an entry, and what is taken and sent with it. The last step ends the job (own).
@@ -13,4 +14,6 @@ pub struct Acted {
     pub kind: EntryKind,
     pub sent: Sent,
     pub ended: bool,
+    /// The line that the job's repository owes its branch by that frame.
+    pub owes: Option<ToldLine>,
 }

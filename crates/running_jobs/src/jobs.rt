@@ -14,7 +14,7 @@ ghost use Rattle.object_store.specs.Stores.{Contents, Parts};
 ghost use Rattle.content_lock.specs.CallsMade.{MakesCalls};
 ghost use Rattle.content_lock.specs.Rows.{Rows};
 ghost use Rattle.transfer_turns.specs.Steps.{seen};
-ghost use Rattle.transfer_worker.specs.States.{HaveState};
+ghost use Rattle.node_tasks.specs.States.{HaveState};
 ghost use Rattle.node_tasks.specs.Tasks.{IsTask};
 ghost use Rattle.running_jobs.specs.Acting.{SeesActed, SeesJobs, StepsJobs, failed_by};
 ghost use Rattle.running_jobs.specs.Beginning.{Begins, MayBegin};
@@ -141,8 +141,9 @@ impl Jobs {
         Ok(found.is_some())
     }
 
-    /// The step of the first job, in order of slot, that has one. A frame that it takes must be taken from its end, and what it
-    /// sends must be sent. A job that ends is off the list, and what it had of the table is given back.
+    /// The step of the first job, in order of slot, that has one. A frame that it takes must be taken from its end, what it sends
+    /// must be sent, and the line that it owes must be noted. A job that ends is off the list, and what it had of the table is given
+    /// back.
     pub fn step<K: Keeper>(
         &mut self,
         alloc: Global,

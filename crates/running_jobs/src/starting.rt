@@ -2,11 +2,9 @@
 ghost use Rattle.running_jobs.specs.Beginning.{IsNewTask};
 
 use annex_base::{Items, Text};
-use node_drops::{DropJob, Worker as Drops};
-use node_tasks::Task;
+use node_tasks::{DropJob, DropWorker as Drops, Task, Worker};
 use run_data::{Job, JobKind};
 use std::alloc::Global;
-use transfer_worker::Worker;
 
 /// The job of this number, as it begins in this slot, on a key that has these paths in the tree.
 pub(crate) fn new_task(alloc: Global, number: u32, slot: u32, what: Job, paths: Items<Text>) -> Task

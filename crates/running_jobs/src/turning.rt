@@ -6,7 +6,8 @@ ghost use Rattle.trust_groups.specs.View.{settings_of};
 ghost use Rattle.transfer_turns.specs.Steps.{seen};
 ghost use Rattle.node_tasks.specs.Tasks.{IsSpent, IsTask, OwnsOf};
 ghost use Rattle.node_tasks.specs.Telling.{IsToldTo};
-ghost use Rattle.running_jobs.specs.Changes.{Changes, Settles, StaysSo, task_after};
+ghost use Rattle.running_jobs.specs.Changes.{Changes, Settles, task_after};
+ghost use Rattle.running_jobs.specs.Leaving.{Stays};
 
 use crate::acted::Acted;
 use crate::finding::Found;
@@ -14,7 +15,7 @@ use crate::listing::{put_back, take_out};
 use annex_base::NoMemory;
 use content_lock::LockTable;
 use node_ends::Ends;
-use node_tasks::{Clock, Output, Place, Task, Time, act, end};
+use node_tasks::{Clock, Output, Place, Task, Time, act, end, tells};
 use object_store::Keeper;
 use std::alloc::Global;
 use trust_groups::Settings;
@@ -41,12 +42,13 @@ pub(crate) fn turn<K: Keeper>(
     ensures changes { IfOk result (Changes place.now clock ends.now (settings_of settings.now) time number found table.old table.new
         (seen (K.contents keeper.old) (K.parts keeper.old) (K.records keeper.old) (K.files keeper.old) (K.faults keeper.old) (K.failing keeper.old))
         (seen (K.contents keeper.new) (K.parts keeper.new) (K.records keeper.new) (K.files keeper.new) (K.faults keeper.new) (K.failing keeper.new)) running.old.items running.new.items) }
-    ensures err { OnErr result (StaysSo running.old.items running.new.items table.old table.new
+    ensures err { OnErr result (Stays running.old.items running.new.items table.old table.new
         (seen (K.contents keeper.old) (K.parts keeper.old) (K.records keeper.old) (K.files keeper.old) (K.faults keeper.old) (K.failing keeper.old))
         (seen (K.contents keeper.new) (K.parts keeper.new) (K.records keeper.new) (K.files keeper.new) (K.faults keeper.new) (K.failing keeper.new))) }
 {
     let Found { index, told } = found;
     let takes = told.takes();
+    let owes = tells(&running[index], &told)?;
     let mut task = take_out(running, index);
     let job = task.number();
     let slot = task.slot();
@@ -63,6 +65,7 @@ pub(crate) fn turn<K: Keeper>(
                 kind,
                 sent,
                 ended,
+                owes,
             })
         }
         Err(e) => {

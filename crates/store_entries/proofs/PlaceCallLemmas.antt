@@ -1,5 +1,5 @@
 -- The calls of a step that places a content or a part.
-use Rattle.std.proofs.Common.{◌≡◌, ℕ, ◌+◌, ◌<◌, Bool, true, List, [], ◌∷◌, ◌++◌, length, Option, None, Result, Ok, Err, OnOk, IfErr, ap, ◌∙◌, false, ◌||◌, if◌then◌else◌, Some, OnErr, bytes_eq, is_some, refl, subst}
+use Rattle.std.proofs.Common.{◌≡◌, ℕ, ◌<◌, Bool, true, List, [], ◌∷◌, ◌++◌, length, Option, None, Result, Ok, Err, OnOk, IfErr, ap, ◌∙◌, false, ◌||◌, if◌then◌else◌, Some, OnErr, bytes_eq, is_some, refl, subst}
 use Rattle.annex_base.specs.declared.kinds.Call.{Call}
 use Rattle.annex_base.specs.declared.kinds.Call.TheVariants.{Append, Commit, DropPart, Has, PutFile}
 use Rattle.object_store.specs.Stores.{Contents, Parts, with_at}

@@ -21,6 +21,7 @@ use crate::indexing::grown;
 use annex_base::{Call, Items, Line, NoMemory};
 use node_past::{NodeRefused, Past};
 use object_store::Keeper;
+use owed_lines::Debt;
 use run_data::{By, EntryKind};
 use trust_groups::Settings;
 use union_merge::{Branch, files_are_changed_alone};
@@ -183,8 +184,8 @@ fn first_goes(paid: bool, by: By, answer: &Result<(), NodeRefused>) -> bool
     }
 }
 
-/// Takes the first place away, if so.
-fn drop_first(debts: &mut Vec<usize>, goes: bool)
+/// Takes the first debt away, if so.
+fn drop_first(debts: &mut Vec<Debt>, goes: bool)
     ensures { debts.new.items ≡ rest_if goes debts.old.items }
 {
     if goes && !debts.is_empty() {
@@ -198,7 +199,7 @@ pub fn write_beside<K: Keeper>(
     branch: &mut Branch,
     past: &mut Past,
     index: &mut Option<Settings>,
-    debts: &mut Vec<usize>,
+    debts: &mut Vec<Debt>,
     path: &[u8],
     change: Change<'_>,
     kind: EntryKind,

@@ -6,4 +6,5 @@ pub mod Hearings
 pub mod Leavings
 pub mod Makings
 pub mod Partners
+pub mod Pieces
 pub mod Works

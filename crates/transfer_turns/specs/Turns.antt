@@ -18,7 +18,7 @@ use Rattle.session_state.specs.Answers.{is_in, size_in}
 use Rattle.session_state.specs.Talking.{Brings}
 use Rattle.transfer_turns.specs.declared.parcels.Output.{Output}
 use Rattle.transfer_turns.specs.declared.parcels.Parcel.{Parcel}
-use Rattle.transfer_turns.specs.Parcels.{end_in, frames_of}
+use Rattle.transfer_turns.specs.Parcels.{AreNoPieces, end_in, frames_of}
 
 -- which of how many repositories it is, and how its ends stand
 pub record Sight : Type 0 where
@@ -58,6 +58,11 @@ parting_at x slot peer = frames (end_in slot peer) (x.ends (end_in slot peer)) (
 
 abbrev pub partings_at : Sight → ℕ → List FrameView
 partings_at x slot = flat_map (parting_at x slot) (but x.repo (range_with_len 0 x.count))
+
+-- by these parcels, none of which is a piece of a content
+pub record ArePartings (x : Sight) (slot : ℕ) (ps : List Parcel) : Type 0 where
+  pub frames : frames_of x.ends slot ps ≡ partings_at x slot
+  pub pieces : AreNoPieces ps
 
 -- ---- what comes
 

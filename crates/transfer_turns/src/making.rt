@@ -1,7 +1,6 @@
 //! The entries and parcels that steps make.
 ghost use Rattle.std.specs.Prelude.{◌≡◌, ◌∷◌, [], true, false, Some, IfOk};
-ghost use Rattle.transfer_turns.specs.Parcels.{frames_of};
-ghost use Rattle.transfer_turns.specs.Turns.{output_of, partings_at};
+ghost use Rattle.transfer_turns.specs.Turns.{ArePartings, output_of};
 
 use crate::here::Here;
 use crate::parcels::{Output, Parcel, ParcelBody, Sends};
@@ -97,7 +96,7 @@ pub fn done(output: Output) -> Output
 
 /// What is sent at the end: each open connection is closed.
 pub fn partings<H: Here>(alloc: Global, here: &H, slot: u32) -> Result<Sends, NoMemory>
-    ensures { IfOk result (λ ps. frames_of (H.sight here.now).ends slot ps.items ≡ partings_at (H.sight here.now) slot) }
+    ensures { IfOk result (λ ps. ArePartings (H.sight here.now) slot ps.items) }
 {
     let mut parcels = Sends::new(alloc);
     let count = here.count();

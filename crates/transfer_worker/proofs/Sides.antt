@@ -3,6 +3,7 @@ use Rattle.std.proofs.Common.{◌≡◌, false, Option, Some, Result, Ok, Err, I
 use Rattle.std.specs.Option.{ForSome}
 use Rattle.run_data.specs.declared.entry.FrameView.{FrameView}
 use Rattle.run_data.specs.declared.job.Job.{Job}
+use Rattle.object_store.specs.Stores.{AreSmallParts}
 use Rattle.node_model.specs.Jobs.{first_part}
 use Rattle.node_model.specs.Look.{Effect, Look, failed_in}
 use Rattle.node_model.specs.SetUp.{SetUp}
@@ -13,6 +14,7 @@ use Rattle.content_lock.specs.Rows.{Rows}
 use Rattle.session_state.specs.declared.incoming.Incoming.{Incoming}
 use Rattle.transfer_turns.specs.Steps.{Seen}
 use Rattle.transfer_turns.specs.Turns.{Sight}
+use Rattle.transfer_turns.proofs.Pieces.{pieces_none}
 use Rattle.get_phases.specs.declared.getting.Getting.{Getting}
 use Rattle.get_phases.specs.Getting as gets
 use Rattle.put_steps.specs.declared.putting.Putting.{Putting}
@@ -32,7 +34,7 @@ get_steps x i rows rows' k k' w w' (Err e) d = tt
 
 pub get_keeps : {E : Type 0} (x : Sight) (i : Option Incoming) (rows rows' : Rows) (k k' : Seen) (w w' : Getting) (r : Result Output E) → gets.Does x i rows rows' k k' w w' r → Keeps x i rows rows' k k' (Gets w) (Gets w') r
 get_keeps x i rows rows' k k' w w' (Ok out) d =
-    record { leaves = d.1.leaves; parts = d.1.parts; has = d.1.has; fed = d.1.fed; judged = d.1.judged; pieces = λ c told. tt; ended = d.1.ended; apart = d.1.apart; undone = d.1.undone; can = λ undone can. undone }
+    record { leaves = d.1.leaves; parts = d.1.parts; has = d.1.has; fed = d.1.fed; small = d.1.small; judged = d.1.judged; pieces = pieces_none k.contents (work_of (Gets w)) out.sends.items d.1.pieces; ended = d.1.ended; apart = d.1.apart; undone = d.1.undone; can = λ undone can. undone }
 get_keeps x i rows rows' k k' w w' (Err e) d = (ap Gets d.worker, d.table, d.store)
 
 pub put_steps : {E : Type 0} (x : Sight) (i : Option Incoming) (rows : Rows) (k k' : Seen) (w w' : Putting) (r : Result Output E) → puts.Does x i rows k k' w w' r → Steps x i rows k k' (Puts w) (Puts w') r
@@ -45,7 +47,7 @@ still_can x w w' same undone can = (ap (λ (what : Job). first_part what.kind) s
 
 pub put_keeps : {E : Type 0} (x : Sight) (i : Option Incoming) (rows : Rows) (k k' : Seen) (w w' : Putting) (r : Result Output E) → puts.Does x i rows k k' w w' r → Keeps x i rows rows k k' (Puts w) (Puts w') r
 put_keeps x i rows k k' w w' (Ok out) d =
-    record { leaves = d.1.leaves; parts = d.1.parts; has = tt; fed = λ p told was p' told'. tt; judged = d.1.still; pieces = d.1.sends; ended = d.1.ended; apart = d.1.apart; undone = d.1.undone; can = λ undone can. still_can x w w' d.1.leaves.what undone can }
+    record { leaves = d.1.leaves; parts = d.1.parts; has = tt; fed = λ p told was p' told'. tt; small = subst AreSmallParts (sym d.1.parts); judged = d.1.still; pieces = d.1.pieces; ended = d.1.ended; apart = d.1.apart; undone = d.1.undone; can = λ undone can. still_can x w w' d.1.leaves.what undone can }
 put_keeps x i rows k k' w w' (Err e) d = (ap Puts d.worker, refl, d.store)
 
 -- ---- in the words of a state

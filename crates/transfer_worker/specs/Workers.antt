@@ -1,15 +1,15 @@
 -- What a transfer's worker is, on either way of the content (own).
-use Rattle.std.specs.Prelude.{◌≡◌, ◌||◌, ℕ, Bool, false, List, [], Option, Some, None, Result, Ok, Err}
+use Rattle.std.specs.Prelude.{◌≡◌, ◌||◌, ℕ, Bool, false, [], Option, Some, None, Result, Ok, Err}
 use Rattle.std.specs.Option.{ForSome}
 use Rattle.run_data.specs.declared.entry.EntryKind.{EntryKind}
 use Rattle.run_data.specs.declared.job.Job.{Job}
-use Rattle.object_store.specs.Stores.{Contents, Parts}
+use Rattle.object_store.specs.Stores.{AreSmallParts, Parts}
 use Rattle.node_model.specs.Jobs.{Work, Fresh, Puts, first_part, is_move}
 use Rattle.content_lock.specs.Rows.{Rows}
 use Rattle.session_state.specs.declared.incoming.Incoming.{Incoming}
 use Rattle.session_state.specs.Phases.{IsNoGain}
-use Rattle.transfer_turns.specs.declared.parcels.Parcel.{Parcel}
 use Rattle.transfer_turns.specs.declared.parcels.Output.{Output}
+use Rattle.transfer_turns.specs.Parcels.{ArePiecesOf}
 use Rattle.transfer_turns.specs.Partners.{NamesOther, TalksApart}
 use Rattle.transfer_turns.specs.Steps.{Leaves, LeavesAll, Seen, StepsIn, is_end}
 use Rattle.transfer_turns.specs.Turns.{Sight}
@@ -71,11 +71,6 @@ abbrev pub IsJudgedIn : EntryKind → Worker → Type 0
 IsJudgedIn kind (workers.Gets w) = gets.IsJudgedIn kind w.phase
 IsJudgedIn kind (workers.Puts w) = IsNoGain kind
 
--- each piece that it sends has the content's bytes
-abbrev pub SendsPiece : Contents → Worker → List Parcel → Type 0
-SendsPiece c (workers.Gets w) ps = Unit {0}
-SendsPiece c (workers.Puts w) ps = puts.SendsPiece c w.job.key w.phase ps
-
 -- ---- to whom it sends next
 
 -- the peer that a get asks next, where it is to ask one
@@ -106,15 +101,16 @@ Steps x i rows k k' w w' (Err e) = Unit {0}
 
 -- ---- what a step leaves
 
--- of the table and the store, of the part, and of the job: it talks with another repository still, and only the transfer of a move
--- is done
+-- of the table and the store, of the parts, which stay short; each piece that it sends is of the content that it is sending; and of
+-- the job: it talks with another repository still, and only the transfer of a move is done
 pub record KeepsSo (x : Sight) (i : Option Incoming) (rows rows' : Rows) (k k' : Seen) (w w' : Worker) (out : Output) : Type 0 where
   pub leaves : Leaves rows rows' k k' (work_of w) (work_of w') out
   pub parts : k'.parts ≡ parts_after w i out.kind k.parts
   pub has : HasFill rows' w'
   pub fed : ForSome k.parts (λ p. IsFed p w → ForSome k'.parts (λ p'. IsFed p' w'))
+  pub small : AreSmallParts k.parts → AreSmallParts k'.parts
   pub judged : IsJudgedIn out.kind w
-  pub pieces : ForSome k.contents (λ c. SendsPiece c w out.sends.items)
+  pub pieces : ArePiecesOf k.contents (work_of w) out.sends.items
   pub ended : out.ended ≡ (is_end out.kind || is_done w')
   pub apart : NamesOther x (work_of w) → TalksApart x (work_of w) → TalksApart x (work_of w')
   pub undone : is_move (work_of w).what.kind ≡ false → is_done w ≡ false → is_done w' ≡ false

@@ -4,8 +4,7 @@ use Rattle.fleet_entries.specs.Stored.{StoreView, store_view}
 use Rattle.driver_model.specs.ScriptSteps.{begins}
 use Rattle.fleet_entries.specs.AtDriver.{EndsAtFull}
 use Rattle.fleet_entries.specs.Fleets.{FleetView}
-use Rattle.run_data.specs.declared.job.Job.{Job}
-use Rattle.fleet_keys.proofs.Beginning.{BeginsJob, begins_go_so, local_peer}
+use Rattle.fleet_keys.proofs.Beginning.{BeginsJob, begins_go_so, local_begins, local_peer}
 use Rattle.fleet_entries.proofs.Called.{called, seen_as}
 use Rattle.fleet_keys.proofs.Growing.{begin_grows}
 use Rattle.fleet_entries.proofs.Growing.{had_at_most}
@@ -14,11 +13,8 @@ use Rattle.fleet_entries.proofs.Full.{ends_for, rest_on, rest_where_same}
 use Rattle.fleet_entries.proofs.Starts.{always_err, call_ends, few_told, start_full, start_same}
 use Rattle.fleet_keys.proofs.drops.begin_with.Goals as goal
 
-pub begin-begun-requires-clause-kind : goal.begin-begun-requires-clause-kind
-begin-begun-requires-clause-kind g c = ap (λ (job : Job). job.kind) c.in_ok-job.ensures ∙ c.requires.kind
-
-pub begin-begun-requires-clause-peer : goal.begin-begun-requires-clause-peer
-begin-begun-requires-clause-peer g c = ap (λ (job : Job). job.peer) c.in_ok-job.ensures ∙ c.requires.peer
+pub begin-begun-requires-clause-may : goal.begin-begun-requires-clause-may
+begin-begun-requires-clause-may g c = λ n at. local_begins n.setup.number n.setup.repos c.args.job.now c.in_ok-job.job c.in_ok-job.ensures c.requires.kind c.requires.peer
 
 pub end_call-requires-clause-had : goal.end_call-requires-clause-had
 end_call-requires-clause-had g c =
@@ -27,6 +23,7 @@ end_call-requires-clause-had g c =
     (seen_as tells c.args.repo c.raise-had.result c.args.running.now c.raise-had.new.self c.running.inside.nodes c.running.inside.run c.running.view_is c.raise-had.ensures) c.requires.there
     (λ n m at_n at_m. begin_grows c.in_ok-job.job c.args.paths c.begin-begun.result n m (record {
       number = c.begin-begun.ensures.number n m at_n at_m;
+      jobs = c.begin-begun.ensures.jobs n m at_n at_m;
       ok = c.begin-begun.ensures.ok n m at_n at_m;
       slot = c.begin-begun.ensures.slot n m at_n at_m;
       free = c.begin-begun.ensures.free n m at_n at_m;
@@ -49,6 +46,7 @@ returns g c =
     c.running.view_is c.raise-had.ensures c.begin-begun.ensures.others c.begin-begun.ensures.count
     (λ n m at_n at_m. record {
       number = c.begin-begun.ensures.number n m at_n at_m;
+      jobs = c.begin-begun.ensures.jobs n m at_n at_m;
       ok = c.begin-begun.ensures.ok n m at_n at_m;
       slot = c.begin-begun.ensures.slot n m at_n at_m;
       free = c.begin-begun.ensures.free n m at_n at_m;
@@ -65,6 +63,7 @@ returns g c =
     (λ n m at_n at_m. refuses_job c.in_ok-job.job c.args.paths c.begin-begun.result n m full.1
     (record {
       number = c.begin-begun.ensures.number n m at_n at_m;
+      jobs = c.begin-begun.ensures.jobs n m at_n at_m;
       ok = c.begin-begun.ensures.ok n m at_n at_m;
       slot = c.begin-begun.ensures.slot n m at_n at_m;
       free = c.begin-begun.ensures.free n m at_n at_m;

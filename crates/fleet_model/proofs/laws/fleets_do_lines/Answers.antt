@@ -37,11 +37,11 @@ returns-clause-part_stops g c = part_stops (record { quiet = c.words_stay_with_f
     (record { states_agree = c.carried_states_agree.ensures.states; steps_agree = c.carried_states_agree.ensures.steps })
 
 pub returns-clause-job : goal.returns-clause-job
-returns-clause-job g c tells given d r n m was after number job paths h step named parts numbered free is early few sound =
+returns-clause-job g c tells given d r n m was after number job paths h step named parts numbered free on is early few sound =
     begin_comes (record { quiet = c.words_stay_with_frames.ensures.quiet; other = c.heard_words_are_told.ensures.other; beside = c.heard_words_are_told.ensures.beside; begun = c.heard_words_are_told.ensures.begun; paths = c.jobs_keep_their_paths.ensures.entries; marks = c.jobs_keep_their_paths.ensures.tree })
     tells given d r n m was after number job paths h step named
     (state_is (record { states_agree = c.carried_states_agree.ensures.states; steps_agree = c.carried_states_agree.ensures.steps }) given d r n h.sound (h.each r n step.before).history)
-    parts.works (c.sound_drivers_keep_their_jobs.ensures.numbers given d r h.sound) numbered free is early few sound
+    parts.works (c.sound_drivers_keep_their_jobs.ensures.numbers given d r h.sound) numbered free on is early few sound
 
 pub returns-clause-no_slot : goal.returns-clause-no_slot
 returns-clause-no_slot g c tells given d r n m was after job h step parts full is early few sound =

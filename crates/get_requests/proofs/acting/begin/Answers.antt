@@ -1,14 +1,14 @@
 -- By what it finds.
-use Rattle.std.proofs.Common.{false, [], sym, ap, ◌∙◌}
+use Rattle.std.proofs.Common.{false, [], sym, ap, subst, ◌∙◌}
 use Rattle.std.specs.Prelude.{is_some}
 use Rattle.annex_base.specs.declared.kinds.Call.TheVariants as calls
 use Rattle.session_state.proofs.Calling.{unfailed}
 use Rattle.run_data.specs.declared.entry.By.TheVariants.{Job as by_job}
 use Rattle.run_data.specs.declared.entry.EntryKind.TheVariants.{Fault}
 use Rattle.content_lock.specs.Rows.{is_filling}
-use Rattle.transfer_turns.specs.Parcels.{frames_of}
+use Rattle.transfer_turns.specs.declared.parcels.Output.{Output}
 use Rattle.transfer_turns.specs.Steps.{seen}
-use Rattle.transfer_turns.specs.Turns.{output_of}
+use Rattle.transfer_turns.specs.Turns.{ArePartings, output_of}
 use Rattle.get_requests.proofs.Firsts.{begin_busy, begin_failed, begin_found}
 use Rattle.get_requests.proofs.Results.{claims_does}
 use Rattle.get_requests.proofs.acting.begin.Goals as goal
@@ -30,7 +30,7 @@ returns-then-is_filling g c =
     record {
       does = begin_busy (g.H.Here.sight c.args.here.now) c.args.table.now (seen (g.K.Keeper.contents c.args.keeper.now) (g.K.Keeper.parts c.args.keeper.now) (g.K.Keeper.records c.args.keeper.now) (g.K.Keeper.files c.args.keeper.now) (g.K.Keeper.faults c.args.keeper.now) (g.K.Keeper.failing c.args.keeper.now)) (seen (g.K.Keeper.contents c.has.new.self) (g.K.Keeper.parts c.has.new.self) (g.K.Keeper.records c.has.new.self) (g.K.Keeper.files c.has.new.self) (g.K.Keeper.faults c.has.new.self) (g.K.Keeper.failing c.has.new.self)) w c.ending.result c.requires.fresh c.requires.bare h.failing
           (record { contents = h.contents; parts = h.parts; records = h.records; files = h.files; later = h.later; failing = unfailed calls.Has _ _ h.failing })
-          (record { kind = ap (λ o. o.kind) c.ending.ensures; sends = ap (λ o. frames_of (g.H.Here.sight c.args.here.now).ends w.slot o.sends.items) c.ending.ensures ∙ c.in_ok-parting.ensures; ended = ap (λ o. o.ended) c.ending.ensures })
+          (record { kind = ap (λ o. o.kind) c.ending.ensures; sends = subst (λ (o : Output). ArePartings (g.H.Here.sight c.args.here.now) w.slot o.sends.items) (sym c.ending.ensures) c.in_ok-parting.ensures; ended = ap (λ o. o.ended) c.ending.ensures })
           (λ k is. sym c.in-Ok-false.field-0-test ∙ (h.ok k is ∙ ap (λ key. is_some (k key)) c.key.ensures)) (ap (is_filling c.args.table.now) (sym c.key-in-Ok-false.ensures) ∙ (sym c.is_filling.ensures ∙ c.if-is_filling.true));
     }
 

@@ -5,6 +5,7 @@ use Rattle.node_past.specs.Stored.{store_view}
 use Rattle.node_steps.specs.Nodes.{beside, told_of}
 use Rattle.node_steps.proofs.KeptLemmas.{kept_status, refuses_beside, stands_so}
 use Rattle.node_steps.proofs.PayLemmas.{adds_paid, failing_same, fault_adds, fault_steps, memory_fault, no_bundle, no_full, owing_first, pays_so, put_left, refused_same, steps_paid}
+use Rattle.node_steps.proofs.StepLemmas.{told_some}
 use Rattle.node_steps.proofs.stepping.pay_first.Goals as goal
 
 pub returns-in-Ok-clause-stands : goal.returns-in-Ok-clause-stands
@@ -61,7 +62,8 @@ returns-in-Ok-clause-step g c =
     let first = owing_first l.owed c.requires.owes in
     let n = beside p l in
     let m = beside p c.pay.new.self in
-    λ x told. steps_paid tt n m first.0 (store_view (g.K.Keeper.contents n.keeper) (g.K.Keeper.parts n.keeper) (g.K.Keeper.failing n.keeper) (g.K.Keeper.faults n.keeper)) (store_view (g.K.Keeper.contents m.keeper) (g.K.Keeper.parts m.keeper) (g.K.Keeper.failing m.keeper) (g.K.Keeper.faults m.keeper)) (ap (beside p) (c.in-Ok.ensures.ok first.0 (drop 1 l.owed) first.1))
+    λ x told. steps_paid tt n m first.0 (store_view (g.K.Keeper.contents n.keeper) (g.K.Keeper.parts n.keeper) (g.K.Keeper.failing n.keeper) (g.K.Keeper.faults n.keeper)) (store_view (g.K.Keeper.contents m.keeper) (g.K.Keeper.parts m.keeper) (g.K.Keeper.failing m.keeper) (g.K.Keeper.faults m.keeper))
+    (told_some (g.K.Keeper.contents l.keeper) (g.K.Keeper.parts l.keeper) x told).1 (ap (beside p) (c.in-Ok.ensures.ok first.0 (drop 1 l.owed) first.1))
     (pays_so (Ok tt) n m first.0 (drop 1 l.owed) (told_of (g.K.Keeper.contents l.keeper) (g.K.Keeper.parts l.keeper)) c.requires.stands.kept.state first.1 (ap (beside p) (c.in-Ok.ensures.ok first.0 (drop 1 l.owed) first.1)) tt x told) c.in-Ok.ensures.calls
 
 pub returns-in-Err-StoreFault-clause-adds : goal.returns-in-Err-StoreFault-clause-adds
@@ -84,7 +86,7 @@ returns-in-Err-StoreFault-clause-step g c =
     let n = beside p l in
     let m = beside p c.pay.new.self in
     λ x told. fault_steps it.field-0 n m first.0 (store_view (g.K.Keeper.contents n.keeper) (g.K.Keeper.parts n.keeper) (g.K.Keeper.failing n.keeper) (g.K.Keeper.faults n.keeper)) (store_view (g.K.Keeper.contents m.keeper) (g.K.Keeper.parts m.keeper) (g.K.Keeper.failing m.keeper) (g.K.Keeper.faults m.keeper))
-    it.field-0-is (refuses_beside p first.0.by it.field-0 PutFile l c.pay.new.self (it.ensures.err first.0 (drop 1 l.owed) first.1)) (pays_so (Err it.field-0) n m first.0 (drop 1 l.owed) (told_of (g.K.Keeper.contents l.keeper) (g.K.Keeper.parts l.keeper)) c.requires.stands.kept.state first.1 tt (refuses_beside p first.0.by it.field-0 PutFile l c.pay.new.self (it.ensures.err first.0 (drop 1 l.owed) first.1)) x told) it.ensures.calls
+    (told_some (g.K.Keeper.contents l.keeper) (g.K.Keeper.parts l.keeper) x told).1 it.field-0-is (refuses_beside p first.0.by it.field-0 PutFile l c.pay.new.self (it.ensures.err first.0 (drop 1 l.owed) first.1)) (pays_so (Err it.field-0) n m first.0 (drop 1 l.owed) (told_of (g.K.Keeper.contents l.keeper) (g.K.Keeper.parts l.keeper)) c.requires.stands.kept.state first.1 tt (refuses_beside p first.0.by it.field-0 PutFile l c.pay.new.self (it.ensures.err first.0 (drop 1 l.owed) first.1)) x told) it.ensures.calls
 
 pub returns-in-Err-NoMemory-clause-err : goal.returns-in-Err-NoMemory-clause-err
 returns-in-Err-NoMemory-clause-err g c =

@@ -8,8 +8,8 @@ use Rattle.node_past.specs.Stored.{store_view}
 use Rattle.node_steps.proofs.BeginLemmas.{fed_after}
 use Rattle.node_steps.proofs.KeptLemmas.{stands_in}
 use Rattle.node_ledger.proofs.WriteLemmas.{ledger_of}
-use Rattle.node_steps.proofs.MoveLemmas.{next_number, adds_if, leaves_at, posts_at, served_calls, served_does, steps_if}
-use Rattle.node_steps.proofs.NoteLemmas.{debts_if, kept_if, owed_if_none}
+use Rattle.node_steps.proofs.MoveLemmas.{next_number, adds_if, leaves_at, posts_at, served_calls, served_does, sessions_tell, steps_if}
+use Rattle.node_steps.proofs.NoteLemmas.{debts_if, kept_if, none_among, owed_if_none}
 use Rattle.node_past.proofs.OwedLemmas.{owed_in}
 use Rattle.node_steps.proofs.TurnLemmas.{none_owing}
 use Rattle.node_steps.proofs.stepping.serve.Goals as goal
@@ -27,7 +27,7 @@ returns-clause-stands g c =
     let none = none_owing (owed_in i.past i.debts.items) (ap (λ v. is_owing v.owed) c.ledger.view_is ∙ c.requires.paid) in record {
       kept = kept_if session_step c.tables_fill_as_states.ensures c.states_have_their_settings.ensures.made it.done i.past room.new.past e.new.past p w.new.self i.branch i.debts.items room.new.debts.items e.new.debts.items
           (g.K.Keeper.contents i.keeper) (g.K.Keeper.contents w.new.keeper) (g.K.Keeper.parts i.keeper) (g.K.Keeper.parts w.new.keeper) c.table.ensures.sound c.table-2.ensures.sound room.ensures.same room.ensures.same_debts e.ensures.enters c.ledger.invariant.2 none
-          (leaves_at at.result i.past room.new.past p w.new.self it.done at.ensures room.ensures.same it.ensures.leaves) it.ensures.kind
+          (leaves_at at.result i.past room.new.past p w.new.self it.done at.ensures room.ensures.same it.ensures.leaves) it.ensures.kind (sessions_tell c.sessions_make_their_own_entries.ensures p it.done)
           (served_does at.result i.past room.new.past p w.new.self (g.K.Keeper.contents i.keeper) (g.K.Keeper.contents w.new.keeper) (g.K.Keeper.parts i.keeper) it.done at.ensures room.ensures.same stands.fed it.ensures.step it.ensures.asked)
           w.ensures.told_parts w.ensures.told_contents (ap (λ (j : Jobs). j.place) w.ensures.place) (ap (λ (j : Jobs). j.begun) w.ensures.place) stands.kept;
       agrees = w.ensures.agrees;
@@ -44,7 +44,8 @@ invariant_of-ledger-2 g c =
     let none = none_owing (owed_in i.past i.debts.items) (ap (λ v. is_owing v.owed) c.ledger.view_is ∙ c.requires.paid) in (
       λ f told. c.ledger.invariant.0 f (sym w.ensures.files ∙ told),
       c.ledger.invariant.1,
-      debts_if it.done i.past room.new.past e.new.past i.debts.items room.new.debts.items e.new.debts.items room.ensures.same room.ensures.same_debts e.ensures.enters c.ledger.invariant.2 none,
+      debts_if it.done i.past room.new.past e.new.past i.debts.items room.new.debts.items e.new.debts.items room.ensures.same room.ensures.same_debts e.ensures.enters
+          (none_among i.past.setup.repos it.done it.ensures.owes) c.ledger.invariant.2 none,
     )
 
 pub returns-clause-adds : goal.returns-clause-adds

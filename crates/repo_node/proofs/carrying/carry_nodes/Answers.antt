@@ -15,7 +15,7 @@ invariant_of-a g c =
     let table = ap (λ (p : PartsView). p.table) same in record {
       kept = kept_links i.ledger.setup i.ledger.clock i.ledger.history i.parts w.new.self i.ledger.branch i.ledger.owed (told_of (g.K.Keeper.contents i.ledger.keeper) (g.K.Keeper.parts i.ledger.keeper)) table (ap (λ (p : PartsView). p.jobs) same) w.ensures.parts c.a.invariant.kept;
       agrees = subst (λ (t : Rows). Agrees (g.K.Keeper.records i.ledger.keeper) t.holds) (sym table) c.a.invariant.agrees;
-      fed = fed_links (g.K.Keeper.parts i.ledger.keeper) i.parts w.new.self (ap (λ (p : PartsView). p.sessions) same) c.a.invariant.fed;
+      fed = fed_links (g.K.Keeper.parts i.ledger.keeper) i.parts w.new.self (ap (λ (p : PartsView). p.sessions) same) (ap (λ (p : PartsView). p.jobs) same) c.a.invariant.fed;
     }
 
 pub invariant_of-b : goal.invariant_of-b
@@ -26,5 +26,5 @@ invariant_of-b g c =
     let table = ap (λ (p : PartsView). p.table) same in record {
       kept = kept_links i.ledger.setup i.ledger.clock i.ledger.history i.parts w.new.other i.ledger.branch i.ledger.owed (told_of (g.K.Keeper.contents i.ledger.keeper) (g.K.Keeper.parts i.ledger.keeper)) table (ap (λ (p : PartsView). p.jobs) same) w.ensures.other_parts c.b.invariant.kept;
       agrees = subst (λ (t : Rows). Agrees (g.K.Keeper.records i.ledger.keeper) t.holds) (sym table) c.b.invariant.agrees;
-      fed = fed_links (g.K.Keeper.parts i.ledger.keeper) i.parts w.new.other (ap (λ (p : PartsView). p.sessions) same) c.b.invariant.fed;
+      fed = fed_links (g.K.Keeper.parts i.ledger.keeper) i.parts w.new.other (ap (λ (p : PartsView). p.sessions) same) (ap (λ (p : PartsView). p.jobs) same) c.b.invariant.fed;
     }

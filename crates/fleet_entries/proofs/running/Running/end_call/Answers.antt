@@ -1,7 +1,7 @@
 -- What the proof of `running::Running::end_call` needs beside the tactics.
 use Rattle.std.proofs.Common.{inr}
 use Rattle.annex_base.proofs.Lists.{slice_get-within}
-use Rattle.joined_nodes.specs.Stored.{StoreView, store_view}
+use Rattle.fleet_model.specs.Stored.{StoreView, store_view}
 use Rattle.fleet_entries.proofs.Starts.{always_err, tells_some_there}
 use Rattle.fleet_entries.proofs.running.Running.end_call.Goals as goal
 

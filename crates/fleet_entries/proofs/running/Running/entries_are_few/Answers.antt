@@ -1,5 +1,5 @@
 -- What the proof of `running::Running::entries_are_few` needs beside the tactics.
-use Rattle.joined_nodes.specs.Stored.{StoreView, store_view}
+use Rattle.fleet_model.specs.Stored.{StoreView, store_view}
 use Rattle.fleet_entries.proofs.Entries.{entries_few}
 use Rattle.fleet_entries.proofs.Full.{few_in}
 use Rattle.fleet_entries.proofs.running.Running.entries_are_few.Goals as goal

@@ -1,6 +1,6 @@
 -- What the proof of `running::Running::mark` needs beside the tactics.
 use Rattle.std.proofs.Common.{ℕ, ◌∷◌, [], ◌++◌, ◌∙◌, ap, length, refl, subst, sym}
-use Rattle.joined_nodes.specs.Stored.{StoreView, store_view}
+use Rattle.fleet_model.specs.Stored.{StoreView, store_view}
 use Rattle.driver_model.specs.Driving.{with_mark}
 use Rattle.fleet_model.specs.Fleets.{FleetView}
 use Rattle.fleet_entries.specs.AtDriver.{GoesOn}

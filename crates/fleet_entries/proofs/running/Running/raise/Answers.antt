@@ -1,6 +1,6 @@
 -- What the proof of `running::Running::raise` needs beside the tactics.
 use Rattle.std.proofs.Common.{ap, length}
-use Rattle.joined_nodes.specs.Stored.{StoreView, store_view}
+use Rattle.fleet_model.specs.Stored.{StoreView, store_view}
 use Rattle.fleet_entries.proofs.Raising.{raises_so}
 use Rattle.fleet_entries.proofs.running.Running.raise.Goals as goal
 

@@ -1,5 +1,5 @@
 -- What the proof of `running::Running::see` needs beside the tactics.
-use Rattle.joined_nodes.specs.Stored.{StoreView, store_view}
+use Rattle.fleet_model.specs.Stored.{StoreView, store_view}
 use Rattle.fleet_entries.proofs.Whole.{seen_whole}
 use Rattle.fleet_entries.proofs.running.Running.see.Goals as goal
 

@@ -13,5 +13,5 @@ invariant_of-result g c =
     let past = c.new-2.result in (
       λ x told path. ap (λ (o : Option (List ℕ)). unwrap_or o []) (c.requires.files x told path) ∙ sym (ap (λ (b : Files). text_of (lines_at b path)) c.new.ensures),
       indexed_new c.new-3.result branch c.new.ensures c.new-3.ensures,
-      no_debts past.setup.number past.history.items c.new-4.result.items c.new-4.ensures.items,
+      no_debts past.setup past.history.items c.new-4.result.items c.new-4.ensures.items,
     )

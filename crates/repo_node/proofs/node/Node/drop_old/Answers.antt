@@ -15,5 +15,5 @@ invariant_of-self g c =
     let table = ap (λ (p : PartsView). p.table) same in record {
       kept = kept_links i.ledger.setup i.ledger.clock i.ledger.history i.parts w.new.self i.ledger.branch i.ledger.owed (told_of (g.K.Keeper.contents i.ledger.keeper) (g.K.Keeper.parts i.ledger.keeper)) table (ap (λ (p : PartsView). p.jobs) same) w.ensures.parts c.self.invariant.kept;
       agrees = subst (λ (t : Rows). Agrees (g.K.Keeper.records i.ledger.keeper) t.holds) (sym table) c.self.invariant.agrees;
-      fed = fed_links (g.K.Keeper.parts i.ledger.keeper) i.parts w.new.self (ap (λ (p : PartsView). p.sessions) same) c.self.invariant.fed;
+      fed = fed_links (g.K.Keeper.parts i.ledger.keeper) i.parts w.new.self (ap (λ (p : PartsView). p.sessions) same) (ap (λ (p : PartsView). p.jobs) same) c.self.invariant.fed;
     }

@@ -23,7 +23,7 @@ invariant_of-self g c =
     let p = i.parts in
     let l = i.ledger in
     let b = c.bring.new.self in
-    stands_brought c.others_leave_it.ensures.fed c.bring.result l b p (g.K.Keeper.contents l.keeper) (g.K.Keeper.contents b.keeper) (g.K.Keeper.parts l.keeper) (g.K.Keeper.parts b.keeper) (g.K.Keeper.records l.keeper) (g.K.Keeper.records b.keeper) c.table.ensures.sound (c.direct_entries_keep_parts.ensures p c.table.ensures.sound)
+    stands_brought c.parts_stay_fed.ensures c.bring.result l b p (g.K.Keeper.contents l.keeper) (g.K.Keeper.contents b.keeper) (g.K.Keeper.parts l.keeper) (g.K.Keeper.parts b.keeper) (g.K.Keeper.records l.keeper) (g.K.Keeper.records b.keeper) c.table.ensures.sound (c.direct_entries_keep_parts.ensures p c.table.ensures.sound)
     c.bring.ensures.ok c.bring.ensures.err c.bring.ensures.contents c.bring.ensures.records (subst (λ (rows : Rows). LeavesFilled rows (g.K.Keeper.parts l.keeper) (g.K.Keeper.parts b.keeper)) c.table.ensures.rows c.bring.ensures.filled) c.self.invariant
 
 pub invariant_of-self-then-taken : goal.invariant_of-self-then-taken
@@ -32,7 +32,7 @@ invariant_of-self-then-taken g c =
     let p = i.parts in
     let l = i.ledger in
     let b = c.bring.new.self in
-    stands_brought c.others_leave_it.ensures.fed c.bring.result l b p (g.K.Keeper.contents l.keeper) (g.K.Keeper.contents b.keeper) (g.K.Keeper.parts l.keeper) (g.K.Keeper.parts b.keeper) (g.K.Keeper.records l.keeper) (g.K.Keeper.records b.keeper) c.table.ensures.sound (c.direct_entries_keep_parts.ensures p c.table.ensures.sound)
+    stands_brought c.parts_stay_fed.ensures c.bring.result l b p (g.K.Keeper.contents l.keeper) (g.K.Keeper.contents b.keeper) (g.K.Keeper.parts l.keeper) (g.K.Keeper.parts b.keeper) (g.K.Keeper.records l.keeper) (g.K.Keeper.records b.keeper) c.table.ensures.sound (c.direct_entries_keep_parts.ensures p c.table.ensures.sound)
     c.bring.ensures.ok c.bring.ensures.err c.bring.ensures.contents c.bring.ensures.records (subst (λ (rows : Rows). LeavesFilled rows (g.K.Keeper.parts l.keeper) (g.K.Keeper.parts b.keeper)) c.table.ensures.rows c.bring.ensures.filled) c.self.invariant
 
 pub invariant_of-self-in-Err : goal.invariant_of-self-in-Err
@@ -44,9 +44,9 @@ invariant_of-self-in-Err g c =
     let m = c.gain.new.self in
     let key = c.args.key.now in
     let bytes = c.args.bytes.now in
-    stands_gained c.others_leave_it.ensures.fed c.gain.result b m p (g.K.Keeper.contents b.keeper) (g.K.Keeper.contents m.keeper) (g.K.Keeper.parts b.keeper) (g.K.Keeper.parts m.keeper) (g.K.Keeper.records b.keeper) (g.K.Keeper.records m.keeper) key (length bytes) c.table.ensures.sound (c.direct_entries_keep_parts.ensures p c.table.ensures.sound)
+    stands_gained c.parts_stay_fed.ensures c.gain.result b m p (g.K.Keeper.contents b.keeper) (g.K.Keeper.contents m.keeper) (g.K.Keeper.parts b.keeper) (g.K.Keeper.parts m.keeper) (g.K.Keeper.records b.keeper) (g.K.Keeper.records m.keeper) key (length bytes) c.table.ensures.sound (c.direct_entries_keep_parts.ensures p c.table.ensures.sound)
     c.gain.ensures.ok c.gain.ensures.err c.gain.ensures.content c.gain.ensures.err_contents c.gain.ensures.part c.gain.ensures.err_parts c.gain.ensures.records (long_brought key bytes (g.K.Keeper.parts l.keeper) (g.K.Keeper.parts b.keeper) (c.in_ok-taken.ensures.part c.if-taken.false)) (subst (λ (x : Rows). is_filling x key ≡ false) c.table.ensures.rows (c.in_ok-taken.ensures.free c.if-taken.false))
-    (stands_brought c.others_leave_it.ensures.fed c.bring.result l b p (g.K.Keeper.contents l.keeper) (g.K.Keeper.contents b.keeper) (g.K.Keeper.parts l.keeper) (g.K.Keeper.parts b.keeper) (g.K.Keeper.records l.keeper) (g.K.Keeper.records b.keeper) c.table.ensures.sound (c.direct_entries_keep_parts.ensures p c.table.ensures.sound)
+    (stands_brought c.parts_stay_fed.ensures c.bring.result l b p (g.K.Keeper.contents l.keeper) (g.K.Keeper.contents b.keeper) (g.K.Keeper.parts l.keeper) (g.K.Keeper.parts b.keeper) (g.K.Keeper.records l.keeper) (g.K.Keeper.records b.keeper) c.table.ensures.sound (c.direct_entries_keep_parts.ensures p c.table.ensures.sound)
     c.bring.ensures.ok c.bring.ensures.err c.bring.ensures.contents c.bring.ensures.records (subst (λ (rows : Rows). LeavesFilled rows (g.K.Keeper.parts l.keeper) (g.K.Keeper.parts b.keeper)) c.table.ensures.rows c.bring.ensures.filled) c.self.invariant)
 
 pub invariant_of-self-in-Ok : goal.invariant_of-self-in-Ok
@@ -61,9 +61,9 @@ invariant_of-self-in-Ok g c =
     let bytes = c.args.bytes.now in
     stands_so m last p (g.K.Keeper.contents m.keeper) (g.K.Keeper.contents last.keeper) (g.K.Keeper.parts m.keeper) (g.K.Keeper.parts last.keeper) (g.K.Keeper.records m.keeper) (g.K.Keeper.records last.keeper) c.log_status.ensures.contents c.log_status.ensures.parts c.log_status.ensures.records
     (kept_status c.log_status.result Script m last p (told_of (g.K.Keeper.contents m.keeper) (g.K.Keeper.parts m.keeper)) key c.number-number.result true c.files_are_changed_alone.ensures.there c.files_are_changed_alone.ensures.other (c.direct_entries_keep_parts.ensures p c.table.ensures.sound) c.log_status.ensures.ok c.log_status.ensures.err)
-    (stands_gained c.others_leave_it.ensures.fed c.gain.result b m p (g.K.Keeper.contents b.keeper) (g.K.Keeper.contents m.keeper) (g.K.Keeper.parts b.keeper) (g.K.Keeper.parts m.keeper) (g.K.Keeper.records b.keeper) (g.K.Keeper.records m.keeper) key (length bytes) c.table.ensures.sound (c.direct_entries_keep_parts.ensures p c.table.ensures.sound)
+    (stands_gained c.parts_stay_fed.ensures c.gain.result b m p (g.K.Keeper.contents b.keeper) (g.K.Keeper.contents m.keeper) (g.K.Keeper.parts b.keeper) (g.K.Keeper.parts m.keeper) (g.K.Keeper.records b.keeper) (g.K.Keeper.records m.keeper) key (length bytes) c.table.ensures.sound (c.direct_entries_keep_parts.ensures p c.table.ensures.sound)
     c.gain.ensures.ok c.gain.ensures.err c.gain.ensures.content c.gain.ensures.err_contents c.gain.ensures.part c.gain.ensures.err_parts c.gain.ensures.records (long_brought key bytes (g.K.Keeper.parts l.keeper) (g.K.Keeper.parts b.keeper) (c.in_ok-taken.ensures.part c.if-taken.false)) (subst (λ (x : Rows). is_filling x key ≡ false) c.table.ensures.rows (c.in_ok-taken.ensures.free c.if-taken.false))
-    (stands_brought c.others_leave_it.ensures.fed c.bring.result l b p (g.K.Keeper.contents l.keeper) (g.K.Keeper.contents b.keeper) (g.K.Keeper.parts l.keeper) (g.K.Keeper.parts b.keeper) (g.K.Keeper.records l.keeper) (g.K.Keeper.records b.keeper) c.table.ensures.sound (c.direct_entries_keep_parts.ensures p c.table.ensures.sound)
+    (stands_brought c.parts_stay_fed.ensures c.bring.result l b p (g.K.Keeper.contents l.keeper) (g.K.Keeper.contents b.keeper) (g.K.Keeper.parts l.keeper) (g.K.Keeper.parts b.keeper) (g.K.Keeper.records l.keeper) (g.K.Keeper.records b.keeper) c.table.ensures.sound (c.direct_entries_keep_parts.ensures p c.table.ensures.sound)
     c.bring.ensures.ok c.bring.ensures.err c.bring.ensures.contents c.bring.ensures.records (subst (λ (rows : Rows). LeavesFilled rows (g.K.Keeper.parts l.keeper) (g.K.Keeper.parts b.keeper)) c.table.ensures.rows c.bring.ensures.filled) c.self.invariant))
 
 pub returns-in-Err-clause-err : goal.returns-in-Err-clause-err

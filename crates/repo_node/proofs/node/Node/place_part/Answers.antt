@@ -19,7 +19,7 @@ invariant_of-self g c =
     let p = i.parts in
     let l = i.ledger in
     let b = c.bring.new.self in
-    stands_brought c.others_leave_it.ensures.fed c.bring.result l b p (g.K.Keeper.contents l.keeper) (g.K.Keeper.contents b.keeper) (g.K.Keeper.parts l.keeper) (g.K.Keeper.parts b.keeper) (g.K.Keeper.records l.keeper) (g.K.Keeper.records b.keeper) c.table.ensures.sound (c.direct_entries_keep_parts.ensures p c.table.ensures.sound)
+    stands_brought c.parts_stay_fed.ensures c.bring.result l b p (g.K.Keeper.contents l.keeper) (g.K.Keeper.contents b.keeper) (g.K.Keeper.parts l.keeper) (g.K.Keeper.parts b.keeper) (g.K.Keeper.records l.keeper) (g.K.Keeper.records b.keeper) c.table.ensures.sound (c.direct_entries_keep_parts.ensures p c.table.ensures.sound)
     c.bring.ensures.ok c.bring.ensures.err c.bring.ensures.contents c.bring.ensures.records (subst (λ (rows : Rows). LeavesFilled rows (g.K.Keeper.parts l.keeper) (g.K.Keeper.parts b.keeper)) c.table.ensures.rows c.bring.ensures.filled) c.self.invariant
 
 pub returns-clause-ok : goal.returns-clause-ok

@@ -1,5 +1,5 @@
 -- The first job that has a step.
-use Rattle.std.proofs.Common.{Option, Some, None, refl, sym, ap, subst}
+use Rattle.std.proofs.Common.{◌≡◌, ◌*◌, length, Option, Some, None, refl, sym, ap, subst}
 use Rattle.std.specs.Option.{option_map}
 use Rattle.annex_base.specs.Lists.{Each}
 use Rattle.annex_base.proofs.Lists.{Each-weaker}
@@ -93,7 +93,8 @@ returns-clause-leaves g c =
     subst (λ (js : Jobs). Leaves c.args.ends.now js (record { place = c.self.inside.place; running = c.turn.new.running.items; begun = c.self.inside.begun }) c.args.table.now c.turn.new.table kept kept' c.in_ok-acted.acted) c.self.view_is
     (leaves_after c.args.ends.now c.args.clock (settings_of c.args.settings.now) jobs c.args.number c.args.time c.in-Some.found c.args.table.now c.turn.new.table kept kept' c.turn.new.running.items c.in_ok-acted.acted
     (subst (λ (js : Jobs). OwnAll js c.args.table.now) (sym c.self.view_is) c.requires.owns) (rw c.find_ready.ensures.same at c.in_ok-acted.ensures.changes)
-    (subst (λ (o : Option Found). Finds c.self.inside.place c.args.clock c.args.ends.now c.self.inside.running.items c.args.time o) c.in-Some.is (rw c.deref.ensures.value at c.in_ok-found.ensures.finds)))
+    (subst (λ (o : Option Found). Finds c.self.inside.place c.args.clock c.args.ends.now c.self.inside.running.items c.args.time o) c.in-Some.is (rw c.deref.ensures.value at c.in_ok-found.ensures.finds))
+    (subst (λ (js : Jobs). length c.args.ends.now ≡ length js.place.ids * 8) (sym c.self.view_is) c.requires.count))
 
 pub returns-in_err-found-clause-err : goal.returns-in_err-found-clause-err
 returns-in_err-found-clause-err g c =

@@ -1,6 +1,0 @@
--- The law.
-use Rattle.node_jobs.proofs.Beginning.{works_stay_at_faults}
-use Rattle.node_jobs.proofs.laws.jobs_stay_where_lines_fail.Goals as goal
-
-pub returns : goal.returns
-returns c = works_stay_at_faults

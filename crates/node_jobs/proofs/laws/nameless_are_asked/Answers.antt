@@ -1,6 +1,0 @@
--- The law.
-use Rattle.node_jobs.proofs.Nameless.{nameless_asked}
-use Rattle.node_jobs.proofs.laws.nameless_are_asked.Goals as goal
-
-pub returns : goal.returns
-returns c = nameless_asked c.readings_are_exact.ensures.nothing
