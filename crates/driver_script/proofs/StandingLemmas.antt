@@ -1,7 +1,5 @@
 -- What each command has where it stands, its line of the driver has.
-use Rattle.std.proofs.Common.{◌≡◌, ◌≢◌, inl, inr, ℕ, ◌+◌, ◌<◌, ◌≤◌, ◌^◌, Bool, true, false, ◌&&◌, List, [], ◌∷◌, length, Option, Some, None, IfSome, refl, sym, ◌∙◌, subst, true≢false, arith, length-append}
-use Rattle.std.specs.Prelude.{is_none}
-use Rattle.std.proofs.lemmas.Bool.{and_parts}
+use Rattle.std.proofs.Common.{◌≡◌, ◌≢◌, inl, inr, ℕ, ◌+◌, ◌<◌, ◌≤◌, ◌^◌, Bool, true, false, List, [], ◌∷◌, length, Option, Some, None, IfSome, refl, sym, ◌∙◌, subst, true≢false, arith, length-append}
 use Rattle.std.proofs.lemmas.Bool.Decides.{eqb_tells}
 use Rattle.std.proofs.lemmas.List.{length-map}
 use Rattle.annex_base.specs.Lines.{IsOneLine, is_not_newline, newline}
@@ -9,7 +7,6 @@ use Rattle.annex_base.specs.Lists.{Each}
 use Rattle.annex_base.proofs.Conditions.{eqb_refl}
 use Rattle.annex_base.proofs.Lines.{one_line-by_test, one_line-members}
 use Rattle.annex_base.proofs.Lists.{Each-weaker, list_all_weaker}
-use Rattle.annex_base.proofs.Options.{is_none_true}
 use Rattle.annex_key.specs.KeyText.{IsKey, IsKeyText, key_text}
 use Rattle.annex_key.specs.View.{first_fault, size_part}
 use Rattle.key_verify.specs.MakingKeys as making
@@ -40,8 +37,8 @@ use Rattle.script_lang.specs.Script as script
 use Rattle.script_lang.specs.Script.{context_with}
 use Rattle.script_lang.specs.Preconditions as standing
 use Rattle.driver_model.specs.Driver.{DriverInput}
-use Rattle.driver_model.specs.Scripts.{IsJob, IsOne, IsOneAction, IsPlainTopic, IsPlainValue}
-use Rattle.driver_script.specs.Lines.{declared_by, is_added, is_built_action, is_drop, is_local_drop, repos_of, view_of}
+use Rattle.driver_model.specs.Scripts.{IsJob, IsOne, IsOneAction, IsOther, IsPlainTopic, IsPlainValue}
+use Rattle.driver_script.specs.Lines.{declared_by, is_added, is_built_action, is_built_job, repos_of, view_of}
 use Rattle.driver_script.proofs.BuiltLemmas.{IsBuilt}
 
 -- ---- what a line has
@@ -74,21 +71,31 @@ file_has_kind (files.Other name) added none = cc
 line_is : (text : List ℕ) → text ≢ [] → IsOneLine text → IsLine text
 line_is text some single = record { some = some; single = one_line-members text single }
 
-drop_is : (kind : JobKind) → is_drop kind ≡ true → kind ≡ job_kinds.Drop
-drop_is job_kinds.Drop e = refl
-drop_is job_kinds.Get e = absurd cc
-drop_is job_kinds.Copy e = absurd cc
-drop_is job_kinds.MoveTo e = absurd cc
-drop_is job_kinds.MoveFrom e = absurd cc
+known : (n m r : ℕ) → n ≤ m → r < n → r < m
+known n m r few less = omega (arith, few, less)
 
 -- the law of the texts of keys, as the lemmas take it
 abbrev pub KeysHaveNoFault : Type 0
 KeysHaveNoFault = (key : List ℕ) → IsKeyText key → first_fault key ≡ None
 
-job_is : KeysHaveNoFault → (g : DriverInput) (r : ℕ) (job : Job) → is_local_drop job ≡ true → IsKeyText job.key → IsJob g r job
-job_is valid g r job e key =
-    let both = and_parts (is_drop job.kind) (is_none job.peer) e in
-    record { peer = rw (is_none_true job.peer both.1) (rw (drop_is job.kind both.0) refl); valid = valid job.key key }
+-- another repository of the script is another of the driver's
+other_is : (g : DriverInput) (x : Context) (r other : ℕ) → length x.repos ≤ length g.repos → standing.AreTwo x r other → IsOther g r other
+other_is g x r other few two = (known _ _ other few two.second, (λ same. two.distinct (sym same)))
+
+-- a job that is built has a peer where it needs one, which is another
+made_job : (g : DriverInput) (x : Context) (r : ℕ) (kind : JobKind) (key : List ℕ) (path : Option (List ℕ)) (peer : Option ℕ) → first_fault key ≡ None → length x.repos ≤ length g.repos → is_built_job kind peer ≡ true
+    → IfSome peer (λ p. standing.AreTwo x r p) → IsJob g r (record { kind = kind; key = key; path = path; peer = peer })
+made_job g x r job_kinds.Drop key path None valid few built two = record { peer = refl; valid = valid }
+made_job g x r job_kinds.Get key path None valid few built two = record { peer = refl; valid = valid }
+made_job g x r job_kinds.Get key path (Some peer) valid few built two = record { peer = other_is g x r peer few two; valid = valid }
+made_job g x r job_kinds.Copy key path (Some peer) valid few built two = record { peer = other_is g x r peer few two; valid = valid }
+made_job g x r job_kinds.Drop key path (Some peer) valid few built two = absurd (cc)
+made_job g x r job_kinds.Copy key path None valid few built two = absurd (cc)
+made_job g x r job_kinds.MoveTo key path peer valid few built two = absurd (cc)
+made_job g x r job_kinds.MoveFrom key path peer valid few built two = absurd (cc)
+
+job_is : KeysHaveNoFault → (g : DriverInput) (x : Context) (r : ℕ) (job : Job) → length x.repos ≤ length g.repos → is_built_job job.kind job.peer ≡ true → standing.IsJob x r job → IsJob g r job
+job_is valid g x r job few built stands = made_job g x r job.kind job.key job.path job.peer (valid job.key stands.key.text) few built stands.peer
 
 -- the laws of texts of keys and of keys that are made of bytes, as the lemmas take them
 pub record KeyLaws : Type 0 where
@@ -111,9 +118,6 @@ made_is laws path key content is small =
     (record { parts = making.made_key path content; key = laws.made path content fits; spelled = refl }, laws.matching path content fits)
 
 -- ---- one line
-
-known : (n m r : ℕ) → n ≤ m → r < n → r < m
-known n m r few less = omega (arith, few, less)
 
 -- what a line may set is of one line, and in a log that isn't of locations
 plain_target : (x : Context) (t : Topic) → standing.IsTarget x t → IsPlainTopic t
@@ -204,8 +208,8 @@ one_action v g x (actions.Raw r file text) n s b = (known _ _ r n s.0, file_has_
 one_action v g x (actions.Merge r other) n s b = known _ _ r n s.first
 one_action v g x (actions.Compact r) n s b = known _ _ r n s
 one_action v g x (actions.Sync r) n s b = absurd (cc)
-one_action v g x (actions.Begin r job) n s b = (known _ _ r n s.repo, job_is v.faultless g r job b s.key.text)
-one_action v g x (actions.Run r job) n s b = (known _ _ r n s.repo, job_is v.faultless g r job b s.key.text)
+one_action v g x (actions.Begin r job) n s b = (known _ _ r n s.repo, job_is v.faultless g x r job n b s)
+one_action v g x (actions.Run r job) n s b = (known _ _ r n s.repo, job_is v.faultless g x r job n b s)
 one_action v g x (actions.Turns r turns) n s b = known _ _ r n s
 one_action v g x actions.Settle n s b = tt
 one_action v g x (actions.Close r other) n s b = absurd cc

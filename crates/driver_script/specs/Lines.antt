@@ -1,8 +1,7 @@
 -- The repositories that a script declares, and which forms of line are built (own).
-use Rattle.std.specs.Prelude.{ℕ, Bool, true, false, not, ◌==◌, ◌&&◌, List, [], ◌∷◌, ◌++◌, map, position, Option, is_none}
+use Rattle.std.specs.Prelude.{ℕ, Bool, true, false, not, ◌==◌, ◌&&◌, List, [], ◌∷◌, ◌++◌, map, position, Option, is_none, is_some}
 use Rattle.run_data.specs.declared.entry.LogFile.{LogFile}
 use Rattle.run_data.specs.declared.entry.LogFile.TheVariants as files
-use Rattle.run_data.specs.declared.job.Job.{Job}
 use Rattle.run_data.specs.declared.job.JobKind.{JobKind}
 use Rattle.run_data.specs.declared.job.JobKind.TheVariants as job_kinds
 use Rattle.run_data.specs.declared.run.RepoView.{RepoView}
@@ -48,13 +47,12 @@ is_shown (files.Location key) = false
 is_shown (files.Of kind) = true
 is_shown (files.Other name) = false
 
-abbrev pub is_drop : JobKind → Bool
-is_drop job_kinds.Drop = true
-is_drop kind = false
-
--- a drop at the job's own repository
-abbrev pub is_local_drop : Job → Bool
-is_local_drop job = is_drop job.kind && is_none job.peer
+-- a drop of the repository's own copy, a get, or a copy to a peer
+abbrev pub is_built_job : JobKind → Option ℕ → Bool
+is_built_job job_kinds.Drop peer = is_none peer
+is_built_job job_kinds.Get peer = true
+is_built_job job_kinds.Copy peer = is_some peer
+is_built_job kind peer = false
 
 abbrev pub is_built_action : Action → Bool
 is_built_action (actions.Have r key content) = true
@@ -66,8 +64,8 @@ is_built_action (actions.Raw r file line) = is_added file
 is_built_action (actions.Merge r other) = true
 is_built_action (actions.Compact r) = true
 is_built_action (actions.Sync r) = false
-is_built_action (actions.Begin r job) = is_local_drop job
-is_built_action (actions.Run r job) = is_local_drop job
+is_built_action (actions.Begin r job) = is_built_job job.kind job.peer
+is_built_action (actions.Run r job) = is_built_job job.kind job.peer
 is_built_action (actions.Turns r turns) = true
 is_built_action actions.Settle = true
 is_built_action (actions.Close r other) = false

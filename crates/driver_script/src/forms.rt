@@ -2,7 +2,7 @@
 ghost use Rattle.std.specs.Prelude.{◌≡◌};
 ghost use Rattle.driver_script.specs.Lines as spec;
 
-use run_data::{Job, JobKind, LogFile};
+use run_data::{JobKind, LogFile};
 use script_lang::{Action, Command, Showing};
 
 /// Whether the repository speaks the newest version, and gives holds to its peers.
@@ -32,11 +32,16 @@ fn is_shown(file: &LogFile) -> bool
     }
 }
 
-/// Whether the job is a drop at its own repository.
-fn is_local_drop(job: &Job) -> bool
-    ensures { result ≡ spec.is_local_drop job.now }
+/// Whether a job of this kind with this peer is a drop of the repository's own copy, a get, or a copy to a peer.
+fn is_built_job(kind: JobKind, peer: Option<u32>) -> bool
+    ensures { result ≡ spec.is_built_job kind peer }
 {
-    job.kind == JobKind::Drop && job.peer.is_none()
+    match kind {
+        JobKind::Drop => peer.is_none(),
+        JobKind::Get => true,
+        JobKind::Copy => peer.is_some(),
+        JobKind::MoveTo | JobKind::MoveFrom => false,
+    }
 }
 
 /// Whether no part is missing for the action.
@@ -45,7 +50,7 @@ fn does(action: &Action) -> bool
 {
     match action {
         Action::Raw { file, .. } => is_added(file),
-        Action::Begin { job, .. } | Action::Run { job, .. } => is_local_drop(job),
+        Action::Begin { job, .. } | Action::Run { job, .. } => is_built_job(job.kind, job.peer),
         Action::Have { .. }
         | Action::Add { .. }
         | Action::File { .. }

@@ -1,15 +1,18 @@
 -- A job that begins at a node: a fleet goes on as the driver does.
 use Rattle.std.proofs.Common.{◌≡◌, ℕ, ◌+◌, ◌<◌, ◌≤◌, ◌^◌, ◌⊎◌, false, List, [], Option, Some, None, Result, Ok, Err, inl, inr, length, refl, sym, ap, ◌∙◌, subst}
-use Rattle.std.specs.Prelude.{IfOk, IsErrOf, OnErr, OnOk}
-use Rattle.std.proofs.lemmas.List.{length-reverse}
+use Rattle.std.specs.Prelude.{◌==◌, IfOk, IsErrOf, OnErr, OnOk, slice_get}
+use Rattle.std.proofs.lemmas.Bool.{eqb-false}
+use Rattle.std.proofs.lemmas.List.{length-map, length-reverse}
+use Rattle.annex_base.proofs.Lists.{slice_get-within}
 use Rattle.annex_key.specs.Tree.{paths_of}
+use Rattle.annex_key.specs.View.{first_fault}
 use Rattle.run_data.specs.declared.job.JobKind.{JobKind}
+use Rattle.run_data.specs.declared.run.RepoView.{RepoView}
 use Rattle.run_data.specs.declared.run.Run.{Run}
-use Rattle.node_model.specs.AnyTime.{IsPeer, needs_peer}
 use Rattle.run_data.specs.declared.job.Job.{Job}
 use Rattle.run_model.specs.Run.{tree_at}
 use Rattle.driver_model.specs.Driver.{Driver, DriverInput, set_up_of}
-use Rattle.driver_model.specs.Scripts.{IsKnown}
+use Rattle.driver_model.specs.Scripts.{IsJob, IsKnown, IsOther}
 use Rattle.driver_model.specs.ScriptSteps.{begins}
 use Rattle.driver_model.specs.Sound.{StaysSound}
 use Rattle.fleet_entries.specs.Beginning.{Begins, MayBegin}
@@ -23,14 +26,17 @@ use Rattle.fleet_entries.specs.Nodes.{IsState, NodeView, state_of, told_of, with
 use Rattle.fleet_entries.specs.Stored.{StoreView}
 use Rattle.fleet_entries.specs.declared.BeginRefused.{BeginRefused}
 use Rattle.fleet_entries.specs.Fleets.{FleetView, HasCome, IsNodeOf}
+use Rattle.fleet_entries.specs.Joined.{ids_of}
 use Rattle.fleet_entries.specs.Stores.{IsTold}
 use Rattle.fleet_entries.specs.Turns.{IsWhole}
 use Rattle.fleet_entries.specs.Steps.{OneGoesOn, with_newest}
-use Rattle.fleet_entries.specs.AtDriver.{GoesOn}
+use Rattle.fleet_entries.specs.Telling.{Raises}
+use Rattle.fleet_entries.specs.AtDriver.{GoesOn, IsDriven}
 use Rattle.run_data.specs.declared.entry.EntryKind.TheVariants as kinds
 use Rattle.run_data.specs.declared.job.JobKind.TheVariants as job_kinds
 use Rattle.fleet_entries.specs.declared.BeginRefused.TheVariants as refusals
-use Rattle.fleet_entries.proofs.Called.{IsCalled, goes_on}
+use Rattle.fleet_entries.proofs.Called.{IsCalled, goes_on, raised_is}
+use Rattle.fleet_keys.specs.Jobs.{MayBeginAmong}
 
 -- ---- jobs
 
@@ -81,7 +87,7 @@ paths_now tells g d was key come = ap (λ (run : Run). paths_in run key) come.ru
 
 pub begins_go : {K : Type 0} (tells : K → StoreView) (r : ℕ) (was up after : FleetView K) (job : Job) (paths : List (List ℕ)) (done : Result ℕ BeginRefused) → paths ≡ paths_in was.run job.key → JobLaw tells → NoSlotLaw tells → r < length was.nodes
     → IsCalled tells r was up after (BeginsJob job paths done) → ((number : ℕ) × (done ≡ Ok number)) ⊎ (done ≡ Err refusals.NoSlot)
-    → ((g : DriverInput) (d : Driver) → IsKnown g r → StaysSound g d (begins r job d)) → GoesOn tells (λ g d. begins r job d) was after
+    → ((g : DriverInput) (d : Driver) → length was.nodes ≡ length g.repos → IsKnown g r → StaysSound g d (begins r job d)) → GoesOn tells (λ g d. begins r job d) was after
 begins_go {K} tells r was up after job paths done are law no_slot there call (inl e) sound =
     goes_on tells (λ g d. begins r job d) r was up after (BeginsJob job paths done) there call
     (λ g d come known s.
@@ -90,27 +96,54 @@ begins_go {K} tells r was up after job paths done are law no_slot there call (in
     (subst (λ (a : Result ℕ BeginRefused). IfOk a (λ number. number ≡ n.parts.jobs.begun + 1)) e.1 s.holds.number) (s.holds.free (begun_or_not done e.0 e.1))
     (subst (λ (a : Result ℕ BeginRefused). OnOk a (Begins n.parts.jobs job paths s.left.parts.jobs)) e.1 s.holds.jobs)
     (subst (λ (a : Result ℕ BeginRefused). IfOk a (λ number. s.left ≡ record (with_entry n n.keeper n.branch (kinds.Begin number job) []) { parts = record n.parts { jobs = s.left.parts.jobs } })) e.1 s.holds.ok)
-    s.early s.counted (sound g d known))
+    s.early s.counted (sound g d come.count known))
 begins_go {K} tells r was up after job paths done are law no_slot there call (inr e) sound =
     goes_on tells (λ g d. begins r job d) r was up after (BeginsJob job paths done) there call
     (λ g d come known s.
     no_slot g d r s.before s.left was after job come s.goes (has_parts tells g d r s.before (come.each r s.before s.goes.before) s.whole) (s.holds.slot e)
     (subst (λ (a : Result ℕ BeginRefused). OnErr a (s.left ≡ with_newest d s.before)) e s.holds.err)
-    s.early s.counted (sound g d known))
+    s.early s.counted (sound g d come.count known))
 
 -- the same, where the node was given a copy of the job
 pub begins_go_so : {K : Type 0} (tells : K → StoreView) (r : ℕ) (was up after : FleetView K) (job job' : Job) (paths : List (List ℕ)) (done : Result ℕ BeginRefused) → job' ≡ job → paths ≡ paths_in was.run job.key → JobLaw tells → NoSlotLaw tells → r < length was.nodes
     → IsCalled tells r was up after (BeginsJob job' paths done) → ((number : ℕ) × (done ≡ Ok number)) ⊎ (done ≡ Err refusals.NoSlot)
-    → ((g : DriverInput) (d : Driver) → IsKnown g r → StaysSound g d (begins r job d)) → GoesOn tells (λ g d. begins r job d) was after
+    → ((g : DriverInput) (d : Driver) → length was.nodes ≡ length g.repos → IsKnown g r → StaysSound g d (begins r job d)) → GoesOn tells (λ g d. begins r job d) was after
 begins_go_so {K} tells r was up after job job' paths done same are law no_slot there call ended sound =
     begins_go tells r was up after job paths done are law no_slot there (subst (λ (j : Job). IsCalled tells r was up after (BeginsJob j paths done)) same call) ended sound
 
--- a drop of its own copy has no peer
-pub local_peer : (s : SetUp) (kind : JobKind) (peer : Option ℕ) → kind ≡ job_kinds.Drop → peer ≡ None → IsPeer s kind peer
-local_peer s kind peer is_drop is_none = subst (λ (o : Option ℕ). IsPeer s kind o) (sym is_none) (subst (λ (k : JobKind). needs_peer k ≡ false) (sym is_drop) refl)
+-- ---- which jobs
 
--- and may begin at any repository
-pub local_begins : (number : ℕ) (ids : List (List ℕ)) (what job : Job) → job ≡ what → what.kind ≡ job_kinds.Drop → what.peer ≡ None → MayBegin (record { number = number; ids = ids }) job.kind job.peer
-local_begins number ids what job same is_drop is_none =
-    subst (λ (o : Option ℕ). MayBegin (record { number = number; ids = ids }) job.kind o) (sym (ap (λ (j : Job). j.peer) same ∙ is_none))
-    (subst (λ (k : JobKind). MayBegin (record { number = number; ids = ids }) k None) (sym (ap (λ (j : Job). j.kind) same ∙ is_drop)) tt)
+-- another of these repositories is another of the driver's
+other_is : (g : DriverInput) (r : ℕ) (ids : List (List ℕ)) (other : ℕ) → length ids ≡ length g.repos → (other < length ids) × ((r == other) ≡ false) → IsOther g r other
+other_is g r ids other many is = (subst (λ (count : ℕ). other < count) many is.0, (λ same. eqb-false r other is.1 (sym same)))
+
+-- a job that may begin among these repositories is one that the driver's may begin
+one_job : (g : DriverInput) (r : ℕ) (ids : List (List ℕ)) (kind : JobKind) (key : List ℕ) (path : Option (List ℕ)) (peer : Option ℕ) → length ids ≡ length g.repos → first_fault key ≡ None
+    → MayBegin (record { number = r; ids = ids }) kind peer → IsJob g r (record { kind = kind; key = key; path = path; peer = peer })
+one_job g r ids job_kinds.Drop key path None many valid may = record { peer = refl; valid = valid }
+one_job g r ids job_kinds.Get key path None many valid may = record { peer = refl; valid = valid }
+one_job g r ids job_kinds.Get key path (Some peer) many valid may = record { peer = other_is g r ids peer many may; valid = valid }
+one_job g r ids job_kinds.Copy key path (Some peer) many valid may = record { peer = other_is g r ids peer many may; valid = valid }
+one_job g r ids job_kinds.Drop key path (Some peer) many valid may = absurd may
+one_job g r ids job_kinds.Copy key path None many valid may = absurd may
+one_job g r ids job_kinds.MoveTo key path peer many valid may = absurd may
+one_job g r ids job_kinds.MoveFrom key path peer many valid may = absurd may
+
+pub begun_job : (g : DriverInput) (r count : ℕ) (job : Job) → count ≡ length g.repos → MayBeginAmong count r job → first_fault job.key ≡ None → IsJob g r job
+begun_job g r count job many may valid =
+    let long : length (ids_of g.repos) ≡ length g.repos = length-map g.repos (λ (repo : RepoView). repo.id) in
+    one_job g r (ids_of g.repos) job.kind job.key job.path job.peer long valid (may (ids_of g.repos) (long ∙ sym many))
+
+-- and a job that may begin among all may begin at their node, once this was raised
+pub node_begins : {K : Type 0} (tells : K → StoreView) (r had : ℕ) (was up : FleetView K) (what job : Job) → IsDriven tells was → Raises tells r had was up → r < length was.nodes → job ≡ what → MayBeginAmong (length was.nodes) r what
+    → (n : NodeView K) → slice_get up.nodes r ≡ Some n → MayBegin (record { number = n.setup.number; ids = n.setup.repos }) job.kind job.peer
+node_begins {K} tells r had was up what job driven raises there same may n at =
+    let found : (b : NodeView K) × (slice_get was.nodes r ≡ Some b) = slice_get-within was.nodes r there in
+    let b : NodeView K = found.0 in
+    let come : HasCome tells driven.given driven.driver was = driven.stands.come in
+    let setup = (come.each r b found.1).setup in
+    let is : n ≡ with_newest driven.driver b = raised_is tells driven.given driven.driver r had was up b n come raises found.1 at in
+    let many : length b.setup.repos ≡ length was.nodes = sym (ap length setup.ids) ∙ (length-map driven.given.repos (λ (repo : RepoView). repo.id) ∙ sym come.count) in
+    subst (λ (x : NodeView K). MayBegin (record { number = x.setup.number; ids = x.setup.repos }) job.kind job.peer) (sym is)
+    (subst (λ (j : Job). MayBegin (record { number = b.setup.number; ids = b.setup.repos }) j.kind j.peer) (sym same)
+    (subst (λ (number : ℕ). MayBegin (record { number = number; ids = b.setup.repos }) what.kind what.peer) setup.number (may b.setup.repos many)))

@@ -1,10 +1,10 @@
-//! What a script does with keys: paths that name them, contents that nodes get, and drops that begin.
+//! What a script does with keys: paths that name them, contents that nodes get, and jobs that begin.
 #![tactic(auto)]
 
 mod contents;
-mod drops;
+mod jobs;
 mod naming;
 
 pub use contents::{fail_next, place};
-pub use drops::begin;
+pub use jobs::begin;
 pub use naming::enter;

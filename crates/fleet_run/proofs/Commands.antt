@@ -1,11 +1,11 @@
 -- What each form of line has where it stands, and that the driver's step of it is that of its form.
-use Rattle.std.proofs.Common.{◌≡◌, ◌≢◌, ℕ, ◌+◌, ◌<◌, ◌≤◌, ◌^◌, ◌⊎◌, inl, inr, Bool, true, false, List, [], Some, None, length, refl, sym, ap, ◌∙◌, subst, arith}
-use Rattle.std.specs.Prelude.{if◌then◌else◌, is_none, nat_lt}
+use Rattle.std.proofs.Common.{◌≡◌, ◌≢◌, ℕ, ◌+◌, ◌<◌, ◌≤◌, ◌^◌, ◌⊎◌, inl, inr, Bool, true, false, List, [], Option, Some, None, length, refl, sym, ap, ◌∙◌, subst, arith}
+use Rattle.std.specs.Prelude.{◌==◌, IfSome, if◌then◌else◌, nat_lt}
 use Rattle.std.proofs.lemmas.Bool.Decides.{nat_tests}
-use Rattle.std.proofs.lemmas.Bool.{and_parts}
 use Rattle.annex_base.specs.Lines.{IsOneLine}
+use Rattle.annex_base.proofs.Conditions.{eqb_other}
 use Rattle.annex_base.proofs.Lines.{one_line-members}
-use Rattle.annex_base.proofs.Options.{is_none_true}
+use Rattle.annex_base.proofs.Numbers.{below_more}
 use Rattle.run_data.specs.Files.{HasPath, kind_of}
 use Rattle.run_data.specs.declared.entry.LogFile.{LogFile}
 use Rattle.run_data.specs.declared.job.Job.{Job}
@@ -19,9 +19,11 @@ use Rattle.script_lang.specs.Limits.{first_limit, passed_by}
 use Rattle.script_lang.specs.Context.{Context}
 use Rattle.script_lang.specs.Preconditions.{IsLogFile, IsSmall}
 use Rattle.script_forms.specs.declared.fault.Quantity.TheVariants.{Time}
-use Rattle.driver_script.specs.Lines.{is_added, is_built, is_built_action, is_drop, is_local_drop}
+use Rattle.driver_script.specs.Lines.{is_added, is_built, is_built_action, is_built_job}
+use Rattle.fleet_entries.specs.Beginning.{MayBegin}
 use Rattle.fleet_entries.specs.Stored.{StoreView}
 use Rattle.fleet_entries.specs.Fleets.{FleetView}
+use Rattle.fleet_keys.specs.Jobs.{MayBeginAmong}
 use Rattle.fleet_run.specs.Commands.{MayBeDone, does_command}
 use Rattle.fleet_entries.specs.AtDriver.{GoesOn, StopsWithin}
 use Rattle.run_data.specs.declared.entry.LogFile.TheVariants as files
@@ -100,19 +102,24 @@ added_kind (files.Other name) added none = absurd (cc)
 pub short_content : (content : List ℕ) → IsSmall content → length content < 2 ^ 62
 short_content content small = grind arith
 
--- a job that is built drops at its own repository
-drops : (kind : JobKind) → is_drop kind ≡ true → kind ≡ job_kinds.Drop
-drops job_kinds.Drop is = refl
-drops job_kinds.Get is = absurd (cc)
-drops job_kinds.Copy is = absurd (cc)
-drops job_kinds.MoveTo is = absurd (cc)
-drops job_kinds.MoveFrom is = absurd (cc)
+-- another repository of the script is another of so many
+other_of : (context : Context) (r other : ℕ) (ids : List (List ℕ)) → length context.repos ≤ length ids → script.AreTwo context r other → (other < length ids) × ((r == other) ≡ false)
+other_of context r other ids few two = (below_more other (length context.repos) (length ids) two.second few, eqb_other r other (λ same. two.distinct (sym same)))
 
-pub local_drops : (job : Job) → is_local_drop job ≡ true → job.kind ≡ job_kinds.Drop
-local_drops job is = drops job.kind (and_parts (is_drop job.kind) (is_none job.peer) is).0
+-- a job that is built may begin among so many repositories, where its line stands
+job_begins : (context : Context) (r : ℕ) (kind : JobKind) (peer : Option ℕ) (ids : List (List ℕ)) → length context.repos ≤ length ids → is_built_job kind peer ≡ true → IfSome peer (λ p. script.AreTwo context r p)
+    → MayBegin (record { number = r; ids = ids }) kind peer
+job_begins context r job_kinds.Drop None ids few built two = tt
+job_begins context r job_kinds.Get None ids few built two = tt
+job_begins context r job_kinds.Get (Some peer) ids few built two = other_of context r peer ids few two
+job_begins context r job_kinds.Copy (Some peer) ids few built two = other_of context r peer ids few two
+job_begins context r job_kinds.Drop (Some peer) ids few built two = absurd (cc)
+job_begins context r job_kinds.Copy None ids few built two = absurd (cc)
+job_begins context r job_kinds.MoveTo peer ids few built two = absurd (cc)
+job_begins context r job_kinds.MoveFrom peer ids few built two = absurd (cc)
 
-pub local_alone : (job : Job) → is_local_drop job ≡ true → job.peer ≡ None
-local_alone job is = is_none_true job.peer (and_parts (is_drop job.kind) (is_none job.peer) is).1
+pub may_begin : (context : Context) (r : ℕ) (job : Job) (count : ℕ) → length context.repos ≤ count → is_built_job job.kind job.peer ≡ true → script.IsJob context r job → MayBeginAmong count r job
+may_begin context r job count few built stands ids many = job_begins context r job.kind job.peer ids (subst (λ (n : ℕ). length context.repos ≤ n) (sym many) few) built stands.peer
 
 -- a wait that passes no limit ends in time
 pub in_time : (waited milliseconds : ℕ) → passed_by Time (waited + milliseconds) None ≡ None → waited + milliseconds ≤ 1000000000000

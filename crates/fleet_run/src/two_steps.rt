@@ -9,6 +9,7 @@ ghost use Rattle.driver_model.specs.Rounds.{settles};
 ghost use Rattle.driver_model.specs.ScriptSteps.{begins};
 ghost use Rattle.fleet_entries.specs.Stored.{store_view};
 ghost use Rattle.fleet_entries.specs.AtDriver.{EndsAtFull, GoesOn, IsDriven, OnlyAddsBehind, OnlyAddsEntries, StopsWithin};
+ghost use Rattle.fleet_keys.specs.Jobs.{MayBeginAmong};
 ghost use Rattle.fleet_run.specs.Commands.{CutsAt, HasRoomFor, does_command};
 
 use annex_base::Text;
@@ -18,7 +19,7 @@ use fleet_entries::{FleetStop, Running};
 use fleet_keys::{begin, enter, place};
 use fleet_turns::settle;
 use object_store::FailingKeeper;
-use run_data::{Job, JobKind};
+use run_data::Job;
 use script_words::Content;
 
 /// The path names the key, and then the content is there, as `has` has it.
@@ -47,7 +48,7 @@ pub fn add<K: FailingKeeper>(
     place(running, repo, key, content)
 }
 
-/// Such a drop begins, and then all settles.
+/// The job begins, and then all settles.
 pub fn begin_and_settle<K: FailingKeeper>(
     running: &mut Running<K>,
     repo: u32,
@@ -55,8 +56,7 @@ pub fn begin_and_settle<K: FailingKeeper>(
 ) -> Result<(), FleetStop>
     requires there { repo < length running.old.nodes }
     requires driven { IsDriven (λ k. store_view (K.contents k) (K.parts k) (K.failing k) (K.faults k)) running.old }
-    requires kind { job.now.kind ≡ JobKind.Drop }
-    requires peer { job.now.peer ≡ None }
+    requires may { MayBeginAmong (length running.old.nodes) repo job.now }
     requires key { first_fault job.now.key ≡ None }
     ensures ok { OnOk result (GoesOn (λ k. store_view (K.contents k) (K.parts k) (K.failing k) (K.faults k)) (λ g d. settles g (begins repo job.now d)) running.old running.new) }
     ensures full { (r : ℕ) → result ≡ Err (FleetStop.Full r) → EndsAtFull (λ k. store_view (K.contents k) (K.parts k) (K.failing k) (K.faults k)) r (λ g d. settles g (begins repo job.now d)) running.old running.new }

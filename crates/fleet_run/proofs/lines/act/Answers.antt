@@ -4,7 +4,7 @@ use Rattle.annex_base.proofs.Numbers.{below_more}
 use Rattle.fleet_entries.specs.Stored.{StoreView, store_view}
 use Rattle.script_commands.specs.declared.command.Action.TheVariants as actions
 use Rattle.script_commands.specs.declared.command.Command.TheVariants as commands
-use Rattle.fleet_run.proofs.Commands.{added_kind, added_path, as_form, built_as, file_line, in_time, local_alone, local_drops, never_acts, short_content, stands_as, stops_as, within_as}
+use Rattle.fleet_run.proofs.Commands.{added_kind, added_path, as_form, built_as, file_line, in_time, may_begin, never_acts, short_content, stands_as, stops_as, within_as}
 use Rattle.fleet_entries.proofs.Ended.{on_ok}
 use Rattle.fleet_run.proofs.Cutting.{CutLaws, always_ok, cut_as, form_ends, have_cuts, room_as, room_had, room_unasked}
 use Rattle.fleet_entries.proofs.Full.{behind}
@@ -182,11 +182,10 @@ begin-requires-clause-there g c = below_more c.in-Begin.repo (length c.requires.
 pub begin-requires-clause-driven : goal.begin-requires-clause-driven
 begin-requires-clause-driven g c = c.requires.driven
 
-pub begin-requires-clause-kind : goal.begin-requires-clause-kind
-begin-requires-clause-kind g c = local_drops c.in-Begin.job (built_as c.args.action.now (actions.Begin c.in-Begin.repo c.in-Begin.job) c.in-Begin.is c.requires.may.built)
-
-pub begin-requires-clause-peer : goal.begin-requires-clause-peer
-begin-requires-clause-peer g c = local_alone c.in-Begin.job (built_as c.args.action.now (actions.Begin c.in-Begin.repo c.in-Begin.job) c.in-Begin.is c.requires.may.built)
+pub begin-requires-clause-may : goal.begin-requires-clause-may
+begin-requires-clause-may g c =
+    may_begin c.requires.may.context c.in-Begin.repo c.in-Begin.job (length c.args.running.now.nodes) c.requires.may.repos (built_as c.args.action.now (actions.Begin c.in-Begin.repo c.in-Begin.job) c.in-Begin.is c.requires.may.built)
+    (stands_as c.requires.may.context c.args.action.now (actions.Begin c.in-Begin.repo c.in-Begin.job) c.in-Begin.is c.requires.may.stands)
 
 pub begin-requires-clause-key : goal.begin-requires-clause-key
 begin-requires-clause-key g c = (c.key_texts_have_no_fault.ensures.sound c.in-Begin.job.key).1 (stands_as c.requires.may.context c.args.action.now (actions.Begin c.in-Begin.repo c.in-Begin.job) c.in-Begin.is c.requires.may.stands).key.text
@@ -209,11 +208,10 @@ begin_and_settle-requires-clause-there g c = below_more c.in-Run.repo (length c.
 pub begin_and_settle-requires-clause-driven : goal.begin_and_settle-requires-clause-driven
 begin_and_settle-requires-clause-driven g c = c.requires.driven
 
-pub begin_and_settle-requires-clause-kind : goal.begin_and_settle-requires-clause-kind
-begin_and_settle-requires-clause-kind g c = local_drops c.in-Run.job (built_as c.args.action.now (actions.Run c.in-Run.repo c.in-Run.job) c.in-Run.is c.requires.may.built)
-
-pub begin_and_settle-requires-clause-peer : goal.begin_and_settle-requires-clause-peer
-begin_and_settle-requires-clause-peer g c = local_alone c.in-Run.job (built_as c.args.action.now (actions.Run c.in-Run.repo c.in-Run.job) c.in-Run.is c.requires.may.built)
+pub begin_and_settle-requires-clause-may : goal.begin_and_settle-requires-clause-may
+begin_and_settle-requires-clause-may g c =
+    may_begin c.requires.may.context c.in-Run.repo c.in-Run.job (length c.args.running.now.nodes) c.requires.may.repos (built_as c.args.action.now (actions.Run c.in-Run.repo c.in-Run.job) c.in-Run.is c.requires.may.built)
+    (stands_as c.requires.may.context c.args.action.now (actions.Run c.in-Run.repo c.in-Run.job) c.in-Run.is c.requires.may.stands)
 
 pub begin_and_settle-requires-clause-key : goal.begin_and_settle-requires-clause-key
 begin_and_settle-requires-clause-key g c = (c.key_texts_have_no_fault.ensures.sound c.in-Run.job.key).1 (stands_as c.requires.may.context c.args.action.now (actions.Run c.in-Run.repo c.in-Run.job) c.in-Run.is c.requires.may.stands).key.text

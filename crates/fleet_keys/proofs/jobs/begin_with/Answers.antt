@@ -1,20 +1,23 @@
--- What the proof of `drops::begin_with` needs beside the tactics.
-use Rattle.std.proofs.Common.{[], ap, refl, ◌∙◌}
+-- What the proof of `jobs::begin_with` needs beside the tactics.
+use Rattle.std.proofs.Common.{ap, length, refl, ◌∙◌}
 use Rattle.fleet_entries.specs.Stored.{StoreView, store_view}
 use Rattle.driver_model.specs.ScriptSteps.{begins}
 use Rattle.fleet_entries.specs.AtDriver.{EndsAtFull}
 use Rattle.fleet_entries.specs.Fleets.{FleetView}
-use Rattle.fleet_keys.proofs.Beginning.{BeginsJob, begins_go_so, local_begins, local_peer}
+use Rattle.fleet_keys.proofs.Beginning.{BeginsJob, begins_go_so, begun_job, node_begins}
 use Rattle.fleet_entries.proofs.Called.{called, seen_as}
 use Rattle.fleet_keys.proofs.Growing.{begin_grows}
 use Rattle.fleet_entries.proofs.Growing.{had_at_most}
 use Rattle.fleet_keys.proofs.FullJobs.{RefusesJob, begins_end, refuses_job}
 use Rattle.fleet_entries.proofs.Full.{ends_for, rest_on, rest_where_same}
 use Rattle.fleet_entries.proofs.Starts.{always_err, call_ends, few_told, start_full, start_same}
-use Rattle.fleet_keys.proofs.drops.begin_with.Goals as goal
+use Rattle.fleet_keys.proofs.jobs.begin_with.Goals as goal
 
 pub begin-begun-requires-clause-may : goal.begin-begun-requires-clause-may
-begin-begun-requires-clause-may g c = λ n at. local_begins n.setup.number n.setup.repos c.args.job.now c.in_ok-job.job c.in_ok-job.ensures c.requires.kind c.requires.peer
+begin-begun-requires-clause-may g c =
+    let tells : g.row.K.Denot → StoreView = λ k. store_view (g.K.Keeper.contents k) (g.K.Keeper.parts k) (g.K.Keeper.failing k) (g.K.Keeper.faults k) in
+    node_begins tells c.args.repo c.raise-had.result c.args.running.now (record { nodes = c.running.inside.nodes; run = c.running.inside.run }) c.args.job.now c.in_ok-job.job c.requires.driven
+    (seen_as tells c.args.repo c.raise-had.result c.args.running.now c.raise-had.new.self c.running.inside.nodes c.running.inside.run c.running.view_is c.raise-had.ensures) c.requires.there c.in_ok-job.ensures c.requires.may
 
 pub end_call-requires-clause-had : goal.end_call-requires-clause-had
 end_call-requires-clause-had g c =
@@ -53,7 +56,7 @@ returns g c =
       err = c.begin-begun.ensures.err n m at_n at_m;
     })
     told)
-    ended (λ given d known. c.drivers_stay_sound.ensures.begins given c.args.repo c.args.job.now d known (record { peer = local_peer (record { number = c.args.repo; repos = given.repos; paths = λ j. [] }) c.args.job.now.kind c.args.job.now.peer c.requires.kind c.requires.peer; valid = c.requires.key })))
+    ended (λ given d many known. c.drivers_stay_sound.ensures.begins given c.args.repo c.args.job.now d known (begun_job given c.args.repo (length c.args.running.now.nodes) c.args.job.now many c.requires.may c.requires.key)))
     (λ all told r e. let full = c.after_begin-line.ensures.full r e in
     ends_for tells c.args.repo r (λ given d. begins c.args.repo c.args.job.now d) c.args.running.now all full.0
     (begins_end tells c.args.repo c.args.running.now (record { nodes = c.running.inside.nodes; run = c.running.inside.run }) all c.args.job.now (c.fleets_stop_at_full_histories.ensures.job tells) c.requires.there

@@ -6,13 +6,14 @@ ghost use Rattle.fleet_entries.specs.Stored.{store_view};
 ghost use Rattle.run_model.specs.Run.{tree_at};
 ghost use Rattle.driver_model.specs.ScriptSteps.{begins};
 ghost use Rattle.fleet_entries.specs.AtDriver.{EndsAtFull, GoesOn, IsDriven, OnlyAddsEntries, StopsWithin};
+ghost use Rattle.fleet_keys.specs.Jobs.{MayBeginAmong};
 
 use crate::naming::paths;
 use annex_base::{Items, NoMemory, Text};
 use driver_model::{drivers_only_add, drivers_stay_sound};
 use fleet_entries::{FleetStop, Running, fleets_do_lines, fleets_stop_at_full_histories};
 use object_store::FailingKeeper;
-use run_data::{Job, JobKind};
+use run_data::Job;
 
 /// A copy of the job.
 fn copied(job: &Job) -> Result<Job, NoMemory>
@@ -21,7 +22,7 @@ fn copied(job: &Job) -> Result<Job, NoMemory>
     Ok(job.clone()?)
 }
 
-/// A drop of the repository's own copy begins where fewer than four jobs run.
+/// A job begins where fewer than four run: a drop of the repository's own copy, a get, or a copy to another repository.
 pub fn begin<K: FailingKeeper>(
     running: &mut Running<K>,
     repo: u32,
@@ -29,8 +30,7 @@ pub fn begin<K: FailingKeeper>(
 ) -> Result<(), FleetStop>
     requires there { repo < length running.old.nodes }
     requires driven { IsDriven (λ k. store_view (K.contents k) (K.parts k) (K.failing k) (K.faults k)) running.old }
-    requires kind { job.now.kind ≡ JobKind.Drop }
-    requires peer { job.now.peer ≡ None }
+    requires may { MayBeginAmong (length running.old.nodes) repo job.now }
     requires key { first_fault job.now.key ≡ None }
     ensures ok { OnOk result (GoesOn (λ k. store_view (K.contents k) (K.parts k) (K.failing k) (K.faults k)) (λ g d. begins repo job.now d) running.old running.new) }
     ensures full { (r : ℕ) → result ≡ Err (FleetStop.Full r) → EndsAtFull (λ k. store_view (K.contents k) (K.parts k) (K.failing k) (K.faults k)) r (λ g d. begins repo job.now d) running.old running.new }
@@ -52,8 +52,7 @@ fn begin_with<K: FailingKeeper>(
 ) -> Result<(), FleetStop>
     requires there { repo < length running.old.nodes }
     requires driven { IsDriven (λ k. store_view (K.contents k) (K.parts k) (K.failing k) (K.faults k)) running.old }
-    requires kind { job.now.kind ≡ JobKind.Drop }
-    requires peer { job.now.peer ≡ None }
+    requires may { MayBeginAmong (length running.old.nodes) repo job.now }
     requires key { first_fault job.now.key ≡ None }
     requires paths { paths ≡ paths_of (tree_at running.old.run.tree (length running.old.run.entries)) job.now.key }
     ensures ok { OnOk result (GoesOn (λ k. store_view (K.contents k) (K.parts k) (K.failing k) (K.faults k)) (λ g d. begins repo job.now d) running.old running.new) }

@@ -1,16 +1,20 @@
--- What the proof of `drops::begin` needs beside the tactics.
+-- What the proof of `jobs::begin` needs beside the tactics.
 use Rattle.std.proofs.Common.{◌<◌, ◌≡◌, ap, length, subst, sym, ◌∙◌}
 use Rattle.fleet_entries.specs.Stored.{StoreView, store_view}
 use Rattle.driver_model.specs.ScriptSteps.{begins}
 use Rattle.fleet_entries.specs.Fleets.{FleetView}
 use Rattle.fleet_entries.specs.AtDriver.{IsDriven}
+use Rattle.fleet_keys.specs.Jobs.{MayBeginAmong}
 use Rattle.fleet_keys.proofs.Beginning.{paths_in}
 use Rattle.fleet_entries.proofs.Full.{rest_where_same}
 use Rattle.fleet_entries.proofs.Starts.{always_err, start_same}
-use Rattle.fleet_keys.proofs.drops.begin.Goals as goal
+use Rattle.fleet_keys.proofs.jobs.begin.Goals as goal
 
 pub begin_with-requires-clause-there : goal.begin_with-requires-clause-there
 begin_with-requires-clause-there g c = subst (λ (f : FleetView g.row.K.Denot). c.args.repo < length f.nodes) (sym c.paths.ensures.same) c.requires.there
+
+pub begin_with-requires-clause-may : goal.begin_with-requires-clause-may
+begin_with-requires-clause-may g c = subst (λ (f : FleetView g.row.K.Denot). MayBeginAmong (length f.nodes) c.args.repo c.args.job.now) (sym c.paths.ensures.same) c.requires.may
 
 pub begin_with-requires-clause-driven : goal.begin_with-requires-clause-driven
 begin_with-requires-clause-driven g c =
