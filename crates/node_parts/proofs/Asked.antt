@@ -1,4 +1,4 @@
--- The part that a taken frame asks a session for, and what the step leaves of the store.
+-- The part that a step asks for, and what the step leaves of the store.
 use Rattle.std.proofs.Common.{◌≡◌, ℕ, Bool, true, false, List, Option, Some, None, refl, sym, ap, subst, ◌∙◌}
 use Rattle.std.specs.Prelude.{find, if◌then◌else◌, not}
 use Rattle.std.specs.Option.{ForSome, option_and_then, option_map, option_map_or}
@@ -22,8 +22,13 @@ use Rattle.p2p_server.specs.Answers.{contents_after}
 use Rattle.node_sessions.specs.Stored.{bytes_at, contents_left, parts_after_taken, parts_left}
 use Rattle.node_parts.specs.declared.done.Done.{Done}
 use Rattle.node_parts.specs.Parts.{PartsView}
-use Rattle.node_parts.specs.Steps.{HasPart, IsPartAsked, made_of, session_asked}
-use Rattle.node_parts.specs.Stored.{bytes_taken, contents_then, end_of_frame, parts_then}
+use Rattle.node_model.specs.Slots.{job_of}
+use Rattle.node_tasks.specs.declared.task.Task.{Task}
+use Rattle.node_tasks.specs.Tasks.{work_now}
+use Rattle.running_jobs.specs.Acting.{SeesPartAt as JobSeesPartAt}
+use Rattle.running_jobs.specs.Running.{job_at}
+use Rattle.node_parts.specs.Steps.{HasPart, IsPartAsked, job_acting, made_of, session_asked}
+use Rattle.node_parts.specs.Stored.{bytes_taken, contents_then, end_of_frame, parts_after_work, parts_by_job, parts_by_session, parts_then}
 
 -- ---- a frame that waits
 
@@ -93,25 +98,44 @@ taken_same links v d same = ap (λ (m : Effect). m.taken) (made_same links v d s
 pub kind_same : (links : List EndView) (v : Served) (d : Done) → option_map made_of (Some d) ≡ option_map (made_by links) (Some v) → d.kind ≡ v.kind
 kind_same links v d same = ap (λ (m : Effect). m.kind) (made_same links v d same)
 
+-- ---- an entry of no job
+
+module _ (p : PartsView) (kind : EntryKind) (none : job_of kind ≡ None) where
+  no_job_acts : job_acting p kind ≡ None
+  no_job_acts = ap (option_and_then (job_at p.jobs.running)) none
+
+  pub no_job_asks : (known : Option StoredParts) (taken : Option FrameView) (part : ℕ) (right : Bool) → ForSome (job_acting p kind) (λ (t : Task). JobSeesPartAt known t taken part right)
+  no_job_asks known taken part right = λ t at. absurd (some_none t (sym at ∙ no_job_acts))
+
+pub no_job_takes : (p : PartsView) (d : Done) (known : Option StoredParts) → job_of d.kind ≡ None → parts_by_job p d known ≡ known
+no_job_takes p d known none = ap (λ (o : Option Task). option_map_or (λ (t : Task). parts_after_work (work_now t) d.taken (bytes_taken p.links d.taken) d.kind known) o known) (no_job_acts p d.kind none)
+
+-- what was done is an entry of no job
+abbrev pub IsOfNoJob : Option Done → Type 0
+IsOfNoJob o = ForSome o (λ d. job_of d.kind ≡ None)
+
 module _ (p : PartsView) where
   -- a look finds the part that the sessions ask for
   pub asks_of : (known : Option StoredParts) (o : Option Served) (d : Option Done) → option_map made_of d ≡ option_map (made_by p.links) o → (part : ℕ) (right : Bool)
-      → ForSome d (λ x. IsPartAsked known p x.taken part right) → SeesPartBy known p.sessions p.links o part right
+      → ForSome d (λ x. IsPartAsked known p x.kind x.taken part right) → SeesPartBy known p.sessions p.links o part right
   asks_of known None d same part right asks = λ v is. absurd (some_none v (sym is))
   asks_of known (Some v) None same part right asks = absurd (some_none (made_by p.links v) (sym same))
   asks_of known (Some v) (Some d) same part right asks = λ w is.
       subst (λ (y : Served). SeesPartAt known (server_in p.sessions y) (taken_by p.links y) part right) (same_Some v w is)
       (to_server p.links p.sessions v known part right (taken_by p.links v) refl
-      (subst (λ (taken : Option FrameView). SeesPartAt known (session_asked p.sessions taken) taken part right) (taken_same p.links v d same) (asks d refl)))
+      (subst (λ (taken : Option FrameView). SeesPartAt known (session_asked p.sessions taken) taken part right) (taken_same p.links v d same) (asks d refl).serving))
 
   -- there is such a part
-  pub has_of : (known : Option StoredParts) (o : Option Served) (d : Option Done) → option_map made_of d ≡ option_map (made_by p.links) o → HasPartServed known p.sessions p.links o → ForSome d (λ x. HasPart known p x.taken)
-  has_of known None d same has x is = absurd (some_none (made_of x) (sym (ap (option_map made_of) is) ∙ same))
-  has_of known (Some v) d same has x is = record {
+  pub has_of : (known : Option StoredParts) (o : Option Served) (d : Option Done) → option_map made_of d ≡ option_map (made_by p.links) o → IsOfNoJob d → HasPartServed known p.sessions p.links o → ForSome d (λ x. HasPart known p x.kind x.taken)
+  has_of known None d same none has x is = absurd (some_none (made_of x) (sym (ap (option_map made_of) is) ∙ same))
+  has_of known (Some v) d same none has x is = record {
     part = has.part;
     right = has.right;
-    asked = subst (λ (taken : Option FrameView). SeesPartAt known (session_asked p.sessions taken) taken has.part has.right) (sym (taken_same p.links v x (sym (ap (option_map made_of) is) ∙ same)))
-        (from_server p.links p.sessions v known has.part has.right (taken_by p.links v) refl (has.sees v refl));
+    asked = record {
+      serving = subst (λ (taken : Option FrameView). SeesPartAt known (session_asked p.sessions taken) taken has.part has.right) (sym (taken_same p.links v x (sym (ap (option_map made_of) is) ∙ same)))
+          (from_server p.links p.sessions v known has.part has.right (taken_by p.links v) refl (has.sees v refl));
+      acting = no_job_asks p x.kind (none x is) known x.taken has.part has.right;
+    };
   }
 
   -- what is left of the contents and the parts
@@ -121,15 +145,16 @@ module _ (p : PartsView) where
   contents_served known parts (Some v) None same = absurd (some_none (made_by p.links v) (sym same))
   contents_served known parts (Some v) (Some d) same = ap (contents_after known parts) (sym (kind_same p.links v d same))
 
-  pub parts_served : (known : Option StoredParts) (o : Option Served) (d : Option Done) → option_map made_of d ≡ option_map (made_by p.links) o → parts_left p.sessions p.links o known ≡ parts_then p known d
-  parts_served known None None same = refl
-  parts_served known None (Some d) same = absurd (some_none (made_of d) same)
-  parts_served known (Some v) None same = absurd (some_none (made_by p.links v) (sym same))
-  parts_served known (Some v) (Some d) same =
+  pub parts_served : (known : Option StoredParts) (o : Option Served) (d : Option Done) → option_map made_of d ≡ option_map (made_by p.links) o → IsOfNoJob d → parts_left p.sessions p.links o known ≡ parts_then p known d
+  parts_served known None None same none = refl
+  parts_served known None (Some d) same none = absurd (some_none (made_of d) same)
+  parts_served known (Some v) None same none = absurd (some_none (made_by p.links v) (sym same))
+  parts_served known (Some v) (Some d) same none =
       let taken = sym (taken_same p.links v d same) in
       let kind = sym (kind_same p.links v d same) in
       parts_here p.links p.sessions v known v.kind (taken_by p.links v) refl
-      ∙ (λ i. option_map_or (λ (x : Session). parts_after_taken (session_of x).doing (taken i) (bytes_taken p.links (taken i)) (kind i) known) (session_asked p.sessions (taken i)) known)
+      ∙ ((λ i. option_map_or (λ (x : Session). parts_after_taken (session_of x).doing (taken i) (bytes_taken p.links (taken i)) (kind i) known) (session_asked p.sessions (taken i)) known)
+      ∙ sym (no_job_takes p d (parts_by_session p d known) (none d refl)))
 
 -- ---- a client's frame asks no session
 

@@ -11,6 +11,7 @@ use Rattle.run_data.specs.declared.job.Job.{Job}
 use Rattle.run_data.specs.declared.row.Hold.{Hold}
 use Rattle.trust_groups.specs.Settings.{settings}
 use Rattle.link_ring.specs.Ends.{EndView, fresh}
+use Rattle.object_store.specs.Stores.{Parts as StoredParts}
 use Rattle.content_lock.specs.Rows.{Rows}
 use Rattle.p2p_server.specs.declared.session.Session.{Session}
 use Rattle.node_model.specs.After.{read_after, state_after}
@@ -23,10 +24,10 @@ use Rattle.node_model.specs.State.{State}
 use Rattle.node_ends.specs.Ends.{AreEnds}
 use Rattle.node_ends.specs.Going.{AreAfter}
 use Rattle.node_sessions.specs.Sessions.{AreSessions, HaveEnds, OwnAll, fills_in}
-use Rattle.node_jobs.specs.Acting.{with_job}
-use Rattle.node_jobs.specs.Places.{IsPlace, PlaceView}
-use Rattle.node_jobs.specs.Running.{AreWorks, Follows, Jobs, OwnAll as JobsOwn}
-use Rattle.node_parts.specs.Parts.{AreParts, PartsView}
+use Rattle.node_drops.specs.Places.{IsPlace, PlaceView}
+use Rattle.running_jobs.specs.Beginning.{Begins}
+use Rattle.running_jobs.specs.Running.{AreWorks, Follows, Jobs, OwnAll as JobsOwn, AreAllFed as JobsFed}
+use Rattle.node_parts.specs.Parts.{AreAllFed, AreParts, PartsView}
 use Rattle.node_parts.specs.Sound.{AreSound}
 
 -- ---- before the first entry
@@ -48,7 +49,7 @@ first_sound_of number ids xs owns fills there = record {
   there = there (replicate (length ids * 8) fresh) (length-replicate (length ids * 8) fresh);
   serving = owns no_rows (All-nil (λ (h : Hold). h.kept ≡ true));
   acting = record {
-    drops = tt;
+    tasks = tt;
     owns = tt;
     apart = tt;
     later = λ job key beyond. record { of_key = refl; of_job = refl; bars = λ k. refl; holds = record { owner = refl; given = refl; kept = refl } };
@@ -123,9 +124,15 @@ WorksBegun jobs jobs' what = (rows : Rows) (s : SetUp) (st : State) (e : Entry) 
 abbrev pub PartsBegun : PartsView → PartsView → Job → Type 0
 PartsBegun was now what = (s : SetUp) (st : State) (e : Entry) → AreParts s st was → e.kind ≡ Begin (was.jobs.begun + 1) what → e.taken ≡ None → e.sent ≡ [] → AreParts s (state_after s st e) now
 
-pub begun_parts : {T E : Type 0} (r : Result T E) → EndsGo → ((links : List EndView) → AreAfter links links None []) → SessionsStay → (was : PartsView) (jobs : Jobs) (what : Job) (paths : List (List ℕ)) → OnOk r (jobs ≡ with_job was.jobs what paths)
+pub begun_parts : {T E : Type 0} (r : Result T E) → EndsGo → ((links : List EndView) → AreAfter links links None []) → SessionsStay → (was : PartsView) (jobs : Jobs) (what : Job) (paths : List (List ℕ)) → OnOk r (Begins was.jobs what paths jobs)
     → OnOk r (WorksBegun was.jobs jobs what) → AreSound was → OnOk r (PartsBegun was (record { table = was.table; links = was.links; sessions = was.sessions; jobs = jobs }) what)
 begun_parts (Ok x) go still stay was jobs what paths ok works sound = λ s st e are kind taken sent.
-    begin_parts s st e (was.jobs.begun + 1) what kind go still stay taken sent was jobs are (ap (λ (j : Jobs). j.place) ok)
+    begin_parts s st e (was.jobs.begun + 1) what kind go still stay taken sent was jobs are (ap (λ (j : Jobs). j.place) ok.jobs)
     (works was.table s st e (state_after s st e) sound.acting are.works kind (begin_follows s st e (was.jobs.begun + 1) what kind are.logs))
 begun_parts (Err e) go still stay was jobs what paths ok works sound = tt
+
+-- what the sessions and the jobs have taken is the store's still
+pub begun_fed : {T E : Type 0} (r : Result T E) (was : PartsView) (jobs : Jobs) → OnOk r ((q : StoredParts) → JobsFed q was.jobs.running → JobsFed q jobs.running)
+    → OnOk r ((q : StoredParts) → AreAllFed q was → AreAllFed q (record { table = was.table; links = was.links; sessions = was.sessions; jobs = jobs }))
+begun_fed (Ok x) was jobs ok = λ q fed. record { serving = fed.serving; acting = ok q fed.acting }
+begun_fed (Err e) was jobs ok = tt

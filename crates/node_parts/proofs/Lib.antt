@@ -1,4 +1,6 @@
 -- The lemmas of this crate.
+pub mod Among
+pub mod Filling
 pub mod Sounding
 pub mod Saying
 pub mod Going
@@ -7,5 +9,8 @@ pub mod Served
 pub mod Posting
 pub mod Posts
 pub mod Pieces
+pub mod Gotten
+pub mod Gains
+pub mod Hearing
 pub mod Acted
 pub mod Staying

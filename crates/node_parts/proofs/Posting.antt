@@ -1,6 +1,6 @@
 -- The frames of a step are sent where they have their places.
 use Rattle.std.proofs.Common.{◌≡◌, ◌≢◌, ◌⊎◌, inl, inr, ℕ, ◌<◌, ◌*◌, ◌+◌, Bool, true, false, ◌&&◌, if◌then◌else◌, List, [], ◌∷◌, ◌++◌, Option, Some, None, is_some, length, refl, sym, ap, subst, ◌∙◌, arith, append-nil, append_assoc}
-use Rattle.std.specs.Prelude.{◌==◌, ◌^◌, ◌-◌, nat_le, nat_lt, slice_get}
+use Rattle.std.specs.Prelude.{◌==◌, ◌^◌, ◌-◌, flat_map, nat_le, nat_lt, slice_get}
 use Rattle.std.specs.Option.{ForSome, option_to_list}
 use Rattle.std.proofs.lemmas.Bool.{and_parts, cases_Bool, eqb-true, true≢false}
 use Rattle.std.proofs.lemmas.List.Elements.{filter-append}
@@ -21,12 +21,14 @@ use Rattle.node_ends.specs.Ends.{end_at, end_in as end_of_link, has_room, link_a
 use Rattle.node_ends.specs.Going.{AreAfter, IsSent}
 use Rattle.node_ends.specs.Sent.{link_may, may_send, text_of_sending}
 use Rattle.p2p_wire.specs.Messages.{text_of}
-use Rattle.node_jobs.specs.declared.Parcel.{Parcel}
-use Rattle.node_jobs.specs.declared.ParcelBody.{ParcelBody}
-use Rattle.node_jobs.specs.declared.ParcelBody.TheVariants as bodies
-use Rattle.node_jobs.specs.Working.{end_in, frames_of, texts_of}
-use Rattle.node_jobs.specs.Sending.{MaySend, TakesNoOpening, end_of, stood_at}
-use Rattle.node_parts.specs.Posting.{ArePlaced, IsFrame, IsPlaced, IsPosted, frames_in}
+use Rattle.drop_phases.specs.declared.turn.Parcel.{Parcel}
+use Rattle.drop_phases.specs.declared.turn.ParcelBody.{ParcelBody}
+use Rattle.drop_phases.specs.declared.turn.ParcelBody.TheVariants as bodies
+use Rattle.drop_phases.specs.Working.{end_in, texts_of}
+use Rattle.transfer_turns.specs.declared.parcels.Parcel.{Parcel as TransferParcel}
+use Rattle.transfer_turns.specs.Parcels.{text_in}
+use Rattle.job_frames.specs.Sending.{MaySend, TakesNoOpening, end_of, stood_at}
+use Rattle.node_parts.specs.Posting.{ArePlaced, IsFrame, IsPlaced, IsPosted, frames_of_drop, frames_of_transfer}
 
 -- what a law says of ends with room, and of open ones
 pub record Permits : Type 0 where
@@ -202,66 +204,75 @@ taken_posted was now a f had may state others after = record {
   ];
 }
 
--- ---- all parcels
+-- ---- all parcels, of which each has such frames
 
 -- what was sent, and the frames of the parcels that are left, which have their places, are the frames of all
-pub record GoesWell (was : List EndView) (taken : Option FrameView) (slot : ℕ) (first : List FrameView) (all : List Parcel) (sent : List FrameView) (left : List Parcel) : Type 0 where
-  pub whole : sent ++ frames_of (end_at was) slot left ≡ first ++ frames_of (end_at was) slot all
-  pub placed : ArePlaced was taken sent (frames_of (end_at was) slot left)
+pub record GoesWell {P : Type 0} (was : List EndView) (taken : Option FrameView) (each : P → List FrameView) (first : List FrameView) (all : List P) (sent : List FrameView) (left : List P) : Type 0 where
+  pub whole : sent ++ flat_map each left ≡ first ++ flat_map each all
+  pub placed : ArePlaced was taken sent (flat_map each left)
 
-module _ (was : List EndView) (taken : Option FrameView) (slot : ℕ) (first : List FrameView) (all : List Parcel) where
-  pub goes_first : ArePlaced was taken first (frames_of (end_at was) slot all) → GoesWell was taken slot first all first all
+module _ {P : Type 0} (was : List EndView) (taken : Option FrameView) (each : P → List FrameView) (first : List FrameView) (all : List P) where
+  pub goes_first : ArePlaced was taken first (flat_map each all) → GoesWell was taken each first all first all
   goes_first placed = record { whole = refl; placed = placed }
 
-  module _ (sent : List FrameView) (p : Parcel) (left : List Parcel) where
-    pub goes_placed : GoesWell was taken slot first all sent (p ∷ left) → ArePlaced was taken sent (frames_in was slot p)
-    goes_placed goes = placed_first was taken sent (frames_in was slot p) (frames_of (end_at was) slot left) goes.placed
+  module _ (sent : List FrameView) (p : P) (left : List P) where
+    pub goes_placed : GoesWell was taken each first all sent (p ∷ left) → ArePlaced was taken sent (each p)
+    goes_placed goes = placed_first was taken sent (each p) (flat_map each left) goes.placed
 
-    pub goes_on_well : (more : List FrameView) → GoesWell was taken slot first all sent (p ∷ left) → more ≡ sent ++ frames_in was slot p → GoesWell was taken slot first all more left
-    goes_on_well more goes is = subst (λ (l : List FrameView). GoesWell was taken slot first all l left) (sym is) (record {
-      whole = append_assoc sent (frames_in was slot p) (frames_of (end_at was) slot left) ∙ goes.whole;
-      placed = placed_next was taken sent (frames_in was slot p) (frames_of (end_at was) slot left) goes.placed;
+    pub goes_on_well : (more : List FrameView) → GoesWell was taken each first all sent (p ∷ left) → more ≡ sent ++ each p → GoesWell was taken each first all more left
+    goes_on_well more goes is = subst (λ (l : List FrameView). GoesWell was taken each first all l left) (sym is) (record {
+      whole = append_assoc sent (each p) (flat_map each left) ∙ goes.whole;
+      placed = placed_next was taken sent (each p) (flat_map each left) goes.placed;
     })
 
-  pub all_well : (sent : List FrameView) (left : List Parcel) → left ≡ [] → GoesWell was taken slot first all sent left → sent ≡ first ++ frames_of (end_at was) slot all
-  all_well sent left none goes = sym (append-nil sent) ∙ (ap (λ (ps : List Parcel). sent ++ frames_of (end_at was) slot ps) (sym none) ∙ goes.whole)
+  pub all_well : (sent : List FrameView) (left : List P) → left ≡ [] → GoesWell was taken each first all sent left → sent ≡ first ++ flat_map each all
+  all_well sent left none goes = sym (append-nil sent) ∙ (ap (λ (ps : List P). sent ++ flat_map each ps) (sym none) ∙ goes.whole)
 
 -- ---- one parcel
 
-module _ (was : List EndView) (taken : Option FrameView) (slot : ℕ) (sent now : List FrameView) (p : Parcel) where
+module _ (was : List EndView) (taken : Option FrameView) (slot peer : ℕ) (sent now : List FrameView) where
   -- the frame with this text that an end of a job's sends, as it stands so
   abbrev sent_as : End → FrameText → FrameView
-  sent_as c text = record { peer = p.peer; slot = slot; up = true; epoch = (end_sends c text).epoch; seq = (end_sends c text).sent; body = text }
+  sent_as c text = record { peer = peer; slot = slot; up = true; epoch = (end_sends c text).epoch; seq = (end_sends c text).sent; body = text }
 
-  pub parcel_well : (text : FrameText) → texts_of p.body ≡ text ∷ [] → ((f : FrameView) → IsFrame (end_in slot p.peer) text f → IsPlaced was taken sent f → now ≡ sent ++ f ∷ [])
-      → ArePlaced was taken sent (frames_in was slot p) → now ≡ sent ++ frames_in was slot p
-  parcel_well text is sends all =
-      let c : End = end_at was (end_in slot p.peer) in
+  -- the frames with these texts
+  abbrev sent_here : List FrameText → List FrameView
+  sent_here ts = frames (end_in slot peer) (end_at was (end_in slot peer)) ts
+
+  pub parcel_well : (ts : List FrameText) (text : FrameText) → ts ≡ text ∷ [] → ((f : FrameView) → IsFrame (end_in slot peer) text f → IsPlaced was taken sent f → now ≡ sent ++ f ∷ [])
+      → ArePlaced was taken sent (sent_here ts) → now ≡ sent ++ sent_here ts
+  parcel_well ts text is sends all =
+      let c : End = end_at was (end_in slot peer) in
       let f : FrameView = sent_as c text in
-      let fs : frames_in was slot p ≡ f ∷ [] = ap (frames (end_in slot p.peer) c) is in
+      let fs : sent_here ts ≡ f ∷ [] = ap (frames (end_in slot peer) c) is in
       sends f (record { at = refl; body = refl }) (first_place was taken sent [] f (subst (ArePlaced was taken sent) fs all)) ∙ ap (λ (l : List FrameView). sent ++ l) (sym fs)
 
-  pub last_well : (text next : FrameText) → texts_of p.body ≡ text ∷ next ∷ [] → ((f g : FrameView) → IsFrame (end_in slot p.peer) text f → IsFrame (end_in slot p.peer) next g → ArePlaced was taken sent (f ∷ g ∷ []) → now ≡ sent ++ f ∷ g ∷ [])
-      → ArePlaced was taken sent (frames_in was slot p) → now ≡ sent ++ frames_in was slot p
-  last_well text next is sends all =
-      let c : End = end_at was (end_in slot p.peer) in
+  pub last_well : (ts : List FrameText) (text next : FrameText) → ts ≡ text ∷ next ∷ [] → ((f g : FrameView) → IsFrame (end_in slot peer) text f → IsFrame (end_in slot peer) next g → ArePlaced was taken sent (f ∷ g ∷ []) → now ≡ sent ++ f ∷ g ∷ [])
+      → ArePlaced was taken sent (sent_here ts) → now ≡ sent ++ sent_here ts
+  last_well ts text next is sends all =
+      let c : End = end_at was (end_in slot peer) in
       let f : FrameView = sent_as c text in
       let g : FrameView = sent_as (end_sends c text) next in
-      let fs : frames_in was slot p ≡ f ∷ g ∷ [] = ap (frames (end_in slot p.peer) c) is in
+      let fs : sent_here ts ≡ f ∷ g ∷ [] = ap (frames (end_in slot peer) c) is in
       sends f g (record { at = refl; body = refl }) (record { at = refl; body = refl }) (subst (ArePlaced was taken sent) fs all) ∙ ap (λ (l : List FrameView). sent ++ l) (sym fs)
 
   -- a frame of a parcel that has its place is sent at an end that is there
-  pub parcel_there : Permits → TakesNoOpening taken → (ends : List EndView) → IsPosted was taken ends sent → ArePlaced was taken sent (frames_in was slot p) → is_some (link_at ends (end_in slot p.peer)) ≡ true
-  parcel_there permits quiet ends posted all = go p.body refl
+  pub texts_there : Permits → TakesNoOpening taken → (ends : List EndView) → IsPosted was taken ends sent → (ts : List FrameText) (text : FrameText) (more : List FrameText) → ts ≡ text ∷ more → ArePlaced was taken sent (sent_here ts)
+      → is_some (link_at ends (end_in slot peer)) ≡ true
+  texts_there permits quiet ends posted ts text more is all =
+      let c : End = end_at was (end_in slot peer) in
+      let f : FrameView = sent_as c text in
+      let rest : List FrameView = frames (end_in slot peer) (end_sends c text) more in
+      let fs : sent_here ts ≡ f ∷ rest = ap (frames (end_in slot peer) c) is in
+      sent_there ends (end_in slot peer) text
+      (may_place was ends taken sent posted permits quiet (end_in slot peer) text f (record { at = refl; body = refl }) (first_place was taken sent rest f (subst (ArePlaced was taken sent) fs all)))
+
+module _ (was : List EndView) (taken : Option FrameView) (slot : ℕ) (sent now : List FrameView) (permits : Permits) (quiet : TakesNoOpening taken) (ends : List EndView) (posted : IsPosted was taken ends sent) where
+  pub drop_there : (p : Parcel) → ArePlaced was taken sent (frames_of_drop was slot p) → is_some (link_at ends (end_in slot p.peer)) ≡ true
+  drop_there p all = go p.body refl
     where
       some_text : (text : FrameText) (more : List FrameText) → texts_of p.body ≡ text ∷ more → is_some (link_at ends (end_in slot p.peer)) ≡ true
-      some_text text more is =
-          let c : End = end_at was (end_in slot p.peer) in
-          let f : FrameView = sent_as c text in
-          let rest : List FrameView = frames (end_in slot p.peer) (end_sends c text) more in
-          let fs : frames_in was slot p ≡ f ∷ rest = ap (frames (end_in slot p.peer) c) is in
-          sent_there ends (end_in slot p.peer) text
-          (may_place was ends taken sent posted permits quiet (end_in slot p.peer) text f (record { at = refl; body = refl }) (first_place was taken sent rest f (subst (ArePlaced was taken sent) fs all)))
+      some_text text more is = texts_there was taken slot p.peer sent now permits quiet ends posted (texts_of p.body) text more is all
 
       go : (b : ParcelBody) → p.body ≡ b → is_some (link_at ends (end_in slot p.peer)) ≡ true
       go bodies.Open is = some_text texts.Opening [] (ap texts_of is)
@@ -269,19 +280,18 @@ module _ (was : List EndView) (taken : Option FrameView) (slot : ℕ) (sent now 
       go (bodies.Message m) is = some_text (texts.Line (text_of m)) [] (ap texts_of is)
       go (bodies.Last m) is = some_text (texts.Line (text_of m)) (texts.Closing ∷ []) (ap texts_of is)
 
+  pub transfer_there : (p : TransferParcel) → ArePlaced was taken sent (frames_of_transfer was slot p) → is_some (link_at ends (end_in slot p.peer)) ≡ true
+  transfer_there p all = texts_there was taken slot p.peer sent now permits quiet ends posted (text_in p.body ∷ []) (text_in p.body) [] refl all
+
 -- ---- a whole step
 
-module _ (was mid : List EndView) (taken : Option FrameView) (slot : ℕ) (listing : List FrameView) (empty : listing ≡ []) (posted : IsPosted was taken mid []) where
-  pub posted_first : IsPosted was taken mid listing
-  posted_first = subst (IsPosted was taken mid) (sym empty) posted
-
-  pub sent_well : (sent : List FrameView) (ps all : List Parcel) → ps ≡ all
-      → (IsPosted was taken mid listing → TakesNoOpening taken → ArePlaced was taken listing (frames_of (end_at was) slot ps) → sent ≡ listing ++ frames_of (end_at was) slot ps)
-      → TakesNoOpening taken → ArePlaced was taken [] (frames_of (end_at was) slot all) → sent ≡ frames_of (end_at was) slot all
-  sent_well sent ps all same step quiet placed =
-      let here : ArePlaced was taken listing (frames_of (end_at was) slot ps) =
-      subst (λ (l : List FrameView). ArePlaced was taken l (frames_of (end_at was) slot ps)) (sym empty)
-      (subst (λ (xs : List Parcel). ArePlaced was taken [] (frames_of (end_at was) slot xs)) (sym same) placed) in
-      step posted_first quiet here
-      ∙ (ap (λ (l : List FrameView). l ++ frames_of (end_at was) slot ps) empty
-      ∙ ap (λ (xs : List Parcel). frames_of (end_at was) slot xs) same)
+-- the listing is empty at first, and the parcels are these
+module _ {P : Type 0} (was : List EndView) (taken : Option FrameView) (each : P → List FrameView) (listing sent : List FrameView) (empty : listing ≡ []) (ps all : List P) (same : ps ≡ all) where
+  pub sent_well : (ArePlaced was taken listing (flat_map each ps) → sent ≡ listing ++ flat_map each ps) → ArePlaced was taken [] (flat_map each all) → sent ≡ flat_map each all
+  sent_well step placed =
+      let here : ArePlaced was taken listing (flat_map each ps) =
+      subst (λ (l : List FrameView). ArePlaced was taken l (flat_map each ps)) (sym empty)
+      (subst (λ (xs : List P). ArePlaced was taken [] (flat_map each xs)) (sym same) placed) in
+      step here
+      ∙ (ap (λ (l : List FrameView). l ++ flat_map each ps) empty
+      ∙ ap (λ (xs : List P). flat_map each xs) same)

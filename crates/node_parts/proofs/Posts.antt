@@ -10,7 +10,7 @@ use Rattle.annex_base.specs.Lists.{Member}
 use Rattle.annex_base.specs.declared.kinds.EntryStamp.{EntryStamp}
 use Rattle.annex_base.specs.declared.kinds.Word.{Word}
 use Rattle.annex_base.proofs.Conditions.{eqb_refl, if_not, same_bool_is}
-use Rattle.annex_base.proofs.Lists.{Member-append_cases, cons_first}
+use Rattle.annex_base.proofs.Lists.{Member-append_cases, Member-append_left, Member-append_right, cons_first}
 use Rattle.annex_base.proofs.Options.{where_some}
 use Rattle.annex_base.specs.Bools.{same_bool}
 use Rattle.run_data.specs.declared.entry.EntryKind.{EntryKind}
@@ -29,7 +29,7 @@ use Rattle.node_sessions.specs.Serving.{IsTalk}
 use Rattle.node_sessions.specs.Words.{word_to}
 use Rattle.node_parts.specs.declared.done.Done.{Done}
 use Rattle.node_parts.specs.declared.moment.Moment.{Moment}
-use Rattle.node_parts.specs.Posting.{Answer, PostsNothing, PostsOn, PostsOnly, after_step, stamp_of, taken_off, word_with}
+use Rattle.node_parts.specs.Posting.{Answers, AreAmong, PostsNothing, PostsOn, PostsOnly, PostsWith, after_step, stamp_of, taken_off, word_with}
 use Rattle.node_parts.proofs.Posting.{frame_end, same_or_other, sends_its}
 
 -- ---- the word
@@ -84,14 +84,14 @@ same_link None = refl
 same_link (Some v) = refl
 
 pub posts_nothing : (links now : List EndView) → now ≡ links → PostsNothing links now None
-posts_nothing links now same = λ answer sender kind. subst (λ (l : List EndView). PostsOnly answer sender kind links l None []) (sym same) (record {
+posts_nothing links now same = λ answers sender kind. subst (λ (l : List EndView). PostsOnly answers sender kind links l None []) (sym same) (record {
   posts = record { count = refl; took = λ a f none. absurd cc; said = λ a. []; listed = λ a. refl; links = λ a. same_link (link_at links a) };
   pieces = λ a bytes among. absurd among;
 })
 
 pub posts_taken : (was now : List EndView) (a : EndName) (frame : Frame) → Some (frame_at a frame) ≡ wait_at was a → link_at now a ≡ option_map after_take (link_at was a) → ((b : EndName) → b ≢ a → link_at now b ≡ link_at was b) → length now ≡ length was
     → PostsNothing was now (Some (frame_at a frame))
-posts_taken was now a frame waits link others count = λ answer sender kind. record {
+posts_taken was now a frame waits link others count = λ answers sender kind. record {
   posts = record { count = count; took = took; said = λ b. []; listed = λ b. refl; links = links sender kind };
   pieces = λ b bytes among. absurd among;
 }
@@ -121,14 +121,18 @@ posts_taken was now a frame waits link others count = λ answer sender kind. rec
 
 -- ---- what is sent
 
--- where this is a piece, it is the answer
-abbrev IsOwn : Answer → EndName → Sending → Type 0
-IsOwn answer a said = (bytes : List ℕ) → said ≡ sendings.Bytes bytes → answer ≡ Some (a, sendings.Bytes bytes)
+-- where this is a piece, it is one of the answers
+abbrev IsOwn : Answers → EndName → Sending → Type 0
+IsOwn answers a said = (bytes : List ℕ) → said ≡ sendings.Bytes bytes → Member (a, sendings.Bytes bytes) answers
 
-none_own : (answer : Answer) (a : EndName) (said : Sending) → IsNoPiece said → IsOwn answer a said
-none_own answer a said plain = λ bytes is. absurd (subst IsNoPiece is plain)
+none_own : (answers : Answers) (a : EndName) (said : Sending) → IsNoPiece said → IsOwn answers a said
+none_own answers a said plain = λ bytes is. absurd (subst IsNoPiece is plain)
 
-module _ (answer : Answer) (sender : EntryStamp) (kind : EntryKind) (was now : List EndView) (taken : Option FrameView) (sent : List FrameView) (only : PostsOnly answer sender kind was now taken sent)
+-- this piece, where it may be sent
+pub piece_own : (answers : Answers) (a : EndName) (piece : List ℕ) → AreAmong ((a, sendings.Bytes piece) ∷ []) answers → IsOwn answers a (sendings.Bytes piece)
+piece_own answers a piece among = λ bytes is. subst (λ (said : Sending). Member (a, said) answers) is (among (a, sendings.Bytes piece) (inl refl))
+
+module _ (answers : Answers) (sender : EntryStamp) (kind : EntryKind) (was now : List EndView) (taken : Option FrameView) (sent : List FrameView) (only : PostsOnly answers sender kind was now taken sent)
     (next : List EndView) (a : EndName) (said : Sending) where
   module _ (f : FrameView) (is : IsSent a sender (word_with a taken kind said) said now next f) where
     sends : sends_at a f ≡ true
@@ -184,41 +188,73 @@ module _ (answer : Answer) (sender : EntryStamp) (kind : EntryKind) (was now : L
     ]
 
     -- a piece of these was said before, or is the one that is said now
-    pieces : IsOwn answer a said → (b : EndName) (bytes : List ℕ) → Member (sendings.Bytes bytes) (said_at b) → answer ≡ Some (b, sendings.Bytes bytes)
+    pieces : IsOwn answers a said → (b : EndName) (bytes : List ℕ) → Member (sendings.Bytes bytes) (said_at b) → Member (b, sendings.Bytes bytes) answers
     pieces own b bytes among = elim (Member-append_cases (only.posts.said b) (if_said (sends_at b f)) (sendings.Bytes bytes) among) [
       | inl before ↦ only.pieces b bytes before
       | inr now ↦ go (sends_at b f) refl now
     ]
       where
-        go : (t : Bool) → sends_at b f ≡ t → Member (sendings.Bytes bytes) (if_said t) → answer ≡ Some (b, sendings.Bytes bytes)
-        go true does (inl same) = subst (λ (x : EndName). answer ≡ Some (x, sendings.Bytes bytes)) (sym (sends_only a b f sends does)) (own bytes (sym same))
+        go : (t : Bool) → sends_at b f ≡ t → Member (sendings.Bytes bytes) (if_said t) → Member (b, sendings.Bytes bytes) answers
+        go true does (inl same) = subst (λ (x : EndName). Member (x, sendings.Bytes bytes) answers) (sym (sends_only a b f sends does)) (own bytes (sym same))
         go true does (inr none) = absurd none
         go false does none = absurd none
 
-    pub posts_more : IsOwn answer a said → PostsOnly answer sender kind was next taken (sent ++ f ∷ [])
+    pub posts_more : IsOwn answers a said → PostsOnly answers sender kind was next taken (sent ++ f ∷ [])
     posts_more own = record { posts = record { count = is.count ∙ only.posts.count; took = only.posts.took; said = said_at; listed = listed; links = links }; pieces = pieces own }
 
-  pub posts_word : IsOwn answer a said → (word : Option Word) → word ≡ word_with a taken kind said → (f : FrameView) → IsSent a sender word said now next f → PostsOnly answer sender kind was next taken (sent ++ f ∷ [])
+  pub posts_word : IsOwn answers a said → (word : Option Word) → word ≡ word_with a taken kind said → (f : FrameView) → IsSent a sender word said now next f → PostsOnly answers sender kind was next taken (sent ++ f ∷ [])
   posts_word own word same f is = posts_more f (subst (λ (w : Option Word). IsSent a sender w said now next f) same is) own
 
   -- it is listed, where the end may send it
-  pub posts_by : a.client ≡ true → IsNoPiece said → (o : Option FrameView) → ForSome o (IsSent a sender None said now next) → (o ≡ None → next ≡ now) → PostsOnly answer sender kind was next taken (sent ++ option_to_list o)
-  posts_by client plain None is kept = subst (λ (l : List EndView). PostsOnly answer sender kind was l taken (sent ++ [])) (sym (kept refl)) (subst (PostsOnly answer sender kind was now taken) (sym (append-nil sent)) only)
-  posts_by client plain (Some f) is kept = posts_word (none_own answer a said plain) None (client_word a taken kind said client) f (is f refl)
+  pub posts_own : a.client ≡ true → IsOwn answers a said → (o : Option FrameView) → ForSome o (IsSent a sender None said now next) → (o ≡ None → next ≡ now) → PostsOnly answers sender kind was next taken (sent ++ option_to_list o)
+  posts_own client own None is kept = subst (λ (l : List EndView). PostsOnly answers sender kind was l taken (sent ++ [])) (sym (kept refl)) (subst (PostsOnly answers sender kind was now taken) (sym (append-nil sent)) only)
+  posts_own client own (Some f) is kept = posts_word own None (client_word a taken kind said client) f (is f refl)
+
+  -- the same of what is no piece
+  pub posts_by : a.client ≡ true → IsNoPiece said → (o : Option FrameView) → ForSome o (IsSent a sender None said now next) → (o ≡ None → next ≡ now) → PostsOnly answers sender kind was next taken (sent ++ option_to_list o)
+  posts_by client plain o is kept = posts_own client (none_own answers a said plain) o is kept
 
 -- ---- one behind the other
 
 pub posts_on : (sender : EntryStamp) (first mid last : List EndView) (sent sent' sent'' : List FrameView) → PostsOn sender first mid sent sent' → PostsOn sender mid last sent' sent'' → PostsOn sender first last sent sent''
-posts_on sender first mid last sent sent' sent'' before behind = λ answer kind was taken so_far. behind answer kind was taken (before answer kind was taken so_far)
+posts_on sender first mid last sent sent' sent'' before behind = λ answers kind was taken so_far. behind answers kind was taken (before answers kind was taken so_far)
 
 pub posts_still : (sender : EntryStamp) (links : List EndView) (sent : List FrameView) → PostsOn sender links links sent sent
-posts_still sender links sent = λ answer kind was taken so_far. so_far
+posts_still sender links sent = λ answers kind was taken so_far. so_far
+
+-- ---- one behind the other, where these answers may be sent
+
+pub with_none : (these : Answers) (sender : EntryStamp) (ends ends' : List EndView) (sent sent' : List FrameView) → PostsOn sender ends ends' sent sent' → PostsWith these sender ends ends' sent sent'
+with_none these sender ends ends' sent sent' on = λ answers kind was taken among so_far. on answers kind was taken so_far
+
+pub with_still : (these : Answers) (sender : EntryStamp) (links : List EndView) (sent : List FrameView) → PostsWith these sender links links sent sent
+with_still these sender links sent = λ answers kind was taken among so_far. so_far
+
+-- some of them, and then others of them
+pub with_more : (these part : Answers) (sender : EntryStamp) (first mid last : List EndView) (sent sent' sent'' : List FrameView) → AreAmong part these → PostsWith these sender first mid sent sent' → PostsWith part sender mid last sent' sent''
+    → PostsWith these sender first last sent sent''
+with_more these part sender first mid last sent sent' sent'' within before behind = λ answers kind was taken among so_far.
+    behind answers kind was taken (λ x m. among x (within x m)) (before answers kind was taken among so_far)
+
+-- where these are all that may be sent
+pub with_all : (these : Answers) (sender : EntryStamp) (kind : EntryKind) (ends ends' was : List EndView) (taken : Option FrameView) (sent sent' : List FrameView) → PostsWith these sender ends ends' sent sent' → PostsOnly these sender kind was ends taken sent → PostsOnly these sender kind was ends' taken sent'
+with_all these sender kind ends ends' was taken sent sent' on so_far = on these kind was taken (λ x m. m) so_far
+
+-- some of these are among them
+pub first_among : (part more : Answers) → AreAmong part (part ++ more)
+first_among part more = λ x m. Member-append_left part more x m
+
+pub rest_among : (part more these : Answers) → AreAmong (part ++ more) these → AreAmong more these
+rest_among part more these within = λ x m. within x (Member-append_right part more x m)
+
+pub part_among : (part more these : Answers) → AreAmong (part ++ more) these → AreAmong part these
+part_among part more these within = λ x m. within x (Member-append_left part more x m)
 
 -- ---- a whole step
 
 -- of the stamp and the links that these are
-pub posts_at : (answer : Answer) (m : Moment) (own number : ℕ) (stamp : EntryStamp) (was mid now : List EndView) (d : Done) → stamp ≡ stamp_of m own → own ≡ number → mid ≡ was → PostsOnly answer stamp d.kind mid now d.taken d.sent
-    → PostsOnly answer (stamp_of m number) d.kind was now d.taken d.sent
-posts_at answer m own number stamp was mid now d is numbered same posts =
-    subst (λ (links : List EndView). PostsOnly answer (stamp_of m number) d.kind links now d.taken d.sent) same
-    (subst (λ (s : EntryStamp). PostsOnly answer s d.kind mid now d.taken d.sent) (is ∙ ap (stamp_of m) numbered) posts)
+pub posts_at : (answers : Answers) (m : Moment) (own number : ℕ) (stamp : EntryStamp) (was mid now : List EndView) (d : Done) → stamp ≡ stamp_of m own → own ≡ number → mid ≡ was → PostsOnly answers stamp d.kind mid now d.taken d.sent
+    → PostsOnly answers (stamp_of m number) d.kind was now d.taken d.sent
+posts_at answers m own number stamp was mid now d is numbered same posts =
+    subst (λ (links : List EndView). PostsOnly answers (stamp_of m number) d.kind links now d.taken d.sent) same
+    (subst (λ (s : EntryStamp). PostsOnly answers s d.kind mid now d.taken d.sent) (is ∙ ap (stamp_of m) numbered) posts)

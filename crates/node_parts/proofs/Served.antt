@@ -34,16 +34,18 @@ use Rattle.p2p_server.specs.Bounds.{IsKind}
 use Rattle.p2p_server.specs.Talking.{AreAfterStep}
 use Rattle.node_sessions.specs.declared.served.Served.{Served}
 use Rattle.node_sessions.specs.Kinds.{IsOfSession}
-use Rattle.node_sessions.specs.Sessions.{AreSessions, fills_in}
+use Rattle.node_sessions.specs.Sessions.{AreSessions, LeavesPartsOf, AreAllFed as SessionsFed, fills_in}
 use Rattle.node_sessions.specs.Serving.{AreAfterIf, FailsBy, Sees, SeesPartBy, ServesAt, ServesIf, StepsSo, end_by, ends_after, failed_by as failed_by_served, made_by, sessions_after}
-use Rattle.node_jobs.specs.Places.{IsPlace}
-use Rattle.node_jobs.specs.Running.{AreWorks, DropJob, Jobs, OwnAll as JobsOwn, work_now}
+use Rattle.node_drops.specs.Places.{IsPlace}
+use Rattle.running_jobs.specs.Running.{AreWorks, Jobs, OwnAll as JobsOwn, AreAllFed as JobsFed, fills_at}
 use Rattle.node_parts.specs.declared.done.Done.{Done}
 use Rattle.node_parts.specs.Kinds.{IsQuiet}
-use Rattle.node_parts.specs.Parts.{AreParts, HasContents, PartsView}
+use Rattle.node_parts.specs.Parts.{AreAllFed, AreParts, HasContents, PartsView}
 use Rattle.node_parts.specs.Sound.{AreSound}
 use Rattle.node_parts.specs.Steps.{EndsAfter, Fails, LeavesSo, SeesParts, Serves, Steps, WhereServed, failed_by, made_of}
-use Rattle.node_parts.proofs.Asked.{asks_of, kind_same}
+use Rattle.node_parts.proofs.Among.{any_works}
+use Rattle.node_parts.proofs.Asked.{IsOfNoJob, asks_of, kind_same}
+use Rattle.node_parts.proofs.Filling.{jobs_fed, of_no_session}
 use Rattle.node_parts.proofs.Going.{EndsGo}
 
 -- ---- what laws say
@@ -64,15 +66,11 @@ OwnEntries = (s : SetUp) (st : State) (k : Look) (m : Effect) → session_step s
 
 -- ---- what the state is
 
-no_work_fills : (key : List ℕ) (js : List DropJob) → list_any (λ (w : Work). w.fills && bytes_eq w.what.key key) (map work_now js) ≡ false
-no_work_fills key [] = refl
-no_work_fills key (j ∷ js) = no_work_fills key js
-
 -- the table fills what the state does
 pub table_fills : FillsLaw → (s : SetUp) (st : State) (p : PartsView) (key : List ℕ) → AreSound p → AreParts s st p → is_filling p.table key ≡ is_filled s st key
 table_fills law s st p key sound are =
-    let none : list_any (λ (w : Work). w.fills && bytes_eq w.what.key key) st.works ≡ false = ap (list_any (λ (w : Work). w.fills && bytes_eq w.what.key key)) are.works.works ∙ no_work_fills key p.jobs.running in
-    sound.filled.filled key ∙ (ap (λ (b : Bool). fills_in p.sessions key || b) (sym none) ∙ sym (law s st p.sessions key are.sessions are.closed))
+    let works : list_any (λ (w : Work). w.fills && bytes_eq w.what.key key) st.works ≡ fills_at p.jobs.running key = ap (list_any (λ (w : Work). w.fills && bytes_eq w.what.key key)) are.works.works ∙ any_works key p.jobs.running in
+    sound.filled.filled key ∙ (ap (λ (b : Bool). fills_in p.sessions key || b) (sym works) ∙ sym (law s st p.sessions key are.sessions are.closed))
 
 sees_of : FillsLaw → (p : PartsView) (known : Option Contents) (parts : Option StoredParts) (c : Contents) (clock : ClockSet) (time number : ℕ) (o : Option Served) (s : SetUp) (st : State) (k : Look)
     → AreSound p → known ≡ Some c → SeesParts p c clock time number s st k → SeesPartBy parts p.sessions p.links o k.part k.right → FailsBy o k.fails
@@ -265,8 +263,24 @@ quiet_served law number links (Some v) d same kinds_are x is =
     let facts = law number x.kind (subst (IsKind number) kind (kinds_are v refl)) in
     record { begins = no_begin x.kind facts.0; crashes = facts.1; lines = facts.2 }
 
+-- it is no job's
+pub no_job_served : KindLaw → (number : ℕ) (links : List EndView) (o : Option Served) (d : Option Done) → option_map made_of d ≡ option_map (made_by links) o → ForSome o (λ v. IsKind number v.kind) → IsOfNoJob d
+no_job_served law number links None d same kinds_are x is = absurd (some_none (made_of x) (sym (ap (option_map made_of) is) ∙ same))
+no_job_served law number links (Some v) d same kinds_are x is =
+    (law number x.kind (subst (IsKind number) (sym (kind_same links v x (sym (ap (option_map made_of) is) ∙ same))) (kinds_are v refl))).0
+
 -- where nothing was made, nothing was served
 pub none_served : (links : List EndView) (o : Option Served) (d : Option Done) → option_map made_of d ≡ option_map (made_by links) o → d ≡ None → o ≡ None
 none_served links None d made none = refl
 none_served links (Some v) None made none = absurd cc
 none_served links (Some v) (Some x) made none = absurd cc
+
+-- ---- what was taken of parts
+
+-- what the sessions and the jobs have taken is the store's still
+pub fed_served : (was now : PartsView) (known known' : Option StoredParts) → AreSound was → now.jobs ≡ was.jobs → ForSome known (λ q. SessionsFed q was.sessions → ForSome known' (λ q'. SessionsFed q' now.sessions)) → LeavesPartsOf was.sessions known known'
+    → ForSome known (λ q. AreAllFed q was → ForSome known' (λ q'. AreAllFed q' now))
+fed_served was now known known' sound jobs fed leaves = λ q told all q' told'. record {
+  serving = fed q told all.serving q' told';
+  acting = subst (λ (j : Jobs). JobsFed q' j.running) (sym jobs) (jobs_fed q q' was.table was.jobs sound.acting (λ key is. leaves.same q told q' told' key (of_no_session was.table was.sessions was.jobs.running sound.filled key is)) all.acting);
+}

@@ -3,27 +3,33 @@ use Rattle.std.proofs.Common.{◌≡◌, ◌≢◌, ℕ, ◌<◌, ◌*◌, Bool,
 use Rattle.std.specs.Prelude.{OnErr, OnOk, is_some, nat_lt, not, ◌==◌, if◌then◌else◌, slice_get}
 use Rattle.std.proofs.lemmas.Bool.{true≢false}
 use Rattle.std.proofs.lemmas.Bool.Decides.{nat_tests}
-use Rattle.annex_base.proofs.Lists.{Each-weaker}
+use Rattle.annex_base.proofs.Lists.{Each-from_members, Each-member, list_any_member}
 use Rattle.run_data.specs.declared.entry.By.TheVariants.{Job as by_job}
 use Rattle.run_data.specs.declared.job.Job.{Job}
 use Rattle.link_ring.specs.Ends.{EndView}
 use Rattle.link_ring.specs.Places.{end_place}
-use Rattle.content_lock.specs.Rows.{Rows, bar_at}
+use Rattle.content_lock.specs.Rows.{Rows, bar_at, is_filling}
 use Rattle.content_lock.specs.Tokens.{Owns, ShareView}
 use Rattle.p2p_server.specs.declared.session.Session.{Session}
 use Rattle.node_model.specs.Ends.{EndName}
 use Rattle.node_model.specs.Rows.{option_is}
 use Rattle.node_ends.specs.Ends.{link_at}
 use Rattle.node_ends.specs.Joined.{AreCarried, AreJoined, BothPaired, StayPaired, StaysSo, end_with, link_carried}
-use Rattle.node_sessions.specs.Sessions.{AreFilled, HaveEnds, IsOther, OwnAll, end_of}
-use Rattle.node_jobs.specs.declared.Token.{Token}
-use Rattle.node_jobs.specs.declared.Token.TheVariants as tokens
-use Rattle.node_jobs.specs.Doing.{HasToken, share_in}
-use Rattle.node_jobs.specs.Acting.{with_job}
-use Rattle.node_jobs.specs.Places.{PlaceView}
-use Rattle.node_jobs.specs.Running.{IsOwn, Jobs, OwnAll as JobsOwn}
+use Rattle.node_sessions.specs.Sessions.{AreFilled, HaveEnds, IsOther, OwnAll, end_of, fills_in}
+use Rattle.drop_phases.specs.declared.phase.Token.{Token}
+use Rattle.drop_phases.specs.declared.phase.Token.TheVariants as tokens
+use Rattle.drop_phases.specs.Doing.{HasToken, share_in}
+use Rattle.node_drops.specs.Places.{PlaceView}
+use Rattle.transfer_worker.specs.Workers.{work_of}
+use Rattle.transfer_turns.specs.Steps.{fills_key}
+use Rattle.node_tasks.specs.declared.task.Task.{Task}
+use Rattle.node_tasks.specs.declared.task.Task.TheVariants as tasks
+use Rattle.node_tasks.specs.Tasks.{work_now}
+use Rattle.running_jobs.specs.Beginning.{Begins}
+use Rattle.running_jobs.specs.Running.{AreFilled as JobsFilled, IsOwn, Jobs, OwnAll as JobsOwn, fills_at}
 use Rattle.node_parts.specs.Parts.{PartsView}
 use Rattle.node_parts.specs.Sound.{AreSound}
+use Rattle.node_parts.proofs.Filling.{fills_of_jobs, for_jobs, for_sessions, keeps_fill}
 
 -- ---- what is paired
 
@@ -122,11 +128,19 @@ keeps_token was now bars others job key t has = record {
   holds = others job (share_in t) has.holds;
 }
 
-pub jobs_keep : (jobs : Jobs) (was now : Rows) → ((key : List ℕ) → bar_at now key ≡ bar_at was key) → LeavesJobs was now → JobsOwn jobs was → JobsOwn jobs now
-jobs_keep jobs was now bars others own = record {
-  drops = own.drops;
-  owns = Each-weaker (IsOwn jobs.begun was) (IsOwn jobs.begun now)
-      (λ j o. record { number = o.number; owns = keeps_token was now bars others j.worker.number j.worker.job.key j.worker.token o.owns }) jobs.running own.owns;
+keeps_own : (begun : ℕ) (was now : Rows) → ((key : List ℕ) → bar_at now key ≡ bar_at was key) → LeavesJobs was now → (t : Task) → ((key : List ℕ) → fills_key (work_now t) key ≡ true → is_filling now key ≡ true) → IsOwn begun was t → IsOwn begun now t
+keeps_own begun was now bars others (tasks.Drops j) fills own = record { number = own.number; owns = keeps_token was now bars others j.worker.number j.worker.job.key j.worker.token own.owns }
+keeps_own begun was now bars others (tasks.Transfers w) fills own = record {
+  number = own.number;
+  owns = (keeps_token was now bars others (work_of w).number (work_of w).what.key tokens.Nothing own.owns.0, keeps_fill was now w fills own.owns.1);
+}
+
+-- while the table fills their keys
+pub jobs_keep : (jobs : Jobs) (was now : Rows) → ((key : List ℕ) → bar_at now key ≡ bar_at was key) → LeavesJobs was now → ((key : List ℕ) → fills_at jobs.running key ≡ true → is_filling now key ≡ true) → JobsOwn jobs was → JobsOwn jobs now
+jobs_keep jobs was now bars others fills own = record {
+  tasks = own.tasks;
+  owns = Each-from_members (IsOwn jobs.begun now) jobs.running
+      (λ t among. keeps_own jobs.begun was now bars others t (λ key is. fills key (list_any_member (λ (x : Task). fills_key (work_now x) key) jobs.running t among is)) (Each-member (IsOwn jobs.begun was) jobs.running t own.owns among));
   apart = own.apart;
   later = λ job key beyond. keeps_token was now bars others job key tokens.Nothing (own.later job key beyond);
 }
@@ -144,13 +158,13 @@ carried_sound p a b now other sound carried sides = record {
 }
 
 -- after a step of the sessions
-pub sound_after : (was : PartsView) (table : Rows) (links : List EndView) (xs : List Session) → AreSound was → length links ≡ length was.links → HaveEnds links xs → OwnAll table xs → AreFilled table xs (λ key. false)
+pub sound_after : (was : PartsView) (table : Rows) (links : List EndView) (xs : List Session) → AreSound was → length links ≡ length was.links → HaveEnds links xs → OwnAll table xs → AreFilled table xs (fills_at was.jobs.running)
     → ((key : List ℕ) → bar_at table key ≡ bar_at was.table key) → LeavesJobs was.table table → AreSound (record { table = table; links = links; sessions = xs; jobs = was.jobs })
 sound_after was table links xs sound count there own filled bars others = record {
   count = count ∙ sound.count;
   there = there;
   serving = own;
-  acting = jobs_keep was.jobs was.table table bars others sound.acting;
+  acting = jobs_keep was.jobs was.table table bars others (fills_of_jobs table xs was.jobs.running filled) sound.acting;
   filled = filled;
 }
 
@@ -164,16 +178,24 @@ begun_own : {T E : Type 0} (r : Result T E) (jobs jobs' : Jobs) (rows : Rows) �
 begun_own (Ok x) jobs jobs' rows ok err own = ok rows own
 begun_own (Err e) jobs jobs' rows ok err own = subst (λ (j : Jobs). JobsOwn j rows) (sym err) own
 
-begun_place : {T E : Type 0} (r : Result T E) (jobs jobs' : Jobs) (what : Job) (paths : List (List ℕ)) → OnOk r (jobs' ≡ with_job jobs what paths) → OnErr r (jobs' ≡ jobs) → jobs'.place ≡ jobs.place
-begun_place (Ok x) jobs jobs' what paths ok err = ap (λ (j : Jobs). j.place) ok
+begun_place : {T E : Type 0} (r : Result T E) (jobs jobs' : Jobs) (what : Job) (paths : List (List ℕ)) → OnOk r (Begins jobs what paths jobs') → OnErr r (jobs' ≡ jobs) → jobs'.place ≡ jobs.place
+begun_place (Ok x) jobs jobs' what paths ok err = ap (λ (j : Jobs). j.place) ok.jobs
 begun_place (Err e) jobs jobs' what paths ok err = ap (λ (j : Jobs). j.place) err
 
-pub begun_sound : {T E : Type 0} (r : Result T E) (was : PartsView) (jobs : Jobs) (what : Job) (paths : List (List ℕ)) → OnOk r (jobs ≡ with_job was.jobs what paths) → OnOk r ((x : Rows) → JobsOwn was.jobs x → JobsOwn jobs x) → OnErr r (jobs ≡ was.jobs)
+-- what a begin says of the keys that are filled
+abbrev pub FilledBegun : Jobs → Jobs → Type 0
+FilledBegun jobs jobs' = (rows : Rows) (others : List ℕ → Bool) → JobsFilled rows jobs.running others → JobsFilled rows jobs'.running others
+
+begun_filled : {T E : Type 0} (r : Result T E) (was : PartsView) (jobs : Jobs) → OnOk r (FilledBegun was.jobs jobs) → OnErr r (jobs ≡ was.jobs) → AreFilled was.table was.sessions (fills_at was.jobs.running) → AreFilled was.table was.sessions (fills_at jobs.running)
+begun_filled (Ok x) was jobs ok err filled = for_sessions was.table was.sessions jobs.running (ok was.table (fills_in was.sessions) (for_jobs was.table was.sessions was.jobs.running filled))
+begun_filled (Err e) was jobs ok err filled = subst (λ (j : Jobs). AreFilled was.table was.sessions (fills_at j.running)) (sym err) filled
+
+pub begun_sound : {T E : Type 0} (r : Result T E) (was : PartsView) (jobs : Jobs) (what : Job) (paths : List (List ℕ)) → OnOk r (Begins was.jobs what paths jobs) → OnOk r ((x : Rows) → JobsOwn was.jobs x → JobsOwn jobs x) → OnOk r (FilledBegun was.jobs jobs) → OnErr r (jobs ≡ was.jobs)
     → AreSound was → AreSound (record { table = was.table; links = was.links; sessions = was.sessions; jobs = jobs })
-begun_sound r was jobs what paths ok owns err sound = record {
+begun_sound r was jobs what paths ok owns fills err sound = record {
   count = sound.count ∙ sym (ap (λ (p : PlaceView). length p.ids * 8) (begun_place r was.jobs jobs what paths ok err));
   there = sound.there;
   serving = sound.serving;
   acting = begun_own r was.jobs jobs was.table owns err sound.acting;
-  filled = sound.filled;
+  filled = begun_filled r was jobs fills err sound.filled;
 }

@@ -17,7 +17,7 @@ use Rattle.node_model.specs.SetUp.{SetUp}
 use Rattle.node_model.specs.Slots.{job_of}
 use Rattle.node_model.specs.State.{State}
 use Rattle.node_ends.specs.Going.{AreAfter}
-use Rattle.node_jobs.specs.Running.{AreWorks, Jobs, OwnAll as JobsOwn}
+use Rattle.running_jobs.specs.Running.{AreWorks, Jobs, OwnAll as JobsOwn}
 use Rattle.node_parts.specs.Direct.{IsDirect, MovesNothing, may_fail}
 use Rattle.node_parts.specs.Parts.{AreParts, PartsView}
 use Rattle.node_parts.specs.Sound.{AreSound}

@@ -7,8 +7,10 @@ pub mod Direct
 pub mod Posting
 pub mod Jobs
 pub mod Stored
-pub use Rattle.node_jobs.specs.Acting
-pub use Rattle.node_jobs.specs.Feeding
-pub use Rattle.node_jobs.specs.Places
-pub use Rattle.node_jobs.specs.Running
-pub use Rattle.node_jobs.specs.Working
+pub use Rattle.running_jobs.specs.Acting
+pub use Rattle.running_jobs.specs.Beginning
+pub use Rattle.running_jobs.specs.Leaving
+pub use Rattle.running_jobs.specs.Running
+pub use Rattle.node_drops.specs.Places
+pub use Rattle.drop_phases.specs.Feeding
+pub use Rattle.drop_phases.specs.Working

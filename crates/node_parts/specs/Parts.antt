@@ -1,14 +1,14 @@
 -- The moving parts of a repository, and the state that they are (own).
 use Rattle.std.specs.Prelude.{◌≡◌, ℕ, List, false, is_some, length}
 use Rattle.std.specs.Option.{option_map}
-use Rattle.object_store.specs.Stores.{Contents}
+use Rattle.object_store.specs.Stores.{Contents, Parts as StoredParts}
 use Rattle.content_lock.specs.Rows.{Rows, bar_at}
 use Rattle.link_ring.specs.Ends.{EndView}
 use Rattle.node_ends.specs.Ends.{AreEnds, end_at}
 use Rattle.p2p_server.specs.declared.session.Session.{Session}
-use Rattle.node_sessions.specs.Sessions.{AreSessions}
-use Rattle.node_jobs.specs.Places.{IsPlace}
-use Rattle.node_jobs.specs.Running.{AreWorks, Jobs}
+use Rattle.node_sessions.specs.Sessions.{AreSessions, AreAllFed as SessionsFed}
+use Rattle.node_drops.specs.Places.{IsPlace}
+use Rattle.running_jobs.specs.Running.{AreWorks, Jobs, AreAllFed as JobsFed}
 use Rattle.trust_groups.specs.Settings.{settings}
 use Rattle.node_model.specs.Ends.{EndName}
 use Rattle.node_model.specs.Sessions.{new_session}
@@ -38,3 +38,8 @@ pub record AreParts (s : SetUp) (st : State) (p : PartsView) : Type 0 where
 pub record HasContents (c : Contents) (st : State) : Type 0 where
   pub present : (key : List ℕ) → is_some (c key) ≡ st.present key
   pub content : (key : List ℕ) → option_map length (c key) ≡ st.content key
+
+-- what each session and each get has taken of a part is the store's part
+pub record AreAllFed (q : StoredParts) (p : PartsView) : Type 0 where
+  pub serving : SessionsFed q p.sessions
+  pub acting : JobsFed q p.jobs.running

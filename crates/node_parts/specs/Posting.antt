@@ -1,15 +1,16 @@
 -- The frames of a step, sent one behind the other after the step took one, or none (own).
-use Rattle.std.specs.Prelude.{◌≡◌, ℕ, true, false, if◌then◌else◌, List, [], ◌∷◌, ◌++◌, fold, length, map, Option, Some, None, is_some}
-use Rattle.std.specs.Option.{ForSome, option_map}
+use Rattle.std.specs.Prelude.{◌≡◌, ℕ, ◌==◌, Bool, true, false, if◌then◌else◌, List, [], ◌∷◌, ◌++◌, drop, find, flat_map, fold, length, map, take, Option, Some, None, is_some}
+use Rattle.std.specs.Option.{ForSome, option_map, option_to_list}
 use Rattle.annex_base.specs.Lists.{Member}
 use Rattle.annex_base.specs.declared.kinds.EntryStamp.{EntryStamp}
 use Rattle.annex_base.specs.declared.kinds.Word.{Word}
 use Rattle.run_data.specs.declared.entry.EntryKind.{EntryKind}
 use Rattle.run_data.specs.declared.entry.FrameText.{FrameText}
 use Rattle.run_data.specs.declared.entry.FrameView.{FrameView}
-use Rattle.object_store.specs.Stores.{Contents}
+use Rattle.object_store.specs.Stores.{Contents, bytes_of}
 use Rattle.link_ring.specs.Ends.{EndView, after_take}
 use Rattle.node_model.specs.Ends.{EndName, end_took, frames, sent_at, taken_at}
+use Rattle.node_model.specs.Jobs.{Phase, PutsBytes, Work}
 use Rattle.node_model.specs.SetUp.{SetUp}
 use Rattle.node_model.specs.State.{State}
 use Rattle.node_ends.specs.declared.sending.Sending.{Sending}
@@ -20,9 +21,20 @@ use Rattle.node_ends.specs.Sent.{link_sends, text_of_sending}
 use Rattle.node_sessions.specs.Pieces.{IsPieceOf}
 use Rattle.node_sessions.specs.Sessions.{AreSessions}
 use Rattle.node_sessions.specs.Words.{word_to}
-use Rattle.node_jobs.specs.declared.Parcel.{Parcel}
-use Rattle.node_jobs.specs.Working.{end_in, texts_of}
-use Rattle.node_jobs.specs.Sending.{HasPlace, TakesNoOpening, end_of}
+use Rattle.drop_phases.specs.declared.turn.Parcel.{Parcel}
+use Rattle.drop_phases.specs.Working.{end_in, texts_of}
+use Rattle.transfer_turns.specs.declared.parcels.Parcel.{Parcel as TransferParcel}
+use Rattle.transfer_turns.specs.declared.parcels.ParcelBody.{ParcelBody as TransferBody}
+use Rattle.transfer_turns.specs.declared.parcels.ParcelBody.TheVariants as transfers
+use Rattle.transfer_turns.specs.Parcels.{text_in}
+use Rattle.job_frames.specs.Sending.{HasPlace, TakesNoOpening, end_of}
+use Rattle.transfer_worker.specs.Workers.{work_of}
+use Rattle.node_tasks.specs.declared.acted.Sent.{Sent}
+use Rattle.node_tasks.specs.declared.acted.Sent.TheVariants as sents
+use Rattle.node_tasks.specs.declared.task.Task.{Task}
+use Rattle.node_tasks.specs.declared.task.Task.TheVariants as tasks
+use Rattle.node_tasks.specs.Tasks.{slot_of}
+use Rattle.running_jobs.specs.Running.{AreWorks}
 use Rattle.node_parts.specs.declared.moment.Moment.{Moment}
 use Rattle.node_parts.specs.Parts.{PartsView}
 
@@ -55,34 +67,86 @@ pub record Posts (sender : EntryStamp) (kind : EntryKind) (was now : List EndVie
   pub listed : (a : EndName) → map text_of_sending (said a) ≡ map (λ f. f.body) (sent_at a sent)
   pub links : (a : EndName) → link_at now a ≡ option_map (after_step sender kind a taken (said a)) (link_at was a)
 
--- and each piece that was sent is a session's, at a server's end: of the content that the session was sending, from the place on
--- to which it had come
+-- ---- the pieces of contents
+
+-- these are bytes of the content of the key that a copy which stands so is sending, from the place on to which it has come
+abbrev pub IsPieceAt : Contents → List ℕ → Phase → List ℕ → Type 0
+IsPieceAt contents key (PutsBytes peer start at left) bytes = bytes ≡ take (length bytes) (drop at (bytes_of contents key))
+IsPieceAt contents key phase bytes = ⊥
+
+-- the same of the content that this job is sending
+abbrev pub IsPieceOfWork : Contents → Option Work → List ℕ → Type 0
+IsPieceOfWork contents None bytes = ⊥
+IsPieceOfWork contents (Some w) bytes = IsPieceAt contents w.what.key w.phase bytes
+
+-- of each state that has these running jobs, the bytes are of the content that the job in the slot of a client's end is sending; at a
+-- server's end, of each that has these sessions, that its session is sending
+abbrev pub IsPieceSent : Bool → PartsView → Contents → EndName → List ℕ → Type 0
+IsPieceSent true was contents a bytes = (s : SetUp) (st : State) → AreWorks s st was.jobs → IsPieceOfWork contents (find (λ w. w.slot == a.slot) st.works) bytes
+IsPieceSent false was contents a bytes = (s : SetUp) (st : State) → AreSessions s st.sessions was.sessions → IsPieceOf contents (st.sessions a).doing bytes
+
+-- a copy that stands so is sending its content
+abbrev pub SendsBytes : Phase → Type 0
+SendsBytes (PutsBytes peer start at left) = Unit {0}
+SendsBytes phase = ⊥
+
+-- there is such a job, and it is a copy that is sending its content
+abbrev pub IsSending : Option Task → Type 0
+IsSending (Some (tasks.Transfers w)) = SendsBytes (work_of w).phase
+IsSending job = ⊥
+
+-- And each piece that was sent is of the content that was being sent there, from the place on to which it had come. Whatever the store
+-- tells, one that was sent at a client's end is of the job in the slot of that end, which was sending its content.
 pub record PostsPieces (sender : EntryStamp) (kind : EntryKind) (was : PartsView) (contents : Option Contents) (now : List EndView) (taken : Option FrameView) (sent : List FrameView) : Type 0 where
   pub posts : Posts sender kind was.links now taken sent
-  pub pieces : (a : EndName) (bytes : List ℕ) → Member (sendings.Bytes bytes) (posts.said a)
-      → (a.client ≡ false) × ForSome contents (λ c. (s : SetUp) (st : State) → AreSessions s st.sessions was.sessions → IsPieceOf c (st.sessions a).doing bytes)
+  pub pieces : (a : EndName) (bytes : List ℕ) → Member (sendings.Bytes bytes) (posts.said a) → ForSome contents (λ c. IsPieceSent a.client was c a bytes)
+  pub senders : (a : EndName) (bytes : List ℕ) → Member (sendings.Bytes bytes) (posts.said a) → a.client ≡ true → IsSending (find (λ t. slot_of t == a.slot) was.jobs.running)
 
 -- ---- how it comes about, frame by frame
 
--- an answer, with the end that sends it, if there is one
-abbrev pub Answer : Type 0
-Answer = Option (EndName × Sending)
+-- answers, each with the end that sends it
+abbrev pub Answers : Type 0
+Answers = List (EndName × Sending)
 
-abbrev pub answer_at : EndName → Option Sending → Answer
-answer_at a reply = option_map (λ said. (a, said)) reply
+abbrev pub answers_at : EndName → Option Sending → Answers
+answers_at a reply = option_to_list (option_map (λ said. (a, said)) reply)
 
--- and no piece was sent but this answer
-pub record PostsOnly (answer : Answer) (sender : EntryStamp) (kind : EntryKind) (was now : List EndView) (taken : Option FrameView) (sent : List FrameView) : Type 0 where
+-- and no piece was sent but these answers
+pub record PostsOnly (answers : Answers) (sender : EntryStamp) (kind : EntryKind) (was now : List EndView) (taken : Option FrameView) (sent : List FrameView) : Type 0 where
   pub posts : Posts sender kind was now taken sent
-  pub pieces : (a : EndName) (bytes : List ℕ) → Member (sendings.Bytes bytes) (posts.said a) → answer ≡ Some (a, sendings.Bytes bytes)
+  pub pieces : (a : EndName) (bytes : List ℕ) → Member (sendings.Bytes bytes) (posts.said a) → Member (a, sendings.Bytes bytes) answers
 
 -- these ends took this frame, or none, and sent nothing
 abbrev pub PostsNothing : List EndView → List EndView → Option FrameView → Type 0
-PostsNothing was now taken = (answer : Answer) (sender : EntryStamp) (kind : EntryKind) → PostsOnly answer sender kind was now taken []
+PostsNothing was now taken = (answers : Answers) (sender : EntryStamp) (kind : EntryKind) → PostsOnly answers sender kind was now taken []
 
 -- what went on so from any ends goes on so
 abbrev pub PostsOn : EntryStamp → List EndView → List EndView → List FrameView → List FrameView → Type 0
-PostsOn sender ends ends' sent sent' = (answer : Answer) (kind : EntryKind) (was : List EndView) (taken : Option FrameView) → PostsOnly answer sender kind was ends taken sent → PostsOnly answer sender kind was ends' taken sent'
+PostsOn sender ends ends' sent sent' = (answers : Answers) (kind : EntryKind) (was : List EndView) (taken : Option FrameView) → PostsOnly answers sender kind was ends taken sent → PostsOnly answers sender kind was ends' taken sent'
+
+-- these are all among those
+abbrev pub AreAmong : Answers → Answers → Type 0
+AreAmong these answers = (x : EndName × Sending) → Member x these → Member x answers
+
+-- the same where these answers may be sent
+abbrev pub PostsWith : Answers → EntryStamp → List EndView → List EndView → List FrameView → List FrameView → Type 0
+PostsWith these sender ends ends' sent sent' = (answers : Answers) (kind : EntryKind) (was : List EndView) (taken : Option FrameView)
+    → AreAmong these answers → PostsOnly answers sender kind was ends taken sent → PostsOnly answers sender kind was ends' taken sent'
+
+-- ---- what a job sends
+
+-- a piece, if it is one
+abbrev pub piece_in : TransferBody → Option Sending
+piece_in (transfers.Piece bytes) = Some (sendings.Bytes bytes.items)
+piece_in body = None
+
+-- the pieces of parcels, each with the end of this slot that sends it
+abbrev pub pieces_at : ℕ → TransferParcel → Answers
+pieces_at slot p = answers_at (end_in slot p.peer) (piece_in p.body)
+
+abbrev pub pieces_in : ℕ → Sent → Answers
+pieces_in slot (sents.ByDrop ps) = []
+pieces_in slot (sents.ByTransfer ps) = flat_map (pieces_at slot) ps.items
 
 -- ---- their places
 
@@ -104,6 +168,10 @@ IsPlaced was taken sent f = HasPlace (λ a. end_took (end_at was a) (taken_at a 
 abbrev pub ArePlaced : List EndView → Option FrameView → List FrameView → List FrameView → Type 0
 ArePlaced was taken sent fs = (xs ys : List FrameView) (f : FrameView) → fs ≡ xs ++ f ∷ ys → IsPlaced was taken (sent ++ xs) f
 
--- the frames of a parcel, at the end of this slot
-abbrev pub frames_in : List EndView → ℕ → Parcel → List FrameView
-frames_in was slot p = frames (end_in slot p.peer) (end_at was (end_in slot p.peer)) (texts_of p.body)
+-- the frames of a drop's parcel, at the end of this slot
+abbrev pub frames_of_drop : List EndView → ℕ → Parcel → List FrameView
+frames_of_drop was slot p = frames (end_in slot p.peer) (end_at was (end_in slot p.peer)) (texts_of p.body)
+
+-- and of a transfer's
+abbrev pub frames_of_transfer : List EndView → ℕ → TransferParcel → List FrameView
+frames_of_transfer was slot p = frames (end_in slot p.peer) (end_at was (end_in slot p.peer)) (text_in p.body ∷ [])

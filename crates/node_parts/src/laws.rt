@@ -16,8 +16,8 @@ ghost use Rattle.node_parts.specs.Direct.{IsDirect, MovesNothing};
 ghost use Rattle.node_parts.specs.Sound.{AreSound};
 
 use node_ends::ends_go_on;
-use node_jobs::{jobs_stay, jobs_stay_where_lines_fail};
 use node_sessions::{sessions_and_jobs_fill, sessions_stay};
+use running_jobs::{jobs_stay, jobs_stay_where_lines_fail};
 
 /// The parts are those of the state after an entry that moves none of them.
 pub fn parts_stay()

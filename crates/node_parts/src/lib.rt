@@ -3,17 +3,22 @@
 
 mod acting;
 mod done;
+mod drop_frames;
 mod jobs;
 mod laws;
 mod moment;
 mod parts;
+mod sending;
 mod serving;
 mod taking;
+mod transfer_frames;
 
 pub use done::Done;
+pub use drop_phases::{Phase, Token};
 pub use laws::{
     direct_entries_leave_rows, parts_stay, states_have_their_settings, tables_fill_as_states,
 };
 pub use moment::Moment;
-pub use node_jobs::{BeginRefused, Clock, Phase, Time, Token};
+pub use node_tasks::{Clock, Time};
 pub use parts::Parts;
+pub use running_jobs::BeginRefused;

@@ -2,7 +2,7 @@
 ghost use Rattle.std.specs.Prelude.{◌≡◌};
 
 use annex_base::EntryStamp;
-use node_jobs::{Clock, Time};
+use node_tasks::{Clock, Time};
 
 /// When the next entry of a repository is made: the time, the clock of the repository, the entry's count, and its number among
 /// those of the repository, from 1 (own).

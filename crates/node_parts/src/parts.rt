@@ -16,10 +16,10 @@ ghost use Rattle.node_model.specs.SetUp.{SetUp};
 ghost use Rattle.node_model.specs.State.{State};
 ghost use Rattle.content_lock.specs.CallsMade.{MakesCalls, fewer};
 ghost use Rattle.node_ends.specs.Joined.{AreCarried, AreJoined, StayPaired};
-ghost use Rattle.node_sessions.specs.Sessions.{AreAllFed, IsSetUp};
-ghost use Rattle.node_jobs.specs.Acting.{with_job};
+ghost use Rattle.node_sessions.specs.Sessions.{IsSetUp};
+ghost use Rattle.running_jobs.specs.Beginning.{Begins, MayBegin};
 ghost use Rattle.node_parts.specs.Kinds.{IsQuiet};
-ghost use Rattle.node_parts.specs.Parts.{AreParts};
+ghost use Rattle.node_parts.specs.Parts.{AreAllFed, AreParts};
 ghost use Rattle.node_parts.specs.Posting.{PostsPieces, stamp_of};
 ghost use Rattle.node_parts.specs.Sound.{AreSound};
 ghost use Rattle.node_parts.specs.Steps.{HasPart, LeavesSo, Serves, WhereServed, failed_by};
@@ -32,13 +32,14 @@ use annex_base::{Items, NoMemory, RepoId, Text};
 use content_lock::LockTable;
 use link_ring::Links;
 use node_ends::{Ends, carry_ends, ends_begin_closed, ends_go_on};
-use node_jobs::{BeginRefused, Jobs, Place, jobs_stay};
 use node_sessions::{
     Sessions, looks_see_parts, sessions_and_jobs_fill, sessions_entries_are_no_jobs,
     sessions_make_their_own_entries, sessions_of_closed_ends_are_new, sessions_stay,
 };
+use node_tasks::Place;
 use object_store::Keeper;
-use run_data::{Job, JobKind};
+use run_data::Job;
+use running_jobs::{BeginRefused, Jobs, jobs_stay};
 use std::alloc::Global;
 use std::marker::Model;
 
@@ -82,7 +83,7 @@ impl Parts {
         ensures links { IfOk result (λ p. p.links ≡ replicate (length ids * 8) fresh) }
         ensures jobs { IfOk result (λ p. p.jobs ≡ record { place = record { number = number; ids = ids }; running = []; begun = 0 }) }
         ensures parts { IfOk result (λ p. (s : SetUp) → IsSetUp s id version locks number (length ids) → map (λ (repo : RepoView). repo.id) s.repos ≡ ids → AreParts s (first_state s) p) }
-        ensures fed { IfOk result (λ p. (q : StoredParts) → AreAllFed q p.sessions) }
+        ensures fed { IfOk result (λ p. (q : StoredParts) → AreAllFed q p) }
     {
         // A law, for the proof that the ends are those of the first state.
         ends_begin_closed();
@@ -121,24 +122,25 @@ impl Parts {
         self.jobs.running() < 4
     }
 
-    /// Begins a drop of the repository's own copy, of a key that has these paths in the tree, and gives its number. After a
-    /// refusal all is as before.
+    /// Begins a job, and gives its number: a drop of the repository's own copy, a get from any or from another repository, or a copy
+    /// to another one. Its key has these paths in the tree. After a refusal all is as before.
     pub fn begin(
         &mut self,
         alloc: Global,
         what: Job,
         paths: Items<Text>,
     ) -> Result<u32, BeginRefused>
-        requires kind { what.kind ≡ JobKind.Drop }
-        requires peer { what.peer ≡ None }
+        requires may { MayBegin self.old.jobs.place what.kind what.peer }
         requires few { self.old.jobs.begun < 2 ^ 32 - 1 }
         ensures number { IfOk result (λ n. n ≡ self.old.jobs.begun + 1) }
-        ensures jobs { OnOk result (self.new ≡ record self.old { jobs = with_job self.old.jobs what paths }) }
+        ensures jobs { OnOk result (Begins self.old.jobs what paths self.new.jobs) }
+        ensures rest { self.new ≡ record self.old { jobs = self.new.jobs } }
         ensures free { OnOk result (length self.old.jobs.running < 4) }
         ensures full { IsErrOf result BeginRefused.NoSlot → 4 ≤ length self.old.jobs.running }
         ensures short { IsErrOf result BeginRefused.NoMemory → length self.old.jobs.running < 4 }
         ensures err { OnErr result (self.new ≡ self.old) }
         ensures parts { OnOk result ((s : SetUp) (st : State) (e : Entry) → AreParts s st self.old → e.kind ≡ Begin (self.old.jobs.begun + 1) what → e.taken ≡ None → e.sent ≡ [] → AreParts s (state_after s st e) self.new) }
+        ensures fed { OnOk result ((q : StoredParts) → AreAllFed q self.old → AreAllFed q self.new) }
     {
         // Laws, for the proof that the ends and the sessions are those of the state after the entry.
         ends_go_on();
@@ -176,7 +178,7 @@ impl Parts {
         // Over a store that tells: of each state that these and the store are, at each look that finds the part that is asked for,
         // this is the step of its sessions; and there is such a part.
         ensures step { IfOk result (λ o. ForSome (K.contents keeper.old) (λ c. Serves self.old self.new c (K.parts keeper.old) (K.contents keeper.new) moment.clock moment.time moment.number o)) }
-        ensures asked { IfOk result (λ o. ForSome (K.parts keeper.old) (λ q. AreAllFed q self.old.sessions → ForSome o (λ d. HasPart (Some q) self.old d.taken))) }
+        ensures asked { IfOk result (λ o. ForSome (K.parts keeper.old) (λ q. AreAllFed q self.old → ForSome o (λ d. HasPart (Some q) self.old d.kind d.taken))) }
 
         // At the same looks it makes the calls of its store that that step makes; where one was to fail, it tells that call.
         ensures calls { IfOk result (λ o. ForSome (K.contents keeper.old) (λ c. WhereServed self.old c (K.parts keeper.old) moment.clock moment.time moment.number o (λ s st k. ForSome (session_step s st k) (λ (m : Effect). MakesCalls m.calls (failed_by o) (K.failing keeper.old) (K.failing keeper.new))))) }
@@ -186,7 +188,8 @@ impl Parts {
         ensures leaves { IfOk result (LeavesSo moment.number self.old self.new) }
         ensures posts { IfOk result (λ o. ForSome o (λ d. PostsPieces (stamp_of moment self.old.jobs.place.number) d.kind self.old (K.contents keeper.old) self.new.links d.taken d.sent)) }
         ensures kind { IfOk result (λ o. ForSome o (λ d. IsQuiet d.kind)) }
-        ensures fed { ForSome (K.parts keeper.old) (λ q. AreAllFed q self.old.sessions → ForSome (K.parts keeper.new) (λ q'. AreAllFed q' self.new.sessions)) }
+        ensures owes { IfOk result (λ o. ForSome o (λ d. d.owes ≡ None)) }
+        ensures fed { ForSome (K.parts keeper.old) (λ q. AreAllFed q self.old → ForSome (K.parts keeper.new) (λ q'. AreAllFed q' self.new)) }
         ensures told_contents { is_some (K.parts keeper.old) ≡ true → is_some (K.contents keeper.new) ≡ is_some (K.contents keeper.old) }
         ensures told_parts { is_some (K.parts keeper.new) ≡ is_some (K.parts keeper.old) }
         ensures small { AreSmallParts (K.parts keeper.old) → AreSmallParts (K.parts keeper.new) }
@@ -209,7 +212,7 @@ impl Parts {
             count,
             number,
         } = moment;
-        // Laws, for the proof that a look sees a part and the keys filled, and that all parts are then the state's.
+        // Laws, for the proof that a look sees a part and the keys filled, and that all parts are then the state's and the store's.
         ends_go_on();
         jobs_stay();
         looks_see_parts();

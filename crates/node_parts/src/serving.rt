@@ -14,7 +14,7 @@ ghost use Rattle.node_ends.specs.Joined.{StayPaired};
 ghost use Rattle.node_ends.specs.Sent.{may_send};
 ghost use Rattle.node_sessions.specs.Serving.{IsTalk, ServesAt, ServesIf, end_by, made_by, says_in};
 ghost use Rattle.node_sessions.specs.Words.{word_to};
-ghost use Rattle.node_parts.specs.Posting.{PostsNothing, PostsOn, PostsOnly, answer_at};
+ghost use Rattle.node_parts.specs.Posting.{PostsNothing, PostsOn, PostsOnly, answers_at};
 ghost use Rattle.node_parts.specs.Steps.{EndsAfter, made_of};
 
 use crate::done::Done;
@@ -75,7 +75,7 @@ fn reply_with(
     ensures shut { frames (name_of id) (end_at ends.old (name_of id)) (says_in reply true) ≡ result.items ++ frames (name_of id) (end_at ends.new (name_of id)) (texts.Closing ∷ []) }
     ensures room { vec_len result < vec_capacity result }
     ensures after { (was : List EndView) (taken : Option FrameView) → AreAfter was ends.old taken [] → AreAfter was ends.new taken result.items }
-    ensures posts { (kind : EntryKind) (was : List EndView) (taken : Option FrameView) → word ≡ word_to taken kind → PostsOnly (answer_at (name_of id) reply) stamp kind was ends.old taken [] → PostsOnly (answer_at (name_of id) reply) stamp kind was ends.new taken result.items }
+    ensures posts { (kind : EntryKind) (was : List EndView) (taken : Option FrameView) → word ≡ word_to taken kind → PostsOnly (answers_at (name_of id) reply) stamp kind was ends.old taken [] → PostsOnly (answers_at (name_of id) reply) stamp kind was ends.new taken result.items }
     ensures paired { StayPaired ends.old ends.new }
     ensures count { length ends.new ≡ length ends.old }
 {
@@ -117,8 +117,9 @@ fn serve(ends: &mut Ends, stamp: EntryStamp, served: Served, listing: Vec<FrameV
     requires empty { listing.items ≡ [] }
     requires room { 2 ≤ vec_capacity listing }
     ensures made { made_of result ≡ made_by ends.old served }
+    ensures owes { result.owes ≡ None }
     ensures after { AreAfter ends.old ends.new result.taken result.sent }
-    ensures posts { PostsOnly (answer_at (end_by served) served.reply) stamp result.kind ends.old ends.new result.taken result.sent }
+    ensures posts { PostsOnly (answers_at (end_by served) served.reply) stamp result.kind ends.old ends.new result.taken result.sent }
     ensures paired { StayPaired ends.old ends.new }
     ensures count { length ends.new ≡ length ends.old }
 {
@@ -143,6 +144,7 @@ fn serve(ends: &mut Ends, stamp: EntryStamp, served: Served, listing: Vec<FrameV
         kind,
         taken,
         sent: Items::from_vec(sent),
+        owes: None,
     }
 }
 
@@ -157,8 +159,9 @@ pub(crate) fn serve_if(
     requires empty { listing.items ≡ [] }
     requires room { 2 ≤ vec_capacity listing }
     ensures made { option_map made_of result ≡ option_map (made_by ends.old) served }
+    ensures owes { ForSome result (λ d. d.owes ≡ None) }
     ensures after { EndsAfter ends.old ends.new result }
-    ensures posts { ForSome result (λ d. ForSome served (λ v. PostsOnly (answer_at (end_by v) v.reply) stamp d.kind ends.old ends.new d.taken d.sent)) }
+    ensures posts { ForSome result (λ d. ForSome served (λ v. PostsOnly (answers_at (end_by v) v.reply) stamp d.kind ends.old ends.new d.taken d.sent)) }
     ensures paired { StayPaired ends.old ends.new }
     ensures count { length ends.new ≡ length ends.old }
 {

@@ -1,20 +1,24 @@
 -- What is sent is what the definitions send.
-use Rattle.std.proofs.Common.{None, sym, subst, ◌∙◌}
-use Rattle.node_parts.specs.Posting.{PostsOnly}
-use Rattle.node_parts.proofs.Posting.{sent_well}
+use Rattle.std.proofs.Common.{[], sym, subst, ◌∙◌}
+use Rattle.node_ends.specs.Going.{AreAfter}
+use Rattle.node_parts.specs.Posting.{PostsOnly, pieces_in}
+use Rattle.node_parts.proofs.Posts.{with_all}
 use Rattle.node_parts.proofs.acting.act.Goals as goal
 
 pub returns-clause-sent : goal.returns-clause-sent
 returns-clause-sent c = λ quiet well.
-    let parts = c.into_parts-parcels in
-    c.from_vec.ensures
-    ∙ sent_well c.args.ends.now c.take_from-taken.new.ends c.take_from-taken.result c.args.acted.slot parts.result.1.items parts.ensures.room.empty c.take_from-taken.ensures.posted
-    c.post_all.new.sent.items parts.result.0.items c.args.acted.sends.items parts.ensures.parcels (c.post_all.ensures.well c.args.ends.now c.take_from-taken.result) quiet well
+    c.from_vec.ensures ∙ c.post_sent-listed.ensures.well c.args.ends.now c.take_from-taken.result c.take_from-taken.ensures.posted quiet well
+
+pub returns-clause-after : goal.returns-clause-after
+returns-clause-after c =
+    subst (AreAfter c.args.ends.now c.post_sent-listed.new.ends c.take_from-taken.result) (sym c.from_vec.ensures)
+    ((c.post_sent-listed.ensures.posted c.args.ends.now c.take_from-taken.result c.take_from-taken.ensures.posted).after)
 
 pub returns-clause-posts : goal.returns-clause-posts
 returns-clause-posts c =
     let kind = c.args.acted.kind in
     let was = c.args.ends.now in
     let taken = c.take_from-taken.result in
-    subst (PostsOnly None c.args.stamp kind was c.post_all.new.ends taken) (sym c.from_vec.ensures)
-    (c.post_all.ensures.posts None kind was taken (subst (PostsOnly None c.args.stamp kind was c.take_from-taken.new.ends taken) (sym c.into_parts-parcels.ensures.room.empty) (c.take_from-taken.ensures.posts None c.args.stamp kind)))
+    let pieces = pieces_in c.args.acted.slot c.args.acted.sent in
+    subst (PostsOnly pieces c.args.stamp kind was c.post_sent-listed.new.ends taken) (sym c.from_vec.ensures)
+    (with_all pieces c.args.stamp kind c.take_from-taken.new.ends c.post_sent-listed.new.ends was taken [] c.post_sent-listed.result.items c.post_sent-listed.ensures.posts (c.take_from-taken.ensures.posts pieces c.args.stamp kind))

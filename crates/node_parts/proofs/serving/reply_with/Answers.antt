@@ -1,10 +1,12 @@
 -- What the proof of `serving::reply_with` needs beside the tactics.
-use Rattle.std.proofs.Common.{List, Some, [], ◌∷◌, ◌++◌, sym, ap, subst, ◌∙◌}
+use Rattle.std.proofs.Common.{inl, List, Option, Some, [], ◌∷◌, ◌++◌, refl, sym, ap, subst, ◌∙◌}
+use Rattle.annex_base.specs.Lists.{Member}
 use Rattle.run_data.specs.declared.entry.FrameView.{FrameView}
 use Rattle.node_model.specs.Ends.{End}
 use Rattle.node_ends.specs.declared.sending.Sending.{Sending}
+use Rattle.node_ends.specs.declared.sending.Sending.TheVariants as sendings
 use Rattle.node_ends.specs.Ends.{end_at, name_of}
-use Rattle.node_parts.specs.Posting.{PostsOnly, answer_at}
+use Rattle.node_parts.specs.Posting.{PostsOnly, answers_at}
 use Rattle.node_parts.proofs.Posts.{posts_word, talk_word}
 use Rattle.node_parts.proofs.Saying.{listed_talk, may_talk, opened_talk}
 use Rattle.node_parts.proofs.serving.reply_with.Goals as goal
@@ -24,7 +26,7 @@ returns-in-Some-clause-posts c = λ kind was taken word before.
     let e = c.send.ensures in
     let a = name_of c.args.id in
     let said = c.in-Some.said in
-    let answer = answer_at a c.args.reply in
-    subst (PostsOnly answer c.args.stamp kind was c.send.new.self taken) (sym (c.push_reserved.ensures.items ∙ ap (λ (fs : List FrameView). fs ++ c.send.result ∷ []) c.requires.empty))
-    (posts_word answer c.args.stamp kind was c.args.ends.now taken [] before c.send.new.self a said (λ bytes is. ap (answer_at a) c.in-Some.is ∙ ap (λ (x : Sending). Some (a, x)) is) c.args.word (word ∙ talk_word a taken kind said (c.requires.talk said c.in-Some.is) c.requires.server) c.send.result
+    let answers = answers_at a c.args.reply in
+    subst (PostsOnly answers c.args.stamp kind was c.send.new.self taken) (sym (c.push_reserved.ensures.items ∙ ap (λ (fs : List FrameView). fs ++ c.send.result ∷ []) c.requires.empty))
+    (posts_word answers c.args.stamp kind was c.args.ends.now taken [] before c.send.new.self a said (λ bytes is. subst (λ (o : Option Sending). Member (a, sendings.Bytes bytes) (answers_at a o)) (sym (c.in-Some.is ∙ ap (λ (x : Sending). Some x) is)) (inl refl)) c.args.word (word ∙ talk_word a taken kind said (c.requires.talk said c.in-Some.is) c.requires.server) c.send.result
     (record { view = e.view; state = e.state; link = e.link; others = e.others; count = e.count; after = e.after }))

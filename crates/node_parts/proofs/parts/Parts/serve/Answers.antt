@@ -1,5 +1,5 @@
 -- What the proof of `parts::Parts::serve` needs beside the tactics.
-use Rattle.std.proofs.Common.{List, false, length, ◌+◌, Option, Some, refl, sym, ap, subst, ◌∙◌, arith}
+use Rattle.std.proofs.Common.{List, length, ◌+◌, Option, Some, refl, sym, ap, subst, ◌∙◌, arith}
 use Rattle.std.specs.Option.{ForSome, option_map}
 use Rattle.annex_base.specs.declared.kinds.Call.{Call}
 use Rattle.run_data.specs.declared.entry.By.TheVariants.{Job as by_job}
@@ -9,25 +9,33 @@ use Rattle.node_model.specs.SessionStep.{session_step}
 use Rattle.content_lock.specs.CallsMade.{MakesCalls, fewer}
 use Rattle.node_ends.specs.Joined.{StayPaired}
 use Rattle.node_sessions.specs.Serving.{ServesIf}
-use Rattle.node_sessions.specs.Sessions.{AreAllFed}
-use Rattle.node_parts.specs.Parts.{PartsView}
+use Rattle.running_jobs.specs.Running.{fills_at}
+use Rattle.node_parts.specs.Parts.{AreAllFed, PartsView}
 use Rattle.node_parts.specs.Posting.{PostsPieces, stamp_of}
 use Rattle.node_parts.specs.declared.done.Done.{Done}
 use Rattle.node_parts.specs.Steps.{HasPart, LeavesSo, Serves, WhereServed, failed_by}
 use Rattle.node_parts.specs.Stored.{parts_then}
 use Rattle.node_parts.proofs.Asked.{contents_served, has_of, parts_served}
 use Rattle.node_parts.proofs.Pieces.{served_pieces}
-use Rattle.node_parts.proofs.Served.{calls_of, failed_same, leaves_at, made_at, none_served, quiet_served, step_of}
+use Rattle.node_parts.proofs.Served.{calls_of, failed_same, fed_served, leaves_at, made_at, no_job_served, none_served, quiet_served, step_of}
 use Rattle.node_parts.proofs.Sounding.{no_jobs, sound_after, there_still}
 use Rattle.node_parts.proofs.parts.Parts.serve.Goals as goal
 
 pub returns-in_err-served-clause-fed : goal.returns-in_err-served-clause-fed
-returns-in_err-served-clause-fed g c = λ q told fed q' told' i x at.
-    c.in_err-served.ensures.fed q told (subst (λ (p : PartsView). AreAllFed q p.sessions) (sym c.self.view_is) fed) q' told' i x at
+returns-in_err-served-clause-fed g c =
+    let i = c.self.inside in
+    let was : PartsView = record { table = i.table; links = i.ends; sessions = i.sessions; jobs = i.jobs } in
+    let e = c.in_err-served.ensures in
+    subst (λ (p : PartsView). ForSome (g.K.Keeper.parts c.args.keeper.now) (λ q. AreAllFed q p → ForSome (g.K.Keeper.parts c.step.new.keeper) (λ q'. AreAllFed q' (record { table = c.step.new.table; links = c.step.new.ends; sessions = c.step.new.self; jobs = i.jobs })))) c.self.view_is
+    (fed_served was (record { table = c.step.new.table; links = c.step.new.ends; sessions = c.step.new.self; jobs = i.jobs }) (g.K.Keeper.parts c.args.keeper.now) (g.K.Keeper.parts c.step.new.keeper) c.self.invariant refl e.fed e.parts)
 
 pub returns-clause-fed : goal.returns-clause-fed
-returns-clause-fed g c = λ q told fed q' told' i x at.
-    c.in_ok-served.ensures.fed q told (subst (λ (p : PartsView). AreAllFed q p.sessions) (sym c.self.view_is) fed) q' told' i x at
+returns-clause-fed g c =
+    let i = c.self.inside in
+    let was : PartsView = record { table = i.table; links = i.ends; sessions = i.sessions; jobs = i.jobs } in
+    let e = c.in_ok-served.ensures in
+    subst (λ (p : PartsView). ForSome (g.K.Keeper.parts c.args.keeper.now) (λ q. AreAllFed q p → ForSome (g.K.Keeper.parts c.step.new.keeper) (λ q'. AreAllFed q' (record { table = c.step.new.table; links = c.serve_if.new.ends; sessions = c.step.new.self; jobs = i.jobs })))) c.self.view_is
+    (fed_served was (record { table = c.step.new.table; links = c.serve_if.new.ends; sessions = c.step.new.self; jobs = i.jobs }) (g.K.Keeper.parts c.args.keeper.now) (g.K.Keeper.parts c.step.new.keeper) c.self.invariant refl e.fed e.parts)
 
 pub serve_if-requires-clause-serves : goal.serve_if-requires-clause-serves
 serve_if-requires-clause-serves g c =
@@ -40,7 +48,7 @@ invariant_of-self-2 g c =
     let paired : StayPaired i.ends now = subst (λ (links : List EndView). StayPaired links now) c.in_ok-served.ensures.same c.serve_if.ensures.paired in
     sound_after (record { table = i.table; links = i.ends; sessions = i.sessions; jobs = i.jobs }) c.step.new.table now c.step.new.self c.self.invariant
     (c.serve_if.ensures.count ∙ ap (λ (links : List EndView). length links) c.in_ok-served.ensures.same) (there_still i.ends now c.step.new.self paired (c.in_ok-served.ensures.there i.ends c.self.invariant.there))
-    c.in_ok-served.ensures.owns (c.in_ok-served.ensures.filled (λ key. false) c.self.invariant.filled) c.in_ok-served.ensures.bars
+    c.in_ok-served.ensures.owns (c.in_ok-served.ensures.filled (fills_at i.jobs.running) c.self.invariant.filled) c.in_ok-served.ensures.bars
     (λ job share own. c.in_ok-served.ensures.others (by_job job) share (no_jobs i.sessions job) own)
 
 pub returns-clause-step : goal.returns-clause-step
@@ -64,8 +72,9 @@ returns-clause-asked g c = λ q told fed.
     let served = c.in_ok-served.served in
     let done = c.serve_if.result in
     let same = made_at was.links c.step.new.ends served done c.in_ok-served.ensures.same c.serve_if.ensures.made in
-    subst (λ (p : PartsView). ForSome done (λ d. HasPart (Some q) p d.taken)) c.self.view_is
-    (has_of was (Some q) served done same (c.looks_see_parts.ensures q was.sessions was.links served (subst (λ (p : PartsView). AreAllFed q p.sessions) (sym c.self.view_is) fed)))
+    let none = no_job_served c.sessions_entries_are_no_jobs.ensures c.args.moment.number was.links served done same c.in_ok-served.ensures.kind in
+    subst (λ (p : PartsView). ForSome done (λ d. HasPart (Some q) p d.kind d.taken)) c.self.view_is
+    (has_of was (Some q) served done same none (c.looks_see_parts.ensures q was.sessions was.links served (subst (AreAllFed q) (sym c.self.view_is) fed).serving))
 
 pub returns-clause-calls : goal.returns-clause-calls
 returns-clause-calls g c =
@@ -104,7 +113,8 @@ returns-clause-parts g c =
     let done = c.serve_if.result in
     let known = g.K.Keeper.parts c.args.keeper.now in
     let same = made_at was.links c.step.new.ends served done c.in_ok-served.ensures.same c.serve_if.ensures.made in
-    c.in_ok-served.ensures.left_parts ∙ parts_served was known served done same ∙ ap (λ (p : PartsView). parts_then p known done) c.self.view_is
+    let none = no_job_served c.sessions_entries_are_no_jobs.ensures c.args.moment.number was.links served done same c.in_ok-served.ensures.kind in
+    c.in_ok-served.ensures.left_parts ∙ parts_served was known served done same none ∙ ap (λ (p : PartsView). parts_then p known done) c.self.view_is
 
 pub returns-clause-leaves : goal.returns-clause-leaves
 returns-clause-leaves g c =

@@ -5,7 +5,7 @@ use Rattle.node_parts.specs.Posting.{IsPlaced}
 use Rattle.node_parts.proofs.Posting.{first_place}
 use Rattle.node_parts.proofs.Posts.{posts_on}
 use Rattle.node_parts.proofs.Sounding.{stay_on}
-use Rattle.node_parts.proofs.acting.post_last.Goals as goal
+use Rattle.node_parts.proofs.sending.post_last.Goals as goal
 
 pub returns-clause-posted : goal.returns-clause-posted
 returns-clause-posted c = λ was taken before. c.post.ensures.posted was taken (c.post_said.ensures.posted was taken before)

@@ -1,11 +1,11 @@
 -- A frame that isn't an opening leaves the room that there was.
 use Rattle.std.proofs.Common.{[], Option, refl, sym, subst}
 use Rattle.run_data.specs.declared.entry.FrameView.{FrameView}
-use Rattle.node_jobs.specs.Working.{end_in}
+use Rattle.drop_phases.specs.Working.{end_in}
 use Rattle.node_parts.specs.Posting.{PostsNothing}
 use Rattle.node_parts.proofs.Posting.{taken_posted}
 use Rattle.node_parts.proofs.Posts.{posts_nothing}
-use Rattle.node_parts.proofs.acting.take_from.Goals as goal
+use Rattle.node_parts.proofs.sending.take_from.Goals as goal
 
 pub returns-clause-posted : goal.returns-clause-posted
 returns-clause-posted c =

@@ -4,7 +4,7 @@ use Rattle.node_ends.specs.Ends.{name_of}
 use Rattle.node_parts.specs.Posting.{IsPosted, PostsOnly}
 use Rattle.node_parts.proofs.Posting.{listed_by, posted_by}
 use Rattle.node_parts.proofs.Posts.{posts_by}
-use Rattle.node_parts.proofs.acting.post.Goals as goal
+use Rattle.node_parts.proofs.sending.post.Goals as goal
 
 pub returns-clause-posted : goal.returns-clause-posted
 returns-clause-posted c = λ was taken before.
@@ -22,7 +22,7 @@ pub returns-clause-there : goal.returns-clause-there
 returns-clause-there c = c.post-frame.ensures.there (name_of c.args.id) ∙ c.requires.there
 
 pub returns-clause-posts : goal.returns-clause-posts
-returns-clause-posts c = λ answer kind was taken before.
-    subst (PostsOnly answer c.args.stamp kind was c.post-frame.new.self taken) (sym c.list.ensures.items)
-    (posts_by answer c.args.stamp kind was c.args.ends.now taken c.args.sent.now.items before c.post-frame.new.self (name_of c.args.id) c.args.said c.requires.client c.requires.line c.post-frame.result c.post-frame.ensures.sent
+returns-clause-posts c = λ answers kind was taken before.
+    subst (PostsOnly answers c.args.stamp kind was c.post-frame.new.self taken) (sym c.list.ensures.items)
+    (posts_by answers c.args.stamp kind was c.args.ends.now taken c.args.sent.now.items before c.post-frame.new.self (name_of c.args.id) c.args.said c.requires.client c.requires.line c.post-frame.result c.post-frame.ensures.sent
     (λ none. (c.post-frame.ensures.kept (sym c.post-frame.ensures.gives ∙ ap is_some none)).1))

@@ -1,0 +1,27 @@
+-- What is sent is listed, and is the piece.
+use Rattle.std.proofs.Common.{is_some, sym, ap, subst, ◌∙◌}
+use Rattle.node_ends.specs.declared.sending.Sending.TheVariants as sendings
+use Rattle.node_ends.specs.Ends.{name_of}
+use Rattle.node_parts.specs.Posting.{IsPosted, PostsOnly}
+use Rattle.node_parts.proofs.Posting.{listed_by, posted_by}
+use Rattle.node_parts.proofs.Posts.{piece_own, posts_own}
+use Rattle.node_parts.proofs.sending.post_piece.Goals as goal
+
+pub returns-clause-posted : goal.returns-clause-posted
+returns-clause-posted c = λ was taken before.
+    subst (IsPosted was taken c.post-frame.new.self) (sym c.list.ensures.items)
+    (posted_by was c.args.ends.now taken c.args.sent.now.items before c.post-frame.new.self (name_of c.args.id) c.args.stamp (sendings.Bytes c.args.piece) c.post-frame.result c.post-frame.ensures.gives c.post-frame.ensures.sent c.post-frame.ensures.kept)
+
+pub returns-clause-well : goal.returns-clause-well
+returns-clause-well c = λ was taken f before quiet of place.
+    let e = c.room_permits_frames.ensures in
+    c.list.ensures.items
+    ∙ listed_by was c.args.ends.now taken c.args.sent.now.items before c.post-frame.new.self (name_of c.args.id) c.args.stamp (sendings.Bytes c.args.piece) c.post-frame.result c.post-frame.ensures.gives c.post-frame.ensures.sent
+    (record { opening = e.opening; line = e.line; bytes = e.bytes; closing = e.closing }) quiet f of place
+
+pub returns-clause-posts : goal.returns-clause-posts
+returns-clause-posts c = λ answers kind was taken among before.
+    let a = name_of c.args.id in
+    subst (PostsOnly answers c.args.stamp kind was c.post-frame.new.self taken) (sym c.list.ensures.items)
+    (posts_own answers c.args.stamp kind was c.args.ends.now taken c.args.sent.now.items before c.post-frame.new.self a (sendings.Bytes c.args.piece) c.requires.client (piece_own answers a c.args.piece among) c.post-frame.result c.post-frame.ensures.sent
+    (λ none. (c.post-frame.ensures.kept (sym c.post-frame.ensures.gives ∙ ap is_some none)).1))

@@ -1,0 +1,53 @@
+-- The parcels are sent in order.
+use Rattle.std.proofs.Common.{◌∙◌, List, sym, subst, arith}
+use Rattle.std.specs.Prelude.{flat_map}
+use Rattle.std.proofs.lemmas.List.{nil_from_length}
+use Rattle.std.specs.Vec.Iter.{into_iter_items}
+use Rattle.transfer_turns.specs.declared.parcels.Parcel.{Parcel}
+use Rattle.node_parts.specs.Posting.{AreAmong, frames_of_transfer, pieces_at}
+use Rattle.node_parts.proofs.Posting.{GoesWell, all_well, goes_first, goes_on_well, goes_placed}
+use Rattle.node_parts.proofs.Posts.{part_among, rest_among, with_more, with_still}
+use Rattle.node_parts.proofs.Sounding.{stay_on, stay_same}
+use Rattle.node_parts.proofs.transfer_frames.post_all.Goals as goal
+
+pub loop-parcel-init : goal.loop-parcel-init
+loop-parcel-init c =
+    let all = flat_map (pieces_at c.args.slot) c.args.parcels.items in
+    let items = c.into_iter-parcel-iterator.ensures.into_iter_gives.0 in
+    record {
+      posted = λ was taken before. before;
+      posts = with_still all c.args.stamp c.args.ends.now c.args.sent.now.items;
+      among = subst (λ (ps : List Parcel). AreAmong (flat_map (pieces_at c.args.slot) ps) all) (sym items) (λ x m. m);
+      well = λ was taken before quiet placed. subst (GoesWell was taken (frames_of_transfer was c.args.slot) c.args.sent.now.items c.args.parcels.items c.args.sent.now.items) (sym items) (goes_first was taken (frames_of_transfer was c.args.slot) c.args.sent.now.items c.args.parcels.items placed);
+      room = grind (arith, c.requires.room, items);
+      paired = stay_same c.args.ends.now;
+      count = cc;
+    }
+
+pub loop-parcel-preserved : goal.loop-parcel-preserved
+loop-parcel-preserved c =
+    let h = c.loop-parcel.invariant in
+    let left = into_iter_items c.next.new.self in
+    let all = flat_map (pieces_at c.args.slot) c.args.parcels.items in
+    let part = pieces_at c.args.slot c.in-Some.parcel in
+    let more = flat_map (pieces_at c.args.slot) left in
+    let within = subst (λ (ps : List Parcel). AreAmong (flat_map (pieces_at c.args.slot) ps) all) c.in-Some.ensures.steps.0 h.among in
+    record {
+      posted = λ was taken before. c.post_to.ensures.posted was taken (h.posted was taken before);
+      posts = with_more all part c.args.stamp c.args.ends.now c.loop-parcel.ends c.post_to.new.ends c.args.sent.now.items c.loop-parcel.sent.items c.post_to.new.sent.items (part_among part more all within) h.posts c.post_to.ensures.posts;
+      among = rest_among part more all within;
+      well = λ was taken before quiet placed.
+          let each = frames_of_transfer was c.args.slot in
+          let goes = subst (GoesWell was taken each c.args.sent.now.items c.args.parcels.items c.loop-parcel.sent.items) c.in-Some.ensures.steps.0 (h.well was taken before quiet placed) in
+          goes_on_well was taken each c.args.sent.now.items c.args.parcels.items c.loop-parcel.sent.items c.in-Some.parcel left c.post_to.new.sent.items goes
+          (c.post_to.ensures.well was taken (h.posted was taken before) quiet (goes_placed was taken each c.args.sent.now.items c.args.parcels.items c.loop-parcel.sent.items c.in-Some.parcel left goes));
+      room = grind (arith, c.post_to.ensures.len, c.post_to.ensures.capacity, h.room, c.in-Some.ensures.steps.0);
+      paired = stay_on c.args.ends.now c.loop-parcel.ends c.post_to.new.ends h.paired c.post_to.ensures.paired;
+      count = c.post_to.ensures.count ∙ h.count;
+    }
+
+pub returns-clause-well : goal.returns-clause-well
+returns-clause-well c = λ was taken before quiet placed.
+    let left = c.loop-parcel.parcel-iterator in
+    all_well was taken (frames_of_transfer was c.args.slot) c.args.sent.now.items c.args.parcels.items c.loop-parcel.sent.items (into_iter_items left) (nil_from_length (into_iter_items left) (sym left.rest.ok.0 ∙ c.in-None.ensures.steps.0))
+    (c.loop-parcel.invariant.well was taken before quiet placed)
