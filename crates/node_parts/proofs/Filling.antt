@@ -25,6 +25,8 @@ use Rattle.node_tasks.specs.declared.task.Task.{Task}
 use Rattle.node_tasks.specs.declared.task.Task.TheVariants as tasks
 use Rattle.node_tasks.specs.Tasks.{IsFedTask, OwnsOf, work_now}
 use Rattle.running_jobs.specs.Running.{AreFilled as JobsFilled, IsOwn, Jobs, OwnAll as JobsOwn, AreAllFed as JobsFed, fills_at}
+use Rattle.node_parts.specs.Parts.{AreAllFed, PartsView}
+use Rattle.node_parts.specs.Sound.{AreSound}
 
 -- ---- truth values
 
@@ -133,3 +135,11 @@ FedStays = (s : Session) (was now : Parts) → ((key : List ℕ) → sessions.is
 
 pub sessions_fed : FedStays → (p p' : Parts) (xs : List Session) → ((key : List ℕ) → fills_in xs key ≡ true → p' key ≡ p key) → SessionsFed p xs → SessionsFed p' xs
 sessions_fed law p p' xs same fed = λ i x at. law x p p' (λ key is. same key (session_among key xs i x at is)) (fed i x at)
+
+-- ---- what all have taken, where the parts of the keys that the table fills stay
+
+pub all_fed : FedStays → (p : PartsView) (was now : Parts) → AreSound p → ((key : List ℕ) → is_filling p.table key ≡ true → now key ≡ was key) → AreAllFed was p → AreAllFed now p
+all_fed law p was now sound stay fed = record {
+  serving = sessions_fed law was now p.sessions (λ key is. stay key (fills_of_sessions p.table p.sessions p.jobs.running sound.filled key is)) fed.serving;
+  acting = jobs_fed was now p.table p.jobs sound.acting (λ key is. stay key (fills_of_jobs p.table p.sessions p.jobs.running sound.filled key is)) fed.acting;
+}

@@ -16,7 +16,8 @@ mod transfer_frames;
 pub use done::Done;
 pub use drop_phases::{Phase, Token};
 pub use laws::{
-    direct_entries_leave_rows, parts_stay, states_have_their_settings, tables_fill_as_states,
+    direct_entries_leave_rows, parts_stay, parts_stay_fed, states_have_their_settings,
+    tables_fill_as_states,
 };
 pub use moment::Moment;
 pub use node_tasks::{Clock, Time};
