@@ -77,7 +77,8 @@ use Rattle.node_parts.specs.Jobs.{JobsGoOn, heard_at, heard_of, phase_at, phase_
 use Rattle.node_parts.specs.Kinds.{IsQuiet}
 use Rattle.node_parts.specs.declared.moment.Moment.{Moment}
 use Rattle.node_parts.specs.Parts.{AreAllFed, AreParts, HasContents, PartsView}
-use Rattle.node_parts.specs.Posting.{PostsOnly, PostsPieces, pieces_in, stamp_of}
+use Rattle.node_parts.specs.Posting.{PostsPieces, stamp_of}
+use Rattle.node_parts.specs.Sending.{PostsOnly, pieces_in}
 use Rattle.node_parts.specs.Sound.{AreSound}
 use Rattle.node_parts.specs.Steps.{Acts, HasPart, IsPartAsked, LeavesSo, OwesTold, SeesParts, Steps, WhereActed, job_acting, made_of, session_asked, words_heard}
 use Rattle.node_parts.specs.Stored.{bytes_taken, contents_then, parts_after_work, parts_by_job, parts_then}

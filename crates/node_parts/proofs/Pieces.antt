@@ -45,7 +45,8 @@ use Rattle.running_jobs.specs.Running.{AllApart}
 use Rattle.node_parts.specs.declared.done.Done.{Done}
 use Rattle.node_parts.specs.declared.moment.Moment.{Moment}
 use Rattle.node_parts.specs.Parts.{PartsView}
-use Rattle.node_parts.specs.Posting.{IsPieceAt, IsPieceOfWork, IsPieceSent, IsSending, PostsOnly, PostsPieces, SendsBytes, answers_at, piece_in, pieces_at, pieces_in, stamp_of}
+use Rattle.node_parts.specs.Posting.{IsPieceAt, IsPieceOfWork, IsPieceSent, IsSending, PostsPieces, SendsBytes, stamp_of}
+use Rattle.node_parts.specs.Sending.{PostsOnly, answers_at, piece_in, pieces_at, pieces_in}
 use Rattle.node_parts.specs.Steps.{made_of}
 use Rattle.node_parts.proofs.Among.{task_in_slot, work_in_slot}
 use Rattle.node_parts.proofs.Posts.{posts_at}

@@ -28,7 +28,7 @@ use Rattle.drop_phases.specs.Working.{end_in, texts_of}
 use Rattle.transfer_turns.specs.declared.parcels.Parcel.{Parcel as TransferParcel}
 use Rattle.transfer_turns.specs.Parcels.{text_in}
 use Rattle.job_frames.specs.Sending.{MaySend, TakesNoOpening, end_of, stood_at}
-use Rattle.node_parts.specs.Posting.{ArePlaced, IsFrame, IsPlaced, IsPosted, frames_of_drop, frames_of_transfer}
+use Rattle.node_parts.specs.Sending.{ArePlaced, IsFrame, IsPlaced, IsPosted, frames_of_drop, frames_of_transfer}
 
 -- what a law says of ends with room, and of open ones
 pub record Permits : Type 0 where

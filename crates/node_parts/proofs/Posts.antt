@@ -29,7 +29,8 @@ use Rattle.node_sessions.specs.Serving.{IsTalk}
 use Rattle.node_sessions.specs.Words.{word_to}
 use Rattle.node_parts.specs.declared.done.Done.{Done}
 use Rattle.node_parts.specs.declared.moment.Moment.{Moment}
-use Rattle.node_parts.specs.Posting.{Answers, AreAmong, PostsNothing, PostsOn, PostsOnly, PostsWith, after_step, stamp_of, taken_off, word_with}
+use Rattle.node_parts.specs.Posting.{after_step, stamp_of, taken_off, word_with}
+use Rattle.node_parts.specs.Sending.{Answers, AreAmong, PostsNothing, PostsOn, PostsOnly, PostsWith}
 use Rattle.node_parts.proofs.Posting.{frame_end, same_or_other, sends_its}
 
 -- ---- the word

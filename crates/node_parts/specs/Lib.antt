@@ -5,6 +5,7 @@ pub mod Kinds
 pub mod Steps
 pub mod Direct
 pub mod Posting
+pub mod Sending
 pub mod Jobs
 pub mod Stored
 pub use Rattle.running_jobs.specs.Acting

@@ -10,7 +10,7 @@ ghost use Rattle.node_ends.specs.Joined.{StayPaired};
 ghost use Rattle.job_frames.specs.Sending.{SendsWell, TakesNoOpening};
 ghost use Rattle.node_drops.specs.Waiting.{WaitsFor, taken_by};
 ghost use Rattle.node_tasks.specs.Acting.{frames_in};
-ghost use Rattle.node_parts.specs.Posting.{ArePlaced, IsPosted, PostsOnly, PostsWith, pieces_in};
+ghost use Rattle.node_parts.specs.Sending.{ArePlaced, IsPosted, PostsOnly, PostsWith, pieces_in};
 
 use crate::done::Done;
 use crate::drop_frames::post_drop;

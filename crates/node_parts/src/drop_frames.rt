@@ -7,7 +7,7 @@ ghost use Rattle.node_ends.specs.Ends.{end_at, link_at};
 ghost use Rattle.node_ends.specs.Joined.{StayPaired};
 ghost use Rattle.drop_phases.specs.Working.{end_in, frames_of};
 ghost use Rattle.job_frames.specs.Sending.{TakesNoOpening};
-ghost use Rattle.node_parts.specs.Posting.{ArePlaced, IsPosted, PostsOn, frames_of_drop};
+ghost use Rattle.node_parts.specs.Sending.{ArePlaced, IsPosted, PostsOn, frames_of_drop};
 
 use crate::sending::{post, post_last, post_said};
 use annex_base::EntryStamp;

@@ -13,7 +13,7 @@ ghost use Rattle.node_ends.specs.Sent.{IsListed, text_of_sending};
 ghost use Rattle.node_sessions.specs.Pieces.{IsNoPiece};
 ghost use Rattle.job_frames.specs.Sending.{TakesNoOpening};
 ghost use Rattle.node_drops.specs.Waiting.{WaitsFor, taken_by};
-ghost use Rattle.node_parts.specs.Posting.{ArePlaced, IsFrame, IsPlaced, IsPosted, PostsNothing, PostsOn, PostsWith, answers_at};
+ghost use Rattle.node_parts.specs.Sending.{ArePlaced, IsFrame, IsPlaced, IsPosted, PostsNothing, PostsOn, PostsWith, answers_at};
 
 use crate::taking::take;
 use annex_base::{EntryStamp, Text};

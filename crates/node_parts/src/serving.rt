@@ -14,7 +14,7 @@ ghost use Rattle.node_ends.specs.Joined.{StayPaired};
 ghost use Rattle.node_ends.specs.Sent.{may_send};
 ghost use Rattle.node_sessions.specs.Serving.{IsTalk, ServesAt, ServesIf, end_by, made_by, says_in};
 ghost use Rattle.node_sessions.specs.Words.{word_to};
-ghost use Rattle.node_parts.specs.Posting.{PostsNothing, PostsOn, PostsOnly, answers_at};
+ghost use Rattle.node_parts.specs.Sending.{PostsNothing, PostsOn, PostsOnly, answers_at};
 ghost use Rattle.node_parts.specs.Steps.{EndsAfter, made_of};
 
 use crate::done::Done;

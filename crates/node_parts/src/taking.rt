@@ -6,7 +6,7 @@ ghost use Rattle.node_ends.specs.Ends.{end_at, frame_at, link_at, name_of, room_
 ghost use Rattle.node_ends.specs.Going.{AreAfter};
 ghost use Rattle.node_ends.specs.Joined.{StayPaired};
 ghost use Rattle.node_ends.specs.Sent.{may_send};
-ghost use Rattle.node_parts.specs.Posting.{PostsNothing};
+ghost use Rattle.node_parts.specs.Sending.{PostsNothing};
 
 use link_ring::{Body, Frame};
 use node_ends::{EndId, Ends};

@@ -8,7 +8,7 @@ ghost use Rattle.node_ends.specs.Joined.{StayPaired};
 ghost use Rattle.drop_phases.specs.Working.{end_in};
 ghost use Rattle.transfer_turns.specs.Parcels.{frames_of};
 ghost use Rattle.job_frames.specs.Sending.{TakesNoOpening};
-ghost use Rattle.node_parts.specs.Posting.{ArePlaced, IsPosted, PostsWith, frames_of_transfer, pieces_at};
+ghost use Rattle.node_parts.specs.Sending.{ArePlaced, IsPosted, PostsWith, frames_of_transfer, pieces_at};
 
 use crate::sending::{post, post_piece, post_said};
 use annex_base::{EntryStamp, Text};

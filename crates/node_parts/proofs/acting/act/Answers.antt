@@ -1,7 +1,7 @@
 -- What is sent is what the definitions send.
 use Rattle.std.proofs.Common.{[], sym, subst, ◌∙◌}
 use Rattle.node_ends.specs.Going.{AreAfter}
-use Rattle.node_parts.specs.Posting.{PostsOnly, pieces_in}
+use Rattle.node_parts.specs.Sending.{PostsOnly, pieces_in}
 use Rattle.node_parts.proofs.Posts.{with_all}
 use Rattle.node_parts.proofs.acting.act.Goals as goal
 

@@ -2,7 +2,7 @@
 use Rattle.std.proofs.Common.{◌≡◌, [], sym, ap, subst}
 use Rattle.node_tasks.specs.declared.acted.Sent.{Sent}
 use Rattle.node_tasks.specs.Acting.{frames_in}
-use Rattle.node_parts.specs.Posting.{Answers, ArePlaced, PostsWith, pieces_in}
+use Rattle.node_parts.specs.Sending.{Answers, ArePlaced, PostsWith, pieces_in}
 use Rattle.node_parts.proofs.Posts.{with_none}
 use Rattle.node_parts.proofs.acting.post_sent.Goals as goal
 

@@ -7,7 +7,7 @@ use Rattle.node_ends.specs.Ends.{end_at}
 use Rattle.node_ends.specs.Joined.{StayPaired}
 use Rattle.drop_phases.specs.Working.{frames_of}
 use Rattle.job_frames.specs.Sending.{TakesNoOpening}
-use Rattle.node_parts.specs.Posting.{ArePlaced, IsPosted, PostsOn, frames_of_drop}
+use Rattle.node_parts.specs.Sending.{ArePlaced, IsPosted, PostsOn, frames_of_drop}
 use Rattle.node_parts.proofs.Posting.{GoesWell}
 use Rattle.node_parts.proofs.drop_frames.post_all.Given as goal
 

@@ -1,6 +1,6 @@
 -- What is sent is what the parcels have.
 use Rattle.std.proofs.Common.{sym, subst}
-use Rattle.node_parts.specs.Posting.{IsPosted, PostsOnly, frames_of_drop}
+use Rattle.node_parts.specs.Sending.{IsPosted, PostsOnly, frames_of_drop}
 use Rattle.node_parts.proofs.Posting.{sent_well}
 use Rattle.node_parts.proofs.drop_frames.post_drop.Goals as goal
 

@@ -1,7 +1,7 @@
 -- What is sent is listed.
 use Rattle.std.proofs.Common.{is_some, sym, ap, subst, ◌∙◌}
 use Rattle.node_ends.specs.Ends.{name_of}
-use Rattle.node_parts.specs.Posting.{IsPosted, PostsOnly}
+use Rattle.node_parts.specs.Sending.{IsPosted, PostsOnly}
 use Rattle.node_parts.proofs.Posting.{listed_by, posted_by}
 use Rattle.node_parts.proofs.Posts.{posts_by}
 use Rattle.node_parts.proofs.sending.post.Goals as goal

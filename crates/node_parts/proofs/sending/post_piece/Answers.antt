@@ -2,7 +2,7 @@
 use Rattle.std.proofs.Common.{is_some, sym, ap, subst, ◌∙◌}
 use Rattle.node_ends.specs.declared.sending.Sending.TheVariants as sendings
 use Rattle.node_ends.specs.Ends.{name_of}
-use Rattle.node_parts.specs.Posting.{IsPosted, PostsOnly}
+use Rattle.node_parts.specs.Sending.{IsPosted, PostsOnly}
 use Rattle.node_parts.proofs.Posting.{listed_by, posted_by}
 use Rattle.node_parts.proofs.Posts.{piece_own, posts_own}
 use Rattle.node_parts.proofs.sending.post_piece.Goals as goal

@@ -2,7 +2,7 @@
 use Rattle.std.proofs.Common.{List, ℕ, sym, subst}
 use Rattle.run_data.specs.declared.entry.FrameText.TheVariants as texts
 use Rattle.node_ends.specs.Ends.{name_of}
-use Rattle.node_parts.specs.Posting.{IsFrame}
+use Rattle.node_parts.specs.Sending.{IsFrame}
 use Rattle.node_parts.proofs.sending.post_said.Goals as goal
 
 pub returns-clause-posted : goal.returns-clause-posted

@@ -2,7 +2,7 @@
 use Rattle.std.proofs.Common.{[], Option, refl, sym, subst}
 use Rattle.run_data.specs.declared.entry.FrameView.{FrameView}
 use Rattle.drop_phases.specs.Working.{end_in}
-use Rattle.node_parts.specs.Posting.{PostsNothing}
+use Rattle.node_parts.specs.Sending.{PostsNothing}
 use Rattle.node_parts.proofs.Posting.{taken_posted}
 use Rattle.node_parts.proofs.Posts.{posts_nothing}
 use Rattle.node_parts.proofs.sending.take_from.Goals as goal

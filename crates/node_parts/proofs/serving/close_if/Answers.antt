@@ -2,7 +2,7 @@
 use Rattle.std.proofs.Common.{None, refl, sym, subst}
 use Rattle.node_ends.specs.declared.sending.Sending.TheVariants.{Close}
 use Rattle.node_ends.specs.Ends.{name_of}
-use Rattle.node_parts.specs.Posting.{PostsOnly}
+use Rattle.node_parts.specs.Sending.{PostsOnly}
 use Rattle.node_parts.proofs.Posts.{posts_word}
 use Rattle.node_parts.proofs.serving.close_if.Goals as goal
 

@@ -6,7 +6,7 @@ use Rattle.node_model.specs.Ends.{End}
 use Rattle.node_ends.specs.declared.sending.Sending.{Sending}
 use Rattle.node_ends.specs.declared.sending.Sending.TheVariants as sendings
 use Rattle.node_ends.specs.Ends.{end_at, name_of}
-use Rattle.node_parts.specs.Posting.{PostsOnly, answers_at}
+use Rattle.node_parts.specs.Sending.{PostsOnly, answers_at}
 use Rattle.node_parts.proofs.Posts.{posts_word, talk_word}
 use Rattle.node_parts.proofs.Saying.{listed_talk, may_talk, opened_talk}
 use Rattle.node_parts.proofs.serving.reply_with.Goals as goal

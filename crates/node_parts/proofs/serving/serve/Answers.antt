@@ -4,7 +4,7 @@ use Rattle.run_data.specs.declared.entry.FrameView.{FrameView}
 use Rattle.node_ends.specs.Going.{AreAfter}
 use Rattle.node_sessions.specs.Serving.{end_by}
 use Rattle.node_sessions.specs.Words.{word_to}
-use Rattle.node_parts.specs.Posting.{PostsOnly, answers_at}
+use Rattle.node_parts.specs.Sending.{PostsOnly, answers_at}
 use Rattle.node_parts.proofs.serving.serve.Goals as goal
 
 pub returns-clause-after : goal.returns-clause-after

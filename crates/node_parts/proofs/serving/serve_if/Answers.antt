@@ -2,7 +2,7 @@
 use Rattle.node_sessions.specs.declared.served.Served.{Served}
 use Rattle.node_sessions.specs.Serving.{end_by}
 use Rattle.node_parts.specs.declared.done.Done.{Done}
-use Rattle.node_parts.specs.Posting.{PostsOnly, answers_at}
+use Rattle.node_parts.specs.Sending.{PostsOnly, answers_at}
 use Rattle.node_parts.proofs.Pieces.{where_both}
 use Rattle.node_parts.proofs.serving.serve_if.Goals as goal
 

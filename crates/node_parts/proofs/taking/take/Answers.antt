@@ -2,7 +2,7 @@
 use Rattle.std.proofs.Common.{Some, sym, subst}
 use Rattle.run_data.specs.declared.entry.FrameView.{FrameView}
 use Rattle.node_ends.specs.Ends.{name_of}
-use Rattle.node_parts.specs.Posting.{PostsNothing}
+use Rattle.node_parts.specs.Sending.{PostsNothing}
 use Rattle.node_parts.proofs.Posts.{posts_taken}
 use Rattle.node_parts.proofs.taking.take.Goals as goal
 

@@ -8,7 +8,7 @@ use Rattle.node_ends.specs.Ends.{end_at}
 use Rattle.node_ends.specs.Joined.{StayPaired}
 use Rattle.transfer_turns.specs.Parcels.{frames_of}
 use Rattle.job_frames.specs.Sending.{TakesNoOpening}
-use Rattle.node_parts.specs.Posting.{AreAmong, ArePlaced, IsPosted, PostsWith, frames_of_transfer, pieces_at}
+use Rattle.node_parts.specs.Sending.{AreAmong, ArePlaced, IsPosted, PostsWith, frames_of_transfer, pieces_at}
 use Rattle.node_parts.proofs.Posting.{GoesWell}
 use Rattle.node_parts.proofs.transfer_frames.post_all.Given as goal
 

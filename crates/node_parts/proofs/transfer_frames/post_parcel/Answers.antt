@@ -6,7 +6,7 @@ use Rattle.drop_phases.specs.Working.{end_in}
 use Rattle.node_ends.specs.declared.sending.Sending.TheVariants as sendings
 use Rattle.transfer_turns.specs.declared.parcels.ParcelBody.{ParcelBody}
 use Rattle.transfer_turns.specs.Parcels.{text_in}
-use Rattle.node_parts.specs.Posting.{Answers, PostsWith, answers_at, piece_in, pieces_at}
+use Rattle.node_parts.specs.Sending.{Answers, PostsWith, answers_at, piece_in, pieces_at}
 use Rattle.node_parts.proofs.Posting.{parcel_well}
 use Rattle.node_parts.proofs.Posts.{with_none}
 use Rattle.node_parts.proofs.transfer_frames.post_parcel.Goals as goal

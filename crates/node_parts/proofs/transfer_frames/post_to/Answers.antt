@@ -1,7 +1,7 @@
 -- A parcel whose frame has its place is for a repository that is there.
 use Rattle.std.proofs.Common.{◌<◌, arith}
 use Rattle.drop_phases.specs.Working.{end_in}
-use Rattle.node_parts.specs.Posting.{pieces_at}
+use Rattle.node_parts.specs.Sending.{pieces_at}
 use Rattle.node_parts.proofs.Posting.{low_peer, transfer_there}
 use Rattle.node_parts.proofs.Posts.{with_still}
 use Rattle.node_parts.proofs.transfer_frames.post_to.Goals as goal

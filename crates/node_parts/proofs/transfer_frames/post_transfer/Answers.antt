@@ -2,7 +2,7 @@
 use Rattle.std.proofs.Common.{List, sym, subst}
 use Rattle.std.specs.Prelude.{flat_map}
 use Rattle.transfer_turns.specs.declared.parcels.Parcel.{Parcel}
-use Rattle.node_parts.specs.Posting.{AreAmong, IsPosted, PostsOnly, frames_of_transfer, pieces_at}
+use Rattle.node_parts.specs.Sending.{AreAmong, IsPosted, PostsOnly, frames_of_transfer, pieces_at}
 use Rattle.node_parts.proofs.Posting.{sent_well}
 use Rattle.node_parts.proofs.transfer_frames.post_transfer.Goals as goal
 
