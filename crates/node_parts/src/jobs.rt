@@ -16,7 +16,7 @@ ghost use Rattle.node_parts.specs.Jobs.{JobsGoOn};
 ghost use Rattle.node_parts.specs.Kinds.{IsQuiet};
 ghost use Rattle.node_parts.specs.Parts.{AreAllFed};
 ghost use Rattle.node_parts.specs.Posting.{PostsPieces, stamp_of};
-ghost use Rattle.node_parts.specs.Steps.{Acts, HasPart, LeavesSo, OwesTold, SeesParts, WhereActed, failed_by};
+ghost use Rattle.node_parts.specs.Steps.{Acts, HasPart, LeavesSo, OwesTold, SeesParts, WhereActed, failed_by, session_asked};
 ghost use Rattle.node_parts.specs.Stored.{contents_then, parts_then};
 
 use crate::acting::act;
@@ -47,9 +47,10 @@ impl Parts {
         requires fresh { All (λ h. h.number < moment.number) self.old.table.holds }
 
         // Over a store that tells: of each state that these and the store are, with these settings, at each look that finds the part that
-        // is asked for, this is the step of its jobs; and there is such a part.
+        // is asked for, this is the step of its jobs; and there is such a part, for which no session is asked.
         ensures step { IfOk result (λ o. ForSome (K.contents keeper.old) (λ c. Acts self.old self.new c (K.parts keeper.old) (K.contents keeper.new) moment.clock (settings_of settings.now) moment.time moment.number o)) }
         ensures asked { IfOk result (λ o. ForSome (K.parts keeper.old) (λ q. AreAllFed q self.old → ForSome o (λ d. HasPart (Some q) self.old d.kind d.taken))) }
+        ensures no_session { IfOk result (λ o. ForSome o (λ d. session_asked self.old.sessions d.taken ≡ None)) }
 
         // At the same looks it makes the calls of its store that that step makes; where one was to fail, it tells that call.
         ensures calls { IfOk result (λ o. ForSome (K.contents keeper.old) (λ c. WhereActed self.old c (K.parts keeper.old) moment.clock (settings_of settings.now) moment.time moment.number o (λ s st k. ForSome (job_step s st k) (λ (m : Effect). MakesCalls m.calls (failed_by o) (K.failing keeper.old) (K.failing keeper.new))))) }

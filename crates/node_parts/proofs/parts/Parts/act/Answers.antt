@@ -28,9 +28,9 @@ use Rattle.node_parts.specs.Jobs.{JobsGoOn}
 use Rattle.node_parts.specs.Kinds.{IsQuiet}
 use Rattle.node_parts.specs.Parts.{AreAllFed, PartsView}
 use Rattle.node_parts.specs.Posting.{PostsPieces, stamp_of}
-use Rattle.node_parts.specs.Steps.{Acts, HasPart, LeavesSo, OwesTold, WhereActed}
+use Rattle.node_parts.specs.Steps.{Acts, HasPart, LeavesSo, OwesTold, WhereActed, session_asked}
 use Rattle.node_parts.specs.Stored.{parts_then}
-use Rattle.node_parts.proofs.Acted.{agrees_still, CallsThere, IsActed, Laws, StepsThere, acts_none, acts_some, among_acted, calls_none, calls_some, contents_acted, fed_acted, has_acted, jobs_go_on, kind_of, leaves_acted, owes_acted, parts_acted, posts_acted, quiet_acted, none_fails, fed_idle, sound_acted, told_acted}
+use Rattle.node_parts.proofs.Acted.{agrees_still, CallsThere, IsActed, Laws, StepsThere, acted_asks, acts_none, acts_some, among_acted, calls_none, calls_some, contents_acted, fed_acted, has_acted, jobs_go_on, kind_of, leaves_acted, owes_acted, parts_acted, posts_acted, quiet_acted, none_fails, fed_idle, sound_acted, told_acted}
 use Rattle.node_parts.proofs.parts.Parts.act.Goals as goal
 
 -- ---- what the frames ask for
@@ -130,6 +130,22 @@ returns-in-Some-clause-asked g c =
     subst (λ (p : PartsView). HasPart (Some q) p x.kind x.taken) c.self.view_is
     (subst (λ (y : Done). HasPart (Some q) was y.kind y.taken) (same_Some d x is)
     (has_acted q was a d here.kind here.taken kind (c.jobs_see_parts.ensures q was.jobs was.links a (subst (AreAllFed q) (sym c.self.view_is) fed).acting)))
+
+pub returns-in-Some-clause-no_session : goal.returns-in-Some-clause-no_session
+returns-in-Some-clause-no_session g c =
+    let i = c.self.inside in
+    let e = c.in_ok-acted.ensures in
+    let was : PartsView = record { table = i.table; links = i.ends; sessions = i.sessions; jobs = i.jobs } in
+    let k0 : Seen = seen (g.K.Keeper.contents c.args.keeper.now) (g.K.Keeper.parts c.args.keeper.now) (g.K.Keeper.records c.args.keeper.now) (g.K.Keeper.files c.args.keeper.now) (g.K.Keeper.faults c.args.keeper.now) (g.K.Keeper.failing c.args.keeper.now) in
+    let k1 : Seen = seen (g.K.Keeper.contents c.step.new.keeper) (g.K.Keeper.parts c.step.new.keeper) (g.K.Keeper.records c.step.new.keeper) (g.K.Keeper.files c.step.new.keeper) (g.K.Keeper.faults c.step.new.keeper) (g.K.Keeper.failing c.step.new.keeper) in
+    let a = c.in-Some.acted in
+    let d = c.act.result in
+    let left = subst (λ (o : Option Acted). LeavesJobsSo i.ends i.jobs c.step.new.self i.table c.step.new.table k0 k1 o) c.in-Some.is e.leaves in
+    let here : IsActed i.ends c.act.new.ends a d =
+    subst (λ (l : List EndView). IsActed l c.act.new.ends a d) e.ends (record { kind = c.act.ensures.kind; taken = c.act.ensures.taken; sent = c.act.ensures.sent; after = c.act.ensures.after; owes = c.act.ensures.owes }) in
+    λ x is.
+    subst (λ (p : PartsView). session_asked p.sessions x.taken ≡ None) c.self.view_is
+    (subst (λ (y : Done). session_asked was.sessions y.taken ≡ None) (same_Some d x is) (acted_asks was.links was.sessions a.slot a.takes d.taken here.taken))
 
 pub returns-in-None-clause-calls : goal.returns-in-None-clause-calls
 returns-in-None-clause-calls g c =
