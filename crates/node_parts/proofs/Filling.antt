@@ -1,10 +1,7 @@
 -- The keys that sessions and gets fill, and what these have taken of their parts.
 use Rattle.std.proofs.Common.{◌≡◌, ℕ, zero, suc, Bool, true, false, ◌&&◌, List, [], ◌∷◌, Option, Some, None, is_some, refl, sym, ap, subst, ◌∙◌}
 use Rattle.std.specs.Prelude.{◌||◌, IfSome, bytes_eq, slice_get}
-use Rattle.std.specs.List.{list_any}
-use Rattle.std.specs.Option.{ForSome}
 use Rattle.std.proofs.lemmas.Bool.{true≢false}
-use Rattle.annex_base.specs.Lists.{Each}
 use Rattle.annex_base.proofs.Conditions.{bytes_eq-refl}
 use Rattle.annex_base.proofs.Lists.{Each-from_members, Each-member, list_any_member}
 use Rattle.object_store.specs.Stores.{Parts}
@@ -13,7 +10,7 @@ use Rattle.node_model.specs.Sessions as sessions
 use Rattle.p2p_server.specs.declared.session.Session.{Session}
 use Rattle.p2p_server.specs.Talking.{IsFedOf, session_of}
 use Rattle.session_state.specs.Talking.{IsFedBy, IsTakenOf}
-use Rattle.node_sessions.specs.Sessions.{AreFilled, LeavesPartsOf, AreAllFed as SessionsFed, fills_in, session_fills}
+use Rattle.node_sessions.specs.Sessions.{AreFilled, AreAllFed as SessionsFed, fills_in, session_fills}
 use Rattle.get_phases.specs.Gets.{fill_in, IsFed as IsFedGet}
 use Rattle.get_phases.specs.declared.getting.Phase.{Phase as GetPhase}
 use Rattle.get_phases.specs.declared.getting.Phase.TheVariants as phases

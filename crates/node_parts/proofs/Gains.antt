@@ -19,7 +19,7 @@ use Rattle.object_store.specs.Stores.{Parts as StoredParts}
 use Rattle.content_lock.specs.Rows.{Rows, is_filling}
 use Rattle.node_model.specs.Calls.{to_commit}
 use Rattle.node_model.specs.Jobs.{Gets, GetsWord, Work, job_end}
-use Rattle.node_model.specs.JobStep.{Turn, attempts, by_me, end_with, key_of, quietly, turn_of}
+use Rattle.node_model.specs.JobStep.{Turn, by_me, end_with, key_of, quietly, turn_of}
 use Rattle.node_model.specs.Look.{Effect, Look, failing_call, unless, waiting_frame}
 use Rattle.node_model.specs.SetUp.{SetUp, slots}
 use Rattle.node_model.specs.Slots.{job_of}
@@ -29,7 +29,7 @@ use Rattle.node_model.specs.Turns.{awaits, by_partner, has_room, job_step, slot_
 use Rattle.job_frames.specs.Sending.{IsOwnEntry}
 use Rattle.session_state.specs.declared.doing.Taken.{Taken}
 use Rattle.session_state.specs.declared.incoming.Incoming.TheVariants as incoming
-use Rattle.session_state.specs.Talking.{Brings, IsTakenOf, SeesTaken, heard_line}
+use Rattle.session_state.specs.Talking.{Brings, SeesTaken, heard_line}
 use Rattle.get_phases.specs.Gets.{SeesPart, TookRight, fill_in, part_of, phase_of}
 use Rattle.get_phases.specs.declared.getting.Getting.{Getting}
 use Rattle.get_phases.specs.declared.getting.Phase.{Phase as GetPhase}

@@ -1,6 +1,6 @@
 -- What a job's step leaves of the store's parts, by the frame that it takes.
 use Rattle.std.proofs.Common.{◌≡◌, ℕ, true, List, [], ◌++◌, Option, Some, None, length, refl, sym, ap, ◌∙◌}
-use Rattle.std.specs.Prelude.{IfSome, if◌then◌else◌, option_and_then}
+use Rattle.std.specs.Prelude.{IfSome, if◌then◌else◌}
 use Rattle.std.specs.Option.{option_map, option_map_or}
 use Rattle.run_data.specs.declared.entry.EntryKind.{EntryKind}
 use Rattle.run_data.specs.declared.entry.EntryKind.TheVariants as kinds
@@ -15,8 +15,8 @@ use Rattle.content_lock.specs.Rows.{Rows, is_filling}
 use Rattle.link_ring.specs.declared.frame.Body.{Body}
 use Rattle.link_ring.specs.declared.frame.Body.TheVariants as bodies
 use Rattle.link_ring.specs.declared.frame.Frame.{Frame}
-use Rattle.link_ring.specs.Ends.{EndView, next_frame}
-use Rattle.node_ends.specs.Ends.{frame_at, link_at, text_in, wait_at}
+use Rattle.link_ring.specs.Ends.{EndView}
+use Rattle.node_ends.specs.Ends.{frame_at, text_in, wait_at}
 use Rattle.end_hearing.specs.declared.hearing.Arrival.{Arrival}
 use Rattle.end_hearing.specs.Hearing.{Tells, TellsFrame}
 use Rattle.end_hearing.specs.Pieces.{bytes_heard, bytes_of}

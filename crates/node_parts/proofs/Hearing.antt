@@ -1,6 +1,5 @@
 -- What the running jobs have heard after the step of one of them.
-use Rattle.std.proofs.Common.{◌≡◌, inl, ℕ, Bool, true, false, List, [], ◌∷◌, Option, Some, None, refl, sym, ap, ◌∙◌}
-use Rattle.std.specs.Prelude.{option_and_then}
+use Rattle.std.proofs.Common.{◌≡◌, inl, ℕ, Bool, true, false, List, ◌∷◌, Option, Some, None, refl, sym, ap, ◌∙◌}
 use Rattle.std.proofs.lemmas.Option.{same_Some}
 use Rattle.annex_base.proofs.Options.{some_none}
 use Rattle.annex_base.specs.declared.kinds.Word.{Word}
@@ -10,7 +9,6 @@ use Rattle.link_ring.specs.Ends.{EndView}
 use Rattle.node_model.specs.Ends.{EndName}
 use Rattle.node_model.specs.Jobs.{partner}
 use Rattle.node_ends.specs.Ends.{end_at, room_at, wait_at}
-use Rattle.drop_phases.specs.declared.phase.Heard.{Heard}
 use Rattle.drop_phases.specs.declared.phase.Heard.TheVariants as heards
 use Rattle.drop_phases.specs.declared.phase.Phase.{Phase}
 use Rattle.drop_phases.specs.declared.phase.Phase.TheVariants as phases
@@ -29,7 +27,6 @@ use Rattle.node_tasks.specs.Acting.{HearsOn}
 use Rattle.node_tasks.specs.Tasks.{slot_of}
 use Rattle.node_tasks.specs.Telling.{IsToldTo, takes_in}
 use Rattle.node_parts.specs.Jobs.{heard_of, phase_of}
-use Rattle.node_parts.proofs.Asked.{waits_there}
 
 -- it has heard what it had heard, or one thing more in front
 pub task_grows : (t t' : Task) (x : Told) → HearsOn t t' x → Grows (heard_of t) (heard_of t')

@@ -17,8 +17,6 @@ use Rattle.node_model.specs.Ends.{EndName, server_end}
 use Rattle.node_model.specs.Jobs.{Phase, PutsBytes, Work}
 use Rattle.node_model.specs.Rows.{same_owner}
 use Rattle.node_model.specs.Sessions as sessions
-use Rattle.node_model.specs.SetUp.{SetUp}
-use Rattle.node_model.specs.State.{State}
 use Rattle.node_ends.specs.declared.sending.Sending.{Sending}
 use Rattle.node_ends.specs.declared.sending.Sending.TheVariants as sendings
 use Rattle.p2p_server.specs.declared.session.Session.{Session}
@@ -26,7 +24,7 @@ use Rattle.p2p_server.specs.Talking.{place_of, session_of}
 use Rattle.node_sessions.specs.declared.served.Served.{Served}
 use Rattle.node_sessions.specs.Pieces.{IsPieceOf, PieceBy, SaysPiece}
 use Rattle.node_sessions.specs.Serving.{end_by, made_by}
-use Rattle.node_sessions.specs.Sessions.{AreSessions, connection_of, end_of, owner_of}
+use Rattle.node_sessions.specs.Sessions.{connection_of, end_of, owner_of}
 use Rattle.drop_phases.specs.declared.phase.Phase.{Phase as DropPhase}
 use Rattle.drop_phases.specs.declared.phase.Phase.TheVariants as drops
 use Rattle.drop_phases.specs.Working.{end_in, phase_as}
@@ -207,12 +205,12 @@ where_both {X} {Y} P x y o at holds = λ d is v told. go d v is (sym at ∙ told
         let other : y ≡ v = cc in
         subst (λ (z : X). P z v) one (subst (P x) other holds)
 
-pub served_pieces : (m : Moment) (own : ℕ) (stamp : EntryStamp) (was : PartsView) (contents : Option Contents) (mid now : List EndView) (served : Option Served) (done : Option Done)
-    → stamp ≡ stamp_of m own → own ≡ was.jobs.place.number → mid ≡ was.links → option_map made_of done ≡ option_map (made_by mid) served
-    → ForSome done (λ d. ForSome served (λ v. PostsOnly (answers_at (end_by v) v.reply) stamp d.kind mid now d.taken d.sent))
+pub served_pieces : (m : Moment) (own : ℕ) (stamp : EntryStamp) (was : PartsView) (contents : Option Contents) (mid now : List EndView) (served : Option Served) (step : Option Done)
+    → stamp ≡ stamp_of m own → own ≡ was.jobs.place.number → mid ≡ was.links → option_map made_of step ≡ option_map (made_by mid) served
+    → ForSome step (λ d. ForSome served (λ v. PostsOnly (answers_at (end_by v) v.reply) stamp d.kind mid now d.taken d.sent))
     → ForSome served (λ v. Member (v.peer, v.slot) (map connection_of was.sessions)) → PieceBy contents was.sessions served
-    → ForSome done (λ d. PostsPieces (stamp_of m was.jobs.place.number) d.kind was contents now d.taken d.sent)
-served_pieces m own stamp was contents mid now None done is numbered same made posts among piece = λ d told. absurd (some_none (made_of d) (sym (ap (option_map made_of) told) ∙ made))
-served_pieces m own stamp was contents mid now (Some v) done is numbered same made posts among piece = λ d told.
+    → ForSome step (λ d. PostsPieces (stamp_of m was.jobs.place.number) d.kind was contents now d.taken d.sent)
+served_pieces m own stamp was contents mid now None step is numbered same made posts among piece = λ d told. absurd (some_none (made_of d) (sym (ap (option_map made_of) told) ∙ made))
+served_pieces m own stamp was contents mid now (Some v) step is numbered same made posts among piece = λ d told.
     session_pieces (stamp_of m was.jobs.place.number) d.kind was contents now d.taken d.sent v
     (posts_at (answers_at (end_by v) v.reply) m own was.jobs.place.number stamp was.links mid now d is numbered same (posts d told v refl)) (among v refl) piece

@@ -9,12 +9,10 @@ use Rattle.annex_base.proofs.Results.{OnErr-always}
 use Rattle.run_data.specs.declared.entry.EntryKind.{EntryKind}
 use Rattle.run_data.specs.declared.row.Hold.{Hold}
 use Rattle.object_store.specs.Stores.{AreSmallParts}
-use Rattle.object_store.specs.declared.keeper.HoldRecord.{HoldRecord}
 use Rattle.trust_groups.specs.View.{settings_of}
 use Rattle.link_ring.specs.Ends.{EndView}
 use Rattle.content_lock.specs.CallsMade.{MakesCalls, fewer}
 use Rattle.content_lock.specs.Rows.{Rows}
-use Rattle.content_lock.specs.Stored.{Agrees}
 use Rattle.node_model.specs.Look.{Effect, failed_in}
 use Rattle.node_model.specs.Turns.{job_step}
 use Rattle.node_ends.specs.Joined.{StayPaired}
