@@ -125,6 +125,14 @@ def contents(keys, mebibytes):
     return declare(1) + ["have %s %s fill:%d:0" % (name(0), short_key(k), mebibytes << 20) for k in range(keys)]
 
 
+def transfers(files, bytes_each):
+    """Each file is copied to a second repository, and from there a third one gets it."""
+    lines = declare(3)
+    for f in range(files):
+        lines += ["add r0 f%d fill:%d:%d" % (f, bytes_each, f % 251), "copy r0 @f%d to r1" % f, "get r2 @f%d from r1" % f]
+    return lines
+
+
 def placed(count):
     """Two repositories, of which the first has so many contents."""
     return declare(2) + ["have %s %s text:a" % (name(0), short_key(k)) for k in range(count)]
@@ -282,6 +290,8 @@ def main():
     table("location logs, and 1,000 looks at the claims of one key", [(n, n, claims(n, 1000)) for n in (10, 100, 1000, 10000)])
     table("MiB of one content", [(n, n, contents(1, n)) for n in (1, 2, 4, 8, 16)])
     table("contents of a MiB", [(n, n, contents(n, 1)) for n in (1, 4, 16, 64, 256)])
+    table("MiB of one content, copied and got on", [(n, n, transfers(1, n << 20)) for n in (1, 2, 4, 8, 16)])
+    doublings("files of 3 bytes, each copied and got on", doubled(64, 4_096), lambda n: transfers(n, 3))
     for beside, title, numbers in (
         (placed, "keys at a node", (10, 100, 1000, 10000, 30000)),
         (located, "entries of a node, each a file of one line", (10, 100, 1000, 10000)),
