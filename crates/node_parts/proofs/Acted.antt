@@ -3,7 +3,6 @@ use Rattle.std.proofs.Common.{◌≡◌, ◌⊎◌, inl, inr, ℕ, ◌<◌, ◌+
 use Rattle.std.specs.Prelude.{All, bytes_eq, find, fold, not, ◌&&◌, ◌||◌, ◌==◌, if◌then◌else◌, option_and_then}
 use Rattle.std.specs.Option.{ForSome, option_map, option_map_or, option_or, option_to_list}
 use Rattle.std.proofs.lemmas.Bool.{cases_Bool, true≢false}
-use Rattle.std.proofs.lemmas.List.Elements.{All-weaker}
 use Rattle.std.proofs.lemmas.Option.{same_Some}
 use Rattle.std.proofs.Math.Bool.{and-false, and-true}
 use Rattle.annex_base.specs.Lists.{Each}
@@ -13,18 +12,19 @@ use Rattle.annex_base.specs.declared.kinds.EntryStamp.{EntryStamp}
 use Rattle.annex_base.proofs.Lists.{Each-member}
 use Rattle.annex_base.proofs.Options.{map_some, some_none}
 use Rattle.run_data.specs.declared.entry.By.{By}
+use Rattle.run_data.specs.declared.entry.By.TheVariants.{Job as by_job}
 use Rattle.run_data.specs.declared.entry.Entry.{Entry}
 use Rattle.run_data.specs.declared.entry.EntryKind.{EntryKind}
 use Rattle.run_data.specs.declared.entry.EntryKind.TheVariants as kinds
 use Rattle.run_data.specs.declared.entry.FrameView.{FrameView}
 use Rattle.run_data.specs.declared.row.Hold.{Hold}
 use Rattle.object_store.specs.Stores.{Contents, Parts as StoredParts, contents_after_commit, with_at}
-use Rattle.object_store.specs.declared.keeper.HoldRecord.{HoldRecord}
 use Rattle.p2p_wire.specs.declared.message.Message.TheVariants.{Failure}
 use Rattle.trust_groups.specs.Settings.{Lines, settings}
 use Rattle.content_lock.specs.Rows.{Rows, bar_at, is_filling}
-use Rattle.content_lock.specs.Stored.{Agrees, without_content}
-use Rattle.content_lock.specs.Tokens.{Owns}
+use Rattle.content_lock.specs.Stored.{without_content}
+use Rattle.content_lock.specs.Owners.{IsOwners}
+use Rattle.content_lock.specs.Tokens.{Owns, ShareView}
 use Rattle.link_ring.specs.Ends.{EndView}
 use Rattle.node_model.specs.After.{read_after, state_after}
 use Rattle.node_model.specs.Clocks.{ClockSet}
@@ -33,7 +33,7 @@ use Rattle.node_model.specs.Evidence as drops
 use Rattle.node_model.specs.Evidence.{standing_by}
 use Rattle.node_model.specs.Look.{Look, Effect, as_told, entry_of, failed_in}
 use Rattle.node_model.specs.OwedLines.{told_frame}
-use Rattle.node_model.specs.Rows.{bar_after, holds_after}
+use Rattle.node_model.specs.Rows.{bar_after, holds_after, same_owner}
 use Rattle.node_model.specs.Sessions.{new_session, session_after}
 use Rattle.node_model.specs.SessionStep.{session_step}
 use Rattle.node_model.specs.SetUp.{SetUp}
@@ -56,6 +56,8 @@ use Rattle.drop_phases.specs.declared.phase.Phase.TheVariants as phases
 use Rattle.drop_phases.specs.declared.turn.Taken.TheVariants as takens
 use Rattle.drop_phases.specs.Begun.{IsLast}
 use Rattle.drop_phases.specs.Doing.{Grows}
+use Rattle.drop_phases.specs.Feeding.{IsAnswer}
+use Rattle.drop_phases.specs.Sides.{IsNumbered}
 use Rattle.drop_phases.specs.Working.{end_in, taken_of}
 use Rattle.running_jobs.specs.Places.{IsPlace, PlaceView}
 use Rattle.running_jobs.specs.Waiting.{taken_by, word_at}
@@ -73,7 +75,7 @@ use Rattle.running_jobs.specs.Acting.{HasPart as HasPartActed, IsKindOf, SeesAct
 use Rattle.running_jobs.specs.Leaving.{ActsOf, Leaves as LeavesJobs}
 use Rattle.running_jobs.specs.Running.{AreWorks, Follows, IsOwn, Jobs, OwnAll as JobsOwn, fills_at, job_at, words_at}
 use Rattle.node_parts.specs.declared.done.Done.{Done}
-use Rattle.node_parts.specs.Jobs.{JobsGoOn, heard_at, heard_of, phase_at, phase_of}
+use Rattle.node_parts.specs.Jobs.{JobsGoOn, heard_at, heard_of, order_word_at, order_word_of, phase_at, phase_of}
 use Rattle.node_parts.specs.Kinds.{IsQuiet}
 use Rattle.node_parts.specs.declared.moment.Moment.{Moment}
 use Rattle.node_parts.specs.Parts.{AreAllFed, AreParts, HasContents, PartsView}
@@ -88,7 +90,7 @@ use Rattle.node_parts.proofs.Filling.{FedStays, fills_of_sessions, for_jobs, for
 use Rattle.node_parts.proofs.Gains.{FitsGain, IsSizeOf, NamesJob, OwnsEntry, of_task, own_entry, own_step}
 use Rattle.node_parts.proofs.Going.{EndsGo, SessionsStay}
 use Rattle.node_parts.proofs.Gotten.{parts_told}
-use Rattle.node_parts.proofs.Hearing.{task_grows, task_word}
+use Rattle.node_parts.proofs.Hearing.{task_answer, task_grows, task_word}
 use Rattle.node_parts.proofs.Pieces.{job_pieces, own_pieces}
 use Rattle.node_parts.proofs.Posts.{posts_at}
 use Rattle.node_parts.proofs.Served.{FillsLaw, table_fills}
@@ -102,6 +104,10 @@ NamelessAsked = (lines : Lines) (key : List ℕ) → standing_by (settings lines
 abbrev pub RoomThere : Type 0
 RoomThere = (s : SetUp) (st : State) (k : Look) (jobs : Jobs) (m : Effect) → AreWorks s st jobs → Each (IsTask jobs.place) jobs.running → job_step s st k ≡ Some m
     → SendsWell (λ a. end_took (st.ends a) (taken_at a m.taken)) k.room m.sent
+
+-- each other owner's share stays its own
+abbrev pub SharesStay : Type 0
+SharesStay = (owner by : By) (share : Option ShareView) (n : ℕ) (kind : EntryKind) (holds : List Hold) → IsOwners owner n kind → same_owner by owner ≡ false → All (λ h. h.number < n) holds → Owns by share holds → Owns by share (holds_after holds kind)
 
 -- the laws that a job's step rests on
 pub record Laws : Type 0 where
@@ -502,11 +508,11 @@ parts_acted was now k0 k1 a d sound acted kind leaves =
 -- ---- what is left
 
 pub leaves_acted : (number : ℕ) (was now : PartsView) (k0 k1 : Seen) (a : Acted) (d : Done) → IsActed was.links now.links a d → LeavesJobs was.links was.jobs now.jobs was.table now.table k0 k1 a
-    → All (λ h. h.number < number) was.table.holds → LeavesSo number was now (Some d)
-leaves_acted number was now k0 k1 a d acted leaves fresh = record {
+    → All (λ h. h.number < number + 1) now.table.holds → LeavesSo number was now (Some d)
+leaves_acted number was now k0 k1 a d acted leaves numbers = record {
   holds = leaves.table.after ∙ ap (holds_after was.table.holds) (sym acted.kind);
   bars = λ key. leaves.table.bars key ∙ ap (bar_after key (bar_at was.table key)) (sym acted.kind);
-  numbers = subst (All (λ (h : Hold). h.number < number + 1)) (sym leaves.table.holds) (All-weaker (λ (h : Hold). h.number < number) (λ (h : Hold). h.number < number + 1) (λ h low. omega (arith, low)) was.table.holds fresh);
+  numbers = numbers;
   ends = acted.after;
 }
 
@@ -515,7 +521,7 @@ quiet_acted was now a d acted is = subst IsQuiet (sym acted.kind) (kind_quiet a.
 
 -- ---- what the jobs have heard
 
-module _ (was now : PartsView) (k0 k1 : Seen) (a : Acted) (d : Done) (acted : IsActed was.links now.links a d) (kind : IsOfJob a.job a.kind)
+module _ (was now : PartsView) (k0 k1 : Seen) (a : Acted) (d : Done) (sound : AreSound was) (acted : IsActed was.links now.links a d) (kind : IsOfJob a.job a.kind)
     (leaves : LeavesJobs was.links was.jobs now.jobs was.table now.table k0 k1 a) where
   goes_on : is_some (job_at now.jobs.running a.job) ≡ true → job_at now.jobs.running a.job ≡ Some leaves.acts.next
   goes_on runs = elim (cases_Bool a.ended) [
@@ -542,6 +548,19 @@ module _ (was now : PartsView) (k0 k1 : Seen) (a : Acted) (d : Done) (acted : Is
       ∙ (task_word was.links leaves.acts.job leaves.acts.next leaves.acts.told f leaves.acts.hears leaves.acts.leaves.heard at (sym (ap (option_and_then phase_of) leaves.acts.found) ∙ asks) refused
       ∙ (λ i. (f.peer, heards.Unseen (word_at was.links (end_in (sym waits.1 i) f.peer))) ∷ sym heard_was i))
 
+  stands : IsTask was.jobs.place leaves.acts.job
+  stands = Each-member (IsTask was.jobs.place) was.jobs.running leaves.acts.job sound.acting.tasks (found_among was.jobs.running a.job leaves.acts.job leaves.acts.found)
+
+  answer_kept : is_some (job_at now.jobs.running a.job) ≡ true → (f : FrameView) → d.taken ≡ Some f → phase_at was.jobs.running a.job ≡ Some phases.Orders → IsAnswer (taken_of f.body)
+      → order_word_at now.jobs.running a.job ≡ word_at was.links (end_in f.slot f.peer)
+  answer_kept runs f taken orders answers =
+      let at = sym takes ∙ taken in
+      let took = took_there was.links (slot_of leaves.acts.job) (takes_in leaves.acts.told) f at in
+      let waits = waits_there was.links (end_in (slot_of leaves.acts.job) took.0) f took.2 in
+      ap (option_and_then order_word_of) (goes_on runs)
+      ∙ (task_answer was.jobs.place was.links leaves.acts.job leaves.acts.next leaves.acts.told f stands leaves.acts.hears leaves.acts.leaves.heard at (sym (ap (option_and_then phase_of) leaves.acts.found) ∙ orders) answers
+      ∙ (λ i. word_at was.links (end_in (sym waits.1 i) f.peer)))
+
   pub jobs_go_on : JobsGoOn was now d
   jobs_go_on = record {
     job = a.job;
@@ -549,6 +568,7 @@ module _ (was now : PartsView) (k0 k1 : Seen) (a : Acted) (d : Done) (acted : Is
     grows = λ runs. subst (Grows (heard_at was.jobs.running a.job)) (sym (heard_now runs))
         (subst (λ (l : List (ℕ × Heard)). Grows l (heard_of leaves.acts.next)) (sym heard_was) (task_grows leaves.acts.job leaves.acts.next leaves.acts.told leaves.acts.leaves.heard));
     word = word_heard;
+    answer = answer_kept;
     apart = leaves.jobs.apart;
     given = leaves.jobs.given;
   }
@@ -580,20 +600,40 @@ among_acted was now k0 k1 a d same leaves = subst (λ (o : Option ToldLine). For
 
 -- ---- what is had of the table
 
--- what each session has stays its own, where the holds stay and the table fills their keys
-serving_stay : (was now : Rows) (xs : List Session) → now.holds ≡ was.holds → ((key : List ℕ) → fills_in xs key ≡ true → is_filling now key ≡ true) → OwnAll was xs → OwnAll now xs
-serving_stay was now xs holds fills own = record {
-  shares = λ i x at. subst (Owns (owner_of x) (share_of x)) (sym holds) (own.shares i x at);
+-- an entry of the job's is one of this owner's
+onward_owners : (job n : ℕ) (kind : EntryKind) → IsOnward job kind → IsNumbered n kind → IsOwners (by_job job) n kind
+onward_owners job n (kinds.Share hold end owner key) h numbered = (h, numbered)
+onward_owners job n (kinds.Fault call source) h numbered = h
+onward_owners job n (kinds.Gain source size key) h numbered = tt
+onward_owners job n (kinds.Bar j need key) h numbered = tt
+onward_owners job n (kinds.Order j target deadline need key) h numbered = tt
+onward_owners job n (kinds.Gone source key) h numbered = tt
+onward_owners job n (kinds.Talk j) h numbered = tt
+onward_owners job n kind h numbered = absurd h
+
+last_owners : (job n : ℕ) (kind : EntryKind) → IsLast job kind → IsOwners (by_job job) n kind
+last_owners job n (kinds.End j outcome) h = ap by_job h
+last_owners job n kind h = absurd h
+
+owners_of : (job n : ℕ) (kind : EntryKind) → IsOfJob job kind → IsNumbered n kind → IsOwners (by_job job) n kind
+owners_of job n kind (inl h) numbered = onward_owners job n kind h numbered
+owners_of job n kind (inr h) numbered = last_owners job n kind h
+
+-- what each session has stays its own, by an entry of a job's, where the table fills their keys
+serving_stay : SharesStay → (job n : ℕ) (kind : EntryKind) (was now : Rows) (xs : List Session) → IsOfJob job kind → IsNumbered n kind → All (λ h. h.number < n) was.holds → now.holds ≡ holds_after was.holds kind
+    → ((key : List ℕ) → fills_in xs key ≡ true → is_filling now key ≡ true) → OwnAll was xs → OwnAll now xs
+serving_stay law job n kind was now xs is numbered fresh holds fills own = record {
+  shares = λ i x at. subst (Owns (owner_of x) (share_of x)) (sym holds) (law (by_job job) (owner_of x) (share_of x) n kind was.holds (owners_of job n kind is numbered) refl fresh (own.shares i x at));
   fills = λ i x at key is. fills key (session_among key xs i x at is);
   apart = own.apart;
 }
 
-pub sound_acted : (was now : PartsView) (k0 k1 : Seen) (a : Acted) → AreSound was → length now.links ≡ length was.links → StayPaired was.links now.links → now.sessions ≡ was.sessions → LeavesJobs was.links was.jobs now.jobs was.table now.table k0 k1 a
-    → JobsOwn now.jobs now.table → AreSound now
-sound_acted was now k0 k1 a sound count paired still leaves own = record {
+pub sound_acted : SharesStay → (n : ℕ) (was now : PartsView) (k0 k1 : Seen) (a : Acted) → AreSound was → length now.links ≡ length was.links → StayPaired was.links now.links → now.sessions ≡ was.sessions → LeavesJobs was.links was.jobs now.jobs was.table now.table k0 k1 a
+    → IsNumbered n a.kind → All (λ h. h.number < n) was.table.holds → JobsOwn now.jobs now.table → AreSound now
+sound_acted law n was now k0 k1 a sound count paired still leaves numbered fresh own = record {
   count = count ∙ (sound.count ∙ ap (λ (p : PlaceView). length p.ids * 8) (sym leaves.place));
   there = subst (HaveEnds now.links) (sym still) (there_still was.links now.links was.sessions paired sound.there);
-  serving = subst (OwnAll now.table) (sym still) (serving_stay was.table now.table was.sessions leaves.table.holds (fills_of_sessions now.table was.sessions now.jobs.running filled) sound.serving);
+  serving = subst (OwnAll now.table) (sym still) (serving_stay law a.job n a.kind was.table now.table was.sessions (kind_of a leaves.kind) numbered fresh leaves.table.after (fills_of_sessions now.table was.sessions now.jobs.running filled) sound.serving);
   acting = own;
   filled = subst (λ (xs : List Session). AreFilled now.table xs (fills_at now.jobs.running)) (sym still) filled;
 }
@@ -676,7 +716,3 @@ none_fails (Some f) = refl
 pub fed_idle : (was now : PartsView) (known known' : Option StoredParts) → now ≡ was → known' ≡ known → ForSome known (λ q. AreAllFed q was → ForSome known' (λ q'. AreAllFed q' now))
 fed_idle was now known known' same parts = λ q told fed q' told'.
     let one : q ≡ q' = same_Some q q' (sym told ∙ (sym parts ∙ told')) in subst (λ (p : PartsView). AreAllFed q' p) (sym same) (subst (λ (x : StoredParts). AreAllFed x was) one fed)
-
--- the records of the holds are those of the table still
-pub agrees_still : (known known' : Option (List HoldRecord)) (holds holds' : List Hold) → known' ≡ known → holds' ≡ holds → Agrees known holds → Agrees known' holds'
-agrees_still known known' holds holds' same still agrees = subst (Agrees known') (sym still) (subst (λ (x : Option (List HoldRecord)). Agrees x holds) (sym same) agrees)
