@@ -19,7 +19,6 @@ use Rattle.run_data.specs.declared.entry.EntryKind.TheVariants as kinds
 use Rattle.run_data.specs.declared.entry.FrameView.{FrameView}
 use Rattle.run_data.specs.declared.row.Hold.{Hold}
 use Rattle.object_store.specs.Stores.{Contents, Parts as StoredParts, contents_after_commit, with_at}
-use Rattle.p2p_wire.specs.declared.message.Message.TheVariants.{Failure}
 use Rattle.trust_groups.specs.Settings.{Lines, settings}
 use Rattle.content_lock.specs.Rows.{Rows, bar_at, is_filling}
 use Rattle.content_lock.specs.Stored.{without_content}
@@ -50,13 +49,7 @@ use Rattle.p2p_server.specs.Talking.{session_of, share_of}
 use Rattle.node_sessions.specs.Sessions.{AreFilled, AreSessions, HaveEnds, OwnAll, AreAllFed as SessionsFed, fills_in, owner_of}
 use Rattle.node_sessions.specs.Serving.{SeesPartAt}
 use Rattle.node_sessions.specs.Stored.{parts_after_taken}
-use Rattle.drop_phases.specs.declared.phase.Heard.{Heard}
-use Rattle.drop_phases.specs.declared.phase.Heard.TheVariants as heards
-use Rattle.drop_phases.specs.declared.phase.Phase.TheVariants as phases
-use Rattle.drop_phases.specs.declared.turn.Taken.TheVariants as takens
 use Rattle.drop_phases.specs.Begun.{IsLast}
-use Rattle.drop_phases.specs.Doing.{Grows}
-use Rattle.drop_phases.specs.Feeding.{IsAnswer}
 use Rattle.drop_phases.specs.Sides.{IsNumbered}
 use Rattle.drop_phases.specs.Working.{end_in, taken_of}
 use Rattle.running_jobs.specs.Places.{IsPlace, PlaceView}
@@ -75,7 +68,7 @@ use Rattle.running_jobs.specs.Acting.{HasPart as HasPartActed, IsKindOf, SeesAct
 use Rattle.running_jobs.specs.Leaving.{ActsOf, Leaves as LeavesJobs}
 use Rattle.running_jobs.specs.Running.{AreWorks, Follows, IsOwn, Jobs, OwnAll as JobsOwn, fills_at, job_at, words_at}
 use Rattle.node_parts.specs.declared.done.Done.{Done}
-use Rattle.node_parts.specs.Jobs.{JobsGoOn, heard_at, heard_of, order_word_at, order_word_of, phase_at, phase_of}
+use Rattle.node_parts.specs.Jobs.{HearsSo, JobsGoOn}
 use Rattle.node_parts.specs.Kinds.{IsQuiet}
 use Rattle.node_parts.specs.declared.moment.Moment.{Moment}
 use Rattle.node_parts.specs.Parts.{AreAllFed, AreParts, HasContents, PartsView}
@@ -90,7 +83,7 @@ use Rattle.node_parts.proofs.Filling.{FedStays, fills_of_sessions, for_jobs, for
 use Rattle.node_parts.proofs.Gains.{FitsGain, IsSizeOf, NamesJob, OwnsEntry, of_task, own_entry, own_step}
 use Rattle.node_parts.proofs.Going.{EndsGo, SessionsStay}
 use Rattle.node_parts.proofs.Gotten.{parts_told}
-use Rattle.node_parts.proofs.Hearing.{task_answer, task_grows, task_word}
+use Rattle.node_parts.proofs.Hearing.{task_hears}
 use Rattle.node_parts.proofs.Pieces.{job_pieces, own_pieces}
 use Rattle.node_parts.proofs.Posts.{posts_at}
 use Rattle.node_parts.proofs.Served.{FillsLaw, table_fills}
@@ -529,46 +522,24 @@ module _ (was now : PartsView) (k0 k1 : Seen) (a : Acted) (d : Done) (sound : Ar
     | inr on ↦ leaves.jobs.onward on
   ]
 
-  heard_was : heard_at was.jobs.running a.job ≡ heard_of leaves.acts.job
-  heard_was = ap (λ (o : Option Task). option_map_or heard_of o []) leaves.acts.found
-
-  heard_now : is_some (job_at now.jobs.running a.job) ≡ true → heard_at now.jobs.running a.job ≡ heard_of leaves.acts.next
-  heard_now runs = ap (λ (o : Option Task). option_map_or heard_of o []) (goes_on runs)
-
   takes : d.taken ≡ taken_by was.links (slot_of leaves.acts.job) (takes_in leaves.acts.told)
   takes = acted.taken ∙ (λ i. taken_by was.links (leaves.acts.slot i) (leaves.acts.takes i))
-
-  word_heard : is_some (job_at now.jobs.running a.job) ≡ true → (f : FrameView) → d.taken ≡ Some f → phase_at was.jobs.running a.job ≡ Some (phases.AsksLook f.peer) → taken_of f.body ≡ takens.Message Failure
-      → heard_at now.jobs.running a.job ≡ (f.peer, heards.Unseen (word_at was.links (end_in f.slot f.peer))) ∷ heard_at was.jobs.running a.job
-  word_heard runs f taken asks refused =
-      let at = sym takes ∙ taken in
-      let took = took_there was.links (slot_of leaves.acts.job) (takes_in leaves.acts.told) f at in
-      let waits = waits_there was.links (end_in (slot_of leaves.acts.job) took.0) f took.2 in
-      heard_now runs
-      ∙ (task_word was.links leaves.acts.job leaves.acts.next leaves.acts.told f leaves.acts.hears leaves.acts.leaves.heard at (sym (ap (option_and_then phase_of) leaves.acts.found) ∙ asks) refused
-      ∙ (λ i. (f.peer, heards.Unseen (word_at was.links (end_in (sym waits.1 i) f.peer))) ∷ sym heard_was i))
 
   stands : IsTask was.jobs.place leaves.acts.job
   stands = Each-member (IsTask was.jobs.place) was.jobs.running leaves.acts.job sound.acting.tasks (found_among was.jobs.running a.job leaves.acts.job leaves.acts.found)
 
-  answer_kept : is_some (job_at now.jobs.running a.job) ≡ true → (f : FrameView) → d.taken ≡ Some f → phase_at was.jobs.running a.job ≡ Some phases.Orders → IsAnswer (taken_of f.body)
-      → order_word_at now.jobs.running a.job ≡ word_at was.links (end_in f.slot f.peer)
-  answer_kept runs f taken orders answers =
-      let at = sym takes ∙ taken in
-      let took = took_there was.links (slot_of leaves.acts.job) (takes_in leaves.acts.told) f at in
-      let waits = waits_there was.links (end_in (slot_of leaves.acts.job) took.0) f took.2 in
-      ap (option_and_then order_word_of) (goes_on runs)
-      ∙ (task_answer was.jobs.place was.links leaves.acts.job leaves.acts.next leaves.acts.told f stands leaves.acts.hears leaves.acts.leaves.heard at (sym (ap (option_and_then phase_of) leaves.acts.found) ∙ orders) answers
-      ∙ (λ i. word_at was.links (end_in (sym waits.1 i) f.peer)))
+  hears : ForSome (job_at now.jobs.running a.job) (λ t'. ForSome (job_at was.jobs.running a.job) (λ t. HearsSo was.links d t t'))
+  hears t' now_is t was_is =
+      let one : leaves.acts.job ≡ t = same_Some leaves.acts.job t (sym leaves.acts.found ∙ was_is) in
+      let other : leaves.acts.next ≡ t' = same_Some leaves.acts.next t' (sym (goes_on (ap is_some now_is)) ∙ now_is) in
+      subst (λ (x : Task). HearsSo was.links d x t') one (subst (HearsSo was.links d leaves.acts.job) other
+      (task_hears was.jobs.place was.links d leaves.acts.job leaves.acts.next leaves.acts.told stands leaves.acts.hears leaves.acts.leaves.heard takes leaves.acts.leaves.what))
 
   pub jobs_go_on : JobsGoOn was now d
   jobs_go_on = record {
     job = a.job;
     made = ap job_of acted.kind ∙ kind_job a.job a.kind kind;
-    grows = λ runs. subst (Grows (heard_at was.jobs.running a.job)) (sym (heard_now runs))
-        (subst (λ (l : List (ℕ × Heard)). Grows l (heard_of leaves.acts.next)) (sym heard_was) (task_grows leaves.acts.job leaves.acts.next leaves.acts.told leaves.acts.leaves.heard));
-    word = word_heard;
-    answer = answer_kept;
+    hears = hears;
     apart = leaves.jobs.apart;
     given = leaves.jobs.given;
   }

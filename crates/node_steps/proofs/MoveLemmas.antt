@@ -131,8 +131,8 @@ still_go was now d e kind taken (inr goes) =
       record {
         job = on.job;
         made = ap job_of (sym kind) ∙ on.made;
-        grows = on.grows;
-        word = λ there f took. on.word there f (taken ∙ took);
+        hears = λ t' now_is t was_is.
+            let heard = on.hears t' now_is t was_is in record { look = λ f took. heard.look f (taken ∙ took); answer = λ f took. heard.answer f (taken ∙ took); rest = heard.rest };
         apart = on.apart;
         given = on.given;
       },
