@@ -25,6 +25,7 @@ pub use Rattle.repo_node.specs.Acting
 pub use Rattle.repo_node.specs.Running
 pub use Rattle.repo_node.specs.Task
 pub use Rattle.repo_node.specs.Tasks
+pub use Rattle.repo_node.specs.TransferJob
 pub use Rattle.repo_node.specs.Worker
 pub use Rattle.repo_node.specs.Workers
 pub use Rattle.repo_node.specs.Drops

@@ -15,6 +15,7 @@ pub use Rattle.node_parts.specs.Acting
 pub use Rattle.node_parts.specs.Running
 pub use Rattle.node_parts.specs.Task
 pub use Rattle.node_parts.specs.Tasks
+pub use Rattle.node_parts.specs.TransferJob
 pub use Rattle.node_parts.specs.Worker
 pub use Rattle.node_parts.specs.Workers
 pub use Rattle.node_parts.specs.Drops

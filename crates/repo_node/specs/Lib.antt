@@ -21,6 +21,7 @@ pub use Rattle.node_steps.specs.Acting
 pub use Rattle.node_steps.specs.Running
 pub use Rattle.node_steps.specs.Task
 pub use Rattle.node_steps.specs.Tasks
+pub use Rattle.node_steps.specs.TransferJob
 pub use Rattle.node_steps.specs.Worker
 pub use Rattle.node_steps.specs.Workers
 pub use Rattle.node_steps.specs.Drops
