@@ -8,6 +8,7 @@ pub mod Greetings
 pub mod Heards
 pub mod Leavings
 pub mod Numbers
+pub mod OwnCopies
 pub mod Partings
 pub mod Takings
 pub mod Talks

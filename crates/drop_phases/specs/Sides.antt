@@ -1,5 +1,5 @@
 -- What the step of a drop needs and does on either side (own).
-use Rattle.std.specs.Prelude.{◌≡◌, ◌<◌, ◌==◌, ℕ, All, false, List, Option, Some, None}
+use Rattle.std.specs.Prelude.{◌≡◌, ◌<◌, ℕ, All, true, is_some, List, Option, Some, None}
 use Rattle.drop_proof.specs.declared.rule.Side.{Side}
 use Rattle.drop_proof.specs.declared.rule.Side.TheVariants.{Local, Remote}
 use Rattle.run_data.specs.declared.entry.EntryKind.{EntryKind}
@@ -12,6 +12,8 @@ use Rattle.content_lock.specs.Stored.{Agrees}
 use Rattle.drop_phases.specs.declared.phase.Phase.{Phase}
 use Rattle.drop_phases.specs.declared.phase.Token.{Token}
 use Rattle.drop_phases.specs.Worker.{Worker}
+use Rattle.drop_phases.specs.Working.{heard_in}
+use Rattle.drop_phases.specs.Begun.{IsOther}
 use Rattle.drop_phases.specs.Feeding.{FitsLocal, FitsRemote}
 use Rattle.drop_phases.specs.Alike.{Alike}
 
@@ -25,10 +27,15 @@ FitsSide Local phase token = FitsLocal phase token
 FitsSide Remote phase token = FitsRemote phase token
 
 -- a remote drop removes from its job's peer, which is another repository
-abbrev pub HasTarget : Side → Option ℕ → ℕ → Type 0
-HasTarget Local peer repo = Unit {0}
-HasTarget Remote None repo = ⊥
-HasTarget Remote (Some target) repo = (repo == target) ≡ false
+abbrev pub HasTarget : Side → Option ℕ → Reading → Type 0
+HasTarget Local peer r = Unit {0}
+HasTarget Remote None r = ⊥
+HasTarget Remote (Some target) r = IsOther r target
+
+-- a remote drop hears of its own repository at its first step
+abbrev pub HearsOwn : Side → Reading → Worker → Type 0
+HearsOwn Local r w = Unit {0}
+HearsOwn Remote r w = is_some (heard_in w.heard r.repo) ≡ true
 
 -- the target of a remote drop
 abbrev pub target_on : Side → Option ℕ → Option ℕ

@@ -14,8 +14,8 @@ ghost use Rattle.drop_phases.specs.Working.{Rest, outcome_as, phase_as, sight, t
 ghost use Rattle.drop_phases.specs.Doing.{Acts};
 ghost use Rattle.drop_phases.specs.Leaving.{stands_on, store};
 ghost use Rattle.remote_requests.specs.Remote.{DidRemote, GoesAlike, IsRemote, Speaks, StandsRemote, FollowsShareRefused, known_remotely, remote_candidates};
-ghost use Rattle.drop_phases.specs.Begun.{IsToEnd};
-ghost use Rattle.drop_phases.specs.Sides.{IsNumbered};
+ghost use Rattle.drop_phases.specs.Begun.{CanStand, HasGone, IsOther, IsToEnd};
+ghost use Rattle.drop_phases.specs.Sides.{HearsOwn, IsNumbered};
 ghost use Rattle.drop_phases.specs.Calling.{MakesPhase};
 
 use annex_base::{Items, NoMemory, Text, Word};
@@ -42,11 +42,14 @@ pub fn act<K: Keeper, H: Here>(
     target: u32,
 ) -> Result<Output, NoMemory>
     requires stands { StandsRemote target (K.records keeper.old) table.old worker.old }
-    requires apart { ((H.reading here.now).repo == target) ≡ false }
+    requires other { IsOther (H.reading here.now) target }
+    requires own { (worker.old.phase ≡ Phase.Fresh → ⊥) → HearsOwn sides.Remote (H.reading here.now) worker.old }
     requires awaits { stands_on worker.old ≡ None }
     requires fresh { All (λ h. h.number < input.now.number) table.old.holds }
     ensures did { DidRemote table.old table.new (store (K.contents keeper.old) (K.records keeper.old) (K.faults keeper.old)) (store (K.contents keeper.new) (K.records keeper.new) (K.faults keeper.new)) worker.old worker.new
         (GoesAlike (sight (H.reading here.now) (H.ends here.now) input.now.time input.now.number) (K.contents keeper.old) table.old table.new worker.old worker.new) result }
+    ensures begun { IfOk result (λ out. CanStand (H.reading here.now) worker.old.phase → HasGone (H.reading here.now) worker.old worker.new out) }
+    ensures own { IfOk result (λ out. out.ended ≡ false → HearsOwn sides.Remote (H.reading here.now) worker.new) }
     ensures numbered { IfOk result (λ out. IsNumbered input.now.number out.kind) }
     ensures calls { MakesPhase (sight (H.reading here.now) (H.ends here.now) input.now.time input.now.number) (K.contents keeper.old) table.old worker.old (K.failing keeper.old) (K.failing keeper.new) result }
     ensures parts { K.parts keeper.new ≡ K.parts keeper.old }
@@ -80,6 +83,8 @@ fn begin<K: Keeper, H: Here>(
     requires fresh { All (λ h. h.number < input.now.number) table.old.holds }
     ensures did { DidRemote table.old table.new (store (K.contents keeper.old) (K.records keeper.old) (K.faults keeper.old)) (store (K.contents keeper.new) (K.records keeper.new) (K.faults keeper.new)) worker.old worker.new
         (GoesAlike (sight (H.reading here.now) (H.ends here.now) input.now.time input.now.number) (K.contents keeper.old) table.old table.new worker.old worker.new) result }
+    ensures begun { IfOk result (λ out. CanStand (H.reading here.now) worker.old.phase → HasGone (H.reading here.now) worker.old worker.new out) }
+    ensures own { IfOk result (λ out. out.ended ≡ false → HearsOwn sides.Remote (H.reading here.now) worker.new) }
     ensures numbered { IfOk result (λ out. IsNumbered input.now.number out.kind) }
     ensures calls { MakesPhase (sight (H.reading here.now) (H.ends here.now) input.now.time input.now.number) (K.contents keeper.old) table.old worker.old (K.failing keeper.old) (K.failing keeper.new) result }
     ensures parts { K.parts keeper.new ≡ K.parts keeper.old }
@@ -107,6 +112,8 @@ fn end_required<K: Keeper, H: Here>(
     requires required { (H.reading here.now).requires ≡ Some text.now }
     ensures did { (number : ℕ) → DidRemote table.old table.new (store (K.contents keeper.old) (K.records keeper.old) (K.faults keeper.old)) (store (K.contents keeper.new) (K.records keeper.new) (K.faults keeper.new)) worker.old worker.new
         (GoesAlike (sight (H.reading here.now) (H.ends here.now) time number) (K.contents keeper.old) table.old table.new worker.old worker.new) result }
+    ensures begun { IfOk result (λ out. CanStand (H.reading here.now) worker.old.phase → HasGone (H.reading here.now) worker.old worker.new out) }
+    ensures ended { IfOk result (λ out. out.ended ≡ true) }
     ensures numbered { IfOk result (λ out. (n : ℕ) → IsNumbered n out.kind) }
     ensures calls { (number : ℕ) → MakesPhase (sight (H.reading here.now) (H.ends here.now) time number) (K.contents keeper.old) table.old worker.old (K.failing keeper.old) (K.failing keeper.new) result }
     ensures parts { K.parts keeper.new ≡ K.parts keeper.old }
@@ -141,6 +148,8 @@ fn try_own<K: Keeper, H: Here>(
     requires fresh { All (λ h. h.number < input.now.number) table.old.holds }
     ensures did { DidRemote table.old table.new (store (K.contents keeper.old) (K.records keeper.old) (K.faults keeper.old)) (store (K.contents keeper.new) (K.records keeper.new) (K.faults keeper.new)) worker.old worker.new
         (GoesAlike (sight (H.reading here.now) (H.ends here.now) input.now.time input.now.number) (K.contents keeper.old) table.old table.new worker.old worker.new) result }
+    ensures begun { IfOk result (λ out. CanStand (H.reading here.now) worker.old.phase → HasGone (H.reading here.now) worker.old worker.new out) }
+    ensures own { IfOk result (λ out. out.ended ≡ false → HearsOwn sides.Remote (H.reading here.now) worker.new) }
     ensures numbered { IfOk result (λ out. IsNumbered input.now.number out.kind) }
     ensures calls { MakesPhase (sight (H.reading here.now) (H.ends here.now) input.now.time input.now.number) (K.contents keeper.old) table.old worker.old (K.failing keeper.old) (K.failing keeper.new) result }
     ensures parts { K.parts keeper.new ≡ K.parts keeper.old }
@@ -179,6 +188,8 @@ fn share_own<K: Keeper, H: Here>(
     requires fresh { All (λ h. h.number < input.now.number) table.old.holds }
     ensures did { DidRemote table.old table.new (store (K.contents keeper.old) (K.records keeper.old) (K.faults keeper.old)) (store (K.contents keeper.new) (K.records keeper.new) (K.faults keeper.new)) worker.old worker.new
         (GoesAlike (sight (H.reading here.now) (H.ends here.now) input.now.time input.now.number) (K.contents keeper.old) table.old table.new worker.old worker.new) result }
+    ensures begun { IfOk result (λ out. CanStand (H.reading here.now) worker.old.phase → HasGone (H.reading here.now) worker.old worker.new out) }
+    ensures own { IfOk result (λ out. out.ended ≡ false → HearsOwn sides.Remote (H.reading here.now) worker.new) }
     ensures numbered { IfOk result (λ out. IsNumbered input.now.number out.kind) }
     ensures calls { MakesPhase (sight (H.reading here.now) (H.ends here.now) input.now.time input.now.number) (K.contents keeper.old) table.old worker.old (K.failing keeper.old) (K.failing keeper.new) result }
     ensures parts { K.parts keeper.new ≡ K.parts keeper.old }
@@ -238,10 +249,12 @@ fn go_on<K: Keeper, H: Here>(
     target: u32,
 ) -> Result<Output, NoMemory>
     requires stands { StandsRemote target (K.records keeper.old) table.old worker.old }
-    requires apart { ((H.reading here.now).repo == target) ≡ false }
+    requires other { IsOther (H.reading here.now) target }
+    requires own { HearsOwn sides.Remote (H.reading here.now) worker.old }
     requires at { worker.old.phase ≡ Phase.Next }
     ensures did { (number : ℕ) → DidRemote table.old table.new (store (K.contents keeper.old) (K.records keeper.old) (K.faults keeper.old)) (store (K.contents keeper.new) (K.records keeper.new) (K.faults keeper.new)) worker.old worker.new
         (GoesAlike (sight (H.reading here.now) (H.ends here.now) time number) (K.contents keeper.old) table.old table.new worker.old worker.new) result }
+    ensures begun { IfOk result (λ out. CanStand (H.reading here.now) worker.old.phase → HasGone (H.reading here.now) worker.old worker.new out) }
     ensures numbered { IfOk result (λ out. (n : ℕ) → IsNumbered n out.kind) }
     ensures calls { (number : ℕ) → MakesPhase (sight (H.reading here.now) (H.ends here.now) time number) (K.contents keeper.old) table.old worker.old (K.failing keeper.old) (K.failing keeper.new) result }
     ensures parts { K.parts keeper.new ≡ K.parts keeper.old }
@@ -308,9 +321,11 @@ fn go_to<H: Here>(
 ) -> Result<Output, NoMemory>
     requires remote { IsRemote target worker.old }
     requires next { worker.old.phase ≡ Phase.Next }
+    requires other { IsOther (H.reading here.now) peer }
     requires known { end ≡ least_end (known_remotely (H.reading here.now) target worker.old) }
     ensures does { IfOk result (λ out. (rows : Rows) → Acts (H.reading here.now) (H.ends here.now) time rows rows worker.old worker.new (λ t. goes_to t peer) out) }
     ensures speaks { IfOk result (Speaks worker.old worker.new) }
+    ensures begun { IfOk result (HasGone (H.reading here.now) worker.old worker.new) }
     ensures err { OnErr result (worker.new ≡ worker.old) }
 {
     if !here.is_open(peer, worker.slot()) {
