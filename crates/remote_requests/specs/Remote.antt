@@ -1,7 +1,6 @@
 -- What a remote drop has and knows at a step, and what its step leaves; for the crates of drops (own).
 use Rattle.std.specs.Prelude.{◌≡◌, ◌≤◌, ◌<◌, ◌^◌, ◌==◌, ◌&&◌, ℕ, Bool, true, false, nat_lt, if◌then◌else◌, List, [], ◌∷◌, Option, Some, None, IfSome, Result, Ok, Err, IfOk, OnErr, filter}
 use Rattle.std.specs.List.{range_with_len}
-use Rattle.std.specs.Option.{ForSome}
 use Rattle.annex_base.specs.Causes.{Rose}
 use Rattle.annex_base.specs.declared.kinds.Call.TheVariants as calls
 use Rattle.annex_base.specs.declared.memory.NoMemory.{NoMemory}
@@ -22,7 +21,6 @@ use Rattle.node_model.specs.Evidence.{but}
 use Rattle.node_model.specs.Jobs.{drop_side}
 use Rattle.node_model.specs.JobStep.{ends}
 use Rattle.node_model.specs.Knows.{Reading}
-use Rattle.node_model.specs.Turns.{goes}
 use Rattle.node_model.specs.Look.{failed_in}
 use Rattle.content_lock.specs.Rows.{AreAfter, Rows}
 use Rattle.content_lock.specs.Stored.{Agrees}
@@ -38,8 +36,7 @@ use Rattle.drop_phases.specs.declared.turn.Parcel.{Parcel}
 use Rattle.drop_phases.specs.declared.turn.Taken.{Taken}
 use Rattle.drop_phases.specs.declared.turn.ParcelBody.TheVariants as bodies
 use Rattle.drop_phases.specs.Worker.{Worker}
-use Rattle.drop_phases.specs.Working.{Sight, end_in, present_in, sight}
-use Rattle.drop_phases.specs.Alike.{DoesAlike}
+use Rattle.drop_phases.specs.Working.{end_in, sight}
 use Rattle.drop_phases.specs.Doing.{DoesAsAsked, Grows, HasToken, OthersStay, contents_after}
 use Rattle.drop_phases.specs.Feeding.{FeedsFrame, FitsRemote, HasNoBar, step_of}
 use Rattle.drop_judging.specs.Judging.{evidence_of, is_owing, others_in}
@@ -180,10 +177,6 @@ pub record ShutsRemote (target peer : ℕ) (w w' : Worker) (out : Output) : Type
   pub sends : out.sends.items ≡ record { peer = peer; body = bodies.Close } ∷ []
   pub goes_on : out.ended ≡ false
   pub next : w' ≡ without_peer w target peer
-
--- a step goes on from where the job stands, and its work after it is alike the worker
-abbrev pub GoesAlike : Sight → Option Contents → Rows → Rows → Worker → Worker → Output → Type 0
-GoesAlike x known rows rows' w w' out = ForSome known (λ c. DoesAlike x rows rows' (present_in c) w w' None (λ t. goes t t.w.phase) out)
 
 -- a step does what the definitions do with what it is told at its partner's end
 abbrev pub TakesRemote : Reading → (EndName → End) → ℕ → Rows → Rows → ℕ → Taken → Worker → Worker → Output → Type 0
