@@ -5,11 +5,10 @@ use Rattle.std.proofs.Common.{◌≡◌, ℕ, Bool, true, Option, Some, None, Re
 use Rattle.annex_base.specs.declared.kinds.Call.{Call}
 use Rattle.annex_base.specs.declared.memory.NoMemory.{NoMemory}
 use Rattle.run_data.specs.declared.entry.FrameView.{FrameView}
-use Rattle.node_model.specs.Around.{around}
 use Rattle.node_model.specs.SetUp.{SetUp}
 use Rattle.node_model.specs.Jobs as Jobs
-use Rattle.node_model.specs.Jobs.{Work, work_kind}
-use Rattle.node_model.specs.Look.{Look, Effect, as_told, entry_of, failed_in}
+use Rattle.node_model.specs.Jobs.{Work}
+use Rattle.node_model.specs.Look.{Look, Effect, as_told, failed_in}
 use Rattle.node_model.specs.State.{State}
 use Rattle.node_model.specs.JobStep.{Turn, end_with, turn_of}
 use Rattle.node_model.specs.Rows.{option_is}
@@ -30,7 +29,6 @@ use Rattle.drop_phases.specs.Doing.{DoesAsAsked, next_work}
 use Rattle.drop_phases.specs.Feeding.{FeedsFrameAt, FindsAt, step_of}
 use Rattle.drop_worker.specs.States.{IsSight, HaveState, Sees, StepsSo, rest_of}
 use Rattle.annex_base.proofs.Conditions.{eqb_refl}
-use Rattle.drop_phases.proofs.Arounds.{turn_moves}
 use Rattle.drop_phases.proofs.Callings.{makes_as}
 
 pub turn_is : (x : Sight) (rows : Rows) (contents : Contents) (s : SetUp) (st : State) (k : Look) (w : Worker) (v : Work) (fails : Option Call)
@@ -102,7 +100,7 @@ steps_so x rows rows' contents w w' taken out s st k v f sees d =
       made = ap (option_map as_told) (slot_so x rows contents w taken (failed_in out.kind) s st k v f sees)
           ∙ ap (λ (m : Effect). Some m) (sym (d.makes rest ∙ ap (λ (t : Turn). as_told (step_of o f t)) is));
       next = λ going. d.next going rest
-          ∙ (ap (next_work turned) (sym (d.makes rest)) ∙ (ap (λ (t : Turn). next_work t made) is ∙ (turn_moves s st k v made ∙ sym (own_entry (option_is (job_of out.kind) v.number) whose))));
+          ∙ (ap (next_work turned) (sym (d.makes rest)) ∙ (ap (λ (t : Turn). next_work t made) is ∙ sym (own_entry (option_is (job_of out.kind) v.number) whose)));
     }
   where
     o : Option ℕ
@@ -129,10 +127,7 @@ steps_so x rows rows' contents w w' taken out s st k v f sees d =
     whose : option_is (job_of out.kind) v.number ≡ true
     whose = (λ i. option_is (d.whose i) (sym work i).number) ∙ eqb_refl w.number
 
-    moved : Work
-    moved = work_kind (around s st) s.number v (entry_of s.number k made) made.kind
-
-    own_entry : (b : Bool) → b ≡ true → (if b then moved else v) ≡ moved
+    own_entry : (b : Bool) → b ≡ true → (if b then next_work now made else v) ≡ next_work now made
     own_entry b e = rw e refl
 
 -- ---- its calls

@@ -11,7 +11,6 @@ use Rattle.run_data.specs.declared.job.Outcome.TheVariants.{Got, TransferRefused
 use Rattle.run_data.specs.declared.job.TransferRefusal.TheVariants as failures
 use Rattle.object_store.specs.Calls.{FailsAsTold}
 use Rattle.object_store.specs.Stores.{Contents, Parts}
-use Rattle.node_model.specs.Around.{is_asked}
 use Rattle.node_model.specs.Jobs
 use Rattle.node_model.specs.Jobs.{Drops, Gets, Work, first_look, is_move, partner, to_phase}
 use Rattle.node_model.specs.JobStep.{Turn, attempts, by_me, ends, quietly, talk}
@@ -83,13 +82,9 @@ module _ (x : Sight) (rows : Rows) (c : Contents) (part : ℕ) (right : Bool) (r
   abbrev claiming : Work
   claiming = record (work_of (fresh w)) { fills = true }
 
-  -- what a drop would read of its own repository
-  abbrev asked : Bool
-  asked = is_asked (rest.read.standing x.repo)
-
   -- it says nothing
   quiet_made : (k m k' : Seen) (v' : Work) (out : Output) (ended : Bool) → out ≡ output_of (Talk (Some w.number)) [] ended → FailsAsTold calls.Has k.failing m.failing false → k'.failing ≡ m.failing
-      → v' ≡ first_look x.repo claiming Gets asked (is_in c w.job.key) (bar_at rows w.job.key)
+      → v' ≡ first_look x.repo claiming Gets (is_in c w.job.key) (bar_at rows w.job.key)
       → Makes x k k' (work_of (fresh w)) v' None (turn (failed_in out.kind)) (attempts (turn (failed_in out.kind)) (calls.Has ∷ []) None (quietly (talk (turn (failed_in out.kind))) None)) out
   quiet_made k m k' v' out ended is had same next =
       subst (λ (o : Output). Makes x k k' (work_of (fresh w)) v' None (turn (failed_in o.kind)) (attempts (turn (failed_in o.kind)) (calls.Has ∷ []) None (quietly (talk (turn (failed_in o.kind))) None)) o) (sym is)
@@ -97,14 +92,14 @@ module _ (x : Sight) (rows : Rows) (c : Contents) (part : ℕ) (right : Bool) (r
       (record { effect = refl; next = λ e. next; calls = makes_none m.failing k'.failing same }))
 
   -- the drop of a move begins
-  moves : is_in c w.job.key ≡ true → is_move w.job.kind ≡ true → work_of (record w { phase = phases.Done }) ≡ first_look x.repo claiming Gets asked (is_in c w.job.key) (bar_at rows w.job.key)
+  moves : is_in c w.job.key ≡ true → is_move w.job.kind ≡ true → work_of (record w { phase = phases.Done }) ≡ first_look x.repo claiming Gets (is_in c w.job.key) (bar_at rows w.job.key)
   moves here move =
-      sym (ap (λ (b : Bool). first_look x.repo claiming Gets asked b (bar_at rows w.job.key)) here
+      sym (ap (λ (b : Bool). first_look x.repo claiming Gets b (bar_at rows w.job.key)) here
       ∙ ap (λ (b : Bool). if b then record claiming { part = Drops; phase = Jobs.Fresh; fills = false } else record claiming { phase = Jobs.Ends (Got None None); fills = false }) move)
 
   -- it goes on without a peer
-  lacks : is_in c w.job.key ≡ false → work_of (record w { phase = phases.Next w.job.key }) ≡ first_look x.repo claiming Gets asked (is_in c w.job.key) (bar_at rows w.job.key)
-  lacks here = sym (ap (λ (b : Bool). first_look x.repo claiming Gets asked b (bar_at rows w.job.key)) here)
+  lacks : is_in c w.job.key ≡ false → work_of (record w { phase = phases.Next w.job.key }) ≡ first_look x.repo claiming Gets (is_in c w.job.key) (bar_at rows w.job.key)
+  lacks here = sym (ap (λ (b : Bool). first_look x.repo claiming Gets b (bar_at rows w.job.key)) here)
 
   -- it ends
   end_looked : (k k' : Seen) (v' : Work) (outcome : Outcome) (out : Output) → IsEnding x w.number w.slot outcome out → IsBare rows w → FailsAsTold calls.Has k.failing k'.failing false

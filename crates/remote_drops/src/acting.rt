@@ -1,19 +1,20 @@
 //! The steps of a remote drop that take no frame.
-ghost use Rattle.std.specs.Prelude.{◌≡◌, ◌<◌, ◌==◌, ℕ, List, [], All, Bool, false, None, Some, IfOk, OnErr};
+ghost use Rattle.std.specs.Prelude.{◌≡◌, ◌<◌, ◌==◌, ℕ, List, All, Bool, false, None, Some, IfOk, OnErr};
 ghost use Rattle.std.specs.declared.option.Option.{Option};
 ghost use Rattle.annex_base.specs.declared.kinds.Call.{Call};
 ghost use Rattle.drop_proof.specs.declared.rule.Side.TheVariants as sides;
 ghost use Rattle.drop_proof.specs.Judging.{least_end};
 ghost use Rattle.node_model.specs.DropStep.{expiry, lacking_outcome, removal_outcome};
 ghost use Rattle.node_model.specs.Evidence.{Asked};
+ghost use Rattle.node_model.specs.Jobs.{unshared_cause};
 ghost use Rattle.node_model.specs.Knows.{denial_of, obeyed_outcome};
 ghost use Rattle.node_model.specs.Requests.{goes_to};
 ghost use Rattle.node_model.specs.Turns.{outcome_of};
-ghost use Rattle.content_lock.specs.Rows.{Rows};
+ghost use Rattle.content_lock.specs.Rows.{Rows, bar_at};
 ghost use Rattle.drop_phases.specs.Working.{Rest, outcome_as, phase_as, sight, turn_in};
 ghost use Rattle.drop_phases.specs.Doing.{Acts};
 ghost use Rattle.drop_phases.specs.Leaving.{GoesSo, stands_on, store};
-ghost use Rattle.remote_requests.specs.Remote.{DidRemote, IsRemote, Speaks, StandsRemote, FollowsShareRefused, known_remotely, remote_candidates};
+ghost use Rattle.remote_requests.specs.Remote.{DidRemote, GivesNone, IsRemote, PassesBy, Speaks, StandsRemote, FollowsShareRefused, known_remotely, remote_candidates};
 ghost use Rattle.drop_phases.specs.Begun.{IsToEnd};
 ghost use Rattle.drop_phases.specs.Sides.{IsNumbered};
 ghost use Rattle.drop_phases.specs.Calling.{MakesPhase};
@@ -148,18 +149,34 @@ fn try_own<K: Keeper, H: Here>(
 {
     match here.standing(here.repo()) {
         Standing::Asked => share_own(worker, alloc, here, table, keeper, input, target),
-        Standing::Claimed => Ok(pass_by(worker, alloc)),
-        Standing::Ignored(_) => Ok(pass_by(worker, alloc)),
+        Standing::Claimed => pass_by(worker, alloc, here, table),
+        Standing::Ignored(_) => pass_by(worker, alloc, here, table),
     }
 }
 
-/// Its own repository isn't asked.
-fn pass_by(worker: &mut Worker, alloc: Global) -> Output
-    ensures says { (result.kind ≡ EntryKind.Talk (Some worker.old.number)) × (result.sends.items ≡ []) × (result.ended ≡ false) }
-    ensures next { worker.new ≡ record worker.old { phase = Phase.Next } }
+/// Its own repository isn't asked: it hears why it has no share there.
+fn pass_by<H: Here>(
+    worker: &mut Worker,
+    alloc: Global,
+    here: &H,
+    table: &LockTable,
+) -> Result<Output, NoMemory>
+    ensures passes { IfOk result (PassesBy (H.reading here.now).repo (bar_at table.now worker.old.job.key) worker.old worker.new) }
+    ensures err { OnErr result (worker.new ≡ worker.old) }
 {
-    worker.go_to(Phase::Next);
-    quietly(alloc, talk(worker.number()))
+    let cause = unshared_cause(table.barring(worker.key()));
+    worker.hear(here.repo(), Heard::Lacks(cause))?;
+    Ok(quietly(alloc, talk(worker.number())))
+}
+
+/// Why it has no share of its own repository's content, by the job whose bar stands there.
+fn unshared_cause(barred: Option<u32>) -> Cause
+    ensures { result ≡ unshared_cause barred }
+{
+    match barred {
+        None => Cause::Absent,
+        Some(_) => Cause::Barred,
+    }
 }
 
 /// It takes a share of its own repository's content, or hears why there is none.
@@ -195,24 +212,23 @@ fn share_own<K: Keeper, H: Here>(
             let hold = input.number;
             Ok(quietly(alloc, EntryKind::Share { hold, end, by, key }))
         }
-        Err(why) => unshared(worker, alloc, why),
+        Err(why) => unshared(worker, alloc, table, why),
     }
 }
 
 /// Its own repository gives nothing. Without memory the worker is as it was before it heard of its own repository.
-fn unshared(worker: &mut Worker, alloc: Global, why: ShareRefused) -> Result<Output, NoMemory>
-    ensures { FollowsShareRefused why worker.old worker.new result }
+fn unshared(
+    worker: &mut Worker,
+    alloc: Global,
+    table: &LockTable,
+    why: ShareRefused,
+) -> Result<Output, NoMemory>
+    ensures { FollowsShareRefused (bar_at table.now worker.old.job.key) why worker.old worker.new result }
 {
     let number = worker.number();
     match why {
-        ShareRefused::Absent => {
-            worker.rehear(Heard::Lacks(Cause::Absent));
-            Ok(quietly(alloc, talk(number)))
-        }
-        ShareRefused::Barred { job: _ } => {
-            worker.rehear(Heard::Lacks(Cause::Barred));
-            Ok(quietly(alloc, talk(number)))
-        }
+        ShareRefused::Absent => Ok(go_without(worker, alloc, table)),
+        ShareRefused::Barred { job: _ } => Ok(go_without(worker, alloc, table)),
         ShareRefused::StoreFault { call } => {
             worker.rehear(Heard::Lacks(Cause::Fault));
             let by = By::Job(number);
@@ -223,6 +239,16 @@ fn unshared(worker: &mut Worker, alloc: Global, why: ShareRefused) -> Result<Out
             Err(NoMemory)
         }
     }
+}
+
+/// It has no share of its own repository's content.
+fn go_without(worker: &mut Worker, alloc: Global, table: &LockTable) -> Output
+    ensures { GivesNone (EntryKind.Talk (Some worker.old.number)) (unshared_cause (bar_at table.now worker.old.job.key)) worker.old worker.new result }
+{
+    let number = worker.number();
+    let cause = unshared_cause(table.barring(worker.key()));
+    worker.rehear(Heard::Lacks(cause));
+    quietly(alloc, talk(number))
 }
 
 // ---- its judgement

@@ -18,7 +18,7 @@ use Rattle.object_store.specs.Stores.{Contents}
 use Rattle.object_store.specs.declared.keeper.HoldRecord.{HoldRecord}
 use Rattle.node_model.specs.Ends.{End, EndName}
 use Rattle.node_model.specs.Evidence.{but}
-use Rattle.node_model.specs.Jobs.{drop_side}
+use Rattle.node_model.specs.Jobs.{drop_side, unshared_cause}
 use Rattle.node_model.specs.JobStep.{ends}
 use Rattle.node_model.specs.Knows.{Reading}
 use Rattle.node_model.specs.Look.{failed_in}
@@ -186,6 +186,13 @@ TakesRemote read ends_at time rows rows' peer taken w w' out =
 
 -- ---- its own share
 
+-- the job passes its own repository by: nothing is said, and it hears by the bar there why it has no share
+pub record PassesBy (repo : ℕ) (bar : Option ℕ) (w w' : Worker) (out : Output) : Type 0 where
+  pub made : out.kind ≡ Talk (Some w.number)
+  pub sends : out.sends.items ≡ []
+  pub goes_on : out.ended ≡ false
+  pub next : w' ≡ record w { heard = (repo, heards.Lacks (unshared_cause bar)) ∷ w.heard; phase = phases.Next }
+
 -- nothing is said, and what was heard last is that there is none, for this cause
 pub record GivesNone (kind : EntryKind) (cause : Cause) (w w' : Worker) (out : Output) : Type 0 where
   pub made : out.kind ≡ kind
@@ -193,12 +200,12 @@ pub record GivesNone (kind : EntryKind) (cause : Cause) (w w' : Worker) (out : O
   pub goes_on : out.ended ≡ false
   pub next : (peer : ℕ) (before : Heard) (rest : List (ℕ × Heard)) → w.heard ≡ (peer, before) ∷ rest → w' ≡ record w { heard = (peer, heards.Lacks cause) ∷ rest }
 
--- what follows a share that was refused, of a worker that heard last of its own repository
-abbrev pub FollowsShareRefused : ShareRefused → Worker → Worker → Result Output NoMemory → Type 0
-FollowsShareRefused shares.Absent w w' r = IfOk r (GivesNone (Talk (Some w.number)) causes.Absent w w') × OnErr r ⊥
-FollowsShareRefused (shares.Barred job) w w' r = IfOk r (GivesNone (Talk (Some w.number)) causes.Barred w w') × OnErr r ⊥
-FollowsShareRefused (shares.StoreFault call) w w' r = IfOk r (GivesNone (Fault call (by_job w.number)) causes.Fault w w') × OnErr r ⊥
-FollowsShareRefused shares.NoMemory w w' r = IfOk r (λ out. ⊥) × ((x : ℕ × Heard) (rest : List (ℕ × Heard)) → w.heard ≡ x ∷ rest → w' ≡ record w { heard = rest; phase = phases.Fresh })
+-- what follows a share that was refused, of a worker that heard last of its own repository, with this bar there
+abbrev pub FollowsShareRefused : Option ℕ → ShareRefused → Worker → Worker → Result Output NoMemory → Type 0
+FollowsShareRefused bar shares.Absent w w' r = IfOk r (GivesNone (Talk (Some w.number)) (unshared_cause bar) w w') × OnErr r ⊥
+FollowsShareRefused bar (shares.Barred job) w w' r = IfOk r (GivesNone (Talk (Some w.number)) (unshared_cause bar) w w') × OnErr r ⊥
+FollowsShareRefused bar (shares.StoreFault call) w w' r = IfOk r (GivesNone (Fault call (by_job w.number)) causes.Fault w w') × OnErr r ⊥
+FollowsShareRefused bar shares.NoMemory w w' r = IfOk r (λ out. ⊥) × ((x : ℕ × Heard) (rest : List (ℕ × Heard)) → w.heard ≡ x ∷ rest → w' ≡ record w { heard = rest; phase = phases.Fresh })
 
 -- where the job stands after its own share couldn't be released at this time
 abbrev pub unreleased_phase : ℕ → Phase → Phase

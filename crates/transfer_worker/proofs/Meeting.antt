@@ -18,7 +18,6 @@ use Rattle.node_model.specs.Turns.{slot_step}
 use Rattle.content_lock.specs.CallsMade.{MakesCalls}
 use Rattle.content_lock.specs.Rows.{Rows}
 use Rattle.session_state.specs.declared.incoming.Incoming.{Incoming}
-use Rattle.drop_phases.proofs.Arounds.{turn_moves}
 use Rattle.transfer_turns.specs.declared.parcels.Output.{Output}
 use Rattle.transfer_turns.specs.Parcels.{end_in}
 use Rattle.transfer_turns.specs.Steps.{Makes, Seen, StepsIn}
@@ -74,8 +73,7 @@ module _ (x : Sight) (rows : Rows) (before after : Seen) (v v' : Work) (i : Opti
         made = ap (option_map as_told) slot ∙ ap (λ (m : Effect). Some m) (sym is_made);
         next = λ going.
             makes.next going
-            ∙ (turn_moves s st k v (step turn)
-            ∙ (ap (λ (m : Effect). work_kind (around s st) s.number v (entry_of s.number k m) m.kind) (sym is_made) ∙ moved (around s st) s.number k (made_of x v.slot f out) v whose));
+            ∙ (ap (λ (m : Effect). work_kind (around s st) s.number v (entry_of s.number k m) m.kind) (sym is_made) ∙ moved (around s st) s.number k (made_of x v.slot f out) v whose);
       }
 
   pub calls_met : ForSome (slot_step s st k (Some v)) (λ (m : Effect). MakesCalls m.calls (failed_in out.kind) before.failing after.failing)
