@@ -1,5 +1,4 @@
 -- Lemmas on the steps of drops, for the crates of drops.
-pub mod Alikes
 pub mod Callings
 pub mod Doings
 pub mod Endings

@@ -6,8 +6,7 @@ use Rattle.run_data.specs.declared.entry.EntryKind.{EntryKind}
 use Rattle.run_data.specs.declared.entry.EntryKind.TheVariants.{Share}
 use Rattle.run_data.specs.declared.row.Hold.{Hold}
 use Rattle.object_store.specs.declared.keeper.HoldRecord.{HoldRecord}
-use Rattle.node_model.specs.Jobs.{Work, drop_side}
-use Rattle.node_model.specs.Knows.{Reading}
+use Rattle.node_model.specs.Jobs.{drop_side}
 use Rattle.content_lock.specs.Stored.{Agrees}
 use Rattle.drop_phases.specs.declared.phase.Phase.{Phase}
 use Rattle.drop_phases.specs.declared.phase.Token.{Token}
@@ -15,7 +14,6 @@ use Rattle.drop_phases.specs.Worker.{Worker}
 use Rattle.drop_phases.specs.Working.{heard_in}
 use Rattle.drop_phases.specs.Begun.{IsOther}
 use Rattle.drop_phases.specs.Feeding.{FitsLocal, FitsRemote}
-use Rattle.drop_phases.specs.Alike.{Alike}
 
 -- where the worker removes
 abbrev pub side_in : Worker → Side
@@ -46,11 +44,6 @@ target_on Remote peer = peer
 abbrev pub CanShare : Side → Option (List HoldRecord) → List Hold → ℕ → Type 0
 CanShare Local records holds number = Unit {0}
 CanShare Remote records holds number = Agrees records holds × All (λ h. h.number < number) holds
-
--- the works are the same, or alike, which is the same to each step of a remote drop
-abbrev pub IsNext : Side → Reading → Work → Work → Type 0
-IsNext Local r v v' = v ≡ v'
-IsNext Remote r v v' = Alike r v v'
 
 -- a hold that an entry of this kind adds has this number
 abbrev pub IsNumbered : ℕ → EntryKind → Type 0

@@ -22,7 +22,7 @@ ghost use Rattle.drop_phases.specs.Sides.{CanShare, FitsSide, HasTarget, IsNumbe
 ghost use Rattle.drop_worker.specs.States.{Sees, StepsSo};
 ghost use Rattle.drop_phases.specs.Calling.{MakesSo};
 ghost use Rattle.content_lock.specs.CallsMade.{MakesCalls, fewer};
-ghost use Rattle.drop_worker.specs.Stepping.{AdvancesAlike, AdvancesSo, DidSo};
+ghost use Rattle.drop_worker.specs.Stepping.{AdvancesSo, DidSo};
 
 use annex_base::NoMemory;
 use content_lock::LockTable;
@@ -153,7 +153,7 @@ fn step_remote<K: Keeper, H: Here>(
     requires told { ToldAt (partner worker.old.job.peer (phase_as worker.old.phase)) input.now.taken }
     requires fresh { All (λ h. h.number < input.now.number) table.old.holds }
     ensures did { DidRemote table.old table.new (store (K.contents keeper.old) (K.records keeper.old) (K.faults keeper.old)) (store (K.contents keeper.new) (K.records keeper.new) (K.faults keeper.new)) worker.old worker.new
-        (AdvancesAlike (sight (H.reading here.now) (H.ends here.now) input.now.time input.now.number) (K.contents keeper.old) table.old table.new worker.old worker.new input.now.taken input.now.word) result }
+        (AdvancesSo (sight (H.reading here.now) (H.ends here.now) input.now.time input.now.number) (K.contents keeper.old) table.old table.new worker.old worker.new input.now.taken input.now.word) result }
     ensures numbered { IfOk result (λ out. IsNumbered input.now.number out.kind) }
     ensures calls { MakesSo (sight (H.reading here.now) (H.ends here.now) input.now.time input.now.number) (K.contents keeper.old) table.old worker.old input.now.taken (K.failing keeper.old) (K.failing keeper.new) result }
     ensures parts { K.parts keeper.new ≡ K.parts keeper.old }

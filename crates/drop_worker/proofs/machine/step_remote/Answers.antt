@@ -2,19 +2,19 @@
 use Rattle.std.proofs.Common.{sym, ◌∙◌}
 use Rattle.drop_phases.specs.Leaving.{store}
 use Rattle.drop_phases.specs.Working.{sight}
-use Rattle.drop_worker.proofs.Machines.{acts_alike, hears_alike}
+use Rattle.drop_worker.proofs.Machines.{acts_remotely, hears_remotely}
 use Rattle.drop_phases.proofs.FrameCalls.{fed_makes, phase_makes}
 use Rattle.drop_phases.proofs.Numbers.{each_number}
 use Rattle.drop_worker.proofs.machine.step_remote.Goals as goal
 
 pub returns-in-Some-clause-did : goal.returns-in-Some-clause-did
 returns-in-Some-clause-did g c =
-    hears_alike (g.H.Here.reading c.args.here.now) (g.H.Here.ends c.args.here.now) c.args.input.now.time c.args.input.now.number c.args.table.now c.hear.new.table (store (g.K.Keeper.contents c.args.keeper.now) (g.K.Keeper.records c.args.keeper.now) (g.K.Keeper.faults c.args.keeper.now)) (store (g.K.Keeper.contents c.hear.new.keeper) (g.K.Keeper.records c.hear.new.keeper) (g.K.Keeper.faults c.hear.new.keeper))
+    hears_remotely (g.H.Here.reading c.args.here.now) (g.H.Here.ends c.args.here.now) c.args.input.now.time c.args.input.now.number c.args.table.now c.hear.new.table (store (g.K.Keeper.contents c.args.keeper.now) (g.K.Keeper.records c.args.keeper.now) (g.K.Keeper.faults c.args.keeper.now)) (store (g.K.Keeper.contents c.hear.new.keeper) (g.K.Keeper.records c.hear.new.keeper) (g.K.Keeper.faults c.hear.new.keeper))
     c.args.worker.now c.hear.new.worker c.in-Some.peer c.args.input.now.taken c.args.input.now.word c.hear.result (sym c.awaits.ensures ∙ c.in-Some.is) c.hear.ensures.did c.hear.ensures.word c.hear.ensures.answer
 
 pub returns-in-None-clause-did : goal.returns-in-None-clause-did
 returns-in-None-clause-did g c =
-    acts_alike (sight (g.H.Here.reading c.args.here.now) (g.H.Here.ends c.args.here.now) c.args.input.now.time c.args.input.now.number) c.args.table.now c.act.new.table (store (g.K.Keeper.contents c.args.keeper.now) (g.K.Keeper.records c.args.keeper.now) (g.K.Keeper.faults c.args.keeper.now)) (store (g.K.Keeper.contents c.act.new.keeper) (g.K.Keeper.records c.act.new.keeper) (g.K.Keeper.faults c.act.new.keeper))
+    acts_remotely (sight (g.H.Here.reading c.args.here.now) (g.H.Here.ends c.args.here.now) c.args.input.now.time c.args.input.now.number) c.args.table.now c.act.new.table (store (g.K.Keeper.contents c.args.keeper.now) (g.K.Keeper.records c.args.keeper.now) (g.K.Keeper.faults c.args.keeper.now)) (store (g.K.Keeper.contents c.act.new.keeper) (g.K.Keeper.records c.act.new.keeper) (g.K.Keeper.faults c.act.new.keeper))
     c.args.worker.now c.act.new.worker c.args.target c.args.input.now.taken c.args.input.now.word c.act.result c.requires.stands.remote.peer (sym c.awaits.ensures ∙ c.in-None.is) c.act.ensures.did
 
 pub returns-in-Some-clause-numbered : goal.returns-in-Some-clause-numbered
