@@ -7,6 +7,7 @@ use Rattle.run_data.specs.declared.entry.EntryKind.TheVariants.{Share}
 use Rattle.run_data.specs.declared.row.Hold.{Hold}
 use Rattle.object_store.specs.declared.keeper.HoldRecord.{HoldRecord}
 use Rattle.node_model.specs.Jobs.{drop_side}
+use Rattle.node_model.specs.Knows.{Reading}
 use Rattle.content_lock.specs.Stored.{Agrees}
 use Rattle.drop_phases.specs.declared.phase.Phase.{Phase}
 use Rattle.drop_phases.specs.declared.phase.Token.{Token}

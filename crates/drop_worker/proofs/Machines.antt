@@ -25,6 +25,7 @@ use Rattle.drop_phases.specs.declared.turn.Output.{Output}
 use Rattle.drop_phases.specs.declared.turn.Taken.{Taken}
 use Rattle.drop_phases.specs.Worker.{Worker}
 use Rattle.drop_phases.specs.Working.{Sight, phase_as, present_in, sight}
+use Rattle.drop_phases.specs.Begun.{IsOther}
 use Rattle.drop_phases.specs.Doing.{DoesAsAsked, Grows, HasToken, IsBar, OthersStay, Talks, contents_after}
 use Rattle.drop_phases.specs.Feeding.{FeedsFrameAt, FitsLocal, KeepsAnswer, KeepsWord, TakesFed, step_of}
 use Rattle.drop_phases.specs.Leaving.{Advances, Did, GoesSo, Stays, Store, stands_on}
@@ -152,10 +153,10 @@ hears_remotely read ends_at time number rows rows' k k' w w' peer taken word (Ok
 
 -- ---- the target
 
-pub no_target : (side : Side) (peer : Option ℕ) (repo : ℕ) → HasTarget side peer repo → target_on side peer ≡ None → side ≡ Local
-no_target Local peer repo has is = refl
-no_target Remote None repo has is = absurd has
-no_target Remote (Some target) repo has is = absurd (cc)
+pub no_target : (side : Side) (peer : Option ℕ) (r : Reading) → HasTarget side peer r → target_on side peer ≡ None → side ≡ Local
+no_target Local peer r has is = refl
+no_target Remote None r has is = absurd has
+no_target Remote (Some target) r has is = absurd (cc)
 
 pub target_remote : (side : Side) (peer : Option ℕ) (target : ℕ) → target_on side peer ≡ Some target → side ≡ Remote
 target_remote Local peer target is = absurd (cc)
@@ -165,9 +166,9 @@ pub target_peer : (side : Side) (peer : Option ℕ) (target : ℕ) → target_on
 target_peer Local peer target is = absurd (cc)
 target_peer Remote peer target is = is
 
-pub target_apart : (side : Side) (peer : Option ℕ) (target repo : ℕ) → HasTarget side peer repo → target_on side peer ≡ Some target → (repo == target) ≡ false
-target_apart Local peer target repo has is = absurd (cc)
-target_apart Remote peer target repo has is = subst (λ (o : Option ℕ). HasTarget Remote o repo) is has
+pub target_other : (side : Side) (peer : Option ℕ) (target : ℕ) (r : Reading) → HasTarget side peer r → target_on side peer ≡ Some target → IsOther r target
+target_other Local peer target r has is = absurd (cc)
+target_other Remote peer target r has is = subst (λ (o : Option ℕ). HasTarget Remote o r) is has
 
 -- ---- what a step promises
 

@@ -12,6 +12,7 @@ use Rattle.run_data.specs.declared.job.Cause.{Cause}
 use Rattle.run_data.specs.declared.job.Cause.TheVariants as causes
 use Rattle.run_data.specs.declared.job.Outcome.{Outcome}
 use Rattle.p2p_wire.specs.declared.message.Message.TheVariants.{GetTimestamp, LockContent}
+use Rattle.node_model.specs.Jobs.{unshared_cause}
 use Rattle.node_model.specs.Knows.{Reading}
 use Rattle.content_lock.specs.Rows.{Rows}
 use Rattle.content_lock.specs.Tokens.{ShareView}
@@ -33,7 +34,7 @@ use Rattle.drop_phases.specs.Sides.{HearsOwn}
 use Rattle.drop_phases.specs.Worker.{Worker}
 use Rattle.drop_phases.specs.Working.{heard_in}
 use Rattle.drop_phases.proofs.OwnCopies.{own_grows, own_told}
-use Rattle.remote_requests.specs.Remote.{DidRemote, FailsToRelease, FollowsShareRefused, GivesNone, Request, Says, ShutsRemote, first_request, is_ordering, order_of, target_request, unreleased_phase, without_peer}
+use Rattle.remote_requests.specs.Remote.{DidRemote, FailsToRelease, FollowsShareRefused, GivesNone, PassesBy, Request, Says, ShutsRemote, first_request, is_ordering, order_of, target_request, unreleased_phase, without_peer}
 
 -- it goes on so
 pub goes_gone : (r : Reading) (w v w' : Worker) (kind : EntryKind) (out : Output) → out.ended ≡ false → out.kind ≡ kind → IsOnward w.number kind → w' ≡ v → HasBegun r v.phase → v.slot ≡ w.slot → HasGone r w w' out
@@ -130,6 +131,14 @@ shuts_gone w w' target peer (Err e) s = tt
 
 -- ---- its own share
 
+pub passes_gone : (r : Reading) (bar : Option ℕ) (w w' : Worker) (result : Result Output NoMemory) → IfOk result (PassesBy r.repo bar w w') → IfOk result (λ out. CanStand r w.phase → HasGone r w w' out)
+passes_gone r bar w w' (Ok out) p = λ stands. goes_gone r w (record w { heard = (r.repo, heards.Lacks (unshared_cause bar)) ∷ w.heard; phase = phases.Next }) w' (Talk (Some w.number)) out p.goes_on p.made refl p.next tt refl
+passes_gone r bar w w' (Err e) p = tt
+
+pub passes_own : (r : Reading) (bar : Option ℕ) (w w' : Worker) (result : Result Output NoMemory) → IfOk result (PassesBy r.repo bar w w') → IfOk result (λ out. out.ended ≡ false → HearsOwn Remote r w')
+passes_own r bar w w' (Ok out) p = λ going. own_told r.repo (heards.Lacks (unshared_cause bar)) w.heard w'.heard (ap (λ (v : Worker). v.heard) p.next)
+passes_own r bar w w' (Err e) p = tt
+
 module _ (r : Reading) (w u w' : Worker) (peer : ℕ) (before : Heard) (was : u ≡ record w { heard = (peer, before) ∷ w.heard; phase = phases.Next }) where
   none_gone : (kind : EntryKind) (cause : Cause) (result : Result Output NoMemory) → IsOnward w.number kind → IfOk result (GivesNone kind cause u w') × OnErr result ⊥ → IfOk result (HasGone r w w')
   none_gone kind cause (Ok out) onward gives =
@@ -138,24 +147,24 @@ module _ (r : Reading) (w u w' : Worker) (peer : ℕ) (before : Heard) (was : u 
   none_gone kind cause (Err e) onward gives = tt
 
   -- why there is none
-  pub unshared_gone : (why : ShareRefused) (result : Result Output NoMemory) → FollowsShareRefused why u w' result → IfOk result (HasGone r w w')
-  unshared_gone refused.Absent result is = none_gone (Talk (Some u.number)) causes.Absent result (ap (λ (v : Worker). Some v.number) was) is
-  unshared_gone (refused.Barred job) result is = none_gone (Talk (Some u.number)) causes.Barred result (ap (λ (v : Worker). Some v.number) was) is
-  unshared_gone (refused.StoreFault call) result is = none_gone (Fault call (by_job u.number)) causes.Fault result (ap (λ (v : Worker). by_job v.number) was) is
-  unshared_gone refused.NoMemory (Ok out) is = absurd is.0
-  unshared_gone refused.NoMemory (Err e) is = tt
+  pub unshared_gone : (bar : Option ℕ) (why : ShareRefused) (result : Result Output NoMemory) → FollowsShareRefused bar why u w' result → IfOk result (HasGone r w w')
+  unshared_gone bar refused.Absent result is = none_gone (Talk (Some u.number)) (unshared_cause bar) result (ap (λ (v : Worker). Some v.number) was) is
+  unshared_gone bar (refused.Barred job) result is = none_gone (Talk (Some u.number)) (unshared_cause bar) result (ap (λ (v : Worker). Some v.number) was) is
+  unshared_gone bar (refused.StoreFault call) result is = none_gone (Fault call (by_job u.number)) causes.Fault result (ap (λ (v : Worker). by_job v.number) was) is
+  unshared_gone bar refused.NoMemory (Ok out) is = absurd is.0
+  unshared_gone bar refused.NoMemory (Err e) is = tt
 
   none_told : (kind : EntryKind) (cause : Cause) (result : Result Output NoMemory) → IfOk result (GivesNone kind cause u w') × OnErr result ⊥ → IfOk result (λ out. out.ended ≡ false → is_some (heard_in w'.heard peer) ≡ true)
   none_told kind cause (Ok out) gives = λ going. own_told peer (heards.Lacks cause) w.heard w'.heard (ap (λ (v : Worker). v.heard) (gives.0.next peer before w.heard (ap (λ (v : Worker). v.heard) was)))
   none_told kind cause (Err e) gives = tt
 
   -- it has heard of it
-  pub unshared_told : (why : ShareRefused) (result : Result Output NoMemory) → FollowsShareRefused why u w' result → IfOk result (λ out. out.ended ≡ false → is_some (heard_in w'.heard peer) ≡ true)
-  unshared_told refused.Absent result is = none_told (Talk (Some u.number)) causes.Absent result is
-  unshared_told (refused.Barred job) result is = none_told (Talk (Some u.number)) causes.Barred result is
-  unshared_told (refused.StoreFault call) result is = none_told (Fault call (by_job u.number)) causes.Fault result is
-  unshared_told refused.NoMemory (Ok out) is = absurd is.0
-  unshared_told refused.NoMemory (Err e) is = tt
+  pub unshared_told : (bar : Option ℕ) (why : ShareRefused) (result : Result Output NoMemory) → FollowsShareRefused bar why u w' result → IfOk result (λ out. out.ended ≡ false → is_some (heard_in w'.heard peer) ≡ true)
+  unshared_told bar refused.Absent result is = none_told (Talk (Some u.number)) (unshared_cause bar) result is
+  unshared_told bar (refused.Barred job) result is = none_told (Talk (Some u.number)) (unshared_cause bar) result is
+  unshared_told bar (refused.StoreFault call) result is = none_told (Fault call (by_job u.number)) causes.Fault result is
+  unshared_told bar refused.NoMemory (Ok out) is = absurd is.0
+  unshared_told bar refused.NoMemory (Err e) is = tt
 
 -- ---- from where it stood
 

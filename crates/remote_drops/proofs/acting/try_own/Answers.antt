@@ -11,6 +11,7 @@ use Rattle.drop_phases.proofs.Numbers.{each_number}
 use Rattle.remote_requests.proofs.RemoteLeavings.{passes_speaks, speaks_numbered, spoken_well}
 use Rattle.remote_drops.proofs.RemoteCalls.{skipped_makes}
 use Rattle.remote_drops.proofs.Sharings.{skipped_did}
+use Rattle.remote_requests.proofs.RemoteBegun.{passes_gone, passes_own}
 use Rattle.remote_drops.proofs.acting.try_own.Goals as goal
 
 pub returns-in-Claimed-clause-did : goal.returns-in-Claimed-clause-did
@@ -54,3 +55,15 @@ returns-in-Ignored-clause-calls g c =
     (ap (g.H.Here.reading c.args.here.now).standing (sym c.repo.ensures) ∙ (sym c.standing.ensures ∙ ap standing_of c.in-Ignored.is))
     (spoken_well c.args.worker.now c.pass_by-in-Ignored.new.worker c.pass_by-in-Ignored.result
     (passes_speaks (g.H.Here.reading c.args.here.now).repo (bar_at c.args.table.now c.args.worker.now.job.key) c.args.worker.now c.pass_by-in-Ignored.new.worker c.pass_by-in-Ignored.result c.pass_by-in-Ignored.ensures.passes))
+
+pub returns-in-Claimed-clause-begun : goal.returns-in-Claimed-clause-begun
+returns-in-Claimed-clause-begun g c = passes_gone (g.H.Here.reading c.args.here.now) (bar_at c.args.table.now c.args.worker.now.job.key) c.args.worker.now c.pass_by.new.worker c.pass_by.result c.pass_by.ensures.passes
+
+pub returns-in-Claimed-clause-own : goal.returns-in-Claimed-clause-own
+returns-in-Claimed-clause-own g c = passes_own (g.H.Here.reading c.args.here.now) (bar_at c.args.table.now c.args.worker.now.job.key) c.args.worker.now c.pass_by.new.worker c.pass_by.result c.pass_by.ensures.passes
+
+pub returns-in-Ignored-clause-begun : goal.returns-in-Ignored-clause-begun
+returns-in-Ignored-clause-begun g c = passes_gone (g.H.Here.reading c.args.here.now) (bar_at c.args.table.now c.args.worker.now.job.key) c.args.worker.now c.pass_by-in-Ignored.new.worker c.pass_by-in-Ignored.result c.pass_by-in-Ignored.ensures.passes
+
+pub returns-in-Ignored-clause-own : goal.returns-in-Ignored-clause-own
+returns-in-Ignored-clause-own g c = passes_own (g.H.Here.reading c.args.here.now) (bar_at c.args.table.now c.args.worker.now.job.key) c.args.worker.now c.pass_by-in-Ignored.new.worker c.pass_by-in-Ignored.result c.pass_by-in-Ignored.ensures.passes
