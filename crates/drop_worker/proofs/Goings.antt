@@ -1,5 +1,5 @@
 -- Where a local drop stands after a step: with another repository, or with none.
-use Rattle.std.proofs.Common.{◌≡◌, ℕ, true, false, Some, Option, Result, Ok, Err, refl, sym, subst, ◌∙◌}
+use Rattle.std.proofs.Common.{◌≡◌, ℕ, true, false, Some, None, Option, Result, Ok, Err, refl, sym, ap, subst, ◌∙◌}
 use Rattle.std.specs.Prelude.{IfOk}
 use Rattle.annex_base.specs.declared.memory.NoMemory.{NoMemory}
 use Rattle.drop_proof.specs.declared.rule.Side.{Side}
