@@ -4,7 +4,6 @@ pub mod Sends
 pub mod Standings
 pub mod Working
 pub mod Doing
-pub mod Alike
 pub mod Feeding
 pub mod Leaving
 pub mod Begun

@@ -6,7 +6,6 @@ pub use Rattle.drop_phases.specs.Sends
 pub use Rattle.drop_phases.specs.Standings
 pub use Rattle.drop_phases.specs.Working
 pub use Rattle.drop_phases.specs.Doing
-pub use Rattle.drop_phases.specs.Alike
 pub use Rattle.drop_phases.specs.Feeding
 pub use Rattle.drop_phases.specs.Leaving
 pub use Rattle.drop_phases.specs.Begun

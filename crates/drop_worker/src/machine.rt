@@ -1,5 +1,5 @@
 //! The step of a drop, which its contract ties to the step of the job's slot.
-ghost use Rattle.std.specs.Prelude.{◌≡◌, ◌≤◌, ◌<◌, ◌==◌, ℕ, All, List, map, false, Some, None, if◌then◌else◌, IfOk, IfSome, OnErr};
+ghost use Rattle.std.specs.Prelude.{◌≡◌, ◌≤◌, ◌<◌, ℕ, All, List, map, false, Some, None, if◌then◌else◌, IfOk, IfSome, OnErr};
 ghost use Rattle.std.specs.declared.option.Option.{Option};
 ghost use Rattle.std.specs.Option.{ForSome, option_map};
 ghost use Rattle.annex_base.specs.Causes.{Rose};
@@ -14,19 +14,19 @@ ghost use Rattle.content_lock.specs.Rows.{AreAfter, bar_at};
 ghost use Rattle.content_lock.specs.Stored.{Agrees, label_of};
 ghost use Rattle.drop_phases.specs.Working.{phase_as, sight};
 ghost use Rattle.drop_phases.specs.Doing.{Grows, HasToken, OthersStay, contents_after, is_barring};
-ghost use Rattle.drop_phases.specs.Begun.{CanStand, HasGone};
+ghost use Rattle.drop_phases.specs.Begun.{CanStand, HasGone, IsOther};
 ghost use Rattle.drop_phases.specs.Feeding.{FitsLocal, IsOfLocal, KeepsAnswer, KeepsWord, ToldAt};
 ghost use Rattle.drop_phases.specs.Leaving.{Advances, Did, store};
 ghost use Rattle.remote_requests.specs.Remote.{DidRemote, StandsRemote};
-ghost use Rattle.drop_phases.specs.Sides.{CanShare, FitsSide, HasTarget, IsNumbered, side_in};
+ghost use Rattle.drop_phases.specs.Sides.{CanShare, FitsSide, HasTarget, HearsOwn, IsNumbered, side_in};
 ghost use Rattle.drop_worker.specs.States.{Sees, StepsSo};
 ghost use Rattle.drop_phases.specs.Calling.{MakesSo};
 ghost use Rattle.content_lock.specs.CallsMade.{MakesCalls, fewer};
-ghost use Rattle.drop_worker.specs.Stepping.{AdvancesAlike, AdvancesSo, DidSo};
+ghost use Rattle.drop_worker.specs.Stepping.{AdvancesSo, DidSo};
 
 use annex_base::NoMemory;
 use content_lock::LockTable;
-use drop_phases::{Here, Input, Output, Token, Worker};
+use drop_phases::{Here, Input, Output, Phase, Token, Worker};
 use object_store::Keeper;
 use std::alloc::Global;
 
@@ -40,7 +40,8 @@ pub fn step<K: Keeper, H: Here>(
     keeper: &mut K,
     input: &Input,
 ) -> Result<Output, NoMemory>
-    requires target { HasTarget (side_in worker.old) worker.old.job.peer (H.reading here.now).repo }
+    requires target { HasTarget (side_in worker.old) worker.old.job.peer (H.reading here.now) }
+    requires own { (worker.old.phase ≡ Phase.Fresh → ⊥) → HearsOwn (side_in worker.old) (H.reading here.now) worker.old }
     requires fits { FitsSide (side_in worker.old) worker.old.phase worker.old.token }
     requires told { ToldAt (partner worker.old.job.peer (phase_as worker.old.phase)) input.now.taken }
     requires owns { HasToken worker.old.number worker.old.job.key worker.old.token table.old }
@@ -68,7 +69,8 @@ pub fn step<K: Keeper, H: Here>(
     ensures agrees { Agrees (K.records keeper.old) table.old.holds → Agrees (K.records keeper.new) table.new.holds }
     ensures owns { HasToken worker.new.number worker.new.job.key worker.new.token table.new }
     ensures fits { IfOk result (λ out. out.ended ≡ false → FitsSide (side_in worker.old) worker.new.phase worker.new.token) }
-    ensures begun { side_in worker.old ≡ sides.Local → IfOk result (λ out. CanStand (H.reading here.now) worker.old.phase → HasGone (H.reading here.now) worker.old worker.new out) }
+    ensures begun { IfOk result (λ out. CanStand (H.reading here.now) worker.old.phase → HasGone (H.reading here.now) worker.old worker.new out) }
+    ensures own { IfOk result (λ out. out.ended ≡ false → HearsOwn (side_in worker.old) (H.reading here.now) worker.new) }
     ensures job { (worker.new.number ≡ worker.old.number) × (worker.new.job ≡ worker.old.job) }
     ensures others { OthersStay worker.old.number table.old table.new }
     ensures err { OnErr result ((worker.new ≡ worker.old) × (table.new ≡ table.old) × (K.contents keeper.new ≡ K.contents keeper.old) × (K.records keeper.new ≡ K.records keeper.old)) }
@@ -92,14 +94,16 @@ fn advance<K: Keeper, H: Here>(
     keeper: &mut K,
     input: &Input,
 ) -> Result<Output, NoMemory>
-    requires target { HasTarget (side_in worker.old) worker.old.job.peer (H.reading here.now).repo }
+    requires target { HasTarget (side_in worker.old) worker.old.job.peer (H.reading here.now) }
+    requires own { (worker.old.phase ≡ Phase.Fresh → ⊥) → HearsOwn (side_in worker.old) (H.reading here.now) worker.old }
     requires fits { FitsSide (side_in worker.old) worker.old.phase worker.old.token }
     requires told { ToldAt (partner worker.old.job.peer (phase_as worker.old.phase)) input.now.taken }
     requires owns { HasToken worker.old.number worker.old.job.key worker.old.token table.old }
     requires shares { CanShare (side_in worker.old) (K.records keeper.old) table.old.holds input.now.number }
     ensures does { DidSo table.old table.new (store (K.contents keeper.old) (K.records keeper.old) (K.faults keeper.old)) (store (K.contents keeper.new) (K.records keeper.new) (K.faults keeper.new)) worker.old worker.new
         (AdvancesSo (sight (H.reading here.now) (H.ends here.now) input.now.time input.now.number) (K.contents keeper.old) table.old table.new worker.old worker.new input.now.taken input.now.word) result }
-    ensures begun { side_in worker.old ≡ sides.Local → IfOk result (λ out. CanStand (H.reading here.now) worker.old.phase → HasGone (H.reading here.now) worker.old worker.new out) }
+    ensures begun { IfOk result (λ out. CanStand (H.reading here.now) worker.old.phase → HasGone (H.reading here.now) worker.old worker.new out) }
+    ensures own { IfOk result (λ out. out.ended ≡ false → HearsOwn (side_in worker.old) (H.reading here.now) worker.new) }
     ensures numbered { IfOk result (λ out. IsNumbered input.now.number out.kind) }
     ensures calls { MakesSo (sight (H.reading here.now) (H.ends here.now) input.now.time input.now.number) (K.contents keeper.old) table.old worker.old input.now.taken (K.failing keeper.old) (K.failing keeper.new) result }
     ensures parts { K.parts keeper.new ≡ K.parts keeper.old }
@@ -149,11 +153,14 @@ fn step_remote<K: Keeper, H: Here>(
     target: u32,
 ) -> Result<Output, NoMemory>
     requires stands { StandsRemote target (K.records keeper.old) table.old worker.old }
-    requires apart { ((H.reading here.now).repo == target) ≡ false }
+    requires other { IsOther (H.reading here.now) target }
+    requires own { (worker.old.phase ≡ Phase.Fresh → ⊥) → HearsOwn sides.Remote (H.reading here.now) worker.old }
     requires told { ToldAt (partner worker.old.job.peer (phase_as worker.old.phase)) input.now.taken }
     requires fresh { All (λ h. h.number < input.now.number) table.old.holds }
     ensures did { DidRemote table.old table.new (store (K.contents keeper.old) (K.records keeper.old) (K.faults keeper.old)) (store (K.contents keeper.new) (K.records keeper.new) (K.faults keeper.new)) worker.old worker.new
-        (AdvancesAlike (sight (H.reading here.now) (H.ends here.now) input.now.time input.now.number) (K.contents keeper.old) table.old table.new worker.old worker.new input.now.taken input.now.word) result }
+        (AdvancesSo (sight (H.reading here.now) (H.ends here.now) input.now.time input.now.number) (K.contents keeper.old) table.old table.new worker.old worker.new input.now.taken input.now.word) result }
+    ensures begun { IfOk result (λ out. CanStand (H.reading here.now) worker.old.phase → HasGone (H.reading here.now) worker.old worker.new out) }
+    ensures own { IfOk result (λ out. out.ended ≡ false → HearsOwn sides.Remote (H.reading here.now) worker.new) }
     ensures numbered { IfOk result (λ out. IsNumbered input.now.number out.kind) }
     ensures calls { MakesSo (sight (H.reading here.now) (H.ends here.now) input.now.time input.now.number) (K.contents keeper.old) table.old worker.old input.now.taken (K.failing keeper.old) (K.failing keeper.new) result }
     ensures parts { K.parts keeper.new ≡ K.parts keeper.old }

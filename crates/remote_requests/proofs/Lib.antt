@@ -2,6 +2,8 @@
 pub mod CandidateLists
 pub mod EndCalls
 pub mod Losing
+pub mod RemoteBegun
+pub mod RemoteChoices
 pub mod RemoteEndings
 pub mod RemoteLeavings
 pub mod RemoteOwings

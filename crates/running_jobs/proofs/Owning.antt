@@ -8,7 +8,9 @@ use Rattle.link_ring.specs.Ends.{EndView}
 use Rattle.object_store.specs.Stores.{Parts}
 use Rattle.node_model.specs.Clocks.{ClockSet}
 use Rattle.node_model.specs.OwedLines.{told_frame}
+use Rattle.run_data.specs.declared.row.Hold.{Hold}
 use Rattle.content_lock.specs.Rows.{Rows, is_filling}
+use Rattle.content_lock.specs.Stored.{Agrees}
 use Rattle.drop_phases.specs.declared.phase.Token.TheVariants as tokens
 use Rattle.drop_phases.specs.Doing.{HasToken, OthersStay}
 use Rattle.drop_phases.specs.Working.{end_in}
@@ -34,8 +36,9 @@ use Rattle.running_jobs.proofs.Stepping.{first_of_found, in_a_slot, job_found, k
 
 -- a job keeps the paths that it was given
 paths_stay : (t t' : Task) (x : Told) → HearsOn t t' x → paths_of t' ≡ paths_of t
-paths_stay (tasks.Drops j) (tasks.Drops j') (tolds.Feed f) hears = ap (λ (ps : List (List ℕ)). Some ps) hears.2
-paths_stay (tasks.Transfers w) (tasks.Transfers w') (tolds.Arrival x) hears = refl
+paths_stay (tasks.Drops j) (tasks.Drops j') (tolds.Feed f) hears = ap (λ (ps : List (List ℕ)). Some ps) hears.3
+paths_stay (tasks.Transfers w) (tasks.Transfers w') (tolds.Arrival x) hears = ap (λ (ps : List (List ℕ)). Some ps) hears
+paths_stay (tasks.Transfers w) (tasks.Drops j) (tolds.Arrival x) hears = ap (λ (ps : List (List ℕ)). Some ps) hears.1
 paths_stay t t' x hears = absurd hears
 
 module _ (links : List EndView) (clock : ClockSet) (settings : Settings) (jobs : Jobs) (number time : ℕ) (found : Found) (rows rows' : Rows) (kept kept' : Seen) (now : List Task) (a : Acted)
@@ -242,12 +245,15 @@ module _ (links : List EndView) (clock : ClockSet) (settings : Settings) (jobs :
 
   rows_go_on : RowsGoOn jobs.running now rows rows' a
   rows_go_on = record {
-    holds = ch.settled.holds ∙ ch.leaves.holds;
     after = ch.settled.holds ∙ ch.leaves.after;
     bars = λ key. ch.settled.bars key ∙ ch.leaves.bars key;
     others = subst (λ (n : ℕ). OthersStay n rows rows') (sym ch.job) others_stay;
     filled = λ others are. record { filled = λ key. (keys_after others are key).0; apart = λ key. (keys_after others are key).1 };
   }
+
+  -- the store has the records of its holds
+  pub agrees_after : Agrees kept.records rows.holds → Agrees kept'.records rows'.holds
+  agrees_after agrees = subst (λ (hs : List Hold). Agrees kept'.records hs) (sym ch.settled.holds) (ch.leaves.agrees agrees)
 
   -- ---- the parts
 
@@ -314,6 +320,7 @@ module _ (links : List EndView) (clock : ClockSet) (settings : Settings) (jobs :
       owes = ch.owes.line ∙ (λ i. told_frame (Some (work_now ch.t)) (taken_by links (sym ch.slot i) (sym ch.takes i)));
       among = λ l some. peer_among links (length jobs.place.ids) (end_in a.slot l.repo) count (waits l.repo (ch.takes ∙ ch.owes.of_peer l some)).1;
       mid = ch.mid;
+      number = number;
       leaves = ch.leaves;
       stays = ch.settled.stays;
     }

@@ -1,5 +1,5 @@
 //! The running jobs: which begin, and which has the next step.
-ghost use Rattle.std.specs.Prelude.{◌≡◌, ℕ, Bool, is_some, ◌≤◌, ◌<◌, ◌+◌, ◌-◌, ◌*◌, ◌^◌, List, [], None, length, IfOk, IsErrOf, OnErr, OnOk};
+ghost use Rattle.std.specs.Prelude.{◌≡◌, ℕ, All, Bool, is_some, ◌≤◌, ◌<◌, ◌+◌, ◌-◌, ◌*◌, ◌^◌, List, [], None, length, map, IfOk, IsErrOf, OnErr, OnOk};
 ghost use Rattle.std.specs.Option.{ForSome};
 ghost use Rattle.annex_base.specs.Lists.{Each};
 ghost use Rattle.annex_base.specs.Settings.{Settings as SettingsView};
@@ -13,6 +13,8 @@ ghost use Rattle.node_model.specs.Turns.{job_step};
 ghost use Rattle.object_store.specs.Stores.{Contents, Parts};
 ghost use Rattle.content_lock.specs.CallsMade.{MakesCalls};
 ghost use Rattle.content_lock.specs.Rows.{Rows};
+ghost use Rattle.content_lock.specs.Stored.{Agrees, label_of};
+ghost use Rattle.drop_phases.specs.Sides.{IsNumbered};
 ghost use Rattle.transfer_turns.specs.Steps.{seen};
 ghost use Rattle.node_tasks.specs.States.{HaveState};
 ghost use Rattle.node_tasks.specs.Tasks.{IsTask};
@@ -157,6 +159,8 @@ impl Jobs {
     ) -> Result<Option<Acted>, NoMemory>
         requires owns { OwnAll self.old table.old }
         requires count { length ends.old ≡ length self.old.place.ids * 8 }
+        requires agrees { Agrees (K.records keeper.old) table.old.holds }
+        requires fresh { All (λ h. h.number < number) table.old.holds }
 
         // Of each state that these are, at a look at which the entry's call fails, and that finds the part that the job asks for: the
         // jobs' step is this one.
@@ -173,6 +177,8 @@ impl Jobs {
         ensures err { OnErr result (Stays self.old self.new table.old table.new
             (seen (K.contents keeper.old) (K.parts keeper.old) (K.records keeper.old) (K.files keeper.old) (K.faults keeper.old) (K.failing keeper.old))
             (seen (K.contents keeper.new) (K.parts keeper.new) (K.records keeper.new) (K.files keeper.new) (K.faults keeper.new) (K.failing keeper.new))) }
+        ensures agrees { Agrees (K.records keeper.new) table.new.holds }
+        ensures numbered { IfOk result (λ a. ForSome a (λ a. IsNumbered number a.kind)) }
         ensures ends { ends.new ≡ ends.old }
         ensures unasked { IfOk result (λ a. a ≡ None → keeper.new ≡ keeper.old) }
     {
@@ -195,12 +201,13 @@ impl Jobs {
         Ok(Some(acted))
     }
 
-    /// Ends all jobs, at a crash or before the jobs are dissolved: what they have of the table is given up.
+    /// Ends all jobs, at a crash or before the jobs are dissolved: what they have of the table is given up. A hold of their own is kept
+    /// until its end.
     pub fn end_all(&mut self, table: &mut LockTable)
         requires owns { OwnAll self.old table.old }
         ensures jobs { self.new ≡ record self.old { running = [] } }
         ensures owns { OwnAll self.new table.new }
-        ensures holds { table.new.holds ≡ table.old.holds }
+        ensures labels { map label_of table.new.holds ≡ map label_of table.old.holds }
         ensures filled { (others : List ℕ → Bool) → AreFilled table.old self.old.running others → AreFilled table.new [] others }
     {
         end_all(&mut self.running, table);

@@ -2,6 +2,7 @@
 ghost use Rattle.std.specs.Prelude.{◌≡◌, ◌≤◌, ◌<◌, ◌+◌, ◌++◌, ◌∷◌, ◌&&◌, ℕ, List, [], length, map, not, take, drop, vec_capacity, vec_len, IfOk, IsErrOf, OnOk};
 ghost use Rattle.node_model.specs.Slots.{free_slot, uses};
 ghost use Rattle.content_lock.specs.Rows.{is_filling};
+ghost use Rattle.content_lock.specs.Stored.{label_of};
 ghost use Rattle.running_jobs.specs.Beginning.{running_now};
 ghost use Rattle.running_jobs.specs.Ending.{CanEnd, OthersKeep};
 ghost use Rattle.running_jobs.specs.Running.{fills_at};
@@ -92,11 +93,11 @@ pub(crate) fn put_back(running: &mut Vec<Task>, index: usize, task: Task)
     }
 }
 
-/// Ends all jobs: what each has of the table is given up.
+/// Ends all jobs: what each has of the table is given up. A hold of its own is kept until its end.
 pub(crate) fn end_all(running: &mut Vec<Task>, table: &mut LockTable)
-    requires spent { CanEnd table.old running.old.items }
+    requires { CanEnd table.old running.old.items }
     ensures none { running.new.items ≡ [] }
-    ensures holds { table.new.holds ≡ table.old.holds }
+    ensures labels { map label_of table.new.holds ≡ map label_of table.old.holds }
     ensures fills { (key : List ℕ) → is_filling table.new key ≡ (not (fills_at running.old.items key) && is_filling table.old key) }
     ensures others { OthersKeep running.old.items table.old table.new }
 {

@@ -26,6 +26,7 @@ returns g c =
       owns = a.owns;
       fits = a.fits;
       begun = c.advance.ensures.begun;
+      own = c.advance.ensures.own;
       job = (a.number, a.job);
       others = a.others;
       holds = a.holds;

@@ -36,19 +36,19 @@ returns-in-Ok-clause-changes g c =
       front = take index was;
       back = drop (index + 1) was;
       t = c.take_out-task.result;
-      t' = c.act.new.task;
+      t' = c.act.result.0;
       mid = c.act.new.table;
       place = length-take-le index was (omega (arith, c.requires.there));
       was_is = c.take_out-task.ensures.was;
-      now_is = put_there was c.take_out-task.new.running.items c.settle.new.running.items (task_after c.in-Ok.out.ended c.act.new.task) index c.requires.there c.take_out-task.ensures.now c.settle.ensures.list;
+      now_is = put_there was c.take_out-task.new.running.items c.settle.new.running.items (task_after c.in-Ok.out.ended c.act.result.0) index c.requires.there c.take_out-task.ensures.now c.settle.ensures.list;
       job = c.number-job.ensures;
       slot = c.slot-slot.ensures;
       takes = c.takes-takes.ensures;
       owes = subst (λ (t : Task). Owes c.args.ends.now t c.args.found.told c.in_ok-owes.owes) (read_there was index c.index.result.now c.take_out-task.result c.requires.there c.index.ensures c.take_out-task.ensures.was)
           (c.in_ok-owes.ensures c.args.ends.now (c.requires.told c.index.result.now (slice_get_read was (length was) index c.index.result.now refl c.requires.there c.index.ensures)));
-      acts = c.in-Ok.ensures.acts;
-      makes = c.in-Ok.ensures.calls;
-      leaves = c.in-Ok.ensures.leaves;
+      acts = rw c.in-Ok.is at c.act.ensures.acts;
+      makes = rw c.in-Ok.is at c.act.ensures.calls;
+      leaves = rw c.in-Ok.is at c.act.ensures.leaves;
       settled = c.settle.ensures.settles;
     }
 
@@ -62,9 +62,9 @@ pub returns-in-Err-clause-err : goal.returns-in-Err-clause-err
 returns-in-Err-clause-err g c =
     let was = c.args.running.now.items in
     let index = c.args.found.index in
-    let left = c.in-Err.ensures.leaves in
+    let left = rw c.in-Err.is at c.act.ensures.leaves in
     record {
-      jobs = put_there was c.take_out-task.new.running.items c.put_back.new.running.items (c.act.new.task ∷ []) index c.requires.there c.take_out-task.ensures.now (c.put_back.ensures ∙ sym (append_assoc (take index c.take_out-task.new.running.items) (c.act.new.task ∷ []) (drop index c.take_out-task.new.running.items)))
+      jobs = put_there was c.take_out-task.new.running.items c.put_back.new.running.items (c.act.result.0 ∷ []) index c.requires.there c.take_out-task.ensures.now (c.put_back.ensures ∙ sym (append_assoc (take index c.take_out-task.new.running.items) (c.act.result.0 ∷ []) (drop index c.take_out-task.new.running.items)))
           ∙ (ap (λ (t : Task). take index was ++ t ∷ drop (index + 1) was) left.task ∙ sym c.take_out-task.ensures.was);
       table = left.table;
       contents = left.contents;
