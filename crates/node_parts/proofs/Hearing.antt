@@ -131,6 +131,11 @@ newest_first c h hs = ap (λ (b : Bool). option_map (λ (x : ℕ × Heard). x.1)
 newest_later : (c : ℕ) (x : ℕ × Heard) (hs : List (ℕ × Heard)) → (x.0 == c) ≡ false → newest_of (x ∷ hs) c ≡ newest_of hs c
 newest_later c x hs e = ap (λ (b : Bool). option_map (λ (x : ℕ × Heard). x.1) (if b then Some x else find (λ x. x.0 == c) hs)) e
 
+-- a target is that of a remote drop
+remote_target : (side : Side) (peer : Option ℕ) (c : ℕ) → is_target side peer c ≡ true → side ≡ Remote
+remote_target Local peer c is = absurd (true≢false (sym is))
+remote_target Remote peer c is = refl
+
 -- a phase is that of a drop which has sent its order, or isn't
 is_orders : Phase → Bool
 is_orders phases.Orders = true
@@ -153,7 +158,7 @@ drop_rest j j' feed c h same = by_target (is_target (side_in j.worker) j.worker.
 
     of_target : is_target (side_in j.worker) j.worker.job.peer c ≡ true → (b : Bool) → is_orders j.worker.phase ≡ b → Rest
     of_target is true orders = inr (inl (ap (λ (ph : Phase). Some ph) (orders_is j.worker.phase orders), is))
-    of_target is false no = inr (inr (target_words j'.worker j.worker.job c same is ∙ (h.2 (orders_not j.worker.phase no) ∙ sym (target_words j.worker j.worker.job c refl is))))
+    of_target is false no = inr (inr (target_words j'.worker j.worker.job c same is ∙ (h.2 (remote_target (side_in j.worker) j.worker.job.peer c is) (orders_not j.worker.phase no) ∙ sym (target_words j.worker j.worker.job c refl is))))
 
     as_heard : is_target (side_in j.worker) j.worker.job.peer c ≡ false → newest_of j'.worker.heard c ≡ newest_of j.worker.heard c → Rest
     as_heard is newest = inr (inr (other_words j'.worker j.worker.job c same is ∙ (ap word_in newest ∙ sym (other_words j.worker j.worker.job c refl is))))
