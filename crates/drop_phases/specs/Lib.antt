@@ -8,4 +8,5 @@ pub mod Feeding
 pub mod Leaving
 pub mod Begun
 pub mod Sides
+pub mod Apart
 pub mod Calling

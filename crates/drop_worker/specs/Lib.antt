@@ -10,6 +10,7 @@ pub use Rattle.drop_phases.specs.Feeding
 pub use Rattle.drop_phases.specs.Leaving
 pub use Rattle.drop_phases.specs.Begun
 pub use Rattle.drop_phases.specs.Sides
+pub use Rattle.drop_phases.specs.Apart
 pub use Rattle.drop_phases.specs.Calling
 pub use Rattle.drop_judging.specs.Judging
 pub use Rattle.remote_requests.specs.Remote

@@ -7,6 +7,7 @@ use Rattle.node_model.specs.Jobs.{Drops, Work}
 use Rattle.node_model.specs.Knows.{Reading, need_of, required_of, standing_of}
 use Rattle.node_model.specs.SetUp.{SetUp}
 use Rattle.node_model.specs.State.{State}
+use Rattle.drop_worker.specs.Apart.{IsApart}
 use Rattle.drop_worker.specs.Begun.{HasBegun}
 use Rattle.drop_phases.specs.declared.phase.Phase.{Phase}
 use Rattle.drop_phases.specs.declared.phase.Phase.TheVariants as phases
@@ -83,4 +84,5 @@ pub record IsDrop (p : PlaceView) (j : DropJob) : Type 0 where
   pub fits : FitsSide (side_in j.worker) j.worker.phase j.worker.token
   pub stands : HasReadByPhase p j.worker.phase j.known
   pub own : HasHeardOwn p j.worker
+  pub apart : IsApart (side_in j.worker) j.worker.job.peer j.worker
   pub unheard : BeginsUnheard j

@@ -1,7 +1,8 @@
 -- The step of a running job: of which state's slot it is, and what it leaves (own).
-use Rattle.std.specs.Prelude.{◌≡◌, ◌≤◌, ◌+◌, ℕ, false, true, List, [], Option, Some, IfSome, Result, Ok, Err}
+use Rattle.std.specs.Prelude.{◌≡◌, ◌⊎◌, ◌≤◌, ◌+◌, ℕ, ◌==◌, false, true, List, [], Option, Some, None, IfSome, Result, Ok, Err}
 use Rattle.std.specs.Option.{ForSome, option_map}
 use Rattle.annex_base.specs.Causes.{Rose}
+use Rattle.annex_base.specs.Lists.{Each}
 use Rattle.annex_base.specs.Settings.{Settings}
 use Rattle.annex_base.specs.declared.kinds.Call.{Call}
 use Rattle.run_data.specs.declared.entry.By.TheVariants.{Job as by_job}
@@ -24,11 +25,15 @@ use Rattle.content_lock.specs.CallsMade.{MakesCalls, fewer}
 use Rattle.content_lock.specs.Rows.{Rows, bar_at, is_filling}
 use Rattle.content_lock.specs.Stored.{Agrees}
 use Rattle.session_state.specs.Answers.{contents_after}
+use Rattle.drop_proof.specs.declared.rule.Side.TheVariants.{Remote}
 use Rattle.drop_phases.specs.Begun as drops
 use Rattle.drop_phases.specs.Begun.{IsLast}
 use Rattle.drop_phases.specs.Doing.{Grows, OthersStay}
-use Rattle.drop_phases.specs.Feeding.{KeepsAnswer, KeepsWord}
-use Rattle.drop_phases.specs.Sides.{IsNumbered}
+use Rattle.drop_phases.specs.Apart.{is_locked_in}
+use Rattle.drop_phases.specs.Feeding.{KeepsAnswer, KeepsOrderWord, KeepsWord}
+use Rattle.drop_phases.specs.Leaving.{stands_on}
+use Rattle.drop_phases.specs.Sides.{IsNumbered, side_in}
+use Rattle.drop_phases.specs.Worker.{Worker}
 use Rattle.drop_phases.specs.Working as working
 use Rattle.node_ends.specs.Ends.{end_at}
 use Rattle.node_drops.specs.Places.{PlaceView}
@@ -118,10 +123,26 @@ SendsPieces known v (sents.ByDrop ps) = Unit {0}
 -- nothing; and the paths of the job's key stay
 abbrev pub HearsOn : Task → Task → Told → Type 0
 HearsOn (tasks.Drops j) (tasks.Drops j') (tolds.Feed f) =
-    KeepsWord f.taken f.word j.worker j'.worker × KeepsAnswer f.taken f.word j.worker j'.worker × Grows j.worker.heard j'.worker.heard × (j'.paths ≡ j.paths)
+    KeepsWord f.taken f.word j.worker j'.worker × KeepsAnswer f.taken f.word j.worker j'.worker × KeepsOrderWord j.worker j'.worker × Grows j.worker.heard j'.worker.heard × (j'.paths ≡ j.paths)
 HearsOn (tasks.Transfers w) (tasks.Transfers w') (tolds.Arrival x) = w'.paths ≡ w.paths
-HearsOn (tasks.Transfers w) (tasks.Drops j) (tolds.Arrival x) = (j.worker.heard ≡ []) × (j.paths ≡ w.paths)
+HearsOn (tasks.Transfers w) (tasks.Drops j) (tolds.Arrival x) = (j.worker.heard ≡ []) × (j.worker.word ≡ None) × (j.paths ≡ w.paths)
 HearsOn t t' x = ⊥
+
+-- none of the parcels goes to the peer
+abbrev pub SendsNoneTo : ℕ → Sent → Type 0
+SendsNoneTo peer (sents.ByDrop ps) = Each (λ p. (p.peer == peer) ≡ false) ps.items
+SendsNoneTo peer (sents.ByTransfer ps) = Each (λ p. (p.peer == peer) ≡ false) ps.items
+
+-- a lock of another repository: nothing goes to that now, and the drop had it before, or stood with that
+pub record KeepsLock (w : Worker) (sent : Sent) (peer : ℕ) : Type 0 where
+  pub sends : SendsNoneTo peer sent
+  pub from : (is_locked_in w peer ≡ true) ⊎ (stands_on w ≡ Some peer)
+
+-- a drop that removes from its peer sends nothing to a repository of which it has a lock, but where it ends
+abbrev pub KeepsLocks : PlaceView → Task → Task → Output → Type 0
+KeepsLocks p (tasks.Drops j) (tasks.Drops j') out =
+    side_in j.worker ≡ Remote → out.ended ≡ false → (peer : ℕ) → (p.number == peer) ≡ false → is_locked_in j'.worker peer ≡ true → KeepsLock j.worker out.sent peer
+KeepsLocks p t t' out = Unit {0}
 
 -- what a step leaves of the job, the table and the store, by an entry that is to have this number
 pub record LeavesSo (p : PlaceView) (n : ℕ) (rows rows' : Rows) (k k' : Seen) (t t' : Task) (x : Told) (out : Output) : Type 0 where
@@ -129,6 +150,7 @@ pub record LeavesSo (p : PlaceView) (n : ℕ) (rows rows' : Rows) (k k' : Seen) 
   pub slot : slot_of t' ≡ slot_of t
   pub what : (work_now t').what ≡ (work_now t).what
   pub heard : HearsOn t t' x
+  pub locks : KeepsLocks p t t' out
   pub onward : out.ended ≡ false → IsOnward (number_of t) out.kind
   pub last : out.ended ≡ true → IsLast (number_of t) out.kind
   pub numbered : IsNumbered n out.kind
