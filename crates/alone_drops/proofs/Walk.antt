@@ -89,9 +89,7 @@ first_talk : (rows : RowsAndEnds) (r : ℕ) (v : Work) (e : Entry) (i : ℕ) →
 first_talk rows r v e i fresh part none silent = rw (fresh, part, none, silent) refl
 
 first_next : (r : ℕ) (v : Work) (here : Bool) (barred : Option ℕ) → (first_look r v Drops here barred).phase ≡ Next
-first_next r v false barred = refl
-first_next r v true None = refl
-first_next r v true (Some i) = refl
+first_next r v here barred = refl
 
 -- a deadline of ten minutes after the timestamp is later than the clock that the timestamp is of
 deadline_later : (c t first n secs : ℕ) → secs ≡ t / 1000 → first ≡ c + 600000 → n ≡ secs + (first - c) / 1000 → t < 1000 * n

@@ -55,7 +55,6 @@ took_turn w body = inl refl
 
 first_turn : (r : ℕ) (w : Work) (part : Part) (here : Bool) (bar : Option ℕ) → Same w (first_look r w part here bar) ⊎ (part ≡ Gets)
 first_turn r w Gets true bar = inr refl
-first_turn r w Drops true (Some i) = inl refl
 first_turn r w part here bar = inl refl
 
 quiet_turn : (rows : RowsAndEnds) (r : ℕ) (w : Work) (phase : Phase) → Same w (quiet rows r w phase) ⊎ ((w.part ≡ Gets) × (phase ≡ Fresh))
