@@ -23,7 +23,7 @@ use Rattle.drop_phases.specs.declared.turn.Output.{Output}
 use Rattle.drop_worker.specs.Doing.{Grows, contents_after}
 use Rattle.drop_worker.specs.Feeding.{FeedsFrameAt, FindsAt, KeepsAnswer, KeepsWord}
 use Rattle.drop_worker.specs.Leaving.{stands_on}
-use Rattle.drop_worker.specs.Sides.{FitsSide, side_in}
+use Rattle.drop_worker.specs.Sides.{FitsSide, HearsOwn, side_in}
 use Rattle.drop_worker.specs.States.{HaveState, Sees, StepsSo}
 use Rattle.drop_worker.specs.Worker.{Worker}
 use Rattle.drop_worker.specs.Working.{frames_of, sight, words_of}
@@ -48,6 +48,7 @@ pub record Steps (p : PlaceView) (contents contents' : Option Contents) (input :
   pub stored : contents' ≡ contents_after contents out.kind
   pub fits : out.ended ≡ false → FitsSide (side_in w) w'.phase w'.token
   pub gone : CanStand (place_reading p) w.phase → HasGone (place_reading p) w w' out
+  pub own : out.ended ≡ false → HearsOwn (side_in w) (place_reading p) w'
   pub number : w'.number ≡ w.number
   pub job : w'.job ≡ w.job
 

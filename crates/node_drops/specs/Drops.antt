@@ -10,7 +10,7 @@ use Rattle.node_model.specs.State.{State}
 use Rattle.drop_worker.specs.Begun.{HasBegun}
 use Rattle.drop_phases.specs.declared.phase.Phase.{Phase}
 use Rattle.drop_phases.specs.declared.phase.Phase.TheVariants as phases
-use Rattle.drop_worker.specs.Sides.{AsksOthers, FitsSide, HasTarget, side_in}
+use Rattle.drop_worker.specs.Sides.{FitsSide, HasTarget, HearsOwn, side_in}
 use Rattle.drop_worker.specs.Worker.{Worker}
 use Rattle.drop_worker.specs.Working.{Rest, phase_as, work_of}
 use Rattle.node_drops.specs.Places.{PlaceView}
@@ -72,10 +72,9 @@ HasReadByPhase p phase (Some known) = HasBegun (place_reading p) phase
 abbrev pub BeginsUnheard : DropJob → Type 0
 BeginsUnheard j = j.worker.phase ≡ phases.Fresh → j.worker.heard ≡ []
 
--- a drop that is past its first step asks its own repository no more
-abbrev pub AsksBy : PlaceView → Worker → Option KnownLogs → Type 0
-AsksBy p w None = Unit {0}
-AsksBy p w (Some known) = AsksOthers (side_in w) (record (place_reading p) { standing = standing_in known }) w
+-- a drop that removes from its peer has heard of its own repository, unless it is to begin
+abbrev pub HasHeardOwn : PlaceView → Worker → Type 0
+HasHeardOwn p w = (w.phase ≡ phases.Fresh → ⊥) → HearsOwn (side_in w) (place_reading p) w
 
 -- a drop in one of the four slots, with the token of its phase; one that removes from its peer has another repository as its peer
 pub record IsDrop (p : PlaceView) (j : DropJob) : Type 0 where
@@ -83,5 +82,5 @@ pub record IsDrop (p : PlaceView) (j : DropJob) : Type 0 where
   pub slot : j.worker.slot < 4
   pub fits : FitsSide (side_in j.worker) j.worker.phase j.worker.token
   pub stands : HasReadByPhase p j.worker.phase j.known
-  pub asks : AsksBy p j.worker j.known
+  pub own : HasHeardOwn p j.worker
   pub unheard : BeginsUnheard j
