@@ -4,3 +4,4 @@ pub mod Workers
 pub use Rattle.node_transfers.specs.declared.job.TransferJob
 pub use Rattle.transfer_worker.specs.declared.worker.Worker
 pub use Rattle.transfer_worker.specs.States
+pub use Rattle.transfer_worker.specs.Workers as Transferring

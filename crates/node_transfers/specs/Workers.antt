@@ -7,7 +7,7 @@ use Rattle.content_lock.specs.Rows.{Rows}
 use Rattle.session_state.specs.declared.incoming.Incoming.{Incoming}
 use Rattle.transfer_turns.specs.Turns.{Sight}
 use Rattle.transfer_worker.specs.Workers as workers
-pub use Rattle.transfer_worker.specs.Workers.{KeepsSo, drop_after, new_work_of}
+pub use Rattle.transfer_worker.specs.Workers.{new_work_of}
 use Rattle.node_transfers.specs.declared.job.TransferJob.{TransferJob}
 
 -- the job's work

@@ -33,8 +33,8 @@ pub record ActsOf (links : List EndView) (was : Jobs) (rows rows' : Rows) (k k' 
   pub owes : option_to_list (option_map line_of a.owes) ≡ told_frame (Some (work_now job)) (taken_by links a.slot a.takes)
   pub among : ForSome a.owes (λ l. l.repo < length was.place.ids)
   pub mid : Rows
-  pub number : ℕ  -- of the entry
-  pub leaves : TaskLeaves was.place number rows mid k k' job next told (output_of a)
+  pub entry : ℕ  -- the number that its entry is to have
+  pub leaves : TaskLeaves was.place entry rows mid k k' job next told (output_of a)
   pub stays : a.ended ≡ false → rows' ≡ mid
 
 -- what becomes of the jobs: the one that acted goes on, or is off the list; each other is as it was; none is new, nor given other paths

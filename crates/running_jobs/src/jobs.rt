@@ -31,6 +31,7 @@ use crate::starting::new_task;
 use crate::turning::turn;
 use annex_base::{Items, NoMemory, Text};
 use content_lock::LockTable;
+use drop_worker::holds_are_numbered;
 use node_ends::Ends;
 use node_tasks::{Clock, Place, Task, Time};
 use object_store::Keeper;
@@ -178,10 +179,13 @@ impl Jobs {
             (seen (K.contents keeper.old) (K.parts keeper.old) (K.records keeper.old) (K.files keeper.old) (K.faults keeper.old) (K.failing keeper.old))
             (seen (K.contents keeper.new) (K.parts keeper.new) (K.records keeper.new) (K.files keeper.new) (K.faults keeper.new) (K.failing keeper.new))) }
         ensures agrees { Agrees (K.records keeper.new) table.new.holds }
-        ensures numbered { IfOk result (λ a. ForSome a (λ a. IsNumbered number a.kind)) }
+        ensures numbered { IfOk result (λ a. ForSome a (λ x. IsNumbered number x.kind)) }
+        ensures numbers { IfOk result (λ a. All (λ h. h.number < number + 1) table.new.holds) }
         ensures ends { ends.new ≡ ends.old }
         ensures unasked { IfOk result (λ a. a ≡ None → keeper.new ≡ keeper.old) }
     {
+        // A law, for the proof: a hold has the number of the entry that added it.
+        holds_are_numbered();
         let Some(found) = find_ready(&self.running, alloc, &self.place, clock, ends, time)? else {
             return Ok(None);
         };

@@ -73,8 +73,8 @@ returns-clause-calls g c = λ number.
     (c.judge.ensures.lacking c.in-Lacking.counted c.in-Lacking.needed c.in-Lacking.full c.in-Lacking.full_needed c.in-Lacking.is).0
     (ap (find (asks_of (g.H.Here.reading c.args.here.now) c.args.worker.now)) (sym (c.deref-in-Lacking.ensures.value ∙ c.in_ok-candidates.ensures.all)) ∙ (sym c.next.ensures ∙ c.in-None.is)) (λ p fails rest. c.in_ok-why-in-None.ensures c.args.time number c.args.table.now p fails rest) c.finish.ensures.calls
 
-pub go_to-in-Some-requires-clause-other : goal.go_to-in-Some-requires-clause-other
-go_to-in-Some-requires-clause-other g c =
+pub go_to-requires-in-Some-clause-other : goal.go_to-requires-in-Some-clause-other
+go_to-requires-in-Some-clause-other g c =
     let read = g.H.Here.reading c.args.here.now in
     let w = c.args.worker.now in
     found_remotely read w c.args.target c.in-Some.peer c.requires.own (ap (find (asks_of read w)) (sym (c.deref-in-Lacking.ensures.value ∙ c.in_ok-candidates.ensures.all)) ∙ (sym c.next.ensures ∙ c.in-Some.is))

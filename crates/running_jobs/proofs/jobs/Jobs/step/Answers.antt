@@ -18,7 +18,7 @@ use Rattle.running_jobs.specs.Acting.{SeesActed, SeesJobs, StepsJobs}
 use Rattle.running_jobs.specs.Finding.{Finds}
 use Rattle.running_jobs.specs.Leaving.{Leaves}
 use Rattle.running_jobs.specs.Running.{IsOwn, Jobs, OwnAll}
-use Rattle.running_jobs.proofs.Owning.{agrees_after, leaves_after, owns_after}
+use Rattle.running_jobs.proofs.Owning.{agrees_after, leaves_after, numbers_after, numbers_still, owns_after}
 use Rattle.running_jobs.proofs.Staying.{agrees_still, owns_still, stays_as, stays_here}
 use Rattle.running_jobs.proofs.Stepping.{calls_so, none_steps, sees_each, steps_jobs}
 use Rattle.running_jobs.proofs.jobs.Jobs.step.Goals as goal
@@ -145,3 +145,16 @@ returns-in_err-acted-clause-agrees g c =
     let kept = seen (g.K.Keeper.contents was) (g.K.Keeper.parts was) (g.K.Keeper.records was) (g.K.Keeper.files was) (g.K.Keeper.faults was) (g.K.Keeper.failing was) in
     let kept' = seen (g.K.Keeper.contents now) (g.K.Keeper.parts now) (g.K.Keeper.records now) (g.K.Keeper.files now) (g.K.Keeper.faults now) (g.K.Keeper.failing now) in
     agrees_still c.self.inside.running.items c.turn.new.running.items c.args.table.now c.turn.new.table kept kept' c.in_err-acted.ensures.err c.requires.agrees
+
+pub returns-in_default-clause-numbers : goal.returns-in_default-clause-numbers
+returns-in_default-clause-numbers g c = numbers_still c.holds_are_numbered.ensures c.args.number c.args.table.now c.requires.fresh
+
+pub returns-clause-numbers : goal.returns-clause-numbers
+returns-clause-numbers g c =
+    let jobs : Jobs = record { place = c.self.inside.place; running = c.self.inside.running.items; begun = c.self.inside.begun } in
+    let was = c.args.keeper.now in
+    let now = c.turn.new.keeper in
+    let kept = seen (g.K.Keeper.contents was) (g.K.Keeper.parts was) (g.K.Keeper.records was) (g.K.Keeper.files was) (g.K.Keeper.faults was) (g.K.Keeper.failing was) in
+    let kept' = seen (g.K.Keeper.contents now) (g.K.Keeper.parts now) (g.K.Keeper.records now) (g.K.Keeper.files now) (g.K.Keeper.faults now) (g.K.Keeper.failing now) in
+    numbers_after c.args.ends.now c.args.clock (settings_of c.args.settings.now) jobs c.args.number c.args.time c.in-Some.found c.args.table.now c.turn.new.table kept kept' c.turn.new.running.items c.in_ok-acted.acted
+    (subst (λ (js : Jobs). OwnAll js c.args.table.now) (sym c.self.view_is) c.requires.owns) (rw c.find_ready.ensures.same at c.in_ok-acted.ensures.changes) c.holds_are_numbered.ensures c.requires.fresh
