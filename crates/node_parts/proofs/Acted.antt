@@ -64,14 +64,14 @@ use Rattle.running_jobs.specs.Telling.{takes_in}
 use Rattle.owed_lines.specs.declared.line.ToldLine.{ToldLine}
 use Rattle.owed_lines.specs.Lines.{line_of}
 use Rattle.running_jobs.specs.declared.acted.Acted.{Acted}
-use Rattle.running_jobs.specs.Acting.{HasPart as HasPartActed, IsKindOf, SeesActed, SeesActedOf, SeesJobs, StepsJobs, SeesPartAt as JobSeesPartAt, failed_by as failed_by_acted, made_by}
+use Rattle.running_jobs.specs.Acting.{HasLockRoom, HasPart as HasPartActed, IsKindOf, SeesActed, SeesActedOf, SeesJobs, StepsJobs, SeesPartAt as JobSeesPartAt, failed_by as failed_by_acted, made_by, output_of}
 use Rattle.running_jobs.specs.Leaving.{ActsOf, Leaves as LeavesJobs}
 use Rattle.running_jobs.specs.Running.{AreWorks, Follows, IsOwn, Jobs, OwnAll as JobsOwn, fills_at, job_at, words_at}
 use Rattle.node_parts.specs.declared.done.Done.{Done}
 use Rattle.node_parts.specs.Jobs.{HearsSo, JobsGoOn}
 use Rattle.node_parts.specs.Kinds.{IsQuiet}
 use Rattle.node_parts.specs.declared.moment.Moment.{Moment}
-use Rattle.node_parts.specs.Parts.{AreAllFed, AreParts, HasContents, PartsView}
+use Rattle.node_parts.specs.Parts.{AreAllFed, AreParts, HasContents, HasLockRooms, PartsView}
 use Rattle.node_parts.specs.Posting.{PostsPieces, stamp_of}
 use Rattle.node_parts.specs.Sending.{PostsOnly, pieces_in}
 use Rattle.node_parts.specs.Sound.{AreSound}
@@ -86,6 +86,7 @@ use Rattle.node_parts.proofs.Gotten.{parts_told}
 use Rattle.node_parts.proofs.Hearing.{task_hears}
 use Rattle.node_parts.proofs.Pieces.{job_pieces, own_pieces}
 use Rattle.node_parts.proofs.Posts.{posts_at}
+use Rattle.node_parts.proofs.Rooms.{RoomAfter, lock_rooms, rooms_acted}
 use Rattle.node_parts.proofs.Served.{FillsLaw, table_fills}
 use Rattle.node_parts.proofs.Sounding.{there_still}
 
@@ -95,7 +96,7 @@ abbrev pub NamelessAsked : Type 0
 NamelessAsked = (lines : Lines) (key : List ℕ) → standing_by (settings lines) key [] ≡ drops.Asked
 
 abbrev pub RoomThere : Type 0
-RoomThere = (s : SetUp) (st : State) (k : Look) (jobs : Jobs) (m : Effect) → AreWorks s st jobs → Each (IsTask jobs.place) jobs.running → job_step s st k ≡ Some m
+RoomThere = (s : SetUp) (st : State) (k : Look) (jobs : Jobs) (m : Effect) → AreWorks s st jobs → Each (IsTask jobs.place) jobs.running → Each (HasLockRoom s st k) jobs.running → job_step s st k ≡ Some m
     → SendsWell (λ a. end_took (st.ends a) (taken_at a m.taken)) k.room m.sent
 
 -- each other owner's share stays its own
@@ -229,6 +230,7 @@ pub record IsActed (was now : List EndView) (a : Acted) (d : Done) : Type 0 wher
   pub taken : d.taken ≡ taken_by was a.slot a.takes
   pub sent : TakesNoOpening d.taken → SendsWell (λ b. end_took (end_at was b) (taken_at b d.taken)) (room_at was) (frames_in was a.slot a.sent) → d.sent ≡ frames_in was a.slot a.sent
   pub after : AreAfter was now d.taken d.sent
+  pub room : RoomAfter was now d.taken d.sent
   pub owes : d.owes ≡ a.owes
 
 -- what the step of the jobs ensures, over a store with these contents
@@ -291,7 +293,7 @@ module _ (laws : Laws) (was now : PartsView) (clock : ClockSet) (view : Settings
   where_jobs P o seen there = there (sees_jobs k.room sees.ends.room) keeps seen
 
   module _ (a : Acted) (d : Done) (step : StepsThere was now.jobs clock view time number known c (Some a)) (acted : IsActed was.links now.links a d) (kind : IsOfJob a.job a.kind)
-      (k0 k1 : Seen) (tells : k0.contents ≡ Some c) (tells_parts : k0.parts ≡ known) (leaves : LeavesJobs was.links was.jobs now.jobs was.table now.table k0 k1 a) (still : now.sessions ≡ was.sessions)
+      (k0 k1 : Seen) (tells : k0.contents ≡ Some c) (tells_parts : k0.parts ≡ known) (leaves : LeavesJobs was.links was.jobs now.jobs was.table now.table k0 k1 a) (still : now.sessions ≡ was.sessions) (owns_now : JobsOwn now.jobs now.table)
       (fails : k.fails ≡ failed_in d.kind) (asks : IsPartAsked known was d.kind d.taken k.part k.right) (words : k.words ≡ words_heard was (Some d)) where
     acts : ActsOf was.links was.jobs was.table now.table k0 k1 a
     acts = leaves.acts
@@ -316,7 +318,8 @@ module _ (laws : Laws) (was now : PartsView) (clock : ClockSet) (view : Settings
         let roomy : Look = record k { room = room_at was.links } in
         let real = map_some (job_step s st roomy) as_told (made_by was.links a) (step s st roomy (sees_jobs (room_at was.links) (λ b is. refl)) keeps seen_there).made in
         subst (λ (m : Effect). SendsWell (λ b. end_took (st.ends b) (taken_at b m.taken)) (room_at was.links) m.sent) real.2
-        (laws.room s st roomy was.jobs real.0 sees.parts.works sound.acting.tasks real.1)
+        (laws.room s st roomy was.jobs real.0 sees.parts.works sound.acting.tasks
+        (lock_rooms s st k was.jobs.place was.links was.jobs.running sees.parts.place sees.parts.each sound.acting.tasks sees.parts.rooms) real.1)
 
     well : SendsWell (λ b. end_took (end_at was.links b) (taken_at b d.taken)) (room_at was.links) (frames_in was.links a.slot a.sent)
     well =
@@ -364,6 +367,11 @@ module _ (laws : Laws) (was now : PartsView) (clock : ClockSet) (view : Settings
         let end : (state_after s st e).ends b ≡ st.ends b = (λ i. fold (λ (x : End) (f : FrameView). end_sends x f.body) (end_took (st.ends b) (moves.0 i)) (moves.1 i)) in
         session ∙ sees.parts.closed b server (ap (λ (x : End). x.opened) (sym end) ∙ shut)
 
+    rooms : Each (HasLockRooms now.links was.jobs.place.number) now.jobs.running
+    rooms = rooms_acted was.jobs.place was.links now.links was.jobs.running now.jobs.running a.job acts.job acts.next acts.told (output_of a) d.taken d.sent acted.after acted.room
+        (subst TakesNoOpening (sym acted.taken) own.opening) (sent ∙ ap (λ (n : ℕ). frames_in was.links n a.sent) acts.slot) sound.acting.apart owns_now.apart acts.found leaves.jobs.onward leaves.jobs.off leaves.jobs.apart
+        acts.hears acts.leaves.heard acts.leaves.locks acts.leaves.slot acts.leaves.what sees.parts.rooms
+
     parts : AreParts s (state_after s st e) now
     parts = record {
       place = subst (λ (p : PlaceView). IsPlace p s) (sym leaves.place) sees.parts.place;
@@ -374,6 +382,7 @@ module _ (laws : Laws) (was now : PartsView) (clock : ClockSet) (view : Settings
       sessions = subst (AreSessions s (state_after s st e).sessions) (sym still) (laws.stay s st e was.sessions sees.parts.sessions clients);
       closed = closed;
       works = works;
+      rooms = subst (λ (p : PlaceView). Each (HasLockRooms now.links p.number) now.jobs.running) (sym leaves.place) rooms;
       logs = refl;
     }
 
@@ -420,9 +429,9 @@ acts_none laws was now clock view time number known told contents sound step sta
 
 pub acts_some : Laws → (was now : PartsView) (clock : ClockSet) (view : Settings) (time number : ℕ) (k0 k1 : Seen) → AreSound was
     → (a : Acted) (d : Done) → ForSome k0.contents (λ c. StepsThere was now.jobs clock view time number k0.parts c (Some a)) → IsActed was.links now.links a d → IsOfJob a.job a.kind → LeavesJobs was.links was.jobs now.jobs was.table now.table k0 k1 a
-    → now.sessions ≡ was.sessions → ForSome k0.contents (λ c. Acts was now c k0.parts k1.contents clock view time number (Some d))
-acts_some laws was now clock view time number k0 k1 sound a d step acted kind leaves still = λ c is s st k logs sees fails asks words.
-    steps_some laws was now clock view time number c k0.parts sound s st k logs sees a d (step c is) acted kind k0 k1 is refl leaves still (fails d refl) (asks d refl) (words d refl)
+    → now.sessions ≡ was.sessions → JobsOwn now.jobs now.table → ForSome k0.contents (λ c. Acts was now c k0.parts k1.contents clock view time number (Some d))
+acts_some laws was now clock view time number k0 k1 sound a d step acted kind leaves still owns_now = λ c is s st k logs sees fails asks words.
+    steps_some laws was now clock view time number c k0.parts sound s st k logs sees a d (step c is) acted kind k0 k1 is refl leaves still owns_now (fails d refl) (asks d refl) (words d refl)
 
 -- ---- the calls of it
 

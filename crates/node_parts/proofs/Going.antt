@@ -3,6 +3,7 @@ use Rattle.std.proofs.Common.{◌≡◌, ℕ, ◌*◌, ◌+◌, Bool, true, fals
 use Rattle.std.specs.Prelude.{All, OnOk, fold, find, replicate, ◌==◌, ◌&&◌, ◌||◌}
 use Rattle.std.proofs.lemmas.List.{length-replicate}
 use Rattle.std.proofs.lemmas.List.Elements.{All-nil}
+use Rattle.annex_base.specs.Lists.{Each}
 use Rattle.annex_base.specs.Settings.{Settings}
 use Rattle.run_data.specs.declared.entry.Entry.{Entry}
 use Rattle.run_data.specs.declared.entry.EntryKind.TheVariants.{Begin}
@@ -27,8 +28,9 @@ use Rattle.node_sessions.specs.Sessions.{AreSessions, HaveEnds, OwnAll, fills_in
 use Rattle.running_jobs.specs.Places.{IsPlace, PlaceView}
 use Rattle.running_jobs.specs.Beginning.{Begins}
 use Rattle.running_jobs.specs.Running.{AreWorks, Follows, Jobs, OwnAll as JobsOwn, AreAllFed as JobsFed}
-use Rattle.node_parts.specs.Parts.{AreAllFed, AreParts, PartsView}
+use Rattle.node_parts.specs.Parts.{AreAllFed, AreParts, HasLockRooms, PartsView}
 use Rattle.node_parts.specs.Sound.{AreSound}
+use Rattle.node_parts.proofs.Rooms.{rooms_begun}
 
 -- ---- before the first entry
 
@@ -103,8 +105,8 @@ module _ (s : SetUp) (st : State) (e : Entry) (n : ℕ) (what : Job) (is : e.kin
   }
 
   pub begin_parts : EndsGo → ((links : List EndView) → AreAfter links links None []) → SessionsStay → e.taken ≡ None → e.sent ≡ [] → (was : PartsView) (jobs : Jobs) → AreParts s st was → jobs.place ≡ was.jobs.place
-      → AreWorks s (state_after s st e) jobs → AreParts s (state_after s st e) (record was { jobs = jobs })
-  begin_parts go still stay taken sent was jobs are place works = record {
+      → AreWorks s (state_after s st e) jobs → Each (HasLockRooms was.links jobs.place.number) jobs.running → AreParts s (state_after s st e) (record was { jobs = jobs })
+  begin_parts go still stay taken sent was jobs are place works rooms = record {
     place = subst (λ (p : PlaceView). IsPlace p s) (sym place) are.place;
     holds = are.holds ∙ (λ i. holds_after st.holds (sym is i));
     bars = λ key. are.bars key ∙ (λ i. bar_after key (st.bar key) (sym is i));
@@ -113,6 +115,7 @@ module _ (s : SetUp) (st : State) (e : Entry) (n : ℕ) (what : Job) (is : e.kin
     sessions = stay s st e was.sessions are.sessions (λ a server. none_moves s st e taken sent a);
     closed = closed_stays s st e taken sent are.closed;
     works = works;
+    rooms = rooms;
     logs = refl;
   }
 
@@ -129,6 +132,7 @@ pub begun_parts : {T E : Type 0} (r : Result T E) → EndsGo → ((links : List 
 begun_parts (Ok x) go still stay was jobs what paths ok works sound = λ s st e are kind taken sent.
     begin_parts s st e (was.jobs.begun + 1) what kind go still stay taken sent was jobs are (ap (λ (j : Jobs). j.place) ok.jobs)
     (works was.table s st e (state_after s st e) sound.acting are.works kind (begin_follows s st e (was.jobs.begun + 1) what kind are.logs))
+    (rooms_begun was.links was.jobs jobs what paths ok are.rooms)
 begun_parts (Err e) go still stay was jobs what paths ok works sound = tt
 
 -- what the sessions and the jobs have taken is the store's still

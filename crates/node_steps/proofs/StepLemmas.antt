@@ -192,6 +192,7 @@ parts_own s js st p are = record {
   sessions = record { connections = are.sessions.connections; each = λ i x at. let it = are.sessions.each i x at in record { id = it.id; version = it.version; locks = it.locks; session = it.session } };
   closed = are.closed;
   works = record { works = are.works.works; begun = are.works.begun; read = Each-weaker (λ t. HasReadOf (given_to (own_paths s js) t) st t) (λ t. HasReadOf (given_to s t) st t) (read_own s js st) p.jobs.running are.works.read };
+  rooms = are.rooms;
   logs = are.logs;
 }
 

@@ -94,7 +94,9 @@ SeesActed known links jobs k o = ForSome o (SeesActedOf known links jobs k)
 -- while a drop awaits its target's timestamp, there is room at the open ends on which it has locks, since the step that takes the timestamp may
 -- give the locks back
 abbrev pub HasLockRoom : SetUp → State → Look → Task → Type 0
-HasLockRoom s st k t = (work_now t).phase ≡ AsksTime → list_all (has_room (turn_of s st k (work_now t))) (locked_peers (turn_of s st k (work_now t))) ≡ true
+HasLockRoom s st k (tasks.Drops j) =
+    (work_now (tasks.Drops j)).phase ≡ AsksTime → list_all (has_room (turn_of s st k (work_now (tasks.Drops j)))) (locked_peers (turn_of s st k (work_now (tasks.Drops j)))) ≡ true
+HasLockRoom s st k (tasks.Transfers w) = Unit {0}
 
 -- ---- what follows
 

@@ -57,7 +57,7 @@ left g c =
 here : (g : given.Over) (c : goal.After-act g) → IsActed (was g c).links (now g c).links c.in-Some.acted c.act.result
 here g c =
     let e = c.act.ensures in
-    subst (λ (l : List EndView). IsActed l (now g c).links c.in-Some.acted c.act.result) c.in_ok-acted.ensures.ends (record { kind = e.kind; taken = e.taken; sent = e.sent; after = e.after; owes = e.owes })
+    subst (λ (l : List EndView). IsActed l (now g c).links c.in-Some.acted c.act.result) c.in_ok-acted.ensures.ends (record { kind = e.kind; taken = e.taken; sent = e.sent; after = e.after; room = e.room; owes = e.owes })
 
 kind : (g : given.Over) (c : goal.After-act g) → IsOfJob c.in-Some.acted.job c.in-Some.acted.kind
 kind g c = kind_of c.in-Some.acted (left g c).kind
@@ -153,7 +153,7 @@ returns-in-Some-clause-step g c =
     let d = c.act.result in
     subst (λ (p : PartsView). ForSome (before g c).contents (λ x. Acts p (now g c) x (before g c).parts (after g c).contents m.clock view m.time m.number (Some d))) c.self.view_is
     (acts_some (laws g c) (was g c) (now g c) m.clock view m.time m.number (before g c) (after g c) c.self.invariant a d
-    (subst (λ (o : Option Acted). ForSome (before g c).contents (λ x. StepsThere (was g c) (now g c).jobs m.clock view m.time m.number (before g c).parts x o)) c.in-Some.is e.step) (here g c) (kind g c) (left g c) refl)
+    (subst (λ (o : Option Acted). ForSome (before g c).contents (λ x. StepsThere (was g c) (now g c).jobs m.clock view m.time m.number (before g c).parts x o)) c.in-Some.is e.step) (here g c) (kind g c) (left g c) refl e.owns)
 
 pub returns-in-None-clause-asked : goal.returns-in-None-clause-asked
 returns-in-None-clause-asked g c = λ q told fed d is. absurd (some_none d (sym is))
