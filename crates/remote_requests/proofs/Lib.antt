@@ -1,4 +1,5 @@
 -- Lemmas on remote drops, for their crates.
+pub mod Apart
 pub mod CandidateLists
 pub mod EndCalls
 pub mod Losing

@@ -1,0 +1,254 @@
+-- A remote drop stands apart from its target, and from the repositories of which it has locks.
+use Rattle.std.proofs.Common.{◌≡◌, ◌⊎◌, inl, inr, ℕ, Bool, true, false, if◌then◌else◌, List, [], ◌∷◌, map, Option, Some, None, Result, Ok, Err, refl, sym, ap, subst, ◌∙◌}
+use Rattle.std.specs.Prelude.{◌==◌, IfOk, IfSome, OnErr, find, nat_lt, option_map}
+use Rattle.std.proofs.lemmas.Bool.{cases_Bool, eqb-true, true≢false}
+use Rattle.annex_base.specs.Lists.{Each}
+use Rattle.annex_base.specs.declared.memory.NoMemory.{NoMemory}
+use Rattle.annex_base.proofs.Conditions.{eqb_refl}
+use Rattle.annex_base.proofs.Lists.{Each-weaker}
+use Rattle.drop_proof.specs.declared.rule.Need.{Need}
+use Rattle.run_data.specs.declared.entry.EntryKind.{EntryKind}
+use Rattle.run_data.specs.declared.job.Cause.{Cause}
+use Rattle.run_data.specs.declared.job.Cause.TheVariants as causes
+use Rattle.p2p_wire.specs.declared.message.Message.{Message}
+use Rattle.p2p_wire.specs.declared.message.Message.TheVariants.{GetTimestamp, LockContent}
+use Rattle.node_model.specs.Jobs as Jobs
+use Rattle.node_model.specs.Jobs.{unshared_cause}
+use Rattle.node_model.specs.JobStep.{is_held}
+use Rattle.content_lock.specs.declared.refusals.ShareRefused.{ShareRefused}
+use Rattle.content_lock.specs.declared.refusals.ShareRefused.TheVariants as refused
+use Rattle.run_data.specs.declared.entry.By.TheVariants.{Job as by_job}
+use Rattle.run_data.specs.declared.entry.EntryKind.TheVariants.{Fault, Talk}
+use Rattle.drop_phases.specs.Apart.{GoesApart, StandsApart, asked_in, is_locked_in, looked_in}
+use Rattle.drop_phases.specs.Leaving.{stands_on}
+use Rattle.drop_phases.specs.Worker.{Worker}
+use Rattle.drop_phases.specs.Working.{heard_as, heard_in}
+use Rattle.drop_phases.specs.declared.phase.Ending.TheVariants as endings
+use Rattle.drop_phases.specs.declared.phase.Heard.{Heard}
+use Rattle.drop_phases.specs.declared.phase.Heard.TheVariants as heards
+use Rattle.drop_phases.specs.declared.phase.Phase.{Phase}
+use Rattle.drop_phases.specs.declared.phase.Phase.TheVariants as phases
+use Rattle.drop_phases.specs.declared.turn.Output.{Output}
+use Rattle.drop_phases.specs.declared.turn.Parcel.{Parcel}
+use Rattle.remote_requests.specs.Remote.{FailsToRelease, FollowsShareRefused, GivesNone, PassesBy, Request, Says, ShutsRemote, first_request, is_ordering, order_of, said_parcels, target_request, unreleased_phase, without_peer}
+
+-- ---- what it has heard
+
+abbrev found_as : Bool → ℕ → Heard → List (ℕ × Heard) → ℕ → Option Jobs.Heard
+found_as b p h heard peer = option_map (λ (x : ℕ × Jobs.Heard). x.1) (if b then Some (p, heard_as h) else find (λ x. x.0 == peer) (map (λ (x : ℕ × Heard). (x.0, heard_as x.1)) heard))
+
+pub heard_other : (p peer : ℕ) (h : Heard) (heard : List (ℕ × Heard)) → (p == peer) ≡ false → heard_in ((p, h) ∷ heard) peer ≡ heard_in heard peer
+heard_other p peer h heard other = ap (λ (b : Bool). found_as b p h heard peer) other
+
+pub heard_this : (p : ℕ) (h : Heard) (heard : List (ℕ × Heard)) → heard_in ((p, h) ∷ heard) p ≡ Some (heard_as h)
+heard_this p h heard = ap (λ (b : Bool). found_as b p h heard p) (eqb_refl p)
+
+flip : (a b : ℕ) → (a == b) ≡ false → (b == a) ≡ false
+flip a b no = elim (cases_Bool (b == a)) [
+  | inl is ↦ absurd (true≢false (sym (eqb_refl a) ∙ (ap (λ (n : ℕ). a == n) (sym (eqb-true b a is)) ∙ no)))
+  | inr other ↦ other
+]
+
+-- ---- a step
+
+-- it ends the job
+pub ends_apart : (own target : ℕ) (w w' : Worker) (out : Output) → out.ended ≡ true → w'.word ≡ w.word → GoesApart own target w w' out
+ends_apart own target w w' out ended word = record {
+  stands = λ on. absurd (true≢false (sym ended ∙ on));
+  locks = λ on. absurd (true≢false (sym ended ∙ on));
+  word = λ other. word;
+}
+
+-- what it sends goes to none of which it has a lock then
+unlocked_parcels : (w : Worker) (ps : List Parcel) (peer : ℕ) → Each (λ p. is_locked_in w p.peer ≡ false) ps → is_locked_in w peer ≡ true → Each (λ p. (p.peer == peer) ≡ false) ps
+unlocked_parcels w ps peer unlocked locked = Each-weaker (λ p. is_locked_in w p.peer ≡ false) (λ p. (p.peer == peer) ≡ false) (λ p no. elim (cases_Bool (p.peer == peer)) [
+  | inl same ↦ absurd (true≢false (sym locked ∙ (ap (is_locked_in w) (sym (eqb-true p.peer peer same)) ∙ no)))
+  | inr other ↦ other
+]) ps unlocked
+
+-- it goes on: it stands so, sends so, and has no new lock but of the one that it stood with
+pub goes_apart : (own target : ℕ) (w w' : Worker) (out : Output) → StandsApart target w' → Each (λ p. is_locked_in w' p.peer ≡ false) out.sends.items
+    → ((peer : ℕ) → (own == peer) ≡ false → is_locked_in w' peer ≡ true → (is_locked_in w peer ≡ true) ⊎ (stands_on w ≡ Some peer)) → ((w.phase ≡ phases.Orders → ⊥) → w'.word ≡ w.word) → GoesApart own target w w' out
+goes_apart own target w w' out stands sends new word = record {
+  stands = λ on. stands;
+  locks = λ on peer other locked. (unlocked_parcels w' out.sends.items peer sends locked, new peer other locked);
+  word = word;
+}
+
+-- ---- it says something
+
+unheard_unlocked : (w : Worker) (peer : ℕ) → heard_in w.heard peer ≡ None → is_locked_in w peer ≡ false
+unheard_unlocked w peer none = ap is_held none
+
+-- what becomes of what it asks
+pub record AsksApart (target : ℕ) (heard : List (ℕ × Heard)) (phase : Phase) : Type 0 where
+  pub asked : IfSome (asked_in phase) (λ peer. heard_in heard peer ≡ None)
+  pub other : IfSome (looked_in phase) (λ peer. (target == peer) ≡ false)
+
+-- to a peer of which it has heard nothing, and hears nothing
+pub says_apart : (own target peer : ℕ) (w w' : Worker) (out : Output) → w'.heard ≡ w.heard → ((w.phase ≡ phases.Orders → ⊥) → w'.word ≡ w.word) → heard_in w.heard target ≡ None → heard_in w.heard peer ≡ None → AsksApart target w.heard w'.phase
+    → Each (λ p. p.peer ≡ peer) out.sends.items → GoesApart own target w w' out
+says_apart own target peer w w' out heard word unheard none asks to =
+    goes_apart own target w w' out (record {
+      target = ap (λ (h : List (ℕ × Heard)). heard_in h target) heard ∙ unheard;
+      asked = subst (λ (h : List (ℕ × Heard)). IfSome (asked_in w'.phase) (λ p. heard_in h p ≡ None)) (sym heard) asks.asked;
+      other = asks.other;
+    }) (Each-weaker (λ p. p.peer ≡ peer) (λ p. is_locked_in w' p.peer ≡ false) (λ p is. ap (λ (h : List (ℕ × Heard)). is_held (heard_in h p.peer)) heard ∙ (ap (is_locked_in w) is ∙ unheard_unlocked w peer none)) out.sends.items to)
+    (λ p other locked. inl (ap (λ (h : List (ℕ × Heard)). is_held (heard_in h p)) (sym heard) ∙ locked)) word
+
+said_to : (peer : ℕ) (o : Option Message) → Each (λ p. p.peer ≡ peer) (said_parcels peer o)
+said_to peer None = tt
+said_to peer (Some m) = (refl, tt)
+
+asks_by : (target peer time : ℕ) (w : Worker) (version : ℕ) (need : Need) (end : Option ℕ) → heard_in w.heard peer ≡ None → AsksApart target w.heard (first_request need w target time peer version end).phase
+asks_by target peer time w version need end none = by_peer (target == peer) refl end
+  where
+    by_version : (b : Bool) → AsksApart target w.heard (if b then record { kind = Talk (Some w.number); says = None; phase = phases.Ends (endings.OldProtocol version) } else record { kind = Talk (Some w.number); says = Some GetTimestamp; phase = phases.AsksTime }).phase
+    by_version true = record { asked = tt; other = tt }
+    by_version false = record { asked = tt; other = tt }
+
+    by_end : (e : Option ℕ) → AsksApart target w.heard (target_request need w target version e).phase
+    by_end None = record { asked = tt; other = tt }
+    by_end (Some e) = by_version (nat_lt version 3)
+
+    by_peer : (b : Bool) → (target == peer) ≡ b → (e : Option ℕ) → AsksApart target w.heard (if b then target_request need w target version e else record { kind = Talk (Some w.number); says = Some (LockContent w.job.key); phase = phases.AsksLock peer time }).phase
+    by_peer true is e = by_end e
+    by_peer false is e = record { asked = none; other = is }
+
+-- the first request to a peer
+pub request_apart : (own target time peer version : ℕ) (need : Need) (w w' : Worker) (end : Option ℕ) (result : Result Output NoMemory) → StandsApart target w → heard_in w.heard peer ≡ None
+    → IfOk result (Says (first_request need w target time peer version end) peer w w') → IfOk result (GoesApart own target w w')
+request_apart own target time peer version need w w' end (Ok out) apart none s =
+    let q : Request = first_request need w target time peer version end in
+    says_apart own target peer w w' out (ap (λ (v : Worker). v.heard) s.next) (λ other. ap (λ (v : Worker). v.word) s.next) apart.target none
+    (subst (λ (ph : Phase). AsksApart target w.heard ph) (sym (ap (λ (v : Worker). v.phase) s.next)) (asks_by target peer time w version need end none))
+    (subst (Each (λ p. p.peer ≡ peer)) (sym s.sends) (said_to peer q.says))
+request_apart own target time peer version need w w' end (Err e) apart none s = tt
+
+-- the order
+pub order_apart : (own target : ℕ) (need : Need) (w w' : Worker) (deadline : Option ℕ) (result : Result Output NoMemory) → StandsApart target w → IfOk result (Says (order_of need w target deadline) target w w') → IfOk result (GoesApart own target w w')
+order_apart own target need w w' deadline (Ok out) apart s =
+    says_apart own target target w w' out (ap (λ (v : Worker). v.heard) s.next) (λ other. ap (λ (v : Worker). v.word) s.next) apart.target apart.target
+    (subst (λ (ph : Phase). AsksApart target w.heard ph) (sym (ap (λ (v : Worker). v.phase) s.next)) (record { asked = tt; other = tt }))
+    (subst (Each (λ p. p.peer ≡ target)) (sym s.sends) (said_to target (order_of need w target deadline).says))
+order_apart own target need w w' deadline (Err e) apart s = tt
+
+-- ---- it hears of a peer
+
+-- the new lock, if it is one, is of the peer
+new_lock : (own p : ℕ) (h : Heard) (w w' : Worker) → w'.heard ≡ (p, h) ∷ w.heard → (is_held (Some (heard_as h)) ≡ true → (own == p) ≡ false → stands_on w ≡ Some p) → (peer : ℕ) → (own == peer) ≡ false → is_locked_in w' peer ≡ true
+    → (is_locked_in w peer ≡ true) ⊎ (stands_on w ≡ Some peer)
+new_lock own p h w w' heard stood peer other locked = elim (cases_Bool (p == peer)) [
+  | inl same ↦
+      let is : p ≡ peer = eqb-true p peer same in
+      let held : is_held (Some (heard_as h)) ≡ true = sym (ap is_held (heard_this p h w.heard)) ∙ (ap (λ (n : ℕ). is_held (heard_in ((p, h) ∷ w.heard) n)) is ∙ (ap (λ (l : List (ℕ × Heard)). is_held (heard_in l peer)) (sym heard) ∙ locked)) in
+      inr (stood held (ap (λ (n : ℕ). own == n) is ∙ other) ∙ ap (λ (n : ℕ). Some n) is)
+  | inr apart ↦ inl (ap is_held (sym (heard_other p peer h w.heard apart)) ∙ (ap (λ (l : List (ℕ × Heard)). is_held (heard_in l peer)) (sym heard) ∙ locked))
+]
+
+-- it says nothing, and then judges
+pub hears_apart : (own target p : ℕ) (h : Heard) (w w' : Worker) (out : Output) → w'.heard ≡ (p, h) ∷ w.heard → w'.phase ≡ phases.Next → w'.word ≡ w.word → heard_in w.heard target ≡ None → (target == p) ≡ false
+    → (is_held (Some (heard_as h)) ≡ true → (own == p) ≡ false → stands_on w ≡ Some p) → out.sends.items ≡ [] → GoesApart own target w w' out
+hears_apart own target p h w w' out heard phase word unheard other stood sends =
+    goes_apart own target w w' out (record {
+      target = ap (λ (l : List (ℕ × Heard)). heard_in l target) heard ∙ (heard_other p target h w.heard (flip target p other) ∙ unheard);
+      asked = subst (λ (ph : Phase). IfSome (asked_in ph) (λ peer. heard_in w'.heard peer ≡ None)) (sym phase) tt;
+      other = subst (λ (ph : Phase). IfSome (looked_in ph) (λ peer. (target == peer) ≡ false)) (sym phase) tt;
+    }) (subst (Each (λ q. is_locked_in w' q.peer ≡ false)) (sym sends) tt) (new_lock own p h w w' heard stood) (λ _. word)
+
+
+-- ---- a connection is closed
+
+-- by the worker or by the peer: nothing but a Close to the peer is sent
+pub parts_apart : (own target peer : ℕ) (w w' : Worker) (out : Output) → StandsApart target w → w' ≡ without_peer w target peer → Each (λ p. p.peer ≡ peer) out.sends.items → GoesApart own target w w' out
+parts_apart own target peer w w' out apart is to = go (target == peer) refl is
+  where
+    go : (b : Bool) → (target == peer) ≡ b → w' ≡ (if b then record w { phase = phases.Ends (endings.Lost (is_ordering w.phase)) } else record w { heard = (peer, heards.Lacks causes.Closed) ∷ w.heard; phase = phases.Next }) → GoesApart own target w w' out
+    go true same e =
+        says_apart own target target w w' out (ap (λ (v : Worker). v.heard) e) (λ _. ap (λ (v : Worker). v.word) e) apart.target apart.target
+        (subst (λ (ph : Phase). AsksApart target w.heard ph) (sym (ap (λ (v : Worker). v.phase) e)) (record { asked = tt; other = tt }))
+        (Each-weaker (λ p. p.peer ≡ peer) (λ p. p.peer ≡ target) (λ p at. at ∙ sym (eqb-true target peer same)) out.sends.items to)
+    go false other e =
+        let heard : w'.heard ≡ (peer, heards.Lacks causes.Closed) ∷ w.heard = ap (λ (v : Worker). v.heard) e in
+        let phase : w'.phase ≡ phases.Next = ap (λ (v : Worker). v.phase) e in
+        goes_apart own target w w' out (record {
+          target = ap (λ (l : List (ℕ × Heard)). heard_in l target) heard ∙ (heard_other peer target (heards.Lacks causes.Closed) w.heard (flip target peer other) ∙ apart.target);
+          asked = subst (λ (ph : Phase). IfSome (asked_in ph) (λ q. heard_in w'.heard q ≡ None)) (sym phase) tt;
+          other = subst (λ (ph : Phase). IfSome (looked_in ph) (λ q. (target == q) ≡ false)) (sym phase) tt;
+        })
+        (Each-weaker (λ p. p.peer ≡ peer) (λ p. is_locked_in w' p.peer ≡ false) (λ p at.
+            ap (λ (n : ℕ). is_locked_in w' n) at ∙ (ap (λ (l : List (ℕ × Heard)). is_held (heard_in l peer)) heard ∙ ap is_held (heard_this peer (heards.Lacks causes.Closed) w.heard))) out.sends.items to)
+        (new_lock own peer (heards.Lacks causes.Closed) w w' heard (λ held _. absurd (true≢false (sym held))))
+        (λ _. ap (λ (v : Worker). v.word) e)
+
+pub shuts_apart : (own target peer : ℕ) (w w' : Worker) (result : Result Output NoMemory) → StandsApart target w → IfOk result (ShutsRemote target peer w w') → IfOk result (GoesApart own target w w')
+shuts_apart own target peer w w' (Ok out) apart s = parts_apart own target peer w w' out apart s.next (subst (Each (λ p. p.peer ≡ peer)) (sym s.sends) (refl, tt))
+shuts_apart own target peer w w' (Err e) apart s = tt
+
+-- ---- its own repository
+
+pub passes_apart : (own target : ℕ) (bar : Option ℕ) (w w' : Worker) (result : Result Output NoMemory) → StandsApart target w → (target == own) ≡ false → IfOk result (PassesBy own bar w w') → IfOk result (GoesApart own target w w')
+passes_apart own target bar w w' (Ok out) apart other p =
+    hears_apart own target own (heards.Lacks (unshared_cause bar)) w w' out (ap (λ (v : Worker). v.heard) p.next) (ap (λ (v : Worker). v.phase) p.next) (ap (λ (v : Worker). v.word) p.next) apart.target other
+    (λ held _. absurd (true≢false (sym held))) p.sends
+passes_apart own target bar w w' (Err e) apart other p = tt
+
+module _ (own target : ℕ) (w u w' : Worker) (before : Heard) (was : u ≡ record w { heard = (own, before) ∷ w.heard; phase = phases.Next }) (apart : StandsApart target w) (other : (target == own) ≡ false) where
+  none_apart : (kind : EntryKind) (cause : Cause) (result : Result Output NoMemory) → IfOk result (GivesNone kind cause u w') × OnErr result ⊥ → IfOk result (GoesApart own target w w')
+  none_apart kind cause (Ok out) gives =
+      let next : w' ≡ record w { heard = (own, heards.Lacks cause) ∷ w.heard; phase = phases.Next } =
+          gives.0.next own before w.heard (ap (λ (v : Worker). v.heard) was) ∙ ap (λ (v : Worker). record v { heard = (own, heards.Lacks cause) ∷ w.heard }) was in
+      hears_apart own target own (heards.Lacks cause) w w' out (ap (λ (v : Worker). v.heard) next) (ap (λ (v : Worker). v.phase) next) (ap (λ (v : Worker). v.word) next) apart.target other
+      (λ held _. absurd (true≢false (sym held))) gives.0.sends
+  none_apart kind cause (Err e) gives = tt
+
+  -- why there is none
+  pub unshared_apart : (bar : Option ℕ) (why : ShareRefused) (result : Result Output NoMemory) → FollowsShareRefused bar why u w' result → IfOk result (GoesApart own target w w')
+  unshared_apart bar refused.Absent result is = none_apart (Talk (Some u.number)) (unshared_cause bar) result is
+  unshared_apart bar (refused.Barred job) result is = none_apart (Talk (Some u.number)) (unshared_cause bar) result is
+  unshared_apart bar (refused.StoreFault call) result is = none_apart (Fault call (by_job u.number)) causes.Fault result is
+  unshared_apart bar refused.NoMemory (Ok out) is = absurd is.0
+  unshared_apart bar refused.NoMemory (Err e) is = tt
+
+-- its own share: that is no lock of another repository
+pub shares_apart : (own target : ℕ) (h : Heard) (w w' : Worker) (out : Output) → StandsApart target w → (target == own) ≡ false → w'.heard ≡ (own, h) ∷ w.heard → w'.phase ≡ phases.Next → w'.word ≡ w.word → out.sends.items ≡ [] → GoesApart own target w w' out
+shares_apart own target h w w' out apart other heard phase word sends = hears_apart own target own h w w' out heard phase word apart.target other (λ held no. absurd (true≢false (sym (eqb_refl own) ∙ no))) sends
+
+-- ---- a share that couldn't be released
+
+unreleased_asks : (time target : ℕ) (w : Worker) (ph : Phase) → StandsApart target (record w { phase = ph }) → AsksApart target w.heard (unreleased_phase time ph)
+unreleased_asks time target w phases.Fresh apart = record { asked = tt; other = tt }
+unreleased_asks time target w phases.Next apart = record { asked = tt; other = tt }
+unreleased_asks time target w (phases.Opens peer) apart = record { asked = apart.asked; other = tt }
+unreleased_asks time target w (phases.Greets peer) apart = record { asked = apart.asked; other = tt }
+unreleased_asks time target w (phases.AsksLock peer since) apart = record { asked = apart.asked; other = apart.other }
+unreleased_asks time target w (phases.AsksLook peer) apart = record { asked = apart.asked; other = apart.other }
+unreleased_asks time target w phases.AsksTime apart = record { asked = tt; other = tt }
+unreleased_asks time target w phases.Orders apart = record { asked = tt; other = tt }
+unreleased_asks time target w phases.Removed apart = record { asked = tt; other = tt }
+unreleased_asks time target w phases.Denied apart = record { asked = tt; other = tt }
+unreleased_asks time target w (phases.Late late) apart = record { asked = tt; other = tt }
+unreleased_asks time target w (phases.Ends why) apart = record { asked = tt; other = tt }
+
+-- of a worker that had its share taken off
+pub unreleased_apart : (own target time : ℕ) (w v w' : Worker) (out : Output) → v.heard ≡ w.heard → v.phase ≡ w.phase → v.word ≡ w.word → StandsApart target w → FailsToRelease time v w' out → GoesApart own target w w' out
+unreleased_apart own target time w v w' out heard phase word apart f =
+    says_apart own target target w w' out (ap (λ (x : Worker). x.heard) f.next ∙ heard) (λ _. ap (λ (x : Worker). x.word) f.next ∙ word) apart.target apart.target
+    (subst (λ (ph : Phase). AsksApart target w.heard ph) (sym (ap (λ (x : Worker). x.phase) f.next ∙ ap (unreleased_phase time) phase))
+        (unreleased_asks time target w w.phase (record { target = apart.target; asked = apart.asked; other = apart.other })))
+    (subst (Each (λ p. p.peer ≡ target)) (sym f.sends) tt)
+
+-- ---- what a worker learns of versions changes none of it
+
+pub learnt_apart : (own target : ℕ) (w v w' : Worker) (result : Result Output NoMemory) → w'.heard ≡ v.heard → w'.phase ≡ v.phase → w'.word ≡ v.word → IfOk result (GoesApart own target w v) → IfOk result (GoesApart own target w w')
+learnt_apart own target w v w' (Ok out) heard phase word goes = record {
+  stands = λ on. let it = goes.stands on in record {
+    target = ap (λ (l : List (ℕ × Heard)). heard_in l target) heard ∙ it.target;
+    asked = subst (λ (ph : Phase). IfSome (asked_in ph) (λ peer. heard_in w'.heard peer ≡ None)) (sym phase)
+        (subst (λ (l : List (ℕ × Heard)). IfSome (asked_in v.phase) (λ peer. heard_in l peer ≡ None)) (sym heard) it.asked);
+    other = subst (λ (ph : Phase). IfSome (looked_in ph) (λ peer. (target == peer) ≡ false)) (sym phase) it.other;
+  };
+  locks = λ on peer other locked. goes.locks on peer other (ap (λ (l : List (ℕ × Heard)). is_held (heard_in l peer)) (sym heard) ∙ locked);
+  word = λ other. word ∙ goes.word other;
+}
+learnt_apart own target w v w' (Err e) heard phase word goes = tt
