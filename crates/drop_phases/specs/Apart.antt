@@ -27,7 +27,7 @@ looked_in phase = None
 
 -- it has heard nothing of its target, nor of a repository that it asks; and it asks its target for no copy
 pub record StandsApart (target : ℕ) (w : Worker) : Type 0 where
-  pub target : heard_in w.heard target ≡ None
+  pub unheard : heard_in w.heard target ≡ None
   pub asked : IfSome (asked_in w.phase) (λ peer. heard_in w.heard peer ≡ None)
   pub other : IfSome (looked_in w.phase) (λ peer. (target == peer) ≡ false)
 
@@ -43,6 +43,13 @@ pub record GoesApart (own target : ℕ) (w w' : Worker) (out : Output) : Type 0 
   pub locks : out.ended ≡ false → (peer : ℕ) → (own == peer) ≡ false → is_locked_in w' peer ≡ true
       → Each (λ p. (p.peer == peer) ≡ false) out.sends.items × ((is_locked_in w peer ≡ true) ⊎ (stands_on w ≡ Some peer))
   pub word : (w.phase ≡ phases.Orders → ⊥) → w'.word ≡ w.word
+
+-- the step keeps a remote drop apart where it stood so, in whichever repository; or in that of this number, unless it is the target
+abbrev pub StaysApart : ℕ → Worker → Worker → Output → Type 0
+StaysApart target w w' out = (own : ℕ) → StandsApart target w → GoesApart own target w w' out
+
+abbrev pub StaysApartIn : ℕ → ℕ → Worker → Worker → Output → Type 0
+StaysApartIn own target w w' out = (own == target) ≡ false → StandsApart target w → GoesApart own target w w' out
 
 -- of a drop on either side
 abbrev pub IsApart : Side → Option ℕ → Worker → Type 0

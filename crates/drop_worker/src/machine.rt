@@ -14,6 +14,7 @@ ghost use Rattle.content_lock.specs.Rows.{AreAfter, bar_at};
 ghost use Rattle.content_lock.specs.Stored.{Agrees, label_of};
 ghost use Rattle.drop_phases.specs.Working.{phase_as, sight};
 ghost use Rattle.drop_phases.specs.Doing.{Grows, HasToken, OthersStay, contents_after, is_barring};
+ghost use Rattle.drop_phases.specs.Apart.{GoesApartSo, IsApart, StaysApartIn};
 ghost use Rattle.drop_phases.specs.Begun.{CanStand, HasGone, IsOther};
 ghost use Rattle.drop_phases.specs.Feeding.{FitsLocal, IsOfLocal, KeepsAnswer, KeepsWord, ToldAt};
 ghost use Rattle.drop_phases.specs.Leaving.{Advances, Did, store};
@@ -71,6 +72,7 @@ pub fn step<K: Keeper, H: Here>(
     ensures fits { IfOk result (λ out. out.ended ≡ false → FitsSide (side_in worker.old) worker.new.phase worker.new.token) }
     ensures begun { IfOk result (λ out. CanStand (H.reading here.now) worker.old.phase → HasGone (H.reading here.now) worker.old worker.new out) }
     ensures own { IfOk result (λ out. out.ended ≡ false → HearsOwn (side_in worker.old) (H.reading here.now) worker.new) }
+    ensures apart { IfOk result (λ out. IsApart (side_in worker.old) worker.old.job.peer worker.old → GoesApartSo (side_in worker.old) worker.old.job.peer (H.reading here.now).repo worker.old worker.new out) }
     ensures job { (worker.new.number ≡ worker.old.number) × (worker.new.job ≡ worker.old.job) }
     ensures others { OthersStay worker.old.number table.old table.new }
     ensures err { OnErr result ((worker.new ≡ worker.old) × (table.new ≡ table.old) × (K.contents keeper.new ≡ K.contents keeper.old) × (K.records keeper.new ≡ K.records keeper.old)) }
@@ -104,6 +106,7 @@ fn advance<K: Keeper, H: Here>(
         (AdvancesSo (sight (H.reading here.now) (H.ends here.now) input.now.time input.now.number) (K.contents keeper.old) table.old table.new worker.old worker.new input.now.taken input.now.word) result }
     ensures begun { IfOk result (λ out. CanStand (H.reading here.now) worker.old.phase → HasGone (H.reading here.now) worker.old worker.new out) }
     ensures own { IfOk result (λ out. out.ended ≡ false → HearsOwn (side_in worker.old) (H.reading here.now) worker.new) }
+    ensures apart { IfOk result (λ out. IsApart (side_in worker.old) worker.old.job.peer worker.old → GoesApartSo (side_in worker.old) worker.old.job.peer (H.reading here.now).repo worker.old worker.new out) }
     ensures numbered { IfOk result (λ out. IsNumbered input.now.number out.kind) }
     ensures calls { MakesSo (sight (H.reading here.now) (H.ends here.now) input.now.time input.now.number) (K.contents keeper.old) table.old worker.old input.now.taken (K.failing keeper.old) (K.failing keeper.new) result }
     ensures parts { K.parts keeper.new ≡ K.parts keeper.old }
@@ -161,6 +164,7 @@ fn step_remote<K: Keeper, H: Here>(
         (AdvancesSo (sight (H.reading here.now) (H.ends here.now) input.now.time input.now.number) (K.contents keeper.old) table.old table.new worker.old worker.new input.now.taken input.now.word) result }
     ensures begun { IfOk result (λ out. CanStand (H.reading here.now) worker.old.phase → HasGone (H.reading here.now) worker.old worker.new out) }
     ensures own { IfOk result (λ out. out.ended ≡ false → HearsOwn sides.Remote (H.reading here.now) worker.new) }
+    ensures apart { IfOk result (StaysApartIn (H.reading here.now).repo target worker.old worker.new) }
     ensures numbered { IfOk result (λ out. IsNumbered input.now.number out.kind) }
     ensures calls { MakesSo (sight (H.reading here.now) (H.ends here.now) input.now.time input.now.number) (K.contents keeper.old) table.old worker.old input.now.taken (K.failing keeper.old) (K.failing keeper.new) result }
     ensures parts { K.parts keeper.new ≡ K.parts keeper.old }

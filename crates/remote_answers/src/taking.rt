@@ -3,6 +3,7 @@ ghost use Rattle.std.specs.Prelude.{◌≡◌, ◌<◌, ◌^◌, ℕ, [], false,
 ghost use Rattle.drop_proof.specs.Judging.{least_end};
 ghost use Rattle.node_model.specs.Jobs.{partner};
 ghost use Rattle.content_lock.specs.Rows.{Rows};
+ghost use Rattle.drop_phases.specs.Apart.{StaysApart};
 ghost use Rattle.drop_phases.specs.Working.{phase_as, sight};
 ghost use Rattle.drop_phases.specs.Doing.{Takes};
 ghost use Rattle.drop_phases.specs.Feeding.{FindsClosed, KeepsAnswer, KeepsWord, TakesClose, TakesOther};
@@ -47,6 +48,7 @@ pub fn hear<K: Keeper, H: Here>(
     ensures word { IfOk result (λ out. KeepsWord input.now.taken input.now.word worker.old worker.new) }
     ensures answer { IfOk result (λ out. KeepsAnswer input.now.taken input.now.word worker.old worker.new) }
     ensures begun { IfOk result (GoesWith peer worker.old worker.new) }
+    ensures apart { IfOk result (StaysApart target worker.old worker.new) }
     ensures numbered { IfOk result (λ out. (n : ℕ) → IsNumbered n out.kind) }
     ensures calls { (number : ℕ) → MakesFed (sight (H.reading here.now) (H.ends here.now) input.now.time number) table.old worker.old peer input.now.taken (K.failing keeper.old) (K.failing keeper.new) result }
     ensures parts { K.parts keeper.new ≡ K.parts keeper.old }
@@ -83,6 +85,7 @@ fn take_message<K: Keeper, H: Here>(
     ensures word { IfOk result (λ out. KeepsWord (Taken.Message message.now) input.now.word worker.old worker.new) }
     ensures answer { IfOk result (λ out. KeepsAnswer (Taken.Message message.now) input.now.word worker.old worker.new) }
     ensures begun { IfOk result (GoesWith peer worker.old worker.new) }
+    ensures apart { IfOk result (StaysApart target worker.old worker.new) }
     ensures numbered { IfOk result (λ out. (n : ℕ) → IsNumbered n out.kind) }
     ensures calls { (number : ℕ) → MakesFed (sight (H.reading here.now) (H.ends here.now) input.now.time number) table.old worker.old peer (Taken.Message message.now) (K.failing keeper.old) (K.failing keeper.new) result }
     ensures parts { K.parts keeper.new ≡ K.parts keeper.old }
@@ -122,6 +125,7 @@ fn take_time<K: Keeper, H: Here>(
     ensures did { DidRemote table.old table.new (store (K.contents keeper.old) (K.records keeper.old) (K.faults keeper.old)) (store (K.contents keeper.new) (K.records keeper.new) (K.faults keeper.new)) worker.old worker.new
         (TakesRemote (H.reading here.now) (H.ends here.now) time table.old table.new target (Taken.Message message.now) worker.old worker.new) result }
     ensures begun { IfOk result (GoesWith target worker.old worker.new) }
+    ensures apart { IfOk result (StaysApart target worker.old worker.new) }
     ensures numbered { IfOk result (λ out. (n : ℕ) → IsNumbered n out.kind) }
     ensures calls { (number : ℕ) → MakesFed (sight (H.reading here.now) (H.ends here.now) time number) table.old worker.old target (Taken.Message message.now) (K.failing keeper.old) (K.failing keeper.new) result }
     ensures parts { K.parts keeper.new ≡ K.parts keeper.old }
@@ -151,6 +155,7 @@ fn take_timestamp<K: Keeper, H: Here>(
     ensures did { DidRemote table.old table.new (store (K.contents keeper.old) (K.records keeper.old) (K.faults keeper.old)) (store (K.contents keeper.new) (K.records keeper.new) (K.faults keeper.new)) worker.old worker.new
         (TakesRemote (H.reading here.now) (H.ends here.now) time table.old table.new target (Taken.Message (Message.Timestamp now)) worker.old worker.new) result }
     ensures begun { IfOk result (GoesWith target worker.old worker.new) }
+    ensures apart { IfOk result (StaysApart target worker.old worker.new) }
     ensures numbered { IfOk result (λ out. (n : ℕ) → IsNumbered n out.kind) }
     ensures calls { (number : ℕ) → MakesFed (sight (H.reading here.now) (H.ends here.now) time number) table.old worker.old target (Taken.Message (Message.Timestamp now)) (K.failing keeper.old) (K.failing keeper.new) result }
     ensures parts { K.parts keeper.new ≡ K.parts keeper.old }
@@ -179,6 +184,7 @@ fn order_at<K: Keeper, H: Here>(
     ensures did { DidRemote table.old table.new (store (K.contents keeper.old) (K.records keeper.old) (K.faults keeper.old)) (store (K.contents keeper.new) (K.records keeper.new) (K.faults keeper.new)) worker.old worker.new
         (TakesRemote (H.reading here.now) (H.ends here.now) time table.old table.new target (Taken.Message (Message.Timestamp now)) worker.old worker.new) result }
     ensures begun { IfOk result (GoesWith target worker.old worker.new) }
+    ensures apart { IfOk result (StaysApart target worker.old worker.new) }
     ensures numbered { IfOk result (λ out. (n : ℕ) → IsNumbered n out.kind) }
     ensures calls { (number : ℕ) → MakesFed (sight (H.reading here.now) (H.ends here.now) time number) table.old worker.old target (Taken.Message (Message.Timestamp now)) (K.failing keeper.old) (K.failing keeper.new) result }
     ensures parts { K.parts keeper.new ≡ K.parts keeper.old }
@@ -211,6 +217,7 @@ fn order_before<K: Keeper, H: Here>(
     ensures did { DidRemote table.old table.new (store (K.contents keeper.old) (K.records keeper.old) (K.faults keeper.old)) (store (K.contents keeper.new) (K.records keeper.new) (K.faults keeper.new)) worker.old worker.new
         (TakesRemote (H.reading here.now) (H.ends here.now) time table.old table.new target (Taken.Message (Message.Timestamp now)) worker.old worker.new) result }
     ensures begun { IfOk result (GoesWith target worker.old worker.new) }
+    ensures apart { IfOk result (StaysApart target worker.old worker.new) }
     ensures numbered { IfOk result (λ out. (n : ℕ) → IsNumbered n out.kind) }
     ensures calls { (number : ℕ) → MakesFed (sight (H.reading here.now) (H.ends here.now) time number) table.old worker.old target (Taken.Message (Message.Timestamp now)) (K.failing keeper.old) (K.failing keeper.new) result }
     ensures parts { K.parts keeper.new ≡ K.parts keeper.old }
@@ -243,6 +250,7 @@ fn take_version<H: Here>(
     ensures does { IfOk result (λ out. (rows : Rows) → TakesRemote (H.reading here.now) (H.ends here.now) time rows rows peer (Taken.Message message.now) worker.old worker.new out) }
     ensures speaks { IfOk result (Speaks worker.old worker.new) }
     ensures begun { IfOk result (GoesWith peer worker.old worker.new) }
+    ensures apart { IfOk result (StaysApart target worker.old worker.new) }
     ensures err { OnErr result (worker.new ≡ worker.old) }
 {
     match message {
@@ -266,6 +274,7 @@ fn greet<H: Here>(
     ensures does { IfOk result (λ out. (rows : Rows) → TakesRemote (H.reading here.now) (H.ends here.now) time rows rows peer (Taken.Message (Message.Version version)) worker.old worker.new out) }
     ensures speaks { IfOk result (Speaks worker.old worker.new) }
     ensures begun { IfOk result (GoesWith peer worker.old worker.new) }
+    ensures apart { IfOk result (StaysApart target worker.old worker.new) }
     ensures err { OnErr result (worker.new ≡ worker.old) }
 {
     if version > 3 {
@@ -297,6 +306,7 @@ fn take_answer(
     ensures denied { IfOk result (λ out. message.now ≡ Message.Failure → worker.new.word ≡ word) }
     ensures speaks { IfOk result (Speaks worker.old worker.new) }
     ensures begun { IfOk result (GoesWith target worker.old worker.new) }
+    ensures apart { IfOk result (StaysApart target worker.old worker.new) }
     ensures err { OnErr result (worker.new ≡ worker.old) }
 {
     match message {
@@ -330,6 +340,7 @@ fn take_lock(
     ensures does { IfOk result (Takes time peer message.now worker.old worker.new) }
     ensures speaks { IfOk result (Speaks worker.old worker.new) }
     ensures begun { IfOk result (GoesWith peer worker.old worker.new) }
+    ensures apart { IfOk result (StaysApart target worker.old worker.new) }
     ensures err { OnErr result (worker.new ≡ worker.old) }
 {
     match message {
@@ -366,6 +377,7 @@ fn take_look(
     ensures word { IfOk result (λ out. KeepsWord (Taken.Message message.now) word worker.old worker.new) }
     ensures speaks { IfOk result (Speaks worker.old worker.new) }
     ensures begun { IfOk result (GoesWith peer worker.old worker.new) }
+    ensures apart { IfOk result (StaysApart target worker.old worker.new) }
     ensures err { OnErr result (worker.new ≡ worker.old) }
 {
     match message {
@@ -395,6 +407,7 @@ fn take_opened(
     ensures does { IfOk result (Takes time peer message.now worker.old worker.new) }
     ensures speaks { IfOk result (Speaks worker.old worker.new) }
     ensures begun { IfOk result (GoesWith peer worker.old worker.new) }
+    ensures apart { IfOk result (StaysApart target worker.old worker.new) }
     ensures err { OnErr result (worker.new ≡ worker.old) }
 {
     match message {
@@ -422,6 +435,7 @@ fn take_other(
     ensures does { IfOk result (TakesOther peer worker.old worker.new) }
     ensures speaks { IfOk result (Speaks worker.old worker.new) }
     ensures begun { IfOk result (GoesWith peer worker.old worker.new) }
+    ensures apart { IfOk result (StaysApart target worker.old worker.new) }
     ensures err { OnErr result (worker.new ≡ worker.old) }
 {
     shut(worker, alloc, target, peer)
@@ -435,6 +449,7 @@ fn close(worker: &mut Worker, alloc: Global, target: u32, peer: u32) -> Result<O
     ensures here { IfOk result (FindsClosed peer worker.old worker.new) }
     ensures speaks { IfOk result (Speaks worker.old worker.new) }
     ensures begun { IfOk result (GoesWith peer worker.old worker.new) }
+    ensures apart { IfOk result (StaysApart target worker.old worker.new) }
     ensures err { OnErr result (worker.new ≡ worker.old) }
 {
     part(worker, target, peer)?;

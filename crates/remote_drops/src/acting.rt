@@ -11,7 +11,8 @@ ghost use Rattle.node_model.specs.Knows.{denial_of, obeyed_outcome};
 ghost use Rattle.node_model.specs.Requests.{goes_to};
 ghost use Rattle.node_model.specs.Turns.{outcome_of};
 ghost use Rattle.content_lock.specs.Rows.{Rows, bar_at};
-ghost use Rattle.drop_phases.specs.Working.{Rest, outcome_as, phase_as, sight, turn_in};
+ghost use Rattle.drop_phases.specs.Apart.{StaysApart, StaysApartIn};
+ghost use Rattle.drop_phases.specs.Working.{Rest, heard_in, outcome_as, phase_as, sight, turn_in};
 ghost use Rattle.drop_phases.specs.Doing.{Acts};
 ghost use Rattle.drop_phases.specs.Leaving.{GoesSo, stands_on, store};
 ghost use Rattle.remote_requests.specs.Remote.{DidRemote, GivesNone, IsRemote, PassesBy, Speaks, StandsRemote, FollowsShareRefused, known_remotely, remote_candidates};
@@ -50,6 +51,7 @@ pub fn act<K: Keeper, H: Here>(
     ensures did { DidRemote table.old table.new (store (K.contents keeper.old) (K.records keeper.old) (K.faults keeper.old)) (store (K.contents keeper.new) (K.records keeper.new) (K.faults keeper.new)) worker.old worker.new
         (GoesSo (sight (H.reading here.now) (H.ends here.now) input.now.time input.now.number) (K.contents keeper.old) table.old table.new worker.old worker.new) result }
     ensures begun { IfOk result (λ out. CanStand (H.reading here.now) worker.old.phase → HasGone (H.reading here.now) worker.old worker.new out) }
+    ensures apart { IfOk result (StaysApartIn (H.reading here.now).repo target worker.old worker.new) }
     ensures own { IfOk result (λ out. out.ended ≡ false → HearsOwn sides.Remote (H.reading here.now) worker.new) }
     ensures numbered { IfOk result (λ out. IsNumbered input.now.number out.kind) }
     ensures calls { MakesPhase (sight (H.reading here.now) (H.ends here.now) input.now.time input.now.number) (K.contents keeper.old) table.old worker.old (K.failing keeper.old) (K.failing keeper.new) result }
@@ -85,6 +87,7 @@ fn begin<K: Keeper, H: Here>(
     ensures did { DidRemote table.old table.new (store (K.contents keeper.old) (K.records keeper.old) (K.faults keeper.old)) (store (K.contents keeper.new) (K.records keeper.new) (K.faults keeper.new)) worker.old worker.new
         (GoesSo (sight (H.reading here.now) (H.ends here.now) input.now.time input.now.number) (K.contents keeper.old) table.old table.new worker.old worker.new) result }
     ensures begun { IfOk result (λ out. CanStand (H.reading here.now) worker.old.phase → HasGone (H.reading here.now) worker.old worker.new out) }
+    ensures apart { IfOk result (StaysApartIn (H.reading here.now).repo target worker.old worker.new) }
     ensures own { IfOk result (λ out. out.ended ≡ false → HearsOwn sides.Remote (H.reading here.now) worker.new) }
     ensures numbered { IfOk result (λ out. IsNumbered input.now.number out.kind) }
     ensures calls { MakesPhase (sight (H.reading here.now) (H.ends here.now) input.now.time input.now.number) (K.contents keeper.old) table.old worker.old (K.failing keeper.old) (K.failing keeper.new) result }
@@ -114,6 +117,7 @@ fn end_required<K: Keeper, H: Here>(
     ensures did { (number : ℕ) → DidRemote table.old table.new (store (K.contents keeper.old) (K.records keeper.old) (K.faults keeper.old)) (store (K.contents keeper.new) (K.records keeper.new) (K.faults keeper.new)) worker.old worker.new
         (GoesSo (sight (H.reading here.now) (H.ends here.now) time number) (K.contents keeper.old) table.old table.new worker.old worker.new) result }
     ensures begun { IfOk result (λ out. CanStand (H.reading here.now) worker.old.phase → HasGone (H.reading here.now) worker.old worker.new out) }
+    ensures apart { IfOk result (StaysApart target worker.old worker.new) }
     ensures ended { IfOk result (λ out. out.ended ≡ true) }
     ensures numbered { IfOk result (λ out. (n : ℕ) → IsNumbered n out.kind) }
     ensures calls { (number : ℕ) → MakesPhase (sight (H.reading here.now) (H.ends here.now) time number) (K.contents keeper.old) table.old worker.old (K.failing keeper.old) (K.failing keeper.new) result }
@@ -150,6 +154,7 @@ fn try_own<K: Keeper, H: Here>(
     ensures did { DidRemote table.old table.new (store (K.contents keeper.old) (K.records keeper.old) (K.faults keeper.old)) (store (K.contents keeper.new) (K.records keeper.new) (K.faults keeper.new)) worker.old worker.new
         (GoesSo (sight (H.reading here.now) (H.ends here.now) input.now.time input.now.number) (K.contents keeper.old) table.old table.new worker.old worker.new) result }
     ensures begun { IfOk result (λ out. CanStand (H.reading here.now) worker.old.phase → HasGone (H.reading here.now) worker.old worker.new out) }
+    ensures apart { IfOk result (StaysApartIn (H.reading here.now).repo target worker.old worker.new) }
     ensures own { IfOk result (λ out. out.ended ≡ false → HearsOwn sides.Remote (H.reading here.now) worker.new) }
     ensures numbered { IfOk result (λ out. IsNumbered input.now.number out.kind) }
     ensures calls { MakesPhase (sight (H.reading here.now) (H.ends here.now) input.now.time input.now.number) (K.contents keeper.old) table.old worker.old (K.failing keeper.old) (K.failing keeper.new) result }
@@ -206,6 +211,7 @@ fn share_own<K: Keeper, H: Here>(
     ensures did { DidRemote table.old table.new (store (K.contents keeper.old) (K.records keeper.old) (K.faults keeper.old)) (store (K.contents keeper.new) (K.records keeper.new) (K.faults keeper.new)) worker.old worker.new
         (GoesSo (sight (H.reading here.now) (H.ends here.now) input.now.time input.now.number) (K.contents keeper.old) table.old table.new worker.old worker.new) result }
     ensures begun { IfOk result (λ out. CanStand (H.reading here.now) worker.old.phase → HasGone (H.reading here.now) worker.old worker.new out) }
+    ensures apart { IfOk result (StaysApartIn (H.reading here.now).repo target worker.old worker.new) }
     ensures own { IfOk result (λ out. out.ended ≡ false → HearsOwn sides.Remote (H.reading here.now) worker.new) }
     ensures numbered { IfOk result (λ out. IsNumbered input.now.number out.kind) }
     ensures calls { MakesPhase (sight (H.reading here.now) (H.ends here.now) input.now.time input.now.number) (K.contents keeper.old) table.old worker.old (K.failing keeper.old) (K.failing keeper.new) result }
@@ -281,6 +287,7 @@ fn go_on<K: Keeper, H: Here>(
     ensures did { (number : ℕ) → DidRemote table.old table.new (store (K.contents keeper.old) (K.records keeper.old) (K.faults keeper.old)) (store (K.contents keeper.new) (K.records keeper.new) (K.faults keeper.new)) worker.old worker.new
         (GoesSo (sight (H.reading here.now) (H.ends here.now) time number) (K.contents keeper.old) table.old table.new worker.old worker.new) result }
     ensures begun { IfOk result (λ out. CanStand (H.reading here.now) worker.old.phase → HasGone (H.reading here.now) worker.old worker.new out) }
+    ensures apart { IfOk result (StaysApart target worker.old worker.new) }
     ensures numbered { IfOk result (λ out. (n : ℕ) → IsNumbered n out.kind) }
     ensures calls { (number : ℕ) → MakesPhase (sight (H.reading here.now) (H.ends here.now) time number) (K.contents keeper.old) table.old worker.old (K.failing keeper.old) (K.failing keeper.new) result }
     ensures parts { K.parts keeper.new ≡ K.parts keeper.old }
@@ -352,6 +359,7 @@ fn go_to<H: Here>(
     ensures does { IfOk result (λ out. (rows : Rows) → Acts (H.reading here.now) (H.ends here.now) time rows rows worker.old worker.new (λ t. goes_to t peer) out) }
     ensures speaks { IfOk result (Speaks worker.old worker.new) }
     ensures begun { IfOk result (HasGone (H.reading here.now) worker.old worker.new) }
+    ensures apart { IfOk result (λ out. heard_in worker.old.heard peer ≡ None → StaysApart target worker.old worker.new out) }
     ensures err { OnErr result (worker.new ≡ worker.old) }
 {
     if !here.is_open(peer, worker.slot()) {

@@ -12,14 +12,16 @@ use Rattle.run_data.specs.declared.job.Cause.{Cause}
 use Rattle.run_data.specs.declared.job.Cause.TheVariants as causes
 use Rattle.p2p_wire.specs.declared.message.Message.{Message}
 use Rattle.p2p_wire.specs.declared.message.Message.TheVariants.{GetTimestamp, LockContent}
+use Rattle.node_model.specs.Evidence.{Standing, Asked, Claimed, Ignored}
 use Rattle.node_model.specs.Jobs as Jobs
 use Rattle.node_model.specs.Jobs.{unshared_cause}
 use Rattle.node_model.specs.JobStep.{is_held}
+use Rattle.node_model.specs.Knows.{is_unasked}
 use Rattle.content_lock.specs.declared.refusals.ShareRefused.{ShareRefused}
 use Rattle.content_lock.specs.declared.refusals.ShareRefused.TheVariants as refused
 use Rattle.run_data.specs.declared.entry.By.TheVariants.{Job as by_job}
 use Rattle.run_data.specs.declared.entry.EntryKind.TheVariants.{Fault, Talk}
-use Rattle.drop_phases.specs.Apart.{GoesApart, StandsApart, asked_in, is_locked_in, looked_in}
+use Rattle.drop_phases.specs.Apart.{GoesApart, StandsApart, StaysApart, StaysApartIn, asked_in, is_locked_in, looked_in}
 use Rattle.drop_phases.specs.Leaving.{stands_on}
 use Rattle.drop_phases.specs.Worker.{Worker}
 use Rattle.drop_phases.specs.Working.{heard_as, heard_in}
@@ -90,7 +92,7 @@ pub says_apart : (own target peer : ℕ) (w w' : Worker) (out : Output) → w'.h
     → Each (λ p. p.peer ≡ peer) out.sends.items → GoesApart own target w w' out
 says_apart own target peer w w' out heard word unheard none asks to =
     goes_apart own target w w' out (record {
-      target = ap (λ (h : List (ℕ × Heard)). heard_in h target) heard ∙ unheard;
+      unheard = ap (λ (h : List (ℕ × Heard)). heard_in h target) heard ∙ unheard;
       asked = subst (λ (h : List (ℕ × Heard)). IfSome (asked_in w'.phase) (λ p. heard_in h p ≡ None)) (sym heard) asks.asked;
       other = asks.other;
     }) (Each-weaker (λ p. p.peer ≡ peer) (λ p. is_locked_in w' p.peer ≡ false) (λ p is. ap (λ (h : List (ℕ × Heard)). is_held (heard_in h p.peer)) heard ∙ (ap (is_locked_in w) is ∙ unheard_unlocked w peer none)) out.sends.items to)
@@ -116,22 +118,21 @@ asks_by target peer time w version need end none = by_peer (target == peer) refl
     by_peer false is e = record { asked = none; other = is }
 
 -- the first request to a peer
-pub request_apart : (own target time peer version : ℕ) (need : Need) (w w' : Worker) (end : Option ℕ) (result : Result Output NoMemory) → StandsApart target w → heard_in w.heard peer ≡ None
-    → IfOk result (Says (first_request need w target time peer version end) peer w w') → IfOk result (GoesApart own target w w')
-request_apart own target time peer version need w w' end (Ok out) apart none s =
-    let q : Request = first_request need w target time peer version end in
-    says_apart own target peer w w' out (ap (λ (v : Worker). v.heard) s.next) (λ other. ap (λ (v : Worker). v.word) s.next) apart.target none
+pub request_stays : (target time peer version : ℕ) (need : Need) (w w' : Worker) (end : Option ℕ) (result : Result Output NoMemory) → IfOk result (Says (first_request need w target time peer version end) peer w w')
+    → IfOk result (λ out. heard_in w.heard peer ≡ None → StaysApart target w w' out)
+request_stays target time peer version need w w' end (Ok out) s = λ none own apart.
+    says_apart own target peer w w' out (ap (λ (v : Worker). v.heard) s.next) (λ other. ap (λ (v : Worker). v.word) s.next) apart.unheard none
     (subst (λ (ph : Phase). AsksApart target w.heard ph) (sym (ap (λ (v : Worker). v.phase) s.next)) (asks_by target peer time w version need end none))
-    (subst (Each (λ p. p.peer ≡ peer)) (sym s.sends) (said_to peer q.says))
-request_apart own target time peer version need w w' end (Err e) apart none s = tt
+    (subst (Each (λ p. p.peer ≡ peer)) (sym s.sends) (said_to peer (first_request need w target time peer version end).says))
+request_stays target time peer version need w w' end (Err e) s = tt
 
 -- the order
-pub order_apart : (own target : ℕ) (need : Need) (w w' : Worker) (deadline : Option ℕ) (result : Result Output NoMemory) → StandsApart target w → IfOk result (Says (order_of need w target deadline) target w w') → IfOk result (GoesApart own target w w')
-order_apart own target need w w' deadline (Ok out) apart s =
-    says_apart own target target w w' out (ap (λ (v : Worker). v.heard) s.next) (λ other. ap (λ (v : Worker). v.word) s.next) apart.target apart.target
+pub order_stays : (target : ℕ) (need : Need) (w w' : Worker) (deadline : Option ℕ) (result : Result Output NoMemory) → IfOk result (Says (order_of need w target deadline) target w w') → IfOk result (StaysApart target w w')
+order_stays target need w w' deadline (Ok out) s = λ own apart.
+    says_apart own target target w w' out (ap (λ (v : Worker). v.heard) s.next) (λ other. ap (λ (v : Worker). v.word) s.next) apart.unheard apart.unheard
     (subst (λ (ph : Phase). AsksApart target w.heard ph) (sym (ap (λ (v : Worker). v.phase) s.next)) (record { asked = tt; other = tt }))
     (subst (Each (λ p. p.peer ≡ target)) (sym s.sends) (said_to target (order_of need w target deadline).says))
-order_apart own target need w w' deadline (Err e) apart s = tt
+order_stays target need w w' deadline (Err e) s = tt
 
 -- ---- it hears of a peer
 
@@ -151,7 +152,7 @@ pub hears_apart : (own target p : ℕ) (h : Heard) (w w' : Worker) (out : Output
     → (is_held (Some (heard_as h)) ≡ true → (own == p) ≡ false → stands_on w ≡ Some p) → out.sends.items ≡ [] → GoesApart own target w w' out
 hears_apart own target p h w w' out heard phase word unheard other stood sends =
     goes_apart own target w w' out (record {
-      target = ap (λ (l : List (ℕ × Heard)). heard_in l target) heard ∙ (heard_other p target h w.heard (flip target p other) ∙ unheard);
+      unheard = ap (λ (l : List (ℕ × Heard)). heard_in l target) heard ∙ (heard_other p target h w.heard (flip target p other) ∙ unheard);
       asked = subst (λ (ph : Phase). IfSome (asked_in ph) (λ peer. heard_in w'.heard peer ≡ None)) (sym phase) tt;
       other = subst (λ (ph : Phase). IfSome (looked_in ph) (λ peer. (target == peer) ≡ false)) (sym phase) tt;
     }) (subst (Each (λ q. is_locked_in w' q.peer ≡ false)) (sym sends) tt) (new_lock own p h w w' heard stood) (λ _. word)
@@ -165,14 +166,14 @@ parts_apart own target peer w w' out apart is to = go (target == peer) refl is
   where
     go : (b : Bool) → (target == peer) ≡ b → w' ≡ (if b then record w { phase = phases.Ends (endings.Lost (is_ordering w.phase)) } else record w { heard = (peer, heards.Lacks causes.Closed) ∷ w.heard; phase = phases.Next }) → GoesApart own target w w' out
     go true same e =
-        says_apart own target target w w' out (ap (λ (v : Worker). v.heard) e) (λ _. ap (λ (v : Worker). v.word) e) apart.target apart.target
+        says_apart own target target w w' out (ap (λ (v : Worker). v.heard) e) (λ _. ap (λ (v : Worker). v.word) e) apart.unheard apart.unheard
         (subst (λ (ph : Phase). AsksApart target w.heard ph) (sym (ap (λ (v : Worker). v.phase) e)) (record { asked = tt; other = tt }))
         (Each-weaker (λ p. p.peer ≡ peer) (λ p. p.peer ≡ target) (λ p at. at ∙ sym (eqb-true target peer same)) out.sends.items to)
     go false other e =
         let heard : w'.heard ≡ (peer, heards.Lacks causes.Closed) ∷ w.heard = ap (λ (v : Worker). v.heard) e in
         let phase : w'.phase ≡ phases.Next = ap (λ (v : Worker). v.phase) e in
         goes_apart own target w w' out (record {
-          target = ap (λ (l : List (ℕ × Heard)). heard_in l target) heard ∙ (heard_other peer target (heards.Lacks causes.Closed) w.heard (flip target peer other) ∙ apart.target);
+          unheard = ap (λ (l : List (ℕ × Heard)). heard_in l target) heard ∙ (heard_other peer target (heards.Lacks causes.Closed) w.heard (flip target peer other) ∙ apart.unheard);
           asked = subst (λ (ph : Phase). IfSome (asked_in ph) (λ q. heard_in w'.heard q ≡ None)) (sym phase) tt;
           other = subst (λ (ph : Phase). IfSome (looked_in ph) (λ q. (target == q) ≡ false)) (sym phase) tt;
         })
@@ -181,38 +182,39 @@ parts_apart own target peer w w' out apart is to = go (target == peer) refl is
         (new_lock own peer (heards.Lacks causes.Closed) w w' heard (λ held _. absurd (true≢false (sym held))))
         (λ _. ap (λ (v : Worker). v.word) e)
 
-pub shuts_apart : (own target peer : ℕ) (w w' : Worker) (result : Result Output NoMemory) → StandsApart target w → IfOk result (ShutsRemote target peer w w') → IfOk result (GoesApart own target w w')
-shuts_apart own target peer w w' (Ok out) apart s = parts_apart own target peer w w' out apart s.next (subst (Each (λ p. p.peer ≡ peer)) (sym s.sends) (refl, tt))
-shuts_apart own target peer w w' (Err e) apart s = tt
+pub shuts_stays : (target peer : ℕ) (w w' : Worker) (result : Result Output NoMemory) → IfOk result (ShutsRemote target peer w w') → IfOk result (StaysApart target w w')
+shuts_stays target peer w w' (Ok out) s = λ own apart. parts_apart own target peer w w' out apart s.next (subst (Each (λ p. p.peer ≡ peer)) (sym s.sends) (refl, tt))
+shuts_stays target peer w w' (Err e) s = tt
 
 -- ---- its own repository
 
-pub passes_apart : (own target : ℕ) (bar : Option ℕ) (w w' : Worker) (result : Result Output NoMemory) → StandsApart target w → (target == own) ≡ false → IfOk result (PassesBy own bar w w') → IfOk result (GoesApart own target w w')
-passes_apart own target bar w w' (Ok out) apart other p =
-    hears_apart own target own (heards.Lacks (unshared_cause bar)) w w' out (ap (λ (v : Worker). v.heard) p.next) (ap (λ (v : Worker). v.phase) p.next) (ap (λ (v : Worker). v.word) p.next) apart.target other
+pub passes_stays : (own target : ℕ) (bar : Option ℕ) (w w' : Worker) (result : Result Output NoMemory) → IfOk result (PassesBy own bar w w') → IfOk result (StaysApartIn own target w w')
+passes_stays own target bar w w' (Ok out) p = λ other apart.
+    hears_apart own target own (heards.Lacks (unshared_cause bar)) w w' out (ap (λ (v : Worker). v.heard) p.next) (ap (λ (v : Worker). v.phase) p.next) (ap (λ (v : Worker). v.word) p.next) apart.unheard (flip own target other)
     (λ held _. absurd (true≢false (sym held))) p.sends
-passes_apart own target bar w w' (Err e) apart other p = tt
+passes_stays own target bar w w' (Err e) p = tt
 
-module _ (own target : ℕ) (w u w' : Worker) (before : Heard) (was : u ≡ record w { heard = (own, before) ∷ w.heard; phase = phases.Next }) (apart : StandsApart target w) (other : (target == own) ≡ false) where
-  none_apart : (kind : EntryKind) (cause : Cause) (result : Result Output NoMemory) → IfOk result (GivesNone kind cause u w') × OnErr result ⊥ → IfOk result (GoesApart own target w w')
-  none_apart kind cause (Ok out) gives =
+module _ (own target : ℕ) (w u w' : Worker) (before : Heard) (was : u ≡ record w { heard = (own, before) ∷ w.heard; phase = phases.Next }) where
+  none_stays : (kind : EntryKind) (cause : Cause) (result : Result Output NoMemory) → IfOk result (GivesNone kind cause u w') × OnErr result ⊥ → IfOk result (StaysApartIn own target w w')
+  none_stays kind cause (Ok out) gives = λ other apart.
       let next : w' ≡ record w { heard = (own, heards.Lacks cause) ∷ w.heard; phase = phases.Next } =
           gives.0.next own before w.heard (ap (λ (v : Worker). v.heard) was) ∙ ap (λ (v : Worker). record v { heard = (own, heards.Lacks cause) ∷ w.heard }) was in
-      hears_apart own target own (heards.Lacks cause) w w' out (ap (λ (v : Worker). v.heard) next) (ap (λ (v : Worker). v.phase) next) (ap (λ (v : Worker). v.word) next) apart.target other
+      hears_apart own target own (heards.Lacks cause) w w' out (ap (λ (v : Worker). v.heard) next) (ap (λ (v : Worker). v.phase) next) (ap (λ (v : Worker). v.word) next) apart.unheard (flip own target other)
       (λ held _. absurd (true≢false (sym held))) gives.0.sends
-  none_apart kind cause (Err e) gives = tt
+  none_stays kind cause (Err e) gives = tt
 
   -- why there is none
-  pub unshared_apart : (bar : Option ℕ) (why : ShareRefused) (result : Result Output NoMemory) → FollowsShareRefused bar why u w' result → IfOk result (GoesApart own target w w')
-  unshared_apart bar refused.Absent result is = none_apart (Talk (Some u.number)) (unshared_cause bar) result is
-  unshared_apart bar (refused.Barred job) result is = none_apart (Talk (Some u.number)) (unshared_cause bar) result is
-  unshared_apart bar (refused.StoreFault call) result is = none_apart (Fault call (by_job u.number)) causes.Fault result is
-  unshared_apart bar refused.NoMemory (Ok out) is = absurd is.0
-  unshared_apart bar refused.NoMemory (Err e) is = tt
+  pub unshared_stays : (bar : Option ℕ) (why : ShareRefused) (result : Result Output NoMemory) → FollowsShareRefused bar why u w' result → IfOk result (StaysApartIn own target w w')
+  unshared_stays bar refused.Absent result is = none_stays (Talk (Some u.number)) (unshared_cause bar) result is
+  unshared_stays bar (refused.Barred job) result is = none_stays (Talk (Some u.number)) (unshared_cause bar) result is
+  unshared_stays bar (refused.StoreFault call) result is = none_stays (Fault call (by_job u.number)) causes.Fault result is
+  unshared_stays bar refused.NoMemory (Ok out) is = absurd is.0
+  unshared_stays bar refused.NoMemory (Err e) is = tt
 
 -- its own share: that is no lock of another repository
-pub shares_apart : (own target : ℕ) (h : Heard) (w w' : Worker) (out : Output) → StandsApart target w → (target == own) ≡ false → w'.heard ≡ (own, h) ∷ w.heard → w'.phase ≡ phases.Next → w'.word ≡ w.word → out.sends.items ≡ [] → GoesApart own target w w' out
-shares_apart own target h w w' out apart other heard phase word sends = hears_apart own target own h w w' out heard phase word apart.target other (λ held no. absurd (true≢false (sym (eqb_refl own) ∙ no))) sends
+pub shares_stays : (own target : ℕ) (h : Heard) (w w' : Worker) (out : Output) → w'.heard ≡ (own, h) ∷ w.heard → w'.phase ≡ phases.Next → w'.word ≡ w.word → out.sends.items ≡ [] → StaysApartIn own target w w' out
+shares_stays own target h w w' out heard phase word sends = λ other apart.
+    hears_apart own target own h w w' out heard phase word apart.unheard (flip own target other) (λ held no. absurd (true≢false (sym (eqb_refl own) ∙ no))) sends
 
 -- ---- a share that couldn't be released
 
@@ -233,17 +235,17 @@ unreleased_asks time target w (phases.Ends why) apart = record { asked = tt; oth
 -- of a worker that had its share taken off
 pub unreleased_apart : (own target time : ℕ) (w v w' : Worker) (out : Output) → v.heard ≡ w.heard → v.phase ≡ w.phase → v.word ≡ w.word → StandsApart target w → FailsToRelease time v w' out → GoesApart own target w w' out
 unreleased_apart own target time w v w' out heard phase word apart f =
-    says_apart own target target w w' out (ap (λ (x : Worker). x.heard) f.next ∙ heard) (λ _. ap (λ (x : Worker). x.word) f.next ∙ word) apart.target apart.target
+    says_apart own target target w w' out (ap (λ (x : Worker). x.heard) f.next ∙ heard) (λ _. ap (λ (x : Worker). x.word) f.next ∙ word) apart.unheard apart.unheard
     (subst (λ (ph : Phase). AsksApart target w.heard ph) (sym (ap (λ (x : Worker). x.phase) f.next ∙ ap (unreleased_phase time) phase))
-        (unreleased_asks time target w w.phase (record { target = apart.target; asked = apart.asked; other = apart.other })))
+        (unreleased_asks time target w w.phase (record { unheard = apart.unheard; asked = apart.asked; other = apart.other })))
     (subst (Each (λ p. p.peer ≡ target)) (sym f.sends) tt)
 
 -- ---- what a worker learns of versions changes none of it
 
-pub learnt_apart : (own target : ℕ) (w v w' : Worker) (result : Result Output NoMemory) → w'.heard ≡ v.heard → w'.phase ≡ v.phase → w'.word ≡ v.word → IfOk result (GoesApart own target w v) → IfOk result (GoesApart own target w w')
-learnt_apart own target w v w' (Ok out) heard phase word goes = record {
+pub learnt_stays : (target : ℕ) (w v w' : Worker) (result : Result Output NoMemory) → w'.heard ≡ v.heard → w'.phase ≡ v.phase → w'.word ≡ v.word → IfOk result (StaysApart target w v) → IfOk result (StaysApart target w w')
+learnt_stays target w v w' (Ok out) heard phase word stays = λ own apart. let goes = stays own apart in record {
   stands = λ on. let it = goes.stands on in record {
-    target = ap (λ (l : List (ℕ × Heard)). heard_in l target) heard ∙ it.target;
+    unheard = ap (λ (l : List (ℕ × Heard)). heard_in l target) heard ∙ it.unheard;
     asked = subst (λ (ph : Phase). IfSome (asked_in ph) (λ peer. heard_in w'.heard peer ≡ None)) (sym phase)
         (subst (λ (l : List (ℕ × Heard)). IfSome (asked_in v.phase) (λ peer. heard_in l peer ≡ None)) (sym heard) it.asked);
     other = subst (λ (ph : Phase). IfSome (looked_in ph) (λ peer. (target == peer) ≡ false)) (sym phase) it.other;
@@ -251,4 +253,61 @@ learnt_apart own target w v w' (Ok out) heard phase word goes = record {
   locks = λ on peer other locked. goes.locks on peer other (ap (λ (l : List (ℕ × Heard)). is_held (heard_in l peer)) (sym heard) ∙ locked);
   word = λ other. word ∙ goes.word other;
 }
-learnt_apart own target w v w' (Err e) heard phase word goes = tt
+learnt_stays target w v w' (Err e) heard phase word stays = tt
+
+-- ---- from what a function says
+
+pub stays_in : (own target : ℕ) (w w' : Worker) (result : Result Output NoMemory) → IfOk result (StaysApart target w w') → IfOk result (StaysApartIn own target w w')
+stays_in own target w w' (Ok out) stays = λ other apart. stays own apart
+stays_in own target w w' (Err e) stays = tt
+
+pub end_stays : (target : ℕ) (w w' : Worker) (result : Result Output NoMemory) → IfOk result (λ out. (t : ℕ) → StaysApart t w w' out) → IfOk result (StaysApart target w w')
+end_stays target w w' (Ok out) stays = stays target
+end_stays target w w' (Err e) stays = tt
+
+-- a target is one of which nothing was heard
+pub to_target : (target : ℕ) (w w' : Worker) (result : Result Output NoMemory) → IfOk result (λ out. heard_in w.heard target ≡ None → StaysApart target w w' out) → IfOk result (StaysApart target w w')
+to_target target w w' (Ok out) stays = λ own apart. stays apart.unheard own apart
+to_target target w w' (Err e) stays = tt
+
+pub to_unheard : (target peer : ℕ) (w w' : Worker) (result : Result Output NoMemory) → heard_in w.heard peer ≡ None → IfOk result (λ out. heard_in w.heard peer ≡ None → StaysApart target w w' out) → IfOk result (StaysApart target w w')
+to_unheard target peer w w' (Ok out) none stays = stays none
+to_unheard target peer w w' (Err e) none stays = tt
+
+-- and so is a candidate that is still to be asked
+pub unasked_unheard : (s : Standing) (o : Option Jobs.Heard) → is_unasked s o ≡ true → o ≡ None
+unasked_unheard Asked None is = refl
+unasked_unheard Asked (Some h) is = absurd (true≢false (sym is))
+unasked_unheard Claimed o is = absurd (true≢false (sym is))
+unasked_unheard (Ignored cause) o is = absurd (true≢false (sym is))
+
+-- a request to the peer that it stands with
+pub asks_on : (target peer : ℕ) (w w' : Worker) (out : Output) → asked_in w.phase ≡ Some peer → w'.heard ≡ w.heard → w'.word ≡ w.word → asked_in w'.phase ≡ Some peer
+    → (looked_in w'.phase ≡ None) ⊎ ((looked_in w.phase ≡ Some peer) × (looked_in w'.phase ≡ Some peer)) → Each (λ p. p.peer ≡ peer) out.sends.items → StaysApart target w w' out
+asks_on target peer w w' out at heard word next looked to = λ own apart.
+    let none : heard_in w.heard peer ≡ None = subst (λ (o : Option ℕ). IfSome o (λ p. heard_in w.heard p ≡ None)) at apart.asked in
+    says_apart own target peer w w' out heard (λ _. word) apart.unheard none (record {
+      asked = subst (λ (o : Option ℕ). IfSome o (λ p. heard_in w.heard p ≡ None)) (sym next) none;
+      other = elim looked [
+        | inl not ↦ subst (λ (o : Option ℕ). IfSome o (λ p. (target == p) ≡ false)) (sym not) tt
+        | inr same ↦ subst (λ (o : Option ℕ). IfSome o (λ p. (target == p) ≡ false)) (sym same.1) (subst (λ (o : Option ℕ). IfSome o (λ p. (target == p) ≡ false)) same.0 apart.other)
+      ];
+    }) to
+
+-- an answer of the peer that it stands with, which it asked for a lock or a look
+pub hears_of : (target peer : ℕ) (h : Heard) (w w' : Worker) (out : Output) → looked_in w.phase ≡ Some peer → stands_on w ≡ Some peer → w' ≡ record w { heard = (peer, h) ∷ w.heard; phase = phases.Next } → out.sends.items ≡ [] → StaysApart target w w' out
+hears_of target peer h w w' out looked stood next sends = λ own apart.
+    hears_apart own target peer h w w' out (ap (λ (v : Worker). v.heard) next) (ap (λ (v : Worker). v.phase) next) (ap (λ (v : Worker). v.word) next) apart.unheard
+    (subst (λ (o : Option ℕ). IfSome o (λ p. (target == p) ≡ false)) looked apart.other) (λ held other. stood) sends
+
+-- the target's answer to an order
+pub answers_stay : (target : ℕ) (w w' : Worker) (out : Output) → w.phase ≡ phases.Orders → w'.heard ≡ w.heard → asked_in w'.phase ≡ None → looked_in w'.phase ≡ None → out.sends.items ≡ [] → StaysApart target w w' out
+answers_stay target w w' out at heard asked looked sends = λ own apart.
+    says_apart own target target w w' out heard (λ other. absurd (other at)) apart.unheard apart.unheard (record {
+      asked = subst (λ (o : Option ℕ). IfSome o (λ p. heard_in w.heard p ≡ None)) (sym asked) tt;
+      other = subst (λ (o : Option ℕ). IfSome o (λ p. (target == p) ≡ false)) (sym looked) tt;
+    }) (subst (Each (λ p. p.peer ≡ target)) (sym sends) tt)
+
+-- the connection was closed
+pub parts_stay : (target peer : ℕ) (w w' : Worker) (out : Output) → w' ≡ without_peer w target peer → out.sends.items ≡ [] → StaysApart target w w' out
+parts_stay target peer w w' out next sends = λ own apart. parts_apart own target peer w w' out apart next (subst (Each (λ p. p.peer ≡ peer)) (sym sends) tt)

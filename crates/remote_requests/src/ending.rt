@@ -7,6 +7,7 @@ ghost use Rattle.node_model.specs.Rows.{is_lost_ordered, same_owner};
 ghost use Rattle.content_lock.specs.Tokens.{HasShare, Owns, ShareView};
 ghost use Rattle.content_lock.specs.Rows.{AreAfter};
 ghost use Rattle.content_lock.specs.Stored.{Agrees, label_of};
+ghost use Rattle.drop_phases.specs.Apart.{StaysApart};
 ghost use Rattle.drop_phases.specs.Doing.{HasToken};
 ghost use Rattle.drop_phases.specs.Leaving.{store};
 ghost use Rattle.drop_phases.specs.Begun.{CanStand, HasGone};
@@ -38,6 +39,7 @@ pub fn finish<K: Keeper, H: Here>(
     ensures did { DidRemote table.old table.new (store (K.contents keeper.old) (K.records keeper.old) (K.faults keeper.old)) (store (K.contents keeper.new) (K.records keeper.new) (K.faults keeper.new)) worker.old worker.new
         (EndsSo (H.reading here.now) (H.ends here.now) time table.old table.new worker.old worker.new outcome) result }
     ensures begun { IfOk result (λ out. (r : Reading) → CanStand r worker.old.phase → FitsRemote worker.old.phase worker.old.token → HasGone r worker.old worker.new out) }
+    ensures apart { IfOk result (λ out. (target : ℕ) → StaysApart target worker.old worker.new out) }
     ensures ended { IsBare worker.old.token → IfOk result (λ out. out.ended ≡ true) }
     ensures numbered { IfOk result (λ out. (n : ℕ) → IsNumbered n out.kind) }
     ensures calls { MakesEnd table.old worker.old outcome (K.failing keeper.old) (K.failing keeper.new) result }

@@ -9,6 +9,7 @@ use Rattle.drop_phases.specs.Leaving.{store}
 use Rattle.drop_phases.specs.Worker.{Worker}
 use Rattle.drop_phases.specs.Working.{partings}
 use Rattle.drop_phases.specs.declared.turn.Output.{Output}
+use Rattle.remote_requests.proofs.Apart.{ends_apart, unreleased_apart}
 use Rattle.remote_requests.proofs.EndCalls.{bare_makes, lost_makes, released_makes, unreleased_makes}
 use Rattle.remote_requests.proofs.RemoteBegun.{ends_gone, unreleased_gone}
 use Rattle.remote_requests.proofs.RemoteEndings.{agrees_still, bare_did, failed_did, lost_did, released_did}
@@ -110,3 +111,20 @@ returns-in-Ok-clause-ended g c = λ _. ap (λ (o : Output). o.ended) c.ending-in
 
 pub returns-in-Err-clause-ended : goal.returns-in-Err-clause-ended
 returns-in-Err-clause-ended g c = λ bare. absurd (subst (λ (t : Token). IsBare t) (sym c.take_token.ensures.token ∙ c.in-Share.is) bare)
+
+pub returns-in-Nothing-clause-apart : goal.returns-in-Nothing-clause-apart
+returns-in-Nothing-clause-apart g c = λ target own apart.
+    ends_apart own target c.args.worker.now c.take_token.new.self c.ending.result (ap (λ (o : Output). o.ended) c.ending.ensures) (ap (λ (u : Worker). u.word) c.take_token.ensures.bare)
+
+pub returns-then-lost-clause-apart : goal.returns-then-lost-clause-apart
+returns-then-lost-clause-apart g c = λ target own apart.
+    ends_apart own target c.args.worker.now c.take_token.new.self c.ending-then-lost.result (ap (λ (o : Output). o.ended) c.ending-then-lost.ensures) (ap (λ (u : Worker). u.word) c.take_token.ensures.bare)
+
+pub returns-in-Ok-clause-apart : goal.returns-in-Ok-clause-apart
+returns-in-Ok-clause-apart g c = λ target own apart.
+    ends_apart own target c.args.worker.now c.take_token.new.self c.ending-in-Ok.result (ap (λ (o : Output). o.ended) c.ending-in-Ok.ensures) (ap (λ (u : Worker). u.word) c.take_token.ensures.bare)
+
+pub returns-in-Err-clause-apart : goal.returns-in-Err-clause-apart
+returns-in-Err-clause-apart g c = λ target own apart.
+    unreleased_apart own target c.args.time c.args.worker.now c.take_token.new.self c.unreleased.new.worker c.unreleased.result (ap (λ (u : Worker). u.heard) c.take_token.ensures.bare)
+    (ap (λ (u : Worker). u.phase) c.take_token.ensures.bare) (ap (λ (u : Worker). u.word) c.take_token.ensures.bare) apart c.unreleased.ensures.does
