@@ -7,6 +7,8 @@ use Rattle.annex_base.specs.declared.memory.NoMemory.{NoMemory}
 use Rattle.annex_base.proofs.Conditions.{eqb_refl}
 use Rattle.annex_base.proofs.Lists.{Each-weaker}
 use Rattle.drop_proof.specs.declared.rule.Need.{Need}
+use Rattle.drop_proof.specs.declared.rule.Side.{Side}
+use Rattle.drop_proof.specs.declared.rule.Side.TheVariants.{Local, Remote}
 use Rattle.run_data.specs.declared.entry.EntryKind.{EntryKind}
 use Rattle.run_data.specs.declared.job.Cause.{Cause}
 use Rattle.run_data.specs.declared.job.Cause.TheVariants as causes
@@ -21,10 +23,10 @@ use Rattle.content_lock.specs.declared.refusals.ShareRefused.{ShareRefused}
 use Rattle.content_lock.specs.declared.refusals.ShareRefused.TheVariants as refused
 use Rattle.run_data.specs.declared.entry.By.TheVariants.{Job as by_job}
 use Rattle.run_data.specs.declared.entry.EntryKind.TheVariants.{Fault, Talk}
-use Rattle.drop_phases.specs.Apart.{GoesApart, StandsApart, StaysApart, StaysApartIn, asked_in, is_locked_in, looked_in}
+use Rattle.drop_phases.specs.Apart.{GoesApart, GoesApartSo, IsApart, StandsApart, StaysApart, StaysApartIn, asked_in, is_locked_in, looked_in}
 use Rattle.drop_phases.specs.Leaving.{stands_on}
 use Rattle.drop_phases.specs.Worker.{Worker}
-use Rattle.drop_phases.specs.Working.{heard_as, heard_in}
+use Rattle.drop_phases.specs.Working.{heard_as, heard_in, with_version}
 use Rattle.drop_phases.specs.declared.phase.Ending.TheVariants as endings
 use Rattle.drop_phases.specs.declared.phase.Heard.{Heard}
 use Rattle.drop_phases.specs.declared.phase.Heard.TheVariants as heards
@@ -125,6 +127,12 @@ request_stays target time peer version need w w' end (Ok out) s = λ none own ap
     (subst (λ (ph : Phase). AsksApart target w.heard ph) (sym (ap (λ (v : Worker). v.phase) s.next)) (asks_by target peer time w version need end none))
     (subst (Each (λ p. p.peer ≡ peer)) (sym s.sends) (said_to peer (first_request need w target time peer version end).says))
 request_stays target time peer version need w w' end (Err e) s = tt
+
+-- an opening
+pub opens_stay : (target peer : ℕ) (w w' : Worker) (out : Output) → w' ≡ record w { phase = phases.Opens peer } → Each (λ p. p.peer ≡ peer) out.sends.items → heard_in w.heard peer ≡ None → StaysApart target w w' out
+opens_stay target peer w w' out next to none = λ own apart.
+    says_apart own target peer w w' out (ap (λ (v : Worker). v.heard) next) (λ other. ap (λ (v : Worker). v.word) next) apart.unheard none
+    (subst (λ (ph : Phase). AsksApart target w.heard ph) (sym (ap (λ (v : Worker). v.phase) next)) (record { asked = none; other = tt })) to
 
 -- the order
 pub order_stays : (target : ℕ) (need : Need) (w w' : Worker) (deadline : Option ℕ) (result : Result Output NoMemory) → IfOk result (Says (order_of need w target deadline) target w w') → IfOk result (StaysApart target w w')
@@ -311,3 +319,28 @@ answers_stay target w w' out at heard asked looked sends = λ own apart.
 -- the connection was closed
 pub parts_stay : (target peer : ℕ) (w w' : Worker) (out : Output) → w' ≡ without_peer w target peer → out.sends.items ≡ [] → StaysApart target w w' out
 parts_stay target peer w w' out next sends = λ own apart. parts_apart own target peer w w' out apart next (subst (Each (λ p. p.peer ≡ peer)) (sym sends) tt)
+
+-- the first request after a version, which it learns
+pub greet_stays : (need : Need) (w v w' : Worker) (target time peer version : ℕ) (end : Option ℕ) (out : Output) → w.phase ≡ phases.Greets peer → Says (first_request need w target time peer version end) peer w v out → w' ≡ with_version v peer version
+    → StaysApart target w w' out
+greet_stays need w v w' target time peer version end out at says learnt =
+    learnt_stays target w v w' (Ok out) (ap (λ (x : Worker). x.heard) learnt) (ap (λ (x : Worker). x.phase) learnt) (ap (λ (x : Worker). x.word) learnt) (λ own apart.
+    request_stays target time peer version need w v end (Ok out) says (subst (λ (ph : Phase). IfSome (asked_in ph) (λ p. heard_in w.heard p ≡ None)) at apart.asked) own apart)
+
+-- a connection that is closed for its version, which it learns
+pub learns_shut : (target peer version : ℕ) (w v w' : Worker) (out : Output) → ShutsRemote target peer w v out → w' ≡ with_version v peer version → StaysApart target w w' out
+learns_shut target peer version w v w' out shuts learnt =
+    learnt_stays target w v w' (Ok out) (ap (λ (x : Worker). x.heard) learnt) (ap (λ (x : Worker). x.phase) learnt) (ap (λ (x : Worker). x.word) learnt) (shuts_stays target peer w v (Ok out) shuts)
+
+-- ---- on either side
+
+pub local_apart : (side : Side) (peer : Option ℕ) (own : ℕ) (w w' : Worker) (result : Result Output NoMemory) → side ≡ Local → IfOk result (λ out. IsApart side peer w → GoesApartSo side peer own w w' out)
+local_apart side peer own w w' (Ok out) local = λ apart. subst (λ (s : Side). GoesApartSo s peer own w w' out) (sym local) tt
+local_apart side peer own w w' (Err e) local = tt
+
+pub remote_apart : (side : Side) (peer : Option ℕ) (own target : ℕ) (w w' : Worker) (result : Result Output NoMemory) → side ≡ Remote → peer ≡ Some target → (own == target) ≡ false → IfOk result (StaysApartIn own target w w')
+    → IfOk result (λ out. IsApart side peer w → GoesApartSo side peer own w w' out)
+remote_apart side peer own target w w' (Ok out) remote is other stays = λ apart.
+    subst (λ (s : Side). GoesApartSo s peer own w w' out) (sym remote) (subst (λ (o : Option ℕ). GoesApartSo Remote o own w w' out) (sym is)
+    (stays other (subst (λ (o : Option ℕ). IsApart Remote o w) is (subst (λ (s : Side). IsApart s peer w) remote apart))))
+remote_apart side peer own target w w' (Err e) remote is other stays = tt

@@ -6,6 +6,7 @@ use Rattle.drop_phases.specs.Sides.{CanShare, FitsSide, HearsOwn, side_in}
 use Rattle.drop_phases.specs.Working.{sight}
 use Rattle.drop_worker.proofs.Machines.{local_did, no_target, remote_did, target_other, target_peer, target_remote}
 use Rattle.drop_worker.proofs.Goings.{local_own, remote_own}
+use Rattle.remote_requests.proofs.Apart.{local_apart, remote_apart}
 use Rattle.drop_worker.proofs.machine.advance.Goals as goal
 
 pub step_local-requires-clause-local : goal.step_local-requires-clause-local
@@ -60,3 +61,15 @@ returns-in-None-clause-own g c =
 pub returns-in-Some-clause-own : goal.returns-in-Some-clause-own
 returns-in-Some-clause-own g c =
     remote_own (side_in c.args.worker.now) (g.H.Here.reading c.args.here.now) c.step_remote.new.worker c.step_remote.result (target_remote (side_in c.args.worker.now) c.args.worker.now.job.peer c.in-Some.target (sym c.target.ensures ∙ c.in-Some.is)) c.step_remote.ensures.own
+
+pub returns-in-None-clause-apart : goal.returns-in-None-clause-apart
+returns-in-None-clause-apart g c =
+    let w = c.args.worker.now in
+    local_apart (side_in w) w.job.peer (g.H.Here.reading c.args.here.now).repo w c.step_local.new.worker c.step_local.result (no_target (side_in w) w.job.peer (g.H.Here.reading c.args.here.now) c.requires.target (sym c.target.ensures ∙ c.in-None.is))
+
+pub returns-in-Some-clause-apart : goal.returns-in-Some-clause-apart
+returns-in-Some-clause-apart g c =
+    let w = c.args.worker.now in
+    let is = sym c.target.ensures ∙ c.in-Some.is in
+    remote_apart (side_in w) w.job.peer (g.H.Here.reading c.args.here.now).repo c.in-Some.target w c.step_remote.new.worker c.step_remote.result (target_remote (side_in w) w.job.peer c.in-Some.target is) (target_peer (side_in w) w.job.peer c.in-Some.target is)
+    (target_other (side_in w) w.job.peer c.in-Some.target (g.H.Here.reading c.args.here.now) c.requires.target is).1 c.step_remote.ensures.apart

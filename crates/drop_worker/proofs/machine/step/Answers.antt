@@ -27,6 +27,7 @@ returns g c =
       fits = a.fits;
       begun = c.advance.ensures.begun;
       own = c.advance.ensures.own;
+      apart = c.advance.ensures.apart;
       job = (a.number, a.job);
       others = a.others;
       holds = a.holds;

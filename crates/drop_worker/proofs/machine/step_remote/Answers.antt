@@ -8,6 +8,7 @@ use Rattle.drop_phases.proofs.Numbers.{each_number}
 use Rattle.remote_requests.specs.Remote.{TakesRemote}
 use Rattle.remote_requests.proofs.RemoteBegun.{still_own, with_gone}
 use Rattle.drop_worker.proofs.Goings.{awaits_later, remote_other}
+use Rattle.remote_requests.proofs.Apart.{stays_in}
 use Rattle.drop_worker.proofs.machine.step_remote.Goals as goal
 
 pub returns-in-Some-clause-did : goal.returns-in-Some-clause-did
@@ -44,3 +45,6 @@ returns-in-Some-clause-own g c =
     (store (g.K.Keeper.contents c.args.keeper.now) (g.K.Keeper.records c.args.keeper.now) (g.K.Keeper.faults c.args.keeper.now)) (store (g.K.Keeper.contents c.hear.new.keeper) (g.K.Keeper.records c.hear.new.keeper) (g.K.Keeper.faults c.hear.new.keeper)) c.args.worker.now c.hear.new.worker
     (TakesRemote (g.H.Here.reading c.args.here.now) (g.H.Here.ends c.args.here.now) c.args.input.now.time c.args.table.now c.hear.new.table c.in-Some.peer c.args.input.now.taken c.args.worker.now c.hear.new.worker) c.hear.result c.hear.ensures.did
     (c.requires.own (awaits_later c.args.worker.now c.in-Some.peer (sym c.awaits.ensures ∙ c.in-Some.is)))
+
+pub returns-in-Some-clause-apart : goal.returns-in-Some-clause-apart
+returns-in-Some-clause-apart g c = stays_in (g.H.Here.reading c.args.here.now).repo c.args.target c.args.worker.now c.hear.new.worker c.hear.result c.hear.ensures.apart

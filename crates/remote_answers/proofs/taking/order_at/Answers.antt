@@ -10,6 +10,7 @@ use Rattle.remote_answers.proofs.TimeCalls.{order_makes}
 use Rattle.remote_answers.proofs.Feedings.{speaks_did}
 use Rattle.remote_answers.proofs.Timing.{order_plain, order_speaks, order_takes}
 use Rattle.remote_requests.proofs.RemoteBegun.{order_gone}
+use Rattle.remote_requests.proofs.Apart.{order_stays}
 use Rattle.remote_answers.proofs.taking.order_at.Goals as goal
 
 pub returns-in-None-clause-did : goal.returns-in-None-clause-did
@@ -38,3 +39,7 @@ returns-in-None-clause-calls g c = λ number.
 pub returns-in-None-clause-begun : goal.returns-in-None-clause-begun
 returns-in-None-clause-begun g c =
     order_gone (g.H.Here.reading c.args.here.now).need c.args.worker.now c.order.new.worker c.args.target None c.order.result c.order.ensures.says
+
+pub returns-in-None-clause-apart : goal.returns-in-None-clause-apart
+returns-in-None-clause-apart g c =
+    order_stays c.args.target (g.H.Here.reading c.args.here.now).need c.args.worker.now c.order.new.worker None c.order.result c.order.ensures.says

@@ -13,6 +13,7 @@ use Rattle.remote_answers.proofs.Feedings.{speaks_did}
 use Rattle.remote_requests.proofs.RemoteLeavings.{remote_did_as}
 use Rattle.remote_answers.proofs.Timing.{late_takes, order_speaks, order_takes, order_timed}
 use Rattle.remote_requests.proofs.RemoteBegun.{order_gone, timed_gone}
+use Rattle.remote_requests.proofs.Apart.{end_stays, order_stays}
 use Rattle.remote_answers.proofs.taking.order_before.Goals as goal
 
 pub returns-in-Ok-clause-did : goal.returns-in-Ok-clause-did
@@ -62,3 +63,10 @@ returns-in-Ok-clause-begun g c =
 
 pub returns-in-Err-clause-begun : goal.returns-in-Err-clause-begun
 returns-in-Err-clause-begun g c = timed_gone c.args.worker.now c.finish.new.worker c.args.target c.finish.result c.requires.at c.requires.stands.fits c.finish.ensures.begun
+
+pub returns-in-Ok-clause-apart : goal.returns-in-Ok-clause-apart
+returns-in-Ok-clause-apart g c =
+    order_stays c.args.target (g.H.Here.reading c.args.here.now).need c.args.worker.now c.order.new.worker (Some c.in-Ok.before) c.order.result c.order.ensures.says
+
+pub returns-in-Err-clause-apart : goal.returns-in-Err-clause-apart
+returns-in-Err-clause-apart g c = end_stays c.args.target c.args.worker.now c.finish.new.worker c.finish.result c.finish.ensures.apart

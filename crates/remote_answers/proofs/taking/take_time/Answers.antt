@@ -10,6 +10,7 @@ use Rattle.drop_phases.proofs.FrameCalls.{IsTime, spoken_makes, time_other}
 use Rattle.remote_answers.proofs.Feedings.{at_rows, lost_takes, speaks_did, time_else}
 use Rattle.remote_answers.proofs.Losses.{shuts_speaks}
 use Rattle.remote_requests.proofs.RemoteBegun.{shuts_gone}
+use Rattle.remote_requests.proofs.Apart.{shuts_stays}
 use Rattle.remote_answers.proofs.taking.take_time.Goals as goal
 
 pub returns-in-Timestamp-clause-did : goal.returns-in-Timestamp-clause-did
@@ -41,3 +42,6 @@ returns-in_default-clause-calls g c = λ number.
 
 pub returns-in_default-clause-begun : goal.returns-in_default-clause-begun
 returns-in_default-clause-begun g c = shuts_gone c.args.worker.now c.shut.new.worker c.args.target c.args.target c.shut.result c.shut.ensures.shuts
+
+pub returns-in_default-clause-apart : goal.returns-in_default-clause-apart
+returns-in_default-clause-apart g c = shuts_stays c.args.target c.args.target c.args.worker.now c.shut.new.worker c.shut.result c.shut.ensures.shuts

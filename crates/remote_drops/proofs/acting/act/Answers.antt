@@ -10,6 +10,7 @@ use Rattle.drop_phases.specs.Leaving.{GoesSo, store}
 use Rattle.drop_phases.specs.declared.phase.Phase.{Phase}
 use Rattle.drop_phases.specs.declared.phase.Phase.TheVariants as phases
 use Rattle.remote_requests.proofs.RemoteBegun.{end_gone, still_own}
+use Rattle.remote_requests.proofs.Apart.{end_stays, stays_in}
 use Rattle.remote_drops.proofs.acting.act.Goals as goal
 
 pub returns-in-Next-clause-did : goal.returns-in-Next-clause-did
@@ -55,3 +56,10 @@ returns-in_ok-outcome-in-Removed-clause-own g c =
     (store (g.K.Keeper.contents c.args.keeper.now) (g.K.Keeper.records c.args.keeper.now) (g.K.Keeper.faults c.args.keeper.now)) (store (g.K.Keeper.contents c.finish.new.keeper) (g.K.Keeper.records c.finish.new.keeper) (g.K.Keeper.faults c.finish.new.keeper)) c.args.worker.now c.finish.new.worker
     (EndsSo (g.H.Here.reading c.args.here.now) (g.H.Here.ends c.args.here.now) c.args.input.now.time c.args.table.now c.finish.new.table c.args.worker.now c.finish.new.worker c.in_ok-outcome-in-Removed.outcome) c.finish.result c.finish.ensures.did
     (c.requires.own (λ fresh. subst (λ (ph : Phase). IsToEnd ph) fresh to))
+
+pub returns-in-Next-clause-apart : goal.returns-in-Next-clause-apart
+returns-in-Next-clause-apart g c = stays_in (g.H.Here.reading c.args.here.now).repo c.args.target c.args.worker.now c.go_on.new.worker c.go_on.result c.go_on.ensures.apart
+
+pub returns-in_ok-outcome-in-Removed-clause-apart : goal.returns-in_ok-outcome-in-Removed-clause-apart
+returns-in_ok-outcome-in-Removed-clause-apart g c =
+    stays_in (g.H.Here.reading c.args.here.now).repo c.args.target c.args.worker.now c.finish.new.worker c.finish.result (end_stays c.args.target c.args.worker.now c.finish.new.worker c.finish.result c.finish.ensures.apart)

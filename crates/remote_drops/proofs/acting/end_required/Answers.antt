@@ -8,6 +8,7 @@ use Rattle.remote_drops.proofs.RemoteCalls.{required_makes}
 use Rattle.remote_drops.proofs.RemoteGoings.{required_did}
 use Rattle.remote_drops.proofs.Sharings.{unbarred}
 use Rattle.remote_requests.proofs.RemoteBegun.{end_gone}
+use Rattle.remote_requests.proofs.Apart.{end_stays}
 use Rattle.remote_drops.proofs.acting.end_required.Goals as goal
 
 pub finish-requires-clause-bare : goal.finish-requires-clause-bare
@@ -30,3 +31,6 @@ returns-clause-begun g c = end_gone (g.H.Here.reading c.args.here.now) c.args.wo
 
 pub returns-clause-ended : goal.returns-clause-ended
 returns-clause-ended g c = c.finish.ensures.ended (subst (λ (ph : Phase). FitsRemote ph c.args.worker.now.token) c.requires.at c.requires.stands.fits)
+
+pub returns-clause-apart : goal.returns-clause-apart
+returns-clause-apart g c = end_stays c.args.target c.args.worker.now c.finish.new.worker c.finish.result c.finish.ensures.apart

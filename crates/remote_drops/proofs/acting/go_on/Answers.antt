@@ -14,6 +14,10 @@ use Rattle.remote_drops.proofs.RemoteGoings.{asks_did, lacks_did_remotely, order
 use Rattle.remote_requests.proofs.RemoteLeavings.{speaks_numbered}
 use Rattle.remote_requests.proofs.RemoteBegun.{any_gone, end_gone}
 use Rattle.remote_requests.proofs.RemoteChoices.{found_remotely}
+use Rattle.annex_base.proofs.Lists.{find_member}
+use Rattle.drop_phases.specs.Working.{heard_in}
+use Rattle.remote_requests.specs.Remote.{remote_candidates}
+use Rattle.remote_requests.proofs.Apart.{end_stays, to_target, to_unheard, unasked_unheard}
 use Rattle.remote_drops.proofs.acting.go_on.Goals as goal
 
 pub returns-in-Enough-clause-did : goal.returns-in-Enough-clause-did
@@ -90,3 +94,16 @@ returns-in-Some-clause-begun g c = any_gone (g.H.Here.reading c.args.here.now) c
 
 pub returns-clause-begun : goal.returns-clause-begun
 returns-clause-begun g c = end_gone (g.H.Here.reading c.args.here.now) c.args.worker.now c.finish.new.worker c.finish.result c.requires.stands.fits c.finish.ensures.begun
+
+pub returns-in-Enough-clause-apart : goal.returns-in-Enough-clause-apart
+returns-in-Enough-clause-apart g c = to_target c.args.target c.args.worker.now c.go_to.new.worker c.go_to.result c.go_to.ensures.apart
+
+pub returns-in-Some-clause-apart : goal.returns-in-Some-clause-apart
+returns-in-Some-clause-apart g c =
+    let read = g.H.Here.reading c.args.here.now in
+    let w = c.args.worker.now in
+    let found = find_member (asks_of read w) (remote_candidates read c.args.target) c.in-Some.peer (ap (find (asks_of read w)) (sym (c.deref-in-Lacking.ensures.value ∙ c.in_ok-candidates.ensures.all)) ∙ (sym c.next.ensures ∙ c.in-Some.is)) in
+    to_unheard c.args.target c.in-Some.peer w c.go_to-in-Some.new.worker c.go_to-in-Some.result (unasked_unheard (read.standing c.in-Some.peer) (heard_in w.heard c.in-Some.peer) found.1) c.go_to-in-Some.ensures.apart
+
+pub returns-clause-apart : goal.returns-clause-apart
+returns-clause-apart g c = end_stays c.args.target c.args.worker.now c.finish.new.worker c.finish.result c.finish.ensures.apart

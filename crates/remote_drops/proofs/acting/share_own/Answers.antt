@@ -1,5 +1,5 @@
 -- Why there is no share.
-use Rattle.std.proofs.Common.{ℕ, List, ◌∷◌, Option, subst, ap, ◌∙◌}
+use Rattle.std.proofs.Common.{◌≡◌, ℕ, List, ◌∷◌, Option, subst, ap, ◌∙◌}
 use Rattle.node_model.specs.Look.{failed_in}
 use Rattle.content_lock.specs.Looks.{LooksSo, NotShared}
 use Rattle.content_lock.specs.declared.refusals.Look.TheVariants as looks
@@ -17,6 +17,8 @@ use Rattle.remote_drops.proofs.RemoteCalls.{shared_makes, unshared_makes}
 use Rattle.remote_drops.proofs.Sharings.{unshared_did}
 use Rattle.drop_phases.proofs.OwnCopies.{own_told}
 use Rattle.remote_requests.proofs.RemoteBegun.{any_gone, unshared_gone, unshared_told}
+use Rattle.drop_phases.specs.declared.phase.Token.TheVariants as tokens
+use Rattle.remote_requests.proofs.Apart.{shares_stays, unshared_stays}
 use Rattle.remote_drops.proofs.acting.share_own.Goals as goal
 
 pub returns-in-Err-clause-did : goal.returns-in-Err-clause-did
@@ -64,4 +66,19 @@ returns-in-Err-clause-own g c =
     let read = g.H.Here.reading c.args.here.now in
     let w = c.args.worker.now in
     unshared_told read w c.hear.new.self c.unshared.new.worker read.repo (heards.Held c.args.input.now.time) (c.in_ok-hear.ensures.ok ∙ (λ i. record w { heard = (c.repo.ensures i, heards.Held c.args.input.now.time) ∷ w.heard; phase = phases.Next }))
+    (bar_at c.share.new.self c.hear.new.self.job.key) c.in-Err.why c.unshared.result c.unshared.ensures
+
+pub returns-in-Ok-clause-apart : goal.returns-in-Ok-clause-apart
+returns-in-Ok-clause-apart g c =
+    let read = g.H.Here.reading c.args.here.now in
+    let w = c.args.worker.now in
+    let next : c.take_share.new.self ≡ record w { heard = (read.repo, heards.Held c.args.input.now.time) ∷ w.heard; phase = phases.Next; token = tokens.Share c.in-Ok.share } =
+        c.take_share.ensures ∙ (λ i. record (c.in_ok-hear.ensures.ok i) { token = tokens.Share c.in-Ok.share }) ∙ (λ i. record w { heard = (c.repo.ensures i, heards.Held c.args.input.now.time) ∷ w.heard; phase = phases.Next; token = tokens.Share c.in-Ok.share }) in
+    shares_stays read.repo c.args.target (heards.Held c.args.input.now.time) w c.take_share.new.self c.quietly.result (ap (λ (u : Worker). u.heard) next) (ap (λ (u : Worker). u.phase) next) (ap (λ (u : Worker). u.word) next) c.quietly.ensures.1.0
+
+pub returns-in-Err-clause-apart : goal.returns-in-Err-clause-apart
+returns-in-Err-clause-apart g c =
+    let read = g.H.Here.reading c.args.here.now in
+    let w = c.args.worker.now in
+    unshared_stays read.repo c.args.target w c.hear.new.self c.unshared.new.worker (heards.Held c.args.input.now.time) (c.in_ok-hear.ensures.ok ∙ (λ i. record w { heard = (c.repo.ensures i, heards.Held c.args.input.now.time) ∷ w.heard; phase = phases.Next }))
     (bar_at c.share.new.self c.hear.new.self.job.key) c.in-Err.why c.unshared.result c.unshared.ensures

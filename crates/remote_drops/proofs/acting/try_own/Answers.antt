@@ -12,6 +12,7 @@ use Rattle.remote_requests.proofs.RemoteLeavings.{passes_speaks, speaks_numbered
 use Rattle.remote_drops.proofs.RemoteCalls.{skipped_makes}
 use Rattle.remote_drops.proofs.Sharings.{skipped_did}
 use Rattle.remote_requests.proofs.RemoteBegun.{passes_gone, passes_own}
+use Rattle.remote_requests.proofs.Apart.{passes_stays}
 use Rattle.remote_drops.proofs.acting.try_own.Goals as goal
 
 pub returns-in-Claimed-clause-did : goal.returns-in-Claimed-clause-did
@@ -67,3 +68,9 @@ returns-in-Ignored-clause-begun g c = passes_gone (g.H.Here.reading c.args.here.
 
 pub returns-in-Ignored-clause-own : goal.returns-in-Ignored-clause-own
 returns-in-Ignored-clause-own g c = passes_own (g.H.Here.reading c.args.here.now) (bar_at c.args.table.now c.args.worker.now.job.key) c.args.worker.now c.pass_by-in-Ignored.new.worker c.pass_by-in-Ignored.result c.pass_by-in-Ignored.ensures.passes
+
+pub returns-in-Claimed-clause-apart : goal.returns-in-Claimed-clause-apart
+returns-in-Claimed-clause-apart g c = passes_stays (g.H.Here.reading c.args.here.now).repo c.args.target (bar_at c.args.table.now c.args.worker.now.job.key) c.args.worker.now c.pass_by.new.worker c.pass_by.result c.pass_by.ensures.passes
+
+pub returns-in-Ignored-clause-apart : goal.returns-in-Ignored-clause-apart
+returns-in-Ignored-clause-apart g c = passes_stays (g.H.Here.reading c.args.here.now).repo c.args.target (bar_at c.args.table.now c.args.worker.now.job.key) c.args.worker.now c.pass_by-in-Ignored.new.worker c.pass_by-in-Ignored.result c.pass_by-in-Ignored.ensures.passes
