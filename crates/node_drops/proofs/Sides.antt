@@ -6,6 +6,7 @@ use Rattle.drop_proof.specs.declared.rule.Side.{Side}
 use Rattle.drop_proof.specs.declared.rule.Side.TheVariants.{Local, Remote}
 use Rattle.object_store.specs.Stores.{Contents}
 use Rattle.content_lock.specs.Rows.{AreAfter, Rows}
+use Rattle.drop_worker.specs.Apart.{GoesApartSo, IsApart}
 use Rattle.drop_worker.specs.Begun.{CanStand, HasBegun, HasGone}
 use Rattle.drop_phases.specs.declared.phase.Phase.{Phase}
 use Rattle.drop_phases.specs.declared.phase.Phase.TheVariants as phases
@@ -70,8 +71,8 @@ own_by p clock known Remote w h = h
 pub steps_so : (p : PlaceView) (clock : ClockSet) (known : KnownLogs) (contents contents' : Option Contents) (input : Input) (rows rows' : Rows) (w w' : Worker) (r : Result Output NoMemory) → IfOk r (λ out. KeepsWord input.taken input.word w w')
     → IfOk r (λ out. KeepsAnswer input.taken input.word w w') → Grows w.heard w'.heard → IfOk r (λ out. AreAfter out.kind rows rows') → IfOk r (λ out. contents' ≡ contents_after contents out.kind)
     → IfOk r (λ out. out.ended ≡ false → FitsSide (side_in w) w'.phase w'.token) → IfOk r (λ out. CanStand (reading_of p clock known) w.phase → HasGone (reading_of p clock known) w w' out)
-    → IfOk r (λ out. out.ended ≡ false → HearsOwn (side_in w) (reading_of p clock known) w') → (w'.number ≡ w.number) × (w'.job ≡ w.job) → IfOk r (Steps p contents contents' input rows rows' w w')
-steps_so p clock known contents contents' input rows rows' w w' (Ok out) word answer heard after stored fits gone own same = record {
+    → IfOk r (λ out. out.ended ≡ false → HearsOwn (side_in w) (reading_of p clock known) w') → IfOk r (λ out. IsApart (side_in w) w.job.peer w → GoesApartSo (side_in w) w.job.peer p.number w w' out) → (w'.number ≡ w.number) × (w'.job ≡ w.job) → IfOk r (Steps p contents contents' input rows rows' w w')
+steps_so p clock known contents contents' input rows rows' w w' (Ok out) word answer heard after stored fits gone own apart same = record {
   word = word;
   answer = answer;
   heard = heard;
@@ -80,7 +81,8 @@ steps_so p clock known contents contents' input rows rows' w w' (Ok out) word an
   fits = fits;
   gone = λ h. gone_as p clock known w w' out (gone (stand_as p clock known w.phase h));
   own = λ going. own_by p clock known (side_in w) w' (own going);
+  apart = apart;
   number = same.0;
   job = same.1;
 }
-steps_so p clock known contents contents' input rows rows' w w' (Err e) word answer heard after stored fits gone own same = tt
+steps_so p clock known contents contents' input rows rows' w w' (Err e) word answer heard after stored fits gone own apart same = tt

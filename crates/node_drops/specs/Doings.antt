@@ -17,7 +17,7 @@ use Rattle.node_model.specs.SetUp.{SetUp}
 use Rattle.node_model.specs.State.{State}
 use Rattle.node_model.specs.Turns.{slot_step}
 use Rattle.content_lock.specs.Rows.{AreAfter, Rows}
-use Rattle.drop_worker.specs.Apart.{GoesApartSo}
+use Rattle.drop_worker.specs.Apart.{GoesApartSo, IsApart}
 use Rattle.drop_worker.specs.Begun.{CanStand, HasGone}
 use Rattle.drop_phases.specs.declared.turn.Input.{Input}
 use Rattle.drop_phases.specs.declared.turn.Output.{Output}
@@ -50,7 +50,7 @@ pub record Steps (p : PlaceView) (contents contents' : Option Contents) (input :
   pub fits : out.ended ≡ false → FitsSide (side_in w) w'.phase w'.token
   pub gone : CanStand (place_reading p) w.phase → HasGone (place_reading p) w w' out
   pub own : out.ended ≡ false → HearsOwn (side_in w) (place_reading p) w'
-  pub apart : GoesApartSo (side_in w) w.job.peer p.number w w' out
+  pub apart : IsApart (side_in w) w.job.peer w → GoesApartSo (side_in w) w.job.peer p.number w w' out
   pub number : w'.number ≡ w.number
   pub job : w'.job ≡ w.job
 

@@ -28,13 +28,17 @@ use Rattle.content_lock.specs.CallsMade.{MakesCalls}
 use Rattle.content_lock.specs.Rows.{Rows, bar_at, is_filling}
 use Rattle.content_lock.specs.Stored.{Agrees}
 use Rattle.content_lock.specs.Tokens.{Owns}
+use Rattle.drop_phases.specs.Apart.{IsApart, asked_in, looked_in}
 use Rattle.drop_phases.specs.Begun.{IsLast}
+use Rattle.drop_phases.specs.declared.phase.Heard.{Heard}
 use Rattle.drop_phases.specs.declared.phase.Phase.{Phase}
 use Rattle.drop_phases.specs.declared.phase.Phase.TheVariants as phases
 use Rattle.drop_phases.specs.declared.phase.Token.{Token}
 use Rattle.drop_phases.specs.declared.phase.Token.TheVariants as tokens
 use Rattle.drop_phases.specs.Doing.{HasToken, share_in}
 use Rattle.drop_phases.specs.Sides.{FitsSide, HasTarget, IsNumbered, side_in}
+use Rattle.drop_phases.specs.Worker.{Worker as DropWorker}
+use Rattle.drop_phases.specs.Working.{heard_in}
 use Rattle.drop_phases.proofs.Endings.{ends_rows}
 use Rattle.node_drops.specs.Drops.{DropJob, HasRead, HasReadByPhase, IsDrop, place_reading}
 use Rattle.node_drops.specs.Places.{PlaceView}
@@ -76,8 +80,18 @@ handed_read : (s : SetUp) (st : State) (w : TransferJob) (t : Task) → HandsOn 
 handed_read s st w (tasks.Drops j) h same = subst (HasRead s st j.worker) (sym h.known) (h.phase, same)
 handed_read s st w (tasks.Transfers v) h same = same
 
+-- a drop that begins stands apart
+pub new_apart : (side : Side) (peer : Option ℕ) (w : DropWorker) → w.heard ≡ [] → w.phase ≡ phases.Fresh → IsApart side peer w
+new_apart Local peer w heard phase = tt
+new_apart Remote None w heard phase = tt
+new_apart Remote (Some target) w heard phase = record {
+  unheard = ap (λ (l : List (ℕ × Heard)). heard_in l target) heard;
+  asked = subst (λ (ph : Phase). IfSome (asked_in ph) (λ peer. heard_in w.heard peer ≡ None)) (sym phase) tt;
+  other = subst (λ (ph : Phase). IfSome (looked_in ph) (λ peer. (target == peer) ≡ false)) (sym phase) tt;
+}
+
 handed_heard : (w w' : TransferJob) (t : Task) (x : Arrival) → w'.paths ≡ w.paths → HandsOn w' t → HearsOn (tasks.Transfers w) t (tolds.Arrival x)
-handed_heard w w' (tasks.Drops j) x paths h = (h.heard, h.paths ∙ paths)
+handed_heard w w' (tasks.Drops j) x paths h = (h.heard, h.word, h.paths ∙ paths)
 handed_heard w w' (tasks.Transfers v) x paths h = ap (λ (v : TransferJob). v.paths) h.1 ∙ paths
 
 handed_spent : (w : TransferJob) (t : Task) → HandsOn w t → IsSpent t
@@ -257,6 +271,7 @@ module _ (p : PlaceView) (links : List EndView) (rows rows' : Rows) (k k' : Seen
           fits = subst (FitsSide (side_in j.worker) j.worker.phase) (sym h.token) (subst (λ (phase : Phase). FitsSide (side_in j.worker) phase tokens.Nothing) (sym h.phase) (fresh_fits (side_in j.worker)));
           stands = subst (HasReadByPhase p j.worker.phase) (sym h.known) h.phase;
           own = λ later. absurd (later h.phase);
+          apart = new_apart (side_in j.worker) j.worker.job.peer j.worker h.heard h.phase;
           unheard = λ fresh. h.heard;
         }
 
@@ -272,6 +287,7 @@ module _ (p : PlaceView) (links : List EndView) (rows rows' : Rows) (k k' : Seen
           slot = ap (λ (v : Work). v.slot) work ∙ keeps.leaves.slot;
           what = ap (λ (v : Work). v.what) work ∙ keeps.leaves.what;
           heard = handed_heard w w' next x paths hands;
+          locks = tt;
           onward = λ going. onward (work_of w).number out.kind keeps.leaves.kind keeps.leaves.whose going;
           last = λ ended. last (work_of w).number out.kind keeps.leaves.kind keeps.leaves.whose ended;
           numbered = numbered n out.kind keeps.leaves.kind;

@@ -15,6 +15,7 @@ pub record BeginsDrop (w : TransferJob) (j : DropJob) : Type 0 where
   pub paths : j.paths ≡ w.paths
   pub known : j.known ≡ None
   pub heard : j.worker.heard ≡ []
+  pub word : j.worker.word ≡ None
   pub phase : j.worker.phase ≡ phases.Fresh
   pub token : j.worker.token ≡ tokens.Nothing
 

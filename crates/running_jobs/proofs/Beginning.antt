@@ -34,6 +34,7 @@ use Rattle.node_tasks.specs.Drops.{DropJob, HasRead, given, place_reading}
 use Rattle.node_tasks.specs.Places.{PlaceView}
 use Rattle.node_tasks.specs.Reads.{KnownLogs}
 use Rattle.node_tasks.proofs.Knowing.{read_same}
+use Rattle.node_tasks.proofs.Transfers.{new_apart}
 use Rattle.get_phases.specs.declared.getting.Phase.{Phase as GetPhase}
 use Rattle.get_phases.specs.declared.getting.Phase.TheVariants as getting
 use Rattle.get_phases.specs.Gets as gets
@@ -48,7 +49,7 @@ use Rattle.node_tasks.specs.Ready.{sight_of}
 use Rattle.node_tasks.specs.declared.task.Task.{Task}
 use Rattle.node_tasks.specs.declared.task.Task.TheVariants as tasks
 use Rattle.node_tasks.specs.Tasks.{HasReadOf, IsFedTask, IsTask, OwnsOf, number_of, slot_of, work_now}
-use Rattle.running_jobs.specs.Beginning.{Begins, IsNewTask, MayBegin, next_slot, running_now}
+use Rattle.running_jobs.specs.Beginning.{Begins, IsNewTask, MayBegin, new_worker, next_slot, running_now}
 use Rattle.running_jobs.specs.Running.{AreAllFed, AreApart, AreFilled, AreWorks, Follows, IsOwn, Jobs as JobsView, OwnAll, fills_at, given_to}
 use Rattle.running_jobs.proofs.Among.{find_mapped, found_by_number}
 use Rattle.running_jobs.proofs.Slots.{next_small, next_unused}
@@ -190,6 +191,7 @@ new_is_task jobs what paths (tasks.Drops j) may is =
       stands = refl;
       unheard = λ fresh. refl;
       own = λ later. absurd (later refl);
+      apart = new_apart (drop_side what.kind what.peer) what.peer (new_worker (jobs.begun + 1) (next_slot jobs) what) refl refl;
     })
 new_is_task jobs what paths (tasks.Transfers w) may is = record {
   can = can_begin jobs.place (jobs.begun + 1) (next_slot jobs) what w.worker may is.0 is.1;

@@ -47,9 +47,9 @@ numbers_still law n rows fresh = law (Talk None) n rows rows (record { holds = r
 
 -- a job keeps the paths that it was given
 paths_stay : (t t' : Task) (x : Told) → HearsOn t t' x → paths_of t' ≡ paths_of t
-paths_stay (tasks.Drops j) (tasks.Drops j') (tolds.Feed f) hears = ap (λ (ps : List (List ℕ)). Some ps) hears.3
+paths_stay (tasks.Drops j) (tasks.Drops j') (tolds.Feed f) hears = ap (λ (ps : List (List ℕ)). Some ps) hears.4
 paths_stay (tasks.Transfers w) (tasks.Transfers w') (tolds.Arrival x) hears = ap (λ (ps : List (List ℕ)). Some ps) hears
-paths_stay (tasks.Transfers w) (tasks.Drops j) (tolds.Arrival x) hears = ap (λ (ps : List (List ℕ)). Some ps) hears.1
+paths_stay (tasks.Transfers w) (tasks.Drops j) (tolds.Arrival x) hears = ap (λ (ps : List (List ℕ)). Some ps) hears.2
 paths_stay t t' x hears = absurd hears
 
 module _ (links : List EndView) (clock : ClockSet) (settings : Settings) (jobs : Jobs) (number time : ℕ) (found : Found) (rows rows' : Rows) (kept kept' : Seen) (now : List Task) (a : Acted)

@@ -225,9 +225,9 @@ task_read_stays s st st' jobs e (tasks.Transfers w) are apart among follows =
 
 -- what the job has read that made the step
 own_read : (s : SetUp) (st st' : State) (t t' : Task) (x : Told) → HearsOn t t' x → number_of t' ≡ number_of t → HadPathsOf s t → HasReadOf s st' t' → HasReadOf (given_to s t') st' t'
-own_read s st st' (tasks.Drops j) (tasks.Drops j') (tolds.Feed f) hears number had reads = read_apart s st' j'.worker j'.known (λ job. j'.paths) (hears.3 ∙ (had ∙ ap s.paths (sym number))) reads
+own_read s st st' (tasks.Drops j) (tasks.Drops j') (tolds.Feed f) hears number had reads = read_apart s st' j'.worker j'.known (λ job. j'.paths) (hears.4 ∙ (had ∙ ap s.paths (sym number))) reads
 own_read s st st' (tasks.Transfers w) (tasks.Transfers w') (tolds.Arrival x) hears number had reads = reads
-own_read s st st' (tasks.Transfers w) (tasks.Drops j') (tolds.Arrival x) hears number had reads = read_apart s st' j'.worker j'.known (λ job. j'.paths) (hears.1 ∙ (had ∙ ap s.paths (sym number))) reads
+own_read s st st' (tasks.Transfers w) (tasks.Drops j') (tolds.Arrival x) hears number had reads = read_apart s st' j'.worker j'.known (λ job. j'.paths) (hears.2 ∙ (had ∙ ap s.paths (sym number))) reads
 own_read s st st' t t' x hears number had reads = absurd hears
 
 -- ---- what a look finds of the job that acts
