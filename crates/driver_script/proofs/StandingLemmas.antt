@@ -87,12 +87,10 @@ made_job : (g : DriverInput) (x : Context) (r : ℕ) (kind : JobKind) (key : Lis
     → IfSome peer (λ p. standing.AreTwo x r p) → IsJob g r (record { kind = kind; key = key; path = path; peer = peer })
 made_job g x r job_kinds.Drop key path None valid few built two = record { peer = refl; valid = valid }
 made_job g x r job_kinds.Get key path None valid few built two = record { peer = refl; valid = valid }
-made_job g x r job_kinds.Get key path (Some peer) valid few built two = record { peer = other_is g x r peer few two; valid = valid }
-made_job g x r job_kinds.Copy key path (Some peer) valid few built two = record { peer = other_is g x r peer few two; valid = valid }
-made_job g x r job_kinds.Drop key path (Some peer) valid few built two = absurd (cc)
 made_job g x r job_kinds.Copy key path None valid few built two = absurd (cc)
-made_job g x r job_kinds.MoveTo key path peer valid few built two = absurd (cc)
-made_job g x r job_kinds.MoveFrom key path peer valid few built two = absurd (cc)
+made_job g x r job_kinds.MoveTo key path None valid few built two = absurd (cc)
+made_job g x r job_kinds.MoveFrom key path None valid few built two = absurd (cc)
+made_job g x r kind key path (Some peer) valid few built two = record { peer = other_is g x r peer few two; valid = valid }
 
 job_is : KeysHaveNoFault → (g : DriverInput) (x : Context) (r : ℕ) (job : Job) → length x.repos ≤ length g.repos → is_built_job job.kind job.peer ≡ true → standing.IsJob x r job → IsJob g r job
 job_is valid g x r job few built stands = made_job g x r job.kind job.key job.path job.peer (valid job.key stands.key.text) few built stands.peer

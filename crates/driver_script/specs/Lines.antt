@@ -1,5 +1,5 @@
 -- The repositories that a script declares, and which forms of line are built (own).
-use Rattle.std.specs.Prelude.{ℕ, Bool, true, false, not, ◌==◌, ◌&&◌, List, [], ◌∷◌, ◌++◌, map, position, Option, is_none, is_some}
+use Rattle.std.specs.Prelude.{ℕ, Bool, true, false, not, ◌==◌, ◌&&◌, List, [], ◌∷◌, ◌++◌, map, position, Option, is_some}
 use Rattle.run_data.specs.declared.entry.LogFile.{LogFile}
 use Rattle.run_data.specs.declared.entry.LogFile.TheVariants as files
 use Rattle.run_data.specs.declared.job.JobKind.{JobKind}
@@ -47,12 +47,11 @@ is_shown (files.Location key) = false
 is_shown (files.Of kind) = true
 is_shown (files.Other name) = false
 
--- a drop of the repository's own copy, a get, or a copy to a peer
+-- a drop, a get, or a copy or a move with its peer
 abbrev pub is_built_job : JobKind → Option ℕ → Bool
-is_built_job job_kinds.Drop peer = is_none peer
+is_built_job job_kinds.Drop peer = true
 is_built_job job_kinds.Get peer = true
-is_built_job job_kinds.Copy peer = is_some peer
-is_built_job kind peer = false
+is_built_job kind peer = is_some peer
 
 abbrev pub is_built_action : Action → Bool
 is_built_action (actions.Have r key content) = true

@@ -32,15 +32,13 @@ fn is_shown(file: &LogFile) -> bool
     }
 }
 
-/// Whether a job of this kind with this peer is a drop of the repository's own copy, a get, or a copy to a peer.
+/// Whether a job of this kind with this peer is a drop, a get, or a copy or a move with its peer.
 fn is_built_job(kind: JobKind, peer: Option<u32>) -> bool
     ensures { result ≡ spec.is_built_job kind peer }
 {
     match kind {
-        JobKind::Drop => peer.is_none(),
-        JobKind::Get => true,
-        JobKind::Copy => peer.is_some(),
-        JobKind::MoveTo | JobKind::MoveFrom => false,
+        JobKind::Drop | JobKind::Get => true,
+        JobKind::Copy | JobKind::MoveTo | JobKind::MoveFrom => peer.is_some(),
     }
 }
 

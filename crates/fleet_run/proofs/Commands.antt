@@ -111,12 +111,10 @@ job_begins : (context : Context) (r : ℕ) (kind : JobKind) (peer : Option ℕ) 
     → MayBegin (record { number = r; ids = ids }) kind peer
 job_begins context r job_kinds.Drop None ids few built two = tt
 job_begins context r job_kinds.Get None ids few built two = tt
-job_begins context r job_kinds.Get (Some peer) ids few built two = other_of context r peer ids few two
-job_begins context r job_kinds.Copy (Some peer) ids few built two = other_of context r peer ids few two
-job_begins context r job_kinds.Drop (Some peer) ids few built two = absurd (cc)
 job_begins context r job_kinds.Copy None ids few built two = absurd (cc)
-job_begins context r job_kinds.MoveTo peer ids few built two = absurd (cc)
-job_begins context r job_kinds.MoveFrom peer ids few built two = absurd (cc)
+job_begins context r job_kinds.MoveTo None ids few built two = absurd (cc)
+job_begins context r job_kinds.MoveFrom None ids few built two = absurd (cc)
+job_begins context r kind (Some peer) ids few built two = other_of context r peer ids few two
 
 pub may_begin : (context : Context) (r : ℕ) (job : Job) (count : ℕ) → length context.repos ≤ count → is_built_job job.kind job.peer ≡ true → script.IsJob context r job → MayBeginAmong count r job
 may_begin context r job count few built stands ids many = job_begins context r job.kind job.peer ids (subst (λ (n : ℕ). length context.repos ≤ n) (sym many) few) built stands.peer
