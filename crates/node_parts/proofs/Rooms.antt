@@ -197,17 +197,17 @@ untouched sender kind was now taken sent posts a takes sends =
 
 -- a session takes and sends at its own end
 none_at : (a b : EndName) (c : End) (bodies : List FrameText) → ((b.peer == a.peer) && (b.slot == a.slot) && same_bool b.client a.client) ≡ false → sent_at a (frames b c bodies) ≡ []
-none_at a b c [] no = refl
-none_at a b c (body ∷ bodies) no =
+none_at a b c [] away = refl
+none_at a b c (body ∷ bodies) away =
     let d = end_sends c body in
-    filter_no (sends_at a) (record { peer = b.peer; slot = b.slot; up = b.client; epoch = d.epoch; seq = d.sent; body = body }) (frames b d bodies) no ∙ none_at a b d bodies no
+    filter_no (sends_at a) (record { peer = b.peer; slot = b.slot; up = b.client; epoch = d.epoch; seq = d.sent; body = body }) (frames b d bodies) away ∙ none_at a b d bodies away
 
 served_taken : (links : List EndView) (v : Served) (a : EndName) → a.client ≡ true → (o : Option FrameView) → taken_by_served links v ≡ o → taken_at a o ≡ None
 served_taken links v a client None is = refl
 served_taken links v a client (Some f) is =
     let up : f.up ≡ true = (waits_there links (end_by v) f (took_waits v.takes (wait_at links (end_by v)) f is)).2 in
-    let no : takes_at a f ≡ false = (λ i. ((f.peer == a.peer) && (f.slot == a.slot)) && same_bool (client i) (if up i then false else true)) ∙ and-false ((f.peer == a.peer) && (f.slot == a.slot)) in
-    ap (λ (b : Bool). if b then Some f else None) no
+    let away : takes_at a f ≡ false = (λ i. ((f.peer == a.peer) && (f.slot == a.slot)) && same_bool (client i) (if up i then false else true)) ∙ and-false ((f.peer == a.peer) && (f.slot == a.slot)) in
+    ap (λ (b : Bool). if b then Some f else None) away
 
 served_sent : (v : Served) (a : EndName) → a.client ≡ true → (c : End) (bodies : List FrameText) → sent_at a (frames (end_by v) c bodies) ≡ []
 served_sent v a client c bodies = none_at a (end_by v) c bodies (ap (λ (b : Bool). ((v.peer == a.peer) && (v.slot == a.slot)) && same_bool false b) client ∙ and-false ((v.peer == a.peer) && (v.slot == a.slot)))
@@ -266,28 +266,28 @@ none_of a g (p ∷ ps) none = filter-append (sends_at a) (g p) (flat_map g ps) �
 
 module _ (links : List EndView) (slot : ℕ) (a : EndName) where
   other_slot : (slot == a.slot) ≡ false → (peer : ℕ) → ((peer == a.peer) && (slot == a.slot) && same_bool true a.client) ≡ false
-  other_slot no peer = ap (λ (b : Bool). ((peer == a.peer) && b) && same_bool true a.client) no ∙ ap (λ (b : Bool). b && same_bool true a.client) (and-false (peer == a.peer))
+  other_slot away peer = ap (λ (b : Bool). ((peer == a.peer) && b) && same_bool true a.client) away ∙ ap (λ (b : Bool). b && same_bool true a.client) (and-false (peer == a.peer))
 
   other_peer : (peer : ℕ) → (peer == a.peer) ≡ false → ((peer == a.peer) && (slot == a.slot) && same_bool true a.client) ≡ false
-  other_peer peer no = ap (λ (b : Bool). (b && (slot == a.slot)) && same_bool true a.client) no
+  other_peer peer away = ap (λ (b : Bool). (b && (slot == a.slot)) && same_bool true a.client) away
 
   -- a job sends in its own slot alone
   in_own_slot : (sent : Sent) → (slot == a.slot) ≡ false → sent_at a (frames_in links slot sent) ≡ []
-  in_own_slot (sents.ByDrop ps) no = none_of a (λ p. frames (end_in slot p.peer) (end_at links (end_in slot p.peer)) (texts_of p.body)) ps.items
+  in_own_slot (sents.ByDrop ps) away = none_of a (λ p. frames (end_in slot p.peer) (end_at links (end_in slot p.peer)) (texts_of p.body)) ps.items
       (Each-always (λ p. sent_at a (frames (end_in slot p.peer) (end_at links (end_in slot p.peer)) (texts_of p.body)) ≡ [])
-      (λ p. none_at a (end_in slot p.peer) (end_at links (end_in slot p.peer)) (texts_of p.body) (other_slot no p.peer)) ps.items)
-  in_own_slot (sents.ByTransfer ps) no = none_of a (λ p. frames (end_in slot p.peer) (end_at links (end_in slot p.peer)) (text_in p.body ∷ [])) ps.items
+      (λ p. none_at a (end_in slot p.peer) (end_at links (end_in slot p.peer)) (texts_of p.body) (other_slot away p.peer)) ps.items)
+  in_own_slot (sents.ByTransfer ps) away = none_of a (λ p. frames (end_in slot p.peer) (end_at links (end_in slot p.peer)) (text_in p.body ∷ [])) ps.items
       (Each-always (λ p. sent_at a (frames (end_in slot p.peer) (end_at links (end_in slot p.peer)) (text_in p.body ∷ [])) ≡ [])
-      (λ p. none_at a (end_in slot p.peer) (end_at links (end_in slot p.peer)) (text_in p.body ∷ []) (other_slot no p.peer)) ps.items)
+      (λ p. none_at a (end_in slot p.peer) (end_at links (end_in slot p.peer)) (text_in p.body ∷ []) (other_slot away p.peer)) ps.items)
 
   -- and nothing to a peer to which no parcel goes
   none_to : (sent : Sent) → SendsNoneTo a.peer sent → sent_at a (frames_in links slot sent) ≡ []
-  none_to (sents.ByDrop ps) no = none_of a (λ p. frames (end_in slot p.peer) (end_at links (end_in slot p.peer)) (texts_of p.body)) ps.items
+  none_to (sents.ByDrop ps) away = none_of a (λ p. frames (end_in slot p.peer) (end_at links (end_in slot p.peer)) (texts_of p.body)) ps.items
       (Each-weaker (λ p. (p.peer == a.peer) ≡ false) (λ p. sent_at a (frames (end_in slot p.peer) (end_at links (end_in slot p.peer)) (texts_of p.body)) ≡ [])
-      (λ p other. none_at a (end_in slot p.peer) (end_at links (end_in slot p.peer)) (texts_of p.body) (other_peer p.peer other)) ps.items no)
-  none_to (sents.ByTransfer ps) no = none_of a (λ p. frames (end_in slot p.peer) (end_at links (end_in slot p.peer)) (text_in p.body ∷ [])) ps.items
+      (λ p other. none_at a (end_in slot p.peer) (end_at links (end_in slot p.peer)) (texts_of p.body) (other_peer p.peer other)) ps.items away)
+  none_to (sents.ByTransfer ps) away = none_of a (λ p. frames (end_in slot p.peer) (end_at links (end_in slot p.peer)) (text_in p.body ∷ [])) ps.items
       (Each-weaker (λ p. (p.peer == a.peer) ≡ false) (λ p. sent_at a (frames (end_in slot p.peer) (end_at links (end_in slot p.peer)) (text_in p.body ∷ [])) ≡ [])
-      (λ p other. none_at a (end_in slot p.peer) (end_at links (end_in slot p.peer)) (text_in p.body ∷ []) (other_peer p.peer other)) ps.items no)
+      (λ p other. none_at a (end_in slot p.peer) (end_at links (end_in slot p.peer)) (text_in p.body ∷ []) (other_peer p.peer other)) ps.items away)
 
 -- where it stood with an open end, and was told of a frame there, that had room
 fed_room : (opened room : Bool) (o : Option Feed) (f : Feed) → Some f ≡ feed_by opened room o → opened ≡ true → room ≡ true

@@ -48,9 +48,9 @@ pub heard_this : (p : ℕ) (h : Heard) (heard : List (ℕ × Heard)) → heard_i
 heard_this p h heard = ap (λ (b : Bool). found_as b p h heard p) (eqb_refl p)
 
 flip : (a b : ℕ) → (a == b) ≡ false → (b == a) ≡ false
-flip a b no = elim (cases_Bool (b == a)) [
-  | inl is ↦ absurd (true≢false (sym (eqb_refl a) ∙ (ap (λ (n : ℕ). a == n) (sym (eqb-true b a is)) ∙ no)))
-  | inr other ↦ other
+flip a b other = elim (cases_Bool (b == a)) [
+  | inl is ↦ absurd (true≢false (sym (eqb_refl a) ∙ (ap (λ (n : ℕ). a == n) (sym (eqb-true b a is)) ∙ other)))
+  | inr apart ↦ apart
 ]
 
 -- ---- a step
@@ -65,8 +65,8 @@ ends_apart own target w w' out ended word = record {
 
 -- what it sends goes to none of which it has a lock then
 unlocked_parcels : (w : Worker) (ps : List Parcel) (peer : ℕ) → Each (λ p. is_locked_in w p.peer ≡ false) ps → is_locked_in w peer ≡ true → Each (λ p. (p.peer == peer) ≡ false) ps
-unlocked_parcels w ps peer unlocked locked = Each-weaker (λ p. is_locked_in w p.peer ≡ false) (λ p. (p.peer == peer) ≡ false) (λ p no. elim (cases_Bool (p.peer == peer)) [
-  | inl same ↦ absurd (true≢false (sym locked ∙ (ap (is_locked_in w) (sym (eqb-true p.peer peer same)) ∙ no)))
+unlocked_parcels w ps peer unlocked locked = Each-weaker (λ p. is_locked_in w p.peer ≡ false) (λ p. (p.peer == peer) ≡ false) (λ p free. elim (cases_Bool (p.peer == peer)) [
+  | inl same ↦ absurd (true≢false (sym locked ∙ (ap (is_locked_in w) (sym (eqb-true p.peer peer same)) ∙ free)))
   | inr other ↦ other
 ]) ps unlocked
 
@@ -104,18 +104,22 @@ said_to : (peer : ℕ) (o : Option Message) → Each (λ p. p.peer ≡ peer) (sa
 said_to peer None = tt
 said_to peer (Some m) = (refl, tt)
 
-asks_by : (target peer time : ℕ) (w : Worker) (version : ℕ) (need : Need) (end : Option ℕ) → heard_in w.heard peer ≡ None → AsksApart target w.heard (first_request need w target time peer version end).phase
+-- what it asks then
+abbrev pub AsksBy : ℕ → List (ℕ × Heard) → Request → Type 0
+AsksBy target heard q = AsksApart target heard q.phase
+
+asks_by : (target peer time : ℕ) (w : Worker) (version : ℕ) (need : Need) (end : Option ℕ) → heard_in w.heard peer ≡ None → AsksBy target w.heard (first_request need w target time peer version end)
 asks_by target peer time w version need end none = by_peer (target == peer) refl end
   where
-    by_version : (b : Bool) → AsksApart target w.heard (if b then record { kind = Talk (Some w.number); says = None; phase = phases.Ends (endings.OldProtocol version) } else record { kind = Talk (Some w.number); says = Some GetTimestamp; phase = phases.AsksTime }).phase
+    by_version : (b : Bool) → AsksBy target w.heard (if b then record { kind = Talk (Some w.number); says = None; phase = phases.Ends (endings.OldProtocol version) } else record { kind = Talk (Some w.number); says = Some GetTimestamp; phase = phases.AsksTime })
     by_version true = record { asked = tt; other = tt }
     by_version false = record { asked = tt; other = tt }
 
-    by_end : (e : Option ℕ) → AsksApart target w.heard (target_request need w target version e).phase
+    by_end : (e : Option ℕ) → AsksBy target w.heard (target_request need w target version e)
     by_end None = record { asked = tt; other = tt }
     by_end (Some e) = by_version (nat_lt version 3)
 
-    by_peer : (b : Bool) → (target == peer) ≡ b → (e : Option ℕ) → AsksApart target w.heard (if b then target_request need w target version e else record { kind = Talk (Some w.number); says = Some (LockContent w.job.key); phase = phases.AsksLock peer time }).phase
+    by_peer : (b : Bool) → (target == peer) ≡ b → (e : Option ℕ) → AsksBy target w.heard (if b then target_request need w target version e else record { kind = Talk (Some w.number); says = Some (LockContent w.job.key); phase = phases.AsksLock peer time })
     by_peer true is e = by_end e
     by_peer false is e = record { asked = none; other = is }
 
@@ -222,7 +226,7 @@ module _ (own target : ℕ) (w u w' : Worker) (before : Heard) (was : u ≡ reco
 -- its own share: that is no lock of another repository
 pub shares_stays : (own target : ℕ) (h : Heard) (w w' : Worker) (out : Output) → w'.heard ≡ (own, h) ∷ w.heard → w'.phase ≡ phases.Next → w'.word ≡ w.word → out.sends.items ≡ [] → StaysApartIn own target w w' out
 shares_stays own target h w w' out heard phase word sends = λ other apart.
-    hears_apart own target own h w w' out heard phase word apart.unheard (flip own target other) (λ held no. absurd (true≢false (sym (eqb_refl own) ∙ no))) sends
+    hears_apart own target own h w w' out heard phase word apart.unheard (flip own target other) (λ held other_own. absurd (true≢false (sym (eqb_refl own) ∙ other_own))) sends
 
 -- ---- a share that couldn't be released
 
@@ -297,7 +301,7 @@ asks_on target peer w w' out at heard word next looked to = λ own apart.
     says_apart own target peer w w' out heard (λ _. word) apart.unheard none (record {
       asked = subst (λ (o : Option ℕ). IfSome o (λ p. heard_in w.heard p ≡ None)) (sym next) none;
       other = elim looked [
-        | inl not ↦ subst (λ (o : Option ℕ). IfSome o (λ p. (target == p) ≡ false)) (sym not) tt
+        | inl unlooked ↦ subst (λ (o : Option ℕ). IfSome o (λ p. (target == p) ≡ false)) (sym unlooked) tt
         | inr same ↦ subst (λ (o : Option ℕ). IfSome o (λ p. (target == p) ≡ false)) (sym same.1) (subst (λ (o : Option ℕ). IfSome o (λ p. (target == p) ≡ false)) same.0 apart.other)
       ];
     }) to
