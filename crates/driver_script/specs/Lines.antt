@@ -1,5 +1,5 @@
 -- The repositories that a script declares, and which forms of line are built (own).
-use Rattle.std.specs.Prelude.{ℕ, Bool, true, false, not, ◌==◌, ◌&&◌, List, [], ◌∷◌, ◌++◌, map, position, Option, is_some}
+use Rattle.std.specs.Prelude.{ℕ, Bool, true, false, not, List, [], ◌∷◌, ◌++◌, map, position, Option, is_some}
 use Rattle.run_data.specs.declared.entry.LogFile.{LogFile}
 use Rattle.run_data.specs.declared.entry.LogFile.TheVariants as files
 use Rattle.run_data.specs.declared.job.JobKind.{JobKind}
@@ -30,10 +30,6 @@ repos_of [] = []
 repos_of (c ∷ cs) = declared_by c ++ repos_of cs
 
 -- ---- the forms that are built
-
--- a repository that speaks version 3, and gives holds to its peers
-abbrev pub is_plain_repo : ℕ → Bool → Bool
-is_plain_repo version locks = (version == 3) && locks
 
 -- the file to which a line may add: any that is known
 abbrev pub is_added : LogFile → Bool
@@ -88,7 +84,7 @@ is_built_showing showings.Journal = true
 
 -- no part is missing to do what the command says
 abbrev pub is_built : Command → Bool
-is_built (commands.Repo name id offset version locks) = is_plain_repo version locks
+is_built (commands.Repo name id offset version locks) = true
 is_built (commands.Does action) = is_built_action action
 is_built (commands.Damage r key content) = false
 is_built (commands.Par lines) = false

@@ -5,13 +5,6 @@ ghost use Rattle.driver_script.specs.Lines as spec;
 use run_data::{JobKind, LogFile};
 use script_lang::{Action, Command, Showing};
 
-/// Whether the repository speaks the newest version, and gives holds to its peers.
-fn is_plain_repo(version: u8, locks: bool) -> bool
-    ensures { result ≡ spec.is_plain_repo version locks }
-{
-    version == 3 && locks
-}
-
 /// Whether a line may add to the file.
 fn is_added(file: &LogFile) -> bool
     ensures { result ≡ spec.is_added file.now }
@@ -91,7 +84,7 @@ pub fn runs(command: &Command) -> bool
     ensures { result ≡ spec.is_built command.now }
 {
     match command {
-        Command::Repo { version, locks, .. } => is_plain_repo(*version, *locks),
+        Command::Repo { .. } => true,
         Command::Does { action } => does(action),
         Command::Damage { .. } | Command::Par { .. } => false,
         Command::Shows { what } => shows(what),
