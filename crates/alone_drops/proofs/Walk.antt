@@ -265,7 +265,7 @@ module _ (reads_back : SentAreRead) (run : Run) (repos : Each IsSetUp run.repos)
       first_step (Talk (Some i)) is k tk =
           let y = tk.first old.part_is fresh in
           let talks = first_talk rows a v e i fresh old.part_is (ap (λ (q : Entry). q.taken) st.by.is ∙ y.takes_none) (ap (λ (q : Entry). q.sent) st.by.is ∙ y.sends_none) in
-          let told : Untold turn = subst (FirstSays turn) (sym (ap (λ (q : Entry). q.kind) st.by.is) ∙ is) (step_first turn st.by.made old.part_is fresh y.side st.by.does) in (
+          let told : Untold turn = subst (FirstSays turn) (sym (ap (λ (q : Entry). q.kind) st.by.is) ∙ is) (step_first turn st.by.made old.part_is fresh st.by.does) in (
             subst (λ (g : Work). Each (λ x. F x.0 x.1) g.heard) (sym talks) (look_heard told),
             subst (S (e ∷ p)) (sym (ap (λ (g : Work). g.phase) talks ∙ first_next a v (present p a v.what.key) (bar p a v.what.key))) (first_under (of_remote y.side), tt),
           )
