@@ -22,7 +22,7 @@ use Rattle.node_drops.specs.Places.{PlaceView}
 use Rattle.node_drops.specs.Waiting.{WaitsFor}
 use Rattle.node_drops.proofs.Hearing.{count_is}
 use Rattle.transfer_turns.specs.Parcels.{end_in}
-use Rattle.node_transfers.specs.TransferJob.{TransferJob}
+use Rattle.node_transfers.specs.declared.job.TransferJob.{TransferJob}
 use Rattle.node_transfers.specs.States.{HaveState}
 use Rattle.node_transfers.specs.Ready as transfers
 use Rattle.node_tasks.specs.declared.readiness.Told.TheVariants as tolds

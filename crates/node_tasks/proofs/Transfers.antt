@@ -51,7 +51,7 @@ use Rattle.transfer_turns.specs.Turns.{Sight}
 use Rattle.node_transfers.specs.Worker.{Worker}
 use Rattle.node_transfers.specs.Worker.TheVariants.{Gets, Puts as Offers}
 use Rattle.node_transfers.specs.States.{Sees, StepsSo}
-use Rattle.node_transfers.specs.TransferJob.{TransferJob}
+use Rattle.node_transfers.specs.declared.job.TransferJob.{TransferJob}
 use Rattle.node_transfers.specs.Transferring as workers
 use Rattle.node_transfers.specs.Transferring.{KeepsSo}
 use Rattle.node_transfers.specs.Workers.{HasFill, IsFed, SeesPart, is_done, work_of}

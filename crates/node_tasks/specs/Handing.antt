@@ -3,7 +3,7 @@ use Rattle.std.specs.Prelude.{◌≡◌, true, false, [], None}
 use Rattle.drop_phases.specs.declared.phase.Phase.TheVariants as phases
 use Rattle.drop_phases.specs.declared.phase.Token.TheVariants as tokens
 use Rattle.node_drops.specs.Drops.{DropJob, work_now}
-use Rattle.node_transfers.specs.TransferJob.{TransferJob}
+use Rattle.node_transfers.specs.declared.job.TransferJob.{TransferJob}
 use Rattle.node_transfers.specs.Workers.{is_done, work_of}
 use Rattle.node_tasks.specs.declared.task.Task.{Task}
 use Rattle.node_tasks.specs.declared.task.Task.TheVariants as tasks

@@ -6,7 +6,7 @@ pub mod Owing
 pub mod Handing
 pub use Rattle.node_transfers.specs.Ready
 pub use Rattle.node_transfers.specs.States
-pub use Rattle.node_transfers.specs.TransferJob
+pub use Rattle.node_transfers.specs.declared.job.TransferJob
 pub use Rattle.node_transfers.specs.Worker
 pub use Rattle.node_transfers.specs.Workers
 pub use Rattle.node_drops.specs.Drops

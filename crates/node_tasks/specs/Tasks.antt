@@ -17,7 +17,7 @@ use Rattle.drop_phases.specs.Working.{words_of}
 use Rattle.node_drops.specs.Drops.{HasRead, IsDrop, place_reading, work_now as drop_work}
 use Rattle.node_drops.specs.Feeds.{SeesJob}
 use Rattle.node_drops.specs.Places.{IsPlace, PlaceView}
-use Rattle.node_transfers.specs.TransferJob.{TransferJob}
+use Rattle.node_transfers.specs.declared.job.TransferJob.{TransferJob}
 use Rattle.node_transfers.specs.Workers.{CanStep, HasFill, IsFed, work_of}
 use Rattle.transfer_turns.specs.Partners.{TalksApart}
 use Rattle.node_transfers.specs.Ready.{NamesPeer, sight_of}

@@ -1,5 +1,5 @@
 -- By what it has read, or reads now.
-use Rattle.std.proofs.Common.{◌≡◌, Option, Some, sym, subst}
+use Rattle.std.proofs.Common.{Option, Some, sym, subst}
 use Rattle.std.specs.Prelude.{IfOk}
 use Rattle.trust_groups.specs.View.{settings_of}
 use Rattle.node_drops.specs.Calling.{JobMakes}

@@ -1,7 +1,7 @@
 -- The transfer's step, whichever job it hands on to.
 use Rattle.std.proofs.Common.{refl}
 use Rattle.transfer_turns.specs.Steps.{seen}
-use Rattle.node_transfers.specs.TransferJob.{TransferJob}
+use Rattle.node_transfers.specs.declared.job.TransferJob.{TransferJob}
 use Rattle.node_tasks.proofs.Transfers.{transfer_acts, transfer_leaves, transfer_makes, transfer_stays}
 use Rattle.node_tasks.proofs.acting.transfer_step.Goals as goal
 
