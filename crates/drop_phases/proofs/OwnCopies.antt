@@ -1,5 +1,5 @@
 -- A remote drop asks its own repository no more, once it has heard of it.
-use Rattle.std.proofs.Common.{◌≡◌, ◌⊎◌, inl, inr, ℕ, Bool, true, false, List, ◌∷◌, map, Option, Some, None, refl, ap, ◌∙◌}
+use Rattle.std.proofs.Common.{◌≡◌, inl, inr, ℕ, Bool, true, false, List, ◌∷◌, map, Option, Some, None, refl, ap, ◌∙◌}
 use Rattle.std.specs.Prelude.{◌==◌, if◌then◌else◌, find, is_some, option_map}
 use Rattle.annex_base.proofs.Conditions.{eqb_refl}
 use Rattle.node_model.specs.Evidence.{Standing, Claimed, Ignored, Asked}

@@ -1,6 +1,6 @@
 -- The step of a drop, put together of its parts.
 use Rattle.std.proofs.Common.{◌≡◌, ◌≤◌, inl, ℕ, false, List, Option, Some, None, Result, Ok, Err, refl, sym, ap, ◌∙◌, subst}
-use Rattle.std.specs.Prelude.{◌==◌, IfOk, IfSome, OnErr}
+use Rattle.std.specs.Prelude.{IfOk, IfSome, OnErr}
 use Rattle.std.specs.Option.{ForSome}
 use Rattle.annex_base.specs.Causes.{Rose}
 use Rattle.annex_base.specs.declared.kinds.Word.{Word}

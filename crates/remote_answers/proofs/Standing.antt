@@ -1,9 +1,8 @@
 -- Where a remote drop stands after a version.
-use Rattle.std.proofs.Common.{◌≡◌, ℕ, false, Option, Ok, sym, ap, ◌∙◌, subst}
+use Rattle.std.proofs.Common.{◌≡◌, ℕ, Option, Ok, sym, subst}
 use Rattle.drop_proof.specs.declared.rule.Need.{Need}
-use Rattle.node_model.specs.Knows.{Reading}
 use Rattle.drop_phases.specs.declared.turn.Output.{Output}
-use Rattle.drop_phases.specs.Begun.{GoesWith, HasBegun, HasGone, IsOther}
+use Rattle.drop_phases.specs.Begun.{GoesWith, HasGone}
 use Rattle.drop_phases.specs.Worker.{Worker}
 use Rattle.drop_phases.specs.Working.{with_version}
 use Rattle.remote_requests.specs.Remote.{Says, ShutsRemote, first_request}

@@ -1,5 +1,5 @@
 -- A transfer by its worker.
-use Rattle.std.proofs.Common.{◌≡◌, ℕ, false, List, [], refl}
+use Rattle.std.proofs.Common.{◌≡◌, false, [], refl}
 use Rattle.get_phases.specs.declared.getting.Phase.{Phase as GetPhase}
 use Rattle.get_phases.specs.declared.getting.Phase.TheVariants as getting
 use Rattle.get_phases.specs.Gets as gets
