@@ -11,7 +11,7 @@ use Rattle.p2p_wire.specs.Messages.{message_of}
 use Rattle.node_model.specs.Sessions.{line_in}
 use Rattle.node_model.specs.Ends.{end_after}
 use Rattle.node_model.specs.Jobs
-use Rattle.node_model.specs.Jobs.{Drops, Fresh, Gets, Orders, Part, Phase, PutsAnswer, PutsOffer, RowsAndEnds, Work, closed_part, first_look, hears_frame, job_end, listens, quiet, talks, talks_on, after_frame, after_line}
+use Rattle.node_model.specs.Jobs.{Fresh, Gets, Orders, Part, Phase, PutsAnswer, PutsOffer, RowsAndEnds, Work, closed_part, first_look, hears_frame, job_end, listens, quiet, talks, talks_on, after_frame, after_line}
 use Rattle.step_facts.proofs.JobKept.{closed_stays, sends_stays}
 
 -- the answers by which the peer has the content
