@@ -66,8 +66,9 @@ use Rattle.node_tasks.specs.Handing.{BeginsDrop, HandsOn}
 use Rattle.node_tasks.specs.Tasks.{HasReadOf, IsFedTask, IsSpent, IsTask, IsTransfer, OwnsOf, number_of, work_now}
 use Rattle.node_tasks.specs.Telling.{frame_in}
 
-abbrev pub made_of : Output → Made
-made_of out = record { kind = out.kind; sent = ByTransfer out.sends; ended = is_end out.kind }
+-- the job has ended, or hasn't
+abbrev pub made_of : Output → Bool → Made
+made_of out ended = record { kind = out.kind; sent = ByTransfer out.sends; ended = ended }
 
 -- ---- the job that it is from here on
 
@@ -133,22 +134,22 @@ module _ (p : PlaceView) (clock : ClockSet) (links : List EndView) (settings : S
     comes = sees.comes.1;
   }
 
-  pub transfer_acts : (w' : TransferJob) (next : Task) (out : Output) → (work_of w').number ≡ (work_of w).number → HandsOn w' next
+  pub transfer_acts : (w' : TransferJob) (next : Task) (out : Output) (ended : Bool) → ended ≡ is_end out.kind → (work_of w').number ≡ (work_of w).number → HandsOn w' next
       → ForSome contents (λ c. (s : SetUp) (st : State) (k : Look) (g : Option FrameView) → Sees sight rows c (work_of w) x.incoming (failed_in out.kind) (SeesPart known w x.incoming) s st k g → StepsSo sight (work_of w) (work_of w') out s st k g)
-      → Acts p clock links settings time number contents known rows (tasks.Transfers w) next (tolds.Arrival x) (made_of out)
-  transfer_acts w' next out same hands steps = λ c is s st k sees.
+      → Acts p clock links settings time number contents known rows (tasks.Transfers w) next (tolds.Arrival x) (made_of out ended)
+  transfer_acts w' next out ended is_ended same hands steps = λ c is s st k sees.
       let so = steps c is s st k f (seen_by c out s st k sees) in
       record {
         made = so.made;
-        next = λ going. handed_work w' next hands ∙ so.next going;
+        next = λ going. handed_work w' next hands ∙ so.next (sym is_ended ∙ going);
         read = λ going st' logs read. handed_read s st' w' next hands (ap (λ (v : Work). st'.read v.number) (handed_work w' next hands) ∙ (ap st'.read same ∙ (read ∙ (sees.sees.read ∙ sym logs))));
       }
 
-  pub transfer_makes : (before after : Failing) (out : Output)
+  pub transfer_makes : (before after : Failing) (out : Output) (ended : Bool)
       → ForSome contents (λ c. (s : SetUp) (st : State) (k : Look) (g : Option FrameView) → Sees sight rows c (work_of w) x.incoming (failed_in out.kind) (SeesPart known w x.incoming) s st k g
       → ForSome (slot_step s st k (Some (work_of w))) (λ (m : Effect). MakesCalls m.calls (failed_in out.kind) before after))
-      → Makes p clock links settings time number contents known rows before after (tasks.Transfers w) (tolds.Arrival x) (made_of out)
-  transfer_makes before after out makes = λ c is s st k sees. makes c is s st k f (seen_by c out s st k sees)
+      → Makes p clock links settings time number contents known rows before after (tasks.Transfers w) (tolds.Arrival x) (made_of out ended)
+  transfer_makes before after out ended makes = λ c is s st k sees. makes c is s st k f (seen_by c out s st k sees)
 
 -- ---- what it leaves
 
@@ -235,7 +236,7 @@ fresh_fits : (side : Side) → FitsSide side phases.Fresh tokens.Nothing
 fresh_fits Local = tt
 fresh_fits Remote = tt
 
-module _ (p : PlaceView) (links : List EndView) (rows rows' : Rows) (k k' : Seen) (w w' : TransferJob) (x : Arrival) (out : Output) (transfer : IsTransfer p w) where
+module _ (p : PlaceView) (links : List EndView) (rows rows' : Rows) (k k' : Seen) (w w' : TransferJob) (transfer : IsTransfer p w) where
   abbrev here : Sight
   here = sight_of p.number (length p.ids) links
 
@@ -245,7 +246,7 @@ module _ (p : PlaceView) (links : List EndView) (rows rows' : Rows) (k k' : Seen
   undone : is_done w ≡ false
   undone = not_done nowhere w.worker transfer.can
 
-  module _ (bare : HasToken (work_of w).number (work_of w).what.key tokens.Nothing rows) (keeps : KeepsSo here x.incoming rows rows' k k' w.worker w'.worker out) (paths : w'.paths ≡ w.paths) where
+  module _ (x : Arrival) (out : Output) (bare : HasToken (work_of w).number (work_of w).what.key tokens.Nothing rows) (keeps : KeepsSo here x.incoming rows rows' k k' w.worker w'.worker out) (paths : w'.paths ≡ w.paths) where
     bars : (key : List ℕ) → bar_at rows' key ≡ bar_at rows key
     bars key = ap (λ (bs : _). bar_at (record rows { bars = bs }) key) keeps.leaves.bars
 
@@ -279,8 +280,8 @@ module _ (p : PlaceView) (links : List EndView) (rows rows' : Rows) (k k' : Seen
     is_task (tasks.Drops j) h = begins j h
     is_task (tasks.Transfers v) h = subst (IsTransfer p) (sym h.1) (goes_on h.0)
 
-    pub transfer_leaves : (next : Task) (n : ℕ) → HandsOn w' next → LeavesSo p n rows rows' k k' (tasks.Transfers w) next (tolds.Arrival x) (made_of out)
-    transfer_leaves next n hands =
+    pub transfer_leaves : (ended : Bool) → ended ≡ is_end out.kind → (next : Task) (n : ℕ) → HandsOn w' next → LeavesSo p n rows rows' k k' (tasks.Transfers w) next (tolds.Arrival x) (made_of out ended)
+    transfer_leaves ended is_ended next n hands =
         let work : work_now next ≡ work_of w' = handed_work w' next hands in
         record {
           number = ap (λ (v : Work). v.number) work ∙ keeps.leaves.number;
@@ -288,11 +289,11 @@ module _ (p : PlaceView) (links : List EndView) (rows rows' : Rows) (k k' : Seen
           what = ap (λ (v : Work). v.what) work ∙ keeps.leaves.what;
           heard = handed_heard w w' next x paths hands;
           locks = tt;
-          onward = λ going. onward (work_of w).number out.kind keeps.leaves.kind keeps.leaves.whose going;
-          last = λ ended. last (work_of w).number out.kind keeps.leaves.kind keeps.leaves.whose ended;
+          onward = λ going. onward (work_of w).number out.kind keeps.leaves.kind keeps.leaves.whose (sym is_ended ∙ going);
+          last = λ at_end. last (work_of w).number out.kind keeps.leaves.kind keeps.leaves.whose (sym is_ended ∙ at_end);
           numbered = numbered n out.kind keeps.leaves.kind;
           task = λ going. is_task next hands;
-          spent = λ ended. handed_spent w' next hands;
+          spent = λ at_end. handed_spent w' next hands;
           owns = handed_owns rows' w' next hands (moved keeps.leaves.number keeps.leaves.what (keeps_token rows rows' keeps.leaves.holds bars (work_of w).number (work_of w).what.key tokens.Nothing bare)) keeps.has;
           others = λ job key token other has. keeps_token rows rows' keeps.leaves.holds bars job key token has;
           after = keeps.leaves.holds ∙ stay.0;

@@ -24,10 +24,10 @@ returns-in-Arrival-told-clause-acts g c =
     let next = c.hand_on.result in
     let x = c.in-Arrival-told.arrival in
     let settings = settings_of c.args.settings.now in
-    subst (λ (t : Task). IfOk c.transfer_step.result (Acts place c.args.clock ends settings c.args.time c.args.number contents parts c.args.table.now t next c.args.told)) (sym c.in-Transfers.is)
-    (subst (λ (told : Told). IfOk c.transfer_step.result (Acts place c.args.clock ends settings c.args.time c.args.number contents parts c.args.table.now (tasks.Transfers w) next told)) (sym c.in-Arrival-told.is)
-    (handed (λ (t : Task) (clock : ClockSet) (s : Settings) (time number : ℕ) (out : Output). Acts place clock ends s time number contents parts c.args.table.now (tasks.Transfers w) t (tolds.Arrival x) out) c.transfer_step.new.job next
-    c.args.clock settings c.args.time c.args.number c.transfer_step.result c.hand_on.ensures c.transfer_step.ensures.acts))
+    subst (λ (t : Task). IfOk c.transfer_step-made.result (Acts place c.args.clock ends settings c.args.time c.args.number contents parts c.args.table.now t next c.args.told)) (sym c.in-Transfers.is)
+    (subst (λ (told : Told). IfOk c.transfer_step-made.result (Acts place c.args.clock ends settings c.args.time c.args.number contents parts c.args.table.now (tasks.Transfers w) next told)) (sym c.in-Arrival-told.is)
+    (handed (λ (t : Task) (clock : ClockSet) (s : Settings) (time number : ℕ) (out : Output). Acts place clock ends s time number contents parts c.args.table.now (tasks.Transfers w) t (tolds.Arrival x) out) c.transfer_step-made.new.job next
+    c.args.clock settings c.args.time c.args.number c.transfer_step-made.result c.hand_on.ensures c.transfer_step-made.ensures.acts))
 
 pub returns-in-Arrival-told-clause-calls : goal.returns-in-Arrival-told-clause-calls
 returns-in-Arrival-told-clause-calls g c =
@@ -36,22 +36,22 @@ returns-in-Arrival-told-clause-calls g c =
     let contents = g.K.Keeper.contents c.args.keeper.now in
     let parts = g.K.Keeper.parts c.args.keeper.now in
     let before = g.K.Keeper.failing c.args.keeper.now in
-    let after = g.K.Keeper.failing c.transfer_step.new.keeper in
+    let after = g.K.Keeper.failing c.transfer_step-made.new.keeper in
     let w = c.in-Transfers.job in
     let x = c.in-Arrival-told.arrival in
     let settings = settings_of c.args.settings.now in
-    subst (λ (t : Task). IfOk c.transfer_step.result (Makes place c.args.clock ends settings c.args.time c.args.number contents parts c.args.table.now before after t c.args.told)) (sym c.in-Transfers.is)
-    (subst (λ (told : Told). IfOk c.transfer_step.result (Makes place c.args.clock ends settings c.args.time c.args.number contents parts c.args.table.now before after (tasks.Transfers w) told)) (sym c.in-Arrival-told.is)
-    (at (λ (clock : ClockSet) (s : Settings) (time number : ℕ) (out : Output). Makes place clock ends s time number contents parts c.args.table.now before after (tasks.Transfers w) (tolds.Arrival x) out) c.args.clock settings c.args.time c.args.number c.transfer_step.result c.transfer_step.ensures.calls))
+    subst (λ (t : Task). IfOk c.transfer_step-made.result (Makes place c.args.clock ends settings c.args.time c.args.number contents parts c.args.table.now before after t c.args.told)) (sym c.in-Transfers.is)
+    (subst (λ (told : Told). IfOk c.transfer_step-made.result (Makes place c.args.clock ends settings c.args.time c.args.number contents parts c.args.table.now before after (tasks.Transfers w) told)) (sym c.in-Arrival-told.is)
+    (at (λ (clock : ClockSet) (s : Settings) (time number : ℕ) (out : Output). Makes place clock ends s time number contents parts c.args.table.now before after (tasks.Transfers w) (tolds.Arrival x) out) c.args.clock settings c.args.time c.args.number c.transfer_step-made.result c.transfer_step-made.ensures.calls))
 
 pub returns-in-Arrival-told-clause-leaves : goal.returns-in-Arrival-told-clause-leaves
 returns-in-Arrival-told-clause-leaves g c =
     let place = c.args.place.now in
     let was = c.args.keeper.now in
-    let now = c.transfer_step.new.keeper in
+    let now = c.transfer_step-made.new.keeper in
     let before = seen (g.K.Keeper.contents was) (g.K.Keeper.parts was) (g.K.Keeper.records was) (g.K.Keeper.files was) (g.K.Keeper.faults was) (g.K.Keeper.failing was) in
     let after = seen (g.K.Keeper.contents now) (g.K.Keeper.parts now) (g.K.Keeper.records now) (g.K.Keeper.files now) (g.K.Keeper.faults now) (g.K.Keeper.failing now) in
     let next = c.hand_on.result in
-    subst (λ (t : Task). Leaves place c.args.number c.args.table.now c.transfer_step.new.table before after t next c.args.told c.transfer_step.result) (sym c.in-Transfers.is)
-    (subst (λ (told : Told). Leaves place c.args.number c.args.table.now c.transfer_step.new.table before after (tasks.Transfers c.in-Transfers.job) next told c.transfer_step.result) (sym c.in-Arrival-told.is)
-    (c.transfer_step.ensures.leaves next c.args.number c.hand_on.ensures))
+    subst (λ (t : Task). Leaves place c.args.number c.args.table.now c.transfer_step-made.new.table before after t next c.args.told c.transfer_step-made.result) (sym c.in-Transfers.is)
+    (subst (λ (told : Told). Leaves place c.args.number c.args.table.now c.transfer_step-made.new.table before after (tasks.Transfers c.in-Transfers.job) next told c.transfer_step-made.result) (sym c.in-Arrival-told.is)
+    (c.transfer_step-made.ensures.leaves next c.args.number c.hand_on.ensures))

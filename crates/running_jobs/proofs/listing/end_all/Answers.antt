@@ -24,7 +24,7 @@ pub end-requires : goal.end-requires
 end-requires c =
     let front = c.pop.new.self.items in
     let can = subst (CanEnd c.ending.table) c.in-Some.ensures.items c.ending.invariant.left in
-    last_owns c.ending.table front c.in-Some.task can
+    record { owns = last_owns c.ending.table front c.in-Some.task can }
 
 pub ending-preserved : goal.ending-preserved
 ending-preserved c =
