@@ -87,6 +87,14 @@ fn shut(sessions: &mut Sessions, table: &mut LockTable, id: EndId)
 }
 
 impl Parts {
+    /// Whether the end is open.
+    pub fn is_open(&self, id: EndId) -> bool
+        requires there { is_some (link_at self.now.links (name_of id)) ≡ true }
+        ensures { result ≡ (end_at self.now.links (name_of id)).opened }
+    {
+        self.ends.is_open(id)
+    }
+
     /// Closes the connection of an end that is open: the end sends a Close, which takes its place on a list that is empty; where the
     /// end is a server's, a hold that its session guards is kept, a part that it fills stays, and the session is as new. A job sees
     /// at its next step that its connection was closed. None comes, and nothing changes, where the end isn't open. It takes no memory.
