@@ -1,0 +1,222 @@
+-- The closes of a node's ends, from those of its past and of the parts beside it.
+use Rattle.std.proofs.Common.{◌≡◌, ◌≢◌, ◌⊎◌, inl, inr, ℕ, ◌≤◌, ◌<◌, ◌+◌, Bool, true, false, List, [], ◌∷◌, ◌++◌, All, Option, Some, None, length, map, refl, sym, ap, subst, arith, ◌∙◌, append_assoc}
+use Rattle.std.specs.Prelude.{vec_len}
+use Rattle.std.specs.Option.{ForSome}
+use Rattle.std.proofs.lemmas.List.{append-nil, length-append, length-map}
+use Rattle.annex_base.specs.Lists.{Each}
+use Rattle.run_data.specs.declared.entry.Entry.{Entry}
+use Rattle.run_data.specs.declared.entry.EntryKind.TheVariants.{Close}
+use Rattle.run_data.specs.declared.entry.FrameText.TheVariants.{Closing}
+use Rattle.run_data.specs.declared.entry.FrameView.{FrameView}
+use Rattle.run_data.specs.declared.run.RepoView.{RepoView}
+use Rattle.object_store.specs.Stores.{Contents, Parts as StoredParts}
+use Rattle.object_store.specs.declared.keeper.HoldRecord.{HoldRecord}
+use Rattle.content_lock.specs.Stored.{Agrees}
+use Rattle.union_merge.specs.Branch.{Files}
+use Rattle.link_ring.specs.Ends.{EndView}
+use Rattle.node_model.specs.After.{state_after}
+use Rattle.node_model.specs.Clocks.{ClockSet}
+use Rattle.node_model.specs.Ends.{EndName, frames}
+use Rattle.node_model.specs.Look.{Effect}
+use Rattle.node_model.specs.OwedLines.{OwedLine}
+use Rattle.node_model.specs.Rows.{bar_after, holds_after}
+use Rattle.node_model.specs.SetUp.{SetUp}
+use Rattle.node_model.specs.State.{State}
+use Rattle.node_ends.specs.Ends.{IsEndOf, end_at, link_at}
+use Rattle.node_ends.specs.Going.{AreAfter}
+use Rattle.node_ends.specs.Joined.{StayPaired, StaysSo}
+use Rattle.node_parts.specs.Parts.{AreParts, PartsView}
+use Rattle.node_parts.specs.Places.{PlaceView}
+use Rattle.node_parts.specs.Posting.{PostsPieces}
+use Rattle.node_parts.specs.Running.{Jobs}
+use Rattle.node_past.specs.declared.past.Past.{Past}
+use Rattle.node_past.specs.declared.setup.Ended.{Ended}
+use Rattle.node_past.specs.declared.setup.Setup.{Setup}
+use Rattle.node_past.specs.Pasts.{SamePast, frames_entry}
+use Rattle.node_past.proofs.OwedLemmas.{Grows, grows_same}
+use Rattle.node_steps.specs.Closing.{Closes, ClosesEach, LeavesShut, close_entry}
+use Rattle.node_steps.specs.Kept.{IsFed, IsKept}
+use Rattle.node_steps.specs.Nodes.{MatchesSetup, IsState, NodeView, state_of}
+use Rattle.node_steps.specs.Shutting.{KeepsShut, Shuts, ShutsEach, ShutsIf}
+use Rattle.node_steps.specs.Turning.{stamp_then}
+use Rattle.node_steps.proofs.BeginLemmas.{kept_entered}
+use Rattle.node_steps.proofs.MoveLemmas.{seen}
+use Rattle.node_steps.proofs.StepLemmas.{FillLaw, state_more}
+
+-- ---- one close
+
+module _ {K : Type 0} (k : K) (a : EndName) (p p' : PartsView) (was now : Past) (branch : Files) (owed : List OwedLine) (shuts : Shuts a p p' was now) where
+  abbrev before : NodeView K
+  before = seen k p branch was owed
+
+  kind_is : shuts.done.kind ≡ Close a.peer a.slot a.client
+  kind_is = ap (λ (m : Effect). m.kind) shuts.made
+
+  taken_is : shuts.done.taken ≡ None
+  taken_is = ap (λ (m : Effect). m.taken) shuts.made
+
+  sent_is : shuts.done.sent ≡ frames a (end_at p.links a) (Closing ∷ [])
+  sent_is = ap (λ (m : Effect). m.sent) shuts.made
+
+  history_is : now.history.items ≡ was.history.items ++ close_entry before a ∷ []
+  history_is = shuts.enters.history ∙ ap (λ (m : Effect). was.history.items ++ frames_entry was m.kind m.taken m.sent ∷ []) shuts.made
+
+  node_is : seen k p' branch now owed ≡ record before { parts = p'; count = was.count + 1; history = was.history.items ++ close_entry before a ∷ [] }
+  node_is =
+      let e = shuts.enters in
+      let h : List Entry = was.history.items ++ close_entry before a ∷ [] in
+      let view : Setup → ℕ → ℕ → ClockSet → List Entry → List Ended → NodeView K =
+      (λ s t c m x os. record { setup = s; keeper = k; parts = p'; branch = branch; time = t; count = c; clock = m; history = x; outcomes = os; owed = owed }) in
+      ap (λ (s : Setup). view s now.time now.count now.clock now.history.items now.outcomes.items) e.setup
+      ∙ ap (λ (t : ℕ). view was.setup t now.count now.clock now.history.items now.outcomes.items) e.time
+      ∙ ap (λ (c : ℕ). view was.setup was.time c now.clock now.history.items now.outcomes.items) e.count
+      ∙ ap (λ (m : ClockSet). view was.setup was.time (was.count + 1) m now.history.items now.outcomes.items) e.clock
+      ∙ ap (λ (x : List Entry). view was.setup was.time (was.count + 1) was.clock x now.outcomes.items) history_is
+      ∙ ap (λ (os : List Ended). view was.setup was.time (was.count + 1) was.clock h os) (e.outcomes ∙ append-nil was.outcomes.items)
+
+  closes_one : p.jobs.place.number ≡ was.setup.number → Closes a before (seen k p' branch now owed)
+  closes_one number = record {
+    opened = shuts.opened;
+    node = node_is;
+    jobs = shuts.jobs;
+    ends = subst (λ (m : Effect). AreAfter p.links p'.links m.taken m.sent) shuts.made shuts.leaves.ends;
+    posts = λ known.
+        subst (λ (m : Effect). PostsPieces (stamp_then before) m.kind p known p'.links m.taken m.sent) shuts.made
+        (subst (λ (n : ℕ). PostsPieces (record { time = was.time; count = was.count + 1; repo = n }) shuts.done.kind p known p'.links shuts.done.taken shuts.done.sent) number (shuts.posts known));
+  }
+
+  module _ (told : Option Contents) (fills : FillLaw) (kept : IsKept was.setup was.clock was.history.items p branch owed told) where
+    abbrev entry : Entry
+    entry = close_entry before a
+
+    state_shut : (s : SetUp) → MatchesSetup was.setup s → IsState s p' branch owed told (state_after s (state_of s was.history.items) entry)
+    state_shut s fits =
+        let is = kept.state s fits in
+        record {
+          holds = shuts.leaves.holds ∙ (λ i. holds_after (is.holds i) (kind_is i));
+          bars = λ key. shuts.leaves.bars key ∙ (λ i. bar_after key (is.bars key i) (kind_is i));
+          lines = is.lines;
+          stands = λ c known.
+              let stands = is.stands c known in
+              let parts : AreParts s (state_after s (state_of s was.history.items) entry) p' = shuts.parts s (state_of s was.history.items) entry stands.parts_are (sym kind_is) (sym taken_is) (sym sent_is) in
+              record {
+                parts_are = parts;
+                fills = λ key. fills s (state_after s (state_of s was.history.items) entry) p' key shuts.sound parts;
+                stored = record { present = stands.stored.present; content = stands.stored.content };
+                owed_are = stands.owed_are;
+              };
+        }
+
+    longer : length (was.history.items ++ entry ∷ []) ≡ length was.history.items + 1
+    longer = length-append was.history.items (entry ∷ [])
+
+    counted : vec_len was.history + 1 + 1 ≡ length (was.history.items ++ entry ∷ []) + 1
+    counted = let len = was.history.ok.0 in omega (arith, longer, len)
+
+    begun_still : p'.jobs.begun ≤ length (was.history.items ++ entry ∷ [])
+    begun_still = let few = kept.begun in let same = ap (λ (j : Jobs). j.begun) shuts.jobs in omega (arith, few, same, longer)
+
+    kept_shut : IsKept now.setup now.clock now.history.items p' branch owed told
+    kept_shut = kept_entered was.setup now.setup was.clock now.clock (was.history.items ++ entry ∷ []) now.history.items p' branch owed owed told shuts.enters.setup shuts.enters.clock history_is refl (record {
+      state = λ s fits. subst (IsState s p' branch owed told) (sym (state_more s was.history.items entry)) (state_shut s fits);
+      clock = λ s fits. ap (λ (st : State). st.clock) (state_more s was.history.items entry) ∙ kept.clock s fits;
+      numbered = subst (λ (n : ℕ). All (λ x. x.number < n) p'.table.holds) counted shuts.leaves.numbers;
+      place = ap (λ (j : Jobs). j.place) shuts.jobs ∙ kept.place;
+      begun = begun_still;
+    })
+
+  grows_shut : Grows was now
+  grows_shut = record { setup = shuts.enters.setup; more = close_entry before a ∷ []; history = history_is }
+
+-- ---- all of them
+
+grows_on : (was mid now : Past) → Grows was mid → Grows mid now → Grows was now
+grows_on was mid now first second = record {
+  setup = second.setup ∙ first.setup;
+  more = first.more ++ second.more;
+  history = second.history ∙ (ap (λ (h : List Entry). h ++ second.more) first.history ∙ append_assoc was.history.items first.more second.more);
+}
+
+stays_same : (o : Option EndView) → StaysSo o o
+stays_same None = tt
+stays_same (Some v) = λ other pair. pair
+
+stays_on : (a b c : Option EndView) → StaysSo a b → StaysSo b c → StaysSo a c
+stays_on None None c p q = q
+stays_on None (Some y) c p q = absurd p
+stays_on (Some x) None c p q = absurd p
+stays_on (Some x) (Some y) None p q = q
+stays_on (Some x) (Some y) (Some z) p q = λ other pair. q other (p other pair)
+
+-- an end at another repository
+pub record IsOther (setup : Setup) (a : EndName) : Type 0 where
+  pub peer : a.peer < length setup.repos
+  pub other : a.peer ≢ setup.number
+  pub slot : a.slot < 4
+
+end_of : (setup : Setup) (s : SetUp) (a : EndName) → MatchesSetup setup s → IsOther setup a → IsEndOf s a
+end_of setup s a fits is =
+    let count : length setup.repos ≡ length s.repos = ap (λ (ids : List (List ℕ)). length ids) (sym fits.ids) ∙ length-map (λ (repo : RepoView). repo.id) s.repos in
+    record {
+      peer = subst (λ (n : ℕ). a.peer < n) count is.peer;
+      other = λ same. is.other (same ∙ fits.number);
+      slot = is.slot;
+    }
+
+-- what these closes leave
+pub record ClosedSo {K : Type 0} (k : K) (ends : List EndName) (p p' : PartsView) (was now : Past) (branch : Files) (owed : List OwedLine) (told : Option Contents) : Type 0 where
+  pub kept : IsKept now.setup now.clock now.history.items p' branch owed told
+  pub closes : ClosesEach told ends (seen k p branch was owed) (seen k p' branch now owed)
+  pub fed : (stored : Option StoredParts) → IsFed stored p → IsFed stored p'
+  pub agrees : (known : Option (List HoldRecord)) → Agrees known p.table.holds → Agrees known p'.table.holds
+  pub grows : Grows was now
+  pub paired : StayPaired p.links p'.links
+
+closed_none : {K : Type 0} (k : K) (p : PartsView) (was : Past) (branch : Files) (owed : List OwedLine) (told : Option Contents) → IsKept was.setup was.clock was.history.items p branch owed told → ClosedSo k [] p p was was branch owed told
+closed_none k p was branch owed told kept = record {
+  kept = kept;
+  closes = refl;
+  fed = λ stored fed. fed;
+  agrees = λ known agrees. agrees;
+  grows = grows_same was was (record { setup = refl; time = refl; clock = refl; count = refl; history = refl; outcomes = refl });
+  paired = λ a. stays_same (link_at p.links a);
+}
+
+-- one more
+closed_shut : {K : Type 0} (k : K) (a : EndName) (ends : List EndName) (p mid p' : PartsView) (was past now : Past) (branch : Files) (owed : List OwedLine) (told : Option Contents) → p.jobs.place.number ≡ was.setup.number → Shuts a p mid was past
+    → ClosedSo k ends mid p' past now branch owed told → ClosedSo k (a ∷ ends) p p' was now branch owed told
+closed_shut k a ends p mid p' was past now branch owed told number shuts rest = record {
+  kept = rest.kept;
+  closes = (seen k mid branch past owed, inl (closes_one k a p mid was past branch owed shuts number), rest.closes);
+  fed = λ stored fed. rest.fed stored (λ q known. shuts.fed q (fed q known));
+  agrees = λ known agrees. rest.agrees known (shuts.agrees known agrees);
+  grows = grows_on was past now (grows_shut k a p mid was past branch owed shuts) rest.grows;
+  paired = λ b. stays_on (link_at p.links b) (link_at mid.links b) (link_at p'.links b) (shuts.paired b) (rest.paired b);
+}
+
+-- or it was none
+closed_kept : {K : Type 0} (k : K) (a : EndName) (ends : List EndName) (p p' : PartsView) (was now : Past) (branch : Files) (owed : List OwedLine) (told : Option Contents) → IsOther was.setup a → IsKept was.setup was.clock was.history.items p branch owed told
+    → ((s : SetUp) (st : State) → AreParts s st p → IsEndOf s a → (end_at p.links a).opened ≡ false) → ClosedSo k ends p p' was now branch owed told → ClosedSo k (a ∷ ends) p p' was now branch owed told
+closed_kept k a ends p p' was now branch owed told other kept shut rest = record {
+  kept = rest.kept;
+  closes = (
+    seen k p branch was owed,
+    inr (record { node = refl; shut = λ c known s fits. shut s (state_of s was.history.items) ((kept.state s fits).stands c known).parts_are (end_of was.setup s a fits other) }),
+    rest.closes,
+  );
+  fed = rest.fed;
+  agrees = rest.agrees;
+  grows = rest.grows;
+  paired = rest.paired;
+}
+
+pub closed_each : {K : Type 0} (k : K) (ends : List EndName) (p p' : PartsView) (was now : Past) (branch : Files) (owed : List OwedLine) (told : Option Contents) → FillLaw → Each (IsOther was.setup) ends → ShutsEach ends p p' was now
+    → IsKept was.setup was.clock was.history.items p branch owed told → ClosedSo k ends p p' was now branch owed told
+closed_each k [] p p' was now branch owed told fills others shut kept =
+    subst (λ (q : PartsView). ClosedSo k [] p q was now branch owed told) (sym shut.0) (subst (λ (x : Past). ClosedSo k [] p p was x branch owed told) (sym shut.1) (closed_none k p was branch owed told kept))
+closed_each {K} k (a ∷ ends) p p' was now branch owed told fills others (mid, (past, (inl shuts, rest))) kept =
+    closed_shut k a ends p mid p' was past now branch owed told (ap (λ (x : PlaceView). x.number) kept.place) shuts
+    (closed_each k ends mid p' past now branch owed told fills (subst (λ (x : Setup). Each (IsOther x) ends) (sym shuts.enters.setup) others.1) rest (kept_shut k a p mid was past branch owed shuts told fills kept))
+closed_each {K} k (a ∷ ends) p p' was now branch owed told fills others (mid, (past, (inr keeps, rest))) kept =
+    closed_kept k a ends p p' was now branch owed told others.0 kept keeps.shut
+    (closed_each k ends p p' was now branch owed told fills others.1 (subst (λ (q : PartsView). ShutsEach ends q p' was now) keeps.parts (subst (λ (x : Past). ShutsEach ends mid p' x now) keeps.past rest)) kept)
