@@ -156,7 +156,7 @@ pub record IsOther (setup : Setup) (a : EndName) : Type 0 where
 
 end_of : (setup : Setup) (s : SetUp) (a : EndName) → MatchesSetup setup s → IsOther setup a → IsEndOf s a
 end_of setup s a fits is =
-    let count : length setup.repos ≡ length s.repos = ap (λ (ids : List (List ℕ)). length ids) (sym fits.ids) ∙ length-map (λ (repo : RepoView). repo.id) s.repos in
+    let count : length setup.repos ≡ length s.repos = ap (λ (ids : List (List ℕ)). length ids) (sym fits.ids) ∙ length-map s.repos (λ (repo : RepoView). repo.id) in
     record {
       peer = subst (λ (n : ℕ). a.peer < n) count is.peer;
       other = λ same. is.other (same ∙ fits.number);
@@ -214,9 +214,14 @@ pub closed_each : {K : Type 0} (k : K) (ends : List EndName) (p p' : PartsView) 
     → IsKept was.setup was.clock was.history.items p branch owed told → ClosedSo k ends p p' was now branch owed told
 closed_each k [] p p' was now branch owed told fills others shut kept =
     subst (λ (q : PartsView). ClosedSo k [] p q was now branch owed told) (sym shut.0) (subst (λ (x : Past). ClosedSo k [] p p was x branch owed told) (sym shut.1) (closed_none k p was branch owed told kept))
-closed_each {K} k (a ∷ ends) p p' was now branch owed told fills others (mid, (past, (inl shuts, rest))) kept =
-    closed_shut k a ends p mid p' was past now branch owed told (ap (λ (x : PlaceView). x.number) kept.place) shuts
-    (closed_each k ends mid p' past now branch owed told fills (subst (λ (x : Setup). Each (IsOther x) ends) (sym shuts.enters.setup) others.1) rest (kept_shut k a p mid was past branch owed shuts told fills kept))
-closed_each {K} k (a ∷ ends) p p' was now branch owed told fills others (mid, (past, (inr keeps, rest))) kept =
-    closed_kept k a ends p p' was now branch owed told others.0 kept keeps.shut
-    (closed_each k ends p p' was now branch owed told fills others.1 (subst (λ (q : PartsView). ShutsEach ends q p' was now) keeps.parts (subst (λ (x : Past). ShutsEach ends mid p' x now) keeps.past rest)) kept)
+closed_each {K} k (a ∷ ends) p p' was now branch owed told fills others shut kept =
+    let mid = shut.0 in
+    let past = shut.1 in
+    elim shut.2 [
+      | inl shuts ↦
+          closed_shut k a ends p mid p' was past now branch owed told (ap (λ (x : PlaceView). x.number) kept.place) shuts
+          (closed_each k ends mid p' past now branch owed told fills (subst (λ (x : Setup). Each (IsOther x) ends) (sym shuts.enters.setup) others.1) shut.3 (kept_shut k a p mid was past branch owed shuts told fills kept))
+      | inr keeps ↦
+          closed_kept k a ends p p' was now branch owed told others.0 kept keeps.shut
+          (closed_each k ends p p' was now branch owed told fills others.1 (subst (λ (q : PartsView). ShutsEach ends q p' was now) keeps.parts (subst (λ (x : Past). ShutsEach ends mid p' x now) keeps.past shut.3)) kept)
+    ]
