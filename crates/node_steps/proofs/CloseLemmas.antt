@@ -1,5 +1,5 @@
 -- The closes of a node's ends, from those of its past and of the parts beside it.
-use Rattle.std.proofs.Common.{◌≡◌, ◌≢◌, inl, inr, ℕ, suc, ◌≤◌, ◌<◌, ◌+◌, false, List, [], ◌∷◌, ◌++◌, All, Option, Some, None, length, refl, sym, ap, subst, arith, ◌∙◌, append_assoc}
+use Rattle.std.proofs.Common.{◌≡◌, ◌≢◌, inl, inr, ℕ, suc, ◌≤◌, ◌<◌, ◌+◌, Bool, true, false, List, [], ◌∷◌, ◌++◌, All, Option, Some, None, length, map, refl, sym, ap, subst, arith, ◌∙◌, append_assoc}
 use Rattle.std.specs.Prelude.{if◌then◌else◌, filter, is_some, vec_len}
 use Rattle.std.specs.declared.vec.Vec.{Vec}
 use Rattle.std.specs.declared.alloc.Global.{Global}
@@ -10,6 +10,7 @@ use Rattle.annex_base.proofs.Lists.{Each-from_members, Each-member, Each-weaker,
 use Rattle.run_data.specs.declared.entry.Entry.{Entry}
 use Rattle.run_data.specs.declared.entry.EntryKind.TheVariants.{Close}
 use Rattle.run_data.specs.declared.entry.FrameText.TheVariants.{Closing}
+use Rattle.run_data.specs.declared.entry.FrameView.{FrameView}
 use Rattle.run_data.specs.declared.run.RepoView.{RepoView}
 use Rattle.object_store.specs.Stores.{Contents, Parts as StoredParts}
 use Rattle.object_store.specs.declared.keeper.HoldRecord.{HoldRecord}
@@ -37,10 +38,10 @@ use Rattle.node_past.specs.declared.setup.Ended.{Ended}
 use Rattle.node_past.specs.declared.setup.Setup.{Setup}
 use Rattle.node_past.specs.Pasts.{frames_entry}
 use Rattle.node_past.proofs.OwedLemmas.{Grows, grows_same}
-use Rattle.node_steps.specs.Closing.{Closes, ClosesEach, close_entry}
+use Rattle.node_steps.specs.Closing.{Closes, ClosesEach, close_entry, open_count}
 use Rattle.node_steps.specs.Kept.{IsFed, IsKept}
 use Rattle.node_steps.specs.Nodes.{MatchesSetup, IsState, NodeView, state_of}
-use Rattle.node_steps.specs.Shutting.{Shuts, ShutsEach}
+use Rattle.node_steps.specs.Shutting.{IsListing, Shuts, ShutsEach, ShutsIf}
 use Rattle.node_steps.specs.Turning.{stamp_then}
 use Rattle.node_steps.proofs.BeginLemmas.{kept_entered}
 use Rattle.node_steps.proofs.MoveLemmas.{seen}
