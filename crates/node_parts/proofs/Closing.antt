@@ -4,6 +4,8 @@ use Rattle.std.specs.Prelude.{◌==◌, ◌&&◌, All, fold, not}
 use Rattle.std.specs.List.{range_with_len}
 use Rattle.std.proofs.Math.Bool.{and-false}
 use Rattle.std.proofs.lemmas.Bool.{and_parts, cases_Bool, eqb-true, true≢false}
+use Rattle.std.specs.Option.{ForSome}
+use Rattle.std.proofs.lemmas.Option.{same_Some}
 use Rattle.std.proofs.lemmas.List.Elements.{All-weaker}
 use Rattle.annex_base.specs.Lists.{Each, Member}
 use Rattle.annex_base.specs.Bools.{same_bool}
@@ -234,3 +236,8 @@ pub sound_closed : (was : PartsView) (links : List EndView) (xs : List Session) 
 sound_closed was links xs table a sound shuts paired count =
     sound_after was table links xs sound count (there_still was.links links xs paired (shuts.there was.links sound.there)) shuts.owns (shuts.filled (fills_at was.jobs.running) sound.filled) shuts.after.bars
     (λ job share owns. shuts.others (by_job job) share (no_jobs was.sessions job) owns)
+
+-- ---- what was made
+
+pub for_one : {X : Type 0} (P : X → Type 0) (x : X) → P x → ForSome (Some x) P
+for_one P x p y is = subst P (same_Some x y is) p
