@@ -48,8 +48,9 @@ fn close(past: &mut Past, parts: &mut Parts, id: EndId, listing: Vec<FrameView>)
     let done = parts.close_end(id, moment, listing);
     // For the proof: what the parts have is sound.
     let _ = parts.table();
-    if let Some(done) = done {
-        enter(past, done);
+    match done {
+        None => {}
+        Some(done) => enter(past, done),
     }
 }
 
@@ -63,11 +64,11 @@ fn close_each(past: &mut Past, parts: &mut Parts, ids: &[EndId], mut lists: Vec<
     requires room { vec_len past.old.history + length ids.now ≤ vec_capacity past.old.history }
     ensures { ShutsEach (map name_of ids.now) parts.old parts.new past.old past.new }
 {
-    for id in ids.iter() {
+    for at in 0..ids.len() {
         let Some(listing) = lists.pop() else {
             unreachable!()
         };
-        close(past, parts, *id, listing);
+        close(past, parts, ids[at], listing);
     }
 }
 
@@ -77,8 +78,8 @@ fn count_open(parts: &Parts, ids: &[EndId]) -> usize
     ensures { result ≡ open_count parts.now.links (map name_of ids.now) }
 {
     let mut count = 0;
-    for id in ids.iter() {
-        if parts.is_open(*id) {
+    for at in 0..ids.len() {
+        if parts.is_open(ids[at]) {
             count += 1;
         }
     }
