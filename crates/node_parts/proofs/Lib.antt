@@ -14,3 +14,4 @@ pub mod Gains
 pub mod Hearing
 pub mod Acted
 pub mod Staying
+pub mod Closing

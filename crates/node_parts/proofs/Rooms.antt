@@ -1,5 +1,5 @@
 -- While a drop that removes from its peer has a lock of another repository, the end there has room.
-use Rattle.std.proofs.Common.{◌≡◌, ◌≢◌, inl, inr, ℕ, ◌≤◌, ◌<◌, ◌+◌, ◌^◌, Bool, true, false, if◌then◌else◌, List, [], ◌∷◌, ◌++◌, Option, Some, None, is_some, length, map, refl, sym, ap, subst, ◌∙◌, arith}
+use Rattle.std.proofs.Common.{◌≡◌, ◌≢◌, ◌⊎◌, inl, inr, ℕ, ◌≤◌, ◌<◌, ◌+◌, ◌^◌, Bool, true, false, if◌then◌else◌, List, [], ◌∷◌, ◌++◌, Option, Some, None, is_some, length, map, refl, sym, ap, subst, ◌∙◌, arith}
 use Rattle.std.specs.Prelude.{◌==◌, ◌&&◌, ◌-◌, filter, find, flat_map, nat_le, nat_lt, not, fold}
 use Rattle.std.specs.List.{range_with_len}
 use Rattle.std.specs.Option.{option_map, option_to_list}
@@ -145,6 +145,17 @@ kept_rooms was now own (tasks.Drops j) keep rooms = λ remote peer other locked 
 rooms_stay : (was now : List EndView) (own : ℕ) (ts : List Task) → ((a : EndName) → a.client ≡ true → KeepsRoom (link_at was a) (link_at now a)) → Each (HasLockRooms was own) ts → Each (HasLockRooms now own) ts
 rooms_stay was now own ts keep rooms = Each-weaker (HasLockRooms was own) (HasLockRooms now own) (λ t. kept_rooms was now own t (λ peer. keep (end_in (slot_of t) peer) refl)) ts rooms
 
+-- an end that is closed needs none
+pub rooms_closed : (was now : List EndView) (own : ℕ) (ts : List Task) → ((a : EndName) → (link_at now a ≡ link_at was a) ⊎ ((end_at now a).opened ≡ false)) → Each (HasLockRooms was own) ts → Each (HasLockRooms now own) ts
+rooms_closed was now own ts keep rooms = Each-weaker (HasLockRooms was own) (HasLockRooms now own) each ts rooms
+  where
+    each : (t : Task) → HasLockRooms was own t → HasLockRooms now own t
+    each (tasks.Transfers w) r = tt
+    each (tasks.Drops j) r = λ remote peer other locked opened. elim (keep (end_in j.worker.slot peer)) [
+      | inl same ↦ ap (passes end_has_room) same ∙ r remote peer other locked (ap (λ (o : Option EndView). (stands_in o).opened) (sym same) ∙ opened)
+      | inr shut ↦ absurd (true≢false (sym opened ∙ shut))
+    ]
+
 -- ---- frames are dropped, or carried
 
 pub rooms_dropped : (was now : List EndView) (own : ℕ) (ts : List Task) → ((a : EndName) → end_at now a ≡ end_at was a) → ((a : EndName) → room_at now a ≡ room_at was a) → Each (HasLockRooms was own) ts → Each (HasLockRooms now own) ts
@@ -187,7 +198,7 @@ same_link : (o : Option EndView) → option_map (λ v. v) o ≡ o
 same_link None = refl
 same_link (Some v) = refl
 
-untouched : (sender : EntryStamp) (kind : EntryKind) (was now : List EndView) (taken : Option FrameView) (sent : List FrameView) → Posts sender kind was now taken sent → (a : EndName) → taken_at a taken ≡ None → sent_at a sent ≡ [] → link_at now a ≡ link_at was a
+pub untouched : (sender : EntryStamp) (kind : EntryKind) (was now : List EndView) (taken : Option FrameView) (sent : List FrameView) → Posts sender kind was now taken sent → (a : EndName) → taken_at a taken ≡ None → sent_at a sent ≡ [] → link_at now a ≡ link_at was a
 untouched sender kind was now taken sent posts a takes sends =
     let said : posts.said a ≡ [] = none_said (posts.said a) (posts.listed a ∙ ap (map (λ (f : FrameView). f.body)) sends) in
     posts.links a
@@ -196,7 +207,7 @@ untouched sender kind was now taken sent posts a takes sends =
     ∙ same_link (link_at was a)))
 
 -- a session takes and sends at its own end
-none_at : (a b : EndName) (c : End) (bodies : List FrameText) → ((b.peer == a.peer) && (b.slot == a.slot) && same_bool b.client a.client) ≡ false → sent_at a (frames b c bodies) ≡ []
+pub none_at : (a b : EndName) (c : End) (bodies : List FrameText) → ((b.peer == a.peer) && (b.slot == a.slot) && same_bool b.client a.client) ≡ false → sent_at a (frames b c bodies) ≡ []
 none_at a b c [] away = refl
 none_at a b c (body ∷ bodies) away =
     let d = end_sends c body in

@@ -8,6 +8,7 @@ pub mod Posting
 pub mod Sending
 pub mod Jobs
 pub mod Stored
+pub mod Closing
 pub use Rattle.running_jobs.specs.Acting
 pub use Rattle.running_jobs.specs.Beginning
 pub use Rattle.running_jobs.specs.Leaving

@@ -2,6 +2,7 @@
 #![tactic(auto)]
 
 mod acting;
+mod closing;
 mod done;
 mod drop_frames;
 mod jobs;

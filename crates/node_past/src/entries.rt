@@ -1,5 +1,5 @@
 //! The next entries of a repository.
-ghost use Rattle.std.specs.Prelude.{◌≡◌, ◌<◌, ◌≤◌, ◌^◌, [], Some, length, max, nat_le, slice_get, vec_len, IfErr, IsErrOf, OnOk, ◌+◌};
+ghost use Rattle.std.specs.Prelude.{◌≡◌, ◌<◌, ◌≤◌, ◌^◌, [], Some, length, max, nat_le, nat_lt, slice_get, vec_capacity, vec_len, IfErr, IsErrOf, OnOk, ◌+◌};
 ghost use Rattle.annex_base.specs.declared.kinds.Call.{Call};
 ghost use Rattle.object_store.specs.declared.keeper.KeeperFault.TheVariants as faults;
 ghost use Rattle.run_data.specs.declared.entry.By.{By};
@@ -89,6 +89,22 @@ impl Past {
         self.history.len() >= MOST_ENTRIES
     }
 
+    /// Whether so many more entries are more than it may have.
+    pub fn lacks(&self, count: usize) -> bool
+        ensures { result ≡ nat_lt most_entries (vec_len self.now.history + count) }
+    {
+        MOST_ENTRIES - self.history.len() < count
+    }
+
+    /// Reserves the places of so many more entries.
+    pub fn reserve_places(&mut self, count: usize) -> Result<(), NoMemory>
+        ensures room { OnOk result (vec_len self.new.history + count ≤ vec_capacity self.new.history) }
+        ensures same { SamePast self.old self.new }
+    {
+        self.history.reserve(count)?;
+        Ok(())
+    }
+
     /// Reserves the place of one more entry.
     pub fn reserve(&mut self) -> Result<(), NoMemory>
         requires { vec_len self.old.history < most_entries }
@@ -136,6 +152,7 @@ impl Past {
         requires { IsReady self.old }
         ensures entry { Enters kind taken sent [] self.old self.new }
         ensures outcomes { self.new.outcomes ≡ self.old.outcomes }
+        ensures room { vec_capacity self.new.history ≡ vec_capacity self.old.history }
     {
         let entry = Entry {
             time: self.time,
@@ -146,7 +163,7 @@ impl Past {
             sent,
             lines: Items::new(self.alloc),
         };
-        self.history.push(entry).unwrap();
+        self.history.push_reserved(entry);
         self.count += 1;
     }
 

@@ -17,3 +17,4 @@ pub mod Shutting
 pub mod Making
 pub mod Called
 pub mod Storing
+pub mod Finding

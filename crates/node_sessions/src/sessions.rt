@@ -29,7 +29,7 @@ ghost use Rattle.node_sessions.specs.Sessions.{AreFilled, AreSessions, AreAllFed
 ghost use Rattle.node_sessions.specs.Stored.{contents_left, parts_left};
 
 use crate::beginning::all_sessions;
-use crate::ending::{close_at, end_all, find_session};
+use crate::ending::{close_at, end_all, find_session, has_session};
 use crate::served::Served;
 use crate::serving::serve;
 use crate::turn::first_turn;
@@ -84,6 +84,14 @@ impl Sessions {
         };
         let list = all_sessions(alloc, &place, number, count)?;
         Ok(Sessions { list })
+    }
+
+    /// Whether there is a session with this client and slot.
+    pub fn has(&self, peer: u32, slot: u32) -> bool
+        ensures yes { result ≡ true → Member (peer, slot) (map connection_of self.now) }
+        ensures no { result ≡ false → Member (peer, slot) (map connection_of self.now) → ⊥ }
+    {
+        has_session(&self.list, peer, slot)
     }
 
     /// The connection with this client and slot was closed, by an entry that says so and sends a Close at the server's end: a hold

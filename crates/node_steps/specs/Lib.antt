@@ -3,6 +3,8 @@ pub mod Nodes
 pub mod Kept
 pub mod Turning
 pub mod Stepping
+pub mod Closing
+pub mod Shutting
 pub use Rattle.node_parts.specs.Beginning
 pub use Rattle.node_parts.specs.Parts
 pub use Rattle.node_parts.specs.Sound

@@ -3,6 +3,7 @@
 
 mod beginning;
 mod carrying;
+mod closing;
 mod compacting;
 mod logs;
 mod merging;

@@ -1,0 +1,314 @@
+-- The closes of a node's ends, from those of its past and of the parts beside it.
+use Rattle.std.proofs.Common.{◌≡◌, ◌≢◌, inl, inr, ℕ, suc, ◌≤◌, ◌<◌, ◌+◌, Bool, true, false, List, [], ◌∷◌, ◌++◌, All, Option, Some, None, length, map, refl, sym, ap, subst, arith, ◌∙◌, append_assoc}
+use Rattle.std.specs.Prelude.{if◌then◌else◌, filter, is_some, vec_len}
+use Rattle.std.specs.declared.vec.Vec.{Vec}
+use Rattle.std.specs.declared.alloc.Global.{Global}
+use Rattle.std.proofs.lemmas.Bool.{cases_Bool}
+use Rattle.std.proofs.lemmas.List.{append-nil, length-append, length-map}
+use Rattle.annex_base.specs.Lists.{Each}
+use Rattle.annex_base.proofs.Lists.{Each-from_members, Each-member, Each-weaker, Member-append_left, Member-append_right}
+use Rattle.run_data.specs.declared.entry.Entry.{Entry}
+use Rattle.run_data.specs.declared.entry.EntryKind.TheVariants.{Close}
+use Rattle.run_data.specs.declared.entry.FrameText.TheVariants.{Closing}
+use Rattle.run_data.specs.declared.entry.FrameView.{FrameView}
+use Rattle.run_data.specs.declared.run.RepoView.{RepoView}
+use Rattle.object_store.specs.Stores.{Contents, Parts as StoredParts}
+use Rattle.object_store.specs.declared.keeper.HoldRecord.{HoldRecord}
+use Rattle.content_lock.specs.Stored.{Agrees}
+use Rattle.union_merge.specs.Branch.{Files}
+use Rattle.link_ring.specs.Ends.{EndView}
+use Rattle.node_model.specs.After.{state_after}
+use Rattle.node_model.specs.Clocks.{ClockSet}
+use Rattle.node_model.specs.Ends.{EndName, frames}
+use Rattle.node_model.specs.Look.{Effect}
+use Rattle.node_model.specs.OwedLines.{OwedLine}
+use Rattle.node_model.specs.Rows.{bar_after, holds_after}
+use Rattle.node_model.specs.SetUp.{SetUp}
+use Rattle.node_model.specs.State.{State}
+use Rattle.node_ends.specs.declared.name.EndId.{EndId}
+use Rattle.node_ends.specs.Ends.{IsEndOf, end_at, link_at, name_of}
+use Rattle.node_ends.specs.Going.{AreAfter}
+use Rattle.node_ends.specs.Joined.{StayPaired, StaysSo}
+use Rattle.node_parts.specs.Parts.{AreParts, PartsView}
+use Rattle.node_parts.specs.Places.{PlaceView}
+use Rattle.node_parts.specs.Posting.{PostsPieces}
+use Rattle.node_parts.specs.Running.{Jobs}
+use Rattle.node_past.specs.declared.past.Past.{Past}
+use Rattle.node_past.specs.declared.setup.Ended.{Ended}
+use Rattle.node_past.specs.declared.setup.Setup.{Setup}
+use Rattle.node_past.specs.Pasts.{frames_entry}
+use Rattle.node_past.proofs.OwedLemmas.{Grows, grows_same}
+use Rattle.node_steps.specs.Closing.{Closes, ClosesEach, close_entry, open_count}
+use Rattle.node_steps.specs.Kept.{IsFed, IsKept}
+use Rattle.node_steps.specs.Nodes.{MatchesSetup, IsState, NodeView, state_of}
+use Rattle.node_steps.specs.Shutting.{IsListing, Shuts, ShutsEach, ShutsIf}
+use Rattle.node_steps.specs.Turning.{stamp_then}
+use Rattle.node_steps.proofs.BeginLemmas.{kept_entered}
+use Rattle.node_steps.proofs.MoveLemmas.{seen}
+use Rattle.node_steps.proofs.StepLemmas.{FillLaw, state_more}
+
+-- ---- one close
+
+module _ {K : Type 0} (k : K) (a : EndName) (p p' : PartsView) (was now : Past) (branch : Files) (owed : List OwedLine) (shuts : Shuts a p p' was now) where
+  abbrev before : NodeView K
+  before = seen k p branch was owed
+
+  kind_is : shuts.done.kind ≡ Close a.peer a.slot a.client
+  kind_is = ap (λ (m : Effect). m.kind) shuts.made
+
+  taken_is : shuts.done.taken ≡ None
+  taken_is = ap (λ (m : Effect). m.taken) shuts.made
+
+  sent_is : shuts.done.sent ≡ frames a (end_at p.links a) (Closing ∷ [])
+  sent_is = ap (λ (m : Effect). m.sent) shuts.made
+
+  history_is : now.history.items ≡ was.history.items ++ close_entry before a ∷ []
+  history_is = shuts.enters.history ∙ ap (λ (m : Effect). was.history.items ++ frames_entry was m.kind m.taken m.sent ∷ []) shuts.made
+
+  node_is : seen k p' branch now owed ≡ record before { parts = p'; count = was.count + 1; history = was.history.items ++ close_entry before a ∷ [] }
+  node_is =
+      let e = shuts.enters in
+      let h : List Entry = was.history.items ++ close_entry before a ∷ [] in
+      let view : Setup → ℕ → ℕ → ClockSet → List Entry → List Ended → NodeView K =
+      (λ s t c m x os. record { setup = s; keeper = k; parts = p'; branch = branch; time = t; count = c; clock = m; history = x; outcomes = os; owed = owed }) in
+      ap (λ (s : Setup). view s now.time now.count now.clock now.history.items now.outcomes.items) e.setup
+      ∙ ap (λ (t : ℕ). view was.setup t now.count now.clock now.history.items now.outcomes.items) e.time
+      ∙ ap (λ (c : ℕ). view was.setup was.time c now.clock now.history.items now.outcomes.items) e.count
+      ∙ ap (λ (m : ClockSet). view was.setup was.time (was.count + 1) m now.history.items now.outcomes.items) e.clock
+      ∙ ap (λ (x : List Entry). view was.setup was.time (was.count + 1) was.clock x now.outcomes.items) history_is
+      ∙ ap (λ (os : List Ended). view was.setup was.time (was.count + 1) was.clock h os) (e.outcomes ∙ append-nil was.outcomes.items)
+
+  closes_one : p.jobs.place.number ≡ was.setup.number → Closes a before (seen k p' branch now owed)
+  closes_one number = record {
+    opened = shuts.opened;
+    node = node_is;
+    jobs = shuts.jobs;
+    ends = subst (λ (m : Effect). AreAfter p.links p'.links m.taken m.sent) shuts.made shuts.leaves.ends;
+    posts = λ known.
+        subst (λ (m : Effect). PostsPieces (stamp_then before) m.kind p known p'.links m.taken m.sent) shuts.made
+        (subst (λ (n : ℕ). PostsPieces (record { time = was.time; count = was.count + 1; repo = n }) shuts.done.kind p known p'.links shuts.done.taken shuts.done.sent) number (shuts.posts known));
+  }
+
+  module _ (told : Option Contents) (fills : FillLaw) (kept : IsKept was.setup was.clock was.history.items p branch owed told) where
+    abbrev entry : Entry
+    entry = close_entry before a
+
+    state_shut : (s : SetUp) → MatchesSetup was.setup s → IsState s p' branch owed told (state_after s (state_of s was.history.items) entry)
+    state_shut s fits =
+        let is = kept.state s fits in
+        record {
+          holds = shuts.leaves.holds ∙ (λ i. holds_after (is.holds i) (kind_is i));
+          bars = λ key. shuts.leaves.bars key ∙ (λ i. bar_after key (is.bars key i) (kind_is i));
+          lines = is.lines;
+          stands = λ c known.
+              let stands = is.stands c known in
+              let parts : AreParts s (state_after s (state_of s was.history.items) entry) p' = shuts.parts s (state_of s was.history.items) entry stands.parts_are (sym kind_is) (sym taken_is) (sym sent_is) in
+              record {
+                parts_are = parts;
+                fills = λ key. fills s (state_after s (state_of s was.history.items) entry) p' key shuts.sound parts;
+                stored = record { present = stands.stored.present; content = stands.stored.content };
+                owed_are = stands.owed_are;
+              };
+        }
+
+    longer : length (was.history.items ++ entry ∷ []) ≡ length was.history.items + 1
+    longer = length-append was.history.items (entry ∷ [])
+
+    counted : vec_len was.history + 1 + 1 ≡ length (was.history.items ++ entry ∷ []) + 1
+    counted = let len = was.history.ok.0 in omega (arith, longer, len)
+
+    begun_still : p'.jobs.begun ≤ length (was.history.items ++ entry ∷ [])
+    begun_still = let few = kept.begun in let same = ap (λ (j : Jobs). j.begun) shuts.jobs in omega (arith, few, same, longer)
+
+    kept_shut : IsKept now.setup now.clock now.history.items p' branch owed told
+    kept_shut = kept_entered was.setup now.setup was.clock now.clock (was.history.items ++ entry ∷ []) now.history.items p' branch owed owed told shuts.enters.setup shuts.enters.clock history_is refl (record {
+      state = λ s fits. subst (IsState s p' branch owed told) (sym (state_more s was.history.items entry)) (state_shut s fits);
+      clock = λ s fits. ap (λ (st : State). st.clock) (state_more s was.history.items entry) ∙ kept.clock s fits;
+      numbered = subst (λ (n : ℕ). All (λ x. x.number < n) p'.table.holds) counted shuts.leaves.numbers;
+      place = ap (λ (j : Jobs). j.place) shuts.jobs ∙ kept.place;
+      begun = begun_still;
+    })
+
+  grows_shut : Grows was now
+  grows_shut = record { setup = shuts.enters.setup; more = close_entry before a ∷ []; history = history_is }
+
+-- ---- all of them
+
+grows_on : (was mid now : Past) → Grows was mid → Grows mid now → Grows was now
+grows_on was mid now first second = record {
+  setup = second.setup ∙ first.setup;
+  more = first.more ++ second.more;
+  history = second.history ∙ (ap (λ (h : List Entry). h ++ second.more) first.history ∙ append_assoc was.history.items first.more second.more);
+}
+
+stays_same : (o : Option EndView) → StaysSo o o
+stays_same None = tt
+stays_same (Some v) = λ other pair. pair
+
+stays_on : (a b c : Option EndView) → StaysSo a b → StaysSo b c → StaysSo a c
+stays_on None None c p q = q
+stays_on None (Some y) c p q = absurd p
+stays_on (Some x) None c p q = absurd p
+stays_on (Some x) (Some y) None p q = q
+stays_on (Some x) (Some y) (Some z) p q = λ other pair. q other (p other pair)
+
+-- an end at another repository
+pub record IsOther (setup : Setup) (a : EndName) : Type 0 where
+  pub peer : a.peer < length setup.repos
+  pub other : a.peer ≢ setup.number
+  pub slot : a.slot < 4
+
+end_of : (setup : Setup) (s : SetUp) (a : EndName) → MatchesSetup setup s → IsOther setup a → IsEndOf s a
+end_of setup s a fits is =
+    let count : length setup.repos ≡ length s.repos = ap (λ (ids : List (List ℕ)). length ids) (sym fits.ids) ∙ length-map s.repos (λ (repo : RepoView). repo.id) in
+    record {
+      peer = subst (λ (n : ℕ). a.peer < n) count is.peer;
+      other = λ same. is.other (same ∙ fits.number);
+      slot = is.slot;
+    }
+
+-- what these closes leave
+pub record ClosedSo {K : Type 0} (k : K) (ends : List EndName) (p p' : PartsView) (was now : Past) (branch : Files) (owed : List OwedLine) (told : Option Contents) : Type 0 where
+  pub kept : IsKept now.setup now.clock now.history.items p' branch owed told
+  pub closes : ClosesEach told ends (seen k p branch was owed) (seen k p' branch now owed)
+  pub fed : (stored : Option StoredParts) → IsFed stored p → IsFed stored p'
+  pub agrees : (known : Option (List HoldRecord)) → Agrees known p.table.holds → Agrees known p'.table.holds
+  pub grows : Grows was now
+  pub paired : StayPaired p.links p'.links
+
+closed_none : {K : Type 0} (k : K) (p : PartsView) (was : Past) (branch : Files) (owed : List OwedLine) (told : Option Contents) → IsKept was.setup was.clock was.history.items p branch owed told → ClosedSo k [] p p was was branch owed told
+closed_none k p was branch owed told kept = record {
+  kept = kept;
+  closes = refl;
+  fed = λ stored fed. fed;
+  agrees = λ known agrees. agrees;
+  grows = grows_same was was (record { setup = refl; time = refl; clock = refl; count = refl; history = refl; outcomes = refl });
+  paired = λ a. stays_same (link_at p.links a);
+}
+
+-- one more
+closed_shut : {K : Type 0} (k : K) (a : EndName) (ends : List EndName) (p mid p' : PartsView) (was past now : Past) (branch : Files) (owed : List OwedLine) (told : Option Contents) → p.jobs.place.number ≡ was.setup.number → Shuts a p mid was past
+    → ClosedSo k ends mid p' past now branch owed told → ClosedSo k (a ∷ ends) p p' was now branch owed told
+closed_shut k a ends p mid p' was past now branch owed told number shuts rest = record {
+  kept = rest.kept;
+  closes = (seen k mid branch past owed, inl (closes_one k a p mid was past branch owed shuts number), rest.closes);
+  fed = λ stored fed. rest.fed stored (λ q known. shuts.fed q (fed q known));
+  agrees = λ known agrees. rest.agrees known (shuts.agrees known agrees);
+  grows = grows_on was past now (grows_shut k a p mid was past branch owed shuts) rest.grows;
+  paired = λ b. stays_on (link_at p.links b) (link_at mid.links b) (link_at p'.links b) (shuts.paired b) (rest.paired b);
+}
+
+-- or it was none
+closed_kept : {K : Type 0} (k : K) (a : EndName) (ends : List EndName) (p p' : PartsView) (was now : Past) (branch : Files) (owed : List OwedLine) (told : Option Contents) → IsOther was.setup a → IsKept was.setup was.clock was.history.items p branch owed told
+    → ((s : SetUp) (st : State) → AreParts s st p → IsEndOf s a → (end_at p.links a).opened ≡ false) → ClosedSo k ends p p' was now branch owed told → ClosedSo k (a ∷ ends) p p' was now branch owed told
+closed_kept k a ends p p' was now branch owed told other kept shut rest = record {
+  kept = rest.kept;
+  closes = (
+    seen k p branch was owed,
+    inr (record { node = refl; shut = λ c known s fits. shut s (state_of s was.history.items) ((kept.state s fits).stands c known).parts_are (end_of was.setup s a fits other) }),
+    rest.closes,
+  );
+  fed = rest.fed;
+  agrees = rest.agrees;
+  grows = rest.grows;
+  paired = rest.paired;
+}
+
+pub closed_each : {K : Type 0} (k : K) (ends : List EndName) (p p' : PartsView) (was now : Past) (branch : Files) (owed : List OwedLine) (told : Option Contents) → FillLaw → Each (IsOther was.setup) ends → ShutsEach ends p p' was now
+    → IsKept was.setup was.clock was.history.items p branch owed told → ClosedSo k ends p p' was now branch owed told
+closed_each k [] p p' was now branch owed told fills others shut kept =
+    subst (λ (q : PartsView). ClosedSo k [] p q was now branch owed told) (sym shut.0) (subst (λ (x : Past). ClosedSo k [] p p was x branch owed told) (sym shut.1) (closed_none k p was branch owed told kept))
+closed_each {K} k (a ∷ ends) p p' was now branch owed told fills others shut kept =
+    let mid = shut.0 in
+    let past = shut.1 in
+    elim shut.2 [
+      | inl shuts ↦
+          closed_shut k a ends p mid p' was past now branch owed told (ap (λ (x : PlaceView). x.number) kept.place) shuts
+          (closed_each k ends mid p' past now branch owed told fills (subst (λ (x : Setup). Each (IsOther x) ends) (sym shuts.enters.setup) others.1) shut.3 (kept_shut k a p mid was past branch owed shuts told fills kept))
+      | inr keeps ↦
+          closed_kept k a ends p p' was now branch owed told others.0 kept keeps.shut
+          (closed_each k ends p p' was now branch owed told fills others.1 (subst (λ (q : PartsView). ShutsEach ends q p' was now) keeps.parts (subst (λ (x : Past). ShutsEach ends mid p' x now) keeps.past shut.3)) kept)
+    ]
+
+-- ---- one after the other
+
+-- of the parts and the past after one close
+longer_past : (was now : Past) (e : Entry) → now.history.items ≡ was.history.items ++ e ∷ [] → vec_len now.history ≡ vec_len was.history + 1
+longer_past was now e is = now.history.ok.0 ∙ (ap (λ (h : List Entry). length h) is ∙ (length-append was.history.items (e ∷ []) ∙ ap (λ (n : ℕ). n + 1) (sym was.history.ok.0)))
+
+open_more : (links : List EndView) (a : EndName) (ends : List EndName) → (end_at links a).opened ≡ true → open_count links (a ∷ ends) ≡ suc (open_count links ends)
+open_more links a ends is = ap (λ (b : Bool). length (if b then a ∷ filter (λ x. (end_at links x).opened) ends else filter (λ x. (end_at links x).opened) ends)) is
+
+open_same : (links : List EndView) (a : EndName) (ends : List EndName) → (end_at links a).opened ≡ false → open_count links (a ∷ ends) ≡ open_count links ends
+open_same links a ends is = ap (λ (b : Bool). length (if b then a ∷ filter (λ x. (end_at links x).opened) ends else filter (λ x. (end_at links x).opened) ends)) is
+
+open_least : (links : List EndView) (a : EndName) (ends : List EndName) → open_count links ends ≤ open_count links (a ∷ ends)
+open_least links a ends = elim (cases_Bool (end_at links a).opened) [
+  | inl is ↦ let more = open_more links a ends is in omega (arith, more)
+  | inr is ↦ let same = open_same links a ends is in omega (arith, same)
+]
+
+open_fewer : (links links' : List EndView) (ends : List EndName) → ((b : EndName) → (end_at links' b).opened ≡ true → (end_at links b).opened ≡ true) → open_count links' ends ≤ open_count links ends
+open_fewer links links' [] opens = omega arith
+open_fewer links links' (a ∷ ends) opens =
+    let rest = open_fewer links links' ends opens in
+    elim (cases_Bool (end_at links' a).opened) [
+      | inl is ↦ (let now = open_more links' a ends is in let was = open_more links a ends (opens a is) in omega (arith, now, was, rest))
+      | inr is ↦ (let now = open_same links' a ends is in let was = open_least links a ends in omega (arith, now, was, rest))
+    ]
+
+pub shut_few : (a : EndName) (p p' : PartsView) (was now : Past) (ends : List EndName) → ShutsIf a p p' was now → vec_len now.history + open_count p'.links ends ≤ vec_len was.history + open_count p.links (a ∷ ends)
+shut_few a p p' was now ends shut = elim shut [
+  | inl shuts ↦
+      (let len = longer_past was now (frames_entry was shuts.done.kind shuts.done.taken shuts.done.sent) shuts.enters.history in
+      let more = open_more p.links a ends shuts.opened in
+      let fewer = open_fewer p.links p'.links ends shuts.opens in
+      omega (arith, len, more, fewer))
+  | inr keeps ↦
+      (let len = ap (λ (x : Past). vec_len x.history) keeps.past in
+      let same = ap (λ (q : PartsView). open_count q.links ends) keeps.parts in
+      let least = open_least p.links a ends in
+      omega (arith, len, same, least))
+]
+
+pub shut_length : (a : EndName) (p p' : PartsView) (was now : Past) → ShutsIf a p p' was now → vec_len now.history ≤ vec_len was.history + 1
+shut_length a p p' was now shut = elim shut [
+  | inl shuts ↦ (let len = longer_past was now (frames_entry was shuts.done.kind shuts.done.taken shuts.done.sent) shuts.enters.history in omega (arith, len))
+  | inr keeps ↦ (let len = ap (λ (x : Past). vec_len x.history) keeps.past in omega (arith, len))
+]
+
+pub shut_numbers : (a : EndName) (p p' : PartsView) (was now : Past) → ShutsIf a p p' was now → All (λ h. h.number < vec_len was.history + 1) p.table.holds → All (λ h. h.number < vec_len now.history + 1) p'.table.holds
+shut_numbers a p p' was now shut numbers = elim shut [
+  | inl shuts ↦
+      subst (λ (n : ℕ). All (λ h. h.number < n + 1) p'.table.holds) (sym (longer_past was now (frames_entry was shuts.done.kind shuts.done.taken shuts.done.sent) shuts.enters.history)) shuts.leaves.numbers
+  | inr keeps ↦
+      subst (λ (x : Past). All (λ h. h.number < vec_len x.history + 1) p'.table.holds) (sym keeps.past) (subst (λ (q : PartsView). All (λ h. h.number < vec_len was.history + 1) q.table.holds) (sym keeps.parts) numbers)
+]
+
+stays_there : (a b : Option EndView) → StaysSo a b → is_some a ≡ true → is_some b ≡ true
+stays_there None b stays is = absurd cc
+stays_there (Some v) None stays is = absurd stays
+stays_there (Some v) (Some w) stays is = refl
+
+pub shut_there : (a : EndName) (p p' : PartsView) (was now : Past) (ids : List EndId) → ShutsIf a p p' was now → Each (λ (id : EndId). is_some (link_at p.links (name_of id)) ≡ true) ids → Each (λ (id : EndId). is_some (link_at p'.links (name_of id)) ≡ true) ids
+shut_there a p p' was now ids shut there = elim shut [
+  | inl shuts ↦
+      Each-weaker (λ (id : EndId). is_some (link_at p.links (name_of id)) ≡ true) (λ (id : EndId). is_some (link_at p'.links (name_of id)) ≡ true)
+      (λ id is. stays_there (link_at p.links (name_of id)) (link_at p'.links (name_of id)) (shuts.paired (name_of id)) is) ids there
+  | inr keeps ↦ subst (λ (q : PartsView). Each (λ (id : EndId). is_some (link_at q.links (name_of id)) ≡ true) ids) (sym keeps.parts) there
+]
+
+-- whatever closes the ends that are left closes all
+abbrev pub ShutsOn : List EndId → List EndId → PartsView → PartsView → Past → Past → Type 0
+ShutsOn all left first p past was = (q : PartsView) (last : Past) → ShutsEach (map name_of left) p q was last → ShutsEach (map name_of all) first q past last
+
+pub shut_on : (all : List EndId) (id : EndId) (left : List EndId) (first p p' : PartsView) (past was now : Past) → ShutsOn all (id ∷ left) first p past was → ShutsIf (name_of id) p p' was now → ShutsOn all left first p' past now
+shut_on all id left first p p' past was now closes shut = λ q last rest. closes q last (p', now, shut, rest)
+
+-- ---- lists
+
+pub last_listing : (lists : List (Vec FrameView Global)) (v : Vec FrameView Global) → Each IsListing (lists ++ v ∷ []) → IsListing v × Each IsListing lists
+last_listing lists v each = (
+  Each-member IsListing (lists ++ v ∷ []) v each (Member-append_right lists (v ∷ []) v (inl refl)),
+  Each-from_members IsListing lists (λ x among. Each-member IsListing (lists ++ v ∷ []) x each (Member-append_left lists (v ∷ []) x among)),
+)

@@ -1,0 +1,157 @@
+//! The ends of the connections with another repository are closed, each by one entry.
+ghost use Rattle.std.specs.Prelude.{◌≡◌, ◌≢◌, ◌⊎◌, ◌+◌, ◌≤◌, ◌<◌, [], true, All, Err, length, map, is_some, vec_capacity, vec_len, IfErr, IfOk, IsErrOf, OnErr, OnOk};
+ghost use Rattle.annex_base.specs.Lists.{Each};
+ghost use Rattle.node_ends.specs.Ends.{end_at, link_at, name_of};
+ghost use Rattle.node_ends.specs.Joined.{StayPaired};
+ghost use Rattle.node_past.specs.Pasts.{Enters, IsReady};
+ghost use Rattle.run_data.specs.Histories.{most_entries};
+ghost use Rattle.node_steps.specs.Closing.{ClosesEach, ends_to, lacks_places, open_count};
+ghost use Rattle.node_steps.specs.Kept.{Stands};
+ghost use Rattle.node_steps.specs.Nodes.{beside, told_of};
+ghost use Rattle.node_steps.specs.Shutting.{IsListing, ShutsEach, ShutsIf};
+
+use crate::entering::moment_of;
+use annex_base::NoMemory;
+use node_ends::{EndId, ends_are_there};
+use node_ledger::Ledger;
+use node_parts::{Done, Parts, tables_fill_as_states};
+use node_past::{NodeRefused, Past};
+use object_store::Keeper;
+use run_data::FrameView;
+use std::alloc::Global;
+
+/// Adds the entry of a close. It takes no memory.
+fn enter(past: &mut Past, done: Done)
+    requires { IsReady past.old }
+    ensures entry { Enters done.kind done.taken done.sent [] past.old past.new }
+    ensures room { vec_capacity past.new.history ≡ vec_capacity past.old.history }
+{
+    let Done {
+        kind,
+        taken,
+        sent,
+        owes: _,
+    } = done;
+    past.enter(kind, taken, sent);
+}
+
+/// Closes an end, if it is open, by one entry, whose Close takes its place on an empty list. It takes no memory.
+fn close(past: &mut Past, parts: &mut Parts, id: EndId, listing: Vec<FrameView>)
+    requires there { is_some (link_at parts.old.links (name_of id)) ≡ true }
+    requires listing { IsListing listing }
+    requires numbers { All (λ h. h.number < vec_len past.old.history + 1) parts.old.table.holds }
+    requires ready { (end_at parts.old.links (name_of id)).opened ≡ true → IsReady past.old }
+    ensures shuts { ShutsIf (name_of id) parts.old parts.new past.old past.new }
+    ensures room { vec_capacity past.new.history ≡ vec_capacity past.old.history }
+{
+    let moment = moment_of(past);
+    let done = parts.close_end(id, moment, listing);
+    // For the proof: what the parts have is sound.
+    let _ = parts.table();
+    match done {
+        None => {}
+        Some(done) => enter(past, done),
+    }
+}
+
+/// Closes those of these ends that are open, one after the other. It takes no memory.
+fn close_each(past: &mut Past, parts: &mut Parts, ids: &[EndId], mut lists: Vec<Vec<FrameView>>)
+    requires there { Each (λ id. is_some (link_at parts.old.links (name_of id)) ≡ true) ids.now }
+    requires lists { Each IsListing lists.items }
+    requires enough { length lists.items ≡ length ids.now }
+    requires numbers { All (λ h. h.number < vec_len past.old.history + 1) parts.old.table.holds }
+    requires few { vec_len past.old.history + open_count parts.old.links (map name_of ids.now) ≤ most_entries }
+    requires room { vec_len past.old.history + length ids.now ≤ vec_capacity past.old.history }
+    ensures { ShutsEach (map name_of ids.now) parts.old parts.new past.old past.new }
+{
+    for at in 0..ids.len() {
+        let Some(listing) = lists.pop() else {
+            unreachable!()
+        };
+        close(past, parts, ids[at], listing);
+    }
+}
+
+/// How many of these ends are open.
+fn count_open(parts: &Parts, ids: &[EndId]) -> usize
+    requires there { Each (λ id. is_some (link_at parts.now.links (name_of id)) ≡ true) ids.now }
+    ensures { result ≡ open_count parts.now.links (map name_of ids.now) }
+{
+    let mut count = 0;
+    for at in 0..ids.len() {
+        if parts.is_open(ids[at]) {
+            count += 1;
+        }
+    }
+    count
+}
+
+/// So many empty lists, each with room for a frame.
+fn listings(alloc: Global, count: usize) -> Result<Vec<Vec<FrameView>>, NoMemory>
+    ensures lists { IfOk result (λ lists. Each IsListing lists.items) }
+    ensures count { IfOk result (λ lists. length lists.items ≡ count) }
+{
+    let mut lists = Vec::with_capacity(alloc, count)?;
+    for _ in 0..count {
+        let listing = Vec::with_capacity(alloc, 1)?;
+        lists.push(listing)?;
+    }
+    Ok(lists)
+}
+
+/// The end at this peer in this slot.
+fn end_to(peer: u32, slot: u32, client: bool) -> EndId
+    ensures { result ≡ record { peer = peer; slot = slot; client = client } }
+{
+    EndId { peer, slot, client }
+}
+
+/// The ends of the connections with this repository, in order of side, the client's first, and of slot.
+fn ends_to(peer: u32) -> [EndId; 8]
+    ensures { map name_of result.now ≡ ends_to peer }
+{
+    [
+        end_to(peer, 0, true),
+        end_to(peer, 1, true),
+        end_to(peer, 2, true),
+        end_to(peer, 3, true),
+        end_to(peer, 0, false),
+        end_to(peer, 1, false),
+        end_to(peer, 2, false),
+        end_to(peer, 3, false),
+    ]
+}
+
+/// Closes the ends of the connections with another repository that are open, one entry for each, in order of side, the client's
+/// first, and of slot. Full comes exactly where the history has too few places left for all of them, and then none is closed; all
+/// memory is taken before the first is closed.
+pub fn close_ends<K: Keeper>(
+    ledger: &mut Ledger<K>,
+    parts: &mut Parts,
+    peer: u32,
+) -> Result<(), NodeRefused>
+    requires stands { Stands ledger.old parts.old (K.contents ledger.old.keeper) (K.parts ledger.old.keeper) (K.records ledger.old.keeper) }
+    requires known { peer < length ledger.old.setup.repos }
+    requires other { peer ≢ ledger.old.setup.number }
+    ensures stands { Stands ledger.new parts.new (K.contents ledger.new.keeper) (K.parts ledger.new.keeper) (K.records ledger.new.keeper) }
+    ensures ok { OnOk result (ClosesEach (told_of (K.contents ledger.old.keeper) (K.parts ledger.old.keeper)) (ends_to peer) (beside parts.old ledger.old) (beside parts.new ledger.new)) }
+    ensures full { IsErrOf result NodeRefused.Full → lacks_places (beside parts.old ledger.old) peer ≡ true }
+    ensures lacks { lacks_places (beside parts.old ledger.old) peer ≡ true → result ≡ Err NodeRefused.Full }
+    ensures refused { IfErr result (λ e. (e ≡ NodeRefused.Full) ⊎ (e ≡ NodeRefused.NoMemory)) }
+    ensures paired { StayPaired parts.old.links parts.new.links }
+    ensures err { OnErr result (beside parts.new ledger.new ≡ beside parts.old ledger.old) }
+{
+    // For the proof: laws, and what the parts have is sound.
+    ends_are_there();
+    tables_fill_as_states();
+    let _ = parts.table();
+    let ids = ends_to(peer);
+    let open = count_open(parts, &ids);
+    if ledger.past.lacks(open) {
+        return Err(NodeRefused::Full);
+    }
+    let lists = listings(ledger.past.alloc, ids.len())?;
+    ledger.past.reserve_places(ids.len())?;
+    close_each(&mut ledger.past, parts, &ids, lists);
+    Ok(())
+}
