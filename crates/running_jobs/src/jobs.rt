@@ -7,6 +7,7 @@ ghost use Rattle.run_data.specs.declared.entry.Entry.{Entry};
 ghost use Rattle.run_data.specs.declared.entry.EntryKind.TheVariants as kinds;
 ghost use Rattle.trust_groups.specs.View.{settings_of};
 ghost use Rattle.node_model.specs.Look.{Look, Effect};
+ghost use Rattle.node_model.specs.Rows.{holds_after};
 ghost use Rattle.node_model.specs.SetUp.{SetUp};
 ghost use Rattle.node_model.specs.State.{State};
 ghost use Rattle.node_model.specs.Turns.{job_step};
@@ -212,6 +213,7 @@ impl Jobs {
         ensures jobs { self.new ≡ record self.old { running = [] } }
         ensures owns { OwnAll self.new table.new }
         ensures labels { map label_of table.new.holds ≡ map label_of table.old.holds }
+        ensures crash { (clock : ℕ) → holds_after table.new.holds (kinds.Crash clock) ≡ holds_after table.old.holds (kinds.Crash clock) }
         ensures filled { (others : List ℕ → Bool) → AreFilled table.old self.old.running others → AreFilled table.new [] others }
     {
         end_all(&mut self.running, table);

@@ -1,5 +1,7 @@
 //! The list of the running jobs.
 ghost use Rattle.std.specs.Prelude.{◌≡◌, ◌≤◌, ◌<◌, ◌+◌, ◌++◌, ◌∷◌, ◌&&◌, ℕ, List, [], length, map, not, take, drop, vec_capacity, vec_len, IfOk, IsErrOf, OnOk};
+ghost use Rattle.run_data.specs.declared.entry.EntryKind.TheVariants.{Crash};
+ghost use Rattle.node_model.specs.Rows.{holds_after};
 ghost use Rattle.node_model.specs.Slots.{free_slot, uses};
 ghost use Rattle.content_lock.specs.Rows.{is_filling};
 ghost use Rattle.content_lock.specs.Stored.{label_of};
@@ -98,6 +100,7 @@ pub(crate) fn end_all(running: &mut Vec<Task>, table: &mut LockTable)
     requires { CanEnd table.old running.old.items }
     ensures none { running.new.items ≡ [] }
     ensures labels { map label_of table.new.holds ≡ map label_of table.old.holds }
+    ensures crash { (clock : ℕ) → holds_after table.new.holds (Crash clock) ≡ holds_after table.old.holds (Crash clock) }
     ensures fills { (key : List ℕ) → is_filling table.new key ≡ (not (fills_at running.old.items key) && is_filling table.old key) }
     ensures others { OthersKeep running.old.items table.old table.new }
 {
