@@ -3,14 +3,16 @@ use Rattle.std.proofs.Common.{◌≡◌, ◌≢◌, inl, inr, ℕ, zero, suc, �
 use Rattle.std.specs.Prelude.{slice_get}
 use Rattle.std.proofs.Math.ListN.{set}
 use Rattle.std.proofs.lemmas.Option.{slice_get_within}
+use Rattle.annex_base.specs.Lists.{Member}
 use Rattle.run_data.specs.declared.entry.By.{By}
 use Rattle.content_lock.specs.Rows.{Rows}
 use Rattle.content_lock.specs.Tokens.{Owns, ShareView}
+use Rattle.node_model.specs.AnyTime.{all_ends}
 use Rattle.node_model.specs.Ends.{EndName}
 use Rattle.node_model.specs.Rows.{restart, same_owner}
 use Rattle.node_model.specs.Sessions as sessions
 use Rattle.node_model.specs.Sessions.{new_session}
-use Rattle.node_model.specs.SetUp.{SetUp}
+use Rattle.node_model.specs.SetUp.{SetUp, served_connections}
 use Rattle.p2p_server.specs.Answers.{owner_at}
 use Rattle.p2p_server.specs.declared.Place.{Place}
 use Rattle.p2p_server.specs.declared.session.Session.{Session}
@@ -20,6 +22,7 @@ use Rattle.node_sessions.specs.Sessions.{AreSessions, IsOther, IsSessionOf, OwnA
 use Rattle.node_sessions.proofs.Building.{map_over}
 use Rattle.node_sessions.proofs.Leaving.{closes_fed, closes_filled, closes_own, closes_places, closes_there, restart_kept}
 use Rattle.node_sessions.proofs.Listing.{Every-set, any_none, set_cases}
+use Rattle.node_sessions.proofs.Turning.{end_among}
 
 set_length : {X : Type 0} (xs : List X) (i : ℕ) (x : X) → length (set xs i x) ≡ length xs
 set_length [] i x = refl
@@ -105,12 +108,15 @@ module _ (was now : List Session) (rows rows' : Rows) (h : AreClosed (length now
   pub bare_fills : (key : List ℕ) → fills_in now key ≡ false
   bare_fills key = any_none (session_fills key) now (λ i x at. fills_none i x at key)
 
-  pub bare_sessions : (s : SetUp) (were are : EndName → sessions.Session) → AreSessions s were was → ((a : EndName) → a.client ≡ false → are a ≡ new_session) → AreSessions s are now
+  pub bare_sessions : (s : SetUp) (were are : EndName → sessions.Session) → AreSessions s were was → ((a : EndName) → a.client ≡ false → Member a (all_ends s) → are a ≡ new_session) → AreSessions s are now
   bare_sessions s were are before new = record {
-    connections = map_over place_of (λ q. (q.peer, q.slot)) now ∙ (ap (map (λ q. (q.peer, q.slot))) h.places ∙ (sym (map_over place_of (λ q. (q.peer, q.slot)) was) ∙ before.connections));
+    connections = connections;
     each = session;
   }
     where
+      connections : map connection_of now ≡ served_connections s
+      connections = map_over place_of (λ q. (q.peer, q.slot)) now ∙ (ap (map (λ q. (q.peer, q.slot))) h.places ∙ (sym (map_over place_of (λ q. (q.peer, q.slot)) was) ∙ before.connections))
+
       session : (i : ℕ) (x : Session) → slice_get now i ≡ Some x → IsSessionOf s are x
       session i x at =
           let y = like_placed now was i x h.places at in
@@ -118,5 +124,5 @@ module _ (was now : List Session) (rows rows' : Rows) (h : AreClosed (length now
             id = old.id ∙ ap (λ (p : Place). p.id) y.2;
             version = old.version ∙ ap (λ (p : Place). p.version) y.2;
             locks = old.locks ∙ ap (λ (p : Place). p.locks) y.2;
-            session = new (end_of x) refl ∙ sym (each i x at).session;
+            session = new (end_of x) refl (end_among s now i x connections at) ∙ sym (each i x at).session;
           }

@@ -13,6 +13,7 @@ ghost use Rattle.content_lock.specs.Rows.{Rows, bar_at, is_filling};
 ghost use Rattle.content_lock.specs.Stored.{Agrees};
 ghost use Rattle.content_lock.specs.Tokens.{Owns, ShareView};
 ghost use Rattle.link_ring.specs.Ends.{EndView};
+ghost use Rattle.node_model.specs.AnyTime.{all_ends};
 ghost use Rattle.node_model.specs.Ends.{End, EndName};
 ghost use Rattle.node_model.specs.Look.{Look, Effect};
 ghost use Rattle.node_model.specs.Sessions.{Session as EndSession, new_session};
@@ -118,7 +119,7 @@ impl Sessions {
     /// They have nothing of any table then on which nobody has a hold.
     pub fn all_closed(&mut self, table: &mut LockTable)
         requires { OwnAll table.old self.old }
-        ensures sessions { (s : SetUp) (was now : EndName → EndSession) → AreSessions s was self.old → ((a : EndName) → a.client ≡ false → now a ≡ new_session) → AreSessions s now self.new }
+        ensures sessions { (s : SetUp) (was now : EndName → EndSession) → AreSessions s was self.old → ((a : EndName) → a.client ≡ false → Member a (all_ends s) → now a ≡ new_session) → AreSessions s now self.new }
         ensures owns { OwnAll table.new self.new }
         ensures bare { (rows : Rows) → ((by : By) → Owns by None rows.holds) → OwnAll rows self.new }
         ensures fills { (key : List ℕ) → fills_in self.new key ≡ false }
