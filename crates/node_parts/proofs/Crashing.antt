@@ -172,6 +172,12 @@ peers_apart own p =
     below : Each (λ (a : EndName). a.peer < p) (all_names own p)
     below = peers_are (λ n. n < p) (but own (range_with_len 0 p)) (Each-filter (λ (n : ℕ). n < p) _ (range_with_len 0 p) (range_below 0 p p (omega arith)))
 
+pub but_other : (own p : ℕ) → (p == own) ≡ false → but own (p ∷ []) ≡ p ∷ []
+but_other own p apart = rw apart refl
+
+pub but_own : (own p : ℕ) → (p == own) ≡ true → but own (p ∷ []) ≡ []
+but_own own p same = rw same refl
+
 -- those of one repository more
 pub sends_more : (own p : ℕ) (sender : EntryStamp) (was mid now : List EndView) (xs ys zs : List FrameView) → SendsCloses (all_names own p) sender was mid xs ys → SendsCloses (names_with (but own (p ∷ []))) sender mid now ys zs
     → SendsCloses (all_names own (p + 1)) sender was now xs zs
