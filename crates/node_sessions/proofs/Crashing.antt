@@ -76,7 +76,21 @@ closed_next n was mid now rows rows' rows'' h a = record {
         (ap (λ (p : Place). same_owner (owner_at p) by) a.closed.place ∙ h.apart by other n a.was a.here) (λ k y ne at. h.apart by other k y at))
 
 pub closed_as_many : (n : ℕ) (was now : List Session) (rows rows' : Rows) → AreClosed n was now rows rows' → length was ≤ n → AreClosed (length now) was now rows rows'
-closed_as_many n was now rows rows' h many = record h { bare = λ i x low at. h.bare i x (omega (arith, low, many, h.count)) at }
+closed_as_many n was now rows rows' h many = record {
+  bare = λ i x low at. h.bare i x (omega (arith, low, many, h.count)) at;
+  count = h.count;
+  places = h.places;
+  own = h.own;
+  there = h.there;
+  fed = h.fed;
+  apart = h.apart;
+  others = h.others;
+  filled = h.filled;
+  numbers = h.numbers;
+  agrees = h.agrees;
+  bars = h.bars;
+  crash = h.crash;
+}
 
 -- ---- what they are then
 
