@@ -1,6 +1,7 @@
 //! A repository crashes: all its ends are closed, and its sessions and jobs are given up.
-ghost use Rattle.std.specs.Prelude.{◌≡◌, ◌≤◌, ◌<◌, ◌+◌, ◌*◌, ◌^◌, ◌∷◌, ◌++◌, ℕ, List, [], true, false, All, None, is_some, length, vec_capacity, vec_len};
+ghost use Rattle.std.specs.Prelude.{◌≡◌, ◌≤◌, ◌<◌, ◌+◌, ◌*◌, ◌^◌, ◌==◌, ◌∷◌, ℕ, List, [], All, None, find, is_some, length, vec_capacity, vec_len};
 ghost use Rattle.std.specs.declared.option.Option.{Option};
+ghost use Rattle.std.specs.Option.{option_map};
 ghost use Rattle.run_data.specs.declared.entry.Entry.{Entry};
 ghost use Rattle.run_data.specs.declared.entry.EntryKind.TheVariants as kinds;
 ghost use Rattle.object_store.specs.Stores.{Contents, Parts as StoredParts};
@@ -16,6 +17,7 @@ ghost use Rattle.node_ends.specs.Ends.{link_at, name_of};
 ghost use Rattle.node_ends.specs.Joined.{StayPaired};
 ghost use Rattle.node_sessions.specs.Sessions.{AreFilled, OwnAll};
 ghost use Rattle.running_jobs.specs.Running.{OwnAll as JobsOwn, fills_at};
+ghost use Rattle.running_jobs.specs.Tasks.{number_of, slot_of};
 ghost use Rattle.node_parts.specs.Crashing.{LetsGo, SendsCloses, all_names, names_with};
 ghost use Rattle.node_parts.specs.Parts.{AreAllFed, AreParts};
 ghost use Rattle.node_parts.specs.Posting.{PostsPieces, stamp_of};
@@ -190,6 +192,13 @@ impl Parts {
         ensures { result ≡ length self.now.links }
     {
         self.jobs.repositories() as usize * 8
+    }
+
+    /// The number of the job in this slot, if one runs there.
+    pub fn job_in(&self, slot: u32) -> Option<u32>
+        ensures { result ≡ option_map number_of (find (λ t. slot_of t == slot) self.now.jobs.running) }
+    {
+        self.jobs.in_slot(slot)
     }
 
     /// Crashes: each end that is open sends a Close, in order of the peer's number, of side, the client's first, and of slot; these
