@@ -1,4 +1,4 @@
--- What a crash leaves of the parts.
+-- What the proof of `parts::Parts::crash` needs beside the tactics.
 use Rattle.std.proofs.Common.{◌≡◌, ◌<◌, ℕ, [], List, Option, None, length, refl, sym, ap, ◌∙◌, subst}
 use Rattle.std.specs.Prelude.{All}
 use Rattle.annex_base.specs.declared.kinds.EntryStamp.{EntryStamp}
@@ -11,7 +11,7 @@ use Rattle.node_parts.specs.Parts.{AreAllFed, AreParts, PartsView}
 use Rattle.node_parts.specs.Posting.{PostsPieces, stamp_of}
 use Rattle.node_parts.specs.Steps.{Leaves}
 use Rattle.node_parts.proofs.Crashing.{fed_crashed, leaves_crashed, parts_crashed, pieces_crashed, sent_crashed, sound_crashed}
-use Rattle.node_parts.proofs.crashing.Parts.crash.Goals as goal
+use Rattle.node_parts.proofs.parts.Parts.crash.Goals as goal
 
 was : goal.After-let_go → PartsView
 was c = let i = c.self.inside in record { table = i.table; links = i.ends; sessions = i.sessions; jobs = i.jobs }
