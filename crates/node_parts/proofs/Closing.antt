@@ -1,9 +1,11 @@
 -- What the close of a connection leaves of the parts.
 use Rattle.std.proofs.Common.{◌≡◌, ◌≢◌, ◌⊎◌, inl, inr, ℕ, zero, suc, ◌<◌, ◌+◌, Bool, true, false, if◌then◌else◌, List, [], ◌∷◌, Option, Some, None, length, map, refl, sym, ap, subst, ◌∙◌, arith}
-use Rattle.std.specs.Prelude.{◌==◌, ◌&&◌, ◌||◌, All, fold, not}
+use Rattle.std.specs.Prelude.{◌==◌, ◌&&◌, All, fold, not}
 use Rattle.std.specs.List.{range_with_len}
 use Rattle.std.proofs.Math.Bool.{and-false}
-use Rattle.std.proofs.lemmas.Bool.{and_parts, cases_Bool, eqb-true}
+use Rattle.std.proofs.lemmas.Bool.{and_parts, cases_Bool, eqb-true, true≢false}
+use Rattle.std.specs.Option.{ForSome}
+use Rattle.std.proofs.lemmas.Option.{same_Some}
 use Rattle.std.proofs.lemmas.List.Elements.{All-weaker}
 use Rattle.annex_base.specs.Lists.{Each, Member}
 use Rattle.annex_base.specs.Bools.{same_bool}
@@ -11,22 +13,17 @@ use Rattle.annex_base.specs.declared.kinds.EntryStamp.{EntryStamp}
 use Rattle.annex_base.proofs.Conditions.{eqb_refl, same_bool_is, same_bool_refl}
 use Rattle.annex_base.proofs.Lists.{Member-filter_from, Member-flat_map}
 use Rattle.annex_base.proofs.Numbers.{Member-range}
-use Rattle.run_data.specs.declared.entry.By.{By}
 use Rattle.run_data.specs.declared.entry.By.TheVariants.{Job as by_job, Peer}
 use Rattle.run_data.specs.declared.entry.Entry.{Entry}
-use Rattle.run_data.specs.declared.entry.EntryKind.{EntryKind}
 use Rattle.run_data.specs.declared.entry.EntryKind.TheVariants as kinds
 use Rattle.run_data.specs.declared.entry.FrameText.TheVariants.{Closing}
 use Rattle.run_data.specs.declared.entry.FrameView.{FrameView}
 use Rattle.run_data.specs.declared.row.Hold.{Hold}
 use Rattle.object_store.specs.Stores.{Contents, Parts}
-use Rattle.object_store.specs.declared.keeper.HoldRecord.{HoldRecord}
 use Rattle.content_lock.specs.Rows.{Rows, bar_at}
-use Rattle.content_lock.specs.Stored.{Agrees}
-use Rattle.content_lock.specs.Tokens.{Owns, ShareView}
 use Rattle.link_ring.specs.Ends.{EndView}
 use Rattle.node_model.specs.After.{state_after}
-use Rattle.node_model.specs.Ends.{End, EndName, end_sends, end_took, frames, sends_at, sent_at, taken_at}
+use Rattle.node_model.specs.Ends.{End, EndName, end_sends, end_took, frames, sent_at, taken_at}
 use Rattle.node_model.specs.Look.{Effect}
 use Rattle.node_model.specs.Rows.{bar_after, holds_after, keep_of}
 use Rattle.node_model.specs.Sessions.{new_session, sends_close, session_after, session_goes, session_left}
@@ -34,19 +31,19 @@ use Rattle.node_model.specs.Sessions as sessions
 use Rattle.node_model.specs.SetUp.{SetUp, others, served_connections, slots}
 use Rattle.node_model.specs.Slots.{job_of}
 use Rattle.node_model.specs.State.{State}
-use Rattle.node_ends.specs.Ends.{AreEnds, IsEndOf, end_at, link_at}
+use Rattle.node_ends.specs.Ends.{IsEndOf, end_at, end_in, link_at}
 use Rattle.node_ends.specs.Going.{AreAfter}
 use Rattle.node_ends.specs.Joined.{StayPaired}
 use Rattle.p2p_server.specs.declared.session.Session.{Session}
 use Rattle.p2p_server.specs.Talking.{AreAfterStep}
 use Rattle.node_sessions.specs.Serving.{closing_made, sessions_after}
-use Rattle.node_sessions.specs.Sessions.{AreAllFed as SessionsFed, AreFilled, AreSessions, HaveEnds, IsOther, OwnAll, connection_of}
+use Rattle.node_sessions.specs.Sessions.{AreSessions, OwnAll, connection_of}
 use Rattle.running_jobs.specs.Places.{IsPlace}
 use Rattle.running_jobs.specs.Running.{AreAllFed as JobsFed, AreWorks, Jobs, fills_at}
 use Rattle.node_parts.specs.declared.done.Done.{Done}
 use Rattle.node_parts.specs.Closing.{Shuts}
 use Rattle.node_parts.specs.Parts.{AreAllFed, AreParts, HasLockRooms, PartsView}
-use Rattle.node_parts.specs.Posting.{Posts, PostsPieces}
+use Rattle.node_parts.specs.Posting.{PostsPieces}
 use Rattle.node_parts.specs.Sending.{PostsOnly}
 use Rattle.node_parts.specs.Sound.{AreSound}
 use Rattle.node_parts.specs.Steps.{Leaves, close_made, made_of}
@@ -152,7 +149,7 @@ stays_works : JobsStay → (s : SetUp) (st : State) (e : Entry) (p : PartsView) 
 stays_works stay s st e p a sound are kind = stay s st e p.jobs p.table are.works sound.acting (ap job_of kind) (λ clock is. no_crash (sym kind ∙ is))
   where
     no_crash : {clock : ℕ} → kinds.Close a.peer a.slot a.client ≡ kinds.Crash clock → ⊥
-    no_crash {clock} is = absurd cc
+    no_crash {clock} is = cc
 
 module _ (was now : PartsView) (a : EndName) (d : Done) (sender : EntryStamp) (jobs : now.jobs ≡ was.jobs) (made : made_of d ≡ close_made a (end_at was.links a)) (shuts : Shuts a was.sessions now.sessions was.table now.table)
     (after : AreAfter was.links now.links d.taken d.sent) (posts : PostsOnly [] sender d.kind was.links now.links d.taken d.sent) where
@@ -172,6 +169,12 @@ module _ (was now : PartsView) (a : EndName) (d : Done) (sender : EntryStamp) (j
         (ap (λ (c : End). c.opened) (after.ends b)
         ∙ closed_end a (end_at was.links a) (end_took (end_at was.links b) (taken_at b d.taken)) (sent_at b d.sent) (ap (sent_at b) sent_is ∙ (ap (λ (x : EndName). sent_at x (closing a (end_at was.links a))) same ∙ sent_here a (end_at was.links a))))
     | inr other ↦ inl (untouched sender d.kind was.links now.links d.taken d.sent posts.posts b (ap (taken_at b) taken_is) (ap (sent_at b) sent_is ∙ sent_there a (end_at was.links a) b other))
+  ]
+
+  pub opens_closed : (b : EndName) → (end_at now.links b).opened ≡ true → (end_at was.links b).opened ≡ true
+  opens_closed b is = elim (end_or b) [
+    | inl same ↦ ap (λ (o : Option EndView). (end_in o).opened) (sym same) ∙ is
+    | inr shut ↦ absurd (true≢false (sym is ∙ shut))
   ]
 
   module _ (s : SetUp) (st : State) (e : Entry) (are : AreParts s st was) (kind : e.kind ≡ d.kind) (taken : e.taken ≡ d.taken) (sent : e.sent ≡ d.sent) where
@@ -233,3 +236,8 @@ pub sound_closed : (was : PartsView) (links : List EndView) (xs : List Session) 
 sound_closed was links xs table a sound shuts paired count =
     sound_after was table links xs sound count (there_still was.links links xs paired (shuts.there was.links sound.there)) shuts.owns (shuts.filled (fills_at was.jobs.running) sound.filled) shuts.after.bars
     (λ job share owns. shuts.others (by_job job) share (no_jobs was.sessions job) owns)
+
+-- ---- what was made
+
+pub for_one : {X : Type 0} (P : X → Type 0) (x : X) → P x → ForSome (Some x) P
+for_one P x p y is = subst P (same_Some x y is) p

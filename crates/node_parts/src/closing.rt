@@ -1,5 +1,5 @@
 //! One end of a connection is closed.
-ghost use Rattle.std.specs.Prelude.{◌≡◌, ◌<◌, [], ℕ, List, true, false, None, All, is_some, length, map, vec_capacity, vec_len};
+ghost use Rattle.std.specs.Prelude.{◌≡◌, ◌<◌, [], List, true, false, None, All, is_some, length, map, vec_capacity, vec_len};
 ghost use Rattle.std.specs.declared.option.Option.{Option};
 ghost use Rattle.std.specs.Option.{ForSome};
 ghost use Rattle.annex_base.specs.Lists.{Member};
@@ -9,6 +9,7 @@ ghost use Rattle.object_store.specs.Stores.{Contents, Parts as StoredParts};
 ghost use Rattle.object_store.specs.declared.keeper.HoldRecord.{HoldRecord};
 ghost use Rattle.content_lock.specs.Stored.{Agrees};
 ghost use Rattle.node_model.specs.After.{state_after};
+ghost use Rattle.node_model.specs.Ends.{EndName};
 ghost use Rattle.node_model.specs.SetUp.{SetUp};
 ghost use Rattle.node_model.specs.State.{State};
 ghost use Rattle.node_ends.specs.Ends.{IsEndOf, end_at, link_at, name_of};
@@ -121,6 +122,9 @@ impl Parts {
         ensures fed { (q : StoredParts) → AreAllFed q self.old → AreAllFed q self.new }
         ensures agrees { (known : Option (List HoldRecord)) → Agrees known self.old.table.holds → Agrees known self.new.table.holds }
         ensures jobs { self.new.jobs ≡ self.old.jobs }
+
+        // No end is opened.
+        ensures opens { (a : EndName) → (end_at self.new.links a).opened ≡ true → (end_at self.old.links a).opened ≡ true }
         ensures paired { StayPaired self.old.links self.new.links }
     {
         // Laws, for the proof that the ends and the jobs are those of the state after the entry.

@@ -1,9 +1,12 @@
 -- The closes of a node's ends, from those of its past and of the parts beside it.
-use Rattle.std.proofs.Common.{◌≡◌, ◌≢◌, ◌⊎◌, inl, inr, ℕ, ◌≤◌, ◌<◌, ◌+◌, Bool, true, false, List, [], ◌∷◌, ◌++◌, All, Option, Some, None, length, map, refl, sym, ap, subst, arith, ◌∙◌, append_assoc}
-use Rattle.std.specs.Prelude.{vec_len}
-use Rattle.std.specs.Option.{ForSome}
+use Rattle.std.proofs.Common.{◌≡◌, ◌≢◌, inl, inr, ℕ, suc, ◌≤◌, ◌<◌, ◌+◌, Bool, true, false, List, [], ◌∷◌, ◌++◌, All, Option, Some, None, length, map, refl, sym, ap, subst, arith, ◌∙◌, append_assoc}
+use Rattle.std.specs.Prelude.{if◌then◌else◌, filter, is_some, vec_len}
+use Rattle.std.specs.declared.vec.Vec.{Vec}
+use Rattle.std.specs.declared.alloc.Global.{Global}
+use Rattle.std.proofs.lemmas.Bool.{cases_Bool}
 use Rattle.std.proofs.lemmas.List.{append-nil, length-append, length-map}
 use Rattle.annex_base.specs.Lists.{Each}
+use Rattle.annex_base.proofs.Lists.{Each-from_members, Each-member, Each-weaker, Member-append_left, Member-append_right}
 use Rattle.run_data.specs.declared.entry.Entry.{Entry}
 use Rattle.run_data.specs.declared.entry.EntryKind.TheVariants.{Close}
 use Rattle.run_data.specs.declared.entry.FrameText.TheVariants.{Closing}
@@ -22,7 +25,8 @@ use Rattle.node_model.specs.OwedLines.{OwedLine}
 use Rattle.node_model.specs.Rows.{bar_after, holds_after}
 use Rattle.node_model.specs.SetUp.{SetUp}
 use Rattle.node_model.specs.State.{State}
-use Rattle.node_ends.specs.Ends.{IsEndOf, end_at, link_at}
+use Rattle.node_ends.specs.declared.name.EndId.{EndId}
+use Rattle.node_ends.specs.Ends.{IsEndOf, end_at, link_at, name_of}
 use Rattle.node_ends.specs.Going.{AreAfter}
 use Rattle.node_ends.specs.Joined.{StayPaired, StaysSo}
 use Rattle.node_parts.specs.Parts.{AreParts, PartsView}
@@ -32,12 +36,12 @@ use Rattle.node_parts.specs.Running.{Jobs}
 use Rattle.node_past.specs.declared.past.Past.{Past}
 use Rattle.node_past.specs.declared.setup.Ended.{Ended}
 use Rattle.node_past.specs.declared.setup.Setup.{Setup}
-use Rattle.node_past.specs.Pasts.{SamePast, frames_entry}
+use Rattle.node_past.specs.Pasts.{frames_entry}
 use Rattle.node_past.proofs.OwedLemmas.{Grows, grows_same}
-use Rattle.node_steps.specs.Closing.{Closes, ClosesEach, LeavesShut, close_entry}
+use Rattle.node_steps.specs.Closing.{Closes, ClosesEach, close_entry, open_count}
 use Rattle.node_steps.specs.Kept.{IsFed, IsKept}
 use Rattle.node_steps.specs.Nodes.{MatchesSetup, IsState, NodeView, state_of}
-use Rattle.node_steps.specs.Shutting.{KeepsShut, Shuts, ShutsEach, ShutsIf}
+use Rattle.node_steps.specs.Shutting.{IsListing, Shuts, ShutsEach, ShutsIf}
 use Rattle.node_steps.specs.Turning.{stamp_then}
 use Rattle.node_steps.proofs.BeginLemmas.{kept_entered}
 use Rattle.node_steps.proofs.MoveLemmas.{seen}
@@ -225,3 +229,86 @@ closed_each {K} k (a ∷ ends) p p' was now branch owed told fills others shut k
           closed_kept k a ends p p' was now branch owed told others.0 kept keeps.shut
           (closed_each k ends p p' was now branch owed told fills others.1 (subst (λ (q : PartsView). ShutsEach ends q p' was now) keeps.parts (subst (λ (x : Past). ShutsEach ends mid p' x now) keeps.past shut.3)) kept)
     ]
+
+-- ---- one after the other
+
+-- of the parts and the past after one close
+longer_past : (was now : Past) (e : Entry) → now.history.items ≡ was.history.items ++ e ∷ [] → vec_len now.history ≡ vec_len was.history + 1
+longer_past was now e is = now.history.ok.0 ∙ (ap (λ (h : List Entry). length h) is ∙ (length-append was.history.items (e ∷ []) ∙ ap (λ (n : ℕ). n + 1) (sym was.history.ok.0)))
+
+open_more : (links : List EndView) (a : EndName) (ends : List EndName) → (end_at links a).opened ≡ true → open_count links (a ∷ ends) ≡ suc (open_count links ends)
+open_more links a ends is = ap (λ (b : Bool). length (if b then a ∷ filter (λ x. (end_at links x).opened) ends else filter (λ x. (end_at links x).opened) ends)) is
+
+open_same : (links : List EndView) (a : EndName) (ends : List EndName) → (end_at links a).opened ≡ false → open_count links (a ∷ ends) ≡ open_count links ends
+open_same links a ends is = ap (λ (b : Bool). length (if b then a ∷ filter (λ x. (end_at links x).opened) ends else filter (λ x. (end_at links x).opened) ends)) is
+
+open_least : (links : List EndView) (a : EndName) (ends : List EndName) → open_count links ends ≤ open_count links (a ∷ ends)
+open_least links a ends = elim (cases_Bool (end_at links a).opened) [
+  | inl is ↦ let more = open_more links a ends is in omega (arith, more)
+  | inr is ↦ let same = open_same links a ends is in omega (arith, same)
+]
+
+open_fewer : (links links' : List EndView) (ends : List EndName) → ((b : EndName) → (end_at links' b).opened ≡ true → (end_at links b).opened ≡ true) → open_count links' ends ≤ open_count links ends
+open_fewer links links' [] opens = omega arith
+open_fewer links links' (a ∷ ends) opens =
+    let rest = open_fewer links links' ends opens in
+    elim (cases_Bool (end_at links' a).opened) [
+      | inl is ↦ (let now = open_more links' a ends is in let was = open_more links a ends (opens a is) in omega (arith, now, was, rest))
+      | inr is ↦ (let now = open_same links' a ends is in let was = open_least links a ends in omega (arith, now, was, rest))
+    ]
+
+pub shut_few : (a : EndName) (p p' : PartsView) (was now : Past) (ends : List EndName) → ShutsIf a p p' was now → vec_len now.history + open_count p'.links ends ≤ vec_len was.history + open_count p.links (a ∷ ends)
+shut_few a p p' was now ends shut = elim shut [
+  | inl shuts ↦
+      (let len = longer_past was now (frames_entry was shuts.done.kind shuts.done.taken shuts.done.sent) shuts.enters.history in
+      let more = open_more p.links a ends shuts.opened in
+      let fewer = open_fewer p.links p'.links ends shuts.opens in
+      omega (arith, len, more, fewer))
+  | inr keeps ↦
+      (let len = ap (λ (x : Past). vec_len x.history) keeps.past in
+      let same = ap (λ (q : PartsView). open_count q.links ends) keeps.parts in
+      let least = open_least p.links a ends in
+      omega (arith, len, same, least))
+]
+
+pub shut_length : (a : EndName) (p p' : PartsView) (was now : Past) → ShutsIf a p p' was now → vec_len now.history ≤ vec_len was.history + 1
+shut_length a p p' was now shut = elim shut [
+  | inl shuts ↦ (let len = longer_past was now (frames_entry was shuts.done.kind shuts.done.taken shuts.done.sent) shuts.enters.history in omega (arith, len))
+  | inr keeps ↦ (let len = ap (λ (x : Past). vec_len x.history) keeps.past in omega (arith, len))
+]
+
+pub shut_numbers : (a : EndName) (p p' : PartsView) (was now : Past) → ShutsIf a p p' was now → All (λ h. h.number < vec_len was.history + 1) p.table.holds → All (λ h. h.number < vec_len now.history + 1) p'.table.holds
+shut_numbers a p p' was now shut numbers = elim shut [
+  | inl shuts ↦
+      subst (λ (n : ℕ). All (λ h. h.number < n + 1) p'.table.holds) (sym (longer_past was now (frames_entry was shuts.done.kind shuts.done.taken shuts.done.sent) shuts.enters.history)) shuts.leaves.numbers
+  | inr keeps ↦
+      subst (λ (x : Past). All (λ h. h.number < vec_len x.history + 1) p'.table.holds) (sym keeps.past) (subst (λ (q : PartsView). All (λ h. h.number < vec_len was.history + 1) q.table.holds) (sym keeps.parts) numbers)
+]
+
+stays_there : (a b : Option EndView) → StaysSo a b → is_some a ≡ true → is_some b ≡ true
+stays_there None b stays is = absurd cc
+stays_there (Some v) None stays is = absurd stays
+stays_there (Some v) (Some w) stays is = refl
+
+pub shut_there : (a : EndName) (p p' : PartsView) (was now : Past) (ids : List EndId) → ShutsIf a p p' was now → Each (λ (id : EndId). is_some (link_at p.links (name_of id)) ≡ true) ids → Each (λ (id : EndId). is_some (link_at p'.links (name_of id)) ≡ true) ids
+shut_there a p p' was now ids shut there = elim shut [
+  | inl shuts ↦
+      Each-weaker (λ (id : EndId). is_some (link_at p.links (name_of id)) ≡ true) (λ (id : EndId). is_some (link_at p'.links (name_of id)) ≡ true)
+      (λ id is. stays_there (link_at p.links (name_of id)) (link_at p'.links (name_of id)) (shuts.paired (name_of id)) is) ids there
+  | inr keeps ↦ subst (λ (q : PartsView). Each (λ (id : EndId). is_some (link_at q.links (name_of id)) ≡ true) ids) (sym keeps.parts) there
+]
+
+-- whatever closes the ends that are left closes all
+abbrev pub ShutsOn : List EndId → List EndId → PartsView → PartsView → Past → Past → Type 0
+ShutsOn all left first p past was = (q : PartsView) (last : Past) → ShutsEach (map name_of left) p q was last → ShutsEach (map name_of all) first q past last
+
+pub shut_on : (all : List EndId) (id : EndId) (left : List EndId) (first p p' : PartsView) (past was now : Past) → ShutsOn all (id ∷ left) first p past was → ShutsIf (name_of id) p p' was now → ShutsOn all left first p' past now
+shut_on all id left first p p' past was now closes shut = λ q last rest. closes q last (p', now, shut, rest)
+
+-- ---- lists
+
+pub last_listing : (lists : List (Vec FrameView Global)) (v : Vec FrameView Global) → Each IsListing (lists ++ v ∷ []) → IsListing v × Each IsListing lists
+last_listing lists v each = (
+  Each-member IsListing (lists ++ v ∷ []) v each (Member-append_right lists (v ∷ []) v (inl refl)),
+  Each-from_members IsListing lists (λ x among. Each-member IsListing (lists ++ v ∷ []) x each (Member-append_left lists (v ∷ []) x among)),
+)

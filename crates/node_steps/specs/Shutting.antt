@@ -1,5 +1,5 @@
 -- What the close of an end leaves of a past and of the parts beside it; for private contracts.
-use Rattle.std.specs.Prelude.{◌≡◌, ◌≢◌, ◌⊎◌, ℕ, ◌+◌, ◌<◌, true, false, List, [], ◌∷◌, length, vec_capacity, vec_len, Option}
+use Rattle.std.specs.Prelude.{◌≡◌, ◌⊎◌, ◌+◌, ◌<◌, true, false, List, [], ◌∷◌, vec_capacity, vec_len, Option}
 use Rattle.std.specs.declared.vec.Vec.{Vec}
 use Rattle.std.specs.declared.alloc.Global.{Global}
 use Rattle.run_data.specs.declared.entry.Entry.{Entry}
@@ -34,6 +34,7 @@ pub record Shuts (a : EndName) (p p' : PartsView) (was now : Past) : Type 0 wher
   pub agrees : (known : Option (List HoldRecord)) → Agrees known p.table.holds → Agrees known p'.table.holds
   pub jobs : p'.jobs ≡ p.jobs
   pub sound : AreSound p'
+  pub opens : (b : EndName) → (end_at p'.links b).opened ≡ true → (end_at p.links b).opened ≡ true
   pub paired : StayPaired p.links p'.links
 
 -- nothing has changed, and the end isn't open, of each state that these parts are

@@ -1,10 +1,9 @@
 //! The ends of the connections with another repository are closed, each by one entry.
-ghost use Rattle.std.specs.Prelude.{◌≡◌, ◌≢◌, ◌⊎◌, ℕ, ◌+◌, ◌≤◌, ◌<◌, ◌++◌, [], true, All, Err, length, map, nat_lt, is_some, vec_capacity, vec_len, IfErr, IfOk, IsErrOf, OnErr, OnOk};
-ghost use Rattle.link_ring.specs.Ends.{EndView};
-ghost use Rattle.node_model.specs.Ends.{EndName};
+ghost use Rattle.std.specs.Prelude.{◌≡◌, ◌≢◌, ◌⊎◌, ◌+◌, ◌≤◌, ◌<◌, [], true, All, Err, length, map, is_some, vec_capacity, vec_len, IfErr, IfOk, IsErrOf, OnErr, OnOk};
+ghost use Rattle.annex_base.specs.Lists.{Each};
 ghost use Rattle.node_ends.specs.Ends.{end_at, link_at, name_of};
 ghost use Rattle.node_ends.specs.Joined.{StayPaired};
-ghost use Rattle.node_past.specs.Pasts.{Enters, IsReady, SamePast};
+ghost use Rattle.node_past.specs.Pasts.{Enters, IsReady};
 ghost use Rattle.run_data.specs.Histories.{most_entries};
 ghost use Rattle.node_steps.specs.Closing.{ClosesEach, ends_to, lacks_places, open_count};
 ghost use Rattle.node_steps.specs.Kept.{Stands};
@@ -49,15 +48,16 @@ fn close(past: &mut Past, parts: &mut Parts, id: EndId, listing: Vec<FrameView>)
     let done = parts.close_end(id, moment, listing);
     // For the proof: what the parts have is sound.
     let _ = parts.table();
-    if let Some(done) = done {
-        enter(past, done);
+    match done {
+        None => {}
+        Some(done) => enter(past, done),
     }
 }
 
 /// Closes those of these ends that are open, one after the other. It takes no memory.
 fn close_each(past: &mut Past, parts: &mut Parts, ids: &[EndId], mut lists: Vec<Vec<FrameView>>)
-    requires there { All (λ id. is_some (link_at parts.old.links (name_of id)) ≡ true) ids.now }
-    requires lists { All IsListing lists.items }
+    requires there { Each (λ id. is_some (link_at parts.old.links (name_of id)) ≡ true) ids.now }
+    requires lists { Each IsListing lists.items }
     requires enough { length lists.items ≡ length ids.now }
     requires numbers { All (λ h. h.number < vec_len past.old.history + 1) parts.old.table.holds }
     requires few { vec_len past.old.history + open_count parts.old.links (map name_of ids.now) ≤ most_entries }
@@ -74,7 +74,7 @@ fn close_each(past: &mut Past, parts: &mut Parts, ids: &[EndId], mut lists: Vec<
 
 /// How many of these ends are open.
 fn count_open(parts: &Parts, ids: &[EndId]) -> usize
-    requires there { All (λ id. is_some (link_at parts.now.links (name_of id)) ≡ true) ids.now }
+    requires there { Each (λ id. is_some (link_at parts.now.links (name_of id)) ≡ true) ids.now }
     ensures { result ≡ open_count parts.now.links (map name_of ids.now) }
 {
     let mut count = 0;
@@ -88,7 +88,7 @@ fn count_open(parts: &Parts, ids: &[EndId]) -> usize
 
 /// So many empty lists, each with room for a frame.
 fn listings(alloc: Global, count: usize) -> Result<Vec<Vec<FrameView>>, NoMemory>
-    ensures lists { IfOk result (λ lists. All IsListing lists.items) }
+    ensures lists { IfOk result (λ lists. Each IsListing lists.items) }
     ensures count { IfOk result (λ lists. length lists.items ≡ count) }
 {
     let mut lists = Vec::with_capacity(alloc, count)?;
