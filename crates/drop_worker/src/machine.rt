@@ -4,7 +4,9 @@ ghost use Rattle.std.specs.declared.option.Option.{Option};
 ghost use Rattle.std.specs.Option.{ForSome, option_map};
 ghost use Rattle.annex_base.specs.Causes.{Rose};
 ghost use Rattle.drop_proof.specs.declared.rule.Side.TheVariants as sides;
+ghost use Rattle.run_data.specs.declared.entry.EntryKind.TheVariants.{Crash};
 ghost use Rattle.run_data.specs.declared.entry.FrameView.{FrameView};
+ghost use Rattle.node_model.specs.Rows.{holds_after};
 ghost use Rattle.node_model.specs.SetUp.{SetUp};
 ghost use Rattle.node_model.specs.State.{State};
 ghost use Rattle.node_model.specs.Look.{Effect, Look, failed_in};
@@ -187,6 +189,7 @@ pub fn end(worker: Worker, table: &mut LockTable)
     ensures others { OthersStay worker.number table.old table.new }
     ensures fills { table.new.fills ≡ table.old.fills }
     ensures labels { map label_of table.new.holds ≡ map label_of table.old.holds }
+    ensures crash { (clock : ℕ) → holds_after table.new.holds (Crash clock) ≡ holds_after table.old.holds (Crash clock) }
     ensures nothing { worker.token ≡ Token.Nothing → table.new ≡ table.old }
     ensures holds { IsOfLocal worker.token → table.new.holds ≡ table.old.holds }
 {

@@ -18,6 +18,7 @@ use Rattle.run_data.specs.declared.entry.LogFile.{LogFile}
 use Rattle.union_merge.specs.Branch.{lines_at, with_file}
 use Rattle.union_merge.specs.LineSet.{difference}
 use Rattle.repo_node.specs.Closing.{ClosesEach}
+use Rattle.repo_node.specs.Crashing.{Crashes}
 use Rattle.repo_node.specs.Logs.{with_lines, with_log}
 use Rattle.repo_node.specs.Nodes.{NodeView, with_entry}
 use Rattle.repo_node.specs.Placing.{IsPlaced, StopsBefore, StopsPlacing, with_gain, with_placed}
@@ -160,3 +161,9 @@ closed_setup {K} told (a ∷ ends) was now closes =
 pub close_setup : {K : Type 0} (r : Result (Unit {0}) NodeRefused) (told : Option Contents) (ends : List EndName) (was now : NodeView K) → OnOk r (ClosesEach told ends was now) → OnErr r (now ≡ was) → now.setup ≡ was.setup
 close_setup (Ok x) told ends was now ok err = closed_setup told ends was now ok
 close_setup {K} (Err e) told ends was now ok err = ap (λ (n : NodeView K). n.setup) err
+
+-- ---- a crash
+
+pub crash_setup : {K : Type 0} (r : Result (Unit {0}) NodeRefused) (told : Option Contents) (clock : ℕ) (was now : NodeView K) → OnOk r (Crashes told clock was now) → OnErr r (now ≡ was) → now.setup ≡ was.setup
+crash_setup {K} (Ok x) told clock was now ok err = ap (λ (n : NodeView K). n.setup) ok.node
+crash_setup {K} (Err e) told clock was now ok err = ap (λ (n : NodeView K). n.setup) err

@@ -14,6 +14,7 @@ pub use Rattle.repo_node.specs.Debts
 pub use Rattle.repo_node.specs.Nodes
 pub use Rattle.repo_node.specs.Turning
 pub use Rattle.repo_node.specs.Closing
+pub use Rattle.repo_node.specs.Crashing
 pub use Rattle.repo_node.specs.Parts
 pub use Rattle.repo_node.specs.Sound
 pub use Rattle.repo_node.specs.Steps

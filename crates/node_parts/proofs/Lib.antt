@@ -15,3 +15,4 @@ pub mod Hearing
 pub mod Acted
 pub mod Staying
 pub mod Closing
+mod Crashing

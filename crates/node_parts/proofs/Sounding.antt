@@ -50,7 +50,7 @@ stay_same links a = stays_same (link_at links a)
 pub stay_on : (was mid now : List EndView) → StayPaired was mid → StayPaired mid now → StayPaired was now
 stay_on was mid now p q a = stays_so_on (link_at was a) (link_at mid a) (link_at now a) (p a) (q a)
 
-stays_there : (a b : Option EndView) → StaysSo a b → is_some a ≡ true → is_some b ≡ true
+pub stays_there : (a b : Option EndView) → StaysSo a b → is_some a ≡ true → is_some b ≡ true
 stays_there None b p is = absurd (true≢false (sym is))
 stays_there (Some x) None p is = absurd p
 stays_there (Some x) (Some y) p is = refl

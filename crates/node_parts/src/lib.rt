@@ -3,6 +3,7 @@
 
 mod acting;
 mod closing;
+mod crashing;
 mod done;
 mod drop_frames;
 mod jobs;

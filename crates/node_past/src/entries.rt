@@ -4,7 +4,7 @@ ghost use Rattle.annex_base.specs.declared.kinds.Call.{Call};
 ghost use Rattle.object_store.specs.declared.keeper.KeeperFault.TheVariants as faults;
 ghost use Rattle.run_data.specs.declared.entry.By.{By};
 ghost use Rattle.node_past.specs.Calls.{refusal_of};
-ghost use Rattle.node_past.specs.Pasts.{AddsTo, FailsFor, IsReady, SamePast, Enters};
+ghost use Rattle.node_past.specs.Pasts.{AddsTo, Crashes, FailsFor, IsReady, SamePast, Enters};
 ghost use Rattle.run_data.specs.Histories.{most_entries};
 ghost use Rattle.node_model.specs.OwedLines.{stamp_at};
 
@@ -165,6 +165,20 @@ impl Past {
         };
         self.history.push_reserved(entry);
         self.count += 1;
+    }
+
+    /// Adds the entry of a crash, which sends these frames, and sets the clock to this, in milliseconds, at the past's time.
+    pub fn crash(&mut self, clock: u64, sent: Items<FrameView>)
+        requires ready { IsReady self.old }
+        requires near { clock ≤ 100000000000 }
+        ensures entry { Crashes clock sent [] self.old self.new }
+        ensures room { vec_capacity self.new.outcomes ≡ vec_capacity self.old.outcomes }
+    {
+        self.enter(EntryKind::Crash { clock }, None, sent);
+        self.clock = SetClock {
+            at: self.time,
+            to: clock,
+        };
     }
 
     /// A call of the store failed in a step for the script, a job or a peer: where it wasn't for want of memory, an entry says so.

@@ -18,3 +18,4 @@ pub mod Making
 pub mod Called
 pub mod Storing
 pub mod Finding
+mod Crashing

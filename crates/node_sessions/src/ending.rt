@@ -4,7 +4,7 @@ ghost use Rattle.std.specs.List.{list_any, slice_get};
 ghost use Rattle.annex_base.specs.Lists.{Member};
 ghost use Rattle.content_lock.specs.Rows.{Rows};
 ghost use Rattle.p2p_server.specs.declared.session.Session.{Session as AnySession};
-ghost use Rattle.node_sessions.specs.Built.{AreLeft, ClosesAmong};
+ghost use Rattle.node_sessions.specs.Built.{AreClosed, AreLeft, ClosesAmong};
 ghost use Rattle.node_sessions.specs.Sessions.{OwnAll, connection_of, is_of};
 
 use content_lock::LockTable;
@@ -66,4 +66,14 @@ pub(crate) fn close_at(sessions: &mut Vec<Session>, at: usize, table: &mut LockT
     ensures { ClosesAmong at sessions.old.items sessions.new.items table.old table.new }
 {
     sessions[at].closed(table);
+}
+
+/// Closes each session.
+pub(crate) fn close_all(sessions: &mut Vec<Session>, table: &mut LockTable)
+    requires { OwnAll table.old sessions.old.items }
+    ensures { AreClosed (length sessions.new.items) sessions.old.items sessions.new.items table.old table.new }
+{
+    for at in 0..sessions.len() {
+        close_at(sessions, at, table);
+    }
 }

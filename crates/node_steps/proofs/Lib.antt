@@ -9,3 +9,4 @@ pub mod StateLemmas
 pub mod StepLemmas
 pub mod TurnLemmas
 pub mod CloseLemmas
+pub mod CrashLemmas

@@ -5,6 +5,8 @@ pub mod Turning
 pub mod Stepping
 pub mod Closing
 pub mod Shutting
+pub mod Crashing
+pub mod Falling
 pub use Rattle.node_parts.specs.Beginning
 pub use Rattle.node_parts.specs.Parts
 pub use Rattle.node_parts.specs.Sound

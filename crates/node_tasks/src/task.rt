@@ -1,5 +1,7 @@
 //! What a job does.
 ghost use Rattle.std.specs.Prelude.{◌≡◌, ◌&&◌, ℕ, List, map, not};
+ghost use Rattle.run_data.specs.declared.entry.EntryKind.TheVariants.{Crash};
+ghost use Rattle.node_model.specs.Rows.{holds_after};
 ghost use Rattle.content_lock.specs.Rows.{bar_at, is_filling};
 ghost use Rattle.content_lock.specs.Stored.{label_of};
 ghost use Rattle.drop_phases.specs.Doing.{OthersStay};
@@ -44,6 +46,7 @@ pub fn end(task: Task, table: &mut LockTable)
     ensures fills { (key : List ℕ) → is_filling table.new key ≡ (not (fills_key (work_now task) key) && is_filling table.old key) }
     ensures spent { IsSpent task → table.new.holds ≡ table.old.holds }
     ensures labels { map label_of table.new.holds ≡ map label_of table.old.holds }
+    ensures crash { (clock : ℕ) → holds_after table.new.holds (Crash clock) ≡ holds_after table.old.holds (Crash clock) }
     ensures bars { IsSpent task → (key : List ℕ) → bar_at table.new key ≡ bar_at table.old key }
     ensures others { OthersStay (number_of task) table.old table.new }
 {

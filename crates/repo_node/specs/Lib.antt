@@ -10,6 +10,7 @@ pub use Rattle.node_ledger.specs.Debts
 pub use Rattle.node_steps.specs.Nodes
 pub use Rattle.node_steps.specs.Turning
 pub use Rattle.node_steps.specs.Closing
+pub use Rattle.node_steps.specs.Crashing
 pub use Rattle.node_steps.specs.Beginning
 pub use Rattle.node_steps.specs.Parts
 pub use Rattle.node_steps.specs.Sound

@@ -4,6 +4,7 @@
 mod beginning;
 mod carrying;
 mod closing;
+mod crashing;
 mod compacting;
 mod logs;
 mod merging;

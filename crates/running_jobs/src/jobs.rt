@@ -1,12 +1,13 @@
 //! The running jobs: which begin, and which has the next step.
-ghost use Rattle.std.specs.Prelude.{◌≡◌, ℕ, All, Bool, is_some, ◌≤◌, ◌<◌, ◌+◌, ◌-◌, ◌*◌, ◌^◌, List, [], None, length, map, IfOk, IsErrOf, OnErr, OnOk};
-ghost use Rattle.std.specs.Option.{ForSome};
+ghost use Rattle.std.specs.Prelude.{◌≡◌, ◌==◌, ℕ, All, Bool, is_some, ◌≤◌, ◌<◌, ◌+◌, ◌-◌, ◌*◌, ◌^◌, List, [], None, find, length, map, IfOk, IsErrOf, OnErr, OnOk};
+ghost use Rattle.std.specs.Option.{ForSome, option_map};
 ghost use Rattle.annex_base.specs.Lists.{Each};
 ghost use Rattle.annex_base.specs.Settings.{Settings as SettingsView};
 ghost use Rattle.run_data.specs.declared.entry.Entry.{Entry};
 ghost use Rattle.run_data.specs.declared.entry.EntryKind.TheVariants as kinds;
 ghost use Rattle.trust_groups.specs.View.{settings_of};
 ghost use Rattle.node_model.specs.Look.{Look, Effect};
+ghost use Rattle.node_model.specs.Rows.{holds_after};
 ghost use Rattle.node_model.specs.SetUp.{SetUp};
 ghost use Rattle.node_model.specs.State.{State};
 ghost use Rattle.node_model.specs.Turns.{job_step};
@@ -17,7 +18,7 @@ ghost use Rattle.content_lock.specs.Stored.{Agrees, label_of};
 ghost use Rattle.drop_phases.specs.Sides.{IsNumbered};
 ghost use Rattle.transfer_turns.specs.Steps.{seen};
 ghost use Rattle.node_tasks.specs.States.{HaveState};
-ghost use Rattle.node_tasks.specs.Tasks.{IsTask};
+ghost use Rattle.node_tasks.specs.Tasks.{IsTask, number_of, slot_of};
 ghost use Rattle.running_jobs.specs.Acting.{SeesActed, SeesJobs, StepsJobs, failed_by};
 ghost use Rattle.running_jobs.specs.Beginning.{Begins, MayBegin};
 ghost use Rattle.running_jobs.specs.Leaving.{LeavesSo, Stays};
@@ -25,7 +26,7 @@ ghost use Rattle.running_jobs.specs.Running.{AreAllFed, AreFilled, AreWorks, Fol
 
 use crate::acted::Acted;
 use crate::finding::find_ready;
-use crate::listing::{add, end_all, find_slot};
+use crate::listing::{add, end_all, find_slot, in_slot};
 use crate::refused::BeginRefused;
 use crate::starting::new_task;
 use crate::turning::turn;
@@ -94,6 +95,13 @@ impl Jobs {
         ensures { result ≡ length self.now.running }
     {
         self.running.len()
+    }
+
+    /// The number of the job in this slot, if one runs there.
+    pub fn in_slot(&self, slot: u32) -> Option<u32>
+        ensures { result ≡ option_map number_of (find (λ t. slot_of t == slot) self.now.running) }
+    {
+        in_slot(&self.running, slot)
     }
 
     /// Begins a job on a key that has these paths in the tree, and gives its number. It makes no step yet.
@@ -212,6 +220,7 @@ impl Jobs {
         ensures jobs { self.new ≡ record self.old { running = [] } }
         ensures owns { OwnAll self.new table.new }
         ensures labels { map label_of table.new.holds ≡ map label_of table.old.holds }
+        ensures crash { (clock : ℕ) → holds_after table.new.holds (kinds.Crash clock) ≡ holds_after table.old.holds (kinds.Crash clock) }
         ensures filled { (others : List ℕ → Bool) → AreFilled table.old self.old.running others → AreFilled table.new [] others }
     {
         end_all(&mut self.running, table);

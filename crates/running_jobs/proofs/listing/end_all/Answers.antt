@@ -16,6 +16,7 @@ ending-init c =
       left = c.requires;
       among = Each-from_members (λ (t : Task). Member t c.args.running.now.items) c.args.running.now.items (λ y here. here);
       labels = refl;
+      crash = λ clock. refl;
       fills = λ key. refl;
       others = λ job key token apart mine. mine;
     }
@@ -38,6 +39,7 @@ ending-preserved c =
       left = rest_can c.ending.table c.end.new.table front x can c.end.ensures.others c.end.ensures.fills;
       among = Each-left (λ (t : Task). Member t all) front (x ∷ []) among;
       labels = c.end.ensures.labels ∙ c.ending.invariant.labels;
+      crash = λ clock. c.end.ensures.crash clock ∙ c.ending.invariant.crash clock;
       fills = λ key. rest_filled c.ending.table c.end.new.table front x can c.end.ensures.others c.end.ensures.fills key
           ∙ (ap (λ (ts : List Task). not (fills_at ts key) && is_filling c.ending.table key) (sym was) ∙ c.ending.invariant.fills key);
       others = others_keep all c.args.table.now c.ending.table c.end.new.table x (Each-right (λ (t : Task). Member t all) front (x ∷ []) among).0 c.ending.invariant.others c.end.ensures.others;
