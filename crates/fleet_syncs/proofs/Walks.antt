@@ -1,5 +1,8 @@
 -- Steps over a list, one element after the other: a fleet goes on as the driver does, and ends where one of them ends.
-use Rattle.std.proofs.Common.{◌≡◌, List, ◌++◌, sym, ◌∙◌, subst}
+use Rattle.std.proofs.Common.{◌≡◌, List, ◌++◌, ap, sym, ◌∙◌, subst}
+use Rattle.std.specs.Prelude.{reverse}
+use Rattle.std.proofs.lemmas.List.{append_assoc}
+use Rattle.run_data.specs.declared.entry.Entry.{Entry}
 use Rattle.run_data.specs.declared.run.Run.{Run}
 use Rattle.driver_model.specs.Driver.{Driver, DriverInput}
 use Rattle.driver_model.specs.Sound.{OnlyAdds}
@@ -7,6 +10,10 @@ use Rattle.fleet_entries.specs.Stored.{StoreView}
 use Rattle.fleet_entries.specs.Fleets.{FleetView}
 use Rattle.fleet_entries.specs.AtDriver.{GoesOn, IsAtDriver}
 use Rattle.fleet_entries.proofs.Ending.{Ends, LaterLaw}
+
+-- two steps that only add entries add no others
+pub adds_twice : (d mid after : Driver) → OnlyAdds d mid → OnlyAdds mid after → OnlyAdds d after
+adds_twice d mid after first second = (first.0 ++ second.0, second.1 ∙ (ap (λ (es : List Entry). es ++ second.0) first.1 ∙ append_assoc (reverse d.past) first.0 second.0))
 
 -- steps of the driver over a list
 abbrev pub Walk : Type 0 → Type 0
