@@ -110,7 +110,7 @@ ids_of run = map (λ (repo : RepoView). repo.id) run.repos
 -- there are as many identifiers as nodes
 pub ids_count : {K : Type 0} (tells : K → StoreView) (f : FleetView K) (ids : List (List ℕ)) → IsDriven tells f → ids ≡ ids_of f.run → length ids ≡ length f.nodes
 ids_count tells f ids driven are =
-    ap length are ∙ (length-map (λ (repo : RepoView). repo.id) f.run.repos ∙ (ap (λ (run : Run). length run.repos) driven.stands.come.run ∙ sym driven.stands.come.count))
+    ap length are ∙ (length-map f.run.repos (λ (repo : RepoView). repo.id) ∙ (ap (λ (run : Run). length run.repos) driven.stands.come.run ∙ sym driven.stands.come.count))
 
 pub ids_few : {K : Type 0} (tells : K → StoreView) (f : FleetView K) (ids : List (List ℕ)) → IsDriven tells f → ids ≡ ids_of f.run → length ids < 2 ^ 32
 ids_few tells f ids driven are = small (length ids) (length driven.given.repos) (ids_count tells f ids driven are ∙ driven.stands.come.count) driven.repos
