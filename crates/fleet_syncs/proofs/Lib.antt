@@ -1,0 +1,5 @@
+-- The lemmas of this crate.
+mod Walks
+mod Others
+mod Carried
+mod Planned
