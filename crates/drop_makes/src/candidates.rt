@@ -1,5 +1,5 @@
 //! The candidates of a drop.
-ghost use Rattle.std.specs.Prelude.{◌≡◌, ◌==◌, ℕ, List, filter, not, IfOk};
+ghost use Rattle.std.specs.Prelude.{◌≡◌, ◌∷◌, IfOk};
 ghost use Rattle.std.specs.List.{range_with_len};
 ghost use Rattle.node_model.specs.Evidence.{but, candidates};
 

@@ -1,6 +1,6 @@
 //! The first step of a drop.
-ghost use Rattle.std.specs.Prelude.{◌≡◌, filter, list_any, map, max, not, reverse, IfOk};
-ghost use Rattle.std.specs.List.{reduce};
+ghost use Rattle.std.specs.Prelude.{◌≡◌, filter, map, max, not, reverse, IfOk};
+ghost use Rattle.std.specs.List.{list_any, reduce};
 ghost use Rattle.std.specs.Option.{option_copied};
 ghost use Rattle.node_model.specs.DropStep.{row_refusal, until};
 ghost use Rattle.node_model.specs.Rows.{blocks};
