@@ -7,6 +7,7 @@ use Rattle.std.proofs.lemmas.List.Elements.{filter-append}
 use Rattle.std.proofs.lemmas.List.Sorted.{IsPermutation-reverse, list_any-IsPermutation}
 use Rattle.run_data.specs.declared.row.Hold.{Hold}
 use Rattle.node_model.specs.DropStep.{until}
+use Rattle.drop_makes.specs.Holds.{until_by}
 
 -- ---- the other way round
 
@@ -44,7 +45,7 @@ fold_push a n [] = refl
 fold_push a n (m ∷ ms) = fold_push (max a m) n ms
 
 -- the greatest of all but the last, and the last
-greater : Option ℕ → ℕ → Option ℕ
+abbrev greater : Option ℕ → ℕ → Option ℕ
 greater None n = Some n
 greater (Some m) n = Some (max m n)
 
@@ -63,11 +64,6 @@ reduce_reverse (n ∷ ns) =
 
 -- ---- holds
 
--- until then, by whether one is open and by the latest end
-abbrev pub until_by : Bool → Option ℕ → Option (Option ℕ)
-until_by open None = None
-until_by open (Some end) = Some (if open then None else Some end)
-
 ends_folded : (a : ℕ) (hs : List Hold) → fold (λ latest (x : Hold). max latest x.end) a hs ≡ fold max a (map (λ h. h.end) hs)
 ends_folded a [] = refl
 ends_folded a (h ∷ hs) = ends_folded (max a h.end) hs
@@ -78,9 +74,9 @@ until_is (h ∷ hs) = ap (λ (n : ℕ). Some (if list_any (λ (x : Hold). not x.
 
 pub until_reversed : (p : Hold → Bool) (hs : List Hold) → until (filter p (reverse hs)) ≡ until_by (list_any (λ x. not x.kept) (filter p hs)) (reduce max (map (λ h. h.end) (filter p hs)))
 until_reversed p hs =
-    let open : Hold → Bool = λ x. not x.kept in
+    let endless : Hold → Bool = λ x. not x.kept in
     let end : Hold → ℕ = λ h. h.end in
     let blocking = filter p hs in
     ap until (sym (filter_reverse p hs)) ∙ until_is (reverse blocking)
-    ∙ ap (λ (b : Bool). until_by b (reduce max (map end (reverse blocking)))) (sym (list_any-IsPermutation open blocking (reverse blocking) (IsPermutation-reverse blocking)))
-    ∙ ap (λ (o : Option ℕ). until_by (list_any open blocking) o) (ap (reduce max) (map_reverse end blocking) ∙ reduce_reverse (map end blocking))
+    ∙ ap (λ (b : Bool). until_by b (reduce max (map end (reverse blocking)))) (sym (list_any-IsPermutation endless blocking (reverse blocking) (IsPermutation-reverse blocking)))
+    ∙ ap (λ (o : Option ℕ). until_by (list_any endless blocking) o) (ap (reduce max) (map_reverse end blocking) ∙ reduce_reverse (map end blocking))
