@@ -11,7 +11,7 @@ use state_ends::Ends;
 use state_files::Files;
 use state_jobs::Work;
 use state_owed::Owed;
-use state_reads::{KnownLogs, Reads, read_settings};
+use state_reads::{Kept, KnownLogs, Reads, read_settings};
 use state_rows::{RowChange, Rows};
 use state_sessions::{Heard, Sessions};
 use state_works::Jobs;
@@ -115,6 +115,15 @@ impl RepoState {
         self.counts.clock(time)
     }
 
+    /// What its wall clock, which makes stamps, says at a time of the script, in milliseconds.
+    pub fn wall(&self, time: u64) -> u64
+        requires { time ≤ 1000000000000 }
+        ensures value { (s : SetUp) (st : State) → IsStateOf self.now s st → st.wall time ≡ result }
+        ensures small { result ≤ 1100000000000 }
+    {
+        self.place.wall(time)
+    }
+
     /// How many entries it has made.
     pub fn made(&self) -> u64
         ensures { result ≡ made_of self.now }
@@ -172,8 +181,8 @@ impl RepoState {
         let logs = Settings::read(alloc, self.files.branch())?;
         let number = self.place.number();
         let ids = self.place.ids();
-        let kept = read_settings(alloc, number, ids, paths, work, &logs)?;
-        Ok(kept.known)
+        let Kept { job: _, known } = read_settings(alloc, number, ids, paths, work, &logs)?;
+        Ok(known)
     }
 
     /// The lines that it owes its branch.
