@@ -9,7 +9,7 @@ mod owing;
 mod slots;
 mod steps;
 mod taking;
-mod told;
+mod telling;
 mod turns;
 
-pub use told::told;
+pub use telling::told;
