@@ -1,5 +1,5 @@
 -- A text that begins with another is compared by what is left of it.
-use Rattle.std.proofs.Common.{◌≡◌, ℕ, ◌&&◌, ◌==◌, List, [], ◌∷◌, ◌++◌, Option, Some, None, refl, sym, ap, ◌∙◌}
+use Rattle.std.proofs.Common.{◌≡◌, ℕ, ◌&&◌, List, [], ◌∷◌, ◌++◌, Option, Some, None, refl, sym, ap, ◌∙◌}
 use Rattle.std.specs.Prelude.{bytes_eq, ◌≢◌}
 use Rattle.std.specs.Option.{MatchOption, option_copied}
 use Rattle.std.specs.Borrow.{Bor}

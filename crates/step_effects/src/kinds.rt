@@ -60,10 +60,7 @@ pub fn is_share(kind: &EntryKind, hold: u64, end: u128, by: By, key: &Key) -> bo
             by: owner,
             key: other,
         } => {
-            hold == *number
-                && is_number(end, *told)
-                && same_owner(by, *owner)
-                && *key == *other
+            hold == *number && is_number(end, *told) && same_owner(by, *owner) && *key == *other
         }
         _ => false,
     }

@@ -24,13 +24,7 @@ pub fn ended(kind: &EntryKind, job: u32) -> Option<&Outcome>
         EntryKind::End {
             job: number,
             outcome,
-        } => {
-            if job == *number {
-                Some(outcome)
-            } else {
-                None
-            }
-        }
+        } => { if job == *number { Some(outcome) } else { None } }
         _ => None,
     }
 }
