@@ -55,7 +55,7 @@ impl RepoState {
     ghost use Rattle.state_works.specs.Jobs.{AreWorksOf};
     ghost use Rattle.step_state.specs.Changes.{IsSoFor};
     ghost use Rattle.step_state.specs.Peers.{HasPeersIn};
-    ghost use Rattle.step_state.specs.States.{ArePartsOf, HasRoom, IsChangeOf, IsReadyFor, IsStateOf, IsWell, StaysSame, count_of, made_of};
+    ghost use Rattle.step_state.specs.States.{ArePartsOf, HasRoom, IsChangeOf, IsReadyFor, IsStateOf, IsWell, StaysSame, clock_of, count_of, made_of};
 
     /// The state of the repository of this number among these before its first entry.
     pub fn start(alloc: Global, repos: &[RepoView], number: u32) -> Result<RepoState, NoMemory>
@@ -110,7 +110,9 @@ impl RepoState {
 
     /// What its clock says at a time of the script, in milliseconds.
     pub fn clock(&self, time: u64) -> u128
-        ensures { (s : SetUp) (st : State) → IsStateOf self.now s st → st.clock time ≡ result }
+        ensures value { (s : SetUp) (st : State) → IsStateOf self.now s st → st.clock time ≡ result }
+        ensures small { result < 2 ^ 65 }
+        ensures data { result ≡ clock_of self.now time }
     {
         self.counts.clock(time)
     }
