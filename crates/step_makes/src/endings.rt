@@ -15,7 +15,6 @@ ghost use Rattle.step_judging.specs.Same.{same_effect};
 use job_makes::Turn;
 use run_data::{DropRefusal, Outcome, TransferRefusal};
 use state_jobs::Ending;
-use transfer_makes::ends_so;
 
 fn is_old_protocol(told: Option<&Outcome>, version: u64) -> bool
     ensures { result ≡ outcome_told (Refused (refusals.OldProtocol version)) (option_copied told.entry) }
@@ -39,20 +38,20 @@ fn ends_old(turn: &Turn, version: u64) -> bool
 fn ends_refused(turn: &Turn, refusal: DropRefusal) -> bool
     ensures { (s : SetUp) (st : State) → result ≡ same_effect (ends (turn_in turn.now s st) None (Refused refusal)) (effect_of turn.now.told.now) }
 {
-    ends_so(turn, None, &Outcome::Refused(refusal))
+    turn.ends_as(None, &Outcome::Refused(refusal))
 }
 
 /// A get or a copy, or the transfer of a move, is refused.
 pub(crate) fn ends_untransferred(turn: &Turn, refusal: TransferRefusal) -> bool
     ensures { (s : SetUp) (st : State) → result ≡ same_effect (ends (turn_in turn.now s st) None (Outcome.TransferRefused refusal)) (effect_of turn.now.told.now) }
 {
-    ends_so(turn, None, &Outcome::TransferRefused(refusal))
+    turn.ends_as(None, &Outcome::TransferRefused(refusal))
 }
 
 fn ends_got(turn: &Turn, source: Option<u32>, start: Option<u64>) -> bool
     ensures { (s : SetUp) (st : State) → result ≡ same_effect (ends (turn_in turn.now s st) None (Outcome.Got source start)) (effect_of turn.now.told.now) }
 {
-    ends_so(turn, None, &Outcome::Got { source, start })
+    turn.ends_as(None, &Outcome::Got { source, start })
 }
 
 /// Whether the entry is the end of the job with this outcome.
@@ -62,7 +61,7 @@ pub(crate) fn ends_as(turn: &Turn, ending: Ending) -> bool
     match ending {
         Ending::Here => ends_got(turn, None, None),
         Ending::Got { source, start } => ends_got(turn, Some(source), Some(start)),
-        Ending::Copied { start } => ends_so(turn, None, &Outcome::Copied { start }),
+        Ending::Copied { start } => turn.ends_as(None, &Outcome::Copied { start }),
         Ending::Lost { ordered } => ends_refused(turn, DropRefusal::Lost { ordered }),
         Ending::OldProtocol { version } => ends_old(turn, version),
         Ending::DropFault => ends_refused(turn, DropRefusal::StoreFault),

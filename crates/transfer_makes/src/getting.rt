@@ -17,7 +17,6 @@ ghost use Rattle.step_judging.specs.Rules.{effect_of};
 ghost use Rattle.step_judging.specs.Same.{same_effect};
 ghost use Rattle.step_judging.specs.Telling.{matches_told};
 
-use crate::ending::ends_so;
 use crate::requests::goes_to;
 use annex_base::{Call, NoMemory};
 use job_makes::Turn;
@@ -45,7 +44,7 @@ fn finds(turn: &Turn) -> bool
             source: None,
             start: None,
         };
-        ends_so(turn, None, &outcome)
+        turn.ends_as(None, &outcome)
     }
 }
 
@@ -53,7 +52,7 @@ fn finds(turn: &Turn) -> bool
 fn is_busy(turn: &Turn) -> bool
     ensures { (s : SetUp) (st : State) → result ≡ same_effect (first_get (turn_in turn.now s st) false true None) (effect_of turn.now.told.now) }
 {
-    ends_so(turn, None, &Outcome::TransferRefused(TransferRefusal::Busy))
+    turn.ends_as(None, &Outcome::TransferRefused(TransferRefusal::Busy))
 }
 
 /// Whether the entry is the first step of a get, where the content is there or not, the key is filled or not, and this is its source.

@@ -13,7 +13,6 @@ ghost use Rattle.state_jobs.specs.Phases.{phase_of};
 ghost use Rattle.step_judging.specs.Rules.{effect_of};
 ghost use Rattle.step_judging.specs.Same.{same_effect};
 
-use crate::ending::ends_so;
 use crate::requests::goes_to;
 use annex_base::{Call, NoMemory, Text};
 use job_makes::Turn;
@@ -36,7 +35,7 @@ pub fn first_put(
         (true, Some(peer)) => goes_to(alloc, turn, peer),
         _ => {
             let outcome = Outcome::TransferRefused(TransferRefusal::NotHere);
-            Ok(ends_so(turn, None, &outcome))
+            Ok(turn.ends_as(None, &outcome))
         }
     }
 }
