@@ -160,13 +160,7 @@ fn takes_word(turn: &Turn, frame: &FrameView, peer: u32, size: u128, message: &M
 }
 
 /// Whether it is the step of a get that takes a message.
-pub fn takes_get(
-    turn: &Turn,
-    frame: &FrameView,
-    peer: u32,
-    phase: Phase,
-    message: &Message,
-) -> bool
+pub fn takes_get(turn: &Turn, frame: &FrameView, peer: u32, phase: Phase, message: &Message) -> bool
     ensures { (s : SetUp) (st : State) → result ≡ same_effect (takes_get (turn_in turn.now s st) frame.now peer (phase_of phase) message.now) (effect_of turn.now.told.now) }
 {
     match phase {

@@ -186,13 +186,7 @@ fn takes_verdict(turn: &Turn, frame: &FrameView, peer: u32, message: &Message) -
 }
 
 /// Whether it is the step of a copy that takes a message.
-pub fn takes_put(
-    turn: &Turn,
-    frame: &FrameView,
-    peer: u32,
-    phase: Phase,
-    message: &Message,
-) -> bool
+pub fn takes_put(turn: &Turn, frame: &FrameView, peer: u32, phase: Phase, message: &Message) -> bool
     ensures { (s : SetUp) (st : State) → result ≡ same_effect (takes_put (turn_in turn.now s st) frame.now peer (phase_of phase) message.now) (effect_of turn.now.told.now) }
 {
     match phase {

@@ -21,8 +21,8 @@ returns-then-is_open c =
     (λ b. (s : SetUp) (st : State) → b ≡ same_effect (goes_to (turn_in x s st) c.args.peer) (effect_of x.told.now))
     (λ b told s st.
     let t = turn_in x s st in
-    let open : (end_with t c.args.peer).opened ≡ true = sym (c.is_open.ensures s st) ∙ c.if-is_open.true in
-    told s st t.w.version ∙ ap (λ (o : Bool). same_effect (if o then asks t t.w.version None c.args.peer part else sends_to t (talk t) None c.args.peer (Opening ∷ [])) (effect_of x.told.now)) (sym open))
+    let here : (end_with t c.args.peer).opened ≡ true = sym (c.is_open.ensures s st) ∙ c.if-is_open.true in
+    told s st t.w.version ∙ ap (λ (o : Bool). same_effect (if o then asks t t.w.version None c.args.peer part else sends_to t (talk t) None c.args.peer (Opening ∷ [])) (effect_of x.told.now)) (sym here))
     c.asks.ensures
 
 pub returns-else-is_open : goal.returns-else-is_open
