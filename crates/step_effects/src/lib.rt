@@ -25,6 +25,6 @@ pub use outcomes::{
     ended, same_candidates, same_failures, same_outcome, same_proof, same_refusal, same_transfer,
 };
 pub use sending::{
-    EndAt, closes, gives, opens, past_close, past_unlock, says, says_and_closes, says_order,
-    says_time,
+    EndAt, closes, gives, opens, past_close, past_unlock, says, says_error, says_error_and_closes,
+    says_order, says_time,
 };
