@@ -1,4 +1,4 @@
--- What holds at each turn of the loop of `ending::Turn::parts`.
+-- What holds at each turn of the loop of `turn::Turn::parts`.
 use Rattle.std.proofs.Common.{◌≡◌, ◌-◌}
 use Rattle.std.specs.Prelude.{flat_map}
 use Rattle.std.specs.List.{range_with_len}
@@ -8,7 +8,7 @@ use Rattle.node_model.specs.State.{State}
 use Rattle.step_judging.specs.Same.{same_frames}
 use Rattle.job_makes.specs.Partings.{parting}
 use Rattle.job_makes.specs.Turns.{turn_in}
-use Rattle.job_makes.proofs.ending.Turn.parts.Given as goal
+use Rattle.job_makes.proofs.turn.Turn.parts.Given as goal
 
 abbrev pub invariant-loop-peer : goal.invariant-loop-peer
 invariant-loop-peer l =
