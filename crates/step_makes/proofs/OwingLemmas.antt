@@ -1,10 +1,18 @@
 -- The lines that an owed line is due, as its repository knows them.
-use Rattle.std.proofs.Common.{◌≡◌, ℕ, zero, suc, ◌<◌, Bool, List, [], ◌∷◌, get_or, length, Option, Some, None, refl, sym, ap, ◌∙◌, arith}
+use Rattle.std.proofs.Common.{◌≡◌, ℕ, zero, suc, ◌<◌, Bool, true, false, List, [], ◌∷◌, get_or, length, Option, Some, None, refl, sym, ap, ◌∙◌, arith}
+use Rattle.std.specs.Prelude.{◌||◌}
+use Rattle.annex_base.specs.declared.kinds.Call.{Call}
+use Rattle.annex_base.specs.declared.kinds.Call.TheVariants.{PutFile}
 use Rattle.hash_dirs.specs.LogPath.{location_path}
 use Rattle.run_data.specs.Repos.{id_of}
+use Rattle.run_data.specs.declared.entry.By.{By}
+use Rattle.run_data.specs.declared.entry.EntryKind.{EntryKind}
+use Rattle.run_data.specs.declared.entry.EntryKind.TheVariants.{Fault}
 use Rattle.run_data.specs.declared.run.RepoView.{RepoView}
 use Rattle.union_merge.specs.Branch.{Files as BranchFiles, lines_at}
+use Rattle.node_model.specs.Look.{failing_call}
 use Rattle.node_model.specs.OwedLines.{OwedLine, due, if_new, status_line}
+use Rattle.step_judging.specs.Telling.{failed_call}
 
 abbrev Lines : Type 0
 Lines = List (List ℕ)
@@ -27,3 +35,13 @@ due_read repos files clock o path line id repo there set here repo_is there_is k
     let known_so : id ≡ id_of repos o.repo = known ∙ ap (id_of repos) repo_is in
     new ∙ ap (λ (l : List ℕ). if_new (lines_at files path) l) text
     ∙ (λ i. if_new (lines_at files (here i)) (status_line (lines_at files (here i)) (known_so i) (there_is i) clock))
+
+-- ---- the writing that failed
+
+pub or_no : (b : Bool) → (b || false) ≡ b
+or_no true = refl
+or_no false = refl
+
+pub no_fault : (kind : EntryKind) → ((call : Call) (by : By) → kind ≡ Fault call by → ⊥) → None ≡ failing_call (failed_call kind) (PutFile ∷ [])
+no_fault (Fault call by) none = absurd (none call by refl)
+no_fault kind none = refl

@@ -2,6 +2,7 @@
 use Rattle.std.proofs.Common.{◌≡◌, ◌≢◌, ℕ, Bool, true, false, List, [], ◌∷◌, Option, Some, None, find, map, refl, sym, ap, arith}
 use Rattle.std.specs.Prelude.{◌==◌, ◌&&◌, if◌then◌else◌, not}
 use Rattle.std.specs.Option.{option_map}
+use Rattle.std.proofs.lemmas.Bool.Decides.{nat_tests}
 use Rattle.annex_base.specs.Lists.{Each, Member}
 use Rattle.annex_base.proofs.Conditions.{eqb_other}
 use Rattle.annex_base.proofs.Lists.{Each-member, find_member}
@@ -34,3 +35,13 @@ in_slot X n slot x y is = ap (λ (b : Bool). if b then x else y) (same n slot (s
 
 pub in_other_slot : (X : Type 0) (n slot : ℕ) (x y : X) → slot ≢ n → (if n == slot then x else y) ≡ y
 in_other_slot X n slot x y other = ap (λ (b : Bool). if b then x else y) (eqb_other n slot other)
+
+pub never_both : (b : Bool) → (b && false) ≡ false
+never_both true = refl
+never_both false = refl
+
+-- a job that is found has the number
+pub number_found : (ws : List jobs.Work) (job : ℕ) (w : jobs.Work) → find (λ (v : jobs.Work). v.number == job) ws ≡ Some w → w.number ≡ job
+number_found ws job w found =
+    let is : (w.number == job) ≡ true = (find_member (λ (v : jobs.Work). v.number == job) ws w found).1 in
+    grind (arith, nat_tests)
