@@ -81,9 +81,10 @@ impl Knowing<'_> {
         ensures { IfOk result (λ b. (s : SetUp) (st : State) → b ≡ same_effect (says_to (drop_in self.now.turn.now self.now.logs.now s st) (talk (drop_in self.now.turn.now self.now.logs.now s st)) (Some frame.now) peer (CheckPresent (key_of (drop_in self.now.turn.now self.now.logs.now s st)))) (effect_of self.now.turn.now.told.now)) }
     {
         let message = Message::CheckPresent(self.turn.key().copy()?);
-        Ok(self
-            .turn
-            .says_to(self.turn.talks(), Some(frame), peer, &message))
+        Ok(
+            self.turn
+                .says_to(self.turn.talks(), Some(frame), peer, &message),
+        )
     }
 
     /// Whether it takes this message of a peer.

@@ -39,12 +39,7 @@ impl Knowing<'_> {
             need,
             key,
         );
-        let said = says_order(
-            turn.at(target),
-            deadline,
-            key,
-            turn.told.sent.as_slice(),
-        );
+        let said = says_order(turn.at(target), deadline, key, turn.told.sent.as_slice());
         turn.sends(is, taken, said)
     }
 
@@ -73,9 +68,7 @@ impl Knowing<'_> {
         ensures { IfOk result (λ b. (s : SetUp) (st : State) → b ≡ same_effect (asks_lock (drop_in self.now.turn.now self.now.logs.now s st) (option_copied taken.entry) peer) (effect_of self.now.turn.now.told.now)) }
     {
         let message = Message::LockContent(self.turn.key().copy()?);
-        Ok(self
-            .turn
-            .says_to(self.turn.talks(), taken, peer, &message))
+        Ok(self.turn.says_to(self.turn.talks(), taken, peer, &message))
     }
 
     /// Whether it asks a peer, whose connection speaks this version.
@@ -93,12 +86,7 @@ impl Knowing<'_> {
         }
     }
 
-    fn asks_far(
-        &self,
-        version: u64,
-        taken: Option<&FrameView>,
-        peer: u32,
-    ) -> Result<bool, NoMemory>
+    fn asks_far(&self, version: u64, taken: Option<&FrameView>, peer: u32) -> Result<bool, NoMemory>
         ensures { IfOk result (λ b. (s : SetUp) (st : State) → b ≡ same_effect (asks_copy (drop_in self.now.turn.now self.now.logs.now s st) version (option_copied taken.entry) peer Remote) (effect_of self.now.turn.now.told.now)) }
     {
         if self.turn.target() == peer {

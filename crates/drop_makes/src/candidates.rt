@@ -39,12 +39,7 @@ pub(crate) fn candidates(
 }
 
 /// The own repository, and then those of these that aren't the target.
-fn own_first(
-    alloc: Global,
-    repo: u32,
-    target: u32,
-    others: &[u32],
-) -> Result<Vec<u32>, NoMemory>
+fn own_first(alloc: Global, repo: u32, target: u32, others: &[u32]) -> Result<Vec<u32>, NoMemory>
     ensures { IfOk result (λ cs. cs.items ≡ repo ∷ but target others.now) }
 {
     let rest = without(alloc, target, others)?;

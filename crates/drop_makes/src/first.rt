@@ -118,7 +118,8 @@ impl Knowing<'_> {
         let here = self.turn.is_there();
         let bar = self.turn.bar_there();
         let made = self.turn.quietly(self.is_own_share(here, bar), None);
-        self.turn.attempts(self.fails_to_hold(here, bar), None, made)
+        self.turn
+            .attempts(self.fails_to_hold(here, bar), None, made)
     }
 
     fn tries_own(&self, standing: Standing) -> bool

@@ -21,5 +21,5 @@ returns-in-Some c = λ s st.
     let t = drop_in k.turn.now k.logs.now s st in
     let told = effect_of k.turn.now.told.now in
     let step : (end : ℕ) → Some end ≡ first_end t → c.asks_time.result ≡ same_effect (asks_target t c.args.version (option_copied c.args.taken) (first_end t)) told =
-        (λ end is. c.asks_time.ensures s st end ∙ ap (λ (o : Option ℕ). same_effect (asks_target t c.args.version (option_copied c.args.taken) o) told) is) in
+    (λ end is. c.asks_time.ensures s st end ∙ ap (λ (o : Option ℕ). same_effect (asks_target t c.args.version (option_copied c.args.taken) o) told) is) in
     step _ (sym c.in-Some.is ∙ c.first_end.ensures s st)
