@@ -1,5 +1,5 @@
 -- What a session makes, beside what an entry tells.
-use Rattle.std.proofs.Common.{◌≡◌, ℕ, zero, suc, ◌<◌, Bool, true, false, not, ◌&&◌, ◌==◌, cond, List, [], ◌∷◌, length, Option, Some, None, refl, sym, ap, ◌∙◌, arith}
+use Rattle.std.proofs.Common.{◌≡◌, ℕ, zero, suc, ◌<◌, Bool, true, false, not, ◌&&◌, cond, List, [], ◌∷◌, length, Option, Some, None, refl, sym, ap, ◌∙◌, arith}
 use Rattle.std.specs.Prelude.{if◌then◌else◌, slice_get}
 use Rattle.std.proofs.Math.ListN.{length-map}
 use Rattle.std.specs.Option.{option_eq, option_to_list}
@@ -134,9 +134,9 @@ sends_own f = (λ i. eqb_refl f.peer i && eqb_refl f.slot i && same_bool f.up fa
 taking_so : (s : SetUp) (st : State) (words : ℕ → Option Word) (e : Entry) (f : FrameView) → job_of e.kind ≡ None → e.taken ≡ Some f
     → is_effect (session_at s st (look_of st words e) (server_end f.peer f.slot)) (effect_of e)
     ≡ (if f.up && may_take (st.ends (server_end f.peer f.slot)) f
-      then same_effect (reply_made (server_end f.peer f.slot) (end_takes (st.ends (server_end f.peer f.slot)) f.epoch f.body) (Some f)
-        (on_frame (here s st (look_of st words e) (server_end f.peer f.slot)) (st.sessions (server_end f.peer f.slot)) f.body)) (effect_of e)
-      else false)
+    then same_effect (reply_made (server_end f.peer f.slot) (end_takes (st.ends (server_end f.peer f.slot)) f.epoch f.body) (Some f)
+    (on_frame (here s st (look_of st words e) (server_end f.peer f.slot)) (st.sessions (server_end f.peer f.slot)) f.body)) (effect_of e)
+    else false)
 taking_so s st words e f none taken =
     let a = server_end f.peer f.slot in
     let c = st.ends a in
@@ -156,9 +156,9 @@ giving_go false o x m = refl
 giving_so : (s : SetUp) (st : State) (words : ℕ → Option Word) (e : Entry) (f : FrameView) (more : List FrameView) → job_of e.kind ≡ None → e.taken ≡ None → e.sent ≡ f ∷ more
     → is_effect (session_at s st (look_of st words e) (server_end f.peer f.slot)) (effect_of e)
     ≡ (if not f.up && (st.ends (server_end f.peer f.slot)).opened
-      then is_effect (gives_made (server_end f.peer f.slot) (st.ends (server_end f.peer f.slot))
-        (gives_next (here s st (look_of st words e) (server_end f.peer f.slot)) (st.sessions (server_end f.peer f.slot)).doing)) (effect_of e)
-      else false)
+    then is_effect (gives_made (server_end f.peer f.slot) (st.ends (server_end f.peer f.slot))
+    (gives_next (here s st (look_of st words e) (server_end f.peer f.slot)) (st.sessions (server_end f.peer f.slot)).doing)) (effect_of e)
+    else false)
 giving_so s st words e f more none taken sent =
     let a = server_end f.peer f.slot in
     let c = st.ends a in
@@ -182,6 +182,10 @@ chosen false x y e = absurd (cc)
 left : (b : Bool) (x y : Bool) → b ≡ false → (if b then x else y) ≡ y
 left true x y e = absurd (cc)
 left false x y e = refl
+
+pub served_by : (b : Bool) (o : Option RepoView) (repo : RepoView) → Some repo ≡ (if b then o else None) → (b ≡ true) × (o ≡ Some repo)
+served_by true o repo e = (refl, sym e)
+served_by false o repo e = absurd (cc)
 
 pub not_served : (s : SetUp) (st : State) (k : Look) (c : ℕ × ℕ) (m : Effect) → is_served s c ≡ false → is_effect (session_told s st k (Some c)) m ≡ false
 not_served s st k c m e = go (is_served s c) e
@@ -248,3 +252,12 @@ own_there x s st repos same is nowhere =
     let within : s.number < length s.repos = omega (arith, count, place.number, x.place.within) in
     let found = slice_get-within s.repos s.number within in
     none_and_some (slice_get repos s.number) found.0 nowhere (ap (λ (rs : List RepoView). slice_get rs s.number) (sym same) ∙ found.1)
+
+-- a connection that isn't served has no session
+pub nobody_serves : (x : RepoState) (s : SetUp) (st : State) (repos : List RepoView) (k : Look) (c : ℕ × ℕ) (m : Effect) → s.repos ≡ repos → IsStateOf x s st
+    → None ≡ (if is_served s c then slice_get repos s.number else None) → is_effect (session_told s st k (Some c)) m ≡ false
+nobody_serves x s st repos k c m same is nobody = go (is_served s c) refl nobody
+  where
+    go : (b : Bool) → is_served s c ≡ b → None ≡ (if b then slice_get repos s.number else None) → is_effect (session_told s st k (Some c)) m ≡ false
+    go true e nowhere = absurd (own_there x s st repos same is (sym nowhere))
+    go false e nowhere = not_served s st k c m e

@@ -13,8 +13,10 @@ ghost use Rattle.session_makes.specs.Scenes.{here_in, is_reply};
 
 use crate::answers::is_verdict;
 use crate::calls::{commit_calls, tries};
+use crate::replies::{
+    fails, hears, is_left, is_shut, is_silent, is_unexpected, or_unexpected, sent, shuts, talks,
+};
 use crate::requests::requests;
-use crate::replies::{fails, hears, is_left, is_shut, is_silent, is_unexpected, or_unexpected, sent, shuts, talks};
 use crate::scene::Scene;
 use annex_base::{Call, NoMemory};
 use annex_key::Key;

@@ -104,7 +104,11 @@ pub(crate) fn is_unexpected(scene: &Scene<'_>) -> bool
 pub(crate) fn or_unexpected(scene: &Scene<'_>, permitted: bool, good: bool) -> bool
     ensures { (filled : List ℕ → Bool) (r : Reply) → good ≡ is_reply scene.now r → result ≡ is_reply scene.now (if permitted then r else unexpected_reply (here_in scene.now filled)) }
 {
-    if permitted { good } else { is_unexpected(scene) }
+    if permitted {
+        good
+    } else {
+        is_unexpected(scene)
+    }
 }
 
 /// FAILURE is said.

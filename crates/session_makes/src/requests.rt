@@ -68,13 +68,7 @@ fn locks(scene: &Scene<'_>, key: &Key) -> bool
     lock_by(scene, key, is_here(scene, key), scene.rows.bar(key))
 }
 
-fn remove_by(
-    scene: &Scene<'_>,
-    key: &Key,
-    here: bool,
-    bar: Option<u32>,
-    blocked: bool,
-) -> bool
+fn remove_by(scene: &Scene<'_>, key: &Key, here: bool, bar: Option<u32>, blocked: bool) -> bool
     ensures { (filled : List ℕ → Bool) → result ≡ is_reply scene.now (tries (here_in scene.now filled) (to_remove here bar blocked) failure_line
         (remove_answer (Peer scene.now.at.peer scene.now.at.slot) key.now here bar blocked)) }
 {
@@ -151,7 +145,11 @@ fn gives_by(scene: &Scene<'_>, start: u64, size: Option<u64>) -> bool
 fn gives(scene: &Scene<'_>, version: u64, start: u64, key: &Key) -> bool
     ensures { (filled : List ℕ → Bool) (file : List ℕ) → result ≡ is_reply scene.now (on_request (here_in scene.now filled) version (messages.Get start file key.now)) }
 {
-    or_unexpected(scene, version >= 1, gives_by(scene, start, scene.rows.size(key)))
+    or_unexpected(
+        scene,
+        version >= 1,
+        gives_by(scene, start, scene.rows.size(key)),
+    )
 }
 
 fn offer_by(scene: &Scene<'_>, part: u64, here: bool, filled: bool) -> bool

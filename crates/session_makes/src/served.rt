@@ -183,11 +183,7 @@ fn sends_unasked(was: Standing, frame: &FrameView) -> bool
 }
 
 /// The repository itself, if the connection of the frame is one of those where it is the server.
-fn server<'a>(
-    repos: &'a [RepoView],
-    state: &RepoState,
-    frame: &FrameView,
-) -> Option<&'a RepoView>
+fn server<'a>(repos: &'a [RepoView], state: &RepoState, frame: &FrameView) -> Option<&'a RepoView>
     ensures { (s : SetUp) (st : State) → s.repos ≡ repos.now → IsStateOf state.now s st
         → option_copied result ≡ (if is_served s (frame.now.peer, frame.now.slot) then slice_get repos.now s.number else None) }
 {
@@ -227,12 +223,7 @@ fn taking_told(
 }
 
 /// Whether the entry, which takes no frame, is what the session of the first frame that it sends makes.
-fn giving_told(
-    repos: &[RepoView],
-    state: &RepoState,
-    told: &Entry,
-    frame: &FrameView,
-) -> bool
+fn giving_told(repos: &[RepoView], state: &RepoState, told: &Entry, frame: &FrameView) -> bool
     requires { made_of state.now + 1 < 2 ^ 56 }
     ensures { (s : SetUp) (st : State) (words : ℕ → Option Word) (more : List FrameView) → s.repos ≡ repos.now → IsStateOf state.now s st
         → job_of told.now.kind ≡ None → told.now.taken ≡ None → told.now.sent ≡ frame.now ∷ more

@@ -1,6 +1,6 @@
 -- What the proof of `fills::sessions_fill` needs beside the tactics.
 use borrow.Author.Count.{below_more}
-use Rattle.std.proofs.Common.{◌≡◌, ℕ, ◌<◌, Bool, true, false, not, ◌&&◌, ◌==◌, length, sym, ap, ◌∙◌, arith}
+use Rattle.std.proofs.Common.{◌≡◌, ℕ, ◌<◌, Bool, false, not, ◌&&◌, ◌==◌, length, sym, ap, ◌∙◌, arith}
 use Rattle.std.specs.List.{list_any}
 use Rattle.node_model.specs.Ends.{server_end}
 use Rattle.node_model.specs.SessionStep.{session_fills}
