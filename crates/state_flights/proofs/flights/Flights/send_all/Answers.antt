@@ -26,9 +26,9 @@ unwrap-body-requires c =
 
 pub send-requires-clause-openings : goal.send-requires-clause-openings
 send-requires-clause-openings c =
-    let open' = c.loop-frame.invariant.openings in
-    let up = open'.up in
-    let down = open'.down in
+    let has = c.loop-frame.invariant.openings in
+    let up = has.up in
+    let down = has.down in
     let within = c.loop-frame-test.true in
     record { up = omega (arith, up, within); down = omega (arith, down, within) }
 

@@ -1,0 +1,4 @@
+-- The definitions of this crate.
+pub mod Moments
+pub mod Rows
+pub mod Coming
