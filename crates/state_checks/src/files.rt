@@ -1,11 +1,12 @@
 //! What the script may log and compact.
-ghost use Rattle.std.specs.Prelude.{◌≡◌, List, [], ℕ, IfOk, is_none, length, nat_lt, not, option_copied, unwrap_or};
+ghost use Rattle.std.specs.Prelude.{◌≡◌, IfOk, is_none, length, nat_lt, not, option_copied};
 ghost use Rattle.std.specs.List.{list_all};
 ghost use Rattle.annex_key.specs.View.{first_fault};
 ghost use Rattle.node_model.specs.Files.{compact_lines};
 ghost use Rattle.node_model.specs.State.{State};
 ghost use Rattle.state_files.specs.Files.{AreFilesOf};
 ghost use Rattle.step_judging.specs.Rules.{has_path, is_one_line, is_rising, may_compact, may_log};
+ghost use Rattle.union_merge.specs.Branch.{or_none};
 ghost use Rattle.union_merge.specs.LineSet.{has_line};
 ghost use Rattle.state_checks.specs.Coming.{each_before};
 
@@ -107,13 +108,13 @@ fn each_before(lines: &[Line]) -> bool
 
 /// Whether a file with these lines has none of the others.
 fn are_new(had: Option<&LineSet>, lines: &[Line]) -> bool
-    ensures { result ≡ list_all (λ line. not (has_line (unwrap_or (option_copied had.entry) []) line)) lines.now }
+    ensures { result ≡ list_all (λ line. not (has_line (or_none (option_copied had.entry)) line)) lines.now }
 {
     lines.iter().all(|line| !has(had, line))
 }
 
 fn has(had: Option<&LineSet>, line: &Line) -> bool
-    ensures { result ≡ has_line (unwrap_or (option_copied had.entry) []) line.now }
+    ensures { result ≡ has_line (or_none (option_copied had.entry)) line.now }
 {
     match had {
         Some(lines) => lines.contains(line.bytes()),
