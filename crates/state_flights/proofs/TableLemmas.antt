@@ -43,12 +43,12 @@ room_put b x o new is = ap room_found is ∙ room_some b x o
 
 pub same_place : (a b : Opening) → same_opening a b ≡ true → a ≡ b
 same_place a b same =
-    let three = and_parts ((a.client == b.client) && (a.server == b.server) && (a.slot == b.slot)) (a.epoch == b.epoch) same in
-    let two = and_parts ((a.client == b.client) && (a.server == b.server)) (a.slot == b.slot) three.0 in
-    let one = and_parts (a.client == b.client) (a.server == b.server) two.0 in
+    let one = and_parts (a.client == b.client) ((a.server == b.server) && ((a.slot == b.slot) && (a.epoch == b.epoch))) same in
+    let two = and_parts (a.server == b.server) ((a.slot == b.slot) && (a.epoch == b.epoch)) one.1 in
+    let three = and_parts (a.slot == b.slot) (a.epoch == b.epoch) two.1 in
     let opening : ℕ → ℕ → ℕ → ℕ → Opening = λ client server slot epoch. record { client = client; server = server; slot = slot; epoch = epoch } in
-    ap (λ n. opening n a.server a.slot a.epoch) (eqb-true a.client b.client one.0) ∙ ap (λ n. opening b.client n a.slot a.epoch) (eqb-true a.server b.server one.1)
-    ∙ ap (λ n. opening b.client b.server n a.epoch) (eqb-true a.slot b.slot two.1) ∙ ap (opening b.client b.server b.slot) (eqb-true a.epoch b.epoch three.1)
+    ap (λ n. opening n a.server a.slot a.epoch) (eqb-true a.client b.client one.0) ∙ ap (λ n. opening b.client n a.slot a.epoch) (eqb-true a.server b.server two.0)
+    ∙ ap (λ n. opening b.client b.server n a.epoch) (eqb-true a.slot b.slot three.0) ∙ ap (opening b.client b.server b.slot) (eqb-true a.epoch b.epoch three.1)
 
 -- ---- a table of anything
 

@@ -105,49 +105,48 @@ next_number (x ∷ xs) n f is = eqb-true f.seq (n + 1) (and_parts (f.seq == n + 
 
 -- ---- the way of a frame
 
-five : (a b c d : Bool) → (a && (b && (c && (true && d)))) ≡ (a && b && c && d && true)
-five true true true true = refl
-five true true true false = refl
-five true true false d = refl
-five true false c d = refl
-five false b c d = refl
+five : (a b c d : Bool) → (a && (b && (c && (true && d)))) ≡ ((a && (b && (c && d))) && true)
+five a b c d = sym (and_true (a && (b && (c && d))))
 
-six : (a b c d : Bool) → (a && (b && (c && (true && d)))) ≡ (b && a && c && d && true)
-six true true true true = refl
-six true true true false = refl
-six true true false d = refl
-six true false c d = refl
-six false true c d = refl
-six false false c d = refl
+six : (a b c d : Bool) → (a && (b && (c && (true && d)))) ≡ ((b && (a && (c && d))) && true)
+six a b c d = swap a b ∙ sym (and_true (b && (a && (c && d))))
+  where
+    swap : (x y : Bool) → (x && (y && (c && d))) ≡ (y && (x && (c && d)))
+    swap true true = refl
+    swap true false = refl
+    swap false true = refl
+    swap false false = refl
 
-never : (a b c d x y : Bool) → (a && (b && (c && (false && d)))) ≡ (x && y && c && d && false)
-never true true true true x y = sym (and_false (x && y && true && true))
-never true true true false x y = sym (and_false (x && y && true && false))
-never true true false d x y = sym (and_false (x && y && false && d))
-never true false c d x y = sym (and_false (x && y && c && d))
-never false b c d x y = sym (and_false (x && y && c && d))
+never : (a b c d x : Bool) → (a && (b && (c && (false && d)))) ≡ (x && false)
+never a b c d x = none a b c ∙ sym (and_false x)
+  where
+    none : (u v w : Bool) → (u && (v && (w && false))) ≡ false
+    none true true true = refl
+    none true true false = refl
+    none true false w = refl
+    none false v w = refl
 
 -- the entry of r takes a frame of the way exactly where it is the frame's
 pub takes_way : (r : ℕ) (f : FrameView) (w : Way) → ((r == taker_of w) && is_on w (sender_of w) f) ≡ same_way (way_of r f) w
 takes_way r f w = go f.up w.up
   where
     go : (u v : Bool) → ((r == (if v then w.server else w.client)) && ((f.peer == (if v then w.client else w.server)) && ((f.slot == w.slot) && (same_bool u v && (f.epoch == w.epoch)))))
-        ≡ (((if u then f.peer else r) == w.client) && ((if u then r else f.peer) == w.server) && (f.slot == w.slot) && (f.epoch == w.epoch) && same_bool u v)
+        ≡ ((((if u then f.peer else r) == w.client) && (((if u then r else f.peer) == w.server) && ((f.slot == w.slot) && (f.epoch == w.epoch)))) && same_bool u v)
     go true true = six (r == w.server) (f.peer == w.client) (f.slot == w.slot) (f.epoch == w.epoch)
     go false false = five (r == w.client) (f.peer == w.server) (f.slot == w.slot) (f.epoch == w.epoch)
-    go true false = never (r == w.client) (f.peer == w.server) (f.slot == w.slot) (f.epoch == w.epoch) (f.peer == w.client) (r == w.server)
-    go false true = never (r == w.server) (f.peer == w.client) (f.slot == w.slot) (f.epoch == w.epoch) (r == w.client) (f.peer == w.server)
+    go true false = never (r == w.client) (f.peer == w.server) (f.slot == w.slot) (f.epoch == w.epoch) ((f.peer == w.client) && ((r == w.server) && ((f.slot == w.slot) && (f.epoch == w.epoch))))
+    go false true = never (r == w.server) (f.peer == w.client) (f.slot == w.slot) (f.epoch == w.epoch) ((r == w.client) && ((f.peer == w.server) && ((f.slot == w.slot) && (f.epoch == w.epoch))))
 
 -- and so does what it sends
 pub sends_way : (r : ℕ) (f : FrameView) (w : Way) → ((r == sender_of w) && is_on w (taker_of w) f) ≡ same_way (way_sent r f) w
 sends_way r f w = go f.up w.up
   where
     go : (u v : Bool) → ((r == (if v then w.client else w.server)) && ((f.peer == (if v then w.server else w.client)) && ((f.slot == w.slot) && (same_bool u v && (f.epoch == w.epoch)))))
-        ≡ (((if u then r else f.peer) == w.client) && ((if u then f.peer else r) == w.server) && (f.slot == w.slot) && (f.epoch == w.epoch) && same_bool u v)
+        ≡ ((((if u then r else f.peer) == w.client) && (((if u then f.peer else r) == w.server) && ((f.slot == w.slot) && (f.epoch == w.epoch)))) && same_bool u v)
     go true true = five (r == w.client) (f.peer == w.server) (f.slot == w.slot) (f.epoch == w.epoch)
     go false false = six (r == w.server) (f.peer == w.client) (f.slot == w.slot) (f.epoch == w.epoch)
-    go true false = never (r == w.server) (f.peer == w.client) (f.slot == w.slot) (f.epoch == w.epoch) (r == w.client) (f.peer == w.server)
-    go false true = never (r == w.client) (f.peer == w.server) (f.slot == w.slot) (f.epoch == w.epoch) (f.peer == w.client) (r == w.server)
+    go true false = never (r == w.server) (f.peer == w.client) (f.slot == w.slot) (f.epoch == w.epoch) ((r == w.client) && ((f.peer == w.server) && ((f.slot == w.slot) && (f.epoch == w.epoch))))
+    go false true = never (r == w.client) (f.peer == w.server) (f.slot == w.slot) (f.epoch == w.epoch) ((f.peer == w.client) && ((r == w.server) && ((f.slot == w.slot) && (f.epoch == w.epoch))))
 
 took_is : (r : ℕ) (o : Option FrameView) (w : Way) → ((r == taker_of w) && takes w o) ≡ took_on r o w
 took_is r None w = and_false (r == taker_of w)
@@ -251,7 +250,7 @@ fewer r count less frames x le enough =
 
 pub some_bodies : (bodies : List FrameText) (frames : List FrameView) (i : ℕ) → bodies ≡ bodies_of (drop i frames) → i < length frames → 0 < length bodies
 some_bodies bodies frames i is within =
-    let long = length-map (λ (f : FrameView). f.body) (drop i frames) in
+    let long = length-map (drop i frames) (λ (f : FrameView). f.body) in
     let cut = length-drop i frames in
     let same = ap length is in
     omega (arith, long, cut, same, within)

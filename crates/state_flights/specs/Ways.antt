@@ -6,7 +6,7 @@ use Rattle.run_model.specs.Frames.{Way}
 use Rattle.state_flights.specs.declared.opening.Opening.{Opening}
 
 abbrev pub same_opening : Opening → Opening → Bool
-same_opening a b = (a.client == b.client) && (a.server == b.server) && (a.slot == b.slot) && (a.epoch == b.epoch)
+same_opening a b = (a.client == b.client) && ((a.server == b.server) && ((a.slot == b.slot) && (a.epoch == b.epoch)))
 
 -- the opening to which a way belongs
 abbrev pub opening_of : Way → Opening

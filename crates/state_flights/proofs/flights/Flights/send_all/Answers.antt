@@ -7,7 +7,7 @@ use Rattle.run_data.specs.declared.entry.FrameView.{FrameView}
 use Rattle.step_judging.specs.Carried.{WaitingFrame, flight_sent}
 use Rattle.state_flights.specs.Flights.{HasOpenings, HasRoomFor, bodies_of, flight_on, room_on, waits_on, waits_with}
 use Rattle.state_flights.specs.Ways.{same_way, way_sent}
-use Rattle.state_flights.proofs.WayLemmas.{fewer, less_room, sent_more, sent_none}
+use Rattle.state_flights.proofs.WayLemmas.{fewer, first_body, less_room, sent_more, sent_none, some_bodies}
 use Rattle.state_flights.proofs.flights.Flights.send_all.Goals as goal
 
 pub loop-frame-init : goal.loop-frame-init
