@@ -1,4 +1,3 @@
 -- The definitions of this crate.
 pub mod Moments
 pub mod Rows
-pub mod Coming

@@ -1,5 +1,5 @@
 -- When the newest entry was made, as data, and the order and the bounds of the next one by that (own).
-use Rattle.std.specs.Prelude.{ℕ, ◌^◌, Bool, true, ◌&&◌, ◌||◌, ◌==◌, nat_lt, nat_le, Option, Some, None}
+use Rattle.std.specs.Prelude.{ℕ, ◌^◌, Bool, true, false, ◌&&◌, ◌||◌, ◌==◌, nat_lt, nat_le, Option, Some, None}
 use Rattle.run_data.specs.declared.entry.Entry.{Entry}
 use Rattle.run_model.specs.Run.{repo_number}
 use Rattle.step_judging.specs.Rules.{is_small, is_time}
@@ -17,6 +17,11 @@ comes_after (Some m) e = nat_lt m.time e.time || (nat_lt m.count e.count || ((m.
 abbrev pub time_at : Option Moment → ℕ
 time_at None = 0
 time_at (Some m) = m.time
+
+-- an entry that doesn't wait is of a repository, and made at this time
+abbrev pub is_made_at : ℕ → Entry → Option ℕ → Bool
+is_made_at before e None = false
+is_made_at before e (Some r) = e.time == before
 
 abbrev pub is_ordered_at : Option Moment → Entry → Bool
 is_ordered_at newest e =

@@ -1,10 +1,11 @@
 //! The order and the bounds of entries.
-ghost use Rattle.std.specs.Prelude.{◌≡◌, ◌<◌, ◌^◌, Option, None, Some, option_map};
+ghost use Rattle.std.specs.Prelude.{◌≡◌, Option, Some, option_map};
 ghost use Rattle.run_data.specs.declared.entry.Entry.{Entry};
+ghost use Rattle.run_data.specs.declared.entry.EntryKind.TheVariants.{Wait};
 ghost use Rattle.run_model.specs.Run.{repo_number};
 ghost use Rattle.step_judging.specs.Carried.{is_ordered_by};
 ghost use Rattle.step_judging.specs.Rules.{is_nil, is_small, is_time, only_waits};
-ghost use Rattle.state_checks.specs.Moments.{comes_after, is_ordered_at, moment_of, time_at};
+ghost use Rattle.state_checks.specs.Moments.{comes_after, is_made_at, is_ordered_at, moment_of, time_at};
 
 use annex_base::Line;
 use run_data::{Entry, EntryKind, FrameView};
@@ -80,12 +81,27 @@ fn time_at(newest: Option<Moment>) -> u64
 fn is_time(before: u64, entry: &Entry) -> bool
     ensures { result ≡ is_time before entry.now entry.now.kind entry.now.repo }
 {
-    match (&entry.kind, entry.repo) {
-        (EntryKind::Wait(ms), None) => {
-            u128::from(entry.time) == u128::from(before) + u128::from(*ms)
-        }
-        (_, Some(_)) => entry.time == before,
-        (_, None) => false,
+    match &entry.kind {
+        EntryKind::Wait(ms) => is_waited(before, *ms, entry),
+        _ => is_at(before, entry),
+    }
+}
+
+fn is_waited(before: u64, ms: u64, entry: &Entry) -> bool
+    ensures { result ≡ is_time before entry.now (Wait ms) entry.now.repo }
+{
+    match entry.repo {
+        None => u128::from(entry.time) == u128::from(before) + u128::from(ms),
+        Some(_) => entry.time == before,
+    }
+}
+
+fn is_at(before: u64, entry: &Entry) -> bool
+    ensures { result ≡ is_made_at before entry.now entry.now.repo }
+{
+    match entry.repo {
+        None => false,
+        Some(_) => entry.time == before,
     }
 }
 
@@ -103,16 +119,18 @@ fn is_small(kind: &EntryKind) -> bool
 pub fn only_waits(entry: &Entry) -> bool
     ensures { result ≡ only_waits entry.now }
 {
-    entry.taken.is_none() && has_no_frames(entry.sent.as_slice()) && has_no_lines(entry.lines.as_slice())
+    entry.taken.is_none()
+        && has_no_frames(entry.sent.as_slice())
+        && has_no_lines(entry.lines.as_slice())
 }
 
-pub(crate) fn has_no_frames(frames: &[FrameView]) -> bool
+pub fn has_no_frames(frames: &[FrameView]) -> bool
     ensures { result ≡ is_nil frames.now }
 {
     frames.is_empty()
 }
 
-pub(crate) fn has_no_lines(lines: &[Line]) -> bool
+pub fn has_no_lines(lines: &[Line]) -> bool
     ensures { result ≡ is_nil lines.now }
 {
     lines.is_empty()

@@ -8,6 +8,7 @@ use annex_base::{NoMemory, Word};
 use run_data::{FrameText, FrameView};
 use std::alloc::Global;
 use std::collections::VecDeque;
+use step_effects::same_body;
 
 /// A frame that was sent and not yet taken: what it carries, and the word that its sender found.
 #[derive(Drop)]
@@ -21,19 +22,6 @@ pub struct Waiting {
 pub struct Flight {
     pub waiting: VecDeque<Waiting>,
     pub taken: u64,
-}
-
-/// Whether the two are the same.
-fn same_body(one: &FrameText, other: &FrameText) -> bool
-    ensures { result ≡ same_body one.now other.now }
-{
-    match (one, other) {
-        (FrameText::Opening, FrameText::Opening) => true,
-        (FrameText::Closing, FrameText::Closing) => true,
-        (FrameText::Bytes(count), FrameText::Bytes(number)) => count == number,
-        (FrameText::Line(text), FrameText::Line(line)) => text == line,
-        _ => false,
-    }
 }
 
 /// Whether the frame is this one, as the next after so many.

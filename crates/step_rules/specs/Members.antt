@@ -12,7 +12,7 @@ use Rattle.node_model.specs.Slots.{job_of}
 use Rattle.node_model.specs.State.{State}
 use Rattle.run_model.specs.Words.{awaits_of}
 use Rattle.step_state.specs.States.{IsStateOf, IsWell, count_of, made_of}
-use Rattle.step_makes.specs.Words.{word_in}
+use Rattle.job_makes.specs.Turns.{word_in}
 use Rattle.step_rules.specs.declared.member.Member.{Member}
 use Rattle.step_rules.specs.declared.paths.Paths.{Paths}
 use Rattle.step_rules.specs.declared.words.Hears.{Hears}

@@ -14,7 +14,8 @@ ghost use Rattle.state_jobs.specs.Works.{work_of};
 ghost use Rattle.state_rows.specs.Changes.{SetsClock};
 ghost use Rattle.step_judging.specs.Carried.{words_at_end};
 ghost use Rattle.step_judging.specs.Rules.{is_own};
-ghost use Rattle.step_makes.specs.Words.{AreAlone, word_in};
+ghost use Rattle.job_makes.specs.Turns.{word_in};
+ghost use Rattle.step_makes.specs.Numbers.{AreAlone};
 ghost use Rattle.step_state.specs.Peers.{HasPeersIn};
 ghost use Rattle.step_rules.specs.Members.{AwaitsBy, BeginsWith, HasMemberRoom, IsBounded, IsMemberOf, StaysMember, words_after, words_at};
 

@@ -2,7 +2,7 @@
 ghost use Rattle.std.specs.Prelude.{◌≡◌, ◌<◌, ◌≤◌, ◌+◌, ◌&&◌, ◌==◌, ℕ, Option, [], length, None, Some, if◌then◌else◌, vec_len, OnOk};
 ghost use Rattle.annex_base.specs.declared.kinds.Word.{Word};
 ghost use Rattle.indexmap.specs.IndexMap.{spare};
-ghost use Rattle.step_makes.specs.Words.{word_in};
+ghost use Rattle.job_makes.specs.Turns.{word_in};
 ghost use Rattle.step_rules.specs.Members.{HasWordRoom, StaySaid, words_after, words_at};
 
 use annex_base::{NoMemory, Word};

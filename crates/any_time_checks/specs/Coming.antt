@@ -1,5 +1,5 @@
 -- The entries that may come at any point, by data; for private contracts (own).
-use Rattle.std.specs.Prelude.{ℕ, Bool, true, not, ◌&&◌, ◌==◌, if◌then◌else◌, false, nat_lt, List, [], ◌∷◌, ◌++◌, flat_map}
+use Rattle.std.specs.Prelude.{ℕ, Bool, true, not, ◌&&◌, ◌==◌, if◌then◌else◌, false, nat_lt, List, [], ◌∷◌, ◌++◌, flat_map, Option, Some, None}
 use Rattle.std.specs.Ordering.{is_lt}
 use Rattle.annex_base.specs.ByteOrder.{text_cmp}
 use Rattle.annex_base.specs.declared.kinds.Call.{Call}
@@ -15,11 +15,15 @@ use Rattle.state_ends.specs.Ends.{end_of}
 use Rattle.state_ends.specs.declared.ends.Ends.{Ends}
 use Rattle.step_judging.specs.Rules.{may_gain}
 
--- each line comes before the next
-abbrev pub each_before : List (List ℕ) → Bool
-each_before [] = true
-each_before (x ∷ []) = true
-each_before (x ∷ y ∷ ys) = is_lt (text_cmp x y) && each_before (y ∷ ys)
+-- the line comes after the last one, if there is one
+abbrev pub is_behind : Option (List ℕ) → List ℕ → Bool
+is_behind None line = true
+is_behind (Some last) line = is_lt (text_cmp last line)
+
+-- each line comes after the one before it, the first of them after this one
+abbrev pub rise_behind : Option (List ℕ) → List (List ℕ) → Bool
+rise_behind last [] = true
+rise_behind last (x ∷ xs) = is_behind last x && rise_behind (Some x) xs
 
 -- the Close of an end that is open
 abbrev pub close_in : Ends → EndName → List FrameView

@@ -5,12 +5,12 @@ ghost use Rattle.node_model.specs.AnyTime.{needs_peer};
 ghost use Rattle.node_model.specs.SetUp.{SetUp};
 ghost use Rattle.node_model.specs.State.{State};
 ghost use Rattle.step_judging.specs.Rules.{comes, is_peer, may_begin, may_come, may_gain};
-ghost use Rattle.state_checks.specs.Coming.{brings, fails};
+ghost use Rattle.any_time_checks.specs.Coming.{brings, fails};
 ghost use Rattle.step_state.specs.States.{IsStateOf};
 
 use crate::closing::{closes, closes_all};
 use crate::files::{is_keys, may_compact, may_log};
-use crate::order::{has_no_frames, has_no_lines};
+use state_checks::{has_no_frames, has_no_lines};
 use annex_base::{Call, NoMemory};
 use annex_key::Key;
 use run_data::{By, Entry, EntryKind, Job, JobKind, RepoView};

@@ -11,9 +11,9 @@ ghost use Rattle.step_judging.specs.Rules.{may_come};
 ghost use Rattle.step_judging.specs.Same.{same_frames};
 ghost use Rattle.step_effects.specs.Sendings.{rest_told};
 ghost use Rattle.step_state.specs.States.{IsStateOf};
-ghost use Rattle.state_checks.specs.Coming.{close_in, closes_with, is_there};
+ghost use Rattle.any_time_checks.specs.Coming.{close_in, closes_with, is_there};
 
-use crate::order::has_no_lines;
+use state_checks::has_no_lines;
 use annex_base::Line;
 use run_data::{FrameView, RepoView};
 use state_ends::{Connection, Ends};

@@ -8,7 +8,7 @@ ghost use Rattle.state_files.specs.Files.{AreFilesOf};
 ghost use Rattle.step_judging.specs.Rules.{has_path, is_one_line, is_rising, may_compact, may_log};
 ghost use Rattle.union_merge.specs.Branch.{or_none};
 ghost use Rattle.union_merge.specs.LineSet.{has_line};
-ghost use Rattle.state_checks.specs.Coming.{each_before};
+ghost use Rattle.any_time_checks.specs.Coming.{is_behind};
 
 use annex_base::{Line, NoMemory};
 use annex_key::{Key, key_texts_have_no_fault};
@@ -17,6 +17,7 @@ use log_lines::LogKind;
 use run_data::LogFile;
 use state_files::Files;
 use std::alloc::Global;
+use std::cmp::Ordering;
 use union_merge::LineSet;
 
 /// Whether these lines may be added to the file: they are in byte order, each once, and new there.
@@ -90,20 +91,31 @@ fn is_one_line(text: &Line) -> bool
 fn are_lines(lines: &[Line]) -> bool
     ensures { result ≡ list_all is_one_line lines.now }
 {
-    lines.iter().all(is_one_line)
+    lines.iter().all(|line| is_one_line(line))
 }
 
 /// Whether the lines are in byte order, each once.
 fn is_rising(lines: &[Line]) -> bool
     ensures { result ≡ is_rising lines.now }
 {
-    each_before(lines)
+    let mut last = None;
+    for line in lines {
+        if !is_behind(last, line) {
+            return false;
+        }
+        last = Some(line);
+    }
+    true
 }
 
-fn each_before(lines: &[Line]) -> bool
-    ensures { result ≡ each_before lines.now }
+/// Whether the line comes after the last one, if there is one.
+fn is_behind(last: Option<&Line>, line: &Line) -> bool
+    ensures { result ≡ is_behind (option_copied last.entry) line.now }
 {
-    lines.windows(2).all(|pair| pair[0] < pair[1])
+    match last {
+        Some(last) => last.cmp(line) == Ordering::Less,
+        None => true,
+    }
 }
 
 /// Whether a file with these lines has none of the others.

@@ -1,0 +1,5 @@
+-- The lemmas of this crate.
+mod SameStep
+mod SameReads
+mod Alone
+mod Carrying
