@@ -1,5 +1,5 @@
 //! What an entry needs of its row.
-ghost use Rattle.std.specs.Prelude.{◌≡◌, ℕ, Bool, IfOk, Option};
+ghost use Rattle.std.specs.Prelude.{◌≡◌, ℕ, List, IfOk, Option};
 ghost use Rattle.std.specs.List.{list_any};
 ghost use Rattle.p2p_wire.specs.declared.message.Message.{Message};
 ghost use Rattle.node_model.specs.After.{first_state};

@@ -2,4 +2,7 @@
 mod SameStep
 mod SameReads
 mod Alone
+mod Peers
 mod Carrying
+mod After
+mod Starts
