@@ -17,8 +17,7 @@ use state_checks::has_no_lines;
 use annex_base::Line;
 use run_data::{FrameView, RepoView};
 use state_ends::{Connection, Ends};
-use step_effects::past_close;
-use step_effects::{EndAt, closes as is_close};
+use step_effects::{EndAt, closes as is_close, past_close, says_nothing};
 use step_state::RepoState;
 
 /// Whether an end may be closed with these lines and these frames sent.
@@ -72,7 +71,7 @@ fn closes_each(ends: &Ends, number: u32, count: u32, sent: &[FrameView]) -> bool
         };
         rest = after;
     }
-    rest.is_empty()
+    says_nothing(rest)
 }
 
 /// What is left of the frames behind those of the ends with this peer, if it is another repository.

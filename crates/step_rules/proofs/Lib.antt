@@ -6,3 +6,4 @@ mod Peers
 mod Carrying
 mod After
 mod Starts
+mod Rules
