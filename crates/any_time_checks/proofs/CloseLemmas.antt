@@ -24,7 +24,7 @@ use Rattle.step_judging.specs.Rules.{same_end}
 use Rattle.step_judging.specs.Same.{same_frames}
 use Rattle.step_effects.specs.Sendings.{rest_told}
 use Rattle.any_time_checks.specs.Coming.{close_in, closes_with, is_there}
-use Rattle.any_time_checks.proofs.FrameLemmas.{same_tests}
+use Rattle.any_time_checks.proofs.FrameLemmas.{frames_back, same_tests}
 
 -- ---- an end
 
@@ -57,6 +57,10 @@ append_none (x ∷ xs) = ap (λ ys. x ∷ ys) (append_none xs)
 
 pub last_part : (first sent : List FrameView) (rest : Option (List FrameView)) → Parts first sent rest → Parts (first ++ []) sent rest
 last_part first sent rest p more = ap (λ fs. same_frames (fs ++ more) sent) (append_none first) ∙ p more
+
+pub peer_parts : (x : Ends) (peer : ℕ) (sent : List FrameView) (rest : Option (List FrameView)) → Parts (flat_map (close_in x) (ends_with peer true) ++ flat_map (close_in x) (ends_with peer false)) sent rest
+    → Parts (closes_with x peer) sent rest
+peer_parts x peer sent rest p more = ap (λ fs. same_frames (fs ++ more) sent) (flat_map-append (close_in x) (ends_with peer true) (ends_with peer false)) ∙ p more
 
 -- ---- the other repositories
 
@@ -161,3 +165,24 @@ pub ends_listed : (s : SetUp) (a : EndName) → list_any (same_end a) (all_ends 
 ends_listed s a = same_tests (list_any (same_end a) (all_ends s)) (is_there s.number (length s.repos) a)
     (λ some. let w = list_any_found (same_end a) (all_ends s) some in there s a (numbers s a (subst (λ (b : EndName). Member b (all_ends s)) (sym (same_name a w.0 w.2)) w.1)))
     (λ is. list_any_member (same_end a) (all_ends s) a (listed s a (stands s a is)) (its_name a))
+
+-- ---- a close
+
+-- the tests of a close are those of the rules
+pub tells_close : (x : Ends) (s : SetUp) (st : State) (a : EndName) (was : End) (lines : Bool) (sent : List FrameView) → AreEndsOf x st → was ≡ end_of x a
+    → (is_there s.number (length s.repos) a && was.opened && lines && same_frames (frames a was (Closing ∷ [])) sent)
+    ≡ (list_any (same_end a) (all_ends s) && (st.ends a).opened && lines && same_frames sent (close_at s st a))
+tells_close x s st a was lines sent are is =
+    ap (λ (b : Bool). b && was.opened && lines && same_frames (frames a was (Closing ∷ [])) sent) (sym (ends_listed s a))
+    ∙ go was.opened refl
+    ∙ ap (λ (c : End). list_any (same_end a) (all_ends s) && c.opened && lines && same_frames sent (close_at s st a)) (is ∙ sym (are.ends a))
+  where
+    go : (b : Bool) → was.opened ≡ b
+        → (list_any (same_end a) (all_ends s) && b && lines && same_frames (frames a was (Closing ∷ [])) sent) ≡ (list_any (same_end a) (all_ends s) && b && lines && same_frames sent (close_at s st a))
+    go true opened = ap (λ (t : Bool). list_any (same_end a) (all_ends s) && true && lines && t)
+        (frames_back (frames a was (Closing ∷ [])) sent ∙ ap (same_frames sent) (sym (close_same x s st are a ∙ open_end x a was is opened)))
+    go false opened = shut (list_any (same_end a) (all_ends s)) lines (same_frames (frames a was (Closing ∷ [])) sent) (same_frames sent (close_at s st a))
+      where
+        shut : (p q r t : Bool) → (p && false && q && r) ≡ (p && false && q && t)
+        shut true q r t = refl
+        shut false q r t = refl

@@ -1,7 +1,8 @@
 -- Lines in byte order, and lines that a file has.
-use Rattle.std.proofs.Common.{◌≡◌, ◌↔◌, ℕ, Bool, true, false, List, [], ◌∷◌, Option, Some, None, refl, sym, ap, subst, ◌∙◌}
-use Rattle.std.specs.Prelude.{◌&&◌}
+use Rattle.std.proofs.Common.{◌≡◌, ◌↔◌, ℕ, Bool, true, false, List, [], ◌∷◌, Option, Some, None, refl, sym, ap, subst, ◌∙◌, arith}
+use Rattle.std.specs.Prelude.{◌&&◌, ◌==◌, length}
 use Rattle.std.specs.List.{list_all}
+use Rattle.std.proofs.lemmas.Bool.{eqb-true}
 use Rattle.std.specs.Ordering.{is_lt}
 use Rattle.annex_base.specs.ByteOrder.{text_cmp}
 use Rattle.annex_base.specs.Lists.{Member}
@@ -11,7 +12,7 @@ use Rattle.annex_base.proofs.TextOrder.{Before-trans}
 use Rattle.std.specs.declared.cmp.Ordering.{Ordering}
 use Rattle.std.specs.declared.cmp.Ordering.TheVariants.{Less, Equal, Greater}
 use Rattle.std.specs.Prelude.{bytes_eq}
-use Rattle.union_merge.specs.LineSet.{has_line}
+use Rattle.union_merge.specs.LineSet.{has_line, is_empty}
 use Rattle.step_judging.specs.Rules.{is_rising}
 use Rattle.any_time_checks.specs.Coming.{is_behind, rise_behind}
 use Rattle.any_time_checks.proofs.FrameLemmas.{same_tests}
@@ -52,3 +53,15 @@ pub has_same : (b : Bool) (line : List ℕ) (lines : List (List ℕ)) → (b ≡
 has_same b line lines tells = same_tests b (has_line lines line)
     (λ is. list_any_member (bytes_eq line) lines line (tells.0 is) (bytes_eq-refl line))
     (λ is. let w = list_any_found (bytes_eq line) lines is in tells.1 (subst (λ (x : List ℕ). Member x lines) (sym (bytes_eq-true line w.0 w.2)) w.1))
+
+-- the test of the lines that it has
+pub has_here : (b : Bool) (bytes line : List ℕ) (lines : List (List ℕ)) → bytes ≡ line → (b ≡ true ↔ Member bytes lines) → b ≡ has_line lines line
+has_here b bytes line lines is tells = has_same b bytes lines tells ∙ ap (has_line lines) is
+
+pub empty_len : (xs : List ℕ) → (length xs == 0) ≡ is_empty xs
+empty_len [] = refl
+empty_len (x ∷ xs) = go (length (x ∷ xs) == 0) refl
+  where
+    go : (b : Bool) → (length (x ∷ xs) == 0) ≡ b → b ≡ false
+    go false is = refl
+    go true is = absurd (let none : length (x ∷ xs) ≡ 0 = eqb-true (length (x ∷ xs)) 0 is in omega (arith, none))

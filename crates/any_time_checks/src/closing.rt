@@ -1,15 +1,17 @@
 //! The Close frames of a close and of a crash.
-ghost use Rattle.std.specs.Prelude.{◌≡◌, ◌<◌, ◌++◌, ◌∷◌, ◌^◌, [], Bool, List, flat_map, length, option_copied};
+ghost use Rattle.std.specs.Prelude.{◌≡◌, ◌<◌, ◌&&◌, ◌++◌, ◌∷◌, ◌^◌, [], Bool, List, flat_map, length, option_copied};
 ghost use Rattle.run_data.specs.declared.entry.FrameView.{FrameView};
 ghost use Rattle.node_model.specs.AnyTime.{closes_all, ends_with};
+ghost use Rattle.node_model.specs.Ends.{frames};
 ghost use Rattle.node_model.specs.SetUp.{SetUp};
 ghost use Rattle.node_model.specs.State.{State};
 ghost use Rattle.run_data.specs.declared.entry.EntryKind.TheVariants.{Close};
+ghost use Rattle.run_data.specs.declared.entry.FrameText.TheVariants.{Closing};
 ghost use Rattle.std.specs.List.{range_with_len};
 ghost use Rattle.node_model.specs.Evidence.{but};
-ghost use Rattle.step_judging.specs.Rules.{may_come};
+ghost use Rattle.step_judging.specs.Rules.{is_nil, may_come};
 ghost use Rattle.step_judging.specs.Same.{same_frames};
-ghost use Rattle.step_effects.specs.Sendings.{rest_told};
+ghost use Rattle.step_effects.specs.Sendings.{name_of, rest_told};
 ghost use Rattle.step_state.specs.States.{IsStateOf};
 ghost use Rattle.any_time_checks.specs.Coming.{close_in, closes_with, is_there};
 
@@ -39,10 +41,14 @@ pub(crate) fn closes(
         client,
         was,
     };
-    is_there(repos, state.number(), peer, slot)
-        && was.opened
-        && has_no_lines(lines)
-        && is_close(at, sent)
+    is_closed(is_there(repos, state.number(), peer, slot), at, lines, sent)
+}
+
+/// Whether an end that is there or not is closed so.
+fn is_closed(there: bool, at: EndAt, lines: &[Line], sent: &[FrameView]) -> bool
+    ensures { result ≡ (there && at.was.opened && is_nil lines.now && same_frames (frames (name_of at) at.was (Closing ∷ [])) sent.now) }
+{
+    there && at.was.opened && has_no_lines(lines) && is_close(at, sent)
 }
 
 /// Whether the repository of this number has an end of a connection with this peer in this slot.

@@ -1,6 +1,7 @@
 //! What the script may log and compact.
-ghost use Rattle.std.specs.Prelude.{◌≡◌, IfOk, is_none, length, nat_lt, not, option_copied};
+ghost use Rattle.std.specs.Prelude.{◌≡◌, ◌==◌, IfOk, is_none, length, nat_lt, not, option_copied};
 ghost use Rattle.std.specs.List.{list_all};
+ghost use Rattle.annex_base.specs.Lines.{newline};
 ghost use Rattle.annex_key.specs.View.{first_fault};
 ghost use Rattle.node_model.specs.Files.{compact_lines};
 ghost use Rattle.node_model.specs.State.{State};
@@ -84,8 +85,13 @@ pub(crate) fn is_keys(key: &Key) -> bool
 fn is_one_line(text: &Line) -> bool
     ensures { result ≡ is_one_line text.now }
 {
-    let bytes = text.bytes();
-    !bytes.is_empty() && bytes.iter().all(|b| *b != b'\n')
+    !text.bytes().is_empty() && has_no_newline(text.bytes())
+}
+
+fn has_no_newline(bytes: &[u8]) -> bool
+    ensures { result ≡ list_all (λ b. not (b == newline)) bytes.now }
+{
+    bytes.iter().all(|b| *b != b'\n')
 }
 
 fn are_lines(lines: &[Line]) -> bool

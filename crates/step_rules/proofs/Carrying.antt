@@ -79,7 +79,7 @@ paths_stay keep run e lawful r job low =
 pub member_again : (m : Member) (s : SetUp) (st now : State) (words said : ℕ → ℕ → Option Word) → now ≡ st → ((job c : ℕ) → said job c ≡ words job c) → IsMemberOf m s st words → IsMemberOf m s now said
 member_again m s st now words said same heard is = record {
   state = subst (IsStateOf m.state s) (sym same) is.state;
-  words = λ job c. heard job c ∙ is.words job c;
+  heard = λ job c. heard job c ∙ is.heard job c;
   paths = subst (λ (x : State). (w : Work) → Among w x.works → s.paths w.number ≡ members.paths_at m.paths w.number) (sym same) is.paths;
 }
 
@@ -87,7 +87,7 @@ member_again m s st now words said same heard is = record {
 pub member_with : (m : Member) (s : SetUp) (p : ℕ → List (List ℕ)) (st : State) (words : ℕ → ℕ → Option Word) → HavePaths s st.works p → IsMemberOf m s st words → IsMemberOf m (with_paths s p) st words
 member_with m s p st words have is = record {
   state = state_same s p st have m.state is.state;
-  words = is.words;
+  heard = is.heard;
   paths = λ w among. sym (have w among) ∙ is.paths w among;
 }
 

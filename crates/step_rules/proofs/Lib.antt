@@ -7,3 +7,5 @@ mod Carrying
 mod After
 mod Starts
 mod Rules
+mod Found
+mod Members

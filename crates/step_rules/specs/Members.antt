@@ -1,5 +1,5 @@
 -- One repository of a run as data: its state, the paths of its jobs' keys, and the words that they heard (own).
-use Rattle.std.specs.Prelude.{◌≡◌, ℕ, ◌<◌, ◌≤◌, Bool, true, false, ◌&&◌, ◌==◌, if◌then◌else◌, List, [], find, length, Option, Some, None, unwrap_or}
+use Rattle.std.specs.Prelude.{◌≡◌, ℕ, ◌<◌, ◌≤◌, Bool, true, false, ◌&&◌, ◌==◌, if◌then◌else◌, List, [], find, length, Option, Some, None, option_map, unwrap_or}
 use Rattle.std.specs.Map.{lookup}
 use Rattle.annex_base.specs.Lists.{Each, Member as Among}
 use Rattle.annex_base.specs.declared.kinds.Word.{Word}
@@ -31,19 +31,19 @@ paths_for x (Some job) = paths_at x job
 
 -- the words that it heard, by the repositories that said them
 abbrev pub words_at : Words → ℕ → List (Option Word)
-words_at x job = unwrap_or (lookup (same_job job) x.heard.entries) []
+words_at x job = unwrap_or (option_map (λ words. words.items) (lookup (same_job job) x.heard.entries)) []
 
 -- the repository is in this state; its jobs heard these words; and for each running job the paths are kept that its key had
 pub record IsMemberOf (x : Member) (s : SetUp) (st : State) (words : ℕ → ℕ → Option Word) : Type 0 where
   pub state : IsStateOf x.state s st
-  pub words : (job c : ℕ) → words job c ≡ word_in (words_at x.words job) c
+  pub heard : (job c : ℕ) → words job c ≡ word_in (words_at x.words job) c
   pub paths : (w : Work) → Among w st.works → s.paths w.number ≡ paths_at x.paths w.number
 
 -- its numbers are within bounds, after at most so many entries, among so many repositories
 pub record IsBounded (count made : ℕ) (x : Member) : Type 0 where
   pub well : IsWell x.state
   pub repos : count_of x.state ≡ count
-  pub made : made_of x.state ≤ made
+  pub few : made_of x.state ≤ made
 
 -- ---- an entry
 

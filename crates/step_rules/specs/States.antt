@@ -19,6 +19,7 @@ use Rattle.step_judging.specs.Rules.{broken_rule}
 use Rattle.step_judging.specs.Verdicts.{verdict}
 use Rattle.state_checks.specs.Moments.{moment_of}
 use Rattle.state_flights.specs.Flights.{flight_on}
+use Rattle.step_state.specs.declared.state.RepoState.{RepoState}
 use Rattle.step_rules.specs.Members.{AwaitsBy, IsBounded, IsMemberOf}
 use Rattle.step_rules.specs.Trees.{IsTreeBefore}
 use Rattle.step_rules.specs.declared.member.Member.{Member}
@@ -83,6 +84,11 @@ HearsAt st flights r kind (Some f) hears = HearsOf st flights r kind f hears
 
 abbrev pub HearsBy : State → (Way → Flight) → ℕ → Entry → Option Hears → Type 0
 HearsBy st flights r e hears = HearsAt st flights r e.kind e.taken hears
+
+-- the state of the repository of this number, if there is one
+abbrev pub state_at : List Member → Option ℕ → Option RepoState
+state_at members None = None
+state_at members (Some r) = option_map (λ m. m.state) (slice_get members r)
 
 -- the one of this number changed so, and the others stay
 pub record ChangesMember (r : ℕ) (P : Member → Member → Type 0) (was now : List Member) : Type 0 where

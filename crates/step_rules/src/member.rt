@@ -22,8 +22,8 @@ ghost use Rattle.step_rules.specs.Members.{AwaitsBy, BeginsWith, HasMemberRoom, 
 use crate::paths::Paths;
 use crate::words::{Hears, Words};
 use annex_base::{Items, NoMemory, Text, Word};
+use any_time_checks::comes;
 use run_data::{Entry, EntryKind, RepoView};
-use state_checks::comes;
 use state_jobs::{Phase, Work};
 use state_works::job_of;
 use std::alloc::Global;

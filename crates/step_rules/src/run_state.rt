@@ -1,6 +1,5 @@
 //! The state of a run, carried over its entries.
 ghost use Rattle.std.specs.Prelude.{◌≡◌, ◌<◌, ◌≤◌, ◌+◌, ◌^◌, ℕ, Option, length, reverse, slice_get, vec_len, None, Some, IfErr, IfOk, OnErr, OnOk, option_copied};
-ghost use Rattle.std.specs.Option.{option_and_then};
 ghost use Rattle.annex_base.specs.Lists.{Each};
 ghost use Rattle.annex_base.specs.declared.kinds.Word.{Word};
 ghost use Rattle.run_data.specs.Repos.{IsSetUp};
@@ -19,7 +18,7 @@ ghost use Rattle.step_judging.specs.Verdicts.{row_found};
 ghost use Rattle.step_state.specs.Peers.{HasPeersIn};
 ghost use Rattle.step_rules.specs.Members.{BeginsWith, IsBounded, IsMemberOf, words_after};
 ghost use Rattle.step_rules.specs.Runs.{start_of, with_entry};
-ghost use Rattle.step_rules.specs.States.{ChangesMember, HasBegun, HearsBy, HearsOf, IsAfter, IsAllowed, IsCarried, TellsOf, taken_by};
+ghost use Rattle.step_rules.specs.States.{ChangesMember, HasBegun, HearsBy, HearsOf, IsAfter, IsAllowed, IsCarried, TellsOf, state_at, taken_by};
 ghost use Rattle.step_rules.specs.Trees.{AreInOrder, IsTreeBefore};
 ghost use Rattle.step_rules.specs.declared.member.Member.{Member};
 
@@ -37,6 +36,7 @@ use state_checks::{Moment, has_row, is_ordered, moment_of, row_found};
 use state_flights::{Flights, bodies_of};
 use std::alloc::Global;
 use step_judging::{judges_carry_enough, runs_break_no_rule};
+use step_state::RepoState;
 
 /// The state of a run after entries of it: the newest of them, each repository, and the frames on their way (own).
 #[derive(Drop)]
@@ -153,13 +153,26 @@ impl<'a> RunState<'a> {
     {
         // A law, for the proof: what a repository carries is its state.
         carried_states_agree();
-        row_found(self.alloc, self.member(entry.repo), entry)
+        row_found(self.alloc, self.state(entry.repo), entry)
     }
 
-    fn member(&self, repo: Option<u32>) -> Option<&Member>
-        ensures { option_copied result ≡ option_and_then (slice_get self.now.members.items) repo }
+    /// The state of the repository of this number, if it is one of the run.
+    fn state(&self, repo: Option<u32>) -> Option<&RepoState>
+        ensures { option_copied result ≡ state_at self.now.members.items repo }
     {
-        self.members.get(repo? as usize)
+        match repo {
+            Some(repo) => self.state_at(repo),
+            None => None,
+        }
+    }
+
+    fn state_at(&self, repo: u32) -> Option<&RepoState>
+        ensures { option_copied result ≡ state_at self.now.members.items (Some repo) }
+    {
+        match self.members.get(repo as usize) {
+            Some(member) => Some(&member.state),
+            None => None,
+        }
     }
 
     /// Takes an entry that is permitted. Without memory it stays the state that it was.
