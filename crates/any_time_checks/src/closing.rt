@@ -15,9 +15,9 @@ ghost use Rattle.step_effects.specs.Sendings.{name_of, rest_told};
 ghost use Rattle.step_state.specs.States.{IsStateOf};
 ghost use Rattle.any_time_checks.specs.Coming.{close_in, closes_with, is_there};
 
-use state_checks::has_no_lines;
 use annex_base::Line;
 use run_data::{FrameView, RepoView};
+use state_checks::has_no_lines;
 use state_ends::{Connection, Ends};
 use step_effects::{EndAt, closes as is_close, past_close, says_nothing};
 use step_state::RepoState;

@@ -10,11 +10,11 @@ ghost use Rattle.step_state.specs.States.{IsStateOf};
 
 use crate::closing::{closes, closes_all};
 use crate::files::{is_keys, may_compact, may_log};
-use state_checks::{has_no_frames, has_no_lines};
 use annex_base::{Call, NoMemory};
 use annex_key::Key;
 use run_data::{By, Entry, EntryKind, Job, JobKind, RepoView};
 use session_makes::is_filled;
+use state_checks::{has_no_frames, has_no_lines};
 use std::alloc::Global;
 use step_state::RepoState;
 
@@ -50,13 +50,21 @@ fn may_come(
             Ok(may_begin(repos, state, *job, what) && has_no_lines(lines) && has_no_frames(sent))
         }
         EntryKind::Gain { by, size, key } => {
-            Ok(may_bring(repos, state, *by, *size, key) && has_no_lines(lines) && has_no_frames(sent))
+            Ok(
+                may_bring(repos, state, *by, *size, key)
+                    && has_no_lines(lines)
+                    && has_no_frames(sent),
+            )
         }
         EntryKind::Log { file } => {
             Ok(may_log(alloc, state.files(), file, lines)? && has_no_frames(sent))
         }
         EntryKind::Compact { file } => {
-            Ok(may_compact(alloc, state.files(), file)? && has_no_lines(lines) && has_no_frames(sent))
+            Ok(
+                may_compact(alloc, state.files(), file)?
+                    && has_no_lines(lines)
+                    && has_no_frames(sent),
+            )
         }
         EntryKind::Fault { call, by } => {
             Ok(is_scripts(*call, *by) && has_no_lines(lines) && has_no_frames(sent))

@@ -19,7 +19,11 @@ use step_state::RepoState;
 
 /// The row of the entry's key as the entry found it, by the state of its repository before it, with those of its holds that block at
 /// the entry's time; where it has no key or is of no repository, a row without content, bar and holds.
-pub fn row_found(alloc: Global, state: Option<&RepoState>, entry: &Entry) -> Result<RowView, NoMemory>
+pub fn row_found(
+    alloc: Global,
+    state: Option<&RepoState>,
+    entry: &Entry,
+) -> Result<RowView, NoMemory>
     ensures none { option_copied state.entry ≡ None → IfOk result (λ row. row ≡ absent_row) }
     ensures some { (x : RepoState) → option_copied state.entry ≡ Some x → IfOk result (λ row. (s : SetUp) (st : State) → IsStateOf x s st → row ≡ row_of st (st.clock entry.now.time) (key_in entry.now.kind)) }
 {
@@ -79,7 +83,12 @@ fn row_of(alloc: Global, rows: &Rows, clock: u128, key: &Key) -> Result<RowView,
 }
 
 /// Those of the holds that block the key, as they are printed.
-fn blocking(alloc: Global, holds: &[Hold], key: &Key, clock: u128) -> Result<Items<HoldView>, NoMemory>
+fn blocking(
+    alloc: Global,
+    holds: &[Hold],
+    key: &Key,
+    clock: u128,
+) -> Result<Items<HoldView>, NoMemory>
     ensures { IfOk result (λ views. views ≡ blocking holds.now key.now clock) }
 {
     let mut views = Items::new(alloc);

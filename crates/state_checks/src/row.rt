@@ -132,7 +132,9 @@ fn has_open(holds: &[Hold], number: u64, key: &Key) -> bool
 fn is_kept_for(holds: &[Hold], by: By) -> bool
     ensures { result ≡ list_any (is_open_for by) holds.now }
 {
-    holds.iter().any(|hold| same_owner(hold.owner, by) && !hold.kept)
+    holds
+        .iter()
+        .any(|hold| same_owner(hold.owner, by) && !hold.kept)
 }
 
 fn is_in_time(clock: u128, told: &Option<Message>) -> bool

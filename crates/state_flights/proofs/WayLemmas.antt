@@ -260,6 +260,6 @@ pub first_body : (popped : Option FrameText) (body : FrameText) (old new : List 
     → (body ≡ f.body) × (new ≡ bodies_of (drop (i + 1) frames))
 first_body popped body old new frames i f is items bodies within at =
     let both : body ∷ new ≡ f.body ∷ bodies_of (drop (i + 1) frames) =
-        sym (ap (λ (o : Option FrameText). option_to_list o ++ new) is) ∙ sym items ∙ bodies ∙ ap bodies_of (drop_more frames i f within)
-        ∙ ap (λ (g : FrameView). g.body ∷ bodies_of (drop (i + 1) frames)) (sym at) in
+    sym (ap (λ (o : Option FrameText). option_to_list o ++ new) is) ∙ sym items ∙ bodies ∙ ap bodies_of (drop_more frames i f within)
+    ∙ ap (λ (g : FrameView). g.body ∷ bodies_of (drop (i + 1) frames)) (sym at) in
     (cons_first body f.body new (bodies_of (drop (i + 1) frames)) both, cons_rest body f.body new (bodies_of (drop (i + 1) frames)) both)

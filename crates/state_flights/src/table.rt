@@ -70,7 +70,12 @@ pub(crate) fn take(table: &mut IndexMap<Opening, Flight>, alloc: Global, at: Ope
 }
 
 /// One more frame of an opening is sent.
-pub(crate) fn push(table: &mut IndexMap<Opening, Flight>, alloc: Global, at: Opening, waiting: Waiting)
+pub(crate) fn push(
+    table: &mut IndexMap<Opening, Flight>,
+    alloc: Global,
+    at: Opening,
+    waiting: Waiting,
+)
     requires room { 0 < spare table.old }
     requires frame { 0 < room_at table.old.entries at }
     ensures flight { (other : Opening) → flight_at table.new.entries other ≡ flight_sent (same_opening at other) (waiting_frame waiting ∷ []) (flight_at table.old.entries other) }

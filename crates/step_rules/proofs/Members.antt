@@ -22,7 +22,7 @@ use Rattle.step_judging.specs.Rules.{comes, is_own, is_step}
 use Rattle.step_judging.specs.Told.{is_told}
 use Rattle.step_state.specs.States.{IsStateOf}
 use Rattle.job_makes.specs.Turns.{word_in}
-use Rattle.step_rules.specs.Members.{BeginsWith, IsMemberOf, paths_after, paths_at, paths_for, words_after, words_at}
+use Rattle.step_rules.specs.Members.{BeginsWith, IsMemberOf, paths_after, paths_at, paths_for, paths_read, words_after, words_at}
 use Rattle.step_rules.specs.declared.member.Member.{Member}
 use Rattle.step_rules.specs.declared.words.Hears.{Hears}
 use Rattle.step_rules.proofs.SameReads.{state_same}
@@ -70,11 +70,6 @@ module _ (makers : MakersLaw) (m : Member) (s : SetUp) (st : State) (words : ℕ
 
 abbrev pub JobsStay : Type 0
 JobsStay = (rows : RowsAndEnds) (r : ℕ) (e : Entry) (w : Work) → running_job (work_after rows r e w) ≡ running_job w
-
--- what is read for an entry of this kind
-abbrev pub paths_read : Member → EntryKind → List (List ℕ) → List (List ℕ)
-paths_read m (Begin job what) begun = begun
-paths_read m kind begun = paths_for m.paths (job_of kind)
 
 same_number : (n : ℕ) → (n == n) ≡ true
 same_number n = grind (arith, nat_tests)
@@ -126,9 +121,9 @@ module _ (stay : JobsStay) (m n : Member) (s : SetUp) (st : State) (words : ℕ 
   words_then None job c = sym (is.heard job c)
   words_then (Some h) job c = ap (λ (x : Option Word). if (h.job == job) && (h.peer == c) then h.word else x) (sym (is.heard job c))
 
-  module _ (after : (x : SetUp) (y : State) → HadPaths x e.kind (paths_read m e.kind begun) → IsStateOf m.state x y → IsStateOf n.state x (state_after x y e)) where
+  module _ (after : (x : SetUp) (y : State) → HadPaths x e.kind (paths_read m.paths e.kind begun) → IsStateOf m.state x y → IsStateOf n.state x (state_after x y e)) where
     -- of a kind that begins no job
-    plain : ((w : Work) → Among w (works_after rows s.number st.works e e.kind) → IsFrom w st.works) → HadPaths (kept_for m s) e.kind (paths_read m e.kind begun)
+    plain : ((w : Work) → Among w (works_after rows s.number st.works e e.kind) → IsFrom w st.works) → HadPaths (kept_for m s) e.kind (paths_read m.paths e.kind begun)
         → IsStateOf n.state s (state_after s st e)
     plain from had =
         state_same (kept_for m s) s.paths (state_after s st e) (λ w among. sym (from_was w (from w among))) n.state
@@ -136,19 +131,19 @@ module _ (stay : JobsStay) (m n : Member) (s : SetUp) (st : State) (words : ℕ 
 
     state_then : (kind : EntryKind) → e.kind ≡ kind → IsStateOf n.state s (state_after s st e)
     state_then (Begin job what) same =
-        after s st (subst (λ (k : EntryKind). HadPaths s k (paths_read m k begun)) (sym same) (λ j one. ap s.paths (some_same job j one) ∙ subst (λ (k : EntryKind). BeginsWith s k begun) same begins)) is.state
+        after s st (subst (λ (k : EntryKind). HadPaths s k (paths_read m.paths k begun)) (sym same) (λ j one. ap s.paths (some_same job j one) ∙ subst (λ (k : EntryKind). BeginsWith s k begun) same begins)) is.state
       where
         some_same : (a b : ℕ) → Some a ≡ Some b → b ≡ a
         some_same a b one = cc
     state_then (End job outcome) same = plain
         (λ w among. let parts = Member-filter_parts (λ v. not (v.number == job)) st.works w (subst (λ (k : EntryKind). Among w (works_after rows s.number st.works e k)) same among) in (w, parts.0, refl))
-        (subst (λ (k : EntryKind). HadPaths (kept_for m s) k (paths_read m k begun)) (sym same) (had_kept m s (End job outcome)))
+        (subst (λ (k : EntryKind). HadPaths (kept_for m s) k (paths_read m.paths k begun)) (sym same) (had_kept m s (End job outcome)))
     state_then (Crash clock) same = plain
         (λ w among. absurd (subst (λ (k : EntryKind). Among w (works_after rows s.number st.works e k)) same among))
-        (subst (λ (k : EntryKind). HadPaths (kept_for m s) k (paths_read m k begun)) (sym same) (had_kept m s (Crash clock)))
+        (subst (λ (k : EntryKind). HadPaths (kept_for m s) k (paths_read m.paths k begun)) (sym same) (had_kept m s (Crash clock)))
     state_then kind same = plain
         (λ w among. from_map stay rows s.number e st.works w (subst (λ (k : EntryKind). Among w (works_after rows s.number st.works e k)) same among))
-        (subst (λ (k : EntryKind). HadPaths (kept_for m s) k (paths_read m k begun)) (sym same) (had_kept m s kind))
+        (subst (λ (k : EntryKind). HadPaths (kept_for m s) k (paths_read m.paths k begun)) (sym same) (had_kept m s kind))
 
     pub member_after : ((job : ℕ) → paths_at n.paths job ≡ paths_after job (paths_at m.paths job) e.kind begun)
         → ((job c : ℕ) → word_in (words_at n.words job) c ≡ words_after (λ j d. word_in (words_at m.words j) d) hears job c)

@@ -54,6 +54,11 @@ paths_after job was (End j outcome) begun = if j == job then [] else was
 paths_after job was (Crash clock) begun = []
 paths_after job was kind begun = was
 
+-- what is read for an entry of this kind, where the key of the job that it begins has these paths
+abbrev pub paths_read : Paths → EntryKind → List (List ℕ) → List (List ℕ)
+paths_read x (Begin job what) begun = begun
+paths_read x kind begun = paths_for x (job_of kind)
+
 abbrev pub words_after : (ℕ → ℕ → Option Word) → Option Hears → ℕ → ℕ → Option Word
 words_after was None job c = was job c
 words_after was (Some h) job c = if (h.job == job) && (h.peer == c) then h.word else was job c

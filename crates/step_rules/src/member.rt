@@ -17,7 +17,7 @@ ghost use Rattle.step_judging.specs.Rules.{is_own};
 ghost use Rattle.job_makes.specs.Turns.{word_in};
 ghost use Rattle.step_makes.specs.Numbers.{AreAlone};
 ghost use Rattle.step_state.specs.Peers.{HasPeersIn};
-ghost use Rattle.step_rules.specs.Members.{AwaitsBy, BeginsWith, HasMemberRoom, IsBounded, IsMemberOf, StaysMember, words_after, words_at};
+ghost use Rattle.step_rules.specs.Members.{AwaitsBy, BeginsWith, HasMemberRoom, IsBounded, IsMemberOf, StaysMember, paths_read, words_after, words_at};
 
 use crate::paths::Paths;
 use crate::words::{Hears, Words};
@@ -130,14 +130,21 @@ impl Member {
     {
         // A law, for the proof: a job keeps its number.
         running_jobs_stay_the_same();
-        let paths = match &entry.kind {
-            EntryKind::Begin { .. } => begun.as_slice(),
-            kind => self.paths.of(job_of(kind)),
-        };
+        let paths = paths_read(&self.paths, &entry.kind, begun.as_slice());
         self.state.after(paths, entry)?;
         self.paths.note(&entry.kind, begun);
         self.words.note(hears);
         Ok(())
+    }
+}
+
+/// The paths of the key of the job that an entry of this kind names: those that are kept, or where it begins the job these.
+fn paths_read<'a>(paths: &'a Paths, kind: &EntryKind, begun: &'a [Text]) -> &'a [Text]
+    ensures { result.now ≡ paths_read paths.now kind.now begun.now }
+{
+    match kind {
+        EntryKind::Begin { .. } => begun,
+        _ => paths.of(job_of(kind)),
     }
 }
 

@@ -17,5 +17,5 @@ returns c = λ s st same are.
     let lines = is_nil c.args.lines.now in
     c.is_closed.ensures
     ∙ ap (λ (b : Bool). b && was.opened && lines && same_frames (frames a was (Closing ∷ [])) sent)
-        (c.is_there.ensures c.args.client ∙ ap (λ n. is_there n (length c.args.repos.now) a) (sym (c.number.ensures s st are)) ∙ ap (λ rs. is_there s.number (length rs) a) (sym same))
+    (c.is_there.ensures c.args.client ∙ ap (λ n. is_there n (length c.args.repos.now) a) (sym (c.number.ensures s st are)) ∙ ap (λ rs. is_there s.number (length rs) a) (sym same))
     ∙ tells_close c.ends.result.now s st a was lines sent (c.ends.ensures s st are) c.end-was.ensures

@@ -15,7 +15,7 @@ returns c = λ st are.
     let p : Hold → Bool = blocks key c.args.clock in
     let view : Bool → Option ℕ → List HoldView → RowView = λ present bar holds. record { present = present; bar = bar; holds = holds } in
     let holds = c.in_ok-holds.ensures ∙ sym (blocking_back hold_view p c.holds.result.now)
-        ∙ ap (λ (hs : List Hold). map hold_view (reverse (filter p hs))) (c.holds.ensures ∙ sym are.holds) in
+    ∙ ap (λ (hs : List Hold). map hold_view (reverse (filter p hs))) (c.holds.ensures ∙ sym are.holds) in
     ap (λ b. view b c.bar.result c.in_ok-holds.holds) (c.is_some.ensures ∙ ap is_some c.size.ensures ∙ sym (are.present key))
     ∙ ap (λ o. view (st.present key) o c.in_ok-holds.holds) (c.bar.ensures ∙ sym (are.bar key))
     ∙ ap (view (st.present key) (st.bar key)) holds

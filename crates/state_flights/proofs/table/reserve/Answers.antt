@@ -17,6 +17,6 @@ returns-clause-more c = λ other.
     let had = c.take_out-flight.ensures.had in
     let more = c.reserve-reserved.ensures.more in
     let left = room_left (room_at c.reserve.new.self.entries) (room_at c.take_out-flight.new.table.entries) (room_at c.put.new.table.entries) c.args.at (room_of c.reserve-reserved.new.self) 0
-        c.take_out-flight.ensures.others c.put.ensures.frames (omega (arith, had, more)) other in
+    c.take_out-flight.ensures.others c.put.ensures.frames (omega (arith, had, more)) other in
     let was = ap (λ entries. room_at entries other) c.reserve.ensures.entries in
     omega (arith, left, was)

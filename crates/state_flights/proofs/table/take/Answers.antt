@@ -19,5 +19,5 @@ returns-clause-frames c = λ other.
     let had = c.take_out-flight.ensures.had in
     let more = c.take.ensures.room in
     let left = room_left (room_at c.args.table.now.entries) (room_at c.take_out-flight.new.table.entries) (room_at c.put.new.table.entries) c.args.at (room_of c.take.new.self) 0
-        c.take_out-flight.ensures.others c.put.ensures.frames (omega (arith, had, more)) other in
+    c.take_out-flight.ensures.others c.put.ensures.frames (omega (arith, had, more)) other in
     omega (arith, left)

@@ -56,7 +56,7 @@ loop-frame-preserved c =
     let within = c.loop-frame-test.true in
     let n = length frames - (i + 1) in
     let left = first_body c.pop_front.result c.unwrap-body.result c.loop-frame.bodies.items c.pop_front.new.self.items frames i f
-        c.unwrap-body.ensures c.pop_front.ensures.items c.loop-frame.invariant.bodies within c.frame-item.is in
+    c.unwrap-body.ensures c.pop_front.ensures.items c.loop-frame.invariant.bodies within c.frame-item.is in
     let up = c.loop-frame.invariant.openings.up in
     let down = c.loop-frame.invariant.openings.down in
     record {
