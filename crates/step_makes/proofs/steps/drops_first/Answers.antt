@@ -1,25 +1,20 @@
 -- What the proof of `steps::drops_first` needs beside the tactics.
-use Rattle.std.proofs.Common.{ap, ◌≡◌}
+use Rattle.std.proofs.Common.{◌≡◌}
 use Rattle.node_model.specs.JobStep as steps
 use Rattle.step_judging.specs.Same.{same_effect}
 use Rattle.step_judging.specs.Rules.{effect_of}
 use Rattle.job_makes.specs.Turns.{turn_in}
 use Rattle.drop_makes.specs.Knowings.{drop_in}
 use Rattle.std.specs.Option.{option_copied}
-use Rattle.state_jobs.specs.Phases.{phase_of, part_of}
 use Rattle.node_model.specs.SetUp.{SetUp}
 use Rattle.node_model.specs.State.{State}
 use Rattle.std.proofs.lemmas.Result.{IfOk-weaker}
-use Rattle.step_makes.specs.Knowledge.{IsReadBy, reads_logs}
+use Rattle.step_makes.specs.Knowledge.{IsReadBy}
 use Rattle.step_makes.proofs.KnowledgeLemmas.{by_known}
 use Rattle.job_makes.specs.declared.turn.Turn.{Turn}
-use Rattle.state_jobs.specs.declared.phase.Part.{Part}
 use Rattle.node_model.specs.DropStep.{first_drop}
 use Rattle.node_model.specs.Jobs.{side_of}
 use Rattle.step_makes.proofs.steps.drops_first.Goals as goal
-
-pub known-requires-clause-reads : goal.known-requires-clause-reads
-known-requires-clause-reads c = ap (λ (p : Part). reads_logs (part_of p) (phase_of c.args.turn.now.work.now.phase)) c.requires.part
 
 pub returns : goal.returns
 returns c =
