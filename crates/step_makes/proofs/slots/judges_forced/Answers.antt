@@ -24,7 +24,7 @@ returns-in-Some c =
     IfOk-weaker c.forced_by_logs.result
     (λ b. (s : SetUp) (st : State) → AreLogsRead (st.read n) (set_up_in x s) w logs → b ≡ is_forced (turn_in x s st) (partner x.work.now.what.peer (phase_of x.work.now.phase)))
     (λ b. (s : SetUp) (st : State) → IsTurnOf x s st → IsOnly st.works (work_of x.work.now) → b ≡ is_forced (turn_in x s st) (partner x.work.now.what.peer (phase_of x.work.now.phase)))
-    (λ b told s st of only. 
+    (λ b told s st of only.
     let kept : reading_at c.reads-reads.result.now n ≡ Some logs = sym c.reading.ensures ∙ ap option_copied c.in-Some.is in
     let read = subst (λ (o : Option KnownLogs). HasReadAs s st w o) kept ((c.reads-reads.ensures s st of.state_is).each w only) in
     told s st (subst (λ (z : SetUp). AreLogsRead (st.read n) z w logs) (sym of.set_up) read))

@@ -23,7 +23,7 @@ returns c =
     IfOk-weaker c.step_by_logs.result
     (λ b. (s : SetUp) (st : State) → IsTurnOf x s st → HasRoom x → AreLogsRead (st.read n) (set_up_in x s) w logs → b ≡ is_effect (by_partner (turn_in x s st) (partner x.work.now.what.peer (phase_of x.work.now.phase))) (effect_of x.told.now))
     (λ b. (s : SetUp) (st : State) → IsTurnOf x s st → HasRoom x → st.read n ≡ st.logs → s.paths x.work.now.number ≡ c.args.paths.now → b ≡ is_effect (by_partner (turn_in x s st) (partner x.work.now.what.peer (phase_of x.work.now.phase))) (effect_of x.told.now))
-    (λ b told s st of room reads had. 
+    (λ b told s st of room reads had.
     let now = subst (λ (l : Settings). AreLogsRead l s w logs) (sym reads) (c.in_ok-logs.ensures s st of.state_is had) in
     told s st of room (subst (λ (z : SetUp). AreLogsRead (st.read n) z w logs) (sym of.set_up) now))
     c.step_by_logs.ensures

@@ -24,7 +24,7 @@ returns c =
     IfOk-weaker c.judges.result
     (λ b. (s : SetUp) (st : State) → b ≡ same_effect (next_step (drop_in c.known-known.result.now.turn.now c.known-known.result.now.logs.now s st) Drops) (effect_of c.known-known.result.now.turn.now.told.now))
     (λ b. (s : SetUp) (st : State) → IsReadBy x (option_copied c.args.knowing) s st → b ≡ same_effect (next_step (turn_in x s st) (part_of x.work.now.part)) (effect_of x.told.now))
-    (λ b told s st read. 
+    (λ b told s st read.
     by_known (option_copied c.args.knowing) c.known-known.result.now x s st b (λ (z : Turn) (t : steps.Turn). same_effect (next_step t Drops) (effect_of z.told.now)) c.known-known.ensures c.requires.enough read (told s st)
     ∙ ap (λ (p : Part). same_effect (next_step (turn_in x s st) (part_of p)) (effect_of x.told.now)) (sym c.requires.part))
     c.judges.ensures

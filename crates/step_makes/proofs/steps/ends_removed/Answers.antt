@@ -23,6 +23,6 @@ returns c =
     IfOk-weaker c.is_removed.result
     (λ b. (s : SetUp) (st : State) → b ≡ same_effect (ends (drop_in c.known-known.result.now.turn.now c.known-known.result.now.logs.now s st) None (removal_outcome (side_of (drop_in c.known-known.result.now.turn.now c.known-known.result.now.logs.now s st).w) (drop_in c.known-known.result.now.turn.now c.known-known.result.now.logs.now s st))) (effect_of c.known-known.result.now.turn.now.told.now))
     (λ b. (s : SetUp) (st : State) → IsReadBy x (option_copied c.args.knowing) s st → b ≡ same_effect (ends (turn_in x s st) None (removal_outcome (side_of (turn_in x s st).w) (turn_in x s st))) (effect_of x.told.now))
-    (λ b told s st read. 
+    (λ b told s st read.
     by_known (option_copied c.args.knowing) c.known-known.result.now x s st b (λ (z : Turn) (t : steps.Turn). same_effect (ends t None (removal_outcome (side_of t.w) t)) (effect_of z.told.now)) c.known-known.ensures c.requires.enough read (told s st))
     c.is_removed.ensures

@@ -25,7 +25,7 @@ returns c =
     IfOk-weaker c.asks_copy.result
     (λ b. (s : SetUp) (st : State) → b ≡ same_effect (asks_copy (drop_in c.known-known.result.now.turn.now c.known-known.result.now.logs.now s st) c.args.version (Some c.args.frame.now) c.args.peer (side_of (drop_in c.known-known.result.now.turn.now c.known-known.result.now.logs.now s st).w)) (effect_of c.known-known.result.now.turn.now.told.now))
     (λ b. (s : SetUp) (st : State) → IsReadBy x (option_copied c.args.knowing) s st → b ≡ same_effect (asks (turn_in x s st) c.args.version (Some c.args.frame.now) c.args.peer (part_of x.work.now.part)) (effect_of x.told.now))
-    (λ b told s st read. 
+    (λ b told s st read.
     by_known (option_copied c.args.knowing) c.known-known.result.now x s st b (λ (z : Turn) (t : steps.Turn). same_effect (asks t c.args.version (Some c.args.frame.now) c.args.peer Drops) (effect_of z.told.now)) c.known-known.ensures c.requires.enough read (told s st)
     ∙ ap (λ (p : Part). same_effect (asks (turn_in x s st) c.args.version (Some c.args.frame.now) c.args.peer (part_of p)) (effect_of x.told.now)) (sym c.requires.part))
     c.asks_copy.ensures

@@ -22,6 +22,6 @@ returns c =
     IfOk-weaker c.takes_drop.result
     (λ b. (s : SetUp) (st : State) → b ≡ same_effect (takes_drop (drop_in c.known-known.result.now.turn.now c.known-known.result.now.logs.now s st) c.args.frame.now c.args.peer (drop_in c.known-known.result.now.turn.now c.known-known.result.now.logs.now s st).w.phase c.args.message.now) (effect_of c.known-known.result.now.turn.now.told.now))
     (λ b. (s : SetUp) (st : State) → IsReadBy x (option_copied c.args.knowing) s st → b ≡ same_effect (takes_drop (turn_in x s st) c.args.frame.now c.args.peer (phase_of x.work.now.phase) c.args.message.now) (effect_of x.told.now))
-    (λ b told s st read. 
+    (λ b told s st read.
     by_known (option_copied c.args.knowing) c.known-known.result.now x s st b (λ (z : Turn) (t : steps.Turn). same_effect (takes_drop t c.args.frame.now c.args.peer t.w.phase c.args.message.now) (effect_of z.told.now)) c.known-known.ensures c.requires.enough read (told s st))
     c.takes_drop.ensures
