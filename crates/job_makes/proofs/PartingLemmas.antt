@@ -45,6 +45,7 @@ parted t lost (x ∷ xs) = go (x == me t) (parted t lost xs)
   where
     said : ℕ → List FrameView
     said peer = frames (job_end t.w peer) (end_with t peer) (farewell t lost peer (end_with t peer).opened)
+
     go : (b : Bool) → flat_map said (but (me t) xs) ≡ flat_map (parting t lost) xs
         → flat_map said (cond (not b) (x ∷ but (me t) xs) (but (me t) xs)) ≡ cond b [] (said x) ++ flat_map (parting t lost) xs
     go true more = more
@@ -89,6 +90,7 @@ nil_chosen p q (x ∷ xs) = go (q x) (nil_chosen p q xs)
         → is_nil (cond b (x ∷ filter p (filter q xs)) (filter p (filter q xs))) ≡ not (b || list_any (λ y. q y && p y) xs)
     taken true same = refl
     taken false same = same
+
     go : (b : Bool) → is_nil (filter p (filter q xs)) ≡ not (list_any (λ y. q y && p y) xs)
         → is_nil (filter p (cond b (x ∷ filter q xs) (filter q xs))) ≡ not ((b && p x) || list_any (λ y. q y && p y) xs)
     go true same = taken (p x) same
