@@ -1,5 +1,5 @@
 //! The candidates of a drop.
-ghost use Rattle.std.specs.Prelude.{◌≡◌, ◌==◌, ℕ, List, filter, not, IfOk};
+ghost use Rattle.std.specs.Prelude.{◌≡◌, ◌∷◌, IfOk};
 ghost use Rattle.std.specs.List.{range_with_len};
 ghost use Rattle.node_model.specs.Evidence.{but, candidates};
 
@@ -39,12 +39,7 @@ pub(crate) fn candidates(
 }
 
 /// The own repository, and then those of these that aren't the target.
-fn own_first(
-    alloc: Global,
-    repo: u32,
-    target: u32,
-    others: &[u32],
-) -> Result<Vec<u32>, NoMemory>
+fn own_first(alloc: Global, repo: u32, target: u32, others: &[u32]) -> Result<Vec<u32>, NoMemory>
     ensures { IfOk result (λ cs. cs.items ≡ repo ∷ but target others.now) }
 {
     let rest = without(alloc, target, others)?;

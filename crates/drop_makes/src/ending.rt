@@ -25,6 +25,7 @@ impl Knowing<'_> {
     ghost use Rattle.node_model.specs.DropStep.{expiry, first_end, lacking_outcome, removal_outcome, removes};
     ghost use Rattle.node_model.specs.JobStep.{clock_of};
     ghost use Rattle.node_model.specs.Jobs.{side_of};
+    ghost use Rattle.state_jobs.specs.Works.{work_of};
     ghost use Rattle.drop_makes.specs.Knowings.{drop_in};
 
     /// Whether it ends, since the first of its locks had ended by this clock.
@@ -74,7 +75,7 @@ impl Knowing<'_> {
     }
 
     fn removal_outcome(&self, alloc: Global) -> Result<Outcome, NoMemory>
-        ensures { IfOk result (λ o. (s : SetUp) (st : State) → o ≡ removal_outcome (side_of (drop_in self.now.turn.now self.now.logs.now s st).w) (drop_in self.now.turn.now self.now.logs.now s st)) }
+        ensures { IfOk result (λ o. (s : SetUp) (st : State) → o ≡ removal_outcome (side_of (work_of self.now.turn.now.work.now)) (drop_in self.now.turn.now self.now.logs.now s st)) }
     {
         let proof = self.proof(alloc)?;
         match self.turn.side() {

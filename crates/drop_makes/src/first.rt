@@ -1,9 +1,10 @@
 //! The first step of a drop.
-ghost use Rattle.std.specs.Prelude.{◌≡◌, filter, list_any, map, max, not, reverse, IfOk};
-ghost use Rattle.std.specs.List.{reduce};
+ghost use Rattle.std.specs.Prelude.{◌≡◌, filter, map, max, not, reverse, IfOk};
+ghost use Rattle.std.specs.List.{list_any, reduce};
 ghost use Rattle.std.specs.Option.{option_copied};
 ghost use Rattle.node_model.specs.DropStep.{row_refusal, until};
 ghost use Rattle.node_model.specs.Rows.{blocks};
+ghost use Rattle.drop_makes.specs.Holds.{until_by};
 
 use crate::gathering::LOCK_TIME;
 use crate::knowing::Knowing;
@@ -77,9 +78,12 @@ impl Knowing<'_> {
     fn fails_to_hold(&self, here: bool, bar: Option<u32>) -> Option<Call>
         ensures { (s : SetUp) (st : State) → result ≡ failing_call (drop_in self.now.turn.now self.now.logs.now s st).look.fails (to_hold here bar) }
     {
-        match (here, bar) {
-            (true, None) => self.turn.fails_of(Call::Has, Call::Hold),
-            _ => self.turn.fails(Call::Has),
+        if !here {
+            return self.turn.fails(Call::Has);
+        }
+        match bar {
+            None => self.turn.fails_of(Call::Has, Call::Hold),
+            Some(_) => self.turn.fails(Call::Has),
         }
     }
 
@@ -89,8 +93,11 @@ impl Knowing<'_> {
             (talk (drop_in self.now.turn.now self.now.logs.now s st)) (by_me (drop_in self.now.turn.now self.now.logs.now s st)) here bar) self.now.turn.now.told.now.kind }
     {
         let turn = self.turn;
-        match (here, bar) {
-            (true, None) => {
+        if !here {
+            return turn.talks();
+        }
+        match bar {
+            None => {
                 let clock = turn.clock(turn.told.time);
                 is_share(
                     &turn.told.kind,
@@ -100,7 +107,7 @@ impl Knowing<'_> {
                     turn.key(),
                 )
             }
-            _ => turn.talks(),
+            Some(_) => turn.talks(),
         }
     }
 
@@ -111,7 +118,8 @@ impl Knowing<'_> {
         let here = self.turn.is_there();
         let bar = self.turn.bar_there();
         let made = self.turn.quietly(self.is_own_share(here, bar), None);
-        self.turn.attempts(self.fails_to_hold(here, bar), None, made)
+        self.turn
+            .attempts(self.fails_to_hold(here, bar), None, made)
     }
 
     fn tries_own(&self, standing: Standing) -> bool
@@ -119,9 +127,8 @@ impl Knowing<'_> {
     {
         match standing {
             Standing::Asked => self.shares(),
-            Standing::Claimed | Standing::Ignored(_) => {
-                self.turn.quietly(self.turn.talks(), None)
-            }
+            Standing::Claimed => self.turn.quietly(self.turn.talks(), None),
+            Standing::Ignored(_) => self.turn.quietly(self.turn.talks(), None),
         }
     }
 
@@ -207,14 +214,18 @@ fn latest(holds: &[Hold], key: &Key, clock: u128) -> Option<u64>
         .max()
 }
 
+fn until_by(endless: bool, latest: Option<u64>) -> Option<Option<u64>>
+    ensures { result ≡ until_by endless latest }
+{
+    match latest {
+        Some(end) => Some(if endless { None } else { Some(end) }),
+        None => None,
+    }
+}
+
 /// Until when holds block a key, of which the oldest stands first: an open one without an end.
 fn held_until(holds: &[Hold], key: &Key, clock: u128) -> Option<Option<u64>>
     ensures { result ≡ until (filter (blocks key.now clock) (reverse holds.now)) }
 {
-    let open = has_open(holds, key, clock);
-    match latest(holds, key, clock) {
-        Some(_) if open => Some(None),
-        Some(end) => Some(Some(end)),
-        None => None,
-    }
+    until_by(has_open(holds, key, clock), latest(holds, key, clock))
 }

@@ -23,6 +23,7 @@ pub struct Item {
 
 impl Model for Item {
     ghost use Rattle.drop_proof.specs.declared.evidence.Evidence.{Evidence};
+    ghost use Rattle.drop_makes.specs.Items.{kind_of};
 
     ghost Value = { Evidence };
 

@@ -92,14 +92,14 @@ impl<'a> Knowing<'a> {
 
     /// Its evidence, as its outcome states it.
     pub(crate) fn proof(&self, alloc: Global) -> Result<Proof, NoMemory>
-        ensures { IfOk result (λ p. (s : SetUp) (st : State) → p ≡ proof_by (drop_in self.now.turn.now self.now.logs.now s st).read (drop_in self.now.turn.now self.now.logs.now s st).w) }
+        ensures { IfOk result (λ p. p ≡ proof_by (reading_in self.now.turn.now self.now.logs.now) (work_of self.now.turn.now.work.now)) }
     {
         proof(alloc, self.turn.count(), self.logs.need(), &self.items)
     }
 
     /// The candidates that gave nothing, each with its cause.
     pub(crate) fn causes(&self, alloc: Global) -> Result<Vec<CandidateCause>, NoMemory>
-        ensures { IfOk result (λ causes. (s : SetUp) (st : State) → causes.items ≡ causes_by (drop_in self.now.turn.now self.now.logs.now s st).read (word_in self.now.turn.now.words.now) (drop_in self.now.turn.now self.now.logs.now s st).w) }
+        ensures { IfOk result (λ causes. causes.items ≡ causes_by (reading_in self.now.turn.now self.now.logs.now) (word_in self.now.turn.now.words.now) (work_of self.now.turn.now.work.now)) }
     {
         failures(alloc, self.turn, self.logs, &self.candidates)
     }

@@ -43,9 +43,11 @@ fn has_item(items: &[Item], repo: u32, sort: Sort) -> bool
 fn repos_of(alloc: Global, count: u32, items: &[Item], sort: Sort) -> Result<Vec<u32>, NoMemory>
     ensures { IfOk result (λ repos. repos.items ≡ repos_of (test_of sort) count items.now) }
 {
-    Ok((0..count)
-        .filter(|repo| has_item(items, *repo, sort))
-        .collect(alloc)?)
+    Ok(
+        (0..count)
+            .filter(|repo| has_item(items, *repo, sort))
+            .collect(alloc)?,
+    )
 }
 
 /// The evidence as an outcome states it.

@@ -1,3 +1,3 @@
 -- The lemmas of this crate.
-mod TurnLemmas
+mod SayingLemmas
 mod PartingLemmas

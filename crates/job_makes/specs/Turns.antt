@@ -44,9 +44,9 @@ turn_in x s st =
     turn_of (set_up_in x s) (state_in x st) (look_of (state_in x st) (word_in x.words.now) x.told.now) (work_of x.work.now)
 
 -- the data are these
-pub record IsGiven (x : Turn) (repos : List RepoView) (state : RepoState) (work : Work) (words : List (Option Word)) (told : Entry) : Type 0 where
-  pub repos : x.repos.now ≡ repos
-  pub state : x.state.now ≡ state
-  pub work : x.work.now ≡ work
-  pub words : x.words.now ≡ words
-  pub told : x.told.now ≡ told
+pub record IsGiven (x : Turn) (all : List RepoView) (here : RepoState) (w : Work) (told_words : List (Option Word)) (e : Entry) : Type 0 where
+  pub repos : x.repos.now ≡ all
+  pub state : x.state.now ≡ here
+  pub work : x.work.now ≡ w
+  pub words : x.words.now ≡ told_words
+  pub told : x.told.now ≡ e

@@ -76,7 +76,10 @@ fn fails_at_one(kind: &EntryKind, first: Call, second: Call) -> Option<Call>
     ensures { result ≡ failing_call (failed_call kind.now) (first ∷ second ∷ []) }
 {
     match failed_call(kind) {
-        Some(failed) => failed_if(failed, same_call(failed, first) || same_call(failed, second)),
+        Some(failed) => failed_if(
+            failed,
+            same_call(failed, first) || same_call(failed, second),
+        ),
         None => None,
     }
 }

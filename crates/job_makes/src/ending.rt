@@ -1,5 +1,5 @@
 //! Whether an entry tells that a job ends.
-ghost use Rattle.std.specs.Prelude.{◌≡◌, ◌++◌, ◌&&◌, not, length, option_map};
+ghost use Rattle.std.specs.Prelude.{◌≡◌, ◌&&◌, not, length, option_map};
 ghost use Rattle.std.specs.List.{list_any, range_with_len};
 ghost use Rattle.std.specs.Option.{option_copied};
 ghost use Rattle.node_model.specs.Calls.{to_release};
@@ -21,17 +21,21 @@ use step_effects::{
 };
 
 impl Turn<'_> {
-    ghost use Rattle.std.specs.Prelude.{List};
+    ghost use Rattle.std.specs.Prelude.{◌++◌, List};
     ghost use Rattle.run_data.specs.declared.entry.EntryKind.TheVariants.{End};
     ghost use Rattle.run_data.specs.declared.entry.FrameView.{FrameView};
     ghost use Rattle.run_data.specs.declared.job.Outcome.{Outcome};
+    ghost use Rattle.node_model.specs.Ends.{frames};
+    ghost use Rattle.node_model.specs.Jobs.{job_end};
     ghost use Rattle.node_model.specs.JobStep.{end_needs, ends, farewells, locked_peers, owns_share};
     ghost use Rattle.node_model.specs.SetUp.{SetUp};
     ghost use Rattle.node_model.specs.State.{State};
+    ghost use Rattle.state_ends.specs.Ends.{end_of};
+    ghost use Rattle.state_jobs.specs.Works.{work_of};
     ghost use Rattle.step_judging.specs.Rules.{effect_of, is_nil};
     ghost use Rattle.step_judging.specs.Same.{same_effect, same_frames, same_kind};
     ghost use Rattle.step_effects.specs.Sendings.{rest_told};
-    ghost use Rattle.job_makes.specs.Partings.{parting};
+    ghost use Rattle.job_makes.specs.Partings.{closing, parting};
     ghost use Rattle.job_makes.specs.Turns.{turn_in};
 
     /// The outcome with which the job ends, if the entry is its end.
@@ -52,7 +56,7 @@ impl Turn<'_> {
     fn unreleased(&self, lost: bool) -> Option<Call>
         ensures { (s : SetUp) (st : State) → result ≡ failing_call (turn_in self.now s st).look.fails (to_release (owns_share (turn_in self.now s st) && not lost)) }
     {
-        fails_to_release(&self.told.kind, self.owns_share() && !lost)
+        fails_to_release(&self.told.kind, self.owns_share(), lost)
     }
 
     /// Whether a peer gave the job a lock.
@@ -60,6 +64,25 @@ impl Turn<'_> {
         ensures { result ≡ lock_in self.now peer }
     {
         is_held(self.heard(peer))
+    }
+
+    /// What is left of sent frames after those by which the job closes its connection with a peer, if they are these: it gives back
+    /// a lock that it has, unless the answer to an order was lost.
+    fn past_closing<'b>(
+        &self,
+        peer: u32,
+        locked: bool,
+        lost: bool,
+        sent: &'b [FrameView],
+    ) -> Option<&'b [FrameView]>
+        ensures { (more : List FrameView) → same_frames (frames (job_end (work_of self.now.work.now) peer) (end_of self.now.ends.now (job_end (work_of self.now.work.now) peer)) (closing (locked && not lost) self.now.work.now.what.key) ++ more) sent.now ≡ rest_told more (option_copied result) }
+    {
+        let at = self.at(peer);
+        if locked && !lost {
+            past_unlock(at, &self.work.what.key, sent)
+        } else {
+            past_close(at, sent)
+        }
     }
 
     /// What is left of sent frames after those by which the job parts from a repository, if they are these.
@@ -71,14 +94,14 @@ impl Turn<'_> {
     ) -> Option<&'b [FrameView]>
         ensures { (s : SetUp) (st : State) (more : List FrameView) → same_frames (parting (turn_in self.now s st) lost peer ++ more) sent.now ≡ rest_told more (option_copied result) }
     {
-        if peer == self.repo || !self.is_open(peer) {
+        if peer == self.repo {
             return Some(sent);
         }
-        if self.has_lock(peer) && !lost {
-            past_unlock(self.at(peer), &self.work.what.key, sent)
-        } else {
-            past_close(self.at(peer), sent)
+        if !self.is_open(peer) {
+            return Some(sent);
         }
+        let locked = self.has_lock(peer);
+        self.past_closing(peer, locked, lost, sent)
     }
 
     /// Whether the frames that are sent are those by which the job parts from all peers.
@@ -170,13 +193,13 @@ fn owns_open(holds: &[Hold], owner: By) -> bool
         .any(|hold| same_owner(hold.owner, owner) && !hold.kept)
 }
 
-/// The release of a share that failed, if it is made.
-fn fails_to_release(kind: &EntryKind, made: bool) -> Option<Call>
-    ensures { result ≡ failing_call (failed_call kind.now) (to_release made) }
+/// The release of an own share that failed, where it is made: unless the answer to an order was lost.
+fn fails_to_release(kind: &EntryKind, owns: bool, lost: bool) -> Option<Call>
+    ensures { result ≡ failing_call (failed_call kind.now) (to_release (owns && not lost)) }
 {
-    match (failed_call(kind), made) {
-        (Some(failed), true) => failed_if(failed, same_call(failed, Call::Unhold)),
-        (Some(_), false) | (None, _) => None,
+    match (failed_call(kind), owns, lost) {
+        (Some(failed), true, false) => failed_if(failed, same_call(failed, Call::Unhold)),
+        _ => None,
     }
 }
 

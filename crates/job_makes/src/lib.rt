@@ -5,5 +5,6 @@ mod calls;
 mod ending;
 mod saying;
 mod turn;
+mod words;
 
 pub use turn::Turn;

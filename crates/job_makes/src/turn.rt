@@ -2,8 +2,8 @@
 ghost use Rattle.std.specs.Prelude.{◌≡◌, ◌<◌, ◌+◌, ◌^◌, ◌==◌, find, length, option_map, reverse};
 ghost use Rattle.node_model.specs.Jobs.{drop_side, or_own};
 ghost use Rattle.step_state.specs.States.{made_of};
-ghost use Rattle.job_makes.specs.Turns.{word_in};
 
+use crate::words::word_in;
 use annex_base::Word;
 use annex_key::Key;
 use drop_proof::Side;
@@ -43,7 +43,7 @@ impl<'a> Turn<'a> {
     ghost use Rattle.state_jobs.specs.Works.{work_of};
     ghost use Rattle.step_effects.specs.Sendings.{name_of};
     ghost use Rattle.step_state.specs.States.{IsStateOf, clock_of};
-    ghost use Rattle.job_makes.specs.Turns.{IsGiven, set_up_in, state_in, turn_in};
+    ghost use Rattle.job_makes.specs.Turns.{IsGiven, set_up_in, state_in, turn_in, word_in};
 
     /// The turn of a job of the repository that has this state, where these words stand beside the answers that it took.
     pub fn new(
@@ -180,15 +180,6 @@ fn heard_last(heard: &[(u32, Heard)], repo: u32) -> Option<Heard>
 {
     match heard.iter().rev().find(|x| x.0 == repo) {
         Some(x) => Some(x.1),
-        None => None,
-    }
-}
-
-fn word_in(words: &[Option<Word>], repo: u32) -> Option<Word>
-    ensures { result ≡ word_in words.now repo }
-{
-    match words.get(repo as usize) {
-        Some(word) => *word,
         None => None,
     }
 }

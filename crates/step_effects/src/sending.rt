@@ -5,14 +5,14 @@ ghost use Rattle.annex_base.specs.Bools.{same_bool};
 ghost use Rattle.run_data.specs.declared.entry.FrameText.TheVariants as texts;
 ghost use Rattle.run_data.specs.declared.entry.FrameView.{FrameView};
 ghost use Rattle.p2p_wire.specs.Messages.{order_of, text_of};
-ghost use Rattle.p2p_wire.specs.declared.message.Message.TheVariants.{Timestamp, UnlockContent};
+ghost use Rattle.p2p_wire.specs.declared.message.Message.TheVariants.{Error, Timestamp, UnlockContent};
 ghost use Rattle.node_model.specs.Ends.{frames};
 ghost use Rattle.step_judging.specs.Same.{same_body, same_frame, same_frames};
 ghost use Rattle.step_effects.specs.Sendings.{frame_told, name_of, rest_told, second_close};
 
 use crate::frames::{is_bytes, says_nothing};
 use crate::names::same_bool;
-use crate::texts::{is_order, is_text, is_time, is_unlock};
+use crate::texts::{is_error, is_order, is_text, is_time, is_unlock};
 use annex_key::Key;
 use p2p_wire::Message;
 use run_data::{FrameText, FrameView};
@@ -134,6 +134,15 @@ fn is_unlock_line(body: &FrameText, key: &Key) -> bool
     }
 }
 
+fn is_error_line(body: &FrameText, error: &[u8]) -> bool
+    ensures { result ≡ same_body (texts.Line (text_of (Error error.now))) body.now }
+{
+    match body {
+        FrameText::Line(text) => is_error(text.bytes(), error),
+        _ => false,
+    }
+}
+
 /// The frame, if it is the only one.
 fn only(sent: &[FrameView]) -> Option<&FrameView>
     ensures { (frame : FrameView) → same_frames (frame ∷ []) sent.now ≡ frame_told frame (option_copied result) }
@@ -190,6 +199,16 @@ pub fn says(at: EndAt, message: &Message, sent: &[FrameView]) -> bool
     }
 }
 
+/// Whether the frame that is sent says the error.
+pub fn says_error(at: EndAt, error: &[u8], sent: &[FrameView]) -> bool
+    ensures { result ≡ same_frames (frames (name_of at) at.was (texts.Line (text_of (Error error.now)) ∷ [])) sent.now }
+{
+    match only(sent) {
+        Some(frame) => is_next(&at, frame) && is_error_line(&frame.body, error),
+        None => false,
+    }
+}
+
 /// Whether the frame that is sent tells a time, in seconds.
 pub fn says_time(at: EndAt, time: u128, sent: &[FrameView]) -> bool
     ensures { result ≡ same_frames (frames (name_of at) at.was (texts.Line (text_of (Timestamp time)) ∷ [])) sent.now }
@@ -226,13 +245,15 @@ fn only_closes_second(at: &EndAt, sent: &[FrameView]) -> bool
     }
 }
 
-/// Whether the two frames that are sent say the message and close the connection.
-pub fn says_and_closes(at: EndAt, message: &Message, sent: &[FrameView]) -> bool
-    ensures { result ≡ same_frames (frames (name_of at) at.was (texts.Line (text_of message.now) ∷ texts.Closing ∷ [])) sent.now }
+/// Whether the two frames that are sent say the error and close the connection.
+pub fn says_error_and_closes(at: EndAt, error: &[u8], sent: &[FrameView]) -> bool
+    ensures { result ≡ same_frames (frames (name_of at) at.was (texts.Line (text_of (Error error.now)) ∷ texts.Closing ∷ [])) sent.now }
 {
     match sent.split_first() {
         Some((frame, rest)) => {
-            is_next(&at, frame) && is_line(&frame.body, message) && only_closes_second(&at, rest)
+            is_next(&at, frame)
+                && is_error_line(&frame.body, error)
+                && only_closes_second(&at, rest)
         }
         None => false,
     }

@@ -4,7 +4,7 @@ ghost use Rattle.std.specs.Fmt.{decimal};
 ghost use Rattle.std.specs.Option.{option_copied};
 ghost use Rattle.std.specs.declared.option.Option.{Option};
 ghost use Rattle.p2p_wire.specs.Messages.{◌⊳◌, order_of, text_of};
-ghost use Rattle.p2p_wire.specs.declared.message.Message.TheVariants.{Get, Put, RemoveBefore, Timestamp, UnlockContent};
+ghost use Rattle.p2p_wire.specs.declared.message.Message.TheVariants.{Error, Get, Put, RemoveBefore, Timestamp, UnlockContent};
 ghost use Rattle.step_effects.specs.Texts.{is_rest};
 
 use annex_key::Key;
@@ -144,6 +144,13 @@ pub(crate) fn is_unlock(text: &[u8], key: &Key) -> bool
     is_words(text, b"UNLOCKCONTENT", key.text())
 }
 
+/// Whether the text is that of an error.
+pub(crate) fn is_error(text: &[u8], error: &[u8]) -> bool
+    ensures { result ≡ bytes_eq (text_of (Error error.now)) text.now }
+{
+    is_words(text, b"ERROR", error)
+}
+
 /// Whether the text is the line of the message.
 pub(crate) fn is_text(text: &[u8], message: &Message) -> bool
     ensures { result ≡ bytes_eq (text_of message.now) text.now }
@@ -167,6 +174,6 @@ pub(crate) fn is_text(text: &[u8], message: &Message) -> bool
         Message::Invalid => same(text, b"INVALID"),
         Message::Success => same(text, b"SUCCESS"),
         Message::Failure => same(text, b"FAILURE"),
-        Message::Error(error) => is_words(text, b"ERROR", error.bytes()),
+        Message::Error(error) => is_error(text, error.bytes()),
     }
 }

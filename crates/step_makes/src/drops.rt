@@ -22,8 +22,7 @@ fn drop_goes_to(known: &Knowing, peer: u32) -> Result<bool, NoMemory>
 {
     let turn = known.turn;
     if turn.is_open(peer) {
-        let told = known.asks_copy(turn.work.version, None, peer)?;
-        Ok(told)
+        known.asks_copy(turn.work.version, None, peer)
     } else {
         Ok(turn.opens_to(peer))
     }
@@ -37,10 +36,7 @@ fn acts(known: &Knowing) -> Result<bool, NoMemory>
     let turn = known.turn;
     match turn.side() {
         Side::Local => Ok(known.removes()),
-        Side::Remote => {
-            let told = drop_goes_to(known, turn.target())?;
-            Ok(told)
-        }
+        Side::Remote => drop_goes_to(known, turn.target()),
     }
 }
 
@@ -50,14 +46,8 @@ fn asks_next(alloc: Global, known: &Knowing, next: Option<u32>) -> Result<bool, 
     ensures { IfOk result (λ b. (s : SetUp) (st : State) → b ≡ same_effect (judges (drop_in known.now.turn.now known.now.logs.now s st) false next (side_of (drop_in known.now.turn.now known.now.logs.now s st).w)) (effect_of known.now.turn.now.told.now)) }
 {
     match next {
-        Some(peer) => {
-            let told = drop_goes_to(known, peer)?;
-            Ok(told)
-        }
-        None => {
-            let told = known.lacks(alloc)?;
-            Ok(told)
-        }
+        Some(peer) => drop_goes_to(known, peer),
+        None => known.lacks(alloc),
     }
 }
 
@@ -67,10 +57,8 @@ pub(crate) fn judges(alloc: Global, known: &Knowing) -> Result<bool, NoMemory>
     ensures { IfOk result (λ b. (s : SetUp) (st : State) → b ≡ same_effect (next_step (drop_in known.now.turn.now known.now.logs.now s st) Drops) (effect_of known.now.turn.now.told.now)) }
 {
     if known.enough() {
-        let told = acts(known)?;
-        Ok(told)
+        acts(known)
     } else {
-        let told = asks_next(alloc, known, known.next())?;
-        Ok(told)
+        asks_next(alloc, known, known.next())
     }
 }

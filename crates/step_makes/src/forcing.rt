@@ -1,11 +1,11 @@
 //! Whether a job has a step whatever is at hand and wherever there is room.
-ghost use Rattle.std.specs.Prelude.{◌≡◌, ℕ, true, false, None, Some};
+ghost use Rattle.std.specs.Prelude.{◌≡◌, ◌&&◌, nat_lt, option_to_list, true, false};
 ghost use Rattle.std.specs.Option.{option_copied};
 ghost use Rattle.node_model.specs.DropStep.{first_end};
 ghost use Rattle.drop_proof.specs.declared.rule.Side.TheVariants.{Local};
 ghost use Rattle.node_model.specs.JobStep as steps;
 ghost use Rattle.node_model.specs.JobStep.{end_needs};
-ghost use Rattle.node_model.specs.Jobs.{Drops, Gets, partner, side_of};
+ghost use Rattle.node_model.specs.Jobs.{Drops, partner, side_of};
 ghost use Rattle.node_model.specs.Knows.{next_by};
 ghost use Rattle.node_model.specs.Rows.{is_lost_ordered};
 ghost use Rattle.node_model.specs.SetUp.{SetUp};
@@ -25,10 +25,10 @@ use job_makes::Turn;
 use state_jobs::{Ending, Part, Phase};
 use transfer_makes::next_source;
 
-fn has_no_source(turn: &Turn) -> bool
-    ensures { (s : SetUp) (st : State) → result ≡ is_nil (peer_needs (turn_in turn.now s st) Gets) }
+fn lists_none(peer: Option<u32>) -> bool
+    ensures { result ≡ is_nil (option_to_list peer) }
 {
-    next_source(turn).is_none()
+    peer.is_none()
 }
 
 /// The first step of this part needs no room.
@@ -36,16 +36,29 @@ fn needs_no_peer(turn: &Turn, part: Part) -> bool
     ensures { (s : SetUp) (st : State) → result ≡ is_nil (peer_needs (turn_in turn.now s st) (part_of part)) }
 {
     match part {
-        Part::Gets => has_no_source(turn),
-        Part::Puts => turn.work.what.peer.is_none(),
+        Part::Gets => lists_none(next_source(turn)),
+        Part::Puts => lists_none(turn.work.what.peer),
         Part::Drops => true,
     }
 }
 
-fn is_too_old(turn: &Turn) -> bool
-    ensures { (s : SetUp) (st : State) (end : ℕ) → result ≡ is_nil (target_needs (turn_in turn.now s st) (Some end)) }
+fn is_old(version: u64) -> bool
+    ensures { result ≡ nat_lt version 3 }
 {
-    turn.is_open(turn.target()) && turn.work.version < 3
+    version < 3
+}
+
+fn both(one: bool, other: bool) -> bool
+    ensures { result ≡ (one && other) }
+{
+    one && other
+}
+
+/// The target is open, and its version too old for a deadline.
+fn is_too_old(turn: &Turn, end: u128) -> bool
+    ensures { (s : SetUp) (st : State) → result ≡ is_nil (target_needs (turn_in turn.now s st) (Some end)) }
+{
+    both(turn.is_open(turn.target()), is_old(turn.work.version))
 }
 
 /// The target of the drop is asked nothing: there is a lock, and its version is too old for a deadline.
@@ -53,7 +66,7 @@ fn needs_no_target(known: &Knowing) -> bool
     ensures { (s : SetUp) (st : State) → result ≡ is_nil (target_needs (drop_in known.now.turn.now known.now.logs.now s st) (first_end (drop_in known.now.turn.now known.now.logs.now s st))) }
 {
     match known.first_end() {
-        Some(_) => is_too_old(known.turn),
+        Some(end) => is_too_old(known.turn, end),
         None => false,
     }
 }
@@ -61,7 +74,11 @@ fn needs_no_target(known: &Knowing) -> bool
 fn removes_freely(known: &Knowing) -> bool
     ensures { (s : SetUp) (st : State) → result ≡ is_nil (judge_needs (drop_in known.now.turn.now known.now.logs.now s st) true None Local) }
 {
-    known.in_time() || known.turn.owes_none()
+    if known.in_time() {
+        true
+    } else {
+        known.turn.owes_none()
+    }
 }
 
 fn acts_freely(known: &Knowing) -> bool
@@ -76,7 +93,11 @@ fn acts_freely(known: &Knowing) -> bool
 fn lacks_freely(known: &Knowing) -> bool
     ensures { (s : SetUp) (st : State) → result ≡ is_nil (judge_needs (drop_in known.now.turn.now known.now.logs.now s st) false (next_by (drop_in known.now.turn.now known.now.logs.now s st).read (drop_in known.now.turn.now known.now.logs.now s st).w) (side_of (drop_in known.now.turn.now known.now.logs.now s st).w)) }
 {
-    known.next().is_none() && known.turn.owes_none()
+    if lists_none(known.next()) {
+        known.turn.owes_none()
+    } else {
+        false
+    }
 }
 
 /// A drop that judges needs no room.
@@ -90,16 +111,27 @@ fn judges_freely(known: &Knowing) -> bool
     }
 }
 
+/// By what a drop judges.
+fn judging_by<'b>(turn: &Turn, judging: Option<&'b Knowing<'b>>) -> &'b Knowing<'b>
+    requires judge { CanJudge turn.now (option_copied judging) }
+    requires part { turn.now.work.now.part ≡ Part.Drops }
+    requires phase { turn.now.work.now.phase ≡ Phase.Next }
+    ensures { option_copied judging.entry ≡ Some result.now }
+{
+    match judging {
+        Some(known) => known,
+        None => unreachable!(),
+    }
+}
+
 fn drop_goes_freely(turn: &Turn, judging: Option<&Knowing>) -> bool
     requires judge { CanJudge turn.now (option_copied judging) }
     requires part { turn.now.work.now.part ≡ Part.Drops }
     requires phase { turn.now.work.now.phase ≡ Phase.Next }
     ensures { (s : SetUp) (st : State) → IsReadBy turn.now (option_copied judging.entry) s st → result ≡ is_nil (next_needs (turn_in turn.now s st) (part_of turn.now.work.now.part)) }
 {
-    match judging {
-        Some(known) => judges_freely(known),
-        None => unreachable!(),
-    }
+    let known = judging_by(turn, judging);
+    judges_freely(known)
 }
 
 fn goes_freely(turn: &Turn, judging: Option<&Knowing>) -> bool
@@ -109,7 +141,7 @@ fn goes_freely(turn: &Turn, judging: Option<&Knowing>) -> bool
 {
     match turn.work.part {
         Part::Drops => drop_goes_freely(turn, judging),
-        part => needs_no_peer(turn, part),
+        _ => needs_no_peer(turn, turn.work.part),
     }
 }
 
@@ -147,7 +179,8 @@ fn needs_none(turn: &Turn, judging: Option<&Knowing>) -> bool
     match turn.work.phase {
         Phase::Fresh => needs_no_peer(turn, turn.work.part),
         Phase::Next => goes_freely(turn, judging),
-        Phase::PutsBytes { .. } | Phase::PutsWord { .. } => false,
+        Phase::PutsBytes { .. } => false,
+        Phase::PutsWord { .. } => false,
         _ => ends_freely(turn),
     }
 }

@@ -1,7 +1,7 @@
 //! What the step of a job knows of the logs.
 ghost use Rattle.std.specs.Prelude.{◌≡◌, true, Some};
 ghost use Rattle.std.specs.Option.{option_copied};
-ghost use Rattle.node_model.specs.Jobs.{partner};
+ghost use Rattle.node_model.specs.Jobs.{Drops, Gets, partner};
 ghost use Rattle.state_jobs.specs.Phases.{part_of, phase_of};
 ghost use Rattle.step_makes.specs.Knowledge.{KnowsEnough, is_judging, reads_logs};
 
@@ -9,24 +9,37 @@ use drop_makes::Knowing;
 use job_makes::Turn;
 use state_jobs::{Part, Phase};
 
+fn ends_by_logs(phase: Phase) -> bool
+    ensures { result ≡ reads_logs Gets (phase_of phase) }
+{
+    matches!(phase, Phase::Removed | Phase::Late { .. })
+}
+
 /// Whether the step of a job that is at this reads the logs.
 pub(crate) fn reads_logs(part: Part, phase: Phase) -> bool
     ensures { result ≡ reads_logs (part_of part) (phase_of phase) }
 {
-    match (part, phase) {
-        (Part::Drops, _) => true,
-        (_, Phase::Removed | Phase::Late { .. }) => true,
-        _ => false,
+    match part {
+        Part::Gets => ends_by_logs(phase),
+        Part::Puts => ends_by_logs(phase),
+        Part::Drops => true,
     }
+}
+
+fn is_next(phase: Phase) -> bool
+    ensures { result ≡ is_judging Drops (phase_of phase) }
+{
+    matches!(phase, Phase::Next)
 }
 
 /// Whether it judges by them where it needs room.
 pub(crate) fn is_judging(part: Part, phase: Phase) -> bool
     ensures { result ≡ is_judging (part_of part) (phase_of phase) }
 {
-    match (part, phase) {
-        (Part::Drops, Phase::Next) => true,
-        _ => false,
+    match part {
+        Part::Gets => false,
+        Part::Puts => false,
+        Part::Drops => is_next(phase),
     }
 }
 

@@ -62,8 +62,7 @@ fn lacking(
     let id = id_of(repos, line.repo);
     let stamp = stamp_at(clock);
     let text = status_line(alloc, branch, path, id, line.there, stamp)?;
-    let set = if_new(alloc, branch, path, text.bytes())?;
-    Ok(set)
+    if_new(alloc, branch, path, text.bytes())
 }
 
 /// The lines of its key's log that the line is due at this clock.
@@ -79,8 +78,7 @@ fn due(
     ensures { IfOk result (λ set. set ≡ due repos.now (lines_at branch.now) clock line.now) }
 {
     let path = location_path(alloc, &line.key)?;
-    let set = lacking(alloc, repos, branch, clock, line, path.bytes())?;
-    Ok(set)
+    lacking(alloc, repos, branch, clock, line, path.bytes())
 }
 
 /// The file couldn't be written.
@@ -143,9 +141,6 @@ pub(crate) fn pays_first(
 {
     match failing_put(&told.kind) {
         Some(call) => Ok(fails_to_pay(call, line, told)),
-        None => {
-            let paid = pays(alloc, repos, state, line, told)?;
-            Ok(paid)
-        }
+        None => pays(alloc, repos, state, line, told),
     }
 }

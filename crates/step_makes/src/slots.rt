@@ -36,8 +36,16 @@ fn step_by_logs(alloc: Global, turn: &Turn, logs: &KnownLogs) -> Result<bool, No
     // A law, for the proof: the turn of a drop that has read this is the turn.
     readings_are_kept();
     let known = Knowing::new(alloc, turn, logs)?;
-    let told = by_partner(alloc, turn, Some(&known))?;
-    Ok(told)
+    by_partner(alloc, turn, Some(&known))
+}
+
+/// The step of a job that reads the logs now.
+fn step_anew(alloc: Global, turn: &Turn, paths: &[Text]) -> Result<bool, NoMemory>
+    ensures { IfOk result (λ b. (s : SetUp) (st : State) → IsTurnOf turn.now s st → HasRoom turn.now → st.read turn.now.work.now.number ≡ st.logs → s.paths turn.now.work.now.number ≡ paths.now
+        → b ≡ is_effect (by_partner (turn_in turn.now s st) (partner turn.now.work.now.what.peer (phase_of turn.now.work.now.phase))) (effect_of turn.now.told.now)) }
+{
+    let logs = turn.state.logs_now(alloc, paths, turn.work)?;
+    step_by_logs(alloc, turn, &logs)
 }
 
 /// The step of a job that reads the logs: what it has read of them, or else reads now.
@@ -47,15 +55,8 @@ fn step_with_logs(alloc: Global, turn: &Turn, paths: &[Text]) -> Result<bool, No
 {
     let reads = turn.state.reads();
     match reads.reading(turn.work.number) {
-        Some(logs) => {
-            let told = step_by_logs(alloc, turn, logs)?;
-            Ok(told)
-        }
-        None => {
-            let logs = turn.state.logs_now(alloc, paths, turn.work)?;
-            let told = step_by_logs(alloc, turn, &logs)?;
-            Ok(told)
-        }
+        Some(logs) => step_by_logs(alloc, turn, logs),
+        None => step_anew(alloc, turn, paths),
     }
 }
 
@@ -65,15 +66,24 @@ fn step_of(alloc: Global, turn: &Turn, paths: &[Text]) -> Result<bool, NoMemory>
         → b ≡ is_effect (by_partner (turn_in turn.now s st) (partner turn.now.work.now.what.peer (phase_of turn.now.work.now.phase))) (effect_of turn.now.told.now)) }
 {
     if reads_logs(turn.work.part, turn.work.phase) {
-        let told = step_with_logs(alloc, turn, paths)?;
-        Ok(told)
+        step_with_logs(alloc, turn, paths)
     } else {
-        let told = by_partner(alloc, turn, None)?;
-        Ok(told)
+        by_partner(alloc, turn, None)
     }
 }
 
 // ---- the jobs of earlier slots
+
+/// A job that has read this of the logs has a step whatever is at hand.
+fn forced_by_logs(alloc: Global, turn: &Turn, logs: &KnownLogs) -> Result<bool, NoMemory>
+    ensures { IfOk result (λ b. (s : SetUp) (st : State) → AreLogsRead (st.read turn.now.work.now.number) (set_up_in turn.now s) (work_of turn.now.work.now) logs.now
+        → b ≡ is_forced (turn_in turn.now s st) (partner turn.now.work.now.what.peer (phase_of turn.now.work.now.phase))) }
+{
+    // A law, for the proof: the turn of a drop that has read this is the turn.
+    readings_are_kept();
+    let known = Knowing::new(alloc, turn, logs)?;
+    Ok(is_forced(turn, Some(&known)))
+}
 
 /// A job that judges has a step whatever is at hand.
 fn judges_forced(alloc: Global, turn: &Turn) -> Result<bool, NoMemory>
@@ -81,14 +91,9 @@ fn judges_forced(alloc: Global, turn: &Turn) -> Result<bool, NoMemory>
     ensures { IfOk result (λ b. (s : SetUp) (st : State) → IsTurnOf turn.now s st → IsOnly st.works (work_of turn.now.work.now)
         → b ≡ is_forced (turn_in turn.now s st) (partner turn.now.work.now.what.peer (phase_of turn.now.work.now.phase))) }
 {
-    // A law, for the proof: the turn of a drop that has read this is the turn.
-    readings_are_kept();
     let reads = turn.state.reads();
     match reads.reading(turn.work.number) {
-        Some(logs) => {
-            let known = Knowing::new(alloc, turn, logs)?;
-            Ok(is_forced(turn, Some(&known)))
-        }
+        Some(logs) => forced_by_logs(alloc, turn, logs),
         // For the proof: a drop that judges has read the logs.
         None => Ok(false),
     }
@@ -100,8 +105,7 @@ fn job_forced(alloc: Global, turn: &Turn) -> Result<bool, NoMemory>
         → b ≡ is_forced (turn_in turn.now s st) (partner turn.now.work.now.what.peer (phase_of turn.now.work.now.phase))) }
 {
     if is_judging(turn.work.part, turn.work.phase) {
-        let forced = judges_forced(alloc, turn)?;
-        Ok(forced)
+        judges_forced(alloc, turn)
     } else {
         Ok(is_forced(turn, None))
     }
@@ -128,8 +132,7 @@ fn slot_forced(alloc: Global, turn: &Turn, slot: u32) -> Result<bool, NoMemory>
     match work_in(turn.jobs.running(), slot) {
         Some(work) => {
             let own = Turn::new(turn.repos, turn.state, work, turn.words, turn.told);
-            let forced = job_forced(alloc, &own)?;
-            Ok(forced)
+            job_forced(alloc, &own)
         }
         None => Ok(false),
     }
@@ -141,9 +144,9 @@ fn told_in_last(alloc: Global, turn: &Turn, paths: &[Text]) -> Result<bool, NoMe
     ensures { IfOk result (λ b. (s : SetUp) (st : State) → IsTurnOf turn.now s st → HasRoom turn.now → AreAlone st.works → IsOnly st.works (work_of turn.now.work.now) → s.paths turn.now.work.now.number ≡ paths.now
         → b ≡ told_in s st (look_of st (word_in turn.now.words.now) turn.now.told.now) (work_of turn.now.work.now) (effect_of turn.now.told.now) (3 ∷ [])) }
 {
-    if turn.work.slot == 3 {
-        let told = step_of(alloc, turn, paths)?;
-        Ok(told)
+    let slot = turn.work.slot;
+    if slot == 3 {
+        step_of(alloc, turn, paths)
     } else {
         Ok(false)
     }
@@ -153,16 +156,15 @@ fn told_from_third(alloc: Global, turn: &Turn, paths: &[Text]) -> Result<bool, N
     ensures { IfOk result (λ b. (s : SetUp) (st : State) → IsTurnOf turn.now s st → HasRoom turn.now → AreAlone st.works → IsOnly st.works (work_of turn.now.work.now) → s.paths turn.now.work.now.number ≡ paths.now
         → b ≡ told_in s st (look_of st (word_in turn.now.words.now) turn.now.told.now) (work_of turn.now.work.now) (effect_of turn.now.told.now) (2 ∷ 3 ∷ [])) }
 {
-    if turn.work.slot == 2 {
-        let told = step_of(alloc, turn, paths)?;
-        return Ok(told);
+    let slot = turn.work.slot;
+    if slot == 2 {
+        return step_of(alloc, turn, paths);
     }
     let forced = slot_forced(alloc, turn, 2)?;
     if forced {
         Ok(false)
     } else {
-        let told = told_in_last(alloc, turn, paths)?;
-        Ok(told)
+        told_in_last(alloc, turn, paths)
     }
 }
 
@@ -170,16 +172,15 @@ fn told_from_second(alloc: Global, turn: &Turn, paths: &[Text]) -> Result<bool, 
     ensures { IfOk result (λ b. (s : SetUp) (st : State) → IsTurnOf turn.now s st → HasRoom turn.now → AreAlone st.works → IsOnly st.works (work_of turn.now.work.now) → s.paths turn.now.work.now.number ≡ paths.now
         → b ≡ told_in s st (look_of st (word_in turn.now.words.now) turn.now.told.now) (work_of turn.now.work.now) (effect_of turn.now.told.now) (1 ∷ 2 ∷ 3 ∷ [])) }
 {
-    if turn.work.slot == 1 {
-        let told = step_of(alloc, turn, paths)?;
-        return Ok(told);
+    let slot = turn.work.slot;
+    if slot == 1 {
+        return step_of(alloc, turn, paths);
     }
     let forced = slot_forced(alloc, turn, 1)?;
     if forced {
         Ok(false)
     } else {
-        let told = told_from_third(alloc, turn, paths)?;
-        Ok(told)
+        told_from_third(alloc, turn, paths)
     }
 }
 
@@ -188,15 +189,14 @@ pub(crate) fn told_in(alloc: Global, turn: &Turn, paths: &[Text]) -> Result<bool
     ensures { IfOk result (λ b. (s : SetUp) (st : State) → IsTurnOf turn.now s st → HasRoom turn.now → AreAlone st.works → IsOnly st.works (work_of turn.now.work.now) → s.paths turn.now.work.now.number ≡ paths.now
         → b ≡ told_in s st (look_of st (word_in turn.now.words.now) turn.now.told.now) (work_of turn.now.work.now) (effect_of turn.now.told.now) slots) }
 {
-    if turn.work.slot == 0 {
-        let told = step_of(alloc, turn, paths)?;
-        return Ok(told);
+    let slot = turn.work.slot;
+    if slot == 0 {
+        return step_of(alloc, turn, paths);
     }
     let forced = slot_forced(alloc, turn, 0)?;
     if forced {
         Ok(false)
     } else {
-        let told = told_from_second(alloc, turn, paths)?;
-        Ok(told)
+        told_from_second(alloc, turn, paths)
     }
 }

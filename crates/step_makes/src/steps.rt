@@ -1,5 +1,5 @@
 //! The steps of a job that take no frame.
-ghost use Rattle.std.specs.Prelude.{◌≡◌, ◌≢◌, true, false, IfOk};
+ghost use Rattle.std.specs.Prelude.{◌≡◌, ◌≢◌, min, IfOk};
 ghost use Rattle.std.specs.Option.{option_copied};
 ghost use Rattle.node_model.specs.DropStep.{expiry, first_drop, first_end, removal_outcome};
 ghost use Rattle.node_model.specs.JobStep.{ends};
@@ -35,13 +35,11 @@ fn starts_get(alloc: Global, turn: &Turn, here: bool) -> Result<bool, NoMemory>
         → b ≡ same_effect (first_get (turn_in turn.now s st) here (is_filled s st turn.now.work.now.what.key) (next_source (turn_in turn.now s st))) (effect_of turn.now.told.now)) }
 {
     if here {
-        let told = first_get(alloc, turn, true, false, None)?;
-        Ok(told)
+        first_get(alloc, turn, true, false, None)
     } else {
         let filled = is_filled(turn.repos, turn.state, &turn.work.what.key);
         let source = next_source(turn);
-        let told = first_get(alloc, turn, false, filled, source)?;
-        Ok(told)
+        first_get(alloc, turn, false, filled, source)
     }
 }
 
@@ -72,8 +70,7 @@ fn drops_first(turn: &Turn, knowing: Option<&Knowing>) -> Result<bool, NoMemory>
         → b ≡ same_effect (first_drop (turn_in turn.now s st) (side_of (turn_in turn.now s st).w)) (effect_of turn.now.told.now)) }
 {
     let known = known(turn, knowing);
-    let told = known.first_drop()?;
-    Ok(told)
+    known.first_drop()
 }
 
 /// The first step of a part of the job.
@@ -83,18 +80,9 @@ fn first_step(alloc: Global, turn: &Turn, knowing: Option<&Knowing>) -> Result<b
         → b ≡ same_effect (first_step (turn_in turn.now s st) (part_of turn.now.work.now.part)) (effect_of turn.now.told.now)) }
 {
     match turn.work.part {
-        Part::Gets => {
-            let told = gets_first(alloc, turn)?;
-            Ok(told)
-        }
-        Part::Puts => {
-            let told = puts_first(alloc, turn)?;
-            Ok(told)
-        }
-        Part::Drops => {
-            let told = drops_first(turn, knowing)?;
-            Ok(told)
-        }
+        Part::Gets => gets_first(alloc, turn),
+        Part::Puts => puts_first(alloc, turn),
+        Part::Drops => drops_first(turn, knowing),
     }
 }
 
@@ -105,8 +93,7 @@ fn drops_next(alloc: Global, turn: &Turn, knowing: Option<&Knowing>) -> Result<b
         → b ≡ same_effect (next_step (turn_in turn.now s st) (part_of turn.now.work.now.part)) (effect_of turn.now.told.now)) }
 {
     let known = known(turn, knowing);
-    let told = judges(alloc, known)?;
-    Ok(told)
+    judges(alloc, known)
 }
 
 fn transfers_next(alloc: Global, turn: &Turn) -> Result<bool, NoMemory>
@@ -114,8 +101,7 @@ fn transfers_next(alloc: Global, turn: &Turn) -> Result<bool, NoMemory>
     ensures { IfOk result (λ b. (s : SetUp) (st : State) → b ≡ same_effect (next_step (turn_in turn.now s st) (part_of turn.now.work.now.part)) (effect_of turn.now.told.now)) }
 {
     let source = next_source(turn);
-    let told = next_get(alloc, turn, source)?;
-    Ok(told)
+    next_get(alloc, turn, source)
 }
 
 /// The job goes on to its next peer, or judges.
@@ -125,14 +111,8 @@ fn next_step(alloc: Global, turn: &Turn, knowing: Option<&Knowing>) -> Result<bo
         → b ≡ same_effect (next_step (turn_in turn.now s st) (part_of turn.now.work.now.part)) (effect_of turn.now.told.now)) }
 {
     match turn.work.part {
-        Part::Drops => {
-            let told = drops_next(alloc, turn, knowing)?;
-            Ok(told)
-        }
-        _ => {
-            let told = transfers_next(alloc, turn)?;
-            Ok(told)
-        }
+        Part::Drops => drops_next(alloc, turn, knowing),
+        _ => transfers_next(alloc, turn),
     }
 }
 
@@ -144,8 +124,7 @@ fn ends_removed(alloc: Global, turn: &Turn, knowing: Option<&Knowing>) -> Result
         → b ≡ same_effect (ends (turn_in turn.now s st) None (removal_outcome (side_of (turn_in turn.now s st).w) (turn_in turn.now s st))) (effect_of turn.now.told.now)) }
 {
     let known = known(turn, knowing);
-    let told = known.is_removed(alloc)?;
-    Ok(told)
+    known.is_removed(alloc)
 }
 
 /// The locks had expired at this time.
@@ -159,35 +138,29 @@ fn ends_late(turn: &Turn, knowing: Option<&Knowing>, time: u64) -> bool
     known.expires(time)
 }
 
+/// How many bytes the next piece has, where so many are left.
+fn piece_of(left: u64) -> u64
+    ensures { result ≡ min 32768 left }
+{
+    if left < 32768 { left } else { 32768 }
+}
+
 /// Whether the entry is the step of a job that takes no frame.
-pub(crate) fn goes(
-    alloc: Global,
-    turn: &Turn,
-    knowing: Option<&Knowing>,
-) -> Result<bool, NoMemory>
+pub(crate) fn goes(alloc: Global, turn: &Turn, knowing: Option<&Knowing>) -> Result<bool, NoMemory>
     requires { KnowsEnough turn.now (option_copied knowing) }
     ensures { IfOk result (λ b. (s : SetUp) (st : State) → IsTurnOf turn.now s st → IsReadBy turn.now (option_copied knowing.entry) s st
         → b ≡ same_effect (goes (turn_in turn.now s st) (phase_of turn.now.work.now.phase)) (effect_of turn.now.told.now)) }
 {
     match turn.work.phase {
-        Phase::Fresh => {
-            let told = first_step(alloc, turn, knowing)?;
-            Ok(told)
-        }
-        Phase::Next => {
-            let told = next_step(alloc, turn, knowing)?;
-            Ok(told)
-        }
+        Phase::Fresh => first_step(alloc, turn, knowing),
+        Phase::Next => next_step(alloc, turn, knowing),
         Phase::PutsBytes { peer, at, left, .. } => {
-            Ok(puts_piece(turn, peer, at, left.min(32768)))
+            Ok(puts_piece(turn, peer, at, piece_of(left)))
         }
         Phase::PutsWord { peer, .. } => {
             Ok(turn.says_to(turn.talks(), None, peer, &Message::Valid))
         }
-        Phase::Removed => {
-            let told = ends_removed(alloc, turn, knowing)?;
-            Ok(told)
-        }
+        Phase::Removed => ends_removed(alloc, turn, knowing),
         Phase::Denied => Ok(denied(turn)),
         Phase::Late { time } => Ok(ends_late(turn, knowing, time)),
         Phase::Ends(ending) => Ok(ends_as(turn, ending)),

@@ -1,5 +1,5 @@
 //! The steps of a job that take a frame.
-ghost use Rattle.std.specs.Prelude.{◌≡◌, ◌≢◌, ◌≤◌, IfOk, Some};
+ghost use Rattle.std.specs.Prelude.{◌≡◌, nat_le, IfOk};
 ghost use Rattle.node_model.specs.DropStep.{takes_drop};
 ghost use Rattle.node_model.specs.Jobs.{Greets};
 ghost use Rattle.node_model.specs.Requests.{asks};
@@ -37,8 +37,7 @@ fn drops_take(
         → b ≡ same_effect (takes_drop (turn_in turn.now s st) frame.now peer (phase_of turn.now.work.now.phase) message.now) (effect_of turn.now.told.now)) }
 {
     let known = known(turn, knowing);
-    let told = known.takes_drop(frame, peer, message)?;
-    Ok(told)
+    known.takes_drop(frame, peer, message)
 }
 
 /// An answer to the job's request.
@@ -57,10 +56,7 @@ fn takes_answer(
     match turn.work.part {
         Part::Gets => Ok(takes_get(turn, frame, peer, phase, message)),
         Part::Puts => Ok(takes_put(turn, frame, peer, phase, message)),
-        Part::Drops => {
-            let told = drops_take(turn, knowing, frame, peer, message)?;
-            Ok(told)
-        }
+        Part::Drops => drops_take(turn, knowing, frame, peer, message),
     }
 }
 
@@ -77,8 +73,7 @@ fn drops_ask(
         → b ≡ same_effect (asks (turn_in turn.now s st) version (Some frame.now) peer (part_of turn.now.work.now.part)) (effect_of turn.now.told.now)) }
 {
     let known = known(turn, knowing);
-    let told = known.asks_copy(version, Some(frame), peer)?;
-    Ok(told)
+    known.asks_copy(version, Some(frame), peer)
 }
 
 /// The first request on the connection that is opened now, with this version.
@@ -95,15 +90,15 @@ fn asks_first(
         → b ≡ same_effect (asks (turn_in turn.now s st) version (Some frame.now) peer (part_of turn.now.work.now.part)) (effect_of turn.now.told.now)) }
 {
     match turn.work.part {
-        Part::Drops => {
-            let told = drops_ask(turn, knowing, version, frame, peer)?;
-            Ok(told)
-        }
-        _ => {
-            let told = asks(alloc, turn, Some(frame), peer)?;
-            Ok(told)
-        }
+        Part::Drops => drops_ask(turn, knowing, version, frame, peer),
+        _ => asks(alloc, turn, Some(frame), peer),
     }
+}
+
+fn is_known_version(version: u64) -> bool
+    ensures { result ≡ nat_le version 3 }
+{
+    version <= 3
 }
 
 /// The version that the peer answers is agreed on, unless it is greater than 3.
@@ -119,11 +114,53 @@ fn takes_version(
     ensures { IfOk result (λ b. (s : SetUp) (st : State) → IsReadBy turn.now (option_copied knowing.entry) s st
         → b ≡ same_effect (takes (turn_in turn.now s st) frame.now peer (Greets peer) (Message.Version version)) (effect_of turn.now.told.now)) }
 {
-    if version <= 3 {
-        let told = asks_first(alloc, turn, knowing, version, frame, peer)?;
-        Ok(told)
+    if is_known_version(version) {
+        asks_first(alloc, turn, knowing, version, frame, peer)
     } else {
         Ok(turn.wrong_message(frame, peer))
+    }
+}
+
+/// The connection is being opened.
+fn takes_opened(
+    turn: &Turn,
+    knowing: Option<&Knowing>,
+    frame: &FrameView,
+    peer: u32,
+    at: u32,
+    message: &Message,
+) -> Result<bool, NoMemory>
+    requires enough { KnowsEnough turn.now (option_copied knowing) }
+    requires phase { turn.now.work.now.phase ≡ Phase.Opens at }
+    ensures { IfOk result (λ b. (s : SetUp) (st : State) → IsReadBy turn.now (option_copied knowing.entry) s st
+        → b ≡ same_effect (takes (turn_in turn.now s st) frame.now peer (phase_of turn.now.work.now.phase) message.now) (effect_of turn.now.told.now)) }
+{
+    match message {
+        Message::AuthSuccess(_) => {
+            Ok(turn.says_to(turn.talks(), Some(frame), peer, &Message::Version(3)))
+        }
+        _ => takes_answer(turn, knowing, frame, peer, message),
+    }
+}
+
+/// The version is being agreed on.
+fn takes_greeted(
+    alloc: Global,
+    turn: &Turn,
+    knowing: Option<&Knowing>,
+    frame: &FrameView,
+    peer: u32,
+    at: u32,
+    message: &Message,
+) -> Result<bool, NoMemory>
+    requires enough { KnowsEnough turn.now (option_copied knowing) }
+    requires phase { turn.now.work.now.phase ≡ Phase.Greets at }
+    ensures { IfOk result (λ b. (s : SetUp) (st : State) → IsReadBy turn.now (option_copied knowing.entry) s st
+        → b ≡ same_effect (takes (turn_in turn.now s st) frame.now peer (phase_of turn.now.work.now.phase) message.now) (effect_of turn.now.told.now)) }
+{
+    match message {
+        Message::Version(version) => takes_version(alloc, turn, knowing, *version, frame, peer),
+        _ => takes_answer(turn, knowing, frame, peer, message),
     }
 }
 
@@ -139,18 +176,28 @@ fn takes(
     ensures { IfOk result (λ b. (s : SetUp) (st : State) → IsReadBy turn.now (option_copied knowing.entry) s st
         → b ≡ same_effect (takes (turn_in turn.now s st) frame.now peer (phase_of turn.now.work.now.phase) message.now) (effect_of turn.now.told.now)) }
 {
-    match (turn.work.phase, message) {
-        (Phase::Opens { .. }, Message::AuthSuccess(_)) => {
-            Ok(turn.says_to(turn.talks(), Some(frame), peer, &Message::Version(3)))
-        }
-        (Phase::Greets { .. }, Message::Version(version)) => {
-            let told = takes_version(alloc, turn, knowing, *version, frame, peer)?;
-            Ok(told)
-        }
-        _ => {
-            let told = takes_answer(turn, knowing, frame, peer, message)?;
-            Ok(told)
-        }
+    match turn.work.phase {
+        Phase::Opens { peer: at } => takes_opened(turn, knowing, frame, peer, at, message),
+        Phase::Greets { peer: at } => takes_greeted(alloc, turn, knowing, frame, peer, at, message),
+        _ => takes_answer(turn, knowing, frame, peer, message),
+    }
+}
+
+fn takes_read(
+    alloc: Global,
+    turn: &Turn,
+    knowing: Option<&Knowing>,
+    frame: &FrameView,
+    peer: u32,
+    read: &Option<Message>,
+) -> Result<bool, NoMemory>
+    requires { KnowsEnough turn.now (option_copied knowing) }
+    ensures { IfOk result (λ b. (s : SetUp) (st : State) → IsReadBy turn.now (option_copied knowing.entry) s st
+        → b ≡ same_effect (takes_text (turn_in turn.now s st) frame.now peer read.now) (effect_of turn.now.told.now)) }
+{
+    match read {
+        Some(message) => takes(alloc, turn, knowing, frame, peer, message),
+        None => Ok(turn.wrong_message(frame, peer)),
     }
 }
 
@@ -167,13 +214,7 @@ fn takes_text(
         → b ≡ same_effect (takes_text (turn_in turn.now s st) frame.now peer (message_of text.now)) (effect_of turn.now.told.now)) }
 {
     let read = Message::read(alloc, text.bytes())?;
-    match &read {
-        Some(message) => {
-            let told = takes(alloc, turn, knowing, frame, peer, message)?;
-            Ok(told)
-        }
-        None => Ok(turn.wrong_message(frame, peer)),
-    }
+    takes_read(alloc, turn, knowing, frame, peer, &read)
 }
 
 /// Whether the entry is the step of a job that takes this frame of its partner.
@@ -192,9 +233,6 @@ pub(crate) fn takes_frame(
         FrameText::Opening => Ok(turn.wrong_message(frame, peer)),
         FrameText::Closing => Ok(turn.hears(frame)),
         FrameText::Bytes(count) => Ok(takes_bytes(turn, frame, peer, *count, turn.work.phase)),
-        FrameText::Line(text) => {
-            let told = takes_text(alloc, turn, knowing, frame, peer, text)?;
-            Ok(told)
-        }
+        FrameText::Line(text) => takes_text(alloc, turn, knowing, frame, peer, text),
     }
 }

@@ -40,8 +40,7 @@ fn work_told(
         → b ≡ job_told s st (look_of st (word_in words.now) entry.now) (effect_of entry.now) (Some (work_of work.now))) }
 {
     let turn = Turn::new(repos, state, work, words, entry);
-    let told = told_in(alloc, &turn, paths)?;
-    Ok(told)
+    told_in(alloc, &turn, paths)
 }
 
 /// The step of a job, or of a session.
@@ -59,14 +58,8 @@ fn other_told(
         → b ≡ other_told s st (look_of st (word_in words.now) entry.now) (effect_of entry.now) (job_of entry.now.kind)) }
 {
     match job_of(&entry.kind) {
-        Some(job) => {
-            let told = job_told(alloc, repos, state, job, paths, words, entry)?;
-            Ok(told)
-        }
-        None => {
-            let told = session_told(alloc, repos, state, entry)?;
-            Ok(told)
-        }
+        Some(job) => job_told(alloc, repos, state, job, paths, words, entry),
+        None => session_told(alloc, repos, state, entry),
     }
 }
 
@@ -87,10 +80,7 @@ fn job_told(
 {
     let jobs = state.jobs();
     match jobs.job(job) {
-        Some(work) => {
-            let told = work_told(alloc, repos, state, work, paths, words, entry)?;
-            Ok(told)
-        }
+        Some(work) => work_told(alloc, repos, state, work, paths, words, entry),
         None => Ok(false),
     }
 }
@@ -116,13 +106,7 @@ pub fn told(
 {
     let owed = state.owed();
     match owed.first() {
-        Some(line) => {
-            let told = pays_first(alloc, repos, state, line, entry)?;
-            Ok(told)
-        }
-        None => {
-            let told = other_told(alloc, repos, state, paths, words, entry)?;
-            Ok(told)
-        }
+        Some(line) => pays_first(alloc, repos, state, line, entry),
+        None => other_told(alloc, repos, state, paths, words, entry),
     }
 }

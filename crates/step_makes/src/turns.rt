@@ -1,5 +1,5 @@
 //! The step of a job, by where it stands.
-ghost use Rattle.std.specs.Prelude.{◌≡◌, true, IfOk};
+ghost use Rattle.std.specs.Prelude.{◌≡◌, ◌&&◌, if◌then◌else◌, true, IfOk};
 ghost use Rattle.std.specs.Option.{option_copied};
 ghost use Rattle.node_model.specs.Ends.{is_opening, may_take, takes_at};
 ghost use Rattle.node_model.specs.JobStep.{end_with};
@@ -33,8 +33,8 @@ fn is_opening(body: &FrameText) -> bool
 }
 
 /// Whether an end that stands so may take the frame.
-fn may_take(was: Standing, frame: &FrameView) -> bool
-    ensures { result ≡ may_take was frame.now }
+fn may_take(was: &Standing, frame: &FrameView) -> bool
+    ensures { result ≡ may_take was.now frame.now }
 {
     let epoch = u128::from(frame.epoch);
     if is_opening(&frame.body) {
@@ -45,10 +45,23 @@ fn may_take(was: Standing, frame: &FrameView) -> bool
 }
 
 /// Whether the frame goes to this end.
-fn takes_at(at: EndAt, frame: &FrameView) -> bool
-    ensures { result ≡ takes_at (name_of at) frame.now }
+fn takes_at(at: &EndAt, frame: &FrameView) -> bool
+    ensures { result ≡ takes_at (name_of at.now) frame.now }
 {
     frame.peer == at.peer && frame.slot == at.slot && at.client != frame.up
+}
+
+/// Whether it waits there.
+fn waits_at(at: &EndAt, frame: &FrameView) -> bool
+    ensures { result ≡ (takes_at (name_of at.now) frame.now && may_take at.now.was frame.now) }
+{
+    takes_at(at, frame) && may_take(&at.was, frame)
+}
+
+fn if_waits(frame: &FrameView, yes: bool) -> Option<&FrameView>
+    ensures { option_copied result ≡ (if yes then Some frame.now else None) }
+{
+    if yes { Some(frame) } else { None }
 }
 
 /// The frame that waits for the job at its end of the connection with a peer.
@@ -57,13 +70,7 @@ fn waiting_frame<'a>(turn: &Turn<'a>, peer: u32) -> Option<&'a FrameView>
 {
     let at = turn.at(peer);
     match &turn.told.taken {
-        Some(frame) => {
-            if takes_at(at, frame) && may_take(at.was, frame) {
-                Some(frame)
-            } else {
-                None
-            }
-        }
+        Some(frame) => if_waits(frame, waits_at(&at, frame)),
         None => None,
     }
 }
@@ -73,8 +80,7 @@ fn goes_on(alloc: Global, turn: &Turn, knowing: Option<&Knowing>) -> Result<bool
     ensures { IfOk result (λ b. (s : SetUp) (st : State) → IsTurnOf turn.now s st → HasRoom turn.now → IsReadBy turn.now (option_copied knowing.entry) s st
         → b ≡ is_effect (goes_on (turn_in turn.now s st)) (effect_of turn.now.told.now)) }
 {
-    let told = goes(alloc, turn, knowing)?;
-    Ok(told)
+    goes(alloc, turn, knowing)
 }
 
 /// The job awaits a frame of a peer.
@@ -90,10 +96,7 @@ fn awaits(
         → b ≡ is_effect (awaits (turn_in turn.now s st) peer (option_copied waiting.entry)) (effect_of turn.now.told.now)) }
 {
     match waiting {
-        Some(frame) => {
-            let told = takes_frame(alloc, turn, knowing, frame, peer)?;
-            Ok(told)
-        }
+        Some(frame) => takes_frame(alloc, turn, knowing, frame, peer),
         None => Ok(false),
     }
 }
@@ -116,11 +119,9 @@ fn on_open(
 {
     if is_awaiting(turn.work.phase) {
         let waiting = waiting_frame(turn, peer);
-        let told = awaits(alloc, turn, knowing, peer, waiting)?;
-        Ok(told)
+        awaits(alloc, turn, knowing, peer, waiting)
     } else {
-        let told = goes_on(alloc, turn, knowing)?;
-        Ok(told)
+        goes_on(alloc, turn, knowing)
     }
 }
 
@@ -136,8 +137,7 @@ fn with_partner(
         → b ≡ is_effect (with_partner (turn_in turn.now s st) peer (end_with (turn_in turn.now s st) peer).opened) (effect_of turn.now.told.now)) }
 {
     if turn.is_open(peer) {
-        let told = on_open(alloc, turn, knowing, peer)?;
-        Ok(told)
+        on_open(alloc, turn, knowing, peer)
     } else {
         Ok(turn.quietly(turn.talks(), None))
     }
@@ -154,13 +154,7 @@ pub(crate) fn by_partner(
         → b ≡ is_effect (by_partner (turn_in turn.now s st) (partner turn.now.work.now.what.peer (phase_of turn.now.work.now.phase))) (effect_of turn.now.told.now)) }
 {
     match partner(turn.work.what.peer, turn.work.phase) {
-        Some(peer) => {
-            let told = with_partner(alloc, turn, knowing, peer)?;
-            Ok(told)
-        }
-        None => {
-            let told = goes_on(alloc, turn, knowing)?;
-            Ok(told)
-        }
+        Some(peer) => with_partner(alloc, turn, knowing, peer),
+        None => goes_on(alloc, turn, knowing),
     }
 }

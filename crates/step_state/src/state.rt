@@ -46,7 +46,7 @@ impl RepoState {
     ghost use Rattle.state_files.specs.Changes.{LogsLines};
     ghost use Rattle.state_files.specs.Files.{AreFilesOf};
     ghost use Rattle.state_jobs.specs.Works.{work_of};
-    ghost use Rattle.state_owed.specs.Owed.{AreOwedOf};
+    ghost use Rattle.state_owed.specs.Owed.{AreOwedOf, AreWithin};
     ghost use Rattle.state_reads.specs.Known.{AreLogsRead};
     ghost use Rattle.state_reads.specs.Reads.{HadPaths, HaveReadAs};
     ghost use Rattle.state_rows.specs.Changes.{SetsClock};
@@ -189,7 +189,8 @@ impl RepoState {
 
     /// The lines that it owes its branch.
     pub fn owed(&self) -> &Owed
-        ensures { (s : SetUp) (st : State) → IsStateOf self.now s st → AreOwedOf result.now st }
+        ensures owed { (s : SetUp) (st : State) → IsStateOf self.now s st → AreOwedOf result.now st }
+        ensures within { IsWell self.now → AreWithin (count_of self.now) result.now }
     {
         &self.working.owed
     }

@@ -1,17 +1,18 @@
 //! The steps of a get.
-ghost use Rattle.std.specs.Prelude.{◌≡◌, ◌≢◌, ◌∷◌, [], true, false, IfOk};
+ghost use Rattle.std.specs.Prelude.{◌≡◌, ◌≢◌, ◌&&◌, ◌∷◌, [], nat_le, nat_lt, true, false, IfOk};
 ghost use Rattle.std.specs.Option.{option_copied};
 ghost use Rattle.run_data.specs.declared.job.Outcome.TheVariants.{TransferRefused};
 ghost use Rattle.run_data.specs.declared.job.TransferRefusal.TheVariants as failures;
 ghost use Rattle.node_model.specs.Calls.{to_commit};
 ghost use Rattle.node_model.specs.JobStep.{attempts, quietly, talk};
-ghost use Rattle.node_model.specs.Jobs.{GetsBytes, GetsWord, is_move};
+ghost use Rattle.node_model.specs.Jobs.{GetsBytes, GetsData, GetsWord, is_move};
 ghost use Rattle.node_model.specs.Look.{failing_call};
 ghost use Rattle.node_model.specs.SetUp.{SetUp};
 ghost use Rattle.node_model.specs.State.{State};
 ghost use Rattle.node_model.specs.TransferStep.{first_get, gains, next_get, takes_bytes, takes_get};
 ghost use Rattle.job_makes.specs.Turns.{turn_in};
 ghost use Rattle.state_jobs.specs.Phases.{phase_of};
+ghost use Rattle.state_jobs.specs.declared.phase.Part.TheVariants as parts;
 ghost use Rattle.step_effects.specs.Outcomes.{outcome_told};
 ghost use Rattle.step_judging.specs.Rules.{effect_of};
 ghost use Rattle.step_judging.specs.Same.{same_effect};
@@ -63,7 +64,7 @@ pub fn first_get(
     filled: bool,
     source: Option<u32>,
 ) -> Result<bool, NoMemory>
-    requires { turn.now.work.now.part ≢ Part.Drops }
+    requires { turn.now.work.now.part ≢ parts.Drops }
     ensures { IfOk result (λ b. (s : SetUp) (st : State) → b ≡ same_effect (first_get (turn_in turn.now s st) here filled source) (effect_of turn.now.told.now)) }
 {
     if here {
@@ -99,7 +100,7 @@ fn gives_up(turn: &Turn) -> bool
 
 /// Whether it is the step of a get that goes on to this source, or has none left.
 pub fn next_get(alloc: Global, turn: &Turn, source: Option<u32>) -> Result<bool, NoMemory>
-    requires { turn.now.work.now.part ≢ Part.Drops }
+    requires { turn.now.work.now.part ≢ parts.Drops }
     ensures { IfOk result (λ b. (s : SetUp) (st : State) → b ≡ same_effect (next_get (turn_in turn.now s st) source) (effect_of turn.now.told.now)) }
 {
     match source {
@@ -131,32 +132,40 @@ fn failing_commit(turn: &Turn, right: bool) -> Option<Call>
 }
 
 /// The source says that the bytes are good.
-fn commits(turn: &Turn, frame: &FrameView, peer: u32, start: u64, size: u128) -> bool
-    ensures { (s : SetUp) (st : State) → result ≡ same_effect (takes_get (turn_in turn.now s st) frame.now peer (GetsWord peer start size) Message.Valid) (effect_of turn.now.told.now) }
+fn commits(turn: &Turn, frame: &FrameView, peer: u32, size: u128) -> bool
+    ensures { (s : SetUp) (st : State) → result ≡ same_effect (takes_get (turn_in turn.now s st) frame.now peer (GetsWord peer 0 size) Message.Valid) (effect_of turn.now.told.now) }
 {
     let right = matches_told(&turn.told.kind);
     let made = gains(turn, frame, peer, size, right);
     turn.attempts(failing_commit(turn, right), Some(frame), made)
 }
 
+fn takes_data(turn: &Turn, frame: &FrameView, peer: u32, message: &Message) -> bool
+    ensures { (s : SetUp) (st : State) → result ≡ same_effect (takes_get (turn_in turn.now s st) frame.now peer (GetsData peer 0) message.now) (effect_of turn.now.told.now) }
+{
+    match message {
+        Message::Data(_) => turn.hears(frame),
+        _ => turn.wrong_message(frame, peer),
+    }
+}
+
+fn takes_word(turn: &Turn, frame: &FrameView, peer: u32, size: u128, message: &Message) -> bool
+    ensures { (s : SetUp) (st : State) → result ≡ same_effect (takes_get (turn_in turn.now s st) frame.now peer (GetsWord peer 0 size) message.now) (effect_of turn.now.told.now) }
+{
+    match message {
+        Message::Valid => commits(turn, frame, peer, size),
+        Message::Invalid => turn.says_to(turn.talks(), Some(frame), peer, &Message::Failure),
+        _ => turn.wrong_message(frame, peer),
+    }
+}
+
 /// Whether it is the step of a get that takes a message.
-pub fn takes_get(
-    turn: &Turn,
-    frame: &FrameView,
-    peer: u32,
-    phase: Phase,
-    message: &Message,
-) -> bool
+pub fn takes_get(turn: &Turn, frame: &FrameView, peer: u32, phase: Phase, message: &Message) -> bool
     ensures { (s : SetUp) (st : State) → result ≡ same_effect (takes_get (turn_in turn.now s st) frame.now peer (phase_of phase) message.now) (effect_of turn.now.told.now) }
 {
-    match (phase, message) {
-        (Phase::GetsData { .. }, Message::Data(_)) => turn.hears(frame),
-        (Phase::GetsWord { start, size, .. }, Message::Valid) => {
-            commits(turn, frame, peer, start, size)
-        }
-        (Phase::GetsWord { .. }, Message::Invalid) => {
-            turn.says_to(turn.talks(), Some(frame), peer, &Message::Failure)
-        }
+    match phase {
+        Phase::GetsData { .. } => takes_data(turn, frame, peer, message),
+        Phase::GetsWord { size, .. } => takes_word(turn, frame, peer, size, message),
         _ => turn.wrong_message(frame, peer),
     }
 }
@@ -179,11 +188,17 @@ pub fn takes_bytes(turn: &Turn, frame: &FrameView, peer: u32, count: u64, phase:
     }
 }
 
+fn is_piece(count: u64, left: u64) -> bool
+    ensures { result ≡ (nat_lt 0 count && nat_le count left) }
+{
+    0 < count && count <= left
+}
+
 /// No more bytes come than are left.
 fn takes_piece(turn: &Turn, frame: &FrameView, peer: u32, count: u64, left: u64) -> bool
     ensures { (s : SetUp) (st : State) → result ≡ same_effect (takes_bytes (turn_in turn.now s st) frame.now peer count (GetsBytes peer 0 0 left)) (effect_of turn.now.told.now) }
 {
-    if 0 < count && count <= left {
+    if is_piece(count, left) {
         appends(turn, frame)
     } else {
         turn.wrong_message(frame, peer)

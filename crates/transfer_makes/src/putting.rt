@@ -1,5 +1,5 @@
 //! The steps of a copy.
-ghost use Rattle.std.specs.Prelude.{◌≡◌, ◌≢◌, ◌+◌, ◌∷◌, [], if◌then◌else◌, bytes_eq, codes, nat_le, IfOk};
+ghost use Rattle.std.specs.Prelude.{◌≡◌, ◌≢◌, ◌+◌, ◌∷◌, [], if◌then◌else◌, bytes_eq, codes, nat_le, true, false, IfOk};
 ghost use Rattle.run_data.specs.declared.entry.FrameText.TheVariants.{Bytes, Closing};
 ghost use Rattle.node_model.specs.JobStep.{says_to, sends_to, talk, wrong_message};
 ghost use Rattle.node_model.specs.Jobs.{PutsAnswer, PutsOffer};
@@ -10,6 +10,7 @@ ghost use Rattle.node_model.specs.State.{State};
 ghost use Rattle.node_model.specs.TransferStep.{content_of, first_put, puts_from, puts_piece, takes_put};
 ghost use Rattle.job_makes.specs.Turns.{turn_in};
 ghost use Rattle.state_jobs.specs.Phases.{phase_of};
+ghost use Rattle.state_jobs.specs.declared.phase.Part.TheVariants as parts;
 ghost use Rattle.step_judging.specs.Rules.{effect_of};
 ghost use Rattle.step_judging.specs.Same.{same_effect};
 
@@ -21,6 +22,23 @@ use run_data::{FrameView, Outcome, TransferRefusal};
 use state_jobs::Phase;
 use std::alloc::Global;
 
+fn is_not_here(turn: &Turn) -> bool
+    ensures { (s : SetUp) (st : State) → result ≡ same_effect (first_put (turn_in turn.now s st) false None) (effect_of turn.now.told.now) }
+{
+    turn.ends_as(None, &Outcome::TransferRefused(TransferRefusal::NotHere))
+}
+
+/// A copy goes to its peer.
+fn puts_to(alloc: Global, turn: &Turn, peer: Option<u32>) -> Result<bool, NoMemory>
+    requires { turn.now.work.now.part ≢ parts.Drops }
+    ensures { IfOk result (λ b. (s : SetUp) (st : State) → b ≡ same_effect (first_put (turn_in turn.now s st) true peer) (effect_of turn.now.told.now)) }
+{
+    match peer {
+        Some(peer) => goes_to(alloc, turn, peer),
+        None => Ok(is_not_here(turn)),
+    }
+}
+
 /// Whether the entry is the first step of a copy to this peer, where the content is there or not.
 pub fn first_put(
     alloc: Global,
@@ -28,15 +46,13 @@ pub fn first_put(
     here: bool,
     peer: Option<u32>,
 ) -> Result<bool, NoMemory>
-    requires { turn.now.work.now.part ≢ Part.Drops }
+    requires { turn.now.work.now.part ≢ parts.Drops }
     ensures { IfOk result (λ b. (s : SetUp) (st : State) → b ≡ same_effect (first_put (turn_in turn.now s st) here peer) (effect_of turn.now.told.now)) }
 {
-    match (here, peer) {
-        (true, Some(peer)) => goes_to(alloc, turn, peer),
-        _ => {
-            let outcome = Outcome::TransferRefused(TransferRefusal::NotHere);
-            Ok(turn.ends_as(None, &outcome))
-        }
+    if here {
+        puts_to(alloc, turn, peer)
+    } else {
+        Ok(is_not_here(turn))
     }
 }
 
@@ -151,7 +167,8 @@ fn takes_offered(turn: &Turn, frame: &FrameView, peer: u32, message: &Message) -
     ensures { (s : SetUp) (st : State) → result ≡ same_effect (takes_put (turn_in turn.now s st) frame.now peer (PutsOffer peer) message.now) (effect_of turn.now.told.now) }
 {
     match message {
-        Message::AlreadyHave | Message::Failure => turn.hears(frame),
+        Message::AlreadyHave => turn.hears(frame),
+        Message::Failure => turn.hears(frame),
         Message::Error(text) => hears_error(turn, frame, peer, text),
         Message::PutFrom(start) => puts_from(turn, frame, peer, *start),
         _ => turn.wrong_message(frame, peer),
@@ -162,19 +179,14 @@ fn takes_verdict(turn: &Turn, frame: &FrameView, peer: u32, message: &Message) -
     ensures { (s : SetUp) (st : State) → result ≡ same_effect (takes_put (turn_in turn.now s st) frame.now peer (PutsAnswer peer 0) message.now) (effect_of turn.now.told.now) }
 {
     match message {
-        Message::Success | Message::Failure => turn.hears(frame),
+        Message::Success => turn.hears(frame),
+        Message::Failure => turn.hears(frame),
         _ => turn.wrong_message(frame, peer),
     }
 }
 
 /// Whether it is the step of a copy that takes a message.
-pub fn takes_put(
-    turn: &Turn,
-    frame: &FrameView,
-    peer: u32,
-    phase: Phase,
-    message: &Message,
-) -> bool
+pub fn takes_put(turn: &Turn, frame: &FrameView, peer: u32, phase: Phase, message: &Message) -> bool
     ensures { (s : SetUp) (st : State) → result ≡ same_effect (takes_put (turn_in turn.now s st) frame.now peer (phase_of phase) message.now) (effect_of turn.now.told.now) }
 {
     match phase {

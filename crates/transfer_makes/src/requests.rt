@@ -24,10 +24,11 @@ use step_effects::part_told;
 fn failing_resume(turn: &Turn) -> Option<Call>
     ensures { (s : SetUp) (st : State) → result ≡ failing_call (turn_in turn.now s st).look.fails (to_resume (turn_in turn.now s st).look.part) }
 {
-    if part_told(turn.told) > 0 {
-        turn.fails_of(Call::PartSize, Call::ReadPart)
-    } else {
+    let part = part_told(turn.told);
+    if part == 0 {
         turn.fails(Call::PartSize)
+    } else {
+        turn.fails_of(Call::PartSize, Call::ReadPart)
     }
 }
 
@@ -40,13 +41,13 @@ fn asks_get(
 ) -> Result<bool, NoMemory>
     ensures { IfOk result (λ b. (s : SetUp) (st : State) (version : ℕ) → b ≡ same_effect (asks (turn_in turn.now s st) version (option_copied taken.entry) peer Gets) (effect_of turn.now.told.now)) }
 {
-    let message = Message::Get {
-        start: part_told(turn.told),
-        file: Text::from_vec(Vec::new(alloc)),
-        key: turn.work.what.key.copy()?,
-    };
-    let made = turn.says_to(turn.talks(), taken, peer, &message);
-    Ok(turn.attempts(failing_resume(turn), taken, made))
+    let start = part_told(turn.told);
+    let file = Text::new(alloc, b"")?;
+    let key = turn.work.what.key.copy()?;
+    let message = Message::Get { start, file, key };
+    let said = turn.says_to(turn.talks(), taken, peer, &message);
+    let failing = failing_resume(turn);
+    Ok(turn.attempts(failing, taken, said))
 }
 
 /// A content is offered.
@@ -58,10 +59,9 @@ fn asks_put(
 ) -> Result<bool, NoMemory>
     ensures { IfOk result (λ b. (s : SetUp) (st : State) (version : ℕ) → b ≡ same_effect (asks (turn_in turn.now s st) version (option_copied taken.entry) peer Puts) (effect_of turn.now.told.now)) }
 {
-    let message = Message::Put {
-        file: Text::from_vec(Vec::new(alloc)),
-        key: turn.work.what.key.copy()?,
-    };
+    let file = Text::new(alloc, b"")?;
+    let key = turn.work.what.key.copy()?;
+    let message = Message::Put { file, key };
     Ok(turn.says_to(turn.talks(), taken, peer, &message))
 }
 

@@ -8,7 +8,7 @@ pub returns-in-None : goal.returns-in-None
 returns-in-None c = λ s st.
     let w = c.args.turn.now.work.now in
     let t = turn_in c.args.turn.now s st in
-    c.other_at.ensures ∙ others_at t w.what.peer (length w.causes.items) c.args.turn.now.repo c.count.result c.len-asked.result c.in-None.is (omega (arith, w.causes.ok.0, c.len-asked.ensures)) refl (c.count.ensures s st)
+    c.other_at.ensures ∙ others_at t w.what.peer (length w.causes.items) c.args.turn.now.repo c.count.result c.len-asked.result c.in-None.is (omega (arith, w.causes.ok.0, c.len-asked.ensures)) refl c.count.ensures
 
 pub returns-then-asked-eq0 : goal.returns-then-asked-eq0
 returns-then-asked-eq0 c = λ s st.
