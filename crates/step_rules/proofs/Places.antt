@@ -1,5 +1,5 @@
 -- Places of a list: what stands there, and what no place has.
-use Rattle.std.proofs.Common.{◌≡◌, ℕ, zero, suc, ◌+◌, ◌<◌, ◌≤◌, List, [], ◌∷◌, ◌++◌, ◌⊎◌, length, Option, Some, None, refl, subst, arith, inl, inr}
+use Rattle.std.proofs.Common.{◌≡◌, ℕ, zero, suc, ◌+◌, ◌<◌, ◌≤◌, List, [], ◌∷◌, ◌++◌, ◌⊎◌, get_or, length, Option, Some, None, refl, ap, subst, sym, ◌∙◌, arith, inl, inr}
 use Rattle.std.specs.Prelude.{slice_get}
 use Rattle.annex_base.specs.Lists.{Each, Member}
 
@@ -26,3 +26,13 @@ place_last (z ∷ xs) (suc i) x y at = elim (place_last xs i x y at) [
   | inl last ↦ (let same = last.0 in inl (omega (arith, same), last.1))
   | inr before ↦ inr before
 ]
+
+pub at_of : {X : Type 0} (xs : List X) (i : ℕ) (x : X) → i < length xs → x ≡ get_or xs i x → slice_get xs i ≡ Some x
+at_of [] i x low is = absurd (omega (arith, low))
+at_of (y ∷ xs) zero x low is = ap (λ z. Some z) (sym is)
+at_of (y ∷ xs) (suc i) x low is = at_of xs i x (omega (arith, low)) is
+
+pub got : {X : Type 0} (xs : List X) (i : ℕ) (x y d : X) → slice_get xs i ≡ Some x → y ≡ get_or xs i d → x ≡ y
+got [] i x y d at is = absurd (cc)
+got (z ∷ xs) zero x y d at is = let same : z ≡ x = cc in sym (is ∙ same)
+got (z ∷ xs) (suc i) x y d at is = got xs i x y d at is

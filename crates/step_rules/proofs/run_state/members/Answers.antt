@@ -5,3 +5,6 @@ use Rattle.step_rules.proofs.run_state.members.Goals as goal
 
 pub start-requires-clause-near : goal.start-requires-clause-near
 start-requires-clause-near c = offset_low c.args.repos.now c.loop-number.number c.requires.set_up
+
+pub loop-number-preserved : goal.loop-number-preserved
+loop-number-preserved c = ?
