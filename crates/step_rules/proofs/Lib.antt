@@ -14,5 +14,5 @@ mod Places
 mod Marks
 mod Heard
 mod Starting
-mod Broken
+mod Breaks
 mod Accepted

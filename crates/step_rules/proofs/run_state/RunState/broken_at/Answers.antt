@@ -4,7 +4,7 @@ use Rattle.node_model.specs.After.{first_state}
 use Rattle.run_model.specs.Run.{set_up}
 use Rattle.step_judging.specs.Carried.{takes_next}
 use Rattle.node_model.specs.Jobs.{taken_message}
-use Rattle.step_rules.proofs.Broken.{judge, unknown}
+use Rattle.step_rules.proofs.Breaks.{judge, unknown}
 use Rattle.step_rules.proofs.Places.{place_past}
 use Rattle.step_rules.proofs.run_state.RunState.broken_at.Goals as goal
 

@@ -5,7 +5,7 @@ use Rattle.run_model.specs.Run.{set_up}
 use Rattle.step_judging.specs.Carried.{is_ordered_by, takes_next, words_at_end}
 use Rattle.step_judging.specs.Rules.{has_row, is_own}
 use Rattle.step_rules.proofs.Alone.{works_alone, works_seated}
-use Rattle.step_rules.proofs.Broken.{bounded, judge, known, ordered_time, takes_same}
+use Rattle.step_rules.proofs.Breaks.{bounded, judge, known, ordered_time, takes_same}
 use Rattle.step_rules.proofs.Rules.{fourth_is, none_is, second_is, third_is}
 use Rattle.step_rules.proofs.run_state.RunState.broken_by.Goals as goal
 
