@@ -108,6 +108,7 @@ fn needs_peer(kind: JobKind) -> bool
 
 /// Whether the script may bring a content of this size.
 fn may_bring(repos: &[RepoView], state: &RepoState, by: By, size: u64, key: &Key) -> bool
+    requires { length repos.now < 2 ^ 32 }
     ensures { (s : SetUp) (st : State) → s.repos ≡ repos.now → IsStateOf state.now s st → result ≡ brings s st by size key.now }
 {
     match by {
@@ -117,6 +118,7 @@ fn may_bring(repos: &[RepoView], state: &RepoState, by: By, size: u64, key: &Key
 }
 
 fn may_gain(repos: &[RepoView], state: &RepoState, size: u64, key: &Key) -> bool
+    requires { length repos.now < 2 ^ 32 }
     ensures { (s : SetUp) (st : State) → s.repos ≡ repos.now → IsStateOf state.now s st → result ≡ may_gain s st size key.now }
 {
     state.rows().size(key).is_none()

@@ -1,12 +1,9 @@
 -- What a session makes, beside what an entry tells.
-use Rattle.std.proofs.Common.{◌≡◌, ℕ, zero, suc, ◌<◌, Bool, true, false, not, ◌&&◌, cond, List, [], ◌∷◌, length, Option, Some, None, refl, sym, ap, ◌∙◌, arith}
+use Rattle.std.proofs.Common.{◌≡◌, ℕ, zero, suc, Bool, true, false, not, ◌&&◌, cond, List, [], ◌∷◌, Option, Some, None, refl, sym, ap, ◌∙◌}
 use Rattle.std.specs.Prelude.{if◌then◌else◌, slice_get}
-use Rattle.std.proofs.Math.ListN.{length-map}
 use Rattle.std.specs.Option.{option_eq, option_to_list}
 use Rattle.annex_base.specs.Bools.{same_bool}
 use Rattle.annex_base.specs.declared.kinds.Word.{Word}
-use Rattle.annex_base.proofs.Lists.{slice_get-within}
-use Rattle.annex_base.proofs.Options.{none_and_some}
 use Rattle.annex_base.proofs.Conditions.{bytes_eq-refl, eqb_refl, same_bool_refl}
 use Rattle.run_data.specs.declared.entry.Entry.{Entry}
 use Rattle.run_data.specs.declared.entry.FrameText.{FrameText}
@@ -25,9 +22,6 @@ use Rattle.step_judging.specs.Rules.{effect_of, is_effect}
 use Rattle.step_judging.specs.Same.{same_body, same_effect, same_frame, same_frames, same_kind, same_lines}
 use Rattle.step_judging.specs.Telling.{failed_call, first_line, look_of, matches_told, part_told, room_told}
 use Rattle.step_judging.specs.Told.{is_served, session_told}
-use Rattle.step_state.specs.Places.{ids_in}
-use Rattle.step_state.specs.States.{IsStateOf}
-use Rattle.step_state.specs.declared.state.RepoState.{RepoState}
 use Rattle.step_effects.specs.Sendings.{name_of}
 use Rattle.step_effects.specs.declared.sending.EndAt.{EndAt}
 use Rattle.session_makes.specs.Scenes.{here_in, is_reply, is_reply_if}
@@ -187,13 +181,6 @@ pub served_by : (b : Bool) (o : Option RepoView) (repo : RepoView) → Some repo
 served_by true o repo e = (refl, sym e)
 served_by false o repo e = absurd (cc)
 
-pub not_served : (s : SetUp) (st : State) (k : Look) (c : ℕ × ℕ) (m : Effect) → is_served s c ≡ false → is_effect (session_told s st k (Some c)) m ≡ false
-not_served s st k c m e = go (is_served s c) e
-  where
-    go : (b : Bool) → b ≡ false → is_effect (if b then session_at s st k (server_end c.0 c.1) else None) m ≡ false
-    go true f = absurd (cc)
-    go false f = refl
-
 module _ (s : SetUp) (st : State) (words : ℕ → Option Word) (e : Entry) (f : FrameView) (none : job_of e.kind ≡ None) (served : is_served s (f.peer, f.slot) ≡ true) where
   at_connection : is_effect (session_told s st (look_of st words e) (Some (f.peer, f.slot))) (effect_of e) ≡ is_effect (session_at s st (look_of st words e) (server_end f.peer f.slot)) (effect_of e)
   at_connection = served_if (is_served s (f.peer, f.slot)) (session_at s st (look_of st words e) (server_end f.peer f.slot)) (effect_of e) served
@@ -242,22 +229,3 @@ module _ (s : SetUp) (st : State) (words : ℕ → Option Word) (e : Entry) (f :
       ∙ ap (λ (h : Here). made x.at h e) hears
       ∙ ap (λ (y : EndAt). made y (here s st k (name_of y)) e) at
       ∙ sym (at_connection ∙ giving_so s st words e f more none taken sent ∙ chosen (not f.up && (st.ends a).opened) (made end (here s st k a) e) false passes)
-
--- ---- the repository is one of those of its run
-
-pub own_there : (x : RepoState) (s : SetUp) (st : State) (repos : List RepoView) → s.repos ≡ repos → IsStateOf x s st → slice_get repos s.number ≡ None → ⊥
-own_there x s st repos same is nowhere =
-    let place = is.parts.place in
-    let count : length s.repos ≡ length (ids_in x.place) = sym (length-map s.repos (λ (repo : RepoView). repo.id)) ∙ ap length place.ids in
-    let within : s.number < length s.repos = omega (arith, count, place.number, x.place.within) in
-    let found = slice_get-within s.repos s.number within in
-    none_and_some (slice_get repos s.number) found.0 nowhere (ap (λ (rs : List RepoView). slice_get rs s.number) (sym same) ∙ found.1)
-
--- a connection that isn't served has no session
-pub nobody_serves : (x : RepoState) (s : SetUp) (st : State) (repos : List RepoView) (k : Look) (c : ℕ × ℕ) (m : Effect) → s.repos ≡ repos → IsStateOf x s st
-    → None ≡ (if is_served s c then slice_get repos s.number else None) → is_effect (session_told s st k (Some c)) m ≡ false
-nobody_serves x s st repos k c m same is nobody = go (is_served s c) refl nobody
-  where
-    go : (b : Bool) → is_served s c ≡ b → None ≡ (if b then slice_get repos s.number else None) → is_effect (session_told s st k (Some c)) m ≡ false
-    go true e nowhere = absurd (own_there x s st repos same is (sym nowhere))
-    go false e nowhere = not_served s st k c m e

@@ -267,10 +267,7 @@ pub fn session_told(
         → b ≡ is_effect (session_told s st (look_of st words told.now) (connection_told told.now.taken told.now.sent)) (effect_of told.now)) }
 {
     match &told.taken {
-        Some(frame) => {
-            let answered = taking_told(alloc, repos, state, told, frame)?;
-            Ok(answered)
-        }
+        Some(frame) => taking_told(alloc, repos, state, told, frame),
         None => Ok(first_told(repos, state, told)),
     }
 }

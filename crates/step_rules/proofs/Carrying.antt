@@ -40,7 +40,7 @@ use Rattle.step_rules.proofs.SameStep.{HavePaths, with_paths}
 pub reverse_more : (run : Run) (e : Entry) → reverse (with_entry run e).entries ≡ e ∷ reverse run.entries
 reverse_more run e = reverse-append run.entries (e ∷ [])
 
-judge_same : (run : Run) (e : Entry) (past : List Entry) → judge_of (set_up (with_entry run e)) past ≡ judge_of (set_up run) past
+pub judge_same : (run : Run) (e : Entry) (past : List Entry) → judge_of (set_up (with_entry run e)) past ≡ judge_of (set_up run) past
 judge_same run e [] = refl
 judge_same run e (x ∷ past) = ap (λ (j : Judge). judge_after (set_up run) j x) (judge_same run e past)
 
@@ -99,9 +99,9 @@ if_both false x = refl
 
 -- none hears a word
 none_heard : (t same : Bool) (x was : Option Word) → (t ≡ true → same ≡ true → ⊥) → (if t then (if same then x else was) else was) ≡ was
-none_heard true true x was no = absurd (no refl refl)
-none_heard true false x was no = refl
-none_heard false same x was no = refl
+none_heard true true x was none = absurd (none refl refl)
+none_heard true false x was none = refl
+none_heard false same x was none = refl
 
 -- the job that hears it is this one, or isn't
 one_heard : (t mine same : Bool) (x was : Option Word) → (same ≡ true → t ≡ mine) → (if t then (if same then x else was) else was) ≡ (if mine && same then x else was)

@@ -9,3 +9,10 @@ mod Starts
 mod Rules
 mod Found
 mod Members
+mod Accepting
+mod Places
+mod Marks
+mod Heard
+mod Starting
+mod Breaks
+mod Accepted

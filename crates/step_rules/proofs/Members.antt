@@ -60,11 +60,11 @@ module _ (makers : MakersLaw) (m : Member) (s : SetUp) (st : State) (words : ℕ
 
   -- it is the step
   pub own_told : (told : Bool) → told ≡ is_told (kept_for m s) st heard e → told ≡ true → true ≡ is_own s st (words_at_end words e.kind) e
-  own_told told so yes = sym (ap (λ (b : Bool). b || comes s st e) yes) ∙ own_is told (comes s st e) so refl
+  own_told told so holds = sym (ap (λ (b : Bool). b || comes s st e) holds) ∙ own_is told (comes s st e) so refl
 
   -- it isn't, and may come
   pub own_other : (told any : Bool) → told ≡ is_told (kept_for m s) st heard e → told ≡ false → any ≡ comes s st e → any ≡ is_own s st (words_at_end words e.kind) e
-  own_other told any so no may = sym (ap (λ (b : Bool). b || any) no) ∙ own_is told any so may
+  own_other told any so fails may = sym (ap (λ (b : Bool). b || any) fails) ∙ own_is told any so may
 
 -- ---- after an entry
 
@@ -91,7 +91,7 @@ IsFrom w was = (v : Work) × Among v was × (v.number ≡ w.number)
 
 from_map : JobsStay → (rows : RowsAndEnds) (r : ℕ) (e : Entry) (was : List Work) (w : Work) → Among w (map (work_after rows r e) was) → IsFrom w was
 from_map stay rows r e [] w among = absurd among
-from_map stay rows r e (v ∷ was) w (inl same) = (v, inl refl, ap (λ (j : RunningJob). j.number) (sym (stay rows r e v)) ∙ ap (λ (x : Work). x.number) same)
+from_map stay rows r e (v ∷ was) w (inl same) = (v, inl refl, ap (λ (j : RunningJob). j.number) (sym (stay rows r e v)) ∙ ap (λ (x : Work). x.number) (sym same))
 from_map stay rows r e (v ∷ was) w (inr later) = let z = from_map stay rows r e was w later in (z.0, inr z.1, z.2)
 
 module _ (stay : JobsStay) (m n : Member) (s : SetUp) (st : State) (words : ℕ → ℕ → Option Word) (e : Entry) (begun : List (List ℕ)) (hears : Option Hears)
@@ -109,7 +109,7 @@ module _ (stay : JobsStay) (m n : Member) (s : SetUp) (st : State) (words : ℕ 
     where
       go : (b : Bool) → (job == w.number) ≡ b → Among w (works_after rows s.number st.works e (Begin job what)) → s.paths w.number ≡ (if b then begun else paths_at m.paths w.number)
       go true same a = ap s.paths (sym (eqb-true job w.number same)) ∙ new
-      go false apart (inl same) = absurd (let both : false ≡ true = sym apart ∙ ap (λ (x : Work). job == x.number) (sym same) ∙ same_number job in cc)
+      go false apart (inl same) = absurd (let both : false ≡ true = sym apart ∙ ap (λ (x : Work). job == x.number) same ∙ same_number job in cc)
       go false apart (inr later) = is.paths w later
   paths_then (End job outcome) new w among =
       let parts = Member-filter_parts (λ v. not (v.number == job)) st.works w among in

@@ -56,7 +56,7 @@ of_peer peer client a (inl same) = ap (λ (b : EndName). b.peer) same
 of_peer peer client a (inr (inl same)) = ap (λ (b : EndName). b.peer) same
 of_peer peer client a (inr (inr (inl same))) = ap (λ (b : EndName). b.peer) same
 of_peer peer client a (inr (inr (inr (inl same)))) = ap (λ (b : EndName). b.peer) same
-of_peer peer client a (inr (inr (inr (inr no)))) = absurd no
+of_peer peer client a (inr (inr (inr (inr none)))) = absurd none
 
 end_within : (s : SetUp) (a : EndName) → Member a (all_ends s) → a.peer < length s.repos
 end_within s a among =

@@ -8,7 +8,6 @@ ghost use Rattle.step_judging.specs.Verdicts.{Broken, verdict};
 ghost use Rattle.step_rules.specs.Runs.{start_of};
 
 use growth_laws::{jobs_keep_their_paths, runs_grow};
-use run_laws::jobs_hear_nobody_twice;
 use step_judging::runs_break_no_rule;
 
 /// An entry of a run breaks no rule after the start of the run before it, of which nothing else is known (own).
@@ -20,7 +19,6 @@ pub fn starts_of_runs_break_no_rule()
     runs_grow();
     runs_break_no_rule();
     jobs_keep_their_paths();
-    jobs_hear_nobody_twice();
 }
 
 /// A list of entries isn't a run where one of them breaks a rule after the start before it (own).

@@ -30,8 +30,9 @@ use crate::words::Hears;
 use annex_base::{Items, NoMemory, Text};
 use driver_model::runs_log_lines;
 use growth_laws::{jobs_keep_their_paths, runs_grow};
+use p2p_wire::sent_messages_are_read;
 use run_data::{Entry, EntryKind, FrameView, RepoView, Run, RowView};
-use run_laws::{carried_states_agree, frames_go_to_others, jobs_hear_nobody_twice, states_are_sound};
+use run_laws::{carried_states_agree, states_are_sound};
 use state_checks::{Moment, has_row, is_ordered, moment_of, row_found};
 use state_flights::{Flights, bodies_of};
 use std::alloc::Global;
@@ -129,7 +130,6 @@ impl<'a> RunState<'a> {
     {
         // Laws, for the proof: each job is the one in its slot, and has a number of its own.
         states_are_sound();
-        jobs_hear_nobody_twice();
         carried_states_agree();
         if !is_ordered(self.newest, entry) {
             return Ok(Some(1));
@@ -186,9 +186,11 @@ impl<'a> RunState<'a> {
         ensures carried { IsCarried self.new }
         ensures taken { OnOk result (taken_by self.new ≡ taken_by self.old + 1) }
     {
-        // Laws, for the proof: with the entry it is a run.
+        // Laws, for the proof: with the entry it is a run, in which the jobs have the paths that they had.
         runs_break_no_rule();
         runs_grow();
+        jobs_keep_their_paths();
+        carried_states_agree();
         match entry.repo {
             Some(repo) => self.accept_of(repo, entry),
             None => {
@@ -214,9 +216,10 @@ impl<'a> RunState<'a> {
         runs_break_no_rule();
         runs_grow();
         runs_log_lines();
-        frames_go_to_others();
-        jobs_hear_nobody_twice();
+        sent_messages_are_read();
         jobs_keep_their_paths();
+        judges_carry_enough();
+        carried_states_agree();
         let begun = self.begun(&entry.kind)?;
         let bodies = bodies_of(self.alloc, entry.sent.as_slice())?;
         self.flights.ready(repo, entry)?;

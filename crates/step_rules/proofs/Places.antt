@@ -1,0 +1,38 @@
+-- Places of a list: what stands there, and what no place has.
+use Rattle.std.proofs.Common.{◌≡◌, ℕ, zero, suc, ◌+◌, ◌<◌, ◌≤◌, List, [], ◌∷◌, ◌++◌, ◌⊎◌, get_or, length, Option, Some, None, refl, ap, subst, sym, ◌∙◌, arith, inl, inr}
+use Rattle.std.specs.Prelude.{slice_get}
+use Rattle.annex_base.specs.Lists.{Each, Member}
+
+pub place_past : {X : Type 0} (xs : List X) (i : ℕ) → slice_get xs i ≡ None → length xs ≤ i
+place_past [] i none = omega arith
+place_past (x ∷ xs) zero none = absurd (cc)
+place_past (x ∷ xs) (suc i) none = let far = place_past xs i none in omega (arith, far)
+
+pub place_in : {X : Type 0} (xs : List X) (i : ℕ) (x : X) → slice_get xs i ≡ Some x → i < length xs
+place_in [] i x at = absurd (cc)
+place_in (y ∷ xs) zero x at = omega arith
+place_in (y ∷ xs) (suc i) x at = let low = place_in xs i x at in omega (arith, low)
+
+pub each_at : {X : Type 0} (P : X → Type 0) (xs : List X) (i : ℕ) (x : X) → Each P xs → slice_get xs i ≡ Some x → P x
+each_at P [] i x each at = absurd (cc)
+each_at {X} P (y ∷ xs) zero x each at = let same : y ≡ x = cc in subst P same each.0
+each_at P (y ∷ xs) (suc i) x each at = each_at P xs i x each.1 at
+
+pub place_last : {X : Type 0} (xs : List X) (i : ℕ) (x y : X) → slice_get (xs ++ x ∷ []) i ≡ Some y → ((i ≡ length xs) × (x ≡ y)) ⊎ (slice_get xs i ≡ Some y)
+place_last [] zero x y at = inl (refl, cc)
+place_last [] (suc i) x y at = absurd (cc)
+place_last (z ∷ xs) zero x y at = inr at
+place_last (z ∷ xs) (suc i) x y at = elim (place_last xs i x y at) [
+  | inl last ↦ (let same = last.0 in inl (omega (arith, same), last.1))
+  | inr before ↦ inr before
+]
+
+pub at_of : {X : Type 0} (xs : List X) (i : ℕ) (x : X) → i < length xs → x ≡ get_or xs i x → slice_get xs i ≡ Some x
+at_of [] i x low is = absurd (omega (arith, low))
+at_of (y ∷ xs) zero x low is = ap (λ z. Some z) (sym is)
+at_of (y ∷ xs) (suc i) x low is = at_of xs i x (omega (arith, low)) is
+
+pub got : {X : Type 0} (xs : List X) (i : ℕ) (x y d : X) → slice_get xs i ≡ Some x → y ≡ get_or xs i d → x ≡ y
+got [] i x y d at is = absurd (cc)
+got (z ∷ xs) zero x y d at is = let same : z ≡ x = cc in sym (is ∙ same)
+got (z ∷ xs) (suc i) x y d at is = got xs i x y d at is
