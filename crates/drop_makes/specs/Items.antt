@@ -1,4 +1,4 @@
--- The evidence of a drop as the Rust values say it (own).
+-- The evidence of a drop as the Rust values say it; for private contracts (own).
 use Rattle.std.specs.Prelude.{Bool, Option, Some, None}
 use Rattle.drop_proof.specs.declared.evidence.Kind.{Kind}
 use Rattle.drop_proof.specs.declared.evidence.Kind.TheVariants as kinds
