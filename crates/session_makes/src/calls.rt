@@ -10,7 +10,7 @@ ghost use Rattle.node_model.specs.SessionStep.{Reply, tries};
 ghost use Rattle.step_judging.specs.Telling.{failed_call};
 ghost use Rattle.session_makes.specs.Scenes.{here_in, is_fault_or, is_reply, is_said};
 
-use crate::replies::{by};
+use crate::replies::by;
 use crate::scene::Scene;
 use annex_base::Call;
 use run_data::EntryKind;
@@ -27,13 +27,7 @@ fn failing(kind: &EntryKind, calls: &[Call]) -> Option<Call>
     ensures { result ≡ failing_call (failed_call kind.now) calls.now }
 {
     match failed_call(kind) {
-        Some(call) => {
-            if makes(calls, call) {
-                Some(call)
-            } else {
-                None
-            }
-        }
+        Some(call) => { if makes(calls, call) { Some(call) } else { None } }
         None => None,
     }
 }

@@ -1,5 +1,5 @@
 //! Which keys are being filled.
-ghost use Rattle.std.specs.Prelude.{◌≡◌, ◌<◌, ◌^◌, ◌&&◌, bytes_eq, length};
+ghost use Rattle.std.specs.Prelude.{◌≡◌, ◌<◌, ◌^◌, ◌&&◌, ◌==◌, bytes_eq, length, not};
 ghost use Rattle.std.specs.List.{list_any};
 ghost use Rattle.node_model.specs.Ends.{server_end};
 ghost use Rattle.node_model.specs.Sessions.{is_filling};
@@ -58,6 +58,14 @@ fn peer_fills(state: &RepoState, key: &Key, peer: u32) -> bool
         || fills_at(state, key, peer, 3)
 }
 
+/// Whether it is another repository, and a session with it takes the bytes of the key.
+fn other_fills(state: &RepoState, key: &Key, own: u32, peer: u32) -> bool
+    ensures { (s : SetUp) (st : State) → IsStateOf state.now s st
+        → result ≡ (not (peer == own) && list_any (λ slot. session_fills st key.now (server_end peer slot)) slots) }
+{
+    peer != own && peer_fills(state, key, peer)
+}
+
 /// Whether a session with another repository takes the bytes of the key.
 fn sessions_fill(repos: &[RepoView], state: &RepoState, key: &Key) -> bool
     requires { length repos.now < 2 ^ 32 }
@@ -66,7 +74,7 @@ fn sessions_fill(repos: &[RepoView], state: &RepoState, key: &Key) -> bool
 {
     let own = state.number();
     for peer in 0..repos.len() as u32 {
-        if peer != own && peer_fills(state, key, peer) {
+        if other_fills(state, key, own, peer) {
             return true;
         }
     }

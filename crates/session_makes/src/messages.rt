@@ -1,8 +1,7 @@
 //! The answers of a session to what it hears, by what it does.
-ghost use Rattle.std.specs.Prelude.{◌≡◌, ◌<◌, ◌^◌, ◌∷◌, [], ℕ, Bool, List, length, IfOk};
+ghost use Rattle.std.specs.Prelude.{◌≡◌, ◌&&◌, ◌<◌, ◌^◌, ℕ, Bool, List, length, nat_le, nat_lt, IfOk};
 ghost use Rattle.run_data.specs.declared.entry.By.TheVariants.{Peer};
 ghost use Rattle.run_data.specs.declared.entry.EntryKind.TheVariants.{Release, Talk};
-ghost use Rattle.run_data.specs.declared.entry.FrameText.TheVariants.{Closing};
 ghost use Rattle.node_model.specs.Calls.{to_commit};
 ghost use Rattle.node_model.specs.Sessions as sessions;
 ghost use Rattle.node_model.specs.SessionStep.{failure_line, is_filled, on_bytes, on_frame, on_message, on_text, on_unlock, on_valid, silent_reply, tries, valid_answer};
@@ -14,8 +13,10 @@ ghost use Rattle.session_makes.specs.Scenes.{here_in, is_reply};
 
 use crate::answers::is_verdict;
 use crate::calls::{commit_calls, tries};
+use crate::replies::{
+    fails, hears, is_left, is_shut, is_silent, is_unexpected, or_unexpected, sent, shuts, talks,
+};
 use crate::requests::requests;
-use crate::replies::{fails, hears, is_left, is_shut, is_silent, is_unexpected, sent, shuts, talks};
 use crate::scene::Scene;
 use annex_base::{Call, NoMemory};
 use annex_key::Key;
@@ -35,16 +36,9 @@ fn releases(scene: &Scene<'_>, hold: u64, key: &Key) -> bool
 fn unlocks(scene: &Scene<'_>, hold: u64, key: &Key, given: &Key) -> bool
     ensures { (filled : List ℕ → Bool) → result ≡ is_reply scene.now (on_unlock (here_in scene.now filled) hold key.now given.now) }
 {
-    if *given == *key {
-        tries(
-            scene,
-            &[Call::Unhold],
-            is_silent(scene),
-            releases(scene, hold, key),
-        )
-    } else {
-        is_unexpected(scene)
-    }
+    let released = releases(scene, hold, key);
+    let good = tries(scene, &[Call::Unhold], is_silent(scene), released);
+    or_unexpected(scene, *given == *key, good)
 }
 
 fn commits_by(scene: &Scene<'_>, key: &Key, size: u128, right: bool) -> bool
@@ -158,15 +152,18 @@ fn hears_message(scene: &Scene<'_>, version: u64, doing: &Doing, message: &Messa
     }
 }
 
+fn is_within(count: u64, left: u64) -> bool
+    ensures { result ≡ (nat_lt 0 count && nat_le count left) }
+{
+    0 < count && count <= left
+}
+
 /// A piece of a content, no longer than what is left.
 fn appends(scene: &Scene<'_>, count: u64, left: u64) -> bool
     ensures { (filled : List ℕ → Bool) (key : List ℕ) (size : ℕ) → result ≡ is_reply scene.now (on_bytes (here_in scene.now filled) count (sessions.Takes key size left)) }
 {
-    if 0 < count && count <= left {
-        tries(scene, &[Call::Append], shuts(scene), hears(scene))
-    } else {
-        is_unexpected(scene)
-    }
+    let good = tries(scene, &[Call::Append], shuts(scene), hears(scene));
+    or_unexpected(scene, is_within(count, left), good)
 }
 
 fn hears_bytes(scene: &Scene<'_>, count: u64, doing: &Doing) -> bool

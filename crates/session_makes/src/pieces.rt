@@ -19,6 +19,9 @@ use p2p_wire::Message;
 use state_sessions::Doing;
 use step_effects::{gives, is_talk};
 
+/// How many bytes a piece has at most.
+const PIECE: u64 = 32_768;
+
 /// Whether the content has so many bytes from a place on.
 fn reaches(size: Option<u64>, at: u128, count: u64) -> bool
     ensures { result ≡ reaches size (at + count) }
@@ -81,7 +84,7 @@ fn gives_on(scene: &Scene<'_>, key: &Key, at: u128, left: u64, good: bool) -> bo
     if left == 0 {
         word(scene, good)
     } else {
-        piece(scene, key, at, left.min(32768))
+        piece(scene, key, at, PIECE.min(left))
     }
 }
 

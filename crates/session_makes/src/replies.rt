@@ -1,11 +1,11 @@
 //! The parts of the replies of a session, and the tests that they take.
-ghost use Rattle.std.specs.Prelude.{◌≡◌, ◌∷◌, [], ℕ, Bool, false, List, None, is_some};
+ghost use Rattle.std.specs.Prelude.{◌≡◌, ◌∷◌, [], ℕ, Bool, false, List, None, is_some, if◌then◌else◌};
 ghost use Rattle.std.specs.List.{list_any};
 ghost use Rattle.run_data.specs.declared.entry.By.TheVariants.{Peer};
 ghost use Rattle.run_data.specs.declared.entry.EntryKind.TheVariants.{Close, Talk};
 ghost use Rattle.run_data.specs.declared.entry.FrameText.TheVariants.{Closing};
 ghost use Rattle.node_model.specs.Rows.{blocks, is_blocked};
-ghost use Rattle.node_model.specs.SessionStep.{failure_line, reply, shuts, silent_reply, unexpected_reply};
+ghost use Rattle.node_model.specs.SessionStep.{Reply, failure_line, reply, shuts, silent_reply, unexpected_reply};
 ghost use Rattle.state_rows.specs.Rows.{bar_of, holds_of, size_of};
 ghost use Rattle.step_judging.specs.Same.{same_kind};
 ghost use Rattle.session_makes.specs.Scenes.{here_in, is_reply, is_said};
@@ -98,6 +98,17 @@ pub(crate) fn is_unexpected(scene: &Scene<'_>) -> bool
     ensures { (filled : List ℕ → Bool) → result ≡ is_reply scene.now (unexpected_reply (here_in scene.now filled)) }
 {
     is_closed(scene) && says_error_and_closes(scene.at, b"unexpected", sent(scene))
+}
+
+/// The reply where it is permitted, and else the answer to what isn't expected.
+pub(crate) fn or_unexpected(scene: &Scene<'_>, permitted: bool, good: bool) -> bool
+    ensures { (filled : List ℕ → Bool) (r : Reply) → good ≡ is_reply scene.now r → result ≡ is_reply scene.now (if permitted then r else unexpected_reply (here_in scene.now filled)) }
+{
+    if permitted {
+        good
+    } else {
+        is_unexpected(scene)
+    }
 }
 
 /// FAILURE is said.

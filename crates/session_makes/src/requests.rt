@@ -16,7 +16,7 @@ ghost use Rattle.session_makes.specs.Scenes.{here_in, is_reply};
 use crate::answers::{finds, is_checked, is_locked, is_offered, is_removed, part};
 use crate::calls::{lock_calls, offer_calls, remove_calls, tries};
 use crate::fills::is_filled;
-use crate::replies::{fails, is_held, is_here, is_unexpected, sent, shuts, talks};
+use crate::replies::{fails, is_held, is_here, is_unexpected, or_unexpected, sent, shuts, talks};
 use crate::scene::Scene;
 use annex_base::{Call, Found};
 use annex_key::Key;
@@ -68,13 +68,7 @@ fn locks(scene: &Scene<'_>, key: &Key) -> bool
     lock_by(scene, key, is_here(scene, key), scene.rows.bar(key))
 }
 
-fn remove_by(
-    scene: &Scene<'_>,
-    key: &Key,
-    here: bool,
-    bar: Option<u32>,
-    blocked: bool,
-) -> bool
+fn remove_by(scene: &Scene<'_>, key: &Key, here: bool, bar: Option<u32>, blocked: bool) -> bool
     ensures { (filled : List ℕ → Bool) → result ≡ is_reply scene.now (tries (here_in scene.now filled) (to_remove here bar blocked) failure_line
         (remove_answer (Peer scene.now.at.peer scene.now.at.slot) key.now here bar blocked)) }
 {
@@ -112,11 +106,7 @@ fn removes_before(scene: &Scene<'_>, before: u64, key: &Key) -> bool
 fn orders(scene: &Scene<'_>, version: u64, before: u64, key: &Key) -> bool
     ensures { (filled : List ℕ → Bool) → result ≡ is_reply scene.now (on_request (here_in scene.now filled) version (messages.RemoveBefore before key.now)) }
 {
-    if version >= 3 {
-        removes_before(scene, before, key)
-    } else {
-        is_unexpected(scene)
-    }
+    or_unexpected(scene, version >= 3, removes_before(scene, before, key))
 }
 
 fn tells_time(scene: &Scene<'_>) -> bool
@@ -128,11 +118,7 @@ fn tells_time(scene: &Scene<'_>) -> bool
 fn times(scene: &Scene<'_>, version: u64) -> bool
     ensures { (filled : List ℕ → Bool) → result ≡ is_reply scene.now (on_request (here_in scene.now filled) version messages.GetTimestamp) }
 {
-    if version >= 3 {
-        tells_time(scene)
-    } else {
-        is_unexpected(scene)
-    }
+    or_unexpected(scene, version >= 3, tells_time(scene))
 }
 
 /// How many bytes a GET from this place gives.
@@ -159,11 +145,11 @@ fn gives_by(scene: &Scene<'_>, start: u64, size: Option<u64>) -> bool
 fn gives(scene: &Scene<'_>, version: u64, start: u64, key: &Key) -> bool
     ensures { (filled : List ℕ → Bool) (file : List ℕ) → result ≡ is_reply scene.now (on_request (here_in scene.now filled) version (messages.Get start file key.now)) }
 {
-    if version >= 1 {
-        gives_by(scene, start, scene.rows.size(key))
-    } else {
-        is_unexpected(scene)
-    }
+    or_unexpected(
+        scene,
+        version >= 1,
+        gives_by(scene, start, scene.rows.size(key)),
+    )
 }
 
 fn offer_by(scene: &Scene<'_>, part: u64, here: bool, filled: bool) -> bool
@@ -194,11 +180,7 @@ fn puts(scene: &Scene<'_>, version: u64, key: &Key) -> bool
     ensures { (s : SetUp) (st : State) (file : List ℕ) → s.repos ≡ scene.now.repos.now → IsStateOf scene.now.state.now s st
         → result ≡ is_reply scene.now (on_request (here_in scene.now (is_filled s st)) version (messages.Put file key.now)) }
 {
-    if version >= 1 {
-        offers(scene, key)
-    } else {
-        is_unexpected(scene)
-    }
+    or_unexpected(scene, version >= 1, offers(scene, key))
 }
 
 /// The answer to a request, of a session that waits for one and speaks this version.

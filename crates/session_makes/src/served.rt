@@ -1,16 +1,16 @@
 //! Whether an entry is what the session of its frame makes.
-ghost use Rattle.std.specs.Prelude.{◌≡◌, ◌+◌, ◌<◌, ◌^◌, ◌∷◌, ℕ, Bool, false, List, Some, None, length, slice_get, if◌then◌else◌, IfOk};
+ghost use Rattle.std.specs.Prelude.{◌≡◌, ◌&&◌, ◌==◌, ◌+◌, ◌<◌, ◌^◌, ◌∷◌, [], ℕ, Bool, false, List, Some, None, length, nat_lt, not, slice_get, if◌then◌else◌, IfOk};
 ghost use Rattle.std.specs.Option.{option_copied};
 ghost use Rattle.std.specs.declared.option.Option.{Option};
 ghost use Rattle.annex_base.specs.declared.kinds.Word.{Word};
 ghost use Rattle.run_data.specs.declared.entry.FrameView.{FrameView};
 ghost use Rattle.node_model.specs.Ends.{end_takes, may_take, server_end};
-ghost use Rattle.node_model.specs.SessionStep.{gives_made, gives_next, here, is_filled, on_frame, reply_made, session_at};
+ghost use Rattle.node_model.specs.SessionStep.{gives_next, here, is_filled, on_frame};
 ghost use Rattle.node_model.specs.SetUp.{SetUp};
 ghost use Rattle.node_model.specs.Slots.{job_of};
 ghost use Rattle.node_model.specs.State.{State};
 ghost use Rattle.step_judging.specs.Rules.{effect_of, is_effect};
-ghost use Rattle.step_judging.specs.Same.{same_effect};
+ghost use Rattle.step_judging.specs.Same.{same_lines};
 ghost use Rattle.step_judging.specs.Telling.{look_of};
 ghost use Rattle.step_judging.specs.Told.{connection_told, is_served, session_told};
 ghost use Rattle.step_state.specs.States.{IsStateOf, made_of};
@@ -57,11 +57,17 @@ fn after_taking(was: Standing, frame: &FrameView) -> Standing
     }
 }
 
+fn is_other(count: usize, own: u32, peer: u32, slot: u32) -> bool
+    ensures { result ≡ (nat_lt peer count && not (peer == own) && nat_lt slot 4) }
+{
+    (peer as usize) < count && peer != own && slot < 4
+}
+
 /// Whether the repository is the server of the connection.
 fn is_served(repos: &[RepoView], own: u32, peer: u32, slot: u32) -> bool
     ensures { (s : SetUp) → s.repos ≡ repos.now → s.number ≡ own → result ≡ is_served s (peer, slot) }
 {
-    (peer as usize) < repos.len() && peer != own && slot < 4
+    is_other(repos.len(), own, peer, slot)
 }
 
 /// What the session of this repository reads.
@@ -78,7 +84,7 @@ fn scene_at<'a>(
     ensures state { result.state.now ≡ state.now }
     ensures told { result.told.now ≡ told.now }
     ensures here { (s : SetUp) (st : State) (words : ℕ → Option Word) → s.repos ≡ repos.now → IsStateOf state.now s st → slice_get repos.now s.number ≡ Some repo.now
-        → here_in result (is_filled s st) ≡ here s st (look_of st words told.now) (name_of at) }
+        → here_in result (is_filled s st) ≡ here s st (look_of st words told.now) (name_of result.at) }
 {
     Scene {
         at,
@@ -155,80 +161,29 @@ fn server_end(state: &RepoState, frame: &FrameView) -> Standing
     state.ends().end(at, false)
 }
 
-/// Whether the entry tells of the answer to its frame, at an end that stood so.
-fn answer_told(
-    alloc: Global,
-    scene: &Scene<'_>,
-    frame: &FrameView,
-) -> Result<bool, NoMemory>
-    requires { length scene.now.repos.now < 2 ^ 32 }
-    ensures { IfOk result (λ b. (s : SetUp) (st : State) → s.repos ≡ scene.now.repos.now → IsStateOf scene.now.state.now s st → scene.now.told.now.taken ≡ Some frame.now
-        → b ≡ same_effect (reply_made (name_of scene.now.at) scene.now.at.was (Some frame.now)
-            (on_frame (here_in scene.now (is_filled s st)) (st.sessions (server_end scene.now.at.peer scene.now.at.slot)) frame.now.body)) (effect_of scene.now.told.now)) }
+/// Whether the entry adds no lines, where it tells the reply so.
+fn tells(scene: &Scene<'_>, replied: bool) -> bool
+    ensures { result ≡ (replied && same_lines [] scene.now.told.now.lines) }
 {
-    let answered = answers(alloc, scene, &frame.body)?;
-    Ok(answered && scene.told.lines.as_slice().is_empty())
+    replied && scene.told.lines.as_slice().is_empty()
 }
 
-/// Whether the entry is what the session of the frame that it takes makes.
-fn taking_told(
-    alloc: Global,
-    repos: &[RepoView],
-    state: &RepoState,
-    told: &Entry,
-    repo: &RepoView,
-    frame: &FrameView,
-) -> Result<bool, NoMemory>
-    requires many { length repos.now < 2 ^ 32 }
-    requires few { made_of state.now + 1 < 2 ^ 56 }
-    ensures { IfOk result (λ b. (s : SetUp) (st : State) (words : ℕ → Option Word) → s.repos ≡ repos.now → IsStateOf state.now s st → slice_get repos.now s.number ≡ Some repo.now
-        → job_of told.now.kind ≡ None → told.now.taken ≡ Some frame.now
-        → b ≡ is_effect (session_at s st (look_of st words told.now) (server_end frame.now.peer frame.now.slot)) (effect_of told.now)) }
+/// Whether the session takes the frame at an end that stood so.
+fn takes_frame(was: Standing, frame: &FrameView) -> bool
+    ensures { result ≡ (frame.now.up && may_take was frame.now) }
 {
-    let was = server_end(state, frame);
-    if frame.up && may_take(was, frame) {
-        let end = end_at(frame, after_taking(was, frame));
-        answer_told(alloc, &scene_at(repos, state, told, repo, end), frame)
-    } else {
-        Ok(false)
-    }
+    frame.up && may_take(was, frame)
 }
 
-/// Whether the entry tells of what the session gives unasked.
-fn gift_told(scene: &Scene<'_>) -> bool
-    ensures { (s : SetUp) (st : State) → IsStateOf scene.now.state.now s st → scene.now.told.now.taken ≡ None
-        → result ≡ is_effect (gives_made (name_of scene.now.at) scene.now.at.was (gives_next (here_in scene.now (is_filled s st)) (st.sessions (server_end scene.now.at.peer scene.now.at.slot)).doing)) (effect_of scene.now.told.now) }
+/// Whether the session may send the frame unasked at an end that stands so.
+fn sends_unasked(was: Standing, frame: &FrameView) -> bool
+    ensures { result ≡ (not frame.now.up && was.opened) }
 {
-    gives(scene) && scene.told.lines.as_slice().is_empty()
-}
-
-/// Whether the entry, which takes no frame, is what the session of the first frame that it sends makes.
-fn giving_told(
-    repos: &[RepoView],
-    state: &RepoState,
-    told: &Entry,
-    repo: &RepoView,
-    frame: &FrameView,
-) -> bool
-    requires { made_of state.now + 1 < 2 ^ 56 }
-    ensures { (s : SetUp) (st : State) (words : ℕ → Option Word) (more : List FrameView) → s.repos ≡ repos.now → IsStateOf state.now s st → slice_get repos.now s.number ≡ Some repo.now
-        → job_of told.now.kind ≡ None → told.now.taken ≡ None → told.now.sent ≡ frame.now ∷ more
-        → result ≡ is_effect (session_at s st (look_of st words told.now) (server_end frame.now.peer frame.now.slot)) (effect_of told.now) }
-{
-    let was = server_end(state, frame);
-    if !frame.up && was.opened {
-        gift_told(&scene_at(repos, state, told, repo, end_at(frame, was)))
-    } else {
-        false
-    }
+    !frame.up && was.opened
 }
 
 /// The repository itself, if the connection of the frame is one of those where it is the server.
-fn server<'a>(
-    repos: &'a [RepoView],
-    state: &RepoState,
-    frame: &FrameView,
-) -> Option<&'a RepoView>
+fn server<'a>(repos: &'a [RepoView], state: &RepoState, frame: &FrameView) -> Option<&'a RepoView>
     ensures { (s : SetUp) (st : State) → s.repos ≡ repos.now → IsStateOf state.now s st
         → option_copied result ≡ (if is_served s (frame.now.peer, frame.now.slot) then slice_get repos.now s.number else None) }
 {
@@ -237,6 +192,64 @@ fn server<'a>(
         repos.get(own as usize)
     } else {
         None
+    }
+}
+
+/// Whether the entry is what the session of the frame that it takes makes.
+fn taking_told(
+    alloc: Global,
+    repos: &[RepoView],
+    state: &RepoState,
+    told: &Entry,
+    frame: &FrameView,
+) -> Result<bool, NoMemory>
+    requires many { length repos.now < 2 ^ 32 }
+    requires few { made_of state.now + 1 < 2 ^ 56 }
+    ensures { IfOk result (λ b. (s : SetUp) (st : State) (words : ℕ → Option Word) → s.repos ≡ repos.now → IsStateOf state.now s st
+        → job_of told.now.kind ≡ None → told.now.taken ≡ Some frame.now
+        → b ≡ is_effect (session_told s st (look_of st words told.now) (Some (frame.now.peer, frame.now.slot))) (effect_of told.now)) }
+{
+    let Some(repo) = server(repos, state, frame) else {
+        return Ok(false);
+    };
+    let was = server_end(state, frame);
+    if !takes_frame(was, frame) {
+        return Ok(false);
+    }
+    let end = end_at(frame, after_taking(was, frame));
+    let scene = scene_at(repos, state, told, repo, end);
+    let answered = answers(alloc, &scene, &frame.body)?;
+    Ok(tells(&scene, answered))
+}
+
+/// Whether the entry, which takes no frame, is what the session of the first frame that it sends makes.
+fn giving_told(repos: &[RepoView], state: &RepoState, told: &Entry, frame: &FrameView) -> bool
+    requires { made_of state.now + 1 < 2 ^ 56 }
+    ensures { (s : SetUp) (st : State) (words : ℕ → Option Word) (more : List FrameView) → s.repos ≡ repos.now → IsStateOf state.now s st
+        → job_of told.now.kind ≡ None → told.now.taken ≡ None → told.now.sent ≡ frame.now ∷ more
+        → result ≡ is_effect (session_told s st (look_of st words told.now) (Some (frame.now.peer, frame.now.slot))) (effect_of told.now) }
+{
+    let Some(repo) = server(repos, state, frame) else {
+        return false;
+    };
+    let was = server_end(state, frame);
+    if !sends_unasked(was, frame) {
+        return false;
+    }
+    let scene = scene_at(repos, state, told, repo, end_at(frame, was));
+    tells(&scene, gives(&scene))
+}
+
+/// Whether the entry, which takes no frame, is what the session of the first frame that it sends makes, if it sends one.
+fn first_told(repos: &[RepoView], state: &RepoState, told: &Entry) -> bool
+    requires { made_of state.now + 1 < 2 ^ 56 }
+    ensures { (s : SetUp) (st : State) (words : ℕ → Option Word) → s.repos ≡ repos.now → IsStateOf state.now s st
+        → job_of told.now.kind ≡ None → told.now.taken ≡ None
+        → result ≡ is_effect (session_told s st (look_of st words told.now) (connection_told None told.now.sent)) (effect_of told.now) }
+{
+    match told.sent.as_slice().split_first() {
+        Some((frame, _)) => giving_told(repos, state, told, frame),
+        None => false,
     }
 }
 
@@ -253,15 +266,8 @@ pub fn session_told(
     ensures { IfOk result (λ b. (s : SetUp) (st : State) (words : ℕ → Option Word) → s.repos ≡ repos.now → IsStateOf state.now s st → job_of told.now.kind ≡ None
         → b ≡ is_effect (session_told s st (look_of st words told.now) (connection_told told.now.taken told.now.sent)) (effect_of told.now)) }
 {
-    match (&told.taken, told.sent.as_slice().split_first()) {
-        (Some(frame), _) => match server(repos, state, frame) {
-            Some(repo) => taking_told(alloc, repos, state, told, repo, frame),
-            None => Ok(false),
-        },
-        (None, Some((frame, _))) => match server(repos, state, frame) {
-            Some(repo) => Ok(giving_told(repos, state, told, repo, frame)),
-            None => Ok(false),
-        },
-        (None, None) => Ok(false),
+    match &told.taken {
+        Some(frame) => taking_told(alloc, repos, state, told, frame),
+        None => Ok(first_told(repos, state, told)),
     }
 }

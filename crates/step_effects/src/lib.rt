@@ -18,8 +18,7 @@ pub use kinds::{
 };
 pub use look::{failed_call, matches_told, part_told};
 pub use names::{
-    is_number, is_number_if, same_call, same_lines, same_need, same_number, same_numbers,
-    same_owner,
+    is_number, same_call, same_lines, same_need, same_number, same_numbers, same_owner,
 };
 pub use outcomes::{
     ended, same_candidates, same_failures, same_outcome, same_proof, same_refusal, same_transfer,

@@ -17,7 +17,7 @@ pub fn is_number(made: u128, told: u64) -> bool
 }
 
 /// Whether the number, if there is one, is the one that is told.
-pub fn is_number_if(made: Option<u128>, told: Option<u64>) -> bool
+pub(crate) fn is_number_if(made: Option<u128>, told: Option<u64>) -> bool
     ensures { result ≡ same_number made told }
 {
     match (made, told) {

@@ -1,35 +1,21 @@
 -- What the step of a job knows of the logs, and what is told by it.
-use Rattle.std.proofs.Common.{◌≡◌, ℕ, Bool, true, false, Option, Some, None, refl, sym, ap, subst, ◌∙◌, true≢false}
-use Rattle.annex_base.specs.Settings.{Settings}
+use Rattle.std.proofs.Common.{◌≡◌, true, false, Option, Some, None, refl, sym, ap, ◌∙◌, true≢false}
 use Rattle.node_model.specs.After.{has_read}
 use Rattle.node_model.specs.JobStep as steps
 use Rattle.node_model.specs.JobStep.{turn_of}
-use Rattle.node_model.specs.Jobs.{Drops, Fresh, Late, Next, Phase, Removed}
+use Rattle.node_model.specs.Jobs.{Drops, Next, Phase}
 use Rattle.node_model.specs.Jobs as jobs
 use Rattle.node_model.specs.SetUp.{SetUp}
 use Rattle.node_model.specs.State.{State}
 use Rattle.step_judging.specs.Telling.{look_of}
-use Rattle.state_jobs.specs.Phases.{part_of}
 use Rattle.state_jobs.specs.Works.{work_of}
-use Rattle.state_jobs.specs.declared.phase.Part.{Part}
-use Rattle.state_jobs.specs.declared.phase.Part.TheVariants as parts
-use Rattle.job_makes.specs.Turns.{set_up_in, state_in, turn_in, word_in}
+use Rattle.job_makes.specs.Turns.{turn_in, word_in}
 use Rattle.job_makes.specs.declared.turn.Turn.{Turn}
 use Rattle.drop_makes.specs.Knowings.{drop_in}
 use Rattle.drop_makes.specs.declared.knowing.Knowing.{Knowing}
-use Rattle.step_makes.specs.Knowledge.{CanJudge, IsReadBy, IsTurnOf, KnowsEnough, is_judging, reads_logs}
+use Rattle.step_makes.specs.Knowledge.{CanJudge, IsReadBy, IsTurnOf, KnowsEnough, is_judging}
 
 -- ---- who reads the logs
-
-pub removed_reads : (p : Part) → reads_logs (part_of p) Removed ≡ true
-removed_reads parts.Gets = refl
-removed_reads parts.Puts = refl
-removed_reads parts.Drops = refl
-
-pub late_reads : (p : Part) (time : ℕ) → reads_logs (part_of p) (Late time) ≡ true
-late_reads parts.Gets time = refl
-late_reads parts.Puts time = refl
-late_reads parts.Drops time = refl
 
 -- a drop that judges is past its first step
 pub judging_read : (p : jobs.Part) (phase : Phase) → is_judging p phase ≡ true → has_read p phase ≡ true
@@ -39,17 +25,23 @@ judging_read p phase is = absurd (true≢false (sym is))
 
 -- ---- what is told by what is known
 
+some_same : {A : Type 0} (x y : A) → Some x ≡ Some y → x ≡ y
+some_same x y is = cc
+
+none_some : {A : Type 0} (x : A) → None ≡ Some x → ⊥
+none_some x is = absurd cc
+
 pub known_turn : (o : Option Knowing) (k : Knowing) (x : Turn) → o ≡ Some k → KnowsEnough x o → k.turn.now ≡ x
-known_turn None k x is enough = absurd cc
-known_turn (Some j) k x is enough = let same : k ≡ j = cc in ap (λ (i : Knowing). i.turn.now) same ∙ enough
+known_turn None k x is enough = absurd (none_some k is)
+known_turn (Some j) k x is enough = ap (λ (i : Knowing). i.turn.now) (sym (some_same j k is)) ∙ enough
 
 pub judging_turn : (o : Option Knowing) (k : Knowing) (x : Turn) → o ≡ Some k → CanJudge x o → k.turn.now ≡ x
-judging_turn None k x is can = absurd cc
-judging_turn (Some j) k x is can = let same : k ≡ j = cc in ap (λ (i : Knowing). i.turn.now) same ∙ can
+judging_turn None k x is can = absurd (none_some k is)
+judging_turn (Some j) k x is can = ap (λ (i : Knowing). i.turn.now) (sym (some_same j k is)) ∙ can
 
 pub known_reads : (o : Option Knowing) (k : Knowing) (x : Turn) (s : SetUp) (st : State) → o ≡ Some k → IsReadBy x o s st → turn_in x s st ≡ drop_in x k.logs.now s st
-known_reads None k x s st is read = absurd cc
-known_reads (Some j) k x s st is read = let same : j ≡ k = cc in read ∙ ap (λ (i : Knowing). drop_in x i.logs.now s st) same
+known_reads None k x s st is read = absurd (none_some k is)
+known_reads (Some j) k x s st is read = read ∙ ap (λ (i : Knowing). drop_in x i.logs.now s st) (some_same j k is)
 
 -- what is said of the turn of what is known is said of the turn
 pub through : {Y : Type 0} (k : Knowing) (x : Turn) (s : SetUp) (st : State) (y : Y) (F : Turn → steps.Turn → Y) → k.turn.now ≡ x → turn_in x s st ≡ drop_in x k.logs.now s st

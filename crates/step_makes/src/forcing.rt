@@ -111,16 +111,27 @@ fn judges_freely(known: &Knowing) -> bool
     }
 }
 
+/// By what a drop judges.
+fn judging_by<'b>(turn: &Turn, judging: Option<&'b Knowing<'b>>) -> &'b Knowing<'b>
+    requires judge { CanJudge turn.now (option_copied judging) }
+    requires part { turn.now.work.now.part ≡ Part.Drops }
+    requires phase { turn.now.work.now.phase ≡ Phase.Next }
+    ensures { option_copied judging.entry ≡ Some result.now }
+{
+    match judging {
+        Some(known) => known,
+        None => unreachable!(),
+    }
+}
+
 fn drop_goes_freely(turn: &Turn, judging: Option<&Knowing>) -> bool
     requires judge { CanJudge turn.now (option_copied judging) }
     requires part { turn.now.work.now.part ≡ Part.Drops }
     requires phase { turn.now.work.now.phase ≡ Phase.Next }
     ensures { (s : SetUp) (st : State) → IsReadBy turn.now (option_copied judging.entry) s st → result ≡ is_nil (next_needs (turn_in turn.now s st) (part_of turn.now.work.now.part)) }
 {
-    match judging {
-        Some(known) => judges_freely(known),
-        None => unreachable!(),
-    }
+    let known = judging_by(turn, judging);
+    judges_freely(known)
 }
 
 fn goes_freely(turn: &Turn, judging: Option<&Knowing>) -> bool

@@ -39,6 +39,15 @@ fn step_by_logs(alloc: Global, turn: &Turn, logs: &KnownLogs) -> Result<bool, No
     by_partner(alloc, turn, Some(&known))
 }
 
+/// The step of a job that reads the logs now.
+fn step_anew(alloc: Global, turn: &Turn, paths: &[Text]) -> Result<bool, NoMemory>
+    ensures { IfOk result (λ b. (s : SetUp) (st : State) → IsTurnOf turn.now s st → HasRoom turn.now → st.read turn.now.work.now.number ≡ st.logs → s.paths turn.now.work.now.number ≡ paths.now
+        → b ≡ is_effect (by_partner (turn_in turn.now s st) (partner turn.now.work.now.what.peer (phase_of turn.now.work.now.phase))) (effect_of turn.now.told.now)) }
+{
+    let logs = turn.state.logs_now(alloc, paths, turn.work)?;
+    step_by_logs(alloc, turn, &logs)
+}
+
 /// The step of a job that reads the logs: what it has read of them, or else reads now.
 fn step_with_logs(alloc: Global, turn: &Turn, paths: &[Text]) -> Result<bool, NoMemory>
     ensures { IfOk result (λ b. (s : SetUp) (st : State) → IsTurnOf turn.now s st → HasRoom turn.now → IsOnly st.works (work_of turn.now.work.now) → s.paths turn.now.work.now.number ≡ paths.now
@@ -47,10 +56,7 @@ fn step_with_logs(alloc: Global, turn: &Turn, paths: &[Text]) -> Result<bool, No
     let reads = turn.state.reads();
     match reads.reading(turn.work.number) {
         Some(logs) => step_by_logs(alloc, turn, logs),
-        None => {
-            let logs = turn.state.logs_now(alloc, paths, turn.work)?;
-            step_by_logs(alloc, turn, &logs)
-        }
+        None => step_anew(alloc, turn, paths),
     }
 }
 
@@ -68,20 +74,26 @@ fn step_of(alloc: Global, turn: &Turn, paths: &[Text]) -> Result<bool, NoMemory>
 
 // ---- the jobs of earlier slots
 
+/// A job that has read this of the logs has a step whatever is at hand.
+fn forced_by_logs(alloc: Global, turn: &Turn, logs: &KnownLogs) -> Result<bool, NoMemory>
+    ensures { IfOk result (λ b. (s : SetUp) (st : State) → AreLogsRead (st.read turn.now.work.now.number) (set_up_in turn.now s) (work_of turn.now.work.now) logs.now
+        → b ≡ is_forced (turn_in turn.now s st) (partner turn.now.work.now.what.peer (phase_of turn.now.work.now.phase))) }
+{
+    // A law, for the proof: the turn of a drop that has read this is the turn.
+    readings_are_kept();
+    let known = Knowing::new(alloc, turn, logs)?;
+    Ok(is_forced(turn, Some(&known)))
+}
+
 /// A job that judges has a step whatever is at hand.
 fn judges_forced(alloc: Global, turn: &Turn) -> Result<bool, NoMemory>
     requires { is_judging (part_of turn.now.work.now.part) (phase_of turn.now.work.now.phase) ≡ true }
     ensures { IfOk result (λ b. (s : SetUp) (st : State) → IsTurnOf turn.now s st → IsOnly st.works (work_of turn.now.work.now)
         → b ≡ is_forced (turn_in turn.now s st) (partner turn.now.work.now.what.peer (phase_of turn.now.work.now.phase))) }
 {
-    // A law, for the proof: the turn of a drop that has read this is the turn.
-    readings_are_kept();
     let reads = turn.state.reads();
     match reads.reading(turn.work.number) {
-        Some(logs) => {
-            let known = Knowing::new(alloc, turn, logs)?;
-            Ok(is_forced(turn, Some(&known)))
-        }
+        Some(logs) => forced_by_logs(alloc, turn, logs),
         // For the proof: a drop that judges has read the logs.
         None => Ok(false),
     }

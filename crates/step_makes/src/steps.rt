@@ -146,11 +146,7 @@ fn piece_of(left: u64) -> u64
 }
 
 /// Whether the entry is the step of a job that takes no frame.
-pub(crate) fn goes(
-    alloc: Global,
-    turn: &Turn,
-    knowing: Option<&Knowing>,
-) -> Result<bool, NoMemory>
+pub(crate) fn goes(alloc: Global, turn: &Turn, knowing: Option<&Knowing>) -> Result<bool, NoMemory>
     requires { KnowsEnough turn.now (option_copied knowing) }
     ensures { IfOk result (λ b. (s : SetUp) (st : State) → IsTurnOf turn.now s st → IsReadBy turn.now (option_copied knowing.entry) s st
         → b ≡ same_effect (goes (turn_in turn.now s st) (phase_of turn.now.work.now.phase)) (effect_of turn.now.told.now)) }

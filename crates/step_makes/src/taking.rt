@@ -183,6 +183,24 @@ fn takes(
     }
 }
 
+fn takes_read(
+    alloc: Global,
+    turn: &Turn,
+    knowing: Option<&Knowing>,
+    frame: &FrameView,
+    peer: u32,
+    read: &Option<Message>,
+) -> Result<bool, NoMemory>
+    requires { KnowsEnough turn.now (option_copied knowing) }
+    ensures { IfOk result (λ b. (s : SetUp) (st : State) → IsReadBy turn.now (option_copied knowing.entry) s st
+        → b ≡ same_effect (takes_text (turn_in turn.now s st) frame.now peer read.now) (effect_of turn.now.told.now)) }
+{
+    match read {
+        Some(message) => takes(alloc, turn, knowing, frame, peer, message),
+        None => Ok(turn.wrong_message(frame, peer)),
+    }
+}
+
 fn takes_text(
     alloc: Global,
     turn: &Turn,
@@ -196,10 +214,7 @@ fn takes_text(
         → b ≡ same_effect (takes_text (turn_in turn.now s st) frame.now peer (message_of text.now)) (effect_of turn.now.told.now)) }
 {
     let read = Message::read(alloc, text.bytes())?;
-    match &read {
-        Some(message) => takes(alloc, turn, knowing, frame, peer, message),
-        None => Ok(turn.wrong_message(frame, peer)),
-    }
+    takes_read(alloc, turn, knowing, frame, peer, &read)
 }
 
 /// Whether the entry is the step of a job that takes this frame of its partner.

@@ -26,7 +26,7 @@ returns-in-Remote c =
     IfOk-weaker c.drop_goes_to.result
     (λ b. (s : SetUp) (st : State) → b ≡ same_effect (goes_to (drop_in x k.logs.now s st) c.target.result) (effect_of x.told.now))
     (λ b. (s : SetUp) (st : State) → b ≡ same_effect (judges (drop_in x k.logs.now s st) true None (side_of (drop_in x k.logs.now s st).w)) (effect_of x.told.now))
-    (λ b told s st. 
+    (λ b told s st.
     let d = drop_in x k.logs.now s st in
     told s st
     ∙ ap (λ (p : ℕ). same_effect (goes_to d p) (effect_of x.told.now)) c.target.ensures

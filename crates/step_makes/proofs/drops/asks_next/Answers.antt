@@ -1,5 +1,5 @@
 -- What the proof of `drops::asks_next` needs beside the tactics.
-use Rattle.std.proofs.Common.{sym, ap, false, None, Some, ℕ, Option, ◌∙◌, ◌≡◌}
+use Rattle.std.proofs.Common.{sym, ap, false, None, ℕ, Option, ◌∙◌, ◌≡◌}
 use Rattle.node_model.specs.DropStep.{lacking_outcome}
 use Rattle.step_judging.specs.Same.{same_effect}
 use Rattle.step_judging.specs.Rules.{effect_of}
@@ -20,7 +20,7 @@ returns-in-Some c =
     IfOk-weaker c.drop_goes_to.result
     (λ b. (s : SetUp) (st : State) → b ≡ same_effect (goes_to (drop_in x k.logs.now s st) c.in-Some.peer) (effect_of x.told.now))
     (λ b. (s : SetUp) (st : State) → b ≡ same_effect (judges (drop_in x k.logs.now s st) false c.args.next (side_of (drop_in x k.logs.now s st).w)) (effect_of x.told.now))
-    (λ b told s st. 
+    (λ b told s st.
     let d = drop_in x k.logs.now s st in
     told s st ∙ ap (λ (o : Option ℕ). same_effect (judges d false o (side_of d.w)) (effect_of x.told.now)) (sym c.in-Some.is))
     c.drop_goes_to.ensures
@@ -32,7 +32,7 @@ returns-in-None c =
     IfOk-weaker c.lacks.result
     (λ b. (s : SetUp) (st : State) → b ≡ same_effect (ends (drop_in x k.logs.now s st) None (lacking_outcome (drop_in x k.logs.now s st))) (effect_of x.told.now))
     (λ b. (s : SetUp) (st : State) → b ≡ same_effect (judges (drop_in x k.logs.now s st) false c.args.next (side_of (drop_in x k.logs.now s st).w)) (effect_of x.told.now))
-    (λ b told s st. 
+    (λ b told s st.
     let d = drop_in x k.logs.now s st in
     told s st ∙ ap (λ (o : Option ℕ). same_effect (judges d false o (side_of d.w)) (effect_of x.told.now)) (sym c.in-None.is))
     c.lacks.ensures

@@ -21,7 +21,7 @@ returns-then-is_open c =
     IfOk-weaker c.asks_copy.result
     (λ b. (s : SetUp) (st : State) → b ≡ same_effect (asks_copy (drop_in x k.logs.now s st) x.work.now.version None c.args.peer (side_of (drop_in x k.logs.now s st).w)) (effect_of x.told.now))
     (λ b. (s : SetUp) (st : State) → b ≡ same_effect (goes_to (drop_in x k.logs.now s st) c.args.peer) (effect_of x.told.now))
-    (λ b told s st. 
+    (λ b told s st.
     let d = drop_in x k.logs.now s st in
     let here : (end_with d c.args.peer).opened ≡ true = sym (c.is_open.ensures s st) ∙ c.if-is_open.true in
     told s st

@@ -18,7 +18,7 @@ returns-then-enough c =
     IfOk-weaker c.acts.result
     (λ b. (s : SetUp) (st : State) → b ≡ same_effect (judges (drop_in x k.logs.now s st) true None (side_of (drop_in x k.logs.now s st).w)) (effect_of x.told.now))
     (λ b. (s : SetUp) (st : State) → b ≡ same_effect (next_step (drop_in x k.logs.now s st) Drops) (effect_of x.told.now))
-    (λ b told s st. 
+    (λ b told s st.
     let d = drop_in x k.logs.now s st in
     told s st ∙ ap (λ (e : Bool). same_effect (judges d e (next_by d.read d.w) (side_of d.w)) (effect_of x.told.now)) (sym c.if-enough.true ∙ c.enough.ensures s st))
     c.acts.ensures
@@ -30,7 +30,7 @@ returns-else-enough c =
     IfOk-weaker c.asks_next.result
     (λ b. (s : SetUp) (st : State) → b ≡ same_effect (judges (drop_in x k.logs.now s st) false c.next.result (side_of (drop_in x k.logs.now s st).w)) (effect_of x.told.now))
     (λ b. (s : SetUp) (st : State) → b ≡ same_effect (next_step (drop_in x k.logs.now s st) Drops) (effect_of x.told.now))
-    (λ b told s st. 
+    (λ b told s st.
     let d = drop_in x k.logs.now s st in
     told s st
     ∙ ap (λ (o : Option ℕ). same_effect (judges d false o (side_of d.w)) (effect_of x.told.now)) (c.next.ensures s st)

@@ -18,4 +18,4 @@ returns c = λ s st repos is.
     let same = due_same s.repos c.args.repos.now st.lines c.branch-branch.result.now (st.wall told.time) c.wall-clock.result o repos has (c.wall-clock.ensures.value s st is) in
     c.tells_lines.ensures
     ∙ (λ i. c.is_location-kind_is.ensures i && option_eq same_frame None told.taken && same_frames [] told.sent && c.same_lines-lines_is.ensures i)
-    ∙ (λ i. same_kind (Log (Location (o.key))) told.kind && option_eq same_frame None told.taken && same_frames [] told.sent && same_lines ((c.lines.ensures.value ∙ c.in_ok-due.ensures ∙ sym same) i) told.lines)
+    ∙ (λ i. same_kind (Log (Location ((c.line.view_is i).key))) told.kind && option_eq same_frame None told.taken && same_frames [] told.sent && same_lines ((c.lines.ensures.value ∙ c.in_ok-due.ensures ∙ sym same) i) (c.as_slice.ensures i))

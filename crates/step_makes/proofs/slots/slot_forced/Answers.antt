@@ -33,7 +33,7 @@ returns-in-Some c =
     IfOk-weaker c.job_forced.result
     (λ b. (s : SetUp) (st : State) → IsTurnOf own s st → IsOnly st.works (work_of own.work.now) → b ≡ is_forced (turn_in own s st) (partner own.work.now.what.peer (phase_of own.work.now.phase)))
     (λ b. (s : SetUp) (st : State) → IsTurnOf x s st → AreAlone st.works → b ≡ forced_in s st (look_of st (word_in x.words.now) x.told.now) (find p st.works))
-    (λ b told s st of alone. 
+    (λ b told s st of alone.
     let its : IsTurnOf own s st = record {
       repos = of.repos ∙ sym given.repos;
       state_is = subst (λ (z : RepoState). IsStateOf z s st) (sym given.state) of.state_is;

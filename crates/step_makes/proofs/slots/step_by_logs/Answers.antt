@@ -24,6 +24,6 @@ returns c =
     IfOk-weaker c.by_partner.result
     (λ b. (s : SetUp) (st : State) → IsTurnOf x s st → HasRoom x → IsReadBy x (Some k) s st → b ≡ is_effect (by_partner (turn_in x s st) (partner x.work.now.what.peer (phase_of x.work.now.phase))) (effect_of x.told.now))
     (λ b. (s : SetUp) (st : State) → IsTurnOf x s st → HasRoom x → AreLogsRead (st.read x.work.now.number) (set_up_in x s) (work_of x.work.now) c.args.logs.now → b ≡ is_effect (by_partner (turn_in x s st) (partner x.work.now.what.peer (phase_of x.work.now.phase))) (effect_of x.told.now))
-    (λ b told s st of room read. 
+    (λ b told s st of room read.
     told s st of room (c.readings_are_kept.ensures x c.args.logs.now s st read ∙ ap (λ (l : KnownLogs). drop_in x l s st) (sym c.in_ok-known.ensures.logs)))
     c.by_partner.ensures

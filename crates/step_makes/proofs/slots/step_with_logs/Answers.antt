@@ -2,7 +2,6 @@
 use Rattle.std.proofs.Common.{sym, ap, subst, None, Some, Option, ◌∙◌, ◌≡◌}
 use Rattle.state_reads.specs.Known.{AreLogsRead, KnownLogs}
 use Rattle.state_reads.specs.Reads.{HasReadAs, IsOnly, reading_at}
-use Rattle.annex_base.specs.Settings.{Settings}
 use Rattle.step_judging.specs.Rules.{effect_of, is_effect}
 use Rattle.job_makes.specs.Turns.{turn_in, set_up_in}
 use Rattle.std.specs.Option.{option_copied}
@@ -24,7 +23,7 @@ returns-in-Some c =
     IfOk-weaker c.step_by_logs.result
     (λ b. (s : SetUp) (st : State) → IsTurnOf x s st → HasRoom x → AreLogsRead (st.read n) (set_up_in x s) w c.in-Some.logs.now → b ≡ is_effect (by_partner (turn_in x s st) (partner x.work.now.what.peer (phase_of x.work.now.phase))) (effect_of x.told.now))
     (λ b. (s : SetUp) (st : State) → IsTurnOf x s st → HasRoom x → IsOnly st.works (work_of x.work.now) → s.paths x.work.now.number ≡ c.args.paths.now → b ≡ is_effect (by_partner (turn_in x s st) (partner x.work.now.what.peer (phase_of x.work.now.phase))) (effect_of x.told.now))
-    (λ b told s st of room only had. 
+    (λ b told s st of room only had.
     let kept : reading_at c.reads-reads.result.now n ≡ Some c.in-Some.logs.now = sym c.reading.ensures ∙ ap option_copied c.in-Some.is in
     let read = subst (λ (o : Option KnownLogs). HasReadAs s st w o) kept ((c.reads-reads.ensures s st of.state_is).each w only) in
     told s st of room (subst (λ (z : SetUp). AreLogsRead (st.read n) z w c.in-Some.logs.now) (sym of.set_up) read))
@@ -35,13 +34,11 @@ returns-in-None c =
     let x = c.args.turn.now in
     let n = x.work.now.number in
     let w = work_of x.work.now in
-    let logs = c.in_ok-logs.logs in
-    IfOk-weaker c.step_by_logs-in-None.result
-    (λ b. (s : SetUp) (st : State) → IsTurnOf x s st → HasRoom x → AreLogsRead (st.read n) (set_up_in x s) w logs → b ≡ is_effect (by_partner (turn_in x s st) (partner x.work.now.what.peer (phase_of x.work.now.phase))) (effect_of x.told.now))
+    IfOk-weaker c.step_anew.result
+    (λ b. (s : SetUp) (st : State) → IsTurnOf x s st → HasRoom x → st.read n ≡ st.logs → s.paths x.work.now.number ≡ c.args.paths.now → b ≡ is_effect (by_partner (turn_in x s st) (partner x.work.now.what.peer (phase_of x.work.now.phase))) (effect_of x.told.now))
     (λ b. (s : SetUp) (st : State) → IsTurnOf x s st → HasRoom x → IsOnly st.works (work_of x.work.now) → s.paths x.work.now.number ≡ c.args.paths.now → b ≡ is_effect (by_partner (turn_in x s st) (partner x.work.now.what.peer (phase_of x.work.now.phase))) (effect_of x.told.now))
-    (λ b told s st of room only had. 
+    (λ b told s st of room only had.
     let none : reading_at c.reads-reads.result.now n ≡ None = sym c.reading.ensures ∙ ap option_copied c.in-None.is in
     let read = subst (λ (o : Option KnownLogs). HasReadAs s st w o) none ((c.reads-reads.ensures s st of.state_is).each w only) in
-    let now = subst (λ (l : Settings). AreLogsRead l s w logs) (sym read.1) (c.in_ok-logs.ensures s st of.state_is had) in
-    told s st of room (subst (λ (z : SetUp). AreLogsRead (st.read n) z w logs) (sym of.set_up) now))
-    c.step_by_logs-in-None.ensures
+    told s st of room read.1 had)
+    c.step_anew.ensures

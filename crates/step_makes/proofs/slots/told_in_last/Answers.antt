@@ -27,7 +27,7 @@ returns-then-slot-eq3 c =
     IfOk-weaker c.step_of.result
     (λ b. (s : SetUp) (st : State) → IsTurnOf x s st → HasRoom x → IsOnly st.works (work_of x.work.now) → s.paths x.work.now.number ≡ c.args.paths.now → b ≡ is_effect (by_partner (turn_in x s st) (partner x.work.now.what.peer (phase_of x.work.now.phase))) (effect_of x.told.now))
     (λ b. (s : SetUp) (st : State) → IsTurnOf x s st → HasRoom x → AreAlone st.works → IsOnly st.works (work_of x.work.now) → s.paths x.work.now.number ≡ c.args.paths.now → b ≡ told_in s st (look_of st (word_in x.words.now) x.told.now) (work_of x.work.now) (effect_of x.told.now) (3 ∷ []))
-    (λ b told s st of room alone only had. 
+    (λ b told s st of room alone only had.
     told s st of room only had
     ∙ ap (λ (t : steps.Turn). is_effect (by_partner t (partner x.work.now.what.peer (phase_of x.work.now.phase))) (effect_of x.told.now)) (turn_same x s st of)
     ∙ sym (in_slot Bool 3 x.work.now.slot (is_effect (slot_step s st (look_of st (word_in x.words.now) x.told.now) (Some (work_of x.work.now))) (effect_of x.told.now)) (not (forced_in s st (look_of st (word_in x.words.now) x.told.now) (find (λ (v : jobs.Work). v.slot == 3) st.works)) && told_in s st (look_of st (word_in x.words.now) x.told.now) (work_of x.work.now) (effect_of x.told.now) ([])) c.if-slot-eq3.true))

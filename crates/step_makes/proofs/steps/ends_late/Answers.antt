@@ -1,20 +1,14 @@
 -- What the proof of `steps::ends_late` needs beside the tactics.
-use Rattle.std.proofs.Common.{ap, None, ◌∙◌}
+use Rattle.std.proofs.Common.{None}
 use Rattle.node_model.specs.JobStep as steps
 use Rattle.step_judging.specs.Same.{same_effect}
 use Rattle.step_judging.specs.Rules.{effect_of}
 use Rattle.std.specs.Option.{option_copied}
-use Rattle.state_jobs.specs.Phases.{phase_of, part_of}
-use Rattle.step_makes.proofs.KnowledgeLemmas.{by_known, late_reads}
+use Rattle.step_makes.proofs.KnowledgeLemmas.{by_known}
 use Rattle.job_makes.specs.declared.turn.Turn.{Turn}
-use Rattle.state_jobs.specs.declared.phase.Phase.{Phase}
-use Rattle.step_makes.specs.Knowledge.{reads_logs}
 use Rattle.node_model.specs.JobStep.{ends}
 use Rattle.node_model.specs.DropStep.{expiry, first_end}
 use Rattle.step_makes.proofs.steps.ends_late.Goals as goal
-
-pub known-requires-clause-reads : goal.known-requires-clause-reads
-known-requires-clause-reads c = ap (λ (p : Phase). reads_logs (part_of c.args.turn.now.work.now.part) (phase_of p)) c.requires.phase ∙ late_reads c.args.turn.now.work.now.part c.args.time
 
 pub returns : goal.returns
 returns c = λ s st read.

@@ -1,26 +1,21 @@
 -- What the proof of `steps::ends_removed` needs beside the tactics.
-use Rattle.std.proofs.Common.{ap, None, ◌∙◌, ◌≡◌}
+use Rattle.std.proofs.Common.{None, ◌≡◌}
 use Rattle.node_model.specs.JobStep as steps
 use Rattle.step_judging.specs.Same.{same_effect}
 use Rattle.step_judging.specs.Rules.{effect_of}
 use Rattle.job_makes.specs.Turns.{turn_in}
 use Rattle.drop_makes.specs.Knowings.{drop_in}
 use Rattle.std.specs.Option.{option_copied}
-use Rattle.state_jobs.specs.Phases.{phase_of, part_of}
 use Rattle.node_model.specs.SetUp.{SetUp}
 use Rattle.node_model.specs.State.{State}
 use Rattle.std.proofs.lemmas.Result.{IfOk-weaker}
-use Rattle.step_makes.specs.Knowledge.{IsReadBy, reads_logs}
-use Rattle.step_makes.proofs.KnowledgeLemmas.{by_known, removed_reads}
+use Rattle.step_makes.specs.Knowledge.{IsReadBy}
+use Rattle.step_makes.proofs.KnowledgeLemmas.{by_known}
 use Rattle.job_makes.specs.declared.turn.Turn.{Turn}
-use Rattle.state_jobs.specs.declared.phase.Phase.{Phase}
 use Rattle.node_model.specs.JobStep.{ends}
 use Rattle.node_model.specs.DropStep.{removal_outcome}
 use Rattle.node_model.specs.Jobs.{side_of}
 use Rattle.step_makes.proofs.steps.ends_removed.Goals as goal
-
-pub known-requires-clause-reads : goal.known-requires-clause-reads
-known-requires-clause-reads c = ap (λ (p : Phase). reads_logs (part_of c.args.turn.now.work.now.part) (phase_of p)) c.requires.phase ∙ removed_reads c.args.turn.now.work.now.part
 
 pub returns : goal.returns
 returns c =
@@ -28,6 +23,6 @@ returns c =
     IfOk-weaker c.is_removed.result
     (λ b. (s : SetUp) (st : State) → b ≡ same_effect (ends (drop_in c.known-known.result.now.turn.now c.known-known.result.now.logs.now s st) None (removal_outcome (side_of (drop_in c.known-known.result.now.turn.now c.known-known.result.now.logs.now s st).w) (drop_in c.known-known.result.now.turn.now c.known-known.result.now.logs.now s st))) (effect_of c.known-known.result.now.turn.now.told.now))
     (λ b. (s : SetUp) (st : State) → IsReadBy x (option_copied c.args.knowing) s st → b ≡ same_effect (ends (turn_in x s st) None (removal_outcome (side_of (turn_in x s st).w) (turn_in x s st))) (effect_of x.told.now))
-    (λ b told s st read. 
+    (λ b told s st read.
     by_known (option_copied c.args.knowing) c.known-known.result.now x s st b (λ (z : Turn) (t : steps.Turn). same_effect (ends t None (removal_outcome (side_of t.w) t)) (effect_of z.told.now)) c.known-known.ensures c.requires.enough read (told s st))
     c.is_removed.ensures

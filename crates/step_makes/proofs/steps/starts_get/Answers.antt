@@ -26,6 +26,6 @@ returns-else-here c =
     IfOk-weaker c.first_get-else-here.result
     (λ b. (s : SetUp) (st : State) → b ≡ same_effect (first_get (turn_in x s st) false c.is_filled-filled.result c.next_source-source.result) (effect_of x.told.now))
     (λ b. (s : SetUp) (st : State) → IsTurnOf x s st → b ≡ same_effect (first_get (turn_in x s st) c.args.here (is_filled s st x.work.now.what.key) (next_source (turn_in x s st))) (effect_of x.told.now))
-    (λ b told s st of. 
+    (λ b told s st of.
     told s st ∙ (λ i. same_effect (first_get (turn_in x s st) (sym c.if-here.false i) (c.is_filled-filled.ensures s st of.repos of.state_is i) (c.next_source-source.ensures s st i)) (effect_of x.told.now)))
     c.first_get-else-here.ensures

@@ -19,7 +19,7 @@ returns c =
     IfOk-weaker c.next_get.result
     (λ b. (s : SetUp) (st : State) → b ≡ same_effect (next_get (turn_in x s st) c.next_source-source.result) (effect_of x.told.now))
     (λ b. (s : SetUp) (st : State) → b ≡ same_effect (next_step (turn_in x s st) (part_of x.work.now.part)) (effect_of x.told.now))
-    (λ b told s st. 
+    (λ b told s st.
     told s st
     ∙ ap (λ (o : Option ℕ). same_effect (next_get (turn_in x s st) o) (effect_of x.told.now)) (c.next_source-source.ensures s st)
     ∙ ap (λ (m : Effect). same_effect m (effect_of x.told.now)) (next_transfers (turn_in x s st) x.work.now.part c.requires))

@@ -26,7 +26,7 @@ pub returns-in-Line : goal.returns-in-Line
 returns-in-Line c =
     let x = c.args.turn.now in
     IfOk-weaker c.takes_text.result
-    (λ b. (s : SetUp) (st : State) → IsReadBy x (option_copied c.args.knowing) s st → b ≡ same_effect (takes_text (turn_in x s st) c.args.frame.now c.args.peer (message_of c.in-Line.text.now)) (effect_of x.told.now))
+    (λ b. (s : SetUp) (st : State) → IsReadBy x (option_copied c.args.knowing) s st → b ≡ same_effect (takes_text (turn_in x s st) c.args.frame.now c.args.peer (message_of c.in-Line.text)) (effect_of x.told.now))
     (λ b. (s : SetUp) (st : State) → IsReadBy x (option_copied c.args.knowing) s st → b ≡ same_effect (takes_frame (turn_in x s st) c.args.peer c.args.frame.now c.args.frame.now.body) (effect_of x.told.now))
     (λ b told s st read. told s st read ∙ ap (λ (o : FrameText). same_effect (takes_frame (turn_in x s st) c.args.peer c.args.frame.now o) (effect_of x.told.now)) (sym c.in-Line.is))
     c.takes_text.ensures

@@ -24,7 +24,7 @@ returns-in-Some c =
     IfOk-weaker c.work_told.result
     (λ b. (s : SetUp) (st : State) → (n : ℕ) → job_of e.kind ≡ Some n → find (λ (v : jobs.Work). v.number == n) st.works ≡ Some w → s.repos ≡ c.args.repos.now → s.paths n ≡ c.args.paths.now → IsStateOf c.args.state.now s st → AreAlone st.works → b ≡ job_told s st (look_of st (word_in c.args.words.now) c.args.entry.now) (effect_of c.args.entry.now) (Some w))
     (λ b. (s : SetUp) (st : State) → job_of e.kind ≡ Some job → s.repos ≡ c.args.repos.now → s.paths job ≡ c.args.paths.now → IsStateOf c.args.state.now s st → AreAlone st.works → b ≡ job_told s st (look_of st (word_in c.args.words.now) c.args.entry.now) (effect_of c.args.entry.now) (find (λ (v : jobs.Work). v.number == job) st.works))
-    (λ b told s st named repos had is alone. 
+    (λ b told s st named repos had is alone.
     let seen : find (λ (v : jobs.Work). v.number == job) st.works ≡ Some w =
     ap (λ (ws : List jobs.Work). find (λ (v : jobs.Work). v.number == job) ws) (c.jobs-jobs.ensures s st is).works ∙ sym c.job.ensures ∙ ap (λ (o : Option Work). option_map work_of o) (ap option_copied c.in-Some.is) in
     told s st job named seen repos had is alone ∙ ap (λ (o : Option jobs.Work). job_told s st (look_of st (word_in c.args.words.now) c.args.entry.now) (effect_of c.args.entry.now) o) (sym seen))

@@ -22,7 +22,7 @@ returns-in-Some c =
     IfOk-weaker c.job_told.result
     (λ b. (s : SetUp) (st : State) → job_of e.kind ≡ Some job → s.repos ≡ c.args.repos.now → s.paths job ≡ c.args.paths.now → IsStateOf c.args.state.now s st → AreAlone st.works → b ≡ job_told s st (look_of st (word_in c.args.words.now) c.args.entry.now) (effect_of c.args.entry.now) (find (λ (v : jobs.Work). v.number == job) st.works))
     (λ b. (s : SetUp) (st : State) → s.repos ≡ c.args.repos.now → HadPaths s e.kind c.args.paths.now → IsStateOf c.args.state.now s st → AreAlone st.works → b ≡ other_told s st (look_of st (word_in c.args.words.now) c.args.entry.now) (effect_of c.args.entry.now) (job_of e.kind))
-    (λ b told s st repos had is alone. 
+    (λ b told s st repos had is alone.
     let named : job_of e.kind ≡ Some job = sym c.job_of.ensures ∙ c.in-Some.is in
     told s st named repos (had job named) is alone ∙ ap (λ (o : Option ℕ). other_told s st (look_of st (word_in c.args.words.now) c.args.entry.now) (effect_of c.args.entry.now) o) (sym named))
     c.job_told.ensures
@@ -33,7 +33,7 @@ returns-in-None c =
     IfOk-weaker c.session_told.result
     (λ b. (s : SetUp) (st : State) → (words : ℕ → Option Word) → s.repos ≡ c.args.repos.now → IsStateOf c.args.state.now s st → job_of e.kind ≡ None → b ≡ is_effect (session_told s st (look_of st words e) (connection_told e.taken e.sent)) (effect_of e))
     (λ b. (s : SetUp) (st : State) → s.repos ≡ c.args.repos.now → HadPaths s e.kind c.args.paths.now → IsStateOf c.args.state.now s st → AreAlone st.works → b ≡ other_told s st (look_of st (word_in c.args.words.now) c.args.entry.now) (effect_of c.args.entry.now) (job_of e.kind))
-    (λ b told s st repos had is alone. 
+    (λ b told s st repos had is alone.
     let named : job_of e.kind ≡ None = sym c.job_of.ensures ∙ c.in-None.is in
     told s st (word_in c.args.words.now) repos is named ∙ ap (λ (o : Option ℕ). other_told s st (look_of st (word_in c.args.words.now) c.args.entry.now) (effect_of c.args.entry.now) o) (sym named))
     c.session_told.ensures

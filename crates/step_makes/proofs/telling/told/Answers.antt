@@ -35,7 +35,7 @@ returns-in-Some c =
     IfOk-weaker c.pays_first.result
     (λ b. (s : SetUp) (st : State) → (words : ℕ → Option Word) (os : List OwedLine) → s.repos ≡ c.args.repos.now → IsStateOf c.args.state.now s st → b ≡ is_effect (pays_first s st (look_of st words c.args.entry.now) (o ∷ os)) (effect_of c.args.entry.now))
     (λ b. (s : SetUp) (st : State) → s.repos ≡ c.args.repos.now → HadPaths s c.args.entry.now.kind c.args.paths.now → IsStateOf c.args.state.now s st → AreAlone st.works → b ≡ is_told s st (word_in c.args.words.now) c.args.entry.now)
-    (λ b told s st repos had is alone. 
+    (λ b told s st repos had is alone.
     let os = drop 1 (lines_of c.owed-owed.result.now) in
     let first : IsFirst (Some o) (lines_of c.owed-owed.result.now) = subst (λ (z : Option OwedLine). IsFirst z (lines_of c.owed-owed.result.now)) (ap option_copied c.in-Some.is) c.first.ensures in
     told s st (word_in c.args.words.now) os repos is ∙ ap (λ (os : List OwedLine). effect_told s st (look_of st (word_in c.args.words.now) c.args.entry.now) (effect_of c.args.entry.now) os) (sym ((c.owed-owed.ensures.owed s st is).owed ∙ first)))
@@ -46,7 +46,7 @@ returns-in-None c =
     IfOk-weaker c.other_told.result
     (λ b. (s : SetUp) (st : State) → s.repos ≡ c.args.repos.now → HadPaths s c.args.entry.now.kind c.args.paths.now → IsStateOf c.args.state.now s st → AreAlone st.works → b ≡ other_told s st (look_of st (word_in c.args.words.now) c.args.entry.now) (effect_of c.args.entry.now) (job_of c.args.entry.now.kind))
     (λ b. (s : SetUp) (st : State) → s.repos ≡ c.args.repos.now → HadPaths s c.args.entry.now.kind c.args.paths.now → IsStateOf c.args.state.now s st → AreAlone st.works → b ≡ is_told s st (word_in c.args.words.now) c.args.entry.now)
-    (λ b told s st repos had is alone. 
+    (λ b told s st repos had is alone.
     let none : IsFirst None (lines_of c.owed-owed.result.now) = subst (λ (z : Option OwedLine). IsFirst z (lines_of c.owed-owed.result.now)) (ap option_copied c.in-None.is) c.first.ensures in
     told s st repos had is alone ∙ ap (λ (os : List OwedLine). effect_told s st (look_of st (word_in c.args.words.now) c.args.entry.now) (effect_of c.args.entry.now) os) (sym ((c.owed-owed.ensures.owed s st is).owed ∙ none)))
     c.other_told.ensures

@@ -30,7 +30,7 @@ returns c =
     IfOk-weaker c.told_in.result
     (λ b. (s : SetUp) (st : State) → IsTurnOf x s st → HasRoom x → AreAlone st.works → IsOnly st.works (work_of x.work.now) → s.paths x.work.now.number ≡ c.args.paths.now → b ≡ told_in s st (look_of st (word_in x.words.now) x.told.now) (work_of x.work.now) (effect_of x.told.now) slots)
     (λ b. (s : SetUp) (st : State) → (job : ℕ) → job_of e.kind ≡ Some job → find (λ (v : jobs.Work). v.number == job) st.works ≡ Some w → s.repos ≡ c.args.repos.now → s.paths job ≡ c.args.paths.now → IsStateOf c.args.state.now s st → AreAlone st.works → b ≡ job_told s st (look_of st (word_in c.args.words.now) c.args.entry.now) (effect_of c.args.entry.now) (Some w))
-    (λ b told s st job named found repos had is alone. 
+    (λ b told s st job named found repos had is alone.
     let its : IsTurnOf x s st = record {
       repos = repos ∙ sym given.repos;
       state_is = subst (λ (z : RepoState). IsStateOf z s st) (sym given.state) is;

@@ -21,7 +21,7 @@ returns-in-Some c =
     IfOk-weaker c.takes_frame.result
     (λ b. (s : SetUp) (st : State) → IsReadBy x (option_copied c.args.knowing) s st → b ≡ same_effect (takes_frame (turn_in x s st) c.args.peer c.in-Some.frame.now c.in-Some.frame.now.body) (effect_of x.told.now))
     (λ b. (s : SetUp) (st : State) → HasRoom x → IsReadBy x (option_copied c.args.knowing) s st → b ≡ is_effect (awaits (turn_in x s st) c.args.peer (option_copied c.args.waiting)) (effect_of x.told.now))
-    (λ b told s st room read. 
+    (λ b told s st room read.
     let t = turn_in x s st in
     let f = c.in-Some.frame.now in
     let here = room_everywhere (works_of x.jobs.now) (job_of x.told.now.kind) x.told.now.taken x.told.now.sent x.work.now.slot c.args.peer room in

@@ -21,7 +21,7 @@ returns c =
     IfOk-weaker c.goes.result
     (λ b. (s : SetUp) (st : State) → IsTurnOf x s st → IsReadBy x (option_copied c.args.knowing) s st → b ≡ same_effect (goes (turn_in x s st) (phase_of x.work.now.phase)) (effect_of x.told.now))
     (λ b. (s : SetUp) (st : State) → IsTurnOf x s st → HasRoom x → IsReadBy x (option_copied c.args.knowing) s st → b ≡ is_effect (goes_on (turn_in x s st)) (effect_of x.told.now))
-    (λ b told s st of room read. 
+    (λ b told s st of room read.
     let t = turn_in x s st in
     told s st of read ∙ ap (λ (v : Bool). is_effect (if v then Some (goes t t.w.phase) else None) (effect_of x.told.now)) (sym (room_for_all t (needs t t.w.phase) (λ (p : ℕ). room_everywhere (works_of x.jobs.now) (job_of x.told.now.kind) x.told.now.taken x.told.now.sent x.work.now.slot p room))))
     c.goes.ensures

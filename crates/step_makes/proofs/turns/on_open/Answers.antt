@@ -20,7 +20,7 @@ returns-then-is_awaiting c =
     IfOk-weaker c.awaits.result
     (λ b. (s : SetUp) (st : State) → HasRoom x → IsReadBy x (option_copied c.args.knowing) s st → b ≡ is_effect (awaits (turn_in x s st) c.args.peer (option_copied c.waiting_frame-waiting.result)) (effect_of x.told.now))
     (λ b. (s : SetUp) (st : State) → IsTurnOf x s st → HasRoom x → IsReadBy x (option_copied c.args.knowing) s st → b ≡ is_effect (with_partner (turn_in x s st) c.args.peer true) (effect_of x.told.now))
-    (λ b told s st of room read. 
+    (λ b told s st of room read.
     told s st room read
     ∙ ap (λ (o : Option FrameView). is_effect (awaits (turn_in x s st) c.args.peer o) (effect_of x.told.now)) (c.waiting_frame-waiting.ensures s st)
     ∙ ap (λ (v : Bool). is_effect (if v then awaits (turn_in x s st) c.args.peer (waiting_frame (end_with (turn_in x s st) c.args.peer) (turn_in x s st).look (job_end (turn_in x s st).w c.args.peer)) else goes_on (turn_in x s st)) (effect_of x.told.now)) (sym c.if-is_awaiting.true ∙ c.is_awaiting.ensures))

@@ -14,7 +14,7 @@ returns-in-Some c = λ s st.
     let t = turn_in x s st in
     let a = job_end t.w c.args.peer in
     let end = end_with t c.args.peer in
-    let f = c.in-Some.frame.now in
+    let f = c.in-Some.frame in
     let p : FrameView → Bool = λ g. takes_at a g && may_take end g in
     c.if_waits.ensures
     ∙ (λ i. if c.waits_at.ensures i then Some f else None)
