@@ -17,7 +17,8 @@ use Rattle.node_model.specs.State.{State}
 use Rattle.run_model.specs.Frames.{Way}
 use Rattle.run_model.specs.Run.{IsRun, set_up}
 use Rattle.state_checks.specs.Moments.{moment_of}
-use Rattle.state_flights.specs.Flights.{AreNone, flight_on}
+use Rattle.state_flights.specs.Flights.{AreNone, StaySame, flight_on}
+use Rattle.state_flights.specs.declared.flights.Flights.{Flights}
 use Rattle.step_judging.specs.Carried.{Flight, flight_after, judge_of}
 use Rattle.step_rules.specs.Members as members
 use Rattle.step_rules.specs.Members.{BeginsWith, IsBounded, IsMemberOf}
@@ -203,6 +204,21 @@ same_carried x y same c bounded tree = record {
 pub has_same : (x y : RunState) (kind : EntryKind) (begun : List (List ℕ)) → SameRun x y → HasBegun x.trees.marks.now x.taken kind begun → HasBegun y.trees.marks.now y.taken kind begun
 has_same x y kind begun same has =
     subst (λ (n : ℕ). HasBegun y.trees.marks.now n kind begun) (sym same.taken) (subst (λ (marks : List TreeMark). HasBegun marks x.taken kind begun) (sym same.tree) has)
+
+-- ---- an entry's room
+
+module _ (x y : RunState) (rest : y ≡ record x { trees = y.trees }) (marks : y.trees.marks ≡ x.trees.marks) where
+  pub begun_bounded : IsCarried x → Each (IsBounded (length x.repos.now) x.taken) y.members.items
+  begun_bounded c = subst (λ (z : RunState). Each (IsBounded (length x.repos.now) x.taken) z.members.items) (sym rest) c.members
+
+  pub begun_carried : IsCarried x → IsTreeBefore x.taken y.trees → IsCarried y
+  begun_carried c tree = same_carried x y (begun_same x y rest marks) c (begun_bounded c) tree
+
+  pub room_same : (f : Flights) → StaySame y.flights f → SameRun x (record y { flights = f })
+  room_same f stay = with_room x y (record y { flights = f }) (begun_same x y rest marks) refl refl refl refl refl stay
+
+  pub room_carried : (f : Flights) → StaySame y.flights f → IsCarried x → IsTreeBefore x.taken y.trees → IsCarried (record y { flights = f })
+  room_carried f stay c tree = same_carried x (record y { flights = f }) (room_same f stay) c (begun_bounded c) tree
 
 -- ---- before the first entry
 

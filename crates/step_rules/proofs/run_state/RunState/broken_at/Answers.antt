@@ -1,5 +1,5 @@
 -- What the proof of `run_state::RunState::broken_at` needs beside the tactics.
-use Rattle.std.proofs.Common.{sym, ap, ◌∙◌}
+use Rattle.std.proofs.Common.{sym, ◌∙◌}
 use Rattle.node_model.specs.After.{first_state}
 use Rattle.run_model.specs.Run.{set_up}
 use Rattle.step_judging.specs.Carried.{takes_next}
@@ -14,4 +14,4 @@ returns-in-None c = λ run after.
     let s = set_up run c.args.repo in
     let e = c.args.entry.now in
     c.broken_unknown.ensures j.newest s ((first_state s).clock e.time) (taken_message e.taken) (takes_next j.flights c.args.repo e.taken) after.judge.newest
-    ∙ unknown c.args.self.now c.requires.carried run after e c.args.repo (place_past c.args.self.now.members.items c.args.repo ?)
+    ∙ unknown c.args.self.now c.requires.carried run after e c.args.repo (place_past c.args.self.now.members.items c.args.repo (sym c.in-None.ensures.lookup))
