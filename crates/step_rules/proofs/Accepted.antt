@@ -120,24 +120,24 @@ module _ (next : NextLaw) (grow : EntryGrows) (keep : PathsKept) (agree : States
         (subst (λ (f : Way → Flight). HearsBy (j.states r) f r e hears) (sym same) (hear there.0 (set_up run r) (j.states r) (j.words r) there.1 (after.judge.members r there.0 there.1)))
         changes flights
 
-    pub own_carried : (c : IsCarried x) → broken_rule (set_up c.run) (reverse c.run.entries) e ≡ None → y.trees ≡ x.trees
+    pub own_carried : (c : IsCarried x) (run : Run) → IsAfter x run → broken_rule (set_up run) (reverse run.entries) e ≡ None → y.trees ≡ x.trees
         → Each (IsBounded (length x.repos.now) (x.taken + 1)) y.members.items → IsCarried y
-    own_carried c may trees bounded = record {
+    own_carried c run after may trees bounded = record {
       many = subst (λ (repos : List RepoView). length repos < 2 ^ 32) (sym follows.repos) c.many;
       set_up = subst (Each IsSetUp) (sym follows.repos) c.set_up;
       count = changes.count ∙ c.count ∙ sym (ap length follows.repos);
       members = subst (λ (n : ℕ). Each (IsBounded (length y.repos.now) n) y.members.items) (sym follows.taken)
           (subst (λ (repos : List RepoView). Each (IsBounded (length repos) (x.taken + 1)) y.members.items) (sym follows.repos) bounded);
       tree = subst (λ (n : ℕ). IsTreeBefore n y.trees) (sym follows.taken) (subst (IsTreeBefore (x.taken + 1)) (sym trees) (tree_later x.taken x.trees c.tree));
-      run = with_entry c.run e;
-      after = own_after c.run c.after may;
+      run = with_entry run e;
+      after = own_after run after may;
     }
 
   -- the repository is one of the run
-  pub member_here : (x : RunState) (e : Entry) (r : ℕ) → e.repo ≡ Some r → (c : IsCarried x) → broken_rule (set_up c.run) (reverse c.run.entries) e ≡ None → (m : Member) × (slice_get x.members.items r ≡ Some m)
-  member_here x e r own c may =
-      let low = known_here next grow x e c.run c.after may r own in
-      let count = c.count in slice_get-within x.members.items r (omega (arith, low, count))
+  pub member_here : (x : RunState) (e : Entry) (r : ℕ) → e.repo ≡ Some r → length x.members.items ≡ length x.repos.now → (run : Run) → IsAfter x run → broken_rule (set_up run) (reverse run.entries) e ≡ None
+      → (m : Member) × (slice_get x.members.items r ≡ Some m)
+  member_here x e r own count run after may =
+      let low = known_here next grow x e run after may r own in slice_get-within x.members.items r (omega (arith, low, count))
 
 -- ---- before an entry is taken
 

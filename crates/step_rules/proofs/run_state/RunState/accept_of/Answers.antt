@@ -39,9 +39,12 @@ returns-in_err-ready-clause-carried c =
 
 pub hears-hears-requires : goal.hears-hears-requires
 hears-hears-requires c =
+    let x = c.args.self.now in
+    let y = c.begun.new.self in
     let carried = c.requires.carried in
-    member_here c.runs_break_no_rule.ensures.next c.runs_grow.ensures.entry c.jobs_keep_their_paths.ensures.entries c.carried_states_agree.ensures.own_states c.begun.new.self c.args.entry.now c.args.repo c.requires.own
-    (begun_carried c.args.self.now c.begun.new.self c.in_ok-begun.ensures.rest c.in_ok-begun.ensures.marks carried c.in_ok-begun.ensures.tree) (c.requires.allowed carried.run carried.after)
+    let here = begun_carried x y c.in_ok-begun.ensures.rest c.in_ok-begun.ensures.marks carried c.in_ok-begun.ensures.tree in
+    member_here c.runs_break_no_rule.ensures.next c.runs_grow.ensures.entry c.jobs_keep_their_paths.ensures.entries c.carried_states_agree.ensures.own_states y c.args.entry.now c.args.repo c.requires.own here.count
+    carried.run (same_after x y (begun_same x y c.in_ok-begun.ensures.rest c.in_ok-begun.ensures.marks) carried.run carried.after) (c.requires.allowed carried.run carried.after)
 
 pub after-requires-clause-lines : goal.after-requires-clause-lines
 after-requires-clause-lines c =
@@ -117,4 +120,4 @@ returns-clause-carried c =
     subst IsCarried (sym c.count.ensures)
     (own_carried c.runs_break_no_rule.ensures.next c.runs_grow.ensures.entry c.jobs_keep_their_paths.ensures.entries c.carried_states_agree.ensures.own_states z (counted last e) e c.args.repo c.requires.own here.count
         (record { repos = refl; tree = refl; taken = refl; newest = refl }) c.in_ok-begun.begun (has_same x z e.kind c.in_ok-begun.begun same c.in_ok-begun.ensures.paths) c.hears-hears.result c.hears-hears.ensures
-        c.in_ok-after.ensures.ok c.note.ensures room (c.requires.allowed carried.run carried.after) refl (c.in_ok-after.ensures.bounded (length y.repos.now) y.taken here.members))
+        c.in_ok-after.ensures.ok c.note.ensures room carried.run (same_after x z same carried.run carried.after) (c.requires.allowed carried.run carried.after) refl (c.in_ok-after.ensures.bounded (length y.repos.now) y.taken here.members))
