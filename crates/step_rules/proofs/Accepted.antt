@@ -106,7 +106,7 @@ module _ (next : NextLaw) (grow : EntryGrows) (keep : PathsKept) (agree : States
       (begun : List (List ℕ)) (has : HasBegun x.trees.marks.now x.taken e.kind begun) (hears : Option Hears)
       (hear : (m : Member) (s : SetUp) (st : State) (words : ℕ → ℕ → Option Word) → slice_get x.members.items r ≡ Some m → IsMemberOf m s st words → HearsBy st (flight_on x.flights) r e hears)
       (changes : ChangesMember r (λ m n. (s : SetUp) (st : State) (words : ℕ → ℕ → Option Word) → BeginsWith s e.kind begun → IsMemberOf m s st words
-          → IsMemberOf n s (state_after s st e) (members.words_after words hears)) x.members.items y.members.items)
+      → IsMemberOf n s (state_after s st e) (members.words_after words hears)) x.members.items y.members.items)
       (flights : (w : Way) → flight_on y.flights w ≡ flight_after w (flight_on x.flights w) e) where
     pub own_after : (run : Run) → IsAfter x run → broken_rule (set_up run) (reverse run.entries) e ≡ None → IsAfter y (with_entry run e)
     own_after run after may =
@@ -181,9 +181,12 @@ with_stay x y z r same repos tree newest taken flights changes = record {
         let low = place_in z.members.items q m at in
         let long = changes.count in
         let was = slice_get-within y.members.items q (omega (arith, low, long)) in
-        let n = same.members q was.0 was.1 in
-        (n.0, n.1, λ s st words of.
-            changes.here was.0 m (subst (λ (k : ℕ). slice_get y.members.items k ≡ Some was.0) here was.1) (subst (λ (k : ℕ). slice_get z.members.items k ≡ Some m) here at) s st words (n.2 s st words of)))
+        let n = same.members q was.0 was.1 in (
+          n.0,
+          n.1,
+          λ s st words of.
+              changes.here was.0 m (subst (λ (k : ℕ). slice_get y.members.items k ≡ Some was.0) here was.1) (subst (λ (k : ℕ). slice_get z.members.items k ≡ Some m) here at) s st words (n.2 s st words of),
+        ))
     | inr is ↦ same.members q m (sym (changes.others q (λ here. absurd (let both : false ≡ true = sym is ∙ eq-eqb q r here in cc))) ∙ at)
   ];
   flights = λ w. flights w ∙ same.flights w;

@@ -113,7 +113,7 @@ module _ (next : NextLaw) (grow : EntryGrows) (x : RunState) (e : Entry) (run : 
         let same : j.flights ≡ flight_on x.flights = λ i. λ w. after.judge.flights w i in
         ap (λ (f : Way → Flight). takes_next f r e.taken) (sym same)
         ∙ fourth_holds (is_ordered_by j.newest e) (has_row (j.states r) e) (is_own (set_up run r) (j.states r) (words_at_end (j.words r) e.kind) e) (takes_next j.flights r e.taken)
-            (rule_is carry x run e (Some r) after own ∙ allowed)
+        (rule_is carry x run e (Some r) after own ∙ allowed)
 
     pub begins_here : (begun : List (List ℕ)) → HasBegun x.trees.marks.now x.taken e.kind begun → BeginsWith (set_up (with_entry run e) r) e.kind begun
     begins_here begun has = begins_with run e r x.taken begun own after.taken e.kind refl (subst (λ marks. HasBegun marks x.taken e.kind begun) (sym after.tree) has)

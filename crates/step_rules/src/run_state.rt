@@ -31,7 +31,7 @@ use annex_base::{Items, NoMemory, Text};
 use driver_model::runs_log_lines;
 use growth_laws::{jobs_keep_their_paths, runs_grow};
 use p2p_wire::sent_messages_are_read;
-use run_data::{Entry, EntryKind, FrameView, RepoView, Run, RowView};
+use run_data::{Entry, EntryKind, FrameView, RepoView, RowView, Run};
 use run_laws::{carried_states_agree, states_are_sound};
 use state_checks::{Moment, has_row, is_ordered, moment_of, row_found};
 use state_flights::{Flights, bodies_of};

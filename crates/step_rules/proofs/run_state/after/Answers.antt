@@ -34,5 +34,5 @@ returns-clause-err_bounded c =
     let m = c.index_mut-member.result.now in
     let low = subst (λ n. c.args.repo < n) c.args.members.now.ok.0 c.requires.within in
     on_err c.take_note.result (λ then. λ count made each.
-        each_set (IsBounded count made) ms c.args.repo c.take_note.new.member each
-        (then count made (each_at (IsBounded count made) ms c.args.repo m each (at_of ms c.args.repo m low c.index_mut-member.ensures.value)))) c.take_note.ensures.err_bounded
+    each_set (IsBounded count made) ms c.args.repo c.take_note.new.member each
+    (then count made (each_at (IsBounded count made) ms c.args.repo m each (at_of ms c.args.repo m low c.index_mut-member.ensures.value)))) c.take_note.ensures.err_bounded

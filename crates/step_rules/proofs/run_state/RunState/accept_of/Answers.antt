@@ -54,9 +54,13 @@ after-requires-clause-lines c =
 pub after-requires-clause-bounded : goal.after-requires-clause-bounded
 after-requires-clause-bounded c =
     let x = c.args.self.now in
-    let carried = c.requires.carried in
-    (length x.repos.now, x.taken, c.requires.few, begun_bounded x c.begun.new.self c.in_ok-begun.ensures.rest c.in_ok-begun.ensures.marks carried,
-        peers_here c.runs_break_no_rule.ensures.next c.runs_grow.ensures.entry x c.args.entry.now carried.run carried.after (c.requires.allowed carried.run carried.after) c.args.repo c.requires.own c.sent_messages_are_read.ensures.read)
+    let carried = c.requires.carried in (
+      length x.repos.now,
+      x.taken,
+      c.requires.few,
+      begun_bounded x c.begun.new.self c.in_ok-begun.ensures.rest c.in_ok-begun.ensures.marks carried,
+      peers_here c.runs_break_no_rule.ensures.next c.runs_grow.ensures.entry x c.args.entry.now carried.run carried.after (c.requires.allowed carried.run carried.after) c.args.repo c.requires.own c.sent_messages_are_read.ensures.read,
+    )
 
 pub returns-in_err-after-clause-same : goal.returns-in_err-after-clause-same
 returns-in_err-after-clause-same c =
@@ -66,7 +70,7 @@ returns-in_err-after-clause-same c =
     let z : RunState = record y { flights = f } in
     let last : RunState = record y { members = c.after.new.members; flights = f } in
     on_err_always c.from_residual-in_err-after.result (same_after x last
-        (with_stay x z last c.args.repo (room_same x y c.in_ok-begun.ensures.rest c.in_ok-begun.ensures.marks f c.in_ok-ready.ensures.same) refl refl refl refl (λ w. refl) c.in_err-after.ensures.err))
+    (with_stay x z last c.args.repo (room_same x y c.in_ok-begun.ensures.rest c.in_ok-begun.ensures.marks f c.in_ok-ready.ensures.same) refl refl refl refl (λ w. refl) c.in_err-after.ensures.err))
 
 pub returns-in_err-after-clause-carried : goal.returns-in_err-after-clause-carried
 returns-in_err-after-clause-carried c =
@@ -102,8 +106,8 @@ returns-clause-ok c = λ run after.
     let here = begun_carried x y c.in_ok-begun.ensures.rest c.in_ok-begun.ensures.marks c.requires.carried c.in_ok-begun.ensures.tree in
     subst (λ (q : RunState). IsAfter q (with_entry run e)) (sym c.count.ensures)
     (own_after c.runs_break_no_rule.ensures.next c.runs_grow.ensures.entry c.jobs_keep_their_paths.ensures.entries c.carried_states_agree.ensures.own_states z (counted last e) e c.args.repo c.requires.own here.count
-        (record { repos = refl; tree = refl; taken = refl; newest = refl }) c.in_ok-begun.begun (has_same x z e.kind c.in_ok-begun.begun same c.in_ok-begun.ensures.paths) c.hears-hears.result c.hears-hears.ensures
-        c.in_ok-after.ensures.ok c.note.ensures run (same_after x z same run after) (c.requires.allowed run after))
+    (record { repos = refl; tree = refl; taken = refl; newest = refl }) c.in_ok-begun.begun (has_same x z e.kind c.in_ok-begun.begun same c.in_ok-begun.ensures.paths) c.hears-hears.result c.hears-hears.ensures
+    c.in_ok-after.ensures.ok c.note.ensures run (same_after x z same run after) (c.requires.allowed run after))
 
 pub returns-clause-carried : goal.returns-clause-carried
 returns-clause-carried c =
@@ -119,5 +123,5 @@ returns-clause-carried c =
     let room = room_carried x y c.in_ok-begun.ensures.rest c.in_ok-begun.ensures.marks f c.in_ok-ready.ensures.same carried c.in_ok-begun.ensures.tree in
     subst IsCarried (sym c.count.ensures)
     (own_carried c.runs_break_no_rule.ensures.next c.runs_grow.ensures.entry c.jobs_keep_their_paths.ensures.entries c.carried_states_agree.ensures.own_states z (counted last e) e c.args.repo c.requires.own here.count
-        (record { repos = refl; tree = refl; taken = refl; newest = refl }) c.in_ok-begun.begun (has_same x z e.kind c.in_ok-begun.begun same c.in_ok-begun.ensures.paths) c.hears-hears.result c.hears-hears.ensures
-        c.in_ok-after.ensures.ok c.note.ensures room carried.run (same_after x z same carried.run carried.after) (c.requires.allowed carried.run carried.after) refl (c.in_ok-after.ensures.bounded (length y.repos.now) y.taken here.members))
+    (record { repos = refl; tree = refl; taken = refl; newest = refl }) c.in_ok-begun.begun (has_same x z e.kind c.in_ok-begun.begun same c.in_ok-begun.ensures.paths) c.hears-hears.result c.hears-hears.ensures
+    c.in_ok-after.ensures.ok c.note.ensures room carried.run (same_after x z same carried.run carried.after) (c.requires.allowed carried.run carried.after) refl (c.in_ok-after.ensures.bounded (length y.repos.now) y.taken here.members))
