@@ -1,9 +1,8 @@
 -- One repository of several takes note of an entry, or gets more room; and answers by their parts.
-use Rattle.std.proofs.Common.{◌≡◌, ◌≢◌, ℕ, ◌+◌, ◌<◌, ◌≤◌, List, [], length, slice_set, Option, Some, None, Result, Ok, Err, IfErr, refl, sym, ap, subst, ◌∙◌, arith}
+use Rattle.std.proofs.Common.{◌≡◌, ℕ, ◌≤◌, List, [], slice_set, Option, Some, Result, Ok, Err, IfErr, sym, ap, subst, ◌∙◌}
 use Rattle.std.specs.Prelude.{OnErr, OnOk, slice_get, unwrap_or}
 use Rattle.std.specs.Map.{lookup}
 use Rattle.std.specs.Result.{IsErrAnd}
-use Rattle.annex_base.specs.Lists.{Each}
 use Rattle.annex_base.specs.declared.kinds.Word.{Word}
 use Rattle.run_data.specs.declared.entry.Entry.{Entry}
 use Rattle.run_data.specs.declared.run.Run.{Run}

@@ -1,6 +1,5 @@
 -- What the proof of `member::Member::is_own` needs beside the tactics.
 use Rattle.std.proofs.Common.{ap, subst, sym, ◌∙◌}
-use Rattle.node_model.specs.SetUp.{SetUp}
 use Rattle.state_reads.specs.Reads.{HadPaths}
 use Rattle.job_makes.specs.Turns.{word_in}
 use Rattle.step_rules.specs.Members.{paths_for}
