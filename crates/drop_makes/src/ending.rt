@@ -23,7 +23,6 @@ use step_effects::{is_gone, is_number};
 
 impl Knowing<'_> {
     ghost use Rattle.node_model.specs.DropStep.{expiry, first_end, lacking_outcome, removal_outcome, removes};
-    ghost use Rattle.node_model.specs.JobStep.{clock_of};
     ghost use Rattle.node_model.specs.Jobs.{side_of};
     ghost use Rattle.state_jobs.specs.Works.{work_of};
     ghost use Rattle.drop_makes.specs.Knowings.{drop_in};

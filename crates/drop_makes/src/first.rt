@@ -16,12 +16,11 @@ use state_reads::Standing;
 use step_effects::{is_bar, is_share};
 
 impl Knowing<'_> {
-    ghost use Rattle.std.specs.Prelude.{◌+◌, Option, Some, None, List, ℕ};
-    ghost use Rattle.drop_proof.specs.declared.rule.Side.TheVariants.{Local, Remote};
+    ghost use Rattle.std.specs.Prelude.{◌+◌, None};
     ghost use Rattle.node_model.specs.Calls.{to_hold};
     ghost use Rattle.node_model.specs.Clocks.{hold_time};
-    ghost use Rattle.node_model.specs.DropStep.{bars, first_drop, first_local, first_remote, held_until, own_share, required_there, shares, tries_own};
-    ghost use Rattle.node_model.specs.JobStep.{by_me, clock_of, ends, key_of, talk};
+    ghost use Rattle.node_model.specs.DropStep.{bars, first_drop, first_local, first_remote, held_until, own_share, shares, tries_own};
+    ghost use Rattle.node_model.specs.JobStep.{by_me, clock_of, ends, talk};
     ghost use Rattle.node_model.specs.Jobs.{side_of};
     ghost use Rattle.node_model.specs.Look.{failing_call};
     ghost use Rattle.node_model.specs.SetUp.{SetUp};

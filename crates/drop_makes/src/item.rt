@@ -1,5 +1,5 @@
 //! The evidence of a drop, item by item.
-ghost use Rattle.std.specs.Prelude.{◌≡◌, ◌≤◌};
+ghost use Rattle.std.specs.Prelude.{◌≡◌};
 ghost use Rattle.drop_proof.specs.Judging.{end_of_kind, is_full_kind};
 ghost use Rattle.drop_makes.specs.Items.{kind_of};
 

@@ -13,6 +13,5 @@ mod laws;
 mod outcome;
 
 pub use ending::denied;
-pub use item::Item;
 pub use knowing::Knowing;
 pub use laws::readings_are_kept;

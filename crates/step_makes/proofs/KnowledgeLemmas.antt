@@ -1,15 +1,15 @@
 -- What the step of a job knows of the logs, and what is told by it.
-use Rattle.std.proofs.Common.{◌≡◌, ℕ, Bool, true, false, Option, Some, None, refl, sym, ap, subst, ◌∙◌, true≢false}
+use Rattle.std.proofs.Common.{◌≡◌, true, false, Option, Some, None, refl, sym, ap, ◌∙◌, true≢false}
 use Rattle.node_model.specs.After.{has_read}
 use Rattle.node_model.specs.JobStep as steps
 use Rattle.node_model.specs.JobStep.{turn_of}
-use Rattle.node_model.specs.Jobs.{Drops, Fresh, Next, Phase}
+use Rattle.node_model.specs.Jobs.{Drops, Next, Phase}
 use Rattle.node_model.specs.Jobs as jobs
 use Rattle.node_model.specs.SetUp.{SetUp}
 use Rattle.node_model.specs.State.{State}
 use Rattle.step_judging.specs.Telling.{look_of}
 use Rattle.state_jobs.specs.Works.{work_of}
-use Rattle.job_makes.specs.Turns.{set_up_in, state_in, turn_in, word_in}
+use Rattle.job_makes.specs.Turns.{turn_in, word_in}
 use Rattle.job_makes.specs.declared.turn.Turn.{Turn}
 use Rattle.drop_makes.specs.Knowings.{drop_in}
 use Rattle.drop_makes.specs.declared.knowing.Knowing.{Knowing}

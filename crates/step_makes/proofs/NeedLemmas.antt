@@ -1,5 +1,5 @@
 -- Where a job needs room.
-use Rattle.std.proofs.Common.{◌≡◌, ◌≢◌, ℕ, Bool, true, false, List, [], ◌∷◌, Option, Some, None, refl}
+use Rattle.std.proofs.Common.{◌≡◌, ◌≢◌, ℕ, Bool, true, false, [], ◌∷◌, Option, Some, None, refl}
 use Rattle.std.specs.Prelude.{if◌then◌else◌, option_to_list}
 use Rattle.annex_base.specs.declared.kinds.Word.{Word}
 use Rattle.annex_base.specs.declared.kinds.Word.TheVariants.{Absent}

@@ -1,5 +1,5 @@
 -- The job that an entry names has room at each of its ends.
-use Rattle.std.proofs.Common.{◌≡◌, ℕ, Bool, true, List, [], ◌∷◌, Option, Some, None, find, refl, sym, ap, ◌∙◌}
+use Rattle.std.proofs.Common.{◌≡◌, ℕ, Bool, true, List, [], ◌∷◌, Option, Some, None, find, refl, ap, ◌∙◌}
 use Rattle.std.specs.Prelude.{◌==◌, ◌&&◌}
 use Rattle.std.specs.List.{list_all}
 use Rattle.std.proofs.lemmas.Bool.{and_from}
@@ -9,7 +9,7 @@ use Rattle.run_data.specs.declared.entry.FrameView.{FrameView}
 use Rattle.node_model.specs.JobStep.{Turn}
 use Rattle.node_model.specs.Jobs.{Work}
 use Rattle.node_model.specs.Turns.{has_room}
-use Rattle.step_judging.specs.Telling.{room_told, runs_in}
+use Rattle.step_judging.specs.Telling.{room_told}
 
 -- at one of its ends as at any other
 pub room_everywhere : (ws : List Work) (job : Option ℕ) (taken : Option FrameView) (sent : List FrameView) (slot peer : ℕ)

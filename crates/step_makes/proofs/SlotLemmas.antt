@@ -1,9 +1,8 @@
 -- The job in a slot, and the order of the slots.
-use Rattle.std.proofs.Common.{◌≡◌, ◌≢◌, ℕ, Bool, true, false, List, [], ◌∷◌, Option, Some, None, find, map, refl, sym, ap, arith}
-use Rattle.std.specs.Prelude.{◌==◌, ◌&&◌, if◌then◌else◌, not}
+use Rattle.std.proofs.Common.{◌≡◌, ◌≢◌, ℕ, Bool, true, false, List, [], ◌∷◌, Some, find, map, refl, sym, ap, arith}
+use Rattle.std.specs.Prelude.{◌==◌, ◌&&◌, if◌then◌else◌}
 use Rattle.std.specs.Option.{option_map}
 use Rattle.std.proofs.lemmas.Bool.Decides.{nat_tests}
-use Rattle.annex_base.specs.Lists.{Each, Member}
 use Rattle.annex_base.proofs.Conditions.{eqb_other}
 use Rattle.annex_base.proofs.Lists.{Each-member, find_member}
 use Rattle.node_model.specs.Jobs as jobs

@@ -1,8 +1,5 @@
 -- What the step of a job must know of the logs, and the states of which a turn is one; for private contracts.
-use Rattle.std.specs.Prelude.{◌≡◌, ℕ, Bool, true, false, List, Option, Some, None}
-use Rattle.run_data.specs.declared.entry.FrameView.{FrameView}
-use Rattle.run_data.specs.declared.run.RepoView.{RepoView}
-use Rattle.node_model.specs.Ends.{EndName}
+use Rattle.std.specs.Prelude.{◌≡◌, Bool, true, false, Option, Some, None}
 use Rattle.node_model.specs.Jobs.{Drops, Late, Next, Part, Phase, Removed}
 use Rattle.node_model.specs.SetUp.{SetUp}
 use Rattle.node_model.specs.Slots.{job_of}

@@ -13,9 +13,6 @@ use Rattle.step_rules.specs.declared.run_state.RunState.{RunState}
 
 -- ---- the first that is broken
 
-pub first_is : (a b c d : Bool) → a ≡ false → Some 1 ≡ first_broken ((1, a) ∷ (2, b) ∷ (3, c) ∷ (4, d) ∷ [])
-first_is a b c d p = rw p refl
-
 pub second_is : (a b c d : Bool) → a ≡ true → b ≡ false → Some 2 ≡ first_broken ((1, a) ∷ (2, b) ∷ (3, c) ∷ (4, d) ∷ [])
 second_is a b c d p q = rw (p, q) refl
 

@@ -1,5 +1,5 @@
 -- What the proof of `drops::asks_next` needs beside the tactics.
-use Rattle.std.proofs.Common.{sym, ap, false, None, Some, ℕ, Option, ◌∙◌, ◌≡◌}
+use Rattle.std.proofs.Common.{sym, ap, false, None, ℕ, Option, ◌∙◌, ◌≡◌}
 use Rattle.node_model.specs.DropStep.{lacking_outcome}
 use Rattle.step_judging.specs.Same.{same_effect}
 use Rattle.step_judging.specs.Rules.{effect_of}

@@ -1,5 +1,5 @@
 -- What the proof of `forcing::is_forced` needs beside the tactics.
-use Rattle.std.proofs.Common.{sym, ap, None, Some, ℕ, Option, ◌∙◌}
+use Rattle.std.proofs.Common.{sym, ap, ℕ, Option, ◌∙◌}
 use Rattle.std.specs.Prelude.{not}
 use Rattle.job_makes.specs.Turns.{turn_in}
 use Rattle.step_judging.specs.Told.{is_forced}

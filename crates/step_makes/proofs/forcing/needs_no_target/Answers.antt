@@ -1,5 +1,5 @@
 -- What the proof of `forcing::needs_no_target` needs beside the tactics.
-use Rattle.std.proofs.Common.{sym, ap, None, Some, ℕ, Option, ◌∙◌}
+use Rattle.std.proofs.Common.{sym, ap, ℕ, Option, ◌∙◌}
 use Rattle.step_judging.specs.Rules.{is_nil}
 use Rattle.drop_makes.specs.Knowings.{drop_in}
 use Rattle.node_model.specs.Turns.{target_needs}

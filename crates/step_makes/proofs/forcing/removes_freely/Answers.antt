@@ -3,7 +3,6 @@ use Rattle.std.proofs.Common.{sym, ap, ℕ, Bool, ◌∙◌, if◌then◌else◌
 use Rattle.step_judging.specs.Rules.{is_nil}
 use Rattle.drop_makes.specs.Knowings.{drop_in}
 use Rattle.node_model.specs.JobStep.{locked_peers}
-use Rattle.node_model.specs.DropStep.{in_time}
 use Rattle.step_makes.proofs.forcing.removes_freely.Goals as goal
 
 pub returns-then-in_time : goal.returns-then-in_time

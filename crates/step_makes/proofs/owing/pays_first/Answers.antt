@@ -1,5 +1,5 @@
 -- What the proof of `owing::pays_first` needs beside the tactics.
-use Rattle.std.proofs.Common.{sym, ap, None, Some, ℕ, List, Option, ◌∙◌, ◌≡◌, ◌∷◌, []}
+use Rattle.std.proofs.Common.{sym, ap, None, ℕ, List, Option, ◌∙◌, ◌≡◌, ◌∷◌, []}
 use Rattle.annex_base.specs.declared.kinds.Call.{Call}
 use Rattle.annex_base.specs.declared.kinds.Call.TheVariants.{PutFile}
 use Rattle.annex_base.specs.declared.kinds.Word.{Word}

@@ -1,6 +1,5 @@
 -- What the proof of `slots::job_forced` needs beside the tactics.
 use Rattle.std.proofs.Common.{sym, ◌∙◌}
-use Rattle.step_makes.specs.Knowledge.{is_judging}
 use Rattle.step_makes.proofs.slots.job_forced.Goals as goal
 
 pub judges_forced-requires : goal.judges_forced-requires

@@ -7,7 +7,7 @@ use Rattle.state_jobs.specs.Works.{work_of}
 use Rattle.node_model.specs.SetUp.{SetUp}
 use Rattle.node_model.specs.State.{State}
 use Rattle.std.proofs.lemmas.Result.{IfOk-weaker}
-use Rattle.step_makes.specs.Knowledge.{IsReadBy, IsTurnOf, HasRoom, reads_logs}
+use Rattle.step_makes.specs.Knowledge.{IsReadBy, IsTurnOf, HasRoom}
 use Rattle.node_model.specs.Jobs.{partner}
 use Rattle.node_model.specs.Turns.{by_partner}
 use Rattle.state_reads.specs.Reads.{IsOnly}

@@ -2,7 +2,6 @@
 use Rattle.std.proofs.Common.{sym, ap, subst, None, Some, Option, ◌∙◌, ◌≡◌}
 use Rattle.state_reads.specs.Known.{AreLogsRead, KnownLogs}
 use Rattle.state_reads.specs.Reads.{HasReadAs, IsOnly, reading_at}
-use Rattle.annex_base.specs.Settings.{Settings}
 use Rattle.step_judging.specs.Rules.{effect_of, is_effect}
 use Rattle.job_makes.specs.Turns.{turn_in, set_up_in}
 use Rattle.std.specs.Option.{option_copied}

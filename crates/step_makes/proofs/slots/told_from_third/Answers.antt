@@ -3,7 +3,7 @@ use Rattle.std.proofs.Common.{sym, ap, Some, Bool, find, ◌∙◌, ◌≡◌, �
 use Rattle.node_model.specs.Jobs as jobs
 use Rattle.node_model.specs.JobStep as steps
 use Rattle.node_model.specs.Turns.{slot_step, by_partner}
-use Rattle.step_makes.proofs.SlotLemmas.{in_other_slot, in_slot, never_both}
+use Rattle.step_makes.proofs.SlotLemmas.{in_other_slot, in_slot}
 use Rattle.std.specs.Prelude.{not}
 use Rattle.step_judging.specs.Rules.{effect_of, is_effect}
 use Rattle.job_makes.specs.Turns.{turn_in, word_in}

@@ -1,5 +1,5 @@
 -- What the proof of `taking::takes_read` needs beside the tactics.
-use Rattle.std.proofs.Common.{sym, ap, None, Some, Option, ◌∙◌, ◌≡◌}
+use Rattle.std.proofs.Common.{sym, ap, Option, ◌∙◌, ◌≡◌}
 use Rattle.step_judging.specs.Same.{same_effect}
 use Rattle.step_judging.specs.Rules.{effect_of}
 use Rattle.job_makes.specs.Turns.{turn_in}

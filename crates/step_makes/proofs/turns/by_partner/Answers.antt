@@ -1,5 +1,5 @@
 -- What the proof of `turns::by_partner` needs beside the tactics.
-use Rattle.std.proofs.Common.{sym, ap, None, Some, ℕ, Option, ◌∙◌, ◌≡◌}
+use Rattle.std.proofs.Common.{sym, ap, ℕ, Option, ◌∙◌, ◌≡◌}
 use Rattle.step_judging.specs.Rules.{effect_of, is_effect}
 use Rattle.job_makes.specs.Turns.{turn_in}
 use Rattle.std.specs.Option.{option_copied}

@@ -1,5 +1,4 @@
 -- What the proof of `requests::failing_resume` needs beside the tactics.
-use Rattle.std.proofs.Common.{ℕ}
 use Rattle.transfer_makes.proofs.Parts.{begun_anew, resumed}
 use Rattle.job_makes.specs.Turns.{turn_in}
 use Rattle.transfer_makes.proofs.requests.failing_resume.Goals as goal
