@@ -1,5 +1,5 @@
 -- Lines in byte order, and lines that a file has.
-use Rattle.std.proofs.Common.{◌≡◌, ◌↔◌, ℕ, Bool, true, false, List, [], ◌∷◌, Option, Some, None, refl, sym, ap, subst, ◌∙◌, arith}
+use Rattle.std.proofs.Common.{◌≡◌, ◌↔◌, ℕ, Bool, true, false, List, [], ◌∷◌, Some, None, refl, sym, ap, subst, ◌∙◌, arith}
 use Rattle.std.specs.Prelude.{◌&&◌, ◌==◌, length}
 use Rattle.std.specs.List.{list_all}
 use Rattle.std.proofs.lemmas.Bool.{eqb-true}
@@ -14,7 +14,7 @@ use Rattle.std.specs.declared.cmp.Ordering.TheVariants.{Less, Equal, Greater}
 use Rattle.std.specs.Prelude.{bytes_eq}
 use Rattle.union_merge.specs.LineSet.{has_line, is_empty}
 use Rattle.step_judging.specs.Rules.{is_rising}
-use Rattle.any_time_checks.specs.Coming.{is_behind, rise_behind}
+use Rattle.any_time_checks.specs.Coming.{rise_behind}
 use Rattle.any_time_checks.proofs.FrameLemmas.{same_tests}
 
 less_is : (o : Ordering) → is_lt o ≡ true → o ≡ Less

@@ -17,7 +17,8 @@ use Rattle.node_model.specs.State.{State}
 use Rattle.run_model.specs.Frames.{Way}
 use Rattle.run_model.specs.Run.{IsRun, set_up}
 use Rattle.state_checks.specs.Moments.{moment_of}
-use Rattle.state_flights.specs.Flights.{AreNone, flight_on}
+use Rattle.state_flights.specs.Flights.{AreNone, StaySame, flight_on}
+use Rattle.state_flights.specs.declared.flights.Flights.{Flights}
 use Rattle.step_judging.specs.Carried.{Flight, flight_after, judge_of}
 use Rattle.step_rules.specs.Members as members
 use Rattle.step_rules.specs.Members.{BeginsWith, IsBounded, IsMemberOf}
@@ -105,7 +106,7 @@ module _ (next : NextLaw) (grow : EntryGrows) (keep : PathsKept) (agree : States
       (begun : List (List ℕ)) (has : HasBegun x.trees.marks.now x.taken e.kind begun) (hears : Option Hears)
       (hear : (m : Member) (s : SetUp) (st : State) (words : ℕ → ℕ → Option Word) → slice_get x.members.items r ≡ Some m → IsMemberOf m s st words → HearsBy st (flight_on x.flights) r e hears)
       (changes : ChangesMember r (λ m n. (s : SetUp) (st : State) (words : ℕ → ℕ → Option Word) → BeginsWith s e.kind begun → IsMemberOf m s st words
-          → IsMemberOf n s (state_after s st e) (members.words_after words hears)) x.members.items y.members.items)
+      → IsMemberOf n s (state_after s st e) (members.words_after words hears)) x.members.items y.members.items)
       (flights : (w : Way) → flight_on y.flights w ≡ flight_after w (flight_on x.flights w) e) where
     pub own_after : (run : Run) → IsAfter x run → broken_rule (set_up run) (reverse run.entries) e ≡ None → IsAfter y (with_entry run e)
     own_after run after may =
@@ -119,24 +120,24 @@ module _ (next : NextLaw) (grow : EntryGrows) (keep : PathsKept) (agree : States
         (subst (λ (f : Way → Flight). HearsBy (j.states r) f r e hears) (sym same) (hear there.0 (set_up run r) (j.states r) (j.words r) there.1 (after.judge.members r there.0 there.1)))
         changes flights
 
-    pub own_carried : (c : IsCarried x) → broken_rule (set_up c.run) (reverse c.run.entries) e ≡ None → y.trees ≡ x.trees
+    pub own_carried : (c : IsCarried x) (run : Run) → IsAfter x run → broken_rule (set_up run) (reverse run.entries) e ≡ None → y.trees ≡ x.trees
         → Each (IsBounded (length x.repos.now) (x.taken + 1)) y.members.items → IsCarried y
-    own_carried c may trees bounded = record {
+    own_carried c run after may trees bounded = record {
       many = subst (λ (repos : List RepoView). length repos < 2 ^ 32) (sym follows.repos) c.many;
       set_up = subst (Each IsSetUp) (sym follows.repos) c.set_up;
       count = changes.count ∙ c.count ∙ sym (ap length follows.repos);
       members = subst (λ (n : ℕ). Each (IsBounded (length y.repos.now) n) y.members.items) (sym follows.taken)
           (subst (λ (repos : List RepoView). Each (IsBounded (length repos) (x.taken + 1)) y.members.items) (sym follows.repos) bounded);
       tree = subst (λ (n : ℕ). IsTreeBefore n y.trees) (sym follows.taken) (subst (IsTreeBefore (x.taken + 1)) (sym trees) (tree_later x.taken x.trees c.tree));
-      run = with_entry c.run e;
-      after = own_after c.run c.after may;
+      run = with_entry run e;
+      after = own_after run after may;
     }
 
   -- the repository is one of the run
-  pub member_here : (x : RunState) (e : Entry) (r : ℕ) → e.repo ≡ Some r → (c : IsCarried x) → broken_rule (set_up c.run) (reverse c.run.entries) e ≡ None → (m : Member) × (slice_get x.members.items r ≡ Some m)
-  member_here x e r own c may =
-      let low = known_here next grow x e c.run c.after may r own in
-      let count = c.count in slice_get-within x.members.items r (omega (arith, low, count))
+  pub member_here : (x : RunState) (e : Entry) (r : ℕ) → e.repo ≡ Some r → length x.members.items ≡ length x.repos.now → (run : Run) → IsAfter x run → broken_rule (set_up run) (reverse run.entries) e ≡ None
+      → (m : Member) × (slice_get x.members.items r ≡ Some m)
+  member_here x e r own count run after may =
+      let low = known_here next grow x e run after may r own in slice_get-within x.members.items r (omega (arith, low, count))
 
 -- ---- before an entry is taken
 
@@ -180,9 +181,12 @@ with_stay x y z r same repos tree newest taken flights changes = record {
         let low = place_in z.members.items q m at in
         let long = changes.count in
         let was = slice_get-within y.members.items q (omega (arith, low, long)) in
-        let n = same.members q was.0 was.1 in
-        (n.0, n.1, λ s st words of.
-            changes.here was.0 m (subst (λ (k : ℕ). slice_get y.members.items k ≡ Some was.0) here was.1) (subst (λ (k : ℕ). slice_get z.members.items k ≡ Some m) here at) s st words (n.2 s st words of)))
+        let n = same.members q was.0 was.1 in (
+          n.0,
+          n.1,
+          λ s st words of.
+              changes.here was.0 m (subst (λ (k : ℕ). slice_get y.members.items k ≡ Some was.0) here was.1) (subst (λ (k : ℕ). slice_get z.members.items k ≡ Some m) here at) s st words (n.2 s st words of),
+        ))
     | inr is ↦ same.members q m (sym (changes.others q (λ here. absurd (let both : false ≡ true = sym is ∙ eq-eqb q r here in cc))) ∙ at)
   ];
   flights = λ w. flights w ∙ same.flights w;
@@ -203,6 +207,21 @@ same_carried x y same c bounded tree = record {
 pub has_same : (x y : RunState) (kind : EntryKind) (begun : List (List ℕ)) → SameRun x y → HasBegun x.trees.marks.now x.taken kind begun → HasBegun y.trees.marks.now y.taken kind begun
 has_same x y kind begun same has =
     subst (λ (n : ℕ). HasBegun y.trees.marks.now n kind begun) (sym same.taken) (subst (λ (marks : List TreeMark). HasBegun marks x.taken kind begun) (sym same.tree) has)
+
+-- ---- an entry's room
+
+module _ (x y : RunState) (rest : y ≡ record x { trees = y.trees }) (marks : y.trees.marks ≡ x.trees.marks) where
+  pub begun_bounded : IsCarried x → Each (IsBounded (length x.repos.now) x.taken) y.members.items
+  begun_bounded c = subst (λ (z : RunState). Each (IsBounded (length x.repos.now) x.taken) z.members.items) (sym rest) c.members
+
+  pub begun_carried : IsCarried x → IsTreeBefore x.taken y.trees → IsCarried y
+  begun_carried c tree = same_carried x y (begun_same x y rest marks) c (begun_bounded c) tree
+
+  pub room_same : (f : Flights) → StaySame y.flights f → SameRun x (record y { flights = f })
+  room_same f stay = with_room x y (record y { flights = f }) (begun_same x y rest marks) refl refl refl refl refl stay
+
+  pub room_carried : (f : Flights) → StaySame y.flights f → IsCarried x → IsTreeBefore x.taken y.trees → IsCarried (record y { flights = f })
+  room_carried f stay c tree = same_carried x (record y { flights = f }) (room_same f stay) c (begun_bounded c) tree
 
 -- ---- before the first entry
 

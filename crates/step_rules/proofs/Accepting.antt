@@ -1,23 +1,16 @@
 -- What an entry has that is permitted after a run, and the run with it.
-use Rattle.std.proofs.Common.{◌≡◌, ◌≢◌, ◌↔◌, ℕ, ◌+◌, ◌<◌, ◌≤◌, ◌^◌, Bool, true, false, List, [], ◌∷◌, ◌++◌, length, Option, Some, None, refl, sym, ap, subst, ◌∙◌, arith, inl}
-use Rattle.std.specs.Prelude.{◌&&◌, filter, map, nat_lt, reverse}
-use Rattle.std.proofs.lemmas.Bool.{and_parts}
-use Rattle.std.proofs.lemmas.Bool.Decides.{nat_tests}
+use Rattle.std.proofs.Common.{◌≡◌, ℕ, ◌<◌, ◌≤◌, Bool, true, false, List, [], ◌∷◌, ◌++◌, length, Option, Some, None, refl, sym, ap, subst, ◌∙◌, arith, inl}
+use Rattle.std.specs.Prelude.{◌&&◌, map, reverse}
 use Rattle.annex_base.specs.Lists.{Each, Member as Among}
-use Rattle.annex_base.specs.declared.kinds.Word.{Word}
 use Rattle.annex_base.proofs.Lists.{Each-member, Member-append_right}
-use Rattle.run_data.specs.Repos.{IsSetUp}
 use Rattle.run_data.specs.declared.entry.Entry.{Entry}
 use Rattle.run_data.specs.declared.entry.EntryKind.{EntryKind}
 use Rattle.run_data.specs.declared.entry.EntryKind.TheVariants.{Begin, Crash, Log}
 use Rattle.run_data.specs.declared.run.Run.{Run}
-use Rattle.node_model.specs.Clocks.{hold_time}
 use Rattle.node_model.specs.Jobs.{Work}
 use Rattle.node_model.specs.Rows.{option_is}
-use Rattle.node_model.specs.SetUp.{SetUp}
 use Rattle.run_model.specs.Frames.{Way, on_way, sender_of, taker_of, takes}
 use Rattle.run_model.specs.Run.{IsRun, IsSmall, MayBe, RunPast, RunStep, set_up}
-use Rattle.run_model.specs.States.{works}
 use Rattle.driver_model.specs.Logged.{LogsWell}
 use Rattle.past_facts.proofs.OwnRuns.{own_past}
 use Rattle.step_facts.proofs.Below.{SentAreRead}
@@ -25,7 +18,7 @@ use Rattle.state_files.specs.Changes.{LogsLines}
 use Rattle.state_flights.specs.Flights.{flight_on}
 use Rattle.state_rows.specs.Changes.{SetsClock}
 use Rattle.step_judging.specs.Carried.{Flight, flight_after, flight_sent, flight_took, is_ordered_by, judge_of, takes_next, waits_as, words_at_end}
-use Rattle.step_judging.specs.Rules.{broken_rule, comes, first_broken, has_row, is_own, is_step}
+use Rattle.step_judging.specs.Rules.{broken_rule, first_broken, has_row, is_own}
 use Rattle.step_state.specs.Peers.{HasPeersIn}
 use Rattle.step_rules.specs.Members.{BeginsWith}
 use Rattle.step_rules.specs.Runs.{with_entry}
@@ -36,7 +29,6 @@ use Rattle.step_rules.proofs.Alone.{StatesAgree, works_are}
 use Rattle.step_rules.proofs.Carrying.{PathsKept, paths_begin, reverse_more}
 use Rattle.step_rules.proofs.Peers.{has_peers}
 use Rattle.step_rules.proofs.Rules.{CarryLaw, rule_is}
-use Rattle.step_rules.proofs.SameStep.{HavePaths}
 use Rattle.step_rules.proofs.Starts.{NextLaw, have_paths}
 
 abbrev pub EntryGrows : Type 0
@@ -113,7 +105,7 @@ module _ (next : NextLaw) (grow : EntryGrows) (x : RunState) (e : Entry) (run : 
         let same : j.flights ≡ flight_on x.flights = λ i. λ w. after.judge.flights w i in
         ap (λ (f : Way → Flight). takes_next f r e.taken) (sym same)
         ∙ fourth_holds (is_ordered_by j.newest e) (has_row (j.states r) e) (is_own (set_up run r) (j.states r) (words_at_end (j.words r) e.kind) e) (takes_next j.flights r e.taken)
-            (rule_is carry x run e (Some r) after own ∙ allowed)
+        (rule_is carry x run e (Some r) after own ∙ allowed)
 
     pub begins_here : (begun : List (List ℕ)) → HasBegun x.trees.marks.now x.taken e.kind begun → BeginsWith (set_up (with_entry run e) r) e.kind begun
     begins_here begun has = begins_with run e r x.taken begun own after.taken e.kind refl (subst (λ marks. HasBegun marks x.taken e.kind begun) (sym after.tree) has)

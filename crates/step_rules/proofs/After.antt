@@ -1,5 +1,5 @@
 -- The state of a run is that of the run with one entry more, where the entry was taken.
-use Rattle.std.proofs.Common.{◌≡◌, ◌≢◌, ℕ, ◌+◌, ◌<◌, ◌≤◌, Bool, true, false, List, [], ◌∷◌, length, Option, Some, None, refl, sym, ap, subst, ◌∙◌, arith, inl, inr, length-append}
+use Rattle.std.proofs.Common.{◌≡◌, ◌≢◌, ℕ, ◌+◌, ◌<◌, ◌≤◌, Bool, true, false, List, [], ◌∷◌, length, Option, Some, None, sym, ap, subst, ◌∙◌, arith, inl, inr, length-append}
 use Rattle.std.specs.Prelude.{◌==◌, if◌then◌else◌, reverse, slice_get}
 use Rattle.std.proofs.lemmas.Bool.{cases_Bool, eqb-true}
 use Rattle.std.proofs.lemmas.Bool.Decides.{nat_tests}
@@ -89,7 +89,7 @@ module _ (run : Run) (e : Entry) (x y : RunState) (after : IsAfter x run) (follo
         (begins : BeginsWith (set_up (with_entry run e) q) e.kind begun)
         (hear : HearsBy (was.states q) was.flights q e hears)
         (changes : ChangesMember q (λ m n. (s : SetUp) (st : State) (words : ℕ → ℕ → Option Word) → BeginsWith s e.kind begun → IsMemberOf m s st words
-            → IsMemberOf n s (state_after s st e) (members.words_after words hears)) x.members.items y.members.items)
+        → IsMemberOf n s (state_after s st e) (members.words_after words hears)) x.members.items y.members.items)
         (flights : (w : Way) → flight_on y.flights w ≡ flight_after w (flight_on x.flights w) e) where
       same_number : (q == q) ≡ true
       same_number = self q

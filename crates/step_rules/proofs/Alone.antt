@@ -47,7 +47,7 @@ pub alone : (ws : List Work) → Falling (map running_job ws) → AreAlone ws
 alone [] falls = tt
 alone (w ∷ ws) falls = (
   filter_yes (λ v. v.number == w.number) w ws (same_number w.number)
-  ∙ ap (λ vs. w ∷ vs) (filter_none (λ v. v.number == w.number) ws (Each-from_members (λ v. (v.number == w.number) ≡ false) ws (λ v m. apart_below v.number w.number (below v m)))),
+      ∙ ap (λ vs. w ∷ vs) (filter_none (λ v. v.number == w.number) ws (Each-from_members (λ v. (v.number == w.number) ≡ false) ws (λ v m. apart_below v.number w.number (below v m)))),
   Each-from_members (IsOnly (w ∷ ws)) ws (λ v m. filter_no (λ u. u.number == v.number) w ws (apart_above w.number v.number (below v m)) ∙ only v m (alone ws falls.1)),
 )
   where

@@ -57,18 +57,18 @@ module _ {E : Type 0} (agree : StatesAgree) (x : RunState) (count : length x.mem
   found_by r own None at =
       ok_map row _ Tells
       (λ y absent. λ run after.
-          let far = place_past x.members.items r at in
-          let same = ap length after.repos in
-          found_none run (reverse run.entries) e r (omega (arith, far, same, count)) y absent ∙ ap (row_found (set_up run) (reverse run.entries) e) (sym own))
+      let far = place_past x.members.items r at in
+      let same = ap length after.repos in
+      found_none run (reverse run.entries) e r (omega (arith, far, same, count)) y absent ∙ ap (row_found (set_up run) (reverse run.entries) e) (sym own))
       (none (is ∙ ap (state_at x.members.items) own ∙ ap (option_map (λ (m : Member). m.state)) at))
   found_by r own (Some m) at =
       ok_map row _ Tells
       (λ y tells. λ run after.
-          let past = reverse run.entries in
-          let low = place_in x.members.items r m at in
-          let same = ap length after.repos in
-          found_here agree run after.lawful.repos past after.lawful.steps e r (omega (arith, low, same, count)) y (tells (set_up run r) ((judge_of (set_up run) past).states r) (after.judge.members r m at).state)
-          ∙ ap (row_found (set_up run) past e) (sym own))
+      let past = reverse run.entries in
+      let low = place_in x.members.items r m at in
+      let same = ap length after.repos in
+      found_here agree run after.lawful.repos past after.lawful.steps e r (omega (arith, low, same, count)) y (tells (set_up run r) ((judge_of (set_up run) past).states r) (after.judge.members r m at).state)
+      ∙ ap (row_found (set_up run) past e) (sym own))
       (some m.state (is ∙ ap (state_at x.members.items) own ∙ ap (option_map (λ (n : Member). n.state)) at))
 
   pub found_all : IfOk row Tells

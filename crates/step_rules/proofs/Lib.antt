@@ -16,3 +16,4 @@ mod Heard
 mod Starting
 mod Breaks
 mod Accepted
+mod Changing

@@ -1,6 +1,6 @@
 -- One repository of a run: what is its own part, and what it is after an entry.
 use Rattle.std.proofs.Common.{◌≡◌, ℕ, ◌<◌, Bool, true, false, List, [], ◌∷◌, length, map, Option, Some, None, refl, sym, ap, subst, ◌∙◌, arith, inl, inr}
-use Rattle.std.specs.Prelude.{◌&&◌, ◌||◌, ◌==◌, filter, if◌then◌else◌, nat_lt, not}
+use Rattle.std.specs.Prelude.{◌&&◌, ◌||◌, ◌==◌, if◌then◌else◌, nat_lt, not}
 use Rattle.std.proofs.lemmas.Bool.{eqb-true}
 use Rattle.std.proofs.lemmas.Bool.Decides.{nat_tests}
 use Rattle.annex_base.specs.Lists.{Member as Among}
@@ -9,7 +9,6 @@ use Rattle.annex_base.proofs.Lists.{Member-filter_parts}
 use Rattle.run_data.specs.declared.entry.Entry.{Entry}
 use Rattle.run_data.specs.declared.entry.EntryKind.{EntryKind}
 use Rattle.run_data.specs.declared.entry.EntryKind.TheVariants.{Begin, Crash, End}
-use Rattle.run_data.specs.declared.job.Job.{Job}
 use Rattle.node_model.specs.After.{state_after}
 use Rattle.node_model.specs.Jobs.{RowsAndEnds, Work, running_job, work_after, works_after}
 use Rattle.node_model.specs.SetUp.{SetUp}

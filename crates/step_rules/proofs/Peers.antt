@@ -13,12 +13,11 @@ use Rattle.run_data.specs.declared.entry.EntryKind.TheVariants.{Begin, Close, Co
 use Rattle.run_data.specs.declared.entry.FrameText.{FrameText}
 use Rattle.run_data.specs.declared.entry.FrameText.TheVariants.{Closing}
 use Rattle.run_data.specs.declared.entry.FrameView.{FrameView}
-use Rattle.run_data.specs.declared.job.Job.{Job}
 use Rattle.run_data.specs.declared.job.JobKind.{JobKind}
 use Rattle.node_model.specs.AnyTime.{IsPeer, MayCome, all_ends, close_at, ends_with}
 use Rattle.node_model.specs.Ends.{End, EndName, end_sends, frames, server_end}
 use Rattle.node_model.specs.SetUp.{SetUp, others, served_connections, slots}
-use Rattle.run_model.specs.Run.{ComesAnyTime, IsStep, OwnPart, OwnRun}
+use Rattle.run_model.specs.Run.{IsStep, OwnPart, OwnRun}
 use Rattle.run_model.specs.States.{state_of}
 use Rattle.step_facts.proofs.Below.{SentAreRead}
 use Rattle.step_facts.proofs.Makers.{who}

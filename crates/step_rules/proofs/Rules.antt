@@ -1,22 +1,17 @@
 -- The first rule that is broken, by what each test says; and what is carried of a run.
 use Rattle.std.proofs.Common.{◌≡◌, ℕ, Bool, true, false, List, [], ◌∷◌, Option, Some, None, Result, Ok, Err, IfOk, refl, sym, ap, ◌∙◌}
-use Rattle.std.specs.Prelude.{option_map, reverse, slice_get}
+use Rattle.std.specs.Prelude.{reverse}
 use Rattle.annex_base.specs.Lists.{Each}
-use Rattle.annex_base.specs.declared.kinds.Word.{Word}
 use Rattle.run_data.specs.Repos.{IsSetUp}
 use Rattle.run_data.specs.declared.entry.Entry.{Entry}
 use Rattle.run_data.specs.declared.run.Run.{Run}
 use Rattle.run_model.specs.Run.{RunPast, set_up}
-use Rattle.node_model.specs.SetUp.{SetUp}
-use Rattle.step_judging.specs.Carried.{Judge, breaks_by, is_ordered_by, judge_of, judged, takes_next, words_at_end}
-use Rattle.step_judging.specs.Rules.{broken_rule, first_broken, has_row, is_own, only_waits}
+use Rattle.step_judging.specs.Carried.{breaks_by, judge_of, judged}
+use Rattle.step_judging.specs.Rules.{broken_rule, first_broken}
 use Rattle.step_rules.specs.States.{IsAfter}
 use Rattle.step_rules.specs.declared.run_state.RunState.{RunState}
 
 -- ---- the first that is broken
-
-pub first_is : (a b c d : Bool) → a ≡ false → Some 1 ≡ first_broken ((1, a) ∷ (2, b) ∷ (3, c) ∷ (4, d) ∷ [])
-first_is a b c d p = rw p refl
 
 pub second_is : (a b c d : Bool) → a ≡ true → b ≡ false → Some 2 ≡ first_broken ((1, a) ∷ (2, b) ∷ (3, c) ∷ (4, d) ∷ [])
 second_is a b c d p q = rw (p, q) refl

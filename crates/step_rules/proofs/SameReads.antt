@@ -1,6 +1,6 @@
 -- The data of a state are those of the state of a set-up with other paths, where the running jobs' are the same.
-use Rattle.std.proofs.Common.{◌≡◌, ℕ, Bool, true, List, [], ◌∷◌, Option, Some, None, refl, sym, ap, subst, ◌∙◌, inl}
-use Rattle.std.specs.Prelude.{◌==◌, filter}
+use Rattle.std.proofs.Common.{◌≡◌, ℕ, List, Option, Some, None, refl, sym, subst, inl}
+use Rattle.std.specs.Prelude.{◌==◌}
 use Rattle.annex_base.specs.Lists.{Member}
 use Rattle.annex_base.proofs.Lists.{Member-filter_parts}
 use Rattle.run_data.specs.Repos.{id_of}

@@ -2,11 +2,10 @@
 use Rattle.std.proofs.Common.{◌≡◌, ◌↔◌, ℕ, zero, suc, ◌+◌, ◌<◌, ◌≤◌, List, [], ◌∷◌, ◌++◌, get_or, length, take, Option, Some, None, refl, sym, ap, subst, ◌∙◌, arith}
 use Rattle.std.specs.Prelude.{Bool, reverse, slice_get}
 use Rattle.std.proofs.lemmas.List.{take_more}
-use Rattle.annex_base.specs.Lists.{Each, Member}
+use Rattle.annex_base.specs.Lists.{Each}
 use Rattle.run_data.specs.Repos.{IsSetUp}
 use Rattle.run_data.specs.declared.entry.Entry.{Entry}
 use Rattle.run_data.specs.declared.run.Run.{Run}
-use Rattle.node_model.specs.Jobs.{Work}
 use Rattle.run_model.specs.Run.{IsRun, RunPast, RunStep, set_up}
 use Rattle.run_model.specs.States.{state_of, works}
 use Rattle.step_facts.proofs.WorkNumbers.{number_begun}

@@ -1,7 +1,7 @@
 -- One repository of a run as data: its state, the paths of its jobs' keys, and the words that they heard (own).
 use Rattle.std.specs.Prelude.{◌≡◌, ℕ, ◌<◌, ◌≤◌, Bool, true, false, ◌&&◌, ◌==◌, if◌then◌else◌, List, [], find, length, Option, Some, None, option_map, unwrap_or}
 use Rattle.std.specs.Map.{lookup}
-use Rattle.annex_base.specs.Lists.{Each, Member as Among}
+use Rattle.annex_base.specs.Lists.{Member as Among}
 use Rattle.annex_base.specs.declared.kinds.Word.{Word}
 use Rattle.indexmap.specs.IndexMap.{spare}
 use Rattle.run_data.specs.declared.entry.EntryKind.{EntryKind}

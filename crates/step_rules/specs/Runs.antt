@@ -1,5 +1,5 @@
 -- Runs by their first entries (own).
-use Rattle.std.specs.Prelude.{List, [], ◌∷◌, ◌++◌, ℕ, take}
+use Rattle.std.specs.Prelude.{[], ◌∷◌, ◌++◌, ℕ, take}
 use Rattle.run_data.specs.declared.entry.Entry.{Entry}
 use Rattle.run_data.specs.declared.run.Run.{Run}
 

@@ -1,5 +1,5 @@
 -- The tree of a run at the place of its next entry, as data (own).
-use Rattle.std.specs.Prelude.{◌≡◌, ℕ, ◌≤◌, List, [], ◌∷◌, take, length}
+use Rattle.std.specs.Prelude.{ℕ, ◌≤◌, List, [], ◌∷◌, take, length}
 use Rattle.annex_base.specs.Lists.{Each}
 use Rattle.run_data.specs.declared.run.TreeMark.{TreeMark}
 use Rattle.run_paths.specs.Paths.{IsIndexOf}

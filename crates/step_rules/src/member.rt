@@ -127,6 +127,7 @@ impl Member {
             → IsMemberOf self.new s (state_after s st entry.now) (words_after words hears)) }
         ensures err { OnErr result ((s : SetUp) (st : State) (words : ℕ → ℕ → Option Word) → IsMemberOf self.old s st words → IsMemberOf self.new s st words) }
         ensures bounded { (count made : ℕ) → IsBounded count made self.old → IsBounded count (made + 1) self.new }
+        ensures err_bounded { OnErr result ((count made : ℕ) → IsBounded count made self.old → IsBounded count made self.new) }
     {
         // A law, for the proof: a job keeps its number.
         running_jobs_stay_the_same();

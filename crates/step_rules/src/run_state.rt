@@ -31,7 +31,7 @@ use annex_base::{Items, NoMemory, Text};
 use driver_model::runs_log_lines;
 use growth_laws::{jobs_keep_their_paths, runs_grow};
 use p2p_wire::sent_messages_are_read;
-use run_data::{Entry, EntryKind, FrameView, RepoView, Run, RowView};
+use run_data::{Entry, EntryKind, FrameView, RepoView, RowView, Run};
 use run_laws::{carried_states_agree, states_are_sound};
 use state_checks::{Moment, has_row, is_ordered, moment_of, row_found};
 use state_flights::{Flights, bodies_of};
@@ -297,6 +297,7 @@ fn after(
         → IsMemberOf now s (state_after s st entry.now) (words_after words hears)) members.old.items members.new.items) }
     ensures err { OnErr result (ChangesMember repo (λ was now. (s : SetUp) (st : State) (words : ℕ → ℕ → Option Word) → IsMemberOf was s st words → IsMemberOf now s st words) members.old.items members.new.items) }
     ensures bounded { (count made : ℕ) → Each (IsBounded count made) members.old.items → Each (IsBounded count (made + 1)) members.new.items }
+    ensures err_bounded { OnErr result ((count made : ℕ) → Each (IsBounded count made) members.old.items → Each (IsBounded count made) members.new.items) }
 {
     let member = &mut members[repo as usize];
     take_note(member, entry, begun, hears)
@@ -317,6 +318,7 @@ fn take_note(
         → IsMemberOf member.new s (state_after s st entry.now) (words_after words hears)) }
     ensures err { OnErr result ((s : SetUp) (st : State) (words : ℕ → ℕ → Option Word) → IsMemberOf member.old s st words → IsMemberOf member.new s st words) }
     ensures bounded { (count made : ℕ) → IsBounded count made member.old → IsBounded count (made + 1) member.new }
+    ensures err_bounded { OnErr result ((count made : ℕ) → IsBounded count made member.old → IsBounded count made member.new) }
 {
     member.ready(&hears)?;
     member.after(entry, begun, hears)

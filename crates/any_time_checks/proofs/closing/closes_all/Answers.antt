@@ -1,5 +1,5 @@
 -- What the proof of `closing::closes_all` needs beside the tactics.
-use Rattle.std.proofs.Common.{ap, sym, ◌∙◌}
+use Rattle.std.proofs.Common.{ap, ◌∙◌}
 use Rattle.std.specs.Prelude.{length}
 use Rattle.node_model.specs.AnyTime as any_time
 use Rattle.step_judging.specs.Same.{same_frames}

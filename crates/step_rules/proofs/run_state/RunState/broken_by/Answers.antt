@@ -16,8 +16,8 @@ returns-then-not-branch c = λ run after.
     let e = c.args.entry.now in
     let member = after.judge.members r c.args.member.now c.requires.member in
     second_is (is_ordered_by j.newest e) (has_row (j.states r) e) (is_own (set_up run r) (j.states r) (words_at_end (j.words r) e.kind) e) (takes_next j.flights r e.taken)
-        (sym (c.is_ordered.ensures j.newest after.judge.newest) ∙ c.if-not-is_ordered.false)
-        (sym (c.in_ok-has_row.ensures (set_up run r) (j.states r) member.state) ∙ c.if-not-branch.true)
+    (sym (c.is_ordered.ensures j.newest after.judge.newest) ∙ c.if-not-is_ordered.false)
+    (sym (c.in_ok-has_row.ensures (set_up run r) (j.states r) member.state) ∙ c.if-not-branch.true)
 
 pub is_own-requires-clause-bounded : goal.is_own-requires-clause-bounded
 is_own-requires-clause-bounded c =
@@ -39,11 +39,11 @@ returns-then-not-branch-2 c = λ run after.
     let member = after.judge.members r c.args.member.now c.requires.member in
     let agree = c.carried_states_agree.ensures.own_states in
     third_is (is_ordered_by j.newest e) (has_row (j.states r) e) (is_own (set_up run r) (j.states r) (words_at_end (j.words r) e.kind) e) (takes_next j.flights r e.taken)
-        (sym (c.is_ordered.ensures j.newest after.judge.newest) ∙ c.if-not-is_ordered.false)
-        (sym (c.in_ok-has_row.ensures (set_up run r) (j.states r) member.state) ∙ c.if-not-branch.false)
-        (sym (c.in_ok-is_own.ensures (set_up run r) (j.states r) (j.words r) after.repos (known x c.requires.carried r c.args.member.now c.requires.member run after)
-            (works_seated agree run after.lawful.repos past after.lawful.steps r c.states_are_sound.ensures.seated) (works_alone agree run after.lawful.repos past after.lawful.steps r) member)
-            ∙ c.if-not-branch-2.true)
+    (sym (c.is_ordered.ensures j.newest after.judge.newest) ∙ c.if-not-is_ordered.false)
+    (sym (c.in_ok-has_row.ensures (set_up run r) (j.states r) member.state) ∙ c.if-not-branch.false)
+    (sym (c.in_ok-is_own.ensures (set_up run r) (j.states r) (j.words r) after.repos (known x c.requires.carried r c.args.member.now c.requires.member run after)
+    (works_seated agree run after.lawful.repos past after.lawful.steps r c.states_are_sound.ensures.seated) (works_alone agree run after.lawful.repos past after.lawful.steps r) member)
+    ∙ c.if-not-branch-2.true)
 
 pub returns-then-not-may_take : goal.returns-then-not-may_take
 returns-then-not-may_take c = λ run after.
@@ -55,12 +55,12 @@ returns-then-not-may_take c = λ run after.
     let member = after.judge.members r c.args.member.now c.requires.member in
     let agree = c.carried_states_agree.ensures.own_states in
     fourth_is (is_ordered_by j.newest e) (has_row (j.states r) e) (is_own (set_up run r) (j.states r) (words_at_end (j.words r) e.kind) e) (takes_next j.flights r e.taken)
-        (sym (c.is_ordered.ensures j.newest after.judge.newest) ∙ c.if-not-is_ordered.false)
-        (sym (c.in_ok-has_row.ensures (set_up run r) (j.states r) member.state) ∙ c.if-not-branch.false)
-        (sym (c.in_ok-is_own.ensures (set_up run r) (j.states r) (j.words r) after.repos (known x c.requires.carried r c.args.member.now c.requires.member run after)
-            (works_seated agree run after.lawful.repos past after.lawful.steps r c.states_are_sound.ensures.seated) (works_alone agree run after.lawful.repos past after.lawful.steps r) member)
-            ∙ c.if-not-branch-2.false)
-        (takes_same x run after r e.taken ∙ sym c.may_take.ensures ∙ c.if-not-may_take.true)
+    (sym (c.is_ordered.ensures j.newest after.judge.newest) ∙ c.if-not-is_ordered.false)
+    (sym (c.in_ok-has_row.ensures (set_up run r) (j.states r) member.state) ∙ c.if-not-branch.false)
+    (sym (c.in_ok-is_own.ensures (set_up run r) (j.states r) (j.words r) after.repos (known x c.requires.carried r c.args.member.now c.requires.member run after)
+    (works_seated agree run after.lawful.repos past after.lawful.steps r c.states_are_sound.ensures.seated) (works_alone agree run after.lawful.repos past after.lawful.steps r) member)
+    ∙ c.if-not-branch-2.false)
+    (takes_same x run after r e.taken ∙ sym c.may_take.ensures ∙ c.if-not-may_take.true)
 
 pub returns : goal.returns
 returns c = λ run after.
@@ -72,9 +72,9 @@ returns c = λ run after.
     let member = after.judge.members r c.args.member.now c.requires.member in
     let agree = c.carried_states_agree.ensures.own_states in
     none_is (is_ordered_by j.newest e) (has_row (j.states r) e) (is_own (set_up run r) (j.states r) (words_at_end (j.words r) e.kind) e) (takes_next j.flights r e.taken)
-        (sym (c.is_ordered.ensures j.newest after.judge.newest) ∙ c.if-not-is_ordered.false)
-        (sym (c.in_ok-has_row.ensures (set_up run r) (j.states r) member.state) ∙ c.if-not-branch.false)
-        (sym (c.in_ok-is_own.ensures (set_up run r) (j.states r) (j.words r) after.repos (known x c.requires.carried r c.args.member.now c.requires.member run after)
-            (works_seated agree run after.lawful.repos past after.lawful.steps r c.states_are_sound.ensures.seated) (works_alone agree run after.lawful.repos past after.lawful.steps r) member)
-            ∙ c.if-not-branch-2.false)
-        (takes_same x run after r e.taken ∙ sym c.may_take.ensures ∙ c.if-not-may_take.false)
+    (sym (c.is_ordered.ensures j.newest after.judge.newest) ∙ c.if-not-is_ordered.false)
+    (sym (c.in_ok-has_row.ensures (set_up run r) (j.states r) member.state) ∙ c.if-not-branch.false)
+    (sym (c.in_ok-is_own.ensures (set_up run r) (j.states r) (j.words r) after.repos (known x c.requires.carried r c.args.member.now c.requires.member run after)
+    (works_seated agree run after.lawful.repos past after.lawful.steps r c.states_are_sound.ensures.seated) (works_alone agree run after.lawful.repos past after.lawful.steps r) member)
+    ∙ c.if-not-branch-2.false)
+    (takes_same x run after r e.taken ∙ sym c.may_take.ensures ∙ c.if-not-may_take.false)
