@@ -63,7 +63,7 @@ pub record StaySame (was now : Reads) : Type 0 where
 abbrev pub HasRoom : Reads → Type 0
 HasRoom x = vec_len x.kept < vec_capacity x.kept
 
--- ---- for private contracts
+-- ---- what one job reads
 
 -- it is what these lines say for this job's drop, where the set-up has this number, these identifiers and these paths
 abbrev pub IsKeptFor : Lines → ℕ → List (List ℕ) → List (List ℕ) → Work → Kept → Type 0

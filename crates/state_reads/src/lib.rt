@@ -10,5 +10,6 @@ mod standing;
 
 pub use kept::Kept;
 pub use known::KnownLogs;
+pub use reading::read_settings;
 pub use reads::Reads;
 pub use standing::Standing;

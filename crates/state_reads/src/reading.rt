@@ -29,7 +29,9 @@ fn target(repo: u32, work: &Work) -> u32
     }
 }
 
-fn read_settings(
+/// What the drop of this job of a repository reads of these settings, where its key has these paths and these are the identifiers of
+/// all repositories.
+pub fn read_settings(
     alloc: Global,
     repo: u32,
     ids: &[RepoId],

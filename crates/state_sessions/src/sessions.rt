@@ -1,6 +1,7 @@
 //! The sessions of one running repository.
 ghost use Rattle.std.specs.Prelude.{◌≡◌, ◌≤◌, ◌<◌, ◌+◌, ◌^◌, ℕ, List, length, IfOk, OnOk};
 ghost use Rattle.std.specs.declared.option.Option.{Option};
+ghost use Rattle.std.specs.Option.{option_copied};
 ghost use Rattle.indexmap.specs.IndexMap.{spare};
 ghost use Rattle.node_model.specs.After.{first_state, state_after};
 ghost use Rattle.node_model.specs.SetUp.{SetUp};
@@ -8,9 +9,9 @@ ghost use Rattle.node_model.specs.State.{State};
 ghost use Rattle.state_rows.specs.Rows.{size_of};
 ghost use Rattle.state_sessions.specs.Doings.{number_in};
 ghost use Rattle.state_sessions.specs.Hearing.{Agrees};
-ghost use Rattle.state_sessions.specs.Sessions.{AreBelow, AreSessionsOf, HasRoom, StaySame};
+ghost use Rattle.state_sessions.specs.Sessions.{AreBelow, AreSessionsOf, HasRoom, StaySame, session_of};
 ghost use Rattle.state_sessions.specs.Heard.{IsHeardIn};
-ghost use Rattle.state_sessions.specs.Tables.{session_in, taken_in, took_at};
+ghost use Rattle.state_sessions.specs.Tables.{or_new, session_in, taken_in, took_at};
 
 use crate::doing::Session;
 use crate::heard::{Heard, heard_in};
@@ -40,6 +41,13 @@ impl Sessions {
             alloc,
             table: IndexMap::new(alloc),
         }
+    }
+
+    /// The session of a connection; none is listed where it is new.
+    pub fn session(&self, at: Connection) -> Option<&Session>
+        ensures { or_new (option_copied result) ≡ session_of self.now at.peer at.slot }
+    {
+        self.table.get(&at)
     }
 
     /// What a session hears by an entry, by the rows before it, and room for what the entry changes. The sessions stay.

@@ -1,7 +1,7 @@
 -- The state of a repository as data, and how it is a state of the definitions (own).
 use Rattle.std.specs.Prelude.{◌≡◌, ℕ, ◌+◌, List}
 use Rattle.run_data.specs.declared.entry.Entry.{Entry}
-use Rattle.node_model.specs.Clocks.{wall}
+use Rattle.node_model.specs.Clocks.{runs_on, wall}
 use Rattle.node_model.specs.SetUp.{SetUp}
 use Rattle.node_model.specs.State.{State}
 use Rattle.state_files.specs.Files.{AreFilesOf, branch_of}
@@ -14,7 +14,7 @@ use Rattle.state_reads.specs.Reads.{HadPaths}
 use Rattle.state_owed.specs.Changes.{AddsWithin}
 use Rattle.step_state.specs.Bounds.{AreBounded}
 use Rattle.step_state.specs.Changes.{IsSoFor}
-use Rattle.step_state.specs.Counts.{AreCountsOf, made_in}
+use Rattle.step_state.specs.Counts.{AreCountsOf, clock_in, made_in}
 use Rattle.step_state.specs.Links as of_links
 use Rattle.step_state.specs.Links.{AreLinksOf}
 use Rattle.step_state.specs.Places.{IsPlaceOf, count_in}
@@ -36,6 +36,10 @@ pub record ArePartsOf (x : RepoState) (s : SetUp) (st : State) : Type 0 where
 pub record IsStateOf (x : RepoState) (s : SetUp) (st : State) : Type 0 where
   pub parts : ArePartsOf x s st
   pub files : AreFilesOf x.files st
+
+-- what its clock says at a time of the script
+abbrev pub clock_of : RepoState → ℕ → ℕ
+clock_of x = runs_on (clock_in x.counts)
 
 -- how many entries it has made, and how many repositories its run has
 abbrev pub made_of : RepoState → ℕ

@@ -51,7 +51,8 @@ impl Counts {
 
     /// What the clock says at a time of the script.
     pub(crate) fn clock(&self, time: u64) -> u128
-        ensures { result ≡ runs_on (clock_in self.now) time }
+        ensures value { result ≡ runs_on (clock_in self.now) time }
+        ensures small { result < 2 ^ 65 }
     {
         u128::from(time.saturating_sub(self.clock.at)) + u128::from(self.clock.to)
     }

@@ -9,12 +9,14 @@ use annex_base::{NoMemory, Text};
 use run_data::{Entry, RepoView};
 use state_ends::Ends;
 use state_files::Files;
+use state_jobs::Work;
 use state_owed::Owed;
-use state_reads::Reads;
+use state_reads::{Kept, KnownLogs, Reads, read_settings};
 use state_rows::{RowChange, Rows};
 use state_sessions::{Heard, Sessions};
 use state_works::Jobs;
 use std::alloc::Global;
+use trust_groups::Settings;
 
 /// The state of one running repository of a run: all that its next steps read (own).
 #[derive(Drop)]
@@ -43,7 +45,9 @@ impl RepoState {
     ghost use Rattle.state_ends.specs.Ends.{AreEndsOf};
     ghost use Rattle.state_files.specs.Changes.{LogsLines};
     ghost use Rattle.state_files.specs.Files.{AreFilesOf};
-    ghost use Rattle.state_owed.specs.Owed.{AreOwedOf};
+    ghost use Rattle.state_jobs.specs.Works.{work_of};
+    ghost use Rattle.state_owed.specs.Owed.{AreOwedOf, AreWithin};
+    ghost use Rattle.state_reads.specs.Known.{AreLogsRead};
     ghost use Rattle.state_reads.specs.Reads.{HadPaths, HaveReadAs};
     ghost use Rattle.state_rows.specs.Changes.{SetsClock};
     ghost use Rattle.state_rows.specs.Rows.{AreRowsOf};
@@ -51,7 +55,7 @@ impl RepoState {
     ghost use Rattle.state_works.specs.Jobs.{AreWorksOf};
     ghost use Rattle.step_state.specs.Changes.{IsSoFor};
     ghost use Rattle.step_state.specs.Peers.{HasPeersIn};
-    ghost use Rattle.step_state.specs.States.{ArePartsOf, HasRoom, IsChangeOf, IsReadyFor, IsStateOf, IsWell, StaysSame, count_of, made_of};
+    ghost use Rattle.step_state.specs.States.{ArePartsOf, HasRoom, IsChangeOf, IsReadyFor, IsStateOf, IsWell, StaysSame, clock_of, count_of, made_of};
 
     /// The state of the repository of this number among these before its first entry.
     pub fn start(alloc: Global, repos: &[RepoView], number: u32) -> Result<RepoState, NoMemory>
@@ -106,9 +110,20 @@ impl RepoState {
 
     /// What its clock says at a time of the script, in milliseconds.
     pub fn clock(&self, time: u64) -> u128
-        ensures { (s : SetUp) (st : State) → IsStateOf self.now s st → st.clock time ≡ result }
+        ensures value { (s : SetUp) (st : State) → IsStateOf self.now s st → st.clock time ≡ result }
+        ensures small { result < 2 ^ 65 }
+        ensures data { result ≡ clock_of self.now time }
     {
         self.counts.clock(time)
+    }
+
+    /// What its wall clock, which makes stamps, says at a time of the script, in milliseconds.
+    pub fn wall(&self, time: u64) -> u64
+        requires { time ≤ 1000000000000 }
+        ensures value { (s : SetUp) (st : State) → IsStateOf self.now s st → st.wall time ≡ result }
+        ensures small { result ≤ 1100000000000 }
+    {
+        self.place.wall(time)
     }
 
     /// How many entries it has made.
@@ -156,9 +171,26 @@ impl RepoState {
         &self.working.reads
     }
 
+    /// What the drop of a job would read of the log files as they are, where its key has these paths. All of them are read.
+    pub fn logs_now(
+        &self,
+        alloc: Global,
+        paths: &[Text],
+        work: &Work,
+    ) -> Result<KnownLogs, NoMemory>
+        ensures { IfOk result (λ known. (s : SetUp) (st : State) → IsStateOf self.now s st → s.paths work.now.number ≡ paths.now → AreLogsRead st.logs s (work_of work.now) known) }
+    {
+        let logs = Settings::read(alloc, self.files.branch())?;
+        let number = self.place.number();
+        let ids = self.place.ids();
+        let Kept { job: _, known } = read_settings(alloc, number, ids, paths, work, &logs)?;
+        Ok(known)
+    }
+
     /// The lines that it owes its branch.
     pub fn owed(&self) -> &Owed
-        ensures { (s : SetUp) (st : State) → IsStateOf self.now s st → AreOwedOf result.now st }
+        ensures owed { (s : SetUp) (st : State) → IsStateOf self.now s st → AreOwedOf result.now st }
+        ensures within { IsWell self.now → AreWithin (count_of self.now) result.now }
     {
         &self.working.owed
     }

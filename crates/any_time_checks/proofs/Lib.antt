@@ -1,0 +1,4 @@
+-- The lemmas of this crate.
+mod CloseLemmas
+mod LineLemmas
+mod FrameLemmas

@@ -1,0 +1,4 @@
+-- The lemmas of this crate.
+mod EndLemmas
+mod HoldLemmas
+mod ReadingLemmas

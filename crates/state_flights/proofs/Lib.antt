@@ -1,0 +1,4 @@
+-- The lemmas of this crate.
+mod FlightLemmas
+mod TableLemmas
+mod WayLemmas

@@ -1,0 +1,4 @@
+-- The definitions of this crate.
+pub mod Ways
+pub mod Tables
+pub mod Flights

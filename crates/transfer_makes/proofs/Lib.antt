@@ -1,0 +1,4 @@
+-- The lemmas of this crate.
+mod Others
+mod Parts
+mod Refused

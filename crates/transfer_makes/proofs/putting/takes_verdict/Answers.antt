@@ -1,0 +1,21 @@
+-- What the proof of `putting::takes_verdict` needs beside the tactics.
+use Rattle.std.proofs.Common.{sym, ap, ◌∙◌}
+use Rattle.p2p_wire.specs.declared.message.Message.{Message}
+use Rattle.node_model.specs.Look.{Effect}
+use Rattle.node_model.specs.TransferStep.{takes_put}
+use Rattle.node_model.specs.Jobs.{PutsAnswer}
+use Rattle.transfer_makes.proofs.Refused.{verdict_refused}
+use Rattle.step_judging.specs.Same.{same_effect}
+use Rattle.step_judging.specs.Rules.{effect_of}
+use Rattle.job_makes.specs.Turns.{turn_in}
+use Rattle.transfer_makes.proofs.putting.takes_verdict.Goals as goal
+
+pub returns-in-Success : goal.returns-in-Success
+returns-in-Success c = λ s st. c.hears.ensures s st ∙ ap (λ (m : Message). same_effect (takes_put (turn_in c.args.turn.now s st) c.args.frame.now c.args.peer (PutsAnswer c.args.peer 0) m) (effect_of c.args.turn.now.told.now)) (sym c.in-Success.is)
+
+pub returns-in-Failure : goal.returns-in-Failure
+returns-in-Failure c = λ s st. c.hears-in-Failure.ensures s st ∙ ap (λ (m : Message). same_effect (takes_put (turn_in c.args.turn.now s st) c.args.frame.now c.args.peer (PutsAnswer c.args.peer 0) m) (effect_of c.args.turn.now.told.now)) (sym c.in-Failure.is)
+
+pub returns-in_default : goal.returns-in_default
+returns-in_default c = λ s st.
+    c.wrong_message.ensures s st ∙ ap (λ (m : Effect). same_effect m (effect_of c.args.turn.now.told.now)) (verdict_refused (turn_in c.args.turn.now s st) c.args.frame.now c.args.peer c.args.peer 0 c.args.message.now c.in_default.not-Success c.in_default.not-Failure)
