@@ -1,10 +1,10 @@
 -- The closes of a node's ends, from those of its past and of the parts beside it.
-use Rattle.std.proofs.Common.{◌≡◌, ◌≢◌, inl, inr, ℕ, suc, ◌≤◌, ◌<◌, ◌+◌, Bool, true, false, List, [], ◌∷◌, ◌++◌, All, Option, Some, None, length, map, refl, sym, ap, subst, arith, ◌∙◌, append_assoc}
-use Rattle.std.specs.Prelude.{if◌then◌else◌, filter, is_some, vec_len}
+use Rattle.std.proofs.Common.{◌≡◌, ◌≢◌, inl, inr, ℕ, zero, suc, ◌≤◌, ◌<◌, ◌+◌, Bool, true, false, List, [], ◌∷◌, ◌++◌, All, Option, Some, None, drop, get_or, length, map, refl, sym, ap, subst, arith, ◌∙◌, append_assoc}
+use Rattle.std.specs.Prelude.{if◌then◌else◌, filter, is_some, vec_capacity, vec_len}
 use Rattle.std.specs.declared.vec.Vec.{Vec}
 use Rattle.std.specs.declared.alloc.Global.{Global}
 use Rattle.std.proofs.lemmas.Bool.{cases_Bool}
-use Rattle.std.proofs.lemmas.List.{append-nil, length-append, length-map}
+use Rattle.std.proofs.lemmas.List.{append-nil, drop_more, length-append, length-map}
 use Rattle.annex_base.specs.Lists.{Each}
 use Rattle.annex_base.proofs.Lists.{Each-from_members, Each-member, Each-weaker, Member-append_left, Member-append_right}
 use Rattle.run_data.specs.declared.entry.Entry.{Entry}
@@ -36,7 +36,8 @@ use Rattle.node_parts.specs.Running.{Jobs}
 use Rattle.node_past.specs.declared.past.Past.{Past}
 use Rattle.node_past.specs.declared.setup.Ended.{Ended}
 use Rattle.node_past.specs.declared.setup.Setup.{Setup}
-use Rattle.node_past.specs.Pasts.{frames_entry}
+use Rattle.node_past.specs.Pasts.{IsReady, frames_entry}
+use Rattle.run_data.specs.Histories.{most_entries}
 use Rattle.node_past.proofs.OwedLemmas.{Grows, grows_same}
 use Rattle.node_steps.specs.Closing.{Closes, ClosesEach, close_entry, open_count}
 use Rattle.node_steps.specs.Kept.{IsFed, IsKept}
@@ -304,6 +305,36 @@ ShutsOn all left first p past was = (q : PartsView) (last : Past) → ShutsEach 
 
 pub shut_on : (all : List EndId) (id : EndId) (left : List EndId) (first p p' : PartsView) (past was now : Past) → ShutsOn all (id ∷ left) first p past was → ShutsIf (name_of id) p p' was now → ShutsOn all left first p' past now
 shut_on all id left first p p' past was now closes shut = λ q last rest. closes q last (p', now, shut, rest)
+
+-- the first of the ends that are left
+pub next_end : (ids : List EndId) (i : ℕ) (x : EndId) → i < length ids → x ≡ get_or ids i x → drop i ids ≡ x ∷ drop (i + 1) ids
+next_end ids i x below at = drop_more ids i x below ∙ ap (λ (y : EndId). y ∷ drop (i + 1) ids) (sym at)
+
+drop_end : {X : Type 0} (xs : List X) (i : ℕ) → length xs ≤ i → drop i xs ≡ []
+drop_end [] zero low = refl
+drop_end [] (suc n) low = refl
+drop_end (x ∷ xs) zero low = absurd (let none : suc (length xs) ≤ 0 = low in omega (arith, none))
+drop_end (x ∷ xs) (suc n) low = drop_end xs n (let less : suc (length xs) ≤ suc n = low in omega (arith, less))
+
+-- with room for what is left, its first has its place where it is open
+pub ready_next : (p : PartsView) (past : Past) (x : EndId) (left : List EndId) (n : ℕ) → vec_len past.history + open_count p.links (map name_of (x ∷ left)) ≤ most_entries → vec_len past.history + n ≤ vec_capacity past.history → 0 < n
+    → (end_at p.links (name_of x)).opened ≡ true → IsReady past
+ready_next p past x left n few room some opened =
+    let more = open_more p.links (name_of x) (map name_of left) opened in
+    record { room = omega (arith, room, some); few = omega (arith, few, more) }
+
+pub all_shut : (ids : List EndId) (i : ℕ) (first p : PartsView) (past was : Past) → length ids ≤ i → ShutsOn ids (drop i ids) first p past was → ShutsEach (map name_of ids) first p past was
+all_shut ids i first p past was over closes = subst (λ (xs : List EndId). ShutsOn ids xs first p past was) (drop_end ids i over) closes p was (refl, refl)
+
+-- one more was counted
+pub open_next : (links : List EndView) (a : EndName) (ends : List EndName) (b : Bool) → b ≡ (end_at links a).opened → (n : ℕ) → n ≡ (if b then 1 else 0) → (open_count links (a ∷ ends) ≡ n + open_count links ends) × (n ≤ 1)
+open_next links a ends true is n one = (let more = open_more links a ends (sym is) in omega (arith, more, one), omega (arith, one))
+open_next links a ends false is n none = (let same = open_same links a ends (sym is) in omega (arith, same, none), omega (arith, none))
+
+pub all_counted : (ids : List EndId) (i : ℕ) (links : List EndView) (n : ℕ) → length ids ≤ i → n + open_count links (map name_of (drop i ids)) ≡ open_count links (map name_of ids) → n ≡ open_count links (map name_of ids)
+all_counted ids i links n over counts =
+    let none = ap (λ (xs : List EndId). open_count links (map name_of xs)) (drop_end ids i over) in
+    omega (arith, none, counts)
 
 -- ---- lists
 

@@ -1,5 +1,5 @@
 //! The ends of the connections with another repository are closed, each by one entry.
-ghost use Rattle.std.specs.Prelude.{◌≡◌, ◌≢◌, ◌⊎◌, ◌+◌, ◌≤◌, ◌<◌, [], true, All, Err, length, map, is_some, vec_capacity, vec_len, IfErr, IfOk, IsErrOf, OnErr, OnOk};
+ghost use Rattle.std.specs.Prelude.{◌≡◌, ◌≢◌, ◌⊎◌, ◌+◌, ◌≤◌, ◌<◌, [], true, All, Err, if◌then◌else◌, length, map, is_some, vec_capacity, vec_len, IfErr, IfOk, IsErrOf, OnErr, OnOk};
 ghost use Rattle.annex_base.specs.Lists.{Each};
 ghost use Rattle.node_ends.specs.Ends.{end_at, link_at, name_of};
 ghost use Rattle.node_ends.specs.Joined.{StayPaired};
@@ -54,22 +54,41 @@ fn close(past: &mut Past, parts: &mut Parts, id: EndId, listing: Vec<FrameView>)
     }
 }
 
+/// The next of these lists.
+fn next_list(lists: &mut Vec<Vec<FrameView>>) -> Vec<FrameView>
+    requires some { 0 < vec_len lists.old }
+    requires lists { Each IsListing lists.old.items }
+    ensures listing { IsListing result }
+    ensures lists { Each IsListing lists.new.items }
+    ensures len { vec_len lists.new + 1 ≡ vec_len lists.old }
+{
+    let Some(listing) = lists.pop() else {
+        unreachable!();
+    };
+    listing
+}
+
 /// Closes those of these ends that are open, one after the other. It takes no memory.
 fn close_each(past: &mut Past, parts: &mut Parts, ids: &[EndId], mut lists: Vec<Vec<FrameView>>)
     requires there { Each (λ id. is_some (link_at parts.old.links (name_of id)) ≡ true) ids.now }
     requires lists { Each IsListing lists.items }
-    requires enough { length lists.items ≡ length ids.now }
+    requires enough { vec_len lists ≡ length ids.now }
     requires numbers { All (λ h. h.number < vec_len past.old.history + 1) parts.old.table.holds }
     requires few { vec_len past.old.history + open_count parts.old.links (map name_of ids.now) ≤ most_entries }
     requires room { vec_len past.old.history + length ids.now ≤ vec_capacity past.old.history }
     ensures { ShutsEach (map name_of ids.now) parts.old parts.new past.old past.new }
 {
     for at in 0..ids.len() {
-        let Some(listing) = lists.pop() else {
-            unreachable!()
-        };
+        let listing = next_list(&mut lists);
         close(past, parts, ids[at], listing);
     }
+}
+
+/// How many of one.
+fn one_if(open: bool) -> usize
+    ensures { result ≡ (if open then 1 else 0) }
+{
+    if open { 1 } else { 0 }
 }
 
 /// How many of these ends are open.
@@ -79,9 +98,7 @@ fn count_open(parts: &Parts, ids: &[EndId]) -> usize
 {
     let mut count = 0;
     for at in 0..ids.len() {
-        if parts.is_open(ids[at]) {
-            count += 1;
-        }
+        count += one_if(parts.is_open(ids[at]));
     }
     count
 }
@@ -89,12 +106,12 @@ fn count_open(parts: &Parts, ids: &[EndId]) -> usize
 /// So many empty lists, each with room for a frame.
 fn listings(alloc: Global, count: usize) -> Result<Vec<Vec<FrameView>>, NoMemory>
     ensures lists { IfOk result (λ lists. Each IsListing lists.items) }
-    ensures count { IfOk result (λ lists. length lists.items ≡ count) }
+    ensures count { IfOk result (λ lists. vec_len lists ≡ count) }
 {
     let mut lists = Vec::with_capacity(alloc, count)?;
     for _ in 0..count {
         let listing = Vec::with_capacity(alloc, 1)?;
-        lists.push(listing)?;
+        lists.push_reserved(listing);
     }
     Ok(lists)
 }
