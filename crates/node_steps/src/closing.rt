@@ -1,14 +1,14 @@
 //! The ends of the connections with another repository are closed, each by one entry.
-ghost use Rattle.std.specs.Prelude.{◌≡◌, ◌≢◌, ◌⊎◌, ◌+◌, ◌≤◌, ◌<◌, [], true, All, Err, if◌then◌else◌, length, map, is_some, vec_capacity, vec_len, IfErr, IfOk, IsErrOf, OnErr, OnOk};
+ghost use Rattle.std.specs.Prelude.{◌≡◌, ◌≢◌, ◌⊎◌, ◌+◌, ◌≤◌, ◌<◌, [], true, All, Err, if◌then◌else◌, length, map, nat_lt, is_some, vec_capacity, vec_len, IfErr, IfOk, IsErrOf, OnErr, OnOk};
 ghost use Rattle.annex_base.specs.Lists.{Each};
 ghost use Rattle.node_ends.specs.Ends.{end_at, link_at, name_of};
 ghost use Rattle.node_ends.specs.Joined.{StayPaired};
-ghost use Rattle.node_past.specs.Pasts.{Enters, IsReady};
+ghost use Rattle.node_past.specs.Pasts.{Enters, IsReady, SamePast};
 ghost use Rattle.run_data.specs.Histories.{most_entries};
 ghost use Rattle.node_steps.specs.Closing.{ClosesEach, ends_to, lacks_places, open_count};
 ghost use Rattle.node_steps.specs.Kept.{Stands};
 ghost use Rattle.node_steps.specs.Nodes.{beside, told_of};
-ghost use Rattle.node_steps.specs.Shutting.{IsListing, ShutsEach, ShutsIf};
+ghost use Rattle.node_steps.specs.Shutting.{IsListing, ShutsEach, ShutsIf, ShutsReady};
 
 use crate::entering::moment_of;
 use annex_base::NoMemory;
@@ -139,6 +139,34 @@ fn ends_to(peer: u32) -> [EndId; 8]
     ]
 }
 
+/// Closes the ends at a repository that are open, once their places and their lists have their memory.
+fn close_all(past: &mut Past, parts: &mut Parts, peer: u32) -> Result<(), NodeRefused>
+    requires known { peer < length parts.old.jobs.place.ids }
+    requires numbers { All (λ h. h.number < vec_len past.old.history + 1) parts.old.table.holds }
+    ensures ok { OnOk result (ShutsReady (ends_to peer) parts.old parts.new past.old past.new) }
+    ensures full { IsErrOf result NodeRefused.Full → nat_lt most_entries (vec_len past.old.history + open_count parts.old.links (ends_to peer)) ≡ true }
+    ensures lacks { nat_lt most_entries (vec_len past.old.history + open_count parts.old.links (ends_to peer)) ≡ true → result ≡ Err NodeRefused.Full }
+    ensures refused { IfErr result (λ e. (e ≡ NodeRefused.Full) ⊎ (e ≡ NodeRefused.NoMemory)) }
+    ensures err { OnErr result ((parts.new ≡ parts.old) × SamePast past.old past.new) }
+{
+    // For the proof: a law, and that what the parts have is sound.
+    ends_are_there();
+    let _ = parts.table();
+    let ids = ends_to(peer);
+    let open = count_open(parts, &ids);
+    if past.lacks(open) {
+        return Err(NodeRefused::Full);
+    }
+    let Ok(lists) = listings(past.alloc, ids.len()) else {
+        return Err(NodeRefused::NoMemory);
+    };
+    if past.reserve_places(ids.len()).is_err() {
+        return Err(NodeRefused::NoMemory);
+    }
+    close_each(past, parts, &ids, lists);
+    Ok(())
+}
+
 /// Closes the ends of the connections with another repository that are open, one entry for each, in order of side, the client's
 /// first, and of slot. Full comes exactly where the history has too few places left for all of them, and then none is closed; all
 /// memory is taken before the first is closed.
@@ -158,17 +186,7 @@ pub fn close_ends<K: Keeper>(
     ensures paired { StayPaired parts.old.links parts.new.links }
     ensures err { OnErr result (beside parts.new ledger.new ≡ beside parts.old ledger.old) }
 {
-    // For the proof: laws, and what the parts have is sound.
-    ends_are_there();
+    // A law, for the proof: the table fills what the state does.
     tables_fill_as_states();
-    let _ = parts.table();
-    let ids = ends_to(peer);
-    let open = count_open(parts, &ids);
-    if ledger.past.lacks(open) {
-        return Err(NodeRefused::Full);
-    }
-    let lists = listings(ledger.past.alloc, ids.len())?;
-    ledger.past.reserve_places(ids.len())?;
-    close_each(&mut ledger.past, parts, &ids, lists);
-    Ok(())
+    close_all(&mut ledger.past, parts, peer)
 }
