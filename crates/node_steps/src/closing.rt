@@ -125,7 +125,7 @@ fn end_to(peer: u32, slot: u32, client: bool) -> EndId
 
 /// The ends of the connections with this repository, in order of side, the client's first, and of slot.
 fn ends_to(peer: u32) -> [EndId; 8]
-    ensures { map name_of result.now ≡ ends_to peer }
+    ensures { map name_of result ≡ ends_to peer }
 {
     [
         end_to(peer, 0, true),
