@@ -357,7 +357,7 @@ ThereLaw = (links : List EndView) (count : ℕ) (a : EndName) → length links �
 
 pub ids_there : ThereLaw → (links : List EndView) (count peer : ℕ) (ids : List EndId) → map name_of ids ≡ ends_to peer → length links ≡ count * 8 → peer < count → Each (λ (id : EndId). is_some (link_at links (name_of id)) ≡ true) ids
 ids_there law links count peer ids names whole known = each_named (λ a. is_some (link_at links a) ≡ true) ids
-    (subst (λ (as : List EndName). Each (λ a. is_some (link_at links a) ≡ true) as) (sym names)
+    (subst (λ (ends : List EndName). Each (λ a. is_some (link_at links a) ≡ true) ends) (sym names)
     (each_end (λ a. is_some (link_at links a) ≡ true) peer (λ slot client low. law links count (record { peer = peer; slot = slot; client = client }) whole known low)))
 
 ends_others : (setup : Setup) (peer : ℕ) → peer < length setup.repos → peer ≢ setup.number → Each (IsOther setup) (ends_to peer)

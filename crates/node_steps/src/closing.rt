@@ -85,10 +85,10 @@ fn close_each(past: &mut Past, parts: &mut Parts, ids: &[EndId], mut lists: Vec<
 }
 
 /// How many of one.
-fn one_if(open: bool) -> usize
-    ensures { result ≡ (if open then 1 else 0) }
+fn one_if(opened: bool) -> usize
+    ensures { result ≡ (if opened then 1 else 0) }
 {
-    if open { 1 } else { 0 }
+    if opened { 1 } else { 0 }
 }
 
 /// How many of these ends are open.
