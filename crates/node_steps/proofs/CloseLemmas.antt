@@ -319,7 +319,7 @@ ready_next p past x left n few room some opened =
     record { room = omega (arith, room, some); few = omega (arith, few, more) }
 
 pub all_shut : (ids : List EndId) (i : ℕ) (first p : PartsView) (past was : Past) → length ids ≤ i → ShutsOn ids (drop i ids) first p past was → ShutsEach (map name_of ids) first p past was
-all_shut ids i first p past was over closes = subst (λ (xs : List EndId). ShutsOn ids xs first p past was) (drop_all ids i over) closes p was (refl, refl)
+all_shut ids i first p past was over closes = subst (λ (xs : List EndId). ShutsOn ids xs first p past was) (drop_all i ids over) closes p was (refl, refl)
 
 -- one more was counted
 pub open_next : (links : List EndView) (a : EndName) (ends : List EndName) (b : Bool) → b ≡ (end_at links a).opened → (n : ℕ) → n ≡ (if b then 1 else 0) → (open_count links (a ∷ ends) ≡ n + open_count links ends) × (n ≤ 1)
@@ -328,7 +328,7 @@ open_next links a ends false is n none = (let same = open_same links a ends (sym
 
 pub all_counted : (ids : List EndId) (i : ℕ) (links : List EndView) (n : ℕ) → length ids ≤ i → n + open_count links (map name_of (drop i ids)) ≡ open_count links (map name_of ids) → n ≡ open_count links (map name_of ids)
 all_counted ids i links n over counts =
-    let none = ap (λ (xs : List EndId). open_count links (map name_of xs)) (drop_all ids i over) in
+    let none = ap (λ (xs : List EndId). open_count links (map name_of xs)) (drop_all i ids over) in
     omega (arith, none, counts)
 
 -- ---- lists
