@@ -218,7 +218,7 @@ closed_kept k a ends p p' was now branch owed told other kept shut rest = record
 
 pub closed_each : {K : Type 0} (k : K) (ends : List EndName) (p p' : PartsView) (was now : Past) (branch : Files) (owed : List OwedLine) (told : Option Contents) → FillLaw → Each (IsOther was.setup) ends → ShutsEach ends p p' was now
     → IsKept was.setup was.clock was.history.items p branch owed told → ClosedSo k ends p p' was now branch owed told
-closed_each k [] p p' was now branch owed told fills others shut kept =
+closed_each {K} k [] p p' was now branch owed told fills others shut kept =
     subst (λ (q : PartsView). ClosedSo k [] p q was now branch owed told) (sym shut.0) (subst (λ (x : Past). ClosedSo k [] p p was x branch owed told) (sym shut.1) (closed_none k p was branch owed told kept))
 closed_each {K} k (a ∷ ends) p p' was now branch owed told fills others shut kept =
     let mid = shut.0 in
