@@ -15,8 +15,7 @@ use Rattle.node_model.specs.AnyTime.{all_ends, ends_with}
 use Rattle.node_model.specs.Ends.{EndName, frames}
 use Rattle.node_model.specs.Evidence.{but}
 use Rattle.node_model.specs.Rows.{holds_after}
-use Rattle.node_model.specs.Sessions as sessions
-use Rattle.node_model.specs.Sessions.{new_session}
+use Rattle.node_model.specs.Sessions.{Session as EndSession, new_session}
 use Rattle.node_model.specs.SetUp.{SetUp}
 use Rattle.node_ends.specs.Ends.{end_at, link_at}
 use Rattle.node_ends.specs.Going.{AreAfter}
@@ -55,7 +54,7 @@ pub record SendsCloses (names : List EndName) (sender : EntryStamp) (was now : L
 
 -- the sessions and the jobs let go of what they have: no job runs, each session is as new, and the rows are those after a crash
 pub record LetsGo (clock : ℕ) (xs xs' : List Session) (jobs : Jobs) (rows rows' : Rows) : Type 0 where
-  pub sessions : (s : SetUp) (were are : EndName → sessions.Session) → AreSessions s were xs → ((a : EndName) → a.client ≡ false → Member a (all_ends s) → are a ≡ new_session) → AreSessions s are xs'
+  pub sessions : (s : SetUp) (were are : EndName → EndSession) → AreSessions s were xs → ((a : EndName) → a.client ≡ false → Member a (all_ends s) → are a ≡ new_session) → AreSessions s are xs'
   pub holds : rows'.holds ≡ holds_after rows.holds (Crash clock)
   pub bars : (key : List ℕ) → bar_at rows' key ≡ None
   pub serving : OwnAll rows' xs'
