@@ -19,6 +19,7 @@ use Rattle.run_data.specs.declared.entry.EntryKind.TheVariants.{Crash}
 use Rattle.run_data.specs.declared.entry.FrameText.TheVariants.{Closing}
 use Rattle.run_data.specs.declared.entry.FrameView.{FrameView}
 use Rattle.run_data.specs.declared.row.Hold.{Hold}
+use Rattle.run_data.specs.declared.run.RepoView.{RepoView}
 use Rattle.object_store.specs.Stores.{Contents, Parts}
 use Rattle.object_store.specs.declared.keeper.HoldRecord.{HoldRecord}
 use Rattle.content_lock.specs.Rows.{Rows, bar_at}
@@ -293,7 +294,7 @@ module _ (was now : PartsView) (clock : ℕ) (d : Done) (sender : EntryStamp) (j
 
   module _ (s : SetUp) (st : State) (are : AreParts s st was) where
     count_is : length was.jobs.place.ids ≡ length s.repos
-    count_is = ap (λ (l : List (List ℕ)). length l) (sym are.place.ids) ∙ length-map _ s.repos
+    count_is = ap (λ (l : List (List ℕ)). length l) (sym are.place.ids) ∙ length-map s.repos (λ (repo : RepoView). repo.id)
 
     names_are : names ≡ all_ends s
     names_are = (λ i. all_names (sym are.place.number i) (count_is i))
