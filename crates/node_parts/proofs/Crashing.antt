@@ -146,9 +146,11 @@ module _ (peer : ℕ) (client : Bool) where
   pub slots_apart : (Each (λ b. Each (λ a. b ≢ a) (slot_end peer client 0 ∷ [])) (slot_end peer client 1 ∷ []))
       × (Each (λ b. Each (λ a. b ≢ a) (slot_end peer client 0 ∷ slot_end peer client 1 ∷ [])) (slot_end peer client 2 ∷ []))
       × (Each (λ b. Each (λ a. b ≢ a) (slot_end peer client 0 ∷ slot_end peer client 1 ∷ slot_end peer client 2 ∷ [])) (slot_end peer client 3 ∷ []))
-  slots_apart = (((differ 1 0 (λ e. omega (arith, e)), tt), tt),
-      ((differ 2 0 (λ e. omega (arith, e)), differ 2 1 (λ e. omega (arith, e)), tt), tt),
-      ((differ 3 0 (λ e. omega (arith, e)), differ 3 1 (λ e. omega (arith, e)), differ 3 2 (λ e. omega (arith, e)), tt), tt))
+  slots_apart = (
+    ((differ 1 0 (λ e. omega (arith, e)), tt), tt),
+    ((differ 2 0 (λ e. omega (arith, e)), differ 2 1 (λ e. omega (arith, e)), tt), tt),
+    ((differ 3 0 (λ e. omega (arith, e)), differ 3 1 (λ e. omega (arith, e)), differ 3 2 (λ e. omega (arith, e)), tt), tt),
+  )
 
 -- the sides of one peer
 side_apart : (peer : ℕ) (b : EndName) → b.client ≡ false → Each (λ a. b ≢ a) (ends_with peer true)
