@@ -1,6 +1,6 @@
 -- What a crash sends at the ends, and what it leaves of the parts.
-use Rattle.std.proofs.Common.{◌≡◌, ◌≢◌, ◌⊎◌, inl, inr, ℕ, ◌<◌, ◌+◌, ◌*◌, Bool, true, false, if◌then◌else◌, List, [], ◌∷◌, ◌++◌, Option, Some, None, length, map, refl, sym, ap, subst, ◌∙◌, arith, append_assoc, append-nil, true≢false}
-use Rattle.std.specs.Prelude.{◌==◌, ◌&&◌, ◌||◌, All, flat_map, fold, is_some}
+use Rattle.std.proofs.Common.{◌≡◌, ◌≢◌, ◌⊎◌, inl, inr, ℕ, ◌<◌, ◌+◌, Bool, true, false, if◌then◌else◌, List, [], ◌∷◌, ◌++◌, Option, Some, None, length, map, refl, sym, ap, subst, ◌∙◌, arith, append_assoc, append-nil, true≢false}
+use Rattle.std.specs.Prelude.{◌==◌, ◌&&◌, ◌||◌, All, flat_map, fold}
 use Rattle.std.specs.List.{range_with_len}
 use Rattle.std.proofs.Math.Bool.{or-true}
 use Rattle.std.proofs.lemmas.Bool.{and_parts, cases_Bool, eqb-true}
@@ -14,7 +14,6 @@ use Rattle.annex_base.proofs.Conditions.{eqb_refl, same_bool_is, same_bool_refl}
 use Rattle.annex_base.proofs.Lists.{Each-filter, Each-left, Each-right, Each-weaker}
 use Rattle.annex_base.proofs.Numbers.{range_below, range_more}
 use Rattle.run_data.specs.declared.entry.Entry.{Entry}
-use Rattle.run_data.specs.declared.entry.EntryKind.{EntryKind}
 use Rattle.run_data.specs.declared.entry.EntryKind.TheVariants.{Crash}
 use Rattle.run_data.specs.declared.entry.FrameText.TheVariants.{Closing}
 use Rattle.run_data.specs.declared.entry.FrameView.{FrameView}
@@ -23,7 +22,7 @@ use Rattle.run_data.specs.declared.run.RepoView.{RepoView}
 use Rattle.object_store.specs.Stores.{Contents, Parts}
 use Rattle.object_store.specs.declared.keeper.HoldRecord.{HoldRecord}
 use Rattle.content_lock.specs.Rows.{Rows, bar_at}
-use Rattle.content_lock.specs.Stored.{Agrees, Label, label_of}
+use Rattle.content_lock.specs.Stored.{Agrees, label_of}
 use Rattle.link_ring.specs.Ends.{EndView}
 use Rattle.node_model.specs.After.{state_after}
 use Rattle.node_model.specs.AnyTime.{all_ends, close_at, closes_all, ends_with}
@@ -38,12 +37,12 @@ use Rattle.node_model.specs.Around.{around}
 use Rattle.node_model.specs.Slots.{begun_after}
 use Rattle.node_model.specs.State.{State}
 use Rattle.node_ends.specs.declared.sending.Sending.TheVariants as sendings
-use Rattle.node_ends.specs.Ends.{AreEnds, end_at, end_in, link_at}
+use Rattle.node_ends.specs.Ends.{end_at, end_in, link_at}
 use Rattle.node_ends.specs.Going.{AreAfter, IsSent}
 use Rattle.node_ends.specs.Joined.{StayPaired}
 use Rattle.p2p_server.specs.declared.session.Session.{Session}
 use Rattle.running_jobs.specs.Places.{IsPlace}
-use Rattle.running_jobs.specs.Running.{AreAllFed as JobsFed, AreWorks, Jobs, fills_at}
+use Rattle.running_jobs.specs.Running.{AreAllFed as JobsFed, AreWorks, Jobs}
 use Rattle.node_parts.specs.declared.done.Done.{Done}
 use Rattle.node_parts.specs.Crashing.{LetsGo, SendsCloses, all_names, names_with, shut_at}
 use Rattle.node_parts.specs.Parts.{AreAllFed, AreParts, HasLockRooms, PartsView}

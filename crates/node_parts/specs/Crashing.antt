@@ -1,5 +1,5 @@
 -- What a crash sends at the ends, and leaves of the sessions, the jobs and the table; for private contracts.
-use Rattle.std.specs.Prelude.{◌≡◌, ◌≢◌, ◌⊎◌, ℕ, ◌<◌, Bool, true, false, if◌then◌else◌, List, [], ◌∷◌, ◌++◌, All, Option, None, flat_map, is_some, length}
+use Rattle.std.specs.Prelude.{◌≡◌, ◌≢◌, ◌⊎◌, ℕ, true, false, if◌then◌else◌, List, [], ◌∷◌, ◌++◌, Option, None, flat_map, is_some, length}
 use Rattle.std.specs.List.{range_with_len}
 use Rattle.annex_base.specs.Lists.{Each, Member}
 use Rattle.annex_base.specs.declared.kinds.EntryStamp.{EntryStamp}

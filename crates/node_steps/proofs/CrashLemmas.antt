@@ -1,14 +1,12 @@
 -- The crash of a node, from that of its past and of the parts beside it.
-use Rattle.std.proofs.Common.{◌≡◌, ℕ, ◌≤◌, ◌<◌, ◌+◌, List, [], ◌∷◌, ◌++◌, All, Option, Some, None, length, refl, sym, ap, subst, arith, ◌∙◌}
+use Rattle.std.proofs.Common.{◌≡◌, ℕ, ◌≤◌, ◌<◌, ◌+◌, List, [], ◌∷◌, ◌++◌, All, Option, None, length, refl, sym, ap, subst, arith, ◌∙◌}
 use Rattle.std.specs.Prelude.{flat_map, vec_len}
 use Rattle.std.specs.List.{range_with_len}
-use Rattle.std.specs.Option.{ForSome}
 use Rattle.std.proofs.lemmas.Grind.{flat_map-append}
 use Rattle.std.proofs.lemmas.List.{append-nil, length-append}
 use Rattle.annex_base.proofs.Numbers.{range_more}
 use Rattle.run_data.specs.declared.entry.Entry.{Entry}
 use Rattle.run_data.specs.declared.entry.EntryKind.{EntryKind}
-use Rattle.run_data.specs.declared.entry.EntryKind.TheVariants.{Crash}
 use Rattle.run_data.specs.declared.entry.FrameView.{FrameView}
 use Rattle.object_store.specs.Stores.{Contents}
 use Rattle.union_merge.specs.Branch.{Files}

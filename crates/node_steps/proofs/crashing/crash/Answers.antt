@@ -1,6 +1,5 @@
 -- What the proof of `crashing::crash` needs beside the tactics.
-use Rattle.std.proofs.Common.{ℕ, ◌<◌, ◌+◌, All, List, [], refl, sym, ap, subst, ◌∙◌}
-use Rattle.annex_base.specs.Lists.{Each}
+use Rattle.std.proofs.Common.{ℕ, ◌<◌, All, List, refl, sym, ap, subst}
 use Rattle.node_past.specs.Owing.{AreDebts}
 use Rattle.node_past.proofs.OwedLemmas.{owed_in}
 use Rattle.owed_lines.specs.declared.debt.Debt.{Debt}
