@@ -1,6 +1,6 @@
 -- What a crash sends at the ends, and what it leaves of the parts.
 use Rattle.std.proofs.Common.{◌≡◌, ◌≢◌, ◌⊎◌, inl, inr, ℕ, ◌<◌, ◌+◌, Bool, true, false, if◌then◌else◌, List, [], ◌∷◌, ◌++◌, Option, Some, None, length, map, refl, sym, ap, subst, ◌∙◌, arith, append_assoc, append-nil, true≢false}
-use Rattle.std.specs.Prelude.{◌==◌, ◌&&◌, ◌||◌, All, flat_map, fold}
+use Rattle.std.specs.Prelude.{◌==◌, ◌&&◌, ◌||◌, All, flat_map, fold, not}
 use Rattle.std.specs.List.{range_with_len}
 use Rattle.std.proofs.Math.Bool.{or-true}
 use Rattle.std.proofs.lemmas.Bool.{and_parts, cases_Bool, eqb-true}
@@ -147,32 +147,32 @@ module _ (peer : ℕ) (client : Bool) where
       × (Each (λ b. Each (λ a. b ≢ a) (slot_end peer client 0 ∷ slot_end peer client 1 ∷ slot_end peer client 2 ∷ [])) (slot_end peer client 3 ∷ []))
   slots_apart = (
     ((differ 1 0 (λ e. omega (arith, e)), tt), tt),
-    ((differ 2 0 (λ e. omega (arith, e)), differ 2 1 (λ e. omega (arith, e)), tt), tt),
-    ((differ 3 0 (λ e. omega (arith, e)), differ 3 1 (λ e. omega (arith, e)), differ 3 2 (λ e. omega (arith, e)), tt), tt),
+    ((differ 2 0 (λ e. omega (arith, e)), (differ 2 1 (λ e. omega (arith, e)), tt)), tt),
+    ((differ 3 0 (λ e. omega (arith, e)), (differ 3 1 (λ e. omega (arith, e)), (differ 3 2 (λ e. omega (arith, e)), tt))), tt),
   )
 
 -- the sides of one peer
 side_apart : (peer : ℕ) (b : EndName) → b.client ≡ false → Each (λ a. b ≢ a) (ends_with peer true)
-side_apart peer b is = (differs, differs, differs, differs, tt)
+side_apart peer b is = (differs, (differs, (differs, (differs, tt))))
   where
     differs : {slot : ℕ} → b ≢ slot_end peer true slot
     differs {slot} same = true≢false (sym (ap (λ (x : EndName). x.client) same) ∙ is)
 
 pub sides_apart : (peer : ℕ) → Each (λ b. Each (λ a. b ≢ a) (ends_with peer true)) (ends_with peer false)
-sides_apart peer = (side_apart peer (slot_end peer false 0) refl, side_apart peer (slot_end peer false 1) refl, side_apart peer (slot_end peer false 2) refl, side_apart peer (slot_end peer false 3) refl, tt)
+sides_apart peer = (side_apart peer (slot_end peer false 0) refl, (side_apart peer (slot_end peer false 1) refl, (side_apart peer (slot_end peer false 2) refl, (side_apart peer (slot_end peer false 3) refl, tt))))
 
 peers_are : (P : ℕ → Type 0) (peers : List ℕ) → Each P peers → Each (λ (a : EndName). P a.peer) (names_with peers)
 peers_are P [] all = tt
-peers_are P (p ∷ ps) all = (all.0, all.0, all.0, all.0, all.0, all.0, all.0, all.0, peers_are P ps all.1)
+peers_are P (p ∷ ps) all = (all.0, (all.0, (all.0, (all.0, (all.0, (all.0, (all.0, (all.0, peers_are P ps all.1))))))))
 
 peers_apart : (own p : ℕ) → Each (λ b. Each (λ a. b ≢ a) (all_names own p)) (names_with (but own (p ∷ [])))
 peers_apart own p =
     Each-weaker (λ (b : EndName). b.peer ≡ p) (λ b. Each (λ a. b ≢ a) (all_names own p)) (λ b here.
     Each-weaker (λ (a : EndName). a.peer < p) (λ a. b ≢ a)
-    (λ a low same. let e : b.peer ≡ a.peer = ap (λ (x : EndName). x.peer) same in omega (arith, here, low, e)) (all_names own p) below) (names_with (but own (p ∷ []))) (peers_are (λ n. n ≡ p) (but own (p ∷ [])) (Each-filter (λ (n : ℕ). n ≡ p) _ (p ∷ []) (refl, tt)))
+    (λ a low same. let e : b.peer ≡ a.peer = ap (λ (x : EndName). x.peer) same in omega (arith, here, low, e)) (all_names own p) below) (names_with (but own (p ∷ []))) (peers_are (λ n. n ≡ p) (but own (p ∷ [])) (Each-filter (λ (n : ℕ). n ≡ p) (λ n. not (n == own)) (p ∷ []) (refl, tt)))
   where
     below : Each (λ (a : EndName). a.peer < p) (all_names own p)
-    below = peers_are (λ n. n < p) (but own (range_with_len 0 p)) (Each-filter (λ (n : ℕ). n < p) _ (range_with_len 0 p) (range_below 0 p p (omega arith)))
+    below = peers_are (λ n. n < p) (but own (range_with_len 0 p)) (Each-filter (λ (n : ℕ). n < p) (λ n. not (n == own)) (range_with_len 0 p) (range_below 0 p p (omega arith)))
 
 pub but_other : (own p : ℕ) → (p == own) ≡ false → but own (p ∷ []) ≡ p ∷ []
 but_other own p apart = rw apart refl
@@ -186,7 +186,7 @@ pub sends_more : (own p : ℕ) (sender : EntryStamp) (was mid now : List EndView
 sends_more own p sender was mid now xs ys zs first second =
     subst (λ (names : List EndName). SendsCloses names sender was now xs zs)
     (sym (ap (λ (l : List ℕ). names_with (but own l)) (range_more p)
-    ∙ (ap names_with (filter-append _ (range_with_len 0 p) (p ∷ []))
+    ∙ (ap names_with (filter-append (λ n. not (n == own)) (range_with_len 0 p) (p ∷ []))
     ∙ flat_map-append (λ (peer : ℕ). ends_with peer true ++ ends_with peer false) (but own (range_with_len 0 p)) (but own (p ∷ [])))))
     (sends_then (all_names own p) (names_with (but own (p ∷ []))) sender was mid now xs ys zs first second (peers_apart own p))
 

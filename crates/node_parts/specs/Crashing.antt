@@ -40,13 +40,13 @@ abbrev pub all_names : ℕ → ℕ → List EndName
 all_names own count = names_with (but own (range_with_len 0 count))
 
 -- each end of these that was open has sent a Close, in this order, and no other end has changed
-pub record SendsCloses (names : List EndName) (sender : EntryStamp) (was now : List EndView) (listed listed' : List FrameView) : Type 0 where
-  pub listed : listed' ≡ listed ++ flat_map (shut_at was) names
+pub record SendsCloses (names : List EndName) (sender : EntryStamp) (was now : List EndView) (sent sent' : List FrameView) : Type 0 where
+  pub listed : sent' ≡ sent ++ flat_map (shut_at was) names
   pub others : (b : EndName) → Each (λ a. b ≢ a) names → link_at now b ≡ link_at was b
   pub each : (b : EndName) → (link_at now b ≡ link_at was b) ⊎ ((end_at now b).opened ≡ false)
   pub there : (b : EndName) → is_some (link_at was b) ≡ true → is_some (link_at now b) ≡ true
-  pub after : (first : List EndView) (taken : Option FrameView) → AreAfter first was taken listed → AreAfter first now taken listed'
-  pub posts : PostsOn sender was now listed listed'
+  pub after : (first : List EndView) (taken : Option FrameView) → AreAfter first was taken sent → AreAfter first now taken sent'
+  pub posts : PostsOn sender was now sent sent'
   pub paired : StayPaired was now
   pub count : length now ≡ length was
 
