@@ -159,7 +159,7 @@ closed_setup {K} told (a ∷ ends) was now closes =
     ]
 
 pub close_setup : {K : Type 0} (r : Result (Unit {0}) NodeRefused) (told : Option Contents) (ends : List EndName) (was now : NodeView K) → OnOk r (ClosesEach told ends was now) → OnErr r (now ≡ was) → now.setup ≡ was.setup
-close_setup (Ok x) told ends was now ok err = closed_setup told ends was now ok
+close_setup {K} (Ok x) told ends was now ok err = closed_setup told ends was now ok
 close_setup {K} (Err e) told ends was now ok err = ap (λ (n : NodeView K). n.setup) err
 
 -- ---- a crash

@@ -55,7 +55,7 @@ use Rattle.node_parts.proofs.Sounding.{no_jobs, sound_after, there_still}
 
 -- ---- each other repository has four sessions
 
-served_slot : (peer slot : ℕ) → slot < 4 → Member (peer, slot) (map (λ (n : ℕ). (peer, n)) slots)
+served_slot : (peer slot : ℕ) → slot < 4 → Member {X = ℕ × ℕ} (peer, slot) (map (λ (n : ℕ). (peer, n)) slots)
 served_slot peer zero low = inl refl
 served_slot peer (suc zero) low = inr (inl refl)
 served_slot peer (suc (suc zero)) low = inr (inr (inl refl))
@@ -68,12 +68,12 @@ other_is s peer known apart = elim (cases_Bool (peer == s.number)) [
   | inr differs ↦ Member-filter_from (λ x. not (x == s.number)) (range_with_len 0 (length s.repos)) peer (Member-range 0 (length s.repos) peer (omega arith) (omega (arith, known))) (rw differs refl)
 ]
 
-serves_end : (s : SetUp) (a : EndName) → IsEndOf s a → Member (a.peer, a.slot) (served_connections s)
+serves_end : (s : SetUp) (a : EndName) → IsEndOf s a → Member {X = ℕ × ℕ} (a.peer, a.slot) (served_connections s)
 serves_end s a is = Member-flat_map (λ (peer : ℕ). map (λ (slot : ℕ). (peer, slot)) slots) (others s) a.peer (a.peer, a.slot) (other_is s a.peer is.peer is.other) (served_slot a.peer a.slot is.slot)
 
 -- so of an end that may not be closed the connection isn't open
-pub shut_end : (s : SetUp) (st : State) (a : EndName) (p : PartsView) → (Member (a.peer, a.slot) (map connection_of p.sessions) → (end_at p.links a).opened ≡ false) → AreParts s st p → IsEndOf s a → (end_at p.links a).opened ≡ false
-shut_end s st a p shut are is = shut (subst (λ (cs : List (ℕ × ℕ)). Member (a.peer, a.slot) cs) (sym are.sessions.connections) (serves_end s a is))
+pub shut_end : (s : SetUp) (st : State) (a : EndName) (p : PartsView) → (Member {X = ℕ × ℕ} (a.peer, a.slot) (map connection_of p.sessions) → (end_at p.links a).opened ≡ false) → AreParts s st p → IsEndOf s a → (end_at p.links a).opened ≡ false
+shut_end s st a p shut are is = shut (subst (λ (cs : List (ℕ × ℕ)). Member {X = ℕ × ℕ} (a.peer, a.slot) cs) (sym are.sessions.connections) (serves_end s a is))
 
 -- ---- where the Close is
 

@@ -99,12 +99,7 @@ impl Parts {
     /// Closes the connection of an end that is open: the end sends a Close, which takes its place on a list that is empty; where the
     /// end is a server's, a hold that its session guards is kept, a part that it fills stays, and the session is as new. A job sees
     /// at its next step that its connection was closed. None comes, and nothing changes, where the end isn't open. It takes no memory.
-    pub fn close_end(
-        &mut self,
-        id: EndId,
-        moment: Moment,
-        listing: Vec<FrameView>,
-    ) -> Option<Done>
+    pub fn close_end(&mut self, id: EndId, moment: Moment, listing: Vec<FrameView>) -> Option<Done>
         requires there { is_some (link_at self.old.links (name_of id)) ≡ true }
         requires empty { listing.items ≡ [] }
         requires room { vec_len listing < vec_capacity listing }

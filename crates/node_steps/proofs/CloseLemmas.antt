@@ -1,10 +1,10 @@
 -- The closes of a node's ends, from those of its past and of the parts beside it.
-use Rattle.std.proofs.Common.{◌≡◌, ◌≢◌, inl, inr, ℕ, suc, ◌≤◌, ◌<◌, ◌+◌, Bool, true, false, List, [], ◌∷◌, ◌++◌, All, Option, Some, None, length, map, refl, sym, ap, subst, arith, ◌∙◌, append_assoc}
-use Rattle.std.specs.Prelude.{if◌then◌else◌, filter, is_some, vec_len}
+use Rattle.std.proofs.Common.{◌≡◌, ◌≢◌, inl, inr, ℕ, suc, ◌≤◌, ◌<◌, ◌+◌, ◌*◌, Bool, true, false, List, [], ◌∷◌, ◌++◌, All, Option, Some, None, Result, Ok, Err, OnOk, OnErr, drop, get_or, length, map, refl, sym, ap, subst, arith, ◌∙◌, append_assoc}
+use Rattle.std.specs.Prelude.{if◌then◌else◌, filter, is_some, vec_capacity, vec_len}
 use Rattle.std.specs.declared.vec.Vec.{Vec}
 use Rattle.std.specs.declared.alloc.Global.{Global}
 use Rattle.std.proofs.lemmas.Bool.{cases_Bool}
-use Rattle.std.proofs.lemmas.List.{append-nil, length-append, length-map}
+use Rattle.std.proofs.lemmas.List.{append-nil, drop_all, drop_more, length-append, length-map}
 use Rattle.annex_base.specs.Lists.{Each}
 use Rattle.annex_base.proofs.Lists.{Each-from_members, Each-member, Each-weaker, Member-append_left, Member-append_right}
 use Rattle.run_data.specs.declared.entry.Entry.{Entry}
@@ -36,15 +36,17 @@ use Rattle.node_parts.specs.Running.{Jobs}
 use Rattle.node_past.specs.declared.past.Past.{Past}
 use Rattle.node_past.specs.declared.setup.Ended.{Ended}
 use Rattle.node_past.specs.declared.setup.Setup.{Setup}
-use Rattle.node_past.specs.Pasts.{frames_entry}
+use Rattle.node_past.specs.Pasts.{IsReady, SamePast, frames_entry}
+use Rattle.node_past.specs.declared.refused.NodeRefused.{NodeRefused}
+use Rattle.run_data.specs.Histories.{most_entries}
 use Rattle.node_past.proofs.OwedLemmas.{Grows, grows_same}
-use Rattle.node_steps.specs.Closing.{Closes, ClosesEach, close_entry, open_count}
+use Rattle.node_steps.specs.Closing.{Closes, ClosesEach, close_entry, ends_to, open_count}
 use Rattle.node_steps.specs.Kept.{IsFed, IsKept}
 use Rattle.node_steps.specs.Nodes.{MatchesSetup, IsState, NodeView, state_of}
-use Rattle.node_steps.specs.Shutting.{IsListing, Shuts, ShutsEach, ShutsIf}
+use Rattle.node_steps.specs.Shutting.{IsListing, Shuts, ShutsEach, ShutsIf, ShutsReady}
 use Rattle.node_steps.specs.Turning.{stamp_then}
 use Rattle.node_steps.proofs.BeginLemmas.{kept_entered}
-use Rattle.node_steps.proofs.MoveLemmas.{seen}
+use Rattle.node_steps.proofs.MoveLemmas.{seen, seen_same}
 use Rattle.node_steps.proofs.StepLemmas.{FillLaw, state_more}
 
 -- ---- one close
@@ -216,7 +218,7 @@ closed_kept k a ends p p' was now branch owed told other kept shut rest = record
 
 pub closed_each : {K : Type 0} (k : K) (ends : List EndName) (p p' : PartsView) (was now : Past) (branch : Files) (owed : List OwedLine) (told : Option Contents) → FillLaw → Each (IsOther was.setup) ends → ShutsEach ends p p' was now
     → IsKept was.setup was.clock was.history.items p branch owed told → ClosedSo k ends p p' was now branch owed told
-closed_each k [] p p' was now branch owed told fills others shut kept =
+closed_each {K} k [] p p' was now branch owed told fills others shut kept =
     subst (λ (q : PartsView). ClosedSo k [] p q was now branch owed told) (sym shut.0) (subst (λ (x : Past). ClosedSo k [] p p was x branch owed told) (sym shut.1) (closed_none k p was branch owed told kept))
 closed_each {K} k (a ∷ ends) p p' was now branch owed told fills others shut kept =
     let mid = shut.0 in
@@ -305,6 +307,30 @@ ShutsOn all left first p past was = (q : PartsView) (last : Past) → ShutsEach 
 pub shut_on : (all : List EndId) (id : EndId) (left : List EndId) (first p p' : PartsView) (past was now : Past) → ShutsOn all (id ∷ left) first p past was → ShutsIf (name_of id) p p' was now → ShutsOn all left first p' past now
 shut_on all id left first p p' past was now closes shut = λ q last rest. closes q last (p', now, shut, rest)
 
+-- the first of the ends that are left
+pub next_end : (ids : List EndId) (i : ℕ) (x : EndId) → i < length ids → x ≡ get_or ids i x → drop i ids ≡ x ∷ drop (i + 1) ids
+next_end ids i x below at = drop_more ids i x below ∙ ap (λ (y : EndId). y ∷ drop (i + 1) ids) (sym at)
+
+-- with room for what is left, its first has its place where it is open
+pub ready_next : (p : PartsView) (past : Past) (x : EndId) (left : List EndId) (n : ℕ) → vec_len past.history + open_count p.links (map name_of (x ∷ left)) ≤ most_entries → vec_len past.history + n ≤ vec_capacity past.history → 0 < n
+    → (end_at p.links (name_of x)).opened ≡ true → IsReady past
+ready_next p past x left n few room some opened =
+    let more = open_more p.links (name_of x) (map name_of left) opened in
+    record { room = omega (arith, room, some); few = omega (arith, few, more) }
+
+pub all_shut : (ids : List EndId) (i : ℕ) (first p : PartsView) (past was : Past) → length ids ≤ i → ShutsOn ids (drop i ids) first p past was → ShutsEach (map name_of ids) first p past was
+all_shut ids i first p past was over closes = subst (λ (xs : List EndId). ShutsOn ids xs first p past was) (drop_all i ids over) closes p was (refl, refl)
+
+-- one more was counted
+pub open_next : (links : List EndView) (a : EndName) (ends : List EndName) (b : Bool) → b ≡ (end_at links a).opened → (n : ℕ) → n ≡ (if b then 1 else 0) → (open_count links (a ∷ ends) ≡ n + open_count links ends) × (n ≤ 1)
+open_next links a ends true is n one = (let more = open_more links a ends (sym is) in omega (arith, more, one), omega (arith, one))
+open_next links a ends false is n none = (let same = open_same links a ends (sym is) in omega (arith, same, none), omega (arith, none))
+
+pub all_counted : (ids : List EndId) (i : ℕ) (links : List EndView) (n : ℕ) → length ids ≤ i → n + open_count links (map name_of (drop i ids)) ≡ open_count links (map name_of ids) → n ≡ open_count links (map name_of ids)
+all_counted ids i links n over counts =
+    let none = ap (λ (xs : List EndId). open_count links (map name_of xs)) (drop_all i ids over) in
+    omega (arith, none, counts)
+
 -- ---- lists
 
 pub last_listing : (lists : List (Vec FrameView Global)) (v : Vec FrameView Global) → Each IsListing (lists ++ v ∷ []) → IsListing v × Each IsListing lists
@@ -312,3 +338,73 @@ last_listing lists v each = (
   Each-member IsListing (lists ++ v ∷ []) v each (Member-append_right lists (v ∷ []) v (inl refl)),
   Each-from_members IsListing lists (λ x among. Each-member IsListing (lists ++ v ∷ []) x each (Member-append_left lists (v ∷ []) x among)),
 )
+
+-- ---- all ends at one repository
+
+each_named : (P : EndName → Type 0) (ids : List EndId) → Each P (map name_of ids) → Each (λ (id : EndId). P (name_of id)) ids
+each_named P [] each = tt
+each_named P (x ∷ xs) each = (each.0, each_named P xs each.1)
+
+each_end : (P : EndName → Type 0) (peer : ℕ) → ((slot : ℕ) (client : Bool) → slot < 4 → P (record { peer = peer; slot = slot; client = client })) → Each P (ends_to peer)
+each_end P peer each = (
+  each 0 true (omega arith),
+  (each 1 true (omega arith), (each 2 true (omega arith), (each 3 true (omega arith), (each 0 false (omega arith), (each 1 false (omega arith), (each 2 false (omega arith), (each 3 false (omega arith), tt))))))),
+)
+
+-- what a law says of them
+abbrev pub ThereLaw : Type 0
+ThereLaw = (links : List EndView) (count : ℕ) (a : EndName) → length links ≡ count * 8 → a.peer < count → a.slot < 4 → is_some (link_at links a) ≡ true
+
+pub ids_there : ThereLaw → (links : List EndView) (count peer : ℕ) (ids : List EndId) → map name_of ids ≡ ends_to peer → length links ≡ count * 8 → peer < count → Each (λ (id : EndId). is_some (link_at links (name_of id)) ≡ true) ids
+ids_there law links count peer ids names whole known = each_named (λ a. is_some (link_at links a) ≡ true) ids
+    (subst (λ (ends : List EndName). Each (λ a. is_some (link_at links a) ≡ true) ends) (sym names)
+    (each_end (λ a. is_some (link_at links a) ≡ true) peer (λ slot client low. law links count (record { peer = peer; slot = slot; client = client }) whole known low)))
+
+ends_others : (setup : Setup) (peer : ℕ) → peer < length setup.repos → peer ≢ setup.number → Each (IsOther setup) (ends_to peer)
+ends_others setup peer known other = each_end (IsOther setup) peer (λ slot client low. record { peer = known; other = other; slot = low })
+
+-- ---- the call
+
+-- after a refusal nothing has changed
+pub record CalledSo {K : Type 0} (k : K) (r : Result (Unit {0}) NodeRefused) (peer : ℕ) (p p' : PartsView) (was now : Past) (branch : Files) (owed : List OwedLine) (told : Option Contents) : Type 0 where
+  pub kept : IsKept now.setup now.clock now.history.items p' branch owed told
+  pub ok : OnOk r (ClosesEach told (ends_to peer) (seen k p branch was owed) (seen k p' branch now owed))
+  pub err : OnErr r (seen k p' branch now owed ≡ seen k p branch was owed)
+  pub fed : (stored : Option StoredParts) → IsFed stored p → IsFed stored p'
+  pub agrees : (known : Option (List HoldRecord)) → Agrees known p.table.holds → Agrees known p'.table.holds
+  pub grows : Grows was now
+  pub paired : StayPaired p.links p'.links
+
+kept_same : (was ready : Past) (p : PartsView) (branch : Files) (owed : List OwedLine) (told : Option Contents) → SamePast was ready → IsKept was.setup was.clock was.history.items p branch owed told → IsKept ready.setup ready.clock ready.history.items p branch owed told
+kept_same was ready p branch owed told same kept = kept_entered was.setup ready.setup was.clock ready.clock was.history.items ready.history.items p branch owed owed told same.setup same.clock same.history refl kept
+
+ready_same : {K : Type 0} (k : K) (was ready : Past) (p : PartsView) (branch : Files) (owed : List OwedLine) → SamePast was ready → seen k p branch ready owed ≡ seen k p branch was owed
+ready_same k was ready p branch owed same = seen_same k k p p branch was ready owed owed (seen k p branch was owed) refl refl same refl
+
+pub called : {K : Type 0} (k : K) (r : Result (Unit {0}) NodeRefused) (peer : ℕ) (p p' : PartsView) (was now : Past) (branch : Files) (owed : List OwedLine) (told : Option Contents) → FillLaw → peer < length was.setup.repos → peer ≢ was.setup.number
+    → OnOk r (ShutsReady (ends_to peer) p p' was now) → OnErr r ((p' ≡ p) × SamePast was now) → IsKept was.setup was.clock was.history.items p branch owed told → CalledSo k r peer p p' was now branch owed told
+called {K} k (Ok x) peer p p' was now branch owed told fills known other ok err kept =
+    let ready = ok.0 in
+    let same = ok.1 in
+    let others = subst (λ (s : Setup). Each (IsOther s) (ends_to peer)) (sym same.setup) (ends_others was.setup peer known other) in
+    let closed = closed_each k (ends_to peer) p p' ready now branch owed told fills others ok.2 (kept_same was ready p branch owed told same kept) in
+    record {
+      kept = closed.kept;
+      ok = subst (λ (n : NodeView K). ClosesEach told (ends_to peer) n (seen k p' branch now owed)) (ready_same k was ready p branch owed same) closed.closes;
+      err = tt;
+      fed = closed.fed;
+      agrees = closed.agrees;
+      grows = grows_on was ready now (grows_same was ready same) closed.grows;
+      paired = closed.paired;
+    }
+called {K} k (Err e) peer p p' was now branch owed told fills known other ok err kept =
+    let same = err.1 in
+    record {
+      kept = subst (λ (q : PartsView). IsKept now.setup now.clock now.history.items q branch owed told) (sym err.0) (kept_same was now p branch owed told same kept);
+      ok = tt;
+      err = ap (λ (q : PartsView). seen k q branch now owed) err.0 ∙ ready_same k was now p branch owed same;
+      fed = λ stored fed. subst (IsFed stored) (sym err.0) fed;
+      agrees = λ known agrees. subst (λ (q : PartsView). Agrees known q.table.holds) (sym err.0) agrees;
+      grows = grows_same was now same;
+      paired = subst (λ (q : PartsView). StayPaired p.links q.links) (sym err.0) (λ a. stays_same (link_at p.links a));
+    }

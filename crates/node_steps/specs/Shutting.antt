@@ -19,7 +19,7 @@ use Rattle.node_parts.specs.Posting.{PostsPieces}
 use Rattle.node_parts.specs.Sound.{AreSound}
 use Rattle.node_parts.specs.Steps.{Leaves, close_made, made_of}
 use Rattle.node_past.specs.declared.past.Past.{Past}
-use Rattle.node_past.specs.Pasts.{Enters}
+use Rattle.node_past.specs.Pasts.{Enters, SamePast}
 
 -- the end was open, and the past has the entry of its close
 pub record Shuts (a : EndName) (p p' : PartsView) (was now : Past) : Type 0 where
@@ -50,6 +50,10 @@ ShutsIf a p p' was now = Shuts a p p' was now ⊎ KeepsShut a p p' was now
 abbrev pub ShutsEach : List EndName → PartsView → PartsView → Past → Past → Type 0
 ShutsEach [] p p' was now = (p' ≡ p) × (now ≡ was)
 ShutsEach (a ∷ ends) p p' was now = (mid : PartsView) × (past : Past) × ShutsIf a p mid was past × ShutsEach ends mid p' past now
+
+-- the same once the past was made ready
+abbrev pub ShutsReady : List EndName → PartsView → PartsView → Past → Past → Type 0
+ShutsReady ends p p' was now = (ready : Past) × SamePast was ready × ShutsEach ends p p' ready now
 
 -- an empty list with room for a frame
 pub record IsListing (v : Vec FrameView Global) : Type 0 where

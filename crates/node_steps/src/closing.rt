@@ -1,14 +1,14 @@
 //! The ends of the connections with another repository are closed, each by one entry.
-ghost use Rattle.std.specs.Prelude.{◌≡◌, ◌≢◌, ◌⊎◌, ◌+◌, ◌≤◌, ◌<◌, [], true, All, Err, length, map, is_some, vec_capacity, vec_len, IfErr, IfOk, IsErrOf, OnErr, OnOk};
+ghost use Rattle.std.specs.Prelude.{◌≡◌, ◌≢◌, ◌⊎◌, ◌+◌, ◌≤◌, ◌<◌, [], true, All, Err, if◌then◌else◌, length, map, nat_lt, is_some, vec_capacity, vec_len, IfErr, IfOk, IsErrOf, OnErr, OnOk};
 ghost use Rattle.annex_base.specs.Lists.{Each};
 ghost use Rattle.node_ends.specs.Ends.{end_at, link_at, name_of};
 ghost use Rattle.node_ends.specs.Joined.{StayPaired};
-ghost use Rattle.node_past.specs.Pasts.{Enters, IsReady};
+ghost use Rattle.node_past.specs.Pasts.{Enters, IsReady, SamePast};
 ghost use Rattle.run_data.specs.Histories.{most_entries};
 ghost use Rattle.node_steps.specs.Closing.{ClosesEach, ends_to, lacks_places, open_count};
 ghost use Rattle.node_steps.specs.Kept.{Stands};
 ghost use Rattle.node_steps.specs.Nodes.{beside, told_of};
-ghost use Rattle.node_steps.specs.Shutting.{IsListing, ShutsEach, ShutsIf};
+ghost use Rattle.node_steps.specs.Shutting.{IsListing, ShutsEach, ShutsIf, ShutsReady};
 
 use crate::entering::moment_of;
 use annex_base::NoMemory;
@@ -54,22 +54,41 @@ fn close(past: &mut Past, parts: &mut Parts, id: EndId, listing: Vec<FrameView>)
     }
 }
 
+/// The next of these lists.
+fn next_list(lists: &mut Vec<Vec<FrameView>>) -> Vec<FrameView>
+    requires some { 0 < vec_len lists.old }
+    requires lists { Each IsListing lists.old.items }
+    ensures listing { IsListing result }
+    ensures lists { Each IsListing lists.new.items }
+    ensures len { vec_len lists.new + 1 ≡ vec_len lists.old }
+{
+    let Some(listing) = lists.pop() else {
+        unreachable!();
+    };
+    listing
+}
+
 /// Closes those of these ends that are open, one after the other. It takes no memory.
 fn close_each(past: &mut Past, parts: &mut Parts, ids: &[EndId], mut lists: Vec<Vec<FrameView>>)
     requires there { Each (λ id. is_some (link_at parts.old.links (name_of id)) ≡ true) ids.now }
     requires lists { Each IsListing lists.items }
-    requires enough { length lists.items ≡ length ids.now }
+    requires enough { vec_len lists ≡ length ids.now }
     requires numbers { All (λ h. h.number < vec_len past.old.history + 1) parts.old.table.holds }
     requires few { vec_len past.old.history + open_count parts.old.links (map name_of ids.now) ≤ most_entries }
     requires room { vec_len past.old.history + length ids.now ≤ vec_capacity past.old.history }
     ensures { ShutsEach (map name_of ids.now) parts.old parts.new past.old past.new }
 {
     for at in 0..ids.len() {
-        let Some(listing) = lists.pop() else {
-            unreachable!()
-        };
+        let listing = next_list(&mut lists);
         close(past, parts, ids[at], listing);
     }
+}
+
+/// How many of one.
+fn one_if(opened: bool) -> usize
+    ensures { result ≡ (if opened then 1 else 0) }
+{
+    if opened { 1 } else { 0 }
 }
 
 /// How many of these ends are open.
@@ -79,9 +98,7 @@ fn count_open(parts: &Parts, ids: &[EndId]) -> usize
 {
     let mut count = 0;
     for at in 0..ids.len() {
-        if parts.is_open(ids[at]) {
-            count += 1;
-        }
+        count += one_if(parts.is_open(ids[at]));
     }
     count
 }
@@ -89,12 +106,12 @@ fn count_open(parts: &Parts, ids: &[EndId]) -> usize
 /// So many empty lists, each with room for a frame.
 fn listings(alloc: Global, count: usize) -> Result<Vec<Vec<FrameView>>, NoMemory>
     ensures lists { IfOk result (λ lists. Each IsListing lists.items) }
-    ensures count { IfOk result (λ lists. length lists.items ≡ count) }
+    ensures count { IfOk result (λ lists. vec_len lists ≡ count) }
 {
     let mut lists = Vec::with_capacity(alloc, count)?;
     for _ in 0..count {
         let listing = Vec::with_capacity(alloc, 1)?;
-        lists.push(listing)?;
+        lists.push_reserved(listing);
     }
     Ok(lists)
 }
@@ -108,7 +125,7 @@ fn end_to(peer: u32, slot: u32, client: bool) -> EndId
 
 /// The ends of the connections with this repository, in order of side, the client's first, and of slot.
 fn ends_to(peer: u32) -> [EndId; 8]
-    ensures { map name_of result.now ≡ ends_to peer }
+    ensures { map name_of result ≡ ends_to peer }
 {
     [
         end_to(peer, 0, true),
@@ -120,6 +137,34 @@ fn ends_to(peer: u32) -> [EndId; 8]
         end_to(peer, 2, false),
         end_to(peer, 3, false),
     ]
+}
+
+/// Closes the ends at a repository that are open, once their places and their lists have their memory.
+fn close_all(past: &mut Past, parts: &mut Parts, peer: u32) -> Result<(), NodeRefused>
+    requires known { peer < length parts.old.jobs.place.ids }
+    requires numbers { All (λ h. h.number < vec_len past.old.history + 1) parts.old.table.holds }
+    ensures ok { OnOk result (ShutsReady (ends_to peer) parts.old parts.new past.old past.new) }
+    ensures full { IsErrOf result NodeRefused.Full → nat_lt most_entries (vec_len past.old.history + open_count parts.old.links (ends_to peer)) ≡ true }
+    ensures lacks { nat_lt most_entries (vec_len past.old.history + open_count parts.old.links (ends_to peer)) ≡ true → result ≡ Err NodeRefused.Full }
+    ensures refused { IfErr result (λ e. (e ≡ NodeRefused.Full) ⊎ (e ≡ NodeRefused.NoMemory)) }
+    ensures err { OnErr result ((parts.new ≡ parts.old) × SamePast past.old past.new) }
+{
+    // For the proof: a law, and that what the parts have is sound.
+    ends_are_there();
+    let _ = parts.table();
+    let ids = ends_to(peer);
+    let open = count_open(parts, &ids);
+    if past.lacks(open) {
+        return Err(NodeRefused::Full);
+    }
+    let Ok(lists) = listings(past.alloc, ids.len()) else {
+        return Err(NodeRefused::NoMemory);
+    };
+    if past.reserve_places(ids.len()).is_err() {
+        return Err(NodeRefused::NoMemory);
+    }
+    close_each(past, parts, &ids, lists);
+    Ok(())
 }
 
 /// Closes the ends of the connections with another repository that are open, one entry for each, in order of side, the client's
@@ -141,17 +186,7 @@ pub fn close_ends<K: Keeper>(
     ensures paired { StayPaired parts.old.links parts.new.links }
     ensures err { OnErr result (beside parts.new ledger.new ≡ beside parts.old ledger.old) }
 {
-    // For the proof: laws, and what the parts have is sound.
-    ends_are_there();
+    // A law, for the proof: the table fills what the state does.
     tables_fill_as_states();
-    let _ = parts.table();
-    let ids = ends_to(peer);
-    let open = count_open(parts, &ids);
-    if ledger.past.lacks(open) {
-        return Err(NodeRefused::Full);
-    }
-    let lists = listings(ledger.past.alloc, ids.len())?;
-    ledger.past.reserve_places(ids.len())?;
-    close_each(&mut ledger.past, parts, &ids, lists);
-    Ok(())
+    close_all(&mut ledger.past, parts, peer)
 }

@@ -12,9 +12,9 @@ abbrev pub invariant-loop-at : goal.invariant-loop-at
 invariant-loop-at l = record {
   there : Each (λ id. is_some (link_at l.parts.links (name_of id)) ≡ true) (drop l.at l.ids);
   lists : Each IsListing l.lists.items;
-  enough : length l.lists.items + l.at ≡ length l.ids;
+  enough : vec_len l.lists + l.at ≡ length l.ids;
   numbers : All (λ h. h.number < vec_len l.past.history + 1) l.parts.table.holds;
   few : vec_len l.past.history + open_count l.parts.links (map name_of (drop l.at l.ids)) ≤ most_entries;
-  room : vec_len l.past.history + length l.lists.items ≤ vec_capacity l.past.history;
+  room : vec_len l.past.history + vec_len l.lists ≤ vec_capacity l.past.history;
   closes : ShutsOn l.ids (drop l.at l.ids) l.fn.parts l.parts l.fn.past l.past;
 }
