@@ -1,6 +1,6 @@
 -- What a crash sends at the ends, and what it leaves of the parts.
-use Rattle.std.proofs.Common.{◌≡◌, ◌≢◌, ◌⊎◌, inl, inr, ℕ, ◌<◌, ◌+◌, ◌*◌, Bool, true, false, if◌then◌else◌, List, [], ◌∷◌, ◌++◌, Option, Some, None, length, map, refl, sym, ap, subst, ◌∙◌, arith, append_assoc, append-nil, true≢false}
-use Rattle.std.specs.Prelude.{◌==◌, ◌&&◌, ◌||◌, All, flat_map, fold, is_some}
+use Rattle.std.proofs.Common.{◌≡◌, ◌≢◌, ◌⊎◌, inl, inr, ℕ, ◌<◌, ◌+◌, Bool, true, false, if◌then◌else◌, List, [], ◌∷◌, ◌++◌, Option, Some, None, length, map, refl, sym, ap, subst, ◌∙◌, arith, append_assoc, append-nil, true≢false}
+use Rattle.std.specs.Prelude.{◌==◌, ◌&&◌, ◌||◌, All, flat_map, fold, not}
 use Rattle.std.specs.List.{range_with_len}
 use Rattle.std.proofs.Math.Bool.{or-true}
 use Rattle.std.proofs.lemmas.Bool.{and_parts, cases_Bool, eqb-true}
@@ -14,15 +14,15 @@ use Rattle.annex_base.proofs.Conditions.{eqb_refl, same_bool_is, same_bool_refl}
 use Rattle.annex_base.proofs.Lists.{Each-filter, Each-left, Each-right, Each-weaker}
 use Rattle.annex_base.proofs.Numbers.{range_below, range_more}
 use Rattle.run_data.specs.declared.entry.Entry.{Entry}
-use Rattle.run_data.specs.declared.entry.EntryKind.{EntryKind}
 use Rattle.run_data.specs.declared.entry.EntryKind.TheVariants.{Crash}
 use Rattle.run_data.specs.declared.entry.FrameText.TheVariants.{Closing}
 use Rattle.run_data.specs.declared.entry.FrameView.{FrameView}
 use Rattle.run_data.specs.declared.row.Hold.{Hold}
+use Rattle.run_data.specs.declared.run.RepoView.{RepoView}
 use Rattle.object_store.specs.Stores.{Contents, Parts}
 use Rattle.object_store.specs.declared.keeper.HoldRecord.{HoldRecord}
 use Rattle.content_lock.specs.Rows.{Rows, bar_at}
-use Rattle.content_lock.specs.Stored.{Agrees, Label, label_of}
+use Rattle.content_lock.specs.Stored.{Agrees, label_of}
 use Rattle.link_ring.specs.Ends.{EndView}
 use Rattle.node_model.specs.After.{state_after}
 use Rattle.node_model.specs.AnyTime.{all_ends, close_at, closes_all, ends_with}
@@ -37,12 +37,12 @@ use Rattle.node_model.specs.Around.{around}
 use Rattle.node_model.specs.Slots.{begun_after}
 use Rattle.node_model.specs.State.{State}
 use Rattle.node_ends.specs.declared.sending.Sending.TheVariants as sendings
-use Rattle.node_ends.specs.Ends.{AreEnds, end_at, end_in, link_at}
+use Rattle.node_ends.specs.Ends.{end_at, end_in, link_at}
 use Rattle.node_ends.specs.Going.{AreAfter, IsSent}
 use Rattle.node_ends.specs.Joined.{StayPaired}
 use Rattle.p2p_server.specs.declared.session.Session.{Session}
 use Rattle.running_jobs.specs.Places.{IsPlace}
-use Rattle.running_jobs.specs.Running.{AreAllFed as JobsFed, AreWorks, Jobs, fills_at}
+use Rattle.running_jobs.specs.Running.{AreAllFed as JobsFed, AreWorks, Jobs}
 use Rattle.node_parts.specs.declared.done.Done.{Done}
 use Rattle.node_parts.specs.Crashing.{LetsGo, SendsCloses, all_names, names_with, shut_at}
 use Rattle.node_parts.specs.Parts.{AreAllFed, AreParts, HasLockRooms, PartsView}
@@ -145,32 +145,34 @@ module _ (peer : ℕ) (client : Bool) where
   pub slots_apart : (Each (λ b. Each (λ a. b ≢ a) (slot_end peer client 0 ∷ [])) (slot_end peer client 1 ∷ []))
       × (Each (λ b. Each (λ a. b ≢ a) (slot_end peer client 0 ∷ slot_end peer client 1 ∷ [])) (slot_end peer client 2 ∷ []))
       × (Each (λ b. Each (λ a. b ≢ a) (slot_end peer client 0 ∷ slot_end peer client 1 ∷ slot_end peer client 2 ∷ [])) (slot_end peer client 3 ∷ []))
-  slots_apart = (((differ 1 0 (λ e. omega (arith, e)), tt), tt),
-      ((differ 2 0 (λ e. omega (arith, e)), differ 2 1 (λ e. omega (arith, e)), tt), tt),
-      ((differ 3 0 (λ e. omega (arith, e)), differ 3 1 (λ e. omega (arith, e)), differ 3 2 (λ e. omega (arith, e)), tt), tt))
+  slots_apart = (
+    ((differ 1 0 (λ e. omega (arith, e)), tt), tt),
+    ((differ 2 0 (λ e. omega (arith, e)), (differ 2 1 (λ e. omega (arith, e)), tt)), tt),
+    ((differ 3 0 (λ e. omega (arith, e)), (differ 3 1 (λ e. omega (arith, e)), (differ 3 2 (λ e. omega (arith, e)), tt))), tt),
+  )
 
 -- the sides of one peer
 side_apart : (peer : ℕ) (b : EndName) → b.client ≡ false → Each (λ a. b ≢ a) (ends_with peer true)
-side_apart peer b is = (differs, differs, differs, differs, tt)
+side_apart peer b is = (differs, (differs, (differs, (differs, tt))))
   where
     differs : {slot : ℕ} → b ≢ slot_end peer true slot
     differs {slot} same = true≢false (sym (ap (λ (x : EndName). x.client) same) ∙ is)
 
 pub sides_apart : (peer : ℕ) → Each (λ b. Each (λ a. b ≢ a) (ends_with peer true)) (ends_with peer false)
-sides_apart peer = (side_apart peer (slot_end peer false 0) refl, side_apart peer (slot_end peer false 1) refl, side_apart peer (slot_end peer false 2) refl, side_apart peer (slot_end peer false 3) refl, tt)
+sides_apart peer = (side_apart peer (slot_end peer false 0) refl, (side_apart peer (slot_end peer false 1) refl, (side_apart peer (slot_end peer false 2) refl, (side_apart peer (slot_end peer false 3) refl, tt))))
 
 peers_are : (P : ℕ → Type 0) (peers : List ℕ) → Each P peers → Each (λ (a : EndName). P a.peer) (names_with peers)
 peers_are P [] all = tt
-peers_are P (p ∷ ps) all = (all.0, all.0, all.0, all.0, all.0, all.0, all.0, all.0, peers_are P ps all.1)
+peers_are P (p ∷ ps) all = (all.0, (all.0, (all.0, (all.0, (all.0, (all.0, (all.0, (all.0, peers_are P ps all.1))))))))
 
 peers_apart : (own p : ℕ) → Each (λ b. Each (λ a. b ≢ a) (all_names own p)) (names_with (but own (p ∷ [])))
 peers_apart own p =
     Each-weaker (λ (b : EndName). b.peer ≡ p) (λ b. Each (λ a. b ≢ a) (all_names own p)) (λ b here.
     Each-weaker (λ (a : EndName). a.peer < p) (λ a. b ≢ a)
-    (λ a low same. let e : b.peer ≡ a.peer = ap (λ (x : EndName). x.peer) same in omega (arith, here, low, e)) (all_names own p) below) (names_with (but own (p ∷ []))) (peers_are (λ n. n ≡ p) (but own (p ∷ [])) (Each-filter (λ (n : ℕ). n ≡ p) _ (p ∷ []) (refl, tt)))
+    (λ a low same. let e : b.peer ≡ a.peer = ap (λ (x : EndName). x.peer) same in omega (arith, here, low, e)) (all_names own p) below) (names_with (but own (p ∷ []))) (peers_are (λ n. n ≡ p) (but own (p ∷ [])) (Each-filter (λ (n : ℕ). n ≡ p) (λ n. not (n == own)) (p ∷ []) (refl, tt)))
   where
     below : Each (λ (a : EndName). a.peer < p) (all_names own p)
-    below = peers_are (λ n. n < p) (but own (range_with_len 0 p)) (Each-filter (λ (n : ℕ). n < p) _ (range_with_len 0 p) (range_below 0 p p (omega arith)))
+    below = peers_are (λ n. n < p) (but own (range_with_len 0 p)) (Each-filter (λ (n : ℕ). n < p) (λ n. not (n == own)) (range_with_len 0 p) (range_below 0 p p (omega arith)))
 
 pub but_other : (own p : ℕ) → (p == own) ≡ false → but own (p ∷ []) ≡ p ∷ []
 but_other own p apart = rw apart refl
@@ -184,7 +186,7 @@ pub sends_more : (own p : ℕ) (sender : EntryStamp) (was mid now : List EndView
 sends_more own p sender was mid now xs ys zs first second =
     subst (λ (names : List EndName). SendsCloses names sender was now xs zs)
     (sym (ap (λ (l : List ℕ). names_with (but own l)) (range_more p)
-    ∙ (ap names_with (filter-append _ (range_with_len 0 p) (p ∷ []))
+    ∙ (ap names_with (filter-append (λ n. not (n == own)) (range_with_len 0 p) (p ∷ []))
     ∙ flat_map-append (λ (peer : ℕ). ends_with peer true ++ ends_with peer false) (but own (range_with_len 0 p)) (but own (p ∷ [])))))
     (sends_then (all_names own p) (names_with (but own (p ∷ []))) sender was mid now xs ys zs first second (peers_apart own p))
 
@@ -293,7 +295,7 @@ module _ (was now : PartsView) (clock : ℕ) (d : Done) (sender : EntryStamp) (j
 
   module _ (s : SetUp) (st : State) (are : AreParts s st was) where
     count_is : length was.jobs.place.ids ≡ length s.repos
-    count_is = ap (λ (l : List (List ℕ)). length l) (sym are.place.ids) ∙ length-map _ s.repos
+    count_is = ap (λ (l : List (List ℕ)). length l) (sym are.place.ids) ∙ length-map s.repos (λ (repo : RepoView). repo.id)
 
     names_are : names ≡ all_ends s
     names_are = (λ i. all_names (sym are.place.number i) (count_is i))

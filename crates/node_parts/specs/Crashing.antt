@@ -1,5 +1,5 @@
 -- What a crash sends at the ends, and leaves of the sessions, the jobs and the table; for private contracts.
-use Rattle.std.specs.Prelude.{◌≡◌, ◌≢◌, ◌⊎◌, ℕ, ◌<◌, Bool, true, false, if◌then◌else◌, List, [], ◌∷◌, ◌++◌, All, Option, None, flat_map, is_some, length}
+use Rattle.std.specs.Prelude.{◌≡◌, ◌≢◌, ◌⊎◌, ℕ, true, false, if◌then◌else◌, List, [], ◌∷◌, ◌++◌, Option, None, flat_map, is_some, length}
 use Rattle.std.specs.List.{range_with_len}
 use Rattle.annex_base.specs.Lists.{Each, Member}
 use Rattle.annex_base.specs.declared.kinds.EntryStamp.{EntryStamp}
@@ -15,8 +15,7 @@ use Rattle.node_model.specs.AnyTime.{all_ends, ends_with}
 use Rattle.node_model.specs.Ends.{EndName, frames}
 use Rattle.node_model.specs.Evidence.{but}
 use Rattle.node_model.specs.Rows.{holds_after}
-use Rattle.node_model.specs.Sessions as sessions
-use Rattle.node_model.specs.Sessions.{new_session}
+use Rattle.node_model.specs.Sessions.{Session as EndSession, new_session}
 use Rattle.node_model.specs.SetUp.{SetUp}
 use Rattle.node_ends.specs.Ends.{end_at, link_at}
 use Rattle.node_ends.specs.Going.{AreAfter}
@@ -41,13 +40,13 @@ abbrev pub all_names : ℕ → ℕ → List EndName
 all_names own count = names_with (but own (range_with_len 0 count))
 
 -- each end of these that was open has sent a Close, in this order, and no other end has changed
-pub record SendsCloses (names : List EndName) (sender : EntryStamp) (was now : List EndView) (listed listed' : List FrameView) : Type 0 where
-  pub listed : listed' ≡ listed ++ flat_map (shut_at was) names
+pub record SendsCloses (names : List EndName) (sender : EntryStamp) (was now : List EndView) (sent sent' : List FrameView) : Type 0 where
+  pub listed : sent' ≡ sent ++ flat_map (shut_at was) names
   pub others : (b : EndName) → Each (λ a. b ≢ a) names → link_at now b ≡ link_at was b
   pub each : (b : EndName) → (link_at now b ≡ link_at was b) ⊎ ((end_at now b).opened ≡ false)
   pub there : (b : EndName) → is_some (link_at was b) ≡ true → is_some (link_at now b) ≡ true
-  pub after : (first : List EndView) (taken : Option FrameView) → AreAfter first was taken listed → AreAfter first now taken listed'
-  pub posts : PostsOn sender was now listed listed'
+  pub after : (first : List EndView) (taken : Option FrameView) → AreAfter first was taken sent → AreAfter first now taken sent'
+  pub posts : PostsOn sender was now sent sent'
   pub paired : StayPaired was now
   pub count : length now ≡ length was
 
@@ -55,7 +54,7 @@ pub record SendsCloses (names : List EndName) (sender : EntryStamp) (was now : L
 
 -- the sessions and the jobs let go of what they have: no job runs, each session is as new, and the rows are those after a crash
 pub record LetsGo (clock : ℕ) (xs xs' : List Session) (jobs : Jobs) (rows rows' : Rows) : Type 0 where
-  pub sessions : (s : SetUp) (were are : EndName → sessions.Session) → AreSessions s were xs → ((a : EndName) → a.client ≡ false → Member a (all_ends s) → are a ≡ new_session) → AreSessions s are xs'
+  pub sessions : (s : SetUp) (were are : EndName → EndSession) → AreSessions s were xs → ((a : EndName) → a.client ≡ false → Member a (all_ends s) → are a ≡ new_session) → AreSessions s are xs'
   pub holds : rows'.holds ≡ holds_after rows.holds (Crash clock)
   pub bars : (key : List ℕ) → bar_at rows' key ≡ None
   pub serving : OwnAll rows' xs'

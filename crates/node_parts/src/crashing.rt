@@ -49,13 +49,7 @@ fn shut_end(ends: &mut Ends, id: EndId, stamp: EntryStamp, sent: &mut Vec<FrameV
 }
 
 /// The same at the four ends with a peer of which this side is the client, or at the four others.
-fn shut_side(
-    ends: &mut Ends,
-    peer: u32,
-    client: bool,
-    stamp: EntryStamp,
-    sent: &mut Vec<FrameView>,
-)
+fn shut_side(ends: &mut Ends, peer: u32, client: bool, stamp: EntryStamp, sent: &mut Vec<FrameView>)
     requires there { (a : EndName) → a.peer ≡ peer → a.slot < 4 → is_some (link_at ends.old a) ≡ true }
     requires room { vec_len sent.old + 4 ≤ vec_capacity sent.old }
     ensures closes { SendsCloses (ends_with peer client) stamp ends.old ends.new sent.old.items sent.new.items }
@@ -117,13 +111,7 @@ fn shut_peer(ends: &mut Ends, peer: u32, stamp: EntryStamp, sent: &mut Vec<Frame
 }
 
 /// The same where the peer isn't the repository itself.
-fn shut_other(
-    ends: &mut Ends,
-    own: u32,
-    peer: u32,
-    stamp: EntryStamp,
-    sent: &mut Vec<FrameView>,
-)
+fn shut_other(ends: &mut Ends, own: u32, peer: u32, stamp: EntryStamp, sent: &mut Vec<FrameView>)
     requires there { (a : EndName) → a.peer ≡ peer → a.slot < 4 → is_some (link_at ends.old a) ≡ true }
     requires room { vec_len sent.old + 8 ≤ vec_capacity sent.old }
     ensures closes { SendsCloses (names_with (but own (peer ∷ []))) stamp ends.old ends.new sent.old.items sent.new.items }
@@ -136,13 +124,7 @@ fn shut_other(
 }
 
 /// The same at all ends of the repository of this number among so many, in order of the peer's number.
-fn shut_each(
-    ends: &mut Ends,
-    own: u32,
-    count: u32,
-    stamp: EntryStamp,
-    sent: &mut Vec<FrameView>,
-)
+fn shut_each(ends: &mut Ends, own: u32, count: u32, stamp: EntryStamp, sent: &mut Vec<FrameView>)
     requires count { length ends.old ≡ count * 8 }
     requires room { vec_len sent.old + count * 8 ≤ vec_capacity sent.old }
     ensures closes { SendsCloses (all_names own count) stamp ends.old ends.new sent.old.items sent.new.items }

@@ -68,10 +68,10 @@ pub record Enters (kind : EntryKind) (taken : Option FrameView) (sent : List Fra
   pub outcomes : now.outcomes.items ≡ was.outcomes.items ++ ended
 
 -- it has the entry of a crash, which sent these and set its clock to this at its time, and these jobs have ended
-pub record Crashes (clock : ℕ) (sent : List FrameView) (ended : List Ended) (was now : Past) : Type 0 where
+pub record Crashes (to : ℕ) (sent : List FrameView) (ended : List Ended) (was now : Past) : Type 0 where
   pub setup : now.setup ≡ was.setup
   pub time : now.time ≡ was.time
-  pub clock : now.clock ≡ record { at = was.time; to = clock }
+  pub clock : now.clock ≡ record { at = was.time; to = to }
   pub count : now.count ≡ was.count + 1
-  pub history : now.history.items ≡ was.history.items ++ frames_entry was (Crash clock) None sent ∷ []
+  pub history : now.history.items ≡ was.history.items ++ frames_entry was (Crash to) None sent ∷ []
   pub outcomes : now.outcomes.items ≡ was.outcomes.items ++ ended

@@ -1,5 +1,5 @@
 -- All sessions are closed, one after the other.
-use Rattle.std.proofs.Common.{◌≡◌, ◌≢◌, inl, inr, ℕ, zero, suc, ◌<◌, ◌≤◌, ◌+◌, Bool, true, false, List, [], ◌∷◌, Option, Some, None, length, map, refl, sym, ap, subst, ◌∙◌, arith, true≢false}
+use Rattle.std.proofs.Common.{◌≡◌, ◌≢◌, inl, inr, ℕ, zero, suc, ◌<◌, ◌≤◌, ◌+◌, true, false, List, [], ◌∷◌, Option, Some, None, length, map, refl, sym, ap, subst, ◌∙◌, arith, true≢false}
 use Rattle.std.specs.Prelude.{slice_get}
 use Rattle.std.proofs.Math.ListN.{set}
 use Rattle.std.proofs.lemmas.Option.{slice_get_within}
@@ -16,7 +16,7 @@ use Rattle.node_model.specs.SetUp.{SetUp, served_connections}
 use Rattle.p2p_server.specs.Answers.{owner_at}
 use Rattle.p2p_server.specs.declared.Place.{Place}
 use Rattle.p2p_server.specs.declared.session.Session.{Session}
-use Rattle.p2p_server.specs.Talking.{place_of, session_of, share_of}
+use Rattle.p2p_server.specs.Talking.{place_of}
 use Rattle.node_sessions.specs.Built.{AreClosed, ClosesAmong, IsBare}
 use Rattle.node_sessions.specs.Sessions.{AreSessions, IsOther, IsSessionOf, OwnAll, connection_of, end_of, fills_in, owner_of, session_fills}
 use Rattle.node_sessions.proofs.Building.{map_over}

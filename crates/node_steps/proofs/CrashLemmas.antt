@@ -1,14 +1,12 @@
 -- The crash of a node, from that of its past and of the parts beside it.
-use Rattle.std.proofs.Common.{◌≡◌, ℕ, ◌≤◌, ◌<◌, ◌+◌, List, [], ◌∷◌, ◌++◌, All, Option, Some, None, length, refl, sym, ap, subst, arith, ◌∙◌}
+use Rattle.std.proofs.Common.{◌≡◌, ℕ, ◌≤◌, ◌<◌, ◌+◌, List, [], ◌∷◌, ◌++◌, All, Option, None, length, refl, sym, ap, subst, arith, ◌∙◌}
 use Rattle.std.specs.Prelude.{flat_map, vec_len}
 use Rattle.std.specs.List.{range_with_len}
-use Rattle.std.specs.Option.{ForSome}
 use Rattle.std.proofs.lemmas.Grind.{flat_map-append}
 use Rattle.std.proofs.lemmas.List.{append-nil, length-append}
 use Rattle.annex_base.proofs.Numbers.{range_more}
 use Rattle.run_data.specs.declared.entry.Entry.{Entry}
 use Rattle.run_data.specs.declared.entry.EntryKind.{EntryKind}
-use Rattle.run_data.specs.declared.entry.EntryKind.TheVariants.{Crash}
 use Rattle.run_data.specs.declared.entry.FrameView.{FrameView}
 use Rattle.object_store.specs.Stores.{Contents}
 use Rattle.union_merge.specs.Branch.{Files}
@@ -25,6 +23,7 @@ use Rattle.node_parts.specs.Running.{Jobs}
 use Rattle.node_past.specs.declared.past.Past.{Past}
 use Rattle.node_past.specs.declared.setup.Ended.{Ended}
 use Rattle.node_past.specs.declared.setup.Setup.{Setup}
+use Rattle.node_past.specs.Pasts.{SamePast}
 use Rattle.node_steps.specs.Crashing.{Crashes, all_ended, crash_entry}
 use Rattle.node_steps.specs.Falling.{Falls}
 use Rattle.node_steps.specs.Kept.{IsKept}
@@ -38,6 +37,10 @@ use Rattle.node_steps.proofs.StepLemmas.{FillLaw, state_more}
 pub flat_more : {X : Type 0} (f : ℕ → List X) (n : ℕ) → flat_map f (range_with_len 0 (n + 1)) ≡ flat_map f (range_with_len 0 n) ++ f n
 flat_more {X} f n =
     ap (flat_map f) (range_more n) ∙ (flat_map-append f (range_with_len 0 n) (n ∷ []) ∙ ap (λ (xs : List X). flat_map f (range_with_len 0 n) ++ xs) (append-nil (f n)))
+
+-- what a node keeps is the same where only the room of its past has changed
+pub kept_ready : (was ready : Past) (p : PartsView) (branch : Files) (owed : List OwedLine) (told : Option Contents) → SamePast was ready → IsKept was.setup was.clock was.history.items p branch owed told → IsKept ready.setup ready.clock ready.history.items p branch owed told
+kept_ready was ready p branch owed told same kept = kept_entered was.setup ready.setup was.clock ready.clock was.history.items ready.history.items p branch owed owed told same.setup same.clock same.history refl kept
 
 module _ {K : Type 0} (k : K) (clock : ℕ) (p p' : PartsView) (was now : Past) (branch : Files) (owed : List OwedLine) (falls : Falls clock p p' was now) where
   abbrev before : NodeView K

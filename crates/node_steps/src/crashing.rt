@@ -97,9 +97,8 @@ pub fn crash<K: Keeper>(
     ensures paired { StayPaired parts.old.links parts.new.links }
     ensures err { OnErr result (beside parts.new ledger.new ≡ beside parts.old ledger.old) }
 {
-    // For the proof: laws, and what the parts have is sound.
+    // A law, for the proof: the keys that the parts fill are the state's.
     tables_fill_as_states();
-    let _ = parts.table();
     make_room(&mut ledger.past)?;
     let listing = Vec::with_capacity(ledger.past.alloc, parts.most_closes())?;
     fall(&mut ledger.past, parts, clock, listing);

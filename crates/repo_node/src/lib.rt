@@ -4,8 +4,8 @@
 mod beginning;
 mod carrying;
 mod closing;
-mod crashing;
 mod compacting;
+mod crashing;
 mod logs;
 mod merging;
 mod node;

@@ -1,5 +1,5 @@
 -- What the sessions and the jobs had is given up, and a crash changes the rows.
-use Rattle.std.proofs.Common.{◌≡◌, ℕ, Bool, [], false, refl, sym, ap, ◌∙◌}
+use Rattle.std.proofs.Common.{Bool, false, refl, sym, ap, ◌∙◌}
 use Rattle.std.specs.Prelude.{◌&&◌, ◌||◌}
 use Rattle.run_data.specs.declared.entry.By.TheVariants.{Job as by_job}
 use Rattle.content_lock.specs.Rows.{Rows, bar_at, is_filling}

@@ -1,6 +1,5 @@
 -- One after the other is closed.
-use Rattle.std.proofs.Common.{◌≡◌, ◌<◌, ℕ, length, sym, subst, arith}
-use Rattle.node_sessions.specs.Built.{AreClosed}
+use Rattle.std.proofs.Common.{arith}
 use Rattle.node_sessions.proofs.Crashing.{closed_as_many, closed_next, closed_none}
 use Rattle.node_sessions.proofs.ending.close_all.Goals as goal
 

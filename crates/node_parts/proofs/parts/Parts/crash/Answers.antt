@@ -1,12 +1,12 @@
 -- What the proof of `parts::Parts::crash` needs beside the tactics.
-use Rattle.std.proofs.Common.{◌≡◌, ◌<◌, ℕ, [], List, Option, None, length, refl, sym, ap, ◌∙◌, subst}
+use Rattle.std.proofs.Common.{◌<◌, ℕ, [], None, length, refl, sym, ap, ◌∙◌, subst}
 use Rattle.std.specs.Prelude.{All}
 use Rattle.annex_base.specs.declared.kinds.EntryStamp.{EntryStamp}
 use Rattle.run_data.specs.declared.entry.EntryKind.TheVariants.{Crash}
 use Rattle.content_lock.specs.Stored.{Agrees}
 use Rattle.node_ends.specs.Joined.{StayPaired}
 use Rattle.node_parts.specs.declared.done.Done.{Done}
-use Rattle.node_parts.specs.Crashing.{LetsGo, SendsCloses, all_names}
+use Rattle.node_parts.specs.Crashing.{SendsCloses, all_names}
 use Rattle.node_parts.specs.Parts.{AreAllFed, AreParts, PartsView}
 use Rattle.node_parts.specs.Posting.{PostsPieces, stamp_of}
 use Rattle.node_parts.specs.Steps.{Leaves}
