@@ -107,7 +107,7 @@ plan_may s tree r repos =
 
 -- ---- the plan that a fleet makes
 
-abbrev ids_of : Run → List (List ℕ)
+abbrev pub ids_of : Run → List (List ℕ)
 ids_of run = map (λ (repo : RepoView). repo.id) run.repos
 
 -- there are as many identifiers as nodes
