@@ -1,8 +1,8 @@
 -- What the proof of `syncing::drop_spared` needs beside the tactics.
-use Rattle.std.proofs.Common.{ℕ, ◌<◌, ap, filter, length, subst, sym, ◌∙◌}
+use Rattle.std.proofs.Common.{◌<◌, ap, filter, length, subst, sym, ◌∙◌}
 use Rattle.std.specs.Prelude.{not}
 use Rattle.annex_base.specs.Lists.{Each}
-use Rattle.driver_model.specs.Syncs.{carries_out, drops_spared, is_transfer, plan_at}
+use Rattle.driver_model.specs.Syncs.{drops_spared, is_transfer}
 use Rattle.fleet_entries.specs.Stored.{StoreView, store_view}
 use Rattle.fleet_entries.specs.Fleets.{FleetView}
 use Rattle.fleet_entries.specs.AtDriver.{IsDriven}

@@ -1,8 +1,7 @@
 -- What the proof of `syncing::transfer` needs beside the tactics.
-use Rattle.std.proofs.Common.{ℕ, ◌<◌, ap, filter, length, subst, sym, ◌∙◌}
-use Rattle.std.specs.Prelude.{not}
+use Rattle.std.proofs.Common.{◌<◌, ap, filter, length, subst, sym, ◌∙◌}
 use Rattle.annex_base.specs.Lists.{Each}
-use Rattle.driver_model.specs.Syncs.{carries_out, is_transfer, plan_at, transfers}
+use Rattle.driver_model.specs.Syncs.{is_transfer, transfers}
 use Rattle.fleet_entries.specs.Stored.{StoreView, store_view}
 use Rattle.fleet_entries.specs.Fleets.{FleetView}
 use Rattle.fleet_entries.specs.AtDriver.{IsDriven}
