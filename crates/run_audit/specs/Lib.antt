@@ -1,0 +1,4 @@
+-- The definitions of this crate.
+pub mod Records
+pub mod Orders
+pub mod Audited
