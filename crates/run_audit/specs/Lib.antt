@@ -1,4 +1,5 @@
 -- The definitions of this crate.
 pub mod Records
 pub mod Orders
+pub mod Changes
 pub mod Audited
