@@ -2,4 +2,5 @@
 pub mod Records
 pub mod Orders
 pub mod Changes
+pub mod Sending
 pub mod Audited
