@@ -1,5 +1,5 @@
 -- How the record of a key changes; for private contracts (own).
-use Rattle.std.specs.Prelude.{◌≡◌, ℕ, ◌<◌, ◌≤◌, ◌+◌, Bool, true, false, ◌||◌, ◌==◌, if◌then◌else◌, List, [], length, Option, Some, None, bytes_eq}
+use Rattle.std.specs.Prelude.{◌≡◌, ◌≢◌, ℕ, ◌<◌, ◌≤◌, ◌+◌, Bool, true, false, ◌||◌, ◌==◌, if◌then◌else◌, List, [], length, Option, Some, None, bytes_eq}
 use Rattle.std.specs.List.{list_any}
 use Rattle.std.specs.Map.{lookup}
 use Rattle.annex_base.specs.Lists.{Each}
@@ -86,3 +86,11 @@ IsGainOf repo was now = IsHeldSo repo true None was now
 
 abbrev pub IsLossOf : ℕ → Option Proof → Option KeyRecord → Option KeyRecord → Type 0
 IsLossOf repo proof was now = IsHeldSo repo false proof was now
+
+abbrev pub HasRemovals : Option KeyRecord → Type 0
+HasRemovals x = (audit_in x).removals ≢ 0
+
+-- there is a removal, a least count and a least need
+pub record IsWhole (a : KeyAudit) : Type 0 where
+  pub least : (n : ℕ) × (a.least ≡ Some n)
+  pub need : (m : ℕ) × (a.need ≡ Some m)

@@ -3,4 +3,5 @@ pub mod Records
 pub mod Orders
 pub mod Changes
 pub mod Sending
+pub mod Telling
 pub mod Audited

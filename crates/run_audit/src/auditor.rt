@@ -1,15 +1,13 @@
 //! The auditor of a run.
-ghost use Rattle.std.specs.Prelude.{◌≡◌, ◌<◌, ◌+◌, ◌^◌, ℕ, List, None, Some, bytes_eq, length, map, option_copied, IfErr, IfOk, OnErr, OnOk};
-ghost use Rattle.annex_base.specs.ByteOrder.{IsInOrder};
-ghost use Rattle.annex_base.specs.Lists.{Each, Member};
+ghost use Rattle.std.specs.Prelude.{◌≡◌, ◌<◌, ◌+◌, ◌^◌, Some, length, IfErr, IfOk, OnErr, OnOk};
+ghost use Rattle.annex_base.specs.Lists.{Each};
 ghost use Rattle.run_data.specs.Repos.{IsSetUp};
 ghost use Rattle.run_data.specs.declared.run.Run.{Run};
 ghost use Rattle.step_rules.specs.Runs.{start_of, with_entry};
-ghost use Rattle.step_rules.specs.States.{IsAfter, IsCarried, TellsOf, taken_by};
+ghost use Rattle.step_rules.specs.States.{TellsOf, taken_by};
 ghost use Rattle.step_rules.specs.Trees.{AreInOrder};
 ghost use Rattle.run_audit.specs.Audited.{AreKeysOf, IsAuditing, IsAuditorOf};
-ghost use Rattle.run_audit.specs.Changes.{HasRemoval, record_at};
-ghost use Rattle.run_audit.specs.Telling.{IsOrderBy, IsProofBy, TellsProof};
+ghost use Rattle.run_audit.specs.Telling.{IsOrderBy, IsOrderedBy, IsProofBy, TellsProof, is_from};
 
 use crate::evidence::proof_of_job;
 use crate::key_audit::KeyAudit;
@@ -17,7 +15,7 @@ use crate::orders::{Ordered, Orders};
 use crate::records::Records;
 use annex_base::NoMemory;
 use annex_key::Key;
-use run_data::{By, Entry, EntryKind, Proof, Run, RepoView};
+use run_data::{By, Entry, EntryKind, Proof, RepoView, Run};
 use std::alloc::Global;
 use step_judging::audits_tell;
 use step_rules::{RunState, Wanted};

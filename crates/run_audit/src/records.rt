@@ -1,11 +1,14 @@
 //! What is kept of the keys of a run.
-ghost use Rattle.std.specs.Prelude.{◌≡◌, ◌<◌, ◌+◌, ◌^◌, ◌∷◌, ℕ, List, None, Some, false, length, bytes_eq, option_copied, OnOk};
+ghost use Rattle.std.specs.Prelude.{◌≡◌, ◌<◌, ◌+◌, ◌^◌, ◌∷◌, ℕ, List, None, Some, false, length, bytes_eq, option_copied, IfOk, OnOk};
+ghost use Rattle.annex_base.specs.ByteOrder.{IsInOrder};
+ghost use Rattle.annex_base.specs.Lists.{Member};
 ghost use Rattle.run_data.specs.declared.entry.Entry.{Entry as AnEntry};
 ghost use Rattle.run_data.specs.declared.run.RepoView.{RepoView};
 ghost use Rattle.run_model.specs.Safety.{removal};
-ghost use Rattle.run_audit.specs.Changes.{HasRoomFor, HasRoomIn, IsGainOf, IsLossOf, StaysRecord, changed_key, proof_for, record_at, trusted_in};
-ghost use Rattle.run_audit.specs.Records.{AreProofOf, IsRecordOf};
+ghost use Rattle.run_audit.specs.Changes.{HasRemovals, HasRoomFor, HasRoomIn, IsGainOf, IsLossOf, IsWhole, StaysRecord, changed_key, proof_for, record_at, trusted_in};
+ghost use Rattle.run_audit.specs.Records.{AreProofOf, IsRecordOf, audit_in};
 
+use crate::key_audit::KeyAudit;
 use crate::record::KeyRecord;
 use annex_base::NoMemory;
 use annex_key::Key;
@@ -119,6 +122,38 @@ impl Records {
                 record.remove(proof);
             }
             record.count();
+        }
+    }
+
+    /// The keys with a removal, in byte order of their texts. It goes once over all keys.
+    pub(crate) fn removed(&self, alloc: Global) -> Result<Vec<Key>, NoMemory>
+        ensures order { IfOk result (λ keys. IsInOrder keys.items) }
+        ensures each { IfOk result (λ keys. (key : List ℕ) → Member key keys.items → HasRemovals (record_at self.now key)) }
+        ensures all { IfOk result (λ keys. (key : List ℕ) → HasRemovals (record_at self.now key) → Member key keys.items) }
+    {
+        let mut names = Vec::new(alloc);
+        for (key, record) in self.kept.iter() {
+            if record.removals > 0 {
+                names.push(key.copy()?)?;
+            }
+        }
+        names.sort_unstable();
+        Ok(names)
+    }
+
+    /// What the audit says of a key with a removal.
+    pub(crate) fn audit(&self, key: Key) -> KeyAudit
+        requires { IsWhole (audit_in (record_at self.now key)) }
+        ensures { (result.key ≡ key) × (audit_in (record_at self.now key) ≡ record { removals = result.removals; least = Some result.least; need = Some result.mincopies }) }
+    {
+        match self.kept.get(&key) {
+            Some(record) => KeyAudit {
+                removals: record.removals,
+                least: record.least.unwrap(),
+                mincopies: record.need.unwrap(),
+                key,
+            },
+            None => unreachable!(),
         }
     }
 }
