@@ -30,7 +30,7 @@ use std::alloc::Global;
 use std::sync::Wait;
 use std::thread::Threads;
 
-const USAGE: &[u8] = b"usage: annex run | threads | storm NUMBER JOBS\n";
+const USAGE: &[u8] = b"usage: annex run | threads | storm NUMBER JOBS | audit\n";
 
 /// Does what the words ask for. With the word `run` it reads a script from the source, runs it, and writes the
 /// report to the sink; any other words are answered by the usage line (own).

@@ -14,7 +14,7 @@ const ALONE_REPORT: &str =
 /// The words, the failing calls of the source and the sink, the status, and how much of the text the sink has taken.
 #[test]
 fn faults(rt: HostRuntime) -> Result<(), Fail> {
-    let usage = "usage: annex run | threads | storm NUMBER JOBS\n";
+    let usage = "usage: annex run | threads | storm NUMBER JOBS | audit\n";
     for (word, failing_read, failing_write, want, text, taken) in [
         ("run", 0, 0, Status::Done, ALONE_REPORT, ALONE_REPORT.len()),
         ("", 0, 0, Status::Usage, usage, usage.len()),
