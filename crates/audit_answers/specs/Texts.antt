@@ -1,16 +1,16 @@
 -- What is written of a journal that is audited (own).
-use Rattle.std.specs.Prelude.{ℕ, ◌+◌, List, [], ◌∷◌, ◌++◌, codes}
+use Rattle.std.specs.Prelude.{ℕ, ◌+◌, List, [], ◌∷◌, ◌++◌, None, codes}
 use Rattle.std.specs.Fmt.{decimal}
 use Rattle.std.specs.List.{flat_map}
 use Rattle.run_data.specs.declared.row.RowView.{RowView}
-use Rattle.run_text.specs.Words.{printed_word}
+use Rattle.run_text.specs.Jobs.{key_text}
 use Rattle.shown_text.specs.Row.{found_text}
 use Rattle.run_audit.specs.declared.key_audit.KeyAudit.{KeyAudit}
 
 -- the line of a key with a removal
 abbrev pub key_line : KeyAudit → List ℕ
 key_line x =
-    codes "key " ++ printed_word x.key ++ codes " removals=" ++ decimal x.removals ++ codes " least=" ++ decimal x.least
+    codes "key " ++ key_text x.key None ++ codes " removals=" ++ decimal x.removals ++ codes " least=" ++ decimal x.least
     ++ codes " mincopies=" ++ decimal x.mincopies ++ codes "\n"
 
 -- how many removals there are of all keys

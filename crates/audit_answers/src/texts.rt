@@ -7,7 +7,7 @@ ghost use Rattle.audit_answers.specs.Texts.{all_removals, audit_text, key_line, 
 use annex_base::{NoMemory, put_number};
 use run_audit::KeyAudit;
 use run_data::RowView;
-use run_text::put_word;
+use run_text::put_key;
 use shown_text::put_found;
 use std::alloc::Global;
 
@@ -23,7 +23,7 @@ fn put_key_line(out: &mut Vec<u8>, key: &KeyAudit) -> Result<(), NoMemory>
     ensures { OnOk result (out.new.items ≡ out.old.items ++ key_line key.now) }
 {
     out.extend_from_slice(b"key ")?;
-    put_word(out, key.key.text())?;
+    put_key(out, &key.key, &None)?;
     put_field(out, " removals=", u64::from(key.removals))?;
     put_field(out, " least=", u64::from(key.least))?;
     put_field(out, " mincopies=", u64::from(key.mincopies))?;
