@@ -3,7 +3,7 @@
 ghost use Rattle.std.specs.Prelude.{◌≡◌, ◌≤◌, ◌<◌, ◌^◌, ℕ, ◌+◌, length, IfOk, OnOk, OnErr};
 ghost use Rattle.std.specs.Io.KnownBytes.{append_known, prepend_known};
 ghost use Rattle.annex_base.specs.Causes.{Rose};
-ghost use Rattle.script_answers.specs.Whole.{IsRead, IsAtEnd, TakesFront, script_limit};
+ghost use Rattle.script_answers.specs.Whole.{IsRead, IsAtEnd, TakesFront};
 
 use annex_base::{Failed, NoMemory, Sink, Source};
 use std::alloc::Global;
