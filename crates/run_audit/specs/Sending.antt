@@ -1,7 +1,8 @@
 -- How the orders on their way go along an entry; for private contracts (own).
 use Rattle.std.specs.Prelude.{◌≡◌, ℕ, ◌-◌, ◌+◌, ◌≤◌, true, ◌&&◌, if◌then◌else◌, List, [], ◌∷◌, ◌++◌, drop, Option, Some, None}
 use Rattle.std.specs.Map.{lookup}
-use Rattle.std.specs.VecDeque.{VecDeque, deque_capacity, deque_len}
+use Rattle.std.specs.VecDeque.{deque_capacity, deque_len}
+use Rattle.std.specs.declared.collections.VecDeque.{VecDeque}
 use Rattle.annex_base.specs.Lists.{Each}
 use Rattle.indexmap.specs.IndexMap.{spare}
 use Rattle.run_data.specs.declared.entry.FrameView.{FrameView}

@@ -6,7 +6,7 @@ ghost use Rattle.indexmap.specs.IndexMap.{spare};
 ghost use Rattle.run_model.specs.Safety.{smaller};
 ghost use Rattle.step_judging.specs.Audits.{with_count};
 ghost use Rattle.run_audit.specs.Records.{audit_in, holder_at, no_holder};
-ghost use Rattle.run_audit.specs.Changes.{HasNoHolders, IsListed, counted, removed};
+ghost use Rattle.run_audit.specs.Changes.{HasNoHolders, IsListed, removed};
 
 use annex_base::NoMemory;
 use indexmap::IndexMap;

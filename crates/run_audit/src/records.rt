@@ -88,7 +88,7 @@ impl Records {
     /// up the key that the entry changes.
     pub(crate) fn note(&mut self, repo: u32, entry: &Entry, proof: Option<&Proof>)
         requires own { entry.now.repo ≡ Some repo }
-        requires room { HasRoomFor entry.now.kind (option_copied proof.entry) self.old }
+        requires room { HasRoomFor entry.now.kind (option_copied proof) self.old }
         ensures { (repos : List RepoView) (past : List AnEntry) (key : List ℕ) → repo < length repos → length repos < 2 ^ 32 → length past + 1 < 2 ^ 32
             → AreProofOf repos (removal repos past key entry.now) (proof_for key entry.now.kind (option_copied proof.entry))
             → IsRecordOf repos past key (record_at self.old key) → IsRecordOf repos (entry.now ∷ past) key (record_at self.new key) }
@@ -112,7 +112,7 @@ impl Records {
     }
 
     fn lose(&mut self, repo: u32, key: &Key, proof: Option<&Proof>)
-        requires room { HasRoomIn (trusted_in (option_copied proof.entry) + 1) (record_at self.old key.now) }
+        requires room { HasRoomIn (trusted_in (option_copied proof) + 1) (record_at self.old key.now) }
         ensures here { IsLossOf repo (option_copied proof.entry) (record_at self.old key.now) (record_at self.new key.now) }
         ensures others { (other : List ℕ) → bytes_eq other key.now ≡ false → record_at self.new other ≡ record_at self.old other }
     {
