@@ -146,32 +146,31 @@ orders_is phases.Orders e = refl
 orders_is ph e = absurd (true≢false (sym e))
 
 orders_not : (ph : Phase) → is_orders ph ≡ false → ph ≡ phases.Orders → ⊥
-orders_not ph no is = true≢false (sym (ap is_orders is) ∙ no)
+orders_not ph other is = true≢false (sym (ap is_orders is) ∙ other)
 
 -- of each repository: it heard one thing more of it, or awaited its answer to an order, or its word is what it was
-drop_rest : (j j' : DropJob) (feed : Feed) (c : ℕ) → HearsOn (tasks.Drops j) (tasks.Drops j') (tolds.Feed feed) → j'.worker.job ≡ j.worker.job
-    → HearsMore (tasks.Drops j) (tasks.Drops j') c ⊎ (AwaitsAnswerOf (tasks.Drops j) c ⊎ (words_of j'.worker c ≡ words_of j.worker c))
+abbrev DropRest : DropJob → DropJob → ℕ → Type 0
+DropRest j j' c = HearsMore (tasks.Drops j) (tasks.Drops j') c ⊎ (AwaitsAnswerOf (tasks.Drops j) c ⊎ (words_of j'.worker c ≡ words_of j.worker c))
+
+drop_rest : (j j' : DropJob) (feed : Feed) (c : ℕ) → HearsOn (tasks.Drops j) (tasks.Drops j') (tolds.Feed feed) → j'.worker.job ≡ j.worker.job → DropRest j j' c
 drop_rest j j' feed c h same = by_target (is_target (side_in j.worker) j.worker.job.peer c) refl
   where
-    abbrev Rest : Type 0
-    Rest = HearsMore (tasks.Drops j) (tasks.Drops j') c ⊎ (AwaitsAnswerOf (tasks.Drops j) c ⊎ (words_of j'.worker c ≡ words_of j.worker c))
-
-    of_target : is_target (side_in j.worker) j.worker.job.peer c ≡ true → (b : Bool) → is_orders j.worker.phase ≡ b → Rest
+    of_target : is_target (side_in j.worker) j.worker.job.peer c ≡ true → (b : Bool) → is_orders j.worker.phase ≡ b → DropRest j j' c
     of_target is true orders = inr (inl (ap (λ (ph : Phase). Some ph) (orders_is j.worker.phase orders), is))
-    of_target is false no = inr (inr (target_words j'.worker j.worker.job c same is ∙ (h.2 (remote_target (side_in j.worker) j.worker.job.peer c is) (orders_not j.worker.phase no) ∙ sym (target_words j.worker j.worker.job c refl is))))
+    of_target is false other = inr (inr (target_words j'.worker j.worker.job c same is ∙ (h.2 (remote_target (side_in j.worker) j.worker.job.peer c is) (orders_not j.worker.phase other) ∙ sym (target_words j.worker j.worker.job c refl is))))
 
-    as_heard : is_target (side_in j.worker) j.worker.job.peer c ≡ false → newest_of j'.worker.heard c ≡ newest_of j.worker.heard c → Rest
+    as_heard : is_target (side_in j.worker) j.worker.job.peer c ≡ false → newest_of j'.worker.heard c ≡ newest_of j.worker.heard c → DropRest j j' c
     as_heard is newest = inr (inr (other_words j'.worker j.worker.job c same is ∙ (ap word_in newest ∙ sym (other_words j.worker j.worker.job c refl is))))
 
-    one_more : is_target (side_in j.worker) j.worker.job.peer c ≡ false → (z : ℕ × Heard) → j'.worker.heard ≡ z ∷ j.worker.heard → (b : Bool) → (z.0 == c) ≡ b → Rest
+    one_more : is_target (side_in j.worker) j.worker.job.peer c ≡ false → (z : ℕ × Heard) → j'.worker.heard ≡ z ∷ j.worker.heard → (b : Bool) → (z.0 == c) ≡ b → DropRest j j' c
     one_more is z more true e = inl (z.1, more ∙ (λ i. (eqb-true z.0 c e i, z.1) ∷ j.worker.heard))
     one_more is z more false e = as_heard is (ap (λ (hs : List (ℕ × Heard)). newest_of hs c) more ∙ newest_later c z j.worker.heard e)
 
-    of_other : is_target (side_in j.worker) j.worker.job.peer c ≡ false → Grows j.worker.heard j'.worker.heard → Rest
+    of_other : is_target (side_in j.worker) j.worker.job.peer c ≡ false → Grows j.worker.heard j'.worker.heard → DropRest j j' c
     of_other is (inl still) = as_heard is (ap (λ (hs : List (ℕ × Heard)). newest_of hs c) still)
     of_other is (inr z) = one_more is z.0 z.1 (z.0.0 == c) refl
 
-    by_target : (b : Bool) → is_target (side_in j.worker) j.worker.job.peer c ≡ b → Rest
+    by_target : (b : Bool) → is_target (side_in j.worker) j.worker.job.peer c ≡ b → DropRest j j' c
     by_target true is = of_target is (is_orders j.worker.phase) refl
     by_target false is = of_other is h.3
 
