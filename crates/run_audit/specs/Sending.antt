@@ -2,6 +2,7 @@
 use Rattle.std.specs.Prelude.{◌≡◌, ℕ, ◌-◌, ◌+◌, ◌≤◌, true, ◌&&◌, if◌then◌else◌, List, [], ◌∷◌, ◌++◌, drop, Option, Some, None}
 use Rattle.std.specs.Map.{lookup}
 use Rattle.std.specs.VecDeque.{deque_capacity, deque_len}
+use Rattle.std.specs.declared.alloc.Global.{Global}
 use Rattle.std.specs.declared.collections.VecDeque.{VecDeque}
 use Rattle.annex_base.specs.Lists.{Each}
 use Rattle.indexmap.specs.IndexMap.{spare}
@@ -37,10 +38,10 @@ kept_sent repo (f ∷ fs) ordered at =
 
 -- ---- room
 
-abbrev pub room_of : VecDeque (Option Ordered) → ℕ
+abbrev pub room_of : VecDeque (Option Ordered) Global → ℕ
 room_of x = deque_capacity x - deque_len x
 
-abbrev pub room_found : Option (VecDeque (Option Ordered)) → ℕ
+abbrev pub room_found : Option (VecDeque (Option Ordered) Global) → ℕ
 room_found None = 0
 room_found (Some x) = room_of x
 
