@@ -48,12 +48,12 @@ fn does(action: &Action) -> bool
         | Action::Set { .. }
         | Action::Merge { .. }
         | Action::Compact { .. }
+        | Action::Sync { .. }
         | Action::Turns { .. }
         | Action::Settle
         | Action::Wait { .. }
         | Action::Fail { .. } => true,
         Action::SetPart { .. }
-        | Action::Sync { .. }
         | Action::Close { .. }
         | Action::Crash { .. } => false,
     }

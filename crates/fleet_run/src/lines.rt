@@ -12,7 +12,7 @@ use driver_script::{added_contents_match, built_lines_are_plain, settings_are_pl
 use fleet_entries::{FleetStop, Running};
 use fleet_keys::{begin, enter, fail_next, place};
 use fleet_logs::{compact, merge, set, write};
-use fleet_syncs::begin_and_settle;
+use fleet_syncs::{begin_and_settle, sync};
 use fleet_turns::{settle, take_turns, wait};
 use object_store::FailingKeeper;
 use script_lang::{Action, Command};
@@ -95,6 +95,7 @@ fn act<K: FailingKeeper>(running: &mut Running<K>, action: &Action) -> Result<()
         Action::Raw { repo, file, line } => write(running, *repo, file, line),
         Action::Merge { repo, other } => merge(running, *repo, *other),
         Action::Compact { repo } => compact(running, *repo),
+        Action::Sync { repo } => sync(running, *repo),
         Action::Begin { repo, job } => begin(running, *repo, job),
         Action::Run { repo, job } => begin_and_settle(running, *repo, job),
         Action::Turns { repo, turns } => take_turns(running, *repo, *turns),
@@ -102,7 +103,6 @@ fn act<K: FailingKeeper>(running: &mut Running<K>, action: &Action) -> Result<()
         Action::Wait { milliseconds } => wait(running, *milliseconds),
         Action::Fail { repo, call } => fail_next(running, *repo, *call),
         Action::SetPart { .. }
-        | Action::Sync { .. }
         | Action::Close { .. }
         | Action::Crash { .. } => unreachable!(),
     }

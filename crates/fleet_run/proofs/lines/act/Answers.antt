@@ -176,6 +176,24 @@ returns-in-Compact g c =
       rest = behind c.args.running.now c.compact.new.running c.compact.ensures.rest;
     }
 
+pub sync-requires-clause-there : goal.sync-requires-clause-there
+sync-requires-clause-there g c = below_more c.in-Sync.repo (length c.requires.may.context.repos) (length c.args.running.now.nodes) (stands_as c.requires.may.context c.args.action.now (actions.Sync c.in-Sync.repo) c.in-Sync.is c.requires.may.stands) c.requires.may.repos
+
+pub sync-requires-clause-driven : goal.sync-requires-clause-driven
+sync-requires-clause-driven g c = c.requires.driven
+
+pub returns-in-Sync : goal.returns-in-Sync
+returns-in-Sync g c =
+    let tells : g.row.K.Denot → StoreView = λ k. store_view (g.K.Keeper.contents k) (g.K.Keeper.parts k) (g.K.Keeper.failing k) (g.K.Keeper.faults k) in
+    let laws : CutLaws = record { cut = c.runs_are_cut_where_histories_are_full.ensures.cut; entries = c.runs_are_cut_where_histories_are_full.ensures.entries; marks = c.runs_are_cut_where_histories_are_full.ensures.marks; tree = c.runs_are_cut_where_histories_are_full.ensures.tree } in
+    record {
+      ok = on_ok c.sync.result _ _ c.sync.ensures.ok (λ goes. as_form tells (commands.Does c.args.action.now) (commands.Does (actions.Sync c.in-Sync.repo)) c.args.running.now c.sync.new.running (ap commands.Does c.in-Sync.is) goes);
+      room = always_ok c.sync.result _ (room_unasked tells c.args.action.now (actions.Sync c.in-Sync.repo) c.args.running.now c.in-Sync.is c.requires.may.built refl);
+      full = λ r e. form_ends tells laws r c.args.action.now (actions.Sync c.in-Sync.repo) c.args.running.now c.sync.new.running c.in-Sync.is refl (c.sync.ensures.full r e) c.sync.ensures.rest;
+      stopped = on_err c.sync.result _ _ c.sync.ensures.stopped (λ stops. stops_as tells (commands.Does c.args.action.now) (commands.Does (actions.Sync c.in-Sync.repo)) c.args.running.now c.sync.new.running (ap commands.Does c.in-Sync.is) stops);
+      rest = behind c.args.running.now c.sync.new.running c.sync.ensures.rest;
+    }
+
 pub begin-requires-clause-there : goal.begin-requires-clause-there
 begin-requires-clause-there g c = below_more c.in-Begin.repo (length c.requires.may.context.repos) (length c.args.running.now.nodes) (stands_as c.requires.may.context c.args.action.now (actions.Begin c.in-Begin.repo c.in-Begin.job) c.in-Begin.is c.requires.may.stands).repo c.requires.may.repos
 
