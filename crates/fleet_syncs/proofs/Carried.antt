@@ -1,7 +1,6 @@
 -- Actions of a plan as jobs, one after the other.
 use Rattle.std.proofs.Common.{◌≡◌, ℕ, zero, suc, ◌+◌, ◌<◌, List, [], ◌∷◌, ◌++◌, get_or, length, take, refl, sym, ap, ◌∙◌, subst, arith}
 use Rattle.std.proofs.lemmas.List.{take_more}
-use Rattle.std.proofs.Math.Seq.{take-length}
 use Rattle.run_data.specs.declared.run.Run.{Run}
 use Rattle.wanted_rules.specs.declared.action.Action.{Action}
 use Rattle.driver_model.specs.Driver.{Driver, DriverInput}
@@ -43,6 +42,6 @@ carries_end tells P r i actions action was mid after later is within at goes end
     (walk_ends tells P (λ g actions d. carries_out g r actions d) (take i actions) (action ∷ []) parts.0 was mid after later is goes ends g d stands)
 
 -- all of them were carried out
-pub all_carried : {K : Type 0} (tells : K → StoreView) (r i : ℕ) (actions : List Action) (was after : FleetView K) → i ≡ length actions → GoesOn tells (λ g d. carries_out g r (take i actions) d) was after
+pub all_carried : {K : Type 0} (tells : K → StoreView) (r i : ℕ) (actions : List Action) (was after : FleetView K) → take i actions ≡ actions → GoesOn tells (λ g d. carries_out g r (take i actions) d) was after
     → GoesOn tells (λ g d. carries_out g r actions d) was after
-all_carried tells r i actions was after all goes g d stands = subst (λ (xs : List Action). IsAtDriver tells g (carries_out g r xs d) after) (ap (λ (n : ℕ). take n actions) all ∙ take-length actions) (goes g d stands)
+all_carried tells r i actions was after all goes g d stands = subst (λ (xs : List Action). IsAtDriver tells g (carries_out g r xs d) after) all (goes g d stands)

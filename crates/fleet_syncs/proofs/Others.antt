@@ -1,8 +1,10 @@
 -- Steps over the repositories but one, in order of number.
-use Rattle.std.proofs.Common.{◌≡◌, ℕ, zero, suc, ◌+◌, ◌<◌, List, [], ◌∷◌, ◌++◌, length, refl, sym, ap, ◌∙◌, subst, arith}
-use Rattle.std.specs.Prelude.{◌==◌, not}
+use Rattle.std.proofs.Common.{◌≡◌, ◌≢◌, ℕ, zero, suc, ◌+◌, ◌<◌, Bool, true, List, [], ◌∷◌, ◌++◌, length, refl, sym, ap, ◌∙◌, subst, arith}
+use Rattle.std.specs.Prelude.{◌==◌, if◌then◌else◌, not}
 use Rattle.std.specs.List.{range_with_len}
+use Rattle.std.proofs.lemmas.Bool.Decides.{nat_tests}
 use Rattle.std.proofs.lemmas.List.Elements.{filter-append}
+use Rattle.annex_base.proofs.Conditions.{eqb_other}
 use Rattle.annex_base.proofs.Numbers.{range_more}
 use Rattle.run_data.specs.declared.run.Run.{Run}
 use Rattle.driver_model.specs.Driver.{Driver, DriverInput}
@@ -52,6 +54,17 @@ others_parted r n m less =
     (parts.0, ap (others_among r) (parts.1 ∙ ap (λ (k : ℕ). range_with_len 0 n ++ k ∷ parts.0) same)
         ∙ (filter-append (λ k. not (k == r)) (range_with_len 0 n) (n ∷ parts.0)
         ∙ ap (λ (ks : List ℕ). others_among r (range_with_len 0 n) ++ ks) (filter-append (λ k. not (k == r)) (n ∷ []) parts.0)))
+
+-- ---- one number
+
+tested : (a b : ℕ) → a ≡ b → (a == b) ≡ true
+tested a b same = grind (arith, nat_tests)
+
+pub none_among : (r n : ℕ) → n ≡ r → others_among r (n ∷ []) ≡ []
+none_among r n same = ap (λ (b : Bool). if not b then n ∷ [] else []) (tested n r same)
+
+pub one_among : (r n : ℕ) → n ≢ r → others_among r (n ∷ []) ≡ n ∷ []
+one_among r n apart = ap (λ (b : Bool). if not b then n ∷ [] else []) (eqb_other n r (λ same. apart (sym same)))
 
 -- ---- one after the other
 

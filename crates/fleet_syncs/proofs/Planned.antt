@@ -1,5 +1,5 @@
 -- The plan of a repository, as a fleet makes it: it is that of each driver that the fleet has come to, and each of its jobs may begin.
-use Rattle.std.proofs.Common.{◌≡◌, ℕ, ◌+◌, ◌<◌, ◌≤◌, ◌^◌, Bool, true, false, List, [], ◌∷◌, ◌++◌, Option, Some, get_or, length, map, filter, refl, sym, ap, ◌∙◌, subst, arith}
+use Rattle.std.proofs.Common.{◌≡◌, ℕ, ◌+◌, ◌<◌, ◌≤◌, ◌^◌, Bool, true, false, List, [], ◌++◌, Some, get_or, length, map, filter, sym, ap, ◌∙◌, subst, arith}
 use Rattle.std.specs.Prelude.{◌==◌, not, slice_get}
 use Rattle.std.specs.List.{range_with_len}
 use Rattle.std.proofs.lemmas.Bool.Decides.{nat_tests}
@@ -19,6 +19,8 @@ use Rattle.run_data.specs.declared.run.RepoView.{RepoView}
 use Rattle.run_data.specs.declared.run.Run.{Run}
 use Rattle.run_model.specs.Logs.{lines_of_file, settings_of}
 use Rattle.run_model.specs.Run.{tree_at}
+use Rattle.run_data.specs.declared.run.TreeMark.{TreeMark}
+use Rattle.run_paths.specs.Paths.{IndexView, with_marks}
 use Rattle.wanted_rules.specs.declared.action.Action.{Action}
 use Rattle.wanted_rules.specs.declared.action.Action.TheVariants.{Get, Put, DropHere, DropFrom}
 use Rattle.wanted_rules.specs.Plan.{lacks, only_if, peers, plan, plan_of, repo_at, spares}
@@ -26,6 +28,7 @@ use Rattle.driver_model.specs.Driver.{Driver, DriverInput}
 use Rattle.driver_model.specs.Syncs.{carries_out, job_for, plan_at}
 use Rattle.fleet_entries.specs.Beginning.{MayBegin}
 use Rattle.fleet_entries.specs.Nodes.{NodeView}
+use Rattle.fleet_entries.specs.Paths.{HasPaths}
 use Rattle.fleet_entries.specs.Stored.{StoreView}
 use Rattle.fleet_entries.specs.Fleets.{FleetView}
 use Rattle.fleet_entries.specs.AtDriver.{GoesOn, IsAtDriver, IsDriven}
@@ -104,7 +107,7 @@ plan_may s tree r repos =
 
 -- ---- the plan that a fleet makes
 
-abbrev ids_of : Run → List (List ℕ)
+abbrev pub ids_of : Run → List (List ℕ)
 ids_of run = map (λ (repo : RepoView). repo.id) run.repos
 
 -- there are as many identifiers as nodes
@@ -123,6 +126,11 @@ pub may_begin_all : {K : Type 0} (tells : K → StoreView) (r : ℕ) (f : FleetV
     → Each (MayCarry (length f.nodes) r) actions
 may_begin_all tells r f s tree ids actions driven are is =
     subst (Each (MayCarry (length f.nodes) r)) (sym is) (subst (λ (n : ℕ). Each (MayCarry n r) (plan s tree r ids)) (ids_count tells f ids driven are) (plan_may s tree r ids))
+
+-- the tree of an index that has taken in all marks of the run
+pub tree_taken : (run : Run) (index followed : IndexView) (marks : List TreeMark) (tree : Entries) → ((marks : List TreeMark) (place : ℕ) → Each (λ mark. mark.place ≤ place) marks → tree_at marks place ≡ with_marks [] marks)
+    → HasPaths run index → marks ≡ run.tree → followed.tree ≡ with_marks [] marks → tree ≡ followed.tree → tree ≡ tree_at run.tree (length run.entries)
+tree_taken run index followed marks tree law has are taken is = is ∙ (taken ∙ (ap (λ (ms : List TreeMark). with_marks [] ms) are ∙ sym (law run.tree (length run.entries) has.places)))
 
 -- it is that of each driver that the fleet has come to
 pub plan_is : {K : Type 0} (tells : K → StoreView) (r : ℕ) (f : FleetView K) (n : NodeView K) (s : Settings) (tree : Entries) (ids : List (List ℕ)) (actions : List Action)

@@ -1,5 +1,5 @@
 //! What a repository is to do, by its branch and the tree as they stand.
-ghost use Rattle.std.specs.Prelude.{◌≡◌, ℕ, ◌<◌, length, map, IfOk};
+ghost use Rattle.std.specs.Prelude.{◌≡◌, ◌<◌, length, map, IfOk};
 ghost use Rattle.annex_base.specs.Lists.{Each};
 ghost use Rattle.driver_model.specs.Driver.{Driver, DriverInput};
 ghost use Rattle.driver_model.specs.Syncs.{job_for, plan_at};

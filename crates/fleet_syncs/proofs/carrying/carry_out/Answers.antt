@@ -1,5 +1,6 @@
 -- What the proof of `carrying::carry_out` needs beside the tactics.
-use Rattle.std.proofs.Common.{rules, ℕ, List, ◌≡◌, ◌<◌, length, refl, subst, sym, take}
+use Rattle.std.proofs.Common.{ℕ, ◌<◌, length, subst, sym, take, arith}
+use Rattle.std.proofs.lemmas.List.{take_all}
 use Rattle.fleet_entries.specs.Stored.{StoreView, store_view}
 use Rattle.driver_model.specs.Syncs.{carries_out}
 use Rattle.fleet_entries.specs.AtDriver.{most_lines}
@@ -39,9 +40,8 @@ loop-action-preserved g c =
 pub returns : goal.returns
 returns g c =
     let tells : g.row.K.Denot → StoreView = λ k. store_view (g.K.Keeper.contents k) (g.K.Keeper.parts k) (g.K.Keeper.failing k) (g.K.Keeper.faults k) in
-    let all : c.loop-action.action-index ≡ length c.args.actions.now = search rules in
     record {
-      ok = all_carried tells c.args.repo c.loop-action.action-index c.args.actions.now c.args.running.now c.loop-action.running all c.loop-action.invariant.goes;
+      ok = all_carried tells c.args.repo c.loop-action.action-index c.args.actions.now c.args.running.now c.loop-action.running (take_all c.loop-action.action-index c.args.actions.now (omega (arith, c.loop-action-test.false))) c.loop-action.invariant.goes;
       full = λ r e. absurd (ok_or_err _ _ e);
       stopped = tt;
       rest = c.loop-action.invariant.rest;
