@@ -1,5 +1,5 @@
 -- What the proof of `knowing::Knowing::asks_far` needs beside the tactics.
-use Rattle.std.proofs.Common.{◌≡◌, ◌==◌, Bool, true, false, if◌then◌else◌, sym, ap, subst, ◌∙◌}
+use Rattle.std.proofs.Common.{◌≡◌, ◌==◌, Bool, false, if◌then◌else◌, sym, ap, subst, ◌∙◌}
 use Rattle.std.specs.Prelude.{IfOk}
 use Rattle.std.specs.Option.{option_copied}
 use Rattle.node_model.specs.DropStep.{asks_lock, asks_target, first_end, target}

@@ -1,5 +1,5 @@
 -- What the proof of `knowing::Knowing::fails_to_hold` needs beside the tactics.
-use Rattle.std.proofs.Common.{Bool, Option, ℕ, sym, ap, ◌∙◌}
+use Rattle.std.proofs.Common.{Bool, sym, ap, ◌∙◌}
 use Rattle.node_model.specs.Calls.{to_hold}
 use Rattle.node_model.specs.Look.{failing_call}
 use Rattle.step_judging.specs.Telling.{failed_call}

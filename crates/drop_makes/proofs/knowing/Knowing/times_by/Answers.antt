@@ -7,7 +7,7 @@ use Rattle.run_data.specs.declared.job.DropRefusal.TheVariants.{Expired}
 use Rattle.run_data.specs.declared.job.Outcome.{Outcome}
 use Rattle.run_data.specs.declared.job.Outcome.TheVariants.{Refused}
 use Rattle.node_model.specs.DropStep.{orders}
-use Rattle.node_model.specs.JobStep.{clock_of, ends, key_of}
+use Rattle.node_model.specs.JobStep.{ends, key_of}
 use Rattle.node_model.specs.Look.{Effect}
 use Rattle.step_judging.specs.Rules.{effect_of}
 use Rattle.step_judging.specs.Same.{same_effect}
