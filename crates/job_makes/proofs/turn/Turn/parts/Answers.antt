@@ -1,5 +1,5 @@
 -- What the proof of `turn::Turn::parts` needs beside the tactics.
-use Rattle.std.proofs.Common.{◌≡◌, ℕ, ◌+◌, ◌-◌, List, length, sym, ap, ◌∙◌, arith}
+use Rattle.std.proofs.Common.{◌≡◌, ℕ, ◌-◌, List, length, sym, ap, ◌∙◌, arith}
 use Rattle.std.specs.Prelude.{flat_map}
 use Rattle.std.specs.List.{range_with_len}
 use Rattle.std.specs.Option.{option_copied}
@@ -8,7 +8,7 @@ use Rattle.node_model.specs.JobStep.{farewells}
 use Rattle.step_judging.specs.Same.{same_frames}
 use Rattle.job_makes.specs.Partings.{parting}
 use Rattle.job_makes.specs.Turns.{turn_in}
-use Rattle.job_makes.proofs.PartingLemmas.{farewells_are, past_first, range_at}
+use Rattle.job_makes.proofs.PartingLemmas.{farewells_are, past_first}
 use Rattle.job_makes.proofs.turn.Turn.parts.Goals as goal
 
 pub loop-peer-init : goal.loop-peer-init
