@@ -315,7 +315,7 @@ module _ (law : KeysAreTexts) (matches : (key content : List ℕ) → is_content
 
   pub row_says : (v : Verb) → Says P context (Forms.row v).1
   row_says verbs.Repo = first_says P _ (λ front. name_then P _ (λ name n. id_then P _ (λ id i. offset_then P _ (λ o le. version_then P _ (λ v known. locks_then P _ (λ l u.
-      ends_says P (Repo name id o v l) (record { first = front; good_name = n.good; new_name = n.new; good_id = i.good; new_id = i.new }, le, known)))))))
+      ends_says P (Repo name id o v l) (record { first = front; good_name = n.good; new_name = n.new; good_id = i.good; new_id = i.new }, le, known.0, known.1)))))))
   row_says verbs.Numcopies = number_says log_kinds.Numcopies (λ n le. (tt, le))
   row_says verbs.Mincopies = number_says log_kinds.Mincopies (λ n le. (tt, le))
   row_says verbs.NumcopiesFor = by_path_says log_kinds.NumcopiesPath (λ n glob le is. (is, le))
