@@ -4,4 +4,3 @@ pub use Rattle.script_answers.specs.Whole
 pub use Rattle.script_answers.specs.Runs
 pub use Rattle.script_answers.specs.Top
 pub mod Doing
-pub mod Answers

@@ -5,3 +5,4 @@ mod Cutting
 mod Marked
 mod Begun
 mod Declared
+mod Steps

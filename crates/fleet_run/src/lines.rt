@@ -5,14 +5,13 @@ ghost use Rattle.script_commands.specs.declared.command.Command.TheVariants as c
 ghost use Rattle.fleet_run.specs.Commands.{CutsAt, HasRoomFor, MayBeDone, MeetsNone, does_and_marks, does_command};
 ghost use Rattle.fleet_entries.specs.AtDriver.{GoesOn, IsDriven, IsDrivenWithin, OnlyAddsBehind, StopsWithin, most_lines};
 
-use crate::two_steps::add;
+use crate::two_steps::{add, begin_and_settle};
 use annex_key::key_texts_have_no_fault;
 use driver_model::runs_are_cut_where_histories_are_full;
 use driver_script::{added_contents_match, built_lines_are_plain, settings_are_plain};
 use fleet_entries::{FleetStop, Running};
 use fleet_keys::{begin, enter, fail_next, place};
 use fleet_logs::{compact, merge, set, write};
-use fleet_syncs::begin_and_settle;
 use fleet_turns::{settle, take_turns, wait};
 use object_store::FailingKeeper;
 use script_lang::{Action, Command};

@@ -11,13 +11,10 @@ const ALONE: &str = "repo a 11111111-1111-4111-8111-111111111111\n\
 const ALONE_REPORT: &str =
     "drop a WORM-s3--abc refused 5 lacking need=1,1 locked=- trusted=- recent=- causes=-\n";
 
-/// A script is no journal.
-const OUTSIDE: &str = "input line 1\n";
-
 /// The words, the failing calls of the source and the sink, the status, and how much of the text the sink has taken.
 #[test]
 fn faults(rt: HostRuntime) -> Result<(), Fail> {
-    let usage = "usage: annex run | threads | storm NUMBER JOBS | audit\n";
+    let usage = "usage: annex run | threads | storm NUMBER JOBS\n";
     for (word, failing_read, failing_write, want, text, taken) in [
         ("run", 0, 0, Status::Done, ALONE_REPORT, ALONE_REPORT.len()),
         ("", 0, 0, Status::Usage, usage, usage.len()),
@@ -27,9 +24,6 @@ fn faults(rt: HostRuntime) -> Result<(), Fail> {
         ("run", 0, 1, Status::WriteFault, ALONE_REPORT, 0),
         ("run", 0, 3, Status::WriteFault, ALONE_REPORT, 10),
         ("", 0, 2, Status::WriteFault, usage, 5),
-        ("audit", 0, 0, Status::Input, OUTSIDE, OUTSIDE.len()),
-        ("audit", 1, 0, Status::ReadFault, OUTSIDE, 0),
-        ("audit", 0, 2, Status::WriteFault, OUTSIDE, 5),
     ] {
         let mut words = Vec::new(rt.alloc());
         if !word.is_empty() {

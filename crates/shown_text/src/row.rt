@@ -29,8 +29,7 @@ pub fn put_row(
     Ok(())
 }
 
-/// Adds what stands behind the key in the line of a row.
-pub fn put_found(out: &mut Vec<u8>, row: &RowView) -> Result<(), AllocError>
+fn put_found(out: &mut Vec<u8>, row: &RowView) -> Result<(), AllocError>
     ensures { OnOk result (out.new.items ≡ out.old.items ++ found_text row.now) }
 {
     if row.present {

@@ -1,13 +1,11 @@
 -- What is answered is the one thing that is due.
-use Rattle.std.proofs.Common.{◌++◌, length, refl}
+use Rattle.std.proofs.Common.{◌++◌}
 use Rattle.run_data.specs.Histories.{most_entries}
 use Rattle.driver_model.specs.Limits.{limited_run}
 use Rattle.driver_script.specs.Inputs.{driver_input_of}
 use Rattle.report_text.specs.Report.{report}
 use Rattle.script_answers.specs.Top.{entries_name, limit_text}
 use Rattle.script_answers.proofs.DueLemmas.{HaveOneReading, due_answered, due_cut, due_report}
-use Rattle.audit_answers.proofs.AuditDue.{audit_answered}
-use Rattle.audit_answers.specs.Texts.{audit_text}
 use Rattle.annex_cli.proofs.annex.Goals as goal
 
 pub returns-clause-due : goal.returns-clause-due
@@ -26,13 +24,3 @@ pub returns-clause-cut : goal.returns-clause-cut
 returns-clause-cut g c = λ bytes script words left short says built cut read write.
     returns-clause-due g c bytes (report script (limited_run (driver_input_of script) script).run ++ limit_text entries_name most_entries) _ words left
     (due_cut c.cut_script_runs_have_a_full_history.ensures bytes script short (record { says = says; built = built }) cut) read write
-
-pub returns-clause-audit_due : goal.returns-clause-audit_due
-returns-clause-audit_due g c = λ bytes text status words left due read write.
-    audit_answered c.one_answer_is_due_for_every_journal.ensures.one bytes text status _ _ _ _ left due c.audit.result c.audit.ensures.answers
-    (λ fault. read (c.audit.ensures.read fault)) (λ fault. write (c.audit.ensures.write fault))
-
-pub returns-clause-audited : goal.returns-clause-audited
-returns-clause-audited g c = λ bytes run keys words left short journal lawful are read write.
-    returns-clause-audit_due g c bytes (audit_text keys (length run.entries)) _ words left
-    (record { short = short; run = run; journal = journal; lawful = lawful; keys = keys; keys_are = are; text_is = refl }) read write

@@ -1,9 +1,0 @@
-//! What the program answers to a journal that is audited: the texts that are due.
-#![tactic(auto)]
-
-mod due;
-mod laws;
-mod texts;
-
-pub use due::{INPUT_LIMIT, audit_due};
-pub use laws::one_answer_is_due_for_every_journal;

@@ -1,5 +1,0 @@
--- The lemmas of this crate.
-mod Walks
-mod Others
-mod Carried
-mod Planned

@@ -1,2 +1,0 @@
--- What contracts of syncs cite: the definitions of this crate.
-pub mod Others
