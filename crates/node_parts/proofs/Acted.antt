@@ -295,7 +295,7 @@ module _ (laws : Laws) (was now : PartsView) (clock : ClockSet) (view : Settings
   module _ (a : Acted) (d : Done) (step : StepsThere was now.jobs clock view time number known c (Some a)) (acted : IsActed was.links now.links a d) (kind : IsOfJob a.job a.kind)
       (k0 k1 : Seen) (tells : k0.contents ≡ Some c) (tells_parts : k0.parts ≡ known) (leaves : LeavesJobs was.links was.jobs now.jobs was.table now.table k0 k1 a) (still : now.sessions ≡ was.sessions) (owns_now : JobsOwn now.jobs now.table)
       (fails : k.fails ≡ failed_in d.kind) (asks : IsPartAsked known was d.kind d.taken k.part k.right) (words : k.words ≡ words_heard was (Some d)) where
-    acts : ActsOf was.links was.jobs was.table now.table k0 k1 a
+    abbrev acts : ActsOf was.links was.jobs was.table now.table k0 k1 a
     acts = leaves.acts
 
     seen : SeesActed known was.links was.jobs k (Some a)
