@@ -15,8 +15,11 @@ end_all-requires c =
     let e = c.all_closed.ensures in
     let jobs = c.args.jobs.now in
     let table = c.all_closed.new.table in
-    jobs_keep jobs c.args.table.now table e.bars (λ job share owns. e.others (by_job job) share (no_jobs c.args.sessions.now job) owns)
-    (fills_of_jobs table c.all_closed.new.self jobs.running (e.filled (fills_at jobs.running) c.requires.filled)) c.requires.acting
+    record {
+      owns =
+          jobs_keep jobs c.args.table.now table e.bars (λ job share owns. e.others (by_job job) share (no_jobs c.args.sessions.now job) owns)
+          (fills_of_jobs table c.all_closed.new.self jobs.running (e.filled (fills_at jobs.running) c.requires.filled)) c.requires.acting;
+    }
 
 pub returns-clause-goes : goal.returns-clause-goes
 returns-clause-goes c =
