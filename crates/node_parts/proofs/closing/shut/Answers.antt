@@ -1,6 +1,6 @@
 -- What the proof of `closing::shut` needs beside the tactics.
 use Rattle.node_ends.specs.Ends.{name_of}
-use Rattle.node_parts.proofs.Closing.{after_server, sessions_closed, shuts_client}
+use Rattle.node_parts.proofs.Closes.{after_server, sessions_closed, shuts_client}
 use Rattle.node_parts.proofs.closing.shut.Goals as goal
 
 pub returns-then-client : goal.returns-then-client

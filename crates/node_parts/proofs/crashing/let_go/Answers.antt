@@ -5,7 +5,7 @@ use Rattle.run_data.specs.declared.entry.By.TheVariants.{Job as by_job}
 use Rattle.content_lock.specs.Rows.{Rows, bar_at, is_filling}
 use Rattle.node_model.specs.Rows.{option_is}
 use Rattle.running_jobs.specs.Running.{fills_at}
-use Rattle.node_parts.proofs.Crashing.{agrees_labels}
+use Rattle.node_parts.proofs.Crashes.{agrees_labels}
 use Rattle.node_parts.proofs.Filling.{fills_of_jobs}
 use Rattle.node_parts.proofs.Sounding.{jobs_keep, no_jobs}
 use Rattle.node_parts.proofs.crashing.let_go.Goals as goal

@@ -3,7 +3,7 @@ use Rattle.std.proofs.Common.{ℕ, [], ◌∷◌, List, sym, ap, subst}
 use Rattle.std.specs.Prelude.{flat_map}
 use Rattle.node_model.specs.Evidence.{but}
 use Rattle.node_parts.specs.Crashing.{SendsCloses, names_with, shut_at}
-use Rattle.node_parts.proofs.Crashing.{but_other, but_own, sends_none}
+use Rattle.node_parts.proofs.Crashes.{but_other, but_own, sends_none}
 use Rattle.node_parts.proofs.crashing.shut_other.Goals as goal
 
 pub returns-then-peer-ne-own-clause-closes : goal.returns-then-peer-ne-own-clause-closes

@@ -1,7 +1,7 @@
 -- One side after the other.
 use Rattle.std.proofs.Common.{true, false}
 use Rattle.node_model.specs.AnyTime.{ends_with}
-use Rattle.node_parts.proofs.Crashing.{sends_then, sides_apart}
+use Rattle.node_parts.proofs.Crashes.{sends_then, sides_apart}
 use Rattle.node_parts.proofs.crashing.shut_peer.Goals as goal
 
 pub shut_side-requires-clause-there : goal.shut_side-requires-clause-there

@@ -1,7 +1,7 @@
 -- One end after the other.
 use Rattle.std.proofs.Common.{[], ◌∷◌, ℕ, refl, arith}
 use Rattle.node_model.specs.Ends.{EndName}
-use Rattle.node_parts.proofs.Crashing.{sends_then, slot_end, slots_apart}
+use Rattle.node_parts.proofs.Crashes.{sends_then, slot_end, slots_apart}
 use Rattle.node_parts.proofs.crashing.shut_side.Goals as goal
 
 pub shut_end-requires-clause-there : goal.shut_end-requires-clause-there

@@ -10,7 +10,7 @@ use Rattle.node_parts.specs.Crashing.{SendsCloses, all_names}
 use Rattle.node_parts.specs.Parts.{AreAllFed, AreParts, PartsView}
 use Rattle.node_parts.specs.Posting.{PostsPieces, stamp_of}
 use Rattle.node_parts.specs.Steps.{Leaves}
-use Rattle.node_parts.proofs.Crashing.{fed_crashed, leaves_crashed, parts_crashed, pieces_crashed, sent_crashed, sound_crashed}
+use Rattle.node_parts.proofs.Crashes.{fed_crashed, leaves_crashed, parts_crashed, pieces_crashed, sent_crashed, sound_crashed}
 use Rattle.node_parts.proofs.parts.Parts.crash.Goals as goal
 
 abbrev was : goal.After-let_go → PartsView
