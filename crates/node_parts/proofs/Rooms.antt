@@ -304,9 +304,9 @@ module _ (links : List EndView) (slot : ℕ) (a : EndName) where
 
 -- where it stood with an open end, and was told of a frame there, that had room
 fed_room : (opened room : Bool) (o : Option Feed) (f : Feed) → Some f ≡ feed_by opened room o → opened ≡ true → room ≡ true
-fed_room true true o f is yes = refl
-fed_room true false o f is yes = absurd (some_none f is)
-fed_room false room o f is yes = absurd (true≢false (sym yes))
+fed_room true true o f is live = refl
+fed_room true false o f is live = absurd (some_none f is)
+fed_room false room o f is live = absurd (true≢false (sym live))
 
 -- the job that acted has room where it has locks, if it goes on
 next_rooms : (p : PlaceView) (was now : List EndView) (t t' : Task) (x : Told) (out : Output) → IsToldTo was t x → HearsOn t t' x → KeepsLocks p t t' out → out.ended ≡ false → slot_of t' ≡ slot_of t → (work_now t').what ≡ (work_now t).what
