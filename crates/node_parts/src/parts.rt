@@ -31,7 +31,7 @@ use crate::serving::{listing, serve_if};
 use annex_base::{Items, NoMemory, RepoId, Text};
 use content_lock::LockTable;
 use link_ring::Links;
-use node_ends::{Ends, carry_ends, ends_begin_closed, ends_go_on, ends_stay_joined};
+use node_ends::{Ends, carry_ends, ends_begin_closed, ends_go_on};
 use node_sessions::{
     Sessions, looks_see_parts, sessions_and_jobs_fill, sessions_entries_are_no_jobs,
     sessions_make_their_own_entries, sessions_of_closed_ends_are_new, sessions_stay,
@@ -244,8 +244,6 @@ impl Parts {
         ensures parts { (s : SetUp) (st : State) → AreParts s st self.old → AreParts s st self.new }
         ensures other_parts { (s : SetUp) (st : State) → AreParts s st other.old → AreParts s st other.new }
     {
-        // A law, for the proof that the other's ends are joined with these.
-        ends_stay_joined();
         let number = self.jobs.number();
         let other_number = other.jobs.number();
         carry_ends(&mut self.ends, number, &mut other.ends, other_number);

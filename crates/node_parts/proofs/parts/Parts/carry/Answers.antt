@@ -3,7 +3,7 @@ use Rattle.std.proofs.Common.{rules, sym, subst}
 use Rattle.node_ends.specs.Joined.{AreJoined}
 use Rattle.node_parts.specs.Parts.{AreParts, PartsView}
 use Rattle.node_parts.proofs.Going.{parts_carried}
-use Rattle.node_parts.proofs.Sounding.{carried_sound, joined_first, joined_second}
+use Rattle.node_parts.proofs.Sounding.{carried_sound, joined_first, joined_other, joined_second}
 use Rattle.node_parts.proofs.parts.Parts.carry.Goals as goal
 
 pub invariant_of-self : goal.invariant_of-self
@@ -32,5 +32,5 @@ returns-clause-other_parts c = λ s st are.
     let i = c.other.inside in
     let was : PartsView = record { table = i.table; links = i.ends; sessions = i.sessions; jobs = i.jobs } in
     let e = c.carry_ends.ensures in
-    let swapped = c.ends_stay_joined.ensures.other c.number-number.result c.number-other_number.result c.self.inside.ends c.other.inside.ends joined in
+    let swapped = joined_other c.number-number.result c.number-other_number.result c.self.inside.ends c.other.inside.ends joined in
     parts_carried s st was c.carry_ends.new.b c.self.inside.ends c.number-other_number.result c.number-number.result e.second swapped e.second_stand (subst (AreParts s st) (sym c.other.view_is) are)
