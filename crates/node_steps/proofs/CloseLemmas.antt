@@ -367,15 +367,15 @@ ends_others setup peer known other = each_end (IsOther setup) peer (λ slot clie
 -- ---- as many places as are open
 
 -- where this many are open, the history lacks places for them, or it doesn't
-pub lacks_so : (n open : ℕ) (links : List EndView) (names ends : List EndName) (b : Bool) → names ≡ ends → open ≡ open_count links names → b ≡ nat_lt most_entries (n + open) → nat_lt most_entries (n + open_count links ends) ≡ b
-lacks_so n open links names ends b same count is =
+pub lacks_so : (n opened : ℕ) (links : List EndView) (names ends : List EndName) (b : Bool) → names ≡ ends → opened ≡ open_count links names → b ≡ nat_lt most_entries (n + opened) → nat_lt most_entries (n + open_count links ends) ≡ b
+lacks_so n opened links names ends b same count is =
     ap (λ (xs : List EndName). nat_lt most_entries (n + open_count links xs)) (sym same) ∙ (ap (λ (m : ℕ). nat_lt most_entries (n + m)) (sym count) ∙ sym is)
 
-pub few_places : (was ready : Past) (open : ℕ) (links : List EndView) (names : List EndName) (b : Bool) → SamePast was ready → open ≡ open_count links names → b ≡ nat_lt most_entries (vec_len was.history + open) → b ≡ false
+pub few_places : (was ready : Past) (opened : ℕ) (links : List EndView) (names : List EndName) (b : Bool) → SamePast was ready → opened ≡ open_count links names → b ≡ nat_lt most_entries (vec_len was.history + opened) → b ≡ false
     → vec_len ready.history + open_count links names ≤ most_entries
-few_places was ready open links names b same count is none =
+few_places was ready opened links names b same count is none =
     let len = same_length was ready same in
-    let few = ltb-false most_entries (vec_len was.history + open) (sym is ∙ none) in
+    let few = ltb-false most_entries (vec_len was.history + opened) (sym is ∙ none) in
     omega (arith, len, few, count)
 
 -- ---- the call

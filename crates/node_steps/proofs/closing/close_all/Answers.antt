@@ -9,8 +9,8 @@ use Rattle.node_steps.proofs.CloseLemmas.{few_places, ids_there, lacks_so}
 use Rattle.node_steps.proofs.MoveLemmas.{same_length}
 use Rattle.node_steps.proofs.closing.close_all.Goals as goal
 
-pub count_open-requires : goal.count_open-requires
-count_open-requires c = record {
+pub count_open-open-requires : goal.count_open-open-requires
+count_open-open-requires c = record {
   there = ids_there c.ends_are_there.ensures.there c.args.parts.now.links (length c.args.parts.now.jobs.place.ids) c.args.peer c.ends_to-ids.result c.ends_to-ids.ensures c.table.ensures.sound.count c.requires.known;
 }
 
