@@ -1,8 +1,5 @@
 -- What the proof of `closing::close` needs beside the tactics.
-use Rattle.std.proofs.Common.{ℕ, ◌<◌, ◌+◌, All, Option, Some, None, inl, inr, refl, sym, ap, subst}
-use Rattle.std.specs.Prelude.{vec_len}
-use Rattle.object_store.specs.Stores.{Contents}
-use Rattle.node_parts.specs.declared.done.Done.{Done}
+use Rattle.std.proofs.Common.{ℕ, ◌<◌, All, inl, inr, refl, sym, ap, subst}
 use Rattle.node_parts.specs.declared.moment.Moment.{Moment}
 use Rattle.node_parts.specs.Posting.{PostsPieces, stamp_of}
 use Rattle.node_parts.specs.Steps.{Leaves, LeavesSo}

@@ -1,5 +1,5 @@
 -- What the proof of `closing::close_each` needs beside the tactics.
-use Rattle.std.proofs.Common.{◌≡◌, ◌<◌, ◌+◌, List, true, drop, is_some, map, refl, subst, ap, arith}
+use Rattle.std.proofs.Common.{◌≡◌, ◌+◌, List, true, drop, is_some, map, subst, ap, arith}
 use Rattle.std.specs.Prelude.{vec_len}
 use Rattle.annex_base.specs.Lists.{Each}
 use Rattle.node_ends.specs.declared.name.EndId.{EndId}

@@ -5,7 +5,7 @@ use Rattle.node_past.proofs.OwedLemmas.{owed_in}
 use Rattle.owed_lines.specs.declared.debt.Debt.{Debt}
 use Rattle.node_ledger.proofs.WriteLemmas.{ledger_of}
 use Rattle.node_steps.specs.Crashing.{Crashes}
-use Rattle.node_steps.specs.Kept.{IsKept, Stands}
+use Rattle.node_steps.specs.Kept.{IsKept}
 use Rattle.node_steps.specs.Nodes.{NodeView, beside, told_of}
 use Rattle.node_steps.proofs.CrashLemmas.{crashes_one, kept_fallen, kept_ready}
 use Rattle.node_steps.proofs.KeptLemmas.{stands_in}
