@@ -196,7 +196,7 @@ plain_setting x kinds.MincopiesPath topic value is = ((λ same. cc), plain_patte
 
 one_action : KeyLaws → (g : DriverInput) (x : Context) (a : Action) → length x.repos ≤ length g.repos → standing.IsValidAction x a → is_built_action a ≡ true → IsOneAction g a
 one_action v g x (actions.Have r key content) n s b = (known _ _ r n s.0, (s.1, fits_is (size_part key) (length content) s.2.size))
-one_action v g x (actions.SetPart r key content) n s b = absurd (cc)
+one_action v g x (actions.SetPart r key content) n s b = known _ _ r n s.0
 one_action v g x (actions.Add r path key content) n s b =
     let made = made_is v path key content s.2 s.3 in
     (known _ _ r n s.0, (made.0, fits_is (size_part key) (length content) made.1.size))

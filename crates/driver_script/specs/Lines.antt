@@ -51,7 +51,7 @@ is_built_job kind peer = is_some peer
 
 abbrev pub is_built_action : Action → Bool
 is_built_action (actions.Have r key content) = true
-is_built_action (actions.SetPart r key content) = false
+is_built_action (actions.SetPart r key content) = true
 is_built_action (actions.Add r path key content) = true
 is_built_action (actions.File path key) = true
 is_built_action (actions.Set r kind topic value) = true

@@ -27,7 +27,7 @@ use Rattle.node_model.specs.Step.{step}
 use Rattle.driver_model.specs.Driver.{Driver, DriverInput, adds, drops_part, fails_at, newest_count, notes, puts_part, set_up_of, state_at, without_old_flights}
 use Rattle.driver_model.specs.Driving.{turns}
 use Rattle.driver_model.specs.Rounds.{AfterRounds, after_round, goes_round, is_settled, most_rounds, numbers, round, rounds, settles, turns_of}
-use Rattle.driver_model.specs.ScriptSteps.{begins, compacts, compacts_files, faults, fills_up, gains, has, is_busy, is_nil, logs, logs_some, merges, merges_files, news, sets, setting_line, shrinks, unknown_lines, unless_fails, waits, writes}
+use Rattle.driver_model.specs.ScriptSteps.{begins, begins_part, compacts, compacts_files, faults, fills_up, gains, has, is_busy, is_nil, logs, logs_some, merges, merges_files, news, sets, sets_part, setting_line, shrinks, unknown_lines, unless_fails, waits, writes}
 use Rattle.driver_model.specs.Turning.{asked_key, bytes_taken, is_failure, is_valid, look_for, looks, makes, plain_look, store_after, takes_frame, takes_into, turn}
 use Rattle.fleet_model.specs.Settling.{goes_rounds}
 use Rattle.fleet_entries.specs.AtDriver.{IsFew, is_wait}
@@ -156,6 +156,19 @@ module _ (most : ℕ) where
       go : (b : Bool) → Few (if b then d else unless_fails r calls.DropPart d placed)
       go true = few
       go false = calling_few r calls.DropPart d placed few (fills_few g r key bytes (drops_part r key d) few)
+
+  pub part_few : (g : DriverInput) (r : ℕ) (key bytes : List ℕ) (d : Driver) → Few d → Few (sets_part g r key bytes d)
+  part_few g r key bytes d few = calling_few r calls.Has d (if is_busy g d r key then d else unless_fails r calls.DropPart d begun) few (go (is_busy g d r key))
+    where
+      dropped : Driver
+      dropped = drops_part r key d
+
+      begun : Driver
+      begun = begins_part r key bytes dropped
+
+      go : (b : Bool) → Few (if b then d else unless_fails r calls.DropPart d begun)
+      go true = few
+      go false = calling_few r calls.DropPart d begun few (calling_few r calls.Append dropped (puts_part r key bytes dropped) few few)
 
   -- ---- jobs and turns
 

@@ -39,9 +39,10 @@ lacks_none g (commands.Does (actions.Close r other)) d plain = absurd (cc)
 lacks_none g (commands.Par lines) d plain = absurd (cc)
 lacks_none g command d plain = refl
 
--- a content is placed
+-- a content or a part is placed
 abbrev pub is_have : Action → Bool
 is_have (actions.Have r key content) = true
+is_have (actions.SetPart r key content) = true
 is_have (actions.Add r path key content) = true
 is_have action = false
 
@@ -69,10 +70,10 @@ room_quiet tells command was (inr h) g d stands = ap (λ (x : Command). is_full 
 is_now_full : (n k : ℕ) → k ≡ n → nat_le n k ≡ true
 is_now_full n k e = grind (arith, nat_tests)
 
--- the repository has room for the content
-pub room_had : {K : Type 0} (tells : K → StoreView) (r : ℕ) (key content : List ℕ) (action : Action) (was : FleetView K) → action ≡ actions.Have r key content → HasRoom tells r was → HasRoomFor tells (commands.Does action) was
-room_had tells r key content action was is room g d stands =
-    ap (λ (a : Action). is_full d.past (asks_first (commands.Does a))) is ∙ lt-leb most_entries (count_of d.past r) (room g d stands)
+-- the repository that is asked first has room
+pub room_asked : {K : Type 0} (tells : K → StoreView) (r : ℕ) (action form : Action) (was : FleetView K) → action ≡ form → asks_first (commands.Does form) ≡ Some r → HasRoom tells r was → HasRoomFor tells (commands.Does action) was
+room_asked tells r action form was is asks room g d stands =
+    ap (λ (a : Action). is_full d.past (asks_first (commands.Does a))) is ∙ (ap (is_full d.past) asks ∙ lt-leb most_entries (count_of d.past r) (room g d stands))
 
 pub meets_none : {K : Type 0} (tells : K → StoreView) (command : Command) (was after : FleetView K) → ArePlain → is_built command ≡ true
     → ((g : DriverInput) (past : List Entry) → ((q : ℕ) → q < length g.repos → count_of past q ≤ most_entries) → is_too_long g past ≡ false)
@@ -119,27 +120,32 @@ cuts {K} tells laws r command none was after ends rest g d stands = record {
     stops : StopsAtFull g r (does g command d) after.run
     stops = ends g d stands
 
--- the content that is placed
-abbrev placing : ℕ → List ℕ → List ℕ → Command
-placing r key content = commands.Does (actions.Have r key content)
-
 -- it asks a repository that has made all its entries
-cuts_unasked : {K : Type 0} (tells : K → StoreView) → CutLaws → (r : ℕ) (key content : List ℕ) (was after : FleetView K) → WaitsForRoom tells r (does_command (placing r key content)) was after
-    → OnlyAddsEntries was after → CutsAt tells r (placing r key content) was after
-cuts_unasked {K} tells laws r key content was after waits rest g d stands = record {
-  meets = or_left (is_full d.past (Some r)) (is_too_long g (does g (placing r key content) d).past || lacks_at g (placing r key content) d)
-      (is_now_full most_entries (count_of d.past r) (waits.full g d stands));
-  run_is = cut_run tells laws (placing r key content) refl was after g d stands rest
+cuts_unasked : {K : Type 0} (tells : K → StoreView) → CutLaws → (r : ℕ) (command : Command) → names_path command ≡ false → asks_first command ≡ Some r → (was after : FleetView K)
+    → WaitsForRoom tells r (does_command command) was after → OnlyAddsEntries was after → CutsAt tells r command was after
+cuts_unasked {K} tells laws r command none asks was after waits rest g d stands = record {
+  meets = or_left (is_full d.past (asks_first command)) (is_too_long g (does g command d).past || lacks_at g command d)
+      (ap (is_full d.past) asks ∙ is_now_full most_entries (count_of d.past r) (waits.full g d stands));
+  run_is = cut_run tells laws command none was after g d stands rest
       (ap reverse (waits.past g d stands) ∙ sym (ap (λ (run : Run). run.entries) (waits.run ∙ stands.come.run)));
   lawful = subst IsRun (sym (waits.run ∙ stands.come.run)) stands.come.sound.run;
   full = subst (λ (past : List Entry). count_of past r ≡ most_entries) (sym (ap (λ (run : Run). reverse run.entries) waits.run ∙ past_of tells g d was stands.come)) (waits.full g d stands);
 }
 
+-- likewise, where that is the one that was refused
+pub unasked_cuts : {K : Type 0} (tells : K → StoreView) → CutLaws → (r q : ℕ) (command : Command) → names_path command ≡ false → asks_first command ≡ Some r → (was after : FleetView K)
+    → (q ≡ r) × WaitsForRoom tells r (does_command command) was after → OnlyAddsEntries was after → CutsAt tells q command was after
+unasked_cuts tells laws r q command none asks was after waits rest = subst (λ (k : ℕ). CutsAt tells k command was after) (sym waits.0) (cuts_unasked tells laws r command none asks was after waits.1 rest)
+
+-- the content that is placed
+abbrev placing : ℕ → List ℕ → List ℕ → Command
+placing r key content = commands.Does (actions.Have r key content)
+
 pub have_cuts : {K : Type 0} (tells : K → StoreView) → CutLaws → (r q : ℕ) (key content : List ℕ) (was after : FleetView K)
     → EndsAtFull tells q (does_command (placing r key content)) was after ⊎ ((q ≡ r) × WaitsForRoom tells r (does_command (placing r key content)) was after) → OnlyAddsEntries was after
     → CutsAt tells q (placing r key content) was after
 have_cuts tells laws r q key content was after (inl ends) rest = cuts tells laws q (placing r key content) refl was after ends rest
-have_cuts tells laws r q key content was after (inr waits) rest = subst (λ (k : ℕ). CutsAt tells k (placing r key content) was after) (sym waits.0) (cuts_unasked tells laws r key content was after waits.1 rest)
+have_cuts tells laws r q key content was after (inr waits) rest = unasked_cuts tells laws r q (placing r key content) refl refl was after waits rest
 
 -- ---- a path is named, and then a content is placed
 

@@ -10,7 +10,7 @@ use annex_key::key_texts_have_no_fault;
 use driver_model::runs_are_cut_where_histories_are_full;
 use driver_script::{added_contents_match, built_lines_are_plain, settings_are_plain};
 use fleet_entries::{FleetStop, Running};
-use fleet_keys::{begin, enter, fail_next, place};
+use fleet_keys::{begin, enter, fail_next, place, place_part};
 use fleet_logs::{compact, merge, set, write};
 use fleet_turns::{settle, take_turns, wait};
 use object_store::FailingKeeper;
@@ -78,6 +78,7 @@ fn act<K: FailingKeeper>(running: &mut Running<K>, action: &Action) -> Result<()
     runs_are_cut_where_histories_are_full();
     match action {
         Action::Have { repo, key, content } => place(running, *repo, key, content),
+        Action::SetPart { repo, key, content } => place_part(running, *repo, key, content),
         Action::Add {
             repo,
             path,
@@ -100,9 +101,6 @@ fn act<K: FailingKeeper>(running: &mut Running<K>, action: &Action) -> Result<()
         Action::Settle => settle(running),
         Action::Wait { milliseconds } => wait(running, *milliseconds),
         Action::Fail { repo, call } => fail_next(running, *repo, *call),
-        Action::SetPart { .. }
-        | Action::Sync { .. }
-        | Action::Close { .. }
-        | Action::Crash { .. } => unreachable!(),
+        Action::Sync { .. } | Action::Close { .. } | Action::Crash { .. } => unreachable!(),
     }
 }
