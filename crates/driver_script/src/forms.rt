@@ -53,9 +53,7 @@ fn does(action: &Action) -> bool
         | Action::Settle
         | Action::Wait { .. }
         | Action::Fail { .. } => true,
-        Action::Sync { .. }
-        | Action::Close { .. }
-        | Action::Crash { .. } => false,
+        Action::Sync { .. } | Action::Close { .. } | Action::Crash { .. } => false,
     }
 }
 
