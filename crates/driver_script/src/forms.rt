@@ -50,12 +50,10 @@ fn does(action: &Action) -> bool
         | Action::Compact { .. }
         | Action::Turns { .. }
         | Action::Settle
+        | Action::Close { .. }
         | Action::Wait { .. }
         | Action::Fail { .. } => true,
-        Action::SetPart { .. }
-        | Action::Sync { .. }
-        | Action::Close { .. }
-        | Action::Crash { .. } => false,
+        Action::SetPart { .. } | Action::Sync { .. } | Action::Crash { .. } => false,
     }
 }
 

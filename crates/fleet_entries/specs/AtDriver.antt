@@ -8,7 +8,7 @@ use Rattle.run_model.specs.Run.{IsRun}
 use Rattle.fleet_model.specs.Stored.{StoreView}
 use Rattle.driver_model.specs.Driver.{Driver, DriverInput, newest_count}
 use Rattle.driver_model.specs.Limits.{StopsAtFull, count_of, within_limit}
-use Rattle.driver_model.specs.ScriptSteps.{lacks_places}
+use Rattle.driver_model.specs.ScriptSteps.{closes, lacks_places}
 use Rattle.fleet_model.specs.Fleets.{FleetView, HasCome}
 use Rattle.fleet_model.specs.Matches.{DecidesMatches}
 
@@ -96,10 +96,11 @@ HasRoom tells r f = (g : DriverInput) (d : Driver) → IsAtDriver tells g d f �
 
 -- ---- where ends are to be closed
 
--- Wherever the driver was, r had more ends at the other open than there were places left in its history, so that it closed none; and the
--- run is as it was.
+-- Wherever the driver was, r had more ends at the other open than there were places left in its history, so that this step of the driver
+-- adds none; and the run is as it was.
 pub record ClosesNone {K : Type 0} (tells : K → StoreView) (r other : ℕ) (was after : FleetView K) : Type 0 where
   pub lacks : (g : DriverInput) (d : Driver) → IsAtDriver tells g d was → lacks_places d.past r other ≡ true
+  pub past : (g : DriverInput) (d : Driver) → IsAtDriver tells g d was → within_limit g (closes g r other d).past ≡ d.past
   pub run : after.run ≡ was.run
 
 -- wherever the driver was, r had places left for as many entries as it had ends at the other open

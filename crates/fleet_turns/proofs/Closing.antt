@@ -1,13 +1,14 @@
 -- A node of a fleet closes ends, and frames are carried after it: the driver's close follows.
 use Rattle.std.proofs.Common.{◌≡◌, ◌≢◌, ◌⊎◌, inl, inr, ℕ, ◌+◌, ◌<◌, ◌≤◌, ◌^◌, Bool, true, false, List, [], ◌∷◌, Option, Some, Result, Ok, Err, length, refl, sym, ap, ◌∙◌, subst, arith}
-use Rattle.std.specs.Prelude.{IfErr, IsErrOf, OnErr, OnOk, slice_get}
-use Rattle.std.proofs.lemmas.List.{length-append, length-map}
-use Rattle.std.proofs.lemmas.Option.{same_Some}
+use Rattle.std.specs.Prelude.{IfErr, IsErrOf, OnErr, OnOk, if◌then◌else◌, slice_get}
+use Rattle.std.proofs.lemmas.List.{length-append}
 use Rattle.annex_base.proofs.Lists.{slice_get-within}
 use Rattle.object_store.specs.Stores.{Contents}
-use Rattle.run_data.specs.declared.run.Run.{Run}
+use Rattle.run_data.specs.Histories.{most_entries}
+use Rattle.run_data.specs.declared.entry.Entry.{Entry}
 use Rattle.node_model.specs.Ends.{EndName}
 use Rattle.driver_model.specs.Driver.{Driver, DriverInput, set_up_of}
+use Rattle.driver_model.specs.Limits.{count_of, is_too_long, within_limit}
 use Rattle.driver_model.specs.Scripts.{IsKnown, IsOther}
 use Rattle.driver_model.specs.ScriptSteps as steps
 use Rattle.driver_model.specs.ScriptSteps.{closes}
@@ -20,14 +21,14 @@ use Rattle.fleet_entries.specs.Parts.{AreParts}
 use Rattle.fleet_entries.specs.Stored.{StoreView}
 use Rattle.fleet_entries.specs.declared.NodeRefused.{NodeRefused}
 use Rattle.fleet_entries.specs.declared.NodeRefused.TheVariants as refusals
-use Rattle.fleet_entries.specs.AtDriver.{ClosesNone, GoesOn, HasPlaces, IsAtDriver}
+use Rattle.fleet_entries.specs.AtDriver.{ClosesNone, GoesOn, HasPlaces}
 use Rattle.fleet_entries.specs.Fleets.{FleetView, HasCome}
 use Rattle.fleet_entries.specs.Steps.{OneTurns, with_newest}
-use Rattle.fleet_entries.specs.Telling.{Raises}
+use Rattle.fleet_entries.specs.Telling.{AreFew, Raises}
 use Rattle.fleet_entries.specs.Turns.{StandsWell}
 use Rattle.fleet_entries.proofs.Called.{raised_is}
 use Rattle.fleet_entries.proofs.Ended.{Answer, IsEnded}
-use Rattle.fleet_entries.proofs.Full.{run_stays}
+use Rattle.fleet_entries.proofs.Full.{counted, each_at, run_stays}
 use Rattle.fleet_turns.proofs.Carrying.{IsCarriedOn, one_carried}
 use Rattle.fleet_turns.proofs.Turning.{stands_well}
 
@@ -43,6 +44,7 @@ pub record IsClosed {K : Type 0} (tells : K → StoreView) (r other had : ℕ) (
   pub call : IsCarriedOn tells r had was up turned carried after
   pub holds : AtNode r up.nodes turned (ClosesEnds tells other done)
   pub joined : AreNodes was.nodes
+  pub few : AreFew was.nodes
 
 -- the laws of a close
 pub record ClosingLaws {K : Type 0} (tells : K → StoreView) : Type 0 where
@@ -52,6 +54,9 @@ pub record ClosingLaws {K : Type 0} (tells : K → StoreView) : Type 0 where
       → m.time ≤ 1000000000000 → m.count < 2 ^ 62 → StaysSound g d (closes g r other d) → HasCome tells g (closes g r other d) after
   pub places : (g : DriverInput) (d : Driver) (r other : ℕ) (n : NodeView K) (was : FleetView K) → HasCome tells g d was → slice_get was.nodes r ≡ Some n
       → AreParts (set_up_of g d r) (state_of (set_up_of g d r) n.history) n.parts → IsOther g r other → steps.lacks_places d.past r other ≡ lacks_places n other
+  pub none : (g : DriverInput) (d : Driver) (r other : ℕ) (n : NodeView K) (was : FleetView K) → HasCome tells g d was → slice_get was.nodes r ≡ Some n
+      → AreParts (set_up_of g d r) (state_of (set_up_of g d r) n.history) n.parts → IsOther g r other → lacks_places n other ≡ true → (steps.lacks_places d.past r other ≡ true) × (closes g r other d ≡ d)
+  pub few : (g : DriverInput) (past : List Entry) → ((q : ℕ) → q < length g.repos → count_of past q ≤ most_entries) → is_too_long g past ≡ false
 
 -- ---- the node may be called
 
@@ -126,6 +131,11 @@ closed_within {K} tells r other had done was up turned carried raises there ok e
     (close_grows tells other done second.0 third.0 (ok second.0 third.0 second.1 third.1) (err second.0 third.0 second.1 third.1)))
 
 -- ---- the driver's close
+
+-- a past that isn't too long is within the limit
+whole_past : (g : DriverInput) (past : List Entry) → is_too_long g past ≡ false → within_limit g past ≡ past
+whole_past g [] short = refl
+whole_past g (e ∷ past) short = ap (λ (b : Bool). if b then within_limit g past else e ∷ past) short
 
 module _ {K : Type 0} (tells : K → StoreView) (laws : ClosingLaws tells) (r other had : ℕ) (done : Answer) (was up : FleetView K) (turned carried : List (NodeView K)) (after : FleetView K) (there : r < length was.nodes) (known : other < length was.nodes) (apart : other ≢ r) (closed : IsClosed tells r other had done was up turned carried after) where
   -- the node before the call, once it was raised, and after it
@@ -202,14 +212,28 @@ module _ {K : Type 0} (tells : K → StoreView) (laws : ClosingLaws tells) (r ot
         decides = stands.decides;
       }
 
-  -- one that lacked places closed none
+  -- ---- it lacked places
+
+  -- the driver then closes none
+  none_closed_at : done ≡ Err refusals.Full → (g : DriverInput) (d : Driver) → HasCome tells g d was → (steps.lacks_places d.past r other ≡ true) × (closes g r other d ≡ d)
+  none_closed_at full g d come = let t = is_there g d come in laws.none g d r other t.before was come t.at t.well.parts t.is_other (t.holds.full full)
+
+  -- and its past isn't too long
+  not_long : (g : DriverInput) (d : Driver) → HasCome tells g d was → is_too_long g d.past ≡ false
+  not_long g d come = laws.few g d.past made
+    where
+      made : (q : ℕ) → q < length g.repos → count_of d.past q ≤ most_entries
+      made q within =
+          let found : (n : NodeView K) × (slice_get was.nodes q ≡ Some n) = slice_get-within was.nodes q (subst (λ (c : ℕ). q < c) (sym come.count) within) in
+          subst (λ (k : ℕ). k ≤ most_entries) (sym (counted tells g d q found.0 (come.each q found.0 found.1)))
+          (each_at (λ (n : NodeView K). length n.history ≤ most_entries) was.nodes q found.0 closed.few found.1)
+
   pub closes_none : (q : ℕ) → q ≡ r → done ≡ Err refusals.Full → (q ≡ r) × ClosesNone tells r other was after
   closes_none q is full = (
     is,
     record {
-      lacks = λ g d stands.
-          let t = is_there g d stands.come in
-          laws.places g d r other t.before was stands.come t.at t.well.parts t.is_other ∙ t.holds.full (subst (λ (a : Answer). IsErrOf a refusals.Full) (sym full) refl);
+      lacks = λ g d stands. (none_closed_at full g d stands.come).0;
+      past = λ g d stands. ap (λ (x : Driver). within_limit g x.past) (none_closed_at full g d stands.come).1 ∙ whole_past g d.past (not_long g d stands.come);
       run = same_run;
     },
   )

@@ -14,13 +14,13 @@ use Rattle.fleet_turns.proofs.closing.close.Goals as goal
 pub close_end-done-requires-clause-known : goal.close_end-done-requires-clause-known
 close_end-done-requires-clause-known g c =
     let tells : g.row.K.Denot → StoreView = λ k. store_view (g.K.Keeper.contents k) (g.K.Keeper.parts k) (g.K.Keeper.failing k) (g.K.Keeper.faults k) in
-    λ n at. (may_close tells c.args.repo c.args.other c.raise-had.result c.args.running.now (record { nodes = c.running.inside.nodes; run = c.running.inside.run }) c.are_joined.ensures
+    λ n at. (may_close tells c.args.repo c.args.other c.raise-had.result c.args.running.now (record { nodes = c.running.inside.nodes; run = c.running.inside.run }) c.are_joined.ensures.joined
     (seen_as tells c.args.repo c.raise-had.result c.args.running.now c.raise-had.new.self c.running.inside.nodes c.running.inside.run c.running.view_is c.raise-had.ensures) c.requires.there c.requires.other c.requires.apart n at).0
 
 pub close_end-done-requires-clause-other : goal.close_end-done-requires-clause-other
 close_end-done-requires-clause-other g c =
     let tells : g.row.K.Denot → StoreView = λ k. store_view (g.K.Keeper.contents k) (g.K.Keeper.parts k) (g.K.Keeper.failing k) (g.K.Keeper.faults k) in
-    λ n at. (may_close tells c.args.repo c.args.other c.raise-had.result c.args.running.now (record { nodes = c.running.inside.nodes; run = c.running.inside.run }) c.are_joined.ensures
+    λ n at. (may_close tells c.args.repo c.args.other c.raise-had.result c.args.running.now (record { nodes = c.running.inside.nodes; run = c.running.inside.run }) c.are_joined.ensures.joined
     (seen_as tells c.args.repo c.raise-had.result c.args.running.now c.raise-had.new.self c.running.inside.nodes c.running.inside.run c.running.view_is c.raise-had.ensures) c.requires.there c.requires.other c.requires.apart n at).1
 
 pub after_step-line-requires : goal.after_step-line-requires
@@ -38,7 +38,7 @@ returns g c =
     let tells : g.row.K.Denot → StoreView = λ k. store_view (g.K.Keeper.contents k) (g.K.Keeper.parts k) (g.K.Keeper.failing k) (g.K.Keeper.faults k) in
     let up : FleetView g.row.K.Denot = record { nodes = c.running.inside.nodes; run = c.running.inside.run } in
     let called_now : FleetView g.row.K.Denot = record { nodes = c.carry.new.self; run = c.running.inside.run } in
-    let laws : ClosingLaws tells = record { closes = c.fleets_close.ensures.closes tells; places = c.fleets_close.ensures.places tells } in
+    let laws : ClosingLaws tells = record { closes = c.fleets_close.ensures.closes tells; places = c.fleets_close.ensures.places tells; none = c.fleets_close.ensures.none tells; few = c.runs_are_cut_where_histories_are_full.ensures.few } in
     let closed : (all : FleetView g.row.K.Denot) → Tells tells c.args.repo c.raise-had.result called_now all → IsClosed tells c.args.repo c.args.other c.raise-had.result c.close_end-done.result c.args.running.now up c.close_end-done.new.self c.carry.new.self all = λ all told. record {
       call = record {
         raises = seen_as tells c.args.repo c.raise-had.result c.args.running.now c.raise-had.new.self c.running.inside.nodes c.running.inside.run c.running.view_is c.raise-had.ensures;
@@ -57,7 +57,8 @@ returns g c =
         lacks = c.close_end-done.ensures.lacks n m at_n at_m;
         err = c.close_end-done.ensures.err n m at_n at_m;
       };
-      joined = c.are_joined.ensures;
+      joined = c.are_joined.ensures.joined;
+      few = c.are_joined.ensures.few;
     } in
     let ends = call_ends tells (λ given d. closes given c.args.repo c.args.other d) c.args.repo c.raise-had.result c.args.running.now called_now c.end_call.new.self c.after_step-line.result c.end_call.result _
     (λ q all. (q ≡ c.args.repo) × ClosesNone tells c.args.repo c.args.other c.args.running.now all)
