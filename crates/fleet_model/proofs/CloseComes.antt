@@ -38,7 +38,7 @@ use Rattle.fleet_model.specs.Steps.{OneTurns, with_newest}
 use Rattle.fleet_model.specs.Stores.{IsStoreOf, IsTold, content_in}
 use Rattle.fleet_model.specs.Turns.{StandsWell}
 use Rattle.fleet_model.proofs.CloseEnds.{BothThere, IsThere, all_carried, there_is}
-use Rattle.fleet_model.proofs.Closing.{CloseLaws, IsAway, IsClosing, OthersThere, closed_each}
+use Rattle.fleet_model.proofs.Closes.{CloseLaws, IsAway, IsClosing, OthersThere, closed_each}
 use Rattle.fleet_model.proofs.ClosingGoes.{ClosesOn, closes_on, heard_jobless}
 use Rattle.fleet_model.proofs.Coming.{ends_in}
 use Rattle.fleet_model.proofs.Going.{GoesOn, entries_go_on, goes_within, others_are}

@@ -76,14 +76,17 @@ sends_is a b f peer slot up is =
 abbrev pub closing : EndName → End → List FrameView
 closing a c = frames a c (texts.Closing ∷ [])
 
+abbrev close_frame : EndName → End → FrameView
+close_frame a c = record { peer = a.peer; slot = a.slot; up = a.client; epoch = c.epoch; seq = c.sent + 1; body = texts.Closing }
+
 pub sent_own : (a : EndName) (c : End) → sent_at a (closing a c) ≡ closing a c
-sent_own a c = ap (λ (b : Bool). cond b (closing a c) []) (sends_own a _ refl refl refl)
+sent_own a c = ap (λ (b : Bool). cond b (closing a c) []) (sends_own a (close_frame a c) refl refl refl)
 
 pub sent_elsewhere : (a b : EndName) (c : End) → b ≢ a → sent_at b (closing a c) ≡ []
-sent_elsewhere a b c other = go (sends_at b _) refl
+sent_elsewhere a b c other = go (sends_at b (close_frame a c)) refl
   where
-    go : (t : Bool) → sends_at b _ ≡ t → sent_at b (closing a c) ≡ []
-    go true e = absurd (other (sends_is a b _ refl refl refl e))
+    go : (t : Bool) → sends_at b (close_frame a c) ≡ t → sent_at b (closing a c) ≡ []
+    go true e = absurd (other (sends_is a b (close_frame a c) refl refl refl e))
     go false e = ap (λ (t : Bool). cond t (closing a c) []) e
 
 none_said : (said : List Sending) → map text_of_sending said ≡ [] → said ≡ []
@@ -203,9 +206,9 @@ pub both_carried : (count r : ℕ) (mine : List EndView) (base ends : ℕ → Li
     → ((q slot : ℕ) (client : Bool) → q < count → q ≢ r → slot < 4 → IsThere (link_at mine (end_with q slot client)))
     → ((q slot : ℕ) (client : Bool) → q < count → q ≢ r → slot < 4 → IsThere (link_at (base q) (end_with r slot client))) → BothThere count r ends
 both_carried count r mine base ends carried own theirs = record {
-  own = λ q slot client within other low. as (sym (carried.own q slot client within other low)) (carried_there _ _ (own q slot client within other low) (theirs q slot (not client) within other low));
-  theirs = λ q slot client within other low. as (sym (carried.theirs q slot client within other low)) (carried_there _ _ (theirs q slot client within other low) (own q slot (not client) within other low));
+  own = λ q slot client within other low. moved (sym (carried.own q slot client within other low)) (carried_there _ _ (own q slot client within other low) (theirs q slot (not client) within other low));
+  theirs = λ q slot client within other low. moved (sym (carried.theirs q slot client within other low)) (carried_there _ _ (theirs q slot client within other low) (own q slot (not client) within other low));
 }
   where
-    as : {o p : Option EndView} → o ≡ p → IsThere o → IsThere p
-    as e x = subst IsThere e x
+    moved : {o p : Option EndView} → o ≡ p → IsThere o → IsThere p
+    moved e x = subst IsThere e x

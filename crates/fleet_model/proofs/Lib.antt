@@ -56,5 +56,5 @@ pub mod StopContents
 pub mod LinkSets
 pub mod CloseEnds
 pub mod ClosingGoes
-pub mod Closing
+pub mod Closes
 pub mod CloseComes

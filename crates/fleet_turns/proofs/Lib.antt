@@ -5,4 +5,4 @@ mod Quiet
 mod Rounds
 mod Ending
 mod Time
-mod Closing
+mod Closes

@@ -8,7 +8,7 @@ use Rattle.driver_model.specs.ScriptSteps.{closes}
 use Rattle.fleet_entries.proofs.Called.{seen_as}
 use Rattle.fleet_entries.proofs.Full.{rest_on}
 use Rattle.fleet_entries.proofs.Starts.{call_ends, ended_ok, start_same}
-use Rattle.fleet_turns.proofs.Closing.{ClosingLaws, IsClosed, closed_within, closes_none, closes_on, has_places, may_close, no_bundle}
+use Rattle.fleet_turns.proofs.Closes.{ClosingLaws, IsClosed, closed_within, closes_none, closes_on, has_places, may_close, no_bundle}
 use Rattle.fleet_turns.proofs.closing.close.Goals as goal
 
 pub close_end-done-requires-clause-known : goal.close_end-done-requires-clause-known
