@@ -146,13 +146,13 @@ many_as p q count r (a ∷ ends) same away = λ i. cond (same a away.0 i) (a ∷
 pub places_are : {K : Type 0} → Carried → AreListed → (tells : K → StoreView) (g : DriverInput) (d : Driver) (r other : ℕ) (n : NodeView K) (was : FleetView K) → HasCome tells g d was → slice_get was.nodes r ≡ Some n
     → AreParts (set_up_of g d r) (state_of (set_up_of g d r) n.history) n.parts → IsOther g r other → lacks_places d.past r other ≡ closings.lacks_places n other
 places_are carried listed tells g d r other n was h at parts is =
-    λ i. nat_lt most_entries (made i + length (open i))
+    λ i. nat_lt most_entries (made i + length (same_open i))
   where
     made : length (filter (is_of r) d.past) ≡ length n.history
     made = sym (ap length (h.each r n at).history ∙ length-reverse (filter (is_of r) d.past))
 
-    open : filter (λ a. (runs.end_at d.past r a).opened) (ends_to other) ≡ filter (λ a. (end_at n.parts.links a).opened) (ends_to other)
-    open = many_as (λ a. (runs.end_at d.past r a).opened) (λ a. (end_at n.parts.links a).opened) (length g.repos) r (ends_to other)
+    same_open : filter (λ a. (runs.end_at d.past r a).opened) (ends_to other) ≡ filter (λ a. (end_at n.parts.links a).opened) (ends_to other)
+    same_open = many_as (λ a. (runs.end_at d.past r a).opened) (λ a. (end_at n.parts.links a).opened) (length g.repos) r (ends_to other)
         (λ a away. ap (λ c. c.opened) (states_are carried listed tells g d r n was h at parts a away)) (to_close g r other is)
 
 -- the store tells

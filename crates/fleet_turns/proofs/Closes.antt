@@ -64,8 +64,7 @@ pub may_close : {K : Type 0} (tells : K → StoreView) (r other had : ℕ) (was 
     → (n : NodeView K) → slice_get up.nodes r ≡ Some n → (other < length n.setup.repos) × (other ≢ n.setup.number)
 may_close {K} tells r other had was up are raises there known apart n at =
     let first : (b : NodeView K) × (slice_get was.nodes r ≡ Some b) = slice_get-within was.nodes r there in
-    let is = raises.node first.0 n first.1 at in
-    (
+    let is = raises.node first.0 n first.1 at in (
       subst (λ (x : NodeView K). other < length x.setup.repos) (sym is) (subst (λ (k : ℕ). other < k) (sym (are.counts r first.0 first.1)) known),
       subst (λ (x : NodeView K). other ≢ x.setup.number) (sym is) (λ (same : other ≡ first.0.setup.number). apart (same ∙ are.numbers r first.0 first.1)),
     )

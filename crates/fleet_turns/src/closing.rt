@@ -6,9 +6,7 @@ ghost use Rattle.driver_model.specs.ScriptSteps.{closes};
 ghost use Rattle.fleet_entries.specs.AtDriver.{ClosesNone, GoesOn, HasPlaces, IsDriven, OnlyAddsEntries, StopsWithin};
 ghost use Rattle.fleet_entries.specs.Telling.{AreFew};
 
-use driver_model::{
-    drivers_only_add, drivers_stay_sound, runs_are_cut_where_histories_are_full,
-};
+use driver_model::{drivers_only_add, drivers_stay_sound, runs_are_cut_where_histories_are_full};
 use fleet_entries::{FleetStop, Running, fleets_close};
 use object_store::FailingKeeper;
 

@@ -9,9 +9,7 @@ ghost use Rattle.script_answers.specs.declared.status.Status.{Status};
 ghost use Rattle.script_answers.specs.Top.{IsDue, MeetsEntries};
 
 use driver_model::cut_runs_have_a_full_history;
-use driver_script::{
-    scripts_are_built_or_not, scripts_may_be_driven, scripts_run_or_miss_a_form,
-};
+use driver_script::{scripts_are_built_or_not, scripts_may_be_driven, scripts_run_or_miss_a_form};
 
 /// Where the run of a script is cut, some repository has a full history in it, or a line comes to a close of more ends than there are places
 /// left: the `full` of a cut report follows from the rest of it (own).
