@@ -51,9 +51,10 @@ fn does(action: &Action) -> bool
         | Action::Compact { .. }
         | Action::Turns { .. }
         | Action::Settle
+        | Action::Close { .. }
         | Action::Wait { .. }
         | Action::Fail { .. } => true,
-        Action::Sync { .. } | Action::Close { .. } | Action::Crash { .. } => false,
+        Action::Sync { .. } | Action::Crash { .. } => false,
     }
 }
 
