@@ -196,7 +196,7 @@ plain_setting x kinds.MincopiesPath topic value is = ((λ same. cc), plain_patte
 
 one_action : KeyLaws → (g : DriverInput) (x : Context) (a : Action) → length x.repos ≤ length g.repos → standing.IsValidAction x a → is_built_action a ≡ true → IsOneAction g a
 one_action v g x (actions.Have r key content) n s b = (known _ _ r n s.0, (s.1, fits_is (size_part key) (length content) s.2.size))
-one_action v g x (actions.SetPart r key content) n s b = absurd (cc)
+one_action v g x (actions.SetPart r key content) n s b = known _ _ r n s.0
 one_action v g x (actions.Add r path key content) n s b =
     let made = made_is v path key content s.2 s.3 in
     (known _ _ r n s.0, (made.0, fits_is (size_part key) (length content) made.1.size))
@@ -210,7 +210,7 @@ one_action v g x (actions.Begin r job) n s b = (known _ _ r n s.repo, job_is v.f
 one_action v g x (actions.Run r job) n s b = (known _ _ r n s.repo, job_is v.faultless g x r job n b s)
 one_action v g x (actions.Turns r turns) n s b = known _ _ r n s
 one_action v g x actions.Settle n s b = tt
-one_action v g x (actions.Close r other) n s b = absurd cc
+one_action v g x (actions.Close r other) n s b = (known _ _ r n s.first, (known _ _ other n s.second, λ same. s.distinct (sym same)))
 one_action v g x (actions.Crash r clock) n s b = absurd cc
 one_action v g x (actions.Wait milliseconds) n s b = tt
 one_action v g x (actions.Fail r call) n s b = tt

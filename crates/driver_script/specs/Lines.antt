@@ -51,7 +51,7 @@ is_built_job kind peer = is_some peer
 
 abbrev pub is_built_action : Action → Bool
 is_built_action (actions.Have r key content) = true
-is_built_action (actions.SetPart r key content) = false
+is_built_action (actions.SetPart r key content) = true
 is_built_action (actions.Add r path key content) = true
 is_built_action (actions.File path key) = true
 is_built_action (actions.Set r kind topic value) = true
@@ -63,7 +63,7 @@ is_built_action (actions.Begin r job) = is_built_job job.kind job.peer
 is_built_action (actions.Run r job) = is_built_job job.kind job.peer
 is_built_action (actions.Turns r turns) = true
 is_built_action actions.Settle = true
-is_built_action (actions.Close r other) = false
+is_built_action (actions.Close r other) = true
 is_built_action (actions.Crash r clock) = false
 is_built_action (actions.Wait milliseconds) = true
 is_built_action (actions.Fail r call) = true
@@ -93,9 +93,3 @@ is_built (commands.Shows what) = is_built_showing what
 -- the place of the first command for which a part is missing
 abbrev pub first_unbuilt : List Command → Option ℕ
 first_unbuilt all = position (λ c. not (is_built c)) all
-
--- the line closes no ends, and is no block: no other is built
-abbrev pub is_plain_line : Command → Bool
-is_plain_line (commands.Does (actions.Close r other)) = false
-is_plain_line (commands.Par lines) = false
-is_plain_line line = true

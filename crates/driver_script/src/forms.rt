@@ -43,6 +43,7 @@ fn does(action: &Action) -> bool
         Action::Raw { file, .. } => is_added(file),
         Action::Begin { job, .. } | Action::Run { job, .. } => is_built_job(job.kind, job.peer),
         Action::Have { .. }
+        | Action::SetPart { .. }
         | Action::Add { .. }
         | Action::File { .. }
         | Action::Set { .. }
@@ -50,12 +51,10 @@ fn does(action: &Action) -> bool
         | Action::Compact { .. }
         | Action::Turns { .. }
         | Action::Settle
+        | Action::Close { .. }
         | Action::Wait { .. }
         | Action::Fail { .. } => true,
-        Action::SetPart { .. }
-        | Action::Sync { .. }
-        | Action::Close { .. }
-        | Action::Crash { .. } => false,
+        Action::Sync { .. } | Action::Crash { .. } => false,
     }
 }
 

@@ -70,16 +70,14 @@ within_as context action form is within = subst (λ (a : Action). first_limit co
 
 -- those of an arm that no line with its form built comes to
 abbrev pub IsUnbuilt : Action → Type 0
-IsUnbuilt action = ((a : ℕ) × (b : List ℕ) × (c : List ℕ) × (action ≡ actions.SetPart a b c)) ⊎ (((a : ℕ) × (action ≡ actions.Sync a)) ⊎ (((a : ℕ) × (b : ℕ) × (action ≡ actions.Close a b)) ⊎ ((a : ℕ) × (b : ℕ) × (action ≡ actions.Crash a b))))
+IsUnbuilt action = ((a : ℕ) × (action ≡ actions.Sync a)) ⊎ ((a : ℕ) × (b : ℕ) × (action ≡ actions.Crash a b))
 
 none_built : (action form : Action) → action ≡ form → is_built_action form ≡ false → is_built_action action ≡ true → ⊥
 none_built action form is none built = absurd (let no : false ≡ true = sym none ∙ built_as action form is built in cc)
 
 pub never_acts : (action : Action) → is_built_action action ≡ true → IsUnbuilt action → ⊥
-never_acts action built (inl h) = none_built action (actions.SetPart h.0 h.1 h.2) h.3 refl built
-never_acts action built (inr (inl h)) = none_built action (actions.Sync h.0) h.1 refl built
-never_acts action built (inr (inr (inl h))) = none_built action (actions.Close h.0 h.1) h.2 refl built
-never_acts action built (inr (inr (inr h))) = none_built action (actions.Crash h.0 h.1) h.2 refl built
+never_acts action built (inl h) = none_built action (actions.Sync h.0) h.1 refl built
+never_acts action built (inr h) = none_built action (actions.Crash h.0 h.1) h.2 refl built
 
 -- ---- what a line has
 

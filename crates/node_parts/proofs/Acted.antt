@@ -1,5 +1,5 @@
 -- What a job does is the step of the parts.
-use Rattle.std.proofs.Common.{◌≡◌, ◌⊎◌, inl, inr, ℕ, ◌<◌, ◌+◌, ◌*◌, Bool, true, false, List, [], ◌∷◌, Option, Some, None, is_some, length, refl, sym, ap, subst, ◌∙◌, arith}
+use Rattle.std.proofs.Common.{◌≡◌, ◌⊎◌, inl, inr, ℕ, ◌<◌, ◌+◌, ◌*◌, Bool, true, false, List, [], Option, Some, None, is_some, length, refl, sym, ap, subst, ◌∙◌}
 use Rattle.std.specs.Prelude.{All, bytes_eq, find, fold, not, ◌&&◌, ◌||◌, ◌==◌, if◌then◌else◌, option_and_then}
 use Rattle.std.specs.Option.{ForSome, option_map, option_map_or, option_or, option_to_list}
 use Rattle.std.proofs.lemmas.Bool.{cases_Bool, true≢false}
@@ -51,9 +51,9 @@ use Rattle.node_sessions.specs.Serving.{SeesPartAt}
 use Rattle.node_sessions.specs.Stored.{parts_after_taken}
 use Rattle.drop_phases.specs.Begun.{IsLast}
 use Rattle.drop_phases.specs.Sides.{IsNumbered}
-use Rattle.drop_phases.specs.Working.{end_in, taken_of}
+use Rattle.drop_phases.specs.Working.{end_in}
 use Rattle.running_jobs.specs.Places.{IsPlace, PlaceView}
-use Rattle.running_jobs.specs.Waiting.{taken_by, word_at}
+use Rattle.running_jobs.specs.Waiting.{taken_by}
 use Rattle.job_frames.specs.Sending.{IsOwnEntry, SendsWell, TakesNoOpening}
 use Rattle.transfer_turns.specs.Steps.{Seen}
 use Rattle.running_jobs.specs.States.{HaveState}
@@ -78,7 +78,7 @@ use Rattle.node_parts.specs.Sound.{AreSound}
 use Rattle.node_parts.specs.Steps.{Acts, HasPart, IsPartAsked, LeavesSo, OwesTold, SeesParts, Steps, WhereActed, job_acting, made_of, session_asked, words_heard}
 use Rattle.node_parts.specs.Stored.{bytes_taken, contents_then, parts_after_work, parts_by_job, parts_then}
 use Rattle.node_parts.proofs.Among.{found_among}
-use Rattle.node_parts.proofs.Asked.{clients_ask_none, waits_there}
+use Rattle.node_parts.proofs.Asked.{clients_ask_none}
 use Rattle.node_parts.proofs.Filling.{FedStays, fills_of_sessions, for_jobs, for_sessions, of_no_job, session_among, sessions_fed}
 use Rattle.node_parts.proofs.Gains.{FitsGain, IsSizeOf, NamesJob, OwnsEntry, of_task, own_entry, own_step}
 use Rattle.node_parts.proofs.Going.{EndsGo, SessionsStay}
@@ -295,7 +295,7 @@ module _ (laws : Laws) (was now : PartsView) (clock : ClockSet) (view : Settings
   module _ (a : Acted) (d : Done) (step : StepsThere was now.jobs clock view time number known c (Some a)) (acted : IsActed was.links now.links a d) (kind : IsOfJob a.job a.kind)
       (k0 k1 : Seen) (tells : k0.contents ≡ Some c) (tells_parts : k0.parts ≡ known) (leaves : LeavesJobs was.links was.jobs now.jobs was.table now.table k0 k1 a) (still : now.sessions ≡ was.sessions) (owns_now : JobsOwn now.jobs now.table)
       (fails : k.fails ≡ failed_in d.kind) (asks : IsPartAsked known was d.kind d.taken k.part k.right) (words : k.words ≡ words_heard was (Some d)) where
-    acts : ActsOf was.links was.jobs was.table now.table k0 k1 a
+    abbrev acts : ActsOf was.links was.jobs was.table now.table k0 k1 a
     acts = leaves.acts
 
     seen : SeesActed known was.links was.jobs k (Some a)

@@ -22,15 +22,16 @@ use Rattle.node_model.specs.Rows.{bar_after, holds_after}
 use Rattle.node_model.specs.Sessions.{new_session, session_after}
 use Rattle.node_model.specs.SetUp.{SetUp}
 use Rattle.node_model.specs.State.{State}
-use Rattle.node_ends.specs.Ends.{AreEnds}
+use Rattle.node_ends.specs.Ends.{AreEnds, end_at, room_at}
 use Rattle.node_ends.specs.Going.{AreAfter}
+use Rattle.node_ends.specs.Joined.{AreCarried, AreJoined}
 use Rattle.node_sessions.specs.Sessions.{AreSessions, HaveEnds, OwnAll, fills_in}
 use Rattle.running_jobs.specs.Places.{IsPlace, PlaceView}
 use Rattle.running_jobs.specs.Beginning.{Begins}
 use Rattle.running_jobs.specs.Running.{AreWorks, Follows, Jobs, OwnAll as JobsOwn, AreAllFed as JobsFed}
 use Rattle.node_parts.specs.Parts.{AreAllFed, AreParts, HasLockRooms, PartsView}
 use Rattle.node_parts.specs.Sound.{AreSound}
-use Rattle.node_parts.proofs.Rooms.{rooms_begun}
+use Rattle.node_parts.proofs.Rooms.{rooms_begun, rooms_carried, rooms_dropped}
 
 -- ---- before the first entry
 
@@ -89,6 +90,32 @@ module _ (s : SetUp) (st : State) (e : Entry) (taken : e.taken ≡ None) (sent :
 
   pub ends_stay : EndsGo → (links : List EndView) → AreAfter links links None [] → AreEnds links s st → AreEnds links s (state_after s st e)
   ends_stay go links after are = go links links s st e are (subst (λ (o : Option FrameView). AreAfter links links o e.sent) (sym taken) (subst (AreAfter links links None) (sym sent) after))
+
+-- ---- frames are dropped, or carried
+
+-- the parts are those of the same state where each end stands as it did, and the drops' rooms stay
+moved_parts : (s : SetUp) (st : State) (was : PartsView) (now : List EndView) → length now ≡ length was.links → ((a : EndName) → end_at now a ≡ end_at was.links a) → (Each (HasLockRooms was.links was.jobs.place.number) was.jobs.running → Each (HasLockRooms now was.jobs.place.number) was.jobs.running)
+    → AreParts s st was → AreParts s st (record was { links = now })
+moved_parts s st was now count stands rooms are = record {
+  place = are.place;
+  holds = are.holds;
+  bars = are.bars;
+  ends = record { count = count ∙ are.ends.count; ends = λ a among. are.ends.ends a among ∙ sym (stands a) };
+  each = λ a. are.each a ∙ sym (stands a);
+  sessions = are.sessions;
+  closed = are.closed;
+  works = are.works;
+  rooms = rooms are.rooms;
+  logs = are.logs;
+}
+
+pub parts_dropped : (s : SetUp) (st : State) (was : PartsView) (now : List EndView) → length now ≡ length was.links → ((a : EndName) → end_at now a ≡ end_at was.links a) → ((a : EndName) → room_at now a ≡ room_at was.links a) → AreParts s st was
+    → AreParts s st (record was { links = now })
+parts_dropped s st was now count stands room = moved_parts s st was now count stands (rooms_dropped was.links now was.jobs.place.number was.jobs.running stands room)
+
+pub parts_carried : (s : SetUp) (st : State) (was : PartsView) (now other : List EndView) (a b : ℕ) → AreCarried a b was.links now other → AreJoined a b was.links other → ((x : EndName) → end_at now x ≡ end_at was.links x) → AreParts s st was
+    → AreParts s st (record was { links = now })
+parts_carried s st was now other a b carried joined stands = moved_parts s st was now carried.count stands (rooms_carried a b was.links now other carried joined was.jobs.place.number was.jobs.running)
 
 -- ---- a job begins
 

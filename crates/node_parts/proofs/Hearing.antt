@@ -137,7 +137,7 @@ remote_target Local peer c is = absurd (true≢false (sym is))
 remote_target Remote peer c is = refl
 
 -- a phase is that of a drop which has sent its order, or isn't
-is_orders : Phase → Bool
+abbrev is_orders : Phase → Bool
 is_orders phases.Orders = true
 is_orders ph = false
 

@@ -1,8 +1,8 @@
 -- While a drop that removes from its peer has a lock of another repository, the end there has room.
 use Rattle.std.proofs.Common.{◌≡◌, ◌≢◌, ◌⊎◌, inl, inr, ℕ, ◌≤◌, ◌<◌, ◌+◌, ◌^◌, Bool, true, false, if◌then◌else◌, List, [], ◌∷◌, ◌++◌, Option, Some, None, is_some, length, map, refl, sym, ap, subst, ◌∙◌, arith}
-use Rattle.std.specs.Prelude.{◌==◌, ◌&&◌, ◌-◌, filter, find, flat_map, nat_le, nat_lt, not, fold}
+use Rattle.std.specs.Prelude.{◌==◌, ◌&&◌, ◌-◌, find, flat_map, nat_le, nat_lt, not, fold}
 use Rattle.std.specs.List.{range_with_len}
-use Rattle.std.specs.Option.{option_map, option_to_list}
+use Rattle.std.specs.Option.{option_map}
 use Rattle.std.proofs.lemmas.Bool.{and_parts, cases_Bool, eqb-true, true≢false}
 use Rattle.std.proofs.Math.Bool.{and-false}
 use Rattle.std.proofs.lemmas.Bool.Decides.{nat_tests}
@@ -42,10 +42,12 @@ use Rattle.drop_phases.specs.declared.phase.Heard.{Heard}
 use Rattle.drop_phases.specs.declared.phase.Phase.{Phase}
 use Rattle.drop_phases.specs.declared.phase.Phase.TheVariants as phases
 use Rattle.drop_phases.specs.declared.phase.Token.{Token}
+use Rattle.drop_phases.specs.declared.turn.Parcel.{Parcel}
 use Rattle.drop_phases.specs.Sides.{FitsSide, side_in}
 use Rattle.drop_phases.specs.Working.{end_in, heard_in, phase_as, texts_of}
 use Rattle.job_frames.specs.Sending.{TakesNoOpening}
 use Rattle.transfer_turns.specs.Parcels.{text_in}
+use Rattle.transfer_turns.specs.declared.parcels.Parcel.{Parcel as TransferParcel}
 use Rattle.running_jobs.specs.Acting.{HasLockRoom}
 use Rattle.running_jobs.specs.Beginning.{Begins, IsNewTask, next_slot}
 use Rattle.running_jobs.specs.Drops.{DropJob}
@@ -284,27 +286,27 @@ module _ (links : List EndView) (slot : ℕ) (a : EndName) where
 
   -- a job sends in its own slot alone
   in_own_slot : (sent : Sent) → (slot == a.slot) ≡ false → sent_at a (frames_in links slot sent) ≡ []
-  in_own_slot (sents.ByDrop ps) away = none_of a (λ p. frames (end_in slot p.peer) (end_at links (end_in slot p.peer)) (texts_of p.body)) ps.items
-      (Each-always (λ p. sent_at a (frames (end_in slot p.peer) (end_at links (end_in slot p.peer)) (texts_of p.body)) ≡ [])
-      (λ p. none_at a (end_in slot p.peer) (end_at links (end_in slot p.peer)) (texts_of p.body) (other_slot away p.peer)) ps.items)
-  in_own_slot (sents.ByTransfer ps) away = none_of a (λ p. frames (end_in slot p.peer) (end_at links (end_in slot p.peer)) (text_in p.body ∷ [])) ps.items
-      (Each-always (λ p. sent_at a (frames (end_in slot p.peer) (end_at links (end_in slot p.peer)) (text_in p.body ∷ [])) ≡ [])
-      (λ p. none_at a (end_in slot p.peer) (end_at links (end_in slot p.peer)) (text_in p.body ∷ []) (other_slot away p.peer)) ps.items)
+  in_own_slot (sents.ByDrop ps) away = none_of a (λ (p : Parcel). frames (end_in slot p.peer) (end_at links (end_in slot p.peer)) (texts_of p.body)) ps.items
+      (Each-always (λ (p : Parcel). sent_at a (frames (end_in slot p.peer) (end_at links (end_in slot p.peer)) (texts_of p.body)) ≡ [])
+      (λ (p : Parcel). none_at a (end_in slot p.peer) (end_at links (end_in slot p.peer)) (texts_of p.body) (other_slot away p.peer)) ps.items)
+  in_own_slot (sents.ByTransfer ps) away = none_of a (λ (p : TransferParcel). frames (end_in slot p.peer) (end_at links (end_in slot p.peer)) (text_in p.body ∷ [])) ps.items
+      (Each-always (λ (p : TransferParcel). sent_at a (frames (end_in slot p.peer) (end_at links (end_in slot p.peer)) (text_in p.body ∷ [])) ≡ [])
+      (λ (p : TransferParcel). none_at a (end_in slot p.peer) (end_at links (end_in slot p.peer)) (text_in p.body ∷ []) (other_slot away p.peer)) ps.items)
 
   -- and nothing to a peer to which no parcel goes
   none_to : (sent : Sent) → SendsNoneTo a.peer sent → sent_at a (frames_in links slot sent) ≡ []
-  none_to (sents.ByDrop ps) away = none_of a (λ p. frames (end_in slot p.peer) (end_at links (end_in slot p.peer)) (texts_of p.body)) ps.items
-      (Each-weaker (λ p. (p.peer == a.peer) ≡ false) (λ p. sent_at a (frames (end_in slot p.peer) (end_at links (end_in slot p.peer)) (texts_of p.body)) ≡ [])
-      (λ p other. none_at a (end_in slot p.peer) (end_at links (end_in slot p.peer)) (texts_of p.body) (other_peer p.peer other)) ps.items away)
-  none_to (sents.ByTransfer ps) away = none_of a (λ p. frames (end_in slot p.peer) (end_at links (end_in slot p.peer)) (text_in p.body ∷ [])) ps.items
-      (Each-weaker (λ p. (p.peer == a.peer) ≡ false) (λ p. sent_at a (frames (end_in slot p.peer) (end_at links (end_in slot p.peer)) (text_in p.body ∷ [])) ≡ [])
-      (λ p other. none_at a (end_in slot p.peer) (end_at links (end_in slot p.peer)) (text_in p.body ∷ []) (other_peer p.peer other)) ps.items away)
+  none_to (sents.ByDrop ps) away = none_of a (λ (p : Parcel). frames (end_in slot p.peer) (end_at links (end_in slot p.peer)) (texts_of p.body)) ps.items
+      (Each-weaker (λ (p : Parcel). (p.peer == a.peer) ≡ false) (λ (p : Parcel). sent_at a (frames (end_in slot p.peer) (end_at links (end_in slot p.peer)) (texts_of p.body)) ≡ [])
+      (λ (p : Parcel). λ other. none_at a (end_in slot p.peer) (end_at links (end_in slot p.peer)) (texts_of p.body) (other_peer p.peer other)) ps.items away)
+  none_to (sents.ByTransfer ps) away = none_of a (λ (p : TransferParcel). frames (end_in slot p.peer) (end_at links (end_in slot p.peer)) (text_in p.body ∷ [])) ps.items
+      (Each-weaker (λ (p : TransferParcel). (p.peer == a.peer) ≡ false) (λ (p : TransferParcel). sent_at a (frames (end_in slot p.peer) (end_at links (end_in slot p.peer)) (text_in p.body ∷ [])) ≡ [])
+      (λ (p : TransferParcel). λ other. none_at a (end_in slot p.peer) (end_at links (end_in slot p.peer)) (text_in p.body ∷ []) (other_peer p.peer other)) ps.items away)
 
 -- where it stood with an open end, and was told of a frame there, that had room
 fed_room : (opened room : Bool) (o : Option Feed) (f : Feed) → Some f ≡ feed_by opened room o → opened ≡ true → room ≡ true
-fed_room true true o f is yes = refl
-fed_room true false o f is yes = absurd (some_none f is)
-fed_room false room o f is yes = absurd (true≢false (sym yes))
+fed_room true true o f is live = refl
+fed_room true false o f is live = absurd (some_none f is)
+fed_room false room o f is live = absurd (true≢false (sym live))
 
 -- the job that acted has room where it has locks, if it goes on
 next_rooms : (p : PlaceView) (was now : List EndView) (t t' : Task) (x : Told) (out : Output) → IsToldTo was t x → HearsOn t t' x → KeepsLocks p t t' out → out.ended ≡ false → slot_of t' ≡ slot_of t → (work_now t').what ≡ (work_now t).what

@@ -19,7 +19,7 @@ pub use Rattle.drop_phases.specs.Feeding
 pub use Rattle.drop_phases.specs.Working
 pub use Rattle.running_jobs.specs.Task
 pub use Rattle.running_jobs.specs.Tasks
-pub use Rattle.running_jobs.specs.TransferJob
+pub use Rattle.node_tasks.specs.TransferJob
 pub use Rattle.running_jobs.specs.Worker
 pub use Rattle.running_jobs.specs.Workers
 pub use Rattle.running_jobs.specs.Drops

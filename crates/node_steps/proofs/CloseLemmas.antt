@@ -1,6 +1,7 @@
 -- The closes of a node's ends, from those of its past and of the parts beside it.
 use Rattle.std.proofs.Common.{◌≡◌, ◌≢◌, inl, inr, ℕ, suc, ◌≤◌, ◌<◌, ◌+◌, ◌*◌, Bool, true, false, List, [], ◌∷◌, ◌++◌, All, Option, Some, None, Result, Ok, Err, OnOk, OnErr, drop, get_or, length, map, refl, sym, ap, subst, arith, ◌∙◌, append_assoc}
-use Rattle.std.specs.Prelude.{if◌then◌else◌, filter, is_some, vec_capacity, vec_len}
+use borrow.Author.Tests.{ltb-false}
+use Rattle.std.specs.Prelude.{if◌then◌else◌, filter, is_some, nat_lt, vec_capacity, vec_len}
 use Rattle.std.specs.declared.vec.Vec.{Vec}
 use Rattle.std.specs.declared.alloc.Global.{Global}
 use Rattle.std.proofs.lemmas.Bool.{cases_Bool}
@@ -46,7 +47,7 @@ use Rattle.node_steps.specs.Nodes.{MatchesSetup, IsState, NodeView, state_of}
 use Rattle.node_steps.specs.Shutting.{IsListing, Shuts, ShutsEach, ShutsIf, ShutsReady}
 use Rattle.node_steps.specs.Turning.{stamp_then}
 use Rattle.node_steps.proofs.BeginLemmas.{kept_entered}
-use Rattle.node_steps.proofs.MoveLemmas.{seen, seen_same}
+use Rattle.node_steps.proofs.MoveLemmas.{same_length, seen, seen_same}
 use Rattle.node_steps.proofs.StepLemmas.{FillLaw, state_more}
 
 -- ---- one close
@@ -362,6 +363,20 @@ ids_there law links count peer ids names whole known = each_named (λ a. is_some
 
 ends_others : (setup : Setup) (peer : ℕ) → peer < length setup.repos → peer ≢ setup.number → Each (IsOther setup) (ends_to peer)
 ends_others setup peer known other = each_end (IsOther setup) peer (λ slot client low. record { peer = known; other = other; slot = low })
+
+-- ---- as many places as are open
+
+-- where this many are open, the history lacks places for them, or it doesn't
+pub lacks_so : (n opened : ℕ) (links : List EndView) (names ends : List EndName) (b : Bool) → names ≡ ends → opened ≡ open_count links names → b ≡ nat_lt most_entries (n + opened) → nat_lt most_entries (n + open_count links ends) ≡ b
+lacks_so n opened links names ends b same count is =
+    ap (λ (xs : List EndName). nat_lt most_entries (n + open_count links xs)) (sym same) ∙ (ap (λ (m : ℕ). nat_lt most_entries (n + m)) (sym count) ∙ sym is)
+
+pub few_places : (was ready : Past) (opened : ℕ) (links : List EndView) (names : List EndName) (b : Bool) → SamePast was ready → opened ≡ open_count links names → b ≡ nat_lt most_entries (vec_len was.history + opened) → b ≡ false
+    → vec_len ready.history + open_count links names ≤ most_entries
+few_places was ready opened links names b same count is none =
+    let len = same_length was ready same in
+    let few = ltb-false most_entries (vec_len was.history + opened) (sym is ∙ none) in
+    omega (arith, len, few, count)
 
 -- ---- the call
 

@@ -60,7 +60,7 @@ no_done x is = absurd cc
 
 -- ---- the past
 
-same_length : (was ready : Past) → SamePast was ready → vec_len ready.history ≡ vec_len was.history
+pub same_length : (was ready : Past) → SamePast was ready → vec_len ready.history ≡ vec_len was.history
 same_length was ready same = ready.history.ok.0 ∙ ap (λ (h : List Entry). length h) same.history ∙ sym was.history.ok.0
 
 abbrev entry_at : ℕ → ℕ → Setup → EntryKind → Option FrameView → List FrameView → Entry

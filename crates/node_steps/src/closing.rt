@@ -1,5 +1,5 @@
 //! The ends of the connections with another repository are closed, each by one entry.
-ghost use Rattle.std.specs.Prelude.{◌≡◌, ◌≢◌, ◌⊎◌, ◌+◌, ◌≤◌, ◌<◌, [], true, All, Err, if◌then◌else◌, length, map, nat_lt, is_some, vec_capacity, vec_len, IfErr, IfOk, IsErrOf, OnErr, OnOk};
+ghost use Rattle.std.specs.Prelude.{◌≡◌, ◌≢◌, ◌⊎◌, ◌+◌, ◌≤◌, ◌<◌, [], true, All, Err, if◌then◌else◌, get_or, length, map, nat_lt, is_some, vec_capacity, vec_len, IfErr, IfOk, IsErrOf, OnErr, OnOk};
 ghost use Rattle.annex_base.specs.Lists.{Each};
 ghost use Rattle.node_ends.specs.Ends.{end_at, link_at, name_of};
 ghost use Rattle.node_ends.specs.Joined.{StayPaired};
@@ -68,6 +68,14 @@ fn next_list(lists: &mut Vec<Vec<FrameView>>) -> Vec<FrameView>
     listing
 }
 
+/// The end at this place among these.
+fn id_at(ids: &[EndId], at: usize) -> EndId
+    requires there { at < length ids.now }
+    ensures { result ≡ get_or ids.now at result }
+{
+    ids[at]
+}
+
 /// Closes those of these ends that are open, one after the other. It takes no memory.
 fn close_each(past: &mut Past, parts: &mut Parts, ids: &[EndId], mut lists: Vec<Vec<FrameView>>)
     requires there { Each (λ id. is_some (link_at parts.old.links (name_of id)) ≡ true) ids.now }
@@ -80,7 +88,8 @@ fn close_each(past: &mut Past, parts: &mut Parts, ids: &[EndId], mut lists: Vec<
 {
     for at in 0..ids.len() {
         let listing = next_list(&mut lists);
-        close(past, parts, ids[at], listing);
+        let id = id_at(ids, at);
+        close(past, parts, id, listing);
     }
 }
 
@@ -98,7 +107,9 @@ fn count_open(parts: &Parts, ids: &[EndId]) -> usize
 {
     let mut count = 0;
     for at in 0..ids.len() {
-        count += one_if(parts.is_open(ids[at]));
+        let id = id_at(ids, at);
+        let one = one_if(parts.is_open(id));
+        count += one;
     }
     count
 }

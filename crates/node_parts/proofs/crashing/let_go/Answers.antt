@@ -5,7 +5,7 @@ use Rattle.run_data.specs.declared.entry.By.TheVariants.{Job as by_job}
 use Rattle.content_lock.specs.Rows.{Rows, bar_at, is_filling}
 use Rattle.node_model.specs.Rows.{option_is}
 use Rattle.running_jobs.specs.Running.{fills_at}
-use Rattle.node_parts.proofs.Crashing.{agrees_labels}
+use Rattle.node_parts.proofs.Crashes.{agrees_labels}
 use Rattle.node_parts.proofs.Filling.{fills_of_jobs}
 use Rattle.node_parts.proofs.Sounding.{jobs_keep, no_jobs}
 use Rattle.node_parts.proofs.crashing.let_go.Goals as goal
@@ -15,8 +15,11 @@ end_all-requires c =
     let e = c.all_closed.ensures in
     let jobs = c.args.jobs.now in
     let table = c.all_closed.new.table in
-    jobs_keep jobs c.args.table.now table e.bars (λ job share owns. e.others (by_job job) share (no_jobs c.args.sessions.now job) owns)
-    (fills_of_jobs table c.all_closed.new.self jobs.running (e.filled (fills_at jobs.running) c.requires.filled)) c.requires.acting
+    record {
+      owns =
+          jobs_keep jobs c.args.table.now table e.bars (λ job share owns. e.others (by_job job) share (no_jobs c.args.sessions.now job) owns)
+          (fills_of_jobs table c.all_closed.new.self jobs.running (e.filled (fills_at jobs.running) c.requires.filled)) c.requires.acting;
+    }
 
 pub returns-clause-goes : goal.returns-clause-goes
 returns-clause-goes c =

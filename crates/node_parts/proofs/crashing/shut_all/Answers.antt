@@ -8,4 +8,4 @@ pub returns : goal.returns
 returns c =
     let names = all_names c.args.own c.args.count in
     subst (SendsCloses names c.args.stamp c.args.ends.now c.shut_each.new.ends []) (sym c.from_vec.ensures)
-    (subst (λ (fs : List FrameView). SendsCloses names c.args.stamp c.args.ends.now c.shut_each.new.ends fs c.shut_each.new.sent.items) c.requires.empty c.shut_each.ensures)
+    (subst (λ (fs : List FrameView). SendsCloses names c.args.stamp c.args.ends.now c.shut_each.new.ends fs c.shut_each.new.sent.items) c.requires.empty c.shut_each.ensures.closes)

@@ -1,6 +1,6 @@
 -- Those of one repository after the other.
 use Rattle.std.proofs.Common.{[], ◌∙◌, refl, arith}
-use Rattle.node_parts.proofs.Crashing.{sends_more, sends_none}
+use Rattle.node_parts.proofs.Crashes.{sends_more, sends_none}
 use Rattle.node_parts.proofs.crashing.shut_each.Goals as goal
 
 pub loop-peer-init : goal.loop-peer-init

@@ -3,7 +3,7 @@ use Rattle.std.proofs.Common.{[], ◌∷◌, List, sym, ◌∙◌, subst}
 use Rattle.run_data.specs.declared.entry.FrameView.{FrameView}
 use Rattle.node_ends.specs.Ends.{name_of}
 use Rattle.node_parts.specs.Crashing.{SendsCloses}
-use Rattle.node_parts.proofs.Crashing.{closed_sends_none, sends_none, sends_one}
+use Rattle.node_parts.proofs.Crashes.{closed_sends_none, sends_none, sends_one}
 use Rattle.node_parts.proofs.crashing.shut_end.Goals as goal
 
 pub returns-then-is_open-clause-closes : goal.returns-then-is_open-clause-closes

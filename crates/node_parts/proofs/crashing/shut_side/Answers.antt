@@ -1,24 +1,24 @@
 -- One end after the other.
 use Rattle.std.proofs.Common.{[], ◌∷◌, ℕ, refl, arith}
 use Rattle.node_model.specs.Ends.{EndName}
-use Rattle.node_parts.proofs.Crashing.{sends_then, slot_end, slots_apart}
+use Rattle.node_parts.proofs.Crashes.{sends_then, slot_end, slots_apart}
 use Rattle.node_parts.proofs.crashing.shut_side.Goals as goal
 
 pub shut_end-requires-clause-there : goal.shut_end-requires-clause-there
 shut_end-requires-clause-there c = c.requires.there (slot_end c.args.peer c.args.client 0) refl (omega arith)
 
-pub shut_end-2-requires-clause-there : goal.shut_end-2-requires-clause-there
-shut_end-2-requires-clause-there c =
+pub shut_end-requires-2-clause-there : goal.shut_end-requires-2-clause-there
+shut_end-requires-2-clause-there c =
     let a = slot_end c.args.peer c.args.client 1 in
     c.shut_end.ensures.closes.there a (c.requires.there a refl (omega arith))
 
-pub shut_end-3-requires-clause-there : goal.shut_end-3-requires-clause-there
-shut_end-3-requires-clause-there c =
+pub shut_end-requires-3-clause-there : goal.shut_end-requires-3-clause-there
+shut_end-requires-3-clause-there c =
     let a = slot_end c.args.peer c.args.client 2 in
     c.shut_end-2.ensures.closes.there a (c.shut_end.ensures.closes.there a (c.requires.there a refl (omega arith)))
 
-pub shut_end-4-requires-clause-there : goal.shut_end-4-requires-clause-there
-shut_end-4-requires-clause-there c =
+pub shut_end-requires-4-clause-there : goal.shut_end-requires-4-clause-there
+shut_end-requires-4-clause-there c =
     let a = slot_end c.args.peer c.args.client 3 in
     c.shut_end-3.ensures.closes.there a (c.shut_end-2.ensures.closes.there a (c.shut_end.ensures.closes.there a (c.requires.there a refl (omega arith))))
 

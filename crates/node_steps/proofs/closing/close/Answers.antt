@@ -1,15 +1,12 @@
 -- What the proof of `closing::close` needs beside the tactics.
-use Rattle.std.proofs.Common.{ℕ, ◌<◌, ◌+◌, All, Option, Some, None, inl, inr, refl, sym, ap, subst}
-use Rattle.std.specs.Prelude.{vec_len}
-use Rattle.object_store.specs.Stores.{Contents}
-use Rattle.node_parts.specs.declared.done.Done.{Done}
+use Rattle.std.proofs.Common.{ℕ, ◌<◌, All, inl, inr, refl, sym, ap, subst}
 use Rattle.node_parts.specs.declared.moment.Moment.{Moment}
 use Rattle.node_parts.specs.Posting.{PostsPieces, stamp_of}
 use Rattle.node_parts.specs.Steps.{Leaves, LeavesSo}
 use Rattle.node_steps.proofs.closing.close.Goals as goal
 
-pub close_end-requires-clause-fresh : goal.close_end-requires-clause-fresh
-close_end-requires-clause-fresh c = subst (λ (n : ℕ). All (λ h. h.number < n) c.args.parts.now.table.holds) (sym (ap (λ (m : Moment). m.number) c.moment_of-moment.ensures)) c.requires.numbers
+pub close_end-done-requires-clause-fresh : goal.close_end-done-requires-clause-fresh
+close_end-done-requires-clause-fresh c = subst (λ (n : ℕ). All (λ h. h.number < n) c.args.parts.now.table.holds) (sym (ap (λ (m : Moment). m.number) c.moment_of-moment.ensures)) c.requires.numbers
 
 pub enter-requires : goal.enter-requires
 enter-requires c = c.requires.ready (c.close_end-done.ensures.opened c.in-Some.done c.in-Some.is)

@@ -1,5 +1,5 @@
 -- What the proof of `closing::close_each` needs beside the tactics.
-use Rattle.std.proofs.Common.{◌≡◌, ◌<◌, ◌+◌, List, true, drop, is_some, map, refl, subst, ap, arith}
+use Rattle.std.proofs.Common.{◌≡◌, ◌+◌, List, true, drop, is_some, map, subst, ap, arith}
 use Rattle.std.specs.Prelude.{vec_len}
 use Rattle.annex_base.specs.Lists.{Each}
 use Rattle.node_ends.specs.declared.name.EndId.{EndId}
@@ -8,35 +8,35 @@ use Rattle.node_steps.specs.Closing.{open_count}
 use Rattle.node_steps.proofs.CloseLemmas.{ShutsOn, all_shut, next_end, ready_next, shut_few, shut_length, shut_numbers, shut_on, shut_there}
 use Rattle.node_steps.proofs.closing.close_each.Goals as goal
 
-pub next_list-requires-clause-some : goal.next_list-requires-clause-some
-next_list-requires-clause-some c = let enough = c.loop-at.invariant.enough in let below = c.loop-at-test.true in omega (arith, enough, below)
+pub next_list-listing-requires-clause-some : goal.next_list-listing-requires-clause-some
+next_list-listing-requires-clause-some c = let enough = c.loop-at.invariant.enough in let below = c.loop-at-test.true in omega (arith, enough, below)
 
 pub close-requires-clause-there : goal.close-requires-clause-there
 close-requires-clause-there c =
-    (subst (Each (λ (id : EndId). is_some (link_at c.loop-at.parts.links (name_of id)) ≡ true)) (next_end c.args.ids.now c.loop-at.at c.index-ids-at.result c.loop-at-test.true c.index-ids-at.is) c.loop-at.invariant.there).0
+    (subst (Each (λ (id : EndId). is_some (link_at c.loop-at.parts.links (name_of id)) ≡ true)) (next_end c.args.ids.now c.loop-at.at c.id_at-id.result c.loop-at-test.true c.id_at-id.ensures) c.loop-at.invariant.there).0
 
 pub close-requires-clause-ready : goal.close-requires-clause-ready
 close-requires-clause-ready c = λ opened.
     let i = c.loop-at.invariant in
-    let next = next_end c.args.ids.now c.loop-at.at c.index-ids-at.result c.loop-at-test.true c.index-ids-at.is in
+    let next = next_end c.args.ids.now c.loop-at.at c.id_at-id.result c.loop-at-test.true c.id_at-id.ensures in
     let same = ap (λ (xs : List EndId). open_count c.loop-at.parts.links (map name_of xs)) next in
     let few = i.few in
     let room = i.room in
     let enough = i.enough in
     let below = c.loop-at-test.true in
-    ready_next c.loop-at.parts c.loop-at.past c.index-ids-at.result (drop (c.loop-at.at + 1) c.args.ids.now) (vec_len c.loop-at.lists) (omega (arith, same, few)) room (omega (arith, enough, below)) opened
+    ready_next c.loop-at.parts c.loop-at.past c.id_at-id.result (drop (c.loop-at.at + 1) c.args.ids.now) (vec_len c.loop-at.lists) (omega (arith, same, few)) room (omega (arith, enough, below)) opened
 
 pub loop-at-preserved : goal.loop-at-preserved
 loop-at-preserved c =
     let i = c.loop-at.invariant in
-    let id = c.index-ids-at.result in
+    let id = c.id_at-id.result in
     let a = name_of id in
     let p = c.loop-at.parts in
     let q = c.close.new.parts in
     let was = c.loop-at.past in
     let now = c.close.new.past in
     let left = drop (c.loop-at.at + 1) c.args.ids.now in
-    let next = next_end c.args.ids.now c.loop-at.at id c.loop-at-test.true c.index-ids-at.is in
+    let next = next_end c.args.ids.now c.loop-at.at id c.loop-at-test.true c.id_at-id.ensures in
     let shut = c.close.ensures.shuts in
     let len = c.next_list-listing.ensures.len in
     record {

@@ -14,12 +14,13 @@ use Rattle.node_steps.proofs.KeptLemmas.{stands_in}
 use Rattle.node_steps.proofs.MoveLemmas.{seen}
 use Rattle.node_steps.proofs.closing.close_ends.Given as given
 use Rattle.node_steps.proofs.closing.close_ends.Goals as goal
+use Rattle.node_steps.proofs.closing.close_ends.Goals.{After-close_all}
 
 pub close_all-requires-clause-known : goal.close_all-requires-clause-known
 close_all-requires-clause-known g c = subst (λ (p : PlaceView). c.args.peer < length p.ids) (sym c.requires.stands.kept.place) c.requires.known
 
 -- what the call leaves
-call : (g : given.Over) (c : goal.After-close_all g) → CalledSo c.ledger.inside.keeper c.close_all.result c.args.peer c.args.parts.now c.close_all.new.parts c.ledger.inside.past c.close_all.new.past c.ledger.inside.branch (owed_in c.ledger.inside.past c.ledger.inside.debts.items)
+call : (g : given.Over) (c : After-close_all g) → CalledSo c.ledger.inside.keeper c.close_all.result c.args.peer c.args.parts.now c.close_all.new.parts c.ledger.inside.past c.close_all.new.past c.ledger.inside.branch (owed_in c.ledger.inside.past c.ledger.inside.debts.items)
     (told_of (g.K.Keeper.contents c.ledger.inside.keeper) (g.K.Keeper.parts c.ledger.inside.keeper))
 call g c =
     let i = c.ledger.inside in

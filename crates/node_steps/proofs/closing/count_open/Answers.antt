@@ -9,17 +9,17 @@ use Rattle.node_steps.proofs.closing.count_open.Goals as goal
 
 pub is_open-requires : goal.is_open-requires
 is_open-requires c = record {
-  there = (subst (Each (λ (id : EndId). is_some (link_at c.args.parts.now.links (name_of id)) ≡ true)) (next_end c.args.ids.now c.loop-at.at c.index-ids-at.result c.loop-at-test.true c.index-ids-at.is) c.loop-at.invariant.there).0;
+  there = (subst (Each (λ (id : EndId). is_some (link_at c.args.parts.now.links (name_of id)) ≡ true)) (next_end c.args.ids.now c.loop-at.at c.id_at-id.result c.loop-at-test.true c.id_at-id.ensures) c.loop-at.invariant.there).0;
 }
 
 pub loop-at-preserved : goal.loop-at-preserved
 loop-at-preserved c =
     let i = c.loop-at.invariant in
     let links = c.args.parts.now.links in
-    let id = c.index-ids-at.result in
-    let next = next_end c.args.ids.now c.loop-at.at id c.loop-at-test.true c.index-ids-at.is in
+    let id = c.id_at-id.result in
+    let next = next_end c.args.ids.now c.loop-at.at id c.loop-at-test.true c.id_at-id.ensures in
     let same = ap (λ (xs : List EndId). open_count links (map name_of xs)) next in
-    let step = open_next links (name_of id) (map name_of (drop (c.loop-at.at + 1) c.args.ids.now)) c.is_open.result c.is_open.ensures c.one_if.result c.one_if.ensures in
+    let step = open_next links (name_of id) (map name_of (drop (c.loop-at.at + 1) c.args.ids.now)) c.is_open.result c.is_open.ensures c.one_if-one.result c.one_if-one.ensures in
     let low = i.low in
     let counts = i.counts in
     record {

@@ -1,14 +1,15 @@
 -- What the crash of the parts leaves, beside the entry that tells it.
-use Rattle.std.proofs.Common.{◌<◌, sym, subst, ◌∙◌}
+use Rattle.std.proofs.Common.{ℕ, ◌<◌, ◌++◌, sym, ap, subst, ◌∙◌}
 use Rattle.std.specs.Prelude.{All}
 use Rattle.std.proofs.lemmas.List.{append-nil}
 use Rattle.node_parts.specs.declared.moment.Moment.{Moment}
 use Rattle.node_parts.specs.Posting.{PostsPieces, stamp_of}
 use Rattle.node_parts.specs.Steps.{Leaves}
+use Rattle.node_steps.specs.Crashing.{all_ended}
 use Rattle.node_steps.proofs.crashing.fall.Goals as goal
 
-pub crash-requires-clause-fresh : goal.crash-requires-clause-fresh
-crash-requires-clause-fresh c = subst (λ (m : Moment). All (λ h. h.number < m.number) c.args.parts.now.table.holds) (sym c.moment_of-moment.ensures) c.requires.numbers
+pub crash-done-requires-clause-fresh : goal.crash-done-requires-clause-fresh
+crash-done-requires-clause-fresh c = subst (λ (m : Moment). All (λ h. h.number < m.number) c.args.parts.now.table.holds) (sym c.moment_of-moment.ensures) c.requires.numbers
 
 pub returns : goal.returns
 returns c =
@@ -26,7 +27,8 @@ returns c =
         clock = e.clock;
         count = e.count;
         history = e.history;
-        outcomes = e.outcomes ∙ (append-nil c.note_all_ended.new.outcomes.items ∙ c.note_all_ended.ensures);
+        outcomes = e.outcomes ∙ (append-nil c.note_all_ended.new.outcomes.items
+            ∙ (c.note_all_ended.ensures ∙ ap (λ (n : ℕ). c.args.past.now.outcomes.items ++ all_ended p.jobs.running n) c.len-place.ensures));
       };
       sent = d.sent;
       parts = d.parts;

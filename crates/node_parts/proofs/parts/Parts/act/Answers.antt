@@ -12,7 +12,6 @@ use Rattle.object_store.specs.Stores.{AreSmallParts}
 use Rattle.trust_groups.specs.View.{settings_of}
 use Rattle.link_ring.specs.Ends.{EndView}
 use Rattle.content_lock.specs.CallsMade.{MakesCalls, fewer}
-use Rattle.content_lock.specs.Rows.{Rows}
 use Rattle.node_model.specs.Look.{Effect, failed_in}
 use Rattle.node_model.specs.Turns.{job_step}
 use Rattle.node_ends.specs.Joined.{StayPaired}

@@ -12,11 +12,11 @@ use Rattle.node_ends.specs.Ends.{end_at, name_of}
 use Rattle.node_parts.specs.Parts.{AreAllFed, AreParts, PartsView}
 use Rattle.node_parts.specs.Posting.{PostsPieces, stamp_of}
 use Rattle.node_parts.specs.Steps.{Leaves, close_made, made_of}
-use Rattle.node_parts.proofs.Closing.{fed_closed, for_one, leaves_closed, opens_closed, parts_closed, pieces_closed, shut_end, sound_closed}
+use Rattle.node_parts.proofs.Closes.{fed_closed, for_one, leaves_closed, opens_closed, parts_closed, pieces_closed, shut_end, sound_closed}
 use Rattle.node_parts.proofs.parts.Parts.close_end.Goals as goal
 
-pub invariant_of-self-2 : goal.invariant_of-self-2
-invariant_of-self-2 c =
+pub invariant_of-self : goal.invariant_of-self
+invariant_of-self c =
     let i = c.self.inside in
     sound_closed (record { table = i.table; links = i.ends; sessions = i.sessions; jobs = i.jobs }) c.close-done.new.ends c.shut.new.sessions c.shut.new.table (name_of c.args.id) c.self.invariant c.shut.ensures c.close-done.ensures.paired c.close-done.ensures.count
 

@@ -10,19 +10,19 @@ use Rattle.node_parts.specs.Crashing.{SendsCloses, all_names}
 use Rattle.node_parts.specs.Parts.{AreAllFed, AreParts, PartsView}
 use Rattle.node_parts.specs.Posting.{PostsPieces, stamp_of}
 use Rattle.node_parts.specs.Steps.{Leaves}
-use Rattle.node_parts.proofs.Crashing.{fed_crashed, leaves_crashed, parts_crashed, pieces_crashed, sent_crashed, sound_crashed}
+use Rattle.node_parts.proofs.Crashes.{fed_crashed, leaves_crashed, parts_crashed, pieces_crashed, sent_crashed, sound_crashed}
 use Rattle.node_parts.proofs.parts.Parts.crash.Goals as goal
 
-was : goal.After-let_go → PartsView
+abbrev was : goal.After-let_go → PartsView
 was c = let i = c.self.inside in record { table = i.table; links = i.ends; sessions = i.sessions; jobs = i.jobs }
 
-now : goal.After-let_go → PartsView
+abbrev now : goal.After-let_go → PartsView
 now c = record { table = c.let_go.new.table; links = c.shut_all-sent.new.ends; sessions = c.let_go.new.sessions; jobs = c.let_go.new.jobs }
 
-made : goal.After-let_go → Done
+abbrev made : goal.After-let_go → Done
 made c = record { kind = Crash c.args.clock; taken = None; sent = c.shut_all-sent.result; owes = None }
 
-sender : goal.After-let_go → EntryStamp
+abbrev sender : goal.After-let_go → EntryStamp
 sender c = stamp_of c.args.moment (was c).jobs.place.number
 
 sends : (c : goal.After-let_go) → SendsCloses (all_names (was c).jobs.place.number (length (was c).jobs.place.ids)) (sender c) (was c).links (now c).links [] (made c).sent

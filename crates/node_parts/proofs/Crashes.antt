@@ -1,5 +1,5 @@
 -- What a crash sends at the ends, and what it leaves of the parts.
-use Rattle.std.proofs.Common.{◌≡◌, ◌≢◌, ◌⊎◌, inl, inr, ℕ, ◌<◌, ◌+◌, Bool, true, false, if◌then◌else◌, List, [], ◌∷◌, ◌++◌, Option, Some, None, length, map, refl, sym, ap, subst, ◌∙◌, arith, append_assoc, append-nil, true≢false}
+use Rattle.std.proofs.Common.{◌≡◌, ◌≢◌, ◌⊎◌, inl, inr, ℕ, ◌<◌, ◌+◌, Bool, true, false, if◌then◌else◌, List, [], ◌∷◌, ◌++◌, Option, None, length, map, refl, sym, ap, subst, ◌∙◌, arith, append_assoc, append-nil, true≢false}
 use Rattle.std.specs.Prelude.{◌==◌, ◌&&◌, ◌||◌, All, flat_map, fold, not}
 use Rattle.std.specs.List.{range_with_len}
 use Rattle.std.proofs.Math.Bool.{or-true}
@@ -134,7 +134,7 @@ sends_then names names' sender was mid now xs ys zs first second apart = record 
 other_slot : (a b : EndName) → (a.slot ≡ b.slot → ⊥) → a ≢ b
 other_slot a b apart same = apart (ap (λ (x : EndName). x.slot) same)
 
-abbrev slot_end : ℕ → Bool → ℕ → EndName
+abbrev pub slot_end : ℕ → Bool → ℕ → EndName
 slot_end peer client slot = record { peer = peer; slot = slot; client = client }
 
 -- the slots of one side
@@ -257,8 +257,7 @@ module _ (links : List EndView) (b : EndName) where
 -- ---- the rows
 
 pub agrees_labels : (known : Option (List HoldRecord)) (was now : List Hold) → map label_of now ≡ map label_of was → Agrees known was → Agrees known now
-agrees_labels None was now same agrees = tt
-agrees_labels (Some records) was now same agrees = agrees ∙ sym same
+agrees_labels known was now same agrees = λ records told. agrees records told ∙ sym same
 
 -- ---- the parts
 
