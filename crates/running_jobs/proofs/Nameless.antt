@@ -17,14 +17,12 @@ use Rattle.trust_groups.specs.Settings.{Lines, claims, level_in, settings, value
 same_repo : (x y : List ℕ) → topics.Repo x ≡ topics.Repo y → x ≡ y
 same_repo x y e = cc
 
-not_empty : 0 ≡ 16 → ⊥
-not_empty e = cc
-
 none_said : (lines : List (List ℕ)) (e : Entry) → Says kinds.Trust lines e → e.topic ≡ topics.Repo [] → ⊥
 none_said lines e said here =
     let form = said.says.form in
     let same : form.id ≡ [] = same_repo form.id [] (sym form.topic ∙ here) in
-    not_empty (subst (λ (id : List ℕ). length id ≡ 16) same form.repo.0)
+    let none : ◌≡◌ {A = ℕ} 0 16 = subst (λ (id : List ℕ). length id ≡ 16) same form.repo.0 in
+    cc
 
 pub nameless_asked : ((kind : LogKind) (lines : List (List ℕ)) (topic : Topic) → (newest_of kind lines topic ≡ None) ↔ ((e : Entry) → Says kind lines e → e.topic ≢ topic)) → (lines : Lines) (key : List ℕ)
     → standing_by (settings lines) key [] ≡ drops.Asked
