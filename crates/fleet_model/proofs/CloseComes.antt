@@ -7,7 +7,8 @@ use Rattle.std.proofs.lemmas.List.{length-reverse}
 use Rattle.std.proofs.lemmas.Option.{slice_get_within}
 use Rattle.annex_base.specs.Lists.{Each, Member}
 use Rattle.annex_base.proofs.Lists.{Each-weaker, slice_get-within}
-use Rattle.link_ring.specs.Ends.{EndView, fresh}
+use Rattle.link_ring.specs.Ends.{EndView}
+use Rattle.link_ring.specs.Places.{end_place}
 use Rattle.object_store.specs.Stores.{Contents, Parts}
 use Rattle.run_data.specs.Histories.{most_entries}
 use Rattle.run_data.specs.declared.entry.Entry.{Entry}
@@ -108,13 +109,15 @@ carried_once count r mine base first second x y q a q_in a_in apart = by_slot (n
 
     by_slot : (t : Bool) → nat_lt a.slot 4 ≡ t → link_at (first q) a ≡ link_at (second q) a
     by_slot true e = by_end (q == r) (a.peer == r) refl refl (four a.slot e)
-    by_slot false e = ap (λ (t : Bool). if t then _ else None) e ∙ sym (ap (λ (t : Bool). if t then _ else None) e)
+    by_slot false e =
+        ap (λ (t : Bool). if t then slice_get (first q) (end_place a.peer a.slot a.client) else None) e
+        ∙ sym (ap (λ (t : Bool). if t then slice_get (second q) (end_place a.peer a.slot a.client) else None) e)
 
 -- ---- before the close
 
 -- the ends that are to be closed
 pub to_close : (g : DriverInput) (r other : ℕ) → IsOther g r other → Each (IsAway (length g.repos) r) (ends_to other)
-to_close g r other is = (one 0 true low0, one 1 true low1, one 2 true low2, one 3 true low3, one 0 false low0, one 1 false low1, one 2 false low2, one 3 false low3, tt)
+to_close g r other is = (one 0 true low0, (one 1 true low1, (one 2 true low2, (one 3 true low3, (one 0 false low0, (one 1 false low1, (one 2 false low2, (one 3 false low3, tt))))))))
   where
     one : (slot : ℕ) (client : Bool) → slot < 4 → IsAway (length g.repos) r (end_with other slot client)
     one slot client low = record { peer = is.0; other = is.1; slot = low }

@@ -160,8 +160,8 @@ posted_elsewhere a b c sender kind was now p other =
 
 -- ---- carried ends
 
-abbrev pub IsThere : Option EndView → Type 0
-IsThere o = (v : EndView) × (o ≡ Some v)
+abbrev pub IsThere : {X : Type 0} → Option X → Type 0
+IsThere {X} o = (x : X) × (o ≡ Some x)
 
 pub there_is : (o : Option EndView) → is_some o ≡ true → IsThere o
 there_is None e = absurd (cc)
