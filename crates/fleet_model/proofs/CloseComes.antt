@@ -1,10 +1,9 @@
 -- A fleet whose node closed its ends of the connections with another has come to where the driver is after the close.
-use Rattle.std.proofs.Common.{◌≡◌, ◌≢◌, ◌⊎◌, ℕ, ◌+◌, ◌*◌, ◌<◌, ◌≤◌, ◌^◌, Bool, true, false, not, List, [], ◌∷◌, ◌++◌, Option, Some, None, length, refl, sym, ap, ◌∙◌, subst, arith}
+use Rattle.std.proofs.Common.{◌≡◌, ◌≢◌, ℕ, ◌+◌, ◌<◌, ◌≤◌, ◌^◌, Bool, true, false, List, [], ◌∷◌, ◌++◌, Option, Some, None, length, refl, sym, ap, ◌∙◌, subst, arith}
 use Rattle.std.specs.Prelude.{◌==◌, cond, drop, filter, if◌then◌else◌, nat_lt, reverse, slice_get}
 use Rattle.std.proofs.lemmas.Bool.{eqb-false, eqb-true}
 use Rattle.std.proofs.lemmas.Bool.Decides.{nat_tests}
 use Rattle.std.proofs.lemmas.List.{length-reverse}
-use Rattle.std.proofs.lemmas.Option.{slice_get_within}
 use Rattle.annex_base.specs.Lists.{Each, Member}
 use Rattle.annex_base.proofs.Lists.{Each-weaker, slice_get-within}
 use Rattle.link_ring.specs.Ends.{EndView}
@@ -27,7 +26,7 @@ use Rattle.joined_nodes.specs.Nodes.{NodeView, state_of, told_of}
 use Rattle.joined_nodes.specs.Parts.{AreParts}
 use Rattle.joined_nodes.specs.Running.{Jobs, given_of, words_at}
 use Rattle.joined_nodes.specs.Stored.{StoreView}
-use Rattle.driver_model.specs.Driver.{Driver, DriverInput, part_at, set_up_of, state_at}
+use Rattle.driver_model.specs.Driver.{Driver, DriverInput, part_at, set_up_of}
 use Rattle.driver_model.specs.Scripts.{HasBoundedPast, IsOther}
 use Rattle.driver_model.specs.ScriptSteps.{closes, closes_each, lacks_places}
 use Rattle.driver_model.specs.Sound.{IsSound, StaysSound}
