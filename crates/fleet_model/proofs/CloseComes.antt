@@ -1,13 +1,13 @@
 -- A fleet whose node closed its ends of the connections with another has come to where the driver is after the close.
-use Rattle.std.proofs.Common.{◌≡◌, ◌≢◌, ◌⊎◌, ℕ, ◌+◌, ◌*◌, ◌<◌, ◌≤◌, ◌^◌, Bool, true, false, not, List, [], ◌∷◌, ◌++◌, Option, Some, None, length, refl, sym, ap, ◌∙◌, subst, arith}
+use Rattle.std.proofs.Common.{◌≡◌, ◌≢◌, ℕ, ◌+◌, ◌<◌, ◌≤◌, ◌^◌, Bool, true, false, List, [], ◌∷◌, ◌++◌, Option, Some, None, length, refl, sym, ap, ◌∙◌, subst, arith}
 use Rattle.std.specs.Prelude.{◌==◌, cond, drop, filter, if◌then◌else◌, nat_lt, reverse, slice_get}
 use Rattle.std.proofs.lemmas.Bool.{eqb-false, eqb-true}
 use Rattle.std.proofs.lemmas.Bool.Decides.{nat_tests}
 use Rattle.std.proofs.lemmas.List.{length-reverse}
-use Rattle.std.proofs.lemmas.Option.{slice_get_within}
 use Rattle.annex_base.specs.Lists.{Each, Member}
 use Rattle.annex_base.proofs.Lists.{Each-weaker, slice_get-within}
-use Rattle.link_ring.specs.Ends.{EndView, fresh}
+use Rattle.link_ring.specs.Ends.{EndView}
+use Rattle.link_ring.specs.Places.{end_place}
 use Rattle.object_store.specs.Stores.{Contents, Parts}
 use Rattle.run_data.specs.Histories.{most_entries}
 use Rattle.run_data.specs.declared.entry.Entry.{Entry}
@@ -26,7 +26,7 @@ use Rattle.joined_nodes.specs.Nodes.{NodeView, state_of, told_of}
 use Rattle.joined_nodes.specs.Parts.{AreParts}
 use Rattle.joined_nodes.specs.Running.{Jobs, given_of, words_at}
 use Rattle.joined_nodes.specs.Stored.{StoreView}
-use Rattle.driver_model.specs.Driver.{Driver, DriverInput, part_at, set_up_of, state_at}
+use Rattle.driver_model.specs.Driver.{Driver, DriverInput, part_at, set_up_of}
 use Rattle.driver_model.specs.Scripts.{HasBoundedPast, IsOther}
 use Rattle.driver_model.specs.ScriptSteps.{closes, closes_each, lacks_places}
 use Rattle.driver_model.specs.Sound.{IsSound, StaysSound}
@@ -108,13 +108,15 @@ carried_once count r mine base first second x y q a q_in a_in apart = by_slot (n
 
     by_slot : (t : Bool) → nat_lt a.slot 4 ≡ t → link_at (first q) a ≡ link_at (second q) a
     by_slot true e = by_end (q == r) (a.peer == r) refl refl (four a.slot e)
-    by_slot false e = ap (λ (t : Bool). if t then _ else None) e ∙ sym (ap (λ (t : Bool). if t then _ else None) e)
+    by_slot false e =
+        ap (λ (t : Bool). if t then slice_get (first q) (end_place a.peer a.slot a.client) else None) e
+        ∙ sym (ap (λ (t : Bool). if t then slice_get (second q) (end_place a.peer a.slot a.client) else None) e)
 
 -- ---- before the close
 
 -- the ends that are to be closed
 pub to_close : (g : DriverInput) (r other : ℕ) → IsOther g r other → Each (IsAway (length g.repos) r) (ends_to other)
-to_close g r other is = (one 0 true low0, one 1 true low1, one 2 true low2, one 3 true low3, one 0 false low0, one 1 false low1, one 2 false low2, one 3 false low3, tt)
+to_close g r other is = (one 0 true low0, (one 1 true low1, (one 2 true low2, (one 3 true low3, (one 0 false low0, (one 1 false low1, (one 2 false low2, (one 3 false low3, tt))))))))
   where
     one : (slot : ℕ) (client : Bool) → slot < 4 → IsAway (length g.repos) r (end_with other slot client)
     one slot client low = record { peer = is.0; other = is.1; slot = low }

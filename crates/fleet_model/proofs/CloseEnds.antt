@@ -1,11 +1,10 @@
 -- What one Close of a node makes of its ends and of those of the others, as if frames were carried behind it.
-use Rattle.std.proofs.Common.{◌≡◌, ◌≢◌, ◌⊎◌, inl, inr, ℕ, ◌+◌, ◌*◌, ◌<◌, Bool, true, false, not, List, [], ◌∷◌, ◌++◌, Option, Some, None, length, map, refl, sym, ap, ◌∙◌, subst, arith}
-use Rattle.std.specs.Prelude.{◌==◌, ◌&&◌, IfSome, cond, fold, if◌then◌else◌, is_some}
+use Rattle.std.proofs.Common.{◌≡◌, ◌≢◌, ◌⊎◌, inl, inr, ℕ, ◌+◌, ◌<◌, Bool, true, false, not, List, [], ◌∷◌, ◌++◌, Option, Some, None, length, map, refl, sym, ap, ◌∙◌, subst, arith}
+use Rattle.std.specs.Prelude.{◌==◌, ◌&&◌, cond, if◌then◌else◌, is_some}
 use Rattle.std.specs.List.{AllZip}
 use Rattle.std.specs.Option.{option_map}
-use Rattle.std.proofs.lemmas.Bool.{and_parts, eqb-true, true≢false}
+use Rattle.std.proofs.lemmas.Bool.{and_parts, eqb-true}
 use Rattle.std.proofs.lemmas.List.{append-nil, append_assoc, length-append}
-use Rattle.std.proofs.lemmas.Option.{same_Some}
 use Rattle.annex_base.specs.Bools.{same_bool}
 use Rattle.annex_base.specs.declared.kinds.EntryStamp.{EntryStamp}
 use Rattle.annex_base.specs.declared.kinds.Word.{Word}
@@ -160,8 +159,8 @@ posted_elsewhere a b c sender kind was now p other =
 
 -- ---- carried ends
 
-abbrev pub IsThere : Option EndView → Type 0
-IsThere o = (v : EndView) × (o ≡ Some v)
+abbrev pub IsThere : {X : Type 0} → Option X → Type 0
+IsThere {X} o = (x : X) × (o ≡ Some x)
 
 pub there_is : (o : Option EndView) → is_some o ≡ true → IsThere o
 there_is None e = absurd (cc)

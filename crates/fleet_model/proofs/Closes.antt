@@ -1,8 +1,7 @@
 -- A node closes its ends of the connections with another, one after the other, as the driver does.
-use Rattle.std.proofs.Common.{◌≡◌, ◌≢◌, ◌⊎◌, inl, inr, ℕ, ◌+◌, ◌*◌, ◌<◌, ◌≤◌, ◌^◌, Bool, true, false, not, List, [], ◌∷◌, ◌++◌, Option, Some, None, length, map, refl, sym, ap, ◌∙◌, subst, arith}
-use Rattle.std.specs.Prelude.{IfSome, filter, fold, if◌then◌else◌, is_some, reverse, slice_get}
-use Rattle.std.specs.Option.{ForSome, option_map}
-use Rattle.std.proofs.lemmas.Option.{same_Some}
+use Rattle.std.proofs.Common.{◌≡◌, ◌≢◌, ◌⊎◌, inl, inr, ℕ, ◌+◌, ◌*◌, ◌<◌, Bool, true, false, not, List, [], ◌∷◌, ◌++◌, Option, Some, None, length, map, refl, sym, ap, ◌∙◌, subst}
+use Rattle.std.specs.Prelude.{fold, if◌then◌else◌, is_some}
+use Rattle.std.specs.Option.{option_map}
 use Rattle.annex_base.specs.Lists.{Each, Member}
 use Rattle.annex_base.specs.declared.kinds.EntryStamp.{EntryStamp}
 use Rattle.annex_base.specs.declared.kinds.Word.{Word}
@@ -12,10 +11,8 @@ use Rattle.object_store.specs.Stores.{Contents}
 use Rattle.run_data.specs.declared.entry.Entry.{Entry}
 use Rattle.run_data.specs.declared.entry.EntryKind.{EntryKind}
 use Rattle.run_data.specs.declared.entry.EntryKind.TheVariants as kinds
-use Rattle.run_data.specs.declared.entry.FrameText.TheVariants as texts
 use Rattle.run_data.specs.declared.entry.FrameView.{FrameView}
 use Rattle.run_model.specs.Logs.{branch, branch_after}
-use Rattle.run_model.specs.Past.{is_of}
 use Rattle.run_model.specs.States as runs
 use Rattle.node_model.specs.AnyTime.{all_ends, close_at}
 use Rattle.node_model.specs.Ends.{End, EndName, end_after, end_sends, is_opening, sent_at}
@@ -24,10 +21,9 @@ use Rattle.node_model.specs.State.{State}
 use Rattle.node_ends.specs.declared.sending.Sending.{Sending}
 use Rattle.node_ends.specs.declared.sending.Sending.TheVariants as sendings
 use Rattle.node_ends.specs.Sent.{text_of_sending}
-use Rattle.node_ends.specs.Ends.{AreEnds, IsEndOf, end_at, end_in, link_at, stands}
+use Rattle.node_ends.specs.Ends.{AreEnds, IsEndOf, end_at, end_in, link_at}
 use Rattle.node_ends.specs.Joined.{end_with, link_carried}
 use Rattle.joined_nodes.specs.Closing.{Closes, ClosesEach, LeavesShut, close_entry}
-use Rattle.joined_nodes.specs.Nodes as nodes
 use Rattle.joined_nodes.specs.Nodes.{NodeView}
 use Rattle.joined_nodes.specs.Posting.{Posts, word_with}
 use Rattle.joined_nodes.specs.Stored.{StoreView}

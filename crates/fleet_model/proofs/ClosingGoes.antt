@@ -1,6 +1,6 @@
 -- Where the driver closes ends of a repository, this alone goes on, by entries that no job makes.
-use Rattle.std.proofs.Common.{◌≡◌, ◌≢◌, ℕ, ◌+◌, ◌<◌, ◌≤◌, ◌^◌, Bool, true, false, List, [], ◌∷◌, ◌++◌, Option, None, length, refl, sym, ap, ◌∙◌, subst, le_refl, le_trans, le-add_right}
-use Rattle.std.specs.Prelude.{filter, if◌then◌else◌, nat_lt}
+use Rattle.std.proofs.Common.{◌≡◌, ℕ, ◌+◌, Bool, true, false, List, [], ◌∷◌, ◌++◌, Option, None, refl, sym, ap, ◌∙◌, subst, le_refl, le_trans, le-add_right}
+use Rattle.std.specs.Prelude.{if◌then◌else◌}
 use Rattle.std.proofs.lemmas.List.{append_assoc}
 use Rattle.annex_base.specs.Lists.{Each}
 use Rattle.annex_base.specs.declared.kinds.Word.{Word}
@@ -17,8 +17,6 @@ use Rattle.run_model.specs.States.{end_at}
 use Rattle.driver_model.specs.Driver.{Driver, DriverInput, entry, newest_count, set_up_of, state_at}
 use Rattle.driver_model.specs.ScriptSteps.{closes_each, closes_end, sends}
 use Rattle.link_flights.specs.Heard.{HeardSo}
-use Rattle.joined_nodes.specs.Stored.{StoreView}
-use Rattle.fleet_model.specs.Stores.{IsStoreOf}
 use Rattle.fleet_model.proofs.Going.{GoesOn, IsWithin}
 use Rattle.fleet_model.proofs.Hearing.{WordLaws}
 

@@ -1,5 +1,5 @@
 -- A node of a fleet closes ends, and frames are carried after it: the driver's close follows.
-use Rattle.std.proofs.Common.{◌≡◌, ◌≢◌, ◌⊎◌, inl, inr, ℕ, ◌+◌, ◌<◌, ◌≤◌, ◌^◌, Bool, true, false, List, [], ◌∷◌, Option, Some, Result, Ok, Err, length, refl, sym, ap, ◌∙◌, subst, arith}
+use Rattle.std.proofs.Common.{◌≡◌, ◌≢◌, ◌⊎◌, inl, inr, ℕ, ◌+◌, ◌<◌, ◌≤◌, ◌^◌, Bool, true, false, List, [], ◌∷◌, Option, Some, Ok, Err, length, refl, sym, ap, ◌∙◌, subst, arith}
 use Rattle.std.specs.Prelude.{IfErr, IsErrOf, OnErr, OnOk, if◌then◌else◌, slice_get}
 use Rattle.std.proofs.lemmas.List.{length-append}
 use Rattle.annex_base.proofs.Lists.{slice_get-within}
@@ -19,7 +19,6 @@ use Rattle.fleet_entries.specs.Joined as joined
 use Rattle.fleet_entries.specs.Nodes.{NodeView, state_of, told_of}
 use Rattle.fleet_entries.specs.Parts.{AreParts}
 use Rattle.fleet_entries.specs.Stored.{StoreView}
-use Rattle.fleet_entries.specs.declared.NodeRefused.{NodeRefused}
 use Rattle.fleet_entries.specs.declared.NodeRefused.TheVariants as refusals
 use Rattle.fleet_entries.specs.AtDriver.{ClosesNone, GoesOn, HasPlaces}
 use Rattle.fleet_entries.specs.Fleets.{FleetView, HasCome}
