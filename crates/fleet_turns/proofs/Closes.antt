@@ -54,7 +54,7 @@ pub record ClosingLaws {K : Type 0} (tells : K → StoreView) : Type 0 where
   pub places : (g : DriverInput) (d : Driver) (r other : ℕ) (n : NodeView K) (was : FleetView K) → HasCome tells g d was → slice_get was.nodes r ≡ Some n
       → AreParts (set_up_of g d r) (state_of (set_up_of g d r) n.history) n.parts → IsOther g r other → steps.lacks_places d.past r other ≡ lacks_places n other
   pub none : (g : DriverInput) (d : Driver) (r other : ℕ) (n : NodeView K) (was : FleetView K) → HasCome tells g d was → slice_get was.nodes r ≡ Some n
-      → AreParts (set_up_of g d r) (state_of (set_up_of g d r) n.history) n.parts → IsOther g r other → lacks_places n other ≡ true → (steps.lacks_places d.past r other ≡ true) × (closes g r other d ≡ d)
+      → AreParts (set_up_of g d r) (state_of (set_up_of g d r) n.history) n.parts → IsOther g r other → lacks_places n other ≡ true → (steps.lacks_places d.past r other ≡ true) × (steps.closes g r other d ≡ d)
   pub few : (g : DriverInput) (past : List Entry) → ((q : ℕ) → q < length g.repos → count_of past q ≤ most_entries) → is_too_long g past ≡ false
 
 -- ---- the node may be called
