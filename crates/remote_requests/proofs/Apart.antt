@@ -169,7 +169,6 @@ hears_apart own target p h w w' out heard phase word unheard other stood sends =
       other = subst (λ (ph : Phase). IfSome (looked_in ph) (λ peer. (target == peer) ≡ false)) (sym phase) tt;
     }) (subst (Each (λ q. is_locked_in w' q.peer ≡ false)) (sym sends) tt) (new_lock own p h w w' heard stood) (λ _. word)
 
-
 -- ---- a connection is closed
 
 -- by the worker or by the peer: nothing but a Close to the peer is sent
@@ -190,7 +189,7 @@ parts_apart own target peer w w' out apart is to = go (target == peer) refl is
           other = subst (λ (ph : Phase). IfSome (looked_in ph) (λ q. (target == q) ≡ false)) (sym phase) tt;
         })
         (Each-weaker (λ p. p.peer ≡ peer) (λ p. is_locked_in w' p.peer ≡ false) (λ p at.
-            ap (λ (n : ℕ). is_locked_in w' n) at ∙ (ap (λ (l : List (ℕ × Heard)). is_held (heard_in l peer)) heard ∙ ap is_held (heard_this peer (heards.Lacks causes.Closed) w.heard))) out.sends.items to)
+        ap (λ (n : ℕ). is_locked_in w' n) at ∙ (ap (λ (l : List (ℕ × Heard)). is_held (heard_in l peer)) heard ∙ ap is_held (heard_this peer (heards.Lacks causes.Closed) w.heard))) out.sends.items to)
         (new_lock own peer (heards.Lacks causes.Closed) w w' heard (λ held _. absurd (true≢false (sym held))))
         (λ _. ap (λ (v : Worker). v.word) e)
 
@@ -210,7 +209,7 @@ module _ (own target : ℕ) (w u w' : Worker) (before : Heard) (was : u ≡ reco
   none_stays : (kind : EntryKind) (cause : Cause) (result : Result Output NoMemory) → IfOk result (GivesNone kind cause u w') × OnErr result ⊥ → IfOk result (StaysApartIn own target w w')
   none_stays kind cause (Ok out) gives = λ other apart.
       let next : w' ≡ record w { heard = (own, heards.Lacks cause) ∷ w.heard; phase = phases.Next } =
-          gives.0.next own before w.heard (ap (λ (v : Worker). v.heard) was) ∙ ap (λ (v : Worker). record v { heard = (own, heards.Lacks cause) ∷ w.heard }) was in
+      gives.0.next own before w.heard (ap (λ (v : Worker). v.heard) was) ∙ ap (λ (v : Worker). record v { heard = (own, heards.Lacks cause) ∷ w.heard }) was in
       hears_apart own target own (heards.Lacks cause) w w' out (ap (λ (v : Worker). v.heard) next) (ap (λ (v : Worker). v.phase) next) (ap (λ (v : Worker). v.word) next) apart.unheard (flip own target other)
       (λ held _. absurd (true≢false (sym held))) gives.0.sends
   none_stays kind cause (Err e) gives = tt
@@ -249,7 +248,7 @@ pub unreleased_apart : (own target time : ℕ) (w v w' : Worker) (out : Output) 
 unreleased_apart own target time w v w' out heard phase word apart f =
     says_apart own target target w w' out (ap (λ (x : Worker). x.heard) f.next ∙ heard) (λ _. ap (λ (x : Worker). x.word) f.next ∙ word) apart.unheard apart.unheard
     (subst (λ (ph : Phase). AsksApart target w.heard ph) (sym (ap (λ (x : Worker). x.phase) f.next ∙ ap (unreleased_phase time) phase))
-        (unreleased_asks time target w w.phase (record { unheard = apart.unheard; asked = apart.asked; other = apart.other })))
+    (unreleased_asks time target w w.phase (record { unheard = apart.unheard; asked = apart.asked; other = apart.other })))
     (subst (Each (λ p. p.peer ≡ target)) (sym f.sends) tt)
 
 -- ---- what a worker learns of versions changes none of it

@@ -73,7 +73,7 @@ returns-in-Ok-clause-apart g c =
     let read = g.H.Here.reading c.args.here.now in
     let w = c.args.worker.now in
     let next : c.take_share.new.self ≡ record w { heard = (read.repo, heards.Held c.args.input.now.time) ∷ w.heard; phase = phases.Next; token = tokens.Share c.in-Ok.share } =
-        c.take_share.ensures ∙ (λ i. record (c.in_ok-hear.ensures.ok i) { token = tokens.Share c.in-Ok.share }) ∙ (λ i. record w { heard = (c.repo.ensures i, heards.Held c.args.input.now.time) ∷ w.heard; phase = phases.Next; token = tokens.Share c.in-Ok.share }) in
+    c.take_share.ensures ∙ (λ i. record (c.in_ok-hear.ensures.ok i) { token = tokens.Share c.in-Ok.share }) ∙ (λ i. record w { heard = (c.repo.ensures i, heards.Held c.args.input.now.time) ∷ w.heard; phase = phases.Next; token = tokens.Share c.in-Ok.share }) in
     shares_stays read.repo c.args.target (heards.Held c.args.input.now.time) w c.take_share.new.self c.quietly.result (ap (λ (u : Worker). u.heard) next) (ap (λ (u : Worker). u.phase) next) (ap (λ (u : Worker). u.word) next) c.quietly.ensures.1
 
 pub returns-in-Err-clause-apart : goal.returns-in-Err-clause-apart
