@@ -31,7 +31,16 @@ class World:
             for name in names:
                 self.change(self.uuid(name), level)
         self.distrust_exports()
-        self.peer = self.uuid(question.source or question.sink) if question.source or question.sink else None
+        self.peer = self.peer_of(question.source or question.sink)
+
+    def peer_of(self, name):
+        """The one with which a job goes on, where the question names it: a clone that can be asked."""
+        if name is None:
+            return None
+        peer = self.uuid(name)
+        if not self.clone(peer):
+            raise Failure("%s can't be asked: %s" % (name, self.why_unasked(peer)))
+        return peer
 
     def change(self, uuid, level):
         """A level that a setting or an option gives, whatever the log says."""

@@ -16,11 +16,12 @@ use Rattle.run_data.specs.declared.entry.FrameText.{FrameText}
 use Rattle.run_data.specs.declared.entry.FrameText.TheVariants.{Opening, Closing, Bytes, Line}
 use Rattle.run_data.specs.declared.job.Job.{Job}
 use Rattle.run_data.specs.declared.run.Run.{Run}
-use Rattle.run_data.specs.Repos.{IsSetUp}
+use Rattle.run_data.specs.Repos.{IsSetUp, id_of}
 use Rattle.p2p_wire.specs.declared.message.Message.{Message}
 use Rattle.p2p_wire.specs.declared.message.Message.TheVariants.{CheckPresent, Failure, LockContent, Success, Timestamp, Version}
 use Rattle.p2p_wire.specs.Messages.{message_of, order_of, text_of}
 use Rattle.node_model.specs.Ends.{EndName, is_opening, server_end}
+use Rattle.node_model.specs.Evidence.{Asked, standing_by}
 use Rattle.node_model.specs.Found.{IsSessionEntry}
 use Rattle.node_model.specs.Jobs
 use Rattle.node_model.specs.Jobs.{AsksLock, AsksLook, Phase}
@@ -31,6 +32,7 @@ use Rattle.node_model.specs.Rows.{is_blocked}
 use Rattle.node_model.specs.SetUp.{SetUp, locks_in, version_in}
 use Rattle.run_model.specs.Drops.{option_is_none}
 use Rattle.run_model.specs.Frames.{FlyingFrame, MayTake, Way, flying_frame, frames_sent, on_way, sender_of, last_of, last_request, requests, says, taken_count, up_of, way_of}
+use Rattle.run_model.specs.Logs.{settings_of}
 use Rattle.run_model.specs.Past.{Occurs, bar, clock, holds, is_of, present}
 use Rattle.run_model.specs.Run.{RunPast, RunStep, set_up}
 use Rattle.run_model.specs.Said.{Says, is_request, message_in}
@@ -92,12 +94,12 @@ module _ (reads_back : SentAreRead) (run : Run) (repos : Each IsSetUp run.repos)
   abbrev base : List Entry
   base = b ∷ past
 
-  -- what is heard of a candidate fits its row as the drop began
+  -- what is heard of a candidate fits its row as the drop began; of the own repository, where it is asked
   abbrev pub FitRow : ℕ → Jobs.Heard → Type 0
   FitRow c (Jobs.Held since) = (is_free past c what.key ≡ true) × (gives_hold run.repos a c ≡ true) × (since ≡ b.time)
   FitRow c Jobs.Seen = (is_free past c what.key ≡ true) × (gives_hold run.repos a c ≡ false)
   FitRow c Jobs.Unseen = is_free past c what.key ≡ false
-  FitRow c (Jobs.Lacks cause) = (c ≡ a) × (is_free past a what.key ≡ false)
+  FitRow c (Jobs.Lacks cause) = (c ≡ a) × (standing_by (settings_of past a) what.key (id_of run.repos a) ≡ Asked → is_free past a what.key ≡ false)
 
   -- of the target nothing is asked, of a local drop of its own repository
   abbrev pub Fit : ℕ → Jobs.Heard → Type 0

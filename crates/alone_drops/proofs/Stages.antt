@@ -17,8 +17,10 @@ use Rattle.run_data.specs.declared.run.Run.{Run}
 use Rattle.run_data.specs.Repos.{IsSetUp, id_of}
 use Rattle.run_data.specs.declared.job.JobKind.{JobKind}
 use Rattle.wanted_expr.specs.Wanted.{required}
+use Rattle.node_model.specs.Evidence.{standing_by}
 use Rattle.node_model.specs.Jobs
 use Rattle.node_model.specs.Jobs.{Drops, Puts, Phase, Fresh, Next, Opens, Greets, AsksLock, AsksLook, AsksTime, Removed, Orders, Work, new_work, works_after, Gets, Part, first_part, drop_side, or_own, side_of, target_of}
+use Rattle.node_model.specs.Knows.{standing_of}
 use Rattle.node_model.specs.Rows.{option_is}
 use Rattle.node_model.specs.SetUp.{SetUp, version_in}
 use Rattle.node_model.specs.Slots.{job_of}
@@ -196,9 +198,15 @@ module _ (reads_back : SentAreRead) (run : Run) (repos : Each IsSetUp run.repos)
 
   -- ---- what its first step finds: all stands as it began
 
+  -- how the logs that it reads see its own repository
+  standing_read : (p : List Entry) (w : Work) → settings_of (read_at p a w.number) a ≡ settings_of past a → w.what ≡ what → standing_of s (state_of s p) w a ≡ standing_by (settings_of past a) what.key (id_of run.repos a)
+  unfolding standing_of
+  standing_read p w logs what_is = λ n. standing_by (logs n) (what_is n).key (id_of run.repos a)
+
   pub record AsBegun (p : List Entry) (w : Work) : Type 0 where
     pub unread : before_step p a w.number ≡ None
     pub settings_is : settings_of p a ≡ settings_of past a
+    pub standing_is : standing_of s (state_of s p) w a ≡ standing_by (settings_of past a) what.key (id_of run.repos a)
     pub present_is : present p a w.what.key ≡ present past a what.key
     pub bar_is : bar p a w.what.key ≡ bar past a what.key
     pub holds_are : holds p a ≡ holds past a
@@ -209,6 +217,7 @@ module _ (reads_back : SentAreRead) (run : Run) (repos : Each IsSetUp run.repos)
   as_begun p w pp runs i fresh number what_is = record {
     unread = unread;
     settings_is = settings_is;
+    standing_is = standing_read p w logs what_is;
     present_is = (λ n. present p a (what_is n).key) ∙ (ap (λ (q : State). q.present what.key) same ∙ base_present reads_back run repos past b a j what z h0 what.key);
     bar_is = (λ n. bar p a (what_is n).key) ∙ (ap (λ (q : State). q.bar what.key) same ∙ base_bar reads_back run repos past b a j what z h0 what.key);
     holds_are = ap (λ (q : State). q.holds) same ∙ base_holds reads_back run repos past b a j what z h0;

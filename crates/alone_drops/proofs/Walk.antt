@@ -30,6 +30,7 @@ use Rattle.run_data.specs.declared.entry.FrameText.TheVariants.{Line}
 use Rattle.p2p_wire.specs.declared.message.Message.TheVariants.{CheckPresent, Failure, Success, Timestamp, Version}
 use Rattle.p2p_wire.specs.Messages.{order_of, message_of, text_of}
 use Rattle.wanted_expr.specs.Wanted.{required}
+use Rattle.node_model.specs.Evidence.{Asked, standing_by}
 use Rattle.node_model.specs.Clocks.{hold_time}
 use Rattle.node_model.specs.Found.{IsJobEntry, HasDeadline, GivesOrder}
 use Rattle.node_model.specs.Jobs
@@ -53,6 +54,7 @@ use Rattle.step_facts.proofs.Makers.{taken_of, taker}
 use Rattle.step_facts.proofs.WorkNumbers.{same_number_same_work}
 use Rattle.past_facts.proofs.OwnRuns.{Part, own_past, part_of}
 use Rattle.job_facts.proofs.OrdersRead.{order_read}
+use Rattle.job_facts.proofs.FirstTalks.{FirstSays, Untold, step_first}
 use Rattle.job_facts.proofs.HeardLists.{Changed, kind_changed, share_or, talker_is}
 use Rattle.job_facts.proofs.PhaseFacts.{GoodTo, is_fresh, readies_place}
 use Rattle.job_facts.proofs.TalkFacts.{Fits, SaysOne, TalkKind, OrderStands}
@@ -89,9 +91,13 @@ first_talk : (rows : RowsAndEnds) (r : ℕ) (v : Work) (e : Entry) (i : ℕ) →
 first_talk rows r v e i fresh part none silent = rw (fresh, part, none, silent) refl
 
 first_next : (r : ℕ) (v : Work) (here : Bool) (barred : Option ℕ) → (first_look r v Drops here barred).phase ≡ Next
-first_next r v false barred = refl
-first_next r v true None = refl
-first_next r v true (Some i) = refl
+first_next r v here barred = refl
+
+-- a content under a bar isn't free
+barred_off : (here : Bool) (bar : Option ℕ) (job : ℕ) → bar ≡ Some job → (here && option_is_none bar) ≡ false
+barred_off false bar job e = refl
+barred_off true None job e = absurd (cc)
+barred_off true (Some i) job e = refl
 
 -- a deadline of ten minutes after the timestamp is later than the clock that the timestamp is of
 deadline_later : (c t first n secs : ℕ) → secs ≡ t / 1000 → first ≡ c + 600000 → n ≡ secs + (first - c) / 1000 → t < 1000 * n
@@ -240,10 +246,13 @@ module _ (reads_back : SentAreRead) (run : Run) (repos : Each IsSetUp run.repos)
       own_holds : gives_hold run.repos a a ≡ true
       own_holds = rw (eqb_refl a) refl
 
-      look_heard : (d : Bool) (o : Option ℕ) → present p a v.what.key ≡ d → bar p a v.what.key ≡ o → Each (λ x. F x.0 x.1) (first_look a v Drops d o).heard
-      look_heard false o d' o' = (λ off. (refl, (λ i. (sym begun.present_is ∙ d') i && option_is_none (bar past a what.key))), old.heard)
-      look_heard true (Some i) d' o' = (λ off. (refl, (λ n. (sym begun.present_is ∙ d') n && option_is_none ((sym begun.bar_is ∙ o') n))), old.heard)
-      look_heard true None d' o' = old.heard
+      not_free : Untold turn → standing_by (settings_of past a) what.key (id_of run.repos a) ≡ Asked → is_free past a what.key ≡ false
+      not_free (inl unasked) asked = absurd (unasked (begun.standing_is ∙ asked))
+      not_free (inr (inl gone)) asked = λ n. (sym begun.present_is ∙ gone) n && option_is_none (bar past a what.key)
+      not_free (inr (inr x)) asked = barred_off (present past a what.key) (bar past a what.key) x.0 (sym begun.bar_is ∙ x.1)
+
+      look_heard : Untold turn → Each (λ x. F x.0 x.1) (first_look a v Drops (present p a v.what.key) (bar p a v.what.key)).heard
+      look_heard told = (λ off. (refl, not_free told), old.heard)
 
       first_step : (kind : EntryKind) → e.kind ≡ kind → IsJobEntry turn st.by.made kind → TalkKind turn st.by.made kind → Each (λ x. F x.0 x.1) (after kind).heard × S (e ∷ p) (after kind).phase
       first_step (Share hold end by key) is k tk =
@@ -255,8 +264,9 @@ module _ (reads_back : SentAreRead) (run : Run) (repos : Each IsSetUp run.repos)
       first_step (ends_job i outcome) is k tk = absurd (st.goes_on i outcome is)
       first_step (Talk (Some i)) is k tk =
           let y = tk.first old.part_is fresh in
-          let talks = first_talk rows a v e i fresh old.part_is (ap (λ (q : Entry). q.taken) st.by.is ∙ y.takes_none) (ap (λ (q : Entry). q.sent) st.by.is ∙ y.sends_none) in (
-            subst (λ (g : Work). Each (λ x. F x.0 x.1) g.heard) (sym talks) (look_heard (present p a v.what.key) (bar p a v.what.key) refl refl),
+          let talks = first_talk rows a v e i fresh old.part_is (ap (λ (q : Entry). q.taken) st.by.is ∙ y.takes_none) (ap (λ (q : Entry). q.sent) st.by.is ∙ y.sends_none) in
+          let told : Untold turn = subst (FirstSays turn) (sym (ap (λ (q : Entry). q.kind) st.by.is) ∙ is) (step_first turn st.by.made old.part_is fresh st.by.does) in (
+            subst (λ (g : Work). Each (λ x. F x.0 x.1) g.heard) (sym talks) (look_heard told),
             subst (S (e ∷ p)) (sym (ap (λ (g : Work). g.phase) talks ∙ first_next a v (present p a v.what.key) (bar p a v.what.key))) (first_under (of_remote y.side), tt),
           )
       first_step (Fault call by) is k tk = absurd (true≢false (sym t.0.kind ∙ ap is_calm is))

@@ -40,11 +40,11 @@ use Rattle.alone_drops.proofs.Judging.{lacks, passes, suffices}
 -- ---- one candidate
 
 -- what was heard fits whether the content is free there, and whether holds are given
-abbrev FitsRow : Bool → Bool → Heard → Type 0
-FitsRow free holds (Jobs.Held since) = (free ≡ true) × (holds ≡ true)
-FitsRow free holds Jobs.Seen = (free ≡ true) × (holds ≡ false)
-FitsRow free holds Jobs.Unseen = free ≡ false
-FitsRow free holds (Jobs.Lacks cause) = free ≡ false
+abbrev FitsRow : Standing → Bool → Bool → Heard → Type 0
+FitsRow standing free holds (Jobs.Held since) = (free ≡ true) × (holds ≡ true)
+FitsRow standing free holds Jobs.Seen = (free ≡ true) × (holds ≡ false)
+FitsRow standing free holds Jobs.Unseen = free ≡ false
+FitsRow standing free holds (Jobs.Lacks cause) = standing ≡ Asked → free ≡ false
 
 -- it is an offer, and full where the kind is
 abbrev IsAsGiven : Offered → Kind → Type 0
@@ -54,7 +54,7 @@ full_kind : Offer → Bool
 full_kind (Gives kind) = is_full_kind kind
 full_kind Fails = false
 
-given_offer : (clock : ℕ → ℕ) (standing : Standing) (o : Option Heard) (free holds : Bool) (kind : Kind) → ((h : Heard) → o ≡ Some h → FitsRow free holds h) → offer_by clock standing o ≡ Gives kind → IsAsGiven (offered standing free holds) kind
+given_offer : (clock : ℕ → ℕ) (standing : Standing) (o : Option Heard) (free holds : Bool) (kind : Kind) → ((h : Heard) → o ≡ Some h → FitsRow standing free holds h) → offer_by clock standing o ≡ Gives kind → IsAsGiven (offered standing free holds) kind
 unfolding full_kind
 given_offer clock Claimed o free holds kind fits e = (refl, sym (ap full_kind e))
 given_offer clock (Ignored cause) o free holds kind fits e = absurd (cc)
@@ -70,7 +70,7 @@ no_offer : (free holds : Bool) → free ≡ false → is_offer (offered Asked fr
 no_offer true holds e f = true≢false e
 no_offer false holds e f = cc
 
-offer_given : (clock : ℕ → ℕ) (standing : Standing) (o : Option Heard) (free holds : Bool) → ((h : Heard) → o ≡ Some h → FitsRow free holds h) → is_unasked standing o ≡ false → is_offer (offered standing free holds) ≡ true
+offer_given : (clock : ℕ → ℕ) (standing : Standing) (o : Option Heard) (free holds : Bool) → ((h : Heard) → o ≡ Some h → FitsRow standing free holds h) → is_unasked standing o ≡ false → is_offer (offered standing free holds) ≡ true
     → (kind : Kind) × (offer_by clock standing o ≡ Gives kind)
 offer_given clock Claimed o free holds fits asked e = (Trusted, refl)
 offer_given clock (Ignored cause) o free holds fits asked e = absurd (cc)
@@ -78,7 +78,7 @@ offer_given clock Asked None free holds fits asked e = absurd (cc)
 offer_given clock Asked (Some (Jobs.Held since)) free holds fits asked e = (_, refl)
 offer_given clock Asked (Some Jobs.Seen) free holds fits asked e = (_, refl)
 offer_given clock Asked (Some Jobs.Unseen) free holds fits asked e = absurd (no_offer free holds (fits Jobs.Unseen refl) e)
-offer_given clock Asked (Some (Jobs.Lacks cause)) free holds fits asked e = absurd (no_offer free holds (fits (Jobs.Lacks cause) refl) e)
+offer_given clock Asked (Some (Jobs.Lacks cause)) free holds fits asked e = absurd (no_offer free holds (fits (Jobs.Lacks cause) refl refl) e)
 
 full_is_offer : (offer : Offered) → is_full_offer offer ≡ true → is_offer offer ≡ true
 full_is_offer ALock e = refl
@@ -200,17 +200,18 @@ module _ (reads_back : SentAreRead) (run : Run) (repos : Each IsSetUp run.repos)
       go Remote is (inl same) at = aims.apart is (sym at ∙ same)
       go Remote is (inr n) at = off to (but a (range_with_len 0 (length run.repos))) n at
 
-  heard_fits : (c : ℕ) → c ≢ to → (h : Heard) → heard_of w c ≡ Some h → FitsRow (is_free past c what.key) (gives_hold run.repos a c) h
+  heard_fits : (c : ℕ) → c ≢ to → (h : Heard) → heard_of w c ≡ Some h → FitsRow (standing_of s st w c) (is_free past c what.key) (gives_hold run.repos a c) h
   heard_fits c apart h e = go h (heard_in w c h e)
     where
-      go : (h : Heard) → HeardIn w c h → FitsRow (is_free past c what.key) (gives_hold run.repos a c) h
+      go : (h : Heard) → HeardIn w c h → FitsRow (standing_of s st w c) (is_free past c what.key) (gives_hold run.repos a c) h
       go h i = by h (subst (λ n. Fit reads_back run repos past b a j what z h0 side to aims n h) i.of_it (subst (λ v. Fit reads_back run repos past b a j what z h0 side to aims i.x.0 v) i.is (Each-member (λ x. Fit reads_back run repos past b a j what z h0 side to aims x.0 x.1) w.heard i.x heard i.among)))
         where
-          by : (h : Heard) → Fit reads_back run repos past b a j what z h0 side to aims c h → FitsRow (is_free past c what.key) (gives_hold run.repos a c) h
+          by : (h : Heard) → Fit reads_back run repos past b a j what z h0 side to aims c h → FitsRow (standing_of s st w c) (is_free past c what.key) (gives_hold run.repos a c) h
           by (Jobs.Held since) f = let y = f apart in (y.0, y.1)
           by Jobs.Seen f = f apart
           by Jobs.Unseen f = f apart
-          by (Jobs.Lacks cause) f = let y = f apart in subst (λ n. is_free past n what.key ≡ false) (sym y.0) y.1
+          by (Jobs.Lacks cause) f = let y = f apart in λ asked. subst (λ n. is_free past n what.key ≡ false) (sym y.0)
+              (y.1 (ap (λ n. standing_by (settings_of past a) what.key (id_of run.repos n)) (sym y.0) ∙ (sym (standing_same c) ∙ asked)))
 
   held_since : (c since : ℕ) → c ≢ to → heard_of w c ≡ Some (Jobs.Held since) → since ≡ b.time
   held_since c since apart e =

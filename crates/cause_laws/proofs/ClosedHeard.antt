@@ -1,5 +1,5 @@
 -- Where a drop's list has a candidate as closed, the candidate or an entry here closed the connection.
-use Rattle.std.proofs.Common.{◌≡◌, ℕ, Bool, true, false, List, [], ◌∷◌, Some, inl, inr, refl, sym, ap, ◌∙◌, subst}
+use Rattle.std.proofs.Common.{◌≡◌, ℕ, Bool, true, false, List, [], ◌∷◌, Option, Some, None, inl, inr, refl, sym, ap, ◌∙◌, subst}
 use Rattle.std.specs.Prelude.{◌==◌, find, if◌then◌else◌, option_map}
 use Rattle.std.proofs.lemmas.Bool.{eqb-true}
 use Rattle.std.proofs.lemmas.Option.{same_Some}
@@ -30,11 +30,11 @@ closed_grow r e past j [] a = tt
 closed_grow r e past j (x ∷ xs) a = ((λ is. closed_grows r e past j x.0 (a.0 is)), closed_grow r e past j xs a.1)
 
 -- the own repository is never told so
-not_own : (there : Bool) (kind : EntryKind) → cause_own there kind ≡ Some causes.Closed → ⊥
-not_own true (Talk job) e = cc
-not_own false (Talk job) e = cc
-not_own there (Fault call by) e = cc
-not_own there kind e = cc
+not_own : (barred : Option ℕ) (kind : EntryKind) → cause_own barred kind ≡ Some causes.Closed → ⊥
+not_own None (Talk job) e = cc
+not_own (Some i) (Talk job) e = cc
+not_own barred (Fault call by) e = cc
+not_own barred kind e = cc
 
 module _ (s : SetUp) (p : List Entry) (e : Entry) (x : Work) (b : Steps s p e x) (told : ShutTold s p e) where
   abbrev v : Work
@@ -56,7 +56,7 @@ module _ (s : SetUp) (p : List Entry) (e : Entry) (x : Work) (b : Steps s p e x)
   by_changed : Heads v.heard → Changed rows s.number v e y → Heads y.heard
   by_changed was (inl same) = subst Heads (sym same) was
   by_changed was (inr (inl o)) = other s.number (Lacks o.cause) y.heard o.list
-      (λ closed. not_own (rows.present v.what.key) e.kind (own_value (turn_at s p e b.by) b.by.made rows s.number e e.kind (step_kind s p e x b) (sym (step_sent s p e x b)) b.goes_on o ∙ ap Some (of_lacks closed))) was
+      (λ closed. not_own (rows.bar v.what.key) e.kind (own_value (turn_at s p e b.by) b.by.made rows s.number e e.kind (step_kind s p e x b) (sym (step_sent s p e x b)) b.goes_on o ∙ ap Some (of_lacks closed))) was
     where
       of_lacks : Lacks o.cause ≡ Lacks causes.Closed → o.cause ≡ causes.Closed
       of_lacks closed = cc

@@ -27,3 +27,4 @@ pub mod ShutTold
 pub mod PutsSizes
 pub mod RunCauses
 pub mod FailuresTold
+pub mod OwnRows

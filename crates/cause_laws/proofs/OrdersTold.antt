@@ -141,9 +141,7 @@ transferred_off w o n = if_either (λ (x : Work). has_order x.phase ≡ false) (
 
 look_off : (r : ℕ) (w : Work) (part : Part) (here : Bool) (bar : Option ℕ) → has_order (first_look r w part here bar).phase ≡ false
 look_off r w Gets true bar = transferred_off w (Got None None) refl
-look_off r w Drops false bar = refl
-look_off r w Drops true (Some i) = refl
-look_off r w Drops true None = refl
+look_off r w Drops here bar = refl
 look_off r w Gets false bar = refl
 look_off r w Puts here bar = refl
 

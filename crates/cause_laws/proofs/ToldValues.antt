@@ -23,7 +23,7 @@ use Rattle.p2p_wire.specs.declared.message.Message.{Message}
 use Rattle.p2p_wire.specs.declared.message.Message.TheVariants.{CheckPresent, Failure}
 use Rattle.p2p_wire.specs.Messages.{message_of}
 use Rattle.run_model.specs.Said.{Said, CloseIt, Says, is_close, message_in}
-use Rattle.run_model.specs.Past.{Always, begun_count, begun_job, is_of, jobs, present}
+use Rattle.run_model.specs.Past.{Always, bar, begun_count, begun_job, is_of, jobs}
 use Rattle.node_model.specs.Slots.{RunningJob, job_of}
 use Rattle.node_model.specs.Rows.{option_is}
 use Rattle.run_model.specs.Frames.{FlyingFrame, SendingEntry, is_job, last_request, said_of, sender, frames_sent, sending_entry, taken_count, up_of, way_of}
@@ -170,7 +170,7 @@ awaits_partner c target phase e = absurd (cc)
 other_cause : (past : List Entry) (e : Entry) (r j c : ℕ) (s : Option SendingEntry) → is_of r e ≡ false → cause_with past e c r j s ≡ None
 other_cause past e r j c s is = go (c == r)
   where
-    go : (b : Bool) → (if b then (if is_first_step past r j e then cause_own (present past r (key_in (begun_job past r j))) e.kind else None)
+    go : (b : Bool) → (if b then (if is_first_step past r j e then cause_own (bar past r (key_in (begun_job past r j))) e.kind else None)
         else (if is_job r j e then (if list_any (shuts c) e.sent then Some causes.Closed else cause_taken past r c s e.taken) else None)) ≡ None
     go true = rw is refl
     go false = rw is refl
@@ -535,7 +535,7 @@ module _ (reads_back : SentAreRead) (s : SetUp) (past : List Entry) (words : ℕ
           first = rw (is, b.step, drop, none) refl
 
           cause : cause_with past e rr rr v.number (sender past rr e.taken) ≡ Some o.cause
-          cause = rw (eqb_refl rr, first) (ap (λ q. cause_own (present past rr (key_in q)) e.kind) (runs_begun s past h.run v runs)
+          cause = rw (eqb_refl rr, first) (ap (λ q. cause_own (bar past rr (key_in q)) e.kind) (runs_begun s past h.run v runs)
               ∙ own_value (turn_at s past e b.by) b.by.made (rows_at past rr) rr e e.kind (step_kind s past e x b) (sym (step_sent s past e x b)) b.goes_on o)
   by_changed c apart lean (inr (inr (inl k))) = of_list ((k.peer, Lacks causes.Closed) ∷ v.heard) c k.list (headed k.peer (Lacks causes.Closed) c (λ same gave. closed same) (λ other. passed c apart (λ o n. lean o)))
     where

@@ -3,4 +3,4 @@
 
 mod laws;
 
-pub use laws::refusals_have_causes;
+pub use laws::{own_causes_are_of_the_row, refusals_have_causes};

@@ -2,6 +2,7 @@
 mod BlockerLemmas
 mod IndexedLemmas
 mod NumberedLemmas
+mod OwnerLemmas
 mod RecoveredLemmas
 mod StoredLemmas
 mod TokenLemmas

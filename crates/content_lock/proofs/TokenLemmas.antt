@@ -25,10 +25,10 @@ same_itself (Peer p s) = rw (eqb_refl p, eqb_refl s) refl
 -- ---- what stays as it is
 
 -- the owner's keeping changes it not
-abbrev Stays : By → Hold → Type 0
+abbrev pub Stays : By → Hold → Type 0
 Stays by h = keep_of by h ≡ h
 
-stays_each : (by : By) (hs : List Hold) → map (keep_of by) hs ≡ hs → Each (Stays by) hs
+pub stays_each : (by : By) (hs : List Hold) → map (keep_of by) hs ≡ hs → Each (Stays by) hs
 stays_each by [] is = tt
 stays_each by (h ∷ hs) is = (cons_head (keep_of by h) h (map (keep_of by) hs) hs is, stays_each by hs (cons_tail (keep_of by h) h (map (keep_of by) hs) hs is))
   where
@@ -38,14 +38,14 @@ stays_each by (h ∷ hs) is = (cons_head (keep_of by h) h (map (keep_of by) hs) 
     cons_tail : (x y : Hold) (xs ys : List Hold) → x ∷ xs ≡ y ∷ ys → xs ≡ ys
     cons_tail x y xs ys e = cc
 
-each_stays : (by : By) (hs : List Hold) → Each (Stays by) hs → map (keep_of by) hs ≡ hs
+pub each_stays : (by : By) (hs : List Hold) → Each (Stays by) hs → map (keep_of by) hs ≡ hs
 each_stays by [] stays = refl
 each_stays by (h ∷ hs) stays = λ i. stays.0 i ∷ each_stays by hs stays.1 i
 
-other_stays : (by : By) (h : Hold) → same_owner h.owner by ≡ false → Stays by h
+pub other_stays : (by : By) (h : Hold) → same_owner h.owner by ≡ false → Stays by h
 other_stays by h other = ap (λ (b : Bool). if b then record h { kept = true } else h) other
 
-kept_stays : (by : By) (h : Hold) → h.kept ≡ true → Stays by h
+pub kept_stays : (by : By) (h : Hold) → h.kept ≡ true → Stays by h
 kept_stays by h kept = go (same_owner h.owner by)
   where
     go : (b : Bool) → (if b then record h { kept = true } else h) ≡ h
@@ -60,7 +60,7 @@ nobody_owns by hs kept = record { owner = refl; given = refl; kept = all_kept by
 
 -- ---- what passes a filter
 
-each_passing : (P : Hold → Type 0) (q : Hold → Bool) (hs : List Hold) → Each P (filter q hs) → Each (λ h. q h ≡ true → P h) hs
+pub each_passing : (P : Hold → Type 0) (q : Hold → Bool) (hs : List Hold) → Each P (filter q hs) → Each (λ h. q h ≡ true → P h) hs
 each_passing P q [] each = tt
 each_passing P q (h ∷ hs) each = go (q h) refl (λ e. each_passing P q hs e) each
   where
@@ -68,7 +68,7 @@ each_passing P q (h ∷ hs) each = go (q h) refl (λ e. each_passing P q hs e) e
     go true is ih each = (λ _. each.0, ih each.1)
     go false is ih each = (λ yes. absurd (true≢false (sym yes ∙ is)), ih each)
 
-each_filtered : (P : Hold → Type 0) (q : Hold → Bool) (hs : List Hold) → Each (λ h. q h ≡ true → P h) hs → Each P (filter q hs)
+pub each_filtered : (P : Hold → Type 0) (q : Hold → Bool) (hs : List Hold) → Each (λ h. q h ≡ true → P h) hs → Each P (filter q hs)
 each_filtered P q [] each = tt
 each_filtered P q (h ∷ hs) each = go (q h) refl (each_filtered P q hs each.1)
   where
@@ -95,7 +95,7 @@ find_mapped p f same (h ∷ hs) = ap (λ (b : Bool). if b then Some (f h) else f
 
 -- ---- the open hold of a share
 
-abbrev opens : ℕ → Hold → Bool
+abbrev pub opens : ℕ → Hold → Bool
 opens n h = (h.number == n) && not h.kept
 
 -- it is there

@@ -2,6 +2,7 @@
 pub mod Blocking
 pub mod Indexed
 pub mod Looks
+pub mod Owners
 pub mod Rows
 pub mod Stored
 pub mod Tokens

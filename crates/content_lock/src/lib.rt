@@ -9,7 +9,7 @@ mod refusals;
 mod table;
 mod tokens;
 
-pub use laws::{records_tell_numbers, removals_leave_other_contents};
+pub use laws::{others_keep_their_shares, records_tell_numbers, removals_leave_other_contents};
 pub use refusals::{
     BarRefused, FillRefused, Look, RecoverRefused, RemoveRefused, Removed, ShareRefused,
 };

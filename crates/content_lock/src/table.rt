@@ -152,7 +152,7 @@ impl LockTable {
     }
 
     /// The job whose bar stands on the key.
-    fn barring(&self, key: &Key) -> Option<u32>
+    pub fn barring(&self, key: &Key) -> Option<u32>
         ensures { result ≡ bar_at self.now key.now }
     {
         self.bars.get(key).copied()

@@ -131,8 +131,7 @@ module _ (rows : RowsAndEnds) (r : ℕ) (e : Entry) where
 
   first_keeps : (w : Work) (part : Part) (here : Bool) (bar : Option ℕ) → Keeps w (first_look r w part here bar)
   first_keeps w Gets true bar = transferred_keeps w (Got None None)
-  first_keeps w Drops false bar = (refl, inl refl, inl refl)
-  first_keeps w Drops true (Some i) = (refl, inl refl, inl refl)
+  first_keeps w Drops here bar = (refl, inl refl, inl refl)
   first_keeps w part here bar = same w _
 
   quiet_keeps : (w : Work) (phase : Phase) → Keeps w (quiet rows r w phase)

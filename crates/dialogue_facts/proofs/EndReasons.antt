@@ -217,7 +217,6 @@ module _ (rows : RowsAndEnds) (r : ℕ) (e : Entry) (kind : EntryKind) where
 
   first_stood : (w : Work) (part : Part) (here : Bool) (bar : Option ℕ) → w.phase ≡ Fresh → Stood w (first_look r w part here bar)
   first_stood w Gets true bar at = transferred_stood w (Got None None) tt
-  first_stood w Drops true (Some i) at = inr (inr (inr (inl at)))
   first_stood w part here bar at = inr (inr (inr (inl at)))
 
   quiet_stood : IsTalking kind → (w : Work) (phase : Phase) → w.phase ≡ phase → e.taken ≡ None → e.sent ≡ [] → Stood w (quiet rows r w phase)

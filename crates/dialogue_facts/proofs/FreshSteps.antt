@@ -128,9 +128,7 @@ module _ (before : Turn) (none : owns_share before ≡ false) where
   drop_quiet = go (is_there d) (d.bar (key_of d))
     where
       go : (here : Bool) (bar : Option ℕ) → is_fresh (first_look (me d) d.w Drops here bar).phase ≡ false
-      go false bar = refl
-      go true (Some i) = refl
-      go true None = refl
+      go here bar = refl
 
   drop_bars : (refusal : Option DropRefusal) → OffBy d (bars d refusal)
   drop_bars (Some refusal) = ends_off d none (Refused refusal)

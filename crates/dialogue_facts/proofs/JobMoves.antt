@@ -123,9 +123,7 @@ module _ (target : Option ℕ) where
 
     look_moves : (sent : List FrameView) (r : ℕ) (part : Part) (there : Bool) (bar : Option ℕ) → Moves target w sent (first_look r w part there bar)
     look_moves sent r Gets true bar = transferred_moves sent (Got None None)
-    look_moves sent r Drops false bar = away w sent (first_look r w Drops false bar) refl refl
-    look_moves sent r Drops true (Some i) = away w sent (first_look r w Drops true (Some i)) refl refl
-    look_moves sent r Drops true None = away w sent (first_look r w Drops true None) refl refl
+    look_moves sent r Drops there bar = away w sent (first_look r w Drops there bar) refl refl
     look_moves sent r Gets false bar = away w sent (first_look r w Gets false bar) refl refl
     look_moves sent r Puts there bar = away w sent (first_look r w Puts there bar) refl refl
 

@@ -1,6 +1,5 @@
 -- The cause that a remote drop's list has of its own repository is what its first step found; a refused look is heard as such.
-use Rattle.std.proofs.Common.{◌≡◌, ◌≢◌, ℕ, Bool, true, false, List, [], ◌∷◌, Option, Some, None, ◌⊎◌, inl, inr, refl, sym, ap, ◌∙◌, subst}
-use Rattle.std.specs.Prelude.{if◌then◌else◌}
+use Rattle.std.proofs.Common.{◌≡◌, ◌≢◌, ℕ, Bool, List, [], ◌∷◌, Option, Some, None, ◌⊎◌, inl, inr, refl, sym, ap, ◌∙◌, subst}
 use Rattle.annex_base.specs.declared.kinds.Call.{Call}
 use Rattle.annex_base.specs.declared.kinds.Call.TheVariants.{PutFile, Unhold}
 use Rattle.annex_base.proofs.Lists.{not_longer}
@@ -21,7 +20,7 @@ use Rattle.p2p_wire.specs.Messages.{message_of}
 use Rattle.run_model.specs.Drops.{cause_own}
 use Rattle.node_model.specs.Sessions.{line_in}
 use Rattle.node_model.specs.Jobs
-use Rattle.node_model.specs.Jobs.{AsksLook, Drops, Fresh, Heard, Lacks, Part, Phase, RowsAndEnds, Work, claims, fault_of, fault_phase, first_look, hears_frame, learns, partner, quiet, side_of, taken_message, talks, talks_on, after_frame, after_line, work_kind}
+use Rattle.node_model.specs.Jobs.{AsksLook, Drops, Fresh, Heard, Lacks, Part, Phase, RowsAndEnds, Work, claims, fault_of, fault_phase, first_look, hears_frame, learns, partner, quiet, side_of, taken_message, talks, talks_on, unshared_cause, after_frame, after_line, work_kind}
 use Rattle.node_model.specs.Look.{Effect}
 use Rattle.node_model.specs.JobStep.{Turn, hears}
 use Rattle.node_model.specs.Turns.{takes_answer, takes_frame}
@@ -41,17 +40,15 @@ lacks_inj c d e = cc
 
 -- ---- the own repository's cause, by the kind of the entry
 
-first_only : (r : ℕ) (y : Work) (part : Part) (here : Bool) (bar : Option ℕ) → part ≡ Drops → SameList y (first_look r y part here bar) ⊎ ((first_look r y part here bar).heard ≡ (r, Lacks (if here then causes.Barred else causes.Absent)) ∷ y.heard)
-first_only r y Drops false bar is = inr refl
-first_only r y Drops true (Some i) is = inr refl
-first_only r y Drops true None is = inl refl
+first_only : (r : ℕ) (y : Work) (part : Part) (here : Bool) (bar : Option ℕ) → part ≡ Drops → (first_look r y part here bar).heard ≡ (r, Lacks (unshared_cause bar)) ∷ y.heard
+first_only r y Drops here bar is = refl
 first_only r y Jobs.Gets here bar is = absurd (cc)
 first_only r y Jobs.Puts here bar is = absurd (cc)
 
 module _ (rows : RowsAndEnds) (r : ℕ) (v : Work) (e : Entry) (first : v.phase ≡ Fresh) (part : v.part ≡ Drops) where
   -- the list is as it was, or has the cause of this kind
   abbrev Value : EntryKind → Work → Type 0
-  Value kind x = SameList v x ⊎ ((c : Cause) × (x.heard ≡ (r, Lacks c) ∷ v.heard) × (cause_own (rows.present v.what.key) kind ≡ Some c))
+  Value kind x = SameList v x ⊎ ((c : Cause) × (x.heard ≡ (r, Lacks c) ∷ v.heard) × (cause_own (rows.bar v.what.key) kind ≡ Some c))
 
   fault_only : (p : Part) (side : Side) (phase : Phase) (call : Call) (owner : _) → Value (Fault call owner) (fault_phase r v p side phase)
   fault_only Drops Remote Fresh call owner = inr (causes.Fault, refl, refl)
@@ -87,15 +84,11 @@ module _ (rows : RowsAndEnds) (r : ℕ) (v : Work) (e : Entry) (first : v.phase 
     took_only Closing = refl
 
     quiet_only : (job : Option ℕ) → Value (Talk job) (quiet rows r y y.phase)
-    quiet_only job = subst (λ (q : Phase). Value (Talk job) (quiet rows r y q)) (sym fresh_now)
-        (elim (first_only r y y.part (rows.present y.what.key) (rows.bar y.what.key) (s.part_is ∙ part)) [
-          | inl same ↦ inl (same ∙ s.list)
-          | inr new ↦ inr (
-            (if rows.present y.what.key then causes.Barred else causes.Absent),
-            new ∙ ap (λ (hs : List (ℕ × Heard)). (r, Lacks (if rows.present y.what.key then causes.Barred else causes.Absent)) ∷ hs) s.list,
-            ap (λ (j : Rattle.node_model.specs.Slots.RunningJob). Some (if rows.present j.what.key then causes.Barred else causes.Absent)) (sym s.same),
-          )
-        ])
+    quiet_only job = subst (λ (q : Phase). Value (Talk job) (quiet rows r y q)) (sym fresh_now) (inr (
+      unshared_cause (rows.bar y.what.key),
+      first_only r y y.part (rows.present y.what.key) (rows.bar y.what.key) (s.part_is ∙ part) ∙ ap (λ (hs : List (ℕ × Heard)). (r, Lacks (unshared_cause (rows.bar y.what.key))) ∷ hs) s.list,
+      ap (λ (j : Rattle.node_model.specs.Slots.RunningJob). Some (unshared_cause (rows.bar j.what.key))) (sym s.same),
+    ))
 
     talks_only : (job : Option ℕ) (fs : List FrameView) (taken : Option FrameView) → e.taken ≡ taken → Value (Talk job) (talks rows r y e fs)
     talks_only job (f ∷ fs) taken is = inl (sends_list y e.time f.peer (taken_message e.taken) f.body ∙ s.list)
@@ -112,17 +105,17 @@ module _ (rows : RowsAndEnds) (r : ℕ) (v : Work) (e : Entry) (first : v.phase 
 
 -- **the own repository's cause is what the entry found**
 pub own_value : (t : Turn) (m : Effect) (rows : RowsAndEnds) (r : ℕ) (e : Entry) (kind : EntryKind) → IsJobEntry t m kind → m.sent ≡ e.sent → ((j : ℕ) (outcome : Outcome) → kind ≢ ends_job j outcome)
-    → (o : OwnLacks r t.w (work_kind rows r t.w e kind)) → cause_own (rows.present t.w.what.key) kind ≡ Some o.cause
+    → (o : OwnLacks r t.w (work_kind rows r t.w e kind)) → cause_own (rows.bar t.w.what.key) kind ≡ Some o.cause
 own_value t m rows r e kind k sent goes_on o = by kind k goes_on o.list
   where
     v : Work
     v = t.w
 
-    at : (kind : EntryKind) (x : Work) → Value rows r v e o.first o.part_is kind x → x.heard ≡ (r, Lacks o.cause) ∷ v.heard → cause_own (rows.present v.what.key) kind ≡ Some o.cause
+    at : (kind : EntryKind) (x : Work) → Value rows r v e o.first o.part_is kind x → x.heard ≡ (r, Lacks o.cause) ∷ v.heard → cause_own (rows.bar v.what.key) kind ≡ Some o.cause
     at kind x (inl same) list = absurd (not_longer (r, Lacks o.cause) v.heard (sym same ∙ list))
     at kind x (inr z) list = z.2 ∙ ap Some (lacks_inj z.0 o.cause (head_cause r r (Lacks z.0) (Lacks o.cause) v.heard (sym z.1 ∙ list)))
 
-    by : (kind : EntryKind) → IsJobEntry t m kind → ((j : ℕ) (outcome : Outcome) → kind ≢ ends_job j outcome) → (work_kind rows r v e kind).heard ≡ (r, Lacks o.cause) ∷ v.heard → cause_own (rows.present v.what.key) kind ≡ Some o.cause
+    by : (kind : EntryKind) → IsJobEntry t m kind → ((j : ℕ) (outcome : Outcome) → kind ≢ ends_job j outcome) → (work_kind rows r v e kind).heard ≡ (r, Lacks o.cause) ∷ v.heard → cause_own (rows.bar v.what.key) kind ≡ Some o.cause
     by (Fault call owner) k goes list = at (Fault call owner) (fault_of r v e.time call) (call_only rows r v e o.first o.part_is e.time call owner) list
     by (Talk (Some j)) k goes list = at (Talk (Some j)) (work_kind rows r v e (Talk (Some j))) (talk_only rows r v e o.first o.part_is (learns (claims v v.part v.phase) v.phase e.taken) (talker_is t e.taken) (Some j)) list
     by (Share hold end owner key) k goes list = absurd (let both : Jobs.Held e.time ≡ Lacks o.cause = head_cause r r (Jobs.Held e.time) (Lacks o.cause) v.heard list in cc)

@@ -1,7 +1,7 @@
 -- The repositories of a script: few, each set up within its bounds, and no two with one identifier.
 use Rattle.std.proofs.Common.{◌≡◌, ◌≢◌, ℕ, ◌+◌, ◌≤◌, Bool, true, false, ◌==◌, nat_lt, List, [], ◌∷◌, ◌++◌, length, map, AllPairs, Some, None, refl, sym, subst, arith, append_assoc, length-append}
 use Rattle.std.specs.Prelude.{bytes_eq, if◌then◌else◌}
-use Rattle.std.proofs.lemmas.Bool.{and_parts, eqb-true, ltb-false, or_parts}
+use Rattle.std.proofs.lemmas.Bool.{ltb-false, or_parts}
 use Rattle.std.proofs.lemmas.List.{append-nil, length-map, map-append}
 use Rattle.std.proofs.lemmas.List.Quantifiers.{all_pairs_push}
 use Rattle.annex_base.specs.Lists.{Each}
@@ -21,7 +21,7 @@ use Rattle.script_lang.specs.Limits.{first_limit}
 use Rattle.script_lang.specs.Script as script
 use Rattle.script_lang.specs.Script.{context_with}
 use Rattle.script_lang.specs.Preconditions as standing
-use Rattle.driver_script.specs.Lines.{declared_by, is_plain_repo, repos_of, view_of}
+use Rattle.driver_script.specs.Lines.{declared_by, repos_of, view_of}
 use Rattle.driver_script.proofs.BuiltLemmas.{IsBuilt}
 
 abbrev id_in : RepoView → List ℕ
@@ -55,9 +55,6 @@ new_id (d ∷ repos) id unused =
     let each = or_parts (bytes_eq d.id id) (has_id repos id) unused in
     (other_id id d each.0, new_id repos id each.1)
 
-version_is : (version : ℕ) (locks : Bool) → is_plain_repo version locks ≡ true → version ≡ 3
-version_is version locks is = eqb-true version 3 (and_parts (version == 3) locks is).0
-
 -- no action declares a repository
 action_declares : (a : Action) → repos_by (change_by a) ≡ []
 action_declares (actions.Have r key content) = refl
@@ -84,14 +81,13 @@ none_more x more none d = subst (λ (rs : List Repository). Declares (map view_o
 one_more : (x : Context) (c : Command) → standing.IsValidIn x c → first_limit x c ≡ None → IsBuilt c → Declares (map view_of x.repos) → Declares (map view_of x.repos ++ declared_by c)
 one_more x (commands.Repo name id offset version locks) s p e d =
     let new : RepoView = record { name = name; id = id; offset = offset; version = version; locks = locks } in
-    let three = version_is version locks e in
     let long = length-append (map view_of x.repos) (new ∷ []) in
     let count = length-map x.repos view_of in
     let few = within _ 16 (length x.repos + 1) p in
     let ids = map-append id_in (map view_of x.repos) (new ∷ []) in
     let fresh = new_id x.repos id s.0.new_id in
     record {
-      each = Each-push IsSetUp (map view_of x.repos) new d.each (record { id = s.0.good_id; offset = s.1; oldest = omega (arith, three); newest = s.2 });
+      each = Each-push IsSetUp (map view_of x.repos) new d.each (record { id = s.0.good_id; offset = s.1; oldest = s.2; newest = s.3 });
       few = omega (arith, long, count, few);
       apart = subst (AllPairs Differ) (sym ids) (all_pairs_push Differ (map id_in (map view_of x.repos)) id d.apart (λ k e less. Each-get_or (λ a. a ≢ id) (map id_in (map view_of x.repos)) k e less fresh));
     }

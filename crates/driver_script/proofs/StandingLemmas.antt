@@ -87,12 +87,10 @@ made_job : (g : DriverInput) (x : Context) (r : ℕ) (kind : JobKind) (key : Lis
     → IfSome peer (λ p. standing.AreTwo x r p) → IsJob g r (record { kind = kind; key = key; path = path; peer = peer })
 made_job g x r job_kinds.Drop key path None valid few built two = record { peer = refl; valid = valid }
 made_job g x r job_kinds.Get key path None valid few built two = record { peer = refl; valid = valid }
-made_job g x r job_kinds.Get key path (Some peer) valid few built two = record { peer = other_is g x r peer few two; valid = valid }
-made_job g x r job_kinds.Copy key path (Some peer) valid few built two = record { peer = other_is g x r peer few two; valid = valid }
-made_job g x r job_kinds.Drop key path (Some peer) valid few built two = absurd (cc)
 made_job g x r job_kinds.Copy key path None valid few built two = absurd (cc)
-made_job g x r job_kinds.MoveTo key path peer valid few built two = absurd (cc)
-made_job g x r job_kinds.MoveFrom key path peer valid few built two = absurd (cc)
+made_job g x r job_kinds.MoveTo key path None valid few built two = absurd (cc)
+made_job g x r job_kinds.MoveFrom key path None valid few built two = absurd (cc)
+made_job g x r kind key path (Some peer) valid few built two = record { peer = other_is g x r peer few two; valid = valid }
 
 job_is : KeysHaveNoFault → (g : DriverInput) (x : Context) (r : ℕ) (job : Job) → length x.repos ≤ length g.repos → is_built_job job.kind job.peer ≡ true → standing.IsJob x r job → IsJob g r job
 job_is valid g x r job few built stands = made_job g x r job.kind job.key job.path job.peer (valid job.key stands.key.text) few built stands.peer
@@ -198,7 +196,7 @@ plain_setting x kinds.MincopiesPath topic value is = ((λ same. cc), plain_patte
 
 one_action : KeyLaws → (g : DriverInput) (x : Context) (a : Action) → length x.repos ≤ length g.repos → standing.IsValidAction x a → is_built_action a ≡ true → IsOneAction g a
 one_action v g x (actions.Have r key content) n s b = (known _ _ r n s.0, (s.1, fits_is (size_part key) (length content) s.2.size))
-one_action v g x (actions.SetPart r key content) n s b = absurd (cc)
+one_action v g x (actions.SetPart r key content) n s b = known _ _ r n s.0
 one_action v g x (actions.Add r path key content) n s b =
     let made = made_is v path key content s.2 s.3 in
     (known _ _ r n s.0, (made.0, fits_is (size_part key) (length content) made.1.size))
@@ -212,7 +210,7 @@ one_action v g x (actions.Begin r job) n s b = (known _ _ r n s.repo, job_is v.f
 one_action v g x (actions.Run r job) n s b = (known _ _ r n s.repo, job_is v.faultless g x r job n b s)
 one_action v g x (actions.Turns r turns) n s b = known _ _ r n s
 one_action v g x actions.Settle n s b = tt
-one_action v g x (actions.Close r other) n s b = absurd cc
+one_action v g x (actions.Close r other) n s b = (known _ _ r n s.first, (known _ _ other n s.second, λ same. s.distinct (sym same)))
 one_action v g x (actions.Crash r clock) n s b = absurd cc
 one_action v g x (actions.Wait milliseconds) n s b = tt
 one_action v g x (actions.Fail r call) n s b = tt

@@ -1,5 +1,5 @@
 -- The repositories that a script declares, and which forms of line are built (own).
-use Rattle.std.specs.Prelude.{ℕ, Bool, true, false, not, ◌==◌, ◌&&◌, List, [], ◌∷◌, ◌++◌, map, position, Option, is_none, is_some}
+use Rattle.std.specs.Prelude.{ℕ, Bool, true, false, not, List, [], ◌∷◌, ◌++◌, map, position, Option, is_some}
 use Rattle.run_data.specs.declared.entry.LogFile.{LogFile}
 use Rattle.run_data.specs.declared.entry.LogFile.TheVariants as files
 use Rattle.run_data.specs.declared.job.JobKind.{JobKind}
@@ -31,10 +31,6 @@ repos_of (c ∷ cs) = declared_by c ++ repos_of cs
 
 -- ---- the forms that are built
 
--- a repository that speaks version 3, and gives holds to its peers
-abbrev pub is_plain_repo : ℕ → Bool → Bool
-is_plain_repo version locks = (version == 3) && locks
-
 -- the file to which a line may add: any that is known
 abbrev pub is_added : LogFile → Bool
 is_added (files.Location key) = true
@@ -47,16 +43,15 @@ is_shown (files.Location key) = false
 is_shown (files.Of kind) = true
 is_shown (files.Other name) = false
 
--- a drop of the repository's own copy, a get, or a copy to a peer
+-- a drop, a get, or a copy or a move with its peer
 abbrev pub is_built_job : JobKind → Option ℕ → Bool
-is_built_job job_kinds.Drop peer = is_none peer
+is_built_job job_kinds.Drop peer = true
 is_built_job job_kinds.Get peer = true
-is_built_job job_kinds.Copy peer = is_some peer
-is_built_job kind peer = false
+is_built_job kind peer = is_some peer
 
 abbrev pub is_built_action : Action → Bool
 is_built_action (actions.Have r key content) = true
-is_built_action (actions.SetPart r key content) = false
+is_built_action (actions.SetPart r key content) = true
 is_built_action (actions.Add r path key content) = true
 is_built_action (actions.File path key) = true
 is_built_action (actions.Set r kind topic value) = true
@@ -68,7 +63,7 @@ is_built_action (actions.Begin r job) = is_built_job job.kind job.peer
 is_built_action (actions.Run r job) = is_built_job job.kind job.peer
 is_built_action (actions.Turns r turns) = true
 is_built_action actions.Settle = true
-is_built_action (actions.Close r other) = false
+is_built_action (actions.Close r other) = true
 is_built_action (actions.Crash r clock) = false
 is_built_action (actions.Wait milliseconds) = true
 is_built_action (actions.Fail r call) = true
@@ -89,7 +84,7 @@ is_built_showing showings.Journal = true
 
 -- no part is missing to do what the command says
 abbrev pub is_built : Command → Bool
-is_built (commands.Repo name id offset version locks) = is_plain_repo version locks
+is_built (commands.Repo name id offset version locks) = true
 is_built (commands.Does action) = is_built_action action
 is_built (commands.Damage r key content) = false
 is_built (commands.Par lines) = false
@@ -98,9 +93,3 @@ is_built (commands.Shows what) = is_built_showing what
 -- the place of the first command for which a part is missing
 abbrev pub first_unbuilt : List Command → Option ℕ
 first_unbuilt all = position (λ c. not (is_built c)) all
-
--- the line closes no ends, and is no block: no other is built
-abbrev pub is_plain_line : Command → Bool
-is_plain_line (commands.Does (actions.Close r other)) = false
-is_plain_line (commands.Par lines) = false
-is_plain_line line = true

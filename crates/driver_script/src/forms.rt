@@ -5,13 +5,6 @@ ghost use Rattle.driver_script.specs.Lines as spec;
 use run_data::{JobKind, LogFile};
 use script_lang::{Action, Command, Showing};
 
-/// Whether the repository speaks the newest version, and gives holds to its peers.
-fn is_plain_repo(version: u8, locks: bool) -> bool
-    ensures { result ≡ spec.is_plain_repo version locks }
-{
-    version == 3 && locks
-}
-
 /// Whether a line may add to the file.
 fn is_added(file: &LogFile) -> bool
     ensures { result ≡ spec.is_added file.now }
@@ -32,15 +25,13 @@ fn is_shown(file: &LogFile) -> bool
     }
 }
 
-/// Whether a job of this kind with this peer is a drop of the repository's own copy, a get, or a copy to a peer.
+/// Whether a job of this kind with this peer is a drop, a get, or a copy or a move with its peer.
 fn is_built_job(kind: JobKind, peer: Option<u32>) -> bool
     ensures { result ≡ spec.is_built_job kind peer }
 {
     match kind {
-        JobKind::Drop => peer.is_none(),
-        JobKind::Get => true,
-        JobKind::Copy => peer.is_some(),
-        JobKind::MoveTo | JobKind::MoveFrom => false,
+        JobKind::Drop | JobKind::Get => true,
+        JobKind::Copy | JobKind::MoveTo | JobKind::MoveFrom => peer.is_some(),
     }
 }
 
@@ -52,6 +43,7 @@ fn does(action: &Action) -> bool
         Action::Raw { file, .. } => is_added(file),
         Action::Begin { job, .. } | Action::Run { job, .. } => is_built_job(job.kind, job.peer),
         Action::Have { .. }
+        | Action::SetPart { .. }
         | Action::Add { .. }
         | Action::File { .. }
         | Action::Set { .. }
@@ -59,12 +51,10 @@ fn does(action: &Action) -> bool
         | Action::Compact { .. }
         | Action::Turns { .. }
         | Action::Settle
+        | Action::Close { .. }
         | Action::Wait { .. }
         | Action::Fail { .. } => true,
-        Action::SetPart { .. }
-        | Action::Sync { .. }
-        | Action::Close { .. }
-        | Action::Crash { .. } => false,
+        Action::Sync { .. } | Action::Crash { .. } => false,
     }
 }
 
@@ -93,7 +83,7 @@ pub fn runs(command: &Command) -> bool
     ensures { result ≡ spec.is_built command.now }
 {
     match command {
-        Command::Repo { version, locks, .. } => is_plain_repo(*version, *locks),
+        Command::Repo { .. } => true,
         Command::Does { action } => does(action),
         Command::Damage { .. } | Command::Par { .. } => false,
         Command::Shows { what } => shows(what),

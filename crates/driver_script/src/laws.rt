@@ -16,7 +16,7 @@ ghost use Rattle.script_lang.specs.Script.{Commands, reading, wait_of};
 ghost use Rattle.driver_model.specs.Lines.{waited_by};
 ghost use Rattle.driver_model.specs.Scripts.{IsOne, IsPlainTopic, IsPlainValue};
 ghost use Rattle.driver_script.specs.Inputs.{driver_input_of, matches};
-ghost use Rattle.driver_script.specs.Lines.{first_unbuilt, is_built, is_plain_line, repos_of};
+ghost use Rattle.driver_script.specs.Lines.{first_unbuilt, is_built, repos_of};
 ghost use Rattle.driver_script.specs.Script.{IsScript, IsUnbuilt};
 
 use annex_key::key_texts_have_no_fault;
@@ -67,12 +67,6 @@ pub fn scripts_run_or_miss_a_form()
     // A law, so that the command has a line.
     commands_have_lines();
 }
-
-/// No line that is built closes ends, or is a block.
-pub fn built_lines_are_plain()
-    ensures line { (command : Command) → is_built command ≡ true → is_plain_line command ≡ true }
-    ensures script { (text : List ℕ) (all : List Command) → IsScript text all → Each (λ line. is_plain_line line ≡ true) all }
-{}
 
 /// No text is told two things: which commands it has, or on which line stands the first for which a part is missing. Where there is
 /// no first, no part is missing for any.

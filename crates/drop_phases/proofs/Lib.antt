@@ -1,5 +1,4 @@
 -- Lemmas on the steps of drops, for the crates of drops.
-pub mod Alikes
 pub mod Callings
 pub mod Doings
 pub mod Endings
@@ -8,6 +7,7 @@ pub mod Greetings
 pub mod Heards
 pub mod Leavings
 pub mod Numbers
+pub mod OwnCopies
 pub mod Partings
 pub mod Takings
 pub mod Talks

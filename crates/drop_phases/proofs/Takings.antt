@@ -10,6 +10,7 @@ use Rattle.run_data.specs.declared.entry.FrameView.{FrameView}
 use Rattle.run_data.specs.declared.job.Cause.TheVariants as causes
 use Rattle.p2p_wire.specs.declared.message.Message.{Message}
 use Rattle.p2p_wire.specs.Messages.{message_of, text_of}
+use Rattle.node_model.specs.Around.{around_in}
 use Rattle.node_model.specs.Ends.{frames}
 use Rattle.node_model.specs.Jobs
 use Rattle.node_model.specs.Jobs.{Drops, Part, Work, claims, closed_part, drop_side, job_end, learns, partner, says, side_of, taken_message, talks_on, after_frame, after_line}
@@ -72,20 +73,20 @@ module _ (t : Turn) (f : FrameView) (peer : ℕ) (took : Message) (n : ℕ) (dro
 
   pub moved_heard : next_work t (hears t f) ≡ after_line now_work (Some took)
   moved_heard =
-      let rows : Jobs.RowsAndEnds = record { present = t.present; bar = t.bar; ends = t.ends } in
+      let rows : Jobs.RowsAndEnds = around_in t in
       here (hears t f) rows ∙ (on_heard rows (me t) now_work (entry_of (me t) t.look (hears t f)) peer refl (open_line (job_end t.w peer) (end_with t peer) f l.text l.is live)
       ∙ (ap (took_was now_work) l.is ∙ ap (after_line now_work) l.reads))
 
   pub moved_said : (m : Message) → message_of (text_of m) ≡ Some m → next_work t (says_to t (talk t) (Some f) peer m) ≡ says now_work t.look.time peer (Some took) m
   moved_said m reads =
-      let rows : Jobs.RowsAndEnds = record { present = t.present; bar = t.bar; ends = t.ends } in
+      let rows : Jobs.RowsAndEnds = around_in t in
       here (says_to t (talk t) (Some f) peer m) rows
       ∙ (on_said rows (me t) now_work (entry_of (me t) t.look (says_to t (talk t) (Some f) peer m)) peer m refl (open_line (job_end t.w peer) (end_with t peer) f l.text l.is live) reads
       ∙ ap (λ (o : Option Message). says now_work t.look.time peer o m) told)
 
   pub moved_shut : next_work t (wrong_message t f peer) ≡ closed_part (me t) now_work peer Drops
   moved_shut =
-      let rows : Jobs.RowsAndEnds = record { present = t.present; bar = t.bar; ends = t.ends } in
+      let rows : Jobs.RowsAndEnds = around_in t in
       here (wrong_message t f peer) rows ∙ (on_shut rows (me t) now_work (entry_of (me t) t.look (wrong_message t f peer)) peer refl ∙ ap (closed_part (me t) now_work peer) drops)
 
 -- the local drop's target is itself

@@ -87,6 +87,10 @@ pub record HasGone (r : Reading) (w w' : Worker) (out : Output) : Type 0 where
   pub last : out.ended ≡ true → IsLast w.number out.kind
   pub slot : w'.slot ≡ w.slot
 
+-- the same of a step that was told what came from this peer, wherever that is another repository
+abbrev pub GoesWith : ℕ → Worker → Worker → Output → Type 0
+GoesWith peer w w' out = (r : Reading) → IsOther r peer → HasGone r w w' out
+
 -- the job is to end
 abbrev pub IsToEnd : Phase → Type 0
 IsToEnd phases.Removed = Unit {0}

@@ -2,6 +2,7 @@
 use Rattle.std.specs.Prelude.{◌≡◌, ℕ, Bool, true, false, ◌==◌, ◌⊎◌, List, [], ◌∷◌, Option, Some, None, bytes_eq}
 use Rattle.run_data.specs.declared.entry.By.TheVariants.{Job as by_job}
 use Rattle.run_data.specs.declared.entry.FrameView.{FrameView}
+use Rattle.node_model.specs.Around.{around_in}
 use Rattle.node_model.specs.Rows.{option_is}
 use Rattle.node_model.specs.Slots.{job_of}
 use Rattle.node_model.specs.Jobs.{Work, work_kind}
@@ -36,7 +37,7 @@ use Rattle.drop_phases.specs.Working.{Rest, Sight, end_in, taken_of, made_of, si
 
 -- the work after the entry that a turn makes
 abbrev pub next_work : Turn → Effect → Work
-next_work t m = work_kind (record { present = t.present; bar = t.bar; ends = t.ends }) (me t) t.w (entry_of (me t) t.look m) m.kind
+next_work t m = work_kind (around_in t) (me t) t.w (entry_of (me t) t.look m) m.kind
 
 -- a step over rows, where these contents are there: it makes what is asked, its entry changes the rows, and the work that follows
 -- is the next one

@@ -3,7 +3,8 @@ use Rattle.std.specs.Prelude.{◌≡◌, ℕ, Bool, true, false, ◌==◌, List,
 use Rattle.std.specs.List.{list_all}
 use Rattle.run_data.specs.declared.entry.FrameView.{FrameView}
 use Rattle.node_model.specs.Look.{Effect, waiting_frame}
-use Rattle.node_model.specs.Jobs.{job_end}
+use Rattle.node_model.specs.Jobs.{drop_side, job_end}
+use Rattle.drop_proof.specs.declared.rule.Side.TheVariants.{Remote}
 use Rattle.node_model.specs.JobStep.{Turn, end_with, quietly, talk}
 use Rattle.node_model.specs.Turns.{goes, has_room, needs, takes_frame}
 use Rattle.drop_phases.specs.declared.phase.Phase.{Phase}
@@ -96,6 +97,10 @@ IsAnswer taken = ⊥
 -- the word beside it is kept
 abbrev pub KeepsAnswer : Taken → Option Word → Worker → Worker → Type 0
 KeepsAnswer taken word w w' = w.phase ≡ phases.Orders → IsAnswer taken → w'.word ≡ word
+
+-- it comes with the step that takes the answer, and stays
+abbrev pub KeepsOrderWord : Worker → Worker → Type 0
+KeepsOrderWord w w' = drop_side w.job.kind w.job.peer ≡ Remote → (w.phase ≡ phases.Orders → ⊥) → w'.word ≡ w.word
 
 -- with a frame that is no message; with a Close; with a connection that was closed here
 abbrev pub TakesOther : ℕ → Worker → Worker → Output → Type 0

@@ -4,9 +4,9 @@ pub mod Sends
 pub mod Standings
 pub mod Working
 pub mod Doing
-pub mod Alike
 pub mod Feeding
 pub mod Leaving
 pub mod Begun
 pub mod Sides
+pub mod Apart
 pub mod Calling

@@ -1,6 +1,6 @@
 -- The step of a drop, put together of its parts.
 use Rattle.std.proofs.Common.{◌≡◌, ◌≤◌, inl, ℕ, false, List, Option, Some, None, Result, Ok, Err, refl, sym, ap, ◌∙◌, subst}
-use Rattle.std.specs.Prelude.{◌==◌, IfOk, IfSome, OnErr}
+use Rattle.std.specs.Prelude.{IfOk, IfSome, OnErr}
 use Rattle.std.specs.Option.{ForSome}
 use Rattle.annex_base.specs.Causes.{Rose}
 use Rattle.annex_base.specs.declared.kinds.Word.{Word}
@@ -25,16 +25,14 @@ use Rattle.drop_phases.specs.declared.turn.Output.{Output}
 use Rattle.drop_phases.specs.declared.turn.Taken.{Taken}
 use Rattle.drop_phases.specs.Worker.{Worker}
 use Rattle.drop_phases.specs.Working.{Sight, phase_as, present_in, sight}
+use Rattle.drop_phases.specs.Begun.{IsOther}
 use Rattle.drop_phases.specs.Doing.{DoesAsAsked, Grows, HasToken, IsBar, OthersStay, Talks, contents_after}
 use Rattle.drop_phases.specs.Feeding.{FeedsFrameAt, FitsLocal, KeepsAnswer, KeepsWord, TakesFed, step_of}
 use Rattle.drop_phases.specs.Leaving.{Advances, Did, GoesSo, Stays, Store, stands_on}
-use Rattle.drop_phases.specs.Alike.{Alike}
-use Rattle.remote_requests.specs.Remote.{DidRemote, GoesAlike, TakesRemote}
-use Rattle.drop_phases.specs.Alike.{DoesAlike}
-use Rattle.drop_phases.specs.Sides.{FitsSide, HasTarget, IsNext, side_in, target_on}
+use Rattle.remote_requests.specs.Remote.{DidRemote, TakesRemote}
+use Rattle.drop_phases.specs.Sides.{FitsSide, HasTarget, side_in, target_on}
 use Rattle.drop_worker.specs.States.{Sees, StepsSo}
-use Rattle.drop_worker.specs.Stepping.{AdvancesAlike, AdvancesSo, DidSo}
-use Rattle.drop_phases.proofs.Alikes.{does_alike}
+use Rattle.drop_worker.specs.Stepping.{AdvancesSo, DidSo}
 use Rattle.drop_phases.proofs.Leavings.{did_as, stays_same, talk_leaves}
 use Rattle.drop_worker.proofs.StateFacts.{steps_so}
 
@@ -74,12 +72,6 @@ hears_did x rows k w w' peer taken word (Err e) at bar own takes told talks same
 local_answer : (w w' : Worker) (taken : Taken) (word : Option Word) → FitsLocal w.phase w.token → KeepsAnswer taken word w w'
 local_answer w w' taken word fits at said = absurd (subst (λ (ph : Phase). FitsLocal ph w.token) at fits)
 
-next_local : (side : Side) (r : Reading) (u v : Work) → side ≡ Local → u ≡ v → IsNext side r u v
-next_local side r u v is e = subst (λ (s : Side). IsNext s r u v) (sym is) e
-
-next_remote : (side : Side) (r : Reading) (u v : Work) → side ≡ Remote → Alike r u v → IsNext side r u v
-next_remote side r u v is e = subst (λ (s : Side). IsNext s r u v) (sym is) e
-
 pub local_did : (x : Sight) (rows rows' : Rows) (k k' : Store) (w w' : Worker) (taken : Taken) (word : Option Word) (r : Result Output NoMemory) → side_in w ≡ Local → FitsLocal w.phase w.token
     → Did rows rows' k k' w w' (Advances x k.contents rows rows' w w' taken word) r → DidSo rows rows' k k' w w' (AdvancesSo x k.contents rows rows' w w' taken word) r
 local_did x rows rows' k k' w w' taken word (Err e) local fits s = s
@@ -87,12 +79,7 @@ local_did x rows rows' k k' w w' taken word (Ok out) local fits (d, l) = (
   record {
     told = d.told;
     answer = local_answer w w' taken word fits;
-    does = λ c is f fed. let it = d.does c is f fed in record {
-      makes = it.makes;
-      next = λ going rest. next_local (side_in w) x.read _ _ local (it.next going rest);
-      after = it.after;
-      whose = it.whose;
-    };
+    does = d.does;
   },
   record {
     after = l.after;
@@ -112,19 +99,10 @@ local_did x rows rows' k k' w w' taken word (Ok out) local fits (d, l) = (
 )
 
 pub remote_did : (x : Sight) (rows rows' : Rows) (k k' : Store) (w w' : Worker) (taken : Taken) (word : Option Word) (r : Result Output NoMemory) → side_in w ≡ Remote
-    → DidRemote rows rows' k k' w w' (AdvancesAlike x k.contents rows rows' w w' taken word) r → DidSo rows rows' k k' w w' (AdvancesSo x k.contents rows rows' w w' taken word) r
+    → DidRemote rows rows' k k' w w' (AdvancesSo x k.contents rows rows' w w' taken word) r → DidSo rows rows' k k' w w' (AdvancesSo x k.contents rows rows' w w' taken word) r
 remote_did x rows rows' k k' w w' taken word (Err e) remote s = s
 remote_did x rows rows' k k' w w' taken word (Ok out) remote (d, l) = (
-  record {
-    told = d.told;
-    answer = d.answer;
-    does = λ c is f fed. let it = d.does c is f fed in record {
-      makes = it.makes;
-      next = λ going rest. next_remote (side_in w) x.read _ _ remote (it.next going rest);
-      after = it.after;
-      whose = it.whose;
-    };
-  },
+  d,
   record {
     after = l.after;
     contents = l.contents;
@@ -145,40 +123,40 @@ remote_did x rows rows' k k' w w' taken word (Ok out) remote (d, l) = (
 -- ---- a remote drop
 
 -- that awaits no frame
-pub acts_alike : (x : Sight) (rows rows' : Rows) (k k' : Store) (w w' : Worker) (target : ℕ) (taken : Taken) (word : Option Word) (r : Result Output NoMemory) → w.job.peer ≡ Some target → stands_on w ≡ None
-    → DidRemote rows rows' k k' w w' (GoesAlike x k.contents rows rows' w w') r → DidRemote rows rows' k k' w w' (AdvancesAlike x k.contents rows rows' w w' taken word) r
-acts_alike x rows rows' k k' w w' target taken word (Err e) peer none s = s
-acts_alike x rows rows' k k' w w' target taken word (Ok out) peer none (acts, l) = (
+pub acts_remotely : (x : Sight) (rows rows' : Rows) (k k' : Store) (w w' : Worker) (target : ℕ) (taken : Taken) (word : Option Word) (r : Result Output NoMemory) → w.job.peer ≡ Some target → stands_on w ≡ None
+    → DidRemote rows rows' k k' w w' (GoesSo x k.contents rows rows' w w') r → DidRemote rows rows' k k' w w' (AdvancesSo x k.contents rows rows' w w' taken word) r
+acts_remotely x rows rows' k k' w w' target taken word (Err e) peer none s = s
+acts_remotely x rows rows' k k' w w' target taken word (Ok out) peer none (acts, l) = (
   record {
     told = λ p at said. absurd (let both : Some p ≡ None = sym (ap (λ (ph : Phase). partner w.job.peer (phase_as ph)) at) ∙ none in cc);
     answer = λ at said. absurd (let both : Some target ≡ None = sym peer ∙ (sym (ap (λ (ph : Phase). partner w.job.peer (phase_as ph)) at) ∙ none) in cc);
-    does = λ c is f. subst (λ (o : Option ℕ). FeedsFrameAt x w.slot o f taken → DoesAlike x rows rows' (present_in c) w w' f (step_of o f) out) (sym none)
-        (λ fed. subst (λ (g : Option FrameView). DoesAlike x rows rows' (present_in c) w w' g (λ t. goes t t.w.phase) out) (sym fed.1) (acts c is));
+    does = λ c is f. subst (λ (o : Option ℕ). FeedsFrameAt x w.slot o f taken → DoesAsAsked x rows rows' (present_in c) w w' f (step_of o f) out) (sym none)
+        (λ fed. subst (λ (g : Option FrameView). DoesAsAsked x rows rows' (present_in c) w w' g (λ t. goes t t.w.phase) out) (sym fed.1) (acts c is));
   },
   l,
 )
 
 -- that awaits a frame of this peer
-pub hears_alike : (read : Reading) (ends_at : EndName → End) (time number : ℕ) (rows rows' : Rows) (k k' : Store) (w w' : Worker) (peer : ℕ) (taken : Taken) (word : Option Word) (r : Result Output NoMemory) → stands_on w ≡ Some peer
+pub hears_remotely : (read : Reading) (ends_at : EndName → End) (time number : ℕ) (rows rows' : Rows) (k k' : Store) (w w' : Worker) (peer : ℕ) (taken : Taken) (word : Option Word) (r : Result Output NoMemory) → stands_on w ≡ Some peer
     → DidRemote rows rows' k k' w w' (TakesRemote read ends_at time rows rows' peer taken w w') r → IfOk r (λ out. KeepsWord taken word w w') → IfOk r (λ out. KeepsAnswer taken word w w')
-    → DidRemote rows rows' k k' w w' (AdvancesAlike (sight read ends_at time number) k.contents rows rows' w w' taken word) r
-hears_alike read ends_at time number rows rows' k k' w w' peer taken word (Err e) at s told answer = s
-hears_alike read ends_at time number rows rows' k k' w w' peer taken word (Ok out) at (takes, l) told answer = (
+    → DidRemote rows rows' k k' w w' (AdvancesSo (sight read ends_at time number) k.contents rows rows' w w' taken word) r
+hears_remotely read ends_at time number rows rows' k k' w w' peer taken word (Err e) at s told answer = s
+hears_remotely read ends_at time number rows rows' k k' w w' peer taken word (Ok out) at (takes, l) told answer = (
   record {
     told = told;
     answer = answer;
-    does = λ c is f. subst (λ (o : Option ℕ). FeedsFrameAt (sight read ends_at time number) w.slot o f taken → DoesAlike (sight read ends_at time number) rows rows' (present_in c) w w' f (step_of o f) out) (sym at)
-        (λ fed. does_alike (sight read ends_at time number) rows rows' (present_in c) w w' f (step_of (Some peer) f) out (takes number (present_in c) f fed));
+    does = λ c is f. subst (λ (o : Option ℕ). FeedsFrameAt (sight read ends_at time number) w.slot o f taken → DoesAsAsked (sight read ends_at time number) rows rows' (present_in c) w w' f (step_of o f) out) (sym at)
+        (λ fed. takes number (present_in c) f fed);
   },
   l,
 )
 
 -- ---- the target
 
-pub no_target : (side : Side) (peer : Option ℕ) (repo : ℕ) → HasTarget side peer repo → target_on side peer ≡ None → side ≡ Local
-no_target Local peer repo has is = refl
-no_target Remote None repo has is = absurd has
-no_target Remote (Some target) repo has is = absurd (cc)
+pub no_target : (side : Side) (peer : Option ℕ) (r : Reading) → HasTarget side peer r → target_on side peer ≡ None → side ≡ Local
+no_target Local peer r has is = refl
+no_target Remote None r has is = absurd has
+no_target Remote (Some target) r has is = absurd (cc)
 
 pub target_remote : (side : Side) (peer : Option ℕ) (target : ℕ) → target_on side peer ≡ Some target → side ≡ Remote
 target_remote Local peer target is = absurd (cc)
@@ -188,9 +166,9 @@ pub target_peer : (side : Side) (peer : Option ℕ) (target : ℕ) → target_on
 target_peer Local peer target is = absurd (cc)
 target_peer Remote peer target is = is
 
-pub target_apart : (side : Side) (peer : Option ℕ) (target repo : ℕ) → HasTarget side peer repo → target_on side peer ≡ Some target → (repo == target) ≡ false
-target_apart Local peer target repo has is = absurd (cc)
-target_apart Remote peer target repo has is = subst (λ (o : Option ℕ). HasTarget Remote o repo) is has
+pub target_other : (side : Side) (peer : Option ℕ) (target : ℕ) (r : Reading) → HasTarget side peer r → target_on side peer ≡ Some target → IsOther r target
+target_other Local peer target r has is = absurd (cc)
+target_other Remote peer target r has is = subst (λ (o : Option ℕ). HasTarget Remote o r) is has
 
 -- ---- what a step promises
 

@@ -1,18 +1,16 @@
 -- What a job reads of a state that it is, and the step of its slot.
 use Rattle.std.specs.Prelude.{if◌then◌else◌, IfOk, OnErr}
 use Rattle.std.specs.Option.{ForSome, option_map}
-use Rattle.std.proofs.Common.{◌≡◌, ℕ, Bool, true, Option, Some, None, Result, Ok, Err, refl, sym, ap, ◌∙◌, subst}
+use Rattle.std.proofs.Common.{◌≡◌, ℕ, Bool, true, Option, Some, None, Result, Ok, Err, refl, sym, ap, ◌∙◌}
 use Rattle.annex_base.specs.declared.kinds.Call.{Call}
 use Rattle.annex_base.specs.declared.memory.NoMemory.{NoMemory}
-use Rattle.drop_proof.specs.declared.rule.Side.{Side}
 use Rattle.run_data.specs.declared.entry.FrameView.{FrameView}
 use Rattle.node_model.specs.SetUp.{SetUp}
 use Rattle.node_model.specs.Jobs as Jobs
-use Rattle.node_model.specs.Jobs.{Work, work_after}
-use Rattle.node_model.specs.Look.{Look, Effect, as_told, entry_of, failed_in}
+use Rattle.node_model.specs.Jobs.{Work}
+use Rattle.node_model.specs.Look.{Look, Effect, as_told, failed_in}
 use Rattle.node_model.specs.State.{State}
 use Rattle.node_model.specs.JobStep.{Turn, end_with, turn_of}
-use Rattle.node_model.specs.Knows.{Reading, reading}
 use Rattle.node_model.specs.Rows.{option_is}
 use Rattle.node_model.specs.Slots.{job_of}
 use Rattle.node_model.specs.Turns.{by_partner, is_awaiting, slot_step}
@@ -27,10 +25,8 @@ use Rattle.drop_phases.specs.Working.{Rest, Sight, end_in, made_of, phase_as, pr
 use Rattle.drop_phases.specs.Calling.{AreLeft, Failing, MakesSo}
 use Rattle.content_lock.specs.CallsMade.{MakesCalls}
 use Rattle.drop_phases.specs.Leaving.{stands_on}
-use Rattle.drop_phases.specs.Doing.{next_work}
+use Rattle.drop_phases.specs.Doing.{DoesAsAsked, next_work}
 use Rattle.drop_phases.specs.Feeding.{FeedsFrameAt, FindsAt, step_of}
-use Rattle.drop_phases.specs.Sides.{IsNext, side_in}
-use Rattle.drop_worker.specs.Stepping.{DoesSo}
 use Rattle.drop_worker.specs.States.{IsSight, HaveState, Sees, StepsSo, rest_of}
 use Rattle.annex_base.proofs.Conditions.{eqb_refl}
 use Rattle.drop_phases.proofs.Callings.{makes_as}
@@ -82,10 +78,6 @@ fed_open x t slot None f taken e same fed = tt
 fed_open x t slot (Some peer) None taken e same fed = tt
 fed_open x t slot (Some peer) (Some f) taken e same fed = sym (λ i. (e i (end_in (same i) peer)).opened) ∙ fed.live
 
--- the next work, by what is the same
-next_at : (side : Side) (r q : Reading) (u v v' : Work) → r ≡ q → v ≡ v' → IsNext side r u v → IsNext side q u v'
-next_at side r q u v v' same is next = subst (λ (m : Work). IsNext side q u m) is (subst (λ (m : Reading). IsNext side m u v) same next)
-
 -- the slot's step, at a look that the worker sees
 slot_so : (x : Sight) (rows : Rows) (contents : Contents) (w : Worker) (taken : Taken) (failed : Option Call) (s : SetUp) (st : State) (k : Look) (v : Work) (f : Option FrameView)
     → Sees x rows contents w taken failed s st k v f → slot_step s st k (Some v) ≡ Some (step_of (stands_on w) f (turn_of s st k v))
@@ -101,15 +93,14 @@ slot_so x rows contents w taken failed s st k v f sees =
 
 -- a step that does this, at a look that sees it, is the slot's
 pub steps_so : (x : Sight) (rows rows' : Rows) (contents : Contents) (w w' : Worker) (taken : Taken) (out : Output) (s : SetUp) (st : State) (k : Look) (v : Work) (f : Option FrameView)
-    → Sees x rows contents w taken (failed_in out.kind) s st k v f → DoesSo x rows rows' (present_in contents) w w' f (step_of (Jobs.partner w.job.peer (phase_as w.phase)) f) out
+    → Sees x rows contents w taken (failed_in out.kind) s st k v f → DoesAsAsked x rows rows' (present_in contents) w w' f (step_of (Jobs.partner w.job.peer (phase_as w.phase)) f) out
     → StepsSo x w w' out s st k v f
 steps_so x rows rows' contents w w' taken out s st k v f sees d =
     record {
       made = ap (option_map as_told) (slot_so x rows contents w taken (failed_in out.kind) s st k v f sees)
           ∙ ap (λ (m : Effect). Some m) (sym (d.makes rest ∙ ap (λ (t : Turn). as_told (step_of o f t)) is));
-      next = λ going. next_at (side_in w) x.read (reading s st v) (work_of rest w') (next_work turned (step_of o f turned))
-          (work_after (record { present = st.present; bar = st.bar; ends = st.ends }) s.number (entry_of s.number k made) v) sees.sight.read
-          (ap (next_work turned) (sym (d.makes rest)) ∙ (ap (λ (t : Turn). next_work t made) is ∙ sym (own_entry (option_is (job_of out.kind) v.number) whose))) (d.next going rest);
+      next = λ going. d.next going rest
+          ∙ (ap (next_work turned) (sym (d.makes rest)) ∙ (ap (λ (t : Turn). next_work t made) is ∙ sym (own_entry (option_is (job_of out.kind) v.number) whose)));
     }
   where
     o : Option ℕ

@@ -6,11 +6,11 @@ pub use Rattle.drop_phases.specs.Sends
 pub use Rattle.drop_phases.specs.Standings
 pub use Rattle.drop_phases.specs.Working
 pub use Rattle.drop_phases.specs.Doing
-pub use Rattle.drop_phases.specs.Alike
 pub use Rattle.drop_phases.specs.Feeding
 pub use Rattle.drop_phases.specs.Leaving
 pub use Rattle.drop_phases.specs.Begun
 pub use Rattle.drop_phases.specs.Sides
+pub use Rattle.drop_phases.specs.Apart
 pub use Rattle.drop_phases.specs.Calling
 pub use Rattle.drop_judging.specs.Judging
 pub use Rattle.remote_requests.specs.Remote

@@ -2,6 +2,7 @@
 use Rattle.std.specs.Prelude.{◌≡◌, ℕ, ◌+◌, false, List, Option, Some, is_some}
 use Rattle.std.specs.Option.{option_map}
 use Rattle.object_store.specs.Stores.{Contents}
+use Rattle.node_model.specs.Around.{around}
 use Rattle.node_model.specs.SetUp.{SetUp}
 use Rattle.node_model.specs.Jobs.{Work}
 use Rattle.run_data.specs.declared.entry.FrameView.{FrameView}
@@ -19,7 +20,6 @@ use Rattle.drop_phases.specs.declared.turn.Output.{Output}
 use Rattle.drop_phases.specs.declared.turn.Taken.{Taken}
 use Rattle.drop_phases.specs.Working.{Rest, Sight, made_of, phase_as, words_of, work_of}
 use Rattle.drop_phases.specs.Feeding.{FeedsFrameAt, FindsAt}
-use Rattle.drop_phases.specs.Sides.{IsNext, side_in}
 
 -- the table and the store have the rows and contents of this state
 pub record HaveState (rows : Rows) (contents : Contents) (st : State) : Type 0 where
@@ -47,9 +47,7 @@ pub record Sees (x : Sight) (rows : Rows) (contents : Contents) (w : Worker) (ta
   pub finds : FindsAt (turn_of s st k v) (partner w.job.peer (phase_as w.phase)) f
   pub fed : FeedsFrameAt x w.slot (partner w.job.peer (phase_as w.phase)) f taken
 
--- the step is that of the job's slot, as its entry tells it, and the worker after it is the job's work after the entry, or of a remote
--- drop alike
+-- the step is that of the job's slot, as its entry tells it, and the worker after it is the job's work after the entry
 pub record StepsSo (x : Sight) (w w' : Worker) (out : Output) (s : SetUp) (st : State) (k : Look) (v : Work) (f : Option FrameView) : Type 0 where
   pub made : option_map as_told (slot_step s st k (Some v)) ≡ Some (made_of x w f out)
-  pub next : out.ended ≡ false → IsNext (side_in w) (reading s st v) (work_of (rest_of s st k v) w')
-      (work_after (record { present = st.present; bar = st.bar; ends = st.ends }) s.number (entry_of s.number k (made_of x w f out)) v)
+  pub next : out.ended ≡ false → work_of (rest_of s st k v) w' ≡ work_after (around s st) s.number (entry_of s.number k (made_of x w f out)) v

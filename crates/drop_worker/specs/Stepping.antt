@@ -1,5 +1,5 @@
 -- What a step of a drop does and leaves on either side, in one fact, for private contracts (own).
-use Rattle.std.specs.Prelude.{◌≡◌, ◌≤◌, ℕ, Bool, false, List, Option, Some, IfSome, Result, Ok, Err}
+use Rattle.std.specs.Prelude.{◌≡◌, ◌≤◌, false, Option, IfSome, Result, Ok, Err}
 use Rattle.std.specs.Option.{ForSome}
 use Rattle.annex_base.specs.Causes.{Rose}
 use Rattle.annex_base.specs.declared.kinds.Word.{Word}
@@ -7,28 +7,17 @@ use Rattle.annex_base.specs.declared.memory.NoMemory.{NoMemory}
 use Rattle.drop_proof.specs.declared.rule.Side.TheVariants.{Local}
 use Rattle.run_data.specs.declared.entry.FrameView.{FrameView}
 use Rattle.object_store.specs.Stores.{Contents}
-use Rattle.node_model.specs.JobStep.{Turn}
-use Rattle.node_model.specs.Look.{Effect, as_told, failed_in}
-use Rattle.node_model.specs.Slots.{job_of}
+use Rattle.node_model.specs.Look.{failed_in}
 use Rattle.content_lock.specs.Rows.{AreAfter, Rows}
 use Rattle.content_lock.specs.Stored.{Agrees}
 use Rattle.drop_phases.specs.declared.turn.Output.{Output}
 use Rattle.drop_phases.specs.declared.turn.Taken.{Taken}
 use Rattle.drop_phases.specs.Worker.{Worker}
-use Rattle.drop_phases.specs.Working.{Rest, Sight, made_of, present_in, turn_in, work_of}
-use Rattle.drop_phases.specs.Doing.{Grows, HasToken, OthersStay, contents_after, next_work}
+use Rattle.drop_phases.specs.Working.{Sight, present_in}
+use Rattle.drop_phases.specs.Doing.{DoesAsAsked, Grows, HasToken, OthersStay, contents_after}
 use Rattle.drop_phases.specs.Feeding.{FeedsFrameAt, KeepsAnswer, KeepsWord, step_of}
 use Rattle.drop_phases.specs.Leaving.{Stays, Store, stands_on}
-use Rattle.drop_phases.specs.Alike.{DoesAlike}
-use Rattle.drop_phases.specs.Sides.{FitsSide, IsNext, side_in}
-
--- a step makes what is asked, its entry changes the rows, and the work that follows is the next one
-pub record DoesSo (x : Sight) (rows rows' : Rows) (present : List ℕ → Bool) (w w' : Worker) (taken : Option FrameView) (asked : Turn → Effect) (out : Output) : Type 0 where
-  pub makes : (rest : Rest) → made_of x w taken out ≡ as_told (asked (turn_in x rows present (failed_in out.kind) rest w))
-  pub next : out.ended ≡ false → (rest : Rest)
-      → IsNext (side_in w) x.read (work_of rest w') (next_work (turn_in x rows present (failed_in out.kind) rest w) (asked (turn_in x rows present (failed_in out.kind) rest w)))
-  pub after : AreAfter out.kind rows rows'
-  pub whose : job_of out.kind ≡ Some w.number
+use Rattle.drop_phases.specs.Sides.{FitsSide, side_in}
 
 -- what a step leaves of the rows, the store and the worker
 pub record LeavesSo (rows rows' : Rows) (k k' : Store) (w w' : Worker) (out : Output) : Type 0 where
@@ -55,10 +44,4 @@ DidSo rows rows' k k' w w' does (Err e) = Stays rows rows' k k' w w'
 pub record AdvancesSo (x : Sight) (known : Option Contents) (rows rows' : Rows) (w w' : Worker) (taken : Taken) (word : Option Word) (out : Output) : Type 0 where
   pub told : KeepsWord taken word w w'
   pub answer : KeepsAnswer taken word w w'
-  pub does : ForSome known (λ c. (f : Option FrameView) → FeedsFrameAt x w.slot (stands_on w) f taken → DoesSo x rows rows' (present_in c) w w' f (step_of (stands_on w) f) out)
-
--- the same of a remote drop
-pub record AdvancesAlike (x : Sight) (known : Option Contents) (rows rows' : Rows) (w w' : Worker) (taken : Taken) (word : Option Word) (out : Output) : Type 0 where
-  pub told : KeepsWord taken word w w'
-  pub answer : KeepsAnswer taken word w w'
-  pub does : ForSome known (λ c. (f : Option FrameView) → FeedsFrameAt x w.slot (stands_on w) f taken → DoesAlike x rows rows' (present_in c) w w' f (step_of (stands_on w) f) out)
+  pub does : ForSome known (λ c. (f : Option FrameView) → FeedsFrameAt x w.slot (stands_on w) f taken → DoesAsAsked x rows rows' (present_in c) w w' f (step_of (stands_on w) f) out)

@@ -1,10 +1,12 @@
 //! The step of a drop, which its contract ties to the step of the job's slot.
-ghost use Rattle.std.specs.Prelude.{◌≡◌, ◌≤◌, ◌<◌, ◌==◌, ℕ, All, List, map, false, Some, None, if◌then◌else◌, IfOk, IfSome, OnErr};
+ghost use Rattle.std.specs.Prelude.{◌≡◌, ◌≤◌, ◌<◌, ℕ, All, List, map, false, Some, None, if◌then◌else◌, IfOk, IfSome, OnErr};
 ghost use Rattle.std.specs.declared.option.Option.{Option};
 ghost use Rattle.std.specs.Option.{ForSome, option_map};
 ghost use Rattle.annex_base.specs.Causes.{Rose};
 ghost use Rattle.drop_proof.specs.declared.rule.Side.TheVariants as sides;
+ghost use Rattle.run_data.specs.declared.entry.EntryKind.TheVariants.{Crash};
 ghost use Rattle.run_data.specs.declared.entry.FrameView.{FrameView};
+ghost use Rattle.node_model.specs.Rows.{holds_after};
 ghost use Rattle.node_model.specs.SetUp.{SetUp};
 ghost use Rattle.node_model.specs.State.{State};
 ghost use Rattle.node_model.specs.Look.{Effect, Look, failed_in};
@@ -14,19 +16,20 @@ ghost use Rattle.content_lock.specs.Rows.{AreAfter, bar_at};
 ghost use Rattle.content_lock.specs.Stored.{Agrees, label_of};
 ghost use Rattle.drop_phases.specs.Working.{phase_as, sight};
 ghost use Rattle.drop_phases.specs.Doing.{Grows, HasToken, OthersStay, contents_after, is_barring};
-ghost use Rattle.drop_phases.specs.Begun.{CanStand, HasGone};
+ghost use Rattle.drop_phases.specs.Apart.{GoesApartSo, IsApart, StaysApartIn};
+ghost use Rattle.drop_phases.specs.Begun.{CanStand, HasGone, IsOther};
 ghost use Rattle.drop_phases.specs.Feeding.{FitsLocal, IsOfLocal, KeepsAnswer, KeepsWord, ToldAt};
 ghost use Rattle.drop_phases.specs.Leaving.{Advances, Did, store};
 ghost use Rattle.remote_requests.specs.Remote.{DidRemote, StandsRemote};
-ghost use Rattle.drop_phases.specs.Sides.{CanShare, FitsSide, HasTarget, IsNumbered, side_in};
+ghost use Rattle.drop_phases.specs.Sides.{CanShare, FitsSide, HasTarget, HearsOwn, IsNumbered, side_in};
 ghost use Rattle.drop_worker.specs.States.{Sees, StepsSo};
 ghost use Rattle.drop_phases.specs.Calling.{MakesSo};
 ghost use Rattle.content_lock.specs.CallsMade.{MakesCalls, fewer};
-ghost use Rattle.drop_worker.specs.Stepping.{AdvancesAlike, AdvancesSo, DidSo};
+ghost use Rattle.drop_worker.specs.Stepping.{AdvancesSo, DidSo};
 
 use annex_base::NoMemory;
 use content_lock::LockTable;
-use drop_phases::{Here, Input, Output, Token, Worker};
+use drop_phases::{Here, Input, Output, Phase, Token, Worker};
 use object_store::Keeper;
 use std::alloc::Global;
 
@@ -40,7 +43,8 @@ pub fn step<K: Keeper, H: Here>(
     keeper: &mut K,
     input: &Input,
 ) -> Result<Output, NoMemory>
-    requires target { HasTarget (side_in worker.old) worker.old.job.peer (H.reading here.now).repo }
+    requires target { HasTarget (side_in worker.old) worker.old.job.peer (H.reading here.now) }
+    requires own { (worker.old.phase ≡ Phase.Fresh → ⊥) → HearsOwn (side_in worker.old) (H.reading here.now) worker.old }
     requires fits { FitsSide (side_in worker.old) worker.old.phase worker.old.token }
     requires told { ToldAt (partner worker.old.job.peer (phase_as worker.old.phase)) input.now.taken }
     requires owns { HasToken worker.old.number worker.old.job.key worker.old.token table.old }
@@ -68,7 +72,9 @@ pub fn step<K: Keeper, H: Here>(
     ensures agrees { Agrees (K.records keeper.old) table.old.holds → Agrees (K.records keeper.new) table.new.holds }
     ensures owns { HasToken worker.new.number worker.new.job.key worker.new.token table.new }
     ensures fits { IfOk result (λ out. out.ended ≡ false → FitsSide (side_in worker.old) worker.new.phase worker.new.token) }
-    ensures begun { side_in worker.old ≡ sides.Local → IfOk result (λ out. CanStand (H.reading here.now) worker.old.phase → HasGone (H.reading here.now) worker.old worker.new out) }
+    ensures begun { IfOk result (λ out. CanStand (H.reading here.now) worker.old.phase → HasGone (H.reading here.now) worker.old worker.new out) }
+    ensures own { IfOk result (λ out. out.ended ≡ false → HearsOwn (side_in worker.old) (H.reading here.now) worker.new) }
+    ensures apart { IfOk result (λ out. IsApart (side_in worker.old) worker.old.job.peer worker.old → GoesApartSo (side_in worker.old) worker.old.job.peer (H.reading here.now).repo worker.old worker.new out) }
     ensures job { (worker.new.number ≡ worker.old.number) × (worker.new.job ≡ worker.old.job) }
     ensures others { OthersStay worker.old.number table.old table.new }
     ensures err { OnErr result ((worker.new ≡ worker.old) × (table.new ≡ table.old) × (K.contents keeper.new ≡ K.contents keeper.old) × (K.records keeper.new ≡ K.records keeper.old)) }
@@ -92,14 +98,17 @@ fn advance<K: Keeper, H: Here>(
     keeper: &mut K,
     input: &Input,
 ) -> Result<Output, NoMemory>
-    requires target { HasTarget (side_in worker.old) worker.old.job.peer (H.reading here.now).repo }
+    requires target { HasTarget (side_in worker.old) worker.old.job.peer (H.reading here.now) }
+    requires own { (worker.old.phase ≡ Phase.Fresh → ⊥) → HearsOwn (side_in worker.old) (H.reading here.now) worker.old }
     requires fits { FitsSide (side_in worker.old) worker.old.phase worker.old.token }
     requires told { ToldAt (partner worker.old.job.peer (phase_as worker.old.phase)) input.now.taken }
     requires owns { HasToken worker.old.number worker.old.job.key worker.old.token table.old }
     requires shares { CanShare (side_in worker.old) (K.records keeper.old) table.old.holds input.now.number }
     ensures does { DidSo table.old table.new (store (K.contents keeper.old) (K.records keeper.old) (K.faults keeper.old)) (store (K.contents keeper.new) (K.records keeper.new) (K.faults keeper.new)) worker.old worker.new
         (AdvancesSo (sight (H.reading here.now) (H.ends here.now) input.now.time input.now.number) (K.contents keeper.old) table.old table.new worker.old worker.new input.now.taken input.now.word) result }
-    ensures begun { side_in worker.old ≡ sides.Local → IfOk result (λ out. CanStand (H.reading here.now) worker.old.phase → HasGone (H.reading here.now) worker.old worker.new out) }
+    ensures begun { IfOk result (λ out. CanStand (H.reading here.now) worker.old.phase → HasGone (H.reading here.now) worker.old worker.new out) }
+    ensures own { IfOk result (λ out. out.ended ≡ false → HearsOwn (side_in worker.old) (H.reading here.now) worker.new) }
+    ensures apart { IfOk result (λ out. IsApart (side_in worker.old) worker.old.job.peer worker.old → GoesApartSo (side_in worker.old) worker.old.job.peer (H.reading here.now).repo worker.old worker.new out) }
     ensures numbered { IfOk result (λ out. IsNumbered input.now.number out.kind) }
     ensures calls { MakesSo (sight (H.reading here.now) (H.ends here.now) input.now.time input.now.number) (K.contents keeper.old) table.old worker.old input.now.taken (K.failing keeper.old) (K.failing keeper.new) result }
     ensures parts { K.parts keeper.new ≡ K.parts keeper.old }
@@ -149,11 +158,15 @@ fn step_remote<K: Keeper, H: Here>(
     target: u32,
 ) -> Result<Output, NoMemory>
     requires stands { StandsRemote target (K.records keeper.old) table.old worker.old }
-    requires apart { ((H.reading here.now).repo == target) ≡ false }
+    requires other { IsOther (H.reading here.now) target }
+    requires own { (worker.old.phase ≡ Phase.Fresh → ⊥) → HearsOwn sides.Remote (H.reading here.now) worker.old }
     requires told { ToldAt (partner worker.old.job.peer (phase_as worker.old.phase)) input.now.taken }
     requires fresh { All (λ h. h.number < input.now.number) table.old.holds }
     ensures did { DidRemote table.old table.new (store (K.contents keeper.old) (K.records keeper.old) (K.faults keeper.old)) (store (K.contents keeper.new) (K.records keeper.new) (K.faults keeper.new)) worker.old worker.new
-        (AdvancesAlike (sight (H.reading here.now) (H.ends here.now) input.now.time input.now.number) (K.contents keeper.old) table.old table.new worker.old worker.new input.now.taken input.now.word) result }
+        (AdvancesSo (sight (H.reading here.now) (H.ends here.now) input.now.time input.now.number) (K.contents keeper.old) table.old table.new worker.old worker.new input.now.taken input.now.word) result }
+    ensures begun { IfOk result (λ out. CanStand (H.reading here.now) worker.old.phase → HasGone (H.reading here.now) worker.old worker.new out) }
+    ensures own { IfOk result (λ out. out.ended ≡ false → HearsOwn sides.Remote (H.reading here.now) worker.new) }
+    ensures apart { IfOk result (StaysApartIn (H.reading here.now).repo target worker.old worker.new) }
     ensures numbered { IfOk result (λ out. IsNumbered input.now.number out.kind) }
     ensures calls { MakesSo (sight (H.reading here.now) (H.ends here.now) input.now.time input.now.number) (K.contents keeper.old) table.old worker.old input.now.taken (K.failing keeper.old) (K.failing keeper.new) result }
     ensures parts { K.parts keeper.new ≡ K.parts keeper.old }
@@ -176,6 +189,7 @@ pub fn end(worker: Worker, table: &mut LockTable)
     ensures others { OthersStay worker.number table.old table.new }
     ensures fills { table.new.fills ≡ table.old.fills }
     ensures labels { map label_of table.new.holds ≡ map label_of table.old.holds }
+    ensures crash { (clock : ℕ) → holds_after table.new.holds (Crash clock) ≡ holds_after table.old.holds (Crash clock) }
     ensures nothing { worker.token ≡ Token.Nothing → table.new ≡ table.old }
     ensures holds { IsOfLocal worker.token → table.new.holds ≡ table.old.holds }
 {

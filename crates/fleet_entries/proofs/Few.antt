@@ -18,7 +18,9 @@ use Rattle.run_data.specs.declared.job.Job.{Job}
 use Rattle.run_data.specs.Files.{file_of}
 use Rattle.run_model.specs.Logs.{branch}
 use Rattle.run_model.specs.Past.{begun_count}
-use Rattle.run_model.specs.States.{works}
+use Rattle.run_model.specs.States.{end_at, works}
+use Rattle.node_model.specs.AnyTime.{close_at}
+use Rattle.node_model.specs.Ends.{EndName}
 use Rattle.node_model.specs.Look.{Look, Effect, entry_of}
 use Rattle.node_model.specs.Sessions.{line_in, message_said}
 use Rattle.node_model.specs.SetUp.{SetUp}
@@ -27,7 +29,7 @@ use Rattle.node_model.specs.Step.{step}
 use Rattle.driver_model.specs.Driver.{Driver, DriverInput, adds, drops_part, fails_at, newest_count, notes, puts_part, set_up_of, state_at, without_old_flights}
 use Rattle.driver_model.specs.Driving.{turns}
 use Rattle.driver_model.specs.Rounds.{AfterRounds, after_round, goes_round, is_settled, most_rounds, numbers, round, rounds, settles, turns_of}
-use Rattle.driver_model.specs.ScriptSteps.{begins, compacts, compacts_files, faults, fills_up, gains, has, is_busy, is_nil, logs, logs_some, merges, merges_files, news, sets, setting_line, shrinks, unknown_lines, unless_fails, waits, writes}
+use Rattle.driver_model.specs.ScriptSteps.{begins, begins_part, closes, closes_each, closes_end, compacts, compacts_files, ends_at, faults, fills_up, gains, has, is_busy, is_nil, lacks_places, logs, logs_some, merges, merges_files, news, sends, sets, sets_part, setting_line, shrinks, unknown_lines, unless_fails, waits, writes}
 use Rattle.driver_model.specs.Turning.{asked_key, bytes_taken, is_failure, is_valid, look_for, looks, makes, plain_look, store_after, takes_frame, takes_into, turn}
 use Rattle.fleet_model.specs.Settling.{goes_rounds}
 use Rattle.fleet_entries.specs.AtDriver.{IsFew, is_wait}
@@ -157,7 +159,20 @@ module _ (most : ℕ) where
       go true = few
       go false = calling_few r calls.DropPart d placed few (fills_few g r key bytes (drops_part r key d) few)
 
-  -- ---- jobs and turns
+  pub part_few : (g : DriverInput) (r : ℕ) (key bytes : List ℕ) (d : Driver) → Few d → Few (sets_part g r key bytes d)
+  part_few g r key bytes d few = calling_few r calls.Has d (if is_busy g d r key then d else unless_fails r calls.DropPart d begun) few (go (is_busy g d r key))
+    where
+      dropped : Driver
+      dropped = drops_part r key d
+
+      begun : Driver
+      begun = begins_part r key bytes dropped
+
+      go : (b : Bool) → Few (if b then d else unless_fails r calls.DropPart d begun)
+      go true = few
+      go false = calling_few r calls.DropPart d begun few (calling_few r calls.Append dropped (puts_part r key bytes dropped) few few)
+
+  -- ---- jobs
 
   pub begins_few : (r : ℕ) (job : Job) (d : Driver) → Few d → Few (begins r job d)
   begins_few r job d few = go (nat_lt (length (works d.past r)) 4)
@@ -165,6 +180,28 @@ module _ (most : ℕ) where
       go : (b : Bool) → Few (if b then notes r (kinds.Begin (begun_count d.past r + 1) job) [] d else d)
       go true = one most d.past _ refl refl few
       go false = few
+
+  -- ---- ends that are closed
+
+  closed_few : (g : DriverInput) (r : ℕ) (a : EndName) (d : Driver) → Few d → Few (closes_end g r a d)
+  closed_few g r a d few = go (end_at d.past r a).opened
+    where
+      go : (b : Bool) → Few (if b then sends g r (kinds.Close a.peer a.slot a.client) (close_at (set_up_of g d r) (state_at g d r) a) d else d)
+      go true = one most d.past _ refl refl few
+      go false = few
+
+  each_closed_few : (g : DriverInput) (r : ℕ) (ends : List EndName) (d : Driver) → Few d → Few (closes_each g r ends d)
+  each_closed_few g r [] d few = few
+  each_closed_few g r (a ∷ ends) d few = each_closed_few g r ends (closes_end g r a d) (closed_few g r a d few)
+
+  pub closes_few : (g : DriverInput) (r other : ℕ) (d : Driver) → Few d → Few (closes g r other d)
+  closes_few g r other d few = go (lacks_places d.past r other)
+    where
+      go : (b : Bool) → Few (if b then d else closes_each g r (ends_at other) d)
+      go true = few
+      go false = each_closed_few g r (ends_at other) d few
+
+  -- ---- turns
 
   makes_few : (st : State) (r : ℕ) (k : Look) (o : Option Effect) (d : Driver) → k.count ≡ newest_count d.past + 1 → Few d → Few (makes st r k o d)
   makes_few st r k None d counted few = few

@@ -1,5 +1,5 @@
 -- What a fleet has done is what the driver of scripts has done (own).
-use Rattle.std.specs.Prelude.{◌≡◌, ℕ, ◌<◌, ◌≤◌, Bool, List, ◌++◌, filter, is_none, length, reverse}
+use Rattle.std.specs.Prelude.{◌≡◌, ℕ, ◌<◌, ◌≤◌, Bool, true, false, List, ◌++◌, filter, is_none, length, reverse}
 use Rattle.run_data.specs.Histories.{most_entries}
 use Rattle.run_data.specs.declared.entry.Entry.{Entry}
 use Rattle.run_data.specs.declared.run.Run.{Run}
@@ -8,6 +8,7 @@ use Rattle.run_model.specs.Run.{IsRun}
 use Rattle.fleet_model.specs.Stored.{StoreView}
 use Rattle.driver_model.specs.Driver.{Driver, DriverInput, newest_count}
 use Rattle.driver_model.specs.Limits.{StopsAtFull, count_of, within_limit}
+use Rattle.driver_model.specs.ScriptSteps.{closes, lacks_places}
 use Rattle.fleet_model.specs.Fleets.{FleetView, HasCome}
 use Rattle.fleet_model.specs.Matches.{DecidesMatches}
 
@@ -92,3 +93,16 @@ pub record WaitsForRoom {K : Type 0} (tells : K → StoreView) (r : ℕ) (step :
 -- wherever the driver was, r may make another entry
 abbrev pub HasRoom : {K : Type 0} → (K → StoreView) → ℕ → FleetView K → Type 0
 HasRoom tells r f = (g : DriverInput) (d : Driver) → IsAtDriver tells g d f → count_of d.past r < most_entries
+
+-- ---- where ends are to be closed
+
+-- Wherever the driver was, r had more ends at the other open than there were places left in its history, so that this step of the driver
+-- adds none; and the run is as it was.
+pub record ClosesNone {K : Type 0} (tells : K → StoreView) (r other : ℕ) (was after : FleetView K) : Type 0 where
+  pub lacks : (g : DriverInput) (d : Driver) → IsAtDriver tells g d was → lacks_places d.past r other ≡ true
+  pub past : (g : DriverInput) (d : Driver) → IsAtDriver tells g d was → within_limit g (closes g r other d).past ≡ d.past
+  pub run : after.run ≡ was.run
+
+-- wherever the driver was, r had places left for as many entries as it had ends at the other open
+abbrev pub HasPlaces : {K : Type 0} → (K → StoreView) → ℕ → ℕ → FleetView K → Type 0
+HasPlaces tells r other f = (g : DriverInput) (d : Driver) → IsAtDriver tells g d f → lacks_places d.past r other ≡ false

@@ -5,7 +5,7 @@ use std::alloc::{AllocError, AllocFailed};
 /// Why a fleet didn't finish a line (own).
 #[derive(Clone, Copy, Debug, PartialEq, Eq)]
 pub enum FleetStop {
-    /// The history of this repository has 100,000 entries.
+    /// The history of this repository has 100,000 entries, or fewer places left than there are ends to close.
     Full { repo: u32 },
     /// Memory ran out.
     NoMemory,

@@ -122,12 +122,10 @@ one_job : (g : DriverInput) (r : ℕ) (ids : List (List ℕ)) (kind : JobKind) (
     → MayBegin (record { number = r; ids = ids }) kind peer → IsJob g r (record { kind = kind; key = key; path = path; peer = peer })
 one_job g r ids job_kinds.Drop key path None many valid may = record { peer = refl; valid = valid }
 one_job g r ids job_kinds.Get key path None many valid may = record { peer = refl; valid = valid }
-one_job g r ids job_kinds.Get key path (Some peer) many valid may = record { peer = other_is g r ids peer many may; valid = valid }
-one_job g r ids job_kinds.Copy key path (Some peer) many valid may = record { peer = other_is g r ids peer many may; valid = valid }
-one_job g r ids job_kinds.Drop key path (Some peer) many valid may = absurd may
 one_job g r ids job_kinds.Copy key path None many valid may = absurd may
-one_job g r ids job_kinds.MoveTo key path peer many valid may = absurd may
-one_job g r ids job_kinds.MoveFrom key path peer many valid may = absurd may
+one_job g r ids job_kinds.MoveTo key path None many valid may = absurd may
+one_job g r ids job_kinds.MoveFrom key path None many valid may = absurd may
+one_job g r ids kind key path (Some peer) many valid may = record { peer = other_is g r ids peer many may; valid = valid }
 
 pub begun_job : (g : DriverInput) (r count : ℕ) (job : Job) → count ≡ length g.repos → MayBeginAmong count r job → first_fault job.key ≡ None → IsJob g r job
 begun_job g r count job many may valid =

@@ -1,12 +1,10 @@
 -- A content that was placed met a full history: the driver's step comes to an entry of that node, or asks for none.
-use Rattle.std.proofs.Common.{◌≡◌, ℕ, ◌+◌, ◌<◌, ◌≤◌, ◌^◌, ◌⊎◌, inl, inr, List, ◌++◌, Some, drop, length, sym, ap, ◌∙◌, subst, arith}
+use Rattle.std.proofs.Common.{◌≡◌, ℕ, ◌<◌, ◌≤◌, ◌^◌, ◌⊎◌, inl, inr, List, Some, length, sym, ◌∙◌, subst, arith}
 use Rattle.std.specs.Prelude.{IfErr, OnOk, slice_get}
-use Rattle.std.proofs.lemmas.List.{length-append}
 use Rattle.std.proofs.lemmas.Option.{same_Some}
 use Rattle.annex_base.specs.declared.kinds.Call.{Call}
 use Rattle.annex_base.proofs.Lists.{slice_get-within}
 use Rattle.run_data.specs.Histories.{most_entries}
-use Rattle.run_data.specs.declared.run.Run.{Run}
 use Rattle.driver_model.specs.Driver.{Driver, DriverInput, set_up_of}
 use Rattle.driver_model.specs.Limits.{StopsAtFull, count_of, within_limit}
 use Rattle.driver_model.specs.Scripts.{IsContent}
@@ -15,18 +13,18 @@ use Rattle.fleet_entries.specs.Calls.{MeetsFullBehind, StopsAt, node_at, to_plac
 use Rattle.fleet_entries.specs.Nodes.{IsState, NodeView, state_of, told_of}
 use Rattle.fleet_entries.specs.Refusals.{RefusesSo}
 use Rattle.fleet_entries.specs.Stored.{StoreView}
-use Rattle.fleet_entries.specs.Walks.{over}
 use Rattle.fleet_entries.specs.Fleets.{FleetView, HasCome}
 use Rattle.fleet_entries.specs.Stopping.{OthersAreFew}
 use Rattle.fleet_entries.specs.Steps.{OneGoesOn, with_newest}
-use Rattle.fleet_entries.specs.AtDriver.{EndsAtFull, HasRoom, IsAtDriver, WaitsForRoom}
+use Rattle.fleet_entries.specs.AtDriver.{EndsAtFull, WaitsForRoom}
 use Rattle.fleet_entries.specs.Telling.{AreFew}
 use Rattle.fleet_entries.specs.declared.NodeRefused.TheVariants as refusals
 use Rattle.fleet_entries.proofs.Ended.{Answer, IsEnded}
-use Rattle.fleet_entries.proofs.Called.{IsCalled, IsStep, is_step}
+use Rattle.fleet_entries.proofs.Called.{IsCalled}
 use Rattle.fleet_keys.proofs.Placing.{PlacesContent}
 use Rattle.fleet_keys.proofs.Growing.{come_grows}
-use Rattle.fleet_entries.proofs.Full.{counted, ends_at, ends_for, few_others, run_stays}
+use Rattle.fleet_keys.proofs.Unasked.{HadRoom, IsUnasked, fault_grew, waits}
+use Rattle.fleet_entries.proofs.Full.{ends_at, ends_for}
 
 -- ---- contents
 
@@ -42,10 +40,7 @@ ContentStops {K} tells = (g : DriverInput) (d : Driver) (r : ℕ) (n m : NodeVie
     → IsState (set_up_of g d r) n.parts n.branch n.owed (told_of (tells n.keeper).contents (tells n.keeper).parts) (state_of (set_up_of g d r) n.history)
     → MeetsFullBehind key bytes (tells n.keeper).contents (tells n.keeper).failing (tells m.keeper).failing (with_newest d n) m → length bytes < 2 ^ 62 → StopsAtFull g r (has g r key bytes d) after.run
 
--- how far a call that places a content came at a node: not at all, or to the line
-abbrev pub IsUnasked : {K : Type 0} → NodeView K → NodeView K → Type 0
-IsUnasked n m = (length n.history ≡ most_entries) × (m ≡ over m.keeper n)
-
+-- how far a call that places a content came at a node, if not to its beginning alone: to the line
 abbrev pub PlaceMeets : {K : Type 0} → (K → StoreView) → List ℕ → List ℕ → NodeView K → NodeView K → Type 0
 PlaceMeets tells key bytes n m = MeetsFullBehind key bytes (tells n.keeper).contents (tells n.keeper).failing (tells m.keeper).failing n m
 
@@ -75,29 +70,6 @@ one_way {K} tells r was up after P Q there call =
     go p m (inl h) = inl (the_same P p m h)
     go p m (inr h) = inr (the_same Q p m h)
 
-waits : {K : Type 0} (tells : K → StoreView) (r : ℕ) (was up after : FleetView K) (key bytes : List ℕ) → AskStops tells → r < length was.nodes → IsCalled tells r was up after IsUnasked → AreFew after.nodes
-    → WaitsForRoom tells r (λ g d. has g r key bytes d) was after
-waits {K} tells r was up after key bytes law there call few = record {
-  full = λ g d stands. (asked g d stands).0;
-  past = λ g d stands. (asked g d stands).1;
-  run = same;
-}
-  where
-    asked : (g : DriverInput) (d : Driver) → IsAtDriver tells g d was → (count_of d.past r ≡ most_entries) × (within_limit g (has g r key bytes d).past ≡ d.past)
-    asked g d stands =
-        let s : IsStep tells d r was after IsUnasked = is_step tells g d r was up after IsUnasked stands.come there call in
-        law g d r s.before was stands.come s.goes.before (few_others r was after few s.goes.others) key bytes s.holds.0
-
-    same : after.run ≡ was.run
-    same =
-        let n : (n : NodeView K) × (slice_get was.nodes r ≡ Some n) = slice_get-within was.nodes r there in
-        let p : (n : NodeView K) × (slice_get up.nodes r ≡ Some n) = slice_get-within up.nodes r (subst (λ (c : ℕ). r < c) (sym call.raises.count) there) in
-        let m : (n : NodeView K) × (slice_get call.called.nodes r ≡ Some n) = slice_get-within call.called.nodes r (subst (λ (c : ℕ). r < c) (sym (call.count ∙ call.raises.count)) there) in
-        run_stays p.0 m.0 was after
-        (call.told.run m.0 m.1 ∙ (ap (λ (run : Run). record run { entries = run.entries ++ drop call.had m.0.history }) (call.run ∙ call.raises.run)
-        ∙ ap (λ (had : ℕ). record was.run { entries = was.run.entries ++ drop had m.0.history }) (call.raises.entries n.0 p.0 n.1 p.1 ∙ ap (λ (x : NodeView K). length x.history) (sym (call.raises.node n.0 p.0 n.1 p.1)))))
-        (ap (λ (x : NodeView K). x.history) (call.holds p.0 m.0 p.1 m.1).1)
-
 placed : {K : Type 0} (tells : K → StoreView) (r : ℕ) (was up after : FleetView K) (key bytes : List ℕ) → ContentStops tells → r < length was.nodes → IsCalled tells r was up after (PlaceMeets tells key bytes) → AreFew after.nodes
     → IsContent key bytes → length bytes < 2 ^ 62 → EndsAtFull tells r (λ g d. has g r key bytes d) was after
 placed {K} tells r was up after key bytes law there call few content small =
@@ -112,7 +84,7 @@ has_ends {K} tells r was up after key bytes ask law there call few content small
   where
     go : IsCalled tells r was up after IsUnasked ⊎ IsCalled tells r was up after (PlaceMeets tells key bytes)
         → EndsAtFull tells r (λ g d. has g r key bytes d) was after ⊎ WaitsForRoom tells r (λ g d. has g r key bytes d) was after
-    go (inl unasked) = inr (waits tells r was up after key bytes ask there unasked few)
+    go (inl unasked) = inr (waits tells (λ g d. has g r key bytes d) r was up after (λ g d n come at others full. ask g d r n was come at others key bytes full) there unasked few)
     go (inr came) = inl (placed tells r was up after key bytes law there came few content small)
 
 -- the same, of the repository that was refused, where the node was given a copy of the bytes
@@ -127,29 +99,17 @@ has_ends_so {K} tells r q was up after key bytes bytes' is same ask law there ca
     go (inl ends) = inl (ends_for tells r q (λ g d. has g r key bytes d) was after is ends)
     go (inr waits) = inr (is, waits)
 
--- there was room for the entry of a call that was done, or of a store call that failed
-abbrev pub HadRoom : {K : Type 0} → NodeView K → NodeView K → Type 0
-HadRoom n m = (length n.history < most_entries) ⊎ (length n.history < length m.history)
+-- ---- room
 
 grew : {K : Type 0} (call : Call) (key bytes : List ℕ) (n m : NodeView K) → RefusesSo refusals.StoreFault call (node_at call key bytes n) m → length n.history < length m.history
 grew {K} call key bytes n m refused =
-    above (length n.history) (length (node_at call key bytes n).history) (length m.history) (come_grows call key bytes n)
-    (ap (λ (x : NodeView K). length x.history) refused ∙ length-append (node_at call key bytes n).history _)
+    above (length n.history) (length (node_at call key bytes n).history) (length m.history) (come_grows call key bytes n) (fault_grew call (node_at call key bytes n) m refused)
   where
-    above : (a b c : ℕ) → a ≤ b → c ≡ b + 1 → a < c
-    above a b c more one = omega (arith, more, one)
+    above : (a b c : ℕ) → a ≤ b → b < c → a < c
+    above a b c more less = omega (arith, more, less)
 
 pub had_room : {K : Type 0} (tells : K → StoreView) (key bytes : List ℕ) (done : Answer) (n m : NodeView K) → IsEnded done → OnOk done (length n.history < most_entries) → PlacesContent tells key bytes done n m → HadRoom n m
 had_room tells key bytes done n m (inl e) room places = inl (subst (λ (a : Answer). OnOk a (length n.history < most_entries)) e room)
 had_room tells key bytes done n m (inr e) room places =
     let stops = subst (λ (a : Answer). IfErr a (λ x. StopsAt to_place key bytes (tells n.keeper).contents (tells m.keeper).contents (tells n.keeper).parts (tells m.keeper).parts (tells n.keeper).failing (tells m.keeper).failing x n m)) e places.stops in
     inr (grew stops.call key bytes n m stops.refused)
-
-pub has_room : {K : Type 0} (tells : K → StoreView) (r : ℕ) (was up after : FleetView K) → r < length was.nodes → IsCalled tells r was up after HadRoom → HasRoom tells r was
-has_room {K} tells r was up after there call g d stands =
-    let s : IsStep tells d r was after HadRoom = is_step tells g d r was up after HadRoom stands.come there call in
-    subst (λ (k : ℕ). k < most_entries) (sym (counted tells g d r s.before (stands.come.each r s.before s.goes.before))) (go (length s.before.history) (length s.left.history) most_entries s.holds s.few)
-  where
-    go : (a b n : ℕ) → (a < n) ⊎ (a < b) → b ≤ n → a < n
-    go a b n (inl less) few = less
-    go a b n (inr less) few = omega (arith, less, few)

@@ -1,4 +1,4 @@
--- No call that places a content or begins a job takes an entry of a node away.
+-- No call that places a content or a part or begins a job takes an entry of a node away.
 use Rattle.std.proofs.Common.{◌≡◌, ℕ, Bool, true, false, List, [], Result, Ok, Err, length, refl, sym, subst}
 use Rattle.std.specs.Prelude.{if◌then◌else◌}
 use Rattle.annex_base.specs.declared.kinds.Call.{Call}
@@ -13,9 +13,10 @@ use Rattle.annex_base.specs.declared.kinds.Call.TheVariants as calls
 use Rattle.fleet_entries.proofs.Ended.{Answer}
 use Rattle.fleet_keys.proofs.Beginning.{BeginsJob}
 use Rattle.fleet_entries.proofs.Growing.{Grows, entry_grows, grows_as, grows_on, longer, refusal_grows}
+use Rattle.fleet_keys.proofs.PartPlacing.{PlacesPart}
 use Rattle.fleet_keys.proofs.Placing.{PlacesContent}
 
--- ---- contents and jobs
+-- ---- contents, parts and jobs
 
 placed_grow : {K : Type 0} (n : NodeView K) (keeper : K) (key : List ℕ) (size : ℕ) → Grows n (with_placed n keeper key size)
 placed_grow n keeper key size = grows_on n (with_gain n keeper key size) (with_placed n keeper key size) (entry_grows n keeper n.branch _ []) (longer (with_gain n keeper key size).history _)
@@ -32,6 +33,10 @@ place_grows tells key bytes (Ok x) n m is = go is.placed.taken is.placed.node
     go false e = subst (λ x. Grows n x) (sym e) (placed_grow n m.keeper key (length bytes))
 place_grows tells key bytes (Err e) n m is =
     grows_on n (node_at is.stops.call key bytes n) m (come_grows is.stops.call key bytes n) (refusal_grows e is.stops.call (node_at is.stops.call key bytes n) m is.stops.refused)
+
+pub part_grows : {K : Type 0} (tells : K → StoreView) (key bytes : List ℕ) (done : Answer) (n m : NodeView K) → PlacesPart tells key bytes done n m → Grows n m
+part_grows tells key bytes (Ok x) n m is = subst (λ x. Grows n x) (sym is.node) (grows_as n n refl)
+part_grows tells key bytes (Err e) n m is = refusal_grows e is.before.call n m is.before.refused
 
 pub begin_grows : {K : Type 0} (job : Job) (paths : List (List ℕ)) (done : Result ℕ BeginRefused) (n m : NodeView K) → BeginsJob job paths done n m → Grows n m
 begin_grows job paths (Ok number) n m is = subst (λ x. Grows n x) (sym is.ok) (entry_grows n n.keeper n.branch _ [])

@@ -2,6 +2,8 @@
 mod Beginning
 mod Failing
 mod Placing
+mod Unasked
+mod PartPlacing
 mod Growing
 mod FullJobs
 mod FullContents

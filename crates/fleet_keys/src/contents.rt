@@ -1,9 +1,9 @@
-//! Contents that a script puts into a fleet, and store calls that will fail.
+//! Contents and parts that a script puts into a fleet, and store calls that will fail.
 ghost use Rattle.std.specs.Prelude.{◌≡◌, ◌⊎◌, ℕ, ◌<◌, ◌^◌, length, Err, IfOk, OnErr, OnOk};
 ghost use Rattle.annex_key.specs.KeyText.{IsKeyText};
 ghost use Rattle.key_verify.specs.Matching.{MatchesKey};
 ghost use Rattle.fleet_entries.specs.Stored.{store_view};
-ghost use Rattle.driver_model.specs.ScriptSteps.{has, will_fail};
+ghost use Rattle.driver_model.specs.ScriptSteps.{has, sets_part, will_fail};
 ghost use Rattle.fleet_entries.specs.AtDriver.{EndsAtFull, GoesOn, HasRoom, IsDriven, OnlyAddsEntries, StopsWithin, WaitsForRoom};
 
 use annex_base::{Call, NoMemory};
@@ -50,6 +50,35 @@ pub fn place<K: FailingKeeper>(
     let bytes = bytes_of(running.alloc, content)?;
     let had = running.raise(repo);
     let done = running.nodes.place(repo as usize, key, &bytes);
+    let line = running.after_step(repo, done);
+    running.end_call(repo, had, line)
+}
+
+/// The key's part has these bytes from now on, unless the content is there or is being filled. They may be other bytes than the
+/// content's first, and more than it has.
+pub fn place_part<K: FailingKeeper>(
+    running: &mut Running<K>,
+    repo: u32,
+    key: &Key,
+    content: &Content,
+) -> Result<(), FleetStop>
+    requires there { repo < length running.old.nodes }
+    requires driven { IsDriven (λ k. store_view (K.contents k) (K.parts k) (K.failing k) (K.faults k)) running.old }
+    requires small { length content.now < 2 ^ 62 }
+    ensures ok { OnOk result (GoesOn (λ k. store_view (K.contents k) (K.parts k) (K.failing k) (K.faults k)) (λ g d. sets_part g repo key.now content.now d) running.old running.new) }
+    ensures full { (r : ℕ) → result ≡ Err (FleetStop.Full r) → (r ≡ repo) × WaitsForRoom (λ k. store_view (K.contents k) (K.parts k) (K.failing k) (K.faults k)) repo (λ g d. sets_part g repo key.now content.now d) running.old running.new }
+    ensures stopped { OnErr result (StopsWithin (λ k. store_view (K.contents k) (K.parts k) (K.failing k) (K.faults k)) (λ g d. sets_part g repo key.now content.now d) running.old running.new) }
+    ensures room { OnOk result (HasRoom (λ k. store_view (K.contents k) (K.parts k) (K.failing k) (K.faults k)) repo running.old) }
+    ensures rest { OnlyAddsEntries running.old running.new }
+{
+    // Laws: the fleet goes on as the driver, which stays sound and only adds entries, or stops at a full history.
+    fleets_do_lines::<K>();
+    drivers_stay_sound();
+    drivers_only_add();
+    fleets_stop_at_full_histories::<K>();
+    let bytes = bytes_of(running.alloc, content)?;
+    let had = running.raise(repo);
+    let done = running.nodes.place_part(repo as usize, key, &bytes);
     let line = running.after_step(repo, done);
     running.end_call(repo, had, line)
 }

@@ -22,7 +22,7 @@ fn copied(job: &Job) -> Result<Job, NoMemory>
     Ok(job.clone()?)
 }
 
-/// A job begins where fewer than four run: a drop of the repository's own copy, a get, or a copy to another repository.
+/// A job begins where fewer than four run: a drop, a get, or a copy or a move, whose peer is another repository.
 pub fn begin<K: FailingKeeper>(
     running: &mut Running<K>,
     repo: u32,

@@ -49,7 +49,7 @@ new_number number slot what paths (tasks.Transfers w) is = ap (λ (x : Work). x.
 -- what holds of the paths holds of those that it was given, if it was given some
 new_paths : (P : List (List ℕ) → Type 0) (number slot : ℕ) (what : Job) (paths : List (List ℕ)) (t : Task) → IsNewTask number slot what paths t → P paths → IfSome (running.paths_of t) P
 new_paths P number slot what paths (tasks.Drops j) is holds = subst P (sym (ap (λ (x : DropJob). x.paths) is.0)) holds
-new_paths P number slot what paths (tasks.Transfers w) is holds = tt
+new_paths P number slot what paths (tasks.Transfers w) is holds = subst P (sym is.2) holds
 
 -- ---- the words of jobs that ran before
 

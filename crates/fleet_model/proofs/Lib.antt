@@ -53,3 +53,8 @@ pub mod StopPasts
 pub mod StopSteps
 pub mod StopWalks
 pub mod StopContents
+pub mod LinkSets
+pub mod CloseEnds
+pub mod ClosingGoes
+pub mod Closes
+pub mod CloseComes

@@ -30,7 +30,9 @@ use Rattle.node_sessions.specs.Serving.{SeesPartAt}
 use Rattle.get_phases.specs.Gets as gets
 use Rattle.get_phases.specs.declared.getting.Phase.{Phase}
 use Rattle.get_phases.specs.declared.getting.Phase.TheVariants as phases
+use Rattle.joined_nodes.specs.Worker.{Worker}
 use Rattle.joined_nodes.specs.Worker.TheVariants as workers
+use Rattle.joined_nodes.specs.Workers.{HasFill, work_of}
 use Rattle.joined_nodes.specs.Task.{Task}
 use Rattle.joined_nodes.specs.Task.TheVariants as tasks
 use Rattle.joined_nodes.specs.Tasks.{OwnsOf, work_now}
@@ -124,15 +126,20 @@ get_asked g d r known rows key (phases.Word peer start taken) (Some (incoming.Me
     subst (λ (fill : List ℕ). SeesTaken known taken (g.matches fill (part_at d r fill))) fills.0 (taken_right g d r known taken right decides told sees)
 get_asked g d r known rows key phase i part right decides told fills sees = told_size d r known key told
 
+worker_asked : (g : DriverInput) (d : Driver) (r : ℕ) (known : Option Parts) (rows : Rows) (v : Worker) (paths : List (List ℕ)) (taken : Option FrameView) (part : ℕ) (right : Bool) → DecidesMatches g
+    → IsTold known (λ p. (key : List ℕ) → p key ≡ part_at d r key) → HasFill rows (record { worker = v; paths = paths }) → JobSeesPartAt known (tasks.Transfers (record { worker = v; paths = paths })) taken part right
+    → JobSeesPartAt known (tasks.Transfers (record { worker = v; paths = paths })) taken (part_size d r (Some (work_of (record { worker = v; paths = paths })).what.key)) (part_right g d r (Some (work_of (record { worker = v; paths = paths })).what.key))
+worker_asked g d r known rows (workers.Gets w) paths None part right decides told has sees = get_asked g d r known rows w.job.key w.phase None part right decides told has sees
+worker_asked g d r known rows (workers.Gets w) paths (Some f) part right decides told has sees =
+    λ i brings. get_asked g d r known rows w.job.key w.phase (Some i) part right decides told has (sees i brings)
+worker_asked g d r known rows (workers.Puts w) paths None part right decides told has sees = tt
+worker_asked g d r known rows (workers.Puts w) paths (Some f) part right decides told has sees = λ i brings. tt
+
 pub job_asked : (g : DriverInput) (d : Driver) (r : ℕ) (known : Option Parts) (rows : Rows) (t : Task) (taken : Option FrameView) (part : ℕ) (right : Bool) → DecidesMatches g
     → IsTold known (λ p. (key : List ℕ) → p key ≡ part_at d r key) → OwnsOf rows t → JobSeesPartAt known t taken part right
     → JobSeesPartAt known t taken (part_size d r (Some (work_now t).what.key)) (part_right g d r (Some (work_now t).what.key))
 job_asked g d r known rows (tasks.Drops j) taken part right decides told owns sees = tt
-job_asked g d r known rows (tasks.Transfers (workers.Gets w)) None part right decides told owns sees = get_asked g d r known rows w.job.key w.phase None part right decides told owns.1 sees
-job_asked g d r known rows (tasks.Transfers (workers.Gets w)) (Some f) part right decides told owns sees =
-    λ i brings. get_asked g d r known rows w.job.key w.phase (Some i) part right decides told owns.1 (sees i brings)
-job_asked g d r known rows (tasks.Transfers (workers.Puts w)) None part right decides told owns sees = tt
-job_asked g d r known rows (tasks.Transfers (workers.Puts w)) (Some f) part right decides told owns sees = λ i brings. tt
+job_asked g d r known rows (tasks.Transfers w) taken part right decides told owns sees = worker_asked g d r known rows w.worker w.paths taken part right decides told owns.1 sees
 
 -- the key of a job's step is its own
 pub job_key_is : (st : State) (m : Effect) (ts : List Task) (job : ℕ) (t : Task) → st.works ≡ map work_now ts → job_of m.kind ≡ Some job → job_at ts job ≡ Some t → asked_key st m ≡ Some (work_now t).what.key

@@ -68,7 +68,7 @@ given_among d r was now among has = Each-weaker (λ j. Member (given_of j) (map 
 
 had_by : (g : DriverInput) (d : Driver) (r : ℕ) (t : Task) → HasGiven d r (given_of t) → HadPathsOf (set_up_of g d r) t
 had_by g d r (tasks.Drops j) has = has.1
-had_by g d r (tasks.Transfers w) has = tt
+had_by g d r (tasks.Transfers w) has = has.1
 
 -- so they have the paths of the driver's set-up
 pub had_there : (g : DriverInput) (d : Driver) (r : ℕ) (js : List Task) → Each (λ j. HasGiven d r (given_of j)) js → Each (HadPathsOf (set_up_of g d r)) js

@@ -8,13 +8,14 @@ use Rattle.driver_model.specs.Driver.{Driver, DriverInput, drops_part, puts_part
 use Rattle.driver_model.specs.Finding.{driver_at_turn}
 use Rattle.driver_model.specs.Limits.{AddsOwn, count_of, within_limit}
 use Rattle.driver_model.specs.Scripts.{IsContent, IsKnown}
-use Rattle.driver_model.specs.ScriptSteps.{compacts_files, gets_content, has, is_busy, merges_files}
+use Rattle.driver_model.specs.ScriptSteps.{compacts_files, gets_content, has, is_busy, merges_files, sets_part}
 use Rattle.driver_model.specs.Sound.{StaysSound}
 use Rattle.driver_model.specs.Turning.{plain_look, turn}
 
 pub record StopLaws : Type 0 where
   pub turn_adds : (g : DriverInput) (r : ℕ) (d : Driver) → AddsOwn r d (turn g r d)
   pub content_adds : (g : DriverInput) (r : ℕ) (key bytes : List ℕ) (d : Driver) → AddsOwn r d (has g r key bytes d)
+  pub part_adds : (g : DriverInput) (r : ℕ) (key bytes : List ℕ) (d : Driver) → AddsOwn r d (sets_part g r key bytes d)
   pub merges_add : (r : ℕ) (files : Files) (d : Driver) → AddsOwn r d (merges_files r files d)
   pub compacts_add : (r : ℕ) (files : Files) (d : Driver) → AddsOwn r d (compacts_files r files d)
   pub merges_start : (g : DriverInput) (r other : ℕ) (done left : Files) (d : Driver) → IsKnown g r → branch d.past other ≡ done ++ left → StaysSound g d (merges_files r done d)

@@ -25,8 +25,8 @@ use Rattle.node_model.specs.Step.{step}
 use Rattle.joined_nodes.specs.Parts.{AreParts}
 use Rattle.driver_model.specs.Driver.{Driver, DriverInput, frames_to, notes, set_up_of, state_at}
 use Rattle.driver_model.specs.Finding.{driver_at_turn}
-use Rattle.driver_model.specs.Limits.{StopsAtFull, count_of, within_limit}
-use Rattle.driver_model.specs.ScriptSteps.{begins, has, logs_some, setting_line, sets, unknown_lines, writes}
+use Rattle.driver_model.specs.Limits.{AddsOwn, StopsAtFull, count_of, within_limit}
+use Rattle.driver_model.specs.ScriptSteps.{begins, has, logs_some, sets, sets_part, setting_line, unknown_lines, writes}
 use Rattle.driver_model.specs.Turning.{at_hand, plain_look, turn}
 use Rattle.joined_nodes.specs.Calls.{lacks_some}
 use Rattle.joined_nodes.specs.Logs.{stamped_by}
@@ -125,10 +125,18 @@ setting_stops tells g d r n was h at few kind topic value full lacks =
     line_stops tells g d r n was h at few (Of kind) (setting_line g d r kind topic value) full
     (subst (λ (line : List ℕ). lacks_some n (Of kind) (line ∷ []) ≡ true) (setting_is tells g d r (with_newest d n) kind topic value (raised_is tells g d r n (h.each r n at))) lacks)
 
--- ---- contents that the store is asked for first
+-- ---- contents and parts that the store is asked for first
+
+asked : {K : Type 0} → StopLaws → (tells : K → StoreView) (g : DriverInput) (d after : Driver) (r : ℕ) (n : NodeView K) (was : FleetView K) → HasCome tells g d was → slice_get was.nodes r ≡ Some n → OthersAreFew r was.nodes
+    → AddsOwn r d after → length n.history ≡ most_entries → (count_of d.past r ≡ most_entries) × (within_limit g after.past ≡ d.past)
+asked stop tells g d after r n was h at few adds full =
+    let counted : count_of d.past r ≡ most_entries = count_is d.past n.history r (h.each r n at).history ∙ full in
+    (counted, stop.asks g r d after (is_known tells g d r n was h at) adds counted (all_are_few r d.past counted (others_are_few tells g d r was h few)))
 
 pub content_asked : {K : Type 0} → StopLaws → (tells : K → StoreView) (g : DriverInput) (d : Driver) (r : ℕ) (n : NodeView K) (was : FleetView K) → HasCome tells g d was → slice_get was.nodes r ≡ Some n → OthersAreFew r was.nodes
     → (key bytes : List ℕ) → length n.history ≡ most_entries → (count_of d.past r ≡ most_entries) × (within_limit g (has g r key bytes d).past ≡ d.past)
-content_asked stop tells g d r n was h at few key bytes full =
-    let counted : count_of d.past r ≡ most_entries = count_is d.past n.history r (h.each r n at).history ∙ full in
-    (counted, stop.asks g r d (has g r key bytes d) (is_known tells g d r n was h at) (stop.content_adds g r key bytes d) counted (all_are_few r d.past counted (others_are_few tells g d r was h few)))
+content_asked stop tells g d r n was h at few key bytes full = asked stop tells g d (has g r key bytes d) r n was h at few (stop.content_adds g r key bytes d) full
+
+pub part_asked : {K : Type 0} → StopLaws → (tells : K → StoreView) (g : DriverInput) (d : Driver) (r : ℕ) (n : NodeView K) (was : FleetView K) → HasCome tells g d was → slice_get was.nodes r ≡ Some n → OthersAreFew r was.nodes
+    → (key bytes : List ℕ) → length n.history ≡ most_entries → (count_of d.past r ≡ most_entries) × (within_limit g (sets_part g r key bytes d).past ≡ d.past)
+part_asked stop tells g d r n was h at few key bytes full = asked stop tells g d (sets_part g r key bytes d) r n was h at few (stop.part_adds g r key bytes d) full

@@ -340,7 +340,7 @@ turn_comes {K} laws tells g d r n m was after decides h one well ad by small who
     words_on : WordsGoOn (map after_drop (links_at was.nodes r)) d.past r e (words_at n.parts.jobs.running) (words_at m.parts.jobs.running)
     words_on = words_go d.past r e (map after_drop (links_at was.nodes r)) (record n.parts { links = map after_drop n.parts.links }) m.parts (done_in ad.entry) (ap (map after_drop) (sym links_are))
         (ap (λ (x : Entry). x.kind) entry) (ap (λ (x : Entry). x.taken) entry) works_was works_after (laws.jobs g d r h.sound)
-        (subst (λ (xs : List Entry). AreJobs (works xs r)) past (laws.jobs g (after_step g r d made) r sound_after)) well.sound.acting.tasks whole.sound.acting.tasks
+        (subst (λ (xs : List Entry). AreJobs (works xs r)) past (laws.jobs g (after_step g r d made) r sound_after))
         (laws.changed s d.past tm.is_step.look made e tm.is_step.steps refl refl refl refl (laws.jobs g d r h.sound)) ad.jobs
 
     heard_after : HeardSo (after_step g r d made).past r (words_at m.parts.jobs.running)

@@ -38,7 +38,9 @@ use Rattle.get_phases.specs.declared.getting.Phase.TheVariants as getting
 use Rattle.put_steps.specs.Puts as puts
 use Rattle.put_steps.specs.declared.phase.Phase.{Phase as PutPhase}
 use Rattle.put_steps.specs.declared.phase.Phase.TheVariants as offers
+use Rattle.joined_nodes.specs.Worker.{Worker}
 use Rattle.joined_nodes.specs.Worker.TheVariants as workers
+use Rattle.joined_nodes.specs.Workers.{work_of}
 use Rattle.joined_nodes.specs.Task.{Task}
 use Rattle.joined_nodes.specs.Task.TheVariants as tasks
 use Rattle.joined_nodes.specs.Tasks.{work_now}
@@ -108,10 +110,13 @@ judges_get p e = refl
 fit_unless : (phase : models.Phase) (part : Part) → is_judging phase ≡ false → is_judging phase ≡ true → part ≡ Gets
 fit_unless phase part never e = absurd (let both : false ≡ true = sym never ∙ e in cc)
 
+worker_fits : (v : Worker) (paths : List (List ℕ)) → IsFit (work_of (record { worker = v; paths = paths }))
+worker_fits (workers.Gets w) paths = judges_get w.phase
+worker_fits (workers.Puts w) paths = fit_unless (puts.phase_of w.phase) (puts.part_of w.phase) (never_judges_put w.phase)
+
 fits : (t : Task) → IsFit (work_now t)
 fits (tasks.Drops j) = fit_unless (phase_as j.worker.phase) Drops (never_judges j.worker.phase)
-fits (tasks.Transfers (workers.Gets w)) = judges_get w.phase
-fits (tasks.Transfers (workers.Puts w)) = fit_unless (puts.phase_of w.phase) (puts.part_of w.phase) (never_judges_put w.phase)
+fits (tasks.Transfers w) = worker_fits w.worker w.paths
 
 all_fit : (ts : List Task) → Each IsFit (map work_now ts)
 all_fit [] = tt

@@ -13,7 +13,7 @@ ghost use Rattle.joined_nodes.specs.Parts.{AreParts};
 ghost use Rattle.driver_model.specs.Driver.{Driver, DriverInput, set_up_of};
 ghost use Rattle.driver_model.specs.Limits.{StopsAtFull, count_of, within_limit};
 ghost use Rattle.driver_model.specs.Scripts.{IsContent};
-ghost use Rattle.driver_model.specs.ScriptSteps.{begins, compacts, has, merges, sets, writes};
+ghost use Rattle.driver_model.specs.ScriptSteps.{begins, compacts, has, merges, sets, sets_part, writes};
 ghost use Rattle.driver_model.specs.Turning.{turn};
 ghost use Rattle.joined_nodes.specs.Calls.{MeetsFull, MeetsFullBehind, lacks_of, lacks_some, shrinks_at};
 ghost use Rattle.joined_nodes.specs.Logs.{stamped_by};
@@ -56,6 +56,8 @@ pub fn fleets_stop_at_full_histories<K>()
         → StopsAtFull g r (sets g r kind topic value d) was.run }
     ensures asked { (tells : K → StoreView) (g : DriverInput) (d : Driver) (r : ℕ) (n : NodeView K) (was : FleetView K) → HasCome tells g d was → slice_get was.nodes r ≡ Some n → OthersAreFew r was.nodes
         → (key bytes : List ℕ) → length n.history ≡ most_entries → (count_of d.past r ≡ most_entries) × (within_limit g (has g r key bytes d).past ≡ d.past) }
+    ensures part { (tells : K → StoreView) (g : DriverInput) (d : Driver) (r : ℕ) (n : NodeView K) (was : FleetView K) → HasCome tells g d was → slice_get was.nodes r ≡ Some n → OthersAreFew r was.nodes
+        → (key bytes : List ℕ) → length n.history ≡ most_entries → (count_of d.past r ≡ most_entries) × (within_limit g (sets_part g r key bytes d).past ≡ d.past) }
     ensures merge { (tells : K → StoreView) (g : DriverInput) (d : Driver) (r : ℕ) (n m : NodeView K) (was after : FleetView K) → HasCome tells g d was → OneGoesOn r n m was after → OthersAreFew r was.nodes
         → m.time ≤ 1000000000000 → m.count < 2 ^ 62 → (other : ℕ) (o : NodeView K) → slice_get was.nodes other ≡ Some o
         → MeetsFull (merge_files (with_newest d n)) lacks_of o.branch (tells n.keeper).failing (tells m.keeper).failing (with_newest d n) m → StopsAtFull g r (merges r other d) after.run }

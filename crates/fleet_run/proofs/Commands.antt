@@ -70,16 +70,14 @@ within_as context action form is within = subst (λ (a : Action). first_limit co
 
 -- those of an arm that no line with its form built comes to
 abbrev pub IsUnbuilt : Action → Type 0
-IsUnbuilt action = ((a : ℕ) × (b : List ℕ) × (c : List ℕ) × (action ≡ actions.SetPart a b c)) ⊎ (((a : ℕ) × (action ≡ actions.Sync a)) ⊎ (((a : ℕ) × (b : ℕ) × (action ≡ actions.Close a b)) ⊎ ((a : ℕ) × (b : ℕ) × (action ≡ actions.Crash a b))))
+IsUnbuilt action = ((a : ℕ) × (action ≡ actions.Sync a)) ⊎ ((a : ℕ) × (b : ℕ) × (action ≡ actions.Crash a b))
 
 none_built : (action form : Action) → action ≡ form → is_built_action form ≡ false → is_built_action action ≡ true → ⊥
 none_built action form is none built = absurd (let no : false ≡ true = sym none ∙ built_as action form is built in cc)
 
 pub never_acts : (action : Action) → is_built_action action ≡ true → IsUnbuilt action → ⊥
-never_acts action built (inl h) = none_built action (actions.SetPart h.0 h.1 h.2) h.3 refl built
-never_acts action built (inr (inl h)) = none_built action (actions.Sync h.0) h.1 refl built
-never_acts action built (inr (inr (inl h))) = none_built action (actions.Close h.0 h.1) h.2 refl built
-never_acts action built (inr (inr (inr h))) = none_built action (actions.Crash h.0 h.1) h.2 refl built
+never_acts action built (inl h) = none_built action (actions.Sync h.0) h.1 refl built
+never_acts action built (inr h) = none_built action (actions.Crash h.0 h.1) h.2 refl built
 
 -- ---- what a line has
 
@@ -111,12 +109,10 @@ job_begins : (context : Context) (r : ℕ) (kind : JobKind) (peer : Option ℕ) 
     → MayBegin (record { number = r; ids = ids }) kind peer
 job_begins context r job_kinds.Drop None ids few built two = tt
 job_begins context r job_kinds.Get None ids few built two = tt
-job_begins context r job_kinds.Get (Some peer) ids few built two = other_of context r peer ids few two
-job_begins context r job_kinds.Copy (Some peer) ids few built two = other_of context r peer ids few two
-job_begins context r job_kinds.Drop (Some peer) ids few built two = absurd (cc)
 job_begins context r job_kinds.Copy None ids few built two = absurd (cc)
-job_begins context r job_kinds.MoveTo peer ids few built two = absurd (cc)
-job_begins context r job_kinds.MoveFrom peer ids few built two = absurd (cc)
+job_begins context r job_kinds.MoveTo None ids few built two = absurd (cc)
+job_begins context r job_kinds.MoveFrom None ids few built two = absurd (cc)
+job_begins context r kind (Some peer) ids few built two = other_of context r peer ids few two
 
 pub may_begin : (context : Context) (r : ℕ) (job : Job) (count : ℕ) → length context.repos ≤ count → is_built_job job.kind job.peer ≡ true → script.IsJob context r job → MayBeginAmong count r job
 may_begin context r job count few built stands ids many = job_begins context r job.kind job.peer ids (subst (λ (n : ℕ). length context.repos ≤ n) (sym many) few) built stands.peer

@@ -10,7 +10,7 @@ use Rattle.driver_script.specs.Lines.{is_built, is_built_action}
 use Rattle.fleet_entries.specs.AtDriver.{IsFew}
 use Rattle.script_commands.specs.declared.command.Action.TheVariants as actions
 use Rattle.script_commands.specs.declared.command.Command.TheVariants as commands
-use Rattle.fleet_entries.proofs.Few.{begins_few, compacts_few, fewer, has_few, merges_few, sets_few, settles_few, turns_few, waits_few, writes_few}
+use Rattle.fleet_entries.proofs.Few.{begins_few, closes_few, compacts_few, fewer, has_few, merges_few, part_few, sets_few, settles_few, turns_few, waits_few, writes_few}
 
 module _ (most : ℕ) (g : DriverInput) (d : Driver) (few : IsFew most d.past) where
   -- with a wait more
@@ -25,6 +25,7 @@ module _ (most : ℕ) (g : DriverInput) (d : Driver) (few : IsFew most d.past) w
 
   action_few : (a : Action) → is_built_action a ≡ true → FewMore (acts g a d)
   action_few (actions.Have r key content) built = no_wait _ (has_few most g r key content d few)
+  action_few (actions.SetPart r key content) built = no_wait _ (part_few most g r key content d few)
   action_few (actions.Add r path key content) built = no_wait _ (has_few most g r key content (enters path key d) few)
   action_few (actions.File path key) built = quiet
   action_few (actions.Set r kind topic value) built = no_wait _ (sets_few most g r kind topic value d few)
@@ -35,6 +36,7 @@ module _ (most : ℕ) (g : DriverInput) (d : Driver) (few : IsFew most d.past) w
   action_few (actions.Run r job) built = no_wait _ (settles_few most g (begins r job d) (begins_few most r job d few))
   action_few (actions.Turns r n) built = no_wait _ (turns_few most g r n d few)
   action_few actions.Settle built = no_wait _ (settles_few most g d few)
+  action_few (actions.Close r other) built = no_wait _ (closes_few most g r other d few)
   action_few (actions.Wait milliseconds) built = waits_few most milliseconds d few
   action_few (actions.Fail r call) built = quiet
   action_few action built = absurd (cc)

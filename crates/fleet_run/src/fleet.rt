@@ -117,7 +117,8 @@ impl<K: FailingKeeper> Fleet<K> {
         Ok(Fleet { running })
     }
 
-    /// Does what the line says, and marks how many entries stand after it. It is refused as Full where the line meets a full history.
+    /// Does what the line says, and marks how many entries stand after it. It is refused as Full where the line meets a full history,
+    /// or is a close for which too few places are left.
     /// After a refusal the run has the entries that it had, and then a start of those that the line makes; so it is a run still. Its
     /// repositories and marks are as they were, and its tree but for a path that the line named. After a refusal the fleet does no further
     /// line: its run may lack entries that a node made. So a line is done only where the fleet has come to where some driver is, as it has

@@ -8,11 +8,11 @@ ghost use Rattle.fleet_entries.specs.AtDriver.{GoesOn, IsDriven, IsDrivenWithin,
 use crate::two_steps::{add, begin_and_settle};
 use annex_key::key_texts_have_no_fault;
 use driver_model::runs_are_cut_where_histories_are_full;
-use driver_script::{added_contents_match, built_lines_are_plain, settings_are_plain};
+use driver_script::{added_contents_match, settings_are_plain};
 use fleet_entries::{FleetStop, Running};
-use fleet_keys::{begin, enter, fail_next, place};
+use fleet_keys::{begin, enter, fail_next, place, place_part};
 use fleet_logs::{compact, merge, set, write};
-use fleet_turns::{settle, take_turns, wait};
+use fleet_turns::{close, settle, take_turns, wait};
 use object_store::FailingKeeper;
 use script_lang::{Action, Command};
 
@@ -32,10 +32,8 @@ pub fn do_and_mark<K: FailingKeeper>(
     ensures stopped { OnErr result (StopsWithin (λ k. store_view (K.contents k) (K.parts k) (K.failing k) (K.faults k)) (does_command command.now) running.old running.new) }
     ensures kept { OnErr result (OnlyAddsBehind running.old running.new) }
 {
-    // Laws: no line changes the marks before it, and no past with few entries of each repository is too long; no line that is
-    // built closes ends.
+    // Laws: no line changes the marks before it, and no past with few entries of each repository is too long.
     runs_are_cut_where_histories_are_full();
-    built_lines_are_plain();
     do_line(running, command)?;
     // For the proof: no history is longer than it may be.
     running.nodes.histories_are_few();
@@ -78,6 +76,7 @@ fn act<K: FailingKeeper>(running: &mut Running<K>, action: &Action) -> Result<()
     runs_are_cut_where_histories_are_full();
     match action {
         Action::Have { repo, key, content } => place(running, *repo, key, content),
+        Action::SetPart { repo, key, content } => place_part(running, *repo, key, content),
         Action::Add {
             repo,
             path,
@@ -98,11 +97,9 @@ fn act<K: FailingKeeper>(running: &mut Running<K>, action: &Action) -> Result<()
         Action::Run { repo, job } => begin_and_settle(running, *repo, job),
         Action::Turns { repo, turns } => take_turns(running, *repo, *turns),
         Action::Settle => settle(running),
+        Action::Close { repo, other } => close(running, *repo, *other),
         Action::Wait { milliseconds } => wait(running, *milliseconds),
         Action::Fail { repo, call } => fail_next(running, *repo, *call),
-        Action::SetPart { .. }
-        | Action::Sync { .. }
-        | Action::Close { .. }
-        | Action::Crash { .. } => unreachable!(),
+        Action::Sync { .. } | Action::Crash { .. } => unreachable!(),
     }
 }

@@ -1,6 +1,8 @@
 -- The lemmas of this crate.
+mod Carrying
 mod Turning
 mod Quiet
 mod Rounds
 mod Ending
 mod Time
+mod Closes

@@ -1,18 +1,15 @@
 -- A turn of a node of a fleet, and the frames that are carried after it: the driver's turn follows.
-use Rattle.std.proofs.Common.{◌≡◌, ◌≢◌, ℕ, ◌+◌, ◌<◌, ◌≤◌, ◌^◌, Bool, List, [], ◌∷◌, Option, Some, None, ◌⊎◌, inl, inr, drop, length, map, refl, sym, ap, ◌∙◌, subst, arith}
-use Rattle.std.specs.Prelude.{not, slice_get}
-use Rattle.std.specs.Option.{ForSome, option_map_or}
+use Rattle.std.proofs.Common.{◌≡◌, ◌≢◌, ℕ, ◌+◌, ◌<◌, ◌≤◌, ◌^◌, List, [], ◌∷◌, Option, Some, None, ◌⊎◌, inl, inr, length, map, refl, sym, ap, ◌∙◌, subst, arith}
+use Rattle.std.specs.Prelude.{slice_get}
+use Rattle.std.specs.Option.{ForSome}
 use Rattle.std.proofs.lemmas.List.{length-append, length-reverse}
 use Rattle.std.proofs.lemmas.Option.{slice_get_within}
 use Rattle.annex_base.proofs.Lists.{slice_get-within}
-use Rattle.link_ring.specs.Ends.{EndView, after_drop}
+use Rattle.link_ring.specs.Ends.{after_drop}
 use Rattle.object_store.specs.Stores.{AreSmallParts, Contents, Parts}
-use Rattle.run_data.specs.declared.run.Run.{Run}
-use Rattle.node_model.specs.Ends.{EndName}
 use Rattle.node_model.specs.SetUp.{SetUp}
 use Rattle.node_model.specs.Step.{step}
-use Rattle.node_ends.specs.Ends.{link_at}
-use Rattle.node_ends.specs.Joined.{AreCarried, end_with, link_carried}
+use Rattle.node_ends.specs.Joined.{AreCarried}
 use Rattle.fleet_entries.specs.Parts.{AreParts}
 use Rattle.fleet_entries.specs.Nodes.{NodeView, told_of}
 use Rattle.fleet_entries.specs.Stored.{StoreView}
@@ -21,7 +18,7 @@ use Rattle.fleet_entries.specs.declared.Turn.{Turn}
 use Rattle.driver_model.specs.Driver.{Driver, DriverInput, part_at, set_up_of}
 use Rattle.driver_model.specs.Turning.{turn}
 use Rattle.fleet_entries.specs.Joined.{AtNode}
-use Rattle.fleet_entries.specs.Fleets.{FleetView, HasCome, links_at}
+use Rattle.fleet_entries.specs.Fleets.{FleetView, HasCome}
 use Rattle.fleet_entries.specs.Matches.{DecidesMatches}
 use Rattle.fleet_entries.specs.Steps.{OneTurns, with_newest, with_links}
 use Rattle.fleet_entries.specs.Stores.{IsStoreOf, IsTold, content_in}
@@ -31,7 +28,8 @@ use Rattle.fleet_entries.specs.Telling.{Raises, Tells}
 use Rattle.fleet_entries.specs.Nodes as nodes
 use Rattle.fleet_entries.specs.declared.Turn.TheVariants as turns
 use Rattle.fleet_entries.specs.Joined as joined
-use Rattle.fleet_entries.proofs.Called.{past_of, raised_is, with_more}
+use Rattle.fleet_entries.proofs.Called.{past_of, raised_is}
+use Rattle.fleet_turns.proofs.Carrying.{one_carried}
 
 -- The fleet was raised, and a turn of its node of r came to this.
 pub record TakesTurn {K : Type 0} (tells : K → StoreView) (r had : ℕ) (t : Turn) (was up : FleetView K) (turned : List (NodeView K)) : Type 0 where
@@ -101,66 +99,21 @@ stands_well {K} tells g d r had was up n p come raises at_n at_p =
 
 -- ---- the turn, and the frames that were carried
 
-abbrev ends_in : {K : Type 0} → Option (NodeView K) → List EndView
-ends_in {K} o = option_map_or (λ (n : NodeView K). n.parts.links) o []
-
 pub one_turns : {K : Type 0} (tells : K → StoreView) (r had : ℕ) (t : Turn) (was up : FleetView K) (turned carried : List (NodeView K)) (after : FleetView K) (n p m x : NodeView K)
     → IsTurned tells r had t was up turned carried after → slice_get was.nodes r ≡ Some n → slice_get up.nodes r ≡ Some p → slice_get turned r ≡ Some m → slice_get carried r ≡ Some x → OneTurns r n m was after
-one_turns {K} tells r had t was up turned carried after n p m x call at_n at_p at_m at_x = record {
-  before = at_n;
-  there = λ y at. call.rest m y at_m (then_at r ∙ at);
-  others = λ q y other at.
-      let less : q < length turned = subst (λ (c : ℕ). q < c) call.carried_count (slice_get_within carried q y (then_at q ∙ at)) in
-      let found = slice_get-within turned q less in
-      (found.0, was_at q other ∙ found.1, call.others_rest q other found.0 y found.1 (then_at q ∙ at));
-  count = ap length call.told.nodes ∙ (call.carried_count ∙ (call.turn.count ∙ call.turn.raises.count));
-  carried = record {
-    own = λ q slot client known other low. own_carried q slot client known other low (slice_get-within turned q (subst (λ (c : ℕ). q < c) (sym counted) known));
-    theirs = λ q slot client known other low. their_carried q slot client other low (slice_get-within turned q (subst (λ (c : ℕ). q < c) (sym counted) known)) (slice_get-within carried q (subst (λ (c : ℕ). q < c) (sym (call.carried_count ∙ counted)) known));
-    others = λ q b known other apart. rest_carried q b other apart (slice_get-within turned q (subst (λ (c : ℕ). q < c) (sym counted) known)) (slice_get-within carried q (subst (λ (c : ℕ). q < c) (sym (call.carried_count ∙ counted)) known));
-  };
-  own = λ a own. ap (λ (links : List EndView). link_at links a) (links_then r x at_x) ∙ (call.links m x at_m at_x).others a (inl own);
-  run = call.told.run x at_x
-      ∙ (ap (λ (run : Run). with_more run (drop had x.history)) call.turn.raises.run
-      ∙ (ap (λ (k : ℕ). with_more was.run (drop k x.history)) (call.turn.raises.entries n p at_n at_p)
-      ∙ ap (λ (y : NodeView K). with_more was.run (drop (length n.history) y.history)) (call.rest m x at_m at_x)));
-}
-  where
-    then_at : (q : ℕ) → slice_get carried q ≡ slice_get after.nodes q
-    then_at q = ap (λ (ns : List (NodeView K)). slice_get ns q) (sym call.told.nodes)
-
-    was_at : (q : ℕ) → q ≢ r → slice_get was.nodes q ≡ slice_get turned q
-    was_at q other = sym (call.turn.others q other ∙ call.turn.raises.others q other)
-
-    counted : length turned ≡ length was.nodes
-    counted = call.turn.count ∙ call.turn.raises.count
-
-    links_then : (q : ℕ) (y : NodeView K) → slice_get carried q ≡ Some y → links_at after.nodes q ≡ y.parts.links
-    links_then q y at = ap ends_in (sym (then_at q) ∙ at)
-
-    links_were : (q : ℕ) (y : NodeView K) → q ≢ r → slice_get turned q ≡ Some y → links_at was.nodes q ≡ y.parts.links
-    links_were q y other at = ap ends_in (was_at q other ∙ at)
-
-    own_carried : (q slot : ℕ) (client : Bool) → q < length was.nodes → q ≢ r → slot < 4 → (y : NodeView K) × (slice_get turned q ≡ Some y)
-        → link_at (links_at after.nodes r) (end_with q slot client) ≡ link_carried (link_at m.parts.links (end_with q slot client)) (link_at (links_at was.nodes q) (end_with r slot (not client)))
-    own_carried q slot client known other low found =
-        ap (λ (links : List EndView). link_at links (end_with q slot client)) (links_then r x at_x)
-        ∙ ((call.links m x at_m at_x).carried q found.0 other found.1 slot client low
-        ∙ ap (λ (links : List EndView). link_carried (link_at m.parts.links (end_with q slot client)) (link_at links (end_with r slot (not client)))) (sym (links_were q found.0 other found.1)))
-
-    their_carried : (q slot : ℕ) (client : Bool) → q ≢ r → slot < 4 → (y : NodeView K) × (slice_get turned q ≡ Some y) → (z : NodeView K) × (slice_get carried q ≡ Some z)
-        → link_at (links_at after.nodes q) (end_with r slot client) ≡ link_carried (link_at (links_at was.nodes q) (end_with r slot client)) (link_at m.parts.links (end_with q slot (not client)))
-    their_carried q slot client other low found now_found =
-        ap (λ (links : List EndView). link_at links (end_with r slot client)) (links_then q now_found.0 now_found.1)
-        ∙ ((call.others_links q m other at_m found.0 now_found.0 found.1 now_found.1).carried slot client low
-        ∙ ap (λ (links : List EndView). link_carried (link_at links (end_with r slot client)) (link_at m.parts.links (end_with q slot (not client)))) (sym (links_were q found.0 other found.1)))
-
-    rest_carried : (q : ℕ) (b : EndName) → q ≢ r → b.peer ≢ r → (y : NodeView K) × (slice_get turned q ≡ Some y) → (z : NodeView K) × (slice_get carried q ≡ Some z)
-        → link_at (links_at after.nodes q) b ≡ link_at (links_at was.nodes q) b
-    rest_carried q b other apart found now_found =
-        ap (λ (links : List EndView). link_at links b) (links_then q now_found.0 now_found.1)
-        ∙ ((call.others_links q m other at_m found.0 now_found.0 found.1 now_found.1).others b apart
-        ∙ ap (λ (links : List EndView). link_at links b) (sym (links_were q found.0 other found.1)))
+one_turns tells r had t was up turned carried after n p m x call at_n at_p at_m at_x = one_carried tells r had was up turned carried after n p m x
+    (record {
+      raises = call.turn.raises;
+      others = call.turn.others;
+      count = call.turn.count;
+      rest = call.rest;
+      links = call.links;
+      others_rest = call.others_rest;
+      others_links = call.others_links;
+      carried_count = call.carried_count;
+      told = call.told;
+    })
+    at_n at_p at_m at_x
 
 -- ---- the driver's turn
 

@@ -15,6 +15,7 @@ use Rattle.p2p_wire.specs.declared.message.Message.{Message}
 use Rattle.p2p_wire.specs.declared.message.Message.TheVariants.{Get}
 use Rattle.p2p_wire.specs.Messages.{message_of, text_of}
 use Rattle.object_store.specs.Stores.{Contents, Parts}
+use Rattle.node_model.specs.Around.{around_in}
 use Rattle.node_model.specs.Calls.{to_read, to_resume}
 use Rattle.node_model.specs.Jobs.{Ends, Gets, GetsData, Opens, Part, Work, partner, says_some, talks, to_phase}
 use Rattle.node_model.specs.JobStep.{Turn, by_me, me, quietly, says_to, sends_to, talk}
@@ -57,7 +58,7 @@ pub record IsApproach (x : Sight) (rows : Rows) (w : Getting) : Type 0 where
   pub talked : (c : Contents) (part : ℕ) (right : Bool) (rest : Turn) (sent : List FrameView)
       → let t = turn_in x rows c part right None rest (work_of w) in
       let m : Effect = record { kind = Talk (Some w.number); taken = None; sent = sent; lines = []; calls = [] } in
-      next_work t m ≡ talks (record { present = t.present; bar = t.bar; ends = t.ends }) (me t) (record (work_of w) { fills = true }) (entry_of (me t) t.look m) sent
+      next_work t m ≡ talks (around_in t) (me t) (record (work_of w) { fills = true }) (entry_of (me t) t.look m) sent
   pub failed : (c : Contents) (part : ℕ) (right : Bool) (rest : Turn) (call : Call) (size : ℕ) → IsOfAsking size call
       → let t = turn_in x rows c part right (Some call) rest (work_of w) in
       next_work t (quietly (Fault call (by_me t)) None) ≡ to_phase (work_of w) (Ends (TransferRefused failures.StoreFault))

@@ -93,7 +93,6 @@ took_turns w body = inl refl
 
 first_turns : (r : ℕ) (w : Work) (part : Part) (here : Bool) (bar : Option ℕ) → Turns w (first_look r w part here bar)
 first_turns r w Gets true bar = transferred_turns w (outcomes.Got None None)
-first_turns r w Drops true (Some i) = inl refl
 first_turns r w part here bar = inl refl
 
 quiet_turns : (rows : RowsAndEnds) (r : ℕ) (w : Work) (phase : Phase) → Turns w (quiet rows r w phase)

@@ -107,9 +107,7 @@ module _ (t : Turn) (e : Entry) where
     first_comes : (r : ℕ) (part : Part) (here : Bool) (bar : Option ℕ) → part ≡ Drops → Comes w (first_look r w part here bar)
     first_comes r Gets here bar is = absurd (let no_part : Gets ≡ Drops = is in cc)
     first_comes r Puts here bar is = absurd (let no_part : Puts ≡ Drops = is in cc)
-    first_comes r Drops false bar is = away w (first_look r w Drops false bar) refl
-    first_comes r Drops true (Some i) is = away w (first_look r w Drops true (Some i)) refl
-    first_comes r Drops true None is = away w (first_look r w Drops true None) refl
+    first_comes r Drops here bar is = away w (first_look r w Drops here bar) refl
 
     quiet_comes : (rows : RowsAndEnds) (r : ℕ) (phase : Phase) → w.part ≡ Drops → Comes w (quiet rows r w phase)
     quiet_comes rows r Fresh is = first_comes r w.part (rows.present w.what.key) (rows.bar w.what.key) is

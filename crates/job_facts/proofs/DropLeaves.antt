@@ -64,9 +64,7 @@ module _ (before : Turn) where
   fault_leaves cs a b call e = side_leaves (side_of t.w)
 
   look_leaves : (here : Bool) (bar : Option ℕ) → is_fresh (first_look (me t) t.w Drops here bar).phase ≡ false
-  look_leaves false bar = refl
-  look_leaves true (Some i) = refl
-  look_leaves true None = refl
+  look_leaves here bar = refl
 
   quiet_leaves : LeavesBy (quietly (talk t) None)
   quiet_leaves = look_leaves (is_there t) (bar_there t)

@@ -22,7 +22,7 @@ use Rattle.p2p_wire.specs.declared.message.Message.TheVariants.{AlreadyHave, Dat
 use Rattle.p2p_wire.specs.Messages.{message_of}
 use Rattle.node_model.specs.Ends.{end_after, EndName}
 use Rattle.node_model.specs.Jobs
-use Rattle.node_model.specs.Jobs.{AsksLock, AsksLook, Drops, Fresh, GetsData, GetsWord, Gets, Greets, Next, Orders, Part, Phase, Puts, PutsAnswer, PutsOffer, RowsAndEnds, Work, claims, closed_part, fault_of, fault_phase, first_look, after_gain, hears_frame, job_end, learns, listens, quiet, running_job, says, says_some, sends, talks, talks_on, target_of, after_frame, after_line, after_transfer, after_failed_release, word_taken, work_kind}
+use Rattle.node_model.specs.Jobs.{AsksLock, AsksLook, Drops, Fresh, GetsData, GetsWord, Gets, Greets, Next, Orders, Part, Phase, Puts, PutsAnswer, PutsOffer, RowsAndEnds, Work, claims, closed_part, fault_of, fault_phase, first_look, after_gain, hears_frame, job_end, learns, listens, quiet, running_job, says, says_some, sends, talks, talks_on, target_of, unshared_cause, after_frame, after_line, after_transfer, after_failed_release, word_taken, work_kind}
 use Rattle.run_data.specs.declared.entry.By.{By}
 use Rattle.run_data.specs.declared.job.Cause.{Cause}
 use Rattle.node_model.specs.Slots.{RunningJob}
@@ -134,8 +134,7 @@ pub record Talker (w y : Work) : Type 0 where
 
 first_change : (r : ℕ) (y : Work) (part : Part) (here : Bool) (bar : Option ℕ) → y.phase ≡ Fresh → y.part ≡ part → SameList y (first_look r y part here bar) ⊎ OwnLacks r y (first_look r y part here bar)
 first_change r y Gets true bar first is = inl (transferred_list y (outcomes.Got None None))
-first_change r y Drops false bar first is = inr (record { cause = causes.Absent; first = first; part_is = is; later = refl; list = refl })
-first_change r y Drops true (Some i) first is = inr (record { cause = causes.Barred; first = first; part_is = is; later = refl; list = refl })
+first_change r y Drops here bar first is = inr (record { cause = unshared_cause bar; first = first; part_is = is; later = refl; list = refl })
 first_change r y part here bar first is = inl refl
 
 quiet_change : (rows : RowsAndEnds) (r : ℕ) (y : Work) (phase : Phase) → y.phase ≡ phase → SameList y (quiet rows r y phase) ⊎ OwnLacks r y (quiet rows r y phase)

@@ -19,6 +19,7 @@ pub mod GetsBegin
 pub mod DropReads
 pub mod JobOpens
 pub mod OwnTried
+pub mod FirstTalks
 pub mod OpenEnds
 pub mod EpochJobs
 pub mod PhasesFit

@@ -1,8 +1,7 @@
 -- A remote drop has tried its own repository before it asks any other; so a job opens connections with other repositories alone.
-use Rattle.node_model.specs.Clocks.{hold_time}
-use Rattle.std.proofs.Common.{◌≡◌, ◌≢◌, ℕ, ◌+◌, ◌<◌, Bool, true, false, List, [], ◌∷◌, length, Option, Some, None, ◌⊎◌, inl, inr, refl, sym, ap, ◌∙◌, subst, arith}
-use Rattle.std.specs.Prelude.{◌==◌, ◌&&◌, ◌||◌, find, not, slice_get, if◌then◌else◌}
-use Rattle.std.specs.List.{range_with_len, list_all}
+use Rattle.std.proofs.Common.{◌≡◌, ◌≢◌, ℕ, ◌<◌, Bool, true, false, List, [], ◌∷◌, length, Option, Some, None, ◌⊎◌, inl, inr, refl, sym, ap, ◌∙◌, subst, arith}
+use Rattle.std.specs.Prelude.{◌==◌, ◌&&◌, ◌||◌, find, not, slice_get}
+use Rattle.std.specs.List.{range_with_len}
 use Rattle.std.proofs.lemmas.Bool.{true≢false, and_from, or_left, or_right}
 use Rattle.std.proofs.lemmas.Bool.Decides.{nat_tests}
 use Rattle.annex_base.specs.Lists.{Member}
@@ -18,16 +17,13 @@ use Rattle.run_data.specs.declared.entry.By.{By}
 use Rattle.run_data.specs.declared.entry.Entry.{Entry}
 use Rattle.run_data.specs.declared.entry.EntryKind.{EntryKind}
 use Rattle.run_data.specs.declared.entry.EntryKind.TheVariants.{Bar, Fault, Gain, Gone, Order, Share, Talk, End as ends_job}
-use Rattle.run_data.specs.declared.entry.FrameView.{FrameView}
 use Rattle.run_data.specs.declared.job.Job.{Job}
 use Rattle.run_data.specs.declared.job.JobKind.{JobKind}
 use Rattle.run_data.specs.declared.job.JobKind.TheVariants as kinds
 use Rattle.run_data.specs.declared.job.Outcome.{Outcome}
-use Rattle.run_data.specs.declared.job.Outcome.TheVariants.{Refused}
 use Rattle.run_data.specs.declared.job.Cause.TheVariants as causes
-use Rattle.run_data.specs.declared.job.DropRefusal.TheVariants as refusals
-use Rattle.node_model.specs.Slots.{RunningJob, job_by}
-use Rattle.node_model.specs.Rows.{is_lost_ordered, option_is}
+use Rattle.node_model.specs.Slots.{job_by}
+use Rattle.node_model.specs.Rows.{option_is}
 use Rattle.run_model.specs.Past.{is_of}
 use Rattle.run_model.specs.Logs.{before_step, has_stepped, hears_has_it, in_drop, is_quiet, read_at, settings_of, starts_drop}
 use Rattle.run_data.specs.Repos.{id_of}
@@ -38,19 +34,16 @@ use Rattle.node_model.specs.State.{State}
 use Rattle.run_model.specs.States.{state_of, rows_at, works}
 use Rattle.node_model.specs.AnyTime.{IsPeer}
 use Rattle.node_model.specs.Jobs
-use Rattle.node_model.specs.Jobs.{Drops, Fresh, Gets, Heard, Part, Phase, Puts, RowsAndEnds, Work, claims, fault_of, first_look, first_part, learns, partner, side_of, talks, target_of, after_failed_release, work_kind}
-use Rattle.node_model.specs.Calls.{to_hold, to_release}
-use Rattle.node_model.specs.Look.{Effect, failing_call}
+use Rattle.node_model.specs.Jobs.{Drops, Fresh, Gets, Heard, Part, Phase, Puts, RowsAndEnds, Work, claims, fault_of, first_look, first_part, learns, partner, side_of, talks, target_of, unshared_cause, after_failed_release, work_kind}
+use Rattle.node_model.specs.Look.{Effect}
 use Rattle.step_facts.proofs.Knowing.{is_to_ask}
 use Rattle.node_model.specs.Knows.{is_unasked, standing_of}
-use Rattle.node_model.specs.JobStep.{Turn, attempts, bar_there, by_me, clock_of, farewells, is_there, key_of, me, owns_share, quietly, talk, others_of}
-use Rattle.node_model.specs.DropStep.{first_drop, first_remote, own_share, required_there, shares, tries_own}
+use Rattle.node_model.specs.JobStep.{Turn, me, others_of}
 use Rattle.node_model.specs.TransferStep.{sources}
-use Rattle.node_model.specs.Turns.{by_partner, first_step, goes, goes_on, has_room, needs}
+use Rattle.node_model.specs.Turns.{goes_on}
 use Rattle.node_model.specs.Found.{IsJobEntry as FoundBy}
 use Rattle.run_model.specs.Run.{OwnRun}
-use Rattle.step_facts.proofs.Cases.{unless_found}
-use Rattle.step_facts.proofs.JobKept.{claims_kept, fault_stays, learns_kept}
+use Rattle.step_facts.proofs.JobKept.{fault_stays}
 use Rattle.job_facts.proofs.TalkFacts.{Fits, TalkKind}
 use Rattle.job_facts.proofs.PhaseFacts.{GoodTo, is_fresh, readies_place}
 use Rattle.step_facts.proofs.JobSteps.{Origin, Stepped, Steps, invariant, stepped_runs, turn_at}
@@ -142,108 +135,42 @@ heard_unasked s st w c h heard is =
 
 -- ---- the first step of a remote drop
 
-abbrev Untold : Turn → Type 0
-Untold t = (t.read.standing (me t) ≡ Asked → ⊥) ⊎ ((is_there t ≡ false) ⊎ ((j : ℕ) × (bar_there t ≡ Some j)))
+-- it hears of its own repository then
+abbrev Tells : ℕ → Work → Work → Type 0
+Tells r w x = (h : Heard) × (x.heard ≡ (r, h) ∷ w.heard)
 
-abbrev FirstSays : Turn → EntryKind → Type 0
-FirstSays t (Talk j) = Untold t
-FirstSays t kind = Unit {0}
-
-attempts_first : (t : Turn) (cs : List Call) (taken : Option FrameView) (m : Effect) → FirstSays t m.kind → FirstSays t (attempts t cs taken m).kind
-attempts_first t cs taken m g = unless_found (λ (x : Effect). FirstSays t x.kind) (failing_call t.look.fails cs) (λ call. quietly (Fault call (by_me t)) taken) m (λ call. tt) g
-
-shares_first : (t : Turn) → FirstSays t (shares t).kind
-shares_first t =
-    attempts_first t (to_hold (is_there t) (bar_there t)) None (quietly (own_share (t.number) (clock_of t + hold_time) t.w.number (key_of t) (talk t) (by_me t) (is_there t) (bar_there t)) None)
-    (go (is_there t) (bar_there t) refl refl)
+talk_tells : (rows : RowsAndEnds) (r : ℕ) (w y : Work) (e : Entry) → y.part ≡ Drops → y.phase ≡ Fresh → y.heard ≡ w.heard → e.sent ≡ [] → e.taken ≡ None → Tells r w (talks rows r y e e.sent)
+talk_tells rows r w y e part phase heard sent taken = (Jobs.Lacks (unshared_cause (rows.bar y.what.key)), ap (λ (x : Work). x.heard) looks ∙ ap (λ (hs : List (ℕ × Heard)). (r, Jobs.Lacks (unshared_cause (rows.bar y.what.key))) ∷ hs) heard)
   where
-    go : (here : Bool) (bar : Option ℕ) → is_there t ≡ here → bar_there t ≡ bar → FirstSays t (own_share (t.number) (clock_of t + hold_time) t.w.number (key_of t) (talk t) (by_me t) here bar)
-    go false bar there free = inr (inl there)
-    go true (Some j) there free = inr (inr (j, free))
-    go true None there free = tt
-
-own_first : (t : Turn) (standing : Standing) → t.read.standing (me t) ≡ standing → FirstSays t (tries_own t standing).kind
-own_first t Asked is = shares_first t
-own_first t Claimed is = inl (λ e. let no' : Claimed ≡ Asked = sym is ∙ e in cc)
-own_first t (Ignored cause) is = inl (λ e. let no' : Ignored cause ≡ Asked = sym is ∙ e in cc)
-
-remote_first : (t : Turn) (text : Option (List ℕ)) → FirstSays t (first_remote t text).kind
-remote_first t (Some text) =
-    let outcome = Refused (refusals.Required text) in
-    attempts_first t (to_release (owns_share t && not (is_lost_ordered outcome))) None (record { kind = ends_job t.w.number outcome; taken = None; sent = farewells t (is_lost_ordered outcome); lines = []; calls = [] }) tt
-remote_first t None = own_first t (t.read.standing (me t)) refl
-
-step_first : (t : Turn) (m : Effect) → t.w.part ≡ Drops → t.w.phase ≡ Fresh → side_of t.w ≡ Remote → by_partner t (partner t.w.what.peer t.w.phase) ≡ Some m → FirstSays t m.kind
-step_first t m part phase side e = go (list_all (has_room t) (needs t t.w.phase)) (subst (λ p. by_partner t (partner t.w.what.peer p) ≡ Some m) phase e)
-  where
-    goes_is : goes t t.w.phase ≡ first_remote t (required_there t)
-    goes_is = ap (goes t) phase ∙ ap (first_step t) part ∙ ap (first_drop t) side
-
-    go : (b : Bool) → (if b then Some (goes t t.w.phase) else None) ≡ Some m → FirstSays t m.kind
-    go true g = let same : goes t t.w.phase ≡ m = cc in subst (λ (x : Effect). FirstSays t x.kind) (sym goes_is ∙ same) (remote_first t (required_there t))
-    go false g = absurd (cc)
-
--- how the job hears of its own repository then
-look_tells : (r : ℕ) (y : Work) (here : Bool) (bar : Option ℕ) → ((h : Heard) × ((first_look r y Drops here bar).heard ≡ (r, h) ∷ y.heard)) ⊎ ((here ≡ true) × (bar ≡ None))
-look_tells r y false bar = inl (Jobs.Lacks causes.Absent, refl)
-look_tells r y true (Some i) = inl (Jobs.Lacks causes.Barred, refl)
-look_tells r y true None = inr (refl, refl)
-
--- it heard of its own repository, or doesn't ask it
-abbrev Tells : ℕ → Work → Work → Turn → Type 0
-Tells r w x t = ((h : Heard) × (x.heard ≡ (r, h) ∷ w.heard)) ⊎ ((x.heard ≡ w.heard) × (t.read.standing (me t) ≡ Asked → ⊥))
-
-talk_tells : (t : Turn) (y : Work) (e : Entry) → y.part ≡ Drops → y.phase ≡ Fresh → y.what ≡ t.w.what → y.heard ≡ t.w.heard → e.sent ≡ [] → e.taken ≡ None → (rows : RowsAndEnds) → rows.present ≡ t.present → rows.bar ≡ t.bar → Untold t
-    → Tells (me t) t.w (talks rows (me t) y e e.sent) t
-talk_tells t y e part phase what heard sent taken rows there bar told =
-    subst (λ (x : Work). Tells (me t) t.w x t) (sym looks) (go (look_tells (me t) y (is_there t) (bar_there t)) (is_there t) (bar_there t) refl refl)
-  where
-    looks : talks rows (me t) y e e.sent ≡ first_look (me t) y Drops (is_there t) (bar_there t)
-    looks = ap (talks rows (me t) y e) sent ∙ ap (Jobs.hears_frame rows (me t) y) taken ∙ ap (Jobs.quiet rows (me t) y) phase
-        ∙ (λ i. first_look (me t) y (part i) (there i (what i).key) (bar i (what i).key))
-
-    go : ((h : Heard) × ((first_look (me t) y Drops (is_there t) (bar_there t)).heard ≡ (me t, h) ∷ y.heard)) ⊎ ((is_there t ≡ true) × (bar_there t ≡ None)) → (here : Bool) (o : Option ℕ) → is_there t ≡ here → bar_there t ≡ o
-        → Tells (me t) t.w (first_look (me t) y Drops (is_there t) (bar_there t)) t
-    go (inl h) here o i j = inl (h.0, h.1 ∙ ap (λ (hs : List (ℕ × Heard)). (me t, h.0) ∷ hs) heard)
-    go (inr n) here o i j = inr (
-      free (is_there t) (bar_there t) n.0 n.1 ∙ heard,
-      elim (told) [
-        | inl apart ↦ apart
-        | inr row ↦ (λ e. elim (row) [ inl no' ↦ absurd (true≢false (sym n.0 ∙ no')) | inr no' ↦ absurd (let both : None ≡ Some no'.0 = sym n.1 ∙ no'.1 in cc) ])
-      ],
-    )
-      where
-        free : (here : Bool) (o : Option ℕ) → here ≡ true → o ≡ None → (first_look (me t) y Drops here o).heard ≡ y.heard
-        free true None p q = refl
-        free false o p q = absurd (cc)
-        free true (Some k) p q = absurd (cc)
+    looks : talks rows r y e e.sent ≡ first_look r y Drops (rows.present y.what.key) (rows.bar y.what.key)
+    looks = ap (talks rows r y e) sent ∙ ap (Jobs.hears_frame rows r y) taken ∙ ap (Jobs.quiet rows r y) phase
+        ∙ ap (λ (q : Part). first_look r y q (rows.present y.what.key) (rows.bar y.what.key)) part
 
 fault_tells : (r : ℕ) (w : Work) (time : ℕ) (call : Call) → w.part ≡ Drops → w.phase ≡ Fresh → side_of w ≡ Remote → is_fresh (fault_of r w time call).phase ≡ false → (h : Heard) × ((fault_of r w time call).heard ≡ (r, h) ∷ w.heard)
 fault_tells r w time PutFile part phase side later = absurd (fresh_off w.phase phase later)
 fault_tells r w time Unhold part phase side later = absurd (fresh_off w.phase phase (subst (λ (x : Work). is_fresh x.phase ≡ false) (ap (after_failed_release w time) phase) later))
 fault_tells r w time call part phase side later = (Jobs.Lacks causes.Fault, λ i. (Jobs.fault_phase r w (part i) (side i) (phase i)).heard)
 
-module _ (t : Turn) (m : Effect) (rows : RowsAndEnds) (e : Entry) (part : t.w.part ≡ Drops) (phase : t.w.phase ≡ Fresh) (side : side_of t.w ≡ Remote) (sent : e.sent ≡ m.sent) (taken : e.taken ≡ m.taken) (there : rows.present ≡ t.present) (bar : rows.bar ≡ t.bar) where
+module _ (t : Turn) (m : Effect) (rows : RowsAndEnds) (e : Entry) (part : t.w.part ≡ Drops) (phase : t.w.phase ≡ Fresh) (side : side_of t.w ≡ Remote) (sent : e.sent ≡ m.sent) (taken : e.taken ≡ m.taken) where
   no_local : side_of t.w ≡ Local → ⊥
   no_local is = let both : Local ≡ Remote = sym is ∙ side in cc
 
-  kind_tells : (kind : EntryKind) → FoundBy t m kind → TalkKind t m kind → FirstSays t kind → ((j : ℕ) (outcome : Outcome) → kind ≢ ends_job j outcome) → is_fresh (work_kind rows (me t) t.w e kind).phase ≡ false
-      → Tells (me t) t.w (work_kind rows (me t) t.w e kind) t
-  kind_tells (Share hold end by key) x y told goes_on later = inl (Jobs.Held e.time, refl)
-  kind_tells (Bar j need key) x y told goes_on later = absurd (no_local x.side)
-  kind_tells (Gone by key) x y told goes_on later = absurd (no_local x.side)
-  kind_tells (Order j peer deadline need key) x y told goes_on later = absurd (fresh_no_order t (ap is_fresh phase) y)
-  kind_tells (Gain by size key) x y told goes_on later = absurd (let both : Fresh ≡ Jobs.GetsWord x.peer x.start size = sym phase ∙ x.phase_is in cc)
-  kind_tells (ends_job j outcome) x y told goes_on later = absurd (goes_on j outcome refl)
-  kind_tells (Talk (Some j)) x y told goes_on later =
+  kind_tells : (kind : EntryKind) → FoundBy t m kind → TalkKind t m kind → ((j : ℕ) (outcome : Outcome) → kind ≢ ends_job j outcome) → is_fresh (work_kind rows (me t) t.w e kind).phase ≡ false
+      → Tells (me t) t.w (work_kind rows (me t) t.w e kind)
+  kind_tells (Share hold end by key) x y goes_on later = (Jobs.Held e.time, refl)
+  kind_tells (Bar j need key) x y goes_on later = absurd (no_local x.side)
+  kind_tells (Gone by key) x y goes_on later = absurd (no_local x.side)
+  kind_tells (Order j peer deadline need key) x y goes_on later = absurd (fresh_no_order t (ap is_fresh phase) y)
+  kind_tells (Gain by size key) x y goes_on later = absurd (let both : Fresh ≡ Jobs.GetsWord x.peer x.start size = sym phase ∙ x.phase_is in cc)
+  kind_tells (ends_job j outcome) x y goes_on later = absurd (goes_on j outcome refl)
+  kind_tells (Talk (Some j)) x y goes_on later =
       let quiet = y.first part phase in
       let z = learns (claims t.w t.w.part t.w.phase) t.w.phase e.taken in
       let place = readies_place t.w e.taken in
-      let what : z.what ≡ t.w.what = ap (λ (j : RunningJob). j.what) (learns_kept (claims t.w t.w.part t.w.phase) t.w.phase e.taken ∙ claims_kept t.w t.w.part t.w.phase) in
-      subst (λ p. Tells (me t) t.w (Jobs.talks_on rows (me t) z e (partner t.w.what.peer p)) t) (sym phase)
-      (talk_tells t z e (place.0 ∙ part) (place.1 ∙ phase) what (talker_heard t e.taken) (sent ∙ quiet.sends_none) (taken ∙ quiet.takes_none) rows there bar told)
-  kind_tells (Fault call by) x y told goes_on later = inl (fault_tells (me t) t.w e.time call part phase side later)
-  kind_tells kind x y told goes_on later = absurd x
+      subst (λ p. Tells (me t) t.w (Jobs.talks_on rows (me t) z e (partner t.w.what.peer p))) (sym phase)
+      (talk_tells rows (me t) t.w z e (place.0 ∙ part) (place.1 ∙ phase) (talker_heard t e.taken) (sent ∙ quiet.sends_none) (taken ∙ quiet.takes_none))
+  kind_tells (Fault call by) x y goes_on later = fault_tells (me t) t.w e.time call part phase side later
+  kind_tells kind x y goes_on later = absurd x
 
 -- ---- a move from a peer begins its drop, as the entries tell
 
@@ -379,16 +306,8 @@ module _ (reads_back : SentAreRead) (s : SetUp) (p : List Entry) (e : Entry) (r 
       ]
     ]
 
-    apart_unasked : (standing : Standing) (o : Option Heard) → (standing ≡ Asked → ⊥) → is_unasked standing o ≡ false
-    apart_unasked Asked o apart = absurd (apart refl)
-    apart_unasked Claimed o apart = refl
-    apart_unasked (Ignored cause) o apart = refl
-
-    by_first : (y : Work) → x ≡ y → Tells s.number v y (turn_at s p e b.by) → is_to_ask s now x s.number ≡ false
-    by_first y same (inl h) = heard_unasked s now x s.number h.0 v.heard (ap (λ (z : Work). z.heard) same ∙ h.1)
-    by_first y same (inr h) =
-        to_ask_same s now (state_of s p) x v s.number same_read what (ap (λ (z : Work). z.heard) same ∙ h.0)
-        ∙ apart_unasked (standing_of s (state_of s p) v s.number) (told_of v.heard s.number) h.1
+    by_first : (y : Work) → x ≡ y → Tells s.number v y → is_to_ask s now x s.number ≡ false
+    by_first y same h = heard_unasked s now x s.number h.0 v.heard (ap (λ (z : Work). z.heard) same ∙ h.1)
 
     not_asked : is_fresh x.phase ≡ false → is_to_ask s now x s.number ≡ false
     not_asked later = go (is_fresh v.phase) refl
@@ -402,11 +321,9 @@ module _ (reads_back : SentAreRead) (s : SetUp) (p : List Entry) (e : Entry) (r 
           | inr other ↦ by_list (work_kind (rows_at p s.number) s.number v e e.kind) b.work_is (kind_changed (rows_at p s.number) s.number v e (talker_is t e.taken) e.kind other) ((was v_part v_side).1 old).1
         ]
         go true old =
-            let phase = fresh_is v.phase old in
-            let kind : e.kind ≡ b.by.made.kind = ap (λ (y : Entry). y.kind) b.by.is in
             by_first (work_kind (rows_at p s.number) s.number v e e.kind) b.work_is
-            (kind_tells t b.by.made (rows_at p s.number) e v_part phase v_side (step_sent s p e x b) (ap (λ (y : Entry). y.taken) b.by.is) refl refl e.kind (step_kind s p e x b) (step_talk s p e x b fits)
-            (subst (FirstSays t) (sym kind) (step_first t b.by.made v_part phase v_side b.by.does)) b.goes_on (subst (λ (y : Work). is_fresh y.phase ≡ false) b.work_is later))
+            (kind_tells t b.by.made (rows_at p s.number) e v_part (fresh_is v.phase old) v_side (step_sent s p e x b) (ap (λ (y : Entry). y.taken) b.by.is) e.kind (step_kind s p e x b) (step_talk s p e x b fits)
+            b.goes_on (subst (λ (y : Work). is_fresh y.phase ≡ false) b.work_is later))
 
     goes_tried : (in_drop (e ∷ p) s.number x.number ≡ true)
         × (is_fresh x.phase ≡ false → ((c : List Entry) × (before_step (e ∷ p) s.number x.number ≡ Some c)) × (is_to_ask s (state_of s (e ∷ p)) x s.number ≡ false))

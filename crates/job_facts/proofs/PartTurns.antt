@@ -11,7 +11,7 @@ use Rattle.p2p_wire.specs.Messages.{message_of}
 use Rattle.node_model.specs.Sessions.{line_in}
 use Rattle.node_model.specs.Ends.{end_after}
 use Rattle.node_model.specs.Jobs
-use Rattle.node_model.specs.Jobs.{Drops, Fresh, Gets, Orders, Part, Phase, PutsAnswer, PutsOffer, RowsAndEnds, Work, closed_part, first_look, hears_frame, job_end, listens, quiet, talks, talks_on, after_frame, after_line}
+use Rattle.node_model.specs.Jobs.{Fresh, Gets, Orders, Part, Phase, PutsAnswer, PutsOffer, RowsAndEnds, Work, closed_part, first_look, hears_frame, job_end, listens, quiet, talks, talks_on, after_frame, after_line}
 use Rattle.step_facts.proofs.JobKept.{closed_stays, sends_stays}
 
 -- the answers by which the peer has the content
@@ -55,7 +55,6 @@ took_turn w body = inl refl
 
 first_turn : (r : ℕ) (w : Work) (part : Part) (here : Bool) (bar : Option ℕ) → Same w (first_look r w part here bar) ⊎ (part ≡ Gets)
 first_turn r w Gets true bar = inr refl
-first_turn r w Drops true (Some i) = inl refl
 first_turn r w part here bar = inl refl
 
 quiet_turn : (rows : RowsAndEnds) (r : ℕ) (w : Work) (phase : Phase) → Same w (quiet rows r w phase) ⊎ ((w.part ≡ Gets) × (phase ≡ Fresh))

@@ -251,7 +251,6 @@ took_good w body fits = stay_good w fits
 
 first_good : (r : ℕ) (w : Work) (part : Part) (here : Bool) (bar : Option ℕ) → w.part ≡ part → Good w (first_look r w part here bar)
 first_good r w Gets true bar is = transferred_good w (outcomes.Got None None) (no_drop w.part Gets is gets_apart)
-first_good r w Drops true (Some i) is = at_good w.part w.phase Next tt refl
 first_good r w part here bar is = at_good w.part w.phase Next tt refl
 
 quiet_good : (rows : RowsAndEnds) (r : ℕ) (w : Work) (phase : Phase) → Fits w.part w.phase → Good w (quiet rows r w phase)

@@ -115,9 +115,7 @@ module _ (n : ℕ) (P : Type 0) where
   first_comes : (r : ℕ) (w : Work) (part : Part) (here : Bool) (bar : Option ℕ) → part ≡ Drops → Comes n P w (first_look r w part here bar)
   first_comes r w Gets here bar is = absurd (let no_part : Gets ≡ Drops = is in cc)
   first_comes r w Puts here bar is = absurd (let no_part : Puts ≡ Drops = is in cc)
-  first_comes r w Drops false bar is = away w (first_look r w Drops false bar) refl
-  first_comes r w Drops true (Some i) is = away w (first_look r w Drops true (Some i)) refl
-  first_comes r w Drops true None is = away w (first_look r w Drops true None) refl
+  first_comes r w Drops here bar is = away w (first_look r w Drops here bar) refl
 
   quiet_comes : (rows : RowsAndEnds) (r : ℕ) (w : Work) (phase : Phase) → w.part ≡ Drops → Comes n P w (quiet rows r w phase)
   quiet_comes rows r w Fresh is = first_comes r w w.part (rows.present w.what.key) (rows.bar w.what.key) is

@@ -7,6 +7,7 @@ use Rattle.annex_base.specs.declared.kinds.Call.TheVariants.{PutFile}
 use Rattle.link_ring.specs.Ends.{EndView}
 use Rattle.node_ends.specs.Ends.{link_at}
 use Rattle.node_ends.specs.Joined.{StayPaired, StaysSo}
+use Rattle.node_model.specs.Ends.{EndName}
 use Rattle.object_store.specs.Stores.{Contents, Parts}
 use Rattle.run_data.specs.Files.{file_of, file_path}
 use Rattle.run_data.specs.declared.entry.By.{By}
@@ -16,6 +17,8 @@ use Rattle.run_data.specs.declared.entry.EntryKind.TheVariants.{Compact}
 use Rattle.run_data.specs.declared.entry.LogFile.{LogFile}
 use Rattle.union_merge.specs.Branch.{lines_at, with_file}
 use Rattle.union_merge.specs.LineSet.{difference}
+use Rattle.repo_node.specs.Closing.{ClosesEach}
+use Rattle.repo_node.specs.Crashing.{Crashes}
 use Rattle.repo_node.specs.Logs.{with_lines, with_log}
 use Rattle.repo_node.specs.Nodes.{NodeView, with_entry}
 use Rattle.repo_node.specs.Placing.{IsPlaced, StopsBefore, StopsPlacing, with_gain, with_placed}
@@ -143,3 +146,24 @@ turn_setup turns.Moved was now links before after moved stays = (moved refl).set
 turn_setup turns.Idle was now links before after moved stays = ap (λ n. n.setup) (stays (λ e. true≢false (sym (ap is_moved e))))
 turn_setup turns.Full was now links before after moved stays = ap (λ n. n.setup) (stays (λ e. true≢false (sym (ap is_moved e))))
 turn_setup turns.NoMemory was now links before after moved stays = ap (λ n. n.setup) (stays (λ e. true≢false (sym (ap is_moved e))))
+
+-- ---- closes
+
+closed_setup : {K : Type 0} (told : Option Contents) (ends : List EndName) (was now : NodeView K) → ClosesEach told ends was now → now.setup ≡ was.setup
+closed_setup {K} told [] was now closes = ap (λ (n : NodeView K). n.setup) closes
+closed_setup {K} told (a ∷ ends) was now closes =
+    closed_setup told ends closes.0 now closes.2
+    ∙ elim closes.1 [
+      | inl one ↦ ap (λ (n : NodeView K). n.setup) one.node
+      | inr none ↦ ap (λ (n : NodeView K). n.setup) none.node
+    ]
+
+pub close_setup : {K : Type 0} (r : Result (Unit {0}) NodeRefused) (told : Option Contents) (ends : List EndName) (was now : NodeView K) → OnOk r (ClosesEach told ends was now) → OnErr r (now ≡ was) → now.setup ≡ was.setup
+close_setup {K} (Ok x) told ends was now ok err = closed_setup told ends was now ok
+close_setup {K} (Err e) told ends was now ok err = ap (λ (n : NodeView K). n.setup) err
+
+-- ---- a crash
+
+pub crash_setup : {K : Type 0} (r : Result (Unit {0}) NodeRefused) (told : Option Contents) (clock : ℕ) (was now : NodeView K) → OnOk r (Crashes told clock was now) → OnErr r (now ≡ was) → now.setup ≡ was.setup
+crash_setup {K} (Ok x) told clock was now ok err = ap (λ (n : NodeView K). n.setup) ok.node
+crash_setup {K} (Err e) told clock was now ok err = ap (λ (n : NodeView K). n.setup) err

@@ -13,6 +13,8 @@ pub use Rattle.repo_node.specs.Walks
 pub use Rattle.repo_node.specs.Debts
 pub use Rattle.repo_node.specs.Nodes
 pub use Rattle.repo_node.specs.Turning
+pub use Rattle.repo_node.specs.Closing
+pub use Rattle.repo_node.specs.Crashing
 pub use Rattle.repo_node.specs.Parts
 pub use Rattle.repo_node.specs.Sound
 pub use Rattle.repo_node.specs.Steps
@@ -25,6 +27,7 @@ pub use Rattle.repo_node.specs.Acting
 pub use Rattle.repo_node.specs.Running
 pub use Rattle.repo_node.specs.Task
 pub use Rattle.repo_node.specs.Tasks
+pub use Rattle.repo_node.specs.TransferJob
 pub use Rattle.repo_node.specs.Worker
 pub use Rattle.repo_node.specs.Workers
 pub use Rattle.repo_node.specs.Drops

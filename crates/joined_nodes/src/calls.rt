@@ -1,5 +1,5 @@
 //! Calls of one of the nodes: each does what the node's own does, and leaves the others as they are.
-ghost use Rattle.std.specs.Prelude.{◌≡◌, ◌≢◌, ◌⊎◌, ℕ, ◌+◌, ◌≤◌, ◌<◌, ◌^◌, Bool, true, [], ◌∷◌, Err, Some, max, length, map, is_some, slice_get, IfOk, IfErr, IsErrOf, OnErr, OnOk};
+ghost use Rattle.std.specs.Prelude.{◌≡◌, ◌≢◌, ◌⊎◌, ℕ, ◌+◌, ◌≤◌, ◌<◌, ◌^◌, Bool, true, [], ◌∷◌, Err, Some, max, length, map, is_some, nat_le, slice_get, IfOk, IfErr, IsErrOf, OnErr, OnOk};
 ghost use Rattle.std.specs.Map.{keys_of};
 ghost use Rattle.std.specs.Option.{ForSome, option_copied, option_map};
 ghost use Rattle.annex_base.specs.Causes.{Rose};
@@ -20,6 +20,8 @@ ghost use Rattle.union_merge.specs.Branch.{Files};
 ghost use Rattle.union_merge.specs.LineSet.{IsLine};
 ghost use Rattle.repo_node.specs.Calls.{IsDoneBy, Makes, MeetsFull, MeetsFullBehind, StopsAt, lacks_of, lacks_some, shrinks_at, to_compact, to_log, to_merge, to_place, to_place_part};
 ghost use Rattle.content_lock.specs.CallsMade.{fewer};
+ghost use Rattle.repo_node.specs.Closing.{ClosesEach, ends_to, lacks_places};
+ghost use Rattle.repo_node.specs.Crashing.{Crashes};
 ghost use Rattle.repo_node.specs.Debts.{failed_put};
 ghost use Rattle.repo_node.specs.Logs.{IsLogOf, log_of, stamped_by, with_lines};
 ghost use Rattle.repo_node.specs.Nodes.{MatchesSetup, NodeView, told_of, with_entry};
@@ -97,6 +99,44 @@ impl<K: Keeper> Nodes<K> {
         // A law, for the proof that the nodes stay joined.
         nodes_stay_joined::<K>();
         self.nodes[repo].turn()
+    }
+
+    /// Closes a node's ends of the connections with another, as `Node::close_end` does. What it sent stays on its way until frames are
+    /// carried.
+    pub fn close_end(&mut self, repo: usize, peer: u32) -> Result<(), NodeRefused>
+        requires there { repo < length self.old }
+        requires known { (n : NodeView K) → slice_get self.old repo ≡ Some n → peer < length n.setup.repos }
+        requires other { (n : NodeView K) → slice_get self.old repo ≡ Some n → peer ≢ n.setup.number }
+        ensures ok { AtNode repo self.old self.new (λ was now. OnOk result (ClosesEach (told_of (K.contents was.keeper) (K.parts was.keeper)) (ends_to peer) was now)) }
+        ensures full { AtNode repo self.old self.new (λ was now. IsErrOf result NodeRefused.Full → lacks_places was peer ≡ true) }
+        ensures lacks { AtNode repo self.old self.new (λ was now. lacks_places was peer ≡ true → result ≡ Err NodeRefused.Full) }
+        ensures refused { IfErr result (λ e. (e ≡ NodeRefused.Full) ⊎ (e ≡ NodeRefused.NoMemory)) }
+        ensures paired { AtNode repo self.old self.new (λ was now. StayPaired was.parts.links now.parts.links) }
+        ensures err { AtNode repo self.old self.new (λ was now. OnErr result (now ≡ was)) }
+        ensures others { (i : ℕ) → i ≢ repo → slice_get self.new i ≡ slice_get self.old i }
+        ensures count { length self.new ≡ length self.old }
+    {
+        // A law, for the proof that the nodes stay joined.
+        nodes_stay_joined::<K>();
+        self.nodes[repo].close_end(peer)
+    }
+
+    /// A node crashes, as `Node::crash` does. What it sent stays on its way until frames are carried.
+    pub fn crash(&mut self, repo: usize, clock: u64) -> Result<(), NodeRefused>
+        requires there { repo < length self.old }
+        requires near { clock ≤ 100000000000 }
+        ensures ok { AtNode repo self.old self.new (λ was now. OnOk result (Crashes (told_of (K.contents was.keeper) (K.parts was.keeper)) clock was now)) }
+        ensures full { AtNode repo self.old self.new (λ was now. IsErrOf result NodeRefused.Full → nat_le most_entries (length was.history) ≡ true) }
+        ensures lacks { AtNode repo self.old self.new (λ was now. nat_le most_entries (length was.history) ≡ true → result ≡ Err NodeRefused.Full) }
+        ensures refused { IfErr result (λ e. (e ≡ NodeRefused.Full) ⊎ (e ≡ NodeRefused.NoMemory)) }
+        ensures paired { AtNode repo self.old self.new (λ was now. StayPaired was.parts.links now.parts.links) }
+        ensures err { AtNode repo self.old self.new (λ was now. OnErr result (now ≡ was)) }
+        ensures others { (i : ℕ) → i ≢ repo → slice_get self.new i ≡ slice_get self.old i }
+        ensures count { length self.new ≡ length self.old }
+    {
+        // A law, for the proof that the nodes stay joined.
+        nodes_stay_joined::<K>();
+        self.nodes[repo].crash(clock)
     }
 
     /// Adds a line to a file of a node's branch, as `Node::write_raw` does.

@@ -25,7 +25,7 @@ use Rattle.p2p_wire.specs.declared.message.Message.TheVariants.{AlreadyHave, Che
 use Rattle.p2p_wire.specs.Messages.{message_of}
 use Rattle.node_model.specs.Ends.{end_after}
 use Rattle.node_model.specs.Jobs
-use Rattle.node_model.specs.Jobs.{AsksLock, AsksLook, AsksTime, Denied, Drops, Fresh, GetsBytes, GetsData, GetsWord, Gets, Greets, Heard, Next, Orders, Part, Phase, Puts, PutsAnswer, PutsBytes, PutsOffer, PutsWord, Removed, RowsAndEnds, Unseen, Work, after_failed_release, after_gain, after_transfer, claims, closed_part, fails_with, fault_of, fault_phase, first_look, gets_bytes, gets_more, hears, hears_frame, is_move, job_end, learns, listens, partner, put_from, puts_answer, puts_bytes, puts_more, quiet, running_job, says, says_some, sends, side_of, source_cause, taken_message, talks, talks_on, target_of, to_phase, after_frame, after_line, word_taken, work_kind}
+use Rattle.node_model.specs.Jobs.{AsksLock, AsksLook, AsksTime, Denied, Drops, Fresh, GetsBytes, GetsData, GetsWord, Gets, Greets, Heard, Next, Orders, Part, Phase, Puts, PutsAnswer, PutsBytes, PutsOffer, PutsWord, Removed, RowsAndEnds, Unseen, Work, after_failed_release, after_gain, after_transfer, claims, closed_part, fails_with, fault_of, fault_phase, first_look, gets_bytes, gets_more, hears, hears_frame, is_move, job_end, learns, listens, partner, put_from, puts_answer, puts_bytes, puts_more, quiet, running_job, says, says_some, sends, side_of, source_cause, taken_message, talks, talks_on, target_of, to_phase, unshared_cause, after_frame, after_line, word_taken, work_kind}
 use Rattle.driver_model.specs.WordsRead.{is_answered}
 use Rattle.run_laws.specs.Jobs.{keeps_word}
 
@@ -169,8 +169,7 @@ module _ (w : Work) (taken : Option FrameView) where
 
   first_moves : (r : ℕ) (part : Part) (here : Bool) (bar : Option ℕ) → M (first_look r w part here bar)
   first_moves r Gets true bar = transferred (outcomes.Got None None)
-  first_moves r Drops false bar = hears_plain r (Jobs.Lacks causes.Absent) (λ is. absurd (cc))
-  first_moves r Drops true (Some i) = hears_plain r (Jobs.Lacks causes.Barred) (λ is. absurd (cc))
+  first_moves r Drops here bar = hears_plain r (Jobs.Lacks (unshared_cause bar)) (λ is. absurd (cc))
   first_moves r part here bar = to_plain Next refl
 
   quiet_moves : (rows : RowsAndEnds) (r : ℕ) (phase : Phase) → M (quiet rows r w phase)

@@ -9,6 +9,7 @@ use Rattle.run_data.specs.declared.entry.FrameView.{FrameView}
 use Rattle.run_data.specs.declared.job.Cause.TheVariants as causes
 use Rattle.p2p_wire.specs.declared.message.Message.{Message}
 use Rattle.p2p_wire.specs.Messages.{message_of}
+use Rattle.node_model.specs.Around.{around_in}
 use Rattle.node_model.specs.Rows.{option_is}
 use Rattle.node_model.specs.Sessions.{line_in}
 use Rattle.node_model.specs.Jobs.{Drops, Work, closed_part, drop_side, learns, partner, talks_on, version_said}
@@ -16,7 +17,7 @@ use Rattle.node_model.specs.JobStep.{Turn, wrong_message}
 use Rattle.node_model.specs.Look.{as_told, entry_of}
 use Rattle.node_model.specs.TransferStep.{takes_bytes}
 use Rattle.node_model.specs.Turns.{takes_frame, takes_text}
-use Rattle.content_lock.specs.Rows.{Rows, bar_at}
+use Rattle.content_lock.specs.Rows.{Rows}
 use Rattle.drop_phases.specs.declared.phase.Phase.{Phase}
 use Rattle.drop_phases.specs.declared.phase.Phase.TheVariants as phases
 use Rattle.drop_phases.specs.declared.phase.Heard.TheVariants as heards
@@ -81,5 +82,5 @@ other_does x rows p w w' f peer out local with_peer shuts comes =
 
     moves : (rest : Rest) → next_work (turn rest) (wrong_message (turn rest) f peer) ≡ closed_part x.read.repo (work_of rest w) peer Drops
     moves rest =
-        (λ i. talks_on (record { present = p; bar = bar_at rows; ends = x.ends }) x.read.repo (other_learns (work_of rest w) f w.phase comes.is i) (entry_of x.read.repo (turn rest).look (wrong_message (turn rest) f peer)) (with_peer i))
-        ∙ on_shut (record { present = p; bar = bar_at rows; ends = x.ends }) x.read.repo (work_of rest w) (entry_of x.read.repo (turn rest).look (wrong_message (turn rest) f peer)) peer refl
+        (λ i. talks_on (around_in (turn rest)) x.read.repo (other_learns (work_of rest w) f w.phase comes.is i) (entry_of x.read.repo (turn rest).look (wrong_message (turn rest) f peer)) (with_peer i))
+        ∙ on_shut (around_in (turn rest)) x.read.repo (work_of rest w) (entry_of x.read.repo (turn rest).look (wrong_message (turn rest) f peer)) peer refl

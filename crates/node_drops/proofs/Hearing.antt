@@ -14,6 +14,8 @@ use Rattle.annex_base.proofs.Lists.{Member-append_left, Member-filter_from, Memb
 use Rattle.annex_base.proofs.Numbers.{Member-range}
 use Rattle.run_data.specs.declared.run.RepoView.{RepoView}
 use Rattle.run_data.specs.declared.entry.FrameView.{FrameView}
+use Rattle.drop_proof.specs.declared.rule.Side.{Side}
+use Rattle.drop_proof.specs.declared.rule.Side.TheVariants.{Local, Remote}
 use Rattle.link_ring.specs.declared.frame.Frame.{Frame}
 use Rattle.link_ring.specs.Ends.{EndView, next_frame}
 use Rattle.link_ring.specs.Places.{end_place}
@@ -33,8 +35,9 @@ use Rattle.drop_phases.specs.declared.phase.Phase.{Phase}
 use Rattle.drop_phases.specs.declared.phase.Phase.TheVariants as phases
 use Rattle.drop_phases.specs.declared.phase.Token.{Token}
 use Rattle.drop_phases.specs.declared.turn.Taken.TheVariants as takens
-use Rattle.drop_worker.specs.Feeding.{FeedsFrameAt, FindsAt, FitsLocal}
+use Rattle.drop_worker.specs.Feeding.{FeedsFrameAt, FindsAt}
 use Rattle.drop_worker.specs.Leaving.{stands_on}
+use Rattle.drop_worker.specs.Sides.{FitsSide, HasTarget, side_in}
 use Rattle.drop_worker.specs.Working.{end_in, phase_as, sight, taken_of}
 use Rattle.node_drops.specs.declared.feed.Feed.{Feed}
 use Rattle.node_drops.specs.Waiting.{WaitsFor, word_at}
@@ -179,24 +182,42 @@ free_waits links slot (Err e) none = tt
 
 -- ---- whose frame it awaits
 
--- a local drop that is past its first step awaits a frame of another repository
-begun_other : (r : Reading) (target : Option ℕ) (peer : ℕ) (phase : Phase) (token : Token) → FitsLocal phase token → partner target (phase_as phase) ≡ Some peer → HasBegun r phase → IsOther r peer
-begun_other r target peer phases.Fresh token fits at h = absurd h
-begun_other r target peer phases.Next token fits at h = absurd cc
-begun_other r target peer (phases.Opens p) token fits at h = subst (IsOther r) (let same : p ≡ peer = cc in same) h
-begun_other r target peer (phases.Greets p) token fits at h = subst (IsOther r) (let same : p ≡ peer = cc in same) h
-begun_other r target peer (phases.AsksLock p since) token fits at h = subst (IsOther r) (let same : p ≡ peer = cc in same) h
-begun_other r target peer (phases.AsksLook p) token fits at h = subst (IsOther r) (let same : p ≡ peer = cc in same) h
-begun_other r target peer phases.AsksTime token fits at h = absurd fits
-begun_other r target peer phases.Orders token fits at h = absurd fits
-begun_other r target peer phases.Removed token fits at h = absurd cc
-begun_other r target peer phases.Denied token fits at h = absurd cc
-begun_other r target peer (phases.Late time) token fits at h = absurd cc
-begun_other r target peer (phases.Ends why) token fits at h = absurd cc
+-- a drop that removes from its peer awaits its answers to a request for its time, and to an order
+pub time_is_remote : (side : Side) (token : Token) → FitsSide side phases.AsksTime token → side ≡ Local → ⊥
+time_is_remote side token fits local = subst (λ (s : Side). FitsSide s phases.AsksTime token) local fits
 
-pub awaits_other : (p : PlaceView) (j : DropJob) (peer : ℕ) (known : Option KnownLogs) → FitsLocal j.worker.phase j.worker.token → stands_on j.worker ≡ Some peer → HasReadByPhase p j.worker.phase known → IsOther (place_reading p) peer
-awaits_other p j peer None fits at fresh = absurd (let none : Some peer ≡ None = sym at ∙ ap (λ (ph : Phase). partner j.worker.job.peer (phase_as ph)) fresh in some_none peer none)
-awaits_other p j peer (Some known) fits at begun = begun_other (place_reading p) j.worker.job.peer peer j.worker.phase j.worker.token fits at begun
+pub order_is_remote : (side : Side) (token : Token) → FitsSide side phases.Orders token → side ≡ Local → ⊥
+order_is_remote side token fits local = subst (λ (s : Side). FitsSide s phases.Orders token) local fits
+
+pub has_target : (r : Reading) (side : Side) (target : Option ℕ) → HasTarget side target r → (side ≡ Local → ⊥) → target ≡ None → ⊥
+has_target r Local target has remote none = remote refl
+has_target r Remote None has remote none = has
+has_target r Remote (Some target) has remote none = some_none target none
+
+target_other : (r : Reading) (side : Side) (target : Option ℕ) (peer : ℕ) → HasTarget side target r → (side ≡ Local → ⊥) → target ≡ Some peer → IsOther r peer
+target_other r Local target peer has remote at = absurd (remote refl)
+target_other r Remote None peer has remote at = absurd has
+target_other r Remote (Some target) peer has remote at = subst (IsOther r) (let same : target ≡ peer = cc in same) has
+
+-- a drop that is past its first step awaits a frame of another repository
+begun_other : (r : Reading) (side : Side) (target : Option ℕ) (peer : ℕ) (phase : Phase) (token : Token) → HasTarget side target r → FitsSide side phase token → partner target (phase_as phase) ≡ Some peer → HasBegun r phase → IsOther r peer
+begun_other r side target peer phases.Fresh token has fits at h = absurd h
+begun_other r side target peer phases.Next token has fits at h = absurd cc
+begun_other r side target peer (phases.Opens p) token has fits at h = subst (IsOther r) (let same : p ≡ peer = cc in same) h
+begun_other r side target peer (phases.Greets p) token has fits at h = subst (IsOther r) (let same : p ≡ peer = cc in same) h
+begun_other r side target peer (phases.AsksLock p since) token has fits at h = subst (IsOther r) (let same : p ≡ peer = cc in same) h
+begun_other r side target peer (phases.AsksLook p) token has fits at h = subst (IsOther r) (let same : p ≡ peer = cc in same) h
+begun_other r side target peer phases.AsksTime token has fits at h = target_other r side target peer has (time_is_remote side token fits) at
+begun_other r side target peer phases.Orders token has fits at h = target_other r side target peer has (order_is_remote side token fits) at
+begun_other r side target peer phases.Removed token has fits at h = absurd cc
+begun_other r side target peer phases.Denied token has fits at h = absurd cc
+begun_other r side target peer (phases.Late time) token has fits at h = absurd cc
+begun_other r side target peer (phases.Ends why) token has fits at h = absurd cc
+
+pub awaits_other : (p : PlaceView) (j : DropJob) (peer : ℕ) (known : Option KnownLogs) → HasTarget (side_in j.worker) j.worker.job.peer (place_reading p) → FitsSide (side_in j.worker) j.worker.phase j.worker.token → stands_on j.worker ≡ Some peer
+    → HasReadByPhase p j.worker.phase known → IsOther (place_reading p) peer
+awaits_other p j peer None has fits at fresh = absurd (let none : Some peer ≡ None = sym at ∙ ap (λ (ph : Phase). partner j.worker.job.peer (phase_as ph)) fresh in some_none peer none)
+awaits_other p j peer (Some known) has fits at begun = begun_other (place_reading p) (side_in j.worker) j.worker.job.peer peer j.worker.phase j.worker.token has fits at begun
 
 -- its end is there
 pub link_there : (links : List EndView) (count slot peer : ℕ) → length links ≡ count * 8 → peer < count → slot < 4 → is_some (link_at links (end_in slot peer)) ≡ true

@@ -4,8 +4,6 @@ use Rattle.std.specs.Prelude.{IfOk, slice_get, unwrap_or}
 use Rattle.std.proofs.lemmas.List.{map-append, map_more}
 use Rattle.annex_base.specs.Settings.{Settings}
 use Rattle.annex_base.specs.declared.memory.NoMemory.{NoMemory}
-use Rattle.drop_proof.specs.declared.rule.Side.{Side}
-use Rattle.drop_proof.specs.declared.rule.Side.TheVariants.{Local}
 use Rattle.run_data.specs.Repos.{id_of}
 use Rattle.run_data.specs.declared.run.RepoView.{RepoView}
 use Rattle.run_data.specs.declared.entry.FrameView.{FrameView}
@@ -15,8 +13,8 @@ use Rattle.node_model.specs.Clocks.{ClockSet, runs_on}
 use Rattle.node_model.specs.Ends.{EndName}
 use Rattle.node_model.specs.Evidence as drops
 use Rattle.node_model.specs.Evidence.{standing_by}
-use Rattle.node_model.specs.Jobs.{Drops, Work, drop_side, or_own, target_of}
-use Rattle.node_model.specs.Knows.{Reading, need_by, need_of, reading, required_of, standing_of}
+use Rattle.node_model.specs.Jobs.{Drops, drop_side, or_own, target_of}
+use Rattle.node_model.specs.Knows.{need_by, need_of, required_of, standing_of}
 use Rattle.node_model.specs.Look.{Look, failed_in}
 use Rattle.node_model.specs.SetUp.{SetUp}
 use Rattle.node_model.specs.State.{State}
@@ -34,7 +32,7 @@ use Rattle.drop_phases.specs.declared.turn.Output.{Output}
 use Rattle.drop_phases.specs.declared.turn.Taken.{Taken}
 use Rattle.drop_worker.specs.Feeding.{FeedsFrameAt}
 use Rattle.drop_worker.specs.Leaving.{stands_on}
-use Rattle.drop_worker.specs.Sides.{IsNext}
+use Rattle.drop_worker.specs.Sides.{side_in}
 use Rattle.drop_worker.specs.States.{IsSight, Sees, StepsSo}
 use Rattle.drop_worker.specs.Worker.{Worker}
 use Rattle.drop_worker.specs.Working.{phase_as, sight, words_of, work_of}
@@ -54,6 +52,7 @@ pub record Knows (s : SetUp) (st : State) (j : DropJob) (known : KnownLogs) : Ty
   pub requires : required_of s st (work_now j) ≡ known.requires
 
 pub knows_read : (s : SetUp) (st : State) (j : DropJob) (known : KnownLogs) → HasRead s st j.worker (Some known) → Knows s st j known
+unfolding standing_of
 knows_read s st j known read = record { need = read.need; standing = read.standing; requires = read.requires }
 
 standing_listed : (f : List ℕ → drops.Standing) (repos : List RepoView) (c : ℕ) → f [] ≡ drops.Asked → standing_at (map f (map (λ (repo : RepoView). repo.id) repos)) c ≡ f (id_of repos c)
@@ -67,19 +66,19 @@ id_listed [] c = refl
 id_listed (x ∷ xs) zero = refl
 id_listed (x ∷ xs) (suc c) = id_listed xs c
 
--- that of the target of a local drop
-target_own : (p : PlaceView) (s : SetUp) (j : DropJob) (own : List ℕ) → IsPlace p s → drop_side j.worker.job.kind j.worker.job.peer ≡ Local → own ≡ unwrap_or (slice_get p.ids p.number) [] → id_of s.repos (target_of s.number (work_now j)) ≡ own
-target_own p s j own place side is =
-    ap (λ (x : Side). id_of s.repos (or_own s.number x j.worker.job.peer)) side ∙ (id_listed s.repos s.number ∙ ((λ i. unwrap_or (slice_get (place.ids i) (place.number i)) []) ∙ sym is))
+-- that of the repository from which a drop removes
+target_id : (p : PlaceView) (s : SetUp) (j : DropJob) (id : List ℕ) → IsPlace p s → id ≡ unwrap_or (slice_get p.ids (or_own p.number (side_in j.worker) j.worker.job.peer)) [] → id_of s.repos (target_of s.number (work_now j)) ≡ id
+target_id p s j id place is =
+    id_listed s.repos (or_own s.number (side_in j.worker) j.worker.job.peer) ∙ ((λ i. unwrap_or (slice_get (place.ids i) (or_own (place.number i) (side_in j.worker) j.worker.job.peer)) []) ∙ sym is)
 
 -- at its first step it reads the logs
-knows_logs : (p : PlaceView) (s : SetUp) (st : State) (j : DropJob) (settings : Settings) (known : KnownLogs) (own : List ℕ) → drop_side j.worker.job.kind j.worker.job.peer ≡ Local → own ≡ unwrap_or (slice_get p.ids p.number) []
-    → known.need ≡ need_by settings j.paths → map worker.standing_of known.standings ≡ standings_by settings j.worker.job.key p.ids → known.requires ≡ required settings own j.worker.job.key j.paths
+knows_logs : (p : PlaceView) (s : SetUp) (st : State) (j : DropJob) (settings : Settings) (known : KnownLogs) (id : List ℕ) → id ≡ unwrap_or (slice_get p.ids (or_own p.number (side_in j.worker) j.worker.job.peer)) []
+    → known.need ≡ need_by settings j.paths → map worker.standing_of known.standings ≡ standings_by settings j.worker.job.key p.ids → known.requires ≡ required settings id j.worker.job.key j.paths
     → IsPlace p s → HadPaths s j.worker.number j.paths → HasRead s st j.worker None → st.logs ≡ settings → ((key : List ℕ) → standing_by settings key [] ≡ drops.Asked) → Knows s st j known
 unfolding standing_of
-knows_logs p s st j settings known own side own_is need standings demand place had fresh logs nameless =
+knows_logs p s st j settings known id id_is need standings demand place had fresh logs nameless =
     let same : st.read j.worker.number ≡ settings = fresh.1 ∙ logs in
-    let target = target_own p s j own place side own_is in
+    let target = target_id p s j id place id_is in
     record {
       need = (λ i. need_by (same i) (sym had i)) ∙ sym need;
       standing = λ c. ap (λ (r : Settings). standing_by r j.worker.job.key (id_of s.repos c)) same
@@ -95,10 +94,10 @@ Learns p settings j known = (s : SetUp) (st : State) → IsPlace p s → HadPath
 pub learns_read : (p : PlaceView) (settings : Settings) (j : DropJob) (known : KnownLogs) → j.known ≡ Some known → Learns p settings j known
 learns_read p settings j known is = λ s st place had read logs nameless. knows_read s st j known (subst (HasRead s st j.worker) is read)
 
-pub learns_logs : (p : PlaceView) (settings : Settings) (j : DropJob) (known : KnownLogs) (own : List ℕ) → j.known ≡ None → drop_side j.worker.job.kind j.worker.job.peer ≡ Local → own ≡ unwrap_or (slice_get p.ids p.number) [] → known.need ≡ need_by settings j.paths
-    → map worker.standing_of known.standings ≡ standings_by settings j.worker.job.key p.ids → known.requires ≡ required settings own j.worker.job.key j.paths → Learns p settings j known
-learns_logs p settings j known own none side own_is need standings demand = λ s st place had read logs nameless.
-    knows_logs p s st j settings known own side own_is need standings demand place had (subst (HasRead s st j.worker) none read) logs nameless
+pub learns_logs : (p : PlaceView) (settings : Settings) (j : DropJob) (known : KnownLogs) (id : List ℕ) → j.known ≡ None → id ≡ unwrap_or (slice_get p.ids (or_own p.number (side_in j.worker) j.worker.job.peer)) [] → known.need ≡ need_by settings j.paths
+    → map worker.standing_of known.standings ≡ standings_by settings j.worker.job.key p.ids → known.requires ≡ required settings id j.worker.job.key j.paths → Learns p settings j known
+learns_logs p settings j known id none id_is need standings demand = λ s st place had read logs nameless.
+    knows_logs p s st j settings known id id_is need standings demand place had (subst (HasRead s st j.worker) none read) logs nameless
 
 -- one more repository
 pub standings_more : (f : List ℕ → drops.Standing) (ids : List (List ℕ)) (i : ℕ) (id : List ℕ) (vs vs' : List Standing) (x : Standing) → i < length ids → id ≡ get_or ids i id → map worker.standing_of vs ≡ map f (take i ids)
@@ -208,25 +207,20 @@ worker_sees p clock links settings input rows c j known out s st k f known_so se
       fed = fed_as p clock links known input.time input.number j.worker.slot (stands_on j.worker) f input.taken sees.fed;
     }
 
-next_local : (side : Side) (r : Reading) (v v' : Work) → side ≡ Local → IsNext side r v v' → v ≡ v'
-next_local side r v v' local next = let P : Side → Type 0 = λ x. IsNext x r v v' in subst P local next
-
-pub acts_so : (p : PlaceView) (clock : ClockSet) (links : List EndView) (settings : Settings) (input : Input) (contents contents' : Option Contents) (rows rows' : Rows) (j : DropJob) (w' : Worker) (known : KnownLogs) (out : Output) → drop_side j.worker.job.kind j.worker.job.peer ≡ Local
-    → Learns p settings j known → HasReadByPhase p j.worker.phase j.known → Does p clock links known input contents rows j.worker w' out → Steps p contents contents' input rows rows' j.worker w' out
-    → Acts p clock links settings input contents rows j (record { worker = w'; paths = j.paths; known = Some known }) out
-acts_so p clock links settings input contents contents' rows rows' j w' known out side knows stands does steps = λ c is s st k f sees.
+pub acts_so : (p : PlaceView) (clock : ClockSet) (links : List EndView) (settings : Settings) (input : Input) (contents contents' : Option Contents) (rows rows' : Rows) (j : DropJob) (w' : Worker) (known : KnownLogs) (out : Output) → Learns p settings j known → HasReadByPhase p j.worker.phase j.known → Does p clock links known input contents rows j.worker w' out → Steps p contents contents' input rows rows' j.worker w' out
+    → Acts p clock links settings input contents rows j (record { worker = w'; paths = j.paths; known = Some known; causes = j.causes }) out
+acts_so p clock links settings input contents contents' rows rows' j w' known out knows stands does steps = λ c is s st k f sees.
     let known_so : Knows s st j known = knows s st sees.job.place sees.job.paths sees.job.read sees.logs sees.nameless in
     let so : StepsSo (sight (reading_of p clock known) (end_at links) input.time input.number) j.worker w' out s st k (work_now j) f =
     does c is s st k (work_now j) f (worker_sees p clock links settings input rows c j known out s st k f known_so sees) in (
-      record { made = so.made; next = λ going. next_local (drop_side j.worker.job.kind j.worker.job.peer) (reading s st (work_now j)) (work_of plain w') _ side (so.next going) },
+      record { made = so.made; next = so.next },
       λ going st' on. reads_on s st st' j w' known known_so on steps.number steps.job (has_begun p w'.phase ((steps.gone (can_stand p j.worker.phase j.known stands)).goes_on going)),
     )
 
-pub acts_ok : (p : PlaceView) (clock : ClockSet) (links : List EndView) (settings : Settings) (input : Input) (contents contents' : Option Contents) (rows rows' : Rows) (j : DropJob) (w' : Worker) (known : KnownLogs) (r : Result Output NoMemory) → drop_side j.worker.job.kind j.worker.job.peer ≡ Local
-    → Learns p settings j known → HasReadByPhase p j.worker.phase j.known → IfOk r (Does p clock links known input contents rows j.worker w') → IfOk r (Steps p contents contents' input rows rows' j.worker w')
-    → IfOk r (Acts p clock links settings input contents rows j (record { worker = w'; paths = j.paths; known = Some known }))
-acts_ok p clock links settings input contents contents' rows rows' j w' known (Ok out) side knows stands does steps = acts_so p clock links settings input contents contents' rows rows' j w' known out side knows stands does steps
-acts_ok p clock links settings input contents contents' rows rows' j w' known (Err e) side knows stands does steps = tt
+pub acts_ok : (p : PlaceView) (clock : ClockSet) (links : List EndView) (settings : Settings) (input : Input) (contents contents' : Option Contents) (rows rows' : Rows) (j : DropJob) (w' : Worker) (known : KnownLogs) (r : Result Output NoMemory) → Learns p settings j known → HasReadByPhase p j.worker.phase j.known → IfOk r (Does p clock links known input contents rows j.worker w') → IfOk r (Steps p contents contents' input rows rows' j.worker w')
+    → IfOk r (Acts p clock links settings input contents rows j (record { worker = w'; paths = j.paths; known = Some known; causes = j.causes }))
+acts_ok p clock links settings input contents contents' rows rows' j w' known (Ok out) knows stands does steps = acts_so p clock links settings input contents contents' rows rows' j w' known out knows stands does steps
+acts_ok p clock links settings input contents contents' rows rows' j w' known (Err e) knows stands does steps = tt
 
 -- ---- its calls
 

@@ -6,6 +6,7 @@ use Rattle.run_data.specs.declared.entry.FrameView.{FrameView}
 use Rattle.link_ring.specs.Ends.{EndView}
 use Rattle.node_ends.specs.Ends.{end_at}
 use Rattle.object_store.specs.Stores.{Contents}
+use Rattle.node_model.specs.Around.{around}
 use Rattle.node_model.specs.Clocks.{ClockSet}
 use Rattle.node_model.specs.Evidence as drops
 use Rattle.node_model.specs.Evidence.{standing_by}
@@ -16,12 +17,14 @@ use Rattle.node_model.specs.SetUp.{SetUp}
 use Rattle.node_model.specs.State.{State}
 use Rattle.node_model.specs.Turns.{slot_step}
 use Rattle.content_lock.specs.Rows.{AreAfter, Rows}
+use Rattle.drop_worker.specs.Apart.{GoesApartSo, IsApart}
 use Rattle.drop_worker.specs.Begun.{CanStand, HasGone}
 use Rattle.drop_phases.specs.declared.turn.Input.{Input}
 use Rattle.drop_phases.specs.declared.turn.Output.{Output}
 use Rattle.drop_worker.specs.Doing.{Grows, contents_after}
-use Rattle.drop_worker.specs.Feeding.{FeedsFrameAt, FindsAt, FitsLocal, KeepsWord}
+use Rattle.drop_worker.specs.Feeding.{FeedsFrameAt, FindsAt, KeepsAnswer, KeepsWord}
 use Rattle.drop_worker.specs.Leaving.{stands_on}
+use Rattle.drop_worker.specs.Sides.{FitsSide, HearsOwn, side_in}
 use Rattle.drop_worker.specs.States.{HaveState, Sees, StepsSo}
 use Rattle.drop_worker.specs.Worker.{Worker}
 use Rattle.drop_worker.specs.Working.{frames_of, sight, words_of}
@@ -40,11 +43,14 @@ Does p clock links known input contents rows w w' out =
 -- what it leaves of rows and contents, and where it leaves the worker
 pub record Steps (p : PlaceView) (contents contents' : Option Contents) (input : Input) (rows rows' : Rows) (w w' : Worker) (out : Output) : Type 0 where
   pub word : KeepsWord input.taken input.word w w'
+  pub answer : KeepsAnswer input.taken input.word w w'
   pub heard : Grows w.heard w'.heard
   pub after : AreAfter out.kind rows rows'
   pub stored : contents' ≡ contents_after contents out.kind
-  pub fits : out.ended ≡ false → FitsLocal w'.phase w'.token
+  pub fits : out.ended ≡ false → FitsSide (side_in w) w'.phase w'.token
   pub gone : CanStand (place_reading p) w.phase → HasGone (place_reading p) w w' out
+  pub own : out.ended ≡ false → HearsOwn (side_in w) (place_reading p) w'
+  pub apart : IsApart (side_in w) w.job.peer w → GoesApartSo (side_in w) w.job.peer p.number w w' out
   pub number : w'.number ≡ w.number
   pub job : w'.job ≡ w.job
 
@@ -63,7 +69,7 @@ pub record SeesAct (p : PlaceView) (clock : ClockSet) (links : List EndView) (se
 -- its step is that of its slot, and it goes on as its work does
 pub record ActsSo (links : List EndView) (j j' : DropJob) (out : Output) (s : SetUp) (st : State) (k : Look) (f : Option FrameView) : Type 0 where
   pub made : option_map as_told (slot_step s st k (Some (work_now j))) ≡ Some (record { kind = out.kind; taken = f; sent = frames_of (end_at links) j.worker.slot out.sends.items; lines = []; calls = [] })
-  pub next : out.ended ≡ false → work_now j' ≡ work_after (record { present = st.present; bar = st.bar; ends = st.ends }) s.number
+  pub next : out.ended ≡ false → work_now j' ≡ work_after (around s st) s.number
       (entry_of s.number k (record { kind = out.kind; taken = f; sent = frames_of (end_at links) j.worker.slot out.sends.items; lines = []; calls = [] })) (work_now j)
 
 -- of a state that follows, what the job has read is what it had read, or the logs at its first step

@@ -6,6 +6,7 @@ pub mod Waiting
 pub mod Feeds
 pub mod Doings
 pub mod Calling
+pub use Rattle.drop_worker.specs.Apart
 pub use Rattle.drop_worker.specs.Begun
 pub use Rattle.drop_worker.specs.Doing
 pub use Rattle.drop_worker.specs.Feeding

@@ -5,13 +5,16 @@ ghost use Rattle.std.specs.Option.{option_copied};
 use crate::known::KnownLogs;
 use annex_base::{Items, Text};
 use drop_worker::Worker;
+use run_data::SourceFailure;
 use std::marker::Model;
 
-/// A drop: its worker, the paths that its key had in the tree as it began, and what it read of the logs at its first step.
+/// A drop: its worker, the paths that its key had in the tree as it began, what it read of the logs at its first step, and why each
+/// source of the transfer before it gave nothing, in order: none but for the drop of a move.
 pub struct DropJob {
     pub worker: Worker,
     pub paths: Items<Text>,
     pub known: Option<KnownLogs>,
+    pub causes: Items<SourceFailure>,
 }
 
 impl Model for DropJob {
@@ -19,7 +22,7 @@ impl Model for DropJob {
 
     ghost Value = { DropJob };
 
-    ghost view = { λ j. record { worker = j.worker; paths = j.paths; known = j.known } };
+    ghost view = { λ j. record { worker = j.worker; paths = j.paths; known = j.known; causes = j.causes } };
 }
 
 impl DropJob {

@@ -49,12 +49,13 @@ impl Place {
         self.ids.as_slice().len() as u32
     }
 
-    /// The repository's identifier.
-    pub(crate) fn own(&self) -> RepoId
-        ensures { result ≡ unwrap_or (slice_get self.now.ids self.now.number) [] }
+    /// The identifier of one of the repositories.
+    pub(crate) fn id_of(&self, repo: u32) -> RepoId
+        requires among { repo < length self.now.ids }
+        ensures { result ≡ unwrap_or (slice_get self.now.ids repo) [] }
     {
         let ids = self.ids.as_slice();
-        ids[self.number as usize]
+        ids[repo as usize]
     }
 
     pub fn ids(&self) -> &[RepoId]

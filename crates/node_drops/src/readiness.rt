@@ -2,16 +2,16 @@
 ghost use Rattle.std.specs.Prelude.{◌≡◌, ◌*◌, ◌<◌, ℕ, Bool, List, Some, None, true, is_some, length, IfOk, IfSome};
 ghost use Rattle.std.specs.List.{list_all};
 ghost use Rattle.annex_base.specs.Lists.{Each};
-ghost use Rattle.drop_proof.specs.declared.rule.Side.TheVariants as sides;
-ghost use Rattle.node_model.specs.Jobs.{drop_side, partner};
+ghost use Rattle.node_model.specs.Jobs.{partner};
 ghost use Rattle.node_ends.specs.Ends.{link_at, room_at};
 ghost use Rattle.drop_worker.specs.Begun.{HasBegun, IsOther};
-ghost use Rattle.drop_worker.specs.Feeding.{FitsLocal, ToldAt};
+ghost use Rattle.drop_worker.specs.Feeding.{ToldAt};
 ghost use Rattle.drop_worker.specs.Leaving.{stands_on};
+ghost use Rattle.drop_worker.specs.Sides.{FitsSide, HasTarget, side_in};
 ghost use Rattle.drop_worker.specs.Working.{end_in, phase_as};
 ghost use Rattle.node_drops.specs.Waiting.{WaitsFor};
 ghost use Rattle.node_drops.specs.Feeds.{Answers, IsFedAt, PeersOf};
-ghost use Rattle.node_drops.specs.Drops.{HasReadByPhase, place_reading};
+ghost use Rattle.node_drops.specs.Drops.{HasHeardOwn, HasReadByPhase, place_reading};
 
 use crate::desk::Desk;
 use crate::feed::{Feed, bare_feed, heard};
@@ -32,8 +32,9 @@ pub fn ready(
     ends: &mut Ends,
     time: Time,
 ) -> Result<Option<Feed>, NoMemory>
-    requires side { drop_side job.now.worker.job.kind job.now.worker.job.peer ≡ sides.Local }
-    requires fits { FitsLocal job.now.worker.phase job.now.worker.token }
+    requires target { HasTarget (side_in job.now.worker) job.now.worker.job.peer (place_reading place.now) }
+    requires own { HasHeardOwn place.now job.now.worker }
+    requires fits { FitsSide (side_in job.now.worker) job.now.worker.phase job.now.worker.token }
     requires slot { job.now.worker.slot < 4 }
     requires stands { HasReadByPhase place.now job.now.worker.phase job.now.known }
     requires count { length ends.old ≡ length place.now.ids * 8 }
@@ -71,8 +72,9 @@ fn free(
     ends: &mut Ends,
     time: Time,
 ) -> Result<Option<Feed>, NoMemory>
-    requires side { drop_side job.now.worker.job.kind job.now.worker.job.peer ≡ sides.Local }
-    requires fits { FitsLocal job.now.worker.phase job.now.worker.token }
+    requires target { HasTarget (side_in job.now.worker) job.now.worker.job.peer (place_reading place.now) }
+    requires own { HasHeardOwn place.now job.now.worker }
+    requires fits { FitsSide (side_in job.now.worker) job.now.worker.phase job.now.worker.token }
     requires slot { job.now.worker.slot < 4 }
     requires stands { HasReadByPhase place.now job.now.worker.phase job.now.known }
     requires awaits { stands_on job.now.worker ≡ None }
@@ -106,8 +108,9 @@ fn peers(
     ends: &Ends,
     time: Time,
 ) -> Result<Vec<u32>, NoMemory>
-    requires side { drop_side worker.now.job.kind worker.now.job.peer ≡ sides.Local }
-    requires fits { FitsLocal worker.now.phase worker.now.token }
+    requires target { HasTarget (side_in worker.now) worker.now.job.peer (place_reading place.now) }
+    requires own { HasHeardOwn place.now worker.now }
+    requires fits { FitsSide (side_in worker.now) worker.now.phase worker.now.token }
     requires awaits { stands_on worker.now ≡ None }
     requires count { length ends.now ≡ length place.now.ids * 8 }
     ensures needs { IfOk result (λ peers. PeersOf place.now clock ends.now worker.now known.now time peers.items) }

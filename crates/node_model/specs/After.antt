@@ -10,6 +10,7 @@ use Rattle.node_model.specs.Rows.{bar_after, holds_after, present_after, content
 use Rattle.node_model.specs.Slots.{begun_after}
 use Rattle.node_model.specs.Clocks.{runs_on, wall}
 use Rattle.node_model.specs.Files.{lines_after}
+use Rattle.node_model.specs.Around.{around}
 use Rattle.node_model.specs.SetUp.{SetUp}
 use Rattle.node_model.specs.Ends.{end_after, never, sent_at, taken_at}
 use Rattle.node_model.specs.Sessions.{new_session, session_after}
@@ -75,7 +76,7 @@ state_after s st e =
       holds = holds_after st.holds e.kind;
       ends = λ a. end_after a (st.ends a) e;
       sessions = λ a. session_after st.content e.kind (st.sessions a) (sent_at a e.sent) (taken_at a e.taken);
-      works = works_after (record { present = st.present; bar = st.bar; ends = st.ends }) s.number st.works e e.kind;
+      works = works_after (around s st) s.number st.works e e.kind;
       owed = owed_after s.repos st.lines (st.wall e.time) st.works s.number st.owed e e.kind;
       lines = lines;
       logs = settings lines;

@@ -235,11 +235,16 @@ pub record RowsAndEnds : Type 0 where
   pub bar : List ℕ → Option ℕ
   pub ends : EndName → End
 
+-- why a drop has no share of its own, by the bar there: it stands, or else the content is absent. Where the logs leave the drop's own
+-- repository unasked, nothing reads this
+abbrev pub unshared_cause : Option ℕ → Cause
+unshared_cause None = causes.Absent
+unshared_cause (Some job) = causes.Barred
+
 -- its first step, without a frame: a get found the content, or no peer to ask; a drop has no share of its own
 abbrev pub first_look : ℕ → Work → Part → Bool → Option ℕ → Work
 first_look r w Gets true barred = after_transfer w (Got None None)
-first_look r w Drops false barred = hears w r (Lacks causes.Absent)
-first_look r w Drops true (Some i) = hears w r (Lacks causes.Barred)
+first_look r w Drops here barred = hears w r (Lacks (unshared_cause barred))
 first_look r w part here barred = to_phase w Next
 
 -- it took and sent nothing: its first step, or the version of a target that is open already is too old

@@ -10,13 +10,14 @@ pub mod Sessions
 pub mod Jobs
 pub mod OwedLines
 pub mod State
-pub mod After
 pub mod Look
 pub mod Calls
 pub mod OwedStep
 pub mod SessionStep
 pub mod Knows
 pub mod JobStep
+pub mod Around
+pub mod After
 pub mod DropStep
 pub mod Requests
 pub mod TransferStep

@@ -1,9 +1,8 @@
 -- What a job does is the step of the parts.
-use Rattle.std.proofs.Common.{◌≡◌, ◌⊎◌, inl, inr, ℕ, ◌<◌, ◌+◌, ◌*◌, Bool, true, false, List, [], ◌∷◌, Option, Some, None, is_some, length, refl, sym, ap, subst, ◌∙◌, arith}
+use Rattle.std.proofs.Common.{◌≡◌, ◌⊎◌, inl, inr, ℕ, ◌<◌, ◌+◌, ◌*◌, Bool, true, false, List, [], Option, Some, None, is_some, length, refl, sym, ap, subst, ◌∙◌}
 use Rattle.std.specs.Prelude.{All, bytes_eq, find, fold, not, ◌&&◌, ◌||◌, ◌==◌, if◌then◌else◌, option_and_then}
 use Rattle.std.specs.Option.{ForSome, option_map, option_map_or, option_or, option_to_list}
 use Rattle.std.proofs.lemmas.Bool.{cases_Bool, true≢false}
-use Rattle.std.proofs.lemmas.List.Elements.{All-weaker}
 use Rattle.std.proofs.lemmas.Option.{same_Some}
 use Rattle.std.proofs.Math.Bool.{and-false, and-true}
 use Rattle.annex_base.specs.Lists.{Each}
@@ -13,18 +12,18 @@ use Rattle.annex_base.specs.declared.kinds.EntryStamp.{EntryStamp}
 use Rattle.annex_base.proofs.Lists.{Each-member}
 use Rattle.annex_base.proofs.Options.{map_some, some_none}
 use Rattle.run_data.specs.declared.entry.By.{By}
+use Rattle.run_data.specs.declared.entry.By.TheVariants.{Job as by_job}
 use Rattle.run_data.specs.declared.entry.Entry.{Entry}
 use Rattle.run_data.specs.declared.entry.EntryKind.{EntryKind}
 use Rattle.run_data.specs.declared.entry.EntryKind.TheVariants as kinds
 use Rattle.run_data.specs.declared.entry.FrameView.{FrameView}
 use Rattle.run_data.specs.declared.row.Hold.{Hold}
 use Rattle.object_store.specs.Stores.{Contents, Parts as StoredParts, contents_after_commit, with_at}
-use Rattle.object_store.specs.declared.keeper.HoldRecord.{HoldRecord}
-use Rattle.p2p_wire.specs.declared.message.Message.TheVariants.{Failure}
 use Rattle.trust_groups.specs.Settings.{Lines, settings}
 use Rattle.content_lock.specs.Rows.{Rows, bar_at, is_filling}
-use Rattle.content_lock.specs.Stored.{Agrees, without_content}
-use Rattle.content_lock.specs.Tokens.{Owns}
+use Rattle.content_lock.specs.Stored.{without_content}
+use Rattle.content_lock.specs.Owners.{IsOwners}
+use Rattle.content_lock.specs.Tokens.{Owns, ShareView}
 use Rattle.link_ring.specs.Ends.{EndView}
 use Rattle.node_model.specs.After.{read_after, state_after}
 use Rattle.node_model.specs.Clocks.{ClockSet}
@@ -33,7 +32,7 @@ use Rattle.node_model.specs.Evidence as drops
 use Rattle.node_model.specs.Evidence.{standing_by}
 use Rattle.node_model.specs.Look.{Look, Effect, as_told, entry_of, failed_in}
 use Rattle.node_model.specs.OwedLines.{told_frame}
-use Rattle.node_model.specs.Rows.{bar_after, holds_after}
+use Rattle.node_model.specs.Rows.{bar_after, holds_after, same_owner}
 use Rattle.node_model.specs.Sessions.{new_session, session_after}
 use Rattle.node_model.specs.SessionStep.{session_step}
 use Rattle.node_model.specs.SetUp.{SetUp}
@@ -50,15 +49,11 @@ use Rattle.p2p_server.specs.Talking.{session_of, share_of}
 use Rattle.node_sessions.specs.Sessions.{AreFilled, AreSessions, HaveEnds, OwnAll, AreAllFed as SessionsFed, fills_in, owner_of}
 use Rattle.node_sessions.specs.Serving.{SeesPartAt}
 use Rattle.node_sessions.specs.Stored.{parts_after_taken}
-use Rattle.drop_phases.specs.declared.phase.Heard.{Heard}
-use Rattle.drop_phases.specs.declared.phase.Heard.TheVariants as heards
-use Rattle.drop_phases.specs.declared.phase.Phase.TheVariants as phases
-use Rattle.drop_phases.specs.declared.turn.Taken.TheVariants as takens
 use Rattle.drop_phases.specs.Begun.{IsLast}
-use Rattle.drop_phases.specs.Doing.{Grows}
-use Rattle.drop_phases.specs.Working.{end_in, taken_of}
+use Rattle.drop_phases.specs.Sides.{IsNumbered}
+use Rattle.drop_phases.specs.Working.{end_in}
 use Rattle.running_jobs.specs.Places.{IsPlace, PlaceView}
-use Rattle.running_jobs.specs.Waiting.{taken_by, word_at}
+use Rattle.running_jobs.specs.Waiting.{taken_by}
 use Rattle.job_frames.specs.Sending.{IsOwnEntry, SendsWell, TakesNoOpening}
 use Rattle.transfer_turns.specs.Steps.{Seen}
 use Rattle.running_jobs.specs.States.{HaveState}
@@ -69,28 +64,29 @@ use Rattle.running_jobs.specs.Telling.{takes_in}
 use Rattle.owed_lines.specs.declared.line.ToldLine.{ToldLine}
 use Rattle.owed_lines.specs.Lines.{line_of}
 use Rattle.running_jobs.specs.declared.acted.Acted.{Acted}
-use Rattle.running_jobs.specs.Acting.{HasPart as HasPartActed, IsKindOf, SeesActed, SeesActedOf, SeesJobs, StepsJobs, SeesPartAt as JobSeesPartAt, failed_by as failed_by_acted, made_by}
+use Rattle.running_jobs.specs.Acting.{HasLockRoom, HasPart as HasPartActed, IsKindOf, SeesActed, SeesActedOf, SeesJobs, StepsJobs, SeesPartAt as JobSeesPartAt, failed_by as failed_by_acted, made_by, output_of}
 use Rattle.running_jobs.specs.Leaving.{ActsOf, Leaves as LeavesJobs}
 use Rattle.running_jobs.specs.Running.{AreWorks, Follows, IsOwn, Jobs, OwnAll as JobsOwn, fills_at, job_at, words_at}
 use Rattle.node_parts.specs.declared.done.Done.{Done}
-use Rattle.node_parts.specs.Jobs.{JobsGoOn, heard_at, heard_of, phase_at, phase_of}
+use Rattle.node_parts.specs.Jobs.{HearsSo, JobsGoOn}
 use Rattle.node_parts.specs.Kinds.{IsQuiet}
 use Rattle.node_parts.specs.declared.moment.Moment.{Moment}
-use Rattle.node_parts.specs.Parts.{AreAllFed, AreParts, HasContents, PartsView}
+use Rattle.node_parts.specs.Parts.{AreAllFed, AreParts, HasContents, HasLockRooms, PartsView}
 use Rattle.node_parts.specs.Posting.{PostsPieces, stamp_of}
 use Rattle.node_parts.specs.Sending.{PostsOnly, pieces_in}
 use Rattle.node_parts.specs.Sound.{AreSound}
 use Rattle.node_parts.specs.Steps.{Acts, HasPart, IsPartAsked, LeavesSo, OwesTold, SeesParts, Steps, WhereActed, job_acting, made_of, session_asked, words_heard}
 use Rattle.node_parts.specs.Stored.{bytes_taken, contents_then, parts_after_work, parts_by_job, parts_then}
 use Rattle.node_parts.proofs.Among.{found_among}
-use Rattle.node_parts.proofs.Asked.{clients_ask_none, waits_there}
+use Rattle.node_parts.proofs.Asked.{clients_ask_none}
 use Rattle.node_parts.proofs.Filling.{FedStays, fills_of_sessions, for_jobs, for_sessions, of_no_job, session_among, sessions_fed}
 use Rattle.node_parts.proofs.Gains.{FitsGain, IsSizeOf, NamesJob, OwnsEntry, of_task, own_entry, own_step}
 use Rattle.node_parts.proofs.Going.{EndsGo, SessionsStay}
 use Rattle.node_parts.proofs.Gotten.{parts_told}
-use Rattle.node_parts.proofs.Hearing.{task_grows, task_word}
+use Rattle.node_parts.proofs.Hearing.{task_hears}
 use Rattle.node_parts.proofs.Pieces.{job_pieces, own_pieces}
 use Rattle.node_parts.proofs.Posts.{posts_at}
+use Rattle.node_parts.proofs.Rooms.{RoomAfter, lock_rooms, rooms_acted}
 use Rattle.node_parts.proofs.Served.{FillsLaw, table_fills}
 use Rattle.node_parts.proofs.Sounding.{there_still}
 
@@ -100,8 +96,12 @@ abbrev pub NamelessAsked : Type 0
 NamelessAsked = (lines : Lines) (key : List ℕ) → standing_by (settings lines) key [] ≡ drops.Asked
 
 abbrev pub RoomThere : Type 0
-RoomThere = (s : SetUp) (st : State) (k : Look) (jobs : Jobs) (m : Effect) → AreWorks s st jobs → Each (IsTask jobs.place) jobs.running → job_step s st k ≡ Some m
+RoomThere = (s : SetUp) (st : State) (k : Look) (jobs : Jobs) (m : Effect) → AreWorks s st jobs → Each (IsTask jobs.place) jobs.running → Each (HasLockRoom s st k) jobs.running → job_step s st k ≡ Some m
     → SendsWell (λ a. end_took (st.ends a) (taken_at a m.taken)) k.room m.sent
+
+-- each other owner's share stays its own
+abbrev pub SharesStay : Type 0
+SharesStay = (owner by : By) (share : Option ShareView) (n : ℕ) (kind : EntryKind) (holds : List Hold) → IsOwners owner n kind → same_owner by owner ≡ false → All (λ h. h.number < n) holds → Owns by share holds → Owns by share (holds_after holds kind)
 
 -- the laws that a job's step rests on
 pub record Laws : Type 0 where
@@ -230,6 +230,7 @@ pub record IsActed (was now : List EndView) (a : Acted) (d : Done) : Type 0 wher
   pub taken : d.taken ≡ taken_by was a.slot a.takes
   pub sent : TakesNoOpening d.taken → SendsWell (λ b. end_took (end_at was b) (taken_at b d.taken)) (room_at was) (frames_in was a.slot a.sent) → d.sent ≡ frames_in was a.slot a.sent
   pub after : AreAfter was now d.taken d.sent
+  pub room : RoomAfter was now d.taken d.sent
   pub owes : d.owes ≡ a.owes
 
 -- what the step of the jobs ensures, over a store with these contents
@@ -292,9 +293,9 @@ module _ (laws : Laws) (was now : PartsView) (clock : ClockSet) (view : Settings
   where_jobs P o seen there = there (sees_jobs k.room sees.ends.room) keeps seen
 
   module _ (a : Acted) (d : Done) (step : StepsThere was now.jobs clock view time number known c (Some a)) (acted : IsActed was.links now.links a d) (kind : IsOfJob a.job a.kind)
-      (k0 k1 : Seen) (tells : k0.contents ≡ Some c) (tells_parts : k0.parts ≡ known) (leaves : LeavesJobs was.links was.jobs now.jobs was.table now.table k0 k1 a) (still : now.sessions ≡ was.sessions)
+      (k0 k1 : Seen) (tells : k0.contents ≡ Some c) (tells_parts : k0.parts ≡ known) (leaves : LeavesJobs was.links was.jobs now.jobs was.table now.table k0 k1 a) (still : now.sessions ≡ was.sessions) (owns_now : JobsOwn now.jobs now.table)
       (fails : k.fails ≡ failed_in d.kind) (asks : IsPartAsked known was d.kind d.taken k.part k.right) (words : k.words ≡ words_heard was (Some d)) where
-    acts : ActsOf was.links was.jobs was.table now.table k0 k1 a
+    abbrev acts : ActsOf was.links was.jobs was.table now.table k0 k1 a
     acts = leaves.acts
 
     seen : SeesActed known was.links was.jobs k (Some a)
@@ -317,7 +318,8 @@ module _ (laws : Laws) (was now : PartsView) (clock : ClockSet) (view : Settings
         let roomy : Look = record k { room = room_at was.links } in
         let real = map_some (job_step s st roomy) as_told (made_by was.links a) (step s st roomy (sees_jobs (room_at was.links) (λ b is. refl)) keeps seen_there).made in
         subst (λ (m : Effect). SendsWell (λ b. end_took (st.ends b) (taken_at b m.taken)) (room_at was.links) m.sent) real.2
-        (laws.room s st roomy was.jobs real.0 sees.parts.works sound.acting.tasks real.1)
+        (laws.room s st roomy was.jobs real.0 sees.parts.works sound.acting.tasks
+        (lock_rooms s st k was.jobs.place was.links was.jobs.running sees.parts.place sees.parts.each sound.acting.tasks sees.parts.rooms) real.1)
 
     well : SendsWell (λ b. end_took (end_at was.links b) (taken_at b d.taken)) (room_at was.links) (frames_in was.links a.slot a.sent)
     well =
@@ -365,6 +367,11 @@ module _ (laws : Laws) (was now : PartsView) (clock : ClockSet) (view : Settings
         let end : (state_after s st e).ends b ≡ st.ends b = (λ i. fold (λ (x : End) (f : FrameView). end_sends x f.body) (end_took (st.ends b) (moves.0 i)) (moves.1 i)) in
         session ∙ sees.parts.closed b server (ap (λ (x : End). x.opened) (sym end) ∙ shut)
 
+    rooms : Each (HasLockRooms now.links was.jobs.place.number) now.jobs.running
+    rooms = rooms_acted was.jobs.place was.links now.links was.jobs.running now.jobs.running a.job acts.job acts.next acts.told (output_of a) d.taken d.sent acted.after acted.room
+        (subst TakesNoOpening (sym acted.taken) own.opening) (sent ∙ ap (λ (n : ℕ). frames_in was.links n a.sent) acts.slot) sound.acting.apart owns_now.apart acts.found leaves.jobs.onward leaves.jobs.off leaves.jobs.apart
+        acts.hears acts.leaves.heard acts.leaves.locks acts.leaves.slot acts.leaves.what sees.parts.rooms
+
     parts : AreParts s (state_after s st e) now
     parts = record {
       place = subst (λ (p : PlaceView). IsPlace p s) (sym leaves.place) sees.parts.place;
@@ -375,6 +382,7 @@ module _ (laws : Laws) (was now : PartsView) (clock : ClockSet) (view : Settings
       sessions = subst (AreSessions s (state_after s st e).sessions) (sym still) (laws.stay s st e was.sessions sees.parts.sessions clients);
       closed = closed;
       works = works;
+      rooms = subst (λ (p : PlaceView). Each (HasLockRooms now.links p.number) now.jobs.running) (sym leaves.place) rooms;
       logs = refl;
     }
 
@@ -421,9 +429,9 @@ acts_none laws was now clock view time number known told contents sound step sta
 
 pub acts_some : Laws → (was now : PartsView) (clock : ClockSet) (view : Settings) (time number : ℕ) (k0 k1 : Seen) → AreSound was
     → (a : Acted) (d : Done) → ForSome k0.contents (λ c. StepsThere was now.jobs clock view time number k0.parts c (Some a)) → IsActed was.links now.links a d → IsOfJob a.job a.kind → LeavesJobs was.links was.jobs now.jobs was.table now.table k0 k1 a
-    → now.sessions ≡ was.sessions → ForSome k0.contents (λ c. Acts was now c k0.parts k1.contents clock view time number (Some d))
-acts_some laws was now clock view time number k0 k1 sound a d step acted kind leaves still = λ c is s st k logs sees fails asks words.
-    steps_some laws was now clock view time number c k0.parts sound s st k logs sees a d (step c is) acted kind k0 k1 is refl leaves still (fails d refl) (asks d refl) (words d refl)
+    → now.sessions ≡ was.sessions → JobsOwn now.jobs now.table → ForSome k0.contents (λ c. Acts was now c k0.parts k1.contents clock view time number (Some d))
+acts_some laws was now clock view time number k0 k1 sound a d step acted kind leaves still owns_now = λ c is s st k logs sees fails asks words.
+    steps_some laws was now clock view time number c k0.parts sound s st k logs sees a d (step c is) acted kind k0 k1 is refl leaves still owns_now (fails d refl) (asks d refl) (words d refl)
 
 -- ---- the calls of it
 
@@ -502,11 +510,11 @@ parts_acted was now k0 k1 a d sound acted kind leaves =
 -- ---- what is left
 
 pub leaves_acted : (number : ℕ) (was now : PartsView) (k0 k1 : Seen) (a : Acted) (d : Done) → IsActed was.links now.links a d → LeavesJobs was.links was.jobs now.jobs was.table now.table k0 k1 a
-    → All (λ h. h.number < number) was.table.holds → LeavesSo number was now (Some d)
-leaves_acted number was now k0 k1 a d acted leaves fresh = record {
+    → All (λ h. h.number < number + 1) now.table.holds → LeavesSo number was now (Some d)
+leaves_acted number was now k0 k1 a d acted leaves numbers = record {
   holds = leaves.table.after ∙ ap (holds_after was.table.holds) (sym acted.kind);
   bars = λ key. leaves.table.bars key ∙ ap (bar_after key (bar_at was.table key)) (sym acted.kind);
-  numbers = subst (All (λ (h : Hold). h.number < number + 1)) (sym leaves.table.holds) (All-weaker (λ (h : Hold). h.number < number) (λ (h : Hold). h.number < number + 1) (λ h low. omega (arith, low)) was.table.holds fresh);
+  numbers = numbers;
   ends = acted.after;
 }
 
@@ -515,7 +523,7 @@ quiet_acted was now a d acted is = subst IsQuiet (sym acted.kind) (kind_quiet a.
 
 -- ---- what the jobs have heard
 
-module _ (was now : PartsView) (k0 k1 : Seen) (a : Acted) (d : Done) (acted : IsActed was.links now.links a d) (kind : IsOfJob a.job a.kind)
+module _ (was now : PartsView) (k0 k1 : Seen) (a : Acted) (d : Done) (sound : AreSound was) (acted : IsActed was.links now.links a d) (kind : IsOfJob a.job a.kind)
     (leaves : LeavesJobs was.links was.jobs now.jobs was.table now.table k0 k1 a) where
   goes_on : is_some (job_at now.jobs.running a.job) ≡ true → job_at now.jobs.running a.job ≡ Some leaves.acts.next
   goes_on runs = elim (cases_Bool a.ended) [
@@ -523,32 +531,24 @@ module _ (was now : PartsView) (k0 k1 : Seen) (a : Acted) (d : Done) (acted : Is
     | inr on ↦ leaves.jobs.onward on
   ]
 
-  heard_was : heard_at was.jobs.running a.job ≡ heard_of leaves.acts.job
-  heard_was = ap (λ (o : Option Task). option_map_or heard_of o []) leaves.acts.found
-
-  heard_now : is_some (job_at now.jobs.running a.job) ≡ true → heard_at now.jobs.running a.job ≡ heard_of leaves.acts.next
-  heard_now runs = ap (λ (o : Option Task). option_map_or heard_of o []) (goes_on runs)
-
   takes : d.taken ≡ taken_by was.links (slot_of leaves.acts.job) (takes_in leaves.acts.told)
   takes = acted.taken ∙ (λ i. taken_by was.links (leaves.acts.slot i) (leaves.acts.takes i))
 
-  word_heard : is_some (job_at now.jobs.running a.job) ≡ true → (f : FrameView) → d.taken ≡ Some f → phase_at was.jobs.running a.job ≡ Some (phases.AsksLook f.peer) → taken_of f.body ≡ takens.Message Failure
-      → heard_at now.jobs.running a.job ≡ (f.peer, heards.Unseen (word_at was.links (end_in f.slot f.peer))) ∷ heard_at was.jobs.running a.job
-  word_heard runs f taken asks refused =
-      let at = sym takes ∙ taken in
-      let took = took_there was.links (slot_of leaves.acts.job) (takes_in leaves.acts.told) f at in
-      let waits = waits_there was.links (end_in (slot_of leaves.acts.job) took.0) f took.2 in
-      heard_now runs
-      ∙ (task_word was.links leaves.acts.job leaves.acts.next leaves.acts.told f leaves.acts.hears leaves.acts.leaves.heard at (sym (ap (option_and_then phase_of) leaves.acts.found) ∙ asks) refused
-      ∙ (λ i. (f.peer, heards.Unseen (word_at was.links (end_in (sym waits.1 i) f.peer))) ∷ sym heard_was i))
+  stands : IsTask was.jobs.place leaves.acts.job
+  stands = Each-member (IsTask was.jobs.place) was.jobs.running leaves.acts.job sound.acting.tasks (found_among was.jobs.running a.job leaves.acts.job leaves.acts.found)
+
+  hears : ForSome (job_at now.jobs.running a.job) (λ t'. ForSome (job_at was.jobs.running a.job) (λ t. HearsSo was.links d t t'))
+  hears t' now_is t was_is =
+      let one : leaves.acts.job ≡ t = same_Some leaves.acts.job t (sym leaves.acts.found ∙ was_is) in
+      let other : leaves.acts.next ≡ t' = same_Some leaves.acts.next t' (sym (goes_on (ap is_some now_is)) ∙ now_is) in
+      subst (λ (x : Task). HearsSo was.links d x t') one (subst (HearsSo was.links d leaves.acts.job) other
+      (task_hears was.jobs.place was.links d leaves.acts.job leaves.acts.next leaves.acts.told stands leaves.acts.hears leaves.acts.leaves.heard takes leaves.acts.leaves.what))
 
   pub jobs_go_on : JobsGoOn was now d
   jobs_go_on = record {
     job = a.job;
     made = ap job_of acted.kind ∙ kind_job a.job a.kind kind;
-    grows = λ runs. subst (Grows (heard_at was.jobs.running a.job)) (sym (heard_now runs))
-        (subst (λ (l : List (ℕ × Heard)). Grows l (heard_of leaves.acts.next)) (sym heard_was) (task_grows leaves.acts.job leaves.acts.next leaves.acts.told leaves.acts.leaves.heard));
-    word = word_heard;
+    hears = hears;
     apart = leaves.jobs.apart;
     given = leaves.jobs.given;
   }
@@ -580,20 +580,40 @@ among_acted was now k0 k1 a d same leaves = subst (λ (o : Option ToldLine). For
 
 -- ---- what is had of the table
 
--- what each session has stays its own, where the holds stay and the table fills their keys
-serving_stay : (was now : Rows) (xs : List Session) → now.holds ≡ was.holds → ((key : List ℕ) → fills_in xs key ≡ true → is_filling now key ≡ true) → OwnAll was xs → OwnAll now xs
-serving_stay was now xs holds fills own = record {
-  shares = λ i x at. subst (Owns (owner_of x) (share_of x)) (sym holds) (own.shares i x at);
+-- an entry of the job's is one of this owner's
+onward_owners : (job n : ℕ) (kind : EntryKind) → IsOnward job kind → IsNumbered n kind → IsOwners (by_job job) n kind
+onward_owners job n (kinds.Share hold end owner key) h numbered = (h, numbered)
+onward_owners job n (kinds.Fault call source) h numbered = h
+onward_owners job n (kinds.Gain source size key) h numbered = tt
+onward_owners job n (kinds.Bar j need key) h numbered = tt
+onward_owners job n (kinds.Order j target deadline need key) h numbered = tt
+onward_owners job n (kinds.Gone source key) h numbered = tt
+onward_owners job n (kinds.Talk j) h numbered = tt
+onward_owners job n kind h numbered = absurd h
+
+last_owners : (job n : ℕ) (kind : EntryKind) → IsLast job kind → IsOwners (by_job job) n kind
+last_owners job n (kinds.End j outcome) h = ap by_job h
+last_owners job n kind h = absurd h
+
+owners_of : (job n : ℕ) (kind : EntryKind) → IsOfJob job kind → IsNumbered n kind → IsOwners (by_job job) n kind
+owners_of job n kind (inl h) numbered = onward_owners job n kind h numbered
+owners_of job n kind (inr h) numbered = last_owners job n kind h
+
+-- what each session has stays its own, by an entry of a job's, where the table fills their keys
+serving_stay : SharesStay → (job n : ℕ) (kind : EntryKind) (was now : Rows) (xs : List Session) → IsOfJob job kind → IsNumbered n kind → All (λ h. h.number < n) was.holds → now.holds ≡ holds_after was.holds kind
+    → ((key : List ℕ) → fills_in xs key ≡ true → is_filling now key ≡ true) → OwnAll was xs → OwnAll now xs
+serving_stay law job n kind was now xs is numbered fresh holds fills own = record {
+  shares = λ i x at. subst (Owns (owner_of x) (share_of x)) (sym holds) (law (by_job job) (owner_of x) (share_of x) n kind was.holds (owners_of job n kind is numbered) refl fresh (own.shares i x at));
   fills = λ i x at key is. fills key (session_among key xs i x at is);
   apart = own.apart;
 }
 
-pub sound_acted : (was now : PartsView) (k0 k1 : Seen) (a : Acted) → AreSound was → length now.links ≡ length was.links → StayPaired was.links now.links → now.sessions ≡ was.sessions → LeavesJobs was.links was.jobs now.jobs was.table now.table k0 k1 a
-    → JobsOwn now.jobs now.table → AreSound now
-sound_acted was now k0 k1 a sound count paired still leaves own = record {
+pub sound_acted : SharesStay → (n : ℕ) (was now : PartsView) (k0 k1 : Seen) (a : Acted) → AreSound was → length now.links ≡ length was.links → StayPaired was.links now.links → now.sessions ≡ was.sessions → LeavesJobs was.links was.jobs now.jobs was.table now.table k0 k1 a
+    → IsNumbered n a.kind → All (λ h. h.number < n) was.table.holds → JobsOwn now.jobs now.table → AreSound now
+sound_acted law n was now k0 k1 a sound count paired still leaves numbered fresh own = record {
   count = count ∙ (sound.count ∙ ap (λ (p : PlaceView). length p.ids * 8) (sym leaves.place));
   there = subst (HaveEnds now.links) (sym still) (there_still was.links now.links was.sessions paired sound.there);
-  serving = subst (OwnAll now.table) (sym still) (serving_stay was.table now.table was.sessions leaves.table.holds (fills_of_sessions now.table was.sessions now.jobs.running filled) sound.serving);
+  serving = subst (OwnAll now.table) (sym still) (serving_stay law a.job n a.kind was.table now.table was.sessions (kind_of a leaves.kind) numbered fresh leaves.table.after (fills_of_sessions now.table was.sessions now.jobs.running filled) sound.serving);
   acting = own;
   filled = subst (λ (xs : List Session). AreFilled now.table xs (fills_at now.jobs.running)) (sym still) filled;
 }
@@ -676,7 +696,3 @@ none_fails (Some f) = refl
 pub fed_idle : (was now : PartsView) (known known' : Option StoredParts) → now ≡ was → known' ≡ known → ForSome known (λ q. AreAllFed q was → ForSome known' (λ q'. AreAllFed q' now))
 fed_idle was now known known' same parts = λ q told fed q' told'.
     let one : q ≡ q' = same_Some q q' (sym told ∙ (sym parts ∙ told')) in subst (λ (p : PartsView). AreAllFed q' p) (sym same) (subst (λ (x : StoredParts). AreAllFed x was) one fed)
-
--- the records of the holds are those of the table still
-pub agrees_still : (known known' : Option (List HoldRecord)) (holds holds' : List Hold) → known' ≡ known → holds' ≡ holds → Agrees known holds → Agrees known' holds'
-agrees_still known known' holds holds' same still agrees = subst (Agrees known') (sym still) (subst (λ (x : Option (List HoldRecord)). Agrees x holds) (sym same) agrees)

@@ -43,7 +43,7 @@ waits_there links b f waits = go (hand_at links b) refl waits
         let same : f ≡ frame_at b hand.0 = sym (same_Some g f (where_some (may_take (end_at links b) g) (Some g) f is).1) ∙ sym hand.2 in
         (ap (λ (x : FrameView). x.peer) same, ap (λ (x : FrameView). x.slot) same, ap (λ (x : FrameView). x.up) same)
 
-took_waits : (takes : Bool) (o : Option FrameView) (f : FrameView) → (if takes then o else None) ≡ Some f → o ≡ Some f
+pub took_waits : (takes : Bool) (o : Option FrameView) (f : FrameView) → (if takes then o else None) ≡ Some f → o ≡ Some f
 took_waits true o f is = is
 took_waits false o f is = absurd cc
 

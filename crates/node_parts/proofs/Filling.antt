@@ -14,9 +14,10 @@ use Rattle.node_sessions.specs.Sessions.{AreFilled, AreAllFed as SessionsFed, fi
 use Rattle.get_phases.specs.Gets.{fill_in, IsFed as IsFedGet}
 use Rattle.get_phases.specs.declared.getting.Phase.{Phase as GetPhase}
 use Rattle.get_phases.specs.declared.getting.Phase.TheVariants as phases
+use Rattle.node_tasks.specs.TransferJob.{TransferJob}
 use Rattle.running_jobs.specs.Worker.{Worker}
 use Rattle.running_jobs.specs.Worker.TheVariants as workers
-use Rattle.running_jobs.specs.Workers.{HasFill, work_of}
+use Rattle.running_jobs.specs.Workers.{HasFill, IsFed, work_of}
 use Rattle.transfer_turns.specs.Steps.{fills_key}
 use Rattle.running_jobs.specs.Task.{Task}
 use Rattle.running_jobs.specs.Task.TheVariants as tasks
@@ -96,9 +97,13 @@ keeps_right was now own None fills has = tt
 keeps_right was now own (Some key) fills has = (has.0, fills key (ap (bytes_eq own) has.0 ∙ bytes_eq-refl own))
 
 -- while the table fills its key
-pub keeps_fill : (was now : Rows) (w : Worker) → ((key : List ℕ) → fills_key (work_of w) key ≡ true → is_filling now key ≡ true) → HasFill was w → HasFill now w
-keeps_fill was now (workers.Gets g) fills has = keeps_right was now g.job.key (fill_in g.phase) fills has
-keeps_fill was now (workers.Puts p) fills has = tt
+worker_keeps : (was now : Rows) (v : Worker) (paths : List (List ℕ)) → ((key : List ℕ) → fills_key (work_of (record { worker = v; paths = paths })) key ≡ true → is_filling now key ≡ true)
+    → HasFill was (record { worker = v; paths = paths }) → HasFill now (record { worker = v; paths = paths })
+worker_keeps was now (workers.Gets g) paths fills has = keeps_right was now g.job.key (fill_in g.phase) fills has
+worker_keeps was now (workers.Puts p) paths fills has = tt
+
+pub keeps_fill : (was now : Rows) (w : TransferJob) → ((key : List ℕ) → fills_key (work_of w) key ≡ true → is_filling now key ≡ true) → HasFill was w → HasFill now w
+keeps_fill was now w fills has = worker_keeps was now w.worker w.paths fills has
 
 -- ---- what a get has taken
 
@@ -112,10 +117,14 @@ phase_fed p p' rows own (phases.Bytes peer start taking) has same fed = subst (I
 phase_fed p p' rows own (phases.Word peer start taken) has same fed = subst (IsTakenOf taken) (sym (same taken.fill (is_own own taken.fill has.0))) fed
 phase_fed p p' rows own ph has same fed = tt
 
+worker_fed : (p p' : Parts) (rows : Rows) (v : Worker) (paths : List (List ℕ)) → HasFill rows (record { worker = v; paths = paths })
+    → ((key : List ℕ) → fills_key (work_of (record { worker = v; paths = paths })) key ≡ true → p' key ≡ p key) → IsFed p (record { worker = v; paths = paths }) → IsFed p' (record { worker = v; paths = paths })
+worker_fed p p' rows (workers.Gets g) paths has same fed = phase_fed p p' rows g.job.key g.phase has same fed
+worker_fed p p' rows (workers.Puts w) paths has same fed = tt
+
 task_fed : (p p' : Parts) (rows : Rows) (t : Task) → OwnsOf rows t → ((key : List ℕ) → fills_key (work_now t) key ≡ true → p' key ≡ p key) → IsFedTask p t → IsFedTask p' t
 task_fed p p' rows (tasks.Drops j) own same fed = tt
-task_fed p p' rows (tasks.Transfers (workers.Gets g)) own same fed = phase_fed p p' rows g.job.key g.phase own.1 same fed
-task_fed p p' rows (tasks.Transfers (workers.Puts w)) own same fed = tt
+task_fed p p' rows (tasks.Transfers w) own same fed = worker_fed p p' rows w.worker w.paths own.1 same fed
 
 -- where the parts of the keys that they fill stay, what gets have taken is their parts' still
 pub jobs_fed : (p p' : Parts) (rows : Rows) (jobs : Jobs) → JobsOwn jobs rows → ((key : List ℕ) → fills_at jobs.running key ≡ true → p' key ≡ p key) → JobsFed p jobs.running → JobsFed p' jobs.running

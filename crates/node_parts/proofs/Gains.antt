@@ -34,6 +34,7 @@ use Rattle.get_phases.specs.Gets.{SeesPart, TookRight, fill_in, part_of, phase_o
 use Rattle.get_phases.specs.declared.getting.Getting.{Getting}
 use Rattle.get_phases.specs.declared.getting.Phase.{Phase as GetPhase}
 use Rattle.get_phases.specs.declared.getting.Phase.TheVariants as phases
+use Rattle.running_jobs.specs.Worker.{Worker}
 use Rattle.running_jobs.specs.Worker.TheVariants as workers
 use Rattle.running_jobs.specs.Task.{Task}
 use Rattle.running_jobs.specs.Task.TheVariants as tasks
@@ -173,30 +174,39 @@ abbrev pub FitsGain : EntryKind → Option StoredParts → Type 0
 FitsGain (kinds.Gain by size key) known = IsSizeOf known key size
 FitsGain kind known = Unit {0}
 
-module _ (s : SetUp) (st : State) (k : Look) (rows : Rows) (known : Option StoredParts) (by : By) (size : ℕ) (key : List ℕ) (m : Effect) (kind : m.kind ≡ kinds.Gain by size key) where
-  of_taken : (g : Getting) (peer start : ℕ) (taken : Taken) (o : Option StoredParts) → GainsIt (turn_of s st k (work_now (tasks.Transfers (workers.Gets g)))) taken.size m.taken size key → (taken.fill ≡ g.job.key) → SeesTaken o taken k.right → IsSizeOf o key size
-  of_taken g peer start taken None gain fill sees = absurd sees
-  of_taken g peer start taken (Some p) gain fill sees = gain.size_is ∙ (sees.0.0 ∙ ap (λ (x : List ℕ). length (p x)) (fill ∙ sym gain.key_is))
+-- the job of a get
+abbrev got_by : Getting → List (List ℕ) → Task
+got_by g paths = tasks.Transfers (record { worker = workers.Gets g; paths = paths })
 
-  module _ (g : Getting) (own : OwnsOf rows (tasks.Transfers (workers.Gets g))) (step : slot_step s st k (Some (work_now (tasks.Transfers (workers.Gets g)))) ≡ Some m)
-      (sees : (f : FrameView) → m.taken ≡ Some f → JobSeesPartAt known (tasks.Transfers (workers.Gets g)) (Some f) k.part k.right) where
+module _ (s : SetUp) (st : State) (k : Look) (rows : Rows) (known : Option StoredParts) (by : By) (size : ℕ) (key : List ℕ) (m : Effect) (kind : m.kind ≡ kinds.Gain by size key) where
+  of_taken : (g : Getting) (paths : List (List ℕ)) (peer start : ℕ) (taken : Taken) (o : Option StoredParts) → GainsIt (turn_of s st k (work_now (got_by g paths))) taken.size m.taken size key → (taken.fill ≡ g.job.key) → SeesTaken o taken k.right → IsSizeOf o key size
+  of_taken g paths peer start taken None gain fill sees = absurd sees
+  of_taken g paths peer start taken (Some p) gain fill sees = gain.size_is ∙ (sees.0.0 ∙ ap (λ (x : List ℕ). length (p x)) (fill ∙ sym gain.key_is))
+
+  module _ (g : Getting) (paths : List (List ℕ)) (own : OwnsOf rows (got_by g paths)) (step : slot_step s st k (Some (work_now (got_by g paths))) ≡ Some m)
+      (sees : (f : FrameView) → m.taken ≡ Some f → JobSeesPartAt known (got_by g paths) (Some f) k.part k.right) where
     by_phase : (ph : GetPhase) → g.phase ≡ ph → TookRight ph → IsSizeOf known key size
     by_phase (phases.Word peer start taken) is right =
-        let gain : GainsIt (turn_of s st k (work_now (tasks.Transfers (workers.Gets g)))) taken.size m.taken size key =
-        subst (GainsBy (turn_of s st k (work_now (tasks.Transfers (workers.Gets g)))) taken.size m.taken) kind
-        (gained_so s st k (work_now (tasks.Transfers (workers.Gets g))) peer start taken.size m (part_is g.phase is) (ap phase_of is) step) in
+        let gain : GainsIt (turn_of s st k (work_now (got_by g paths))) taken.size m.taken size key =
+        subst (GainsBy (turn_of s st k (work_now (got_by g paths))) taken.size m.taken) kind
+        (gained_so s st k (work_now (got_by g paths)) peer start taken.size m (part_is g.phase is) (ap phase_of is) step) in
         let has = subst (λ (x : GetPhase). IfSome (fill_in x) (λ (k : List ℕ). (k ≡ g.job.key) × (is_filling rows k ≡ true))) is own.1 in
         let brings : Brings gain.f.body (incoming.Message messages.Valid) = subst (λ (b : FrameText). Brings b (incoming.Message messages.Valid)) (sym gain.body_is)
         (subst (λ (o : Option Message). heard_line o (incoming.Message messages.Valid)) (sym gain.valid) refl) in
         let seen = subst (λ (x : GetPhase). SeesPart known g.job.key x (Some (incoming.Message messages.Valid)) k.part k.right) is (sees gain.f gain.taken_is (incoming.Message messages.Valid) brings) in
-        of_taken g peer start taken known gain has.0 seen
+        of_taken g paths peer start taken known gain has.0 seen
       where
         part_is : (x : GetPhase) → x ≡ phases.Word peer start taken → part_of x ≡ Gets
         part_is x same = ap part_of same
     by_phase ph is right = absurd right
 
+  of_worker : (v : Worker) (paths : List (List ℕ)) → IsJudged (kinds.Gain by size key) (tasks.Transfers (record { worker = v; paths = paths })) → OwnsOf rows (tasks.Transfers (record { worker = v; paths = paths }))
+      → slot_step s st k (Some (work_now (tasks.Transfers (record { worker = v; paths = paths })))) ≡ Some m
+      → ((f : FrameView) → m.taken ≡ Some f → JobSeesPartAt known (tasks.Transfers (record { worker = v; paths = paths })) (Some f) k.part k.right) → IsSizeOf known key size
+  of_worker (workers.Puts p) paths judged own step sees = absurd judged
+  of_worker (workers.Gets g) paths judged own step sees = by_phase g paths own step sees g.phase refl judged
+
   -- the part of which a job's content came has the size that the entry tells
   pub of_task : (t : Task) → IsJudged (kinds.Gain by size key) t → OwnsOf rows t → slot_step s st k (Some (work_now t)) ≡ Some m → ((f : FrameView) → m.taken ≡ Some f → JobSeesPartAt known t (Some f) k.part k.right) → IsSizeOf known key size
   of_task (tasks.Drops j) judged own step sees = absurd judged
-  of_task (tasks.Transfers (workers.Puts p)) judged own step sees = absurd judged
-  of_task (tasks.Transfers (workers.Gets g)) judged own step sees = by_phase g own step sees g.phase refl judged
+  of_task (tasks.Transfers w) judged own step sees = of_worker w.worker w.paths judged own step sees

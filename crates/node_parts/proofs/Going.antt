@@ -3,6 +3,7 @@ use Rattle.std.proofs.Common.{◌≡◌, ℕ, ◌*◌, ◌+◌, Bool, true, fals
 use Rattle.std.specs.Prelude.{All, OnOk, fold, find, replicate, ◌==◌, ◌&&◌, ◌||◌}
 use Rattle.std.proofs.lemmas.List.{length-replicate}
 use Rattle.std.proofs.lemmas.List.Elements.{All-nil}
+use Rattle.annex_base.specs.Lists.{Each}
 use Rattle.annex_base.specs.Settings.{Settings}
 use Rattle.run_data.specs.declared.entry.Entry.{Entry}
 use Rattle.run_data.specs.declared.entry.EntryKind.TheVariants.{Begin}
@@ -21,14 +22,16 @@ use Rattle.node_model.specs.Rows.{bar_after, holds_after}
 use Rattle.node_model.specs.Sessions.{new_session, session_after}
 use Rattle.node_model.specs.SetUp.{SetUp}
 use Rattle.node_model.specs.State.{State}
-use Rattle.node_ends.specs.Ends.{AreEnds}
+use Rattle.node_ends.specs.Ends.{AreEnds, end_at, room_at}
 use Rattle.node_ends.specs.Going.{AreAfter}
+use Rattle.node_ends.specs.Joined.{AreCarried, AreJoined}
 use Rattle.node_sessions.specs.Sessions.{AreSessions, HaveEnds, OwnAll, fills_in}
 use Rattle.running_jobs.specs.Places.{IsPlace, PlaceView}
 use Rattle.running_jobs.specs.Beginning.{Begins}
 use Rattle.running_jobs.specs.Running.{AreWorks, Follows, Jobs, OwnAll as JobsOwn, AreAllFed as JobsFed}
-use Rattle.node_parts.specs.Parts.{AreAllFed, AreParts, PartsView}
+use Rattle.node_parts.specs.Parts.{AreAllFed, AreParts, HasLockRooms, PartsView}
 use Rattle.node_parts.specs.Sound.{AreSound}
+use Rattle.node_parts.proofs.Rooms.{rooms_begun, rooms_carried, rooms_dropped}
 
 -- ---- before the first entry
 
@@ -88,6 +91,32 @@ module _ (s : SetUp) (st : State) (e : Entry) (taken : e.taken ≡ None) (sent :
   pub ends_stay : EndsGo → (links : List EndView) → AreAfter links links None [] → AreEnds links s st → AreEnds links s (state_after s st e)
   ends_stay go links after are = go links links s st e are (subst (λ (o : Option FrameView). AreAfter links links o e.sent) (sym taken) (subst (AreAfter links links None) (sym sent) after))
 
+-- ---- frames are dropped, or carried
+
+-- the parts are those of the same state where each end stands as it did, and the drops' rooms stay
+moved_parts : (s : SetUp) (st : State) (was : PartsView) (now : List EndView) → length now ≡ length was.links → ((a : EndName) → end_at now a ≡ end_at was.links a) → (Each (HasLockRooms was.links was.jobs.place.number) was.jobs.running → Each (HasLockRooms now was.jobs.place.number) was.jobs.running)
+    → AreParts s st was → AreParts s st (record was { links = now })
+moved_parts s st was now count stands rooms are = record {
+  place = are.place;
+  holds = are.holds;
+  bars = are.bars;
+  ends = record { count = count ∙ are.ends.count; ends = λ a among. are.ends.ends a among ∙ sym (stands a) };
+  each = λ a. are.each a ∙ sym (stands a);
+  sessions = are.sessions;
+  closed = are.closed;
+  works = are.works;
+  rooms = rooms are.rooms;
+  logs = are.logs;
+}
+
+pub parts_dropped : (s : SetUp) (st : State) (was : PartsView) (now : List EndView) → length now ≡ length was.links → ((a : EndName) → end_at now a ≡ end_at was.links a) → ((a : EndName) → room_at now a ≡ room_at was.links a) → AreParts s st was
+    → AreParts s st (record was { links = now })
+parts_dropped s st was now count stands room = moved_parts s st was now count stands (rooms_dropped was.links now was.jobs.place.number was.jobs.running stands room)
+
+pub parts_carried : (s : SetUp) (st : State) (was : PartsView) (now other : List EndView) (a b : ℕ) → AreCarried a b was.links now other → AreJoined a b was.links other → ((x : EndName) → end_at now x ≡ end_at was.links x) → AreParts s st was
+    → AreParts s st (record was { links = now })
+parts_carried s st was now other a b carried joined stands = moved_parts s st was now carried.count stands (rooms_carried a b was.links now other carried joined was.jobs.place.number was.jobs.running)
+
 -- ---- a job begins
 
 module _ (s : SetUp) (st : State) (e : Entry) (n : ℕ) (what : Job) (is : e.kind ≡ Begin n what) where
@@ -103,8 +132,8 @@ module _ (s : SetUp) (st : State) (e : Entry) (n : ℕ) (what : Job) (is : e.kin
   }
 
   pub begin_parts : EndsGo → ((links : List EndView) → AreAfter links links None []) → SessionsStay → e.taken ≡ None → e.sent ≡ [] → (was : PartsView) (jobs : Jobs) → AreParts s st was → jobs.place ≡ was.jobs.place
-      → AreWorks s (state_after s st e) jobs → AreParts s (state_after s st e) (record was { jobs = jobs })
-  begin_parts go still stay taken sent was jobs are place works = record {
+      → AreWorks s (state_after s st e) jobs → Each (HasLockRooms was.links jobs.place.number) jobs.running → AreParts s (state_after s st e) (record was { jobs = jobs })
+  begin_parts go still stay taken sent was jobs are place works rooms = record {
     place = subst (λ (p : PlaceView). IsPlace p s) (sym place) are.place;
     holds = are.holds ∙ (λ i. holds_after st.holds (sym is i));
     bars = λ key. are.bars key ∙ (λ i. bar_after key (st.bar key) (sym is i));
@@ -113,6 +142,7 @@ module _ (s : SetUp) (st : State) (e : Entry) (n : ℕ) (what : Job) (is : e.kin
     sessions = stay s st e was.sessions are.sessions (λ a server. none_moves s st e taken sent a);
     closed = closed_stays s st e taken sent are.closed;
     works = works;
+    rooms = rooms;
     logs = refl;
   }
 
@@ -129,6 +159,7 @@ pub begun_parts : {T E : Type 0} (r : Result T E) → EndsGo → ((links : List 
 begun_parts (Ok x) go still stay was jobs what paths ok works sound = λ s st e are kind taken sent.
     begin_parts s st e (was.jobs.begun + 1) what kind go still stay taken sent was jobs are (ap (λ (j : Jobs). j.place) ok.jobs)
     (works was.table s st e (state_after s st e) sound.acting are.works kind (begin_follows s st e (was.jobs.begun + 1) what kind are.logs))
+    (rooms_begun was.links was.jobs jobs what paths ok are.rooms)
 begun_parts (Err e) go still stay was jobs what paths ok works sound = tt
 
 -- what the sessions and the jobs have taken is the store's still

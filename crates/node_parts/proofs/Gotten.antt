@@ -37,8 +37,10 @@ use Rattle.put_steps.specs.Puts.{phase_of as phase_of_put}
 use Rattle.put_steps.specs.declared.phase.Phase.{Phase as PutPhase}
 use Rattle.put_steps.specs.declared.phase.Phase.TheVariants as offers
 use Rattle.transfer_turns.specs.Turns.{awaited}
+use Rattle.node_tasks.specs.TransferJob.{TransferJob}
+use Rattle.running_jobs.specs.Worker.{Worker}
 use Rattle.running_jobs.specs.Worker.TheVariants as workers
-use Rattle.running_jobs.specs.Workers.{work_of}
+use Rattle.running_jobs.specs.Workers.{HasFill, work_of}
 use Rattle.running_jobs.specs.Ready.{IsTold}
 use Rattle.node_sessions.specs.Stored.{is_verdict}
 use Rattle.running_jobs.specs.Told.{Told}
@@ -123,13 +125,16 @@ puts_take_none key ph body bytes kind known = refl
 
 -- ---- by what a get is told
 
+abbrev getting_job : Getting → TransferJob
+getting_job g = record { worker = workers.Gets g; paths = [] }
+
 module _ (links : List EndView) (rows : Rows) (g : Getting) (y : Arrival) (kind : EntryKind) (known : Option Parts) (taken : Option FrameView) (is : taken ≡ taken_by links g.slot y.takes)
     (has : IfSome (fill_in g.phase) (λ (k : List ℕ). (k ≡ g.job.key) × (is_filling rows k ≡ true))) where
   abbrev Leaves : Type 0
-  Leaves = parts_after_get g.phase y.incoming kind known ≡ parts_after_work (work_of (workers.Gets g)) taken (bytes_taken links taken) kind known
+  Leaves = parts_after_get g.phase y.incoming kind known ≡ parts_after_work (work_of (getting_job g)) taken (bytes_taken links taken) kind known
 
-  by_taken : (o : Option FrameView) → taken ≡ o → parts_after_work (work_of (workers.Gets g)) o (bytes_taken links o) kind known ≡ parts_after_work (work_of (workers.Gets g)) taken (bytes_taken links taken) kind known
-  by_taken o same = sym (ap (λ (x : Option FrameView). parts_after_work (work_of (workers.Gets g)) x (bytes_taken links x) kind known) same)
+  by_taken : (o : Option FrameView) → taken ≡ o → parts_after_work (work_of (getting_job g)) o (bytes_taken links o) kind known ≡ parts_after_work (work_of (getting_job g)) taken (bytes_taken links taken) kind known
+  by_taken o same = sym (ap (λ (x : Option FrameView). parts_after_work (work_of (getting_job g)) x (bytes_taken links x) kind known) same)
 
   nothing_came : y.incoming ≡ None → y.takes ≡ None → Leaves
   nothing_came none takes = ap (λ (o : Option Incoming). parts_after_get g.phase o kind known) none ∙ (untaken g.phase kind known ∙ by_taken None (is ∙ ap (taken_by links g.slot) takes))
@@ -151,6 +156,13 @@ module _ (links : List EndView) (rows : Rows) (g : Getting) (y : Arrival) (kind 
   by_awaited None told = nothing_came told.0 told.1
   by_awaited (Some peer) told = by_takes peer y.takes refl told
 
+worker_told : (links : List EndView) (rows : Rows) (v : Worker) (paths : List (List ℕ)) (y : Arrival) (kind : EntryKind) (known : Option Parts) (taken : Option FrameView) → HasFill rows (record { worker = v; paths = paths })
+    → IsToldTo links (tasks.Transfers (record { worker = v; paths = paths })) (tolds.Arrival y) → taken ≡ taken_by links (slot_of (tasks.Transfers (record { worker = v; paths = paths }))) y.takes
+    → parts_after (tasks.Transfers (record { worker = v; paths = paths })) (tolds.Arrival y) kind known ≡ parts_after_work (work_of (record { worker = v; paths = paths })) taken (bytes_taken links taken) kind known
+worker_told links rows (workers.Puts p) paths y kind known None has told is = refl
+worker_told links rows (workers.Puts p) paths y kind known (Some g) has told is = sym (puts_take_none p.job.key p.phase g.body (bytes_taken links (Some g)) kind known)
+worker_told links rows (workers.Gets g) paths y kind known taken has told is = by_awaited links rows g y kind known taken is has (awaited (work_of (getting_job g))) told
+
 -- the parts after what a job was told are those after the frame that it took
 pub parts_told : (links : List EndView) (rows : Rows) (t : Task) (x : Told) (kind : EntryKind) (known : Option Parts) (taken : Option FrameView) → OwnsOf rows t → IsToldTo links t x → taken ≡ taken_by links (slot_of t) (takes_in x)
     → parts_after t x kind known ≡ parts_after_work (work_now t) taken (bytes_taken links taken) kind known
@@ -158,6 +170,4 @@ parts_told links rows (tasks.Drops j) (tolds.Feed f) kind known None own told is
 parts_told links rows (tasks.Drops j) (tolds.Feed f) kind known (Some g) own told is = sym (drops_take_none j.worker.job.key j.worker.phase g.body (bytes_taken links (Some g)) kind known)
 parts_told links rows (tasks.Drops j) (tolds.Arrival y) kind known taken own told is = absurd told
 parts_told links rows (tasks.Transfers w) (tolds.Feed f) kind known taken own told is = absurd told
-parts_told links rows (tasks.Transfers (workers.Puts p)) (tolds.Arrival y) kind known None own told is = refl
-parts_told links rows (tasks.Transfers (workers.Puts p)) (tolds.Arrival y) kind known (Some g) own told is = sym (puts_take_none p.job.key p.phase g.body (bytes_taken links (Some g)) kind known)
-parts_told links rows (tasks.Transfers (workers.Gets g)) (tolds.Arrival y) kind known taken own told is = by_awaited links rows g y kind known taken is own.1 (awaited (work_of (workers.Gets g))) told
+parts_told links rows (tasks.Transfers w) (tolds.Arrival y) kind known taken own told is = worker_told links rows w.worker w.paths y kind known taken own.1 told is

@@ -5,7 +5,9 @@ use Rattle.std.specs.List.{list_any}
 use Rattle.std.specs.Option.{ForSome, option_map}
 use Rattle.std.proofs.lemmas.Option.{same_Some}
 use Rattle.annex_base.proofs.Options.{map_some, some_none}
+use Rattle.annex_base.specs.Lists.{Each}
 use Rattle.annex_base.specs.declared.kinds.Call.{Call}
+use Rattle.annex_base.specs.declared.kinds.EntryStamp.{EntryStamp}
 use Rattle.run_data.specs.declared.entry.By.TheVariants.{Peer}
 use Rattle.run_data.specs.declared.entry.Entry.{Entry}
 use Rattle.run_data.specs.declared.entry.EntryKind.{EntryKind}
@@ -40,13 +42,16 @@ use Rattle.running_jobs.specs.Places.{IsPlace}
 use Rattle.running_jobs.specs.Running.{AreWorks, Jobs, OwnAll as JobsOwn, AreAllFed as JobsFed, fills_at}
 use Rattle.node_parts.specs.declared.done.Done.{Done}
 use Rattle.node_parts.specs.Kinds.{IsQuiet}
-use Rattle.node_parts.specs.Parts.{AreAllFed, AreParts, HasContents, PartsView}
+use Rattle.node_parts.specs.Parts.{AreAllFed, AreParts, HasContents, HasLockRooms, PartsView}
+use Rattle.node_parts.specs.Posting.{Posts}
+use Rattle.node_parts.specs.Sending.{PostsOnly, answers_at}
 use Rattle.node_parts.specs.Sound.{AreSound}
 use Rattle.node_parts.specs.Steps.{EndsAfter, Fails, LeavesSo, SeesParts, Serves, Steps, WhereServed, failed_by, made_of}
 use Rattle.node_parts.proofs.Among.{any_works}
 use Rattle.node_parts.proofs.Asked.{IsOfNoJob, asks_of, kind_same}
 use Rattle.node_parts.proofs.Filling.{jobs_fed, of_no_session}
 use Rattle.node_parts.proofs.Going.{EndsGo}
+use Rattle.node_parts.proofs.Rooms.{rooms_served}
 
 -- ---- what laws say
 
@@ -107,7 +112,7 @@ no_crash kind h clock e = subst IsOfSession e h
 
 module _ (was now : PartsView) (v : Served) (d : Done) (contents : Option Contents) (s : SetUp) (st : State) (k : Look)
     (sound : AreSound was) (are : AreParts s st was) (jobs : now.jobs ≡ was.jobs) (serves : ServesAt was.links v) (same : made_of d ≡ made_by was.links v)
-    (after : AreAfterStep v.kind was.table now.table) (ends : AreAfter was.links now.links d.taken d.sent) (steps : StepsSo was.links (Some v) now.sessions now.table contents s st k) where
+    (after : AreAfterStep v.kind was.table now.table) (ends : AreAfter was.links now.links d.taken d.sent) (sender : EntryStamp) (posts : Posts sender d.kind was.links now.links d.taken d.sent) (steps : StepsSo was.links (Some v) now.sessions now.table contents s st k) where
   kind_is : d.kind ≡ v.kind
   kind_is = ap (λ (m : Effect). m.kind) same
 
@@ -130,6 +135,8 @@ module _ (was now : PartsView) (v : Served) (d : Done) (contents : Option Conten
         closed = λ a server shut. subst (λ (m : Effect). (ends_after st (Some m) a).opened ≡ false → sessions_after st (Some m) a ≡ new_session) (sym same) (shuts was.links v st serves (are.each (end_by v)) are.closed a server) shut;
         works = subst (AreWorks s (state_after s st (entry_of s.number k (made_of d)))) (sym jobs)
             (stay s st (entry_of s.number k (made_of d)) was.jobs was.table are.works sound.acting (no_job d.kind is_own) (λ clock e. no_crash d.kind is_own clock e));
+        rooms = subst (λ (j : Jobs). Each (HasLockRooms now.links j.place.number) j.running) (sym jobs)
+            (rooms_served was.links now.links was.jobs.place.number was.jobs.running v d sender same posts are.rooms);
         logs = refl;
       }
 
@@ -159,22 +166,26 @@ then_none was now contents same s st k are steps = record {
 
 then_some : EndsGo → ClosedLaw → JobsStay → OwnEntries → (was now : PartsView) (contents : Option Contents) (v : Served) (d : Done)
     → AreSound was → now.jobs ≡ was.jobs → ServesAt was.links v → made_of d ≡ made_by was.links v → AreAfterStep v.kind was.table now.table → AreAfter was.links now.links d.taken d.sent
-    → Then was now contents (Some v) (Some d)
-then_some go shuts stay own was now contents v d sound jobs serves same after ends s st k are steps = record {
+    → (sender : EntryStamp) → Posts sender d.kind was.links now.links d.taken d.sent → Then was now contents (Some v) (Some d)
+then_some go shuts stay own was now contents v d sound jobs serves same after ends sender posts s st k are steps = record {
   made = steps.made ∙ ap (λ (m : Effect). Some m) (sym same);
-  parts = parts_served was now v d contents s st k sound are jobs serves same after ends steps go shuts stay own;
-  stored = stored_served was now v d contents s st k sound are jobs serves same after ends steps;
+  parts = parts_served was now v d contents s st k sound are jobs serves same after ends sender posts steps go shuts stay own;
+  stored = stored_served was now v d contents s st k sound are jobs serves same after ends sender posts steps;
 }
+
+-- what an answer's frames leave of the ends
+abbrev pub PostsServed : EntryStamp → List EndView → List EndView → Option Served → Option Done → Type 0
+PostsServed sender was now o d = ForSome d (λ x. ForSome o (λ v. PostsOnly (answers_at (end_by v) v.reply) sender x.kind was now x.taken x.sent))
 
 then_of : EndsGo → ClosedLaw → JobsStay → OwnEntries → (was now : PartsView) (contents : Option Contents) (o : Option Served) (d : Option Done)
     → AreSound was → now.jobs ≡ was.jobs → ServesIf was.links o → option_map made_of d ≡ option_map (made_by was.links) o → AreAfterIf o was.table now.table → EndsAfter was.links now.links d → (o ≡ None → now.sessions ≡ was.sessions)
-    → Then was now contents o d
-then_of go shuts stay own was now contents None None sound jobs serves same after ends idle =
+    → (sender : EntryStamp) → PostsServed sender was.links now.links o d → Then was now contents o d
+then_of go shuts stay own was now contents None None sound jobs serves same after ends idle sender posts =
     then_none was now contents (same_parts was now after ends (idle refl) jobs)
-then_of go shuts stay own was now contents None (Some d) sound jobs serves same after ends idle = absurd (some_none (made_of d) same)
-then_of go shuts stay own was now contents (Some v) None sound jobs serves same after ends idle = absurd (some_none (made_by was.links v) (sym same))
-then_of go shuts stay own was now contents (Some v) (Some d) sound jobs serves same after ends idle =
-    then_some go shuts stay own was now contents v d sound jobs (serves v refl) (same_Some (made_of d) (made_by was.links v) same) after ends
+then_of go shuts stay own was now contents None (Some d) sound jobs serves same after ends idle sender posts = absurd (some_none (made_of d) same)
+then_of go shuts stay own was now contents (Some v) None sound jobs serves same after ends idle sender posts = absurd (some_none (made_by was.links v) (sym same))
+then_of go shuts stay own was now contents (Some v) (Some d) sound jobs serves same after ends idle sender posts =
+    then_some go shuts stay own was now contents v d sound jobs (serves v refl) (same_Some (made_of d) (made_by was.links v) same) after ends sender (posts d refl v refl).posts
 
 -- the look finds of the call that fails what the entry of the sessions tells
 abbrev pub FailsSo : Option Served → Option Done → Type 0
@@ -208,12 +219,12 @@ pub step_of : FillsLaw → EndsGo → ClosedLaw → JobsStay → OwnEntries → 
     → AreSound was → now.jobs ≡ was.jobs → mid ≡ was.links → shows ≡ runs_on clock time
     → ((s : SetUp) (st : State) (k : Look) → Sees was.links was.table known parts shows number was.sessions o s st k → StepsSo was.links o now.sessions now.table contents s st k)
     → ServesIf was.links o → option_map made_of d ≡ option_map (made_by mid) o → AreAfterIf o was.table now.table → EndsAfter mid now.links d → (o ≡ None → now.sessions ≡ was.sessions)
-    → ForSome known (λ c. Serves was now c parts contents clock time number d)
-step_of fills go shuts stay own was now mid known contents parts clock time number shows o d sound jobs mid_is shows_is step serves_if made after ends idle =
+    → (sender : EntryStamp) → PostsServed sender mid now.links o d → ForSome known (λ c. Serves was now c parts contents clock time number d)
+step_of fills go shuts stay own was now mid known contents parts clock time number shows o d sound jobs mid_is shows_is step serves_if made after ends idle sender posts =
     let same : option_map made_of d ≡ option_map (made_by was.links) o = made_at was.links mid o d mid_is made in
     let gone : EndsAfter was.links now.links d = subst (λ (links : List EndView). EndsAfter links now.links d) mid_is ends in
     where_served fills was known parts clock time number o d sound same (λ s st k. Steps session_step now contents s st k d)
-    (λ s st k are sees. then_of go shuts stay own was now contents o d sound jobs serves_if same after gone idle s st k are
+    (λ s st k are sees. then_of go shuts stay own was now contents o d sound jobs serves_if same after gone idle sender (subst (λ (links : List EndView). PostsServed sender links now.links o d) mid_is posts) s st k are
     (step s st k (subst (λ (n : ℕ). Sees was.links was.table known parts n number was.sessions o s st k) (sym shows_is) sees)))
 
 -- and its calls

@@ -50,7 +50,7 @@ stay_same links a = stays_same (link_at links a)
 pub stay_on : (was mid now : List EndView) → StayPaired was mid → StayPaired mid now → StayPaired was now
 stay_on was mid now p q a = stays_so_on (link_at was a) (link_at mid a) (link_at now a) (p a) (q a)
 
-stays_there : (a b : Option EndView) → StaysSo a b → is_some a ≡ true → is_some b ≡ true
+pub stays_there : (a b : Option EndView) → StaysSo a b → is_some a ≡ true → is_some b ≡ true
 stays_there None b p is = absurd (true≢false (sym is))
 stays_there (Some x) None p is = absurd p
 stays_there (Some x) (Some y) p is = refl
@@ -109,6 +109,16 @@ joined_first a b xs ys joined slot client low = second_there (link_at xs (end_wi
 
 pub joined_second : (a b : ℕ) (xs ys : List EndView) → AreJoined a b xs ys → (slot : ℕ) (client : Bool) → slot < 4 → is_some (link_at xs (end_with b slot (not client))) ≡ true
 joined_second a b xs ys joined slot client low = first_there (link_at xs (end_with b slot (not client))) (link_at ys (end_with a slot (not (not client)))) (joined slot (not client) low)
+
+both_other : (o p : Option EndView) → BothPaired o p → BothPaired p o
+both_other None p pair = absurd pair
+both_other (Some a) None pair = absurd pair
+both_other (Some a) (Some b) pair = record { first = pair.second; second = pair.first }
+
+-- the other repository's are joined with these
+pub joined_other : (a b : ℕ) (xs ys : List EndView) → AreJoined a b xs ys → AreJoined b a ys xs
+joined_other a b xs ys joined slot true low = both_other (link_at xs (end_with b slot false)) (link_at ys (end_with a slot true)) (joined slot false low)
+joined_other a b xs ys joined slot false low = both_other (link_at xs (end_with b slot true)) (link_at ys (end_with a slot false)) (joined slot true low)
 
 -- ---- the tokens of the jobs
 

@@ -89,6 +89,7 @@ parts_stay_so go still sessions_law jobs_law lines_law s st e p sound moves are 
     | inl none ↦ jobs_law s st e p.jobs p.table are.works sound.acting none (no_crash e.kind moves.kind)
     | inr fault ↦ lines_law s st e p.jobs p.table fault.0 are.works sound.acting fault.1
   ];
+  rooms = are.rooms;
   logs = refl;
 }
 

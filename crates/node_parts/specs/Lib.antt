@@ -8,6 +8,8 @@ pub mod Posting
 pub mod Sending
 pub mod Jobs
 pub mod Stored
+pub mod Closing
+pub mod Crashing
 pub use Rattle.running_jobs.specs.Acting
 pub use Rattle.running_jobs.specs.Beginning
 pub use Rattle.running_jobs.specs.Leaving
@@ -17,6 +19,7 @@ pub use Rattle.drop_phases.specs.Feeding
 pub use Rattle.drop_phases.specs.Working
 pub use Rattle.running_jobs.specs.Task
 pub use Rattle.running_jobs.specs.Tasks
+pub use Rattle.node_tasks.specs.TransferJob
 pub use Rattle.running_jobs.specs.Worker
 pub use Rattle.running_jobs.specs.Workers
 pub use Rattle.running_jobs.specs.Drops

@@ -1,5 +1,5 @@
 -- What a step of a repository's parts makes, and what it leaves (own).
-use Rattle.std.specs.Prelude.{◌≡◌, ℕ, ◌+◌, ◌<◌, Bool, if◌then◌else◌, List, [], All, find, Option, Some, None, option_and_then}
+use Rattle.std.specs.Prelude.{◌≡◌, ℕ, ◌+◌, ◌<◌, Bool, if◌then◌else◌, List, [], ◌∷◌, All, find, Option, Some, None, option_and_then}
 use Rattle.std.specs.Option.{ForSome, option_map, option_map_or, option_to_list}
 use Rattle.annex_base.specs.Lists.{Each}
 use Rattle.annex_base.specs.Settings.{Settings}
@@ -7,6 +7,8 @@ use Rattle.annex_base.specs.declared.kinds.Call.{Call}
 use Rattle.annex_base.specs.declared.kinds.Word.{Word}
 use Rattle.run_data.specs.declared.entry.By.TheVariants.{Peer}
 use Rattle.run_data.specs.declared.entry.EntryKind.{EntryKind}
+use Rattle.run_data.specs.declared.entry.EntryKind.TheVariants.{Close}
+use Rattle.run_data.specs.declared.entry.FrameText.TheVariants.{Closing}
 use Rattle.run_data.specs.declared.entry.FrameView.{FrameView}
 use Rattle.object_store.specs.Stores.{Contents, Parts as StoredParts}
 use Rattle.content_lock.specs.Rows.{bar_at}
@@ -15,6 +17,7 @@ use Rattle.node_ends.specs.Ends.{SeesEnds}
 use Rattle.node_ends.specs.Going.{AreAfter}
 use Rattle.node_model.specs.After.{state_after}
 use Rattle.node_model.specs.Clocks.{ClockSet, runs_on}
+use Rattle.node_model.specs.Ends.{End, EndName, frames}
 use Rattle.node_model.specs.Look.{Look, Effect, as_told, entry_of, failed_in}
 use Rattle.node_model.specs.OwedLines.{told_frame}
 use Rattle.node_model.specs.Rows.{bar_after, holds_after, same_owner}
@@ -38,6 +41,10 @@ use Rattle.node_parts.specs.Parts.{AreParts, HasContents, PartsView}
 
 abbrev pub made_of : Done → Effect
 made_of d = record { kind = d.kind; taken = d.taken; sent = d.sent; lines = []; calls = [] }
+
+-- what the close of an end that stands so makes
+abbrev pub close_made : EndName → End → Effect
+close_made a c = record { kind = Close a.peer a.slot a.client; taken = None; sent = frames a c (Closing ∷ []); lines = []; calls = [] }
 
 -- the store call that failed
 abbrev pub failed_by : Option Done → Option Call

@@ -1,9 +1,9 @@
 //! The step of a job: its frames are taken and sent.
-ghost use Rattle.std.specs.Prelude.{◌≡◌, ◌<◌, ◌*◌, [], List, length};
+ghost use Rattle.std.specs.Prelude.{◌≡◌, ◌<◌, ◌*◌, [], true, List, length};
 ghost use Rattle.std.specs.declared.option.Option.{Option};
 ghost use Rattle.run_data.specs.declared.entry.FrameView.{FrameView};
 ghost use Rattle.link_ring.specs.Ends.{EndView};
-ghost use Rattle.node_model.specs.Ends.{end_took, taken_at};
+ghost use Rattle.node_model.specs.Ends.{EndName, end_took, sent_at, taken_at};
 ghost use Rattle.node_ends.specs.Ends.{end_at, room_at};
 ghost use Rattle.node_ends.specs.Going.{AreAfter};
 ghost use Rattle.node_ends.specs.Joined.{StayPaired};
@@ -57,6 +57,9 @@ pub(crate) fn act(ends: &mut Ends, stamp: EntryStamp, repositories: u32, acted: 
     ensures sent { TakesNoOpening result.taken → SendsWell (λ a. end_took (end_at ends.old a) (taken_at a result.taken)) (room_at ends.old) (frames_in ends.old acted.slot acted.sent)
         → result.sent ≡ frames_in ends.old acted.slot acted.sent }
     ensures after { AreAfter ends.old ends.new result.taken result.sent }
+
+    // An end that sends nothing has the room that it had.
+    ensures room { TakesNoOpening result.taken → (a : EndName) → room_at ends.old a ≡ true → sent_at a result.sent ≡ [] → room_at ends.new a ≡ true }
     ensures posts { PostsOnly (pieces_in acted.slot acted.sent) stamp result.kind ends.old ends.new result.taken result.sent }
     ensures paired { StayPaired ends.old ends.new }
     ensures count { length ends.new ≡ length ends.old }

@@ -24,6 +24,7 @@ use crate::done::Done;
 use crate::moment::{Moment, stamp_at};
 use crate::parts::Parts;
 use annex_base::NoMemory;
+use content_lock::others_keep_their_shares;
 use job_frames::jobs_make_their_own_entries;
 use node_ends::ends_go_on;
 use node_sessions::{sessions_and_jobs_fill, sessions_stay};
@@ -71,7 +72,6 @@ impl Parts {
         ensures place { self.new.jobs.place ≡ self.old.jobs.place }
         ensures begun { self.new.jobs.begun ≡ self.old.jobs.begun }
         ensures files { K.files keeper.new ≡ K.files keeper.old }
-        ensures records { K.records keeper.new ≡ K.records keeper.old }
         ensures agrees { Agrees (K.records keeper.new) self.new.table.holds }
         ensures paired { StayPaired self.old.links self.new.links }
         ensures later { K.faults keeper.old ≤ K.faults keeper.new }
@@ -80,15 +80,17 @@ impl Parts {
         ensures err { OnErr result (self.new ≡ self.old) }
         ensures err_contents { OnErr result (K.contents keeper.new ≡ K.contents keeper.old) }
         ensures err_parts { OnErr result (K.parts keeper.new ≡ K.parts keeper.old) }
+        ensures err_records { OnErr result (K.records keeper.new ≡ K.records keeper.old) }
         ensures err_failing { OnErr result (K.failing keeper.new ≡ K.failing keeper.old) }
     {
         // Laws, for the proof that the step is the state's: what it reads and sends, the part that it sees, and the keys filled, the ends
-        // and the sessions then.
+        // and the sessions then; and that each session has its share still.
         ends_go_on();
         jobs_make_their_own_entries();
         jobs_see_parts();
         jobs_send_where_there_is_room();
         nameless_are_asked();
+        others_keep_their_shares();
         others_leave_it();
         sessions_and_jobs_fill();
         sessions_stay();

@@ -2,6 +2,8 @@
 #![tactic(auto)]
 
 mod acting;
+mod closing;
+mod crashing;
 mod done;
 mod drop_frames;
 mod jobs;

@@ -121,8 +121,8 @@ impl Parts {
         self.jobs.running() < 4
     }
 
-    /// Begins a job, and gives its number: a drop of the repository's own copy, a get from any or from another repository, or a copy
-    /// to another one. Its key has these paths in the tree. After a refusal all is as before.
+    /// Begins a job, and gives its number: a drop, a get, a copy or a move; its peer, if it has one, is another repository. Its key has
+    /// these paths in the tree. After a refusal all is as before.
     pub fn begin(
         &mut self,
         alloc: Global,

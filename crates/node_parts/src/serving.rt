@@ -87,7 +87,7 @@ fn reply_with(
 }
 
 /// Sends a Close, if there is to be one, and lists it behind the others.
-fn close_if(
+pub(crate) fn close_if(
     ends: &mut Ends,
     id: EndId,
     stamp: EntryStamp,

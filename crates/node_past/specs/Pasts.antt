@@ -3,7 +3,7 @@ use Rattle.std.specs.Prelude.{◌≡◌, ℕ, ◌+◌, ◌<◌, vec_len, vec_cap
 use Rattle.annex_base.specs.declared.kinds.Call.{Call}
 use Rattle.run_data.specs.declared.entry.Entry.{Entry}
 use Rattle.run_data.specs.declared.entry.EntryKind.{EntryKind}
-use Rattle.run_data.specs.declared.entry.EntryKind.TheVariants.{Fault}
+use Rattle.run_data.specs.declared.entry.EntryKind.TheVariants.{Crash, Fault}
 use Rattle.run_data.specs.declared.entry.FrameView.{FrameView}
 use Rattle.run_data.specs.declared.entry.By.{By}
 use Rattle.run_data.specs.declared.entry.By.TheVariants.{Script}
@@ -65,4 +65,13 @@ pub record Enters (kind : EntryKind) (taken : Option FrameView) (sent : List Fra
   pub clock : now.clock ≡ was.clock
   pub count : now.count ≡ was.count + 1
   pub history : now.history.items ≡ was.history.items ++ frames_entry was kind taken sent ∷ []
+  pub outcomes : now.outcomes.items ≡ was.outcomes.items ++ ended
+
+-- it has the entry of a crash, which sent these and set its clock to this at its time, and these jobs have ended
+pub record Crashes (to : ℕ) (sent : List FrameView) (ended : List Ended) (was now : Past) : Type 0 where
+  pub setup : now.setup ≡ was.setup
+  pub time : now.time ≡ was.time
+  pub clock : now.clock ≡ record { at = was.time; to = to }
+  pub count : now.count ≡ was.count + 1
+  pub history : now.history.items ≡ was.history.items ++ frames_entry was (Crash to) None sent ∷ []
   pub outcomes : now.outcomes.items ≡ was.outcomes.items ++ ended

@@ -1,10 +1,10 @@
 //! The next entries of a repository.
-ghost use Rattle.std.specs.Prelude.{◌≡◌, ◌<◌, ◌≤◌, ◌^◌, [], Some, length, max, nat_le, slice_get, vec_len, IfErr, IsErrOf, OnOk, ◌+◌};
+ghost use Rattle.std.specs.Prelude.{◌≡◌, ◌<◌, ◌≤◌, ◌^◌, [], Some, length, max, nat_le, nat_lt, slice_get, vec_capacity, vec_len, IfErr, IsErrOf, OnOk, ◌+◌};
 ghost use Rattle.annex_base.specs.declared.kinds.Call.{Call};
 ghost use Rattle.object_store.specs.declared.keeper.KeeperFault.TheVariants as faults;
 ghost use Rattle.run_data.specs.declared.entry.By.{By};
 ghost use Rattle.node_past.specs.Calls.{refusal_of};
-ghost use Rattle.node_past.specs.Pasts.{AddsTo, FailsFor, IsReady, SamePast, Enters};
+ghost use Rattle.node_past.specs.Pasts.{AddsTo, Crashes, FailsFor, IsReady, SamePast, Enters};
 ghost use Rattle.run_data.specs.Histories.{most_entries};
 ghost use Rattle.node_model.specs.OwedLines.{stamp_at};
 
@@ -89,6 +89,22 @@ impl Past {
         self.history.len() >= MOST_ENTRIES
     }
 
+    /// Whether so many more entries are more than it may have.
+    pub fn lacks(&self, count: usize) -> bool
+        ensures { result ≡ nat_lt most_entries (vec_len self.now.history + count) }
+    {
+        MOST_ENTRIES - self.history.len() < count
+    }
+
+    /// Reserves the places of so many more entries.
+    pub fn reserve_places(&mut self, count: usize) -> Result<(), NoMemory>
+        ensures room { OnOk result (vec_len self.new.history + count ≤ vec_capacity self.new.history) }
+        ensures same { SamePast self.old self.new }
+    {
+        self.history.reserve(count)?;
+        Ok(())
+    }
+
     /// Reserves the place of one more entry.
     pub fn reserve(&mut self) -> Result<(), NoMemory>
         requires { vec_len self.old.history < most_entries }
@@ -136,6 +152,7 @@ impl Past {
         requires { IsReady self.old }
         ensures entry { Enters kind taken sent [] self.old self.new }
         ensures outcomes { self.new.outcomes ≡ self.old.outcomes }
+        ensures room { vec_capacity self.new.history ≡ vec_capacity self.old.history }
     {
         let entry = Entry {
             time: self.time,
@@ -146,8 +163,22 @@ impl Past {
             sent,
             lines: Items::new(self.alloc),
         };
-        self.history.push(entry).unwrap();
+        self.history.push_reserved(entry);
         self.count += 1;
+    }
+
+    /// Adds the entry of a crash, which sends these frames, and sets the clock to this, in milliseconds, at the past's time.
+    pub fn crash(&mut self, clock: u64, sent: Items<FrameView>)
+        requires ready { IsReady self.old }
+        requires near { clock ≤ 100000000000 }
+        ensures entry { Crashes clock sent [] self.old self.new }
+        ensures room { vec_capacity self.new.outcomes ≡ vec_capacity self.old.outcomes }
+    {
+        self.enter(EntryKind::Crash { clock }, None, sent);
+        self.clock = SetClock {
+            at: self.time,
+            to: clock,
+        };
     }
 
     /// A call of the store failed in a step for the script, a job or a peer: where it wasn't for want of memory, an entry says so.

@@ -92,7 +92,7 @@ places_more p number n before after was is =
 abbrev pairs_in : List ℕ → List (ℕ × ℕ)
 pairs_in peers = flat_map (λ peer. map (λ slot. (peer, slot)) slots) peers
 
-map_over : {X Y Z : Type 0} (f : X → Y) (g : Y → Z) (xs : List X) → map (λ x. g (f x)) xs ≡ map g (map f xs)
+pub map_over : {X Y Z : Type 0} (f : X → Y) (g : Y → Z) (xs : List X) → map (λ x. g (f x)) xs ≡ map g (map f xs)
 map_over f g [] = refl
 map_over {X} {Y} {Z} f g (x ∷ xs) = ap (λ (zs : List Z). g (f x) ∷ zs) (map_over f g xs)
 

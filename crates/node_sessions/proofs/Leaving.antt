@@ -102,7 +102,7 @@ left_filled ys x rows rows' others own e f =
       apart = λ key. (each key).apart;
     }
 
-restart_kept : (clock : ℕ) (by : By) (hs : List Hold) → map (restart clock) (map (keep_of by) hs) ≡ map (restart clock) hs
+pub restart_kept : (clock : ℕ) (by : By) (hs : List Hold) → map (restart clock) (map (keep_of by) hs) ≡ map (restart clock) hs
 restart_kept clock by [] = refl
 restart_kept clock by (h ∷ hs) =
     ap (λ (x : Hold). x ∷ map (restart clock) (map (keep_of by) hs)) (one (same_owner h.owner by)) ∙ ap (λ (l : List Hold). restart clock h ∷ l) (restart_kept clock by hs)

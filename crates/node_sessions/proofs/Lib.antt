@@ -17,3 +17,5 @@ pub mod Shutting
 pub mod Making
 pub mod Called
 pub mod Storing
+pub mod Finding
+mod Crashing

@@ -1,5 +1,5 @@
 -- Sessions that are made and spent one after the other; for private contracts.
-use Rattle.std.specs.Prelude.{◌≡◌, ℕ, ◌+◌, ◌*◌, ◌<◌, Bool, false, List, ◌++◌, All, flat_map, map, slice_get, Option, Some, None, slice_set}
+use Rattle.std.specs.Prelude.{◌≡◌, ℕ, ◌+◌, ◌*◌, ◌<◌, Bool, false, List, ◌++◌, All, flat_map, length, map, slice_get, Option, Some, None, slice_set}
 use Rattle.annex_base.specs.Lists.{Each}
 use Rattle.run_data.specs.declared.entry.By.{By}
 use Rattle.run_data.specs.declared.entry.EntryKind.TheVariants.{Close, Crash}
@@ -8,6 +8,7 @@ use Rattle.object_store.specs.declared.keeper.HoldRecord.{HoldRecord}
 use Rattle.content_lock.specs.Rows.{Rows, bar_at, is_filling}
 use Rattle.content_lock.specs.Stored.{Agrees}
 use Rattle.content_lock.specs.Tokens.{Owns, ShareView}
+use Rattle.link_ring.specs.Ends.{EndView}
 use Rattle.node_model.specs.Rows.{holds_after, same_owner}
 use Rattle.node_model.specs.Sessions as sessions
 use Rattle.node_model.specs.Sessions.{new_session}
@@ -17,7 +18,7 @@ use Rattle.p2p_server.specs.declared.session.Session.{Session}
 use Rattle.p2p_server.specs.Answers.{owner_at}
 use Rattle.p2p_server.specs.Stepping.{LeavesOthers}
 use Rattle.p2p_server.specs.Talking.{AreAfterStep, FillsSo, HasFillOf, IsFedOf, place_of, session_of, share_of}
-use Rattle.node_sessions.specs.Sessions.{AreFilled, EveryTwo, IsOther, OwnAll, owner_of}
+use Rattle.node_sessions.specs.Sessions.{AreAllFed, AreFilled, EveryTwo, HaveEnds, IsOther, OwnAll, owner_of}
 
 -- ---- made
 
@@ -67,6 +68,7 @@ pub record AreLeft (all xs : List Session) (was now : Rows) : Type 0 where
 -- the session lets go of what it has, and is as new
 pub record IsClosed (was now : Session) (rows rows' : Rows) : Type 0 where
   pub session : session_of now ≡ new_session
+  pub share : share_of now ≡ None
   pub place : place_of now ≡ place_of was
   pub after : AreAfterStep (Close (place_of was).peer (place_of was).slot false) rows rows'
   pub numbers : (n : ℕ) → All (λ h. h.number < n) rows.holds → All (λ h. h.number < n) rows'.holds
@@ -84,3 +86,26 @@ pub record ClosesAmong (at : ℕ) (xs xs' : List Session) (rows rows' : Rows) : 
   pub here : slice_get xs at ≡ Some was
   pub left : xs' ≡ slice_set xs at now
   pub closed : IsClosed was now rows rows'
+
+-- ---- all closed
+
+-- the session is as it is where its connection isn't open, and has nothing of a table
+pub record IsBare (x : Session) : Type 0 where
+  pub session : session_of x ≡ new_session
+  pub share : share_of x ≡ None
+
+-- those before this place are closed, and the others stay as they are
+pub record AreClosed (n : ℕ) (was now : List Session) (rows rows' : Rows) : Type 0 where
+  pub bare : (i : ℕ) (x : Session) → i < n → slice_get now i ≡ Some x → IsBare x
+  pub count : length now ≡ length was
+  pub places : map place_of now ≡ map place_of was
+  pub own : OwnAll rows' now
+  pub there : (links : List EndView) → HaveEnds links was → HaveEnds links now
+  pub fed : (q : Parts) → AreAllFed q was → AreAllFed q now
+  pub apart : (by : By) → IsOther by was → IsOther by now
+  pub others : (by : By) (share : Option ShareView) → IsOther by was → Owns by share rows.holds → Owns by share rows'.holds
+  pub filled : (others : List ℕ → Bool) → AreFilled rows was others → AreFilled rows' now others
+  pub numbers : (n : ℕ) → All (λ h. h.number < n) rows.holds → All (λ h. h.number < n) rows'.holds
+  pub agrees : (known : Option (List HoldRecord)) → Agrees known rows.holds → Agrees known rows'.holds
+  pub bars : (key : List ℕ) → bar_at rows' key ≡ bar_at rows key
+  pub crash : (clock : ℕ) → holds_after rows'.holds (Crash clock) ≡ holds_after rows.holds (Crash clock)

@@ -1,5 +1,5 @@
 -- What one session serves, as one value; for private contracts.
-use Rattle.std.specs.Prelude.{◌≡◌, ℕ, ◌<◌, ◌≤◌, true, false, List, [], All, IfSome, slice_get, Option, None, Some, is_some, slice_set}
+use Rattle.std.specs.Prelude.{◌≡◌, ℕ, ◌<◌, ◌≤◌, true, false, List, All, IfSome, slice_get, Option, None, Some, is_some, slice_set}
 use Rattle.std.specs.Option.{ForSome, option_and_then, option_map}
 use Rattle.annex_base.specs.Causes.{Rose}
 use Rattle.annex_base.specs.declared.kinds.Call.{Call}

@@ -1,5 +1,5 @@
 -- The sessions of a repository as a server, and what they have of its table and its store (own).
-use Rattle.std.specs.Prelude.{◌≡◌, ◌≢◌, ℕ, Bool, true, false, ◌&&◌, ◌||◌, List, length, map, slice_get, Option, Some, is_some}
+use Rattle.std.specs.Prelude.{◌≡◌, ◌≢◌, ℕ, ◌==◌, Bool, true, false, ◌&&◌, ◌||◌, List, length, map, slice_get, Option, Some, is_some}
 use Rattle.std.specs.List.{list_any}
 use Rattle.std.specs.Option.{ForSome}
 use Rattle.run_data.specs.declared.entry.By.{By}
@@ -26,6 +26,10 @@ end_of x = server_end (place_of x).peer (place_of x).slot
 -- its client and slot
 abbrev pub connection_of : Session → ℕ × ℕ
 connection_of x = ((place_of x).peer, (place_of x).slot)
+
+-- its client and slot are these
+abbrev pub is_of : ℕ → ℕ → Session → Bool
+is_of peer slot x = ((place_of x).peer == peer) && ((place_of x).slot == slot)
 
 -- for whom it acts
 abbrev pub owner_of : Session → By

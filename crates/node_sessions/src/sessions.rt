@@ -13,9 +13,10 @@ ghost use Rattle.content_lock.specs.Rows.{Rows, bar_at, is_filling};
 ghost use Rattle.content_lock.specs.Stored.{Agrees};
 ghost use Rattle.content_lock.specs.Tokens.{Owns, ShareView};
 ghost use Rattle.link_ring.specs.Ends.{EndView};
-ghost use Rattle.node_model.specs.Ends.{End};
+ghost use Rattle.node_model.specs.AnyTime.{all_ends};
+ghost use Rattle.node_model.specs.Ends.{End, EndName};
 ghost use Rattle.node_model.specs.Look.{Look, Effect};
-ghost use Rattle.node_model.specs.Sessions.{new_session};
+ghost use Rattle.node_model.specs.Sessions.{Session as EndSession, new_session};
 ghost use Rattle.node_model.specs.Rows.{holds_after};
 ghost use Rattle.node_model.specs.SessionStep.{session_step};
 ghost use Rattle.node_model.specs.SetUp.{SetUp};
@@ -29,7 +30,7 @@ ghost use Rattle.node_sessions.specs.Sessions.{AreFilled, AreSessions, AreAllFed
 ghost use Rattle.node_sessions.specs.Stored.{contents_left, parts_left};
 
 use crate::beginning::all_sessions;
-use crate::ending::{close_at, end_all, find_session};
+use crate::ending::{close_all, close_at, end_all, find_session, has_session};
 use crate::served::Served;
 use crate::serving::serve;
 use crate::turn::first_turn;
@@ -86,6 +87,14 @@ impl Sessions {
         Ok(Sessions { list })
     }
 
+    /// Whether there is a session with this client and slot.
+    pub fn has(&self, peer: u32, slot: u32) -> bool
+        ensures yes { result ≡ true → Member (peer, slot) (map connection_of self.now) }
+        ensures no { result ≡ false → Member (peer, slot) (map connection_of self.now) → ⊥ }
+    {
+        has_session(&self.list, peer, slot)
+    }
+
     /// The connection with this client and slot was closed, by an entry that says so and sends a Close at the server's end: a hold
     /// that its session guards is kept, a part that it fills stays, and it is as new.
     pub fn closed(&mut self, peer: u32, slot: u32, table: &mut LockTable)
@@ -104,6 +113,26 @@ impl Sessions {
     {
         let at = find_session(&self.list, peer, slot);
         close_at(&mut self.list, at, table);
+    }
+
+    /// All connections were closed, by a crash: holds that the sessions guard are kept, parts that they fill stay, and each is as new.
+    /// They have nothing of any table then on which nobody has a hold.
+    pub fn all_closed(&mut self, table: &mut LockTable)
+        requires { OwnAll table.old self.old }
+        ensures sessions { (s : SetUp) (was now : EndName → EndSession) → AreSessions s was self.old → ((a : EndName) → a.client ≡ false → Member a (all_ends s) → now a ≡ new_session) → AreSessions s now self.new }
+        ensures owns { OwnAll table.new self.new }
+        ensures bare { (rows : Rows) → ((by : By) → Owns by None rows.holds) → OwnAll rows self.new }
+        ensures fills { (key : List ℕ) → fills_in self.new key ≡ false }
+        ensures there { (links : List EndView) → HaveEnds links self.old → HaveEnds links self.new }
+        ensures fed { (p : Parts) → AreAllFed p self.old → AreAllFed p self.new }
+        ensures others { (by : By) (share : Option ShareView) → IsOther by self.old → Owns by share table.old.holds → Owns by share table.new.holds }
+        ensures filled { (others : List ℕ → Bool) → AreFilled table.old self.old others → AreFilled table.new self.new others }
+        ensures numbers { (n : ℕ) → All (λ h. h.number < n) table.old.holds → All (λ h. h.number < n) table.new.holds }
+        ensures agrees { (known : Option (List HoldRecord)) → Agrees known table.old.holds → Agrees known table.new.holds }
+        ensures bars { (key : List ℕ) → bar_at table.new key ≡ bar_at table.old key }
+        ensures crash { (clock : ℕ) → holds_after table.new.holds (Crash clock) ≡ holds_after table.old.holds (Crash clock) }
+    {
+        close_all(&mut self.list, table);
     }
 
     /// Spends the sessions: holds that they guard are kept, and parts that they fill stay.

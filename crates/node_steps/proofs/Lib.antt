@@ -8,3 +8,5 @@ pub mod PayLemmas
 pub mod StateLemmas
 pub mod StepLemmas
 pub mod TurnLemmas
+pub mod CloseLemmas
+pub mod CrashLemmas

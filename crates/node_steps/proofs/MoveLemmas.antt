@@ -60,7 +60,7 @@ no_done x is = absurd cc
 
 -- ---- the past
 
-same_length : (was ready : Past) → SamePast was ready → vec_len ready.history ≡ vec_len was.history
+pub same_length : (was ready : Past) → SamePast was ready → vec_len ready.history ≡ vec_len was.history
 same_length was ready same = ready.history.ok.0 ∙ ap (λ (h : List Entry). length h) same.history ∙ sym was.history.ok.0
 
 abbrev entry_at : ℕ → ℕ → Setup → EntryKind → Option FrameView → List FrameView → Entry
@@ -131,8 +131,8 @@ still_go was now d e kind taken (inr goes) =
       record {
         job = on.job;
         made = ap job_of (sym kind) ∙ on.made;
-        grows = on.grows;
-        word = λ there f took. on.word there f (taken ∙ took);
+        hears = λ t' now_is t was_is.
+            let heard = on.hears t' now_is t was_is in record { look = λ f took. heard.look f (taken ∙ took); answer = λ f took. heard.answer f (taken ∙ took); rest = heard.rest };
         apart = on.apart;
         given = on.given;
       },

@@ -46,6 +46,7 @@ use Rattle.get_phases.specs.declared.getting.Phase.TheVariants as phases
 use Rattle.node_parts.specs.Task.{Task}
 use Rattle.node_parts.specs.Task.TheVariants as tasks
 use Rattle.node_parts.specs.Tasks.{work_now}
+use Rattle.node_parts.specs.Worker.{Worker}
 use Rattle.node_parts.specs.Worker.TheVariants as workers
 use Rattle.node_past.specs.declared.setup.Ended.{Ended}
 use Rattle.node_past.specs.Calls.{Makes, StopsIn}
@@ -216,14 +217,21 @@ get_sees : (q : StoredParts) (key : List ℕ) (phase : Phase) → SeesPart (Some
 get_sees q key (phases.Word peer start taken) = refl
 get_sees q key _ = refl
 
+abbrev size_by : StoredParts → Worker → ℕ
+size_by q (workers.Gets w) = length (q w.job.key)
+size_by q w = 0
+
 abbrev size_of : StoredParts → Task → ℕ
-size_of q (tasks.Transfers (workers.Gets w)) = length (q w.job.key)
+size_of q (tasks.Transfers w) = size_by q w.worker
 size_of q t = 0
+
+worker_sees : (q : StoredParts) (v : Worker) (paths : List (List ℕ)) → JobSeesPartAt (Some q) (tasks.Transfers (record { worker = v; paths = paths })) None (size_by q v) false
+worker_sees q (workers.Gets w) paths = get_sees q w.job.key w.phase
+worker_sees q (workers.Puts w) paths = tt
 
 task_sees : (q : StoredParts) (t : Task) → JobSeesPartAt (Some q) t None (size_of q t) false
 task_sees q (tasks.Drops j) = tt
-task_sees q (tasks.Transfers (workers.Gets w)) = get_sees q w.job.key w.phase
-task_sees q (tasks.Transfers (workers.Puts w)) = tt
+task_sees q (tasks.Transfers w) = worker_sees q w.worker w.paths
 
 has_size : (q : StoredParts) (p : PartsView) (kind : EntryKind) → HasPart (Some q) p kind None
 has_size q p kind = go (job_acting p kind) refl

@@ -37,6 +37,7 @@ use Rattle.owed_lines.specs.declared.line.ToldLine.{ToldLine}
 use Rattle.node_parts.specs.Task.{Task}
 use Rattle.node_parts.specs.Task.TheVariants as tasks
 use Rattle.node_parts.specs.Tasks.{HasReadOf, number_of, work_now}
+use Rattle.node_parts.specs.Workers.{work_of}
 use Rattle.node_parts.specs.Running.{AllApart, AreApart, HadPathsOf, given_to, job_at, paths_of}
 use Rattle.node_parts.specs.declared.done.Done.{Done}
 use Rattle.node_parts.specs.Kinds.{IsQuiet}
@@ -143,7 +144,7 @@ told_before cs cs' qs qs' c' parts contents told =
 
 -- ---- the paths of the running jobs
 
--- the paths that the running drop of this number was given
+-- the paths that the running job of this number was given
 abbrev pub paths_in : List Task → ℕ → List (List ℕ)
 paths_in ts job = unwrap_or (option_and_then paths_of (job_at ts job)) []
 
@@ -154,12 +155,13 @@ own_paths s ts = record s { paths = paths_in ts }
 -- each running job was given those of its number
 first_given : (s : SetUp) (t : Task) (ts : List Task) → HadPathsOf (own_paths s (t ∷ ts)) t
 first_given s (tasks.Drops j) ts = ap (λ (b : Bool). unwrap_or (option_and_then paths_of (if b then Some (tasks.Drops j) else job_at ts j.worker.number)) []) (sym (eqb_refl j.worker.number))
-first_given s (tasks.Transfers w) ts = tt
+first_given s (tasks.Transfers w) ts = ap (λ (b : Bool). unwrap_or (option_and_then paths_of (if b then Some (tasks.Transfers w) else job_at ts (work_of w).number)) []) (sym (eqb_refl (work_of w).number))
 
 still_given : (s : SetUp) (t : Task) (ts : List Task) (x : Task) → AreApart t x → HadPathsOf (own_paths s ts) x → HadPathsOf (own_paths s (t ∷ ts)) x
 still_given s t ts (tasks.Drops j) other had =
     had ∙ ap (λ (b : Bool). unwrap_or (option_and_then paths_of (if b then Some t else job_at ts j.worker.number)) []) (sym (ne_eqb (number_of t) j.worker.number other.number))
-still_given s t ts (tasks.Transfers w) other had = tt
+still_given s t ts (tasks.Transfers w) other had =
+    had ∙ ap (λ (b : Bool). unwrap_or (option_and_then paths_of (if b then Some t else job_at ts (work_of w).number)) []) (sym (ne_eqb (number_of t) (work_of w).number other.number))
 
 own_given : (s : SetUp) (ts : List Task) → AllApart ts → Each (HadPathsOf (own_paths s ts)) ts
 own_given s [] apart = tt
@@ -178,7 +180,7 @@ states_own s js (e ∷ past) = ap (λ (st : State). state_after s st e) (states_
 
 read_own : (s : SetUp) (js : List Task) (st : State) (t : Task) → HasReadOf (given_to (own_paths s js) t) st t → HasReadOf (given_to s t) st t
 read_own s js st (tasks.Drops j) has = has
-read_own s js st (tasks.Transfers w) has = tt
+read_own s js st (tasks.Transfers w) has = has
 
 parts_own : (s : SetUp) (js : List Task) (st : State) (p : PartsView) → AreParts (own_paths s js) st p → AreParts s st p
 parts_own s js st p are = record {
@@ -190,6 +192,7 @@ parts_own s js st p are = record {
   sessions = record { connections = are.sessions.connections; each = λ i x at. let it = are.sessions.each i x at in record { id = it.id; version = it.version; locks = it.locks; session = it.session } };
   closed = are.closed;
   works = record { works = are.works.works; begun = are.works.begun; read = Each-weaker (λ t. HasReadOf (given_to (own_paths s js) t) st t) (λ t. HasReadOf (given_to s t) st t) (read_own s js st) p.jobs.running are.works.read };
+  rooms = are.rooms;
   logs = are.logs;
 }
 

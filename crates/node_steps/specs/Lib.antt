@@ -3,6 +3,10 @@ pub mod Nodes
 pub mod Kept
 pub mod Turning
 pub mod Stepping
+pub mod Closing
+pub mod Shutting
+pub mod Crashing
+pub mod Falling
 pub use Rattle.node_parts.specs.Beginning
 pub use Rattle.node_parts.specs.Parts
 pub use Rattle.node_parts.specs.Sound
@@ -15,6 +19,7 @@ pub use Rattle.node_parts.specs.Acting
 pub use Rattle.node_parts.specs.Running
 pub use Rattle.node_parts.specs.Task
 pub use Rattle.node_parts.specs.Tasks
+pub use Rattle.node_parts.specs.TransferJob
 pub use Rattle.node_parts.specs.Worker
 pub use Rattle.node_parts.specs.Workers
 pub use Rattle.node_parts.specs.Drops

@@ -1,5 +1,5 @@
 //! The entry of a step, and what is noted of it: what owes a line since, and the job that it ends.
-ghost use Rattle.std.specs.Prelude.{◌≡◌, ◌<◌, ◌+◌, ◌++◌, is_some, option_to_list, vec_capacity, vec_len, OnOk};
+ghost use Rattle.std.specs.Prelude.{◌≡◌, ◌<◌, ◌≤◌, ◌+◌, ◌++◌, is_some, option_to_list, vec_capacity, vec_len, OnOk};
 ghost use Rattle.node_past.specs.Owing.{is_debtor};
 ghost use Rattle.node_past.specs.Pasts.{IsReady, SamePast};
 ghost use Rattle.run_data.specs.Histories.{most_entries};
@@ -95,9 +95,11 @@ fn ended(kind: &EntryKind, place: usize) -> Option<Ended>
 }
 
 /// Notes a job that has ended, if one has.
-fn note_ended(outcomes: &mut Vec<Ended>, ended: Option<Ended>)
+pub(crate) fn note_ended(outcomes: &mut Vec<Ended>, ended: Option<Ended>)
     requires room { vec_len outcomes.old < vec_capacity outcomes.old }
-    ensures { outcomes.new.items ≡ outcomes.old.items ++ option_to_list ended }
+    ensures noted { outcomes.new.items ≡ outcomes.old.items ++ option_to_list ended }
+    ensures capacity { vec_capacity outcomes.new ≡ vec_capacity outcomes.old }
+    ensures len { vec_len outcomes.new ≤ vec_len outcomes.old + 1 }
 {
     if let Some(it) = ended {
         outcomes.push_reserved(it);

@@ -22,7 +22,7 @@ use Rattle.node_drops.specs.Places.{PlaceView}
 use Rattle.node_drops.specs.Waiting.{WaitsFor}
 use Rattle.node_drops.proofs.Hearing.{count_is}
 use Rattle.transfer_turns.specs.Parcels.{end_in}
-use Rattle.node_transfers.specs.Worker.{Worker}
+use Rattle.node_transfers.specs.declared.job.TransferJob.{TransferJob}
 use Rattle.node_transfers.specs.States.{HaveState}
 use Rattle.node_transfers.specs.Ready as transfers
 use Rattle.node_tasks.specs.declared.readiness.Told.TheVariants as tolds
@@ -33,8 +33,8 @@ use Rattle.node_tasks.specs.Telling.{Answers}
 pub drop_state : (rows : Rows) (c : Contents) (s : SetUp) (st : State) → HaveState rows c s st → drops.HaveState rows c st
 drop_state rows c s st h = record { present = h.present; bar = h.bar; holds = h.holds }
 
-pub ways : (p : PlaceView) (links : List EndView) (s : SetUp) (st : State) (k : Look) → SeesWays p links s st k → transfers.SeesWays p.number (length p.ids) links s st k
-ways p links s st k z = record { number = z.place.number; among = count_is p s z.place; ends = z.ends; sees = z.sees }
+pub ways : (p : PlaceView) (links : List EndView) (w : TransferJob) (s : SetUp) (st : State) (k : Look) → SeesWays p links w s st k → transfers.SeesWays p.number (length p.ids) links s st k
+ways p links w s st k z = record { number = z.place.number; among = count_is p s z.place; ends = z.ends; sees = z.sees }
 
 -- ---- whether it has a step
 
@@ -42,9 +42,9 @@ pub drop_answers : (p : PlaceView) (clock : ClockSet) (links : List EndView) (ti
 drop_answers p clock links time j None idle = λ rows c s st k sees keeps. idle rows c s st k sees (drop_state rows c s st keeps)
 drop_answers p clock links time j (Some feed) ready = λ rows c s st k sees keeps. ready rows c s st k sees (drop_state rows c s st keeps)
 
-pub transfer_answers : (p : PlaceView) (clock : ClockSet) (links : List EndView) (time : ℕ) (w : Worker) (o : Option Arrival) → transfers.Answers p.number (length p.ids) links w o → Answers p clock links time (tasks.Transfers w) (option_map tolds.Arrival o)
-transfer_answers p clock links time w None answers = λ rows c s st k sees keeps. answers.has s st k (ways p links s st k sees)
-transfer_answers p clock links time w (Some x) answers = λ rows c s st k sees keeps. answers.has s st k (ways p links s st k sees)
+pub transfer_answers : (p : PlaceView) (clock : ClockSet) (links : List EndView) (time : ℕ) (w : TransferJob) (o : Option Arrival) → transfers.Answers p.number (length p.ids) links w.worker o → Answers p clock links time (tasks.Transfers w) (option_map tolds.Arrival o)
+transfer_answers p clock links time w None answers = λ rows c s st k sees keeps. answers.has s st k (ways p links w s st k sees)
+transfer_answers p clock links time w (Some x) answers = λ rows c s st k sees keeps. answers.has s st k (ways p links w s st k sees)
 
 -- a frame that it is told waits there, and the end has room
 pub transfer_waits : (links : List EndView) (slot : ℕ) (o : Option ℕ) (x : Arrival) → transfers.IsTold links slot o (Some x) → WaitsFor links slot x.takes

@@ -3,8 +3,10 @@ pub mod Tasks
 pub mod Telling
 pub mod Acting
 pub mod Owing
+pub mod Handing
 pub use Rattle.node_transfers.specs.Ready
 pub use Rattle.node_transfers.specs.States
+pub use Rattle.node_transfers.specs.declared.job.TransferJob
 pub use Rattle.node_transfers.specs.Worker
 pub use Rattle.node_transfers.specs.Workers
 pub use Rattle.node_drops.specs.Drops

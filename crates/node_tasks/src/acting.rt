@@ -1,32 +1,37 @@
 //! The step of a job.
-ghost use Rattle.std.specs.Prelude.{◌≡◌, ◌*◌, ℕ, length, IfOk};
+ghost use Rattle.std.specs.Prelude.{◌≡◌, ◌*◌, ◌<◌, ℕ, All, length, IfOk};
 ghost use Rattle.annex_base.specs.Settings.{Settings as SettingsView};
 ghost use Rattle.trust_groups.specs.View.{settings_of};
 ghost use Rattle.node_model.specs.Clocks.{ClockSet};
-ghost use Rattle.transfer_turns.specs.Steps.{seen};
+ghost use Rattle.content_lock.specs.Stored.{Agrees};
+ghost use Rattle.transfer_turns.specs.Steps.{is_end, seen};
 ghost use Rattle.node_tasks.specs.declared.readiness.Told.TheVariants as tolds;
+ghost use Rattle.node_tasks.specs.declared.task.Task.{Task as TaskView};
 ghost use Rattle.node_tasks.specs.declared.task.Task.TheVariants as tasks;
 ghost use Rattle.node_tasks.specs.Acting.{Acts, Leaves, Makes};
+ghost use Rattle.node_tasks.specs.Handing.{HandsOn};
 ghost use Rattle.node_tasks.specs.Tasks.{IsTask, OwnsOf};
 ghost use Rattle.node_tasks.specs.Telling.{IsToldTo};
 
 use crate::acted::{Output, Sent};
 use crate::readiness::Told;
 use crate::task::Task;
-use annex_base::NoMemory;
+use annex_base::{Items, NoMemory};
 use content_lock::LockTable;
 use end_hearing::Arrival;
-use node_drops::{Clock, DropJob, Feed, Input, Place, Time, drop_worker};
+use node_drops::{Clock, DropJob, Feed, Input, Place, Time, Worker as DropWorker, drop_worker};
 use node_ends::Ends;
-use node_transfers::{Reach, Worker, transfer_worker};
+use node_transfers::{Reach, TransferJob, transfer_worker};
 use object_store::Keeper;
+use run_data::EntryKind;
 use std::alloc::Global;
 use trust_groups::Settings;
 
-/// The step of a job that is told this: its entry, what is sent with it, and whether the job has ended. A drop reads the settings
-/// at its first step. Want of memory changes nothing but the count of the store's faults.
+/// The step of a job that is told this: its entry, what is sent with it, and whether the job has ended; and the job after it, which
+/// is the drop of a move from the end of its transfer on. A drop reads the settings at its first step. Want of memory changes nothing
+/// but the count of the store's faults.
 pub fn act<K: Keeper>(
-    task: &mut Task,
+    task: Task,
     alloc: Global,
     place: &Place,
     clock: Clock,
@@ -37,37 +42,67 @@ pub fn act<K: Keeper>(
     told: Told,
     time: Time,
     number: u64,
-) -> Result<Output, NoMemory>
-    requires task { IsTask place.now task.old }
-    requires owns { OwnsOf table.old task.old }
-    requires told { IsToldTo ends.now task.old told }
+) -> (Task, Result<Output, NoMemory>)
+    requires task { IsTask place.now task }
+    requires owns { OwnsOf table.old task }
+    requires told { IsToldTo ends.now task told }
     requires count { length ends.now ≡ length place.now.ids * 8 }
+    requires agrees { Agrees (K.records keeper.old) table.old.holds }
+    requires fresh { All (λ h. h.number < number) table.old.holds }
 
     // Of each state that these are, at a look at which the entry's call fails: the step is that of the job's slot, with its calls.
-    ensures acts { IfOk result (Acts place.now clock ends.now (settings_of settings.now) time number (K.contents keeper.old) (K.parts keeper.old) table.old task.old task.new told) }
-    ensures calls { IfOk result (Makes place.now clock ends.now (settings_of settings.now) time number (K.contents keeper.old) (K.parts keeper.old) table.old (K.failing keeper.old) (K.failing keeper.new) task.old told) }
-    ensures leaves { Leaves place.now table.old table.new
+    ensures acts { IfOk result.1 (Acts place.now clock ends.now (settings_of settings.now) time number (K.contents keeper.old) (K.parts keeper.old) table.old task result.0 told) }
+    ensures calls { IfOk result.1 (Makes place.now clock ends.now (settings_of settings.now) time number (K.contents keeper.old) (K.parts keeper.old) table.old (K.failing keeper.old) (K.failing keeper.new) task told) }
+    ensures leaves { Leaves place.now number table.old table.new
         (seen (K.contents keeper.old) (K.parts keeper.old) (K.records keeper.old) (K.files keeper.old) (K.faults keeper.old) (K.failing keeper.old))
-        (seen (K.contents keeper.new) (K.parts keeper.new) (K.records keeper.new) (K.files keeper.new) (K.faults keeper.new) (K.failing keeper.new)) task.old task.new told result }
+        (seen (K.contents keeper.new) (K.parts keeper.new) (K.records keeper.new) (K.files keeper.new) (K.faults keeper.new) (K.failing keeper.new)) task result.0 told result.1 }
 {
     match task {
-        Task::Drops(job) => {
+        Task::Drops(mut job) => {
             match told {
-                Told::Feed(feed) => drop_step(
-                    job, alloc, place, clock, settings, ends, table, keeper, feed, time, number,
-                ),
+                Told::Feed(feed) => {
+                    let made = drop_step(
+                        &mut job, alloc, place, clock, settings, ends, table, keeper, feed, time,
+                        number,
+                    );
+                    (Task::Drops(job), made)
+                }
                 Told::Arrival(_arrival) => unreachable!(),
             }
         }
-        Task::Transfers(worker) => {
+        Task::Transfers(mut job) => {
             match told {
-                Told::Arrival(arrival) => transfer_step(
-                    worker, alloc, place, ends, table, keeper, &arrival,
-                ),
+                Told::Arrival(arrival) => {
+                    let made = transfer_step(&mut job, alloc, place, ends, table, keeper, &arrival);
+                    (hand_on(alloc, job), made)
+                }
                 Told::Feed(_feed) => unreachable!(),
             }
         }
     }
+}
+
+/// A move whose transfer is done is its drop from here on.
+fn hand_on(alloc: Global, job: TransferJob) -> Task
+    ensures { HandsOn job result }
+{
+    if !job.worker.is_done() {
+        return Task::Transfers(job);
+    }
+    let TransferJob { worker, paths } = job;
+    let transfer_worker::Finished {
+        number,
+        slot,
+        job,
+        version,
+        causes,
+    } = transfer_worker::finish(alloc, worker);
+    Task::Drops(DropJob {
+        worker: DropWorker::start(alloc, number, slot, job, version),
+        paths,
+        known: None,
+        causes: Items::from_vec(causes),
+    })
 }
 
 /// The step of a drop.
@@ -88,9 +123,11 @@ fn drop_step<K: Keeper>(
     requires owns { OwnsOf table.old (tasks.Drops job.old) }
     requires told { IsToldTo ends.now (tasks.Drops job.old) (tolds.Feed feed) }
     requires count { length ends.now ≡ length place.now.ids * 8 }
+    requires agrees { Agrees (K.records keeper.old) table.old.holds }
+    requires fresh { All (λ h. h.number < number) table.old.holds }
     ensures acts { IfOk result (Acts place.now clock ends.now (settings_of settings.now) time number (K.contents keeper.old) (K.parts keeper.old) table.old (tasks.Drops job.old) (tasks.Drops job.new) (tolds.Feed feed)) }
     ensures calls { IfOk result (Makes place.now clock ends.now (settings_of settings.now) time number (K.contents keeper.old) (K.parts keeper.old) table.old (K.failing keeper.old) (K.failing keeper.new) (tasks.Drops job.old) (tolds.Feed feed)) }
-    ensures leaves { Leaves place.now table.old table.new
+    ensures leaves { Leaves place.now number table.old table.new
         (seen (K.contents keeper.old) (K.parts keeper.old) (K.records keeper.old) (K.files keeper.old) (K.faults keeper.old) (K.failing keeper.old))
         (seen (K.contents keeper.new) (K.parts keeper.new) (K.records keeper.new) (K.files keeper.new) (K.faults keeper.new) (K.failing keeper.new)) (tasks.Drops job.old) (tasks.Drops job.new) (tolds.Feed feed) result }
 {
@@ -116,9 +153,9 @@ fn drop_step<K: Keeper>(
     })
 }
 
-/// The step of a transfer.
+/// The step of a transfer, whichever job it hands on to.
 fn transfer_step<K: Keeper>(
-    worker: &mut Worker,
+    job: &mut TransferJob,
     alloc: Global,
     place: &Place,
     ends: &Ends,
@@ -126,15 +163,17 @@ fn transfer_step<K: Keeper>(
     keeper: &mut K,
     arrival: &Arrival,
 ) -> Result<Output, NoMemory>
-    requires task { IsTask place.now (tasks.Transfers worker.old) }
-    requires owns { OwnsOf table.old (tasks.Transfers worker.old) }
-    requires told { IsToldTo ends.now (tasks.Transfers worker.old) (tolds.Arrival arrival.now) }
+    requires task { IsTask place.now (tasks.Transfers job.old) }
+    requires owns { OwnsOf table.old (tasks.Transfers job.old) }
+    requires told { IsToldTo ends.now (tasks.Transfers job.old) (tolds.Arrival arrival.now) }
     requires count { length ends.now ≡ length place.now.ids * 8 }
-    ensures acts { IfOk result (λ out. (clock : ClockSet) (settings : SettingsView) (time number : ℕ) → Acts place.now clock ends.now settings time number (K.contents keeper.old) (K.parts keeper.old) table.old (tasks.Transfers worker.old) (tasks.Transfers worker.new) (tolds.Arrival arrival.now) out) }
-    ensures calls { IfOk result (λ out. (clock : ClockSet) (settings : SettingsView) (time number : ℕ) → Makes place.now clock ends.now settings time number (K.contents keeper.old) (K.parts keeper.old) table.old (K.failing keeper.old) (K.failing keeper.new) (tasks.Transfers worker.old) (tolds.Arrival arrival.now) out) }
-    ensures leaves { Leaves place.now table.old table.new
+    ensures acts { IfOk result (λ out. (next : TaskView) → HandsOn job.new next → (clock : ClockSet) (settings : SettingsView) (time number : ℕ)
+        → Acts place.now clock ends.now settings time number (K.contents keeper.old) (K.parts keeper.old) table.old (tasks.Transfers job.old) next (tolds.Arrival arrival.now) out) }
+    ensures calls { IfOk result (λ out. (clock : ClockSet) (settings : SettingsView) (time number : ℕ)
+        → Makes place.now clock ends.now settings time number (K.contents keeper.old) (K.parts keeper.old) table.old (K.failing keeper.old) (K.failing keeper.new) (tasks.Transfers job.old) (tolds.Arrival arrival.now) out) }
+    ensures leaves { (next : TaskView) (number : ℕ) → HandsOn job.new next → Leaves place.now number table.old table.new
         (seen (K.contents keeper.old) (K.parts keeper.old) (K.records keeper.old) (K.files keeper.old) (K.faults keeper.old) (K.failing keeper.old))
-        (seen (K.contents keeper.new) (K.parts keeper.new) (K.records keeper.new) (K.files keeper.new) (K.faults keeper.new) (K.failing keeper.new)) (tasks.Transfers worker.old) (tasks.Transfers worker.new) (tolds.Arrival arrival.now) result }
+        (seen (K.contents keeper.new) (K.parts keeper.new) (K.records keeper.new) (K.files keeper.new) (K.faults keeper.new) (K.failing keeper.new)) (tasks.Transfers job.old) next (tolds.Arrival arrival.now) result }
 {
     let reach = Reach {
         repo: place.number(),
@@ -142,17 +181,29 @@ fn transfer_step<K: Keeper>(
         ends,
     };
     let made = transfer_worker::step(
-        worker,
+        &mut job.worker,
         alloc,
         &reach,
         table,
         keeper,
         arrival.incoming.as_ref(),
     )?;
-    let transfer_worker::Output { kind, sends, ended } = made;
+    let transfer_worker::Output {
+        kind,
+        sends,
+        ended: _,
+    } = made;
+    let ended = is_end(&kind);
     Ok(Output {
         kind,
         sent: Sent::ByTransfer(sends),
         ended,
     })
+}
+
+/// Whether an entry of this kind ends its job.
+fn is_end(kind: &EntryKind) -> bool
+    ensures { result ≡ is_end kind.now }
+{
+    matches!(kind, EntryKind::End { .. })
 }

@@ -10,7 +10,7 @@ mod telling;
 pub use acted::{Output, Sent};
 pub use acting::act;
 pub use node_drops::{Clock, DropJob, Place, Time, Worker as DropWorker};
-pub use node_transfers::Worker;
+pub use node_transfers::{TransferJob, Worker};
 pub use readiness::{Told, ready};
 pub use task::{Task, end};
 pub use telling::tells;

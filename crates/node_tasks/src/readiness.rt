@@ -84,8 +84,8 @@ pub fn ready(
                 None => Ok(None),
             }
         }
-        Task::Transfers(worker) => {
-            match node_transfers::ready(worker, alloc, place.number(), place.count(), ends)? {
+        Task::Transfers(job) => {
+            match node_transfers::ready(&job.worker, alloc, place.number(), place.count(), ends)? {
                 Some(arrival) => Ok(Some(Told::Arrival(arrival))),
                 None => Ok(None),
             }

@@ -18,7 +18,7 @@ use crate::task::Task;
 use annex_base::NoMemory;
 use annex_key::Key;
 use node_drops::drop_worker;
-use node_transfers::Worker;
+use node_transfers::{TransferJob, Worker};
 use owed_lines::ToldLine;
 use p2p_wire::Message;
 use put_steps::{Phase, Putting};
@@ -45,15 +45,15 @@ fn told_to(task: &Task, message: &Message) -> Result<Option<ToldLine>, NoMemory>
 {
     match task {
         Task::Drops(job) => by_drop(job.worker(), message),
-        Task::Transfers(worker) => by_transfer(worker, message),
+        Task::Transfers(job) => by_transfer(job, message),
     }
 }
 
 /// A transfer: a get's peers tell of no copy that has come or gone.
-fn by_transfer(worker: &Worker, message: &Message) -> Result<Option<ToldLine>, NoMemory>
-    ensures { IfOk result (λ o. option_to_list (option_map line_of o) ≡ told_to (work_of worker.now) (work_of worker.now).phase message.now) }
+fn by_transfer(job: &TransferJob, message: &Message) -> Result<Option<ToldLine>, NoMemory>
+    ensures { IfOk result (λ o. option_to_list (option_map line_of o) ≡ told_to (work_of job.now) (work_of job.now).phase message.now) }
 {
-    match worker {
+    match &job.worker {
         Worker::Puts(putting) => by_copy(putting, message),
         Worker::Gets(_getting) => Ok(None),
     }

@@ -2,5 +2,6 @@
 pub mod Feedings
 pub mod Losses
 pub mod Ordering
+pub mod Standing
 pub mod TimeCalls
 pub mod Timing

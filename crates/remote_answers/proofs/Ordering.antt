@@ -3,6 +3,7 @@ use Rattle.std.proofs.Common.{◌≡◌, ℕ, Bool, true, false, List, Option, S
 use Rattle.std.specs.Prelude.{◌==◌, ◌≤◌, if◌then◌else◌, nat_le, nat_lt}
 use Rattle.std.proofs.lemmas.Bool.Decides.{nat_tests}
 use Rattle.drop_proof.specs.Judging.{least_end}
+use Rattle.node_model.specs.Around.{around_in}
 use Rattle.node_model.specs.Ends.{End, EndName}
 use Rattle.node_model.specs.Knows.{Reading}
 use Rattle.node_model.specs.Requests.{asks}
@@ -47,7 +48,7 @@ module _ (t : Turn) (f : FrameView) (peer : ℕ) (took : Message) (n : ℕ) (dro
   pub moved_order : (job target : ℕ) (deadline : Option ℕ) (need : Need) (key : List ℕ) (m : Message) → message_of (text_of m) ≡ Some m
       → next_work t (says_to t (Order job target deadline need key) (Some f) peer m) ≡ says now_work t.look.time peer (Some took) m
   moved_order job target deadline need key m reads =
-      let rows : Jobs.RowsAndEnds = record { present = t.present; bar = t.bar; ends = t.ends } in
+      let rows : Jobs.RowsAndEnds = around_in t in
       let made : Effect = says_to t (Order job target deadline need key) (Some f) peer m in
       (λ i. talks_on rows (me t) ((ap (λ (part : Part). learns (claims t.w part t.w.phase) t.w.phase (Some f)) drops ∙ learn) i) (entry_of (me t) t.look made) (with_peer i))
       ∙ (on_said rows (me t) now_work (entry_of (me t) t.look made) peer m refl (open_line (job_end t.w peer) (end_with t peer) f l.text l.is live) reads

@@ -3,11 +3,13 @@ ghost use Rattle.std.specs.Prelude.{◌≡◌, ◌<◌, ◌^◌, ℕ, [], false,
 ghost use Rattle.drop_proof.specs.Judging.{least_end};
 ghost use Rattle.node_model.specs.Jobs.{partner};
 ghost use Rattle.content_lock.specs.Rows.{Rows};
+ghost use Rattle.drop_phases.specs.Apart.{StaysApart};
 ghost use Rattle.drop_phases.specs.Working.{phase_as, sight};
 ghost use Rattle.drop_phases.specs.Doing.{Takes};
 ghost use Rattle.drop_phases.specs.Feeding.{FindsClosed, KeepsAnswer, KeepsWord, TakesClose, TakesOther};
 ghost use Rattle.drop_phases.specs.Leaving.{stands_on, store};
 ghost use Rattle.remote_requests.specs.Remote.{DidRemote, IsRemote, ShutsRemote, Speaks, StandsRemote, TakesRemote, is_ordering, known_remotely, without_peer};
+ghost use Rattle.drop_phases.specs.Begun.{GoesWith};
 ghost use Rattle.drop_phases.specs.Sides.{IsNumbered};
 ghost use Rattle.drop_phases.specs.Calling.{MakesFed};
 
@@ -45,6 +47,8 @@ pub fn hear<K: Keeper, H: Here>(
         (TakesRemote (H.reading here.now) (H.ends here.now) input.now.time table.old table.new peer input.now.taken worker.old worker.new) result }
     ensures word { IfOk result (λ out. KeepsWord input.now.taken input.now.word worker.old worker.new) }
     ensures answer { IfOk result (λ out. KeepsAnswer input.now.taken input.now.word worker.old worker.new) }
+    ensures begun { IfOk result (GoesWith peer worker.old worker.new) }
+    ensures apart { IfOk result (StaysApart target worker.old worker.new) }
     ensures numbered { IfOk result (λ out. (n : ℕ) → IsNumbered n out.kind) }
     ensures calls { (number : ℕ) → MakesFed (sight (H.reading here.now) (H.ends here.now) input.now.time number) table.old worker.old peer input.now.taken (K.failing keeper.old) (K.failing keeper.new) result }
     ensures parts { K.parts keeper.new ≡ K.parts keeper.old }
@@ -80,6 +84,8 @@ fn take_message<K: Keeper, H: Here>(
         (TakesRemote (H.reading here.now) (H.ends here.now) input.now.time table.old table.new peer (Taken.Message message.now) worker.old worker.new) result }
     ensures word { IfOk result (λ out. KeepsWord (Taken.Message message.now) input.now.word worker.old worker.new) }
     ensures answer { IfOk result (λ out. KeepsAnswer (Taken.Message message.now) input.now.word worker.old worker.new) }
+    ensures begun { IfOk result (GoesWith peer worker.old worker.new) }
+    ensures apart { IfOk result (StaysApart target worker.old worker.new) }
     ensures numbered { IfOk result (λ out. (n : ℕ) → IsNumbered n out.kind) }
     ensures calls { (number : ℕ) → MakesFed (sight (H.reading here.now) (H.ends here.now) input.now.time number) table.old worker.old peer (Taken.Message message.now) (K.failing keeper.old) (K.failing keeper.new) result }
     ensures parts { K.parts keeper.new ≡ K.parts keeper.old }
@@ -118,6 +124,8 @@ fn take_time<K: Keeper, H: Here>(
     requires at { worker.old.phase ≡ Phase.AsksTime }
     ensures did { DidRemote table.old table.new (store (K.contents keeper.old) (K.records keeper.old) (K.faults keeper.old)) (store (K.contents keeper.new) (K.records keeper.new) (K.faults keeper.new)) worker.old worker.new
         (TakesRemote (H.reading here.now) (H.ends here.now) time table.old table.new target (Taken.Message message.now) worker.old worker.new) result }
+    ensures begun { IfOk result (GoesWith target worker.old worker.new) }
+    ensures apart { IfOk result (StaysApart target worker.old worker.new) }
     ensures numbered { IfOk result (λ out. (n : ℕ) → IsNumbered n out.kind) }
     ensures calls { (number : ℕ) → MakesFed (sight (H.reading here.now) (H.ends here.now) time number) table.old worker.old target (Taken.Message message.now) (K.failing keeper.old) (K.failing keeper.new) result }
     ensures parts { K.parts keeper.new ≡ K.parts keeper.old }
@@ -146,6 +154,8 @@ fn take_timestamp<K: Keeper, H: Here>(
     requires at { worker.old.phase ≡ Phase.AsksTime }
     ensures did { DidRemote table.old table.new (store (K.contents keeper.old) (K.records keeper.old) (K.faults keeper.old)) (store (K.contents keeper.new) (K.records keeper.new) (K.faults keeper.new)) worker.old worker.new
         (TakesRemote (H.reading here.now) (H.ends here.now) time table.old table.new target (Taken.Message (Message.Timestamp now)) worker.old worker.new) result }
+    ensures begun { IfOk result (GoesWith target worker.old worker.new) }
+    ensures apart { IfOk result (StaysApart target worker.old worker.new) }
     ensures numbered { IfOk result (λ out. (n : ℕ) → IsNumbered n out.kind) }
     ensures calls { (number : ℕ) → MakesFed (sight (H.reading here.now) (H.ends here.now) time number) table.old worker.old target (Taken.Message (Message.Timestamp now)) (K.failing keeper.old) (K.failing keeper.new) result }
     ensures parts { K.parts keeper.new ≡ K.parts keeper.old }
@@ -173,6 +183,8 @@ fn order_at<K: Keeper, H: Here>(
     requires early { now < 2 ^ 61 }
     ensures did { DidRemote table.old table.new (store (K.contents keeper.old) (K.records keeper.old) (K.faults keeper.old)) (store (K.contents keeper.new) (K.records keeper.new) (K.faults keeper.new)) worker.old worker.new
         (TakesRemote (H.reading here.now) (H.ends here.now) time table.old table.new target (Taken.Message (Message.Timestamp now)) worker.old worker.new) result }
+    ensures begun { IfOk result (GoesWith target worker.old worker.new) }
+    ensures apart { IfOk result (StaysApart target worker.old worker.new) }
     ensures numbered { IfOk result (λ out. (n : ℕ) → IsNumbered n out.kind) }
     ensures calls { (number : ℕ) → MakesFed (sight (H.reading here.now) (H.ends here.now) time number) table.old worker.old target (Taken.Message (Message.Timestamp now)) (K.failing keeper.old) (K.failing keeper.new) result }
     ensures parts { K.parts keeper.new ≡ K.parts keeper.old }
@@ -204,6 +216,8 @@ fn order_before<K: Keeper, H: Here>(
     requires known { Some end ≡ least_end (known_remotely (H.reading here.now) target worker.old) }
     ensures did { DidRemote table.old table.new (store (K.contents keeper.old) (K.records keeper.old) (K.faults keeper.old)) (store (K.contents keeper.new) (K.records keeper.new) (K.faults keeper.new)) worker.old worker.new
         (TakesRemote (H.reading here.now) (H.ends here.now) time table.old table.new target (Taken.Message (Message.Timestamp now)) worker.old worker.new) result }
+    ensures begun { IfOk result (GoesWith target worker.old worker.new) }
+    ensures apart { IfOk result (StaysApart target worker.old worker.new) }
     ensures numbered { IfOk result (λ out. (n : ℕ) → IsNumbered n out.kind) }
     ensures calls { (number : ℕ) → MakesFed (sight (H.reading here.now) (H.ends here.now) time number) table.old worker.old target (Taken.Message (Message.Timestamp now)) (K.failing keeper.old) (K.failing keeper.new) result }
     ensures parts { K.parts keeper.new ≡ K.parts keeper.old }
@@ -235,6 +249,8 @@ fn take_version<H: Here>(
     requires at { worker.old.phase ≡ Phase.Greets peer }
     ensures does { IfOk result (λ out. (rows : Rows) → TakesRemote (H.reading here.now) (H.ends here.now) time rows rows peer (Taken.Message message.now) worker.old worker.new out) }
     ensures speaks { IfOk result (Speaks worker.old worker.new) }
+    ensures begun { IfOk result (GoesWith peer worker.old worker.new) }
+    ensures apart { IfOk result (StaysApart target worker.old worker.new) }
     ensures err { OnErr result (worker.new ≡ worker.old) }
 {
     match message {
@@ -257,6 +273,8 @@ fn greet<H: Here>(
     requires at { worker.old.phase ≡ Phase.Greets peer }
     ensures does { IfOk result (λ out. (rows : Rows) → TakesRemote (H.reading here.now) (H.ends here.now) time rows rows peer (Taken.Message (Message.Version version)) worker.old worker.new out) }
     ensures speaks { IfOk result (Speaks worker.old worker.new) }
+    ensures begun { IfOk result (GoesWith peer worker.old worker.new) }
+    ensures apart { IfOk result (StaysApart target worker.old worker.new) }
     ensures err { OnErr result (worker.new ≡ worker.old) }
 {
     if version > 3 {
@@ -287,6 +305,8 @@ fn take_answer(
     ensures obeyed { IfOk result (λ out. message.now ≡ Message.Success → worker.new.word ≡ word) }
     ensures denied { IfOk result (λ out. message.now ≡ Message.Failure → worker.new.word ≡ word) }
     ensures speaks { IfOk result (Speaks worker.old worker.new) }
+    ensures begun { IfOk result (GoesWith target worker.old worker.new) }
+    ensures apart { IfOk result (StaysApart target worker.old worker.new) }
     ensures err { OnErr result (worker.new ≡ worker.old) }
 {
     match message {
@@ -319,6 +339,8 @@ fn take_lock(
     requires at { worker.old.phase ≡ Phase.AsksLock peer since }
     ensures does { IfOk result (Takes time peer message.now worker.old worker.new) }
     ensures speaks { IfOk result (Speaks worker.old worker.new) }
+    ensures begun { IfOk result (GoesWith peer worker.old worker.new) }
+    ensures apart { IfOk result (StaysApart target worker.old worker.new) }
     ensures err { OnErr result (worker.new ≡ worker.old) }
 {
     match message {
@@ -354,6 +376,8 @@ fn take_look(
     ensures does { IfOk result (Takes time peer message.now worker.old worker.new) }
     ensures word { IfOk result (λ out. KeepsWord (Taken.Message message.now) word worker.old worker.new) }
     ensures speaks { IfOk result (Speaks worker.old worker.new) }
+    ensures begun { IfOk result (GoesWith peer worker.old worker.new) }
+    ensures apart { IfOk result (StaysApart target worker.old worker.new) }
     ensures err { OnErr result (worker.new ≡ worker.old) }
 {
     match message {
@@ -382,6 +406,8 @@ fn take_opened(
     requires at { worker.old.phase ≡ Phase.Opens peer }
     ensures does { IfOk result (Takes time peer message.now worker.old worker.new) }
     ensures speaks { IfOk result (Speaks worker.old worker.new) }
+    ensures begun { IfOk result (GoesWith peer worker.old worker.new) }
+    ensures apart { IfOk result (StaysApart target worker.old worker.new) }
     ensures err { OnErr result (worker.new ≡ worker.old) }
 {
     match message {
@@ -408,6 +434,8 @@ fn take_other(
     requires awaits { partner worker.old.job.peer (phase_as worker.old.phase) ≡ Some peer }
     ensures does { IfOk result (TakesOther peer worker.old worker.new) }
     ensures speaks { IfOk result (Speaks worker.old worker.new) }
+    ensures begun { IfOk result (GoesWith peer worker.old worker.new) }
+    ensures apart { IfOk result (StaysApart target worker.old worker.new) }
     ensures err { OnErr result (worker.new ≡ worker.old) }
 {
     shut(worker, alloc, target, peer)
@@ -420,6 +448,8 @@ fn close(worker: &mut Worker, alloc: Global, target: u32, peer: u32) -> Result<O
     ensures does { IfOk result (TakesClose peer worker.old worker.new) }
     ensures here { IfOk result (FindsClosed peer worker.old worker.new) }
     ensures speaks { IfOk result (Speaks worker.old worker.new) }
+    ensures begun { IfOk result (GoesWith peer worker.old worker.new) }
+    ensures apart { IfOk result (StaysApart target worker.old worker.new) }
     ensures err { OnErr result (worker.new ≡ worker.old) }
 {
     part(worker, target, peer)?;

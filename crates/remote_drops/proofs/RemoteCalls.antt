@@ -93,9 +93,8 @@ module _ (x : Sight) (known : Option Contents) (rows : Rows) (w : Worker) (befor
       ap (λ (e : Effect). e.calls) (ap (λ (ph : Phase). goes t (phase_as ph)) fresh ∙ (ap (first_drop t) remote ∙ (ap (first_remote t) spared ∙ ap (tries_own t) is)))
 
   -- it isn't asked
-  pub skipped_makes : (s : Standing) (out : Output) → ((t : Turn) → (tries_own t s).calls ≡ []) → x.read.standing x.read.repo ≡ s → failed_in out.kind ≡ None → MakesPhase x known rows w before before (Ok out)
-  skipped_makes s out none is well =
-      over_none x known rows w (λ t. goes t t.w.phase) before (Ok out) well (λ p fails rest. own_made s is p fails rest ∙ none (turn_in x rows p fails rest w))
+  pub skipped_makes : (s : Standing) (r : Result Output NoMemory) → ((t : Turn) → (tries_own t s).calls ≡ []) → x.read.standing x.read.repo ≡ s → IfOk r (λ out. failed_in out.kind ≡ None) → MakesPhase x known rows w before before r
+  skipped_makes s r none is well = over_none x known rows w (λ t. goes t t.w.phase) before r well (λ p fails rest. own_made s is p fails rest ∙ none (turn_in x rows p fails rest w))
 
   module _ (asked : x.read.standing x.read.repo ≡ Asked) where
     own_looks : (p : List ℕ → Bool) (fails : Option Call) (rest : Rest) → (goes (turn_in x rows p fails rest w) (phase_as w.phase)).calls ≡ to_hold (p w.job.key) (bar_at rows w.job.key)
@@ -112,40 +111,40 @@ module _ (x : Sight) (known : Option Contents) (rows : Rows) (w : Worker) (befor
         (makes_then calls.Has (calls.Hold ∷ []) None before (option_map (one_fewer calls.Has) before) after (first_told calls.Has false ((calls.Hold, false) ∷ []) before after it)
         (makes_last calls.Hold (option_map (one_fewer calls.Has) before) after (record { told = it.1.0; count = it.1.1 })))
 
-    pub unshared_makes : (v w' : Worker) (why : ShareRefused) (r : Result Output NoMemory) → NotShared why (HasContent known w.job.key) (bar_at rows w.job.key) → FollowsShareRefused why v w' r
+    pub unshared_makes : (v w' : Worker) (bar : Option ℕ) (why : ShareRefused) (r : Result Output NoMemory) → NotShared why (HasContent known w.job.key) (bar_at rows w.job.key) → FollowsShareRefused bar why v w' r
         → FailInTurn (share_turns {T = Unit {0}} (Err why)) before after → MakesPhase x known rows w before after r
-    unshared_makes v w' refused.Absent (Ok out) found is it =
+    unshared_makes v w' bar refused.Absent (Ok out) found is it =
         over_is x known rows w (λ t. goes t t.w.phase) (calls.Has ∷ []) None before after out (λ c told rest. hold_is false (bar_at rows w.job.key) found refl c told (failed_in out.kind) rest) (ap failed_in is.0.made) (look_only before after it)
-    unshared_makes v w' refused.Absent (Err e) found is it = absurd is.1
-    unshared_makes v w' (refused.Barred job) (Ok out) found is it =
+    unshared_makes v w' bar refused.Absent (Err e) found is it = absurd is.1
+    unshared_makes v w' bar (refused.Barred job) (Ok out) found is it =
         over_is x known rows w (λ t. goes t t.w.phase) (calls.Has ∷ []) None before after out (λ c told rest. hold_is true (Some job) found.0 found.1 c told (failed_in out.kind) rest) (ap failed_in is.0.made) (look_only before after it)
-    unshared_makes v w' (refused.Barred job) (Err e) found is it = absurd is.1
-    unshared_makes v w' (refused.StoreFault calls.Has) (Ok out) found is it = (
+    unshared_makes v w' bar (refused.Barred job) (Err e) found is it = absurd is.1
+    unshared_makes v w' bar (refused.StoreFault calls.Has) (Ok out) found is it = (
       left_as (calls.Has ∷ []) (Some calls.Has) (failed_in out.kind) before after (ap failed_in is.0.made) (makes_failed calls.Has [] before after (record { told = it.0; count = it.1 })),
       λ c told rest.
           makes_as (goes (turn_in x rows (present_in c) (failed_in out.kind) rest w) (phase_as w.phase)).calls (to_hold (present_in c w.job.key) (bar_at rows w.job.key)) (failed_in out.kind) (Some calls.Has) before after
           (own_looks (present_in c) (failed_in out.kind) rest) (ap failed_in is.0.made) (hold_failed (present_in c w.job.key) (bar_at rows w.job.key) before after (record { told = it.0; count = it.1 })),
     )
-    unshared_makes v w' (refused.StoreFault calls.Has) (Err e) found is it = absurd is.1
-    unshared_makes v w' (refused.StoreFault calls.Hold) (Ok out) found is it =
+    unshared_makes v w' bar (refused.StoreFault calls.Has) (Err e) found is it = absurd is.1
+    unshared_makes v w' bar (refused.StoreFault calls.Hold) (Ok out) found is it =
         over_is x known rows w (λ t. goes t t.w.phase) (calls.Has ∷ calls.Hold ∷ []) (Some calls.Hold) before after out (λ c told rest. hold_is true None found.0 found.1 c told (failed_in out.kind) rest) (ap failed_in is.0.made)
         (makes_then calls.Has (calls.Hold ∷ []) (Some calls.Hold) before (option_map (one_fewer calls.Has) before) after (first_told calls.Has false ((calls.Hold, true) ∷ []) before after it)
         (makes_failed calls.Hold [] (option_map (one_fewer calls.Has) before) after (record { told = it.1.0; count = it.1.1 })))
-    unshared_makes v w' (refused.StoreFault calls.Hold) (Err e) found is it = absurd is.1
-    unshared_makes v w' (refused.StoreFault calls.Size) r found is it = absurd found
-    unshared_makes v w' (refused.StoreFault calls.Read) r found is it = absurd found
-    unshared_makes v w' (refused.StoreFault calls.PartSize) r found is it = absurd found
-    unshared_makes v w' (refused.StoreFault calls.ReadPart) r found is it = absurd found
-    unshared_makes v w' (refused.StoreFault calls.Append) r found is it = absurd found
-    unshared_makes v w' (refused.StoreFault calls.Commit) r found is it = absurd found
-    unshared_makes v w' (refused.StoreFault calls.DropPart) r found is it = absurd found
-    unshared_makes v w' (refused.StoreFault calls.Remove) r found is it = absurd found
-    unshared_makes v w' (refused.StoreFault calls.Unhold) r found is it = absurd found
-    unshared_makes v w' (refused.StoreFault calls.Holds) r found is it = absurd found
-    unshared_makes v w' (refused.StoreFault calls.PutFile) r found is it = absurd found
-    unshared_makes v w' (refused.StoreFault calls.File) r found is it = absurd found
-    unshared_makes v w' refused.NoMemory (Ok out) found is it = absurd is.0
-    unshared_makes v w' refused.NoMemory (Err e) found is it = unfailed calls.Has before after (record { told = it.0; count = it.1 })
+    unshared_makes v w' bar (refused.StoreFault calls.Hold) (Err e) found is it = absurd is.1
+    unshared_makes v w' bar (refused.StoreFault calls.Size) r found is it = absurd found
+    unshared_makes v w' bar (refused.StoreFault calls.Read) r found is it = absurd found
+    unshared_makes v w' bar (refused.StoreFault calls.PartSize) r found is it = absurd found
+    unshared_makes v w' bar (refused.StoreFault calls.ReadPart) r found is it = absurd found
+    unshared_makes v w' bar (refused.StoreFault calls.Append) r found is it = absurd found
+    unshared_makes v w' bar (refused.StoreFault calls.Commit) r found is it = absurd found
+    unshared_makes v w' bar (refused.StoreFault calls.DropPart) r found is it = absurd found
+    unshared_makes v w' bar (refused.StoreFault calls.Remove) r found is it = absurd found
+    unshared_makes v w' bar (refused.StoreFault calls.Unhold) r found is it = absurd found
+    unshared_makes v w' bar (refused.StoreFault calls.Holds) r found is it = absurd found
+    unshared_makes v w' bar (refused.StoreFault calls.PutFile) r found is it = absurd found
+    unshared_makes v w' bar (refused.StoreFault calls.File) r found is it = absurd found
+    unshared_makes v w' bar refused.NoMemory (Ok out) found is it = absurd is.0
+    unshared_makes v w' bar refused.NoMemory (Err e) found is it = unfailed calls.Has before after (record { told = it.0; count = it.1 })
 
 -- ---- by the judgement
 

@@ -1,5 +1,5 @@
 -- The first step of a remote drop that gets no share of its own repository's content.
-use Rattle.std.proofs.Common.{◌≡◌, ◌≤◌, inl, inr, ℕ, Bool, true, false, List, [], ◌∷◌, Option, Some, None, Result, Ok, Err, refl, sym, ap, ◌∙◌, subst, arith}
+use Rattle.std.proofs.Common.{◌≡◌, ◌≤◌, inr, ℕ, Bool, true, false, List, ◌∷◌, Option, Some, None, Result, Ok, Err, refl, sym, ap, ◌∙◌, subst}
 use Rattle.std.specs.Prelude.{◌+◌, if◌then◌else◌, IfOk, IfSome, OnErr}
 use Rattle.std.specs.List.{list_any}
 use Rattle.annex_base.specs.Calls.{same_call}
@@ -20,10 +20,9 @@ use Rattle.node_model.specs.Calls.{to_hold}
 use Rattle.node_model.specs.Clocks.{hold_time}
 use Rattle.node_model.specs.Evidence.{Asked, Standing}
 use Rattle.node_model.specs.Jobs as Jobs
-use Rattle.node_model.specs.Jobs.{Drops, Part, Work, first_look, hears, side_of, to_phase}
+use Rattle.node_model.specs.Jobs.{Drops, hears, side_of, unshared_cause}
 use Rattle.node_model.specs.JobStep.{Turn, bar_there, by_me, clock_of, is_there, key_of, me, quietly, talk}
 use Rattle.node_model.specs.DropStep.{first_drop, first_remote, own_share, shares, tries_own}
-use Rattle.node_model.specs.Knows.{Reading}
 use Rattle.node_model.specs.Look.{Effect, as_told, failed_in, failing_call, unless}
 use Rattle.node_model.specs.Slots.{job_of}
 use Rattle.node_model.specs.Turns.{goes}
@@ -42,11 +41,10 @@ use Rattle.drop_phases.specs.Worker.{Worker}
 use Rattle.drop_phases.specs.Working.{Rest, Sight, phase_as, present_in, turn_in, work_of}
 use Rattle.drop_phases.specs.Doing.{HasToken, contents_after, next_work}
 use Rattle.drop_phases.specs.Feeding.{HasNoBar, IsBare}
-use Rattle.drop_phases.specs.Leaving.{Store}
-use Rattle.drop_phases.specs.Alike.{Alike, is_asked}
-use Rattle.remote_requests.specs.Remote.{DidRemote, GivesNone, GoesAlike, IsRemote, FollowsShareRefused}
-use Rattle.drop_phases.proofs.Alikes.{alike_same, quiet_alike, unread}
-use Rattle.remote_requests.proofs.RemoteLeavings.{leaves_remote}
+use Rattle.drop_phases.specs.Leaving.{GoesSo, Store}
+use Rattle.remote_requests.specs.Remote.{DidRemote, GivesNone, IsRemote, PassesBy, FollowsShareRefused}
+use Rattle.drop_phases.proofs.Leavings.{quiet_does}
+use Rattle.remote_requests.proofs.RemoteLeavings.{leaves_remote, passes_speaks, spoken_did}
 use Rattle.drop_phases.proofs.Tokens.{others_same}
 
 -- ---- what a share makes
@@ -75,32 +73,14 @@ unheld t fails there free = rw (fails, there, free) refl
 
 -- ---- the work that follows
 
-next_gone : (t : Turn) → t.w.part ≡ Drops → t.w.phase ≡ Jobs.Fresh → is_there t ≡ false → next_work t (quietly (talk t) None) ≡ hears t.w (me t) (Jobs.Lacks causes.Absent)
-next_gone t drops fresh gone = rw (drops, fresh, gone) refl
-
-next_barred : (t : Turn) (job : ℕ) → t.w.part ≡ Drops → t.w.phase ≡ Jobs.Fresh → is_there t ≡ true → bar_there t ≡ Some job → next_work t (quietly (talk t) None) ≡ hears t.w (me t) (Jobs.Lacks causes.Barred)
-next_barred t job drops fresh there bar = rw (drops, fresh, there, bar) refl
+next_none : (t : Turn) → t.w.part ≡ Drops → t.w.phase ≡ Jobs.Fresh → next_work t (quietly (talk t) None) ≡ hears t.w (me t) (Jobs.Lacks (unshared_cause (bar_there t)))
+next_none t drops fresh = rw (drops, fresh) refl
 
 next_unfound : (t : Turn) → t.w.part ≡ Drops → t.w.phase ≡ Jobs.Fresh → side_of t.w ≡ Remote → next_work t (quietly (Fault calls.Has (by_me t)) None) ≡ hears t.w (me t) (Jobs.Lacks causes.Fault)
 next_unfound t drops fresh remote = rw (drops, fresh, remote) refl
 
 next_unheld : (t : Turn) → t.w.part ≡ Drops → t.w.phase ≡ Jobs.Fresh → side_of t.w ≡ Remote → next_work t (quietly (Fault calls.Hold (by_me t)) None) ≡ hears t.w (me t) (Jobs.Lacks causes.Fault)
 next_unheld t drops fresh remote = rw (drops, fresh, remote) refl
-
-next_look : (t : Turn) → t.w.part ≡ Drops → t.w.phase ≡ Jobs.Fresh → next_work t (quietly (talk t) None) ≡ first_look (me t) t.w t.w.part (is_there t) (bar_there t)
-next_look t drops fresh = rw (drops, fresh) refl
-
--- where its own repository isn't asked, what it hears of it makes no difference
-next_unasked : (r : Reading) (t : Turn) → t.read ≡ r → t.w.part ≡ Drops → t.w.phase ≡ Jobs.Fresh → is_asked (r.standing r.repo) ≡ false → Alike r (to_phase t.w Jobs.Next) (next_work t (quietly (talk t) None))
-next_unasked r t read drops fresh unasked = subst (λ (v : Work). Alike r (to_phase t.w Jobs.Next) v) (sym moves) (go (is_there t) (bar_there t))
-  where
-    moves : next_work t (quietly (talk t) None) ≡ first_look r.repo t.w Drops (is_there t) (bar_there t)
-    moves = next_look t drops fresh ∙ (ap (λ (part : Part). first_look (me t) t.w part (is_there t) (bar_there t)) drops ∙ ap (λ (q : Reading). first_look q.repo t.w Drops (is_there t) (bar_there t)) read)
-
-    go : (here : Bool) (bar : Option ℕ) → Alike r (to_phase t.w Jobs.Next) (first_look r.repo t.w Drops here bar)
-    go false bar = unread r t.w (Jobs.Lacks causes.Absent) unasked
-    go true None = alike_same r (to_phase t.w Jobs.Next) (to_phase t.w Jobs.Next) refl
-    go true (Some job) = unread r t.w (Jobs.Lacks causes.Barred) unasked
 
 -- ---- the first step
 
@@ -126,19 +106,18 @@ module _ (x : Sight) (rows rows' : Rows) (k k' : Store) (w w' : Worker) (target 
 
   -- ---- its own repository isn't asked
 
-  pub skipped_did : (standing : Standing) (out : Output) → is_asked standing ≡ false → ((t : Turn) → tries_own t standing ≡ quietly (talk t) None) → x.read.standing x.read.repo ≡ standing
-      → out.kind ≡ Talk (Some w.number) → out.sends.items ≡ [] → w' ≡ record w { phase = phases.Next } → rows' ≡ rows → k' ≡ k → Agrees k.records rows.holds
-      → DidRemote rows rows' k k' w w' (GoesAlike x k.contents rows rows' w w') (Ok out)
-  skipped_did standing out unasked quiet is kind sends next same kept agrees = (
-    λ c told. quiet_alike x rows rows' (present_in c) w w' (λ t. goes t t.w.phase) (Talk (Some w.number)) out kind sends
-        (λ rest. ap as_told (tries (present_in c) None rest ∙ (ap (tries_own (turn_in x rows (present_in c) None rest w)) is ∙ quiet (turn_in x rows (present_in c) None rest w))))
-        (λ rest. subst (λ (u : Worker). Alike x.read (work_of rest u) (next_work (turn_in x rows (present_in c) None rest w) (quietly (Talk (Some w.number)) None))) (sym next)
-        (next_unasked x.read (turn_in x rows (present_in c) None rest w) refl refl at (ap is_asked is ∙ unasked)))
-        (quiet_after (Talk (Some w.number)) (record { holds = refl; bars = λ key. refl; fills = refl }) same) refl,
-    leaves_remote rows rows' k k' w (record w { phase = phases.Next }) w' (Talk (Some w.number)) out kind next (quiet_after (Talk (Some w.number)) (record { holds = refl; bars = λ key. refl; fills = refl }) same)
-        (ap (λ (s : Store). s.contents) kept) (subst (λ (q : Rows). Agrees k'.records q.holds) (sym same) (subst (λ (s : Store). Agrees s.records rows.holds) (sym kept) agrees))
-        (subst (λ (s : Store). k.faults ≤ s.faults) (sym kept) (omega arith)) tt (own' same) (λ going. unbarred w.token bare) (inl refl) refl refl (others_same w.number rows rows' same),
-  )
+  pub skipped_did : (standing : Standing) (r : Result Output NoMemory) → ((t : Turn) → tries_own t standing ≡ quietly (talk t) None) → x.read.standing x.read.repo ≡ standing
+      → IfOk r (PassesBy x.read.repo (bar_at rows w.job.key) w w') → OnErr r (w' ≡ w) → Agrees k.records rows.holds → DidRemote rows rows k k w w' (GoesSo x k.contents rows rows w w') r
+  skipped_did standing r quiet is passes err agrees =
+      spoken_did rows k w w' (GoesSo x k.contents rows rows w w') r (go r passes) (passes_speaks x.read.repo (bar_at rows w.job.key) w w' r passes) err (unbarred w.token bare) own agrees
+    where
+      go : (r : Result Output NoMemory) → IfOk r (PassesBy x.read.repo (bar_at rows w.job.key) w w') → IfOk r (GoesSo x k.contents rows rows w w')
+      go (Ok out) p = λ c told.
+          quiet_does x rows rows (present_in c) w w' (λ t. goes t t.w.phase) (Talk (Some w.number)) out p.made p.sends
+          (λ rest. ap as_told (tries (present_in c) None rest ∙ (ap (tries_own (turn_in x rows (present_in c) None rest w)) is ∙ quiet (turn_in x rows (present_in c) None rest w))))
+          (λ rest. ap (work_of rest) p.next ∙ sym (next_none (turn_in x rows (present_in c) None rest w) refl at))
+          (record { holds = refl; bars = λ key. refl; fills = refl }) refl
+      go (Err e) p = tt
 
   -- ---- it has none
 
@@ -154,12 +133,12 @@ module _ (x : Sight) (rows rows' : Rows) (k k' : Store) (w w' : Worker) (target 
         → IfSome (failed_in kind) (λ call. Rose k.faults k'.faults)
         → ((c : Contents) → k.contents ≡ Some c → (rest : Rest) → as_told (shares (turn_in x rows (present_in c) (failed_in kind) rest w)) ≡ quietly kind None)
         → ((c : Contents) → k.contents ≡ Some c → (rest : Rest) → next_work (turn_in x rows (present_in c) (failed_in kind) rest w) (quietly kind None) ≡ hears (work_of rest w) x.read.repo (Jobs.Lacks cause))
-        → DidRemote rows rows' k k' w w' (GoesAlike x k.contents rows rows' w w') r
+        → DidRemote rows rows' k k' w w' (GoesSo x k.contents rows rows' w w') r
     none_did kind cause (Err e) gives after whose still rose makes moves = absurd gives.1
     none_did kind cause (Ok out) gives after whose still rose makes moves = (
-      λ c told. quiet_alike x rows rows' (present_in c) w w' (λ t. goes t t.w.phase) kind out gives.0.made gives.0.sends
+      λ c told. quiet_does x rows rows' (present_in c) w w' (λ t. goes t t.w.phase) kind out gives.0.made gives.0.sends
           (λ rest. ap as_told (tries (present_in c) (failed_in kind) rest ∙ ap (tries_own (turn_in x rows (present_in c) (failed_in kind) rest w)) asked) ∙ makes c told rest)
-          (λ rest. alike_same x.read (work_of rest w') (next_work (turn_in x rows (present_in c) (failed_in kind) rest w) (quietly kind None)) (ap (work_of rest) next ∙ sym (moves c told rest)))
+          (λ rest. ap (work_of rest) next ∙ sym (moves c told rest))
           (quiet_after kind after same) whose,
       leaves_remote rows rows' k k' w (record w { heard = (x.read.repo, heards.Lacks cause) ∷ w.heard; phase = phases.Next }) w' kind out gives.0.made next (quiet_after kind after same) (contents ∙ sym still) agrees' later rose
           (own' same) (λ going. unbarred w.token bare) (inr ((x.read.repo, heards.Lacks cause), refl)) refl refl (others_same w.number rows rows' same),
@@ -169,13 +148,13 @@ module _ (x : Sight) (rows rows' : Rows) (k k' : Store) (w w' : Worker) (target 
         next = gives.0.next x.read.repo (heards.Held x.time) w.heard refl
 
     pub unshared_did : (why : ShareRefused) (r : Result Output NoMemory) → NotShared why (HasContent k.contents w.job.key) (bar_at rows w.job.key) → (IsShareFault why → Rose k.faults k'.faults)
-        → FollowsShareRefused why heard_first w' r → DidRemote rows rows' k k' w w' (GoesAlike x k.contents rows rows' w w') r
+        → FollowsShareRefused (bar_at rows w.job.key) why heard_first w' r → DidRemote rows rows' k k' w w' (GoesSo x k.contents rows rows' w w') r
     unshared_did refused.Absent r found rose is =
-        none_did (Talk (Some w.number)) causes.Absent r is (record { holds = refl; bars = λ key. refl; fills = refl }) refl refl tt
-        (λ c told rest. shares_gone (turn_in x rows (present_in c) None rest w) refl (found c told)) (λ c told rest. next_gone (turn_in x rows (present_in c) None rest w) refl at (found c told))
+        none_did (Talk (Some w.number)) (unshared_cause (bar_at rows w.job.key)) r is (record { holds = refl; bars = λ key. refl; fills = refl }) refl refl tt
+        (λ c told rest. shares_gone (turn_in x rows (present_in c) None rest w) refl (found c told)) (λ c told rest. next_none (turn_in x rows (present_in c) None rest w) refl at)
     unshared_did (refused.Barred job) r found rose is =
-        none_did (Talk (Some w.number)) causes.Barred r is (record { holds = refl; bars = λ key. refl; fills = refl }) refl refl tt
-        (λ c told rest. shares_barred (turn_in x rows (present_in c) None rest w) job refl (found.0 c told) found.1) (λ c told rest. next_barred (turn_in x rows (present_in c) None rest w) job refl at (found.0 c told) found.1)
+        none_did (Talk (Some w.number)) (unshared_cause (bar_at rows w.job.key)) r is (record { holds = refl; bars = λ key. refl; fills = refl }) refl refl tt
+        (λ c told rest. shares_barred (turn_in x rows (present_in c) None rest w) job refl (found.0 c told) found.1) (λ c told rest. next_none (turn_in x rows (present_in c) None rest w) refl at)
     unshared_did (refused.StoreFault calls.Has) r found rose is =
         none_did (Fault calls.Has (by_job w.number)) causes.Fault r is (record { holds = refl; bars = λ key. refl; fills = refl }) refl refl (rose tt)
         (λ c told rest. unfound (turn_in x rows (present_in c) (Some calls.Has) rest w) refl) (λ c told rest. next_unfound (turn_in x rows (present_in c) (Some calls.Has) rest w) refl at remote.side)

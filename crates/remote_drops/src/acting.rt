@@ -1,21 +1,23 @@
 //! The steps of a remote drop that take no frame.
-ghost use Rattle.std.specs.Prelude.{◌≡◌, ◌<◌, ◌==◌, ℕ, List, [], All, Bool, false, None, Some, IfOk, OnErr};
+ghost use Rattle.std.specs.Prelude.{◌≡◌, ◌<◌, ◌==◌, ℕ, List, All, Bool, true, false, None, Some, IfOk, OnErr};
 ghost use Rattle.std.specs.declared.option.Option.{Option};
 ghost use Rattle.annex_base.specs.declared.kinds.Call.{Call};
 ghost use Rattle.drop_proof.specs.declared.rule.Side.TheVariants as sides;
 ghost use Rattle.drop_proof.specs.Judging.{least_end};
 ghost use Rattle.node_model.specs.DropStep.{expiry, lacking_outcome, removal_outcome};
 ghost use Rattle.node_model.specs.Evidence.{Asked};
+ghost use Rattle.node_model.specs.Jobs.{unshared_cause};
 ghost use Rattle.node_model.specs.Knows.{denial_of, obeyed_outcome};
 ghost use Rattle.node_model.specs.Requests.{goes_to};
 ghost use Rattle.node_model.specs.Turns.{outcome_of};
-ghost use Rattle.content_lock.specs.Rows.{Rows};
-ghost use Rattle.drop_phases.specs.Working.{Rest, outcome_as, phase_as, sight, turn_in};
+ghost use Rattle.content_lock.specs.Rows.{Rows, bar_at};
+ghost use Rattle.drop_phases.specs.Apart.{StaysApart, StaysApartIn};
+ghost use Rattle.drop_phases.specs.Working.{Rest, heard_in, outcome_as, phase_as, sight, turn_in};
 ghost use Rattle.drop_phases.specs.Doing.{Acts};
-ghost use Rattle.drop_phases.specs.Leaving.{stands_on, store};
-ghost use Rattle.remote_requests.specs.Remote.{DidRemote, GoesAlike, IsRemote, Speaks, StandsRemote, FollowsShareRefused, known_remotely, remote_candidates};
-ghost use Rattle.drop_phases.specs.Begun.{IsToEnd};
-ghost use Rattle.drop_phases.specs.Sides.{IsNumbered};
+ghost use Rattle.drop_phases.specs.Leaving.{GoesSo, stands_on, store};
+ghost use Rattle.remote_requests.specs.Remote.{DidRemote, GivesNone, IsRemote, PassesBy, Speaks, StandsRemote, FollowsShareRefused, known_remotely, remote_candidates};
+ghost use Rattle.drop_phases.specs.Begun.{CanStand, HasGone, IsOther, IsToEnd};
+ghost use Rattle.drop_phases.specs.Sides.{HearsOwn, IsNumbered};
 ghost use Rattle.drop_phases.specs.Calling.{MakesPhase};
 
 use annex_base::{Items, NoMemory, Text, Word};
@@ -42,11 +44,15 @@ pub fn act<K: Keeper, H: Here>(
     target: u32,
 ) -> Result<Output, NoMemory>
     requires stands { StandsRemote target (K.records keeper.old) table.old worker.old }
-    requires apart { ((H.reading here.now).repo == target) ≡ false }
+    requires other { IsOther (H.reading here.now) target }
+    requires own { (worker.old.phase ≡ Phase.Fresh → ⊥) → HearsOwn sides.Remote (H.reading here.now) worker.old }
     requires awaits { stands_on worker.old ≡ None }
     requires fresh { All (λ h. h.number < input.now.number) table.old.holds }
     ensures did { DidRemote table.old table.new (store (K.contents keeper.old) (K.records keeper.old) (K.faults keeper.old)) (store (K.contents keeper.new) (K.records keeper.new) (K.faults keeper.new)) worker.old worker.new
-        (GoesAlike (sight (H.reading here.now) (H.ends here.now) input.now.time input.now.number) (K.contents keeper.old) table.old table.new worker.old worker.new) result }
+        (GoesSo (sight (H.reading here.now) (H.ends here.now) input.now.time input.now.number) (K.contents keeper.old) table.old table.new worker.old worker.new) result }
+    ensures begun { IfOk result (λ out. CanStand (H.reading here.now) worker.old.phase → HasGone (H.reading here.now) worker.old worker.new out) }
+    ensures apart { IfOk result (StaysApartIn (H.reading here.now).repo target worker.old worker.new) }
+    ensures own { IfOk result (λ out. out.ended ≡ false → HearsOwn sides.Remote (H.reading here.now) worker.new) }
     ensures numbered { IfOk result (λ out. IsNumbered input.now.number out.kind) }
     ensures calls { MakesPhase (sight (H.reading here.now) (H.ends here.now) input.now.time input.now.number) (K.contents keeper.old) table.old worker.old (K.failing keeper.old) (K.failing keeper.new) result }
     ensures parts { K.parts keeper.new ≡ K.parts keeper.old }
@@ -79,7 +85,10 @@ fn begin<K: Keeper, H: Here>(
     requires at { worker.old.phase ≡ Phase.Fresh }
     requires fresh { All (λ h. h.number < input.now.number) table.old.holds }
     ensures did { DidRemote table.old table.new (store (K.contents keeper.old) (K.records keeper.old) (K.faults keeper.old)) (store (K.contents keeper.new) (K.records keeper.new) (K.faults keeper.new)) worker.old worker.new
-        (GoesAlike (sight (H.reading here.now) (H.ends here.now) input.now.time input.now.number) (K.contents keeper.old) table.old table.new worker.old worker.new) result }
+        (GoesSo (sight (H.reading here.now) (H.ends here.now) input.now.time input.now.number) (K.contents keeper.old) table.old table.new worker.old worker.new) result }
+    ensures begun { IfOk result (λ out. CanStand (H.reading here.now) worker.old.phase → HasGone (H.reading here.now) worker.old worker.new out) }
+    ensures apart { IfOk result (StaysApartIn (H.reading here.now).repo target worker.old worker.new) }
+    ensures own { IfOk result (λ out. out.ended ≡ false → HearsOwn sides.Remote (H.reading here.now) worker.new) }
     ensures numbered { IfOk result (λ out. IsNumbered input.now.number out.kind) }
     ensures calls { MakesPhase (sight (H.reading here.now) (H.ends here.now) input.now.time input.now.number) (K.contents keeper.old) table.old worker.old (K.failing keeper.old) (K.failing keeper.new) result }
     ensures parts { K.parts keeper.new ≡ K.parts keeper.old }
@@ -106,7 +115,10 @@ fn end_required<K: Keeper, H: Here>(
     requires at { worker.old.phase ≡ Phase.Fresh }
     requires required { (H.reading here.now).requires ≡ Some text.now }
     ensures did { (number : ℕ) → DidRemote table.old table.new (store (K.contents keeper.old) (K.records keeper.old) (K.faults keeper.old)) (store (K.contents keeper.new) (K.records keeper.new) (K.faults keeper.new)) worker.old worker.new
-        (GoesAlike (sight (H.reading here.now) (H.ends here.now) time number) (K.contents keeper.old) table.old table.new worker.old worker.new) result }
+        (GoesSo (sight (H.reading here.now) (H.ends here.now) time number) (K.contents keeper.old) table.old table.new worker.old worker.new) result }
+    ensures begun { IfOk result (λ out. CanStand (H.reading here.now) worker.old.phase → HasGone (H.reading here.now) worker.old worker.new out) }
+    ensures apart { IfOk result (StaysApart target worker.old worker.new) }
+    ensures ended { IfOk result (λ out. out.ended ≡ true) }
     ensures numbered { IfOk result (λ out. (n : ℕ) → IsNumbered n out.kind) }
     ensures calls { (number : ℕ) → MakesPhase (sight (H.reading here.now) (H.ends here.now) time number) (K.contents keeper.old) table.old worker.old (K.failing keeper.old) (K.failing keeper.new) result }
     ensures parts { K.parts keeper.new ≡ K.parts keeper.old }
@@ -140,7 +152,10 @@ fn try_own<K: Keeper, H: Here>(
     requires spared { (H.reading here.now).requires ≡ None }
     requires fresh { All (λ h. h.number < input.now.number) table.old.holds }
     ensures did { DidRemote table.old table.new (store (K.contents keeper.old) (K.records keeper.old) (K.faults keeper.old)) (store (K.contents keeper.new) (K.records keeper.new) (K.faults keeper.new)) worker.old worker.new
-        (GoesAlike (sight (H.reading here.now) (H.ends here.now) input.now.time input.now.number) (K.contents keeper.old) table.old table.new worker.old worker.new) result }
+        (GoesSo (sight (H.reading here.now) (H.ends here.now) input.now.time input.now.number) (K.contents keeper.old) table.old table.new worker.old worker.new) result }
+    ensures begun { IfOk result (λ out. CanStand (H.reading here.now) worker.old.phase → HasGone (H.reading here.now) worker.old worker.new out) }
+    ensures apart { IfOk result (StaysApartIn (H.reading here.now).repo target worker.old worker.new) }
+    ensures own { IfOk result (λ out. out.ended ≡ false → HearsOwn sides.Remote (H.reading here.now) worker.new) }
     ensures numbered { IfOk result (λ out. IsNumbered input.now.number out.kind) }
     ensures calls { MakesPhase (sight (H.reading here.now) (H.ends here.now) input.now.time input.now.number) (K.contents keeper.old) table.old worker.old (K.failing keeper.old) (K.failing keeper.new) result }
     ensures parts { K.parts keeper.new ≡ K.parts keeper.old }
@@ -148,18 +163,34 @@ fn try_own<K: Keeper, H: Here>(
 {
     match here.standing(here.repo()) {
         Standing::Asked => share_own(worker, alloc, here, table, keeper, input, target),
-        Standing::Claimed => Ok(pass_by(worker, alloc)),
-        Standing::Ignored(_) => Ok(pass_by(worker, alloc)),
+        Standing::Claimed => pass_by(worker, alloc, here, table),
+        Standing::Ignored(_) => pass_by(worker, alloc, here, table),
     }
 }
 
-/// Its own repository isn't asked.
-fn pass_by(worker: &mut Worker, alloc: Global) -> Output
-    ensures says { (result.kind ≡ EntryKind.Talk (Some worker.old.number)) × (result.sends.items ≡ []) × (result.ended ≡ false) }
-    ensures next { worker.new ≡ record worker.old { phase = Phase.Next } }
+/// Its own repository isn't asked: it hears why it has no share there.
+fn pass_by<H: Here>(
+    worker: &mut Worker,
+    alloc: Global,
+    here: &H,
+    table: &LockTable,
+) -> Result<Output, NoMemory>
+    ensures passes { IfOk result (PassesBy (H.reading here.now).repo (bar_at table.now worker.old.job.key) worker.old worker.new) }
+    ensures err { OnErr result (worker.new ≡ worker.old) }
 {
-    worker.go_to(Phase::Next);
-    quietly(alloc, talk(worker.number()))
+    let cause = unshared_cause(table.barring(worker.key()));
+    worker.hear(here.repo(), Heard::Lacks(cause))?;
+    Ok(quietly(alloc, talk(worker.number())))
+}
+
+/// Why it has no share of its own repository's content, by the job whose bar stands there.
+fn unshared_cause(barred: Option<u32>) -> Cause
+    ensures { result ≡ unshared_cause barred }
+{
+    match barred {
+        None => Cause::Absent,
+        Some(_) => Cause::Barred,
+    }
 }
 
 /// It takes a share of its own repository's content, or hears why there is none.
@@ -178,7 +209,10 @@ fn share_own<K: Keeper, H: Here>(
     requires asked { (H.reading here.now).standing (H.reading here.now).repo ≡ Asked }
     requires fresh { All (λ h. h.number < input.now.number) table.old.holds }
     ensures did { DidRemote table.old table.new (store (K.contents keeper.old) (K.records keeper.old) (K.faults keeper.old)) (store (K.contents keeper.new) (K.records keeper.new) (K.faults keeper.new)) worker.old worker.new
-        (GoesAlike (sight (H.reading here.now) (H.ends here.now) input.now.time input.now.number) (K.contents keeper.old) table.old table.new worker.old worker.new) result }
+        (GoesSo (sight (H.reading here.now) (H.ends here.now) input.now.time input.now.number) (K.contents keeper.old) table.old table.new worker.old worker.new) result }
+    ensures begun { IfOk result (λ out. CanStand (H.reading here.now) worker.old.phase → HasGone (H.reading here.now) worker.old worker.new out) }
+    ensures apart { IfOk result (StaysApartIn (H.reading here.now).repo target worker.old worker.new) }
+    ensures own { IfOk result (λ out. out.ended ≡ false → HearsOwn sides.Remote (H.reading here.now) worker.new) }
     ensures numbered { IfOk result (λ out. IsNumbered input.now.number out.kind) }
     ensures calls { MakesPhase (sight (H.reading here.now) (H.ends here.now) input.now.time input.now.number) (K.contents keeper.old) table.old worker.old (K.failing keeper.old) (K.failing keeper.new) result }
     ensures parts { K.parts keeper.new ≡ K.parts keeper.old }
@@ -195,24 +229,23 @@ fn share_own<K: Keeper, H: Here>(
             let hold = input.number;
             Ok(quietly(alloc, EntryKind::Share { hold, end, by, key }))
         }
-        Err(why) => unshared(worker, alloc, why),
+        Err(why) => unshared(worker, alloc, table, why),
     }
 }
 
 /// Its own repository gives nothing. Without memory the worker is as it was before it heard of its own repository.
-fn unshared(worker: &mut Worker, alloc: Global, why: ShareRefused) -> Result<Output, NoMemory>
-    ensures { FollowsShareRefused why worker.old worker.new result }
+fn unshared(
+    worker: &mut Worker,
+    alloc: Global,
+    table: &LockTable,
+    why: ShareRefused,
+) -> Result<Output, NoMemory>
+    ensures { FollowsShareRefused (bar_at table.now worker.old.job.key) why worker.old worker.new result }
 {
     let number = worker.number();
     match why {
-        ShareRefused::Absent => {
-            worker.rehear(Heard::Lacks(Cause::Absent));
-            Ok(quietly(alloc, talk(number)))
-        }
-        ShareRefused::Barred { job: _ } => {
-            worker.rehear(Heard::Lacks(Cause::Barred));
-            Ok(quietly(alloc, talk(number)))
-        }
+        ShareRefused::Absent => Ok(go_without(worker, alloc, table)),
+        ShareRefused::Barred { job: _ } => Ok(go_without(worker, alloc, table)),
         ShareRefused::StoreFault { call } => {
             worker.rehear(Heard::Lacks(Cause::Fault));
             let by = By::Job(number);
@@ -223,6 +256,16 @@ fn unshared(worker: &mut Worker, alloc: Global, why: ShareRefused) -> Result<Out
             Err(NoMemory)
         }
     }
+}
+
+/// It has no share of its own repository's content.
+fn go_without(worker: &mut Worker, alloc: Global, table: &LockTable) -> Output
+    ensures { GivesNone (EntryKind.Talk (Some worker.old.number)) (unshared_cause (bar_at table.now worker.old.job.key)) worker.old worker.new result }
+{
+    let number = worker.number();
+    let cause = unshared_cause(table.barring(worker.key()));
+    worker.rehear(Heard::Lacks(cause));
+    quietly(alloc, talk(number))
 }
 
 // ---- its judgement
@@ -238,10 +281,13 @@ fn go_on<K: Keeper, H: Here>(
     target: u32,
 ) -> Result<Output, NoMemory>
     requires stands { StandsRemote target (K.records keeper.old) table.old worker.old }
-    requires apart { ((H.reading here.now).repo == target) ≡ false }
+    requires other { IsOther (H.reading here.now) target }
+    requires own { HearsOwn sides.Remote (H.reading here.now) worker.old }
     requires at { worker.old.phase ≡ Phase.Next }
     ensures did { (number : ℕ) → DidRemote table.old table.new (store (K.contents keeper.old) (K.records keeper.old) (K.faults keeper.old)) (store (K.contents keeper.new) (K.records keeper.new) (K.faults keeper.new)) worker.old worker.new
-        (GoesAlike (sight (H.reading here.now) (H.ends here.now) time number) (K.contents keeper.old) table.old table.new worker.old worker.new) result }
+        (GoesSo (sight (H.reading here.now) (H.ends here.now) time number) (K.contents keeper.old) table.old table.new worker.old worker.new) result }
+    ensures begun { IfOk result (λ out. CanStand (H.reading here.now) worker.old.phase → HasGone (H.reading here.now) worker.old worker.new out) }
+    ensures apart { IfOk result (StaysApart target worker.old worker.new) }
     ensures numbered { IfOk result (λ out. (n : ℕ) → IsNumbered n out.kind) }
     ensures calls { (number : ℕ) → MakesPhase (sight (H.reading here.now) (H.ends here.now) time number) (K.contents keeper.old) table.old worker.old (K.failing keeper.old) (K.failing keeper.new) result }
     ensures parts { K.parts keeper.new ≡ K.parts keeper.old }
@@ -308,9 +354,12 @@ fn go_to<H: Here>(
 ) -> Result<Output, NoMemory>
     requires remote { IsRemote target worker.old }
     requires next { worker.old.phase ≡ Phase.Next }
+    requires other { IsOther (H.reading here.now) peer }
     requires known { end ≡ least_end (known_remotely (H.reading here.now) target worker.old) }
     ensures does { IfOk result (λ out. (rows : Rows) → Acts (H.reading here.now) (H.ends here.now) time rows rows worker.old worker.new (λ t. goes_to t peer) out) }
     ensures speaks { IfOk result (Speaks worker.old worker.new) }
+    ensures begun { IfOk result (HasGone (H.reading here.now) worker.old worker.new) }
+    ensures apart { IfOk result (λ out. heard_in worker.old.heard peer ≡ None → StaysApart target worker.old worker.new out) }
     ensures err { OnErr result (worker.new ≡ worker.old) }
 {
     if !here.is_open(peer, worker.slot()) {

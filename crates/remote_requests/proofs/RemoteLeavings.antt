@@ -1,19 +1,21 @@
 -- What a step of a remote drop leaves.
-use Rattle.std.proofs.Common.{◌≡◌, ◌≤◌, false, Option, Result, Ok, Err, refl, sym, subst, arith, ap, ◌∙◌, ℕ, [], None, IfOk}
+use Rattle.std.proofs.Common.{◌≡◌, ◌≤◌, inr, false, Option, Result, Ok, Err, refl, sym, subst, arith, ap, ◌∙◌, ℕ, [], None, IfOk}
 use Rattle.std.specs.Prelude.{IfOk, IfSome, OnErr}
 use Rattle.annex_base.specs.Causes.{Rose}
 use Rattle.annex_base.specs.declared.kinds.Call.{Call}
 use Rattle.annex_base.specs.declared.memory.NoMemory.{NoMemory}
 use Rattle.run_data.specs.declared.entry.EntryKind.{EntryKind}
+use Rattle.node_model.specs.Jobs.{unshared_cause}
 use Rattle.node_model.specs.Look.{failed_in}
 use Rattle.content_lock.specs.Rows.{AreAfter, Rows}
 use Rattle.content_lock.specs.Stored.{Agrees}
+use Rattle.drop_phases.specs.declared.phase.Heard.TheVariants as heards
 use Rattle.drop_phases.specs.declared.turn.Output.{Output}
 use Rattle.drop_phases.specs.Worker.{Worker}
 use Rattle.drop_phases.specs.Doing.{Grows, HasToken, OthersStay, contents_after}
 use Rattle.drop_phases.specs.Leaving.{Store}
 use Rattle.drop_phases.specs.Feeding.{FitsRemote, HasNoBar}
-use Rattle.remote_requests.specs.Remote.{DidRemote, LeavesRemote, Speaks}
+use Rattle.remote_requests.specs.Remote.{DidRemote, LeavesRemote, PassesBy, Speaks}
 use Rattle.drop_phases.proofs.Numbers.{no_rows, no_share}
 use Rattle.drop_phases.proofs.Tokens.{others_same}
 use Rattle.drop_phases.specs.Sides.{IsNumbered}
@@ -64,6 +66,21 @@ pub spoken_did : (rows : Rows) (k : Store) (w w' : Worker) (a : Output → Type 
     → HasToken w.number w.job.key w.token rows → Agrees k.records rows.holds → DidRemote rows rows k k w w' a r
 spoken_did rows k w w' a (Ok out) does speaks err bare own agrees = (does, spoken_leaves rows k w w' out speaks bare own agrees)
 spoken_did rows k w w' a (Err e) does speaks err bare own agrees = record { worker = err; table = refl; contents = refl; records = refl; later = omega arith }
+
+-- a step that passes its own repository by says nothing
+pub passes_speaks : (repo : ℕ) (bar : Option ℕ) (w w' : Worker) (r : Result Output NoMemory) → IfOk r (PassesBy repo bar w w') → IfOk r (Speaks w w')
+passes_speaks repo bar w w' (Ok out) p = subst (λ (u : Worker). Speaks w u out) (sym p.next) (record {
+  faultless = ap failed_in p.made;
+  still = λ known. ap (contents_after known) p.made;
+  after = λ rows. subst (λ (kind : EntryKind). AreAfter kind rows rows) (sym p.made) (record { holds = refl; bars = λ key. refl; fills = refl });
+  goes_on = p.goes_on;
+  number = refl;
+  job = refl;
+  token = refl;
+  heard = inr ((repo, heards.Lacks (unshared_cause bar)), refl);
+  fits = λ bare. bare;
+})
+passes_speaks repo bar w w' (Err e) p = tt
 
 -- a step that says something at most fails of no call, and adds no hold
 pub spoken_well : (w w' : Worker) (r : Result Output NoMemory) → IfOk r (Speaks w w') → IfOk r (λ out. failed_in out.kind ≡ None)

@@ -1,7 +1,6 @@
 -- What a remote drop has and knows at a step, and what its step leaves; for the crates of drops (own).
 use Rattle.std.specs.Prelude.{◌≡◌, ◌≤◌, ◌<◌, ◌^◌, ◌==◌, ◌&&◌, ℕ, Bool, true, false, nat_lt, if◌then◌else◌, List, [], ◌∷◌, Option, Some, None, IfSome, Result, Ok, Err, IfOk, OnErr, filter}
 use Rattle.std.specs.List.{range_with_len}
-use Rattle.std.specs.Option.{ForSome}
 use Rattle.annex_base.specs.Causes.{Rose}
 use Rattle.annex_base.specs.declared.kinds.Call.TheVariants as calls
 use Rattle.annex_base.specs.declared.memory.NoMemory.{NoMemory}
@@ -19,10 +18,9 @@ use Rattle.object_store.specs.Stores.{Contents}
 use Rattle.object_store.specs.declared.keeper.HoldRecord.{HoldRecord}
 use Rattle.node_model.specs.Ends.{End, EndName}
 use Rattle.node_model.specs.Evidence.{but}
-use Rattle.node_model.specs.Jobs.{drop_side}
+use Rattle.node_model.specs.Jobs.{drop_side, unshared_cause}
 use Rattle.node_model.specs.JobStep.{ends}
 use Rattle.node_model.specs.Knows.{Reading}
-use Rattle.node_model.specs.Turns.{goes}
 use Rattle.node_model.specs.Look.{failed_in}
 use Rattle.content_lock.specs.Rows.{AreAfter, Rows}
 use Rattle.content_lock.specs.Stored.{Agrees}
@@ -38,8 +36,7 @@ use Rattle.drop_phases.specs.declared.turn.Parcel.{Parcel}
 use Rattle.drop_phases.specs.declared.turn.Taken.{Taken}
 use Rattle.drop_phases.specs.declared.turn.ParcelBody.TheVariants as bodies
 use Rattle.drop_phases.specs.Worker.{Worker}
-use Rattle.drop_phases.specs.Working.{Sight, end_in, present_in, sight}
-use Rattle.drop_phases.specs.Alike.{DoesAlike}
+use Rattle.drop_phases.specs.Working.{end_in, sight}
 use Rattle.drop_phases.specs.Doing.{DoesAsAsked, Grows, HasToken, OthersStay, contents_after}
 use Rattle.drop_phases.specs.Feeding.{FeedsFrame, FitsRemote, HasNoBar, step_of}
 use Rattle.drop_judging.specs.Judging.{evidence_of, is_owing, others_in}
@@ -181,10 +178,6 @@ pub record ShutsRemote (target peer : ℕ) (w w' : Worker) (out : Output) : Type
   pub goes_on : out.ended ≡ false
   pub next : w' ≡ without_peer w target peer
 
--- a step goes on from where the job stands, and its work after it is alike the worker
-abbrev pub GoesAlike : Sight → Option Contents → Rows → Rows → Worker → Worker → Output → Type 0
-GoesAlike x known rows rows' w w' out = ForSome known (λ c. DoesAlike x rows rows' (present_in c) w w' None (λ t. goes t t.w.phase) out)
-
 -- a step does what the definitions do with what it is told at its partner's end
 abbrev pub TakesRemote : Reading → (EndName → End) → ℕ → Rows → Rows → ℕ → Taken → Worker → Worker → Output → Type 0
 TakesRemote read ends_at time rows rows' peer taken w w' out =
@@ -193,6 +186,13 @@ TakesRemote read ends_at time rows rows' peer taken w w' out =
 
 -- ---- its own share
 
+-- the job passes its own repository by: nothing is said, and it hears by the bar there why it has no share
+pub record PassesBy (repo : ℕ) (bar : Option ℕ) (w w' : Worker) (out : Output) : Type 0 where
+  pub made : out.kind ≡ Talk (Some w.number)
+  pub sends : out.sends.items ≡ []
+  pub goes_on : out.ended ≡ false
+  pub next : w' ≡ record w { heard = (repo, heards.Lacks (unshared_cause bar)) ∷ w.heard; phase = phases.Next }
+
 -- nothing is said, and what was heard last is that there is none, for this cause
 pub record GivesNone (kind : EntryKind) (cause : Cause) (w w' : Worker) (out : Output) : Type 0 where
   pub made : out.kind ≡ kind
@@ -200,12 +200,12 @@ pub record GivesNone (kind : EntryKind) (cause : Cause) (w w' : Worker) (out : O
   pub goes_on : out.ended ≡ false
   pub next : (peer : ℕ) (before : Heard) (rest : List (ℕ × Heard)) → w.heard ≡ (peer, before) ∷ rest → w' ≡ record w { heard = (peer, heards.Lacks cause) ∷ rest }
 
--- what follows a share that was refused, of a worker that heard last of its own repository
-abbrev pub FollowsShareRefused : ShareRefused → Worker → Worker → Result Output NoMemory → Type 0
-FollowsShareRefused shares.Absent w w' r = IfOk r (GivesNone (Talk (Some w.number)) causes.Absent w w') × OnErr r ⊥
-FollowsShareRefused (shares.Barred job) w w' r = IfOk r (GivesNone (Talk (Some w.number)) causes.Barred w w') × OnErr r ⊥
-FollowsShareRefused (shares.StoreFault call) w w' r = IfOk r (GivesNone (Fault call (by_job w.number)) causes.Fault w w') × OnErr r ⊥
-FollowsShareRefused shares.NoMemory w w' r = IfOk r (λ out. ⊥) × ((x : ℕ × Heard) (rest : List (ℕ × Heard)) → w.heard ≡ x ∷ rest → w' ≡ record w { heard = rest; phase = phases.Fresh })
+-- what follows a share that was refused, of a worker that heard last of its own repository, with this bar there
+abbrev pub FollowsShareRefused : Option ℕ → ShareRefused → Worker → Worker → Result Output NoMemory → Type 0
+FollowsShareRefused bar shares.Absent w w' r = IfOk r (GivesNone (Talk (Some w.number)) (unshared_cause bar) w w') × OnErr r ⊥
+FollowsShareRefused bar (shares.Barred job) w w' r = IfOk r (GivesNone (Talk (Some w.number)) (unshared_cause bar) w w') × OnErr r ⊥
+FollowsShareRefused bar (shares.StoreFault call) w w' r = IfOk r (GivesNone (Fault call (by_job w.number)) causes.Fault w w') × OnErr r ⊥
+FollowsShareRefused bar shares.NoMemory w w' r = IfOk r (λ out. ⊥) × ((x : ℕ × Heard) (rest : List (ℕ × Heard)) → w.heard ≡ x ∷ rest → w' ≡ record w { heard = rest; phase = phases.Fresh })
 
 -- where the job stands after its own share couldn't be released at this time
 abbrev pub unreleased_phase : ℕ → Phase → Phase

@@ -1,14 +1,17 @@
 //! The end of a remote drop, with what becomes of its own share.
-ghost use Rattle.std.specs.Prelude.{◌≡◌, ◌<◌, ℕ, false, None, Some, IfOk, map};
+ghost use Rattle.std.specs.Prelude.{◌≡◌, ◌<◌, ℕ, true, false, None, Some, IfOk, map};
 ghost use Rattle.std.specs.declared.option.Option.{Option};
 ghost use Rattle.annex_base.specs.declared.kinds.Call.{Call};
+ghost use Rattle.node_model.specs.Knows.{Reading};
 ghost use Rattle.node_model.specs.Rows.{is_lost_ordered, same_owner};
 ghost use Rattle.content_lock.specs.Tokens.{HasShare, Owns, ShareView};
 ghost use Rattle.content_lock.specs.Rows.{AreAfter};
 ghost use Rattle.content_lock.specs.Stored.{Agrees, label_of};
+ghost use Rattle.drop_phases.specs.Apart.{StaysApart};
 ghost use Rattle.drop_phases.specs.Doing.{HasToken};
 ghost use Rattle.drop_phases.specs.Leaving.{store};
-ghost use Rattle.drop_phases.specs.Feeding.{HasNoBar};
+ghost use Rattle.drop_phases.specs.Begun.{CanStand, HasGone};
+ghost use Rattle.drop_phases.specs.Feeding.{FitsRemote, HasNoBar, IsBare};
 ghost use Rattle.remote_requests.specs.Remote.{DidRemote, EndsSo, FailsToRelease, unreleased_phase};
 ghost use Rattle.drop_phases.specs.Sides.{IsNumbered};
 ghost use Rattle.drop_phases.specs.Calling.{MakesEnd};
@@ -35,6 +38,9 @@ pub fn finish<K: Keeper, H: Here>(
     requires agrees { Agrees (K.records keeper.old) table.old.holds }
     ensures did { DidRemote table.old table.new (store (K.contents keeper.old) (K.records keeper.old) (K.faults keeper.old)) (store (K.contents keeper.new) (K.records keeper.new) (K.faults keeper.new)) worker.old worker.new
         (EndsSo (H.reading here.now) (H.ends here.now) time table.old table.new worker.old worker.new outcome) result }
+    ensures begun { IfOk result (λ out. (r : Reading) → CanStand r worker.old.phase → FitsRemote worker.old.phase worker.old.token → HasGone r worker.old worker.new out) }
+    ensures apart { IfOk result (λ out. (target : ℕ) → StaysApart target worker.old worker.new out) }
+    ensures ended { IsBare worker.old.token → IfOk result (λ out. out.ended ≡ true) }
     ensures numbered { IfOk result (λ out. (n : ℕ) → IsNumbered n out.kind) }
     ensures calls { MakesEnd table.old worker.old outcome (K.failing keeper.old) (K.failing keeper.new) result }
     ensures parts { K.parts keeper.new ≡ K.parts keeper.old }

@@ -9,7 +9,10 @@ ghost use Rattle.drop_phases.specs.Working.{Rest, phase_as, sight, turn_in};
 ghost use Rattle.drop_phases.specs.Leaving.{stands_on};
 ghost use Rattle.drop_judging.specs.Judging.{others_in};
 ghost use Rattle.remote_requests.specs.Remote.{IsRemote, owed_at_end, target_room};
-ghost use Rattle.drop_phases.specs.Begun.{IsToEnd};
+ghost use Rattle.annex_base.specs.Lists.{Each};
+ghost use Rattle.drop_phases.specs.Begun.{IsOther};
+ghost use Rattle.drop_phases.specs.Sides.{HearsOwn};
+ghost use Rattle.drop_proof.specs.declared.rule.Side.TheVariants as sides;
 
 use crate::knowing::{candidates, first_end};
 use annex_base::NoMemory;
@@ -26,9 +29,12 @@ pub fn needed_remotely<H: Here>(
     target: u32,
 ) -> Result<Vec<u32>, NoMemory>
     requires remote { IsRemote target worker.now }
+    requires other { IsOther (H.reading here.now) target }
+    requires own { (worker.now.phase ≡ Phase.Fresh → ⊥) → HearsOwn sides.Remote (H.reading here.now) worker.now }
     requires awaits { stands_on worker.now ≡ None }
-    ensures { IfOk result (λ peers. (time number : ℕ) (rows : Rows) (p : List ℕ → Bool) (fails : Option Call) (rest : Rest)
+    ensures does { IfOk result (λ peers. (time number : ℕ) (rows : Rows) (p : List ℕ → Bool) (fails : Option Call) (rest : Rest)
         → peers.items ≡ needs (turn_in (sight (H.reading here.now) (H.ends here.now) time number) rows p fails rest worker.now) (phase_as worker.now.phase)) }
+    ensures others { IfOk result (λ peers. Each (IsOther (H.reading here.now)) peers.items) }
 {
     match worker.phase() {
         Phase::Fresh => Ok(Vec::new(alloc)),
@@ -58,8 +64,11 @@ fn judged_remotely<H: Here>(
     target: u32,
 ) -> Result<Vec<u32>, NoMemory>
     requires remote { IsRemote target worker.now }
-    ensures { IfOk result (λ peers. (time number : ℕ) (rows : Rows) (p : List ℕ → Bool) (fails : Option Call) (rest : Rest)
+    requires other { IsOther (H.reading here.now) target }
+    requires own { HearsOwn sides.Remote (H.reading here.now) worker.now }
+    ensures does { IfOk result (λ peers. (time number : ℕ) (rows : Rows) (p : List ℕ → Bool) (fails : Option Call) (rest : Rest)
         → peers.items ≡ next_needs (turn_in (sight (H.reading here.now) (H.ends here.now) time number) rows p fails rest worker.now) Drops) }
+    ensures others { IfOk result (λ peers. Each (IsOther (H.reading here.now)) peers.items) }
 {
     let candidates = candidates(alloc, here, target)?;
     let items = gather(worker, alloc, here, Side::Remote, &candidates)?;

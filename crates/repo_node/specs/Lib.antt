@@ -9,6 +9,8 @@ pub use Rattle.node_ledger.specs.Walks
 pub use Rattle.node_ledger.specs.Debts
 pub use Rattle.node_steps.specs.Nodes
 pub use Rattle.node_steps.specs.Turning
+pub use Rattle.node_steps.specs.Closing
+pub use Rattle.node_steps.specs.Crashing
 pub use Rattle.node_steps.specs.Beginning
 pub use Rattle.node_steps.specs.Parts
 pub use Rattle.node_steps.specs.Sound
@@ -21,6 +23,7 @@ pub use Rattle.node_steps.specs.Acting
 pub use Rattle.node_steps.specs.Running
 pub use Rattle.node_steps.specs.Task
 pub use Rattle.node_steps.specs.Tasks
+pub use Rattle.node_steps.specs.TransferJob
 pub use Rattle.node_steps.specs.Worker
 pub use Rattle.node_steps.specs.Workers
 pub use Rattle.node_steps.specs.Drops

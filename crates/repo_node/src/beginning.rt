@@ -71,9 +71,8 @@ fn begin_parts(
 }
 
 impl<K: Keeper> Node<K> {
-    /// Begins a job by one entry, and gives its number, one more than were begun: a drop of the repository's own copy, a get from
-    /// any or from another repository, or a copy to another one. Its key has these paths in the tree. After a refusal all is as
-    /// before.
+    /// Begins a job by one entry, and gives its number, one more than were begun: a drop, a get, or a copy or a move, whose peer
+    /// is another repository. Its key has these paths in the tree. After a refusal all is as before.
     pub fn begin(&mut self, job: Job, paths: Items<Text>) -> Result<u32, BeginRefused>
         requires may { MayBegin (record { number = self.old.setup.number; ids = self.old.setup.repos }) job.kind job.peer }
         ensures number { IfOk result (λ n. n ≡ self.old.parts.jobs.begun + 1) }

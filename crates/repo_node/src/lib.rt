@@ -3,7 +3,9 @@
 
 mod beginning;
 mod carrying;
+mod closing;
 mod compacting;
+mod crashing;
 mod logs;
 mod merging;
 mod node;

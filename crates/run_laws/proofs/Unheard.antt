@@ -178,6 +178,7 @@ pub are_jobs : SentAreRead → (s : SetUp) (past : List Entry) → OwnPast s pas
 are_jobs reads_back s past h = record {
   apart = λ w v there also same. same_number_same_work s past h.run w v there also same;
   orders = orders;
+  looks = looks;
   unheard = λ w c there awaits. unheard w c there w.phase refl awaits;
 }
   where
@@ -189,6 +190,11 @@ are_jobs reads_back s past h = record {
 
     orders : (w : Work) → Member w (works past s.number) → w.phase ≡ Orders → (side_of w ≡ Remote) × (peer : ℕ) × (w.what.peer ≡ Some peer)
     orders w there at = (remote w there at, target_of s.number w, target_peer s w (aims s past h.run w there) (drops w there at) (remote w there at))
+
+    looks : (w : Work) (c : ℕ) → Member w (works past s.number) → w.phase ≡ AsksLook c → side_of w ≡ Remote → option_is w.what.peer c ≡ false
+    looks w c there at side =
+        let part = look_drops w.part w.phase c (works_fit s past h.run w there) at in
+        ap (λ o. option_is o c) (target_peer s w (aims s past h.run w there) part side) ∙ (target_unheard s past h.run w there).looks c at side
 
     unheard : (w : Work) (c : ℕ) → Member w (works past s.number) → (phase : Phase) → w.phase ≡ phase → awaits_word c w.what.peer w.phase ≡ true → heard_of w c ≡ None
     unheard w c there phase at awaits = go phase at (sym (ap (awaits_word c w.what.peer) at) ∙ awaits)

@@ -10,16 +10,18 @@ use Rattle.run_model.specs.Frames.{SendingEntry, sender}
 use Rattle.run_model.specs.States.{works}
 use Rattle.run_model.specs.Words.{awaits_word}
 use Rattle.node_model.specs.Jobs.{AsksLook, Orders, Phase, Work, heard_of, side_of, taken_message}
+use Rattle.node_model.specs.Rows.{option_is}
 use Rattle.node_model.specs.Sessions.{line_in}
 use Rattle.node_model.specs.Slots.{job_of}
 
 -- ---- the running jobs
 
--- They have numbers of their own. One that gave an order drops from its peer. Of a repository whose answer a job awaits, it has heard
--- nothing before.
+-- They have numbers of their own. One that gave an order drops from its peer. One that drops from its peer asks another for a look. Of a
+-- repository whose answer a job awaits, it has heard nothing before.
 pub record AreJobs (ws : List Work) : Type 0 where
   pub apart : (w v : Work) → Member w ws → Member v ws → w.number ≡ v.number → w ≡ v
   pub orders : (w : Work) → Member w ws → w.phase ≡ Orders → (side_of w ≡ Remote) × (peer : ℕ) × (w.what.peer ≡ Some peer)
+  pub looks : (w : Work) (c : ℕ) → Member w ws → w.phase ≡ AsksLook c → side_of w ≡ Remote → option_is w.what.peer c ≡ false
   pub unheard : (w : Work) (c : ℕ) → Member w ws → awaits_word c w.what.peer w.phase ≡ true → heard_of w c ≡ None
 
 -- ---- answers that have a word

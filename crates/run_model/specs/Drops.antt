@@ -19,13 +19,14 @@ use Rattle.run_data.specs.declared.job.Job.{Job}
 use Rattle.run_data.specs.declared.run.RepoView.{RepoView}
 use Rattle.run_data.specs.Repos.{id_of}
 use Rattle.run_data.specs.declared.entry.FrameView.{FrameView}
-use Rattle.run_model.specs.Past.{is_of, begun_job, jobs, present, clock}
+use Rattle.run_model.specs.Past.{bar, is_of, begun_job, jobs, clock}
 use Rattle.node_model.specs.Rows.{is_lost_ordered}
 use Rattle.node_model.specs.Slots.{RunningJob, job_of}
 use Rattle.p2p_wire.specs.declared.message.Message.TheVariants.{CheckPresent, Failure}
 use Rattle.run_model.specs.Said.{Said, Says, CloseIt, is_close, message_in}
 use Rattle.run_model.specs.Frames.{SendingEntry, is_job, last_request, said_of, sender, up_of, way_of}
 use Rattle.run_model.specs.Logs.{before_step, in_drop, is_step, read_at, settings_of}
+use Rattle.node_model.specs.Jobs.{unshared_cause}
 use Rattle.node_model.specs.Evidence.{Standing, Claimed, Ignored, Asked, standing_by, Offer, Gives, Fails, gather, candidates, reached_candidates}
 use Rattle.node_model.specs.Clocks.{hold_time}
 
@@ -159,12 +160,12 @@ abbrev pub cause_closed : List RunningJob → ℕ → ℕ → EntryKind → Opti
 cause_closed js j r (Close peer slot true) = if (peer == r) && in_slot js j slot then Some Closed else None
 cause_closed js j r _ = None
 
--- a drop whose first step is no share of its own found its content absent or barred, or a store's fault. Where the logs claim or ignore its
+-- a drop whose first step is no share of its own found its content barred or absent, or a store's fault. Where the logs claim or ignore its
 -- own repository that step tries nothing; offer and cause_by go by the logs then, and read no such cause
-abbrev pub cause_own : Bool → EntryKind → Option Cause
-cause_own there (Talk job) = Some (if there then Barred else Absent)
-cause_own there (fault_entry call by) = Some Fault
-cause_own there _ = None
+abbrev pub cause_own : Option ℕ → EntryKind → Option Cause
+cause_own barred (Talk job) = Some (unshared_cause barred)
+cause_own barred (fault_entry call by) = Some Fault
+cause_own barred _ = None
 
 abbrev pub is_first_step : List Entry → ℕ → ℕ → Entry → Bool
 is_first_step past a j e = is_of a e && is_step j e.kind && (in_drop past a j && option_is_none (before_step past a j))
@@ -177,7 +178,7 @@ shuts r g = (g.peer == r) && (g.up && is_close (message_in g.body))
 -- depend on s
 abbrev pub cause_with : List Entry → Entry → ℕ → ℕ → ℕ → Option SendingEntry → Option Cause
 cause_with past e r a j s =
-    if r == a then (if is_first_step past a j e then cause_own (present past a (key_in (begun_job past a j))) e.kind else None)
+    if r == a then (if is_first_step past a j e then cause_own (bar past a (key_in (begun_job past a j))) e.kind else None)
     else (if is_job a j e then (if list_any (shuts r) e.sent then Some Closed else cause_taken past a r s e.taken) else None)
 
 -- why r gave nothing, as the entry tells job j of a

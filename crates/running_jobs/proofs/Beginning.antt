@@ -15,21 +15,26 @@ use Rattle.run_data.specs.declared.job.JobKind.{JobKind}
 use Rattle.run_data.specs.declared.job.JobKind.TheVariants as jobs_of
 use Rattle.node_model.specs.After.{has_read, read_after, state_after}
 use Rattle.node_model.specs.Jobs as Jobs
-use Rattle.node_model.specs.Jobs.{Drops, Part, Work, drop_side, first_part, is_move, new_work, partner, running_job, work_after, work_kind, works_after}
+use Rattle.node_model.specs.Jobs.{Drops, Part, Work, drop_side, first_part, is_move, new_work, partner, running_job, side_of, work_after, work_kind, works_after}
 use Rattle.node_model.specs.Rows.{option_is}
 use Rattle.node_model.specs.SetUp.{SetUp}
 use Rattle.node_model.specs.Slots.{RunningJob, begun_after, free_slot, job_of}
 use Rattle.node_model.specs.State.{State}
 use Rattle.object_store.specs.Stores.{Parts}
 use Rattle.content_lock.specs.Rows.{Rows, is_filling}
+use Rattle.drop_proof.specs.declared.rule.Side.{Side}
+use Rattle.drop_proof.specs.declared.rule.Side.TheVariants.{Local, Remote}
 use Rattle.drop_phases.specs.declared.phase.Phase.{Phase}
+use Rattle.drop_phases.specs.declared.phase.Phase.TheVariants as phases
 use Rattle.drop_phases.specs.declared.phase.Token.TheVariants as tokens
 use Rattle.drop_phases.specs.Doing.{HasToken}
+use Rattle.drop_phases.specs.Sides.{FitsSide, HasTarget}
 use Rattle.drop_phases.specs.Working.{phase_as}
-use Rattle.node_tasks.specs.Drops.{DropJob, HasRead, given}
+use Rattle.node_tasks.specs.Drops.{DropJob, HasRead, given, place_reading}
 use Rattle.node_tasks.specs.Places.{PlaceView}
 use Rattle.node_tasks.specs.Reads.{KnownLogs}
 use Rattle.node_tasks.proofs.Knowing.{read_same}
+use Rattle.node_tasks.proofs.Transfers.{new_apart}
 use Rattle.get_phases.specs.declared.getting.Phase.{Phase as GetPhase}
 use Rattle.get_phases.specs.declared.getting.Phase.TheVariants as getting
 use Rattle.get_phases.specs.Gets as gets
@@ -44,11 +49,12 @@ use Rattle.node_tasks.specs.Ready.{sight_of}
 use Rattle.node_tasks.specs.declared.task.Task.{Task}
 use Rattle.node_tasks.specs.declared.task.Task.TheVariants as tasks
 use Rattle.node_tasks.specs.Tasks.{HasReadOf, IsFedTask, IsTask, OwnsOf, number_of, slot_of, work_now}
-use Rattle.running_jobs.specs.Beginning.{Begins, IsNewTask, MayBegin, next_slot, running_now}
+use Rattle.running_jobs.specs.Beginning.{Begins, IsNewTask, MayBegin, new_worker, next_slot, running_now}
 use Rattle.running_jobs.specs.Running.{AreAllFed, AreApart, AreFilled, AreWorks, Follows, IsOwn, Jobs as JobsView, OwnAll, fills_at, given_to}
 use Rattle.running_jobs.proofs.Among.{find_mapped, found_by_number}
 use Rattle.running_jobs.proofs.Slots.{next_small, next_unused}
 use Rattle.running_jobs.proofs.Stepping.{task_read_stays}
+use Rattle.running_jobs.proofs.Transfers.{as_job, transfer_unread}
 
 -- ---- the job that begins
 
@@ -112,39 +118,39 @@ put_kind (putting.Ends why) jobs_of.MoveFrom part other = absurd cc
 put_kind putting.Done jobs_of.MoveFrom part other = absurd cc
 
 has_peer : (p : PlaceView) (kind : JobKind) (o : Option ℕ) → MayBegin p kind o → first_part kind ≡ Jobs.Puts → puts.HasPeer (sight_of p.number (length p.ids) []) o
+has_peer p kind (Some peer) may is = may.1
 has_peer p jobs_of.Drop None may is = absurd cc
-has_peer p jobs_of.Drop (Some peer) may is = absurd may
 has_peer p jobs_of.Get None may is = absurd cc
-has_peer p jobs_of.Get (Some peer) may is = absurd cc
 has_peer p jobs_of.Copy None may is = absurd may
-has_peer p jobs_of.Copy (Some peer) may is = may.1
-has_peer p jobs_of.MoveTo o may is = absurd may
-has_peer p jobs_of.MoveFrom o may is = absurd may
+has_peer p jobs_of.MoveTo None may is = absurd may
+has_peer p jobs_of.MoveFrom None may is = absurd may
 
 names_peer : (p : PlaceView) (kind : JobKind) (o : Option ℕ) → MayBegin p kind o → IfSome o (λ peer. (peer < length p.ids) × ((p.number == peer) ≡ false))
+names_peer p kind (Some peer) may = may
 names_peer p kind None may = tt
-names_peer p jobs_of.Drop (Some peer) may = absurd may
-names_peer p jobs_of.Get (Some peer) may = may
-names_peer p jobs_of.Copy (Some peer) may = may
-names_peer p jobs_of.MoveTo (Some peer) may = absurd may
-names_peer p jobs_of.MoveFrom (Some peer) may = absurd may
 
-no_move : (p : PlaceView) (kind : JobKind) (o : Option ℕ) → MayBegin p kind o → is_move kind ≡ false
-no_move p jobs_of.Drop o may = refl
-no_move p jobs_of.Get o may = refl
-no_move p jobs_of.Copy o may = refl
-no_move p jobs_of.MoveTo o may = absurd may
-no_move p jobs_of.MoveFrom o may = absurd may
+-- the drop of a move has its target
+move_target : (p : PlaceView) (kind : JobKind) (o : Option ℕ) → MayBegin p kind o → is_move kind ≡ true → HasTarget (drop_side kind o) o (place_reading p)
+move_target p jobs_of.Drop o may is = absurd (true≢false (sym is))
+move_target p jobs_of.Get o may is = absurd (true≢false (sym is))
+move_target p jobs_of.Copy o may is = absurd (true≢false (sym is))
+move_target p jobs_of.MoveTo o may is = tt
+move_target p jobs_of.MoveFrom None may is = absurd may
+move_target p jobs_of.MoveFrom (Some peer) may is = may
 
-no_peer : (p : PlaceView) (kind : JobKind) (o : Option ℕ) → MayBegin p kind o → kind ≡ jobs_of.Drop → o ≡ None
-no_peer p jobs_of.Drop None may is = refl
-no_peer p jobs_of.Drop (Some peer) may is = absurd may
-no_peer p jobs_of.Get o may is = absurd cc
-no_peer p jobs_of.Copy o may is = absurd cc
-no_peer p jobs_of.MoveTo o may is = absurd cc
-no_peer p jobs_of.MoveFrom o may is = absurd cc
+drop_target : (p : PlaceView) (kind : JobKind) (o : Option ℕ) → MayBegin p kind o → kind ≡ jobs_of.Drop → HasTarget (drop_side kind o) o (place_reading p)
+drop_target p jobs_of.Drop None may is = tt
+drop_target p jobs_of.Drop (Some peer) may is = may
+drop_target p jobs_of.Get o may is = absurd cc
+drop_target p jobs_of.Copy o may is = absurd cc
+drop_target p jobs_of.MoveTo o may is = absurd cc
+drop_target p jobs_of.MoveFrom o may is = absurd cc
 
-can_begin : (p : PlaceView) (number slot : ℕ) (what : Job) (w : Worker) → MayBegin p what.kind what.peer → work_of w ≡ new_work_of number slot what → what.kind ≢ jobs_of.Drop → CanStep (sight_of p.number (length p.ids) []) w
+fresh_fits : (s : Side) → FitsSide s phases.Fresh tokens.Nothing
+fresh_fits Local = tt
+fresh_fits Remote = tt
+
+can_begin : (p : PlaceView) (number slot : ℕ) (what : Job) (v : Worker) → MayBegin p what.kind what.peer → work_of (as_job v) ≡ new_work_of number slot what → what.kind ≢ jobs_of.Drop → CanStep (sight_of p.number (length p.ids) []) (as_job v)
 can_begin p number slot what (Gets w) may is other = get_undone w.phase what.kind (ap (λ (v : Work). v.part) is) other
 can_begin p number slot what (Puts w) may is other =
     let job : w.job ≡ what = ap (λ (v : Work). v.what) is in
@@ -155,7 +161,7 @@ can_begin p number slot what (Puts w) may is other =
     )
 
 -- it fills nothing, and has taken nothing
-bare_fill : (rows : Rows) (w : Worker) → (work_of w).fills ≡ false → HasFill rows w
+bare_fill : (rows : Rows) (v : Worker) → (work_of (as_job v)).fills ≡ false → HasFill rows (as_job v)
 bare_fill rows (Puts w) none = tt
 bare_fill rows (Gets w) none = by_fill (gets.fill_in w.phase) none
   where
@@ -163,7 +169,7 @@ bare_fill rows (Gets w) none = by_fill (gets.fill_in w.phase) none
     by_fill None e = tt
     by_fill (Some key) e = absurd (true≢false e)
 
-bare_fed : (q : Parts) (w : Worker) → (work_of w).phase ≡ Jobs.Fresh → IsFed q w
+bare_fed : (q : Parts) (v : Worker) → (work_of (as_job v)).phase ≡ Jobs.Fresh → IsFed q (as_job v)
 bare_fed q (Puts w) fresh = tt
 bare_fed q (Gets w) fresh = by_phase w.phase fresh
   where
@@ -178,30 +184,38 @@ bare_fed q (Gets w) fresh = by_phase w.phase fresh
 new_is_task : (jobs : JobsView) (what : Job) (paths : List (List ℕ)) (t : Task) → MayBegin jobs.place what.kind what.peer → IsNewTask (jobs.begun + 1) (next_slot jobs) what paths t → IsTask jobs.place t
 new_is_task jobs what paths (tasks.Drops j) may is =
     subst (λ (d : DropJob). IsTask jobs.place (tasks.Drops d)) (sym is.0)
-    (record { side = ap (λ (k : JobKind). drop_side k what.peer) is.1 ∙ ap (drop_side jobs_of.Drop) (no_peer jobs.place what.kind what.peer may is.1); slot = next_small jobs; fits = tt; stands = refl; unheard = λ fresh. refl })
+    (record {
+      target = drop_target jobs.place what.kind what.peer may is.1;
+      slot = next_small jobs;
+      fits = fresh_fits (drop_side what.kind what.peer);
+      stands = refl;
+      unheard = λ fresh. refl;
+      own = λ later. absurd (later refl);
+      apart = new_apart (drop_side what.kind what.peer) what.peer (new_worker (jobs.begun + 1) (next_slot jobs) what) refl refl;
+    })
 new_is_task jobs what paths (tasks.Transfers w) may is = record {
-  plain = ap (λ (v : Work). is_move v.what.kind) is.0 ∙ no_move jobs.place what.kind what.peer may;
-  can = can_begin jobs.place (jobs.begun + 1) (next_slot jobs) what w may is.0 is.1;
+  can = can_begin jobs.place (jobs.begun + 1) (next_slot jobs) what w.worker may is.0 is.1;
   slot = subst (λ (v : Work). v.slot < 4) (sym is.0) (next_small jobs);
   names = subst (λ (v : Work). IfSome v.what.peer (λ peer. (peer < length jobs.place.ids) × ((jobs.place.number == peer) ≡ false))) (sym is.0) (names_peer jobs.place what.kind what.peer may);
   apart = subst (λ (v : Work). IfSome (partner v.what.peer v.phase) (λ peer. (jobs.place.number == peer) ≡ false)) (sym is.0) tt;
+  target = subst (λ (v : Work). is_move v.what.kind ≡ true → HasTarget (side_of v) v.what.peer (place_reading jobs.place)) (sym is.0) (move_target jobs.place what.kind what.peer may);
 }
 
 new_owns : (jobs : JobsView) (rows : Rows) (what : Job) (paths : List (List ℕ)) (t : Task) → OwnAll jobs rows → IsNewTask (jobs.begun + 1) (next_slot jobs) what paths t → OwnsOf rows t
 new_owns jobs rows what paths (tasks.Drops j) own is = subst (λ (d : DropJob). OwnsOf rows (tasks.Drops d)) (sym is.0) (own.later (jobs.begun + 1) what.key (omega arith))
 new_owns jobs rows what paths (tasks.Transfers w) own is = (
   subst (λ (v : Work). HasToken v.number v.what.key tokens.Nothing rows) (sym is.0) (own.later (jobs.begun + 1) what.key (omega arith)),
-  bare_fill rows w (ap (λ (v : Work). v.fills) is.0),
+  bare_fill rows w.worker (ap (λ (v : Work). v.fills) is.0),
 )
 
 new_fed : (q : Parts) (number slot : ℕ) (what : Job) (paths : List (List ℕ)) (t : Task) → IsNewTask number slot what paths t → IsFedTask q t
 new_fed q number slot what paths (tasks.Drops j) is = tt
-new_fed q number slot what paths (tasks.Transfers w) is = bare_fed q w (ap (λ (v : Work). v.phase) is.0)
+new_fed q number slot what paths (tasks.Transfers w) is = bare_fed q w.worker (ap (λ (v : Work). v.phase) is.0)
 
--- a drop that begins has read nothing
+-- a job that begins has read nothing
 new_reads : (s : SetUp) (st' : State) (number slot : ℕ) (what : Job) (paths : List (List ℕ)) (t : Task) → IsNewTask number slot what paths t → st'.read number ≡ st'.logs → HasReadOf (given_to s t) st' t
 new_reads s st' number slot what paths (tasks.Drops j) is reads = subst (λ (d : DropJob). HasRead (given s d.paths) st' d.worker d.known) (sym is.0) (refl, reads)
-new_reads s st' number slot what paths (tasks.Transfers w) is reads = tt
+new_reads s st' number slot what paths (tasks.Transfers w) is reads = ap (λ (v : Work). st'.read v.number) is.0 ∙ reads
 
 module _ (jobs now : JobsView) (what : Job) (paths : List (List ℕ)) (b : Begins jobs what paths now) where
   work_is : work_now b.task ≡ new_work_of (jobs.begun + 1) (next_slot jobs) what
@@ -298,7 +312,7 @@ stay_all rows r e (w ∷ ws) none = (λ i. here i ∷ stay_all rows r e ws none 
     here : work_after rows r e w ≡ w
     here = rw none refl
 
--- where no work changes, what a drop has read stays, and one at its first step would read what the logs say now
+-- where no work changes, what a drop has read stays, and a job that has read nothing would read what the logs say now
 still_works : (s : SetUp) (st : State) (e : Entry) (jobs : JobsView) (rows : Rows) → AreWorks s st jobs → OwnAll jobs rows → (state_after s st e).works ≡ st.works → (state_after s st e).begun ≡ st.begun → AreWorks s (state_after s st e) jobs
 still_works s st e jobs rows are own stay begun =
     record {
@@ -307,20 +321,21 @@ still_works s st e jobs rows are own stay begun =
       read = Each-from_members (λ t. HasReadOf (given_to s t) (state_after s st e) t) jobs.running (λ t here. by_kind t here (Each-member (λ x. HasReadOf (given_to s x) st x) jobs.running t are.read here));
     }
   where
-    reads : (j : DropJob) → Member (tasks.Drops j) jobs.running → (state_after s st e).read j.worker.number ≡ read_after (state_after s st e).logs (st.read j.worker.number) (Some (work_now (tasks.Drops j)))
-    reads j here =
-        ap (read_after (state_after s st e).logs (st.read j.worker.number)) (ap (find (λ w. w.number == j.worker.number)) are.works
-        ∙ (find_mapped work_now (λ w. w.number == j.worker.number) jobs.running ∙ ap (option_map work_now) (found_by_number jobs.running (tasks.Drops j) own.apart here)))
+    reads : (t : Task) → Member t jobs.running → (state_after s st e).read (number_of t) ≡ read_after (state_after s st e).logs (st.read (number_of t)) (Some (work_now t))
+    reads t here =
+        ap (read_after (state_after s st e).logs (st.read (number_of t))) (ap (find (λ w. w.number == number_of t)) are.works
+        ∙ (find_mapped work_now (λ w. w.number == number_of t) jobs.running ∙ ap (option_map work_now) (found_by_number jobs.running t own.apart here)))
 
     by_known : (j : DropJob) → Member (tasks.Drops j) jobs.running → (known : Option KnownLogs) → HasRead (given s j.paths) st j.worker known → HasRead (given s j.paths) (state_after s st e) j.worker known
     by_known j here None fresh =
-        (fresh.0, reads j here ∙ ap (λ (b : Bool). if b then st.read j.worker.number else (state_after s st e).logs) (ap (λ (ph : Phase). has_read Drops (phase_as ph)) fresh.0))
+        (fresh.0, reads (tasks.Drops j) here ∙ ap (λ (b : Bool). if b then st.read j.worker.number else (state_after s st e).logs) (ap (λ (ph : Phase). has_read Drops (phase_as ph)) fresh.0))
     by_known j here (Some known) h =
-        read_same (given s j.paths) st (state_after s st e) j.worker known (reads j here ∙ ap (λ (b : Bool). if b then st.read j.worker.number else (state_after s st e).logs) h.begun) h
+        read_same (given s j.paths) st (state_after s st e) j.worker known (reads (tasks.Drops j) here ∙ ap (λ (b : Bool). if b then st.read j.worker.number else (state_after s st e).logs) h.begun) h
 
     by_kind : (t : Task) → Member t jobs.running → HasReadOf (given_to s t) st t → HasReadOf (given_to s t) (state_after s st e) t
     by_kind (tasks.Drops j) here read = by_known j here j.known read
-    by_kind (tasks.Transfers w) here read = tt
+    by_kind (tasks.Transfers w) here read =
+        reads (tasks.Transfers w) here ∙ ap (λ (b : Bool). if b then st.read (work_of w).number else (state_after s st e).logs) (transfer_unread w.worker)
 
 pub works_stay_so : (s : SetUp) (st : State) (e : Entry) (jobs : JobsView) (rows : Rows) → AreWorks s st jobs → OwnAll jobs rows → job_of e.kind ≡ None → ((clock : ℕ) → e.kind ≡ kinds.Crash clock → ⊥) → AreWorks s (state_after s st e) jobs
 works_stay_so s st e jobs rows are own none crash =

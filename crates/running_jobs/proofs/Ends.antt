@@ -5,63 +5,16 @@ use Rattle.std.proofs.lemmas.List.{append-nil}
 use Rattle.annex_base.specs.Lists.{Member}
 use Rattle.annex_base.proofs.Lists.{Each-both, Each-left, Each-member, Each-right, Each-weaker}
 use Rattle.content_lock.specs.Rows.{Rows, bar_at, is_filling}
-use Rattle.drop_phases.specs.declared.phase.Ending.{Ending}
-use Rattle.drop_phases.specs.declared.phase.Ending.TheVariants as endings
-use Rattle.drop_phases.specs.declared.phase.Phase.{Phase}
-use Rattle.drop_phases.specs.declared.phase.Phase.TheVariants as phases
-use Rattle.drop_phases.specs.declared.phase.Token.{Token}
 use Rattle.drop_phases.specs.declared.phase.Token.TheVariants as tokens
-use Rattle.drop_phases.specs.Doing.{IsBar, OthersStay}
-use Rattle.drop_phases.specs.Feeding.{FitsEnding, FitsLocal, IsBare, IsOfLocal}
-use Rattle.node_tasks.specs.Places.{PlaceView}
+use Rattle.drop_phases.specs.Doing.{OthersStay}
 use Rattle.transfer_turns.specs.Steps.{fills_key}
 use Rattle.node_tasks.specs.declared.task.Task.{Task}
-use Rattle.node_tasks.specs.declared.task.Task.TheVariants as tasks
-use Rattle.node_tasks.specs.Tasks.{IsLocal, IsSpent, IsTask, OwnsOf, number_of, work_now}
+use Rattle.node_tasks.specs.Tasks.{OwnsOf, number_of, work_now}
 use Rattle.running_jobs.specs.Changes.{Settles}
 use Rattle.running_jobs.specs.Ending.{CanEnd, OthersKeep}
 use Rattle.running_jobs.specs.Running.{AllApart, AreApart, AreFilled, IsOwn, Jobs, OwnAll, fills_at}
 use Rattle.running_jobs.proofs.Among.{apart_before, apart_without}
 use Rattle.running_jobs.proofs.Filling.{ended_one, fills_append, none_filled, one_apart, owns_on, right_there, turned}
-
--- ---- a job has no hold
-
-bare_local : (token : Token) → IsBare token → IsOfLocal token
-bare_local tokens.Nothing h = tt
-bare_local (tokens.Bar bar) h = tt
-bare_local (tokens.Share share) h = absurd h
-
-bar_local : (token : Token) → IsBar token → IsOfLocal token
-bar_local tokens.Nothing h = tt
-bar_local (tokens.Bar bar) h = tt
-bar_local (tokens.Share share) h = absurd h
-
-ending_local : (why : Ending) (token : Token) → FitsEnding why token → IsOfLocal token
-ending_local endings.StoreFault token h = h
-ending_local (endings.Lost ordered) token h = absurd h
-ending_local (endings.OldProtocol version) token h = absurd h
-
-fits_local : (phase : Phase) (token : Token) → FitsLocal phase token → IsOfLocal token
-fits_local phases.Fresh token h = bare_local token h
-fits_local phases.Next token h = bar_local token h
-fits_local (phases.Opens peer) token h = bar_local token h
-fits_local (phases.Greets peer) token h = bar_local token h
-fits_local (phases.AsksLock peer since) token h = bar_local token h
-fits_local (phases.AsksLook peer) token h = bar_local token h
-fits_local phases.AsksTime token h = absurd h
-fits_local phases.Orders token h = absurd h
-fits_local phases.Removed token h = bare_local token h
-fits_local phases.Denied token h = absurd h
-fits_local (phases.Late time) token h = absurd h
-fits_local (phases.Ends why) token h = ending_local why token h
-
-task_local : (p : PlaceView) (t : Task) → IsTask p t → IsLocal t
-task_local p (tasks.Drops j) is = fits_local j.worker.phase j.worker.token is.fits
-task_local p (tasks.Transfers w) is = tt
-
-pub spent_local : (t : Task) → IsSpent t → IsLocal t
-spent_local (tasks.Drops j) spent = subst IsOfLocal (sym spent) tt
-spent_local (tasks.Transfers w) spent = tt
 
 -- ---- a job is settled after its step
 
@@ -82,12 +35,8 @@ pub can_end : (jobs : Jobs) (rows : Rows) → OwnAll jobs rows → CanEnd rows j
 can_end jobs rows own =
     record {
       owns = Each-weaker (IsOwn jobs.begun rows) (OwnsOf rows) (λ t o. o.owns) jobs.running own.owns;
-      local = Each-weaker (IsTask jobs.place) IsLocal (task_local jobs.place) jobs.running own.tasks;
       apart = own.apart;
     }
-
-pub last_local : (rows : Rows) (front : List Task) (x : Task) → CanEnd rows (front ++ x ∷ []) → IsLocal x
-last_local rows front x can = (Each-right IsLocal front (x ∷ []) can.local).0
 
 pub last_owns : (rows : Rows) (front : List Task) (x : Task) → CanEnd rows (front ++ x ∷ []) → OwnsOf rows x
 last_owns rows front x can = (Each-right (OwnsOf rows) front (x ∷ []) can.owns).0
@@ -104,7 +53,6 @@ module _ (rows rows' : Rows) (front : List Task) (x : Task) (can : CanEnd rows (
   rest_can =
       record {
         owns = Each-both (OwnsOf rows) (λ t. AreApart t x) (OwnsOf rows') still front (Each-left (OwnsOf rows) front (x ∷ []) can.owns) (apart_before front x [] can.apart);
-        local = Each-left IsLocal front (x ∷ []) can.local;
         apart = subst AllApart (append-nil front) (apart_without front x [] can.apart);
       }
 

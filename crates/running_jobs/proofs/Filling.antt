@@ -12,11 +12,14 @@ use Rattle.drop_phases.specs.Doing.{HasToken}
 use Rattle.get_phases.specs.Gets.{fill_in}
 use Rattle.node_model.specs.Jobs.{Work}
 use Rattle.transfer_turns.specs.Steps.{fills_key}
+use Rattle.node_tasks.specs.Worker.{Worker}
 use Rattle.node_tasks.specs.Worker.TheVariants.{Gets, Puts}
+use Rattle.node_tasks.specs.Workers.{HasFill, work_of}
 use Rattle.node_tasks.specs.declared.task.Task.{Task}
 use Rattle.node_tasks.specs.declared.task.Task.TheVariants as tasks
 use Rattle.node_tasks.specs.Tasks.{OwnsOf, number_of, work_now}
 use Rattle.running_jobs.specs.Running.{fills_at}
+use Rattle.running_jobs.proofs.Transfers.{as_job}
 
 -- ---- two tests
 
@@ -32,26 +35,32 @@ one_apart true x apart is = absurd (true≢false (sym is ∙ apart))
 
 -- ---- who fills a key has the right to
 
+fill_there : (rows : Rows) (key mine : List ℕ) (o : Option (List ℕ)) → IfSome o (λ (own : List ℕ). (own ≡ mine) × (is_filling rows own ≡ true)) → (is_some o && bytes_eq mine key) ≡ true → is_filling rows key ≡ true
+fill_there rows key mine None given e = absurd (true≢false (sym e))
+fill_there rows key mine (Some own) given e = ap (is_filling rows) (sym (given.0 ∙ bytes_eq-true mine key e)) ∙ given.1
+
+right_of : (rows : Rows) (v : Worker) (key : List ℕ) → HasFill rows (as_job v) → fills_key (work_of (as_job v)) key ≡ true → is_filling rows key ≡ true
+right_of rows (Puts w) key has fills = absurd (true≢false (sym fills))
+right_of rows (Gets w) key has fills = fill_there rows key w.job.key (fill_in w.phase) has fills
+
 pub right_there : (rows : Rows) (t : Task) (key : List ℕ) → OwnsOf rows t → fills_key (work_now t) key ≡ true → is_filling rows key ≡ true
 right_there rows (tasks.Drops j) key owns fills = absurd (true≢false (sym fills))
-right_there rows (tasks.Transfers (Puts w)) key owns fills = absurd (true≢false (sym fills))
-right_there rows (tasks.Transfers (Gets w)) key owns fills = by_fill (fill_in w.phase) owns.1 fills
-  where
-    by_fill : (o : Option (List ℕ)) → IfSome o (λ (own : List ℕ). (own ≡ w.job.key) × (is_filling rows own ≡ true)) → (is_some o && bytes_eq w.job.key key) ≡ true → is_filling rows key ≡ true
-    by_fill None given e = absurd (true≢false (sym e))
-    by_fill (Some own) given e = ap (is_filling rows) (sym (given.0 ∙ bytes_eq-true w.job.key key e)) ∙ given.1
+right_there rows (tasks.Transfers w) key owns fills = right_of rows w.worker key owns.1 fills
 
 -- what a job has of the table, it has where its tokens stay, and the right to each key that it fills
+fill_on : (rows rows' : Rows) (mine : List ℕ) (o : Option (List ℕ)) → ((is_some o && bytes_eq mine mine) ≡ true → is_filling rows' mine ≡ true) → IfSome o (λ (own : List ℕ). (own ≡ mine) × (is_filling rows own ≡ true))
+    → IfSome o (λ (own : List ℕ). (own ≡ mine) × (is_filling rows' own ≡ true))
+fill_on rows rows' mine None filled given = tt
+fill_on rows rows' mine (Some own) filled given = (given.0, ap (is_filling rows') given.0 ∙ filled (bytes_eq-refl mine))
+
+right_on : (rows rows' : Rows) (v : Worker) → ((key : List ℕ) → fills_key (work_of (as_job v)) key ≡ true → is_filling rows' key ≡ true) → HasFill rows (as_job v) → HasFill rows' (as_job v)
+right_on rows rows' (Puts w) fills has = tt
+right_on rows rows' (Gets w) fills has = fill_on rows rows' w.job.key (fill_in w.phase) (fills w.job.key) has
+
 pub owns_on : (rows rows' : Rows) (t : Task) → OwnsOf rows t → ((key : List ℕ) (token : Token) → HasToken (number_of t) key token rows → HasToken (number_of t) key token rows')
     → ((key : List ℕ) → fills_key (work_now t) key ≡ true → is_filling rows' key ≡ true) → OwnsOf rows' t
 owns_on rows rows' (tasks.Drops j) owns stay fills = stay j.worker.job.key j.worker.token owns
-owns_on rows rows' (tasks.Transfers (Puts w)) owns stay fills = (stay w.job.key tokens.Nothing owns.0, tt)
-owns_on rows rows' (tasks.Transfers (Gets w)) owns stay fills = (stay w.job.key tokens.Nothing owns.0, by_fill (fill_in w.phase) (fills w.job.key) owns.1)
-  where
-    by_fill : (o : Option (List ℕ)) → ((is_some o && bytes_eq w.job.key w.job.key) ≡ true → is_filling rows' w.job.key ≡ true) → IfSome o (λ (own : List ℕ). (own ≡ w.job.key) × (is_filling rows own ≡ true))
-        → IfSome o (λ (own : List ℕ). (own ≡ w.job.key) × (is_filling rows' own ≡ true))
-    by_fill None filled given = tt
-    by_fill (Some own) filled given = (given.0, ap (is_filling rows') given.0 ∙ filled (bytes_eq-refl w.job.key))
+owns_on rows rows' (tasks.Transfers w) owns stay fills = (stay (work_of w).what.key tokens.Nothing owns.0, right_on rows rows' w.worker fills owns.1)
 
 -- ---- a step of one job, and another that fills the key or doesn't
 

@@ -17,6 +17,7 @@ use Rattle.job_frames.specs.Sending.{IsOwnEntry, SendsWell}
 use Rattle.job_frames.specs.Standing.{StandsWell}
 use Rattle.node_tasks.specs.declared.task.Task.{Task}
 use Rattle.node_tasks.specs.Tasks.{IsTask, work_now}
+use Rattle.running_jobs.specs.Acting.{HasLockRoom}
 use Rattle.running_jobs.specs.Running.{AreWorks, Jobs as JobsView}
 use Rattle.running_jobs.proofs.Among.{find_mapped}
 use Rattle.running_jobs.proofs.Standing.{stands}
@@ -44,9 +45,10 @@ module _ (s : SetUp) (st : State) (k : Look) (jobs : JobsView) (m : Effect) (are
   made_by_job : job_step s st k ≡ Some m → (t : Task) × IsBy t
   made_by_job is = let at = first_some-was (λ slot. slot_step s st k (find (λ w. w.slot == slot) st.works)) slots m is in by_slot at.0 at.2
 
-  pub sends_where_room : SendLaw → Each (IsTask jobs.place) jobs.running → job_step s st k ≡ Some m → SendsWell (λ a. end_took (st.ends a) (taken_at a m.taken)) k.room m.sent
-  sends_where_room law fit is =
-      let made = made_by_job is in law s st k (work_now made.0) m (stands jobs.place s st k made.0 (Each-member (IsTask jobs.place) jobs.running made.0 fit made.1.among)) made.1.does
+  pub sends_where_room : SendLaw → Each (IsTask jobs.place) jobs.running → Each (HasLockRoom s st k) jobs.running → job_step s st k ≡ Some m → SendsWell (λ a. end_took (st.ends a) (taken_at a m.taken)) k.room m.sent
+  sends_where_room law fit room is =
+      let made = made_by_job is in
+      law s st k (work_now made.0) m (stands jobs.place s st k made.0 (Each-member (IsTask jobs.place) jobs.running made.0 fit made.1.among) (Each-member (HasLockRoom s st k) jobs.running made.0 room made.1.among)) made.1.does
 
   pub makes_own : OwnLaw → job_step s st k ≡ Some m → IsOwnEntry m
   makes_own law is = let made = made_by_job is in law s st k (work_now made.0) m made.1.does

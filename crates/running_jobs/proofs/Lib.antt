@@ -4,6 +4,7 @@ pub mod EntryKinds
 pub mod Placing
 pub mod Filling
 pub mod Stepping
+pub mod Transfers
 pub mod Parting
 pub mod Peers
 pub mod Owning

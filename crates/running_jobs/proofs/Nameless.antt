@@ -21,7 +21,7 @@ none_said : (lines : List (List ℕ)) (e : Entry) → Says kinds.Trust lines e �
 none_said lines e said here =
     let form = said.says.form in
     let same : form.id ≡ [] = same_repo form.id [] (sym form.topic ∙ here) in
-    let none : 0 ≡ 16 = subst (λ (id : List ℕ). length id ≡ 16) same form.repo.0 in
+    let none : ◌≡◌ {A = ℕ} 0 16 = subst (λ (id : List ℕ). length id ≡ 16) same form.repo.0 in
     cc
 
 pub nameless_asked : ((kind : LogKind) (lines : List (List ℕ)) (topic : Topic) → (newest_of kind lines topic ≡ None) ↔ ((e : Entry) → Says kind lines e → e.topic ≢ topic)) → (lines : Lines) (key : List ℕ)

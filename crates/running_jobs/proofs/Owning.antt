@@ -1,6 +1,6 @@
 -- What the jobs have of the table and of the store's parts after a step, and what becomes of them.
 use Rattle.std.proofs.Common.{◌≡◌, ◌≢◌, inl, inr, ℕ, ◌*◌, ◌<◌, ◌≤◌, Bool, true, false, if◌then◌else◌, List, ◌∷◌, ◌++◌, length, map, Option, Some, None, refl, sym, ap, subst, ◌∙◌, arith}
-use Rattle.std.specs.Prelude.{◌&&◌, ◌||◌, not, is_some}
+use Rattle.std.specs.Prelude.{All, ◌+◌, ◌&&◌, ◌||◌, not, is_some}
 use Rattle.annex_base.specs.Lists.{Each, Member}
 use Rattle.annex_base.specs.Settings.{Settings}
 use Rattle.annex_base.proofs.Lists.{Member-append_left, Member-append_right, Member-map, Each-append, Each-both, Each-from_members, Each-left, Each-middle, Each-right, Each-weaker, list_any_nowhere}
@@ -8,9 +8,14 @@ use Rattle.link_ring.specs.Ends.{EndView}
 use Rattle.object_store.specs.Stores.{Parts}
 use Rattle.node_model.specs.Clocks.{ClockSet}
 use Rattle.node_model.specs.OwedLines.{told_frame}
-use Rattle.content_lock.specs.Rows.{Rows, is_filling}
+use Rattle.run_data.specs.declared.entry.EntryKind.{EntryKind}
+use Rattle.run_data.specs.declared.entry.EntryKind.TheVariants.{Talk}
+use Rattle.run_data.specs.declared.row.Hold.{Hold}
+use Rattle.content_lock.specs.Rows.{AreAfter, Rows, is_filling}
+use Rattle.content_lock.specs.Stored.{Agrees}
 use Rattle.drop_phases.specs.declared.phase.Token.TheVariants as tokens
 use Rattle.drop_phases.specs.Doing.{HasToken, OthersStay}
+use Rattle.drop_phases.specs.Sides.{IsNumbered}
 use Rattle.drop_phases.specs.Working.{end_in}
 use Rattle.node_tasks.specs.Waiting.{WaitsFor, taken_by}
 use Rattle.transfer_turns.specs.Steps.{Seen, fills_key}
@@ -32,10 +37,19 @@ use Rattle.running_jobs.proofs.Peers.{peer_among}
 use Rattle.running_jobs.proofs.Parting.{fed_on, parts_same, parts_told}
 use Rattle.running_jobs.proofs.Stepping.{first_of_found, in_a_slot, job_found, kind_is, takes_waiting}
 
+-- the law of `holds_are_numbered`
+abbrev pub NumberLaw : Type 0
+NumberLaw = (kind : EntryKind) (n : ℕ) (was now : Rows) → AreAfter kind was now → IsNumbered n kind → All (λ h. h.number < n) was.holds → (m : ℕ) → n < m → All (λ h. h.number < m) now.holds
+
+-- where no job has a step
+pub numbers_still : NumberLaw → (n : ℕ) (rows : Rows) → All (λ h. h.number < n) rows.holds → All (λ h. h.number < n + 1) rows.holds
+numbers_still law n rows fresh = law (Talk None) n rows rows (record { holds = refl; bars = λ key. refl; fills = refl }) tt fresh (n + 1) (omega arith)
+
 -- a job keeps the paths that it was given
 paths_stay : (t t' : Task) (x : Told) → HearsOn t t' x → paths_of t' ≡ paths_of t
-paths_stay (tasks.Drops j) (tasks.Drops j') (tolds.Feed f) hears = ap (λ (ps : List (List ℕ)). Some ps) hears.2
-paths_stay (tasks.Transfers w) (tasks.Transfers w') (tolds.Arrival x) hears = refl
+paths_stay (tasks.Drops j) (tasks.Drops j') (tolds.Feed f) hears = ap (λ (ps : List (List ℕ)). Some ps) hears.4
+paths_stay (tasks.Transfers w) (tasks.Transfers w') (tolds.Arrival x) hears = ap (λ (ps : List (List ℕ)). Some ps) hears
+paths_stay (tasks.Transfers w) (tasks.Drops j) (tolds.Arrival x) hears = ap (λ (ps : List (List ℕ)). Some ps) hears.2
 paths_stay t t' x hears = absurd hears
 
 module _ (links : List EndView) (clock : ClockSet) (settings : Settings) (jobs : Jobs) (number time : ℕ) (found : Found) (rows rows' : Rows) (kept kept' : Seen) (now : List Task) (a : Acted)
@@ -242,12 +256,20 @@ module _ (links : List EndView) (clock : ClockSet) (settings : Settings) (jobs :
 
   rows_go_on : RowsGoOn jobs.running now rows rows' a
   rows_go_on = record {
-    holds = ch.settled.holds ∙ ch.leaves.holds;
     after = ch.settled.holds ∙ ch.leaves.after;
     bars = λ key. ch.settled.bars key ∙ ch.leaves.bars key;
     others = subst (λ (n : ℕ). OthersStay n rows rows') (sym ch.job) others_stay;
     filled = λ others are. record { filled = λ key. (keys_after others are key).0; apart = λ key. (keys_after others are key).1 };
   }
+
+  -- the store has the records of its holds
+  pub agrees_after : Agrees kept.records rows.holds → Agrees kept'.records rows'.holds
+  agrees_after agrees = subst (λ (hs : List Hold). Agrees kept'.records hs) (sym ch.settled.holds) (ch.leaves.agrees agrees)
+
+  -- the numbers of its holds stay below that of the next entry
+  pub numbers_after : NumberLaw → All (λ h. h.number < number) rows.holds → All (λ h. h.number < number + 1) rows'.holds
+  numbers_after law fresh =
+      law a.kind number rows (record rows' { fills = rows.fills }) (record { holds = ch.settled.holds ∙ ch.leaves.after; bars = λ key. ch.settled.bars key ∙ ch.leaves.bars key; fills = refl }) ch.leaves.numbered fresh (number + 1) (omega arith)
 
   -- ---- the parts
 
@@ -314,6 +336,7 @@ module _ (links : List EndView) (clock : ClockSet) (settings : Settings) (jobs :
       owes = ch.owes.line ∙ (λ i. told_frame (Some (work_now ch.t)) (taken_by links (sym ch.slot i) (sym ch.takes i)));
       among = λ l some. peer_among links (length jobs.place.ids) (end_in a.slot l.repo) count (waits l.repo (ch.takes ∙ ch.owes.of_peer l some)).1;
       mid = ch.mid;
+      entry = number;
       leaves = ch.leaves;
       stays = ch.settled.stays;
     }

@@ -17,13 +17,17 @@ use Rattle.get_phases.specs.declared.getting.Phase.{Phase}
 use Rattle.get_phases.specs.declared.getting.Phase.TheVariants as phases
 use Rattle.get_phases.specs.Gets as gets
 use Rattle.get_phases.specs.Gets.{fill_in, if_awaited}
+use Rattle.node_tasks.specs.Worker.{Worker}
 use Rattle.node_tasks.specs.Worker.TheVariants.{Gets, Puts}
+use Rattle.node_tasks.specs.Workers as transfers
+use Rattle.node_tasks.specs.Workers.{HasFill}
 use Rattle.node_tasks.specs.declared.readiness.Told.{Told}
 use Rattle.node_tasks.specs.declared.readiness.Told.TheVariants as tolds
 use Rattle.node_tasks.specs.declared.task.Task.{Task}
 use Rattle.node_tasks.specs.declared.task.Task.TheVariants as tasks
 use Rattle.node_tasks.specs.Acting.{parts_after}
 use Rattle.node_tasks.specs.Tasks.{IsFedTask, OwnsOf, work_now}
+use Rattle.running_jobs.proofs.Transfers.{as_job}
 
 -- ---- they are told as before
 
@@ -48,9 +52,12 @@ get_told (phases.Bytes peer start taking) (Some (incoming.Bytes bytes)) (Talk jo
 get_told (phases.Word peer start taken) (Some (incoming.Message Valid)) kind known = valid_told taken.fill kind known
 get_told phase i kind known = refl
 
+transfer_told : (v : Worker) (i : Option Incoming) (kind : EntryKind) (known : Option Parts) → is_some (transfers.parts_after (as_job v) i kind known) ≡ is_some known
+transfer_told (Gets w) i kind known = get_told w.phase i kind known
+transfer_told (Puts w) i kind known = refl
+
 pub parts_told : (t : Task) (x : Told) (kind : EntryKind) (known : Option Parts) → is_some (parts_after t x kind known) ≡ is_some known
-parts_told (tasks.Transfers (Gets w)) (tolds.Arrival x) kind known = get_told w.phase x.incoming kind known
-parts_told (tasks.Transfers (Puts w)) (tolds.Arrival x) kind known = refl
+parts_told (tasks.Transfers w) (tolds.Arrival x) kind known = transfer_told w.worker x.incoming kind known
 parts_told t x kind known = refl
 
 -- ---- a step changes the part of the key that its job fills alone
@@ -79,9 +86,12 @@ get_same rows own (phases.Bytes peer start taking) (Some (incoming.Bytes bytes))
 get_same rows own (phases.Word peer start taken) (Some (incoming.Message Valid)) kind q q' key has apart is = valid_key kind q q' taken.fill own key has.0 apart is
 get_same rows own phase i kind q q' key has apart is = at_key q q' key is
 
+transfer_same : (rows : Rows) (v : Worker) (i : Option Incoming) (kind : EntryKind) (q q' : Parts) (key : List ℕ) → HasFill rows (as_job v) → fills_key (transfers.work_of (as_job v)) key ≡ false → transfers.parts_after (as_job v) i kind (Some q) ≡ Some q' → q' key ≡ q key
+transfer_same rows (Gets w) i kind q q' key has apart is = get_same rows w.job.key w.phase i kind q q' key has apart is
+transfer_same rows (Puts w) i kind q q' key has apart is = at_key q q' key is
+
 pub parts_same : (rows : Rows) (t : Task) (x : Told) (kind : EntryKind) (q q' : Parts) (key : List ℕ) → OwnsOf rows t → fills_key (work_now t) key ≡ false → parts_after t x kind (Some q) ≡ Some q' → q' key ≡ q key
-parts_same rows (tasks.Transfers (Gets w)) (tolds.Arrival x) kind q q' key owns apart is = get_same rows w.job.key w.phase x.incoming kind q q' key owns.1 apart is
-parts_same rows (tasks.Transfers (Puts w)) (tolds.Arrival x) kind q q' key owns apart is = at_key q q' key is
+parts_same rows (tasks.Transfers w) (tolds.Arrival x) kind q q' key owns apart is = transfer_same rows w.worker x.incoming kind q q' key owns.1 apart is
 parts_same rows t x kind q q' key owns apart is = at_key q q' key is
 
 -- ---- what another has taken of its part is still the store's part
@@ -93,7 +103,10 @@ get_fed rows own (phases.Bytes peer start taking) q q' has same fed = subst (IsF
 get_fed rows own (phases.Word peer start taken) q q' has same fed = subst (IsTakenOf taken) (sym (same taken.fill (ap (bytes_eq own) has.0 ∙ bytes_eq-refl own))) fed
 get_fed rows own phase q q' has same fed = tt
 
+transfer_fed : (rows : Rows) (v : Worker) (q q' : Parts) → HasFill rows (as_job v) → ((key : List ℕ) → fills_key (transfers.work_of (as_job v)) key ≡ true → q' key ≡ q key) → transfers.IsFed q (as_job v) → transfers.IsFed q' (as_job v)
+transfer_fed rows (Gets w) q q' has same fed = get_fed rows w.job.key w.phase q q' has same fed
+transfer_fed rows (Puts w) q q' has same fed = tt
+
 pub fed_on : (rows : Rows) (t : Task) (q q' : Parts) → OwnsOf rows t → ((key : List ℕ) → fills_key (work_now t) key ≡ true → q' key ≡ q key) → IsFedTask q t → IsFedTask q' t
-fed_on rows (tasks.Transfers (Gets w)) q q' owns same fed = get_fed rows w.job.key w.phase q q' owns.1 same fed
-fed_on rows (tasks.Transfers (Puts w)) q q' owns same fed = tt
+fed_on rows (tasks.Transfers w) q q' owns same fed = transfer_fed rows w.worker q q' owns.1 same fed
 fed_on rows (tasks.Drops j) q q' owns same fed = tt

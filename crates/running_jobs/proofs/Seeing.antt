@@ -20,13 +20,16 @@ use Rattle.node_tasks.specs.Waiting.{taken_by}
 use Rattle.get_phases.specs.declared.getting.Phase.{Phase}
 use Rattle.get_phases.specs.declared.getting.Phase.TheVariants as phases
 use Rattle.get_phases.specs.Gets as gets
+use Rattle.node_tasks.specs.Worker.{Worker}
 use Rattle.node_tasks.specs.Worker.TheVariants.{Gets, Puts}
+use Rattle.node_tasks.specs.Workers.{IsFed, SeesPart}
 use Rattle.node_tasks.specs.declared.task.Task.{Task}
 use Rattle.node_tasks.specs.declared.task.Task.TheVariants as tasks
 use Rattle.node_tasks.specs.Tasks.{IsFedTask, number_of}
 use Rattle.running_jobs.specs.declared.acted.Acted.{Acted}
 use Rattle.running_jobs.specs.Acting.{HasPart, SeesPartAt}
 use Rattle.running_jobs.specs.Running.{AreAllFed, Jobs, job_at}
+use Rattle.running_jobs.proofs.Transfers.{as_job}
 
 -- ---- the verdict
 
@@ -70,20 +73,30 @@ get_sees : VerdictsMatch → (q : Parts) (key : List ℕ) (phase : Phase) (i : O
 get_sees law q key (phases.Word peer start taken) (Some (incoming.Message Valid)) fed = (fed, right_told law taken.sum taken.fill (q taken.fill) fed.1)
 get_sees law q key phase i fed = refl
 
+abbrev part_in : Parts → Worker → ℕ
+part_in q (Gets w) = length (q w.job.key)
+part_in q (Puts w) = 0
+
+abbrev right_by : Worker → Bool
+right_by (Gets w) = right_at w.phase
+right_by (Puts w) = false
+
 abbrev part_of : Parts → Task → ℕ
-part_of q (tasks.Transfers (Gets w)) = length (q w.job.key)
-part_of q t = 0
+part_of q (tasks.Transfers w) = part_in q w.worker
+part_of q (tasks.Drops j) = 0
 
 abbrev right_of : Task → Bool
-right_of (tasks.Transfers (Gets w)) = right_at w.phase
-right_of t = false
+right_of (tasks.Transfers w) = right_by w.worker
+right_of (tasks.Drops j) = false
+
+transfer_sees : VerdictsMatch → (q : Parts) (v : Worker) (i : Option Incoming) → IsFed q (as_job v) → SeesPart (Some q) (as_job v) i (part_in q v) (right_by v)
+transfer_sees law q (Puts w) i fed = tt
+transfer_sees law q (Gets w) i fed = get_sees law q w.job.key w.phase i fed
 
 task_sees : VerdictsMatch → (q : Parts) (t : Task) (f : Option FrameView) → IsFedTask q t → SeesPartAt (Some q) t f (part_of q t) (right_of t)
 task_sees law q (tasks.Drops j) f fed = tt
-task_sees law q (tasks.Transfers (Puts w)) None fed = tt
-task_sees law q (tasks.Transfers (Puts w)) (Some f) fed = λ i brings. tt
-task_sees law q (tasks.Transfers (Gets w)) None fed = get_sees law q w.job.key w.phase None fed
-task_sees law q (tasks.Transfers (Gets w)) (Some f) fed = λ i brings. get_sees law q w.job.key w.phase (Some i) fed
+task_sees law q (tasks.Transfers w) None fed = transfer_sees law q w.worker None fed
+task_sees law q (tasks.Transfers w) (Some f) fed = λ i brings. transfer_sees law q w.worker (Some i) fed
 
 pub has_part : VerdictsMatch → (q : Parts) (jobs : Jobs) (links : List EndView) (a : Acted) → AreAllFed q jobs.running → HasPart (Some q) jobs links a
 has_part law q jobs links a fed = go (job_at jobs.running a.job) refl

@@ -11,8 +11,6 @@ use Rattle.job_frames.specs.Standing.{StandsWell}
 use Rattle.drop_phases.specs.declared.phase.Heard.{Heard}
 use Rattle.drop_phases.specs.declared.phase.Phase.{Phase}
 use Rattle.drop_phases.specs.declared.phase.Phase.TheVariants as phases
-use Rattle.drop_phases.specs.declared.phase.Token.{Token}
-use Rattle.drop_phases.specs.Feeding.{FitsLocal}
 use Rattle.drop_phases.specs.Working.{heard_as, phase_as}
 use Rattle.node_tasks.specs.Places.{PlaceView}
 use Rattle.get_phases.specs.declared.getting.Phase.{Phase as GetPhase}
@@ -22,31 +20,21 @@ use Rattle.put_steps.specs.declared.phase.Phase.{Phase as PutPhase}
 use Rattle.put_steps.specs.declared.phase.Phase.TheVariants as putting
 use Rattle.put_steps.specs.Puts as puts
 use Rattle.transfer_turns.specs.Turns.{Sight}
+use Rattle.node_tasks.specs.Worker.{Worker}
 use Rattle.node_tasks.specs.Worker.TheVariants.{Gets, Puts}
+use Rattle.node_tasks.specs.Workers.{CanStep, work_of}
 use Rattle.node_tasks.specs.Ready.{sight_of}
 use Rattle.node_tasks.specs.declared.task.Task.{Task}
 use Rattle.node_tasks.specs.declared.task.Task.TheVariants as tasks
 use Rattle.node_tasks.specs.Tasks.{IsTask, work_now}
+use Rattle.running_jobs.specs.Acting.{HasLockRoom}
+use Rattle.running_jobs.proofs.Transfers.{as_job}
 
 -- ---- a drop
 
 unread_drop : (phase : Phase) → has_read Drops (phase_as phase) ≡ false → phase ≡ phases.Fresh
 unread_drop phases.Fresh unread = refl
 unread_drop phase unread = absurd (true≢false unread)
-
-untimed_drop : (phase : Phase) (token : Token) → FitsLocal phase token → phase_as phase ≡ Jobs.AsksTime → ⊥
-untimed_drop phases.AsksTime token fits is = fits
-untimed_drop phases.Fresh token fits is = cc
-untimed_drop phases.Next token fits is = cc
-untimed_drop (phases.Opens peer) token fits is = cc
-untimed_drop (phases.Greets peer) token fits is = cc
-untimed_drop (phases.AsksLock peer since) token fits is = cc
-untimed_drop (phases.AsksLook peer) token fits is = cc
-untimed_drop phases.Orders token fits is = cc
-untimed_drop phases.Removed token fits is = cc
-untimed_drop phases.Denied token fits is = cc
-untimed_drop (phases.Late time) token fits is = cc
-untimed_drop (phases.Ends why) token fits is = cc
 
 -- ---- a get
 
@@ -94,19 +82,22 @@ peer_there x (Some peer) has = (peer, refl)
 never_drops : Jobs.Drops ≡ Jobs.Puts → ⊥
 never_drops is = cc
 
-pub stands : (p : PlaceView) (s : SetUp) (st : State) (k : Look) (t : Task) → IsTask p t → StandsWell (turn_of s st k (work_now t))
-stands p s st k (tasks.Drops j) is = record {
-  unheard = λ unread. ap (map (λ (x : ℕ × Heard). (x.0, heard_as x.1))) (is.unheard (unread_drop j.worker.phase unread));
-  peer = λ sends. absurd (never_drops sends);
-  locks = λ asks. absurd (untimed_drop j.worker.phase j.worker.token is.fits asks);
-}
-stands p s st k (tasks.Transfers (Gets w)) is = record {
+transfer_stands : (p : PlaceView) (s : SetUp) (st : State) (k : Look) (v : Worker) → CanStep (sight_of p.number (length p.ids) []) (as_job v) → StandsWell (turn_of s st k (work_of (as_job v)))
+transfer_stands p s st k (Gets w) can = record {
   unheard = λ unread. refl;
   peer = λ sends. absurd (never_puts w.phase sends);
   locks = λ asks. absurd (untimed_get w.phase asks);
 }
-stands p s st k (tasks.Transfers (Puts w)) is = record {
+transfer_stands p s st k (Puts w) can = record {
   unheard = λ unread. refl;
-  peer = λ sends. peer_there (sight_of p.number (length p.ids) []) w.job.peer is.can.2;
+  peer = λ sends. peer_there (sight_of p.number (length p.ids) []) w.job.peer can.2;
   locks = λ asks. absurd (untimed_put w.phase asks);
 }
+
+pub stands : (p : PlaceView) (s : SetUp) (st : State) (k : Look) (t : Task) → IsTask p t → HasLockRoom s st k t → StandsWell (turn_of s st k (work_now t))
+stands p s st k (tasks.Drops j) is room = record {
+  unheard = λ unread. ap (map (λ (x : ℕ × Heard). (x.0, heard_as x.1))) (is.unheard (unread_drop j.worker.phase unread));
+  peer = λ sends. absurd (never_drops sends);
+  locks = room;
+}
+stands p s st k (tasks.Transfers w) is room = transfer_stands p s st k w.worker is.can

@@ -47,7 +47,7 @@ use Rattle.node_tasks.proofs.Knowing.{read_apart, read_same}
 use Rattle.transfer_turns.specs.Parcels as transfers
 use Rattle.transfer_turns.specs.Steps.{Seen}
 use Rattle.transfer_turns.specs.Turns.{Comes, Sight, awaited}
-use Rattle.node_tasks.specs.Worker.{Worker}
+use Rattle.node_tasks.specs.TransferJob.{TransferJob}
 use Rattle.node_tasks.specs.States.{FindsAt, HasWay, HaveState}
 use Rattle.node_tasks.specs.Workers.{SeesPart, work_of}
 use Rattle.node_tasks.specs.Ready.{sight_of}
@@ -65,6 +65,7 @@ use Rattle.running_jobs.specs.Changes.{Changes, task_after}
 use Rattle.running_jobs.specs.Finding.{Finds, FindsFirst, IsFirst, IsSlotIdle, has_slot}
 use Rattle.running_jobs.specs.Running.{AllApart, AreApart, AreWorks, Follows, HadPathsOf, Jobs as JobsView, OwnAll, given_to, job_at, words_of_task}
 use Rattle.running_jobs.proofs.Among.{apart_before, apart_behind, find_mapped, found_by_number, get_middle, is_left, works_off, works_on}
+use Rattle.running_jobs.proofs.Transfers.{transfer_unread}
 use Rattle.running_jobs.proofs.EntryKinds.{last_begun, last_works, onward_begun, onward_job, onward_works}
 
 -- ---- the first slot that has a step
@@ -92,7 +93,7 @@ module _ (links : List EndView) (clock : ClockSet) (settings : Settings) (jobs :
   sees_task : (t : Task) → HadPathsOf s t → HasReadOf (given_to s t) st t → SeesTask jobs.place clock links time s st k t
   sees_task (tasks.Drops j) had read =
       record { place = sees.place; paths = had; read = read_apart (given s j.paths) st j.worker j.known s.paths (sym had) read; count = sees.count; ends = sees.ends; sees = sees.sees; ticks = sees.ticks; at = sees.at }
-  sees_task (tasks.Transfers w) had read = record { place = sees.place; count = sees.count; ends = sees.ends; sees = sees.sees }
+  sees_task (tasks.Transfers w) had read = record { place = sees.place; read = read; count = sees.count; ends = sees.ends; sees = sees.sees }
 
   pub sees_each : Each (SeesTask jobs.place clock links time s st k) jobs.running
   sees_each = Each-both (HadPathsOf s) (λ t. HasReadOf (given_to s t) st t) (SeesTask jobs.place clock links time s st k) sees_task jobs.running sees.paths sees.works.read
@@ -194,16 +195,20 @@ stays_by : (rows : Jobs.RowsAndEnds) (r n m : ℕ) (e : Entry) (w : Work) → jo
 stays_by rows r n m e w job number apart =
     (λ i. if option_is (job i) (number i) then work_kind rows r w e e.kind else w) ∙ (λ i. if apart i then work_kind rows r w e e.kind else w)
 
--- what a running drop has read stays so
-pub read_stays : (s : SetUp) (st st' : State) (jobs : JobsView) (e : Entry) (j : DropJob) → AreWorks s st jobs → AllApart jobs.running → Member (tasks.Drops j) jobs.running → Follows s st e st' → st'.read j.worker.number ≡ st.read j.worker.number
-read_stays s st st' jobs e j are apart among follows =
-    follows.read j.worker.number
-    ∙ (ap (read_after st.logs (st.read j.worker.number)) (ap (find (λ w. w.number == j.worker.number)) are.works ∙ (find_mapped work_now (λ w. w.number == j.worker.number) jobs.running ∙ ap (option_map work_now) (found_by_number jobs.running (tasks.Drops j) apart among)))
-    ∙ by_known j.known (Each-member (λ t. HasReadOf (given_to s t) st t) jobs.running (tasks.Drops j) are.read among))
+-- what a running job has read stays so
+pub read_stays : (s : SetUp) (st st' : State) (jobs : JobsView) (e : Entry) (t : Task) → AreWorks s st jobs → AllApart jobs.running → Member t jobs.running → Follows s st e st' → st'.read (number_of t) ≡ st.read (number_of t)
+read_stays s st st' jobs e t are apart among follows =
+    follows.read (number_of t)
+    ∙ (ap (read_after st.logs (st.read (number_of t))) (ap (find (λ w. w.number == number_of t)) are.works ∙ (find_mapped work_now (λ w. w.number == number_of t) jobs.running ∙ ap (option_map work_now) (found_by_number jobs.running t apart among)))
+    ∙ by_kind t (Each-member (λ x. HasReadOf (given_to s x) st x) jobs.running t are.read among))
   where
-    by_known : (known : Option KnownLogs) → HasRead (given s j.paths) st j.worker known → read_after st.logs (st.read j.worker.number) (Some (drop_work j)) ≡ st.read j.worker.number
-    by_known None fresh = ap (λ (ph : Phase). if has_read Jobs.Drops (phase_as ph) then st.read j.worker.number else st.logs) fresh.0 ∙ sym fresh.1
-    by_known (Some known) read = ap (λ (b : Bool). if b then st.read j.worker.number else st.logs) read.begun
+    by_known : (j : DropJob) (known : Option KnownLogs) → HasRead (given s j.paths) st j.worker known → read_after st.logs (st.read j.worker.number) (Some (drop_work j)) ≡ st.read j.worker.number
+    by_known j None fresh = ap (λ (ph : Phase). if has_read Jobs.Drops (phase_as ph) then st.read j.worker.number else st.logs) fresh.0 ∙ sym fresh.1
+    by_known j (Some known) read = ap (λ (b : Bool). if b then st.read j.worker.number else st.logs) read.begun
+
+    by_kind : (t : Task) → HasReadOf (given_to s t) st t → read_after st.logs (st.read (number_of t)) (Some (work_now t)) ≡ st.read (number_of t)
+    by_kind (tasks.Drops j) read = by_known j j.known read
+    by_kind (tasks.Transfers w) read = ap (λ (b : Bool). if b then st.read (work_of w).number else st.logs) (transfer_unread w.worker) ∙ sym read
 
 has_read_stays : (s : SetUp) (st st' : State) (j : DropJob) → HasRead s st j.worker j.known → st'.logs ≡ st.logs → st'.read j.worker.number ≡ st.read j.worker.number → HasRead s st' j.worker j.known
 has_read_stays s st st' j was logs read = by_known j.known was
@@ -214,15 +219,16 @@ has_read_stays s st st' j was logs read = by_known j.known was
 
 pub task_read_stays : (s : SetUp) (st st' : State) (jobs : JobsView) (e : Entry) (t : Task) → AreWorks s st jobs → AllApart jobs.running → Member t jobs.running → Follows s st e st' → HasReadOf (given_to s t) st' t
 task_read_stays s st st' jobs e (tasks.Drops j) are apart among follows =
-    has_read_stays (given s j.paths) st st' j (Each-member (λ t. HasReadOf (given_to s t) st t) jobs.running (tasks.Drops j) are.read among) follows.logs (read_stays s st st' jobs e j are apart among follows)
-task_read_stays s st st' jobs e (tasks.Transfers w) are apart among follows = tt
+    has_read_stays (given s j.paths) st st' j (Each-member (λ t. HasReadOf (given_to s t) st t) jobs.running (tasks.Drops j) are.read among) follows.logs (read_stays s st st' jobs e (tasks.Drops j) are apart among follows)
+task_read_stays s st st' jobs e (tasks.Transfers w) are apart among follows =
+    read_stays s st st' jobs e (tasks.Transfers w) are apart among follows ∙ (Each-member (λ t. HasReadOf (given_to s t) st t) jobs.running (tasks.Transfers w) are.read among ∙ sym follows.logs)
 
 -- what the job has read that made the step
-own_read : (s : SetUp) (st st' : State) (t t' : Task) (x : Told) → HearsOn t t' x → number_of t' ≡ number_of t → HadPathsOf s t → ((j : DropJob) → t ≡ tasks.Drops j → st'.read j.worker.number ≡ st.read j.worker.number)
-    → (st'.read (number_of t) ≡ st.read (number_of t) → HasReadOf s st' t') → HasReadOf (given_to s t') st' t'
-own_read s st st' (tasks.Drops j) (tasks.Drops j') (tolds.Feed f) hears number had stays reads = read_apart s st' j'.worker j'.known (λ job. j'.paths) (hears.2 ∙ (had ∙ ap s.paths (sym number))) (reads (stays j refl))
-own_read s st st' (tasks.Transfers w) (tasks.Transfers w') (tolds.Arrival x) hears number had stays reads = tt
-own_read s st st' t t' x hears number had stays reads = absurd hears
+own_read : (s : SetUp) (st st' : State) (t t' : Task) (x : Told) → HearsOn t t' x → number_of t' ≡ number_of t → HadPathsOf s t → HasReadOf s st' t' → HasReadOf (given_to s t') st' t'
+own_read s st st' (tasks.Drops j) (tasks.Drops j') (tolds.Feed f) hears number had reads = read_apart s st' j'.worker j'.known (λ job. j'.paths) (hears.4 ∙ (had ∙ ap s.paths (sym number))) reads
+own_read s st st' (tasks.Transfers w) (tasks.Transfers w') (tolds.Arrival x) hears number had reads = reads
+own_read s st st' (tasks.Transfers w) (tasks.Drops j') (tolds.Arrival x) hears number had reads = read_apart s st' j'.worker j'.known (λ job. j'.paths) (hears.2 ∙ (had ∙ ap s.paths (sym number))) reads
+own_read s st st' t t' x hears number had reads = absurd hears
 
 -- ---- what a look finds of the job that acts
 
@@ -230,7 +236,7 @@ hears_words : (t : Task) (k : Look) → words_of_task t ≡ k.words → HearsWor
 hears_words (tasks.Drops j) k words = words
 hears_words (tasks.Transfers w) k words = tt
 
-comes_part : (known : Option Parts) (w : Worker) (x : Sight) (slot : ℕ) (o : Option ℕ) (f : Option FrameView) (i : Option Incoming) (part : ℕ) (right : Bool) → Comes x slot o f i → SeesPartAt known (tasks.Transfers w) f part right → SeesPart known w i part right
+comes_part : (known : Option Parts) (w : TransferJob) (x : Sight) (slot : ℕ) (o : Option ℕ) (f : Option FrameView) (i : Option Incoming) (part : ℕ) (right : Bool) → Comes x slot o f i → SeesPartAt known (tasks.Transfers w) f part right → SeesPart known w i part right
 comes_part known w x slot None f i part right comes sees =
     subst (λ (j : Option Incoming). SeesPart known w j part right) (sym comes.1) (subst (λ (g : Option FrameView). SeesPartAt known (tasks.Transfers w) g part right) comes.0 sees)
 comes_part known w x slot (Some peer) None None part right comes sees = sees
@@ -366,7 +372,7 @@ module _ (links : List EndView) (clock : ClockSet) (settings : Settings) (jobs :
       my_read : a.ended ≡ false → Read ch.t'
       my_read going =
           own_read s st st' ch.t ch.t' found.told ch.leaves.heard ch.leaves.number (Each-right (HadPathsOf s) ch.front (ch.t ∷ ch.back) had).0
-          (λ j is. read_stays s st st' jobs e j sees.works own.apart (subst (λ (t : Task). Member t jobs.running) is among) follows) (acts.read going st' follows.logs)
+          (acts.read going st' follows.logs (read_stays s st st' jobs e ch.t sees.works own.apart among follows))
 
       works_on_so : IsOnward (number_of ch.t) a.kind → a.ended ≡ false → AreWorks s st' (record jobs { running = ch.front ++ ch.t' ∷ ch.back })
       works_on_so onward going =

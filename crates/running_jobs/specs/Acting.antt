@@ -1,5 +1,6 @@
 -- The step of the first job that has one (own).
 use Rattle.std.specs.Prelude.{◌≡◌, ℕ, ◌+◌, ◌*◌, true, false, List, [], length, Bool, Option, Some, None}
+use Rattle.std.specs.List.{list_all}
 use Rattle.std.specs.Option.{ForSome, option_map}
 use Rattle.annex_base.specs.Lists.{Each}
 use Rattle.annex_base.specs.Settings.{Settings}
@@ -12,10 +13,12 @@ use Rattle.node_model.specs.Clocks.{ClockSet, runs_on}
 use Rattle.node_model.specs.Ends.{EndName}
 use Rattle.node_model.specs.Evidence as evidence
 use Rattle.node_model.specs.Evidence.{standing_by}
+use Rattle.node_model.specs.Jobs.{AsksTime}
+use Rattle.node_model.specs.JobStep.{locked_peers, turn_of}
 use Rattle.node_model.specs.Look.{Look, Effect, as_told, entry_of, failed_in}
 use Rattle.node_model.specs.SetUp.{SetUp}
 use Rattle.node_model.specs.State.{State}
-use Rattle.node_model.specs.Turns.{job_step}
+use Rattle.node_model.specs.Turns.{has_room, job_step}
 use Rattle.session_state.specs.Talking.{Brings}
 use Rattle.drop_phases.specs.Begun.{IsLast}
 use Rattle.node_tasks.specs.Places.{IsPlace}
@@ -25,6 +28,7 @@ use Rattle.node_tasks.specs.declared.acted.Output.{Output}
 use Rattle.node_tasks.specs.declared.task.Task.{Task}
 use Rattle.node_tasks.specs.declared.task.Task.TheVariants as tasks
 use Rattle.node_tasks.specs.Acting.{IsOnward, frames_in}
+use Rattle.node_tasks.specs.Tasks.{work_now}
 use Rattle.running_jobs.specs.declared.acted.Acted.{Acted}
 use Rattle.running_jobs.specs.Running.{AreWorks, Follows, HadPathsOf, Jobs, job_at, words_at}
 
@@ -86,6 +90,13 @@ pub record SeesActedOf (known : Option Parts) (links : List EndView) (jobs : Job
 
 abbrev pub SeesActed : Option Parts → List EndView → Jobs → Look → Option Acted → Type 0
 SeesActed known links jobs k o = ForSome o (SeesActedOf known links jobs k)
+
+-- while a drop awaits its target's timestamp, there is room at the open ends on which it has locks, since the step that takes the timestamp may
+-- give the locks back
+abbrev pub HasLockRoom : SetUp → State → Look → Task → Type 0
+HasLockRoom s st k (tasks.Drops j) =
+    (work_now (tasks.Drops j)).phase ≡ AsksTime → list_all (has_room (turn_of s st k (work_now (tasks.Drops j)))) (locked_peers (turn_of s st k (work_now (tasks.Drops j)))) ≡ true
+HasLockRoom s st k (tasks.Transfers w) = Unit {0}
 
 -- ---- what follows
 

@@ -19,13 +19,12 @@ use Rattle.running_jobs.specs.Running.{Jobs}
 abbrev pub IsOtherPeer : PlaceView → ℕ → Type 0
 IsOtherPeer p peer = (peer < length p.ids) × ((p.number == peer) ≡ false)
 
--- a drop of the repository's own copy, a get from any or from another repository, a copy to another one
+-- any job with another of the repositories; and without a peer a drop of the repository's own copy, or a get from any
 abbrev pub MayBegin : PlaceView → JobKind → Option ℕ → Type 0
+MayBegin p kind (Some peer) = IsOtherPeer p peer
 MayBegin p kinds.Drop None = Unit {0}
 MayBegin p kinds.Get None = Unit {0}
-MayBegin p kinds.Get (Some peer) = IsOtherPeer p peer
-MayBegin p kinds.Copy (Some peer) = IsOtherPeer p peer
-MayBegin p kind peer = ⊥
+MayBegin p kind None = ⊥
 
 -- how it stands among the slots
 abbrev pub running_now : Task → RunningJob
@@ -40,8 +39,8 @@ new_worker number slot what = record { number = number; slot = slot; job = what;
 
 -- the job is this one as it begins, on a key with these paths
 abbrev pub IsNewTask : ℕ → ℕ → Job → List (List ℕ) → Task → Type 0
-IsNewTask number slot what paths (tasks.Drops j) = (j ≡ record { worker = new_worker number slot what; paths = paths; known = None }) × (what.kind ≡ kinds.Drop)
-IsNewTask number slot what paths (tasks.Transfers w) = (work_of w ≡ new_work_of number slot what) × (what.kind ≢ kinds.Drop)
+IsNewTask number slot what paths (tasks.Drops j) = (j ≡ record { worker = new_worker number slot what; paths = paths; known = None; causes = [] }) × (what.kind ≡ kinds.Drop)
+IsNewTask number slot what paths (tasks.Transfers w) = (work_of w ≡ new_work_of number slot what) × (what.kind ≢ kinds.Drop) × (w.paths ≡ paths)
 
 abbrev pub with_task : Jobs → Task → Jobs
 with_task jobs t = record jobs { running = t ∷ jobs.running; begun = jobs.begun + 1 }

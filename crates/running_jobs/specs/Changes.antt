@@ -45,5 +45,5 @@ pub record Changes (p : PlaceView) (clock : ClockSet) (links : List EndView) (se
   pub owes : Owes links t found.told a.owes
   pub acts : Acts p clock links settings time number k.contents k.parts rows t t' found.told (output_of a)
   pub makes : Makes p clock links settings time number k.contents k.parts rows k.failing k'.failing t found.told (output_of a)
-  pub leaves : LeavesSo p rows mid k k' t t' found.told (output_of a)
+  pub leaves : LeavesSo p number rows mid k k' t t' found.told (output_of a)
   pub settled : Settles a.ended t' mid rows'

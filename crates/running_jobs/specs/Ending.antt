@@ -5,13 +5,12 @@ use Rattle.content_lock.specs.Rows.{Rows}
 use Rattle.drop_phases.specs.declared.phase.Token.{Token}
 use Rattle.drop_phases.specs.Doing.{HasToken}
 use Rattle.node_tasks.specs.declared.task.Task.{Task}
-use Rattle.node_tasks.specs.Tasks.{IsLocal, OwnsOf, number_of}
+use Rattle.node_tasks.specs.Tasks.{OwnsOf, number_of}
 use Rattle.running_jobs.specs.Running.{AllApart}
 
--- each job has what is its of the table, and no hold
+-- each job has what is its of the table
 pub record CanEnd (rows : Rows) (ts : List Task) : Type 0 where
   pub owns : Each (OwnsOf rows) ts
-  pub local : Each IsLocal ts
   pub apart : AllApart ts
 
 -- what other jobs than these have, they still have

@@ -33,7 +33,8 @@ pub record ActsOf (links : List EndView) (was : Jobs) (rows rows' : Rows) (k k' 
   pub owes : option_to_list (option_map line_of a.owes) ≡ told_frame (Some (work_now job)) (taken_by links a.slot a.takes)
   pub among : ForSome a.owes (λ l. l.repo < length was.place.ids)
   pub mid : Rows
-  pub leaves : TaskLeaves was.place rows mid k k' job next told (output_of a)
+  pub entry : ℕ  -- the number that its entry is to have
+  pub leaves : TaskLeaves was.place entry rows mid k k' job next told (output_of a)
   pub stays : a.ended ≡ false → rows' ≡ mid
 
 -- what becomes of the jobs: the one that acted goes on, or is off the list; each other is as it was; none is new, nor given other paths
@@ -45,7 +46,6 @@ pub record JobsGoOn (was now : List Task) (next : Task) (a : Acted) : Type 0 whe
 
 -- of the table: holds and bars as after the entry; what others have, they have; the filled keys are those of the jobs still, and the others'
 pub record RowsGoOn (was now : List Task) (rows rows' : Rows) (a : Acted) : Type 0 where
-  pub holds : rows'.holds ≡ rows.holds
   pub after : rows'.holds ≡ holds_after rows.holds a.kind
   pub bars : (key : List ℕ) → bar_at rows' key ≡ bar_after key (bar_at rows key) a.kind
   pub others : OthersStay a.job rows rows'

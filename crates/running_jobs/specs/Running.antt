@@ -17,6 +17,7 @@ use Rattle.drop_phases.specs.Doing.{HasToken}
 use Rattle.drop_phases.specs.Working.{words_of}
 use Rattle.node_tasks.specs.Drops.{HadPaths, given}
 use Rattle.node_tasks.specs.Places.{PlaceView}
+use Rattle.node_tasks.specs.Workers.{work_of}
 use Rattle.transfer_turns.specs.Steps.{fills_key}
 use Rattle.node_tasks.specs.declared.task.Task.{Task}
 use Rattle.node_tasks.specs.declared.task.Task.TheVariants as tasks
@@ -42,12 +43,12 @@ words_of_task (tasks.Transfers w) = λ c. None
 abbrev pub words_at : List Task → ℕ → ℕ → Option Word
 words_at ts job = option_map_or words_of_task (job_at ts job) (λ c. None)
 
--- ---- the paths of a drop's key
+-- ---- the paths of a job's key
 
--- the paths in the tree that it was given for its key; a transfer has none
+-- the paths in the tree that it was given for its key
 abbrev pub paths_of : Task → Option (List (List ℕ))
 paths_of (tasks.Drops j) = Some j.paths
-paths_of (tasks.Transfers w) = None
+paths_of (tasks.Transfers w) = Some w.paths
 
 -- its number, and these
 abbrev pub given_of : Task → ℕ × Option (List (List ℕ))
@@ -56,16 +57,16 @@ given_of t = (number_of t, paths_of t)
 -- its key had these as it began
 abbrev pub HadPathsOf : SetUp → Task → Type 0
 HadPathsOf s (tasks.Drops j) = HadPaths s j.worker.number j.paths
-HadPathsOf s (tasks.Transfers w) = Unit {0}
+HadPathsOf s (tasks.Transfers w) = HadPaths s (work_of w).number w.paths
 
 -- the set-up where the keys of all jobs had the paths that this one was given
 abbrev pub given_to : SetUp → Task → SetUp
 given_to s (tasks.Drops j) = given s j.paths
-given_to s (tasks.Transfers w) = s
+given_to s (tasks.Transfers w) = given s w.paths
 
 -- ---- the works
 
--- the state's works are these jobs, each drop with what it has read for the paths that it was given
+-- the state's works are these jobs, each with what it has read for the paths that it was given
 pub record AreWorks (s : SetUp) (st : State) (jobs : Jobs) : Type 0 where
   pub works : st.works ≡ map work_now jobs.running
   pub begun : st.begun ≡ jobs.begun

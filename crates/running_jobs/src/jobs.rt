@@ -1,21 +1,24 @@
 //! The running jobs: which begin, and which has the next step.
-ghost use Rattle.std.specs.Prelude.{◌≡◌, ℕ, Bool, is_some, ◌≤◌, ◌<◌, ◌+◌, ◌-◌, ◌*◌, ◌^◌, List, [], None, length, IfOk, IsErrOf, OnErr, OnOk};
-ghost use Rattle.std.specs.Option.{ForSome};
+ghost use Rattle.std.specs.Prelude.{◌≡◌, ◌==◌, ℕ, All, Bool, is_some, ◌≤◌, ◌<◌, ◌+◌, ◌-◌, ◌*◌, ◌^◌, List, [], None, find, length, map, IfOk, IsErrOf, OnErr, OnOk};
+ghost use Rattle.std.specs.Option.{ForSome, option_map};
 ghost use Rattle.annex_base.specs.Lists.{Each};
 ghost use Rattle.annex_base.specs.Settings.{Settings as SettingsView};
 ghost use Rattle.run_data.specs.declared.entry.Entry.{Entry};
 ghost use Rattle.run_data.specs.declared.entry.EntryKind.TheVariants as kinds;
 ghost use Rattle.trust_groups.specs.View.{settings_of};
 ghost use Rattle.node_model.specs.Look.{Look, Effect};
+ghost use Rattle.node_model.specs.Rows.{holds_after};
 ghost use Rattle.node_model.specs.SetUp.{SetUp};
 ghost use Rattle.node_model.specs.State.{State};
 ghost use Rattle.node_model.specs.Turns.{job_step};
 ghost use Rattle.object_store.specs.Stores.{Contents, Parts};
 ghost use Rattle.content_lock.specs.CallsMade.{MakesCalls};
 ghost use Rattle.content_lock.specs.Rows.{Rows};
+ghost use Rattle.content_lock.specs.Stored.{Agrees, label_of};
+ghost use Rattle.drop_phases.specs.Sides.{IsNumbered};
 ghost use Rattle.transfer_turns.specs.Steps.{seen};
 ghost use Rattle.node_tasks.specs.States.{HaveState};
-ghost use Rattle.node_tasks.specs.Tasks.{IsTask};
+ghost use Rattle.node_tasks.specs.Tasks.{IsTask, number_of, slot_of};
 ghost use Rattle.running_jobs.specs.Acting.{SeesActed, SeesJobs, StepsJobs, failed_by};
 ghost use Rattle.running_jobs.specs.Beginning.{Begins, MayBegin};
 ghost use Rattle.running_jobs.specs.Leaving.{LeavesSo, Stays};
@@ -23,12 +26,13 @@ ghost use Rattle.running_jobs.specs.Running.{AreAllFed, AreFilled, AreWorks, Fol
 
 use crate::acted::Acted;
 use crate::finding::find_ready;
-use crate::listing::{add, end_all, find_slot};
+use crate::listing::{add, end_all, find_slot, in_slot};
 use crate::refused::BeginRefused;
 use crate::starting::new_task;
 use crate::turning::turn;
 use annex_base::{Items, NoMemory, Text};
 use content_lock::LockTable;
+use drop_worker::holds_are_numbered;
 use node_ends::Ends;
 use node_tasks::{Clock, Place, Task, Time};
 use object_store::Keeper;
@@ -91,6 +95,13 @@ impl Jobs {
         ensures { result ≡ length self.now.running }
     {
         self.running.len()
+    }
+
+    /// The number of the job in this slot, if one runs there.
+    pub fn in_slot(&self, slot: u32) -> Option<u32>
+        ensures { result ≡ option_map number_of (find (λ t. slot_of t == slot) self.now.running) }
+    {
+        in_slot(&self.running, slot)
     }
 
     /// Begins a job on a key that has these paths in the tree, and gives its number. It makes no step yet.
@@ -157,6 +168,8 @@ impl Jobs {
     ) -> Result<Option<Acted>, NoMemory>
         requires owns { OwnAll self.old table.old }
         requires count { length ends.old ≡ length self.old.place.ids * 8 }
+        requires agrees { Agrees (K.records keeper.old) table.old.holds }
+        requires fresh { All (λ h. h.number < number) table.old.holds }
 
         // Of each state that these are, at a look at which the entry's call fails, and that finds the part that the job asks for: the
         // jobs' step is this one.
@@ -173,9 +186,14 @@ impl Jobs {
         ensures err { OnErr result (Stays self.old self.new table.old table.new
             (seen (K.contents keeper.old) (K.parts keeper.old) (K.records keeper.old) (K.files keeper.old) (K.faults keeper.old) (K.failing keeper.old))
             (seen (K.contents keeper.new) (K.parts keeper.new) (K.records keeper.new) (K.files keeper.new) (K.faults keeper.new) (K.failing keeper.new))) }
+        ensures agrees { Agrees (K.records keeper.new) table.new.holds }
+        ensures numbered { IfOk result (λ a. ForSome a (λ x. IsNumbered number x.kind)) }
+        ensures numbers { IfOk result (λ a. All (λ h. h.number < number + 1) table.new.holds) }
         ensures ends { ends.new ≡ ends.old }
         ensures unasked { IfOk result (λ a. a ≡ None → keeper.new ≡ keeper.old) }
     {
+        // A law, for the proof: a hold has the number of the entry that added it.
+        holds_are_numbered();
         let Some(found) = find_ready(&self.running, alloc, &self.place, clock, ends, time)? else {
             return Ok(None);
         };
@@ -195,12 +213,14 @@ impl Jobs {
         Ok(Some(acted))
     }
 
-    /// Ends all jobs, at a crash or before the jobs are dissolved: what they have of the table is given up.
+    /// Ends all jobs, at a crash or before the jobs are dissolved: what they have of the table is given up. A hold of their own is kept
+    /// until its end.
     pub fn end_all(&mut self, table: &mut LockTable)
         requires owns { OwnAll self.old table.old }
         ensures jobs { self.new ≡ record self.old { running = [] } }
         ensures owns { OwnAll self.new table.new }
-        ensures holds { table.new.holds ≡ table.old.holds }
+        ensures labels { map label_of table.new.holds ≡ map label_of table.old.holds }
+        ensures crash { (clock : ℕ) → holds_after table.new.holds (kinds.Crash clock) ≡ holds_after table.old.holds (kinds.Crash clock) }
         ensures filled { (others : List ℕ → Bool) → AreFilled table.old self.old.running others → AreFilled table.new [] others }
     {
         end_all(&mut self.running, table);

@@ -22,7 +22,7 @@ ghost use Rattle.trust_groups.specs.Settings.{Lines, settings};
 ghost use Rattle.job_frames.specs.Sending.{IsOwnEntry, SendsWell};
 ghost use Rattle.node_tasks.specs.Tasks.{IsTask};
 ghost use Rattle.running_jobs.specs.declared.acted.Acted.{Acted};
-ghost use Rattle.running_jobs.specs.Acting.{HasPart};
+ghost use Rattle.running_jobs.specs.Acting.{HasLockRoom, HasPart};
 ghost use Rattle.running_jobs.specs.Running.{AreAllFed, AreWorks, Jobs, OwnAll, fills_at};
 
 use key_verify::verdicts_are_matches;
@@ -52,7 +52,7 @@ pub fn nameless_are_asked()
 /// The step of a job sends each frame where it has its place, at the ends after they took the frame that the step takes: it is
 /// what its end sends next; and it is a Close at an end that is open then, or the first at an end with room.
 pub fn jobs_send_where_there_is_room()
-    ensures { (s : SetUp) (st : State) (k : Look) (jobs : Jobs) (m : Effect) → AreWorks s st jobs → Each (IsTask jobs.place) jobs.running → job_step s st k ≡ Some m
+    ensures { (s : SetUp) (st : State) (k : Look) (jobs : Jobs) (m : Effect) → AreWorks s st jobs → Each (IsTask jobs.place) jobs.running → Each (HasLockRoom s st k) jobs.running → job_step s st k ≡ Some m
         → SendsWell (λ a. end_took (st.ends a) (taken_at a m.taken)) k.room m.sent }
 {
     // The law of any job that stands well.

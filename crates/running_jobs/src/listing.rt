@@ -1,7 +1,12 @@
 //! The list of the running jobs.
-ghost use Rattle.std.specs.Prelude.{◌≡◌, ◌≤◌, ◌<◌, ◌+◌, ◌++◌, ◌∷◌, ◌&&◌, ℕ, List, [], length, map, not, take, drop, vec_capacity, vec_len, IfOk, IsErrOf, OnOk};
+ghost use Rattle.std.specs.Prelude.{◌≡◌, ◌≤◌, ◌<◌, ◌+◌, ◌++◌, ◌∷◌, ◌&&◌, ◌==◌, ℕ, List, [], find, length, map, not, take, drop, vec_capacity, vec_len, IfOk, IsErrOf, OnOk};
+ghost use Rattle.std.specs.Option.{option_map};
+ghost use Rattle.run_data.specs.declared.entry.EntryKind.TheVariants.{Crash};
+ghost use Rattle.node_model.specs.Rows.{holds_after};
 ghost use Rattle.node_model.specs.Slots.{free_slot, uses};
 ghost use Rattle.content_lock.specs.Rows.{is_filling};
+ghost use Rattle.content_lock.specs.Stored.{label_of};
+ghost use Rattle.node_tasks.specs.Tasks.{number_of, slot_of};
 ghost use Rattle.running_jobs.specs.Beginning.{running_now};
 ghost use Rattle.running_jobs.specs.Ending.{CanEnd, OthersKeep};
 ghost use Rattle.running_jobs.specs.Running.{fills_at};
@@ -58,6 +63,18 @@ fn uses(running: &[Task], slot: u32) -> bool
     false
 }
 
+/// The number of the job in this slot, if one runs there.
+pub(crate) fn in_slot(running: &[Task], slot: u32) -> Option<u32>
+    ensures { result ≡ option_map number_of (find (λ t. slot_of t == slot) running.now) }
+{
+    for task in running.iter() {
+        if task.slot() == slot {
+            return Some(task.number());
+        }
+    }
+    None
+}
+
 /// Puts a job before the others.
 pub(crate) fn add(running: &mut Vec<Task>, task: Task)
     requires { vec_len running.old < vec_capacity running.old }
@@ -92,11 +109,12 @@ pub(crate) fn put_back(running: &mut Vec<Task>, index: usize, task: Task)
     }
 }
 
-/// Ends all jobs: what each has of the table is given up.
+/// Ends all jobs: what each has of the table is given up. A hold of its own is kept until its end.
 pub(crate) fn end_all(running: &mut Vec<Task>, table: &mut LockTable)
-    requires spent { CanEnd table.old running.old.items }
+    requires { CanEnd table.old running.old.items }
     ensures none { running.new.items ≡ [] }
-    ensures holds { table.new.holds ≡ table.old.holds }
+    ensures labels { map label_of table.new.holds ≡ map label_of table.old.holds }
+    ensures crash { (clock : ℕ) → holds_after table.new.holds (Crash clock) ≡ holds_after table.old.holds (Crash clock) }
     ensures fills { (key : List ℕ) → is_filling table.new key ≡ (not (fills_at running.old.items key) && is_filling table.old key) }
     ensures others { OthersKeep running.old.items table.old table.new }
 {

@@ -2,7 +2,7 @@
 ghost use Rattle.running_jobs.specs.Beginning.{IsNewTask};
 
 use annex_base::{Items, Text};
-use node_tasks::{DropJob, DropWorker as Drops, Task, Worker};
+use node_tasks::{DropJob, DropWorker as Drops, Task, TransferJob, Worker};
 use run_data::{Job, JobKind};
 use std::alloc::Global;
 
@@ -15,9 +15,13 @@ pub(crate) fn new_task(alloc: Global, number: u32, slot: u32, what: Job, paths: 
             worker: Drops::start(alloc, number, slot, what, 3),
             paths,
             known: None,
+            causes: Items::new(alloc),
         }),
         JobKind::Get | JobKind::Copy | JobKind::MoveTo | JobKind::MoveFrom => {
-            Task::Transfers(Worker::start(alloc, number, slot, what))
+            Task::Transfers(TransferJob {
+                worker: Worker::start(alloc, number, slot, what),
+                paths,
+            })
         }
     }
 }

@@ -1,8 +1,9 @@
 //! The step of one of the running jobs.
-ghost use Rattle.std.specs.Prelude.{◌≡◌, ◌≤◌, ◌<◌, ◌*◌, ◌++◌, true, drop, length, slice_get, take, vec_capacity, vec_len, IfOk, OnErr};
+ghost use Rattle.std.specs.Prelude.{◌≡◌, ◌≤◌, ◌<◌, ◌*◌, ◌++◌, All, true, drop, length, slice_get, take, vec_capacity, vec_len, IfOk, OnErr};
 ghost use Rattle.std.specs.Option.{ForSome};
 ghost use Rattle.annex_base.specs.Lists.{Each};
 ghost use Rattle.trust_groups.specs.View.{settings_of};
+ghost use Rattle.content_lock.specs.Stored.{Agrees};
 ghost use Rattle.transfer_turns.specs.Steps.{seen};
 ghost use Rattle.node_tasks.specs.Tasks.{IsSpent, IsTask, OwnsOf};
 ghost use Rattle.node_tasks.specs.Telling.{IsToldTo};
@@ -39,6 +40,8 @@ pub(crate) fn turn<K: Keeper>(
     requires tasks { Each (IsTask place.now) running.old.items }
     requires owns { Each (OwnsOf table.old) running.old.items }
     requires count { length ends.now ≡ length place.now.ids * 8 }
+    requires agrees { Agrees (K.records keeper.old) table.old.holds }
+    requires fresh { All (λ h. h.number < number) table.old.holds }
     ensures changes { IfOk result (Changes place.now clock ends.now (settings_of settings.now) time number found table.old table.new
         (seen (K.contents keeper.old) (K.parts keeper.old) (K.records keeper.old) (K.files keeper.old) (K.faults keeper.old) (K.failing keeper.old))
         (seen (K.contents keeper.new) (K.parts keeper.new) (K.records keeper.new) (K.files keeper.new) (K.faults keeper.new) (K.failing keeper.new)) running.old.items running.new.items) }
@@ -49,12 +52,13 @@ pub(crate) fn turn<K: Keeper>(
     let Found { index, told } = found;
     let takes = told.takes();
     let owes = tells(&running[index], &told)?;
-    let mut task = take_out(running, index);
+    let task = take_out(running, index);
     let job = task.number();
     let slot = task.slot();
-    match act(
-        &mut task, alloc, place, clock, settings, ends, table, keeper, told, time, number,
-    ) {
+    let (task, made) = act(
+        task, alloc, place, clock, settings, ends, table, keeper, told, time, number,
+    );
+    match made {
         Ok(out) => {
             let Output { kind, sent, ended } = out;
             settle(running, index, task, table, ended);

@@ -17,7 +17,7 @@ use Rattle.script_answers.specs.declared.due.Due.{Due}
 use Rattle.script_answers.specs.declared.status.Status.{Status}
 use Rattle.script_answers.specs.declared.status.Status.TheVariants.{Done, Usage, Script, ReadFault, WriteFault, NoMemory, Limit}
 use Rattle.script_answers.specs.Whole.{IsRead, script_limit}
-use Rattle.script_answers.specs.Top.{IsReport, IsComplaint, IsCutReport, IsMissing, IsLong, IsPast, IsDue, IsDueRead, HasFullHistory, Writes, AnswersRun, EndsWith, entries_name, limit_text, place_text}
+use Rattle.script_answers.specs.Top.{IsReport, IsComplaint, IsCutReport, IsMissing, IsLong, IsPast, IsDue, IsDueRead, MeetsEntries, Writes, AnswersRun, EndsWith, entries_name, limit_text, place_text}
 
 -- one thing is said of a text
 pub record HaveOneReading : Type 0 where
@@ -28,7 +28,7 @@ pub record HaveOneReading : Type 0 where
 -- where the run of a script is cut, it has a full history
 abbrev pub FullLaw : Type 0
 FullLaw = (bytes : List ℕ) (script : List Command) → IsScript bytes script → (limited_run (driver_input_of script) script).is_cut ≡ true
-    → HasFullHistory (limited_run (driver_input_of script) script).run
+    → MeetsEntries script (limited_run (driver_input_of script) script).run
 
 -- what is due for a text is one status, with one text
 abbrev pub IsOne : Status → Status → List ℕ → List ℕ → Type 0

@@ -1,5 +1,5 @@
 -- What the program answers: its status, and the text that it writes (own).
-use Rattle.std.specs.Prelude.{◌≡◌, ◌⊎◌, ℕ, ◌<◌, ◌≤◌, true, false, List, [], ◌∷◌, ◌++◌, length, codes}
+use Rattle.std.specs.Prelude.{◌≡◌, ◌⊎◌, ℕ, ◌<◌, ◌≤◌, true, false, List, [], ◌∷◌, ◌++◌, length, reverse, codes}
 use Rattle.std.specs.declared.option.Option.{Option}
 use Rattle.std.specs.Io.KnownBytes.{append_known}
 use Rattle.std.specs.Fmt.{decimal}
@@ -13,7 +13,7 @@ use Rattle.script_forms.specs.declared.fault.Quantity.{Quantity}
 use Rattle.script_lang.specs.Limits.{quantity_name, limit_of}
 use Rattle.script_lang.specs.Script.{reading, BadLine, PastLimit}
 use Rattle.race_core.specs.Copies.{KeepsCopies}
-use Rattle.driver_model.specs.Limits.{count_of, limited_run}
+use Rattle.driver_model.specs.Limits.{LacksPlaces, count_of, limited_run}
 use Rattle.driver_script.specs.Inputs.{driver_input_of}
 use Rattle.driver_script.specs.Script.{IsScript, IsUnbuilt}
 use Rattle.report_text.specs.Report.{report}
@@ -36,11 +36,11 @@ pub record IsGood (run : Run) : Type 0 where
   pub safe : IsSafe run
   pub causes : HasCauses run
 
--- the run of the script that the bytes are is good, up to where a line meets a full history, if one does
+-- the run of the script that the bytes are is good, up to where a line meets a full history or lacks places, if one does
 abbrev pub HasGoodRun : List ℕ → Type 0
 HasGoodRun bytes = (script : List Command) → IsScript bytes script → IsGood (limited_run (driver_input_of script) script).run
 
--- The bytes are a script whose forms are all built; no line meets a full history, and the text is the report of its run. A run that
+-- The bytes are a script whose forms are all built; no line meets a full history or lacks places, and the text is the report of its run. A run that
 -- isn't cut is the whole one, `run_of` (law `whole` of `driver_model::runs_are_cut_where_histories_are_full`).
 pub record IsReport (bytes text : List ℕ) : Type 0 where
   pub short : length bytes ≤ script_limit
@@ -92,14 +92,19 @@ entries_name = codes "entries"
 abbrev pub HasFullHistory : Run → Type 0
 HasFullHistory run = (r : ℕ) × (r < length run.repos) × (count_of run.entries r ≡ most_entries)
 
--- The bytes are such a script, of which a line meets a full history: the text is the report of its run up to there, and names the
--- limit. The run has that full history: it follows from the other fields (law `cut_script_runs_have_a_full_history`).
+-- a run of the script that has these entries meets the limit: it has a full history, or one of the lines comes to a close of more ends than
+-- there are places left in the history of its repository
+abbrev pub MeetsEntries : List Command → Run → Type 0
+MeetsEntries script run = HasFullHistory run ⊎ LacksPlaces (driver_input_of script) script (reverse run.entries)
+
+-- The bytes are such a script, of which a line meets a full history or is a close that lacks places: the text is the report of its run up
+-- to there, and names the limit. That the run meets it follows from the other fields (law `cut_script_runs_have_a_full_history`).
 pub record IsCutReport (bytes text : List ℕ) : Type 0 where
   pub short : length bytes ≤ script_limit
   pub script : List Command
   pub is_script : IsScript bytes script
   pub cut : (limited_run (driver_input_of script) script).is_cut ≡ true
-  pub full : HasFullHistory (limited_run (driver_input_of script) script).run
+  pub full : MeetsEntries script (limited_run (driver_input_of script) script).run
   pub text_is : text ≡ report script (limited_run (driver_input_of script) script).run ++ limit_text entries_name most_entries
 
 -- what is due for a source of these bytes

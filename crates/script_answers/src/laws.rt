@@ -6,25 +6,20 @@ ghost use Rattle.driver_model.specs.Limits.{limited_run};
 ghost use Rattle.driver_script.specs.Inputs.{driver_input_of};
 ghost use Rattle.driver_script.specs.Script.{IsScript};
 ghost use Rattle.script_answers.specs.declared.status.Status.{Status};
-ghost use Rattle.script_answers.specs.Top.{HasFullHistory, IsDue};
+ghost use Rattle.script_answers.specs.Top.{IsDue, MeetsEntries};
 
 use driver_model::cut_runs_have_a_full_history;
-use driver_script::{
-    built_lines_are_plain, scripts_are_built_or_not, scripts_may_be_driven,
-    scripts_run_or_miss_a_form,
-};
+use driver_script::{scripts_are_built_or_not, scripts_may_be_driven, scripts_run_or_miss_a_form};
 
-/// Where the run of a script is cut, some repository has a full history in it: the `full` of a cut report follows from
-/// the rest of it (own).
+/// Where the run of a script is cut, some repository has a full history in it, or a line comes to a close of more ends than there are places
+/// left: the `full` of a cut report follows from the rest of it (own).
 pub fn cut_script_runs_have_a_full_history()
     ensures { (bytes : List ℕ) (script : List Command) → IsScript bytes script
-        → (limited_run (driver_input_of script) script).is_cut ≡ true → HasFullHistory (limited_run (driver_input_of script) script).run }
+        → (limited_run (driver_input_of script) script).is_cut ≡ true → MeetsEntries script (limited_run (driver_input_of script) script).run }
 {
-    // Laws: a cut run has a full history, or a close lacked places, where each line is one of a run, as those of a script are; and
-    // none of these is a close.
+    // Laws: a cut run has a full history, or a close lacked places, where each line is one of a run, as those of a script are.
     cut_runs_have_a_full_history();
     scripts_may_be_driven();
-    built_lines_are_plain();
 }
 
 /// For every text of a source one status and one text to write are due (own).

@@ -5,7 +5,7 @@ use Rattle.std.specs.List.{All}
 use Rattle.std.specs.Map.{values_of}
 use Rattle.std.specs.BTreeMap.{is_at}
 use Rattle.std.specs.Option.{option_map}
-use Rattle.std.proofs.lemmas.Bool.{or_cases, ltb-false}
+use Rattle.std.proofs.lemmas.Bool.{leb-true, or_cases, ltb-false}
 use Rattle.std.proofs.lemmas.Map.Views.{IfSome-lookup_from_All}
 use Rattle.annex_base.specs.Lines.{IsOneLine}
 use Rattle.annex_base.specs.Lists.{Each}
@@ -203,21 +203,33 @@ clock_gives at =
     let g = option_gives (IfBounded greatest_offset) clock_of tt (λ text n e. mark_bounded greatest_offset (codes "clock=") text n e) at in
     (or_bounded greatest_offset 0 (Steps.option_at clock_of at).0 (omega arith) g.0, g.1)
 
-version_bounded : (word : List ℕ) (n : ℕ) → version_of word ≡ Some n → n ≤ 3
+-- a version of the protocol
+abbrev pub IsVersion : ℕ → Type 0
+IsVersion n = (1 ≤ n) × (n ≤ 3)
+
+abbrev IfVersion : Option ℕ → Type 0
+IfVersion None = Unit {0}
+IfVersion (Some n) = IsVersion n
+
+or_newest : (o : Option ℕ) → IfVersion o → IsVersion (Steps.or_else 3 o)
+or_newest None is = (omega arith, omega arith)
+or_newest (Some n) is = is
+
+version_bounded : (word : List ℕ) (n : ℕ) → version_of word ≡ Some n → IsVersion n
 version_bounded word n e =
     let b = bind_some (behind_mark (codes "version=") word) (λ v. options.◌>>=◌ (number_up_to 3 v) not_zero) n e in
     let v = bind_some (number_up_to 3 b.0) not_zero n b.2 in
     let w = where_some (nat_le 1 v.0) (Some v.0) n v.2 in
-    subst (λ k. k ≤ 3) (some_is v.0 n w.1) (number_bounded 3 b.0 v.0 v.1)
+    subst IsVersion (some_is v.0 n w.1) (leb-true 1 v.0 w.0, number_bounded 3 b.0 v.0 v.1)
   where
     some_is : (x y : ℕ) → Some x ≡ Some y → x ≡ y
     some_is x y e = cc
 
-pub version_gives : Always (λ n. n ≤ 3) Steps.version_at
+pub version_gives : Always IsVersion Steps.version_at
 unfolding Steps.version_at
 version_gives at =
-    let g = option_gives (IfBounded 3) version_of tt (λ text n e. version_bounded text n e) at in
-    (or_bounded 3 3 (Steps.option_at version_of at).0 (omega arith) g.0, g.1)
+    let g = option_gives IfVersion version_of tt (λ text n e. version_bounded text n e) at in
+    (or_newest (Steps.option_at version_of at).0 g.0, g.1)
 
 pub locks_gives : Always (λ (b : Bool). Unit {0}) Steps.locks_at
 unfolding Steps.locks_at

@@ -49,7 +49,7 @@ use Rattle.script_lang.specs.Preconditions.{IsRepo, IsTarget, AreTwo, IsLineText
 use Rattle.script_forms.specs.Steps
 use Rattle.script_forms.specs.Verify.{is_content_of}
 use Rattle.script_lang.proofs.StepLemmas.{Gives, Always, Ends, IsNewName, IsNewId, IsFullText, saying_gives, repo_gives, target_gives, other_gives, new_name_gives, new_id_gives, number_gives, level_gives, call_gives, path_gives, tree_path_gives, group_gives, rest_ends, full_rest_ends, text_ends, glob_ends, groups_ends}
-use Rattle.script_lang.proofs.KeyLemmas.{KeysAreTexts, HasKeys, IsPlacedKey, MayBeContent, IsPeer, key_gives, placed_key_gives, file_gives, log_file_gives, content_gives, matching_gives, content_is, small_is, offset_gives, clock_gives, version_gives, locks_gives, turns_gives, maybe_path_gives, from_gives, to_gives, way_gives}
+use Rattle.script_lang.proofs.KeyLemmas.{KeysAreTexts, HasKeys, IsPlacedKey, IsVersion, MayBeContent, IsPeer, key_gives, placed_key_gives, file_gives, log_file_gives, content_gives, matching_gives, content_is, small_is, offset_gives, clock_gives, version_gives, locks_gives, turns_gives, maybe_path_gives, from_gives, to_gives, way_gives}
 
 -- what a form gives has this, on a line of one line
 pub record Says {A : Type 0} (P : A → Type 0) (context : Context) (form : Form A) : Type 0 where
@@ -164,8 +164,8 @@ module _ (law : KeysAreTexts) (matches : (key content : List ℕ) → is_content
   offset_then : {A : Type 0} (P : A → Type 0) (next : ℕ → Form A) → ((x : ℕ) → (UpTo greatest_offset) x → Says P context (next x)) → Says P context (Forms.offset next)
   offset_then P next others = record { given = behind_option (UpTo greatest_offset) P context Steps.offset_at next offset_gives others }
 
-  version_then : {A : Type 0} (P : A → Type 0) (next : ℕ → Form A) → ((x : ℕ) → (UpTo 3) x → Says P context (next x)) → Says P context (Forms.version next)
-  version_then P next others = record { given = behind_option (UpTo 3) P context Steps.version_at next version_gives others }
+  version_then : {A : Type 0} (P : A → Type 0) (next : ℕ → Form A) → ((x : ℕ) → IsVersion x → Says P context (next x)) → Says P context (Forms.version next)
+  version_then P next others = record { given = behind_option IsVersion P context Steps.version_at next version_gives others }
 
   locks_then : {A : Type 0} (P : A → Type 0) (next : Bool → Form A) → ((x : Bool) → Anything x → Says P context (next x)) → Says P context (Forms.locks next)
   locks_then P next others = record { given = behind_option Anything P context Steps.locks_at next locks_gives others }
@@ -314,8 +314,8 @@ module _ (law : KeysAreTexts) (matches : (key content : List ℕ) → is_content
   text_setting_says kind is = repo_then P _ (λ r known. target_then P _ (λ t also. text_says P _ (λ x text. (known, is t x also text))))
 
   pub row_says : (v : Verb) → Says P context (Forms.row v).1
-  row_says verbs.Repo = first_says P _ (λ front. name_then P _ (λ name n. id_then P _ (λ id i. offset_then P _ (λ o le. version_then P _ (λ v three. locks_then P _ (λ l u.
-      ends_says P (Repo name id o v l) (record { first = front; good_name = n.good; new_name = n.new; good_id = i.good; new_id = i.new }, le, three)))))))
+  row_says verbs.Repo = first_says P _ (λ front. name_then P _ (λ name n. id_then P _ (λ id i. offset_then P _ (λ o le. version_then P _ (λ v known. locks_then P _ (λ l u.
+      ends_says P (Repo name id o v l) (record { first = front; good_name = n.good; new_name = n.new; good_id = i.good; new_id = i.new }, le, known.0, known.1)))))))
   row_says verbs.Numcopies = number_says log_kinds.Numcopies (λ n le. (tt, le))
   row_says verbs.Mincopies = number_says log_kinds.Mincopies (λ n le. (tt, le))
   row_says verbs.NumcopiesFor = by_path_says log_kinds.NumcopiesPath (λ n glob le is. (is, le))

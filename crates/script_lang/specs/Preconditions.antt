@@ -187,7 +187,7 @@ IsValidShowing context showings.Journal = Unit {0}
 
 -- the command has this where it stands
 abbrev pub IsValidIn : Context → Command → Type 0
-IsValidIn context (Repo name id offset version locks) = MayDeclare context name id × (offset ≤ 100000000000) × (version ≤ 3)
+IsValidIn context (Repo name id offset version locks) = MayDeclare context name id × (offset ≤ 100000000000) × (1 ≤ version) × (version ≤ 3)
 IsValidIn context (Does action) = IsValidAction context action
 IsValidIn context (Damage r key content) = IsRepo context r × IsKeyText key × (is_placed context r key ≡ true) × IsSmall content
 IsValidIn context (Par lines) = Each (StandsInBlock context) lines

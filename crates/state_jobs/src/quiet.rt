@@ -26,8 +26,8 @@ impl Work {
     {
         match (self.part, here, barred) {
             (Part::Gets, true, _) => self.after_transfer(Ending::Here),
-            (Part::Drops, false, _) => self.hears(repo, Heard::Lacks(Cause::Absent)),
-            (Part::Drops, true, Some(_)) => self.hears(repo, Heard::Lacks(Cause::Barred)),
+            (Part::Drops, _, None) => self.hears(repo, Heard::Lacks(Cause::Absent)),
+            (Part::Drops, _, Some(_)) => self.hears(repo, Heard::Lacks(Cause::Barred)),
             _ => self.to_phase(Phase::Next),
         }
     }

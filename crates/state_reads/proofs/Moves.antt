@@ -105,8 +105,7 @@ took_goes w body = stays w
 
 first_goes : (r : ℕ) (w : Work) (part : Part) (here : Bool) (bar : Option ℕ) → GoesOn w (first_look r w part here bar)
 first_goes r w Gets true bar = transferred w (Got None None)
-first_goes r w Drops false bar = in_part w _ refl refl
-first_goes r w Drops true (Some i) = in_part w _ refl refl
+first_goes r w Drops here bar = in_part w _ refl refl
 first_goes r w part here bar = phased w _
 
 quiet_goes : (rows : RowsAndEnds) (r : ℕ) (w : Work) (phase : Phase) → GoesOn w (quiet rows r w phase)

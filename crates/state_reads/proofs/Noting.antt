@@ -12,6 +12,7 @@ use Rattle.run_data.specs.declared.entry.EntryKind.TheVariants.{Compact, Log}
 use Rattle.trust_groups.specs.Settings.{Lines, settings}
 use Rattle.wanted_expr.specs.Wanted.{required}
 use Rattle.node_model.specs.After.{has_read, read_after, state_after}
+use Rattle.node_model.specs.Around.{around}
 use Rattle.node_model.specs.Evidence.{standing_by}
 use Rattle.node_model.specs.Files.{lines_after}
 use Rattle.node_model.specs.Jobs.{Work, drop_side, or_own, running_job}
@@ -257,7 +258,7 @@ pub noted : (s : SetUp) (st : State) (e : Entry) (was now : List Kept) (change :
     → ((w : Work) → IsOnly st.works w → HasReadAs s st w (reading_in was w.number)) → (x : Work) → IsOnly (state_after s st e).works x → HasReadAs s (state_after s st e) x (reading_in now x.number)
 noted s st e was now change is adds each x only =
     subst (λ (ks : List Kept). HasReadAs s (state_after s st e) x (reading_in ks x.number)) (sym is)
-    (elim (came (record { present = st.present; bar = st.bar; ends = st.ends }) s.number st.works e e.kind x only) [
+    (elim (came (around s st) s.number st.works e e.kind x only) [
       | inl new ↦ new_noted s st e was change x adds new
       | inr one ↦ there_noted s st e was change x one adds (each one.work one.only)
     ])

@@ -6,7 +6,7 @@ use Rattle.run_data.specs.declared.entry.Entry.{Entry}
 use Rattle.run_data.specs.declared.entry.EntryKind.{EntryKind}
 use Rattle.run_data.specs.declared.entry.EntryKind.TheVariants.{Begin}
 use Rattle.node_model.specs.Jobs as jobs
-use Rattle.node_model.specs.Jobs.{RowsAndEnds, new_work}
+use Rattle.node_model.specs.Jobs.{new_work}
 use Rattle.node_model.specs.State.{State}
 use Rattle.state_jobs.specs.Around.{IsTalkOf}
 use Rattle.state_jobs.specs.Phases.{IsBelow}
@@ -25,10 +25,6 @@ pub record AreWorksOf (x : Jobs) (st : State) : Type 0 where
 -- no job has come to this place of a content
 abbrev pub AreBelow : ℕ → Jobs → Type 0
 AreBelow limit x = Each (λ w. IsBelow limit w.phase) x.running.items
-
--- the contents, bars and ends of a state
-abbrev pub rows_and_ends : State → RowsAndEnds
-rows_and_ends st = record { present = st.present; bar = st.bar; ends = st.ends }
 
 -- the job that an entry of this kind begins
 abbrev pub begun_in : List jobs.Work → EntryKind → Option jobs.Work

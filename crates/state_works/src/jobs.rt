@@ -2,12 +2,13 @@
 ghost use Rattle.std.specs.Prelude.{◌≡◌, ◌≤◌, ◌+◌, ◌^◌, ◌==◌, ℕ, find, map, IfOk, OnOk};
 ghost use Rattle.std.specs.Option.{option_copied, option_map};
 ghost use Rattle.node_model.specs.After.{first_state, state_after};
+ghost use Rattle.node_model.specs.Around.{around};
 ghost use Rattle.node_model.specs.SetUp.{SetUp};
 ghost use Rattle.node_model.specs.State.{State};
 ghost use Rattle.state_rows.specs.Rows.{AreRowsOf};
 ghost use Rattle.state_jobs.specs.Around.{AreEndedBy};
 ghost use Rattle.state_jobs.specs.Works.{work_of};
-ghost use Rattle.state_works.specs.Jobs.{AreBelow, AreWorksOf, HasRoomForAll, IsChangeOf, StaySame, rows_and_ends, works_of};
+ghost use Rattle.state_works.specs.Jobs.{AreBelow, AreWorksOf, HasRoomForAll, IsChangeOf, StaySame, works_of};
 
 use crate::listing::{begun_by, end, found, move_all, reserve_all, talk_of};
 use annex_base::NoMemory;
@@ -75,7 +76,7 @@ impl Jobs {
         requires room { HasRoomForAll self.old }
         requires change { IsChangeOf (works_of self.old) entry.now change }
         requires below { AreBelow (2 ^ 127) self.old }
-        ensures works { (s : SetUp) (st : State) → s.number ≡ repo → AreRowsOf rows.now st → AreEndedBy (rows_and_ends st) entry.now ends.now
+        ensures works { (s : SetUp) (st : State) → s.number ≡ repo → AreRowsOf rows.now st → AreEndedBy (around s st) entry.now ends.now
             → AreWorksOf self.old st → AreWorksOf self.new (state_after s st entry.now) }
         ensures below { (limit : ℕ) → 2 ^ 64 ≤ limit → AreBelow limit self.old → AreBelow (limit + 2 ^ 64) self.new }
     {

@@ -228,8 +228,6 @@ first_asks t version taken peer speaks asker old faults Drops is = copy_even t v
 
 pub look_alone : (target : Option ℕ) (r : ℕ) (x : Work) (part : Part) (here : Bool) (bar : Option ℕ) → partner target (first_look r x part here bar).phase ≡ None
 look_alone target r x Gets true bar = if_either (λ (y : Work). partner target y.phase ≡ None) (is_move x.what.kind) (record x { part = Drops; phase = Fresh; fills = false }) (record x { phase = Ends (Got None None); fills = false }) (λ e. refl) (λ e. refl)
-look_alone target r x Drops false bar = refl
-look_alone target r x Drops true (Some i) = refl
 look_alone target r x part here bar = refl
 
 pub quiet_alone : (target : Option ℕ) (rows : RowsAndEnds) (r : ℕ) (x : Work) (phase : Phase) → partner target x.phase ≡ None → partner target (quiet rows r x phase).phase ≡ None

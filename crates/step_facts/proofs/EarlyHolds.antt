@@ -37,7 +37,7 @@ use Rattle.node_model.specs.SetUp.{SetUp}
 use Rattle.node_model.specs.Sessions.{line_in}
 use Rattle.node_model.specs.Ends.{end_after}
 use Rattle.node_model.specs.Jobs
-use Rattle.node_model.specs.Jobs.{AsksLock, AsksLook, Drops, Fresh, GetsBytes, GetsData, GetsWord, Gets, Greets, Heard, Held, Next, Orders, Part, Phase, Puts, PutsAnswer, PutsBytes, PutsOffer, PutsWord, RowsAndEnds, Work, claims, closed_part, fault_of, fault_phase, first_look, after_gain, gets_bytes, gets_more, heard_of, hears, hears_frame, job_end, learns, listens, put_from, puts_answer, puts_bytes, puts_more, quiet, says, says_some, sends, talks, talks_on, target_of, to_phase, after_frame, after_line, after_transfer, after_failed_release, word_taken, work_after, work_kind, works_after}
+use Rattle.node_model.specs.Jobs.{AsksLock, AsksLook, Drops, Fresh, GetsBytes, GetsData, GetsWord, Gets, Greets, Heard, Held, Next, Orders, Part, Phase, Puts, PutsAnswer, PutsBytes, PutsOffer, PutsWord, RowsAndEnds, Work, claims, closed_part, fault_of, fault_phase, first_look, after_gain, gets_bytes, gets_more, heard_of, hears, hears_frame, job_end, learns, listens, put_from, puts_answer, puts_bytes, puts_more, quiet, says, says_some, sends, talks, talks_on, target_of, to_phase, unshared_cause, after_frame, after_line, after_transfer, after_failed_release, word_taken, work_after, work_kind, works_after}
 use Rattle.run_model.specs.States.{rows_at, works, state_of}
 use Rattle.step_facts.proofs.Knowing.{candidates_of, is_to_ask, known, knows}
 use Rattle.node_model.specs.Knows.{heard_offer, need_of, offer_by, standing_of}
@@ -152,8 +152,7 @@ module _ (b : ℕ) where
 
   first_early : (r : ℕ) (w : Work) (part : Part) (here : Bool) (bar : Option ℕ) → Early b w → Early b (first_look r w part here bar)
   first_early r w Gets true bar a = transferred_early w (outcomes.Got None None) a
-  first_early r w Drops false bar a = heard_early w r (Jobs.Lacks causes.Absent) a tt
-  first_early r w Drops true (Some i) a = heard_early w r (Jobs.Lacks causes.Barred) a tt
+  first_early r w Drops here bar a = heard_early w r (Jobs.Lacks (unshared_cause bar)) a tt
   first_early r w part here bar a = to_early w Next a tt
 
   quiet_early : (rows : RowsAndEnds) (r : ℕ) (w : Work) (phase : Phase) → Early b w → Early b (quiet rows r w phase)

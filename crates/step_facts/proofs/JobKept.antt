@@ -104,7 +104,6 @@ took_kept w body = refl
 
 first_kept : (r : ℕ) (w : Work) (part : Part) (here : Bool) (bar : Option ℕ) → Same w (first_look r w part here bar)
 first_kept r w Gets true bar = transferred_kept w (outcomes.Got None None)
-first_kept r w Drops true (Some i) = refl
 first_kept r w part here bar = refl
 
 quiet_kept : (rows : RowsAndEnds) (r : ℕ) (w : Work) (phase : Phase) → Same w (quiet rows r w phase)

@@ -143,8 +143,6 @@ frame_taken count w body is = is
 
 looked : (count r : ℕ) (w : Work) (part : Part) (here : Bool) (barred : Option ℕ) → TalksWithin count w → TalksWithin count (first_look r w part here barred)
 looked count r w Gets true barred is = transferred count w _ is
-looked count r w Drops false barred is = record { own = is.own; talks = tt }
-looked count r w Drops true (Some i) is = record { own = is.own; talks = tt }
 looked count r w part here barred is = record { own = is.own; talks = tt }
 
 quieted : (count : ℕ) (rows : RowsAndEnds) (r : ℕ) (w : Work) (phase : Phase) → TalksWithin count w → TalksWithin count (quiet rows r w phase)

@@ -4,6 +4,7 @@ use Rattle.annex_base.specs.Lists.{Each}
 use Rattle.run_data.specs.declared.entry.Entry.{Entry}
 use Rattle.trust_groups.specs.Settings.{settings}
 use Rattle.node_model.specs.After.{state_after}
+use Rattle.node_model.specs.Around.{around}
 use Rattle.node_model.specs.Jobs as jobs
 use Rattle.node_model.specs.Jobs.{works_after}
 use Rattle.node_model.specs.SetUp.{SetUp}
@@ -14,7 +15,7 @@ use Rattle.state_ends.specs.Ends.{end_of}
 use Rattle.state_sessions.specs.Sessions.{session_of}
 use Rattle.state_jobs.specs.Around.{AreEndedBy}
 use Rattle.state_owed.specs.Changes.{TalksWithin}
-use Rattle.state_works.specs.Jobs.{AreWorksOf, rows_and_ends, works_of}
+use Rattle.state_works.specs.Jobs.{AreWorksOf, works_of}
 use Rattle.state_works.specs.declared.jobs.Jobs.{Jobs}
 use Rattle.step_state.specs.Links.{AreLinksOf}
 use Rattle.step_state.specs.Peers.{HasPeersIn}
@@ -22,7 +23,7 @@ use Rattle.step_state.specs.declared.links.Links.{Links}
 use Rattle.step_state.proofs.PeerLemmas.{works_within}
 
 -- the ends after an entry are those of the state after it
-pub ended : (s : SetUp) (st : State) (e : Entry) (links : Links) → AreLinksOf links (state_after s st e) → AreEndedBy (rows_and_ends st) e links.ends
+pub ended : (s : SetUp) (st : State) (e : Entry) (links : Links) → AreLinksOf links (state_after s st e) → AreEndedBy (around s st) e links.ends
 ended s st e links are = λ a. sym (are.ends.ends a)
 
 -- ---- a state
@@ -70,4 +71,4 @@ rows_beside rows st ws are = record { present = are.present; content = are.conte
 pub jobs_within : (count r : ℕ) (was now : Jobs) (st : State) (e : Entry) → HasPeersIn count e → Each (TalksWithin count) (works_of was)
     → AreWorksOf now (state_after (some_set_up r) (with_works st (works_of was)) e) → Each (TalksWithin count) (works_of now)
 jobs_within count r was now st e peers all are =
-    subst (λ (ws : List jobs.Work). Each (TalksWithin count) ws) are.works (works_within count (rows_and_ends st) r (works_of was) e e.kind peers.sent peers.begun all)
+    subst (λ (ws : List jobs.Work). Each (TalksWithin count) ws) are.works (works_within count (around (some_set_up r) st) r (works_of was) e e.kind peers.sent peers.begun all)

@@ -1,6 +1,7 @@
 //! What a repository is about: its jobs, what their drops have read, and the lines that it owes.
 ghost use Rattle.std.specs.Prelude.{◌≡◌, ◌≤◌, ◌<◌, ◌+◌, ◌^◌, ℕ, option_copied, option_map, IfOk, OnOk};
 ghost use Rattle.node_model.specs.After.{first_state, state_after};
+ghost use Rattle.node_model.specs.Around.{around};
 ghost use Rattle.node_model.specs.SetUp.{SetUp};
 ghost use Rattle.node_model.specs.State.{State};
 ghost use Rattle.run_data.specs.declared.entry.EntryKind.TheVariants.{Talk};
@@ -9,7 +10,7 @@ ghost use Rattle.state_jobs.specs.Around.{AreEndedBy};
 ghost use Rattle.state_jobs.specs.Works.{work_of};
 ghost use Rattle.state_owed.specs.Changes.{AddsWithin, talker};
 ghost use Rattle.state_rows.specs.Rows.{AreRowsOf};
-ghost use Rattle.state_works.specs.Jobs.{IsChangeOf, rows_and_ends, works_of};
+ghost use Rattle.state_works.specs.Jobs.{IsChangeOf, works_of};
 ghost use Rattle.step_state.specs.Peers.{HasPeersIn};
 ghost use Rattle.step_state.specs.Places.{IsPlaceOf, count_in};
 ghost use Rattle.step_state.specs.Working.{AreBelow, AreWithin, AreWorkingOf, HasRoom, StaySame};
@@ -98,10 +99,10 @@ impl Working {
         requires room { HasRoom self.old }
         requires below { AreBelow (2 ^ 127) self.old }
         requires change { IsChangeOf (works_of self.old.jobs) entry.now change.jobs }
-        ensures working { (s : SetUp) (st : State) → IsPlaceOf place.now s → AreRowsOf rows.now st → AreEndedBy (rows_and_ends st) entry.now ends.now
+        ensures working { (s : SetUp) (st : State) → IsPlaceOf place.now s → AreRowsOf rows.now st → AreEndedBy (around s st) entry.now ends.now
             → IsSoFor s st entry.now change → AreWorkingOf self.old s st → AreWorkingOf self.new s (state_after s st entry.now) }
         ensures below { (limit : ℕ) → 2 ^ 64 ≤ limit → AreBelow limit self.old → AreBelow (limit + 2 ^ 64) self.new }
-        ensures within { (st : State) → AreRowsOf rows.now st → AreEndedBy (rows_and_ends st) entry.now ends.now
+        ensures within { (s : SetUp) (st : State) → AreRowsOf rows.now st → AreEndedBy (around s st) entry.now ends.now
             → HasPeersIn (count_in place.now) entry.now → AddsWithin (count_in place.now) change.owed
             → AreWithin (count_in place.now) self.old → AreWithin (count_in place.now) self.new }
     {

@@ -11,6 +11,7 @@ use Rattle.run_data.specs.declared.job.TransferRefusal.TheVariants as failures
 use Rattle.p2p_wire.specs.declared.message.Message.{Message}
 use Rattle.p2p_wire.specs.declared.message.Message.TheVariants.{Version}
 use Rattle.p2p_wire.specs.Messages.{message_of, text_of}
+use Rattle.node_model.specs.Around.{around_in}
 use Rattle.node_model.specs.Ends.{End, EndName, end_took, frames, sent_at, taken_at, takes_at}
 use Rattle.node_model.specs.Jobs
 use Rattle.node_model.specs.Jobs.{Drops, Gets, Part, Phase, Puts, RowsAndEnds, Work, after_line, claims, closed_part, fault_phase, gets_bytes, hears_frame, job_end, learns, partner, puts_bytes, quiet, says, side_of, stores_fault, taken_message, talks, talks_on, to_phase, version_said}
@@ -22,9 +23,6 @@ use Rattle.drop_phases.specs.Doing.{next_work}
 use Rattle.drop_phases.proofs.Takings.{Lined}
 use Rattle.drop_phases.proofs.Talks.{StaysOpen, on_heard, on_said, on_shut, open_line}
 use Rattle.transfer_turns.proofs.Frames.{line_is}
-
-abbrev pub rows_of : Turn → RowsAndEnds
-rows_of t = record { present = t.present; bar = t.bar; ends = t.ends }
 
 -- ---- what it has learnt
 
@@ -86,32 +84,32 @@ on_bytes rows r v e peer n sent live = rw (sent, sent_one (job_end v peer) (rows
 -- n is the version that the work has learnt, or had
 module _ (t : Turn) (taken : Option FrameView) (peer n : ℕ) (learn : learns t.w t.w.phase taken ≡ record t.w { version = n }) (with_peer : partner t.w.what.peer t.w.phase ≡ Some peer) where
   abbrev at_work : Effect → Work
-  at_work m = talks_on (rows_of t) (me t) (learns (claims t.w t.w.part t.w.phase) t.w.phase taken) (entry_of (me t) t.look m) (partner t.w.what.peer t.w.phase)
+  at_work m = talks_on (around_in t) (me t) (learns (claims t.w t.w.part t.w.phase) t.w.phase taken) (entry_of (me t) t.look m) (partner t.w.what.peer t.w.phase)
 
   abbrev now_work : Work
   now_work = record t.w { version = n }
 
-  here : (m : Effect) → at_work m ≡ talks_on (rows_of t) (me t) now_work (entry_of (me t) t.look m) (Some peer)
+  here : (m : Effect) → at_work m ≡ talks_on (around_in t) (me t) now_work (entry_of (me t) t.look m) (Some peer)
   here m =
-      λ i. talks_on (rows_of t) (me t) ((ap (λ (w : Work). learns w t.w.phase taken) (claims_on t.w t.w.part t.w.phase t.w.what.peer peer with_peer) ∙ learn) i) (entry_of (me t) t.look m) (with_peer i)
+      λ i. talks_on (around_in t) (me t) ((ap (λ (w : Work). learns w t.w.phase taken) (claims_on t.w t.w.part t.w.phase t.w.what.peer peer with_peer) ∙ learn) i) (entry_of (me t) t.look m) (with_peer i)
 
-  pub after_hearing : StaysOpen (job_end t.w peer) (end_with t peer) taken → next_work t (quietly (talk t) taken) ≡ hears_frame (rows_of t) (me t) now_work taken
-  after_hearing live = here (quietly (talk t) taken) ∙ on_heard (rows_of t) (me t) now_work (entry_of (me t) t.look (quietly (talk t) taken)) peer refl live
+  pub after_hearing : StaysOpen (job_end t.w peer) (end_with t peer) taken → next_work t (quietly (talk t) taken) ≡ hears_frame (around_in t) (me t) now_work taken
+  after_hearing live = here (quietly (talk t) taken) ∙ on_heard (around_in t) (me t) now_work (entry_of (me t) t.look (quietly (talk t) taken)) peer refl live
 
   pub after_close : (end_took (end_with t peer) (taken_at (job_end t.w peer) taken)).opened ≡ false → next_work t (quietly (talk t) taken) ≡ closed_part (me t) now_work peer t.w.part
-  after_close shut = here (quietly (talk t) taken) ∙ on_closed (rows_of t) (me t) now_work (entry_of (me t) t.look (quietly (talk t) taken)) peer refl shut
+  after_close shut = here (quietly (talk t) taken) ∙ on_closed (around_in t) (me t) now_work (entry_of (me t) t.look (quietly (talk t) taken)) peer refl shut
 
   pub after_saying : (m : Message) → StaysOpen (job_end t.w peer) (end_with t peer) taken → message_of (text_of m) ≡ Some m
       → next_work t (says_to t (talk t) taken peer m) ≡ says now_work t.look.time peer (taken_message taken) m
-  after_saying m live reads = here (says_to t (talk t) taken peer m) ∙ on_said (rows_of t) (me t) now_work (entry_of (me t) t.look (says_to t (talk t) taken peer m)) peer m refl live reads
+  after_saying m live reads = here (says_to t (talk t) taken peer m) ∙ on_said (around_in t) (me t) now_work (entry_of (me t) t.look (says_to t (talk t) taken peer m)) peer m refl live reads
 
   pub after_shutting : next_work t (sends_to t (talk t) taken peer (Closing ∷ [])) ≡ closed_part (me t) now_work peer t.w.part
   after_shutting =
-      here (sends_to t (talk t) taken peer (Closing ∷ [])) ∙ on_shut (rows_of t) (me t) now_work (entry_of (me t) t.look (sends_to t (talk t) taken peer (Closing ∷ []))) peer refl
+      here (sends_to t (talk t) taken peer (Closing ∷ [])) ∙ on_shut (around_in t) (me t) now_work (entry_of (me t) t.look (sends_to t (talk t) taken peer (Closing ∷ []))) peer refl
 
   pub after_sending : (b : ℕ) → StaysOpen (job_end t.w peer) (end_with t peer) taken → next_work t (sends_to t (talk t) taken peer (Bytes b ∷ [])) ≡ to_phase now_work (puts_bytes b t.w.phase)
   after_sending b live =
-      here (sends_to t (talk t) taken peer (Bytes b ∷ [])) ∙ on_bytes (rows_of t) (me t) now_work (entry_of (me t) t.look (sends_to t (talk t) taken peer (Bytes b ∷ []))) peer b refl live
+      here (sends_to t (talk t) taken peer (Bytes b ∷ [])) ∙ on_bytes (around_in t) (me t) now_work (entry_of (me t) t.look (sends_to t (talk t) taken peer (Bytes b ∷ []))) peer b refl live
 
 -- ---- with a frame
 
@@ -160,8 +158,8 @@ module _ (t : Turn) (alone : partner t.w.what.peer t.w.phase ≡ None) where
   abbrev claimed : Work
   claimed = claims t.w t.w.part t.w.phase
 
-  alone_here : (m : Effect) → talks_on (rows_of t) (me t) (learns claimed t.w.phase None) (entry_of (me t) t.look m) (partner t.w.what.peer t.w.phase) ≡ talks (rows_of t) (me t) claimed (entry_of (me t) t.look m) m.sent
-  alone_here m = λ i. talks_on (rows_of t) (me t) (learns_none claimed t.w.phase i) (entry_of (me t) t.look m) (alone i)
+  alone_here : (m : Effect) → talks_on (around_in t) (me t) (learns claimed t.w.phase None) (entry_of (me t) t.look m) (partner t.w.what.peer t.w.phase) ≡ talks (around_in t) (me t) claimed (entry_of (me t) t.look m) m.sent
+  alone_here m = λ i. talks_on (around_in t) (me t) (learns_none claimed t.w.phase i) (entry_of (me t) t.look m) (alone i)
 
   pub after_opening : (peer : ℕ) → next_work t (sends_to t (talk t) None peer (Opening ∷ [])) ≡ to_phase claimed (Jobs.Opens peer)
   after_opening peer = alone_here (sends_to t (talk t) None peer (Opening ∷ []))
@@ -169,7 +167,7 @@ module _ (t : Turn) (alone : partner t.w.what.peer t.w.phase ≡ None) where
   pub after_request : (peer : ℕ) (m : Message) → message_of (text_of m) ≡ Some m → next_work t (says_to t (talk t) None peer m) ≡ says claimed t.look.time peer None m
   after_request peer m reads = alone_here (says_to t (talk t) None peer m) ∙ ap (Jobs.says_some claimed t.look.time peer None) reads
 
-  pub after_quiet : next_work t (quietly (talk t) None) ≡ quiet (rows_of t) (me t) claimed claimed.phase
+  pub after_quiet : next_work t (quietly (talk t) None) ≡ quiet (around_in t) (me t) claimed claimed.phase
   after_quiet = alone_here (quietly (talk t) None)
 
 -- ---- a call of the store failed

@@ -5,6 +5,7 @@ use Rattle.std.specs.Option.{ForSome, option_map}
 use Rattle.std.proofs.lemmas.Bool.Decides.{nat_tests}
 use Rattle.run_data.specs.declared.entry.FrameView.{FrameView}
 use Rattle.object_store.specs.Stores.{Contents}
+use Rattle.node_model.specs.Around.{around}
 use Rattle.node_model.specs.Ends.{EndName, End}
 use Rattle.node_model.specs.Jobs.{RowsAndEnds, Work, work_after, work_kind}
 use Rattle.node_model.specs.JobStep.{Turn, end_with, turn_of}
@@ -71,8 +72,8 @@ module _ (x : Sight) (rows : Rows) (before after : Seen) (v v' : Work) (i : Opti
       record {
         made = ap (option_map as_told) slot ∙ ap (λ (m : Effect). Some m) (sym is_made);
         next = λ going.
-            let rs : RowsAndEnds = record { present = st.present; bar = st.bar; ends = st.ends } in
-            makes.next going ∙ (ap (λ (m : Effect). work_kind rs s.number v (entry_of s.number k m) m.kind) (sym is_made) ∙ moved rs s.number k (made_of x v.slot f out) v whose);
+            makes.next going
+            ∙ (ap (λ (m : Effect). work_kind (around s st) s.number v (entry_of s.number k m) m.kind) (sym is_made) ∙ moved (around s st) s.number k (made_of x v.slot f out) v whose);
       }
 
   pub calls_met : ForSome (slot_step s st k (Some v)) (λ (m : Effect). MakesCalls m.calls (failed_in out.kind) before.failing after.failing)

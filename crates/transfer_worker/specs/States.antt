@@ -5,6 +5,7 @@ use Rattle.std.specs.Option.{option_map}
 use Rattle.annex_base.specs.declared.kinds.Call.{Call}
 use Rattle.run_data.specs.declared.entry.FrameView.{FrameView}
 use Rattle.object_store.specs.Stores.{Contents}
+use Rattle.node_model.specs.Around.{around}
 use Rattle.node_model.specs.Jobs.{Work, partner, work_after}
 use Rattle.node_model.specs.JobStep.{Turn, end_with, turn_of}
 use Rattle.node_model.specs.Jobs.{job_end}
@@ -57,4 +58,4 @@ pub record Sees (x : Sight) (rows : Rows) (contents : Contents) (v : Work) (i : 
 -- the step is that of the job's slot, as its entry tells it, and the job's work after the entry is this
 pub record StepsSo (x : Sight) (v v' : Work) (out : Output) (s : SetUp) (st : State) (k : Look) (f : Option FrameView) : Type 0 where
   pub made : option_map as_told (slot_step s st k (Some v)) ≡ Some (made_of x v.slot f out)
-  pub next : is_end out.kind ≡ false → v' ≡ work_after (record { present = st.present; bar = st.bar; ends = st.ends }) s.number (entry_of s.number k (made_of x v.slot f out)) v
+  pub next : is_end out.kind ≡ false → v' ≡ work_after (around s st) s.number (entry_of s.number k (made_of x v.slot f out)) v

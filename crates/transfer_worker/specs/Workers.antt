@@ -4,7 +4,7 @@ use Rattle.std.specs.Option.{ForSome}
 use Rattle.run_data.specs.declared.entry.EntryKind.{EntryKind}
 use Rattle.run_data.specs.declared.job.Job.{Job}
 use Rattle.object_store.specs.Stores.{AreSmallParts, Parts}
-use Rattle.node_model.specs.Jobs.{Work, Fresh, Puts, first_part, is_move}
+use Rattle.node_model.specs.Jobs.{Drops, Work, Fresh, Puts, first_part, is_move}
 use Rattle.content_lock.specs.Rows.{Rows}
 use Rattle.session_state.specs.declared.incoming.Incoming.{Incoming}
 use Rattle.session_state.specs.Phases.{IsNoGain}
@@ -24,6 +24,7 @@ use Rattle.put_steps.specs.declared.phase.Phase.TheVariants as offers
 use Rattle.put_steps.specs.declared.putting.Putting.{Putting}
 use Rattle.put_steps.specs.Putting.{SeesNoPart}
 use Rattle.put_steps.specs.Puts.{HasPeer}
+use Rattle.transfer_worker.specs.declared.worker.Finished.{Finished}
 use Rattle.transfer_worker.specs.declared.worker.Worker.{Worker}
 use Rattle.transfer_worker.specs.declared.worker.Worker.TheVariants as workers
 
@@ -35,6 +36,10 @@ work_of (workers.Puts w) = puts.work_of w
 -- that of a job that begins, in this slot
 abbrev pub new_work_of : ℕ → ℕ → Job → Work
 new_work_of number slot what = record { number = number; slot = slot; what = what; part = first_part what.kind; phase = Fresh; fills = false; version = 3; heard = []; causes = [] }
+
+-- that of a drop that begins, after a transfer that is done
+abbrev pub drop_after : Finished → Work
+drop_after f = record { number = f.number; slot = f.slot; what = f.job; part = Drops; phase = Fresh; fills = false; version = f.version; heard = []; causes = f.causes.items }
 
 -- its transfer is done, and its drop is to begin
 abbrev pub is_done : Worker → Bool

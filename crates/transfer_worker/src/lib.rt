@@ -6,4 +6,4 @@ mod worker;
 
 pub use machine::step;
 pub use transfer_turns::{Here, Output, Parcel, ParcelBody, Sends};
-pub use worker::{Worker, end, sends_to};
+pub use worker::{Finished, Worker, end, finish, sends_to};

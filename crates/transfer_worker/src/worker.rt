@@ -1,5 +1,5 @@
 //! The transfer of a job.
-ghost use Rattle.std.specs.Prelude.{◌≡◌, ◌&&◌, not, ℕ, List, None, Some, bytes_eq, is_some};
+ghost use Rattle.std.specs.Prelude.{◌≡◌, ◌&&◌, not, ℕ, List, None, Some, true, bytes_eq, is_some};
 ghost use Rattle.std.specs.Option.{option_to_list};
 ghost use Rattle.run_data.specs.declared.job.JobKind.TheVariants as kinds;
 ghost use Rattle.node_model.specs.Jobs.{partner};
@@ -14,12 +14,12 @@ ghost use Rattle.transfer_turns.specs.Turns.{awaited};
 ghost use Rattle.transfer_worker.specs.States.{IsSight};
 ghost use Rattle.get_phases.specs.Gets as gets;
 ghost use Rattle.put_steps.specs.Puts as puts;
-ghost use Rattle.transfer_worker.specs.Workers.{CanStep, HasFill, asked_next, new_work_of, sent_next, work_of};
+ghost use Rattle.transfer_worker.specs.Workers.{CanStep, HasFill, asked_next, drop_after, is_done, new_work_of, sent_next, work_of};
 
 use content_lock::LockTable;
 use get_phases::{Getting, next_source};
 use put_steps::{Phase, Putting};
-use run_data::{Job, JobKind};
+use run_data::{Job, JobKind, SourceFailure};
 use std::alloc::Global;
 use transfer_turns::Here;
 
@@ -61,6 +61,16 @@ impl Worker {
         match self {
             Worker::Gets(getting) => getting.awaits(),
             Worker::Puts(putting) => putting.partner(),
+        }
+    }
+
+    /// Whether its transfer is done, and its drop is to begin.
+    pub fn is_done(&self) -> bool
+        ensures { result ≡ is_done self.now }
+    {
+        match self {
+            Worker::Gets(getting) => matches!(getting.phase, get_phases::Phase::Done),
+            Worker::Puts(putting) => matches!(putting.phase, Phase::Done),
         }
     }
 
@@ -131,6 +141,61 @@ fn offered_by(putting: &Putting) -> Option<u32>
         Phase::Bytes(sending) => Some(sending.peer),
         Phase::Word { peer, start: _ } => Some(peer),
         _ => None,
+    }
+}
+
+/// What the transfer of a move leaves to its drop: the job's number and slot, the job, what its peer answered to VERSION (3 where
+/// it wasn't asked), and why each peer that was asked gave nothing, in order.
+pub struct Finished {
+    pub number: u32,
+    pub slot: u32,
+    pub job: Job,
+    pub version: u64,
+    pub causes: Vec<SourceFailure>,
+}
+
+/// Takes a transfer that is done apart: its drop is to begin, as the job's work says.
+pub fn finish(alloc: Global, worker: Worker) -> Finished
+    requires { is_done worker ≡ true }
+    ensures { work_of worker ≡ drop_after result }
+{
+    match worker {
+        Worker::Gets(getting) => {
+            let Getting {
+                number,
+                slot,
+                job,
+                version,
+                causes,
+                phase,
+            } = getting;
+            match phase {
+                get_phases::Phase::Done => Finished {
+                    number,
+                    slot,
+                    job,
+                    version,
+                    causes,
+                },
+                _ => unreachable!(),
+            }
+        }
+        Worker::Puts(putting) => {
+            let Putting {
+                number,
+                slot,
+                job,
+                version,
+                phase: _,
+            } = putting;
+            Finished {
+                number,
+                slot,
+                job,
+                version,
+                causes: Vec::new(alloc),
+            }
+        }
     }
 }
 

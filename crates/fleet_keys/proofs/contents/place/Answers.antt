@@ -10,7 +10,8 @@ use Rattle.fleet_keys.proofs.Placing.{PlacesContent, content_fits, has_goes_so}
 use Rattle.fleet_entries.proofs.Growing.{had_at_most}
 use Rattle.fleet_keys.proofs.Growing.{place_grows}
 use Rattle.fleet_entries.proofs.Ended.{never_bundle}
-use Rattle.fleet_keys.proofs.FullContents.{HadRoom, IsUnasked, PlaceMeets, had_room, has_ends_so, has_room}
+use Rattle.fleet_keys.proofs.FullContents.{PlaceMeets, had_room, has_ends_so}
+use Rattle.fleet_keys.proofs.Unasked.{HadRoom, IsUnasked, has_room}
 use Rattle.fleet_entries.proofs.Full.{rest_on, rest_where_same}
 use Rattle.fleet_entries.proofs.Starts.{always_err, call_ends, ended_ok, few_told, start_same, start_waits}
 use Rattle.fleet_keys.proofs.contents.place.Goals as goal

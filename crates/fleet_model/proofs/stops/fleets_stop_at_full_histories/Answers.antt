@@ -1,6 +1,6 @@
 -- A fleet stops where a history is full.
 use Rattle.fleet_model.proofs.StopContents.{content_stops_behind}
-use Rattle.fleet_model.proofs.StopSteps.{content_asked, job_stops, line_stops, setting_stops, turn_stops}
+use Rattle.fleet_model.proofs.StopSteps.{content_asked, job_stops, line_stops, part_asked, setting_stops, turn_stops}
 use Rattle.fleet_model.proofs.StopWalks.{compact_stops, merge_stops}
 use Rattle.fleet_model.proofs.stops.fleets_stop_at_full_histories.Goals as goal
 
@@ -38,6 +38,7 @@ returns-clause-turn g c = turn_stops (record {
 }) (record {
   turn_adds = c.steps_add_own_entries.ensures.turn;
   content_adds = c.steps_add_own_entries.ensures.has;
+  part_adds = c.steps_add_own_entries.ensures.part;
   merges_add = c.steps_add_own_entries.ensures.merges;
   compacts_add = c.steps_add_own_entries.ensures.compacts;
   merges_start = c.starts_of_steps_stay_sound.ensures.merges;
@@ -60,6 +61,21 @@ pub returns-clause-asked : goal.returns-clause-asked
 returns-clause-asked g c = content_asked (record {
   turn_adds = c.steps_add_own_entries.ensures.turn;
   content_adds = c.steps_add_own_entries.ensures.has;
+  part_adds = c.steps_add_own_entries.ensures.part;
+  merges_add = c.steps_add_own_entries.ensures.merges;
+  compacts_add = c.steps_add_own_entries.ensures.compacts;
+  merges_start = c.starts_of_steps_stay_sound.ensures.merges;
+  compacts_start = c.starts_of_steps_stay_sound.ensures.compacts;
+  content_start = c.starts_of_steps_stay_sound.ensures.content;
+  asks = c.runs_are_cut_where_histories_are_full.ensures.asks;
+  idle = c.settlings_come_to_rest.ensures.idle;
+})
+
+pub returns-clause-part : goal.returns-clause-part
+returns-clause-part g c = part_asked (record {
+  turn_adds = c.steps_add_own_entries.ensures.turn;
+  content_adds = c.steps_add_own_entries.ensures.has;
+  part_adds = c.steps_add_own_entries.ensures.part;
   merges_add = c.steps_add_own_entries.ensures.merges;
   compacts_add = c.steps_add_own_entries.ensures.compacts;
   merges_start = c.starts_of_steps_stay_sound.ensures.merges;
@@ -73,6 +89,7 @@ pub returns-clause-merge : goal.returns-clause-merge
 returns-clause-merge g c = merge_stops (record {
   turn_adds = c.steps_add_own_entries.ensures.turn;
   content_adds = c.steps_add_own_entries.ensures.has;
+  part_adds = c.steps_add_own_entries.ensures.part;
   merges_add = c.steps_add_own_entries.ensures.merges;
   compacts_add = c.steps_add_own_entries.ensures.compacts;
   merges_start = c.starts_of_steps_stay_sound.ensures.merges;
@@ -86,6 +103,7 @@ pub returns-clause-compact : goal.returns-clause-compact
 returns-clause-compact g c = compact_stops (record {
   turn_adds = c.steps_add_own_entries.ensures.turn;
   content_adds = c.steps_add_own_entries.ensures.has;
+  part_adds = c.steps_add_own_entries.ensures.part;
   merges_add = c.steps_add_own_entries.ensures.merges;
   compacts_add = c.steps_add_own_entries.ensures.compacts;
   merges_start = c.starts_of_steps_stay_sound.ensures.merges;
@@ -99,6 +117,7 @@ pub returns-clause-content : goal.returns-clause-content
 returns-clause-content g c = content_stops_behind (record {
   turn_adds = c.steps_add_own_entries.ensures.turn;
   content_adds = c.steps_add_own_entries.ensures.has;
+  part_adds = c.steps_add_own_entries.ensures.part;
   merges_add = c.steps_add_own_entries.ensures.merges;
   compacts_add = c.steps_add_own_entries.ensures.compacts;
   merges_start = c.starts_of_steps_stay_sound.ensures.merges;

@@ -1,12 +1,12 @@
 -- What the proof of `lines::act` needs beside the tactics.
-use Rattle.std.proofs.Common.{ap, length, refl, subst, ◌+◌, ◌≤◌}
+use Rattle.std.proofs.Common.{ap, length, refl, subst, sym, ◌+◌, ◌≤◌}
 use Rattle.annex_base.proofs.Numbers.{below_more}
 use Rattle.fleet_entries.specs.Stored.{StoreView, store_view}
 use Rattle.script_commands.specs.declared.command.Action.TheVariants as actions
 use Rattle.script_commands.specs.declared.command.Command.TheVariants as commands
 use Rattle.fleet_run.proofs.Commands.{added_kind, added_path, as_form, built_as, file_line, in_time, may_begin, never_acts, short_content, stands_as, stops_as, within_as}
 use Rattle.fleet_entries.proofs.Ended.{on_ok}
-use Rattle.fleet_run.proofs.Cutting.{CutLaws, always_ok, cut_as, form_ends, have_cuts, room_as, room_had, room_unasked}
+use Rattle.fleet_run.proofs.Cutting.{CutLaws, always_ok, cut_as, cuts_closed, form_ends, have_cuts, room_as, room_asked, room_closed, room_unasked, unasked_cuts}
 use Rattle.fleet_entries.proofs.Full.{behind}
 use Rattle.fleet_entries.proofs.Starts.{on_err}
 use Rattle.fleet_run.proofs.lines.act.Goals as goal
@@ -32,10 +32,33 @@ returns-in-Have g c =
     let laws : CutLaws = record { cut = c.runs_are_cut_where_histories_are_full.ensures.cut; entries = c.runs_are_cut_where_histories_are_full.ensures.entries; marks = c.runs_are_cut_where_histories_are_full.ensures.marks; tree = c.runs_are_cut_where_histories_are_full.ensures.tree } in
     record {
       ok = on_ok c.place.result _ _ c.place.ensures.ok (λ goes. as_form tells (commands.Does c.args.action.now) (commands.Does (actions.Have c.in-Have.repo c.in-Have.key c.in-Have.content)) c.args.running.now c.place.new.running (ap commands.Does c.in-Have.is) goes);
-      room = on_ok c.place.result _ _ c.place.ensures.room (λ room. room_had tells c.in-Have.repo c.in-Have.key c.in-Have.content c.args.action.now c.args.running.now c.in-Have.is room);
+      room = on_ok c.place.result _ _ c.place.ensures.room (λ room. room_asked tells c.in-Have.repo c.args.action.now (actions.Have c.in-Have.repo c.in-Have.key c.in-Have.content) c.args.running.now c.in-Have.is refl (λ given d. refl) room);
       full = λ r e. cut_as tells r (commands.Does c.args.action.now) (commands.Does (actions.Have c.in-Have.repo c.in-Have.key c.in-Have.content)) c.args.running.now c.place.new.running (ap commands.Does c.in-Have.is) (have_cuts tells laws c.in-Have.repo r c.in-Have.key c.in-Have.content c.args.running.now c.place.new.running (c.place.ensures.full r e) c.place.ensures.rest);
       stopped = on_err c.place.result _ _ c.place.ensures.stopped (λ stops. stops_as tells (commands.Does c.args.action.now) (commands.Does (actions.Have c.in-Have.repo c.in-Have.key c.in-Have.content)) c.args.running.now c.place.new.running (ap commands.Does c.in-Have.is) stops);
       rest = behind c.args.running.now c.place.new.running c.place.ensures.rest;
+    }
+
+pub place_part-requires-clause-there : goal.place_part-requires-clause-there
+place_part-requires-clause-there g c = below_more c.in-SetPart.repo (length c.requires.may.context.repos) (length c.args.running.now.nodes) (stands_as c.requires.may.context c.args.action.now (actions.SetPart c.in-SetPart.repo c.in-SetPart.key c.in-SetPart.content) c.in-SetPart.is c.requires.may.stands).0 c.requires.may.repos
+
+pub place_part-requires-clause-driven : goal.place_part-requires-clause-driven
+place_part-requires-clause-driven g c = c.requires.driven
+
+pub place_part-requires-clause-small : goal.place_part-requires-clause-small
+place_part-requires-clause-small g c = short_content c.in-SetPart.content (stands_as c.requires.may.context c.args.action.now (actions.SetPart c.in-SetPart.repo c.in-SetPart.key c.in-SetPart.content) c.in-SetPart.is c.requires.may.stands).2
+
+pub returns-in-SetPart : goal.returns-in-SetPart
+returns-in-SetPart g c =
+    let tells : g.row.K.Denot → StoreView = λ k. store_view (g.K.Keeper.contents k) (g.K.Keeper.parts k) (g.K.Keeper.failing k) (g.K.Keeper.faults k) in
+    let laws : CutLaws = record { cut = c.runs_are_cut_where_histories_are_full.ensures.cut; entries = c.runs_are_cut_where_histories_are_full.ensures.entries; marks = c.runs_are_cut_where_histories_are_full.ensures.marks; tree = c.runs_are_cut_where_histories_are_full.ensures.tree } in
+    let action = actions.SetPart c.in-SetPart.repo c.in-SetPart.key c.in-SetPart.content in
+    let form = commands.Does action in
+    record {
+      ok = on_ok c.place_part.result _ _ c.place_part.ensures.ok (λ goes. as_form tells (commands.Does c.args.action.now) form c.args.running.now c.place_part.new.running (ap commands.Does c.in-SetPart.is) goes);
+      room = on_ok c.place_part.result _ _ c.place_part.ensures.room (λ room. room_asked tells c.in-SetPart.repo c.args.action.now action c.args.running.now c.in-SetPart.is refl (λ given d. refl) room);
+      full = λ r e. cut_as tells r (commands.Does c.args.action.now) form c.args.running.now c.place_part.new.running (ap commands.Does c.in-SetPart.is) (unasked_cuts tells laws c.in-SetPart.repo r form refl refl c.args.running.now c.place_part.new.running (c.place_part.ensures.full r e) c.place_part.ensures.rest);
+      stopped = on_err c.place_part.result _ _ c.place_part.ensures.stopped (λ stops. stops_as tells (commands.Does c.args.action.now) form c.args.running.now c.place_part.new.running (ap commands.Does c.in-SetPart.is) stops);
+      rest = behind c.args.running.now c.place_part.new.running c.place_part.ensures.rest;
     }
 
 pub add-requires-clause-there : goal.add-requires-clause-there
@@ -261,6 +284,31 @@ returns-in-Settle g c =
       rest = behind c.args.running.now c.settle.new.running c.settle.ensures.rest;
     }
 
+pub close-requires-clause-there : goal.close-requires-clause-there
+close-requires-clause-there g c = below_more c.in-Close.repo (length c.requires.may.context.repos) (length c.args.running.now.nodes) (stands_as c.requires.may.context c.args.action.now (actions.Close c.in-Close.repo c.in-Close.other) c.in-Close.is c.requires.may.stands).first c.requires.may.repos
+
+pub close-requires-clause-other : goal.close-requires-clause-other
+close-requires-clause-other g c = below_more c.in-Close.other (length c.requires.may.context.repos) (length c.args.running.now.nodes) (stands_as c.requires.may.context c.args.action.now (actions.Close c.in-Close.repo c.in-Close.other) c.in-Close.is c.requires.may.stands).second c.requires.may.repos
+
+pub close-requires-clause-apart : goal.close-requires-clause-apart
+close-requires-clause-apart g c = λ same. (stands_as c.requires.may.context c.args.action.now (actions.Close c.in-Close.repo c.in-Close.other) c.in-Close.is c.requires.may.stands).distinct (sym same)
+
+pub close-requires-clause-driven : goal.close-requires-clause-driven
+close-requires-clause-driven g c = c.requires.driven
+
+pub returns-in-Close : goal.returns-in-Close
+returns-in-Close g c =
+    let tells : g.row.K.Denot → StoreView = λ k. store_view (g.K.Keeper.contents k) (g.K.Keeper.parts k) (g.K.Keeper.failing k) (g.K.Keeper.faults k) in
+    let laws : CutLaws = record { cut = c.runs_are_cut_where_histories_are_full.ensures.cut; entries = c.runs_are_cut_where_histories_are_full.ensures.entries; marks = c.runs_are_cut_where_histories_are_full.ensures.marks; tree = c.runs_are_cut_where_histories_are_full.ensures.tree } in
+    let form = commands.Does (actions.Close c.in-Close.repo c.in-Close.other) in
+    record {
+      ok = on_ok c.close.result _ _ c.close.ensures.ok (λ goes. as_form tells (commands.Does c.args.action.now) form c.args.running.now c.close.new.running (ap commands.Does c.in-Close.is) goes);
+      room = on_ok c.close.result _ _ c.close.ensures.places (λ places. room_closed tells c.in-Close.repo c.in-Close.other c.args.action.now c.args.running.now c.in-Close.is places);
+      full = λ r e. cut_as tells r (commands.Does c.args.action.now) form c.args.running.now c.close.new.running (ap commands.Does c.in-Close.is) (cuts_closed tells laws r c.in-Close.repo c.in-Close.other c.args.running.now c.close.new.running (c.close.ensures.full r e) c.close.ensures.rest);
+      stopped = on_err c.close.result _ _ c.close.ensures.stopped (λ stops. stops_as tells (commands.Does c.args.action.now) form c.args.running.now c.close.new.running (ap commands.Does c.in-Close.is) stops);
+      rest = behind c.args.running.now c.close.new.running c.close.ensures.rest;
+    }
+
 pub wait-requires-clause-driven : goal.wait-requires-clause-driven
 wait-requires-clause-driven g c = c.requires.driven
 
@@ -296,7 +344,7 @@ returns-in-Fail g c =
     }
 
 pub unreachable-requires : goal.unreachable-requires
-unreachable-requires g c = never_acts c.args.action.now c.requires.may.built c.in-SetPart.is
+unreachable-requires g c = never_acts c.args.action.now c.requires.may.built c.in-Sync.is
 
 pub unreachable-unreachable : goal.unreachable-unreachable
-unreachable-unreachable g c = never_acts c.args.action.now c.requires.may.built c.in-SetPart.is
+unreachable-unreachable g c = never_acts c.args.action.now c.requires.may.built c.in-Sync.is

@@ -31,7 +31,7 @@ returns g c =
       ok = goes;
       marked = driven_marked tells c.args.command.now c.requires.may.built c.args.running.now c.mark.new.self c.runs_are_cut_where_histories_are_full.ensures.marks c.requires.driven goes;
       marks = marked_once tells c.args.command.now c.args.running.now c.mark.new.self c.runs_are_cut_where_histories_are_full.ensures.marks c.requires.driven goes;
-      within = meets_none tells c.args.command.now c.args.running.now c.do_line.new.running c.built_lines_are_plain.ensures.line c.requires.may.built c.runs_are_cut_where_histories_are_full.ensures.few c.in_ok-do_line.ensures.room c.in_ok-do_line.ensures.ok
+      within = meets_none tells c.args.command.now c.args.running.now c.do_line.new.running c.requires.may.built c.runs_are_cut_where_histories_are_full.ensures.few c.in_ok-do_line.ensures.room c.in_ok-do_line.ensures.ok
           (few_in c.running.inside.nodes c.running.inside.run c.do_line.new.running c.running.view_is c.histories_are_few.ensures);
       full = λ r e. absurd (ok_or_err _ _ e);
       stopped = tt;

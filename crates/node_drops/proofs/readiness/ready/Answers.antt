@@ -8,7 +8,7 @@ pub returns-in-Some-clause-answers : goal.returns-in-Some-clause-answers
 returns-in-Some-clause-answers c =
     let j = c.args.job.now in
     let at = sym (rw c.worker.ensures at c.in-Some.ensures) in
-    let other = awaits_other c.args.place.now j c.in-Some.peer j.known c.requires.fits at c.requires.stands in
+    let other = awaits_other c.args.place.now j c.in-Some.peer j.known c.requires.target c.requires.fits at c.requires.stands in
     heard_ok c.args.place.now c.args.clock c.args.ends.now j c.args.time c.in-Some.peer at other c.requires.slot (link_there c.args.ends.now (length c.args.place.now.ids) j.worker.slot c.in-Some.peer c.requires.count other.0 c.requires.slot)
     c.frames_wait_at_ends.ensures c.heard.result (rw (c.slot-slot.ensures, c.worker-in-Some.ensures) at c.heard.ensures.feed)
 

@@ -1,5 +1,6 @@
 -- What is sent is what the definitions send.
-use Rattle.std.proofs.Common.{[], sym, subst, ◌∙◌}
+use Rattle.std.proofs.Common.{[], sym, ap, subst, ◌∙◌}
+use Rattle.node_model.specs.Ends.{sent_at}
 use Rattle.node_ends.specs.Going.{AreAfter}
 use Rattle.node_parts.specs.Sending.{PostsOnly, pieces_in}
 use Rattle.node_parts.proofs.Posts.{with_all}
@@ -13,6 +14,10 @@ pub returns-clause-after : goal.returns-clause-after
 returns-clause-after c =
     subst (AreAfter c.args.ends.now c.post_sent-listed.new.ends c.take_from-taken.result) (sym c.from_vec.ensures)
     ((c.post_sent-listed.ensures.posted c.args.ends.now c.take_from-taken.result c.take_from-taken.ensures.posted).after)
+
+pub returns-clause-room : goal.returns-clause-room
+returns-clause-room c = λ quiet a room none.
+    (c.post_sent-listed.ensures.posted c.args.ends.now c.take_from-taken.result c.take_from-taken.ensures.posted).room quiet a room (ap (sent_at a) (sym c.from_vec.ensures) ∙ none)
 
 pub returns-clause-posts : goal.returns-clause-posts
 returns-clause-posts c =

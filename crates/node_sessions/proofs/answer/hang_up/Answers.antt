@@ -11,7 +11,7 @@ returns-clause-serves c = λ links clock number frame contents parts records fau
     let e = c.closed.ensures in
     subst (λ (p : Place). Serves links clock number (moment_of c.args.session.now c.args.table.now contents parts records faults) (moment_of c.closed.new.self c.closed.new.table contents parts records faults) (closing_at p)) (sym c.place-place.ensures)
     (hung_up links clock number c.args.session.now c.closed.new.self c.args.table.now c.closed.new.table frame contents parts records faults is w agrees fresh
-    (record { session = e.session; place = e.place; after = e.after; numbers = e.numbers; filled = e.filled; owns = e.owns; fills = e.fills; fed = e.fed; others = e.others; agrees = e.agrees }))
+    (record { session = e.session; share = e.share; place = e.place; after = e.after; numbers = e.numbers; filled = e.filled; owns = e.owns; fills = e.fills; fed = e.fed; others = e.others; agrees = e.agrees }))
 
 pub returns-clause-calls : goal.returns-clause-calls
 returns-clause-calls c = λ links clock number frame contents parts records faults failing is w.

@@ -10,7 +10,7 @@ pub returns-clause-built : goal.returns-clause-built
 returns-clause-built c = λ b.
     let p = c.args.place.now in
     let e = c.new.ensures in
-    subst (λ (l : List Session). AreBuilt p.id p.version p.locks (p.peer * 4 + p.slot + 1) l) (sym c.push_reserved.ensures.items)
+    subst (λ (l : List Session). AreBuilt p.id p.version p.locks (p.peer * 4 + p.slot + 1) l) (sym {A = List Session} c.push_reserved.ensures.items)
     (built_push p.id p.version p.locks (p.peer * 4 + p.slot) c.args.sessions.now.items c.new.result b (ap (λ (q : Place). q.peer * 4 + q.slot) e.place)
     (record {
       id_is = ap (λ (q : Place). q.id) e.place;

@@ -24,5 +24,5 @@ returns c =
       now = c.closed.new.self;
       here = slice_get_read xs (length xs) c.args.at x refl c.requires.within c.index_mut.ensures.value;
       left = refl;
-      closed = record { session = e.session; place = e.place; after = e.after; numbers = e.numbers; filled = e.filled; owns = e.owns; fills = e.fills; fed = e.fed; others = e.others; agrees = e.agrees };
+      closed = record { session = e.session; share = e.share; place = e.place; after = e.after; numbers = e.numbers; filled = e.filled; owns = e.owns; fills = e.fills; fed = e.fed; others = e.others; agrees = e.agrees };
     }

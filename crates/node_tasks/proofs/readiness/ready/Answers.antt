@@ -25,5 +25,5 @@ pub returns-in-Some-2-clause-answers : goal.returns-in-Some-2-clause-answers
 returns-in-Some-2-clause-answers c =
     let place = c.args.place.now in
     subst (λ (t : Task). Answers place c.args.clock c.args.ends.now c.args.time t (Some (Arrival c.in-Some-2.arrival))) (sym c.in-Transfers.is)
-    (transfer_answers place c.args.clock c.args.ends.now c.args.time c.in-Transfers.worker (Some c.in-Some-2.arrival)
-    (subst (transfers.Answers place.number (length place.ids) c.args.ends.now c.in-Transfers.worker) c.in-Some-2.is (rw (c.number.ensures.same, c.count.ensures.count) at c.in_ok-arrival-in-Transfers.ensures.answers)))
+    (transfer_answers place c.args.clock c.args.ends.now c.args.time c.in-Transfers.job (Some c.in-Some-2.arrival)
+    (subst (transfers.Answers place.number (length place.ids) c.args.ends.now c.in-Transfers.job.worker) c.in-Some-2.is (rw (c.number.ensures.same, c.count.ensures.count) at c.in_ok-arrival-in-Transfers.ensures.answers)))

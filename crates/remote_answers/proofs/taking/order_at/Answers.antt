@@ -9,6 +9,8 @@ use Rattle.remote_requests.proofs.RemoteLeavings.{spoken_well}
 use Rattle.remote_answers.proofs.TimeCalls.{order_makes}
 use Rattle.remote_answers.proofs.Feedings.{speaks_did}
 use Rattle.remote_answers.proofs.Timing.{order_plain, order_speaks, order_takes}
+use Rattle.remote_requests.proofs.RemoteBegun.{order_gone}
+use Rattle.remote_requests.proofs.Apart.{order_stays}
 use Rattle.remote_answers.proofs.taking.order_at.Goals as goal
 
 pub returns-in-None-clause-did : goal.returns-in-None-clause-did
@@ -33,3 +35,11 @@ returns-in-None-clause-calls g c = λ number.
     c.requires.early (sym c.in-None.is ∙ c.in_ok-locks_end.ensures) (λ t f clocks time. refl)
     (spoken_well c.args.worker.now c.order.new.worker c.order.result (IfOk-weaker c.order.result (Says (order_of (g.H.Here.reading c.args.here.now).need c.args.worker.now c.args.target None) c.args.target c.args.worker.now c.order.new.worker) (Speaks c.args.worker.now c.order.new.worker) (λ out s. order_speaks (g.H.Here.reading c.args.here.now) c.args.worker.now c.order.new.worker c.args.target None out s)
     c.order.ensures.says))
+
+pub returns-in-None-clause-begun : goal.returns-in-None-clause-begun
+returns-in-None-clause-begun g c =
+    order_gone (g.H.Here.reading c.args.here.now).need c.args.worker.now c.order.new.worker c.args.target None c.order.result c.order.ensures.says
+
+pub returns-in-None-clause-apart : goal.returns-in-None-clause-apart
+returns-in-None-clause-apart g c =
+    order_stays c.args.target (g.H.Here.reading c.args.here.now).need c.args.worker.now c.order.new.worker None c.order.result c.order.ensures.says

@@ -12,6 +12,8 @@ use Rattle.remote_answers.proofs.TimeCalls.{expired_makes, order_makes, timed_no
 use Rattle.remote_answers.proofs.Feedings.{speaks_did}
 use Rattle.remote_requests.proofs.RemoteLeavings.{remote_did_as}
 use Rattle.remote_answers.proofs.Timing.{late_takes, order_speaks, order_takes, order_timed}
+use Rattle.remote_requests.proofs.RemoteBegun.{order_gone, timed_gone}
+use Rattle.remote_requests.proofs.Apart.{end_stays, order_stays}
 use Rattle.remote_answers.proofs.taking.order_before.Goals as goal
 
 pub returns-in-Ok-clause-did : goal.returns-in-Ok-clause-did
@@ -54,3 +56,17 @@ pub returns-in-Err-clause-calls : goal.returns-in-Err-clause-calls
 returns-in-Err-clause-calls g c = λ number.
     expired_makes (g.H.Here.reading c.args.here.now) (g.H.Here.ends c.args.here.now) c.args.time number c.args.table.now c.args.worker.now c.args.target c.args.now c.requires.stands.remote c.requires.at c.clock-clock.result c.args.end (g.K.Keeper.failing c.args.keeper.now) (g.K.Keeper.failing c.finish.new.keeper) c.finish.result
     c.requires.early c.requires.known c.clock-clock.ensures.same c.in-Err.ensures.told.0 c.finish.ensures.calls
+
+pub returns-in-Ok-clause-begun : goal.returns-in-Ok-clause-begun
+returns-in-Ok-clause-begun g c =
+    order_gone (g.H.Here.reading c.args.here.now).need c.args.worker.now c.order.new.worker c.args.target (Some c.in-Ok.before) c.order.result c.order.ensures.says
+
+pub returns-in-Err-clause-begun : goal.returns-in-Err-clause-begun
+returns-in-Err-clause-begun g c = timed_gone c.args.worker.now c.finish.new.worker c.args.target c.finish.result c.requires.at c.requires.stands.fits c.finish.ensures.begun
+
+pub returns-in-Ok-clause-apart : goal.returns-in-Ok-clause-apart
+returns-in-Ok-clause-apart g c =
+    order_stays c.args.target (g.H.Here.reading c.args.here.now).need c.args.worker.now c.order.new.worker (Some c.in-Ok.before) c.order.result c.order.ensures.says
+
+pub returns-in-Err-clause-apart : goal.returns-in-Err-clause-apart
+returns-in-Err-clause-apart g c = end_stays c.args.target c.args.worker.now c.finish.new.worker c.finish.result c.finish.ensures.apart

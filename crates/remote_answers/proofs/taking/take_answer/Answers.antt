@@ -7,6 +7,8 @@ use Rattle.remote_requests.specs.Remote.{ShutsRemote}
 use Rattle.drop_phases.specs.Working.{turn_in}
 use Rattle.remote_answers.proofs.Losses.{lost_does, orders_else, shuts_speaks}
 use Rattle.drop_phases.proofs.Words.{if_all}
+use Rattle.remote_requests.proofs.RemoteBegun.{shuts_gone}
+use Rattle.remote_requests.proofs.Apart.{answers_stay, shuts_stays}
 use Rattle.remote_answers.proofs.taking.take_answer.Goals as goal
 
 pub returns-in_default : goal.returns-in_default
@@ -19,5 +21,7 @@ returns-in_default c =
       obeyed = if_all c.shut.result (c.args.message.now ≡ messages.Success → c.shut.new.worker.word ≡ c.args.word) (λ is. absurd (c.in_default.not-Success is));
       denied = if_all c.shut.result (c.args.message.now ≡ messages.Failure → c.shut.new.worker.word ≡ c.args.word) (λ is. absurd (c.in_default.not-Failure is));
       speaks = shuts_speaks w c.shut.new.worker c.args.target c.args.target c.shut.result c.shut.ensures.shuts;
+      begun = shuts_gone w c.shut.new.worker c.args.target c.args.target c.shut.result c.shut.ensures.shuts;
+      apart = shuts_stays c.args.target c.args.target w c.shut.new.worker c.shut.result c.shut.ensures.shuts;
       err = c.shut.ensures.err;
     }

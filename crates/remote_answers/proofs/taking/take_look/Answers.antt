@@ -10,6 +10,8 @@ use Rattle.remote_requests.specs.Remote.{ShutsRemote}
 use Rattle.drop_phases.specs.Working.{turn_in}
 use Rattle.remote_answers.proofs.Losses.{lost_does, shuts_speaks}
 use Rattle.drop_phases.proofs.Unexpected.{look_else}
+use Rattle.remote_requests.proofs.RemoteBegun.{shuts_gone}
+use Rattle.remote_requests.proofs.Apart.{hears_of, shuts_stays}
 use Rattle.remote_answers.proofs.taking.take_look.Goals as goal
 
 pub returns-in_default : goal.returns-in_default
@@ -21,5 +23,7 @@ returns-in_default c =
           (λ rest. rw c.requires.at (sym (look_else (turn_in x rows p None rest w) f c.args.peer c.args.peer c.args.message.now c.in_default.not-Success c.in_default.not-Failure)))) c.shut.ensures.shuts;
       word = if_all c.shut.result (KeepsWord (takens.Message c.args.message.now) c.args.word w c.shut.new.worker) (λ p at is. absurd (c.in_default.not-Failure (same_message c.args.message.now messages.Failure is)));
       speaks = shuts_speaks w c.shut.new.worker c.args.target c.args.peer c.shut.result c.shut.ensures.shuts;
+      begun = shuts_gone w c.shut.new.worker c.args.target c.args.peer c.shut.result c.shut.ensures.shuts;
+      apart = shuts_stays c.args.target c.args.peer w c.shut.new.worker c.shut.result c.shut.ensures.shuts;
       err = c.shut.ensures.err;
     }

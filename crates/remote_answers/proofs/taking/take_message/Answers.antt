@@ -12,6 +12,7 @@ use Rattle.remote_requests.proofs.RemoteLeavings.{spoken_well}
 use Rattle.drop_phases.proofs.FrameCalls.{IsTime, spoken_makes}
 use Rattle.remote_answers.proofs.Feedings.{asked_peer, at_rows, ordered_peer, speaks_did, takes_so}
 use Rattle.remote_requests.proofs.RemoteLeavings.{speaks_numbered}
+use Rattle.drop_phases.specs.Begun.{GoesWith}
 use Rattle.remote_answers.proofs.taking.take_message.Goals as goal
 
 pub returns-in-Opens-clause-did : goal.returns-in-Opens-clause-did
@@ -112,3 +113,11 @@ returns-in-AsksTime-clause-calls g c = λ number.
     subst (λ (q : ℕ). MakesFed (sight (g.H.Here.reading c.args.here.now) (g.H.Here.ends c.args.here.now) c.args.input.now.time number) c.args.table.now c.args.worker.now q (takens.Message c.args.message.now) (g.K.Keeper.failing c.args.keeper.now)
     (g.K.Keeper.failing c.take_time.new.keeper) c.take_time.result)
     (asked_peer c.args.worker.now c.args.target c.args.peer c.requires.stands.remote.peer (sym c.phase.ensures ∙ c.in-AsksTime.is) c.requires.awaits) (c.take_time.ensures.calls number)
+
+pub returns-in-AsksTime-clause-begun : goal.returns-in-AsksTime-clause-begun
+returns-in-AsksTime-clause-begun g c =
+    subst (λ (q : ℕ). IfOk c.take_time.result (GoesWith q c.args.worker.now c.take_time.new.worker)) (asked_peer c.args.worker.now c.args.target c.args.peer c.requires.stands.remote.peer (sym c.phase.ensures ∙ c.in-AsksTime.is) c.requires.awaits) c.take_time.ensures.begun
+
+pub returns-in-Orders-clause-begun : goal.returns-in-Orders-clause-begun
+returns-in-Orders-clause-begun g c =
+    subst (λ (q : ℕ). IfOk c.take_answer.result (GoesWith q c.args.worker.now c.take_answer.new.worker)) (ordered_peer c.args.worker.now c.args.target c.args.peer c.requires.stands.remote.peer (sym c.phase.ensures ∙ c.in-Orders.is) c.requires.awaits) c.take_answer.ensures.begun

@@ -6,6 +6,8 @@ use Rattle.remote_requests.specs.Remote.{ShutsRemote}
 use Rattle.drop_phases.specs.Working.{turn_in}
 use Rattle.remote_answers.proofs.Losses.{lost_does, shuts_speaks}
 use Rattle.drop_phases.proofs.Unexpected.{opens_else}
+use Rattle.remote_requests.proofs.RemoteBegun.{shuts_gone}
+use Rattle.remote_requests.proofs.Apart.{asks_on, shuts_stays}
 use Rattle.remote_answers.proofs.taking.take_opened.Goals as goal
 
 pub returns-in_default : goal.returns-in_default
@@ -16,5 +18,7 @@ returns-in_default c =
           lost_does x rows p w c.shut.new.worker f c.args.target c.args.peer c.args.message.now out c.requires.remote is comes (λ rest. rw c.requires.at refl) (rw c.requires.at refl)
           (λ rest. rw c.requires.at (sym (opens_else (turn_in x rows p None rest w) f c.args.peer c.args.peer c.args.message.now refl c.in_default.not-AuthSuccess)))) c.shut.ensures.shuts;
       speaks = shuts_speaks w c.shut.new.worker c.args.target c.args.peer c.shut.result c.shut.ensures.shuts;
+      begun = shuts_gone w c.shut.new.worker c.args.target c.args.peer c.shut.result c.shut.ensures.shuts;
+      apart = shuts_stays c.args.target c.args.peer w c.shut.new.worker c.shut.result c.shut.ensures.shuts;
       err = c.shut.ensures.err;
     }

@@ -9,6 +9,8 @@ use Rattle.remote_requests.proofs.RemoteLeavings.{spoken_well}
 use Rattle.drop_phases.proofs.FrameCalls.{IsTime, spoken_makes, time_other}
 use Rattle.remote_answers.proofs.Feedings.{at_rows, lost_takes, speaks_did, time_else}
 use Rattle.remote_answers.proofs.Losses.{shuts_speaks}
+use Rattle.remote_requests.proofs.RemoteBegun.{shuts_gone}
+use Rattle.remote_requests.proofs.Apart.{shuts_stays}
 use Rattle.remote_answers.proofs.taking.take_time.Goals as goal
 
 pub returns-in-Timestamp-clause-did : goal.returns-in-Timestamp-clause-did
@@ -37,3 +39,9 @@ returns-in_default-clause-calls g c = λ number.
     spoken_makes (sight (g.H.Here.reading c.args.here.now) (g.H.Here.ends c.args.here.now) c.args.time number) c.args.table.now c.args.worker.now c.args.target c.args.message.now (g.K.Keeper.failing c.args.keeper.now) c.shut.result
     (spoken_well c.args.worker.now c.shut.new.worker c.shut.result (shuts_speaks c.args.worker.now c.shut.new.worker c.args.target c.args.target c.shut.result c.shut.ensures.shuts))
     (λ time. time_other c.args.message.now c.in_default.not-Timestamp (subst (λ (ph : Phase). IsTime ph c.args.message.now) c.requires.at time))
+
+pub returns-in_default-clause-begun : goal.returns-in_default-clause-begun
+returns-in_default-clause-begun g c = shuts_gone c.args.worker.now c.shut.new.worker c.args.target c.args.target c.shut.result c.shut.ensures.shuts
+
+pub returns-in_default-clause-apart : goal.returns-in_default-clause-apart
+returns-in_default-clause-apart g c = shuts_stays c.args.target c.args.target c.args.worker.now c.shut.new.worker c.shut.result c.shut.ensures.shuts

@@ -9,6 +9,8 @@ use Rattle.remote_answers.proofs.TimeCalls.{untold_makes}
 use Rattle.remote_answers.proofs.Feedings.{at_rows, lost_takes, speaks_did}
 use Rattle.remote_answers.proofs.Losses.{shuts_speaks}
 use Rattle.remote_answers.proofs.Timing.{no_time}
+use Rattle.remote_requests.proofs.RemoteBegun.{shuts_gone}
+use Rattle.remote_requests.proofs.Apart.{shuts_stays}
 use Rattle.remote_answers.proofs.taking.take_timestamp.Goals as goal
 
 pub returns-then-now-ge-NO_TIME-clause-did : goal.returns-then-now-ge-NO_TIME-clause-did
@@ -30,3 +32,9 @@ pub returns-then-now-ge-NO_TIME-clause-calls : goal.returns-then-now-ge-NO_TIME-
 returns-then-now-ge-NO_TIME-clause-calls g c = λ number.
     untold_makes (g.H.Here.reading c.args.here.now) (g.H.Here.ends c.args.here.now) c.args.time number c.args.table.now c.args.worker.now c.args.target c.args.now c.requires.stands.remote c.requires.at (g.K.Keeper.failing c.args.keeper.now) c.shut.result
     c.if-now-ge-NO_TIME.true (spoken_well c.args.worker.now c.shut.new.worker c.shut.result (shuts_speaks c.args.worker.now c.shut.new.worker c.args.target c.args.target c.shut.result c.shut.ensures.shuts))
+
+pub returns-then-now-ge-NO_TIME-clause-begun : goal.returns-then-now-ge-NO_TIME-clause-begun
+returns-then-now-ge-NO_TIME-clause-begun g c = shuts_gone c.args.worker.now c.shut.new.worker c.args.target c.args.target c.shut.result c.shut.ensures.shuts
+
+pub returns-then-now-ge-NO_TIME-clause-apart : goal.returns-then-now-ge-NO_TIME-clause-apart
+returns-then-now-ge-NO_TIME-clause-apart g c = shuts_stays c.args.target c.args.target c.args.worker.now c.shut.new.worker c.shut.result c.shut.ensures.shuts

@@ -7,6 +7,8 @@ use Rattle.remote_answers.proofs.Feedings.{lost_takes}
 use Rattle.drop_phases.proofs.Greetings.{learns_else}
 use Rattle.remote_answers.proofs.Losses.{shuts_speaks}
 use Rattle.drop_phases.proofs.Unexpected.{greets_else}
+use Rattle.remote_requests.proofs.RemoteBegun.{shuts_gone}
+use Rattle.remote_requests.proofs.Apart.{shuts_stays}
 use Rattle.remote_answers.proofs.taking.take_version.Goals as goal
 
 pub returns-in-Version-clause-does : goal.returns-in-Version-clause-does
@@ -21,5 +23,7 @@ returns-in_default g c =
           (rw c.requires.at refl)
           (λ x rows p rest f. rw c.requires.at (sym (greets_else (turn_in x rows p None rest w) f c.args.peer c.args.peer c.args.message.now refl c.in_default.not-Version)));
       speaks = shuts_speaks w c.shut.new.worker c.args.target c.args.peer c.shut.result c.shut.ensures.shuts;
+      begun = shuts_gone w c.shut.new.worker c.args.target c.args.peer c.shut.result c.shut.ensures.shuts;
+      apart = shuts_stays c.args.target c.args.peer w c.shut.new.worker c.shut.result c.shut.ensures.shuts;
       err = c.shut.ensures.err;
     }

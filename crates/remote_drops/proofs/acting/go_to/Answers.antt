@@ -1,6 +1,8 @@
 -- The first request on an open connection.
 use Rattle.std.proofs.Common.{refl, sym, ◌∙◌}
 use Rattle.remote_requests.proofs.Requesting.{request_acts, request_speaks}
+use Rattle.remote_requests.proofs.RemoteBegun.{request_gone}
+use Rattle.remote_requests.proofs.Apart.{opens_stay, request_stays}
 use Rattle.remote_drops.proofs.acting.go_to.Goals as goal
 
 pub returns-clause-does : goal.returns-clause-does
@@ -15,3 +17,11 @@ returns-clause-does g c =
 pub returns-clause-speaks : goal.returns-clause-speaks
 returns-clause-speaks g c =
     request_speaks (g.H.Here.reading c.args.here.now).need c.args.worker.now c.request.new.worker c.args.target c.args.time c.args.peer c.version-version.result c.args.end c.request.result c.request.ensures.says
+
+pub returns-clause-begun : goal.returns-clause-begun
+returns-clause-begun g c =
+    request_gone (g.H.Here.reading c.args.here.now) (g.H.Here.reading c.args.here.now).need c.args.worker.now c.request.new.worker c.args.target c.args.time c.args.peer c.version-version.result c.args.end c.request.result c.requires.other c.request.ensures.says
+
+pub returns-clause-apart : goal.returns-clause-apart
+returns-clause-apart g c =
+    request_stays c.args.target c.args.time c.args.peer c.version-version.result (g.H.Here.reading c.args.here.now).need c.args.worker.now c.request.new.worker c.args.end c.request.result c.request.ensures.says

@@ -4,11 +4,14 @@ use Rattle.run_data.specs.declared.entry.EntryKind.TheVariants.{End}
 use Rattle.node_model.specs.Look.{failed_in}
 use Rattle.drop_phases.specs.declared.phase.Token.{Token}
 use Rattle.drop_phases.specs.Doing.{HasToken}
+use Rattle.drop_phases.specs.Feeding.{IsBare}
 use Rattle.drop_phases.specs.Leaving.{store}
 use Rattle.drop_phases.specs.Worker.{Worker}
 use Rattle.drop_phases.specs.Working.{partings}
 use Rattle.drop_phases.specs.declared.turn.Output.{Output}
+use Rattle.remote_requests.proofs.Apart.{ends_apart, unreleased_apart}
 use Rattle.remote_requests.proofs.EndCalls.{bare_makes, lost_makes, released_makes, unreleased_makes}
+use Rattle.remote_requests.proofs.RemoteBegun.{ends_gone, unreleased_gone}
 use Rattle.remote_requests.proofs.RemoteEndings.{agrees_still, bare_did, failed_did, lost_did, released_did}
 use Rattle.remote_requests.proofs.ending.finish.Goals as goal
 
@@ -77,3 +80,51 @@ pub returns-in-Err-clause-calls : goal.returns-in-Err-clause-calls
 returns-in-Err-clause-calls g c =
     unreleased_makes c.args.table.now c.args.worker.now c.args.outcome c.unreleased.result (g.K.Keeper.failing c.args.keeper.now) (g.K.Keeper.failing c.release.new.keeper) c.in-Share.share
     (subst (λ (t : Token). HasToken c.args.worker.now.number c.args.worker.now.job.key t c.args.table.now) (sym c.take_token.ensures.token ∙ c.in-Share.is) c.requires.owns) (sym c.is_lost-lost.ensures ∙ c.if-lost.false) (ap failed_in c.unreleased.ensures.does.kind) c.in-Err.ensures.failing
+
+pub returns-in-Nothing-clause-begun : goal.returns-in-Nothing-clause-begun
+returns-in-Nothing-clause-begun g c =
+    ends_gone c.args.worker.now c.take_token.new.self c.args.outcome c.in_ok-sends.sends c.ending.result
+    (c.ending.ensures ∙ (λ i. record { kind = End ((c.number.ensures ∙ ap (λ (u : Worker). u.number) c.take_token.ensures.bare) i) c.args.outcome; sends = c.in_ok-sends.sends; ended = true })) c.take_token.ensures.bare
+
+pub returns-then-lost-clause-begun : goal.returns-then-lost-clause-begun
+returns-then-lost-clause-begun g c =
+    ends_gone c.args.worker.now c.take_token.new.self c.args.outcome c.in_ok-sends.sends c.ending-then-lost.result
+    (c.ending-then-lost.ensures ∙ (λ i. record { kind = End ((c.number-then-lost.ensures ∙ ap (λ (u : Worker). u.number) c.take_token.ensures.bare) i) c.args.outcome; sends = c.in_ok-sends.sends; ended = true })) c.take_token.ensures.bare
+
+pub returns-in-Ok-clause-begun : goal.returns-in-Ok-clause-begun
+returns-in-Ok-clause-begun g c =
+    ends_gone c.args.worker.now c.take_token.new.self c.args.outcome c.in_ok-sends.sends c.ending-in-Ok.result
+    (c.ending-in-Ok.ensures ∙ (λ i. record { kind = End ((c.number-in-Ok.ensures ∙ ap (λ (u : Worker). u.number) c.take_token.ensures.bare) i) c.args.outcome; sends = c.in_ok-sends.sends; ended = true })) c.take_token.ensures.bare
+
+pub returns-in-Err-clause-begun : goal.returns-in-Err-clause-begun
+returns-in-Err-clause-begun g c =
+    unreleased_gone c.args.time c.args.worker.now c.take_token.new.self c.unreleased.new.worker c.in-Share.share c.unreleased.result (sym c.take_token.ensures.token ∙ c.in-Share.is) c.take_token.ensures.bare c.unreleased.ensures.does
+
+pub returns-in-Nothing-clause-ended : goal.returns-in-Nothing-clause-ended
+returns-in-Nothing-clause-ended g c = λ _. ap (λ (o : Output). o.ended) c.ending.ensures
+
+pub returns-then-lost-clause-ended : goal.returns-then-lost-clause-ended
+returns-then-lost-clause-ended g c = λ _. ap (λ (o : Output). o.ended) c.ending-then-lost.ensures
+
+pub returns-in-Ok-clause-ended : goal.returns-in-Ok-clause-ended
+returns-in-Ok-clause-ended g c = λ _. ap (λ (o : Output). o.ended) c.ending-in-Ok.ensures
+
+pub returns-in-Err-clause-ended : goal.returns-in-Err-clause-ended
+returns-in-Err-clause-ended g c = λ bare. absurd (subst (λ (t : Token). IsBare t) (sym c.take_token.ensures.token ∙ c.in-Share.is) bare)
+
+pub returns-in-Nothing-clause-apart : goal.returns-in-Nothing-clause-apart
+returns-in-Nothing-clause-apart g c = λ target own apart.
+    ends_apart own target c.args.worker.now c.take_token.new.self c.ending.result (ap (λ (o : Output). o.ended) c.ending.ensures) (ap (λ (u : Worker). u.word) c.take_token.ensures.bare)
+
+pub returns-then-lost-clause-apart : goal.returns-then-lost-clause-apart
+returns-then-lost-clause-apart g c = λ target own apart.
+    ends_apart own target c.args.worker.now c.take_token.new.self c.ending-then-lost.result (ap (λ (o : Output). o.ended) c.ending-then-lost.ensures) (ap (λ (u : Worker). u.word) c.take_token.ensures.bare)
+
+pub returns-in-Ok-clause-apart : goal.returns-in-Ok-clause-apart
+returns-in-Ok-clause-apart g c = λ target own apart.
+    ends_apart own target c.args.worker.now c.take_token.new.self c.ending-in-Ok.result (ap (λ (o : Output). o.ended) c.ending-in-Ok.ensures) (ap (λ (u : Worker). u.word) c.take_token.ensures.bare)
+
+pub returns-in-Err-clause-apart : goal.returns-in-Err-clause-apart
+returns-in-Err-clause-apart g c = λ target own apart.
+    unreleased_apart own target c.args.time c.args.worker.now c.take_token.new.self c.unreleased.new.worker c.unreleased.result (ap (λ (u : Worker). u.heard) c.take_token.ensures.bare)
+    (ap (λ (u : Worker). u.phase) c.take_token.ensures.bare) (ap (λ (u : Worker). u.word) c.take_token.ensures.bare) apart c.unreleased.ensures.does

@@ -7,15 +7,16 @@ use Rattle.content_lock.specs.Rows.{is_filling}
 use Rattle.node_tasks.specs.declared.task.Task.{Task}
 use Rattle.running_jobs.specs.Ending.{CanEnd}
 use Rattle.running_jobs.specs.Running.{fills_at}
-use Rattle.running_jobs.proofs.Ends.{last_local, last_owns, others_keep, rest_can, rest_filled}
+use Rattle.running_jobs.proofs.Ends.{last_owns, others_keep, rest_can, rest_filled}
 use Rattle.running_jobs.proofs.listing.end_all.Goals as goal
 
 pub ending-init : goal.ending-init
 ending-init c =
     record {
-      left = c.requires.spent;
+      left = c.requires;
       among = Each-from_members (λ (t : Task). Member t c.args.running.now.items) c.args.running.now.items (λ y here. here);
-      holds = refl;
+      labels = refl;
+      crash = λ clock. refl;
       fills = λ key. refl;
       others = λ job key token apart mine. mine;
     }
@@ -24,7 +25,7 @@ pub end-requires : goal.end-requires
 end-requires c =
     let front = c.pop.new.self.items in
     let can = subst (CanEnd c.ending.table) c.in-Some.ensures.items c.ending.invariant.left in
-    record { owns = last_owns c.ending.table front c.in-Some.task can; local = last_local c.ending.table front c.in-Some.task can }
+    record { owns = last_owns c.ending.table front c.in-Some.task can }
 
 pub ending-preserved : goal.ending-preserved
 ending-preserved c =
@@ -37,7 +38,8 @@ ending-preserved c =
     record {
       left = rest_can c.ending.table c.end.new.table front x can c.end.ensures.others c.end.ensures.fills;
       among = Each-left (λ (t : Task). Member t all) front (x ∷ []) among;
-      holds = c.end.ensures.holds ∙ c.ending.invariant.holds;
+      labels = c.end.ensures.labels ∙ c.ending.invariant.labels;
+      crash = λ clock. c.end.ensures.crash clock ∙ c.ending.invariant.crash clock;
       fills = λ key. rest_filled c.ending.table c.end.new.table front x can c.end.ensures.others c.end.ensures.fills key
           ∙ (ap (λ (ts : List Task). not (fills_at ts key) && is_filling c.ending.table key) (sym was) ∙ c.ending.invariant.fills key);
       others = others_keep all c.args.table.now c.ending.table c.end.new.table x (Each-right (λ (t : Task). Member t all) front (x ∷ []) among).0 c.ending.invariant.others c.end.ensures.others;

@@ -63,7 +63,8 @@ returns-clause-step g c =
     subst (λ (p : PartsView). ForSome (g.K.Keeper.contents c.args.keeper.now) (λ x. Serves p now x known contents m.clock m.time m.number c.serve_if.result)) c.self.view_is
     (step_of c.sessions_and_jobs_fill.ensures c.ends_go_on.ensures.ends c.sessions_of_closed_ends_are_new.ensures c.jobs_stay.ensures c.sessions_make_their_own_entries.ensures
     was now c.step.new.ends (g.K.Keeper.contents c.args.keeper.now) contents known m.clock m.time m.number c.read-shows.result
-    c.in_ok-served.served c.serve_if.result c.self.invariant refl e.same c.read-shows.ensures.same e.step e.serves c.serve_if.ensures.made e.after c.serve_if.ensures.after e.idle)
+    c.in_ok-served.served c.serve_if.result c.self.invariant refl e.same c.read-shows.ensures.same e.step e.serves c.serve_if.ensures.made e.after c.serve_if.ensures.after e.idle
+    c.stamp_at-stamp.result c.serve_if.ensures.posts)
 
 pub returns-clause-asked : goal.returns-clause-asked
 returns-clause-asked g c = λ q told fed.

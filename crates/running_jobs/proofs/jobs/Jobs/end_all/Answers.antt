@@ -7,7 +7,7 @@ use Rattle.running_jobs.proofs.Ends.{can_end, fills_none, owns_none}
 use Rattle.running_jobs.proofs.jobs.Jobs.end_all.Goals as goal
 
 pub end_all-requires : goal.end_all-requires
-end_all-requires c = record { spent = subst (λ (js : Jobs). CanEnd c.args.table.now js.running) (sym c.self.view_is) (can_end c.args.self.now c.args.table.now c.requires.owns) }
+end_all-requires c = subst (λ (js : Jobs). CanEnd c.args.table.now js.running) (sym c.self.view_is) (can_end c.args.self.now c.args.table.now c.requires.owns)
 
 pub returns-clause-owns : goal.returns-clause-owns
 returns-clause-owns c =

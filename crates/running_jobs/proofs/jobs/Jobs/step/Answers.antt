@@ -1,6 +1,7 @@
 -- The first job that has a step.
 use Rattle.std.proofs.Common.{◌≡◌, ◌*◌, length, Option, Some, None, refl, sym, ap, subst}
 use Rattle.std.specs.Option.{option_map}
+use Rattle.std.proofs.lemmas.Option.{same_Some}
 use Rattle.annex_base.specs.Lists.{Each}
 use Rattle.annex_base.proofs.Lists.{Each-weaker}
 use Rattle.annex_base.proofs.Options.{none_and_some}
@@ -8,15 +9,17 @@ use Rattle.annex_base.proofs.Results.{OnErr-always}
 use Rattle.trust_groups.specs.View.{settings_of}
 use Rattle.node_model.specs.Look.{as_told}
 use Rattle.node_model.specs.Turns.{job_step}
+use Rattle.drop_phases.specs.Sides.{IsNumbered}
 use Rattle.transfer_turns.specs.Steps.{seen}
 use Rattle.node_tasks.specs.Tasks.{OwnsOf}
+use Rattle.running_jobs.specs.declared.acted.Acted.{Acted}
 use Rattle.running_jobs.specs.declared.finding.Found.{Found}
 use Rattle.running_jobs.specs.Acting.{SeesActed, SeesJobs, StepsJobs}
 use Rattle.running_jobs.specs.Finding.{Finds}
 use Rattle.running_jobs.specs.Leaving.{Leaves}
 use Rattle.running_jobs.specs.Running.{IsOwn, Jobs, OwnAll}
-use Rattle.running_jobs.proofs.Owning.{leaves_after, owns_after}
-use Rattle.running_jobs.proofs.Staying.{owns_still, stays_as, stays_here}
+use Rattle.running_jobs.proofs.Owning.{agrees_after, leaves_after, numbers_after, numbers_still, owns_after}
+use Rattle.running_jobs.proofs.Staying.{agrees_still, owns_still, stays_as, stays_here}
 use Rattle.running_jobs.proofs.Stepping.{calls_so, none_steps, sees_each, steps_jobs}
 use Rattle.running_jobs.proofs.jobs.Jobs.step.Goals as goal
 
@@ -119,3 +122,39 @@ returns-in_err-acted-clause-owns g c =
     let kept' = seen (g.K.Keeper.contents now) (g.K.Keeper.parts now) (g.K.Keeper.records now) (g.K.Keeper.files now) (g.K.Keeper.faults now) (g.K.Keeper.failing now) in
     owns_still (record { place = c.self.inside.place; running = c.self.inside.running.items; begun = c.self.inside.begun }) c.args.self.now c.turn.new.running.items c.args.table.now c.turn.new.table kept kept' c.self.view_is c.in_err-acted.ensures.err
     c.requires.owns
+
+pub returns-clause-agrees : goal.returns-clause-agrees
+returns-clause-agrees g c =
+    let jobs : Jobs = record { place = c.self.inside.place; running = c.self.inside.running.items; begun = c.self.inside.begun } in
+    let was = c.args.keeper.now in
+    let now = c.turn.new.keeper in
+    let kept = seen (g.K.Keeper.contents was) (g.K.Keeper.parts was) (g.K.Keeper.records was) (g.K.Keeper.files was) (g.K.Keeper.faults was) (g.K.Keeper.failing was) in
+    let kept' = seen (g.K.Keeper.contents now) (g.K.Keeper.parts now) (g.K.Keeper.records now) (g.K.Keeper.files now) (g.K.Keeper.faults now) (g.K.Keeper.failing now) in
+    agrees_after c.args.ends.now c.args.clock (settings_of c.args.settings.now) jobs c.args.number c.args.time c.in-Some.found c.args.table.now c.turn.new.table kept kept' c.turn.new.running.items c.in_ok-acted.acted
+    (subst (λ (js : Jobs). OwnAll js c.args.table.now) (sym c.self.view_is) c.requires.owns) (rw c.find_ready.ensures.same at c.in_ok-acted.ensures.changes) c.requires.agrees
+
+pub returns-clause-numbered : goal.returns-clause-numbered
+returns-clause-numbered g c = λ x is.
+    let same : c.in_ok-acted.acted ≡ x = same_Some c.in_ok-acted.acted x is in
+    subst (λ (a : Acted). IsNumbered c.args.number a.kind) same c.in_ok-acted.ensures.changes.leaves.numbered
+
+pub returns-in_err-acted-clause-agrees : goal.returns-in_err-acted-clause-agrees
+returns-in_err-acted-clause-agrees g c =
+    let was = c.args.keeper.now in
+    let now = c.turn.new.keeper in
+    let kept = seen (g.K.Keeper.contents was) (g.K.Keeper.parts was) (g.K.Keeper.records was) (g.K.Keeper.files was) (g.K.Keeper.faults was) (g.K.Keeper.failing was) in
+    let kept' = seen (g.K.Keeper.contents now) (g.K.Keeper.parts now) (g.K.Keeper.records now) (g.K.Keeper.files now) (g.K.Keeper.faults now) (g.K.Keeper.failing now) in
+    agrees_still c.self.inside.running.items c.turn.new.running.items c.args.table.now c.turn.new.table kept kept' c.in_err-acted.ensures.err c.requires.agrees
+
+pub returns-in_default-clause-numbers : goal.returns-in_default-clause-numbers
+returns-in_default-clause-numbers g c = numbers_still c.holds_are_numbered.ensures c.args.number c.args.table.now c.requires.fresh
+
+pub returns-clause-numbers : goal.returns-clause-numbers
+returns-clause-numbers g c =
+    let jobs : Jobs = record { place = c.self.inside.place; running = c.self.inside.running.items; begun = c.self.inside.begun } in
+    let was = c.args.keeper.now in
+    let now = c.turn.new.keeper in
+    let kept = seen (g.K.Keeper.contents was) (g.K.Keeper.parts was) (g.K.Keeper.records was) (g.K.Keeper.files was) (g.K.Keeper.faults was) (g.K.Keeper.failing was) in
+    let kept' = seen (g.K.Keeper.contents now) (g.K.Keeper.parts now) (g.K.Keeper.records now) (g.K.Keeper.files now) (g.K.Keeper.faults now) (g.K.Keeper.failing now) in
+    numbers_after c.args.ends.now c.args.clock (settings_of c.args.settings.now) jobs c.args.number c.args.time c.in-Some.found c.args.table.now c.turn.new.table kept kept' c.turn.new.running.items c.in_ok-acted.acted
+    (subst (λ (js : Jobs). OwnAll js c.args.table.now) (sym c.self.view_is) c.requires.owns) (rw c.find_ready.ensures.same at c.in_ok-acted.ensures.changes) c.holds_are_numbered.ensures c.requires.fresh

@@ -2,13 +2,14 @@
 use Rattle.std.proofs.Common.{◌≡◌, ℕ, ◌+◌, ◌<◌, ◌^◌, ◌==◌, Bool, not, if◌then◌else◌, ◌∷◌, filter, map, sym, ap, subst, ◌∙◌, arith}
 use Rattle.annex_base.specs.Lists.{Each}
 use Rattle.annex_base.proofs.Lists.{Each-filter, Each-weaker}
+use Rattle.node_model.specs.Around.{around}
 use Rattle.node_model.specs.Jobs as jobs
 use Rattle.node_model.specs.Jobs.{work_after}
 use Rattle.state_jobs.specs.Around.{AreRows}
 use Rattle.state_jobs.specs.Phases.{IsBelow}
 use Rattle.state_jobs.specs.Works.{work_of}
 use Rattle.state_jobs.specs.declared.work.Work.{Work}
-use Rattle.state_works.specs.Jobs.{rows_and_ends, works_of}
+use Rattle.state_works.specs.Jobs.{works_of}
 use Rattle.state_works.proofs.WorkLemmas.{all_moved, begun_below, below_more, others_of}
 use Rattle.state_works.proofs.jobs.Jobs.note.Goals as goal
 
@@ -40,7 +41,7 @@ returns-in-End-clause-below c = λ limit le all.
 
 pub returns-in_default-clause-works : goal.returns-in_default-clause-works
 returns-in_default-clause-works c = λ s st number rows ended are.
-    let x = rows_and_ends st in
+    let x = around s st in
     let e = c.args.entry.now in
     let is : AreRows x c.args.rows.now = record { present = rows.present; bar = rows.bar } in
     record {

@@ -39,5 +39,5 @@ returns-clause-well c =
     record {
       links_below = links_higher (limit_after m + 2 ^ 65) (limit_after (made_in c.note-4.new.self)) c.note.new.self (omega (arith, c.note-4.ensures.made)) (c.note.ensures.below (limit_after m) (omega arith) c.requires.well.links_below);
       jobs_below = jobs_higher (limit_after m + 2 ^ 64) (limit_after (made_in c.note-4.new.self)) c.note-2.new.self.jobs (omega (arith, c.note-4.ensures.made)) (c.note-2.ensures.below (limit_after m) (omega arith) c.requires.well.jobs_below);
-      within = c.note-2.ensures.within x (some_rows was.rows was.links) (ended s x c.args.entry.now c.note.new.self links) c.requires.peers c.requires.change.within c.requires.well.within;
+      within = c.note-2.ensures.within s x (some_rows was.rows was.links) (ended s x c.args.entry.now c.note.new.self links) c.requires.peers c.requires.change.within c.requires.well.within;
     }

@@ -15,7 +15,7 @@ returns-clause-working c = λ s st place rows ended so are.
     }
 
 pub returns-clause-within : goal.returns-clause-within
-returns-clause-within c = λ st rows ended peers adds is.
+returns-clause-within c = λ s st rows ended peers adds is.
     let was = c.args.self.now in
     let r = c.number.result in
     let ws = works_of was.jobs in
