@@ -25,7 +25,6 @@ use Rattle.node_model.specs.Jobs.{Work}
 use Rattle.node_model.specs.SetUp.{SetUp}
 use Rattle.node_model.specs.State.{State}
 use Rattle.node_ends.specs.declared.sending.Sending.{Sending}
-use Rattle.node_ends.specs.declared.sending.Sending.TheVariants as sendings
 use Rattle.node_ends.specs.Ends.{AreEnds, IsEndOf, end_in, link_at}
 use Rattle.node_ends.specs.Sent.{text_of_sending}
 use Rattle.joined_nodes.specs.Crashing.{Crashes, crash_entry}
@@ -156,13 +155,13 @@ crash_comes {K} laws words carried tells g d r clock n m was after h one well c 
     shut = all_shut s st (laws.numbers s)
 
     closing : Each (λ f. f.body ≡ texts.Closing) (closes_all s st)
-    closing = Each-weaker (Shuts r) (λ f. f.body ≡ texts.Closing) (λ f is. is.0) (closes_all s st) shut
+    closing = Each-weaker (Shuts r) (λ (f : FrameView). f.body ≡ texts.Closing) (λ f is. is.0) (closes_all s st) shut
 
     not_opening : Each (λ f. is_opening f.body ≡ false) e.sent
-    not_opening = Each-weaker (λ f. f.body ≡ texts.Closing) (λ f. is_opening f.body ≡ false) (λ f is. ap is_opening is) (closes_all s st) closing
+    not_opening = Each-weaker (λ (f : FrameView). f.body ≡ texts.Closing) (λ (f : FrameView). is_opening f.body ≡ false) (λ f is. ap is_opening is) (closes_all s st) closing
 
     away : Each (λ f. f.peer ≢ r) c.sent
-    away = subst (Each (λ f. f.peer ≢ r)) (sym sent_is) (Each-weaker (Shuts r) (λ f. f.peer ≢ r) (λ f is. is.1) (closes_all s st) shut)
+    away = subst (λ (fs : List FrameView). Each (λ f. f.peer ≢ r) fs) (sym sent_is) (Each-weaker (Shuts r) (λ (f : FrameView). f.peer ≢ r) (λ f is. is.1) (closes_all s st) shut)
 
     -- the node
 
@@ -218,7 +217,7 @@ crash_comes {K} laws words carried tells g d r clock n m was after h one well c 
         takes = tt;
         listed = listed q;
         in_order = subst (λ (k : End). SendsInOrder k q None e.sent) (ends_are.ends q among ∙ ap end_in at) (laws.in_order s st q);
-        pieces = no_bytes (λ f. piece_of d st r f f.body) (sent_at q e.sent) (p.said q) (Each-filter (λ f. f.body ≡ texts.Closing) (sends_at q) (closes_all s st) closing) (listed q);
+        pieces = no_bytes (λ f. piece_of d st r f f.body) (sent_at q e.sent) (p.said q) (Each-filter (λ (f : FrameView). f.body ≡ texts.Closing) (sends_at q) (closes_all s st) closing) (listed q);
       };
       links = p.links;
     }

@@ -1,5 +1,4 @@
-//! Turns of the nodes of a fleet, rounds of turns until all are idle, ends that are closed, crashes, and time that
-//! passes.
+//! Turns of the nodes of a fleet, rounds of turns until all are idle, ends that are closed, crashes, and time that passes.
 #![tactic(auto)]
 
 mod closing;

@@ -1,5 +1,5 @@
 -- What the proof of `crashing::crash` needs beside the tactics.
-use Rattle.std.proofs.Common.{◌≡◌, ap, ◌∙◌}
+use Rattle.std.proofs.Common.{ap, ◌∙◌}
 use Rattle.fleet_entries.specs.Stored.{StoreView, store_view}
 use Rattle.fleet_entries.specs.AtDriver.{EndsAtFull}
 use Rattle.fleet_entries.specs.Fleets.{FleetView}
