@@ -211,7 +211,7 @@ one_action v g x (actions.Run r job) n s b = (known _ _ r n s.repo, job_is v.fau
 one_action v g x (actions.Turns r turns) n s b = known _ _ r n s
 one_action v g x actions.Settle n s b = tt
 one_action v g x (actions.Close r other) n s b = (known _ _ r n s.first, (known _ _ other n s.second, λ same. s.distinct (sym same)))
-one_action v g x (actions.Crash r clock) n s b = absurd cc
+one_action v g x (actions.Crash r clock) n s b = known _ _ r n s.0
 one_action v g x (actions.Wait milliseconds) n s b = tt
 one_action v g x (actions.Fail r call) n s b = tt
 

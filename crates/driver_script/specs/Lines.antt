@@ -64,7 +64,7 @@ is_built_action (actions.Run r job) = is_built_job job.kind job.peer
 is_built_action (actions.Turns r turns) = true
 is_built_action actions.Settle = true
 is_built_action (actions.Close r other) = true
-is_built_action (actions.Crash r clock) = false
+is_built_action (actions.Crash r clock) = true
 is_built_action (actions.Wait milliseconds) = true
 is_built_action (actions.Fail r call) = true
 

@@ -52,9 +52,10 @@ fn does(action: &Action) -> bool
         | Action::Turns { .. }
         | Action::Settle
         | Action::Close { .. }
+        | Action::Crash { .. }
         | Action::Wait { .. }
         | Action::Fail { .. } => true,
-        Action::Sync { .. } | Action::Crash { .. } => false,
+        Action::Sync { .. } => false,
     }
 }
 

@@ -29,7 +29,7 @@ use Rattle.node_model.specs.Step.{step}
 use Rattle.driver_model.specs.Driver.{Driver, DriverInput, adds, drops_part, fails_at, newest_count, notes, puts_part, set_up_of, state_at, without_old_flights}
 use Rattle.driver_model.specs.Driving.{turns}
 use Rattle.driver_model.specs.Rounds.{AfterRounds, after_round, goes_round, is_settled, most_rounds, numbers, round, rounds, settles, turns_of}
-use Rattle.driver_model.specs.ScriptSteps.{begins, begins_part, closes, closes_each, closes_end, compacts, compacts_files, ends_at, faults, fills_up, gains, has, is_busy, is_nil, lacks_places, logs, logs_some, merges, merges_files, news, sends, sets, sets_part, setting_line, shrinks, unknown_lines, unless_fails, waits, writes}
+use Rattle.driver_model.specs.ScriptSteps.{begins, begins_part, closes, closes_each, closes_end, compacts, compacts_files, crashes, ends_at, faults, fills_up, gains, has, is_busy, is_nil, lacks_places, logs, logs_some, merges, merges_files, news, sends, sets, sets_part, setting_line, shrinks, unknown_lines, unless_fails, waits, writes}
 use Rattle.driver_model.specs.Turning.{asked_key, bytes_taken, is_failure, is_valid, look_for, looks, makes, plain_look, store_after, takes_frame, takes_into, turn}
 use Rattle.fleet_model.specs.Settling.{goes_rounds}
 use Rattle.fleet_entries.specs.AtDriver.{IsFew, is_wait}
@@ -200,6 +200,11 @@ module _ (most : ℕ) where
       go : (b : Bool) → Few (if b then d else closes_each g r (ends_at other) d)
       go true = few
       go false = each_closed_few g r (ends_at other) d few
+
+  -- ---- crashes
+
+  pub crashes_few : (g : DriverInput) (r clock : ℕ) (d : Driver) → Few d → Few (crashes g r clock d)
+  crashes_few g r clock d few = one most d.past _ refl refl few
 
   -- ---- turns
 

@@ -13,6 +13,7 @@ pub use Rattle.fleet_model.specs.Stores
 pub use Rattle.fleet_model.specs.Turns
 pub use Rattle.fleet_model.specs.Calls
 pub use Rattle.fleet_model.specs.Closing
+pub use Rattle.fleet_model.specs.Crashing
 pub use Rattle.fleet_model.specs.Joined
 pub use Rattle.fleet_model.specs.Logs
 pub use Rattle.fleet_model.specs.Nodes

@@ -6,8 +6,8 @@ mod running;
 mod stop;
 
 pub use fleet_model::{
-    BeginRefused, NodeRefused, Nodes, Turn, fleets_begin, fleets_close, fleets_do_lines,
-    fleets_rest, fleets_settle, fleets_stop_at_full_histories, fleets_take_turns,
+    BeginRefused, NodeRefused, Nodes, Turn, fleets_begin, fleets_close, fleets_crash,
+    fleets_do_lines, fleets_rest, fleets_settle, fleets_stop_at_full_histories, fleets_take_turns,
 };
 pub use running::Running;
 pub use stop::FleetStop;

@@ -57,7 +57,7 @@ AreListed = (s : SetUp) (a : EndName) → IsEndOf s a → Member a (all_ends s)
 -- ---- one node went on, and frames were carried
 
 -- where one repository alone goes on, and its node's ends and those of the others are as the driver's flights, the fleet comes there
-carried_on : {K : Type 0} → WordLaws → (tells : K → StoreView) (g : DriverInput) (d d' : Driver) (r : ℕ) (n m : NodeView K) (was after : FleetView K)
+pub carried_on : {K : Type 0} → WordLaws → (tells : K → StoreView) (g : DriverInput) (d d' : Driver) (r : ℕ) (n m : NodeView K) (was after : FleetView K)
     → HasCome tells g d was → OneTurns r n m was after → GoesOn r d d' → IsRaised tells g d' r m → AreEndsIn d'.flights (length g.repos) (links_at after.nodes) → AreAllWorded d'.past (length g.repos) (links_at after.nodes)
     → HeardSo d'.past r (words_at m.parts.jobs.running) → (IsSound g d' → Each (λ j. HasGiven d' r (given_of j)) m.parts.jobs.running) → AreUnused (links_at after.nodes) → m.time ≤ 1000000000000 → m.count < 2 ^ 62 → StaysSound g d d'
     → HasCome tells g d' after
@@ -158,7 +158,7 @@ places_are carried listed tells g d r other n was h at parts is =
         (λ a away. ap (λ c. c.opened) (states_are carried listed tells g d r n was h at parts a away)) (to_close g r other is)
 
 -- the store tells
-told_there : {K : Type 0} (tells : K → StoreView) (d : Driver) (r : ℕ) (n : NodeView K) → IsStoreOf d r (tells n.keeper) → IsThere (told_of (tells n.keeper).contents (tells n.keeper).parts)
+pub told_there : {K : Type 0} (tells : K → StoreView) (d : Driver) (r : ℕ) (n : NodeView K) → IsStoreOf d r (tells n.keeper) → IsThere (told_of (tells n.keeper).contents (tells n.keeper).parts)
 told_there tells d r n store = go (tells n.keeper).contents (tells n.keeper).parts store.contents store.parts
   where
     go : (o : Option Contents) (q : Option Parts) → IsTold o (λ c. (key : List ℕ) → c key ≡ content_in d r key) → IsTold q (λ p. (key : List ℕ) → p key ≡ part_at d r key) → IsThere (told_of o q)

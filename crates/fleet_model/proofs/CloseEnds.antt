@@ -92,7 +92,7 @@ none_said : (said : List Sending) → map text_of_sending said ≡ [] → said �
 none_said [] none = refl
 none_said (x ∷ said) none = absurd (cc)
 
-is_close : (x : Sending) → text_of_sending x ≡ texts.Closing → x ≡ sendings.Close
+pub is_close : (x : Sending) → text_of_sending x ≡ texts.Closing → x ≡ sendings.Close
 is_close sendings.Open e = absurd (cc)
 is_close sendings.Close e = refl
 is_close (sendings.Line line l) e = absurd (cc)

@@ -58,3 +58,4 @@ pub mod CloseEnds
 pub mod ClosingGoes
 pub mod Closes
 pub mod CloseComes
+pub mod CrashComes

@@ -14,6 +14,7 @@ use Rattle.run_data.specs.declared.entry.By.TheVariants.{Script}
 use Rattle.run_data.specs.declared.entry.Entry.{Entry}
 use Rattle.run_data.specs.declared.entry.EntryKind.{EntryKind}
 use Rattle.run_data.specs.declared.entry.EntryKind.TheVariants as kinds
+use Rattle.run_data.specs.declared.entry.FrameView.{FrameView}
 use Rattle.run_data.specs.declared.run.Run.{Run}
 use Rattle.run_model.specs.Past.{is_of}
 use Rattle.run_model.specs.Run.{IsRun, MayBe, RunPast, set_up}
@@ -23,7 +24,7 @@ use Rattle.driver_model.specs.Driver.{Driver, DriverInput, answers, entry, fails
 use Rattle.driver_model.specs.Driving.{run_with}
 use Rattle.driver_model.specs.Limits.{AddsOwn, StopsAtFull, count_of}
 use Rattle.driver_model.specs.Scripts.{HasBoundedPast}
-use Rattle.driver_model.specs.ScriptSteps.{faults, unless_fails}
+use Rattle.driver_model.specs.ScriptSteps.{faults, sends, unless_fails}
 use Rattle.driver_model.specs.Sound.{IsSound, StaysSound}
 use Rattle.joined_nodes.specs.Nodes.{NodeView}
 use Rattle.joined_nodes.specs.Stored.{StoreView}
@@ -122,6 +123,9 @@ comes_adding r d after adds grows = go adds.more adds.own adds.adds
 
 pub comes_noting : (r : ℕ) (kind : EntryKind) (lines : List (List ℕ)) (d : Driver) → ComesTo r d (notes r kind lines d)
 comes_noting r kind lines d = record { more = []; next = entry d r kind lines; own = eqb_refl r; goes_on = refl }
+
+pub comes_sending : (g : DriverInput) (r : ℕ) (kind : EntryKind) (sent : List FrameView) (d : Driver) → ComesTo r d (sends g r kind sent d)
+comes_sending g r kind sent d = record { more = []; next = record (entry d r kind []) { sent = sent }; own = eqb_refl r; goes_on = refl }
 
 pub comes_failing : (r : ℕ) (call : Call) (d : Driver) → ComesTo r d (faults r call d)
 comes_failing r call d = record { more = []; next = entry (answers r call d) r (kinds.Fault call Script) []; own = eqb_refl r; goes_on = refl }

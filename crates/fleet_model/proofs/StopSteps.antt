@@ -18,7 +18,7 @@ use Rattle.run_model.specs.Past.{begun_count}
 use Rattle.union_merge.specs.Branch.{Files, lines_at}
 use Rattle.union_merge.specs.LineSet.{difference}
 use Rattle.node_ends.specs.Ends.{hand_at, room_at}
-use Rattle.node_model.specs.AnyTime.{all_ends}
+use Rattle.node_model.specs.AnyTime.{all_ends, closes_all}
 use Rattle.node_model.specs.Look.{Look, Effect}
 use Rattle.node_model.specs.SetUp.{SetUp}
 use Rattle.node_model.specs.Step.{step}
@@ -26,7 +26,7 @@ use Rattle.joined_nodes.specs.Parts.{AreParts}
 use Rattle.driver_model.specs.Driver.{Driver, DriverInput, frames_to, notes, set_up_of, state_at}
 use Rattle.driver_model.specs.Finding.{driver_at_turn}
 use Rattle.driver_model.specs.Limits.{AddsOwn, StopsAtFull, count_of, within_limit}
-use Rattle.driver_model.specs.ScriptSteps.{begins, has, logs_some, sets, sets_part, setting_line, unknown_lines, writes}
+use Rattle.driver_model.specs.ScriptSteps.{begins, crashes, has, logs_some, sets, sets_part, setting_line, unknown_lines, writes}
 use Rattle.driver_model.specs.Turning.{at_hand, plain_look, turn}
 use Rattle.joined_nodes.specs.Calls.{lacks_some}
 use Rattle.joined_nodes.specs.Logs.{stamped_by}
@@ -44,7 +44,7 @@ use Rattle.fleet_model.proofs.Pathing.{had_there}
 use Rattle.fleet_model.proofs.Raising.{raised_is}
 use Rattle.fleet_model.proofs.States.{Carried, state_is, step_is}
 use Rattle.fleet_model.proofs.StopLaws.{StopLaws}
-use Rattle.fleet_model.proofs.StopPasts.{ComesTo, all_are_few, comes_adding, comes_calling, comes_noting, count_is, is_known, others_are_few, stops_at_once}
+use Rattle.fleet_model.proofs.StopPasts.{ComesTo, all_are_few, comes_adding, comes_calling, comes_noting, comes_sending, count_is, is_known, others_are_few, stops_at_once}
 use Rattle.fleet_model.proofs.TurnComes.{TurnLaws, ends_stand, own_ends, rooms_agree}
 use Rattle.fleet_model.proofs.Directs.{setting_is}
 
@@ -101,6 +101,13 @@ job_stops laws tells g d r n was h at few job parts full free =
     (subst (λ (b : Bool). ComesTo r d (if b then notes r (kinds.Begin (begun_count d.past r + 1) job) [] d else d))
     (sym (has_slot g d r n.history n.parts.jobs (state_is laws g d r n h.sound (h.each r n at).history) parts.works free))
     (comes_noting r (kinds.Begin (begun_count d.past r + 1) job) [] d))
+
+-- ---- crashes
+
+pub crash_stops : {K : Type 0} (tells : K → StoreView) (g : DriverInput) (d : Driver) (r : ℕ) (n : NodeView K) (was : FleetView K) → HasCome tells g d was → slice_get was.nodes r ≡ Some n → OthersAreFew r was.nodes
+    → (clock : ℕ) → length n.history ≡ most_entries → StopsAtFull g r (crashes g r clock d) was.run
+crash_stops tells g d r n was h at few clock full =
+    stops_at_once tells g d (crashes g r clock d) r n was h at few full (comes_sending g r (kinds.Crash clock) (closes_all (set_up_of g d r) (state_at g d r)) d)
 
 -- ---- lines
 

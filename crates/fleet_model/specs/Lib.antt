@@ -19,6 +19,7 @@ pub use Rattle.joined_nodes.specs.declared.NodeRefused
 pub use Rattle.joined_nodes.specs.Refusals
 pub use Rattle.joined_nodes.specs.Calls
 pub use Rattle.joined_nodes.specs.Closing
+pub use Rattle.joined_nodes.specs.Crashing
 pub use Rattle.joined_nodes.specs.Logs
 pub use Rattle.joined_nodes.specs.Placing
 pub use Rattle.joined_nodes.specs.Turning

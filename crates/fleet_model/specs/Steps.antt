@@ -41,7 +41,7 @@ pub record StaysStored (was after : StoreView) : Type 0 where
 abbrev pub with_links : {K : Type 0} → NodeView K → List EndView → NodeView K
 with_links n links = record n { parts = record n.parts { links = links } }
 
--- The node of r, which was n, came to m by a turn or by a close, and then frames were carried between it and each other one; of these
+-- The node of r, which was n, came to m by a turn, by a close or by a crash, and then frames were carried between it and each other one; of these
 -- nothing but their ends has changed. The run has m's new entries behind its own.
 pub record OneTurns {K : Type 0} (r : ℕ) (n m : NodeView K) (was after : FleetView K) : Type 0 where
   pub before : slice_get was.nodes r ≡ Some n

@@ -13,7 +13,7 @@ ghost use Rattle.joined_nodes.specs.Parts.{AreParts};
 ghost use Rattle.driver_model.specs.Driver.{Driver, DriverInput, set_up_of};
 ghost use Rattle.driver_model.specs.Limits.{StopsAtFull, count_of, within_limit};
 ghost use Rattle.driver_model.specs.Scripts.{IsContent};
-ghost use Rattle.driver_model.specs.ScriptSteps.{begins, compacts, has, merges, sets, sets_part, writes};
+ghost use Rattle.driver_model.specs.ScriptSteps.{begins, compacts, crashes, has, merges, sets, sets_part, writes};
 ghost use Rattle.driver_model.specs.Turning.{turn};
 ghost use Rattle.joined_nodes.specs.Calls.{MeetsFull, MeetsFullBehind, lacks_of, lacks_some, shrinks_at};
 ghost use Rattle.joined_nodes.specs.Logs.{stamped_by};
@@ -48,6 +48,8 @@ pub fn fleets_stop_at_full_histories<K>()
     ensures job { (tells : K → StoreView) (g : DriverInput) (d : Driver) (r : ℕ) (n : NodeView K) (was : FleetView K) → HasCome tells g d was → slice_get was.nodes r ≡ Some n → OthersAreFew r was.nodes
         → (job : Job) → AreParts (set_up_of g d r) (state_of (set_up_of g d r) n.history) n.parts → length n.history ≡ most_entries → length n.parts.jobs.running < 4
         → StopsAtFull g r (begins r job d) was.run }
+    ensures crash { (tells : K → StoreView) (g : DriverInput) (d : Driver) (r : ℕ) (n : NodeView K) (was : FleetView K) → HasCome tells g d was → slice_get was.nodes r ≡ Some n → OthersAreFew r was.nodes
+        → (clock : ℕ) → length n.history ≡ most_entries → StopsAtFull g r (crashes g r clock d) was.run }
     ensures line { (tells : K → StoreView) (g : DriverInput) (d : Driver) (r : ℕ) (n : NodeView K) (was : FleetView K) → HasCome tells g d was → slice_get was.nodes r ≡ Some n → OthersAreFew r was.nodes
         → (file : LogFile) (line : List ℕ) → length n.history ≡ most_entries → lacks_some n file (line ∷ []) ≡ true → StopsAtFull g r (writes r file line d) was.run }
     ensures setting { (tells : K → StoreView) (g : DriverInput) (d : Driver) (r : ℕ) (n : NodeView K) (was : FleetView K) → HasCome tells g d was → slice_get was.nodes r ≡ Some n → OthersAreFew r was.nodes

@@ -68,16 +68,9 @@ built_as action form is built = ap is_built_action (sym is) ∙ built
 pub within_as : (context : Context) (action form : Action) → action ≡ form → first_limit context (commands.Does action) ≡ None → first_limit context (commands.Does form) ≡ None
 within_as context action form is within = subst (λ (a : Action). first_limit context (commands.Does a) ≡ None) is within
 
--- those of an arm that no line with its form built comes to
-abbrev pub IsUnbuilt : Action → Type 0
-IsUnbuilt action = ((a : ℕ) × (action ≡ actions.Sync a)) ⊎ ((a : ℕ) × (b : ℕ) × (action ≡ actions.Crash a b))
-
-none_built : (action form : Action) → action ≡ form → is_built_action form ≡ false → is_built_action action ≡ true → ⊥
-none_built action form is none built = absurd (let no : false ≡ true = sym none ∙ built_as action form is built in cc)
-
-pub never_acts : (action : Action) → is_built_action action ≡ true → IsUnbuilt action → ⊥
-never_acts action built (inl h) = none_built action (actions.Sync h.0) h.1 refl built
-never_acts action built (inr h) = none_built action (actions.Crash h.0 h.1) h.2 refl built
+-- the form is built of each action but this
+pub never_acts : (action : Action) (r : ℕ) → is_built_action action ≡ true → action ≡ actions.Sync r → ⊥
+never_acts action r built is = absurd (let no : false ≡ true = built_as action (actions.Sync r) is built in cc)
 
 -- ---- what a line has
 

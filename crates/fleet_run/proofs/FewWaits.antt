@@ -10,7 +10,7 @@ use Rattle.driver_script.specs.Lines.{is_built, is_built_action}
 use Rattle.fleet_entries.specs.AtDriver.{IsFew}
 use Rattle.script_commands.specs.declared.command.Action.TheVariants as actions
 use Rattle.script_commands.specs.declared.command.Command.TheVariants as commands
-use Rattle.fleet_entries.proofs.Few.{begins_few, closes_few, compacts_few, fewer, has_few, merges_few, part_few, sets_few, settles_few, turns_few, waits_few, writes_few}
+use Rattle.fleet_entries.proofs.Few.{begins_few, closes_few, compacts_few, crashes_few, fewer, has_few, merges_few, part_few, sets_few, settles_few, turns_few, waits_few, writes_few}
 
 module _ (most : ℕ) (g : DriverInput) (d : Driver) (few : IsFew most d.past) where
   -- with a wait more
@@ -37,6 +37,7 @@ module _ (most : ℕ) (g : DriverInput) (d : Driver) (few : IsFew most d.past) w
   action_few (actions.Turns r n) built = no_wait _ (turns_few most g r n d few)
   action_few actions.Settle built = no_wait _ (settles_few most g d few)
   action_few (actions.Close r other) built = no_wait _ (closes_few most g r other d few)
+  action_few (actions.Crash r clock) built = no_wait _ (crashes_few most g r clock d few)
   action_few (actions.Wait milliseconds) built = waits_few most milliseconds d few
   action_few (actions.Fail r call) built = quiet
   action_few action built = absurd (cc)

@@ -12,7 +12,7 @@ use driver_script::{added_contents_match, settings_are_plain};
 use fleet_entries::{FleetStop, Running};
 use fleet_keys::{begin, enter, fail_next, place, place_part};
 use fleet_logs::{compact, merge, set, write};
-use fleet_turns::{close, settle, take_turns, wait};
+use fleet_turns::{close, crash, settle, take_turns, wait};
 use object_store::FailingKeeper;
 use script_lang::{Action, Command};
 
@@ -98,8 +98,9 @@ fn act<K: FailingKeeper>(running: &mut Running<K>, action: &Action) -> Result<()
         Action::Turns { repo, turns } => take_turns(running, *repo, *turns),
         Action::Settle => settle(running),
         Action::Close { repo, other } => close(running, *repo, *other),
+        Action::Crash { repo, clock } => crash(running, *repo, *clock),
         Action::Wait { milliseconds } => wait(running, *milliseconds),
         Action::Fail { repo, call } => fail_next(running, *repo, *call),
-        Action::Sync { .. } | Action::Crash { .. } => unreachable!(),
+        Action::Sync { .. } => unreachable!(),
     }
 }

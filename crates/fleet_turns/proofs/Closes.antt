@@ -77,7 +77,7 @@ no_bundle done refused at e = go (subst (λ (a : Answer). IfErr a (λ x. (x ≡ 
     go (inr is) = absurd (cc)
 
 -- nor that its store failed
-no_fault : (done : Answer) → IfErr done (λ e. (e ≡ refusals.Full) ⊎ (e ≡ refusals.NoMemory)) → IsEnded done → done ≡ Ok tt
+pub no_fault : (done : Answer) → IfErr done (λ e. (e ≡ refusals.Full) ⊎ (e ≡ refusals.NoMemory)) → IsEnded done → done ≡ Ok tt
 no_fault done refused (inl ok) = ok
 no_fault done refused (inr e) = absurd (go (subst (λ (a : Answer). IfErr a (λ x. (x ≡ refusals.Full) ⊎ (x ≡ refusals.NoMemory))) e refused))
   where

@@ -6,3 +6,4 @@ mod Rounds
 mod Ending
 mod Time
 mod Closes
+mod Crashes

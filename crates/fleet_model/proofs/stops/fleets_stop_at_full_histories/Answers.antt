@@ -1,6 +1,6 @@
 -- A fleet stops where a history is full.
 use Rattle.fleet_model.proofs.StopContents.{content_stops_behind}
-use Rattle.fleet_model.proofs.StopSteps.{content_asked, job_stops, line_stops, part_asked, setting_stops, turn_stops}
+use Rattle.fleet_model.proofs.StopSteps.{content_asked, crash_stops, job_stops, line_stops, part_asked, setting_stops, turn_stops}
 use Rattle.fleet_model.proofs.StopWalks.{compact_stops, merge_stops}
 use Rattle.fleet_model.proofs.stops.fleets_stop_at_full_histories.Goals as goal
 
@@ -50,6 +50,9 @@ returns-clause-turn g c = turn_stops (record {
 
 pub returns-clause-job : goal.returns-clause-job
 returns-clause-job g c = job_stops (record { states_agree = c.carried_states_agree.ensures.states; steps_agree = c.carried_states_agree.ensures.steps })
+
+pub returns-clause-crash : goal.returns-clause-crash
+returns-clause-crash g c = crash_stops
 
 pub returns-clause-line : goal.returns-clause-line
 returns-clause-line g c = line_stops

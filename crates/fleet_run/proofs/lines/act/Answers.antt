@@ -309,6 +309,29 @@ returns-in-Close g c =
       rest = behind c.args.running.now c.close.new.running c.close.ensures.rest;
     }
 
+pub crash-requires-clause-there : goal.crash-requires-clause-there
+crash-requires-clause-there g c = below_more c.in-Crash.repo (length c.requires.may.context.repos) (length c.args.running.now.nodes) (stands_as c.requires.may.context c.args.action.now (actions.Crash c.in-Crash.repo c.in-Crash.clock) c.in-Crash.is c.requires.may.stands).0 c.requires.may.repos
+
+pub crash-requires-clause-near : goal.crash-requires-clause-near
+crash-requires-clause-near g c = (stands_as c.requires.may.context c.args.action.now (actions.Crash c.in-Crash.repo c.in-Crash.clock) c.in-Crash.is c.requires.may.stands).1
+
+pub crash-requires-clause-driven : goal.crash-requires-clause-driven
+crash-requires-clause-driven g c = c.requires.driven
+
+pub returns-in-Crash : goal.returns-in-Crash
+returns-in-Crash g c =
+    let tells : g.row.K.Denot → StoreView = λ k. store_view (g.K.Keeper.contents k) (g.K.Keeper.parts k) (g.K.Keeper.failing k) (g.K.Keeper.faults k) in
+    let laws : CutLaws = record { cut = c.runs_are_cut_where_histories_are_full.ensures.cut; entries = c.runs_are_cut_where_histories_are_full.ensures.entries; marks = c.runs_are_cut_where_histories_are_full.ensures.marks; tree = c.runs_are_cut_where_histories_are_full.ensures.tree } in
+    let action = actions.Crash c.in-Crash.repo c.in-Crash.clock in
+    let form = commands.Does action in
+    record {
+      ok = on_ok c.crash.result _ _ c.crash.ensures.ok (λ goes. as_form tells (commands.Does c.args.action.now) form c.args.running.now c.crash.new.running (ap commands.Does c.in-Crash.is) goes);
+      room = always_ok c.crash.result _ (room_unasked tells c.args.action.now action c.args.running.now c.in-Crash.is c.requires.may.built refl);
+      full = λ r e. form_ends tells laws r c.args.action.now action c.args.running.now c.crash.new.running c.in-Crash.is refl (c.crash.ensures.full r e) c.crash.ensures.rest;
+      stopped = on_err c.crash.result _ _ c.crash.ensures.stopped (λ stops. stops_as tells (commands.Does c.args.action.now) form c.args.running.now c.crash.new.running (ap commands.Does c.in-Crash.is) stops);
+      rest = behind c.args.running.now c.crash.new.running c.crash.ensures.rest;
+    }
+
 pub wait-requires-clause-driven : goal.wait-requires-clause-driven
 wait-requires-clause-driven g c = c.requires.driven
 
@@ -344,7 +367,7 @@ returns-in-Fail g c =
     }
 
 pub unreachable-requires : goal.unreachable-requires
-unreachable-requires g c = never_acts c.args.action.now c.requires.may.built c.in-Sync.is
+unreachable-requires g c = never_acts c.args.action.now c.in-Sync.repo c.requires.may.built c.in-Sync.is
 
 pub unreachable-unreachable : goal.unreachable-unreachable
-unreachable-unreachable g c = never_acts c.args.action.now c.requires.may.built c.in-Sync.is
+unreachable-unreachable g c = never_acts c.args.action.now c.in-Sync.repo c.requires.may.built c.in-Sync.is
