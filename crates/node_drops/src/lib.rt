@@ -13,7 +13,7 @@ pub use acting::act;
 pub use drop_worker;
 pub use drop_worker::{
     Ending, Heard, Input, Output, Parcel, ParcelBody, Phase, Said, Sends, Taken, Time, Token,
-    Worker, end,
+    Worker, end, holds_are_numbered,
 };
 pub use feed::Feed;
 pub use job::DropJob;

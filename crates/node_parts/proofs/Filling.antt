@@ -14,7 +14,7 @@ use Rattle.node_sessions.specs.Sessions.{AreFilled, AreAllFed as SessionsFed, fi
 use Rattle.get_phases.specs.Gets.{fill_in, IsFed as IsFedGet}
 use Rattle.get_phases.specs.declared.getting.Phase.{Phase as GetPhase}
 use Rattle.get_phases.specs.declared.getting.Phase.TheVariants as phases
-use Rattle.node_tasks.specs.TransferJob.{TransferJob}
+use Rattle.running_jobs.specs.TransferJob.{TransferJob}
 use Rattle.running_jobs.specs.Worker.{Worker}
 use Rattle.running_jobs.specs.Worker.TheVariants as workers
 use Rattle.running_jobs.specs.Workers.{HasFill, IsFed, work_of}

@@ -37,7 +37,7 @@ use Rattle.put_steps.specs.Puts.{phase_of as phase_of_put}
 use Rattle.put_steps.specs.declared.phase.Phase.{Phase as PutPhase}
 use Rattle.put_steps.specs.declared.phase.Phase.TheVariants as offers
 use Rattle.transfer_turns.specs.Turns.{awaited}
-use Rattle.node_tasks.specs.TransferJob.{TransferJob}
+use Rattle.running_jobs.specs.TransferJob.{TransferJob}
 use Rattle.running_jobs.specs.Worker.{Worker}
 use Rattle.running_jobs.specs.Worker.TheVariants as workers
 use Rattle.running_jobs.specs.Workers.{HasFill, work_of}

@@ -65,7 +65,7 @@ use Rattle.running_jobs.specs.Telling.{IsToldTo}
 use Rattle.running_jobs.specs.Told.{Told}
 use Rattle.running_jobs.specs.Told.TheVariants as tolds
 use Rattle.running_jobs.specs.Waiting.{word_at}
-use Rattle.node_tasks.specs.declared.acted.Output.{Output}
+use Rattle.running_jobs.specs.Output.{Output}
 use Rattle.node_parts.specs.declared.done.Done.{Done}
 use Rattle.node_parts.specs.Parts.{HasLockRooms}
 use Rattle.node_parts.specs.Posting.{Posts, after_step}

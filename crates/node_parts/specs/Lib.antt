@@ -1,4 +1,4 @@
--- The definitions of this crate, and those of jobs and of drops that the crates above cite.
+-- The definitions of this crate, and those of jobs, of drops and of sessions that the crates above cite.
 pub mod Parts
 pub mod Sound
 pub mod Kinds
@@ -19,8 +19,11 @@ pub use Rattle.drop_phases.specs.Feeding
 pub use Rattle.drop_phases.specs.Working
 pub use Rattle.running_jobs.specs.Task
 pub use Rattle.running_jobs.specs.Tasks
-pub use Rattle.node_tasks.specs.TransferJob
+pub use Rattle.running_jobs.specs.TransferJob
 pub use Rattle.running_jobs.specs.Worker
 pub use Rattle.running_jobs.specs.Workers
 pub use Rattle.running_jobs.specs.Drops
 pub use Rattle.running_jobs.specs.Waiting
+pub use Rattle.node_sessions.specs.Sessions
+pub use Rattle.node_sessions.specs.Kinds as SessionKinds
+pub use Rattle.p2p_server.specs.Answers

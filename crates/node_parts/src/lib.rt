@@ -22,5 +22,6 @@ pub use laws::{
     tables_fill_as_states,
 };
 pub use moment::Moment;
+pub use node_sessions::sessions_make_their_own_entries;
 pub use parts::Parts;
 pub use running_jobs::{BeginRefused, Clock, Time};

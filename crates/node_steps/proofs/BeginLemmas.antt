@@ -21,7 +21,7 @@ use Rattle.node_parts.specs.Sound.{AreSound}
 use Rattle.node_past.specs.declared.past.Past.{Past}
 use Rattle.node_past.specs.declared.setup.Ended.{Ended}
 use Rattle.node_past.specs.declared.setup.Setup.{Setup}
-use Rattle.node_sessions.specs.Sessions.{AreAllFed as SessionsFed}
+use Rattle.node_parts.specs.Sessions.{AreAllFed as SessionsFed}
 use Rattle.std.specs.Option.{ForSome}
 use Rattle.node_steps.specs.Kept.{IsFed, IsKept}
 use Rattle.node_steps.specs.Nodes.{MatchesSetup, IsState, NodeView, state_of}

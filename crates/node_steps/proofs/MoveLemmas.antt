@@ -28,7 +28,7 @@ use Rattle.node_model.specs.OwedLines.{OwedLine}
 use Rattle.node_model.specs.Turns.{job_step}
 use Rattle.content_lock.specs.CallsMade.{MakesCalls, fewer}
 use Rattle.owed_lines.specs.declared.debt.Debt.{Debt}
-use Rattle.node_sessions.specs.Kinds.{IsOfSession}
+use Rattle.node_parts.specs.SessionKinds.{IsOfSession}
 use Rattle.node_parts.specs.Places.{PlaceView}
 use Rattle.node_parts.specs.declared.done.Done.{Done}
 use Rattle.node_parts.specs.declared.moment.Moment.{Moment}

@@ -34,7 +34,7 @@ use Rattle.content_lock.specs.CallsMade.{MakesCalls, fewer}
 use Rattle.node_ends.specs.Ends.{link_at}
 use Rattle.node_ends.specs.Going.{AreAfter}
 use Rattle.node_model.specs.Ends.{EndName}
-use Rattle.p2p_server.specs.Answers.{contents_after}
+use Rattle.node_parts.specs.Answers.{contents_after}
 use Rattle.node_parts.specs.Parts.{PartsView}
 use Rattle.node_parts.specs.Posting.{PostsPieces, after_step}
 use Rattle.node_parts.specs.Acting.{SeesPartAt as JobSeesPartAt}

@@ -26,7 +26,7 @@ use Rattle.node_model.specs.SessionStep.{is_filled}
 use Rattle.node_model.specs.SetUp.{SetUp}
 use Rattle.node_model.specs.State.{State}
 use Rattle.node_parts.specs.Places.{PlaceView}
-use Rattle.node_sessions.specs.Sessions.{IsSetUp}
+use Rattle.node_parts.specs.Sessions.{IsSetUp}
 use Rattle.node_parts.specs.Direct.{IsDirect, MovesNothing, may_fail}
 use Rattle.node_parts.specs.Parts.{AreAllFed, AreParts, PartsView}
 use Rattle.node_parts.specs.Sound.{AreSound}

@@ -16,7 +16,7 @@ use Rattle.link_ring.specs.Ends.{EndView}
 use Rattle.content_lock.specs.CallsMade.{MakesCalls, fewer}
 use Rattle.node_ends.specs.Ends.{SeesEnds}
 use Rattle.node_ends.specs.Going.{AreAfter}
-use Rattle.p2p_server.specs.Answers.{contents_after}
+use Rattle.node_parts.specs.Answers.{contents_after}
 use Rattle.node_parts.specs.Running.{HadPathsOf, words_at}
 use Rattle.node_model.specs.Look.{Look, Effect, entry_of, failed_in}
 use Rattle.node_model.specs.SetUp.{SetUp}

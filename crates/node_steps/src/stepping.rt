@@ -19,9 +19,10 @@ use crate::laws::direct_entries_keep_parts;
 use annex_base::NoMemory;
 use node_ends::ends_go_on;
 use node_ledger::Ledger;
-use node_parts::{Parts, states_have_their_settings, tables_fill_as_states};
+use node_parts::{
+    Parts, sessions_make_their_own_entries, states_have_their_settings, tables_fill_as_states,
+};
 use node_past::NodeRefused;
-use node_sessions::sessions_make_their_own_entries;
 use object_store::Keeper;
 use store_entries::make_index;
 use trust_groups::settings_are_those_of_the_lines_read;

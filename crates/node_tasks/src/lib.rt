@@ -9,7 +9,7 @@ mod telling;
 
 pub use acted::{Output, Sent};
 pub use acting::act;
-pub use node_drops::{Clock, DropJob, Place, Time, Worker as DropWorker};
+pub use node_drops::{Clock, DropJob, Place, Time, Worker as DropWorker, holds_are_numbered};
 pub use node_transfers::{TransferJob, Worker};
 pub use readiness::{Told, ready};
 pub use task::{Task, end};

@@ -8,6 +8,8 @@ pub mod Changes
 pub mod Ending
 pub use Rattle.node_tasks.specs.Acting as TaskActing
 pub use Rattle.node_tasks.specs.declared.task.Task
+pub use Rattle.node_tasks.specs.declared.acted.Output
+pub use Rattle.node_tasks.specs.TransferJob
 pub use Rattle.node_tasks.specs.Tasks
 pub use Rattle.node_tasks.specs.Telling
 pub use Rattle.node_tasks.specs.declared.readiness.Told
