@@ -25,11 +25,10 @@ use Rattle.fleet_entries.specs.Fleets.{FleetView, HasCome}
 use Rattle.fleet_entries.specs.Steps.{OneTurns, with_newest}
 use Rattle.fleet_entries.specs.Telling.{AreFew, Raises}
 use Rattle.fleet_entries.specs.Turns.{StandsWell}
-use Rattle.fleet_entries.proofs.Called.{raised_is}
 use Rattle.fleet_entries.proofs.Ended.{Answer, IsEnded}
 use Rattle.fleet_entries.proofs.Full.{counted, each_at, run_stays}
 use Rattle.fleet_turns.proofs.Carrying.{IsCarriedOn, one_carried}
-use Rattle.fleet_turns.proofs.Turning.{stands_well}
+use Rattle.fleet_turns.proofs.Standing.{IsThere, is_there}
 
 -- what a call that closes ends makes of its node
 pub record ClosesEnds {K : Type 0} (tells : K → StoreView) (other : ℕ) (done : Answer) (n m : NodeView K) : Type 0 where
@@ -136,51 +135,15 @@ whole_past g [] short = refl
 whole_past g (e ∷ past) short = ap (λ (b : Bool). if b then within_limit g past else e ∷ past) short
 
 module _ {K : Type 0} (tells : K → StoreView) (laws : ClosingLaws tells) (r other had : ℕ) (done : Answer) (was up : FleetView K) (turned carried : List (NodeView K)) (after : FleetView K) (there : r < length was.nodes) (known : other < length was.nodes) (apart : other ≢ r) (closed : IsClosed tells r other had done was up turned carried after) where
-  -- the node before the call, once it was raised, and after it
-  record IsThere (g : DriverInput) (d : Driver) : Type 0 where
-    pub before : NodeView K
-    pub left : NodeView K
-    pub at : slice_get was.nodes r ≡ Some before
-    pub one : OneTurns r before left was after
-    pub well : StandsWell g d r before
-    pub is_other : IsOther g r other
-    pub holds : ClosesEnds tells other done (with_newest d before) left
-    pub early : left.time ≤ 1000000000000
-    pub few : left.count < 2 ^ 62
+  -- the node before the call and after it
+  around : (g : DriverInput) (d : Driver) → HasCome tells g d was → IsThere r (ClosesEnds tells other done) was after g d
+  around g d come = is_there tells r had (ClosesEnds tells other done) was up turned carried after there closed.call closed.holds g d come
 
-  is_there : (g : DriverInput) (d : Driver) → HasCome tells g d was → IsThere g d
-  is_there g d come = record {
-    before = first.0;
-    left = third.0;
-    at = first.1;
-    one = one_carried tells r had was up turned carried after first.0 second.0 third.0 fourth.0 closed.call first.1 second.1 third.1 fourth.1;
-    well = stands_well tells g d r had was up first.0 second.0 come closed.call.raises first.1 second.1;
-    is_other = (subst (λ (c : ℕ). other < c) come.count known, apart);
-    holds = subst (λ (y : NodeView K). ClosesEnds tells other done y third.0) up_is (closed.holds second.0 third.0 second.1 third.1);
-    early = subst (λ (y : NodeView K). y.time ≤ 1000000000000) left_is (closed.call.told.node fourth.0 fourth.1).time;
-    few = subst (λ (y : NodeView K). y.count < 2 ^ 62) left_is (closed.call.told.node fourth.0 fourth.1).counted;
-  }
-    where
-      first : (n : NodeView K) × (slice_get was.nodes r ≡ Some n)
-      first = slice_get-within was.nodes r there
-
-      second : (p : NodeView K) × (slice_get up.nodes r ≡ Some p)
-      second = slice_get-within up.nodes r (subst (λ (c : ℕ). r < c) (sym closed.call.raises.count) there)
-
-      third : (m : NodeView K) × (slice_get turned r ≡ Some m)
-      third = slice_get-within turned r (subst (λ (c : ℕ). r < c) (sym (closed.call.count ∙ closed.call.raises.count)) there)
-
-      fourth : (x : NodeView K) × (slice_get carried r ≡ Some x)
-      fourth = slice_get-within carried r (subst (λ (c : ℕ). r < c) (sym (closed.call.carried_count ∙ (closed.call.count ∙ closed.call.raises.count))) there)
-
-      up_is : second.0 ≡ with_newest d first.0
-      up_is = raised_is tells g d r had was up first.0 second.0 come closed.call.raises first.1 second.1
-
-      left_is : fourth.0 ≡ joined.with_links third.0 fourth.0.parts.links
-      left_is = closed.call.rest third.0 fourth.0 third.1 fourth.1
+  is_other : (g : DriverInput) (d : Driver) → HasCome tells g d was → IsOther g r other
+  is_other g d come = (subst (λ (c : ℕ). other < c) come.count known, apart)
 
   -- a call that was done had places
-  had_places : (g : DriverInput) (d : Driver) (t : IsThere g d) → done ≡ Ok tt → lacks_places t.before other ≡ false
+  had_places : (g : DriverInput) (d : Driver) (t : IsThere r (ClosesEnds tells other done) was after g d) → done ≡ Ok tt → lacks_places t.before other ≡ false
   had_places g d t ok = go (lacks_places t.before other) refl
     where
       go : (b : Bool) → lacks_places t.before other ≡ b → b ≡ false
@@ -195,18 +158,18 @@ module _ {K : Type 0} (tells : K → StoreView) (laws : ClosingLaws tells) (r ot
 
   pub has_places : IsEnded done → IfErr done (λ e. (e ≡ refusals.Full) ⊎ (e ≡ refusals.NoMemory)) → HasPlaces tells r other was
   has_places ended refused g d stands =
-      let t = is_there g d stands.come in
-      laws.places g d r other t.before was stands.come t.at t.well.parts t.is_other ∙ had_places g d t (no_fault done refused ended)
+      let t = around g d stands.come in
+      laws.places g d r other t.before was stands.come t.at t.well.parts (is_other g d stands.come) ∙ had_places g d t (no_fault done refused ended)
 
   pub closes_on : IsEnded done → IfErr done (λ e. (e ≡ refusals.Full) ⊎ (e ≡ refusals.NoMemory)) → ((g : DriverInput) (d : Driver) → IsKnown g r → IsOther g r other → StaysSound g d (closes g r other d))
       → GoesOn tells (λ g d. closes g r other d) was after
   closes_on ended refused sound g d stands =
-      let t = is_there g d stands.come in
+      let t = around g d stands.come in
       let ok = no_fault done refused ended in
       record {
-        come = laws.closes g d r other t.before t.left was after stands.come t.one closed.joined t.well t.is_other (had_places g d t ok)
+        come = laws.closes g d r other t.before t.left was after stands.come t.one closed.joined t.well (is_other g d stands.come) (had_places g d t ok)
             (subst (λ (a : Answer). OnOk a (ClosesEach (told_of (tells t.before.keeper).contents (tells t.before.keeper).parts) (ends_to other) (with_newest d t.before) t.left)) ok t.holds.ok)
-            t.early t.few (sound g d t.well.known t.is_other);
+            t.early t.few (sound g d t.well.known (is_other g d stands.come));
         decides = stands.decides;
       }
 
@@ -214,7 +177,7 @@ module _ {K : Type 0} (tells : K → StoreView) (laws : ClosingLaws tells) (r ot
 
   -- the driver then closes none
   none_closed_at : done ≡ Err refusals.Full → (g : DriverInput) (d : Driver) → HasCome tells g d was → (steps.lacks_places d.past r other ≡ true) × (closes g r other d ≡ d)
-  none_closed_at full g d come = let t = is_there g d come in laws.none g d r other t.before was come t.at t.well.parts t.is_other (t.holds.full full)
+  none_closed_at full g d come = let t = around g d come in laws.none g d r other t.before was come t.at t.well.parts (is_other g d come) (t.holds.full full)
 
   -- and its past isn't too long
   not_long : (g : DriverInput) (d : Driver) → HasCome tells g d was → is_too_long g d.past ≡ false

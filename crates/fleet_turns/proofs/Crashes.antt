@@ -24,12 +24,11 @@ use Rattle.fleet_entries.specs.Steps.{OneTurns, with_newest}
 use Rattle.fleet_entries.specs.Stopping.{OthersAreFew}
 use Rattle.fleet_entries.specs.Telling.{AreFew, Raises}
 use Rattle.fleet_entries.specs.Turns.{StandsWell}
-use Rattle.fleet_entries.proofs.Called.{raised_is}
 use Rattle.fleet_entries.proofs.Ended.{Answer, IsEnded}
 use Rattle.fleet_entries.proofs.Full.{each_at, few_others, run_stays}
-use Rattle.fleet_turns.proofs.Carrying.{IsCarriedOn, one_carried}
+use Rattle.fleet_turns.proofs.Carrying.{IsCarriedOn}
 use Rattle.fleet_turns.proofs.Closes.{no_fault}
-use Rattle.fleet_turns.proofs.Turning.{stands_well}
+use Rattle.fleet_turns.proofs.Standing.{IsThere, is_there}
 
 -- what a call that lets a node crash makes of it
 pub record CrashesNode {K : Type 0} (tells : K → StoreView) (clock : ℕ) (done : Answer) (n m : NodeView K) : Type 0 where
@@ -88,51 +87,14 @@ just_full : (most k : ℕ) → nat_le most k ≡ true → k ≤ most → k ≡ m
 just_full most k full few = grind (arith, nat_tests)
 
 module _ {K : Type 0} (tells : K → StoreView) (laws : CrashLaws tells) (r clock had : ℕ) (done : Answer) (was up : FleetView K) (turned carried : List (NodeView K)) (after : FleetView K) (there : r < length was.nodes) (crashed : IsCrashed tells r clock had done was up turned carried after) where
-  -- the node before the call, once it was raised, and after it
-  record IsThere (g : DriverInput) (d : Driver) : Type 0 where
-    pub before : NodeView K
-    pub left : NodeView K
-    pub at : slice_get was.nodes r ≡ Some before
-    pub one : OneTurns r before left was after
-    pub well : StandsWell g d r before
-    pub holds : CrashesNode tells clock done (with_newest d before) left
-    pub early : left.time ≤ 1000000000000
-    pub few : left.count < 2 ^ 62
-
-  is_there : (g : DriverInput) (d : Driver) → HasCome tells g d was → IsThere g d
-  is_there g d come = record {
-    before = first.0;
-    left = third.0;
-    at = first.1;
-    one = one_carried tells r had was up turned carried after first.0 second.0 third.0 fourth.0 crashed.call first.1 second.1 third.1 fourth.1;
-    well = stands_well tells g d r had was up first.0 second.0 come crashed.call.raises first.1 second.1;
-    holds = subst (λ (y : NodeView K). CrashesNode tells clock done y third.0) up_is (crashed.holds second.0 third.0 second.1 third.1);
-    early = subst (λ (y : NodeView K). y.time ≤ 1000000000000) left_is (crashed.call.told.node fourth.0 fourth.1).time;
-    few = subst (λ (y : NodeView K). y.count < 2 ^ 62) left_is (crashed.call.told.node fourth.0 fourth.1).counted;
-  }
-    where
-      first : (n : NodeView K) × (slice_get was.nodes r ≡ Some n)
-      first = slice_get-within was.nodes r there
-
-      second : (p : NodeView K) × (slice_get up.nodes r ≡ Some p)
-      second = slice_get-within up.nodes r (subst (λ (c : ℕ). r < c) (sym crashed.call.raises.count) there)
-
-      third : (m : NodeView K) × (slice_get turned r ≡ Some m)
-      third = slice_get-within turned r (subst (λ (c : ℕ). r < c) (sym (crashed.call.count ∙ crashed.call.raises.count)) there)
-
-      fourth : (x : NodeView K) × (slice_get carried r ≡ Some x)
-      fourth = slice_get-within carried r (subst (λ (c : ℕ). r < c) (sym (crashed.call.carried_count ∙ (crashed.call.count ∙ crashed.call.raises.count))) there)
-
-      up_is : second.0 ≡ with_newest d first.0
-      up_is = raised_is tells g d r had was up first.0 second.0 come crashed.call.raises first.1 second.1
-
-      left_is : fourth.0 ≡ joined.with_links third.0 fourth.0.parts.links
-      left_is = crashed.call.rest third.0 fourth.0 third.1 fourth.1
+  -- the node before the call and after it
+  around : (g : DriverInput) (d : Driver) → HasCome tells g d was → IsThere r (CrashesNode tells clock done) was after g d
+  around g d come = is_there tells r had (CrashesNode tells clock done) was up turned carried after there crashed.call crashed.holds g d come
 
   pub crashes_on : IsEnded done → IfErr done (λ e. (e ≡ refusals.Full) ⊎ (e ≡ refusals.NoMemory)) → ((g : DriverInput) (d : Driver) → IsKnown g r → StaysSound g d (crashes g r clock d))
       → GoesOn tells (λ g d. crashes g r clock d) was after
   crashes_on ended refused sound g d stands =
-      let t = is_there g d stands.come in
+      let t = around g d stands.come in
       record {
         come = laws.comes g d r clock t.before t.left was after stands.come t.one t.well
             (subst (λ (a : Answer). OnOk a (Crashes (told_of (tells t.before.keeper).contents (tells t.before.keeper).parts) clock (with_newest d t.before) t.left)) (no_fault done refused ended) t.holds.ok)
@@ -144,7 +106,7 @@ module _ {K : Type 0} (tells : K → StoreView) (laws : CrashLaws tells) (r cloc
 
   pub crash_ends : done ≡ Err refusals.Full → EndsAtFull tells r (λ g d. crashes g r clock d) was after
   crash_ends full g d stands =
-      let t = is_there g d stands.come in
+      let t = around g d stands.come in
       let same : t.left ≡ with_newest d t.before = subst (λ (a : Answer). OnErr a (t.left ≡ with_newest d t.before)) full t.holds.err in
       let whole : length t.before.history ≡ most_entries = just_full most_entries (length t.before.history) (t.holds.full full) (each_at (λ (n : NodeView K). length n.history ≤ most_entries) was.nodes r t.before crashed.few t.at) in
       subst (λ (run : Run). StopsAtFull g r (crashes g r clock d) run) (sym (run_stays t.before t.left was after t.one.run (ap (λ (y : NodeView K). y.history) same)))

@@ -5,5 +5,6 @@ mod Quiet
 mod Rounds
 mod Ending
 mod Time
+mod Standing
 mod Closes
 mod Crashes

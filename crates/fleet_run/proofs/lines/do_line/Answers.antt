@@ -1,5 +1,5 @@
 -- What the proof of `lines::do_line` needs beside the tactics.
-use Rattle.std.proofs.Common.{ap, refl, sym, ◌∙◌}
+use Rattle.std.proofs.Common.{refl}
 use Rattle.fleet_entries.specs.Stored.{StoreView, store_view}
 use Rattle.script_commands.specs.declared.command.Command.TheVariants as commands
 use Rattle.fleet_run.proofs.Commands.{as_form, may_as, never_unbuilt, quiet_stays, stops_as}

@@ -4,7 +4,6 @@ use Rattle.fleet_entries.specs.Stored.{StoreView, store_view}
 use Rattle.script_commands.specs.declared.command.Action.TheVariants as actions
 use Rattle.script_commands.specs.declared.command.Command.TheVariants as commands
 use Rattle.driver_model.specs.ScriptSteps.{enters, has}
-use Rattle.fleet_entries.specs.Fleets.{FleetView}
 use Rattle.fleet_entries.specs.AtDriver.{most_lines}
 use Rattle.fleet_run.specs.Commands.{does_command}
 use Rattle.fleet_run.proofs.Cutting.{CutLaws, added_cuts, room_added}
