@@ -40,8 +40,23 @@ use annex_key::Key;
 use branch_bundle::bundles_are_exact;
 use log_lines::{Entry, LogKind};
 use object_store::{FailingKeeper, Keeper};
-use repo_node::{BeginRefused, NodeRefused, Turn};
+use repo_node::{BeginRefused, Node, NodeRefused, Turn};
 use run_data::Job;
+
+/// A node makes ready to crash, and crashes.
+fn crash<K: Keeper>(node: &mut Node<K>, clock: u64) -> Result<(), NodeRefused>
+    requires near { clock ≤ 100000000000 }
+    ensures ok { OnOk result (Crashes (told_of (K.contents node.old.keeper) (K.parts node.old.keeper)) clock node.old node.new) }
+    ensures full { IsErrOf result NodeRefused.Full → nat_le most_entries (length node.old.history) ≡ true }
+    ensures lacks { nat_le most_entries (length node.old.history) ≡ true → result ≡ Err NodeRefused.Full }
+    ensures refused { IfErr result (λ e. (e ≡ NodeRefused.Full) ⊎ (e ≡ NodeRefused.NoMemory)) }
+    ensures paired { StayPaired node.old.parts.links node.new.parts.links }
+    ensures err { OnErr result (node.new ≡ node.old) }
+{
+    let ready = node.make_ready()?;
+    ready.crash(clock);
+    Ok(())
+}
 
 impl<K: Keeper> Nodes<K> {
     /// Raises the time of a node, in milliseconds of the script, and its count of the last entry, as `Node::advance` does.
@@ -121,7 +136,7 @@ impl<K: Keeper> Nodes<K> {
         self.nodes[repo].close_end(peer)
     }
 
-    /// A node crashes, as `Node::crash` does. What it sent stays on its way until frames are carried.
+    /// A node makes ready to crash, as `Node::make_ready` does, and crashes, as `ReadyNode::crash` does. What it sent stays on its way until frames are carried.
     pub fn crash(&mut self, repo: usize, clock: u64) -> Result<(), NodeRefused>
         requires there { repo < length self.old }
         requires near { clock ≤ 100000000000 }
@@ -136,7 +151,7 @@ impl<K: Keeper> Nodes<K> {
     {
         // A law, for the proof that the nodes stay joined.
         nodes_stay_joined::<K>();
-        self.nodes[repo].crash(clock)
+        crash(&mut self.nodes[repo], clock)
     }
 
     /// Adds a line to a file of a node's branch, as `Node::write_raw` does.

@@ -1,6 +1,7 @@
 -- A node crashes, by one entry (own).
-use Rattle.std.specs.Prelude.{◌≡◌, ℕ, ◌+◌, ◌==◌, List, [], ◌∷◌, ◌++◌, find, flat_map, length, Option, Some, None}
+use Rattle.std.specs.Prelude.{◌≡◌, ℕ, ◌+◌, ◌<◌, ◌≤◌, ◌==◌, List, [], ◌∷◌, ◌++◌, find, flat_map, length, Option, Some, None}
 use Rattle.std.specs.Option.{ForSome, option_map, option_to_list}
+use Rattle.run_data.specs.Histories.{most_entries}
 use Rattle.run_data.specs.declared.entry.Entry.{Entry}
 use Rattle.run_data.specs.declared.entry.EntryKind.TheVariants.{Crash}
 use Rattle.run_data.specs.declared.entry.FrameView.{FrameView}
@@ -52,3 +53,19 @@ pub record Crashes {K : Type 0} (told : Option Contents) (clock : ℕ) (was now 
   pub jobs : now.parts.jobs ≡ record was.parts.jobs { running = [] }
   pub ends : AreAfter was.parts.links now.parts.links None sent
   pub posts : (known : Option Contents) → PostsPieces (stamp_then was) (Crash clock) was.parts known now.parts.links None sent
+
+-- ---- room for a crash
+
+-- Places in memory of its own: for frames, for entries, and for jobs that have ended.
+pub record RoomView : Type 0 where
+  pub closes : ℕ
+  pub entries : ℕ
+  pub ended : ℕ
+
+-- The history isn't full, and there are places for a Close of each end, for all entries and one more, and for all jobs that have ended
+-- and four more.
+pub record HasRoom {K : Type 0} (room : RoomView) (n : NodeView K) : Type 0 where
+  pub few : length n.history < most_entries
+  pub closes : length n.parts.links ≤ room.closes
+  pub entries : length n.history + 1 ≤ room.entries
+  pub ended : length n.outcomes + 4 ≤ room.ended

@@ -8,7 +8,7 @@ mod laws;
 mod stepping;
 
 pub use closing::close_ends;
-pub use crashing::crash;
+pub use crashing::{Room, crash, make_ready};
 pub use laws::direct_entries_keep_parts;
 pub use node_parts::{BeginRefused, Parts, parts_stay_fed, tables_fill_as_states};
 pub use stepping::{is_ready, step};

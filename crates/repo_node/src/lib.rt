@@ -14,6 +14,7 @@ mod turn;
 
 pub use beginning::BeginRefused;
 pub use carrying::carry_nodes;
+pub use crashing::ReadyNode;
 pub use node::Node;
 pub use node_past::{Ended, NodeRefused, Setup};
 pub use turn::Turn;
