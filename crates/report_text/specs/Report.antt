@@ -29,8 +29,7 @@ use Rattle.script_commands.specs.declared.command.Showing.{Showing}
 use Rattle.script_commands.specs.declared.command.Showing.TheVariants as showings
 
 -- A line ends with a newline. Lists are joined by commas, names after `presence` and `claims` by spaces; an empty list
--- is a dash. These have no text yet: the line of a sync, which is also to hold back the lines of its jobs that are
--- done; and those of jobs that a crash ends.
+-- is a dash. A sync has no line of its own yet, which is also to hold back the lines of its jobs that are done.
 
 -- what its lines set
 abbrev pub settings_at : Run → ℕ → ℕ → Settings

@@ -53,3 +53,9 @@ flat_map_walked f len past from upto place far at =
           let count : min (from + (upto - from)) len - from ≡ place - from = omega arith in
           rw (← count) (sym (flat_map_within f len past from (upto - from)))
     ]
+
+-- the text so far, with that of the next number
+pub numbered_more : (f : ℕ → List ℕ) (place : ℕ) (old out new : List ℕ) → out ≡ old ++ flat_map f (range_with_len 0 place) → new ≡ out ++ f place
+    → new ≡ old ++ flat_map f (range_with_len 0 (place + 1))
+numbered_more f place old out new so_far is =
+    is ∙ ap (λ (l : List ℕ). l ++ f place) so_far ∙ append_assoc old _ _ ∙ ap (λ (l : List ℕ). old ++ l) (sym (flat_map_place f 0 place (omega arith)))

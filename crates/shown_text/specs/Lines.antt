@@ -1,17 +1,18 @@
--- The lines of jobs that end or find no slot, and of faults (own).
+-- The lines of jobs that end or find no slot, of crashes and of faults (own).
 use Rattle.std.specs.Prelude.{ℕ, ◌-◌, Bool, false, ◌&&◌, if◌then◌else◌, nat_lt, List, [], ◌++◌, codes, Option, Some, None, slice_get}
 use Rattle.std.specs.List.{flat_map, range_with_len}
 use Rattle.run_data.specs.declared.run.Run.{Run}
 use Rattle.run_data.specs.declared.run.RepoView.{RepoView}
 use Rattle.run_data.specs.declared.entry.Entry.{Entry}
 use Rattle.run_data.specs.declared.entry.EntryKind.{EntryKind}
-use Rattle.run_data.specs.declared.entry.EntryKind.TheVariants.{End, Fault}
+use Rattle.run_data.specs.declared.entry.EntryKind.TheVariants.{Crash, End, Fault}
 use Rattle.run_data.specs.declared.job.Job.{Job}
 use Rattle.run_data.specs.declared.job.Outcome.{Outcome}
 use Rattle.annex_base.specs.declared.kinds.Call.{Call}
-use Rattle.node_model.specs.Slots.{is_begin}
-use Rattle.run_model.specs.Past.{begun_job, is_of}
+use Rattle.node_model.specs.Slots.{RunningJob, is_begin}
+use Rattle.run_model.specs.Past.{begun_job, is_of, jobs}
 use Rattle.run_model.specs.Safety.{past_at}
+use Rattle.crashed_jobs.specs.Crashed.{crashed_outcome, in_slot}
 use Rattle.script_words.specs.Fields.{call_word}
 use Rattle.run_text.specs.Names.{name_of}
 use Rattle.run_text.specs.Jobs.{begun_text}
@@ -28,9 +29,19 @@ end_line repos r job outcome = begun_text repos r job ++ outcome_text repos job 
 abbrev pub fault_line : List RepoView → ℕ → Call → List ℕ
 fault_line repos r call = codes "fault " ++ name_of repos r ++ codes " " ++ call_word call ++ codes "\n"
 
+-- the line of a job that a crash of r ended, if there is one
+abbrev pub crashed_line : List RepoView → List Entry → ℕ → Option RunningJob → List ℕ
+crashed_line repos past r None = []
+crashed_line repos past r (Some j) = end_line repos r (Some j.what) (crashed_outcome past r j)
+
+-- the jobs that a crash of r ended, in order of their slots
+abbrev pub crash_lines : List RepoView → List Entry → ℕ → List ℕ
+crash_lines repos past r = flat_map (λ slot. crashed_line repos past r (in_slot (jobs past r) slot)) (range_with_len 0 4)
+
 abbrev pub kind_line : List RepoView → List Entry → ℕ → EntryKind → List ℕ
 kind_line repos past r (End j outcome) = end_line repos r (begun_job past r j) outcome
 kind_line repos past r (Fault call by) = fault_line repos r call
+kind_line repos past r (Crash clock) = crash_lines repos past r
 kind_line repos past r _ = []
 
 abbrev pub repo_line : List RepoView → List Entry → Option ℕ → EntryKind → List ℕ
@@ -41,7 +52,7 @@ abbrev pub entry_line : List RepoView → List Entry → Option Entry → List �
 entry_line repos past None = []
 entry_line repos past (Some e) = repo_line repos past e.repo e.kind
 
--- the lines of the entries from one place up to another: one for each job that ends, and for each fault
+-- the lines of the entries from one place up to another: one for each job that ends, also by a crash, and for each fault
 abbrev pub outcome_lines : Run → ℕ → ℕ → List ℕ
 outcome_lines run from upto = flat_map (λ place. entry_line run.repos (past_at run place) (slice_get run.entries place)) (range_with_len from (upto - from))
 

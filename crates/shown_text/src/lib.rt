@@ -1,6 +1,7 @@
-//! The lines of a report: of jobs and faults, and what is shown of a branch, of a row and of a plan.
+//! The lines of a report: of jobs, crashes and faults, and what is shown of a branch, of a row and of a plan.
 #![tactic(auto)]
 
+mod crashes;
 mod lines;
 mod logs;
 mod named;

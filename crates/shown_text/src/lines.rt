@@ -1,10 +1,11 @@
-//! The lines of the entries between two places of a run: of jobs that ended, and of faults.
+//! The lines of the entries between two places of a run: of jobs that ended, of crashes and of faults.
 
 ghost use Rattle.std.specs.Prelude.{◌≡◌, ◌++◌, ◌&&◌, nat_lt, OnOk, Some, reverse, slice_get, option_copied};
 ghost use Rattle.node_model.specs.Slots.{is_begin};
 ghost use Rattle.shown_text.specs.Lines.{action_slot, begins_job, end_line, entry_line, fault_line, noslot_line, outcome_lines, slot_text};
 
-use annex_base::Call;
+use crate::crashes::put_crashed;
+use annex_base::{Call, NoMemory};
 use journal_text::begun_job;
 use run_data::{Entry, EntryKind, Job, Outcome, RepoView, Run};
 use run_text::{put_begun, put_name, put_outcome};
@@ -109,8 +110,9 @@ fn is_begin(kind: &EntryKind) -> bool
     }
 }
 
-/// Adds the lines of the entries from one place of a run up to another: one for each job that ends, and for each fault.
-pub fn put_ended(out: &mut Vec<u8>, run: &Run, from: usize, upto: usize) -> Result<(), AllocError>
+/// Adds the lines of the entries from one place of a run up to another: one for each job that ends, also by a crash, and
+/// for each fault.
+pub fn put_ended(out: &mut Vec<u8>, run: &Run, from: usize, upto: usize) -> Result<(), NoMemory>
     ensures { OnOk result (out.new.items ≡ out.old.items ++ outcome_lines run.now from upto) }
 {
     let repos = run.repos.as_slice();
@@ -122,13 +124,13 @@ pub fn put_ended(out: &mut Vec<u8>, run: &Run, from: usize, upto: usize) -> Resu
     Ok(())
 }
 
-/// Adds the line of an entry, if it ends a job or is a fault; the entries before it stand in order.
+/// Adds the lines of an entry, if it ends jobs or is a fault; the entries before it stand in order.
 fn put_entry_line(
     out: &mut Vec<u8>,
     repos: &[RepoView],
     before: &[Entry],
     entry: &Entry,
-) -> Result<(), AllocError>
+) -> Result<(), NoMemory>
     ensures { OnOk result (out.new.items ≡ out.old.items ++ entry_line repos.now (reverse before.now) (Some entry.now)) }
 {
     let Some(repo) = entry.repo else {
@@ -139,6 +141,7 @@ fn put_entry_line(
             put_end_line(out, repos, repo, begun_job(before, repo, *job), outcome)?
         }
         EntryKind::Fault { call, .. } => put_fault_line(out, repos, repo, *call)?,
+        EntryKind::Crash { .. } => put_crashed(out, repos, before, repo)?,
         _ => {}
     }
     Ok(())
@@ -160,7 +163,7 @@ fn put_fault_line(
     Ok(())
 }
 
-fn put_end_line(
+pub(crate) fn put_end_line(
     out: &mut Vec<u8>,
     repos: &[RepoView],
     repo: u32,
