@@ -1,5 +1,5 @@
 -- Lists made place by place.
-use Rattle.std.proofs.Common.{◌≡◌, ◌⊎◌, ℕ, zero, suc, ◌+◌, ◌-◌, ◌≤◌, min, List, [], ◌∷◌, ◌++◌, refl, sym, ◌∙◌, ap, arith, append_assoc, append-nil, add-zero, inl, inr}
+use Rattle.std.proofs.Common.{◌≡◌, ◌⊎◌, ℕ, zero, suc, ◌+◌, ◌-◌, ◌≤◌, min, List, [], ◌++◌, refl, sym, ◌∙◌, ap, arith, append_assoc, append-nil, add-one, add-zero, zero-add, inl, inr}
 use Rattle.std.specs.List.{flat_map, range_with_len}
 use Rattle.std.proofs.lemmas.Bool.{cases_lt}
 
@@ -58,4 +58,5 @@ flat_map_walked f len past from upto place far at =
 pub numbered_more : (f : ℕ → List ℕ) (place : ℕ) (old out new : List ℕ) → out ≡ old ++ flat_map f (range_with_len 0 place) → new ≡ out ++ f place
     → new ≡ old ++ flat_map f (range_with_len 0 (place + 1))
 numbered_more f place old out new so_far is =
-    is ∙ ap (λ (l : List ℕ). l ++ f place) so_far ∙ append_assoc old _ _ ∙ ap (λ (l : List ℕ). old ++ l) (sym (flat_map_place f 0 place (omega arith)))
+    let more : flat_map f (range_with_len 0 (place + 1)) ≡ flat_map f (range_with_len 0 place) ++ f place = rw (add-one, flat_map_suc f 0 place, zero-add) refl in
+    is ∙ ap (λ (l : List ℕ). l ++ f place) so_far ∙ append_assoc old _ _ ∙ ap (λ (l : List ℕ). old ++ l) (sym more)
