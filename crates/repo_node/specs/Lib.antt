@@ -2,6 +2,7 @@
 pub mod Placing
 pub mod Calls
 pub mod Turns
+pub mod Ready
 pub use Rattle.node_past.specs.Stored
 pub use Rattle.node_ledger.specs.Refusals
 pub use Rattle.node_ledger.specs.Logs

@@ -22,12 +22,14 @@ pub struct ReadyNode<'a, K: Keeper> {
 }
 
 impl<K: Keeper> Node<K> {
+    ghost use Rattle.repo_node.specs.Ready.{held};
+
     /// Makes ready to crash: takes the memory for the crash's entry, for its Closes and for the jobs that it ends. Full comes exactly
     /// where its history has as many entries as it may have. The node is as before, after a refusal too.
     pub fn make_ready(&mut self) -> Result<ReadyNode<'_, K>, NodeRefused>
-        ensures* err { sem 𝓛 (RestsIfErr (the_row K.row K.Keeper) self.entry (λ ready. ready.node.ghost_name) result (λ now. now ≡ self.old)) }
-        ensures same_reference { IfOk result (λ ready. ready.node.ghost_name ≡ self.entry.ghost_name) }
-        ensures same { IfOk result (λ ready. ready.node.now ≡ self.old) }
+        ensures* err { sem 𝓛 (RestsIfErr (the_row K.row K.Keeper) self.entry (λ ready. (held ready).ghost_name) result (λ now. now ≡ self.old)) }
+        ensures same_reference { IfOk result (λ ready. (held ready).ghost_name ≡ self.entry.ghost_name) }
+        ensures same { IfOk result (λ ready. (held ready).now ≡ self.old) }
         ensures full { IsErrOf result NodeRefused.Full → nat_le most_entries (length self.old.history) ≡ true }
         ensures lacks { nat_le most_entries (length self.old.history) ≡ true → result ≡ Err NodeRefused.Full }
         ensures refused { IfErr result (λ e. (e ≡ NodeRefused.Full) ⊎ (e ≡ NodeRefused.NoMemory)) }
@@ -58,14 +60,16 @@ impl<K: Keeper> Node<K> {
 }
 
 impl<'a, K: Keeper> ReadyNode<'a, K> {
+    ghost use Rattle.repo_node.specs.Ready.{held};
+
     /// Crashes, by one entry, and is up again at once, with its clock at this, in milliseconds: each end that is open is closed, bars are
     /// off, each hold is kept for ten minutes of the new clock, the lines that were owed and the sessions are gone, and each job has
     /// ended. Its store, its branch and its history stay. It takes no memory, and hands the node back.
     pub fn crash(self, clock: u64) -> &'a mut Node<K>
         requires near { clock ≤ 100000000000 }
-        ensures same_reference { result.ghost_name ≡ self.entry.node.ghost_name }
-        ensures ok { Crashes (told_of (K.contents self.entry.node.now.keeper) (K.parts self.entry.node.now.keeper)) clock self.entry.node.now result.now }
-        ensures paired { StayPaired self.entry.node.now.parts.links result.now.parts.links }
+        ensures same_reference { result.ghost_name ≡ (held self.entry).ghost_name }
+        ensures ok { Crashes (told_of (K.contents (held self.entry).now.keeper) (K.parts (held self.entry).now.keeper)) clock (held self.entry).now result.now }
+        ensures paired { StayPaired (held self.entry).now.parts.links result.now.parts.links }
     {
         let ReadyNode { node, room } = self;
         node.fall(room, clock);
