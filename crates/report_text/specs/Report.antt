@@ -16,20 +16,23 @@ use Rattle.run_text.specs.Names.{name_of}
 use Rattle.sync_core.specs.Plan.{plan}
 use Rattle.journal_text.specs.Journal.{journal_of}
 use Rattle.report_tables.specs.Before.{branch_at, possessors, row_at, total_at}
-use Rattle.shown_text.specs.Lines.{outcome_lines, slot_text}
+use Rattle.run_model.specs.Syncs.{SyncJobs, jobs_between}
+use Rattle.shown_text.specs.Lines.{outcome_lines, slot_text, sync_text}
 use Rattle.shown_text.specs.Plans.{plan_text}
 use Rattle.shown_text.specs.Row.{row_text}
 use Rattle.shown_text.specs.Shown.{claims_text, location_text, log_text, named_text, numbers_for, trust_text}
 use Rattle.shown_text.specs.Wanted.{wants_text}
 use Rattle.script_forms.specs.Changes.{Change, Declares, Puts, Brings, Adds, Names, Waits, Nothing, change_of}
 use Rattle.script_commands.specs.declared.command.NamedKey.{NamedKey}
+use Rattle.script_commands.specs.declared.command.Action.{Action}
+use Rattle.script_commands.specs.declared.command.Action.TheVariants as actions
 use Rattle.script_commands.specs.declared.command.Command.{Command}
 use Rattle.script_commands.specs.declared.command.Command.TheVariants as commands
 use Rattle.script_commands.specs.declared.command.Showing.{Showing}
 use Rattle.script_commands.specs.declared.command.Showing.TheVariants as showings
 
 -- A line ends with a newline. Lists are joined by commas, names after `presence` and `claims` by spaces; an empty list
--- is a dash. A sync has no line of its own yet, which is also to hold back the lines of its jobs that are done.
+-- is a dash.
 
 -- what its lines set
 abbrev pub settings_at : Run → ℕ → ℕ → Settings
@@ -81,10 +84,20 @@ abbrev pub shown_by : Run → ℕ → ℕ → Command → List ℕ
 shown_by run place changes (commands.Shows what) = show_text run place changes what
 shown_by run place changes command = []
 
--- what a line of the script prints: that no slot was free, what ended and what failed while it was done, and what it
--- shows then
-abbrev pub line_text : Run → ℕ → ℕ → ℕ → Command → List ℕ
-line_text run from upto changes c = slot_text run from upto c ++ outcome_lines run from upto ++ shown_by run upto changes c
+-- what a line of the script prints: that no slot was free, what ended and what failed while it was done, the numbers of a
+-- sync, and what it shows then. The syncs are those so far, with its own.
+abbrev pub line_text : Run → List SyncJobs → ℕ → ℕ → ℕ → Command → List ℕ
+line_text run syncs from upto changes c =
+    slot_text run from upto c ++ outcome_lines run syncs from upto ++ sync_text run from upto c ++ shown_by run upto changes c
+
+-- the jobs of an action that has made the entries from one place up to another, if it is a sync
+abbrev pub syncs_by : Run → ℕ → ℕ → Action → List SyncJobs
+syncs_by run from upto (actions.Sync r) = jobs_between run r from upto ∷ []
+syncs_by run from upto action = []
+
+abbrev pub syncs_of : Run → ℕ → ℕ → Command → List SyncJobs
+syncs_of run from upto (commands.Does action) = syncs_by run from upto action
+syncs_of run from upto command = []
 
 -- how many changes of the tree it makes: one where a path gets a key
 abbrev pub tree_changes : Change → ℕ
@@ -100,11 +113,13 @@ tree_changes Nothing = 0
 abbrev pub changes_of : Command → ℕ
 changes_of c = tree_changes (change_of c)
 
--- the report from a place on, after lines that made so many changes of the tree
-abbrev pub report_from : Run → ℕ → ℕ → List Command → List ℕ → List ℕ
-report_from run from changes (c ∷ cs) (mark ∷ marks) = line_text run from mark changes c ++ report_from run mark (changes + changes_of c) cs marks
-report_from run from changes cs [] = outcome_lines run from (length run.entries)
-report_from run from changes [] marks = outcome_lines run from (length run.entries)
+-- the report from a place on, after lines that made so many changes of the tree and these syncs
+abbrev pub report_from : Run → ℕ → ℕ → List SyncJobs → List Command → List ℕ → List ℕ
+report_from run from changes syncs (c ∷ cs) (mark ∷ marks) =
+    line_text run (syncs ++ syncs_of run from mark c) from mark changes c
+    ++ report_from run mark (changes + changes_of c) (syncs ++ syncs_of run from mark c) cs marks
+report_from run from changes syncs cs [] = outcome_lines run syncs from (length run.entries)
+report_from run from changes syncs [] marks = outcome_lines run syncs from (length run.entries)
 
 abbrev pub report : List Command → Run → List ℕ
-report script run = report_from run 0 0 script run.marks
+report script run = report_from run 0 0 [] script run.marks

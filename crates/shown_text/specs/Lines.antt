@@ -1,5 +1,6 @@
--- The lines of jobs that end or find no slot, of crashes and of faults (own).
+-- The lines of jobs that end or find no slot, of crashes, faults and syncs (own).
 use Rattle.std.specs.Prelude.{ℕ, ◌-◌, Bool, false, ◌&&◌, if◌then◌else◌, nat_lt, List, [], ◌++◌, codes, Option, Some, None, slice_get}
+use Rattle.std.specs.Fmt.{decimal}
 use Rattle.std.specs.List.{flat_map, range_with_len}
 use Rattle.run_data.specs.declared.run.Run.{Run}
 use Rattle.run_data.specs.declared.run.RepoView.{RepoView}
@@ -12,6 +13,7 @@ use Rattle.annex_base.specs.declared.kinds.Call.{Call}
 use Rattle.node_model.specs.Slots.{RunningJob, is_begin}
 use Rattle.run_model.specs.Past.{begun_job, is_of, jobs}
 use Rattle.run_model.specs.Safety.{past_at}
+use Rattle.run_model.specs.Syncs.{SyncJobs, SyncNumbers, sync_numbers, tells_end}
 use Rattle.crashed_jobs.specs.Crashed.{crashed_outcome, in_slot}
 use Rattle.script_words.specs.Fields.{call_word}
 use Rattle.run_text.specs.Names.{name_of}
@@ -38,23 +40,28 @@ crashed_line repos past r (Some j) = end_line repos r (Some j.what) (crashed_out
 abbrev pub crash_lines : List RepoView → List Entry → ℕ → List ℕ
 crash_lines repos past r = flat_map (λ slot. crashed_line repos past r (in_slot (jobs past r) slot)) (range_with_len 0 4)
 
-abbrev pub kind_line : List RepoView → List Entry → ℕ → EntryKind → List ℕ
-kind_line repos past r (End j outcome) = end_line repos r (begun_job past r j) outcome
-kind_line repos past r (Fault call by) = fault_line repos r call
-kind_line repos past r (Crash clock) = crash_lines repos past r
-kind_line repos past r _ = []
+-- job j of r ended; where it is one of these syncs' and is done, no line tells it
+abbrev pub told_line : List RepoView → List SyncJobs → List Entry → ℕ → ℕ → Outcome → List ℕ
+told_line repos syncs past r j outcome = if tells_end syncs r j outcome then end_line repos r (begun_job past r j) outcome else []
 
-abbrev pub repo_line : List RepoView → List Entry → Option ℕ → EntryKind → List ℕ
-repo_line repos past None kind = []
-repo_line repos past (Some r) kind = kind_line repos past r kind
+abbrev pub kind_line : List RepoView → List SyncJobs → List Entry → ℕ → EntryKind → List ℕ
+kind_line repos syncs past r (End j outcome) = told_line repos syncs past r j outcome
+kind_line repos syncs past r (Fault call by) = fault_line repos r call
+kind_line repos syncs past r (Crash clock) = crash_lines repos past r
+kind_line repos syncs past r _ = []
 
-abbrev pub entry_line : List RepoView → List Entry → Option Entry → List ℕ
-entry_line repos past None = []
-entry_line repos past (Some e) = repo_line repos past e.repo e.kind
+abbrev pub repo_line : List RepoView → List SyncJobs → List Entry → Option ℕ → EntryKind → List ℕ
+repo_line repos syncs past None kind = []
+repo_line repos syncs past (Some r) kind = kind_line repos syncs past r kind
 
--- the lines of the entries from one place up to another: one for each job that ends, also by a crash, and for each fault
-abbrev pub outcome_lines : Run → ℕ → ℕ → List ℕ
-outcome_lines run from upto = flat_map (λ place. entry_line run.repos (past_at run place) (slice_get run.entries place)) (range_with_len from (upto - from))
+abbrev pub entry_line : List RepoView → List SyncJobs → List Entry → Option Entry → List ℕ
+entry_line repos syncs past None = []
+entry_line repos syncs past (Some e) = repo_line repos syncs past e.repo e.kind
+
+-- The lines of the entries from one place up to another, with these syncs: one for each job that ends, also by a crash, but
+-- for those of syncs that are done; and one for each fault.
+abbrev pub outcome_lines : Run → List SyncJobs → ℕ → ℕ → List ℕ
+outcome_lines run syncs from upto = flat_map (λ place. entry_line run.repos syncs (past_at run place) (slice_get run.entries place)) (range_with_len from (upto - from))
 
 -- the entry is the beginning of a job of r
 abbrev pub begins_job : ℕ → Option Entry → Bool
@@ -76,3 +83,20 @@ action_slot run from upto action = []
 abbrev pub slot_text : Run → ℕ → ℕ → Command → List ℕ
 slot_text run from upto (commands.Does action) = action_slot run from upto action
 slot_text run from upto command = []
+
+-- ---- syncs
+
+-- the numbers of a sync of r
+abbrev pub sync_line : List RepoView → ℕ → SyncNumbers → List ℕ
+sync_line repos r n =
+    codes "sync " ++ name_of repos r ++ codes " get=" ++ decimal n.get ++ codes " put=" ++ decimal n.put ++ codes " drop=" ++ decimal n.drop
+    ++ codes " refused=" ++ decimal n.refused ++ codes "\n"
+
+-- the line of an action that has made the entries from one place up to another, if it is a sync
+abbrev pub action_sync : Run → ℕ → ℕ → Action → List ℕ
+action_sync run from upto (actions.Sync r) = sync_line run.repos r (sync_numbers run r from upto)
+action_sync run from upto action = []
+
+abbrev pub sync_text : Run → ℕ → ℕ → Command → List ℕ
+sync_text run from upto (commands.Does action) = action_sync run from upto action
+sync_text run from upto command = []

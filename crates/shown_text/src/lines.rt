@@ -2,7 +2,7 @@
 
 ghost use Rattle.std.specs.Prelude.{◌≡◌, ◌++◌, ◌&&◌, nat_lt, OnOk, Some, reverse, slice_get, option_copied};
 ghost use Rattle.node_model.specs.Slots.{is_begin};
-ghost use Rattle.shown_text.specs.Lines.{action_slot, begins_job, end_line, entry_line, fault_line, noslot_line, outcome_lines, slot_text};
+ghost use Rattle.shown_text.specs.Lines.{action_slot, begins_job, end_line, entry_line, fault_line, noslot_line, outcome_lines, slot_text, told_line};
 
 use crate::crashes::put_crashed;
 use annex_base::{Call, NoMemory};
@@ -12,6 +12,7 @@ use run_text::{put_begun, put_name, put_outcome};
 use script_commands::{Action, Command};
 use script_words::call_text;
 use std::alloc::AllocError;
+use sync_outcomes::{SyncJobs, tells_end};
 
 /// Adds that no slot was free, where the line begins a job and has none; the line made the entries from one place of
 /// the run up to another.
@@ -110,16 +111,22 @@ fn is_begin(kind: &EntryKind) -> bool
     }
 }
 
-/// Adds the lines of the entries from one place of a run up to another: one for each job that ends, also by a crash, and
-/// for each fault.
-pub fn put_ended(out: &mut Vec<u8>, run: &Run, from: usize, upto: usize) -> Result<(), NoMemory>
-    ensures { OnOk result (out.new.items ≡ out.old.items ++ outcome_lines run.now from upto) }
+/// Adds the lines of the entries from one place of a run up to another, with these syncs: one for each job that ends, also
+/// by a crash, but for those of syncs that are done; and one for each fault. For each job that ends it asks each sync (own).
+pub fn put_ended(
+    out: &mut Vec<u8>,
+    run: &Run,
+    syncs: &[SyncJobs],
+    from: usize,
+    upto: usize,
+) -> Result<(), NoMemory>
+    ensures { OnOk result (out.new.items ≡ out.old.items ++ outcome_lines run.now syncs.now from upto) }
 {
     let repos = run.repos.as_slice();
     let entries = run.entries.as_slice();
     for place in from..upto.min(entries.len()) {
         let (before, _) = entries.split_at(place);
-        put_entry_line(out, repos, before, &entries[place])?;
+        put_entry_line(out, repos, syncs, before, &entries[place])?;
     }
     Ok(())
 }
@@ -128,21 +135,39 @@ pub fn put_ended(out: &mut Vec<u8>, run: &Run, from: usize, upto: usize) -> Resu
 fn put_entry_line(
     out: &mut Vec<u8>,
     repos: &[RepoView],
+    syncs: &[SyncJobs],
     before: &[Entry],
     entry: &Entry,
 ) -> Result<(), NoMemory>
-    ensures { OnOk result (out.new.items ≡ out.old.items ++ entry_line repos.now (reverse before.now) (Some entry.now)) }
+    ensures { OnOk result (out.new.items ≡ out.old.items ++ entry_line repos.now syncs.now (reverse before.now) (Some entry.now)) }
 {
     let Some(repo) = entry.repo else {
         return Ok(());
     };
     match &entry.kind {
         EntryKind::End { job, outcome } => {
-            put_end_line(out, repos, repo, begun_job(before, repo, *job), outcome)?
+            put_told_line(out, repos, syncs, before, repo, *job, outcome)?
         }
         EntryKind::Fault { call, .. } => put_fault_line(out, repos, repo, *call)?,
         EntryKind::Crash { .. } => put_crashed(out, repos, before, repo)?,
         _ => {}
+    }
+    Ok(())
+}
+
+fn put_told_line(
+    out: &mut Vec<u8>,
+    repos: &[RepoView],
+    syncs: &[SyncJobs],
+    before: &[Entry],
+    repo: u32,
+    job: u32,
+    outcome: &Outcome,
+) -> Result<(), AllocError>
+    ensures { OnOk result (out.new.items ≡ out.old.items ++ told_line repos.now syncs.now (reverse before.now) repo job outcome.now) }
+{
+    if tells_end(syncs, repo, job, outcome) {
+        put_end_line(out, repos, repo, begun_job(before, repo, job), outcome)?;
     }
     Ok(())
 }

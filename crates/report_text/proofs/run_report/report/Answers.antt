@@ -8,8 +8,8 @@ use Rattle.report_text.proofs.run_report.report.Goals as goal
 pub returns : goal.returns
 returns c =
     let over = either_empty_from_Zip c.loop-command.command-iterator c.next.new.self c.next.result c.in-None.is c.next.ensures.steps in
-    (rw c.as_slice-2.ensures at c.in_ok-put_ended.ensures)
-    ∙ ap (λ (l : List ℕ). c.loop-command.out.items ++ l) (sym (report_end c.args.run.now c.loop-command.from c.loop-command.changes _ _ over))
+    (rw (c.as_slice-entries.ensures, c.as_slice-told.ensures.value) at c.in_ok-put_ended.ensures)
+    ∙ ap (λ (l : List ℕ). c.loop-command.out.items ++ l) (sym (report_end c.args.run.now c.loop-command.from c.loop-command.changes c.loop-command.syncs.items _ _ over))
     ∙ sym c.loop-command.invariant.2
 
 pub loop-command-init : goal.loop-command-init

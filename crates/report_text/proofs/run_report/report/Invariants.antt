@@ -11,6 +11,6 @@ use Rattle.report_text.proofs.run_report.report.Given as goal
 abbrev pub invariant-loop-command : goal.invariant-loop-command
 invariant-loop-command l = StandsIn l.walk l.run
     × Each (ShowsKnown (length l.run.repos)) (iter_rest (zip_first l.command-iterator))
-    × (report l.script l.run ≡ l.out.items ++ report_from l.run l.from l.changes (iter_rest (zip_first l.command-iterator)) (iter_rest (zip_second l.command-iterator)))
+    × (report l.script l.run ≡ l.out.items ++ report_from l.run l.from l.changes l.syncs.items (iter_rest (zip_first l.command-iterator)) (iter_rest (zip_second l.command-iterator)))
     × (l.changes + length (iter_rest (zip_first l.command-iterator)) ≤ length l.script)
     × IsIndexOf (take l.changes l.run.tree) l.index
