@@ -13,7 +13,7 @@ use node_steps::{Room, crash, make_ready};
 use object_store::Keeper;
 
 /// A node that is ready to crash (own), with the memory for it. It holds the node, so it stands until the next call that changes the
-/// node; where it is dropped, the node is as it was.
+/// node.
 #[derive(Drop)]
 pub struct ReadyNode<'a, K: Keeper> {
     node: &'a mut Node<K>,
