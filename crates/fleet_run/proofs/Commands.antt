@@ -68,10 +68,6 @@ built_as action form is built = ap is_built_action (sym is) ∙ built
 pub within_as : (context : Context) (action form : Action) → action ≡ form → first_limit context (commands.Does action) ≡ None → first_limit context (commands.Does form) ≡ None
 within_as context action form is within = subst (λ (a : Action). first_limit context (commands.Does a) ≡ None) is within
 
--- the form is built of each action but this
-pub never_acts : (action : Action) (r : ℕ) → is_built_action action ≡ true → action ≡ actions.Sync r → ⊥
-never_acts action r built is = absurd (let no : false ≡ true = built_as action (actions.Sync r) is built in cc)
-
 -- ---- what a line has
 
 -- a text of a line that isn't empty is a line of a file
