@@ -80,18 +80,18 @@ class World:
 class Holders:
     """Which other repositories matter to a question of a key, and what isn't asked of whom."""
 
-    def __init__(self, world, key, everyone):
+    def __init__(self, world, key, everyone, receivers=()):
         self.claimed = [uuid for uuid, status in world.branch.statuses(key).items() if status == "1" and uuid != world.here.uuid]
         self.having_here = [world.here.uuid] if world.here.has(key) else []
         having = {remote.uuid for remote in world.remotes if remote.clone and remote.clone.has(key)}
         counts = {uuid for uuid in self.claimed if world.level(uuid) == "trusted"}
         distrusted = {uuid for uuid in self.claimed if world.level(uuid) in ("untrusted", "dead")}
         asked = {uuid for uuid in [*self.claimed, *(having if everyone else ())] if world.clone(uuid)} - counts - distrusted
-        self.having = having & {*asked, *counts, *distrusted, *([world.peer] if world.peer else ())}
+        self.having = having & {*asked, *counts, *distrusted, *receivers, *([world.peer] if world.peer else ())}
         self.unclaimed = sorted((u for u in having - self.having if world.level(u) in ("trusted", "semitrusted")), key=world.rank)
         self.unasked = sorted(set(self.claimed) - asked - counts - distrusted, key=world.rank)
         weights = {world.peer: 0} if world.peer else {}
-        for weight, uuids in enumerate((counts, asked & having, asked - having, distrusted), 1):
+        for weight, uuids in enumerate((counts, asked & having, asked - having, distrusted, receivers), 1):
             weights.update((uuid, weight) for uuid in uuids if uuid not in weights)
         order = sorted(weights, key=lambda uuid: (weights[uuid], world.rank(uuid)))
         self.repositories, self.cut = order[: MOST_REPOSITORIES - 1], order[MOST_REPOSITORIES - 1 :]
@@ -120,3 +120,14 @@ class Numbers:
             if wanted != self.current[kind]:
                 self.current[kind] = wanted
                 yield Line("%s here %d" % (kind, wanted), kind + " REPO N")
+
+    def by_path(self, is_writable):
+        """The lines that set them for many keys at once: those of all, and those of each path that has its own."""
+        for kind, base in self.base.items():
+            base = self.forced[kind] if self.forced[kind] is not None else base
+            if base != self.current[kind]:
+                yield Line("%s here %d" % (kind, base), kind + " REPO N")
+            for path in sorted(self.attributes):
+                number = self.attributes[path].get(kind, base)
+                if self.forced[kind] is None and number != base and is_writable(path):
+                    yield Line("%sfor here %d %s" % (kind, number, re.sub(r"[*?[]", r"[\g<0>]", path)), kind + "for REPO N REST")

@@ -205,7 +205,7 @@ one_action v g x (actions.Set r kind topic value) n s b = let plain = plain_sett
 one_action v g x (actions.Raw r file text) n s b = (known _ _ r n s.0, file_has_path file b s.1, file_has_kind file b, line_is text s.3 s.2.single)
 one_action v g x (actions.Merge r other) n s b = known _ _ r n s.first
 one_action v g x (actions.Compact r) n s b = known _ _ r n s
-one_action v g x (actions.Sync r) n s b = absurd (cc)
+one_action v g x (actions.Sync r) n s b = known _ _ r n s
 one_action v g x (actions.Begin r job) n s b = (known _ _ r n s.repo, job_is v.faultless g x r job n b s)
 one_action v g x (actions.Run r job) n s b = (known _ _ r n s.repo, job_is v.faultless g x r job n b s)
 one_action v g x (actions.Turns r turns) n s b = known _ _ r n s

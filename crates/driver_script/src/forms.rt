@@ -49,13 +49,13 @@ fn does(action: &Action) -> bool
         | Action::Set { .. }
         | Action::Merge { .. }
         | Action::Compact { .. }
+        | Action::Sync { .. }
         | Action::Turns { .. }
         | Action::Settle
         | Action::Close { .. }
         | Action::Crash { .. }
         | Action::Wait { .. }
         | Action::Fail { .. } => true,
-        Action::Sync { .. } => false,
     }
 }
 

@@ -1,4 +1,4 @@
--- A fleet that ends where a history is full, within steps one behind the other.
+-- Steps one behind the other: a fleet goes on as the driver does, or ends within them.
 use Rattle.std.proofs.Common.{◌≡◌, ℕ, subst}
 use Rattle.run_data.specs.declared.run.Run.{Run}
 use Rattle.driver_model.specs.Driver.{Driver, DriverInput}
@@ -9,6 +9,11 @@ use Rattle.fleet_model.specs.Fleets.{FleetView}
 use Rattle.fleet_entries.specs.AtDriver.{GoesOn, IsAtDriver}
 
 -- ---- steps one behind the other
+
+-- a fleet goes on as the driver does
+pub goes_twice : {K : Type 0} (tells : K → StoreView) (first second : DriverInput → Driver → Driver) (was mid after : FleetView K) → GoesOn tells first was mid → GoesOn tells second mid after
+    → GoesOn tells (λ g d. second g (first g d)) was after
+goes_twice tells first second was mid after goes on g d stands = on g (first g d) (goes g d stands)
 
 -- wherever the driver was, this holds where this step of it ends, of the fleet's run
 abbrev pub Ends : {K : Type 0} → (K → StoreView) → (DriverInput → Driver → Run → Type 0) → (DriverInput → Driver → Driver) → FleetView K → FleetView K → Type 0

@@ -19,6 +19,7 @@ use Rattle.run_data.specs.Files.{file_of}
 use Rattle.run_model.specs.Logs.{branch}
 use Rattle.run_model.specs.Past.{begun_count}
 use Rattle.run_model.specs.States.{end_at, works}
+use Rattle.wanted_rules.specs.declared.action.Action.{Action}
 use Rattle.node_model.specs.AnyTime.{close_at}
 use Rattle.node_model.specs.Ends.{EndName}
 use Rattle.node_model.specs.Look.{Look, Effect, entry_of}
@@ -30,6 +31,7 @@ use Rattle.driver_model.specs.Driver.{Driver, DriverInput, adds, drops_part, fai
 use Rattle.driver_model.specs.Driving.{turns}
 use Rattle.driver_model.specs.Rounds.{AfterRounds, after_round, goes_round, is_settled, most_rounds, numbers, round, rounds, settles, turns_of}
 use Rattle.driver_model.specs.ScriptSteps.{begins, begins_part, closes, closes_each, closes_end, compacts, compacts_files, crashes, ends_at, faults, fills_up, gains, has, is_busy, is_nil, lacks_places, logs, logs_some, merges, merges_files, news, sends, sets, sets_part, setting_line, shrinks, unknown_lines, unless_fails, waits, writes}
+use Rattle.driver_model.specs.Syncs.{carries_out, drops_spared, each_merges, is_transfer, job_for, merges_each, numbers_but, plan_at, shares_logs, syncs, transfers}
 use Rattle.driver_model.specs.Turning.{asked_key, bytes_taken, is_failure, is_valid, look_for, looks, makes, plain_look, store_after, takes_frame, takes_into, turn}
 use Rattle.fleet_model.specs.Settling.{goes_rounds}
 use Rattle.fleet_entries.specs.AtDriver.{IsFew, is_wait}
@@ -254,3 +256,30 @@ module _ (most : ℕ) where
 
   pub settles_few : (g : DriverInput) (d : Driver) → Few d → Few (settles g d)
   settles_few g d few = settling_few g most_rounds (record { driver = d; idle = 0 }) few
+
+  -- ---- syncs
+
+  pub merges_each_few : (r : ℕ) (others : List ℕ) (d : Driver) → Few d → Few (merges_each r others d)
+  merges_each_few r [] d few = few
+  merges_each_few r (other ∷ others) d few = merges_each_few r others (merges r other d) (merges_few r other d few)
+
+  pub each_merges_few : (r : ℕ) (others : List ℕ) (d : Driver) → Few d → Few (each_merges r others d)
+  each_merges_few r [] d few = few
+  each_merges_few r (other ∷ others) d few = each_merges_few r others (merges other r d) (merges_few other r d few)
+
+  pub shares_few : (g : DriverInput) (r : ℕ) (d : Driver) → Few d → Few (shares_logs g r d)
+  shares_few g r d few = each_merges_few r (numbers_but g r) (merges_each r (numbers_but g r) (settles g d)) (merges_each_few r (numbers_but g r) (settles g d) (settles_few g d few))
+
+  pub carries_few : (g : DriverInput) (r : ℕ) (actions : List Action) (d : Driver) → Few d → Few (carries_out g r actions d)
+  carries_few g r [] d few = few
+  carries_few g r (action ∷ actions) d few = carries_few g r actions (settles g (begins r (job_for action) d)) (settles_few g (begins r (job_for action) d) (begins_few r (job_for action) d few))
+
+  pub transfers_few : (g : DriverInput) (r : ℕ) (d : Driver) → Few d → Few (transfers g r d)
+  transfers_few g r d few = carries_few g r (filter is_transfer (plan_at g r d)) d few
+
+  pub drops_few : (g : DriverInput) (r : ℕ) (d : Driver) → Few d → Few (drops_spared g r d)
+  drops_few g r d few = carries_few g r (filter (λ action. not (is_transfer action)) (plan_at g r d)) d few
+
+  pub syncs_few : (g : DriverInput) (r : ℕ) (d : Driver) → Few d → Few (syncs g r d)
+  syncs_few g r d few =
+      shares_few g r (drops_spared g r (transfers g r (shares_logs g r d))) (drops_few g r (transfers g r (shares_logs g r d)) (transfers_few g r (shares_logs g r d) (shares_few g r d few)))

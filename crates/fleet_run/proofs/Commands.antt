@@ -28,7 +28,6 @@ use Rattle.fleet_run.specs.Commands.{MayBeDone, does_command}
 use Rattle.fleet_entries.specs.AtDriver.{GoesOn, StopsWithin}
 use Rattle.run_data.specs.declared.entry.LogFile.TheVariants as files
 use Rattle.run_data.specs.declared.job.JobKind.TheVariants as job_kinds
-use Rattle.script_commands.specs.declared.command.Action.TheVariants as actions
 use Rattle.script_commands.specs.declared.command.Command.TheVariants as commands
 use Rattle.script_lang.specs.Preconditions as script
 
@@ -67,10 +66,6 @@ built_as action form is built = ap is_built_action (sym is) ∙ built
 
 pub within_as : (context : Context) (action form : Action) → action ≡ form → first_limit context (commands.Does action) ≡ None → first_limit context (commands.Does form) ≡ None
 within_as context action form is within = subst (λ (a : Action). first_limit context (commands.Does a) ≡ None) is within
-
--- the form is built of each action but this
-pub never_acts : (action : Action) (r : ℕ) → is_built_action action ≡ true → action ≡ actions.Sync r → ⊥
-never_acts action r built is = absurd (let no : false ≡ true = built_as action (actions.Sync r) is built in cc)
 
 -- ---- what a line has
 

@@ -10,7 +10,7 @@ use Rattle.driver_script.specs.Lines.{is_built, is_built_action}
 use Rattle.fleet_entries.specs.AtDriver.{IsFew}
 use Rattle.script_commands.specs.declared.command.Action.TheVariants as actions
 use Rattle.script_commands.specs.declared.command.Command.TheVariants as commands
-use Rattle.fleet_entries.proofs.Few.{begins_few, closes_few, compacts_few, crashes_few, fewer, has_few, merges_few, part_few, sets_few, settles_few, turns_few, waits_few, writes_few}
+use Rattle.fleet_entries.proofs.Few.{begins_few, closes_few, compacts_few, crashes_few, fewer, has_few, merges_few, part_few, sets_few, settles_few, syncs_few, turns_few, waits_few, writes_few}
 
 module _ (most : ℕ) (g : DriverInput) (d : Driver) (few : IsFew most d.past) where
   -- with a wait more
@@ -32,6 +32,7 @@ module _ (most : ℕ) (g : DriverInput) (d : Driver) (few : IsFew most d.past) w
   action_few (actions.Raw r file line) built = no_wait _ (writes_few most r file line d few)
   action_few (actions.Merge r other) built = no_wait _ (merges_few most r other d few)
   action_few (actions.Compact r) built = no_wait _ (compacts_few most r d few)
+  action_few (actions.Sync r) built = no_wait _ (syncs_few most g r d few)
   action_few (actions.Begin r job) built = no_wait _ (begins_few most r job d few)
   action_few (actions.Run r job) built = no_wait _ (settles_few most g (begins r job d) (begins_few most r job d few))
   action_few (actions.Turns r n) built = no_wait _ (turns_few most g r n d few)
@@ -40,7 +41,6 @@ module _ (most : ℕ) (g : DriverInput) (d : Driver) (few : IsFew most d.past) w
   action_few (actions.Crash r clock) built = no_wait _ (crashes_few most g r clock d few)
   action_few (actions.Wait milliseconds) built = waits_few most milliseconds d few
   action_few (actions.Fail r call) built = quiet
-  action_few action built = absurd (cc)
 
   -- a command that is built adds one wait at most
   pub does_few : (command : Command) → is_built command ≡ true → FewMore (does g command d)

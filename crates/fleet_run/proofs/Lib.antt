@@ -5,4 +5,3 @@ mod Cutting
 mod Marked
 mod Begun
 mod Declared
-mod Steps

@@ -5,13 +5,14 @@ ghost use Rattle.script_commands.specs.declared.command.Command.TheVariants as c
 ghost use Rattle.fleet_run.specs.Commands.{CutsAt, HasRoomFor, MayBeDone, MeetsNone, does_and_marks, does_command};
 ghost use Rattle.fleet_entries.specs.AtDriver.{GoesOn, IsDriven, IsDrivenWithin, OnlyAddsBehind, StopsWithin, most_lines};
 
-use crate::two_steps::{add, begin_and_settle};
+use crate::two_steps::add;
 use annex_key::key_texts_have_no_fault;
 use driver_model::runs_are_cut_where_histories_are_full;
 use driver_script::{added_contents_match, settings_are_plain};
 use fleet_entries::{FleetStop, Running};
 use fleet_keys::{begin, enter, fail_next, place, place_part};
 use fleet_logs::{compact, merge, set, write};
+use fleet_syncs::{begin_and_settle, sync};
 use fleet_turns::{close, crash, settle, take_turns, wait};
 use object_store::FailingKeeper;
 use script_lang::{Action, Command};
@@ -93,6 +94,7 @@ fn act<K: FailingKeeper>(running: &mut Running<K>, action: &Action) -> Result<()
         Action::Raw { repo, file, line } => write(running, *repo, file, line),
         Action::Merge { repo, other } => merge(running, *repo, *other),
         Action::Compact { repo } => compact(running, *repo),
+        Action::Sync { repo } => sync(running, *repo),
         Action::Begin { repo, job } => begin(running, *repo, job),
         Action::Run { repo, job } => begin_and_settle(running, *repo, job),
         Action::Turns { repo, turns } => take_turns(running, *repo, *turns),
@@ -101,6 +103,5 @@ fn act<K: FailingKeeper>(running: &mut Running<K>, action: &Action) -> Result<()
         Action::Crash { repo, clock } => crash(running, *repo, *clock),
         Action::Wait { milliseconds } => wait(running, *milliseconds),
         Action::Fail { repo, call } => fail_next(running, *repo, *call),
-        Action::Sync { .. } => unreachable!(),
     }
 }

@@ -1,25 +1,19 @@
-//! Lines of two steps: a file that is added, and a job after whose beginning all settles.
-ghost use Rattle.std.specs.Prelude.{◌≡◌, ℕ, ◌<◌, ◌^◌, length, None, Err, OnErr, OnOk};
+//! A line of two steps: a file that is added.
+ghost use Rattle.std.specs.Prelude.{◌≡◌, ℕ, ◌<◌, ◌^◌, length, Err, OnErr, OnOk};
 ghost use Rattle.annex_key.specs.KeyText.{IsKeyText};
-ghost use Rattle.annex_key.specs.View.{first_fault};
 ghost use Rattle.key_verify.specs.Matching.{MatchesKey};
 ghost use Rattle.script_commands.specs.declared.command.Action.TheVariants as actions;
 ghost use Rattle.script_commands.specs.declared.command.Command.TheVariants as commands;
-ghost use Rattle.driver_model.specs.Rounds.{settles};
-ghost use Rattle.driver_model.specs.ScriptSteps.{begins};
 ghost use Rattle.fleet_entries.specs.Stored.{store_view};
-ghost use Rattle.fleet_entries.specs.AtDriver.{EndsAtFull, GoesOn, IsDriven, OnlyAddsBehind, OnlyAddsEntries, StopsWithin};
-ghost use Rattle.fleet_keys.specs.Jobs.{MayBeginAmong};
+ghost use Rattle.fleet_entries.specs.AtDriver.{GoesOn, IsDriven, OnlyAddsBehind, StopsWithin};
 ghost use Rattle.fleet_run.specs.Commands.{CutsAt, HasRoomFor, does_command};
 
 use annex_base::Text;
 use annex_key::Key;
 use driver_model::{drivers_only_add, runs_are_cut_where_histories_are_full};
 use fleet_entries::{FleetStop, Running};
-use fleet_keys::{begin, enter, place};
-use fleet_turns::settle;
+use fleet_keys::{enter, place};
 use object_store::FailingKeeper;
-use run_data::Job;
 use script_words::Content;
 
 /// The path names the key, and then the content is there, as `has` has it.
@@ -46,26 +40,4 @@ pub fn add<K: FailingKeeper>(
     runs_are_cut_where_histories_are_full();
     enter(running, path, key)?;
     place(running, repo, key, content)
-}
-
-/// The job begins, and then all settles.
-pub fn begin_and_settle<K: FailingKeeper>(
-    running: &mut Running<K>,
-    repo: u32,
-    job: &Job,
-) -> Result<(), FleetStop>
-    requires there { repo < length running.old.nodes }
-    requires driven { IsDriven (λ k. store_view (K.contents k) (K.parts k) (K.failing k) (K.faults k)) running.old }
-    requires may { MayBeginAmong (length running.old.nodes) repo job.now }
-    requires key { first_fault job.now.key ≡ None }
-    ensures ok { OnOk result (GoesOn (λ k. store_view (K.contents k) (K.parts k) (K.failing k) (K.faults k)) (λ g d. settles g (begins repo job.now d)) running.old running.new) }
-    ensures full { (r : ℕ) → result ≡ Err (FleetStop.Full r) → EndsAtFull (λ k. store_view (K.contents k) (K.parts k) (K.failing k) (K.faults k)) r (λ g d. settles g (begins repo job.now d)) running.old running.new }
-    ensures stopped { OnErr result (StopsWithin (λ k. store_view (K.contents k) (K.parts k) (K.failing k) (K.faults k)) (λ g d. settles g (begins repo job.now d)) running.old running.new) }
-    ensures rest { OnlyAddsEntries running.old running.new }
-{
-    // Laws: a settling only adds entries, and a full history that the job meets is met still.
-    drivers_only_add();
-    runs_are_cut_where_histories_are_full();
-    begin(running, repo, job)?;
-    settle(running)
 }

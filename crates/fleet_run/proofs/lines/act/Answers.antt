@@ -4,7 +4,7 @@ use Rattle.annex_base.proofs.Numbers.{below_more}
 use Rattle.fleet_entries.specs.Stored.{StoreView, store_view}
 use Rattle.script_commands.specs.declared.command.Action.TheVariants as actions
 use Rattle.script_commands.specs.declared.command.Command.TheVariants as commands
-use Rattle.fleet_run.proofs.Commands.{added_kind, added_path, as_form, built_as, file_line, in_time, may_begin, never_acts, short_content, stands_as, stops_as, within_as}
+use Rattle.fleet_run.proofs.Commands.{added_kind, added_path, as_form, built_as, file_line, in_time, may_begin, short_content, stands_as, stops_as, within_as}
 use Rattle.fleet_entries.proofs.Ended.{on_ok}
 use Rattle.fleet_run.proofs.Cutting.{CutLaws, always_ok, cut_as, cuts_closed, form_ends, have_cuts, room_as, room_asked, room_closed, room_unasked, unasked_cuts}
 use Rattle.fleet_entries.proofs.Full.{behind}
@@ -199,6 +199,24 @@ returns-in-Compact g c =
       rest = behind c.args.running.now c.compact.new.running c.compact.ensures.rest;
     }
 
+pub sync-requires-clause-there : goal.sync-requires-clause-there
+sync-requires-clause-there g c = below_more c.in-Sync.repo (length c.requires.may.context.repos) (length c.args.running.now.nodes) (stands_as c.requires.may.context c.args.action.now (actions.Sync c.in-Sync.repo) c.in-Sync.is c.requires.may.stands) c.requires.may.repos
+
+pub sync-requires-clause-driven : goal.sync-requires-clause-driven
+sync-requires-clause-driven g c = c.requires.driven
+
+pub returns-in-Sync : goal.returns-in-Sync
+returns-in-Sync g c =
+    let tells : g.row.K.Denot → StoreView = λ k. store_view (g.K.Keeper.contents k) (g.K.Keeper.parts k) (g.K.Keeper.failing k) (g.K.Keeper.faults k) in
+    let laws : CutLaws = record { cut = c.runs_are_cut_where_histories_are_full.ensures.cut; entries = c.runs_are_cut_where_histories_are_full.ensures.entries; marks = c.runs_are_cut_where_histories_are_full.ensures.marks; tree = c.runs_are_cut_where_histories_are_full.ensures.tree } in
+    record {
+      ok = on_ok c.sync.result _ _ c.sync.ensures.ok (λ goes. as_form tells (commands.Does c.args.action.now) (commands.Does (actions.Sync c.in-Sync.repo)) c.args.running.now c.sync.new.running (ap commands.Does c.in-Sync.is) goes);
+      room = always_ok c.sync.result _ (room_unasked tells c.args.action.now (actions.Sync c.in-Sync.repo) c.args.running.now c.in-Sync.is c.requires.may.built refl);
+      full = λ r e. form_ends tells laws r c.args.action.now (actions.Sync c.in-Sync.repo) c.args.running.now c.sync.new.running c.in-Sync.is refl (c.sync.ensures.full r e) c.sync.ensures.rest;
+      stopped = on_err c.sync.result _ _ c.sync.ensures.stopped (λ stops. stops_as tells (commands.Does c.args.action.now) (commands.Does (actions.Sync c.in-Sync.repo)) c.args.running.now c.sync.new.running (ap commands.Does c.in-Sync.is) stops);
+      rest = behind c.args.running.now c.sync.new.running c.sync.ensures.rest;
+    }
+
 pub begin-requires-clause-there : goal.begin-requires-clause-there
 begin-requires-clause-there g c = below_more c.in-Begin.repo (length c.requires.may.context.repos) (length c.args.running.now.nodes) (stands_as c.requires.may.context c.args.action.now (actions.Begin c.in-Begin.repo c.in-Begin.job) c.in-Begin.is c.requires.may.stands).repo c.requires.may.repos
 
@@ -365,9 +383,3 @@ returns-in-Fail g c =
       stopped = on_err c.fail_next.result _ _ c.fail_next.ensures.stopped (λ stops. stops_as tells (commands.Does c.args.action.now) (commands.Does (actions.Fail c.in-Fail.repo c.in-Fail.call)) c.args.running.now c.fail_next.new.running (ap commands.Does c.in-Fail.is) stops);
       rest = behind c.args.running.now c.fail_next.new.running c.fail_next.ensures.rest;
     }
-
-pub unreachable-requires : goal.unreachable-requires
-unreachable-requires g c = never_acts c.args.action.now c.in-Sync.repo c.requires.may.built c.in-Sync.is
-
-pub unreachable-unreachable : goal.unreachable-unreachable
-unreachable-unreachable g c = never_acts c.args.action.now c.in-Sync.repo c.requires.may.built c.in-Sync.is

@@ -8,7 +8,7 @@ use Rattle.fleet_run.proofs.Cutting.{meets_none}
 use Rattle.fleet_entries.proofs.Full.{behind_same, few_in, ok_or_err, same_err}
 use Rattle.fleet_entries.proofs.Driving.{driven_within}
 use Rattle.fleet_run.proofs.Marked.{driven_behind, driven_marked, marked_once}
-use Rattle.fleet_run.proofs.Steps.{goes_twice}
+use Rattle.fleet_entries.proofs.Ending.{goes_twice}
 use Rattle.fleet_entries.proofs.Starts.{always_err, start_kept}
 use Rattle.fleet_run.proofs.lines.do_and_mark.Goals as goal
 

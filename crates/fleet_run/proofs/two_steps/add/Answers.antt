@@ -10,7 +10,7 @@ use Rattle.fleet_run.proofs.Cutting.{CutLaws, added_cuts, room_added}
 use Rattle.fleet_entries.proofs.Driving.{driven_on}
 use Rattle.fleet_entries.proofs.Full.{behind_on, same_err}
 use Rattle.fleet_entries.proofs.Starts.{always_err, on_err, start_same}
-use Rattle.fleet_run.proofs.Steps.{goes_twice}
+use Rattle.fleet_entries.proofs.Ending.{goes_twice}
 use Rattle.fleet_entries.proofs.Ended.{on_ok}
 use Rattle.fleet_run.proofs.two_steps.add.Goals as goal
 

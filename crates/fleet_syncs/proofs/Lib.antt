@@ -1,0 +1,7 @@
+-- The lemmas of this crate.
+mod Walks
+mod Others
+mod Carried
+mod Planned
+mod Identified
+mod Wanting
