@@ -3,8 +3,8 @@ use Rattle.std.specs.Prelude.{◌≡◌, ◌≢◌, ℕ, ◌+◌, ◌<◌, ◌^�
 use Rattle.annex_base.specs.Lists.{Each, Member}
 use Rattle.annex_base.specs.declared.kinds.Call.{Call}
 use Rattle.annex_base.specs.declared.kinds.Call.TheVariants.{Has, DropPart, Append, Commit, PutFile}
-use Rattle.annex_key.specs.View.{first_fault, size_part}
-use Rattle.union_merge.specs.LineSet.{IsLineSet}
+use Rattle.run_data.specs.KeyView.{first_fault, size_part}
+use Rattle.trust_groups.specs.LineSet.{IsLineSet}
 use Rattle.run_data.specs.declared.entry.EntryKind.{EntryKind}
 use Rattle.run_data.specs.declared.entry.EntryKind.TheVariants.{Begin, Gain, Log, Compact, Close, Crash, Fault}
 use Rattle.run_data.specs.declared.entry.By.TheVariants.{Script}

@@ -4,7 +4,7 @@ use Rattle.log_lines.specs.Newest.{current_lines}
 use Rattle.log_lines.specs.declared.entry.LogKind.{LogKind}
 use Rattle.run_data.specs.declared.entry.EntryKind.{EntryKind}
 use Rattle.run_data.specs.declared.entry.EntryKind.TheVariants.{Log, Compact}
-use Rattle.union_merge.specs.LineSet.{union}
+use Rattle.trust_groups.specs.LineSet.{union}
 use Rattle.run_data.specs.Files.{file_path, kind_of}
 
 abbrev pub compact_lines : Option LogKind → List (List ℕ) → List (List ℕ)

@@ -3,7 +3,7 @@ use Rattle.std.specs.Prelude.{ℕ, ◌+◌, Bool, true, false, List, [], find, l
 use Rattle.annex_base.specs.declared.kinds.Word.{Word}
 use Rattle.annex_base.specs.declared.kinds.Word.TheVariants as words
 use Rattle.annex_base.specs.Settings.{Settings}
-use Rattle.glob_match.specs.Numbers.{mincopies_of, numcopies_of}
+use Rattle.trust_groups.specs.Numbers.{mincopies_of, numcopies_of}
 use Rattle.drop_proof.specs.declared.evidence.Evidence.{Evidence}
 use Rattle.drop_proof.specs.declared.evidence.Kind.TheVariants.{Locked, Trusted, Recent}
 use Rattle.drop_proof.specs.declared.rule.Need.{Need}
@@ -22,7 +22,7 @@ use Rattle.node_model.specs.SetUp.{SetUp}
 use Rattle.node_model.specs.Jobs.{Heard, Held, Seen, Lacks, Work, heard_of, side_of, target_of}
 use Rattle.node_model.specs.State.{State}
 use Rattle.node_model.specs.Clocks.{hold_time}
-use Rattle.wanted_expr.specs.Wanted.{required}
+use Rattle.trust_groups.specs.Wanted.{required}
 
 -- ---- what a drop reads
 

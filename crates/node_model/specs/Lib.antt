@@ -1,4 +1,4 @@
--- The definitions of this crate.
+-- The definitions of this crate, and that of what logs set, which the crates above cite.
 pub mod Clocks
 pub mod Rows
 pub mod Slots
@@ -25,3 +25,4 @@ pub mod Turns
 pub mod Step
 pub mod AnyTime
 pub mod Found
+pub use Rattle.trust_groups.specs.Settings

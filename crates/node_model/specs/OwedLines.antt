@@ -10,7 +10,7 @@ use Rattle.log_lines.specs.declared.entry.Value.{Value}
 use Rattle.log_lines.specs.declared.entry.Value.TheVariants as values
 use Rattle.log_lines.specs.LineText.{line_text}
 use Rattle.log_lines.specs.Newest.{newest_stamp, next_stamp}
-use Rattle.hash_dirs.specs.LogPath.{location_path}
+use Rattle.run_data.specs.LogPath.{location_path}
 use Rattle.run_data.specs.declared.entry.Entry.{Entry}
 use Rattle.run_data.specs.declared.entry.EntryKind.{EntryKind}
 use Rattle.run_data.specs.declared.entry.EntryKind.TheVariants.{Gain, Gone, Log, Talk, Crash, Fault}

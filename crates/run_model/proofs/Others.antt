@@ -5,7 +5,7 @@ use Rattle.std.specs.Option.{option_or, unwrap_or}
 use Rattle.annex_base.proofs.Functions.{funext}
 use Rattle.annex_base.proofs.Options.{option_or-none}
 use Rattle.union_merge.specs.Branch.{Files, lines_at}
-use Rattle.trust_groups.specs.Settings.{settings}
+use Rattle.node_model.specs.Settings.{settings}
 use Rattle.run_data.specs.declared.entry.Entry.{Entry}
 use Rattle.run_data.specs.declared.run.RepoView.{RepoView}
 use Rattle.node_model.specs.Clocks.{runs_on}

@@ -5,7 +5,7 @@ use Rattle.std.specs.Option.{option_or, unwrap_or}
 use Rattle.annex_base.specs.Settings.{Settings}
 use Rattle.drop_proof.specs.declared.rule.Need.{Need}
 use Rattle.union_merge.specs.Branch.{Files, file_at, lines_at, with_file, merged_file}
-use Rattle.trust_groups.specs.Settings.{settings}
+use Rattle.node_model.specs.Settings.{settings}
 use Rattle.annex_base.specs.declared.kinds.Call.TheVariants.{PutFile}
 use Rattle.run_data.specs.declared.entry.Entry.{Entry}
 use Rattle.run_data.specs.declared.entry.EntryKind.{EntryKind}

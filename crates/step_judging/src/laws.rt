@@ -23,8 +23,7 @@ ghost use Rattle.step_judging.specs.Told.{is_told};
 ghost use Rattle.step_judging.specs.Telling.{is_end, look_of};
 
 use annex_key::key_texts_have_no_fault;
-use run_laws::{carried_states_agree, runs_are_safe, states_are_sound};
-use step_facts::steps_find_their_cause;
+use run_laws::{carried_states_agree, runs_are_safe, states_are_sound, steps_find_their_cause};
 
 /// An entry that is the step of a repository for some look is its step for the look that the entry tells of, but
 /// for store calls that no entry tells; and that is a look that a turn may have.

@@ -4,7 +4,7 @@ use Rattle.std.specs.declared.vec.Vec.{Vec}
 use Rattle.std.specs.declared.alloc.Global.{Global}
 use Rattle.std.specs.Ordering.{is_eq}
 use Rattle.std.specs.Map.{lookup, set_value}
-use Rattle.std.specs.BTreeMap.{insert_entry}
+use Rattle.std.specs.BTreeMap.{insert_entry, is_at}
 use Rattle.std.proofs.lemmas.Cmp.{nat_list_cmp_total, tied_itself}
 use Rattle.std.proofs.lemmas.Map.Steps.{set_value_same}
 use Rattle.std.proofs.lemmas.Map.Text.{is_eq-slice_cmp}
@@ -44,7 +44,7 @@ set_other (e ∷ es) path other index apart_from =
     (λ t. let no = apart path other e.0 apart_from t in rw (t, no) refl)
     (λ t. by_test (is_eq (text_cmp other e.0)) (λ s. rw (t, s) refl) (λ s. rw (t, s) (set_other es path other index apart_from)))
 
-pub put_own : (es : Indices) (path : List ℕ) (index : Index) → index_at (insert_entry text_cmp es path index) path ≡ Some index
+pub put_own : {V : Type 0} (es : List (List ℕ × V)) (path : List ℕ) (index : V) → lookup (is_at (text_cmp path)) (insert_entry text_cmp es path index) ≡ Some index
 put_own [] path index = let own = own_path path in rw own refl
 put_own (e ∷ es) path index =
     let own = own_path path in
@@ -53,7 +53,7 @@ put_own (e ∷ es) path index =
     (λ o. rw (o, o) refl)
     (λ o. rw (o, o) (put_own es path index))
 
-pub put_other : (es : Indices) (path other : List ℕ) (index : Index) → (path ≡ other → ⊥) → index_at (insert_entry text_cmp es path index) other ≡ index_at es other
+pub put_other : {V : Type 0} (es : List (List ℕ × V)) (path other : List ℕ) (index : V) → (path ≡ other → ⊥) → lookup (is_at (text_cmp other)) (insert_entry text_cmp es path index) ≡ lookup (is_at (text_cmp other)) es
 put_other [] path other index apart_from = let no = apart path other path apart_from (own_path path) in rw no refl
 put_other (e ∷ es) path other index apart_from =
     let no = apart path other path apart_from (own_path path) in

@@ -1,5 +1,6 @@
 -- What callers see of the levels and settings that were read.
-use Rattle.std.specs.Prelude.{ℕ, List}
+use Rattle.std.specs.Prelude.{ℕ, if◌then◌else◌, List, Option, Some, None}
+use Rattle.annex_base.specs.Lists.{Member}
 use Rattle.annex_base.specs.Settings.{Settings}
 use Rattle.annex_base.specs.declared.kinds.Level.{Level}
 use Rattle.log_lines.specs.declared.entry.Entry.{Entry}
@@ -9,6 +10,8 @@ use Rattle.log_lines.specs.declared.entry.Topic.TheVariants as topics
 use Rattle.log_lines.specs.Files.{file_name}
 use Rattle.trust_groups.specs.declared.levels.Levels.{Levels}
 use Rattle.hash_dirs.specs.LogPath.{location_path}
+use Rattle.wanted_expr.specs.Formula.{Formula}
+use Rattle.wanted_expr.specs.Wanted.{is_text}
 use Rattle.trust_groups.specs.Kept.{level_among, groups_among, text_among, number_among, claims_among, grouped_among}
 use Rattle.trust_groups.specs.Reads.{Indices, entries_at}
 use Rattle.trust_groups.specs.Settings.{patterns_of}
@@ -37,3 +40,11 @@ settings_of indices = record {
   grouped = grouped_among (entries_of indices kinds.Group);
   claims = λ key. claims_among (level_among (entries_of indices kinds.Trust)) (entries_at indices (location_path key));
 }
+
+-- what the text of an expression says; an empty one says nothing
+abbrev pub text_read : (List ℕ → Formula) → List ℕ → Option Formula
+text_read read text = if is_text text then Some (read text) else None
+
+-- a repository is in the group
+abbrev pub IsGroupOfSome : Settings → List ℕ → Type 0
+IsGroupOfSome s group = (repo : List ℕ) × Member group (s.groups repo)

@@ -4,6 +4,7 @@
 mod claims;
 mod copies;
 mod crossing;
+mod exprs;
 mod files;
 mod groups;
 mod indices;

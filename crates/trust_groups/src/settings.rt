@@ -12,9 +12,11 @@ ghost use Rattle.union_merge.specs.Branch.{lines_at};
 ghost use Rattle.trust_groups.specs.Settings.{Lines, settings};
 ghost use Rattle.trust_groups.specs.Alike.{IsNoLog};
 ghost use Rattle.trust_groups.specs.Reads.{HaveReadLines, index_at, lines_with, view_of};
-ghost use Rattle.trust_groups.specs.View.{settings_of};
+ghost use Rattle.trust_groups.specs.View.{IsGroupOfSome, settings_of, text_read};
+ghost use Rattle.wanted_expr.specs.Wanted.{formula_read, group_formula, standard_text};
 
 use crate::claims::claims_in;
+use crate::exprs::{Exprs, keep_exprs, keep_exprs_of, standard_text};
 use crate::groups::grouped_in;
 use crate::indices::add_file;
 use crate::levels::level_among;
@@ -29,18 +31,20 @@ use std::alloc::Global;
 use std::collections::BTreeMap;
 use std::marker::Model;
 use union_merge::Branch;
+use wanted_expr::Expr;
 
 /// What a repository knows from its branch: how far each repository is trusted, how many copies are wanted, groups,
 /// descriptions, expressions of wanted content, and which repositories are claimed to have a key (git-annex trust,
 /// git-annex-group, git-annex-describe, git-annex-numcopies, git-annex-mincopies, git-annex-preferred-content, git-annex
 /// internals: location log). Nothing set is the level semitrusted, one copy, no groups, or an empty text. They are kept as
-/// an index of the newest entries of each file: contracts see the indices by path. The globs of patterns of paths are read
-/// once, as their lines are added.
+/// an index of the newest entries of each file: contracts see the indices by path. The globs of patterns of paths, and
+/// the expressions, are read once, as their lines are added.
 #[derive(Debug, Drop)]
 pub struct Settings {
     alloc: Global,
     files: BTreeMap<Vec<u8>, Newest>,
     globs: Globs,
+    exprs: Exprs,
 }
 
 impl Model for Settings {
@@ -48,13 +52,14 @@ impl Model for Settings {
     ghost use Rattle.log_lines.specs.Index.{Index};
     ghost use Rattle.trust_groups.specs.Alike.{IsNoLog};
     ghost use Rattle.trust_groups.specs.Reads.{view_of};
+    ghost use Rattle.trust_groups.specs.Exprs.{AreReadOnce};
     ghost use Rattle.trust_groups.specs.Globs.{AreKept};
 
     ghost Value = { List (List ℕ × Index) };
 
     ghost view = { λ s. view_of s.files.entries };
 
-    ghost invariant = { λ s. AreKept s.globs.entries (view_of s.files.entries) };
+    ghost invariant = { λ s. AreKept s.globs.entries (view_of s.files.entries) × AreReadOnce s.exprs (view_of s.files.entries) };
 }
 
 impl Settings {
@@ -64,10 +69,12 @@ impl Settings {
     {
         let files = BTreeMap::new(alloc);
         let globs = BTreeMap::new(alloc);
+        let exprs = Exprs::new(alloc);
         Settings {
             alloc,
             files,
             globs,
+            exprs,
         }
     }
 
@@ -78,16 +85,19 @@ impl Settings {
     {
         let mut files = BTreeMap::new(alloc);
         let mut globs = BTreeMap::new(alloc);
+        let mut exprs = Exprs::new(alloc);
         for (path, lines) in branch.files() {
             let path = path.as_slice();
             let lines = lines.lines();
             keep_globs(&mut globs, alloc, path, lines)?;
+            keep_exprs(&mut exprs, alloc, path, lines)?;
             add_file(&mut files, alloc, path, lines)?;
         }
         Ok(Settings {
             alloc,
             files,
             globs,
+            exprs,
         })
     }
 
@@ -99,6 +109,7 @@ impl Settings {
         ensures other { OnOk result ((lines : Lines) → HaveReadLines self.old lines → IsNoLog path.now → settings_of self.new ≡ settings_of self.old) }
         ensures err { OnErr result (self.new ≡ self.old) }
     {
+        keep_exprs_of(&mut self.exprs, self.alloc, path, line)?;
         add_kept(&mut self.files, &mut self.globs, self.alloc, path, line)
     }
 
@@ -208,6 +219,37 @@ impl Settings {
         ensures { result.now ≡ (settings_of self.now).group_preferred group.now }
     {
         text_in(value_of_group(self.log(LogKind::GroupPreferred), group))
+    }
+
+    /// What the expression of the content that a repository prefers says, where it isn't empty: one outside the grammar
+    /// reads as `present` (git-annex-preferred-content). It takes no memory.
+    pub fn preferred_expr(&self, repo: RepoId) -> Option<&Expr>
+        ensures { option_copied result ≡ text_read formula_read ((settings_of self.now).preferred repo) }
+    {
+        self.exprs.of_text(self.preferred(repo))
+    }
+
+    /// What the expression of the content that a repository requires says, where it isn't empty (git-annex-required).
+    pub fn required_expr(&self, repo: RepoId) -> Option<&Expr>
+        ensures { option_copied result ≡ text_read formula_read ((settings_of self.now).required repo) }
+    {
+        self.exprs.of_text(self.required(repo))
+    }
+
+    /// What the expression of the content that the repositories of a group prefer says, where it isn't empty: one with
+    /// `groupwanted` reads as `present` too (git-annex-groupwanted).
+    pub fn group_expr(&self, group: &[u8]) -> Option<&Expr>
+        ensures { option_copied result ≡ text_read group_formula ((settings_of self.now).group_preferred group.now) }
+    {
+        self.exprs.of_group_text(self.group_preferred(group))
+    }
+
+    /// What the expression of a standard group says, where a repository is in it; none for another group (own).
+    pub fn standard_expr(&self, group: &[u8]) -> Option<&Expr>
+        requires { IsGroupOfSome (settings_of self.now) group.now }
+        ensures { option_copied result ≡ text_read formula_read (standard_text group.now) }
+    {
+        self.exprs.of_text(standard_text(group))
     }
 
     /// The repositories that are claimed to have a key, each once, in order of identifier: those whose newest status is

@@ -58,7 +58,8 @@ impl Expr {
         }
     }
 
-    fn present() -> Expr
+    /// The expression `present`. It takes no memory.
+    pub fn present() -> Expr
         ensures { result ≡ Atom words.Present }
     {
         Expr {

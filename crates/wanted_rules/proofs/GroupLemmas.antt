@@ -1,14 +1,18 @@
--- The groups of a repository, each once, and the one text among theirs.
-use Rattle.std.proofs.Common.{◌≡◌, ℕ, ◌+◌, ◌<◌, ◌==◌, Bool, true, false, not, ◌||◌, List, [], ◌∷◌, ◌++◌, length, filter, get_or, map, take, Some, None, Bor, refl, sym, ap, ◌∙◌, arith, bytes_eq}
+-- The groups of a repository, each once, and the one expression among theirs.
+use Rattle.std.proofs.Common.{◌≡◌, ℕ, ◌+◌, ◌<◌, ◌==◌, Bool, true, false, not, ◌||◌, List, [], ◌∷◌, ◌++◌, length, filter, get_or, map, take, Option, Some, None, Bor, inl, inr, option_to_list, refl, sym, ap, subst, ◌∙◌, arith, bytes_eq}
 use Rattle.std.specs.List.{list_any}
 use Rattle.std.proofs.lemmas.Bool.{eqb-true, false≢true}
 use Rattle.std.proofs.lemmas.List.{append-nil, map-append, take_more}
 use Rattle.std.proofs.lemmas.List.Elements.{filter-append}
 use Rattle.annex_base.proofs.Conditions.{by_test, bytes_eq-true}
+use Rattle.annex_base.specs.Lists.{Each, Member}
+use Rattle.annex_base.specs.Settings.{Settings}
+use Rattle.annex_base.proofs.Lists.{Each-from_members, Each-passes, Member-filter_parts, Member-map}
 use Rattle.annex_key.specs.Tree.{each_once}
+use Rattle.trust_groups.specs.View.{IsGroupOfSome, text_read}
 use Rattle.wanted_expr.specs.Formula.{Formula}
 use Rattle.wanted_expr.specs.Wanted.{group_text, is_text, only_text}
-use Rattle.wanted_rules.specs.Reads.{once_with, text_read}
+use Rattle.wanted_rules.specs.Reads.{once_with, only_formula}
 
 pub list_any_map : {X Y : Type 0} (p : Y → Bool) (f : X → Y) (xs : List X) → list_any (λ x. p (f x)) xs ≡ list_any p (map f xs)
 list_any_map p f [] = refl
@@ -61,7 +65,20 @@ once_known once name among =
     let there : list_any (bytes_eq name) (map (λ g. g.now) once) ≡ true = sym (list_any_map (bytes_eq name) (λ (g : Bor (List ℕ)). g.now) once) ∙ among in
     rw there refl
 
--- ---- texts
+-- each of them is a group of the repository
+once_member : (names : List (List ℕ)) (x : List ℕ) → Member x (each_once names) → Member x names
+once_member [] x among = among
+once_member (y ∷ names) x among = elim among [
+  | inl is ↦ inl is
+  | inr rest ↦ inr (once_member names x (Member-filter_parts (λ n. not (bytes_eq n y)) (each_once names) x rest).0)
+]
+
+pub of_some : (s : Settings) (repo : List ℕ) (items : List (Bor (List ℕ))) → map (λ g. g.now) items ≡ each_once (s.groups repo) → Each (λ g. IsGroupOfSome s g.now) items
+of_some s repo items once =
+    Each-from_members (λ (g : Bor (List ℕ)). IsGroupOfSome s g.now) items
+    (λ g among. (repo, once_member (s.groups repo) g.now (subst (Member g.now) once (Member-map (λ (h : Bor (List ℕ)). h.now) items g among))))
+
+-- ---- lists that are empty
 
 pub empty_is : {X : Type 0} (xs : List X) → (length xs == 0) ≡ true → xs ≡ []
 empty_is [] e = refl
@@ -70,47 +87,56 @@ empty_is (x ∷ xs) e = absurd (omega (arith, eqb-true (length (x ∷ xs)) 0 e))
 pub some_is : {X : Type 0} (xs : List X) → (length xs == 0) ≡ false → xs ≡ [] → ⊥
 some_is {X} xs e none = false≢true (sym e ∙ ap (λ (l : List X). length l == 0) none)
 
-pub text_none : (text : List ℕ) → (length text == 0) ≡ true → is_text text ≡ false
-text_none text e = ap is_text (empty_is text e)
+-- ---- expressions
 
-pub text_some : (text : List ℕ) → (length text == 0) ≡ false → is_text text ≡ true
-text_some [] e = absurd (some_is {X = ℕ} [] e refl)
-text_some (b ∷ bs) e = refl
+abbrev shown : List (Bor Formula) → List Formula
+shown exprs = map (λ e. e.now) exprs
 
-pub read_none : (read : List ℕ → Formula) (text : List ℕ) → (length text == 0) ≡ true → None ≡ text_read read text
-read_none read text e = let no = text_none text e in rw no refl
+pub expr_put : (exprs new : List (Bor Formula)) (expr : Bor Formula) → new ≡ exprs ++ expr ∷ [] → map (λ e. e.now) new ≡ map (λ e. e.now) exprs ++ expr.now ∷ []
+expr_put exprs new expr put = ap shown put ∙ map-append (λ (e : Bor Formula). e.now) exprs (expr ∷ [])
 
-pub read_some : (read : List ℕ → Formula) (text : List ℕ) (formula : Formula) → (length text == 0) ≡ false → formula ≡ read text → Some formula ≡ text_read read text
-read_some read text formula e is = let yes = text_some text e in rw yes (ap Some is)
+pub only_one : (exprs : List (Bor Formula)) (expr : Bor Formula) (rest : List (Bor Formula)) → exprs ≡ expr ∷ rest → (length rest == 0) ≡ true → Some expr.now ≡ only_formula (map (λ e. e.now) exprs)
+only_one exprs expr rest is none = sym (ap (λ (es : List (Bor Formula)). only_formula (shown es)) (is ∙ ap (λ (r : List (Bor Formula)). expr ∷ r) (empty_is rest none)))
 
-abbrev shown : List (Bor (List ℕ)) → List (List ℕ)
-shown texts = map (λ t. t.now) texts
+pub only_several : (exprs : List (Bor Formula)) (expr : Bor Formula) (rest : List (Bor Formula)) → exprs ≡ expr ∷ rest → (length rest == 0) ≡ false → None ≡ only_formula (map (λ e. e.now) exprs)
+only_several exprs expr [] is some = absurd (some_is {X = Bor Formula} [] some refl)
+only_several exprs expr (other ∷ rest) is some = sym (ap (λ (es : List (Bor Formula)). only_formula (shown es)) is)
 
-pub text_put : (texts new : List (Bor (List ℕ))) (text : Bor (List ℕ)) → new ≡ texts ++ text ∷ [] → (length text.now == 0) ≡ false → map (λ t. t.now) new ≡ map (λ t. t.now) texts ++ filter is_text (text.now ∷ [])
-text_put texts new text put e =
-    let yes = text_some text.now e in
-    rw yes (ap shown put ∙ map-append (λ (t : Bor (List ℕ)). t.now) texts (text ∷ []))
-
-pub text_left : (texts : List (Bor (List ℕ))) (text : List ℕ) → (length text == 0) ≡ true → map (λ t. t.now) texts ≡ map (λ t. t.now) texts ++ filter is_text (text ∷ [])
-text_left texts text e = let no = text_none text e in rw no (sym (append-nil (shown texts)))
-
-pub only_one : (texts : List (Bor (List ℕ))) (text : Bor (List ℕ)) (rest : List (Bor (List ℕ))) → texts ≡ text ∷ rest → (length rest == 0) ≡ true → text.now ≡ only_text (map (λ t. t.now) texts)
-only_one texts text rest is none = sym (ap (λ (ts : List (Bor (List ℕ))). only_text (shown ts)) (is ∙ ap (λ (r : List (Bor (List ℕ))). text ∷ r) (empty_is rest none)))
-
-pub only_several : (texts : List (Bor (List ℕ))) (text : Bor (List ℕ)) (rest : List (Bor (List ℕ))) → texts ≡ text ∷ rest → (length rest == 0) ≡ false → [] ≡ only_text (map (λ t. t.now) texts)
-only_several texts text [] is some = absurd (some_is {X = Bor (List ℕ)} [] some refl)
-only_several texts text (other ∷ rest) is some = sym (ap (λ (ts : List (Bor (List ℕ))). only_text (shown ts)) is)
-
-pub only_none : (texts : List (Bor (List ℕ))) → length texts ≡ 0 → [] ≡ only_text (map (λ t. t.now) texts)
+pub only_none : (exprs : List (Bor Formula)) → length exprs ≡ 0 → None ≡ only_formula (map (λ e. e.now) exprs)
 only_none [] none = refl
-only_none (text ∷ texts) none = absurd (omega (arith, none))
+only_none (expr ∷ exprs) none = absurd (omega (arith, none))
+
+-- what a text says, as a list
+listed : (read : List ℕ → Formula) (text : List ℕ) → option_to_list (text_read read text) ≡ map read (filter is_text (text ∷ []))
+listed read [] = refl
+listed read (b ∷ bs) = refl
+
+-- the one formula of texts that aren't empty is that of the one text
+only_says : (read : List ℕ → Formula) (texts : List (List ℕ)) → Each (λ text. is_text text ≡ true) texts → only_formula (map read texts) ≡ text_read read (only_text texts)
+only_says read [] each = refl
+only_says read (text ∷ []) each = let yes = each.0 in rw yes refl
+only_says read (text ∷ other ∷ texts) each = refl
+
+pub only_read : (read : List ℕ → Formula) (texts : List (List ℕ)) (formulas : List Formula) → formulas ≡ map read (filter is_text texts) → only_formula formulas ≡ text_read read (only_text (filter is_text texts))
+only_read read texts formulas are = ap only_formula are ∙ only_says read (filter is_text texts) (Each-passes is_text texts)
 
 -- the text of the groups, of which each stands once in memory
 pub text_of_groups : (f : List ℕ → List ℕ) (items : List (Bor (List ℕ))) (groups : List (List ℕ)) → map (λ g. g.now) items ≡ each_once groups → only_text (filter is_text (map (λ g. f g.now) items)) ≡ group_text f groups
 text_of_groups f items groups once = ap (λ (ts : List (List ℕ)). only_text (filter is_text ts)) (sym (map_map f (λ (g : Bor (List ℕ)). g.now) items) ∙ ap (map f) once)
 
-pub next_text : {X : Type 0} (f : X → List ℕ) (xs : List X) (i : ℕ) (x : X) (texts : List (List ℕ)) → i < length xs → x ≡ get_or xs i x → texts ≡ filter is_text (map f (take i xs)) → texts ++ filter is_text (f x ∷ []) ≡ filter is_text (map f (take (i + 1) xs))
+next_text : {X : Type 0} (f : X → List ℕ) (xs : List X) (i : ℕ) (x : X) (texts : List (List ℕ)) → i < length xs → x ≡ get_or xs i x → texts ≡ filter is_text (map f (take i xs)) → texts ++ filter is_text (f x ∷ []) ≡ filter is_text (map f (take (i + 1) xs))
 next_text {X} f xs i x texts within is so_far =
     ap (λ (ts : List (List ℕ)). ts ++ filter is_text (f x ∷ [])) so_far
     ∙ sym (filter-append is_text (map f (take i xs)) (f x ∷ []))
     ∙ ap (filter is_text) (sym (map-append f (take i xs) (x ∷ [])) ∙ ap (map f) (ap (λ (y : X). take i xs ++ y ∷ []) is ∙ sym (take_more xs i x within)))
+
+-- one expression more
+pub next_expr : {X : Type 0} (read : List ℕ → Formula) (f : X → List ℕ) (xs : List X) (i : ℕ) (x : X) (found : List Formula) (o : Option Formula) → i < length xs → x ≡ get_or xs i x → o ≡ text_read read (f x)
+    → found ≡ map read (filter is_text (map f (take i xs))) → found ++ option_to_list o ≡ map read (filter is_text (map f (take (i + 1) xs)))
+next_expr read f xs i x found o within is says so_far =
+    let texts = filter is_text (map f (take i xs)) in
+    ap (λ (fs : List Formula). fs ++ option_to_list o) so_far
+    ∙ ap (λ (p : Option Formula). map read texts ++ option_to_list p) says
+    ∙ ap (λ (fs : List Formula). map read texts ++ fs) (listed read (f x))
+    ∙ sym (map-append read texts (filter is_text (f x ∷ [])))
+    ∙ ap (map read) (next_text f xs i x texts within is refl)

@@ -14,8 +14,8 @@ use Rattle.wanted_expr.specs.declared.data.Member.{Member}
 use Rattle.wanted_expr.specs.Formula.{Formula}
 use Rattle.wanted_expr.specs.Truth.{holds, rank}
 use Rattle.wanted_expr.specs.Wanted.{cases_of, claimant, facts, formula_read, group_formula, group_text, is_text, plain_facts, required, standard_text, text_holds, wants, with_groupwanted, with_standard}
-use Rattle.wanted_rules.specs.declared.group_exprs.GroupExprs.{GroupExprs}
-use Rattle.wanted_rules.specs.Reads.{at_path, claimed_by, formula_holds, group_exprs, judged, members_among, members_of, text_read, with_groupwanted_by, with_standard_by}
+use Rattle.trust_groups.specs.View.{text_read}
+use Rattle.wanted_rules.specs.Reads.{GroupFormulas, at_path, claimed_by, formula_holds, group_formulas, judged, members_among, members_of, with_groupwanted_by, with_standard_by}
 use Rattle.wanted_rules.proofs.GroupLemmas.{list_any_map}
 
 -- ---- the expressions of groups
@@ -26,15 +26,15 @@ read_holds read text f = elim (is_text text) as (λ b. formula_holds (if b then 
   | false ↦ refl
 ]
 
-by_standard : (s : Settings) (repo : List ℕ) (f : Facts) → with_standard_by (group_exprs s repo) f ≡ with_standard s repo f
+by_standard : (s : Settings) (repo : List ℕ) (f : Facts) → with_standard_by (group_formulas s repo) f ≡ with_standard s repo f
 by_standard s repo f = ap (λ (b : Bool). record f { standard = b }) (read_holds formula_read (group_text standard_text (s.groups repo)) f)
 
-by_groupwanted : (s : Settings) (repo : List ℕ) (f : Facts) → with_groupwanted_by (group_exprs s repo) f ≡ with_groupwanted s repo f
+by_groupwanted : (s : Settings) (repo : List ℕ) (f : Facts) → with_groupwanted_by (group_formulas s repo) f ≡ with_groupwanted s repo f
 by_groupwanted s repo f = ap (λ (b : Bool). record f { groupwanted = b }) (read_holds group_formula (group_text s.group_preferred (s.groups repo)) f)
 
-pub judged_is : (s : Settings) (repo : List ℕ) (g : GroupExprs) (f : Facts) → g ≡ group_exprs s repo → judged g f ≡ with_groupwanted s repo (with_standard s repo f)
+pub judged_is : (s : Settings) (repo : List ℕ) (g : GroupFormulas) (f : Facts) → g ≡ group_formulas s repo → judged g f ≡ with_groupwanted s repo (with_standard s repo f)
 judged_is s repo g f is =
-    ap (λ (h : GroupExprs). judged h f) is ∙ ap (with_groupwanted_by (group_exprs s repo)) (by_standard s repo f) ∙ by_groupwanted s repo (with_standard s repo f)
+    ap (λ (h : GroupFormulas). judged h f) is ∙ ap (with_groupwanted_by (group_formulas s repo)) (by_standard s repo f) ∙ by_groupwanted s repo (with_standard s repo f)
 
 -- ---- the paths of a key
 
@@ -43,7 +43,7 @@ or_false true = refl
 or_false false = refl
 
 -- without a path
-pub true_nowhere : (s : Settings) (repo key : List ℕ) (gone : Bool) (g : GroupExprs) (expr : Formula) (paths : List (List ℕ)) → g ≡ group_exprs s repo → paths ≡ []
+pub true_nowhere : (s : Settings) (repo key : List ℕ) (gone : Bool) (g : GroupFormulas) (expr : Formula) (paths : List (List ℕ)) → g ≡ group_formulas s repo → paths ≡ []
     → holds expr (judged g (plain_facts s repo key gone None)) ≡ list_any (λ path. holds expr (facts s repo key gone path)) (cases_of paths)
 true_nowhere s repo key gone g expr paths is none =
     ap (holds expr) (judged_is s repo g (plain_facts s repo key gone None) is)
@@ -55,7 +55,7 @@ some_cases [] some = absurd (some refl)
 some_cases (path ∷ paths) some = refl
 
 -- at some path
-pub true_at_some : (s : Settings) (repo key : List ℕ) (gone : Bool) (g : GroupExprs) (expr : Formula) (paths : List (List ℕ)) → g ≡ group_exprs s repo → (paths ≡ [] → ⊥)
+pub true_at_some : (s : Settings) (repo key : List ℕ) (gone : Bool) (g : GroupFormulas) (expr : Formula) (paths : List (List ℕ)) → g ≡ group_formulas s repo → (paths ≡ [] → ⊥)
     → list_any (λ path. holds expr (judged g (at_path (plain_facts s repo key gone None) (numcopies_of s (path ∷ [])) path))) paths ≡ list_any (λ path. holds expr (facts s repo key gone path)) (cases_of paths)
 true_at_some s repo key gone g expr paths is some =
     let each : (λ (path : List ℕ). holds expr (judged g (at_path (plain_facts s repo key gone None) (numcopies_of s (path ∷ [])) path))) ≡ (λ (path : List ℕ). holds expr (facts s repo key gone (Some path)))

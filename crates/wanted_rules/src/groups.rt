@@ -1,11 +1,13 @@
 //! The groups of a repository, and their expressions.
 
-ghost use Rattle.std.specs.Prelude.{◌≡◌, ◌++◌, [], ◌∷◌, IfOk, OnOk, bytes_eq, filter, map};
+ghost use Rattle.std.specs.Prelude.{◌≡◌, ◌++◌, IfOk, OnOk, bytes_eq, filter, map, option_to_list};
 ghost use Rattle.std.specs.List.{list_any};
+ghost use Rattle.std.specs.Option.{option_copied};
+ghost use Rattle.annex_base.specs.Lists.{Each};
 ghost use Rattle.annex_key.specs.Tree.{each_once};
-ghost use Rattle.trust_groups.specs.View.{settings_of};
+ghost use Rattle.trust_groups.specs.View.{IsGroupOfSome, settings_of, text_read};
 ghost use Rattle.wanted_expr.specs.Wanted.{formula_read, group_formula, is_text, only_text, standard_text};
-ghost use Rattle.wanted_rules.specs.Reads.{formula_holds, once_with, text_read};
+ghost use Rattle.wanted_rules.specs.Reads.{formula_holds, once_with, only_formula};
 
 use annex_base::{NoMemory, Text};
 use std::alloc::Global;
@@ -39,121 +41,85 @@ pub(crate) fn each_once(alloc: Global, groups: &[Text]) -> Result<Vec<&[u8]>, No
     Ok(once)
 }
 
-fn same(name: &[u8], group: &[u8]) -> bool
-    ensures { result ≡ bytes_eq name.now group.now }
+/// Adds the expression, if there is one.
+fn put_expr<'a>(exprs: &mut Vec<&'a Expr>, expr: Option<&'a Expr>) -> Result<(), NoMemory>
+    ensures { OnOk result (map (λ e. e.now) exprs.new.items ≡ map (λ e. e.now) exprs.old.items ++ option_to_list (option_copied expr.entry)) }
 {
-    name == group
-}
-
-/// The expression of a standard group; empty for another group (own).
-fn standard_text(group: &[u8]) -> &'static [u8]
-    ensures { result.now ≡ standard_text group.now }
-{
-    if same(b"backup", group) {
-        return b"anything";
-    }
-    if same(b"source", group) {
-        return b"not copies=1";
-    }
-    if same(b"archive", group) {
-        return b"not copies=archive:1 or approxlackingcopies=1";
-    }
-    if same(b"client", group) {
-        return b"exclude=*archive/* or not copies=archive:1 or approxlackingcopies=1";
-    }
-    if same(b"unwanted", group) {
-        return b"nothing";
-    }
-    b""
-}
-
-/// Adds the text unless it is empty.
-fn put_text<'a>(texts: &mut Vec<&'a [u8]>, text: &'a [u8]) -> Result<(), NoMemory>
-    ensures { OnOk result (map (λ t. t.now) texts.new.items ≡ map (λ t. t.now) texts.old.items ++ filter is_text (text.now ∷ [])) }
-{
-    if !text.is_empty() {
-        texts.push(text)?;
+    if let Some(expr) = expr {
+        exprs.push(expr)?;
     }
     Ok(())
 }
 
-fn standard_texts(alloc: Global, groups: &[&[u8]]) -> Result<Vec<&'static [u8]>, NoMemory>
-    ensures { IfOk result (λ v. map (λ t. t.now) v.items ≡ filter is_text (map (λ g. standard_text g.now) groups.now)) }
-{
-    let mut texts = Vec::new(alloc);
-    for group in groups {
-        put_text(&mut texts, standard_text(group))?;
-    }
-    Ok(texts)
-}
-
-fn preferred_texts<'a>(
+/// The expressions of the standard groups among these.
+fn standard_exprs<'a>(
     alloc: Global,
     settings: &'a Settings,
     groups: &[&[u8]],
-) -> Result<Vec<&'a [u8]>, NoMemory>
-    ensures { IfOk result (λ v. map (λ t. t.now) v.items ≡ filter is_text (map (λ g. (settings_of settings.now).group_preferred g.now) groups.now)) }
+) -> Result<Vec<&'a Expr>, NoMemory>
+    requires { Each (λ g. IsGroupOfSome (settings_of settings.now) g.now) groups.now }
+    ensures { IfOk result (λ v. map (λ e. e.now) v.items ≡ map formula_read (filter is_text (map (λ g. standard_text g.now) groups.now))) }
 {
-    let mut texts = Vec::new(alloc);
+    let mut exprs = Vec::new(alloc);
     for group in groups {
-        put_text(&mut texts, settings.group_preferred(group))?;
+        put_expr(&mut exprs, settings.standard_expr(group))?;
     }
-    Ok(texts)
+    Ok(exprs)
 }
 
-/// The one text; empty where there is none, or where there are several.
-fn only_text<'a>(texts: &[&'a [u8]]) -> &'a [u8]
-    ensures { result.now ≡ only_text (map (λ t. t.now) texts.now) }
+/// The expressions of these groups.
+fn preferred_exprs<'a>(
+    alloc: Global,
+    settings: &'a Settings,
+    groups: &[&[u8]],
+) -> Result<Vec<&'a Expr>, NoMemory>
+    ensures { IfOk result (λ v. map (λ e. e.now) v.items ≡ map group_formula (filter is_text (map (λ g. (settings_of settings.now).group_preferred g.now) groups.now))) }
 {
-    let Some((text, rest)) = texts.split_first() else {
-        return &[];
+    let mut exprs = Vec::new(alloc);
+    for group in groups {
+        put_expr(&mut exprs, settings.group_expr(group))?;
+    }
+    Ok(exprs)
+}
+
+/// The one expression; none where there are several.
+fn only_expr<'a>(exprs: &[&'a Expr]) -> Option<&'a Expr>
+    ensures { option_copied result ≡ only_formula (map (λ e. e.now) exprs.now) }
+{
+    let Some((expr, rest)) = exprs.split_first() else {
+        return None;
     };
-    if rest.is_empty() { text } else { &[] }
-}
-
-/// What the text says, unless it is empty.
-pub(crate) fn expr_of(alloc: Global, text: &[u8]) -> Result<Option<Expr>, NoMemory>
-    ensures { IfOk result (λ e. e ≡ text_read formula_read text.now) }
-{
-    if text.is_empty() {
-        return Ok(None);
-    }
-    Ok(Some(Expr::of_text(alloc, text)?))
-}
-
-/// What the text of a group's expression says, unless it is empty.
-fn group_expr_of(alloc: Global, text: &[u8]) -> Result<Option<Expr>, NoMemory>
-    ensures { IfOk result (λ e. e ≡ text_read group_formula text.now) }
-{
-    if text.is_empty() {
-        return Ok(None);
-    }
-    Ok(Some(Expr::of_group_text(alloc, text)?))
+    if rest.is_empty() { Some(*expr) } else { None }
 }
 
 /// What the expression of the one standard group among these says.
-pub(crate) fn standard_expr(alloc: Global, groups: &[&[u8]]) -> Result<Option<Expr>, NoMemory>
-    ensures { IfOk result (λ e. e ≡ text_read formula_read (only_text (filter is_text (map (λ g. standard_text g.now) groups.now)))) }
+pub(crate) fn standard_expr<'a>(
+    alloc: Global,
+    settings: &'a Settings,
+    groups: &[&[u8]],
+) -> Result<Option<&'a Expr>, NoMemory>
+    requires { Each (λ g. IsGroupOfSome (settings_of settings.now) g.now) groups.now }
+    ensures { IfOk result (λ e. option_copied e ≡ text_read formula_read (only_text (filter is_text (map (λ g. standard_text g.now) groups.now)))) }
 {
-    let texts = standard_texts(alloc, groups)?;
-    expr_of(alloc, only_text(texts.as_slice()))
+    let exprs = standard_exprs(alloc, settings, groups)?;
+    Ok(only_expr(exprs.as_slice()))
 }
 
 /// What the expression of the one group with an expression among these says.
-pub(crate) fn groupwanted_expr(
+pub(crate) fn groupwanted_expr<'a>(
     alloc: Global,
-    settings: &Settings,
+    settings: &'a Settings,
     groups: &[&[u8]],
-) -> Result<Option<Expr>, NoMemory>
-    ensures { IfOk result (λ e. e ≡ text_read group_formula (only_text (filter is_text (map (λ g. (settings_of settings.now).group_preferred g.now) groups.now)))) }
+) -> Result<Option<&'a Expr>, NoMemory>
+    ensures { IfOk result (λ e. option_copied e ≡ text_read group_formula (only_text (filter is_text (map (λ g. (settings_of settings.now).group_preferred g.now) groups.now)))) }
 {
-    let texts = preferred_texts(alloc, settings, groups)?;
-    group_expr_of(alloc, only_text(texts.as_slice()))
+    let exprs = preferred_exprs(alloc, settings, groups)?;
+    Ok(only_expr(exprs.as_slice()))
 }
 
 /// Whether there is an expression, and it holds.
-pub(crate) fn holds(expr: &Option<Expr>, facts: &Facts) -> bool
-    ensures { result ≡ formula_holds expr.now facts.now }
+pub(crate) fn holds(expr: Option<&Expr>, facts: &Facts) -> bool
+    ensures { result ≡ formula_holds (option_copied expr.entry) facts.now }
 {
     match expr {
         Some(expr) => expr.eval(facts),

@@ -6,11 +6,10 @@ ghost use Rattle.glob_match.specs.Numbers.{numcopies_of};
 ghost use Rattle.trust_groups.specs.View.{settings_of};
 ghost use Rattle.wanted_expr.specs.Truth.{holds};
 ghost use Rattle.wanted_expr.specs.Wanted.{cases_of, facts, required, wants};
-ghost use Rattle.wanted_rules.specs.Reads.{at_path, judged};
+ghost use Rattle.wanted_rules.specs.Reads.{at_path, formulas_of, judged};
 
 use crate::facts::{plain_facts, set_path};
 use crate::group_exprs::GroupExprs;
-use crate::groups::expr_of;
 use annex_base::{NoMemory, RepoId, Text};
 use annex_key::Key;
 use std::alloc::Global;
@@ -18,37 +17,38 @@ use std::marker::Model;
 use trust_groups::Settings;
 use wanted_expr::{Expr, Facts};
 
-/// What a repository wants and requires by some settings: its expressions and those of its groups, each read once. A text
-/// that is empty isn't read, and one outside the grammar reads as `present` (git-annex-preferred-content,
+/// What a repository wants and requires by some settings: its expressions and those of its groups, which the settings
+/// keep. A text that is empty isn't read, and one outside the grammar reads as `present` (git-annex-preferred-content,
 /// git-annex-required, git-annex-groupwanted). Contracts see the settings' indices and the repository.
 #[derive(Debug, Drop)]
 pub struct Wishes<'a> {
     alloc: Global,
     settings: &'a Settings,
     repo: RepoId,
-    preferred: Option<Expr>,
-    required: Option<Expr>,
-    groups: GroupExprs,
+    preferred: Option<&'a Expr>,
+    required: Option<&'a Expr>,
+    groups: GroupExprs<'a>,
 }
 
 impl<'a> Model for Wishes<'a> {
     ghost use Rattle.trust_groups.specs.View.{settings_of};
-    ghost use Rattle.wanted_rules.specs.Reads.{AreRead, Wishing};
+    ghost use Rattle.std.specs.Option.{option_copied};
+    ghost use Rattle.wanted_rules.specs.Reads.{AreRead, Wishing, formulas_of};
 
     ghost Value = { Wishing };
 
     ghost view = { λ w. record { indices = w.settings.now; repo = w.repo } };
 
-    ghost invariant = { λ w. AreRead (settings_of w.settings.now) w.repo w.preferred w.required w.groups };
+    ghost invariant = { λ w. AreRead (settings_of w.settings.now) w.repo (option_copied w.preferred) (option_copied w.required) (formulas_of w.groups) };
 }
 
 impl<'a> Wishes<'a> {
-    /// Reads the expressions of a repository.
+    /// Finds the expressions of a repository.
     pub fn read(alloc: Global, settings: &'a Settings, repo: RepoId) -> Result<Wishes<'a>, NoMemory>
         ensures { IfOk result (λ w. w ≡ record { indices = settings.now; repo = repo }) }
     {
-        let preferred = expr_of(alloc, settings.preferred(repo))?;
-        let required = expr_of(alloc, settings.required(repo))?;
+        let preferred = settings.preferred_expr(repo);
+        let required = settings.required_expr(repo);
         let groups = GroupExprs::read(alloc, settings, repo)?;
         Ok(Wishes {
             alloc,
@@ -76,7 +76,7 @@ impl<'a> Wishes<'a> {
     pub fn wants(&self, key: &Key, paths: &[Text], gone: bool) -> Result<bool, NoMemory>
         ensures { IfOk result (λ b. b ≡ wants (settings_of self.now.indices) self.now.repo key.now paths.now gone) }
     {
-        match &self.preferred {
+        match self.preferred {
             Some(expr) => self.is_true(expr, key, paths, gone),
             None => Ok(true),
         }
@@ -88,7 +88,7 @@ impl<'a> Wishes<'a> {
     pub fn required(&self, key: &Key, paths: &[Text]) -> Result<Option<&'a [u8]>, NoMemory>
         ensures { IfOk result (λ o. option_map (λ t. t.now) o ≡ required (settings_of self.now.indices) self.now.repo key.now paths.now) }
     {
-        let Some(expr) = &self.required else {
+        let Some(expr) = self.required else {
             return Ok(None);
         };
         if self.is_true(expr, key, paths, true)? {
@@ -98,8 +98,8 @@ impl<'a> Wishes<'a> {
     }
 }
 
-fn holds_without_path(groups: &GroupExprs, expr: &Expr, plain: Facts) -> bool
-    ensures { result ≡ holds expr.now (judged groups.now plain) }
+fn holds_without_path(groups: &GroupExprs<'_>, expr: &Expr, plain: Facts) -> bool
+    ensures { result ≡ holds expr.now (judged (formulas_of groups.now) plain) }
 {
     let mut facts = plain;
     groups.judge(&mut facts);
@@ -109,12 +109,12 @@ fn holds_without_path(groups: &GroupExprs, expr: &Expr, plain: Facts) -> bool
 /// Whether the expression holds at one of the paths.
 fn holds_at_some(
     settings: &Settings,
-    groups: &GroupExprs,
+    groups: &GroupExprs<'_>,
     expr: &Expr,
     plain: Facts,
     paths: &[Text],
 ) -> Result<bool, NoMemory>
-    ensures { IfOk result (λ b. b ≡ list_any (λ path. holds expr.now (judged groups.now (at_path plain (numcopies_of (settings_of settings.now) (path ∷ [])) path))) paths.now) }
+    ensures { IfOk result (λ b. b ≡ list_any (λ path. holds expr.now (judged (formulas_of groups.now) (at_path plain (numcopies_of (settings_of settings.now) (path ∷ [])) path))) paths.now) }
 {
     let mut facts = plain;
     for path in paths {

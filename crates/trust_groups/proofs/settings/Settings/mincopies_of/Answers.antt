@@ -14,7 +14,7 @@ use Rattle.trust_groups.proofs.settings.Settings.mincopies_of.Goals as goal
 pub number_of_paths-requires : goal.number_of_paths-requires
 number_of_paths-requires c =
     let globs = c.self.inside.globs.entries in
-    subst (λ (o : Option Index). HaveGlobsOf globs (entries_or_none o)) (ap (λ (es : Indices). index_at es (file_name kinds.MincopiesPath)) c.self.view_is ∙ sym c.log-log.ensures) (kept_mincopies globs (view_of c.self.inside.files.entries) c.self.invariant)
+    subst (λ (o : Option Index). HaveGlobsOf globs (entries_or_none o)) (ap (λ (es : Indices). index_at es (file_name kinds.MincopiesPath)) c.self.view_is ∙ sym c.log-log.ensures) (kept_mincopies globs (view_of c.self.inside.files.entries) c.self.invariant.0)
 
 pub returns : goal.returns
 returns c =

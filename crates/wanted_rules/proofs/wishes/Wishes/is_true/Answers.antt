@@ -7,7 +7,7 @@ use Rattle.trust_groups.specs.View.{settings_of}
 use Rattle.wanted_expr.specs.declared.data.Facts.{Facts}
 use Rattle.wanted_expr.specs.Truth.{holds}
 use Rattle.wanted_expr.specs.Wanted.{cases_of, facts}
-use Rattle.wanted_rules.specs.Reads.{Wishing, at_path, judged}
+use Rattle.wanted_rules.specs.Reads.{Wishing, at_path, formulas_of, judged}
 use Rattle.wanted_rules.proofs.GroupLemmas.{empty_is, some_is}
 use Rattle.wanted_rules.proofs.WishLemmas.{true_at_some, true_nowhere}
 use Rattle.wanted_rules.proofs.wishes.Wishes.is_true.Goals as goal
@@ -15,7 +15,7 @@ use Rattle.wanted_rules.proofs.wishes.Wishes.is_true.Goals as goal
 pub returns-then-is_empty : goal.returns-then-is_empty
 returns-then-is_empty c =
     let s = settings_of c.self.inside.settings.now in
-    let groups = c.self.inside.groups in
+    let groups = formulas_of c.self.inside.groups in
     let paths = c.args.paths.now in
     c.holds_without_path.ensures
     ∙ ap (λ (f : Facts). holds c.args.expr.now (judged groups f)) c.in_ok-facts.ensures
@@ -25,7 +25,7 @@ returns-then-is_empty c =
 pub returns : goal.returns
 returns c =
     let s = settings_of c.self.inside.settings.now in
-    let groups = c.self.inside.groups in
+    let groups = formulas_of c.self.inside.groups in
     let paths = c.args.paths.now in
     IfOk-weaker c.holds_at_some.result _ _ (λ b is.
     is
